@@ -1,0 +1,103 @@
+// Names and texts as lists of bytes.
+ghost use Rattle.std.specs.Prelude.{◌≡◌};
+
+use crate::spans::Span;
+use std::marker::Model;
+
+/// An identifier or other name: its bytes.
+#[derive(Drop)]
+pub struct Name {
+    bytes: Vec<u8>,
+}
+
+impl Model for Name {
+    ghost use Rattle.std.specs.Prelude.{List, ℕ};
+
+    ghost Value = { List ℕ };
+
+    ghost view = { λ a. a.bytes.items };
+}
+
+impl Name {
+    /// The name of these bytes.
+    pub fn of(v: Vec<u8>) -> Self
+        ensures { result ≡ v.items }
+    {
+        Name { bytes: v }
+    }
+
+    /// Its bytes.
+    pub fn items(&self) -> &[u8]
+        ensures { result.now ≡ self.now }
+    {
+        &self.bytes
+    }
+}
+
+/// A list of bytes: a spelling, a path, the text of a file.
+#[derive(Drop)]
+pub struct Text {
+    bytes: Vec<u8>,
+}
+
+impl Model for Text {
+    ghost use Rattle.std.specs.Prelude.{List, ℕ};
+
+    ghost Value = { List ℕ };
+
+    ghost view = { λ a. a.bytes.items };
+}
+
+impl Text {
+    /// The text of these bytes.
+    pub fn of(v: Vec<u8>) -> Self
+        ensures { result ≡ v.items }
+    {
+        Text { bytes: v }
+    }
+
+    /// Its bytes.
+    pub fn items(&self) -> &[u8]
+        ensures { result.now ≡ self.now }
+    {
+        &self.bytes
+    }
+}
+
+/// A name and where it stands.
+#[derive(Drop)]
+pub struct NameAt {
+    pub span: Span,
+    pub name: Name,
+}
+
+/// Names in their order.
+#[derive(Drop)]
+pub struct NameAtList {
+    items: Vec<NameAt>,
+}
+
+impl Model for NameAtList {
+    ghost use Rattle.std.specs.Prelude.{List};
+    ghost use Rattle.go_tree.specs.declared.texts.NameAt.{NameAt};
+
+    ghost Value = { List NameAt };
+
+    ghost view = { λ a. a.items.items };
+}
+
+impl NameAtList {
+    /// The list of these entries.
+    pub fn of(v: Vec<NameAt>) -> Self
+        ensures { result ≡ v.items }
+    {
+        NameAtList { items: v }
+    }
+
+    /// Its entries.
+    pub fn items(&self) -> &[NameAt]
+        ensures { result.now ≡ self.now }
+    {
+        &self.items
+    }
+}
