@@ -3,6 +3,7 @@
 
 pub mod exprs;
 pub mod files;
+pub mod limits;
 pub mod operators;
 pub mod spans;
 pub mod stmts;
@@ -15,6 +16,7 @@ pub use files::{
     Decl, DeclList, FileTree, FuncDecl, ImportDecl, ImportDeclList, ImportSpec, ImportSpecList,
     Receiver, TypeDecl, TypeSpec, TypeSpecList,
 };
+pub use limits::MAX_FILE_BYTES;
 pub use operators::{BinOp, UnOp};
 pub use spans::{Place, Span};
 pub use stmts::{
