@@ -16,7 +16,7 @@ pub use files::{
     Decl, DeclList, FileTree, FuncDecl, ImportDecl, ImportDeclList, ImportSpec, ImportSpecList,
     Receiver, TypeDecl, TypeSpec, TypeSpecList,
 };
-pub use limits::MAX_FILE_BYTES;
+pub use limits::{MAX_FILE_BYTES, NoMemory};
 pub use operators::{BinOp, UnOp};
 pub use spans::{Place, Span};
 pub use stmts::{
