@@ -1,4 +1,60 @@
 #!/usr/bin/env bash
-# Runs the built program as a user would, and ends with one line 'N passed, N failed'.
+# Runs the built program as a user would, in folders of its own, and ends with one line 'N passed, N failed'.
 set -u
-echo "0 passed, 0 failed"
+top=$(cd "$(dirname "${BASH_SOURCE[0]}")/.." && pwd)
+passed=0
+failed=0
+work=$(mktemp -d)
+trap 'rm -rf "$work"' EXIT
+
+pass() { passed=$((passed + 1)); }
+fail() { failed=$((failed + 1)); echo "FAILED: $*"; }
+
+# expect NAME STATUS OUTPUT WORDS..: runs gofix in the current folder.
+expect() {
+    local name=$1 status=$2 output=$3 got code
+    shift 3
+    got=$("$top/gofix" "$@" 2>&1)
+    code=$?
+    if [ "$code" = "$status" ] && [ "$got" = "$output" ]; then
+        pass
+    else
+        fail "$name: status $code (wanted $status), output: $got"
+    fi
+}
+
+# same NAME FILE WANTED: the file has exactly the wanted bytes.
+same() { if cmp -s "$2" "$3"; then pass; else fail "$1"; fi }
+
+# a use of a marked constant is replaced, and nothing else changes
+mkdir "$work/one" && cd "$work/one" || exit 1
+cp "$top/examples/constants/go.mod" "$top/examples/constants/main.go" .
+sed 's/println(Ptr)/println(Pointer)/' main.go >"$work/wanted.go"
+expect "a marked constant" 0 "$(cat "$top/examples/constants/report.txt")" --fix
+same "the use is replaced" main.go "$work/wanted.go"
+same "go.mod stays" go.mod "$top/examples/constants/go.mod"
+expect "nothing is left to do" 0 "" --fix
+same "a second run changes nothing" main.go "$work/wanted.go"
+
+# without the mark there is nothing to report
+mkdir "$work/two" && cd "$work/two" || exit 1
+cp "$top/examples/constants/go.mod" .
+grep -v '^//go:fix' "$top/examples/constants/main.go" >main.go
+cp main.go "$work/plain.go"
+expect "no mark" 0 "" --fix
+same "an unmarked file stays" main.go "$work/plain.go"
+
+# refusals leave every file as it was
+mkdir "$work/three" && cd "$work/three" || exit 1
+cp "$top/examples/constants/main.go" .
+expect "no go.mod" 1 "gofix: 100 module: not built yet" --fix
+same "a refusal changes nothing" main.go "$top/examples/constants/main.go"
+cp "$top/examples/constants/go.mod" .
+expect "a wrong word" 2 "gofix: usage: gofix [--fix] [--only PREFIX] [--load N]" --fox
+same "a wrong word changes nothing" main.go "$top/examples/constants/main.go"
+
+# the shipped example, by its script
+if bash "$top/examples/run.sh" constants | grep -qF '+	println(Pointer)'; then pass; else fail "examples/run.sh"; fi
+
+echo "$passed passed, $failed failed"
+[ "$failed" = 0 ]
