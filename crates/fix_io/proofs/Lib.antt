@@ -1,0 +1,11 @@
+pub mod Appended
+pub mod Ascending
+pub mod Climbs
+pub mod DistinctFiles
+pub mod Fronts
+pub mod HeldFiles
+pub mod MemListed
+pub mod MemMade
+pub mod ReadFiles
+pub mod Replacing
+pub mod WritesLemmas

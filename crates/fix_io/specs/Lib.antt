@@ -1,0 +1,9 @@
+pub mod Causes
+pub mod Contents
+pub mod Entries
+pub mod Files
+pub mod Folders
+pub mod MemSink
+pub mod MemTree
+pub mod RealTree
+pub mod Writes
