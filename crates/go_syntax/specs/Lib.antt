@@ -1,4 +1,6 @@
 pub mod Lines
+pub mod Depth
+pub mod Deep
 pub use Rattle.go_tree.specs.Tree
 pub use Rattle.go_tree.specs.File
 pub use Rattle.go_tree.specs.Lists

@@ -1,8 +1,18 @@
 //! Syntax trees of Go source, with places in a text.
 #![tactic(auto)]
 
+mod build_exprs;
+pub mod copy_exprs;
+pub mod copy_stmts;
+mod copy_types;
+pub mod depth_exprs;
+mod depth_stmts;
+mod depth_types;
 pub mod lines;
 
+pub use copy_exprs::copy_expr;
+pub use copy_stmts::copy_stmt;
+pub use depth_exprs::depth;
 pub use go_tree::{
     Arm, ArmList, BinOp, Block, Case, CaseList, Comment, ConstDecl, ConstSpec, ConstSpecList, Decl,
     DeclList, Elem, ElemList, Expr, ExprList, FieldSpec, FieldSpecList, FileTree, FuncDecl,

@@ -1,0 +1,287 @@
+// Copies of statements.
+ghost use Rattle.std.specs.Prelude.{◌≡◌, IfOk};
+ghost use Rattle.go_tree.specs.View.{block_of, held_block_option_of, stmt_of, stmts_of, boxed_stmt_option_of, range_left_of, arm_of, arms_of, case_of, cases_of, const_spec_of, const_specs_of, const_decl_of, var_spec_of, var_specs_of, var_decl_of};
+
+use crate::copy_exprs::{copy_expr, copy_expr_option, copy_exprs};
+use crate::copy_types::{copy_name_at, copy_name_at_option, copy_names, copy_type_option};
+use go_tree::{
+    Arm, ArmList, Block, Case, CaseList, ConstDecl, ConstSpec, ConstSpecList, NoMemory, RangeLeft,
+    Stmt, StmtList, VarDecl, VarSpec, VarSpecList,
+};
+use std::alloc::Global;
+
+/// A copy of a statement, spans included.
+#[cycle(copy_tree)]
+pub fn copy_stmt(alloc: Global, s: &Stmt) -> Result<Stmt, NoMemory>
+    ensures { IfOk result (λ c. stmt_of c ≡ stmt_of s.now) }
+{
+    match s {
+        Stmt::Const(decl) => Ok(Stmt::Const(copy_const_decl(alloc, decl)?)),
+        Stmt::Var(decl) => Ok(Stmt::Var(copy_var_decl(alloc, decl)?)),
+        Stmt::Empty { span } => Ok(Stmt::Empty { span: *span }),
+        Stmt::Eval { span, e } => Ok(Stmt::Eval {
+            span: *span,
+            e: copy_expr(alloc, e)?,
+        }),
+        Stmt::Step { span, e, up } => Ok(Stmt::Step {
+            span: *span,
+            e: copy_expr(alloc, e)?,
+            up: *up,
+        }),
+        Stmt::Assign {
+            span,
+            left,
+            op,
+            right,
+        } => Ok(Stmt::Assign {
+            span: *span,
+            left: copy_exprs(alloc, left)?,
+            op: *op,
+            right: copy_exprs(alloc, right)?,
+        }),
+        Stmt::Define { span, names, right } => Ok(Stmt::Define {
+            span: *span,
+            names: copy_names(alloc, names)?,
+            right: copy_exprs(alloc, right)?,
+        }),
+        Stmt::Return { span, values } => Ok(Stmt::Return {
+            span: *span,
+            values: copy_exprs(alloc, values)?,
+        }),
+        Stmt::Break { span, label } => Ok(Stmt::Break {
+            span: *span,
+            label: copy_name_at_option(alloc, label)?,
+        }),
+        Stmt::Continue { span, label } => Ok(Stmt::Continue {
+            span: *span,
+            label: copy_name_at_option(alloc, label)?,
+        }),
+        Stmt::Inner(block) => Ok(Stmt::Inner(copy_block(alloc, block)?)),
+        Stmt::If { span, arms, last } => Ok(Stmt::If {
+            span: *span,
+            arms: copy_arms(alloc, arms)?,
+            last: copy_block_option(alloc, last)?,
+        }),
+        Stmt::For {
+            span,
+            first,
+            test,
+            post,
+            body,
+        } => Ok(Stmt::For {
+            span: *span,
+            first: copy_stmt_option(alloc, first)?,
+            test: copy_expr_option(alloc, test)?,
+            post: copy_stmt_option(alloc, post)?,
+            body: copy_block(alloc, body)?,
+        }),
+        Stmt::Range {
+            span,
+            left,
+            over,
+            body,
+        } => Ok(Stmt::Range {
+            span: *span,
+            left: copy_range_left(alloc, left)?,
+            over: copy_expr(alloc, over)?,
+            body: copy_block(alloc, body)?,
+        }),
+        Stmt::Switch {
+            span,
+            first,
+            tag,
+            cases,
+        } => Ok(Stmt::Switch {
+            span: *span,
+            first: copy_stmt_option(alloc, first)?,
+            tag: copy_expr_option(alloc, tag)?,
+            cases: copy_cases(alloc, cases)?,
+        }),
+        Stmt::Defer { span, call } => Ok(Stmt::Defer {
+            span: *span,
+            call: copy_expr(alloc, call)?,
+        }),
+        Stmt::Label { span, name, stmt } => Ok(Stmt::Label {
+            span: *span,
+            name: copy_name_at(alloc, name)?,
+            stmt: copy_boxed_stmt(alloc, stmt)?,
+        }),
+    }
+}
+
+#[cycle(copy_tree)]
+pub(crate) fn copy_block(alloc: Global, block: &Block) -> Result<Block, NoMemory>
+    ensures { IfOk result (λ c. block_of c ≡ block_of block.now) }
+{
+    Ok(Block {
+        span: block.span,
+        stmts: copy_stmts(alloc, &block.stmts)?,
+    })
+}
+
+#[cycle(copy_tree)]
+fn copy_block_option(alloc: Global, block: &Option<Block>) -> Result<Option<Block>, NoMemory>
+    ensures { IfOk result (λ c. held_block_option_of c ≡ held_block_option_of block.now) }
+{
+    match block {
+        None => Ok(None),
+        Some(block) => Ok(Some(copy_block(alloc, block)?)),
+    }
+}
+
+#[cycle(copy_tree)]
+#[tactic(auto, using(crate::proofs::CopyLemmas::map_copied, crate::proofs::CopyLemmas::stmts_copied))]
+fn copy_stmts(alloc: Global, stmts: &StmtList) -> Result<StmtList, NoMemory>
+    ensures { IfOk result (λ c. stmts_of c ≡ stmts_of stmts.now) }
+{
+    let mut copies = Vec::new(alloc);
+    for stmt in stmts.items() {
+        copies.push(copy_stmt(alloc, stmt)?)?;
+    }
+    Ok(StmtList::of(copies))
+}
+
+#[cycle(copy_tree)]
+fn copy_boxed_stmt(alloc: Global, stmt: &Box<Stmt>) -> Result<Box<Stmt>, NoMemory>
+    ensures { IfOk result (λ c. stmt_of c.value ≡ stmt_of stmt.now.value) }
+{
+    Ok(Box::new(alloc, copy_stmt(alloc, stmt)?)?)
+}
+
+#[cycle(copy_tree)]
+fn copy_stmt_option(alloc: Global, stmt: &Option<Box<Stmt>>) -> Result<Option<Box<Stmt>>, NoMemory>
+    ensures { IfOk result (λ c. boxed_stmt_option_of c ≡ boxed_stmt_option_of stmt.now) }
+{
+    match stmt {
+        None => Ok(None),
+        Some(stmt) => Ok(Some(Box::new(alloc, copy_stmt(alloc, stmt)?)?)),
+    }
+}
+
+#[cycle(copy_tree)]
+fn copy_range_left(alloc: Global, left: &RangeLeft) -> Result<RangeLeft, NoMemory>
+    ensures { IfOk result (λ c. range_left_of c ≡ range_left_of left.now) }
+{
+    match left {
+        RangeLeft::Nothing => Ok(RangeLeft::Nothing),
+        RangeLeft::Assigns(exprs) => Ok(RangeLeft::Assigns(copy_exprs(alloc, exprs)?)),
+        RangeLeft::Defines(names) => Ok(RangeLeft::Defines(copy_names(alloc, names)?)),
+    }
+}
+
+#[cycle(copy_tree)]
+fn copy_arm(alloc: Global, arm: &Arm) -> Result<Arm, NoMemory>
+    ensures { IfOk result (λ c. arm_of c ≡ arm_of arm.now) }
+{
+    Ok(Arm {
+        span: arm.span,
+        first: copy_stmt_option(alloc, &arm.first)?,
+        test: copy_expr(alloc, &arm.test)?,
+        body: copy_block(alloc, &arm.body)?,
+    })
+}
+
+#[cycle(copy_tree)]
+#[tactic(auto, using(crate::proofs::CopyLemmas::map_copied, crate::proofs::CopyLemmas::arms_copied))]
+fn copy_arms(alloc: Global, arms: &ArmList) -> Result<ArmList, NoMemory>
+    ensures { IfOk result (λ c. arms_of c ≡ arms_of arms.now) }
+{
+    let mut copies = Vec::new(alloc);
+    for arm in arms.items() {
+        copies.push(copy_arm(alloc, arm)?)?;
+    }
+    Ok(ArmList::of(copies))
+}
+
+#[cycle(copy_tree)]
+fn copy_case(alloc: Global, case: &Case) -> Result<Case, NoMemory>
+    ensures { IfOk result (λ c. case_of c ≡ case_of case.now) }
+{
+    Ok(Case {
+        span: case.span,
+        values: copy_exprs(alloc, &case.values)?,
+        body: copy_stmts(alloc, &case.body)?,
+    })
+}
+
+#[cycle(copy_tree)]
+#[tactic(auto, using(crate::proofs::CopyLemmas::map_copied, crate::proofs::CopyLemmas::cases_copied))]
+fn copy_cases(alloc: Global, cases: &CaseList) -> Result<CaseList, NoMemory>
+    ensures { IfOk result (λ c. cases_of c ≡ cases_of cases.now) }
+{
+    let mut copies = Vec::new(alloc);
+    for case in cases.items() {
+        copies.push(copy_case(alloc, case)?)?;
+    }
+    Ok(CaseList::of(copies))
+}
+
+#[cycle(copy_tree)]
+fn copy_const_spec(alloc: Global, spec: &ConstSpec) -> Result<ConstSpec, NoMemory>
+    ensures { IfOk result (λ c. const_spec_of c ≡ const_spec_of spec.now) }
+{
+    Ok(ConstSpec {
+        span: spec.span,
+        names: copy_names(alloc, &spec.names)?,
+        of: copy_type_option(alloc, &spec.of)?,
+        values: copy_exprs(alloc, &spec.values)?,
+    })
+}
+
+#[cycle(copy_tree)]
+#[tactic(auto, using(crate::proofs::CopyLemmas::map_copied, crate::proofs::CopyLemmas::const_specs_copied))]
+fn copy_const_specs(alloc: Global, specs: &ConstSpecList) -> Result<ConstSpecList, NoMemory>
+    ensures { IfOk result (λ c. const_specs_of c ≡ const_specs_of specs.now) }
+{
+    let mut copies = Vec::new(alloc);
+    for spec in specs.items() {
+        copies.push(copy_const_spec(alloc, spec)?)?;
+    }
+    Ok(ConstSpecList::of(copies))
+}
+
+#[cycle(copy_tree)]
+fn copy_const_decl(alloc: Global, decl: &ConstDecl) -> Result<ConstDecl, NoMemory>
+    ensures { IfOk result (λ c. const_decl_of c ≡ const_decl_of decl.now) }
+{
+    Ok(ConstDecl {
+        span: decl.span,
+        grouped: decl.grouped,
+        specs: copy_const_specs(alloc, &decl.specs)?,
+    })
+}
+
+#[cycle(copy_tree)]
+fn copy_var_spec(alloc: Global, spec: &VarSpec) -> Result<VarSpec, NoMemory>
+    ensures { IfOk result (λ c. var_spec_of c ≡ var_spec_of spec.now) }
+{
+    Ok(VarSpec {
+        span: spec.span,
+        names: copy_names(alloc, &spec.names)?,
+        of: copy_type_option(alloc, &spec.of)?,
+        values: copy_exprs(alloc, &spec.values)?,
+    })
+}
+
+#[cycle(copy_tree)]
+#[tactic(auto, using(crate::proofs::CopyLemmas::map_copied, crate::proofs::CopyLemmas::var_specs_copied))]
+fn copy_var_specs(alloc: Global, specs: &VarSpecList) -> Result<VarSpecList, NoMemory>
+    ensures { IfOk result (λ c. var_specs_of c ≡ var_specs_of specs.now) }
+{
+    let mut copies = Vec::new(alloc);
+    for spec in specs.items() {
+        copies.push(copy_var_spec(alloc, spec)?)?;
+    }
+    Ok(VarSpecList::of(copies))
+}
+
+#[cycle(copy_tree)]
+fn copy_var_decl(alloc: Global, decl: &VarDecl) -> Result<VarDecl, NoMemory>
+    ensures { IfOk result (λ c. var_decl_of c ≡ var_decl_of decl.now) }
+{
+    Ok(VarDecl {
+        span: decl.span,
+        grouped: decl.grouped,
+        specs: copy_var_specs(alloc, &decl.specs)?,
+    })
+}

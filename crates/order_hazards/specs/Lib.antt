@@ -1,0 +1,3 @@
+pub mod Items
+pub mod Clash
+pub mod Solo

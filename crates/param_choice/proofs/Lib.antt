@@ -1,0 +1,3 @@
+pub mod Striking
+pub mod Union
+pub mod Exists

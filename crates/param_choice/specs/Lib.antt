@@ -1,0 +1,4 @@
+pub mod Chosen
+pub mod Safe
+pub mod Greatest
+pub mod Strikes

@@ -1,0 +1,2 @@
+/// Memory was refused.
+pub type NoMemory = std::alloc::AllocError;
