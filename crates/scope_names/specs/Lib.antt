@@ -1,0 +1,3 @@
+pub mod FreeNames
+pub mod Binders
+pub mod Identifiers
