@@ -1,0 +1,71 @@
+-- Types, parameters and files, read by evaluation: all of the text is spelled as the tree, or nothing is.
+use Rattle.std.proofs.Common.{◌≡◌, true, false, [], ◌∷◌, Some, None, refl}
+use Rattle.std.specs.Prelude.{codes}
+use Rattle.go_tree.specs.Tree.{named, pointer, slice_type, map_type, struct_type, no_fields, field, no_stmts}
+use Rattle.go_tree.specs.File.{func, types}
+use Rattle.go_read.specs.Goals.{read_type, read_params, read_import, read_top, read_front}
+use Rattle.go_read.proofs.Texts.{reading, name, type}
+
+shared_type : reading read_params (codes "( x , y int )") ≡ Some (record { span = tt; name = Some (name (codes "x")); of = (type (codes "int")) } ∷ record { span = tt; name = Some (name (codes "y")); of = (type (codes "int")) } ∷ [])
+unfolding reading
+shared_type = refl
+
+own_types : reading read_params (codes "( x int , y int )") ≡ Some (record { span = tt; name = Some (name (codes "x")); of = (type (codes "int")) } ∷ record { span = tt; name = Some (name (codes "y")); of = (type (codes "int")) } ∷ [])
+unfolding reading
+own_types = refl
+
+types_alone : reading read_params (codes "( int , lib . T , )") ≡ Some (record { span = tt; name = None; of = (type (codes "int")) } ∷ record { span = tt; name = None; of = named tt (Some (name (codes "lib"))) (name (codes "T")) } ∷ [])
+unfolding reading
+types_alone = refl
+
+mixed_params : reading read_params (codes "( a int , b )") ≡ None
+unfolding reading
+mixed_params = refl
+
+pointer_param : reading read_params (codes "( p * T )") ≡ Some (record { span = tt; name = Some (name (codes "p")); of = pointer tt (type (codes "T")) } ∷ [])
+unfolding reading
+pointer_param = refl
+
+map_of_slices : reading read_type (codes "map [ string ] [ ] ( * T )") ≡ Some (map_type tt (type (codes "string")) (slice_type tt (pointer tt (type (codes "T")))))
+unfolding reading
+map_of_slices = refl
+
+struct_fields : reading read_type (codes "struct { x , y int ; z T }") ≡ Some (struct_type tt (field tt (name (codes "x")) (type (codes "int")) (field tt (name (codes "y")) (type (codes "int")) (field tt (name (codes "z")) (type (codes "T")) no_fields))))
+unfolding reading
+struct_fields = refl
+
+main_file : reading read_front (codes "package main ; import \"fmt\" ; func main ( ) { } ;") ≡ Some (record { package_name = (name (codes "main")); imports = record { span = tt; grouped = false; specs = record { span = tt; name = None; path = codes "fmt" } ∷ [] } ∷ []; decls = func (record { span = tt; receiver = None; name = (name (codes "main")); sig = record { params = []; results = [] }; body_span = tt; body = no_stmts }) ∷ [] })
+unfolding reading
+main_file = refl
+
+import_group : reading read_import (codes "import ( . \"a\" ; m \"b\" ; \"c\" )") ≡ None
+unfolding reading
+import_group = refl
+
+import_names : reading read_import (codes "import ( m \"b\" ; \"c\" )") ≡ Some (record { span = tt; grouped = true; specs = record { span = tt; name = Some (name (codes "m")); path = codes "b" } ∷ record { span = tt; name = None; path = codes "c" } ∷ [] })
+unfolding reading
+import_names = refl
+
+type_group : reading read_top (codes "type ( A = B ; C int ; )") ≡ Some (types tt true (record { span = tt; name = (name (codes "A")); alias = true; of = (type (codes "B")) } ∷ record { span = tt; name = (name (codes "C")); alias = false; of = (type (codes "int")) } ∷ []))
+unfolding reading
+type_group = refl
+
+method : reading read_top (codes "func ( r * T ) m ( ) ( int , error ) { }") ≡ Some (func (record { span = tt; receiver = Some (record { span = tt; name = Some (name (codes "r")); pointer = true; of = (name (codes "T")) }); name = (name (codes "m")); sig = record { params = []; results = record { span = tt; name = None; of = (type (codes "int")) } ∷ record { span = tt; name = None; of = (type (codes "error")) } ∷ [] }; body_span = tt; body = no_stmts }))
+unfolding reading
+method = refl
+
+blank_package : reading read_front (codes "package _ ;") ≡ None
+unfolding reading
+blank_package = refl
+
+half_a_function : reading read_front (codes "package p ; func main (") ≡ None
+unfolding reading
+half_a_function = refl
+
+late_import : reading read_front (codes "package p ; var x int ; import \"a\" ;") ≡ None
+unfolding reading
+late_import = refl
+
+no_last_semicolon : reading read_front (codes "package p ; var x int") ≡ None
+unfolding reading
+no_last_semicolon = refl

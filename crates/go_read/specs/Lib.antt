@@ -1,0 +1,17 @@
+pub mod Spells
+pub mod SpellsFiles
+pub mod SpellsSpans
+pub mod SpellsTerminals
+pub mod SpellsTexts
+pub mod SpellsTypes
+pub mod SpellsWeight
+pub mod Goals
+pub mod Programs
+pub mod ReadTypes
+pub mod ReadExprs
+pub mod ReadStmts
+pub mod ReadFiles
+pub mod Reading
+pub mod Follows
+pub mod Fronts
+pub mod Bareness

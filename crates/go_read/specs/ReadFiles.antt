@@ -1,0 +1,93 @@
+-- One step of reading a file's imports and declarations.
+use Rattle.std.specs.Prelude.{true, false, List, [], ◌∷◌, Option, Some, None}
+use Rattle.go_tree.specs.declared.operators.BinOp.TheVariants.{Mul}
+use Rattle.go_tree.specs.Tree.{const_decl, var_decl}
+use Rattle.go_tree.specs.File.{ImportSpec, ImportDecl, TypeSpec, Receiver, Decl, values, types, func, File}
+use Rattle.go_read.specs.SpellsTerminals.{lex, word, text, sign, becomes, semicolon, paren, end_paren, key_const, key_func, key_import, key_package, key_type, key_var}
+use Rattle.go_read.specs.SpellsTexts.{text_value}
+use Rattle.go_read.specs.SpellsTypes.{Lexemes, name_here}
+use Rattle.go_read.specs.SpellsFiles.{is_blank}
+use Rattle.go_read.specs.Goals.{read_type, read_sig, read_block, read_decl, read_import_spec, read_import_specs, read_import, read_type_spec, read_type_specs, read_receiver, read_top, read_imports, read_tops}
+use Rattle.go_read.specs.Programs.{Program, give, fail, ask, look, unless, after_end_paren}
+
+module _ {S : Type 0} (mark : Lexemes → Lexemes → S) where
+  unfoldable pub import_spec_step : Lexemes → Program S (ImportSpec S)
+  import_spec_step (lex s (text p) ∷ r) = give (record { span = mark (lex s (text p) ∷ r) r; name = None; path = text_value p }) r
+  import_spec_step (lex s (word n) ∷ lex c (text p) ∷ r) =
+      give (record { span = mark (lex s (word n) ∷ lex c (text p) ∷ r) r; name = Some (name_here mark s n (lex c (text p) ∷ r)); path = text_value p }) r
+  import_spec_step _ = fail
+
+  abbrev pub import_specs_after : ImportSpec S → Lexemes → Program S (List (ImportSpec S))
+  import_specs_after x (lex _ semicolon ∷ ts) = ask read_import_specs ts (λ xs r. give (x ∷ xs) r)
+  import_specs_after x (lex c end_paren ∷ ts) = give (x ∷ []) (lex c end_paren ∷ ts)
+  import_specs_after x _ = fail
+
+  unfoldable pub import_specs_step : Lexemes → Program S (List (ImportSpec S))
+  import_specs_step (lex c end_paren ∷ ts) = give [] (lex c end_paren ∷ ts)
+  import_specs_step ts = ask read_import_spec ts (λ x r. import_specs_after x r)
+
+  unfoldable pub import_step : Lexemes → Program S (ImportDecl S)
+  import_step (lex s key_import ∷ lex b paren ∷ ts) =
+      ask read_import_specs ts (λ xs r. after_end_paren r (λ r. give (record { span = mark (lex s key_import ∷ lex b paren ∷ ts) r; grouped = true; specs = xs }) r))
+  import_step (lex s key_import ∷ ts) = ask read_import_spec ts (λ x r. give (record { span = mark (lex s key_import ∷ ts) r; grouped = false; specs = x ∷ [] }) r)
+  import_step _ = fail
+
+  unfoldable pub type_spec_step : Lexemes → Program S (TypeSpec S)
+  type_spec_step (lex s (word n) ∷ lex c (becomes None) ∷ ts) =
+      ask read_type ts (λ t r. give (record { span = mark (lex s (word n) ∷ lex c (becomes None) ∷ ts) r; name = name_here mark s n (lex c (becomes None) ∷ ts); alias = true; of = t }) r)
+  type_spec_step (lex s (word n) ∷ ts) = ask read_type ts (λ t r. give (record { span = mark (lex s (word n) ∷ ts) r; name = name_here mark s n ts; alias = false; of = t }) r)
+  type_spec_step _ = fail
+
+  abbrev pub type_specs_after : TypeSpec S → Lexemes → Program S (List (TypeSpec S))
+  type_specs_after x (lex _ semicolon ∷ ts) = ask read_type_specs ts (λ xs r. give (x ∷ xs) r)
+  type_specs_after x (lex c end_paren ∷ ts) = give (x ∷ []) (lex c end_paren ∷ ts)
+  type_specs_after x _ = fail
+
+  unfoldable pub type_specs_step : Lexemes → Program S (List (TypeSpec S))
+  type_specs_step (lex c end_paren ∷ ts) = give [] (lex c end_paren ∷ ts)
+  type_specs_step ts = ask read_type_spec ts (λ x r. type_specs_after x r)
+
+  unfoldable pub receiver_step : Lexemes → Program S (Receiver S)
+  receiver_step (lex c (word x) ∷ lex p (sign Mul) ∷ lex s (word n) ∷ r) =
+      give (record { span = mark (lex c (word x) ∷ lex p (sign Mul) ∷ lex s (word n) ∷ r) r; name = Some (name_here mark c x (lex p (sign Mul) ∷ lex s (word n) ∷ r)); pointer = true; of = name_here mark s n r }) r
+  receiver_step (lex c (word x) ∷ lex s (word n) ∷ r) =
+      give (record { span = mark (lex c (word x) ∷ lex s (word n) ∷ r) r; name = Some (name_here mark c x (lex s (word n) ∷ r)); pointer = false; of = name_here mark s n r }) r
+  receiver_step (lex p (sign Mul) ∷ lex s (word n) ∷ r) =
+      give (record { span = mark (lex p (sign Mul) ∷ lex s (word n) ∷ r) r; name = None; pointer = true; of = name_here mark s n r }) r
+  receiver_step (lex s (word n) ∷ r) = give (record { span = mark (lex s (word n) ∷ r) r; name = None; pointer = false; of = name_here mark s n r }) r
+  receiver_step _ = fail
+
+  -- a name, a signature and a block
+  abbrev pub func_step : Lexemes → Option (Receiver S) → Lexemes → Program S (Decl S)
+  func_step whole v (lex c (word n) ∷ ts) =
+      ask read_sig ts (λ g mid. ask read_block mid (λ b r. give (func (record { span = mark whole r; receiver = v; name = name_here mark c n ts; sig = g; body_span = b.0; body = b.1 })) r))
+  func_step whole v _ = fail
+
+  unfoldable pub top_step : Lexemes → Program S (Decl S)
+  top_step (lex s key_const ∷ ts) = ask (read_decl true) ts (λ x r. give (values (const_decl (mark (lex s key_const ∷ ts) r) x.0 x.1)) r)
+  top_step (lex s key_var ∷ ts) = ask (read_decl false) ts (λ x r. give (values (var_decl (mark (lex s key_var ∷ ts) r) x.0 x.1)) r)
+  top_step (lex s key_type ∷ lex b paren ∷ ts) = ask read_type_specs ts (λ xs r. after_end_paren r (λ r. give (types (mark (lex s key_type ∷ lex b paren ∷ ts) r) true xs) r))
+  top_step (lex s key_type ∷ ts) = ask read_type_spec ts (λ x r. give (types (mark (lex s key_type ∷ ts) r) false (x ∷ [])) r)
+  top_step (lex s key_func ∷ lex b paren ∷ ts) = ask read_receiver ts (λ v r. after_end_paren r (λ r. func_step (lex s key_func ∷ lex b paren ∷ ts) (Some v) r))
+  top_step (lex s key_func ∷ ts) = func_step (lex s key_func ∷ ts) None ts
+  top_step _ = fail
+
+  -- imports and declarations as long as whole ones follow, each with its semicolon
+  abbrev pub imports_after : Lexemes → Option (ImportDecl S × Lexemes) → Program S (List (ImportDecl S))
+  imports_after whole (Some (d, lex _ semicolon ∷ ts)) = ask read_imports ts (λ ds r. give (d ∷ ds) r)
+  imports_after whole _ = give [] whole
+
+  unfoldable pub imports_step : Lexemes → Program S (List (ImportDecl S))
+  imports_step ts = look read_import ts (λ o. imports_after ts o)
+
+  abbrev pub tops_after : Lexemes → Option (Decl S × Lexemes) → Program S (List (Decl S))
+  tops_after whole (Some (d, lex _ semicolon ∷ ts)) = ask read_tops ts (λ ds r. give (d ∷ ds) r)
+  tops_after whole _ = give [] whole
+
+  unfoldable pub tops_step : Lexemes → Program S (List (Decl S))
+  tops_step ts = look read_top ts (λ o. tops_after ts o)
+
+  unfoldable pub front_step : Lexemes → Program S (File S)
+  front_step (lex s key_package ∷ lex c (word n) ∷ lex d semicolon ∷ ts) =
+      unless (is_blank n) (ask read_imports ts (λ is mid. ask read_tops mid (λ ds r. give (record { package_name = name_here mark c n (lex d semicolon ∷ ts); imports = is; decls = ds }) r)))
+  front_step _ = fail

@@ -1,0 +1,79 @@
+-- One step of reading a type, a signature, and a list of names.
+use Rattle.std.specs.Prelude.{List, [], ◌∷◌, Option, Some, None}
+use Rattle.go_tree.specs.declared.operators.BinOp.TheVariants.{Mul}
+use Rattle.go_tree.specs.Tree.{NameAt, TypeExpr, named, pointer, slice_type, map_type, struct_type, Fields, no_fields, Param, Sig}
+use Rattle.go_read.specs.SpellsTerminals.{lex, word, sign, comma, semicolon, dot, paren, end_paren, bracket, end_bracket, brace, end_brace, key_map, key_struct}
+use Rattle.go_read.specs.SpellsTypes.{Lexemes, name_here, fields_of, params_of, unnamed}
+use Rattle.go_read.specs.Goals.{read_type, read_fields, read_entries, read_named, read_unnamed, read_params, read_names}
+use Rattle.go_read.specs.Programs.{Program, give, fail, ask, look, after_end_brace, after_end_bracket, after_end_paren}
+
+module _ {S : Type 0} (mark : Lexemes → Lexemes → S) where
+  unfoldable pub type_step : Lexemes → Program S (TypeExpr S)
+  type_step (lex s (word p) ∷ lex d dot ∷ lex s2 (word n) ∷ r) =
+      give (named (mark (lex s (word p) ∷ lex d dot ∷ lex s2 (word n) ∷ r) r) (Some (name_here mark s p (lex d dot ∷ lex s2 (word n) ∷ r))) (name_here mark s2 n r)) r
+  type_step (lex s (word n) ∷ r) = give (named (mark (lex s (word n) ∷ r) r) None (name_here mark s n r)) r
+  type_step (lex s (sign Mul) ∷ ts) = ask read_type ts (λ t r. give (pointer (mark (lex s (sign Mul) ∷ ts) r) t) r)
+  type_step (lex s bracket ∷ lex e end_bracket ∷ ts) = ask read_type ts (λ t r. give (slice_type (mark (lex s bracket ∷ lex e end_bracket ∷ ts) r) t) r)
+  type_step (lex s key_map ∷ lex b bracket ∷ ts) =
+      ask read_type ts (λ k mid. after_end_bracket mid (λ mid. ask read_type mid (λ t r. give (map_type (mark (lex s key_map ∷ lex b bracket ∷ ts) r) k t) r)))
+  type_step (lex s key_struct ∷ lex b brace ∷ ts) =
+      ask read_fields ts (λ fs r. after_end_brace r (λ r. give (struct_type (mark (lex s key_struct ∷ lex b brace ∷ ts) r) fs) r))
+  type_step (lex s paren ∷ ts) = ask read_type ts (λ t r. after_end_paren r (λ r. give t r))
+  type_step _ = fail
+
+  abbrev pub fields_after : TypeExpr S × List (S × NameAt S) → Lexemes → Program S (Fields S)
+  fields_after x (lex _ semicolon ∷ ts) = ask read_fields ts (λ fs r. give (fields_of x.1 x.0 fs) r)
+  fields_after x (lex c end_brace ∷ ts) = give (fields_of x.1 x.0 no_fields) (lex c end_brace ∷ ts)
+  fields_after x _ = fail
+
+  unfoldable pub fields_step : Lexemes → Program S (Fields S)
+  fields_step (lex c end_brace ∷ ts) = give no_fields (lex c end_brace ∷ ts)
+  fields_step ts = ask read_entries ts (λ x r. fields_after x r)
+
+  unfoldable pub entries_step : Lexemes → Program S (TypeExpr S × List (S × NameAt S))
+  entries_step (lex s (word n) ∷ lex c comma ∷ ts) =
+      ask read_entries ts (λ x r. give (x.0, (mark (lex s (word n) ∷ lex c comma ∷ ts) r, name_here mark s n (lex c comma ∷ ts)) ∷ x.1) r)
+  entries_step (lex s (word n) ∷ ts) = ask read_type ts (λ t r. give (t, (mark (lex s (word n) ∷ ts) r, name_here mark s n ts) ∷ []) r)
+  entries_step _ = fail
+
+  abbrev pub named_after : TypeExpr S × List (S × NameAt S) → Lexemes → Program S (List (Param S))
+  named_after x (lex _ end_paren ∷ r) = give (params_of x.1 x.0 []) r
+  named_after x (lex _ comma ∷ lex _ end_paren ∷ r) = give (params_of x.1 x.0 []) r
+  named_after x (lex _ comma ∷ ts) = ask read_named ts (λ ps r. give (params_of x.1 x.0 ps) r)
+  named_after x _ = fail
+
+  unfoldable pub named_step : Lexemes → Program S (List (Param S))
+  named_step ts = ask read_entries ts (λ x r. named_after x r)
+
+  abbrev pub unnamed_after : TypeExpr S → Lexemes → Program S (List (Param S))
+  unnamed_after t (lex _ end_paren ∷ r) = give (unnamed t ∷ []) r
+  unnamed_after t (lex _ comma ∷ lex _ end_paren ∷ r) = give (unnamed t ∷ []) r
+  unnamed_after t (lex _ comma ∷ ts) = ask read_unnamed ts (λ ps r. give (unnamed t ∷ ps) r)
+  unnamed_after t _ = fail
+
+  unfoldable pub unnamed_step : Lexemes → Program S (List (Param S))
+  unnamed_step ts = ask read_type ts (λ t r. unnamed_after t r)
+
+  -- named parameters where they can be read so, else types
+  abbrev pub params_either : Lexemes → Option (List (Param S) × Lexemes) → Program S (List (Param S))
+  params_either ts (Some x) = give x.0 x.1
+  params_either ts None = ask read_unnamed ts (λ ps r. give ps r)
+
+  unfoldable pub params_step : Lexemes → Program S (List (Param S))
+  params_step (lex _ paren ∷ lex _ end_paren ∷ r) = give [] r
+  params_step (lex _ paren ∷ ts) = look read_named ts (λ o. params_either ts o)
+  params_step _ = fail
+
+  -- results stand before a brace
+  abbrev pub results_step : List (Param S) → Lexemes → Program S (Sig S)
+  results_step ps (lex s paren ∷ ts) = ask read_params (lex s paren ∷ ts) (λ rs r. give (record { params = ps; results = rs }) r)
+  results_step ps (lex s brace ∷ ts) = give (record { params = ps; results = [] }) (lex s brace ∷ ts)
+  results_step ps ts = ask read_type ts (λ t r. give (record { params = ps; results = unnamed t ∷ [] }) r)
+
+  unfoldable pub sig_step : Lexemes → Program S (Sig S)
+  sig_step ts = ask read_params ts (λ ps r. results_step ps r)
+
+  unfoldable pub names_step : Lexemes → Program S (List (NameAt S))
+  names_step (lex s (word n) ∷ lex c comma ∷ ts) = ask read_names ts (λ ns r. give (name_here mark s n (lex c comma ∷ ts) ∷ ns) r)
+  names_step (lex s (word n) ∷ r) = give (name_here mark s n r ∷ []) r
+  names_step _ = fail

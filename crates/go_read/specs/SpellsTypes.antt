@@ -1,0 +1,102 @@
+-- What spells a type and a signature (Go specification, Types, Function types).
+--
+-- A relation that ends in `tokens rest` holds where the tokens before `rest` are spelled by one of the productions; the rules
+-- below are the productions, one each. `mark tokens rest` is what a node has for its span.
+use Rattle.std.specs.Prelude.{ℕ, List, [], ◌∷◌, Some, None}
+use Rattle.go_tree.specs.declared.spans.Span.{Span}
+use Rattle.go_tree.specs.declared.operators.BinOp.TheVariants.{Mul}
+use Rattle.go_tree.specs.Tree.{NameAt, TypeExpr, named, pointer, slice_type, map_type, struct_type, Fields, no_fields, field, Param, Sig}
+use Rattle.go_read.specs.SpellsTerminals.{Lexeme, lex, word, sign, comma, semicolon, dot, paren, end_paren, bracket, end_bracket, brace, end_brace, key_map, key_struct}
+
+abbrev pub Lexemes : Type 0
+Lexemes = List Lexeme
+
+-- what a type has for its span
+abbrev pub type_mark : {S : Type 0} → TypeExpr S → S
+type_mark (named s _ _) = s
+type_mark (pointer s _) = s
+type_mark (slice_type s _) = s
+type_mark (map_type s _ _) = s
+type_mark (struct_type s _) = s
+
+-- names that share a type: what each entry has for its span, and the name
+abbrev pub fields_of : {S : Type 0} → List (S × NameAt S) → TypeExpr S → Fields S → Fields S
+fields_of [] t more = more
+fields_of (e ∷ es) t more = field e.0 e.1 t (fields_of es t more)
+
+abbrev pub params_of : {S : Type 0} → List (S × NameAt S) → TypeExpr S → List (Param S) → List (Param S)
+params_of [] t more = more
+params_of (e ∷ es) t more = record { span = e.0; name = Some e.1; of = t } ∷ params_of es t more
+
+-- a parameter or result without a name
+abbrev pub unnamed : {S : Type 0} → TypeExpr S → Param S
+unnamed t = record { span = type_mark t; name = None; of = t }
+
+module _ {S : Type 0} (mark : Lexemes → Lexemes → S) where
+  -- the name that a token is
+  abbrev pub name_here : Span → List ℕ → Lexemes → NameAt S
+  name_here s n rest = record { span = mark (lex s (word n) ∷ rest) rest; name = n }
+
+  mutual
+    -- Type = name | name "." name | "*" Type | "[" "]" Type | "map" "[" Type "]" Type | "struct" "{" { Names Type ";" } "}" | "(" Type ")"
+    pub data SpellsType : TypeExpr S → Lexemes → Lexemes → Type 0 where
+      named_rule : {s : Span} {n : List ℕ} {r : Lexemes} → SpellsType (named (mark (lex s (word n) ∷ r) r) None (name_here s n r)) (lex s (word n) ∷ r) r
+      qualified_rule : {s d s2 : Span} {p n : List ℕ} {r : Lexemes}
+          → SpellsType (named (mark (lex s (word p) ∷ lex d dot ∷ lex s2 (word n) ∷ r) r) (Some (name_here s p (lex d dot ∷ lex s2 (word n) ∷ r))) (name_here s2 n r)) (lex s (word p) ∷ lex d dot ∷ lex s2 (word n) ∷ r) r
+      pointer_rule : {s : Span} {t : TypeExpr S} {ts r : Lexemes} → SpellsType t ts r → SpellsType (pointer (mark (lex s (sign Mul) ∷ ts) r) t) (lex s (sign Mul) ∷ ts) r
+      slice_type_rule : {s e : Span} {t : TypeExpr S} {ts r : Lexemes} → SpellsType t ts r
+          → SpellsType (slice_type (mark (lex s bracket ∷ lex e end_bracket ∷ ts) r) t) (lex s bracket ∷ lex e end_bracket ∷ ts) r
+      map_type_rule : {s b e : Span} {k t : TypeExpr S} {ts mid r : Lexemes} → SpellsType k ts (lex e end_bracket ∷ mid) → SpellsType t mid r
+          → SpellsType (map_type (mark (lex s key_map ∷ lex b bracket ∷ ts) r) k t) (lex s key_map ∷ lex b bracket ∷ ts) r
+      struct_type_rule : {s b e : Span} {fs : Fields S} {ts r : Lexemes} → SpellsFields fs ts (lex e end_brace ∷ r)
+          → SpellsType (struct_type (mark (lex s key_struct ∷ lex b brace ∷ ts) r) fs) (lex s key_struct ∷ lex b brace ∷ ts) r
+      type_parens_rule : {s e : Span} {t : TypeExpr S} {ts r : Lexemes} → SpellsType t ts (lex e end_paren ∷ r) → SpellsType t (lex s paren ∷ ts) r
+
+    -- { Names Type ";" } before "}", where the last semicolon may be left out
+    pub data SpellsFields : Fields S → Lexemes → Lexemes → Type 0 where
+      no_fields_rule : {r : Lexemes} → SpellsFields no_fields r r
+      last_field_rule : {e : Span} {t : TypeExpr S} {es : List (S × NameAt S)} {ts r : Lexemes} → SpellsEntries t es ts (lex e end_brace ∷ r)
+          → SpellsFields (fields_of es t no_fields) ts (lex e end_brace ∷ r)
+      more_fields_rule : {c : Span} {t : TypeExpr S} {es : List (S × NameAt S)} {fs : Fields S} {ts mid r : Lexemes} → SpellsEntries t es ts (lex c semicolon ∷ mid) → SpellsFields fs mid r
+          → SpellsFields (fields_of es t fs) ts r
+
+    -- Names Type: an entry for each name, from it to the end of the type
+    pub data SpellsEntries : TypeExpr S → List (S × NameAt S) → Lexemes → Lexemes → Type 0 where
+      last_entry_rule : {s : Span} {n : List ℕ} {t : TypeExpr S} {ts r : Lexemes} → SpellsType t ts r
+          → SpellsEntries t ((mark (lex s (word n) ∷ ts) r, name_here s n ts) ∷ []) (lex s (word n) ∷ ts) r
+      more_entries_rule : {s c : Span} {n : List ℕ} {t : TypeExpr S} {es : List (S × NameAt S)} {ts r : Lexemes} → SpellsEntries t es ts r
+          → SpellsEntries t ((mark (lex s (word n) ∷ lex c comma ∷ ts) r, name_here s n (lex c comma ∷ ts)) ∷ es) (lex s (word n) ∷ lex c comma ∷ ts) r
+
+  -- Names Type { "," Names Type } [ "," ] ")"
+  pub data SpellsNamed : List (Param S) → Lexemes → Lexemes → Type 0 where
+    last_named_rule : {e : Span} {t : TypeExpr S} {es : List (S × NameAt S)} {ts r : Lexemes} → SpellsEntries t es ts (lex e end_paren ∷ r) → SpellsNamed (params_of es t []) ts r
+    comma_named_rule : {c e : Span} {t : TypeExpr S} {es : List (S × NameAt S)} {ts r : Lexemes} → SpellsEntries t es ts (lex c comma ∷ lex e end_paren ∷ r) → SpellsNamed (params_of es t []) ts r
+    more_named_rule : {c : Span} {t : TypeExpr S} {es : List (S × NameAt S)} {ps : List (Param S)} {ts mid r : Lexemes} → SpellsEntries t es ts (lex c comma ∷ mid) → SpellsNamed ps mid r
+        → SpellsNamed (params_of es t ps) ts r
+
+  -- Type { "," Type } [ "," ] ")"
+  pub data SpellsUnnamed : List (Param S) → Lexemes → Lexemes → Type 0 where
+    last_unnamed_rule : {e : Span} {t : TypeExpr S} {ts r : Lexemes} → SpellsType t ts (lex e end_paren ∷ r) → SpellsUnnamed (unnamed t ∷ []) ts r
+    comma_unnamed_rule : {c e : Span} {t : TypeExpr S} {ts r : Lexemes} → SpellsType t ts (lex c comma ∷ lex e end_paren ∷ r) → SpellsUnnamed (unnamed t ∷ []) ts r
+    more_unnamed_rule : {c : Span} {t : TypeExpr S} {ps : List (Param S)} {ts mid r : Lexemes} → SpellsType t ts (lex c comma ∷ mid) → SpellsUnnamed ps mid r → SpellsUnnamed (unnamed t ∷ ps) ts r
+
+  -- Params = "(" [ ( Names Type { "," Names Type } | Type { "," Type } ) [ "," ] ] ")"
+  pub data SpellsParams : List (Param S) → Lexemes → Lexemes → Type 0 where
+    no_params_rule : {s e : Span} {r : Lexemes} → SpellsParams [] (lex s paren ∷ lex e end_paren ∷ r) r
+    named_params_rule : {s : Span} {ps : List (Param S)} {ts r : Lexemes} → SpellsNamed ps ts r → SpellsParams ps (lex s paren ∷ ts) r
+    unnamed_params_rule : {s : Span} {ps : List (Param S)} {ts r : Lexemes} → SpellsUnnamed ps ts r → SpellsParams ps (lex s paren ∷ ts) r
+
+  -- [ Params | Type ]
+  pub data SpellsResults : List (Param S) → Lexemes → Lexemes → Type 0 where
+    no_results_rule : {r : Lexemes} → SpellsResults [] r r
+    params_results_rule : {ps : List (Param S)} {ts r : Lexemes} → SpellsParams ps ts r → SpellsResults ps ts r
+    type_result_rule : {t : TypeExpr S} {ts r : Lexemes} → SpellsType t ts r → SpellsResults (unnamed t ∷ []) ts r
+
+  -- Sig = Params [ Params | Type ]
+  pub data SpellsSig : Sig S → Lexemes → Lexemes → Type 0 where
+    sig_rule : {ps rs : List (Param S)} {ts mid r : Lexemes} → SpellsParams ps ts mid → SpellsResults rs mid r → SpellsSig (record { params = ps; results = rs }) ts r
+
+  -- Names = name { "," name }
+  pub data SpellsNames : List (NameAt S) → Lexemes → Lexemes → Type 0 where
+    last_name_rule : {s : Span} {n : List ℕ} {r : Lexemes} → SpellsNames (name_here s n r ∷ []) (lex s (word n) ∷ r) r
+    more_names_rule : {s c : Span} {n : List ℕ} {ns : List (NameAt S)} {ts r : Lexemes} → SpellsNames ns ts r → SpellsNames (name_here s n (lex c comma ∷ ts) ∷ ns) (lex s (word n) ∷ lex c comma ∷ ts) r
