@@ -1,0 +1,14 @@
+pub mod Derivatives
+pub mod AutomatonLemmas
+pub mod LexemeLemmas
+pub mod PieceKinds
+pub mod Cuts
+pub mod LetterLemmas
+pub mod LongestLemmas
+pub mod Best
+pub mod PieceLemmas
+pub mod PieceSteps
+pub mod NewlineLemmas
+pub mod ScanLemmas
+pub mod UnsupportedLemmas
+pub mod Refusals

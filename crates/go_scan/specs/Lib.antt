@@ -1,0 +1,5 @@
+pub mod Automaton
+pub mod Pieces
+pub mod TokenLists
+pub mod Scanned
+pub mod Unsupported

@@ -1,0 +1,83 @@
+-- Words of Go that lie outside the part that is supported: the keywords `chan`, `fallthrough`, `go`, `goto`, `interface`
+-- and `select`, the operators `<-`, `~` and `...`, floating-point and imaginary literals (Go specification, Keywords,
+-- Operators and punctuation), and a build constraint before the package clause (go/build/constraint).
+use Rattle.std.specs.Prelude.{◌≡◌, ℕ, ◌-◌, ◌≤◌, Bool, true, false, ◌&&◌, nat_eq, nat_lt, nat_le, List, [], ◌∷◌, ◌++◌, map, take, drop, Option, Some, None, codes, bytes_eq, if◌then◌else◌, Contains, All}
+use Rattle.std.specs.List.{starts_with}
+use Rattle.go_tree.specs.declared.spans.Span.{Span}
+use Rattle.go_tree.specs.declared.tokens.Token.{Token}
+use Rattle.go_tree.specs.declared.tokens.Comment.{Comment}
+use Rattle.go_tree.specs.declared.tokens.TokenKind.{TokenKind}
+use Rattle.go_tree.specs.declared.tokens.TokenKind.TheVariants.{Keyword, Operator, Float, Imaginary}
+use Rattle.go_words.specs.Tokens.Characters.{is_blank}
+use Rattle.go_words.specs.Tokens.Pieces.{is_among}
+
+abbrev pub unsupported_keywords : List (List ℕ)
+unsupported_keywords = map codes ("chan" ∷ "fallthrough" ∷ "go" ∷ "goto" ∷ "interface" ∷ "select" ∷ [])
+
+abbrev pub unsupported_operators : List (List ℕ)
+unsupported_operators = map codes ("<-" ∷ "~" ∷ "..." ∷ [])
+
+abbrev pub is_unsupported : TokenKind → List ℕ → Bool
+is_unsupported Keyword spelling = is_among unsupported_keywords spelling
+is_unsupported Operator spelling = is_among unsupported_operators spelling
+is_unsupported Float spelling = true
+is_unsupported Imaginary spelling = true
+is_unsupported _ spelling = false
+
+abbrev pub is_package : TokenKind → List ℕ → Bool
+is_package Keyword spelling = bytes_eq spelling (codes "package")
+is_package _ spelling = false
+
+-- where the first `package` begins
+abbrev pub package_start : List Token → Option ℕ
+package_start [] = None
+package_start (t ∷ ts) = if is_package t.kind t.spelling then Some t.span.start else package_start ts
+
+abbrev pub stands_before : ℕ → Option ℕ → Bool
+stands_before start None = false
+stands_before start (Some place) = nat_lt start place
+
+abbrev pub blank_or_end : List ℕ → Bool
+blank_or_end [] = true
+blank_or_end (b ∷ bs) = is_blank b
+
+-- `//go:build` alone or followed by a blank
+abbrev pub is_build_line : List ℕ → Bool
+is_build_line bytes = starts_with nat_eq bytes (codes "//go:build") && blank_or_end (drop 10 bytes)
+
+abbrev pub bytes_in : List ℕ → Span → List ℕ
+bytes_in text span = take (span.end - span.start) (drop span.start text)
+
+abbrev pub is_constraint : List ℕ → Option ℕ → Comment → Bool
+is_constraint text place comment = stands_before comment.span.start place && is_build_line (bytes_in text comment.span)
+
+unfoldable pub constraint_spans : List ℕ → Option ℕ → List Comment → List Span
+constraint_spans text place [] = []
+constraint_spans text place (c ∷ cs) = if is_constraint text place c then c.span ∷ constraint_spans text place cs else constraint_spans text place cs
+
+unfoldable pub word_spans : List Token → List Span
+word_spans [] = []
+word_spans (t ∷ ts) = if is_unsupported t.kind t.spelling then t.span ∷ word_spans ts else word_spans ts
+
+-- where the unsupported words stand
+abbrev pub unsupported_spans : List ℕ → List Token → List Comment → List Span
+unsupported_spans text tokens comments = constraint_spans text (package_start tokens) comments ++ word_spans tokens
+
+-- the first of the spans, or nothing where there are none
+abbrev pub IsFirst : List Span → Option Span → Type 0
+IsFirst spans None = spans ≡ []
+IsFirst spans (Some span) = Contains spans span × All (λ other. span.start ≤ other.start) spans
+
+-- ---- as it is looked for
+
+abbrev pub earlier : Option Span → Span → Span
+earlier None span = span
+earlier (Some known) span = if nat_le known.start span.start then known else span
+
+abbrev pub first_word : Option Span → List Token → Option Span
+first_word known [] = known
+first_word known (t ∷ ts) = first_word (if is_unsupported t.kind t.spelling then Some (earlier known t.span) else known) ts
+
+abbrev pub first_constraint : List ℕ → Option ℕ → Option Span → List Comment → Option Span
+first_constraint text place known [] = known
+first_constraint text place known (c ∷ cs) = first_constraint text place (if is_constraint text place c then Some (earlier known c.span) else known) cs
