@@ -1,6 +1,6 @@
 -- Types, parameters and files, read by evaluation: all of the text is spelled as the tree, or nothing is.
 use Rattle.std.proofs.Common.{◌≡◌, true, false, [], ◌∷◌, Some, None, refl}
-use Rattle.std.specs.Prelude.{codes}
+use Rattle.std.specs.Prelude.{codes, is_some}
 use Rattle.go_tree.specs.Tree.{named, pointer, slice_type, map_type, struct_type, no_fields, field, no_stmts}
 use Rattle.go_tree.specs.File.{func, types}
 use Rattle.go_read.specs.Goals.{read_type, read_params, read_import, read_top, read_front}
@@ -69,3 +69,16 @@ late_import = refl
 no_last_semicolon : reading read_front (codes "package p ; var x int") ≡ None
 unfolding reading
 no_last_semicolon = refl
+
+-- a library and a program that uses it are read whole
+library_file : is_some (reading read_front (codes "package lib ; import \"example.com/lib/text\" ; const ( MaxWidth = text . Wide ; limit = 3 ; ) ; type Row = text . Line ; func PadLeft ( s string , n int ) string { return text . Pad ( s , n , true ) ; } ; func Show ( rows [ ] Row , width int ) { for _ , r := range rows { text . Put ( r , width ) ; } ; } ; func Total ( rows [ ] Row ) int { t := limit ; for _ , r := range rows { t += len ( r . Body ) ; } ; return t ; } ;")) ≡ true
+unfolding reading
+library_file = refl
+
+text_file : is_some (reading read_front (codes "package text ; const Wide = 8 ; type Line struct { Body string ; } ; func Pad ( s string , n int , left bool ) string { for len ( s ) < n { if left { s = \"\\x20\" + s ; } else { s += \"\\x20\" ; } ; } ; return s ; } ; func Put ( l Line , width int ) { println ( Pad ( l . Body , width , false ) ) ; } ;")) ≡ true
+unfolding reading
+text_file = refl
+
+program_file : is_some (reading read_front (codes "package main ; import ( \"example.com/lib\" ; ) ; func load ( ) [ ] lib . Row { return [ ] lib . Row { { \"a\" } , { \"bc\" } } ; } ; func main ( ) { rows := load ( ) ; for i := 0 ; i < 2 ; i ++ { println ( lib . PadLeft ( rows [ i ] . Body , lib . MaxWidth ) ) ; } ; lib . Show ( rows , 4 ) ; println ( lib . Total ( rows ) ) ; } ;")) ≡ true
+unfolding reading
+program_file = refl

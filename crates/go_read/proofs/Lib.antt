@@ -21,3 +21,6 @@ pub mod Complete
 pub mod CompleteFiles
 pub mod Whole
 pub mod WeightChecks
+pub mod Suffixes
+pub mod SpansAside
+pub mod Spelled

@@ -1,9 +1,9 @@
-pub mod Spells
-pub mod SpellsFiles
-pub mod SpellsSpans
 pub mod SpellsTerminals
+pub mod SpellsSpans
 pub mod SpellsTexts
 pub mod SpellsTypes
+pub mod Spells
+pub mod SpellsFiles
 pub mod SpellsWeight
 pub mod Goals
 pub mod Programs

@@ -19,39 +19,51 @@ is_blank n = bytes_eq n (codes "_")
 module _ {S : Type 0} (mark : Lexemes → Lexemes → S) where
   -- ISpec = [ name ] string
   pub data SpellsImportSpec : ImportSpec S → Lexemes → Lexemes → Type 0 where
-    path_rule : {s : Span} {p : List ℕ} {r : Lexemes} → SpellsImportSpec (record { span = mark (lex s (text p) ∷ r) r; name = None; path = text_value p }) (lex s (text p) ∷ r) r
+    path_rule : {s : Span} {p : List ℕ} {r : Lexemes}
+        → SpellsImportSpec (record { span = mark (lex s (text p) ∷ r) r; name = None; path = text_value p }) (lex s (text p) ∷ r) r
     named_path_rule : {s c : Span} {n p : List ℕ} {r : Lexemes}
         → SpellsImportSpec (record { span = mark (lex s (word n) ∷ lex c (text p) ∷ r) r; name = Some (name_here mark s n (lex c (text p) ∷ r)); path = text_value p }) (lex s (word n) ∷ lex c (text p) ∷ r) r
 
   -- { ISpec ";" } before ")", where the last semicolon may be left out
   pub data SpellsImportSpecs : List (ImportSpec S) → Lexemes → Lexemes → Type 0 where
     no_import_specs_rule : {r : Lexemes} → SpellsImportSpecs [] r r
-    last_import_spec_rule : {e : Span} {x : ImportSpec S} {ts r : Lexemes} → SpellsImportSpec x ts (lex e end_paren ∷ r) → SpellsImportSpecs (x ∷ []) ts (lex e end_paren ∷ r)
-    more_import_specs_rule : {c : Span} {x : ImportSpec S} {xs : List (ImportSpec S)} {ts mid r : Lexemes} → SpellsImportSpec x ts (lex c semicolon ∷ mid) → SpellsImportSpecs xs mid r → SpellsImportSpecs (x ∷ xs) ts r
+    last_import_spec_rule : {e : Span} {x : ImportSpec S} {ts r : Lexemes}
+        → SpellsImportSpec x ts (lex e end_paren ∷ r) → SpellsImportSpecs (x ∷ []) ts (lex e end_paren ∷ r)
+    more_import_specs_rule : {c : Span} {x : ImportSpec S} {xs : List (ImportSpec S)} {ts mid r : Lexemes}
+        → SpellsImportSpec x ts (lex c semicolon ∷ mid) → SpellsImportSpecs xs mid r
+        → SpellsImportSpecs (x ∷ xs) ts r
 
   -- Import = "import" ( ISpec | "(" { ISpec ";" } ")" )
   pub data SpellsImport : ImportDecl S → Lexemes → Lexemes → Type 0 where
-    import_rule : {s : Span} {x : ImportSpec S} {ts r : Lexemes} → SpellsImportSpec x ts r
+    import_rule : {s : Span} {x : ImportSpec S} {ts r : Lexemes}
+        → SpellsImportSpec x ts r
         → SpellsImport (record { span = mark (lex s key_import ∷ ts) r; grouped = false; specs = x ∷ [] }) (lex s key_import ∷ ts) r
-    import_group_rule : {s b e : Span} {xs : List (ImportSpec S)} {ts r : Lexemes} → SpellsImportSpecs xs ts (lex e end_paren ∷ r)
+    import_group_rule : {s b e : Span} {xs : List (ImportSpec S)} {ts r : Lexemes}
+        → SpellsImportSpecs xs ts (lex e end_paren ∷ r)
         → SpellsImport (record { span = mark (lex s key_import ∷ lex b paren ∷ ts) r; grouped = true; specs = xs }) (lex s key_import ∷ lex b paren ∷ ts) r
 
   -- TSpec = name [ "=" ] Type
   pub data SpellsTypeSpec : TypeSpec S → Lexemes → Lexemes → Type 0 where
-    type_spec_rule : {s : Span} {n : List ℕ} {t : TypeExpr S} {ts r : Lexemes} → SpellsType mark t ts r
+    type_spec_rule : {s : Span} {n : List ℕ} {t : TypeExpr S} {ts r : Lexemes}
+        → SpellsType mark t ts r
         → SpellsTypeSpec (record { span = mark (lex s (word n) ∷ ts) r; name = name_here mark s n ts; alias = false; of = t }) (lex s (word n) ∷ ts) r
-    alias_spec_rule : {s c : Span} {n : List ℕ} {t : TypeExpr S} {ts r : Lexemes} → SpellsType mark t ts r
+    alias_spec_rule : {s c : Span} {n : List ℕ} {t : TypeExpr S} {ts r : Lexemes}
+        → SpellsType mark t ts r
         → SpellsTypeSpec (record { span = mark (lex s (word n) ∷ lex c (becomes None) ∷ ts) r; name = name_here mark s n (lex c (becomes None) ∷ ts); alias = true; of = t }) (lex s (word n) ∷ lex c (becomes None) ∷ ts) r
 
   -- { TSpec ";" } before ")", where the last semicolon may be left out
   pub data SpellsTypeSpecs : List (TypeSpec S) → Lexemes → Lexemes → Type 0 where
     no_type_specs_rule : {r : Lexemes} → SpellsTypeSpecs [] r r
-    last_type_spec_rule : {e : Span} {x : TypeSpec S} {ts r : Lexemes} → SpellsTypeSpec x ts (lex e end_paren ∷ r) → SpellsTypeSpecs (x ∷ []) ts (lex e end_paren ∷ r)
-    more_type_specs_rule : {c : Span} {x : TypeSpec S} {xs : List (TypeSpec S)} {ts mid r : Lexemes} → SpellsTypeSpec x ts (lex c semicolon ∷ mid) → SpellsTypeSpecs xs mid r → SpellsTypeSpecs (x ∷ xs) ts r
+    last_type_spec_rule : {e : Span} {x : TypeSpec S} {ts r : Lexemes}
+        → SpellsTypeSpec x ts (lex e end_paren ∷ r) → SpellsTypeSpecs (x ∷ []) ts (lex e end_paren ∷ r)
+    more_type_specs_rule : {c : Span} {x : TypeSpec S} {xs : List (TypeSpec S)} {ts mid r : Lexemes}
+        → SpellsTypeSpec x ts (lex c semicolon ∷ mid) → SpellsTypeSpecs xs mid r
+        → SpellsTypeSpecs (x ∷ xs) ts r
 
   -- [ name ] [ "*" ] name
   pub data SpellsReceiver : Receiver S → Lexemes → Lexemes → Type 0 where
-    receiver_rule : {s : Span} {n : List ℕ} {r : Lexemes} → SpellsReceiver (record { span = mark (lex s (word n) ∷ r) r; name = None; pointer = false; of = name_here mark s n r }) (lex s (word n) ∷ r) r
+    receiver_rule : {s : Span} {n : List ℕ} {r : Lexemes}
+        → SpellsReceiver (record { span = mark (lex s (word n) ∷ r) r; name = None; pointer = false; of = name_here mark s n r }) (lex s (word n) ∷ r) r
     pointer_receiver_rule : {p s : Span} {n : List ℕ} {r : Lexemes}
         → SpellsReceiver (record { span = mark (lex p (sign Mul) ∷ lex s (word n) ∷ r) r; name = None; pointer = true; of = name_here mark s n r }) (lex p (sign Mul) ∷ lex s (word n) ∷ r) r
     named_receiver_rule : {c s : Span} {x n : List ℕ} {r : Lexemes}
@@ -62,32 +74,44 @@ module _ {S : Type 0} (mark : Lexemes → Lexemes → S) where
 
   -- Decl = Const | Var | TypeDecl | Func
   pub data SpellsTop : Decl S → Lexemes → Lexemes → Type 0 where
-    top_const_rule : {s : Span} {grouped : Bool} {ss : ValueSpecs S} {ts r : Lexemes} → SpellsDecl mark true grouped ss ts r → SpellsTop (values (const_decl (mark (lex s key_const ∷ ts) r) grouped ss)) (lex s key_const ∷ ts) r
-    top_var_rule : {s : Span} {grouped : Bool} {ss : ValueSpecs S} {ts r : Lexemes} → SpellsDecl mark false grouped ss ts r → SpellsTop (values (var_decl (mark (lex s key_var ∷ ts) r) grouped ss)) (lex s key_var ∷ ts) r
+    top_const_rule : {s : Span} {grouped : Bool} {ss : ValueSpecs S} {ts r : Lexemes}
+        → SpellsDecl mark true grouped ss ts r
+        → SpellsTop (values (const_decl (mark (lex s key_const ∷ ts) r) grouped ss)) (lex s key_const ∷ ts) r
+    top_var_rule : {s : Span} {grouped : Bool} {ss : ValueSpecs S} {ts r : Lexemes}
+        → SpellsDecl mark false grouped ss ts r
+        → SpellsTop (values (var_decl (mark (lex s key_var ∷ ts) r) grouped ss)) (lex s key_var ∷ ts) r
     -- "type" ( TSpec | "(" { TSpec ";" } ")" )
-    top_type_rule : {s : Span} {x : TypeSpec S} {ts r : Lexemes} → SpellsTypeSpec x ts r → SpellsTop (types (mark (lex s key_type ∷ ts) r) false (x ∷ [])) (lex s key_type ∷ ts) r
-    top_type_group_rule : {s b e : Span} {xs : List (TypeSpec S)} {ts r : Lexemes} → SpellsTypeSpecs xs ts (lex e end_paren ∷ r)
+    top_type_rule : {s : Span} {x : TypeSpec S} {ts r : Lexemes}
+        → SpellsTypeSpec x ts r → SpellsTop (types (mark (lex s key_type ∷ ts) r) false (x ∷ [])) (lex s key_type ∷ ts) r
+    top_type_group_rule : {s b e : Span} {xs : List (TypeSpec S)} {ts r : Lexemes}
+        → SpellsTypeSpecs xs ts (lex e end_paren ∷ r)
         → SpellsTop (types (mark (lex s key_type ∷ lex b paren ∷ ts) r) true xs) (lex s key_type ∷ lex b paren ∷ ts) r
     -- "func" [ "(" [ name ] [ "*" ] name ")" ] name Sig Block
-    top_func_rule : {s c : Span} {n : List ℕ} {g : Sig S} {sb : S} {body : Stmts S} {ts mid r : Lexemes} → SpellsSig mark g ts mid → SpellsBlock mark sb body mid r
+    top_func_rule : {s c : Span} {n : List ℕ} {g : Sig S} {sb : S} {body : Stmts S} {ts mid r : Lexemes}
+        → SpellsSig mark g ts mid → SpellsBlock mark sb body mid r
         → SpellsTop (func (record { span = mark (lex s key_func ∷ lex c (word n) ∷ ts) r; receiver = None; name = name_here mark c n ts; sig = g; body_span = sb; body = body })) (lex s key_func ∷ lex c (word n) ∷ ts) r
-    top_method_rule : {s b e c : Span} {n : List ℕ} {v : Receiver S} {g : Sig S} {sb : S} {body : Stmts S} {ts ts2 mid r : Lexemes} → SpellsReceiver v ts (lex e end_paren ∷ lex c (word n) ∷ ts2)
-        → SpellsSig mark g ts2 mid → SpellsBlock mark sb body mid r
+    top_method_rule : {s b e c : Span} {n : List ℕ} {v : Receiver S} {g : Sig S} {sb : S} {body : Stmts S} {ts ts2 mid r : Lexemes}
+        → SpellsReceiver v ts (lex e end_paren ∷ lex c (word n) ∷ ts2) → SpellsSig mark g ts2 mid → SpellsBlock mark sb body mid r
         → SpellsTop (func (record { span = mark (lex s key_func ∷ lex b paren ∷ ts) r; receiver = Some v; name = name_here mark c n ts2; sig = g; body_span = sb; body = body })) (lex s key_func ∷ lex b paren ∷ ts) r
 
   -- { Import ";" }
   pub data SpellsImports : List (ImportDecl S) → Lexemes → Lexemes → Type 0 where
     no_imports_rule : {r : Lexemes} → SpellsImports [] r r
-    more_imports_rule : {c : Span} {d : ImportDecl S} {ds : List (ImportDecl S)} {ts mid r : Lexemes} → SpellsImport d ts (lex c semicolon ∷ mid) → SpellsImports ds mid r → SpellsImports (d ∷ ds) ts r
+    more_imports_rule : {c : Span} {d : ImportDecl S} {ds : List (ImportDecl S)} {ts mid r : Lexemes}
+        → SpellsImport d ts (lex c semicolon ∷ mid) → SpellsImports ds mid r
+        → SpellsImports (d ∷ ds) ts r
 
   -- { Decl ";" }
   pub data SpellsTops : List (Decl S) → Lexemes → Lexemes → Type 0 where
     no_tops_rule : {r : Lexemes} → SpellsTops [] r r
-    more_tops_rule : {c : Span} {d : Decl S} {ds : List (Decl S)} {ts mid r : Lexemes} → SpellsTop d ts (lex c semicolon ∷ mid) → SpellsTops ds mid r → SpellsTops (d ∷ ds) ts r
+    more_tops_rule : {c : Span} {d : Decl S} {ds : List (Decl S)} {ts mid r : Lexemes}
+        → SpellsTop d ts (lex c semicolon ∷ mid) → SpellsTops ds mid r
+        → SpellsTops (d ∷ ds) ts r
 
   -- a package clause, whole imports and whole declarations, each with its semicolon; the package name is not blank
   pub data SpellsFront : File S → Lexemes → Lexemes → Type 0 where
-    front_rule : {s c d : Span} {n : List ℕ} {is : List (ImportDecl S)} {ds : List (Decl S)} {ts mid r : Lexemes} → is_blank n ≡ false → SpellsImports is ts mid → SpellsTops ds mid r
+    front_rule : {s c d : Span} {n : List ℕ} {is : List (ImportDecl S)} {ds : List (Decl S)} {ts mid r : Lexemes}
+        → is_blank n ≡ false → SpellsImports is ts mid → SpellsTops ds mid r
         → SpellsFront (record { package_name = name_here mark c n (lex d semicolon ∷ ts); imports = is; decls = ds }) (lex s key_package ∷ lex c (word n) ∷ lex d semicolon ∷ ts) r
 
 -- all these tokens spell the file, each node with its span

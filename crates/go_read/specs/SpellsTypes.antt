@@ -40,45 +40,60 @@ module _ {S : Type 0} (mark : Lexemes → Lexemes → S) where
   mutual
     -- Type = name | name "." name | "*" Type | "[" "]" Type | "map" "[" Type "]" Type | "struct" "{" { Names Type ";" } "}" | "(" Type ")"
     pub data SpellsType : TypeExpr S → Lexemes → Lexemes → Type 0 where
-      named_rule : {s : Span} {n : List ℕ} {r : Lexemes} → SpellsType (named (mark (lex s (word n) ∷ r) r) None (name_here s n r)) (lex s (word n) ∷ r) r
+      named_rule : {s : Span} {n : List ℕ} {r : Lexemes}
+          → SpellsType (named (mark (lex s (word n) ∷ r) r) None (name_here s n r)) (lex s (word n) ∷ r) r
       qualified_rule : {s d s2 : Span} {p n : List ℕ} {r : Lexemes}
           → SpellsType (named (mark (lex s (word p) ∷ lex d dot ∷ lex s2 (word n) ∷ r) r) (Some (name_here s p (lex d dot ∷ lex s2 (word n) ∷ r))) (name_here s2 n r)) (lex s (word p) ∷ lex d dot ∷ lex s2 (word n) ∷ r) r
-      pointer_rule : {s : Span} {t : TypeExpr S} {ts r : Lexemes} → SpellsType t ts r → SpellsType (pointer (mark (lex s (sign Mul) ∷ ts) r) t) (lex s (sign Mul) ∷ ts) r
-      slice_type_rule : {s e : Span} {t : TypeExpr S} {ts r : Lexemes} → SpellsType t ts r
+      pointer_rule : {s : Span} {t : TypeExpr S} {ts r : Lexemes}
+          → SpellsType t ts r → SpellsType (pointer (mark (lex s (sign Mul) ∷ ts) r) t) (lex s (sign Mul) ∷ ts) r
+      slice_type_rule : {s e : Span} {t : TypeExpr S} {ts r : Lexemes}
+          → SpellsType t ts r
           → SpellsType (slice_type (mark (lex s bracket ∷ lex e end_bracket ∷ ts) r) t) (lex s bracket ∷ lex e end_bracket ∷ ts) r
-      map_type_rule : {s b e : Span} {k t : TypeExpr S} {ts mid r : Lexemes} → SpellsType k ts (lex e end_bracket ∷ mid) → SpellsType t mid r
+      map_type_rule : {s b e : Span} {k t : TypeExpr S} {ts mid r : Lexemes}
+          → SpellsType k ts (lex e end_bracket ∷ mid) → SpellsType t mid r
           → SpellsType (map_type (mark (lex s key_map ∷ lex b bracket ∷ ts) r) k t) (lex s key_map ∷ lex b bracket ∷ ts) r
-      struct_type_rule : {s b e : Span} {fs : Fields S} {ts r : Lexemes} → SpellsFields fs ts (lex e end_brace ∷ r)
+      struct_type_rule : {s b e : Span} {fs : Fields S} {ts r : Lexemes}
+          → SpellsFields fs ts (lex e end_brace ∷ r)
           → SpellsType (struct_type (mark (lex s key_struct ∷ lex b brace ∷ ts) r) fs) (lex s key_struct ∷ lex b brace ∷ ts) r
-      type_parens_rule : {s e : Span} {t : TypeExpr S} {ts r : Lexemes} → SpellsType t ts (lex e end_paren ∷ r) → SpellsType t (lex s paren ∷ ts) r
+      type_parens_rule : {s e : Span} {t : TypeExpr S} {ts r : Lexemes}
+          → SpellsType t ts (lex e end_paren ∷ r) → SpellsType t (lex s paren ∷ ts) r
 
     -- { Names Type ";" } before "}", where the last semicolon may be left out
     pub data SpellsFields : Fields S → Lexemes → Lexemes → Type 0 where
       no_fields_rule : {r : Lexemes} → SpellsFields no_fields r r
-      last_field_rule : {e : Span} {t : TypeExpr S} {es : List (S × NameAt S)} {ts r : Lexemes} → SpellsEntries t es ts (lex e end_brace ∷ r)
-          → SpellsFields (fields_of es t no_fields) ts (lex e end_brace ∷ r)
-      more_fields_rule : {c : Span} {t : TypeExpr S} {es : List (S × NameAt S)} {fs : Fields S} {ts mid r : Lexemes} → SpellsEntries t es ts (lex c semicolon ∷ mid) → SpellsFields fs mid r
+      last_field_rule : {e : Span} {t : TypeExpr S} {es : List (S × NameAt S)} {ts r : Lexemes}
+          → SpellsEntries t es ts (lex e end_brace ∷ r) → SpellsFields (fields_of es t no_fields) ts (lex e end_brace ∷ r)
+      more_fields_rule : {c : Span} {t : TypeExpr S} {es : List (S × NameAt S)} {fs : Fields S} {ts mid r : Lexemes}
+          → SpellsEntries t es ts (lex c semicolon ∷ mid) → SpellsFields fs mid r
           → SpellsFields (fields_of es t fs) ts r
 
     -- Names Type: an entry for each name, from it to the end of the type
     pub data SpellsEntries : TypeExpr S → List (S × NameAt S) → Lexemes → Lexemes → Type 0 where
-      last_entry_rule : {s : Span} {n : List ℕ} {t : TypeExpr S} {ts r : Lexemes} → SpellsType t ts r
-          → SpellsEntries t ((mark (lex s (word n) ∷ ts) r, name_here s n ts) ∷ []) (lex s (word n) ∷ ts) r
-      more_entries_rule : {s c : Span} {n : List ℕ} {t : TypeExpr S} {es : List (S × NameAt S)} {ts r : Lexemes} → SpellsEntries t es ts r
+      last_entry_rule : {s : Span} {n : List ℕ} {t : TypeExpr S} {ts r : Lexemes}
+          → SpellsType t ts r → SpellsEntries t ((mark (lex s (word n) ∷ ts) r, name_here s n ts) ∷ []) (lex s (word n) ∷ ts) r
+      more_entries_rule : {s c : Span} {n : List ℕ} {t : TypeExpr S} {es : List (S × NameAt S)} {ts r : Lexemes}
+          → SpellsEntries t es ts r
           → SpellsEntries t ((mark (lex s (word n) ∷ lex c comma ∷ ts) r, name_here s n (lex c comma ∷ ts)) ∷ es) (lex s (word n) ∷ lex c comma ∷ ts) r
 
   -- Names Type { "," Names Type } [ "," ] ")"
   pub data SpellsNamed : List (Param S) → Lexemes → Lexemes → Type 0 where
-    last_named_rule : {e : Span} {t : TypeExpr S} {es : List (S × NameAt S)} {ts r : Lexemes} → SpellsEntries t es ts (lex e end_paren ∷ r) → SpellsNamed (params_of es t []) ts r
-    comma_named_rule : {c e : Span} {t : TypeExpr S} {es : List (S × NameAt S)} {ts r : Lexemes} → SpellsEntries t es ts (lex c comma ∷ lex e end_paren ∷ r) → SpellsNamed (params_of es t []) ts r
-    more_named_rule : {c : Span} {t : TypeExpr S} {es : List (S × NameAt S)} {ps : List (Param S)} {ts mid r : Lexemes} → SpellsEntries t es ts (lex c comma ∷ mid) → SpellsNamed ps mid r
+    last_named_rule : {e : Span} {t : TypeExpr S} {es : List (S × NameAt S)} {ts r : Lexemes}
+        → SpellsEntries t es ts (lex e end_paren ∷ r) → SpellsNamed (params_of es t []) ts r
+    comma_named_rule : {c e : Span} {t : TypeExpr S} {es : List (S × NameAt S)} {ts r : Lexemes}
+        → SpellsEntries t es ts (lex c comma ∷ lex e end_paren ∷ r) → SpellsNamed (params_of es t []) ts r
+    more_named_rule : {c : Span} {t : TypeExpr S} {es : List (S × NameAt S)} {ps : List (Param S)} {ts mid r : Lexemes}
+        → SpellsEntries t es ts (lex c comma ∷ mid) → SpellsNamed ps mid r
         → SpellsNamed (params_of es t ps) ts r
 
   -- Type { "," Type } [ "," ] ")"
   pub data SpellsUnnamed : List (Param S) → Lexemes → Lexemes → Type 0 where
-    last_unnamed_rule : {e : Span} {t : TypeExpr S} {ts r : Lexemes} → SpellsType t ts (lex e end_paren ∷ r) → SpellsUnnamed (unnamed t ∷ []) ts r
-    comma_unnamed_rule : {c e : Span} {t : TypeExpr S} {ts r : Lexemes} → SpellsType t ts (lex c comma ∷ lex e end_paren ∷ r) → SpellsUnnamed (unnamed t ∷ []) ts r
-    more_unnamed_rule : {c : Span} {t : TypeExpr S} {ps : List (Param S)} {ts mid r : Lexemes} → SpellsType t ts (lex c comma ∷ mid) → SpellsUnnamed ps mid r → SpellsUnnamed (unnamed t ∷ ps) ts r
+    last_unnamed_rule : {e : Span} {t : TypeExpr S} {ts r : Lexemes}
+        → SpellsType t ts (lex e end_paren ∷ r) → SpellsUnnamed (unnamed t ∷ []) ts r
+    comma_unnamed_rule : {c e : Span} {t : TypeExpr S} {ts r : Lexemes}
+        → SpellsType t ts (lex c comma ∷ lex e end_paren ∷ r) → SpellsUnnamed (unnamed t ∷ []) ts r
+    more_unnamed_rule : {c : Span} {t : TypeExpr S} {ps : List (Param S)} {ts mid r : Lexemes}
+        → SpellsType t ts (lex c comma ∷ mid) → SpellsUnnamed ps mid r
+        → SpellsUnnamed (unnamed t ∷ ps) ts r
 
   -- Params = "(" [ ( Names Type { "," Names Type } | Type { "," Type } ) [ "," ] ] ")"
   pub data SpellsParams : List (Param S) → Lexemes → Lexemes → Type 0 where
@@ -94,9 +109,12 @@ module _ {S : Type 0} (mark : Lexemes → Lexemes → S) where
 
   -- Sig = Params [ Params | Type ]
   pub data SpellsSig : Sig S → Lexemes → Lexemes → Type 0 where
-    sig_rule : {ps rs : List (Param S)} {ts mid r : Lexemes} → SpellsParams ps ts mid → SpellsResults rs mid r → SpellsSig (record { params = ps; results = rs }) ts r
+    sig_rule : {ps rs : List (Param S)} {ts mid r : Lexemes}
+        → SpellsParams ps ts mid → SpellsResults rs mid r
+        → SpellsSig (record { params = ps; results = rs }) ts r
 
   -- Names = name { "," name }
   pub data SpellsNames : List (NameAt S) → Lexemes → Lexemes → Type 0 where
     last_name_rule : {s : Span} {n : List ℕ} {r : Lexemes} → SpellsNames (name_here s n r ∷ []) (lex s (word n) ∷ r) r
-    more_names_rule : {s c : Span} {n : List ℕ} {ns : List (NameAt S)} {ts r : Lexemes} → SpellsNames ns ts r → SpellsNames (name_here s n (lex c comma ∷ ts) ∷ ns) (lex s (word n) ∷ lex c comma ∷ ts) r
+    more_names_rule : {s c : Span} {n : List ℕ} {ns : List (NameAt S)} {ts r : Lexemes}
+        → SpellsNames ns ts r → SpellsNames (name_here s n (lex c comma ∷ ts) ∷ ns) (lex s (word n) ∷ lex c comma ∷ ts) r
