@@ -3,10 +3,10 @@ use Rattle.std.proofs.Common.{◌≡◌, ℕ, false, List, [], ◌∷◌, None, 
 use Rattle.std.specs.Prelude.{codes, pos}
 use Rattle.go_syntax.specs.Tree.{NameAt, Expr, ident, int_lit, call, no_exprs, expr_and, Stmt, const_decl, eval, Stmts, no_stmts, stmt_and, no_specs, spec}
 use Rattle.go_syntax.specs.File.{Decl, values, func}
-use Rattle.go_kernel.specs.Kernel.{Event, Println, Value, Number, Int, Ended, Covers, same, prim}
+use Rattle.go_kernel.specs.Kernel.{Event, Println, Value, Number, Int, Ended, Covers, same, Vals, prim}
 use Rattle.go_meaning_laws.specs.Package.{Package}
 use Rattle.go_meaning_laws.specs.Packages.{Packages, WellTyped, HasMain, with_further}
-use Rattle.go_meaning_laws.specs.Translation.{shown_by}
+use Rattle.go_meaning_laws.specs.Translation.{PackageCode, in_path_order, shown_by}
 use Rattle.go_meaning_laws.specs.SameMeaning.{SameMeaning}
 use Rattle.go_meaning_laws.specs.Inlined.{Inlined, use_of, first, later, operand, body}
 
@@ -134,3 +134,11 @@ other_digits m =
     let e : printed 1 ∷ [] ≡ printed 10 ∷ [] = ends_alike (declared_as (codes "1")) (declared_as (codes "10")) refl refl _ _ refl (λ n. refl) m in
     let k : 1 ≡ 10 = ap last_number e in
     omega (arith, k)
+
+-- ---- packages set their variables in the order of their paths
+
+abbrev at_path : List ℕ → PackageCode
+at_path p = record { path = p; initial = Vals []; functions = [] }
+
+path_order : in_path_order (at_path (codes "m/b") ∷ at_path (codes "m") ∷ at_path (codes "m/a/c") ∷ at_path (codes "m/a") ∷ []) ≡ (at_path (codes "m") ∷ at_path (codes "m/a") ∷ at_path (codes "m/a/c") ∷ at_path (codes "m/b") ∷ [])
+path_order = refl

@@ -12,3 +12,4 @@ pub mod NewlineLemmas
 pub mod ScanLemmas
 pub mod UnsupportedLemmas
 pub mod Refusals
+pub mod Examples

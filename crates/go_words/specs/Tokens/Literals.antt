@@ -74,7 +74,7 @@ imaginary_lit = in_turn (any_of (digits_of decimal_digit ∷ int_lit ∷ float_l
 abbrev pub character_but : List ℕ → Form
 character_but cs = other_than (0 ∷ byte_order_mark ∷ cs)
 
--- four hexadecimal digits that name no surrogate, which are D800 to DFFF
+-- four hexadecimal digits that name no surrogate, the code points 0xD800 to 0xDFFF
 abbrev pub four_digits : Form
 four_digits = any_of (
     in_turn (one_of (codes "0123456789ABCEFabcef") ∷ hex_digit ∷ hex_digit ∷ hex_digit ∷ [])

@@ -1,0 +1,6 @@
+pub mod ApplyLemmas
+pub mod FrontLemmas
+pub mod PlanLemmas
+pub mod ReadLemmas
+pub mod TopLemmas
+pub mod RunLemmas

@@ -1,0 +1,13 @@
+use Rattle.std.proofs.Common.{◌≡◌, ◌≤◌, take}
+use Rattle.std.specs.Option.{option_map}
+use Rattle.fix_io.specs.Writes.{written}
+use Rattle.gofix_cli.specs.Files.{writes_of}
+use Rattle.gofix_cli.proofs.apply.apply.Given as goal
+
+-- The files so far are replaced, the paths stay, and the count of faults has not fallen.
+abbrev pub invariant-loop-file : goal.invariant-loop-file
+invariant-loop-file g l = record {
+  held : g.T.Tree.held l.tree ≡ option_map (written (take l.file-index (writes_of l.files))) (g.T.Tree.held l.initial.tree);
+  paths : g.T.Tree.listed l.tree ≡ g.T.Tree.listed l.initial.tree;
+  later : g.T.Tree.faults l.initial.tree ≤ g.T.Tree.faults l.tree;
+}

@@ -1,0 +1,12 @@
+-- The words that are accepted, and the paths of a module of the form that is built.
+use Rattle.std.specs.Prelude.{ℕ, Bool, false, ◌&&◌, List, [], ◌∷◌, codes, bytes_eq}
+
+-- the one word `--fix`
+abbrev pub are_accepted : List (List ℕ) → Bool
+are_accepted (w ∷ []) = bytes_eq w (codes "--fix")
+are_accepted words = false
+
+-- exactly `go.mod` and `main.go`
+abbrev pub lists_module : List (List ℕ) → Bool
+lists_module (m ∷ f ∷ []) = bytes_eq m (codes "go.mod") && bytes_eq f (codes "main.go")
+lists_module paths = false

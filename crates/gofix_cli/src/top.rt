@@ -1,0 +1,69 @@
+// The top call.
+ghost use Rattle.std.specs.Prelude.{◌≡◌, ◌≢◌, ◌↔◌, ◌⊎◌, ℕ, List, [], map, IfSome, Some, string_bytes, false};
+ghost use Rattle.fix_io.specs.Files.{HeldFile};
+ghost use Rattle.fix_io.specs.Causes.{Rose};
+ghost use Rattle.fix_io.specs.Contents.{appended, IsPartOut};
+ghost use Rattle.gofix_cli.specs.Words.{are_accepted};
+ghost use Rattle.gofix_cli.specs.Lines.{line_of, IfTold};
+ghost use Rattle.gofix_cli.specs.Causes.{HasCause, PassedChecks, IfUnwritten};
+ghost use Rattle.gofix_cli.specs.Verdict.{verdict, IsUpTo};
+ghost use Rattle.gofix_cli.specs.Run.{IsRun};
+
+use crate::apply::apply;
+use crate::prepare::prepare;
+use crate::status::Status;
+use crate::tell::tell_status;
+use crate::words::are_accepted;
+use fix_io::{Sink, Tree, write_all};
+use std::alloc::Global;
+
+/// Reads the module that the tree holds, replaces the uses of its marked constants, writes the files
+/// that change and then the report. `words` are those after the program's name.
+pub fn gofix<T: Tree, S: Sink>(alloc: Global, words: &[String], tree: &mut T, out: &mut S) -> Status
+    // The words decide alone whether they are accepted.
+    ensures usage { (result ≡ Status.Usage) ↔ (are_accepted (map string_bytes words.now) ≡ false) }
+
+    // What a status says of the files that were held.
+    ensures unwritten { IfUnwritten result (T.held tree.new ≡ T.held tree.old) }
+    ensures done { result ≡ Status.Done → IfSome (T.held tree.old) (λ files. let v = verdict (map string_bytes words.now) files in (v.status ≡ Status.Done) × (T.held tree.new ≡ Some v.files)) }
+    ensures run { result ≡ Status.Done → IfSome (T.held tree.old) (λ files. IsRun files (verdict (map string_bytes words.now) files).files) }
+    ensures refused { (r : _) → result ≡ Status.Refused r → IfSome (T.held tree.old) (λ files. (verdict (map string_bytes words.now) files).status ≡ Status.Refused r) }
+    ensures write_fault { (i : ℕ) → result ≡ Status.WriteFault i → IfSome (T.held tree.old) (λ files. IsUpTo i files (verdict (map string_bytes words.now) files) (T.held tree.new)) }
+    ensures report_fault { result ≡ Status.ReportFault → IfSome (T.held tree.old) (λ files. let v = verdict (map string_bytes words.now) files in (v.status ≡ Status.Done) × (T.held tree.new ≡ Some v.files) × IsPartOut (S.contents out.old) (S.contents out.new) v.bytes) }
+
+    // What is written.
+    ensures report { result ≡ Status.Done → IfSome (T.held tree.old) (λ files. S.contents out.new ≡ appended (S.contents out.old) (verdict (map string_bytes words.now) files).bytes) }
+    ensures line { IfTold result (IsPartOut (S.contents out.old) (S.contents out.new) (line_of result (T.listed tree.new))) }
+    ensures whole_line { IfTold result (¬ Rose (S.faults out.old) (S.faults out.new) → S.contents out.new ≡ appended (S.contents out.old) (line_of result (T.listed tree.new))) }
+
+    // Each fault has its cause, and each answer comes only where the checks before it passed.
+    ensures cause { HasCause result (Rose (T.faults tree.old) (T.faults tree.new)) (T.failed tree.new) }
+    ensures report_cause { result ≡ Status.ReportFault → Rose (S.faults out.old) (S.faults out.new) }
+    ensures passed { PassedChecks result (T.listed tree.new) }
+
+    // Without a fault and with memory, the verdict is answered.
+    ensures complete { ¬ Rose (T.faults tree.old) (T.faults tree.new) → ¬ Rose (S.faults out.old) (S.faults out.new) → IfSome (T.held tree.old) (λ files. (result ≡ (verdict (map string_bytes words.now) files).status) ⊎ (result ≡ Status.NoMemory)) }
+{
+    if !are_accepted(words) {
+        tell_status(Status::Usage, tree, out);
+        return Status::Usage;
+    }
+    let plan = match prepare(alloc, tree) {
+        Ok(plan) => plan,
+        Err(status) => {
+            tell_status(status, tree, out);
+            return status;
+        }
+    };
+    match apply(plan.writes(), tree) {
+        Ok(()) => {}
+        Err(i) => {
+            tell_status(Status::WriteFault(i), tree, out);
+            return Status::WriteFault(i);
+        }
+    }
+    match write_all(out, plan.report()) {
+        Ok(()) => Status::Done,
+        Err(_) => Status::ReportFault,
+    }
+}
