@@ -85,7 +85,7 @@ constants_in-trees text [] from ps rest at pre is long = refl
 constants_in-trees text (c ∷ cs) from ps rest at pre is long =
     let start : At text at (outline.constant_then c (outline.constants_then cs rest)) = record { front = pre ++ codes "\n\n"; is = is; long = long } in
     let value : At text (outline.value_end at c) (codes "\n\n" ++ outline.constants_then cs rest) =
-      pass text (outline.spelling c.value) _ _ (pass text (codes " = ") _ _ (pass text c.name _ _ (pass text (codes "const ") _ _ (pass text (outline.mark_text c.marked) _ _ start)))) in
+    pass text (outline.spelling c.value) _ _ (pass text (codes " = ") _ _ (pass text c.name _ _ (pass text (codes "const ") _ _ (pass text (outline.mark_text c.marked) _ _ start)))) in
     let next : At text (outline.after_constant at c) (outline.constants_then cs rest) = pass text (codes "\n\n") _ _ value in
     (λ i. option_to_list (constant_in-tree text at c (is_marked_at-mark text pre _ c.marked at is long) i) ++ constants_in-trees text cs from ps rest (outline.after_constant at c) value.front next.is next.long i)
 

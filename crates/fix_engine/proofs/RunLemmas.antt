@@ -16,7 +16,6 @@ head_or d (x ∷ xs) = x
 -- ---- what a list is around an index
 
 get_same : {A : Type 0} (xs : List A) (k : ℕ) (d e : A) → k < length xs → get_or xs k d ≡ get_or xs k e
-
 get_same xs k d e lt = ap (head_or d) (sym (drop-cons xs k d lt) ∙ drop-cons xs k e lt)
 
 set_around : {A : Type 0} (xs : List A) (k : ℕ) (y : A) → k < length xs → set xs k y ≡ take k xs ++ y ∷ drop (suc k) xs

@@ -133,8 +133,8 @@ module _ (text : List ℕ) (marks : List (List ℕ)) (most : ℕ) where
   print_parts all (a ∷ as') at from pending h e =
       let x : Operand = located (at + 9) a in
       part text most x (names_replaced marks most all x) (few_names marks most all x) (outline.spelling (plain (settled marks most all x))) (codes "\tprintln(") (outline.spelling a) (codes ")\n") (outline.prints_then as' (codes "}\n")) (outline.prints_then (map plain (settled_prints marks most all (located_prints (outline.after_print at a) as'))) (codes "}\n")) (length as') (print_edits marks most all (located_prints (outline.after_print at a) as')) (print_steps marks most all (located_prints (outline.after_print at a) as'))
-        (last_if_replaced marks most all x) (stands_plain marks most all x (last_if_replaced marks most all x) (outline.spelling a) (stands_settled marks most all x)) from pending h (omega (arith, e)) refl
-        (λ from' pending' h' e'. print_parts all as' (outline.after_print at a) from' pending' h' e')
+      (last_if_replaced marks most all x) (stands_plain marks most all x (last_if_replaced marks most all x) (outline.spelling a) (stands_settled marks most all x)) from pending h (omega (arith, e)) refl
+      (λ from' pending' h' e'. print_parts all as' (outline.after_print at a) from' pending' h' e')
 
   -- ---- constants
 
@@ -181,13 +181,13 @@ module _ (text : List ℕ) (marks : List (List ℕ)) (most : ℕ) where
         let word : List ℕ = outline.spelling (plain (settled marks most all x)) in
         let size : length (lead_of c) ≡ length (outline.mark_text c.marked) + (6 + (length c.name + 3)) = length-lead c in
         gives_as text most from (suc (counted cs count)) _ _ _ _ _ _
-          (sym (append_assoc (edits_of marks most all x) (constant_edits marks most done' others) es))
-          (sym (append_assoc (steps_of marks most all x) (constant_steps marks most done' others) ss))
-          (ap (λ zs. pending ++ zs) (sym (lead_then c (word ++ (codes "\n\n" ++ out)))))
-          (part text most x (names_replaced marks most all x) (few_names marks most all x) word (lead_of c) (outline.spelling c.value) (codes "\n\n") old out (counted cs count) es' ss'
-            (last_if_replaced marks most all x) (stands_plain marks most all x (last_if_replaced marks most all x) (outline.spelling c.value) (stands_settled marks most all x)) from pending
-            (regrouped text _ _ from (ap (λ zs. pending ++ zs) (lead_then c (outline.spelling c.value ++ (codes "\n\n" ++ old)))) h) (omega (arith, size, e)) refl
-            (λ from' pending' h' e'. constant_parts cs done' (outline.after_constant at c) from' pending' next h' e'))
+        (sym (append_assoc (edits_of marks most all x) (constant_edits marks most done' others) es))
+        (sym (append_assoc (steps_of marks most all x) (constant_steps marks most done' others) ss))
+        (ap (λ zs. pending ++ zs) (sym (lead_then c (word ++ (codes "\n\n" ++ out)))))
+        (part text most x (names_replaced marks most all x) (few_names marks most all x) word (lead_of c) (outline.spelling c.value) (codes "\n\n") old out (counted cs count) es' ss'
+        (last_if_replaced marks most all x) (stands_plain marks most all x (last_if_replaced marks most all x) (outline.spelling c.value) (stands_settled marks most all x)) from pending
+        (regrouped text _ _ from (ap (λ zs. pending ++ zs) (lead_then c (outline.spelling c.value ++ (codes "\n\n" ++ old)))) h) (omega (arith, size, e)) refl
+        (λ from' pending' h' e'. constant_parts cs done' (outline.after_constant at c) from' pending' next h' e'))
 
 -- ---- the file
 
@@ -202,12 +202,12 @@ module _ (m : Module) (only : List ℕ) (is : outline.IsOutlineOf m.outline m.te
   prints_next from pending h e =
       let size : length (pending ++ codes "func main() {\n") ≡ length pending + 14 = length-append pending (codes "func main() {\n") in
       gives_as m.text (most m only) from _ _ _ _ _ _ _ refl refl (append_assoc pending (codes "func main() {\n") _)
-        (print_parts m.text (marks m only) (most m only) (last_constants m only) m.outline.prints (outline.after_constants 14 m.outline.constants + 14) from (pending ++ codes "func main() {\n") (regrouped m.text _ _ from (sym (append_assoc pending (codes "func main() {\n") _)) h) (omega (arith, size, e)))
+      (print_parts m.text (marks m only) (most m only) (last_constants m only) m.outline.prints (outline.after_constants 14 m.outline.constants + 14) from (pending ++ codes "func main() {\n") (regrouped m.text _ _ from (sym (append_assoc pending (codes "func main() {\n") _)) h) (omega (arith, size, e)))
 
   whole : Gives m.text (most m only) 0 (counted m.text (marks m only) (most m only) m.outline.constants (length m.outline.prints)) (edits_in m only) (log m only) (outline.text_of (last_outline m only))
   whole =
       gives_as m.text (most m only) 0 _ _ _ _ _ _ _ refl refl (ap (λ cs. codes "package main\n\n" ++ outline.constants_then (map plain_constant cs) new_prints) (sym (settled_constants-rest m.text (marks m only) (most m only) [] (constants_of m.outline))))
-        (constant_parts m.text (marks m only) (most m only) old_prints new_prints (length m.outline.prints) _ _ m.outline.constants [] 14 0 (codes "package main\n\n") prints_next (record { front = []; is = is.spelled; long = refl }) refl)
+      (constant_parts m.text (marks m only) (most m only) old_prints new_prints (length m.outline.prints) _ _ m.outline.constants [] 14 0 (codes "package main\n\n") prints_next (record { front = []; is = is.spelled; long = refl }) refl)
 
 -- ---- its size
 

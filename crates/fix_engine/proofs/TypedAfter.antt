@@ -34,7 +34,6 @@ second false false e = e
 -- ---- operands that lead to a number
 
 module _ (cs : List Constant) where
-
   ends_same : (n : ℕ) (x y : Operand) → x.named ≡ y.named → x.word ≡ y.word → ends_within cs n x ≡ ends_within cs n y
   ends_same zero x y e f = ap (λ b. if b then false else true) e
   ends_same (suc n) x y e f = λ i. if e i then (elim (value_named cs (f i)) as (λ _. Bool) [ None ↦ false | Some z ↦ ends_within cs n z ]) else true
@@ -93,7 +92,6 @@ module _ (cs : List Constant) where
   alike_at (x ∷ xs) (d ∷ ds) rest c v a l = (a.0, a.1, alike_at xs ds rest c v a.2 l)
 
   -- ---- a settled operand
-
 
   module _ (ys : List Constant) (alike : Alike cs ys) (marks : List (List ℕ)) where
     step_leads : (w v : List ℕ) → stands_for marks ys w ≡ Some v → (n : ℕ) → ends_within cs n (record { start = 0; end = 0; named = true; word = w }) ≡ true → ends_within cs n (record { start = 0; end = 0; named = true; word = v }) ≡ true

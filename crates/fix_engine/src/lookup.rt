@@ -25,11 +25,7 @@ fn is_among(marks: &[Text], word: &[u8]) -> bool
 }
 
 /// The name that the marked constant with this name is declared as.
-pub fn stands_for<'a>(
-    marks: &[Text],
-    constants: &'a [Constant],
-    word: &[u8],
-) -> Option<&'a [u8]>
+pub fn stands_for<'a>(marks: &[Text], constants: &'a [Constant], word: &[u8]) -> Option<&'a [u8]>
     ensures { option_copied result ≡ stands_for marks.now constants.now word.now }
 {
     if !is_among(marks, word) {

@@ -18,7 +18,11 @@ pub fn marks_of(
 {
     let mut marks = Vec::new(alloc);
     for c in constants {
-        if c.marked && full_name(alloc, path, c.name.items())?.items().starts_with(only) {
+        if c.marked
+            && full_name(alloc, path, c.name.items())?
+                .items()
+                .starts_with(only)
+        {
             marks.push(copy(alloc, c.name.items())?)?;
         }
     }

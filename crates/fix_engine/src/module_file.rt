@@ -6,6 +6,7 @@ ghost use Rattle.fix_engine.specs.ModuleFile.{is_path, is_path_byte, module_path
 use go_parse::MAX_OUTLINE_BYTES;
 
 const BEFORE_PATH: &[u8] = b"module ";
+
 const AFTER_PATH: &[u8] = b"\n\ngo 1.22\n";
 
 fn is_path_byte(b: u8) -> bool

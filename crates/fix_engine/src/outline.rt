@@ -106,11 +106,7 @@ fn constant_in(alloc: Global, text: &[u8], d: &ConstDecl) -> Result<Option<Const
 }
 
 /// The constants that a file declares.
-pub fn constants_in(
-    alloc: Global,
-    text: &[u8],
-    tree: &FileTree,
-) -> Result<Vec<Constant>, NoMemory>
+pub fn constants_in(alloc: Global, text: &[u8], tree: &FileTree) -> Result<Vec<Constant>, NoMemory>
     ensures { IfOk result (λ cs. cs.items ≡ constants_in text.now (file_of tree.now).decls) }
 {
     let mut found = Vec::new(alloc);

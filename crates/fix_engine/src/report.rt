@@ -25,12 +25,7 @@ pub fn full_name(alloc: Global, path: &[u8], name: &[u8]) -> Result<Text, NoMemo
 }
 
 /// Adds the place of an offset in the text of a file.
-fn push_place(
-    out: &mut Vec<u8>,
-    file: &[u8],
-    text: &[u8],
-    offset: u32,
-) -> Result<(), NoMemory>
+fn push_place(out: &mut Vec<u8>, file: &[u8], text: &[u8], offset: u32) -> Result<(), NoMemory>
     requires small { length text.now ≤ MAX_FILE_BYTES }
     requires within { offset ≤ length text.now }
     ensures { OnOk result (out.new.items ≡ out.old.items ++ place_text file.now text.now offset) }

@@ -4,3 +4,4 @@ pub mod PlanLemmas
 pub mod ReadLemmas
 pub mod TopLemmas
 pub mod RunLemmas
+mod HeadlineLemmas

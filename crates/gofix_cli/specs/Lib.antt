@@ -5,3 +5,4 @@ pub mod Files
 pub mod Causes
 pub mod Verdict
 pub mod Run
+pub mod Headline

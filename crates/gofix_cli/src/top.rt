@@ -7,7 +7,7 @@ ghost use Rattle.gofix_cli.specs.Words.{are_accepted};
 ghost use Rattle.gofix_cli.specs.Lines.{line_of, IfTold};
 ghost use Rattle.gofix_cli.specs.Causes.{HasCause, PassedChecks, IfUnwritten};
 ghost use Rattle.gofix_cli.specs.Verdict.{verdict, IsUpTo};
-ghost use Rattle.gofix_cli.specs.Run.{IsRun};
+ghost use Rattle.gofix_cli.specs.Headline.{IsInlined};
 
 use crate::apply::apply;
 use crate::prepare::prepare;
@@ -26,7 +26,7 @@ pub fn gofix<T: Tree, S: Sink>(alloc: Global, words: &[String], tree: &mut T, ou
     // What a status says of the files that were held.
     ensures unwritten { IfUnwritten result (T.held tree.new ≡ T.held tree.old) }
     ensures done { result ≡ Status.Done → IfSome (T.held tree.old) (λ files. let v = verdict (map string_bytes words.now) files in (v.status ≡ Status.Done) × (T.held tree.new ≡ Some v.files)) }
-    ensures run { result ≡ Status.Done → IfSome (T.held tree.old) (λ files. IsRun files (verdict (map string_bytes words.now) files).files) }
+    ensures headline { result ≡ Status.Done → IfSome (T.held tree.old) (λ files. IsInlined files (verdict (map string_bytes words.now) files).files) }
     ensures refused { (r : _) → result ≡ Status.Refused r → IfSome (T.held tree.old) (λ files. (verdict (map string_bytes words.now) files).status ≡ Status.Refused r) }
     ensures write_fault { (i : ℕ) → result ≡ Status.WriteFault i → IfSome (T.held tree.old) (λ files. IsUpTo i files (verdict (map string_bytes words.now) files) (T.held tree.new)) }
     ensures report_fault { result ≡ Status.ReportFault → IfSome (T.held tree.old) (λ files. let v = verdict (map string_bytes words.now) files in (v.status ≡ Status.Done) × (T.held tree.new ≡ Some v.files) × IsPartOut (S.contents out.old) (S.contents out.new) v.bytes) }

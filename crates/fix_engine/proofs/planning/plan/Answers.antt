@@ -7,7 +7,7 @@ use Rattle.fix_engine.proofs.planning.plan.Goals as goal
 pub returns-in_default-clause-refused : goal.returns-in_default-clause-refused
 returns-in_default-clause-refused c =
     refused_as c.args.files.items c.args.only.now c.of_module.result c.of_module.ensures
-      (not_two c.args.files.items c.args.only.now (λ e. c.in_default.ensures (ap length c.deref.ensures.value ∙ e)))
+    (not_two c.args.files.items c.args.only.now (λ e. c.in_default.ensures (ap length c.deref.ensures.value ∙ e)))
 
 pub returns-clause-planned : goal.returns-clause-planned
 returns-clause-planned c =
