@@ -174,11 +174,11 @@ module _ (cs : List Constant) where
         go true (Some z) None r ih e = absurd r
         go true (Some z) (Some y) r ih e = ih y (r n e)
 
-    values_after : (bound : ℕ) (xs zs : List Constant) → Alike xs zs → values_end cs most xs ≡ true → values_end ys most zs ≡ true
-    values_after most [] [] a h = refl
-    values_after most [] (z ∷ zs) a h = absurd a
-    values_after most (x ∷ xs) [] a h = absurd a
-    values_after most (x ∷ xs) (z ∷ zs) a h = both _ _ (ends_after most z.value (a.1 most (first _ _ h))) (values_after most xs zs a.2 (second _ _ h))
+    values_after : (bound : ℕ) (xs zs : List Constant) → Alike xs zs → values_end cs bound xs ≡ true → values_end ys bound zs ≡ true
+    values_after bound [] [] a h = refl
+    values_after bound [] (z ∷ zs) a h = absurd a
+    values_after bound (x ∷ xs) [] a h = absurd a
+    values_after bound (x ∷ xs) (z ∷ zs) a h = both _ _ (ends_after bound z.value (a.1 bound (first _ _ h))) (values_after bound xs zs a.2 (second _ _ h))
 
     distinct_after : (xs zs : List Constant) → Alike xs zs → are_distinct xs ≡ true → are_distinct zs ≡ true
     distinct_after [] [] a h = refl
