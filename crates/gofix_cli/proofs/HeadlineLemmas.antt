@@ -6,10 +6,12 @@ use Rattle.fix_engine.specs.Plan.{last_outline, renewed, made, planned, outcome_
 use Rattle.run_meaning.specs.Meaning.{MeansTheSame, LeavesNoUse}
 use Rattle.run_meaning.proofs.SameMeaning.{planned_same, planned_settled}
 use Rattle.fix_io.specs.Files.{HeldFile}
+use Rattle.gofix_cli.specs.declared.status.Status.TheVariants.{Done}
 use Rattle.gofix_cli.specs.Files.{contents_of}
 use Rattle.gofix_cli.specs.Run.{IsRun}
 use Rattle.gofix_cli.specs.Headline.{IsInlined}
 use Rattle.gofix_cli.specs.Verdict.{verdict}
+use Rattle.gofix_cli.proofs.RunLemmas.{verdict_run}
 
 -- what is planned for the files of a run
 plan_of_run : (files after : List HeldFile) (r : IsRun files after) → plan_of (contents_of files) [] ≡ planned (renewed (contents_of files) (text_of (last_outline r.program []))) (made r.program []).report (made r.program []).inlined
@@ -23,6 +25,6 @@ run_inlined files after r = record {
   run = r;
 }
 
-pub told_inlined : (words : List (List ℕ)) (before : Option (List HeldFile)) → IfSome before (λ files. IsRun files (verdict words files).files) → IfSome before (λ files. IsInlined files (verdict words files).files)
-told_inlined words None run = tt
-told_inlined words (Some files) run = run_inlined files (verdict words files).files run
+pub told_inlined : (words : List (List ℕ)) (before now : Option (List HeldFile)) → IfSome before (λ files. ((verdict words files).status ≡ Done) × (now ≡ Some (verdict words files).files)) → IfSome before (λ files. (after : List HeldFile) × (now ≡ Some after) × IsInlined files after)
+told_inlined words None now done = tt
+told_inlined words (Some files) now done = ((verdict words files).files, done.1, run_inlined files (verdict words files).files (verdict_run words files done.0))

@@ -1,6 +1,6 @@
 -- A verdict of Done is that of a run.
 use Rattle.std.proofs.Common.{◌≡◌, List, [], ◌∷◌, ℕ, Bool, true, false, cond, map, refl, ap, ◌∙◌}
-use Rattle.std.specs.Prelude.{Option, Some, None, IfSome}
+use Rattle.std.specs.Prelude.{Option, Some, None}
 use Rattle.go_meaning_laws.specs.Typing.{well_typed}
 use Rattle.go_parse.specs.Outline.{text_of}
 use Rattle.fix_engine.specs.Plan.{Module, module_of, package_of, last_outline, renewed, made, outcome_of, plan_of, plan_of_module}
@@ -46,7 +46,3 @@ run_for files false e = cc
 
 pub verdict_run : (words : List (List ℕ)) (files : List HeldFile) → (verdict words files).status ≡ Done → IsRun files (verdict words files).files
 verdict_run words files e = run_for files (are_accepted words) e
-
-pub told_run : (words : List (List ℕ)) (before now : Option (List HeldFile)) → IfSome before (λ files. ((verdict words files).status ≡ Done) × (now ≡ Some (verdict words files).files)) → IfSome before (λ files. IsRun files (verdict words files).files)
-told_run words None now done = tt
-told_run words (Some files) now done = verdict_run words files done.0

@@ -26,7 +26,7 @@ pub fn gofix<T: Tree, S: Sink>(alloc: Global, words: &[String], tree: &mut T, ou
     // What a status says of the files that were held.
     ensures unwritten { IfUnwritten result (T.held tree.new ≡ T.held tree.old) }
     ensures done { result ≡ Status.Done → IfSome (T.held tree.old) (λ files. let v = verdict (map string_bytes words.now) files in (v.status ≡ Status.Done) × (T.held tree.new ≡ Some v.files)) }
-    ensures headline { result ≡ Status.Done → IfSome (T.held tree.old) (λ files. IsInlined files (verdict (map string_bytes words.now) files).files) }
+    ensures headline { result ≡ Status.Done → IfSome (T.held tree.old) (λ files. (after : List HeldFile) × (T.held tree.new ≡ Some after) × IsInlined files after) }
     ensures refused { (r : _) → result ≡ Status.Refused r → IfSome (T.held tree.old) (λ files. (verdict (map string_bytes words.now) files).status ≡ Status.Refused r) }
     ensures write_fault { (i : ℕ) → result ≡ Status.WriteFault i → IfSome (T.held tree.old) (λ files. IsUpTo i files (verdict (map string_bytes words.now) files) (T.held tree.new)) }
     ensures report_fault { result ≡ Status.ReportFault → IfSome (T.held tree.old) (λ files. let v = verdict (map string_bytes words.now) files in (v.status ≡ Status.Done) × (T.held tree.new ≡ Some v.files) × IsPartOut (S.contents out.old) (S.contents out.new) v.bytes) }
