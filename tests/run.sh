@@ -53,6 +53,13 @@ cp "$top/examples/constants/go.mod" .
 expect "a wrong word" 2 "gofix: usage: gofix [--fix] [--only PREFIX] [--load N]" --fox
 same "a wrong word changes nothing" main.go "$top/examples/constants/main.go"
 
+# a name that isn't UTF-8 can't be listed
+mkdir "$work/four" && cd "$work/four" || exit 1
+cp "$top/examples/constants/go.mod" "$top/examples/constants/main.go" .
+: >"$(printf 'a\377.go')"
+expect "a name that isn't UTF-8" 1 "gofix: can't list files" --fix
+same "a folder that can't be listed stays" main.go "$top/examples/constants/main.go"
+
 # the shipped example, by its script
 if bash "$top/examples/run.sh" constants | grep -qF '+	println(Pointer)'; then pass; else fail "examples/run.sh"; fi
 
