@@ -55,7 +55,7 @@ pub(crate) fn insert_due(alloc: Global, lists: &mut Lists) -> Result<(), NoMemor
     let Some(at) = lists.due else {
         return Ok(());
     };
-    let spelling = Text::of(Vec::from_slice(alloc, b";")?);
+    let spelling = Text::copied(alloc, b";")?;
     let span = Span { start: at, end: at };
     lists.tokens.push(Token {
         span,
@@ -82,7 +82,7 @@ fn add_token(
         start: at,
         end: at + bytes.len() as u32,
     };
-    let spelling = Text::of(Vec::from_slice(alloc, bytes)?);
+    let spelling = Text::copied(alloc, bytes)?;
     lists.tokens.push(Token {
         span,
         kind,

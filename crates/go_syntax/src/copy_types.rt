@@ -12,13 +12,13 @@ use std::alloc::Global;
 pub(crate) fn copy_name(alloc: Global, name: &Name) -> Result<Name, NoMemory>
     ensures { IfOk result (λ n. n ≡ name.now) }
 {
-    Ok(Name::of(name.items().to_vec(alloc)?))
+    Name::copied(alloc, name.items())
 }
 
 pub(crate) fn copy_text(alloc: Global, text: &Text) -> Result<Text, NoMemory>
     ensures { IfOk result (λ t. t ≡ text.now) }
 {
-    Ok(Text::of(text.items().to_vec(alloc)?))
+    Text::copied(alloc, text.items())
 }
 
 pub(crate) fn copy_name_at(alloc: Global, name: &NameAt) -> Result<NameAt, NoMemory>

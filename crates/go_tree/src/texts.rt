@@ -1,13 +1,19 @@
 // Names and texts as lists of bytes.
-ghost use Rattle.std.specs.Prelude.{◌≡◌};
+ghost use Rattle.std.specs.Prelude.{◌≡◌, ◌≤◌, length, IfOk, IsOk};
 
+use crate::limits::NoMemory;
 use crate::spans::Span;
+use smallvec::SmallVec;
+use std::alloc::Global;
 use std::marker::Model;
 
-/// An identifier or other name: its bytes.
+/// The greatest number of bytes of a name or text that stand in the value itself.
+pub const INLINE_BYTES: usize = 16;
+
+/// An identifier or other name: its bytes. Up to `INLINE_BYTES` of them stand in the value itself.
 #[derive(Drop)]
 pub struct Name {
-    bytes: Vec<u8>,
+    bytes: SmallVec<u8, INLINE_BYTES>,
 }
 
 impl Model for Name {
@@ -23,21 +29,34 @@ impl Name {
     pub fn of(v: Vec<u8>) -> Self
         ensures { result ≡ v.items }
     {
-        Name { bytes: v }
+        Name {
+            bytes: SmallVec::from_vec(v),
+        }
+    }
+
+    /// The name of a copy of these bytes. Takes no memory for up to `INLINE_BYTES` of them.
+    pub fn copied(alloc: Global, bytes: &[u8]) -> Result<Self, NoMemory>
+        ensures copied { IfOk result (λ name. name ≡ bytes.now) }
+        ensures inline { length bytes.now ≤ 16 → IsOk result }
+    {
+        Ok(Name {
+            bytes: SmallVec::from_slice(alloc, bytes)?,
+        })
     }
 
     /// Its bytes.
     pub fn items(&self) -> &[u8]
         ensures { result.now ≡ self.now }
     {
-        &self.bytes
+        self.bytes.as_slice()
     }
 }
 
-/// A list of bytes: a spelling, a path, the text of a file.
+/// A list of bytes: a spelling, a path, the text of a file. Up to `INLINE_BYTES` bytes stand in the
+/// value itself, and more in an allocation, so that most spellings take no memory of their own.
 #[derive(Drop)]
 pub struct Text {
-    bytes: Vec<u8>,
+    bytes: SmallVec<u8, INLINE_BYTES>,
 }
 
 impl Model for Text {
@@ -53,14 +72,26 @@ impl Text {
     pub fn of(v: Vec<u8>) -> Self
         ensures { result ≡ v.items }
     {
-        Text { bytes: v }
+        Text {
+            bytes: SmallVec::from_vec(v),
+        }
+    }
+
+    /// The text of a copy of these bytes. Takes no memory for up to `INLINE_BYTES` of them.
+    pub fn copied(alloc: Global, bytes: &[u8]) -> Result<Self, NoMemory>
+        ensures copied { IfOk result (λ text. text ≡ bytes.now) }
+        ensures inline { length bytes.now ≤ 16 → IsOk result }
+    {
+        Ok(Text {
+            bytes: SmallVec::from_slice(alloc, bytes)?,
+        })
     }
 
     /// Its bytes.
     pub fn items(&self) -> &[u8]
         ensures { result.now ≡ self.now }
     {
-        &self.bytes
+        self.bytes.as_slice()
     }
 }
 
