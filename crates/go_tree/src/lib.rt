@@ -23,6 +23,6 @@ pub use stmts::{
     Arm, ArmList, Block, Case, CaseList, ConstDecl, ConstSpec, ConstSpecList, RangeLeft, Stmt,
     StmtList, VarDecl, VarSpec, VarSpecList,
 };
-pub use texts::{INLINE_BYTES, Name, NameAt, NameAtList, Text};
-pub use tokens::{Comment, Token, TokenKind};
+pub use texts::{Name, NameAt, NameAtList, Text};
+pub use tokens::{Comment, INLINE_BYTES, Spelling, Token, TokenKind};
 pub use types::{FieldSpec, FieldSpecList, Param, ParamList, Sig, TypeExpr};
