@@ -1,12 +1,17 @@
 // Copies of statements.
 ghost use Rattle.std.specs.Prelude.{◌≡◌, IfOk};
-ghost use Rattle.go_tree.specs.View.{block_of, held_block_option_of, stmt_of, stmts_of, boxed_stmt_option_of, range_left_of, arm_of, arms_of, case_of, cases_of, const_spec_of, const_specs_of, const_decl_of, var_spec_of, var_specs_of, var_decl_of};
+ghost use Rattle.go_tree.specs.View.{block_of, held_block_option_of, stmt_of, stmts_of, boxed_stmt_option_of, range_left_of, arm_of, arms_of, case_of, cases_of, const_spec_of, const_specs_of, var_spec_of, var_specs_of};
 
+use crate::build_stmts::{
+    build_assign, build_break, build_const, build_continue, build_defer, build_define, build_empty,
+    build_eval, build_for, build_if, build_inner, build_label, build_range, build_return,
+    build_step, build_switch, build_var,
+};
 use crate::copy_exprs::{copy_expr, copy_expr_option, copy_exprs};
-use crate::copy_types::{copy_name_at, copy_name_at_option, copy_names, copy_type_option};
+use crate::copy_types::{copy_names, copy_type_option};
 use go_tree::{
-    Arm, ArmList, Block, Case, CaseList, ConstDecl, ConstSpec, ConstSpecList, NoMemory, RangeLeft,
-    Stmt, StmtList, VarDecl, VarSpec, VarSpecList,
+    Arm, ArmList, Block, Case, CaseList, ConstSpec, ConstSpecList, NoMemory, RangeLeft, Stmt,
+    StmtList, VarSpec, VarSpecList,
 };
 use std::alloc::Global;
 
@@ -16,96 +21,73 @@ pub fn copy_stmt(alloc: Global, s: &Stmt) -> Result<Stmt, NoMemory>
     ensures { IfOk result (λ c. stmt_of c ≡ stmt_of s.now) }
 {
     match s {
-        Stmt::Const(decl) => Ok(Stmt::Const(copy_const_decl(alloc, decl)?)),
-        Stmt::Var(decl) => Ok(Stmt::Var(copy_var_decl(alloc, decl)?)),
-        Stmt::Empty { span } => Ok(Stmt::Empty { span: *span }),
-        Stmt::Eval { span, e } => Ok(Stmt::Eval {
-            span: *span,
-            e: copy_expr(alloc, e)?,
-        }),
-        Stmt::Step { span, e, up } => Ok(Stmt::Step {
-            span: *span,
-            e: copy_expr(alloc, e)?,
-            up: *up,
-        }),
+        Stmt::Const(decl) => {
+            let specs = copy_const_specs(alloc, &decl.specs)?;
+            Ok(build_const(decl.span, decl.grouped, specs))
+        }
+        Stmt::Var(decl) => {
+            let specs = copy_var_specs(alloc, &decl.specs)?;
+            Ok(build_var(decl.span, decl.grouped, specs))
+        }
+        Stmt::Empty { span } => Ok(build_empty(*span)),
+        Stmt::Eval { span, e } => Ok(build_eval(*span, copy_expr(alloc, e)?)),
+        Stmt::Step { span, e, up } => Ok(build_step(*span, copy_expr(alloc, e)?, *up)),
         Stmt::Assign {
             span,
             left,
             op,
             right,
-        } => Ok(Stmt::Assign {
-            span: *span,
-            left: copy_exprs(alloc, left)?,
-            op: *op,
-            right: copy_exprs(alloc, right)?,
-        }),
-        Stmt::Define { span, names, right } => Ok(Stmt::Define {
-            span: *span,
-            names: copy_names(alloc, names)?,
-            right: copy_exprs(alloc, right)?,
-        }),
-        Stmt::Return { span, values } => Ok(Stmt::Return {
-            span: *span,
-            values: copy_exprs(alloc, values)?,
-        }),
-        Stmt::Break { span, label } => Ok(Stmt::Break {
-            span: *span,
-            label: copy_name_at_option(alloc, label)?,
-        }),
-        Stmt::Continue { span, label } => Ok(Stmt::Continue {
-            span: *span,
-            label: copy_name_at_option(alloc, label)?,
-        }),
-        Stmt::Inner(block) => Ok(Stmt::Inner(copy_block(alloc, block)?)),
-        Stmt::If { span, arms, last } => Ok(Stmt::If {
-            span: *span,
-            arms: copy_arms(alloc, arms)?,
-            last: copy_block_option(alloc, last)?,
-        }),
+        } => {
+            let left = copy_exprs(alloc, left)?;
+            Ok(build_assign(*span, left, *op, copy_exprs(alloc, right)?))
+        }
+        Stmt::Define { span, names, right } => {
+            build_define(alloc, *span, names, copy_exprs(alloc, right)?)
+        }
+        Stmt::Return { span, values } => Ok(build_return(*span, copy_exprs(alloc, values)?)),
+        Stmt::Break { span, label } => build_break(alloc, *span, label),
+        Stmt::Continue { span, label } => build_continue(alloc, *span, label),
+        Stmt::Inner(block) => Ok(build_inner(copy_block(alloc, block)?)),
+        Stmt::If { span, arms, last } => {
+            let arms = copy_arms(alloc, arms)?;
+            Ok(build_if(*span, arms, copy_block_option(alloc, last)?))
+        }
         Stmt::For {
             span,
             first,
             test,
             post,
             body,
-        } => Ok(Stmt::For {
-            span: *span,
-            first: copy_stmt_option(alloc, first)?,
-            test: copy_expr_option(alloc, test)?,
-            post: copy_stmt_option(alloc, post)?,
-            body: copy_block(alloc, body)?,
-        }),
+        } => {
+            let first = copy_stmt_option(alloc, first)?;
+            let test = copy_expr_option(alloc, test)?;
+            let post = copy_stmt_option(alloc, post)?;
+            Ok(build_for(*span, first, test, post, copy_block(alloc, body)?))
+        }
         Stmt::Range {
             span,
             left,
             over,
             body,
-        } => Ok(Stmt::Range {
-            span: *span,
-            left: copy_range_left(alloc, left)?,
-            over: copy_expr(alloc, over)?,
-            body: copy_block(alloc, body)?,
-        }),
+        } => {
+            let left = copy_range_left(alloc, left)?;
+            let over = copy_expr(alloc, over)?;
+            Ok(build_range(*span, left, over, copy_block(alloc, body)?))
+        }
         Stmt::Switch {
             span,
             first,
             tag,
             cases,
-        } => Ok(Stmt::Switch {
-            span: *span,
-            first: copy_stmt_option(alloc, first)?,
-            tag: copy_expr_option(alloc, tag)?,
-            cases: copy_cases(alloc, cases)?,
-        }),
-        Stmt::Defer { span, call } => Ok(Stmt::Defer {
-            span: *span,
-            call: copy_expr(alloc, call)?,
-        }),
-        Stmt::Label { span, name, stmt } => Ok(Stmt::Label {
-            span: *span,
-            name: copy_name_at(alloc, name)?,
-            stmt: copy_boxed_stmt(alloc, stmt)?,
-        }),
+        } => {
+            let first = copy_stmt_option(alloc, first)?;
+            let tag = copy_expr_option(alloc, tag)?;
+            Ok(build_switch(*span, first, tag, copy_cases(alloc, cases)?))
+        }
+        Stmt::Defer { span, call } => Ok(build_defer(*span, copy_expr(alloc, call)?)),
+        Stmt::Label { span, name, stmt } => {
+            build_label(alloc, *span, name, copy_stmt(alloc, stmt)?)
+        }
     }
 }
 
@@ -139,13 +121,6 @@ fn copy_stmts(alloc: Global, stmts: &StmtList) -> Result<StmtList, NoMemory>
         copies.push(copy_stmt(alloc, stmt)?)?;
     }
     Ok(StmtList::of(copies))
-}
-
-#[cycle(copy_tree)]
-fn copy_boxed_stmt(alloc: Global, stmt: &Box<Stmt>) -> Result<Box<Stmt>, NoMemory>
-    ensures { IfOk result (λ c. stmt_of c.value ≡ stmt_of stmt.now.value) }
-{
-    Ok(Box::new(alloc, copy_stmt(alloc, stmt)?)?)
 }
 
 #[cycle(copy_tree)]
@@ -241,17 +216,6 @@ fn copy_const_specs(alloc: Global, specs: &ConstSpecList) -> Result<ConstSpecLis
 }
 
 #[cycle(copy_tree)]
-fn copy_const_decl(alloc: Global, decl: &ConstDecl) -> Result<ConstDecl, NoMemory>
-    ensures { IfOk result (λ c. const_decl_of c ≡ const_decl_of decl.now) }
-{
-    Ok(ConstDecl {
-        span: decl.span,
-        grouped: decl.grouped,
-        specs: copy_const_specs(alloc, &decl.specs)?,
-    })
-}
-
-#[cycle(copy_tree)]
 fn copy_var_spec(alloc: Global, spec: &VarSpec) -> Result<VarSpec, NoMemory>
     ensures { IfOk result (λ c. var_spec_of c ≡ var_spec_of spec.now) }
 {
@@ -273,15 +237,4 @@ fn copy_var_specs(alloc: Global, specs: &VarSpecList) -> Result<VarSpecList, NoM
         copies.push(copy_var_spec(alloc, spec)?)?;
     }
     Ok(VarSpecList::of(copies))
-}
-
-#[cycle(copy_tree)]
-fn copy_var_decl(alloc: Global, decl: &VarDecl) -> Result<VarDecl, NoMemory>
-    ensures { IfOk result (λ c. var_decl_of c ≡ var_decl_of decl.now) }
-{
-    Ok(VarDecl {
-        span: decl.span,
-        grouped: decl.grouped,
-        specs: copy_var_specs(alloc, &decl.specs)?,
-    })
 }

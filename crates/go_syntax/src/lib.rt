@@ -2,6 +2,7 @@
 #![tactic(auto)]
 
 mod build_exprs;
+mod build_stmts;
 pub mod copy_exprs;
 pub mod copy_stmts;
 mod copy_types;
@@ -16,9 +17,9 @@ pub use depth_exprs::depth;
 pub use go_tree::{
     Arm, ArmList, BinOp, Block, Case, CaseList, Comment, ConstDecl, ConstSpec, ConstSpecList, Decl,
     DeclList, Elem, ElemList, Expr, ExprList, FieldSpec, FieldSpecList, FileTree, FuncDecl,
-    ImportDecl, ImportDeclList, ImportSpec, ImportSpecList, MAX_FILE_BYTES, Name, NameAt,
-    NameAtList, NoMemory, Param, ParamList, Place, RangeLeft, Receiver, Sig, Span, Stmt, StmtList,
-    Text, Token, TokenKind, TypeDecl, TypeExpr, TypeSpec, TypeSpecList, UnOp, Value, VarDecl,
-    VarSpec, VarSpecList,
+    INLINE_BYTES, ImportDecl, ImportDeclList, ImportSpec, ImportSpecList, MAX_FILE_BYTES, Name,
+    NameAt, NameAtList, NoMemory, Param, ParamList, Place, RangeLeft, Receiver, Sig, Span,
+    Spelling, Stmt, StmtList, Text, Token, TokenKind, TypeDecl, TypeExpr, TypeSpec, TypeSpecList,
+    UnOp, Value, VarDecl, VarSpec, VarSpecList,
 };
 pub use lines::place;
