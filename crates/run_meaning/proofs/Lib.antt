@@ -2,5 +2,12 @@ pub mod BareTrees
 pub mod Steps
 pub mod Validity
 pub mod Settled
+pub mod LaidOut
+pub mod Replacing
+pub mod Cuts
+pub mod Origins
+pub mod Programs
+pub mod MarkLemmas
+pub mod ReportLemmas
 pub mod SameMeaning
 mod Examples
