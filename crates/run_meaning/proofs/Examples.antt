@@ -7,7 +7,8 @@ use Rattle.go_parse.specs.Outline.{named, number, Outline, text_of}
 use Rattle.go_meaning_laws.specs.Translation.{shown_by}
 use Rattle.fix_engine.specs.Plan.{Module, marks, last_outline}
 use Rattle.fix_engine.specs.Located.{constants_of, prints_of}
-use Rattle.run_meaning.specs.Meaning.{packages_of, stands_for_none, NoUseIsLeft}
+use Rattle.run_meaning.specs.Meaning.{packages_of}
+use Rattle.run_meaning.proofs.Settled.{all_stop, NoUseIsLeft}
 
 abbrev path : List ℕ
 path = codes "example.com/m"
@@ -41,7 +42,7 @@ unfolding prim
 marked_shows_after n = refl
 
 -- before, what is printed is a use that can be replaced; after, nothing is
-marked_uses : list_all (stands_for_none (marks (module_with marked) []) (constants_of marked)) (prints_of marked) ≡ false
+marked_uses : all_stop (marks (module_with marked) []) (constants_of marked) 0 (prints_of marked) ≡ false
 marked_uses = refl
 
 marked_uses_after : NoUseIsLeft (module_with marked) []

@@ -1,7 +1,7 @@
 pub mod BareTrees
-pub mod Steps
 pub mod Validity
 pub mod Settled
+pub mod RunSteps
 pub mod LaidOut
 pub mod Replacing
 pub mod Cuts

@@ -28,12 +28,12 @@ form_meant Mark p _ _ _ _ (constant_form s s' name next m) = (s', next, m)
 -- ---- what a name stands for
 
 module _ (marks : List (List ℕ)) (cs : List Constant) where
-  record Stands (word next : List ℕ) : Type 0 where
-    marked : among marks word ≡ true
-    of : Operand
-    declared : value_named cs word ≡ Some of
-    named : of.named ≡ true
-    same : of.word ≡ next
+  pub record Stands (word next : List ℕ) : Type 0 where
+    pub marked : among marks word ≡ true
+    pub of : Operand
+    pub declared : value_named cs word ≡ Some of
+    pub named : of.named ≡ true
+    pub same : of.word ≡ next
 
   by_named : (word next : List ℕ) (x : Operand) (b : Bool) → x.named ≡ b → value_named cs word ≡ Some x → among marks word ≡ true → (if b then Some x.word else None) ≡ Some next → Stands word next
   by_named word next x true n f m k = record { marked = m; of = x; declared = f; named = n; same = cc }
@@ -47,7 +47,7 @@ module _ (marks : List (List ℕ)) (cs : List Constant) where
   by_mark word next true m k = by_value word next (value_named cs word) refl m k
   by_mark word next false m k = cc
 
-  stands : (word next : List ℕ) → stands_for marks cs word ≡ Some next → Stands word next
+  pub stands : (word next : List ℕ) → stands_for marks cs word ≡ Some next → Stands word next
   stands word next e = by_mark word next (among marks word) refl e
 
   -- and back, from the expression of the constant

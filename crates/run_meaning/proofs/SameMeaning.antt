@@ -14,10 +14,10 @@ use Rattle.go_tree.specs.declared.spans.Span.{Span}
 use Rattle.go_meaning_laws.specs.Package.{Package}
 use Rattle.go_meaning_laws.specs.Typing.{well_typed}
 use Rattle.go_meaning_laws.specs.Reads.{root, file as text_file, none as no_files}
-use Rattle.go_meaning_laws.specs.Packages.{WellTyped}
+use Rattle.go_meaning_laws.specs.Packages.{Packages, WellTyped}
 use Rattle.go_meaning_laws.specs.SameMeaning.{SameMeaning}
 use Rattle.go_meaning_laws.specs.Inlined.{bare_package}
-use Rattle.go_meaning_laws.proofs.Meaning.{run_means_same}
+use Rattle.go_meaning_laws.proofs.Meaning.{SameCode, code_then, same_meaning, same_bare}
 use Rattle.fix_engine.specs.declared.outline.Operand.{Operand}
 use Rattle.fix_engine.specs.declared.outline.Constant.{Constant}
 use Rattle.fix_engine.specs.Chain.{among}
@@ -33,19 +33,16 @@ use Rattle.run_meaning.specs.Places.{places_of}
 use Rattle.run_meaning.specs.Marks.{here, there, Marked}
 use Rattle.run_meaning.specs.Run.{Run, ends as at_end, FilesKeep, file, none}
 use Rattle.run_meaning.specs.Report.{step, with_origin, AreLines, ReportOf}
-use Rattle.run_meaning.specs.Meaning.{packages_of, IsSource, ReadAs, IsInlining, NoUseIsLeft}
+use Rattle.run_meaning.specs.Meaning.{packages_of, IsSource, ReadAs, IsInlining}
 use Rattle.run_meaning.proofs.BareTrees.{package-bare}
 use Rattle.run_meaning.proofs.LaidOut.{package_at, layout_of, package_is, package_at-bare}
 use Rattle.run_meaning.proofs.MarkLemmas.{is_mark, mark_of, no_println}
 use Rattle.run_meaning.proofs.Origins.{Origin, of_constants, of_prints, log_of, steps_at, ranges_at, log-append, length-log, ranges_are, steps_are}
 use Rattle.run_meaning.proofs.Programs.{ended, prints_run, constants_run}
 use Rattle.run_meaning.proofs.ReportLemmas.{Ascends, constants_ascend, prints_ascend, log_sorted, log_lines, main_ranges, module_ranges, none_kept}
-use Rattle.run_meaning.proofs.Settled.{none_left, Settle, constants_settle, values_end_stop, operands_end_stop}
-use Rattle.run_meaning.proofs.Steps.{run_inlines}
+use Rattle.run_meaning.proofs.Settled.{NoUseIsLeft, none_left, Settle, constants_settle, values_end_stop, operands_end_stop}
+use Rattle.run_meaning.proofs.RunSteps.{run_code}
 use Rattle.run_meaning.proofs.Validity.{last_outline_valid}
-
-pub run_same : (m : Module) (only : List ℕ) → SameMeaning (packages_of m.path m.outline) (packages_of m.path (last_outline m only))
-run_same m only = run_means_same _ _ (run_inlines m only)
 
 -- ---- go.mod
 
@@ -237,7 +234,9 @@ module _ (mod_text text path : List ℕ) (o : Outline) (f : IsModuleFile mod_tex
 
   abbrev inlining : IsInlining old (renewed old (text_of (last_outline m only))) only (made m only).report
   inlining =
-      let same : SameMeaning (packages_of path o) (packages_of path (last_outline m only)) = run_same m only in
+      let new : Packages Span = packages_of path (last_outline m only) in
+      let code : SameCode (package_of path o ∷ []) new.members = code_then (package_of path o ∷ []) last new.members (run_code Mark (package_of path o ∷ []) last (log_of path origins) runs) (same_bare last new.members last_is) in
+      let same : SameMeaning (packages_of path o) new = same_meaning (packages_of path o) new code in
       record {
         before = packages_of path o;
         after = packages_of path (last_outline m only);

@@ -12,9 +12,8 @@ use Rattle.fix_engine.specs.Typed.{ends_within, are_distinct, values_end, operan
 use Rattle.go_parse.specs.Outline.{IsOutlineOf}
 use Rattle.go_meaning_laws.specs.Typing.{well_typed}
 use Rattle.fix_engine.specs.Located.{constants_of, prints_of}
-use Rattle.fix_engine.specs.Plan.{Module, package_of, marks, most, last_constants}
+use Rattle.fix_engine.specs.Plan.{Module, package_of, marks, most, last_constants, last_prints}
 use Rattle.fix_engine.proofs.TypingLemmas.{well_typed-outline}
-use Rattle.run_meaning.specs.Meaning.{NoUseIsLeft}
 
 pub both : (a b : Bool) → a ≡ true → b ≡ true → (a && b) ≡ true
 both a b e f = rw (e, f) refl
@@ -214,6 +213,11 @@ module _ (marks : List (List ℕ)) where
     pub operands_end_stop : (n : ℕ) (xs : List Operand) → operands_end cs n xs ≡ true → all_stop cs n xs ≡ true
     operands_end_stop n [] h = refl
     operands_end_stop n (x ∷ xs) h = let parts = and_parts (ends_within cs n x) (operands_end cs n xs) h in both _ _ (ends_stop n x parts.0) (operands_end_stop n xs parts.1)
+
+-- after the run no operand is a use that could be replaced
+pub record NoUseIsLeft (m : Module) (only : List ℕ) : Type 0 where
+  pub values : values_stop (marks m only) (last_constants m only) 0 (last_constants m only) ≡ true
+  pub prints : all_stop (marks m only) (last_constants m only) 0 (last_prints m only) ≡ true
 
 pub none_left : (m : Module) (only : List ℕ) → IsOutlineOf m.outline m.text → well_typed (package_of m.path m.outline) ≡ true → NoUseIsLeft m only
 none_left m only is h =

@@ -1,20 +1,15 @@
--- The packages of a module before and after the run, and what they have in common.
-use Rattle.std.specs.Prelude.{◌≡◌, ℕ, Bool, true, if◌then◌else◌, IsTrue, List, [], ◌∷◌, length, map, is_none}
-use Rattle.std.specs.List.{list_all}
+-- What inlining makes of the files of a module.
+use Rattle.std.specs.Prelude.{◌≡◌, ℕ, IsTrue, List, [], ◌∷◌, length, map}
 use Rattle.go_tree.specs.declared.spans.Span.{Span}
 use Rattle.go_syntax.specs.File.{File}
-use Rattle.go_parse.specs.Outline.{Outline, is_outline, text_of, tree_of, IsOutlineOf}
+use Rattle.go_parse.specs.Outline.{Outline, is_outline, text_of, tree_of}
 use Rattle.go_meaning_laws.specs.Package.{Package}
 use Rattle.go_meaning_laws.specs.Reads.{Reads}
 use Rattle.go_meaning_laws.specs.Packages.{Packages, WellTyped}
 use Rattle.go_meaning_laws.specs.SameMeaning.{SameMeaning}
-use Rattle.go_meaning_laws.specs.Inlined.{InlinedByRun, bare_package}
+use Rattle.go_meaning_laws.specs.Inlined.{bare_package}
 use Rattle.fix_engine.specs.ModuleFile.{IsModuleFile}
-use Rattle.fix_engine.specs.Plan.{Module, package_of, marks, last_constants, last_prints, last_outline, planned, plan_of}
-use Rattle.fix_engine.specs.declared.outline.Operand.{Operand}
-use Rattle.fix_engine.specs.declared.outline.Constant.{Constant}
-use Rattle.fix_engine.specs.Chain.{stands_for}
-use Rattle.go_meaning_laws.specs.Typing.{well_typed}
+use Rattle.fix_engine.specs.Plan.{package_of, planned, plan_of}
 use Rattle.run_meaning.specs.Marks.{Marked}
 use Rattle.run_meaning.specs.Sites.{Logged}
 use Rattle.run_meaning.specs.Run.{Run, FilesKeep}
@@ -52,25 +47,11 @@ pub record IsInlining (old new : List (List ℕ × List ℕ)) (only report : Lis
   pub keeps : FilesKeep log old new
   pub reported : ReportOf (Marked old only before.members) old log last report
 
--- A name that doesn't stand for another one: it isn't that of a marked constant that is declared as a name. A number stands for none.
-abbrev pub stands_for_none : List (List ℕ) → List Constant → Operand → Bool
-stands_for_none names cs x = if x.named then is_none (stands_for names cs x.word) else true
-
--- After the run no operand of the module is a use that could be replaced.
-pub record NoUseIsLeft (m : Module) (only : List ℕ) : Type 0 where
-  pub values : list_all (λ c. stands_for_none (marks m only) (last_constants m only) c.value) (last_constants m only) ≡ true
-  pub prints : list_all (stands_for_none (marks m only) (last_constants m only)) (last_prints m only) ≡ true
-
 -- ---- the laws
 
-abbrev pub RunLeavesNoUse : Type 0
-RunLeavesNoUse = (m : Module) (only : List ℕ) → IsOutlineOf m.outline m.text → well_typed (package_of m.path m.outline) ≡ true → NoUseIsLeft m only
-
-abbrev pub RunInlines : Type 0
-RunInlines = (m : Module) (only : List ℕ) → InlinedByRun (packages_of m.path m.outline) (packages_of m.path (last_outline m only))
-
+-- A run keeps the meaning, whatever constants are marked.
 abbrev pub RunMeansTheSame : Type 0
-RunMeansTheSame = (m : Module) (only : List ℕ) → SameMeaning (packages_of m.path m.outline) (packages_of m.path (last_outline m only))
+RunMeansTheSame = (files : List (List ℕ × List ℕ)) (only : List ℕ) (ps : List (Package Span)) (old new : Packages Span) (log : List (Logged Span)) → Run (Marked files only ps) old.members log new.members → SameMeaning old new
 
 -- What is planned for files is what inlining makes of them, with the planned report, in so many steps.
 abbrev pub PlannedIsInlining : Type 0
