@@ -2,6 +2,5 @@ pub mod ApplyLemmas
 pub mod FrontLemmas
 pub mod PlanLemmas
 pub mod ReadLemmas
+pub mod DoneLemmas
 pub mod TopLemmas
-pub mod RunLemmas
-mod HeadlineLemmas

@@ -18,7 +18,8 @@ use Rattle.gofix_cli.specs.Words.{are_accepted, lists_module}
 use Rattle.gofix_cli.specs.Lines.{IfTold}
 use Rattle.gofix_cli.specs.Files.{content_of, contents_of, texts_of, write_of, writes_of, AreWritesOf}
 use Rattle.gofix_cli.specs.Causes.{HasCause, PassedChecks, IfUnwritten, StopsReading, MayStop}
-use Rattle.gofix_cli.specs.Verdict.{Verdict, verdict_of, verdict, IsUpTo}
+use Rattle.gofix_cli.specs.Verdict.{Verdict, verdict_of, verdict, IsDone, IsUpTo}
+use Rattle.gofix_cli.proofs.DoneLemmas.{planned_is_done}
 
 -- ---- any status
 
@@ -145,12 +146,12 @@ planned_verdict words files p w e = accepted_verdict words files e ∙ ap (verdi
 
 -- all the files are replaced
 pub planned_done : (words : List (List ℕ)) (before now : Option (List HeldFile)) (p : Plan) → are_accepted words ≡ true → IfSome before (λ files. AreWritesOf files p) → now ≡ option_map (written (writes_of p.writes.items)) before
-    → IfSome before (λ files. ((verdict words files).status ≡ Done) × (now ≡ Some (verdict words files).files))
+    → IfSome before (λ files. IsDone files (verdict words files) × (now ≡ Some (verdict words files).files))
 planned_done words None now p e plan is = tt
 planned_done words (Some files) now p e plan is =
     let v = planned_verdict words files p plan e in
     let left = all_left (Some files) now (writes_of p.writes.items) (map (λ a. a.1) plan.after) plan.writes is in
-    rw v (refl, left)
+    rw v (planned_is_done files plan.after p.report p.inlined plan.outcome, left)
 
 pub planned_report : (words : List (List ℕ)) (before : Option (List HeldFile)) (p : Plan) (old new : Option (List ℕ)) → are_accepted words ≡ true → IfSome before (λ files. AreWritesOf files p) → new ≡ appended old p.report
     → IfSome before (λ files. new ≡ appended old (verdict words files).bytes)
@@ -159,7 +160,7 @@ planned_report words (Some files) p old new e plan is = rw (planned_verdict word
 
 -- and the report is cut off
 pub planned_part : (words : List (List ℕ)) (before now : Option (List HeldFile)) (p : Plan) (old new : Option (List ℕ)) → are_accepted words ≡ true → IfSome before (λ files. AreWritesOf files p) → now ≡ option_map (written (writes_of p.writes.items)) before → IsPartOut old new p.report
-    → IfSome before (λ files. ((verdict words files).status ≡ Done) × (now ≡ Some (verdict words files).files) × IsPartOut old new (verdict words files).bytes)
+    → IfSome before (λ files. IsDone files (verdict words files) × (now ≡ Some (verdict words files).files) × IsPartOut old new (verdict words files).bytes)
 planned_part words None now p old new e plan is part = tt
 planned_part words (Some files) now p old new e plan is part =
     let done = planned_done words (Some files) now p e plan is in
@@ -211,7 +212,7 @@ planned_fault words (Some files) now p i k e plan within at is =
     let found = some_and now (λ fs. AreNewUpTo i news files fs) (fault_left (Some files) now (writes_of p.writes.items) news i k plan.writes (omega (arith, length-map p.writes.items write_of)) at is) in
     let same : length news ≡ length files = length-map plan.after (λ (a : List ℕ × List ℕ). a.1) ∙ length-planned (contents_of files) [] (module_of (contents_of files)) plan.after p.report p.inlined plan.outcome ∙ length-map files content_of in
     rw (planned_verdict words files p plan e) (record {
-      status = refl;
+      done = planned_is_done files plan.after p.report p.inlined plan.outcome;
       within = found.2.within;
       differs = λ f. found.2.differs (sym (new_bytes i files news same) ∙ f);
       left = found.1 ∙ ap Some (found.2.left ∙ front_then_rest i files news);

@@ -1,5 +1,6 @@
 -- What is answered where no fault rises and memory is there: the status, the files that are held afterwards, and the bytes that are written.
 use Rattle.std.specs.Prelude.{◌≡◌, ◌≢◌, ℕ, ◌<◌, ◌==◌, if◌then◌else◌, List, [], ◌++◌, length, map, take, drop, Option, Some, None}
+use Rattle.run_meaning.specs.Meaning.{IsInlining}
 use Rattle.fix_engine.specs.declared.Detail.{Detail}
 use Rattle.fix_engine.specs.declared.Detail.TheVariants.{NotYet, NotTyped}
 use Rattle.fix_engine.specs.declared.Refusal.{Refusal}
@@ -33,9 +34,14 @@ verdict_of files (planned after report steps) = record { status = Done; files = 
 abbrev pub verdict : List (List ℕ) → List HeldFile → Verdict
 verdict words files = if are_accepted words then verdict_of files (plan_of (contents_of files) []) else stays Usage files
 
+-- The verdict is Done, and its files and its bytes are what inlining makes of the old files, and the report of that.
+pub record IsDone (files : List HeldFile) (v : Verdict) : Type 0 where
+  pub status : v.status ≡ Done
+  pub inlined : IsInlining (contents_of files) (contents_of v.files) [] v.bytes
+
 -- The i-th file was to change; the files before it are those of the verdict, and it and the others are the old ones.
 pub record IsUpTo (i : ℕ) (files : List HeldFile) (v : Verdict) (now : Option (List HeldFile)) : Type 0 where
-  pub status : v.status ≡ Done
+  pub done : IsDone files v
   pub within : i < length files
   pub differs : bytes_at v.files i ≢ bytes_at files i
   pub left : now ≡ Some (take i v.files ++ drop i files)

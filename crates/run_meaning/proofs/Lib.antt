@@ -10,4 +10,5 @@ pub mod Programs
 pub mod MarkLemmas
 pub mod ReportLemmas
 pub mod SameMeaning
+pub mod Judged
 mod Examples

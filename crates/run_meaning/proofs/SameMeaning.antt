@@ -9,6 +9,7 @@ use Rattle.std.proofs.lemmas.List.{take-append-drop}
 use Rattle.std.proofs.Math.Seq.{drop-drop}
 use Rattle.go_parse.specs.Outline.{Outline, is_outline, text_of, tree_of, after_constants, IsOutlineOf}
 use Rattle.go_parse.specs.Reading.{outline_of}
+use Rattle.go_parse.specs.declared.found.TheConstants.{MAX_OUTLINE_BYTES}
 use Rattle.go_parse.proofs.ReadingLemmas.{outline_of-sound}
 use Rattle.go_tree.specs.declared.spans.Span.{Span}
 use Rattle.go_meaning_laws.specs.Package.{Package}
@@ -60,26 +61,27 @@ of_some : (a b : List ℕ) → Some a ≡ Some b → a ≡ b
 of_some a b e = cc
 
 -- what a test of five parts says
-record Parts (a c d e : Bool) (x y : List ℕ) : Type 0 where
+record Parts (a b c d e : Bool) (x y : List ℕ) : Type 0 where
   first : a ≡ true
+  second : b ≡ true
   third : c ≡ true
   fourth : d ≡ true
   fifth : e ≡ true
   same : x ≡ y
 
-five_parts : (a b c d e : Bool) (x y : List ℕ) → (if a && (b && (c && (d && e))) then Some x else None) ≡ Some y → Parts a c d e x y
-five_parts true true true true true x y k = record { first = refl; third = refl; fourth = refl; fifth = refl; same = of_some x y k }
+five_parts : (a b c d e : Bool) (x y : List ℕ) → (if a && (b && (c && (d && e))) then Some x else None) ≡ Some y → Parts a b c d e x y
+five_parts true true true true true x y k = record { first = refl; second = refl; third = refl; fourth = refl; fifth = refl; same = of_some x y k }
 five_parts true true true true false x y k = cc
 five_parts true true true false e x y k = cc
 five_parts true true false d e x y k = cc
 five_parts true false c d e x y k = cc
 five_parts false b c d e x y k = cc
 
-module_file : (text path : List ℕ) → module_path text ≡ Some path → IsModuleFile text path
+module_file : (text path : List ℕ) → module_path text ≡ Some path → IsModuleFile text path × (length text ≤ MAX_OUTLINE_BYTES)
 module_file text path k =
-    let is : Parts (nat_le (length before_path + length after_path) (length text)) (starts_with nat_eq text before_path) (ends_with nat_eq text after_path) (is_path (middle text)) (middle text) path = five_parts _ _ _ _ _ _ _ k in
+    let is : Parts (nat_le (length before_path + length after_path) (length text)) (nat_le (length text) MAX_OUTLINE_BYTES) (starts_with nat_eq text before_path) (ends_with nat_eq text after_path) (is_path (middle text)) (middle text) path = five_parts _ _ _ _ _ _ _ k in
     let made : IsModuleFile text (middle text) = record { valid = is.fifth; spelled = between text before_path after_path (leb-true _ _ is.first) is.third is.fourth } in
-    subst (IsModuleFile text) is.same made
+    (subst (IsModuleFile text) is.same made, leb-true _ _ is.second)
 
 -- ---- the files
 
@@ -87,23 +89,23 @@ same_name : (a b : List ℕ) → bytes_eq a b ≡ true → a ≡ b
 same_name a b e = (bytes_eq-Decides a b).0 e
 
 -- the two files, and the module that they are
-data IsModule : List (List ℕ × List ℕ) → Module → Type 0 where
-  two_files : (mod_text text path : List ℕ) (o : Outline) → IsModuleFile mod_text path → IsOutlineOf o text → IsModule ((codes "go.mod", mod_text) ∷ (codes "main.go", text) ∷ []) (record { path = path; text = text; outline = o })
+pub data IsModule : List (List ℕ × List ℕ) → Module → Type 0 where
+  two_files : (mod_text text path : List ℕ) (o : Outline) → IsModuleFile mod_text path → length mod_text ≤ MAX_OUTLINE_BYTES → IsOutlineOf o text → IsModule ((codes "go.mod", mod_text) ∷ (codes "main.go", text) ∷ []) (record { path = path; text = text; outline = o })
 
-by_outline : (mod_text text path : List ℕ) (o : Option Outline) → outline_of text ≡ o → IsModuleFile mod_text path → (m : Module) → with_outline path text o ≡ Some m → IsModule ((codes "go.mod", mod_text) ∷ (codes "main.go", text) ∷ []) m
-by_outline mod_text text path None is f m e = cc
-by_outline mod_text text path (Some o) is f m e =
+by_outline : (mod_text text path : List ℕ) (o : Option Outline) → outline_of text ≡ o → IsModuleFile mod_text path → length mod_text ≤ MAX_OUTLINE_BYTES → (m : Module) → with_outline path text o ≡ Some m → IsModule ((codes "go.mod", mod_text) ∷ (codes "main.go", text) ∷ []) m
+by_outline mod_text text path None is f small m e = cc
+by_outline mod_text text path (Some o) is f small m e =
     let same : record { path = path; text = text; outline = o } ≡ m = some_same _ _ e in
-    subst (IsModule ((codes "go.mod", mod_text) ∷ (codes "main.go", text) ∷ [])) same (two_files mod_text text path o f (outline_of-sound text o is))
+    subst (IsModule ((codes "go.mod", mod_text) ∷ (codes "main.go", text) ∷ [])) same (two_files mod_text text path o f small (outline_of-sound text o is))
   where
     some_same : (a b : Module) → Some a ≡ Some b → a ≡ b
     some_same a b e = cc
 
 by_path : (mod_text text : List ℕ) (p : Option (List ℕ)) → module_path mod_text ≡ p → (m : Module) → with_path p text ≡ Some m → IsModule ((codes "go.mod", mod_text) ∷ (codes "main.go", text) ∷ []) m
 by_path mod_text text None is m e = cc
-by_path mod_text text (Some path) is m e = by_outline mod_text text path (outline_of text) refl (module_file mod_text path is) m e
+by_path mod_text text (Some path) is m e = let file : IsModuleFile mod_text path × (length mod_text ≤ MAX_OUTLINE_BYTES) = module_file mod_text path is in by_outline mod_text text path (outline_of text) refl file.0 file.1 m e
 
-is_module : (files : List (List ℕ × List ℕ)) (m : Module) → module_of files ≡ Some m → IsModule files m
+pub is_module : (files : List (List ℕ × List ℕ)) (m : Module) → module_of files ≡ Some m → IsModule files m
 is_module [] m e = cc
 is_module (f ∷ []) m e = cc
 is_module (f ∷ g ∷ h ∷ hs) m e = cc
@@ -122,7 +124,7 @@ is_module (f ∷ g ∷ []) m e = go (bytes_eq f.0 (codes "go.mod") && bytes_eq g
 source_of : (text : List ℕ) (o : Outline) → is_outline o ≡ true → text ≡ text_of o → IsSource text (tree_of o)
 source_of text o valid spelled = record { outline = o; valid = valid; spelled = spelled; tree_is = refl }
 
-read_as : (mod_text text path : List ℕ) (o : Outline) → IsModuleFile mod_text path → is_outline o ≡ true → text ≡ text_of o → ReadAs ((codes "go.mod", mod_text) ∷ (codes "main.go", text) ∷ []) (packages_of path o)
+pub read_as : (mod_text text path : List ℕ) (o : Outline) → IsModuleFile mod_text path → is_outline o ≡ true → text ≡ text_of o → ReadAs ((codes "go.mod", mod_text) ∷ (codes "main.go", text) ∷ []) (packages_of path o)
 read_as mod_text text path o f valid spelled = root f (text_file (source_of text o valid spelled) refl no_files)
 
 -- what is planned is made of a well-typed module
@@ -258,7 +260,7 @@ module _ (mod_text text path : List ℕ) (o : Outline) (f : IsModuleFile mod_tex
   counted = length-log path origins ∙ ap length (sym (steps_are names n [] cs last_cs xs))
 
 by_files : (files : List (List ℕ × List ℕ)) (m : Module) (only : List ℕ) → IsModule files m → well_typed (package_of m.path m.outline) ≡ true → (i : IsInlining files (renewed files (text_of (last_outline m only))) only (made m only).report) × (length i.log ≡ (made m only).inlined)
-by_files _ _ only (two_files mod_text text path o f is) h = (inlining mod_text text path o f is only h, counted mod_text text path o f is only h)
+by_files _ _ only (two_files mod_text text path o f small is) h = (inlining mod_text text path o f is only h, counted mod_text text path o f is only h)
 
 pub planned_inlining : (files after : List (List ℕ × List ℕ)) (only report : List ℕ) (inlined : ℕ) → plan_of files only ≡ planned after report inlined → (i : IsInlining files after only report) × (length i.log ≡ inlined)
 planned_inlining files after only report inlined e =

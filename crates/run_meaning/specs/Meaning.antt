@@ -1,15 +1,18 @@
 -- What inlining makes of the files of a module.
-use Rattle.std.specs.Prelude.{◌≡◌, ℕ, IsTrue, List, [], ◌∷◌, length, map}
+use Rattle.std.specs.Prelude.{◌≡◌, ℕ, ◌≤◌, true, false, IsTrue, List, [], ◌∷◌, length, map, codes}
+use Rattle.std.specs.List.{list_all}
 use Rattle.go_tree.specs.declared.spans.Span.{Span}
 use Rattle.go_syntax.specs.File.{File}
 use Rattle.go_parse.specs.Outline.{Outline, is_outline, text_of, tree_of}
 use Rattle.go_meaning_laws.specs.Package.{Package}
+use Rattle.go_parse.specs.declared.found.TheConstants.{MAX_OUTLINE_BYTES}
 use Rattle.go_meaning_laws.specs.Reads.{Reads}
+use Rattle.go_meaning_laws.specs.Typing.{well_typed}
 use Rattle.go_meaning_laws.specs.Packages.{Packages, WellTyped}
 use Rattle.go_meaning_laws.specs.SameMeaning.{SameMeaning}
 use Rattle.go_meaning_laws.specs.Inlined.{bare_package}
 use Rattle.fix_engine.specs.ModuleFile.{IsModuleFile}
-use Rattle.fix_engine.specs.Plan.{package_of, planned, plan_of}
+use Rattle.fix_engine.specs.Plan.{Outcome, refused, planned, package_of, plan_of}
 use Rattle.run_meaning.specs.Marks.{Marked}
 use Rattle.run_meaning.specs.Sites.{Logged}
 use Rattle.run_meaning.specs.Run.{Run, FilesKeep}
@@ -47,7 +50,27 @@ pub record IsInlining (old new : List (List ℕ × List ℕ)) (only report : Lis
   pub keeps : FilesKeep log old new
   pub reported : ReportOf (Marked old only before.members) old log last report
 
+-- ---- which files are planned for
+
+-- The files are just `go.mod` and `main.go`, neither too long, and read as these packages.
+pub data HasForm : List (List ℕ × List ℕ) → List (Package Span) → Type 0 where
+  two_files : {mod_text text : List ℕ} {ps : List (Package Span)} → length mod_text ≤ MAX_OUTLINE_BYTES → length text ≤ MAX_OUTLINE_BYTES → Reads IsModuleFile IsSource ((codes "go.mod", mod_text) ∷ (codes "main.go", text) ∷ []) ps
+      → HasForm ((codes "go.mod", mod_text) ∷ (codes "main.go", text) ∷ []) ps
+
+-- Files are refused as not built where they are no module of the form, and as not typed where they are one that isn't well typed. For all others there is a plan.
+pub data IsJudged (files : List (List ℕ × List ℕ)) : Outcome → Type 0 where
+  not_built : ((ps : List (Package Span)) → HasForm files ps → ⊥) → IsJudged files (refused 100)
+  not_typed : (ps : List (Package Span)) → HasForm files ps → list_all well_typed ps ≡ false → IsJudged files (refused 401)
+  is_planned : (ps : List (Package Span)) (after : List (List ℕ × List ℕ)) (report : List ℕ) (inlined : ℕ) → HasForm files ps → list_all well_typed ps ≡ true → IsJudged files (planned after report inlined)
+
 -- ---- the laws
+
+abbrev pub PlansAreJudged : Type 0
+PlansAreJudged = (files : List (List ℕ × List ℕ)) (only : List ℕ) → IsJudged files (plan_of files only)
+
+-- Files of the form read as one program.
+abbrev pub FormsAreOne : Type 0
+FormsAreOne = (files : List (List ℕ × List ℕ)) (ps qs : List (Package Span)) → HasForm files ps → HasForm files qs → ps ≡ qs
 
 -- A run keeps the meaning, whatever constants are marked.
 abbrev pub RunMeansTheSame : Type 0

@@ -1,6 +1,6 @@
 //! Laws of the run: what it does to the packages of a module.
 
-ghost use Rattle.run_meaning.specs.Meaning.{PlannedIsInlining, RunMeansTheSame};
+ghost use Rattle.run_meaning.specs.Meaning.{FormsAreOne, PlannedIsInlining, PlansAreJudged, RunMeansTheSame};
 
 /// Programs of a run, each the next of the one before: the last means the same as the first. With
 /// any further packages, each main package shows the same and ends or panics alike, each within a
@@ -14,4 +14,11 @@ pub fn run_means_the_same()
 /// free; bytes outside the run's ranges stay; and the planned report is that of the run.
 pub fn planned_files_are_inlined()
     ensures { PlannedIsInlining }
+{}
+
+/// Files are refused as not built exactly where they are no module of the form, and as not typed
+/// exactly where they are one that isn't well typed. For all others there is a plan.
+pub fn plans_are_judged()
+    ensures judged { PlansAreJudged }
+    ensures one { FormsAreOne }
 {}

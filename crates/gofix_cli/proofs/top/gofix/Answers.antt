@@ -1,8 +1,8 @@
 use Rattle.std.proofs.Common.{◌≡◌, ◌∙◌, map, sym, ap}
 use Rattle.std.specs.Prelude.{string_bytes}
 use Rattle.gofix_cli.specs.Words.{lists_module}
-use Rattle.gofix_cli.proofs.TopLemmas.{planned_done, planned_part, planned_fault}
-use Rattle.gofix_cli.proofs.HeadlineLemmas.{told_inlined}
+use Rattle.gofix_cli.proofs.TopLemmas.{planned_done, planned_report, planned_part, planned_fault}
+use Rattle.gofix_cli.proofs.DoneLemmas.{told_inlined}
 use Rattle.gofix_cli.proofs.top.gofix.Goals as goal
 
 pub tell_status-requires-in-Err : goal.tell_status-requires-in-Err
@@ -26,7 +26,10 @@ returns-in-Ok-write_all-clause-done g c = λ e.
 pub returns-in-Ok-write_all-clause-headline : goal.returns-in-Ok-write_all-clause-headline
 returns-in-Ok-write_all-clause-headline g c = λ e.
     let all = rw c.writes.ensures at c.in-Ok-apply.ensures.ok in
-    told_inlined (map string_bytes c.args.words.now) _ _ (planned_done (map string_bytes c.args.words.now) _ _ c.in-Ok.plan (sym c.are_accepted.ensures ∙ c.if-not-are_accepted.false) c.in-Ok.ensures.plan (rw c.prepare.ensures.same at all))
+    let accepted = sym c.are_accepted.ensures ∙ c.if-not-are_accepted.false in
+    let out = rw c.report.ensures at c.in-Ok-write_all.ensures.ok in
+    told_inlined (map string_bytes c.args.words.now) _ _ _ _ (planned_done (map string_bytes c.args.words.now) _ _ c.in-Ok.plan accepted c.in-Ok.ensures.plan (rw c.prepare.ensures.same at all))
+    (planned_report (map string_bytes c.args.words.now) _ c.in-Ok.plan _ _ accepted c.in-Ok.ensures.plan out)
 
 pub returns-in-Ok-write_all-clause-passed : goal.returns-in-Ok-write_all-clause-passed
 returns-in-Ok-write_all-clause-passed g c = ap lists_module c.apply.ensures.paths ∙ c.in-Ok.ensures.module
