@@ -6,7 +6,7 @@ use Rattle.fix_engine.specs.Plan.{planned, plan_of}
 use Rattle.run_meaning.specs.Sites.{Logged}
 use Rattle.run_meaning.specs.Run.{FilesKeep, none, file}
 use Rattle.run_meaning.specs.Meaning.{IsInlining}
-use Rattle.run_meaning.proofs.SameMeaning.{planned_inlining}
+use Rattle.run_meaning.proofs.Inlining.{planned_inlining}
 use Rattle.fix_io.specs.Files.{HeldFile}
 use Rattle.fix_io.specs.Contents.{appended}
 use Rattle.fix_io.specs.Writes.{with_texts}

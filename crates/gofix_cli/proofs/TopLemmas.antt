@@ -18,8 +18,9 @@ use Rattle.gofix_cli.specs.Words.{are_accepted, lists_module}
 use Rattle.gofix_cli.specs.Lines.{IfTold}
 use Rattle.gofix_cli.specs.Files.{content_of, contents_of, texts_of, write_of, writes_of, AreWritesOf}
 use Rattle.gofix_cli.specs.Causes.{HasCause, PassedChecks, IfUnwritten, StopsReading, MayStop}
-use Rattle.gofix_cli.specs.Verdict.{Verdict, verdict_of, verdict, IsDone, IsUpTo}
+use Rattle.gofix_cli.specs.Verdict.{Verdict, verdict_of, verdict, IsDone, IsRefused, IsAnswer, IsUpTo}
 use Rattle.gofix_cli.proofs.DoneLemmas.{planned_is_done}
+use Rattle.gofix_cli.proofs.JudgedLemmas.{refused_as, answer_as}
 
 -- ---- any status
 
@@ -127,17 +128,17 @@ accepted_verdict words files e = rw e refl
 pub refused_verdict : (words : List (List ℕ)) (files : List HeldFile) → are_accepted words ≡ false → (verdict words files).status ≡ Usage
 refused_verdict words files e = rw e refl
 
-pub accepted_refused : (words : List (List ℕ)) (held : Option (List HeldFile)) (r : Refusal) → are_accepted words ≡ true → IfSome held (λ files. (verdict_for files).status ≡ Refused r) → IfSome held (λ files. (verdict words files).status ≡ Refused r)
+pub accepted_refused : (words : List (List ℕ)) (held : Option (List HeldFile)) (r : Refusal) → are_accepted words ≡ true → IfSome held (λ files. (verdict_for files).status ≡ Refused r) → IfSome held (λ files. IsRefused words files r)
 accepted_refused words None r e is = tt
-accepted_refused words (Some files) r e is = ap (λ v. v.status) (accepted_verdict words files e) ∙ is
+accepted_refused words (Some files) r e is = refused_as words files r (accepted_verdict words files e) is
 
-pub accepted_complete : (words : List (List ℕ)) (held : Option (List HeldFile)) (s : Status) → are_accepted words ≡ true → IfSome held (λ files. (s ≡ (verdict_for files).status) ⊎ (s ≡ NoMemory)) → IfSome held (λ files. (s ≡ (verdict words files).status) ⊎ (s ≡ NoMemory))
+pub accepted_complete : (words : List (List ℕ)) (held : Option (List HeldFile)) (s : Status) → are_accepted words ≡ true → IfSome held (λ files. (s ≡ (verdict_for files).status) ⊎ (s ≡ NoMemory)) → IfSome held (λ files. IsAnswer words files s)
 accepted_complete words None s e is = tt
-accepted_complete words (Some files) s e is = rw (accepted_verdict words files e) is
+accepted_complete words (Some files) s e is = answer_as words files s (accepted_verdict words files) (rw (accepted_verdict words files e) is)
 
-pub usage_complete : (words : List (List ℕ)) (held : Option (List HeldFile)) → are_accepted words ≡ false → IfSome held (λ files. (Usage ≡ (verdict words files).status) ⊎ (Usage ≡ NoMemory))
+pub usage_complete : (words : List (List ℕ)) (held : Option (List HeldFile)) → are_accepted words ≡ false → IfSome held (λ files. IsAnswer words files Usage)
 usage_complete words None e = tt
-usage_complete words (Some files) e = inl (sym (refused_verdict words files e))
+usage_complete words (Some files) e = answer_as words files Usage (accepted_verdict words files) (inl (sym (refused_verdict words files e)))
 
 -- ---- a run that has a plan
 
@@ -166,9 +167,9 @@ planned_part words (Some files) now p old new e plan is part =
     let done = planned_done words (Some files) now p e plan is in
     (done.0, done.1, rw (planned_verdict words files p plan e) part)
 
-pub planned_complete : (words : List (List ℕ)) (before now : Option (List HeldFile)) (p : Plan) → are_accepted words ≡ true → IfSome before (λ files. AreWritesOf files p) → IfSome before (λ files. (Done ≡ (verdict words files).status) ⊎ (Done ≡ NoMemory))
+pub planned_complete : (words : List (List ℕ)) (before now : Option (List HeldFile)) (p : Plan) → are_accepted words ≡ true → IfSome before (λ files. AreWritesOf files p) → IfSome before (λ files. IsAnswer words files Done)
 planned_complete words None now p e plan = tt
-planned_complete words (Some files) now p e plan = inl (sym (ap (λ v. v.status) (planned_verdict words files p plan e)))
+planned_complete words (Some files) now p e plan = answer_as words files Done (accepted_verdict words files) (inl (sym (ap (λ v. v.status) (planned_verdict words files p plan e))))
 
 -- ---- a run whose plan is cut off
 

@@ -1,6 +1,6 @@
 -- The trees of a file's parts without their spans.
-use Rattle.std.proofs.Common.{◌≡◌, ℕ, ◌+◌, Bool, true, false, if◌then◌else◌, List, [], ◌∷◌, ◌++◌, Some, None, map, refl, ap, ◌∙◌}
-use Rattle.std.specs.Prelude.{bytes_eq, codes}
+use Rattle.std.proofs.Common.{◌≡◌, ℕ, ◌+◌, false, List, [], ◌∷◌, ◌++◌, None, map, refl, ap, ◌∙◌}
+use Rattle.std.specs.Prelude.{codes}
 use Rattle.go_tree.specs.declared.spans.Span.{Span}
 use Rattle.go_syntax.specs.Tree.{Expr, ident, int_lit, call, no_exprs, expr_and, Stmt, const_decl, eval, Stmts, no_stmts, stmt_and, no_specs, spec}
 use Rattle.go_syntax.specs.File.{Decl, values, func}
@@ -8,12 +8,10 @@ use Rattle.go_syntax.specs.Bare.{bare_expr, bare_stmts}
 use Rattle.go_syntax.specs.FileBare.{bare_decl}
 use Rattle.go_parse.specs.Outline as outline
 use Rattle.go_meaning_laws.specs.Package.{Package}
-use Rattle.go_meaning_laws.specs.Means.{Environment, constant, means, decls_then, universe, environment, constant_meant, expression_of}
-use Rattle.go_meaning_laws.specs.Inlined.{InExpr, InStmts, InDecls, first, later, operand, value, body, bare_package}
+use Rattle.go_meaning_laws.specs.Inlined.{bare_package}
 use Rattle.fix_engine.specs.declared.outline.Operand.{Operand}
 use Rattle.fix_engine.specs.declared.outline.Constant.{Constant}
 use Rattle.fix_engine.specs.Located.{plain, plain_constant, outline_of_parts}
-use Rattle.fix_engine.specs.Chain.{value_named}
 use Rattle.fix_engine.specs.Plan.{package_of}
 
 abbrev pub Bare : Type 0

@@ -1,23 +1,22 @@
 -- Which files are planned for, and which are refused.
-use Rattle.std.proofs.Common.{◌≡◌, ℕ, ◌+◌, ◌-◌, ◌≤◌, Bool, true, false, ◌&&◌, if◌then◌else◌, List, [], ◌∷◌, ◌++◌, length, take, drop, Option, Some, None, refl, sym, ap, subst, ◌∙◌, arith, append_assoc, length-append, le-leb}
-use Rattle.std.specs.Prelude.{nat_eq, nat_le, slice_range, codes}
-use Rattle.std.specs.List.{starts_with, ends_with, list_all}
+use Rattle.std.proofs.Common.{◌≡◌, ℕ, ◌+◌, ◌-◌, ◌≤◌, Bool, true, false, ◌&&◌, if◌then◌else◌, List, [], ◌∷◌, ◌++◌, length, take, drop, Option, Some, None, refl, sym, ap, ◌∙◌, arith, append_assoc, length-append, le-leb}
+use Rattle.std.specs.Prelude.{nat_eq, nat_le, codes}
+use Rattle.std.specs.List.{starts_with, ends_with}
 use Rattle.std.proofs.Math.Seq.{take-append_seam, drop-append_seam}
 use Rattle.std.proofs.lemmas.Bool.Decides.{Decides-eqb}
 use Rattle.std.proofs.lemmas.Slice.Eq.{starts_is, ends_is}
 use Rattle.go_tree.specs.declared.spans.Span.{Span}
 use Rattle.go_parse.specs.declared.found.TheConstants.{MAX_OUTLINE_BYTES}
-use Rattle.go_parse.specs.Outline.{Outline, text_of, tree_of, IsOutlineOf}
-use Rattle.go_parse.specs.Reading.{outline_of}
+use Rattle.go_parse.specs.Outline.{Outline, IsOutlineOf}
 use Rattle.go_parse.proofs.ReadingLemmas.{outline_of-complete}
 use Rattle.go_meaning_laws.specs.Package.{Package}
 use Rattle.go_meaning_laws.specs.Reads.{root, file as text_file, none as no_files}
 use Rattle.go_meaning_laws.specs.Typing.{well_typed}
 use Rattle.fix_engine.specs.ModuleFile.{IsModuleFile, before_path, after_path, middle, is_path, module_path}
-use Rattle.fix_engine.specs.Plan.{Module, package_of, module_of, with_path, with_outline, last_outline, made, made_of, renewed, outcome_of, plan_of_module, plan_of}
-use Rattle.run_meaning.specs.Meaning.{IsSource, HasForm, two_files, IsJudged, not_built, not_typed, is_planned}
-use Rattle.run_meaning.proofs.SameMeaning as same
-use Rattle.run_meaning.proofs.SameMeaning.{IsModule, is_module, read_as}
+use Rattle.fix_engine.specs.Plan.{Module, package_of, module_of, with_path, with_outline, made, outcome_of, plan_of_module, plan_of}
+use Rattle.run_meaning.specs.Meaning.{HasForm, two_files, IsJudged, not_built, not_typed, is_planned}
+use Rattle.run_meaning.proofs.Inlining as same
+use Rattle.run_meaning.proofs.Inlining.{IsModule, is_module, read_as}
 
 both : (a b : Bool) → a ≡ true → b ≡ true → (a && b) ≡ true
 both a b e f = rw (e, f) refl

@@ -1,22 +1,22 @@
 -- The trees of the programs of a run: the spans are those of the file as read, and the operands those that stand there now.
-use Rattle.std.proofs.Common.{◌≡◌, ℕ, suc, zero, ◌+◌, Bool, true, false, if◌then◌else◌, List, [], ◌∷◌, ◌++◌, length, Option, Some, None, map, refl, sym, ap, ◌∙◌}
+use Rattle.std.proofs.Common.{◌≡◌, ℕ, suc, zero, ◌+◌, Bool, true, false, if◌then◌else◌, List, [], ◌∷◌, ◌++◌, length, Option, Some, None, map, refl, ap, ◌∙◌}
 use Rattle.std.specs.Prelude.{bytes_eq, codes}
 use Rattle.std.specs.Option.{option_map}
 use Rattle.go_tree.specs.declared.spans.Span.{Span}
-use Rattle.go_syntax.specs.Tree.{NameAt, Expr, ident, int_lit, call, no_exprs, expr_and, Stmt, const_decl, eval, Stmts, no_stmts, stmt_and, no_specs, spec}
+use Rattle.go_syntax.specs.Tree.{Expr, ident, int_lit, call, no_exprs, expr_and, Stmt, const_decl, eval, Stmts, no_stmts, stmt_and, no_specs, spec}
 use Rattle.go_syntax.specs.File.{Func, Decl, values, func}
 use Rattle.go_syntax.specs.Bare.{bare_expr, bare_stmts}
 use Rattle.go_syntax.specs.FileBare.{bare_decl}
 use Rattle.go_parse.specs.Outline as outline
 use Rattle.go_meaning_laws.specs.Package.{Package}
-use Rattle.go_meaning_laws.specs.Means.{Entity, constant, function, predeclared, means, decls_then, universe, environment, constant_meant, expression_of}
+use Rattle.go_meaning_laws.specs.Means.{Entity, constant, function, predeclared, decls_then, universe, environment, constant_meant, expression_of}
 use Rattle.go_meaning_laws.specs.Inlined.{bare_package}
 use Rattle.fix_engine.specs.declared.outline.Operand.{Operand}
 use Rattle.fix_engine.specs.declared.outline.Constant.{Constant}
 use Rattle.fix_engine.specs.Located.{located, located_constant, located_constants, located_prints, constants_of, prints_of}
 use Rattle.fix_engine.specs.Chain.{value_named}
 use Rattle.fix_engine.specs.Plan.{package_of}
-use Rattle.run_meaning.proofs.BareTrees.{Bare, operand_in, constant_in, print_in, prints_in, main_in, decls_in, package_in}
+use Rattle.run_meaning.proofs.BareTrees.{operand_in, prints_in, main_in, decls_in, package_in}
 
 -- ---- spans
 

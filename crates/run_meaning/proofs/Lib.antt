@@ -9,6 +9,6 @@ pub mod Origins
 pub mod Programs
 pub mod MarkLemmas
 pub mod ReportLemmas
-pub mod SameMeaning
+pub mod Inlining
 pub mod Judged
 mod Examples

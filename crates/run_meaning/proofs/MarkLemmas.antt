@@ -1,6 +1,6 @@
 -- The marked constants of a file are those that the plan counts as marked.
-use Rattle.std.proofs.Common.{◌≡◌, ◌≤◌, ℕ, zero, suc, ◌+◌, Bool, true, false, not, ◌&&◌, ◌||◌, if◌then◌else◌, List, [], ◌∷◌, ◌++◌, length, take, Option, Some, None, option_to_list, refl, sym, ap, subst, ◌∙◌, arith, append_assoc, length-append, le-leb, inl, inr}
-use Rattle.std.specs.Prelude.{◌⊎◌, bytes_eq, nat_eq, nat_le, codes, IsTrue}
+use Rattle.std.proofs.Common.{◌≡◌, ℕ, suc, ◌+◌, Bool, true, false, not, ◌&&◌, ◌||◌, if◌then◌else◌, List, [], ◌∷◌, ◌++◌, length, take, Option, Some, None, option_to_list, refl, sym, ap, subst, ◌∙◌, arith, append_assoc, length-append, le-leb, inl, inr}
+use Rattle.std.specs.Prelude.{◌⊎◌, bytes_eq, nat_eq, codes}
 use Rattle.std.specs.Option.{option_map}
 use Rattle.std.specs.List.{starts_with, ends_with, list_all}
 use Rattle.std.proofs.Math.Seq.{take-append_seam}
@@ -17,14 +17,14 @@ use Rattle.fix_engine.specs.declared.outline.Operand.{Operand}
 use Rattle.fix_engine.specs.declared.outline.Constant.{Constant}
 use Rattle.fix_engine.specs.Chain.{among, value_named}
 use Rattle.fix_engine.specs.Located.{located_constant, located_constants, constants_of, prints_of}
-use Rattle.fix_engine.specs.Plan.{Module, package_of, marks_of, marks}
+use Rattle.fix_engine.specs.Plan.{package_of, marks_of}
 use Rattle.fix_engine.specs.Read.{mark_line, is_marked_at, constant_in, constants_in}
 use Rattle.fix_engine.specs.Report.{full_name}
 use Rattle.fix_engine.specs.Typed.{ends_within, values_end}
 use Rattle.fix_engine.proofs.Parts.{At, pass}
 use Rattle.fix_engine.proofs.OutlineLemmas.{constants_in-outline, ends_with-line}
 use Rattle.run_meaning.specs.Marks.{IsIn, here, there, HasMark, MarksConstant, one, Marked}
-use Rattle.run_meaning.proofs.LaidOut.{package_at, layout_of, package_is, expr_at, meant_now}
+use Rattle.run_meaning.proofs.LaidOut.{layout_of, package_is, expr_at, meant_now}
 
 -- ---- elements
 

@@ -1,5 +1,5 @@
 -- The operands of a file with the names that are replaced at each, in order; the steps, the log, the edits and the ranges of the run are read off this list.
-use Rattle.std.proofs.Common.{◌≡◌, ℕ, suc, length, Bool, true, false, if◌then◌else◌, List, [], ◌∷◌, ◌++◌, Option, Some, None, map, refl, sym, ap, ◌∙◌, append_assoc}
+use Rattle.std.proofs.Common.{◌≡◌, ℕ, suc, length, List, [], ◌∷◌, ◌++◌, map, refl, sym, ap, ◌∙◌, append_assoc}
 use Rattle.go_tree.specs.declared.spans.Span.{Span}
 use Rattle.fix_engine.specs.declared.outline.Operand.{Operand}
 use Rattle.fix_engine.specs.declared.outline.Constant.{Constant}

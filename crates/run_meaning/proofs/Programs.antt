@@ -1,7 +1,6 @@
 -- The run over a file as a list of programs, each the next of the one before.
-use Rattle.std.proofs.Common.{◌≡◌, ℕ, zero, suc, Bool, true, false, ◌&&◌, if◌then◌else◌, List, [], ◌∷◌, ◌++◌, Option, Some, None, is_none, map, refl, sym, ap, subst, ◌∙◌, append_assoc, append-nil}
+use Rattle.std.proofs.Common.{◌≡◌, ℕ, zero, suc, Bool, true, false, if◌then◌else◌, List, [], ◌∷◌, ◌++◌, Option, Some, None, map, refl, sym, ap, subst, ◌∙◌, append_assoc, append-nil}
 use Rattle.std.specs.Prelude.{codes}
-use Rattle.std.specs.List.{list_all}
 use Rattle.std.proofs.lemmas.Bool.{and_parts}
 use Rattle.std.proofs.lemmas.List.Folds.{list_all-append}
 use Rattle.go_tree.specs.declared.spans.Span.{Span}
@@ -13,7 +12,7 @@ use Rattle.fix_engine.specs.Chain.{among, stands_for, replaced_names, last_name}
 use Rattle.fix_engine.specs.Settled.{names_replaced, settled, settle_value, settled_constants, settled_prints}
 use Rattle.run_meaning.specs.Places.{Stays}
 use Rattle.run_meaning.specs.Sites.{Logged}
-use Rattle.run_meaning.specs.Run.{Run, ends, goes_on, NoFreeSite}
+use Rattle.run_meaning.specs.Run.{Run, goes_on, NoFreeSite}
 use Rattle.run_meaning.proofs.LaidOut.{Layout, span_of, package_at}
 use Rattle.run_meaning.proofs.Replacing.{logged, Becomes, becomes, stays, other_stays, ValuesStay, OperandsStay, in_constants, in_main, all_stay, next_is, none_free}
 use Rattle.run_meaning.proofs.Origins.{of_constants, of_prints, log_of}

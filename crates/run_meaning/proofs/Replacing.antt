@@ -1,18 +1,18 @@
 -- Which operands of a run's program are free sites, and the program that is next.
-use Rattle.std.proofs.Common.{◌≡◌, ℕ, zero, suc, Bool, true, false, if◌then◌else◌, List, [], ◌∷◌, ◌++◌, Option, Some, None, is_none, refl, sym, ap, subst, ◌∙◌}
+use Rattle.std.proofs.Common.{◌≡◌, ℕ, suc, Bool, true, false, if◌then◌else◌, List, [], ◌∷◌, ◌++◌, Option, Some, None, is_none, refl, sym, ap, subst, ◌∙◌}
 use Rattle.std.specs.Prelude.{⊤, codes}
 use Rattle.std.specs.Option.{option_map}
 use Rattle.go_tree.specs.declared.spans.Span.{Span}
-use Rattle.go_syntax.specs.Tree.{Expr, ident, int_lit, Stmts}
+use Rattle.go_syntax.specs.Tree.{Expr, ident, int_lit}
 use Rattle.go_meaning_laws.specs.Package.{Package}
 use Rattle.go_meaning_laws.specs.Means.{Environment, environment, constant_meant}
 use Rattle.fix_engine.specs.declared.outline.Operand.{Operand}
 use Rattle.fix_engine.specs.declared.outline.Constant.{Constant}
 use Rattle.fix_engine.specs.Chain.{among, value_named, name_in, stands_for}
-use Rattle.run_meaning.specs.Places.{Stays, AllStay, stmts_places, decls_places, FirstOfStmts, FirstOfDecls, FirstOfFiles, FirstOfPackages, first, later, operand, value, body}
-use Rattle.run_meaning.specs.Sites.{ConstWord, ObstacleWord, Obstacle, shadowed, Logged, Site, constant_name, FormOf, constant_form, Replaces, free, IsKept, kept}
+use Rattle.run_meaning.specs.Places.{Stays, AllStay, stmts_places, decls_places, FirstOfStmts, FirstOfDecls, first, later, operand, value, body}
+use Rattle.run_meaning.specs.Sites.{ConstWord, ObstacleWord, Obstacle, shadowed, Logged, Site, constant_name, FormOf, constant_form, Replaces, free}
 use Rattle.run_meaning.specs.Run.{Next, NoFreeSite}
-use Rattle.run_meaning.proofs.LaidOut.{ConstantSpans, PrintSpans, Layout, span_of, expr_at, decl_at, decls_at, prints_at, main_at, package_at, meant_now}
+use Rattle.run_meaning.proofs.LaidOut.{ConstantSpans, PrintSpans, Layout, span_of, expr_at, decls_at, prints_at, main_at, package_at, meant_now}
 use Rattle.run_meaning.proofs.Settled.{operand_stops}
 
 -- a name means the same in equal environments

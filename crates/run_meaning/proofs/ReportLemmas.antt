@@ -1,12 +1,11 @@
 -- The report, the order of its lines and the ranges, read off the operands of a run.
-use Rattle.std.proofs.Common.{◌≡◌, ◌≤◌, ℕ, zero, suc, ◌+◌, Bool, true, false, List, [], ◌∷◌, ◌++◌, length, map, refl, sym, ap, subst, ◌∙◌, arith, inl, inr, length-append}
+use Rattle.std.proofs.Common.{◌≡◌, ◌≤◌, ℕ, ◌+◌, List, [], ◌∷◌, ◌++◌, map, refl, sym, ap, subst, ◌∙◌, arith, inl, inr}
 use Rattle.std.specs.Prelude.{⊤, ◌⊎◌, codes}
 use Rattle.go_tree.specs.declared.spans.Span.{Span}
 use Rattle.go_parse.specs.Outline as outline
 use Rattle.go_meaning_laws.specs.Package.{Package}
 use Rattle.go_meaning_laws.specs.Means.{environment}
 use Rattle.go_syntax.specs.Tree.{Expr}
-use Rattle.fix_engine.specs.declared.outline.Operand.{Operand}
 use Rattle.fix_engine.specs.declared.outline.Constant.{Constant}
 use Rattle.fix_engine.specs.declared.run.Step.{Step}
 use Rattle.fix_engine.specs.Located.{located_constant, located_constants, located_prints}
@@ -16,7 +15,7 @@ use Rattle.run_meaning.specs.Marks.{IsIn, here, there}
 use Rattle.run_meaning.specs.Sites.{Logged, KeptUse, IsKept, kept}
 use Rattle.run_meaning.specs.Run as run
 use Rattle.run_meaning.specs.Run.{KeptAmong, AreRanges}
-use Rattle.run_meaning.specs.Report.{Entry, step, offset_of, file_of, InOrder, same_file, BeforeAll, IsSorted, IsLine, step_line, AreLines, none, line}
+use Rattle.run_meaning.specs.Report.{Entry, step, offset_of, file_of, same_file, BeforeAll, IsSorted, step_line, AreLines, none, line}
 use Rattle.run_meaning.proofs.LaidOut.{span_of}
 use Rattle.run_meaning.proofs.Replacing.{logged, never}
 use Rattle.run_meaning.proofs.Origins.{Origin, of_constants, of_prints, log_of, steps_at, range_if, ranges_at}

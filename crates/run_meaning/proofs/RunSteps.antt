@@ -1,5 +1,5 @@
 -- A run is made of steps of inlining, so it keeps the meaning.
-use Rattle.std.proofs.Common.{◌≡◌, ℕ, List, [], ◌∷◌, Some, map, refl, ap, ◌∙◌}
+use Rattle.std.proofs.Common.{ℕ, List, map, refl, ap, ◌∙◌}
 use Rattle.std.specs.Option.{option_map}
 use Rattle.go_syntax.specs.Tree.{Expr, Exprs, Stmt, Stmts, ValueSpecs}
 use Rattle.go_syntax.specs.File.{Decl}

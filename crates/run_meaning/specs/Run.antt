@@ -6,7 +6,7 @@ use Rattle.go_syntax.specs.Tree.{Expr}
 use Rattle.go_meaning_laws.specs.Package.{Package}
 use Rattle.fix_engine.specs.Keeps.{Keeps}
 use Rattle.run_meaning.specs.Places.{FirstOfPackages, PackagesStay}
-use Rattle.run_meaning.specs.Marks.{IsIn, Marked}
+use Rattle.run_meaning.specs.Marks.{IsIn}
 use Rattle.run_meaning.specs.Sites.{Logged, KeptUse, Replaces, IsKept}
 
 module _ {S : Type 0} (Mark : ImportPath → List ℕ → Type 0) where

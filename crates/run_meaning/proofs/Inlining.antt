@@ -1,4 +1,4 @@
--- What is planned for files reads as packages of the same meaning.
+-- What is planned for files is what inlining makes of them.
 use Rattle.std.proofs.Common.{◌≡◌, ℕ, ◌+◌, ◌-◌, ◌≤◌, Bool, true, false, ◌&&◌, if◌then◌else◌, List, [], ◌∷◌, ◌++◌, suc, length, take, drop, map, Option, Some, None, refl, sym, ap, subst, ◌∙◌, arith, append-nil}
 use Rattle.std.specs.Prelude.{bytes_eq, nat_eq, nat_le, slice_range, codes}
 use Rattle.std.specs.List.{starts_with, ends_with}
@@ -153,34 +153,34 @@ is_made files after only report inlined e = by_module files after (module_of fil
 -- ---- what inlining makes
 
 module _ (mod_text text path : List ℕ) (o : Outline) (f : IsModuleFile mod_text path) (is : IsOutlineOf o text) (only : List ℕ) (h : well_typed (package_of path o) ≡ true) where
-  abbrev m : Module
+  abbrev pub m : Module
   m = record { path = path; text = text; outline = o }
 
-  abbrev old : List (List ℕ × List ℕ)
+  abbrev pub old : List (List ℕ × List ℕ)
   old = (codes "go.mod", mod_text) ∷ (codes "main.go", text) ∷ []
 
-  abbrev Mark : List ℕ → List ℕ → Type 0
+  abbrev pub Mark : List ℕ → List ℕ → Type 0
   Mark = Marked old only (package_of path o ∷ [])
 
-  abbrev names : List (List ℕ)
+  abbrev pub names : List (List ℕ)
   names = marks m only
 
-  abbrev n : ℕ
+  abbrev pub n : ℕ
   n = most m only
 
-  abbrev cs : List Constant
+  abbrev pub cs : List Constant
   cs = constants_of o
 
-  abbrev xs : List Operand
+  abbrev pub xs : List Operand
   xs = prints_of o
 
-  abbrev last_cs : List Constant
+  abbrev pub last_cs : List Constant
   last_cs = last_constants m only
 
-  abbrev origins : List Origin
+  abbrev pub origins : List Origin
   origins = of_constants names n [] cs ++ of_prints names n last_cs xs
 
-  abbrev last : List (Package Span)
+  abbrev pub last : List (Package Span)
   last = package_at path (layout_of o) last_cs (last_prints m only) ∷ []
 
   typed_parts : (values_end cs n cs ≡ true) × (operands_end cs n xs ≡ true)
@@ -202,13 +202,13 @@ module _ (mod_text text path : List ℕ) (o : Outline) (f : IsModuleFile mod_tex
   log_is : log_of path (of_constants names n [] cs) ++ (log_of path (of_prints names n last_cs xs) ++ []) ≡ log_of path origins
   log_is = ap (λ l. log_of path (of_constants names n [] cs) ++ l) (append-nil (log_of path (of_prints names n last_cs xs))) ∙ sym (log-append path (of_constants names n [] cs) (of_prints names n last_cs xs))
 
-  runs : Run Mark (package_of path o ∷ []) (log_of path origins) last
+  pub runs : Run Mark (package_of path o ∷ []) (log_of path origins) last
   runs = subst (λ p. Run Mark (p ∷ []) (log_of path origins) last) (sym (package_is path o)) (subst (λ l. Run Mark (package_at path (layout_of o) cs xs ∷ []) l last) log_is run_at)
 
   ascend : Ascends 0 origins
   ascend = constants_ascend names n [] 14 o.constants (of_prints names n last_cs xs) 0 (omega arith) (prints_ascend names n last_cs (after_constants 14 o.constants + 14) o.prints (after_constants 14 o.constants) (omega arith))
 
-  report_of : ReportOf Mark old (log_of path origins) last (made m only).report
+  pub report_of : ReportOf Mark old (log_of path origins) last (made m only).report
   report_of =
       let lines : AreLines old (map step (log_of path origins)) (lines_of (codes "main.go") text path (steps_at origins)) = log_lines path old text (there here) origins in
       let steps : log m only ≡ steps_at origins = steps_are names n [] cs last_cs xs in
@@ -223,18 +223,18 @@ module _ (mod_text text path : List ℕ) (o : Outline) (f : IsModuleFile mod_tex
   keeps_all : (t : List ℕ) → Keeps t t []
   keeps_all t = record { edits = []; ranges_are = refl; ascend = omega arith; replaced = refl }
 
-  files_keep : FilesKeep (log_of path origins) old (renewed old (text_of (last_outline m only)))
+  pub files_keep : FilesKeep (log_of path origins) old (renewed old (text_of (last_outline m only)))
   files_keep =
       file [] (module_ranges path origins) (keeps_all mod_text)
       (file (ranges_at origins) (main_ranges path origins) (subst (Keeps text (text_of (last_outline m only))) (ranges_are names n [] cs last_cs xs) (keeps m only is)) none)
 
-  alone_typed : WellTyped (packages_of path o)
+  pub alone_typed : WellTyped (packages_of path o)
   alone_typed = rw h refl
 
-  last_is : map bare_package (packages_of path (last_outline m only)).members ≡ map bare_package last
+  pub last_is : map bare_package (packages_of path (last_outline m only)).members ≡ map bare_package last
   last_is = ap (λ p. p ∷ []) (package-bare path last_cs (last_prints m only) ∙ sym (package_at-bare path (layout_of o) last_cs (last_prints m only)))
 
-  abbrev inlining : IsInlining old (renewed old (text_of (last_outline m only))) only (made m only).report
+  abbrev pub inlining : IsInlining old (renewed old (text_of (last_outline m only))) only (made m only).report
   inlining =
       let new : Packages Span = packages_of path (last_outline m only) in
       let code : SameCode (package_of path o ∷ []) new.members = code_then (package_of path o ∷ []) last new.members (run_code Mark (package_of path o ∷ []) last (log_of path origins) runs) (same_bare last new.members last_is) in
