@@ -2,6 +2,7 @@ pub mod BareTrees
 pub mod Validity
 pub mod Settled
 pub mod RunSteps
+pub mod OneRun
 pub mod LaidOut
 pub mod Replacing
 pub mod Cuts

@@ -72,6 +72,10 @@ PlansAreJudged = (files : List (List ℕ × List ℕ)) (only : List ℕ) → IsJ
 abbrev pub FormsAreOne : Type 0
 FormsAreOne = (files : List (List ℕ × List ℕ)) (ps qs : List (Package Span)) → HasForm files ps → HasForm files qs → ps ≡ qs
 
+-- A program has one run: its steps and its last program.
+abbrev pub RunsAreOne : Type 0
+RunsAreOne = (files : List (List ℕ × List ℕ)) (only : List ℕ) (qs ps last last' : List (Package Span)) (log log' : List (Logged Span)) → Run (Marked files only qs) ps log last → Run (Marked files only qs) ps log' last' → (log ≡ log') × (last ≡ last')
+
 -- A run keeps the meaning, whatever constants are marked.
 abbrev pub RunMeansTheSame : Type 0
 RunMeansTheSame = (files : List (List ℕ × List ℕ)) (only : List ℕ) (ps : List (Package Span)) (old new : Packages Span) (log : List (Logged Span)) → Run (Marked files only ps) old.members log new.members → SameMeaning old new

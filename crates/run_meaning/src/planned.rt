@@ -1,12 +1,13 @@
 //! Laws of the run: what it does to the packages of a module.
 
-ghost use Rattle.run_meaning.specs.Meaning.{FormsAreOne, PlannedIsInlining, PlansAreJudged, RunMeansTheSame};
+ghost use Rattle.run_meaning.specs.Meaning.{FormsAreOne, PlannedIsInlining, PlansAreJudged, RunMeansTheSame, RunsAreOne};
 
-/// Programs of a run, each the next of the one before: the last means the same as the first. With
-/// any further packages, each main package shows the same and ends or panics alike, each within a
+/// A program has one run, and the last program of the run means the same as the first. With any
+/// further packages, each main package shows the same and ends or panics alike, each within a
 /// stated budget of the other.
 pub fn run_means_the_same()
-    ensures { RunMeansTheSame }
+    ensures one { RunsAreOne }
+    ensures same { RunMeansTheSame }
 {}
 
 /// Where a plan is made of files, the planned files are what inlining makes of them: they read as
