@@ -22,7 +22,7 @@ use Rattle.go_meaning_laws.proofs.Meaning.{SameCode, code_then, same_meaning, sa
 use Rattle.fix_engine.specs.declared.outline.Operand.{Operand}
 use Rattle.fix_engine.specs.declared.outline.Constant.{Constant}
 use Rattle.fix_engine.specs.Chain.{among}
-use Rattle.fix_engine.specs.Keeps.{Keeps}
+use Rattle.text_edits.specs.Keeps.{Keeps}
 use Rattle.fix_engine.specs.Located.{constants_of, prints_of}
 use Rattle.fix_engine.specs.ModuleFile.{IsModuleFile, before_path, after_path, middle, is_path, module_path}
 use Rattle.fix_engine.specs.Plan.{Module, package_of, marks, most, last_constants, last_prints, log, with_outline, with_path, module_of, last_outline, made, made_of, planned, renewed, outcome_of, plan_of_module, plan_of}

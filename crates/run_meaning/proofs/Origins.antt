@@ -4,8 +4,8 @@ use Rattle.go_tree.specs.declared.spans.Span.{Span}
 use Rattle.fix_engine.specs.declared.outline.Operand.{Operand}
 use Rattle.fix_engine.specs.declared.outline.Constant.{Constant}
 use Rattle.fix_engine.specs.declared.run.Step.{Step}
-use Rattle.fix_engine.specs.declared.edits.Edit.{Edit}
-use Rattle.fix_engine.specs.Keeps.{range_of}
+use Rattle.text_edits.specs.declared.edit.Edit.{Edit}
+use Rattle.text_edits.specs.Order.{spans}
 use Rattle.fix_engine.specs.Settled.{step_at, edit_if, last_after, names_replaced, settled, steps_of, edits_of, settle_value, constant_steps, constant_edits, print_steps, print_edits}
 use Rattle.run_meaning.specs.Sites.{Logged}
 use Rattle.run_meaning.proofs.LaidOut.{span_of}
@@ -72,30 +72,30 @@ module _ (marks : List (List ℕ)) (most : ℕ) where
   steps_of-prints cs [] = refl
   steps_of-prints cs (x ∷ xs) = ap (λ l. steps_of marks most cs x ++ l) (steps_of-prints cs xs)
 
-  range_of-edits : (x : Operand) (names : List (List ℕ)) (word : List ℕ) → map range_of (edit_if x (last_after names word)) ≡ range_if (span_of x) names
-  range_of-edits x [] word = refl
-  range_of-edits x (n ∷ ns) word = refl
+  spans-edits : (x : Operand) (names : List (List ℕ)) (word : List ℕ) → spans (edit_if x (last_after names word)) ≡ range_if (span_of x) names
+  spans-edits x [] word = refl
+  spans-edits x (n ∷ ns) word = refl
 
-  map-range : (es fs : List Edit) → map range_of (es ++ fs) ≡ map range_of es ++ map range_of fs
-  map-range [] fs = refl
-  map-range (e ∷ es) fs = ap (λ l. range_of e ∷ l) (map-range es fs)
+  spans-append : (es fs : List Edit) → spans (es ++ fs) ≡ spans es ++ spans fs
+  spans-append [] fs = refl
+  spans-append (e ∷ es) fs = ap (λ l. e.span ∷ l) (spans-append es fs)
 
-  ranges_of-constants : (done cs : List Constant) → map range_of (constant_edits marks most done cs) ≡ ranges_at (of_constants marks most done cs)
-  ranges_of-constants done [] = refl
-  ranges_of-constants done (c ∷ cs) =
-      map-range (edits_of marks most (done ++ c ∷ cs) c.value) (constant_edits marks most (done ++ settle_value marks most done c cs ∷ []) cs)
-      ∙ (λ i. range_of-edits c.value (names_replaced marks most (done ++ c ∷ cs) c.value) (settled marks most (done ++ c ∷ cs) c.value).word i ++ ranges_of-constants (done ++ settle_value marks most done c cs ∷ []) cs i)
+  spans_of-constants : (done cs : List Constant) → spans (constant_edits marks most done cs) ≡ ranges_at (of_constants marks most done cs)
+  spans_of-constants done [] = refl
+  spans_of-constants done (c ∷ cs) =
+      spans-append (edits_of marks most (done ++ c ∷ cs) c.value) (constant_edits marks most (done ++ settle_value marks most done c cs ∷ []) cs)
+      ∙ (λ i. spans-edits c.value (names_replaced marks most (done ++ c ∷ cs) c.value) (settled marks most (done ++ c ∷ cs) c.value).word i ++ spans_of-constants (done ++ settle_value marks most done c cs ∷ []) cs i)
 
-  ranges_of-prints : (cs : List Constant) (xs : List Operand) → map range_of (print_edits marks most cs xs) ≡ ranges_at (of_prints marks most cs xs)
-  ranges_of-prints cs [] = refl
-  ranges_of-prints cs (x ∷ xs) =
-      map-range (edits_of marks most cs x) (print_edits marks most cs xs)
-      ∙ (λ i. range_of-edits x (names_replaced marks most cs x) (settled marks most cs x).word i ++ ranges_of-prints cs xs i)
+  spans_of-prints : (cs : List Constant) (xs : List Operand) → spans (print_edits marks most cs xs) ≡ ranges_at (of_prints marks most cs xs)
+  spans_of-prints cs [] = refl
+  spans_of-prints cs (x ∷ xs) =
+      spans-append (edits_of marks most cs x) (print_edits marks most cs xs)
+      ∙ (λ i. spans-edits x (names_replaced marks most cs x) (settled marks most cs x).word i ++ spans_of-prints cs xs i)
 
-  pub ranges_are : (done cs last : List Constant) (xs : List Operand) → map range_of (constant_edits marks most done cs ++ print_edits marks most last xs) ≡ ranges_at (of_constants marks most done cs ++ of_prints marks most last xs)
+  pub ranges_are : (done cs last : List Constant) (xs : List Operand) → spans (constant_edits marks most done cs ++ print_edits marks most last xs) ≡ ranges_at (of_constants marks most done cs ++ of_prints marks most last xs)
   ranges_are done cs last xs =
-      map-range (constant_edits marks most done cs) (print_edits marks most last xs)
-      ∙ (λ i. ranges_of-constants done cs i ++ ranges_of-prints last xs i) ∙ sym (ranges-append (of_constants marks most done cs) (of_prints marks most last xs))
+      spans-append (constant_edits marks most done cs) (print_edits marks most last xs)
+      ∙ (λ i. spans_of-constants done cs i ++ spans_of-prints last xs i) ∙ sym (ranges-append (of_constants marks most done cs) (of_prints marks most last xs))
 
   pub steps_are : (done cs last : List Constant) (xs : List Operand) → constant_steps marks most done cs ++ print_steps marks most last xs ≡ steps_at (of_constants marks most done cs ++ of_prints marks most last xs)
   steps_are done cs last xs = (λ i. steps_of-constants done cs i ++ steps_of-prints last xs i) ∙ sym (steps-append (of_constants marks most done cs) (of_prints marks most last xs))

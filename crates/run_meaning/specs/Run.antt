@@ -4,7 +4,7 @@ use Rattle.go_tree.specs.declared.spans.Span.{Span}
 use Rattle.go_kernel.specs.Kernel.{ImportPath}
 use Rattle.go_syntax.specs.Tree.{Expr}
 use Rattle.go_meaning_laws.specs.Package.{Package}
-use Rattle.fix_engine.specs.Keeps.{Keeps}
+use Rattle.text_edits.specs.Keeps.{Keeps}
 use Rattle.run_meaning.specs.Places.{FirstOfPackages, PackagesStay}
 use Rattle.run_meaning.specs.Marks.{IsIn}
 use Rattle.run_meaning.specs.Sites.{Logged, KeptUse, Replaces, IsKept}
