@@ -7,7 +7,7 @@ ghost use Rattle.go_scan.specs.Pieces.{kind_of};
 ghost use Rattle.go_scan.specs.Scanned.{Adds};
 
 use crate::pieces::{PieceKind, is_one_of};
-use go_tree::{Comment, NoMemory, Span, Text, Token, TokenKind};
+use go_tree::{Comment, NoMemory, Span, Spelling, Token, TokenKind};
 use std::alloc::Global;
 
 /// The tokens and comments so far. `due` is the end of the last token where a newline, or the end
@@ -55,7 +55,7 @@ pub(crate) fn insert_due(alloc: Global, lists: &mut Lists) -> Result<(), NoMemor
     let Some(at) = lists.due else {
         return Ok(());
     };
-    let spelling = Text::copied(alloc, b";")?;
+    let spelling = Spelling::copied(alloc, b";")?;
     let span = Span { start: at, end: at };
     lists.tokens.push(Token {
         span,
@@ -82,7 +82,7 @@ fn add_token(
         start: at,
         end: at + bytes.len() as u32,
     };
-    let spelling = Text::copied(alloc, bytes)?;
+    let spelling = Spelling::copied(alloc, bytes)?;
     lists.tokens.push(Token {
         span,
         kind,

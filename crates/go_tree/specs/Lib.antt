@@ -5,3 +5,4 @@ pub mod View
 pub mod FileView
 pub mod Bare
 pub mod FileBare
+pub mod Spellings

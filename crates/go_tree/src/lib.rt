@@ -6,6 +6,7 @@ pub mod files;
 pub mod limits;
 pub mod operators;
 pub mod spans;
+pub mod spellings;
 pub mod stmts;
 pub mod texts;
 pub mod tokens;
@@ -19,10 +20,11 @@ pub use files::{
 pub use limits::{MAX_FILE_BYTES, NoMemory};
 pub use operators::{BinOp, UnOp};
 pub use spans::{Place, Span};
+pub use spellings::{INLINE_BYTES, Spelling};
 pub use stmts::{
     Arm, ArmList, Block, Case, CaseList, ConstDecl, ConstSpec, ConstSpecList, RangeLeft, Stmt,
     StmtList, VarDecl, VarSpec, VarSpecList,
 };
-pub use texts::{INLINE_BYTES, Name, NameAt, NameAtList, Text};
+pub use texts::{Name, NameAt, NameAtList, Text};
 pub use tokens::{Comment, Token, TokenKind};
 pub use types::{FieldSpec, FieldSpecList, Param, ParamList, Sig, TypeExpr};

@@ -1,19 +1,15 @@
 // Names and texts as lists of bytes.
-ghost use Rattle.std.specs.Prelude.{◌≡◌, ◌≤◌, length, IfOk, IsOk};
+ghost use Rattle.std.specs.Prelude.{◌≡◌, IfOk};
 
 use crate::limits::NoMemory;
 use crate::spans::Span;
-use smallvec::SmallVec;
 use std::alloc::Global;
 use std::marker::Model;
 
-/// The greatest number of bytes of a name or text that stand in the value itself.
-pub const INLINE_BYTES: usize = 16;
-
-/// An identifier or other name: its bytes. Up to `INLINE_BYTES` of them stand in the value itself.
+/// An identifier or other name: its bytes.
 #[derive(Drop)]
 pub struct Name {
-    bytes: SmallVec<u8, INLINE_BYTES>,
+    bytes: Vec<u8>,
 }
 
 impl Model for Name {
@@ -29,18 +25,15 @@ impl Name {
     pub fn of(v: Vec<u8>) -> Self
         ensures { result ≡ v.items }
     {
-        Name {
-            bytes: SmallVec::from_vec(v),
-        }
+        Name { bytes: v }
     }
 
-    /// The name of a copy of these bytes. Takes no memory for up to `INLINE_BYTES` of them.
+    /// The name of a copy of these bytes.
     pub fn copied(alloc: Global, bytes: &[u8]) -> Result<Self, NoMemory>
-        ensures copied { IfOk result (λ name. name ≡ bytes.now) }
-        ensures inline { length bytes.now ≤ 16 → IsOk result }
+        ensures { IfOk result (λ name. name ≡ bytes.now) }
     {
         Ok(Name {
-            bytes: SmallVec::from_slice(alloc, bytes)?,
+            bytes: bytes.to_vec(alloc)?,
         })
     }
 
@@ -48,15 +41,14 @@ impl Name {
     pub fn items(&self) -> &[u8]
         ensures { result.now ≡ self.now }
     {
-        self.bytes.as_slice()
+        &self.bytes
     }
 }
 
-/// A list of bytes: a spelling, a path, the text of a file. Up to `INLINE_BYTES` bytes stand in the
-/// value itself, and more in an allocation, so that most spellings take no memory of their own.
+/// A list of bytes: the spelling of a literal, a path, the text of a file.
 #[derive(Drop)]
 pub struct Text {
-    bytes: SmallVec<u8, INLINE_BYTES>,
+    bytes: Vec<u8>,
 }
 
 impl Model for Text {
@@ -72,18 +64,15 @@ impl Text {
     pub fn of(v: Vec<u8>) -> Self
         ensures { result ≡ v.items }
     {
-        Text {
-            bytes: SmallVec::from_vec(v),
-        }
+        Text { bytes: v }
     }
 
-    /// The text of a copy of these bytes. Takes no memory for up to `INLINE_BYTES` of them.
+    /// The text of a copy of these bytes.
     pub fn copied(alloc: Global, bytes: &[u8]) -> Result<Self, NoMemory>
-        ensures copied { IfOk result (λ text. text ≡ bytes.now) }
-        ensures inline { length bytes.now ≤ 16 → IsOk result }
+        ensures { IfOk result (λ text. text ≡ bytes.now) }
     {
         Ok(Text {
-            bytes: SmallVec::from_slice(alloc, bytes)?,
+            bytes: bytes.to_vec(alloc)?,
         })
     }
 
@@ -91,7 +80,7 @@ impl Text {
     pub fn items(&self) -> &[u8]
         ensures { result.now ≡ self.now }
     {
-        self.bytes.as_slice()
+        &self.bytes
     }
 }
 

@@ -1,7 +1,7 @@
 // Tokens and comments (Go specification, Lexical elements).
 
 use crate::spans::Span;
-use crate::texts::Text;
+use crate::spellings::Spelling;
 
 /// What a token is. `Inserted` is a semicolon that the end of a line gives; its span is empty.
 #[derive(Clone, Copy, Debug, PartialEq, Eq)]
@@ -22,7 +22,7 @@ pub enum TokenKind {
 pub struct Token {
     pub span: Span,
     pub kind: TokenKind,
-    pub spelling: Text,
+    pub spelling: Spelling,
 }
 
 /// Where a comment stands (Go specification, Comments).

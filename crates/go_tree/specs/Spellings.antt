@@ -1,0 +1,7 @@
+-- The bytes of a token's spelling.
+use Rattle.std.specs.Prelude.{ℕ, List, take}
+use Rattle.go_tree.specs.declared.spellings.SpellingBytes.{SpellingBytes}
+
+abbrev pub bytes_of : SpellingBytes → List ℕ
+bytes_of (SpellingBytes.Inline len cells) = take len cells
+bytes_of (SpellingBytes.Listed list) = list.value.items
