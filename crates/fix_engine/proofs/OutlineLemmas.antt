@@ -44,7 +44,7 @@ same_last pre ys e =
     omega (arith, g)
 
 -- a text that ends with the line
-ends_with-line : (ys : List ℕ) → ends_with nat_eq (ys ++ mark_line) mark_line ≡ true
+pub ends_with-line : (ys : List ℕ) → ends_with nat_eq (ys ++ mark_line) mark_line ≡ true
 ends_with-line ys =
     let size : length (ys ++ mark_line) ≡ length ys + 17 = length-append ys mark_line in
     let n : length (ys ++ mark_line) - 17 ≡ length ys = omega (arith, size) in

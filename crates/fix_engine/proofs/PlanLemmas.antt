@@ -11,7 +11,7 @@ use Rattle.fix_engine.specs.Located.{constants_of, prints_of}
 use Rattle.fix_engine.specs.Typed.{are_typed}
 use Rattle.fix_engine.specs.ModuleFile.{module_path}
 use Rattle.fix_engine.specs.Plan.{Module, package_of, made, made_of, refused, planned, renewed, outcome_of, plan_of_module, plan_of, with_path, with_outline, contents, changed, changed_main, module_of, last_outline, ranges_in}
-use Rattle.fix_engine.specs.Keeps.{Keeps}
+use Rattle.text_edits.specs.Keeps.{Keeps}
 use Rattle.fix_engine.specs.Refusals.{refusal_of}
 use Rattle.fix_engine.specs.declared.refusals.Detail.TheVariants.{NotYet}
 use Rattle.fix_engine.specs.declared.refusals.PlanFault.{PlanFault}

@@ -5,7 +5,7 @@ use Rattle.std.proofs.lemmas.List.{take-append-drop, take-set, drop-set, length-
 use Rattle.fix_engine.specs.declared.outline.Operand.{Operand}
 use Rattle.fix_engine.specs.declared.outline.Constant.{Constant}
 use Rattle.fix_engine.specs.declared.run.Step.{Step}
-use Rattle.fix_engine.specs.declared.edits.Edit.{Edit}
+use Rattle.text_edits.specs.declared.edit.Edit.{Edit}
 use Rattle.fix_engine.specs.Chain.{stands_for, replaced_names, last_name}
 use Rattle.fix_engine.specs.Settled.{last_after, last_if_replaced, settled, settle_value, settled_next, steps_next, edits_next, settled_constants, constant_steps, constant_edits}
 

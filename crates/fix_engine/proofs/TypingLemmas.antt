@@ -12,7 +12,7 @@ use Rattle.go_parse.specs.Outline as outline
 use Rattle.go_meaning_laws.specs.Package.{Package}
 use Rattle.go_meaning_laws.specs.Means.{Environment, Entity, constant, function, predeclared, universe, decls_then, means, expression_of, constant_meant}
 use Rattle.go_meaning_laws.specs.Constants.{value_within, has_value}
-use Rattle.go_meaning_laws.specs.Typing.{is_distinct, is_println, all_have_values, ok_stmts, ok_decl, well_typed}
+use Rattle.go_meaning_laws.specs.Typing.{is_distinct, is_function, is_println, all_have_values, ok_stmts, ok_decl, well_typed}
 use Rattle.fix_engine.specs.declared.outline.Operand.{Operand}
 use Rattle.fix_engine.specs.declared.outline.Constant.{Constant}
 use Rattle.fix_engine.specs.Located.{located, located_constant, located_constants, located_prints, constants_of, prints_of}
@@ -171,10 +171,18 @@ module _ (ps : List outline.Operand) (from : ℕ) where
   is_distinct-block at [] v = refl
   is_distinct-block at (c ∷ cs) v = λ i. not_meant (outline.after_constant at c) cs c.name (other_name' c.name (codes "main") (first _ _ v) main_is_none) i && is_distinct-block (outline.after_constant at c) cs (second _ _ v) i
 
+  -- ---- the function `main`
+
+  main_declared : (at : ℕ) (cs : List outline.Constant) → list_all has_name cs ≡ true → is_function (means (block at cs []) (codes "main")) ≡ true
+  main_declared at [] v = refl
+  main_declared at (c ∷ cs) v =
+      ap (λ b. is_function (if b then Some (constant (outline.operand_tree (outline.value_at at c) c.value)) else means (block (outline.after_constant at c) cs []) (codes "main"))) (other_name c.name (codes "main") (first _ _ v) main_is_none)
+      ∙ main_declared (outline.after_constant at c) cs (second _ _ v)
+
 -- The file is well typed exactly where its parts are.
 pub well_typed-names : (path : List ℕ) (o : outline.Outline) → list_all has_name o.constants ≡ true → well_typed (package_of path o) ≡ are_typed (length o.constants + 2) (constants_of o) (prints_of o)
 well_typed-names path o valid =
-    λ i. is_distinct-block o.prints (outline.after_constants 14 o.constants) 14 o.constants valid i && (and_true _ ∙ ok_decls-trees o.prints (outline.after_constants 14 o.constants) 14 o.constants valid 14 o.constants) i
+    λ i. is_distinct-block o.prints (outline.after_constants 14 o.constants) 14 o.constants valid i && (main_declared o.prints (outline.after_constants 14 o.constants) 14 o.constants valid i && (and_true _ ∙ ok_decls-trees o.prints (outline.after_constants 14 o.constants) 14 o.constants valid 14 o.constants) i)
 
 pub names_valid : (cs : List outline.Constant) → list_all outline.is_constant cs ≡ true → list_all has_name cs ≡ true
 names_valid [] v = refl

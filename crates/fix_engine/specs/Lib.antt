@@ -7,6 +7,4 @@ pub mod Plan
 pub mod Answer
 pub mod Read
 pub mod Typed
-pub mod Edits
 pub mod Refusals
-pub mod Keeps

@@ -12,9 +12,9 @@ use Rattle.fix_engine.specs.declared.outline.Operand.{Operand}
 use Rattle.fix_engine.specs.declared.outline.Constant.{Constant}
 use Rattle.fix_engine.specs.declared.run.Step.{Step}
 use Rattle.fix_engine.specs.declared.planned.Made.{Made}
-use Rattle.fix_engine.specs.declared.edits.Edit.{Edit}
-use Rattle.fix_engine.specs.Edits.{replaced_from}
-use Rattle.fix_engine.specs.Keeps.{range_of}
+use Rattle.text_edits.specs.declared.edit.Edit.{Edit}
+use Rattle.text_edits.specs.Applied.{applied}
+use Rattle.text_edits.specs.Order.{spans}
 use Rattle.fix_engine.specs.ModuleFile.{module_path}
 use Rattle.fix_engine.specs.Located.{constants_of, prints_of, outline_of_parts}
 use Rattle.fix_engine.specs.Settled.{settled_constants, settled_prints, constant_steps, print_steps, constant_edits, print_edits}
@@ -77,7 +77,7 @@ module _ (m : Module) (only : List ℕ) where
   edits_in = constant_edits marks most [] (constants_of m.outline) ++ print_edits marks most last_constants (prints_of m.outline)
 
   abbrev pub ranges_in : List Span
-  ranges_in = map range_of edits_in
+  ranges_in = spans edits_in
 
   -- the last text of `main.go`, the report and the number of steps
   abbrev pub made : Made
@@ -89,7 +89,7 @@ module _ (m : Module) (only : List ℕ) where
 
 -- what steps and edits make of a text
 abbrev pub made_by : List ℕ → List ℕ → List Step → List Edit → Made
-made_by path text log edits = record { text = replaced_from text 0 edits; report = lines_of (codes "main.go") text path log; inlined = length log }
+made_by path text log edits = record { text = applied text edits; report = lines_of (codes "main.go") text path log; inlined = length log }
 
 -- ---- the answer
 

@@ -3,14 +3,14 @@ use Rattle.std.specs.Prelude.{ℕ, if◌then◌else◌, List, [], ◌∷◌, ◌
 use Rattle.fix_engine.specs.declared.outline.Operand.{Operand}
 use Rattle.fix_engine.specs.declared.outline.Constant.{Constant}
 use Rattle.fix_engine.specs.declared.run.Step.{Step}
-use Rattle.fix_engine.specs.declared.edits.Edit.{Edit}
+use Rattle.text_edits.specs.declared.edit.Edit.{Edit}
 use Rattle.fix_engine.specs.Chain.{replaced_names, last_name}
 
 abbrev pub step_at : ℕ → List ℕ → Step
 step_at offset name = record { offset = offset; name = name }
 
 abbrev pub edit_to : Operand → List ℕ → Edit
-edit_to x word = record { start = x.start; end = x.end; bytes = word }
+edit_to x word = record { span = record { start = x.start; end = x.end }; text = word }
 
 abbrev pub last_after : List (List ℕ) → List ℕ → Option (List ℕ)
 last_after [] word = None

@@ -1,17 +1,10 @@
 // Replaced ranges of a text.
 ghost use Rattle.std.specs.Prelude.{◌≡◌, IfOk, length};
-ghost use Rattle.fix_engine.specs.Edits.{Ascend, replaced_from};
+ghost use Rattle.text_edits.specs.Applied.{Ascend, replaced_from};
 
 use go_syntax::{NoMemory, Text};
 use std::alloc::Global;
-
-/// The bytes that stand in place of a range of the old text.
-#[derive(Drop)]
-pub struct Edit {
-    pub start: u32,
-    pub end: u32,
-    pub bytes: Text,
-}
+use text_edits::Edit;
 
 /// The text with each range replaced.
 pub fn replaced(alloc: Global, text: &[u8], edits: &[Edit]) -> Result<Text, NoMemory>
@@ -21,9 +14,9 @@ pub fn replaced(alloc: Global, text: &[u8], edits: &[Edit]) -> Result<Text, NoMe
     let mut new = Vec::new(alloc);
     let mut from = 0;
     for edit in edits {
-        new.extend_from_slice(&text[from..edit.start as usize])?;
-        new.extend_from_slice(edit.bytes.items())?;
-        from = edit.end as usize;
+        new.extend_from_slice(&text[from..edit.span.start as usize])?;
+        new.extend_from_slice(edit.text.items())?;
+        from = edit.span.end as usize;
     }
     new.extend_from_slice(&text[from..])?;
     Ok(Text::of(new))

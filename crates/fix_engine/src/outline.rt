@@ -31,7 +31,7 @@ const MARK_LINE: &[u8] = b"\n//go:fix inline\n";
 pub fn copy(alloc: Global, bytes: &[u8]) -> Result<Text, NoMemory>
     ensures { IfOk result (λ t. t ≡ bytes.now) }
 {
-    Ok(Text::of(bytes.to_vec(alloc)?))
+    Text::copied(alloc, bytes)
 }
 
 /// Whether the line before this offset is a mark line.

@@ -3,14 +3,14 @@ ghost use Rattle.std.specs.Prelude.{◌≡◌, ◌&&◌, ◌^◌, ◌<◌, ◌�
 ghost use Rattle.go_syntax.specs.FileView.{file_of};
 ghost use Rattle.go_parse.specs.Outline.{IsOutlineOf, Outline, text_of, tree_of};
 ghost use Rattle.fix_engine.specs.Located.{constants_of, prints_of};
-ghost use Rattle.fix_engine.specs.Edits.{Ascend};
+ghost use Rattle.text_edits.specs.Applied.{Ascend};
 ghost use Rattle.fix_engine.specs.Report.{Within};
-ghost use Rattle.fix_engine.specs.Keeps.{Keeps};
+ghost use Rattle.text_edits.specs.Keeps.{Keeps};
 ghost use Rattle.fix_engine.specs.Plan.{Module, changed_main, contents, last_outline, made, made_by, made_of, module_of, package_of, ranges_in};
 ghost use Rattle.go_meaning_laws.specs.Typing.{well_typed};
 ghost use Rattle.fix_engine.specs.Answer.{IsFaultOf, IsFaultOfText, IsMadeOf, IsPlanOf};
 
-use crate::edits::{Edit, replaced};
+use crate::edits::replaced;
 use crate::files::{PlannedFile, SourceFile};
 use crate::marks::marks_of;
 use crate::module_file::module_path;
@@ -23,6 +23,7 @@ use crate::typing::are_typed;
 use go_parse::{FirstFault, parse_first};
 use go_syntax::{FileTree, MAX_FILE_BYTES, NoMemory, Text};
 use std::alloc::Global;
+use text_edits::Edit;
 
 /// The constants of a file and what it prints.
 #[derive(Drop)]

@@ -3,11 +3,11 @@ ghost use Rattle.std.specs.Prelude.{◌≡◌, [], ◌∷◌, ◌++◌, ◌<◌,
 ghost use Rattle.fix_engine.specs.Chain.{replaced_names, last_name};
 ghost use Rattle.fix_engine.specs.Settled.{constant_edits, constant_steps, edit_to, edits_next, last_if_replaced, print_edits, print_steps, settled_constants, settled_next, step_at, steps_next, steps_of};
 
-use crate::edits::Edit;
 use crate::lookup::stands_for;
 use crate::outline::{Constant, Operand, copy};
-use go_syntax::{NoMemory, Text};
+use go_syntax::{NoMemory, Span, Text};
 use std::alloc::Global;
+use text_edits::Edit;
 
 /// A step of the run: the offset of its origin in the file as read, and the name that it replaced.
 #[derive(Drop)]
@@ -78,9 +78,11 @@ fn edit_of(alloc: Global, operand: &Operand, word: &Text) -> Result<Edit, NoMemo
     ensures { IfOk result (λ e. e ≡ edit_to operand.now word.now) }
 {
     Ok(Edit {
-        start: operand.start,
-        end: operand.end,
-        bytes: copy(alloc, word.items())?,
+        span: Span {
+            start: operand.start,
+            end: operand.end,
+        },
+        text: copy(alloc, word.items())?,
     })
 }
 

@@ -1,6 +1,6 @@
 -- A step of inlining keeps the kernel code of well-typed packages, and keeps them well typed.
-use Rattle.std.proofs.Common.{◌≡◌, ℕ, true, ◌&&◌, List, [], ◌∷◌, ◌++◌, Option, None, map, refl, ap, ◌∙◌}
-use Rattle.std.specs.Prelude.{is_none}
+use Rattle.std.proofs.Common.{◌≡◌, ℕ, true, not, ◌&&◌, ◌||◌, List, [], ◌∷◌, ◌++◌, Option, None, map, refl, ap, ◌∙◌}
+use Rattle.std.specs.Prelude.{is_none, bytes_eq, codes}
 use Rattle.std.specs.List.{list_all}
 use Rattle.std.proofs.lemmas.Bool.{and_parts}
 use Rattle.go_syntax.specs.Tree.{const_decl, no_exprs, expr_and, ValueSpecs, no_specs, spec}
@@ -8,7 +8,7 @@ use Rattle.go_syntax.specs.File.{Decl, values, func}
 use Rattle.go_kernel.specs.Kernel.{Term, Vals, Let}
 use Rattle.go_meaning_laws.specs.Package.{SourceTree, Package}
 use Rattle.go_meaning_laws.specs.Means.{Environment, Entity, constant, function, means, universe, constants_then, decls_then, files_then, package_block, environment}
-use Rattle.go_meaning_laws.specs.Typing.{is_empty, is_distinct, ok_decl, ok_file, well_typed}
+use Rattle.go_meaning_laws.specs.Typing.{is_empty, is_distinct, is_function, ok_decl, ok_file, has_main, well_typed}
 use Rattle.go_meaning_laws.specs.Translation.{decls_initial, files_functions, files_initial, package_code}
 use Rattle.go_meaning_laws.specs.Inlined.{InSpecs, InDecls, InFiles, InMembers, first, later, value, body}
 use Rattle.go_meaning_laws.proofs.KeptValues.{same, constant_step, function_step, EnvKept, none, entry, env_same, MeansKept, some, means_kept}
@@ -58,6 +58,12 @@ module _ {S : Type 0} (env : Environment S) where
       let rest : is_distinct xs' ≡ is_distinct xs = distinct_kept xs xs' ks in
       λ i. here i && rest i
 
+  function_kept : (x x' : Option (Entity S)) → MeansKept env x x' → is_function x' ≡ is_function x
+  function_kept _ _ none = refl
+  function_kept _ _ (some _ _ (same x)) = refl
+  function_kept _ _ (some _ _ (constant_step e e' k)) = refl
+  function_kept _ _ (some _ _ (function_step f f')) = refl
+
 -- ---- files
 
 module _ {S : Type 0} (env env' : Environment S) where
@@ -104,11 +110,14 @@ package_kept p fs k h =
     let q : Package _ = record p { files = fs } in
     let env : Environment _ = environment p in
     let kept : EnvKept env env (environment q) = files_env_step env p.files fs k universe in
-    let parts = and_parts (is_distinct (package_block p)) (list_all (ok_file env) p.files) h in
-    let is : KeepsFiles env (environment q) kept p.path p.files fs = files_step env (environment q) kept p.path p.files fs k parts.1 in
+    let parts = and_parts (is_distinct (package_block p)) (has_main p && list_all (ok_file env) p.files) h in
+    let files = and_parts (has_main p) (list_all (ok_file env) p.files) parts.1 in
+    let is : KeepsFiles env (environment q) kept p.path p.files fs = files_step env (environment q) kept p.path p.files fs k files.1 in
+    let block : EnvKept env (package_block p) (package_block q) = files_env_step env p.files fs k [] in
+    let main : has_main q ≡ has_main p = ap (λ b. not (bytes_eq p.name (codes "main")) || b) (function_kept env _ _ (means_kept env _ _ block (codes "main"))) in
     record {
       code = λ i. record { path = p.path; initial = is.initial i; functions = is.functions i };
-      ok = both _ _ (distinct_kept env _ _ (files_env_step env p.files fs k []) ∙ parts.0) is.ok;
+      ok = both _ _ (distinct_kept env _ _ block ∙ parts.0) (both _ _ (main ∙ files.0) is.ok);
     }
 
 pub record KeepsMembers {S : Type 0} (ps ps' : List (Package S)) : Type 0 where

@@ -1,6 +1,6 @@
 -- Spans make no difference to what a package does, nor to whether it is well typed.
-use Rattle.std.proofs.Common.{◌≡◌, ℕ, zero, suc, Bool, true, false, ◌&&◌, if◌then◌else◌, List, [], ◌∷◌, ◌++◌, length, Option, Some, None, map, refl, ap, ◌∙◌}
-use Rattle.std.specs.Prelude.{bytes_eq, is_some, is_none}
+use Rattle.std.proofs.Common.{◌≡◌, ℕ, zero, suc, Bool, true, false, not, ◌&&◌, ◌||◌, if◌then◌else◌, List, [], ◌∷◌, ◌++◌, length, Option, Some, None, map, refl, ap, ◌∙◌}
+use Rattle.std.specs.Prelude.{bytes_eq, codes, is_some, is_none}
 use Rattle.std.specs.Option.{option_map}
 use Rattle.std.specs.List.{list_all}
 use Rattle.go_syntax.specs.Tree.{Expr, ident, int_lit, call, Exprs, no_exprs, expr_and, Stmt, const_decl, eval, Stmts, no_stmts, stmt_and, ValueSpecs, no_specs, spec}
@@ -11,7 +11,7 @@ use Rattle.go_kernel.specs.Kernel.{Term, Vals, Both, Let}
 use Rattle.go_meaning_laws.specs.Package.{SourceTree, Package}
 use Rattle.go_meaning_laws.specs.Means.{Environment, Entity, constant, function, predeclared, means, expression_of, constant_meant, universe, constants_then, decls_then, files_then, package_block, environment}
 use Rattle.go_meaning_laws.specs.Constants.{value_within, constant_value}
-use Rattle.go_meaning_laws.specs.Typing.{is_empty, is_distinct, is_println, all_have_values, ok_stmt, ok_stmts, ok_constants, has_no_signature, ok_decl, ok_file, well_typed}
+use Rattle.go_meaning_laws.specs.Typing.{is_empty, is_distinct, is_function, is_println, all_have_values, ok_stmt, ok_stmts, ok_constants, has_no_signature, ok_decl, ok_file, well_typed}
 use Rattle.go_meaning_laws.specs.Translation.{number_term, exprs_term, call_term, stmt_term, stmts_term, decl_functions, decls_functions, decls_initial, files_functions, files_initial, package_code}
 use Rattle.go_meaning_laws.specs.Inlined.{bare_source, bare_package}
 
@@ -42,6 +42,12 @@ module _ {S : Type 0} where
   none-bare : (x : Option (Entity S)) → is_none (option_map bare_entity x) ≡ is_none x
   none-bare (Some x) = refl
   none-bare None = refl
+
+  function-bare : (x : Option (Entity S)) → is_function (option_map bare_entity x) ≡ is_function x
+  function-bare (Some (constant e)) = refl
+  function-bare (Some (function f)) = refl
+  function-bare (Some (predeclared n)) = refl
+  function-bare None = refl
 
   distinct-bare : (env : Environment S) → is_distinct (bare_env env) ≡ is_distinct env
   distinct-bare [] = refl
@@ -222,4 +228,9 @@ module _ {S : Type 0} where
   well_typed-bare p =
       let distinct : is_distinct (package_block (bare_package p)) ≡ is_distinct (package_block p) = ap is_distinct (files_env-bare p.files []) ∙ distinct-bare (package_block p) in
       let files : list_all (ok_file (environment (bare_package p))) (map bare_source p.files) ≡ list_all (ok_file (environment p)) p.files = ap (λ env. list_all (ok_file env) (map bare_source p.files)) (environment-bare p) ∙ ok_files-bare (environment p) p.files in
-      λ i. distinct i && files i
+      let main : is_function (means (package_block (bare_package p)) (codes "main")) ≡ is_function (means (package_block p) (codes "main")) = ap (λ env. is_function (means env (codes "main"))) (files_env-bare p.files []) ∙ ap is_function (means-bare (package_block p) (codes "main")) ∙ function-bare (means (package_block p) (codes "main")) in
+      λ i. distinct i && ((not (bytes_eq p.name (codes "main")) || main i) && files i)
+
+  -- the expression of the constant that a name means
+  pub constant_meant-bare : (p : Package S) (name : List ℕ) → constant_meant (environment (bare_package p)) name ≡ option_map bare_expr (constant_meant (environment p) name)
+  constant_meant-bare p name = ap (λ env. constant_meant env name) (environment-bare p) ∙ ap expression_of (means-bare (environment p) name) ∙ meant-bare (environment p) (means (environment p) name)

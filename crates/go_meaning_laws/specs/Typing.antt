@@ -1,5 +1,5 @@
--- Well-typed packages (Go specification, Declarations and scope; Constant declarations; Function declarations; Calls; Bootstrapping).
-use Rattle.std.specs.Prelude.{ℕ, Bool, true, false, not, ◌&&◌, List, [], ◌∷◌, Option, Some, None, is_some, is_none, bytes_eq, codes}
+-- Well-typed packages (Go specification, Declarations and scope; Constant declarations; Function declarations; Calls; Bootstrapping; Program execution).
+use Rattle.std.specs.Prelude.{ℕ, Bool, true, false, not, ◌&&◌, ◌||◌, List, [], ◌∷◌, Option, Some, None, is_some, is_none, bytes_eq, codes}
 use Rattle.std.specs.List.{list_all}
 use Rattle.go_syntax.specs.Tree.{NameAt, TypeExpr, Sig, Expr, ident, call, Exprs, no_exprs, expr_and, Stmt, const_decl, eval, Stmts, no_stmts, stmt_and, ValueSpecs, no_specs, spec}
 use Rattle.go_syntax.specs.File.{Func, Decl, values, func}
@@ -51,6 +51,15 @@ module _ {S : Type 0} (env : Environment S) where
   abbrev pub ok_file : SourceTree S → Bool
   ok_file f = is_empty f.tree.imports && list_all ok_decl f.tree.decls
 
--- the package is well typed
-abbrev pub well_typed : {S : Type 0} → Package S → Bool
-well_typed p = is_distinct (package_block p) && list_all (ok_file (environment p)) p.files
+module _ {S : Type 0} where
+  abbrev pub is_function : Option (Entity S) → Bool
+  is_function (Some (function f)) = true
+  is_function x = false
+
+  -- a package `main` declares a function `main`
+  abbrev pub has_main : Package S → Bool
+  has_main p = not (bytes_eq p.name (codes "main")) || is_function (means (package_block p) (codes "main"))
+
+  -- the package is well typed
+  abbrev pub well_typed : Package S → Bool
+  well_typed p = is_distinct (package_block p) && (has_main p && list_all (ok_file (environment p)) p.files)

@@ -18,7 +18,9 @@ use Rattle.gofix_cli.specs.Words.{are_accepted, lists_module}
 use Rattle.gofix_cli.specs.Lines.{IfTold}
 use Rattle.gofix_cli.specs.Files.{content_of, contents_of, texts_of, write_of, writes_of, AreWritesOf}
 use Rattle.gofix_cli.specs.Causes.{HasCause, PassedChecks, IfUnwritten, StopsReading, MayStop}
-use Rattle.gofix_cli.specs.Verdict.{Verdict, verdict_of, verdict, IsUpTo}
+use Rattle.gofix_cli.specs.Verdict.{Verdict, verdict_of, verdict, IsDone, IsRefused, IsAnswer, IsUpTo}
+use Rattle.gofix_cli.proofs.DoneLemmas.{planned_is_done}
+use Rattle.gofix_cli.proofs.JudgedLemmas.{refused_as, answer_as}
 
 -- ---- any status
 
@@ -126,17 +128,17 @@ accepted_verdict words files e = rw e refl
 pub refused_verdict : (words : List (List ℕ)) (files : List HeldFile) → are_accepted words ≡ false → (verdict words files).status ≡ Usage
 refused_verdict words files e = rw e refl
 
-pub accepted_refused : (words : List (List ℕ)) (held : Option (List HeldFile)) (r : Refusal) → are_accepted words ≡ true → IfSome held (λ files. (verdict_for files).status ≡ Refused r) → IfSome held (λ files. (verdict words files).status ≡ Refused r)
+pub accepted_refused : (words : List (List ℕ)) (held : Option (List HeldFile)) (r : Refusal) → are_accepted words ≡ true → IfSome held (λ files. (verdict_for files).status ≡ Refused r) → IfSome held (λ files. IsRefused words files r)
 accepted_refused words None r e is = tt
-accepted_refused words (Some files) r e is = ap (λ v. v.status) (accepted_verdict words files e) ∙ is
+accepted_refused words (Some files) r e is = refused_as words files r (accepted_verdict words files e) is
 
-pub accepted_complete : (words : List (List ℕ)) (held : Option (List HeldFile)) (s : Status) → are_accepted words ≡ true → IfSome held (λ files. (s ≡ (verdict_for files).status) ⊎ (s ≡ NoMemory)) → IfSome held (λ files. (s ≡ (verdict words files).status) ⊎ (s ≡ NoMemory))
+pub accepted_complete : (words : List (List ℕ)) (held : Option (List HeldFile)) (s : Status) → are_accepted words ≡ true → IfSome held (λ files. (s ≡ (verdict_for files).status) ⊎ (s ≡ NoMemory)) → IfSome held (λ files. IsAnswer words files s)
 accepted_complete words None s e is = tt
-accepted_complete words (Some files) s e is = rw (accepted_verdict words files e) is
+accepted_complete words (Some files) s e is = answer_as words files s (accepted_verdict words files) (rw (accepted_verdict words files e) is)
 
-pub usage_complete : (words : List (List ℕ)) (held : Option (List HeldFile)) → are_accepted words ≡ false → IfSome held (λ files. (Usage ≡ (verdict words files).status) ⊎ (Usage ≡ NoMemory))
+pub usage_complete : (words : List (List ℕ)) (held : Option (List HeldFile)) → are_accepted words ≡ false → IfSome held (λ files. IsAnswer words files Usage)
 usage_complete words None e = tt
-usage_complete words (Some files) e = inl (sym (refused_verdict words files e))
+usage_complete words (Some files) e = answer_as words files Usage (accepted_verdict words files) (inl (sym (refused_verdict words files e)))
 
 -- ---- a run that has a plan
 
@@ -145,12 +147,12 @@ planned_verdict words files p w e = accepted_verdict words files e ∙ ap (verdi
 
 -- all the files are replaced
 pub planned_done : (words : List (List ℕ)) (before now : Option (List HeldFile)) (p : Plan) → are_accepted words ≡ true → IfSome before (λ files. AreWritesOf files p) → now ≡ option_map (written (writes_of p.writes.items)) before
-    → IfSome before (λ files. ((verdict words files).status ≡ Done) × (now ≡ Some (verdict words files).files))
+    → IfSome before (λ files. IsDone files (verdict words files) × (now ≡ Some (verdict words files).files))
 planned_done words None now p e plan is = tt
 planned_done words (Some files) now p e plan is =
     let v = planned_verdict words files p plan e in
     let left = all_left (Some files) now (writes_of p.writes.items) (map (λ a. a.1) plan.after) plan.writes is in
-    rw v (refl, left)
+    rw v (planned_is_done files plan.after p.report p.inlined plan.outcome, left)
 
 pub planned_report : (words : List (List ℕ)) (before : Option (List HeldFile)) (p : Plan) (old new : Option (List ℕ)) → are_accepted words ≡ true → IfSome before (λ files. AreWritesOf files p) → new ≡ appended old p.report
     → IfSome before (λ files. new ≡ appended old (verdict words files).bytes)
@@ -159,15 +161,15 @@ planned_report words (Some files) p old new e plan is = rw (planned_verdict word
 
 -- and the report is cut off
 pub planned_part : (words : List (List ℕ)) (before now : Option (List HeldFile)) (p : Plan) (old new : Option (List ℕ)) → are_accepted words ≡ true → IfSome before (λ files. AreWritesOf files p) → now ≡ option_map (written (writes_of p.writes.items)) before → IsPartOut old new p.report
-    → IfSome before (λ files. ((verdict words files).status ≡ Done) × (now ≡ Some (verdict words files).files) × IsPartOut old new (verdict words files).bytes)
+    → IfSome before (λ files. IsDone files (verdict words files) × (now ≡ Some (verdict words files).files) × IsPartOut old new (verdict words files).bytes)
 planned_part words None now p old new e plan is part = tt
 planned_part words (Some files) now p old new e plan is part =
     let done = planned_done words (Some files) now p e plan is in
     (done.0, done.1, rw (planned_verdict words files p plan e) part)
 
-pub planned_complete : (words : List (List ℕ)) (before now : Option (List HeldFile)) (p : Plan) → are_accepted words ≡ true → IfSome before (λ files. AreWritesOf files p) → IfSome before (λ files. (Done ≡ (verdict words files).status) ⊎ (Done ≡ NoMemory))
+pub planned_complete : (words : List (List ℕ)) (before now : Option (List HeldFile)) (p : Plan) → are_accepted words ≡ true → IfSome before (λ files. AreWritesOf files p) → IfSome before (λ files. IsAnswer words files Done)
 planned_complete words None now p e plan = tt
-planned_complete words (Some files) now p e plan = inl (sym (ap (λ v. v.status) (planned_verdict words files p plan e)))
+planned_complete words (Some files) now p e plan = answer_as words files Done (accepted_verdict words files) (inl (sym (ap (λ v. v.status) (planned_verdict words files p plan e))))
 
 -- ---- a run whose plan is cut off
 
@@ -211,7 +213,7 @@ planned_fault words (Some files) now p i k e plan within at is =
     let found = some_and now (λ fs. AreNewUpTo i news files fs) (fault_left (Some files) now (writes_of p.writes.items) news i k plan.writes (omega (arith, length-map p.writes.items write_of)) at is) in
     let same : length news ≡ length files = length-map plan.after (λ (a : List ℕ × List ℕ). a.1) ∙ length-planned (contents_of files) [] (module_of (contents_of files)) plan.after p.report p.inlined plan.outcome ∙ length-map files content_of in
     rw (planned_verdict words files p plan e) (record {
-      status = refl;
+      done = planned_is_done files plan.after p.report p.inlined plan.outcome;
       within = found.2.within;
       differs = λ f. found.2.differs (sym (new_bytes i files news same) ∙ f);
       left = found.1 ∙ ap Some (found.2.left ∙ front_then_rest i files news);

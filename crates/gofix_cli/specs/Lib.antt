@@ -4,5 +4,4 @@ pub mod Lines
 pub mod Files
 pub mod Causes
 pub mod Verdict
-pub mod Run
 pub mod Headline

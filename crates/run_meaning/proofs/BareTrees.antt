@@ -1,6 +1,6 @@
--- The trees of a file's parts without their spans, and steps of inlining in them.
-use Rattle.std.proofs.Common.{◌≡◌, ℕ, ◌+◌, Bool, true, false, if◌then◌else◌, List, [], ◌∷◌, ◌++◌, Some, None, map, refl, ap, ◌∙◌}
-use Rattle.std.specs.Prelude.{bytes_eq, codes}
+-- The trees of a file's parts without their spans.
+use Rattle.std.proofs.Common.{◌≡◌, ℕ, ◌+◌, false, List, [], ◌∷◌, ◌++◌, None, map, refl, ap, ◌∙◌}
+use Rattle.std.specs.Prelude.{codes}
 use Rattle.go_tree.specs.declared.spans.Span.{Span}
 use Rattle.go_syntax.specs.Tree.{Expr, ident, int_lit, call, no_exprs, expr_and, Stmt, const_decl, eval, Stmts, no_stmts, stmt_and, no_specs, spec}
 use Rattle.go_syntax.specs.File.{Decl, values, func}
@@ -8,12 +8,10 @@ use Rattle.go_syntax.specs.Bare.{bare_expr, bare_stmts}
 use Rattle.go_syntax.specs.FileBare.{bare_decl}
 use Rattle.go_parse.specs.Outline as outline
 use Rattle.go_meaning_laws.specs.Package.{Package}
-use Rattle.go_meaning_laws.specs.Means.{Environment, constant, means, decls_then, universe, environment, constant_meant, expression_of}
-use Rattle.go_meaning_laws.specs.Inlined.{InExpr, InStmts, InDecls, first, later, operand, value, body, bare_package}
+use Rattle.go_meaning_laws.specs.Inlined.{bare_package}
 use Rattle.fix_engine.specs.declared.outline.Operand.{Operand}
 use Rattle.fix_engine.specs.declared.outline.Constant.{Constant}
 use Rattle.fix_engine.specs.Located.{plain, plain_constant, outline_of_parts}
-use Rattle.fix_engine.specs.Chain.{value_named}
 use Rattle.fix_engine.specs.Plan.{package_of}
 
 abbrev pub Bare : Type 0
@@ -77,32 +75,3 @@ package-bare path cs xs =
     let at : ℕ = outline.after_constants 14 (map plain_constant cs) in
     let all : map bare_decl (outline.constant_trees 14 (map plain_constant cs) ++ outline.main_tree at (map plain xs) ∷ []) ≡ decls_in cs (main_in xs ∷ []) = decls-bare 14 cs (outline.main_tree at (map plain xs) ∷ []) ∙ ap (λ d. decls_in cs (d ∷ [])) (main-bare at xs) in
     λ i. record { path = path; name = codes "main"; files = record { path = codes "main.go"; tree = record { package_name = record { span = tt; name = codes "main" }; imports = []; decls = all i } } ∷ [] }
-
--- ---- what names mean
-
-meant_in : (cs : List Constant) (ds : List (Decl Bare)) (word : List ℕ) (x : Operand) → value_named cs word ≡ Some x → constant_meant (decls_then (decls_in cs ds) universe) word ≡ Some (operand_in x)
-meant_in [] ds word x e = cc
-meant_in (c ∷ cs) ds word x e = go (bytes_eq c.name word) (meant_in cs ds word x) e
-  where
-    go : (b : Bool) → (value_named cs word ≡ Some x → constant_meant (decls_then (decls_in cs ds) universe) word ≡ Some (operand_in x)) → (if b then Some c.value else value_named cs word) ≡ Some x
-        → expression_of (if b then Some (constant (operand_in c.value)) else means (decls_then (decls_in cs ds) universe) word) ≡ Some (operand_in x)
-    go true on h = let same : c.value ≡ x = cc in ap (λ y. Some (operand_in y)) same
-    go false on h = on h
-
-pub meant : (path : List ℕ) (cs : List Constant) (xs : List Operand) (word : List ℕ) (x : Operand) → value_named cs word ≡ Some x → constant_meant (environment (package_in path cs xs)) word ≡ Some (operand_in x)
-meant path cs xs = meant_in cs (main_in xs ∷ [])
-
--- ---- steps
-
-module _ (env : Environment Bare) where
-  pub in_constants : (done : List Constant) (c : Constant) (v : Operand) (cs : List Constant) (ds : List (Decl Bare)) → InExpr env (operand_in c.value) (operand_in v) → InDecls env (decls_in (done ++ c ∷ cs) ds) (decls_in (done ++ record c { value = v } ∷ cs) ds)
-  in_constants [] c v cs ds k = first (value (first (first k)))
-  in_constants (d ∷ done) c v cs ds k = later (in_constants done c v cs ds k)
-
-  in_prints : (done : List Operand) (x x' : Operand) (xs : List Operand) → InExpr env (operand_in x) (operand_in x') → InStmts env (prints_in (done ++ x ∷ xs)) (prints_in (done ++ x' ∷ xs))
-  in_prints [] x x' xs k = first (operand (first k))
-  in_prints (d ∷ done) x x' xs k = later (in_prints done x x' xs k)
-
-  pub in_main : (cs : List Constant) (done : List Operand) (x x' : Operand) (xs : List Operand) → InExpr env (operand_in x) (operand_in x') → InDecls env (decls_in cs (main_in (done ++ x ∷ xs) ∷ [])) (decls_in cs (main_in (done ++ x' ∷ xs) ∷ []))
-  in_main [] done x x' xs k = first (body _ (in_prints done x x' xs k))
-  in_main (c ∷ cs) done x x' xs k = later (in_main cs done x x' xs k)

@@ -1,13 +1,18 @@
 -- Small modules before and after the run: their texts, and what they show, computed.
-use Rattle.std.proofs.Common.{◌≡◌, ℕ, true, false, List, [], ◌∷◌, refl}
+use Rattle.std.proofs.Common.{◌≡◌, ℕ, true, false, List, [], ◌∷◌, refl, arith}
 use Rattle.std.specs.Prelude.{codes, pos}
-use Rattle.std.specs.List.{list_all}
+use Rattle.std.specs.Fmt.{digits}
 use Rattle.go_kernel.specs.Kernel.{Event, Println, Number, Int, Ended, prim}
-use Rattle.go_parse.specs.Outline.{named, number, Outline, text_of}
+use Rattle.go_parse.specs.Outline.{named, number, Outline, text_of, IsOutlineOf}
 use Rattle.go_meaning_laws.specs.Translation.{shown_by}
-use Rattle.fix_engine.specs.Plan.{Module, marks, last_outline}
+use Rattle.fix_engine.specs.Plan.{Module, marks, last_outline, made}
 use Rattle.fix_engine.specs.Located.{constants_of, prints_of}
-use Rattle.run_meaning.specs.Meaning.{packages_of, stands_for_none, NoUseIsLeft}
+use Rattle.fix_engine.specs.ModuleFile.{IsModuleFile}
+use Rattle.go_parse.specs.Words.{is_name, is_entry, is_predeclared, is_keyword, is_identifier, is_number}
+use Rattle.run_meaning.specs.Sites.{ConstWord}
+use Rattle.run_meaning.specs.Meaning.{packages_of, IsInlining}
+use Rattle.run_meaning.proofs.Inlining.{inlining}
+use Rattle.run_meaning.proofs.Settled.{all_stop, NoUseIsLeft}
 
 abbrev path : List ℕ
 path = codes "example.com/m"
@@ -41,7 +46,7 @@ unfolding prim
 marked_shows_after n = refl
 
 -- before, what is printed is a use that can be replaced; after, nothing is
-marked_uses : list_all (stands_for_none (marks (module_with marked) []) (constants_of marked)) (prints_of marked) ≡ false
+marked_uses : all_stop (marks (module_with marked) []) (constants_of marked) 0 (prints_of marked) ≡ false
 marked_uses = refl
 
 marked_uses_after : NoUseIsLeft (module_with marked) []
@@ -83,3 +88,25 @@ unmarked_after = refl
 unmarked_shows : (n : ℕ) → shown_by (packages_of path unmarked) path [] n ≡ Ended (line 1 ∷ [])
 unfolding prim
 unmarked_shows n = refl
+
+-- ---- what inlining makes of the first module: its one step, and its report
+
+module_file : IsModuleFile (codes "module example.com/m\n\ngo 1.22\n") path
+module_file = record { valid = refl; spelled = refl }
+
+marked_outline : IsOutlineOf marked (text_of marked)
+unfolding is_name is_entry is_predeclared is_keyword is_identifier is_number
+marked_outline = record { small = omega arith; valid = refl; spelled = refl }
+
+abbrev marked_inlining : IsInlining ((codes "go.mod", codes "module example.com/m\n\ngo 1.22\n") ∷ (codes "main.go", text_of marked) ∷ []) ((codes "go.mod", codes "module example.com/m\n\ngo 1.22\n") ∷ (codes "main.go", text_of (last_outline (module_with marked) [])) ∷ []) [] (made (module_with marked) []).report
+marked_inlining = inlining (codes "module example.com/m\n\ngo 1.22\n") (text_of marked) path marked module_file marked_outline [] refl
+
+marked_log : marked_inlining.log ≡ record { file = codes "main.go"; origin = record { start = 93; end = 96 }; home = path; name = codes "Ptr"; form = ConstWord } ∷ []
+marked_log = refl
+
+marked_report : (made (module_with marked) []).report ≡ codes "main.go:9:10: inlined example.com/m.Ptr as const\n"
+unfolding digits
+marked_report = refl
+
+unmarked_report : (made (module_with unmarked) []).report ≡ []
+unmarked_report = refl

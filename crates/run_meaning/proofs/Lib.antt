@@ -1,6 +1,15 @@
 pub mod BareTrees
-pub mod Steps
 pub mod Validity
 pub mod Settled
-pub mod SameMeaning
+pub mod RunSteps
+pub mod OneRun
+pub mod LaidOut
+pub mod Replacing
+pub mod Cuts
+pub mod Origins
+pub mod Programs
+pub mod MarkLemmas
+pub mod ReportLemmas
+pub mod Inlining
+pub mod Judged
 mod Examples

@@ -12,20 +12,19 @@ use Rattle.fix_engine.specs.Typed.{ends_within, are_distinct, values_end, operan
 use Rattle.go_parse.specs.Outline.{IsOutlineOf}
 use Rattle.go_meaning_laws.specs.Typing.{well_typed}
 use Rattle.fix_engine.specs.Located.{constants_of, prints_of}
-use Rattle.fix_engine.specs.Plan.{Module, package_of, marks, most, last_constants}
+use Rattle.fix_engine.specs.Plan.{Module, package_of, marks, most, last_constants, last_prints}
 use Rattle.fix_engine.proofs.TypingLemmas.{well_typed-outline}
-use Rattle.run_meaning.specs.Meaning.{NoUseIsLeft}
 
-both : (a b : Bool) → a ≡ true → b ≡ true → (a && b) ≡ true
+pub both : (a b : Bool) → a ≡ true → b ≡ true → (a && b) ≡ true
 both a b e f = rw (e, f) refl
 
 module _ (marks : List (List ℕ)) where
   -- a chain of names has an end within so many steps
-  abbrev stops : List Constant → ℕ → List ℕ → Bool
+  abbrev pub stops : List Constant → ℕ → List ℕ → Bool
   stops cs zero word = is_none (stands_for marks cs word)
   stops cs (suc n) word = elim (stands_for marks cs word) [ None ↦ true | Some next ↦ stops cs n next ]
 
-  abbrev operand_stops : List Constant → ℕ → Operand → Bool
+  abbrev pub operand_stops : List Constant → ℕ → Operand → Bool
   operand_stops cs n x = if x.named then stops cs n x.word else true
 
   -- ---- at the end of a chain stands a name that is not replaced
@@ -43,7 +42,7 @@ module _ (marks : List (List ℕ)) where
   -- ---- a value is settled: names that stand for it now stand for the end of its chain
 
   -- what a name stands for in the two lists: the same, or the end in place of the old value
-  data Moves (cs cs' : List Constant) (word : List ℕ) : Type 0 where
+  pub data Moves (cs cs' : List Constant) (word : List ℕ) : Type 0 where
     same : stands_for marks cs' word ≡ stands_for marks cs word → Moves cs cs' word
     shorter : (old last : List ℕ) → stands_for marks cs word ≡ Some old → stands_for marks cs' word ≡ Some last → is_none (stands_for marks cs last) ≡ true → Moves cs cs' word
 
@@ -63,7 +62,7 @@ module _ (marks : List (List ℕ)) where
         go None k = refl
         go (Some next) k = cc
 
-    still_stops : (n : ℕ) (word : List ℕ) → stops cs n word ≡ true → stops cs' n word ≡ true
+    pub still_stops : (n : ℕ) (word : List ℕ) → stops cs n word ≡ true → stops cs' n word ≡ true
     still_stops zero word h = none_stays word h
     still_stops (suc n) word h = by (moves word) (λ next k. still_stops n next k)
       where
@@ -75,7 +74,7 @@ module _ (marks : List (List ℕ)) where
         by (same e) more = ap (λ o. elim o as (λ _. Bool) [ None ↦ true | Some next ↦ stops cs' n next ]) e ∙ on (stands_for marks cs word) more h
         by (shorter old last e k s) more = ap (λ o. elim o as (λ _. Bool) [ None ↦ true | Some next ↦ stops cs' n next ]) k ∙ none_stops n last (none_stays last s)
 
-    operand_still : (n : ℕ) (x : Operand) → operand_stops cs n x ≡ true → operand_stops cs' n x ≡ true
+    pub operand_still : (n : ℕ) (x : Operand) → operand_stops cs n x ≡ true → operand_stops cs' n x ≡ true
     operand_still n x h = go x.named h
       where
         go : (b : Bool) → (if b then stops cs n x.word else true) ≡ true → (if b then stops cs' n x.word else true) ≡ true
@@ -84,23 +83,23 @@ module _ (marks : List (List ℕ)) where
 
   -- ---- one value is settled
 
-  name_some : (x : Operand) → x.named ≡ true → name_in (Some x) ≡ Some x.word
+  pub name_some : (x : Operand) → x.named ≡ true → name_in (Some x) ≡ Some x.word
   name_some x e = ap (λ b. if b then Some x.word else None) e
 
   -- an operand that is settled is a number, or a name that is not replaced
-  data Ends (cs : List Constant) (x v : Operand) : Type 0 where
+  pub data Ends (cs : List Constant) (x v : Operand) : Type 0 where
     kept : v ≡ x → Ends cs x v
     ended : x.named ≡ true → v.named ≡ true → is_none (stands_for marks cs v.word) ≡ true → Ends cs x v
 
   module _ (n : ℕ) (cs : List Constant) (x : Operand) (h : operand_stops cs n x ≡ true) where
-    ends : Ends cs x (settled marks n cs x)
+    pub ends : Ends cs x (settled marks n cs x)
     ends = go x.named refl h
       where
         go : (b : Bool) → x.named ≡ b → (if b then stops cs n x.word else true) ≡ true → Ends cs x (if b then record x { word = last_name marks cs n x.word } else x)
         go true e k = ended e e (at_end cs n x.word k)
         go false e k = kept refl
 
-    settled_stops : operand_stops cs 0 (settled marks n cs x) ≡ true
+    pub settled_stops : operand_stops cs 0 (settled marks n cs x) ≡ true
     settled_stops = go x.named refl h
       where
         go : (b : Bool) → x.named ≡ b → (if b then stops cs n x.word else true) ≡ true → operand_stops cs 0 (if b then record x { word = last_name marks cs n x.word } else x) ≡ true
@@ -108,11 +107,11 @@ module _ (marks : List (List ℕ)) where
         go false e k = ap (λ b. if b then is_none (stands_for marks cs x.word) else true) e
 
   -- what is found in a list in which one value is another
-  data Replaced (x v : Operand) : Option Operand → Option Operand → Type 0 where
+  pub data Replaced (x v : Operand) : Option Operand → Option Operand → Type 0 where
     other : (o : Option Operand) → Replaced x v o o
     this : Replaced x v (Some x) (Some v)
 
-  replaced : (done : List Constant) (c : Constant) (v : Operand) (cs : List Constant) (word : List ℕ) → Replaced c.value v (value_named (done ++ c ∷ cs) word) (value_named (done ++ record c { value = v } ∷ cs) word)
+  pub replaced : (done : List Constant) (c : Constant) (v : Operand) (cs : List Constant) (word : List ℕ) → Replaced c.value v (value_named (done ++ c ∷ cs) word) (value_named (done ++ record c { value = v } ∷ cs) word)
   replaced [] c v cs word = go (bytes_eq c.name word)
     where
       go : (b : Bool) → Replaced c.value v (if b then Some c.value else value_named cs word) (if b then Some v else value_named cs word)
@@ -131,31 +130,31 @@ module _ (marks : List (List ℕ)) where
   by_found cs cs' x v (kept k) word true e _ _ f f' this = same ((λ i. if e i then name_in (f' i) else None) ∙ ap (λ y. name_in (Some y)) k ∙ sym (λ i. if e i then name_in (f i) else None))
   by_found cs cs' x v (ended n n' s) word true e _ _ f f' this = shorter x.word v.word ((λ i. if e i then name_in (f i) else None) ∙ name_some x n) ((λ i. if e i then name_in (f' i) else None) ∙ name_some v n') s
 
-  moves_by : (done : List Constant) (c : Constant) (v : Operand) (cs : List Constant) → Ends (done ++ c ∷ cs) c.value v → (word : List ℕ) → Moves (done ++ c ∷ cs) (done ++ record c { value = v } ∷ cs) word
+  pub moves_by : (done : List Constant) (c : Constant) (v : Operand) (cs : List Constant) → Ends (done ++ c ∷ cs) c.value v → (word : List ℕ) → Moves (done ++ c ∷ cs) (done ++ record c { value = v } ∷ cs) word
   moves_by done c v cs en word = by_found _ _ c.value v en word (among marks word) refl _ _ refl refl (replaced done c v cs word)
 
   -- ---- the run
 
-  abbrev all_stop : List Constant → ℕ → List Operand → Bool
+  abbrev pub all_stop : List Constant → ℕ → List Operand → Bool
   all_stop cs n xs = list_all (operand_stops cs n) xs
 
-  abbrev values_stop : List Constant → ℕ → List Constant → Bool
+  abbrev pub values_stop : List Constant → ℕ → List Constant → Bool
   values_stop cs n ds = list_all (λ c. operand_stops cs n c.value) ds
 
   module _ (cs cs' : List Constant) (moves : (word : List ℕ) → Moves cs cs' word) (n : ℕ) where
-    all_still : (xs : List Operand) → all_stop cs n xs ≡ true → all_stop cs' n xs ≡ true
+    pub all_still : (xs : List Operand) → all_stop cs n xs ≡ true → all_stop cs' n xs ≡ true
     all_still [] h = refl
     all_still (x ∷ xs) h = let parts = and_parts (operand_stops cs n x) (all_stop cs n xs) h in both _ _ (operand_still cs cs' moves n x parts.0) (all_still xs parts.1)
 
-    values_still : (ds : List Constant) → values_stop cs n ds ≡ true → values_stop cs' n ds ≡ true
+    pub values_still : (ds : List Constant) → values_stop cs n ds ≡ true → values_stop cs' n ds ≡ true
     values_still [] h = refl
     values_still (d ∷ ds) h = let parts = and_parts (operand_stops cs n d.value) (values_stop cs n ds) h in both _ _ (operand_still cs cs' moves n d.value parts.0) (values_still ds parts.1)
 
-  record Settle (n : ℕ) (last : List Constant) (xs : List Operand) : Type 0 where
-    values : values_stop last 0 last ≡ true
-    prints : all_stop last n xs ≡ true
+  pub record Settle (n : ℕ) (last : List Constant) (xs : List Operand) : Type 0 where
+    pub values : values_stop last 0 last ≡ true
+    pub prints : all_stop last n xs ≡ true
 
-  constants_settle : (n : ℕ) (done cs : List Constant) (xs : List Operand) → values_stop (done ++ cs) 0 done ≡ true → values_stop (done ++ cs) n cs ≡ true → all_stop (done ++ cs) n xs ≡ true → Settle n (settled_constants marks n done cs) xs
+  pub constants_settle : (n : ℕ) (done cs : List Constant) (xs : List Operand) → values_stop (done ++ cs) 0 done ≡ true → values_stop (done ++ cs) n cs ≡ true → all_stop (done ++ cs) n xs ≡ true → Settle n (settled_constants marks n done cs) xs
   constants_settle n done [] xs front back uses =
       record { values = subst (λ l. values_stop l 0 done ≡ true) (append-nil done) front; prints = subst (λ l. all_stop l n xs ≡ true) (append-nil done) uses }
   constants_settle n done (c ∷ cs) xs front back uses =
@@ -207,13 +206,18 @@ module _ (marks : List (List ℕ)) where
         go true k on = by_value (value_named cs x.word) refl on k
         go false k on = refl
 
-    values_end_stop : (n : ℕ) (ds : List Constant) → values_end cs n ds ≡ true → values_stop cs n ds ≡ true
+    pub values_end_stop : (n : ℕ) (ds : List Constant) → values_end cs n ds ≡ true → values_stop cs n ds ≡ true
     values_end_stop n [] h = refl
     values_end_stop n (d ∷ ds) h = let parts = and_parts (ends_within cs n d.value) (values_end cs n ds) h in both _ _ (ends_stop n d.value parts.0) (values_end_stop n ds parts.1)
 
-    operands_end_stop : (n : ℕ) (xs : List Operand) → operands_end cs n xs ≡ true → all_stop cs n xs ≡ true
+    pub operands_end_stop : (n : ℕ) (xs : List Operand) → operands_end cs n xs ≡ true → all_stop cs n xs ≡ true
     operands_end_stop n [] h = refl
     operands_end_stop n (x ∷ xs) h = let parts = and_parts (ends_within cs n x) (operands_end cs n xs) h in both _ _ (ends_stop n x parts.0) (operands_end_stop n xs parts.1)
+
+-- after the run no operand is a use that could be replaced
+pub record NoUseIsLeft (m : Module) (only : List ℕ) : Type 0 where
+  pub values : values_stop (marks m only) (last_constants m only) 0 (last_constants m only) ≡ true
+  pub prints : all_stop (marks m only) (last_constants m only) 0 (last_prints m only) ≡ true
 
 pub none_left : (m : Module) (only : List ℕ) → IsOutlineOf m.outline m.text → well_typed (package_of m.path m.outline) ≡ true → NoUseIsLeft m only
 none_left m only is h =

@@ -1,10 +1,9 @@
 -- The run keeps outlines valid.
-use Rattle.std.proofs.Common.{◌≡◌, ℕ, zero, suc, Bool, true, false, not, ◌&&◌, ◌||◌, if◌then◌else◌, List, [], ◌∷◌, ◌++◌, Option, Some, None, map, refl, sym, ap, subst, ◌∙◌, append-nil}
+use Rattle.std.proofs.Common.{◌≡◌, ℕ, zero, suc, ◌+◌, Bool, true, false, not, ◌&&◌, ◌||◌, if◌then◌else◌, List, [], ◌∷◌, ◌++◌, Option, Some, None, map, refl, sym, ap, subst, ◌∙◌, append-nil}
 use Rattle.std.specs.Prelude.{bytes_eq}
 use Rattle.std.specs.List.{list_all}
 use Rattle.std.proofs.lemmas.Bool.{and_parts}
 use Rattle.std.proofs.lemmas.List.Folds.{list_all-append}
-use Rattle.go_syntax.specs.Tree.{ident}
 use Rattle.go_parse.specs.Words.{is_name}
 use Rattle.go_parse.specs.Outline as outline
 use Rattle.go_parse.specs.Outline.{is_operand, is_constant, is_named, Outline, is_outline}
@@ -12,10 +11,9 @@ use Rattle.fix_engine.specs.declared.outline.Operand.{Operand}
 use Rattle.fix_engine.specs.declared.outline.Constant.{Constant}
 use Rattle.fix_engine.specs.Chain.{value_named, stands_for, last_name}
 use Rattle.fix_engine.specs.Settled.{settled, settle_value, settled_constants, settled_prints}
-use Rattle.fix_engine.specs.Located.{plain, plain_constant, constants_of, prints_of}
+use Rattle.fix_engine.specs.Located.{plain, plain_constant, located, located_constants, located_prints, constants_of, prints_of, outline_of_parts}
 use Rattle.fix_engine.specs.Plan.{Module, marks, most, last_constants, last_prints, last_outline}
-use Rattle.run_meaning.proofs.BareTrees.{bare_operand}
-use Rattle.run_meaning.proofs.Steps.{StandsFor, stands_for_is, outline-parts}
+use Rattle.run_meaning.proofs.Replacing.{Stands, stands}
 
 abbrev valid_operand : Operand → Bool
 valid_operand x = is_operand (plain x)
@@ -28,10 +26,8 @@ both a b e f = rw (e, f) refl
 
 -- ---- names
 
--- the name or number that an operand's tree has
-named_operand : (a : outline.Operand) (next : List ℕ) → bare_operand a ≡ ident tt next → is_operand a ≡ true → is_name next ≡ true
-named_operand (outline.named word) next e h = let same : word ≡ next = cc in subst (λ w. is_name w ≡ true) same h
-named_operand (outline.number word) next e h = cc
+named_operand : (x : Operand) → x.named ≡ true → valid_operand x ≡ true → is_name x.word ≡ true
+named_operand x n h = subst (λ b. is_operand (if b then outline.named x.word else outline.number x.word) ≡ true) n h
 
 module _ (marks : List (List ℕ)) (cs : List Constant) (all : list_all valid_constant cs ≡ true) where
   value_valid : (ds : List Constant) (word : List ℕ) (x : Operand) → list_all valid_constant ds ≡ true → value_named ds word ≡ Some x → valid_operand x ≡ true
@@ -48,8 +44,8 @@ module _ (marks : List (List ℕ)) (cs : List Constant) (all : list_all valid_co
 
   next_valid : (word next : List ℕ) → stands_for marks cs word ≡ Some next → is_name next ≡ true
   next_valid word next e =
-      let s : StandsFor marks cs word next = stands_for_is marks cs word next e in
-      named_operand (plain s.of) next s.name (value_valid cs word s.of all s.declared)
+      let s : Stands marks cs word next = stands marks cs word next e in
+      ap is_name (sym s.same) ∙ named_operand s.of s.named (value_valid cs word s.of all s.declared)
 
   by_link : (n : ℕ) (word : List ℕ) (o : Option (List ℕ)) → stands_for marks cs word ≡ o → is_name word ≡ true → ((next : List ℕ) → is_name next ≡ true → is_name (last_name marks cs n next) ≡ true) → is_name (elim o as (λ _. List ℕ) [ None ↦ word | Some next ↦ last_name marks cs n next ]) ≡ true
   by_link n word None is h on = h
@@ -104,6 +100,23 @@ module _ (marks : List (List ℕ)) (n : ℕ) where
       let parts = and_parts (valid_operand x) (list_all valid_operand xs) h in
       let v : Valid marks cs all x (settled marks n cs x) = settled_valid marks cs all n x parts.0 in
       both _ _ v.operand (prints_valid cs xs all parts.1)
+
+-- ---- the parts of an outline, without their places
+
+plain-located : (at : ℕ) (a : outline.Operand) → plain (located at a) ≡ a
+plain-located at (outline.named word) = refl
+plain-located at (outline.number word) = refl
+
+plain-constants : (at : ℕ) (cs : List outline.Constant) → map plain_constant (located_constants at cs) ≡ cs
+plain-constants at [] = refl
+plain-constants at (c ∷ cs) = λ i. record c { value = plain-located (outline.value_at at c) c.value i } ∷ plain-constants (outline.after_constant at c) cs i
+
+plain-prints : (at : ℕ) (as' : List outline.Operand) → map plain (located_prints at as') ≡ as'
+plain-prints at [] = refl
+plain-prints at (a ∷ as') = λ i. plain-located (at + 9) a i ∷ plain-prints (outline.after_print at a) as' i
+
+outline-parts : (o : outline.Outline) → outline_of_parts (constants_of o) (prints_of o) ≡ o
+outline-parts o = λ i. record { constants = plain-constants 14 o.constants i; prints = plain-prints (outline.after_constants 14 o.constants + 14) o.prints i }
 
 all_constants : (cs : List Constant) → list_all is_constant (map plain_constant cs) ≡ list_all valid_constant cs
 all_constants [] = refl

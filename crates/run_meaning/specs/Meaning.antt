@@ -1,19 +1,22 @@
--- The packages of a module before and after the run, and what they have in common.
-use Rattle.std.specs.Prelude.{◌≡◌, ℕ, Bool, true, if◌then◌else◌, IsTrue, List, [], ◌∷◌, Some, is_none}
+-- What inlining makes of the files of a module.
+use Rattle.std.specs.Prelude.{◌≡◌, ℕ, ◌≤◌, true, false, IsTrue, List, [], ◌∷◌, length, map, codes}
 use Rattle.std.specs.List.{list_all}
 use Rattle.go_tree.specs.declared.spans.Span.{Span}
 use Rattle.go_syntax.specs.File.{File}
-use Rattle.go_parse.specs.Outline.{Outline, is_outline, text_of, tree_of, IsOutlineOf}
+use Rattle.go_parse.specs.Outline.{Outline, is_outline, text_of, tree_of}
+use Rattle.go_meaning_laws.specs.Package.{Package}
+use Rattle.go_parse.specs.declared.found.TheConstants.{MAX_OUTLINE_BYTES}
 use Rattle.go_meaning_laws.specs.Reads.{Reads}
+use Rattle.go_meaning_laws.specs.Typing.{well_typed}
 use Rattle.go_meaning_laws.specs.Packages.{Packages, WellTyped}
 use Rattle.go_meaning_laws.specs.SameMeaning.{SameMeaning}
-use Rattle.go_meaning_laws.specs.Inlined.{InlinedByRun}
+use Rattle.go_meaning_laws.specs.Inlined.{bare_package}
 use Rattle.fix_engine.specs.ModuleFile.{IsModuleFile}
-use Rattle.fix_engine.specs.Plan.{Module, module_of, package_of, marks, last_constants, last_prints, last_outline, planned, renewed, plan_of}
-use Rattle.fix_engine.specs.declared.outline.Operand.{Operand}
-use Rattle.fix_engine.specs.declared.outline.Constant.{Constant}
-use Rattle.fix_engine.specs.Chain.{stands_for}
-use Rattle.go_meaning_laws.specs.Typing.{well_typed}
+use Rattle.fix_engine.specs.Plan.{Outcome, refused, planned, package_of, plan_of}
+use Rattle.run_meaning.specs.Marks.{Marked}
+use Rattle.run_meaning.specs.Sites.{Logged}
+use Rattle.run_meaning.specs.Run.{Run, FilesKeep}
+use Rattle.run_meaning.specs.Report.{ReportOf}
 
 -- The module is one package, and none of its functions is marked.
 abbrev pub packages_of : List ℕ → Outline → Packages Span
@@ -30,46 +33,53 @@ pub record IsSource (text : List ℕ) (tree : File Span) : Type 0 where
 abbrev pub ReadAs : List (List ℕ × List ℕ) → Packages Span → Type 0
 ReadAs files P = Reads IsModuleFile IsSource files P.members
 
--- The old files and the new ones read as well-typed packages of the same meaning. The new ones come of the old ones by steps of inlining.
-pub record MeansTheSame (old new : List (List ℕ × List ℕ)) : Type 0 where
+-- What inlining makes of files, where constants count as marked whose full names begin with `only`: the old files read as a well-typed program, from which a run leads to a last one; the new files read as the last one, spans aside, which is well typed and means the same, no function being marked; each file keeps its bytes outside the run's ranges; and this is the report.
+pub record IsInlining (old new : List (List ℕ × List ℕ)) (only report : List ℕ) : Type 0 where
   pub before : Packages Span
   pub after : Packages Span
+  pub last : List (Package Span)
+  pub log : List (Logged Span)
   pub reads_before : ReadAs old before
   pub reads_after : ReadAs new after
   pub typed_before : WellTyped before
   pub typed_after : WellTyped after
-  pub run : InlinedByRun before after
+  pub run : Run (Marked old only before.members) before.members log last
+  pub last_read : map bare_package after.members ≡ map bare_package last
+  pub unmarked : before.marked ≡ []
   pub same : SameMeaning before after
+  pub keeps : FilesKeep log old new
+  pub reported : ReportOf (Marked old only before.members) old log last report
 
--- A name that doesn't stand for another one: it isn't that of a marked constant that is declared as a name. A number stands for none.
-abbrev pub stands_for_none : List (List ℕ) → List Constant → Operand → Bool
-stands_for_none names cs x = if x.named then is_none (stands_for names cs x.word) else true
+-- ---- which files are planned for
 
--- After the run no operand of the module is a use that could be replaced.
-pub record NoUseIsLeft (m : Module) (only : List ℕ) : Type 0 where
-  pub values : list_all (λ c. stands_for_none (marks m only) (last_constants m only) c.value) (last_constants m only) ≡ true
-  pub prints : list_all (stands_for_none (marks m only) (last_constants m only)) (last_prints m only) ≡ true
+-- The files are just `go.mod` and `main.go`, neither too long, and read as these packages.
+pub data HasForm : List (List ℕ × List ℕ) → List (Package Span) → Type 0 where
+  two_files : {mod_text text : List ℕ} {ps : List (Package Span)} → length mod_text ≤ MAX_OUTLINE_BYTES → length text ≤ MAX_OUTLINE_BYTES → Reads IsModuleFile IsSource ((codes "go.mod", mod_text) ∷ (codes "main.go", text) ∷ []) ps
+      → HasForm ((codes "go.mod", mod_text) ∷ (codes "main.go", text) ∷ []) ps
+
+-- Files are refused as not built where they are no module of the form, and as not typed where they are one that isn't well typed. For all others there is a plan.
+pub data IsJudged (files : List (List ℕ × List ℕ)) : Outcome → Type 0 where
+  not_built : ((ps : List (Package Span)) → HasForm files ps → ⊥) → IsJudged files (refused 100)
+  not_typed : (ps : List (Package Span)) → HasForm files ps → list_all well_typed ps ≡ false → IsJudged files (refused 401)
+  is_planned : (ps : List (Package Span)) (after : List (List ℕ × List ℕ)) (report : List ℕ) (inlined : ℕ) → HasForm files ps → list_all well_typed ps ≡ true → IsJudged files (planned after report inlined)
 
 -- ---- the laws
 
-abbrev pub RunLeavesNoUse : Type 0
-RunLeavesNoUse = (m : Module) (only : List ℕ) → IsOutlineOf m.outline m.text → well_typed (package_of m.path m.outline) ≡ true → NoUseIsLeft m only
+abbrev pub PlansAreJudged : Type 0
+PlansAreJudged = (files : List (List ℕ × List ℕ)) (only : List ℕ) → IsJudged files (plan_of files only)
 
-abbrev pub RunInlines : Type 0
-RunInlines = (m : Module) (only : List ℕ) → InlinedByRun (packages_of m.path m.outline) (packages_of m.path (last_outline m only))
+-- Files of the form read as one program.
+abbrev pub FormsAreOne : Type 0
+FormsAreOne = (files : List (List ℕ × List ℕ)) (ps qs : List (Package Span)) → HasForm files ps → HasForm files qs → ps ≡ qs
 
+-- A program has one run: its steps and its last program.
+abbrev pub RunsAreOne : Type 0
+RunsAreOne = (files : List (List ℕ × List ℕ)) (only : List ℕ) (qs ps last last' : List (Package Span)) (log log' : List (Logged Span)) → Run (Marked files only qs) ps log last → Run (Marked files only qs) ps log' last' → (log ≡ log') × (last ≡ last')
+
+-- A run keeps the meaning, whatever constants are marked.
 abbrev pub RunMeansTheSame : Type 0
-RunMeansTheSame = (m : Module) (only : List ℕ) → SameMeaning (packages_of m.path m.outline) (packages_of m.path (last_outline m only))
+RunMeansTheSame = (files : List (List ℕ × List ℕ)) (only : List ℕ) (ps : List (Package Span)) (old new : Packages Span) (log : List (Logged Span)) → Run (Marked files only ps) old.members log new.members → SameMeaning old new
 
-abbrev pub PlannedMeansTheSame : Type 0
-PlannedMeansTheSame = (files after : List (List ℕ × List ℕ)) (only report : List ℕ) (inlined : ℕ) → plan_of files only ≡ planned after report inlined → MeansTheSame files after
-
--- The new files are those of the last outline of the module that the old ones are, and no use is left.
-pub record LeavesNoUse (old new : List (List ℕ × List ℕ)) (only : List ℕ) : Type 0 where
-  pub of : Module
-  pub old_is : module_of old ≡ Some of
-  pub new_is : new ≡ renewed old (text_of (last_outline of only))
-  pub none_left : NoUseIsLeft of only
-
-abbrev pub PlannedLeavesNoUse : Type 0
-PlannedLeavesNoUse = (files after : List (List ℕ × List ℕ)) (only report : List ℕ) (inlined : ℕ) → plan_of files only ≡ planned after report inlined → LeavesNoUse files after only
+-- What is planned for files is what inlining makes of them, with the planned report, in so many steps.
+abbrev pub PlannedIsInlining : Type 0
+PlannedIsInlining = (files after : List (List ℕ × List ℕ)) (only report : List ℕ) (inlined : ℕ) → plan_of files only ≡ planned after report inlined → (made : IsInlining files after only report) × (length made.log ≡ inlined)

@@ -5,4 +5,4 @@
 
 mod planned;
 
-pub use planned::{planned_files_mean_the_same, run_means_the_same};
+pub use planned::{planned_files_are_inlined, plans_are_judged, run_means_the_same};

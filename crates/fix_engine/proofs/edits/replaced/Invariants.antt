@@ -1,5 +1,5 @@
 use Rattle.std.proofs.Common.{◌≡◌, ◌≤◌, ◌++◌, drop, length}
-use Rattle.fix_engine.specs.Edits.{Ascend, replaced_from}
+use Rattle.text_edits.specs.Applied.{Ascend, replaced_from}
 use Rattle.fix_engine.proofs.edits.replaced.Given as goal
 
 abbrev pub invariant-loop-edit : goal.invariant-loop-edit
