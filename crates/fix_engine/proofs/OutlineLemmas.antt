@@ -8,7 +8,7 @@ use Rattle.fix_engine.proofs.Parts.{At, pass}
 use Rattle.go_tree.specs.declared.spans.Span.{Span}
 use Rattle.go_syntax.specs.Tree as tree
 use Rattle.go_syntax.specs.File as file
-use Rattle.go_parse.specs.Outline as outline
+use Rattle.go_outline.specs.Outline as outline
 use Rattle.fix_engine.specs.declared.outline.Operand.{Operand}
 use Rattle.fix_engine.specs.declared.outline.Constant.{Constant}
 use Rattle.fix_engine.specs.Located.{located, located_constant, located_constants, located_prints, constants_of, prints_of}

@@ -1,8 +1,8 @@
 -- What is planned for files, case by case.
 use Rattle.std.proofs.Common.{◌≡◌, ◌≢◌, ℕ, ◌+◌, Bool, true, false, ◌&&◌, if◌then◌else◌, bytes_eq, List, [], ◌∷◌, length, codes, Option, Some, None, Result, IfOk, IfErr, refl, sym, ap, ◌∙◌, subst, arith}
-use Rattle.go_parse.specs.Outline.{Outline, IsOutlineOf, text_of}
-use Rattle.go_parse.specs.Reading.{outline_of}
-use Rattle.go_parse.proofs.ReadingLemmas.{outline_of-sound, outline_of-complete}
+use Rattle.go_outline.specs.Outline.{Outline, IsOutlineOf, text_of}
+use Rattle.go_outline.specs.Reading.{outline_of}
+use Rattle.go_outline.proofs.ReadingLemmas.{outline_of-sound, outline_of-complete}
 use Rattle.go_meaning_laws.specs.Typing.{well_typed}
 use Rattle.fix_engine.specs.declared.outline.Operand.{Operand}
 use Rattle.fix_engine.specs.declared.outline.Constant.{Constant}

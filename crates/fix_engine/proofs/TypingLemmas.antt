@@ -7,8 +7,8 @@ use Rattle.std.specs.Cmp.Lexicographic.{same_text}
 use Rattle.go_tree.specs.declared.spans.Span.{Span}
 use Rattle.go_syntax.specs.Tree as tree
 use Rattle.go_syntax.specs.File as file
-use Rattle.go_parse.specs.Words.{is_name, is_entry, is_predeclared, is_keyword, is_identifier}
-use Rattle.go_parse.specs.Outline as outline
+use Rattle.go_outline.specs.Words.{is_name, is_entry, is_predeclared, is_keyword, is_identifier}
+use Rattle.go_outline.specs.Outline as outline
 use Rattle.go_meaning_laws.specs.Package.{Package}
 use Rattle.go_meaning_laws.specs.Means.{Environment, Entity, constant, function, predeclared, universe, decls_then, means, expression_of, constant_meant}
 use Rattle.go_meaning_laws.specs.Constants.{value_within, has_value}

@@ -1,6 +1,6 @@
 -- What `plan` answers, by what is planned for the files.
 use Rattle.std.specs.Prelude.{◌≡◌, ⊤, ℕ, List, [], ◌∷◌, None}
-use Rattle.go_parse.specs.Outline.{Outline, IsOutlineOf}
+use Rattle.go_outline.specs.Outline.{Outline, IsOutlineOf}
 use Rattle.fix_engine.specs.declared.files.SourceFile.{SourceFile}
 use Rattle.fix_engine.specs.declared.planned.Plan.{Plan}
 use Rattle.fix_engine.specs.declared.planned.Made.{Made}

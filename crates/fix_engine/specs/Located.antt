@@ -1,6 +1,6 @@
 -- The constants of a file and what its `main` prints, each with the place where it stands.
 use Rattle.std.specs.Prelude.{ℕ, ◌+◌, if◌then◌else◌, List, [], ◌∷◌, length, map}
-use Rattle.go_parse.specs.Outline as outline
+use Rattle.go_outline.specs.Outline as outline
 use Rattle.fix_engine.specs.declared.outline.Operand.{Operand}
 use Rattle.fix_engine.specs.declared.outline.Constant.{Constant}
 

@@ -4,8 +4,8 @@ use Rattle.std.specs.List.{starts_with}
 use Rattle.go_tree.specs.declared.spans.Span.{Span}
 use Rattle.go_meaning_laws.specs.Package.{Package}
 use Rattle.go_meaning_laws.specs.Typing.{well_typed}
-use Rattle.go_parse.specs.Outline.{Outline, text_of, tree_of}
-use Rattle.go_parse.specs.Reading.{outline_of}
+use Rattle.go_outline.specs.Outline.{Outline, text_of, tree_of}
+use Rattle.go_outline.specs.Reading.{outline_of}
 use Rattle.fix_engine.specs.declared.files.SourceFile.{SourceFile}
 use Rattle.fix_engine.specs.declared.files.PlannedFile.{PlannedFile}
 use Rattle.fix_engine.specs.declared.outline.Operand.{Operand}

@@ -3,7 +3,7 @@ ghost use Rattle.std.specs.Prelude.{◌≡◌};
 ghost use Rattle.std.specs.Option.{option_copied};
 ghost use Rattle.fix_engine.specs.ModuleFile.{is_path, is_path_byte, module_path};
 
-use go_parse::MAX_OUTLINE_BYTES;
+use go_outline::MAX_OUTLINE_BYTES;
 
 const BEFORE_PATH: &[u8] = b"module ";
 

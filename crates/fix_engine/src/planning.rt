@@ -1,7 +1,7 @@
 // The plan: which files to replace, and the report.
 ghost use Rattle.std.specs.Prelude.{◌≡◌, ◌&&◌, ◌^◌, ◌<◌, ◌≤◌, [], ◌∷◌, IfErr, IfOk, IsTrue, MatchOption, Some, bytes_eq, codes, length};
 ghost use Rattle.go_syntax.specs.FileView.{file_of};
-ghost use Rattle.go_parse.specs.Outline.{IsOutlineOf, Outline, text_of, tree_of};
+ghost use Rattle.go_outline.specs.Outline.{IsOutlineOf, Outline, text_of, tree_of};
 ghost use Rattle.fix_engine.specs.Located.{constants_of, prints_of};
 ghost use Rattle.text_edits.specs.Applied.{Ascend};
 ghost use Rattle.fix_engine.specs.Report.{Within};
@@ -20,7 +20,7 @@ use crate::refusals::{Detail, PlanFault, of_module};
 use crate::report::report;
 use crate::run::{Run, Step, run_over};
 use crate::typing::are_typed;
-use go_parse::{FirstFault, parse_first};
+use go_outline::{FirstFault, parse_first};
 use go_syntax::{FileTree, MAX_FILE_BYTES, NoMemory, Text};
 use std::alloc::Global;
 use text_edits::Edit;

@@ -4,8 +4,8 @@ use Rattle.std.specs.Prelude.{◌⊎◌, Option, Some, None, codes, bytes_eq, na
 use Rattle.std.specs.List.{starts_with, ends_with}
 use Rattle.std.proofs.lemmas.Bool.{lt-leb, leb-true, leb-false}
 use Rattle.std.proofs.lemmas.List.{take_all, length-take}
-use Rattle.go_parse.specs.declared.found.TheConstants.{MAX_OUTLINE_BYTES}
-use Rattle.go_parse.specs.Reading.{read_file, outline_of}
+use Rattle.go_outline.specs.declared.found.TheConstants.{MAX_OUTLINE_BYTES}
+use Rattle.go_outline.specs.Reading.{read_file, outline_of}
 use Rattle.go_tree.specs.declared.limits.TheConstants.{MAX_FILE_BYTES}
 use Rattle.fix_engine.specs.ModuleFile.{module_path, middle, before_path, after_path, is_path}
 use Rattle.fix_engine.specs.Plan.{Module, Outcome, refused, planned, module_of, with_path, with_outline, plan_of, plan_of_module}

@@ -6,7 +6,7 @@ use Rattle.go_syntax.specs.Tree.{Expr, ident, int_lit, call, no_exprs, expr_and,
 use Rattle.go_syntax.specs.File.{Decl, values, func}
 use Rattle.go_syntax.specs.Bare.{bare_expr, bare_stmts}
 use Rattle.go_syntax.specs.FileBare.{bare_decl}
-use Rattle.go_parse.specs.Outline as outline
+use Rattle.go_outline.specs.Outline as outline
 use Rattle.go_meaning_laws.specs.Package.{Package}
 use Rattle.go_meaning_laws.specs.Inlined.{bare_package}
 use Rattle.fix_engine.specs.declared.outline.Operand.{Operand}

@@ -3,12 +3,12 @@ use Rattle.std.proofs.Common.{◌≡◌, ℕ, true, false, List, [], ◌∷◌, 
 use Rattle.std.specs.Prelude.{codes, pos}
 use Rattle.std.specs.Fmt.{digits}
 use Rattle.go_kernel.specs.Kernel.{Event, Println, Number, Int, Ended, prim}
-use Rattle.go_parse.specs.Outline.{named, number, Outline, text_of, IsOutlineOf}
+use Rattle.go_outline.specs.Outline.{named, number, Outline, text_of, IsOutlineOf}
 use Rattle.go_meaning_laws.specs.Translation.{shown_by}
 use Rattle.fix_engine.specs.Plan.{Module, marks, last_outline, made}
 use Rattle.fix_engine.specs.Located.{constants_of, prints_of}
 use Rattle.fix_engine.specs.ModuleFile.{IsModuleFile}
-use Rattle.go_parse.specs.Words.{is_name, is_entry, is_predeclared, is_keyword, is_identifier, is_number}
+use Rattle.go_outline.specs.Words.{is_name, is_entry, is_predeclared, is_keyword, is_identifier, is_number}
 use Rattle.run_meaning.specs.Sites.{ConstWord}
 use Rattle.run_meaning.specs.Meaning.{packages_of, IsInlining}
 use Rattle.run_meaning.proofs.Inlining.{inlining}

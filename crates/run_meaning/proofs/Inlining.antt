@@ -7,10 +7,10 @@ use Rattle.std.proofs.lemmas.Bool.Decides.{Decides-eqb}
 use Rattle.std.proofs.lemmas.Slice.Eq.{bytes_eq-Decides, slice_eq-Decides, starts_is}
 use Rattle.std.proofs.lemmas.List.{take-append-drop}
 use Rattle.std.proofs.Math.Seq.{drop-drop}
-use Rattle.go_parse.specs.Outline.{Outline, is_outline, text_of, tree_of, after_constants, IsOutlineOf}
-use Rattle.go_parse.specs.Reading.{outline_of}
-use Rattle.go_parse.specs.declared.found.TheConstants.{MAX_OUTLINE_BYTES}
-use Rattle.go_parse.proofs.ReadingLemmas.{outline_of-sound}
+use Rattle.go_outline.specs.Outline.{Outline, is_outline, text_of, tree_of, after_constants, IsOutlineOf}
+use Rattle.go_outline.specs.Reading.{outline_of}
+use Rattle.go_outline.specs.declared.found.TheConstants.{MAX_OUTLINE_BYTES}
+use Rattle.go_outline.proofs.ReadingLemmas.{outline_of-sound}
 use Rattle.go_tree.specs.declared.spans.Span.{Span}
 use Rattle.go_meaning_laws.specs.Package.{Package}
 use Rattle.go_meaning_laws.specs.Typing.{well_typed}

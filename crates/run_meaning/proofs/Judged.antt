@@ -6,9 +6,9 @@ use Rattle.std.proofs.Math.Seq.{take-append_seam, drop-append_seam}
 use Rattle.std.proofs.lemmas.Bool.Decides.{Decides-eqb}
 use Rattle.std.proofs.lemmas.Slice.Eq.{starts_is, ends_is}
 use Rattle.go_tree.specs.declared.spans.Span.{Span}
-use Rattle.go_parse.specs.declared.found.TheConstants.{MAX_OUTLINE_BYTES}
-use Rattle.go_parse.specs.Outline.{Outline, IsOutlineOf}
-use Rattle.go_parse.proofs.ReadingLemmas.{outline_of-complete}
+use Rattle.go_outline.specs.declared.found.TheConstants.{MAX_OUTLINE_BYTES}
+use Rattle.go_outline.specs.Outline.{Outline, IsOutlineOf}
+use Rattle.go_outline.proofs.ReadingLemmas.{outline_of-complete}
 use Rattle.go_meaning_laws.specs.Package.{Package}
 use Rattle.go_meaning_laws.specs.Reads.{root, file as text_file, none as no_files}
 use Rattle.go_meaning_laws.specs.Typing.{well_typed}

@@ -7,7 +7,7 @@ use Rattle.go_syntax.specs.Tree.{Expr, ident, int_lit, call, no_exprs, expr_and,
 use Rattle.go_syntax.specs.File.{Func, Decl, values, func}
 use Rattle.go_syntax.specs.Bare.{bare_expr, bare_stmts}
 use Rattle.go_syntax.specs.FileBare.{bare_decl}
-use Rattle.go_parse.specs.Outline as outline
+use Rattle.go_outline.specs.Outline as outline
 use Rattle.go_meaning_laws.specs.Package.{Package}
 use Rattle.go_meaning_laws.specs.Means.{Entity, constant, function, predeclared, decls_then, universe, environment, constant_meant, expression_of}
 use Rattle.go_meaning_laws.specs.Inlined.{bare_package}

@@ -9,8 +9,8 @@ use Rattle.std.proofs.lemmas.Slice.Eq.{bytes_eq-Decides}
 use Rattle.go_tree.specs.declared.spans.Span.{Span}
 use Rattle.go_syntax.specs.Tree.{Expr, const_decl, no_exprs, expr_and, no_specs, spec}
 use Rattle.go_syntax.specs.File.{Decl, values}
-use Rattle.go_parse.specs.Words.{is_name, is_entry, is_predeclared, is_keyword, is_identifier}
-use Rattle.go_parse.specs.Outline as outline
+use Rattle.go_outline.specs.Words.{is_name, is_entry, is_predeclared, is_keyword, is_identifier}
+use Rattle.go_outline.specs.Outline as outline
 use Rattle.go_meaning_laws.specs.Package.{SourceTree, Package}
 use Rattle.go_meaning_laws.specs.Means.{Environment, predeclared, means, environment, constant_meant, expression_of}
 use Rattle.fix_engine.specs.declared.outline.Operand.{Operand}

@@ -2,7 +2,7 @@
 use Rattle.std.proofs.Common.{◌≡◌, ◌≤◌, ℕ, ◌+◌, List, [], ◌∷◌, ◌++◌, map, refl, sym, ap, subst, ◌∙◌, arith, inl, inr}
 use Rattle.std.specs.Prelude.{⊤, ◌⊎◌, codes}
 use Rattle.go_tree.specs.declared.spans.Span.{Span}
-use Rattle.go_parse.specs.Outline as outline
+use Rattle.go_outline.specs.Outline as outline
 use Rattle.go_meaning_laws.specs.Package.{Package}
 use Rattle.go_meaning_laws.specs.Means.{environment}
 use Rattle.go_syntax.specs.Tree.{Expr}

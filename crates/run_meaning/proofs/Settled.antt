@@ -9,7 +9,7 @@ use Rattle.fix_engine.specs.declared.outline.Constant.{Constant}
 use Rattle.fix_engine.specs.Chain.{among, value_named, name_in, stands_for, last_name}
 use Rattle.fix_engine.specs.Settled.{settled, settle_value, settled_constants, settled_prints}
 use Rattle.fix_engine.specs.Typed.{ends_within, are_distinct, values_end, operands_end}
-use Rattle.go_parse.specs.Outline.{IsOutlineOf}
+use Rattle.go_outline.specs.Outline.{IsOutlineOf}
 use Rattle.go_meaning_laws.specs.Typing.{well_typed}
 use Rattle.fix_engine.specs.Located.{constants_of, prints_of}
 use Rattle.fix_engine.specs.Plan.{Module, package_of, marks, most, last_constants, last_prints}

@@ -4,9 +4,9 @@ use Rattle.std.specs.Prelude.{bytes_eq}
 use Rattle.std.specs.List.{list_all}
 use Rattle.std.proofs.lemmas.Bool.{and_parts}
 use Rattle.std.proofs.lemmas.List.Folds.{list_all-append}
-use Rattle.go_parse.specs.Words.{is_name}
-use Rattle.go_parse.specs.Outline as outline
-use Rattle.go_parse.specs.Outline.{is_operand, is_constant, is_named, Outline, is_outline}
+use Rattle.go_outline.specs.Words.{is_name}
+use Rattle.go_outline.specs.Outline as outline
+use Rattle.go_outline.specs.Outline.{is_operand, is_constant, is_named, Outline, is_outline}
 use Rattle.fix_engine.specs.declared.outline.Operand.{Operand}
 use Rattle.fix_engine.specs.declared.outline.Constant.{Constant}
 use Rattle.fix_engine.specs.Chain.{value_named, stands_for, last_name}

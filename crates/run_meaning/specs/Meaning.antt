@@ -3,9 +3,9 @@ use Rattle.std.specs.Prelude.{◌≡◌, ℕ, ◌≤◌, true, false, IsTrue, Li
 use Rattle.std.specs.List.{list_all}
 use Rattle.go_tree.specs.declared.spans.Span.{Span}
 use Rattle.go_syntax.specs.File.{File}
-use Rattle.go_parse.specs.Outline.{Outline, is_outline, text_of, tree_of}
+use Rattle.go_outline.specs.Outline.{Outline, is_outline, text_of, tree_of}
 use Rattle.go_meaning_laws.specs.Package.{Package}
-use Rattle.go_parse.specs.declared.found.TheConstants.{MAX_OUTLINE_BYTES}
+use Rattle.go_outline.specs.declared.found.TheConstants.{MAX_OUTLINE_BYTES}
 use Rattle.go_meaning_laws.specs.Reads.{Reads}
 use Rattle.go_meaning_laws.specs.Typing.{well_typed}
 use Rattle.go_meaning_laws.specs.Packages.{Packages, WellTyped}

@@ -1,5 +1,5 @@
 use Rattle.std.proofs.Common.{[], ◌∷◌, Err, ap, sym, ◌∙◌, ◌&&◌, bytes_eq, codes, subst}
-use Rattle.go_parse.specs.Outline.{IsOutlineOf}
+use Rattle.go_outline.specs.Outline.{IsOutlineOf}
 use Rattle.fix_engine.specs.ModuleFile.{module_path}
 use Rattle.fix_engine.proofs.PlanLemmas.{other_paths, no_outline, none_read, found, not_found, refused_as}
 use Rattle.fix_engine.proofs.planning.made_of.Goals as goal

@@ -1,5 +1,5 @@
 use Rattle.std.proofs.Common.{ap, sym, refl, ◌∙◌, ◌+◌, length}
-use Rattle.go_parse.proofs.ReadingLemmas.{one_outline}
+use Rattle.go_outline.proofs.ReadingLemmas.{one_outline}
 use Rattle.fix_engine.specs.Located.{constants_of, prints_of}
 use Rattle.fix_engine.proofs.ChainLemmas.{if_ok}
 use Rattle.fix_engine.proofs.SpliceLemmas.{ready}

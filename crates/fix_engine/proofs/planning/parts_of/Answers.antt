@@ -1,5 +1,5 @@
 use Rattle.std.proofs.Common.{◌≡◌, ap, ◌∙◌}
-use Rattle.go_parse.proofs.ReadingLemmas.{one_outline}
+use Rattle.go_outline.proofs.ReadingLemmas.{one_outline}
 use Rattle.fix_engine.specs.Located.{constants_of, prints_of}
 use Rattle.fix_engine.specs.Read.{constants_in, prints_in}
 use Rattle.fix_engine.proofs.OutlineLemmas.{prints_in-outline, constants_in-outline}
