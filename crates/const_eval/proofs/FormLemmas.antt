@@ -1,0 +1,230 @@
+-- From the form of a literal token to what stands between its quotes.
+use Rattle.std.proofs.Common.{◌≡◌, ℕ, ◌+◌, ◌-◌, ◌/◌, ◌%◌, ◌<◌, ◌≤◌, Bool, true, false, ◌&&◌, ◌⊎◌, inl, inr, List, [], ◌∷◌, ◌++◌, length, take, drop, get_or, refl, sym, ap, ap₂, subst, ◌∙◌, arith, length-append, cond}
+use Rattle.std.specs.Prelude.{nat_eq, nat_lt, nat_le, encode_utf8_all, codes}
+use Rattle.std.specs.Str.{all_scalars}
+use Rattle.std.specs.Char.{IsScalar, encode_utf8}
+use Rattle.std.proofs.Math.Seq.{take-append_seam, drop-append_seam}
+use Rattle.std.proofs.Math.Dec.{ltb, leb}
+use Rattle.std.proofs.lemmas.Bool.{ne_eqb, leb-true, ltb-true, eqb-false}
+use Rattle.std.proofs.lemmas.Str.{encodes-append, length-encode, len_utf8_bounds, char_from_byte}
+use Rattle.std.proofs.lemmas.List.{append-nil}
+use Rattle.go_words.specs.Tokens.Characters.{each, byte_order_mark}
+use Rattle.go_words.specs.Tokens.Forms.{Form, one_of, both, many, in_turn, HasForm, no_more, once_more}
+use Rattle.go_words.specs.Tokens.Literals.{int_lit, rune_lit, string_lit, unit_within, character_but, interpreted_string, raw_string}
+use Rattle.go_read.specs.SpellsTexts.{between_quotes}
+use Rattle.const_eval.specs.Literals.{BeginsEscape, IsLiteral, IsText, IsUnit, IsUnits, no_units, plain, escaped, escape_size}
+use Rattle.const_eval.proofs.WordLemmas.{one_is, other_is, both_is, either_is, front_is, and_is, passes, sole, differs, low_front, low_all}
+use Rattle.const_eval.proofs.EscapeLemmas.{EscapeWord, IsQuote, double_quote, single_quote, escape_is}
+
+-- ---- bytes that are units
+
+high : (n : ℕ) → 128 ≤ n → nat_eq n 92 ≡ false
+high n h =
+    let apart : n ≡ 92 → ⊥ = λ e. absurd (omega arith) in
+    ne_eqb n 92 apart
+
+-- a character other than a backslash
+character_units : (c : ℕ) (bs : List ℕ) → nat_eq c 92 ≡ false → IsUnits bs → IsUnits (encode_utf8 c ++ bs)
+unfolding encode_utf8
+character_units c bs e u = go (ltb c 128) (ltb c 2048) (ltb c 65536)
+  where
+    next : ℕ → ℕ
+    next n = 128 + n % 64
+
+    last : (n : ℕ) → IsUnits ((128 + n % 64) ∷ bs)
+    last n = plain (128 + n % 64) bs (high (128 + n % 64) (omega arith)) u
+
+    go : (p q r : Bool) → IsUnits (cond p (c ∷ []) (cond q ((192 + c / 64) ∷ (128 + c % 64) ∷ []) (cond r ((224 + c / 4096) ∷ (128 + c / 64 % 64) ∷ (128 + c % 64) ∷ []) ((240 + c / 262144) ∷ (128 + c / 4096 % 64) ∷ (128 + c / 64 % 64) ∷ (128 + c % 64) ∷ []))) ++ bs)
+    go true q r = plain c bs e u
+    go false true r = plain (192 + c / 64) ((128 + c % 64) ∷ bs) (high (192 + c / 64) (omega arith)) (last c)
+    go false false true =
+        plain (224 + c / 4096) ((128 + c / 64 % 64) ∷ (128 + c % 64) ∷ bs) (high (224 + c / 4096) (omega arith))
+        (plain (128 + c / 64 % 64) ((128 + c % 64) ∷ bs) (high (128 + c / 64 % 64) (omega arith)) (last c))
+    go false false false =
+        plain (240 + c / 262144) ((128 + c / 4096 % 64) ∷ (128 + c / 64 % 64) ∷ (128 + c % 64) ∷ bs) (high (240 + c / 262144) (omega arith))
+        (plain (128 + c / 4096 % 64) ((128 + c / 64 % 64) ∷ (128 + c % 64) ∷ bs) (high (128 + c / 4096 % 64) (omega arith))
+        (plain (128 + c / 64 % 64) ((128 + c % 64) ∷ bs) (high (128 + c / 64 % 64) (omega arith)) (last c)))
+
+-- an escape's bytes are its characters
+escape_bytes : (e : List ℕ) → EscapeWord e → encode_utf8_all (92 ∷ e) ≡ 92 ∷ e
+escape_bytes e w = low_all (92 ∷ e) w.ascii
+
+escape_units : (e bs : List ℕ) → EscapeWord e → IsUnits bs → IsUnits ((92 ∷ e) ++ bs)
+escape_units e bs w u =
+    let d : drop (escape_size (e ++ bs)) (e ++ bs) ≡ bs = ap (λ k. drop k (e ++ bs)) (w.size bs) ∙ drop-append_seam e bs in
+    escaped 92 (e ++ bs) refl (w.begins bs) (subst IsUnits (sym d) u)
+
+-- one character other than these, or an escape
+unit_units : (q : ℕ) (w bs : List ℕ) → IsQuote q → HasForm (unit_within (q ∷ [])) w → IsUnits bs → IsUnits (encode_utf8_all w ++ bs)
+unit_units q w bs is h u = elim (either_is _ _ w h) [
+  | inl k ↦ (
+      let o = other_is (0 ∷ byte_order_mark ∷ codes "\n\\" ++ q ∷ []) w k in
+      let e : encode_utf8_all w ≡ encode_utf8 o.0 = ap encode_utf8_all o.1 ∙ append-nil (encode_utf8 o.0) in
+      subst (λ x. IsUnits (x ++ bs)) (sym e) (character_units o.0 bs (differs (0 ∷ byte_order_mark ∷ codes "\n\\" ++ q ∷ []) o.0 92 o.2 refl) u))
+  | inr k ↦ (
+      let i = escape_is q w is k in
+      let e : encode_utf8_all w ≡ 92 ∷ i.0 = ap encode_utf8_all i.1 ∙ escape_bytes i.0 i.2 in
+      subst (λ x. IsUnits (x ++ bs)) (sym e) (escape_units i.0 bs i.2 u))
+]
+
+units_all : (f : Form) (w : List ℕ) → ((v bs : List ℕ) → HasForm f v → IsUnits bs → IsUnits (encode_utf8_all v ++ bs)) → HasForm (many f) w → IsUnits (encode_utf8_all w)
+units_all _ _ first (no_more f) = no_units
+units_all _ _ first (once_more f u v w e h k) = subst IsUnits (sym (ap encode_utf8_all e ∙ encodes-append u v)) (first u (encode_utf8_all v) h (units_all f v first k))
+
+-- ---- a literal by its form
+
+-- what a caller of the pieces of a literal has to know
+pub record LiteralParts (s : List ℕ) : Type 0 where
+  pub some : 0 < length s
+  pub rune : get_or s 0 0 ≡ 39 → (2 ≤ length s) × IsUnit (between_quotes s)
+  pub text : (get_or s 0 0 ≡ 34) ⊎ (get_or s 0 0 ≡ 96) → IsText s
+
+-- a word in quotes
+quoted : (a : ℕ) (m : List ℕ) (b : ℕ) → a < 128 → b < 128 → encode_utf8_all (a ∷ (m ++ b ∷ [])) ≡ a ∷ (encode_utf8_all m ++ b ∷ [])
+quoted a m b p q = low_front a (m ++ b ∷ []) p ∙ ap (λ x. a ∷ x) (encodes-append m (b ∷ []) ∙ ap (λ x. encode_utf8_all m ++ x) (low_front b [] q))
+
+inside_is : (a : ℕ) (x : List ℕ) (b : ℕ) → between_quotes (a ∷ (x ++ b ∷ [])) ≡ x
+inside_is a x b =
+    let l : length (a ∷ (x ++ b ∷ [])) - 2 ≡ length x = omega (arith, length-append x (b ∷ [])) in
+    ap (λ k. take k (x ++ b ∷ [])) l ∙ take-append_seam x (b ∷ [])
+
+long : (a : ℕ) (x : List ℕ) (b : ℕ) → 2 ≤ length (a ∷ (x ++ b ∷ []))
+long a x b = omega (arith, length-append x (b ∷ []))
+
+-- the two quotes of such a word, and what stands between them
+quotes_are : (d : ℕ) (g : Form) (w : List ℕ) → HasForm (in_turn (one_of (d ∷ []) ∷ g ∷ one_of (d ∷ []) ∷ [])) w → (m : List ℕ) × (w ≡ d ∷ (m ++ d ∷ [])) × HasForm g m
+quotes_are d g w h =
+    let i = front_is (d ∷ []) (both g (one_of (d ∷ []))) w h in
+    let j = both_is g (one_of (d ∷ [])) i.1 i.4 in
+    let k = one_is (d ∷ []) j.1 j.4 in
+    let e : w ≡ d ∷ (j.0 ++ d ∷ []) =
+    i.2 ∙ ap₂ (λ (x : ℕ) (y : List ℕ). x ∷ y) (sole d i.0 i.3) (j.2 ∙ ap (λ y. j.0 ++ y) (k.1 ∙ ap (λ (x : ℕ). x ∷ []) (sole d k.0 k.2))) in
+    (j.0, e, j.3)
+
+interpreted_parts : (w : List ℕ) → HasForm interpreted_string w → LiteralParts (encode_utf8_all w)
+interpreted_parts w h =
+    let i = quotes_are 34 (many (unit_within (34 ∷ []))) w h in
+    let u : IsUnits (encode_utf8_all i.0) = units_all (unit_within (34 ∷ [])) i.0 (λ v bs k l. unit_units 34 v bs double_quote k l) i.2 in
+    let e : encode_utf8_all w ≡ 34 ∷ (encode_utf8_all i.0 ++ 34 ∷ []) = ap encode_utf8_all i.1 ∙ quoted 34 i.0 34 (omega arith) (omega arith) in
+    subst LiteralParts (sym e) (record {
+      some = omega arith;
+      rune = λ k. absurd (omega arith);
+      text = λ k. record { quotes = long 34 (encode_utf8_all i.0) 34; units = λ a. subst IsUnits (sym (inside_is 34 (encode_utf8_all i.0) 34)) u };
+    })
+
+raw_parts : (w : List ℕ) → HasForm raw_string w → LiteralParts (encode_utf8_all w)
+raw_parts w h =
+    let i = quotes_are 96 (many (character_but (codes "`"))) w h in
+    let e : encode_utf8_all w ≡ 96 ∷ (encode_utf8_all i.0 ++ 96 ∷ []) = ap encode_utf8_all i.1 ∙ quoted 96 i.0 96 (omega arith) (omega arith) in
+    subst LiteralParts (sym e) (record {
+      some = omega arith;
+      rune = λ k. absurd (omega arith);
+      text = λ k. record { quotes = long 96 (encode_utf8_all i.0) 96; units = λ a. absurd (a refl) };
+    })
+
+-- ---- what stands between the quotes of a rune
+
+first_high : (c : ℕ) → nat_eq c 92 ≡ false → get_or (encode_utf8 c) 0 0 ≡ 92 → ⊥
+first_high c e h =
+    let l : 0 < length (encode_utf8 c) = omega (arith, length-encode c, len_utf8_bounds c) in
+    let b : c ≡ get_or (encode_utf8 c) 0 0 = char_from_byte (encode_utf8 c) [] c (sym (append-nil (encode_utf8 c))) (omega arith) l in
+    eqb-false c 92 e (b ∙ h)
+
+and_true : (b : Bool) → b && true ≡ true → b ≡ true
+and_true true h = refl
+and_true false h = h
+
+character_unit : (c : ℕ) → IsScalar c → nat_eq c 92 ≡ false → IsUnit (encode_utf8 c)
+character_unit c s e = record {
+  some = omega (arith, length-encode c, len_utf8_bounds c);
+  escape = λ h. absurd (first_high c e h);
+  character = λ h. record { code = c; scalar = s; encoded = refl };
+}
+
+escape_unit : (e : List ℕ) → EscapeWord e → IsUnit (92 ∷ e)
+escape_unit e w = record {
+  some = omega arith;
+  escape = λ h. subst BeginsEscape (append-nil e) (w.begins []);
+  character = λ h. absurd (h refl);
+}
+
+unit_is : (w : List ℕ) → all_scalars w ≡ true → HasForm (unit_within (39 ∷ [])) w → IsUnit (encode_utf8_all w)
+unit_is w s h = elim (either_is _ _ w h) [
+  | inl k ↦ (
+      let o = other_is (0 ∷ byte_order_mark ∷ codes "\n\\" ++ 39 ∷ []) w k in
+      let e : encode_utf8_all w ≡ encode_utf8 o.0 = ap encode_utf8_all o.1 ∙ append-nil (encode_utf8 o.0) in
+      let t : IsScalar o.0 = and_true _ (subst (λ x. all_scalars x ≡ true) o.1 s) in
+      subst IsUnit (sym e) (character_unit o.0 t (differs (0 ∷ byte_order_mark ∷ codes "\n\\" ++ 39 ∷ []) o.0 92 o.2 refl)))
+  | inr k ↦ (
+      let i = escape_is 39 w single_quote k in
+      subst IsUnit (sym (ap encode_utf8_all i.1 ∙ escape_bytes i.0 i.2)) (escape_unit i.0 i.2))
+]
+
+scalars_front : (u v : List ℕ) → all_scalars (u ++ v) ≡ true → all_scalars u ≡ true
+scalars_front [] v h = refl
+scalars_front (c ∷ u) v h = let a = and_is _ (all_scalars (u ++ v)) h in ap₂ (λ (x y : Bool). x && y) a.0 (scalars_front u v a.1)
+
+no_text : (q : ℕ) → q ≡ 39 → (q ≡ 34) ⊎ (q ≡ 96) → ⊥
+no_text q is h = elim h [ inl e ↦ omega arith | inr e ↦ omega arith ]
+
+rune_parts : (w : List ℕ) → all_scalars w ≡ true → HasForm rune_lit w → LiteralParts (encode_utf8_all w)
+unfolding rune_lit
+rune_parts w s h =
+    let i = quotes_are 39 (unit_within (39 ∷ [])) w h in
+    let t : all_scalars i.0 ≡ true = scalars_front i.0 (39 ∷ []) (subst (λ x. all_scalars x ≡ true) i.1 s) in
+    let e : encode_utf8_all w ≡ 39 ∷ (encode_utf8_all i.0 ++ 39 ∷ []) = ap encode_utf8_all i.1 ∙ quoted 39 i.0 39 (omega arith) (omega arith) in
+    subst LiteralParts (sym e) (record {
+      some = omega arith;
+      rune = λ k. (long 39 (encode_utf8_all i.0) 39, subst IsUnit (sym (inside_is 39 (encode_utf8_all i.0) 39)) (unit_is i.0 t i.2));
+      text = λ k. absurd (no_text 39 refl k);
+    })
+
+string_parts : (w : List ℕ) → HasForm string_lit w → LiteralParts (encode_utf8_all w)
+unfolding string_lit
+string_parts w h = elim (either_is _ _ w h) [ inl k ↦ interpreted_parts w k | inr k ↦ raw_parts w k ]
+
+-- ---- integers begin with a digit
+
+abbrev is_ten : ℕ → Bool
+is_ten c = nat_le 48 c && nat_lt c 58
+
+abbrev BeginsDigit : List ℕ → Type 0
+BeginsDigit w = (c : ℕ) × (v : List ℕ) × (w ≡ c ∷ v) × (is_ten c ≡ true)
+
+begins_front : (cs : List ℕ) (g : Form) (w : List ℕ) → each is_ten cs ≡ true → HasForm (both (one_of cs) g) w → BeginsDigit w
+begins_front cs g w all h = let i = front_is cs g w h in (i.0, i.1, i.2, passes is_ten cs i.0 all i.3)
+
+begins_one : (cs w : List ℕ) → each is_ten cs ≡ true → HasForm (one_of cs) w → BeginsDigit w
+begins_one cs w all h = let i = one_is cs w h in (i.0, [], i.1, passes is_ten cs i.0 all i.2)
+
+integer_begins : (w : List ℕ) → HasForm int_lit w → BeginsDigit w
+unfolding int_lit
+integer_begins w h = elim (either_is _ _ w h) [
+  | inl k ↦ elim (either_is _ _ w k) [ inl l ↦ begins_one (codes "0") w refl l | inr l ↦ begins_front (codes "123456789") _ w refl l ]
+  | inr k ↦ elim (either_is _ _ w k) [
+    | inl l ↦ begins_front (codes "0") _ w refl l
+    | inr l ↦ elim (either_is _ _ w l) [ inl m ↦ begins_front (codes "0") _ w refl m | inr m ↦ begins_front (codes "0") _ w refl m ]
+  ]
+]
+
+no_quote : (c : ℕ) → 48 ≤ c → c < 58 → (c ≡ 34) ⊎ (c ≡ 96) → ⊥
+no_quote c lo hi h = elim h [ inl e ↦ omega arith | inr e ↦ omega arith ]
+
+integer_parts : (w : List ℕ) → HasForm int_lit w → LiteralParts (encode_utf8_all w)
+integer_parts w h =
+    let i = integer_begins w h in
+    let a = and_is (nat_le 48 i.0) (nat_lt i.0 58) i.3 in
+    let lo : 48 ≤ i.0 = leb-true 48 i.0 a.0 in
+    let hi : i.0 < 58 = ltb-true i.0 58 a.1 in
+    let e : encode_utf8_all w ≡ i.0 ∷ encode_utf8_all i.1 = ap encode_utf8_all i.2 ∙ low_front i.0 i.1 (omega arith) in
+    subst LiteralParts (sym e) (record {
+      some = omega arith;
+      rune = λ k. absurd (omega arith);
+      text = λ k. absurd (no_quote i.0 lo hi k);
+    })
+
+pub literal_parts : (s : List ℕ) → IsLiteral s → LiteralParts s
+literal_parts s l = subst LiteralParts l.encoded (elim l.form [
+  | inl h ↦ integer_parts l.word h
+  | inr h ↦ elim h [ inl k ↦ rune_parts l.word l.scalars k | inr k ↦ string_parts l.word k ]
+])

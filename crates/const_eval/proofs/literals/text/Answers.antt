@@ -1,0 +1,13 @@
+-- Each number of steps that suffices gives the same value.
+use Rattle.std.proofs.Common.{ℕ, List, length, sym, ap, ◌∙◌, inl, Ok}
+use Rattle.const_eval.specs.declared.consts.Const.TheVariants.{Bytes}
+use Rattle.go_read.specs.SpellsTexts.{interpreted_value}
+use Rattle.const_eval.proofs.UnitLemmas.{text_is}
+use Rattle.const_eval.proofs.literals.text.Goals as goal
+
+pub returns-in_ok-interpreted : goal.returns-in_ok-interpreted
+returns-in_ok-interpreted c =
+    inl (ap (λ (bs : List ℕ). Ok (Bytes bs))
+    (c.of-else-spelling-eq96.ensures ∙ c.in_ok-interpreted.ensures
+    ∙ ap (λ (bs : List ℕ). interpreted_value (length bs) bs) c.between_quotes-inside.ensures
+    ∙ sym (text_is c.args.spelling.now c.requires.quotes c.if-spelling-eq96.false)))

@@ -1,0 +1,27 @@
+//! Exact constants: what a literal spells, and what operators and conversions make of constants,
+//! within 128 bits, with each fault by its name.
+#![tactic(auto)]
+
+mod consts;
+mod conversions;
+mod digits;
+mod escapes;
+mod kinds;
+pub mod laws;
+mod literals;
+mod operators;
+mod orders;
+mod shifts;
+mod texts;
+mod whole_numbers;
+
+pub use consts::{Const, ConstError};
+pub use conversions::{convert, represent};
+pub use kinds::Kind;
+pub use literals::literal;
+pub use operators::{binary, unary};
+
+#[cfg(test)]
+mod rows;
+#[cfg(test)]
+mod tests;

@@ -1,0 +1,2 @@
+pub mod ExprExamples
+pub mod StmtExamples

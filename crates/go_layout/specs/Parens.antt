@@ -1,0 +1,58 @@
+-- Where an expression needs parentheses around it (Go specification, Operator precedence, Composite literals, Conversions).
+use Rattle.std.specs.Prelude.{ℕ, Bool, true, false, not, ◌&&◌, ◌||◌, nat_lt}
+use Rattle.go_tree.specs.declared.operators.UnOp.{UnOp}
+use Rattle.go_tree.specs.declared.operators.UnOp.TheVariants.{Plus, Minus, Flip, Address}
+use Rattle.go_tree.specs.Tree.{named, pointer, slice_type, map_type, struct_type, Expr, int_lit, composite, type_operand, unary, binary, star}
+use Rattle.go_read.specs.SpellsTerminals.{level_of}
+
+-- two operators that would be read as one: `++`, `--`, `&&`, `&^`
+abbrev pub is_one_operator : UnOp → UnOp → Bool
+is_one_operator Plus Plus = true
+is_one_operator Minus Minus = true
+is_one_operator Address Address = true
+is_one_operator Address Flip = true
+is_one_operator _ _ = false
+
+module _ {S : Type 0} where
+  -- how tightly the expression binds: a binary operator's level, 6 with an operator in front, 7 for the rest
+  abbrev pub precedence : Expr S → ℕ
+  precedence (unary _ _ _) = 6
+  precedence (star _ _) = 6
+  precedence (type_operand _ (pointer _ _)) = 6
+  precedence (binary _ op _ _) = level_of op
+  precedence _ = 7
+
+  -- a composite literal whose brace would begin a block
+  abbrev pub is_named_literal : Expr S → Bool
+  is_named_literal (composite _ (named _ _ _) _) = true
+  is_named_literal _ = false
+
+  -- a type that begins with `[`, `map` or `struct`
+  abbrev pub is_bracketed_type : Expr S → Bool
+  is_bracketed_type (type_operand _ (slice_type _ _)) = true
+  is_bracketed_type (type_operand _ (map_type _ _ _)) = true
+  is_bracketed_type (type_operand _ (struct_type _ _)) = true
+  is_bracketed_type _ = false
+
+  -- In a place of this level, in a header outside brackets or not. `closed` says that `(`, `,` or `)` directly follows.
+  abbrev pub needs_parens : ℕ → Bool → Bool → Expr S → Bool
+  needs_parens level header closed e = nat_lt (precedence e) level || (header && is_named_literal e) || (not closed && is_bracketed_type e)
+
+  -- an integer before a dot would be read as a number with a fraction
+  abbrev pub is_integer : Expr S → Bool
+  is_integer (int_lit _ _) = true
+  is_integer _ = false
+
+  abbrev pub runs_into : UnOp → Expr S → Bool
+  runs_into op (unary _ inner _) = is_one_operator op inner
+  runs_into op _ = false
+
+-- within parentheses no header is near
+abbrev pub header_within : Bool → Bool → Bool
+header_within true header = false
+header_within false header = header
+
+-- within parentheses `)` follows
+abbrev pub closed_within : Bool → Bool → Bool
+closed_within true closed = true
+closed_within false closed = closed

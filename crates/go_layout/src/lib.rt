@@ -1,0 +1,2 @@
+//! The layout of Go trees: which text is written for a tree, and that it spells the tree.
+#![tactic(auto)]

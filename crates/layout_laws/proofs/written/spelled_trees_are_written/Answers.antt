@@ -1,0 +1,8 @@
+use Rattle.layout_laws.proofs.WrittenTrees.{types_written, exprs_written}
+use Rattle.layout_laws.proofs.written.spelled_trees_are_written.Goals as goal
+
+pub returns-clause-of_type : goal.returns-clause-of_type
+returns-clause-of_type c = λ t s. types_written t s
+
+pub returns-clause-of_expression : goal.returns-clause-of_expression
+returns-clause-of_expression c = λ e s i level header sp. exprs_written e s i level header sp
