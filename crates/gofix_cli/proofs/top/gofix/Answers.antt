@@ -1,5 +1,6 @@
 use Rattle.std.proofs.Common.{◌≡◌, ◌∙◌, map, sym, ap}
 use Rattle.std.specs.Prelude.{string_bytes}
+use Rattle.fix_io.specs.Causes.{Rose}
 use Rattle.gofix_cli.specs.Words.{lists_module}
 use Rattle.gofix_cli.proofs.TopLemmas.{stopped, accepted_refused, accepted_complete, planned_done, planned_report, planned_part, planned_fault}
 use Rattle.gofix_cli.proofs.DoneLemmas.{told_inlined}
@@ -10,13 +11,13 @@ tell_status-requires-in-Err g c = c.in-Err.ensures.named
 
 pub returns-in-Err-clause-refused : goal.returns-in-Err-clause-refused
 returns-in-Err-clause-refused g c = λ r e.
-    let why = stopped c.in-Err.status _ _ _ _ c.in-Err.ensures.stop in
-    accepted_refused (map string_bytes c.args.words.now) _ r (sym c.are_accepted.ensures ∙ c.if-not-are_accepted.false) (why.refused_for r e)
+    let why = stopped c.in-Err.status (Rose (g.T.Tree.faults c.args.tree.now) (g.T.Tree.faults c.prepare.new.tree)) (g.T.Tree.failed c.prepare.new.tree) (g.T.Tree.listed c.prepare.new.tree) (g.T.Tree.held c.args.tree.now) c.in-Err.ensures.stop in
+    accepted_refused (map string_bytes c.args.words.now) (g.T.Tree.held c.args.tree.now) r (sym c.are_accepted.ensures ∙ c.if-not-are_accepted.false) (why.refused_for r e)
 
 pub returns-in-Err-clause-complete : goal.returns-in-Err-clause-complete
 returns-in-Err-clause-complete g c = λ tree out.
-    let why = stopped c.in-Err.status _ _ _ _ c.in-Err.ensures.stop in
-    accepted_complete (map string_bytes c.args.words.now) _ c.in-Err.status (sym c.are_accepted.ensures ∙ c.if-not-are_accepted.false) (why.complete tree)
+    let why = stopped c.in-Err.status (Rose (g.T.Tree.faults c.args.tree.now) (g.T.Tree.faults c.prepare.new.tree)) (g.T.Tree.failed c.prepare.new.tree) (g.T.Tree.listed c.prepare.new.tree) (g.T.Tree.held c.args.tree.now) c.in-Err.ensures.stop in
+    accepted_complete (map string_bytes c.args.words.now) (g.T.Tree.held c.args.tree.now) c.in-Err.status (sym c.are_accepted.ensures ∙ c.if-not-are_accepted.false) (why.complete tree)
 
 pub returns-in-Err-apply-clause-write_fault : goal.returns-in-Err-apply-clause-write_fault
 returns-in-Err-apply-clause-write_fault g c = λ i e.
