@@ -2,6 +2,10 @@
 #![tactic(auto)]
 
 #[cfg(test)]
+mod made_exprs;
+#[cfg(test)]
+mod made_stmts;
+#[cfg(test)]
 mod parts;
 #[cfg(test)]
 mod texts;

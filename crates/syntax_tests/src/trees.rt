@@ -1,139 +1,88 @@
-// Copies and depth. A node is what has a span; the depths are counted by hand.
-use crate::parts::{NOWHERE, block, boxed, ident, int, name_at, named_type, one, two};
-use go_syntax::{
-    Arm, ArmList, Elem, ElemList, Expr, NoMemory, ParamList, Sig, Stmt, UnOp, Value, copy_expr,
-    copy_stmt, depth,
+// Copies and depth of each construct. A node is what has a span; the depths are counted by hand.
+use crate::made_exprs::{
+    binary, call, composite, function, index, rune, selector, slice, star, string, type_operand,
+    unary,
 };
+use crate::made_stmts::{
+    answer, assign, cases, choice, constant, defer, define, empty, eval, inner, label, next,
+    range_alone, range_assigns, range_defines, step, stop, turns, variable,
+};
+use crate::parts::{NOWHERE, block, ident, int};
+use go_syntax::{Expr, NoMemory, ParamList, Sig, Stmt, copy_expr, copy_stmt, depth};
 use std::alloc::Global;
+use std::process::Abort;
 
-/// `f(x, 1)[i].n`
-fn selected(alloc: Global) -> Result<Expr, NoMemory> {
-    let callee = boxed(alloc, b"f")?;
-    let args = two(alloc, ident(alloc, b"x")?, int(alloc, b"1")?)?;
-    let call = Expr::Call {
-        span: NOWHERE,
-        callee,
-        args,
-    };
-    let base = Box::new(alloc, call)?;
-    let at = boxed(alloc, b"i")?;
-    let index = Expr::Index {
-        span: NOWHERE,
-        base,
-        at,
-    };
-    let name = name_at(alloc, b"n")?;
-    let base = Box::new(alloc, index)?;
-    Ok(Expr::Selector {
-        span: NOWHERE,
-        base,
-        name,
-    })
-}
-
-#[test]
-fn a_selection_is_four_deep(rt: HostRuntime) -> Result<(), NoMemory> {
-    let e = selected(rt.alloc())?;
+/// The expression and its copy are so deep.
+fn is_deep<R: Abort + AllocGlobal>(rt: &R, e: Expr, want: u32) -> Result<(), NoMemory> {
     let copy = copy_expr(rt.alloc(), &e)?;
-    assert_eq!(rt; depth(&e), 4);
-    assert_eq!(rt; depth(&copy), 4);
-    assert!(rt; matches!(copy, Expr::Selector { .. }));
+    assert_eq!(rt; depth(&e), want);
+    assert_eq!(rt; depth(&copy), want);
     Ok(())
 }
 
-/// `T{k: -x}`
-fn keyed(alloc: Global) -> Result<Expr, NoMemory> {
-    let of = named_type(alloc, b"T")?;
-    let key = ident(alloc, b"k")?;
-    let minus = Expr::Unary {
-        span: NOWHERE,
-        op: UnOp::Minus,
-        e: boxed(alloc, b"x")?,
-    };
-    let mut elems = Vec::new(alloc);
-    elems.push(Elem {
-        span: NOWHERE,
-        key: Some(Value::Plain(key)),
-        value: Value::Plain(minus),
-    })?;
-    Ok(Expr::Composite {
-        span: NOWHERE,
-        of,
-        elems: ElemList::of(elems),
-    })
-}
-
-#[test]
-fn a_keyed_literal_is_four_deep(rt: HostRuntime) -> Result<(), NoMemory> {
-    let e = keyed(rt.alloc())?;
-    let copy = copy_expr(rt.alloc(), &e)?;
-    assert_eq!(rt; depth(&e), 4);
-    assert_eq!(rt; depth(&copy), 4);
-    Ok(())
-}
-
-/// `L: for { break L }`
-fn endless(alloc: Global) -> Result<Stmt, NoMemory> {
-    let label = name_at(alloc, b"L")?;
-    let stop = Stmt::Break {
-        span: NOWHERE,
-        label: Some(label),
-    };
-    let turn = Stmt::For {
-        span: NOWHERE,
-        first: None,
-        test: None,
-        post: None,
-        body: block(alloc, stop)?,
-    };
-    let name = name_at(alloc, b"L")?;
-    let stmt = Box::new(alloc, turn)?;
-    Ok(Stmt::Label {
-        span: NOWHERE,
-        name,
-        stmt,
-    })
-}
-
-/// `if x { return 1 } else { L: for { break L } }`
-fn choice(alloc: Global) -> Result<Stmt, NoMemory> {
-    let values = one(alloc, int(alloc, b"1")?)?;
-    let body = block(
-        alloc,
-        Stmt::Return {
-            span: NOWHERE,
-            values,
-        },
-    )?;
-    let last = block(alloc, endless(alloc)?)?;
-    let mut arms = Vec::new(alloc);
-    arms.push(Arm {
-        span: NOWHERE,
-        first: None,
-        test: ident(alloc, b"x")?,
-        body,
-    })?;
-    Ok(Stmt::If {
-        span: NOWHERE,
-        arms: ArmList::of(arms),
-        last: Some(last),
-    })
-}
-
-#[test]
-fn a_literal_with_a_choice_is_nine_deep(rt: HostRuntime) -> Result<(), NoMemory> {
-    let alloc = rt.alloc();
-    let s = choice(alloc)?;
-    let copy = copy_stmt(alloc, &s)?;
-    assert!(rt; matches!(copy, Stmt::If { last: Some(_), .. }));
-    let e = Expr::FuncLit {
+fn in_function(alloc: Global, s: Stmt) -> Result<Expr, NoMemory> {
+    let body = block(alloc, s)?;
+    Ok(Expr::FuncLit {
         span: NOWHERE,
         sig: Sig {
             params: ParamList::of(Vec::new(alloc)),
             results: ParamList::of(Vec::new(alloc)),
         },
-        body: block(alloc, copy)?,
-    };
-    assert_eq!(rt; depth(&e), 9);
-    Ok(())
+        body,
+    })
+}
+
+/// The statement and its copy are so deep: two less than a literal of a function that holds them.
+fn holds<R: Abort + AllocGlobal>(rt: &R, s: Stmt, want: u32) -> Result<(), NoMemory> {
+    let copy = copy_stmt(rt.alloc(), &s)?;
+    is_deep(rt, in_function(rt.alloc(), s)?, want + 2)?;
+    is_deep(rt, in_function(rt.alloc(), copy)?, want + 2)
+}
+
+#[test]
+fn types_and_expressions(rt: HostRuntime) -> Result<(), NoMemory> {
+    let alloc = rt.alloc();
+    is_deep(&rt, ident(alloc, b"x")?, 1)?;
+    is_deep(&rt, int(alloc, b"1")?, 1)?;
+    is_deep(&rt, rune(alloc)?, 1)?;
+    is_deep(&rt, string(alloc)?, 1)?;
+    is_deep(&rt, type_operand(alloc)?, 8)?;
+    is_deep(&rt, composite(alloc)?, 5)?;
+    is_deep(&rt, selector(alloc)?, 2)?;
+    is_deep(&rt, index(alloc)?, 3)?;
+    is_deep(&rt, slice(alloc)?, 4)?;
+    is_deep(&rt, call(alloc)?, 5)?;
+    is_deep(&rt, unary(alloc)?, 6)?;
+    is_deep(&rt, star(alloc)?, 2)?;
+    is_deep(&rt, binary(alloc)?, 7)?;
+    is_deep(&rt, function(alloc)?, 4)
+}
+
+#[test]
+fn statements(rt: HostRuntime) -> Result<(), NoMemory> {
+    let alloc = rt.alloc();
+    holds(&rt, constant(alloc)?, 4)?;
+    holds(&rt, variable(alloc)?, 4)?;
+    holds(&rt, empty(alloc)?, 1)?;
+    holds(&rt, eval(alloc)?, 2)?;
+    holds(&rt, step(alloc)?, 3)?;
+    holds(&rt, assign(alloc)?, 3)?;
+    holds(&rt, define(alloc)?, 2)?;
+    holds(&rt, answer(alloc)?, 3)?;
+    holds(&rt, stop(alloc)?, 2)?;
+    holds(&rt, next(alloc)?, 1)?;
+    holds(&rt, inner(alloc)?, 3)
+}
+
+#[test]
+fn compound_statements(rt: HostRuntime) -> Result<(), NoMemory> {
+    let alloc = rt.alloc();
+    holds(&rt, choice(alloc)?, 6)?;
+    holds(&rt, turns(alloc)?, 4)?;
+    holds(&rt, range_alone(alloc)?, 3)?;
+    holds(&rt, range_defines(alloc)?, 3)?;
+    holds(&rt, range_assigns(alloc)?, 4)?;
+    holds(&rt, cases(alloc)?, 5)?;
+    holds(&rt, defer(alloc)?, 3)?;
+    holds(&rt, label(alloc)?, 4)
 }
