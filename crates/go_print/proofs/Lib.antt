@@ -1,0 +1,6 @@
+pub mod Steps
+pub mod Lists
+pub mod Any
+pub mod Ends
+pub mod Chains
+pub mod DeclParts
