@@ -1,0 +1,6 @@
+//! What literals of Go source stand for.
+#![tactic(auto)]
+
+mod strings;
+
+pub use strings::string_value;

@@ -1,0 +1,3 @@
+pub mod SignLemmas
+pub mod FrameLemmas
+pub mod OverLemmas

@@ -1,0 +1,5 @@
+pub mod Terminals
+pub mod Answers
+pub mod Parts
+pub mod ExprParts
+pub mod StmtParts
