@@ -1,0 +1,117 @@
+//! `go_show WORD FILE` shows a file of Go source.
+//!
+//! `tokens` writes its tokens, one a line: `START END KIND SPELLING`, with the spelling in
+//! hexadecimal, or why the file has none: `BAD OFFSET` or `NOTUTF8 OFFSET`. `tree` writes `read`
+//! where the file has a tree, or else the first of these that holds: `not UTF-8 OFFSET`, `bad token
+//! OFFSET`, `unsupported OFFSET`, `too deep OFFSET`, `not read OFFSET`.
+#![tactic(auto)]
+
+ghost use Rattle.std.specs.Prelude.{◌≤◌, IfOk, length, vec_len};
+
+mod lines;
+mod tree;
+
+use go_scan::{ScanError, scan};
+use go_tree::MAX_FILE_BYTES;
+use lines::write_tokens;
+use std::alloc::Global;
+use std::io::{self, BufWriter, Write};
+use std::process::ExitCode;
+use std::rt::{Env, Files};
+use std::{env, fs};
+use thiserror::Error;
+use tree::write_tree;
+
+/// Why nothing is shown.
+#[derive(Debug, Drop, Error)]
+enum Fault {
+    #[error("usage: go_show tokens|tree FILE")]
+    Usage,
+    #[error("{0}: cannot be read: {1}")]
+    Unreadable(String, io::Error),
+    #[error("{0}: has more than 4 MiB")]
+    Large(String),
+    #[error("{0}")]
+    Io(#[from] io::Error),
+}
+
+/// What is shown of a file.
+#[derive(Clone, Copy)]
+enum Part {
+    Tokens,
+    Tree,
+}
+
+fn part_of(word: &str) -> Option<Part> {
+    match word {
+        "tokens" => Some(Part::Tokens),
+        "tree" => Some(Part::Tree),
+        _ => None,
+    }
+}
+
+/// What the command's words ask for, and the file that they name.
+fn asked<R: Env + AllocGlobal>(rt: &R) -> Result<(Part, String), Fault> {
+    let mut words = env::args(rt)?;
+    let _program = words.next();
+    let Some(word) = words.next() else {
+        return Err(Fault::Usage);
+    };
+    let Some(path) = words.next() else {
+        return Err(Fault::Usage);
+    };
+    let Some(part) = part_of(word.as_str()) else {
+        return Err(Fault::Usage);
+    };
+    if words.next().is_some() {
+        return Err(Fault::Usage);
+    }
+    Ok((part, path))
+}
+
+fn read_file<R: Files + AllocGlobal>(rt: &R, path: String) -> Result<Vec<u8>, Fault>
+    ensures { IfOk result (λ text. vec_len text ≤ MAX_FILE_BYTES) }
+{
+    let text = match fs::read(rt, path.as_str()) {
+        Ok(text) => text,
+        Err(fault) => return Err(Fault::Unreadable(path, fault)),
+    };
+    if text.len() > MAX_FILE_BYTES as usize {
+        return Err(Fault::Large(path));
+    }
+    Ok(text)
+}
+
+/// Writes the tokens of a text, or why it has none.
+fn write_scan<W: Write>(alloc: Global, out: &mut W, text: &[u8]) -> io::Result<()>
+    requires { length text.now ≤ MAX_FILE_BYTES }
+{
+    match scan(alloc, text) {
+        Ok(tokens) => write_tokens(alloc, out, tokens.items()),
+        Err(ScanError::BadToken(offset)) => writeln!(out, "BAD {offset}"),
+        Err(ScanError::NotUtf8(offset)) => writeln!(out, "NOTUTF8 {offset}"),
+        Err(ScanError::NoMemory) => Err(io::Error::from(io::ErrorKind::OutOfMemory)),
+    }
+}
+
+fn show<R: Env + Files + Print + AllocGlobal>(rt: &R) -> Result<(), Fault> {
+    let (part, path) = asked(rt)?;
+    let text = read_file(rt, path)?;
+    let mut out = BufWriter::new(rt.alloc(), io::writer(rt))?;
+    match part {
+        Part::Tokens => write_scan(rt.alloc(), &mut out, &text)?,
+        Part::Tree => write_tree(rt.alloc(), &mut out, &text)?,
+    }
+    out.flush()?;
+    Ok(())
+}
+
+fn main(rt: HostRuntime) -> ExitCode {
+    match show(&rt) {
+        Ok(()) => ExitCode::SUCCESS,
+        Err(fault) => {
+            let _ = eprintln!(rt; "go_show: {fault}");
+            ExitCode::from(if matches!(fault, Fault::Usage) { 2 } else { 1 })
+        }
+    }
+}
