@@ -60,6 +60,14 @@ cp "$top/examples/constants/go.mod" "$top/examples/constants/main.go" .
 expect "a name that isn't UTF-8" 1 "gofix: can't list files" --fix
 same "a folder that can't be listed stays" main.go "$top/examples/constants/main.go"
 
+# one constant on several lines, beside a number and another name
+mkdir "$work/five" && cd "$work/five" || exit 1
+cp "$top/examples/constants/go.mod" .
+printf 'package main\n\nconst Pointer = 1\n\n//go:fix inline\nconst Ptr = Pointer\n\nfunc main() {\n\tprintln(Ptr)\n\tprintln(7)\n\tprintln(Ptr)\n\tprintln(Pointer)\n\tprintln(Ptr)\n}\n' >main.go
+sed 's/println(Ptr)/println(Pointer)/' main.go >"$work/several.go"
+expect "several lines" 0 "$(printf 'main.go:%d:10: inlined example.com/m.Ptr as const\n' 9 11 13)" --fix
+same "each use is replaced" main.go "$work/several.go"
+
 # the shipped example, by its script
 if bash "$top/examples/run.sh" constants | grep -qF '+	println(Pointer)'; then pass; else fail "examples/run.sh"; fi
 
