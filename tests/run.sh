@@ -68,6 +68,22 @@ sed 's/println(Ptr)/println(Pointer)/' main.go >"$work/several.go"
 expect "several lines" 0 "$(printf 'main.go:%d:10: inlined example.com/m.Ptr as const\n' 9 11 13)" --fix
 same "each use is replaced" main.go "$work/several.go"
 
+# add SCRIPT: another script of this folder, and what it counts.
+add() {
+    bash "$top/tests/$1" >"$work/counted" 2>&1
+    sed '$d' "$work/counted"
+    if [[ $(tail -n 1 "$work/counted") =~ ^([0-9]+)\ passed,\ ([0-9]+)\ failed$ ]]; then
+        passed=$((passed + BASH_REMATCH[1]))
+        failed=$((failed + BASH_REMATCH[2]))
+    else
+        fail "$1 counts nothing: $(tail -n 1 "$work/counted")"
+    fi
+}
+
+# trees of files, and files printed
+add trees.sh
+add print.sh
+
 # the shipped example, by its script
 if bash "$top/examples/run.sh" constants | grep -qF '+	println(Pointer)'; then pass; else fail "examples/run.sh"; fi
 

@@ -1,23 +1,35 @@
-//! `go_show tokens FILE` writes the tokens of a file of Go source, one a line: `START END KIND
-//! SPELLING`, with the spelling in hexadecimal, or why the file has none: `BAD OFFSET` or
-//! `NOTUTF8 OFFSET`.
+//! `go_show WORD FILE` shows a file of Go source.
+//!
+//! `tokens` writes its tokens, one a line: `START END KIND SPELLING`, with the spelling in
+//! hexadecimal, or why the file has none: `BAD OFFSET` or `NOTUTF8 OFFSET`. `tree` writes `read`
+//! where the file has a tree, or else the first of these that holds: `not UTF-8 OFFSET` or `bad
+//! token OFFSET`, `unsupported OFFSET`, `too deep OFFSET`, `not read OFFSET`. `print` writes a file
+//! that has a tree in the one layout, without its comments, and of another what `tree` writes.
 #![tactic(auto)]
 
+ghost use Rattle.std.specs.Prelude.{◌≤◌, IfOk, OnOk, length, vec_len};
+ghost use Rattle.go_show.specs.Outcomes.{ShowsReason, ShowsTree};
+
 mod lines;
+mod print;
+mod tree;
 
 use go_scan::{ScanError, scan};
 use go_tree::MAX_FILE_BYTES;
 use lines::write_tokens;
+use print::write_file;
+use std::alloc::Global;
 use std::io::{self, BufWriter, Write};
 use std::process::ExitCode;
 use std::rt::{Env, Files};
 use std::{env, fs};
 use thiserror::Error;
+use tree::{Outcome, read_tree, write_outcome};
 
 /// Why nothing is shown.
 #[derive(Debug, Drop, Error)]
 enum Fault {
-    #[error("usage: go_show tokens FILE")]
+    #[error("usage: go_show tokens|tree|print FILE")]
     Usage,
     #[error("{0}: cannot be read: {1}")]
     Unreadable(String, io::Error),
@@ -27,24 +39,45 @@ enum Fault {
     Io(#[from] io::Error),
 }
 
-/// The file that the command's words name.
-fn named<R: Env + AllocGlobal>(rt: &R) -> Result<String, Fault> {
+/// What is shown of a file.
+#[derive(Clone, Copy)]
+enum Part {
+    Tokens,
+    Tree,
+    Print,
+}
+
+fn part_of(word: &str) -> Option<Part> {
+    match word {
+        "tokens" => Some(Part::Tokens),
+        "tree" => Some(Part::Tree),
+        "print" => Some(Part::Print),
+        _ => None,
+    }
+}
+
+/// What the command's words ask for, and the file that they name.
+fn asked<R: Env + AllocGlobal>(rt: &R) -> Result<(Part, String), Fault> {
     let mut words = env::args(rt)?;
     let _program = words.next();
-    let Some(command) = words.next() else {
+    let Some(word) = words.next() else {
         return Err(Fault::Usage);
     };
     let Some(path) = words.next() else {
         return Err(Fault::Usage);
     };
-    if command.as_str() != "tokens" || words.next().is_some() {
+    let Some(part) = part_of(word.as_str()) else {
+        return Err(Fault::Usage);
+    };
+    if words.next().is_some() {
         return Err(Fault::Usage);
     }
-    Ok(path)
+    Ok((part, path))
 }
 
-fn show<R: Env + Files + Print + AllocGlobal>(rt: &R) -> Result<(), Fault> {
-    let path = named(rt)?;
+fn read_file<R: Files + AllocGlobal>(rt: &R, path: String) -> Result<Vec<u8>, Fault>
+    ensures { IfOk result (λ text. vec_len text ≤ MAX_FILE_BYTES) }
+{
     let text = match fs::read(rt, path.as_str()) {
         Ok(text) => text,
         Err(fault) => return Err(Fault::Unreadable(path, fault)),
@@ -52,14 +85,49 @@ fn show<R: Env + Files + Print + AllocGlobal>(rt: &R) -> Result<(), Fault> {
     if text.len() > MAX_FILE_BYTES as usize {
         return Err(Fault::Large(path));
     }
+    Ok(text)
+}
+
+/// Writes the tokens of a text, or why it has none.
+fn write_scan<W: Write>(alloc: Global, out: &mut W, text: &[u8]) -> io::Result<()>
+    requires { length text.now ≤ MAX_FILE_BYTES }
+{
+    match scan(alloc, text) {
+        Ok(tokens) => write_tokens(alloc, out, tokens.items()),
+        Err(ScanError::BadToken(offset)) => writeln!(out, "BAD {offset}"),
+        Err(ScanError::NotUtf8(offset)) => writeln!(out, "NOTUTF8 {offset}"),
+        Err(ScanError::NoMemory) => Err(io::Error::from(io::ErrorKind::OutOfMemory)),
+    }
+}
+
+/// Writes whether a text has a tree.
+fn write_tree<W: Write>(alloc: Global, out: &mut W, text: &[u8]) -> io::Result<()>
+    requires { length text.now ≤ MAX_FILE_BYTES }
+    ensures { OnOk result (ShowsTree text.now (W.contents out.old) (W.contents out.new)) }
+{
+    let outcome = read_tree(alloc, text)?;
+    write_outcome(out, &outcome)
+}
+
+/// Writes a file that has a tree in the one layout, and of another why it has none.
+fn write_print<W: Write>(alloc: Global, out: &mut W, text: &[u8]) -> io::Result<()>
+    requires { length text.now ≤ MAX_FILE_BYTES }
+    ensures { OnOk result (ShowsReason text.now (W.contents out.old) (W.contents out.new)) }
+{
+    match read_tree(alloc, text)? {
+        Outcome::Read(file) => write_file(alloc, out, &file),
+        other => write_outcome(out, &other),
+    }
+}
+
+fn show<R: Env + Files + Print + AllocGlobal>(rt: &R) -> Result<(), Fault> {
+    let (part, path) = asked(rt)?;
+    let text = read_file(rt, path)?;
     let mut out = BufWriter::new(rt.alloc(), io::writer(rt))?;
-    match scan(rt.alloc(), &text) {
-        Ok(tokens) => write_tokens(rt.alloc(), &mut out, tokens.items())?,
-        Err(ScanError::BadToken(offset)) => writeln!(out, "BAD {offset}")?,
-        Err(ScanError::NotUtf8(offset)) => writeln!(out, "NOTUTF8 {offset}")?,
-        Err(ScanError::NoMemory) => return Err(Fault::Io(io::Error::from(
-            io::ErrorKind::OutOfMemory,
-        ))),
+    match part {
+        Part::Tokens => write_scan(rt.alloc(), &mut out, &text)?,
+        Part::Tree => write_tree(rt.alloc(), &mut out, &text)?,
+        Part::Print => write_print(rt.alloc(), &mut out, &text)?,
     }
     out.flush()?;
     Ok(())

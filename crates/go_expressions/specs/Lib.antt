@@ -1,0 +1,2 @@
+pub mod ExprParts
+pub mod Bodies

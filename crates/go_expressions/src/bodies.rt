@@ -1,0 +1,67 @@
+//! Statements in braces, by what reads statements.
+
+ghost use Rattle.std.specs.Prelude.{◌<◌, ◌≤◌, length};
+ghost use Rattle.go_tree.specs.View.{block_of, stmts_of};
+ghost use Rattle.go_read.specs.SpellsTerminals.{lexemes};
+ghost use Rattle.go_read.specs.SpellsSpans.{span_to};
+ghost use Rattle.go_read.specs.Goals.{read_block, read_stmts};
+ghost use Rattle.go_read.specs.Reading.{at};
+ghost use Rattle.go_productions.specs.Answers.{Gives, Shorter, Within};
+ghost use Rattle.go_expressions.specs.Bodies.{ReadsBelow};
+
+use go_productions::{Reading, Terminal, first, rest, span_between};
+use go_tree::{Block, NoMemory, StmtList, Token};
+
+/// Statements and how many tokens they take, or nothing where the tokens don't begin with some.
+pub type Taken = Result<Option<(StmtList, usize)>, NoMemory>;
+
+/// How the statements of a body are read.
+#[derive(Drop)]
+pub struct Bodies<F> {
+    /// Reads statements up to a closing brace or the next clause of a `switch`.
+    pub read: F,
+    /// It is for fewer tokens than these.
+    pub limit: usize,
+}
+
+/// Statements up to a closing brace or the next clause of a `switch` (Go specification, Blocks).
+#[tactic(auto, using(crate::proofs::BodyArms::stmts_taken))]
+pub fn statements<'a, F: Fn(&[Token]) -> Taken>(
+    tokens: &'a [Token],
+    bodies: &Bodies<F>,
+) -> Reading<'a, StmtList>
+    requires reads { ReadsBelow (F.pre bodies.now.read) (F.post bodies.now.read) bodies.now.limit }
+    requires below { length tokens.now < bodies.now.limit }
+    ensures gives { Gives (λ x. (stmts_of x.0, lexemes x.1.now)) result (at span_to read_stmts (lexemes tokens.now)) }
+    ensures within { Within (λ x. x.1.now) result tokens.now }
+{
+    let Some((stmts, taken)) = (bodies.read)(tokens)? else {
+        return Ok(None);
+    };
+    Ok(Some((stmts, &tokens[taken..])))
+}
+
+/// Statements in braces (Go specification, Blocks).
+#[tactic(auto, using(crate::proofs::BodyArms::block_open, crate::proofs::BodyArms::block_none, crate::proofs::BodyArms::block_end, crate::proofs::BodyArms::block_some))]
+pub fn block<'a, F: Fn(&[Token]) -> Taken>(
+    tokens: &'a [Token],
+    bodies: &Bodies<F>,
+) -> Reading<'a, Block>
+    requires reads { ReadsBelow (F.pre bodies.now.read) (F.post bodies.now.read) bodies.now.limit }
+    requires within { length tokens.now ≤ bodies.now.limit }
+    ensures gives { Gives (λ x. (block_of x.0, lexemes x.1.now)) result (at span_to read_block (lexemes tokens.now)) }
+    ensures shorter { Shorter (λ x. x.1.now) result tokens.now }
+{
+    let Terminal::Brace = first(tokens) else {
+        return Ok(None);
+    };
+    let Some((stmts, left)) = statements(rest(tokens), bodies)? else {
+        return Ok(None);
+    };
+    let Terminal::EndBrace = first(left) else {
+        return Ok(None);
+    };
+    let left = rest(left);
+    let span = span_between(tokens, left);
+    Ok(Some((Block { span, stmts }, left)))
+}

@@ -1,0 +1,131 @@
+//! What may follow an operand (Go specification, Selectors, Index expressions, Slice expressions, Calls).
+
+ghost use Rattle.std.specs.Prelude.{◌≡◌, true, ◌≤◌, length};
+ghost use Rattle.go_tree.specs.Tree.{no_expr};
+ghost use Rattle.go_tree.specs.View.{expr_of, plain_expr_option_of};
+ghost use Rattle.go_read.specs.SpellsTerminals.{lexemes};
+ghost use Rattle.go_expressions.specs.Bodies.{ReadsBelow};
+ghost use Rattle.go_productions.specs.Answers.{Gives, Shorter};
+ghost use Rattle.go_expressions.specs.ExprParts.{brackets_at, continues, high_at, postfix_at};
+
+use crate::bodies::{Bodies, Taken};
+use crate::builders::{build_call, build_index, build_selector, build_slice, is_func_lit};
+use crate::exprs::{call_args, expression};
+use go_productions::{Reading, Terminal, first, name, rest, span_between};
+use go_tree::{Expr, Token};
+use std::alloc::Global;
+
+/// Whether arguments, a name after a dot, an index or bounds stand first.
+pub(crate) fn continues(tokens: &[Token]) -> bool
+    ensures { continues (lexemes tokens.now) ≡ result }
+{
+    match first(tokens) {
+        Terminal::Paren | Terminal::Bracket => true,
+        Terminal::Dot => matches!(first(rest(tokens)), Terminal::Word),
+        _ => false,
+    }
+}
+
+/// One part after an operand, which begins with the first token of `whole`.
+#[cycle(expressions)]
+#[tactic(auto, using(crate::proofs::PostfixArms::call_none, crate::proofs::PostfixArms::call_some, crate::proofs::PostfixArms::func_none, crate::proofs::PostfixArms::select_some, crate::proofs::PostfixArms::dot_word, crate::proofs::PostfixArms::bracket_on))]
+pub(crate) fn postfix<'a, F: Fn(&[Token]) -> Taken>(
+    alloc: Global,
+    whole: &[Token],
+    base: Expr,
+    tokens: &'a [Token],
+    bodies: &Bodies<F>,
+) -> Reading<'a, Expr>
+    requires reads { ReadsBelow (F.pre bodies.now.read) (F.post bodies.now.read) bodies.now.limit }
+    requires within { length tokens.now ≤ bodies.now.limit }
+    requires goes_on { continues (lexemes tokens.now) ≡ true }
+    ensures gives { Gives (λ x. (expr_of x.0, lexemes x.1.now)) result (postfix_at (lexemes whole.now) (expr_of base) (lexemes tokens.now)) }
+    ensures shorter { Shorter (λ x. x.1.now) result tokens.now }
+{
+    if let Terminal::Paren = first(tokens) {
+        let Some((args, left)) = call_args(alloc, rest(tokens), bodies)? else {
+            return Ok(None);
+        };
+        let span = span_between(whole, left);
+        let e = build_call(alloc, span, base, args)?;
+        return Ok(Some((e, left)));
+    }
+    if is_func_lit(&base) {
+        return Ok(None);
+    }
+    let Terminal::Dot = first(tokens) else {
+        return brackets(alloc, whole, base, rest(tokens), bodies);
+    };
+    let name = name(alloc, rest(tokens))?;
+    let left = rest(rest(tokens));
+    let span = span_between(whole, left);
+    let e = build_selector(alloc, span, base, name)?;
+    Ok(Some((e, left)))
+}
+
+/// An index or bounds, after the opening bracket.
+#[cycle(expressions)]
+#[tactic(auto, using(crate::proofs::PostfixArms::colon_first, crate::proofs::PostfixArms::index_none, crate::proofs::PostfixArms::index_some, crate::proofs::PostfixArms::index_colon, crate::proofs::PostfixArms::index_stop))]
+fn brackets<'a, F: Fn(&[Token]) -> Taken>(
+    alloc: Global,
+    whole: &[Token],
+    base: Expr,
+    tokens: &'a [Token],
+    bodies: &Bodies<F>,
+) -> Reading<'a, Expr>
+    requires reads { ReadsBelow (F.pre bodies.now.read) (F.post bodies.now.read) bodies.now.limit }
+    requires within { length tokens.now ≤ bodies.now.limit }
+    ensures gives { Gives (λ x. (expr_of x.0, lexemes x.1.now)) result (brackets_at (lexemes whole.now) (expr_of base) (lexemes tokens.now)) }
+    ensures shorter { Shorter (λ x. x.1.now) result tokens.now }
+{
+    if let Terminal::Colon = first(tokens) {
+        return bounds(alloc, whole, base, None, rest(tokens), bodies);
+    }
+    let Some((at, left)) = expression(alloc, tokens, false, bodies)? else {
+        return Ok(None);
+    };
+    match first(left) {
+        Terminal::Colon => bounds(alloc, whole, base, Some(at), rest(left), bodies),
+        Terminal::EndBracket => {
+            let left = rest(left);
+            let span = span_between(whole, left);
+            let e = build_index(alloc, span, base, at)?;
+            Ok(Some((e, left)))
+        }
+        _ => Ok(None),
+    }
+}
+
+/// What follows the colon of a slice expression.
+#[cycle(expressions)]
+#[tactic(auto, using(crate::proofs::PostfixArms::high_end, crate::proofs::PostfixArms::high_none, crate::proofs::PostfixArms::high_stop, crate::proofs::PostfixArms::high_some))]
+fn bounds<'a, F: Fn(&[Token]) -> Taken>(
+    alloc: Global,
+    whole: &[Token],
+    base: Expr,
+    from: Option<Expr>,
+    tokens: &'a [Token],
+    bodies: &Bodies<F>,
+) -> Reading<'a, Expr>
+    requires reads { ReadsBelow (F.pre bodies.now.read) (F.post bodies.now.read) bodies.now.limit }
+    requires within { length tokens.now ≤ bodies.now.limit }
+    ensures gives { Gives (λ x. (expr_of x.0, lexemes x.1.now)) result (high_at (lexemes whole.now) (expr_of base) (plain_expr_option_of from) (lexemes tokens.now)) }
+    ensures shorter { Shorter (λ x. x.1.now) result tokens.now }
+{
+    if let Terminal::EndBracket = first(tokens) {
+        let left = rest(tokens);
+        let span = span_between(whole, left);
+        let e = build_slice(alloc, span, base, from, None)?;
+        return Ok(Some((e, left)));
+    }
+    let Some((to, left)) = expression(alloc, tokens, false, bodies)? else {
+        return Ok(None);
+    };
+    let Terminal::EndBracket = first(left) else {
+        return Ok(None);
+    };
+    let left = rest(left);
+    let span = span_between(whole, left);
+    let e = build_slice(alloc, span, base, from, Some(to))?;
+    Ok(Some((e, left)))
+}

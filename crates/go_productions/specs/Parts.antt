@@ -1,0 +1,102 @@
+-- Parts of the grammar that no goal of the reader is for.
+use Rattle.std.specs.Prelude.{Bool, true, false, List, [], ◌∷◌, ◌++◌, map, Option, Some, None, option_and_then}
+use Rattle.go_tree.specs.declared.spans.Span.{Span}
+use Rattle.go_tree.specs.declared.operators.BinOp.TheVariants.{Mul}
+use Rattle.go_tree.specs.Tree.{NameAt, TypeExpr, Fields, field, Param, Stmt, const_decl, var_decl}
+use Rattle.go_read.specs.SpellsTerminals.{lex, word, sign, comma, dot, paren, brace, bracket, key_map, key_struct}
+use Rattle.go_read.specs.SpellsSpans.{span_to}
+use Rattle.go_read.specs.SpellsTypes.{Lexemes, params_of, unnamed}
+use Rattle.go_read.specs.Goals.{read_type, read_entries, read_named, read_unnamed, read_params, read_decl}
+use Rattle.go_read.specs.Reading.{at}
+use Rattle.go_productions.specs.declared.terminals.Terminal.{Terminal}
+use Rattle.go_productions.specs.declared.terminals.Terminal.TheVariants as code
+use Rattle.go_productions.specs.Terminals.{first_of, rest_of}
+
+-- ---- lists
+
+-- these in front of a list that is built by `cons`
+abbrev pub onto : {A L : Type 0} → (A → L → L) → List A → L → L
+onto cons [] l = l
+onto cons (x ∷ xs) l = cons x (onto cons xs l)
+
+-- these in front of the list that is read
+abbrev pub in_front : {A L : Type 0} → (A → L → L) → List A → Option (L × Lexemes) → Option (L × Lexemes)
+in_front cons front None = None
+in_front cons front (Some x) = Some (onto cons front x.0, x.1)
+
+abbrev pub field_and : Span × NameAt Span × TypeExpr Span → Fields Span → Fields Span
+field_and x fs = field x.0 x.1 x.2 fs
+
+-- ---- names
+
+-- the tokens after the names that stand first
+abbrev pub skipped : Lexemes → Option Lexemes
+skipped (lex s (word n) ∷ lex c comma ∷ ts) = skipped ts
+skipped (lex s (word n) ∷ ts) = Some ts
+skipped _ = None
+
+-- a name, a dot and a name
+abbrev pub is_qualified : Lexemes → Bool
+is_qualified (lex s (word p) ∷ lex d dot ∷ lex s2 (word n) ∷ ts) = true
+is_qualified _ = false
+
+-- ---- parameters
+
+-- a terminal that a type begins with
+abbrev pub begins_type : Terminal → Bool
+begins_type code.Word = true
+begins_type (code.Sign Mul) = true
+begins_type code.Bracket = true
+begins_type code.Map = true
+begins_type code.Struct = true
+begins_type code.Paren = true
+begins_type _ = false
+
+-- a span, a name and a type for each of the names that share it
+abbrev pub shared : TypeExpr Span → List (Span × NameAt Span) → List (Span × NameAt Span × TypeExpr Span)
+shared t [] = []
+shared t (e ∷ es) = (e.0, e.1, t) ∷ shared t es
+
+abbrev pub shared_read : List (Span × NameAt Span × TypeExpr Span) → (TypeExpr Span × List (Span × NameAt Span)) × Lexemes → List (Span × NameAt Span × TypeExpr Span) × Lexemes
+shared_read front x = (front ++ shared x.0.0 x.0.1, x.1)
+
+-- names and the type that they share, after these
+abbrev pub shared_onto : List (Span × NameAt Span × TypeExpr Span) → Lexemes → Option (List (Span × NameAt Span × TypeExpr Span) × Lexemes)
+shared_onto front ts = option_and_then (λ x. Some (shared_read front x)) (at span_to read_entries ts)
+
+abbrev pub param_from : Span × NameAt Span × TypeExpr Span → Param Span
+param_from x = record { span = x.0; name = Some x.1; of = x.2 }
+
+-- parameters that share a type, or one without a name, after these
+abbrev pub group_onto : Bool → List (Param Span) → Lexemes → Option (List (Param Span) × Lexemes)
+group_onto true front ts = option_and_then (λ x. Some (front ++ map param_from (shared x.0.0 x.0.1), x.1)) (at span_to read_entries ts)
+group_onto false front ts = option_and_then (λ x. Some (front ++ unnamed x.0 ∷ [], x.1)) (at span_to read_type ts)
+
+-- parameters with names or without, up to the closing parenthesis
+abbrev pub params_at : Bool → Lexemes → Option (List (Param Span) × Lexemes)
+params_at true ts = at span_to read_named ts
+params_at false ts = at span_to read_unnamed ts
+
+-- whether the parameters that stand here have names: a type begins after those that stand first
+abbrev pub begins_after : Option Lexemes → Bool
+begins_after None = false
+begins_after (Some ts) = begins_type (first_of ts)
+
+abbrev pub has_names : Lexemes → Bool
+has_names ts = begins_after (skipped ts)
+
+-- the results of a function, before a block
+abbrev pub results_at : Lexemes → Option (List (Param Span) × Lexemes)
+results_at (lex s paren ∷ ts) = at span_to read_params (lex s paren ∷ ts)
+results_at (lex s brace ∷ ts) = Some ([], lex s brace ∷ ts)
+results_at ts = option_and_then (λ x. Some (unnamed x.0 ∷ [], x.1)) (at span_to read_type ts)
+
+-- ---- declarations
+
+-- the declaration of constants that begins with the first token, its keyword (Go specification, Constant declarations)
+unfoldable pub const_decl_at : Lexemes → Option (Stmt Span × Lexemes)
+const_decl_at ts = option_and_then (λ x. Some (const_decl (span_to ts x.1) x.0.0 x.0.1, x.1)) (at span_to (read_decl true) (rest_of ts))
+
+-- that of variables (Go specification, Variable declarations)
+unfoldable pub var_decl_at : Lexemes → Option (Stmt Span × Lexemes)
+var_decl_at ts = option_and_then (λ x. Some (var_decl (span_to ts x.1) x.0.0 x.0.1, x.1)) (at span_to (read_decl false) (rest_of ts))

@@ -1,0 +1,35 @@
+use Rattle.std.proofs.Common.{◌≡◌, ◌≤◌, length, true, Some, rules}
+use Rattle.go_tree.specs.View.{expr_of, stmt_of}
+use Rattle.go_read.specs.SpellsTerminals.{lexemes}
+use Rattle.go_read.specs.SpellsSpans.{span_to}
+use Rattle.go_read.specs.Goals.{read_simple}
+use Rattle.go_read.specs.Reading.{at}
+use Rattle.go_expressions.proofs.Passing.{passed_on, shorter_on}
+use Rattle.go_statements.proofs.BranchArms.{arm_stop, arm_evaluated}
+use Rattle.go_statements.proofs.branches.arm.Goals as goal
+
+pub returns-in_default-evaluated : goal.returns-in_default-evaluated
+returns-in_default-evaluated g c = record {
+  gives =
+      let us = lexemes c.rest-left.result.now in
+      let r = lexemes c.in-Some.left.now in
+      let read : at span_to (read_simple true) us ≡ Some (stmt_of c.in-Some.first_stmt, r) = search rules in
+      arm_stop (lexemes c.args.tokens.now) us r (stmt_of c.in-Some.first_stmt) c.first-2.result c.first-3.result
+      c.in-If.ensures.is c.rest-left.ensures.is c.first-2.ensures.is c.in_default-first.not-Semicolon read c.first-3.ensures.is c.in_default-first-2.not-Semicolon c.in_default-evaluated.ensures;
+  shorter = tt;
+}
+
+pub returns : goal.returns
+returns g c = record {
+  gives =
+      let us = lexemes c.rest-left.result.now in
+      let r = lexemes c.in-Some.left.now in
+      let read : at span_to (read_simple true) us ≡ Some (stmt_of c.in-Some.first_stmt, r) = search rules in
+      passed_on _ c.arm_body.result _ _
+      (arm_evaluated (lexemes c.args.tokens.now) us r (stmt_of c.in-Some.first_stmt) (expr_of c.in-Some-evaluated.test) c.first-2.result c.first-3.result
+      c.in-If.ensures.is c.rest-left.ensures.is c.first-2.ensures.is c.in_default-first.not-Semicolon read c.first-3.ensures.is c.in_default-first-2.not-Semicolon c.in-Some-evaluated.ensures)
+      c.arm_body.ensures.gives;
+  shorter =
+      let fewer : length c.in-Some.left.now ≤ length c.args.tokens.now = search rules in
+      shorter_on _ c.arm_body.result c.args.tokens.now c.in-Some.left.now fewer c.arm_body.ensures.shorter;
+}

@@ -1,0 +1,19 @@
+use Rattle.std.proofs.Common.{◌≡◌, ◌≤◌, ◌<◌, length, true, Some, rules}
+use Rattle.go_tree.specs.View.{boxed_stmt_option_of, expr_of, stmt_of}
+use Rattle.go_read.specs.SpellsTerminals.{lexemes}
+use Rattle.go_read.specs.SpellsSpans.{span_to}
+use Rattle.go_read.specs.Goals.{read_operand, read_simple}
+use Rattle.go_read.specs.Reading.{at}
+use Rattle.go_statements.proofs.BranchArms.{tag_open}
+use Rattle.go_statements.proofs.branches.switch_tag.Goals as goal
+
+pub returns-in_default-first : goal.returns-in_default-first
+returns-in_default-first g c = record {
+  gives =
+      let ts = lexemes c.args.tokens.now in
+      let r = lexemes c.in-Some.left.now in
+      let read : at span_to (read_operand true) ts ≡ Some (expr_of c.in-Some.tag, r) = search rules in
+      tag_open (lexemes c.args.whole.now) ts r (boxed_stmt_option_of c.args.first_stmt) (expr_of c.in-Some.tag) c.first.result c.first-2.result
+      c.first.ensures.is c.in_default.not-Brace read c.first-2.ensures.is c.in_default-first.not-Brace;
+  shorter = tt;
+}

@@ -1,0 +1,8 @@
+use Rattle.std.proofs.Common.{◌+◌, ◌*◌, length}
+use Rattle.go_statements.proofs.stmts.+labels.Given as goal
+
+abbrev pub decreases-stmt : goal.decreases-stmt
+decreases-stmt g l = 2 * length l.tokens.now + 1
+
+abbrev pub decreases-word_stmt : goal.decreases-word_stmt
+decreases-word_stmt g l = 2 * length l.tokens.now

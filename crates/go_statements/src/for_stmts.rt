@@ -1,0 +1,216 @@
+//! `for` statements (Go specification, For statements).
+
+ghost use Rattle.std.specs.Prelude.{◌≡◌, ◌≢◌, ◌<◌, ◌≤◌, length};
+ghost use Rattle.go_tree.specs.View.{boxed_stmt_option_of, plain_expr_option_of, range_left_of, stmt_of};
+ghost use Rattle.go_read.specs.SpellsTerminals.{lexemes};
+ghost use Rattle.go_read.specs.SpellsSpans.{span_to};
+ghost use Rattle.go_read.specs.Goals.{read_stmt};
+ghost use Rattle.go_read.specs.Reading.{at};
+ghost use Rattle.go_expressions.specs.Bodies.{ReadsBelow};
+ghost use Rattle.go_productions.specs.Answers.{Gives, Shorter};
+ghost use Rattle.go_statements.specs.StmtParts.{for_body_at, for_clause_at, for_plain_at, for_post_at, for_test_at, range_at, range_here};
+ghost use Rattle.go_productions.specs.Terminals.{first_of};
+
+use crate::simple_stmts::{defines, simple_after, simple_stmt};
+use crate::stmt_builders::{build_assigns, build_define, build_for, build_range, evaluated};
+use go_expressions::{Bodies, Taken, block, expr_list, expression};
+use go_productions::{Reading, Terminal, first, names, rest, span_between};
+use go_tree::{Expr, RangeLeft, Stmt, Token};
+use std::alloc::Global;
+
+/// A `for` statement, which begins with its keyword.
+#[tactic(auto, using(crate::proofs::ForArms::for_endless, crate::proofs::ForArms::for_no_first, crate::proofs::ForArms::for_range, crate::proofs::ForArms::for_clause))]
+pub(crate) fn for_stmt<'a, F: Fn(&[Token]) -> Taken>(
+    alloc: Global,
+    tokens: &'a [Token],
+    bodies: &Bodies<F>,
+) -> Reading<'a, Stmt>
+    requires reads { ReadsBelow (F.pre bodies.now.read) (F.post bodies.now.read) bodies.now.limit }
+    requires within { length tokens.now ≤ bodies.now.limit }
+    requires begins { first_of (lexemes tokens.now) ≡ Terminal.For }
+    ensures gives { Gives (λ x. (stmt_of x.0, lexemes x.1.now)) result (at span_to read_stmt (lexemes tokens.now)) }
+    ensures shorter { Shorter (λ x. x.1.now) result tokens.now }
+{
+    let left = rest(tokens);
+    match first(left) {
+        Terminal::Brace => for_body(alloc, tokens, None, None, None, left, bodies),
+        Terminal::Semicolon => for_test(alloc, tokens, None, rest(left), bodies),
+        Terminal::Range => range_body(alloc, tokens, RangeLeft::Nothing, rest(left), bodies),
+        _ => for_clause(alloc, tokens, left, bodies),
+    }
+}
+
+/// A clause that begins with a statement or with what is assigned or declared before `range`.
+#[tactic(auto, using(crate::proofs::ForArms::clause_lost, crate::proofs::ForArms::clause_range, crate::proofs::ForArms::clause_valueless, crate::proofs::ForArms::clause_defines, crate::proofs::ForArms::clause_exprs_none, crate::proofs::ForArms::clause_assigns, crate::proofs::ForArms::clause_simple_none, crate::proofs::ForArms::clause_simple))]
+fn for_clause<'a, F: Fn(&[Token]) -> Taken>(
+    alloc: Global,
+    whole: &[Token],
+    tokens: &'a [Token],
+    bodies: &Bodies<F>,
+) -> Reading<'a, Stmt>
+    requires reads { ReadsBelow (F.pre bodies.now.read) (F.post bodies.now.read) bodies.now.limit }
+    requires within { length tokens.now ≤ bodies.now.limit }
+    requires begins { first_of (lexemes tokens.now) ≢ Terminal.Range }
+    ensures gives { Gives (λ x. (stmt_of x.0, lexemes x.1.now)) result (for_clause_at (lexemes whole.now) (lexemes tokens.now)) }
+    ensures shorter { Shorter (λ x. x.1.now) result tokens.now }
+{
+    if defines(tokens) {
+        let Some((names, left)) = names(alloc, tokens)? else {
+            return Ok(None);
+        };
+        let left = rest(left);
+        if let Terminal::Range = first(left) {
+            return range_body(alloc, whole, RangeLeft::Defines(names), rest(left), bodies);
+        }
+        let Some((right, left)) = expr_list(alloc, left, true, bodies)? else {
+            return Ok(None);
+        };
+        let span = span_between(tokens, left);
+        return for_plain(alloc, whole, build_define(span, names, right), left, bodies);
+    }
+    let Some((exprs, left)) = expr_list(alloc, tokens, true, bodies)? else {
+        return Ok(None);
+    };
+    if ranges(left) {
+        return range_body(alloc, whole, build_assigns(exprs), rest(rest(left)), bodies);
+    }
+    let Some((first_stmt, left)) = simple_after(alloc, tokens, exprs, left, true, bodies)? else {
+        return Ok(None);
+    };
+    for_plain(alloc, whole, first_stmt, left, bodies)
+}
+
+/// Whether `=` and `range` stand first.
+fn ranges(tokens: &[Token]) -> bool
+    ensures { range_here (lexemes tokens.now) ≡ result }
+{
+    let Terminal::Becomes(None) = first(tokens) else {
+        return false;
+    };
+    match first(rest(tokens)) {
+        Terminal::Range => true,
+        _ => false,
+    }
+}
+
+/// What follows the first statement of a header, or the test that it is.
+#[tactic(auto, using(crate::proofs::ForArms::plain_first, crate::proofs::ForArms::plain_eval, crate::proofs::ForArms::plain_stop))]
+fn for_plain<'a, F: Fn(&[Token]) -> Taken>(
+    alloc: Global,
+    whole: &[Token],
+    first_stmt: Stmt,
+    tokens: &'a [Token],
+    bodies: &Bodies<F>,
+) -> Reading<'a, Stmt>
+    requires reads { ReadsBelow (F.pre bodies.now.read) (F.post bodies.now.read) bodies.now.limit }
+    requires within { length tokens.now ≤ bodies.now.limit }
+    ensures gives { Gives (λ x. (stmt_of x.0, lexemes x.1.now)) result (for_plain_at (lexemes whole.now) (stmt_of first_stmt) (lexemes tokens.now)) }
+    ensures shorter { Shorter (λ x. x.1.now) result tokens.now }
+{
+    if let Terminal::Semicolon = first(tokens) {
+        let first_stmt = Some(Box::new(alloc, first_stmt)?);
+        return for_test(alloc, whole, first_stmt, rest(tokens), bodies);
+    }
+    let Some(test) = evaluated(first_stmt) else {
+        return Ok(None);
+    };
+    for_body(alloc, whole, None, Some(test), None, tokens, bodies)
+}
+
+/// The test of a header and what follows it.
+#[tactic(auto, using(crate::proofs::ForArms::test_absent, crate::proofs::ForArms::test_none, crate::proofs::ForArms::test_stop, crate::proofs::ForArms::test_some))]
+fn for_test<'a, F: Fn(&[Token]) -> Taken>(
+    alloc: Global,
+    whole: &[Token],
+    first_stmt: Option<Box<Stmt>>,
+    tokens: &'a [Token],
+    bodies: &Bodies<F>,
+) -> Reading<'a, Stmt>
+    requires reads { ReadsBelow (F.pre bodies.now.read) (F.post bodies.now.read) bodies.now.limit }
+    requires within { length tokens.now ≤ bodies.now.limit }
+    ensures gives { Gives (λ x. (stmt_of x.0, lexemes x.1.now)) result (for_test_at (lexemes whole.now) (boxed_stmt_option_of first_stmt) (lexemes tokens.now)) }
+    ensures shorter { Shorter (λ x. x.1.now) result tokens.now }
+{
+    if let Terminal::Semicolon = first(tokens) {
+        return for_post(alloc, whole, first_stmt, None, rest(tokens), bodies);
+    }
+    let Some((test, left)) = expression(alloc, tokens, true, bodies)? else {
+        return Ok(None);
+    };
+    let Terminal::Semicolon = first(left) else {
+        return Ok(None);
+    };
+    for_post(alloc, whole, first_stmt, Some(test), rest(left), bodies)
+}
+
+/// The last statement of a header, and the body.
+#[tactic(auto, using(crate::proofs::ForArms::post_absent, crate::proofs::ForArms::post_none, crate::proofs::ForArms::post_some))]
+fn for_post<'a, F: Fn(&[Token]) -> Taken>(
+    alloc: Global,
+    whole: &[Token],
+    first_stmt: Option<Box<Stmt>>,
+    test: Option<Expr>,
+    tokens: &'a [Token],
+    bodies: &Bodies<F>,
+) -> Reading<'a, Stmt>
+    requires reads { ReadsBelow (F.pre bodies.now.read) (F.post bodies.now.read) bodies.now.limit }
+    requires within { length tokens.now ≤ bodies.now.limit }
+    ensures gives { Gives (λ x. (stmt_of x.0, lexemes x.1.now)) result (for_post_at (lexemes whole.now) (boxed_stmt_option_of first_stmt) (plain_expr_option_of test) (lexemes tokens.now)) }
+    ensures shorter { Shorter (λ x. x.1.now) result tokens.now }
+{
+    if let Terminal::Brace = first(tokens) {
+        return for_body(alloc, whole, first_stmt, test, None, tokens, bodies);
+    }
+    let Some((post, left)) = simple_stmt(alloc, tokens, true, bodies)? else {
+        return Ok(None);
+    };
+    let post = Some(Box::new(alloc, post)?);
+    for_body(alloc, whole, first_stmt, test, post, left, bodies)
+}
+
+/// The body behind the header.
+#[tactic(auto, using(crate::proofs::ForArms::body_none, crate::proofs::ForArms::body_some))]
+fn for_body<'a, F: Fn(&[Token]) -> Taken>(
+    alloc: Global,
+    whole: &[Token],
+    first_stmt: Option<Box<Stmt>>,
+    test: Option<Expr>,
+    post: Option<Box<Stmt>>,
+    tokens: &'a [Token],
+    bodies: &Bodies<F>,
+) -> Reading<'a, Stmt>
+    requires reads { ReadsBelow (F.pre bodies.now.read) (F.post bodies.now.read) bodies.now.limit }
+    requires within { length tokens.now ≤ bodies.now.limit }
+    ensures gives { Gives (λ x. (stmt_of x.0, lexemes x.1.now)) result (for_body_at (lexemes whole.now) (boxed_stmt_option_of first_stmt) (plain_expr_option_of test) (boxed_stmt_option_of post) (lexemes tokens.now)) }
+    ensures shorter { Shorter (λ x. x.1.now) result tokens.now }
+{
+    let Some((body, left)) = block(tokens, bodies)? else {
+        return Ok(None);
+    };
+    let span = span_between(whole, left);
+    Ok(Some((build_for(span, first_stmt, test, post, body), left)))
+}
+
+/// What `range` goes over, and the body.
+#[tactic(auto, using(crate::proofs::ForArms::range_none, crate::proofs::ForArms::range_open, crate::proofs::ForArms::range_some))]
+fn range_body<'a, F: Fn(&[Token]) -> Taken>(
+    alloc: Global,
+    whole: &[Token],
+    left_side: RangeLeft,
+    tokens: &'a [Token],
+    bodies: &Bodies<F>,
+) -> Reading<'a, Stmt>
+    requires reads { ReadsBelow (F.pre bodies.now.read) (F.post bodies.now.read) bodies.now.limit }
+    requires within { length tokens.now ≤ bodies.now.limit }
+    ensures gives { Gives (λ x. (stmt_of x.0, lexemes x.1.now)) result (range_at (lexemes whole.now) (range_left_of left_side) (lexemes tokens.now)) }
+    ensures shorter { Shorter (λ x. x.1.now) result tokens.now }
+{
+    let Some((over, left)) = expression(alloc, tokens, true, bodies)? else {
+        return Ok(None);
+    };
+    let Some((body, left)) = block(left, bodies)? else {
+        return Ok(None);
+    };
+    let span = span_between(whole, left);
+    Ok(Some((build_range(span, left_side, over, body), left)))
+}

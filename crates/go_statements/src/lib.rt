@@ -1,0 +1,13 @@
+//! Statements, blocks and the declarations that may be statements, read of a slice of tokens from
+//! left to right.
+#![tactic(auto)]
+
+mod branches;
+mod decls;
+mod for_stmts;
+mod simple_stmts;
+mod stmt_builders;
+mod stmts;
+
+pub use decls::{const_decl, var_decl};
+pub use stmts::block;

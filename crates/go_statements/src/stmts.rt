@@ -1,0 +1,289 @@
+//! Statements and blocks (Go specification, Statements, Blocks).
+
+ghost use Rattle.std.specs.Prelude.{◌≡◌, map, ◌<◌, ◌≤◌, length};
+ghost use Rattle.go_tree.specs.Tree.{empty};
+ghost use Rattle.go_tree.specs.View.{block_of, stmt_of, stmts_of};
+ghost use Rattle.go_read.specs.SpellsTerminals.{lexemes};
+ghost use Rattle.go_read.specs.SpellsSpans.{span_to};
+ghost use Rattle.go_read.specs.Goals.{read_block, read_stmt, read_stmts};
+ghost use Rattle.go_read.specs.Reading.{at};
+ghost use Rattle.go_expressions.specs.Bodies.{ReadsBelow, StmtsTaken};
+ghost use Rattle.go_productions.specs.Answers.{Gives, Shorter, Within};
+ghost use Rattle.go_statements.specs.StmtParts.{closes, ends_stmts};
+ghost use Rattle.go_productions.specs.Terminals.{first_of};
+
+use crate::branches::{if_stmt, switch_stmt};
+use crate::decls::{const_stmt, var_stmt};
+use crate::for_stmts::for_stmt;
+use crate::simple_stmts::simple_stmt;
+use crate::stmt_builders::{build_inner, build_label, build_return, is_bare_call};
+use go_expressions::{Bodies, Taken, binary_expr, expr_list};
+use go_productions::{Reading, Terminal, first, name, rest, span_between};
+use go_tree::{Block, Stmt, StmtList, Token};
+use std::alloc::Global;
+
+/// Statements in braces.
+#[tactic(auto, using(go_expressions::proofs::BodyArms::block_open, go_expressions::proofs::BodyArms::block_none, go_expressions::proofs::BodyArms::block_end, go_expressions::proofs::BodyArms::block_some))]
+pub fn block(alloc: Global, tokens: &[Token]) -> Reading<Block>
+    ensures gives { Gives (λ x. (block_of x.0, lexemes x.1.now)) result (at span_to read_block (lexemes tokens.now)) }
+    ensures shorter { Shorter (λ x. x.1.now) result tokens.now }
+{
+    let Terminal::Brace = first(tokens) else {
+        return Ok(None);
+    };
+    let Some((stmts, left)) = stmt_list(alloc, rest(tokens))? else {
+        return Ok(None);
+    };
+    let Terminal::EndBrace = first(left) else {
+        return Ok(None);
+    };
+    let left = rest(left);
+    let span = span_between(tokens, left);
+    Ok(Some((Block { span, stmts }, left)))
+}
+
+/// Statements up to a closing brace or the next clause of a `switch`; the last semicolon may be
+/// left out before a brace.
+#[cycle(statements)]
+#[tactic(auto, using(crate::proofs::TakenArms::stmts_are_taken))]
+pub(crate) fn stmt_list(alloc: Global, tokens: &[Token]) -> Reading<StmtList>
+    ensures gives { Gives (λ x. (stmts_of x.0, lexemes x.1.now)) result (at span_to read_stmts (lexemes tokens.now)) }
+    ensures within { Within (λ x. x.1.now) result tokens.now }
+{
+    let limit = tokens.len();
+    let read = |inner: &[Token]| -> Taken
+        requires { length inner.now < limit }
+        ensures { StmtsTaken inner.now result }
+    {
+        let _ = &limit;
+        taken(alloc, inner)
+    };
+    let bodies = Bodies { read, limit };
+    listed(alloc, tokens, &bodies)
+}
+
+/// Such statements, and how many tokens they take.
+#[cycle(statements)]
+#[tactic(auto, using(crate::proofs::TakenArms::stmts_are_taken))]
+pub(crate) fn taken(alloc: Global, tokens: &[Token]) -> Taken
+    ensures { StmtsTaken tokens.now result }
+{
+    let Some((stmts, left)) = stmt_list(alloc, tokens)? else {
+        return Ok(None);
+    };
+    Ok(Some((stmts, tokens.len() - left.len())))
+}
+
+/// Such statements, with what reads those of the bodies in them.
+#[tactic(auto, using(crate::proofs::StmtArms::stmts_end, crate::proofs::StmtArms::stmts_lost, crate::proofs::StmtArms::stmts_more, crate::proofs::StmtArms::stmts_last, crate::proofs::StmtArms::stmts_stop))]
+fn listed<'a, F: Fn(&[Token]) -> Taken>(
+    alloc: Global,
+    tokens: &'a [Token],
+    bodies: &Bodies<F>,
+) -> Reading<'a, StmtList>
+    requires reads { ReadsBelow (F.pre bodies.now.read) (F.post bodies.now.read) bodies.now.limit }
+    requires within { length tokens.now ≤ bodies.now.limit }
+    ensures gives { Gives (λ x. (stmts_of x.0, lexemes x.1.now)) result (at span_to read_stmts (lexemes tokens.now)) }
+    ensures within { Within (λ x. x.1.now) result tokens.now }
+{
+    let mut items = Vec::new(alloc);
+    let mut left = tokens;
+    while !ends_stmts(first(left)) {
+        let Some((item, after)) = stmt(alloc, left, bodies)? else {
+            return Ok(None);
+        };
+        items.push(item)?;
+        match first(after) {
+            Terminal::Semicolon => left = rest(after),
+            Terminal::EndBrace => left = after,
+            _ => return Ok(None),
+        }
+    }
+    Ok(Some((StmtList::of(items), left)))
+}
+
+/// Whether no further statement of a list begins here.
+fn ends_stmts(terminal: Terminal) -> bool
+    ensures { ends_stmts terminal ≡ result }
+{
+    match terminal {
+        Terminal::EndBrace | Terminal::Case | Terminal::Default => true,
+        _ => false,
+    }
+}
+
+/// A statement.
+#[cycle(labels)]
+#[tactic(auto, using(crate::proofs::StmtArms::const_none, crate::proofs::StmtArms::const_some, crate::proofs::StmtArms::var_none, crate::proofs::StmtArms::var_some, crate::proofs::StmtArms::inner_none, crate::proofs::StmtArms::inner_some, crate::proofs::StmtArms::empty_semicolon, crate::proofs::StmtArms::empty_brace, crate::proofs::StmtArms::plain_stmt))]
+fn stmt<'a, F: Fn(&[Token]) -> Taken>(
+    alloc: Global,
+    tokens: &'a [Token],
+    bodies: &Bodies<F>,
+) -> Reading<'a, Stmt>
+    requires reads { ReadsBelow (F.pre bodies.now.read) (F.post bodies.now.read) bodies.now.limit }
+    requires within { length tokens.now ≤ bodies.now.limit }
+    ensures gives { Gives (λ x. (stmt_of x.0, lexemes x.1.now)) result (at span_to read_stmt (lexemes tokens.now)) }
+    ensures within { Within (λ x. x.1.now) result tokens.now }
+{
+    match first(tokens) {
+        Terminal::Const => {
+            let Some((d, left)) = const_stmt(alloc, tokens, bodies)? else {
+                return Ok(None);
+            };
+            Ok(Some((Stmt::Const(d), left)))
+        }
+        Terminal::Var => {
+            let Some((d, left)) = var_stmt(alloc, tokens, bodies)? else {
+                return Ok(None);
+            };
+            Ok(Some((Stmt::Var(d), left)))
+        }
+        Terminal::Brace => {
+            let Some((body, left)) = go_expressions::block(tokens, bodies)? else {
+                return Ok(None);
+            };
+            Ok(Some((build_inner(body), left)))
+        }
+        Terminal::Semicolon => Ok(Some((empty(tokens), tokens))),
+        Terminal::EndBrace => Ok(Some((empty(tokens), tokens))),
+        Terminal::Return => return_stmt(alloc, tokens, bodies),
+        Terminal::Break => break_stmt(alloc, tokens),
+        Terminal::Continue => continue_stmt(alloc, tokens),
+        Terminal::If => if_stmt(alloc, tokens, bodies),
+        Terminal::For => for_stmt(alloc, tokens, bodies),
+        Terminal::Switch => switch_stmt(alloc, tokens, bodies),
+        Terminal::Defer => defer_stmt(alloc, tokens, bodies),
+        Terminal::Word => word_stmt(alloc, tokens, bodies),
+        _ => simple_stmt(alloc, tokens, false, bodies),
+    }
+}
+
+/// The empty statement before this token.
+fn empty(tokens: &[Token]) -> Stmt
+    ensures { stmt_of result ≡ empty (span_to (lexemes tokens.now) (lexemes tokens.now)) }
+{
+    Stmt::Empty {
+        span: span_between(tokens, tokens),
+    }
+}
+
+/// A statement that begins with a name: a labeled one where a colon follows.
+#[cycle(labels)]
+#[tactic(auto, using(crate::proofs::StmtArms::word_plain, crate::proofs::StmtArms::label_none, crate::proofs::StmtArms::label_some))]
+fn word_stmt<'a, F: Fn(&[Token]) -> Taken>(
+    alloc: Global,
+    tokens: &'a [Token],
+    bodies: &Bodies<F>,
+) -> Reading<'a, Stmt>
+    requires reads { ReadsBelow (F.pre bodies.now.read) (F.post bodies.now.read) bodies.now.limit }
+    requires within { length tokens.now ≤ bodies.now.limit }
+    requires begins { first_of (lexemes tokens.now) ≡ Terminal.Word }
+    ensures gives { Gives (λ x. (stmt_of x.0, lexemes x.1.now)) result (at span_to read_stmt (lexemes tokens.now)) }
+    ensures shorter { Shorter (λ x. x.1.now) result tokens.now }
+{
+    let after = rest(tokens);
+    let Terminal::Colon = first(after) else {
+        return simple_stmt(alloc, tokens, false, bodies);
+    };
+    let Some((of, left)) = stmt(alloc, rest(after), bodies)? else {
+        return Ok(None);
+    };
+    let span = span_between(tokens, left);
+    let name = name(alloc, tokens)?;
+    let labeled = build_label(alloc, span, name, of)?;
+    Ok(Some((labeled, left)))
+}
+
+/// `return`, with values where they stand there.
+#[tactic(auto, using(crate::proofs::StmtArms::return_alone, crate::proofs::StmtArms::return_none, crate::proofs::StmtArms::return_some))]
+fn return_stmt<'a, F: Fn(&[Token]) -> Taken>(
+    alloc: Global,
+    tokens: &'a [Token],
+    bodies: &Bodies<F>,
+) -> Reading<'a, Stmt>
+    requires reads { ReadsBelow (F.pre bodies.now.read) (F.post bodies.now.read) bodies.now.limit }
+    requires within { length tokens.now ≤ bodies.now.limit }
+    requires begins { first_of (lexemes tokens.now) ≡ Terminal.Return }
+    ensures gives { Gives (λ x. (stmt_of x.0, lexemes x.1.now)) result (at span_to read_stmt (lexemes tokens.now)) }
+    ensures shorter { Shorter (λ x. x.1.now) result tokens.now }
+{
+    let after = rest(tokens);
+    if closes(first(after)) {
+        let span = span_between(tokens, after);
+        return Ok(Some((build_return(span, Vec::new(alloc)), after)));
+    }
+    let Some((values, left)) = expr_list(alloc, after, false, bodies)? else {
+        return Ok(None);
+    };
+    let span = span_between(tokens, left);
+    Ok(Some((build_return(span, values), left)))
+}
+
+/// Whether a statement ends before this terminal.
+fn closes(terminal: Terminal) -> bool
+    ensures { closes terminal ≡ result }
+{
+    match terminal {
+        Terminal::Semicolon | Terminal::EndBrace => true,
+        _ => false,
+    }
+}
+
+/// `break`, with a label where one stands there.
+#[tactic(auto, using(crate::proofs::StmtArms::break_alone, crate::proofs::StmtArms::break_label))]
+fn break_stmt(alloc: Global, tokens: &[Token]) -> Reading<Stmt>
+    requires begins { first_of (lexemes tokens.now) ≡ Terminal.Break }
+    ensures gives { Gives (λ x. (stmt_of x.0, lexemes x.1.now)) result (at span_to read_stmt (lexemes tokens.now)) }
+    ensures shorter { Shorter (λ x. x.1.now) result tokens.now }
+{
+    let after = rest(tokens);
+    let Terminal::Word = first(after) else {
+        let span = span_between(tokens, after);
+        return Ok(Some((Stmt::Break { span, label: None }, after)));
+    };
+    let left = rest(after);
+    let span = span_between(tokens, left);
+    let label = Some(name(alloc, after)?);
+    Ok(Some((Stmt::Break { span, label }, left)))
+}
+
+/// `continue`, with a label where one stands there.
+#[tactic(auto, using(crate::proofs::StmtArms::continue_alone, crate::proofs::StmtArms::continue_label))]
+fn continue_stmt(alloc: Global, tokens: &[Token]) -> Reading<Stmt>
+    requires begins { first_of (lexemes tokens.now) ≡ Terminal.Continue }
+    ensures gives { Gives (λ x. (stmt_of x.0, lexemes x.1.now)) result (at span_to read_stmt (lexemes tokens.now)) }
+    ensures shorter { Shorter (λ x. x.1.now) result tokens.now }
+{
+    let after = rest(tokens);
+    let Terminal::Word = first(after) else {
+        let span = span_between(tokens, after);
+        return Ok(Some((Stmt::Continue { span, label: None }, after)));
+    };
+    let left = rest(after);
+    let span = span_between(tokens, left);
+    let label = Some(name(alloc, after)?);
+    Ok(Some((Stmt::Continue { span, label }, left)))
+}
+
+/// `defer` and a call without parentheses around it.
+#[tactic(auto, using(crate::proofs::StmtArms::defer_none, crate::proofs::StmtArms::defer_stop, crate::proofs::StmtArms::defer_some))]
+fn defer_stmt<'a, F: Fn(&[Token]) -> Taken>(
+    alloc: Global,
+    tokens: &'a [Token],
+    bodies: &Bodies<F>,
+) -> Reading<'a, Stmt>
+    requires reads { ReadsBelow (F.pre bodies.now.read) (F.post bodies.now.read) bodies.now.limit }
+    requires within { length tokens.now ≤ bodies.now.limit }
+    requires begins { first_of (lexemes tokens.now) ≡ Terminal.Defer }
+    ensures gives { Gives (λ x. (stmt_of x.0, lexemes x.1.now)) result (at span_to read_stmt (lexemes tokens.now)) }
+    ensures shorter { Shorter (λ x. x.1.now) result tokens.now }
+{
+    let Some(((call, bare), left)) = binary_expr(alloc, rest(tokens), 1, false, bodies)? else {
+        return Ok(None);
+    };
+    if !is_bare_call(&call, bare) {
+        return Ok(None);
+    }
+    let span = span_between(tokens, left);
+    Ok(Some((Stmt::Defer { span, call }, left)))
+}

@@ -1,0 +1,8 @@
+package main
+
+//go:fix inline
+const X = 3
+
+func main() {
+	println(X)
+}

@@ -1,0 +1,10 @@
+package main
+
+const Pointer = 1
+
+//go:fix inline
+const Ptr = Pointer
+
+func main() {
+	println(Pointer)
+}

@@ -1,0 +1,9 @@
+package main
+
+//go:fix inline
+func Close(n int) { println("closed", n) }
+
+func main() {
+	v := 1
+	defer Close(v)
+}

@@ -1,0 +1,11 @@
+package main
+
+//go:fix inline
+func Zero() int { return 0 }
+
+func main() {
+	x := 1
+	println(x / func() int {
+		return 0
+	}())
+}

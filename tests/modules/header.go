@@ -1,0 +1,13 @@
+package main
+
+type P struct{ n int }
+
+//go:fix inline
+func IsOne(p P) bool { return p == P{1} }
+
+func main() {
+	q := P{1}
+	if IsOne(q) {
+		println(1)
+	}
+}

@@ -1,0 +1,11 @@
+package main
+
+//go:fix inline
+func First(x, y int) int { return y }
+
+func main() {
+	a := []int{1}
+	i := 0
+	b := 2
+	println(First(a[i], b))
+}

@@ -1,0 +1,3 @@
+package base
+
+func Div(x, y int) int { return x / y }

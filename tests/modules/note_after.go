@@ -1,0 +1,13 @@
+package main
+
+func next() int { println("n"); return 1 }
+
+//go:fix inline
+func Note(a, b int) { println("note") }
+
+func main() {
+	{
+		_ = next()
+		println("note")
+	}
+}

@@ -1,0 +1,8 @@
+package main
+
+import "example.com/m/old"
+
+func main() {
+	x := 3
+	println(old.Square(x))
+}

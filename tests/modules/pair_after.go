@@ -1,0 +1,14 @@
+package main
+
+func next() int { println("n"); return 1 }
+
+//go:fix inline
+func Pair(a, b int) { println(a, a, b) }
+
+func main() {
+	a := 5
+	{
+		a, b := next(), a
+		println(a, a, b)
+	}
+}

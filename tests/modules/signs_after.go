@@ -1,0 +1,9 @@
+package main
+
+//go:fix inline
+func Neg(x int) int { return -x }
+
+func main() {
+	a, b := 3, 4
+	println(a- -b)
+}

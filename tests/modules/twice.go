@@ -1,0 +1,10 @@
+package main
+
+func next() int { println("n"); return 1 }
+
+//go:fix inline
+func Twice(x int) int { return x + x }
+
+func main() {
+	println(Twice(next()))
+}
