@@ -5,13 +5,7 @@
 set -u
 top=$(cd "$(dirname "${BASH_SOURCE[0]}")/.." && pwd)
 . "$top/tests/show.sh"
-passed=0
-failed=0
-work=$(mktemp -d)
-trap 'rm -rf "$work"' EXIT
-
-pass() { passed=$((passed + 1)); }
-fail() { failed=$((failed + 1)); echo "FAILED: $*"; }
+. "$top/tests/counts.sh"
 
 # printed NAME FILE WANTED: what is printed of the file is the wanted text.
 printed() {

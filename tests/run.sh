@@ -2,13 +2,7 @@
 # Runs the built program as a user would, in folders of its own, and ends with one line 'N passed, N failed'.
 set -u
 top=$(cd "$(dirname "${BASH_SOURCE[0]}")/.." && pwd)
-passed=0
-failed=0
-work=$(mktemp -d)
-trap 'rm -rf "$work"' EXIT
-
-pass() { passed=$((passed + 1)); }
-fail() { failed=$((failed + 1)); echo "FAILED: $*"; }
+. "$top/tests/counts.sh"
 
 # expect NAME STATUS OUTPUT WORDS..: runs gofix in the current folder.
 expect() {
