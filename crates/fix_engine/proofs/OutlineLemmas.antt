@@ -6,8 +6,8 @@ use Rattle.std.specs.List.{ends_with}
 use Rattle.std.specs.Cmp.Lexicographic.{same_text, pointwise}
 use Rattle.fix_engine.proofs.Parts.{At, pass}
 use Rattle.go_tree.specs.declared.spans.Span.{Span}
-use Rattle.go_syntax.specs.Tree as tree
-use Rattle.go_syntax.specs.File as file
+use Rattle.go_tree.specs.Tree as tree
+use Rattle.go_tree.specs.File as file
 use Rattle.go_outline.specs.Outline as outline
 use Rattle.fix_engine.specs.declared.outline.Operand.{Operand}
 use Rattle.fix_engine.specs.declared.outline.Constant.{Constant}

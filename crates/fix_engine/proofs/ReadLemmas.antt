@@ -4,10 +4,10 @@ use Rattle.std.specs.Option.{option_map}
 use denote.Hole.Carrier
 use Rattle.go_tree.specs.declared.spans.Span.{Span}
 use Rattle.go_tree.specs.declared.exprs.Expr.TheBlock as e
-use Rattle.go_syntax.specs.Tree as tree
-use Rattle.go_syntax.specs.File.{values}
-use Rattle.go_syntax.specs.View.{name_at_of, type_of, expr_of, exprs_of, const_decl_of, const_spec_of, const_specs_of}
-use Rattle.go_syntax.specs.Lists.{exprs_from, specs_from}
+use Rattle.go_tree.specs.Tree as tree
+use Rattle.go_tree.specs.File.{values}
+use Rattle.go_tree.specs.View.{name_at_of, type_of, expr_of, exprs_of, const_decl_of, const_spec_of, const_specs_of}
+use Rattle.go_tree.specs.Lists.{exprs_from, specs_from}
 use Rattle.go_tree.specs.declared.exprs.Expr.{Expr}
 use Rattle.go_tree.specs.declared.texts.NameAt.{NameAt}
 use Rattle.go_tree.specs.declared.stmts.ConstSpec.{ConstSpec}

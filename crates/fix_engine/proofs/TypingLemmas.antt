@@ -5,8 +5,8 @@ use Rattle.std.specs.Option.{option_map}
 use Rattle.std.specs.List.{list_all}
 use Rattle.std.specs.Cmp.Lexicographic.{same_text}
 use Rattle.go_tree.specs.declared.spans.Span.{Span}
-use Rattle.go_syntax.specs.Tree as tree
-use Rattle.go_syntax.specs.File as file
+use Rattle.go_tree.specs.Tree as tree
+use Rattle.go_tree.specs.File as file
 use Rattle.go_outline.specs.Words.{is_name, is_entry, is_predeclared, is_keyword, is_identifier}
 use Rattle.go_outline.specs.Outline as outline
 use Rattle.go_meaning_laws.specs.Package.{Package}

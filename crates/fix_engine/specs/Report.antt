@@ -1,6 +1,6 @@
 -- The lines of a report.
 use Rattle.std.specs.Prelude.{⊤, ℕ, ◌+◌, ◌≤◌, List, [], ◌∷◌, ◌++◌, take, codes, decimal}
-use Rattle.go_syntax.specs.Lines.{lines_before, column_after}
+use Rattle.text_places.specs.Lines.{lines_before, column_after}
 use Rattle.fix_engine.specs.declared.run.Step.{Step}
 
 -- the full name of a declaration: the import path of its package, a dot and its name

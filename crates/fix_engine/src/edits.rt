@@ -2,7 +2,7 @@
 ghost use Rattle.std.specs.Prelude.{◌≡◌, IfOk, length};
 ghost use Rattle.text_edits.specs.Applied.{Ascend, replaced_from};
 
-use go_syntax::{NoMemory, Text};
+use go_tree::{NoMemory, Text};
 use std::alloc::Global;
 use text_edits::Edit;
 

@@ -1,6 +1,6 @@
 // What the engine is given, and what it writes.
 
-use go_syntax::Text;
+use go_tree::Text;
 
 /// A file as read: its index where it was listed, its path in the module, and its bytes.
 #[derive(Drop)]

@@ -4,7 +4,7 @@ ghost use Rattle.std.specs.Option.{option_copied, option_map};
 ghost use Rattle.fix_engine.specs.Chain.{among, stands_for, value_named};
 
 use crate::outline::{Constant, Operand};
-use go_syntax::Text;
+use go_tree::Text;
 
 /// The value of the first constant with this name.
 pub fn value_named<'a>(constants: &'a [Constant], word: &[u8]) -> Option<&'a Operand>

@@ -4,7 +4,7 @@ ghost use Rattle.fix_engine.specs.Plan.{marks_of};
 
 use crate::outline::{Constant, copy};
 use crate::report::full_name;
-use go_syntax::{NoMemory, Text};
+use go_tree::{NoMemory, Text};
 use std::alloc::Global;
 
 /// The names of the marked constants whose full names begin with `only`.

@@ -1,11 +1,11 @@
 // The constants of a file and what its `main` prints, read off its tree.
 ghost use Rattle.std.specs.Prelude.{◌≡◌, [], ◌++◌, ◌∷◌, Some, None, IfOk, OnOk, MatchOption, length};
-ghost use Rattle.go_syntax.specs.View.{expr_of, exprs_of, stmt_of, stmts_of, const_decl_of};
-ghost use Rattle.go_syntax.specs.FileView.{file_of};
-ghost use Rattle.go_syntax.specs.File.{values};
+ghost use Rattle.go_tree.specs.View.{expr_of, exprs_of, stmt_of, stmts_of, const_decl_of};
+ghost use Rattle.go_tree.specs.FileView.{file_of};
+ghost use Rattle.go_tree.specs.File.{values};
 ghost use Rattle.fix_engine.specs.Read.{is_marked_at, operand_of, one_operand, constant_in, constants_in, printed, all_printed, prints_in};
 
-use go_syntax::{ConstDecl, Decl, Expr, ExprList, FileTree, NoMemory, Stmt, StmtList, Text};
+use go_tree::{ConstDecl, Decl, Expr, ExprList, FileTree, NoMemory, Stmt, StmtList, Text};
 use std::alloc::Global;
 
 /// A value or an argument as it stands: a name, or a number. `start` and `end` are where it stood

@@ -2,7 +2,7 @@
 ghost use Rattle.std.specs.Prelude.{◌≡◌};
 
 use crate::files::{PlannedFile, SourceFile};
-use go_syntax::Text;
+use go_tree::Text;
 
 /// The last text of a file, the report, and the number of steps.
 #[derive(Drop)]

@@ -1,6 +1,6 @@
 // The plan: which files to replace, and the report.
 ghost use Rattle.std.specs.Prelude.{◌≡◌, ◌&&◌, ◌^◌, ◌<◌, ◌≤◌, [], ◌∷◌, IfErr, IfOk, IsTrue, MatchOption, Some, bytes_eq, codes, length};
-ghost use Rattle.go_syntax.specs.FileView.{file_of};
+ghost use Rattle.go_tree.specs.FileView.{file_of};
 ghost use Rattle.go_outline.specs.Outline.{IsOutlineOf, Outline, text_of, tree_of};
 ghost use Rattle.fix_engine.specs.Located.{constants_of, prints_of};
 ghost use Rattle.text_edits.specs.Applied.{Ascend};
@@ -21,7 +21,7 @@ use crate::report::report;
 use crate::run::{Run, Step, run_over};
 use crate::typing::are_typed;
 use go_outline::{FirstFault, parse_first};
-use go_syntax::{FileTree, MAX_FILE_BYTES, NoMemory, Text};
+use go_tree::{FileTree, MAX_FILE_BYTES, NoMemory, Text};
 use std::alloc::Global;
 use text_edits::Edit;
 

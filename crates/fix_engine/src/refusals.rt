@@ -2,7 +2,7 @@
 ghost use Rattle.std.specs.Prelude.{◌≡◌};
 ghost use Rattle.fix_engine.specs.Refusals.{refusal_of};
 
-use go_syntax::Place;
+use go_tree::Place;
 
 /// What a refusal says.
 #[derive(Clone, Copy, Debug, PartialEq, Eq)]

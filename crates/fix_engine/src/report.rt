@@ -3,9 +3,10 @@ ghost use Rattle.std.specs.Prelude.{◌≡◌, ◌≤◌, ◌++◌, IfOk, OnOk, 
 ghost use Rattle.fix_engine.specs.Report.{Within, full_name, inlined_text, lines_of, place_text};
 
 use crate::run::Step;
-use go_syntax::{MAX_FILE_BYTES, NoMemory, Text, place};
+use go_tree::{MAX_FILE_BYTES, NoMemory, Text};
 use itoa::Buffer;
 use std::alloc::Global;
+use text_places::place;
 
 fn push_number(out: &mut Vec<u8>, n: u32) -> Result<(), NoMemory>
     ensures { OnOk result (out.new.items ≡ out.old.items ++ decimal n) }

@@ -5,7 +5,7 @@ ghost use Rattle.fix_engine.specs.Settled.{constant_edits, constant_steps, edit_
 
 use crate::lookup::stands_for;
 use crate::outline::{Constant, Operand, copy};
-use go_syntax::{NoMemory, Span, Text};
+use go_tree::{NoMemory, Span, Text};
 use std::alloc::Global;
 use text_edits::Edit;
 

@@ -1,7 +1,7 @@
 // Small modules, planned; expected values are by hand.
 
 use crate::{Plan, PlanFault, SourceFile, plan};
-use go_syntax::{NoMemory, Text};
+use go_tree::{NoMemory, Text};
 use std::alloc::Global;
 use std::process::Abort;
 use std::test::Fail;

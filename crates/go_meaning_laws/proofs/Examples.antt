@@ -1,8 +1,8 @@
 -- Small programs: what they show, computed; and packages that do not mean the same.
 use Rattle.std.proofs.Common.{◌≡◌, ℕ, false, List, [], ◌∷◌, None, refl, ap, subst, arith}
 use Rattle.std.specs.Prelude.{codes, pos}
-use Rattle.go_syntax.specs.Tree.{NameAt, Expr, ident, int_lit, call, no_exprs, expr_and, Stmt, const_decl, eval, Stmts, no_stmts, stmt_and, no_specs, spec}
-use Rattle.go_syntax.specs.File.{Decl, values, func}
+use Rattle.go_tree.specs.Tree.{NameAt, Expr, ident, int_lit, call, no_exprs, expr_and, Stmt, const_decl, eval, Stmts, no_stmts, stmt_and, no_specs, spec}
+use Rattle.go_tree.specs.File.{Decl, values, func}
 use Rattle.go_kernel.specs.Kernel.{Event, Println, Value, Number, Int, Ended, Covers, same, Vals, prim}
 use Rattle.go_meaning_laws.specs.Package.{Package}
 use Rattle.go_meaning_laws.specs.Packages.{Packages, WellTyped, HasMain, with_further}

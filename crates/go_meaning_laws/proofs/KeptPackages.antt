@@ -3,8 +3,8 @@ use Rattle.std.proofs.Common.{◌≡◌, ℕ, true, not, ◌&&◌, ◌||◌, Lis
 use Rattle.std.specs.Prelude.{is_none, bytes_eq, codes}
 use Rattle.std.specs.List.{list_all}
 use Rattle.std.proofs.lemmas.Bool.{and_parts}
-use Rattle.go_syntax.specs.Tree.{const_decl, no_exprs, expr_and, ValueSpecs, no_specs, spec}
-use Rattle.go_syntax.specs.File.{Decl, values, func}
+use Rattle.go_tree.specs.Tree.{const_decl, no_exprs, expr_and, ValueSpecs, no_specs, spec}
+use Rattle.go_tree.specs.File.{Decl, values, func}
 use Rattle.go_kernel.specs.Kernel.{Term, Vals, Let}
 use Rattle.go_meaning_laws.specs.Package.{SourceTree, Package}
 use Rattle.go_meaning_laws.specs.Means.{Environment, Entity, constant, function, means, universe, constants_then, decls_then, files_then, package_block, environment}

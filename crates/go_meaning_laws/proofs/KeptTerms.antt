@@ -3,8 +3,8 @@ use Rattle.std.proofs.Common.{◌≡◌, ℕ, Bool, true, ◌&&◌, if◌then◌
 use Rattle.std.specs.Prelude.{is_some}
 use Rattle.std.specs.List.{list_all}
 use Rattle.std.proofs.lemmas.Bool.{and_parts}
-use Rattle.go_syntax.specs.Tree.{Expr, ident, call, Exprs, no_exprs, expr_and, Stmt, const_decl, eval, Stmts, no_stmts, stmt_and, ValueSpecs, no_specs, spec}
-use Rattle.go_syntax.specs.File.{Func, Decl, values, func}
+use Rattle.go_tree.specs.Tree.{Expr, ident, call, Exprs, no_exprs, expr_and, Stmt, const_decl, eval, Stmts, no_stmts, stmt_and, ValueSpecs, no_specs, spec}
+use Rattle.go_tree.specs.File.{Func, Decl, values, func}
 use Rattle.go_kernel.specs.Kernel.{Both, Let}
 use Rattle.go_meaning_laws.specs.Means.{Environment, Entity, means}
 use Rattle.go_meaning_laws.specs.Typing.{has_no_signature, is_println, all_have_values, ok_stmt, ok_stmts, ok_constants, ok_decl}

@@ -1,8 +1,8 @@
 -- A step of inlining keeps the values of constants.
 use Rattle.std.proofs.Common.{◌≡◌, ℕ, zero, suc, Bool, true, false, if◌then◌else◌, List, [], ◌∷◌, length, Option, Some, None, refl, sym, ap, ◌∙◌}
 use Rattle.std.specs.Prelude.{bytes_eq, is_some}
-use Rattle.go_syntax.specs.Tree.{Expr, ident, int_lit}
-use Rattle.go_syntax.specs.File.{Func}
+use Rattle.go_tree.specs.Tree.{Expr, ident, int_lit}
+use Rattle.go_tree.specs.File.{Func}
 use Rattle.go_meaning_laws.specs.Means.{Environment, Entity, constant, function, predeclared, means, expression_of, constant_meant}
 use Rattle.go_meaning_laws.specs.Constants.{value_within, constant_value}
 use Rattle.go_meaning_laws.specs.Inlined.{InExpr, use_of, use_of_use}

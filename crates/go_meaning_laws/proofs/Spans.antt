@@ -3,10 +3,10 @@ use Rattle.std.proofs.Common.{◌≡◌, ℕ, zero, suc, Bool, true, false, not,
 use Rattle.std.specs.Prelude.{bytes_eq, codes, is_some, is_none}
 use Rattle.std.specs.Option.{option_map}
 use Rattle.std.specs.List.{list_all}
-use Rattle.go_syntax.specs.Tree.{Expr, ident, int_lit, call, Exprs, no_exprs, expr_and, Stmt, const_decl, eval, Stmts, no_stmts, stmt_and, ValueSpecs, no_specs, spec}
-use Rattle.go_syntax.specs.File.{Func, Decl, values, func}
-use Rattle.go_syntax.specs.Bare.{bare_param, bare_expr, bare_exprs, bare_stmt, bare_stmts, bare_value_specs}
-use Rattle.go_syntax.specs.FileBare.{bare_import_decl, bare_receiver, bare_func, bare_decl}
+use Rattle.go_tree.specs.Tree.{Expr, ident, int_lit, call, Exprs, no_exprs, expr_and, Stmt, const_decl, eval, Stmts, no_stmts, stmt_and, ValueSpecs, no_specs, spec}
+use Rattle.go_tree.specs.File.{Func, Decl, values, func}
+use Rattle.go_tree.specs.Bare.{bare_param, bare_expr, bare_exprs, bare_stmt, bare_stmts, bare_value_specs}
+use Rattle.go_tree.specs.FileBare.{bare_import_decl, bare_receiver, bare_func, bare_decl}
 use Rattle.go_kernel.specs.Kernel.{Term, Vals, Both, Let}
 use Rattle.go_meaning_laws.specs.Package.{SourceTree, Package}
 use Rattle.go_meaning_laws.specs.Means.{Environment, Entity, constant, function, predeclared, means, expression_of, constant_meant, universe, constants_then, decls_then, files_then, package_block, environment}

@@ -1,6 +1,6 @@
 -- The values of constant expressions (Go specification, Constant expressions; Integer literals).
 use Rattle.std.specs.Prelude.{ℕ, zero, suc, ◌+◌, ◌-◌, ◌*◌, Bool, List, [], ◌∷◌, length, Option, Some, None, is_some}
-use Rattle.go_syntax.specs.Tree.{Expr, ident, int_lit}
+use Rattle.go_tree.specs.Tree.{Expr, ident, int_lit}
 use Rattle.go_meaning_laws.specs.Means.{Environment, constant_meant}
 
 -- the number that decimal digits write, after what stands before them

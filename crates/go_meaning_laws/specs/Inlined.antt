@@ -1,9 +1,9 @@
 -- One step of inlining constants: a use of a constant becomes what the constant is declared as (Go specification, Constant declarations; Declarations and scope).
 -- Trees are taken without their spans. A construct without a rule has no step in it.
 use Rattle.std.specs.Prelude.{◌≡◌, ℕ, Bool, List, ◌∷◌, Option, Some, map}
-use Rattle.go_syntax.specs.Tree.{NameAt, TypeExpr, Expr, ident, call, Exprs, expr_and, Stmt, const_decl, eval, Stmts, stmt_and, ValueSpecs, spec}
-use Rattle.go_syntax.specs.File.{Func, Decl, values, func}
-use Rattle.go_syntax.specs.FileBare.{bare_file}
+use Rattle.go_tree.specs.Tree.{NameAt, TypeExpr, Expr, ident, call, Exprs, expr_and, Stmt, const_decl, eval, Stmts, stmt_and, ValueSpecs, spec}
+use Rattle.go_tree.specs.File.{Func, Decl, values, func}
+use Rattle.go_tree.specs.FileBare.{bare_file}
 use Rattle.go_meaning_laws.specs.Package.{SourceTree, Package}
 use Rattle.go_meaning_laws.specs.Means.{Environment, constant_meant, environment}
 use Rattle.go_meaning_laws.specs.Packages.{Packages}

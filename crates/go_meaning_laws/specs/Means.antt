@@ -1,8 +1,8 @@
 -- What names mean (Go specification, Declarations and scope; Predeclared identifiers).
 -- An environment is a list of names with what they are declared as, innermost first: the package block, then the universe block.
 use Rattle.std.specs.Prelude.{ℕ, if◌then◌else◌, bytes_eq, List, [], ◌∷◌, Option, Some, None, codes}
-use Rattle.go_syntax.specs.Tree.{NameAt, TypeExpr, Expr, Exprs, no_exprs, expr_and, ValueSpecs, no_specs, spec, const_decl}
-use Rattle.go_syntax.specs.File.{Func, Decl, values, func}
+use Rattle.go_tree.specs.Tree.{NameAt, TypeExpr, Expr, Exprs, no_exprs, expr_and, ValueSpecs, no_specs, spec, const_decl}
+use Rattle.go_tree.specs.File.{Func, Decl, values, func}
 use Rattle.go_meaning_laws.specs.Package.{SourceTree, Package}
 
 pub data Entity (S : Type 0) : Type 0 where

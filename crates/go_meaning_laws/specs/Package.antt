@@ -1,6 +1,6 @@
 -- Packages as values without places in memory (Go specification, Packages; Source file organization).
 use Rattle.std.specs.Prelude.{List, ℕ}
-use Rattle.go_syntax.specs.File.{File}
+use Rattle.go_tree.specs.File.{File}
 
 -- a file of a package: its path in the module, and its tree
 pub record SourceTree (S : Type 0) : Type 0 where

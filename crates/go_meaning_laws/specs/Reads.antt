@@ -2,7 +2,7 @@
 -- `IsModule text path` says that the text is a `go.mod` of the module `path`, and `Spells text tree` that the text is a source file with this tree.
 use Rattle.std.specs.Prelude.{◌≡◌, ℕ, List, [], ◌∷◌, codes}
 use Rattle.go_tree.specs.declared.spans.Span.{Span}
-use Rattle.go_syntax.specs.File.{File}
+use Rattle.go_tree.specs.File.{File}
 use Rattle.go_meaning_laws.specs.Package.{SourceTree, Package}
 
 module _ (IsModule : List ℕ → List ℕ → Type 0) (Spells : List ℕ → File Span → Type 0) where

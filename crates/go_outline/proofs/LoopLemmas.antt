@@ -3,13 +3,13 @@ use Rattle.std.proofs.Common.{Bool, true, false, cond, ◌≡◌, ◌≢◌, ℕ
 use Rattle.std.specs.Prelude.{Option, Some, None, codes, nat_le, slice_range}
 use Rattle.std.proofs.lemmas.Bool.{le-leb, lt-leb}
 use Rattle.std.proofs.lemmas.List.{map-append, append-nil}
-use Rattle.go_syntax.specs.declared.Decl.{Decl}
-use Rattle.go_syntax.specs.declared.Stmt.{Stmt}
-use Rattle.go_syntax.specs.Tree as tree
-use Rattle.go_syntax.specs.View.{stmt_of, name_at_of}
-use Rattle.go_syntax.specs.FileView.{decl_of, file_of}
-use Rattle.go_syntax.specs.declared.FileTree.{FileTree}
-use Rattle.go_syntax.specs.Lists.{stmts_from}
+use Rattle.go_tree.specs.declared.files.Decl.{Decl}
+use Rattle.go_tree.specs.declared.stmts.Stmt.{Stmt}
+use Rattle.go_tree.specs.Tree as tree
+use Rattle.go_tree.specs.View.{stmt_of, name_at_of}
+use Rattle.go_tree.specs.FileView.{decl_of, file_of}
+use Rattle.go_tree.specs.declared.files.FileTree.{FileTree}
+use Rattle.go_tree.specs.Lists.{stmts_from}
 use Rattle.go_outline.specs.declared.found.TheConstants.{MAX_OUTLINE_BYTES}
 use Rattle.go_outline.specs.declared.found.OperandAt.{OperandAt}
 use Rattle.go_outline.specs.declared.found.ConstantAt.{ConstantAt}

@@ -4,8 +4,8 @@ use Rattle.go_outline.specs.declared.found.OperandAt.{OperandAt}
 use Rattle.go_outline.specs.declared.found.ConstantAt.{ConstantAt}
 use Rattle.go_outline.specs.declared.found.PrintAt.{PrintAt}
 use Rattle.go_outline.specs.Outline.{Operand, named, number, mark_text, Constant, one_expr, operand_tree}
-use Rattle.go_syntax.specs.declared.Span.{Span}
-use Rattle.go_syntax.specs.Tree as tree
+use Rattle.go_tree.specs.declared.spans.Span.{Span}
+use Rattle.go_tree.specs.Tree as tree
 
 abbrev pub operand_in : List ℕ → OperandAt → Operand
 operand_in text a = if a.named then named (slice_range text a.start a.end) else number (slice_range text a.start a.end)

@@ -2,9 +2,9 @@
 -- (Go specification: Source file organization, Constant declarations, Function declarations, Calls).
 use Rattle.std.specs.Prelude.{◌≡◌, ℕ, ◌+◌, ◌≤◌, Bool, true, false, not, ◌&&◌, ◌||◌, IsTrue, List, [], ◌∷◌, ◌++◌, length, codes, None}
 use Rattle.std.specs.List.{list_all}
-use Rattle.go_syntax.specs.declared.Span.{Span}
-use Rattle.go_syntax.specs.Tree as tree
-use Rattle.go_syntax.specs.File as file
+use Rattle.go_tree.specs.declared.spans.Span.{Span}
+use Rattle.go_tree.specs.Tree as tree
+use Rattle.go_tree.specs.File as file
 use Rattle.go_outline.specs.Words.{is_name, is_number}
 use Rattle.go_outline.specs.declared.found.TheConstants.{MAX_OUTLINE_BYTES}
 

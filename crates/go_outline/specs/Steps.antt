@@ -1,10 +1,10 @@
 -- What the two loops of the parser answer.
 use Rattle.std.specs.Prelude.{◌≡◌, ℕ, suc, ◌+◌, ◌≤◌, List, map, length, drop, Some}
-use Rattle.go_syntax.specs.declared.Decl.{Decl}
-use Rattle.go_syntax.specs.declared.Stmt.{Stmt}
-use Rattle.go_syntax.specs.View.{stmt_of}
-use Rattle.go_syntax.specs.FileView.{decl_of}
-use Rattle.go_syntax.specs.Lists.{stmts_from}
+use Rattle.go_tree.specs.declared.files.Decl.{Decl}
+use Rattle.go_tree.specs.declared.stmts.Stmt.{Stmt}
+use Rattle.go_tree.specs.View.{stmt_of}
+use Rattle.go_tree.specs.FileView.{decl_of}
+use Rattle.go_tree.specs.Lists.{stmts_from}
 use Rattle.go_outline.specs.Outline.{Constant, Operand, constant_trees, after_constants, print_trees, after_prints}
 use Rattle.go_outline.specs.Reading.{read_constants, read_prints}
 

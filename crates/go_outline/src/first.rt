@@ -1,8 +1,8 @@
 // Files that hold constants and a function `main` that prints.
 ghost use Rattle.std.specs.Prelude.{◌≡◌, ◌+◌, ◌≤◌, ℕ, suc, List, map, length, drop, IfOk, IsErrOf, Some, None};
-ghost use Rattle.go_syntax.specs.View.{stmt_of};
-ghost use Rattle.go_syntax.specs.FileView.{decl_of, file_of};
-ghost use Rattle.go_syntax.specs.Lists.{stmts_from};
+ghost use Rattle.go_tree.specs.View.{stmt_of};
+ghost use Rattle.go_tree.specs.FileView.{decl_of, file_of};
+ghost use Rattle.go_tree.specs.Lists.{stmts_from};
 ghost use Rattle.go_outline.specs.declared.first.FirstFault.TheVariants.{NotYet};
 ghost use Rattle.go_outline.specs.Outline.{Constant, Operand, Outline, constant_trees, after_constants, print_trees, after_prints, tree_of, IsOutlineOf};
 ghost use Rattle.go_outline.specs.Reading.{read_constants, read_prints};
@@ -10,7 +10,7 @@ ghost use Rattle.go_outline.specs.Steps.{ConstantsAre, PrintsAre};
 
 use crate::build::{constant_decl, main_decl, package_name, print_stmt};
 use crate::found::{MAX_OUTLINE_BYTES, after, constant_at, print_at};
-use go_syntax::{Decl, DeclList, FileTree, ImportDeclList, Stmt};
+use go_tree::{Decl, DeclList, FileTree, ImportDeclList, Stmt};
 use std::alloc::{AllocError, AllocFailed, Global};
 
 /// Why a text gets no tree: it isn't a file with an outline, or memory was refused.

@@ -11,4 +11,4 @@ pub mod words;
 
 pub use first::{FirstFault, parse_first};
 pub use found::MAX_OUTLINE_BYTES;
-pub use go_syntax::FileTree;
+pub use go_tree::FileTree;

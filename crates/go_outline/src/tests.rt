@@ -1,6 +1,6 @@
 // Runs of the parser.
 use crate::{FirstFault, MAX_OUTLINE_BYTES, parse_first};
-use go_syntax::{Decl, Expr, Stmt};
+use go_tree::{Decl, Expr, Stmt};
 use std::alloc::Global;
 use std::test::Fail;
 

@@ -1,3 +1,2 @@
-pub mod LineLemmas
 pub mod CopyLemmas
-pub mod DepthLemmas
+pub mod BelowLemmas

@@ -1,19 +1,12 @@
-//! Syntax trees of Go source, with places in a text.
+//! Syntax trees of Go source: copies, depth, and places in a text.
 #![tactic(auto)]
 
-mod build_exprs;
 mod build_stmts;
-pub mod copy_exprs;
-pub mod copy_stmts;
-mod copy_types;
-pub mod depth_exprs;
-mod depth_stmts;
-mod depth_types;
-pub mod lines;
+pub mod copies;
+mod copy_stmts;
 
-pub use copy_exprs::copy_expr;
-pub use copy_stmts::copy_stmt;
-pub use depth_exprs::depth;
+pub use copies::{copy_expr, copy_stmt};
+pub use go_depth::depth;
 pub use go_tree::{
     Arm, ArmList, BinOp, Block, Case, CaseList, Comment, ConstDecl, ConstSpec, ConstSpecList, Decl,
     DeclList, Elem, ElemList, Expr, ExprList, FieldSpec, FieldSpecList, FileTree, FuncDecl,
@@ -22,4 +15,4 @@ pub use go_tree::{
     Spelling, Stmt, StmtList, Text, Token, TokenKind, TypeDecl, TypeExpr, TypeSpec, TypeSpecList,
     UnOp, Value, VarDecl, VarSpec, VarSpecList,
 };
-pub use lines::place;
+pub use text_places::place;

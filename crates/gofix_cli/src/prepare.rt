@@ -11,7 +11,7 @@ ghost use Rattle.gofix_cli.specs.Lines.{IsOfFile};
 use crate::status::Status;
 use fix_engine::{Plan, PlanFault, SourceFile, plan};
 use fix_io::{Tree, TreeFault};
-use go_syntax::{MAX_FILE_BYTES, Text};
+use go_tree::{MAX_FILE_BYTES, Text};
 use std::alloc::Global;
 
 /// Whether the listed paths are exactly `go.mod` and `main.go`.

@@ -2,10 +2,10 @@
 use Rattle.std.proofs.Common.{◌≡◌, ℕ, ◌+◌, false, List, [], ◌∷◌, ◌++◌, None, map, refl, ap, ◌∙◌}
 use Rattle.std.specs.Prelude.{codes}
 use Rattle.go_tree.specs.declared.spans.Span.{Span}
-use Rattle.go_syntax.specs.Tree.{Expr, ident, int_lit, call, no_exprs, expr_and, Stmt, const_decl, eval, Stmts, no_stmts, stmt_and, no_specs, spec}
-use Rattle.go_syntax.specs.File.{Decl, values, func}
-use Rattle.go_syntax.specs.Bare.{bare_expr, bare_stmts}
-use Rattle.go_syntax.specs.FileBare.{bare_decl}
+use Rattle.go_tree.specs.Tree.{Expr, ident, int_lit, call, no_exprs, expr_and, Stmt, const_decl, eval, Stmts, no_stmts, stmt_and, no_specs, spec}
+use Rattle.go_tree.specs.File.{Decl, values, func}
+use Rattle.go_tree.specs.Bare.{bare_expr, bare_stmts}
+use Rattle.go_tree.specs.FileBare.{bare_decl}
 use Rattle.go_outline.specs.Outline as outline
 use Rattle.go_meaning_laws.specs.Package.{Package}
 use Rattle.go_meaning_laws.specs.Inlined.{bare_package}

@@ -7,8 +7,8 @@ use Rattle.std.proofs.Math.Seq.{take-append_seam}
 use Rattle.std.proofs.lemmas.Bool.{and_parts}
 use Rattle.std.proofs.lemmas.Slice.Eq.{bytes_eq-Decides}
 use Rattle.go_tree.specs.declared.spans.Span.{Span}
-use Rattle.go_syntax.specs.Tree.{Expr, const_decl, no_exprs, expr_and, no_specs, spec}
-use Rattle.go_syntax.specs.File.{Decl, values}
+use Rattle.go_tree.specs.Tree.{Expr, const_decl, no_exprs, expr_and, no_specs, spec}
+use Rattle.go_tree.specs.File.{Decl, values}
 use Rattle.go_outline.specs.Words.{is_name, is_entry, is_predeclared, is_keyword, is_identifier}
 use Rattle.go_outline.specs.Outline as outline
 use Rattle.go_meaning_laws.specs.Package.{SourceTree, Package}

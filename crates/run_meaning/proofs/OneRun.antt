@@ -1,7 +1,7 @@
 -- A program has one next program, and one run.
 use Rattle.std.proofs.Common.{◌≡◌, ℕ, List, [], ◌∷◌, ◌++◌, Some, refl, sym, ap, subst, ◌∙◌}
-use Rattle.go_syntax.specs.Tree.{Expr, ident, call, Exprs, expr_and, Stmt, const_decl, eval, Stmts, stmt_and, ValueSpecs, spec}
-use Rattle.go_syntax.specs.File.{Decl, values, func}
+use Rattle.go_tree.specs.Tree.{Expr, ident, call, Exprs, expr_and, Stmt, const_decl, eval, Stmts, stmt_and, ValueSpecs, spec}
+use Rattle.go_tree.specs.File.{Decl, values, func}
 use Rattle.go_meaning_laws.specs.Package.{SourceTree, Package}
 use Rattle.go_meaning_laws.specs.Means.{environment, constant_meant}
 use Rattle.run_meaning.specs.Places.{Stays, AllStay, exprs_places, stmt_places, stmts_places, specs_places, decl_places, decls_places, FirstOfExprs, FirstOfStmt, FirstOfStmts, FirstOfSpecs, FirstOfDecl, FirstOfDecls, FilesStay, FirstOfFiles, PackagesStay, FirstOfPackages, first, later, operand, value, body}

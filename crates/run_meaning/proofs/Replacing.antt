@@ -3,7 +3,7 @@ use Rattle.std.proofs.Common.{◌≡◌, ℕ, suc, Bool, true, false, if◌then�
 use Rattle.std.specs.Prelude.{⊤, codes}
 use Rattle.std.specs.Option.{option_map}
 use Rattle.go_tree.specs.declared.spans.Span.{Span}
-use Rattle.go_syntax.specs.Tree.{Expr, ident, int_lit}
+use Rattle.go_tree.specs.Tree.{Expr, ident, int_lit}
 use Rattle.go_meaning_laws.specs.Package.{Package}
 use Rattle.go_meaning_laws.specs.Means.{Environment, environment, constant_meant}
 use Rattle.fix_engine.specs.declared.outline.Operand.{Operand}

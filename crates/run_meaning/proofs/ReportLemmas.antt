@@ -5,7 +5,7 @@ use Rattle.go_tree.specs.declared.spans.Span.{Span}
 use Rattle.go_outline.specs.Outline as outline
 use Rattle.go_meaning_laws.specs.Package.{Package}
 use Rattle.go_meaning_laws.specs.Means.{environment}
-use Rattle.go_syntax.specs.Tree.{Expr}
+use Rattle.go_tree.specs.Tree.{Expr}
 use Rattle.fix_engine.specs.declared.outline.Constant.{Constant}
 use Rattle.fix_engine.specs.declared.run.Step.{Step}
 use Rattle.fix_engine.specs.Located.{located_constant, located_constants, located_prints}

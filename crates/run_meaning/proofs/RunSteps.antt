@@ -1,10 +1,10 @@
 -- A run is made of steps of inlining, so it keeps the meaning.
 use Rattle.std.proofs.Common.{ℕ, List, map, refl, ap, ◌∙◌}
 use Rattle.std.specs.Option.{option_map}
-use Rattle.go_syntax.specs.Tree.{Expr, Exprs, Stmt, Stmts, ValueSpecs}
-use Rattle.go_syntax.specs.File.{Decl}
-use Rattle.go_syntax.specs.Bare.{bare_expr, bare_exprs, bare_stmt, bare_stmts, bare_value_specs}
-use Rattle.go_syntax.specs.FileBare.{bare_decl, bare_func}
+use Rattle.go_tree.specs.Tree.{Expr, Exprs, Stmt, Stmts, ValueSpecs}
+use Rattle.go_tree.specs.File.{Decl}
+use Rattle.go_tree.specs.Bare.{bare_expr, bare_exprs, bare_stmt, bare_stmts, bare_value_specs}
+use Rattle.go_tree.specs.FileBare.{bare_decl, bare_func}
 use Rattle.go_meaning_laws.specs.Package.{SourceTree, Package}
 use Rattle.go_meaning_laws.specs.Means.{Environment, environment}
 use Rattle.go_meaning_laws.specs.Packages.{Packages}

@@ -3,8 +3,8 @@ use Rattle.std.specs.Prelude.{◌≡◌, ℕ, ◌+◌, Bool, true, nat_eq, List,
 use Rattle.std.specs.List.{starts_with}
 use Rattle.go_tree.specs.declared.spans.Span.{Span}
 use Rattle.go_kernel.specs.Kernel.{ImportPath}
-use Rattle.go_syntax.specs.Tree.{NameAt, ident, no_exprs, expr_and, const_decl, no_specs, spec}
-use Rattle.go_syntax.specs.File.{Decl, values}
+use Rattle.go_tree.specs.Tree.{NameAt, ident, no_exprs, expr_and, const_decl, no_specs, spec}
+use Rattle.go_tree.specs.File.{Decl, values}
 use Rattle.go_meaning_laws.specs.Package.{SourceTree, Package}
 use Rattle.go_meaning_laws.specs.Means.{Environment, predeclared, means, environment}
 use Rattle.fix_engine.specs.Read.{mark_line}

@@ -2,7 +2,7 @@
 use Rattle.std.specs.Prelude.{◌≡◌, ℕ, ◌≤◌, true, false, IsTrue, List, [], ◌∷◌, length, map, codes}
 use Rattle.std.specs.List.{list_all}
 use Rattle.go_tree.specs.declared.spans.Span.{Span}
-use Rattle.go_syntax.specs.File.{File}
+use Rattle.go_tree.specs.File.{File}
 use Rattle.go_outline.specs.Outline.{Outline, is_outline, text_of, tree_of}
 use Rattle.go_meaning_laws.specs.Package.{Package}
 use Rattle.go_outline.specs.declared.found.TheConstants.{MAX_OUTLINE_BYTES}

@@ -1,8 +1,8 @@
 -- The places of expressions in a program, in the order of the ends of their spans, and a change at the first of them that can be changed.
 -- A construct without a rule has no place.
 use Rattle.std.specs.Prelude.{⊤, ℕ, Bool, List, [], ◌∷◌, ◌++◌, Option}
-use Rattle.go_syntax.specs.Tree.{NameAt, TypeExpr, Expr, call, Exprs, no_exprs, expr_and, Stmt, const_decl, eval, Stmts, no_stmts, stmt_and, ValueSpecs, no_specs, spec}
-use Rattle.go_syntax.specs.File.{Func, Decl, values, func}
+use Rattle.go_tree.specs.Tree.{NameAt, TypeExpr, Expr, call, Exprs, no_exprs, expr_and, Stmt, const_decl, eval, Stmts, no_stmts, stmt_and, ValueSpecs, no_specs, spec}
+use Rattle.go_tree.specs.File.{Func, Decl, values, func}
 use Rattle.go_meaning_laws.specs.Package.{SourceTree, Package}
 
 -- ---- places

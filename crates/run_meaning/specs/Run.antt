@@ -2,7 +2,7 @@
 use Rattle.std.specs.Prelude.{◌≡◌, ℕ, List, [], ◌∷◌}
 use Rattle.go_tree.specs.declared.spans.Span.{Span}
 use Rattle.go_kernel.specs.Kernel.{ImportPath}
-use Rattle.go_syntax.specs.Tree.{Expr}
+use Rattle.go_tree.specs.Tree.{Expr}
 use Rattle.go_meaning_laws.specs.Package.{Package}
 use Rattle.text_edits.specs.Keeps.{Keeps}
 use Rattle.run_meaning.specs.Places.{FirstOfPackages, PackagesStay}

@@ -1,7 +1,7 @@
 -- Uses of marked declarations, what takes their places, and what may be in the way.
 use Rattle.std.specs.Prelude.{◌≡◌, ℕ, List, ◌++◌, Some, codes}
 use Rattle.go_kernel.specs.Kernel.{ImportPath}
-use Rattle.go_syntax.specs.Tree.{Expr, ident}
+use Rattle.go_tree.specs.Tree.{Expr, ident}
 use Rattle.go_meaning_laws.specs.Package.{Package}
 use Rattle.go_meaning_laws.specs.Means.{Environment, means, environment, constant_meant}
 

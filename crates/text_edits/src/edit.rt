@@ -1,5 +1,5 @@
 // One edit of a text, and why it can't stand beside others.
-use go_syntax::{Span, Text};
+use go_tree::{Span, Text};
 use std::alloc::AllocFailed;
 
 /// The bytes that are to stand in place of a span of a text.

@@ -7,7 +7,7 @@ ghost use Rattle.text_edits.specs.Applied.{Within, applied};
 ghost use Rattle.text_edits.specs.Keeps.{Keeps};
 
 use crate::edit::{AddFault, Edit};
-use go_syntax::{NoMemory, Span};
+use go_tree::{NoMemory, Span};
 use std::alloc::Global;
 use std::marker::Model;
 

@@ -2,7 +2,7 @@
 ghost use Rattle.std.specs.Prelude.{◌≡◌, IfOk};
 
 use crate::{AddFault, Edit, Edits, apply};
-use go_syntax::{Span, Text};
+use go_tree::{Span, Text};
 use std::alloc::Global;
 use std::test::Fail;
 

@@ -1,5 +1,5 @@
 use Rattle.std.proofs.Common.{◌≡◌, ◌++◌, map, drop}
-use Rattle.go_syntax.specs.FileView.{decl_of}
+use Rattle.go_tree.specs.FileView.{decl_of}
 use Rattle.fix_engine.specs.Read.{constants_in}
 use Rattle.fix_engine.proofs.outline.constants_in.Given as goal
 

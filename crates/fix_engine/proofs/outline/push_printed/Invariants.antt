@@ -1,6 +1,6 @@
 use Rattle.std.proofs.Common.{◌≡◌, ◌++◌, map, drop}
-use Rattle.go_syntax.specs.View.{stmt_of}
-use Rattle.go_syntax.specs.Lists.{stmts_from}
+use Rattle.go_tree.specs.View.{stmt_of}
+use Rattle.go_tree.specs.Lists.{stmts_from}
 use Rattle.fix_engine.specs.Read.{all_printed}
 use Rattle.fix_engine.proofs.outline.push_printed.Given as goal
 

@@ -1,0 +1,6 @@
+//! Lines and columns of a text.
+#![tactic(auto)]
+
+pub mod lines;
+
+pub use lines::place;
