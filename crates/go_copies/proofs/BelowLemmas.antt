@@ -8,7 +8,7 @@ use Rattle.go_tree.specs.Lists.{elems_from, exprs_from, stmts_from}
 use Rattle.go_tree.specs.declared.exprs.Expr.{Expr}
 use Rattle.go_tree.specs.declared.stmts.Stmt.{Stmt}
 use Rattle.go_tree.specs.declared.exprs.Elem.{Elem}
-use Rattle.go_depth.specs.Depth.{greatest, depth_exprs, depth_stmt, depth_stmts, depth_elems}
+use Rattle.go_depth.specs.Depth.{greatest, depth_expr, depth_exprs, depth_stmt, depth_stmts, depth_elems}
 use Rattle.go_depth.specs.Deep.{expr_deep, stmt_deep, elem_deep}
 use Rattle.go_copies.specs.Copies.{CopiesBelow}
 use Rattle.go_depth.proofs.DepthLemmas.{exprs_deep, stmts_deep, elems_deep}
@@ -19,24 +19,25 @@ greatest_has f [] i d lt = absurd (omega arith)
 greatest_has f (x ∷ xs) zero d lt = omega arith
 greatest_has f (x ∷ xs) (suc i) d lt = let there = greatest_has f xs i d (omega arith) in omega (arith, there)
 
-pub entry_below : {A T : Type 0} (deep : A → ℕ) (depth : T → ℕ) (l : T) (of : List A → T) → ((xs : List A) → depth (of xs) ≡ greatest deep xs) → (xs : List A) (i : ℕ) (d : A) → l ≡ of xs → i < length xs → deep (get_or xs i d) ≤ depth l
-entry_below deep depth l of each xs i d seen lt =
+-- an entry is no deeper than its list
+pub entry_less : {A T : Type 0} (deep : A → ℕ) (depth : T → ℕ) (of : List A → T) → ((xs : List A) → depth (of xs) ≡ greatest deep xs) → (l : T) (xs : List A) (x : A) (i : ℕ) (d : A) → l ≡ of xs → x ≡ get_or xs i d → i < length xs → deep x ≤ depth l
+entry_less deep depth of each l xs x i d seen here lt =
     let has = greatest_has deep xs i d lt in
     let whole = ap depth seen ∙ each xs in
-    omega (arith, has, whole)
+    let same = ap deep here in
+    omega (arith, has, whole, same)
 
 module _ {E : Type 0} (may : Bor Stmt → Type 0) (answers : Bor Stmt → Result Stmt E → Type 0) where
   pub below : (m n : ℕ) → CopiesBelow may answers n → m ≤ n → CopiesBelow may answers m
   below m n copies less s lt = copies s (omega (arith, less, lt))
 
-  pub exprs_below : (l : pure.Exprs Span) (xs : List Expr) (i : ℕ) (d : Expr) → CopiesBelow may answers (depth_exprs l) → l ≡ exprs_from (map expr_of xs) → i < length xs → CopiesBelow may answers (expr_deep (get_or xs i d))
-  exprs_below l xs i d copies seen lt = below (expr_deep (get_or xs i d)) (depth_exprs l) copies (entry_below expr_deep depth_exprs l (λ ys. exprs_from (map expr_of ys)) exprs_deep xs i d seen lt)
-
   pub stmts_below : (l : pure.Stmts Span) (xs : List Stmt) (x : Stmt) (i : ℕ) (d : Stmt) → CopiesBelow may answers (depth_stmts l + 1) → l ≡ stmts_from (map stmt_of xs) → x ≡ get_or xs i d → i < length xs → CopiesBelow may answers (depth_stmt (stmt_of x) + 1)
   stmts_below l xs x i d copies seen here lt =
-      let less = entry_below stmt_deep depth_stmts l (λ ys. stmts_from (map stmt_of ys)) stmts_deep xs i d seen lt in
-      let same = ap stmt_deep here in
-      below (depth_stmt (stmt_of x) + 1) (depth_stmts l + 1) copies (omega (arith, less, same))
+      let less = entry_less stmt_deep depth_stmts (λ ys. stmts_from (map stmt_of ys)) stmts_deep l xs x i d seen here lt in
+      below (depth_stmt (stmt_of x) + 1) (depth_stmts l + 1) copies (omega (arith, less))
 
-  pub elems_below : (l : pure.Elems Span) (xs : List Elem) (i : ℕ) (d : Elem) → CopiesBelow may answers (depth_elems l) → l ≡ elems_from (map elem_of xs) → i < length xs → CopiesBelow may answers (elem_deep (get_or xs i d))
-  elems_below l xs i d copies seen lt = below (elem_deep (get_or xs i d)) (depth_elems l) copies (entry_below elem_deep depth_elems l (λ ys. elems_from (map elem_of ys)) elems_deep xs i d seen lt)
+  pub exprs_below : (l : pure.Exprs Span) (xs : List Expr) (x : Expr) (i : ℕ) (d : Expr) → CopiesBelow may answers (depth_exprs l) → l ≡ exprs_from (map expr_of xs) → x ≡ get_or xs i d → i < length xs → CopiesBelow may answers (depth_expr (expr_of x))
+  exprs_below l xs x i d copies seen here lt = below (depth_expr (expr_of x)) (depth_exprs l) copies (entry_less expr_deep depth_exprs (λ ys. exprs_from (map expr_of ys)) exprs_deep l xs x i d seen here lt)
+
+  pub elems_below : (l : pure.Elems Span) (xs : List Elem) (x : Elem) (i : ℕ) (d : Elem) → CopiesBelow may answers (depth_elems l) → l ≡ elems_from (map elem_of xs) → x ≡ get_or xs i d → i < length xs → CopiesBelow may answers (elem_deep x)
+  elems_below l xs x i d copies seen here lt = below (elem_deep x) (depth_elems l) copies (entry_less elem_deep depth_elems (λ ys. elems_from (map elem_of ys)) elems_deep l xs x i d seen here lt)
