@@ -4,7 +4,7 @@ ghost use Rattle.std.specs.Option.{option_map};
 ghost use Rattle.go_tree.specs.Tree.{const_decl, var_decl, empty, eval, step, assign, define, return_, break_, continue_, inner, if_, for_, range_, switch, defer, label};
 ghost use Rattle.go_tree.specs.View.{name_at_of, expr_of, exprs_of, plain_expr_option_of, stmt_of, stmts_of, boxed_stmt_option_of, held_block_option_of, range_left_of, arms_of, cases_of, const_specs_of, var_specs_of};
 
-use go_copies::{copy_name_at, copy_name_at_option, copy_names};
+use crate::copy_types::{copy_name_at, copy_name_at_option, copy_names};
 use go_tree::{
     ArmList, BinOp, Block, CaseList, ConstDecl, ConstSpecList, Expr, ExprList, NameAt, NameAtList,
     NoMemory, RangeLeft, Span, Stmt, VarDecl, VarSpecList,

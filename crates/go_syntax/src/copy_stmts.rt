@@ -1,8 +1,5 @@
-//! Copies of statements, with what copies the statements in them.
-ghost use Rattle.std.specs.Prelude.{◌≡◌, ◌+◌, IfOk};
-ghost use Rattle.go_depth.specs.Depth.{depth_stmt, depth_stmts, depth_stmt_option, depth_block_option, depth_range_left, depth_arms, depth_cases, depth_value_specs};
-ghost use Rattle.go_depth.specs.Deep.{arm_deep, case_deep, const_spec_deep, var_spec_deep};
-ghost use Rattle.go_copies.specs.Copies.{CopiesBelow};
+// Copies of statements.
+ghost use Rattle.std.specs.Prelude.{◌≡◌, IfOk};
 ghost use Rattle.go_tree.specs.View.{block_of, held_block_option_of, stmt_of, stmts_of, boxed_stmt_option_of, range_left_of, arm_of, arms_of, case_of, cases_of, const_spec_of, const_specs_of, var_spec_of, var_specs_of};
 
 use crate::build_stmts::{
@@ -10,57 +7,50 @@ use crate::build_stmts::{
     build_eval, build_for, build_if, build_inner, build_label, build_range, build_return,
     build_step, build_switch, build_var,
 };
-use go_copies::{
-    Copied, block_with, copy_names, copy_type_option, expr_option_with, expr_with, exprs_with,
-    stmt_by, stmts_with,
-};
+use crate::copy_exprs::{copy_expr, copy_expr_option, copy_exprs};
+use crate::copy_types::{copy_names, copy_type_option};
 use go_tree::{
     Arm, ArmList, Block, Case, CaseList, ConstSpec, ConstSpecList, NoMemory, RangeLeft, Stmt,
-    VarSpec, VarSpecList,
+    StmtList, VarSpec, VarSpecList,
 };
 use std::alloc::Global;
 
 /// A copy of a statement, spans included.
-#[tactic(auto, using(go_copies::proofs::BelowLemmas::below))]
-pub(crate) fn stmt_with<F: Fn(&Stmt) -> Copied>(
-    alloc: Global,
-    s: &Stmt,
-    copy: &F,
-) -> Result<Stmt, NoMemory>
-    requires copies { CopiesBelow (F.pre copy.now) (F.post copy.now) (depth_stmt (stmt_of s.now)) }
+#[cycle(copy_tree)]
+pub fn copy_stmt(alloc: Global, s: &Stmt) -> Result<Stmt, NoMemory>
     ensures { IfOk result (λ c. stmt_of c ≡ stmt_of s.now) }
 {
     match s {
         Stmt::Const(decl) => {
-            let specs = const_specs_with(alloc, &decl.specs, copy)?;
+            let specs = copy_const_specs(alloc, &decl.specs)?;
             Ok(build_const(decl.span, decl.grouped, specs))
         }
         Stmt::Var(decl) => {
-            let specs = var_specs_with(alloc, &decl.specs, copy)?;
+            let specs = copy_var_specs(alloc, &decl.specs)?;
             Ok(build_var(decl.span, decl.grouped, specs))
         }
         Stmt::Empty { span } => Ok(build_empty(*span)),
-        Stmt::Eval { span, e } => Ok(build_eval(*span, expr_with(alloc, e, copy)?)),
-        Stmt::Step { span, e, up } => Ok(build_step(*span, expr_with(alloc, e, copy)?, *up)),
+        Stmt::Eval { span, e } => Ok(build_eval(*span, copy_expr(alloc, e)?)),
+        Stmt::Step { span, e, up } => Ok(build_step(*span, copy_expr(alloc, e)?, *up)),
         Stmt::Assign {
             span,
             left,
             op,
             right,
         } => {
-            let left = exprs_with(alloc, left, copy)?;
-            Ok(build_assign(*span, left, *op, exprs_with(alloc, right, copy)?))
+            let left = copy_exprs(alloc, left)?;
+            Ok(build_assign(*span, left, *op, copy_exprs(alloc, right)?))
         }
         Stmt::Define { span, names, right } => {
-            build_define(alloc, *span, names, exprs_with(alloc, right, copy)?)
+            build_define(alloc, *span, names, copy_exprs(alloc, right)?)
         }
-        Stmt::Return { span, values } => Ok(build_return(*span, exprs_with(alloc, values, copy)?)),
+        Stmt::Return { span, values } => Ok(build_return(*span, copy_exprs(alloc, values)?)),
         Stmt::Break { span, label } => build_break(alloc, *span, label),
         Stmt::Continue { span, label } => build_continue(alloc, *span, label),
-        Stmt::Inner(block) => Ok(build_inner(block_with(alloc, block, copy)?)),
+        Stmt::Inner(block) => Ok(build_inner(copy_block(alloc, block)?)),
         Stmt::If { span, arms, last } => {
-            let arms = arms_with(alloc, arms, copy)?;
-            Ok(build_if(*span, arms, block_option_with(alloc, last, copy)?))
+            let arms = copy_arms(alloc, arms)?;
+            Ok(build_if(*span, arms, copy_block_option(alloc, last)?))
         }
         Stmt::For {
             span,
@@ -69,10 +59,10 @@ pub(crate) fn stmt_with<F: Fn(&Stmt) -> Copied>(
             post,
             body,
         } => {
-            let first = stmt_option_with(alloc, first, copy)?;
-            let test = expr_option_with(alloc, test, copy)?;
-            let post = stmt_option_with(alloc, post, copy)?;
-            Ok(build_for(*span, first, test, post, block_with(alloc, body, copy)?))
+            let first = copy_stmt_option(alloc, first)?;
+            let test = copy_expr_option(alloc, test)?;
+            let post = copy_stmt_option(alloc, post)?;
+            Ok(build_for(*span, first, test, post, copy_block(alloc, body)?))
         }
         Stmt::Range {
             span,
@@ -80,9 +70,9 @@ pub(crate) fn stmt_with<F: Fn(&Stmt) -> Copied>(
             over,
             body,
         } => {
-            let left = range_left_with(alloc, left, copy)?;
-            let over = expr_with(alloc, over, copy)?;
-            Ok(build_range(*span, left, over, block_with(alloc, body, copy)?))
+            let left = copy_range_left(alloc, left)?;
+            let over = copy_expr(alloc, over)?;
+            Ok(build_range(*span, left, over, copy_block(alloc, body)?))
         }
         Stmt::Switch {
             span,
@@ -90,182 +80,161 @@ pub(crate) fn stmt_with<F: Fn(&Stmt) -> Copied>(
             tag,
             cases,
         } => {
-            let first = stmt_option_with(alloc, first, copy)?;
-            let tag = expr_option_with(alloc, tag, copy)?;
-            Ok(build_switch(*span, first, tag, cases_with(alloc, cases, copy)?))
+            let first = copy_stmt_option(alloc, first)?;
+            let tag = copy_expr_option(alloc, tag)?;
+            Ok(build_switch(*span, first, tag, copy_cases(alloc, cases)?))
         }
-        Stmt::Defer { span, call } => Ok(build_defer(*span, expr_with(alloc, call, copy)?)),
+        Stmt::Defer { span, call } => Ok(build_defer(*span, copy_expr(alloc, call)?)),
         Stmt::Label { span, name, stmt } => {
-            build_label(alloc, *span, name, stmt_by(stmt, copy)?)
+            build_label(alloc, *span, name, copy_stmt(alloc, stmt)?)
         }
     }
 }
 
-#[tactic(auto, using(go_copies::proofs::BelowLemmas::below))]
-fn block_option_with<F: Fn(&Stmt) -> Copied>(
-    alloc: Global,
-    block: &Option<Block>,
-    copy: &F,
-) -> Result<Option<Block>, NoMemory>
-    requires copies { CopiesBelow (F.pre copy.now) (F.post copy.now) (depth_block_option (held_block_option_of block.now)) }
+#[cycle(copy_tree)]
+pub(crate) fn copy_block(alloc: Global, block: &Block) -> Result<Block, NoMemory>
+    ensures { IfOk result (λ c. block_of c ≡ block_of block.now) }
+{
+    Ok(Block {
+        span: block.span,
+        stmts: copy_stmts(alloc, &block.stmts)?,
+    })
+}
+
+#[cycle(copy_tree)]
+fn copy_block_option(alloc: Global, block: &Option<Block>) -> Result<Option<Block>, NoMemory>
     ensures { IfOk result (λ c. held_block_option_of c ≡ held_block_option_of block.now) }
 {
     match block {
         None => Ok(None),
-        Some(block) => Ok(Some(block_with(alloc, block, copy)?)),
+        Some(block) => Ok(Some(copy_block(alloc, block)?)),
     }
 }
 
-#[tactic(auto, using(go_copies::proofs::BelowLemmas::below))]
-fn stmt_option_with<F: Fn(&Stmt) -> Copied>(
-    alloc: Global,
-    stmt: &Option<Box<Stmt>>,
-    copy: &F,
-) -> Result<Option<Box<Stmt>>, NoMemory>
-    requires copies { CopiesBelow (F.pre copy.now) (F.post copy.now) (depth_stmt_option (boxed_stmt_option_of stmt.now) + 1) }
+#[cycle(copy_tree)]
+#[tactic(auto, using(crate::proofs::CopyLemmas::map_copied, crate::proofs::CopyLemmas::stmts_copied))]
+fn copy_stmts(alloc: Global, stmts: &StmtList) -> Result<StmtList, NoMemory>
+    ensures { IfOk result (λ c. stmts_of c ≡ stmts_of stmts.now) }
+{
+    let mut copies = Vec::new(alloc);
+    for stmt in stmts.items() {
+        copies.push(copy_stmt(alloc, stmt)?)?;
+    }
+    Ok(StmtList::of(copies))
+}
+
+#[cycle(copy_tree)]
+fn copy_stmt_option(alloc: Global, stmt: &Option<Box<Stmt>>) -> Result<Option<Box<Stmt>>, NoMemory>
     ensures { IfOk result (λ c. boxed_stmt_option_of c ≡ boxed_stmt_option_of stmt.now) }
 {
     match stmt {
         None => Ok(None),
-        Some(stmt) => Ok(Some(Box::new(alloc, stmt_by(stmt, copy)?)?)),
+        Some(stmt) => Ok(Some(Box::new(alloc, copy_stmt(alloc, stmt)?)?)),
     }
 }
 
-#[tactic(auto, using(go_copies::proofs::BelowLemmas::below))]
-fn range_left_with<F: Fn(&Stmt) -> Copied>(
-    alloc: Global,
-    left: &RangeLeft,
-    copy: &F,
-) -> Result<RangeLeft, NoMemory>
-    requires copies { CopiesBelow (F.pre copy.now) (F.post copy.now) (depth_range_left (range_left_of left.now)) }
+#[cycle(copy_tree)]
+fn copy_range_left(alloc: Global, left: &RangeLeft) -> Result<RangeLeft, NoMemory>
     ensures { IfOk result (λ c. range_left_of c ≡ range_left_of left.now) }
 {
     match left {
         RangeLeft::Nothing => Ok(RangeLeft::Nothing),
-        RangeLeft::Assigns(exprs) => Ok(RangeLeft::Assigns(exprs_with(alloc, exprs, copy)?)),
+        RangeLeft::Assigns(exprs) => Ok(RangeLeft::Assigns(copy_exprs(alloc, exprs)?)),
         RangeLeft::Defines(names) => Ok(RangeLeft::Defines(copy_names(alloc, names)?)),
     }
 }
 
-#[tactic(auto, using(go_copies::proofs::BelowLemmas::below))]
-fn arm_with<F: Fn(&Stmt) -> Copied>(alloc: Global, arm: &Arm, copy: &F) -> Result<Arm, NoMemory>
-    requires copies { CopiesBelow (F.pre copy.now) (F.post copy.now) (arm_deep arm.now) }
+#[cycle(copy_tree)]
+fn copy_arm(alloc: Global, arm: &Arm) -> Result<Arm, NoMemory>
     ensures { IfOk result (λ c. arm_of c ≡ arm_of arm.now) }
 {
     Ok(Arm {
         span: arm.span,
-        first: stmt_option_with(alloc, &arm.first, copy)?,
-        test: expr_with(alloc, &arm.test, copy)?,
-        body: block_with(alloc, &arm.body, copy)?,
+        first: copy_stmt_option(alloc, &arm.first)?,
+        test: copy_expr(alloc, &arm.test)?,
+        body: copy_block(alloc, &arm.body)?,
     })
 }
 
-#[tactic(auto, using(go_copies::proofs::CopyLemmas::map_copied, crate::proofs::CopyLemmas::arms_copied, crate::proofs::BelowLemmas::arms_below))]
-fn arms_with<F: Fn(&Stmt) -> Copied>(
-    alloc: Global,
-    arms: &ArmList,
-    copy: &F,
-) -> Result<ArmList, NoMemory>
-    requires copies { CopiesBelow (F.pre copy.now) (F.post copy.now) (depth_arms (arms_of arms.now)) }
+#[cycle(copy_tree)]
+#[tactic(auto, using(crate::proofs::CopyLemmas::map_copied, crate::proofs::CopyLemmas::arms_copied))]
+fn copy_arms(alloc: Global, arms: &ArmList) -> Result<ArmList, NoMemory>
     ensures { IfOk result (λ c. arms_of c ≡ arms_of arms.now) }
 {
     let mut copies = Vec::new(alloc);
     for arm in arms.items() {
-        copies.push(arm_with(alloc, arm, copy)?)?;
+        copies.push(copy_arm(alloc, arm)?)?;
     }
     Ok(ArmList::of(copies))
 }
 
-#[tactic(auto, using(go_copies::proofs::BelowLemmas::below))]
-fn case_with<F: Fn(&Stmt) -> Copied>(alloc: Global, case: &Case, copy: &F) -> Result<Case, NoMemory>
-    requires copies { CopiesBelow (F.pre copy.now) (F.post copy.now) (case_deep case.now) }
+#[cycle(copy_tree)]
+fn copy_case(alloc: Global, case: &Case) -> Result<Case, NoMemory>
     ensures { IfOk result (λ c. case_of c ≡ case_of case.now) }
 {
     Ok(Case {
         span: case.span,
-        values: exprs_with(alloc, &case.values, copy)?,
-        body: stmts_with(alloc, &case.body, copy)?,
+        values: copy_exprs(alloc, &case.values)?,
+        body: copy_stmts(alloc, &case.body)?,
     })
 }
 
-#[tactic(auto, using(go_copies::proofs::CopyLemmas::map_copied, crate::proofs::CopyLemmas::cases_copied, crate::proofs::BelowLemmas::cases_below))]
-fn cases_with<F: Fn(&Stmt) -> Copied>(
-    alloc: Global,
-    cases: &CaseList,
-    copy: &F,
-) -> Result<CaseList, NoMemory>
-    requires copies { CopiesBelow (F.pre copy.now) (F.post copy.now) (depth_cases (cases_of cases.now)) }
+#[cycle(copy_tree)]
+#[tactic(auto, using(crate::proofs::CopyLemmas::map_copied, crate::proofs::CopyLemmas::cases_copied))]
+fn copy_cases(alloc: Global, cases: &CaseList) -> Result<CaseList, NoMemory>
     ensures { IfOk result (λ c. cases_of c ≡ cases_of cases.now) }
 {
     let mut copies = Vec::new(alloc);
     for case in cases.items() {
-        copies.push(case_with(alloc, case, copy)?)?;
+        copies.push(copy_case(alloc, case)?)?;
     }
     Ok(CaseList::of(copies))
 }
 
-#[tactic(auto, using(go_copies::proofs::BelowLemmas::below))]
-fn const_spec_with<F: Fn(&Stmt) -> Copied>(
-    alloc: Global,
-    spec: &ConstSpec,
-    copy: &F,
-) -> Result<ConstSpec, NoMemory>
-    requires copies { CopiesBelow (F.pre copy.now) (F.post copy.now) (const_spec_deep spec.now) }
+#[cycle(copy_tree)]
+fn copy_const_spec(alloc: Global, spec: &ConstSpec) -> Result<ConstSpec, NoMemory>
     ensures { IfOk result (λ c. const_spec_of c ≡ const_spec_of spec.now) }
 {
     Ok(ConstSpec {
         span: spec.span,
         names: copy_names(alloc, &spec.names)?,
         of: copy_type_option(alloc, &spec.of)?,
-        values: exprs_with(alloc, &spec.values, copy)?,
+        values: copy_exprs(alloc, &spec.values)?,
     })
 }
 
-#[tactic(auto, using(go_copies::proofs::CopyLemmas::map_copied, crate::proofs::CopyLemmas::const_specs_copied, crate::proofs::BelowLemmas::const_specs_below))]
-fn const_specs_with<F: Fn(&Stmt) -> Copied>(
-    alloc: Global,
-    specs: &ConstSpecList,
-    copy: &F,
-) -> Result<ConstSpecList, NoMemory>
-    requires copies { CopiesBelow (F.pre copy.now) (F.post copy.now) (depth_value_specs (const_specs_of specs.now)) }
+#[cycle(copy_tree)]
+#[tactic(auto, using(crate::proofs::CopyLemmas::map_copied, crate::proofs::CopyLemmas::const_specs_copied))]
+fn copy_const_specs(alloc: Global, specs: &ConstSpecList) -> Result<ConstSpecList, NoMemory>
     ensures { IfOk result (λ c. const_specs_of c ≡ const_specs_of specs.now) }
 {
     let mut copies = Vec::new(alloc);
     for spec in specs.items() {
-        copies.push(const_spec_with(alloc, spec, copy)?)?;
+        copies.push(copy_const_spec(alloc, spec)?)?;
     }
     Ok(ConstSpecList::of(copies))
 }
 
-#[tactic(auto, using(go_copies::proofs::BelowLemmas::below))]
-fn var_spec_with<F: Fn(&Stmt) -> Copied>(
-    alloc: Global,
-    spec: &VarSpec,
-    copy: &F,
-) -> Result<VarSpec, NoMemory>
-    requires copies { CopiesBelow (F.pre copy.now) (F.post copy.now) (var_spec_deep spec.now) }
+#[cycle(copy_tree)]
+fn copy_var_spec(alloc: Global, spec: &VarSpec) -> Result<VarSpec, NoMemory>
     ensures { IfOk result (λ c. var_spec_of c ≡ var_spec_of spec.now) }
 {
     Ok(VarSpec {
         span: spec.span,
         names: copy_names(alloc, &spec.names)?,
         of: copy_type_option(alloc, &spec.of)?,
-        values: exprs_with(alloc, &spec.values, copy)?,
+        values: copy_exprs(alloc, &spec.values)?,
     })
 }
 
-#[tactic(auto, using(go_copies::proofs::CopyLemmas::map_copied, crate::proofs::CopyLemmas::var_specs_copied, crate::proofs::BelowLemmas::var_specs_below))]
-fn var_specs_with<F: Fn(&Stmt) -> Copied>(
-    alloc: Global,
-    specs: &VarSpecList,
-    copy: &F,
-) -> Result<VarSpecList, NoMemory>
-    requires copies { CopiesBelow (F.pre copy.now) (F.post copy.now) (depth_value_specs (var_specs_of specs.now)) }
+#[cycle(copy_tree)]
+#[tactic(auto, using(crate::proofs::CopyLemmas::map_copied, crate::proofs::CopyLemmas::var_specs_copied))]
+fn copy_var_specs(alloc: Global, specs: &VarSpecList) -> Result<VarSpecList, NoMemory>
     ensures { IfOk result (λ c. var_specs_of c ≡ var_specs_of specs.now) }
 {
     let mut copies = Vec::new(alloc);
     for spec in specs.items() {
-        copies.push(var_spec_with(alloc, spec, copy)?)?;
+        copies.push(copy_var_spec(alloc, spec)?)?;
     }
     Ok(VarSpecList::of(copies))
 }

@@ -1,11 +1,14 @@
 //! Syntax trees of Go source: copies, depth, and places in a text.
 #![tactic(auto)]
 
+mod build_exprs;
 mod build_stmts;
-pub mod copies;
-mod copy_stmts;
+pub mod copy_exprs;
+pub mod copy_stmts;
+mod copy_types;
 
-pub use copies::{copy_expr, copy_stmt};
+pub use copy_exprs::copy_expr;
+pub use copy_stmts::copy_stmt;
 pub use go_depth::depth;
 pub use go_tree::{
     Arm, ArmList, BinOp, Block, Case, CaseList, Comment, ConstDecl, ConstSpec, ConstSpecList, Decl,

@@ -1,4 +1,4 @@
-//! Copies of names, types and signatures.
+// Copies of names, types and signatures.
 ghost use Rattle.std.specs.Prelude.{◌≡◌, IfOk, map};
 ghost use Rattle.std.specs.Option.{option_map};
 ghost use Rattle.go_tree.specs.View.{type_of, fields_of, field_of, param_of, sig_of};
@@ -21,8 +21,7 @@ pub(crate) fn copy_text(alloc: Global, text: &Text) -> Result<Text, NoMemory>
     Text::copied(alloc, text.items())
 }
 
-/// A copy of a name where it stands.
-pub fn copy_name_at(alloc: Global, name: &NameAt) -> Result<NameAt, NoMemory>
+pub(crate) fn copy_name_at(alloc: Global, name: &NameAt) -> Result<NameAt, NoMemory>
     ensures { IfOk result (λ n. n ≡ name.now) }
 {
     Ok(NameAt {
@@ -31,8 +30,10 @@ pub fn copy_name_at(alloc: Global, name: &NameAt) -> Result<NameAt, NoMemory>
     })
 }
 
-/// A copy of a name where there is one.
-pub fn copy_name_at_option(alloc: Global, name: &Option<NameAt>) -> Result<Option<NameAt>, NoMemory>
+pub(crate) fn copy_name_at_option(
+    alloc: Global,
+    name: &Option<NameAt>,
+) -> Result<Option<NameAt>, NoMemory>
     ensures { IfOk result (λ n. n ≡ name.now) }
 {
     match name {
@@ -41,8 +42,7 @@ pub fn copy_name_at_option(alloc: Global, name: &Option<NameAt>) -> Result<Optio
     }
 }
 
-/// Copies of names.
-pub fn copy_names(alloc: Global, names: &NameAtList) -> Result<NameAtList, NoMemory>
+pub(crate) fn copy_names(alloc: Global, names: &NameAtList) -> Result<NameAtList, NoMemory>
     ensures { IfOk result (λ n. n ≡ names.now) }
 {
     let mut copies = Vec::new(alloc);
@@ -116,8 +116,10 @@ fn copy_field(alloc: Global, field: &FieldSpec) -> Result<FieldSpec, NoMemory>
     })
 }
 
-/// A copy of a type where there is one.
-pub fn copy_type_option(alloc: Global, t: &Option<TypeExpr>) -> Result<Option<TypeExpr>, NoMemory>
+pub(crate) fn copy_type_option(
+    alloc: Global,
+    t: &Option<TypeExpr>,
+) -> Result<Option<TypeExpr>, NoMemory>
     ensures { IfOk result (λ c. option_map type_of c ≡ option_map type_of t.now) }
 {
     match t {

@@ -1,4 +1,4 @@
-//! Expressions made of their parts. Names and types are copied, expressions are taken over.
+// Expressions made of their parts. Names and types are copied, expressions are taken over.
 ghost use Rattle.std.specs.Prelude.{◌≡◌, IfOk};
 ghost use Rattle.go_tree.specs.Tree.{ident, int_lit, rune_lit, str_lit, composite, selector, index, slice, call, func_lit, type_operand, unary, binary, star};
 ghost use Rattle.go_tree.specs.View.{name_at_of, type_of, sig_of, expr_of, exprs_of, elems_of, boxed_expr_option_of, plain_expr_option_of, stmts_of};
