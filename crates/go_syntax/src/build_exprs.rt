@@ -1,7 +1,7 @@
 // Expressions made of their parts. Names and types are copied, expressions are taken over.
 ghost use Rattle.std.specs.Prelude.{◌≡◌, IfOk};
 ghost use Rattle.go_tree.specs.Tree.{ident, int_lit, rune_lit, str_lit, composite, selector, index, slice, call, func_lit, type_operand, unary, binary, star};
-ghost use Rattle.go_tree.specs.View.{name_at_of, type_of, sig_of, expr_of, exprs_of, elems_of, boxed_expr_option_of, plain_expr_option_of, stmts_of};
+ghost use Rattle.go_tree.specs.View.{name_at_of, type_of, sig_of, expr_of, exprs_of, elems_of, boxed_expr_option_of, stmts_of};
 
 use crate::copy_types::{copy_name, copy_name_at, copy_sig, copy_text, copy_type};
 use go_tree::{
@@ -52,63 +52,41 @@ pub(crate) fn build_composite(
 pub(crate) fn build_selector(
     alloc: Global,
     span: Span,
-    base: Expr,
+    base: Box<Expr>,
     name: &NameAt,
 ) -> Result<Expr, NoMemory>
-    ensures { IfOk result (λ c. expr_of c ≡ selector span (expr_of base) (name_at_of name.now)) }
+    ensures { IfOk result (λ c. expr_of c ≡ selector span (expr_of base.value) (name_at_of name.now)) }
 {
     let name = copy_name_at(alloc, name)?;
-    let base = Box::new(alloc, base)?;
     Ok(Expr::Selector { span, base, name })
 }
 
-pub(crate) fn build_index(alloc: Global, span: Span, base: Expr, at: Expr) -> Result<Expr, NoMemory>
-    ensures { IfOk result (λ c. expr_of c ≡ index span (expr_of base) (expr_of at)) }
+pub(crate) fn build_index(span: Span, base: Box<Expr>, at: Box<Expr>) -> Expr
+    ensures { expr_of result ≡ index span (expr_of base.value) (expr_of at.value) }
 {
-    let base = Box::new(alloc, base)?;
-    let at = Box::new(alloc, at)?;
-    Ok(Expr::Index { span, base, at })
-}
-
-fn boxed_option(alloc: Global, e: Option<Expr>) -> Result<Option<Box<Expr>>, NoMemory>
-    ensures { IfOk result (λ c. boxed_expr_option_of c ≡ plain_expr_option_of e) }
-{
-    match e {
-        None => Ok(None),
-        Some(e) => Ok(Some(Box::new(alloc, e)?)),
-    }
+    Expr::Index { span, base, at }
 }
 
 pub(crate) fn build_slice(
-    alloc: Global,
     span: Span,
-    base: Expr,
-    from: Option<Expr>,
-    to: Option<Expr>,
-) -> Result<Expr, NoMemory>
-    ensures { IfOk result (λ c. expr_of c ≡ slice span (expr_of base) (plain_expr_option_of from) (plain_expr_option_of to)) }
+    base: Box<Expr>,
+    from: Option<Box<Expr>>,
+    to: Option<Box<Expr>>,
+) -> Expr
+    ensures { expr_of result ≡ slice span (expr_of base.value) (boxed_expr_option_of from) (boxed_expr_option_of to) }
 {
-    let base = Box::new(alloc, base)?;
-    let from = boxed_option(alloc, from)?;
-    let to = boxed_option(alloc, to)?;
-    Ok(Expr::Slice {
+    Expr::Slice {
         span,
         base,
         from,
         to,
-    })
+    }
 }
 
-pub(crate) fn build_call(
-    alloc: Global,
-    span: Span,
-    callee: Expr,
-    args: ExprList,
-) -> Result<Expr, NoMemory>
-    ensures { IfOk result (λ c. expr_of c ≡ call span (expr_of callee) (exprs_of args)) }
+pub(crate) fn build_call(span: Span, callee: Box<Expr>, args: ExprList) -> Expr
+    ensures { expr_of result ≡ call span (expr_of callee.value) (exprs_of args) }
 {
-    let callee = Box::new(alloc, callee)?;
-    Ok(Expr::Call { span, callee, args })
+    Expr::Call { span, callee, args }
 }
 
 pub(crate) fn build_func_lit(
@@ -130,35 +108,25 @@ pub(crate) fn build_type_operand(alloc: Global, span: Span, of: &TypeExpr) -> Re
     Ok(Expr::TypeOperand { span, of })
 }
 
-pub(crate) fn build_unary(alloc: Global, span: Span, op: UnOp, e: Expr) -> Result<Expr, NoMemory>
-    ensures { IfOk result (λ c. expr_of c ≡ unary span op (expr_of e)) }
+pub(crate) fn build_unary(span: Span, op: UnOp, e: Box<Expr>) -> Expr
+    ensures { expr_of result ≡ unary span op (expr_of e.value) }
 {
-    let e = Box::new(alloc, e)?;
-    Ok(Expr::Unary { span, op, e })
+    Expr::Unary { span, op, e }
 }
 
-pub(crate) fn build_binary(
-    alloc: Global,
-    span: Span,
-    op: BinOp,
-    left: Expr,
-    right: Expr,
-) -> Result<Expr, NoMemory>
-    ensures { IfOk result (λ c. expr_of c ≡ binary span op (expr_of left) (expr_of right)) }
+pub(crate) fn build_binary(span: Span, op: BinOp, left: Box<Expr>, right: Box<Expr>) -> Expr
+    ensures { expr_of result ≡ binary span op (expr_of left.value) (expr_of right.value) }
 {
-    let left = Box::new(alloc, left)?;
-    let right = Box::new(alloc, right)?;
-    Ok(Expr::Binary {
+    Expr::Binary {
         span,
         op,
         left,
         right,
-    })
+    }
 }
 
-pub(crate) fn build_star(alloc: Global, span: Span, e: Expr) -> Result<Expr, NoMemory>
-    ensures { IfOk result (λ c. expr_of c ≡ star span (expr_of e)) }
+pub(crate) fn build_star(span: Span, e: Box<Expr>) -> Expr
+    ensures { expr_of result ≡ star span (expr_of e.value) }
 {
-    let e = Box::new(alloc, e)?;
-    Ok(Expr::Star { span, e })
+    Expr::Star { span, e }
 }

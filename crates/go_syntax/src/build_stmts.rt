@@ -167,11 +167,10 @@ pub(crate) fn build_label(
     alloc: Global,
     span: Span,
     name: &NameAt,
-    stmt: Stmt,
+    stmt: Box<Stmt>,
 ) -> Result<Stmt, NoMemory>
-    ensures { IfOk result (λ c. stmt_of c ≡ label span (name_at_of name.now) (stmt_of stmt)) }
+    ensures { IfOk result (λ c. stmt_of c ≡ label span (name_at_of name.now) (stmt_of stmt.value)) }
 {
     let name = copy_name_at(alloc, name)?;
-    let stmt = Box::new(alloc, stmt)?;
     Ok(Stmt::Label { span, name, stmt })
 }

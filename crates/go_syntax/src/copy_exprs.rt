@@ -1,4 +1,5 @@
-// Copies of expressions.
+// Copies of expressions. Operands are put in their boxes at once: a step that drops an expression which
+// stands in no box or list is dear to check.
 ghost use Rattle.std.specs.Prelude.{◌≡◌, IfOk};
 ghost use Rattle.go_tree.specs.View.{expr_of, exprs_of, boxed_expr_option_of, plain_expr_option_of, value_of, held_value_option_of, elem_of, elems_of};
 
@@ -25,60 +26,61 @@ pub fn copy_expr(alloc: Global, e: &Expr) -> Result<Expr, NoMemory>
             build_composite(alloc, *span, of, copy_elems(alloc, elems)?)
         }
         Expr::Selector { span, base, name } => {
-            build_selector(alloc, *span, copy_expr(alloc, base)?, name)
+            build_selector(alloc, *span, copy_boxed_expr(alloc, base)?, name)
         }
-        Expr::Index { span, base, at } => build_index(
-            alloc,
-            *span,
-            copy_expr(alloc, base)?,
-            copy_expr(alloc, at)?,
-        ),
+        Expr::Index { span, base, at } => {
+            let base = copy_boxed_expr(alloc, base)?;
+            Ok(build_index(*span, base, copy_boxed_expr(alloc, at)?))
+        }
         Expr::Slice {
             span,
             base,
             from,
             to,
-        } => build_slice(
-            alloc,
-            *span,
-            copy_expr(alloc, base)?,
-            copy_boxed_expr_option(alloc, from)?,
-            copy_boxed_expr_option(alloc, to)?,
-        ),
-        Expr::Call { span, callee, args } => build_call(
-            alloc,
-            *span,
-            copy_expr(alloc, callee)?,
-            copy_exprs(alloc, args)?,
-        ),
+        } => {
+            let base = copy_boxed_expr(alloc, base)?;
+            let from = copy_boxed_expr_option(alloc, from)?;
+            Ok(build_slice(*span, base, from, copy_boxed_expr_option(alloc, to)?))
+        }
+        Expr::Call { span, callee, args } => {
+            let callee = copy_boxed_expr(alloc, callee)?;
+            Ok(build_call(*span, callee, copy_exprs(alloc, args)?))
+        }
         Expr::FuncLit { span, sig, body } => {
             build_func_lit(alloc, *span, sig, copy_block(alloc, body)?)
         }
         Expr::TypeOperand { span, of } => build_type_operand(alloc, *span, of),
-        Expr::Unary { span, op, e } => build_unary(alloc, *span, *op, copy_expr(alloc, e)?),
+        Expr::Unary { span, op, e } => Ok(build_unary(*span, *op, copy_boxed_expr(alloc, e)?)),
         Expr::Binary {
             span,
             op,
             left,
             right,
-        } => build_binary(
-            alloc,
-            *span,
-            *op,
-            copy_expr(alloc, left)?,
-            copy_expr(alloc, right)?,
-        ),
-        Expr::Star { span, e } => build_star(alloc, *span, copy_expr(alloc, e)?),
+        } => {
+            let left = copy_boxed_expr(alloc, left)?;
+            Ok(build_binary(*span, *op, left, copy_boxed_expr(alloc, right)?))
+        }
+        Expr::Star { span, e } => Ok(build_star(*span, copy_boxed_expr(alloc, e)?)),
     }
 }
 
 #[cycle(copy_tree)]
-fn copy_boxed_expr_option(alloc: Global, e: &Option<Box<Expr>>) -> Result<Option<Expr>, NoMemory>
-    ensures { IfOk result (λ c. plain_expr_option_of c ≡ boxed_expr_option_of e.now) }
+fn copy_boxed_expr(alloc: Global, e: &Box<Expr>) -> Result<Box<Expr>, NoMemory>
+    ensures { IfOk result (λ c. expr_of c.value ≡ expr_of e.now.value) }
+{
+    Ok(Box::new(alloc, copy_expr(alloc, e)?)?)
+}
+
+#[cycle(copy_tree)]
+fn copy_boxed_expr_option(
+    alloc: Global,
+    e: &Option<Box<Expr>>,
+) -> Result<Option<Box<Expr>>, NoMemory>
+    ensures { IfOk result (λ c. boxed_expr_option_of c ≡ boxed_expr_option_of e.now) }
 {
     match e {
         None => Ok(None),
-        Some(e) => Ok(Some(copy_expr(alloc, e)?)),
+        Some(e) => Ok(Some(Box::new(alloc, copy_expr(alloc, e)?)?)),
     }
 }
 

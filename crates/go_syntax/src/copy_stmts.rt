@@ -1,4 +1,5 @@
-// Copies of statements.
+// Copies of statements. What may fail comes before an expression that stands in no box or list: a step
+// that drops one is dear to check.
 ghost use Rattle.std.specs.Prelude.{◌≡◌, IfOk};
 ghost use Rattle.go_tree.specs.View.{block_of, held_block_option_of, stmt_of, stmts_of, boxed_stmt_option_of, range_left_of, arm_of, arms_of, case_of, cases_of, const_spec_of, const_specs_of, var_spec_of, var_specs_of};
 
@@ -60,9 +61,10 @@ pub fn copy_stmt(alloc: Global, s: &Stmt) -> Result<Stmt, NoMemory>
             body,
         } => {
             let first = copy_stmt_option(alloc, first)?;
-            let test = copy_expr_option(alloc, test)?;
             let post = copy_stmt_option(alloc, post)?;
-            Ok(build_for(*span, first, test, post, copy_block(alloc, body)?))
+            let body = copy_block(alloc, body)?;
+            let test = copy_expr_option(alloc, test)?;
+            Ok(build_for(*span, first, test, post, body))
         }
         Stmt::Range {
             span,
@@ -70,9 +72,9 @@ pub fn copy_stmt(alloc: Global, s: &Stmt) -> Result<Stmt, NoMemory>
             over,
             body,
         } => {
+            let body = copy_block(alloc, body)?;
             let left = copy_range_left(alloc, left)?;
-            let over = copy_expr(alloc, over)?;
-            Ok(build_range(*span, left, over, copy_block(alloc, body)?))
+            Ok(build_range(*span, left, copy_expr(alloc, over)?, body))
         }
         Stmt::Switch {
             span,
@@ -81,12 +83,13 @@ pub fn copy_stmt(alloc: Global, s: &Stmt) -> Result<Stmt, NoMemory>
             cases,
         } => {
             let first = copy_stmt_option(alloc, first)?;
+            let cases = copy_cases(alloc, cases)?;
             let tag = copy_expr_option(alloc, tag)?;
-            Ok(build_switch(*span, first, tag, copy_cases(alloc, cases)?))
+            Ok(build_switch(*span, first, tag, cases))
         }
         Stmt::Defer { span, call } => Ok(build_defer(*span, copy_expr(alloc, call)?)),
         Stmt::Label { span, name, stmt } => {
-            build_label(alloc, *span, name, copy_stmt(alloc, stmt)?)
+            build_label(alloc, *span, name, copy_boxed_stmt(alloc, stmt)?)
         }
     }
 }
@@ -124,6 +127,13 @@ fn copy_stmts(alloc: Global, stmts: &StmtList) -> Result<StmtList, NoMemory>
 }
 
 #[cycle(copy_tree)]
+fn copy_boxed_stmt(alloc: Global, stmt: &Box<Stmt>) -> Result<Box<Stmt>, NoMemory>
+    ensures { IfOk result (λ c. stmt_of c.value ≡ stmt_of stmt.now.value) }
+{
+    Ok(Box::new(alloc, copy_stmt(alloc, stmt)?)?)
+}
+
+#[cycle(copy_tree)]
 fn copy_stmt_option(alloc: Global, stmt: &Option<Box<Stmt>>) -> Result<Option<Box<Stmt>>, NoMemory>
     ensures { IfOk result (λ c. boxed_stmt_option_of c ≡ boxed_stmt_option_of stmt.now) }
 {
@@ -148,11 +158,13 @@ fn copy_range_left(alloc: Global, left: &RangeLeft) -> Result<RangeLeft, NoMemor
 fn copy_arm(alloc: Global, arm: &Arm) -> Result<Arm, NoMemory>
     ensures { IfOk result (λ c. arm_of c ≡ arm_of arm.now) }
 {
+    let first = copy_stmt_option(alloc, &arm.first)?;
+    let body = copy_block(alloc, &arm.body)?;
     Ok(Arm {
         span: arm.span,
-        first: copy_stmt_option(alloc, &arm.first)?,
+        first,
         test: copy_expr(alloc, &arm.test)?,
-        body: copy_block(alloc, &arm.body)?,
+        body,
     })
 }
 
@@ -195,11 +207,13 @@ fn copy_cases(alloc: Global, cases: &CaseList) -> Result<CaseList, NoMemory>
 fn copy_const_spec(alloc: Global, spec: &ConstSpec) -> Result<ConstSpec, NoMemory>
     ensures { IfOk result (λ c. const_spec_of c ≡ const_spec_of spec.now) }
 {
+    let names = copy_names(alloc, &spec.names)?;
+    let values = copy_exprs(alloc, &spec.values)?;
     Ok(ConstSpec {
         span: spec.span,
-        names: copy_names(alloc, &spec.names)?,
+        names,
         of: copy_type_option(alloc, &spec.of)?,
-        values: copy_exprs(alloc, &spec.values)?,
+        values,
     })
 }
 
@@ -219,11 +233,13 @@ fn copy_const_specs(alloc: Global, specs: &ConstSpecList) -> Result<ConstSpecLis
 fn copy_var_spec(alloc: Global, spec: &VarSpec) -> Result<VarSpec, NoMemory>
     ensures { IfOk result (λ c. var_spec_of c ≡ var_spec_of spec.now) }
 {
+    let names = copy_names(alloc, &spec.names)?;
+    let values = copy_exprs(alloc, &spec.values)?;
     Ok(VarSpec {
         span: spec.span,
-        names: copy_names(alloc, &spec.names)?,
+        names,
         of: copy_type_option(alloc, &spec.of)?,
-        values: copy_exprs(alloc, &spec.values)?,
+        values,
     })
 }
 
