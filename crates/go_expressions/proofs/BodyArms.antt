@@ -1,14 +1,13 @@
 -- What the reader gives for statements in braces.
-use Rattle.std.proofs.Common.{◌≡◌, ◌≢◌, ℕ, List, ◌∷◌, map, Option, Some, None, refl, sym, ap, ◌∙◌}
+use Rattle.std.proofs.Common.{◌≡◌, ◌≢◌, ℕ, List, ◌∷◌, Some, None, sym, ap, ◌∙◌}
 use Rattle.std.specs.Prelude.{drop}
 use Rattle.go_tree.specs.declared.spans.Span.{Span}
 use Rattle.go_tree.specs.declared.tokens.Token.{Token}
 use Rattle.go_tree.specs.Tree.{Stmts}
-use Rattle.go_read.specs.SpellsTerminals.{lex, lexemes, brace, end_brace}
+use Rattle.go_read.specs.SpellsTerminals.{lex, lexemes, brace}
 use Rattle.go_read.specs.SpellsSpans.{span_to}
 use Rattle.go_read.specs.SpellsTypes.{Lexemes}
 use Rattle.go_read.specs.Goals.{read_stmts, read_block}
-use Rattle.go_read.specs.Programs.{after_end_brace}
 use Rattle.go_read.specs.ReadStmts.{block_step}
 use Rattle.go_read.specs.Reading.{at}
 use Rattle.go_read.proofs.Finds.{gives, asks, finish}

@@ -1,5 +1,5 @@
 -- What the reader gives for the elements of a composite literal.
-use Rattle.std.proofs.Common.{◌≡◌, ◌≢◌, Bool, true, false, List, [], ◌∷◌, ◌++◌, map, Option, Some, None, refl, sym, ap, ◌∙◌}
+use Rattle.std.proofs.Common.{◌≡◌, ◌≢◌, false, List, [], ◌∷◌, ◌++◌, map, Some, None, refl, sym, ap, ◌∙◌}
 use Rattle.std.specs.Prelude.{option_and_then}
 use Rattle.go_tree.specs.declared.spans.Span.{Span}
 use Rattle.go_tree.specs.declared.exprs.Elem as source
@@ -10,10 +10,10 @@ use Rattle.go_read.specs.SpellsTerminals.{lex, comma, colon, brace, end_brace}
 use Rattle.go_read.specs.SpellsSpans.{span_to}
 use Rattle.go_read.specs.SpellsTypes.{Lexemes}
 use Rattle.go_read.specs.Goals.{read_operand, read_elems, read_elem, read_value}
-use Rattle.go_read.specs.Programs.{Program, give, ask, run, after_end_brace}
-use Rattle.go_read.specs.ReadExprs.{elems_step, elems_after, elem_step, elem_after, value_step}
+use Rattle.go_read.specs.Programs.{ask, run}
+use Rattle.go_read.specs.ReadExprs.{elems_step, elems_after, elem_step, value_step}
 use Rattle.go_read.specs.Reading.{at}
-use Rattle.go_read.proofs.Finds.{Runs, gives, asks, finish}
+use Rattle.go_read.proofs.Finds.{gives, asks, finish}
 use Rattle.go_productions.specs.declared.terminals.Terminal.{Terminal}
 use Rattle.go_productions.specs.declared.terminals.Terminal.TheVariants as code
 use Rattle.go_productions.specs.Terminals.{first_of, rest_of}

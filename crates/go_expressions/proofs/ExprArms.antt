@@ -1,6 +1,5 @@
 -- What the reader gives for an expression.
-use Rattle.std.proofs.Common.{◌≡◌, ◌≢◌, ℕ, ◌+◌, Bool, true, false, nat_le, if◌then◌else◌, List, [], ◌∷◌, ◌++◌, map, Option, Some, None, refl, sym, ap, subst, ◌∙◌}
-use Rattle.std.specs.Prelude.{option_and_then}
+use Rattle.std.proofs.Common.{◌≡◌, ◌≢◌, ℕ, ◌+◌, Bool, true, false, nat_le, if◌then◌else◌, List, [], ◌∷◌, ◌++◌, map, Some, None, refl, sym, ap, ◌∙◌}
 use Rattle.go_tree.specs.declared.spans.Span.{Span}
 use Rattle.go_tree.specs.declared.operators.BinOp.{BinOp}
 use Rattle.go_tree.specs.declared.operators.BinOp.TheVariants.{Mul, Add, Sub, Xor, And}
@@ -15,9 +14,9 @@ use Rattle.go_read.specs.SpellsTypes.{Lexemes}
 use Rattle.go_read.specs.Spells.{is_func_lit}
 use Rattle.go_read.specs.Goals.{read_expr, read_more, read_unary, read_operand, read_exprs, read_args}
 use Rattle.go_read.specs.Programs.{Program, give, ask, unless, run}
-use Rattle.go_read.specs.ReadExprs.{expr_step, more_step, unary_step, operand_step, exprs_step, exprs_after, args_step, args_after}
+use Rattle.go_read.specs.ReadExprs.{expr_step, more_step, unary_step, operand_step, exprs_step, args_step, args_after}
 use Rattle.go_read.specs.Reading.{at}
-use Rattle.go_read.proofs.Finds.{Runs, gives, asks, passes, tails_more, finish}
+use Rattle.go_read.proofs.Finds.{gives, asks, passes, tails_more, finish}
 use Rattle.go_expressions.specs.declared.prefixes.Prefix.{Prefix}
 use Rattle.go_expressions.specs.declared.prefixes.Prefix.TheVariants as prefix
 use Rattle.go_productions.specs.declared.terminals.Terminal.{Terminal}

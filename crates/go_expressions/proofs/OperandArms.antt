@@ -1,6 +1,5 @@
 -- What the reader gives for an operand, by its first tokens.
-use Rattle.std.proofs.Common.{◌≡◌, ◌≢◌, ℕ, Bool, true, false, List, [], ◌∷◌, Option, Some, None, refl, sym, ap, ◌∙◌}
-use Rattle.std.specs.Prelude.{option_and_then}
+use Rattle.std.proofs.Common.{◌≡◌, ◌≢◌, ℕ, Bool, true, false, List, ◌∷◌, Some, None, refl, sym, ap, ◌∙◌}
 use Rattle.go_tree.specs.declared.spans.Span.{Span}
 use Rattle.go_tree.specs.Tree.{TypeExpr, Sig, Stmts, Expr, Elems, ident, composite, func_lit, type_operand}
 use Rattle.go_read.specs.SpellsTerminals.{lex, word, number, rune, text, comma, dot, paren, end_paren, bracket, brace, key_func, key_map, key_struct}
@@ -9,12 +8,12 @@ use Rattle.go_read.specs.SpellsTypes.{Lexemes}
 use Rattle.go_read.specs.Goals.{read_type, read_sig, read_expr, read_elems, read_block}
 use Rattle.go_read.specs.Programs.{Program, give, ask, run, after_end_paren, after_end_brace}
 use Rattle.go_read.specs.Reading.{at}
-use Rattle.go_read.proofs.Finds.{Runs, gives, asks}
+use Rattle.go_read.proofs.Finds.{gives, asks}
 use Rattle.go_productions.specs.declared.terminals.Terminal.{Terminal}
 use Rattle.go_productions.specs.declared.terminals.Terminal.TheVariants as code
 use Rattle.go_productions.specs.Terminals.{first_of, rest_of, spelling_of, has_letters}
 use Rattle.go_productions.specs.Parts.{is_qualified}
-use Rattle.go_expressions.specs.ExprParts.{plain_of, literal_here, follows_type, composite_program, composite_at, typed_after, typed_program, typed_at, word_program, operand_program, operand_at}
+use Rattle.go_expressions.specs.ExprParts.{plain_of, literal_here, follows_type, composite_program, composite_at, typed_after, typed_at, word_program, operand_at}
 use Rattle.go_productions.proofs.Steps.{lacks, no_end_paren, on_end_paren, no_end_brace, on_end_brace}
 
 pub qualified_plain : (h : Bool) (ts us vs ws : Lexemes) (k : Terminal) → is_qualified ts ≡ true → us ≡ rest_of ts → vs ≡ rest_of us → ws ≡ rest_of vs → first_of ws ≡ k → k ≢ code.Brace → literal_here h ts ≡ false

@@ -1,6 +1,5 @@
 -- What may follow an operand, by its first tokens.
-use Rattle.std.proofs.Common.{◌≡◌, ◌≢◌, Bool, true, false, List, [], ◌∷◌, Option, Some, None, refl, sym, ap, ◌∙◌}
-use Rattle.std.specs.Prelude.{option_and_then}
+use Rattle.std.proofs.Common.{◌≡◌, ◌≢◌, true, false, ◌∷◌, Some, None, refl, sym, ap, ◌∙◌}
 use Rattle.go_tree.specs.declared.spans.Span.{Span}
 use Rattle.go_tree.specs.Tree.{Expr, ExprOption, Exprs, selector, index, slice, call, no_expr, some_expr}
 use Rattle.go_read.specs.SpellsTerminals.{lex, word, colon, dot, paren, bracket, end_bracket}
@@ -8,14 +7,14 @@ use Rattle.go_read.specs.SpellsSpans.{span_to}
 use Rattle.go_read.specs.SpellsTypes.{Lexemes}
 use Rattle.go_read.specs.Spells.{is_func_lit}
 use Rattle.go_read.specs.Goals.{read_operand, read_args}
-use Rattle.go_read.specs.Programs.{Program, give, ask, unless, run, after_end_bracket}
+use Rattle.go_read.specs.Programs.{give, run, after_end_bracket}
 use Rattle.go_read.specs.Reading.{at}
-use Rattle.go_read.proofs.Finds.{Runs, gives, asks, passes}
+use Rattle.go_read.proofs.Finds.{gives, asks, passes}
 use Rattle.go_productions.specs.declared.terminals.Terminal.{Terminal}
 use Rattle.go_productions.specs.declared.terminals.Terminal.TheVariants as code
 use Rattle.go_productions.specs.Terminals.{first_of, rest_of, name_of}
-use Rattle.go_expressions.specs.ExprParts.{continues, high_program, high_at, index_after, brackets_program, brackets_at, postfix_program, postfix_at}
-use Rattle.go_productions.proofs.Steps.{fails, lacks, refuses, no_end_bracket, on_end_bracket}
+use Rattle.go_expressions.specs.ExprParts.{continues, high_program, high_at, index_after, brackets_program, brackets_at, postfix_at}
+use Rattle.go_productions.proofs.Steps.{lacks, refuses, no_end_bracket, on_end_bracket}
 
 pub call_none : (w : Lexemes) (x : Expr Span) (ts us : Lexemes) → first_of ts ≡ code.Paren → us ≡ rest_of ts → at span_to read_args us ≡ None → postfix_at w x ts ≡ None
 unfolding postfix_at

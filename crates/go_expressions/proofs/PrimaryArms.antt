@@ -1,5 +1,5 @@
 -- What the reader gives for an operand with what may follow it.
-use Rattle.std.proofs.Common.{◌≡◌, ◌≢◌, ℕ, Bool, true, false, List, [], ◌∷◌, Option, Some, None, refl, sym, ap, ◌∙◌}
+use Rattle.std.proofs.Common.{◌≡◌, Bool, true, false, ◌∷◌, Option, Some, None, refl, sym, ap, ◌∙◌}
 use Rattle.std.specs.Prelude.{option_and_then}
 use Rattle.go_tree.specs.declared.spans.Span.{Span}
 use Rattle.go_tree.specs.declared.operators.BinOp.TheVariants.{Mul, Add, Sub, Xor, And}
@@ -9,15 +9,13 @@ use Rattle.go_read.specs.SpellsSpans.{span_to}
 use Rattle.go_read.specs.SpellsTypes.{Lexemes, name_here}
 use Rattle.go_read.specs.Spells.{is_func_lit}
 use Rattle.go_read.specs.Goals.{read_type, read_sig, read_expr, read_unary, read_postfix, read_operand, read_args, read_elems, read_block}
-use Rattle.go_read.specs.Programs.{Program, give, ask, unless, run, after_end_paren, after_end_brace, after_end_bracket}
+use Rattle.go_read.specs.Programs.{give, unless, run, after_end_paren, after_end_brace, after_end_bracket}
 use Rattle.go_read.specs.ReadTypes.{type_step}
-use Rattle.go_read.specs.ReadExprs.{unary_step, postfix_step, then_postfix, type_after, composite_step, bracket_step, bracket_after, bracket_high}
+use Rattle.go_read.specs.ReadExprs.{unary_step, postfix_step, then_postfix, type_after, bracket_step, bracket_after, bracket_high}
 use Rattle.go_read.specs.Reading.{at}
-use Rattle.go_read.proofs.Finds.{Runs, gives, asks, passes, tails_postfix, finish}
-use Rattle.go_productions.specs.declared.terminals.Terminal.{Terminal}
-use Rattle.go_productions.specs.declared.terminals.Terminal.TheVariants as code
-use Rattle.go_productions.specs.Terminals.{first_of, rest_of}
-use Rattle.go_expressions.specs.ExprParts.{prefix_of, literal_here, composite_program, composite_at, typed_after, typed_program, typed_at, operand_program, operand_at, continues, high_program, high_at, index_after, brackets_program, brackets_at, postfix_program, postfix_at}
+use Rattle.go_read.proofs.Finds.{gives, tails_postfix, finish}
+use Rattle.go_productions.specs.Terminals.{first_of}
+use Rattle.go_expressions.specs.ExprParts.{prefix_of, typed_after, operand_at, continues, high_program, index_after, brackets_program, postfix_at}
 
 -- what is read behind an operand
 abbrev tail : Bool → Lexemes → (Expr Span × Bool) × Lexemes → Option ((Expr Span × Bool) × Lexemes)

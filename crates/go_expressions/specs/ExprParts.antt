@@ -1,11 +1,11 @@
 -- Parts of expressions that no goal of the reader is for.
-use Rattle.std.specs.Prelude.{ℕ, Bool, true, false, nat_le, if◌then◌else◌, List, [], ◌∷◌, Option, Some, None, option_and_then}
+use Rattle.std.specs.Prelude.{ℕ, Bool, true, false, nat_le, if◌then◌else◌, List, ◌∷◌, Option, Some, None, option_and_then}
 use Rattle.go_tree.specs.declared.spans.Span.{Span}
 use Rattle.go_tree.specs.declared.operators.BinOp.{BinOp}
 use Rattle.go_tree.specs.declared.operators.BinOp.TheVariants.{Mul, Add, Sub, Xor, And}
 use Rattle.go_tree.specs.declared.operators.UnOp.TheVariants.{Plus, Minus, Not, Flip, Address}
 use Rattle.go_tree.specs.Tree.{TypeExpr, Expr, ExprOption, Elems, ValueOption, Value, ident, elem, int_lit, rune_lit, str_lit, composite, selector, index, slice, call, func_lit, type_operand, unary, star, no_expr, some_expr}
-use Rattle.go_read.specs.SpellsTerminals.{lex, word, number, rune, text, sign, comma, colon, dot, paren, end_paren, bracket, end_bracket, brace, key_func, key_map, key_struct, level_of}
+use Rattle.go_read.specs.SpellsTerminals.{lex, word, number, rune, text, comma, colon, dot, paren, end_paren, bracket, end_bracket, brace, key_func, key_map, key_struct, level_of}
 use Rattle.go_read.specs.SpellsSpans.{span_to}
 use Rattle.go_read.specs.SpellsTypes.{Lexemes, name_here}
 use Rattle.go_read.specs.Spells.{is_func_lit}
@@ -16,7 +16,6 @@ use Rattle.go_expressions.specs.declared.prefixes.Prefix.{Prefix}
 use Rattle.go_expressions.specs.declared.prefixes.Prefix.TheVariants as prefix
 use Rattle.go_productions.specs.declared.terminals.Terminal.{Terminal}
 use Rattle.go_productions.specs.declared.terminals.Terminal.TheVariants as code
-use Rattle.go_productions.specs.Terminals.{first_of}
 
 -- ---- operators
 

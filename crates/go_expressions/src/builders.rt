@@ -2,7 +2,7 @@
 
 ghost use Rattle.std.specs.Prelude.{◌≡◌, IfOk};
 ghost use Rattle.go_tree.specs.Tree.{binary, call, composite, func_lit, index, selector, slice};
-ghost use Rattle.go_tree.specs.View.{boxed_expr_option_of, elem_of, elems_of, expr_of, exprs_of, held_value_option_of, name_at_of, plain_expr_option_of, sig_of, stmts_of, type_of, value_of};
+ghost use Rattle.go_tree.specs.View.{boxed_expr_option_of, elem_of, elems_of, expr_of, exprs_of, held_value_option_of, name_at_of, sig_of, stmts_of, type_of, value_of};
 ghost use Rattle.go_read.specs.Spells.{is_func_lit};
 ghost use Rattle.go_expressions.specs.ExprParts.{plain_of, prefixed};
 
@@ -14,19 +14,13 @@ use go_tree::{
 };
 use std::alloc::Global;
 
-pub(crate) fn build_prefixed(
-    alloc: Global,
-    span: Span,
-    prefix: Prefix,
-    e: Expr,
-) -> Result<Expr, NoMemory>
-    ensures { IfOk result (λ c. expr_of c ≡ prefixed prefix span (expr_of e)) }
+pub(crate) fn build_prefixed(span: Span, prefix: Prefix, e: Box<Expr>) -> Expr
+    ensures { expr_of result ≡ prefixed prefix span (expr_of e.value) }
 {
-    let e = Box::new(alloc, e)?;
-    Ok(match prefix {
+    match prefix {
         Prefix::Star => Expr::Star { span, e },
         Prefix::Sign(op) => Expr::Unary { span, op, e },
-    })
+    }
 }
 
 /// Whether the expression is a literal of a function, which stands only as the callee of a call.
@@ -39,84 +33,49 @@ pub fn is_func_lit(e: &Expr) -> bool
     }
 }
 
-pub(crate) fn build_binary(
-    alloc: Global,
-    span: Span,
-    op: BinOp,
-    left: Expr,
-    right: Expr,
-) -> Result<Expr, NoMemory>
-    ensures { IfOk result (λ c. expr_of c ≡ binary span op (expr_of left) (expr_of right)) }
+pub(crate) fn build_binary(span: Span, op: BinOp, left: Box<Expr>, right: Box<Expr>) -> Expr
+    ensures { expr_of result ≡ binary span op (expr_of left.value) (expr_of right.value) }
 {
-    let left = Box::new(alloc, left)?;
-    let right = Box::new(alloc, right)?;
-    Ok(Expr::Binary {
+    Expr::Binary {
         span,
         op,
         left,
         right,
-    })
-}
-
-pub(crate) fn build_call(
-    alloc: Global,
-    span: Span,
-    callee: Expr,
-    args: ExprList,
-) -> Result<Expr, NoMemory>
-    ensures { IfOk result (λ c. expr_of c ≡ call span (expr_of callee) (exprs_of args)) }
-{
-    let callee = Box::new(alloc, callee)?;
-    Ok(Expr::Call { span, callee, args })
-}
-
-pub(crate) fn build_selector(
-    alloc: Global,
-    span: Span,
-    base: Expr,
-    name: NameAt,
-) -> Result<Expr, NoMemory>
-    ensures { IfOk result (λ c. expr_of c ≡ selector span (expr_of base) (name_at_of name)) }
-{
-    let base = Box::new(alloc, base)?;
-    Ok(Expr::Selector { span, base, name })
-}
-
-pub(crate) fn build_index(alloc: Global, span: Span, base: Expr, at: Expr) -> Result<Expr, NoMemory>
-    ensures { IfOk result (λ c. expr_of c ≡ index span (expr_of base) (expr_of at)) }
-{
-    let base = Box::new(alloc, base)?;
-    let at = Box::new(alloc, at)?;
-    Ok(Expr::Index { span, base, at })
-}
-
-fn boxed_option(alloc: Global, e: Option<Expr>) -> Result<Option<Box<Expr>>, NoMemory>
-    ensures { IfOk result (λ c. boxed_expr_option_of c ≡ plain_expr_option_of e) }
-{
-    match e {
-        None => Ok(None),
-        Some(e) => Ok(Some(Box::new(alloc, e)?)),
     }
 }
 
-pub(crate) fn build_slice(
-    alloc: Global,
-    span: Span,
-    base: Expr,
-    from: Option<Expr>,
-    to: Option<Expr>,
-) -> Result<Expr, NoMemory>
-    ensures { IfOk result (λ c. expr_of c ≡ slice span (expr_of base) (plain_expr_option_of from) (plain_expr_option_of to)) }
+pub(crate) fn build_call(span: Span, callee: Box<Expr>, args: ExprList) -> Expr
+    ensures { expr_of result ≡ call span (expr_of callee.value) (exprs_of args) }
 {
-    let base = Box::new(alloc, base)?;
-    let from = boxed_option(alloc, from)?;
-    let to = boxed_option(alloc, to)?;
-    Ok(Expr::Slice {
+    Expr::Call { span, callee, args }
+}
+
+pub(crate) fn build_selector(span: Span, base: Box<Expr>, name: NameAt) -> Expr
+    ensures { expr_of result ≡ selector span (expr_of base.value) (name_at_of name) }
+{
+    Expr::Selector { span, base, name }
+}
+
+pub(crate) fn build_index(span: Span, base: Box<Expr>, at: Box<Expr>) -> Expr
+    ensures { expr_of result ≡ index span (expr_of base.value) (expr_of at.value) }
+{
+    Expr::Index { span, base, at }
+}
+
+pub(crate) fn build_slice(
+    span: Span,
+    base: Box<Expr>,
+    from: Option<Box<Expr>>,
+    to: Option<Box<Expr>>,
+) -> Expr
+    ensures { expr_of result ≡ slice span (expr_of base.value) (boxed_expr_option_of from) (boxed_expr_option_of to) }
+{
+    Expr::Slice {
         span,
         base,
         from,
         to,
-    })
+    }
 }
 
 pub(crate) fn build_func_lit(span: Span, sig: Sig, body: Block) -> Expr

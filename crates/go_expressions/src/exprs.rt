@@ -125,7 +125,8 @@ pub fn binary_expr<'a, F: Fn(&[Token]) -> Taken>(
     let mut bare = alone;
     let mut left = after;
     while let Some(op) = operator(left, level) {
-        if is_func_lit(&e) {
+        let left_operand = Box::new(alloc, e)?;
+        if is_func_lit(&left_operand) {
             return Ok(None);
         }
         let Some((operand, after)) = binary_expr(
@@ -139,11 +140,12 @@ pub fn binary_expr<'a, F: Fn(&[Token]) -> Taken>(
             return Ok(None);
         };
         let (right, _) = operand;
+        let right = Box::new(alloc, right)?;
         if is_func_lit(&right) {
             return Ok(None);
         }
         let span = span_between(tokens, after);
-        e = build_binary(alloc, span, op, e, right)?;
+        e = build_binary(span, op, left_operand, right);
         bare = true;
         left = after;
     }
@@ -205,12 +207,12 @@ fn unary_expr<'a, F: Fn(&[Token]) -> Taken>(
         return Ok(None);
     };
     let (e, _) = operand;
+    let e = Box::new(alloc, e)?;
     if is_func_lit(&e) {
         return Ok(None);
     }
     let span = span_between(tokens, left);
-    let e = build_prefixed(alloc, span, prefix, e)?;
-    Ok(Some(((e, true), left)))
+    Ok(Some(((build_prefixed(span, prefix, e), true), left)))
 }
 
 /// An operand with what may follow it.
@@ -235,7 +237,8 @@ fn primary_expr<'a, F: Fn(&[Token]) -> Taken>(
     let mut bare = alone;
     let mut left = after;
     while continues(left) {
-        let Some((next, after)) = postfix(alloc, tokens, e, left, bodies)? else {
+        let base = Box::new(alloc, e)?;
+        let Some((next, after)) = postfix(alloc, tokens, base, left, bodies)? else {
             return Ok(None);
         };
         e = next;

@@ -2,7 +2,7 @@
 
 ghost use Rattle.std.specs.Prelude.{◌≡◌, true, ◌≤◌, length};
 ghost use Rattle.go_tree.specs.Tree.{no_expr};
-ghost use Rattle.go_tree.specs.View.{expr_of, plain_expr_option_of};
+ghost use Rattle.go_tree.specs.View.{boxed_expr_option_of, expr_of};
 ghost use Rattle.go_read.specs.SpellsTerminals.{lexemes};
 ghost use Rattle.go_expressions.specs.Bodies.{ReadsBelow};
 ghost use Rattle.go_productions.specs.Answers.{Gives, Shorter};
@@ -32,14 +32,14 @@ pub(crate) fn continues(tokens: &[Token]) -> bool
 pub(crate) fn postfix<'a, F: Fn(&[Token]) -> Taken>(
     alloc: Global,
     whole: &[Token],
-    base: Expr,
+    base: Box<Expr>,
     tokens: &'a [Token],
     bodies: &Bodies<F>,
 ) -> Reading<'a, Expr>
     requires reads { ReadsBelow (F.pre bodies.now.read) (F.post bodies.now.read) bodies.now.limit }
     requires within { length tokens.now ≤ bodies.now.limit }
     requires goes_on { continues (lexemes tokens.now) ≡ true }
-    ensures gives { Gives (λ x. (expr_of x.0, lexemes x.1.now)) result (postfix_at (lexemes whole.now) (expr_of base) (lexemes tokens.now)) }
+    ensures gives { Gives (λ x. (expr_of x.0, lexemes x.1.now)) result (postfix_at (lexemes whole.now) (expr_of base.value) (lexemes tokens.now)) }
     ensures shorter { Shorter (λ x. x.1.now) result tokens.now }
 {
     if let Terminal::Paren = first(tokens) {
@@ -47,8 +47,7 @@ pub(crate) fn postfix<'a, F: Fn(&[Token]) -> Taken>(
             return Ok(None);
         };
         let span = span_between(whole, left);
-        let e = build_call(alloc, span, base, args)?;
-        return Ok(Some((e, left)));
+        return Ok(Some((build_call(span, base, args), left)));
     }
     if is_func_lit(&base) {
         return Ok(None);
@@ -59,8 +58,7 @@ pub(crate) fn postfix<'a, F: Fn(&[Token]) -> Taken>(
     let name = name(alloc, rest(tokens))?;
     let left = rest(rest(tokens));
     let span = span_between(whole, left);
-    let e = build_selector(alloc, span, base, name)?;
-    Ok(Some((e, left)))
+    Ok(Some((build_selector(span, base, name), left)))
 }
 
 /// An index or bounds, after the opening bracket.
@@ -69,13 +67,13 @@ pub(crate) fn postfix<'a, F: Fn(&[Token]) -> Taken>(
 fn brackets<'a, F: Fn(&[Token]) -> Taken>(
     alloc: Global,
     whole: &[Token],
-    base: Expr,
+    base: Box<Expr>,
     tokens: &'a [Token],
     bodies: &Bodies<F>,
 ) -> Reading<'a, Expr>
     requires reads { ReadsBelow (F.pre bodies.now.read) (F.post bodies.now.read) bodies.now.limit }
     requires within { length tokens.now ≤ bodies.now.limit }
-    ensures gives { Gives (λ x. (expr_of x.0, lexemes x.1.now)) result (brackets_at (lexemes whole.now) (expr_of base) (lexemes tokens.now)) }
+    ensures gives { Gives (λ x. (expr_of x.0, lexemes x.1.now)) result (brackets_at (lexemes whole.now) (expr_of base.value) (lexemes tokens.now)) }
     ensures shorter { Shorter (λ x. x.1.now) result tokens.now }
 {
     if let Terminal::Colon = first(tokens) {
@@ -84,13 +82,13 @@ fn brackets<'a, F: Fn(&[Token]) -> Taken>(
     let Some((at, left)) = expression(alloc, tokens, false, bodies)? else {
         return Ok(None);
     };
+    let at = Box::new(alloc, at)?;
     match first(left) {
         Terminal::Colon => bounds(alloc, whole, base, Some(at), rest(left), bodies),
         Terminal::EndBracket => {
             let left = rest(left);
             let span = span_between(whole, left);
-            let e = build_index(alloc, span, base, at)?;
-            Ok(Some((e, left)))
+            Ok(Some((build_index(span, base, at), left)))
         }
         _ => Ok(None),
     }
@@ -102,30 +100,29 @@ fn brackets<'a, F: Fn(&[Token]) -> Taken>(
 fn bounds<'a, F: Fn(&[Token]) -> Taken>(
     alloc: Global,
     whole: &[Token],
-    base: Expr,
-    from: Option<Expr>,
+    base: Box<Expr>,
+    from: Option<Box<Expr>>,
     tokens: &'a [Token],
     bodies: &Bodies<F>,
 ) -> Reading<'a, Expr>
     requires reads { ReadsBelow (F.pre bodies.now.read) (F.post bodies.now.read) bodies.now.limit }
     requires within { length tokens.now ≤ bodies.now.limit }
-    ensures gives { Gives (λ x. (expr_of x.0, lexemes x.1.now)) result (high_at (lexemes whole.now) (expr_of base) (plain_expr_option_of from) (lexemes tokens.now)) }
+    ensures gives { Gives (λ x. (expr_of x.0, lexemes x.1.now)) result (high_at (lexemes whole.now) (expr_of base.value) (boxed_expr_option_of from) (lexemes tokens.now)) }
     ensures shorter { Shorter (λ x. x.1.now) result tokens.now }
 {
     if let Terminal::EndBracket = first(tokens) {
         let left = rest(tokens);
         let span = span_between(whole, left);
-        let e = build_slice(alloc, span, base, from, None)?;
-        return Ok(Some((e, left)));
+        return Ok(Some((build_slice(span, base, from, None), left)));
     }
     let Some((to, left)) = expression(alloc, tokens, false, bodies)? else {
         return Ok(None);
     };
+    let to = Box::new(alloc, to)?;
     let Terminal::EndBracket = first(left) else {
         return Ok(None);
     };
     let left = rest(left);
     let span = span_between(whole, left);
-    let e = build_slice(alloc, span, base, from, Some(to))?;
-    Ok(Some((e, left)))
+    Ok(Some((build_slice(span, base, from, Some(to)), left)))
 }

@@ -14,7 +14,7 @@ use Rattle.go_read.specs.Goals.{read_type, read_entries, read_fields}
 use Rattle.go_read.specs.Programs.{run}
 use Rattle.go_read.specs.ReadTypes.{entries_step, fields_step, fields_after}
 use Rattle.go_read.specs.Reading.{at}
-use Rattle.go_read.proofs.Finds.{Runs, gives, asks, finish}
+use Rattle.go_read.proofs.Finds.{gives, asks, finish}
 use Rattle.go_productions.specs.declared.terminals.Terminal.{Terminal}
 use Rattle.go_productions.specs.declared.terminals.Terminal.TheVariants as code
 use Rattle.go_productions.specs.Terminals.{first_of, rest_of, name_of}

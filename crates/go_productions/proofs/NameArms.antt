@@ -1,15 +1,12 @@
 -- What the reader gives for names, by their first tokens.
-use Rattle.std.proofs.Common.{◌≡◌, ◌≢◌, List, [], ◌∷◌, Option, Some, None, refl, sym, ap, ◌∙◌}
-use Rattle.std.specs.Prelude.{option_and_then}
-use Rattle.go_tree.specs.declared.spans.Span.{Span}
-use Rattle.go_tree.specs.Tree.{NameAt, TypeExpr}
+use Rattle.std.proofs.Common.{◌≡◌, ◌≢◌, [], ◌∷◌, Some, None, refl, sym, ap, ◌∙◌}
 use Rattle.go_read.specs.SpellsTerminals.{lex, word, comma}
 use Rattle.go_read.specs.SpellsSpans.{span_to}
 use Rattle.go_read.specs.SpellsTypes.{Lexemes}
 use Rattle.go_read.specs.Goals.{read_names}
 use Rattle.go_read.specs.ReadTypes.{names_step}
 use Rattle.go_read.specs.Reading.{at}
-use Rattle.go_read.proofs.Finds.{gives, asks, finish}
+use Rattle.go_read.proofs.Finds.{gives, finish}
 use Rattle.go_productions.specs.declared.terminals.Terminal.{Terminal}
 use Rattle.go_productions.specs.declared.terminals.Terminal.TheVariants as code
 use Rattle.go_productions.specs.Terminals.{first_of, rest_of, name_of}

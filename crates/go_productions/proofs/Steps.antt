@@ -1,5 +1,5 @@
 -- What a program of the reader gives where a part is not there.
-use Rattle.std.proofs.Common.{◌≡◌, ◌≢◌, ℕ, Bool, true, false, List, [], ◌∷◌, Option, Some, None, refl, sym, ap, ◌∙◌}
+use Rattle.std.proofs.Common.{◌≡◌, ◌≢◌, Bool, true, false, [], ◌∷◌, Option, Some, None, refl, sym, ap, ◌∙◌}
 use Rattle.std.specs.Prelude.{option_and_then, if◌then◌else◌}
 use Rattle.go_tree.specs.declared.spans.Span.{Span}
 use Rattle.go_read.specs.SpellsTerminals as pure
@@ -7,9 +7,9 @@ use Rattle.go_read.specs.SpellsTerminals.{lex}
 use Rattle.go_read.specs.SpellsSpans.{span_to}
 use Rattle.go_read.specs.SpellsTypes.{Lexemes}
 use Rattle.go_read.specs.Goals.{Goal, Answer}
-use Rattle.go_read.specs.Programs.{Program, give, fail, ask, look, run, unless, after_semicolon, after_colon, after_brace, after_end_brace, after_end_bracket, after_end_paren}
-use Rattle.go_read.specs.Reading.{step, at}
-use Rattle.go_read.proofs.Finds.{Runs, finish}
+use Rattle.go_read.specs.Programs.{Program, give, fail, ask, run, unless, after_semicolon, after_colon, after_brace, after_end_brace, after_end_bracket, after_end_paren}
+use Rattle.go_read.specs.Reading.{at}
+use Rattle.go_read.proofs.Finds.{Runs}
 use Rattle.go_productions.specs.declared.terminals.Terminal.{Terminal}
 use Rattle.go_productions.specs.declared.terminals.Terminal.TheVariants as code
 use Rattle.go_productions.specs.Terminals.{first_of, rest_of}

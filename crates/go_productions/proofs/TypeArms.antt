@@ -1,10 +1,10 @@
 -- What the reader gives for a type, by its first tokens.
-use Rattle.std.proofs.Common.{◌≡◌, ◌≢◌, List, [], ◌∷◌, Some, None, true, false, refl, sym, ap, ◌∙◌}
+use Rattle.std.proofs.Common.{◌≡◌, ◌≢◌, ◌∷◌, Some, None, true, false, sym, ap, ◌∙◌}
 use Rattle.go_tree.specs.declared.spans.Span.{Span}
 use Rattle.go_tree.specs.declared.operators.BinOp.{BinOp}
 use Rattle.go_tree.specs.declared.operators.BinOp.TheVariants.{Mul}
-use Rattle.go_tree.specs.Tree.{NameAt, TypeExpr, Fields, named, pointer, slice_type, map_type, struct_type}
-use Rattle.go_read.specs.SpellsTerminals.{lex, word, sign, dot, paren, end_paren, bracket, end_bracket, brace, end_brace, key_map, key_struct}
+use Rattle.go_tree.specs.Tree.{TypeExpr, Fields, named, pointer, slice_type, map_type, struct_type}
+use Rattle.go_read.specs.SpellsTerminals.{lex, word, sign, dot, paren, bracket, end_bracket, brace, key_map, key_struct}
 use Rattle.go_read.specs.SpellsSpans.{span_to}
 use Rattle.go_read.specs.SpellsTypes.{Lexemes}
 use Rattle.go_read.specs.Goals.{read_type, read_fields}

@@ -3,9 +3,9 @@ use Rattle.std.specs.Prelude.{Bool, true, false, List, [], ◌∷◌, ◌++◌, 
 use Rattle.go_tree.specs.declared.spans.Span.{Span}
 use Rattle.go_tree.specs.declared.operators.BinOp.TheVariants.{Mul}
 use Rattle.go_tree.specs.Tree.{NameAt, TypeExpr, Fields, field, Param, Stmt, const_decl, var_decl}
-use Rattle.go_read.specs.SpellsTerminals.{lex, word, sign, comma, dot, paren, brace, bracket, key_map, key_struct}
+use Rattle.go_read.specs.SpellsTerminals.{lex, word, comma, dot, paren, brace}
 use Rattle.go_read.specs.SpellsSpans.{span_to}
-use Rattle.go_read.specs.SpellsTypes.{Lexemes, params_of, unnamed}
+use Rattle.go_read.specs.SpellsTypes.{Lexemes, unnamed}
 use Rattle.go_read.specs.Goals.{read_type, read_entries, read_named, read_unnamed, read_params, read_decl}
 use Rattle.go_read.specs.Reading.{at}
 use Rattle.go_productions.specs.declared.terminals.Terminal.{Terminal}

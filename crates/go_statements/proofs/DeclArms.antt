@@ -1,26 +1,26 @@
 -- What the reader gives for declarations of constants and variables.
-use Rattle.std.proofs.Common.{◌≡◌, ◌≢◌, Bool, true, false, List, [], ◌∷◌, ◌++◌, length, map, Option, Some, None, refl, sym, ap, ◌∙◌}
+use Rattle.std.proofs.Common.{◌≡◌, ◌≢◌, Bool, true, false, List, [], ◌∷◌, ◌++◌, map, Option, Some, None, refl, sym, ap, ◌∙◌}
 use Rattle.std.specs.Prelude.{option_and_then}
 use Rattle.go_tree.specs.declared.spans.Span.{Span}
 use Rattle.go_tree.specs.declared.stmts.VarSpec as source
 use Rattle.go_tree.specs.View.{var_spec_of}
 use Rattle.go_tree.specs.Lists.{specs_from}
-use Rattle.go_tree.specs.Tree.{NameAt, TypeExpr, Exprs, no_exprs, Stmt, const_decl, var_decl, ValueSpecs, no_specs, spec}
+use Rattle.go_tree.specs.Tree.{NameAt, TypeExpr, Exprs, no_exprs, const_decl, var_decl, ValueSpecs, no_specs, spec}
 use Rattle.go_read.specs.SpellsTerminals.{lex, becomes, semicolon, paren, end_paren, end_brace}
 use Rattle.go_read.specs.SpellsSpans.{span_to}
 use Rattle.go_read.specs.SpellsTypes.{Lexemes}
 use Rattle.go_read.specs.Goals.{read_type, read_names, read_exprs, read_decl, read_specs, read_spec}
-use Rattle.go_read.specs.Programs.{Program, give, ask, run, after_end_paren}
+use Rattle.go_read.specs.Programs.{give, ask, run}
 use Rattle.go_read.specs.ReadStmts.{decl_step, specs_step, specs_after, spec_step, spec_after, typed_step, typed_after}
 use Rattle.go_read.specs.Reading.{at}
-use Rattle.go_read.proofs.Finds.{Runs, gives, asks, finish}
+use Rattle.go_read.proofs.Finds.{gives, asks, finish}
 use Rattle.go_productions.specs.declared.terminals.Terminal.{Terminal}
 use Rattle.go_productions.specs.declared.terminals.Terminal.TheVariants as code
 use Rattle.go_productions.specs.Terminals.{first_of, rest_of}
 use Rattle.go_productions.specs.Parts.{onto, in_front, const_decl_at, var_decl_at}
 use Rattle.go_statements.specs.StmtParts.{spec_at, spec_and, is_equals, repeats}
 use Rattle.go_productions.proofs.Fronts.{front_none, front_some, front_push, then_some, then_none}
-use Rattle.go_productions.proofs.Steps.{fails, lacks, goes_on, no_end_paren, on_end_paren}
+use Rattle.go_productions.proofs.Steps.{lacks, goes_on, no_end_paren, on_end_paren}
 
 -- ---- declarations
 

@@ -1,5 +1,5 @@
 -- What the reader gives for a `for` statement.
-use Rattle.std.proofs.Common.{◌≡◌, ◌≢◌, Bool, true, false, List, [], ◌∷◌, Option, Some, None, refl, sym, ap, ◌∙◌}
+use Rattle.std.proofs.Common.{◌≡◌, ◌≢◌, true, false, List, ◌∷◌, Option, Some, None, refl, sym, ap, ◌∙◌}
 use Rattle.std.specs.Prelude.{option_and_then}
 use Rattle.go_tree.specs.declared.spans.Span.{Span}
 use Rattle.go_tree.specs.Tree.{NameAt, Expr, Exprs, ExprOption, no_expr, some_expr, Stmt, Stmts, StmtOption, no_stmt, some_stmt, eval, define, for_, range_, RangeLeft, nothing, assigns, defines}
@@ -7,10 +7,10 @@ use Rattle.go_read.specs.SpellsTerminals.{lex, becomes, short, semicolon, brace,
 use Rattle.go_read.specs.SpellsSpans.{span_to}
 use Rattle.go_read.specs.SpellsTypes.{Lexemes}
 use Rattle.go_read.specs.Goals.{Clause, plain_clause, range_clause, read_names, read_operand, read_exprs, read_simple, read_simple_after, read_clause, read_stmt, read_block}
-use Rattle.go_read.specs.Programs.{Program, give, ask, run, after_semicolon}
-use Rattle.go_read.specs.ReadStmts.{stmt_step, clause_step, clause_names, clause_exprs, clause_after, for_first, for_body, for_post, for_test, for_eval, for_plain, for_after}
+use Rattle.go_read.specs.Programs.{give, ask, run, after_semicolon}
+use Rattle.go_read.specs.ReadStmts.{stmt_step, clause_step, clause_names, clause_exprs, clause_after, for_first, for_body, for_post, for_test, for_eval, for_after}
 use Rattle.go_read.specs.Reading.{at}
-use Rattle.go_read.proofs.Finds.{Runs, gives, asks, looks, finish}
+use Rattle.go_read.proofs.Finds.{gives, asks, looks, finish}
 use Rattle.go_read.proofs.Runs.{some_is}
 use Rattle.go_productions.specs.declared.terminals.Terminal.{Terminal}
 use Rattle.go_productions.specs.declared.terminals.Terminal.TheVariants as code
@@ -18,7 +18,7 @@ use Rattle.go_productions.specs.Terminals.{first_of, rest_of}
 use Rattle.go_productions.specs.Parts.{skipped}
 use Rattle.go_statements.specs.StmtParts.{is_short, short_after, defines_here, evaluated, range_here, for_body_at, for_post_at, for_test_at, for_plain_at, range_at, for_clause_at}
 use Rattle.go_statements.proofs.SimpleArms.{names_skipped, names_behind}
-use Rattle.go_productions.proofs.Steps.{fails, lacks, no_semicolon, on_semicolon}
+use Rattle.go_productions.proofs.Steps.{lacks, no_semicolon, on_semicolon}
 
 -- ---- the keyword
 

@@ -11,11 +11,11 @@ use Rattle.go_read.specs.SpellsTerminals.{lex, word, comma, becomes, short, incr
 use Rattle.go_read.specs.SpellsSpans.{span_to}
 use Rattle.go_read.specs.SpellsTypes.{Lexemes}
 use Rattle.go_read.specs.Goals.{read_names, read_exprs, read_simple, read_simple_after}
-use Rattle.go_read.specs.Programs.{Program, give, ask, run}
+use Rattle.go_read.specs.Programs.{give, ask, run}
 use Rattle.go_read.specs.ReadTypes.{names_step}
 use Rattle.go_read.specs.ReadStmts.{simple_step, simple_names, simple_exprs, simple_after_step, one_expr, one_after}
 use Rattle.go_read.specs.Reading.{at}
-use Rattle.go_read.proofs.Finds.{Runs, gives, asks, looks, finish}
+use Rattle.go_read.proofs.Finds.{gives, asks, looks, finish}
 use Rattle.go_productions.specs.declared.terminals.Terminal.{Terminal}
 use Rattle.go_productions.specs.declared.terminals.Terminal.TheVariants as code
 use Rattle.go_productions.specs.Terminals.{first_of, rest_of, name_of}

@@ -5,14 +5,14 @@ use Rattle.go_tree.specs.declared.spans.Span.{Span}
 use Rattle.go_tree.specs.declared.stmts.Stmt as source
 use Rattle.go_tree.specs.View.{stmt_of}
 use Rattle.go_tree.specs.Lists.{stmts_from}
-use Rattle.go_tree.specs.Tree.{NameAt, Expr, Exprs, no_exprs, call, Stmt, Stmts, no_stmts, stmt_and, const_decl, var_decl, empty, return_, break_, continue_, inner, defer, label}
+use Rattle.go_tree.specs.Tree.{Expr, Exprs, no_exprs, call, Stmt, Stmts, no_stmts, stmt_and, empty, return_, break_, continue_, inner, defer, label}
 use Rattle.go_read.specs.SpellsTerminals.{lex, word, colon, semicolon, brace, end_brace, key_break, key_case, key_const, key_continue, key_default, key_defer, key_for, key_if, key_return, key_switch, key_var}
 use Rattle.go_read.specs.SpellsSpans.{span_to}
 use Rattle.go_read.specs.SpellsTypes.{Lexemes}
 use Rattle.go_read.specs.Spells.{is_empty, SpellsStmt, SpellsSimple, empty_rule, simple_rule, eval_rule, increment_rule, decrement_rule, assign_rule, define_rule}
-use Rattle.go_read.specs.Goals.{read_expr, read_exprs, read_simple, read_stmt, read_stmts, read_block, read_decl}
-use Rattle.go_read.specs.Programs.{Program, give, ask, unless, run, after_end_brace}
-use Rattle.go_read.specs.ReadStmts.{stmt_step, stmts_step, stmts_after, block_step, return_step, break_step, continue_step, defer_after, word_stmt}
+use Rattle.go_read.specs.Goals.{read_expr, read_exprs, read_simple, read_stmt, read_stmts, read_block}
+use Rattle.go_read.specs.Programs.{give, ask, run}
+use Rattle.go_read.specs.ReadStmts.{stmt_step, stmts_step, stmts_after, return_step, defer_after, word_stmt}
 use Rattle.go_read.specs.Reading.{at}
 use Rattle.go_read.proofs.Finds.{Runs, gives, asks, passes, finish}
 use Rattle.go_read.proofs.Whole.{stmt_spelled}
@@ -22,7 +22,7 @@ use Rattle.go_productions.specs.Terminals.{first_of, rest_of, name_of}
 use Rattle.go_productions.specs.Parts.{onto, in_front, const_decl_at, var_decl_at}
 use Rattle.go_statements.specs.StmtParts.{closes, ends_stmts, is_bare_call}
 use Rattle.go_productions.proofs.Fronts.{front_none, front_some, front_push}
-use Rattle.go_productions.proofs.Steps.{fails, lacks, goes_on, no_end_brace, on_end_brace}
+use Rattle.go_productions.proofs.Steps.{lacks, goes_on}
 
 -- ---- lists of statements
 

@@ -5,9 +5,9 @@ use Rattle.go_tree.specs.Tree.{NameAt, TypeExpr, Expr, Exprs, ExprOption, Stmt, 
 use Rattle.go_read.specs.SpellsTerminals.{lex, becomes, colon, key_case, key_default, key_range}
 use Rattle.go_read.specs.SpellsSpans.{span_to}
 use Rattle.go_read.specs.SpellsTypes.{Lexemes}
-use Rattle.go_read.specs.Goals.{Clause, range_clause, read_names, read_exprs, read_clause, read_arm, read_spec, read_stmts}
-use Rattle.go_read.specs.Programs.{Program, give, ask, run}
-use Rattle.go_read.specs.ReadStmts.{arm_body, arm_test, arm_after, for_body, for_post, for_test, for_plain, for_after, switch_body, switch_tag, switch_after}
+use Rattle.go_read.specs.Goals.{range_clause, read_names, read_exprs, read_clause, read_arm, read_spec, read_stmts}
+use Rattle.go_read.specs.Programs.{ask, run}
+use Rattle.go_read.specs.ReadStmts.{arm_body, arm_test, for_body, for_post, for_test, for_plain, for_after, switch_body, switch_tag}
 use Rattle.go_read.specs.Reading.{at}
 use Rattle.go_productions.specs.declared.terminals.Terminal.{Terminal}
 use Rattle.go_productions.specs.declared.terminals.Terminal.TheVariants as code

@@ -19,7 +19,10 @@ pub(crate) fn evaluated(stmt: Stmt) -> Option<Expr>
 {
     match stmt {
         Stmt::Eval { e, .. } => Some(e),
-        _ => None,
+        other => {
+            drop(other);
+            None
+        }
     }
 }
 

@@ -185,11 +185,11 @@ fn word_stmt<'a, F: Fn(&[Token]) -> Taken>(
     let Terminal::Colon = first(after) else {
         return simple_stmt(alloc, tokens, false, bodies);
     };
+    let name = name(alloc, tokens)?;
     let Some((of, left)) = stmt(alloc, rest(after), bodies)? else {
         return Ok(None);
     };
     let span = span_between(tokens, left);
-    let name = name(alloc, tokens)?;
     let labeled = build_label(alloc, span, name, of)?;
     Ok(Some((labeled, left)))
 }

@@ -1,7 +1,8 @@
-use Rattle.std.proofs.Common.{◌≡◌, ◌<◌, ◌+◌, Bool, true, false, Some, length, map, refl, sym, ap, ◌∙◌, arith, rules}
+use Rattle.std.proofs.Common.{◌≡◌, ◌<◌, ◌+◌, true, false, Some, length, map, refl, sym, ap, ◌∙◌, arith, rules}
 use Rattle.go_tree.specs.declared.spans.Span.{Span}
 use Rattle.go_tree.specs.Tree.{Expr, Exprs, NameAt, binary, selector}
-use Rattle.go_tree.specs.View.{expr_of, name_at_of, plain_expr_option_of}
+use Rattle.go_tree.specs.View.{boxed_expr_option_of, expr_of, name_at_of}
+use Rattle.go_read.specs.Spells.{is_func_lit}
 use Rattle.go_read.specs.SpellsTerminals.{lexemes}
 use Rattle.go_read.specs.SpellsSpans.{span_to}
 use Rattle.go_read.specs.Goals.{read_expr, read_more, read_operand, read_unary}
@@ -19,9 +20,11 @@ exprs::binary_expr-returns-then-is_func_lit-2-clause-gives g t c =
     let us = lexemes c.rest.result.now in
     let r = lexemes c.in-Some-2.after.now in
     let read : at span_to (read_expr (c.level_of.result + 1) c.args.header) us ≡ Some ((expr_of c.in-Some-2.operand.0, c.in-Some-2.operand.1), r) = search rules in
+    let first : is_func_lit (expr_of c.loop-op.e) ≡ false = search rules in
+    let second : is_func_lit (expr_of c.in-Some-2.operand.0) ≡ true = search rules in
     sym c.loop-op.invariant.0
     ∙ more_func_right c.args.level c.args.header (lexemes c.args.tokens.now) (expr_of c.loop-op.e) (expr_of c.in-Some-2.operand.0) c.loop-op.bare c.in-Some-2.operand.1 (lexemes c.loop-op.left.now) us r c.in-Some-operator.op c.level_of.result
-    c.in-Some-operator.ensures c.if-is_func_lit.ensures c.rest.ensures.is c.level_of.ensures.is read c.if-is_func_lit-2.ensures
+    c.in-Some-operator.ensures first c.rest.ensures.is c.level_of.ensures.is read second
 
 pub exprs::binary_expr-loop-op-preserved : goal.exprs::binary_expr-loop-op-preserved
 exprs::binary_expr-loop-op-preserved g t c =
@@ -31,14 +34,16 @@ exprs::binary_expr-loop-op-preserved g t c =
     let x = expr_of c.loop-op.e in
     let y = expr_of c.in-Some-2.operand.0 in
     let read : at span_to (read_expr (c.level_of.result + 1) c.args.header) us ≡ Some ((y, c.in-Some-2.operand.1), r) = search rules in
-    let built : expr_of c.in_ok-e-2.e ≡ binary (span_to ts r) c.in-Some-operator.op x y = c.in_ok-e-2.ensures ∙ ap (λ (s : Span). binary s c.in-Some-operator.op x y) c.span_between-span.ensures in
+    let first : is_func_lit x ≡ false = search rules in
+    let second : is_func_lit y ≡ false = search rules in
+    let built : expr_of c.build_binary-e.result ≡ binary (span_to ts r) c.in-Some-operator.op x y = search rules in
     let less : length c.in-Some-2.after.now < length c.rest.result.now = search rules in
     let within = rest_within c.loop-op.left.now c.rest.result.now c.rest.ensures.is in
     let before = c.loop-op.invariant.1 in
     let fewer : length c.in-Some-2.after.now < length c.args.tokens.now = omega arith in (
       ap (λ (z : Expr Span). at span_to (read_more c.args.level c.args.header ts z true) r) built
           ∙ more_some c.args.level c.args.header ts x y c.loop-op.bare c.in-Some-2.operand.1 (lexemes c.loop-op.left.now) us r c.in-Some-operator.op c.level_of.result
-          c.in-Some-operator.ensures c.if-is_func_lit.ensures c.rest.ensures.is c.level_of.ensures.is read c.if-is_func_lit-2.ensures
+          c.in-Some-operator.ensures first c.rest.ensures.is c.level_of.ensures.is read second
           ∙ c.loop-op.invariant.0,
       fewer,
     )
@@ -56,9 +61,11 @@ exprs::unary_expr-returns-clause-gives g t c =
     let r = lexemes c.in-Some-2.left.now in
     let x = expr_of c.in-Some-2.operand.0 in
     let p : prefix_of (first_of ts) ≡ Some c.in-Some.prefix = search rules in
+    let other : is_func_lit x ≡ false = search rules in
+    let built : expr_of c.build_prefixed.result ≡ prefixed c.in-Some.prefix (span_to ts r) x = search rules in
     let read : at span_to (read_unary c.args.header) us ≡ Some ((x, c.in-Some-2.operand.1), r) = search rules in
-    unary_some c.args.header c.in-Some-2.operand.1 ts us r x c.in-Some.prefix p c.rest.ensures.is read c.if-is_func_lit.ensures
-    ∙ ap (λ (z : Expr Span). Some ((z, true), r)) (sym (c.in_ok-e.ensures ∙ ap (λ (s : Span). prefixed c.in-Some.prefix s x) c.span_between-span.ensures))
+    unary_some c.args.header c.in-Some-2.operand.1 ts us r x c.in-Some.prefix p c.rest.ensures.is read other
+    ∙ ap (λ (z : Expr Span). Some ((z, true), r)) (sym built)
 
 pub operands::in_parens-returns-clause-gives : goal.operands::in_parens-returns-clause-gives
 operands::in_parens-returns-clause-gives g t c =
@@ -73,7 +80,7 @@ postfixes::bounds-returns-in_default-first g t c = record {
       let ts = lexemes c.args.tokens.now in
       let r = lexemes c.in-Some.left.now in
       let read : at span_to (read_operand false) ts ≡ Some (expr_of c.in-Some.to, r) = search rules in
-      high_stop (lexemes c.args.whole.now) (expr_of c.args.base) (expr_of c.in-Some.to) (plain_expr_option_of c.args.from) ts r c.first.result c.first-2.result
+      high_stop (lexemes c.args.whole.now) (expr_of c.args.base.value) (expr_of c.in-Some.to) (boxed_expr_option_of c.args.from) ts r c.first.result c.first-2.result
       c.first.ensures.is c.in_default.not-EndBracket read c.first-2.ensures.is c.in_default-first.not-EndBracket;
   shorter = tt;
 }
@@ -84,7 +91,7 @@ postfixes::brackets-returns-in_default-first g t c = record {
       let ts = lexemes c.args.tokens.now in
       let r = lexemes c.in-Some.left.now in
       let read : at span_to (read_operand false) ts ≡ Some (expr_of c.in-Some.at, r) = search rules in
-      index_stop (lexemes c.args.whole.now) (expr_of c.args.base) (expr_of c.in-Some.at) ts r c.first.result c.first-2.result
+      index_stop (lexemes c.args.whole.now) (expr_of c.args.base.value) (expr_of c.in-Some.at) ts r c.first.result c.first-2.result
       c.first.ensures.is c.in_default.not-Colon read c.first-2.ensures.is c.in_default-first.not-Colon c.in_default-first.not-EndBracket;
   shorter = tt;
 }
@@ -93,12 +100,14 @@ pub postfixes::postfix-returns : goal.postfixes::postfix-returns
 postfixes::postfix-returns g t c = record {
   gives =
       let w = lexemes c.args.whole.now in
-      let x = expr_of c.args.base in
+      let x = expr_of c.args.base.value in
       let us = lexemes c.rest-2.result.now in
       let vs = lexemes c.rest-left.result.now in
+      let other : is_func_lit x ≡ false = search rules in
+      let built : expr_of c.build_selector.result ≡ selector (span_to w vs) x (name_at_of c.in_ok-name.name) = search rules in
       let behind : vs ≡ rest_of us = c.rest-left.ensures.is ∙ ap rest_of (c.rest-3.ensures.is ∙ sym c.rest-2.ensures.is) in
-      select_some w x (lexemes c.args.tokens.now) us vs c.requires.goes_on c.in-Dot.ensures.is c.if-is_func_lit.ensures c.rest-2.ensures.is behind
-      ∙ ap (λ (z : Expr Span). Some (z, vs)) (sym (c.in_ok-e-2.ensures ∙ ap (λ (s : Span). selector s x (name_at_of c.in_ok-name.name)) c.span_between-span-2.ensures ∙ ap (λ (n : NameAt Span). selector (span_to w vs) x n) c.in_ok-name.ensures));
+      select_some w x (lexemes c.args.tokens.now) us vs c.requires.goes_on c.in-Dot.ensures.is other c.rest-2.ensures.is behind
+      ∙ ap (λ (z : Expr Span). Some (z, vs)) (sym (built ∙ ap (λ (n : NameAt Span). selector (span_to w vs) x n) c.in_ok-name.ensures));
   shorter =
       let us = lexemes c.rest-3.result.now in
       let some = begun c.args.tokens.now _ c.in-Dot.ensures.is refl in

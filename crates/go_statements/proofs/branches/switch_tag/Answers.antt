@@ -1,8 +1,8 @@
-use Rattle.std.proofs.Common.{◌≡◌, ◌≤◌, ◌<◌, length, true, Some, rules}
-use Rattle.go_tree.specs.View.{boxed_stmt_option_of, expr_of, stmt_of}
+use Rattle.std.proofs.Common.{◌≡◌, true, Some, rules}
+use Rattle.go_tree.specs.View.{boxed_stmt_option_of, expr_of}
 use Rattle.go_read.specs.SpellsTerminals.{lexemes}
 use Rattle.go_read.specs.SpellsSpans.{span_to}
-use Rattle.go_read.specs.Goals.{read_operand, read_simple}
+use Rattle.go_read.specs.Goals.{read_operand}
 use Rattle.go_read.specs.Reading.{at}
 use Rattle.go_statements.proofs.BranchArms.{tag_open}
 use Rattle.go_statements.proofs.branches.switch_tag.Goals as goal

@@ -1,4 +1,4 @@
-use Rattle.std.proofs.Common.{◌≡◌, Some, map, sym, ap, ◌∙◌, rules}
+use Rattle.std.proofs.Common.{Some, map, sym, ap, ◌∙◌, rules}
 use Rattle.go_tree.specs.declared.spans.Span.{Span}
 use Rattle.go_tree.specs.Lists.{exprs_from}
 use Rattle.go_tree.specs.Tree.{eval}
