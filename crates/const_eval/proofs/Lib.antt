@@ -3,10 +3,6 @@ pub mod ComplementLemmas
 pub mod ShiftLemmas
 pub mod AnswerLemmas
 pub mod DigitLemmas
-pub mod UnitLemmas
-pub mod WordLemmas
-pub mod EscapeLemmas
-pub mod FormLemmas
 pub mod Examples
 pub mod Recognised
 pub mod BitLemmas

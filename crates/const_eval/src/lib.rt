@@ -5,14 +5,12 @@
 mod consts;
 mod conversions;
 mod digits;
-mod escapes;
 mod kinds;
 pub mod laws;
 mod literals;
 mod operators;
 mod orders;
 mod shifts;
-mod texts;
 mod whole_numbers;
 
 pub use consts::{Const, ConstError};

@@ -58,7 +58,7 @@ constants_in text [] = []
 constants_in text (d ∷ ds) = option_to_list (constant_in text d) ++ constants_in text ds
 
 abbrev pub printed : Stmt Span → Option Operand
-printed (eval _ (call _ _ es)) = one_operand es
+printed (eval _ (call _ _ es _)) = one_operand es
 printed s = None
 
 abbrev pub all_printed : Stmts Span → List Operand

@@ -12,8 +12,6 @@ mod planning;
 pub mod refusals;
 mod report;
 pub mod run;
-#[cfg(test)]
-mod tests;
 mod typing;
 
 pub use files::{PlannedFile, SourceFile};

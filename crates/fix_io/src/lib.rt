@@ -12,8 +12,6 @@ mod no_memory;
 mod real_sink;
 mod real_tree;
 mod sink;
-#[cfg(test)]
-mod tests;
 mod tree;
 mod walk;
 

@@ -55,7 +55,7 @@ module _ {S : Type 0} where
     depth_expr (selector _ b _) = (max (depth_expr b) 1) + 1
     depth_expr (index _ b c) = (max (depth_expr b) (depth_expr c)) + 1
     depth_expr (slice _ b c d) = (max (depth_expr b) (max (depth_expr_option c) (depth_expr_option d))) + 1
-    depth_expr (call _ b c) = (max (depth_expr b) (depth_exprs c)) + 1
+    depth_expr (call _ b c _) = (max (depth_expr b) (depth_exprs c)) + 1
     depth_expr (func_lit _ b _ d) = max (depth_sig b) (depth_stmts d + 1) + 1
     depth_expr (type_operand _ b) = (depth_type b) + 1
     depth_expr (unary _ _ c) = (depth_expr c) + 1

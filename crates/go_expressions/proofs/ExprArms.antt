@@ -1,14 +1,16 @@
 -- What the reader gives for an expression.
-use Rattle.std.proofs.Common.{◌≡◌, ◌≢◌, ℕ, ◌+◌, Bool, true, false, nat_le, if◌then◌else◌, List, [], ◌∷◌, ◌++◌, map, Some, None, refl, sym, ap, ◌∙◌}
+use Rattle.std.proofs.Common.{◌≡◌, ◌≢◌, ℕ, ◌+◌, Bool, true, false, nat_le, if◌then◌else◌, List, [], ◌∷◌, ◌++◌, map, Option, Some, None, refl, sym, ap, ◌∙◌}
 use Rattle.go_tree.specs.declared.spans.Span.{Span}
 use Rattle.go_tree.specs.declared.operators.BinOp.{BinOp}
 use Rattle.go_tree.specs.declared.operators.BinOp.TheVariants.{Mul, Add, Sub, Xor, And}
 use Rattle.go_tree.specs.declared.operators.UnOp.TheVariants.{Plus, Minus, Not, Flip, Address}
 use Rattle.go_tree.specs.declared.exprs.Expr as source
+use Rattle.go_tree.specs.declared.exprs.Rest.{Rest}
+use Rattle.go_tree.specs.declared.exprs.Rest.TheVariants.{Plain, Whole}
 use Rattle.go_tree.specs.View.{expr_of}
 use Rattle.go_tree.specs.Lists.{exprs_from}
 use Rattle.go_tree.specs.Tree.{Expr, Exprs, no_exprs, expr_and, binary}
-use Rattle.go_read.specs.SpellsTerminals.{lex, sign, bang, comma, end_paren, level_of}
+use Rattle.go_words.specs.Terminals.{lex, binary_op, not_, comma, ellipsis, end_paren, level_of}
 use Rattle.go_read.specs.SpellsSpans.{span_to}
 use Rattle.go_read.specs.SpellsTypes.{Lexemes}
 use Rattle.go_read.specs.Spells.{is_func_lit}
@@ -16,14 +18,14 @@ use Rattle.go_read.specs.Goals.{read_expr, read_more, read_unary, read_operand, 
 use Rattle.go_read.specs.Programs.{Program, give, ask, unless, run}
 use Rattle.go_read.specs.ReadExprs.{expr_step, more_step, unary_step, operand_step, exprs_step, args_step, args_after}
 use Rattle.go_read.specs.Reading.{at}
-use Rattle.go_read.proofs.Finds.{gives, asks, passes, tails_more, finish}
+use Rattle.go_read.proofs.Finds.{Runs, gives, asks, passes, tails_more, finish}
 use Rattle.go_expressions.specs.declared.prefixes.Prefix.{Prefix}
 use Rattle.go_expressions.specs.declared.prefixes.Prefix.TheVariants as prefix
-use Rattle.go_productions.specs.declared.terminals.Terminal.{Terminal}
-use Rattle.go_productions.specs.declared.terminals.Terminal.TheVariants as code
+use Rattle.go_words.specs.declared.terminals.Terminal.{Terminal}
+use Rattle.go_words.specs.declared.terminals.Terminal.TheVariants as code
 use Rattle.go_productions.specs.Terminals.{first_of, rest_of}
 use Rattle.go_productions.specs.Parts.{onto, in_front}
-use Rattle.go_expressions.specs.ExprParts.{prefix_of, prefixed, binary_of}
+use Rattle.go_expressions.specs.ExprParts.{arg_and, args_closed, prefix_of, prefixed, binary_of}
 use Rattle.go_productions.proofs.Fronts.{front_none, front_some, front_push, front_last}
 use Rattle.go_productions.proofs.Steps.{lacks, refuses, goes_on, on_true, on_false}
 
@@ -61,40 +63,40 @@ reached false o op e = absurd cc
 
 pub more_done : (l : ℕ) (h : Bool) (w : Lexemes) (x : Expr Span) (b : Bool) (ts : Lexemes) → binary_of l (first_of ts) ≡ None → at span_to (read_more l h w x b) ts ≡ Some ((x, b), ts)
 unfolding more_step
-more_done l h w x b (lex s (sign o) ∷ ts) e = finish span_to (read_more l h w x b) (lex s (sign o) ∷ ts) (on_false (nat_le l (level_of o)) _ _ (below (nat_le l (level_of o)) o e) (gives span_to))
+more_done l h w x b (lex s (binary_op o) ∷ ts) e = finish span_to (read_more l h w x b) (lex s (binary_op o) ∷ ts) (on_false (nat_le l (level_of o)) _ _ (below (nat_le l (level_of o)) o e) (gives span_to))
 more_done l h w x b ts e = finish span_to (read_more l h w x b) ts (gives span_to)
 
 pub more_func_left : (l : ℕ) (h : Bool) (w : Lexemes) (x : Expr Span) (b : Bool) (ts : Lexemes) (op : BinOp) → binary_of l (first_of ts) ≡ Some op → is_func_lit x ≡ true → at span_to (read_more l h w x b) ts ≡ None
 unfolding more_step
-more_func_left l h w x b (lex s (sign o) ∷ ts) op e f =
+more_func_left l h w x b (lex s (binary_op o) ∷ ts) op e f =
     let q = reached (nat_le l (level_of o)) o op e in
-    finish span_to (read_more l h w x b) (lex s (sign o) ∷ ts) (on_true (nat_le l (level_of o)) _ _ q.0 (refuses _ f))
+    finish span_to (read_more l h w x b) (lex s (binary_op o) ∷ ts) (on_true (nat_le l (level_of o)) _ _ q.0 (refuses _ f))
 more_func_left l h w x b _ op e f = absurd cc
 
 pub more_none : (l : ℕ) (h : Bool) (w : Lexemes) (x : Expr Span) (b : Bool) (ts us : Lexemes) (op : BinOp) (up : ℕ) → binary_of l (first_of ts) ≡ Some op → is_func_lit x ≡ false → us ≡ rest_of ts → up ≡ level_of op → at span_to (read_expr (up + 1) h) us ≡ None → at span_to (read_more l h w x b) ts ≡ None
 unfolding more_step
-more_none l h w x b (lex s (sign o) ∷ ts) us op up e f u v a =
+more_none l h w x b (lex s (binary_op o) ∷ ts) us op up e f u v a =
     let q = reached (nat_le l (level_of o)) o op e in
     let right : at span_to (read_expr (level_of o + 1) h) ts ≡ None = ap (λ (n : ℕ). at span_to (read_expr (n + 1) h) ts) (ap level_of q.1 ∙ sym v) ∙ ap (at span_to (read_expr (up + 1) h)) (sym u) ∙ a in
-    finish span_to (read_more l h w x b) (lex s (sign o) ∷ ts) (on_true (nat_le l (level_of o)) _ _ q.0 (passes span_to f (lacks right)))
+    finish span_to (read_more l h w x b) (lex s (binary_op o) ∷ ts) (on_true (nat_le l (level_of o)) _ _ q.0 (passes span_to f (lacks right)))
 more_none l h w x b _ us op up e f u v a = absurd cc
 
 pub more_func_right : (l : ℕ) (h : Bool) (w : Lexemes) (x y : Expr Span) (b c : Bool) (ts us r : Lexemes) (op : BinOp) (up : ℕ) → binary_of l (first_of ts) ≡ Some op → is_func_lit x ≡ false → us ≡ rest_of ts → up ≡ level_of op → at span_to (read_expr (up + 1) h) us ≡ Some ((y, c), r) → is_func_lit y ≡ true → at span_to (read_more l h w x b) ts ≡ None
 unfolding more_step
-more_func_right l h w x y b c (lex s (sign o) ∷ ts) us r op up e f u v a g =
+more_func_right l h w x y b c (lex s (binary_op o) ∷ ts) us r op up e f u v a g =
     let q = reached (nat_le l (level_of o)) o op e in
     let right : at span_to (read_expr (level_of o + 1) h) ts ≡ Some ((y, c), r) = ap (λ (n : ℕ). at span_to (read_expr (n + 1) h) ts) (ap level_of q.1 ∙ sym v) ∙ ap (at span_to (read_expr (up + 1) h)) (sym u) ∙ a in
-    finish span_to (read_more l h w x b) (lex s (sign o) ∷ ts) (on_true (nat_le l (level_of o)) _ _ q.0 (passes span_to f (asks span_to right (refuses _ g))))
+    finish span_to (read_more l h w x b) (lex s (binary_op o) ∷ ts) (on_true (nat_le l (level_of o)) _ _ q.0 (passes span_to f (asks span_to right (refuses _ g))))
 more_func_right l h w x y b c _ us r op up e f u v a g = absurd cc
 
 pub more_some : (l : ℕ) (h : Bool) (w : Lexemes) (x y : Expr Span) (b c : Bool) (ts us r : Lexemes) (op : BinOp) (up : ℕ) → binary_of l (first_of ts) ≡ Some op → is_func_lit x ≡ false → us ≡ rest_of ts → up ≡ level_of op → at span_to (read_expr (up + 1) h) us ≡ Some ((y, c), r) → is_func_lit y ≡ false
     → at span_to (read_more l h w (binary (span_to w r) op x y) true) r ≡ at span_to (read_more l h w x b) ts
 unfolding more_step
-more_some l h w x y b c (lex s (sign o) ∷ ts) us r op up e f u v a g =
+more_some l h w x y b c (lex s (binary_op o) ∷ ts) us r op up e f u v a g =
     let q = reached (nat_le l (level_of o)) o op e in
     let right : at span_to (read_expr (level_of o + 1) h) ts ≡ Some ((y, c), r) = ap (λ (n : ℕ). at span_to (read_expr (n + 1) h) ts) (ap level_of q.1 ∙ sym v) ∙ ap (at span_to (read_expr (up + 1) h)) (sym u) ∙ a in
     ap (λ (p : BinOp). at span_to (read_more l h w (binary (span_to w r) p x y) true) r) (sym q.1)
-    ∙ sym (finish span_to (read_more l h w x b) (lex s (sign o) ∷ ts) (on_true (nat_le l (level_of o)) _ _ q.0 (passes span_to f (asks span_to right (passes span_to g (tails_more span_to))))))
+    ∙ sym (finish span_to (read_more l h w x b) (lex s (binary_op o) ∷ ts) (on_true (nat_le l (level_of o)) _ _ q.0 (passes span_to f (asks span_to right (passes span_to g (tails_more span_to))))))
 more_some l h w x y b c _ us r op up e f u v a g = absurd cc
 
 -- ---- unary operators
@@ -104,12 +106,12 @@ prefix_program h p ts = ask (read_unary h) (rest_of ts) (λ x r. unless (is_func
 
 unary_is : (h : Bool) (ts : Lexemes) (p : Prefix) → prefix_of (first_of ts) ≡ Some p → at span_to (read_unary h) ts ≡ run (at span_to) (prefix_program h p ts)
 unfolding unary_step prefix_program
-unary_is h (lex s bang ∷ ts) p e = let q : prefix.Sign Not ≡ p = cc in finish span_to (read_unary h) (lex s bang ∷ ts) (record { is = refl }) ∙ ap (λ (z : Prefix). run (at span_to) (prefix_program h z (lex s bang ∷ ts))) q
-unary_is h (lex s (sign Mul) ∷ ts) p e = let q : prefix.Star ≡ p = cc in finish span_to (read_unary h) (lex s (sign Mul) ∷ ts) (record { is = refl }) ∙ ap (λ (z : Prefix). run (at span_to) (prefix_program h z (lex s (sign Mul) ∷ ts))) q
-unary_is h (lex s (sign Add) ∷ ts) p e = let q : prefix.Sign Plus ≡ p = cc in finish span_to (read_unary h) (lex s (sign Add) ∷ ts) (record { is = refl }) ∙ ap (λ (z : Prefix). run (at span_to) (prefix_program h z (lex s (sign Add) ∷ ts))) q
-unary_is h (lex s (sign Sub) ∷ ts) p e = let q : prefix.Sign Minus ≡ p = cc in finish span_to (read_unary h) (lex s (sign Sub) ∷ ts) (record { is = refl }) ∙ ap (λ (z : Prefix). run (at span_to) (prefix_program h z (lex s (sign Sub) ∷ ts))) q
-unary_is h (lex s (sign Xor) ∷ ts) p e = let q : prefix.Sign Flip ≡ p = cc in finish span_to (read_unary h) (lex s (sign Xor) ∷ ts) (record { is = refl }) ∙ ap (λ (z : Prefix). run (at span_to) (prefix_program h z (lex s (sign Xor) ∷ ts))) q
-unary_is h (lex s (sign And) ∷ ts) p e = let q : prefix.Sign Address ≡ p = cc in finish span_to (read_unary h) (lex s (sign And) ∷ ts) (record { is = refl }) ∙ ap (λ (z : Prefix). run (at span_to) (prefix_program h z (lex s (sign And) ∷ ts))) q
+unary_is h (lex s not_ ∷ ts) p e = let q : prefix.Sign Not ≡ p = cc in finish span_to (read_unary h) (lex s not_ ∷ ts) (record { is = refl }) ∙ ap (λ (z : Prefix). run (at span_to) (prefix_program h z (lex s not_ ∷ ts))) q
+unary_is h (lex s (binary_op Mul) ∷ ts) p e = let q : prefix.Star ≡ p = cc in finish span_to (read_unary h) (lex s (binary_op Mul) ∷ ts) (record { is = refl }) ∙ ap (λ (z : Prefix). run (at span_to) (prefix_program h z (lex s (binary_op Mul) ∷ ts))) q
+unary_is h (lex s (binary_op Add) ∷ ts) p e = let q : prefix.Sign Plus ≡ p = cc in finish span_to (read_unary h) (lex s (binary_op Add) ∷ ts) (record { is = refl }) ∙ ap (λ (z : Prefix). run (at span_to) (prefix_program h z (lex s (binary_op Add) ∷ ts))) q
+unary_is h (lex s (binary_op Sub) ∷ ts) p e = let q : prefix.Sign Minus ≡ p = cc in finish span_to (read_unary h) (lex s (binary_op Sub) ∷ ts) (record { is = refl }) ∙ ap (λ (z : Prefix). run (at span_to) (prefix_program h z (lex s (binary_op Sub) ∷ ts))) q
+unary_is h (lex s (binary_op Xor) ∷ ts) p e = let q : prefix.Sign Flip ≡ p = cc in finish span_to (read_unary h) (lex s (binary_op Xor) ∷ ts) (record { is = refl }) ∙ ap (λ (z : Prefix). run (at span_to) (prefix_program h z (lex s (binary_op Xor) ∷ ts))) q
+unary_is h (lex s (binary_op And) ∷ ts) p e = let q : prefix.Sign Address ≡ p = cc in finish span_to (read_unary h) (lex s (binary_op And) ∷ ts) (record { is = refl }) ∙ ap (λ (z : Prefix). run (at span_to) (prefix_program h z (lex s (binary_op And) ∷ ts))) q
 unary_is h _ p e = absurd cc
 
 pub unary_none : (h : Bool) (ts us : Lexemes) (p : Prefix) → prefix_of (first_of ts) ≡ Some p → us ≡ rest_of ts → at span_to (read_unary h) us ≡ None → at span_to (read_unary h) ts ≡ None
@@ -158,41 +160,76 @@ exprs_more h xs ys x ts r us ws i p e f u = front_push expr_and expr_of xs ys x 
 
 -- ---- arguments
 
+abbrev before : List (Expr Span) → Lexemes → Option ((Exprs Span × Rest) × Lexemes)
+before front ts = in_front arg_and front (at span_to read_args ts)
+
+onto_args : (xs : List (Expr Span)) (w : Rest) → onto arg_and xs (no_exprs, w) ≡ (exprs_from xs, w)
+onto_args [] w = refl
+onto_args (x ∷ xs) w = ap (arg_and x) (onto_args xs w)
+
 open_args : (ts : Lexemes) (k : Terminal) → first_of ts ≡ k → k ≢ code.EndParen → at span_to read_args ts ≡ run (at span_to) (ask (read_operand false) ts (λ e r. args_after span_to e r))
 unfolding args_step
 open_args (lex c end_paren ∷ ts) k h n = absurd (n (sym h))
 open_args ts k h n = finish span_to read_args ts (record { is = refl })
 
-pub args_end : (front : List (Expr Span)) (ts us : Lexemes) (ws : Lexemes) → in_front expr_and front (at span_to read_args ts) ≡ at span_to read_args ws → first_of ts ≡ code.EndParen → us ≡ rest_of ts → at span_to read_args ws ≡ Some (exprs_from front, us)
+pub args_end : (front : List (Expr Span)) (ts us : Lexemes) (ws : Lexemes) → before front ts ≡ at span_to read_args ws → first_of ts ≡ code.EndParen → us ≡ rest_of ts → at span_to read_args ws ≡ Some ((exprs_from front, Plain), us)
 unfolding args_step
 args_end front (lex c end_paren ∷ ts) us ws i h u =
-    front_some expr_and front (at span_to read_args (lex c end_paren ∷ ts)) (at span_to read_args ws) no_exprs ts i (finish span_to read_args (lex c end_paren ∷ ts) (gives span_to))
-    ∙ ap (λ (es : Exprs Span). Some (es, ts)) (onto_exprs front) ∙ ap (λ (vs : Lexemes). Some (exprs_from front, vs)) (sym u)
+    front_some arg_and front (at span_to read_args (lex c end_paren ∷ ts)) (at span_to read_args ws) (no_exprs, Plain) ts i (finish span_to read_args (lex c end_paren ∷ ts) (gives span_to))
+    ∙ ap (λ (x : Exprs Span × Rest). Some (x, ts)) (onto_args front Plain) ∙ ap (λ (vs : Lexemes). Some ((exprs_from front, Plain), vs)) (sym u)
 args_end front _ us ws i h u = absurd cc
 
-pub args_lost : (front : List (Expr Span)) (ts : Lexemes) (k : Terminal) (ws : Lexemes) → in_front expr_and front (at span_to read_args ts) ≡ at span_to read_args ws → first_of ts ≡ k → k ≢ code.EndParen → at span_to (read_operand false) ts ≡ None → at span_to read_args ws ≡ None
-args_lost front ts k ws i h n e = front_none expr_and front (at span_to read_args ts) (at span_to read_args ws) i (open_args ts k h n ∙ (lacks {k = λ e r. args_after span_to e r} e).is)
+pub args_lost : (front : List (Expr Span)) (ts : Lexemes) (k : Terminal) (ws : Lexemes) → before front ts ≡ at span_to read_args ws → first_of ts ≡ k → k ≢ code.EndParen → at span_to (read_operand false) ts ≡ None → at span_to read_args ws ≡ None
+args_lost front ts k ws i h n e = front_none arg_and front (at span_to read_args ts) (at span_to read_args ws) i (open_args ts k h n ∙ (lacks {k = λ e r. args_after span_to e r} e).is)
 
-args_and : (ts r us : Lexemes) (x : Expr Span) (k : Terminal) → first_of ts ≡ k → k ≢ code.EndParen → at span_to (read_operand false) ts ≡ Some (x, r) → first_of r ≡ code.Comma → us ≡ rest_of r → at span_to read_args ts ≡ in_front expr_and (x ∷ []) (at span_to read_args us)
+args_and : (ts r us : Lexemes) (x : Expr Span) (k : Terminal) → first_of ts ≡ k → k ≢ code.EndParen → at span_to (read_operand false) ts ≡ Some (x, r) → first_of r ≡ code.Comma → us ≡ rest_of r → at span_to read_args ts ≡ before (x ∷ []) us
 args_and ts (lex c comma ∷ r) us x k h n e f u =
-    open_args ts k h n ∙ (asks span_to {k = λ e r. args_after span_to e r} e (goes_on {g = read_args} {ts = r} expr_and x)).is ∙ ap (λ (vs : Lexemes). in_front expr_and (x ∷ []) (at span_to read_args vs)) (sym u)
+    open_args ts k h n ∙ (asks span_to {k = λ e r. args_after span_to e r} e (goes_on {g = read_args} {ts = r} arg_and x)).is ∙ ap (before (x ∷ [])) (sym u)
 args_and ts _ us x k h n e f u = absurd cc
 
-args_one : (ts r : Lexemes) (x : Expr Span) (k : Terminal) → first_of ts ≡ k → k ≢ code.EndParen → at span_to (read_operand false) ts ≡ Some (x, r) → first_of r ≡ code.EndParen → at span_to read_args ts ≡ in_front expr_and (x ∷ []) (at span_to read_args r)
+args_one : (ts r : Lexemes) (x : Expr Span) (k : Terminal) → first_of ts ≡ k → k ≢ code.EndParen → at span_to (read_operand false) ts ≡ Some (x, r) → first_of r ≡ code.EndParen → at span_to read_args ts ≡ before (x ∷ []) r
 unfolding args_step
 args_one ts (lex c end_paren ∷ r) x k h n e f =
-    open_args ts k h n ∙ (asks span_to {k = λ e r. args_after span_to e r} e (gives span_to)).is ∙ ap (in_front expr_and (x ∷ [])) (sym (finish span_to read_args (lex c end_paren ∷ r) (gives span_to)))
+    open_args ts k h n ∙ (asks span_to {k = λ e r. args_after span_to e r} e (gives span_to)).is ∙ ap (in_front arg_and (x ∷ [])) (sym (finish span_to read_args (lex c end_paren ∷ r) (gives span_to)))
 args_one ts _ x k h n e f = absurd cc
 
-pub args_more : (xs ys : List source.Expr) (x : source.Expr) (ts r us : Lexemes) (k : Terminal) (ws : Lexemes) → in_front expr_and (map expr_of xs) (at span_to read_args ts) ≡ at span_to read_args ws → ys ≡ xs ++ x ∷ [] → first_of ts ≡ k → k ≢ code.EndParen → at span_to (read_operand false) ts ≡ Some (expr_of x, r) → first_of r ≡ code.Comma → us ≡ rest_of r
-    → in_front expr_and (map expr_of ys) (at span_to read_args us) ≡ at span_to read_args ws
-args_more xs ys x ts r us k ws i p h n e f u = front_push expr_and expr_of xs ys x (at span_to read_args ts) (at span_to read_args us) (at span_to read_args ws) p i (args_and ts r us (expr_of x) k h n e f u)
+args_dots : (ts r us vs : Lexemes) (x : Expr Span) (k : Terminal) → first_of ts ≡ k → k ≢ code.EndParen → at span_to (read_operand false) ts ≡ Some (x, r) → first_of r ≡ code.Ellipsis → us ≡ rest_of r → args_closed us ≡ Some vs → at span_to read_args ts ≡ Some (arg_and x (no_exprs, Whole), vs)
+args_dots ts (lex d ellipsis ∷ us) vs ws x k h n e f u q = open_args ts k h n ∙ (asks span_to {k = λ e r. args_after span_to e r} e (closes us (ap args_closed (sym u) ∙ q))).is
+  where
+    closes : (us : Lexemes) → args_closed us ≡ Some ws → Runs span_to (args_after span_to x (lex d ellipsis ∷ us)) (Some ((expr_and x no_exprs, Whole), ws))
+    closes (lex c end_paren ∷ r) q = record { is = ap (λ (vs : Lexemes). Some ((expr_and x no_exprs, Whole), vs)) (let z : r ≡ ws = cc in z) }
+    closes (lex c comma ∷ lex b end_paren ∷ r) q = record { is = ap (λ (vs : Lexemes). Some ((expr_and x no_exprs, Whole), vs)) (let z : r ≡ ws = cc in z) }
+    closes _ q = absurd cc
+args_dots ts _ vs ws x k h n e f u q = absurd cc
 
-pub args_last : (xs ys : List source.Expr) (x : source.Expr) (ts r : Lexemes) (k : Terminal) (ws : Lexemes) → in_front expr_and (map expr_of xs) (at span_to read_args ts) ≡ at span_to read_args ws → ys ≡ xs ++ x ∷ [] → first_of ts ≡ k → k ≢ code.EndParen → at span_to (read_operand false) ts ≡ Some (expr_of x, r) → first_of r ≡ code.EndParen
-    → in_front expr_and (map expr_of ys) (at span_to read_args r) ≡ at span_to read_args ws
-args_last xs ys x ts r k ws i p h n e f = front_push expr_and expr_of xs ys x (at span_to read_args ts) (at span_to read_args r) (at span_to read_args ws) p i (args_one ts r (expr_of x) k h n e f)
+args_undone : (ts r us : Lexemes) (x : Expr Span) (k : Terminal) → first_of ts ≡ k → k ≢ code.EndParen → at span_to (read_operand false) ts ≡ Some (x, r) → first_of r ≡ code.Ellipsis → us ≡ rest_of r → args_closed us ≡ None → at span_to read_args ts ≡ None
+args_undone ts (lex d ellipsis ∷ us) vs x k h n e f u q = open_args ts k h n ∙ (asks span_to {k = λ e r. args_after span_to e r} e (undone us (ap args_closed (sym u) ∙ q))).is
+  where
+    undone : (us : Lexemes) → args_closed us ≡ None → Runs span_to (args_after span_to x (lex d ellipsis ∷ us)) None
+    undone (lex c end_paren ∷ r) q = absurd cc
+    undone (lex c comma ∷ lex b end_paren ∷ r) q = absurd cc
+    undone _ q = record { is = refl }
+args_undone ts _ vs x k h n e f u q = absurd cc
 
-pub args_stop : (front : List (Expr Span)) (ts r : Lexemes) (x : Expr Span) (k l : Terminal) (ws : Lexemes) → in_front expr_and front (at span_to read_args ts) ≡ at span_to read_args ws → first_of ts ≡ k → k ≢ code.EndParen → at span_to (read_operand false) ts ≡ Some (x, r) → first_of r ≡ l → l ≢ code.Comma → l ≢ code.EndParen → at span_to read_args ws ≡ None
-args_stop front ts (lex c comma ∷ r) x k l ws i h n e f a b = absurd (a (sym f))
-args_stop front ts (lex c end_paren ∷ r) x k l ws i h n e f a b = absurd (b (sym f))
-args_stop front ts r x k l ws i h n e f a b = front_none expr_and front (at span_to read_args ts) (at span_to read_args ws) i (open_args ts k h n ∙ (asks span_to {k = λ e r. args_after span_to e r} e (record { is = refl })).is)
+pub args_more : (xs ys : List source.Expr) (x : source.Expr) (ts r us : Lexemes) (k : Terminal) (ws : Lexemes) → before (map expr_of xs) ts ≡ at span_to read_args ws → ys ≡ xs ++ x ∷ [] → first_of ts ≡ k → k ≢ code.EndParen → at span_to (read_operand false) ts ≡ Some (expr_of x, r) → first_of r ≡ code.Comma → us ≡ rest_of r
+    → before (map expr_of ys) us ≡ at span_to read_args ws
+args_more xs ys x ts r us k ws i p h n e f u = front_push arg_and expr_of xs ys x (at span_to read_args ts) (at span_to read_args us) (at span_to read_args ws) p i (args_and ts r us (expr_of x) k h n e f u)
+
+pub args_last : (xs ys : List source.Expr) (x : source.Expr) (ts r : Lexemes) (k : Terminal) (ws : Lexemes) → before (map expr_of xs) ts ≡ at span_to read_args ws → ys ≡ xs ++ x ∷ [] → first_of ts ≡ k → k ≢ code.EndParen → at span_to (read_operand false) ts ≡ Some (expr_of x, r) → first_of r ≡ code.EndParen
+    → before (map expr_of ys) r ≡ at span_to read_args ws
+args_last xs ys x ts r k ws i p h n e f = front_push arg_and expr_of xs ys x (at span_to read_args ts) (at span_to read_args r) (at span_to read_args ws) p i (args_one ts r (expr_of x) k h n e f)
+
+pub args_whole : (xs ys : List source.Expr) (x : source.Expr) (ts r us vs : Lexemes) (k : Terminal) (ws : Lexemes) → before (map expr_of xs) ts ≡ at span_to read_args ws → ys ≡ xs ++ x ∷ [] → first_of ts ≡ k → k ≢ code.EndParen → at span_to (read_operand false) ts ≡ Some (expr_of x, r) → first_of r ≡ code.Ellipsis → us ≡ rest_of r → args_closed us ≡ Some vs
+    → at span_to read_args ws ≡ Some ((exprs_from (map expr_of ys), Whole), vs)
+args_whole xs ys x ts r us vs k ws i p h n e f u q =
+    front_last arg_and expr_of xs ys x (no_exprs, Whole) vs (at span_to read_args ts) (at span_to read_args ws) p i (args_dots ts r us vs (expr_of x) k h n e f u q)
+    ∙ ap (λ (l : Exprs Span × Rest). Some (l, vs)) (onto_args (map expr_of ys) Whole)
+
+pub args_unclosed : (front : List (Expr Span)) (ts r us : Lexemes) (x : Expr Span) (k : Terminal) (ws : Lexemes) → before front ts ≡ at span_to read_args ws → first_of ts ≡ k → k ≢ code.EndParen → at span_to (read_operand false) ts ≡ Some (x, r) → first_of r ≡ code.Ellipsis → us ≡ rest_of r → args_closed us ≡ None → at span_to read_args ws ≡ None
+args_unclosed front ts r us x k ws i h n e f u q = front_none arg_and front (at span_to read_args ts) (at span_to read_args ws) i (args_undone ts r us x k h n e f u q)
+
+pub args_stop : (front : List (Expr Span)) (ts r : Lexemes) (x : Expr Span) (k l : Terminal) (ws : Lexemes) → before front ts ≡ at span_to read_args ws → first_of ts ≡ k → k ≢ code.EndParen → at span_to (read_operand false) ts ≡ Some (x, r) → first_of r ≡ l → l ≢ code.Comma → l ≢ code.EndParen → l ≢ code.Ellipsis → at span_to read_args ws ≡ None
+args_stop front ts (lex c comma ∷ r) x k l ws i h n e f a b d = absurd (a (sym f))
+args_stop front ts (lex c end_paren ∷ r) x k l ws i h n e f a b d = absurd (b (sym f))
+args_stop front ts (lex c ellipsis ∷ r) x k l ws i h n e f a b d = absurd (d (sym f))
+args_stop front ts r x k l ws i h n e f a b d = front_none arg_and front (at span_to read_args ts) (at span_to read_args ws) i (open_args ts k h n ∙ (asks span_to {k = λ e r. args_after span_to e r} e (record { is = refl })).is)

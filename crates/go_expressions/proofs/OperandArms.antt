@@ -2,15 +2,16 @@
 use Rattle.std.proofs.Common.{◌≡◌, ◌≢◌, ℕ, Bool, true, false, List, ◌∷◌, Some, None, refl, sym, ap, ◌∙◌}
 use Rattle.go_tree.specs.declared.spans.Span.{Span}
 use Rattle.go_tree.specs.Tree.{TypeExpr, Sig, Stmts, Expr, Elems, ident, composite, func_lit, type_operand}
-use Rattle.go_read.specs.SpellsTerminals.{lex, word, number, rune, text, comma, dot, paren, end_paren, bracket, brace, key_func, key_map, key_struct}
+use Rattle.go_words.specs.Terminals as terminal
+use Rattle.go_words.specs.Terminals.{lex, int_lit, rune_lit, str_lit, comma, dot, paren, end_paren, bracket, brace, key_func, key_map, key_struct}
 use Rattle.go_read.specs.SpellsSpans.{span_to}
 use Rattle.go_read.specs.SpellsTypes.{Lexemes}
 use Rattle.go_read.specs.Goals.{read_type, read_sig, read_expr, read_elems, read_block}
 use Rattle.go_read.specs.Programs.{Program, give, ask, run, after_end_paren, after_end_brace}
 use Rattle.go_read.specs.Reading.{at}
 use Rattle.go_read.proofs.Finds.{gives, asks}
-use Rattle.go_productions.specs.declared.terminals.Terminal.{Terminal}
-use Rattle.go_productions.specs.declared.terminals.Terminal.TheVariants as code
+use Rattle.go_words.specs.declared.terminals.Terminal.{Terminal}
+use Rattle.go_words.specs.declared.terminals.Terminal.TheVariants as code
 use Rattle.go_productions.specs.Terminals.{first_of, rest_of, spelling_of, has_letters}
 use Rattle.go_productions.specs.Parts.{is_qualified}
 use Rattle.go_expressions.specs.ExprParts.{plain_of, literal_here, follows_type, composite_program, composite_at, typed_after, typed_at, word_program, operand_at}
@@ -18,14 +19,14 @@ use Rattle.go_productions.proofs.Steps.{lacks, no_end_paren, on_end_paren, no_en
 
 pub qualified_plain : (h : Bool) (ts us vs ws : Lexemes) (k : Terminal) → is_qualified ts ≡ true → us ≡ rest_of ts → vs ≡ rest_of us → ws ≡ rest_of vs → first_of ws ≡ k → k ≢ code.Brace → literal_here h ts ≡ false
 qualified_plain true ts us vs ws k q u v w f n = refl
-qualified_plain false (lex s (word p) ∷ lex d dot ∷ lex s2 (word n) ∷ lex b brace ∷ ts) us vs ws k q u v w f x = absurd (x (sym f ∙ ap first_of (w ∙ ap rest_of (v ∙ ap rest_of u))))
-qualified_plain false (lex s (word p) ∷ lex d dot ∷ lex s2 (word n) ∷ ts) us vs ws k q u v w f x = refl
+qualified_plain false (lex s (terminal.ident p) ∷ lex d dot ∷ lex s2 (terminal.ident n) ∷ lex b brace ∷ ts) us vs ws k q u v w f x = absurd (x (sym f ∙ ap first_of (w ∙ ap rest_of (v ∙ ap rest_of u))))
+qualified_plain false (lex s (terminal.ident p) ∷ lex d dot ∷ lex s2 (terminal.ident n) ∷ ts) us vs ws k q u v w f x = refl
 qualified_plain false _ us vs ws k q u v w f x = absurd cc
 
 pub literal_typed : (h : Bool) (ts : Lexemes) → literal_here h ts ≡ true → operand_at h ts ≡ typed_at ts
 unfolding operand_at typed_at
-literal_typed false (lex s (word n) ∷ lex b brace ∷ ts) e = refl
-literal_typed false (lex s (word p) ∷ lex d dot ∷ lex s2 (word n) ∷ lex b brace ∷ ts) e = refl
+literal_typed false (lex s (terminal.ident n) ∷ lex b brace ∷ ts) e = refl
+literal_typed false (lex s (terminal.ident p) ∷ lex d dot ∷ lex s2 (terminal.ident n) ∷ lex b brace ∷ ts) e = refl
 literal_typed true ts e = absurd cc
 literal_typed false _ e = absurd cc
 
@@ -44,12 +45,12 @@ unfolding operand_at typed_at
 struct_typed h (lex s key_struct ∷ ts) e = refl
 struct_typed h _ e = absurd cc
 
-pub no_operand : (h : Bool) (ts : Lexemes) (k : Terminal) → first_of ts ≡ k → k ≢ code.Word → k ≢ code.Number → k ≢ code.Rune → k ≢ code.Text → k ≢ code.Paren → k ≢ code.Func → k ≢ code.Bracket → k ≢ code.Map → k ≢ code.Struct → operand_at h ts ≡ None
+pub no_operand : (h : Bool) (ts : Lexemes) (k : Terminal) → first_of ts ≡ k → k ≢ code.Ident → k ≢ code.IntLit → k ≢ code.RuneLit → k ≢ code.StrLit → k ≢ code.Paren → k ≢ code.Func → k ≢ code.Bracket → k ≢ code.Map → k ≢ code.Struct → operand_at h ts ≡ None
 unfolding operand_at
-no_operand h (lex s (word n) ∷ ts) k e a b c d f g i j l = absurd (a (sym e))
-no_operand h (lex s (number n) ∷ ts) k e a b c d f g i j l = absurd (b (sym e))
-no_operand h (lex s (rune n) ∷ ts) k e a b c d f g i j l = absurd (c (sym e))
-no_operand h (lex s (text n) ∷ ts) k e a b c d f g i j l = absurd (d (sym e))
+no_operand h (lex s (terminal.ident n) ∷ ts) k e a b c d f g i j l = absurd (a (sym e))
+no_operand h (lex s (int_lit n) ∷ ts) k e a b c d f g i j l = absurd (b (sym e))
+no_operand h (lex s (rune_lit n) ∷ ts) k e a b c d f g i j l = absurd (c (sym e))
+no_operand h (lex s (str_lit n) ∷ ts) k e a b c d f g i j l = absurd (d (sym e))
 no_operand h (lex s paren ∷ ts) k e a b c d f g i j l = absurd (f (sym e))
 no_operand h (lex s key_func ∷ ts) k e a b c d f g i j l = absurd (g (sym e))
 no_operand h (lex s bracket ∷ ts) k e a b c d f g i j l = absurd (i (sym e))
@@ -63,15 +64,15 @@ word_plain true w ts n e = absurd cc
 
 pub plain_some : (h : Bool) (ts us : Lexemes) (k : Terminal) → first_of ts ≡ k → has_letters k ≡ true → literal_here h ts ≡ false → us ≡ rest_of ts → operand_at h ts ≡ Some ((plain_of k (span_to ts us) (spelling_of ts), true), us)
 unfolding operand_at
-plain_some h (lex s (word n) ∷ ts) us k e f l u =
-    word_plain (literal_here h (lex s (word n) ∷ ts)) (lex s (word n) ∷ ts) ts n l
-    ∙ ap (λ (z : Terminal). Some ((plain_of z (span_to (lex s (word n) ∷ ts) ts) n, true), ts)) e ∙ ap (λ (ys : Lexemes). Some ((plain_of k (span_to (lex s (word n) ∷ ts) ys) n, true), ys)) (sym u)
-plain_some h (lex s (number n) ∷ ts) us k e f l u =
-    ap (λ (z : Terminal). Some ((plain_of z (span_to (lex s (number n) ∷ ts) ts) n, true), ts)) e ∙ ap (λ (ys : Lexemes). Some ((plain_of k (span_to (lex s (number n) ∷ ts) ys) n, true), ys)) (sym u)
-plain_some h (lex s (rune n) ∷ ts) us k e f l u =
-    ap (λ (z : Terminal). Some ((plain_of z (span_to (lex s (rune n) ∷ ts) ts) n, true), ts)) e ∙ ap (λ (ys : Lexemes). Some ((plain_of k (span_to (lex s (rune n) ∷ ts) ys) n, true), ys)) (sym u)
-plain_some h (lex s (text n) ∷ ts) us k e f l u =
-    ap (λ (z : Terminal). Some ((plain_of z (span_to (lex s (text n) ∷ ts) ts) n, true), ts)) e ∙ ap (λ (ys : Lexemes). Some ((plain_of k (span_to (lex s (text n) ∷ ts) ys) n, true), ys)) (sym u)
+plain_some h (lex s (terminal.ident n) ∷ ts) us k e f l u =
+    word_plain (literal_here h (lex s (terminal.ident n) ∷ ts)) (lex s (terminal.ident n) ∷ ts) ts n l
+    ∙ ap (λ (z : Terminal). Some ((plain_of z (span_to (lex s (terminal.ident n) ∷ ts) ts) n, true), ts)) e ∙ ap (λ (ys : Lexemes). Some ((plain_of k (span_to (lex s (terminal.ident n) ∷ ts) ys) n, true), ys)) (sym u)
+plain_some h (lex s (int_lit n) ∷ ts) us k e f l u =
+    ap (λ (z : Terminal). Some ((plain_of z (span_to (lex s (int_lit n) ∷ ts) ts) n, true), ts)) e ∙ ap (λ (ys : Lexemes). Some ((plain_of k (span_to (lex s (int_lit n) ∷ ts) ys) n, true), ys)) (sym u)
+plain_some h (lex s (rune_lit n) ∷ ts) us k e f l u =
+    ap (λ (z : Terminal). Some ((plain_of z (span_to (lex s (rune_lit n) ∷ ts) ts) n, true), ts)) e ∙ ap (λ (ys : Lexemes). Some ((plain_of k (span_to (lex s (rune_lit n) ∷ ts) ys) n, true), ys)) (sym u)
+plain_some h (lex s (str_lit n) ∷ ts) us k e f l u =
+    ap (λ (z : Terminal). Some ((plain_of z (span_to (lex s (str_lit n) ∷ ts) ts) n, true), ts)) e ∙ ap (λ (ys : Lexemes). Some ((plain_of k (span_to (lex s (str_lit n) ∷ ts) ys) n, true), ys)) (sym u)
 plain_some h _ us k e f l u = let z = ap has_letters e ∙ f in absurd cc
 
 -- ---- parentheses
@@ -96,22 +97,22 @@ parens_some h _ us r vs x b e u a f v = absurd cc
 -- ---- literals of functions
 
 func_program : Lexemes → Lexemes → Program Span (Expr Span × Bool)
-func_program w ts = ask read_sig ts (λ g mid. ask read_block mid (λ b r. give (func_lit (span_to w r) g b.0 b.1, true) r))
+func_program w ts = ask (read_sig false) ts (λ g mid. ask read_block mid (λ b r. give (func_lit (span_to w r) g b.0 b.1, true) r))
 
 func_is : (h : Bool) (ts us : Lexemes) → first_of ts ≡ code.Func → us ≡ rest_of ts → operand_at h ts ≡ run (at span_to) (func_program ts us)
 unfolding operand_at func_program
 func_is h (lex s key_func ∷ ts) us e u = ap (λ (ys : Lexemes). run (at span_to) (func_program (lex s key_func ∷ ts) ys)) (sym u)
 func_is h _ us e u = absurd cc
 
-pub func_unsigned : (h : Bool) (ts us : Lexemes) → first_of ts ≡ code.Func → us ≡ rest_of ts → at span_to read_sig us ≡ None → operand_at h ts ≡ None
+pub func_unsigned : (h : Bool) (ts us : Lexemes) → first_of ts ≡ code.Func → us ≡ rest_of ts → at span_to (read_sig false) us ≡ None → operand_at h ts ≡ None
 unfolding func_program
 func_unsigned h ts us e u a = func_is h ts us e u ∙ (lacks {X = Expr Span × Bool} {k = λ g mid. ask read_block mid (λ b r. give (func_lit (span_to ts r) g b.0 b.1, true) r)} a).is
 
-pub func_open : (h : Bool) (ts us mid : Lexemes) (g : Sig Span) → first_of ts ≡ code.Func → us ≡ rest_of ts → at span_to read_sig us ≡ Some (g, mid) → at span_to read_block mid ≡ None → operand_at h ts ≡ None
+pub func_open : (h : Bool) (ts us mid : Lexemes) (g : Sig Span) → first_of ts ≡ code.Func → us ≡ rest_of ts → at span_to (read_sig false) us ≡ Some (g, mid) → at span_to read_block mid ≡ None → operand_at h ts ≡ None
 unfolding func_program
 func_open h ts us mid g e u a b = func_is h ts us e u ∙ (asks span_to {X = Expr Span × Bool} {k = λ g mid. ask read_block mid (λ b r. give (func_lit (span_to ts r) g b.0 b.1, true) r)} a (lacks b)).is
 
-pub func_some : (h : Bool) (ts us mid r : Lexemes) (g : Sig Span) (s : Span) (body : Stmts Span) → first_of ts ≡ code.Func → us ≡ rest_of ts → at span_to read_sig us ≡ Some (g, mid) → at span_to read_block mid ≡ Some ((s, body), r) → operand_at h ts ≡ Some ((func_lit (span_to ts r) g s body, true), r)
+pub func_some : (h : Bool) (ts us mid r : Lexemes) (g : Sig Span) (s : Span) (body : Stmts Span) → first_of ts ≡ code.Func → us ≡ rest_of ts → at span_to (read_sig false) us ≡ Some (g, mid) → at span_to read_block mid ≡ Some ((s, body), r) → operand_at h ts ≡ Some ((func_lit (span_to ts r) g s body, true), r)
 unfolding func_program
 func_some h ts us mid r g s body e u a b =
     func_is h ts us e u ∙ (asks span_to {X = Expr Span × Bool} {k = λ g mid. ask read_block mid (λ b r. give (func_lit (span_to ts r) g b.0 b.1, true) r)} a (asks span_to b (gives span_to))).is

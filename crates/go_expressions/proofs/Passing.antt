@@ -2,10 +2,10 @@
 use Rattle.std.proofs.Common.{◌≡◌, ◌<◌, ◌≤◌, ◌∷◌, [], List, length, Option, Some, None, Ok, Err, sym, ap, subst, ◌∙◌, arith}
 use Rattle.std.specs.Prelude.{Result}
 use Rattle.go_tree.specs.declared.tokens.Token.{Token}
-use Rattle.go_read.specs.SpellsTerminals.{lexemes}
+use Rattle.go_words.specs.Terminals.{lexemes}
 use Rattle.go_read.specs.SpellsTypes.{Lexemes}
 use Rattle.go_productions.specs.Answers.{Gives, Shorter, Within}
-use Rattle.go_productions.specs.declared.terminals.Terminal.{Terminal}
+use Rattle.go_words.specs.declared.terminals.Terminal.{Terminal}
 use Rattle.go_productions.specs.Terminals.{first_of, rest_of, taken}
 use Rattle.go_productions.proofs.Heads.{length_lexemes}
 

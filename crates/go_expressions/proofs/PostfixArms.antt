@@ -1,8 +1,9 @@
 -- What may follow an operand, by its first tokens.
 use Rattle.std.proofs.Common.{◌≡◌, ◌≢◌, true, false, ◌∷◌, Some, None, refl, sym, ap, ◌∙◌}
+use Rattle.go_tree.specs.declared.exprs.Rest.{Rest}
 use Rattle.go_tree.specs.declared.spans.Span.{Span}
 use Rattle.go_tree.specs.Tree.{Expr, ExprOption, Exprs, selector, index, slice, call, no_expr, some_expr}
-use Rattle.go_read.specs.SpellsTerminals.{lex, word, colon, dot, paren, bracket, end_bracket}
+use Rattle.go_words.specs.Terminals.{lex, ident, colon, dot, paren, bracket, end_bracket}
 use Rattle.go_read.specs.SpellsSpans.{span_to}
 use Rattle.go_read.specs.SpellsTypes.{Lexemes}
 use Rattle.go_read.specs.Spells.{is_func_lit}
@@ -10,39 +11,39 @@ use Rattle.go_read.specs.Goals.{read_operand, read_args}
 use Rattle.go_read.specs.Programs.{give, run, after_end_bracket}
 use Rattle.go_read.specs.Reading.{at}
 use Rattle.go_read.proofs.Finds.{gives, asks, passes}
-use Rattle.go_productions.specs.declared.terminals.Terminal.{Terminal}
-use Rattle.go_productions.specs.declared.terminals.Terminal.TheVariants as code
+use Rattle.go_words.specs.declared.terminals.Terminal.{Terminal}
+use Rattle.go_words.specs.declared.terminals.Terminal.TheVariants as code
 use Rattle.go_productions.specs.Terminals.{first_of, rest_of, name_of}
 use Rattle.go_expressions.specs.ExprParts.{continues, high_program, high_at, index_after, brackets_program, brackets_at, postfix_at}
 use Rattle.go_productions.proofs.Steps.{lacks, refuses, no_end_bracket, on_end_bracket}
 
 pub call_none : (w : Lexemes) (x : Expr Span) (ts us : Lexemes) → first_of ts ≡ code.Paren → us ≡ rest_of ts → at span_to read_args us ≡ None → postfix_at w x ts ≡ None
 unfolding postfix_at
-call_none w x (lex s paren ∷ ts) us h u e = (lacks {k = λ xs r. give (call (span_to w r) x xs) r} (ap (at span_to read_args) (sym u) ∙ e)).is
+call_none w x (lex s paren ∷ ts) us h u e = (lacks {k = λ l r. give (call (span_to w r) x l.0 l.1) r} (ap (at span_to read_args) (sym u) ∙ e)).is
 call_none w x _ us h u e = absurd cc
 
-pub call_some : (w : Lexemes) (x : Expr Span) (xs : Exprs Span) (ts us r : Lexemes) → first_of ts ≡ code.Paren → us ≡ rest_of ts → at span_to read_args us ≡ Some (xs, r) → postfix_at w x ts ≡ Some (call (span_to w r) x xs, r)
+pub call_some : (w : Lexemes) (x : Expr Span) (xs : Exprs Span) (h : Rest) (ts us r : Lexemes) → first_of ts ≡ code.Paren → us ≡ rest_of ts → at span_to read_args us ≡ Some ((xs, h), r) → postfix_at w x ts ≡ Some (call (span_to w r) x xs h, r)
 unfolding postfix_at
-call_some w x xs (lex s paren ∷ ts) us r h u e = (asks span_to {k = λ xs r. give (call (span_to w r) x xs) r} (ap (at span_to read_args) (sym u) ∙ e) (gives span_to)).is
-call_some w x xs _ us r h u e = absurd cc
+call_some w x xs d (lex s paren ∷ ts) us r h u e = (asks span_to {k = λ l r. give (call (span_to w r) x l.0 l.1) r} (ap (at span_to read_args) (sym u) ∙ e) (gives span_to)).is
+call_some w x xs d _ us r h u e = absurd cc
 
 pub func_none : (w : Lexemes) (x : Expr Span) (ts : Lexemes) (k : Terminal) → first_of ts ≡ k → k ≢ code.Paren → is_func_lit x ≡ true → postfix_at w x ts ≡ None
 unfolding postfix_at
 func_none w x (lex s paren ∷ ts) k h n f = absurd (n (sym h))
-func_none w x (lex d dot ∷ lex s (word m) ∷ r) k h n f = (refuses _ f).is
+func_none w x (lex d dot ∷ lex s (ident m) ∷ r) k h n f = (refuses _ f).is
 func_none w x (lex s bracket ∷ ts) k h n f = (refuses _ f).is
 func_none w x _ k h n f = refl
 
-pub dot_word : (ts us : Lexemes) → continues ts ≡ true → first_of ts ≡ code.Dot → us ≡ rest_of ts → first_of us ≡ code.Word
-dot_word (lex d dot ∷ lex s (word n) ∷ r) us e h u = ap first_of u
+pub dot_word : (ts us : Lexemes) → continues ts ≡ true → first_of ts ≡ code.Dot → us ≡ rest_of ts → first_of us ≡ code.Ident
+dot_word (lex d dot ∷ lex s (ident n) ∷ r) us e h u = ap first_of u
 dot_word (lex s paren ∷ r) us e h u = absurd cc
 dot_word (lex s bracket ∷ r) us e h u = absurd cc
 dot_word _ us e h u = absurd cc
 
 pub select_some : (w : Lexemes) (x : Expr Span) (ts us vs : Lexemes) → continues ts ≡ true → first_of ts ≡ code.Dot → is_func_lit x ≡ false → us ≡ rest_of ts → vs ≡ rest_of us → postfix_at w x ts ≡ Some (selector (span_to w vs) x (name_of us), vs)
 unfolding postfix_at
-select_some w x (lex d dot ∷ lex s (word n) ∷ r) us vs e h f u v =
-    (passes span_to {p = give (selector (span_to w r) x (name_of (lex s (word n) ∷ r))) r} f (gives span_to)).is
+select_some w x (lex d dot ∷ lex s (ident n) ∷ r) us vs e h f u v =
+    (passes span_to {p = give (selector (span_to w r) x (name_of (lex s (ident n) ∷ r))) r} f (gives span_to)).is
     ∙ ap (λ (ys : Lexemes). Some (selector (span_to w (rest_of ys)) x (name_of ys), rest_of ys)) (sym u) ∙ ap (λ (ys : Lexemes). Some (selector (span_to w ys) x (name_of us), ys)) (sym v)
 select_some w x (lex s paren ∷ r) us vs e h f u v = absurd cc
 select_some w x (lex s bracket ∷ r) us vs e h f u v = absurd cc
@@ -51,7 +52,7 @@ select_some w x _ us vs e h f u v = absurd cc
 pub bracket_on : (w : Lexemes) (x : Expr Span) (ts us : Lexemes) (k : Terminal) → continues ts ≡ true → first_of ts ≡ k → k ≢ code.Paren → k ≢ code.Dot → is_func_lit x ≡ false → us ≡ rest_of ts → postfix_at w x ts ≡ brackets_at w x us
 unfolding postfix_at brackets_at
 bracket_on w x (lex s paren ∷ ts) us k e h n m f u = absurd (n (sym h))
-bracket_on w x (lex d dot ∷ lex s (word i) ∷ r) us k e h n m f u = absurd (m (sym h))
+bracket_on w x (lex d dot ∷ lex s (ident i) ∷ r) us k e h n m f u = absurd (m (sym h))
 bracket_on w x (lex s bracket ∷ ts) us k e h n m f u =
     (passes span_to {p = brackets_program w x ts} f (record { is = refl })).is ∙ ap (λ (ys : Lexemes). run (at span_to) (brackets_program w x ys)) (sym u)
 bracket_on w x _ us k e h n m f u = absurd cc

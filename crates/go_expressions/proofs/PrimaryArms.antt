@@ -1,10 +1,11 @@
 -- What the reader gives for an operand with what may follow it.
 use Rattle.std.proofs.Common.{◌≡◌, Bool, true, false, ◌∷◌, Option, Some, None, refl, sym, ap, ◌∙◌}
 use Rattle.std.specs.Prelude.{option_and_then}
+use Rattle.go_tree.specs.declared.exprs.Rest.{Rest}
 use Rattle.go_tree.specs.declared.spans.Span.{Span}
 use Rattle.go_tree.specs.declared.operators.BinOp.TheVariants.{Mul, Add, Sub, Xor, And}
 use Rattle.go_tree.specs.Tree.{TypeExpr, named, Sig, Stmts, Expr, ExprOption, Exprs, Elems, composite, selector, index, slice, call, func_lit, type_operand, no_expr, some_expr}
-use Rattle.go_read.specs.SpellsTerminals.{lex, word, number, rune, text, sign, bang, comma, colon, dot, paren, end_paren, bracket, end_bracket, brace, end_brace, key_func, key_map, key_struct}
+use Rattle.go_words.specs.Terminals.{lex, ident, int_lit, rune_lit, str_lit, binary_op, not_, comma, colon, dot, paren, end_paren, bracket, end_bracket, brace, end_brace, key_func, key_map, key_struct}
 use Rattle.go_read.specs.SpellsSpans.{span_to}
 use Rattle.go_read.specs.SpellsTypes.{Lexemes, name_here}
 use Rattle.go_read.specs.Spells.{is_func_lit}
@@ -64,32 +65,32 @@ typed_post h w (Some (t, ts)) = refl
 -- an operand, and what may follow it
 primary_is : (h : Bool) (ts : Lexemes) → prefix_of (first_of ts) ≡ None → at span_to (read_unary h) ts ≡ option_and_then (tail h ts) (operand_at h ts)
 unfolding unary_step type_step operand_at
-primary_is false (lex s (word n) ∷ lex b brace ∷ ts) e =
-    finish span_to (read_unary false) (lex s (word n) ∷ lex b brace ∷ ts) (record { is = refl })
-    ∙ composite_post false (lex s (word n) ∷ lex b brace ∷ ts) (named (span_to (lex s (word n) ∷ lex b brace ∷ ts) (lex b brace ∷ ts)) None (name_here span_to s n (lex b brace ∷ ts))) (at span_to read_elems ts)
-    ∙ ap (λ (o : Option (TypeExpr Span × Lexemes)). option_and_then (tail false (lex s (word n) ∷ lex b brace ∷ ts)) (option_and_then (λ x. run (at span_to) (typed_after (lex s (word n) ∷ lex b brace ∷ ts) x.0 x.1)) o))
-    (sym (finish span_to read_type (lex s (word n) ∷ lex b brace ∷ ts) (gives span_to)))
-primary_is false (lex s (word p) ∷ lex d dot ∷ lex s2 (word n) ∷ lex b brace ∷ ts) e =
-    finish span_to (read_unary false) (lex s (word p) ∷ lex d dot ∷ lex s2 (word n) ∷ lex b brace ∷ ts) (record { is = refl })
-    ∙ composite_post false (lex s (word p) ∷ lex d dot ∷ lex s2 (word n) ∷ lex b brace ∷ ts) (named (span_to (lex s (word p) ∷ lex d dot ∷ lex s2 (word n) ∷ lex b brace ∷ ts) (lex b brace ∷ ts)) (Some (name_here span_to s p (lex d dot ∷ lex s2 (word n) ∷ lex b brace ∷ ts))) (name_here span_to s2 n (lex b brace ∷ ts))) (at span_to read_elems ts)
-    ∙ ap (λ (o : Option (TypeExpr Span × Lexemes)). option_and_then (tail false (lex s (word p) ∷ lex d dot ∷ lex s2 (word n) ∷ lex b brace ∷ ts)) (option_and_then (λ x. run (at span_to) (typed_after (lex s (word p) ∷ lex d dot ∷ lex s2 (word n) ∷ lex b brace ∷ ts) x.0 x.1)) o))
-    (sym (finish span_to read_type (lex s (word p) ∷ lex d dot ∷ lex s2 (word n) ∷ lex b brace ∷ ts) (gives span_to)))
-primary_is false (lex s (word n) ∷ ts) e = finish span_to (read_unary false) (lex s (word n) ∷ ts) (tails_postfix span_to)
-primary_is true (lex s (word n) ∷ ts) e = finish span_to (read_unary true) (lex s (word n) ∷ ts) (tails_postfix span_to)
-primary_is h (lex s (number n) ∷ ts) e = finish span_to (read_unary h) (lex s (number n) ∷ ts) (tails_postfix span_to)
-primary_is h (lex s (rune n) ∷ ts) e = finish span_to (read_unary h) (lex s (rune n) ∷ ts) (tails_postfix span_to)
-primary_is h (lex s (text n) ∷ ts) e = finish span_to (read_unary h) (lex s (text n) ∷ ts) (tails_postfix span_to)
+primary_is false (lex s (ident n) ∷ lex b brace ∷ ts) e =
+    finish span_to (read_unary false) (lex s (ident n) ∷ lex b brace ∷ ts) (record { is = refl })
+    ∙ composite_post false (lex s (ident n) ∷ lex b brace ∷ ts) (named (span_to (lex s (ident n) ∷ lex b brace ∷ ts) (lex b brace ∷ ts)) None (name_here span_to s n (lex b brace ∷ ts))) (at span_to read_elems ts)
+    ∙ ap (λ (o : Option (TypeExpr Span × Lexemes)). option_and_then (tail false (lex s (ident n) ∷ lex b brace ∷ ts)) (option_and_then (λ x. run (at span_to) (typed_after (lex s (ident n) ∷ lex b brace ∷ ts) x.0 x.1)) o))
+    (sym (finish span_to read_type (lex s (ident n) ∷ lex b brace ∷ ts) (gives span_to)))
+primary_is false (lex s (ident p) ∷ lex d dot ∷ lex s2 (ident n) ∷ lex b brace ∷ ts) e =
+    finish span_to (read_unary false) (lex s (ident p) ∷ lex d dot ∷ lex s2 (ident n) ∷ lex b brace ∷ ts) (record { is = refl })
+    ∙ composite_post false (lex s (ident p) ∷ lex d dot ∷ lex s2 (ident n) ∷ lex b brace ∷ ts) (named (span_to (lex s (ident p) ∷ lex d dot ∷ lex s2 (ident n) ∷ lex b brace ∷ ts) (lex b brace ∷ ts)) (Some (name_here span_to s p (lex d dot ∷ lex s2 (ident n) ∷ lex b brace ∷ ts))) (name_here span_to s2 n (lex b brace ∷ ts))) (at span_to read_elems ts)
+    ∙ ap (λ (o : Option (TypeExpr Span × Lexemes)). option_and_then (tail false (lex s (ident p) ∷ lex d dot ∷ lex s2 (ident n) ∷ lex b brace ∷ ts)) (option_and_then (λ x. run (at span_to) (typed_after (lex s (ident p) ∷ lex d dot ∷ lex s2 (ident n) ∷ lex b brace ∷ ts) x.0 x.1)) o))
+    (sym (finish span_to read_type (lex s (ident p) ∷ lex d dot ∷ lex s2 (ident n) ∷ lex b brace ∷ ts) (gives span_to)))
+primary_is false (lex s (ident n) ∷ ts) e = finish span_to (read_unary false) (lex s (ident n) ∷ ts) (tails_postfix span_to)
+primary_is true (lex s (ident n) ∷ ts) e = finish span_to (read_unary true) (lex s (ident n) ∷ ts) (tails_postfix span_to)
+primary_is h (lex s (int_lit n) ∷ ts) e = finish span_to (read_unary h) (lex s (int_lit n) ∷ ts) (tails_postfix span_to)
+primary_is h (lex s (rune_lit n) ∷ ts) e = finish span_to (read_unary h) (lex s (rune_lit n) ∷ ts) (tails_postfix span_to)
+primary_is h (lex s (str_lit n) ∷ ts) e = finish span_to (read_unary h) (lex s (str_lit n) ∷ ts) (tails_postfix span_to)
 primary_is h (lex s paren ∷ ts) e = finish span_to (read_unary h) (lex s paren ∷ ts) (record { is = refl }) ∙ parens_post h (lex s paren ∷ ts) (at span_to (read_expr 1 false) ts)
-primary_is h (lex s key_func ∷ ts) e = finish span_to (read_unary h) (lex s key_func ∷ ts) (record { is = refl }) ∙ func_post h (lex s key_func ∷ ts) (at span_to read_sig ts)
+primary_is h (lex s key_func ∷ ts) e = finish span_to (read_unary h) (lex s key_func ∷ ts) (record { is = refl }) ∙ func_post h (lex s key_func ∷ ts) (at span_to (read_sig false) ts)
 primary_is h (lex s bracket ∷ ts) e = finish span_to (read_unary h) (lex s bracket ∷ ts) (record { is = refl }) ∙ typed_post h (lex s bracket ∷ ts) (at span_to read_type (lex s bracket ∷ ts))
 primary_is h (lex s key_map ∷ ts) e = finish span_to (read_unary h) (lex s key_map ∷ ts) (record { is = refl }) ∙ typed_post h (lex s key_map ∷ ts) (at span_to read_type (lex s key_map ∷ ts))
 primary_is h (lex s key_struct ∷ ts) e = finish span_to (read_unary h) (lex s key_struct ∷ ts) (record { is = refl }) ∙ typed_post h (lex s key_struct ∷ ts) (at span_to read_type (lex s key_struct ∷ ts))
-primary_is h (lex s (sign Mul) ∷ ts) e = absurd cc
-primary_is h (lex s (sign Add) ∷ ts) e = absurd cc
-primary_is h (lex s (sign Sub) ∷ ts) e = absurd cc
-primary_is h (lex s (sign Xor) ∷ ts) e = absurd cc
-primary_is h (lex s (sign And) ∷ ts) e = absurd cc
-primary_is h (lex s bang ∷ ts) e = absurd cc
+primary_is h (lex s (binary_op Mul) ∷ ts) e = absurd cc
+primary_is h (lex s (binary_op Add) ∷ ts) e = absurd cc
+primary_is h (lex s (binary_op Sub) ∷ ts) e = absurd cc
+primary_is h (lex s (binary_op Xor) ∷ ts) e = absurd cc
+primary_is h (lex s (binary_op And) ∷ ts) e = absurd cc
+primary_is h (lex s not_ ∷ ts) e = absurd cc
 primary_is h ts e = finish span_to (read_unary h) ts (record { is = refl })
 
 pub primary_none : (h : Bool) (ts : Lexemes) → prefix_of (first_of ts) ≡ None → operand_at h ts ≡ None → at span_to (read_unary h) ts ≡ None
@@ -103,10 +104,10 @@ primary_starts h ts r x b e a = sym (primary_is h ts e ∙ ap (option_and_then (
 abbrev next : Bool → Lexemes → Expr Span × Lexemes → Option ((Expr Span × Bool) × Lexemes)
 next h w y = at span_to (read_postfix h w y.0 true) y.1
 
-args_post : (h : Bool) (w : Lexemes) (x : Expr Span) (o : Option (Exprs Span × Lexemes))
-    → option_and_then (λ xs. run (at span_to) (then_postfix span_to h w (call (span_to w xs.1) x xs.0) true xs.1)) o ≡ option_and_then (next h w) (option_and_then (λ xs. Some (call (span_to w xs.1) x xs.0, xs.1)) o)
+args_post : (h : Bool) (w : Lexemes) (x : Expr Span) (o : Option ((Exprs Span × Rest) × Lexemes))
+    → option_and_then (λ xs. run (at span_to) (then_postfix span_to h w (call (span_to w xs.1) x xs.0.0 xs.0.1) true xs.1)) o ≡ option_and_then (next h w) (option_and_then (λ xs. Some (call (span_to w xs.1) x xs.0.0 xs.0.1, xs.1)) o)
 args_post h w x None = refl
-args_post h w x (Some xs) = tailed h w (call (span_to w xs.1) x xs.0) true xs.1
+args_post h w x (Some xs) = tailed h w (call (span_to w xs.1) x xs.0.0 xs.0.1) true xs.1
 
 select_post : (h : Bool) (w : Lexemes) (y : Expr Span) (r : Lexemes) (b : Bool) → run (at span_to) (unless b (then_postfix span_to h w y true r)) ≡ option_and_then (next h w) (run (at span_to) (unless {X = Expr Span} b (give y r)))
 select_post h w y r true = refl
@@ -143,15 +144,15 @@ guarded_post h w x ts false = brackets_post h w x ts
 postfix_is : (h : Bool) (w : Lexemes) (x : Expr Span) (b : Bool) (ts : Lexemes) → continues ts ≡ true → at span_to (read_postfix h w x b) ts ≡ option_and_then (next h w) (postfix_at w x ts)
 unfolding postfix_step postfix_at
 postfix_is h w x b (lex s paren ∷ ts) e = finish span_to (read_postfix h w x b) (lex s paren ∷ ts) (record { is = refl }) ∙ args_post h w x (at span_to read_args ts)
-postfix_is h w x b (lex d dot ∷ lex s (word n) ∷ r) e =
-    finish span_to (read_postfix h w x b) (lex d dot ∷ lex s (word n) ∷ r) (record { is = refl }) ∙ select_post h w (selector (span_to w r) x (name_here span_to s n r)) r (is_func_lit x)
+postfix_is h w x b (lex d dot ∷ lex s (ident n) ∷ r) e =
+    finish span_to (read_postfix h w x b) (lex d dot ∷ lex s (ident n) ∷ r) (record { is = refl }) ∙ select_post h w (selector (span_to w r) x (name_here span_to s n r)) r (is_func_lit x)
 postfix_is h w x b (lex s bracket ∷ ts) e = finish span_to (read_postfix h w x b) (lex s bracket ∷ ts) (record { is = refl }) ∙ guarded_post h w x ts (is_func_lit x)
 postfix_is h w x b _ e = absurd cc
 
 pub postfix_done : (h : Bool) (w : Lexemes) (x : Expr Span) (b : Bool) (ts : Lexemes) → continues ts ≡ false → at span_to (read_postfix h w x b) ts ≡ Some ((x, b), ts)
 unfolding postfix_step
 postfix_done h w x b (lex s paren ∷ ts) e = absurd cc
-postfix_done h w x b (lex d dot ∷ lex s (word n) ∷ r) e = absurd cc
+postfix_done h w x b (lex d dot ∷ lex s (ident n) ∷ r) e = absurd cc
 postfix_done h w x b (lex s bracket ∷ ts) e = absurd cc
 postfix_done h w x b ts e = finish span_to (read_postfix h w x b) ts (gives span_to)
 

@@ -1,11 +1,13 @@
 -- Parts of expressions that no goal of the reader is for.
 use Rattle.std.specs.Prelude.{ℕ, Bool, true, false, nat_le, if◌then◌else◌, List, ◌∷◌, Option, Some, None, option_and_then}
+use Rattle.go_tree.specs.declared.exprs.Rest.{Rest}
 use Rattle.go_tree.specs.declared.spans.Span.{Span}
 use Rattle.go_tree.specs.declared.operators.BinOp.{BinOp}
 use Rattle.go_tree.specs.declared.operators.BinOp.TheVariants.{Mul, Add, Sub, Xor, And}
 use Rattle.go_tree.specs.declared.operators.UnOp.TheVariants.{Plus, Minus, Not, Flip, Address}
-use Rattle.go_tree.specs.Tree.{TypeExpr, Expr, ExprOption, Elems, ValueOption, Value, ident, elem, int_lit, rune_lit, str_lit, composite, selector, index, slice, call, func_lit, type_operand, unary, star, no_expr, some_expr}
-use Rattle.go_read.specs.SpellsTerminals.{lex, word, number, rune, text, comma, colon, dot, paren, end_paren, bracket, end_bracket, brace, key_func, key_map, key_struct, level_of}
+use Rattle.go_tree.specs.Tree.{TypeExpr, Expr, Exprs, ExprOption, Elems, ValueOption, Value, ident, elem, int_lit, rune_lit, str_lit, composite, selector, index, slice, call, func_lit, type_operand, unary, star, expr_and, no_expr, some_expr}
+use Rattle.go_words.specs.Terminals as terminal
+use Rattle.go_words.specs.Terminals.{lex, comma, colon, dot, paren, end_paren, bracket, end_bracket, brace, key_func, key_map, key_struct, level_of}
 use Rattle.go_read.specs.SpellsSpans.{span_to}
 use Rattle.go_read.specs.SpellsTypes.{Lexemes, name_here}
 use Rattle.go_read.specs.Spells.{is_func_lit}
@@ -14,18 +16,18 @@ use Rattle.go_read.specs.Programs.{Program, give, fail, ask, unless, run, after_
 use Rattle.go_read.specs.Reading.{at}
 use Rattle.go_expressions.specs.declared.prefixes.Prefix.{Prefix}
 use Rattle.go_expressions.specs.declared.prefixes.Prefix.TheVariants as prefix
-use Rattle.go_productions.specs.declared.terminals.Terminal.{Terminal}
-use Rattle.go_productions.specs.declared.terminals.Terminal.TheVariants as code
+use Rattle.go_words.specs.declared.terminals.Terminal.{Terminal}
+use Rattle.go_words.specs.declared.terminals.Terminal.TheVariants as code
 
 -- ---- operators
 
 abbrev pub prefix_of : Terminal → Option Prefix
-prefix_of code.Bang = Some (prefix.Sign Not)
-prefix_of (code.Sign Mul) = Some prefix.Star
-prefix_of (code.Sign Add) = Some (prefix.Sign Plus)
-prefix_of (code.Sign Sub) = Some (prefix.Sign Minus)
-prefix_of (code.Sign Xor) = Some (prefix.Sign Flip)
-prefix_of (code.Sign And) = Some (prefix.Sign Address)
+prefix_of code.Not = Some (prefix.Sign Not)
+prefix_of (code.Binary Mul) = Some prefix.Star
+prefix_of (code.Binary Add) = Some (prefix.Sign Plus)
+prefix_of (code.Binary Sub) = Some (prefix.Sign Minus)
+prefix_of (code.Binary Xor) = Some (prefix.Sign Flip)
+prefix_of (code.Binary And) = Some (prefix.Sign Address)
 prefix_of _ = None
 
 abbrev pub prefixed : Prefix → Span → Expr Span → Expr Span
@@ -34,23 +36,23 @@ prefixed (prefix.Sign op) s e = unary s op e
 
 -- the binary operator that a terminal is, of at least a level
 abbrev pub binary_of : ℕ → Terminal → Option BinOp
-binary_of level (code.Sign op) = if nat_le level (level_of op) then Some op else None
+binary_of level (code.Binary op) = if nat_le level (level_of op) then Some op else None
 binary_of level _ = None
 
 -- ---- operands
 
 -- the name or the basic literal with this spelling
 abbrev pub plain_of : Terminal → Span → List ℕ → Expr Span
-plain_of code.Word s w = ident s w
-plain_of code.Number s w = int_lit s w
-plain_of code.Rune s w = rune_lit s w
+plain_of code.Ident s w = ident s w
+plain_of code.IntLit s w = int_lit s w
+plain_of code.RuneLit s w = rune_lit s w
 plain_of _ s w = str_lit s w
 
 -- whether a composite literal begins with a name here: outside of a header
 abbrev pub literal_here : Bool → Lexemes → Bool
 literal_here true ts = false
-literal_here false (lex s (word n) ∷ lex b brace ∷ ts) = true
-literal_here false (lex s (word p) ∷ lex d dot ∷ lex s2 (word n) ∷ lex b brace ∷ ts) = true
+literal_here false (lex s (terminal.ident n) ∷ lex b brace ∷ ts) = true
+literal_here false (lex s (terminal.ident p) ∷ lex d dot ∷ lex s2 (terminal.ident n) ∷ lex b brace ∷ ts) = true
 literal_here false _ = false
 
 -- whether what follows lets a type be an operand
@@ -87,13 +89,13 @@ word_program false whole ts n = give (ident (span_to whole ts) n, true) ts
 
 -- an operand without what may follow it
 abbrev pub operand_program : Bool → Lexemes → Program Span (Expr Span × Bool)
-operand_program header (lex s (word n) ∷ ts) = word_program (literal_here header (lex s (word n) ∷ ts)) (lex s (word n) ∷ ts) ts n
-operand_program header (lex s (number n) ∷ ts) = give (int_lit (span_to (lex s (number n) ∷ ts) ts) n, true) ts
-operand_program header (lex s (rune n) ∷ ts) = give (rune_lit (span_to (lex s (rune n) ∷ ts) ts) n, true) ts
-operand_program header (lex s (text n) ∷ ts) = give (str_lit (span_to (lex s (text n) ∷ ts) ts) n, true) ts
+operand_program header (lex s (terminal.ident n) ∷ ts) = word_program (literal_here header (lex s (terminal.ident n) ∷ ts)) (lex s (terminal.ident n) ∷ ts) ts n
+operand_program header (lex s (terminal.int_lit n) ∷ ts) = give (int_lit (span_to (lex s (terminal.int_lit n) ∷ ts) ts) n, true) ts
+operand_program header (lex s (terminal.rune_lit n) ∷ ts) = give (rune_lit (span_to (lex s (terminal.rune_lit n) ∷ ts) ts) n, true) ts
+operand_program header (lex s (terminal.str_lit n) ∷ ts) = give (str_lit (span_to (lex s (terminal.str_lit n) ∷ ts) ts) n, true) ts
 operand_program header (lex s paren ∷ ts) = ask (read_expr 1 false) ts (λ x r. after_end_paren r (λ r. give (x.0, false) r))
 operand_program header (lex s key_func ∷ ts) =
-    ask read_sig ts (λ g mid. ask read_block mid (λ b r. give (func_lit (span_to (lex s key_func ∷ ts) r) g b.0 b.1, true) r))
+    ask (read_sig false) ts (λ g mid. ask read_block mid (λ b r. give (func_lit (span_to (lex s key_func ∷ ts) r) g b.0 b.1, true) r))
 operand_program header (lex s bracket ∷ ts) = typed_program (lex s bracket ∷ ts)
 operand_program header (lex s key_map ∷ ts) = typed_program (lex s key_map ∷ ts)
 operand_program header (lex s key_struct ∷ ts) = typed_program (lex s key_struct ∷ ts)
@@ -107,7 +109,7 @@ operand_at header ts = run (at span_to) (operand_program header ts)
 -- arguments, a name after a dot, an index or bounds
 abbrev pub continues : Lexemes → Bool
 continues (lex s paren ∷ ts) = true
-continues (lex d dot ∷ lex s (word n) ∷ ts) = true
+continues (lex d dot ∷ lex s (terminal.ident n) ∷ ts) = true
 continues (lex s bracket ∷ ts) = true
 continues _ = false
 
@@ -134,13 +136,24 @@ brackets_at whole base ts = run (at span_to) (brackets_program whole base ts)
 
 -- an operand and one part after it
 abbrev pub postfix_program : Lexemes → Expr Span → Lexemes → Program Span (Expr Span)
-postfix_program whole base (lex s paren ∷ ts) = ask read_args ts (λ xs r. give (call (span_to whole r) base xs) r)
-postfix_program whole base (lex d dot ∷ lex s (word n) ∷ r) = unless (is_func_lit base) (give (selector (span_to whole r) base (name_here span_to s n r)) r)
+postfix_program whole base (lex s paren ∷ ts) = ask read_args ts (λ x r. give (call (span_to whole r) base x.0 x.1) r)
+postfix_program whole base (lex d dot ∷ lex s (terminal.ident n) ∷ r) = unless (is_func_lit base) (give (selector (span_to whole r) base (name_here span_to s n r)) r)
 postfix_program whole base (lex s bracket ∷ ts) = unless (is_func_lit base) (brackets_program whole base ts)
 postfix_program whole base _ = fail
 
 unfoldable pub postfix_at : Lexemes → Expr Span → Lexemes → Option (Expr Span × Lexemes)
 postfix_at whole base ts = run (at span_to) (postfix_program whole base ts)
+
+-- ---- arguments
+
+abbrev pub arg_and : Expr Span → Exprs Span × Rest → Exprs Span × Rest
+arg_and e x = (expr_and e x.0, x.1)
+
+-- the tokens after the parenthesis that ends arguments, before which a comma may stand
+abbrev pub args_closed : Lexemes → Option Lexemes
+args_closed (lex e end_paren ∷ r) = Some r
+args_closed (lex c comma ∷ lex e end_paren ∷ r) = Some r
+args_closed _ = None
 
 -- ---- elements
 

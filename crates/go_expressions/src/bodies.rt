@@ -2,22 +2,24 @@
 
 ghost use Rattle.std.specs.Prelude.{◌<◌, ◌≤◌, length};
 ghost use Rattle.go_tree.specs.View.{block_of, stmts_of};
-ghost use Rattle.go_read.specs.SpellsTerminals.{lexemes};
+ghost use Rattle.go_words.specs.Terminals.{lexemes};
 ghost use Rattle.go_read.specs.SpellsSpans.{span_to};
 ghost use Rattle.go_read.specs.Goals.{read_block, read_stmts};
 ghost use Rattle.go_read.specs.Reading.{at};
 ghost use Rattle.go_productions.specs.Answers.{Gives, Shorter, Within};
 ghost use Rattle.go_expressions.specs.Bodies.{ReadsBelow};
 
-use go_productions::{Reading, Terminal, first, rest, span_between};
+use go_productions::{Reading, Room, first, rest, span_between};
 use go_tree::{Block, NoMemory, StmtList, Token};
+use go_words::Terminal;
 
 /// Statements and how many tokens they take, or nothing where the tokens don't begin with some.
 pub type Taken = Result<Option<(StmtList, usize)>, NoMemory>;
 
-/// How the statements of a body are read.
+/// What the functions that read expressions and statements hand on.
 #[derive(Drop)]
-pub struct Bodies<F> {
+pub struct Bodies<'r, F> {
+    pub room: &'r Room,
     /// Reads statements up to a closing brace or the next clause of a `switch`.
     pub read: F,
     /// It is for fewer tokens than these.

@@ -4,13 +4,13 @@
 //! passed what reads them.
 #![tactic(auto)]
 
+mod basics;
 mod bodies;
-mod builders;
 mod exprs;
 mod operands;
 mod postfixes;
 mod prefixes;
 
+pub use basics::is_func_lit;
 pub use bodies::{Bodies, Taken, block, statements};
-pub use builders::is_func_lit;
 pub use exprs::{binary_expr, expr_list, expression};

@@ -3,17 +3,17 @@
 ghost use Rattle.std.specs.Prelude.{◌≡◌, true, ◌≤◌, length};
 ghost use Rattle.go_tree.specs.Tree.{no_expr};
 ghost use Rattle.go_tree.specs.View.{boxed_expr_option_of, expr_of};
-ghost use Rattle.go_read.specs.SpellsTerminals.{lexemes};
+ghost use Rattle.go_words.specs.Terminals.{lexemes};
 ghost use Rattle.go_expressions.specs.Bodies.{ReadsBelow};
 ghost use Rattle.go_productions.specs.Answers.{Gives, Shorter};
 ghost use Rattle.go_expressions.specs.ExprParts.{brackets_at, continues, high_at, postfix_at};
 
+use crate::basics::is_func_lit;
 use crate::bodies::{Bodies, Taken};
-use crate::builders::{build_call, build_index, build_selector, build_slice, is_func_lit};
 use crate::exprs::{call_args, expression};
-use go_productions::{Reading, Terminal, first, name, rest, span_between};
-use go_tree::{Expr, Token};
-use std::alloc::Global;
+use go_productions::{Reading, first, name, rest, span_between};
+use go_tree::{Expr, Token, call_expr, index_expr, selector_expr, slice_expr};
+use go_words::Terminal;
 
 /// Whether arguments, a name after a dot, an index or bounds stand first.
 pub(crate) fn continues(tokens: &[Token]) -> bool
@@ -21,7 +21,7 @@ pub(crate) fn continues(tokens: &[Token]) -> bool
 {
     match first(tokens) {
         Terminal::Paren | Terminal::Bracket => true,
-        Terminal::Dot => matches!(first(rest(tokens)), Terminal::Word),
+        Terminal::Dot => matches!(first(rest(tokens)), Terminal::Ident),
         _ => false,
     }
 }
@@ -30,7 +30,6 @@ pub(crate) fn continues(tokens: &[Token]) -> bool
 #[cycle(expressions)]
 #[tactic(auto, using(crate::proofs::PostfixArms::call_none, crate::proofs::PostfixArms::call_some, crate::proofs::PostfixArms::func_none, crate::proofs::PostfixArms::select_some, crate::proofs::PostfixArms::dot_word, crate::proofs::PostfixArms::bracket_on))]
 pub(crate) fn postfix<'a, F: Fn(&[Token]) -> Taken>(
-    alloc: Global,
     whole: &[Token],
     base: Box<Expr>,
     tokens: &'a [Token],
@@ -43,29 +42,28 @@ pub(crate) fn postfix<'a, F: Fn(&[Token]) -> Taken>(
     ensures shorter { Shorter (λ x. x.1.now) result tokens.now }
 {
     if let Terminal::Paren = first(tokens) {
-        let Some((args, left)) = call_args(alloc, rest(tokens), bodies)? else {
+        let Some(((args, handed), left)) = call_args(rest(tokens), bodies)? else {
             return Ok(None);
         };
         let span = span_between(whole, left);
-        return Ok(Some((build_call(span, base, args), left)));
+        return Ok(Some((call_expr(span, base, args, handed), left)));
     }
     if is_func_lit(&base) {
         return Ok(None);
     }
     let Terminal::Dot = first(tokens) else {
-        return brackets(alloc, whole, base, rest(tokens), bodies);
+        return brackets(whole, base, rest(tokens), bodies);
     };
-    let name = name(alloc, rest(tokens))?;
+    let name = name(bodies.room, rest(tokens))?;
     let left = rest(rest(tokens));
     let span = span_between(whole, left);
-    Ok(Some((build_selector(span, base, name), left)))
+    Ok(Some((selector_expr(span, base, name), left)))
 }
 
 /// An index or bounds, after the opening bracket.
 #[cycle(expressions)]
 #[tactic(auto, using(crate::proofs::PostfixArms::colon_first, crate::proofs::PostfixArms::index_none, crate::proofs::PostfixArms::index_some, crate::proofs::PostfixArms::index_colon, crate::proofs::PostfixArms::index_stop))]
 fn brackets<'a, F: Fn(&[Token]) -> Taken>(
-    alloc: Global,
     whole: &[Token],
     base: Box<Expr>,
     tokens: &'a [Token],
@@ -77,18 +75,18 @@ fn brackets<'a, F: Fn(&[Token]) -> Taken>(
     ensures shorter { Shorter (λ x. x.1.now) result tokens.now }
 {
     if let Terminal::Colon = first(tokens) {
-        return bounds(alloc, whole, base, None, rest(tokens), bodies);
+        return bounds(whole, base, None, rest(tokens), bodies);
     }
-    let Some((at, left)) = expression(alloc, tokens, false, bodies)? else {
+    let Some((at, left)) = expression(tokens, false, bodies)? else {
         return Ok(None);
     };
-    let at = Box::new(alloc, at)?;
+    let at = Box::new(bodies.room.alloc, at)?;
     match first(left) {
-        Terminal::Colon => bounds(alloc, whole, base, Some(at), rest(left), bodies),
+        Terminal::Colon => bounds(whole, base, Some(at), rest(left), bodies),
         Terminal::EndBracket => {
             let left = rest(left);
             let span = span_between(whole, left);
-            Ok(Some((build_index(span, base, at), left)))
+            Ok(Some((index_expr(span, base, at), left)))
         }
         _ => Ok(None),
     }
@@ -98,7 +96,6 @@ fn brackets<'a, F: Fn(&[Token]) -> Taken>(
 #[cycle(expressions)]
 #[tactic(auto, using(crate::proofs::PostfixArms::high_end, crate::proofs::PostfixArms::high_none, crate::proofs::PostfixArms::high_stop, crate::proofs::PostfixArms::high_some))]
 fn bounds<'a, F: Fn(&[Token]) -> Taken>(
-    alloc: Global,
     whole: &[Token],
     base: Box<Expr>,
     from: Option<Box<Expr>>,
@@ -113,16 +110,16 @@ fn bounds<'a, F: Fn(&[Token]) -> Taken>(
     if let Terminal::EndBracket = first(tokens) {
         let left = rest(tokens);
         let span = span_between(whole, left);
-        return Ok(Some((build_slice(span, base, from, None), left)));
+        return Ok(Some((slice_expr(span, base, from, None), left)));
     }
-    let Some((to, left)) = expression(alloc, tokens, false, bodies)? else {
+    let Some((to, left)) = expression(tokens, false, bodies)? else {
         return Ok(None);
     };
-    let to = Box::new(alloc, to)?;
+    let to = Box::new(bodies.room.alloc, to)?;
     let Terminal::EndBracket = first(left) else {
         return Ok(None);
     };
     let left = rest(left);
     let span = span_between(whole, left);
-    Ok(Some((build_slice(span, base, from, Some(to)), left)))
+    Ok(Some((slice_expr(span, base, from, Some(to)), left)))
 }

@@ -1,2 +1,3 @@
 pub mod ExprExamples
 pub mod StmtExamples
+pub mod FileExamples

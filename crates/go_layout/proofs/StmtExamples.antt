@@ -1,6 +1,7 @@
 -- Texts of statements, by computation.
 use Rattle.std.proofs.Common.{◌≡◌, ℕ, true, false, List, [], ◌∷◌, Some, None, refl}
 use Rattle.std.specs.Prelude.{codes}
+use Rattle.go_tree.specs.declared.exprs.Rest.TheVariants.{Plain}
 use Rattle.go_tree.specs.declared.operators.BinOp.TheVariants.{Add, Shl}
 use Rattle.go_tree.specs.Tree.{Expr, Stmt, Stmts, const_decl, var_decl, empty, eval, step, assign, define, return_, break_, continue_, inner, if_, for_, range_, switch, defer, label, no_stmts, stmt_and, no_stmt, some_stmt, some_block, nothing, assigns, defines, no_arms, arm, no_cases, case, no_specs, spec, no_exprs, no_expr, some_expr, call, binary, composite, no_elems}
 use Rattle.go_read.proofs.Texts.{var, num, name, type, list}
@@ -17,7 +18,7 @@ abbrev b : Expr (Unit {0})
 b = var (codes "b")
 
 abbrev do_f : Stmt (Unit {0})
-do_f = eval tt (call tt (var (codes "f")) no_exprs)
+do_f = eval tt (call tt (var (codes "f")) no_exprs Plain)
 
 abbrev body : Stmts (Unit {0})
 body = stmt_and do_f no_stmts
@@ -43,5 +44,5 @@ labels = refl
 groups : written [] (stmt_and (var_decl tt true (spec tt (name (codes "x") ∷ name (codes "y") ∷ []) (Some (type (codes "int"))) no_exprs (spec tt (name (codes "z") ∷ []) None (list (a ∷ b ∷ [])) no_specs))) (stmt_and (const_decl tt false (spec tt (name (codes "c") ∷ []) (Some (type (codes "int"))) (list (a ∷ [])) no_specs)) (stmt_and (const_decl tt true no_specs) no_stmts))) ≡ codes "var (\n\tx, y int\n\tz = a, b\n)\nconst c int = a\nconst ()"
 groups = refl
 
-assignments : written [] (stmt_and (assign tt (list (a ∷ b ∷ [])) None (list (b ∷ a ∷ []))) (stmt_and (assign tt (list (a ∷ [])) (Some Shl) (list (binary tt Add b a ∷ []))) (stmt_and (step tt a false) (stmt_and (defer tt (call tt a (list (b ∷ [])))) no_stmts)))) ≡ codes "a, b = b, a\na <<= b + a\na--\ndefer a(b)"
+assignments : written [] (stmt_and (assign tt (list (a ∷ b ∷ [])) None (list (b ∷ a ∷ []))) (stmt_and (assign tt (list (a ∷ [])) (Some Shl) (list (binary tt Add b a ∷ []))) (stmt_and (step tt a false) (stmt_and (defer tt (call tt a (list (b ∷ [])) Plain)) no_stmts)))) ≡ codes "a, b = b, a\na <<= b + a\na--\ndefer a(b)"
 assignments = refl

@@ -1,5 +1,5 @@
 pub mod Layouts
-pub mod Operators
 pub mod TypeLayout
 pub mod Parens
 pub mod TreeLayout
+pub mod FileLayout

@@ -1,9 +1,9 @@
 -- Where an expression needs parentheses around it (Go specification, Operator precedence, Composite literals, Conversions).
-use Rattle.std.specs.Prelude.{ℕ, Bool, true, false, not, ◌&&◌, ◌||◌, nat_lt}
+use Rattle.std.specs.Prelude.{ℕ, ◌+◌, Bool, true, false, not, ◌&&◌, ◌||◌, nat_lt}
 use Rattle.go_tree.specs.declared.operators.UnOp.{UnOp}
 use Rattle.go_tree.specs.declared.operators.UnOp.TheVariants.{Plus, Minus, Flip, Address}
-use Rattle.go_tree.specs.Tree.{named, pointer, slice_type, map_type, struct_type, Expr, int_lit, composite, type_operand, unary, binary, star}
-use Rattle.go_read.specs.SpellsTerminals.{level_of}
+use Rattle.go_tree.specs.Tree.{named, pointer, slice_type, map_type, struct_type, Expr, Exprs, no_exprs, expr_and, int_lit, composite, type_operand, unary, binary, star}
+use Rattle.go_words.specs.Terminals.{level_of}
 
 -- two operators that would be read as one: `++`, `--`, `&&`, `&^`
 abbrev pub is_one_operator : UnOp → UnOp → Bool
@@ -46,6 +46,23 @@ module _ {S : Type 0} where
   abbrev pub runs_into : UnOp → Expr S → Bool
   runs_into op (unary _ inner _) = is_one_operator op inner
   runs_into op _ = false
+
+  -- the last token of the expression's text is an integer literal
+  abbrev pub ends_in_integer : Bool → Bool → Expr S → Bool
+  ends_in_integer header closed (int_lit _ _) = true
+  ends_in_integer header closed (unary _ op e) =
+      not (needs_parens 6 header closed e || runs_into op e) && ends_in_integer header closed e
+  ends_in_integer header closed (binary _ op a b) =
+      not (needs_parens (level_of op + 1) header closed b) && ends_in_integer header closed b
+  ends_in_integer header closed (star _ e) = not (needs_parens 6 header closed e) && ends_in_integer header closed e
+  ends_in_integer header closed _ = false
+
+  -- the same of a list's text
+  abbrev pub last_ends_in_integer : Bool → Bool → Exprs S → Bool
+  last_ends_in_integer header closed no_exprs = false
+  last_ends_in_integer header closed (expr_and e no_exprs) =
+      not (needs_parens 1 header closed e) && ends_in_integer header closed e
+  last_ends_in_integer header closed (expr_and e (expr_and e2 es)) = last_ends_in_integer header closed (expr_and e2 es)
 
 -- within parentheses no header is near
 abbrev pub header_within : Bool → Bool → Bool

@@ -4,12 +4,14 @@
 -- or `switch` outside brackets, and `closed` that `(`, `,` or `)` directly follows it.
 use Rattle.std.specs.Prelude.{ℕ, ◌+◌, Bool, true, false, ◌||◌, List, Option, Some, None, codes}
 use Rattle.go_tree.specs.declared.tokens.TokenKind.TheVariants.{Ident, Integer, Rune, Str}
+use Rattle.go_tree.specs.declared.exprs.Rest.{Rest}
+use Rattle.go_tree.specs.declared.exprs.Rest.TheVariants.{Whole}
 use Rattle.go_tree.specs.Tree.{NameAt, TypeExpr, Expr, Exprs, ExprOption, Elems, Value, ValueOption, Stmt, Stmts, StmtOption, BlockOption, RangeLeft, Arms, Cases, ValueSpecs, ident, int_lit, rune_lit, str_lit, composite, selector, index, slice, call, func_lit, type_operand, unary, binary, star, no_exprs, expr_and, no_expr, some_expr, no_elems, elem, plain, braced, no_value, some_value, const_decl, var_decl, empty, eval, step, assign, define, return_, break_, continue_, inner, if_, for_, range_, switch, defer, label, no_stmts, stmt_and, no_stmt, some_stmt, no_block, some_block, nothing, assigns, defines, no_arms, arm, no_cases, case, no_specs, spec}
-use Rattle.go_read.specs.SpellsTerminals.{level_of}
+use Rattle.go_words.specs.Terminals.{level_of}
 use Rattle.go_layout.specs.Layouts.{Layout, no_text, a_token, gap, line, ◌⊕◌, key, op, name_layout, deeper, within}
-use Rattle.go_layout.specs.Operators.{binary_spelling, unary_spelling, assign_spelling}
+use Rattle.go_words.specs.Operators.{binary_spelling, unary_spelling, assign_spelling}
 use Rattle.go_layout.specs.TypeLayout.{names_layout, type_layout, sig_layout}
-use Rattle.go_layout.specs.Parens.{needs_parens, is_integer, runs_into, header_within, closed_within}
+use Rattle.go_layout.specs.Parens.{needs_parens, is_integer, runs_into, last_ends_in_integer, header_within, closed_within}
 
 abbrev pub spaced : List ℕ → Layout
 spaced spelling = gap ⊕ op spelling ⊕ gap
@@ -32,6 +34,15 @@ abbrev pub group_end : Bool → List ℕ → Option (List ℕ)
 group_end false indent = None
 group_end true indent = Some indent
 
+abbrev pub gap_where : Bool → Layout
+gap_where true = gap
+gap_where false = no_text
+
+-- whether `)` directly follows the arguments of a call
+abbrev pub closes : Rest → Bool
+closes Whole = false
+closes _ = true
+
 module _ {S : Type 0} where
   abbrev pub comma_before_exprs : Exprs S → Layout
   comma_before_exprs no_exprs = no_text
@@ -40,6 +51,11 @@ module _ {S : Type 0} where
   abbrev pub comma_before_elems : Elems S → Layout
   comma_before_elems no_elems = no_text
   comma_before_elems (elem _ _ _ _) = op (codes ",") ⊕ gap
+
+  -- the dots after the arguments of a call, which would be read as part of an integer literal directly before them
+  abbrev pub rest_layout : Rest → Exprs S → Layout
+  rest_layout Whole xs = gap_where (last_ends_in_integer false false xs) ⊕ op (codes "...")
+  rest_layout _ xs = no_text
 
   -- whether a comma, or what closes the list, directly follows the entry before these
   abbrev pub closed_before : Bool → Exprs S → Bool
@@ -136,9 +152,10 @@ module _ {S : Type 0} where
         let p = needs_parens 7 h false e in
         within p (expr_layout i (header_within p h) (closed_within p false) e) ⊕ op (codes "[")
         ⊕ option_layout i false from ⊕ op (codes ":") ⊕ option_layout i false to ⊕ op (codes "]")
-    expr_layout i h c (call _ f xs) =
+    expr_layout i h c (call _ f xs rest) =
         let p = needs_parens 7 h true f in
-        within p (expr_layout i (header_within p h) (closed_within p true) f) ⊕ op (codes "(") ⊕ exprs_layout i false true xs ⊕ op (codes ")")
+        within p (expr_layout i (header_within p h) (closed_within p true) f) ⊕ op (codes "(")
+        ⊕ exprs_layout i false (closes rest) xs ⊕ rest_layout rest xs ⊕ op (codes ")")
     expr_layout i h c (func_lit _ g _ body) = key (codes "func") ⊕ sig_layout g ⊕ gap ⊕ in_braces i body (stmts_layout (deeper i) (Some i) body)
     expr_layout i h c (type_operand _ t) = type_layout t
     expr_layout i h c (unary _ o e) =

@@ -1,5 +1,5 @@
 -- The layout of types and signatures (Go specification, Types, Function types).
-use Rattle.std.specs.Prelude.{List, [], ◌∷◌, Option, Some, None, codes}
+use Rattle.std.specs.Prelude.{Bool, true, false, List, [], ◌∷◌, Option, Some, None, codes}
 use Rattle.go_tree.specs.Tree.{NameAt, TypeExpr, named, pointer, slice_type, map_type, struct_type, Fields, no_fields, field, Param, Sig}
 use Rattle.go_layout.specs.Layouts.{Layout, no_text, gap, ◌⊕◌, key, op, name_layout}
 
@@ -7,6 +7,11 @@ use Rattle.go_layout.specs.Layouts.{Layout, no_text, gap, ◌⊕◌, key, op, na
 abbrev pub comma_before : {A : Type 0} → List A → Layout
 comma_before [] = no_text
 comma_before (x ∷ xs) = op (codes ",") ⊕ gap
+
+-- before the type of a variadic parameter
+abbrev pub dots_where : Bool → Layout
+dots_where true = op (codes "...")
+dots_where false = no_text
 
 module _ {S : Type 0} where
   -- `a, b`
@@ -40,10 +45,14 @@ module _ {S : Type 0} where
   param_name_layout None = no_text
   param_name_layout (Some n) = name_layout n ⊕ gap
 
+  -- `x int`, or `xs ...int`
+  abbrev pub param_layout : Param S → Layout
+  param_layout p = param_name_layout p.name ⊕ dots_where p.rest ⊕ type_layout p.of
+
   -- `x int, y int`, each with its type
   abbrev pub param_list_layout : List (Param S) → Layout
   param_list_layout [] = no_text
-  param_list_layout (p ∷ ps) = param_name_layout p.name ⊕ type_layout p.of ⊕ comma_before ps ⊕ param_list_layout ps
+  param_list_layout (p ∷ ps) = param_layout p ⊕ comma_before ps ⊕ param_list_layout ps
 
   abbrev pub params_layout : List (Param S) → Layout
   params_layout ps = op (codes "(") ⊕ param_list_layout ps ⊕ op (codes ")")

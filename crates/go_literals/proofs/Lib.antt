@@ -1,2 +1,6 @@
-pub mod UnitSteps
-pub mod StringForms
+pub mod DigitLemmas
+pub mod WordLemmas
+pub mod EscapeLemmas
+pub mod UnitLemmas
+pub mod FormLemmas
+pub mod TokenForms

@@ -1,2 +1,3 @@
 pub mod Strings
 pub mod Units
+pub mod Literals

@@ -1,6 +1,7 @@
 -- Small programs: what they show, computed; and packages that do not mean the same.
 use Rattle.std.proofs.Common.{◌≡◌, ℕ, false, List, [], ◌∷◌, None, refl, ap, subst, arith}
 use Rattle.std.specs.Prelude.{codes, pos}
+use Rattle.go_tree.specs.declared.exprs.Rest.TheVariants.{Plain}
 use Rattle.go_tree.specs.Tree.{NameAt, Expr, ident, int_lit, call, no_exprs, expr_and, Stmt, const_decl, eval, Stmts, no_stmts, stmt_and, no_specs, spec}
 use Rattle.go_tree.specs.File.{Decl, values, func}
 use Rattle.go_kernel.specs.Kernel.{Event, Println, Value, Number, Int, Ended, Covers, same, Vals, prim}
@@ -21,7 +22,7 @@ abbrev const_of : List ℕ → Expr Bare → Decl Bare
 const_of name e = values (const_decl tt false (spec tt (name_of name ∷ []) None (expr_and e no_exprs) no_specs))
 
 abbrev println_of : Expr Bare → Stmt Bare
-println_of e = eval tt (call tt (ident tt (codes "println")) (expr_and e no_exprs))
+println_of e = eval tt (call tt (ident tt (codes "println")) (expr_and e no_exprs) Plain)
 
 abbrev println_each : List (Expr Bare) → Stmts Bare
 println_each [] = no_stmts

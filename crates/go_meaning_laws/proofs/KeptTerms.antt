@@ -3,6 +3,7 @@ use Rattle.std.proofs.Common.{◌≡◌, ℕ, Bool, true, ◌&&◌, if◌then◌
 use Rattle.std.specs.Prelude.{is_some}
 use Rattle.std.specs.List.{list_all}
 use Rattle.std.proofs.lemmas.Bool.{and_parts}
+use Rattle.go_tree.specs.declared.exprs.Rest.{Rest}
 use Rattle.go_tree.specs.Tree.{Expr, ident, call, Exprs, no_exprs, expr_and, Stmt, const_decl, eval, Stmts, no_stmts, stmt_and, ValueSpecs, no_specs, spec}
 use Rattle.go_tree.specs.File.{Func, Decl, values, func}
 use Rattle.go_kernel.specs.Kernel.{Both, Let}
@@ -50,19 +51,19 @@ module _ {S : Type 0} (env env' : Environment S) (kept : EnvKept env env env') w
   println_kept _ _ (some _ _ (constant_step e e' k)) h = cc
   println_kept _ _ (some _ _ (function_step f f')) h = cc
 
-  call_kept : (s t u : S) (name : List ℕ) (es es' : Exprs S) → (all_have_values env es ≡ true → KeepsExprs es es') → ok_stmt env (eval s (call t (ident u name) es)) ≡ true → KeepsStmt (eval s (call t (ident u name) es)) (eval s (call t (ident u name) es'))
-  call_kept s t u name es es' on h =
+  call_kept : (s t u : S) (name : List ℕ) (es es' : Exprs S) (r : Rest) → (all_have_values env es ≡ true → KeepsExprs es es') → ok_stmt env (eval s (call t (ident u name) es r)) ≡ true → KeepsStmt (eval s (call t (ident u name) es r)) (eval s (call t (ident u name) es' r))
+  call_kept s t u name es es' r on h =
       let parts = and_parts (is_println (means env name)) (all_have_values env es) h in
       let args : KeepsExprs es es' = on parts.1 in
       let m : means env' name ≡ means env name = println_kept _ _ (means_kept env env env' kept name) parts.0 in
       record { term = λ i. call_term (m i) (args.term i); ok = both _ _ (ap is_println m ∙ parts.0) args.ok }
 
   stmt_same : (s : Stmt S) → ok_stmt env s ≡ true → KeepsStmt s s
-  stmt_same (eval s (call t (ident u name) es)) h = call_kept s t u name es es (exprs_same es) h
+  stmt_same (eval s (call t (ident u name) es r)) h = call_kept s t u name es es r (exprs_same es) h
   stmt_same s h = cc
 
   stmt_step : (s s' : Stmt S) → InStmt env s s' → ok_stmt env s ≡ true → KeepsStmt s s'
-  stmt_step _ _ (operand {s = s} {s' = t} {f = ident u name} {es = es} {es' = es'} k) h = call_kept s t u name es es' (exprs_step es es' k) h
+  stmt_step _ _ (operand {s = s} {s' = t} {f = ident u name} {es = es} {es' = es'} {rest = r} k) h = call_kept s t u name es es' r (exprs_step es es' k) h
   stmt_step _ _ (operand k) h = cc
 
   record KeepsStmts (ss ss' : Stmts S) : Type 0 where

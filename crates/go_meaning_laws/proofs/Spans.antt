@@ -129,12 +129,12 @@ module _ {S : Type 0} (env : Environment S) where
   println-bare None = refl
 
   stmt_term-bare : (s : Stmt S) → stmt_term (bare_env env) (bare_stmt s) ≡ stmt_term env s
-  stmt_term-bare (eval s (call t (ident u name) es)) =
+  stmt_term-bare (eval s (call t (ident u name) es r)) =
       (λ i. call_term (means-bare env name i) (exprs_term-bare es i)) ∙ call-bare (means env name) (exprs_term env es)
   stmt_term-bare s = refl
 
   ok_stmt-bare : (s : Stmt S) → ok_stmt (bare_env env) (bare_stmt s) ≡ ok_stmt env s
-  ok_stmt-bare (eval s (call t (ident u name) es)) =
+  ok_stmt-bare (eval s (call t (ident u name) es r)) =
       let p : is_println (means (bare_env env) name) ≡ is_println (means env name) = ap is_println (means-bare env name) ∙ println-bare (means env name) in
       let rest : all_have_values (bare_env env) (bare_exprs es) ≡ all_have_values env es = have_values-bare es in
       λ i. p i && rest i

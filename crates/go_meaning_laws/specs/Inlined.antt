@@ -1,6 +1,7 @@
 -- One step of inlining constants: a use of a constant becomes what the constant is declared as (Go specification, Constant declarations; Declarations and scope).
 -- Trees are taken without their spans. A construct without a rule has no step in it.
 use Rattle.std.specs.Prelude.{◌≡◌, ℕ, Bool, List, ◌∷◌, Option, Some, map}
+use Rattle.go_tree.specs.declared.exprs.Rest.{Rest}
 use Rattle.go_tree.specs.Tree.{NameAt, TypeExpr, Expr, ident, call, Exprs, expr_and, Stmt, const_decl, eval, Stmts, stmt_and, ValueSpecs, spec}
 use Rattle.go_tree.specs.File.{Func, Decl, values, func}
 use Rattle.go_tree.specs.FileBare.{bare_file}
@@ -21,7 +22,7 @@ module _ {S : Type 0} (env : Environment S) where
 
   -- in an operand of a call
   pub data InStmt : Stmt S → Stmt S → Type 0 where
-    operand : {s s' : S} {f : Expr S} {es es' : Exprs S} → InExprs es es' → InStmt (eval s (call s' f es)) (eval s (call s' f es'))
+    operand : {s s' : S} {f : Expr S} {es es' : Exprs S} {rest : Rest} → InExprs es es' → InStmt (eval s (call s' f es rest)) (eval s (call s' f es' rest))
 
   pub data InStmts : Stmts S → Stmts S → Type 0 where
     first : {s s' : Stmt S} {ss : Stmts S} → InStmt s s' → InStmts (stmt_and s ss) (stmt_and s' ss)

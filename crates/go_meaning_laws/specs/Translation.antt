@@ -38,7 +38,7 @@ module _ {S : Type 0} (env : Environment S) where
   -- ---- statements
 
   abbrev pub stmt_term : Stmt S → Term
-  stmt_term (eval _ (call _ (ident _ name) args)) = call_term (means env name) (exprs_term args)
+  stmt_term (eval _ (call _ (ident _ name) args _)) = call_term (means env name) (exprs_term args)
   stmt_term s = no_rule
 
   abbrev pub stmts_term : Stmts S → Term

@@ -27,7 +27,7 @@ module _ {S : Type 0} (env : Environment S) where
   all_have_values (expr_and e es) = has_value env e && all_have_values es
 
   abbrev pub ok_stmt : Stmt S → Bool
-  ok_stmt (eval _ (call _ (ident _ name) args)) = is_println (means env name) && all_have_values args
+  ok_stmt (eval _ (call _ (ident _ name) args _)) = is_println (means env name) && all_have_values args
   ok_stmt s = false
 
   abbrev pub ok_stmts : Stmts S → Bool

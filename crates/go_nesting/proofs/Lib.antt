@@ -1,3 +1,3 @@
-pub mod SignLemmas
+pub mod CodeLemmas
 pub mod FrameLemmas
 pub mod OverLemmas

@@ -1,12 +1,11 @@
 // The counts of the open brackets.
 ghost use Rattle.std.specs.Prelude.{◌≡◌, ℕ, ◌<◌, ◌≤◌, List, [], ◌∷◌, sum};
-ghost use Rattle.go_tree.specs.declared.tokens.TokenKind.{TokenKind};
-ghost use Rattle.go_read.specs.SpellsTerminals.{terminal_of};
+ghost use Rattle.go_words.specs.Codes.{spelled};
 ghost use Rattle.go_read.specs.SpellsWeight.{counts_after};
-ghost use Rattle.go_nesting.specs.Nesting.{after, sign_nesting};
+ghost use Rattle.go_nesting.specs.Nesting.{after};
 ghost use Rattle.go_nesting.specs.Frames.{counts_of, IsSound};
 
-use go_tree::{Token, TokenKind};
+use go_words::Terminal;
 
 /// The most that a limit of weights may be.
 pub const MAX_LIMIT: u32 = 400;
@@ -14,7 +13,7 @@ pub const MAX_LIMIT: u32 = 400;
 /// One more than `MAX_LIMIT`: so many counts are there at most where their sum is at most `MAX_LIMIT`.
 const MOST_COUNTS: usize = 401;
 
-/// What a token does to the counts.
+/// What a token may do to the counts.
 #[derive(Clone, Copy, Debug, PartialEq, Eq)]
 pub(crate) enum Nesting {
     Opens,
@@ -31,24 +30,14 @@ pub(crate) struct Counts {
     total: u32,
 }
 
-fn sign_nesting(spelling: &[u8]) -> Nesting
-    ensures { result ≡ sign_nesting spelling.now }
+/// What a token does to the counts.
+pub(crate) fn nesting_of(terminal: Terminal) -> Nesting
+    ensures { (w counts : List ℕ) → counts_after (spelled terminal w) counts ≡ after result counts }
 {
-    match spelling {
-        [b'(' | b'[' | b'{'] => Nesting::Opens,
-        [b')' | b']' | b'}'] => Nesting::Closes,
-        [b',' | b';'] => Nesting::Separates,
-        _ => Nesting::Adds,
-    }
-}
-
-/// What a token of this kind and spelling does to the counts.
-pub(crate) fn nesting_of(kind: TokenKind, spelling: &[u8]) -> Nesting
-    ensures { (counts : List ℕ) → counts_after (terminal_of kind spelling.now) counts ≡ after result counts }
-{
-    match kind {
-        TokenKind::Operator => sign_nesting(spelling),
-        TokenKind::Inserted => Nesting::Separates,
+    match terminal {
+        Terminal::Paren | Terminal::Bracket | Terminal::Brace => Nesting::Opens,
+        Terminal::EndParen | Terminal::EndBracket | Terminal::EndBrace => Nesting::Closes,
+        Terminal::Comma | Terminal::Semicolon => Nesting::Separates,
         _ => Nesting::Adds,
     }
 }

@@ -13,8 +13,9 @@ pub fn weight_over(tokens: &Tokens, limit: u32) -> Option<u32>
     ensures { IsFirstOver limit tokens.now.items result }
 {
     let mut counts = Counts::new();
-    for token in tokens.items() {
-        let nesting = nesting_of(token.kind, token.spelling.items());
+    let terminals = tokens.terminals();
+    for (i, token) in tokens.items().iter().enumerate() {
+        let nesting = nesting_of(terminals[i]);
         if counts.weight_after(nesting) > limit {
             return Some(token.span.start);
         }

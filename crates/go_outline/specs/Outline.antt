@@ -2,6 +2,7 @@
 -- (Go specification: Source file organization, Constant declarations, Function declarations, Calls).
 use Rattle.std.specs.Prelude.{◌≡◌, ℕ, ◌+◌, ◌≤◌, Bool, true, false, not, ◌&&◌, ◌||◌, IsTrue, List, [], ◌∷◌, ◌++◌, length, codes, None}
 use Rattle.std.specs.List.{list_all}
+use Rattle.go_tree.specs.declared.exprs.Rest.TheVariants.{Plain}
 use Rattle.go_tree.specs.declared.spans.Span.{Span}
 use Rattle.go_tree.specs.Tree as tree
 use Rattle.go_tree.specs.File as file
@@ -122,7 +123,7 @@ after_constants at (c ∷ cs) = after_constants (after_constant at c) cs
 abbrev pub print_tree : ℕ → Operand → tree.Stmt Span
 print_tree at a =
     let whole : Span = record { start = at + 1; end = at + 9 + length (spelling a) + 1 } in
-    tree.eval whole (tree.call whole (tree.ident (span_at (at + 1) 7) (codes "println")) (one_expr (operand_tree (at + 9) a)))
+    tree.eval whole (tree.call whole (tree.ident (span_at (at + 1) 7) (codes "println")) (one_expr (operand_tree (at + 9) a)) Plain)
 
 abbrev pub after_print : ℕ → Operand → ℕ
 after_print at a = at + 9 + length (spelling a) + 2

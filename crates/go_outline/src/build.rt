@@ -10,7 +10,7 @@ ghost use Rattle.go_outline.specs.Found.{operand_in, constant_in, spec_tree, IsO
 use crate::found::{ConstantAt, OperandAt, PrintAt};
 use go_tree::{
     Block, ConstDecl, ConstSpec, ConstSpecList, Decl, Expr, ExprList, FuncDecl, Name, NameAt,
-    NameAtList, NoMemory, ParamList, Sig, Span, Stmt, StmtList, Text,
+    NameAtList, NoMemory, ParamList, Rest, Sig, Span, Stmt, StmtList, Text,
 };
 use std::alloc::Global;
 
@@ -136,7 +136,12 @@ pub fn print_stmt(alloc: Global, text: &[u8], p: PrintAt) -> Result<Stmt, NoMemo
     };
     Ok(Stmt::Eval {
         span,
-        e: Expr::Call { span, callee, args },
+        e: Expr::Call {
+            span,
+            callee,
+            args,
+            rest: Rest::Plain,
+        },
     })
 }
 

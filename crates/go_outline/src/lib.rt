@@ -5,8 +5,6 @@
 pub mod build;
 pub mod first;
 pub mod found;
-#[cfg(test)]
-mod tests;
 pub mod words;
 
 pub use first::{FirstFault, parse_first};

@@ -1,7 +1,16 @@
-//! The tree of a file of Go source, and what is asked of its tokens before they are read as one:
-//! whether a word isn't supported, and whether they nest too deeply.
+//! A file of Go source: from its bytes to its tokens, comments and tree, or to the first reason why it has none. What is
+//! asked on the way stands here too: whether a word isn't supported, and whether the tokens nest too deeply.
 #![tactic(auto)]
 
-pub use go_declarations::{ParseError, parse};
+mod decls;
+mod file;
+mod functions;
+mod imports;
+mod parser;
+mod source;
+mod types;
+
 pub use go_nesting::{MAX_LIMIT, weight_over};
 pub use go_scan::unsupported;
+pub use parser::{ParseError, parse};
+pub use source::{ReadError, Source, read_file};

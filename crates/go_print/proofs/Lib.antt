@@ -4,3 +4,5 @@ pub mod Any
 pub mod Ends
 pub mod Chains
 pub mod DeclParts
+pub mod FileParts
+pub mod Lasts

@@ -4,9 +4,9 @@ use Rattle.go_tree.specs.declared.spans.Span.{Span}
 use Rattle.go_tree.specs.Tree as pure
 use Rattle.go_tree.specs.Lists.{fields_from, exprs_from, stmts_from, elems_from, arms_from, cases_from, specs_from}
 use Rattle.go_layout.specs.Layouts.{text_of, name_layout}
-use Rattle.go_layout.specs.TypeLayout.{comma_before, field_end, fields_layout, names_layout, param_name_layout, param_list_layout, type_layout}
+use Rattle.go_layout.specs.TypeLayout.{comma_before, field_end, fields_layout, names_layout, param_layout, param_list_layout, type_layout}
 use Rattle.go_layout.specs.TreeLayout.{exprs_layout, elems_layout, stmts_layout, arms_layout, cases_layout, specs_layout, operand_layout, stmt_layout, clause_indent, spec_type_layout, equals_before}
-use Rattle.go_print.specs.Parts.{text_if, field_layout, param_layout, elem_layout, arm_layout, clause_layout, spec_layout}
+use Rattle.go_print.specs.Parts.{text_if, field_layout, elem_layout, arm_layout, clause_layout, spec_layout}
 use Rattle.go_print.proofs.Steps.{all, has_more}
 
 -- an entry of one, two or three parts, what stands after it, and the rest
@@ -52,7 +52,7 @@ param_part more p = text_of (param_layout p) ++ text_if more (codes ", ")
 
 pub params_all : (ps : List (pure.Param Span)) → all param_part ps ≡ text_of (param_list_layout ps)
 params_all [] = refl
-params_all (p ∷ ps) = entry2 (text_of (param_name_layout p.name)) (text_of (type_layout p.of)) _ _ _ _ (comma ps) (params_all ps)
+params_all (p ∷ ps) = entry (text_of (param_layout p)) _ _ _ _ (comma ps) (params_all ps)
 
 abbrev pub expr_part : List ℕ → Bool → Bool → Bool → pure.Expr Span → List ℕ
 expr_part i h c more e = text_of (operand_layout i 1 h (more || c) e) ++ text_if more (codes ", ")

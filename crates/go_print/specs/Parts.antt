@@ -1,9 +1,11 @@
 -- Parts of a layout that have a function of their own.
-use Rattle.std.specs.Prelude.{ℕ, Bool, true, false, List, [], Option, Some, codes}
+use Rattle.std.specs.Prelude.{ℕ, Bool, true, false, ◌&&◌, List, [], ◌∷◌, ◌++◌, Option, Some, codes}
 use Rattle.go_tree.specs.Tree.{NameAt, TypeExpr, Param, Expr, Exprs, Elems, Value, ValueOption, Stmts, StmtOption, Cases, ValueSpecs, no_exprs, expr_and, no_stmts, stmt_and, no_stmt, some_stmt, no_cases, case, no_specs, spec}
+use Rattle.go_tree.specs.File.{TypeSpec}
 use Rattle.go_layout.specs.Layouts.{Layout, gap, line, ◌⊕◌, key, op, name_layout, deeper, within}
 use Rattle.go_layout.specs.Parens.{header_within, closed_within}
-use Rattle.go_layout.specs.TypeLayout.{names_layout, type_layout, param_name_layout}
+use Rattle.go_layout.specs.TypeLayout.{names_layout, type_layout}
+use Rattle.go_layout.specs.FileLayout.{specs_indent, group_layout, type_spec_layout}
 use Rattle.go_layout.specs.TreeLayout.{clause_indent, block_start, block_layout, case_word, equals_before, expr_layout, operand_layout, exprs_layout, elems_layout, key_layout, value_layout, first_layout, stmts_layout, spec_type_layout}
 
 -- text that stands only on a condition
@@ -11,9 +13,17 @@ abbrev pub text_if : Bool → List ℕ → List ℕ
 text_if true text = text
 text_if false text = []
 
+-- around the specs of a group: its parentheses, and the lines on which the first spec and the end stand
+abbrev pub opening_text : Bool → Bool → List ℕ
+opening_text grouped any = text_if grouped (codes "(") ++ text_if (grouped && any) (10 ∷ specs_indent true)
+
+abbrev pub closing_text : Bool → Bool → List ℕ
+closing_text grouped any = text_if (grouped && any) (10 ∷ []) ++ text_if grouped (codes ")")
+
 module _ {S : Type 0} where
-  abbrev pub param_layout : Param S → Layout
-  param_layout p = param_name_layout p.name ⊕ type_layout p.of
+  -- a declaration of types
+  abbrev pub types_layout : Bool → List (TypeSpec S) → Layout
+  types_layout grouped specs = key (codes "type") ⊕ gap ⊕ group_layout type_spec_layout grouped specs
 
   abbrev pub field_layout : S × NameAt S × TypeExpr S → Layout
   field_layout x = name_layout x.1 ⊕ gap ⊕ type_layout x.2

@@ -7,10 +7,11 @@ ghost use Rattle.go_tree.specs.View.{boxed_expr_option_of, elem_of, elems_of, ex
 
 use crate::parens::{LOWEST, OPERAND, UNARY, base_parens, needs_parens, operand_parens};
 use crate::parts::{write_binary, write_if, write_name, write_text};
-use crate::spellings::{level_of, unary_spelling};
+use crate::rests::{closes, write_rest};
 use crate::stmts::write_block;
 use crate::types::{write_sig, write_type};
 use go_tree::{Elem, ElemList, Expr, ExprList, NoMemory, Value};
+use go_words::{level_of, unary_spelling};
 
 /// An expression with the parentheses that its place needs: a level, in a header outside brackets
 /// or not, `closed` where `(`, `,` or `)` directly follows.
@@ -89,10 +90,16 @@ pub(crate) fn write_expr(
             write_bound(out, to, indent)?;
             write_text(out, b"]")
         }
-        Expr::Call { callee, args, .. } => {
+        Expr::Call {
+            callee,
+            args,
+            rest,
+            ..
+        } => {
             write_operand(out, callee, indent, OPERAND, header, true)?;
             write_text(out, b"(")?;
-            write_exprs(out, args, indent, false, true)?;
+            write_exprs(out, args, indent, false, closes(*rest))?;
+            write_rest(out, *rest, args)?;
             write_text(out, b")")
         }
         Expr::FuncLit { sig, body, .. } => {

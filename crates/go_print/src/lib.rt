@@ -3,14 +3,19 @@
 
 mod decls;
 mod exprs;
+mod files;
+mod funcs;
+mod groups;
+mod imports;
 mod parens;
 mod parts;
+mod paths;
 mod print;
-mod spellings;
+mod rests;
 mod starts;
 mod stmts;
-#[cfg(test)]
-mod tests;
+mod type_decls;
 mod types;
 
+pub use files::print_file;
 pub use print::{print_expr, print_stmts, print_type};

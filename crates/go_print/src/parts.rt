@@ -1,14 +1,14 @@
 // Small parts of a text.
 ghost use Rattle.std.specs.Prelude.{◌≡◌, ◌∷◌, ◌++◌, IfOk, OnOk};
 ghost use Rattle.go_layout.specs.Layouts.{deeper, name_layout, text_of};
-ghost use Rattle.go_layout.specs.Operators.{assign_spelling, binary_spelling};
-ghost use Rattle.go_layout.specs.TreeLayout.{label_layout, spaced};
+ghost use Rattle.go_words.specs.Operators.{assign_spelling, binary_spelling};
+ghost use Rattle.go_layout.specs.TreeLayout.{label_layout, spaced, step_spelling};
 ghost use Rattle.go_print.specs.Parts.{text_if};
 ghost use Rattle.go_tree.specs.View.{name_at_of};
 ghost use Rattle.std.specs.Option.{option_map};
 
-use crate::spellings::binary_spelling;
 use go_tree::{BinOp, NameAt, NoMemory};
+use go_words::binary_spelling;
 
 /// The indent of what stands one tab deeper.
 pub(crate) fn deeper(out: &Vec<u8>, indent: &[u8]) -> Result<Vec<u8>, NoMemory>
@@ -96,4 +96,11 @@ pub(crate) fn write_label(out: &mut Vec<u8>, label: &Option<NameAt>) -> Result<(
             write_name(out, label)
         }
     }
+}
+
+/// The spelling of `++` or `--`.
+pub(crate) fn step_spelling(up: bool) -> &'static [u8]
+    ensures { result.now ≡ step_spelling up }
+{
+    if up { b"++" } else { b"--" }
 }

@@ -9,9 +9,9 @@ use crate::decls::{write_const_decl, write_var_decl};
 use crate::exprs::{write_expr, write_exprs, write_operand};
 use crate::parens::LOWEST;
 use crate::parts::{
-    deeper, write_assign, write_if, write_label, write_line, write_line_if, write_name, write_text,
+    deeper, step_spelling, write_assign, write_if, write_label, write_line, write_line_if,
+    write_name, write_text,
 };
-use crate::spellings::step_spelling;
 use crate::starts::{has_stmts, write_case_word, write_clauses_start, write_gap_before};
 use crate::types::write_names;
 use go_tree::{Arm, ArmList, Block, Case, CaseList, Expr, NoMemory, RangeLeft, Stmt, StmtList};

@@ -2,9 +2,9 @@
 ghost use Rattle.std.specs.Prelude.{◌≡◌, ◌++◌, OnOk, map};
 ghost use Rattle.std.specs.Option.{option_map};
 ghost use Rattle.go_layout.specs.Layouts.{text_of};
-ghost use Rattle.go_layout.specs.TypeLayout.{fields_layout, names_layout, param_list_layout, param_name_layout, params_layout, qualifier_layout, results_layout, sig_layout, type_layout};
+ghost use Rattle.go_layout.specs.TypeLayout.{dots_where, fields_layout, names_layout, param_layout, param_list_layout, param_name_layout, params_layout, qualifier_layout, results_layout, sig_layout, type_layout};
 ghost use Rattle.go_layout.specs.TreeLayout.{spec_type_layout};
-ghost use Rattle.go_print.specs.Parts.{field_layout, param_layout};
+ghost use Rattle.go_print.specs.Parts.{field_layout};
 ghost use Rattle.go_tree.specs.View.{field_of, fields_of, name_at_of, param_of, sig_of, type_of};
 
 use crate::parts::{write_if, write_name, write_text};
@@ -100,7 +100,7 @@ pub(crate) fn write_spec_type(out: &mut Vec<u8>, t: &Option<TypeExpr>) -> Result
     }
 }
 
-fn write_param_name(out: &mut Vec<u8>, name: &Option<NameAt>) -> Result<(), NoMemory>
+pub(crate) fn write_param_name(out: &mut Vec<u8>, name: &Option<NameAt>) -> Result<(), NoMemory>
     ensures { OnOk result (out.new.items ≡ out.old.items ++ text_of (param_name_layout (option_map name_at_of name.now))) }
 {
     match name {
@@ -112,10 +112,18 @@ fn write_param_name(out: &mut Vec<u8>, name: &Option<NameAt>) -> Result<(), NoMe
     }
 }
 
+/// The dots before the type of a variadic parameter.
+fn write_dots(out: &mut Vec<u8>, rest: bool) -> Result<(), NoMemory>
+    ensures { OnOk result (out.new.items ≡ out.old.items ++ text_of (dots_where rest)) }
+{
+    write_if(out, rest, b"...")
+}
+
 fn write_param(out: &mut Vec<u8>, param: &Param) -> Result<(), NoMemory>
     ensures { OnOk result (out.new.items ≡ out.old.items ++ text_of (param_layout (param_of param.now))) }
 {
     write_param_name(out, &param.name)?;
+    write_dots(out, param.rest)?;
     write_type(out, &param.of)
 }
 

@@ -7,7 +7,7 @@ use Rattle.std.proofs.lemmas.List.{map_push}
 use Rattle.go_tree.specs.declared.types.FieldSpec.{FieldSpec}
 use Rattle.go_tree.specs.View.{field_of, name_at_of, type_of}
 use Rattle.go_tree.specs.Lists.{fields_from}
-use Rattle.go_read.specs.SpellsTerminals.{lex, word, comma, semicolon, end_brace}
+use Rattle.go_words.specs.Terminals.{lex, ident, comma, semicolon, end_brace}
 use Rattle.go_read.specs.SpellsSpans.{span_to}
 use Rattle.go_read.specs.SpellsTypes.{Lexemes, fields_of}
 use Rattle.go_read.specs.Goals.{read_type, read_entries, read_fields}
@@ -15,8 +15,8 @@ use Rattle.go_read.specs.Programs.{run}
 use Rattle.go_read.specs.ReadTypes.{entries_step, fields_step, fields_after}
 use Rattle.go_read.specs.Reading.{at}
 use Rattle.go_read.proofs.Finds.{gives, asks, finish}
-use Rattle.go_productions.specs.declared.terminals.Terminal.{Terminal}
-use Rattle.go_productions.specs.declared.terminals.Terminal.TheVariants as code
+use Rattle.go_words.specs.declared.terminals.Terminal.{Terminal}
+use Rattle.go_words.specs.declared.terminals.Terminal.TheVariants as code
 use Rattle.go_productions.specs.Terminals.{first_of, rest_of, name_of}
 use Rattle.go_productions.specs.Parts.{onto, in_front, field_and, skipped, shared, shared_read, shared_onto}
 use Rattle.go_productions.proofs.Fronts.{onto_append, then_some, then_none}
@@ -26,23 +26,23 @@ use Rattle.go_productions.proofs.Steps.{fails, lacks}
 
 entries_lost : (ts : Lexemes) → skipped ts ≡ None → at span_to read_entries ts ≡ None
 unfolding entries_step
-entries_lost (lex s (word n) ∷ lex c comma ∷ ts) h = finish span_to read_entries (lex s (word n) ∷ lex c comma ∷ ts) (lacks (entries_lost ts h))
-entries_lost (lex s (word n) ∷ ts) h = absurd cc
+entries_lost (lex s (ident n) ∷ lex c comma ∷ ts) h = finish span_to read_entries (lex s (ident n) ∷ lex c comma ∷ ts) (lacks (entries_lost ts h))
+entries_lost (lex s (ident n) ∷ ts) h = absurd cc
 entries_lost ts h = finish span_to read_entries ts fails
 
 entries_untyped : (ts us : Lexemes) → skipped ts ≡ Some us → at span_to read_type us ≡ None → at span_to read_entries ts ≡ None
 unfolding entries_step
-entries_untyped (lex s (word n) ∷ lex c comma ∷ ts) us h e = finish span_to read_entries (lex s (word n) ∷ lex c comma ∷ ts) (lacks (entries_untyped ts us h e))
-entries_untyped (lex s (word n) ∷ ts) us h e = finish span_to read_entries (lex s (word n) ∷ ts) (lacks (ap (at span_to read_type) (let z : ts ≡ us = cc in z) ∙ e))
+entries_untyped (lex s (ident n) ∷ lex c comma ∷ ts) us h e = finish span_to read_entries (lex s (ident n) ∷ lex c comma ∷ ts) (lacks (entries_untyped ts us h e))
+entries_untyped (lex s (ident n) ∷ ts) us h e = finish span_to read_entries (lex s (ident n) ∷ ts) (lacks (ap (at span_to read_type) (let z : ts ≡ us = cc in z) ∙ e))
 entries_untyped _ us h e = absurd cc
 
 entries_typed : (ts us r : Lexemes) (t : TypeExpr Span) → skipped ts ≡ Some us → at span_to read_type us ≡ Some (t, r) → (es : List (Span × NameAt Span)) × (at span_to read_entries ts ≡ Some ((t, es), r))
 unfolding entries_step
-entries_typed (lex s (word n) ∷ lex c comma ∷ ts) us r t h e =
+entries_typed (lex s (ident n) ∷ lex c comma ∷ ts) us r t h e =
     let q = entries_typed ts us r t h e in
-    ((span_to (lex s (word n) ∷ lex c comma ∷ ts) r, name_of (lex s (word n) ∷ lex c comma ∷ ts)) ∷ q.0, finish span_to read_entries (lex s (word n) ∷ lex c comma ∷ ts) (asks span_to q.1 (gives span_to)))
-entries_typed (lex s (word n) ∷ ts) us r t h e =
-    ((span_to (lex s (word n) ∷ ts) r, name_of (lex s (word n) ∷ ts)) ∷ [], finish span_to read_entries (lex s (word n) ∷ ts) (asks span_to (ap (at span_to read_type) (let z : ts ≡ us = cc in z) ∙ e) (gives span_to)))
+    ((span_to (lex s (ident n) ∷ lex c comma ∷ ts) r, name_of (lex s (ident n) ∷ lex c comma ∷ ts)) ∷ q.0, finish span_to read_entries (lex s (ident n) ∷ lex c comma ∷ ts) (asks span_to q.1 (gives span_to)))
+entries_typed (lex s (ident n) ∷ ts) us r t h e =
+    ((span_to (lex s (ident n) ∷ ts) r, name_of (lex s (ident n) ∷ ts)) ∷ [], finish span_to read_entries (lex s (ident n) ∷ ts) (asks span_to (ap (at span_to read_type) (let z : ts ≡ us = cc in z) ∙ e) (gives span_to)))
 entries_typed _ us r t h e = absurd cc
 
 pub shared_lost : (front : List (Span × NameAt Span × TypeExpr Span)) (ts : Lexemes) → skipped ts ≡ None → shared_onto front ts ≡ None
@@ -54,9 +54,9 @@ shared_untyped front ts us h e = ap (option_and_then (λ x. Some (shared_read fr
 pub shared_last : (front : List (Span × NameAt Span × TypeExpr Span)) (ts us r vs : Lexemes) (t : TypeExpr Span) (k : Terminal) → skipped ts ≡ Some us → at span_to read_type us ≡ Some (t, r) → vs ≡ rest_of ts → first_of vs ≡ k → k ≢ code.Comma
     → shared_onto front ts ≡ Some (front ++ (span_to ts r, name_of ts, t) ∷ [], r)
 unfolding entries_step
-shared_last front (lex s (word w) ∷ lex c comma ∷ ts) us r vs t k h e v f n = absurd (n (sym f ∙ ap first_of v))
-shared_last front (lex s (word w) ∷ ts) us r vs t k h e v f n =
-    ap (option_and_then (λ x. Some (shared_read front x))) (finish span_to read_entries (lex s (word w) ∷ ts) (asks span_to (ap (at span_to read_type) (let z : ts ≡ us = cc in z) ∙ e) (gives span_to)))
+shared_last front (lex s (ident w) ∷ lex c comma ∷ ts) us r vs t k h e v f n = absurd (n (sym f ∙ ap first_of v))
+shared_last front (lex s (ident w) ∷ ts) us r vs t k h e v f n =
+    ap (option_and_then (λ x. Some (shared_read front x))) (finish span_to read_entries (lex s (ident w) ∷ ts) (asks span_to (ap (at span_to read_type) (let z : ts ≡ us = cc in z) ∙ e) (gives span_to)))
 shared_last front _ us r vs t k h e v f n = absurd cc
 
 append_one : (front : List (Span × NameAt Span × TypeExpr Span)) (x : Span × NameAt Span × TypeExpr Span) (ys : List (Span × NameAt Span × TypeExpr Span)) → (front ++ x ∷ []) ++ ys ≡ front ++ x ∷ ys
@@ -66,16 +66,16 @@ append_one (y ∷ front) x ys = ap (λ (zs : List (Span × NameAt Span × TypeEx
 pub shared_more : (front : List (Span × NameAt Span × TypeExpr Span)) (ts us r vs ws : Lexemes) (t : TypeExpr Span) → skipped ts ≡ Some us → at span_to read_type us ≡ Some (t, r) → vs ≡ rest_of ts → first_of vs ≡ code.Comma → ws ≡ rest_of vs
     → (shared_onto (front ++ (span_to ts r, name_of ts, t) ∷ []) ws ≡ shared_onto front ts) × (skipped ws ≡ Some us)
 unfolding entries_step
-shared_more front (lex s (word n) ∷ lex c comma ∷ ts) us r vs ws t h e v f w =
+shared_more front (lex s (ident n) ∷ lex c comma ∷ ts) us r vs ws t h e v f w =
     let q = entries_typed ts us r t h e in
     let p : ws ≡ ts = w ∙ ap rest_of v in
-    let x : Span × NameAt Span × TypeExpr Span = (span_to (lex s (word n) ∷ lex c comma ∷ ts) r, name_of (lex s (word n) ∷ lex c comma ∷ ts), t) in (
+    let x : Span × NameAt Span × TypeExpr Span = (span_to (lex s (ident n) ∷ lex c comma ∷ ts) r, name_of (lex s (ident n) ∷ lex c comma ∷ ts), t) in (
       ap (shared_onto (front ++ x ∷ [])) p ∙ ap (option_and_then (λ y. Some (shared_read (front ++ x ∷ []) y))) q.1
           ∙ ap (λ (zs : List (Span × NameAt Span × TypeExpr Span)). Some (zs, r)) (append_one front x (shared t q.0))
-          ∙ sym (ap (option_and_then (λ y. Some (shared_read front y))) (finish span_to read_entries (lex s (word n) ∷ lex c comma ∷ ts) (asks span_to q.1 (gives span_to)))),
+          ∙ sym (ap (option_and_then (λ y. Some (shared_read front y))) (finish span_to read_entries (lex s (ident n) ∷ lex c comma ∷ ts) (asks span_to q.1 (gives span_to)))),
       ap skipped p ∙ h,
     )
-shared_more front (lex s (word n) ∷ ts) us r vs ws t h e v f w = let z = sym f ∙ ap first_of v in absurd cc
+shared_more front (lex s (ident n) ∷ ts) us r vs ws t h e v f w = let z = sym f ∙ ap first_of v in absurd cc
 shared_more front _ us r vs ws t h e v f w = absurd cc
 
 -- ---- fields

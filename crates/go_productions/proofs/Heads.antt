@@ -3,33 +3,34 @@ use Rattle.std.proofs.Common.{◌≡◌, ℕ, zero, suc, false, if◌then◌else
 use Rattle.go_tree.specs.declared.tokens.Token.{Token}
 use Rattle.go_tree.specs.declared.tokens.TokenKind.{TokenKind}
 use Rattle.go_tree.specs.declared.tokens.TokenKind.TheVariants.{Ident, Keyword, Operator, Integer, Float, Imaginary, Rune, Str, Inserted}
-use Rattle.go_read.specs.SpellsTerminals as pure
-use Rattle.go_read.specs.SpellsTerminals.{Lexeme, lexeme_of, lexemes, terminal_of, found_in, keywords}
+use Rattle.go_words.specs.Terminals as pure
+use Rattle.go_words.specs.Terminals.{Lexeme, lexeme_of, lexemes, terminal_of, found_in, keywords, operators}
 use Rattle.go_read.specs.SpellsSpans.{end_after, span_to, start_of}
 use Rattle.go_read.specs.SpellsTypes.{Lexemes}
-use Rattle.go_productions.specs.declared.terminals.Terminal.{Terminal}
-use Rattle.go_productions.specs.declared.terminals.Terminal.TheVariants as code
-use Rattle.go_productions.specs.Terminals.{spelled, code_of, operators, terminal_here, first_of, letters_of, spelling_of, has_letters}
+use Rattle.go_words.specs.declared.terminals.Terminal.{Terminal}
+use Rattle.go_words.specs.declared.terminals.Terminal.TheVariants as code
+use Rattle.go_words.specs.Codes.{spelled, code_of}
+use Rattle.go_productions.specs.Terminals.{first_of, letters_of, spelling_of, has_letters}
 
 split : (b c : Bool) → (if b then false else c) ≡ true → (b ≡ false) × (c ≡ true)
 split true c e = absurd cc
 split false c e = (refl, e)
 
 pub code_spelled : (k : Terminal) (w : List ℕ) → code_of (spelled k w) ≡ k
-code_spelled code.Word w = refl
-code_spelled code.Number w = refl
-code_spelled code.Rune w = refl
-code_spelled code.Text w = refl
-code_spelled (code.Sign op) w = refl
-code_spelled code.Bang w = refl
-code_spelled (code.Becomes op) w = refl
+code_spelled code.Ident w = refl
+code_spelled code.IntLit w = refl
+code_spelled code.RuneLit w = refl
+code_spelled code.StrLit w = refl
+code_spelled (code.Binary op) w = refl
+code_spelled code.Not w = refl
+code_spelled (code.Assign op) w = refl
 code_spelled _ w = refl
 
 pub is_head : (ts : List Token) (t : Token) → true ≡ ltb 0 (length ts) → t ≡ get_or ts 0 t → (r : List Token) × (ts ≡ t ∷ r)
 is_head [] t p e = absurd cc
 is_head (x ∷ r) t p e = (r, ap (λ (y : Token). y ∷ r) (sym e))
 
-pub first_is : (ts : List Token) (t : Token) (k : Terminal) → true ≡ ltb 0 (length ts) → t ≡ get_or ts 0 t → spelled k t.spelling ≡ terminal_here t → first_of (lexemes ts) ≡ k
+pub first_is : (ts : List Token) (t : Token) (k : Terminal) → true ≡ ltb 0 (length ts) → t ≡ get_or ts 0 t → spelled k t.spelling ≡ terminal_of t.kind t.spelling → first_of (lexemes ts) ≡ k
 first_is ts t k p e h =
     let q = is_head ts t p e in
     ap (λ (us : List Token). first_of (lexemes us)) q.1 ∙ ap code_of (sym h) ∙ code_spelled k t.spelling
@@ -93,5 +94,5 @@ letters_of_kind Inserted w h = absurd cc
 pub letters_are : (ts : List Token) (t : Token) → true ≡ ltb 0 (length ts) → t ≡ get_or ts 0 t → has_letters (first_of (lexemes ts)) ≡ true → t.spelling ≡ spelling_of (lexemes ts)
 letters_are ts t p e h =
     let q = is_head ts t p e in
-    let k : has_letters (code_of (terminal_here t)) ≡ true = ap (λ (us : List Token). has_letters (first_of (lexemes us))) (sym q.1) ∙ h in
+    let k : has_letters (code_of (terminal_of t.kind t.spelling)) ≡ true = ap (λ (us : List Token). has_letters (first_of (lexemes us))) (sym q.1) ∙ h in
     letters_of_kind t.kind t.spelling k ∙ ap (λ (us : List Token). spelling_of (lexemes us)) (sym q.1)

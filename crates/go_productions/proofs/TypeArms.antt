@@ -4,62 +4,62 @@ use Rattle.go_tree.specs.declared.spans.Span.{Span}
 use Rattle.go_tree.specs.declared.operators.BinOp.{BinOp}
 use Rattle.go_tree.specs.declared.operators.BinOp.TheVariants.{Mul}
 use Rattle.go_tree.specs.Tree.{TypeExpr, Fields, named, pointer, slice_type, map_type, struct_type}
-use Rattle.go_read.specs.SpellsTerminals.{lex, word, sign, dot, paren, bracket, end_bracket, brace, key_map, key_struct}
+use Rattle.go_words.specs.Terminals.{lex, ident, binary_op, dot, paren, bracket, end_bracket, brace, key_map, key_struct}
 use Rattle.go_read.specs.SpellsSpans.{span_to}
 use Rattle.go_read.specs.SpellsTypes.{Lexemes}
 use Rattle.go_read.specs.Goals.{read_type, read_fields}
 use Rattle.go_read.specs.ReadTypes.{type_step}
 use Rattle.go_read.specs.Reading.{at}
 use Rattle.go_read.proofs.Finds.{gives, asks, finish}
-use Rattle.go_productions.specs.declared.terminals.Terminal.{Terminal}
-use Rattle.go_productions.specs.declared.terminals.Terminal.TheVariants as code
+use Rattle.go_words.specs.declared.terminals.Terminal.{Terminal}
+use Rattle.go_words.specs.declared.terminals.Terminal.TheVariants as code
 use Rattle.go_productions.specs.Terminals.{first_of, rest_of, name_of}
 use Rattle.go_productions.specs.Parts.{is_qualified}
 use Rattle.go_productions.proofs.Steps.{fails, lacks, no_end_bracket, on_end_bracket, no_end_brace, on_end_brace, no_end_paren, on_end_paren}
 
-pub type_none : (ts : Lexemes) (k : Terminal) → first_of ts ≡ k → k ≢ code.Word → ((op : BinOp) → k ≢ code.Sign op) → k ≢ code.Bracket → k ≢ code.Map → k ≢ code.Struct → k ≢ code.Paren → at span_to read_type ts ≡ None
+pub type_none : (ts : Lexemes) (k : Terminal) → first_of ts ≡ k → k ≢ code.Ident → ((op : BinOp) → k ≢ code.Binary op) → k ≢ code.Bracket → k ≢ code.Map → k ≢ code.Struct → k ≢ code.Paren → at span_to read_type ts ≡ None
 unfolding type_step
-type_none (lex s (word n) ∷ ts) k h a b c d e f = absurd (a (sym h))
-type_none (lex s (sign op) ∷ ts) k h a b c d e f = absurd (b op (sym h))
+type_none (lex s (ident n) ∷ ts) k h a b c d e f = absurd (a (sym h))
+type_none (lex s (binary_op op) ∷ ts) k h a b c d e f = absurd (b op (sym h))
 type_none (lex s bracket ∷ ts) k h a b c d e f = absurd (c (sym h))
 type_none (lex s key_map ∷ ts) k h a b c d e f = absurd (d (sym h))
 type_none (lex s key_struct ∷ ts) k h a b c d e f = absurd (e (sym h))
 type_none (lex s paren ∷ ts) k h a b c d e f = absurd (f (sym h))
 type_none ts k h a b c d e f = finish span_to read_type ts (fails)
 
-pub named_some : (ts us : Lexemes) → first_of ts ≡ code.Word → is_qualified ts ≡ false → us ≡ rest_of ts → at span_to read_type ts ≡ Some (named (span_to ts us) None (name_of ts), us)
+pub named_some : (ts us : Lexemes) → first_of ts ≡ code.Ident → is_qualified ts ≡ false → us ≡ rest_of ts → at span_to read_type ts ≡ Some (named (span_to ts us) None (name_of ts), us)
 unfolding type_step
-named_some (lex s (word p) ∷ lex d dot ∷ lex s2 (word n) ∷ ts) us h q u = absurd cc
-named_some (lex s (word p) ∷ ts) us h q u = finish span_to read_type (lex s (word p) ∷ ts) (gives span_to) ∙ ap (λ (vs : Lexemes). Some (named (span_to (lex s (word p) ∷ ts) vs) None (name_of (lex s (word p) ∷ ts)), vs)) (sym u)
+named_some (lex s (ident p) ∷ lex d dot ∷ lex s2 (ident n) ∷ ts) us h q u = absurd cc
+named_some (lex s (ident p) ∷ ts) us h q u = finish span_to read_type (lex s (ident p) ∷ ts) (gives span_to) ∙ ap (λ (vs : Lexemes). Some (named (span_to (lex s (ident p) ∷ ts) vs) None (name_of (lex s (ident p) ∷ ts)), vs)) (sym u)
 named_some _ us h q u = absurd cc
 
 pub qualified_some : (ts us vs : Lexemes) → is_qualified ts ≡ true → us ≡ rest_of (rest_of ts) → vs ≡ rest_of us → at span_to read_type ts ≡ Some (named (span_to ts vs) (Some (name_of ts)) (name_of us), vs)
 unfolding type_step
-qualified_some (lex s (word p) ∷ lex d dot ∷ lex s2 (word n) ∷ ts) us vs q u v =
-    finish span_to read_type (lex s (word p) ∷ lex d dot ∷ lex s2 (word n) ∷ ts) (gives span_to)
-    ∙ ap (λ (ws : Lexemes). Some (named (span_to (lex s (word p) ∷ lex d dot ∷ lex s2 (word n) ∷ ts) (rest_of ws)) (Some (name_of (lex s (word p) ∷ lex d dot ∷ lex s2 (word n) ∷ ts))) (name_of ws), rest_of ws)) (sym u)
-    ∙ ap (λ (ws : Lexemes). Some (named (span_to (lex s (word p) ∷ lex d dot ∷ lex s2 (word n) ∷ ts) ws) (Some (name_of (lex s (word p) ∷ lex d dot ∷ lex s2 (word n) ∷ ts))) (name_of us), ws)) (sym v)
+qualified_some (lex s (ident p) ∷ lex d dot ∷ lex s2 (ident n) ∷ ts) us vs q u v =
+    finish span_to read_type (lex s (ident p) ∷ lex d dot ∷ lex s2 (ident n) ∷ ts) (gives span_to)
+    ∙ ap (λ (ws : Lexemes). Some (named (span_to (lex s (ident p) ∷ lex d dot ∷ lex s2 (ident n) ∷ ts) (rest_of ws)) (Some (name_of (lex s (ident p) ∷ lex d dot ∷ lex s2 (ident n) ∷ ts))) (name_of ws), rest_of ws)) (sym u)
+    ∙ ap (λ (ws : Lexemes). Some (named (span_to (lex s (ident p) ∷ lex d dot ∷ lex s2 (ident n) ∷ ts) ws) (Some (name_of (lex s (ident p) ∷ lex d dot ∷ lex s2 (ident n) ∷ ts))) (name_of us), ws)) (sym v)
 qualified_some _ us vs q u v = absurd cc
 
 -- the name after the dot
-pub qualified_word : (ts vs us : Lexemes) → is_qualified ts ≡ true → vs ≡ rest_of ts → us ≡ rest_of vs → first_of us ≡ code.Word
-qualified_word (lex s (word p) ∷ lex d dot ∷ lex s2 (word n) ∷ ts) vs us q v u = ap first_of (u ∙ ap rest_of v)
+pub qualified_word : (ts vs us : Lexemes) → is_qualified ts ≡ true → vs ≡ rest_of ts → us ≡ rest_of vs → first_of us ≡ code.Ident
+qualified_word (lex s (ident p) ∷ lex d dot ∷ lex s2 (ident n) ∷ ts) vs us q v u = ap first_of (u ∙ ap rest_of v)
 qualified_word _ vs us q v u = absurd cc
 
-pub pointer_other : (ts : Lexemes) (op : BinOp) → first_of ts ≡ code.Sign op → op ≢ Mul → at span_to read_type ts ≡ None
+pub pointer_other : (ts : Lexemes) (op : BinOp) → first_of ts ≡ code.Binary op → op ≢ Mul → at span_to read_type ts ≡ None
 unfolding type_step
-pointer_other (lex s (sign Mul) ∷ ts) op h n = absurd (n cc)
-pointer_other (lex s (sign o) ∷ ts) op h n = finish span_to read_type (lex s (sign o) ∷ ts) fails
+pointer_other (lex s (binary_op Mul) ∷ ts) op h n = absurd (n cc)
+pointer_other (lex s (binary_op o) ∷ ts) op h n = finish span_to read_type (lex s (binary_op o) ∷ ts) fails
 pointer_other _ op h n = absurd cc
 
-pub pointer_some : (ts us r : Lexemes) (t : TypeExpr Span) → first_of ts ≡ code.Sign Mul → us ≡ rest_of ts → at span_to read_type us ≡ Some (t, r) → at span_to read_type ts ≡ Some (pointer (span_to ts r) t, r)
+pub pointer_some : (ts us r : Lexemes) (t : TypeExpr Span) → first_of ts ≡ code.Binary Mul → us ≡ rest_of ts → at span_to read_type us ≡ Some (t, r) → at span_to read_type ts ≡ Some (pointer (span_to ts r) t, r)
 unfolding type_step
-pointer_some (lex s (sign Mul) ∷ ts) us r t h u e = finish span_to read_type (lex s (sign Mul) ∷ ts) (asks span_to (ap (at span_to read_type) (sym u) ∙ e) (gives span_to))
+pointer_some (lex s (binary_op Mul) ∷ ts) us r t h u e = finish span_to read_type (lex s (binary_op Mul) ∷ ts) (asks span_to (ap (at span_to read_type) (sym u) ∙ e) (gives span_to))
 pointer_some _ us r t h u e = absurd cc
 
-pub pointer_none : (ts us : Lexemes) → first_of ts ≡ code.Sign Mul → us ≡ rest_of ts → at span_to read_type us ≡ None → at span_to read_type ts ≡ None
+pub pointer_none : (ts us : Lexemes) → first_of ts ≡ code.Binary Mul → us ≡ rest_of ts → at span_to read_type us ≡ None → at span_to read_type ts ≡ None
 unfolding type_step
-pointer_none (lex s (sign Mul) ∷ ts) us h u e = finish span_to read_type (lex s (sign Mul) ∷ ts) (lacks (ap (at span_to read_type) (sym u) ∙ e))
+pointer_none (lex s (binary_op Mul) ∷ ts) us h u e = finish span_to read_type (lex s (binary_op Mul) ∷ ts) (lacks (ap (at span_to read_type) (sym u) ∙ e))
 pointer_none _ us h u e = absurd cc
 
 pub slice_open : (ts us : Lexemes) (k : Terminal) → first_of ts ≡ code.Bracket → us ≡ rest_of ts → first_of us ≡ k → k ≢ code.EndBracket → at span_to read_type ts ≡ None

@@ -3,14 +3,14 @@ use Rattle.std.specs.Prelude.{Bool, true, false, List, [], ◌∷◌, ◌++◌, 
 use Rattle.go_tree.specs.declared.spans.Span.{Span}
 use Rattle.go_tree.specs.declared.operators.BinOp.TheVariants.{Mul}
 use Rattle.go_tree.specs.Tree.{NameAt, TypeExpr, Fields, field, Param, Stmt, const_decl, var_decl}
-use Rattle.go_read.specs.SpellsTerminals.{lex, word, comma, dot, paren, brace}
+use Rattle.go_words.specs.Terminals.{lex, ident, comma, dot, ellipsis, paren, brace}
 use Rattle.go_read.specs.SpellsSpans.{span_to}
 use Rattle.go_read.specs.SpellsTypes.{Lexemes, unnamed}
 use Rattle.go_read.specs.Goals.{read_type, read_entries, read_named, read_unnamed, read_params, read_decl}
 use Rattle.go_read.specs.Reading.{at}
-use Rattle.go_productions.specs.declared.terminals.Terminal.{Terminal}
-use Rattle.go_productions.specs.declared.terminals.Terminal.TheVariants as code
-use Rattle.go_productions.specs.Terminals.{first_of, rest_of}
+use Rattle.go_words.specs.declared.terminals.Terminal.{Terminal}
+use Rattle.go_words.specs.declared.terminals.Terminal.TheVariants as code
+use Rattle.go_productions.specs.Terminals.{first_of, rest_of, name_of}
 
 -- ---- lists
 
@@ -31,21 +31,22 @@ field_and x fs = field x.0 x.1 x.2 fs
 
 -- the tokens after the names that stand first
 abbrev pub skipped : Lexemes → Option Lexemes
-skipped (lex s (word n) ∷ lex c comma ∷ ts) = skipped ts
-skipped (lex s (word n) ∷ ts) = Some ts
+skipped (lex s (ident n) ∷ lex c comma ∷ ts) = skipped ts
+skipped (lex s (ident n) ∷ ts) = Some ts
 skipped _ = None
 
 -- a name, a dot and a name
 abbrev pub is_qualified : Lexemes → Bool
-is_qualified (lex s (word p) ∷ lex d dot ∷ lex s2 (word n) ∷ ts) = true
+is_qualified (lex s (ident p) ∷ lex d dot ∷ lex s2 (ident n) ∷ ts) = true
 is_qualified _ = false
 
 -- ---- parameters
 
--- a terminal that a type begins with
+-- a terminal that a parameter's type begins with, or the dots before that of a variadic one
 abbrev pub begins_type : Terminal → Bool
-begins_type code.Word = true
-begins_type (code.Sign Mul) = true
+begins_type code.Ellipsis = true
+begins_type code.Ident = true
+begins_type (code.Binary Mul) = true
 begins_type code.Bracket = true
 begins_type code.Map = true
 begins_type code.Struct = true
@@ -65,17 +66,38 @@ abbrev pub shared_onto : List (Span × NameAt Span × TypeExpr Span) → Lexemes
 shared_onto front ts = option_and_then (λ x. Some (shared_read front x)) (at span_to read_entries ts)
 
 abbrev pub param_from : Span × NameAt Span × TypeExpr Span → Param Span
-param_from x = record { span = x.0; name = Some x.1; of = x.2 }
+param_from x = record { span = x.0; name = Some x.1; rest = false; of = x.2 }
 
--- parameters that share a type, or one without a name, after these
-abbrev pub group_onto : Bool → List (Param Span) → Lexemes → Option (List (Param Span) × Lexemes)
-group_onto true front ts = option_and_then (λ x. Some (front ++ map param_from (shared x.0.0 x.0.1), x.1)) (at span_to read_entries ts)
-group_onto false front ts = option_and_then (λ x. Some (front ++ unnamed x.0 ∷ [], x.1)) (at span_to read_type ts)
+-- whether a variadic parameter stands first, where one may: its name, if parameters have names, and three dots
+abbrev pub rest_here : Bool → Bool → Lexemes → Bool
+rest_here true true (lex s (ident n) ∷ lex d ellipsis ∷ ts) = true
+rest_here true false (lex d ellipsis ∷ ts) = true
+rest_here _ _ _ = false
 
--- parameters with names or without, up to the closing parenthesis
-abbrev pub params_at : Bool → Lexemes → Option (List (Param Span) × Lexemes)
-params_at true ts = at span_to read_named ts
-params_at false ts = at span_to read_unnamed ts
+abbrev pub rest_from : Span → Option (NameAt Span) → TypeExpr Span → Param Span
+rest_from s n t = record { span = s; name = n; rest = true; of = t }
+
+-- a variadic parameter that begins at `whole`, from its type on, after these
+abbrev pub rest_onto : List (Param Span) → Lexemes → Option (NameAt Span) → Lexemes → Option (List (Param Span) × Lexemes)
+rest_onto front whole n ts = option_and_then (λ x. Some (front ++ rest_from (span_to whole x.1) n x.0 ∷ [], x.1)) (at span_to read_type ts)
+
+-- a variadic parameter, after these
+abbrev pub rest_group : List (Param Span) → Lexemes → Option (List (Param Span) × Lexemes)
+rest_group front (lex s (ident n) ∷ lex d ellipsis ∷ ts) =
+    rest_onto front (lex s (ident n) ∷ lex d ellipsis ∷ ts) (Some (name_of (lex s (ident n) ∷ lex d ellipsis ∷ ts))) ts
+rest_group front (lex d ellipsis ∷ ts) = rest_onto front (lex d ellipsis ∷ ts) None ts
+rest_group front _ = None
+
+-- parameters that share a type, or one without a name, or a variadic one, after these
+abbrev pub group_onto : Bool → Bool → List (Param Span) → Lexemes → Option (List (Param Span) × Lexemes)
+group_onto true named front ts = rest_group front ts
+group_onto false true front ts = option_and_then (λ x. Some (front ++ map param_from (shared x.0.0 x.0.1), x.1)) (at span_to read_entries ts)
+group_onto false false front ts = option_and_then (λ x. Some (front ++ unnamed x.0 ∷ [], x.1)) (at span_to read_type ts)
+
+-- parameters with names or without, the last of which may be variadic or not, up to the closing parenthesis
+abbrev pub params_at : Bool → Bool → Lexemes → Option (List (Param Span) × Lexemes)
+params_at variadic true ts = at span_to (read_named variadic) ts
+params_at variadic false ts = at span_to (read_unnamed variadic) ts
 
 -- whether the parameters that stand here have names: a type begins after those that stand first
 abbrev pub begins_after : Option Lexemes → Bool
@@ -87,7 +109,7 @@ has_names ts = begins_after (skipped ts)
 
 -- the results of a function, before a block
 abbrev pub results_at : Lexemes → Option (List (Param Span) × Lexemes)
-results_at (lex s paren ∷ ts) = at span_to read_params (lex s paren ∷ ts)
+results_at (lex s paren ∷ ts) = at span_to (read_params false) (lex s paren ∷ ts)
 results_at (lex s brace ∷ ts) = Some ([], lex s brace ∷ ts)
 results_at ts = option_and_then (λ x. Some (unnamed x.0 ∷ [], x.1)) (at span_to read_type ts)
 

@@ -2,21 +2,18 @@
 #![tactic(auto)]
 
 mod name_lists;
+mod room;
 mod signatures;
-mod terminals;
 mod tokens;
 mod types;
 
 use go_tree::{NoMemory, Token};
 pub use name_lists::{names, qualifies, skip_names};
+pub use room::Room;
 pub use signatures::signature;
-pub use terminals::{Terminal, terminal_of};
 pub use tokens::{first, name, rest, span_between, spelling};
 pub use types::type_expr;
 
 /// What a production reads: its tree and the tokens after it, or nothing where the tokens don't
 /// begin with it.
 pub type Reading<'a, T> = Result<Option<(T, &'a [Token])>, NoMemory>;
-
-#[cfg(test)]
-mod tests;

@@ -1,33 +1,35 @@
 //! Parameters and signatures (Go specification, Function types).
 
 ghost use Rattle.std.specs.Prelude.{◌≡◌, map};
-ghost use Rattle.go_tree.specs.View.{field_of, param_of, sig_of, type_of};
-ghost use Rattle.go_read.specs.SpellsTerminals.{lexemes};
+ghost use Rattle.std.specs.Option.{option_map};
+ghost use Rattle.go_tree.specs.View.{field_of, name_at_of, param_of, sig_of, type_of};
+ghost use Rattle.go_words.specs.Terminals.{lexemes};
 ghost use Rattle.go_read.specs.SpellsSpans.{span_to};
 ghost use Rattle.go_read.specs.SpellsTypes.{type_mark, unnamed};
 ghost use Rattle.go_read.specs.Goals.{read_params, read_sig};
 ghost use Rattle.go_read.specs.Reading.{at};
 ghost use Rattle.go_productions.specs.Answers.{Gives, Shorter, Within};
-ghost use Rattle.go_productions.specs.Parts.{begins_type, group_onto, has_names, param_from, params_at, results_at};
+ghost use Rattle.go_productions.specs.Parts.{begins_type, group_onto, has_names, param_from, params_at, rest_from, rest_group, rest_here, rest_onto, results_at};
 
 use crate::Reading;
 use crate::name_lists::skip_names;
-use crate::terminals::Terminal;
-use crate::tokens::{first, rest};
+use crate::room::Room;
+use crate::tokens::{first, name, rest, span_between};
 use crate::types::{shared_fields, type_expr};
-use go_tree::{BinOp, FieldSpec, NoMemory, Param, ParamList, Sig, Span, Token, TypeExpr};
-use std::alloc::Global;
+use go_tree::{BinOp, FieldSpec, NameAt, NoMemory, Param, ParamList, Sig, Span, Token, TypeExpr};
+use go_words::Terminal;
 
-/// A signature, whose results stand before a block.
+/// A signature, whose results stand before a block. The last parameter of a variadic one may have three dots before
+/// its type.
 #[tactic(auto, using(crate::proofs::SigArms::sig_open, crate::proofs::SigArms::sig_none, crate::proofs::SigArms::sig_some))]
-pub fn signature(alloc: Global, tokens: &[Token]) -> Reading<Sig>
-    ensures gives { Gives (λ x. (sig_of x.0, lexemes x.1.now)) result (at span_to read_sig (lexemes tokens.now)) }
+pub fn signature<'a>(room: &Room, tokens: &'a [Token], variadic: bool) -> Reading<'a, Sig>
+    ensures gives { Gives (λ x. (sig_of x.0, lexemes x.1.now)) result (at span_to (read_sig variadic) (lexemes tokens.now)) }
     ensures shorter { Shorter (λ x. x.1.now) result tokens.now }
 {
-    let Some((params, left)) = params(alloc, tokens)? else {
+    let Some((params, left)) = params(room, tokens, variadic)? else {
         return Ok(None);
     };
-    let Some((results, left)) = results(alloc, left)? else {
+    let Some((results, left)) = results(room, left)? else {
         return Ok(None);
     };
     Ok(Some((Sig { params, results }, left)))
@@ -35,18 +37,18 @@ pub fn signature(alloc: Global, tokens: &[Token]) -> Reading<Sig>
 
 /// The results of a function: parameters, one type, or none before a block.
 #[tactic(auto, using(crate::proofs::SigArms::results_brace, crate::proofs::SigArms::results_paren, crate::proofs::SigArms::results_none, crate::proofs::SigArms::results_some))]
-fn results(alloc: Global, tokens: &[Token]) -> Reading<ParamList>
+fn results<'a>(room: &Room, tokens: &'a [Token]) -> Reading<'a, ParamList>
     ensures gives { Gives (λ x. (map param_of x.0, lexemes x.1.now)) result (results_at (lexemes tokens.now)) }
     ensures within { Within (λ x. x.1.now) result tokens.now }
 {
     match first(tokens) {
-        Terminal::Paren => params(alloc, tokens),
-        Terminal::Brace => Ok(Some((ParamList::of(Vec::new(alloc)), tokens))),
+        Terminal::Paren => params(room, tokens, false),
+        Terminal::Brace => Ok(Some((ParamList::of(Vec::new(room.alloc)), tokens))),
         _ => {
-            let Some((of, left)) = type_expr(alloc, tokens)? else {
+            let Some((of, left)) = type_expr(room, tokens)? else {
                 return Ok(None);
             };
-            let mut results = Vec::new(alloc);
+            let mut results = Vec::new(room.alloc);
             results.push(without_name(of))?;
             Ok(Some((ParamList::of(results), left)))
         }
@@ -55,8 +57,8 @@ fn results(alloc: Global, tokens: &[Token]) -> Reading<ParamList>
 
 /// Parameters in parentheses.
 #[tactic(auto, using(crate::proofs::SigArms::params_open, crate::proofs::SigArms::params_empty, crate::proofs::SigArms::params_listed))]
-fn params(alloc: Global, tokens: &[Token]) -> Reading<ParamList>
-    ensures gives { Gives (λ x. (map param_of x.0, lexemes x.1.now)) result (at span_to read_params (lexemes tokens.now)) }
+fn params<'a>(room: &Room, tokens: &'a [Token], variadic: bool) -> Reading<'a, ParamList>
+    ensures gives { Gives (λ x. (map param_of x.0, lexemes x.1.now)) result (at span_to (read_params variadic) (lexemes tokens.now)) }
     ensures shorter { Shorter (λ x. x.1.now) result tokens.now }
 {
     let Terminal::Paren = first(tokens) else {
@@ -64,9 +66,9 @@ fn params(alloc: Global, tokens: &[Token]) -> Reading<ParamList>
     };
     let inner = rest(tokens);
     if let Terminal::EndParen = first(inner) {
-        return Ok(Some((ParamList::of(Vec::new(alloc)), rest(inner))));
+        return Ok(Some((ParamList::of(Vec::new(room.alloc)), rest(inner))));
     }
-    param_list(alloc, inner, has_names(inner))
+    param_list(room, inner, has_names(inner), variadic)
 }
 
 /// Whether the parameters have names: a type begins after the names that stand first.
@@ -83,26 +85,33 @@ fn begins_type(terminal: Terminal) -> bool
     ensures { begins_type terminal ≡ result }
 {
     match terminal {
-        Terminal::Word
+        Terminal::Ellipsis
+        | Terminal::Ident
         | Terminal::Bracket
         | Terminal::Map
         | Terminal::Struct
         | Terminal::Paren
-        | Terminal::Sign(BinOp::Mul) => true,
+        | Terminal::Binary(BinOp::Mul) => true,
         _ => false,
     }
 }
 
 /// Parameters up to the closing parenthesis, with a comma after the last or without.
-#[tactic(auto, using(crate::proofs::ParamArms::group_lost, crate::proofs::ParamArms::group_last, crate::proofs::ParamArms::group_comma, crate::proofs::ParamArms::group_more, crate::proofs::ParamArms::group_stop))]
-fn param_list(alloc: Global, tokens: &[Token], named: bool) -> Reading<ParamList>
-    ensures gives { Gives (λ x. (map param_of x.0, lexemes x.1.now)) result (params_at named (lexemes tokens.now)) }
+#[tactic(auto, using(crate::proofs::ParamArms::group_lost, crate::proofs::ParamArms::group_last, crate::proofs::ParamArms::group_comma, crate::proofs::ParamArms::group_more, crate::proofs::ParamArms::group_past, crate::proofs::ParamArms::group_stop))]
+fn param_list<'a>(
+    room: &Room,
+    tokens: &'a [Token],
+    named: bool,
+    variadic: bool,
+) -> Reading<'a, ParamList>
+    ensures gives { Gives (λ x. (map param_of x.0, lexemes x.1.now)) result (params_at variadic named (lexemes tokens.now)) }
     ensures shorter { Shorter (λ x. x.1.now) result tokens.now }
 {
-    let mut params = Vec::new(alloc);
+    let mut params = Vec::new(room.alloc);
     let mut left = tokens;
     loop {
-        let Some((more, after)) = param_group(alloc, params, left, named)? else {
+        let ends = begins_rest(left, named, variadic);
+        let Some((more, after)) = param_group(room, params, left, named, ends)? else {
             return Ok(None);
         };
         params = more;
@@ -115,23 +124,52 @@ fn param_list(alloc: Global, tokens: &[Token], named: bool) -> Reading<ParamList
         if let Terminal::EndParen = first(left) {
             return Ok(Some((ParamList::of(params), rest(left))));
         }
+        if ends {
+            return Ok(None);
+        }
     }
 }
 
-/// Parameters that share a type, or one without a name, after these.
+/// Whether a variadic parameter stands first, where one may: its name, if parameters have names, and three dots.
+fn begins_rest(tokens: &[Token], named: bool, variadic: bool) -> bool
+    ensures { rest_here variadic named (lexemes tokens.now) ≡ result }
+{
+    if !variadic {
+        return false;
+    }
+    if named {
+        let Terminal::Ident = first(tokens) else {
+            return false;
+        };
+        let Terminal::Ellipsis = first(rest(tokens)) else {
+            return false;
+        };
+        return true;
+    }
+    let Terminal::Ellipsis = first(tokens) else {
+        return false;
+    };
+    true
+}
+
+/// Parameters that share a type, or one without a name, or a variadic one, after these.
 #[tactic(auto, using(crate::proofs::ParamArms::named_group, crate::proofs::ParamArms::no_named_group, crate::proofs::ParamArms::unnamed_group, crate::proofs::ParamArms::no_unnamed_group))]
-fn param_group(
-    alloc: Global,
+fn param_group<'a>(
+    room: &Room,
     params: Vec<Param>,
-    tokens: &[Token],
+    tokens: &'a [Token],
     named: bool,
-) -> Reading<Vec<Param>>
-    ensures gives { Gives (λ x. (map param_of x.0.items, lexemes x.1.now)) result (group_onto named (map param_of params.items) (lexemes tokens.now)) }
+    variadic: bool,
+) -> Reading<'a, Vec<Param>>
+    ensures gives { Gives (λ x. (map param_of x.0.items, lexemes x.1.now)) result (group_onto variadic named (map param_of params.items) (lexemes tokens.now)) }
     ensures shorter { Shorter (λ x. x.1.now) result tokens.now }
 {
+    if variadic {
+        return rest_group(room, params, tokens);
+    }
     let mut params = params;
     if named {
-        let Some((fields, left)) = shared_fields(alloc, Vec::new(alloc), tokens)? else {
+        let Some((fields, left)) = shared_fields(room, Vec::new(room.alloc), tokens)? else {
             return Ok(None);
         };
         for field in fields {
@@ -139,11 +177,62 @@ fn param_group(
         }
         return Ok(Some((params, left)));
     }
-    let Some((of, left)) = type_expr(alloc, tokens)? else {
+    let Some((of, left)) = type_expr(room, tokens)? else {
         return Ok(None);
     };
     params.push(without_name(of))?;
     Ok(Some((params, left)))
+}
+
+/// A variadic parameter after these.
+#[tactic(auto, using(crate::proofs::ParamArms::rest_dots, crate::proofs::ParamArms::rest_named, crate::proofs::ParamArms::rest_absent, crate::proofs::ParamArms::rest_dotless))]
+fn rest_group<'a>(room: &Room, params: Vec<Param>, tokens: &'a [Token]) -> Reading<'a, Vec<Param>>
+    ensures gives { Gives (λ x. (map param_of x.0.items, lexemes x.1.now)) result (rest_group (map param_of params.items) (lexemes tokens.now)) }
+    ensures shorter { Shorter (λ x. x.1.now) result tokens.now }
+{
+    if let Terminal::Ellipsis = first(tokens) {
+        return rest_param(room, params, tokens, None, rest(tokens));
+    }
+    let Terminal::Ident = first(tokens) else {
+        return Ok(None);
+    };
+    let dots = rest(tokens);
+    let Terminal::Ellipsis = first(dots) else {
+        return Ok(None);
+    };
+    let name = name(room, tokens)?;
+    rest_param(room, params, tokens, Some(name), rest(dots))
+}
+
+/// The variadic parameter that begins at `whole`, from its type on, after these.
+#[tactic(auto, using(crate::proofs::ParamArms::rest_none, crate::proofs::ParamArms::rest_some))]
+fn rest_param<'a>(
+    room: &Room,
+    params: Vec<Param>,
+    whole: &[Token],
+    name: Option<NameAt>,
+    tokens: &'a [Token],
+) -> Reading<'a, Vec<Param>>
+    ensures gives { Gives (λ x. (map param_of x.0.items, lexemes x.1.now)) result (rest_onto (map param_of params.items) (lexemes whole.now) (option_map name_at_of name) (lexemes tokens.now)) }
+    ensures shorter { Shorter (λ x. x.1.now) result tokens.now }
+{
+    let mut params = params;
+    let Some((of, left)) = type_expr(room, tokens)? else {
+        return Ok(None);
+    };
+    params.push(rest_from(span_between(whole, left), name, of))?;
+    Ok(Some((params, left)))
+}
+
+fn rest_from(span: Span, name: Option<NameAt>, of: TypeExpr) -> Param
+    ensures { param_of result ≡ rest_from span (option_map name_at_of name) (type_of of) }
+{
+    Param {
+        span,
+        name,
+        rest: true,
+        of,
+    }
 }
 
 fn with_name(field: FieldSpec) -> Param
@@ -152,6 +241,7 @@ fn with_name(field: FieldSpec) -> Param
     Param {
         span: field.span,
         name: Some(field.name),
+        rest: false,
         of: field.of,
     }
 }
@@ -162,6 +252,7 @@ fn without_name(of: TypeExpr) -> Param
     Param {
         span: type_span(&of),
         name: None,
+        rest: false,
         of,
     }
 }

@@ -2,13 +2,13 @@
 
 ghost use Rattle.std.specs.Prelude.{◌≡◌, ◌+◌, ◌<◌, ◌≤◌, IfOk, true, length};
 ghost use Rattle.go_tree.specs.View.{name_at_of};
-ghost use Rattle.go_read.specs.SpellsTerminals.{lexemes};
+ghost use Rattle.go_words.specs.Terminals.{lexemes};
 ghost use Rattle.go_read.specs.SpellsSpans.{span_to};
 ghost use Rattle.go_productions.specs.Terminals.{first_of, rest_of, taken, name_of, spelling_of, has_letters};
 
-use crate::terminals::{Terminal, terminal_of};
+use crate::room::Room;
 use go_tree::{Name, NameAt, NoMemory, Span, Token};
-use std::alloc::Global;
+use go_words::{Terminal, terminal_of};
 
 /// The terminal that stands first, or `Foreign` where no token is left.
 #[tactic(auto, using(crate::proofs::Heads::first_is))]
@@ -18,7 +18,7 @@ pub fn first(tokens: &[Token]) -> Terminal
 {
     match tokens.first() {
         None => Terminal::Foreign,
-        Some(token) => terminal_of(token),
+        Some(token) => terminal_of(token.kind, token.spelling.items()),
     }
 }
 
@@ -55,12 +55,14 @@ pub fn span_between(tokens: &[Token], rest: &[Token]) -> Span
 }
 
 /// The name that stands first.
-pub fn name(alloc: Global, tokens: &[Token]) -> Result<NameAt, NoMemory>
-    requires { first_of (lexemes tokens.now) ≡ Terminal.Word }
+pub fn name(room: &Room, tokens: &[Token]) -> Result<NameAt, NoMemory>
+    requires { first_of (lexemes tokens.now) ≡ Terminal.Ident }
     ensures { IfOk result (λ n. name_at_of n ≡ name_of (lexemes tokens.now)) }
 {
     let span = span_between(tokens, rest(tokens));
-    let name = Name::copied(alloc, spelling(tokens))?;
+    let spelling = spelling(tokens);
+    room.count(spelling.len())?;
+    let name = Name::copied(room.alloc, spelling)?;
     Ok(NameAt { span, name })
 }
 

@@ -2,7 +2,7 @@
 
 ghost use Rattle.std.specs.Prelude.{◌≡◌, map};
 ghost use Rattle.go_tree.specs.View.{field_of, fields_of, type_of};
-ghost use Rattle.go_read.specs.SpellsTerminals.{lexemes};
+ghost use Rattle.go_words.specs.Terminals.{lexemes};
 ghost use Rattle.go_read.specs.SpellsSpans.{span_to};
 ghost use Rattle.go_read.specs.Goals.{read_fields, read_type};
 ghost use Rattle.go_read.specs.Reading.{at};
@@ -12,40 +12,41 @@ ghost use Rattle.go_productions.specs.Terminals.{first_of};
 
 use crate::Reading;
 use crate::name_lists::{qualifies, skip_names};
-use crate::terminals::Terminal;
+use crate::room::Room;
 use crate::tokens::{first, name, rest, span_between};
 use go_tree::{BinOp, FieldSpec, FieldSpecList, Token, TypeExpr};
-use std::alloc::Global;
+use go_words::Terminal;
 
 /// A type.
 #[cycle(types)]
 #[tactic(auto, using(crate::proofs::TypeArms::type_none))]
-pub fn type_expr(alloc: Global, tokens: &[Token]) -> Reading<TypeExpr>
+pub fn type_expr<'a>(room: &Room, tokens: &'a [Token]) -> Reading<'a, TypeExpr>
     ensures gives { Gives (λ x. (type_of x.0, lexemes x.1.now)) result (at span_to read_type (lexemes tokens.now)) }
     ensures shorter { Shorter (λ x. x.1.now) result tokens.now }
 {
+    room.count(0)?;
     match first(tokens) {
-        Terminal::Word => type_name(alloc, tokens),
-        Terminal::Sign(op) => pointer_type(alloc, tokens, op),
-        Terminal::Bracket => slice_type(alloc, tokens),
-        Terminal::Map => map_type(alloc, tokens),
-        Terminal::Struct => struct_type(alloc, tokens),
-        Terminal::Paren => type_in_parens(alloc, tokens),
+        Terminal::Ident => type_name(room, tokens),
+        Terminal::Binary(op) => pointer_type(room, tokens, op),
+        Terminal::Bracket => slice_type(room, tokens),
+        Terminal::Map => map_type(room, tokens),
+        Terminal::Struct => struct_type(room, tokens),
+        Terminal::Paren => type_in_parens(room, tokens),
         _ => Ok(None),
     }
 }
 
 /// The name of a type, with the package's before it where that stands there.
 #[tactic(auto, using(crate::proofs::TypeArms::named_some, crate::proofs::TypeArms::qualified_some, crate::proofs::TypeArms::qualified_word))]
-fn type_name(alloc: Global, tokens: &[Token]) -> Reading<TypeExpr>
-    requires { first_of (lexemes tokens.now) ≡ Terminal.Word }
+fn type_name<'a>(room: &Room, tokens: &'a [Token]) -> Reading<'a, TypeExpr>
+    requires { first_of (lexemes tokens.now) ≡ Terminal.Ident }
     ensures gives { Gives (λ x. (type_of x.0, lexemes x.1.now)) result (at span_to read_type (lexemes tokens.now)) }
     ensures shorter { Shorter (λ x. x.1.now) result tokens.now }
 {
     let after = rest(tokens);
     if !qualifies(tokens) {
         let span = span_between(tokens, after);
-        let name = name(alloc, tokens)?;
+        let name = name(room, tokens)?;
         return Ok(Some((
             TypeExpr::Named {
                 span,
@@ -55,10 +56,10 @@ fn type_name(alloc: Global, tokens: &[Token]) -> Reading<TypeExpr>
             after,
         )));
     }
-    let package = Some(name(alloc, tokens)?);
+    let package = Some(name(room, tokens)?);
     let left = rest(rest(after));
     let span = span_between(tokens, left);
-    let name = name(alloc, rest(after))?;
+    let name = name(room, rest(after))?;
     Ok(Some((
         TypeExpr::Named {
             span,
@@ -71,25 +72,25 @@ fn type_name(alloc: Global, tokens: &[Token]) -> Reading<TypeExpr>
 
 #[cycle(types)]
 #[tactic(auto, using(crate::proofs::TypeArms::pointer_some, crate::proofs::TypeArms::pointer_none, crate::proofs::TypeArms::pointer_other))]
-fn pointer_type(alloc: Global, tokens: &[Token], op: BinOp) -> Reading<TypeExpr>
-    requires { first_of (lexemes tokens.now) ≡ Terminal.Sign op }
+fn pointer_type<'a>(room: &Room, tokens: &'a [Token], op: BinOp) -> Reading<'a, TypeExpr>
+    requires { first_of (lexemes tokens.now) ≡ Terminal.Binary op }
     ensures gives { Gives (λ x. (type_of x.0, lexemes x.1.now)) result (at span_to read_type (lexemes tokens.now)) }
     ensures shorter { Shorter (λ x. x.1.now) result tokens.now }
 {
     let BinOp::Mul = op else {
         return Ok(None);
     };
-    let Some((to, left)) = type_expr(alloc, rest(tokens))? else {
+    let Some((to, left)) = type_expr(room, rest(tokens))? else {
         return Ok(None);
     };
     let span = span_between(tokens, left);
-    let to = Box::new(alloc, to)?;
+    let to = Box::new(room.alloc, to)?;
     Ok(Some((TypeExpr::Pointer { span, to }, left)))
 }
 
 #[cycle(types)]
 #[tactic(auto, using(crate::proofs::TypeArms::slice_some, crate::proofs::TypeArms::slice_none, crate::proofs::TypeArms::slice_open))]
-fn slice_type(alloc: Global, tokens: &[Token]) -> Reading<TypeExpr>
+fn slice_type<'a>(room: &Room, tokens: &'a [Token]) -> Reading<'a, TypeExpr>
     requires { first_of (lexemes tokens.now) ≡ Terminal.Bracket }
     ensures gives { Gives (λ x. (type_of x.0, lexemes x.1.now)) result (at span_to read_type (lexemes tokens.now)) }
     ensures shorter { Shorter (λ x. x.1.now) result tokens.now }
@@ -98,17 +99,17 @@ fn slice_type(alloc: Global, tokens: &[Token]) -> Reading<TypeExpr>
     let Terminal::EndBracket = first(after) else {
         return Ok(None);
     };
-    let Some((of, left)) = type_expr(alloc, rest(after))? else {
+    let Some((of, left)) = type_expr(room, rest(after))? else {
         return Ok(None);
     };
     let span = span_between(tokens, left);
-    let of = Box::new(alloc, of)?;
+    let of = Box::new(room.alloc, of)?;
     Ok(Some((TypeExpr::Slice { span, of }, left)))
 }
 
 #[cycle(types)]
 #[tactic(auto, using(crate::proofs::TypeArms::map_some, crate::proofs::TypeArms::map_none, crate::proofs::TypeArms::map_open, crate::proofs::TypeArms::map_key, crate::proofs::TypeArms::map_end))]
-fn map_type(alloc: Global, tokens: &[Token]) -> Reading<TypeExpr>
+fn map_type<'a>(room: &Room, tokens: &'a [Token]) -> Reading<'a, TypeExpr>
     requires { first_of (lexemes tokens.now) ≡ Terminal.Map }
     ensures gives { Gives (λ x. (type_of x.0, lexemes x.1.now)) result (at span_to read_type (lexemes tokens.now)) }
     ensures shorter { Shorter (λ x. x.1.now) result tokens.now }
@@ -117,24 +118,24 @@ fn map_type(alloc: Global, tokens: &[Token]) -> Reading<TypeExpr>
     let Terminal::Bracket = first(after) else {
         return Ok(None);
     };
-    let Some((key, after)) = type_expr(alloc, rest(after))? else {
+    let Some((key, after)) = type_expr(room, rest(after))? else {
         return Ok(None);
     };
+    let key = Box::new(room.alloc, key)?;
     let Terminal::EndBracket = first(after) else {
         return Ok(None);
     };
-    let Some((of, left)) = type_expr(alloc, rest(after))? else {
+    let Some((of, left)) = type_expr(room, rest(after))? else {
         return Ok(None);
     };
     let span = span_between(tokens, left);
-    let key = Box::new(alloc, key)?;
-    let of = Box::new(alloc, of)?;
+    let of = Box::new(room.alloc, of)?;
     Ok(Some((TypeExpr::Map { span, key, of }, left)))
 }
 
 #[cycle(types)]
 #[tactic(auto, using(crate::proofs::TypeArms::struct_some, crate::proofs::TypeArms::struct_none, crate::proofs::TypeArms::struct_open, crate::proofs::TypeArms::struct_end))]
-fn struct_type(alloc: Global, tokens: &[Token]) -> Reading<TypeExpr>
+fn struct_type<'a>(room: &Room, tokens: &'a [Token]) -> Reading<'a, TypeExpr>
     requires { first_of (lexemes tokens.now) ≡ Terminal.Struct }
     ensures gives { Gives (λ x. (type_of x.0, lexemes x.1.now)) result (at span_to read_type (lexemes tokens.now)) }
     ensures shorter { Shorter (λ x. x.1.now) result tokens.now }
@@ -143,7 +144,7 @@ fn struct_type(alloc: Global, tokens: &[Token]) -> Reading<TypeExpr>
     let Terminal::Brace = first(after) else {
         return Ok(None);
     };
-    let Some((fields, left)) = field_list(alloc, rest(after))? else {
+    let Some((fields, left)) = field_list(room, rest(after))? else {
         return Ok(None);
     };
     let Terminal::EndBrace = first(left) else {
@@ -156,15 +157,16 @@ fn struct_type(alloc: Global, tokens: &[Token]) -> Reading<TypeExpr>
 
 #[cycle(types)]
 #[tactic(auto, using(crate::proofs::TypeArms::parens_some, crate::proofs::TypeArms::parens_none, crate::proofs::TypeArms::parens_end))]
-fn type_in_parens(alloc: Global, tokens: &[Token]) -> Reading<TypeExpr>
+fn type_in_parens<'a>(room: &Room, tokens: &'a [Token]) -> Reading<'a, TypeExpr>
     requires { first_of (lexemes tokens.now) ≡ Terminal.Paren }
     ensures gives { Gives (λ x. (type_of x.0, lexemes x.1.now)) result (at span_to read_type (lexemes tokens.now)) }
     ensures shorter { Shorter (λ x. x.1.now) result tokens.now }
 {
-    let Some((of, left)) = type_expr(alloc, rest(tokens))? else {
+    let Some((of, left)) = type_expr(room, rest(tokens))? else {
         return Ok(None);
     };
     let Terminal::EndParen = first(left) else {
+        drop(of);
         return Ok(None);
     };
     Ok(Some((of, rest(left))))
@@ -173,17 +175,17 @@ fn type_in_parens(alloc: Global, tokens: &[Token]) -> Reading<TypeExpr>
 /// The fields of a struct, up to the closing brace.
 #[cycle(types)]
 #[tactic(auto, using(crate::proofs::FieldArms::fields_end, crate::proofs::FieldArms::fields_lost, crate::proofs::FieldArms::fields_more, crate::proofs::FieldArms::fields_last, crate::proofs::FieldArms::fields_stop))]
-fn field_list(alloc: Global, tokens: &[Token]) -> Reading<FieldSpecList>
+fn field_list<'a>(room: &Room, tokens: &'a [Token]) -> Reading<'a, FieldSpecList>
     ensures gives { Gives (λ x. (fields_of x.0, lexemes x.1.now)) result (at span_to read_fields (lexemes tokens.now)) }
     ensures within { Within (λ x. x.1.now) result tokens.now }
 {
-    let mut fields = Vec::new(alloc);
+    let mut fields = Vec::new(room.alloc);
     let mut left = tokens;
     loop {
         if let Terminal::EndBrace = first(left) {
             return Ok(Some((FieldSpecList::of(fields), left)));
         }
-        let Some((more, after)) = shared_fields(alloc, fields, left)? else {
+        let Some((more, after)) = shared_fields(room, fields, left)? else {
             return Ok(None);
         };
         fields = more;
@@ -199,11 +201,11 @@ fn field_list(alloc: Global, tokens: &[Token]) -> Reading<FieldSpecList>
 /// once for each of them, since the tree has it once for each.
 #[cycle(types)]
 #[tactic(auto, using(crate::proofs::FieldArms::shared_lost, crate::proofs::FieldArms::shared_untyped, crate::proofs::FieldArms::shared_last, crate::proofs::FieldArms::shared_more))]
-pub(crate) fn shared_fields(
-    alloc: Global,
+pub(crate) fn shared_fields<'a>(
+    room: &Room,
     fields: Vec<FieldSpec>,
-    tokens: &[Token],
-) -> Reading<Vec<FieldSpec>>
+    tokens: &'a [Token],
+) -> Reading<'a, Vec<FieldSpec>>
     ensures gives { Gives (λ x. (map field_of x.0.items, lexemes x.1.now)) result (shared_onto (map field_of fields.items) (lexemes tokens.now)) }
     ensures shorter { Shorter (λ x. x.1.now) result tokens.now }
 {
@@ -213,11 +215,12 @@ pub(crate) fn shared_fields(
     let mut fields = fields;
     let mut at = tokens;
     loop {
-        let Some((of, left)) = type_expr(alloc, of_all)? else {
+        room.count(0)?;
+        let name = name(room, at)?;
+        let Some((of, left)) = shared_type(room, of_all, at.len() != tokens.len())? else {
             return Ok(None);
         };
         let span = span_between(at, left);
-        let name = name(alloc, at)?;
         fields.push(FieldSpec { span, name, of })?;
         at = rest(at);
         let Terminal::Comma = first(at) else {
@@ -225,4 +228,17 @@ pub(crate) fn shared_fields(
         };
         at = rest(at);
     }
+}
+
+/// The type that names share; it is a copy where it was read already.
+#[cycle(types)]
+fn shared_type<'a>(room: &Room, tokens: &'a [Token], again: bool) -> Reading<'a, TypeExpr>
+    ensures gives { Gives (λ x. (type_of x.0, lexemes x.1.now)) result (at span_to read_type (lexemes tokens.now)) }
+    ensures shorter { Shorter (λ x. x.1.now) result tokens.now }
+{
+    let before = room.is_copying();
+    room.set_copying(before || again);
+    let answer = type_expr(room, tokens);
+    room.set_copying(before);
+    answer
 }

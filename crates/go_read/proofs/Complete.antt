@@ -1,11 +1,12 @@
 -- What spells an expression, a statement or a declaration of constants or variables is read as it.
 use Rattle.std.proofs.Common.{◌≡◌, ℕ, Bool, true, false, List, Option, Some, refl}
+use Rattle.go_tree.specs.declared.exprs.Rest.{Rest}
 use Rattle.go_tree.specs.Tree.{NameAt, TypeExpr, Expr, Exprs, ExprOption, Elems, Value, ValueOption, Stmt, Stmts, StmtOption, BlockOption, Arms, Cases, ValueSpecs}
 use Rattle.go_read.specs.SpellsTypes.{Lexemes}
-use Rattle.go_read.specs.Spells.{SpellsBare, SpellsExpr, SpellsOperand, SpellsOption, SpellsExprs, SpellsArgs, SpellsElems, SpellsElem, SpellsValue, SpellsSimple, SpellsPart, SpellsFirst, SpellsStmt, SpellsStmts, SpellsIf, SpellsArm, SpellsCases, SpellsDecl, SpellsSpecs, SpellsSpec, ident_rule, int_rule, rune_rule, text_rule, composite_rule, func_rule, type_rule, selector_rule, index_rule, slice_rule, call_rule, unary_rule, star_rule, binary_rule, bare_rule, parens_rule, operand_rule, no_expr_rule, some_expr_rule, last_expr_rule, more_exprs_rule, no_args_rule, args_rule, comma_args_rule, no_elems_rule, last_elem_rule, more_elems_rule, value_rule, keyed_rule, plain_rule, braced_rule, eval_rule, increment_rule, decrement_rule, assign_rule, define_rule, no_part_rule, part_rule, no_first_rule, first_rule, empty_rule, simple_rule, const_rule, var_rule, return_rule, return_values_rule, break_rule, break_label_rule, continue_rule, continue_label_rule, block_rule, if_rule, while_rule, for_rule, range_rule, switch_rule, defer_rule, label_rule, braces_rule, no_stmts_rule, last_stmt_rule, more_stmts_rule, only_arm_rule, else_rule, else_if_rule, arm_rule, no_left_rule, assigns_rule, defines_rule, no_cases_rule, case_rule, default_rule, single_rule, group_rule, no_specs_rule, last_spec_rule, more_specs_rule, repeated_rule, typed_var_rule, values_rule, typed_values_rule}
+use Rattle.go_read.specs.Spells.{SpellsBare, SpellsExpr, SpellsOperand, SpellsOption, SpellsExprs, SpellsArgs, SpellsElems, SpellsElem, SpellsValue, SpellsSimple, SpellsPart, SpellsFirst, SpellsStmt, SpellsStmts, SpellsIf, SpellsArm, SpellsCases, SpellsDecl, SpellsSpecs, SpellsSpec, ident_rule, int_rule, rune_rule, text_rule, composite_rule, func_rule, type_rule, selector_rule, index_rule, slice_rule, call_rule, unary_rule, star_rule, binary_rule, bare_rule, parens_rule, operand_rule, no_expr_rule, some_expr_rule, last_expr_rule, more_exprs_rule, no_args_rule, args_rule, comma_args_rule, rest_args_rule, comma_rest_args_rule, no_elems_rule, last_elem_rule, more_elems_rule, value_rule, keyed_rule, plain_rule, braced_rule, eval_rule, increment_rule, decrement_rule, assign_rule, define_rule, no_part_rule, part_rule, no_first_rule, first_rule, empty_rule, simple_rule, const_rule, var_rule, return_rule, return_values_rule, break_rule, break_label_rule, continue_rule, continue_label_rule, block_rule, if_rule, while_rule, for_rule, range_rule, switch_rule, defer_rule, label_rule, braces_rule, no_stmts_rule, last_stmt_rule, more_stmts_rule, only_arm_rule, else_rule, else_if_rule, arm_rule, no_left_rule, assigns_rule, defines_rule, no_cases_rule, case_rule, default_rule, single_rule, group_rule, no_specs_rule, last_spec_rule, more_specs_rule, repeated_rule, typed_var_rule, values_rule, typed_values_rule}
 use Rattle.go_read.specs.Goals.{read_args}
 use Rattle.go_read.specs.Reading.{at}
-use Rattle.go_read.proofs.CompleteExprs.{Full, Held, Operand, Maybe, absent, present, List_of, closed, closed_after_comma, ident_full, int_full, rune_full, text_full, parens_full, func_full, type_full, composite_full, selector_full, call_full, index_full, slice_full, unary_full, star_full, binary_full, no_args_reads, last_list, more_list}
+use Rattle.go_read.proofs.CompleteExprs.{Full, Held, Operand, Maybe, absent, present, List_of, closed, closed_after_comma, closed_rest, closed_rest_after_comma, ident_full, int_full, rune_full, text_full, parens_full, func_full, type_full, composite_full, selector_full, call_full, index_full, slice_full, unary_full, star_full, binary_full, no_args_reads, last_list, more_list}
 use Rattle.go_read.proofs.CompleteElems.{Val, Element, Elements, plain_value, braced_value, value_elem, keyed_elem, no_elements, last_element, more_elements}
 use Rattle.go_read.proofs.CompleteSimple.{Simple, eval_simple, increment_simple, decrement_simple, assign_simple, define_simple, names_begin_expr, no_left_clause, assigns_clause, defines_clause}
 use Rattle.go_read.proofs.CompleteStmts.{Part, no_part, some_part, First, no_first, some_first, Stmts_of, block_reads, Stmt_of, no_stmts_reads, last_stmt_reads, more_stmts_reads, empty_reads, simple_reads, return_reads, return_values_reads, break_reads, break_label_reads, continue_reads, continue_label_reads, inner_reads, defer_reads, label_reads, const_reads, var_reads, Arm_of, arm_reads, If_of, only_arm_reads, else_reads, else_if_reads, if_reads, while_reads, for_reads, range_alone_reads, range_left_reads, Cases_of, switch_reads, no_cases_reads, case_reads, default_reads}
@@ -25,7 +26,7 @@ module _ {S : Type 0} (mark : Lexemes → Lexemes → S) where
     bare (selector_rule {l = l} {h = h} {d = d} {s = s} {n = n} {e = e} {ts = ts} {r = r} k) = selector_full mark l h d s n e ts r (operand k)
     bare (index_rule {l = l} {h = h} {b = b} {c = c} {e = e} {i = i} {ts = ts} {mid = mid} {r = r} k j) = index_full mark l h b c e i ts mid r (operand k) (operand j)
     bare (slice_rule {l = l} {h = h} {b = b} {c = c} {d = d} {e = e} {i = i} {j = j} {ts = ts} {a = a} {mid = mid} {r = r} k x y) = slice_full mark l h b c d e i j ts a mid r (operand k) (option x) (option y)
-    bare (call_rule {l = l} {h = h} {b = b} {f = f} {xs = xs} {ts = ts} {mid = mid} {r = r} k x) = call_full mark l h b f xs ts mid r (expr k) (args x)
+    bare (call_rule {l = l} {h = h} {b = b} {f = f} {xs = xs} {rest = rest} {ts = ts} {mid = mid} {r = r} k x) = call_full mark l h b f xs rest ts mid r (expr k) (args x)
     bare (unary_rule {l = l} {h = h} {s = s} {op = op} {e = e} {ts = ts} {r = r} p k) = unary_full mark l h s op e ts r p (operand k)
     bare (star_rule {l = l} {h = h} {s = s} {e = e} {ts = ts} {r = r} p k) = star_full mark l h s e ts r p (operand k)
     bare (binary_rule {l = l} {h = h} {s = s} {op = op} {a = a} {b = b} {ts = ts} {mid = mid} {r = r} p x y) = binary_full mark l h s op a b ts mid r p (operand x) (operand y)
@@ -45,10 +46,12 @@ module _ {S : Type 0} (mark : Lexemes → Lexemes → S) where
     exprs (last_expr_rule {h = h} {e = e} {ts = ts} {r = r} k) = last_list mark h e ts r (operand k)
     exprs (more_exprs_rule {h = h} {c = c} {e = e} {es = es} {ts = ts} {mid = mid} {r = r} k j) = more_list mark h c e es ts mid r (operand k) (exprs j)
 
-    pub args : {xs : Exprs S} {ts r : Lexemes} → SpellsArgs mark xs ts r → at mark read_args ts ≡ Some (xs, r)
+    pub args : {xs : Exprs S} {rest : Rest} {ts r : Lexemes} → SpellsArgs mark xs rest ts r → at mark read_args ts ≡ Some ((xs, rest), r)
     args (no_args_rule {e = e} {r = r}) = no_args_reads mark e r
-    args (args_rule {r = r} k) = (exprs k).args r closed
-    args (comma_args_rule {r = r} k) = (exprs k).args r closed_after_comma
+    args (args_rule {r = r} k) = (exprs k).args _ r closed
+    args (comma_args_rule {r = r} k) = (exprs k).args _ r closed_after_comma
+    args (rest_args_rule {r = r} k) = (exprs k).args _ r closed_rest
+    args (comma_rest_args_rule {r = r} k) = (exprs k).args _ r closed_rest_after_comma
 
     pub elems : {es : Elems S} {ts r : Lexemes} → SpellsElems mark es ts r → Elements mark es ts r
     elems (no_elems_rule {r = r}) = no_elements mark r
@@ -102,7 +105,7 @@ module _ {S : Type 0} (mark : Lexemes → Lexemes → S) where
     stmt (range_rule {s = s} {c = c} {left = left} {e = x} {ts = ts} {ts2 = ts2} (defines_rule {s = d} {ns = ns} l) k (braces_rule {s = b} {e = e} {body = body} {ts = mid} {r = r} j)) =
         range_left_reads mark s b left x _ body ts ts2 mid r (names_begin_expr mark l) (defines_clause mark ns d c ts ts2 l) (operand k) (block_reads mark b e body mid r (stmts j))
     stmt (switch_rule {s = s} {b = b} {e = e} {i = i} {t = t} {cs = cs} {ts = ts} {ts2 = ts2} {ts3 = ts3} {r = r} x y k) = switch_reads mark s b e i t cs ts ts2 ts3 r (first x) (option y) (cases k)
-    stmt (defer_rule {s = s} {c = c} {f = f} {xs = xs} {ts = ts} {r = r} k) = defer_reads mark s c f xs ts r (bare k)
+    stmt (defer_rule {s = s} {c = c} {f = f} {xs = xs} {rest = rest} {ts = ts} {r = r} k) = defer_reads mark s c f xs rest ts r (bare k)
     stmt (label_rule {s = s} {c = c} {n = n} {x = x} {ts = ts} {r = r} k) = label_reads mark s c n x ts r (stmt k)
 
     pub stmts : {body : Stmts S} {ts r : Lexemes} → SpellsStmts mark body ts r → Stmts_of mark body ts r

@@ -2,7 +2,7 @@
 use Rattle.std.proofs.Common.{◌≡◌, Bool, true, false, List, ◌∷◌, Option, Some, None, refl}
 use Rattle.go_tree.specs.declared.spans.Span.{Span}
 use Rattle.go_tree.specs.Tree.{NameAt, TypeExpr, Exprs, ValueSpecs, no_exprs, no_specs, spec}
-use Rattle.go_read.specs.SpellsTerminals.{lex, becomes, comma, semicolon, paren, end_paren, end_brace}
+use Rattle.go_words.specs.Terminals.{lex, assign, comma, semicolon, paren, end_paren, end_brace}
 use Rattle.go_read.specs.SpellsTypes.{Lexemes, SpellsType, SpellsNames, last_name_rule, more_names_rule}
 use Rattle.go_read.specs.Goals.{read_decl, read_specs, read_spec}
 use Rattle.go_read.specs.Programs.{give, ask}
@@ -63,14 +63,14 @@ module _ {S : Type 0} (mark : Lexemes → Lexemes → S) where
   repeated_reads ns ts r d = record { begins = names_begin d; reads = λ q. finish mark (read_spec true) ts (asks mark (names_reads mark d (spec_single r q)) (repeated_go ns r q)) }
 
   spec_go : {o : Option ((List (NameAt S) × Option (TypeExpr S) × Exprs S) × Lexemes)} (constant : Bool) (ns : List (NameAt S)) (ts : Lexemes) → begins_type ts ≡ true → Runs mark (typed_step mark constant ns ts) o → Runs mark (spec_after mark constant ns ts) o
-  spec_go constant ns (lex _ (becomes None) ∷ ts) b k = absurd cc
+  spec_go constant ns (lex _ (assign None) ∷ ts) b k = absurd cc
   spec_go true ns (lex _ semicolon ∷ ts) b k = absurd cc
   spec_go true ns (lex _ end_paren ∷ ts) b k = absurd cc
   spec_go true ns (lex _ end_brace ∷ ts) b k = absurd cc
   spec_go constant ns _ b k = k
 
   typed_go : (ns : List (NameAt S)) (t : TypeExpr S) (r : Lexemes) → ends_spec r ≡ true → Runs mark (typed_after mark false ns t r) (Some ((ns, Some t, no_exprs), r))
-  typed_go ns t (lex _ (becomes None) ∷ _) q = absurd cc
+  typed_go ns t (lex _ (assign None) ∷ _) q = absurd cc
   typed_go ns t _ q = gives mark
 
   pub typed_var_reads : (ns : List (NameAt S)) (t : TypeExpr S) (ts mid r : Lexemes) → SpellsNames mark ns ts mid → SpellsType mark t mid r → Spec_of false ns (Some t) no_exprs ts r
@@ -81,14 +81,14 @@ module _ {S : Type 0} (mark : Lexemes → Lexemes → S) where
         (spec_go false ns mid (type_begins mark k) (asks mark (type_reads mark k (spec_undotted r q)) (typed_go ns t r q))));
   }
 
-  pub values_reads : (s : Span) (constant : Bool) (ns : List (NameAt S)) (xs : Exprs S) (ts mid r : Lexemes) → SpellsNames mark ns ts (lex s (becomes None) ∷ mid) → List_of mark false xs mid r → Spec_of constant ns None xs ts r
+  pub values_reads : (s : Span) (constant : Bool) (ns : List (NameAt S)) (xs : Exprs S) (ts mid r : Lexemes) → SpellsNames mark ns ts (lex s (assign None) ∷ mid) → List_of mark false xs mid r → Spec_of constant ns None xs ts r
   unfolding spec_step
   values_reads s constant ns xs ts mid r d l = record {
     begins = names_begin d;
     reads = λ q. finish mark (read_spec constant) ts (asks mark (names_reads mark d refl) (asks mark (l.reads (spec_plain r q) (spec_exprs r q)) (gives mark)));
   }
 
-  pub typed_values_reads : (s : Span) (constant : Bool) (ns : List (NameAt S)) (t : TypeExpr S) (xs : Exprs S) (ts mid mid2 r : Lexemes) → SpellsNames mark ns ts mid → SpellsType mark t mid (lex s (becomes None) ∷ mid2) → List_of mark false xs mid2 r
+  pub typed_values_reads : (s : Span) (constant : Bool) (ns : List (NameAt S)) (t : TypeExpr S) (xs : Exprs S) (ts mid mid2 r : Lexemes) → SpellsNames mark ns ts mid → SpellsType mark t mid (lex s (assign None) ∷ mid2) → List_of mark false xs mid2 r
       → Spec_of constant ns (Some t) xs ts r
   unfolding spec_step
   typed_values_reads s constant ns t xs ts mid mid2 r d k l = record {

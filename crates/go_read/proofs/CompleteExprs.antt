@@ -7,8 +7,11 @@ use Rattle.go_tree.specs.declared.operators.BinOp.{BinOp}
 use Rattle.go_tree.specs.declared.operators.BinOp.TheVariants.{Mul}
 use Rattle.go_tree.specs.declared.operators.UnOp.{UnOp}
 use Rattle.go_tree.specs.declared.operators.UnOp.TheVariants.{Plus, Minus, Not, Flip, Address}
+use Rattle.go_tree.specs.declared.exprs.Rest.{Rest}
+use Rattle.go_tree.specs.declared.exprs.Rest.TheVariants as handed
 use Rattle.go_tree.specs.Tree.{TypeExpr, Sig, Expr, Exprs, ExprOption, Elems, Stmts, ident, int_lit, rune_lit, str_lit, composite, selector, index, slice, call, func_lit, type_operand, unary, binary, star, no_exprs, expr_and, no_expr, some_expr}
-use Rattle.go_read.specs.SpellsTerminals.{lex, word, number, rune, text, sign, comma, colon, dot, paren, end_paren, bracket, end_bracket, brace, end_brace, key_func, key_map, key_struct, level_of, unary_sign}
+use Rattle.go_words.specs.Terminals as terminal
+use Rattle.go_words.specs.Terminals.{lex, binary_op, comma, colon, dot, ellipsis, paren, end_paren, bracket, end_bracket, brace, end_brace, key_func, key_map, key_struct, level_of, unary_sign}
 use Rattle.go_read.specs.SpellsTypes.{Lexemes, name_here, SpellsType, SpellsSig}
 use Rattle.go_read.specs.Spells.{is_func_lit, starts_type, follows_type, SpellsLiteralType, named_literal_rule, qualified_literal_rule, type_literal_rule}
 use Rattle.go_read.specs.Goals.{read_expr, read_more, read_unary, read_postfix, read_operand, read_exprs, read_args, read_elems, read_block}
@@ -27,7 +30,7 @@ pub plain_any : (h : Bool) (r : Lexemes) → literal_follows r ≡ false → Pla
 plain_any true r e = tt
 plain_any false r e = e
 
-plain_dot : (h : Bool) (d s : Span) (n : List ℕ) (r : Lexemes) → Plain h r → Plain h (lex d dot ∷ lex s (word n) ∷ r)
+plain_dot : (h : Bool) (d s : Span) (n : List ℕ) (r : Lexemes) → Plain h r → Plain h (lex d dot ∷ lex s (terminal.ident n) ∷ r)
 plain_dot true d s n r e = tt
 plain_dot false d s n (lex b brace ∷ r) e = absurd cc
 plain_dot false d s n _ e = refl
@@ -39,22 +42,22 @@ still_ends (lex _ bracket ∷ r) e = absurd cc
 still_ends _ e = refl
 
 pub stops_ends : (l : ℕ) (r : Lexemes) → ends_expr r ≡ true → Stops l r
-stops_ends l (lex _ (sign op) ∷ r) e = absurd cc
+stops_ends l (lex _ (binary_op op) ∷ r) e = absurd cc
 stops_ends l _ e = tt
 
 pub ends_list : (r : Lexemes) → ends_exprs r ≡ true → ends_expr r ≡ true
 ends_list (lex _ paren ∷ r) e = absurd cc
 ends_list (lex _ dot ∷ r) e = absurd cc
 ends_list (lex _ bracket ∷ r) e = absurd cc
-ends_list (lex _ (sign _) ∷ r) e = absurd cc
+ends_list (lex _ (binary_op _) ∷ r) e = absurd cc
 ends_list _ e = refl
 
 low_stops : (l : ℕ) (r : Lexemes) → Stops l r → Low l r
-low_stops l (lex _ (sign op) ∷ r) e = omega (arith, e)
+low_stops l (lex _ (binary_op op) ∷ r) e = omega (arith, e)
 low_stops l _ e = tt
 
 stops_low : (l m : ℕ) (r : Lexemes) → Low l r → l < m → Stops m r
-stops_low l m (lex _ (sign op) ∷ r) e lt = omega (arith, e, lt)
+stops_low l m (lex _ (binary_op op) ∷ r) e lt = omega (arith, e, lt)
 stops_low l m _ e lt = tt
 
 le_test : (a b : ℕ) → a ≤ b → nat_le a b ≡ true
@@ -116,13 +119,13 @@ module _ {S : Type 0} (mark : Lexemes → Lexemes → S) where
 
   more_off : (l : ℕ) (h : Bool) (whole : Lexemes) (left : Expr S) (b : Bool) (r : Lexemes) → Stops l r → Runs mark (more_step mark l h whole left b r) (Some ((left, b), r))
   unfolding more_step
-  more_off l h whole left b (lex s (sign op) ∷ r) stops = if_false (nat_le l (level_of op)) _ _ (gt_test l (level_of op) stops) (gives mark)
+  more_off l h whole left b (lex s (binary_op op) ∷ r) stops = if_false (nat_le l (level_of op)) _ _ (gt_test l (level_of op) stops) (gives mark)
   more_off l h whole left b [] stops = gives mark
   more_off l h whole left b (lex s t ∷ r) stops = gives mark
 
   more_on : (l : ℕ) (h : Bool) (whole : Lexemes) (left : Expr S) (b : Bool) (s : Span) (op : BinOp) (mid : Lexemes) (right : Expr S) (c : Bool) (r : Lexemes) → l ≤ level_of op → is_func_lit left ≡ false
       → at mark (read_expr (level_of op + 1) h) mid ≡ Some ((right, c), r) → is_func_lit right ≡ false
-      → Runs mark (more_step mark l h whole left b (lex s (sign op) ∷ mid)) (at mark (read_more l h whole (binary (mark whole r) op left right) true) r)
+      → Runs mark (more_step mark l h whole left b (lex s (binary_op op) ∷ mid)) (at mark (read_more l h whole (binary (mark whole r) op left right) true) r)
   unfolding more_step
   more_on l h whole left b s op mid right c r le free_left e free_right =
       if_true (nat_le l (level_of op)) _ _ (le_test l (level_of op) le) (passes mark free_left (asks mark e (passes mark free_right (tails_more mark))))
@@ -151,27 +154,27 @@ module _ {S : Type 0} (mark : Lexemes → Lexemes → S) where
 
   -- ---- operands
 
-  word_go : (h : Bool) (s : Span) (n : List ℕ) (r : Lexemes) → Plain h r → Runs mark (word_step mark h s n r) (at mark (read_postfix h (lex s (word n) ∷ r) (ident (mark (lex s (word n) ∷ r) r) n) true) r)
+  word_go : (h : Bool) (s : Span) (n : List ℕ) (r : Lexemes) → Plain h r → Runs mark (word_step mark h s n r) (at mark (read_postfix h (lex s (terminal.ident n) ∷ r) (ident (mark (lex s (terminal.ident n) ∷ r) r) n) true) r)
   word_go true s n r p = tails_postfix mark
   word_go false s n (lex b brace ∷ r) p = absurd cc
-  word_go false s n (lex d dot ∷ lex c (word m) ∷ lex b brace ∷ r) p = absurd cc
+  word_go false s n (lex d dot ∷ lex c (terminal.ident m) ∷ lex b brace ∷ r) p = absurd cc
   word_go false s n _ p = tails_postfix mark
 
-  pub ident_full : (l : ℕ) (h : Bool) (s : Span) (n : List ℕ) (r : Lexemes) → Full l h (ident (mark (lex s (word n) ∷ r) r) n) true (lex s (word n) ∷ r) r
+  pub ident_full : (l : ℕ) (h : Bool) (s : Span) (n : List ℕ) (r : Lexemes) → Full l h (ident (mark (lex s (terminal.ident n) ∷ r) r) n) true (lex s (terminal.ident n) ∷ r) r
   unfolding unary_step
-  ident_full l h s n r = from_primary l h (ident (mark (lex s (word n) ∷ r) r) n) true (lex s (word n) ∷ r) r refl (λ p. finish mark (read_unary h) (lex s (word n) ∷ r) (word_go h s n r p))
+  ident_full l h s n r = from_primary l h (ident (mark (lex s (terminal.ident n) ∷ r) r) n) true (lex s (terminal.ident n) ∷ r) r refl (λ p. finish mark (read_unary h) (lex s (terminal.ident n) ∷ r) (word_go h s n r p))
 
-  pub int_full : (l : ℕ) (h : Bool) (s : Span) (n : List ℕ) (r : Lexemes) → Full l h (int_lit (mark (lex s (number n) ∷ r) r) n) true (lex s (number n) ∷ r) r
+  pub int_full : (l : ℕ) (h : Bool) (s : Span) (n : List ℕ) (r : Lexemes) → Full l h (int_lit (mark (lex s (terminal.int_lit n) ∷ r) r) n) true (lex s (terminal.int_lit n) ∷ r) r
   unfolding unary_step
-  int_full l h s n r = from_primary l h (int_lit (mark (lex s (number n) ∷ r) r) n) true (lex s (number n) ∷ r) r refl (λ p. finish mark (read_unary h) (lex s (number n) ∷ r) (tails_postfix mark))
+  int_full l h s n r = from_primary l h (int_lit (mark (lex s (terminal.int_lit n) ∷ r) r) n) true (lex s (terminal.int_lit n) ∷ r) r refl (λ p. finish mark (read_unary h) (lex s (terminal.int_lit n) ∷ r) (tails_postfix mark))
 
-  pub rune_full : (l : ℕ) (h : Bool) (s : Span) (n : List ℕ) (r : Lexemes) → Full l h (rune_lit (mark (lex s (rune n) ∷ r) r) n) true (lex s (rune n) ∷ r) r
+  pub rune_full : (l : ℕ) (h : Bool) (s : Span) (n : List ℕ) (r : Lexemes) → Full l h (rune_lit (mark (lex s (terminal.rune_lit n) ∷ r) r) n) true (lex s (terminal.rune_lit n) ∷ r) r
   unfolding unary_step
-  rune_full l h s n r = from_primary l h (rune_lit (mark (lex s (rune n) ∷ r) r) n) true (lex s (rune n) ∷ r) r refl (λ p. finish mark (read_unary h) (lex s (rune n) ∷ r) (tails_postfix mark))
+  rune_full l h s n r = from_primary l h (rune_lit (mark (lex s (terminal.rune_lit n) ∷ r) r) n) true (lex s (terminal.rune_lit n) ∷ r) r refl (λ p. finish mark (read_unary h) (lex s (terminal.rune_lit n) ∷ r) (tails_postfix mark))
 
-  pub text_full : (l : ℕ) (h : Bool) (s : Span) (n : List ℕ) (r : Lexemes) → Full l h (str_lit (mark (lex s (text n) ∷ r) r) n) true (lex s (text n) ∷ r) r
+  pub text_full : (l : ℕ) (h : Bool) (s : Span) (n : List ℕ) (r : Lexemes) → Full l h (str_lit (mark (lex s (terminal.str_lit n) ∷ r) r) n) true (lex s (terminal.str_lit n) ∷ r) r
   unfolding unary_step
-  text_full l h s n r = from_primary l h (str_lit (mark (lex s (text n) ∷ r) r) n) true (lex s (text n) ∷ r) r refl (λ p. finish mark (read_unary h) (lex s (text n) ∷ r) (tails_postfix mark))
+  text_full l h s n r = from_primary l h (str_lit (mark (lex s (terminal.str_lit n) ∷ r) r) n) true (lex s (terminal.str_lit n) ∷ r) r refl (λ p. finish mark (read_unary h) (lex s (terminal.str_lit n) ∷ r) (tails_postfix mark))
 
   pub parens_full : (l : ℕ) (h : Bool) (s c : Span) (e : Expr S) (ts r : Lexemes) → Held 1 false e ts (lex c end_paren ∷ r) → Full l h e false (lex s paren ∷ ts) r
   unfolding unary_step
@@ -179,7 +182,7 @@ module _ {S : Type 0} (mark : Lexemes → Lexemes → S) where
       from_primary l h e false (lex s paren ∷ ts) r refl (λ p. finish mark (read_unary h) (lex s paren ∷ ts)
       (asks mark (whole_expr 1 false e f.bare ts (lex c end_paren ∷ r) f.full refl refl) (tails_postfix mark)))
 
-  pub func_full : (l : ℕ) (h : Bool) (s b : Span) (g : Sig S) (sb : S) (body : Stmts S) (ts mid r : Lexemes) → SpellsSig mark g ts (lex b brace ∷ mid) → at mark read_block (lex b brace ∷ mid) ≡ Some ((sb, body), r)
+  pub func_full : (l : ℕ) (h : Bool) (s b : Span) (g : Sig S) (sb : S) (body : Stmts S) (ts mid r : Lexemes) → SpellsSig mark false g ts (lex b brace ∷ mid) → at mark read_block (lex b brace ∷ mid) ≡ Some ((sb, body), r)
       → Full l h (func_lit (mark (lex s key_func ∷ ts) r) g sb body) true (lex s key_func ∷ ts) r
   unfolding unary_step
   func_full l h s b g sb body ts mid r d e =
@@ -224,16 +227,16 @@ module _ {S : Type 0} (mark : Lexemes → Lexemes → S) where
 
   -- ---- what follows an operand
 
-  pub selector_full : (l : ℕ) (h : Bool) (d s : Span) (n : List ℕ) (e : Expr S) (ts r : Lexemes) → Operand 7 h e ts (lex d dot ∷ lex s (word n) ∷ r) → Full l h (selector (mark ts r) e (name_here mark s n r)) true ts r
+  pub selector_full : (l : ℕ) (h : Bool) (d s : Span) (n : List ℕ) (e : Expr S) (ts r : Lexemes) → Operand 7 h e ts (lex d dot ∷ lex s (terminal.ident n) ∷ r) → Full l h (selector (mark ts r) e (name_here mark s n r)) true ts r
   unfolding postfix_step
   selector_full l h d s n e ts r f =
       from_primary l h (selector (mark ts r) e (name_here mark s n r)) true ts r f.full.begins (λ p.
-      f.full.primary (omega arith) (plain_dot h d s n r p) ∙ finish mark (read_postfix h ts e f.bare) (lex d dot ∷ lex s (word n) ∷ r) (passes mark f.free (tails_postfix mark)))
+      f.full.primary (omega arith) (plain_dot h d s n r p) ∙ finish mark (read_postfix h ts e f.bare) (lex d dot ∷ lex s (terminal.ident n) ∷ r) (passes mark f.free (tails_postfix mark)))
 
-  pub call_full : (l : ℕ) (h : Bool) (b : Span) (e : Expr S) (xs : Exprs S) (ts mid r : Lexemes) → Held 7 h e ts (lex b paren ∷ mid) → at mark read_args mid ≡ Some (xs, r) → Full l h (call (mark ts r) e xs) true ts r
+  pub call_full : (l : ℕ) (h : Bool) (b : Span) (e : Expr S) (xs : Exprs S) (rest : Rest) (ts mid r : Lexemes) → Held 7 h e ts (lex b paren ∷ mid) → at mark read_args mid ≡ Some ((xs, rest), r) → Full l h (call (mark ts r) e xs rest) true ts r
   unfolding postfix_step
-  call_full l h b e xs ts mid r f q =
-      from_primary l h (call (mark ts r) e xs) true ts r f.full.begins (λ p.
+  call_full l h b e xs rest ts mid r f q =
+      from_primary l h (call (mark ts r) e xs rest) true ts r f.full.begins (λ p.
       f.full.primary (omega arith) (plain_any h (lex b paren ∷ mid) refl) ∙ finish mark (read_postfix h ts e f.bare) (lex b paren ∷ mid) (asks mark q (tails_postfix mark)))
 
   bracket_go : {o : Option ((Expr S × Bool) × Lexemes)} (h : Bool) (whole : Lexemes) (base : Expr S) (ts : Lexemes) → begins_expr ts ≡ true → Runs mark (ask (read_operand false) ts (λ x r. bracket_after mark h whole base x r)) o → Runs mark (bracket_step mark h whole base ts) o
@@ -292,10 +295,10 @@ module _ {S : Type 0} (mark : Lexemes → Lexemes → S) where
       from_unary l h (unary (mark (lex s (unary_sign op) ∷ ts) r) op e) true (lex s (unary_sign op) ∷ ts) r le (unary_begins s op ts) (λ p q. finish mark (read_unary h) (lex s (unary_sign op) ∷ ts)
       (unary_go h s op ts (asks mark (f.full.unary (omega arith) p q) (passes mark f.free (gives mark)))))
 
-  pub star_full : (l : ℕ) (h : Bool) (s : Span) (e : Expr S) (ts r : Lexemes) → l ≤ 6 → Operand 6 h e ts r → Full l h (star (mark (lex s (sign Mul) ∷ ts) r) e) true (lex s (sign Mul) ∷ ts) r
+  pub star_full : (l : ℕ) (h : Bool) (s : Span) (e : Expr S) (ts r : Lexemes) → l ≤ 6 → Operand 6 h e ts r → Full l h (star (mark (lex s (binary_op Mul) ∷ ts) r) e) true (lex s (binary_op Mul) ∷ ts) r
   unfolding unary_step
   star_full l h s e ts r le f =
-      from_unary l h (star (mark (lex s (sign Mul) ∷ ts) r) e) true (lex s (sign Mul) ∷ ts) r le refl (λ p q. finish mark (read_unary h) (lex s (sign Mul) ∷ ts)
+      from_unary l h (star (mark (lex s (binary_op Mul) ∷ ts) r) e) true (lex s (binary_op Mul) ∷ ts) r le refl (λ p q. finish mark (read_unary h) (lex s (binary_op Mul) ∷ ts)
       (asks mark (f.full.unary (omega arith) p q) (passes mark f.free (gives mark))))
 
   right_reads : (l n : ℕ) (h : Bool) (e : Expr S) (ts r : Lexemes) → l < n → Operand n h e ts r → Plain h r → is_still r ≡ true → Low l r → (b : Bool) × (at mark (read_expr n h) ts ≡ Some ((e, b), r))
@@ -303,7 +306,7 @@ module _ {S : Type 0} (mark : Lexemes → Lexemes → S) where
       let stops = stops_low l n r low lt in
       (f.bare, f.full.any p q (low_stops n r stops) n (omega arith) ∙ finish mark (read_more n h ts e f.bare) r (more_off n h ts e f.bare r stops))
 
-  pub binary_full : (l : ℕ) (h : Bool) (s : Span) (op : BinOp) (a b : Expr S) (ts mid r : Lexemes) → l ≤ level_of op → Operand (level_of op) h a ts (lex s (sign op) ∷ mid) → Operand (level_of op + 1) h b mid r
+  pub binary_full : (l : ℕ) (h : Bool) (s : Span) (op : BinOp) (a b : Expr S) (ts mid r : Lexemes) → l ≤ level_of op → Operand (level_of op) h a ts (lex s (binary_op op) ∷ mid) → Operand (level_of op + 1) h b mid r
       → Full l h (binary (mark ts r) op a b) true ts r
   binary_full l h s op a b ts mid r le f k =
       record {
@@ -312,20 +315,22 @@ module _ {S : Type 0} (mark : Lexemes → Lexemes → S) where
         unary = λ q. absurd (omega (arith, q, le, level_most op));
         any = λ p q low m lm.
             let right = right_reads l (level_of op + 1) h b mid r (omega (arith, le)) k p q low in
-            f.full.any (plain_any h (lex s (sign op) ∷ mid) refl) refl (omega arith) m (omega (arith, lm, le))
-            ∙ finish mark (read_more m h ts a f.bare) (lex s (sign op) ∷ mid) (more_on m h ts a f.bare s op mid b right.0 r (omega (arith, lm, le)) f.free right.1 k.free);
+            f.full.any (plain_any h (lex s (binary_op op) ∷ mid) refl) refl (omega arith) m (omega (arith, lm, le))
+            ∙ finish mark (read_more m h ts a f.bare) (lex s (binary_op op) ∷ mid) (more_on m h ts a f.bare s op mid b right.0 r (omega (arith, lm, le)) f.free right.1 k.free);
       }
 
   -- ---- lists of expressions
 
   -- what closes a list of arguments
-  pub data Closes : Lexemes → Lexemes → Type 0 where
-    closed : {c : Span} {r : Lexemes} → Closes (lex c end_paren ∷ r) r
-    closed_after_comma : {d c : Span} {r : Lexemes} → Closes (lex d comma ∷ lex c end_paren ∷ r) r
+  pub data Closes : Rest → Lexemes → Lexemes → Type 0 where
+    closed : {c : Span} {r : Lexemes} → Closes handed.Plain (lex c end_paren ∷ r) r
+    closed_after_comma : {d c : Span} {r : Lexemes} → Closes handed.Plain (lex d comma ∷ lex c end_paren ∷ r) r
+    closed_rest : {a c : Span} {r : Lexemes} → Closes handed.Whole (lex a ellipsis ∷ lex c end_paren ∷ r) r
+    closed_rest_after_comma : {a d c : Span} {r : Lexemes} → Closes handed.Whole (lex a ellipsis ∷ lex d comma ∷ lex c end_paren ∷ r) r
 
   abbrev pub Args : Bool → Exprs S → Lexemes → Lexemes → Type 0
   Args true xs ts r = Unit {0}
-  Args false xs ts r = (r2 : Lexemes) → Closes r r2 → at mark read_args ts ≡ Some (xs, r2)
+  Args false xs ts r = (rest : Rest) (r2 : Lexemes) → Closes rest r r2 → at mark read_args ts ≡ Some ((xs, rest), r2)
 
   pub record List_of (h : Bool) (xs : Exprs S) (ts r : Lexemes) : Type 0 where
     pub begins : begins_expr ts ≡ true
@@ -336,23 +341,27 @@ module _ {S : Type 0} (mark : Lexemes → Lexemes → S) where
   exprs_done h e (lex c comma ∷ r) q = absurd cc
   exprs_done h e _ q = gives mark
 
-  args_go : {o : Option (Exprs S × Lexemes)} (ts : Lexemes) → begins_expr ts ≡ true → Runs mark (ask (read_operand false) ts (λ e r. args_after mark e r)) o → Runs mark (args_step mark ts) o
+  args_go : {o : Option ((Exprs S × Rest) × Lexemes)} (ts : Lexemes) → begins_expr ts ≡ true → Runs mark (ask (read_operand false) ts (λ e r. args_after mark e r)) o → Runs mark (args_step mark ts) o
   unfolding args_step
   args_go (lex c end_paren ∷ ts) b k = absurd cc
   args_go _ b k = k
 
-  pub no_args_reads : (c : Span) (r : Lexemes) → at mark read_args (lex c end_paren ∷ r) ≡ Some (no_exprs, r)
+  pub no_args_reads : (c : Span) (r : Lexemes) → at mark read_args (lex c end_paren ∷ r) ≡ Some ((no_exprs, handed.Plain), r)
   unfolding args_step
   no_args_reads c r = finish mark read_args (lex c end_paren ∷ r) (gives mark)
 
-  last_args : (e : Expr S) (ts : Lexemes) {r r2 : Lexemes} → Operand 1 false e ts r → Closes r r2 → at mark read_args ts ≡ Some (expr_and e no_exprs, r2)
+  last_args : (e : Expr S) (ts : Lexemes) {rest : Rest} {r r2 : Lexemes} → Operand 1 false e ts r → Closes rest r r2 → at mark read_args ts ≡ Some ((expr_and e no_exprs, rest), r2)
   last_args e ts f (closed {c = c} {r = r}) = finish mark read_args ts (args_go ts f.full.begins (asks mark (operand_reads false e ts (lex c end_paren ∷ r) f refl refl) (gives mark)))
   last_args e ts f (closed_after_comma {d = d} {c = c} {r = r}) =
       finish mark read_args ts (args_go ts f.full.begins (asks mark (operand_reads false e ts (lex d comma ∷ lex c end_paren ∷ r) f refl refl) (asks mark (no_args_reads c r) (gives mark))))
+  last_args e ts f (closed_rest {a = a} {c = c} {r = r}) =
+      finish mark read_args ts (args_go ts f.full.begins (asks mark (operand_reads false e ts (lex a ellipsis ∷ lex c end_paren ∷ r) f refl refl) (gives mark)))
+  last_args e ts f (closed_rest_after_comma {a = a} {d = d} {c = c} {r = r}) =
+      finish mark read_args ts (args_go ts f.full.begins (asks mark (operand_reads false e ts (lex a ellipsis ∷ lex d comma ∷ lex c end_paren ∷ r) f refl refl) (gives mark)))
 
   last_args_of : (h : Bool) (e : Expr S) (ts r : Lexemes) → Operand 1 h e ts r → Args h (expr_and e no_exprs) ts r
   last_args_of true e ts r f = tt
-  last_args_of false e ts r f = λ r2 c. last_args e ts f c
+  last_args_of false e ts r f = λ rest r2 c. last_args e ts f c
 
   pub last_list : (h : Bool) (e : Expr S) (ts r : Lexemes) → Operand 1 h e ts r → List_of h (expr_and e no_exprs) ts r
   unfolding exprs_step
@@ -364,7 +373,7 @@ module _ {S : Type 0} (mark : Lexemes → Lexemes → S) where
 
   more_args_of : (h : Bool) (c : Span) (e : Expr S) (es : Exprs S) (ts mid r : Lexemes) → Operand 1 h e ts (lex c comma ∷ mid) → Args h es mid r → Args h (expr_and e es) ts r
   more_args_of true c e es ts mid r f k = tt
-  more_args_of false c e es ts mid r f k = λ r2 d. finish mark read_args ts (args_go ts f.full.begins (asks mark (operand_reads false e ts (lex c comma ∷ mid) f refl refl) (asks mark (k r2 d) (gives mark))))
+  more_args_of false c e es ts mid r f k = λ rest r2 d. finish mark read_args ts (args_go ts f.full.begins (asks mark (operand_reads false e ts (lex c comma ∷ mid) f refl refl) (asks mark (k rest r2 d) (gives mark))))
 
   pub more_list : (h : Bool) (c : Span) (e : Expr S) (es : Exprs S) (ts mid r : Lexemes) → Operand 1 h e ts (lex c comma ∷ mid) → List_of h es mid r → List_of h (expr_and e es) ts r
   unfolding exprs_step

@@ -3,7 +3,7 @@ use Rattle.std.proofs.Common.{◌≡◌, ℕ, zero, suc, ◌<◌, ◌≤◌, Boo
 use Rattle.std.proofs.lemmas.List.{append-nil}
 use Rattle.go_tree.specs.declared.spans.Span.{Span}
 use Rattle.go_tree.specs.File.{ImportSpec, ImportDecl, TypeSpec, Receiver, Decl, types, File}
-use Rattle.go_read.specs.SpellsTerminals.{lex, word, becomes, semicolon, end_paren, key_import, key_type}
+use Rattle.go_words.specs.Terminals.{lex, ident, assign, semicolon, end_paren, key_import, key_type}
 use Rattle.go_read.specs.SpellsTypes.{Lexemes, name_here}
 use Rattle.go_read.specs.Spells.{braces_rule}
 use Rattle.go_read.specs.SpellsFiles.{SpellsImportSpec, SpellsImportSpecs, SpellsImport, SpellsTypeSpec, SpellsTypeSpecs, SpellsReceiver, SpellsTop, SpellsImports, SpellsTops, SpellsFront, path_rule, named_path_rule, no_import_specs_rule, last_import_spec_rule, more_import_specs_rule, import_rule, import_group_rule, type_spec_rule, alias_spec_rule, no_type_specs_rule, last_type_spec_rule, more_type_specs_rule, receiver_rule, pointer_receiver_rule, named_receiver_rule, named_pointer_receiver_rule, top_const_rule, top_var_rule, top_type_rule, top_type_group_rule, top_func_rule, top_method_rule, no_imports_rule, more_imports_rule, no_tops_rule, more_tops_rule, front_rule}
@@ -82,9 +82,9 @@ module _ {S : Type 0} (mark : Lexemes → Lexemes → S) where
   -- ---- types
 
   type_spec_go : {o : Option (TypeSpec S × Lexemes)} (s : Span) (n : List ℕ) (ts : Lexemes) → begins_type ts ≡ true
-      → Runs mark (ask read_type ts (λ t r. give (record { span = mark (lex s (word n) ∷ ts) r; name = name_here mark s n ts; alias = false; of = t }) r)) o → Runs mark (type_spec_step mark (lex s (word n) ∷ ts)) o
+      → Runs mark (ask read_type ts (λ t r. give (record { span = mark (lex s (ident n) ∷ ts) r; name = name_here mark s n ts; alias = false; of = t }) r)) o → Runs mark (type_spec_step mark (lex s (ident n) ∷ ts)) o
   unfolding type_spec_step
-  type_spec_go s n (lex _ (becomes None) ∷ ts) b k = absurd cc
+  type_spec_go s n (lex _ (assign None) ∷ ts) b k = absurd cc
   type_spec_go s n _ b k = k
 
   type_spec_reads : {x : TypeSpec S} {ts r : Lexemes} → SpellsTypeSpec mark x ts r → ends_type r ≡ true → at mark read_type_spec ts ≡ Some (x, r)
@@ -113,7 +113,7 @@ module _ {S : Type 0} (mark : Lexemes → Lexemes → S) where
 
   -- ---- declarations
 
-  receiver_go : (s : Span) (n : List ℕ) (r : Lexemes) → is_end_paren r ≡ true → Runs mark (receiver_step mark (lex s (word n) ∷ r)) (Some (record { span = mark (lex s (word n) ∷ r) r; name = None; pointer = false; of = name_here mark s n r }, r))
+  receiver_go : (s : Span) (n : List ℕ) (r : Lexemes) → is_end_paren r ≡ true → Runs mark (receiver_step mark (lex s (ident n) ∷ r)) (Some (record { span = mark (lex s (ident n) ∷ r) r; name = None; pointer = false; of = name_here mark s n r }, r))
   unfolding receiver_step
   receiver_go s n (lex _ end_paren ∷ r) q = gives mark
   receiver_go s n _ q = absurd cc

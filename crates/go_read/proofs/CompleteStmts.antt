@@ -1,8 +1,9 @@
 -- What spells a statement is read as it, from what is known of its parts.
 use Rattle.std.proofs.Common.{◌≡◌, ℕ, Bool, true, false, List, ◌∷◌, Option, Some, None, refl, subst}
 use Rattle.go_tree.specs.declared.spans.Span.{Span}
+use Rattle.go_tree.specs.declared.exprs.Rest.{Rest}
 use Rattle.go_tree.specs.Tree.{Expr, Exprs, ExprOption, Stmt, Stmts, StmtOption, BlockOption, RangeLeft, Arms, Cases, ValueSpecs, call, no_exprs, some_expr, const_decl, var_decl, empty, return_, break_, continue_, inner, if_, for_, range_, switch, defer, label, no_stmts, stmt_and, no_stmt, some_stmt, no_block, some_block, no_arms, arm, no_cases, case}
-use Rattle.go_read.specs.SpellsTerminals.{lex, word, semicolon, colon, brace, end_brace, key_break, key_case, key_const, key_continue, key_default, key_defer, key_else, key_for, key_if, key_range, key_return, key_switch, key_var}
+use Rattle.go_words.specs.Terminals.{lex, ident, semicolon, colon, brace, end_brace, key_break, key_case, key_const, key_continue, key_default, key_defer, key_else, key_for, key_if, key_range, key_return, key_switch, key_var}
 use Rattle.go_read.specs.SpellsTypes.{Lexemes, name_here}
 use Rattle.go_read.specs.Spells.{is_empty, SpellsIf, arm_rule, only_arm_rule, else_rule, else_if_rule}
 use Rattle.go_read.specs.Goals.{range_clause, read_operand, read_exprs, read_simple, read_clause, read_stmt, read_stmts, read_block, read_arm, read_if, read_cases, read_decl}
@@ -127,7 +128,7 @@ module _ {S : Type 0} (mark : Lexemes → Lexemes → S) where
 
   simple_go : (ts : Lexemes) (x : Stmt S) (r : Lexemes) → begins_expr ts ≡ true → at mark (read_simple false) ts ≡ Some (x, r) → closes_stmt r ≡ true → Runs mark (stmt_step mark ts) (Some (x, r))
   unfolding stmt_step
-  simple_go (lex s (word n) ∷ lex c colon ∷ ts) x r b e q = absurd (no_colon c ts r (label_apart mark s c n ts x r e) q)
+  simple_go (lex s (ident n) ∷ lex c colon ∷ ts) x r b e q = absurd (no_colon c ts r (label_apart mark s c n ts x r e) q)
   simple_go (lex _ key_const ∷ _) x r b e q = absurd cc
   simple_go (lex _ key_var ∷ _) x r b e q = absurd cc
   simple_go (lex _ key_return ∷ _) x r b e q = absurd cc
@@ -180,30 +181,30 @@ module _ {S : Type 0} (mark : Lexemes → Lexemes → S) where
   unfolding stmt_step
   break_reads s r = keyed (break_ (mark (lex s key_break ∷ r) r) None) (lex s key_break ∷ r) r refl (λ q. break_none (lex s key_break ∷ r) r q)
 
-  pub break_label_reads : (s c : Span) (n : List ℕ) (r : Lexemes) → Stmt_of (break_ (mark (lex s key_break ∷ lex c (word n) ∷ r) r) (Some (name_here mark c n r))) (lex s key_break ∷ lex c (word n) ∷ r) r
+  pub break_label_reads : (s c : Span) (n : List ℕ) (r : Lexemes) → Stmt_of (break_ (mark (lex s key_break ∷ lex c (ident n) ∷ r) r) (Some (name_here mark c n r))) (lex s key_break ∷ lex c (ident n) ∷ r) r
   unfolding stmt_step
-  break_label_reads s c n r = keyed (break_ (mark (lex s key_break ∷ lex c (word n) ∷ r) r) (Some (name_here mark c n r))) (lex s key_break ∷ lex c (word n) ∷ r) r refl (λ q. gives mark)
+  break_label_reads s c n r = keyed (break_ (mark (lex s key_break ∷ lex c (ident n) ∷ r) r) (Some (name_here mark c n r))) (lex s key_break ∷ lex c (ident n) ∷ r) r refl (λ q. gives mark)
 
   pub continue_reads : (s : Span) (r : Lexemes) → Stmt_of (continue_ (mark (lex s key_continue ∷ r) r) None) (lex s key_continue ∷ r) r
   unfolding stmt_step
   continue_reads s r = keyed (continue_ (mark (lex s key_continue ∷ r) r) None) (lex s key_continue ∷ r) r refl (λ q. continue_none (lex s key_continue ∷ r) r q)
 
-  pub continue_label_reads : (s c : Span) (n : List ℕ) (r : Lexemes) → Stmt_of (continue_ (mark (lex s key_continue ∷ lex c (word n) ∷ r) r) (Some (name_here mark c n r))) (lex s key_continue ∷ lex c (word n) ∷ r) r
+  pub continue_label_reads : (s c : Span) (n : List ℕ) (r : Lexemes) → Stmt_of (continue_ (mark (lex s key_continue ∷ lex c (ident n) ∷ r) r) (Some (name_here mark c n r))) (lex s key_continue ∷ lex c (ident n) ∷ r) r
   unfolding stmt_step
-  continue_label_reads s c n r = keyed (continue_ (mark (lex s key_continue ∷ lex c (word n) ∷ r) r) (Some (name_here mark c n r))) (lex s key_continue ∷ lex c (word n) ∷ r) r refl (λ q. gives mark)
+  continue_label_reads s c n r = keyed (continue_ (mark (lex s key_continue ∷ lex c (ident n) ∷ r) r) (Some (name_here mark c n r))) (lex s key_continue ∷ lex c (ident n) ∷ r) r refl (λ q. gives mark)
 
   pub inner_reads : (s : Span) (sb : S) (body : Stmts S) (ts r : Lexemes) → at mark read_block (lex s brace ∷ ts) ≡ Some ((sb, body), r) → Stmt_of (inner sb body) (lex s brace ∷ ts) r
   unfolding stmt_step
   inner_reads s sb body ts r e = keyed (inner sb body) (lex s brace ∷ ts) r refl (λ q. asks mark e (gives mark))
 
-  pub defer_reads : (s : Span) (c : S) (f : Expr S) (xs : Exprs S) (ts r : Lexemes) → Full mark 1 false (call c f xs) true ts r → Stmt_of (defer (mark (lex s key_defer ∷ ts) r) (call c f xs)) (lex s key_defer ∷ ts) r
+  pub defer_reads : (s : Span) (c : S) (f : Expr S) (xs : Exprs S) (rest : Rest) (ts r : Lexemes) → Full mark 1 false (call c f xs rest) true ts r → Stmt_of (defer (mark (lex s key_defer ∷ ts) r) (call c f xs rest)) (lex s key_defer ∷ ts) r
   unfolding stmt_step
-  defer_reads s c f xs ts r k = keyed (defer (mark (lex s key_defer ∷ ts) r) (call c f xs)) (lex s key_defer ∷ ts) r refl (λ q.
-      asks mark (whole_expr mark 1 false (call c f xs) true ts r k (closes_plain r q) (closes_expr r q)) (gives mark))
+  defer_reads s c f xs rest ts r k = keyed (defer (mark (lex s key_defer ∷ ts) r) (call c f xs rest)) (lex s key_defer ∷ ts) r refl (λ q.
+      asks mark (whole_expr mark 1 false (call c f xs rest) true ts r k (closes_plain r q) (closes_expr r q)) (gives mark))
 
-  pub label_reads : (s c : Span) (n : List ℕ) (x : Stmt S) (ts r : Lexemes) → Stmt_of x ts r → Stmt_of (label (mark (lex s (word n) ∷ lex c colon ∷ ts) r) (name_here mark s n (lex c colon ∷ ts)) x) (lex s (word n) ∷ lex c colon ∷ ts) r
+  pub label_reads : (s c : Span) (n : List ℕ) (x : Stmt S) (ts r : Lexemes) → Stmt_of x ts r → Stmt_of (label (mark (lex s (ident n) ∷ lex c colon ∷ ts) r) (name_here mark s n (lex c colon ∷ ts)) x) (lex s (ident n) ∷ lex c colon ∷ ts) r
   unfolding stmt_step
-  label_reads s c n x ts r f = keyed (label (mark (lex s (word n) ∷ lex c colon ∷ ts) r) (name_here mark s n (lex c colon ∷ ts)) x) (lex s (word n) ∷ lex c colon ∷ ts) r refl (λ q. asks mark (f.reads q) (gives mark))
+  label_reads s c n x ts r f = keyed (label (mark (lex s (ident n) ∷ lex c colon ∷ ts) r) (name_here mark s n (lex c colon ∷ ts)) x) (lex s (ident n) ∷ lex c colon ∷ ts) r refl (λ q. asks mark (f.reads q) (gives mark))
 
   pub const_reads : (s : Span) (g : Bool) (ss : ValueSpecs S) (ts r : Lexemes) → (ends_spec r ≡ true → at mark (read_decl true) ts ≡ Some ((g, ss), r)) → Stmt_of (const_decl (mark (lex s key_const ∷ ts) r) g ss) (lex s key_const ∷ ts) r
   unfolding stmt_step

@@ -1,6 +1,7 @@
 -- Expressions, read by evaluation: all of the text is spelled as the tree, or nothing is.
 use Rattle.std.proofs.Common.{◌≡◌, true, false, [], ◌∷◌, Some, None, refl}
 use Rattle.std.specs.Prelude.{codes}
+use Rattle.go_tree.specs.declared.exprs.Rest.TheVariants.{Plain, Whole}
 use Rattle.go_tree.specs.declared.operators.BinOp.TheVariants.{Add, Sub, Mul, LogOr, LogAnd, Eq}
 use Rattle.go_tree.specs.declared.operators.UnOp.TheVariants.{Minus, Not, Address}
 use Rattle.go_tree.specs.Tree.{named, slice_type, map_type, struct_type, no_fields, str_lit, composite, selector, index, slice, call, func_lit, type_operand, unary, binary, star, no_exprs, no_expr, some_expr, no_elems, elem, plain, braced, no_value, some_value, return_, no_stmts}
@@ -35,15 +36,15 @@ star_of_field : reading (read_operand false) (codes "* p . q") ≡ Some (star tt
 unfolding reading
 star_of_field = refl
 
-convert_nil : reading (read_operand false) (codes "[ ] int ( nil )") ≡ Some (call tt (type_operand tt (slice_type tt (type (codes "int")))) (list ((var (codes "nil")) ∷ [])))
+convert_nil : reading (read_operand false) (codes "[ ] int ( nil )") ≡ Some (call tt (type_operand tt (slice_type tt (type (codes "int")))) (list ((var (codes "nil")) ∷ [])) Plain)
 unfolding reading
 convert_nil = refl
 
-convert_pointer : reading (read_operand false) (codes "( * T ) ( x )") ≡ Some (call tt (star tt (var (codes "T"))) (list ((var (codes "x")) ∷ [])))
+convert_pointer : reading (read_operand false) (codes "( * T ) ( x )") ≡ Some (call tt (star tt (var (codes "T"))) (list ((var (codes "x")) ∷ [])) Plain)
 unfolding reading
 convert_pointer = refl
 
-make_slice : reading (read_operand false) (codes "make ( [ ] int , 3 )") ≡ Some (call tt (var (codes "make")) (list ((type_operand tt (slice_type tt (type (codes "int")))) ∷ (num (codes "3")) ∷ [])))
+make_slice : reading (read_operand false) (codes "make ( [ ] int , 3 )") ≡ Some (call tt (var (codes "make")) (list ((type_operand tt (slice_type tt (type (codes "int")))) ∷ (num (codes "3")) ∷ [])) Plain)
 unfolding reading
 make_slice = refl
 
@@ -55,11 +56,11 @@ empty_struct : reading (read_operand false) (codes "struct { } { }") ≡ Some (c
 unfolding reading
 empty_struct = refl
 
-called_literal : reading (read_operand false) (codes "func ( ) int { return 1 } ( )") ≡ Some (call tt (func_lit tt (record { params = []; results = record { span = tt; name = None; of = (type (codes "int")) } ∷ [] }) tt (block (return_ tt (list ((num (codes "1")) ∷ [])) ∷ []))) no_exprs)
+called_literal : reading (read_operand false) (codes "func ( ) int { return 1 } ( )") ≡ Some (call tt (func_lit tt (record { params = []; results = record { span = tt; name = None; rest = false; of = (type (codes "int")) } ∷ [] }) tt (block (return_ tt (list ((num (codes "1")) ∷ [])) ∷ []))) no_exprs Plain)
 unfolding reading
 called_literal = refl
 
-called_in_parens : reading (read_operand false) (codes "( func ( ) { } ) ( )") ≡ Some (call tt (func_lit tt (record { params = []; results = [] }) tt no_stmts) no_exprs)
+called_in_parens : reading (read_operand false) (codes "( func ( ) { } ) ( )") ≡ Some (call tt (func_lit tt (record { params = []; results = [] }) tt no_stmts) no_exprs Plain)
 unfolding reading
 called_in_parens = refl
 
@@ -71,7 +72,7 @@ literal_as_argument : reading (read_operand false) (codes "f ( func ( ) { } )") 
 unfolding reading
 literal_as_argument = refl
 
-trailing_comma : reading (read_operand false) (codes "a . b . c ( x , )") ≡ Some (call tt (selector tt (selector tt (var (codes "a")) (name (codes "b"))) (name (codes "c"))) (list ((var (codes "x")) ∷ [])))
+trailing_comma : reading (read_operand false) (codes "a . b . c ( x , )") ≡ Some (call tt (selector tt (selector tt (var (codes "a")) (name (codes "b"))) (name (codes "c"))) (list ((var (codes "x")) ∷ [])) Plain)
 unfolding reading
 trailing_comma = refl
 
@@ -91,7 +92,7 @@ slice_both : reading (read_operand false) (codes "s [ 1 : 2 ]") ≡ Some (slice 
 unfolding reading
 slice_both = refl
 
-indexed_call : reading (read_operand false) (codes "f ( x ) [ 0 ]") ≡ Some (index tt (call tt (var (codes "f")) (list ((var (codes "x")) ∷ []))) (num (codes "0")))
+indexed_call : reading (read_operand false) (codes "f ( x ) [ 0 ]") ≡ Some (index tt (call tt (var (codes "f")) (list ((var (codes "x")) ∷ [])) Plain) (num (codes "0")))
 unfolding reading
 indexed_call = refl
 
@@ -119,7 +120,7 @@ two_operands : reading (read_operand false) (codes "a b") ≡ None
 unfolding reading
 two_operands = refl
 
-type_parens : reading (read_operand false) (codes "[ ] ( int ) ( x )") ≡ Some (call tt (type_operand tt (slice_type tt (type (codes "int")))) (list ((var (codes "x")) ∷ [])))
+type_parens : reading (read_operand false) (codes "[ ] ( int ) ( x )") ≡ Some (call tt (type_operand tt (slice_type tt (type (codes "int")))) (list ((var (codes "x")) ∷ [])) Plain)
 unfolding reading
 type_parens = refl
 
@@ -130,3 +131,45 @@ literal_parens = refl
 literal_in_header : reading (read_operand true) (codes "P { 1 }") ≡ None
 unfolding reading
 literal_in_header = refl
+
+-- ---- calls with a slice for the last parameter (Passing arguments to ... parameters)
+
+spread : reading (read_operand false) (codes "f ( s ... )") ≡ Some (call tt (var (codes "f")) (list ((var (codes "s")) ∷ [])) Whole)
+unfolding reading
+spread = refl
+
+spread_comma : reading (read_operand false) (codes "f ( s ... , )") ≡ Some (call tt (var (codes "f")) (list ((var (codes "s")) ∷ [])) Whole)
+unfolding reading
+spread_comma = refl
+
+appended : reading (read_operand false) (codes "append ( s , t ... )") ≡ Some (call tt (var (codes "append")) (list ((var (codes "s")) ∷ (var (codes "t")) ∷ [])) Whole)
+unfolding reading
+appended = refl
+
+spread_number : reading (read_operand false) (codes "f ( 1 ... )") ≡ Some (call tt (var (codes "f")) (list ((num (codes "1")) ∷ [])) Whole)
+unfolding reading
+spread_number = refl
+
+spread_alone : reading (read_operand false) (codes "f ( ... )") ≡ None
+unfolding reading
+spread_alone = refl
+
+spread_in_front : reading (read_operand false) (codes "f ( a ... , b )") ≡ None
+unfolding reading
+spread_in_front = refl
+
+spread_twice : reading (read_operand false) (codes "f ( a ... ... )") ≡ None
+unfolding reading
+spread_twice = refl
+
+spread_after_comma : reading (read_operand false) (codes "f ( a , ... )") ≡ None
+unfolding reading
+spread_after_comma = refl
+
+spread_type : reading (read_operand false) (codes "f ( [ ] int ... )") ≡ None
+unfolding reading
+spread_type = refl
+
+variadic_literal : reading (read_operand false) (codes "func ( xs ... int ) { } ( )") ≡ None
+unfolding reading
+variadic_literal = refl

@@ -6,23 +6,23 @@ use Rattle.go_tree.specs.File.{func, types}
 use Rattle.go_read.specs.Goals.{read_type, read_params, read_import, read_top, read_front}
 use Rattle.go_read.proofs.Texts.{reading, name, type}
 
-shared_type : reading read_params (codes "( x , y int )") ≡ Some (record { span = tt; name = Some (name (codes "x")); of = (type (codes "int")) } ∷ record { span = tt; name = Some (name (codes "y")); of = (type (codes "int")) } ∷ [])
+shared_type : reading (read_params false) (codes "( x , y int )") ≡ Some (record { span = tt; name = Some (name (codes "x")); rest = false; of = (type (codes "int")) } ∷ record { span = tt; name = Some (name (codes "y")); rest = false; of = (type (codes "int")) } ∷ [])
 unfolding reading
 shared_type = refl
 
-own_types : reading read_params (codes "( x int , y int )") ≡ Some (record { span = tt; name = Some (name (codes "x")); of = (type (codes "int")) } ∷ record { span = tt; name = Some (name (codes "y")); of = (type (codes "int")) } ∷ [])
+own_types : reading (read_params false) (codes "( x int , y int )") ≡ Some (record { span = tt; name = Some (name (codes "x")); rest = false; of = (type (codes "int")) } ∷ record { span = tt; name = Some (name (codes "y")); rest = false; of = (type (codes "int")) } ∷ [])
 unfolding reading
 own_types = refl
 
-types_alone : reading read_params (codes "( int , lib . T , )") ≡ Some (record { span = tt; name = None; of = (type (codes "int")) } ∷ record { span = tt; name = None; of = named tt (Some (name (codes "lib"))) (name (codes "T")) } ∷ [])
+types_alone : reading (read_params false) (codes "( int , lib . T , )") ≡ Some (record { span = tt; name = None; rest = false; of = (type (codes "int")) } ∷ record { span = tt; name = None; rest = false; of = named tt (Some (name (codes "lib"))) (name (codes "T")) } ∷ [])
 unfolding reading
 types_alone = refl
 
-mixed_params : reading read_params (codes "( a int , b )") ≡ None
+mixed_params : reading (read_params false) (codes "( a int , b )") ≡ None
 unfolding reading
 mixed_params = refl
 
-pointer_param : reading read_params (codes "( p * T )") ≡ Some (record { span = tt; name = Some (name (codes "p")); of = pointer tt (type (codes "T")) } ∷ [])
+pointer_param : reading (read_params false) (codes "( p * T )") ≡ Some (record { span = tt; name = Some (name (codes "p")); rest = false; of = pointer tt (type (codes "T")) } ∷ [])
 unfolding reading
 pointer_param = refl
 
@@ -50,7 +50,7 @@ type_group : reading read_top (codes "type ( A = B ; C int ; )") ≡ Some (types
 unfolding reading
 type_group = refl
 
-method : reading read_top (codes "func ( r * T ) m ( ) ( int , error ) { }") ≡ Some (func (record { span = tt; receiver = Some (record { span = tt; name = Some (name (codes "r")); pointer = true; of = (name (codes "T")) }); name = (name (codes "m")); sig = record { params = []; results = record { span = tt; name = None; of = (type (codes "int")) } ∷ record { span = tt; name = None; of = (type (codes "error")) } ∷ [] }; body_span = tt; body = no_stmts }))
+method : reading read_top (codes "func ( r * T ) m ( ) ( int , error ) { }") ≡ Some (func (record { span = tt; receiver = Some (record { span = tt; name = Some (name (codes "r")); pointer = true; of = (name (codes "T")) }); name = (name (codes "m")); sig = record { params = []; results = record { span = tt; name = None; rest = false; of = (type (codes "int")) } ∷ record { span = tt; name = None; rest = false; of = (type (codes "error")) } ∷ [] }; body_span = tt; body = no_stmts }))
 unfolding reading
 method = refl
 
@@ -69,6 +69,54 @@ late_import = refl
 no_last_semicolon : reading read_front (codes "package p ; var x int") ≡ None
 unfolding reading
 no_last_semicolon = refl
+
+-- ---- variadic parameters (Function types)
+
+variadic : reading (read_params true) (codes "( xs ... int )") ≡ Some (record { span = tt; name = Some (name (codes "xs")); rest = true; of = (type (codes "int")) } ∷ [])
+unfolding reading
+variadic = refl
+
+variadic_comma : reading (read_params true) (codes "( a int , xs ... int , )") ≡ Some (record { span = tt; name = Some (name (codes "a")); rest = false; of = (type (codes "int")) } ∷ record { span = tt; name = Some (name (codes "xs")); rest = true; of = (type (codes "int")) } ∷ [])
+unfolding reading
+variadic_comma = refl
+
+variadic_type : reading (read_params true) (codes "( int , ... string )") ≡ Some (record { span = tt; name = None; rest = false; of = (type (codes "int")) } ∷ record { span = tt; name = None; rest = true; of = (type (codes "string")) } ∷ [])
+unfolding reading
+variadic_type = refl
+
+variadic_alone : reading (read_params true) (codes "( ... string , )") ≡ Some (record { span = tt; name = None; rest = true; of = (type (codes "string")) } ∷ [])
+unfolding reading
+variadic_alone = refl
+
+variadic_function : is_some (reading read_top (codes "func f ( xs ... int ) int { return len ( xs ) }")) ≡ true
+unfolding reading
+variadic_function = refl
+
+-- named and unnamed parameters don't stand in one list
+variadic_mixed : reading read_top (codes "func f ( a int , ... string ) { }") ≡ None
+unfolding reading
+variadic_mixed = refl
+
+-- one name alone stands before the dots
+variadic_shared : reading read_top (codes "func f ( a , b ... int ) { }") ≡ None
+unfolding reading
+variadic_shared = refl
+
+variadic_not_last : reading read_top (codes "func f ( xs ... int , a int ) { }") ≡ None
+unfolding reading
+variadic_not_last = refl
+
+variadic_without_type : reading read_top (codes "func f ( xs ... ) { }") ≡ None
+unfolding reading
+variadic_without_type = refl
+
+variadic_result : reading read_top (codes "func f ( ) ( xs ... int ) { }") ≡ None
+unfolding reading
+variadic_result = refl
+
+variadic_method : reading read_top (codes "func ( r T ) f ( xs ... int ) { }") ≡ None
+unfolding reading
+variadic_method = refl
 
 -- a library and a program that uses it are read whole
 library_file : is_some (reading read_front (codes "package lib ; import \"example.com/lib/text\" ; const ( MaxWidth = text . Wide ; limit = 3 ; ) ; type Row = text . Line ; func PadLeft ( s string , n int ) string { return text . Pad ( s , n , true ) ; } ; func Show ( rows [ ] Row , width int ) { for _ , r := range rows { text . Put ( r , width ) ; } ; } ; func Total ( rows [ ] Row ) int { t := limit ; for _ , r := range rows { t += len ( r . Body ) ; } ; return t ; } ;")) ≡ true

@@ -2,7 +2,7 @@
 use Rattle.std.proofs.Common.{◌≡◌, ℕ, Bool, true, false, ◌∷◌, Option, Some, None, refl, ap, ◌∙◌}
 use Rattle.std.specs.Prelude.{option_and_then}
 use Rattle.go_tree.specs.declared.operators.BinOp.TheVariants.{Mul, Add, Sub, Xor, And}
-use Rattle.go_read.specs.SpellsTerminals.{lex, word, number, rune, text, sign, bang, short, comma, semicolon, dot, paren, end_paren, bracket, brace, end_brace, key_case, key_default, key_func, key_map, key_struct}
+use Rattle.go_words.specs.Terminals.{lex, ident, int_lit, rune_lit, str_lit, binary_op, not_, define, comma, semicolon, dot, paren, end_paren, bracket, brace, end_brace, key_case, key_default, key_func, key_map, key_struct}
 use Rattle.go_read.specs.SpellsTypes.{Lexemes}
 use Rattle.go_tree.specs.Tree.{Expr}
 use Rattle.go_read.specs.Goals.{Goal, Answer, read_more, read_postfix}
@@ -59,7 +59,7 @@ is_comma (lex _ comma ∷ _) = true
 is_comma _ = false
 
 abbrev pub is_short : Lexemes → Bool
-is_short (lex _ short ∷ _) = true
+is_short (lex _ define ∷ _) = true
 is_short _ = false
 
 -- nothing that goes on with an operand, and nothing that goes on with an expression
@@ -74,7 +74,7 @@ abbrev pub ends_exprs : Lexemes → Bool
 ends_exprs (lex _ paren ∷ _) = false
 ends_exprs (lex _ dot ∷ _) = false
 ends_exprs (lex _ bracket ∷ _) = false
-ends_exprs (lex _ (sign _) ∷ _) = false
+ends_exprs (lex _ (binary_op _) ∷ _) = false
 ends_exprs (lex _ comma ∷ _) = false
 ends_exprs _ = true
 
@@ -102,12 +102,12 @@ ends_block _ = false
 -- ---- tokens that begin a part
 
 abbrev pub starts_word : Lexemes → Bool
-starts_word (lex _ (word _) ∷ _) = true
+starts_word (lex _ (ident _) ∷ _) = true
 starts_word _ = false
 
 abbrev pub begins_type : Lexemes → Bool
-begins_type (lex _ (word _) ∷ _) = true
-begins_type (lex _ (sign Mul) ∷ _) = true
+begins_type (lex _ (ident _) ∷ _) = true
+begins_type (lex _ (binary_op Mul) ∷ _) = true
 begins_type (lex _ bracket ∷ _) = true
 begins_type (lex _ key_map ∷ _) = true
 begins_type (lex _ key_struct ∷ _) = true
@@ -115,19 +115,19 @@ begins_type (lex _ paren ∷ _) = true
 begins_type _ = false
 
 abbrev pub begins_expr : Lexemes → Bool
-begins_expr (lex _ (word _) ∷ _) = true
-begins_expr (lex _ (number _) ∷ _) = true
-begins_expr (lex _ (rune _) ∷ _) = true
-begins_expr (lex _ (text _) ∷ _) = true
+begins_expr (lex _ (ident _) ∷ _) = true
+begins_expr (lex _ (int_lit _) ∷ _) = true
+begins_expr (lex _ (rune_lit _) ∷ _) = true
+begins_expr (lex _ (str_lit _) ∷ _) = true
 begins_expr (lex _ paren ∷ _) = true
 begins_expr (lex _ bracket ∷ _) = true
 begins_expr (lex _ key_map ∷ _) = true
 begins_expr (lex _ key_struct ∷ _) = true
 begins_expr (lex _ key_func ∷ _) = true
-begins_expr (lex _ (sign Mul) ∷ _) = true
-begins_expr (lex _ (sign Add) ∷ _) = true
-begins_expr (lex _ (sign Sub) ∷ _) = true
-begins_expr (lex _ (sign Xor) ∷ _) = true
-begins_expr (lex _ (sign And) ∷ _) = true
-begins_expr (lex _ bang ∷ _) = true
+begins_expr (lex _ (binary_op Mul) ∷ _) = true
+begins_expr (lex _ (binary_op Add) ∷ _) = true
+begins_expr (lex _ (binary_op Sub) ∷ _) = true
+begins_expr (lex _ (binary_op Xor) ∷ _) = true
+begins_expr (lex _ (binary_op And) ∷ _) = true
+begins_expr (lex _ not_ ∷ _) = true
 begins_expr _ = false

@@ -3,7 +3,7 @@ use Rattle.std.proofs.Common.{◌≡◌, ℕ, ◌+◌, ◌<◌, ◌≤◌, Bool,
 use Rattle.std.specs.Prelude.{if◌then◌else◌}
 use Rattle.go_tree.specs.declared.spans.Span.{Span}
 use Rattle.go_tree.specs.Tree.{Expr}
-use Rattle.go_read.specs.SpellsTerminals.{lex, sign, semicolon, colon, brace, end_brace, end_bracket, end_paren, key_range, level_of}
+use Rattle.go_words.specs.Terminals.{lex, binary_op, semicolon, colon, brace, end_brace, end_bracket, end_paren, key_range, level_of}
 use Rattle.go_read.specs.SpellsTypes.{Lexemes, SpellsType, SpellsFields, SpellsEntries, SpellsNamed, SpellsUnnamed, SpellsParams, SpellsSig, SpellsNames}
 use Rattle.go_read.specs.Spells.{SpellsBare, SpellsExpr, SpellsOperand, SpellsExprs, SpellsArgs, SpellsElems, SpellsElem, SpellsValue, SpellsSimple, SpellsStmt, SpellsStmts, SpellsBlock, SpellsIf, SpellsArm, SpellsLeft, SpellsCases, SpellsDecl, SpellsSpecs, SpellsSpec, ident_rule, int_rule, rune_rule, text_rule, composite_rule, func_rule, type_rule, selector_rule, index_rule, slice_rule, call_rule, unary_rule, star_rule, binary_rule, bare_rule, parens_rule}
 use Rattle.go_read.specs.SpellsFiles.{SpellsImportSpec, SpellsImportSpecs, SpellsImport, SpellsTypeSpec, SpellsTypeSpecs, SpellsReceiver, SpellsTop, SpellsImports, SpellsTops, SpellsFront}
@@ -13,15 +13,15 @@ use Rattle.go_read.proofs.Runs as runs
 
 -- an operator that follows binds less than this, and at most so
 abbrev pub Stops : ℕ → Lexemes → Type 0
-Stops level (lex _ (sign op) ∷ _) = level_of op < level
+Stops level (lex _ (binary_op op) ∷ _) = level_of op < level
 Stops level _ = Unit {0}
 
 abbrev pub Low : ℕ → Lexemes → Type 0
-Low level (lex _ (sign op) ∷ _) = level_of op ≤ level
+Low level (lex _ (binary_op op) ∷ _) = level_of op ≤ level
 Low level _ = Unit {0}
 
 pub low_of_stops : (n : ℕ) (ts : Lexemes) → Stops (n + 1) ts → Low n ts
-low_of_stops n (lex _ (sign op) ∷ _) h = omega (arith, h)
+low_of_stops n (lex _ (binary_op op) ∷ _) h = omega (arith, h)
 low_of_stops n _ h = tt
 
 module _ {S : Type 0} (mark : Lexemes → Lexemes → S) where
@@ -67,10 +67,10 @@ module _ {S : Type 0} (mark : Lexemes → Lexemes → S) where
   Means read_type ts x r = SpellsType mark x ts r
   Means read_fields ts x r = SpellsFields mark x ts r
   Means read_entries ts x r = SpellsEntries mark x.0 x.1 ts r
-  Means read_named ts x r = SpellsNamed mark x ts r
-  Means read_unnamed ts x r = SpellsUnnamed mark x ts r
-  Means read_params ts x r = SpellsParams mark x ts r
-  Means read_sig ts x r = SpellsSig mark x ts r
+  Means (read_named v) ts x r = SpellsNamed mark v x ts r
+  Means (read_unnamed v) ts x r = SpellsUnnamed mark v x ts r
+  Means (read_params v) ts x r = SpellsParams mark v x ts r
+  Means (read_sig v) ts x r = SpellsSig mark v x ts r
   Means read_names ts x r = SpellsNames mark x ts r
   Means (read_expr l h) ts x r = l ≤ 6 → Held x.1 l h x.0 ts r × Stops l r
   Means (read_more l h whole left bare) ts x r = (q : ℕ) → l ≤ 6 → l ≤ q → Held bare q h left whole ts → Low q ts → Held x.1 l h x.0 whole r × Stops l r
@@ -78,7 +78,7 @@ module _ {S : Type 0} (mark : Lexemes → Lexemes → S) where
   Means (read_postfix h whole base bare) ts x r = Held bare 7 h base whole ts → Held x.1 7 h x.0 whole r
   Means (read_operand h) ts x r = SpellsOperand mark 1 h x ts r
   Means (read_exprs h) ts x r = SpellsExprs mark h x ts r
-  Means read_args ts x r = SpellsArgs mark x ts r
+  Means read_args ts x r = SpellsArgs mark x.0 x.1 ts r
   Means read_elems ts x r = SpellsElems mark x ts r
   Means read_elem ts x r = SpellsElem mark x.0 x.1 ts r
   Means read_value ts x r = SpellsValue mark x ts r

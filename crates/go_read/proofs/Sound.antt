@@ -16,10 +16,10 @@ module _ {S : Type 0} (mark : Lexemes → Lexemes → S) where
   each read_type ts = type_fine mark ts
   each read_fields ts = fields_fine mark ts
   each read_entries ts = entries_fine mark ts
-  each read_named ts = named_fine mark ts
-  each read_unnamed ts = unnamed_fine mark ts
-  each read_params ts = params_fine mark ts
-  each read_sig ts = sig_fine mark ts
+  each (read_named v) ts = named_fine mark v ts
+  each (read_unnamed v) ts = unnamed_fine mark v ts
+  each (read_params v) ts = params_fine mark v ts
+  each (read_sig v) ts = sig_fine mark v ts
   each read_names ts = names_fine mark ts
   each (read_expr l h) ts = expr_fine mark l h ts
   each (read_more l h whole left bare) ts = more_fine mark l h whole left bare ts

@@ -6,10 +6,12 @@ use Rattle.go_tree.specs.declared.operators.BinOp.{BinOp}
 use Rattle.go_tree.specs.declared.operators.BinOp.TheVariants.{Mul, Div, Rem, Shl, Shr, And, AndNot, Add, Sub, Or, Xor, Eq, Ne, Lt, Le, Gt, Ge, LogAnd, LogOr}
 use Rattle.go_tree.specs.declared.operators.UnOp.{UnOp}
 use Rattle.go_tree.specs.declared.operators.UnOp.TheVariants.{Plus, Minus, Not, Flip, Address}
+use Rattle.go_tree.specs.declared.exprs.Rest.{Rest}
 use Rattle.go_tree.specs.Tree.{TypeExpr, named, Expr, Exprs, ExprOption, Value, ValueOption, ident, int_lit, rune_lit, str_lit, composite, selector, index, slice, call, func_lit, type_operand, star, expr_and, no_expr, some_expr}
-use Rattle.go_read.specs.SpellsTerminals.{lex, word, number, rune, text, sign, bang, comma, colon, dot, paren, end_paren, bracket, end_bracket, brace, end_brace, key_func, key_map, key_struct, level_of, unary_sign}
+use Rattle.go_words.specs.Terminals as terminal
+use Rattle.go_words.specs.Terminals.{lex, binary_op, not_, comma, colon, dot, ellipsis, paren, end_paren, bracket, end_bracket, brace, end_brace, key_func, key_map, key_struct, level_of, unary_sign}
 use Rattle.go_read.specs.SpellsTypes.{Lexemes, name_here}
-use Rattle.go_read.specs.Spells.{is_func_lit, starts_type, SpellsOperand, SpellsOption, SpellsArgs, SpellsLiteralType, named_literal_rule, qualified_literal_rule, type_literal_rule, ident_rule, int_rule, rune_rule, text_rule, composite_rule, func_rule, type_rule, selector_rule, index_rule, slice_rule, call_rule, unary_rule, star_rule, binary_rule, parens_rule, operand_rule, no_expr_rule, some_expr_rule, last_expr_rule, more_exprs_rule, no_args_rule, args_rule, comma_args_rule, no_elems_rule, last_elem_rule, more_elems_rule, value_rule, keyed_rule, plain_rule, braced_rule}
+use Rattle.go_read.specs.Spells.{is_func_lit, starts_type, SpellsOperand, SpellsOption, SpellsArgs, SpellsLiteralType, named_literal_rule, qualified_literal_rule, type_literal_rule, ident_rule, int_rule, rune_rule, text_rule, composite_rule, func_rule, type_rule, selector_rule, index_rule, slice_rule, call_rule, unary_rule, star_rule, binary_rule, parens_rule, operand_rule, no_expr_rule, some_expr_rule, last_expr_rule, more_exprs_rule, no_args_rule, args_rule, comma_args_rule, rest_args_rule, comma_rest_args_rule, no_elems_rule, last_elem_rule, more_elems_rule, value_rule, keyed_rule, plain_rule, braced_rule}
 use Rattle.go_read.specs.Goals.{read_type, read_expr, read_more, read_unary, read_postfix, read_operand, read_exprs, read_args, read_elems, read_elem, read_value}
 use Rattle.go_read.specs.Programs.{give, ask, unless}
 use Rattle.go_read.specs.ReadExprs.{expr_step, binary_step, more_step, then_postfix, composite_step, word_step, type_after, type_first, prefix_step, unary_step, bracket_high, bracket_after, bracket_step, postfix_step, operand_step, exprs_after, exprs_step, args_after, args_step, elems_after, elems_step, elem_after, elem_step, value_step}
@@ -43,7 +45,7 @@ pub le_false : (a b : ℕ) → nat_le a b ≡ false → b < a
 le_false a b e = grind (arith, nat_tests, e)
 
 low_six : (ts : Lexemes) → Low 6 ts
-low_six (lex _ (sign op) ∷ _) = omega (arith, level_most op)
+low_six (lex _ (binary_op op) ∷ _) = omega (arith, level_most op)
 low_six _ = tt
 
 module _ {S : Type 0} (mark : Lexemes → Lexemes → S) where
@@ -53,7 +55,7 @@ module _ {S : Type 0} (mark : Lexemes → Lexemes → S) where
       (omega arith, λ x r g. (omega (arith, g.0), λ y r2 k. (omega (arith, g.0, k.0), λ six. k.1 6 six six g.1 (low_six r))))
 
   binary_fine : (l : ℕ) (h : Bool) (whole : Lexemes) (left : Expr S) (bare : Bool) (s : Span) (op : BinOp) (ts : Lexemes) → l ≤ level_of op → is_func_lit left ≡ false
-      → Fine mark (8 * length (lex s (sign op) ∷ ts) + 0) (Good mark (read_more l h whole left bare) (lex s (sign op) ∷ ts)) (binary_step mark l h whole left op ts)
+      → Fine mark (8 * length (lex s (binary_op op) ∷ ts) + 0) (Good mark (read_more l h whole left bare) (lex s (binary_op op) ∷ ts)) (binary_step mark l h whole left op ts)
   binary_fine l h whole left bare s op ts le no_left = (
     omega arith,
     λ x r g. fine_unless mark _ _ (is_func_lit x.0) _ (λ no_right. (
@@ -63,7 +65,7 @@ module _ {S : Type 0} (mark : Lexemes → Lexemes → S) where
         λ q six lq held low.
             let right = g.1 (omega (arith, level_most op)) in
             k.1 (level_of op) six le
-            (binary_rule (omega arith) (operand_rule no_left (held_expr mark bare (level_of op) h left whole (lex s (sign op) ∷ ts) (weaken mark bare q (level_of op) h left whole (lex s (sign op) ∷ ts) low held)))
+            (binary_rule (omega arith) (operand_rule no_left (held_expr mark bare (level_of op) h left whole (lex s (binary_op op) ∷ ts) (weaken mark bare q (level_of op) h left whole (lex s (binary_op op) ∷ ts) low held)))
             (operand_rule no_right (held_expr mark x.1 (level_of op + 1) h x.0 ts r right.0)))
             (low_of_stops (level_of op) r right.1),
       ),
@@ -75,10 +77,10 @@ module _ {S : Type 0} (mark : Lexemes → Lexemes → S) where
 
   pub more_fine : (l : ℕ) (h : Bool) (whole : Lexemes) (left : Expr S) (bare : Bool) (ts : Lexemes) → Step mark (read_more l h whole left bare) ts (more_step mark l h whole left bare ts)
   unfolding more_step
-  more_fine l h whole left bare (lex s (sign op) ∷ ts) =
+  more_fine l h whole left bare (lex s (binary_op op) ∷ ts) =
       fine_if mark _ _ (nat_le l (level_of op)) _ _
       (λ le. fine_unless mark _ _ (is_func_lit left) _ (λ no_left. binary_fine l h whole left bare s op ts (le_true l (level_of op) le) no_left))
-      (λ gt. no_more l h whole left bare (lex s (sign op) ∷ ts) (le_false l (level_of op) gt))
+      (λ gt. no_more l h whole left bare (lex s (binary_op op) ∷ ts) (le_false l (level_of op) gt))
   more_fine l h whole left bare [] = no_more l h whole left bare [] tt
   more_fine l h whole left bare (lex s t ∷ ts) = no_more l h whole left bare (lex s t ∷ ts) tt
 
@@ -95,13 +97,13 @@ module _ {S : Type 0} (mark : Lexemes → Lexemes → S) where
         based h ts (composite (mark ts r) t es) true r (omega (arith, le, g.0)) (composite_rule d g.1)),
   )
 
-  word_fine : (h : Bool) (s : Span) (n : List ℕ) (ts : Lexemes) → Fine mark (8 * length (lex s (word n) ∷ ts) + 1) (Good mark (read_unary h) (lex s (word n) ∷ ts)) (word_step mark h s n ts)
-  word_fine false s n (lex b brace ∷ ts) = composite_fine false (lex s (word n) ∷ lex b brace ∷ ts) (named (mark (lex s (word n) ∷ lex b brace ∷ ts) (lex b brace ∷ ts)) None (name_here mark s n (lex b brace ∷ ts))) b ts (omega arith) named_literal_rule
-  word_fine false s p (lex d dot ∷ lex s2 (word n) ∷ lex b brace ∷ ts) =
-      composite_fine false (lex s (word p) ∷ lex d dot ∷ lex s2 (word n) ∷ lex b brace ∷ ts)
-      (named (mark (lex s (word p) ∷ lex d dot ∷ lex s2 (word n) ∷ lex b brace ∷ ts) (lex b brace ∷ ts)) (Some (name_here mark s p (lex d dot ∷ lex s2 (word n) ∷ lex b brace ∷ ts))) (name_here mark s2 n (lex b brace ∷ ts)))
+  word_fine : (h : Bool) (s : Span) (n : List ℕ) (ts : Lexemes) → Fine mark (8 * length (lex s (terminal.ident n) ∷ ts) + 1) (Good mark (read_unary h) (lex s (terminal.ident n) ∷ ts)) (word_step mark h s n ts)
+  word_fine false s n (lex b brace ∷ ts) = composite_fine false (lex s (terminal.ident n) ∷ lex b brace ∷ ts) (named (mark (lex s (terminal.ident n) ∷ lex b brace ∷ ts) (lex b brace ∷ ts)) None (name_here mark s n (lex b brace ∷ ts))) b ts (omega arith) named_literal_rule
+  word_fine false s p (lex d dot ∷ lex s2 (terminal.ident n) ∷ lex b brace ∷ ts) =
+      composite_fine false (lex s (terminal.ident p) ∷ lex d dot ∷ lex s2 (terminal.ident n) ∷ lex b brace ∷ ts)
+      (named (mark (lex s (terminal.ident p) ∷ lex d dot ∷ lex s2 (terminal.ident n) ∷ lex b brace ∷ ts) (lex b brace ∷ ts)) (Some (name_here mark s p (lex d dot ∷ lex s2 (terminal.ident n) ∷ lex b brace ∷ ts))) (name_here mark s2 n (lex b brace ∷ ts)))
       b ts (omega arith) qualified_literal_rule
-  word_fine h s n ts = based h (lex s (word n) ∷ ts) (ident (mark (lex s (word n) ∷ ts) ts) n) true ts (omega arith) ident_rule
+  word_fine h s n ts = based h (lex s (terminal.ident n) ∷ ts) (ident (mark (lex s (terminal.ident n) ∷ ts) ts) n) true ts (omega arith) ident_rule
 
   type_after_fine : (h : Bool) (ts : Lexemes) (t : TypeExpr S) (r : Lexemes) → starts_type ts ≡ true → Good mark read_type ts t r → Fine mark (8 * length ts + 1) (Good mark (read_unary h) ts) (type_after mark h ts t r)
   type_after_fine h ts t (lex b brace ∷ r) starts g = composite_fine h ts t b r (omega (arith, g.0)) (type_literal_rule starts g.1)
@@ -119,16 +121,16 @@ module _ {S : Type 0} (mark : Lexemes → Lexemes → S) where
       (omega arith, λ x r g. fine_unless mark _ _ (is_func_lit x.0) _ (λ free. (omega (arith, g.0), unary_rule (omega arith) (operand_rule free (held_expr mark x.1 6 h x.0 ts r g.1)))))
 
   star_fine : (h : Bool) (s : Span) (ts : Lexemes)
-      → Fine mark (8 * length (lex s (sign Mul) ∷ ts) + 1) (Good mark (read_unary h) (lex s (sign Mul) ∷ ts)) (ask (read_unary h) ts (λ x r. unless (is_func_lit x.0) (give (star (mark (lex s (sign Mul) ∷ ts) r) x.0, true) r)))
+      → Fine mark (8 * length (lex s (binary_op Mul) ∷ ts) + 1) (Good mark (read_unary h) (lex s (binary_op Mul) ∷ ts)) (ask (read_unary h) ts (λ x r. unless (is_func_lit x.0) (give (star (mark (lex s (binary_op Mul) ∷ ts) r) x.0, true) r)))
   star_fine h s ts =
       (omega arith, λ x r g. fine_unless mark _ _ (is_func_lit x.0) _ (λ free. (omega (arith, g.0), star_rule (omega arith) (operand_rule free (held_expr mark x.1 6 h x.0 ts r g.1)))))
 
   pub unary_fine : (h : Bool) (ts : Lexemes) → Step mark (read_unary h) ts (unary_step mark h ts)
   unfolding unary_step
-  unary_fine h (lex s (word n) ∷ ts) = word_fine h s n ts
-  unary_fine h (lex s (number n) ∷ ts) = based h (lex s (number n) ∷ ts) (int_lit (mark (lex s (number n) ∷ ts) ts) n) true ts (omega arith) int_rule
-  unary_fine h (lex s (rune n) ∷ ts) = based h (lex s (rune n) ∷ ts) (rune_lit (mark (lex s (rune n) ∷ ts) ts) n) true ts (omega arith) rune_rule
-  unary_fine h (lex s (text n) ∷ ts) = based h (lex s (text n) ∷ ts) (str_lit (mark (lex s (text n) ∷ ts) ts) n) true ts (omega arith) text_rule
+  unary_fine h (lex s (terminal.ident n) ∷ ts) = word_fine h s n ts
+  unary_fine h (lex s (terminal.int_lit n) ∷ ts) = based h (lex s (terminal.int_lit n) ∷ ts) (int_lit (mark (lex s (terminal.int_lit n) ∷ ts) ts) n) true ts (omega arith) int_rule
+  unary_fine h (lex s (terminal.rune_lit n) ∷ ts) = based h (lex s (terminal.rune_lit n) ∷ ts) (rune_lit (mark (lex s (terminal.rune_lit n) ∷ ts) ts) n) true ts (omega arith) rune_rule
+  unary_fine h (lex s (terminal.str_lit n) ∷ ts) = based h (lex s (terminal.str_lit n) ∷ ts) (str_lit (mark (lex s (terminal.str_lit n) ∷ ts) ts) n) true ts (omega arith) text_rule
   unary_fine h (lex s paren ∷ ts) = (
     omega arith,
     λ x r g. fine_end_paren mark _ _ (λ z. Good mark (read_expr 1 false) ts x z) r _ g (λ e r g.
@@ -139,12 +141,12 @@ module _ {S : Type 0} (mark : Lexemes → Lexemes → S) where
   unary_fine h (lex s bracket ∷ ts) = type_first_fine h (lex s bracket ∷ ts) refl
   unary_fine h (lex s key_map ∷ ts) = type_first_fine h (lex s key_map ∷ ts) refl
   unary_fine h (lex s key_struct ∷ ts) = type_first_fine h (lex s key_struct ∷ ts) refl
-  unary_fine h (lex s (sign Mul) ∷ ts) = star_fine h s ts
-  unary_fine h (lex s (sign Add) ∷ ts) = prefix_fine h s Plus ts
-  unary_fine h (lex s (sign Sub) ∷ ts) = prefix_fine h s Minus ts
-  unary_fine h (lex s (sign Xor) ∷ ts) = prefix_fine h s Flip ts
-  unary_fine h (lex s (sign And) ∷ ts) = prefix_fine h s Address ts
-  unary_fine h (lex s bang ∷ ts) = prefix_fine h s Not ts
+  unary_fine h (lex s (binary_op Mul) ∷ ts) = star_fine h s ts
+  unary_fine h (lex s (binary_op Add) ∷ ts) = prefix_fine h s Plus ts
+  unary_fine h (lex s (binary_op Sub) ∷ ts) = prefix_fine h s Minus ts
+  unary_fine h (lex s (binary_op Xor) ∷ ts) = prefix_fine h s Flip ts
+  unary_fine h (lex s (binary_op And) ∷ ts) = prefix_fine h s Address ts
+  unary_fine h (lex s not_ ∷ ts) = prefix_fine h s Not ts
   unary_fine h _ = tt
 
   -- an operand with one postfix more, and what follows it
@@ -181,9 +183,9 @@ module _ {S : Type 0} (mark : Lexemes → Lexemes → S) where
   pub postfix_fine : (h : Bool) (whole : Lexemes) (base : Expr S) (bare : Bool) (ts : Lexemes) → Step mark (read_postfix h whole base bare) ts (postfix_step mark h whole base bare ts)
   unfolding postfix_step
   postfix_fine h whole base bare (lex s paren ∷ ts) =
-      (omega arith, λ xs r g. onward h whole base bare (lex s paren ∷ ts) (call (mark whole r) base xs) r (omega (arith, g.0)) (λ held. call_rule (held_expr mark bare 7 h base whole (lex s paren ∷ ts) held) g.1))
-  postfix_fine h whole base bare (lex d dot ∷ lex s (word n) ∷ r) =
-      fine_unless mark _ _ (is_func_lit base) _ (λ free. onward h whole base bare (lex d dot ∷ lex s (word n) ∷ r) (selector (mark whole r) base (name_here mark s n r)) r (omega arith) (λ held. selector_rule (operand_of h whole base bare (lex d dot ∷ lex s (word n) ∷ r) free held)))
+      (omega arith, λ x r g. onward h whole base bare (lex s paren ∷ ts) (call (mark whole r) base x.0 x.1) r (omega (arith, g.0)) (λ held. call_rule (held_expr mark bare 7 h base whole (lex s paren ∷ ts) held) g.1))
+  postfix_fine h whole base bare (lex d dot ∷ lex s (terminal.ident n) ∷ r) =
+      fine_unless mark _ _ (is_func_lit base) _ (λ free. onward h whole base bare (lex d dot ∷ lex s (terminal.ident n) ∷ r) (selector (mark whole r) base (name_here mark s n r)) r (omega arith) (λ held. selector_rule (operand_of h whole base bare (lex d dot ∷ lex s (terminal.ident n) ∷ r) free held)))
   postfix_fine h whole base bare (lex s bracket ∷ ts) = fine_unless mark _ _ (is_func_lit base) _ (λ free. bracket_fine h whole base bare s ts free)
   postfix_fine h whole base bare _ = (omega arith, λ held. held)
 
@@ -201,14 +203,18 @@ module _ {S : Type 0} (mark : Lexemes → Lexemes → S) where
   exprs_fine h ts = (omega arith, λ e r g. exprs_after_fine h ts e r g)
 
   -- an argument before others
-  args_and : {e : Expr S} {c : Span} {xs : Exprs S} {ts mid r : Lexemes} → SpellsOperand mark 1 false e ts (lex c comma ∷ mid) → SpellsArgs mark xs mid r → SpellsArgs mark (expr_and e xs) ts r
+  args_and : {e : Expr S} {c : Span} {xs : Exprs S} {rest : Rest} {ts mid r : Lexemes} → SpellsOperand mark 1 false e ts (lex c comma ∷ mid) → SpellsArgs mark xs rest mid r → SpellsArgs mark (expr_and e xs) rest ts r
   args_and d no_args_rule = comma_args_rule (last_expr_rule d)
   args_and d (args_rule k) = args_rule (more_exprs_rule d k)
   args_and d (comma_args_rule k) = comma_args_rule (more_exprs_rule d k)
+  args_and d (rest_args_rule k) = rest_args_rule (more_exprs_rule d k)
+  args_and d (comma_rest_args_rule k) = comma_rest_args_rule (more_exprs_rule d k)
 
   args_after_fine : (ts : Lexemes) (e : Expr S) (r : Lexemes) → Good mark (read_operand false) ts e r → Fine mark (8 * length ts + 4) (Good mark read_args ts) (args_after mark e r)
-  args_after_fine ts e (lex c comma ∷ r) g = (omega (arith, g.0), λ es r k. (omega (arith, g.0, k.0), args_and g.1 k.1))
+  args_after_fine ts e (lex c comma ∷ r) g = (omega (arith, g.0), λ x r k. (omega (arith, g.0, k.0), args_and g.1 k.1))
   args_after_fine ts e (lex c end_paren ∷ r) g = (omega (arith, g.0), args_rule (last_expr_rule g.1))
+  args_after_fine ts e (lex d ellipsis ∷ lex c end_paren ∷ r) g = (omega (arith, g.0), rest_args_rule (last_expr_rule g.1))
+  args_after_fine ts e (lex d ellipsis ∷ lex b comma ∷ lex c end_paren ∷ r) g = (omega (arith, g.0), comma_rest_args_rule (last_expr_rule g.1))
   args_after_fine ts e _ g = tt
 
   pub args_fine : (ts : Lexemes) → Step mark read_args ts (args_step mark ts)

@@ -3,7 +3,7 @@ use Rattle.std.proofs.Common.{◌+◌, ◌*◌, ◌∷◌, length, Some, None, a
 use Rattle.go_tree.specs.declared.spans.Span.{Span}
 use Rattle.go_tree.specs.declared.operators.BinOp.TheVariants.{Mul}
 use Rattle.go_tree.specs.File.{ImportSpec, ImportDecl, TypeSpec, Receiver, Decl}
-use Rattle.go_read.specs.SpellsTerminals.{lex, word, text, sign, becomes, semicolon, paren, end_paren, key_const, key_func, key_import, key_package, key_type, key_var}
+use Rattle.go_words.specs.Terminals.{lex, ident, str_lit, binary_op, assign, semicolon, paren, end_paren, key_const, key_func, key_import, key_package, key_type, key_var}
 use Rattle.go_read.specs.SpellsTypes.{Lexemes}
 use Rattle.go_read.specs.SpellsFiles.{is_blank, path_rule, named_path_rule, no_import_specs_rule, last_import_spec_rule, more_import_specs_rule, import_rule, import_group_rule, type_spec_rule, alias_spec_rule, no_type_specs_rule, last_type_spec_rule, more_type_specs_rule, receiver_rule, pointer_receiver_rule, named_receiver_rule, named_pointer_receiver_rule, top_const_rule, top_var_rule, top_type_rule, top_type_group_rule, top_func_rule, top_method_rule, no_imports_rule, more_imports_rule, no_tops_rule, more_tops_rule, front_rule}
 use Rattle.go_read.specs.Goals.{read_import_spec, read_import_specs, read_import, read_type_spec, read_type_specs, read_receiver, read_top, read_imports, read_tops, read_front}
@@ -13,8 +13,8 @@ use Rattle.go_read.proofs.Means.{Good, Fine, Step, fine_unless, fine_end_paren}
 module _ {S : Type 0} (mark : Lexemes → Lexemes → S) where
   pub import_spec_fine : (ts : Lexemes) → Step mark read_import_spec ts (import_spec_step mark ts)
   unfolding import_spec_step
-  import_spec_fine (lex s (text p) ∷ r) = (omega arith, path_rule)
-  import_spec_fine (lex s (word n) ∷ lex c (text p) ∷ r) = (omega arith, named_path_rule)
+  import_spec_fine (lex s (str_lit p) ∷ r) = (omega arith, path_rule)
+  import_spec_fine (lex s (ident n) ∷ lex c (str_lit p) ∷ r) = (omega arith, named_path_rule)
   import_spec_fine _ = tt
 
   import_specs_after_fine : (ts : Lexemes) (x : ImportSpec S) (r : Lexemes) → Good mark read_import_spec ts x r → Fine mark (8 * length ts + 1) (Good mark read_import_specs ts) (import_specs_after mark x r)
@@ -36,8 +36,8 @@ module _ {S : Type 0} (mark : Lexemes → Lexemes → S) where
 
   pub type_spec_fine : (ts : Lexemes) → Step mark read_type_spec ts (type_spec_step mark ts)
   unfolding type_spec_step
-  type_spec_fine (lex s (word n) ∷ lex c (becomes None) ∷ ts) = (omega arith, λ t r g. (omega (arith, g.0), alias_spec_rule g.1))
-  type_spec_fine (lex s (word n) ∷ ts) = (omega arith, λ t r g. (omega (arith, g.0), type_spec_rule g.1))
+  type_spec_fine (lex s (ident n) ∷ lex c (assign None) ∷ ts) = (omega arith, λ t r g. (omega (arith, g.0), alias_spec_rule g.1))
+  type_spec_fine (lex s (ident n) ∷ ts) = (omega arith, λ t r g. (omega (arith, g.0), type_spec_rule g.1))
   type_spec_fine _ = tt
 
   type_specs_after_fine : (ts : Lexemes) (x : TypeSpec S) (r : Lexemes) → Good mark read_type_spec ts x r → Fine mark (8 * length ts + 1) (Good mark read_type_specs ts) (type_specs_after mark x r)
@@ -52,19 +52,19 @@ module _ {S : Type 0} (mark : Lexemes → Lexemes → S) where
 
   pub receiver_fine : (ts : Lexemes) → Step mark read_receiver ts (receiver_step mark ts)
   unfolding receiver_step
-  receiver_fine (lex c (word x) ∷ lex p (sign Mul) ∷ lex s (word n) ∷ r) = (omega arith, named_pointer_receiver_rule)
-  receiver_fine (lex c (word x) ∷ lex s (word n) ∷ r) = (omega arith, named_receiver_rule)
-  receiver_fine (lex p (sign Mul) ∷ lex s (word n) ∷ r) = (omega arith, pointer_receiver_rule)
-  receiver_fine (lex s (word n) ∷ r) = (omega arith, receiver_rule)
+  receiver_fine (lex c (ident x) ∷ lex p (binary_op Mul) ∷ lex s (ident n) ∷ r) = (omega arith, named_pointer_receiver_rule)
+  receiver_fine (lex c (ident x) ∷ lex s (ident n) ∷ r) = (omega arith, named_receiver_rule)
+  receiver_fine (lex p (binary_op Mul) ∷ lex s (ident n) ∷ r) = (omega arith, pointer_receiver_rule)
+  receiver_fine (lex s (ident n) ∷ r) = (omega arith, receiver_rule)
   receiver_fine _ = tt
 
   plain_func : (s : Span) (ts : Lexemes) → Fine mark (8 * length (lex s key_func ∷ ts) + 0) (Good mark read_top (lex s key_func ∷ ts)) (func_step mark (lex s key_func ∷ ts) None ts)
-  plain_func s (lex c (word n) ∷ a) = (omega arith, λ g mid d. (omega (arith, d.0), λ b r2 j. (omega (arith, d.0, j.0), top_func_rule d.1 j.1)))
+  plain_func s (lex c (ident n) ∷ a) = (omega arith, λ g mid d. (omega (arith, d.0), λ b r2 j. (omega (arith, d.0, j.0), top_func_rule d.1 j.1)))
   plain_func s _ = tt
 
   method : (s b : Span) (ts : Lexemes) (v : Receiver S) (e : Span) (r : Lexemes) → Good mark read_receiver ts v (lex e end_paren ∷ r)
       → Fine mark (8 * length (lex s key_func ∷ lex b paren ∷ ts) + 0) (Good mark read_top (lex s key_func ∷ lex b paren ∷ ts)) (func_step mark (lex s key_func ∷ lex b paren ∷ ts) (Some v) r)
-  method s b ts v e (lex c (word n) ∷ a) g = (omega (arith, g.0), λ x mid d. (omega (arith, g.0, d.0), λ y r2 j. (omega (arith, g.0, d.0, j.0), top_method_rule g.1 d.1 j.1)))
+  method s b ts v e (lex c (ident n) ∷ a) g = (omega (arith, g.0), λ x mid d. (omega (arith, g.0, d.0), λ y r2 j. (omega (arith, g.0, d.0, j.0), top_method_rule g.1 d.1 j.1)))
   method s b ts v e _ g = tt
 
   pub top_fine : (ts : Lexemes) → Step mark read_top ts (top_step mark ts)
@@ -97,6 +97,6 @@ module _ {S : Type 0} (mark : Lexemes → Lexemes → S) where
 
   pub front_fine : (ts : Lexemes) → Step mark read_front ts (front_step mark ts)
   unfolding front_step
-  front_fine (lex s key_package ∷ lex c (word n) ∷ lex d semicolon ∷ ts) =
+  front_fine (lex s key_package ∷ lex c (ident n) ∷ lex d semicolon ∷ ts) =
       fine_unless mark _ _ (is_blank n) _ (λ named. (omega arith, λ is mid g. (omega (arith, g.0), λ ds r k. (omega (arith, g.0, k.0), front_rule named g.1 k.1))))
   front_fine _ = tt

@@ -2,7 +2,8 @@
 use Rattle.std.proofs.Common.{◌+◌, ◌*◌, ◌≤◌, Bool, true, false, List, [], ◌∷◌, length, Option, Some, None, arith}
 use Rattle.go_tree.specs.declared.spans.Span.{Span}
 use Rattle.go_tree.specs.Tree.{NameAt, TypeExpr, Expr, Exprs, ExprOption, Stmt, Stmts, StmtOption, Cases, call, no_exprs, expr_and, no_expr, some_expr, eval, no_stmt, some_stmt, some_block, no_arms, arm, case, define, for_}
-use Rattle.go_read.specs.SpellsTerminals.{lex, word, becomes, short, increment, decrement, semicolon, colon, paren, end_paren, brace, end_brace, key_break, key_case, key_const, key_continue, key_default, key_defer, key_else, key_for, key_if, key_range, key_return, key_switch, key_var}
+use Rattle.go_words.specs.Terminals as terminal
+use Rattle.go_words.specs.Terminals.{lex, ident, assign, increment, decrement, semicolon, colon, paren, end_paren, brace, end_brace, key_break, key_case, key_const, key_continue, key_default, key_defer, key_else, key_for, key_if, key_range, key_return, key_switch, key_var}
 use Rattle.go_read.specs.SpellsTypes.{Lexemes}
 use Rattle.go_read.specs.Spells.{is_empty, SpellsOperand, SpellsOption, SpellsExprs, SpellsSimple, SpellsPart, SpellsFirst, SpellsStmt, SpellsStmts, SpellsBlock, SpellsCases, no_expr_rule, some_expr_rule, last_expr_rule, more_exprs_rule, eval_rule, increment_rule, decrement_rule, assign_rule, define_rule, no_part_rule, part_rule, no_first_rule, first_rule, empty_rule, simple_rule, const_rule, var_rule, return_rule, return_values_rule, break_rule, break_label_rule, continue_rule, continue_label_rule, block_rule, if_rule, while_rule, for_rule, range_rule, switch_rule, defer_rule, label_rule, braces_rule, no_stmts_rule, last_stmt_rule, more_stmts_rule, only_arm_rule, else_rule, else_if_rule, arm_rule, no_left_rule, assigns_rule, defines_rule, no_cases_rule, case_rule, default_rule, single_rule, group_rule, no_specs_rule, last_spec_rule, more_specs_rule, repeated_rule, typed_var_rule, values_rule, typed_values_rule}
 use Rattle.go_read.specs.Goals.{Clause, plain_clause, range_clause, read_type, read_names, read_expr, read_operand, read_exprs, read_simple, read_simple_after, read_clause, read_stmt, read_stmts, read_block, read_arm, read_if, read_cases, read_decl, read_specs, read_spec}
@@ -34,7 +35,7 @@ module _ {S : Type 0} (mark : Lexemes → Lexemes → S) where
 
   pub simple_after_fine : (h : Bool) (whole : Lexemes) (xs : Exprs S) (ts : Lexemes) → Step mark (read_simple_after h whole xs) ts (simple_after_step mark h whole xs ts)
   unfolding simple_after_step
-  simple_after_fine h whole xs (lex s (becomes op) ∷ ts) = (omega arith, λ ys r g. (omega (arith, g.0), λ d. assign_rule d g.1))
+  simple_after_fine h whole xs (lex s (assign op) ∷ ts) = (omega arith, λ ys r g. (omega (arith, g.0), λ d. assign_rule d g.1))
   simple_after_fine h whole xs [] = one_expr_fine h whole xs []
   simple_after_fine h whole xs (lex s t ∷ ts) = one_expr_fine h whole xs (lex s t ∷ ts)
 
@@ -42,7 +43,7 @@ module _ {S : Type 0} (mark : Lexemes → Lexemes → S) where
   simple_exprs_fine h ts = (omega arith, λ xs r g. (omega (arith, g.0), λ x r2 k. (omega (arith, g.0, k.0), k.1 g.1)))
 
   simple_names_fine : (h : Bool) (ts : Lexemes) (ns : List (NameAt S)) (r : Lexemes) → Good mark read_names ts ns r → Fine mark (8 * length ts + 5) (Good mark (read_simple h) ts) (simple_names mark h ts (Some (ns, r)))
-  simple_names_fine h ts ns (lex s short ∷ r) g = (omega (arith, g.0), λ ys r2 k. (omega (arith, g.0, k.0), define_rule g.1 k.1))
+  simple_names_fine h ts ns (lex s terminal.define ∷ r) g = (omega (arith, g.0), λ ys r2 k. (omega (arith, g.0, k.0), define_rule g.1 k.1))
   simple_names_fine h ts ns [] g = simple_exprs_fine h ts
   simple_names_fine h ts ns (lex s t ∷ r) g = simple_exprs_fine h ts
 
@@ -55,20 +56,20 @@ module _ {S : Type 0} (mark : Lexemes → Lexemes → S) where
   plain_after ts xs r g = (omega (arith, g.0), λ x r2 k. (omega (arith, g.0, k.0), k.1 g.1))
 
   clause_after_fine : (ts : Lexemes) (xs : Exprs S) (r : Lexemes) → Good mark (read_exprs true) ts xs r → Fine mark (8 * length ts + 5) (Good mark read_clause ts) (clause_after mark ts xs r)
-  clause_after_fine ts xs (lex s (becomes None) ∷ lex c key_range ∷ r) g = (omega (arith, g.0), (c, assigns_rule g.1))
+  clause_after_fine ts xs (lex s (assign None) ∷ lex c key_range ∷ r) g = (omega (arith, g.0), (c, assigns_rule g.1))
   clause_after_fine ts xs r g = plain_after ts xs r g
 
   clause_exprs_fine : (ts : Lexemes) → Fine mark (8 * length ts + 5) (Good mark read_clause ts) (clause_exprs mark ts)
   clause_exprs_fine ts = (omega arith, λ xs r g. clause_after_fine ts xs r g)
 
-  clause_define : (ts : Lexemes) (ns : List (NameAt S)) (s : Span) (r : Lexemes) → Good mark read_names ts ns (lex s short ∷ r)
+  clause_define : (ts : Lexemes) (ns : List (NameAt S)) (s : Span) (r : Lexemes) → Good mark read_names ts ns (lex s terminal.define ∷ r)
       → Fine mark (8 * length ts + 5) (Good mark read_clause ts) (ask (read_exprs true) r (λ ys r. give (plain_clause (define (mark ts r) ns ys)) r))
   clause_define ts ns s r g = (omega (arith, g.0), λ ys r2 k. (omega (arith, g.0, k.0), define_rule g.1 k.1))
 
   clause_names_fine : (ts : Lexemes) (ns : List (NameAt S)) (r : Lexemes) → Good mark read_names ts ns r → Fine mark (8 * length ts + 5) (Good mark read_clause ts) (clause_names mark ts (Some (ns, r)))
-  clause_names_fine ts ns (lex s short ∷ lex c key_range ∷ r) g = (omega (arith, g.0), (c, defines_rule g.1))
-  clause_names_fine ts ns (lex s short ∷ []) g = clause_define ts ns s [] g
-  clause_names_fine ts ns (lex s short ∷ u ∷ r) g = clause_define ts ns s (u ∷ r) g
+  clause_names_fine ts ns (lex s terminal.define ∷ lex c key_range ∷ r) g = (omega (arith, g.0), (c, defines_rule g.1))
+  clause_names_fine ts ns (lex s terminal.define ∷ []) g = clause_define ts ns s [] g
+  clause_names_fine ts ns (lex s terminal.define ∷ u ∷ r) g = clause_define ts ns s (u ∷ r) g
   clause_names_fine ts ns _ g = clause_exprs_fine ts
 
   clause_look : (ts : Lexemes) → Fine mark (8 * length ts + 5) (Good mark read_clause ts) (look read_names ts (λ o. clause_names mark ts o))
@@ -221,17 +222,17 @@ module _ {S : Type 0} (mark : Lexemes → Lexemes → S) where
   return_fine s ts = (omega arith, λ xs r g. (omega (arith, g.0), return_values_rule g.1))
 
   break_fine : (s : Span) (ts : Lexemes) → Fine mark (8 * length (lex s key_break ∷ ts) + 6) (Good mark read_stmt (lex s key_break ∷ ts)) (break_step mark (lex s key_break ∷ ts) ts)
-  break_fine s (lex c (word n) ∷ r) = (omega arith, break_label_rule)
+  break_fine s (lex c (ident n) ∷ r) = (omega arith, break_label_rule)
   break_fine s _ = (omega arith, break_rule)
 
   continue_fine : (s : Span) (ts : Lexemes) → Fine mark (8 * length (lex s key_continue ∷ ts) + 6) (Good mark read_stmt (lex s key_continue ∷ ts)) (continue_step mark (lex s key_continue ∷ ts) ts)
-  continue_fine s (lex c (word n) ∷ r) = (omega arith, continue_label_rule)
+  continue_fine s (lex c (ident n) ∷ r) = (omega arith, continue_label_rule)
   continue_fine s _ = (omega arith, continue_rule)
 
   defer_after_fine : (s : Span) (ts : Lexemes) (e : Expr S) (bare : Bool) (r : Lexemes) → Good mark (read_expr 1 false) ts (e, bare) r
       → Fine mark (8 * length (lex s key_defer ∷ ts) + 6) (Good mark read_stmt (lex s key_defer ∷ ts)) (defer_after mark (lex s key_defer ∷ ts) (e, bare) r)
-  defer_after_fine s ts (call m f xs) true r g = (omega (arith, g.0), defer_rule (g.1 (omega arith)).0)
-  defer_after_fine s ts (call m f xs) false r g = tt
+  defer_after_fine s ts (call m f xs rest) true r g = (omega (arith, g.0), defer_rule (g.1 (omega arith)).0)
+  defer_after_fine s ts (call m f xs rest) false r g = tt
   defer_after_fine s ts _ bare r g = tt
 
   word_fine : (ts : Lexemes) → Fine mark (8 * length ts + 6) (Good mark read_stmt ts) (word_stmt mark ts)
@@ -249,7 +250,7 @@ module _ {S : Type 0} (mark : Lexemes → Lexemes → S) where
   stmt_fine (lex s key_for ∷ ts) = for_first_fine s ts
   stmt_fine (lex s key_switch ∷ ts) = switch_first_fine s ts
   stmt_fine (lex s key_defer ∷ ts) = (omega arith, λ x r g. defer_after_fine s ts x.0 x.1 r g)
-  stmt_fine (lex s (word n) ∷ lex c colon ∷ ts) = (omega arith, λ x r g. (omega (arith, g.0), label_rule g.1))
+  stmt_fine (lex s (ident n) ∷ lex c colon ∷ ts) = (omega arith, λ x r g. (omega (arith, g.0), label_rule g.1))
   stmt_fine (lex s semicolon ∷ ts) = (omega arith, empty_rule)
   stmt_fine (lex s end_brace ∷ ts) = (omega arith, empty_rule)
   stmt_fine ts = word_fine ts
@@ -273,7 +274,7 @@ module _ {S : Type 0} (mark : Lexemes → Lexemes → S) where
 
   typed_after_fine : (c : Bool) (ts : Lexemes) (ns : List (NameAt S)) (a : Lexemes) (t : TypeExpr S) (r : Lexemes) → Good mark read_names ts ns a → Good mark read_type a t r
       → Fine mark (8 * length ts + 1) (Good mark (read_spec c) ts) (typed_after mark c ns t r)
-  typed_after_fine c ts ns a t (lex s (becomes None) ∷ r) g k = (omega (arith, g.0, k.0), λ xs r2 j. (omega (arith, g.0, k.0, j.0), typed_values_rule g.1 k.1 j.1))
+  typed_after_fine c ts ns a t (lex s (assign None) ∷ r) g k = (omega (arith, g.0, k.0), λ xs r2 j. (omega (arith, g.0, k.0, j.0), typed_values_rule g.1 k.1 j.1))
   typed_after_fine false ts ns a t r g k = (omega (arith, g.0, k.0), typed_var_rule g.1 k.1)
   typed_after_fine true ts ns a t r g k = tt
 
@@ -281,7 +282,7 @@ module _ {S : Type 0} (mark : Lexemes → Lexemes → S) where
   typed_fine c ts ns r g = (omega (arith, g.0), λ t r2 k. typed_after_fine c ts ns r t r2 g k)
 
   spec_after_fine : (c : Bool) (ts : Lexemes) (ns : List (NameAt S)) (r : Lexemes) → Good mark read_names ts ns r → Fine mark (8 * length ts + 1) (Good mark (read_spec c) ts) (spec_after mark c ns r)
-  spec_after_fine c ts ns (lex s (becomes None) ∷ r) g = (omega (arith, g.0), λ xs r2 k. (omega (arith, g.0, k.0), values_rule g.1 k.1))
+  spec_after_fine c ts ns (lex s (assign None) ∷ r) g = (omega (arith, g.0), λ xs r2 k. (omega (arith, g.0, k.0), values_rule g.1 k.1))
   spec_after_fine true ts ns (lex d semicolon ∷ r) g = (omega (arith, g.0), repeated_rule g.1)
   spec_after_fine true ts ns (lex d end_paren ∷ r) g = (omega (arith, g.0), repeated_rule g.1)
   spec_after_fine true ts ns (lex d end_brace ∷ r) g = (omega (arith, g.0), repeated_rule g.1)

@@ -1,13 +1,14 @@
 -- What spells a tree spells it without its spans.
 use Rattle.std.proofs.Common.{◌≡◌, ℕ, Bool, false, List, [], ◌∷◌, map, Option, Some, refl, sym, ap, subst}
 use Rattle.std.specs.Option.{option_map}
+use Rattle.go_tree.specs.declared.exprs.Rest.{Rest}
 use Rattle.go_tree.specs.Tree.{NameAt, TypeExpr, Fields, no_fields, field, Param, Sig, Expr, Exprs, ExprOption, Elems, Value, ValueOption, Stmt, Stmts, StmtOption, BlockOption, RangeLeft, Arms, Cases, ValueSpecs, ident, int_lit, rune_lit, str_lit, composite, selector, index, slice, call, func_lit, type_operand, unary, binary, star, const_decl, var_decl, empty, eval, step, assign, define, return_, break_, continue_, inner, if_, for_, range_, switch, defer, label}
 use Rattle.go_tree.specs.Bare.{bare_name, bare_type, bare_fields, bare_param, bare_sig, bare_expr, bare_exprs, bare_expr_option, bare_elems, bare_value, bare_value_option, bare_stmt, bare_stmts, bare_stmt_option, bare_block_option, bare_range_left, bare_arms, bare_cases, bare_value_specs}
 use Rattle.go_tree.specs.File.{ImportSpec, ImportDecl, TypeSpec, Receiver, Decl, File}
 use Rattle.go_tree.specs.FileBare.{bare_import_spec, bare_import_decl, bare_type_spec, bare_receiver, bare_decl, bare_file}
-use Rattle.go_read.specs.SpellsTerminals.{lex, end_brace}
-use Rattle.go_read.specs.SpellsTypes.{Lexemes, fields_of, params_of, SpellsType, SpellsFields, SpellsEntries, SpellsNamed, SpellsUnnamed, SpellsParams, SpellsResults, SpellsSig, SpellsNames, named_rule, qualified_rule, pointer_rule, slice_type_rule, map_type_rule, struct_type_rule, type_parens_rule, no_fields_rule, last_field_rule, more_fields_rule, last_entry_rule, more_entries_rule, last_named_rule, comma_named_rule, more_named_rule, last_unnamed_rule, comma_unnamed_rule, more_unnamed_rule, no_params_rule, named_params_rule, unnamed_params_rule, no_results_rule, params_results_rule, type_result_rule, sig_rule, last_name_rule, more_names_rule}
-use Rattle.go_read.specs.Spells.{is_func_lit, is_empty, SpellsLiteralType, SpellsBare, SpellsExpr, SpellsOperand, SpellsOption, SpellsExprs, SpellsArgs, SpellsElems, SpellsElem, SpellsValue, SpellsSimple, SpellsPart, SpellsFirst, SpellsStmt, SpellsBlock, SpellsStmts, SpellsIf, SpellsArm, SpellsLeft, SpellsCases, SpellsDecl, SpellsSpecs, SpellsSpec, named_literal_rule, qualified_literal_rule, type_literal_rule, ident_rule, int_rule, rune_rule, text_rule, composite_rule, func_rule, type_rule, selector_rule, index_rule, slice_rule, call_rule, unary_rule, star_rule, binary_rule, bare_rule, parens_rule, operand_rule, no_expr_rule, some_expr_rule, last_expr_rule, more_exprs_rule, no_args_rule, args_rule, comma_args_rule, no_elems_rule, last_elem_rule, more_elems_rule, value_rule, keyed_rule, plain_rule, braced_rule, eval_rule, increment_rule, decrement_rule, assign_rule, define_rule, no_part_rule, part_rule, no_first_rule, first_rule, empty_rule, simple_rule, const_rule, var_rule, return_rule, return_values_rule, break_rule, break_label_rule, continue_rule, continue_label_rule, block_rule, if_rule, while_rule, for_rule, range_rule, switch_rule, defer_rule, label_rule, braces_rule, no_stmts_rule, last_stmt_rule, more_stmts_rule, only_arm_rule, else_rule, else_if_rule, arm_rule, no_left_rule, assigns_rule, defines_rule, no_cases_rule, case_rule, default_rule, single_rule, group_rule, no_specs_rule, last_spec_rule, more_specs_rule, repeated_rule, typed_var_rule, values_rule, typed_values_rule}
+use Rattle.go_words.specs.Terminals.{lex, end_brace}
+use Rattle.go_read.specs.SpellsTypes.{Lexemes, SpellsRest, rest_named_rule, comma_rest_named_rule, rest_unnamed_rule, comma_rest_unnamed_rule, rest_rule, named_rest_rule, fields_of, params_of, SpellsType, SpellsFields, SpellsEntries, SpellsNamed, SpellsUnnamed, SpellsParams, SpellsResults, SpellsSig, SpellsNames, named_rule, qualified_rule, pointer_rule, slice_type_rule, map_type_rule, struct_type_rule, type_parens_rule, no_fields_rule, last_field_rule, more_fields_rule, last_entry_rule, more_entries_rule, last_named_rule, comma_named_rule, more_named_rule, last_unnamed_rule, comma_unnamed_rule, more_unnamed_rule, no_params_rule, named_params_rule, unnamed_params_rule, no_results_rule, params_results_rule, type_result_rule, sig_rule, last_name_rule, more_names_rule}
+use Rattle.go_read.specs.Spells.{is_func_lit, is_empty, SpellsLiteralType, SpellsBare, SpellsExpr, SpellsOperand, SpellsOption, SpellsExprs, SpellsArgs, SpellsElems, SpellsElem, SpellsValue, SpellsSimple, SpellsPart, SpellsFirst, SpellsStmt, SpellsBlock, SpellsStmts, SpellsIf, SpellsArm, SpellsLeft, SpellsCases, SpellsDecl, SpellsSpecs, SpellsSpec, named_literal_rule, qualified_literal_rule, type_literal_rule, ident_rule, int_rule, rune_rule, text_rule, composite_rule, func_rule, type_rule, selector_rule, index_rule, slice_rule, call_rule, unary_rule, star_rule, binary_rule, bare_rule, parens_rule, operand_rule, no_expr_rule, some_expr_rule, last_expr_rule, more_exprs_rule, no_args_rule, args_rule, comma_args_rule, rest_args_rule, comma_rest_args_rule, no_elems_rule, last_elem_rule, more_elems_rule, value_rule, keyed_rule, plain_rule, braced_rule, eval_rule, increment_rule, decrement_rule, assign_rule, define_rule, no_part_rule, part_rule, no_first_rule, first_rule, empty_rule, simple_rule, const_rule, var_rule, return_rule, return_values_rule, break_rule, break_label_rule, continue_rule, continue_label_rule, block_rule, if_rule, while_rule, for_rule, range_rule, switch_rule, defer_rule, label_rule, braces_rule, no_stmts_rule, last_stmt_rule, more_stmts_rule, only_arm_rule, else_rule, else_if_rule, arm_rule, no_left_rule, assigns_rule, defines_rule, no_cases_rule, case_rule, default_rule, single_rule, group_rule, no_specs_rule, last_spec_rule, more_specs_rule, repeated_rule, typed_var_rule, values_rule, typed_values_rule}
 use Rattle.go_read.specs.SpellsFiles.{SpellsImportSpec, SpellsImportSpecs, SpellsImport, SpellsTypeSpec, SpellsTypeSpecs, SpellsReceiver, SpellsTop, SpellsImports, SpellsTops, SpellsFront, path_rule, named_path_rule, no_import_specs_rule, last_import_spec_rule, more_import_specs_rule, import_rule, import_group_rule, type_spec_rule, alias_spec_rule, no_type_specs_rule, last_type_spec_rule, more_type_specs_rule, receiver_rule, pointer_receiver_rule, named_receiver_rule, named_pointer_receiver_rule, top_const_rule, top_var_rule, top_type_rule, top_type_group_rule, top_func_rule, top_method_rule, no_imports_rule, more_imports_rule, no_tops_rule, more_tops_rule, front_rule}
 use Rattle.go_read.specs.Bareness.{nowhere}
 
@@ -22,7 +23,7 @@ module _ {S : Type 0} (mark : Lexemes → Lexemes → S) where
 
   bare_params_of : (es : List (S × NameAt S)) (t : TypeExpr S) (ps : List (Param S)) → map bare_param (params_of es t ps) ≡ params_of (bare_entries es) (bare_type t) (map bare_param ps)
   bare_params_of [] t ps = refl
-  bare_params_of (e ∷ es) t ps = ap (λ (qs : List (Param (Unit {0}))). record { span = tt; name = Some (bare_name e.1); of = bare_type t } ∷ qs) (bare_params_of es t ps)
+  bare_params_of (e ∷ es) t ps = ap (λ (qs : List (Param (Unit {0}))). record { span = tt; name = Some (bare_name e.1); rest = false; of = bare_type t } ∷ qs) (bare_params_of es t ps)
 
   still_no_literal : (e : Expr S) → is_func_lit e ≡ false → is_func_lit (bare_expr e) ≡ false
   still_no_literal (ident _ _) p = refl
@@ -33,7 +34,7 @@ module _ {S : Type 0} (mark : Lexemes → Lexemes → S) where
   still_no_literal (selector _ _ _) p = refl
   still_no_literal (index _ _ _) p = refl
   still_no_literal (slice _ _ _ _) p = refl
-  still_no_literal (call _ _ _) p = refl
+  still_no_literal (call _ _ _ _) p = refl
   still_no_literal (func_lit _ _ _ _) p = p
   still_no_literal (type_operand _ _) p = refl
   still_no_literal (unary _ _ _) p = refl
@@ -78,17 +79,25 @@ module _ {S : Type 0} (mark : Lexemes → Lexemes → S) where
     entries_bare (last_entry_rule d) = last_entry_rule (type_bare d)
     entries_bare (more_entries_rule d) = more_entries_rule (entries_bare d)
 
-  pub named_bare : {ps : List (Param S)} {ts r : Lexemes} → SpellsNamed mark ps ts r → SpellsNamed nowhere (map bare_param ps) ts r
-  named_bare (last_named_rule {t = t} {es = es} {ts = ts} {r = r} d) = subst (λ z. SpellsNamed nowhere z ts r) (sym (bare_params_of es t [])) (last_named_rule (entries_bare d))
-  named_bare (comma_named_rule {t = t} {es = es} {ts = ts} {r = r} d) = subst (λ z. SpellsNamed nowhere z ts r) (sym (bare_params_of es t [])) (comma_named_rule (entries_bare d))
-  named_bare (more_named_rule {t = t} {es = es} {ps = ps} {ts = ts} {r = r} d k) = subst (λ z. SpellsNamed nowhere z ts r) (sym (bare_params_of es t ps)) (more_named_rule (entries_bare d) (named_bare k))
+  pub rest_bare : {named : Bool} {p : Param S} {ts r : Lexemes} → SpellsRest mark named p ts r → SpellsRest nowhere named (bare_param p) ts r
+  rest_bare (rest_rule d) = rest_rule (type_bare d)
+  rest_bare (named_rest_rule d) = named_rest_rule (type_bare d)
 
-  pub unnamed_bare : {ps : List (Param S)} {ts r : Lexemes} → SpellsUnnamed mark ps ts r → SpellsUnnamed nowhere (map bare_param ps) ts r
+  pub named_bare : {v : Bool} {ps : List (Param S)} {ts r : Lexemes} → SpellsNamed mark v ps ts r → SpellsNamed nowhere v (map bare_param ps) ts r
+  named_bare (last_named_rule {v = v} {t = t} {es = es} {ts = ts} {r = r} d) = subst (λ z. SpellsNamed nowhere v z ts r) (sym (bare_params_of es t [])) (last_named_rule (entries_bare d))
+  named_bare (comma_named_rule {v = v} {t = t} {es = es} {ts = ts} {r = r} d) = subst (λ z. SpellsNamed nowhere v z ts r) (sym (bare_params_of es t [])) (comma_named_rule (entries_bare d))
+  named_bare (more_named_rule {v = v} {t = t} {es = es} {ps = ps} {ts = ts} {r = r} d k) = subst (λ z. SpellsNamed nowhere v z ts r) (sym (bare_params_of es t ps)) (more_named_rule (entries_bare d) (named_bare k))
+  named_bare (rest_named_rule d) = rest_named_rule (rest_bare d)
+  named_bare (comma_rest_named_rule d) = comma_rest_named_rule (rest_bare d)
+
+  pub unnamed_bare : {v : Bool} {ps : List (Param S)} {ts r : Lexemes} → SpellsUnnamed mark v ps ts r → SpellsUnnamed nowhere v (map bare_param ps) ts r
   unnamed_bare (last_unnamed_rule d) = last_unnamed_rule (type_bare d)
   unnamed_bare (comma_unnamed_rule d) = comma_unnamed_rule (type_bare d)
   unnamed_bare (more_unnamed_rule d k) = more_unnamed_rule (type_bare d) (unnamed_bare k)
+  unnamed_bare (rest_unnamed_rule d) = rest_unnamed_rule (rest_bare d)
+  unnamed_bare (comma_rest_unnamed_rule d) = comma_rest_unnamed_rule (rest_bare d)
 
-  pub params_bare : {ps : List (Param S)} {ts r : Lexemes} → SpellsParams mark ps ts r → SpellsParams nowhere (map bare_param ps) ts r
+  pub params_bare : {v : Bool} {ps : List (Param S)} {ts r : Lexemes} → SpellsParams mark v ps ts r → SpellsParams nowhere v (map bare_param ps) ts r
   params_bare no_params_rule = no_params_rule
   params_bare (named_params_rule d) = named_params_rule (named_bare d)
   params_bare (unnamed_params_rule d) = unnamed_params_rule (unnamed_bare d)
@@ -98,7 +107,7 @@ module _ {S : Type 0} (mark : Lexemes → Lexemes → S) where
   results_bare (params_results_rule d) = params_results_rule (params_bare d)
   results_bare (type_result_rule d) = type_result_rule (type_bare d)
 
-  pub sig_bare : {g : Sig S} {ts r : Lexemes} → SpellsSig mark g ts r → SpellsSig nowhere (bare_sig g) ts r
+  pub sig_bare : {v : Bool} {g : Sig S} {ts r : Lexemes} → SpellsSig mark v g ts r → SpellsSig nowhere v (bare_sig g) ts r
   sig_bare (sig_rule d k) = sig_rule (params_bare d) (results_bare k)
 
   pub names_bare : {ns : List (NameAt S)} {ts r : Lexemes} → SpellsNames mark ns ts r → SpellsNames nowhere (map bare_name ns) ts r
@@ -142,10 +151,12 @@ module _ {S : Type 0} (mark : Lexemes → Lexemes → S) where
     exprs_bare (last_expr_rule a) = last_expr_rule (operand_bare a)
     exprs_bare (more_exprs_rule a b) = more_exprs_rule (operand_bare a) (exprs_bare b)
 
-    pub args_bare : {xs : Exprs S} {ts r : Lexemes} → SpellsArgs mark xs ts r → SpellsArgs nowhere (bare_exprs xs) ts r
+    pub args_bare : {xs : Exprs S} {rest : Rest} {ts r : Lexemes} → SpellsArgs mark xs rest ts r → SpellsArgs nowhere (bare_exprs xs) rest ts r
     args_bare no_args_rule = no_args_rule
     args_bare (args_rule a) = args_rule (exprs_bare a)
     args_bare (comma_args_rule a) = comma_args_rule (exprs_bare a)
+    args_bare (rest_args_rule a) = rest_args_rule (exprs_bare a)
+    args_bare (comma_rest_args_rule a) = comma_rest_args_rule (exprs_bare a)
 
     pub elems_bare : {es : Elems S} {ts r : Lexemes} → SpellsElems mark es ts r → SpellsElems nowhere (bare_elems es) ts r
     elems_bare no_elems_rule = no_elems_rule

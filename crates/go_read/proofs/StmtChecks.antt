@@ -1,6 +1,7 @@
 -- Statements, read by evaluation: all of the text is spelled as the tree, or nothing is.
 use Rattle.std.proofs.Common.{◌≡◌, true, false, [], ◌∷◌, Some, None, refl}
 use Rattle.std.specs.Prelude.{codes}
+use Rattle.go_tree.specs.declared.exprs.Rest.TheVariants.{Plain}
 use Rattle.go_tree.specs.declared.operators.BinOp.TheVariants.{Add, Eq, Gt, Lt}
 use Rattle.go_tree.specs.Tree.{composite, index, call, func_lit, binary, no_exprs, no_expr, some_expr, no_elems, elem, plain, no_value, const_decl, var_decl, empty, eval, step, assign, define, return_, break_, continue_, if_, for_, range_, switch, defer, label, no_stmts, no_stmt, some_stmt, no_block, some_block, nothing, assigns, defines, no_arms, arm, no_cases, case, no_specs, spec}
 use Rattle.go_read.specs.Goals.{read_block}
@@ -14,7 +15,7 @@ if_literal : reading read_block (codes "{ if q == P { 1 } { } }") ≡ None
 unfolding reading
 if_literal = refl
 
-if_chain : reading read_block (codes "{ if x := f ( ) ; x > 0 { } else if y { } else { } }") ≡ Some (tt, (block (if_ tt (arm tt (some_stmt (define tt ((name (codes "x")) ∷ []) (list ((call tt (var (codes "f")) no_exprs) ∷ [])))) (binary tt Gt (var (codes "x")) (num (codes "0"))) tt no_stmts (arm tt no_stmt (var (codes "y")) tt no_stmts no_arms)) (some_block tt no_stmts) ∷ [])))
+if_chain : reading read_block (codes "{ if x := f ( ) ; x > 0 { } else if y { } else { } }") ≡ Some (tt, (block (if_ tt (arm tt (some_stmt (define tt ((name (codes "x")) ∷ []) (list ((call tt (var (codes "f")) no_exprs Plain) ∷ [])))) (binary tt Gt (var (codes "x")) (num (codes "0"))) tt no_stmts (arm tt no_stmt (var (codes "y")) tt no_stmts no_arms)) (some_block tt no_stmts) ∷ [])))
 unfolding reading
 if_chain = refl
 
@@ -26,15 +27,15 @@ label_of_nothing : reading read_block (codes "{ L : }") ≡ Some (tt, (block (la
 unfolding reading
 label_of_nothing = refl
 
-switch_first : reading read_block (codes "{ switch x := f ( ) ; x { } }") ≡ Some (tt, (block (switch tt (some_stmt (define tt ((name (codes "x")) ∷ []) (list ((call tt (var (codes "f")) no_exprs) ∷ [])))) (some_expr (var (codes "x"))) no_cases ∷ [])))
+switch_first : reading read_block (codes "{ switch x := f ( ) ; x { } }") ≡ Some (tt, (block (switch tt (some_stmt (define tt ((name (codes "x")) ∷ []) (list ((call tt (var (codes "f")) no_exprs Plain) ∷ [])))) (some_expr (var (codes "x"))) no_cases ∷ [])))
 unfolding reading
 switch_first = refl
 
-switch_cases : reading read_block (codes "{ switch x { case 1 , 2 : f ( ) ; default : } }") ≡ Some (tt, (block (switch tt no_stmt (some_expr (var (codes "x"))) (case tt (list ((num (codes "1")) ∷ (num (codes "2")) ∷ [])) (block (eval tt (call tt (var (codes "f")) no_exprs) ∷ [])) (case tt no_exprs no_stmts no_cases)) ∷ [])))
+switch_cases : reading read_block (codes "{ switch x { case 1 , 2 : f ( ) ; default : } }") ≡ Some (tt, (block (switch tt no_stmt (some_expr (var (codes "x"))) (case tt (list ((num (codes "1")) ∷ (num (codes "2")) ∷ [])) (block (eval tt (call tt (var (codes "f")) no_exprs Plain) ∷ [])) (case tt no_exprs no_stmts no_cases)) ∷ [])))
 unfolding reading
 switch_cases = refl
 
-switch_untagged : reading read_block (codes "{ switch { case a : b ( ) } }") ≡ Some (tt, (block (switch tt no_stmt no_expr (case tt (list ((var (codes "a")) ∷ [])) (block (eval tt (call tt (var (codes "b")) no_exprs) ∷ [])) no_cases) ∷ [])))
+switch_untagged : reading read_block (codes "{ switch { case a : b ( ) } }") ≡ Some (tt, (block (switch tt no_stmt no_expr (case tt (list ((var (codes "a")) ∷ [])) (block (eval tt (call tt (var (codes "b")) no_exprs Plain) ∷ [])) no_cases) ∷ [])))
 unfolding reading
 switch_untagged = refl
 
@@ -110,7 +111,7 @@ no_statement : reading read_block (codes "{ }") ≡ Some (tt, no_stmts)
 unfolding reading
 no_statement = refl
 
-defer_call : reading read_block (codes "{ defer ( f ) ( ) }") ≡ Some (tt, (block (defer tt (call tt (var (codes "f")) no_exprs) ∷ [])))
+defer_call : reading read_block (codes "{ defer ( f ) ( ) }") ≡ Some (tt, (block (defer tt (call tt (var (codes "f")) no_exprs Plain) ∷ [])))
 unfolding reading
 defer_call = refl
 
@@ -118,7 +119,7 @@ defer_in_parens : reading read_block (codes "{ defer ( f ( ) ) }") ≡ None
 unfolding reading
 defer_in_parens = refl
 
-defer_literal : reading read_block (codes "{ defer func ( ) { } ( ) }") ≡ Some (tt, (block (defer tt (call tt (func_lit tt (record { params = []; results = [] }) tt no_stmts) no_exprs) ∷ [])))
+defer_literal : reading read_block (codes "{ defer func ( ) { } ( ) }") ≡ Some (tt, (block (defer tt (call tt (func_lit tt (record { params = []; results = [] }) tt no_stmts) no_exprs Plain) ∷ [])))
 unfolding reading
 defer_literal = refl
 

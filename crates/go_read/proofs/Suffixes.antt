@@ -1,10 +1,11 @@
 -- The tokens that spell a part stand at the front of the tokens that it is read from.
 use Rattle.std.proofs.Common.{◌≡◌, ℕ, Bool, List, [], ◌∷◌, ◌++◌, Option, refl, ap}
+use Rattle.go_tree.specs.declared.exprs.Rest.{Rest}
 use Rattle.go_tree.specs.Tree.{NameAt, TypeExpr, Fields, Param, Sig, Expr, Exprs, ExprOption, Elems, Value, ValueOption, Stmt, Stmts, StmtOption, BlockOption, RangeLeft, Arms, Cases, ValueSpecs}
 use Rattle.go_tree.specs.File.{ImportSpec, ImportDecl, TypeSpec, Receiver, Decl, File}
-use Rattle.go_read.specs.SpellsTerminals.{Lexeme}
-use Rattle.go_read.specs.SpellsTypes.{Lexemes, SpellsType, SpellsFields, SpellsEntries, SpellsNamed, SpellsUnnamed, SpellsParams, SpellsResults, SpellsSig, SpellsNames, named_rule, qualified_rule, pointer_rule, slice_type_rule, map_type_rule, struct_type_rule, type_parens_rule, no_fields_rule, last_field_rule, more_fields_rule, last_entry_rule, more_entries_rule, last_named_rule, comma_named_rule, more_named_rule, last_unnamed_rule, comma_unnamed_rule, more_unnamed_rule, no_params_rule, named_params_rule, unnamed_params_rule, no_results_rule, params_results_rule, type_result_rule, sig_rule, last_name_rule, more_names_rule}
-use Rattle.go_read.specs.Spells.{SpellsLiteralType, SpellsBare, SpellsExpr, SpellsOperand, SpellsOption, SpellsExprs, SpellsArgs, SpellsElems, SpellsElem, SpellsValue, SpellsSimple, SpellsPart, SpellsFirst, SpellsStmt, SpellsBlock, SpellsStmts, SpellsIf, SpellsArm, SpellsLeft, SpellsCases, SpellsDecl, SpellsSpecs, SpellsSpec, named_literal_rule, qualified_literal_rule, type_literal_rule, ident_rule, int_rule, rune_rule, text_rule, composite_rule, func_rule, type_rule, selector_rule, index_rule, slice_rule, call_rule, unary_rule, star_rule, binary_rule, bare_rule, parens_rule, operand_rule, no_expr_rule, some_expr_rule, last_expr_rule, more_exprs_rule, no_args_rule, args_rule, comma_args_rule, no_elems_rule, last_elem_rule, more_elems_rule, value_rule, keyed_rule, plain_rule, braced_rule, eval_rule, increment_rule, decrement_rule, assign_rule, define_rule, no_part_rule, part_rule, no_first_rule, first_rule, empty_rule, simple_rule, const_rule, var_rule, return_rule, return_values_rule, break_rule, break_label_rule, continue_rule, continue_label_rule, block_rule, if_rule, while_rule, for_rule, range_rule, switch_rule, defer_rule, label_rule, braces_rule, no_stmts_rule, last_stmt_rule, more_stmts_rule, only_arm_rule, else_rule, else_if_rule, arm_rule, no_left_rule, assigns_rule, defines_rule, no_cases_rule, case_rule, default_rule, single_rule, group_rule, no_specs_rule, last_spec_rule, more_specs_rule, repeated_rule, typed_var_rule, values_rule, typed_values_rule}
+use Rattle.go_words.specs.Terminals.{Lexeme}
+use Rattle.go_read.specs.SpellsTypes.{Lexemes, SpellsRest, rest_named_rule, comma_rest_named_rule, rest_unnamed_rule, comma_rest_unnamed_rule, rest_rule, named_rest_rule, SpellsType, SpellsFields, SpellsEntries, SpellsNamed, SpellsUnnamed, SpellsParams, SpellsResults, SpellsSig, SpellsNames, named_rule, qualified_rule, pointer_rule, slice_type_rule, map_type_rule, struct_type_rule, type_parens_rule, no_fields_rule, last_field_rule, more_fields_rule, last_entry_rule, more_entries_rule, last_named_rule, comma_named_rule, more_named_rule, last_unnamed_rule, comma_unnamed_rule, more_unnamed_rule, no_params_rule, named_params_rule, unnamed_params_rule, no_results_rule, params_results_rule, type_result_rule, sig_rule, last_name_rule, more_names_rule}
+use Rattle.go_read.specs.Spells.{SpellsLiteralType, SpellsBare, SpellsExpr, SpellsOperand, SpellsOption, SpellsExprs, SpellsArgs, SpellsElems, SpellsElem, SpellsValue, SpellsSimple, SpellsPart, SpellsFirst, SpellsStmt, SpellsBlock, SpellsStmts, SpellsIf, SpellsArm, SpellsLeft, SpellsCases, SpellsDecl, SpellsSpecs, SpellsSpec, named_literal_rule, qualified_literal_rule, type_literal_rule, ident_rule, int_rule, rune_rule, text_rule, composite_rule, func_rule, type_rule, selector_rule, index_rule, slice_rule, call_rule, unary_rule, star_rule, binary_rule, bare_rule, parens_rule, operand_rule, no_expr_rule, some_expr_rule, last_expr_rule, more_exprs_rule, no_args_rule, args_rule, comma_args_rule, rest_args_rule, comma_rest_args_rule, no_elems_rule, last_elem_rule, more_elems_rule, value_rule, keyed_rule, plain_rule, braced_rule, eval_rule, increment_rule, decrement_rule, assign_rule, define_rule, no_part_rule, part_rule, no_first_rule, first_rule, empty_rule, simple_rule, const_rule, var_rule, return_rule, return_values_rule, break_rule, break_label_rule, continue_rule, continue_label_rule, block_rule, if_rule, while_rule, for_rule, range_rule, switch_rule, defer_rule, label_rule, braces_rule, no_stmts_rule, last_stmt_rule, more_stmts_rule, only_arm_rule, else_rule, else_if_rule, arm_rule, no_left_rule, assigns_rule, defines_rule, no_cases_rule, case_rule, default_rule, single_rule, group_rule, no_specs_rule, last_spec_rule, more_specs_rule, repeated_rule, typed_var_rule, values_rule, typed_values_rule}
 use Rattle.go_read.specs.SpellsFiles.{SpellsImportSpec, SpellsImportSpecs, SpellsImport, SpellsTypeSpec, SpellsTypeSpecs, SpellsReceiver, SpellsTop, SpellsImports, SpellsTops, SpellsFront, path_rule, named_path_rule, no_import_specs_rule, last_import_spec_rule, more_import_specs_rule, import_rule, import_group_rule, type_spec_rule, alias_spec_rule, no_type_specs_rule, last_type_spec_rule, more_type_specs_rule, receiver_rule, pointer_receiver_rule, named_receiver_rule, named_pointer_receiver_rule, top_const_rule, top_var_rule, top_type_rule, top_type_group_rule, top_func_rule, top_method_rule, no_imports_rule, more_imports_rule, no_tops_rule, more_tops_rule, front_rule}
 
 pub data Suffix : Lexemes → Lexemes → Type 0 where
@@ -42,17 +43,25 @@ module _ {S : Type 0} (mark : Lexemes → Lexemes → S) where
     entries_suffix (last_entry_rule d) = after (type_suffix d)
     entries_suffix (more_entries_rule d) = after (after (entries_suffix d))
 
-  pub named_suffix : {ps : List (Param S)} {ts r : Lexemes} → SpellsNamed mark ps ts r → Suffix r ts
+  pub rest_suffix : {named : Bool} {p : Param S} {ts r : Lexemes} → SpellsRest mark named p ts r → Suffix r ts
+  rest_suffix (rest_rule d) = after (type_suffix d)
+  rest_suffix (named_rest_rule d) = after (after (type_suffix d))
+
+  pub named_suffix : {v : Bool} {ps : List (Param S)} {ts r : Lexemes} → SpellsNamed mark v ps ts r → Suffix r ts
   named_suffix (last_named_rule d) = skip (entries_suffix d)
   named_suffix (comma_named_rule d) = skip (skip (entries_suffix d))
   named_suffix (more_named_rule d k) = onto (named_suffix k) (skip (entries_suffix d))
+  named_suffix (rest_named_rule d) = skip (rest_suffix d)
+  named_suffix (comma_rest_named_rule d) = skip (skip (rest_suffix d))
 
-  pub unnamed_suffix : {ps : List (Param S)} {ts r : Lexemes} → SpellsUnnamed mark ps ts r → Suffix r ts
+  pub unnamed_suffix : {v : Bool} {ps : List (Param S)} {ts r : Lexemes} → SpellsUnnamed mark v ps ts r → Suffix r ts
   unnamed_suffix (last_unnamed_rule d) = skip (type_suffix d)
   unnamed_suffix (comma_unnamed_rule d) = skip (skip (type_suffix d))
   unnamed_suffix (more_unnamed_rule d k) = onto (unnamed_suffix k) (skip (type_suffix d))
+  unnamed_suffix (rest_unnamed_rule d) = skip (rest_suffix d)
+  unnamed_suffix (comma_rest_unnamed_rule d) = skip (skip (rest_suffix d))
 
-  pub params_suffix : {ps : List (Param S)} {ts r : Lexemes} → SpellsParams mark ps ts r → Suffix r ts
+  pub params_suffix : {v : Bool} {ps : List (Param S)} {ts r : Lexemes} → SpellsParams mark v ps ts r → Suffix r ts
   params_suffix no_params_rule = after (after whole)
   params_suffix (named_params_rule d) = after (named_suffix d)
   params_suffix (unnamed_params_rule d) = after (unnamed_suffix d)
@@ -62,7 +71,7 @@ module _ {S : Type 0} (mark : Lexemes → Lexemes → S) where
   results_suffix (params_results_rule d) = params_suffix d
   results_suffix (type_result_rule d) = type_suffix d
 
-  pub sig_suffix : {g : Sig S} {ts r : Lexemes} → SpellsSig mark g ts r → Suffix r ts
+  pub sig_suffix : {v : Bool} {g : Sig S} {ts r : Lexemes} → SpellsSig mark v g ts r → Suffix r ts
   sig_suffix (sig_rule d k) = onto (results_suffix k) (params_suffix d)
 
   pub names_suffix : {ns : List (NameAt S)} {ts r : Lexemes} → SpellsNames mark ns ts r → Suffix r ts
@@ -106,10 +115,12 @@ module _ {S : Type 0} (mark : Lexemes → Lexemes → S) where
     exprs_suffix (last_expr_rule d) = operand_suffix d
     exprs_suffix (more_exprs_rule d k) = onto (exprs_suffix k) (skip (operand_suffix d))
 
-    pub args_suffix : {xs : Exprs S} {ts r : Lexemes} → SpellsArgs mark xs ts r → Suffix r ts
+    pub args_suffix : {xs : Exprs S} {rest : Rest} {ts r : Lexemes} → SpellsArgs mark xs rest ts r → Suffix r ts
     args_suffix no_args_rule = after whole
     args_suffix (args_rule d) = skip (exprs_suffix d)
     args_suffix (comma_args_rule d) = skip (skip (exprs_suffix d))
+    args_suffix (rest_args_rule d) = skip (skip (exprs_suffix d))
+    args_suffix (comma_rest_args_rule d) = skip (skip (skip (exprs_suffix d)))
 
     pub elems_suffix : {es : Elems S} {ts r : Lexemes} → SpellsElems mark es ts r → Suffix r ts
     elems_suffix no_elems_rule = whole

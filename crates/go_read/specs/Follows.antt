@@ -1,11 +1,11 @@
 -- Which tokens may follow a part that is read from left to right.
 use Rattle.std.specs.Prelude.{◌≡◌, Bool, true, false, ◌∷◌}
-use Rattle.go_read.specs.SpellsTerminals.{lex, word, sign, semicolon, dot, paren, bracket, brace, end_brace}
+use Rattle.go_words.specs.Terminals.{lex, ident, binary_op, semicolon, dot, paren, bracket, brace, end_brace}
 use Rattle.go_read.specs.SpellsTypes.{Lexemes}
 
 -- a name after a dot, which would go on with a type's name
 abbrev pub is_dotted : Lexemes → Bool
-is_dotted (lex _ dot ∷ lex _ (word _) ∷ _) = true
+is_dotted (lex _ dot ∷ lex _ (ident _) ∷ _) = true
 is_dotted _ = false
 
 -- nothing that would go on with an expression
@@ -13,13 +13,13 @@ abbrev pub ends_expr : Lexemes → Bool
 ends_expr (lex _ paren ∷ _) = false
 ends_expr (lex _ dot ∷ _) = false
 ends_expr (lex _ bracket ∷ _) = false
-ends_expr (lex _ (sign _) ∷ _) = false
+ends_expr (lex _ (binary_op _) ∷ _) = false
 ends_expr _ = true
 
 -- a brace that would make a name before it a composite literal
 abbrev pub literal_follows : Lexemes → Bool
 literal_follows (lex _ brace ∷ _) = true
-literal_follows (lex _ dot ∷ lex _ (word _) ∷ lex _ brace ∷ _) = true
+literal_follows (lex _ dot ∷ lex _ (ident _) ∷ lex _ brace ∷ _) = true
 literal_follows _ = false
 
 -- outside a header there is none

@@ -1,5 +1,6 @@
 -- What a reader of tokens can be asked for, and what it answers.
 use Rattle.std.specs.Prelude.{ℕ, ◌+◌, ◌*◌, Bool, List, length, Option}
+use Rattle.go_tree.specs.declared.exprs.Rest.{Rest}
 use Rattle.go_tree.specs.Tree.{NameAt, TypeExpr, Fields, Param, Sig, Expr, Exprs, Elems, Value, ValueOption, Stmt, Stmts, StmtOption, BlockOption, RangeLeft, Arms, Cases, ValueSpecs}
 use Rattle.go_tree.specs.File.{ImportSpec, ImportDecl, TypeSpec, Receiver, Decl, File}
 use Rattle.go_read.specs.SpellsTypes.{Lexemes}
@@ -9,16 +10,16 @@ pub data Clause (S : Type 0) : Type 0 where
   plain_clause : Stmt S → Clause S
   range_clause : RangeLeft S → Clause S
 
--- A level is the least one of a binary operator, a truth value says whether a header is read, or, of an expression, whether it
--- stands without parentheses around it. `whole` holds the tokens from the start of what is read already.
+-- A level is the least one of a binary operator. A truth value says whether a header is read, of parameters whether they may
+-- be variadic, and of an expression whether it stands without parentheses around it. `whole` holds the tokens from the start of what is read already.
 pub data Goal (S : Type 0) : Type 0 where
   read_type : Goal S
   read_fields : Goal S
   read_entries : Goal S
-  read_named : Goal S
-  read_unnamed : Goal S
-  read_params : Goal S
-  read_sig : Goal S
+  read_named : Bool → Goal S
+  read_unnamed : Bool → Goal S
+  read_params : Bool → Goal S
+  read_sig : Bool → Goal S
   read_names : Goal S
   read_expr : ℕ → Bool → Goal S
   read_more : ℕ → Bool → Lexemes → Expr S → Bool → Goal S
@@ -57,10 +58,10 @@ abbrev pub Answer : {S : Type 0} → Goal S → Type 0
 Answer {S} read_type = TypeExpr S
 Answer {S} read_fields = Fields S
 Answer {S} read_entries = TypeExpr S × List (S × NameAt S)
-Answer {S} read_named = List (Param S)
-Answer {S} read_unnamed = List (Param S)
-Answer {S} read_params = List (Param S)
-Answer {S} read_sig = Sig S
+Answer {S} (read_named _) = List (Param S)
+Answer {S} (read_unnamed _) = List (Param S)
+Answer {S} (read_params _) = List (Param S)
+Answer {S} (read_sig _) = Sig S
 Answer {S} read_names = List (NameAt S)
 Answer {S} (read_expr _ _) = Expr S × Bool
 Answer {S} (read_more _ _ _ _ _) = Expr S × Bool
@@ -68,7 +69,7 @@ Answer {S} (read_unary _) = Expr S × Bool
 Answer {S} (read_postfix _ _ _ _) = Expr S × Bool
 Answer {S} (read_operand _) = Expr S
 Answer {S} (read_exprs _) = Exprs S
-Answer {S} read_args = Exprs S
+Answer {S} read_args = Exprs S × Rest
 Answer {S} read_elems = Elems S
 Answer {S} read_elem = ValueOption S × Value S
 Answer {S} read_value = Value S
@@ -104,10 +105,10 @@ abbrev pub least : {S : Type 0} → Goal S → ℕ
 least read_type = 1
 least read_fields = 0
 least read_entries = 1
-least read_named = 1
-least read_unnamed = 1
-least read_params = 1
-least read_sig = 1
+least (read_named _) = 1
+least (read_unnamed _) = 1
+least (read_params _) = 1
+least (read_sig _) = 1
 least read_names = 1
 least (read_expr _ _) = 1
 least (read_more _ _ _ _ _) = 0
@@ -147,10 +148,10 @@ abbrev pub rank_of : {S : Type 0} → Goal S → ℕ
 rank_of read_type = 0
 rank_of read_fields = 1
 rank_of read_entries = 0
-rank_of read_named = 1
-rank_of read_unnamed = 1
-rank_of read_params = 0
-rank_of read_sig = 1
+rank_of (read_named _) = 1
+rank_of (read_unnamed _) = 1
+rank_of (read_params _) = 0
+rank_of (read_sig _) = 1
 rank_of read_names = 0
 rank_of (read_expr _ _) = 2
 rank_of (read_more _ _ _ _ _) = 0

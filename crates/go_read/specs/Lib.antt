@@ -1,6 +1,4 @@
-pub mod SpellsTerminals
 pub mod SpellsSpans
-pub mod SpellsTexts
 pub mod SpellsTypes
 pub mod Spells
 pub mod SpellsFiles

@@ -5,8 +5,11 @@ use Rattle.go_tree.specs.declared.operators.BinOp.{BinOp}
 use Rattle.go_tree.specs.declared.operators.BinOp.TheVariants.{Mul, Add, Sub, Xor, And}
 use Rattle.go_tree.specs.declared.operators.UnOp.{UnOp}
 use Rattle.go_tree.specs.declared.operators.UnOp.TheVariants.{Plus, Minus, Not, Flip, Address}
+use Rattle.go_tree.specs.declared.exprs.Rest.{Rest}
+use Rattle.go_tree.specs.declared.exprs.Rest.TheVariants.{Plain, Whole}
 use Rattle.go_tree.specs.Tree.{TypeExpr, named, Expr, Exprs, ExprOption, Elems, Value, ValueOption, ident, int_lit, rune_lit, str_lit, composite, selector, index, slice, call, func_lit, type_operand, unary, binary, star, no_exprs, expr_and, no_expr, some_expr, no_elems, elem, plain, braced, no_value, some_value}
-use Rattle.go_read.specs.SpellsTerminals.{lex, word, number, rune, text, sign, bang, comma, colon, dot, paren, end_paren, bracket, end_bracket, brace, end_brace, key_func, key_map, key_struct, level_of}
+use Rattle.go_words.specs.Terminals as terminal
+use Rattle.go_words.specs.Terminals.{lex, binary_op, not_, comma, colon, dot, ellipsis, paren, end_paren, bracket, end_bracket, brace, end_brace, key_func, key_map, key_struct, level_of}
 use Rattle.go_read.specs.SpellsTypes.{Lexemes, name_here}
 use Rattle.go_read.specs.Spells.{is_func_lit}
 use Rattle.go_read.specs.Goals.{read_type, read_sig, read_expr, read_more, read_unary, read_postfix, read_operand, read_exprs, read_args, read_elems, read_elem, read_value, read_block}
@@ -22,8 +25,8 @@ module _ {S : Type 0} (mark : Lexemes → Lexemes → S) where
       ask (read_expr (level_of op + 1) header) ts (λ x r. unless (is_func_lit x.0) (ask (read_more level header whole (binary (mark whole r) op left x.0) true) r (λ y r. give y r)))
 
   unfoldable pub more_step : ℕ → Bool → Lexemes → Expr S → Bool → Lexemes → Program S (Expr S × Bool)
-  more_step level header whole left bare (lex s (sign op) ∷ ts) =
-      if nat_le level (level_of op) then unless (is_func_lit left) (binary_step level header whole left op ts) else give (left, bare) (lex s (sign op) ∷ ts)
+  more_step level header whole left bare (lex s (binary_op op) ∷ ts) =
+      if nat_le level (level_of op) then unless (is_func_lit left) (binary_step level header whole left op ts) else give (left, bare) (lex s (binary_op op) ∷ ts)
   more_step level header whole left bare ts = give (left, bare) ts
 
   -- an operand that holds the tokens from `whole` on, and what may follow it
@@ -35,11 +38,11 @@ module _ {S : Type 0} (mark : Lexemes → Lexemes → S) where
 
   abbrev pub word_step : Bool → Span → List ℕ → Lexemes → Program S (Expr S × Bool)
   word_step false s n (lex b brace ∷ ts) =
-      composite_step false (lex s (word n) ∷ lex b brace ∷ ts) (named (mark (lex s (word n) ∷ lex b brace ∷ ts) (lex b brace ∷ ts)) None (name_here mark s n (lex b brace ∷ ts))) ts
-  word_step false s p (lex d dot ∷ lex s2 (word n) ∷ lex b brace ∷ ts) =
-      composite_step false (lex s (word p) ∷ lex d dot ∷ lex s2 (word n) ∷ lex b brace ∷ ts)
-      (named (mark (lex s (word p) ∷ lex d dot ∷ lex s2 (word n) ∷ lex b brace ∷ ts) (lex b brace ∷ ts)) (Some (name_here mark s p (lex d dot ∷ lex s2 (word n) ∷ lex b brace ∷ ts))) (name_here mark s2 n (lex b brace ∷ ts))) ts
-  word_step header s n ts = then_postfix header (lex s (word n) ∷ ts) (ident (mark (lex s (word n) ∷ ts) ts) n) true ts
+      composite_step false (lex s (terminal.ident n) ∷ lex b brace ∷ ts) (named (mark (lex s (terminal.ident n) ∷ lex b brace ∷ ts) (lex b brace ∷ ts)) None (name_here mark s n (lex b brace ∷ ts))) ts
+  word_step false s p (lex d dot ∷ lex s2 (terminal.ident n) ∷ lex b brace ∷ ts) =
+      composite_step false (lex s (terminal.ident p) ∷ lex d dot ∷ lex s2 (terminal.ident n) ∷ lex b brace ∷ ts)
+      (named (mark (lex s (terminal.ident p) ∷ lex d dot ∷ lex s2 (terminal.ident n) ∷ lex b brace ∷ ts) (lex b brace ∷ ts)) (Some (name_here mark s p (lex d dot ∷ lex s2 (terminal.ident n) ∷ lex b brace ∷ ts))) (name_here mark s2 n (lex b brace ∷ ts))) ts
+  word_step header s n ts = then_postfix header (lex s (terminal.ident n) ∷ ts) (ident (mark (lex s (terminal.ident n) ∷ ts) ts) n) true ts
 
   -- a type as an operand, or in front of a composite literal
   abbrev pub type_after : Bool → Lexemes → TypeExpr S → Lexemes → Program S (Expr S × Bool)
@@ -56,22 +59,22 @@ module _ {S : Type 0} (mark : Lexemes → Lexemes → S) where
   prefix_step header whole op ts = ask (read_unary header) ts (λ x r. unless (is_func_lit x.0) (give (unary (mark whole r) op x.0, true) r))
 
   unfoldable pub unary_step : Bool → Lexemes → Program S (Expr S × Bool)
-  unary_step header (lex s (word n) ∷ ts) = word_step header s n ts
-  unary_step header (lex s (number n) ∷ ts) = then_postfix header (lex s (number n) ∷ ts) (int_lit (mark (lex s (number n) ∷ ts) ts) n) true ts
-  unary_step header (lex s (rune n) ∷ ts) = then_postfix header (lex s (rune n) ∷ ts) (rune_lit (mark (lex s (rune n) ∷ ts) ts) n) true ts
-  unary_step header (lex s (text n) ∷ ts) = then_postfix header (lex s (text n) ∷ ts) (str_lit (mark (lex s (text n) ∷ ts) ts) n) true ts
+  unary_step header (lex s (terminal.ident n) ∷ ts) = word_step header s n ts
+  unary_step header (lex s (terminal.int_lit n) ∷ ts) = then_postfix header (lex s (terminal.int_lit n) ∷ ts) (int_lit (mark (lex s (terminal.int_lit n) ∷ ts) ts) n) true ts
+  unary_step header (lex s (terminal.rune_lit n) ∷ ts) = then_postfix header (lex s (terminal.rune_lit n) ∷ ts) (rune_lit (mark (lex s (terminal.rune_lit n) ∷ ts) ts) n) true ts
+  unary_step header (lex s (terminal.str_lit n) ∷ ts) = then_postfix header (lex s (terminal.str_lit n) ∷ ts) (str_lit (mark (lex s (terminal.str_lit n) ∷ ts) ts) n) true ts
   unary_step header (lex s paren ∷ ts) = ask (read_expr 1 false) ts (λ x r. after_end_paren r (λ r. then_postfix header (lex s paren ∷ ts) x.0 false r))
   unary_step header (lex s key_func ∷ ts) =
-      ask read_sig ts (λ g mid. ask read_block mid (λ b r. then_postfix header (lex s key_func ∷ ts) (func_lit (mark (lex s key_func ∷ ts) r) g b.0 b.1) true r))
+      ask (read_sig false) ts (λ g mid. ask read_block mid (λ b r. then_postfix header (lex s key_func ∷ ts) (func_lit (mark (lex s key_func ∷ ts) r) g b.0 b.1) true r))
   unary_step header (lex s bracket ∷ ts) = type_first header (lex s bracket ∷ ts)
   unary_step header (lex s key_map ∷ ts) = type_first header (lex s key_map ∷ ts)
   unary_step header (lex s key_struct ∷ ts) = type_first header (lex s key_struct ∷ ts)
-  unary_step header (lex s (sign Mul) ∷ ts) = ask (read_unary header) ts (λ x r. unless (is_func_lit x.0) (give (star (mark (lex s (sign Mul) ∷ ts) r) x.0, true) r))
-  unary_step header (lex s (sign Add) ∷ ts) = prefix_step header (lex s (sign Add) ∷ ts) Plus ts
-  unary_step header (lex s (sign Sub) ∷ ts) = prefix_step header (lex s (sign Sub) ∷ ts) Minus ts
-  unary_step header (lex s (sign Xor) ∷ ts) = prefix_step header (lex s (sign Xor) ∷ ts) Flip ts
-  unary_step header (lex s (sign And) ∷ ts) = prefix_step header (lex s (sign And) ∷ ts) Address ts
-  unary_step header (lex s bang ∷ ts) = prefix_step header (lex s bang ∷ ts) Not ts
+  unary_step header (lex s (binary_op Mul) ∷ ts) = ask (read_unary header) ts (λ x r. unless (is_func_lit x.0) (give (star (mark (lex s (binary_op Mul) ∷ ts) r) x.0, true) r))
+  unary_step header (lex s (binary_op Add) ∷ ts) = prefix_step header (lex s (binary_op Add) ∷ ts) Plus ts
+  unary_step header (lex s (binary_op Sub) ∷ ts) = prefix_step header (lex s (binary_op Sub) ∷ ts) Minus ts
+  unary_step header (lex s (binary_op Xor) ∷ ts) = prefix_step header (lex s (binary_op Xor) ∷ ts) Flip ts
+  unary_step header (lex s (binary_op And) ∷ ts) = prefix_step header (lex s (binary_op And) ∷ ts) Address ts
+  unary_step header (lex s not_ ∷ ts) = prefix_step header (lex s not_ ∷ ts) Not ts
   unary_step header _ = fail
 
   -- after the colon of a slice
@@ -90,8 +93,8 @@ module _ {S : Type 0} (mark : Lexemes → Lexemes → S) where
   bracket_step header whole base ts = ask (read_operand false) ts (λ x r. bracket_after header whole base x r)
 
   unfoldable pub postfix_step : Bool → Lexemes → Expr S → Bool → Lexemes → Program S (Expr S × Bool)
-  postfix_step header whole base bare (lex _ paren ∷ ts) = ask read_args ts (λ xs r. then_postfix header whole (call (mark whole r) base xs) true r)
-  postfix_step header whole base bare (lex _ dot ∷ lex s (word n) ∷ r) = unless (is_func_lit base) (then_postfix header whole (selector (mark whole r) base (name_here mark s n r)) true r)
+  postfix_step header whole base bare (lex _ paren ∷ ts) = ask read_args ts (λ x r. then_postfix header whole (call (mark whole r) base x.0 x.1) true r)
+  postfix_step header whole base bare (lex _ dot ∷ lex s (terminal.ident n) ∷ r) = unless (is_func_lit base) (then_postfix header whole (selector (mark whole r) base (name_here mark s n r)) true r)
   postfix_step header whole base bare (lex _ bracket ∷ ts) = unless (is_func_lit base) (bracket_step header whole base ts)
   postfix_step header whole base bare ts = give (base, bare) ts
 
@@ -105,13 +108,15 @@ module _ {S : Type 0} (mark : Lexemes → Lexemes → S) where
   unfoldable pub exprs_step : Bool → Lexemes → Program S (Exprs S)
   exprs_step header ts = ask (read_operand header) ts (λ e r. exprs_after header e r)
 
-  abbrev pub args_after : Expr S → Lexemes → Program S (Exprs S)
-  args_after e (lex _ comma ∷ ts) = ask read_args ts (λ es r. give (expr_and e es) r)
-  args_after e (lex _ end_paren ∷ r) = give (expr_and e no_exprs) r
+  abbrev pub args_after : Expr S → Lexemes → Program S (Exprs S × Rest)
+  args_after e (lex _ comma ∷ ts) = ask read_args ts (λ x r. give (expr_and e x.0, x.1) r)
+  args_after e (lex _ end_paren ∷ r) = give (expr_and e no_exprs, Plain) r
+  args_after e (lex _ ellipsis ∷ lex _ end_paren ∷ r) = give (expr_and e no_exprs, Whole) r
+  args_after e (lex _ ellipsis ∷ lex _ comma ∷ lex _ end_paren ∷ r) = give (expr_and e no_exprs, Whole) r
   args_after e _ = fail
 
-  unfoldable pub args_step : Lexemes → Program S (Exprs S)
-  args_step (lex _ end_paren ∷ r) = give no_exprs r
+  unfoldable pub args_step : Lexemes → Program S (Exprs S × Rest)
+  args_step (lex _ end_paren ∷ r) = give (no_exprs, Plain) r
   args_step ts = ask (read_operand false) ts (λ e r. args_after e r)
 
   abbrev pub elems_after : Lexemes → ValueOption S × Value S → Lexemes → Program S (Elems S)

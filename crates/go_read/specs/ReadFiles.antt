@@ -1,10 +1,10 @@
 -- One step of reading a file's imports and declarations.
-use Rattle.std.specs.Prelude.{true, false, List, [], ◌∷◌, Option, Some, None}
+use Rattle.std.specs.Prelude.{Bool, true, false, List, [], ◌∷◌, Option, Some, None}
 use Rattle.go_tree.specs.declared.operators.BinOp.TheVariants.{Mul}
 use Rattle.go_tree.specs.Tree.{const_decl, var_decl}
 use Rattle.go_tree.specs.File.{ImportSpec, ImportDecl, TypeSpec, Receiver, Decl, values, types, func, File}
-use Rattle.go_read.specs.SpellsTerminals.{lex, word, text, sign, becomes, semicolon, paren, end_paren, key_const, key_func, key_import, key_package, key_type, key_var}
-use Rattle.go_read.specs.SpellsTexts.{text_value}
+use Rattle.go_words.specs.Terminals.{lex, ident, str_lit, binary_op, assign, semicolon, paren, end_paren, key_const, key_func, key_import, key_package, key_type, key_var}
+use Rattle.go_words.specs.Texts.{text_value}
 use Rattle.go_read.specs.SpellsTypes.{Lexemes, name_here}
 use Rattle.go_read.specs.SpellsFiles.{is_blank}
 use Rattle.go_read.specs.Goals.{read_type, read_sig, read_block, read_decl, read_import_spec, read_import_specs, read_import, read_type_spec, read_type_specs, read_receiver, read_top, read_imports, read_tops}
@@ -12,9 +12,9 @@ use Rattle.go_read.specs.Programs.{Program, give, fail, ask, look, unless, after
 
 module _ {S : Type 0} (mark : Lexemes → Lexemes → S) where
   unfoldable pub import_spec_step : Lexemes → Program S (ImportSpec S)
-  import_spec_step (lex s (text p) ∷ r) = give (record { span = mark (lex s (text p) ∷ r) r; name = None; path = text_value p }) r
-  import_spec_step (lex s (word n) ∷ lex c (text p) ∷ r) =
-      give (record { span = mark (lex s (word n) ∷ lex c (text p) ∷ r) r; name = Some (name_here mark s n (lex c (text p) ∷ r)); path = text_value p }) r
+  import_spec_step (lex s (str_lit p) ∷ r) = give (record { span = mark (lex s (str_lit p) ∷ r) r; name = None; path = text_value p }) r
+  import_spec_step (lex s (ident n) ∷ lex c (str_lit p) ∷ r) =
+      give (record { span = mark (lex s (ident n) ∷ lex c (str_lit p) ∷ r) r; name = Some (name_here mark s n (lex c (str_lit p) ∷ r)); path = text_value p }) r
   import_spec_step _ = fail
 
   abbrev pub import_specs_after : ImportSpec S → Lexemes → Program S (List (ImportSpec S))
@@ -33,9 +33,9 @@ module _ {S : Type 0} (mark : Lexemes → Lexemes → S) where
   import_step _ = fail
 
   unfoldable pub type_spec_step : Lexemes → Program S (TypeSpec S)
-  type_spec_step (lex s (word n) ∷ lex c (becomes None) ∷ ts) =
-      ask read_type ts (λ t r. give (record { span = mark (lex s (word n) ∷ lex c (becomes None) ∷ ts) r; name = name_here mark s n (lex c (becomes None) ∷ ts); alias = true; of = t }) r)
-  type_spec_step (lex s (word n) ∷ ts) = ask read_type ts (λ t r. give (record { span = mark (lex s (word n) ∷ ts) r; name = name_here mark s n ts; alias = false; of = t }) r)
+  type_spec_step (lex s (ident n) ∷ lex c (assign None) ∷ ts) =
+      ask read_type ts (λ t r. give (record { span = mark (lex s (ident n) ∷ lex c (assign None) ∷ ts) r; name = name_here mark s n (lex c (assign None) ∷ ts); alias = true; of = t }) r)
+  type_spec_step (lex s (ident n) ∷ ts) = ask read_type ts (λ t r. give (record { span = mark (lex s (ident n) ∷ ts) r; name = name_here mark s n ts; alias = false; of = t }) r)
   type_spec_step _ = fail
 
   abbrev pub type_specs_after : TypeSpec S → Lexemes → Program S (List (TypeSpec S))
@@ -48,19 +48,24 @@ module _ {S : Type 0} (mark : Lexemes → Lexemes → S) where
   type_specs_step ts = ask read_type_spec ts (λ x r. type_specs_after x r)
 
   unfoldable pub receiver_step : Lexemes → Program S (Receiver S)
-  receiver_step (lex c (word x) ∷ lex p (sign Mul) ∷ lex s (word n) ∷ r) =
-      give (record { span = mark (lex c (word x) ∷ lex p (sign Mul) ∷ lex s (word n) ∷ r) r; name = Some (name_here mark c x (lex p (sign Mul) ∷ lex s (word n) ∷ r)); pointer = true; of = name_here mark s n r }) r
-  receiver_step (lex c (word x) ∷ lex s (word n) ∷ r) =
-      give (record { span = mark (lex c (word x) ∷ lex s (word n) ∷ r) r; name = Some (name_here mark c x (lex s (word n) ∷ r)); pointer = false; of = name_here mark s n r }) r
-  receiver_step (lex p (sign Mul) ∷ lex s (word n) ∷ r) =
-      give (record { span = mark (lex p (sign Mul) ∷ lex s (word n) ∷ r) r; name = None; pointer = true; of = name_here mark s n r }) r
-  receiver_step (lex s (word n) ∷ r) = give (record { span = mark (lex s (word n) ∷ r) r; name = None; pointer = false; of = name_here mark s n r }) r
+  receiver_step (lex c (ident x) ∷ lex p (binary_op Mul) ∷ lex s (ident n) ∷ r) =
+      give (record { span = mark (lex c (ident x) ∷ lex p (binary_op Mul) ∷ lex s (ident n) ∷ r) r; name = Some (name_here mark c x (lex p (binary_op Mul) ∷ lex s (ident n) ∷ r)); pointer = true; of = name_here mark s n r }) r
+  receiver_step (lex c (ident x) ∷ lex s (ident n) ∷ r) =
+      give (record { span = mark (lex c (ident x) ∷ lex s (ident n) ∷ r) r; name = Some (name_here mark c x (lex s (ident n) ∷ r)); pointer = false; of = name_here mark s n r }) r
+  receiver_step (lex p (binary_op Mul) ∷ lex s (ident n) ∷ r) =
+      give (record { span = mark (lex p (binary_op Mul) ∷ lex s (ident n) ∷ r) r; name = None; pointer = true; of = name_here mark s n r }) r
+  receiver_step (lex s (ident n) ∷ r) = give (record { span = mark (lex s (ident n) ∷ r) r; name = None; pointer = false; of = name_here mark s n r }) r
   receiver_step _ = fail
+
+  -- a function may be variadic, and no method
+  abbrev pub may_be_variadic : Option (Receiver S) → Bool
+  may_be_variadic None = true
+  may_be_variadic (Some _) = false
 
   -- a name, a signature and a block
   abbrev pub func_step : Lexemes → Option (Receiver S) → Lexemes → Program S (Decl S)
-  func_step whole v (lex c (word n) ∷ ts) =
-      ask read_sig ts (λ g mid. ask read_block mid (λ b r. give (func (record { span = mark whole r; receiver = v; name = name_here mark c n ts; sig = g; body_span = b.0; body = b.1 })) r))
+  func_step whole v (lex c (ident n) ∷ ts) =
+      ask (read_sig (may_be_variadic v)) ts (λ g mid. ask read_block mid (λ b r. give (func (record { span = mark whole r; receiver = v; name = name_here mark c n ts; sig = g; body_span = b.0; body = b.1 })) r))
   func_step whole v _ = fail
 
   unfoldable pub top_step : Lexemes → Program S (Decl S)
@@ -88,6 +93,6 @@ module _ {S : Type 0} (mark : Lexemes → Lexemes → S) where
   tops_step ts = look read_top ts (λ o. tops_after ts o)
 
   unfoldable pub front_step : Lexemes → Program S (File S)
-  front_step (lex s key_package ∷ lex c (word n) ∷ lex d semicolon ∷ ts) =
+  front_step (lex s key_package ∷ lex c (ident n) ∷ lex d semicolon ∷ ts) =
       unless (is_blank n) (ask read_imports ts (λ is mid. ask read_tops mid (λ ds r. give (record { package_name = name_here mark c n (lex d semicolon ∷ ts); imports = is; decls = ds }) r)))
   front_step _ = fail

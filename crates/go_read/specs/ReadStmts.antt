@@ -1,7 +1,8 @@
 -- One step of reading a statement, and a declaration of constants or variables.
 use Rattle.std.specs.Prelude.{Bool, true, false, List, ◌∷◌, Option, Some, None}
 use Rattle.go_tree.specs.Tree.{NameAt, TypeExpr, Expr, Exprs, ExprOption, Stmt, Stmts, StmtOption, BlockOption, Arms, Cases, ValueSpecs, call, no_exprs, expr_and, no_expr, some_expr, const_decl, var_decl, empty, eval, step, assign, define, return_, break_, continue_, inner, if_, for_, range_, switch, defer, label, no_stmts, stmt_and, no_stmt, some_stmt, no_block, some_block, nothing, assigns, defines, no_arms, arm, no_cases, case, no_specs, spec}
-use Rattle.go_read.specs.SpellsTerminals.{lex, word, becomes, short, increment, decrement, semicolon, colon, paren, end_paren, brace, end_brace, key_break, key_case, key_const, key_continue, key_default, key_defer, key_else, key_for, key_if, key_range, key_return, key_switch, key_var}
+use Rattle.go_words.specs.Terminals as terminal
+use Rattle.go_words.specs.Terminals.{lex, ident, increment, decrement, semicolon, colon, paren, end_paren, brace, end_brace, key_break, key_case, key_const, key_continue, key_default, key_defer, key_else, key_for, key_if, key_range, key_return, key_switch, key_var}
 use Rattle.go_read.specs.SpellsTypes.{Lexemes, name_here}
 use Rattle.go_read.specs.Spells.{is_empty}
 use Rattle.go_read.specs.Goals.{Clause, plain_clause, range_clause, read_type, read_names, read_expr, read_operand, read_exprs, read_simple, read_simple_after, read_clause, read_stmt, read_stmts, read_block, read_arm, read_if, read_cases, read_decl, read_specs, read_spec}
@@ -19,7 +20,7 @@ module _ {S : Type 0} (mark : Lexemes → Lexemes → S) where
   one_expr whole _ ts = fail
 
   unfoldable pub simple_after_step : Bool → Lexemes → Exprs S → Lexemes → Program S (Stmt S)
-  simple_after_step header whole xs (lex _ (becomes op) ∷ ts) = ask (read_exprs header) ts (λ ys r. give (assign (mark whole r) xs op ys) r)
+  simple_after_step header whole xs (lex _ (terminal.assign op) ∷ ts) = ask (read_exprs header) ts (λ ys r. give (assign (mark whole r) xs op ys) r)
   simple_after_step header whole xs ts = one_expr whole xs ts
 
   abbrev pub simple_exprs : Bool → Lexemes → Program S (Stmt S)
@@ -27,22 +28,22 @@ module _ {S : Type 0} (mark : Lexemes → Lexemes → S) where
 
   -- names and `:=` where they stand here, else expressions
   abbrev pub simple_names : Bool → Lexemes → Option (List (NameAt S) × Lexemes) → Program S (Stmt S)
-  simple_names header whole (Some (ns, lex _ short ∷ ts)) = ask (read_exprs header) ts (λ ys r. give (define (mark whole r) ns ys) r)
+  simple_names header whole (Some (ns, lex _ terminal.define ∷ ts)) = ask (read_exprs header) ts (λ ys r. give (define (mark whole r) ns ys) r)
   simple_names header whole _ = simple_exprs header whole
 
   unfoldable pub simple_step : Bool → Lexemes → Program S (Stmt S)
   simple_step header ts = look read_names ts (λ o. simple_names header ts o)
 
   abbrev pub clause_after : Lexemes → Exprs S → Lexemes → Program S (Clause S)
-  clause_after whole xs (lex _ (becomes None) ∷ lex _ key_range ∷ ts) = give (range_clause (assigns xs)) ts
+  clause_after whole xs (lex _ (terminal.assign None) ∷ lex _ key_range ∷ ts) = give (range_clause (assigns xs)) ts
   clause_after whole xs r = ask (read_simple_after true whole xs) r (λ x r. give (plain_clause x) r)
 
   abbrev pub clause_exprs : Lexemes → Program S (Clause S)
   clause_exprs ts = ask (read_exprs true) ts (λ xs r. clause_after ts xs r)
 
   abbrev pub clause_names : Lexemes → Option (List (NameAt S) × Lexemes) → Program S (Clause S)
-  clause_names whole (Some (ns, lex _ short ∷ lex _ key_range ∷ ts)) = give (range_clause (defines ns)) ts
-  clause_names whole (Some (ns, lex _ short ∷ ts)) = ask (read_exprs true) ts (λ ys r. give (plain_clause (define (mark whole r) ns ys)) r)
+  clause_names whole (Some (ns, lex _ terminal.define ∷ lex _ key_range ∷ ts)) = give (range_clause (defines ns)) ts
+  clause_names whole (Some (ns, lex _ terminal.define ∷ ts)) = ask (read_exprs true) ts (λ ys r. give (plain_clause (define (mark whole r) ns ys)) r)
   clause_names whole _ = clause_exprs whole
 
   unfoldable pub clause_step : Lexemes → Program S (Clause S)
@@ -160,16 +161,16 @@ module _ {S : Type 0} (mark : Lexemes → Lexemes → S) where
   return_step whole ts = ask (read_exprs false) ts (λ xs r. give (return_ (mark whole r) xs) r)
 
   abbrev pub break_step : Lexemes → Lexemes → Program S (Stmt S)
-  break_step whole (lex c (word n) ∷ r) = give (break_ (mark whole r) (Some (name_here mark c n r))) r
+  break_step whole (lex c (ident n) ∷ r) = give (break_ (mark whole r) (Some (name_here mark c n r))) r
   break_step whole r = give (break_ (mark whole r) None) r
 
   abbrev pub continue_step : Lexemes → Lexemes → Program S (Stmt S)
-  continue_step whole (lex c (word n) ∷ r) = give (continue_ (mark whole r) (Some (name_here mark c n r))) r
+  continue_step whole (lex c (ident n) ∷ r) = give (continue_ (mark whole r) (Some (name_here mark c n r))) r
   continue_step whole r = give (continue_ (mark whole r) None) r
 
   -- a deferred call has no parentheses around it
   abbrev pub defer_after : Lexemes → Expr S × Bool → Lexemes → Program S (Stmt S)
-  defer_after whole (call s f xs, true) r = give (defer (mark whole r) (call s f xs)) r
+  defer_after whole (call s f xs rest, true) r = give (defer (mark whole r) (call s f xs rest)) r
   defer_after whole _ r = fail
 
   abbrev pub word_stmt : Lexemes → Program S (Stmt S)
@@ -186,7 +187,7 @@ module _ {S : Type 0} (mark : Lexemes → Lexemes → S) where
   stmt_step (lex s key_for ∷ ts) = for_first (lex s key_for ∷ ts) ts
   stmt_step (lex s key_switch ∷ ts) = switch_first (lex s key_switch ∷ ts) ts
   stmt_step (lex s key_defer ∷ ts) = ask (read_expr 1 false) ts (λ x r. defer_after (lex s key_defer ∷ ts) x r)
-  stmt_step (lex s (word n) ∷ lex c colon ∷ ts) = ask read_stmt ts (λ x r. give (label (mark (lex s (word n) ∷ lex c colon ∷ ts) r) (name_here mark s n (lex c colon ∷ ts)) x) r)
+  stmt_step (lex s (ident n) ∷ lex c colon ∷ ts) = ask read_stmt ts (λ x r. give (label (mark (lex s (ident n) ∷ lex c colon ∷ ts) r) (name_here mark s n (lex c colon ∷ ts)) x) r)
   stmt_step (lex s semicolon ∷ ts) = give (empty (mark (lex s semicolon ∷ ts) (lex s semicolon ∷ ts))) (lex s semicolon ∷ ts)
   stmt_step (lex s end_brace ∷ ts) = give (empty (mark (lex s end_brace ∷ ts) (lex s end_brace ∷ ts))) (lex s end_brace ∷ ts)
   stmt_step ts = word_stmt ts
@@ -205,7 +206,7 @@ module _ {S : Type 0} (mark : Lexemes → Lexemes → S) where
   specs_step constant ts = ask (read_spec constant) ts (λ x r. specs_after constant ts x r)
 
   abbrev pub typed_after : Bool → List (NameAt S) → TypeExpr S → Lexemes → Program S (List (NameAt S) × Option (TypeExpr S) × Exprs S)
-  typed_after constant ns t (lex _ (becomes None) ∷ ts) = ask (read_exprs false) ts (λ xs r. give (ns, Some t, xs) r)
+  typed_after constant ns t (lex _ (terminal.assign None) ∷ ts) = ask (read_exprs false) ts (λ xs r. give (ns, Some t, xs) r)
   typed_after false ns t ts = give (ns, Some t, no_exprs) ts
   typed_after true ns t ts = fail
 
@@ -213,7 +214,7 @@ module _ {S : Type 0} (mark : Lexemes → Lexemes → S) where
   typed_step constant ns ts = ask read_type ts (λ t r. typed_after constant ns t r)
 
   abbrev pub spec_after : Bool → List (NameAt S) → Lexemes → Program S (List (NameAt S) × Option (TypeExpr S) × Exprs S)
-  spec_after constant ns (lex _ (becomes None) ∷ ts) = ask (read_exprs false) ts (λ xs r. give (ns, None, xs) r)
+  spec_after constant ns (lex _ (terminal.assign None) ∷ ts) = ask (read_exprs false) ts (λ xs r. give (ns, None, xs) r)
   spec_after true ns (lex c semicolon ∷ ts) = give (ns, None, no_exprs) (lex c semicolon ∷ ts)
   spec_after true ns (lex c end_paren ∷ ts) = give (ns, None, no_exprs) (lex c end_paren ∷ ts)
   spec_after true ns (lex c end_brace ∷ ts) = give (ns, None, no_exprs) (lex c end_brace ∷ ts)

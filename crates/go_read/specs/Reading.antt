@@ -13,10 +13,10 @@ module _ {S : Type 0} (mark : Lexemes → Lexemes → S) where
   step read_type ts = type_step mark ts
   step read_fields ts = fields_step mark ts
   step read_entries ts = entries_step mark ts
-  step read_named ts = named_step mark ts
-  step read_unnamed ts = unnamed_step mark ts
-  step read_params ts = params_step mark ts
-  step read_sig ts = sig_step mark ts
+  step (read_named v) ts = named_step mark v ts
+  step (read_unnamed v) ts = unnamed_step mark v ts
+  step (read_params v) ts = params_step mark v ts
+  step (read_sig v) ts = sig_step mark v ts
   step read_names ts = names_step mark ts
   step (read_expr level header) ts = expr_step mark level header ts
   step (read_more level header whole left bare) ts = more_step mark level header whole left bare ts

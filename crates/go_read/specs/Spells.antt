@@ -8,8 +8,11 @@ use Rattle.go_tree.specs.declared.spans.Span.{Span}
 use Rattle.go_tree.specs.declared.operators.UnOp.{UnOp}
 use Rattle.go_tree.specs.declared.operators.BinOp.{BinOp}
 use Rattle.go_tree.specs.declared.operators.BinOp.TheVariants.{Mul}
+use Rattle.go_tree.specs.declared.exprs.Rest.{Rest}
+use Rattle.go_tree.specs.declared.exprs.Rest.TheVariants.{Plain, Whole}
 use Rattle.go_tree.specs.Tree.{NameAt, TypeExpr, named, Sig, Expr, Exprs, ExprOption, Elems, Value, ValueOption, Stmt, Stmts, StmtOption, BlockOption, RangeLeft, Arms, Cases, ValueSpecs, ident, int_lit, rune_lit, str_lit, composite, selector, index, slice, call, func_lit, type_operand, unary, binary, star, no_exprs, expr_and, no_expr, some_expr, no_elems, elem, plain, braced, no_value, some_value, const_decl, var_decl, empty, eval, step, assign, define, return_, break_, continue_, inner, if_, for_, range_, switch, defer, label, no_stmts, stmt_and, no_stmt, some_stmt, no_block, some_block, nothing, assigns, defines, no_arms, arm, no_cases, case, no_specs, spec}
-use Rattle.go_read.specs.SpellsTerminals.{lex, word, number, rune, text, sign, becomes, short, increment, decrement, comma, semicolon, colon, dot, paren, end_paren, bracket, end_bracket, brace, end_brace, key_break, key_case, key_const, key_continue, key_default, key_defer, key_else, key_for, key_func, key_if, key_map, key_range, key_return, key_struct, key_switch, key_var, level_of, unary_sign}
+use Rattle.go_words.specs.Terminals as terminal
+use Rattle.go_words.specs.Terminals.{lex, binary_op, increment, decrement, comma, semicolon, colon, dot, ellipsis, paren, end_paren, bracket, end_bracket, brace, end_brace, key_break, key_case, key_const, key_continue, key_default, key_defer, key_else, key_for, key_func, key_if, key_map, key_range, key_return, key_struct, key_switch, key_var, level_of, unary_sign}
 use Rattle.go_read.specs.SpellsTypes.{Lexemes, name_here, SpellsType, SpellsSig, SpellsNames}
 
 -- whether a type that begins with `[`, `map` or `struct` may begin here
@@ -38,9 +41,9 @@ module _ {S : Type 0} (mark : Lexemes → Lexemes → S) where
   -- the type in front of a composite literal's brace: a name or a qualified name outside a header; or a slice, map or struct type
   pub data SpellsLiteralType : Bool → TypeExpr S → Lexemes → Lexemes → Type 0 where
     named_literal_rule : {s : Span} {n : List ℕ} {r : Lexemes}
-        → SpellsLiteralType false (named (mark (lex s (word n) ∷ r) r) None (name_here mark s n r)) (lex s (word n) ∷ r) r
+        → SpellsLiteralType false (named (mark (lex s (terminal.ident n) ∷ r) r) None (name_here mark s n r)) (lex s (terminal.ident n) ∷ r) r
     qualified_literal_rule : {s d s2 : Span} {p n : List ℕ} {r : Lexemes}
-        → SpellsLiteralType false (named (mark (lex s (word p) ∷ lex d dot ∷ lex s2 (word n) ∷ r) r) (Some (name_here mark s p (lex d dot ∷ lex s2 (word n) ∷ r))) (name_here mark s2 n r)) (lex s (word p) ∷ lex d dot ∷ lex s2 (word n) ∷ r) r
+        → SpellsLiteralType false (named (mark (lex s (terminal.ident p) ∷ lex d dot ∷ lex s2 (terminal.ident n) ∷ r) r) (Some (name_here mark s p (lex d dot ∷ lex s2 (terminal.ident n) ∷ r))) (name_here mark s2 n r)) (lex s (terminal.ident p) ∷ lex d dot ∷ lex s2 (terminal.ident n) ∷ r) r
     type_literal_rule : {header : Bool} {t : TypeExpr S} {ts r : Lexemes}
         → starts_type ts ≡ true → SpellsType mark t ts r
         → SpellsLiteralType header t ts r
@@ -49,27 +52,27 @@ module _ {S : Type 0} (mark : Lexemes → Lexemes → S) where
     -- an expression of at least a level, in a header or not, with no parentheses around it
     pub data SpellsBare : ℕ → Bool → Expr S → Lexemes → Lexemes → Type 0 where
       ident_rule : {l : ℕ} {h : Bool} {s : Span} {n : List ℕ} {r : Lexemes}
-          → SpellsBare l h (ident (mark (lex s (word n) ∷ r) r) n) (lex s (word n) ∷ r) r
+          → SpellsBare l h (ident (mark (lex s (terminal.ident n) ∷ r) r) n) (lex s (terminal.ident n) ∷ r) r
       int_rule : {l : ℕ} {h : Bool} {s : Span} {n : List ℕ} {r : Lexemes}
-          → SpellsBare l h (int_lit (mark (lex s (number n) ∷ r) r) n) (lex s (number n) ∷ r) r
+          → SpellsBare l h (int_lit (mark (lex s (terminal.int_lit n) ∷ r) r) n) (lex s (terminal.int_lit n) ∷ r) r
       rune_rule : {l : ℕ} {h : Bool} {s : Span} {n : List ℕ} {r : Lexemes}
-          → SpellsBare l h (rune_lit (mark (lex s (rune n) ∷ r) r) n) (lex s (rune n) ∷ r) r
+          → SpellsBare l h (rune_lit (mark (lex s (terminal.rune_lit n) ∷ r) r) n) (lex s (terminal.rune_lit n) ∷ r) r
       text_rule : {l : ℕ} {h : Bool} {s : Span} {n : List ℕ} {r : Lexemes}
-          → SpellsBare l h (str_lit (mark (lex s (text n) ∷ r) r) n) (lex s (text n) ∷ r) r
+          → SpellsBare l h (str_lit (mark (lex s (terminal.str_lit n) ∷ r) r) n) (lex s (terminal.str_lit n) ∷ r) r
       -- ( name | name "." name | Type ) "{" [ Elem { "," Elem } [ "," ] ] "}"
       composite_rule : {l : ℕ} {h : Bool} {b e : Span} {t : TypeExpr S} {es : Elems S} {ts mid r : Lexemes}
           → SpellsLiteralType h t ts (lex b brace ∷ mid) → SpellsElems es mid (lex e end_brace ∷ r)
           → SpellsBare l h (composite (mark ts r) t es) ts r
       -- "func" Sig Block
       func_rule : {l : ℕ} {h : Bool} {s : Span} {g : Sig S} {sb : S} {body : Stmts S} {ts mid r : Lexemes}
-          → SpellsSig mark g ts mid → SpellsBlock sb body mid r
+          → SpellsSig mark false g ts mid → SpellsBlock sb body mid r
           → SpellsBare l h (func_lit (mark (lex s key_func ∷ ts) r) g sb body) (lex s key_func ∷ ts) r
       type_rule : {l : ℕ} {h : Bool} {t : TypeExpr S} {ts r : Lexemes}
           → starts_type ts ≡ true → SpellsType mark t ts r → follows_type r ≡ true
           → SpellsBare l h (type_operand (mark ts r) t) ts r
       -- Primary "." name
       selector_rule : {l : ℕ} {h : Bool} {d s : Span} {n : List ℕ} {e : Expr S} {ts r : Lexemes}
-          → SpellsOperand 7 h e ts (lex d dot ∷ lex s (word n) ∷ r) → SpellsBare l h (selector (mark ts r) e (name_here mark s n r)) ts r
+          → SpellsOperand 7 h e ts (lex d dot ∷ lex s (terminal.ident n) ∷ r) → SpellsBare l h (selector (mark ts r) e (name_here mark s n r)) ts r
       -- Primary "[" Expr "]"
       index_rule : {l : ℕ} {h : Bool} {b c : Span} {e i : Expr S} {ts mid r : Lexemes}
           → SpellsOperand 7 h e ts (lex b bracket ∷ mid) → SpellsOperand 1 false i mid (lex c end_bracket ∷ r)
@@ -79,20 +82,20 @@ module _ {S : Type 0} (mark : Lexemes → Lexemes → S) where
           → SpellsOperand 7 h e ts (lex b bracket ∷ a) → SpellsOption false i a (lex c colon ∷ mid)
           → SpellsOption false j mid (lex d end_bracket ∷ r)
           → SpellsBare l h (slice (mark ts r) e i j) ts r
-      -- Primary "(" [ Exprs [ "," ] ] ")"; only here may the operand be a literal of a function
-      call_rule : {l : ℕ} {h : Bool} {b : Span} {f : Expr S} {xs : Exprs S} {ts mid r : Lexemes}
-          → SpellsExpr 7 h f ts (lex b paren ∷ mid) → SpellsArgs xs mid r
-          → SpellsBare l h (call (mark ts r) f xs) ts r
+      -- Primary "(" [ Exprs [ "..." ] [ "," ] ] ")"; only here may the operand be a literal of a function
+      call_rule : {l : ℕ} {h : Bool} {b : Span} {f : Expr S} {xs : Exprs S} {rest : Rest} {ts mid r : Lexemes}
+          → SpellsExpr 7 h f ts (lex b paren ∷ mid) → SpellsArgs xs rest mid r
+          → SpellsBare l h (call (mark ts r) f xs rest) ts r
       -- ( "+" | "-" | "!" | "^" | "*" | "&" ) Unary
       unary_rule : {l : ℕ} {h : Bool} {s : Span} {op : UnOp} {e : Expr S} {ts r : Lexemes}
           → l ≤ 6 → SpellsOperand 6 h e ts r
           → SpellsBare l h (unary (mark (lex s (unary_sign op) ∷ ts) r) op e) (lex s (unary_sign op) ∷ ts) r
       star_rule : {l : ℕ} {h : Bool} {s : Span} {e : Expr S} {ts r : Lexemes}
           → l ≤ 6 → SpellsOperand 6 h e ts r
-          → SpellsBare l h (star (mark (lex s (sign Mul) ∷ ts) r) e) (lex s (sign Mul) ∷ ts) r
+          → SpellsBare l h (star (mark (lex s (binary_op Mul) ∷ ts) r) e) (lex s (binary_op Mul) ∷ ts) r
       -- Expr binary Expr, where equal levels associate to the left
       binary_rule : {l : ℕ} {h : Bool} {s : Span} {op : BinOp} {a b : Expr S} {ts mid r : Lexemes}
-          → l ≤ level_of op → SpellsOperand (level_of op) h a ts (lex s (sign op) ∷ mid) → SpellsOperand (level_of op + 1) h b mid r
+          → l ≤ level_of op → SpellsOperand (level_of op) h a ts (lex s (binary_op op) ∷ mid) → SpellsOperand (level_of op + 1) h b mid r
           → SpellsBare l h (binary (mark ts r) op a b) ts r
 
     -- the same within any number of parentheses, which make no node
@@ -119,12 +122,16 @@ module _ {S : Type 0} (mark : Lexemes → Lexemes → S) where
           → SpellsOperand 1 h e ts (lex c comma ∷ mid) → SpellsExprs h es mid r
           → SpellsExprs h (expr_and e es) ts r
 
-    -- [ Exprs [ "," ] ] ")"
-    pub data SpellsArgs : Exprs S → Lexemes → Lexemes → Type 0 where
-      no_args_rule : {e : Span} {r : Lexemes} → SpellsArgs no_exprs (lex e end_paren ∷ r) r
-      args_rule : {e : Span} {xs : Exprs S} {ts r : Lexemes} → SpellsExprs false xs ts (lex e end_paren ∷ r) → SpellsArgs xs ts r
+    -- [ Exprs [ "..." ] [ "," ] ] ")"
+    pub data SpellsArgs : Exprs S → Rest → Lexemes → Lexemes → Type 0 where
+      no_args_rule : {e : Span} {r : Lexemes} → SpellsArgs no_exprs Plain (lex e end_paren ∷ r) r
+      args_rule : {e : Span} {xs : Exprs S} {ts r : Lexemes} → SpellsExprs false xs ts (lex e end_paren ∷ r) → SpellsArgs xs Plain ts r
       comma_args_rule : {c e : Span} {xs : Exprs S} {ts r : Lexemes}
-          → SpellsExprs false xs ts (lex c comma ∷ lex e end_paren ∷ r) → SpellsArgs xs ts r
+          → SpellsExprs false xs ts (lex c comma ∷ lex e end_paren ∷ r) → SpellsArgs xs Plain ts r
+      rest_args_rule : {d e : Span} {xs : Exprs S} {ts r : Lexemes}
+          → SpellsExprs false xs ts (lex d ellipsis ∷ lex e end_paren ∷ r) → SpellsArgs xs Whole ts r
+      comma_rest_args_rule : {d c e : Span} {xs : Exprs S} {ts r : Lexemes}
+          → SpellsExprs false xs ts (lex d ellipsis ∷ lex c comma ∷ lex e end_paren ∷ r) → SpellsArgs xs Whole ts r
 
     -- [ Elem { "," Elem } [ "," ] ] before "}"
     pub data SpellsElems : Elems S → Lexemes → Lexemes → Type 0 where
@@ -156,10 +163,10 @@ module _ {S : Type 0} (mark : Lexemes → Lexemes → S) where
       decrement_rule : {h : Bool} {s : Span} {e : Expr S} {ts r : Lexemes}
           → SpellsOperand 1 h e ts (lex s decrement ∷ r) → SpellsSimple h (step (mark ts r) e false) ts r
       assign_rule : {h : Bool} {s : Span} {op : Option BinOp} {xs ys : Exprs S} {ts mid r : Lexemes}
-          → SpellsExprs h xs ts (lex s (becomes op) ∷ mid) → SpellsExprs h ys mid r
+          → SpellsExprs h xs ts (lex s (terminal.assign op) ∷ mid) → SpellsExprs h ys mid r
           → SpellsSimple h (assign (mark ts r) xs op ys) ts r
       define_rule : {h : Bool} {s : Span} {ns : List (NameAt S)} {ys : Exprs S} {ts mid r : Lexemes}
-          → SpellsNames mark ns ts (lex s short ∷ mid) → SpellsExprs h ys mid r
+          → SpellsNames mark ns ts (lex s terminal.define ∷ mid) → SpellsExprs h ys mid r
           → SpellsSimple h (define (mark ts r) ns ys) ts r
 
     -- Simple in a header, where an empty one is none
@@ -186,11 +193,11 @@ module _ {S : Type 0} (mark : Lexemes → Lexemes → S) where
       -- "break" [ name ]
       break_rule : {s : Span} {r : Lexemes} → SpellsStmt (break_ (mark (lex s key_break ∷ r) r) None) (lex s key_break ∷ r) r
       break_label_rule : {s c : Span} {n : List ℕ} {r : Lexemes}
-          → SpellsStmt (break_ (mark (lex s key_break ∷ lex c (word n) ∷ r) r) (Some (name_here mark c n r))) (lex s key_break ∷ lex c (word n) ∷ r) r
+          → SpellsStmt (break_ (mark (lex s key_break ∷ lex c (terminal.ident n) ∷ r) r) (Some (name_here mark c n r))) (lex s key_break ∷ lex c (terminal.ident n) ∷ r) r
       -- "continue" [ name ]
       continue_rule : {s : Span} {r : Lexemes} → SpellsStmt (continue_ (mark (lex s key_continue ∷ r) r) None) (lex s key_continue ∷ r) r
       continue_label_rule : {s c : Span} {n : List ℕ} {r : Lexemes}
-          → SpellsStmt (continue_ (mark (lex s key_continue ∷ lex c (word n) ∷ r) r) (Some (name_here mark c n r))) (lex s key_continue ∷ lex c (word n) ∷ r) r
+          → SpellsStmt (continue_ (mark (lex s key_continue ∷ lex c (terminal.ident n) ∷ r) r) (Some (name_here mark c n r))) (lex s key_continue ∷ lex c (terminal.ident n) ∷ r) r
       block_rule : {sb : S} {body : Stmts S} {ts r : Lexemes} → SpellsBlock sb body ts r → SpellsStmt (inner sb body) ts r
       if_rule : {arms : Arms S} {last : BlockOption S} {ts r : Lexemes}
           → SpellsIf arms last ts r → SpellsStmt (if_ (mark ts r) arms last) ts r
@@ -212,13 +219,13 @@ module _ {S : Type 0} (mark : Lexemes → Lexemes → S) where
           → SpellsFirst i ts ts2 → SpellsOption true t ts2 (lex b brace ∷ ts3) → SpellsCases cs ts3 (lex e end_brace ∷ r)
           → SpellsStmt (switch (mark (lex s key_switch ∷ ts) r) i t cs) (lex s key_switch ∷ ts) r
       -- "defer" and a call with no parentheses around it
-      defer_rule : {s : Span} {c : S} {f : Expr S} {xs : Exprs S} {ts r : Lexemes}
-          → SpellsBare 1 false (call c f xs) ts r
-          → SpellsStmt (defer (mark (lex s key_defer ∷ ts) r) (call c f xs)) (lex s key_defer ∷ ts) r
+      defer_rule : {s : Span} {c : S} {f : Expr S} {xs : Exprs S} {rest : Rest} {ts r : Lexemes}
+          → SpellsBare 1 false (call c f xs rest) ts r
+          → SpellsStmt (defer (mark (lex s key_defer ∷ ts) r) (call c f xs rest)) (lex s key_defer ∷ ts) r
       -- name ":" Stmt
       label_rule : {s c : Span} {n : List ℕ} {x : Stmt S} {ts r : Lexemes}
           → SpellsStmt x ts r
-          → SpellsStmt (label (mark (lex s (word n) ∷ lex c colon ∷ ts) r) (name_here mark s n (lex c colon ∷ ts)) x) (lex s (word n) ∷ lex c colon ∷ ts) r
+          → SpellsStmt (label (mark (lex s (terminal.ident n) ∷ lex c colon ∷ ts) r) (name_here mark s n (lex c colon ∷ ts)) x) (lex s (terminal.ident n) ∷ lex c colon ∷ ts) r
 
     -- Block = "{" { Stmt ";" } "}"
     pub data SpellsBlock : S → Stmts S → Lexemes → Lexemes → Type 0 where
@@ -256,9 +263,9 @@ module _ {S : Type 0} (mark : Lexemes → Lexemes → S) where
     pub data SpellsLeft : RangeLeft S → Lexemes → Lexemes → Type 0 where
       no_left_rule : {r : Lexemes} → SpellsLeft nothing r r
       assigns_rule : {s : Span} {xs : Exprs S} {ts r : Lexemes}
-          → SpellsExprs true xs ts (lex s (becomes None) ∷ r) → SpellsLeft (assigns xs) ts r
+          → SpellsExprs true xs ts (lex s (terminal.assign None) ∷ r) → SpellsLeft (assigns xs) ts r
       defines_rule : {s : Span} {ns : List (NameAt S)} {ts r : Lexemes}
-          → SpellsNames mark ns ts (lex s short ∷ r) → SpellsLeft (defines ns) ts r
+          → SpellsNames mark ns ts (lex s terminal.define ∷ r) → SpellsLeft (defines ns) ts r
 
     -- { ( "case" Exprs | "default" ) ":" { Stmt ";" } } before "}"
     pub data SpellsCases : Cases S → Lexemes → Lexemes → Type 0 where
@@ -294,8 +301,8 @@ module _ {S : Type 0} (mark : Lexemes → Lexemes → S) where
           → SpellsNames mark ns ts mid → SpellsType mark t mid r
           → SpellsSpec false ns (Some t) no_exprs ts r
       values_rule : {s : Span} {constant : Bool} {ns : List (NameAt S)} {xs : Exprs S} {ts mid r : Lexemes}
-          → SpellsNames mark ns ts (lex s (becomes None) ∷ mid) → SpellsExprs false xs mid r
+          → SpellsNames mark ns ts (lex s (terminal.assign None) ∷ mid) → SpellsExprs false xs mid r
           → SpellsSpec constant ns None xs ts r
       typed_values_rule : {s : Span} {constant : Bool} {ns : List (NameAt S)} {t : TypeExpr S} {xs : Exprs S} {ts mid mid2 r : Lexemes}
-          → SpellsNames mark ns ts mid → SpellsType mark t mid (lex s (becomes None) ∷ mid2) → SpellsExprs false xs mid2 r
+          → SpellsNames mark ns ts mid → SpellsType mark t mid (lex s (terminal.assign None) ∷ mid2) → SpellsExprs false xs mid2 r
           → SpellsSpec constant ns (Some t) xs ts r

@@ -6,9 +6,9 @@ use Rattle.go_tree.specs.declared.operators.BinOp.TheVariants.{Mul}
 use Rattle.go_tree.specs.declared.tokens.Token.{Token}
 use Rattle.go_tree.specs.Tree.{TypeExpr, Sig, Stmts, ValueSpecs, const_decl, var_decl}
 use Rattle.go_tree.specs.File.{ImportSpec, ImportDecl, TypeSpec, Receiver, Decl, values, types, func, File}
-use Rattle.go_read.specs.SpellsTerminals.{lex, word, text, sign, becomes, semicolon, paren, end_paren, key_const, key_func, key_import, key_package, key_type, key_var, lexemes}
+use Rattle.go_words.specs.Terminals.{lex, ident, str_lit, binary_op, assign, semicolon, paren, end_paren, key_const, key_func, key_import, key_package, key_type, key_var, lexemes}
 use Rattle.go_read.specs.SpellsSpans.{span_to}
-use Rattle.go_read.specs.SpellsTexts.{text_value}
+use Rattle.go_words.specs.Texts.{text_value}
 use Rattle.go_read.specs.SpellsTypes.{Lexemes, name_here, SpellsType, SpellsSig}
 use Rattle.go_read.specs.Spells.{SpellsBlock, SpellsDecl}
 
@@ -20,9 +20,9 @@ module _ {S : Type 0} (mark : Lexemes → Lexemes → S) where
   -- ISpec = [ name ] string
   pub data SpellsImportSpec : ImportSpec S → Lexemes → Lexemes → Type 0 where
     path_rule : {s : Span} {p : List ℕ} {r : Lexemes}
-        → SpellsImportSpec (record { span = mark (lex s (text p) ∷ r) r; name = None; path = text_value p }) (lex s (text p) ∷ r) r
+        → SpellsImportSpec (record { span = mark (lex s (str_lit p) ∷ r) r; name = None; path = text_value p }) (lex s (str_lit p) ∷ r) r
     named_path_rule : {s c : Span} {n p : List ℕ} {r : Lexemes}
-        → SpellsImportSpec (record { span = mark (lex s (word n) ∷ lex c (text p) ∷ r) r; name = Some (name_here mark s n (lex c (text p) ∷ r)); path = text_value p }) (lex s (word n) ∷ lex c (text p) ∷ r) r
+        → SpellsImportSpec (record { span = mark (lex s (ident n) ∷ lex c (str_lit p) ∷ r) r; name = Some (name_here mark s n (lex c (str_lit p) ∷ r)); path = text_value p }) (lex s (ident n) ∷ lex c (str_lit p) ∷ r) r
 
   -- { ISpec ";" } before ")", where the last semicolon may be left out
   pub data SpellsImportSpecs : List (ImportSpec S) → Lexemes → Lexemes → Type 0 where
@@ -46,10 +46,10 @@ module _ {S : Type 0} (mark : Lexemes → Lexemes → S) where
   pub data SpellsTypeSpec : TypeSpec S → Lexemes → Lexemes → Type 0 where
     type_spec_rule : {s : Span} {n : List ℕ} {t : TypeExpr S} {ts r : Lexemes}
         → SpellsType mark t ts r
-        → SpellsTypeSpec (record { span = mark (lex s (word n) ∷ ts) r; name = name_here mark s n ts; alias = false; of = t }) (lex s (word n) ∷ ts) r
+        → SpellsTypeSpec (record { span = mark (lex s (ident n) ∷ ts) r; name = name_here mark s n ts; alias = false; of = t }) (lex s (ident n) ∷ ts) r
     alias_spec_rule : {s c : Span} {n : List ℕ} {t : TypeExpr S} {ts r : Lexemes}
         → SpellsType mark t ts r
-        → SpellsTypeSpec (record { span = mark (lex s (word n) ∷ lex c (becomes None) ∷ ts) r; name = name_here mark s n (lex c (becomes None) ∷ ts); alias = true; of = t }) (lex s (word n) ∷ lex c (becomes None) ∷ ts) r
+        → SpellsTypeSpec (record { span = mark (lex s (ident n) ∷ lex c (assign None) ∷ ts) r; name = name_here mark s n (lex c (assign None) ∷ ts); alias = true; of = t }) (lex s (ident n) ∷ lex c (assign None) ∷ ts) r
 
   -- { TSpec ";" } before ")", where the last semicolon may be left out
   pub data SpellsTypeSpecs : List (TypeSpec S) → Lexemes → Lexemes → Type 0 where
@@ -63,14 +63,14 @@ module _ {S : Type 0} (mark : Lexemes → Lexemes → S) where
   -- [ name ] [ "*" ] name
   pub data SpellsReceiver : Receiver S → Lexemes → Lexemes → Type 0 where
     receiver_rule : {s : Span} {n : List ℕ} {r : Lexemes}
-        → SpellsReceiver (record { span = mark (lex s (word n) ∷ r) r; name = None; pointer = false; of = name_here mark s n r }) (lex s (word n) ∷ r) r
+        → SpellsReceiver (record { span = mark (lex s (ident n) ∷ r) r; name = None; pointer = false; of = name_here mark s n r }) (lex s (ident n) ∷ r) r
     pointer_receiver_rule : {p s : Span} {n : List ℕ} {r : Lexemes}
-        → SpellsReceiver (record { span = mark (lex p (sign Mul) ∷ lex s (word n) ∷ r) r; name = None; pointer = true; of = name_here mark s n r }) (lex p (sign Mul) ∷ lex s (word n) ∷ r) r
+        → SpellsReceiver (record { span = mark (lex p (binary_op Mul) ∷ lex s (ident n) ∷ r) r; name = None; pointer = true; of = name_here mark s n r }) (lex p (binary_op Mul) ∷ lex s (ident n) ∷ r) r
     named_receiver_rule : {c s : Span} {x n : List ℕ} {r : Lexemes}
-        → SpellsReceiver (record { span = mark (lex c (word x) ∷ lex s (word n) ∷ r) r; name = Some (name_here mark c x (lex s (word n) ∷ r)); pointer = false; of = name_here mark s n r }) (lex c (word x) ∷ lex s (word n) ∷ r) r
+        → SpellsReceiver (record { span = mark (lex c (ident x) ∷ lex s (ident n) ∷ r) r; name = Some (name_here mark c x (lex s (ident n) ∷ r)); pointer = false; of = name_here mark s n r }) (lex c (ident x) ∷ lex s (ident n) ∷ r) r
     named_pointer_receiver_rule : {c p s : Span} {x n : List ℕ} {r : Lexemes}
-        → SpellsReceiver (record { span = mark (lex c (word x) ∷ lex p (sign Mul) ∷ lex s (word n) ∷ r) r; name = Some (name_here mark c x (lex p (sign Mul) ∷ lex s (word n) ∷ r)); pointer = true; of = name_here mark s n r })
-        (lex c (word x) ∷ lex p (sign Mul) ∷ lex s (word n) ∷ r) r
+        → SpellsReceiver (record { span = mark (lex c (ident x) ∷ lex p (binary_op Mul) ∷ lex s (ident n) ∷ r) r; name = Some (name_here mark c x (lex p (binary_op Mul) ∷ lex s (ident n) ∷ r)); pointer = true; of = name_here mark s n r })
+        (lex c (ident x) ∷ lex p (binary_op Mul) ∷ lex s (ident n) ∷ r) r
 
   -- Decl = Const | Var | TypeDecl | Func
   pub data SpellsTop : Decl S → Lexemes → Lexemes → Type 0 where
@@ -86,12 +86,13 @@ module _ {S : Type 0} (mark : Lexemes → Lexemes → S) where
     top_type_group_rule : {s b e : Span} {xs : List (TypeSpec S)} {ts r : Lexemes}
         → SpellsTypeSpecs xs ts (lex e end_paren ∷ r)
         → SpellsTop (types (mark (lex s key_type ∷ lex b paren ∷ ts) r) true xs) (lex s key_type ∷ lex b paren ∷ ts) r
-    -- "func" [ "(" [ name ] [ "*" ] name ")" ] name Sig Block
+    -- "func" name Sig Block, where the parameters may be variadic
     top_func_rule : {s c : Span} {n : List ℕ} {g : Sig S} {sb : S} {body : Stmts S} {ts mid r : Lexemes}
-        → SpellsSig mark g ts mid → SpellsBlock mark sb body mid r
-        → SpellsTop (func (record { span = mark (lex s key_func ∷ lex c (word n) ∷ ts) r; receiver = None; name = name_here mark c n ts; sig = g; body_span = sb; body = body })) (lex s key_func ∷ lex c (word n) ∷ ts) r
+        → SpellsSig mark true g ts mid → SpellsBlock mark sb body mid r
+        → SpellsTop (func (record { span = mark (lex s key_func ∷ lex c (ident n) ∷ ts) r; receiver = None; name = name_here mark c n ts; sig = g; body_span = sb; body = body })) (lex s key_func ∷ lex c (ident n) ∷ ts) r
+    -- "func" "(" [ name ] [ "*" ] name ")" name Sig Block
     top_method_rule : {s b e c : Span} {n : List ℕ} {v : Receiver S} {g : Sig S} {sb : S} {body : Stmts S} {ts ts2 mid r : Lexemes}
-        → SpellsReceiver v ts (lex e end_paren ∷ lex c (word n) ∷ ts2) → SpellsSig mark g ts2 mid → SpellsBlock mark sb body mid r
+        → SpellsReceiver v ts (lex e end_paren ∷ lex c (ident n) ∷ ts2) → SpellsSig mark false g ts2 mid → SpellsBlock mark sb body mid r
         → SpellsTop (func (record { span = mark (lex s key_func ∷ lex b paren ∷ ts) r; receiver = Some v; name = name_here mark c n ts2; sig = g; body_span = sb; body = body })) (lex s key_func ∷ lex b paren ∷ ts) r
 
   -- { Import ";" }
@@ -112,7 +113,7 @@ module _ {S : Type 0} (mark : Lexemes → Lexemes → S) where
   pub data SpellsFront : File S → Lexemes → Lexemes → Type 0 where
     front_rule : {s c d : Span} {n : List ℕ} {is : List (ImportDecl S)} {ds : List (Decl S)} {ts mid r : Lexemes}
         → is_blank n ≡ false → SpellsImports is ts mid → SpellsTops ds mid r
-        → SpellsFront (record { package_name = name_here mark c n (lex d semicolon ∷ ts); imports = is; decls = ds }) (lex s key_package ∷ lex c (word n) ∷ lex d semicolon ∷ ts) r
+        → SpellsFront (record { package_name = name_here mark c n (lex d semicolon ∷ ts); imports = is; decls = ds }) (lex s key_package ∷ lex c (ident n) ∷ lex d semicolon ∷ ts) r
 
 -- all these tokens spell the file, each node with its span
 abbrev pub SpellsFile : List Token → File Span → Type 0

@@ -1,7 +1,7 @@
 -- The nesting weight of a token: how deep the trees are that may have been begun when it is read.
 use Rattle.std.specs.Prelude.{ℕ, ◌+◌, List, [], ◌∷◌, sum}
 use Rattle.go_tree.specs.declared.tokens.Token.{Token}
-use Rattle.go_read.specs.SpellsTerminals.{Terminal, comma, semicolon, paren, end_paren, bracket, end_bracket, brace, end_brace, terminal_of}
+use Rattle.go_words.specs.Terminals.{Terminal, comma, semicolon, paren, end_paren, bracket, end_bracket, brace, end_brace, terminal_of}
 
 abbrev pub opened : List ℕ → List ℕ
 opened [] = []

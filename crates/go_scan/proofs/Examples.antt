@@ -2,7 +2,7 @@
 use Rattle.std.proofs.Common.{◌≡◌, true, false, refl, codes}
 use Rattle.go_words.specs.Tokens.Forms.{HasForm}
 use Rattle.go_words.specs.Tokens.Literals.{int_lit, float_lit, imaginary_lit, rune_lit, string_lit, comment}
-use Rattle.go_words.specs.Tokens.Pieces.{operator, operators}
+use Rattle.go_words.specs.Tokens.Pieces.{operator, operator_spellings}
 use Rattle.go_scan.proofs.Derivatives.{matches, has_form}
 
 hexadecimal : HasForm int_lit (codes "0x_67_7a_2f_cc_40_c6")
@@ -46,5 +46,5 @@ unfolding comment
 comment_end = (refl, refl)
 
 and_not : HasForm operator (codes "&^=")
-unfolding operator operators
+unfolding operator operator_spellings
 and_not = has_form operator (codes "&^=") refl

@@ -4,10 +4,13 @@ pub mod LexemeLemmas
 pub mod PieceKinds
 pub mod Cuts
 pub mod LetterLemmas
-pub mod LongestLemmas
+pub mod SizeLemmas
+pub mod BytesLemmas
+pub mod ListSteps
 pub mod Best
 pub mod PieceLemmas
 pub mod PieceSteps
+pub mod SizedPieces
 pub mod NewlineLemmas
 pub mod ScanLemmas
 pub mod UnsupportedLemmas

@@ -8,7 +8,7 @@ use Rattle.ucd_table.specs.Rows.{value_in}
 use Rattle.go_tree.specs.declared.tokens.TokenKind.TheVariants.{Ident, Keyword, Operator, Integer, Float, Imaginary, Rune, Str, Inserted}
 use Rattle.go_words.specs.Tokens.Characters.{is_letter, is_digit, is_word, is_blank, each, byte_order_mark}
 use Rattle.go_words.specs.Tokens.Forms.{HasForm}
-use Rattle.go_words.specs.Tokens.Pieces.{PieceKind, blanks, remark, token, keywords, is_among, is_identifier, IsPiece}
+use Rattle.go_words.specs.Tokens.Pieces.{PieceKind, blanks, remark, token, keyword_spellings, is_among, is_identifier, IsPiece}
 use Rattle.go_scan.specs.declared.automaton.TheConstants.{START, DEAD}
 use Rattle.go_scan.specs.Automaton.{next_of, is_whole, kind_in}
 use Rattle.go_scan.proofs.Derivatives.{and_parts}
@@ -105,17 +105,17 @@ among_passes test (x ∷ xs) w all h =
     let p = and_parts (test x) (list_all test xs) all in
     among_first (bytes_eq w x) test x w (is_among xs w) refl p.0 (λ i. among_passes test xs w p.1 i) h
 
-all_identifiers : list_all is_identifier keywords ≡ true
-unfolding keywords is_letter is_digit general_category general_category_rows value_in
+all_identifiers : list_all is_identifier keyword_spellings ≡ true
+unfolding keyword_spellings is_letter is_digit general_category general_category_rows value_in
 all_identifiers = refl
 
-pub keyword_identifier : (w : List ℕ) → is_among keywords w ≡ true → is_identifier w ≡ true
-keyword_identifier w h = among_passes is_identifier keywords w all_identifiers h
+pub keyword_identifier : (w : List ℕ) → is_among keyword_spellings w ≡ true → is_identifier w ≡ true
+keyword_identifier w h = among_passes is_identifier keyword_spellings w all_identifiers h
 
 -- ---- the kind
 
 abbrev pub word_kind : List ℕ → PieceKind
-word_kind w = cond (is_among keywords w) (token Keyword) (token Ident)
+word_kind w = cond (is_among keyword_spellings w) (token Keyword) (token Ident)
 
 -- the kind of a piece by its first character
 abbrev pub kind_by_first : ℕ → List ℕ → PieceKind
@@ -156,7 +156,7 @@ sort_of (token Str) c cs h = lexeme_sort (token Str) c cs h
 sort_of (token Inserted) c cs h = absurd h
 
 pub never_empty : (k : PieceKind) → IsPiece k [] → ⊥
-unfolding keywords
+unfolding keyword_spellings
 never_empty blanks h = absurd cc
 never_empty remark h = lexeme_not_empty remark h
 never_empty (token Ident) h = absurd cc h.0

@@ -4,7 +4,7 @@ use Rattle.std.specs.List.{prefix_len}
 use Rattle.std.proofs.lemmas.List.{take-append-drop}
 use Rattle.go_tree.specs.declared.tokens.TokenKind.TheVariants.{Ident, Keyword}
 use Rattle.go_words.specs.Tokens.Characters.{is_letter, is_word, is_blank, each}
-use Rattle.go_words.specs.Tokens.Pieces.{PieceKind, blanks, token, keywords, is_among, is_identifier, may_precede, IsPiece, IsNext}
+use Rattle.go_words.specs.Tokens.Pieces.{PieceKind, blanks, token, keyword_spellings, is_among, is_identifier, may_precede, IsPiece, IsNext}
 use Rattle.go_scan.specs.declared.automaton.TheConstants.{START}
 use Rattle.go_scan.specs.Automaton.{is_whole, kind_in, longest_from}
 use Rattle.go_scan.specs.Pieces.{word_kind, checked, lexeme_checked, lexeme_of, piece_of, Exact}
@@ -110,7 +110,7 @@ module _ (c : ℕ) (cs : List ℕ) where
           by_sort (a_lexeme x _ _) = contrary (is_blank c) b x
 
   word_exact : is_blank c ≡ false → is_letter c ≡ true → Exact (c ∷ cs) (Some (word_kind (take (prefix_len is_word (c ∷ cs)) (c ∷ cs)), prefix_len is_word (c ∷ cs)))
-  word_exact b l = by_keyword (is_among keywords word) refl
+  word_exact b l = by_keyword (is_among keyword_spellings word) refl
     where
       len : ℕ
       len = prefix_len is_word (c ∷ cs)
@@ -134,7 +134,7 @@ module _ (c : ℕ) (cs : List ℕ) where
           by_sort (a_blank _ x _) = contrary (is_blank c) x b
           by_sort (a_lexeme _ x _) = contrary (is_letter c) l x
 
-      by_keyword : (k : Bool) → is_among keywords word ≡ k → Exact (c ∷ cs) (Some (cond k (token Keyword) (token Ident), len))
+      by_keyword : (k : Bool) → is_among keyword_spellings word ≡ k → Exact (c ∷ cs) (Some (cond k (token Keyword) (token Ident), len))
       by_keyword true e = allowed (c ∷ cs) (token Keyword) len (run_within is_word (c ∷ cs)) e most refl
       by_keyword false e = allowed (c ∷ cs) (token Ident) len (run_within is_word (c ∷ cs)) (identifier, e) most refl
 

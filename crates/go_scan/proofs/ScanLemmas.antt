@@ -1,17 +1,19 @@
 -- A scan as far as it has come.
-use Rattle.std.proofs.Common.{◌≡◌, ◌≢◌, ℕ, zero, suc, ◌+◌, ◌-◌, ◌<◌, ◌≤◌, Bool, true, false, cond, ◌==◌, List, [], ◌∷◌, ◌++◌, length, take, drop, Option, Some, None, refl, sym, ap, subst, ◌∙◌, arith, append_assoc, length-append, zero-add, suc-add, sum_by, encode_utf8, encode_utf8_all, IsUtf8}
-use Rattle.std.proofs.lemmas.List.Sums.{sum_by-append}
-use Rattle.std.specs.Char.{len_utf8}
-use Rattle.std.specs.Str.{all_scalars}
-use Rattle.std.proofs.lemmas.Str.{encodes-append, encodes_same, length-encode}
+use Rattle.std.proofs.Common.{◌≡◌, ◌≢◌, ℕ, zero, suc, ◌+◌, ◌-◌, ◌<◌, ◌≤◌, Bool, true, false, cond, ◌==◌, List, [], ◌∷◌, ◌++◌, map, length, take, drop, chars, Option, Some, None, refl, sym, ap, subst, ◌∙◌, arith, append_assoc, length-append, length-take-le, length-drop, zero-add, suc-add, encode_utf8, encode_utf8_all, IsUtf8}
+use Rattle.std.specs.Str.{all_scalars, IsCharBoundary}
+use Rattle.std.proofs.lemmas.Str.{encodes-append, length-encode, len_utf8_bounds, encodes-chars, scalars-chars, chars-nil}
 use Rattle.go_tree.specs.declared.tokens.Token.{Token}
 use Rattle.go_tree.specs.declared.tokens.Comment.{Comment}
+use Rattle.go_words.specs.declared.terminals.Terminal.{Terminal}
+use Rattle.go_words.specs.Codes.{terminal_at}
 use Rattle.go_words.specs.Tokens.Characters.{byte_order_mark}
 use Rattle.go_words.specs.Tokens.{TokensOf, StopsAt, tokens_at, tokens_from, comments_at, comments_from, due_after, inserted, after_mark, mark_size, pieces_size, size_of}
 use Rattle.go_words.specs.Tokens.Pieces.{PieceKind, Piece, IsPiece, IsNext, CutsTo}
 use Rattle.go_scan.specs.Pieces.{Exact}
+use Rattle.go_scan.specs.Sizes.{ExactSize}
 use Rattle.go_scan.proofs.Cuts.{cut_on}
 use Rattle.go_scan.proofs.PieceKinds.{never_empty}
+use Rattle.go_scan.proofs.SizeLemmas.{cut_boundary, cut_front, cut_back, cut_back_utf8, cut_within}
 
 -- What has been read up to the byte `at`, and what is left.
 pub record ScannedTo (text characters : List ℕ) (at : ℕ) (due : Option ℕ) (tokens : List Token) (comments : List Comment) (rest : List ℕ) : Type 0 where
@@ -43,16 +45,6 @@ length_dropped : (n : ℕ) (text : List ℕ) → n ≤ length text → n + lengt
 length_dropped zero text small = omega arith
 length_dropped (suc n) [] small = absurd (omega (arith, small))
 length_dropped (suc n) (t ∷ text) small = let ih = length_dropped n text (omega (arith, small)) in omega (arith, ih)
-
--- how many bytes characters have
-pub size_sum : (xs : List ℕ) → sum_by len_utf8 xs ≡ size_of xs
-size_sum [] = refl
-size_sum (x ∷ xs) =
-    let sums = sum_by-append len_utf8 (x ∷ []) xs in
-    let rest = size_sum xs in
-    let first = length-encode x in
-    let sizes = length-append (encode_utf8 x) (encode_utf8_all xs) in
-    omega (arith, sums, rest, first, sizes)
 
 -- ---- the start
 
@@ -106,10 +98,6 @@ scanned_start text characters encoded = record {
 
 -- ---- one more piece
 
-pub next_by_split : (rest word more : List ℕ) (kind : PieceKind) (len : ℕ) → Exact rest (Some (kind, len)) → word ≡ take len rest → more ≡ drop len rest → IsNext rest kind word more
-next_by_split rest word more kind len exact w m =
-    subst (λ (x : List ℕ). IsNext rest kind x more) (sym w) (subst (λ (x : List ℕ). IsNext rest kind (take len rest) x) (sym m) exact.0)
-
 module _ (text characters : List ℕ) (at : ℕ) (due : Option ℕ) (tokens : List Token) (comments : List Comment) (rest : List ℕ)
     (so_far : ScannedTo text characters at due tokens comments rest) (kind : PieceKind) (word more : List ℕ) (next : IsNext rest kind word more) where
   spelled : drop at text ≡ encode_utf8_all word ++ encode_utf8_all more
@@ -121,29 +109,6 @@ module _ (text characters : List ℕ) (at : ℕ) (due : Option ℕ) (tokens : Li
       let all = length_dropped at text so_far.within in
       let parts = ap length spelled ∙ length-append (encode_utf8_all word) (encode_utf8_all more) in
       omega (arith, all, parts)
-
-  -- and are these
-  pub word_bytes : take (size_of word) (drop at text) ≡ encode_utf8_all word
-  word_bytes = ap (take (size_of word)) spelled ∙ take_own (encode_utf8_all word)
-    where
-      take_own : (xs : List ℕ) → take (length xs) (xs ++ encode_utf8_all more) ≡ xs
-      take_own [] = refl
-      take_own (x ∷ xs) = ap (λ (ys : List ℕ). x ∷ ys) (take_own xs)
-
-  pub sum_within : at + sum_by len_utf8 word ≤ length text
-  sum_within = let sizes = size_sum word in let within = word_within in omega (arith, sizes, within)
-
-  pub sum_bytes : (end : ℕ) → end ≡ at + sum_by len_utf8 word → take (end - at) (drop at text) ≡ encode_utf8_all word
-  sum_bytes end e = let sizes = size_sum word in let same : end - at ≡ size_of word = omega (arith, e, sizes) in
-      ap (λ (n : ℕ). take n (drop at text)) same ∙ word_bytes
-
-  -- the piece has characters, so what is left is shorter
-  pub more_shorter : length more < length rest
-  more_shorter = by_word word next.spelled (ap length next.parts ∙ length-append word more)
-    where
-      by_word : (w : List ℕ) → IsPiece kind w → length rest ≡ length w + length more → length more < length rest
-      by_word [] s e = absurd (never_empty kind s)
-      by_word (c ∷ cs) s e = omega (arith, e)
 
   piece : Piece
   piece = record { kind = kind; word = word }
@@ -173,18 +138,7 @@ module _ (text characters : List ℕ) (at : ℕ) (due : Option ℕ) (tokens : Li
     left = drop_front at (encode_utf8_all word) (encode_utf8_all more) text so_far.within spelled;
   }
 
-  pub scanned_sum : (later : Option ℕ) (tokens_now : List Token) (comments_now : List Comment) (end : ℕ) → end ≡ at + sum_by len_utf8 word → later ≡ due_after at due kind word
-      → tokens_now ≡ tokens ++ tokens_at at due kind word → comments_now ≡ comments ++ comments_at at kind word → ScannedTo text characters end later tokens_now comments_now more
-  scanned_sum later tokens_now comments_now end e d t c =
-      let sizes : at + size_of word ≡ end = omega (arith, e, size_sum word) in
-      subst (λ (n : ℕ). ScannedTo text characters n later tokens_now comments_now more) sizes (scanned_step later tokens_now comments_now d t c)
-
 -- ---- the end
-
--- the characters of UTF-8 are scalar values
-pub scalars_of : (characters text : List ℕ) → IsUtf8 text → encode_utf8_all characters ≡ text → all_scalars characters ≡ true
-scalars_of characters text utf8 encoded =
-    subst (λ (cs : List ℕ). all_scalars cs ≡ true) (encodes_same utf8.0 characters (utf8.1.1 ∙ sym encoded)) utf8.1.0
 
 module _ (text characters : List ℕ) (at : ℕ) (due : Option ℕ) (tokens : List Token) (comments : List Comment) (rest : List ℕ)
     (scalars : all_scalars characters ≡ true) (encoded : encode_utf8_all characters ≡ text) (so_far : ScannedTo text characters at due tokens comments rest) where
@@ -216,3 +170,103 @@ module _ (text characters : List ℕ) (at : ℕ) (due : Option ℕ) (tokens : Li
     none = none;
     place_is = so_far.place;
   }
+
+-- ---- a scan over the bytes
+
+map_append : {A B : Type 0} (f : A → B) (xs ys : List A) → map f (xs ++ ys) ≡ map f xs ++ map f ys
+map_append f [] ys = refl
+map_append {A} {B} f (x ∷ xs) ys = ap (λ (zs : List B). f x ∷ zs) (map_append f xs ys)
+
+-- What has been read of the text up to these last bytes.
+pub record ReadTo (text : List ℕ) (due : Option ℕ) (tokens : List Token) (terminals : List Terminal) (comments : List Comment) (rest : List ℕ) : Type 0 where
+  pub utf8 : IsUtf8 rest
+  pub short : length rest ≤ length text
+  pub scanned : ScannedTo text (chars text) (length text - length rest) due tokens comments (chars rest)
+  pub terminals_are : terminals ≡ map terminal_at tokens
+
+pub read_start : (text rest : List ℕ) (tokens : List Token) (terminals : List Terminal) (comments : List Comment) → IsUtf8 text → IsUtf8 rest → chars rest ≡ after_mark (chars text)
+    → length rest + mark_size (chars text) ≡ length text → tokens ≡ [] → terminals ≡ [] → comments ≡ [] → ReadTo text None tokens terminals comments rest
+read_start text rest tokens terminals comments whole utf8 is size t u c =
+    subst (λ (ts : List Token). ReadTo text None ts terminals comments rest) (sym t)
+    (subst (λ (us : List Terminal). ReadTo text None [] us comments rest) (sym u)
+    (subst (λ (cs : List Comment). ReadTo text None [] [] cs rest) (sym c) start))
+  where
+    start : ReadTo text None [] [] [] rest
+    start = record {
+      utf8 = utf8;
+      short = omega (arith, size);
+      scanned =
+          let place : mark_size (chars text) ≡ length text - length rest = omega (arith, size) in
+          subst (λ (cs : List ℕ). ScannedTo text (chars text) (length text - length rest) None [] [] cs) (sym is)
+          (subst (λ (n : ℕ). ScannedTo text (chars text) n None [] [] (after_mark (chars text))) place (scanned_start text (chars text) (encodes-chars text whole)));
+      terminals_are = refl;
+    }
+
+module _ (text : List ℕ) (due : Option ℕ) (tokens : List Token) (terminals : List Terminal) (comments : List Comment) (rest : List ℕ)
+    (so_far : ReadTo text due tokens terminals comments rest) where
+  pub read_stuck : length rest ≢ 0 → IsUtf8 text → Exact (chars rest) None → StopsAt text (length text - length rest)
+  read_stuck more whole none =
+      scanned_stuck text (chars text) (length text - length rest) due tokens comments (chars rest) (scalars-chars text whole) (encodes-chars text whole) so_far.scanned (some_left (chars rest) refl) none
+    where
+      some_left : (cs : List ℕ) → chars rest ≡ cs → length cs ≢ 0
+      some_left [] e = λ z. more (ap length (sym (encodes-chars rest so_far.utf8) ∙ ap encode_utf8_all e))
+      some_left (c ∷ cs) e = λ z. absurd (omega (arith, z))
+
+  pub read_all : length rest ≡ 0 → IsUtf8 text → (tokens_now : List Token) → tokens_now ≡ tokens ++ inserted due → TokensOf text tokens_now comments
+  read_all end whole tokens_now t =
+      scanned_all text (chars text) (length text - length rest) due tokens comments (chars rest) (scalars-chars text whole) (encodes-chars text whole) so_far.scanned (none_left rest end) tokens_now t
+    where
+      none_left : (bs : List ℕ) → length bs ≡ 0 → length (chars bs) ≡ 0
+      none_left [] e = ap length chars-nil
+      none_left (b ∷ bs) e = absurd (omega (arith, e))
+
+  pub read_terminals : (new : List Token) (tokens_now : List Token) (terminals_now : List Terminal) → tokens_now ≡ tokens ++ new → terminals_now ≡ terminals ++ map terminal_at new → terminals_now ≡ map terminal_at tokens_now
+  read_terminals new tokens_now terminals_now t u =
+      u ∙ ap (λ (xs : List Terminal). xs ++ map terminal_at new) so_far.terminals_are ∙ sym (map_append terminal_at tokens new) ∙ ap (map terminal_at) (sym t)
+
+  module _ (kind : PieceKind) (size : ℕ) (exact : ExactSize (chars rest) (Some (kind, size))) where
+    pub read_boundary : IsCharBoundary rest size
+    read_boundary = cut_boundary rest so_far.utf8 exact.0 size exact.1
+
+    module _ (word more : List ℕ) (of_word : word ≡ take size rest) (of_more : more ≡ drop size rest) where
+      next : IsNext (chars rest) kind (chars word) (chars more)
+      next =
+          subst (λ (w : List ℕ). IsNext (chars rest) kind w (chars more)) (sym (ap chars of_word ∙ cut_front rest so_far.utf8 exact.0 size exact.1))
+          (subst (λ (m : List ℕ). IsNext (chars rest) kind (take exact.0 (chars rest)) m) (sym (ap chars of_more ∙ cut_back rest so_far.utf8 exact.0 size exact.1)) exact.2.0)
+
+      word_size : size_of (chars word) ≡ size
+      word_size = ap size_of (ap chars of_word ∙ cut_front rest so_far.utf8 exact.0 size exact.1) ∙ sym exact.1
+
+      word_length : length word ≡ size
+      word_length = let within = cut_within rest so_far.utf8 exact.0 size exact.1 in ap length of_word ∙ length-take-le size rest within
+
+      more_length : length more + size ≡ length rest
+      more_length = let within = cut_within rest so_far.utf8 exact.0 size exact.1 in let n = ap length of_more ∙ length-drop size rest in omega (arith, n, within)
+
+      pub read_small : (length text - length rest) + length word ≤ length text
+      read_small = let short = so_far.short in omega (arith, short, word_length, more_length)
+
+      pub read_smaller : length more < length rest
+      read_smaller = by_word (chars word) next.spelled word_size
+        where
+          by_word : (w : List ℕ) → IsPiece kind w → size_of w ≡ size → length more < length rest
+          by_word [] s e = absurd (never_empty kind s)
+          by_word (c ∷ cs) s e =
+              let sizes = length-append (encode_utf8 c) (encode_utf8_all cs) in let first = length-encode c in let low = len_utf8_bounds c in
+              omega (arith, sizes, first, low, e, more_length)
+
+      pub read_on : (later : Option ℕ) (tokens_now : List Token) (terminals_now : List Terminal) (comments_now : List Comment)
+          → later ≡ due_after (length text - length rest) due kind (chars word)
+          → tokens_now ≡ tokens ++ tokens_at (length text - length rest) due kind (chars word)
+          → terminals_now ≡ terminals ++ map terminal_at (tokens_at (length text - length rest) due kind (chars word))
+          → comments_now ≡ comments ++ comments_at (length text - length rest) kind (chars word)
+          → ReadTo text later tokens_now terminals_now comments_now more
+      read_on later tokens_now terminals_now comments_now d t u c = record {
+        utf8 = subst IsUtf8 (sym of_more) (cut_back_utf8 rest so_far.utf8 exact.0 size exact.1);
+        short = let short = so_far.short in omega (arith, short, more_length);
+        scanned =
+            let place : (length text - length rest) + size_of (chars word) ≡ length text - length more = let short = so_far.short in omega (arith, short, word_size, more_length) in
+            subst (λ (n : ℕ). ScannedTo text (chars text) n later tokens_now comments_now (chars more)) place
+            (scanned_step text (chars text) (length text - length rest) due tokens comments (chars rest) so_far.scanned kind (chars word) (chars more) next later tokens_now comments_now d t c);
+        terminals_are = read_terminals (tokens_at (length text - length rest) due kind (chars word)) tokens_now terminals_now t u;
+      }

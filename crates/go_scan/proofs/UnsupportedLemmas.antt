@@ -1,11 +1,15 @@
 -- The first unsupported word.
-use Rattle.std.proofs.Common.{◌≡◌, ℕ, ◌+◌, ◌≤◌, Bool, true, false, cond, nat_le, List, [], ◌∷◌, ◌++◌, length, Option, Some, None, refl, sym, ap, subst, ◌∙◌, arith, append_assoc, length-append, All, encode_utf8_all}
+use Rattle.std.proofs.Common.{◌≡◌, ℕ, zero, suc, ◌+◌, ◌<◌, ◌≤◌, map, drop, get_or, add-one, drop-cons, Bool, true, false, cond, nat_le, List, [], ◌∷◌, ◌++◌, length, Option, Some, None, refl, sym, ap, subst, ◌∙◌, arith, append_assoc, length-append, All, encode_utf8_all}
 use Rattle.std.proofs.lemmas.Bool.Decides.{nat_tests}
 use Rattle.std.proofs.lemmas.Str.{encodes-append}
 use Rattle.std.proofs.lemmas.List.Elements.{All-nil, All-append, All-push, All-weaker, All-cons, Contains-push, Contains-append_left}
 use Rattle.go_tree.specs.declared.spans.Span.{Span}
 use Rattle.go_tree.specs.declared.tokens.Token.{Token}
 use Rattle.go_tree.specs.declared.tokens.Comment.{Comment}
+use Rattle.go_words.specs.declared.terminals.Terminal.{Terminal}
+use Rattle.go_words.specs.Terminals.{terminal_of, is_foreign}
+use Rattle.go_words.specs.Codes.{spelled, terminal_at}
+use Rattle.go_words.proofs.CodeLemmas.{foreign_code, terminal_beside}
 use Rattle.go_words.specs.Tokens.{TokensOf, comments_at, comments_from, after_mark, mark_size, pieces_size, size_of}
 use Rattle.go_words.specs.Tokens.Pieces.{PieceKind, blanks, remark, token, Piece, CutsTo}
 use Rattle.go_scan.specs.Unsupported.{is_unsupported, is_constraint, constraint_spans, word_spans, package_start, unsupported_spans, IsFirst, earlier, first_word, first_constraint}
@@ -111,3 +115,38 @@ comments_within text tokens comments of_text =
     let encoded = ap length of_text.encoded in
     subst (λ (cs : List Comment). All (Within (length text)) cs) (sym of_text.comments_are)
     (all_within (mark_size of_text.characters) (length text) of_text.pieces (omega (arith, sizes, total, encoded)))
+
+-- ---- one token after another
+
+mapped_length : (tokens : List Token) → length (map terminal_at tokens) ≡ length tokens
+mapped_length [] = refl
+mapped_length (t ∷ ts) = let ih = mapped_length ts in omega (arith, ih)
+
+same_at : (xs : List Terminal) (i : ℕ) (d e : Terminal) → i < length xs → get_or xs i d ≡ get_or xs i e
+same_at [] i d e lt = absurd (omega (arith, lt))
+same_at (x ∷ xs) zero d e lt = refl
+same_at (x ∷ xs) (suc i) d e lt = same_at xs i d e (omega (arith, lt))
+
+pub word_step : (tokens : List Token) (terminals : List Terminal) (known now whole : Option Span) (i : ℕ) (t : Token) (d : Terminal) → terminals ≡ map terminal_at tokens → i < length terminals
+    → t ≡ get_or tokens i t → ((w : List ℕ) → now ≡ cond (is_foreign (spelled (get_or terminals i d) w)) (Some (earlier known (get_or tokens i t).span)) known)
+    → first_word known (drop i tokens) ≡ whole → first_word now (drop (i + 1) tokens) ≡ whole
+word_step tokens terminals known now whole i t d same lt here by so_far =
+    ap (λ (o : Option Span). first_word o (drop (i + 1) tokens)) taken ∙ sym step ∙ so_far
+  where
+    within : i < length tokens
+    within = let sizes = ap length same ∙ mapped_length tokens in omega (arith, lt, sizes)
+
+    beside : get_or terminals i d ≡ terminal_at t
+    beside = terminal_beside tokens i t (get_or terminals i d) within here
+        (same_at terminals i d (get_or terminals i d) lt ∙ ap (λ (xs : List Terminal). get_or xs i (get_or terminals i d)) same)
+
+    taken : now ≡ cond (is_unsupported t.kind t.spelling) (Some (earlier known t.span)) known
+    taken = by [] ∙ ap (λ (u : Token). cond (is_foreign (spelled (get_or terminals i d) [])) (Some (earlier known u.span)) known) (sym here)
+        ∙ ap (λ (x : Terminal). cond (is_foreign (spelled x [])) (Some (earlier known t.span)) known) beside
+        ∙ ap (λ (b : Bool). cond b (Some (earlier known t.span)) known) (foreign_code (terminal_of t.kind t.spelling) [])
+
+    split : drop i tokens ≡ t ∷ drop (i + 1) tokens
+    split = drop-cons tokens i t within ∙ ap (λ (x : Token). x ∷ drop (suc i) tokens) (sym here) ∙ ap (λ (k : ℕ). t ∷ drop k tokens) (sym (add-one i))
+
+    step : first_word known (drop i tokens) ≡ first_word (cond (is_unsupported t.kind t.spelling) (Some (earlier known t.span)) known) (drop (i + 1) tokens)
+    step = ap (first_word known) split

@@ -3,7 +3,7 @@ use Rattle.std.specs.Prelude.{ℕ, ◌≤◌, List, [], ◌∷◌, length, take,
 use Rattle.std.specs.List.{prefix_len}
 use Rattle.go_tree.specs.declared.tokens.TokenKind.TheVariants.{Ident, Keyword}
 use Rattle.go_words.specs.Tokens.Characters.{is_letter, is_word, is_blank}
-use Rattle.go_words.specs.Tokens.Pieces.{PieceKind, blanks, remark, token, keywords, is_among, may_precede, IsNext}
+use Rattle.go_words.specs.Tokens.Pieces.{PieceKind, blanks, remark, token, keyword_spellings, is_among, may_precede, IsNext}
 use Rattle.go_scan.specs.declared.pieces.PieceKind as source
 use Rattle.go_scan.specs.declared.pieces.PieceKind.TheVariants.{Blanks, Comment, Token}
 use Rattle.go_scan.specs.declared.automaton.TheConstants.{START}
@@ -19,7 +19,7 @@ seen None = None
 seen (Some x) = Some (kind_of x.0, x.1)
 
 abbrev pub word_kind : List ℕ → PieceKind
-word_kind word = if is_among keywords word then token Keyword else token Ident
+word_kind word = if is_among keyword_spellings word then token Keyword else token Ident
 
 abbrev pub checked : PieceKind → ℕ → List ℕ → Option (PieceKind × ℕ)
 checked kind len text = if may_precede kind (take len text) (drop len text) then Some (kind, len) else None

@@ -1,8 +1,9 @@
 -- What a scan answers.
-use Rattle.std.specs.Prelude.{◌≡◌, ℕ, List, ◌++◌, ⊤}
+use Rattle.std.specs.Prelude.{◌≡◌, ℕ, List, ◌++◌, map, ⊤}
 use Rattle.std.specs.Str.{IsValidUpTo}
 use Rattle.go_tree.specs.declared.tokens.Token.{Token}
 use Rattle.go_tree.specs.declared.tokens.Comment.{Comment}
+use Rattle.go_words.specs.Codes.{terminal_at}
 use Rattle.go_words.specs.Tokens.{TokensOf, StopsAt, tokens_at, due_after, comments_at}
 use Rattle.go_words.specs.Tokens.Pieces.{PieceKind}
 use Rattle.go_scan.specs.declared.scanner.ScanError.{ScanError}
@@ -20,8 +21,9 @@ Refuses text NoMemory = ⊤
 abbrev pub HasNoTokens : List ℕ → Type 0
 HasNoTokens text = (tokens : List Token) (comments : List Comment) → TokensOf text tokens comments → ⊥
 
--- the piece's tokens and comments are added
+-- the piece's tokens, their terminals and its comments are added
 pub record Adds (old new : Lists) (at : ℕ) (kind : PieceKind) (word : List ℕ) : Type 0 where
   pub tokens : new.tokens.items ≡ old.tokens.items ++ tokens_at at old.due kind word
+  pub terminals : new.terminals.items ≡ old.terminals.items ++ map terminal_at (tokens_at at old.due kind word)
   pub due : new.due ≡ due_after at old.due kind word
   pub comments : new.comments.items ≡ old.comments.items ++ comments_at at kind word

@@ -1,28 +1,20 @@
--- Words of Go that lie outside the part that is supported: the keywords `chan`, `fallthrough`, `go`, `goto`, `interface`
--- and `select`, the operators `<-`, `~` and `...`, floating-point and imaginary literals (Go specification, Keywords,
--- Operators and punctuation), and a build constraint before the package clause (go/build/constraint).
-use Rattle.std.specs.Prelude.{◌≡◌, ℕ, ◌-◌, ◌≤◌, Bool, true, false, ◌&&◌, nat_eq, nat_lt, nat_le, List, [], ◌∷◌, ◌++◌, map, take, drop, Option, Some, None, codes, bytes_eq, if◌then◌else◌, Contains, All}
+-- Words of Go that lie outside the part that is supported: those that no production holds, which are the keywords `chan`,
+-- `fallthrough`, `go`, `goto`, `interface` and `select`, the operators `<-` and `~`, floating-point and imaginary
+-- literals (Go specification, Keywords, Operators and punctuation), and a build constraint before the package clause
+-- (go/build/constraint).
+use Rattle.std.specs.Prelude.{◌≡◌, ℕ, ◌-◌, ◌≤◌, Bool, true, false, ◌&&◌, nat_eq, nat_lt, nat_le, List, [], ◌∷◌, ◌++◌, take, drop, Option, Some, None, codes, bytes_eq, if◌then◌else◌, Contains, All}
 use Rattle.std.specs.List.{starts_with}
 use Rattle.go_tree.specs.declared.spans.Span.{Span}
 use Rattle.go_tree.specs.declared.tokens.Token.{Token}
 use Rattle.go_tree.specs.declared.tokens.Comment.{Comment}
 use Rattle.go_tree.specs.declared.tokens.TokenKind.{TokenKind}
-use Rattle.go_tree.specs.declared.tokens.TokenKind.TheVariants.{Keyword, Operator, Float, Imaginary}
+use Rattle.go_tree.specs.declared.tokens.TokenKind.TheVariants.{Keyword}
+use Rattle.go_words.specs.Terminals.{terminal_of, is_foreign}
 use Rattle.go_words.specs.Tokens.Characters.{is_blank}
-use Rattle.go_words.specs.Tokens.Pieces.{is_among}
 
-abbrev pub unsupported_keywords : List (List ℕ)
-unsupported_keywords = map codes ("chan" ∷ "fallthrough" ∷ "go" ∷ "goto" ∷ "interface" ∷ "select" ∷ [])
-
-abbrev pub unsupported_operators : List (List ℕ)
-unsupported_operators = map codes ("<-" ∷ "~" ∷ "..." ∷ [])
-
+-- no production holds the token
 abbrev pub is_unsupported : TokenKind → List ℕ → Bool
-is_unsupported Keyword spelling = is_among unsupported_keywords spelling
-is_unsupported Operator spelling = is_among unsupported_operators spelling
-is_unsupported Float spelling = true
-is_unsupported Imaginary spelling = true
-is_unsupported _ spelling = false
+is_unsupported kind spelling = is_foreign (terminal_of kind spelling)
 
 abbrev pub is_package : TokenKind → List ℕ → Bool
 is_package Keyword spelling = bytes_eq spelling (codes "package")

@@ -1,6 +1,6 @@
 // Characters of Go source (Go specification, Letters and digits, Tokens).
-ghost use Rattle.std.specs.Prelude.{◌≡◌, ◌<◌, ◌≤◌, length};
-ghost use Rattle.std.specs.List.{prefix_len};
+ghost use Rattle.std.specs.Prelude.{◌≡◌, ◌<◌, ◌≤◌, length, chars};
+ghost use Rattle.go_scan.specs.Sizes.{size_while};
 ghost use Rattle.go_words.specs.Tokens.Characters.{is_letter, is_digit, is_word, is_blank, is_letter_category, is_decimal_number};
 
 use unicode::properties::GeneralCategory;
@@ -80,18 +80,36 @@ pub(crate) fn is_blank(c: char) -> bool
     matches!(c, ' ' | '\t' | '\r' | '\n')
 }
 
-/// How many characters at the front an identifier may go on with.
-pub(crate) fn word_len(text: &[char]) -> usize
-    ensures value { result ≡ prefix_len is_word text.now }
+/// How many bytes the characters at the front have with which an identifier may go on.
+pub(crate) fn word_size(text: &str) -> usize
+    ensures value { result ≡ size_while is_word (chars text.now) }
     ensures within { result ≤ length text.now }
 {
-    text.iter().take_while(|c| is_word(**c)).count()
+    let mut size = 0;
+    let mut rest = text.chars();
+    while let Some(c) = rest.next() {
+        if is_word(c) {
+            size += c.len_utf8();
+        } else {
+            return size;
+        }
+    }
+    size
 }
 
-/// How many characters at the front are blanks.
-pub(crate) fn blank_len(text: &[char]) -> usize
-    ensures value { result ≡ prefix_len is_blank text.now }
+/// How many bytes the blanks at the front have.
+pub(crate) fn blanks_size(text: &str) -> usize
+    ensures value { result ≡ size_while is_blank (chars text.now) }
     ensures within { result ≤ length text.now }
 {
-    text.iter().take_while(|c| is_blank(**c)).count()
+    let mut size = 0;
+    let mut rest = text.chars();
+    while let Some(c) = rest.next() {
+        if is_blank(c) {
+            size += c.len_utf8();
+        } else {
+            return size;
+        }
+    }
+    size
 }

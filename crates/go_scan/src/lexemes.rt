@@ -1,6 +1,7 @@
 // Comments, operators, numbers, runes and strings (Go specification, Lexical elements), by the automaton.
-ghost use Rattle.std.specs.Prelude.{◌≡◌, ◌<◌, ◌≤◌, length, None};
-ghost use Rattle.go_scan.specs.Automaton.{class_of, next_of, is_whole, longest_from};
+ghost use Rattle.std.specs.Prelude.{◌≡◌, ◌<◌, chars, None};
+ghost use Rattle.go_scan.specs.Automaton.{class_of, next_of, is_whole};
+ghost use Rattle.go_scan.specs.Sizes.{found_by, longest_by_size};
 
 use crate::automaton::{CLASS, DEAD, FOREIGN, NEXT, OPERATORS, OTHER, PARTS, START, STATES};
 use crate::characters::BYTE_ORDER_MARK;
@@ -28,21 +29,33 @@ fn is_whole(state: u8) -> bool
     OPERATORS <= state && state < PARTS
 }
 
+/// What has been found with this state after so many bytes.
+fn found_by(found: Option<(u8, usize)>, state: u8, size: usize) -> Option<(u8, usize)>
+    ensures { result ≡ found_by found state size }
+{
+    if is_whole(state) {
+        Some((state, size))
+    } else {
+        found
+    }
+}
+
 /// The state after the longest front that is a comment, an operator, a number, a rune or a string,
-/// and how many characters it has; nothing where no front is one.
-pub(crate) fn longest(text: &[char]) -> Option<(u8, usize)>
-    ensures { result ≡ longest_from START 0 None text.now }
+/// and how many bytes it has; nothing where no front is one.
+pub(crate) fn longest(text: &str) -> Option<(u8, usize)>
+    ensures { result ≡ longest_by_size START 0 None (chars text.now) }
 {
     let mut state = START;
+    let mut size = 0;
     let mut found = None;
-    for (i, c) in text.iter().enumerate() {
-        state = next(state, *c);
+    let mut rest = text.chars();
+    while let Some(c) = rest.next() {
+        state = next(state, c);
         if state == DEAD {
             return found;
         }
-        if is_whole(state) {
-            found = Some((state, i + 1));
-        }
+        size += c.len_utf8();
+        found = found_by(found, state, size);
     }
     found
 }

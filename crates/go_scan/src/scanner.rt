@@ -1,7 +1,6 @@
 // Tokens and comments of a text (Go specification, Source code representation, Lexical elements).
-ghost use Rattle.std.specs.Prelude.{◌≡◌, ◌≢◌, ◌<◌, ◌≤◌, ◌^◌, length, true, sum_by, encode_utf8_all, IfOk, IfErr};
-ghost use Rattle.std.specs.Char.{len_utf8};
-ghost use Rattle.std.specs.Str.{all_scalars};
+ghost use Rattle.std.specs.Prelude.{◌≡◌, ◌≢◌, ◌+◌, ◌≤◌, length, map, chars, IfOk, IfErr};
+ghost use Rattle.go_words.specs.Codes.{terminal_at};
 ghost use Rattle.go_words.specs.Tokens.{TokensOf, after_mark, mark_size};
 ghost use Rattle.go_scan.specs.Scanned.{Refuses, HasNoTokens};
 
@@ -9,24 +8,30 @@ use crate::characters::BYTE_ORDER_MARK;
 use crate::lists::{Lists, add, insert_due};
 use crate::pieces::piece;
 use go_tree::{Comment, MAX_FILE_BYTES, Token};
+use go_words::Terminal;
 use std::alloc::{AllocError, Global};
 use std::marker::Model;
 use std::str;
 use thiserror::Error;
 
-/// The tokens and comments of a text, each in order.
+/// The tokens and comments of a text, each in order, and the terminal that each token is.
 #[derive(Drop)]
 pub struct Tokens {
     tokens: Vec<Token>,
+    terminals: Vec<Terminal>,
     comments: Vec<Comment>,
 }
 
 impl Model for Tokens {
+    ghost use Rattle.std.specs.Prelude.{◌≡◌, map};
+    ghost use Rattle.go_words.specs.Codes.{terminal_at};
     ghost use Rattle.go_scan.specs.TokenLists.{TokenLists};
 
     ghost Value = { TokenLists };
 
     ghost view = { λ a. record { items = a.tokens.items; comments = a.comments.items } };
+
+    ghost invariant = { λ a. a.terminals.items ≡ map terminal_at a.tokens.items };
 }
 
 impl Tokens {
@@ -35,6 +40,13 @@ impl Tokens {
         ensures { result.now ≡ self.now.items }
     {
         &self.tokens
+    }
+
+    /// The terminal of each token (`terminal_of` of its kind and spelling).
+    pub fn terminals(&self) -> &[Terminal]
+        ensures { result.now ≡ map terminal_at self.now.items }
+    {
+        &self.terminals
     }
 
     /// The comments.
@@ -84,66 +96,48 @@ fn scan_text(alloc: Global, text: &[u8]) -> Result<Tokens, ScanError>
     ensures found { IfOk result (λ t. TokensOf text.now t.items t.comments) }
     ensures refused { IfErr result (λ e. Refuses text.now e) }
 {
-    let source = match str::from_utf8(text) {
-        Ok(source) => source,
-        Err(fault) => return Err(ScanError::NotUtf8(fault.valid_up_to() as u32)),
-    };
-    let characters: Vec<char> = source.chars().collect(alloc)?;
-    scan_characters(alloc, text, &characters)
-}
-
-/// The characters after a byte order mark at the start, and the byte at which they begin.
-fn after_mark(characters: &[char]) -> (u32, &[char])
-    ensures at { result.0 ≡ mark_size characters.now }
-    ensures rest { result.1.now ≡ after_mark characters.now }
-{
-    match characters {
-        [BYTE_ORDER_MARK, rest @ ..] => (BYTE_ORDER_MARK.len_utf8() as u32, rest),
-        _ => (0, characters),
+    match str::from_utf8(text) {
+        Ok(source) => scan_source(alloc, source),
+        Err(fault) => Err(ScanError::NotUtf8(fault.valid_up_to() as u32)),
     }
 }
 
-/// How many bytes the characters have.
-fn size(word: &[char]) -> usize
-    requires { sum_by len_utf8 word.now < 2 ^ 64 }
-    ensures { result ≡ sum_by len_utf8 word.now }
+/// The text after a byte order mark at its start.
+fn after_mark(source: &str) -> &str
+    ensures value { chars result.now ≡ after_mark (chars source.now) }
+    ensures size { length result.now + mark_size (chars source.now) ≡ length source.now }
 {
-    word.iter().map(|c| c.len_utf8()).sum()
+    match source.chars().next() {
+        Some(BYTE_ORDER_MARK) => &source[BYTE_ORDER_MARK.len_utf8()..],
+        _ => source,
+    }
 }
 
-fn scan_characters(alloc: Global, text: &[u8], characters: &[char]) -> Result<Tokens, ScanError>
-    requires small { length text.now ≤ MAX_FILE_BYTES }
-    requires scalars { all_scalars characters.now ≡ true }
-    requires encoded { encode_utf8_all characters.now ≡ text.now }
-    ensures found { IfOk result (λ t. TokensOf text.now t.items t.comments) }
-    ensures refused { IfErr result (λ e. Refuses text.now e) }
+fn scan_source(alloc: Global, source: &str) -> Result<Tokens, ScanError>
+    requires { length source.now ≤ MAX_FILE_BYTES }
+    ensures found { IfOk result (λ t. TokensOf source.now t.items t.comments) }
+    ensures refused { IfErr result (λ e. Refuses source.now e) }
 {
     let mut lists = Lists {
         tokens: Vec::new(alloc),
+        terminals: Vec::new(alloc),
         comments: Vec::new(alloc),
         due: None,
     };
-    let (mut at, mut rest) = after_mark(characters);
+    let mut rest = after_mark(source);
     while !rest.is_empty() {
-        let Some((kind, len)) = piece(rest) else {
+        let at = (source.len() - rest.len()) as u32;
+        let Some((kind, size)) = piece(rest) else {
             return Err(ScanError::BadToken(at));
         };
-        let (word, more) = rest.split_at(len);
-        let end = at + size(word) as u32;
-        add(
-            alloc,
-            &mut lists,
-            kind,
-            at,
-            word,
-            &text[at as usize..end as usize],
-        )?;
-        at = end;
+        let (word, more) = rest.split_at(size);
+        add(alloc, &mut lists, kind, at, word)?;
         rest = more;
     }
     insert_due(alloc, &mut lists)?;
     Ok(Tokens {
         tokens: lists.tokens,
+        terminals: lists.terminals,
         comments: lists.comments,
     })
 }

@@ -1,22 +1,13 @@
 // Words that are not supported.
-ghost use Rattle.std.specs.Prelude.{◌≡◌, ◌≤◌, length, map, All, None};
+ghost use Rattle.std.specs.Prelude.{◌≡◌, ℕ, ◌≤◌, List, if◌then◌else◌, length, map, All, Some, None};
+ghost use Rattle.go_words.specs.Codes.{spelled, terminal_at};
+ghost use Rattle.go_words.specs.Terminals.{is_foreign};
 ghost use Rattle.go_words.specs.Tokens.{TokensOf};
-ghost use Rattle.go_words.specs.Tokens.Pieces.{is_among};
-ghost use Rattle.go_scan.specs.Unsupported.{is_unsupported, is_package, package_start, stands_before, is_build_line, is_constraint, blank_or_end, unsupported_spans, IsFirst, earlier, first_word, first_constraint};
+ghost use Rattle.go_scan.specs.Unsupported.{is_package, package_start, stands_before, is_build_line, is_constraint, blank_or_end, unsupported_spans, IsFirst, earlier, first_word, first_constraint};
 
 use crate::scanner::Tokens;
 use go_tree::{Comment, Span, Token, TokenKind};
-
-const UNSUPPORTED_KEYWORDS: [&[u8]; 6] = [
-    b"chan",
-    b"fallthrough",
-    b"go",
-    b"goto",
-    b"interface",
-    b"select",
-];
-
-const UNSUPPORTED_OPERATORS: [&[u8]; 3] = [b"<-", b"~", b"..."];
+use go_words::{Terminal, is_foreign};
 
 const BUILD_LINE: &[u8; 10] = b"//go:build";
 
@@ -28,27 +19,7 @@ pub fn unsupported(text: &[u8], tokens: &Tokens) -> Option<Span>
 {
     let place = package_start(tokens.items());
     let known = first_constraint(text, place, tokens.comments());
-    first_word(known, tokens.items())
-}
-
-fn is_one_of(table: &[&[u8]], word: &[u8]) -> bool
-    ensures { result ≡ is_among (map (λ w. w.now) table.now) word.now }
-{
-    let Some((first, rest)) = table.split_first() else {
-        return false;
-    };
-    word == *first || is_one_of(rest, word)
-}
-
-fn is_unsupported(kind: TokenKind, spelling: &[u8]) -> bool
-    ensures { result ≡ is_unsupported kind spelling.now }
-{
-    match kind {
-        TokenKind::Keyword => is_one_of(&UNSUPPORTED_KEYWORDS, spelling),
-        TokenKind::Operator => is_one_of(&UNSUPPORTED_OPERATORS, spelling),
-        TokenKind::Float | TokenKind::Imaginary => true,
-        _ => false,
-    }
+    first_word(known, tokens.items(), tokens.terminals())
 }
 
 fn is_package(kind: TokenKind, spelling: &[u8]) -> bool
@@ -123,14 +94,24 @@ fn first_constraint(text: &[u8], place: Option<u32>, comments: &[Comment]) -> Op
     first
 }
 
-fn first_word(known: Option<Span>, tokens: &[Token]) -> Option<Span>
+/// What is known after a token with this terminal and span.
+fn first_with(known: Option<Span>, terminal: Terminal, span: Span) -> Option<Span>
+    ensures { (w : List ℕ) → result ≡ if is_foreign (spelled terminal w) then Some (earlier known span) else known }
+{
+    if is_foreign(terminal) {
+        Some(earlier(known, span))
+    } else {
+        known
+    }
+}
+
+fn first_word(known: Option<Span>, tokens: &[Token], terminals: &[Terminal]) -> Option<Span>
+    requires { terminals.now ≡ map terminal_at tokens.now }
     ensures { result ≡ first_word known tokens.now }
 {
     let mut first = known;
-    for token in tokens {
-        if is_unsupported(token.kind, token.spelling.items()) {
-            first = Some(earlier(first, token.span));
-        }
+    for i in 0..terminals.len() {
+        first = first_with(first, terminals[i], tokens[i].span);
     }
     first
 }

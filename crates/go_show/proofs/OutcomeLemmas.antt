@@ -1,54 +1,43 @@
--- What is said of a text and its tokens together is said of the text.
-use Rattle.std.proofs.Common.{◌≡◌, ◌≢◌, sym, subst, ◌∙◌}
-use Rattle.std.specs.Prelude.{ℕ, List, Option, Result, Ok, Err, IfErr, IfOk, OnOk}
-use Rattle.std.specs.Str.{IsValidUpTo}
+-- What is written of a text that is read, and of one that isn't.
+use Rattle.std.proofs.Common.{◌≡◌, ◌≢◌, inl, inr}
+use Rattle.std.specs.Prelude.{ℕ, List, Option, Result, Ok, Err, IfErr, IfOk, OnOk, codes}
 use Rattle.std.specs.Io.KnownBytes.{Appends}
-use Rattle.go_tree.specs.declared.tokens.Token.{Token}
-use Rattle.go_tree.specs.declared.tokens.Comment.{Comment}
-use Rattle.go_words.specs.Tokens.{StopsAt, TokensOf}
-use Rattle.go_scan.specs.declared.scanner.ScanError.{ScanError}
-use Rattle.go_scan.specs.declared.scanner.ScanError.TheVariants as scanned
-use Rattle.go_scan.specs.Scanned.{HasNoTokens, Refuses}
-use Rattle.go_show.specs.declared.tree.Outcome.{Outcome}
-use Rattle.go_show.specs.declared.tree.Outcome.TheVariants.{Read, NotRead, BadToken, NotUtf8, Unsupported, TooDeep}
-use Rattle.go_show.specs.Outcomes.{HasTokens, IsRead, IsOutcome, IsReason, ShowsReason, ShowsTree, outcome_line}
+use Rattle.go_tree.specs.FileView.{file_of}
+use Rattle.go_layout.specs.Layouts.{text_of}
+use Rattle.go_layout.specs.FileLayout.{file_layout}
+use Rattle.go_parse.specs.declared.source.Source.{Source}
+use Rattle.go_parse.specs.declared.source.ReadError.{ReadError}
+use Rattle.go_parse.specs.declared.source.ReadError.TheVariants.{NotUtf8, BadToken, Unsupported, TooDeep, NotRead, NoMemory}
+use Rattle.go_parse.specs.Sources.{IsSource, RefusesText}
+use Rattle.go_show.specs.Outcomes.{Reads, Says, SaysWhy, ShowsFile, ShowsTree}
 
-outcome_is : (text : List ℕ) (tokens : List Token) (comments : List Comment) → TokensOf text tokens comments → (o : Outcome) → IsRead text tokens comments o → IsOutcome text o
-outcome_is text tokens comments words (NotUtf8 place) read = absurd read
-outcome_is text tokens comments words (BadToken place) read = absurd read
-outcome_is text tokens comments words (Unsupported place) read = record { tokens = tokens; comments = comments; words = words; read = read }
-outcome_is text tokens comments words (TooDeep place) read = record { tokens = tokens; comments = comments; words = words; read = read }
-outcome_is text tokens comments words (NotRead place) read = record { tokens = tokens; comments = comments; words = words; read = read }
-outcome_is text tokens comments words (Read file) read = record { tokens = tokens; comments = comments; words = words; read = read }
+says_no_want : (before after : Option (List ℕ)) (e : ReadError) → Says before after e → e ≢ NoMemory
+says_no_want before after (NotUtf8 place) s i = absurd cc
+says_no_want before after (BadToken place) s i = absurd cc
+says_no_want before after (Unsupported place) s i = absurd cc
+says_no_want before after (TooDeep place) s i = absurd cc
+says_no_want before after (NotRead place) s i = absurd cc
+says_no_want before after NoMemory s i = s
 
-pub outcome_of : {E : Type 0} (text : List ℕ) (tokens : List Token) (comments : List Comment) → TokensOf text tokens comments → (r : Result Outcome E) → IfOk r (λ o. IsRead text tokens comments o) → IfOk r (λ o. IsOutcome text o)
-outcome_of text tokens comments words (Ok o) read = outcome_is text tokens comments words o read
-outcome_of text tokens comments words (Err e) read = read
+says_why : (text : List ℕ) (before after : Option (List ℕ)) (e : ReadError) → (e ≢ NoMemory → RefusesText text e) → Says before after e → SaysWhy text before after
+says_why text before after e refused said = record { error = e; right = refused (says_no_want before after e said); written = said }
 
-pub shows_tree : {T E : Type 0} (text : List ℕ) (before after : Option (List ℕ)) (o : Outcome) → IsOutcome text o → (r : Result T E) → OnOk r (Appends before after (outcome_line o)) → OnOk r (ShowsTree text before after)
-shows_tree text before after o right (Ok x) written = record { outcome = o; right = right; written = written }
-shows_tree text before after o right (Err e) written = written
+pub shows_fault : {T E : Type 0} (text : List ℕ) (before after : Option (List ℕ)) (e : ReadError) → (e ≢ NoMemory → RefusesText text e) → (r : Result T E) → OnOk r (Says before after e) → OnOk r (ShowsTree text before after)
+shows_fault text before after e refused (Ok x) said = inr (says_why text before after e refused said)
+shows_fault text before after e refused (Err x) said = said
 
-pub shows_reason : {T E : Type 0} (text : List ℕ) (before after : Option (List ℕ)) (o : Outcome) → IsOutcome text o → (r : Result T E) → OnOk r (IsReason before after o) → OnOk r (ShowsReason text before after)
-shows_reason text before after o right (Ok x) written = record { outcome = o; right = right; written = written }
-shows_reason text before after o right (Err e) written = written
+pub shows_reason : {T E : Type 0} (text : List ℕ) (before after : Option (List ℕ)) (e : ReadError) → (e ≢ NoMemory → RefusesText text e) → (r : Result T E) → OnOk r (Says before after e) → OnOk r (ShowsFile text before after)
+shows_reason text before after e refused (Ok x) said = inr (says_why text before after e refused said)
+shows_reason text before after e refused (Err x) said = said
 
--- ---- a text without tokens
+reads : (text : List ℕ) (s : Source) → IsSource text s.tokens.items s.tokens.comments (file_of s.tree) → Reads text
+reads text s source = record { tokens = s.tokens.items; comments = s.tokens.comments; tree = file_of s.tree; source = source }
 
-bad_token_is_no_want : (place : ℕ) → scanned.BadToken place ≡ scanned.NoMemory → ⊥
-bad_token_is_no_want place e = absurd cc
+pub shows_read : {T E : Type 0} (text : List ℕ) (before after : Option (List ℕ)) (s : Source) → IsSource text s.tokens.items s.tokens.comments (file_of s.tree) → (r : Result T E) → OnOk r (Appends before after (codes "read\n")) → OnOk r (ShowsTree text before after)
+shows_read text before after s source (Ok x) written = inl (reads text s source, written)
+shows_read text before after s source (Err x) written = written
 
-not_utf8_is_no_want : (place : ℕ) → scanned.NotUtf8 place ≡ scanned.NoMemory → ⊥
-not_utf8_is_no_want place e = absurd cc
-
-pub stopped : {T : Type 0} (text : List ℕ) (r : Result T ScanError) (e : ScanError) (place at : ℕ) → r ≡ Err e → e ≡ scanned.BadToken place → at ≡ place → IfErr r (λ e. Refuses text e) → IfErr r (λ e. e ≢ scanned.NoMemory → HasNoTokens text) → StopsAt text at × HasNoTokens text
-stopped text (Ok x) e place at i h k refused none = absurd cc
-stopped text (Err f) e place at i h k refused none =
-    let same : f ≡ scanned.BadToken place = let first : f ≡ e = cc in first ∙ h in
-    (subst (λ (p : ℕ). StopsAt text p) (sym k) (subst (λ (g : ScanError). Refuses text g) same refused), none (λ m. bad_token_is_no_want place (sym same ∙ m)))
-
-pub invalid : {T : Type 0} (text : List ℕ) (r : Result T ScanError) (e : ScanError) (place at : ℕ) → r ≡ Err e → e ≡ scanned.NotUtf8 place → at ≡ place → IfErr r (λ e. Refuses text e) → IfErr r (λ e. e ≢ scanned.NoMemory → HasNoTokens text) → IsValidUpTo text at × HasNoTokens text
-invalid text (Ok x) e place at i h k refused none = absurd cc
-invalid text (Err f) e place at i h k refused none =
-    let same : f ≡ scanned.NotUtf8 place = let first : f ≡ e = cc in first ∙ h in
-    (subst (λ (p : ℕ). IsValidUpTo text p) (sym k) (subst (λ (g : ScanError). Refuses text g) same refused), none (λ m. not_utf8_is_no_want place (sym same ∙ m)))
+pub shows_print : {T E : Type 0} (text : List ℕ) (before after : Option (List ℕ)) (s : Source) → IsSource text s.tokens.items s.tokens.comments (file_of s.tree) → (r : Result T E) → OnOk r (Appends before after (text_of (file_layout (file_of s.tree)))) → OnOk r (ShowsFile text before after)
+unfolding reads
+shows_print text before after s source (Ok x) written = inl (reads text s source, written)
+shows_print text before after s source (Err x) written = written

@@ -8,23 +8,27 @@
 #![tactic(auto)]
 
 ghost use Rattle.std.specs.Prelude.{◌≤◌, IfOk, OnOk, length, vec_len};
-ghost use Rattle.go_show.specs.Outcomes.{ShowsReason, ShowsTree};
+ghost use Rattle.std.specs.Io.KnownBytes.{Appends};
+ghost use Rattle.go_layout.specs.FileLayout.{file_layout};
+ghost use Rattle.go_layout.specs.Layouts.{text_of};
+ghost use Rattle.go_show.specs.Outcomes.{ShowsFile, ShowsTree};
+ghost use Rattle.go_tree.specs.FileView.{file_of};
 
 mod lines;
-mod print;
 mod tree;
 
+use go_parse::read_file;
+use go_print::print_file;
 use go_scan::{ScanError, scan};
-use go_tree::MAX_FILE_BYTES;
+use go_tree::{FileTree, MAX_FILE_BYTES};
 use lines::write_tokens;
-use print::write_file;
 use std::alloc::Global;
 use std::io::{self, BufWriter, Write};
 use std::process::ExitCode;
 use std::rt::{Env, Files};
 use std::{env, fs};
 use thiserror::Error;
-use tree::{Outcome, read_tree, write_outcome};
+use tree::write_fault;
 
 /// Why nothing is shown.
 #[derive(Debug, Drop, Error)]
@@ -75,7 +79,7 @@ fn asked<R: Env + AllocGlobal>(rt: &R) -> Result<(Part, String), Fault> {
     Ok((part, path))
 }
 
-fn read_file<R: Files + AllocGlobal>(rt: &R, path: String) -> Result<Vec<u8>, Fault>
+fn text_of<R: Files + AllocGlobal>(rt: &R, path: String) -> Result<Vec<u8>, Fault>
     ensures { IfOk result (λ text. vec_len text ≤ MAX_FILE_BYTES) }
 {
     let text = match fs::read(rt, path.as_str()) {
@@ -101,28 +105,40 @@ fn write_scan<W: Write>(alloc: Global, out: &mut W, text: &[u8]) -> io::Result<(
 }
 
 /// Writes whether a text has a tree.
+#[tactic(auto, using(crate::proofs::OutcomeLemmas::shows_read, crate::proofs::OutcomeLemmas::shows_fault))]
 fn write_tree<W: Write>(alloc: Global, out: &mut W, text: &[u8]) -> io::Result<()>
     requires { length text.now ≤ MAX_FILE_BYTES }
     ensures { OnOk result (ShowsTree text.now (W.contents out.old) (W.contents out.new)) }
 {
-    let outcome = read_tree(alloc, text)?;
-    write_outcome(out, &outcome)
+    match read_file(alloc, text) {
+        Ok(_) => writeln!(out, "read"),
+        Err(fault) => write_fault(out, &fault),
+    }
+}
+
+/// Writes a file in the one layout, without its comments.
+fn write_file<W: Write>(alloc: Global, out: &mut W, file: &FileTree) -> io::Result<()>
+    ensures { OnOk result (Appends (W.contents out.old) (W.contents out.new) (text_of (file_layout (file_of file.now)))) }
+{
+    let text = print_file(alloc, file)?;
+    out.write_all(text.items())
 }
 
 /// Writes a file that has a tree in the one layout, and of another why it has none.
+#[tactic(auto, using(crate::proofs::OutcomeLemmas::shows_print, crate::proofs::OutcomeLemmas::shows_reason))]
 fn write_print<W: Write>(alloc: Global, out: &mut W, text: &[u8]) -> io::Result<()>
     requires { length text.now ≤ MAX_FILE_BYTES }
-    ensures { OnOk result (ShowsReason text.now (W.contents out.old) (W.contents out.new)) }
+    ensures { OnOk result (ShowsFile text.now (W.contents out.old) (W.contents out.new)) }
 {
-    match read_tree(alloc, text)? {
-        Outcome::Read(file) => write_file(alloc, out, &file),
-        other => write_outcome(out, &other),
+    match read_file(alloc, text) {
+        Ok(source) => write_file(alloc, out, &source.tree),
+        Err(fault) => write_fault(out, &fault),
     }
 }
 
 fn show<R: Env + Files + Print + AllocGlobal>(rt: &R) -> Result<(), Fault> {
     let (part, path) = asked(rt)?;
-    let text = read_file(rt, path)?;
+    let text = text_of(rt, path)?;
     let mut out = BufWriter::new(rt.alloc(), io::writer(rt))?;
     match part {
         Part::Tokens => write_scan(rt.alloc(), &mut out, &text)?,

@@ -6,7 +6,7 @@ use Rattle.go_tree.specs.declared.stmts.VarSpec as source
 use Rattle.go_tree.specs.View.{var_spec_of}
 use Rattle.go_tree.specs.Lists.{specs_from}
 use Rattle.go_tree.specs.Tree.{NameAt, TypeExpr, Exprs, no_exprs, const_decl, var_decl, ValueSpecs, no_specs, spec}
-use Rattle.go_read.specs.SpellsTerminals.{lex, becomes, semicolon, paren, end_paren, end_brace}
+use Rattle.go_words.specs.Terminals.{lex, assign, semicolon, paren, end_paren, end_brace}
 use Rattle.go_read.specs.SpellsSpans.{span_to}
 use Rattle.go_read.specs.SpellsTypes.{Lexemes}
 use Rattle.go_read.specs.Goals.{read_type, read_names, read_exprs, read_decl, read_specs, read_spec}
@@ -14,8 +14,8 @@ use Rattle.go_read.specs.Programs.{give, ask, run}
 use Rattle.go_read.specs.ReadStmts.{decl_step, specs_step, specs_after, spec_step, spec_after, typed_step, typed_after}
 use Rattle.go_read.specs.Reading.{at}
 use Rattle.go_read.proofs.Finds.{gives, asks, finish}
-use Rattle.go_productions.specs.declared.terminals.Terminal.{Terminal}
-use Rattle.go_productions.specs.declared.terminals.Terminal.TheVariants as code
+use Rattle.go_words.specs.declared.terminals.Terminal.{Terminal}
+use Rattle.go_words.specs.declared.terminals.Terminal.TheVariants as code
 use Rattle.go_productions.specs.Terminals.{first_of, rest_of}
 use Rattle.go_productions.specs.Parts.{onto, in_front, const_decl_at, var_decl_at}
 use Rattle.go_statements.specs.StmtParts.{spec_at, spec_and, is_equals, repeats}
@@ -165,7 +165,7 @@ pub spec_repeated : (c : Bool) (ts r : Lexemes) (ns : List (NameAt Span)) → at
 spec_repeated c ts r ns a e = spec_is c ts r ns (Some ((ns, None, no_exprs), r)) a (repeated c ns r e)
 
 valued : (c : Bool) (ns : List (NameAt Span)) (r us : Lexemes) (o : Option (Exprs Span × Lexemes)) → is_equals (first_of r) ≡ true → us ≡ rest_of r → at span_to (read_exprs false) us ≡ o → run (at span_to) (spec_after span_to c ns r) ≡ option_and_then {U = (List (NameAt Span) × Option (TypeExpr Span) × Exprs Span) × Lexemes} (λ xs. Some ((ns, None, xs.0), xs.1)) o
-valued c ns (lex s (becomes None) ∷ r) us o e u a = ap (option_and_then {U = (List (NameAt Span) × Option (TypeExpr Span) × Exprs Span) × Lexemes} (λ xs. Some ((ns, None, xs.0), xs.1))) (ap (at span_to (read_exprs false)) (sym u) ∙ a)
+valued c ns (lex s (assign None) ∷ r) us o e u a = ap (option_and_then {U = (List (NameAt Span) × Option (TypeExpr Span) × Exprs Span) × Lexemes} (λ xs. Some ((ns, None, xs.0), xs.1))) (ap (at span_to (read_exprs false)) (sym u) ∙ a)
 valued c ns _ us o e u a = absurd cc
 
 pub spec_valueless : (c : Bool) (ts r us : Lexemes) (ns : List (NameAt Span)) → at span_to read_names ts ≡ Some (ns, r) → is_equals (first_of r) ≡ true → us ≡ rest_of r → at span_to (read_exprs false) us ≡ None → spec_at c ts ≡ None
@@ -175,7 +175,7 @@ pub spec_values : (c : Bool) (ts r us q : Lexemes) (ns : List (NameAt Span)) (xs
 spec_values c ts r us q ns xs a e u b = spec_is c ts r ns (Some ((ns, None, xs), q)) a (valued c ns r us (Some (xs, q)) e u b)
 
 typed : (c : Bool) (ns : List (NameAt Span)) (r : Lexemes) → repeats c (first_of r) ≡ false → is_equals (first_of r) ≡ false → run (at span_to) (spec_after span_to c ns r) ≡ run (at span_to) (typed_step span_to c ns r)
-typed c ns (lex s (becomes None) ∷ r) e f = absurd cc
+typed c ns (lex s (assign None) ∷ r) e f = absurd cc
 typed true ns (lex s semicolon ∷ r) e f = absurd cc
 typed true ns (lex s end_paren ∷ r) e f = absurd cc
 typed true ns (lex s end_brace ∷ r) e f = absurd cc
@@ -190,11 +190,11 @@ typed_is : (c : Bool) (ts r q : Lexemes) (ns : List (NameAt Span)) (t : TypeExpr
 typed_is c ts r q ns t o a e f b g = spec_is c ts r ns o a (typed c ns r e f ∙ (asks span_to {k = λ t r. typed_after span_to c ns t r} b (record { is = g })).is)
 
 untyped_var : (ns : List (NameAt Span)) (t : TypeExpr Span) (q : Lexemes) → is_equals (first_of q) ≡ false → run (at span_to) (typed_after span_to false ns t q) ≡ Some ((ns, Some t, no_exprs), q)
-untyped_var ns t (lex s (becomes None) ∷ q) e = absurd cc
+untyped_var ns t (lex s (assign None) ∷ q) e = absurd cc
 untyped_var ns t q e = refl
 
 untyped_const : (ns : List (NameAt Span)) (t : TypeExpr Span) (q : Lexemes) → is_equals (first_of q) ≡ false → run (at span_to) (typed_after span_to true ns t q) ≡ None
-untyped_const ns t (lex s (becomes None) ∷ q) e = absurd cc
+untyped_const ns t (lex s (assign None) ∷ q) e = absurd cc
 untyped_const ns t q e = refl
 
 pub spec_typed_const : (ts r q : Lexemes) (ns : List (NameAt Span)) (t : TypeExpr Span) (c : Bool) → at span_to read_names ts ≡ Some (ns, r) → repeats c (first_of r) ≡ false → is_equals (first_of r) ≡ false → at span_to read_type r ≡ Some (t, q) → is_equals (first_of q) ≡ false → c ≡ true → spec_at c ts ≡ None
@@ -206,7 +206,7 @@ spec_typed_var ts r q ns t false a e f b g h = typed_is false ts r q ns t (Some 
 spec_typed_var ts r q ns t true a e f b g h = absurd cc
 
 typed_valued : (c : Bool) (ns : List (NameAt Span)) (t : TypeExpr Span) (q us : Lexemes) (o : Option (Exprs Span × Lexemes)) → is_equals (first_of q) ≡ true → us ≡ rest_of q → at span_to (read_exprs false) us ≡ o → run (at span_to) (typed_after span_to c ns t q) ≡ option_and_then {U = (List (NameAt Span) × Option (TypeExpr Span) × Exprs Span) × Lexemes} (λ xs. Some ((ns, Some t, xs.0), xs.1)) o
-typed_valued c ns t (lex s (becomes None) ∷ q) us o e u a = ap (option_and_then {U = (List (NameAt Span) × Option (TypeExpr Span) × Exprs Span) × Lexemes} (λ xs. Some ((ns, Some t, xs.0), xs.1))) (ap (at span_to (read_exprs false)) (sym u) ∙ a)
+typed_valued c ns t (lex s (assign None) ∷ q) us o e u a = ap (option_and_then {U = (List (NameAt Span) × Option (TypeExpr Span) × Exprs Span) × Lexemes} (λ xs. Some ((ns, Some t, xs.0), xs.1))) (ap (at span_to (read_exprs false)) (sym u) ∙ a)
 typed_valued c ns t _ us o e u a = absurd cc
 
 pub spec_typed_valueless : (c : Bool) (ts r q us : Lexemes) (ns : List (NameAt Span)) (t : TypeExpr Span) → at span_to read_names ts ≡ Some (ns, r) → repeats c (first_of r) ≡ false → is_equals (first_of r) ≡ false → at span_to read_type r ≡ Some (t, q) → is_equals (first_of q) ≡ true → us ≡ rest_of q → at span_to (read_exprs false) us ≡ None → spec_at c ts ≡ None

@@ -3,7 +3,8 @@ use Rattle.std.proofs.Common.{◌≡◌, ◌≢◌, true, false, List, ◌∷◌
 use Rattle.std.specs.Prelude.{option_and_then}
 use Rattle.go_tree.specs.declared.spans.Span.{Span}
 use Rattle.go_tree.specs.Tree.{NameAt, Expr, Exprs, ExprOption, no_expr, some_expr, Stmt, Stmts, StmtOption, no_stmt, some_stmt, eval, define, for_, range_, RangeLeft, nothing, assigns, defines}
-use Rattle.go_read.specs.SpellsTerminals.{lex, becomes, short, semicolon, brace, key_for, key_range}
+use Rattle.go_words.specs.Terminals as terminal
+use Rattle.go_words.specs.Terminals.{lex, assign, semicolon, brace, key_for, key_range}
 use Rattle.go_read.specs.SpellsSpans.{span_to}
 use Rattle.go_read.specs.SpellsTypes.{Lexemes}
 use Rattle.go_read.specs.Goals.{Clause, plain_clause, range_clause, read_names, read_operand, read_exprs, read_simple, read_simple_after, read_clause, read_stmt, read_block}
@@ -12,8 +13,8 @@ use Rattle.go_read.specs.ReadStmts.{stmt_step, clause_step, clause_names, clause
 use Rattle.go_read.specs.Reading.{at}
 use Rattle.go_read.proofs.Finds.{gives, asks, looks, finish}
 use Rattle.go_read.proofs.Runs.{some_is}
-use Rattle.go_productions.specs.declared.terminals.Terminal.{Terminal}
-use Rattle.go_productions.specs.declared.terminals.Terminal.TheVariants as code
+use Rattle.go_words.specs.declared.terminals.Terminal.{Terminal}
+use Rattle.go_words.specs.declared.terminals.Terminal.TheVariants as code
 use Rattle.go_productions.specs.Terminals.{first_of, rest_of}
 use Rattle.go_productions.specs.Parts.{skipped}
 use Rattle.go_statements.specs.StmtParts.{is_short, short_after, defines_here, evaluated, range_here, for_body_at, for_post_at, for_test_at, for_plain_at, range_at, for_clause_at}
@@ -55,14 +56,14 @@ for_clause ts us k h u f a c = for_is ts us h u
 
 -- names and `:=` before `range`, or before values
 after_short : (ts r us : Lexemes) (ns : List (NameAt Span)) → is_short (first_of r) ≡ true → us ≡ rest_of r → first_of us ≡ code.Range → run (at span_to) (clause_names span_to ts (Some (ns, r))) ≡ Some (range_clause (defines ns), rest_of us)
-after_short ts (lex s short ∷ (lex c key_range ∷ r)) us ns e u f = ap (λ (vs : Lexemes). Some (range_clause (defines ns), rest_of vs)) (sym u)
-after_short ts (lex s short ∷ r) us ns e u f = let z = sym f ∙ ap first_of u in absurd cc
+after_short ts (lex s terminal.define ∷ (lex c key_range ∷ r)) us ns e u f = ap (λ (vs : Lexemes). Some (range_clause (defines ns), rest_of vs)) (sym u)
+after_short ts (lex s terminal.define ∷ r) us ns e u f = let z = sym f ∙ ap first_of u in absurd cc
 after_short ts _ us ns e u f = absurd cc
 
 after_value : (ts r us : Lexemes) (ns : List (NameAt Span)) (k : Terminal) → is_short (first_of r) ≡ true → us ≡ rest_of r → first_of us ≡ k → k ≢ code.Range
     → run (at span_to) (clause_names span_to ts (Some (ns, r))) ≡ option_and_then {U = Clause Span × Lexemes} (λ ys. Some (plain_clause (define (span_to ts ys.1) ns ys.0), ys.1)) (at span_to (read_exprs true) us)
-after_value ts (lex s short ∷ (lex c key_range ∷ r)) us ns k e u f n = absurd (n (sym f ∙ ap first_of u))
-after_value ts (lex s short ∷ r) us ns k e u f n = ap (λ (vs : Lexemes). option_and_then {U = Clause Span × Lexemes} (λ ys. Some (plain_clause (define (span_to ts ys.1) ns ys.0), ys.1)) (at span_to (read_exprs true) vs)) (sym u)
+after_value ts (lex s terminal.define ∷ (lex c key_range ∷ r)) us ns k e u f n = absurd (n (sym f ∙ ap first_of u))
+after_value ts (lex s terminal.define ∷ r) us ns k e u f n = ap (λ (vs : Lexemes). option_and_then {U = Clause Span × Lexemes} (λ ys. Some (plain_clause (define (span_to ts ys.1) ns ys.0), ys.1)) (at span_to (read_exprs true) vs)) (sym u)
 after_value ts _ us ns k e u f n = absurd cc
 
 -- where `range` is not first, names are looked at
@@ -107,7 +108,7 @@ clause_defines w ts r us q ns ys k n d e u f m a =
     (asks span_to {k = λ c r. for_after span_to w c r} (read ∙ ap (option_and_then {U = Clause Span × Lexemes} (λ ys. Some (plain_clause (define (span_to ts ys.1) ns ys.0), ys.1))) a) (record { is = refl })).is
 
 not_short : (ts r : Lexemes) (ns : List (NameAt Span)) → is_short (first_of r) ≡ false → run (at span_to) (clause_names span_to ts (Some (ns, r))) ≡ run (at span_to) (clause_exprs span_to ts)
-not_short ts (lex s short ∷ r) ns e = absurd cc
+not_short ts (lex s terminal.define ∷ r) ns e = absurd cc
 not_short ts r ns e = refl
 
 plain : (ts : Lexemes) (o : Option Lexemes) → skipped ts ≡ o → short_after o ≡ false → first_of ts ≢ code.Range → at span_to read_clause ts ≡ run (at span_to) (clause_exprs span_to ts)
@@ -121,13 +122,13 @@ clause_exprs_none w ts n d a =
 
 pub clause_assigns : (w ts r us vs : Lexemes) (xs : Exprs Span) → first_of ts ≢ code.Range → defines_here ts ≡ false → at span_to (read_exprs true) ts ≡ Some (xs, r) → range_here r ≡ true → us ≡ rest_of r → vs ≡ rest_of us → for_clause_at w ts ≡ range_at w (assigns xs) vs
 unfolding for_clause_at range_at
-clause_assigns w ts (lex s (becomes None) ∷ lex c key_range ∷ r) us vs xs n d a f u v =
+clause_assigns w ts (lex s (assign None) ∷ lex c key_range ∷ r) us vs xs n d a f u v =
     let read = plain ts (skipped ts) refl d n ∙ (asks span_to {k = λ xs r. clause_after span_to ts xs r} a (gives span_to)).is in
     (asks span_to {k = λ c r. for_after span_to w c r} read (record { is = refl })).is ∙ ap (λ (ws : Lexemes). run (at span_to) (for_after span_to w (range_clause (assigns xs)) ws)) (sym (v ∙ ap rest_of u))
 clause_assigns w ts _ us vs xs n d a f u v = absurd cc
 
 no_range : (ts r : Lexemes) (xs : Exprs Span) → range_here r ≡ false → run (at span_to) (clause_after span_to ts xs r) ≡ option_and_then {U = Clause Span × Lexemes} (λ x. Some (plain_clause x.0, x.1)) (at span_to (read_simple_after true ts xs) r)
-no_range ts (lex s (becomes None) ∷ lex c key_range ∷ r) xs e = absurd cc
+no_range ts (lex s (assign None) ∷ lex c key_range ∷ r) xs e = absurd cc
 no_range ts r xs e = refl
 
 pub clause_simple_none : (w ts r : Lexemes) (xs : Exprs Span) → first_of ts ≢ code.Range → defines_here ts ≡ false → at span_to (read_exprs true) ts ≡ Some (xs, r) → range_here r ≡ false → at span_to (read_simple_after true ts xs) r ≡ None → for_clause_at w ts ≡ None

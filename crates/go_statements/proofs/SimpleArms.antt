@@ -7,7 +7,8 @@ use Rattle.go_tree.specs.declared.exprs.Expr as source
 use Rattle.go_tree.specs.Lists.{exprs_from}
 use Rattle.go_tree.specs.View.{expr_of}
 use Rattle.go_tree.specs.Tree.{NameAt, Expr, Exprs, Stmt, no_exprs, expr_and, eval, step, assign, define}
-use Rattle.go_read.specs.SpellsTerminals.{lex, word, comma, becomes, short, increment, decrement}
+use Rattle.go_words.specs.Terminals as terminal
+use Rattle.go_words.specs.Terminals.{lex, ident, comma, increment, decrement}
 use Rattle.go_read.specs.SpellsSpans.{span_to}
 use Rattle.go_read.specs.SpellsTypes.{Lexemes}
 use Rattle.go_read.specs.Goals.{read_names, read_exprs, read_simple, read_simple_after}
@@ -16,8 +17,8 @@ use Rattle.go_read.specs.ReadTypes.{names_step}
 use Rattle.go_read.specs.ReadStmts.{simple_step, simple_names, simple_exprs, simple_after_step, one_expr, one_after}
 use Rattle.go_read.specs.Reading.{at}
 use Rattle.go_read.proofs.Finds.{gives, asks, looks, finish}
-use Rattle.go_productions.specs.declared.terminals.Terminal.{Terminal}
-use Rattle.go_productions.specs.declared.terminals.Terminal.TheVariants as code
+use Rattle.go_words.specs.declared.terminals.Terminal.{Terminal}
+use Rattle.go_words.specs.declared.terminals.Terminal.TheVariants as code
 use Rattle.go_productions.specs.Terminals.{first_of, rest_of, name_of}
 use Rattle.go_productions.specs.Parts.{skipped}
 use Rattle.go_statements.specs.StmtParts.{is_short, short_after, defines_here, define_at, only}
@@ -27,28 +28,28 @@ use Rattle.go_productions.proofs.Steps.{fails, lacks}
 
 pub names_skipped : (ts : Lexemes) → skipped ts ≡ None → at span_to read_names ts ≡ None
 unfolding names_step
-names_skipped (lex s (word n) ∷ lex c comma ∷ ts) h = finish span_to read_names (lex s (word n) ∷ lex c comma ∷ ts) (lacks (names_skipped ts h))
-names_skipped (lex s (word n) ∷ ts) h = absurd cc
+names_skipped (lex s (ident n) ∷ lex c comma ∷ ts) h = finish span_to read_names (lex s (ident n) ∷ lex c comma ∷ ts) (lacks (names_skipped ts h))
+names_skipped (lex s (ident n) ∷ ts) h = absurd cc
 names_skipped ts h = finish span_to read_names ts fails
 
 pub names_behind : (ts r : Lexemes) → skipped ts ≡ Some r → (ns : List (NameAt Span)) × (at span_to read_names ts ≡ Some (ns, r))
 unfolding names_step
-names_behind (lex s (word n) ∷ lex c comma ∷ ts) r h =
+names_behind (lex s (ident n) ∷ lex c comma ∷ ts) r h =
     let q = names_behind ts r h in
-    (name_of (lex s (word n) ∷ lex c comma ∷ ts) ∷ q.0, finish span_to read_names (lex s (word n) ∷ lex c comma ∷ ts) (asks span_to q.1 (gives span_to)))
-names_behind (lex s (word n) ∷ ts) r h =
-    (name_of (lex s (word n) ∷ ts) ∷ [], finish span_to read_names (lex s (word n) ∷ ts) (gives span_to) ∙ ap (λ (vs : Lexemes). Some (name_of (lex s (word n) ∷ ts) ∷ [], vs)) (let z : ts ≡ r = cc in z))
+    (name_of (lex s (ident n) ∷ lex c comma ∷ ts) ∷ q.0, finish span_to read_names (lex s (ident n) ∷ lex c comma ∷ ts) (asks span_to q.1 (gives span_to)))
+names_behind (lex s (ident n) ∷ ts) r h =
+    (name_of (lex s (ident n) ∷ ts) ∷ [], finish span_to read_names (lex s (ident n) ∷ ts) (gives span_to) ∙ ap (λ (vs : Lexemes). Some (name_of (lex s (ident n) ∷ ts) ∷ [], vs)) (let z : ts ≡ r = cc in z))
 names_behind _ r h = absurd cc
 
 -- ---- short variable declarations
 
 after_short : (h : Bool) (w r : Lexemes) (ns : List (NameAt Span)) → is_short (first_of r) ≡ true
     → run (at span_to) (simple_names span_to h w (Some (ns, r))) ≡ option_and_then (λ ys. Some (define (span_to w ys.1) ns ys.0, ys.1)) (at span_to (read_exprs h) (rest_of r))
-after_short h w (lex s short ∷ ts) ns e = refl
+after_short h w (lex s terminal.define ∷ ts) ns e = refl
 after_short h w _ ns e = absurd cc
 
 not_short : (h : Bool) (w r : Lexemes) (ns : List (NameAt Span)) → is_short (first_of r) ≡ false → run (at span_to) (simple_names span_to h w (Some (ns, r))) ≡ run (at span_to) (simple_exprs span_to h w)
-not_short h w (lex s short ∷ ts) ns e = absurd cc
+not_short h w (lex s terminal.define ∷ ts) ns e = absurd cc
 not_short h w r ns e = refl
 
 defined : (h : Bool) (ts : Lexemes) (o : Option Lexemes) → skipped ts ≡ o → short_after o ≡ true → at span_to (read_simple h) ts ≡ define_at h ts
@@ -98,21 +99,21 @@ define_some h ts r us q ns ys e u a =
 
 -- ---- after expressions
 
-pub assign_none : (h : Bool) (w ts us : Lexemes) (xs : Exprs Span) (op : Option BinOp) → first_of ts ≡ code.Becomes op → us ≡ rest_of ts → at span_to (read_exprs h) us ≡ None → at span_to (read_simple_after h w xs) ts ≡ None
+pub assign_none : (h : Bool) (w ts us : Lexemes) (xs : Exprs Span) (op : Option BinOp) → first_of ts ≡ code.Assign op → us ≡ rest_of ts → at span_to (read_exprs h) us ≡ None → at span_to (read_simple_after h w xs) ts ≡ None
 unfolding simple_after_step
-assign_none h w (lex s (becomes o) ∷ ts) us xs op f u a = finish span_to (read_simple_after h w xs) (lex s (becomes o) ∷ ts) (lacks (ap (at span_to (read_exprs h)) (sym u) ∙ a))
+assign_none h w (lex s (terminal.assign o) ∷ ts) us xs op f u a = finish span_to (read_simple_after h w xs) (lex s (terminal.assign o) ∷ ts) (lacks (ap (at span_to (read_exprs h)) (sym u) ∙ a))
 assign_none h w _ us xs op f u a = absurd cc
 
-pub assign_some : (h : Bool) (w ts us r : Lexemes) (xs ys : Exprs Span) (op : Option BinOp) → first_of ts ≡ code.Becomes op → us ≡ rest_of ts → at span_to (read_exprs h) us ≡ Some (ys, r) → at span_to (read_simple_after h w xs) ts ≡ Some (assign (span_to w r) xs op ys, r)
+pub assign_some : (h : Bool) (w ts us r : Lexemes) (xs ys : Exprs Span) (op : Option BinOp) → first_of ts ≡ code.Assign op → us ≡ rest_of ts → at span_to (read_exprs h) us ≡ Some (ys, r) → at span_to (read_simple_after h w xs) ts ≡ Some (assign (span_to w r) xs op ys, r)
 unfolding simple_after_step
-assign_some h w (lex s (becomes o) ∷ ts) us r xs ys op f u a =
-    finish span_to (read_simple_after h w xs) (lex s (becomes o) ∷ ts) (asks span_to (ap (at span_to (read_exprs h)) (sym u) ∙ a) (gives span_to))
+assign_some h w (lex s (terminal.assign o) ∷ ts) us r xs ys op f u a =
+    finish span_to (read_simple_after h w xs) (lex s (terminal.assign o) ∷ ts) (asks span_to (ap (at span_to (read_exprs h)) (sym u) ∙ a) (gives span_to))
     ∙ ap (λ (z : Option BinOp). Some (assign (span_to w r) xs z ys, r)) (let z : o ≡ op = cc in z)
 assign_some h w _ us r xs ys op f u a = absurd cc
 
-unassigned : (h : Bool) (w ts : Lexemes) (xs : Exprs Span) (k : Terminal) → first_of ts ≡ k → ((op : Option BinOp) → k ≢ code.Becomes op) → at span_to (read_simple_after h w xs) ts ≡ run (at span_to) (one_expr span_to w xs ts)
+unassigned : (h : Bool) (w ts : Lexemes) (xs : Exprs Span) (k : Terminal) → first_of ts ≡ k → ((op : Option BinOp) → k ≢ code.Assign op) → at span_to (read_simple_after h w xs) ts ≡ run (at span_to) (one_expr span_to w xs ts)
 unfolding simple_after_step
-unassigned h w (lex s (becomes o) ∷ ts) xs k f n = absurd (n o (sym f))
+unassigned h w (lex s (terminal.assign o) ∷ ts) xs k f n = absurd (n o (sym f))
 unassigned h w ts xs k f n = finish span_to (read_simple_after h w xs) ts (record { is = refl })
 
 two : (x : source.Expr) (xs : List source.Expr) (y : source.Expr) → only (exprs_from (map expr_of (x ∷ (xs ++ y ∷ [])))) ≡ None
@@ -137,7 +138,7 @@ single w ts no_exprs x e = absurd cc
 single w ts (expr_and y no_exprs) x e = ap (λ (z : Expr Span). run (at span_to) (one_after span_to w z ts)) (let z : y ≡ x = cc in z)
 single w ts (expr_and y (expr_and z zs)) x e = absurd cc
 
-pub after_several : (h : Bool) (w ts : Lexemes) (xs : Exprs Span) (k : Terminal) → first_of ts ≡ k → ((op : Option BinOp) → k ≢ code.Becomes op) → only xs ≡ None → at span_to (read_simple_after h w xs) ts ≡ None
+pub after_several : (h : Bool) (w ts : Lexemes) (xs : Exprs Span) (k : Terminal) → first_of ts ≡ k → ((op : Option BinOp) → k ≢ code.Assign op) → only xs ≡ None → at span_to (read_simple_after h w xs) ts ≡ None
 after_several h w ts xs k f n e = unassigned h w ts xs k f n ∙ several w ts xs e
 
 pub after_up : (h : Bool) (w ts us : Lexemes) (xs : Exprs Span) (x : Expr Span) → first_of ts ≡ code.Increment → us ≡ rest_of ts → only xs ≡ Some x → at span_to (read_simple_after h w xs) ts ≡ Some (step (span_to w us) x true, us)
@@ -157,5 +158,5 @@ not_stepped w (lex s increment ∷ ts) x k f a b = absurd (a (sym f))
 not_stepped w (lex s decrement ∷ ts) x k f a b = absurd (b (sym f))
 not_stepped w ts x k f a b = refl
 
-pub after_other : (h : Bool) (w ts : Lexemes) (xs : Exprs Span) (x : Expr Span) (k : Terminal) → first_of ts ≡ k → ((op : Option BinOp) → k ≢ code.Becomes op) → k ≢ code.Increment → k ≢ code.Decrement → only xs ≡ Some x → at span_to (read_simple_after h w xs) ts ≡ Some (eval (span_to w ts) x, ts)
+pub after_other : (h : Bool) (w ts : Lexemes) (xs : Exprs Span) (x : Expr Span) (k : Terminal) → first_of ts ≡ k → ((op : Option BinOp) → k ≢ code.Assign op) → k ≢ code.Increment → k ≢ code.Decrement → only xs ≡ Some x → at span_to (read_simple_after h w xs) ts ≡ Some (eval (span_to w ts) x, ts)
 after_other h w ts xs x k f n a b e = unassigned h w ts xs k f n ∙ single w ts xs x e ∙ not_stepped w ts x k f a b

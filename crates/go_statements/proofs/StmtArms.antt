@@ -6,7 +6,7 @@ use Rattle.go_tree.specs.declared.stmts.Stmt as source
 use Rattle.go_tree.specs.View.{stmt_of}
 use Rattle.go_tree.specs.Lists.{stmts_from}
 use Rattle.go_tree.specs.Tree.{Expr, Exprs, no_exprs, call, Stmt, Stmts, no_stmts, stmt_and, empty, return_, break_, continue_, inner, defer, label}
-use Rattle.go_read.specs.SpellsTerminals.{lex, word, colon, semicolon, brace, end_brace, key_break, key_case, key_const, key_continue, key_default, key_defer, key_for, key_if, key_return, key_switch, key_var}
+use Rattle.go_words.specs.Terminals.{lex, ident, colon, semicolon, brace, end_brace, key_break, key_case, key_const, key_continue, key_default, key_defer, key_for, key_if, key_return, key_switch, key_var}
 use Rattle.go_read.specs.SpellsSpans.{span_to}
 use Rattle.go_read.specs.SpellsTypes.{Lexemes}
 use Rattle.go_read.specs.Spells.{is_empty, SpellsStmt, SpellsSimple, empty_rule, simple_rule, eval_rule, increment_rule, decrement_rule, assign_rule, define_rule}
@@ -16,8 +16,8 @@ use Rattle.go_read.specs.ReadStmts.{stmt_step, stmts_step, stmts_after, return_s
 use Rattle.go_read.specs.Reading.{at}
 use Rattle.go_read.proofs.Finds.{Runs, gives, asks, passes, finish}
 use Rattle.go_read.proofs.Whole.{stmt_spelled}
-use Rattle.go_productions.specs.declared.terminals.Terminal.{Terminal}
-use Rattle.go_productions.specs.declared.terminals.Terminal.TheVariants as code
+use Rattle.go_words.specs.declared.terminals.Terminal.{Terminal}
+use Rattle.go_words.specs.declared.terminals.Terminal.TheVariants as code
 use Rattle.go_productions.specs.Terminals.{first_of, rest_of, name_of}
 use Rattle.go_productions.specs.Parts.{onto, in_front, const_decl_at, var_decl_at}
 use Rattle.go_statements.specs.StmtParts.{closes, ends_stmts, is_bare_call}
@@ -141,7 +141,7 @@ same_answer None = refl
 simple_run : (ts : Lexemes) → Runs span_to (word_stmt span_to ts) (at span_to (read_simple false) ts)
 simple_run ts = record { is = same_answer (at span_to (read_simple false) ts) }
 
-pub plain_stmt : (ts : Lexemes) (k : Terminal) → first_of ts ≡ k → k ≢ code.Const → k ≢ code.Var → k ≢ code.Brace → k ≢ code.Semicolon → k ≢ code.EndBrace → k ≢ code.Return → k ≢ code.Break → k ≢ code.Continue → k ≢ code.If → k ≢ code.For → k ≢ code.Switch → k ≢ code.Defer → k ≢ code.Word
+pub plain_stmt : (ts : Lexemes) (k : Terminal) → first_of ts ≡ k → k ≢ code.Const → k ≢ code.Var → k ≢ code.Brace → k ≢ code.Semicolon → k ≢ code.EndBrace → k ≢ code.Return → k ≢ code.Break → k ≢ code.Continue → k ≢ code.If → k ≢ code.For → k ≢ code.Switch → k ≢ code.Defer → k ≢ code.Ident
     → at span_to read_stmt ts ≡ at span_to (read_simple false) ts
 unfolding stmt_step
 plain_stmt (lex s key_const ∷ ts) z f a b c d e g h i j k l m n = absurd (a (sym f))
@@ -156,26 +156,26 @@ plain_stmt (lex s key_if ∷ ts) z f a b c d e g h i j k l m n = absurd (j (sym 
 plain_stmt (lex s key_for ∷ ts) z f a b c d e g h i j k l m n = absurd (k (sym f))
 plain_stmt (lex s key_switch ∷ ts) z f a b c d e g h i j k l m n = absurd (l (sym f))
 plain_stmt (lex s key_defer ∷ ts) z f a b c d e g h i j k l m n = absurd (m (sym f))
-plain_stmt (lex s (word w) ∷ ts) z f a b c d e g h i j k l m n = absurd (n (sym f))
+plain_stmt (lex s (ident w) ∷ ts) z f a b c d e g h i j k l m n = absurd (n (sym f))
 plain_stmt ts z f a b c d e g h i j k l m n = finish span_to read_stmt ts (simple_run ts)
 
-pub word_plain : (ts us : Lexemes) (k : Terminal) → first_of ts ≡ code.Word → us ≡ rest_of ts → first_of us ≡ k → k ≢ code.Colon → at span_to read_stmt ts ≡ at span_to (read_simple false) ts
+pub word_plain : (ts us : Lexemes) (k : Terminal) → first_of ts ≡ code.Ident → us ≡ rest_of ts → first_of us ≡ k → k ≢ code.Colon → at span_to read_stmt ts ≡ at span_to (read_simple false) ts
 unfolding stmt_step
-word_plain (lex s (word w) ∷ lex c colon ∷ ts) us k f u g n = absurd (n (sym g ∙ ap first_of u))
-word_plain (lex s (word w) ∷ ts) us k f u g n = finish span_to read_stmt (lex s (word w) ∷ ts) (simple_run (lex s (word w) ∷ ts))
+word_plain (lex s (ident w) ∷ lex c colon ∷ ts) us k f u g n = absurd (n (sym g ∙ ap first_of u))
+word_plain (lex s (ident w) ∷ ts) us k f u g n = finish span_to read_stmt (lex s (ident w) ∷ ts) (simple_run (lex s (ident w) ∷ ts))
 word_plain _ us k f u g n = absurd cc
 
-pub label_none : (ts us vs : Lexemes) → first_of ts ≡ code.Word → us ≡ rest_of ts → first_of us ≡ code.Colon → vs ≡ rest_of us → at span_to read_stmt vs ≡ None → at span_to read_stmt ts ≡ None
+pub label_none : (ts us vs : Lexemes) → first_of ts ≡ code.Ident → us ≡ rest_of ts → first_of us ≡ code.Colon → vs ≡ rest_of us → at span_to read_stmt vs ≡ None → at span_to read_stmt ts ≡ None
 unfolding stmt_step
-label_none (lex s (word w) ∷ lex c colon ∷ ts) us vs f u g v a = finish span_to read_stmt (lex s (word w) ∷ lex c colon ∷ ts) (lacks (ap (at span_to read_stmt) (sym (v ∙ ap rest_of u)) ∙ a))
-label_none (lex s (word w) ∷ ts) us vs f u g v a = let z = sym g ∙ ap first_of u in absurd cc
+label_none (lex s (ident w) ∷ lex c colon ∷ ts) us vs f u g v a = finish span_to read_stmt (lex s (ident w) ∷ lex c colon ∷ ts) (lacks (ap (at span_to read_stmt) (sym (v ∙ ap rest_of u)) ∙ a))
+label_none (lex s (ident w) ∷ ts) us vs f u g v a = let z = sym g ∙ ap first_of u in absurd cc
 label_none _ us vs f u g v a = absurd cc
 
-pub label_some : (ts us vs r : Lexemes) (x : Stmt Span) → first_of ts ≡ code.Word → us ≡ rest_of ts → first_of us ≡ code.Colon → vs ≡ rest_of us → at span_to read_stmt vs ≡ Some (x, r) → at span_to read_stmt ts ≡ Some (label (span_to ts r) (name_of ts) x, r)
+pub label_some : (ts us vs r : Lexemes) (x : Stmt Span) → first_of ts ≡ code.Ident → us ≡ rest_of ts → first_of us ≡ code.Colon → vs ≡ rest_of us → at span_to read_stmt vs ≡ Some (x, r) → at span_to read_stmt ts ≡ Some (label (span_to ts r) (name_of ts) x, r)
 unfolding stmt_step
-label_some (lex s (word w) ∷ lex c colon ∷ ts) us vs r x f u g v a =
-    finish span_to read_stmt (lex s (word w) ∷ lex c colon ∷ ts) (asks span_to (ap (at span_to read_stmt) (sym (v ∙ ap rest_of u)) ∙ a) (gives span_to))
-label_some (lex s (word w) ∷ ts) us vs r x f u g v a = let z = sym g ∙ ap first_of u in absurd cc
+label_some (lex s (ident w) ∷ lex c colon ∷ ts) us vs r x f u g v a =
+    finish span_to read_stmt (lex s (ident w) ∷ lex c colon ∷ ts) (asks span_to (ap (at span_to read_stmt) (sym (v ∙ ap rest_of u)) ∙ a) (gives span_to))
+label_some (lex s (ident w) ∷ ts) us vs r x f u g v a = let z = sym g ∙ ap first_of u in absurd cc
 label_some _ us vs r x f u g v a = absurd cc
 
 -- ---- `return`, `break`, `continue`, `defer`
@@ -204,33 +204,33 @@ return_none ts us f u e a = return_is ts us f u ∙ returning ts us e ∙ (lacks
 pub return_some : (ts us r : Lexemes) (xs : Exprs Span) → first_of ts ≡ code.Return → us ≡ rest_of ts → closes (first_of us) ≡ false → at span_to (read_exprs false) us ≡ Some (xs, r) → at span_to read_stmt ts ≡ Some (return_ (span_to ts r) xs, r)
 return_some ts us r xs f u e a = return_is ts us f u ∙ returning ts us e ∙ (asks span_to {k = λ xs r. give (return_ (span_to ts r) xs) r} a (gives span_to)).is
 
-pub break_alone : (ts us : Lexemes) (k : Terminal) → first_of ts ≡ code.Break → us ≡ rest_of ts → first_of us ≡ k → k ≢ code.Word → at span_to read_stmt ts ≡ Some (break_ (span_to ts us) None, us)
+pub break_alone : (ts us : Lexemes) (k : Terminal) → first_of ts ≡ code.Break → us ≡ rest_of ts → first_of us ≡ k → k ≢ code.Ident → at span_to read_stmt ts ≡ Some (break_ (span_to ts us) None, us)
 unfolding stmt_step
-break_alone (lex s key_break ∷ (lex c (word w) ∷ ts)) us k f u g n = absurd (n (sym g ∙ ap first_of u))
+break_alone (lex s key_break ∷ (lex c (ident w) ∷ ts)) us k f u g n = absurd (n (sym g ∙ ap first_of u))
 break_alone (lex s key_break ∷ ts) us k f u g n = finish span_to read_stmt (lex s key_break ∷ ts) (gives span_to) ∙ ap (λ (vs : Lexemes). Some (break_ (span_to (lex s key_break ∷ ts) vs) None, vs)) (sym u)
 break_alone _ us k f u g n = absurd cc
 
-pub break_label : (ts us vs : Lexemes) → first_of ts ≡ code.Break → us ≡ rest_of ts → first_of us ≡ code.Word → vs ≡ rest_of us → at span_to read_stmt ts ≡ Some (break_ (span_to ts vs) (Some (name_of us)), vs)
+pub break_label : (ts us vs : Lexemes) → first_of ts ≡ code.Break → us ≡ rest_of ts → first_of us ≡ code.Ident → vs ≡ rest_of us → at span_to read_stmt ts ≡ Some (break_ (span_to ts vs) (Some (name_of us)), vs)
 unfolding stmt_step
-break_label (lex s key_break ∷ (lex c (word w) ∷ ts)) us vs f u g v =
-    finish span_to read_stmt (lex s key_break ∷ (lex c (word w) ∷ ts)) (gives span_to)
-    ∙ ap (λ (ys : Lexemes). Some (break_ (span_to (lex s key_break ∷ (lex c (word w) ∷ ts)) (rest_of ys)) (Some (name_of ys)), rest_of ys)) (sym u)
-    ∙ ap (λ (ys : Lexemes). Some (break_ (span_to (lex s key_break ∷ (lex c (word w) ∷ ts)) ys) (Some (name_of us)), ys)) (sym v)
+break_label (lex s key_break ∷ (lex c (ident w) ∷ ts)) us vs f u g v =
+    finish span_to read_stmt (lex s key_break ∷ (lex c (ident w) ∷ ts)) (gives span_to)
+    ∙ ap (λ (ys : Lexemes). Some (break_ (span_to (lex s key_break ∷ (lex c (ident w) ∷ ts)) (rest_of ys)) (Some (name_of ys)), rest_of ys)) (sym u)
+    ∙ ap (λ (ys : Lexemes). Some (break_ (span_to (lex s key_break ∷ (lex c (ident w) ∷ ts)) ys) (Some (name_of us)), ys)) (sym v)
 break_label (lex s key_break ∷ ts) us vs f u g v = let z = sym g ∙ ap first_of u in absurd cc
 break_label _ us vs f u g v = absurd cc
 
-pub continue_alone : (ts us : Lexemes) (k : Terminal) → first_of ts ≡ code.Continue → us ≡ rest_of ts → first_of us ≡ k → k ≢ code.Word → at span_to read_stmt ts ≡ Some (continue_ (span_to ts us) None, us)
+pub continue_alone : (ts us : Lexemes) (k : Terminal) → first_of ts ≡ code.Continue → us ≡ rest_of ts → first_of us ≡ k → k ≢ code.Ident → at span_to read_stmt ts ≡ Some (continue_ (span_to ts us) None, us)
 unfolding stmt_step
-continue_alone (lex s key_continue ∷ (lex c (word w) ∷ ts)) us k f u g n = absurd (n (sym g ∙ ap first_of u))
+continue_alone (lex s key_continue ∷ (lex c (ident w) ∷ ts)) us k f u g n = absurd (n (sym g ∙ ap first_of u))
 continue_alone (lex s key_continue ∷ ts) us k f u g n = finish span_to read_stmt (lex s key_continue ∷ ts) (gives span_to) ∙ ap (λ (vs : Lexemes). Some (continue_ (span_to (lex s key_continue ∷ ts) vs) None, vs)) (sym u)
 continue_alone _ us k f u g n = absurd cc
 
-pub continue_label : (ts us vs : Lexemes) → first_of ts ≡ code.Continue → us ≡ rest_of ts → first_of us ≡ code.Word → vs ≡ rest_of us → at span_to read_stmt ts ≡ Some (continue_ (span_to ts vs) (Some (name_of us)), vs)
+pub continue_label : (ts us vs : Lexemes) → first_of ts ≡ code.Continue → us ≡ rest_of ts → first_of us ≡ code.Ident → vs ≡ rest_of us → at span_to read_stmt ts ≡ Some (continue_ (span_to ts vs) (Some (name_of us)), vs)
 unfolding stmt_step
-continue_label (lex s key_continue ∷ (lex c (word w) ∷ ts)) us vs f u g v =
-    finish span_to read_stmt (lex s key_continue ∷ (lex c (word w) ∷ ts)) (gives span_to)
-    ∙ ap (λ (ys : Lexemes). Some (continue_ (span_to (lex s key_continue ∷ (lex c (word w) ∷ ts)) (rest_of ys)) (Some (name_of ys)), rest_of ys)) (sym u)
-    ∙ ap (λ (ys : Lexemes). Some (continue_ (span_to (lex s key_continue ∷ (lex c (word w) ∷ ts)) ys) (Some (name_of us)), ys)) (sym v)
+continue_label (lex s key_continue ∷ (lex c (ident w) ∷ ts)) us vs f u g v =
+    finish span_to read_stmt (lex s key_continue ∷ (lex c (ident w) ∷ ts)) (gives span_to)
+    ∙ ap (λ (ys : Lexemes). Some (continue_ (span_to (lex s key_continue ∷ (lex c (ident w) ∷ ts)) (rest_of ys)) (Some (name_of ys)), rest_of ys)) (sym u)
+    ∙ ap (λ (ys : Lexemes). Some (continue_ (span_to (lex s key_continue ∷ (lex c (ident w) ∷ ts)) ys) (Some (name_of us)), ys)) (sym v)
 continue_label (lex s key_continue ∷ ts) us vs f u g v = let z = sym g ∙ ap first_of u in absurd cc
 continue_label _ us vs f u g v = absurd cc
 
@@ -240,13 +240,13 @@ defer_none (lex s key_defer ∷ ts) us f u a = finish span_to read_stmt (lex s k
 defer_none _ us f u a = absurd cc
 
 not_deferred : (w r : Lexemes) (e : Expr Span) (b : Bool) → is_bare_call e b ≡ false → Runs span_to (defer_after span_to w (e, b) r) None
-not_deferred w r (call s f xs) true h = absurd cc
-not_deferred w r (call s f xs) false h = record { is = refl }
+not_deferred w r (call s f xs rest) true h = absurd cc
+not_deferred w r (call s f xs rest) false h = record { is = refl }
 not_deferred w r e b h = record { is = refl }
 
 deferred : (w r : Lexemes) (e : Expr Span) (b : Bool) → is_bare_call e b ≡ true → Runs span_to (defer_after span_to w (e, b) r) (Some (defer (span_to w r) e, r))
-deferred w r (call s f xs) true h = gives span_to
-deferred w r (call s f xs) false h = absurd cc
+deferred w r (call s f xs rest) true h = gives span_to
+deferred w r (call s f xs rest) false h = absurd cc
 deferred w r _ b h = absurd cc
 
 pub defer_stop : (ts us r : Lexemes) (e : Expr Span) (b : Bool) → first_of ts ≡ code.Defer → us ≡ rest_of ts → at span_to (read_expr 1 false) us ≡ Some ((e, b), r) → is_bare_call e b ≡ false → at span_to read_stmt ts ≡ None

@@ -2,22 +2,22 @@
 use Rattle.std.specs.Prelude.{Bool, true, false, List, ◌∷◌, Option, Some, None, option_and_then}
 use Rattle.go_tree.specs.declared.spans.Span.{Span}
 use Rattle.go_tree.specs.Tree.{NameAt, TypeExpr, Expr, Exprs, ExprOption, Stmt, Stmts, StmtOption, BlockOption, RangeLeft, Arms, arm, Cases, case, ValueSpecs, spec, define, eval, call, expr_and, no_exprs}
-use Rattle.go_read.specs.SpellsTerminals.{lex, becomes, colon, key_case, key_default, key_range}
+use Rattle.go_words.specs.Terminals.{lex, assign, colon, key_case, key_default, key_range}
 use Rattle.go_read.specs.SpellsSpans.{span_to}
 use Rattle.go_read.specs.SpellsTypes.{Lexemes}
 use Rattle.go_read.specs.Goals.{range_clause, read_names, read_exprs, read_clause, read_arm, read_spec, read_stmts}
 use Rattle.go_read.specs.Programs.{ask, run}
 use Rattle.go_read.specs.ReadStmts.{arm_body, arm_test, for_body, for_post, for_test, for_plain, for_after, switch_body, switch_tag}
 use Rattle.go_read.specs.Reading.{at}
-use Rattle.go_productions.specs.declared.terminals.Terminal.{Terminal}
-use Rattle.go_productions.specs.declared.terminals.Terminal.TheVariants as code
+use Rattle.go_words.specs.declared.terminals.Terminal.{Terminal}
+use Rattle.go_words.specs.declared.terminals.Terminal.TheVariants as code
 use Rattle.go_productions.specs.Terminals.{first_of, rest_of}
 use Rattle.go_productions.specs.Parts.{skipped}
 
 -- ---- simple statements
 
 abbrev pub is_short : Terminal → Bool
-is_short code.Short = true
+is_short code.Define = true
 is_short _ = false
 
 abbrev pub short_after : Option Lexemes → Bool
@@ -43,14 +43,14 @@ only (expr_and e no_exprs) = Some e
 only _ = None
 
 abbrev pub is_bare_call : Expr Span → Bool → Bool
-is_bare_call (call s f xs) true = true
+is_bare_call (call s f xs rest) true = true
 is_bare_call _ _ = false
 
 -- ---- `for`
 
 -- `=` and `range`
 abbrev pub range_here : Lexemes → Bool
-range_here (lex s (becomes None) ∷ lex c key_range ∷ ts) = true
+range_here (lex s (assign None) ∷ lex c key_range ∷ ts) = true
 range_here _ = false
 
 unfoldable pub for_body_at : Lexemes → StmtOption Span → ExprOption Span → StmtOption Span → Lexemes → Option (Stmt Span × Lexemes)
@@ -130,7 +130,7 @@ abbrev pub spec_and : Span × List (NameAt Span) × Option (TypeExpr Span) × Ex
 spec_and x ss = spec x.0 x.1 x.2 x.3 ss
 
 abbrev pub is_equals : Terminal → Bool
-is_equals (code.Becomes None) = true
+is_equals (code.Assign None) = true
 is_equals _ = false
 
 -- whether constants of a group end here, which have the values of those before them

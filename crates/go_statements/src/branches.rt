@@ -2,8 +2,8 @@
 
 ghost use Rattle.std.specs.Prelude.{◌≡◌, true, map, ◌<◌, ◌≤◌, length};
 ghost use Rattle.go_tree.specs.Lists.{exprs_from};
-ghost use Rattle.go_tree.specs.View.{arm_of, boxed_stmt_option_of, case_of, cases_of, expr_of, plain_expr_option_of, stmt_of};
-ghost use Rattle.go_read.specs.SpellsTerminals.{lexemes};
+ghost use Rattle.go_tree.specs.View.{arm_of, boxed_expr_option_of, boxed_stmt_option_of, case_of, cases_of, expr_of, stmt_of};
+ghost use Rattle.go_words.specs.Terminals.{lexemes};
 ghost use Rattle.go_read.specs.SpellsSpans.{span_to};
 ghost use Rattle.go_read.specs.Goals.{read_cases, read_stmt};
 ghost use Rattle.go_read.specs.Reading.{at};
@@ -12,17 +12,16 @@ ghost use Rattle.go_productions.specs.Answers.{Gives, Shorter, Within};
 ghost use Rattle.go_statements.specs.StmtParts.{arm_at, arm_body_at, arm_test_at, case_at, case_body_at, case_here, switch_body_at, switch_tag_at};
 ghost use Rattle.go_productions.specs.Terminals.{first_of};
 
+use crate::parts::{evaluated, unboxed};
 use crate::simple_stmts::simple_stmt;
-use crate::stmt_builders::{build_arm, build_case, build_if, build_switch, evaluated};
 use go_expressions::{Bodies, Taken, block, expr_list, expression, statements};
-use go_productions::{Reading, Terminal, first, rest, span_between};
-use go_tree::{Arm, Case, CaseList, Expr, Stmt, Token};
-use std::alloc::Global;
+use go_productions::{Reading, first, rest, span_between};
+use go_tree::{Arm, ArmList, Case, CaseList, Expr, ExprList, Stmt, Token};
+use go_words::Terminal;
 
 /// An `if` statement, which begins with its keyword; arms after `else` belong to it.
 #[tactic(auto, using(crate::proofs::BranchArms::if_lost, crate::proofs::BranchArms::if_alone, crate::proofs::BranchArms::if_open, crate::proofs::BranchArms::if_else, crate::proofs::BranchArms::if_more))]
 pub(crate) fn if_stmt<'a, F: Fn(&[Token]) -> Taken>(
-    alloc: Global,
     tokens: &'a [Token],
     bodies: &Bodies<F>,
 ) -> Reading<'a, Stmt>
@@ -32,16 +31,16 @@ pub(crate) fn if_stmt<'a, F: Fn(&[Token]) -> Taken>(
     ensures gives { Gives (λ x. (stmt_of x.0, lexemes x.1.now)) result (at span_to read_stmt (lexemes tokens.now)) }
     ensures shorter { Shorter (λ x. x.1.now) result tokens.now }
 {
-    let mut arms = Vec::new(alloc);
+    let mut arms = Vec::new(bodies.room.alloc);
     let mut left = tokens;
     loop {
-        let Some((arm, after)) = arm(alloc, left, bodies)? else {
+        let Some((arm, after)) = arm(left, bodies)? else {
             return Ok(None);
         };
         arms.push(arm)?;
         let Terminal::Else = first(after) else {
             let span = span_between(tokens, after);
-            return Ok(Some((build_if(span, arms, None), after)));
+            return Ok(Some((go_tree::if_stmt(span, ArmList::of(arms), None), after)));
         };
         left = rest(after);
         let Terminal::If = first(left) else {
@@ -49,18 +48,14 @@ pub(crate) fn if_stmt<'a, F: Fn(&[Token]) -> Taken>(
                 return Ok(None);
             };
             let span = span_between(tokens, left);
-            return Ok(Some((build_if(span, arms, Some(last)), left)));
+            return Ok(Some((go_tree::if_stmt(span, ArmList::of(arms), Some(last)), left)));
         };
     }
 }
 
 /// `if`, the statement before the test where one stands there, the test and the block.
 #[tactic(auto, using(crate::proofs::BranchArms::arm_open, crate::proofs::BranchArms::arm_no_first, crate::proofs::BranchArms::arm_lost, crate::proofs::BranchArms::arm_first_stmt, crate::proofs::BranchArms::arm_stop, crate::proofs::BranchArms::arm_evaluated))]
-fn arm<'a, F: Fn(&[Token]) -> Taken>(
-    alloc: Global,
-    tokens: &'a [Token],
-    bodies: &Bodies<F>,
-) -> Reading<'a, Arm>
+fn arm<'a, F: Fn(&[Token]) -> Taken>(tokens: &'a [Token], bodies: &Bodies<F>) -> Reading<'a, Arm>
     requires reads { ReadsBelow (F.pre bodies.now.read) (F.post bodies.now.read) bodies.now.limit }
     requires within { length tokens.now ≤ bodies.now.limit }
     ensures gives { Gives (λ x. (arm_of x.0, lexemes x.1.now)) result (arm_at (lexemes tokens.now)) }
@@ -71,24 +66,24 @@ fn arm<'a, F: Fn(&[Token]) -> Taken>(
     };
     let left = rest(tokens);
     if let Terminal::Semicolon = first(left) {
-        return arm_test(alloc, tokens, None, rest(left), bodies);
+        return arm_test(tokens, None, rest(left), bodies);
     }
-    let Some((first_stmt, left)) = simple_stmt(alloc, left, true, bodies)? else {
+    let Some((first_stmt, left)) = simple_stmt(left, true, bodies)? else {
         return Ok(None);
     };
     if let Terminal::Semicolon = first(left) {
-        let first_stmt = Some(Box::new(alloc, first_stmt)?);
-        return arm_test(alloc, tokens, first_stmt, rest(left), bodies);
+        let first_stmt = Some(Box::new(bodies.room.alloc, first_stmt)?);
+        return arm_test(tokens, first_stmt, rest(left), bodies);
     }
     let Some(test) = evaluated(first_stmt) else {
         return Ok(None);
     };
-    arm_body(alloc, tokens, None, test, left, bodies)
+    let test = Box::new(bodies.room.alloc, test)?;
+    arm_body(tokens, None, test, left, bodies)
 }
 
 #[tactic(auto, using(crate::proofs::BranchArms::arm_untested, crate::proofs::BranchArms::arm_tested))]
 fn arm_test<'a, F: Fn(&[Token]) -> Taken>(
-    alloc: Global,
     whole: &[Token],
     first_stmt: Option<Box<Stmt>>,
     tokens: &'a [Token],
@@ -99,37 +94,39 @@ fn arm_test<'a, F: Fn(&[Token]) -> Taken>(
     ensures gives { Gives (λ x. (arm_of x.0, lexemes x.1.now)) result (arm_test_at (lexemes whole.now) (boxed_stmt_option_of first_stmt) (lexemes tokens.now)) }
     ensures shorter { Shorter (λ x. x.1.now) result tokens.now }
 {
-    let Some((test, left)) = expression(alloc, tokens, true, bodies)? else {
+    let Some((test, left)) = expression(tokens, true, bodies)? else {
         return Ok(None);
     };
-    arm_body(alloc, whole, first_stmt, test, left, bodies)
+    let test = Box::new(bodies.room.alloc, test)?;
+    arm_body(whole, first_stmt, test, left, bodies)
 }
 
 #[tactic(auto, using(crate::proofs::BranchArms::arm_bodiless, crate::proofs::BranchArms::arm_some))]
 fn arm_body<'a, F: Fn(&[Token]) -> Taken>(
-    alloc: Global,
     whole: &[Token],
     first_stmt: Option<Box<Stmt>>,
-    test: Expr,
+    test: Box<Expr>,
     tokens: &'a [Token],
     bodies: &Bodies<F>,
 ) -> Reading<'a, Arm>
     requires reads { ReadsBelow (F.pre bodies.now.read) (F.post bodies.now.read) bodies.now.limit }
     requires within { length tokens.now ≤ bodies.now.limit }
-    ensures gives { Gives (λ x. (arm_of x.0, lexemes x.1.now)) result (arm_body_at (lexemes whole.now) (boxed_stmt_option_of first_stmt) (expr_of test) (lexemes tokens.now)) }
+    ensures gives { Gives (λ x. (arm_of x.0, lexemes x.1.now)) result (arm_body_at (lexemes whole.now) (boxed_stmt_option_of first_stmt) (expr_of test.value) (lexemes tokens.now)) }
     ensures shorter { Shorter (λ x. x.1.now) result tokens.now }
 {
     let Some((body, left)) = block(tokens, bodies)? else {
         return Ok(None);
     };
     let span = span_between(whole, left);
-    Ok(Some((build_arm(span, first_stmt, test, body), left)))
+    Ok(Some((
+        Arm::new(span, first_stmt, Box::into_inner(test), body),
+        left,
+    )))
 }
 
 /// A `switch` statement, which begins with its keyword.
 #[tactic(auto, using(crate::proofs::BranchArms::switch_bare, crate::proofs::BranchArms::switch_no_first, crate::proofs::BranchArms::switch_lost, crate::proofs::BranchArms::switch_first_stmt, crate::proofs::BranchArms::switch_stop, crate::proofs::BranchArms::switch_open, crate::proofs::BranchArms::switch_tagged))]
 pub(crate) fn switch_stmt<'a, F: Fn(&[Token]) -> Taken>(
-    alloc: Global,
     tokens: &'a [Token],
     bodies: &Bodies<F>,
 ) -> Reading<'a, Stmt>
@@ -141,30 +138,30 @@ pub(crate) fn switch_stmt<'a, F: Fn(&[Token]) -> Taken>(
 {
     let left = rest(tokens);
     if let Terminal::Brace = first(left) {
-        return switch_body(alloc, tokens, None, None, rest(left), bodies);
+        return switch_body(tokens, None, None, rest(left), bodies);
     }
     if let Terminal::Semicolon = first(left) {
-        return switch_tag(alloc, tokens, None, rest(left), bodies);
+        return switch_tag(tokens, None, rest(left), bodies);
     }
-    let Some((first_stmt, left)) = simple_stmt(alloc, left, true, bodies)? else {
+    let Some((first_stmt, left)) = simple_stmt(left, true, bodies)? else {
         return Ok(None);
     };
     if let Terminal::Semicolon = first(left) {
-        let first_stmt = Some(Box::new(alloc, first_stmt)?);
-        return switch_tag(alloc, tokens, first_stmt, rest(left), bodies);
+        let first_stmt = Some(Box::new(bodies.room.alloc, first_stmt)?);
+        return switch_tag(tokens, first_stmt, rest(left), bodies);
     }
     let Some(tag) = evaluated(first_stmt) else {
         return Ok(None);
     };
+    let tag = Box::new(bodies.room.alloc, tag)?;
     let Terminal::Brace = first(left) else {
         return Ok(None);
     };
-    switch_body(alloc, tokens, None, Some(tag), rest(left), bodies)
+    switch_body(tokens, None, Some(tag), rest(left), bodies)
 }
 
 #[tactic(auto, using(crate::proofs::BranchArms::tag_absent, crate::proofs::BranchArms::tag_none, crate::proofs::BranchArms::tag_open, crate::proofs::BranchArms::tag_some))]
 fn switch_tag<'a, F: Fn(&[Token]) -> Taken>(
-    alloc: Global,
     whole: &[Token],
     first_stmt: Option<Box<Stmt>>,
     tokens: &'a [Token],
@@ -176,33 +173,33 @@ fn switch_tag<'a, F: Fn(&[Token]) -> Taken>(
     ensures shorter { Shorter (λ x. x.1.now) result tokens.now }
 {
     if let Terminal::Brace = first(tokens) {
-        return switch_body(alloc, whole, first_stmt, None, rest(tokens), bodies);
+        return switch_body(whole, first_stmt, None, rest(tokens), bodies);
     }
-    let Some((tag, left)) = expression(alloc, tokens, true, bodies)? else {
+    let Some((tag, left)) = expression(tokens, true, bodies)? else {
         return Ok(None);
     };
+    let tag = Box::new(bodies.room.alloc, tag)?;
     let Terminal::Brace = first(left) else {
         return Ok(None);
     };
-    switch_body(alloc, whole, first_stmt, Some(tag), rest(left), bodies)
+    switch_body(whole, first_stmt, Some(tag), rest(left), bodies)
 }
 
 /// The clauses of a `switch` and its closing brace.
 #[tactic(auto, using(crate::proofs::BranchArms::switch_none, crate::proofs::BranchArms::switch_end, crate::proofs::BranchArms::switch_some))]
 fn switch_body<'a, F: Fn(&[Token]) -> Taken>(
-    alloc: Global,
     whole: &[Token],
     first_stmt: Option<Box<Stmt>>,
-    tag: Option<Expr>,
+    tag: Option<Box<Expr>>,
     tokens: &'a [Token],
     bodies: &Bodies<F>,
 ) -> Reading<'a, Stmt>
     requires reads { ReadsBelow (F.pre bodies.now.read) (F.post bodies.now.read) bodies.now.limit }
     requires within { length tokens.now ≤ bodies.now.limit }
-    ensures gives { Gives (λ x. (stmt_of x.0, lexemes x.1.now)) result (switch_body_at (lexemes whole.now) (boxed_stmt_option_of first_stmt) (plain_expr_option_of tag) (lexemes tokens.now)) }
+    ensures gives { Gives (λ x. (stmt_of x.0, lexemes x.1.now)) result (switch_body_at (lexemes whole.now) (boxed_stmt_option_of first_stmt) (boxed_expr_option_of tag) (lexemes tokens.now)) }
     ensures shorter { Shorter (λ x. x.1.now) result tokens.now }
 {
-    let Some((cases, left)) = case_list(alloc, tokens, bodies)? else {
+    let Some((cases, left)) = case_list(tokens, bodies)? else {
         return Ok(None);
     };
     let Terminal::EndBrace = first(left) else {
@@ -210,13 +207,15 @@ fn switch_body<'a, F: Fn(&[Token]) -> Taken>(
     };
     let left = rest(left);
     let span = span_between(whole, left);
-    Ok(Some((build_switch(span, first_stmt, tag, cases), left)))
+    Ok(Some((
+        go_tree::switch_stmt(span, first_stmt, unboxed(tag), cases),
+        left,
+    )))
 }
 
 /// The clauses of a `switch`.
 #[tactic(auto, using(crate::proofs::CaseArms::cases_end, crate::proofs::CaseArms::cases_lost, crate::proofs::CaseArms::cases_more))]
 fn case_list<'a, F: Fn(&[Token]) -> Taken>(
-    alloc: Global,
     tokens: &'a [Token],
     bodies: &Bodies<F>,
 ) -> Reading<'a, CaseList>
@@ -225,10 +224,10 @@ fn case_list<'a, F: Fn(&[Token]) -> Taken>(
     ensures gives { Gives (λ x. (cases_of x.0, lexemes x.1.now)) result (at span_to read_cases (lexemes tokens.now)) }
     ensures within { Within (λ x. x.1.now) result tokens.now }
 {
-    let mut items = Vec::new(alloc);
+    let mut items = Vec::new(bodies.room.alloc);
     let mut left = tokens;
     while begins_case(left) {
-        let Some((item, after)) = case_clause(alloc, left, bodies)? else {
+        let Some((item, after)) = case_clause(left, bodies)? else {
             return Ok(None);
         };
         items.push(item)?;
@@ -251,7 +250,6 @@ fn begins_case(tokens: &[Token]) -> bool
 /// A clause of a `switch`.
 #[tactic(auto, using(crate::proofs::CaseArms::default_on, crate::proofs::CaseArms::case_none, crate::proofs::CaseArms::case_open, crate::proofs::CaseArms::case_on))]
 fn case_clause<'a, F: Fn(&[Token]) -> Taken>(
-    alloc: Global,
     tokens: &'a [Token],
     bodies: &Bodies<F>,
 ) -> Reading<'a, Case>
@@ -262,21 +260,25 @@ fn case_clause<'a, F: Fn(&[Token]) -> Taken>(
     ensures shorter { Shorter (λ x. x.1.now) result tokens.now }
 {
     let Terminal::Case = first(tokens) else {
-        return case_body(alloc, tokens, Vec::new(alloc), rest(rest(tokens)), bodies);
+        return case_body(
+            tokens,
+            Vec::new(bodies.room.alloc),
+            rest(rest(tokens)),
+            bodies,
+        );
     };
-    let Some((values, left)) = expr_list(alloc, rest(tokens), false, bodies)? else {
+    let Some((values, left)) = expr_list(rest(tokens), false, bodies)? else {
         return Ok(None);
     };
     let Terminal::Colon = first(left) else {
         return Ok(None);
     };
-    case_body(alloc, tokens, values, rest(left), bodies)
+    case_body(tokens, values, rest(left), bodies)
 }
 
 /// The statements of a clause.
 #[tactic(auto, using(crate::proofs::CaseArms::case_body_none, crate::proofs::CaseArms::case_body_some))]
 fn case_body<'a, F: Fn(&[Token]) -> Taken>(
-    alloc: Global,
     whole: &[Token],
     values: Vec<Expr>,
     tokens: &'a [Token],
@@ -291,5 +293,5 @@ fn case_body<'a, F: Fn(&[Token]) -> Taken>(
         return Ok(None);
     };
     let span = span_between(whole, left);
-    Ok(Some((build_case(span, values, body), left)))
+    Ok(Some((Case::new(span, ExprList::of(values), body), left)))
 }

@@ -3,7 +3,7 @@
 ghost use Rattle.std.specs.Prelude.{◌≡◌, IfOk, map, ◌<◌, ◌≤◌, length};
 ghost use Rattle.go_tree.specs.Lists.{specs_from};
 ghost use Rattle.go_tree.specs.View.{const_decl_of, const_spec_of, const_specs_of, var_decl_of, var_spec_of};
-ghost use Rattle.go_read.specs.SpellsTerminals.{lexemes};
+ghost use Rattle.go_words.specs.Terminals.{lexemes};
 ghost use Rattle.go_read.specs.SpellsSpans.{span_to};
 ghost use Rattle.go_read.specs.Goals.{read_decl, read_specs};
 ghost use Rattle.go_read.specs.Reading.{at};
@@ -12,43 +12,48 @@ ghost use Rattle.go_productions.specs.Answers.{Gives, Shorter, Within};
 ghost use Rattle.go_productions.specs.Parts.{const_decl_at, var_decl_at};
 ghost use Rattle.go_statements.specs.StmtParts.{is_equals, repeats, spec_at};
 
-use crate::stmt_builders::{build_const_decl, build_spec, build_var_decl};
 use crate::stmts::taken;
 use go_expressions::{Bodies, Taken, expr_list};
-use go_productions::{Reading, Terminal, first, names, rest, span_between, type_expr};
-use go_tree::{ConstDecl, ConstSpec, ConstSpecList, NoMemory, Token, VarDecl, VarSpec};
-use std::alloc::Global;
+use go_productions::{Reading, Room, first, names, rest, span_between, type_expr};
+use go_tree::{
+    ConstDecl, ConstSpec, ConstSpecList, ExprList, NoMemory, Token, VarDecl, VarSpec, VarSpecList,
+};
+use go_words::Terminal;
 
 /// A declaration of constants. The first token is its keyword.
 #[tactic(auto, using(crate::proofs::DeclArms::const_decl_none, crate::proofs::DeclArms::const_decl_some))]
-pub fn const_decl(alloc: Global, tokens: &[Token]) -> Reading<ConstDecl>
+pub fn const_decl<'a>(room: &Room, tokens: &'a [Token]) -> Reading<'a, ConstDecl>
     ensures gives { Gives (λ x. (const_decl_of x.0, lexemes x.1.now)) result (const_decl_at (lexemes tokens.now)) }
     ensures shorter { Shorter (λ x. x.1.now) result tokens.now }
 {
-    let Some(((grouped, specs), left)) = file_decl(alloc, rest(tokens), true)? else {
+    let Some(((grouped, specs), left)) = file_decl(room, rest(tokens), true)? else {
         return Ok(None);
     };
     let span = span_between(tokens, left);
-    let specs = const_specs(alloc, specs)?;
-    Ok(Some((build_const_decl(span, grouped, specs), left)))
+    let specs = const_specs(room, specs)?;
+    Ok(Some((ConstDecl::new(span, grouped, specs), left)))
 }
 
 /// A declaration of variables. The first token is its keyword.
 #[tactic(auto, using(crate::proofs::DeclArms::var_decl_none, crate::proofs::DeclArms::var_decl_some))]
-pub fn var_decl(alloc: Global, tokens: &[Token]) -> Reading<VarDecl>
+pub fn var_decl<'a>(room: &Room, tokens: &'a [Token]) -> Reading<'a, VarDecl>
     ensures gives { Gives (λ x. (var_decl_of x.0, lexemes x.1.now)) result (var_decl_at (lexemes tokens.now)) }
     ensures shorter { Shorter (λ x. x.1.now) result tokens.now }
 {
-    let Some(((grouped, specs), left)) = file_decl(alloc, rest(tokens), false)? else {
+    let Some(((grouped, specs), left)) = file_decl(room, rest(tokens), false)? else {
         return Ok(None);
     };
     let span = span_between(tokens, left);
-    Ok(Some((build_var_decl(span, grouped, specs), left)))
+    Ok(Some((VarDecl::new(span, grouped, VarSpecList::of(specs)), left)))
 }
 
 /// The specs of a declaration outside of functions, and whether it is a group.
 #[tactic(auto, using(crate::proofs::TakenArms::stmts_are_taken))]
-fn file_decl(alloc: Global, tokens: &[Token], constant: bool) -> Reading<(bool, Vec<VarSpec>)>
+fn file_decl<'a>(
+    room: &Room,
+    tokens: &'a [Token],
+    constant: bool,
+) -> Reading<'a, (bool, Vec<VarSpec>)>
     ensures gives { Gives (λ x. ((x.0.0, specs_from (map var_spec_of x.0.1.items)), lexemes x.1.now)) result (at span_to (read_decl constant) (lexemes tokens.now)) }
     ensures shorter { Shorter (λ x. x.1.now) result tokens.now }
 {
@@ -58,16 +63,15 @@ fn file_decl(alloc: Global, tokens: &[Token], constant: bool) -> Reading<(bool, 
         ensures { StmtsTaken inner.now result }
     {
         let _ = &limit;
-        taken(alloc, inner)
+        taken(room, inner)
     };
-    let bodies = Bodies { read, limit };
-    decl(alloc, tokens, constant, &bodies)
+    let bodies = Bodies { room, read, limit };
+    decl(tokens, constant, &bodies)
 }
 
 /// A declaration of constants as a statement. The first token is its keyword.
 #[tactic(auto, using(crate::proofs::DeclArms::const_decl_none, crate::proofs::DeclArms::const_decl_some))]
 pub(crate) fn const_stmt<'a, F: Fn(&[Token]) -> Taken>(
-    alloc: Global,
     tokens: &'a [Token],
     bodies: &Bodies<F>,
 ) -> Reading<'a, ConstDecl>
@@ -76,18 +80,17 @@ pub(crate) fn const_stmt<'a, F: Fn(&[Token]) -> Taken>(
     ensures gives { Gives (λ x. (const_decl_of x.0, lexemes x.1.now)) result (const_decl_at (lexemes tokens.now)) }
     ensures shorter { Shorter (λ x. x.1.now) result tokens.now }
 {
-    let Some(((grouped, specs), left)) = decl(alloc, rest(tokens), true, bodies)? else {
+    let Some(((grouped, specs), left)) = decl(rest(tokens), true, bodies)? else {
         return Ok(None);
     };
     let span = span_between(tokens, left);
-    let specs = const_specs(alloc, specs)?;
-    Ok(Some((build_const_decl(span, grouped, specs), left)))
+    let specs = const_specs(bodies.room, specs)?;
+    Ok(Some((ConstDecl::new(span, grouped, specs), left)))
 }
 
 /// A declaration of variables as a statement. The first token is its keyword.
 #[tactic(auto, using(crate::proofs::DeclArms::var_decl_none, crate::proofs::DeclArms::var_decl_some))]
 pub(crate) fn var_stmt<'a, F: Fn(&[Token]) -> Taken>(
-    alloc: Global,
     tokens: &'a [Token],
     bodies: &Bodies<F>,
 ) -> Reading<'a, VarDecl>
@@ -96,18 +99,18 @@ pub(crate) fn var_stmt<'a, F: Fn(&[Token]) -> Taken>(
     ensures gives { Gives (λ x. (var_decl_of x.0, lexemes x.1.now)) result (var_decl_at (lexemes tokens.now)) }
     ensures shorter { Shorter (λ x. x.1.now) result tokens.now }
 {
-    let Some(((grouped, specs), left)) = decl(alloc, rest(tokens), false, bodies)? else {
+    let Some(((grouped, specs), left)) = decl(rest(tokens), false, bodies)? else {
         return Ok(None);
     };
     let span = span_between(tokens, left);
-    Ok(Some((build_var_decl(span, grouped, specs), left)))
+    Ok(Some((VarDecl::new(span, grouped, VarSpecList::of(specs)), left)))
 }
 
 /// The specs of constants, which have the parts that those of variables have.
-fn const_specs(alloc: Global, specs: Vec<VarSpec>) -> Result<ConstSpecList, NoMemory>
+fn const_specs(room: &Room, specs: Vec<VarSpec>) -> Result<ConstSpecList, NoMemory>
     ensures { IfOk result (λ l. const_specs_of l ≡ specs_from (map var_spec_of specs.items)) }
 {
-    let mut items = Vec::new(alloc);
+    let mut items = Vec::new(room.alloc);
     for spec in specs {
         items.push(const_spec(spec))?;
     }
@@ -128,7 +131,6 @@ fn const_spec(spec: VarSpec) -> ConstSpec
 /// One spec, or a group in parentheses, and whether it is a group.
 #[tactic(auto, using(crate::proofs::DeclArms::single_none, crate::proofs::DeclArms::single_some, crate::proofs::DeclArms::group_none, crate::proofs::DeclArms::group_end, crate::proofs::DeclArms::group_some))]
 fn decl<'a, F: Fn(&[Token]) -> Taken>(
-    alloc: Global,
     tokens: &'a [Token],
     constant: bool,
     bodies: &Bodies<F>,
@@ -139,14 +141,14 @@ fn decl<'a, F: Fn(&[Token]) -> Taken>(
     ensures shorter { Shorter (λ x. x.1.now) result tokens.now }
 {
     let Terminal::Paren = first(tokens) else {
-        let Some((one, left)) = spec(alloc, tokens, constant, bodies)? else {
+        let Some((one, left)) = spec(tokens, constant, bodies)? else {
             return Ok(None);
         };
-        let mut specs = Vec::new(alloc);
+        let mut specs = Vec::new(bodies.room.alloc);
         specs.push(one)?;
         return Ok(Some(((false, specs), left)));
     };
-    let Some((specs, left)) = spec_list(alloc, rest(tokens), constant, bodies)? else {
+    let Some((specs, left)) = spec_list(rest(tokens), constant, bodies)? else {
         return Ok(None);
     };
     let Terminal::EndParen = first(left) else {
@@ -158,7 +160,6 @@ fn decl<'a, F: Fn(&[Token]) -> Taken>(
 /// Specs up to the closing parenthesis, before which the last semicolon may be left out.
 #[tactic(auto, using(crate::proofs::DeclArms::specs_end, crate::proofs::DeclArms::specs_lost, crate::proofs::DeclArms::specs_more, crate::proofs::DeclArms::specs_last, crate::proofs::DeclArms::specs_stop))]
 fn spec_list<'a, F: Fn(&[Token]) -> Taken>(
-    alloc: Global,
     tokens: &'a [Token],
     constant: bool,
     bodies: &Bodies<F>,
@@ -168,13 +169,13 @@ fn spec_list<'a, F: Fn(&[Token]) -> Taken>(
     ensures gives { Gives (λ x. (specs_from (map var_spec_of x.0.items), lexemes x.1.now)) result (at span_to (read_specs constant) (lexemes tokens.now)) }
     ensures within { Within (λ x. x.1.now) result tokens.now }
 {
-    let mut items = Vec::new(alloc);
+    let mut items = Vec::new(bodies.room.alloc);
     let mut left = tokens;
     loop {
         if let Terminal::EndParen = first(left) {
             return Ok(Some((items, left)));
         }
-        let Some((item, after)) = spec(alloc, left, constant, bodies)? else {
+        let Some((item, after)) = spec(left, constant, bodies)? else {
             return Ok(None);
         };
         items.push(item)?;
@@ -189,7 +190,6 @@ fn spec_list<'a, F: Fn(&[Token]) -> Taken>(
 /// Names with a type, values or both; a constant of a group may have neither.
 #[tactic(auto, using(crate::proofs::DeclArms::spec_nameless, crate::proofs::DeclArms::spec_repeated, crate::proofs::DeclArms::spec_valueless, crate::proofs::DeclArms::spec_values, crate::proofs::DeclArms::spec_typeless, crate::proofs::DeclArms::spec_typed_var, crate::proofs::DeclArms::spec_typed_const, crate::proofs::DeclArms::spec_typed_valueless, crate::proofs::DeclArms::spec_typed_values))]
 fn spec<'a, F: Fn(&[Token]) -> Taken>(
-    alloc: Global,
     tokens: &'a [Token],
     constant: bool,
     bodies: &Bodies<F>,
@@ -199,35 +199,49 @@ fn spec<'a, F: Fn(&[Token]) -> Taken>(
     ensures gives { Gives (λ x. (var_spec_of x.0, lexemes x.1.now)) result (spec_at constant (lexemes tokens.now)) }
     ensures shorter { Shorter (λ x. x.1.now) result tokens.now }
 {
-    let Some((names, left)) = names(alloc, tokens)? else {
+    let Some((names, left)) = names(bodies.room, tokens)? else {
         return Ok(None);
     };
     if repeats(constant, first(left)) {
         let span = span_between(tokens, left);
-        return Ok(Some((build_spec(span, names, None, Vec::new(alloc)), left)));
+        return Ok(Some((
+            VarSpec::new(span, names, None, ExprList::of(Vec::new(bodies.room.alloc))),
+            left,
+        )));
     }
     if is_equals(first(left)) {
-        let Some((values, left)) = expr_list(alloc, rest(left), false, bodies)? else {
+        let Some((values, left)) = expr_list(rest(left), false, bodies)? else {
             return Ok(None);
         };
         let span = span_between(tokens, left);
-        return Ok(Some((build_spec(span, names, None, values), left)));
+        return Ok(Some((VarSpec::new(span, names, None, ExprList::of(values)), left)));
     }
-    let Some((of, left)) = type_expr(alloc, left)? else {
+    let Some((of, left)) = type_expr(bodies.room, left)? else {
         return Ok(None);
     };
     if !is_equals(first(left)) {
         if constant {
+            drop(of);
             return Ok(None);
         }
         let span = span_between(tokens, left);
-        return Ok(Some((build_spec(span, names, Some(of), Vec::new(alloc)), left)));
+        return Ok(Some((
+            VarSpec::new(
+                span,
+                names,
+                Some(of),
+                ExprList::of(Vec::new(bodies.room.alloc)),
+            ),
+            left,
+        )));
     }
-    let Some((values, left)) = expr_list(alloc, rest(left), false, bodies)? else {
+    let of = Box::new(bodies.room.alloc, of)?;
+    let Some((values, left)) = expr_list(rest(left), false, bodies)? else {
         return Ok(None);
     };
     let span = span_between(tokens, left);
-    Ok(Some((build_spec(span, names, Some(of), values), left)))
+    let of = Some(Box::into_inner(of));
+    Ok(Some((VarSpec::new(span, names, of, ExprList::of(values)), left)))
 }
 
 /// Whether constants end before this terminal without values of their own.
@@ -248,7 +262,7 @@ fn is_equals(terminal: Terminal) -> bool
     ensures { is_equals terminal ≡ result }
 {
     match terminal {
-        Terminal::Becomes(None) => true,
+        Terminal::Assign(None) => true,
         _ => false,
     }
 }

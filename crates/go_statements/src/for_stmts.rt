@@ -1,8 +1,8 @@
 //! `for` statements (Go specification, For statements).
 
 ghost use Rattle.std.specs.Prelude.{◌≡◌, ◌≢◌, ◌<◌, ◌≤◌, length};
-ghost use Rattle.go_tree.specs.View.{boxed_stmt_option_of, plain_expr_option_of, range_left_of, stmt_of};
-ghost use Rattle.go_read.specs.SpellsTerminals.{lexemes};
+ghost use Rattle.go_tree.specs.View.{boxed_expr_option_of, boxed_stmt_option_of, range_left_of, stmt_of};
+ghost use Rattle.go_words.specs.Terminals.{lexemes};
 ghost use Rattle.go_read.specs.SpellsSpans.{span_to};
 ghost use Rattle.go_read.specs.Goals.{read_stmt};
 ghost use Rattle.go_read.specs.Reading.{at};
@@ -11,17 +11,16 @@ ghost use Rattle.go_productions.specs.Answers.{Gives, Shorter};
 ghost use Rattle.go_statements.specs.StmtParts.{for_body_at, for_clause_at, for_plain_at, for_post_at, for_test_at, range_at, range_here};
 ghost use Rattle.go_productions.specs.Terminals.{first_of};
 
+use crate::parts::{assigned, evaluated, unboxed};
 use crate::simple_stmts::{defines, simple_after, simple_stmt};
-use crate::stmt_builders::{build_assigns, build_define, build_for, build_range, evaluated};
 use go_expressions::{Bodies, Taken, block, expr_list, expression};
-use go_productions::{Reading, Terminal, first, names, rest, span_between};
-use go_tree::{Expr, RangeLeft, Stmt, Token};
-use std::alloc::Global;
+use go_productions::{Reading, first, names, rest, span_between};
+use go_tree::{Expr, ExprList, RangeLeft, Stmt, Token, define_stmt, range_stmt};
+use go_words::Terminal;
 
 /// A `for` statement, which begins with its keyword.
 #[tactic(auto, using(crate::proofs::ForArms::for_endless, crate::proofs::ForArms::for_no_first, crate::proofs::ForArms::for_range, crate::proofs::ForArms::for_clause))]
 pub(crate) fn for_stmt<'a, F: Fn(&[Token]) -> Taken>(
-    alloc: Global,
     tokens: &'a [Token],
     bodies: &Bodies<F>,
 ) -> Reading<'a, Stmt>
@@ -33,17 +32,16 @@ pub(crate) fn for_stmt<'a, F: Fn(&[Token]) -> Taken>(
 {
     let left = rest(tokens);
     match first(left) {
-        Terminal::Brace => for_body(alloc, tokens, None, None, None, left, bodies),
-        Terminal::Semicolon => for_test(alloc, tokens, None, rest(left), bodies),
-        Terminal::Range => range_body(alloc, tokens, RangeLeft::Nothing, rest(left), bodies),
-        _ => for_clause(alloc, tokens, left, bodies),
+        Terminal::Brace => for_body(tokens, None, None, None, left, bodies),
+        Terminal::Semicolon => for_test(tokens, None, rest(left), bodies),
+        Terminal::Range => range_body(tokens, RangeLeft::Nothing, rest(left), bodies),
+        _ => for_clause(tokens, left, bodies),
     }
 }
 
 /// A clause that begins with a statement or with what is assigned or declared before `range`.
 #[tactic(auto, using(crate::proofs::ForArms::clause_lost, crate::proofs::ForArms::clause_range, crate::proofs::ForArms::clause_valueless, crate::proofs::ForArms::clause_defines, crate::proofs::ForArms::clause_exprs_none, crate::proofs::ForArms::clause_assigns, crate::proofs::ForArms::clause_simple_none, crate::proofs::ForArms::clause_simple))]
 fn for_clause<'a, F: Fn(&[Token]) -> Taken>(
-    alloc: Global,
     whole: &[Token],
     tokens: &'a [Token],
     bodies: &Bodies<F>,
@@ -55,36 +53,37 @@ fn for_clause<'a, F: Fn(&[Token]) -> Taken>(
     ensures shorter { Shorter (λ x. x.1.now) result tokens.now }
 {
     if defines(tokens) {
-        let Some((names, left)) = names(alloc, tokens)? else {
+        let Some((names, left)) = names(bodies.room, tokens)? else {
             return Ok(None);
         };
         let left = rest(left);
         if let Terminal::Range = first(left) {
-            return range_body(alloc, whole, RangeLeft::Defines(names), rest(left), bodies);
+            return range_body(whole, RangeLeft::Defines(names), rest(left), bodies);
         }
-        let Some((right, left)) = expr_list(alloc, left, true, bodies)? else {
+        let Some((right, left)) = expr_list(left, true, bodies)? else {
             return Ok(None);
         };
         let span = span_between(tokens, left);
-        return for_plain(alloc, whole, build_define(span, names, right), left, bodies);
+        let first_stmt = define_stmt(span, names, ExprList::of(right));
+        return for_plain(whole, first_stmt, left, bodies);
     }
-    let Some((exprs, left)) = expr_list(alloc, tokens, true, bodies)? else {
+    let Some((exprs, left)) = expr_list(tokens, true, bodies)? else {
         return Ok(None);
     };
     if ranges(left) {
-        return range_body(alloc, whole, build_assigns(exprs), rest(rest(left)), bodies);
+        return range_body(whole, assigned(exprs), rest(rest(left)), bodies);
     }
-    let Some((first_stmt, left)) = simple_after(alloc, tokens, exprs, left, true, bodies)? else {
+    let Some((first_stmt, left)) = simple_after(tokens, exprs, left, true, bodies)? else {
         return Ok(None);
     };
-    for_plain(alloc, whole, first_stmt, left, bodies)
+    for_plain(whole, first_stmt, left, bodies)
 }
 
 /// Whether `=` and `range` stand first.
 fn ranges(tokens: &[Token]) -> bool
     ensures { range_here (lexemes tokens.now) ≡ result }
 {
-    let Terminal::Becomes(None) = first(tokens) else {
+    let Terminal::Assign(None) = first(tokens) else {
         return false;
     };
     match first(rest(tokens)) {
@@ -96,7 +95,6 @@ fn ranges(tokens: &[Token]) -> bool
 /// What follows the first statement of a header, or the test that it is.
 #[tactic(auto, using(crate::proofs::ForArms::plain_first, crate::proofs::ForArms::plain_eval, crate::proofs::ForArms::plain_stop))]
 fn for_plain<'a, F: Fn(&[Token]) -> Taken>(
-    alloc: Global,
     whole: &[Token],
     first_stmt: Stmt,
     tokens: &'a [Token],
@@ -108,19 +106,19 @@ fn for_plain<'a, F: Fn(&[Token]) -> Taken>(
     ensures shorter { Shorter (λ x. x.1.now) result tokens.now }
 {
     if let Terminal::Semicolon = first(tokens) {
-        let first_stmt = Some(Box::new(alloc, first_stmt)?);
-        return for_test(alloc, whole, first_stmt, rest(tokens), bodies);
+        let first_stmt = Some(Box::new(bodies.room.alloc, first_stmt)?);
+        return for_test(whole, first_stmt, rest(tokens), bodies);
     }
     let Some(test) = evaluated(first_stmt) else {
         return Ok(None);
     };
-    for_body(alloc, whole, None, Some(test), None, tokens, bodies)
+    let test = Box::new(bodies.room.alloc, test)?;
+    for_body(whole, None, Some(test), None, tokens, bodies)
 }
 
 /// The test of a header and what follows it.
 #[tactic(auto, using(crate::proofs::ForArms::test_absent, crate::proofs::ForArms::test_none, crate::proofs::ForArms::test_stop, crate::proofs::ForArms::test_some))]
 fn for_test<'a, F: Fn(&[Token]) -> Taken>(
-    alloc: Global,
     whole: &[Token],
     first_stmt: Option<Box<Stmt>>,
     tokens: &'a [Token],
@@ -132,69 +130,70 @@ fn for_test<'a, F: Fn(&[Token]) -> Taken>(
     ensures shorter { Shorter (λ x. x.1.now) result tokens.now }
 {
     if let Terminal::Semicolon = first(tokens) {
-        return for_post(alloc, whole, first_stmt, None, rest(tokens), bodies);
+        return for_post(whole, first_stmt, None, rest(tokens), bodies);
     }
-    let Some((test, left)) = expression(alloc, tokens, true, bodies)? else {
+    let Some((test, left)) = expression(tokens, true, bodies)? else {
         return Ok(None);
     };
+    let test = Box::new(bodies.room.alloc, test)?;
     let Terminal::Semicolon = first(left) else {
         return Ok(None);
     };
-    for_post(alloc, whole, first_stmt, Some(test), rest(left), bodies)
+    for_post(whole, first_stmt, Some(test), rest(left), bodies)
 }
 
 /// The last statement of a header, and the body.
 #[tactic(auto, using(crate::proofs::ForArms::post_absent, crate::proofs::ForArms::post_none, crate::proofs::ForArms::post_some))]
 fn for_post<'a, F: Fn(&[Token]) -> Taken>(
-    alloc: Global,
     whole: &[Token],
     first_stmt: Option<Box<Stmt>>,
-    test: Option<Expr>,
+    test: Option<Box<Expr>>,
     tokens: &'a [Token],
     bodies: &Bodies<F>,
 ) -> Reading<'a, Stmt>
     requires reads { ReadsBelow (F.pre bodies.now.read) (F.post bodies.now.read) bodies.now.limit }
     requires within { length tokens.now ≤ bodies.now.limit }
-    ensures gives { Gives (λ x. (stmt_of x.0, lexemes x.1.now)) result (for_post_at (lexemes whole.now) (boxed_stmt_option_of first_stmt) (plain_expr_option_of test) (lexemes tokens.now)) }
+    ensures gives { Gives (λ x. (stmt_of x.0, lexemes x.1.now)) result (for_post_at (lexemes whole.now) (boxed_stmt_option_of first_stmt) (boxed_expr_option_of test) (lexemes tokens.now)) }
     ensures shorter { Shorter (λ x. x.1.now) result tokens.now }
 {
     if let Terminal::Brace = first(tokens) {
-        return for_body(alloc, whole, first_stmt, test, None, tokens, bodies);
+        return for_body(whole, first_stmt, test, None, tokens, bodies);
     }
-    let Some((post, left)) = simple_stmt(alloc, tokens, true, bodies)? else {
+    let Some((post, left)) = simple_stmt(tokens, true, bodies)? else {
         return Ok(None);
     };
-    let post = Some(Box::new(alloc, post)?);
-    for_body(alloc, whole, first_stmt, test, post, left, bodies)
+    let post = Some(Box::new(bodies.room.alloc, post)?);
+    for_body(whole, first_stmt, test, post, left, bodies)
 }
 
 /// The body behind the header.
 #[tactic(auto, using(crate::proofs::ForArms::body_none, crate::proofs::ForArms::body_some))]
 fn for_body<'a, F: Fn(&[Token]) -> Taken>(
-    alloc: Global,
     whole: &[Token],
     first_stmt: Option<Box<Stmt>>,
-    test: Option<Expr>,
+    test: Option<Box<Expr>>,
     post: Option<Box<Stmt>>,
     tokens: &'a [Token],
     bodies: &Bodies<F>,
 ) -> Reading<'a, Stmt>
     requires reads { ReadsBelow (F.pre bodies.now.read) (F.post bodies.now.read) bodies.now.limit }
     requires within { length tokens.now ≤ bodies.now.limit }
-    ensures gives { Gives (λ x. (stmt_of x.0, lexemes x.1.now)) result (for_body_at (lexemes whole.now) (boxed_stmt_option_of first_stmt) (plain_expr_option_of test) (boxed_stmt_option_of post) (lexemes tokens.now)) }
+    ensures gives { Gives (λ x. (stmt_of x.0, lexemes x.1.now)) result (for_body_at (lexemes whole.now) (boxed_stmt_option_of first_stmt) (boxed_expr_option_of test) (boxed_stmt_option_of post) (lexemes tokens.now)) }
     ensures shorter { Shorter (λ x. x.1.now) result tokens.now }
 {
     let Some((body, left)) = block(tokens, bodies)? else {
         return Ok(None);
     };
     let span = span_between(whole, left);
-    Ok(Some((build_for(span, first_stmt, test, post, body), left)))
+    Ok(Some((
+        go_tree::for_stmt(span, first_stmt, unboxed(test), post, body),
+        left,
+    )))
 }
 
 /// What `range` goes over, and the body.
 #[tactic(auto, using(crate::proofs::ForArms::range_none, crate::proofs::ForArms::range_open, crate::proofs::ForArms::range_some))]
 fn range_body<'a, F: Fn(&[Token]) -> Taken>(
-    alloc: Global,
     whole: &[Token],
     left_side: RangeLeft,
     tokens: &'a [Token],
@@ -205,12 +204,16 @@ fn range_body<'a, F: Fn(&[Token]) -> Taken>(
     ensures gives { Gives (λ x. (stmt_of x.0, lexemes x.1.now)) result (range_at (lexemes whole.now) (range_left_of left_side) (lexemes tokens.now)) }
     ensures shorter { Shorter (λ x. x.1.now) result tokens.now }
 {
-    let Some((over, left)) = expression(alloc, tokens, true, bodies)? else {
+    let Some((over, left)) = expression(tokens, true, bodies)? else {
         return Ok(None);
     };
+    let over = Box::new(bodies.room.alloc, over)?;
     let Some((body, left)) = block(left, bodies)? else {
         return Ok(None);
     };
     let span = span_between(whole, left);
-    Ok(Some((build_range(span, left_side, over, body), left)))
+    Ok(Some((
+        range_stmt(span, left_side, Box::into_inner(over), body),
+        left,
+    )))
 }

@@ -5,8 +5,8 @@
 mod branches;
 mod decls;
 mod for_stmts;
+mod parts;
 mod simple_stmts;
-mod stmt_builders;
 mod stmts;
 
 pub use decls::{const_decl, var_decl};

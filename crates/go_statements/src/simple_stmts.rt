@@ -5,7 +5,7 @@ ghost use Rattle.std.specs.Prelude.{◌≡◌, map, ◌<◌, ◌≤◌, length};
 ghost use Rattle.std.specs.Option.{option_map};
 ghost use Rattle.go_tree.specs.Lists.{exprs_from};
 ghost use Rattle.go_tree.specs.View.{expr_of, stmt_of};
-ghost use Rattle.go_read.specs.SpellsTerminals.{lexemes};
+ghost use Rattle.go_words.specs.Terminals.{lexemes};
 ghost use Rattle.go_read.specs.SpellsSpans.{span_to};
 ghost use Rattle.go_read.specs.Goals.{read_simple, read_simple_after};
 ghost use Rattle.go_read.specs.Reading.{at};
@@ -13,16 +13,14 @@ ghost use Rattle.go_expressions.specs.Bodies.{ReadsBelow};
 ghost use Rattle.go_productions.specs.Answers.{Gives, Shorter, Within};
 ghost use Rattle.go_statements.specs.StmtParts.{define_at, defines_here, is_short, only};
 
-use crate::stmt_builders::{build_assign, build_define};
 use go_expressions::{Bodies, Taken, expr_list};
-use go_productions::{Reading, Terminal, first, names, rest, skip_names, span_between};
-use go_tree::{Expr, Stmt, Token};
-use std::alloc::Global;
+use go_productions::{Reading, first, names, rest, skip_names, span_between};
+use go_tree::{Expr, ExprList, Stmt, Token, assign_stmt, define_stmt};
+use go_words::Terminal;
 
 /// A simple statement; in a header no composite literal begins with a name outside of brackets.
 #[tactic(auto, using(crate::proofs::SimpleArms::simple_defines, crate::proofs::SimpleArms::simple_none, crate::proofs::SimpleArms::simple_goes))]
 pub(crate) fn simple_stmt<'a, F: Fn(&[Token]) -> Taken>(
-    alloc: Global,
     tokens: &'a [Token],
     header: bool,
     bodies: &Bodies<F>,
@@ -33,12 +31,12 @@ pub(crate) fn simple_stmt<'a, F: Fn(&[Token]) -> Taken>(
     ensures shorter { Shorter (λ x. x.1.now) result tokens.now }
 {
     if defines(tokens) {
-        return define(alloc, tokens, header, bodies);
+        return define(tokens, header, bodies);
     }
-    let Some((exprs, left)) = expr_list(alloc, tokens, header, bodies)? else {
+    let Some((exprs, left)) = expr_list(tokens, header, bodies)? else {
         return Ok(None);
     };
-    simple_after(alloc, tokens, exprs, left, header, bodies)
+    simple_after(tokens, exprs, left, header, bodies)
 }
 
 /// Whether names and `:=` stand first.
@@ -55,7 +53,7 @@ fn is_short(terminal: Terminal) -> bool
     ensures { is_short terminal ≡ result }
 {
     match terminal {
-        Terminal::Short => true,
+        Terminal::Define => true,
         _ => false,
     }
 }
@@ -63,7 +61,6 @@ fn is_short(terminal: Terminal) -> bool
 /// Names, `:=` and values.
 #[tactic(auto, using(crate::proofs::SimpleArms::define_lost, crate::proofs::SimpleArms::define_none, crate::proofs::SimpleArms::define_some))]
 fn define<'a, F: Fn(&[Token]) -> Taken>(
-    alloc: Global,
     tokens: &'a [Token],
     header: bool,
     bodies: &Bodies<F>,
@@ -73,21 +70,20 @@ fn define<'a, F: Fn(&[Token]) -> Taken>(
     ensures gives { Gives (λ x. (stmt_of x.0, lexemes x.1.now)) result (define_at header (lexemes tokens.now)) }
     ensures shorter { Shorter (λ x. x.1.now) result tokens.now }
 {
-    let Some((names, left)) = names(alloc, tokens)? else {
+    let Some((names, left)) = names(bodies.room, tokens)? else {
         return Ok(None);
     };
-    let Some((right, left)) = expr_list(alloc, rest(left), header, bodies)? else {
+    let Some((right, left)) = expr_list(rest(left), header, bodies)? else {
         return Ok(None);
     };
     let span = span_between(tokens, left);
-    Ok(Some((build_define(span, names, right), left)))
+    Ok(Some((define_stmt(span, names, ExprList::of(right)), left)))
 }
 
 /// What follows the expressions that a simple statement begins with; `whole` begins with the first
 /// token of the statement.
 #[tactic(auto, using(crate::proofs::SimpleArms::assign_none, crate::proofs::SimpleArms::assign_some, crate::proofs::SimpleArms::after_several, crate::proofs::SimpleArms::after_up, crate::proofs::SimpleArms::after_down, crate::proofs::SimpleArms::after_other))]
 pub(crate) fn simple_after<'a, F: Fn(&[Token]) -> Taken>(
-    alloc: Global,
     whole: &[Token],
     exprs: Vec<Expr>,
     tokens: &'a [Token],
@@ -99,12 +95,15 @@ pub(crate) fn simple_after<'a, F: Fn(&[Token]) -> Taken>(
     ensures gives { Gives (λ x. (stmt_of x.0, lexemes x.1.now)) result (at span_to (read_simple_after header (lexemes whole.now) (exprs_from (map expr_of exprs.items))) (lexemes tokens.now)) }
     ensures within { Within (λ x. x.1.now) result tokens.now }
 {
-    if let Terminal::Becomes(op) = first(tokens) {
-        let Some((right, left)) = expr_list(alloc, rest(tokens), header, bodies)? else {
+    if let Terminal::Assign(op) = first(tokens) {
+        let Some((right, left)) = expr_list(rest(tokens), header, bodies)? else {
             return Ok(None);
         };
         let span = span_between(whole, left);
-        return Ok(Some((build_assign(span, exprs, op, right), left)));
+        return Ok(Some((
+            assign_stmt(span, ExprList::of(exprs), op, ExprList::of(right)),
+            left,
+        )));
     }
     let Some(e) = only(exprs) else {
         return Ok(None);
@@ -134,6 +133,7 @@ fn only(exprs: Vec<Expr>) -> Option<Expr>
     let mut exprs = exprs;
     let last = exprs.pop();
     if !exprs.is_empty() {
+        drop(last);
         return None;
     }
     last

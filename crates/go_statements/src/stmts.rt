@@ -3,7 +3,7 @@
 ghost use Rattle.std.specs.Prelude.{◌≡◌, map, ◌<◌, ◌≤◌, length};
 ghost use Rattle.go_tree.specs.Tree.{empty};
 ghost use Rattle.go_tree.specs.View.{block_of, stmt_of, stmts_of};
-ghost use Rattle.go_read.specs.SpellsTerminals.{lexemes};
+ghost use Rattle.go_words.specs.Terminals.{lexemes};
 ghost use Rattle.go_read.specs.SpellsSpans.{span_to};
 ghost use Rattle.go_read.specs.Goals.{read_block, read_stmt, read_stmts};
 ghost use Rattle.go_read.specs.Reading.{at};
@@ -15,23 +15,23 @@ ghost use Rattle.go_productions.specs.Terminals.{first_of};
 use crate::branches::{if_stmt, switch_stmt};
 use crate::decls::{const_stmt, var_stmt};
 use crate::for_stmts::for_stmt;
+use crate::parts::is_bare_call;
 use crate::simple_stmts::simple_stmt;
-use crate::stmt_builders::{build_inner, build_label, build_return, is_bare_call};
 use go_expressions::{Bodies, Taken, binary_expr, expr_list};
-use go_productions::{Reading, Terminal, first, name, rest, span_between};
-use go_tree::{Block, Stmt, StmtList, Token};
-use std::alloc::Global;
+use go_productions::{Reading, Room, first, name, rest, span_between};
+use go_tree::{Block, ExprList, Stmt, StmtList, Token, inner_stmt, label_stmt};
+use go_words::Terminal;
 
 /// Statements in braces.
 #[tactic(auto, using(go_expressions::proofs::BodyArms::block_open, go_expressions::proofs::BodyArms::block_none, go_expressions::proofs::BodyArms::block_end, go_expressions::proofs::BodyArms::block_some))]
-pub fn block(alloc: Global, tokens: &[Token]) -> Reading<Block>
+pub fn block<'a>(room: &Room, tokens: &'a [Token]) -> Reading<'a, Block>
     ensures gives { Gives (λ x. (block_of x.0, lexemes x.1.now)) result (at span_to read_block (lexemes tokens.now)) }
     ensures shorter { Shorter (λ x. x.1.now) result tokens.now }
 {
     let Terminal::Brace = first(tokens) else {
         return Ok(None);
     };
-    let Some((stmts, left)) = stmt_list(alloc, rest(tokens))? else {
+    let Some((stmts, left)) = stmt_list(room, rest(tokens))? else {
         return Ok(None);
     };
     let Terminal::EndBrace = first(left) else {
@@ -46,7 +46,7 @@ pub fn block(alloc: Global, tokens: &[Token]) -> Reading<Block>
 /// left out before a brace.
 #[cycle(statements)]
 #[tactic(auto, using(crate::proofs::TakenArms::stmts_are_taken))]
-pub(crate) fn stmt_list(alloc: Global, tokens: &[Token]) -> Reading<StmtList>
+pub(crate) fn stmt_list<'a>(room: &Room, tokens: &'a [Token]) -> Reading<'a, StmtList>
     ensures gives { Gives (λ x. (stmts_of x.0, lexemes x.1.now)) result (at span_to read_stmts (lexemes tokens.now)) }
     ensures within { Within (λ x. x.1.now) result tokens.now }
 {
@@ -56,19 +56,19 @@ pub(crate) fn stmt_list(alloc: Global, tokens: &[Token]) -> Reading<StmtList>
         ensures { StmtsTaken inner.now result }
     {
         let _ = &limit;
-        taken(alloc, inner)
+        taken(room, inner)
     };
-    let bodies = Bodies { read, limit };
-    listed(alloc, tokens, &bodies)
+    let bodies = Bodies { room, read, limit };
+    listed(tokens, &bodies)
 }
 
 /// Such statements, and how many tokens they take.
 #[cycle(statements)]
 #[tactic(auto, using(crate::proofs::TakenArms::stmts_are_taken))]
-pub(crate) fn taken(alloc: Global, tokens: &[Token]) -> Taken
+pub(crate) fn taken(room: &Room, tokens: &[Token]) -> Taken
     ensures { StmtsTaken tokens.now result }
 {
-    let Some((stmts, left)) = stmt_list(alloc, tokens)? else {
+    let Some((stmts, left)) = stmt_list(room, tokens)? else {
         return Ok(None);
     };
     Ok(Some((stmts, tokens.len() - left.len())))
@@ -77,7 +77,6 @@ pub(crate) fn taken(alloc: Global, tokens: &[Token]) -> Taken
 /// Such statements, with what reads those of the bodies in them.
 #[tactic(auto, using(crate::proofs::StmtArms::stmts_end, crate::proofs::StmtArms::stmts_lost, crate::proofs::StmtArms::stmts_more, crate::proofs::StmtArms::stmts_last, crate::proofs::StmtArms::stmts_stop))]
 fn listed<'a, F: Fn(&[Token]) -> Taken>(
-    alloc: Global,
     tokens: &'a [Token],
     bodies: &Bodies<F>,
 ) -> Reading<'a, StmtList>
@@ -86,10 +85,10 @@ fn listed<'a, F: Fn(&[Token]) -> Taken>(
     ensures gives { Gives (λ x. (stmts_of x.0, lexemes x.1.now)) result (at span_to read_stmts (lexemes tokens.now)) }
     ensures within { Within (λ x. x.1.now) result tokens.now }
 {
-    let mut items = Vec::new(alloc);
+    let mut items = Vec::new(bodies.room.alloc);
     let mut left = tokens;
     while !ends_stmts(first(left)) {
-        let Some((item, after)) = stmt(alloc, left, bodies)? else {
+        let Some((item, after)) = stmt(left, bodies)? else {
             return Ok(None);
         };
         items.push(item)?;
@@ -115,11 +114,7 @@ fn ends_stmts(terminal: Terminal) -> bool
 /// A statement.
 #[cycle(labels)]
 #[tactic(auto, using(crate::proofs::StmtArms::const_none, crate::proofs::StmtArms::const_some, crate::proofs::StmtArms::var_none, crate::proofs::StmtArms::var_some, crate::proofs::StmtArms::inner_none, crate::proofs::StmtArms::inner_some, crate::proofs::StmtArms::empty_semicolon, crate::proofs::StmtArms::empty_brace, crate::proofs::StmtArms::plain_stmt))]
-fn stmt<'a, F: Fn(&[Token]) -> Taken>(
-    alloc: Global,
-    tokens: &'a [Token],
-    bodies: &Bodies<F>,
-) -> Reading<'a, Stmt>
+fn stmt<'a, F: Fn(&[Token]) -> Taken>(tokens: &'a [Token], bodies: &Bodies<F>) -> Reading<'a, Stmt>
     requires reads { ReadsBelow (F.pre bodies.now.read) (F.post bodies.now.read) bodies.now.limit }
     requires within { length tokens.now ≤ bodies.now.limit }
     ensures gives { Gives (λ x. (stmt_of x.0, lexemes x.1.now)) result (at span_to read_stmt (lexemes tokens.now)) }
@@ -127,13 +122,13 @@ fn stmt<'a, F: Fn(&[Token]) -> Taken>(
 {
     match first(tokens) {
         Terminal::Const => {
-            let Some((d, left)) = const_stmt(alloc, tokens, bodies)? else {
+            let Some((d, left)) = const_stmt(tokens, bodies)? else {
                 return Ok(None);
             };
             Ok(Some((Stmt::Const(d), left)))
         }
         Terminal::Var => {
-            let Some((d, left)) = var_stmt(alloc, tokens, bodies)? else {
+            let Some((d, left)) = var_stmt(tokens, bodies)? else {
                 return Ok(None);
             };
             Ok(Some((Stmt::Var(d), left)))
@@ -142,19 +137,19 @@ fn stmt<'a, F: Fn(&[Token]) -> Taken>(
             let Some((body, left)) = go_expressions::block(tokens, bodies)? else {
                 return Ok(None);
             };
-            Ok(Some((build_inner(body), left)))
+            Ok(Some((inner_stmt(body), left)))
         }
         Terminal::Semicolon => Ok(Some((empty(tokens), tokens))),
         Terminal::EndBrace => Ok(Some((empty(tokens), tokens))),
-        Terminal::Return => return_stmt(alloc, tokens, bodies),
-        Terminal::Break => break_stmt(alloc, tokens),
-        Terminal::Continue => continue_stmt(alloc, tokens),
-        Terminal::If => if_stmt(alloc, tokens, bodies),
-        Terminal::For => for_stmt(alloc, tokens, bodies),
-        Terminal::Switch => switch_stmt(alloc, tokens, bodies),
-        Terminal::Defer => defer_stmt(alloc, tokens, bodies),
-        Terminal::Word => word_stmt(alloc, tokens, bodies),
-        _ => simple_stmt(alloc, tokens, false, bodies),
+        Terminal::Return => return_stmt(tokens, bodies),
+        Terminal::Break => break_stmt(bodies.room, tokens),
+        Terminal::Continue => continue_stmt(bodies.room, tokens),
+        Terminal::If => if_stmt(tokens, bodies),
+        Terminal::For => for_stmt(tokens, bodies),
+        Terminal::Switch => switch_stmt(tokens, bodies),
+        Terminal::Defer => defer_stmt(tokens, bodies),
+        Terminal::Ident => word_stmt(tokens, bodies),
+        _ => simple_stmt(tokens, false, bodies),
     }
 }
 
@@ -171,33 +166,31 @@ fn empty(tokens: &[Token]) -> Stmt
 #[cycle(labels)]
 #[tactic(auto, using(crate::proofs::StmtArms::word_plain, crate::proofs::StmtArms::label_none, crate::proofs::StmtArms::label_some))]
 fn word_stmt<'a, F: Fn(&[Token]) -> Taken>(
-    alloc: Global,
     tokens: &'a [Token],
     bodies: &Bodies<F>,
 ) -> Reading<'a, Stmt>
     requires reads { ReadsBelow (F.pre bodies.now.read) (F.post bodies.now.read) bodies.now.limit }
     requires within { length tokens.now ≤ bodies.now.limit }
-    requires begins { first_of (lexemes tokens.now) ≡ Terminal.Word }
+    requires begins { first_of (lexemes tokens.now) ≡ Terminal.Ident }
     ensures gives { Gives (λ x. (stmt_of x.0, lexemes x.1.now)) result (at span_to read_stmt (lexemes tokens.now)) }
     ensures shorter { Shorter (λ x. x.1.now) result tokens.now }
 {
     let after = rest(tokens);
     let Terminal::Colon = first(after) else {
-        return simple_stmt(alloc, tokens, false, bodies);
+        return simple_stmt(tokens, false, bodies);
     };
-    let name = name(alloc, tokens)?;
-    let Some((of, left)) = stmt(alloc, rest(after), bodies)? else {
+    let name = name(bodies.room, tokens)?;
+    let Some((of, left)) = stmt(rest(after), bodies)? else {
         return Ok(None);
     };
     let span = span_between(tokens, left);
-    let labeled = build_label(alloc, span, name, of)?;
-    Ok(Some((labeled, left)))
+    let of = Box::new(bodies.room.alloc, of)?;
+    Ok(Some((label_stmt(span, name, of), left)))
 }
 
 /// `return`, with values where they stand there.
 #[tactic(auto, using(crate::proofs::StmtArms::return_alone, crate::proofs::StmtArms::return_none, crate::proofs::StmtArms::return_some))]
 fn return_stmt<'a, F: Fn(&[Token]) -> Taken>(
-    alloc: Global,
     tokens: &'a [Token],
     bodies: &Bodies<F>,
 ) -> Reading<'a, Stmt>
@@ -210,13 +203,16 @@ fn return_stmt<'a, F: Fn(&[Token]) -> Taken>(
     let after = rest(tokens);
     if closes(first(after)) {
         let span = span_between(tokens, after);
-        return Ok(Some((build_return(span, Vec::new(alloc)), after)));
+        return Ok(Some((
+            go_tree::return_stmt(span, ExprList::of(Vec::new(bodies.room.alloc))),
+            after,
+        )));
     }
-    let Some((values, left)) = expr_list(alloc, after, false, bodies)? else {
+    let Some((values, left)) = expr_list(after, false, bodies)? else {
         return Ok(None);
     };
     let span = span_between(tokens, left);
-    Ok(Some((build_return(span, values), left)))
+    Ok(Some((go_tree::return_stmt(span, ExprList::of(values)), left)))
 }
 
 /// Whether a statement ends before this terminal.
@@ -231,44 +227,43 @@ fn closes(terminal: Terminal) -> bool
 
 /// `break`, with a label where one stands there.
 #[tactic(auto, using(crate::proofs::StmtArms::break_alone, crate::proofs::StmtArms::break_label))]
-fn break_stmt(alloc: Global, tokens: &[Token]) -> Reading<Stmt>
+fn break_stmt<'a>(room: &Room, tokens: &'a [Token]) -> Reading<'a, Stmt>
     requires begins { first_of (lexemes tokens.now) ≡ Terminal.Break }
     ensures gives { Gives (λ x. (stmt_of x.0, lexemes x.1.now)) result (at span_to read_stmt (lexemes tokens.now)) }
     ensures shorter { Shorter (λ x. x.1.now) result tokens.now }
 {
     let after = rest(tokens);
-    let Terminal::Word = first(after) else {
+    let Terminal::Ident = first(after) else {
         let span = span_between(tokens, after);
         return Ok(Some((Stmt::Break { span, label: None }, after)));
     };
     let left = rest(after);
     let span = span_between(tokens, left);
-    let label = Some(name(alloc, after)?);
+    let label = Some(name(room, after)?);
     Ok(Some((Stmt::Break { span, label }, left)))
 }
 
 /// `continue`, with a label where one stands there.
 #[tactic(auto, using(crate::proofs::StmtArms::continue_alone, crate::proofs::StmtArms::continue_label))]
-fn continue_stmt(alloc: Global, tokens: &[Token]) -> Reading<Stmt>
+fn continue_stmt<'a>(room: &Room, tokens: &'a [Token]) -> Reading<'a, Stmt>
     requires begins { first_of (lexemes tokens.now) ≡ Terminal.Continue }
     ensures gives { Gives (λ x. (stmt_of x.0, lexemes x.1.now)) result (at span_to read_stmt (lexemes tokens.now)) }
     ensures shorter { Shorter (λ x. x.1.now) result tokens.now }
 {
     let after = rest(tokens);
-    let Terminal::Word = first(after) else {
+    let Terminal::Ident = first(after) else {
         let span = span_between(tokens, after);
         return Ok(Some((Stmt::Continue { span, label: None }, after)));
     };
     let left = rest(after);
     let span = span_between(tokens, left);
-    let label = Some(name(alloc, after)?);
+    let label = Some(name(room, after)?);
     Ok(Some((Stmt::Continue { span, label }, left)))
 }
 
 /// `defer` and a call without parentheses around it.
 #[tactic(auto, using(crate::proofs::StmtArms::defer_none, crate::proofs::StmtArms::defer_stop, crate::proofs::StmtArms::defer_some))]
 fn defer_stmt<'a, F: Fn(&[Token]) -> Taken>(
-    alloc: Global,
     tokens: &'a [Token],
     bodies: &Bodies<F>,
 ) -> Reading<'a, Stmt>
@@ -278,10 +273,11 @@ fn defer_stmt<'a, F: Fn(&[Token]) -> Taken>(
     ensures gives { Gives (λ x. (stmt_of x.0, lexemes x.1.now)) result (at span_to read_stmt (lexemes tokens.now)) }
     ensures shorter { Shorter (λ x. x.1.now) result tokens.now }
 {
-    let Some(((call, bare), left)) = binary_expr(alloc, rest(tokens), 1, false, bodies)? else {
+    let Some(((call, bare), left)) = binary_expr(rest(tokens), 1, false, bodies)? else {
         return Ok(None);
     };
     if !is_bare_call(&call, bare) {
+        drop(call);
         return Ok(None);
     }
     let span = span_between(tokens, left);

@@ -1,15 +1,15 @@
 // Copies of expressions. Operands are put in their boxes at once: a step that drops an expression which
 // stands in no box or list is dear to check.
 ghost use Rattle.std.specs.Prelude.{◌≡◌, IfOk};
-ghost use Rattle.go_tree.specs.View.{expr_of, exprs_of, boxed_expr_option_of, plain_expr_option_of, value_of, held_value_option_of, elem_of, elems_of};
+ghost use Rattle.go_tree.specs.View.{expr_of, exprs_of, boxed_expr_option_of, plain_expr_option_of, value_of, elem_of, elems_of};
 
-use crate::build_exprs::{
-    build_binary, build_call, build_composite, build_func_lit, build_ident, build_index,
-    build_int_lit, build_rune_lit, build_selector, build_slice, build_star, build_str_lit,
-    build_type_operand, build_unary,
-};
 use crate::copy_stmts::copy_block;
-use go_tree::{Elem, ElemList, Expr, ExprList, NoMemory, Value};
+use crate::copy_types::{copy_name, copy_name_at, copy_sig, copy_text, copy_type};
+use go_tree::{
+    Elem, ElemList, Expr, ExprList, NoMemory, Value, binary_expr, call_expr, composite_expr,
+    func_lit_expr, ident_expr, index_expr, int_lit_expr, rune_lit_expr, selector_expr, slice_expr,
+    star_expr, str_lit_expr, type_operand_expr, unary_expr,
+};
 use std::alloc::Global;
 
 /// A copy of an expression, spans included; an error where memory is refused.
@@ -18,19 +18,21 @@ pub fn copy_expr(alloc: Global, e: &Expr) -> Result<Expr, NoMemory>
     ensures { IfOk result (λ c. expr_of c ≡ expr_of e.now) }
 {
     match e {
-        Expr::Ident { span, name } => build_ident(alloc, *span, name),
-        Expr::IntLit { span, spelling } => build_int_lit(alloc, *span, spelling),
-        Expr::RuneLit { span, spelling } => build_rune_lit(alloc, *span, spelling),
-        Expr::StrLit { span, spelling } => build_str_lit(alloc, *span, spelling),
+        Expr::Ident { span, name } => Ok(ident_expr(*span, copy_name(alloc, name)?)),
+        Expr::IntLit { span, spelling } => Ok(int_lit_expr(*span, copy_text(alloc, spelling)?)),
+        Expr::RuneLit { span, spelling } => Ok(rune_lit_expr(*span, copy_text(alloc, spelling)?)),
+        Expr::StrLit { span, spelling } => Ok(str_lit_expr(*span, copy_text(alloc, spelling)?)),
         Expr::Composite { span, of, elems } => {
-            build_composite(alloc, *span, of, copy_elems(alloc, elems)?)
+            let elems = copy_elems(alloc, elems)?;
+            Ok(composite_expr(*span, copy_type(alloc, of)?, elems))
         }
         Expr::Selector { span, base, name } => {
-            build_selector(alloc, *span, copy_boxed_expr(alloc, base)?, name)
+            let base = copy_boxed_expr(alloc, base)?;
+            Ok(selector_expr(*span, base, copy_name_at(alloc, name)?))
         }
         Expr::Index { span, base, at } => {
             let base = copy_boxed_expr(alloc, base)?;
-            Ok(build_index(*span, base, copy_boxed_expr(alloc, at)?))
+            Ok(index_expr(*span, base, copy_boxed_expr(alloc, at)?))
         }
         Expr::Slice {
             span,
@@ -40,17 +42,23 @@ pub fn copy_expr(alloc: Global, e: &Expr) -> Result<Expr, NoMemory>
         } => {
             let base = copy_boxed_expr(alloc, base)?;
             let from = copy_boxed_expr_option(alloc, from)?;
-            Ok(build_slice(*span, base, from, copy_boxed_expr_option(alloc, to)?))
+            Ok(slice_expr(*span, base, from, copy_boxed_expr_option(alloc, to)?))
         }
-        Expr::Call { span, callee, args } => {
+        Expr::Call {
+            span,
+            callee,
+            args,
+            rest,
+        } => {
             let callee = copy_boxed_expr(alloc, callee)?;
-            Ok(build_call(*span, callee, copy_exprs(alloc, args)?))
+            Ok(call_expr(*span, callee, copy_exprs(alloc, args)?, *rest))
         }
         Expr::FuncLit { span, sig, body } => {
-            build_func_lit(alloc, *span, sig, copy_block(alloc, body)?)
+            let body = copy_block(alloc, body)?;
+            Ok(func_lit_expr(*span, copy_sig(alloc, sig)?, body))
         }
-        Expr::TypeOperand { span, of } => build_type_operand(alloc, *span, of),
-        Expr::Unary { span, op, e } => Ok(build_unary(*span, *op, copy_boxed_expr(alloc, e)?)),
+        Expr::TypeOperand { span, of } => Ok(type_operand_expr(*span, copy_type(alloc, of)?)),
+        Expr::Unary { span, op, e } => Ok(unary_expr(*span, *op, copy_boxed_expr(alloc, e)?)),
         Expr::Binary {
             span,
             op,
@@ -58,9 +66,9 @@ pub fn copy_expr(alloc: Global, e: &Expr) -> Result<Expr, NoMemory>
             right,
         } => {
             let left = copy_boxed_expr(alloc, left)?;
-            Ok(build_binary(*span, *op, left, copy_boxed_expr(alloc, right)?))
+            Ok(binary_expr(*span, *op, left, copy_boxed_expr(alloc, right)?))
         }
-        Expr::Star { span, e } => Ok(build_star(*span, copy_boxed_expr(alloc, e)?)),
+        Expr::Star { span, e } => Ok(star_expr(*span, copy_boxed_expr(alloc, e)?)),
     }
 }
 
@@ -122,11 +130,14 @@ fn copy_elems(alloc: Global, elems: &ElemList) -> Result<ElemList, NoMemory>
 fn copy_elem(alloc: Global, elem: &Elem) -> Result<Elem, NoMemory>
     ensures { IfOk result (λ c. elem_of c ≡ elem_of elem.now) }
 {
-    Ok(Elem {
-        span: elem.span,
-        key: copy_value_option(alloc, &elem.key)?,
-        value: copy_value(alloc, &elem.value)?,
-    })
+    match &elem.key {
+        None => Ok(Elem::new(elem.span, None, copy_value(alloc, &elem.value)?)),
+        Some(key) => {
+            let key = Box::new(alloc, copy_value(alloc, key)?)?;
+            let value = copy_value(alloc, &elem.value)?;
+            Ok(Elem::new(elem.span, Some(Box::into_inner(key)), value))
+        }
+    }
 }
 
 #[cycle(copy_tree)]
@@ -139,15 +150,5 @@ fn copy_value(alloc: Global, value: &Value) -> Result<Value, NoMemory>
             span: *span,
             elems: copy_elems(alloc, elems)?,
         }),
-    }
-}
-
-#[cycle(copy_tree)]
-fn copy_value_option(alloc: Global, value: &Option<Value>) -> Result<Option<Value>, NoMemory>
-    ensures { IfOk result (λ c. held_value_option_of c ≡ held_value_option_of value.now) }
-{
-    match value {
-        None => Ok(None),
-        Some(value) => Ok(Some(copy_value(alloc, value)?)),
     }
 }

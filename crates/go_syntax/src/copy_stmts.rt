@@ -3,16 +3,13 @@
 ghost use Rattle.std.specs.Prelude.{◌≡◌, IfOk};
 ghost use Rattle.go_tree.specs.View.{block_of, held_block_option_of, stmt_of, stmts_of, boxed_stmt_option_of, range_left_of, arm_of, arms_of, case_of, cases_of, const_spec_of, const_specs_of, var_spec_of, var_specs_of};
 
-use crate::build_stmts::{
-    build_assign, build_break, build_const, build_continue, build_defer, build_define, build_empty,
-    build_eval, build_for, build_if, build_inner, build_label, build_range, build_return,
-    build_step, build_switch, build_var,
-};
 use crate::copy_exprs::{copy_expr, copy_expr_option, copy_exprs};
-use crate::copy_types::{copy_names, copy_type_option};
+use crate::copy_types::{copy_name_at, copy_name_at_option, copy_names, copy_type_option};
 use go_tree::{
-    Arm, ArmList, Block, Case, CaseList, ConstSpec, ConstSpecList, NoMemory, RangeLeft, Stmt,
-    StmtList, VarSpec, VarSpecList,
+    Arm, ArmList, Block, Case, CaseList, ConstDecl, ConstSpec, ConstSpecList, NoMemory, RangeLeft,
+    Stmt, StmtList, VarDecl, VarSpec, VarSpecList, assign_stmt, break_stmt, const_stmt,
+    continue_stmt, defer_stmt, define_stmt, empty_stmt, eval_stmt, for_stmt, if_stmt, inner_stmt,
+    label_stmt, range_stmt, return_stmt, step_stmt, switch_stmt, var_stmt,
 };
 use std::alloc::Global;
 
@@ -24,15 +21,15 @@ pub fn copy_stmt(alloc: Global, s: &Stmt) -> Result<Stmt, NoMemory>
     match s {
         Stmt::Const(decl) => {
             let specs = copy_const_specs(alloc, &decl.specs)?;
-            Ok(build_const(decl.span, decl.grouped, specs))
+            Ok(const_stmt(ConstDecl::new(decl.span, decl.grouped, specs)))
         }
         Stmt::Var(decl) => {
             let specs = copy_var_specs(alloc, &decl.specs)?;
-            Ok(build_var(decl.span, decl.grouped, specs))
+            Ok(var_stmt(VarDecl::new(decl.span, decl.grouped, specs)))
         }
-        Stmt::Empty { span } => Ok(build_empty(*span)),
-        Stmt::Eval { span, e } => Ok(build_eval(*span, copy_expr(alloc, e)?)),
-        Stmt::Step { span, e, up } => Ok(build_step(*span, copy_expr(alloc, e)?, *up)),
+        Stmt::Empty { span } => Ok(empty_stmt(*span)),
+        Stmt::Eval { span, e } => Ok(eval_stmt(*span, copy_expr(alloc, e)?)),
+        Stmt::Step { span, e, up } => Ok(step_stmt(*span, copy_expr(alloc, e)?, *up)),
         Stmt::Assign {
             span,
             left,
@@ -40,18 +37,21 @@ pub fn copy_stmt(alloc: Global, s: &Stmt) -> Result<Stmt, NoMemory>
             right,
         } => {
             let left = copy_exprs(alloc, left)?;
-            Ok(build_assign(*span, left, *op, copy_exprs(alloc, right)?))
+            Ok(assign_stmt(*span, left, *op, copy_exprs(alloc, right)?))
         }
         Stmt::Define { span, names, right } => {
-            build_define(alloc, *span, names, copy_exprs(alloc, right)?)
+            let names = copy_names(alloc, names)?;
+            Ok(define_stmt(*span, names, copy_exprs(alloc, right)?))
         }
-        Stmt::Return { span, values } => Ok(build_return(*span, copy_exprs(alloc, values)?)),
-        Stmt::Break { span, label } => build_break(alloc, *span, label),
-        Stmt::Continue { span, label } => build_continue(alloc, *span, label),
-        Stmt::Inner(block) => Ok(build_inner(copy_block(alloc, block)?)),
+        Stmt::Return { span, values } => Ok(return_stmt(*span, copy_exprs(alloc, values)?)),
+        Stmt::Break { span, label } => { Ok(break_stmt(*span, copy_name_at_option(alloc, label)?)) }
+        Stmt::Continue { span, label } => {
+            Ok(continue_stmt(*span, copy_name_at_option(alloc, label)?))
+        }
+        Stmt::Inner(block) => Ok(inner_stmt(copy_block(alloc, block)?)),
         Stmt::If { span, arms, last } => {
             let arms = copy_arms(alloc, arms)?;
-            Ok(build_if(*span, arms, copy_block_option(alloc, last)?))
+            Ok(if_stmt(*span, arms, copy_block_option(alloc, last)?))
         }
         Stmt::For {
             span,
@@ -64,7 +64,7 @@ pub fn copy_stmt(alloc: Global, s: &Stmt) -> Result<Stmt, NoMemory>
             let post = copy_stmt_option(alloc, post)?;
             let body = copy_block(alloc, body)?;
             let test = copy_expr_option(alloc, test)?;
-            Ok(build_for(*span, first, test, post, body))
+            Ok(for_stmt(*span, first, test, post, body))
         }
         Stmt::Range {
             span,
@@ -74,7 +74,7 @@ pub fn copy_stmt(alloc: Global, s: &Stmt) -> Result<Stmt, NoMemory>
         } => {
             let body = copy_block(alloc, body)?;
             let left = copy_range_left(alloc, left)?;
-            Ok(build_range(*span, left, copy_expr(alloc, over)?, body))
+            Ok(range_stmt(*span, left, copy_expr(alloc, over)?, body))
         }
         Stmt::Switch {
             span,
@@ -85,11 +85,12 @@ pub fn copy_stmt(alloc: Global, s: &Stmt) -> Result<Stmt, NoMemory>
             let first = copy_stmt_option(alloc, first)?;
             let cases = copy_cases(alloc, cases)?;
             let tag = copy_expr_option(alloc, tag)?;
-            Ok(build_switch(*span, first, tag, cases))
+            Ok(switch_stmt(*span, first, tag, cases))
         }
-        Stmt::Defer { span, call } => Ok(build_defer(*span, copy_expr(alloc, call)?)),
+        Stmt::Defer { span, call } => Ok(defer_stmt(*span, copy_expr(alloc, call)?)),
         Stmt::Label { span, name, stmt } => {
-            build_label(alloc, *span, name, copy_boxed_stmt(alloc, stmt)?)
+            let name = copy_name_at(alloc, name)?;
+            Ok(label_stmt(*span, name, copy_boxed_stmt(alloc, stmt)?))
         }
     }
 }
@@ -160,12 +161,7 @@ fn copy_arm(alloc: Global, arm: &Arm) -> Result<Arm, NoMemory>
 {
     let first = copy_stmt_option(alloc, &arm.first)?;
     let body = copy_block(alloc, &arm.body)?;
-    Ok(Arm {
-        span: arm.span,
-        first,
-        test: copy_expr(alloc, &arm.test)?,
-        body,
-    })
+    Ok(Arm::new(arm.span, first, copy_expr(alloc, &arm.test)?, body))
 }
 
 #[cycle(copy_tree)]
@@ -184,11 +180,8 @@ fn copy_arms(alloc: Global, arms: &ArmList) -> Result<ArmList, NoMemory>
 fn copy_case(alloc: Global, case: &Case) -> Result<Case, NoMemory>
     ensures { IfOk result (λ c. case_of c ≡ case_of case.now) }
 {
-    Ok(Case {
-        span: case.span,
-        values: copy_exprs(alloc, &case.values)?,
-        body: copy_stmts(alloc, &case.body)?,
-    })
+    let values = copy_exprs(alloc, &case.values)?;
+    Ok(Case::new(case.span, values, copy_stmts(alloc, &case.body)?))
 }
 
 #[cycle(copy_tree)]
@@ -209,12 +202,8 @@ fn copy_const_spec(alloc: Global, spec: &ConstSpec) -> Result<ConstSpec, NoMemor
 {
     let names = copy_names(alloc, &spec.names)?;
     let values = copy_exprs(alloc, &spec.values)?;
-    Ok(ConstSpec {
-        span: spec.span,
-        names,
-        of: copy_type_option(alloc, &spec.of)?,
-        values,
-    })
+    let of = copy_type_option(alloc, &spec.of)?;
+    Ok(ConstSpec::new(spec.span, names, of, values))
 }
 
 #[cycle(copy_tree)]
@@ -235,12 +224,8 @@ fn copy_var_spec(alloc: Global, spec: &VarSpec) -> Result<VarSpec, NoMemory>
 {
     let names = copy_names(alloc, &spec.names)?;
     let values = copy_exprs(alloc, &spec.values)?;
-    Ok(VarSpec {
-        span: spec.span,
-        names,
-        of: copy_type_option(alloc, &spec.of)?,
-        values,
-    })
+    let of = copy_type_option(alloc, &spec.of)?;
+    Ok(VarSpec::new(spec.span, names, of, values))
 }
 
 #[cycle(copy_tree)]

@@ -134,6 +134,7 @@ fn copy_param(alloc: Global, p: &Param) -> Result<Param, NoMemory>
     Ok(Param {
         span: p.span,
         name: copy_name_at_option(alloc, &p.name)?,
+        rest: p.rest,
         of: copy_type(alloc, &p.of)?,
     })
 }

@@ -1,8 +1,6 @@
 //! Syntax trees of Go source: copies, depth, and places in a text.
 #![tactic(auto)]
 
-mod build_exprs;
-mod build_stmts;
 pub mod copy_exprs;
 pub mod copy_stmts;
 mod copy_types;
@@ -14,7 +12,7 @@ pub use go_tree::{
     Arm, ArmList, BinOp, Block, Case, CaseList, Comment, ConstDecl, ConstSpec, ConstSpecList, Decl,
     DeclList, Elem, ElemList, Expr, ExprList, FieldSpec, FieldSpecList, FileTree, FuncDecl,
     INLINE_BYTES, ImportDecl, ImportDeclList, ImportSpec, ImportSpecList, MAX_FILE_BYTES, Name,
-    NameAt, NameAtList, NoMemory, Param, ParamList, Place, RangeLeft, Receiver, Sig, Span,
+    NameAt, NameAtList, NoMemory, Param, ParamList, Place, RangeLeft, Receiver, Rest, Sig, Span,
     Spelling, Stmt, StmtList, Text, Token, TokenKind, TypeDecl, TypeExpr, TypeSpec, TypeSpecList,
     UnOp, Value, VarDecl, VarSpec, VarSpecList,
 };

@@ -20,7 +20,7 @@ module _ {S : Type 0} where
     bare_fields (field _ n t fs) = field tt (bare_name n) (bare_type t) (bare_fields fs)
 
   abbrev pub bare_param : Param S → Param (Unit {0})
-  bare_param p = record { span = tt; name = option_map bare_name p.name; of = bare_type p.of }
+  bare_param p = record { span = tt; name = option_map bare_name p.name; rest = p.rest; of = bare_type p.of }
 
   abbrev pub bare_sig : Sig S → Sig (Unit {0})
   bare_sig s = record { params = map bare_param s.params; results = map bare_param s.results }
@@ -35,7 +35,7 @@ module _ {S : Type 0} where
     bare_expr (selector _ b c) = selector tt (bare_expr b) (bare_name c)
     bare_expr (index _ b c) = index tt (bare_expr b) (bare_expr c)
     bare_expr (slice _ b c d) = slice tt (bare_expr b) (bare_expr_option c) (bare_expr_option d)
-    bare_expr (call _ b c) = call tt (bare_expr b) (bare_exprs c)
+    bare_expr (call _ b c d) = call tt (bare_expr b) (bare_exprs c) d
     bare_expr (func_lit _ b _ d) = func_lit tt (bare_sig b) tt (bare_stmts d)
     bare_expr (type_operand _ b) = type_operand tt (bare_type b)
     bare_expr (unary _ b c) = unary tt b (bare_expr c)

@@ -3,6 +3,7 @@
 use Rattle.std.specs.Prelude.{ℕ, Bool, List, Option}
 use Rattle.go_tree.specs.declared.operators.UnOp.{UnOp}
 use Rattle.go_tree.specs.declared.operators.BinOp.{BinOp}
+use Rattle.go_tree.specs.declared.exprs.Rest.{Rest}
 
 -- a name where it stands
 pub record NameAt (S : Type 0) : Type 0 where
@@ -25,6 +26,8 @@ mutual
 pub record Param (S : Type 0) : Type 0 where
   pub span : S
   pub name : Option (NameAt S)
+  -- the last parameter of a variadic function: `...` stands before its type
+  pub rest : Bool
   pub of : TypeExpr S
 
 pub record Sig (S : Type 0) : Type 0 where
@@ -41,7 +44,7 @@ mutual
     selector : S → Expr S → NameAt S → Expr S
     index : S → Expr S → Expr S → Expr S
     slice : S → Expr S → ExprOption S → ExprOption S → Expr S
-    call : S → Expr S → Exprs S → Expr S
+    call : S → Expr S → Exprs S → Rest → Expr S
     func_lit : S → Sig S → S → Stmts S → Expr S
     type_operand : S → TypeExpr S → Expr S
     unary : S → UnOp → Expr S → Expr S

@@ -55,7 +55,7 @@ abbrev pub field_of : f.FieldSpec → Span × pure.NameAt Span × pure.TypeExpr 
 field_of x = (x.span, name_at_of x.name, type_of x.of)
 
 abbrev pub param_of : source_param.Param → pure.Param Span
-param_of p = record { span = p.span; name = option_map name_at_of p.name; of = type_of p.of }
+param_of p = record { span = p.span; name = option_map name_at_of p.name; rest = p.rest; of = type_of p.of }
 
 abbrev pub sig_of : source_sig.Sig → pure.Sig Span
 sig_of g = record { params = map param_of g.params; results = map param_of g.results }
@@ -70,7 +70,7 @@ abbrev mutual
   expr_of (e.Selector' s _ x n) = pure.selector s (expr_of x) (name_at_of n)
   expr_of (e.Index' s _ x _ i) = pure.index s (expr_of x) (expr_of i)
   expr_of (e.Slice' s _ x i j) = pure.slice s (expr_of x) (boxed_expr_option i) (boxed_expr_option j)
-  expr_of (e.Call' s _ f _ xs) = pure.call s (expr_of f) (exprs_row xs)
+  expr_of (e.Call' s _ f _ xs rest) = pure.call s (expr_of f) (exprs_row xs) rest
   expr_of (e.FuncLit' s g s' _ b) = pure.func_lit s (sig_of g) s' (stmts_row b)
   expr_of (e.TypeOperand s t) = pure.type_operand s (type_of t)
   expr_of (e.Unary' s o _ x) = pure.unary s o (expr_of x)

@@ -11,6 +11,17 @@ use crate::stmts::Block;
 use crate::texts::{Name, NameAt, Text};
 use crate::types::{Sig, TypeExpr};
 
+/// How a call hands on the arguments of a variadic function's last parameter (Go specification, Passing arguments to
+/// ... parameters). What is read is `Whole` with `...` after the last argument, and `Plain` without. `Packed` and `Empty`
+/// are calls whose last argument was made of the arguments that stand in the text, or of none.
+#[derive(Clone, Copy, Debug, PartialEq, Eq)]
+pub enum Rest {
+    Plain,
+    Whole,
+    Packed,
+    Empty,
+}
+
 /// An expression (Go specification, Expressions). Parentheses make no node.
 #[derive(Drop)]
 #[cycle(tree)]
@@ -56,6 +67,7 @@ pub enum Expr {
         span: Span,
         callee: Box<Expr>,
         args: ExprList,
+        rest: Rest,
     },
     FuncLit {
         span: Span,

@@ -71,11 +71,13 @@ impl FieldSpecList {
     }
 }
 
-/// One parameter or result (Go specification, Function types); one entry for each name.
+/// One parameter or result (Go specification, Function types); one entry for each name. `rest` is true of the last
+/// parameter of a variadic function, written `...T`; `of` is then T.
 #[derive(Drop)]
 pub struct Param {
     pub span: Span,
     pub name: Option<NameAt>,
+    pub rest: bool,
     pub of: TypeExpr,
 }
 

@@ -1,1 +1,5 @@
+pub mod Operators
+pub mod Terminals
+pub mod Texts
 pub mod Tokens
+pub mod Codes

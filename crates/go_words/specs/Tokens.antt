@@ -3,15 +3,16 @@ pub mod Characters
 pub mod Forms
 pub mod Literals
 pub mod Pieces
-use Rattle.std.specs.Prelude.{◌≡◌, ◌≢◌, ℕ, ◌+◌, ◌==◌, Bool, true, false, ◌||◌, List, [], ◌∷◌, ◌++◌, map, length, Option, Some, None, codes, encode_utf8_all, if◌then◌else◌}
+use Rattle.std.specs.Prelude.{◌≡◌, ◌≢◌, ℕ, ◌+◌, ◌==◌, Bool, true, false, ◌||◌, List, [], ◌∷◌, ◌++◌, map, length, Option, Some, None, codes, bytes_eq, encode_utf8_all, if◌then◌else◌}
 use Rattle.std.specs.Str.{all_scalars}
 use Rattle.go_tree.specs.declared.spans.Span.{Span}
 use Rattle.go_tree.specs.declared.tokens.Token.{Token}
 use Rattle.go_tree.specs.declared.tokens.Comment.{Comment}
 use Rattle.go_tree.specs.declared.tokens.TokenKind.{TokenKind}
 use Rattle.go_tree.specs.declared.tokens.TokenKind.TheVariants.{Ident, Keyword, Operator, Integer, Float, Imaginary, Rune, Str, Inserted}
+use Rattle.go_words.specs.Terminals.{fallthrough, terminal_of, ends_statement}
 use Rattle.go_words.specs.Tokens.Characters.{byte_order_mark, is_listed}
-use Rattle.go_words.specs.Tokens.Pieces.{PieceKind, blanks, remark, token, Piece, IsNext, CutsTo, is_among}
+use Rattle.go_words.specs.Tokens.Pieces.{PieceKind, blanks, remark, token, Piece, IsNext, CutsTo}
 
 -- how many bytes the characters have
 abbrev pub size_of : List ℕ → ℕ
@@ -19,9 +20,8 @@ size_of characters = length (encode_utf8_all characters)
 
 -- a newline after such a token gives a semicolon (Go specification, Semicolons)
 abbrev pub ends_line : TokenKind → List ℕ → Bool
-ends_line Ident word = true
-ends_line Keyword word = is_among (map codes ("break" ∷ "continue" ∷ "fallthrough" ∷ "return" ∷ [])) word
-ends_line Operator word = is_among (map codes ("++" ∷ "--" ∷ ")" ∷ "]" ∷ "}" ∷ [])) word
+ends_line Keyword word = ends_statement (terminal_of Keyword word) || bytes_eq word fallthrough
+ends_line Operator word = ends_statement (terminal_of Operator word)
 ends_line Inserted word = false
 ends_line _ word = true
 

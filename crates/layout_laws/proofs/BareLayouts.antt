@@ -1,14 +1,16 @@
 -- A layout doesn't see spans.
-use Rattle.std.proofs.Common.{◌≡◌, ℕ, ◌+◌, Bool, true, false, ◌||◌, List, [], ◌∷◌, map, Option, Some, None, refl, ap, ◌∙◌}
+use Rattle.std.proofs.Common.{◌≡◌, ℕ, ◌+◌, Bool, true, false, not, ◌&&◌, ◌||◌, List, [], ◌∷◌, map, Option, Some, None, refl, ap, ◌∙◌}
 use Rattle.std.specs.Option.{option_map}
 use Rattle.go_tree.specs.declared.operators.UnOp.{UnOp}
+use Rattle.go_tree.specs.declared.exprs.Rest.{Rest}
+use Rattle.go_tree.specs.declared.exprs.Rest.TheVariants.{Plain, Whole, Packed, Empty}
 use Rattle.go_tree.specs.Tree.{NameAt, TypeExpr, Fields, Param, Sig, Expr, Exprs, ExprOption, Elems, Value, Stmt, Stmts, StmtOption, BlockOption, RangeLeft, Arms, Cases, ValueSpecs, named, pointer, slice_type, map_type, struct_type, no_fields, field, ident, int_lit, rune_lit, str_lit, composite, selector, index, slice, call, func_lit, type_operand, unary, binary, star, no_exprs, expr_and, no_expr, some_expr, no_elems, elem, plain, braced, no_value, some_value, const_decl, var_decl, empty, eval, step, assign, define, return_, break_, continue_, inner, if_, for_, range_, switch, defer, label, no_stmts, stmt_and, no_stmt, some_stmt, no_block, some_block, nothing, assigns, defines, no_arms, arm, no_cases, case, no_specs, spec}
 use Rattle.go_tree.specs.Bare.{bare_name, bare_type, bare_fields, bare_param, bare_sig, bare_expr, bare_exprs, bare_expr_option, bare_elems, bare_value, bare_stmt, bare_stmts, bare_stmt_option, bare_block_option, bare_range_left, bare_arms, bare_cases, bare_value_specs}
-use Rattle.go_read.specs.SpellsTerminals.{level_of}
+use Rattle.go_words.specs.Terminals.{level_of}
 use Rattle.go_layout.specs.Layouts.{Layout, line, ◌⊕◌, within, deeper}
-use Rattle.go_layout.specs.TypeLayout.{names_layout, type_layout, fields_layout, param_name_layout, param_list_layout, params_layout, result_layout, results_layout, sig_layout}
-use Rattle.go_layout.specs.Parens.{needs_parens, is_integer, runs_into, header_within, closed_within}
-use Rattle.go_layout.specs.TreeLayout.{stmt_end, clause_indent, gives_semicolon, spec_type_layout, equals_before, in_group, in_braces, expr_layout, exprs_layout, option_layout, test_layout, elems_layout, value_layout, stmt_layout, stmts_layout, post_layout, first_layout, arms_layout, last_layout, left_layout, cases_layout, specs_layout, operand_layout}
+use Rattle.go_layout.specs.TypeLayout.{names_layout, type_layout, fields_layout, param_name_layout, param_layout, param_list_layout, params_layout, result_layout, results_layout, sig_layout}
+use Rattle.go_layout.specs.Parens.{needs_parens, is_integer, runs_into, ends_in_integer, last_ends_in_integer, header_within, closed_within}
+use Rattle.go_layout.specs.TreeLayout.{gap_where, closes, rest_layout, stmt_end, clause_indent, gives_semicolon, spec_type_layout, equals_before, in_group, in_braces, expr_layout, exprs_layout, option_layout, test_layout, elems_layout, value_layout, stmt_layout, stmts_layout, post_layout, first_layout, arms_layout, last_layout, left_layout, cases_layout, specs_layout, operand_layout}
 
 join : {a b c d : Layout} → a ≡ b → c ≡ d → (a ⊕ c) ≡ (b ⊕ d)
 join p q = λ k. p k ⊕ q k
@@ -39,10 +41,13 @@ module _ {S : Type 0} where
   param_name_bare None = refl
   param_name_bare (Some n) = refl
 
+  param_layout_bare : (p : Param S) → param_layout (bare_param p) ≡ param_layout p
+  param_layout_bare p = join (param_name_bare p.name) (join refl (type_bare p.of))
+
   param_list_bare : (ps : List (Param S)) → param_list_layout (map bare_param ps) ≡ param_list_layout ps
   param_list_bare [] = refl
-  param_list_bare (p ∷ []) = join (param_name_bare p.name) (join (type_bare p.of) refl)
-  param_list_bare (p ∷ q ∷ ps) = join (param_name_bare p.name) (join (type_bare p.of) (join refl (param_list_bare (q ∷ ps))))
+  param_list_bare (p ∷ []) = join (param_layout_bare p) refl
+  param_list_bare (p ∷ q ∷ ps) = join (param_layout_bare p) (join refl (param_list_bare (q ∷ ps)))
 
   params_bare : (ps : List (Param S)) → params_layout (map bare_param ps) ≡ params_layout ps
   params_bare ps = join refl (join (param_list_bare ps) refl)
@@ -56,7 +61,7 @@ module _ {S : Type 0} where
   results_bare (p ∷ []) = join refl (result_bare p.name p)
   results_bare (p ∷ q ∷ ps) = join refl (params_bare (p ∷ q ∷ ps))
 
-  sig_bare : (g : Sig S) → sig_layout (bare_sig g) ≡ sig_layout g
+  pub sig_bare : (g : Sig S) → sig_layout (bare_sig g) ≡ sig_layout g
   sig_bare g = join (params_bare g.params) (results_bare g.results)
 
   -- ---- parentheses
@@ -74,7 +79,7 @@ module _ {S : Type 0} where
   needs_bare l h c (selector _ _ _) = refl
   needs_bare l h c (index _ _ _) = refl
   needs_bare l h c (slice _ _ _ _) = refl
-  needs_bare l h c (call _ _ _) = refl
+  needs_bare l h c (call _ _ _ _) = refl
   needs_bare l h c (func_lit _ _ _ _) = refl
   needs_bare l h c (type_operand _ (named _ _ _)) = refl
   needs_bare l h c (type_operand _ (pointer _ _)) = refl
@@ -94,7 +99,7 @@ module _ {S : Type 0} where
   integer_bare (selector _ _ _) = refl
   integer_bare (index _ _ _) = refl
   integer_bare (slice _ _ _ _) = refl
-  integer_bare (call _ _ _) = refl
+  integer_bare (call _ _ _ _) = refl
   integer_bare (func_lit _ _ _ _) = refl
   integer_bare (type_operand _ _) = refl
   integer_bare (unary _ _ _) = refl
@@ -110,12 +115,43 @@ module _ {S : Type 0} where
   runs_bare o (selector _ _ _) = refl
   runs_bare o (index _ _ _) = refl
   runs_bare o (slice _ _ _ _) = refl
-  runs_bare o (call _ _ _) = refl
+  runs_bare o (call _ _ _ _) = refl
   runs_bare o (func_lit _ _ _ _) = refl
   runs_bare o (type_operand _ _) = refl
   runs_bare o (unary _ _ _) = refl
   runs_bare o (binary _ _ _ _) = refl
   runs_bare o (star _ _) = refl
+
+  -- ---- the dots of a call
+
+  ends_bare : (h c : Bool) (e : Expr S) → ends_in_integer h c (bare_expr e) ≡ ends_in_integer h c e
+  ends_bare h c (ident _ _) = refl
+  ends_bare h c (int_lit _ _) = refl
+  ends_bare h c (rune_lit _ _) = refl
+  ends_bare h c (str_lit _ _) = refl
+  ends_bare h c (composite _ _ _) = refl
+  ends_bare h c (selector _ _ _) = refl
+  ends_bare h c (index _ _ _) = refl
+  ends_bare h c (slice _ _ _ _) = refl
+  ends_bare h c (call _ _ _ _) = refl
+  ends_bare h c (func_lit _ _ _ _) = refl
+  ends_bare h c (type_operand _ _) = refl
+  ends_bare h c (unary _ o e) = λ k. not (needs_bare 6 h c e k || runs_bare o e k) && ends_bare h c e k
+  ends_bare h c (binary _ o a b) = λ k. not (needs_bare (level_of o + 1) h c b k) && ends_bare h c b k
+  ends_bare h c (star _ e) = λ k. not (needs_bare 6 h c e k) && ends_bare h c e k
+
+  last_ends_bare : (h c : Bool) (xs : Exprs S) → last_ends_in_integer h c (bare_exprs xs) ≡ last_ends_in_integer h c xs
+  last_ends_bare h c no_exprs = refl
+  last_ends_bare h c (expr_and e no_exprs) = λ k. not (needs_bare 1 h c e k) && ends_bare h c e k
+  last_ends_bare h c (expr_and e (expr_and e2 es)) = last_ends_bare h c (expr_and e2 es)
+
+  rest_bare : (rest : Rest) (xs : Exprs S) → rest_layout rest (bare_exprs xs) ≡ rest_layout rest xs
+  rest_bare Plain xs = refl
+  rest_bare Whole xs = join (ap gap_where (last_ends_bare false false xs)) refl
+  rest_bare Packed xs = refl
+  rest_bare Empty xs = refl
+
+  -- ---- expressions
 
   abbrev pub Same : Expr S → Type 0
   Same e = (i : List ℕ) (h c : Bool) → expr_layout i h c (bare_expr e) ≡ expr_layout i h c e
@@ -179,7 +215,7 @@ module _ {S : Type 0} where
         join (placed e (needs_parens 7 h false e || is_integer e) (needs_parens 7 h false (bare_expr e) || is_integer (bare_expr e)) i h false (λ k. needs_bare 7 h false e k || integer_bare e k) (expr_bare e)) refl
     expr_bare (index s e at) i h c = join (here e i 7 h false (expr_bare e)) (join refl (join (here at i 1 false false (expr_bare at)) refl))
     expr_bare (slice s e from to) i h c = join (here e i 7 h false (expr_bare e)) (join refl (join (option_bare from i false) (join refl (join (option_bare to i false) refl))))
-    expr_bare (call s f xs) i h c = join (here f i 7 h true (expr_bare f)) (join refl (join (exprs_bare xs i false true) refl))
+    expr_bare (call s f xs rest) i h c = join (here f i 7 h true (expr_bare f)) (join refl (join (exprs_bare xs i false (closes rest)) (join (rest_bare rest xs) refl)))
     expr_bare (func_lit s g sb body) i h c = join refl (join (sig_bare g) (join refl (block i body (stmts_layout (deeper i) (Some i) (bare_stmts body)) (stmts_layout (deeper i) (Some i) body) (stmts_bare body (deeper i) (Some i)))))
     expr_bare (type_operand s t) i h c = type_bare t
     expr_bare (unary s o e) i h c =

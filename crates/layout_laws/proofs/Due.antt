@@ -1,10 +1,10 @@
 -- Whether a newline after the text of a tree gives a semicolon.
 use Rattle.std.proofs.Common.{◌≡◌, ℕ, ◌+◌, Bool, true, false, ◌||◌, List, [], ◌∷◌, Option, Some, None, refl}
 use Rattle.std.specs.Prelude.{codes}
-use Rattle.go_tree.specs.Tree.{NameAt, TypeExpr, Expr, Exprs, Stmt, Arms, ValueSpecs, named, pointer, slice_type, map_type, struct_type, ident, int_lit, rune_lit, str_lit, composite, selector, index, slice, call, func_lit, type_operand, unary, binary, star, no_exprs, expr_and, const_decl, var_decl, empty, eval, step, assign, define, return_, break_, continue_, inner, if_, for_, range_, switch, defer, label, no_arms, arm, no_stmt, some_stmt, no_block, some_block, no_specs, spec}
-use Rattle.go_read.specs.SpellsTerminals.{level_of}
+use Rattle.go_tree.specs.Tree.{NameAt, TypeExpr, Param, Sig, Expr, Exprs, Stmt, Arms, ValueSpecs, named, pointer, slice_type, map_type, struct_type, ident, int_lit, rune_lit, str_lit, composite, selector, index, slice, call, func_lit, type_operand, unary, binary, star, no_exprs, expr_and, const_decl, var_decl, empty, eval, step, assign, define, return_, break_, continue_, inner, if_, for_, range_, switch, defer, label, no_arms, arm, no_stmt, some_stmt, no_block, some_block, no_specs, spec}
+use Rattle.go_words.specs.Terminals.{level_of}
 use Rattle.go_layout.specs.Layouts.{Layout, within, op}
-use Rattle.go_layout.specs.TypeLayout.{type_layout, names_layout}
+use Rattle.go_layout.specs.TypeLayout.{type_layout, names_layout, result_layout, results_layout, sig_layout}
 use Rattle.go_layout.specs.Parens.{needs_parens, runs_into, header_within, closed_within}
 use Rattle.go_layout.specs.TreeLayout.{expr_layout, exprs_layout, stmt_layout, arms_layout, specs_layout, spec_type_layout, equals_before, gives_semicolon}
 use Rattle.layout_laws.specs.Formed.{HasNames, HasExprs, HasArms, FormedSpec, FormedGroup, FormedSpecs, FormedStmt}
@@ -17,6 +17,18 @@ type_due (pointer s t) d = type_due t (due_of (op (codes "*")) d)
 type_due (slice_type s t) d = type_due t true
 type_due (map_type s k t) d = type_due t true
 type_due (struct_type s fs) d = refl
+
+one_due : (o : Option (NameAt U)) (p : Param U) (d : Bool) → due_of (result_layout o p) d ≡ true
+one_due None p d = type_due p.of d
+one_due (Some n) p d = refl
+
+results_due : (ps : List (Param U)) → due_of (results_layout ps) true ≡ true
+results_due [] = refl
+results_due (p ∷ []) = one_due p.name p true
+results_due (p ∷ q ∷ ps) = refl
+
+pub sig_due : (g : Sig U) (d : Bool) → due_of (sig_layout g) d ≡ true
+sig_due g d = results_due g.results
 
 within_due : (p : Bool) (a : Layout) (d : Bool) → ((d2 : Bool) → due_of a d2 ≡ true) → due_of (within p a) d ≡ true
 within_due true a d k = refl
@@ -31,7 +43,7 @@ expr_due (composite s t es) i h c d = refl
 expr_due (selector s e n) i h c d = refl
 expr_due (index s e at) i h c d = refl
 expr_due (slice s e from to) i h c d = refl
-expr_due (call s f xs) i h c d = refl
+expr_due (call s f xs rest) i h c d = refl
 expr_due (func_lit s g sb body) i h c d = refl
 expr_due (type_operand s t) i h c d = type_due t d
 expr_due (unary s o e) i h c d = let p = needs_parens 6 h c e || runs_into o e in within_due p (expr_layout i (header_within p h) (closed_within p c) e) _ (λ d2. expr_due e i (header_within p h) (closed_within p c) d2)

@@ -1,9 +1,10 @@
 -- An expression or a statement that tokens of a text spell is well formed.
 use Rattle.std.proofs.Common.{◌≡◌, ℕ, Bool, true, List, Option, Some, None, refl}
+use Rattle.go_tree.specs.declared.exprs.Rest.{Rest}
 use Rattle.go_tree.specs.Tree.{NameAt, TypeExpr, Expr, Exprs, ExprOption, Elems, Value, ValueOption, Stmt, Stmts, StmtOption, BlockOption, RangeLeft, Arms, Cases, ValueSpecs, no_exprs, expr_and}
 use Rattle.go_read.specs.SpellsTypes.{Lexemes, SpellsType, named_rule, qualified_rule, pointer_rule, slice_type_rule, map_type_rule, struct_type_rule, type_parens_rule}
-use Rattle.go_read.specs.Spells.{starts_type, SpellsLiteralType, SpellsBare, SpellsExpr, SpellsOperand, SpellsOption, SpellsExprs, SpellsArgs, SpellsElems, SpellsElem, SpellsValue, SpellsSimple, SpellsPart, SpellsFirst, SpellsStmt, SpellsBlock, SpellsStmts, SpellsIf, SpellsArm, SpellsLeft, SpellsCases, SpellsDecl, SpellsSpecs, SpellsSpec, named_literal_rule, qualified_literal_rule, type_literal_rule, ident_rule, int_rule, rune_rule, text_rule, composite_rule, func_rule, type_rule, selector_rule, index_rule, slice_rule, call_rule, unary_rule, star_rule, binary_rule, bare_rule, parens_rule, operand_rule, no_expr_rule, some_expr_rule, last_expr_rule, more_exprs_rule, no_args_rule, args_rule, comma_args_rule, no_elems_rule, last_elem_rule, more_elems_rule, value_rule, keyed_rule, plain_rule, braced_rule, eval_rule, increment_rule, decrement_rule, assign_rule, define_rule, no_part_rule, part_rule, no_first_rule, first_rule, empty_rule, simple_rule, const_rule, var_rule, return_rule, return_values_rule, break_rule, break_label_rule, continue_rule, continue_label_rule, block_rule, if_rule, while_rule, for_rule, range_rule, switch_rule, defer_rule, label_rule, braces_rule, no_stmts_rule, last_stmt_rule, more_stmts_rule, only_arm_rule, else_rule, else_if_rule, arm_rule, no_left_rule, assigns_rule, defines_rule, no_cases_rule, case_rule, default_rule, single_rule, group_rule, no_specs_rule, last_spec_rule, more_specs_rule, repeated_rule, typed_var_rule, values_rule, typed_values_rule}
-use Rattle.layout_laws.specs.Formed.{FormedType, FormedTypeOption, FormedLiteralType, FormedTypeOperand, FormedExpr, FormedOperand, FormedOption, FormedExprs, FormedElems, FormedKey, FormedValue, FormedStmt, FormedStmts, FormedPart, FormedArms, FormedBlock, FormedLeft, FormedCases, FormedGroup, FormedSpec, FormedSpecs, FormedNames, HasNames, HasExprs, HasArms, is_simple}
+use Rattle.go_read.specs.Spells.{starts_type, SpellsLiteralType, SpellsBare, SpellsExpr, SpellsOperand, SpellsOption, SpellsExprs, SpellsArgs, SpellsElems, SpellsElem, SpellsValue, SpellsSimple, SpellsPart, SpellsFirst, SpellsStmt, SpellsBlock, SpellsStmts, SpellsIf, SpellsArm, SpellsLeft, SpellsCases, SpellsDecl, SpellsSpecs, SpellsSpec, named_literal_rule, qualified_literal_rule, type_literal_rule, ident_rule, int_rule, rune_rule, text_rule, composite_rule, func_rule, type_rule, selector_rule, index_rule, slice_rule, call_rule, unary_rule, star_rule, binary_rule, bare_rule, parens_rule, operand_rule, no_expr_rule, some_expr_rule, last_expr_rule, more_exprs_rule, no_args_rule, args_rule, comma_args_rule, rest_args_rule, comma_rest_args_rule, no_elems_rule, last_elem_rule, more_elems_rule, value_rule, keyed_rule, plain_rule, braced_rule, eval_rule, increment_rule, decrement_rule, assign_rule, define_rule, no_part_rule, part_rule, no_first_rule, first_rule, empty_rule, simple_rule, const_rule, var_rule, return_rule, return_values_rule, break_rule, break_label_rule, continue_rule, continue_label_rule, block_rule, if_rule, while_rule, for_rule, range_rule, switch_rule, defer_rule, label_rule, braces_rule, no_stmts_rule, last_stmt_rule, more_stmts_rule, only_arm_rule, else_rule, else_if_rule, arm_rule, no_left_rule, assigns_rule, defines_rule, no_cases_rule, case_rule, default_rule, single_rule, group_rule, no_specs_rule, last_spec_rule, more_specs_rule, repeated_rule, typed_var_rule, values_rule, typed_values_rule}
+use Rattle.layout_laws.specs.Formed.{FormedType, FormedTypeOption, FormedLiteralType, FormedTypeOperand, FormedExpr, FormedOperand, FormedOption, FormedExprs, FormedRest, FormedElems, FormedKey, FormedValue, FormedStmt, FormedStmts, FormedPart, FormedArms, FormedBlock, FormedLeft, FormedCases, FormedGroup, FormedSpec, FormedSpecs, FormedNames, HasNames, HasExprs, HasArms, is_simple}
 use Rattle.layout_laws.specs.Real.{AreReal}
 use Rattle.layout_laws.proofs.FormedTypes.{type_formed, sig_formed, names_formed}
 
@@ -48,7 +49,7 @@ module _ {S : Type 0} (mark : Lexemes → Lexemes → S) where
     bare_formed (selector_rule a) g = let x = operand_formed a g in ((x.0.0, x.0.1, x.1.1.0), x.1.1.1)
     bare_formed (index_rule a b) g = let x = operand_formed a g in let y = operand_formed b x.1.1 in ((x.0.0, x.0.1, y.0.0, y.0.1), y.1.1)
     bare_formed (slice_rule a b c) g = let x = operand_formed a g in let y = option_formed b x.1.1 in let z = option_formed c y.1.1 in ((x.0.0, x.0.1, y.0, z.0), z.1.1)
-    bare_formed (call_rule a b) g = let x = expr_formed a g in let y = args_formed b x.1.1 in ((x.0, y.0), y.1)
+    bare_formed (call_rule a b) g = let x = expr_formed a g in let y = args_formed b x.1.1 in ((x.0, y.0, y.1), y.2)
     bare_formed (unary_rule a b) g = operand_formed b g.1
     bare_formed (star_rule a b) g = operand_formed b g.1
     bare_formed (binary_rule a b c) g = let x = operand_formed b g in let y = operand_formed c x.1.1 in ((x.0.0, x.0.1, y.0.0, y.0.1), y.1)
@@ -68,10 +69,12 @@ module _ {S : Type 0} (mark : Lexemes → Lexemes → S) where
     exprs_formed (last_expr_rule a) g = let x = operand_formed a g in ((x.0.0, x.0.1, tt), tt, x.1)
     exprs_formed (more_exprs_rule a b) g = let x = operand_formed a g in let y = exprs_formed b x.1.1 in ((x.0.0, x.0.1, y.0), tt, y.2)
 
-    args_formed : {xs : Exprs S} {ts r : Lexemes} → SpellsArgs mark xs ts r → AreReal ts → FormedExprs xs × AreReal r
-    args_formed no_args_rule g = (tt, g.1)
-    args_formed (args_rule a) g = let x = exprs_formed a g in (x.0, x.2.1)
-    args_formed (comma_args_rule a) g = let x = exprs_formed a g in (x.0, x.2.1.1)
+    args_formed : {xs : Exprs S} {rest : Rest} {ts r : Lexemes} → SpellsArgs mark xs rest ts r → AreReal ts → FormedExprs xs × FormedRest rest xs × AreReal r
+    args_formed no_args_rule g = (tt, tt, g.1)
+    args_formed (args_rule a) g = let x = exprs_formed a g in (x.0, tt, x.2.1)
+    args_formed (comma_args_rule a) g = let x = exprs_formed a g in (x.0, tt, x.2.1.1)
+    args_formed (rest_args_rule a) g = let x = exprs_formed a g in (x.0, x.1, x.2.1.1)
+    args_formed (comma_rest_args_rule a) g = let x = exprs_formed a g in (x.0, x.1, x.2.1.1.1)
 
     elems_formed : {es : Elems S} {ts r : Lexemes} → SpellsElems mark es ts r → AreReal ts → FormedElems es × AreReal r
     elems_formed no_elems_rule g = (tt, g)

@@ -17,7 +17,7 @@ use Rattle.go_scan.proofs.Derivatives.{and_parts, and_true}
 use Rattle.go_scan.proofs.AutomatonLemmas.{run}
 use Rattle.go_scan.proofs.LexemeLemmas.{form_runs, run_dead}
 use Rattle.go_scan.proofs.PieceKinds.{Sort, a_blank, a_letter, a_lexeme, sort_of, never_empty}
-use Rattle.go_read.specs.SpellsTerminals.{lex, terminal_of, lexemes}
+use Rattle.go_words.specs.Terminals.{lex, terminal_of, lexemes}
 use Rattle.go_read.specs.SpellsTypes.{Lexemes}
 use Rattle.go_layout.specs.Layouts.{Layout, no_text, a_token, gap, line, ◌⊕◌, text_of}
 use Rattle.layout_laws.specs.LayoutTokens.{HasTokens, of_nothing, of_token, of_gap, of_line, of_end, of_both}

@@ -3,16 +3,16 @@ use Rattle.std.proofs.Common.{◌≡◌, ℕ, Bool, true, false, List, [], ◌�
 use Rattle.std.specs.Prelude.{codes}
 use Rattle.go_tree.specs.Tree.{NameAt, TypeExpr, Expr, Exprs, ExprOption, Stmt, Stmts, StmtOption, RangeLeft, Cases, ValueSpecs, no_exprs, expr_and, no_expr, some_expr, no_stmts, stmt_and, no_stmt, some_stmt, nothing, assigns, defines, no_cases, case, no_specs, spec}
 use Rattle.go_words.specs.Tokens.Pieces.{no_word_first}
-use Rattle.go_layout.specs.Layouts.{within, deeper, ◌⊕◌}
+use Rattle.go_layout.specs.Layouts.{line, op, within, deeper, ◌⊕◌}
 use Rattle.go_layout.specs.TypeLayout.{names_layout, type_layout}
 use Rattle.go_layout.specs.Parens.{needs_parens, header_within, closed_within}
 use Rattle.go_layout.specs.TreeLayout.{spaced, in_group, clause_indent, expr_layout, exprs_layout, option_layout, test_layout, stmt_layout, stmts_layout, part_layout, post_layout, first_layout, left_layout, cases_layout, specs_layout, spec_type_layout, equals_before, spec_end}
 use Rattle.layout_laws.specs.Formed.{HasNames, HasExprs, FormedGroup, FormedNames, FormedTypeOption, FormedExpr, FormedExprs, FormedOption, FormedStmt, FormedStmts, FormedPart, FormedLeft, FormedSpecs}
-use Rattle.layout_laws.specs.LayoutPieces.{letters_of}
+use Rattle.layout_laws.specs.LayoutPieces.{letters_of, due_of}
 use Rattle.layout_laws.specs.Laid.{is_indent, Laid}
 use Rattle.layout_laws.proofs.SpelledTypes.{U}
 use Rattle.layout_laws.proofs.NextTokens.{no_blank_first}
-use Rattle.layout_laws.proofs.LaidTokens.{avoids, good_keyword, gap_laid, paren_laid, end_paren_laid, line_laid}
+use Rattle.layout_laws.proofs.LaidTokens.{avoids, good_keyword, gap_laid, colon_laid, paren_laid, end_paren_laid, line_laid}
 use Rattle.layout_laws.proofs.Opens.{opens_no_blank, opens_no_equals, names_open, type_opens}
 use Rattle.layout_laws.proofs.TreeOpens.{placed_opens, exprs_open, stmt_opens}
 use Rattle.layout_laws.proofs.LaidTypes.{word_stop, type_laid, assign_spaced}
@@ -165,3 +165,19 @@ pub one_spec_starts : (ss : ValueSpecs U) (constant : Bool) (i : List ℕ) (more
 one_spec_starts no_specs constant i more one f = absurd one
 one_spec_starts (spec s ns t xs (spec _ _ _ _ _)) constant i more one f = absurd one
 one_spec_starts (spec s ns t xs no_specs) constant i more one f = spec_starts ns (letters_of (spec_type_layout t ⊕ equals_before xs ⊕ exprs_layout i false false xs) more) f.0 f.1
+
+-- ---- the clauses of a `switch`
+
+-- the statements of a clause and the clauses after it, from the colon on
+pub clause_laid : (i : List ℕ) (body : Stmts U) (cs : Cases U) (d : Bool) (more : List ℕ) → is_indent i ≡ true → FormedStmts body → no_blank_first more ≡ true
+    → ((i2 o : List ℕ) (d2 : Bool) (more2 : List ℕ) → is_indent i2 ≡ true → is_indent o ≡ true → no_blank_first more2 ≡ true → Laid (stmts_layout i2 (Some o) body) d2 more2)
+    → ((d2 : Bool) → Laid (cases_layout i cs) d2 more)
+    → Laid (op (codes ":") ⊕ line false (clause_indent i body) ⊕ stmts_layout (deeper i) (Some i) body ⊕ cases_layout i cs) d more
+clause_laid i body cs d more sp f off ih others =
+    let rest = letters_of (cases_layout i cs) more in let inside = letters_of (stmts_layout (deeper i) (Some i) body) rest in let starts = cases_start cs i more off in (
+      colon_laid (10 ∷ (clause_indent i body ++ inside)) refl,
+      (
+        (refl, line_laid (clause_indent i body) inside (clause_spaces i body sp) (body_start body (deeper i) (Some i) rest f starts)),
+        (ih (deeper i) i false rest (deeper_spaces i sp) sp starts, others (due_of (stmts_layout (deeper i) (Some i) body) false)),
+      ),
+    )

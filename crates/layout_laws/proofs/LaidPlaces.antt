@@ -1,62 +1,70 @@
 -- An operand in its place, an operator in front of its operand, and a body between braces.
-use Rattle.std.proofs.Common.{◌≡◌, ℕ, Bool, true, false, not, ◌||◌, ◌==◌, List, [], ◌∷◌, ◌++◌, Option, Some, refl, arith}
+use Rattle.std.proofs.Common.{◌≡◌, ℕ, Bool, true, false, not, ◌&&◌, ◌||◌, ◌==◌, List, [], ◌∷◌, ◌++◌, Option, Some, refl, arith}
 use Rattle.std.specs.Prelude.{codes}
 use Rattle.go_tree.specs.declared.operators.UnOp.{UnOp}
 use Rattle.go_tree.specs.declared.operators.UnOp.TheVariants.{Plus, Minus, Not, Flip, Address}
 use Rattle.go_tree.specs.declared.tokens.TokenKind.TheVariants.{Operator}
-use Rattle.go_tree.specs.Tree.{Expr, Stmts, ident, int_lit, rune_lit, str_lit, composite, selector, index, slice, call, func_lit, type_operand, unary, binary, star, no_stmts, stmt_and}
+use Rattle.go_tree.specs.declared.exprs.Rest.{Rest}
+use Rattle.go_tree.specs.declared.exprs.Rest.TheVariants.{Plain, Whole, Packed, Empty}
+use Rattle.go_tree.specs.Tree.{Expr, Exprs, Stmts, ident, int_lit, rune_lit, str_lit, composite, selector, index, slice, call, func_lit, type_operand, unary, binary, star, no_stmts, stmt_and}
 use Rattle.go_words.specs.Tokens.Characters.{each, is_listed}
 use Rattle.go_scan.proofs.Derivatives.{and_parts, and_true}
-use Rattle.go_layout.specs.Layouts.{within, op, deeper, ◌⊕◌}
-use Rattle.go_layout.specs.Operators.{unary_spelling}
-use Rattle.go_layout.specs.Parens.{needs_parens, is_integer, runs_into, is_one_operator, header_within, closed_within}
-use Rattle.go_layout.specs.TreeLayout.{expr_layout, in_braces, stmts_layout, stmt_layout, stmt_end, gives_semicolon}
-use Rattle.layout_laws.specs.Formed.{FormedExpr, FormedStmts}
+use Rattle.go_layout.specs.Layouts.{Layout, within, op, deeper, ◌⊕◌}
+use Rattle.go_words.specs.Operators.{unary_spelling}
+use Rattle.go_layout.specs.Parens.{needs_parens, is_integer, runs_into, ends_in_integer, last_ends_in_integer, is_one_operator, header_within, closed_within}
+use Rattle.go_layout.specs.TreeLayout.{gap_where, closes, rest_layout, exprs_layout, expr_layout, in_braces, stmts_layout, stmt_layout, stmt_end, gives_semicolon}
+use Rattle.layout_laws.specs.Formed.{FormedRest, FormedExpr, FormedStmts}
 use Rattle.layout_laws.specs.LayoutPieces.{letters_of}
 use Rattle.layout_laws.specs.Laid.{IsLaid, is_indent, Laid}
 use Rattle.layout_laws.proofs.SpelledTypes.{U}
 use Rattle.layout_laws.proofs.Places.{or_false, needs_parts}
 use Rattle.layout_laws.proofs.NextTokens.{no_blank_first}
-use Rattle.layout_laws.proofs.LaidTokens.{avoids, good_operator, leads_only, before_laid, paren_laid, end_paren_laid, brace_laid, end_brace_laid, line_laid}
+use Rattle.layout_laws.proofs.LaidTokens.{avoids, good_operator, leads_only, before_laid, paren_laid, end_paren_laid, brace_laid, end_brace_laid, gap_laid, ellipsis_laid, line_laid}
 use Rattle.layout_laws.proofs.Opens.{banned, opens, opens_no_blank, level_low, expr_opens}
 use Rattle.layout_laws.proofs.TreeOpens.{stmt_opens}
-use Rattle.layout_laws.proofs.LaidTypes.{ends_ok, ends_with}
+use Rattle.layout_laws.proofs.LaidTypes.{ends_ok, ends_with, ends_with_dot}
 
--- a dot may follow its last token
-abbrev pub selectable : Expr U → Bool
-selectable (int_lit _ _) = false
-selectable (unary _ _ _) = false
-selectable (binary _ _ _ _) = false
-selectable (star _ _) = false
-selectable _ = true
+-- the layout of an operand where nothing else asks for parentheses, and of a body
+abbrev pub here : List ℕ → ℕ → Bool → Bool → Expr U → Layout
+here i l h c e = within (needs_parens l h c e) (expr_layout i (header_within (needs_parens l h c e) h) (closed_within (needs_parens l h c e) c) e)
 
-pub selectable_at : (e : Expr U) (h : Bool) → needs_parens 7 h false e || is_integer e ≡ false → selectable e ≡ true
-selectable_at (int_lit s n) h q = absurd (nope (or_false (needs_parens 7 h false (int_lit s n)) true q).1)
+abbrev pub block : List ℕ → Stmts U → Layout
+block i body = in_braces i body (stmts_layout (deeper i) (Some i) body)
+
+-- what stands bare before a dot doesn't end in an integer
+pub ends_apart : (e : Expr U) (h : Bool) → needs_parens 7 h false e || is_integer e ≡ false → ends_in_integer h false e ≡ false
+ends_apart (int_lit s n) h q = absurd (nope (or_false (needs_parens 7 h false (int_lit s n)) true q).1)
   where
     nope : true ≡ false → ⊥
     nope e = cc
-selectable_at (unary _ _ _) h q = absurd cc
-selectable_at (binary s o a b) h q =
+ends_apart (unary _ _ _) h q = absurd cc
+ends_apart (binary s o a b) h q =
     let low = level_low o in let high = (needs_parts 7 h false (binary s o a b) (or_false (needs_parens 7 h false (binary s o a b)) false q).0).0 in absurd (omega (arith, low, high))
-selectable_at (star _ _) h q = absurd cc
-selectable_at (ident _ _) h q = refl
-selectable_at (rune_lit _ _) h q = refl
-selectable_at (str_lit _ _) h q = refl
-selectable_at (composite _ _ _) h q = refl
-selectable_at (selector _ _ _) h q = refl
-selectable_at (index _ _ _) h q = refl
-selectable_at (slice _ _ _ _) h q = refl
-selectable_at (call _ _ _) h q = refl
-selectable_at (func_lit _ _ _ _) h q = refl
-selectable_at (type_operand _ _) h q = refl
+ends_apart (star _ _) h q = absurd cc
+ends_apart (ident _ _) h q = refl
+ends_apart (rune_lit _ _) h q = refl
+ends_apart (str_lit _ _) h q = refl
+ends_apart (composite _ _ _) h q = refl
+ends_apart (selector _ _ _) h q = refl
+ends_apart (index _ _ _) h q = refl
+ends_apart (slice _ _ _ _) h q = refl
+ends_apart (call _ _ _ _) h q = refl
+ends_apart (func_lit _ _ _ _) h q = refl
+ends_apart (type_operand _ _) h q = refl
 
+-- nor does an operand that stands bare at the end of such an expression
+pub bare_ends : (p b : Bool) → p ≡ false → not p && b ≡ false → b ≡ false
+bare_ends true b q h = absurd cc
+bare_ends false b q h = h
+
+-- a dot may follow where the last token is no integer
 abbrev pub LaidExpr : Expr U → Type 0
-LaidExpr e = (i : List ℕ) → is_indent i ≡ true → (h c d dotted : Bool) (more : List ℕ) → (dotted ≡ true → selectable e ≡ true) → ends_ok dotted more ≡ true → Laid (expr_layout i h c e) d more
+LaidExpr e = (i : List ℕ) → is_indent i ≡ true → (h c d dotted : Bool) (more : List ℕ) → (dotted ≡ true → ends_in_integer h c e ≡ false) → ends_ok dotted more ≡ true → Laid (expr_layout i h c e) d more
 
 pub never : {X : Type 0} → false ≡ true → X
 never e = absurd cc
 
-pub placed_laid : (e : Expr U) (p : Bool) (i : List ℕ) (h c d dotted : Bool) (more : List ℕ) → is_indent i ≡ true → LaidExpr e → (p ≡ false → dotted ≡ true → selectable e ≡ true) → ends_ok dotted more ≡ true
+pub placed_laid : (e : Expr U) (p : Bool) (i : List ℕ) (h c d dotted : Bool) (more : List ℕ) → is_indent i ≡ true → LaidExpr e → (p ≡ false → dotted ≡ true → ends_in_integer h c e ≡ false) → ends_ok dotted more ≡ true
     → Laid (within p (expr_layout i (header_within p h) (closed_within p c) e)) d more
 placed_laid e true i h c d dotted more sp ih sel off =
     (paren_laid (letters_of (expr_layout i false true e) (41 ∷ more)), (ih i sp false true false false (41 ∷ more) (λ q. never q) (ends_with false 41 more refl), end_paren_laid more))
@@ -66,9 +74,27 @@ placed_laid e false i h c d dotted more sp ih sel off = ih i sp h c d dotted mor
 pub here_laid : (e : Expr U) (p : Bool) (i : List ℕ) (h c d : Bool) (more : List ℕ) → is_indent i ≡ true → LaidExpr e → ends_ok false more ≡ true → Laid (within p (expr_layout i (header_within p h) (closed_within p c) e)) d more
 here_laid e p i h c d more sp ih off = placed_laid e p i h c d false more sp ih (λ x q. never q) off
 
-pub undotted : (dotted : Bool) (more : List ℕ) → (dotted ≡ true → false ≡ true) → ends_ok dotted more ≡ true → ends_ok false more ≡ true
-undotted true more q h = never (q refl)
+pub undotted : (dotted : Bool) (more : List ℕ) → (dotted ≡ true → true ≡ false) → ends_ok dotted more ≡ true → ends_ok false more ≡ true
+undotted true more q h = absurd (nope (q refl))
+  where
+    nope : true ≡ false → ⊥
+    nope e = cc
 undotted false more q h = h
+
+-- ---- the arguments of a call
+
+whole_laid : (b : Bool) (a : Layout) (d : Bool) (more : List ℕ) → ((dotted : Bool) (m : List ℕ) → (dotted ≡ true → b ≡ false) → ends_ok dotted m ≡ true → Laid a d m) → Laid (a ⊕ (gap_where b ⊕ op (codes "...")) ⊕ op (codes ")")) d more
+whole_laid true a d more k =
+    let dots = letters_of (op (codes "...")) (41 ∷ more) in (k false (32 ∷ dots) (λ q. never q) (ends_with false 32 dots refl), ((gap_laid dots refl, ellipsis_laid (41 ∷ more)), end_paren_laid more))
+whole_laid false a d more k = (k true (letters_of (op (codes "...")) (41 ∷ more)) (λ q. refl) (ends_with_dot (46 ∷ 46 ∷ 41 ∷ more)), ((tt, ellipsis_laid (41 ∷ more)), end_paren_laid more))
+
+pub args_laid : (rest : Rest) (xs : Exprs U) (i : List ℕ) (d : Bool) (more : List ℕ) → FormedRest rest xs
+    → ((dotted : Bool) (m : List ℕ) → (dotted ≡ true → last_ends_in_integer false (closes rest) xs ≡ false) → ends_ok dotted m ≡ true → Laid (exprs_layout i false (closes rest) xs) d m)
+    → Laid (exprs_layout i false (closes rest) xs ⊕ rest_layout rest xs ⊕ op (codes ")")) d more
+args_laid Plain xs i d more f k = (k false (41 ∷ more) (λ q. never q) (ends_with false 41 more refl), (tt, end_paren_laid more))
+args_laid Whole xs i d more f k = whole_laid (last_ends_in_integer false false xs) (exprs_layout i false false xs) d more k
+args_laid Packed xs i d more f k = absurd f
+args_laid Empty xs i d more f k = absurd f
 
 -- ---- an operator in front
 
@@ -168,7 +194,7 @@ bare_apart o (composite s t es) i h c more f q r = opens_apart o (letters_of (ex
 bare_apart o (selector s e n) i h c more f q r = opens_apart o (letters_of (expr_layout i h c (selector s e n)) more) (expr_opens (selector s e n) f i h c more)
 bare_apart o (index s e at) i h c more f q r = opens_apart o (letters_of (expr_layout i h c (index s e at)) more) (expr_opens (index s e at) f i h c more)
 bare_apart o (slice s e from to) i h c more f q r = opens_apart o (letters_of (expr_layout i h c (slice s e from to)) more) (expr_opens (slice s e from to) f i h c more)
-bare_apart o (call s e xs) i h c more f q r = opens_apart o (letters_of (expr_layout i h c (call s e xs)) more) (expr_opens (call s e xs) f i h c more)
+bare_apart o (call s e xs rest) i h c more f q r = opens_apart o (letters_of (expr_layout i h c (call s e xs rest)) more) (expr_opens (call s e xs rest) f i h c more)
 bare_apart o (func_lit s g sb body) i h c more f q r = opens_apart o (letters_of (expr_layout i h c (func_lit s g sb body)) more) (expr_opens (func_lit s g sb body) f i h c more)
 bare_apart o (type_operand s t) i h c more f q r = opens_apart o (letters_of (expr_layout i h c (type_operand s t)) more) (expr_opens (type_operand s t) f i h c more)
 bare_apart o (star s e) i h c more f q r = opens_apart o (letters_of (expr_layout i h c (star s e)) more) (expr_opens (star s e) f i h c more)

@@ -8,7 +8,7 @@ use Rattle.go_tree.specs.declared.tokens.TokenKind.TheVariants.{Ident, Keyword, 
 use Rattle.go_words.specs.Tokens.Characters.{is_letter, is_digit, is_word, is_blank, each, is_listed, byte_order_mark}
 use Rattle.go_words.specs.Tokens.Forms.{HasForm}
 use Rattle.go_words.specs.Tokens.Literals.{int_lit}
-use Rattle.go_words.specs.Tokens.Pieces.{PieceKind, token, keywords, operators, operator, is_among, no_word_first, may_precede, IsPiece, IsNext}
+use Rattle.go_words.specs.Tokens.Pieces.{PieceKind, token, keyword_spellings, operator_spellings, operator, is_among, no_word_first, may_precede, IsPiece, IsNext}
 use Rattle.go_scan.specs.Automaton.{next_of, is_whole, kind_in}
 use Rattle.go_scan.proofs.Derivatives.{matches, has_form, and_parts, and_true}
 use Rattle.go_scan.proofs.AutomatonLemmas.{below, below_at, run}
@@ -78,7 +78,7 @@ stops_after s cs (d ∷ ds) h off = dead_after s (is_listed cs) d h (λ e. not_t
 
 -- an operator of ASCII
 unfoldable pub good_operator : List ℕ → Bool
-unfolding operator operators lib.Utf8.encode
+unfolding operator operator_spellings lib.Utf8.encode
 good_operator w = matches operator w && (all_scalars w && bytes_eq (encode_utf8_all w) w)
 
 bytes_same : (xs ys : List ℕ) → bytes_eq xs ys ≡ true → xs ≡ ys
@@ -159,6 +159,10 @@ colon_laid more off = before_laid (codes ":") (codes "=") more refl refl refl of
 pub dot_laid : (more : List ℕ) → avoids (codes ".0123456789") more ≡ true → IsLaid Operator (codes ".") more
 unfolding good_operator leads_only
 dot_laid more off = before_laid (codes ".") (codes ".0123456789") more refl refl refl off
+
+pub ellipsis_laid : (more : List ℕ) → IsLaid Operator (codes "...") more
+unfolding good_operator leads_only
+ellipsis_laid more = before_laid (codes "...") [] more refl refl refl (avoids_none more)
 
 pub star_laid : (more : List ℕ) → avoids (codes "=") more ≡ true → IsLaid Operator (codes "*") more
 unfolding good_operator leads_only
@@ -276,13 +280,13 @@ integer_laid n more is off dot = record {
 
 -- a keyword of ASCII
 unfoldable pub good_keyword : List ℕ → Bool
-unfolding keywords lib.Utf8.encode
-good_keyword w = is_among keywords w && (all_scalars w && bytes_eq (encode_utf8_all w) w)
+unfolding keyword_spellings lib.Utf8.encode
+good_keyword w = is_among keyword_spellings w && (all_scalars w && bytes_eq (encode_utf8_all w) w)
 
 pub keyword_laid : (w more : List ℕ) → good_keyword w ≡ true → no_word_first more ≡ true → IsLaid Keyword w more
 unfolding good_keyword
 keyword_laid w more good off =
-    let p = and_parts (is_among keywords w) (all_scalars w && bytes_eq (encode_utf8_all w) w) good in
+    let p = and_parts (is_among keyword_spellings w) (all_scalars w && bytes_eq (encode_utf8_all w) w) good in
     let q = and_parts (all_scalars w) (bytes_eq (encode_utf8_all w) w) p.1 in
     record { next = next_keyword w more p.0 off; scalars = q.0; encoded = bytes_same (encode_utf8_all w) w q.1 }
 

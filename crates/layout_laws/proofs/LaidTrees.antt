@@ -3,33 +3,27 @@ use Rattle.std.proofs.Common.{◌≡◌, ℕ, ◌+◌, Bool, true, false, ◌||�
 use Rattle.std.specs.Prelude.{codes}
 use Rattle.std.specs.Str.{chars}
 use Rattle.go_tree.specs.Tree.{Expr, Exprs, ExprOption, Elems, Value, Stmt, Stmts, StmtOption, BlockOption, RangeLeft, Arms, Cases, ValueSpecs, ident, int_lit, rune_lit, str_lit, composite, selector, index, slice, call, func_lit, type_operand, unary, binary, star, no_exprs, expr_and, no_expr, some_expr, no_elems, elem, plain, braced, no_value, some_value, const_decl, var_decl, empty, eval, step, assign, define, return_, break_, continue_, inner, if_, for_, range_, switch, defer, label, no_stmts, stmt_and, no_stmt, some_stmt, no_block, some_block, nothing, assigns, defines, no_arms, arm, no_cases, case, no_specs, spec}
-use Rattle.go_read.specs.SpellsTerminals.{level_of}
-use Rattle.go_layout.specs.Layouts.{Layout, gap, op, key, within, deeper, ◌⊕◌}
-use Rattle.go_layout.specs.Operators.{binary_spelling, unary_spelling, assign_spelling}
+use Rattle.go_words.specs.Terminals.{level_of}
+use Rattle.go_layout.specs.Layouts.{gap, op, key, deeper, ◌⊕◌}
+use Rattle.go_words.specs.Operators.{binary_spelling, unary_spelling, assign_spelling}
 use Rattle.go_layout.specs.TypeLayout.{names_layout, sig_layout}
-use Rattle.go_layout.specs.Parens.{needs_parens, is_integer, runs_into, header_within, closed_within}
-use Rattle.go_layout.specs.TreeLayout.{spaced, clause_indent, spec_type_layout, equals_before, spec_end, in_group, in_braces, expr_layout, exprs_layout, option_layout, test_layout, elems_layout, value_layout, stmt_layout, stmts_layout, part_layout, post_layout, first_layout, arms_layout, last_layout, left_layout, cases_layout, specs_layout}
+use Rattle.go_layout.specs.Parens.{needs_parens, is_integer, runs_into, ends_in_integer, last_ends_in_integer}
+use Rattle.go_layout.specs.TreeLayout.{closes, rest_layout, spaced, clause_indent, spec_type_layout, equals_before, spec_end, in_group, expr_layout, exprs_layout, option_layout, test_layout, elems_layout, value_layout, stmt_layout, stmts_layout, part_layout, post_layout, first_layout, arms_layout, last_layout, left_layout, cases_layout, specs_layout}
 use Rattle.layout_laws.specs.Formed.{FormedGroup, FormedExpr, FormedOption, FormedExprs, FormedElems, FormedValue, FormedStmt, FormedStmts, FormedPart, FormedArms, FormedBlock, FormedLeft, FormedCases, FormedSpecs}
 use Rattle.layout_laws.specs.LayoutPieces.{letters_of, due_of}
 use Rattle.layout_laws.specs.Laid.{is_indent, Laid}
 use Rattle.layout_laws.proofs.SpelledTypes.{U}
 use Rattle.layout_laws.proofs.NextTokens.{no_blank_first}
-use Rattle.layout_laws.proofs.LaidTokens.{name_laid, integer_laid, rune_laid, string_laid, keyword_laid, gap_laid, line_laid, paren_laid, end_paren_laid, bracket_laid, end_bracket_laid, brace_laid, end_brace_laid, comma_laid, semicolon_laid, increment_laid, decrement_laid, colon_laid, dot_laid, star_laid}
+use Rattle.layout_laws.proofs.LaidTokens.{name_laid, integer_laid, rune_laid, string_laid, keyword_laid, gap_laid, line_laid, paren_laid, bracket_laid, end_bracket_laid, brace_laid, end_brace_laid, comma_laid, semicolon_laid, increment_laid, decrement_laid, colon_laid, dot_laid, star_laid}
 use Rattle.layout_laws.proofs.Opens.{opens_no_blank, opens_no_equals, is_led, literal_type, operand_type, name_opens, name_after_dot, expr_opens}
 use Rattle.layout_laws.proofs.TreeOpens.{placed_opens, value_opens, elems_open}
 use Rattle.layout_laws.proofs.Due.{stmt_due, spec_due}
 use Rattle.layout_laws.proofs.LaidTypes.{ends_ok, ends_with, ends_with_dot, word_stop, ends_word, ends_no_dot, type_laid, sig_laid, names_laid, binary_spaced, assign_spaced, define_spaced}
-use Rattle.layout_laws.proofs.LaidPlaces.{selectable, selectable_at, placed_laid, here_laid, undotted, sign_laid, deeper_spaces, stmts_start, block_laid, never}
-use Rattle.layout_laws.proofs.LaidParts.{key_func, key_const, key_var, key_return, key_break, key_continue, key_for, key_range, key_switch, key_defer, key_if, key_else, key_case, key_default, operand_starts, exprs_start, stmt_starts, option_starts, bound_no_equals, test_starts, post_starts, first_starts, left_starts, cases_start, body_start, clause_spaces, spec_starts, spec_type_laid, equals_laid, before_values, before_type, group_laid, one_spec_starts}
-
-abbrev here : List ℕ → ℕ → Bool → Bool → Expr U → Layout
-here i l h c e = within (needs_parens l h c e) (expr_layout i (header_within (needs_parens l h c e) h) (closed_within (needs_parens l h c e) c) e)
-
-abbrev block : List ℕ → Stmts U → Layout
-block i body = in_braces i body (stmts_layout (deeper i) (Some i) body)
+use Rattle.layout_laws.proofs.LaidPlaces.{here, block, ends_apart, bare_ends, args_laid, placed_laid, here_laid, undotted, sign_laid, stmts_start, block_laid, never}
+use Rattle.layout_laws.proofs.LaidParts.{clause_laid, key_func, key_const, key_var, key_return, key_break, key_continue, key_for, key_range, key_switch, key_defer, key_if, key_else, key_case, key_default, operand_starts, exprs_start, stmt_starts, option_starts, bound_no_equals, test_starts, post_starts, first_starts, left_starts, cases_start, spec_starts, spec_type_laid, equals_laid, before_values, before_type, group_laid, one_spec_starts}
 
 mutual
-  pub expr_laid : (e : Expr U) → FormedExpr e → (i : List ℕ) → is_indent i ≡ true → (h c d dotted : Bool) (more : List ℕ) → (dotted ≡ true → selectable e ≡ true) → ends_ok dotted more ≡ true → Laid (expr_layout i h c e) d more
+  pub expr_laid : (e : Expr U) → FormedExpr e → (i : List ℕ) → is_indent i ≡ true → (h c d dotted : Bool) (more : List ℕ) → (dotted ≡ true → ends_in_integer h c e ≡ false) → ends_ok dotted more ≡ true → Laid (expr_layout i h c e) d more
   expr_laid (ident s n) f i sp h c d dotted more sel off = name_laid n more f (ends_word dotted more off)
   expr_laid (int_lit s n) f i sp h c d dotted more sel off = integer_laid n more f (ends_word dotted more off) (ends_no_dot more (undotted dotted more sel off))
   expr_laid (rune_lit s n) f i sp h c d dotted more sel off = rune_laid n more f
@@ -39,7 +33,7 @@ mutual
       (type_laid t (123 ∷ inside) d (literal_type t f.0) (word_stop 123 inside refl), (brace_laid inside, (elems_laid es f.1 i sp false (125 ∷ more) (ends_with false 125 more refl), end_brace_laid more)))
   expr_laid (selector s e n) f i sp h c d dotted more sel off =
       let rest = chars n.name ++ more in (
-        placed_laid e (needs_parens 7 h false e || is_integer e) i h false d true (46 ∷ rest) sp (expr_laid e f.1) (λ x y. selectable_at e h x) (ends_with_dot rest),
+        placed_laid e (needs_parens 7 h false e || is_integer e) i h false d true (46 ∷ rest) sp (expr_laid e f.1) (λ x y. ends_apart e h x) (ends_with_dot rest),
         (dot_laid rest (name_after_dot n.name more f.2), name_laid n.name more f.2 (ends_word dotted more off)),
       )
   expr_laid (index s e at) f i sp h c d dotted more sel off =
@@ -59,36 +53,37 @@ mutual
           ),
         ),
       )
-  expr_laid (call s e xs) f i sp h c d dotted more sel off =
-      let inside = letters_of (exprs_layout i false true xs) (41 ∷ more) in (
+  expr_laid (call s e xs rest) f i sp h c d dotted more sel off =
+      let inside = letters_of (exprs_layout i false (closes rest) xs ⊕ rest_layout rest xs) (41 ∷ more) in (
         here_laid e (needs_parens 7 h true e) i h true d (40 ∷ inside) sp (expr_laid e f.0) (ends_with false 40 inside refl),
-        (paren_laid inside, (exprs_laid xs f.1 i sp false true false (41 ∷ more) (ends_with false 41 more refl), end_paren_laid more)),
+        (paren_laid inside, args_laid rest xs i false more f.2 (exprs_laid xs f.1 i sp false (closes rest) false)),
       )
   expr_laid (func_lit s g sb body) f i sp h c d dotted more sel off =
       let rest = letters_of (block i body) more in
-      (keyword_laid (codes "func") (letters_of (sig_layout g) (32 ∷ rest)) key_func (word_stop 40 [] refl), (sig_laid g (32 ∷ rest) false f.0 (word_stop 32 rest refl), (gap_laid rest refl, block_laid i body more (due_of (sig_layout g) false) sp f.1 (stmts_laid body f.1))))
+      (keyword_laid (codes "func") (letters_of (sig_layout g) (32 ∷ rest)) key_func (word_stop 40 [] refl), (sig_laid false g (32 ∷ rest) false f.0 (word_stop 32 rest refl), (gap_laid rest refl, block_laid i body more (due_of (sig_layout g) false) sp f.1 (stmts_laid body f.1))))
   expr_laid (type_operand s t) f i sp h c d dotted more sel off = type_laid t more d (operand_type t f) (ends_word dotted more off)
   expr_laid (unary s o e) f i sp h c d dotted more sel off =
-      (sign_laid o e i h c more f.1, here_laid e (needs_parens 6 h c e || runs_into o e) i h c (due_of (op (unary_spelling o)) d) more sp (expr_laid e f.1) (undotted dotted more sel off))
+      (sign_laid o e i h c more f.1, placed_laid e (needs_parens 6 h c e || runs_into o e) i h c (due_of (op (unary_spelling o)) d) dotted more sp (expr_laid e f.1) (λ x y. bare_ends (needs_parens 6 h c e || runs_into o e) (ends_in_integer h c e) x (sel y)) off)
   expr_laid (binary s o a b) f i sp h c d dotted more sel off =
       let rest = letters_of (here i (level_of o + 1) h c b) more in (
         here_laid a (needs_parens (level_of o) h false a) i h false d (32 ∷ letters_of (op (binary_spelling o) ⊕ gap) rest) sp (expr_laid a f.1) (ends_with false 32 [] refl),
         (
           binary_spaced o rest (due_of (here i (level_of o) h false a) d) (operand_starts b (needs_parens (level_of o + 1) h c b) i h c more f.3),
-          here_laid b (needs_parens (level_of o + 1) h c b) i h c (due_of (spaced (binary_spelling o)) (due_of (here i (level_of o) h false a) d)) more sp (expr_laid b f.3) (undotted dotted more sel off),
+          placed_laid b (needs_parens (level_of o + 1) h c b) i h c (due_of (spaced (binary_spelling o)) (due_of (here i (level_of o) h false a) d)) dotted more sp (expr_laid b f.3) (λ x y. bare_ends (needs_parens (level_of o + 1) h c b) (ends_in_integer h c b) x (sel y)) off,
         ),
       )
   expr_laid (star s e) f i sp h c d dotted more sel off =
       let rest = letters_of (here i 6 h c e) more in
-      (star_laid rest (opens_no_equals false rest (placed_opens e (needs_parens 6 h c e) i h c more f.1)), here_laid e (needs_parens 6 h c e) i h c false more sp (expr_laid e f.1) (undotted dotted more sel off))
+      (star_laid rest (opens_no_equals false rest (placed_opens e (needs_parens 6 h c e) i h c more f.1)), placed_laid e (needs_parens 6 h c e) i h c false dotted more sp (expr_laid e f.1) (λ x y. bare_ends (needs_parens 6 h c e) (ends_in_integer h c e) x (sel y)) off)
 
-  exprs_laid : (xs : Exprs U) → FormedExprs xs → (i : List ℕ) → is_indent i ≡ true → (h c d : Bool) (more : List ℕ) → ends_ok false more ≡ true → Laid (exprs_layout i h c xs) d more
-  exprs_laid no_exprs f i sp h c d more off = tt
-  exprs_laid (expr_and e no_exprs) f i sp h c d more off = (here_laid e (needs_parens 1 h c e) i h c d more sp (expr_laid e f.1) off, (tt, tt))
-  exprs_laid (expr_and e (expr_and e2 es)) f i sp h c d more off =
+  exprs_laid : (xs : Exprs U) → FormedExprs xs → (i : List ℕ) → is_indent i ≡ true → (h c d dotted : Bool) (more : List ℕ) → (dotted ≡ true → last_ends_in_integer h c xs ≡ false) → ends_ok dotted more ≡ true → Laid (exprs_layout i h c xs) d more
+  exprs_laid no_exprs f i sp h c d dotted more sel off = tt
+  exprs_laid (expr_and e no_exprs) f i sp h c d dotted more sel off =
+      (placed_laid e (needs_parens 1 h c e) i h c d dotted more sp (expr_laid e f.1) (λ x y. bare_ends (needs_parens 1 h c e) (ends_in_integer h c e) x (sel y)) off, (tt, tt))
+  exprs_laid (expr_and e (expr_and e2 es)) f i sp h c d dotted more sel off =
       let rest = letters_of (exprs_layout i h c (expr_and e2 es)) more in (
         here_laid e (needs_parens 1 h true e) i h true d (44 ∷ 32 ∷ rest) sp (expr_laid e f.1) (ends_with false 44 rest refl),
-        ((comma_laid (32 ∷ rest), gap_laid rest (exprs_start (expr_and e2 es) i h c more f.2 tt)), exprs_laid (expr_and e2 es) f.2 i sp h c false more off),
+        ((comma_laid (32 ∷ rest), gap_laid rest (exprs_start (expr_and e2 es) i h c more f.2 tt)), exprs_laid (expr_and e2 es) f.2 i sp h c false dotted more sel off),
       )
 
   option_laid : (o : ExprOption U) → FormedOption o → (i : List ℕ) → is_indent i ≡ true → (h d : Bool) (more : List ℕ) → ends_ok false more ≡ true → Laid (option_layout i h o) d more
@@ -141,16 +136,16 @@ mutual
   stmt_laid (step s e false) f i sp h d more off = (here_laid e (needs_parens 1 h false e) i h false d (45 ∷ 45 ∷ more) sp (expr_laid e f.1) (ends_with false 45 [] refl), decrement_laid more)
   stmt_laid (assign s xs o ys) f i sp h d more off =
       let rest = letters_of (exprs_layout i h false ys) more in (
-        exprs_laid xs f.1 i sp h false d (letters_of (spaced (assign_spelling o)) rest) (ends_with false 32 [] refl),
-        (assign_spaced o rest (due_of (exprs_layout i h false xs) d) f.2 (exprs_start ys i h false more f.4 f.3), exprs_laid ys f.4 i sp h false (due_of (spaced (assign_spelling o)) (due_of (exprs_layout i h false xs) d)) more off),
+        exprs_laid xs f.1 i sp h false d false (letters_of (spaced (assign_spelling o)) rest) (λ q. never q) (ends_with false 32 [] refl),
+        (assign_spaced o rest (due_of (exprs_layout i h false xs) d) f.2 (exprs_start ys i h false more f.4 f.3), exprs_laid ys f.4 i sp h false (due_of (spaced (assign_spelling o)) (due_of (exprs_layout i h false xs) d)) false more (λ q. never q) off),
       )
   stmt_laid (define s ns ys) f i sp h d more off =
       let rest = letters_of (exprs_layout i h false ys) more in
-      (names_laid ns (letters_of (spaced (codes ":=")) rest) d f.1 (word_stop 32 [] refl), (define_spaced rest (due_of (names_layout ns) d) (exprs_start ys i h false more f.3 f.2), exprs_laid ys f.3 i sp h false false more off))
+      (names_laid ns (letters_of (spaced (codes ":=")) rest) d f.1 (word_stop 32 [] refl), (define_spaced rest (due_of (names_layout ns) d) (exprs_start ys i h false more f.3 f.2), exprs_laid ys f.3 i sp h false false false more (λ q. never q) off))
   stmt_laid (return_ s no_exprs) f i sp h d more off = (keyword_laid (codes "return") more key_return (ends_word false more off), (tt, tt))
   stmt_laid (return_ s (expr_and e es)) f i sp h d more off =
       let rest = letters_of (exprs_layout i false false (expr_and e es)) more in
-      (keyword_laid (codes "return") (32 ∷ rest) key_return (word_stop 32 rest refl), (gap_laid rest (exprs_start (expr_and e es) i false false more f tt), exprs_laid (expr_and e es) f i sp false false true more off))
+      (keyword_laid (codes "return") (32 ∷ rest) key_return (word_stop 32 rest refl), (gap_laid rest (exprs_start (expr_and e es) i false false more f tt), exprs_laid (expr_and e es) f i sp false false true false more (λ q. never q) off))
   stmt_laid (break_ s None) f i sp h d more off = (keyword_laid (codes "break") more key_break (ends_word false more off), tt)
   stmt_laid (break_ s (Some n)) f i sp h d more off =
       let rest = chars n.name ++ more in (keyword_laid (codes "break") (32 ∷ rest) key_break (word_stop 32 rest refl), (gap_laid rest (opens_no_blank true rest (name_opens n.name more f)), name_laid n.name more f (ends_word false more off)))
@@ -337,38 +332,23 @@ mutual
 
   left_laid : (left : RangeLeft U) → FormedLeft left → (i : List ℕ) → is_indent i ≡ true → (d : Bool) (more : List ℕ) → no_blank_first more ≡ true → Laid (left_layout i left) d more
   left_laid nothing f i sp d more off = tt
-  left_laid (assigns xs) f i sp d more off = (exprs_laid xs f.1 i sp true false d (letters_of (spaced (codes "=")) more) (ends_with false 32 [] refl), assign_spaced None more (due_of (exprs_layout i true false xs) d) refl off)
+  left_laid (assigns xs) f i sp d more off = (exprs_laid xs f.1 i sp true false d false (letters_of (spaced (codes "=")) more) (λ q. never q) (ends_with false 32 [] refl), assign_spaced None more (due_of (exprs_layout i true false xs) d) refl off)
   left_laid (defines ns) f i sp d more off = (names_laid ns (letters_of (spaced (codes ":=")) more) d f.1 (word_stop 32 [] refl), define_spaced more (due_of (names_layout ns) d) off)
 
   cases_laid : (cs : Cases U) → FormedCases cs → (i : List ℕ) → is_indent i ≡ true → (d : Bool) (more : List ℕ) → no_blank_first more ≡ true → Laid (cases_layout i cs) d more
   cases_laid no_cases f i sp d more off = tt
   cases_laid (case s no_exprs body cs) f i sp d more off =
-      let rest = letters_of (cases_layout i cs) more in let inside = letters_of (stmts_layout (deeper i) (Some i) body) rest in let starts = cases_start cs i more off in (
+      let inside = letters_of (stmts_layout (deeper i) (Some i) body ⊕ cases_layout i cs) more in (
         keyword_laid (codes "default") (58 ∷ 10 ∷ (clause_indent i body ++ inside)) key_default (word_stop 58 [] refl),
-        (
-          tt,
-          (
-            colon_laid (10 ∷ (clause_indent i body ++ inside)) refl,
-            (
-              (refl, line_laid (clause_indent i body) inside (clause_spaces i body sp) (body_start body (deeper i) (Some i) rest f.1 starts)),
-              (stmts_laid body f.1 (deeper i) i false rest (deeper_spaces i sp) sp starts, cases_laid cs f.2 i sp (due_of (stmts_layout (deeper i) (Some i) body) false) more off),
-            ),
-          ),
-        ),
+        (tt, clause_laid i body cs false more sp f.1 off (stmts_laid body f.1) (λ d2. cases_laid cs f.2 i sp d2 more off)),
       )
   cases_laid (case s (expr_and e es) body cs) f i sp d more off =
-      let rest = letters_of (cases_layout i cs) more in let inside = letters_of (stmts_layout (deeper i) (Some i) body) rest in let starts = cases_start cs i more off in
+      let inside = letters_of (stmts_layout (deeper i) (Some i) body ⊕ cases_layout i cs) more in
       let values = letters_of (exprs_layout i false false (expr_and e es)) (58 ∷ 10 ∷ (clause_indent i body ++ inside)) in (
         (keyword_laid (codes "case") (32 ∷ values) key_case (word_stop 32 values refl), gap_laid values (exprs_start (expr_and e es) i false false (58 ∷ 10 ∷ (clause_indent i body ++ inside)) f.0 tt)),
         (
-          exprs_laid (expr_and e es) f.0 i sp false false false (58 ∷ 10 ∷ (clause_indent i body ++ inside)) (ends_with false 58 [] refl),
-          (
-            colon_laid (10 ∷ (clause_indent i body ++ inside)) refl,
-            (
-              (refl, line_laid (clause_indent i body) inside (clause_spaces i body sp) (body_start body (deeper i) (Some i) rest f.1 starts)),
-              (stmts_laid body f.1 (deeper i) i false rest (deeper_spaces i sp) sp starts, cases_laid cs f.2 i sp (due_of (stmts_layout (deeper i) (Some i) body) false) more off),
-            ),
-          ),
+          exprs_laid (expr_and e es) f.0 i sp false false false false (58 ∷ 10 ∷ (clause_indent i body ++ inside)) (λ q. never q) (ends_with false 58 [] refl),
+          clause_laid i body cs false more sp f.1 off (stmts_laid body f.1) (λ d2. cases_laid cs f.2 i sp d2 more off),
         ),
       )
 
@@ -380,7 +360,7 @@ mutual
         names_laid ns (letters_of (spec_type_layout t) values) d f.1 (before_type t values stops),
         (
           spec_type_laid t values d1 f.2 stops,
-          (equals_laid xs i more d2 f.3, (exprs_laid xs f.3 i sp false false (due_of (equals_before xs) d2) more off, (tt, tt))),
+          (equals_laid xs i more d2 f.3, (exprs_laid xs f.3 i sp false false (due_of (equals_before xs) d2) false more (λ q. never q) off, (tt, tt))),
         ),
       )
 
@@ -392,7 +372,7 @@ mutual
         names_laid ns (letters_of (spec_type_layout t) values) d f.1 (before_type t values stops),
         (
           spec_type_laid t values d1 f.2 stops,
-          (equals_laid xs i rest d2 f.3, (exprs_laid xs f.3 i sp false false (due_of (equals_before xs) d2) rest (ends_with false 10 [] refl), ((sym (spec_due constant ns t xs i d f.0 f.4), line_laid o more so off), tt))),
+          (equals_laid xs i rest d2 f.3, (exprs_laid xs f.3 i sp false false (due_of (equals_before xs) d2) false rest (λ q. never q) (ends_with false 10 [] refl), ((sym (spec_due constant ns t xs i d f.0 f.4), line_laid o more so off), tt))),
         ),
       )
   specs_laid (spec s ns t xs (spec s2 ns2 t2 xs2 ss)) constant f i o d more sp so off =
@@ -405,7 +385,7 @@ mutual
           (
             equals_laid xs i rest d2 f.3,
             (
-              exprs_laid xs f.3 i sp false false (due_of (equals_before xs) d2) rest (ends_with false 10 [] refl),
+              exprs_laid xs f.3 i sp false false (due_of (equals_before xs) d2) false rest (λ q. never q) (ends_with false 10 [] refl),
               (
                 (sym (spec_due constant ns t xs i d f.0 f.4), line_laid i others sp (spec_starts ns2 after f.5.0 f.5.1)),
                 specs_laid (spec s2 ns2 t2 xs2 ss) constant f.5 i o false more sp so off,

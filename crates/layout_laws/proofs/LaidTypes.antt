@@ -15,15 +15,15 @@ use Rattle.go_words.specs.Tokens.Pieces.{token, no_word_first, may_precede}
 use Rattle.go_scan.specs.Automaton.{next_of}
 use Rattle.go_scan.proofs.Derivatives.{and_parts, and_true}
 use Rattle.go_layout.specs.Layouts.{gap, ◌⊕◌}
-use Rattle.go_layout.specs.Operators.{binary_spelling, assign_spelling}
-use Rattle.go_layout.specs.TypeLayout.{comma_before, names_layout, type_layout, fields_layout, field_end, param_name_layout, param_list_layout, params_layout, results_layout, sig_layout}
+use Rattle.go_words.specs.Operators.{binary_spelling, assign_spelling}
+use Rattle.go_layout.specs.TypeLayout.{comma_before, names_layout, type_layout, fields_layout, field_end, dots_where, param_name_layout, param_list_layout, params_layout, results_layout, sig_layout}
 use Rattle.go_layout.specs.TreeLayout.{spaced}
 use Rattle.layout_laws.specs.Formed.{is_assign, IsNamed, IsUnnamed, FormedName, FormedNames, FormedType, FormedFields, FormedNamed, FormedUnnamed, FormedParams, FormedSig}
 use Rattle.layout_laws.specs.LayoutPieces.{letters_of}
 use Rattle.layout_laws.specs.Laid.{Laid}
 use Rattle.layout_laws.proofs.SpelledTypes.{U}
 use Rattle.layout_laws.proofs.NextTokens.{no_blank_first}
-use Rattle.layout_laws.proofs.LaidTokens.{avoids, good_operator, good_keyword, good_before_gap, gap_after, name_laid, keyword_laid, gap_laid, paren_laid, end_paren_laid, bracket_laid, end_bracket_laid, brace_laid, end_brace_laid, comma_laid, semicolon_laid, dot_laid, star_laid}
+use Rattle.layout_laws.proofs.LaidTokens.{avoids, good_operator, good_keyword, good_before_gap, gap_after, name_laid, keyword_laid, gap_laid, paren_laid, end_paren_laid, bracket_laid, end_bracket_laid, brace_laid, end_brace_laid, comma_laid, semicolon_laid, ellipsis_laid, dot_laid, star_laid}
 use Rattle.layout_laws.proofs.Opens.{opens_no_blank, opens_no_equals, name_opens, name_after_dot, type_opens, names_open}
 use Rattle.layout_laws.proofs.TreeOpens.{param_opens}
 
@@ -221,50 +221,55 @@ from_unnamed : (o : Option (NameAt U)) → IsUnnamed o → FormedName o
 from_unnamed None n = tt
 from_unnamed (Some n) is = absurd is
 
-each_named : (ps : List (Param U)) → FormedNamed ps → EachParam ps
-each_named [] f = tt
-each_named (p ∷ ps) f = ((from_named p.name f.0, f.1), each_named ps f.2)
+each_named : (v : Bool) (ps : List (Param U)) → FormedNamed v ps → EachParam ps
+each_named v [] f = tt
+each_named v (p ∷ ps) f = ((from_named p.name f.0, f.1), each_named v ps f.2)
 
-each_unnamed : (ps : List (Param U)) → FormedUnnamed ps → EachParam ps
-each_unnamed [] f = tt
-each_unnamed (p ∷ ps) f = ((from_unnamed p.name f.0, f.1), each_unnamed ps f.2)
+each_unnamed : (v : Bool) (ps : List (Param U)) → FormedUnnamed v ps → EachParam ps
+each_unnamed v [] f = tt
+each_unnamed v (p ∷ ps) f = ((from_unnamed p.name f.0, f.1), each_unnamed v ps f.2)
 
-each_param : (ps : List (Param U)) → FormedParams ps → EachParam ps
-each_param ps (inl f) = each_named ps f
-each_param ps (inr f) = each_unnamed ps f
+each_param : (v : Bool) (ps : List (Param U)) → FormedParams v ps → EachParam ps
+each_param v ps (inl f) = each_named v ps f
+each_param v ps (inr f) = each_unnamed v ps f
 
-param_name_laid : (o : Option (NameAt U)) (t : TypeExpr U) (more : List ℕ) (d : Bool) → FormedName o → FormedType t → Laid (param_name_layout o) d (letters_of (type_layout t) more)
-param_name_laid None t more d n f = tt
-param_name_laid (Some n) t more d is f =
-    let rest = letters_of (type_layout t) more in (name_laid n.name (32 ∷ rest) is (word_stop 32 rest refl), gap_laid rest (opens_no_blank true rest (type_opens t more f)))
+param_name_laid : (o : Option (NameAt U)) (rest : List ℕ) (d : Bool) → FormedName o → no_blank_first rest ≡ true → Laid (param_name_layout o) d rest
+param_name_laid None rest d n off = tt
+param_name_laid (Some n) rest d is off = (name_laid n.name (32 ∷ rest) is (word_stop 32 rest refl), gap_laid rest off)
+
+param_laid : (o : Option (NameAt U)) (b : Bool) (t : TypeExpr U) (more : List ℕ) (d : Bool) → FormedName o → FormedType t → no_word_first more ≡ true → Laid (param_name_layout o ⊕ dots_where b ⊕ type_layout t) d more
+param_laid o true t more d n f off =
+    let rest = letters_of (type_layout t) more in (param_name_laid o (46 ∷ 46 ∷ 46 ∷ rest) d n refl, (ellipsis_laid rest, type_laid t more _ f off))
+param_laid o false t more d n f off =
+    let rest = letters_of (type_layout t) more in (param_name_laid o rest d n (opens_no_blank true rest (type_opens t more f)), (tt, type_laid t more _ f off))
 
 param_list_laid : (ps : List (Param U)) (more : List ℕ) (d : Bool) → EachParam ps → no_word_first more ≡ true → Laid (param_list_layout ps) d more
 param_list_laid [] more d f off = tt
-param_list_laid (p ∷ []) more d f off = (param_name_laid p.name p.of more d f.0.0 f.0.1, (type_laid p.of more _ f.0.1 off, (tt, tt)))
+param_list_laid (p ∷ []) more d f off = (param_laid p.name p.rest p.of more d f.0.0 f.0.1 off, (tt, tt))
 param_list_laid (p ∷ q ∷ ps) more d f off =
     let others = letters_of (param_list_layout (q ∷ ps)) more in (
-      param_name_laid p.name p.of (44 ∷ 32 ∷ others) d f.0.0 f.0.1,
+      param_laid p.name p.rest p.of (44 ∷ 32 ∷ others) d f.0.0 f.0.1 (word_stop 44 (32 ∷ others) refl),
       (
-        type_laid p.of (44 ∷ 32 ∷ others) _ f.0.1 (word_stop 44 (32 ∷ others) refl),
-        ((comma_laid (32 ∷ others), gap_laid others (opens_no_blank true others (param_opens q.name q.of (letters_of (comma_before ps ⊕ param_list_layout ps) more) f.1.0.0 f.1.0.1))), param_list_laid (q ∷ ps) more false f.1 off),
+        (comma_laid (32 ∷ others), gap_laid others (opens_no_blank true others (param_opens q.name q.rest q.of (letters_of (comma_before ps ⊕ param_list_layout ps) more) f.1.0.0 f.1.0.1))),
+        param_list_laid (q ∷ ps) more false f.1 off,
       ),
     )
 
-params_laid : (ps : List (Param U)) (more : List ℕ) (d : Bool) → FormedParams ps → Laid (params_layout ps) d more
-params_laid ps more d f =
-    (paren_laid (letters_of (param_list_layout ps) (41 ∷ more)), (param_list_laid ps (41 ∷ more) false (each_param ps f) (word_stop 41 more refl), end_paren_laid more))
+params_laid : (v : Bool) (ps : List (Param U)) (more : List ℕ) (d : Bool) → FormedParams v ps → Laid (params_layout ps) d more
+params_laid v ps more d f =
+    (paren_laid (letters_of (param_list_layout ps) (41 ∷ more)), (param_list_laid ps (41 ∷ more) false (each_param v ps f) (word_stop 41 more refl), end_paren_laid more))
 
-one_result_laid : (o : Option (NameAt U)) (t : TypeExpr U) (more : List ℕ) (d : Bool) → FormedParams (record { span = tt; name = o; of = t } ∷ []) → no_word_first more ≡ true → Laid (results_layout (record { span = tt; name = o; of = t } ∷ [])) d more
-one_result_laid None t more d f off =
-    let rest = letters_of (type_layout t) more in let is = (each_param (record { span = tt; name = None; of = t } ∷ []) f).0.1 in
+one_result_laid : (o : Option (NameAt U)) (b : Bool) (t : TypeExpr U) (more : List ℕ) (d : Bool) → FormedParams false (record { span = tt; name = o; rest = b; of = t } ∷ []) → no_word_first more ≡ true → Laid (results_layout (record { span = tt; name = o; rest = b; of = t } ∷ [])) d more
+one_result_laid None b t more d f off =
+    let rest = letters_of (type_layout t) more in let is = (each_param false (record { span = tt; name = None; rest = b; of = t } ∷ []) f).0.1 in
     (gap_laid rest (opens_no_blank true rest (type_opens t more is)), type_laid t more d is off)
-one_result_laid (Some n) t more d f off =
-    let ps : List (Param U) = record { span = tt; name = Some n; of = t } ∷ [] in (gap_laid (letters_of (params_layout ps) more) refl, params_laid ps more d f)
+one_result_laid (Some n) b t more d f off =
+    let ps : List (Param U) = record { span = tt; name = Some n; rest = b; of = t } ∷ [] in (gap_laid (letters_of (params_layout ps) more) refl, params_laid false ps more d f)
 
-results_laid : (ps : List (Param U)) (more : List ℕ) (d : Bool) → FormedParams ps → no_word_first more ≡ true → Laid (results_layout ps) d more
+results_laid : (ps : List (Param U)) (more : List ℕ) (d : Bool) → FormedParams false ps → no_word_first more ≡ true → Laid (results_layout ps) d more
 results_laid [] more d f off = tt
-results_laid (p ∷ []) more d f off = one_result_laid p.name p.of more d f off
-results_laid (p ∷ q ∷ ps) more d f off = (gap_laid (letters_of (params_layout (p ∷ q ∷ ps)) more) refl, params_laid (p ∷ q ∷ ps) more d f)
+results_laid (p ∷ []) more d f off = one_result_laid p.name p.rest p.of more d f off
+results_laid (p ∷ q ∷ ps) more d f off = (gap_laid (letters_of (params_layout (p ∷ q ∷ ps)) more) refl, params_laid false (p ∷ q ∷ ps) more d f)
 
-pub sig_laid : (g : Sig U) (more : List ℕ) (d : Bool) → FormedSig g → no_word_first more ≡ true → Laid (sig_layout g) d more
-sig_laid g more d f off = (params_laid g.params (letters_of (results_layout g.results) more) d f.0, results_laid g.results more true f.1 off)
+pub sig_laid : (v : Bool) (g : Sig U) (more : List ℕ) (d : Bool) → FormedSig v g → no_word_first more ≡ true → Laid (sig_layout g) d more
+sig_laid v g more d f off = (params_laid v g.params (letters_of (results_layout g.results) more) d f.0, results_laid g.results more true f.1 off)

@@ -3,7 +3,7 @@ use Rattle.std.proofs.Common.{◌≡◌, ℕ, ◌≤◌, Bool, true, false, cond
 use Rattle.std.proofs.lemmas.Bool.Decides.{nat_tests}
 use Rattle.go_tree.specs.declared.tokens.TokenKind.TheVariants.{Ident, Keyword, Operator, Integer, Rune, Str}
 use Rattle.go_words.specs.Tokens.Characters.{is_letter, is_word, is_blank, each}
-use Rattle.go_words.specs.Tokens.Pieces.{PieceKind, blanks, token, keywords, is_among, no_word_first, may_precede, IsPiece, IsNext}
+use Rattle.go_words.specs.Tokens.Pieces.{PieceKind, blanks, token, keyword_spellings, is_among, no_word_first, may_precede, IsPiece, IsNext}
 use Rattle.go_scan.specs.Automaton.{next_of, is_whole}
 use Rattle.go_scan.proofs.Derivatives.{and_parts}
 use Rattle.go_scan.proofs.AutomatonLemmas.{run}
@@ -121,7 +121,7 @@ pub next_name : (w more : List ℕ) → IsPiece (token Ident) w → no_word_firs
 next_name [] more piece off = absurd (never_empty (token Ident) piece)
 next_name (c ∷ cs) more piece off = next_word (token Ident) c cs more (and_parts (is_letter c) (each is_word cs) piece.0).0 piece off refl
 
-pub next_keyword : (w more : List ℕ) → is_among keywords w ≡ true → no_word_first more ≡ true → IsNext (w ++ more) (token Keyword) w more
+pub next_keyword : (w more : List ℕ) → is_among keyword_spellings w ≡ true → no_word_first more ≡ true → IsNext (w ++ more) (token Keyword) w more
 next_keyword [] more piece off = absurd (never_empty (token Keyword) piece)
 next_keyword (c ∷ cs) more piece off = next_word (token Keyword) c cs more (and_parts (is_letter c) (each is_word cs) (keyword_identifier (c ∷ cs) piece)).0 piece off refl
 
@@ -170,5 +170,5 @@ lexeme_first k c cs q piece = by_sort (sort_of k c cs piece)
 
     by_sort : Sort k c cs → (is_blank c ≡ false) × (is_letter c ≡ false)
     by_sort (a_blank e _ _) = absurd (nope (subst (λ (j : PieceKind). is_lexeme j ≡ true) e q))
-    by_sort (a_letter e _ _) = absurd (no_word (is_among keywords (c ∷ cs)) (subst (λ (j : PieceKind). is_lexeme j ≡ true) e q))
+    by_sort (a_letter e _ _) = absurd (no_word (is_among keyword_spellings (c ∷ cs)) (subst (λ (j : PieceKind). is_lexeme j ≡ true) e q))
     by_sort (a_lexeme b l _) = (b, l)

@@ -18,9 +18,9 @@ use Rattle.go_words.specs.Tokens.Literals as lit
 use Rattle.go_words.specs.Tokens.Pieces.{token, IsPiece}
 use Rattle.go_scan.proofs.Derivatives.{after, along, nullable, form_matches, and_parts}
 use Rattle.go_scan.proofs.PieceKinds.{never_empty}
-use Rattle.go_read.specs.SpellsTerminals.{level_of}
+use Rattle.go_words.specs.Terminals.{level_of}
 use Rattle.go_layout.specs.Layouts.{Layout, a_token, gap, op, name_layout, within, ◌⊕◌}
-use Rattle.go_layout.specs.Operators.{binary_spelling}
+use Rattle.go_words.specs.Operators.{binary_spelling}
 use Rattle.go_layout.specs.TypeLayout.{type_layout, names_layout}
 use Rattle.go_layout.specs.Parens.{needs_parens, is_integer, header_within, closed_within}
 use Rattle.go_layout.specs.TreeLayout.{spaced, elems_layout, expr_layout}
@@ -259,7 +259,7 @@ led_at (composite _ _ _) h c q = refl
 led_at (selector _ _ _) h c q = refl
 led_at (index _ _ _) h c q = refl
 led_at (slice _ _ _ _) h c q = refl
-led_at (call _ _ _) h c q = refl
+led_at (call _ _ _ _) h c q = refl
 led_at (func_lit _ _ _ _) h c q = refl
 led_at (type_operand _ _) h c q = refl
 led_at (star _ _) h c q = refl
@@ -287,7 +287,7 @@ expr_opens (selector s e n) f i h c more =
     base_opens e (needs_parens 7 h false e || is_integer e) i h false (letters_of (op (codes ".") ⊕ name_layout n) more) (λ x. (or_false (needs_parens 7 h false e) (is_integer e) x).0) (expr_opens e f.1)
 expr_opens (index s e at) f i h c more = base_opens e (needs_parens 7 h false e) i h false _ (λ x. x) (expr_opens e f.1)
 expr_opens (slice s e from to) f i h c more = base_opens e (needs_parens 7 h false e) i h false _ (λ x. x) (expr_opens e f.1)
-expr_opens (call s e xs) f i h c more = base_opens e (needs_parens 7 h true e) i h true _ (λ x. x) (expr_opens e f.0)
+expr_opens (call s e xs rest) f i h c more = base_opens e (needs_parens 7 h true e) i h true _ (λ x. x) (expr_opens e f.0)
 expr_opens (func_lit s g sb body) f i h c more = refl
 expr_opens (type_operand s t) f i h c more = type_opens t more (operand_type t f)
 expr_opens (unary s Plus e) f i h c more = refl

@@ -11,7 +11,7 @@ use Rattle.go_words.specs.Tokens.Characters.{is_listed, byte_order_mark}
 use Rattle.go_words.specs.Tokens.{TokensOf, after_mark, mark_size, tokens_at, size_of, inserted, due_after, tokens_from}
 use Rattle.go_words.specs.Tokens.Pieces.{PieceKind, blanks, remark, token, Piece, IsPiece, CutsTo}
 use Rattle.go_scan.proofs.Derivatives.{and_parts, and_true}
-use Rattle.go_read.specs.SpellsTerminals.{Terminal, lex, terminal_of, lexemes, found_in, keywords, punctuation, assignments, binary_signs}
+use Rattle.go_words.specs.Terminals.{Terminal, lex, terminal_of, lexemes, found_in, keywords, operators}
 use Rattle.go_read.specs.SpellsTypes.{Lexemes}
 use Rattle.layout_laws.specs.Formed.{IsToken}
 use Rattle.layout_laws.specs.Real.{IsReal, AreReal}
@@ -30,24 +30,11 @@ found_real (row ∷ rows) w real = by_row (bytes_eq row.0 w) (found_real rows w 
     by_row true others = real.0
     by_row false others = others
 
-rows_on : (xs ys : List (List ℕ × Terminal)) → RowsReal xs → RowsReal ys → RowsReal (xs ++ ys)
-rows_on [] ys x y = y
-rows_on (row ∷ rows) ys x y = (x.0, rows_on rows ys x.1 y)
-
 keywords_real : RowsReal keywords
-keywords_real = (tt, (tt, (tt, (tt, (tt, (tt, (tt, (tt, (tt, (tt, (tt, (tt, (tt, (tt, (tt, (tt, (tt, (tt, (tt, tt)))))))))))))))))))
+keywords_real = (tt, (tt, (tt, (tt, (tt, (tt, (tt, (tt, (tt, (tt, (tt, (tt, (tt, (tt, (tt, (tt, (tt, (tt, (tt, (tt, (tt, (tt, (tt, (tt, (tt, tt)))))))))))))))))))))))))
 
-punctuation_real : RowsReal punctuation
-punctuation_real = (tt, (tt, (tt, (tt, (tt, (tt, (tt, (tt, (tt, (tt, (tt, (tt, (tt, (tt, tt))))))))))))))
-
-assignments_real : RowsReal assignments
-assignments_real = (refl, (refl, (refl, (refl, (refl, (refl, (refl, (refl, (refl, (refl, (refl, (refl, tt))))))))))))
-
-signs_real : RowsReal binary_signs
-signs_real = (tt, (tt, (tt, (tt, (tt, (tt, (tt, (tt, (tt, (tt, (tt, (tt, (tt, (tt, (tt, (tt, (tt, (tt, (tt, tt)))))))))))))))))))
-
-operators_real : RowsReal (punctuation ++ (assignments ++ binary_signs))
-operators_real = rows_on punctuation (assignments ++ binary_signs) punctuation_real (rows_on assignments binary_signs assignments_real signs_real)
+operators_real : RowsReal operators
+operators_real = (tt, (tt, (tt, (tt, (tt, (tt, (tt, (tt, (tt, (tt, (tt, (refl, (refl, (refl, (refl, (refl, (refl, (refl, (refl, (refl, (refl, (refl, (tt, (tt, (tt, (tt, (tt, (tt, (tt, (tt, (refl, (tt, (tt, (tt, (tt, (tt, (tt, (tt, (tt, (tt, (tt, (tt, (tt, (tt, (tt, (tt, (tt, (tt, tt))))))))))))))))))))))))))))))))))))))))))))))))
 
 -- ---- tokens
 
@@ -57,7 +44,7 @@ is_token k w h piece = ((w, (h, refl)), subst (λ (x : List ℕ). IsPiece (token
 piece_real : (k : TokenKind) (w : List ℕ) → all_scalars w ≡ true → IsPiece (token k) w → IsReal (terminal_of k (encode_utf8_all w))
 piece_real Ident w h piece = is_token Ident w h piece
 piece_real Keyword w h piece = found_real keywords (encode_utf8_all w) keywords_real
-piece_real Operator w h piece = found_real (punctuation ++ (assignments ++ binary_signs)) (encode_utf8_all w) operators_real
+piece_real Operator w h piece = found_real operators (encode_utf8_all w) operators_real
 piece_real Integer w h piece = is_token Integer w h piece
 piece_real Float w h piece = tt
 piece_real Imaginary w h piece = tt

@@ -1,21 +1,25 @@
 -- Parts of a tree that are spelled once their own parts are.
+use Rattle.std.specs.Prelude.{codes}
 use Rattle.std.proofs.Common.{◌≡◌, ℕ, ◌+◌, ◌≤◌, Bool, true, false, List, ◌∷◌, Option, Some, None, refl, subst}
 use Rattle.go_tree.specs.declared.spans.Span.{Span}
 use Rattle.go_tree.specs.declared.operators.UnOp.{UnOp}
 use Rattle.go_tree.specs.declared.operators.UnOp.TheVariants.{Plus, Minus, Not, Flip, Address}
 use Rattle.go_tree.specs.declared.operators.BinOp.{BinOp}
 use Rattle.go_tree.specs.declared.operators.BinOp.TheVariants.{Mul, Div, Rem, Shl, Shr, And, AndNot, Add, Sub, Or, Xor, Eq, Ne, Lt, Le, Gt, Ge, LogAnd, LogOr}
+use Rattle.go_tree.specs.declared.exprs.Rest.{Rest}
+use Rattle.go_tree.specs.declared.exprs.Rest.TheVariants.{Plain, Whole, Packed, Empty}
 use Rattle.go_tree.specs.Tree.{NameAt, TypeExpr, Expr, Exprs, Stmt, Stmts, BlockOption, named, pointer, slice_type, map_type, struct_type, ident, int_lit, rune_lit, str_lit, composite, selector, index, slice, call, func_lit, type_operand, unary, binary, star, no_exprs, expr_and, const_decl, var_decl, empty, eval, step, assign, define, return_, break_, continue_, inner, if_, for_, range_, switch, defer, label, no_stmts, stmt_and, no_block, some_block}
-use Rattle.go_read.specs.SpellsTerminals.{Terminal, lex, sign, becomes, unary_sign, level_of, semicolon, colon, word, key_defer, key_else}
+use Rattle.go_words.specs.Terminals as terminal
+use Rattle.go_words.specs.Terminals.{Terminal, lex, binary_op, unary_sign, level_of, semicolon, colon, ellipsis, end_paren, key_defer, key_else}
 use Rattle.go_read.specs.SpellsTypes.{Lexemes}
-use Rattle.go_read.specs.Spells.{starts_type, SpellsLiteralType, SpellsBare, SpellsOperand, SpellsExprs, SpellsSimple, SpellsStmt, SpellsStmts, SpellsBlock, SpellsSpec, named_literal_rule, qualified_literal_rule, type_literal_rule, type_rule, unary_rule, binary_rule, assign_rule, simple_rule, defer_rule, label_rule, braces_rule, repeated_rule, typed_var_rule, values_rule, typed_values_rule}
+use Rattle.go_read.specs.Spells.{starts_type, SpellsLiteralType, SpellsBare, SpellsOperand, SpellsExprs, SpellsArgs, no_args_rule, args_rule, rest_args_rule, SpellsSimple, SpellsStmt, SpellsStmts, SpellsBlock, SpellsSpec, named_literal_rule, qualified_literal_rule, type_literal_rule, type_rule, unary_rule, binary_rule, assign_rule, simple_rule, defer_rule, label_rule, braces_rule, repeated_rule, typed_var_rule, values_rule, typed_values_rule}
 use Rattle.go_read.specs.Bareness.{nowhere}
-use Rattle.go_layout.specs.Layouts.{Layout, line, op}
-use Rattle.go_layout.specs.Operators.{binary_spelling, unary_spelling, assign_spelling}
-use Rattle.go_layout.specs.Parens.{needs_parens}
+use Rattle.go_layout.specs.Layouts.{Layout, line, op, ◌⊕◌}
+use Rattle.go_words.specs.Operators.{binary_spelling, unary_spelling, assign_spelling}
+use Rattle.go_layout.specs.Parens.{needs_parens, last_ends_in_integer}
 use Rattle.go_layout.specs.TypeLayout.{names_layout, type_layout}
-use Rattle.go_layout.specs.TreeLayout.{in_braces, equals_before, spec_type_layout, gives_semicolon}
-use Rattle.layout_laws.specs.Formed.{is_assign, is_call, is_simple, FormedLiteralType, FormedTypeOperand, FormedSpec, HasNames, HasExprs}
+use Rattle.go_layout.specs.TreeLayout.{gap_where, closes, rest_layout, exprs_layout, in_braces, equals_before, spec_type_layout, gives_semicolon}
+use Rattle.layout_laws.specs.Formed.{is_assign, is_call, is_simple, FormedLiteralType, FormedTypeOperand, FormedSpec, HasNames, HasExprs, FormedRest}
 use Rattle.layout_laws.specs.LayoutTokens.{HasTokens, of_nothing, of_token, of_gap, of_line, of_end, of_both}
 use Rattle.layout_laws.proofs.SpelledTypes.{U, type_spelled, names_spelled}
 use Rattle.layout_laws.proofs.Places.{Closes, needs_parts}
@@ -25,7 +29,7 @@ use Rattle.layout_laws.proofs.Places.{Closes, needs_parts}
 pub data OneToken (x : Terminal) : Lexemes → Lexemes → Type 0 where
   one_token : {s : Span} {r : Lexemes} → OneToken x (lex s x ∷ r) r
 
-binary_token : (o : BinOp) (ts r : Lexemes) → HasTokens (op (binary_spelling o)) ts r → OneToken (sign o) ts r
+binary_token : (o : BinOp) (ts r : Lexemes) → HasTokens (op (binary_spelling o)) ts r → OneToken (binary_op o) ts r
 binary_token Mul ts r of_token = one_token
 binary_token Div ts r of_token = one_token
 binary_token Rem ts r of_token = one_token
@@ -53,7 +57,7 @@ unary_token Not ts r of_token = one_token
 unary_token Flip ts r of_token = one_token
 unary_token Address ts r of_token = one_token
 
-assign_token : (o : Option BinOp) (ts r : Lexemes) → is_assign o ≡ true → HasTokens (op (assign_spelling o)) ts r → OneToken (becomes o) ts r
+assign_token : (o : Option BinOp) (ts r : Lexemes) → is_assign o ≡ true → HasTokens (op (assign_spelling o)) ts r → OneToken (terminal.assign o) ts r
 assign_token None ts r q of_token = one_token
 assign_token (Some Mul) ts r q of_token = one_token
 assign_token (Some Div) ts r q of_token = one_token
@@ -75,7 +79,7 @@ assign_token (Some Ge) ts r q w = absurd cc
 assign_token (Some LogAnd) ts r q w = absurd cc
 assign_token (Some LogOr) ts r q w = absurd cc
 
-binary_one : (o : BinOp) (l : ℕ) (h : Bool) (a b : Expr U) (ts mid mid2 r : Lexemes) → OneToken (sign o) mid mid2 → l ≤ level_of o
+binary_one : (o : BinOp) (l : ℕ) (h : Bool) (a b : Expr U) (ts mid mid2 r : Lexemes) → OneToken (binary_op o) mid mid2 → l ≤ level_of o
     → SpellsOperand nowhere (level_of o) h a ts mid → SpellsOperand nowhere (level_of o + 1) h b mid2 r → SpellsBare nowhere l h (binary tt o a b) ts r
 binary_one o l h a b ts mid mid2 r one_token le x y = binary_rule le x y
 
@@ -91,13 +95,33 @@ pub unary_spelled : (o : UnOp) (l : ℕ) (h : Bool) (e : Expr U) (ts mid r : Lex
     → SpellsOperand nowhere 6 h e mid r → SpellsBare nowhere l h (unary tt o e) ts r
 unary_spelled o l h e ts mid r w le x = unary_one o l h e ts mid r (unary_token o ts mid w) le x
 
-assign_one : (o : Option BinOp) (h : Bool) (xs ys : Exprs U) (ts mid mid2 r : Lexemes) → OneToken (becomes o) mid mid2
+assign_one : (o : Option BinOp) (h : Bool) (xs ys : Exprs U) (ts mid mid2 r : Lexemes) → OneToken (terminal.assign o) mid mid2
     → SpellsExprs nowhere h xs ts mid → SpellsExprs nowhere h ys mid2 r → SpellsSimple nowhere h (assign tt xs o ys) ts r
 assign_one o h xs ys ts mid mid2 r one_token x y = assign_rule x y
 
 pub assign_spelled : (o : Option BinOp) (h : Bool) (xs ys : Exprs U) (ts mid mid2 r : Lexemes) → is_assign o ≡ true → HasTokens (op (assign_spelling o)) mid mid2
     → SpellsExprs nowhere h xs ts mid → SpellsExprs nowhere h ys mid2 r → SpellsSimple nowhere h (assign tt xs o ys) ts r
 assign_spelled o h xs ys ts mid mid2 r q w x y = assign_one o h xs ys ts mid mid2 r (assign_token o mid mid2 q w) x y
+
+-- ---- the arguments of a call
+
+dots_token : (b : Bool) (ts r : Lexemes) → HasTokens (gap_where b ⊕ op (codes "...")) ts r → OneToken ellipsis ts r
+dots_token true ts r (of_both of_gap of_token) = one_token
+dots_token false ts r (of_both of_nothing of_token) = one_token
+
+whole_one : (xs : Exprs U) (ts mid r : Lexemes) (e : Span) → OneToken ellipsis mid (lex e end_paren ∷ r) → SpellsExprs nowhere false xs ts mid → SpellsArgs nowhere xs Whole ts r
+whole_one xs ts mid r e one_token d = rest_args_rule d
+
+pub args_spelled : (rest : Rest) (xs : Exprs U) (i : List ℕ) → FormedRest rest xs
+    → (HasExprs xs → (ts r : Lexemes) → HasTokens (exprs_layout i false (closes rest) xs) ts r → Closes (closes rest) r → SpellsExprs nowhere false xs ts r)
+    → (ts mid r : Lexemes) (e : Span) → HasTokens (exprs_layout i false (closes rest) xs) ts mid → HasTokens (rest_layout rest xs) mid (lex e end_paren ∷ r) → SpellsArgs nowhere xs rest ts r
+args_spelled Plain no_exprs i f k ts mid r e of_nothing of_nothing = no_args_rule
+args_spelled Plain (expr_and x es) i f k ts mid r e w of_nothing = args_rule (k tt ts _ w refl)
+args_spelled Whole no_exprs i f k ts mid r e w d = absurd f
+args_spelled Whole (expr_and x es) i f k ts mid r e w d =
+    let xs = expr_and x es in whole_one xs ts mid r e (dots_token (last_ends_in_integer false false xs) mid (lex e end_paren ∷ r) d) (k tt ts mid w tt)
+args_spelled Packed xs i f k ts mid r e w d = absurd f
+args_spelled Empty xs i f k ts mid r e w d = absurd f
 
 -- ---- types
 
@@ -192,7 +216,7 @@ simple_gives (defer _ _) q = absurd cc
 simple_gives (label _ _ _) q = absurd cc
 
 pub labelled : (b gives : Bool) (n : NameAt U) (x : Stmt U) (c s : Span) (ts r : Lexemes) → (b ≡ true → gives ≡ true) → Says b gives false x ts r
-    → (h : Bool) → Says false gives h (label tt n x) (lex s (word n.name) ∷ lex c colon ∷ ts) r
+    → (h : Bool) → Says false gives h (label tt n x) (lex s (terminal.ident n.name) ∷ lex c colon ∷ ts) r
 labelled true true n x c s ts r q d h = label_rule (simple_rule d)
 labelled true false n x c s ts r q d h = absurd (nope (q refl))
   where
@@ -202,7 +226,7 @@ labelled false true n x c s ts r q d h = label_rule d
 labelled false false n x c s ts r q d h = (d.0, label_rule d.1)
 
 pub call_needs_none : (e : Expr U) → is_call e ≡ true → needs_parens 1 false false e ≡ false
-call_needs_none (call _ _ _) q = refl
+call_needs_none (call _ _ _ _) q = refl
 call_needs_none (ident _ _) q = absurd cc
 call_needs_none (int_lit _ _) q = absurd cc
 call_needs_none (rune_lit _ _) q = absurd cc
@@ -218,7 +242,7 @@ call_needs_none (binary _ _ _ _) q = absurd cc
 call_needs_none (star _ _) q = absurd cc
 
 pub deferred : (e : Expr U) (ts r : Lexemes) (s : Span) → is_call e ≡ true → SpellsBare nowhere 1 false e ts r → SpellsStmt nowhere (defer tt e) (lex s key_defer ∷ ts) r
-deferred (call _ _ _) ts r s q d = defer_rule d
+deferred (call _ _ _ _) ts r s q d = defer_rule d
 deferred (ident _ _) ts r s q d = absurd cc
 deferred (int_lit _ _) ts r s q d = absurd cc
 deferred (rune_lit _ _) ts r s q d = absurd cc

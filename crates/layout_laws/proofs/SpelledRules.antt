@@ -2,8 +2,9 @@
 use Rattle.std.proofs.Common.{◌≡◌, ℕ, ◌≤◌, Bool, true, false, List, ◌∷◌, Option, Some, None, refl}
 use Rattle.std.specs.Prelude.{codes}
 use Rattle.go_tree.specs.declared.spans.Span.{Span}
+use Rattle.go_tree.specs.declared.exprs.Rest.{Rest}
 use Rattle.go_tree.specs.Tree.{NameAt, TypeExpr, Sig, Expr, Exprs, ExprOption, Elems, Value, ValueOption, Stmt, Stmts, StmtOption, BlockOption, RangeLeft, Arms, Cases, ValueSpecs, composite, selector, index, slice, call, func_lit, star, no_exprs, expr_and, no_elems, elem, no_value, some_value, braced, const_decl, var_decl, step, define, return_, break_, continue_, for_, range_, switch, no_stmt, some_stmt, some_block, assigns, defines, no_arms, arm, no_cases, case, no_specs, spec, label, defer, stmt_and}
-use Rattle.go_read.specs.SpellsTerminals.{lex, end_paren}
+use Rattle.go_words.specs.Terminals.{lex, end_paren}
 use Rattle.go_read.specs.SpellsTypes.{Lexemes, SpellsSig, SpellsNames}
 use Rattle.go_read.specs.Spells.{SpellsLiteralType, SpellsBare, SpellsExpr, SpellsOperand, SpellsOption, SpellsExprs, SpellsArgs, SpellsElems, SpellsElem, SpellsValue, SpellsSimple, SpellsPart, SpellsFirst, SpellsStmt, SpellsStmts, SpellsBlock, SpellsIf, SpellsArm, SpellsLeft, SpellsCases, SpellsDecl, SpellsSpec, SpellsSpecs, single_rule, more_specs_rule, more_stmts_rule, composite_rule, func_rule, selector_rule, index_rule, slice_rule, call_rule, star_rule, last_expr_rule, more_exprs_rule, last_elem_rule, more_elems_rule, value_rule, keyed_rule, braced_rule, increment_rule, decrement_rule, define_rule, part_rule, first_rule, const_rule, var_rule, break_rule, break_label_rule, continue_rule, continue_label_rule, while_rule, for_rule, range_rule, switch_rule, only_arm_rule, else_rule, else_if_rule, arm_rule, assigns_rule, defines_rule, case_rule, default_rule, group_rule, return_values_rule}
 use Rattle.go_read.specs.Bareness.{nowhere}
@@ -40,12 +41,12 @@ pub slice_made : (a b c : Layout) (l : ℕ) (h : Bool) (e : Expr U) (from to : E
     → HasTokens (a ⊕ op (codes "[") ⊕ b ⊕ op (codes ":") ⊕ c ⊕ op (codes "]")) ts r → SpellsBare nowhere l h (slice tt e from to) ts r
 slice_made a b c l h e from to ts r x y z (of_both u (of_both of_token (of_both v (of_both of_token (of_both w of_token))))) = slice_rule (x _ _ u tt) (y _ _ v) (z _ _ w)
 
-pub call_made : (a b : Layout) (l : ℕ) (h : Bool) (e : Expr U) (xs : Exprs U) (ts r : Lexemes) → ((ts2 r2 : Lexemes) → HasTokens a ts2 r2 → Closes true r2 → SpellsExpr nowhere 7 h e ts2 r2)
-    → ((ts2 r2 : Lexemes) (s : Span) → HasTokens b ts2 (lex s end_paren ∷ r2) → SpellsArgs nowhere xs ts2 r2)
-    → HasTokens (a ⊕ op (codes "(") ⊕ b ⊕ op (codes ")")) ts r → SpellsBare nowhere l h (call tt e xs) ts r
-call_made a b l h e xs ts r x y (of_both u (of_both of_token (of_both v of_token))) = call_rule (x _ _ u refl) (y _ _ _ v)
+pub call_made : (a b c : Layout) (l : ℕ) (h : Bool) (e : Expr U) (xs : Exprs U) (rest : Rest) (ts r : Lexemes) → ((ts2 r2 : Lexemes) → HasTokens a ts2 r2 → Closes true r2 → SpellsExpr nowhere 7 h e ts2 r2)
+    → ((ts2 mid r2 : Lexemes) (s : Span) → HasTokens b ts2 mid → HasTokens c mid (lex s end_paren ∷ r2) → SpellsArgs nowhere xs rest ts2 r2)
+    → HasTokens (a ⊕ op (codes "(") ⊕ b ⊕ c ⊕ op (codes ")")) ts r → SpellsBare nowhere l h (call tt e xs rest) ts r
+call_made a b c l h e xs rest ts r x y (of_both u (of_both of_token (of_both v (of_both w of_token)))) = call_rule (x _ _ u refl) (y _ _ _ _ v w)
 
-pub func_made : (a b : Layout) (l : ℕ) (h : Bool) (g : Sig U) (body : Stmts U) (ts r : Lexemes) → Yields a (SpellsSig nowhere g) → Yields b (SpellsBlock nowhere tt body)
+pub func_made : (a b : Layout) (l : ℕ) (h : Bool) (g : Sig U) (body : Stmts U) (ts r : Lexemes) → Yields a (SpellsSig nowhere false g) → Yields b (SpellsBlock nowhere tt body)
     → HasTokens (key (codes "func") ⊕ a ⊕ gap ⊕ b) ts r → SpellsBare nowhere l h (func_lit tt g tt body) ts r
 func_made a b l h g body ts r x y (of_both of_token (of_both u (of_both of_gap v))) = func_rule (x _ _ u) (y _ _ v)
 

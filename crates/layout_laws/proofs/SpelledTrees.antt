@@ -1,23 +1,22 @@
 -- The tokens of the layout of an expression and of a statement spell it.
-use Rattle.std.proofs.Common.{◌≡◌, ℕ, ◌+◌, ◌≤◌, Bool, true, false, ◌||◌, List, ◌∷◌, Option, Some, None, refl}
-use Rattle.go_tree.specs.declared.spans.Span.{Span}
+use Rattle.std.proofs.Common.{◌≡◌, ℕ, ◌+◌, ◌≤◌, Bool, true, false, ◌||◌, List, Option, Some, None, refl}
 use Rattle.go_tree.specs.declared.operators.UnOp.{UnOp}
 use Rattle.go_tree.specs.declared.operators.BinOp.{BinOp}
 use Rattle.go_tree.specs.Tree.{NameAt, TypeExpr, Expr, Exprs, ExprOption, Elems, Value, Stmt, Stmts, StmtOption, BlockOption, RangeLeft, Arms, Cases, ValueSpecs, ident, int_lit, rune_lit, str_lit, composite, selector, index, slice, call, func_lit, type_operand, unary, binary, star, no_exprs, expr_and, no_expr, some_expr, no_elems, elem, plain, braced, no_value, some_value, const_decl, var_decl, empty, eval, step, assign, define, return_, break_, continue_, inner, if_, for_, range_, switch, defer, label, no_stmts, stmt_and, no_stmt, some_stmt, no_block, some_block, nothing, assigns, defines, no_arms, arm, no_cases, case, no_specs, spec}
-use Rattle.go_read.specs.SpellsTerminals.{lex, end_paren, level_of}
+use Rattle.go_words.specs.Terminals.{level_of}
 use Rattle.go_read.specs.SpellsTypes.{Lexemes}
-use Rattle.go_read.specs.Spells.{SpellsBare, SpellsOption, SpellsExprs, SpellsArgs, SpellsElems, SpellsValue, SpellsPart, SpellsFirst, SpellsStmts, SpellsBlock, SpellsIf, SpellsLeft, SpellsCases, SpellsDecl, SpellsSpec, SpellsSpecs, SpellsOperand, SpellsSimple, ident_rule, int_rule, rune_rule, text_rule, operand_rule, no_expr_rule, some_expr_rule, no_args_rule, args_rule, no_elems_rule, plain_rule, eval_rule, no_part_rule, part_rule, no_first_rule, empty_rule, return_rule, block_rule, if_rule, no_stmts_rule, no_left_rule, no_cases_rule, no_specs_rule}
+use Rattle.go_read.specs.Spells.{SpellsBare, SpellsOption, SpellsExprs, SpellsElems, SpellsValue, SpellsPart, SpellsFirst, SpellsStmts, SpellsBlock, SpellsIf, SpellsLeft, SpellsCases, SpellsDecl, SpellsSpec, SpellsSpecs, SpellsOperand, SpellsSimple, ident_rule, int_rule, rune_rule, text_rule, operand_rule, no_expr_rule, some_expr_rule, no_elems_rule, plain_rule, eval_rule, no_part_rule, part_rule, no_first_rule, empty_rule, return_rule, block_rule, if_rule, no_stmts_rule, no_left_rule, no_cases_rule, no_specs_rule}
 use Rattle.go_read.specs.Bareness.{nowhere}
 use Rattle.go_layout.specs.Layouts.{Layout, within, deeper, ◌⊕◌, op}
-use Rattle.go_layout.specs.Operators.{binary_spelling, unary_spelling, assign_spelling}
+use Rattle.go_words.specs.Operators.{binary_spelling, unary_spelling, assign_spelling}
 use Rattle.go_layout.specs.TypeLayout.{names_layout, type_layout, sig_layout}
 use Rattle.go_layout.specs.Parens.{needs_parens, is_integer, runs_into, header_within, closed_within}
-use Rattle.go_layout.specs.TreeLayout.{spaced, clause_indent, gives_semicolon, spec_type_layout, equals_before, in_group, in_braces, expr_layout, exprs_layout, option_layout, test_layout, elems_layout, key_layout, value_layout, stmt_layout, stmts_layout, part_layout, post_layout, first_layout, arms_layout, last_layout, left_layout, cases_layout, specs_layout}
+use Rattle.go_layout.specs.TreeLayout.{closes, rest_layout, spaced, clause_indent, gives_semicolon, spec_type_layout, equals_before, in_group, in_braces, expr_layout, exprs_layout, option_layout, test_layout, elems_layout, key_layout, value_layout, stmt_layout, stmts_layout, part_layout, post_layout, first_layout, arms_layout, last_layout, left_layout, cases_layout, specs_layout}
 use Rattle.layout_laws.specs.Formed.{is_simple, is_assign, HasNames, FormedSpec, HasExprs, HasArms, FormedGroup, FormedExpr, FormedOption, FormedExprs, FormedElems, FormedValue, FormedStmt, FormedStmts, FormedPart, FormedArms, FormedBlock, FormedLeft, FormedCases, FormedSpecs, FormedOperand}
 use Rattle.layout_laws.specs.LayoutTokens.{HasTokens, of_nothing, of_token, of_both}
 use Rattle.layout_laws.proofs.SpelledTypes.{U, sig_spelled, names_spelled}
 use Rattle.layout_laws.proofs.Places.{Closes, Spelled, placed, needs_parts, or_false}
-use Rattle.layout_laws.proofs.SpelledParts.{Says, as_simple, simple_gives, call_needs_none, braces_spelled, LastSpelled, without_last, spec_spelled, binary_spelled, unary_spelled, assign_spelled, literal_type_spelled, type_operand_spelled}
+use Rattle.layout_laws.proofs.SpelledParts.{Says, as_simple, simple_gives, call_needs_none, args_spelled, braces_spelled, LastSpelled, without_last, spec_spelled, binary_spelled, unary_spelled, assign_spelled, literal_type_spelled, type_operand_spelled}
 use Rattle.layout_laws.proofs.SpelledRules as rule
 
 -- an operand in its place
@@ -82,10 +81,11 @@ mutual
   expr_spelled (slice s e from to) f i l h c ts r q w k =
       rule.slice_made (here i 7 h false e) (option_layout i false from) (option_layout i false to) l h e from to ts r (operand_here e i 7 h false (f.0, f.1) (expr_spelled e f.1))
       (option_spelled from f.2 i false) (option_spelled to f.3 i false) w
-  expr_spelled (call s e xs) f i l h c ts r q w k =
-      rule.call_made (here i 7 h true e) (exprs_layout i false true xs) l h e xs ts r (λ ts2 r2 u z. placed e (needs_parens 7 h true e) i 7 h true ts2 r2 (expr_spelled e f.0) (λ x. x) u z) (args_spelled xs f.1 i) w
+  expr_spelled (call s e xs rest) f i l h c ts r q w k =
+      rule.call_made (here i 7 h true e) (exprs_layout i false (closes rest) xs) (rest_layout rest xs) l h e xs rest ts r (λ ts2 r2 u z. placed e (needs_parens 7 h true e) i 7 h true ts2 r2 (expr_spelled e f.0) (λ x. x) u z)
+      (args_spelled rest xs i f.2 (exprs_spelled xs f.1 i false (closes rest))) w
   expr_spelled (func_lit s g sb body) f i l h c ts r q w k =
-      rule.func_made (sig_layout g) (in_braces i body (stmts_layout (deeper i) (Some i) body)) l h g body ts r (λ ts2 r2. sig_spelled g ts2 r2 f.0) (block i body (stmts_spelled body f.1)) w
+      rule.func_made (sig_layout g) (in_braces i body (stmts_layout (deeper i) (Some i) body)) l h g body ts r (λ ts2 r2. sig_spelled false g ts2 r2 f.0) (block i body (stmts_spelled body f.1)) w
   expr_spelled (type_operand s t) f i l h c ts r q w k = type_operand_spelled t l h c ts r f q w k
   expr_spelled (unary s o e) f i l h c ts r q w k =
       let p = needs_parens 6 h c e || runs_into o e in
@@ -100,12 +100,6 @@ mutual
   exprs_spelled (expr_and e no_exprs) f i h c some ts r w k = rule.last_expr_made (here i 1 h c e) h c e ts r (operand_here e i 1 h c (f.0, f.1) (expr_spelled e f.1)) k w
   exprs_spelled (expr_and e (expr_and e2 es)) f i h c some ts r w k =
       rule.more_exprs_made (here i 1 h true e) (exprs_layout i h c (expr_and e2 es)) h c e (expr_and e2 es) ts r (operand_here e i 1 h true (f.0, f.1) (expr_spelled e f.1)) (exprs_spelled (expr_and e2 es) f.2 i h c tt) k w
-
-  args_spelled : (xs : Exprs U) → FormedExprs xs → (i : List ℕ) (ts r : Lexemes) (e : Span) → HasTokens (exprs_layout i false true xs) ts (lex e end_paren ∷ r) → SpellsArgs nowhere xs ts r
-  args_spelled no_exprs f i ts r e of_nothing = no_args_rule
-  args_spelled (expr_and x no_exprs) f i ts r e w = args_rule (rule.last_expr_made (here i 1 false true x) false true x ts (lex e end_paren ∷ r) (operand_here x i 1 false true (f.0, f.1) (expr_spelled x f.1)) refl w)
-  args_spelled (expr_and x (expr_and y es)) f i ts r e w =
-      args_rule (rule.more_exprs_made (here i 1 false true x) (exprs_layout i false true (expr_and y es)) false true x (expr_and y es) ts (lex e end_paren ∷ r) (operand_here x i 1 false true (f.0, f.1) (expr_spelled x f.1)) (exprs_spelled (expr_and y es) f.2 i false true tt) refl w)
 
   option_spelled : (o : ExprOption U) → FormedOption o → (i : List ℕ) (h : Bool) (ts r : Lexemes) → HasTokens (option_layout i h o) ts r → SpellsOption nowhere h o ts r
   option_spelled no_expr f i h ts r of_nothing = no_expr_rule

@@ -3,8 +3,8 @@ use Rattle.std.proofs.Common.{◌≡◌, ℕ, Bool, true, false, List, Option, S
 use Rattle.std.specs.Prelude.{codes}
 use Rattle.go_tree.specs.Tree.{NameAt, TypeExpr, Expr, Exprs, Elems, Value, ValueOption, Stmt, Arms, no_exprs, expr_and, no_elems, elem, plain, braced, no_value, some_value, const_decl, var_decl, empty, eval, step, assign, define, return_, break_, continue_, inner, if_, for_, range_, switch, defer, label, no_arms, arm, no_stmt, some_stmt}
 use Rattle.go_layout.specs.Layouts.{gap, line, op, name_layout, within, ◌⊕◌}
-use Rattle.go_layout.specs.Operators.{assign_spelling}
-use Rattle.go_layout.specs.TypeLayout.{names_layout, type_layout, param_name_layout}
+use Rattle.go_words.specs.Operators.{assign_spelling}
+use Rattle.go_layout.specs.TypeLayout.{names_layout, type_layout, dots_where, param_name_layout}
 use Rattle.go_layout.specs.Parens.{needs_parens, header_within, closed_within}
 use Rattle.go_layout.specs.TreeLayout.{spaced, step_spelling, comma_before_exprs, comma_before_elems, closed_before, comma_follows, expr_layout, exprs_layout, elems_layout, value_layout, stmt_layout, arms_layout, last_layout}
 use Rattle.layout_laws.specs.Formed.{HasExprs, HasArms, FormedName, FormedType, FormedExpr, FormedExprs, FormedElems, FormedValue, FormedStmt}
@@ -36,9 +36,10 @@ elems_open s no_value v es i more f = value_opens v i (comma_follows es) (letter
 elems_open s (some_value k) v es i more f =
     value_opens k i false (letters_of ((op (codes ":") ⊕ gap) ⊕ value_layout i (comma_follows es) v ⊕ comma_before_elems es ⊕ elems_layout i es) more) f.0
 
-pub param_opens : (o : Option (NameAt U)) (t : TypeExpr U) (more : List ℕ) → FormedName o → FormedType t → opens true (letters_of (param_name_layout o ⊕ type_layout t) more) ≡ true
-param_opens None t more n f = type_opens t more f
-param_opens (Some n) t more is f = name_opens n.name (letters_of (gap ⊕ type_layout t) more) is
+pub param_opens : (o : Option (NameAt U)) (b : Bool) (t : TypeExpr U) (more : List ℕ) → FormedName o → FormedType t → opens true (letters_of (param_name_layout o ⊕ dots_where b ⊕ type_layout t) more) ≡ true
+param_opens None true t more n f = refl
+param_opens None false t more n f = type_opens t more f
+param_opens (Some n) b t more is f = name_opens n.name (letters_of (gap ⊕ dots_where b ⊕ type_layout t) more) is
 
 arms_open : (arms : Arms U) (i : List ℕ) (more : List ℕ) → HasArms arms → opens false (letters_of (arms_layout i arms) more) ≡ true
 arms_open no_arms i more some = absurd some

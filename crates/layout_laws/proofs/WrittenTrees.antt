@@ -3,33 +3,33 @@ use Rattle.std.proofs.Common.{◌≡◌, ℕ, Bool, true, false, List, [], ◌�
 use Rattle.std.proofs.lemmas.List.{append_assoc, append-nil}
 use Rattle.go_tree.specs.declared.spans.Span.{Span}
 use Rattle.go_tree.specs.declared.tokens.Token.{Token}
-use Rattle.go_tree.specs.Tree.{TypeExpr, Expr, Stmts}
-use Rattle.go_tree.specs.Bare.{bare_type, bare_expr, bare_stmts}
+use Rattle.go_tree.specs.Tree.{TypeExpr, Sig, Expr, Stmts}
+use Rattle.go_tree.specs.Bare.{bare_type, bare_sig, bare_expr, bare_stmts}
 use Rattle.go_words.specs.Tokens.{TokensOf, tokens_from}
 use Rattle.go_words.specs.Tokens.Pieces.{Piece, CutsTo}
-use Rattle.go_read.specs.SpellsTerminals.{lexemes}
-use Rattle.go_read.specs.SpellsTypes.{Lexemes, SpellsType}
+use Rattle.go_words.specs.Terminals.{lexemes}
+use Rattle.go_read.specs.SpellsTypes.{Lexemes, SpellsType, SpellsSig}
 use Rattle.go_read.specs.Spells.{SpellsStmts, operand_rule}
 use Rattle.go_read.specs.SpellsSpans.{span_to}
 use Rattle.go_read.specs.Bareness.{nowhere}
 use Rattle.go_read.proofs.SpansAside as aside
 use Rattle.go_layout.specs.Layouts.{Layout, no_text, a_token, gap, line, ◌⊕◌, text_of}
 use Rattle.go_layout.specs.Parens.{needs_parens}
-use Rattle.go_layout.specs.TypeLayout.{type_layout}
+use Rattle.go_layout.specs.TypeLayout.{type_layout, sig_layout}
 use Rattle.go_layout.specs.TreeLayout.{operand_layout, stmts_layout}
-use Rattle.layout_laws.specs.Formed.{FormedType, FormedOperand, FormedStmts}
+use Rattle.layout_laws.specs.Formed.{FormedType, FormedSig, FormedOperand, FormedStmts}
 use Rattle.layout_laws.specs.Real.{AreReal}
 use Rattle.layout_laws.specs.LayoutTokens.{HasTokens}
 use Rattle.layout_laws.specs.LayoutPieces.{word_of, letters_of, pieces_of, due_of}
 use Rattle.layout_laws.specs.Laid.{is_indent, Laid}
-use Rattle.layout_laws.specs.Laws.{TokensFrom, IsSpelledType, IsSpelledExpr, IsSpelledStmts, may_follow, Stands, StandsAlone, SpellsWithin, TypeIsWritten, ExprIsWritten, last_gives, SpellsList, StmtsAreWritten}
-use Rattle.layout_laws.proofs.SpelledTypes.{U, type_spelled}
+use Rattle.layout_laws.specs.Laws.{TokensFrom, IsSpelledType, IsSpelledSig, SigIsWritten, IsSpelledExpr, IsSpelledStmts, may_follow, Stands, StandsAlone, SpellsWithin, TypeIsWritten, ExprIsWritten, last_gives, SpellsList, StmtsAreWritten}
+use Rattle.layout_laws.proofs.SpelledTypes.{U, type_spelled, sig_spelled}
 use Rattle.layout_laws.proofs.Places.{placed}
 use Rattle.layout_laws.proofs.SpelledTrees.{expr_spelled}
-use Rattle.layout_laws.proofs.FormedTypes.{type_formed}
+use Rattle.layout_laws.proofs.FormedTypes.{type_formed, sig_formed}
 use Rattle.layout_laws.proofs.FormedTrees.{operand_formed, stmts_formed}
-use Rattle.layout_laws.proofs.Due.{type_due, placed_due}
-use Rattle.layout_laws.proofs.LaidTypes.{type_laid, ends_word}
+use Rattle.layout_laws.proofs.Due.{type_due, sig_due, placed_due}
+use Rattle.layout_laws.proofs.LaidTypes.{type_laid, sig_laid, ends_word}
 use Rattle.layout_laws.proofs.LaidPlaces.{here_laid}
 use Rattle.layout_laws.proofs.LaidTrees.{expr_laid}
 use Rattle.layout_laws.proofs.LaidCuts.{cuts_to, bytes_of, scalars_of, is_due, after, tokens_alone}
@@ -96,6 +96,18 @@ type_written t f =
       stands = subst (λ (x : Layout). Stands x (SpellsType nowhere (bare_type t))) (bare.type_bare t) (stands a (SpellsType nowhere (bare_type t)) laid so);
     }
 
+-- ---- signatures
+
+pub sig_written : (v : Bool) (g : Sig Span) → FormedSig v (bare_sig g) → SigIsWritten v g
+sig_written v g f =
+    let a = sig_layout (bare_sig g) in
+    let laid : (d : Bool) (more : List ℕ) → may_follow more ≡ true → Laid a d more = λ d more off. sig_laid v (bare_sig g) more d f (ends_word false more off) in
+    let so : (ts r : Lexemes) → HasTokens a ts r → SpellsSig nowhere v (bare_sig g) ts r = λ ts r w. sig_spelled v (bare_sig g) ts r f w in
+    record {
+      alone = subst (λ (x : Layout). StandsAlone x (SpellsSig nowhere v (bare_sig g))) (bare.sig_bare g) (stands_alone a (SpellsSig nowhere v (bare_sig g)) (laid false [] refl) (sig_due (bare_sig g) false) so);
+      stands = subst (λ (x : Layout). Stands x (SpellsSig nowhere v (bare_sig g))) (bare.sig_bare g) (stands a (SpellsSig nowhere v (bare_sig g)) laid so);
+    }
+
 -- ---- expressions
 
 pub within_spelled : (e : Expr U) (i : List ℕ) (level : ℕ) (header : Bool) → FormedOperand e → (ts r : Lexemes) → HasTokens (operand_layout i level header false e) ts r → SpellsWithin level header e ts r
@@ -152,6 +164,15 @@ stmts_written xs i f sp =
 
 are_real : (ts : Lexemes) → TokensFrom ts → AreReal ts
 are_real ts from = rest_real from.front ts (subst (λ (xs : Lexemes). AreReal xs) from.from_there (tokens_real from.text from.tokens from.comments from.of_text))
+
+pub spelled_sig : (v : Bool) (g : Sig Span) → IsSpelledSig v g → FormedSig v (bare_sig g)
+spelled_sig v g s = (sig_formed nowhere (aside.sig_bare span_to s.spelled) (are_real s.tokens s.of_text)).0
+
+pub sigs_written : (v : Bool) (g : Sig Span) → IsSpelledSig v g → SigIsWritten v g
+sigs_written v g s = sig_written v g (spelled_sig v g s)
+
+pub sig_unseen : (g : Sig Span) → sig_layout (bare_sig g) ≡ sig_layout g
+sig_unseen g = bare.sig_bare g
 
 pub spelled_type : (t : TypeExpr Span) → IsSpelledType t → FormedType (bare_type t)
 spelled_type t s = (type_formed nowhere (aside.type_bare span_to s.spelled) (are_real s.tokens s.of_text)).0

@@ -1,11 +1,13 @@
 -- Trees that the grammar forms: their names and literals are tokens, lists have an entry where the grammar wants one, and a
--- literal of a function is called at once (Go specification, Types, Expressions, Statements).
+-- literal of a function is called at once and isn't variadic (Go specification, Types, Expressions, Statements).
 use Rattle.std.specs.Prelude.{◌≡◌, ◌⊎◌, ℕ, Bool, true, false, List, [], ◌∷◌, Option, Some, None}
 use Rattle.std.specs.Str.{IsUtf8, chars}
 use Rattle.go_tree.specs.declared.operators.BinOp.{BinOp}
 use Rattle.go_tree.specs.declared.operators.BinOp.TheVariants.{Eq, Ne, Lt, Le, Gt, Ge, LogAnd, LogOr}
 use Rattle.go_tree.specs.declared.tokens.TokenKind.{TokenKind}
 use Rattle.go_tree.specs.declared.tokens.TokenKind.TheVariants.{Ident, Integer, Rune, Str}
+use Rattle.go_tree.specs.declared.exprs.Rest.{Rest}
+use Rattle.go_tree.specs.declared.exprs.Rest.TheVariants.{Plain, Whole, Packed, Empty}
 use Rattle.go_tree.specs.Tree.{NameAt, TypeExpr, Fields, Param, Sig, Expr, Exprs, ExprOption, Elems, Value, ValueOption, Stmt, Stmts, StmtOption, BlockOption, RangeLeft, Arms, Cases, ValueSpecs, named, pointer, slice_type, map_type, struct_type, no_fields, field, ident, int_lit, rune_lit, str_lit, composite, selector, index, slice, call, func_lit, type_operand, unary, binary, star, no_exprs, expr_and, no_expr, some_expr, no_elems, elem, plain, braced, no_value, some_value, const_decl, var_decl, empty, eval, step, assign, define, return_, break_, continue_, inner, if_, for_, range_, switch, defer, label, no_stmts, stmt_and, no_stmt, some_stmt, no_block, some_block, nothing, assigns, defines, no_arms, arm, no_cases, case, no_specs, spec}
 use Rattle.go_words.specs.Tokens.Pieces.{token, IsPiece}
 use Rattle.go_read.specs.Spells.{is_func_lit}
@@ -63,20 +65,30 @@ module _ {S : Type 0} where
   IsUnnamed None = Unit {0}
   IsUnnamed (Some n) = ⊥
 
-  abbrev pub FormedNamed : List (Param S) → Type 0
-  FormedNamed [] = Unit {0}
-  FormedNamed (p ∷ ps) = IsNamed p.name × FormedType p.of × FormedNamed ps
+  -- `...` stands before the type of the last parameter alone, and only where a list may be variadic
+  abbrev pub FitsRest : Bool → Bool → List (Param S) → Type 0
+  FitsRest false variadic ps = Unit {0}
+  FitsRest true true [] = Unit {0}
+  FitsRest true true (_ ∷ _) = ⊥
+  FitsRest true false ps = ⊥
 
-  abbrev pub FormedUnnamed : List (Param S) → Type 0
-  FormedUnnamed [] = Unit {0}
-  FormedUnnamed (p ∷ ps) = IsUnnamed p.name × FormedType p.of × FormedUnnamed ps
+  abbrev pub FormedNamed : Bool → List (Param S) → Type 0
+  FormedNamed variadic [] = Unit {0}
+  FormedNamed variadic (p ∷ ps) =
+      IsNamed p.name × FormedType p.of × FormedNamed variadic ps × FitsRest p.rest variadic ps
+
+  abbrev pub FormedUnnamed : Bool → List (Param S) → Type 0
+  FormedUnnamed variadic [] = Unit {0}
+  FormedUnnamed variadic (p ∷ ps) =
+      IsUnnamed p.name × FormedType p.of × FormedUnnamed variadic ps × FitsRest p.rest variadic ps
 
   -- all of them have names, or none
-  abbrev pub FormedParams : List (Param S) → Type 0
-  FormedParams ps = FormedNamed ps ⊎ FormedUnnamed ps
+  abbrev pub FormedParams : Bool → List (Param S) → Type 0
+  FormedParams variadic ps = FormedNamed variadic ps ⊎ FormedUnnamed variadic ps
 
-  abbrev pub FormedSig : Sig S → Type 0
-  FormedSig g = FormedParams g.params × FormedParams g.results
+  -- a declared function may be variadic, and no method and no literal
+  abbrev pub FormedSig : Bool → Sig S → Type 0
+  FormedSig variadic g = FormedParams variadic g.params × FormedParams false g.results
 
   abbrev pub FormedTypeOption : Option (TypeExpr S) → Type 0
   FormedTypeOption None = Unit {0}
@@ -101,8 +113,15 @@ module _ {S : Type 0} where
   HasArms no_arms = ⊥
   HasArms (arm _ _ _ _ _ _) = Unit {0}
 
+  -- `...` stands after an argument; a call that is packed or has its last argument added is no source
+  abbrev pub FormedRest : Rest → Exprs S → Type 0
+  FormedRest Plain xs = Unit {0}
+  FormedRest Whole xs = HasExprs xs
+  FormedRest Packed xs = ⊥
+  FormedRest Empty xs = ⊥
+
   abbrev pub is_call : Expr S → Bool
-  is_call (call _ _ _) = true
+  is_call (call _ _ _ _) = true
   is_call _ = false
 
   -- a statement that may stand in a header
@@ -138,8 +157,8 @@ module _ {S : Type 0} where
     FormedExpr (selector _ e n) = (is_func_lit e ≡ false) × FormedExpr e × IsName n.name
     FormedExpr (index _ e at) = (is_func_lit e ≡ false) × FormedExpr e × (is_func_lit at ≡ false) × FormedExpr at
     FormedExpr (slice _ e from to) = (is_func_lit e ≡ false) × FormedExpr e × FormedOption from × FormedOption to
-    FormedExpr (call _ f xs) = FormedExpr f × FormedExprs xs
-    FormedExpr (func_lit _ g _ body) = FormedSig g × FormedStmts body
+    FormedExpr (call _ f xs rest) = FormedExpr f × FormedExprs xs × FormedRest rest xs
+    FormedExpr (func_lit _ g _ body) = FormedSig false g × FormedStmts body
     FormedExpr (type_operand _ t) = FormedTypeOperand t
     FormedExpr (unary _ o e) = (is_func_lit e ≡ false) × FormedExpr e
     FormedExpr (binary _ o a b) = (is_func_lit a ≡ false) × FormedExpr a × (is_func_lit b ≡ false) × FormedExpr b

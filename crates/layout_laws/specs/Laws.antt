@@ -4,18 +4,18 @@ use Rattle.std.specs.Str.{all_scalars}
 use Rattle.go_tree.specs.declared.spans.Span.{Span}
 use Rattle.go_tree.specs.declared.tokens.Token.{Token}
 use Rattle.go_tree.specs.declared.tokens.Comment.{Comment}
-use Rattle.go_tree.specs.Tree.{TypeExpr, Expr, Stmts, no_stmts, stmt_and}
-use Rattle.go_tree.specs.Bare.{bare_type, bare_expr, bare_stmts}
+use Rattle.go_tree.specs.Tree.{TypeExpr, Sig, Expr, Stmts, no_stmts, stmt_and}
+use Rattle.go_tree.specs.Bare.{bare_type, bare_sig, bare_expr, bare_stmts}
 use Rattle.go_words.specs.Tokens.Characters.{is_word}
 use Rattle.go_words.specs.Tokens.{TokensOf, tokens_from}
 use Rattle.go_words.specs.Tokens.Pieces.{Piece, CutsTo}
-use Rattle.go_read.specs.SpellsTerminals.{lex, lexemes, semicolon, end_brace}
-use Rattle.go_read.specs.SpellsTypes.{Lexemes, SpellsType}
+use Rattle.go_words.specs.Terminals.{lex, lexemes, semicolon, end_brace}
+use Rattle.go_read.specs.SpellsTypes.{Lexemes, SpellsType, SpellsSig}
 use Rattle.go_read.specs.Spells.{SpellsOperand, SpellsStmts}
 use Rattle.go_read.specs.SpellsSpans.{span_to}
 use Rattle.go_read.specs.Bareness.{nowhere}
 use Rattle.go_layout.specs.Layouts.{Layout, text_of}
-use Rattle.go_layout.specs.TypeLayout.{type_layout}
+use Rattle.go_layout.specs.TypeLayout.{type_layout, sig_layout}
 use Rattle.go_layout.specs.TreeLayout.{operand_layout, stmts_layout, gives_semicolon}
 
 -- ---- trees that some tokens spell
@@ -34,6 +34,12 @@ pub record IsSpelledType (t : TypeExpr Span) : Type 0 where
   pub rest : Lexemes
   pub of_text : TokensFrom tokens
   pub spelled : SpellsType span_to t tokens rest
+
+pub record IsSpelledSig (variadic : Bool) (g : Sig Span) : Type 0 where
+  pub tokens : Lexemes
+  pub rest : Lexemes
+  pub of_text : TokensFrom tokens
+  pub spelled : SpellsSig span_to variadic g tokens rest
 
 pub record IsSpelledExpr (e : Expr Span) : Type 0 where
   pub tokens : Lexemes
@@ -83,6 +89,11 @@ SpellsWithin level header e ts r = (l : ℕ) (h : Bool) → l ≤ level → (h �
 pub record TypeIsWritten (t : TypeExpr Span) : Type 0 where
   pub alone : StandsAlone (type_layout t) (SpellsType nowhere (bare_type t))
   pub stands : Stands (type_layout t) (SpellsType nowhere (bare_type t))
+
+-- a signature's text spells the signature, which may be variadic or not
+pub record SigIsWritten (variadic : Bool) (g : Sig Span) : Type 0 where
+  pub alone : StandsAlone (sig_layout g) (SpellsSig nowhere variadic (bare_sig g))
+  pub stands : Stands (sig_layout g) (SpellsSig nowhere variadic (bare_sig g))
 
 -- an expression's text, written for a level and a header rule, spells the expression
 pub record ExprIsWritten (e : Expr Span) (indent : List ℕ) (level : ℕ) (header : Bool) : Type 0 where

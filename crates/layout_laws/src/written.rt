@@ -2,11 +2,11 @@
 
 ghost use Rattle.std.specs.Prelude.{◌≡◌, ℕ, Bool, true, List};
 ghost use Rattle.go_tree.specs.declared.spans.Span.{Span};
-ghost use Rattle.go_tree.specs.Tree.{TypeExpr, Expr, Stmts};
-ghost use Rattle.go_tree.specs.Bare.{bare_type, bare_expr, bare_stmts};
-ghost use Rattle.layout_laws.specs.Formed.{FormedType, FormedOperand, FormedStmts};
+ghost use Rattle.go_tree.specs.Tree.{TypeExpr, Sig, Expr, Stmts};
+ghost use Rattle.go_tree.specs.Bare.{bare_type, bare_sig, bare_expr, bare_stmts};
+ghost use Rattle.layout_laws.specs.Formed.{FormedType, FormedSig, FormedOperand, FormedStmts};
 ghost use Rattle.layout_laws.specs.Laid.{is_indent};
-ghost use Rattle.layout_laws.specs.Laws.{IsSpelledType, IsSpelledExpr, IsSpelledStmts, TypeIsWritten, ExprIsWritten, StmtsAreWritten};
+ghost use Rattle.layout_laws.specs.Laws.{IsSpelledType, IsSpelledSig, SigIsWritten, IsSpelledExpr, IsSpelledStmts, TypeIsWritten, ExprIsWritten, StmtsAreWritten};
 
 /// For each tree that some tokens of a text spell, the tokens of its layout's text spell the tree again: an expression in
 /// any place that needs at most the level and the header rule that it is written for, with an indent of spaces and tabs.
@@ -15,6 +15,7 @@ ghost use Rattle.layout_laws.specs.Laws.{IsSpelledType, IsSpelledExpr, IsSpelled
 #[tactic(auto, using(crate::proofs::WrittenTrees::lists_written))]
 pub fn spelled_trees_are_written()
     ensures of_type { (t : TypeExpr Span) → IsSpelledType t → TypeIsWritten t }
+    ensures of_signature { (variadic : Bool) (g : Sig Span) → IsSpelledSig variadic g → SigIsWritten variadic g }
     ensures of_expression { (e : Expr Span) → IsSpelledExpr e → (indent : List ℕ) (level : ℕ) (header : Bool) → is_indent indent ≡ true → ExprIsWritten e indent level header }
     ensures of_statements { (xs : Stmts Span) → IsSpelledStmts xs → (indent : List ℕ) → is_indent indent ≡ true → StmtsAreWritten xs indent }
 {}
@@ -23,6 +24,7 @@ pub fn spelled_trees_are_written()
 #[tactic(auto, using(crate::proofs::WrittenTrees::type_written, crate::proofs::WrittenTrees::stmts_written))]
 pub fn formed_trees_are_written()
     ensures of_type { (t : TypeExpr Span) → FormedType (bare_type t) → TypeIsWritten t }
+    ensures of_signature { (variadic : Bool) (g : Sig Span) → FormedSig variadic (bare_sig g) → SigIsWritten variadic g }
     ensures of_expression { (e : Expr Span) (indent : List ℕ) (level : ℕ) (header : Bool) → FormedOperand (bare_expr e) → is_indent indent ≡ true → ExprIsWritten e indent level header }
     ensures of_statements { (xs : Stmts Span) (indent : List ℕ) → FormedStmts (bare_stmts xs) → is_indent indent ≡ true → StmtsAreWritten xs indent }
 {}

@@ -11,6 +11,3 @@ mod hazards;
 
 pub use facts::{Class, Item, ParamRow};
 pub use hazards::{before, clash, solo};
-
-#[cfg(test)]
-mod tests;

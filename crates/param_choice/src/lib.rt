@@ -13,6 +13,3 @@ pub use choice::choose;
 pub use chosen::Chosen;
 pub use no_memory::NoMemory;
 pub use table::{CallTable, ItemList, PairList, RowList};
-
-#[cfg(test)]
-mod tests;

@@ -1,6 +1,7 @@
 -- The trees of a file's parts without their spans.
 use Rattle.std.proofs.Common.{◌≡◌, ℕ, ◌+◌, false, List, [], ◌∷◌, ◌++◌, None, map, refl, ap, ◌∙◌}
 use Rattle.std.specs.Prelude.{codes}
+use Rattle.go_tree.specs.declared.exprs.Rest.TheVariants.{Plain}
 use Rattle.go_tree.specs.declared.spans.Span.{Span}
 use Rattle.go_tree.specs.Tree.{Expr, ident, int_lit, call, no_exprs, expr_and, Stmt, const_decl, eval, Stmts, no_stmts, stmt_and, no_specs, spec}
 use Rattle.go_tree.specs.File.{Decl, values, func}
@@ -30,7 +31,7 @@ abbrev pub constant_in : Constant → Decl Bare
 constant_in c = values (const_decl tt false (spec tt (record { span = tt; name = c.name } ∷ []) None (expr_and (operand_in c.value) no_exprs) no_specs))
 
 abbrev pub print_in : Operand → Stmt Bare
-print_in x = eval tt (call tt (ident tt (codes "println")) (expr_and (operand_in x) no_exprs))
+print_in x = eval tt (call tt (ident tt (codes "println")) (expr_and (operand_in x) no_exprs) Plain)
 
 abbrev pub prints_in : List Operand → Stmts Bare
 prints_in [] = no_stmts
@@ -61,7 +62,7 @@ prints-bare at [] = refl
 prints-bare at (x ∷ xs) =
     let here : bare_expr (outline.operand_tree (at + 9) (plain x)) ≡ operand_in x = operand-bare (at + 9) (plain x) in
     let rest : bare_stmts (outline.print_trees (outline.after_print at (plain x)) (map plain xs)) ≡ prints_in xs = prints-bare (outline.after_print at (plain x)) xs in
-    λ i. stmt_and (eval tt (call tt (ident tt (codes "println")) (expr_and (here i) no_exprs))) (rest i)
+    λ i. stmt_and (eval tt (call tt (ident tt (codes "println")) (expr_and (here i) no_exprs) Plain)) (rest i)
 
 decls-bare : (at : ℕ) (cs : List Constant) (ds : List (Decl Span)) → map bare_decl (outline.constant_trees at (map plain_constant cs) ++ ds) ≡ decls_in cs (map bare_decl ds)
 decls-bare at [] ds = refl

@@ -2,6 +2,7 @@
 use Rattle.std.proofs.Common.{◌≡◌, ℕ, suc, zero, ◌+◌, Bool, true, false, if◌then◌else◌, List, [], ◌∷◌, ◌++◌, length, Option, Some, None, map, refl, ap, ◌∙◌}
 use Rattle.std.specs.Prelude.{bytes_eq, codes}
 use Rattle.std.specs.Option.{option_map}
+use Rattle.go_tree.specs.declared.exprs.Rest.TheVariants.{Plain}
 use Rattle.go_tree.specs.declared.spans.Span.{Span}
 use Rattle.go_tree.specs.Tree.{Expr, ident, int_lit, call, no_exprs, expr_and, Stmt, const_decl, eval, Stmts, no_stmts, stmt_and, no_specs, spec}
 use Rattle.go_tree.specs.File.{Func, Decl, values, func}
@@ -52,7 +53,7 @@ abbrev pub decl_at : ConstantSpans → Constant → Decl Span
 decl_at s c = values (const_decl s.decl false (spec s.whole (record { span = s.name; name = c.name } ∷ []) None (expr_and (expr_at c.value) no_exprs) no_specs))
 
 abbrev pub print_at : PrintSpans → Operand → Stmt Span
-print_at s x = eval s.whole (call s.whole (ident s.callee (codes "println")) (expr_and (expr_at x) no_exprs))
+print_at s x = eval s.whole (call s.whole (ident s.callee (codes "println")) (expr_and (expr_at x) no_exprs) Plain)
 
 abbrev pub decls_at : (ℕ → ConstantSpans) → List Constant → List (Decl Span) → List (Decl Span)
 decls_at spans [] ds = ds
@@ -125,7 +126,7 @@ prints_are : (at : ℕ) (as' : List outline.Operand) → outline.print_trees at 
 prints_are at [] = refl
 prints_are at (a ∷ as') =
     let s : PrintSpans = print_spans at a in
-    λ i. stmt_and (eval s.whole (call s.whole (ident s.callee (codes "println")) (expr_and (operand_is (at + 9) a i) no_exprs))) (prints_are (outline.after_print at a) as' i)
+    λ i. stmt_and (eval s.whole (call s.whole (ident s.callee (codes "println")) (expr_and (operand_is (at + 9) a i) no_exprs) Plain)) (prints_are (outline.after_print at a) as' i)
 
 main_is : (o : outline.Outline) → outline.main_tree (outline.after_constants 14 o.constants) o.prints ≡ main_at (layout_of o) (prints_of o)
 main_is o =
@@ -153,7 +154,7 @@ expr_bare x = go x.named
 prints_bare : (spans : ℕ → PrintSpans) (xs : List Operand) → bare_stmts (prints_at spans xs) ≡ prints_in xs
 prints_bare spans [] = refl
 prints_bare spans (x ∷ xs) =
-    λ i. stmt_and (eval tt (call tt (ident tt (codes "println")) (expr_and (expr_bare x i) no_exprs))) (prints_bare (λ k. spans (suc k)) xs i)
+    λ i. stmt_and (eval tt (call tt (ident tt (codes "println")) (expr_and (expr_bare x i) no_exprs) Plain)) (prints_bare (λ k. spans (suc k)) xs i)
 
 decls_bare : (spans : ℕ → ConstantSpans) (cs : List Constant) (ds : List (Decl Span)) → map bare_decl (decls_at spans cs ds) ≡ decls_in cs (map bare_decl ds)
 decls_bare spans [] ds = refl

@@ -52,7 +52,7 @@ module _ {S L : Type 0} (B : Expr S → L → Expr S → Type 0) where
     exprs_one _ _ _ l m (later {e = e} {es = es} {es' = es'} t k) (later {es' = es''} u j) = let r = exprs_one es es' es'' l m k j in (r.0, ap (expr_and e) r.1)
 
     stmt_one : (s s' s'' : Stmt S) (l m : L) → FirstOfStmt B s l s' → FirstOfStmt B s m s'' → (l ≡ m) × (s' ≡ s'')
-    stmt_one _ _ _ l m (operand {s = s} {s' = s'} {f = f} {es = es} {es' = es'} t k) (operand {es' = es''} u j) = let r = exprs_one es es' es'' l m k j in (r.0, ap (λ x. eval s (call s' f x)) r.1)
+    stmt_one _ _ _ l m (operand {s = s} {s' = s'} {f = f} {es = es} {es' = es'} {rest = rest} t k) (operand {es' = es''} u j) = let r = exprs_one es es' es'' l m k j in (r.0, ap (λ x. eval s (call s' f x rest)) r.1)
 
     stmts_one : (ss ss' ss'' : Stmts S) (l m : L) → FirstOfStmts B ss l ss' → FirstOfStmts B ss m ss'' → (l ≡ m) × (ss' ≡ ss'')
     stmts_one _ _ _ l m (first {s = s} {s' = s'} {ss = ss} k) (first {s' = s''} j) = let r = stmt_one s s' s'' l m k j in (r.0, ap (λ x. stmt_and x ss) r.1)

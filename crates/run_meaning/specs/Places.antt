@@ -1,6 +1,7 @@
 -- The places of expressions in a program, in the order of the ends of their spans, and a change at the first of them that can be changed.
 -- A construct without a rule has no place.
 use Rattle.std.specs.Prelude.{⊤, ℕ, Bool, List, [], ◌∷◌, ◌++◌, Option}
+use Rattle.go_tree.specs.declared.exprs.Rest.{Rest}
 use Rattle.go_tree.specs.Tree.{NameAt, TypeExpr, Expr, call, Exprs, no_exprs, expr_and, Stmt, const_decl, eval, Stmts, no_stmts, stmt_and, ValueSpecs, no_specs, spec}
 use Rattle.go_tree.specs.File.{Func, Decl, values, func}
 use Rattle.go_meaning_laws.specs.Package.{SourceTree, Package}
@@ -14,7 +15,7 @@ module _ {S : Type 0} where
 
   -- what is called, and then the operands
   abbrev pub stmt_places : Stmt S → List (Expr S)
-  stmt_places (eval _ (call _ f es)) = f ∷ exprs_places es
+  stmt_places (eval _ (call _ f es _)) = f ∷ exprs_places es
   stmt_places s = []
 
   abbrev pub stmts_places : Stmts S → List (Expr S)
@@ -50,7 +51,7 @@ module _ {S L : Type 0} (Becomes : Expr S → L → Expr S → Type 0) where
     later : {e : Expr S} {es es' : Exprs S} {l : L} → Stays e → FirstOfExprs es l es' → FirstOfExprs (expr_and e es) l (expr_and e es')
 
   pub data FirstOfStmt : Stmt S → L → Stmt S → Type 0 where
-    operand : {s s' : S} {f : Expr S} {es es' : Exprs S} {l : L} → Stays f → FirstOfExprs es l es' → FirstOfStmt (eval s (call s' f es)) l (eval s (call s' f es'))
+    operand : {s s' : S} {f : Expr S} {es es' : Exprs S} {rest : Rest} {l : L} → Stays f → FirstOfExprs es l es' → FirstOfStmt (eval s (call s' f es rest)) l (eval s (call s' f es' rest))
 
   pub data FirstOfStmts : Stmts S → L → Stmts S → Type 0 where
     first : {s s' : Stmt S} {ss : Stmts S} {l : L} → FirstOfStmt s l s' → FirstOfStmts (stmt_and s ss) l (stmt_and s' ss)

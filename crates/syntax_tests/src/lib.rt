@@ -1,12 +1,10 @@
-//! Tests of trees: copies and depth of whole expressions and statements, and places in a text.
+//! Tests of trees that are read: spans, copies and depth of files' parts, and places in a text.
 #![tactic(auto)]
 
 #[cfg(test)]
-mod made_exprs;
+mod files;
 #[cfg(test)]
-mod made_stmts;
-#[cfg(test)]
-mod parts;
+mod spans;
 #[cfg(test)]
 mod texts;
 #[cfg(test)]

@@ -1,91 +1,109 @@
 // Copies and depth of each construct. A node is what has a span; the depths are counted by hand.
-use crate::made_exprs::{
-    binary, call, composite, function, index, rune, selector, slice, star, string, type_operand,
-    unary,
-};
-use crate::made_stmts::{
-    answer, assign, cases, choice, constant, defer, define, empty, eval, inner, label, next,
-    range_alone, range_assigns, range_defines, step, stop, turns, variable,
-};
-use crate::parts::{NOWHERE, block, ident, int};
-use go_syntax::{Expr, NoMemory, ParamList, Sig, Stmt, copy_expr, copy_stmt, depth};
+use crate::files::read;
+use go_syntax::{Decl, NoMemory, copy_expr, copy_stmt, depth};
 use std::alloc::Global;
 use std::process::Abort;
+use std::test::Fail;
 
-/// The expression and its copy are so deep.
-fn is_deep<R: Abort + AllocGlobal>(rt: &R, e: Expr, want: u32) -> Result<(), NoMemory> {
-    let copy = copy_expr(rt.alloc(), &e)?;
-    assert_eq!(rt; depth(&e), want);
+fn joined(alloc: Global, front: &[u8], text: &[u8], back: &[u8]) -> Result<Vec<u8>, NoMemory> {
+    let mut all = front.to_vec(alloc)?;
+    all.extend_from_slice(text)?;
+    all.extend_from_slice(back)?;
+    Ok(all)
+}
+
+/// The value of a variable, and its copy, are so deep; each statement of a literal that is called there is copied.
+fn is_deep<R: Abort + AllocGlobal>(rt: &R, text: &[u8], want: u32) -> Result<(), Fail> {
+    let alloc = rt.alloc();
+    let source = joined(alloc, b"package p\n\nvar v = ", text, b"\n")?;
+    let file = read(alloc, &source)?;
+    let [Decl::Var(decl)] = file.decls.items() else {
+        return Err(Fail::new("other than one declaration of variables"));
+    };
+    let [spec] = decl.specs.items() else {
+        return Err(Fail::new("other than one spec"));
+    };
+    let [e] = spec.values.items() else {
+        return Err(Fail::new("other than one value"));
+    };
+    let copy = copy_expr(alloc, e)?;
+    assert_eq!(rt; depth(e), want);
     assert_eq!(rt; depth(&copy), want);
     Ok(())
 }
 
-fn in_function(alloc: Global, s: Stmt) -> Result<Expr, NoMemory> {
-    let body = block(alloc, s)?;
-    Ok(Expr::FuncLit {
-        span: NOWHERE,
-        sig: Sig {
-            params: ParamList::of(Vec::new(alloc)),
-            results: ParamList::of(Vec::new(alloc)),
-        },
-        body,
-    })
-}
+/// The literal of a function with this statement, called, is so much deeper than the statement: call, literal and block.
+const AROUND: u32 = 3;
 
-/// How much deeper a statement makes a literal of a function that holds it: the literal and its block.
-const AROUND: u32 = 2;
-
-/// A literal of a function that holds the statement, or its copy, is so deep.
-fn holds<R: Abort + AllocGlobal>(rt: &R, s: Stmt, want: u32) -> Result<(), NoMemory> {
-    let copy = copy_stmt(rt.alloc(), &s)?;
-    is_deep(rt, in_function(rt.alloc(), s)?, want)?;
-    is_deep(rt, in_function(rt.alloc(), copy)?, want)
+fn holds<R: Abort + AllocGlobal>(rt: &R, stmt: &[u8], want: u32) -> Result<(), Fail> {
+    let text = joined(rt.alloc(), b"func() { ", stmt, b" }()")?;
+    is_deep(rt, &text, AROUND + want)
 }
 
 #[test]
-fn types_and_expressions(rt: HostRuntime) -> Result<(), NoMemory> {
-    let alloc = rt.alloc();
-    is_deep(&rt, ident(alloc, b"x")?, 1)?;
-    is_deep(&rt, int(alloc, b"1")?, 1)?;
-    is_deep(&rt, rune(alloc)?, 1)?;
-    is_deep(&rt, string(alloc)?, 1)?;
-    is_deep(&rt, type_operand(alloc)?, 8)?;
-    is_deep(&rt, composite(alloc)?, 5)?;
-    is_deep(&rt, selector(alloc)?, 2)?;
-    is_deep(&rt, index(alloc)?, 3)?;
-    is_deep(&rt, slice(alloc)?, 4)?;
-    is_deep(&rt, call(alloc)?, 5)?;
-    is_deep(&rt, unary(alloc)?, 6)?;
-    is_deep(&rt, star(alloc)?, 2)?;
-    is_deep(&rt, binary(alloc)?, 7)?;
-    is_deep(&rt, function(alloc)?, 4)
+fn types_and_expressions(rt: HostRuntime) -> Result<(), Fail> {
+    let texts: [(&[u8], u32); 13] = [
+        (b"x", 1),
+        (b"1", 1),
+        (b"'a'", 1),
+        (b"\"a\"", 1),
+        (b"p.T{k: {1}}", 5),
+        (b"x.n", 2),
+        (b"x.n[i]", 3),
+        (b"x.n[i][1:i]", 4),
+        (b"-f(x.n[i][1:i])", 6),
+        (b"*x + -f(x.n[i][1:i])", 7),
+        (b"*x", 2),
+        (b"f(struct{ f map[p.T][]*p.T })", 9),
+        (b"func(a p.T) {}()", 5),
+    ];
+    for (text, want) in texts {
+        is_deep(&rt, text, want)?;
+    }
+    Ok(())
 }
 
 #[test]
-fn statements(rt: HostRuntime) -> Result<(), NoMemory> {
-    let alloc = rt.alloc();
-    holds(&rt, constant(alloc)?, AROUND + 4)?;
-    holds(&rt, variable(alloc)?, AROUND + 4)?;
-    holds(&rt, empty(alloc)?, AROUND + 1)?;
-    holds(&rt, eval(alloc)?, AROUND + 2)?;
-    holds(&rt, step(alloc)?, AROUND + 3)?;
-    holds(&rt, assign(alloc)?, AROUND + 3)?;
-    holds(&rt, define(alloc)?, AROUND + 2)?;
-    holds(&rt, answer(alloc)?, AROUND + 3)?;
-    holds(&rt, stop(alloc)?, AROUND + 2)?;
-    holds(&rt, next(alloc)?, AROUND + 1)?;
-    holds(&rt, inner(alloc)?, AROUND + 3)
+fn statements(rt: HostRuntime) -> Result<(), Fail> {
+    let texts: [(&[u8], u32); 18] = [
+        (b"const a p.T = 1", 4),
+        (b"var a p.T = 1", 4),
+        (b";", 1),
+        (b"x", 2),
+        (b"x.n++", 3),
+        (b"x = f()", 3),
+        (b"i := 0", 2),
+        (b"return f()", 3),
+        (b"break L", 2),
+        (b"{ x }", 3),
+        (b"if i := 0; x { { x } } else { continue }", 6),
+        (b"for i := 0; x; x.n++ { break L }", 4),
+        (b"for range x { continue }", 3),
+        (b"for i := range x { continue }", 3),
+        (b"for f().n = range x { continue }", 4),
+        (b"switch i := 0; x { case 1: { x } }", 5),
+        (b"defer f()", 3),
+        (b"L: { x }", 4),
+    ];
+    for (text, want) in texts {
+        holds(&rt, text, want)?;
+    }
+    Ok(())
 }
 
 #[test]
-fn compound_statements(rt: HostRuntime) -> Result<(), NoMemory> {
+fn copied_statements(rt: HostRuntime) -> Result<(), Fail> {
     let alloc = rt.alloc();
-    holds(&rt, choice(alloc)?, AROUND + 6)?;
-    holds(&rt, turns(alloc)?, AROUND + 4)?;
-    holds(&rt, range_alone(alloc)?, AROUND + 3)?;
-    holds(&rt, range_defines(alloc)?, AROUND + 3)?;
-    holds(&rt, range_assigns(alloc)?, AROUND + 4)?;
-    holds(&rt, cases(alloc)?, AROUND + 5)?;
-    holds(&rt, defer(alloc)?, AROUND + 3)?;
-    holds(&rt, label(alloc)?, AROUND + 4)
+    let file = read(
+        alloc,
+        b"package p\n\nfunc f() {\n\tif i := 0; x {\n\t\treturn\n\t}\n\tx++\n}\n",
+    )?;
+    let [Decl::Func(f)] = file.decls.items() else {
+        return Err(Fail::new("other than one function"));
+    };
+    for stmt in f.body.stmts.items() {
+        let copy = copy_stmt(alloc, stmt)?;
+        drop(copy);
+    }
+    Ok(())
 }

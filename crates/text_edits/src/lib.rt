@@ -8,6 +8,3 @@ pub mod laws;
 
 pub use edit::{AddFault, Edit};
 pub use edits::{Edits, apply};
-
-#[cfg(test)]
-mod tests;

@@ -1,15 +1,16 @@
 use Rattle.std.proofs.Common.{◌≡◌, ◌<◌, ◌+◌, true, false, Some, length, map, refl, sym, ap, ◌∙◌, arith, rules}
 use Rattle.go_tree.specs.declared.spans.Span.{Span}
+use Rattle.go_tree.specs.declared.exprs.Rest.TheVariants.{Plain, Whole}
 use Rattle.go_tree.specs.Tree.{Expr, Exprs, NameAt, binary, selector}
 use Rattle.go_tree.specs.View.{boxed_expr_option_of, expr_of, name_at_of}
 use Rattle.go_read.specs.Spells.{is_func_lit}
-use Rattle.go_read.specs.SpellsTerminals.{lexemes}
+use Rattle.go_words.specs.Terminals.{lexemes}
 use Rattle.go_read.specs.SpellsSpans.{span_to}
 use Rattle.go_read.specs.Goals.{read_expr, read_more, read_operand, read_unary}
 use Rattle.go_read.specs.Reading.{at}
 use Rattle.go_productions.specs.Terminals.{first_of, rest_of}
-use Rattle.go_expressions.specs.ExprParts.{prefix_of, prefixed}
-use Rattle.go_expressions.proofs.ExprArms.{args_end, more_func_right, more_some, unary_some}
+use Rattle.go_expressions.specs.ExprParts.{args_closed, prefix_of, prefixed}
+use Rattle.go_expressions.proofs.ExprArms.{args_end, args_whole, more_func_right, more_some, unary_some}
 use Rattle.go_expressions.proofs.OperandArms.{parens_some}
 use Rattle.go_expressions.proofs.Passing.{begun, rest_within}
 use Rattle.go_expressions.proofs.PostfixArms.{dot_word, high_stop, index_stop, select_some}
@@ -24,7 +25,7 @@ exprs::binary_expr-returns-then-is_func_lit-2-clause-gives g t c =
     let second : is_func_lit (expr_of c.in-Some-2.operand.0) ≡ true = search rules in
     sym c.loop-op.invariant.0
     ∙ more_func_right c.args.level c.args.header (lexemes c.args.tokens.now) (expr_of c.loop-op.e) (expr_of c.in-Some-2.operand.0) c.loop-op.bare c.in-Some-2.operand.1 (lexemes c.loop-op.left.now) us r c.in-Some-operator.op c.level_of.result
-    c.in-Some-operator.ensures first c.rest.ensures.is c.level_of.ensures.is read second
+    c.in-Some-operator.ensures first c.rest.ensures.is c.level_of.ensures.exact read second
 
 pub exprs::binary_expr-loop-op-preserved : goal.exprs::binary_expr-loop-op-preserved
 exprs::binary_expr-loop-op-preserved g t c =
@@ -36,14 +37,14 @@ exprs::binary_expr-loop-op-preserved g t c =
     let read : at span_to (read_expr (c.level_of.result + 1) c.args.header) us ≡ Some ((y, c.in-Some-2.operand.1), r) = search rules in
     let first : is_func_lit x ≡ false = search rules in
     let second : is_func_lit y ≡ false = search rules in
-    let built : expr_of c.build_binary-e.result ≡ binary (span_to ts r) c.in-Some-operator.op x y = search rules in
+    let built : expr_of c.binary_expr-e.result ≡ binary (span_to ts r) c.in-Some-operator.op x y = search rules in
     let less : length c.in-Some-2.after.now < length c.rest.result.now = search rules in
     let within = rest_within c.loop-op.left.now c.rest.result.now c.rest.ensures.is in
     let before = c.loop-op.invariant.1 in
     let fewer : length c.in-Some-2.after.now < length c.args.tokens.now = omega arith in (
       ap (λ (z : Expr Span). at span_to (read_more c.args.level c.args.header ts z true) r) built
           ∙ more_some c.args.level c.args.header ts x y c.loop-op.bare c.in-Some-2.operand.1 (lexemes c.loop-op.left.now) us r c.in-Some-operator.op c.level_of.result
-          c.in-Some-operator.ensures first c.rest.ensures.is c.level_of.ensures.is read second
+          c.in-Some-operator.ensures first c.rest.ensures.is c.level_of.ensures.exact read second
           ∙ c.loop-op.invariant.0,
       fewer,
     )
@@ -52,7 +53,27 @@ pub exprs::call_args-returns-in-EndParen-clause-gives : goal.exprs::call_args-re
 exprs::call_args-returns-in-EndParen-clause-gives g t c =
     let us = lexemes c.rest.result.now in
     args_end (map expr_of c.loop-items.items.items) (lexemes c.loop-items.left.now) us (lexemes c.args.tokens.now) c.loop-items.invariant.0 c.in-EndParen.ensures.is c.rest.ensures.is
-    ∙ ap (λ (xs : Exprs Span). Some (xs, us)) (sym c.of.ensures.made)
+    ∙ ap (λ (xs : Exprs Span). Some ((xs, Plain), us)) (sym c.of.ensures.made)
+
+pub exprs::call_args-returns-in-Ellipsis : goal.exprs::call_args-returns-in-Ellipsis
+exprs::call_args-returns-in-Ellipsis g t c = record {
+  gives =
+      let ts = lexemes c.loop-items.left.now in
+      let r = lexemes c.in-Some.after.now in
+      let us = lexemes c.rest-in-Ellipsis.result.now in
+      let vs = lexemes c.in-Some-after_args.left.now in
+      let read : at span_to (read_operand false) ts ≡ Some (expr_of c.in-Some.e, r) = search rules in
+      let closed : args_closed us ≡ Some vs = search rules in
+      args_whole c.loop-items.items.items c.push.new.self.items c.in-Some.e ts r us vs c.first.result (lexemes c.args.tokens.now) c.loop-items.invariant.0 c.in_ok-push.ensures.items
+      c.first.ensures.is c.in_default.not-EndParen read c.in-Ellipsis.ensures.is c.rest-in-Ellipsis.ensures.is closed
+      ∙ ap (λ (xs : Exprs Span). Some ((xs, Whole), vs)) (sym c.of-in-Ellipsis.ensures.made);
+  shorter =
+      let closed : length c.in-Some-after_args.left.now < length c.rest-in-Ellipsis.result.now = search rules in
+      let within = rest_within c.in-Some.after.now c.rest-in-Ellipsis.result.now c.rest-in-Ellipsis.ensures.is in
+      let less : length c.in-Some.after.now < length c.loop-items.left.now = search rules in
+      let before = c.loop-items.invariant.1 in
+      omega arith;
+}
 
 pub exprs::unary_expr-returns-clause-gives : goal.exprs::unary_expr-returns-clause-gives
 exprs::unary_expr-returns-clause-gives g t c =
@@ -62,7 +83,7 @@ exprs::unary_expr-returns-clause-gives g t c =
     let x = expr_of c.in-Some-2.operand.0 in
     let p : prefix_of (first_of ts) ≡ Some c.in-Some.prefix = search rules in
     let other : is_func_lit x ≡ false = search rules in
-    let built : expr_of c.build_prefixed.result ≡ prefixed c.in-Some.prefix (span_to ts r) x = search rules in
+    let built : expr_of c.prefixed.result ≡ prefixed c.in-Some.prefix (span_to ts r) x = search rules in
     let read : at span_to (read_unary c.args.header) us ≡ Some ((x, c.in-Some-2.operand.1), r) = search rules in
     unary_some c.args.header c.in-Some-2.operand.1 ts us r x c.in-Some.prefix p c.rest.ensures.is read other
     ∙ ap (λ (z : Expr Span). Some ((z, true), r)) (sym built)
@@ -104,7 +125,7 @@ postfixes::postfix-returns g t c = record {
       let us = lexemes c.rest-2.result.now in
       let vs = lexemes c.rest-left.result.now in
       let other : is_func_lit x ≡ false = search rules in
-      let built : expr_of c.build_selector.result ≡ selector (span_to w vs) x (name_at_of c.in_ok-name.name) = search rules in
+      let built : expr_of c.selector_expr.result ≡ selector (span_to w vs) x (name_at_of c.in_ok-name.name) = search rules in
       let behind : vs ≡ rest_of us = c.rest-left.ensures.is ∙ ap rest_of (c.rest-3.ensures.is ∙ sym c.rest-2.ensures.is) in
       select_some w x (lexemes c.args.tokens.now) us vs c.requires.goes_on c.in-Dot.ensures.is other c.rest-2.ensures.is behind
       ∙ ap (λ (z : Expr Span). Some (z, vs)) (sym (built ∙ ap (λ (n : NameAt Span). selector (span_to w vs) x n) c.in_ok-name.ensures));

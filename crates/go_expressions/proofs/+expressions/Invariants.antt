@@ -1,12 +1,11 @@
 use Rattle.std.proofs.Common.{◌≡◌, ◌+◌, ◌*◌, ◌<◌, ◌≤◌, length, map}
 use Rattle.go_tree.specs.View.{elem_of, expr_of}
-use Rattle.go_tree.specs.Tree.{expr_and}
-use Rattle.go_read.specs.SpellsTerminals.{lexemes}
+use Rattle.go_words.specs.Terminals.{lexemes}
 use Rattle.go_read.specs.SpellsSpans.{span_to}
 use Rattle.go_read.specs.Goals.{read_args, read_elems, read_expr, read_more, read_postfix, read_unary}
 use Rattle.go_read.specs.Reading.{at}
 use Rattle.go_productions.specs.Parts.{in_front}
-use Rattle.go_expressions.specs.ExprParts.{elem_and}
+use Rattle.go_expressions.specs.ExprParts.{arg_and, elem_and}
 use Rattle.go_expressions.proofs.+expressions.Given as goal
 
 abbrev pub decreases-exprs::expression : goal.decreases-exprs::expression
@@ -56,7 +55,7 @@ decreases-operands::value g l = 32 * length l.tokens.now + 9
 
 abbrev pub invariant-exprs::call_args-loop-items : goal.invariant-exprs::call_args-loop-items
 invariant-exprs::call_args-loop-items g l =
-    (in_front expr_and (map expr_of l.items.items) (at span_to read_args (lexemes l.left)) ≡ at span_to read_args (lexemes l.fn.tokens)) × (length l.left ≤ length l.fn.tokens)
+    (in_front arg_and (map expr_of l.items.items) (at span_to read_args (lexemes l.left)) ≡ at span_to read_args (lexemes l.fn.tokens)) × (length l.left ≤ length l.fn.tokens)
 
 abbrev pub decreases-exprs::call_args-loop-items : goal.decreases-exprs::call_args-loop-items
 decreases-exprs::call_args-loop-items g l = length l.left
@@ -75,9 +74,9 @@ invariant-exprs::binary_expr-loop-op g l =
 abbrev pub decreases-exprs::binary_expr-loop-op : goal.decreases-exprs::binary_expr-loop-op
 decreases-exprs::binary_expr-loop-op g l = length l.left
 
-abbrev pub invariant-exprs::primary_expr-loop-alloc : goal.invariant-exprs::primary_expr-loop-alloc
-invariant-exprs::primary_expr-loop-alloc g l =
+abbrev pub invariant-exprs::primary_expr-loop-e : goal.invariant-exprs::primary_expr-loop-e
+invariant-exprs::primary_expr-loop-e g l =
     (at span_to (read_postfix l.header (lexemes l.tokens) (expr_of l.e) l.bare) (lexemes l.left) ≡ at span_to (read_unary l.fn.header) (lexemes l.fn.tokens)) × (length l.left < length l.fn.tokens)
 
-abbrev pub decreases-exprs::primary_expr-loop-alloc : goal.decreases-exprs::primary_expr-loop-alloc
-decreases-exprs::primary_expr-loop-alloc g l = length l.left
+abbrev pub decreases-exprs::primary_expr-loop-e : goal.decreases-exprs::primary_expr-loop-e
+decreases-exprs::primary_expr-loop-e g l = length l.left

@@ -17,7 +17,7 @@ static ROWS: [(&[u8], (u32, u32)); 18] = [
     (b"package p; select {}", (11, 17)),
     (b"package p; x <- y", (13, 15)),
     (b"package p; ~T", (11, 12)),
-    (b"package p; f(x...)", (14, 17)),
+    (b"package p; f(x...)", NONE),
     (b"package p; x = 1.5 + 2i", (15, 18)),
     (b"package p; x = 2i + .5", (15, 17)),
     (b"//go:build linux\n\npackage p; go", (0, 16)),

@@ -3,6 +3,7 @@ use Rattle.std.specs.Prelude.{◌≡◌, ℕ, ◌≤◌, ◌==◌, Bool, true, f
 use Rattle.std.specs.List.{list_any}
 use Rattle.go_tree.specs.declared.tokens.TokenKind.{TokenKind}
 use Rattle.go_tree.specs.declared.tokens.TokenKind.TheVariants.{Ident, Keyword, Operator, Integer, Float, Imaginary, Rune, Str, Inserted}
+use Rattle.go_words.specs.Terminals.{keywords, operators, spellings}
 use Rattle.go_words.specs.Tokens.Characters.{is_letter, is_word, is_blank, each}
 use Rattle.go_words.specs.Tokens.Forms.{Form, one_of, in_turn, any_of, HasForm}
 use Rattle.go_words.specs.Tokens.Literals.{int_lit, float_lit, imaginary_lit, rune_lit, string_lit, comment}
@@ -12,26 +13,21 @@ pub data PieceKind : Type 0 where
   remark : PieceKind
   token : TokenKind → PieceKind
 
--- Go specification, Keywords
-unfoldable pub keywords : List (List ℕ)
-keywords = map codes (
-    "break" ∷ "case" ∷ "chan" ∷ "const" ∷ "continue" ∷ "default" ∷ "defer" ∷ "else" ∷ "fallthrough" ∷ "for" ∷ "func" ∷ "go" ∷ "goto"
-    ∷ "if" ∷ "import" ∷ "interface" ∷ "map" ∷ "package" ∷ "range" ∷ "return" ∷ "select" ∷ "struct" ∷ "switch" ∷ "type" ∷ "var" ∷ [])
+-- how the keywords are spelled
+unfoldable pub keyword_spellings : List (List ℕ)
+keyword_spellings = spellings keywords
 
--- Go specification, Operators and punctuation
-unfoldable pub operators : List (List ℕ)
-operators = map codes (
-    "+" ∷ "-" ∷ "*" ∷ "/" ∷ "%" ∷ "&" ∷ "|" ∷ "^" ∷ "<<" ∷ ">>" ∷ "&^" ∷ "+=" ∷ "-=" ∷ "*=" ∷ "/=" ∷ "%=" ∷ "&=" ∷ "|=" ∷ "^=" ∷ "<<=" ∷ ">>=" ∷ "&^="
-    ∷ "&&" ∷ "||" ∷ "<-" ∷ "++" ∷ "--" ∷ "==" ∷ "<" ∷ ">" ∷ "=" ∷ "!" ∷ "~" ∷ "!=" ∷ "<=" ∷ ">=" ∷ ":=" ∷ "..."
-    ∷ "(" ∷ "[" ∷ "{" ∷ "," ∷ "." ∷ ")" ∷ "]" ∷ "}" ∷ ";" ∷ ":" ∷ [])
+-- how the operators are spelled
+unfoldable pub operator_spellings : List (List ℕ)
+operator_spellings = spellings operators
 
 -- this word alone
 abbrev pub exactly : List ℕ → Form
 exactly word = in_turn (map (λ c. one_of (c ∷ [])) word)
 
 unfoldable pub operator : Form
-unfolding operators
-operator = any_of (map exactly operators)
+unfolding operator_spellings
+operator = any_of (map exactly operator_spellings)
 
 -- the word is one of these
 abbrev pub is_among : List (List ℕ) → List ℕ → Bool
@@ -50,8 +46,8 @@ is_blanks (c ∷ cs) = each is_blank (c ∷ cs)
 abbrev pub IsPiece : PieceKind → List ℕ → Type 0
 IsPiece blanks word = is_blanks word ≡ true
 IsPiece remark word = HasForm comment word
-IsPiece (token Ident) word = (is_identifier word ≡ true) × (is_among keywords word ≡ false)
-IsPiece (token Keyword) word = is_among keywords word ≡ true
+IsPiece (token Ident) word = (is_identifier word ≡ true) × (is_among keyword_spellings word ≡ false)
+IsPiece (token Keyword) word = is_among keyword_spellings word ≡ true
 IsPiece (token Operator) word = HasForm operator word
 IsPiece (token Integer) word = HasForm int_lit word
 IsPiece (token Float) word = HasForm float_lit word

@@ -1,5 +1,5 @@
 use Rattle.const_eval.specs.Literals.{digits_of}
-use Rattle.go_read.specs.SpellsTexts.{digits_in}
+use Rattle.go_words.specs.Texts.{digits_in}
 use Rattle.const_eval.proofs.DigitLemmas.{too_great}
 use Rattle.const_eval.proofs.digits.number.Goals as goal
 

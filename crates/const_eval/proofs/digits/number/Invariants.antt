@@ -1,5 +1,5 @@
 use Rattle.std.proofs.Common.{◌≡◌, ◌<◌, ◌^◌, drop}
-use Rattle.go_read.specs.SpellsTexts.{digits_in}
+use Rattle.go_words.specs.Texts.{digits_in}
 use Rattle.const_eval.specs.Literals.{digits_of}
 use Rattle.const_eval.proofs.digits.number.Given as goal
 

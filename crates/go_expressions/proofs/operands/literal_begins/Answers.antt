@@ -1,5 +1,5 @@
 use Rattle.std.proofs.Common.{rules, ◌≡◌, true}
-use Rattle.go_read.specs.SpellsTerminals.{lexemes}
+use Rattle.go_words.specs.Terminals.{lexemes}
 use Rattle.go_productions.specs.Parts.{is_qualified}
 use Rattle.go_expressions.proofs.OperandArms.{qualified_plain}
 use Rattle.go_expressions.proofs.operands.literal_begins.Goals as goal

@@ -3,7 +3,7 @@ use Rattle.go_tree.specs.declared.spans.Span.{Span}
 use Rattle.go_tree.specs.declared.texts.NameAt as source
 use Rattle.go_tree.specs.Tree.{NameAt}
 use Rattle.go_tree.specs.View.{name_at_of}
-use Rattle.go_read.specs.SpellsTerminals.{lexemes}
+use Rattle.go_words.specs.Terminals.{lexemes}
 use Rattle.go_read.specs.SpellsSpans.{span_to}
 use Rattle.go_read.specs.Goals.{read_names}
 use Rattle.go_read.specs.Reading.{at}
@@ -16,7 +16,7 @@ pub returns-in_default : goal.returns-in_default
 returns-in_default c = record {
   gives =
       front_none (λ x xs. x ∷ xs) (map name_at_of c.loop-names.names.items) (at span_to read_names (lexemes c.loop-names.left.now)) (at span_to read_names (lexemes c.args.tokens.now)) c.loop-names.invariant.0
-      (names_none (lexemes c.loop-names.left.now) c.first.result c.first.ensures.is c.in_default.not-Word);
+      (names_none (lexemes c.loop-names.left.now) c.first.result c.first.ensures.is c.in_default.not-Ident);
   shorter = tt;
 }
 
@@ -25,7 +25,7 @@ returns-in_default-first c = record {
   gives =
       let us = lexemes c.rest-left.result.now in
       let read : at span_to read_names (lexemes c.loop-names.left.now) ≡ Some (name_at_of c.in_ok-name.field-0 ∷ [], us) =
-      names_last (lexemes c.loop-names.left.now) us c.first-in-loop-names.result c.in-Word.ensures.is c.rest-left.ensures.is c.first-in-loop-names.ensures.is c.in_default-first.not-Comma
+      names_last (lexemes c.loop-names.left.now) us c.first-in-loop-names.result c.in-Ident.ensures.is c.rest-left.ensures.is c.first-in-loop-names.ensures.is c.in_default-first.not-Comma
       ∙ ap (λ (n : NameAt Span). Some (n ∷ [], us)) (sym c.in_ok-name.ensures) in
       front_last (λ x xs. x ∷ xs) name_at_of c.loop-names.names.items c.push.new.self.items c.in_ok-name.field-0 [] us (at span_to read_names (lexemes c.loop-names.left.now)) (at span_to read_names (lexemes c.args.tokens.now)) c.in_ok-push.ensures.items c.loop-names.invariant.0 read
       ∙ ap (λ (ns : List (NameAt Span)). Some (ns, us)) (onto_list (map name_at_of c.push.new.self.items))
@@ -38,7 +38,7 @@ loop-names-preserved c =
     let us = lexemes c.rest-left.result.now in
     let vs = lexemes c.rest-left-in-loop-names.result.now in
     let read : at span_to read_names (lexemes c.loop-names.left.now) ≡ in_front (λ x xs. x ∷ xs) (name_at_of c.in_ok-name.field-0 ∷ []) (at span_to read_names vs) =
-    names_more (lexemes c.loop-names.left.now) us vs c.in-Word.ensures.is c.rest-left.ensures.is c.in-Comma.ensures.is c.rest-left-in-loop-names.ensures.is
+    names_more (lexemes c.loop-names.left.now) us vs c.in-Ident.ensures.is c.rest-left.ensures.is c.in-Comma.ensures.is c.rest-left-in-loop-names.ensures.is
     ∙ ap (λ (n : NameAt Span). in_front (λ x xs. x ∷ xs) (n ∷ []) (at span_to read_names vs)) (sym c.in_ok-name.ensures) in (
       front_push (λ x xs. x ∷ xs) name_at_of c.loop-names.names.items c.push.new.self.items c.in_ok-name.field-0 (at span_to read_names (lexemes c.loop-names.left.now)) (at span_to read_names vs) (at span_to read_names (lexemes c.args.tokens.now)) c.in_ok-push.ensures.items c.loop-names.invariant.0 read,
       search rules,

@@ -1,5 +1,5 @@
 use Rattle.std.proofs.Common.{◌≡◌, ◌≤◌, length}
-use Rattle.go_read.specs.SpellsTerminals.{lexemes}
+use Rattle.go_words.specs.Terminals.{lexemes}
 use Rattle.go_productions.specs.Parts.{skipped}
 use Rattle.go_productions.proofs.name_lists.skip_names.Given as goal
 

@@ -1,6 +1,6 @@
 use Rattle.std.proofs.Common.{◌≡◌, ◌+◌, ◌*◌, ◌<◌, ◌≤◌, Some, length, map}
 use Rattle.go_tree.specs.View.{field_of}
-use Rattle.go_read.specs.SpellsTerminals.{lexemes}
+use Rattle.go_words.specs.Terminals.{lexemes}
 use Rattle.go_read.specs.SpellsSpans.{span_to}
 use Rattle.go_read.specs.Goals.{read_fields}
 use Rattle.go_read.specs.Reading.{at}
@@ -30,6 +30,9 @@ decreases-type_in_parens l = 4 * length l.tokens.now
 
 abbrev pub decreases-shared_fields : goal.decreases-shared_fields
 decreases-shared_fields l = 4 * length l.tokens.now
+
+abbrev pub decreases-shared_type : goal.decreases-shared_type
+decreases-shared_type l = 4 * length l.tokens.now + 2
 
 abbrev pub invariant-field_list-loop-fields : goal.invariant-field_list-loop-fields
 invariant-field_list-loop-fields l =

@@ -1,26 +1,25 @@
-use Rattle.std.proofs.Common.{◌≡◌, ◌∙◌, sym, drop, Option, ℕ, ◌+◌, arith, ap}
-use Rattle.go_scan.specs.Automaton.{longest_from}
-use Rattle.go_scan.proofs.LongestLemmas.{longest_at_end, longest_dead, longest_whole, longest_part}
-use Rattle.go_scan.proofs.lexemes.longest.Goals.{then-is_whole, else-is_whole}
+use Rattle.std.proofs.Common.{chars, None, arith}
+use Rattle.std.specs.Str.Iter.{chars_rest}
+use Rattle.go_scan.specs.declared.automaton.TheConstants.{START}
+use Rattle.go_scan.specs.Sizes.{longest_by_size}
+use Rattle.go_scan.proofs.SizeLemmas.{next_utf8, next_size, longest_stops, longest_goes, longest_ends}
 use Rattle.go_scan.proofs.lexemes.longest.Goals as goal
 
 pub returns-then-state-eq-DEAD : goal.returns-then-state-eq-DEAD
 returns-then-state-eq-DEAD c =
-    sym (longest_dead c.loop-i.state c.loop-i.i c.loop-i.found c.args.text.now c.index-text-i.result c.next-state.result c.loop-i-test.true c.index-text-i.is c.next-state.ensures.value c.if-state-eq-DEAD.true)
-    ∙ c.loop-i.invariant.rest
+    longest_stops c.loop-c.state c.loop-c.size c.loop-c.found (longest_by_size START 0 None (chars c.args.text.now)) (chars_rest c.loop-c.rest) (chars_rest c.next.new.self) c.in-Some.c c.loop-c.invariant.2 c.in-Some.ensures.steps.0 c.loop-c.invariant.5 c.next-state.result c.next-state.ensures.value c.if-state-eq-DEAD.true
 
-pub loop-i-preserved : goal.loop-i-preserved
-loop-i-preserved c =
-    let rest : longest_from c.next-state.result (c.loop-i.i + 1) c.if-is_whole.found (drop (c.loop-i.i + 1) c.args.text.now) ≡ longest_from c.loop-i.state c.loop-i.i c.loop-i.found (drop c.loop-i.i c.args.text.now) =
-    elim c.if-is_whole.branch [
-      | then-is_whole w ↦
-          ap (λ (f : Option (ℕ × ℕ)). longest_from c.next-state.result (c.loop-i.i + 1) f (drop (c.loop-i.i + 1) c.args.text.now)) w.found-is
-          ∙ sym (longest_whole c.loop-i.state c.loop-i.i c.loop-i.found c.args.text.now c.index-text-i.result c.next-state.result c.loop-i-test.true c.index-text-i.is c.next-state.ensures.value c.if-state-eq-DEAD.false (sym c.is_whole.ensures ∙ w.if-is_whole.true))
-      | else-is_whole w ↦
-          ap (λ (f : Option (ℕ × ℕ)). longest_from c.next-state.result (c.loop-i.i + 1) f (drop (c.loop-i.i + 1) c.args.text.now)) w.found-is
-          ∙ sym (longest_part c.loop-i.state c.loop-i.i c.loop-i.found c.args.text.now c.index-text-i.result c.next-state.result c.loop-i-test.true c.index-text-i.is c.next-state.ensures.value c.if-state-eq-DEAD.false (sym c.is_whole.ensures ∙ w.if-is_whole.false))
-    ] in
-    record { small = c.next-state.ensures.small; rest = rest ∙ c.loop-i.invariant.rest }
+pub loop-c-preserved : goal.loop-c-preserved
+loop-c-preserved c =
+    let sizes = next_size (chars_rest c.loop-c.rest) (chars_rest c.next.new.self) c.in-Some.c c.loop-c.invariant.2 c.in-Some.ensures.steps.0 in (
+      tt,
+      tt,
+      next_utf8 (chars_rest c.loop-c.rest) (chars_rest c.next.new.self) c.in-Some.c c.loop-c.invariant.2 c.in-Some.ensures.steps.0,
+      omega (arith, sizes, c.loop-c.invariant.3, c.len_utf8-size.ensures.value),
+      c.next-state.ensures.small,
+      longest_goes c.loop-c.state c.loop-c.size c.loop-c.found (longest_by_size START 0 None (chars c.args.text.now)) (chars_rest c.loop-c.rest) (chars_rest c.next.new.self) c.in-Some.c c.loop-c.invariant.2 c.in-Some.ensures.steps.0 c.loop-c.invariant.5 c.next-state.result c.next-state.ensures.value c.if-state-eq-DEAD.false
+          c.len_utf8-size.result c.len_utf8-size.ensures.value c.found_by-found.result c.found_by-found.ensures,
+    )
 
 pub returns : goal.returns
-returns c = sym (longest_at_end c.loop-i.state c.loop-i.i c.loop-i.found c.args.text.now (omega arith)) ∙ c.loop-i.invariant.rest
+returns c = longest_ends c.loop-c.state c.loop-c.size c.loop-c.found (longest_by_size START 0 None (chars c.args.text.now)) (chars_rest c.loop-c.rest) c.in_default.ensures.steps.0.0 c.loop-c.invariant.5

@@ -1,21 +1,28 @@
-use Rattle.std.proofs.Common.{sym, ◌∙◌}
+use Rattle.std.proofs.Common.{◌≡◌, ℕ, List, Some, chars, slice_get, sym, ap, ◌∙◌}
 use Rattle.go_scan.specs.Pieces.{kind_of}
-use Rattle.go_scan.proofs.PieceSteps.{piece_end, piece_blanks, piece_word, piece_lexeme}
+use Rattle.go_scan.proofs.SizedPieces.{sized_end, sized_blanks, sized_word, sized_other, word_boundary, word_kind_at}
 use Rattle.go_scan.proofs.pieces.front.Goals as goal
 
 pub returns-in_default : goal.returns-in_default
-returns-in_default c = piece_end c.args.text.now c.in_default.ensures.cases
+returns-in_default c =
+    sized_end (chars c.args.text.now) (sym c.in_default.is ∙ c.next.ensures.steps.2 ∙ ap (λ (bs : List ℕ). slice_get (chars bs) 0) c.chars.ensures.rest)
 
 pub returns-then-is_blank : goal.returns-then-is_blank
 returns-then-is_blank c =
-    piece_blanks c.args.text.now c.in-Some.first.now c.in-Some.field-0-1.now c.in-Some.ensures.cases.0 c.blank_len.result (sym c.is_blank.ensures ∙ c.if-is_blank.true) c.blank_len.ensures.value
+    let first : Some c.in-Some.first ≡ slice_get (chars c.args.text.now) 0 = sym c.in-Some.is ∙ c.next.ensures.steps.2 ∙ ap (λ (bs : List ℕ). slice_get (chars bs) 0) c.chars.ensures.rest in
+    sized_blanks (chars c.args.text.now) c.in-Some.first first c.blanks_size.result (sym c.is_blank.ensures ∙ c.if-is_blank.true) c.blanks_size.ensures.value
+
+pub split_at-requires : goal.split_at-requires
+split_at-requires c = word_boundary c.args.text.now c.utf8.text c.word_size-size.result c.word_size-size.ensures.value
 
 pub returns-then-is_letter : goal.returns-then-is_letter
 returns-then-is_letter c =
-    piece_word c.args.text.now c.in-Some.first.now c.in-Some.field-0-1.now c.in-Some.ensures.cases.0 (kind_of c.word_kind.result) c.word_len-len.result
-    (sym c.is_blank.ensures ∙ c.if-is_blank.false) (sym c.is_letter.ensures ∙ c.if-is_letter.true) c.word_len-len.ensures.value c.word_kind.ensures
+    let first : Some c.in-Some.first ≡ slice_get (chars c.args.text.now) 0 = sym c.in-Some.is ∙ c.next.ensures.steps.2 ∙ ap (λ (bs : List ℕ). slice_get (chars bs) 0) c.chars.ensures.rest in
+    sized_word (chars c.args.text.now) c.in-Some.first first (kind_of c.word_kind.result) c.word_size-size.result (sym c.is_blank.ensures ∙ c.if-is_blank.false) (sym c.is_letter.ensures ∙ c.if-is_letter.true)
+    c.word_size-size.ensures.value
+    (word_kind_at c.args.text.now c.utf8.text c.word_size-size.result c.word_size-size.ensures.value (kind_of c.word_kind.result) c.split_at.result.0.now c.split_at.ensures.front c.word_kind.ensures)
 
 pub returns : goal.returns
 returns c =
-    c.lexeme.ensures ∙ piece_lexeme c.args.text.now c.in-Some.first.now c.in-Some.field-0-1.now c.in-Some.ensures.cases.0
-    (sym c.is_blank.ensures ∙ c.if-is_blank.false) (sym c.is_letter.ensures ∙ c.if-is_letter.false)
+    let first : Some c.in-Some.first ≡ slice_get (chars c.args.text.now) 0 = sym c.in-Some.is ∙ c.next.ensures.steps.2 ∙ ap (λ (bs : List ℕ). slice_get (chars bs) 0) c.chars.ensures.rest in
+    c.lexeme.ensures ∙ sized_other (chars c.args.text.now) c.in-Some.first first (sym c.is_blank.ensures ∙ c.if-is_blank.false) (sym c.is_letter.ensures ∙ c.if-is_letter.false)

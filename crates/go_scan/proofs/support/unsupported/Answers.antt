@@ -1,7 +1,8 @@
-use Rattle.std.proofs.Common.{◌≡◌, ℕ, List, Option, None, length, All, sym, ap, subst, ◌∙◌}
+use Rattle.std.proofs.Common.{◌≡◌, ℕ, List, Option, None, length, map, All, sym, ap, subst, ◌∙◌}
 use Rattle.go_tree.specs.declared.spans.Span.{Span}
 use Rattle.go_tree.specs.declared.tokens.Token.{Token}
 use Rattle.go_tree.specs.declared.tokens.Comment.{Comment}
+use Rattle.go_words.specs.Codes.{terminal_at}
 use Rattle.go_scan.specs.Unsupported.{package_start, unsupported_spans, IsFirst, first_word, first_constraint}
 use Rattle.go_scan.proofs.UnsupportedLemmas.{Within, comments_within, unsupported_first}
 use Rattle.go_scan.proofs.support.unsupported.Goals as goal
@@ -24,3 +25,6 @@ returns c =
     c.first_word.ensures ∙ ap (λ (k : Option Span). first_word k c.items-2.result.now) known
     ∙ ap (λ (ts : List Token). first_word (first_constraint text (package_start tokens) None comments) ts) c.items-2.ensures in
     subst (λ (answer : Option Span). IsFirst (unsupported_spans text tokens comments) answer) (sym first) (unsupported_first text tokens comments)
+
+pub first_word-requires : goal.first_word-requires
+first_word-requires c = c.terminals.ensures ∙ ap (map terminal_at) (sym c.items-2.ensures)

@@ -1,10 +1,13 @@
-use Rattle.std.proofs.Common.{◌≡◌, ◌≤◌, length, true, Some, rules}
+use Rattle.std.proofs.Common.{◌≡◌, ◌≤◌, length, true, Some, sym, ap, ◌∙◌, rules}
+use Rattle.go_tree.specs.declared.spans.Span.{Span}
+use Rattle.go_tree.specs.Tree.{Expr, no_stmt}
 use Rattle.go_tree.specs.View.{expr_of, stmt_of}
-use Rattle.go_read.specs.SpellsTerminals.{lexemes}
+use Rattle.go_words.specs.Terminals.{lexemes}
 use Rattle.go_read.specs.SpellsSpans.{span_to}
 use Rattle.go_read.specs.Goals.{read_simple}
 use Rattle.go_read.specs.Reading.{at}
 use Rattle.go_expressions.proofs.Passing.{passed_on, shorter_on}
+use Rattle.go_statements.specs.StmtParts.{arm_body_at}
 use Rattle.go_statements.proofs.BranchArms.{arm_stop, arm_evaluated}
 use Rattle.go_statements.proofs.branches.arm.Goals as goal
 
@@ -25,9 +28,11 @@ returns g c = record {
       let us = lexemes c.rest-left.result.now in
       let r = lexemes c.in-Some.left.now in
       let read : at span_to (read_simple true) us ≡ Some (stmt_of c.in-Some.first_stmt, r) = search rules in
+      let boxed : expr_of c.in_ok-test.test.value ≡ expr_of c.in-Some-evaluated.test = search rules in
       passed_on _ c.arm_body.result _ _
       (arm_evaluated (lexemes c.args.tokens.now) us r (stmt_of c.in-Some.first_stmt) (expr_of c.in-Some-evaluated.test) c.first-2.result c.first-3.result
-      c.in-If.ensures.is c.rest-left.ensures.is c.first-2.ensures.is c.in_default-first.not-Semicolon read c.first-3.ensures.is c.in_default-first-2.not-Semicolon c.in-Some-evaluated.ensures)
+      c.in-If.ensures.is c.rest-left.ensures.is c.first-2.ensures.is c.in_default-first.not-Semicolon read c.first-3.ensures.is c.in_default-first-2.not-Semicolon c.in-Some-evaluated.ensures
+      ∙ ap (λ (e : Expr Span). arm_body_at (lexemes c.args.tokens.now) no_stmt e r) (sym boxed))
       c.arm_body.ensures.gives;
   shorter =
       let fewer : length c.in-Some.left.now ≤ length c.args.tokens.now = search rules in

@@ -2,7 +2,7 @@ use Rattle.std.proofs.Common.{◌≡◌, List, map, sym, ap, ◌∙◌, arith}
 use Rattle.go_tree.specs.declared.exprs.Expr as source
 use Rattle.go_tree.specs.Lists.{exprs_from}
 use Rattle.go_tree.specs.View.{expr_of}
-use Rattle.go_read.specs.SpellsTerminals.{lexemes}
+use Rattle.go_words.specs.Terminals.{lexemes}
 use Rattle.go_productions.specs.Terminals.{rest_of}
 use Rattle.go_expressions.proofs.Passing.{passed_on, shorter_within}
 use Rattle.go_statements.specs.StmtParts.{case_body_at}

@@ -1,6 +1,6 @@
 use Rattle.std.proofs.Common.{◌≡◌, ◌≤◌, length, map}
 use Rattle.go_tree.specs.View.{case_of}
-use Rattle.go_read.specs.SpellsTerminals.{lexemes}
+use Rattle.go_words.specs.Terminals.{lexemes}
 use Rattle.go_read.specs.SpellsSpans.{span_to}
 use Rattle.go_read.specs.Goals.{read_cases}
 use Rattle.go_read.specs.Reading.{at}
@@ -8,9 +8,9 @@ use Rattle.go_productions.specs.Parts.{in_front}
 use Rattle.go_statements.specs.StmtParts.{case_and}
 use Rattle.go_statements.proofs.branches.case_list.Given as goal
 
-abbrev pub invariant-loop-alloc : goal.invariant-loop-alloc
-invariant-loop-alloc g l =
+abbrev pub invariant-loop-left : goal.invariant-loop-left
+invariant-loop-left g l =
     (in_front case_and (map case_of l.items.items) (at span_to read_cases (lexemes l.left)) ≡ at span_to read_cases (lexemes l.fn.tokens)) × (length l.left ≤ length l.fn.tokens)
 
-abbrev pub decreases-loop-alloc : goal.decreases-loop-alloc
-decreases-loop-alloc g l = length l.left
+abbrev pub decreases-loop-left : goal.decreases-loop-left
+decreases-loop-left g l = length l.left

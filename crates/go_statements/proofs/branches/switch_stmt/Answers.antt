@@ -1,14 +1,14 @@
 use Rattle.std.proofs.Common.{◌≡◌, ◌<◌, length, true, Some, refl, sym, ap, ◌∙◌, arith, rules}
 use Rattle.go_tree.specs.declared.spans.Span.{Span}
-use Rattle.go_tree.specs.Tree.{StmtOption, some_stmt}
-use Rattle.go_tree.specs.View.{boxed_stmt_option_of, expr_of, stmt_of}
-use Rattle.go_read.specs.SpellsTerminals.{lexemes}
+use Rattle.go_tree.specs.Tree.{ExprOption, StmtOption, no_stmt, some_expr, some_stmt}
+use Rattle.go_tree.specs.View.{boxed_expr_option_of, boxed_stmt_option_of, expr_of, stmt_of}
+use Rattle.go_words.specs.Terminals.{lexemes}
 use Rattle.go_read.specs.SpellsSpans.{span_to}
 use Rattle.go_read.specs.Goals.{read_simple}
 use Rattle.go_read.specs.Reading.{at}
-use Rattle.go_productions.specs.declared.terminals.Terminal.TheVariants as code
+use Rattle.go_words.specs.declared.terminals.Terminal.TheVariants as code
 use Rattle.go_expressions.proofs.Passing.{begun, passed_on, shorter_on}
-use Rattle.go_statements.specs.StmtParts.{switch_tag_at}
+use Rattle.go_statements.specs.StmtParts.{switch_body_at, switch_tag_at}
 use Rattle.go_statements.proofs.BranchArms.{switch_first_stmt, switch_no_first, switch_open, switch_stop, switch_tagged}
 use Rattle.go_statements.proofs.branches.switch_stmt.Goals as goal
 
@@ -79,9 +79,11 @@ returns g c = record {
       let vs = lexemes c.rest-2.result.now in
       let read : at span_to (read_simple true) us ≡ Some (stmt_of c.in-Some.first_stmt, r) = search rules in
       let plain = λ (e : c.first.result ≡ code.Semicolon). c.in_default-first.not-Semicolon (sym c.first-2.ensures.is ∙ (c.first.ensures.is ∙ e)) in
+      let boxed : boxed_expr_option_of (Some c.in_ok-tag.tag) ≡ some_expr (expr_of c.in-Some-evaluated.tag) = search rules in
       passed_on _ c.switch_body-2.result _ _
       (switch_tagged ts us r vs (stmt_of c.in-Some.first_stmt) (expr_of c.in-Some-evaluated.tag) c.first.result c.first-3.result
-      c.requires.begins c.rest-left.ensures.is c.first.ensures.is c.in_default.not-Brace plain read c.first-3.ensures.is c.in_default-first-2.not-Semicolon c.in-Some-evaluated.ensures c.in-Brace-first.ensures.is c.rest-2.ensures.is)
+      c.requires.begins c.rest-left.ensures.is c.first.ensures.is c.in_default.not-Brace plain read c.first-3.ensures.is c.in_default-first-2.not-Semicolon c.in-Some-evaluated.ensures c.in-Brace-first.ensures.is c.rest-2.ensures.is
+      ∙ ap (λ (t : ExprOption Span). switch_body_at ts no_stmt t vs) (sym boxed))
       c.switch_body-2.ensures.gives;
   shorter =
       let first = c.rest-left.ensures.shorter (begun c.args.tokens.now _ c.requires.begins refl) in

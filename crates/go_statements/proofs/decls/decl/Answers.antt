@@ -1,7 +1,7 @@
 use Rattle.std.proofs.Common.{◌≡◌, Some, map, rules}
 use Rattle.go_tree.specs.Lists.{specs_from}
 use Rattle.go_tree.specs.View.{var_spec_of}
-use Rattle.go_read.specs.SpellsTerminals.{lexemes}
+use Rattle.go_words.specs.Terminals.{lexemes}
 use Rattle.go_read.specs.SpellsSpans.{span_to}
 use Rattle.go_read.specs.Goals.{read_specs}
 use Rattle.go_read.specs.Reading.{at}

@@ -1,9 +1,9 @@
 use Rattle.std.proofs.Common.{◌≡◌, ◌<◌, arith, length, true, Some, map, sym, ap, ◌∙◌, rules}
 use Rattle.go_tree.specs.declared.spans.Span.{Span}
 use Rattle.go_tree.specs.Lists.{exprs_from}
-use Rattle.go_tree.specs.Tree.{Stmt, define}
+use Rattle.go_tree.specs.Tree.{Exprs, Stmt, define}
 use Rattle.go_tree.specs.View.{expr_of, name_at_of}
-use Rattle.go_read.specs.SpellsTerminals.{lexemes}
+use Rattle.go_words.specs.Terminals.{lexemes}
 use Rattle.go_read.specs.SpellsSpans.{span_to}
 use Rattle.go_read.specs.Goals.{read_exprs, read_names}
 use Rattle.go_read.specs.Reading.{at}
@@ -27,7 +27,7 @@ returns-then-defines g c = record {
       let valued : at span_to (read_exprs true) us ≡ Some (ys, q) = search rules in
       passed_on _ c.for_plain.result _ _
       (clause_defines (lexemes c.args.whole.now) ts r us q ns ys c.first.result c.requires.begins here named c.rest-left.ensures.is c.first.ensures.is c.in_default-first.not-Range valued
-      ∙ ap (λ (x : Stmt Span). for_plain_at (lexemes c.args.whole.now) x q) (ap (λ (s : Span). define s ns ys) (sym c.span_between-span.ensures) ∙ sym c.build_define.ensures))
+      ∙ ap (λ (x : Stmt Span). for_plain_at (lexemes c.args.whole.now) x q) (ap (λ (s : Span). define s ns ys) (sym c.span_between-span.ensures) ∙ ap (λ (xs : Exprs Span). define c.span_between-span.result ns xs) (sym c.of.ensures.made) ∙ sym c.define_stmt-first_stmt.ensures))
       c.for_plain.ensures.gives;
   shorter =
       let first : length c.in-Some.left.now < length c.args.tokens.now = search rules in

@@ -1,5 +1,5 @@
 use Rattle.std.proofs.Common.{refl, arith}
-use Rattle.go_read.specs.SpellsTerminals.{lexemes}
+use Rattle.go_words.specs.Terminals.{lexemes}
 use Rattle.go_expressions.proofs.Passing.{begun, passed_on, shorter_on}
 use Rattle.go_statements.proofs.ForArms.{for_clause}
 use Rattle.go_statements.proofs.for_stmts.for_stmt.Goals as goal

@@ -3,7 +3,7 @@ use Rattle.go_tree.specs.declared.spans.Span.{Span}
 use Rattle.go_tree.specs.Lists.{exprs_from}
 use Rattle.go_tree.specs.Tree.{eval}
 use Rattle.go_tree.specs.View.{expr_of}
-use Rattle.go_read.specs.SpellsTerminals.{lexemes}
+use Rattle.go_words.specs.Terminals.{lexemes}
 use Rattle.go_statements.proofs.SimpleArms.{after_other}
 use Rattle.go_statements.proofs.simple_stmts.simple_after.Goals as goal
 

@@ -1,7 +1,7 @@
 use Rattle.std.proofs.Common.{◌≡◌, ◌≤◌, ◌+◌, ◌*◌, length, map}
 use Rattle.go_tree.specs.View.{stmt_of}
 use Rattle.go_tree.specs.Tree.{stmt_and}
-use Rattle.go_read.specs.SpellsTerminals.{lexemes}
+use Rattle.go_words.specs.Terminals.{lexemes}
 use Rattle.go_read.specs.SpellsSpans.{span_to}
 use Rattle.go_read.specs.Goals.{read_stmts}
 use Rattle.go_read.specs.Reading.{at}
@@ -10,9 +10,9 @@ use Rattle.go_productions.specs.Terminals.{first_of}
 use Rattle.go_statements.proofs.StmtArms.{still}
 use Rattle.go_statements.proofs.stmts.listed.Given as goal
 
-abbrev pub invariant-loop-alloc : goal.invariant-loop-alloc
-invariant-loop-alloc g l =
+abbrev pub invariant-loop-left : goal.invariant-loop-left
+invariant-loop-left g l =
     (in_front stmt_and (map stmt_of l.items.items) (at span_to read_stmts (lexemes l.left)) ≡ at span_to read_stmts (lexemes l.fn.tokens)) × (length l.left ≤ length l.fn.tokens)
 
-abbrev pub decreases-loop-alloc : goal.decreases-loop-alloc
-decreases-loop-alloc g l = 2 * length l.left + still (first_of (lexemes l.left))
+abbrev pub decreases-loop-left : goal.decreases-loop-left
+decreases-loop-left g l = 2 * length l.left + still (first_of (lexemes l.left))

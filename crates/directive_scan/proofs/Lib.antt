@@ -1,0 +1,13 @@
+mod MarkChecks
+pub mod LineLaws
+pub mod TableLaws
+pub mod LedLaws
+pub mod MemberLaws
+pub mod MarkedLaws
+pub mod ItemLaws
+pub mod CutLaws
+pub mod FlagLaws
+pub mod SpanLaws
+pub mod LedTableLaws
+pub mod LeadsLaws
+pub mod MergeLaws

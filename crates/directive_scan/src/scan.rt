@@ -1,0 +1,106 @@
+// The marks of a file.
+ghost use Rattle.std.specs.Prelude.{◌≡◌, ◌≤◌, ◌<◌, ◌+◌, ◌^◌, length, IfOk};
+ghost use Rattle.go_tree.specs.FileView.{file_of};
+ghost use Rattle.directive_scan.specs.Lines.{line_of};
+ghost use Rattle.directive_scan.specs.Marked.{good_marks, bad_marks};
+ghost use Rattle.directive_scan.specs.Tables.{line_numbers, lead_table, led_table, leading_table};
+
+use crate::found::{bad_of, good_of, nothing_of};
+use crate::items::{Item, items_of};
+use crate::line_flags::{leading_lines, led_lines};
+use crate::line_marks::{clear_tokens, flag_comments, flag_marks, flag_starts};
+use crate::line_table::{line_at, line_numbers};
+use crate::mark_types::Marks;
+use crate::merge::placed_in;
+use go_scan::Tokens;
+use go_tree::{FileTree, MAX_FILE_BYTES, NoMemory};
+use scope_names::FileNames;
+use std::alloc::Global;
+
+/// Which lines hold a byte of a comment, and of no token.
+fn lead_table(
+    alloc: Global,
+    text: &[u8],
+    numbers: &[u32],
+    tokens: &Tokens,
+) -> Result<Vec<bool>, NoMemory>
+    requires small { length text.now ≤ MAX_FILE_BYTES }
+    requires numbered { numbers.now ≡ line_numbers 0 text.now }
+    ensures made { IfOk result (λ leads. leads.items ≡ lead_table text.now tokens.now.items tokens.now.comments) }
+    ensures long { IfOk result (λ leads. length leads.items ≡ line_of text.now (length text.now) + 1) }
+{
+    let count = line_at(text, numbers, text.len() as u32) as usize + 1;
+    let mut leads = vec![in alloc; false; count]?;
+    flag_comments(text, numbers, tokens.comments(), &mut leads);
+    clear_tokens(text, numbers, tokens.items(), &mut leads);
+    Ok(leads)
+}
+
+/// For each line whether a mark line is among its lead lines.
+fn led_table(
+    alloc: Global,
+    text: &[u8],
+    numbers: &[u32],
+    tokens: &Tokens,
+    leads: &[bool],
+) -> Result<Vec<bool>, NoMemory>
+    requires numbered { numbers.now ≡ line_numbers 0 text.now }
+    requires leads { leads.now ≡ lead_table text.now tokens.now.items tokens.now.comments }
+    requires long { length leads.now ≡ line_of text.now (length text.now) + 1 }
+    ensures { IfOk result (λ led. led.items ≡ led_table text.now tokens.now.items tokens.now.comments) }
+{
+    let mut marks = vec![in alloc; false; leads.len()]?;
+    flag_marks(text, numbers, tokens.comments(), &mut marks);
+    led_lines(alloc, leads, &marks)
+}
+
+/// For each line whether an item starts on a line that it leads to.
+fn leading_table(
+    alloc: Global,
+    text: &[u8],
+    numbers: &[u32],
+    tokens: &Tokens,
+    items: &[Item],
+    leads: &[bool],
+) -> Result<Vec<bool>, NoMemory>
+    requires numbered { numbers.now ≡ line_numbers 0 text.now }
+    requires leads { leads.now ≡ lead_table text.now tokens.now.items tokens.now.comments }
+    requires long { length leads.now ≡ line_of text.now (length text.now) + 1 }
+    ensures { IfOk result (λ table. table.items
+        ≡ leading_table text.now tokens.now.items tokens.now.comments items.now) }
+{
+    let mut starts = vec![in alloc; false; leads.len()]?;
+    flag_starts(text, numbers, items, &mut starts);
+    leading_lines(alloc, leads, &starts)
+}
+
+/// The marks of a file. A mark line is a line on which only blanks stand before a comment
+/// `//go:fix inline`; it marks each function, method, constant or type of the package block that
+/// comes directly after it, with comments alone between. The only error is `NoMemory`.
+#[tactic(auto, using(crate::proofs::LedTableLaws::scan_laws))]
+pub fn marks(
+    alloc: Global,
+    text: &[u8],
+    tokens: &Tokens,
+    file: &FileTree,
+    names: &FileNames,
+) -> Result<Marks, NoMemory>
+    requires small { length text.now ≤ MAX_FILE_BYTES }
+    requires imports { length names.now.imports < 2 ^ 32 }
+    requires members { length names.now.package < 2 ^ 32 }
+    ensures good { IfOk result (λ m. m.good ≡ good_marks text.now tokens.now.items tokens.now.comments names.now
+        (file_of file.now)) }
+    ensures bad { IfOk result (λ m. m.bad ≡ bad_marks text.now tokens.now.items tokens.now.comments names.now
+        (file_of file.now)) }
+{
+    let numbers = line_numbers(alloc, text)?;
+    let items = items_of(alloc, names, file)?;
+    let leads = lead_table(alloc, text, &numbers, tokens)?;
+    let led = led_table(alloc, text, &numbers, tokens, &leads)?;
+    let leading = leading_table(alloc, text, &numbers, tokens, &items, &leads)?;
+    let good = good_of(alloc, text, &numbers, &led, &items)?;
+    let marked = bad_of(alloc, text, &numbers, &led, &items)?;
+    let nothing = nothing_of(alloc, text, &numbers, &leading, tokens.comments())?;
+    let bad = placed_in(alloc, &marked, &nothing)?;
+    Ok(Marks::of(good, bad))
+}

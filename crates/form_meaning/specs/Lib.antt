@@ -1,0 +1,3 @@
+pub mod Landed
+pub mod CallMeaning
+pub mod Laws

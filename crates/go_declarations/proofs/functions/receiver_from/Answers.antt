@@ -1,5 +1,0 @@
-use Rattle.go_declarations.proofs.FunctionSteps.{here_is}
-use Rattle.go_declarations.proofs.functions.receiver_from.Goals as goal
-
-pub returns-clause-gives : goal.returns-clause-gives
-returns-clause-gives c = here_is _ _ _ _ _ _ _ c.rest-after.ensures.is c.span_between-span.ensures c.in_ok-of.ensures

@@ -1,8 +1,0 @@
-use Rattle.go_declarations.proofs.ImportSteps.{path_none, path_is}
-use Rattle.go_declarations.proofs.imports.import_path.Goals as goal
-
-pub returns-in_default : goal.returns-in_default
-returns-in_default c = record { gives = path_none _ _ _ _ c.first.ensures.is c.in_default.not-Text; shorter = tt }
-
-pub returns-clause-gives : goal.returns-clause-gives
-returns-clause-gives c = path_is _ _ _ _ _ _ c.in-Text.ensures.is c.rest-after.ensures.is c.span_between-span.ensures c.in_ok-path.ensures

@@ -1,0 +1,77 @@
+-- The string literals among the tokens that are left.
+use Rattle.std.proofs.Common.{◌≡◌, ℕ, suc, true, ltb, List, [], ◌∷◌, length, Option, Some, None, refl, sym, ap, subst, arith}
+use Rattle.std.proofs.lemmas.Bool.Decides.{nat_tests}
+use Rattle.go_tree.specs.declared.spans.Span.{Span}
+use Rattle.std.specs.Prelude.{slice_get}
+use Rattle.go_literals.specs.Strings.{IsString}
+use Rattle.go_tree.specs.declared.tokens.Token.{Token}
+use Rattle.go_tree.specs.File.{ImportSpec, ImportDecl}
+use Rattle.go_words.specs.Terminals.{Terminal, lex, str_lit, semicolon, end_paren, terminal_of, lexemes}
+use Rattle.go_read.specs.SpellsSpans.{span_to}
+use Rattle.go_read.specs.SpellsTypes.{Lexemes}
+use Rattle.go_read.specs.Goals.{read_import_spec, read_import}
+use Rattle.go_read.specs.Reading.{at}
+use Rattle.go_read.proofs.Sound.{at_sound}
+use Rattle.go_read.proofs.Suffixes.{Suffix, whole, after, import_spec_suffix, import_suffix}
+use Rattle.go_words.specs.declared.terminals.Terminal.TheVariants as code
+use Rattle.go_words.specs.Codes.{code_of}
+use Rattle.go_productions.specs.Terminals.{first_of, rest_of, letters_of, spelling_of, has_letters}
+use Rattle.go_productions.proofs.Heads.{letters_are}
+use Rattle.go_parse.specs.Parts.{ended, spec_end}
+use Rattle.go_parse.specs.Texts.{IsSound, HasTexts}
+
+texts_of_suffix : {r ts : Lexemes} → Suffix r ts → HasTexts ts → HasTexts r
+unfolding HasTexts
+texts_of_suffix whole h = h
+texts_of_suffix (after {x = lex s t} k) h = texts_of_suffix k h.1
+
+pub texts_of_rest : (ts : Lexemes) → HasTexts ts → HasTexts (rest_of ts)
+unfolding HasTexts
+texts_of_rest [] h = h
+texts_of_rest (lex s t ∷ r) h = h.1
+
+pub texts_from : (ts us : Lexemes) → us ≡ rest_of ts → HasTexts ts → HasTexts us
+texts_from ts us e h = subst HasTexts (sym e) (texts_of_rest ts h)
+
+pub texts_after_spec : (ts : Lexemes) (x : ImportSpec Span) (r us : Lexemes) → at span_to read_import_spec ts ≡ Some (x, r) → Some us ≡ spec_end r → HasTexts ts → HasTexts us
+unfolding HasTexts
+texts_after_spec ts x r us e next h = go r next (texts_of_suffix (import_spec_suffix span_to (at_sound span_to read_import_spec ts (x, r) e).1) h)
+  where
+    go : (r : Lexemes) → Some us ≡ spec_end r → HasTexts r → HasTexts us
+    go [] e h = absurd (cc)
+    go (lex c semicolon ∷ r) e h = let same : us ≡ r = cc in subst HasTexts (sym same) h.1
+    go (lex c end_paren ∷ r) e h = let same : us ≡ lex c end_paren ∷ r = cc in subst HasTexts (sym same) h
+    go (lex c _ ∷ r) e h = absurd (cc)
+
+pair_rest : (p q : ImportDecl Span × Lexemes) → Some p ≡ Some q → p.1 ≡ q.1
+pair_rest p q e = let same : p ≡ q = cc in ap (λ (z : ImportDecl Span × Lexemes). z.1) same
+
+pub texts_after_import : (ts : Lexemes) (x : ImportDecl Span) (us : Lexemes) → ended (at span_to read_import ts) ≡ Some (x, us) → HasTexts ts → HasTexts us
+unfolding HasTexts
+texts_after_import ts x us e h = go (at span_to read_import ts) refl e
+  where
+    go : (o : Option (ImportDecl Span × Lexemes)) → at span_to read_import ts ≡ o → ended o ≡ Some (x, us) → HasTexts us
+    go None i e = absurd (cc)
+    go (Some (y, [])) i e = absurd (cc)
+    go (Some (y, lex c semicolon ∷ r)) i e =
+        let same : r ≡ us = pair_rest (y, r) (x, us) e in
+        subst HasTexts same (texts_of_suffix (import_suffix span_to (at_sound span_to read_import ts (y, lex c semicolon ∷ r) i).1) h).1
+    go (Some (y, lex c _ ∷ r)) i e = absurd (cc)
+
+-- ---- the literal that stands first
+
+some_stands : (n : ℕ) → true ≡ ltb 0 (suc n)
+some_stands n = grind (arith, nat_tests)
+
+literal_sound : (u : Terminal) → code_of u ≡ code.StrLit → IsSound u → IsString (letters_of u)
+literal_sound (str_lit p) e h = h
+literal_sound _ e h = absurd (cc)
+
+pub text_stands : (ts : List Token) (t : Token) → Some t ≡ slice_get ts 0 → HasTexts (lexemes ts) → first_of (lexemes ts) ≡ code.StrLit → IsString t.spelling × (t.spelling ≡ spelling_of (lexemes ts))
+unfolding HasTexts
+text_stands [] t e h f = absurd (cc)
+text_stands (x ∷ r) t e h f =
+    let same : x ≡ t = cc in
+    let letters : x.spelling ≡ spelling_of (lexemes (x ∷ r)) = letters_are (x ∷ r) x (some_stands (length r)) refl (ap has_letters f) in
+    let sound : IsString (spelling_of (lexemes (x ∷ r))) = literal_sound (terminal_of x.kind x.spelling) f h.0 in
+    subst (λ (y : Token). IsString y.spelling × (y.spelling ≡ spelling_of (lexemes (x ∷ r)))) same (subst IsString (sym letters) sound, letters)

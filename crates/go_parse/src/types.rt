@@ -1,0 +1,144 @@
+//! Type declarations (Go specification, Type declarations).
+
+ghost use Rattle.std.specs.Prelude.{◌≡◌, map};
+ghost use Rattle.go_tree.specs.declared.files.Decl.TheVariants as decls;
+ghost use Rattle.go_tree.specs.View.{name_at_of};
+ghost use Rattle.go_tree.specs.FileView.{decl_of, type_spec_of};
+ghost use Rattle.go_words.specs.Terminals.{lexemes};
+ghost use Rattle.go_read.specs.SpellsSpans.{span_to};
+ghost use Rattle.go_read.specs.Goals.{read_type_spec, read_type_specs};
+ghost use Rattle.go_read.specs.Reading.{at};
+ghost use Rattle.go_productions.specs.Answers.{Gives, Shorter};
+ghost use Rattle.go_parse.specs.Parts.{closed, grouped_types_at, is_equals, single_type_at, type_after_at, type_decl_at};
+
+use crate::imports::after_spec;
+use go_productions::{Reading, Room, first, name, rest, span_between, type_expr};
+use go_tree::{Decl, NameAt, Token, TypeDecl, TypeSpec, TypeSpecList};
+use go_words::Terminal;
+
+/// The type of a spec that begins at `whole`, after its name.
+fn spec_type<'a>(
+    room: &Room,
+    whole: &[Token],
+    name: NameAt,
+    alias: bool,
+    tokens: &'a [Token],
+) -> Reading<'a, TypeSpec>
+    ensures gives { Gives (λ x. (type_spec_of x.0, lexemes x.1.now)) result (type_after_at (lexemes whole.now) (name_at_of name) alias (lexemes tokens.now)) }
+    ensures shorter { Shorter (λ x. x.1.now) result tokens.now }
+{
+    let Some((of, after)) = type_expr(room, tokens)? else {
+        return Ok(None);
+    };
+    let span = span_between(whole, after);
+    let spec = TypeSpec {
+        span,
+        name,
+        alias,
+        of,
+    };
+    Ok(Some((spec, after)))
+}
+
+/// Whether it is `=`.
+fn is_equals(terminal: Terminal) -> bool
+    ensures { result ≡ is_equals terminal }
+{
+    matches!(terminal, Terminal::Assign(None))
+}
+
+/// A name and its type, with `=` between them for an alias.
+fn type_spec<'a>(room: &Room, tokens: &'a [Token]) -> Reading<'a, TypeSpec>
+    ensures gives { Gives (λ x. (type_spec_of x.0, lexemes x.1.now)) result (at span_to read_type_spec (lexemes tokens.now)) }
+    ensures shorter { Shorter (λ x. x.1.now) result tokens.now }
+{
+    let Terminal::Ident = first(tokens) else {
+        return Ok(None);
+    };
+    let name = name(room, tokens)?;
+    let after = rest(tokens);
+    let alias = is_equals(first(after));
+    if alias {
+        spec_type(room, tokens, name, true, rest(after))
+    } else {
+        spec_type(room, tokens, name, false, after)
+    }
+}
+
+/// The specs of a group, up to the parenthesis that ends it.
+fn type_group<'a>(room: &Room, tokens: &'a [Token]) -> Reading<'a, TypeSpecList>
+    ensures gives { Gives (λ x. (map type_spec_of x.0, lexemes x.1.now)) result (closed (at span_to read_type_specs (lexemes tokens.now))) }
+    ensures shorter { Shorter (λ x. x.1.now) result tokens.now }
+{
+    let mut specs = Vec::new(room.alloc);
+    let mut left = tokens;
+    'specs: loop {
+        if let Terminal::EndParen = first(left) {
+            return Ok(Some((TypeSpecList::of(specs), rest(left))));
+        }
+        let Some((spec, after)) = type_spec(room, left)? else {
+            return Ok(None);
+        };
+        specs.push(spec)?;
+        let Some(next) = after_spec(after) else {
+            return Ok(None);
+        };
+        left = next;
+    }
+}
+
+/// The group of types whose declaration begins at `whole`.
+pub(crate) fn grouped_types<'a>(
+    room: &Room,
+    whole: &[Token],
+    tokens: &'a [Token],
+) -> Reading<'a, TypeDecl>
+    ensures gives { Gives (λ x. (decl_of (decls.Types x.0), lexemes x.1.now)) result (grouped_types_at (lexemes whole.now) (lexemes tokens.now)) }
+    ensures shorter { Shorter (λ x. x.1.now) result tokens.now }
+{
+    let Some((specs, after)) = type_group(room, tokens)? else {
+        return Ok(None);
+    };
+    let span = span_between(whole, after);
+    let decl = TypeDecl {
+        span,
+        grouped: true,
+        specs,
+    };
+    Ok(Some((decl, after)))
+}
+
+/// The one type whose declaration begins at `whole`.
+pub(crate) fn single_type<'a>(
+    room: &Room,
+    whole: &[Token],
+    tokens: &'a [Token],
+) -> Reading<'a, TypeDecl>
+    ensures gives { Gives (λ x. (decl_of (decls.Types x.0), lexemes x.1.now)) result (single_type_at (lexemes whole.now) (lexemes tokens.now)) }
+    ensures shorter { Shorter (λ x. x.1.now) result tokens.now }
+{
+    let Some((spec, after)) = type_spec(room, tokens)? else {
+        return Ok(None);
+    };
+    let specs = TypeSpecList::of(vec![in room.alloc; spec]?);
+    let span = span_between(whole, after);
+    let decl = TypeDecl {
+        span,
+        grouped: false,
+        specs,
+    };
+    Ok(Some((decl, after)))
+}
+
+/// The declaration of one type or of a group, whose first token is its keyword.
+pub(crate) fn type_decl<'a>(room: &Room, tokens: &'a [Token]) -> Reading<'a, TypeDecl>
+    ensures gives { Gives (λ x. (decl_of (decls.Types x.0), lexemes x.1.now)) result (type_decl_at (lexemes tokens.now)) }
+    ensures shorter { Shorter (λ x. x.1.now) result tokens.now }
+{
+    let inner = rest(tokens);
+    if let Terminal::Paren = first(inner) {
+        grouped_types(room, tokens, rest(inner))
+    } else {
+        single_type(room, tokens, inner)
+    }
+}

@@ -1,0 +1,38 @@
+mod Trees
+mod Shown
+mod ShownOrder
+mod ShownNumbers
+mod ShownValues
+mod ShownCollections
+mod ShownControl
+mod ShownRanges
+mod ShownDefers
+mod ShownPanics
+mod ShownFunctions
+mod ShownPackages
+mod ShownMixed
+mod ShownRandom
+mod ShownSpecification
+mod SmallBare
+pub mod MentionsBare
+pub mod TranslationBare
+pub mod PackagesBare
+pub mod PackageBudgets
+pub mod HeldVariables
+pub mod Ranks
+pub mod AgreeingHere
+pub mod SmallAlike
+pub mod MentionsAlike
+pub mod TranslationAlike
+pub mod SwappedAlike
+pub mod SwappedProgram
+mod SwappedTries
+pub mod Scopes
+pub mod ScopesOf
+pub mod TranslationScoped
+pub mod ProgramScoped
+pub mod TranslationLaws
+mod TermClasses
+mod TermShapes
+pub mod SwappedMeaning
+mod PackagesInUse

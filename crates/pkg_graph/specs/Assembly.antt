@@ -1,0 +1,14 @@
+-- Packages made from their paths and names.
+use Rattle.std.specs.Prelude.{ℕ, List, [], ◌∷◌}
+use Rattle.go_tree.specs.declared.spans.Span.{Span}
+use Rattle.pkg_graph.specs.Package.{SourceTree, Package}
+
+-- packages with these paths and names, and the files that each path has
+abbrev pub packages_with : (List ℕ → List (SourceTree Span)) → List (List ℕ) → List (List ℕ) → List (Package Span)
+packages_with files [] names = []
+packages_with files (p ∷ ps) [] = []
+packages_with files (p ∷ ps) (n ∷ ns) = record { path = p; name = n; files = files p } ∷ packages_with files ps ns
+
+-- packages with these paths and names, and no files
+abbrev pub without_files : List (List ℕ) → List (List ℕ) → List (Package Span)
+without_files paths names = packages_with (λ p. []) paths names

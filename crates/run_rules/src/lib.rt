@@ -1,0 +1,10 @@
+//! What a run of the inliner is: the places of a program, the uses of marked declarations, the forms
+//! that may take their place and what keeps them, the next step, the run and its report.
+#![tactic(auto)]
+
+mod laws;
+
+pub use laws::{
+    ended_runs_keep_all_uses, names_found_are_needed, packages_stand_in_dependency_order,
+    replacing_asks_at_the_places_listed, striking_leaves_the_greatest_set,
+};

@@ -1,0 +1,33 @@
+-- What begins with a semicolon, and what may follow a node in its place (Go specification, Semicolons, Operators and
+-- punctuation).
+use Rattle.std.specs.Prelude.{Bool, true, false, [], ◌∷◌}
+use Rattle.go_words.specs.Terminals.{Terminal, lex, binary_op, assign, define, increment, decrement, comma, semicolon, colon, dot, ellipsis, paren, end_paren, bracket, end_bracket, brace, end_brace}
+use Rattle.go_read.specs.SpellsTypes.{Lexemes}
+
+abbrev pub begins_semicolon : Lexemes → Bool
+begins_semicolon (lex _ semicolon ∷ _) = true
+begins_semicolon _ = false
+
+-- what follows a node in a place: an operator other than `!`
+abbrev pub stops : Terminal → Bool
+stops (binary_op _) = true
+stops (assign _) = true
+stops define = true
+stops increment = true
+stops decrement = true
+stops comma = true
+stops semicolon = true
+stops colon = true
+stops dot = true
+stops ellipsis = true
+stops paren = true
+stops end_paren = true
+stops bracket = true
+stops end_bracket = true
+stops brace = true
+stops end_brace = true
+stops _ = false
+
+abbrev pub ends_node : Lexemes → Bool
+ends_node [] = false
+ends_node (lex _ x ∷ _) = stops x

@@ -1,0 +1,14 @@
+pub mod SameFacts
+pub mod Replaced
+pub mod Leaves
+pub mod Known
+pub mod ProgramsAlike
+pub mod HeaderReplaced
+pub mod Declared
+pub mod ImportRule
+pub mod ProgramReplaced
+pub mod RecordsAlike
+pub mod ImportsMoved
+pub mod Aliases
+pub mod UsesKept
+pub mod Laws

@@ -1,0 +1,11 @@
+//! Tests of the calls of lower crates: a crate with tests of its own is proved twice.
+#![tactic(auto)]
+
+#[cfg(test)]
+mod choices;
+#[cfg(test)]
+mod edits;
+#[cfg(test)]
+mod hazards;
+#[cfg(test)]
+mod io;

@@ -1,8 +1,0 @@
-package main
-
-//go:fix inline
-const X = 3
-
-func main() {
-	println(X)
-}

@@ -1,8 +1,0 @@
-package main
-
-//go:fix inline
-func Stop(code int8) { panic(code) }
-
-func main() {
-	Stop(3)
-}

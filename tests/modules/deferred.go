@@ -1,9 +1,0 @@
-package main
-
-//go:fix inline
-func Close(n int) { println("closed", n) }
-
-func main() {
-	v := 1
-	defer Close(v)
-}

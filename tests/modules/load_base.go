@@ -1,3 +1,0 @@
-package base
-
-func Div(x, y int) int { return x / y }

@@ -1,3 +1,0 @@
-package main
-
-func main() { x := 1 }

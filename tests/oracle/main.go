@@ -1,0 +1,15 @@
+// Writes tables of what Go's own packages say of small programs, as checks of the definitions:
+//
+//	go run . names sources/names.go ../../crates/scope_names/proofs (then rt fmt)
+//
+// A type that several names share stands in the tree once for each, so the sources give each name its own. The gate
+// doesn't run this program: what it writes is committed.
+package main
+
+import "os"
+
+func main() {
+	if os.Args[1] == "names" {
+		writeNames(os.Args[2], os.Args[3])
+	}
+}
