@@ -1,4 +1,5 @@
--- The bits of a whole number in two's complement without end: bit i tells whether the number divided by 2 to the power i,
+-- The bits of a whole number in two's complement without end: bit i tells whether the number divided by 2 to the power
+-- i,
 -- rounded down, is odd (Go specification, Arithmetic operators).
 use Rattle.std.specs.Prelude.{◌≡◌, ℕ, ◌+◌, ◌-◌, ◌%◌, min, max, ℤ, pos, negsuc}
 use Rattle.std.specs.Int.{int_shr}

@@ -1,4 +1,5 @@
--- Where an operator or conversion applies (Go specification, Arithmetic operators, Comparison operators, Logical operators, Conversions).
+-- Where an operator or conversion applies (Go specification, Arithmetic operators, Comparison operators, Logical
+-- operators, Conversions).
 use Rattle.std.specs.Prelude.{◌≡◌, Bool, true, false, not, ◌&&◌, ◌||◌, is_some}
 use Rattle.go_tree.specs.declared.operators.UnOp.{UnOp}
 use Rattle.go_tree.specs.declared.operators.UnOp.TheVariants.{Plus, Minus, Not, Flip}
@@ -43,7 +44,8 @@ is_on_texts Add = true
 is_on_texts op = is_comparison op
 
 abbrev pub binary_applies : BinOp → Kind → Bool
-binary_applies op k = (is_on_numbers op && is_number_kind k) || (is_on_truths op && is_truth_kind k) || (is_on_texts op && is_text_kind k)
+binary_applies op k =
+    (is_on_numbers op && is_number_kind k) || (is_on_truths op && is_truth_kind k) || (is_on_texts op && is_text_kind k)
 
 -- those that give a number
 abbrev pub is_arithmetic : BinOp → Bool
@@ -71,7 +73,8 @@ pub record IsBinary (op : BinOp) (k : Kind) (a b : Const) : Type 0 where
   pub left : represents k a ≡ true
   pub right : fits_right op k b ≡ true
 
--- the constant is of a kind that converts to this kind: whole numbers to each kind of number, truth values and strings to theirs
+-- the constant is of a kind that converts to this kind: whole numbers to each kind of number, truth values and strings
+-- to theirs
 abbrev pub converts : Const → Kind → Bool
 converts (Whole z) k = is_number_kind k
 converts (Truth b) k = is_truth_kind k

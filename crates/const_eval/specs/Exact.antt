@@ -52,7 +52,8 @@ is_within_128_bits z = lies_within (limits kind.UntypedInt) z
 
 -- the exact number as a constant of a kind
 abbrev pub kept : Kind → ℤ → Result Const ConstError
-kept k z = if is_within_128_bits z then (if represents k (Whole z) then Ok (Whole z) else Err (Overflow k)) else Err Wide
+kept k z = if is_within_128_bits z then (if represents k (Whole z) then Ok (Whole z) else Err (Overflow k))
+    else Err Wide
 
 -- The answer of an operation whose result is of a kind. Only a string takes memory.
 abbrev pub Answers : Kind → Exact → Result Const ConstError → Type 0

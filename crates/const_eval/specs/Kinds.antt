@@ -30,7 +30,8 @@ limits UntypedRune = signed 128
 limits UntypedBool = None
 limits UntypedStr = None
 
--- the number all of whose bits are 1: of as many bits as an unsigned kind has, else -1 (Go specification, Arithmetic operators)
+-- the number all of whose bits are 1: of as many bits as an unsigned kind has, else -1 (Go specification, Arithmetic
+-- operators)
 abbrev pub all_ones : Kind → ℤ
 all_ones Uint = pos (2 ^ 64 - 1)
 all_ones Uint8 = pos (2 ^ 8 - 1)

@@ -1,4 +1,4 @@
-// Constants, and why there is none (Go specification, Constants, Constant expressions).
+//! Constants, and why there is none (Go specification, Constants, Constant expressions).
 
 use crate::kinds::Kind;
 use go_tree::Text;

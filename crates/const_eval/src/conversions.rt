@@ -1,7 +1,8 @@
-// What a kind holds, and conversions of constants (Go specification, Representability, Conversions).
+//! What a kind holds, and conversions of constants (Go specification, Representability, Conversions).
+
 ghost use Rattle.std.specs.Prelude.{◌≡◌, ◌⊎◌, true, Ok, Err, if◌then◌else◌};
 ghost use Rattle.const_eval.specs.Conditions.{converts};
-ghost use Rattle.const_eval.specs.Exact.{Answers, exact_of, is_text_kind, is_truth_kind, lies_within, represents};
+ghost use Rattle.const_eval.specs.Exact.{Answers, exact_of, lies_within, represents};
 ghost use Rattle.const_eval.specs.Kinds.{limits};
 ghost use Rattle.const_eval.specs.declared.consts.Const.TheVariants.{Bytes, Whole};
 ghost use Rattle.const_eval.specs.declared.consts.ConstError.TheVariants.{Overflow, NoMemory};

@@ -1,5 +1,6 @@
-// Numbers by their digits (Go specification, Integer literals, Rune literals).
-ghost use Rattle.std.specs.Prelude.{◌≡◌, ◌+◌, ◌*◌, ◌<◌, ◌^◌};
+//! Numbers by their digits (Go specification, Integer literals, Rune literals).
+
+ghost use Rattle.std.specs.Prelude.{◌+◌, ◌*◌, ◌<◌, ◌^◌};
 ghost use Rattle.std.specs.Option.{SomeIff};
 ghost use Rattle.go_words.specs.Texts.{digits_in, hex_digit};
 ghost use Rattle.const_eval.specs.Literals.{digits_of};
@@ -9,7 +10,8 @@ use go_literals::digit_value;
 /// The number that digits of a base spell, with `_` among them, where 128 bits hold it.
 pub fn number(base: u8, digits: &[u8]) -> Option<u128>
     requires { 0 < base }
-    ensures { SomeIff result (digits_in base 0 (digits_of digits.now) < 2 ^ 128) (digits_in base 0 (digits_of digits.now)) }
+    ensures { SomeIff result (digits_in base 0 (digits_of digits.now) < 2 ^ 128)
+        (digits_in base 0 (digits_of digits.now)) }
 {
     let mut value: u128 = 0;
     for digit in digits {

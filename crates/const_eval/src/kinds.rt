@@ -1,4 +1,5 @@
-// Kinds of constants, and the whole numbers that each holds (Go specification, Constants, Numeric types).
+//! Kinds of constants, and the whole numbers that each holds (Go specification, Constants, Numeric types).
+
 ghost use Rattle.std.specs.Prelude.{◌≡◌};
 ghost use Rattle.const_eval.specs.Kinds.{all_ones, limits};
 

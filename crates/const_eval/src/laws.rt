@@ -1,4 +1,5 @@
-// What the bitwise operators do to each bit (Go specification, Arithmetic operators).
+//! What the bitwise operators do to each bit (Go specification, Arithmetic operators).
+
 ghost use Rattle.const_eval.specs.Bits.{AndBits, ComplementBits, OrBits, XorBits};
 
 /// The bitwise operators on whole numbers work on each bit of two's complement without end.

@@ -1,4 +1,5 @@
-// What a literal spells (Go specification, Integer literals, Rune literals, String literals).
+//! What a literal spells (Go specification, Integer literals, Rune literals, String literals).
+
 ghost use Rattle.std.specs.Prelude.{◌≡◌, ◌<◌, ◌≤◌, ◌^◌, length, pos};
 ghost use Rattle.std.specs.Option.{SomeIff};
 ghost use Rattle.go_literals.specs.Literals.{IsLiteral};

@@ -1,4 +1,5 @@
-// Operators on constants (Go specification, Constant expressions).
+//! Operators on constants (Go specification, Constant expressions).
+
 ghost use Rattle.std.specs.Prelude.{◌≡◌, ◌++◌, true, IfOk};
 ghost use Rattle.const_eval.specs.declared.consts.Const.TheVariants.{Whole};
 ghost use Rattle.const_eval.specs.Conditions.{IsBinary, IsUnary, is_on_number, is_on_numbers, is_on_texts, is_on_truths};

@@ -1,4 +1,5 @@
-// Comparisons by the order of their operands (Go specification, Comparison operators).
+//! Comparisons by the order of their operands (Go specification, Comparison operators).
+
 ghost use Rattle.std.specs.Prelude.{◌≡◌};
 ghost use Rattle.const_eval.specs.Operators.{compared, is_comparison};
 

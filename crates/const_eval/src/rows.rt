@@ -1,6 +1,6 @@
-// Values of operators and conversions on numbers, computed by `math/big` of Go 1.19 and compared
-// with `go/constant` and `go/types` (which let the least number divided by -1 wrap at 64 bits). A
-// truth value stands as 1 or 0.
+//! Values of operators and conversions on numbers, computed by `math/big` of Go 1.19 and compared
+//! with `go/constant` and `go/types` (which let the least number divided by -1 wrap at 64 bits). A
+//! truth value stands as 1 or 0.
 
 use crate::ConstError::{BadShift, Overflow, Wide, ZeroDivisor};
 use crate::Kind::{

@@ -1,4 +1,5 @@
-// Shifts of whole numbers (Go specification, Operators, Integer operators).
+//! Shifts of whole numbers (Go specification, Operators, Integer operators).
+
 ghost use Rattle.std.specs.Prelude.{pos, Ok};
 ghost use Rattle.go_tree.specs.declared.operators.BinOp.TheVariants.{Shl, Shr};
 ghost use Rattle.const_eval.specs.Operators.{shifted};

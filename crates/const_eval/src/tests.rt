@@ -1,5 +1,4 @@
-// Operators and conversions at the limits of every kind, and what literals spell.
-ghost use Rattle.std.specs.Prelude.{◌≡◌};
+//! Operators and conversions at the limits of every kind, and what literals spell.
 
 use crate::rows::{Answer, BINARY, CONVERTED, UNARY};
 use crate::{Const, ConstError, Kind, binary, convert, literal, represent, unary};

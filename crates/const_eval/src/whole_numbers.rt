@@ -1,4 +1,5 @@
-// Arithmetic on whole numbers (Go specification, Arithmetic operators, Integer operators).
+//! Arithmetic on whole numbers (Go specification, Arithmetic operators, Integer operators).
+
 ghost use Rattle.std.specs.Prelude.{◌≡◌, true};
 ghost use Rattle.go_tree.specs.declared.operators.BinOp.TheVariants.{Div, Rem};
 ghost use Rattle.const_eval.specs.Conditions.{is_arithmetic};

@@ -1,4 +1,5 @@
-// The items whose marks hold, as good marks and as bad ones, and the marks that hold for nothing.
+//! The items whose marks hold, as good marks and as bad ones, and the marks that hold for nothing.
+
 ghost use Rattle.std.specs.Prelude.{◌≡◌, filter_map, map, IfOk};
 ghost use Rattle.directive_scan.specs.Marked.{mark_by, bad_by, bad_at};
 ghost use Rattle.directive_scan.specs.Tables.{line_numbers, flagged, unflagged};

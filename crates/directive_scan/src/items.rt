@@ -1,11 +1,12 @@
-// What of a file can be marked, and what can't.
+//! What of a file can be marked, and what can't.
+
 ghost use Rattle.std.specs.Prelude.{◌≡◌, ◌<◌, ◌^◌, ◌++◌, ◌∷◌, [], drop, map, length, None, IfOk};
 ghost use Rattle.std.specs.Option.{option_map, option_to_list};
 ghost use Rattle.go_tree.specs.Lists.{exprs_from, specs_from};
 ghost use Rattle.go_tree.specs.View.{expr_of, exprs_of, type_of, name_at_of, const_spec_of};
 ghost use Rattle.go_tree.specs.FileView.{type_spec_of, func_of, decl_of, file_of};
 ghost use Rattle.scope_names.specs.Means.{outermost};
-ghost use Rattle.directive_scan.specs.Items.{constant_verdict, names_items, member_starts, specs_items, func_item, type_item, types_items, decl_items, decls_items, items_of};
+ghost use Rattle.directive_scan.specs.Items.{constant_verdict, names_items, member_starts, specs_items, func_item, type_item, types_items, decl_items, items_of};
 
 use crate::constants::names_constant;
 use crate::mark_types::{BadReason, MarkKind, Verdict};
@@ -133,7 +134,8 @@ fn add_type(
     spec: &TypeSpec,
     items: &mut Vec<Item>,
 ) -> Result<(), NoMemory>
-    ensures { IfOk result (λ _. items.new.items ≡ items.old.items ++ type_item start grouped (type_spec_of spec.now) ∷ []) }
+    ensures { IfOk result (λ _. items.new.items
+        ≡ items.old.items ++ type_item start grouped (type_spec_of spec.now) ∷ []) }
 {
     let verdict = if spec.alias {
         Verdict::Good(MarkKind::Alias)

@@ -1,4 +1,5 @@
-// What holds of each line of a text.
+//! What holds of each line of a text.
+
 ghost use Rattle.std.specs.Prelude.{◌≡◌, ◌&&◌, ◌||◌, length, false, IfOk};
 ghost use Rattle.directive_scan.specs.Tables.{entry, led_list, leads_list, line_numbers};
 ghost use Rattle.directive_scan.specs.Lines.{line_of};

@@ -1,4 +1,5 @@
-// Marks: which declarations are marked, and which marks mean nothing.
+//! Marks: which declarations are marked, and which marks mean nothing.
+
 ghost use Rattle.std.specs.Prelude.{◌≡◌};
 
 use go_tree::{Name, Span};

@@ -1,5 +1,6 @@
-// Two lists of bad marks joined by place.
-ghost use Rattle.std.specs.Prelude.{◌≡◌, ◌+◌, ◌≤◌, ◌<◌, ◌^◌, drop, length, IfOk};
+//! Two lists of bad marks joined by place.
+
+ghost use Rattle.std.specs.Prelude.{◌≡◌, ◌+◌, ◌≤◌, ◌<◌, drop, length, IfOk};
 ghost use Rattle.directive_scan.specs.Marked.{first_comes, placed_in};
 
 use crate::mark_types::BadMark;

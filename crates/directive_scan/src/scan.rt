@@ -1,4 +1,5 @@
-// The marks of a file.
+//! The marks of a file.
+
 ghost use Rattle.std.specs.Prelude.{◌≡◌, ◌≤◌, ◌<◌, ◌+◌, ◌^◌, length, IfOk};
 ghost use Rattle.go_tree.specs.FileView.{file_of};
 ghost use Rattle.directive_scan.specs.Lines.{line_of};

@@ -1,5 +1,5 @@
 -- One more name of a chain.
-use Rattle.std.proofs.Common.{◌≡◌, ◌≢◌, ℕ, zero, suc, ◌-◌, List, [], ◌∷◌, ◌++◌, map, Option, Some, None, Result, Ok, Err, OnOk, IfOk, IfErr, Bool, true, false, if◌then◌else◌, ◌+◌, length, refl, sym, ap, ◌∙◌, arith, append_assoc, append-nil, length-append}
+use Rattle.std.proofs.Common.{◌≡◌, ◌≢◌, ℕ, zero, suc, ◌-◌, List, [], ◌∷◌, ◌++◌, map, Some, None, Result, Ok, Err, OnOk, IfOk, IfErr, true, false, if◌then◌else◌, ◌+◌, length, refl, sym, ap, ◌∙◌, arith, append_assoc, append-nil, length-append}
 use Rattle.fix_engine.specs.declared.outline.Constant.{Constant}
 use Rattle.fix_engine.specs.declared.run.Step.{Step}
 use Rattle.fix_engine.specs.Chain.{stands_for, replaced_names, last_name}

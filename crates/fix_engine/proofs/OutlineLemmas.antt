@@ -1,18 +1,17 @@
 -- The parts of the tree that an outline has are its constants and what it prints, with their places.
-use Rattle.std.proofs.Common.{◌≡◌, ◌≤◌, ◌+◌, ◌-◌, ℕ, suc, Bool, true, false, ◌&&◌, nat_le, nat_eq, List, [], ◌∷◌, ◌++◌, length, take, drop, reverse, codes, Option, Some, None, option_to_list, refl, sym, ap, ◌∙◌, arith, append_assoc, append-nil, length-append, le-leb}
+use Rattle.std.proofs.Common.{◌≡◌, ◌+◌, ◌-◌, ℕ, Bool, true, false, ◌&&◌, nat_le, nat_eq, List, [], ◌∷◌, ◌++◌, length, take, drop, reverse, codes, Some, option_to_list, refl, sym, ap, ◌∙◌, arith, append_assoc, append-nil, length-append, le-leb}
 use Rattle.std.proofs.Math.Seq.{take-append_seam, drop-append_seam}
 use Rattle.std.proofs.lemmas.List.{take-append-drop, reverse-append}
 use Rattle.std.specs.List.{ends_with}
 use Rattle.std.specs.Cmp.Lexicographic.{same_text, pointwise}
 use Rattle.fix_engine.proofs.Parts.{At, pass}
-use Rattle.go_tree.specs.declared.spans.Span.{Span}
 use Rattle.go_tree.specs.Tree as tree
 use Rattle.go_tree.specs.File as file
 use Rattle.go_outline.specs.Outline as outline
 use Rattle.fix_engine.specs.declared.outline.Operand.{Operand}
 use Rattle.fix_engine.specs.declared.outline.Constant.{Constant}
 use Rattle.fix_engine.specs.Located.{located, located_constant, located_constants, located_prints, constants_of, prints_of}
-use Rattle.fix_engine.specs.Read.{mark_line, is_marked_at, operand_of, one_operand, constant_in, constants_in, printed, all_printed, prints_in, valued}
+use Rattle.fix_engine.specs.Read.{mark_line, is_marked_at, operand_of, constant_in, constants_in, all_printed, prints_in, valued}
 
 pub operand_of-tree : (at : ℕ) (a : outline.Operand) → operand_of (outline.operand_tree at a) ≡ Some (located at a)
 operand_of-tree at (outline.named word) = refl

@@ -1,5 +1,5 @@
 -- What is planned for files, case by case.
-use Rattle.std.proofs.Common.{◌≡◌, ◌≢◌, ℕ, ◌+◌, Bool, true, false, ◌&&◌, if◌then◌else◌, bytes_eq, List, [], ◌∷◌, length, codes, Option, Some, None, Result, IfOk, IfErr, refl, sym, ap, ◌∙◌, subst, arith}
+use Rattle.std.proofs.Common.{◌≡◌, ℕ, ◌+◌, Bool, true, false, ◌&&◌, if◌then◌else◌, bytes_eq, List, [], ◌∷◌, length, codes, Option, Some, None, Result, IfOk, IfErr, refl, sym, ap, ◌∙◌, subst}
 use Rattle.go_outline.specs.Outline.{Outline, IsOutlineOf, text_of}
 use Rattle.go_outline.specs.Reading.{outline_of}
 use Rattle.go_outline.proofs.ReadingLemmas.{outline_of-sound, outline_of-complete}

@@ -1,8 +1,7 @@
 -- Reading the parts of a tree from lists that have one entry.
-use Rattle.std.proofs.Common.{◌≡◌, ◌≢◌, ℕ, Bool, List, [], ◌∷◌, map, length, Option, Some, None, is_some, true, false, refl, sym, ap, ◌∙◌, arith}
+use Rattle.std.proofs.Common.{◌≡◌, ℕ, Bool, List, [], ◌∷◌, map, length, Option, Some, None, is_some, true, false, refl, sym, ap, ◌∙◌}
 use Rattle.std.specs.Option.{option_map}
 use denote.Hole.Carrier
-use Rattle.go_tree.specs.declared.spans.Span.{Span}
 use Rattle.go_tree.specs.declared.exprs.Expr.TheBlock as e
 use Rattle.go_tree.specs.Tree as tree
 use Rattle.go_tree.specs.File.{values}
@@ -14,7 +13,7 @@ use Rattle.go_tree.specs.declared.stmts.ConstSpec.{ConstSpec}
 use Rattle.go_tree.specs.declared.stmts.ConstDecl.{ConstDecl, ConstDecl', out-ConstDecl}
 use Rattle.go_tree.specs.declared.stmts.ConstSpecList.{ConstSpecList'}
 use Rattle.fix_engine.specs.declared.outline.Operand.{Operand}
-use Rattle.fix_engine.specs.Read.{operand_of, one_operand, one_spec, one_name, constant_in, is_marked_at, specified, named_as, untyped, valued}
+use Rattle.fix_engine.specs.Read.{one_operand, one_spec, one_name, constant_in, is_marked_at, specified, named_as, untyped, valued}
 
 pub one_operand-more : (xs : List Expr) → (length xs ≡ 1 → ⊥) → one_operand (exprs_from (map expr_of xs)) ≡ None
 one_operand-more [] h = refl

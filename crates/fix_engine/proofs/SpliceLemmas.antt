@@ -1,16 +1,16 @@
 -- The old text with the edits of the run made is the text of the last outline.
-use Rattle.std.proofs.Common.{◌≡◌, ◌≤◌, ◌<◌, ◌+◌, ◌*◌, ◌^◌, ℕ, zero, suc, Bool, true, false, if◌then◌else◌, List, [], ◌∷◌, ◌++◌, length, take, drop, map, codes, Option, Some, None, refl, sym, ap, ◌∙◌, subst, arith, append_assoc, append-nil, length-append}
+use Rattle.std.proofs.Common.{◌≡◌, ◌≤◌, ◌<◌, ◌+◌, ◌*◌, ◌^◌, ℕ, zero, suc, Bool, true, false, if◌then◌else◌, List, [], ◌∷◌, ◌++◌, length, map, codes, Option, Some, None, refl, sym, ap, ◌∙◌, subst, arith, append_assoc, append-nil, length-append}
 use Rattle.go_outline.specs.Outline as outline
 use Rattle.fix_engine.specs.declared.outline.Operand.{Operand}
 use Rattle.fix_engine.specs.declared.outline.Constant.{Constant}
 use Rattle.fix_engine.specs.declared.run.Step.{Step}
 use Rattle.text_edits.specs.declared.edit.Edit.{Edit}
-use Rattle.fix_engine.specs.Located.{located, located_constant, located_constants, located_prints, constants_of, prints_of, plain, plain_constant, outline_of_parts}
-use Rattle.fix_engine.specs.Chain.{stands_for, replaced_names, last_name}
+use Rattle.fix_engine.specs.Located.{located, located_constant, located_constants, located_prints, constants_of, prints_of, plain, plain_constant}
+use Rattle.fix_engine.specs.Chain.{stands_for, replaced_names}
 use Rattle.std.specs.Prelude.{slice_range}
 use Rattle.text_edits.specs.Applied.{Ascend, replaced_from}
 use Rattle.fix_engine.specs.Report.{Within}
-use Rattle.fix_engine.specs.Settled.{step_at, edit_to, edit_if, last_after, last_if_replaced, names_replaced, settled, steps_of, edits_of, settle_value, settled_constants, constant_steps, constant_edits, settled_prints, print_steps, print_edits}
+use Rattle.fix_engine.specs.Settled.{step_at, edit_if, last_after, last_if_replaced, names_replaced, settled, steps_of, edits_of, settle_value, settled_constants, constant_steps, constant_edits, settled_prints, print_steps, print_edits}
 use Rattle.fix_engine.proofs.Parts.{At, pass, drop_at, end_at, slice_at, regrouped, moved}
 use Rattle.fix_engine.specs.Plan.{Module, marks, most, marks_of, last_constants, last_prints, last_outline, log, made, made_by, edits_in, ranges_in}
 use Rattle.text_edits.specs.Keeps.{Keeps}

@@ -1,16 +1,16 @@
 -- What the run makes of well-typed parts is well typed.
-use Rattle.std.proofs.Common.{◌≡◌, ℕ, zero, suc, ◌+◌, Bool, true, false, ◌&&◌, if◌then◌else◌, bytes_eq, List, [], ◌∷◌, ◌++◌, length, map, Option, Some, None, is_none, refl, sym, ap, ◌∙◌, subst, arith, append_assoc, append-nil}
+use Rattle.std.proofs.Common.{◌≡◌, ℕ, zero, suc, ◌+◌, Bool, true, false, ◌&&◌, if◌then◌else◌, bytes_eq, List, [], ◌∷◌, ◌++◌, length, map, Option, Some, None, is_none, refl, sym, ap, ◌∙◌, subst, append_assoc, append-nil}
 use Rattle.std.specs.Prelude.{⊤}
 use Rattle.go_outline.specs.Outline as outline
 use Rattle.fix_engine.specs.declared.outline.Operand.{Operand}
 use Rattle.fix_engine.specs.declared.outline.Constant.{Constant}
-use Rattle.fix_engine.specs.Located.{located, located_constant, located_constants, located_prints, constants_of, prints_of, plain, plain_constant}
+use Rattle.fix_engine.specs.Located.{located, located_constants, located_prints, constants_of, prints_of, plain, plain_constant}
 use Rattle.fix_engine.specs.Chain.{among, value_named, name_in, stands_for, last_name}
 use Rattle.fix_engine.specs.Settled.{settled, settle_value, settled_constants, settled_prints}
 use Rattle.std.specs.List.{list_all}
 use Rattle.go_outline.specs.Words.{is_name}
 use Rattle.go_meaning_laws.specs.Typing.{well_typed}
-use Rattle.fix_engine.specs.Plan.{Module, package_of, marks, most, last_constants, last_prints, last_outline}
+use Rattle.fix_engine.specs.Plan.{Module, package_of, marks, most, last_constants, last_outline}
 use Rattle.fix_engine.proofs.TypingLemmas.{has_name, names_valid, well_typed-names, well_typed-outline}
 use Rattle.fix_engine.proofs.SpliceLemmas.{length-located}
 use Rattle.fix_engine.specs.Typed.{ends_within, are_distinct, values_end, operands_end, are_typed}

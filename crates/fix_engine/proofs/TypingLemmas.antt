@@ -1,5 +1,5 @@
 -- The rules on the tree that an outline has, computed from its constants and what it prints.
-use Rattle.std.proofs.Common.{◌≡◌, ℕ, zero, suc, ◌+◌, Bool, true, false, not, ◌&&◌, ◌||◌, if◌then◌else◌, bytes_eq, List, [], ◌∷◌, ◌++◌, length, codes, Option, Some, None, is_some, is_none, IsTrue, refl, sym, ap, ◌∙◌, arith}
+use Rattle.std.proofs.Common.{◌≡◌, ℕ, zero, suc, ◌+◌, Bool, true, false, ◌&&◌, if◌then◌else◌, bytes_eq, List, [], ◌∷◌, ◌++◌, length, codes, Option, Some, None, is_some, is_none, IsTrue, refl, sym, ap, ◌∙◌, arith}
 use Rattle.std.proofs.Math.Bool.{and_assoc}
 use Rattle.std.specs.Option.{option_map}
 use Rattle.std.specs.List.{list_all}
@@ -9,13 +9,12 @@ use Rattle.go_tree.specs.Tree as tree
 use Rattle.go_tree.specs.File as file
 use Rattle.go_outline.specs.Words.{is_name, is_entry, is_predeclared, is_keyword, is_identifier}
 use Rattle.go_outline.specs.Outline as outline
-use Rattle.go_meaning_laws.specs.Package.{Package}
 use Rattle.go_meaning_laws.specs.Means.{Environment, Entity, constant, function, predeclared, universe, decls_then, means, expression_of, constant_meant}
 use Rattle.go_meaning_laws.specs.Constants.{value_within, has_value}
-use Rattle.go_meaning_laws.specs.Typing.{is_distinct, is_function, is_println, all_have_values, ok_stmts, ok_decl, well_typed}
+use Rattle.go_meaning_laws.specs.Typing.{is_distinct, is_function, is_println, ok_stmts, ok_decl, well_typed}
 use Rattle.fix_engine.specs.declared.outline.Operand.{Operand}
 use Rattle.fix_engine.specs.declared.outline.Constant.{Constant}
-use Rattle.fix_engine.specs.Located.{located, located_constant, located_constants, located_prints, constants_of, prints_of}
+use Rattle.fix_engine.specs.Located.{located, located_constants, located_prints, constants_of, prints_of}
 use Rattle.fix_engine.specs.Chain.{value_named}
 use Rattle.fix_engine.specs.Typed.{ends_within, are_distinct, values_end, operands_end, are_typed}
 use Rattle.fix_engine.specs.Plan.{package_of}

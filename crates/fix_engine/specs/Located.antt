@@ -5,7 +5,8 @@ use Rattle.fix_engine.specs.declared.outline.Operand.{Operand}
 use Rattle.fix_engine.specs.declared.outline.Constant.{Constant}
 
 abbrev pub located : ℕ → outline.Operand → Operand
-located at a = record { start = at; end = at + length (outline.spelling a); named = outline.is_named a; word = outline.spelling a }
+located at a =
+    record { start = at; end = at + length (outline.spelling a); named = outline.is_named a; word = outline.spelling a }
 
 abbrev pub located_constant : ℕ → outline.Constant → Constant
 located_constant at c = record { name = c.name; marked = c.marked; value = located (outline.value_at at c) c.value }

@@ -1,5 +1,5 @@
 -- The file `go.mod` (Go Modules Reference, go.mod files): a module line, an empty line and a go line.
-use Rattle.std.specs.Prelude.{◌≡◌, ℕ, ◌+◌, ◌-◌, ◌≤◌, Bool, true, false, not, ◌&&◌, ◌||◌, ◌==◌, nat_le, nat_lt, nat_eq, IsTrue, if◌then◌else◌, List, [], ◌∷◌, ◌++◌, length, slice_range, codes, Option, Some, None}
+use Rattle.std.specs.Prelude.{◌≡◌, ℕ, ◌+◌, ◌-◌, Bool, true, not, ◌&&◌, ◌||◌, ◌==◌, nat_le, nat_lt, nat_eq, IsTrue, if◌then◌else◌, List, [], ◌∷◌, ◌++◌, length, slice_range, codes, Option, Some, None}
 use Rattle.std.specs.List.{starts_with, ends_with}
 use Rattle.go_outline.specs.declared.found.TheConstants.{MAX_OUTLINE_BYTES}
 
@@ -33,5 +33,7 @@ middle text = slice_range text (length before_path) (length text - length after_
 -- the path of the module, where the text is such a file and not too long
 abbrev pub module_path : List ℕ → Option (List ℕ)
 module_path text =
-    if nat_le (length before_path + length after_path) (length text) && (nat_le (length text) MAX_OUTLINE_BYTES && (starts_with nat_eq text before_path && (ends_with nat_eq text after_path && is_path (middle text))))
+    if nat_le (length before_path + length after_path) (length text)
+    && (nat_le (length text) MAX_OUTLINE_BYTES
+    && (starts_with nat_eq text before_path && (ends_with nat_eq text after_path && is_path (middle text))))
     then Some (middle text) else None

@@ -1,5 +1,5 @@
 -- What is planned for a module, as a function of its files.
-use Rattle.std.specs.Prelude.{◌≡◌, ℕ, ◌+◌, ◌&&◌, if◌then◌else◌, bytes_eq, nat_eq, List, [], ◌∷◌, ◌++◌, length, map, Option, Some, None, codes}
+use Rattle.std.specs.Prelude.{ℕ, ◌+◌, ◌&&◌, if◌then◌else◌, bytes_eq, nat_eq, List, [], ◌∷◌, ◌++◌, length, map, Option, Some, None, codes}
 use Rattle.std.specs.List.{starts_with}
 use Rattle.go_tree.specs.declared.spans.Span.{Span}
 use Rattle.go_meaning_laws.specs.Package.{Package}
@@ -38,11 +38,13 @@ with_path (Some path) text = with_outline path text (outline_of text)
 
 -- The module of the files, where they are just these two and both are of the form that is built.
 abbrev pub module_of : List (List ℕ × List ℕ) → Option Module
-module_of (m ∷ f ∷ []) = if bytes_eq m.0 (codes "go.mod") && bytes_eq f.0 (codes "main.go") then with_path (module_path m.1) f.1 else None
+module_of (m ∷ f ∷ []) =
+    if bytes_eq m.0 (codes "go.mod") && bytes_eq f.0 (codes "main.go") then with_path (module_path m.1) f.1 else None
 module_of files = None
 
 abbrev pub package_of : List ℕ → Outline → Package Span
-package_of path o = record { path = path; name = codes "main"; files = record { path = codes "main.go"; tree = tree_of o } ∷ [] }
+package_of path o =
+    record { path = path; name = codes "main"; files = record { path = codes "main.go"; tree = tree_of o } ∷ [] }
 
 -- ---- its run
 
@@ -50,7 +52,8 @@ package_of path o = record { path = path; name = codes "main"; files = record { 
 abbrev pub marks_of : List ℕ → List ℕ → List Constant → List (List ℕ)
 marks_of path only [] = []
 marks_of path only (c ∷ cs) =
-    if c.marked && starts_with nat_eq (full_name path c.name) only then c.name ∷ marks_of path only cs else marks_of path only cs
+    if c.marked && starts_with nat_eq (full_name path c.name) only then c.name ∷ marks_of path only cs
+    else marks_of path only cs
 
 module _ (m : Module) (only : List ℕ) where
   abbrev pub marks : List (List ℕ)
@@ -70,18 +73,24 @@ module _ (m : Module) (only : List ℕ) where
   last_outline = outline_of_parts last_constants last_prints
 
   abbrev pub log : List Step
-  log = constant_steps marks most [] (constants_of m.outline) ++ print_steps marks most last_constants (prints_of m.outline)
+  log = constant_steps marks most [] (constants_of m.outline)
+      ++ print_steps marks most last_constants (prints_of m.outline)
 
   -- the edits of `main.go`: one for each operand that has a step
   abbrev pub edits_in : List Edit
-  edits_in = constant_edits marks most [] (constants_of m.outline) ++ print_edits marks most last_constants (prints_of m.outline)
+  edits_in = constant_edits marks most [] (constants_of m.outline)
+      ++ print_edits marks most last_constants (prints_of m.outline)
 
   abbrev pub ranges_in : List Span
   ranges_in = spans edits_in
 
   -- the last text of `main.go`, the report and the number of steps
   abbrev pub made : Made
-  made = record { text = text_of last_outline; report = lines_of (codes "main.go") m.text m.path log; inlined = length log }
+  made = record {
+    text = text_of last_outline;
+    report = lines_of (codes "main.go") m.text m.path log;
+    inlined = length log;
+  }
 
   -- what is made of a module that is well typed
   abbrev pub made_of : Option Made
@@ -89,7 +98,8 @@ module _ (m : Module) (only : List ℕ) where
 
 -- what steps and edits make of a text
 abbrev pub made_by : List ℕ → List ℕ → List Step → List Edit → Made
-made_by path text log edits = record { text = applied text edits; report = lines_of (codes "main.go") text path log; inlined = length log }
+made_by path text log edits =
+    record { text = applied text edits; report = lines_of (codes "main.go") text path log; inlined = length log }
 
 -- ---- the answer
 
@@ -111,7 +121,8 @@ abbrev pub plan_of_module : List (List ℕ × List ℕ) → List ℕ → Option 
 plan_of_module files only None = refused 100
 plan_of_module files only (Some m) = outcome_of files (made_of m only)
 
--- What is planned for files, given with their paths in ascending order, of the constants whose full names begin with `only`.
+-- What is planned for files, given with their paths in ascending order, of the constants whose full names begin with
+-- `only`.
 abbrev pub plan_of : List (List ℕ × List ℕ) → List ℕ → Outcome
 plan_of files only = plan_of_module files only (module_of files)
 
@@ -123,7 +134,8 @@ contents files = map (λ f. (f.path, f.bytes)) files
 
 -- those files whose bytes differ afterwards
 abbrev pub changed : List SourceFile → List (List ℕ × List ℕ) → List PlannedFile
-changed (f ∷ fs) (a ∷ as') = if bytes_eq f.bytes a.1 then changed fs as' else record { index = f.index; bytes = a.1 } ∷ changed fs as'
+changed (f ∷ fs) (a ∷ as') =
+    if bytes_eq f.bytes a.1 then changed fs as' else record { index = f.index; bytes = a.1 } ∷ changed fs as'
 changed fs after = []
 
 -- `main.go` with other bytes, where they differ

@@ -14,7 +14,9 @@ Within size (s ∷ ss) = (s.offset ≤ size) × Within size ss
 
 -- `PATH:LINE:COL` of an offset
 abbrev pub place_text : List ℕ → List ℕ → ℕ → List ℕ
-place_text file text offset = file ++ codes ":" ++ decimal (lines_before (take offset text) + 1) ++ codes ":" ++ decimal (column_after (take offset text) + 1)
+place_text file text offset =
+    file ++ codes ":" ++ decimal (lines_before (take offset text) + 1) ++ codes ":"
+    ++ decimal (column_after (take offset text) + 1)
 
 abbrev pub inlined_text : List ℕ → List ℕ → List ℕ
 inlined_text path name = codes ": inlined " ++ full_name path name ++ codes " as const\n"

@@ -1,4 +1,5 @@
--- The run over a file, operand by operand in the order of their ends: the values of the constants, then what is printed. Each is settled with the constants as they stand then.
+-- The run over a file, operand by operand in the order of their ends: the values of the constants, then what is
+-- printed. Each is settled with the constants as they stand then.
 use Rattle.std.specs.Prelude.{ℕ, if◌then◌else◌, List, [], ◌∷◌, ◌++◌, map, Option, Some, None}
 use Rattle.fix_engine.specs.declared.outline.Operand.{Operand}
 use Rattle.fix_engine.specs.declared.outline.Constant.{Constant}
@@ -60,11 +61,13 @@ module _ (marks : List (List ℕ)) (most : ℕ) where
 
   abbrev pub constant_steps : List Constant → List Constant → List Step
   constant_steps done [] = []
-  constant_steps done (c ∷ cs) = steps_of (done ++ c ∷ cs) c.value ++ constant_steps (done ++ settle_value done c cs ∷ []) cs
+  constant_steps done (c ∷ cs) =
+      steps_of (done ++ c ∷ cs) c.value ++ constant_steps (done ++ settle_value done c cs ∷ []) cs
 
   abbrev pub constant_edits : List Constant → List Constant → List Edit
   constant_edits done [] = []
-  constant_edits done (c ∷ cs) = edits_of (done ++ c ∷ cs) c.value ++ constant_edits (done ++ settle_value done c cs ∷ []) cs
+  constant_edits done (c ∷ cs) =
+      edits_of (done ++ c ∷ cs) c.value ++ constant_edits (done ++ settle_value done c cs ∷ []) cs
 
   abbrev pub settled_prints : List Constant → List Operand → List Operand
   settled_prints cs [] = []

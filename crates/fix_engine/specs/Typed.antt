@@ -1,6 +1,5 @@
 -- When the parts of a file are well typed: no name is declared twice, and each operand has a value.
-use Rattle.std.specs.Prelude.{ℕ, zero, suc, Bool, true, false, ◌&&◌, if◌then◌else◌, List, [], ◌∷◌, Option, Some, None, is_none}
-use Rattle.std.specs.List.{list_all}
+use Rattle.std.specs.Prelude.{ℕ, zero, suc, Bool, true, false, ◌&&◌, if◌then◌else◌, List, [], ◌∷◌, Some, None, is_none}
 use Rattle.fix_engine.specs.declared.outline.Operand.{Operand}
 use Rattle.fix_engine.specs.declared.outline.Constant.{Constant}
 use Rattle.fix_engine.specs.Chain.{value_named}
@@ -8,7 +7,8 @@ use Rattle.fix_engine.specs.Chain.{value_named}
 -- whether at most so many names lead to a number
 abbrev pub ends_within : List Constant → ℕ → Operand → Bool
 ends_within cs zero x = if x.named then false else true
-ends_within cs (suc n) x = if x.named then (elim (value_named cs x.word) [ None ↦ false | Some y ↦ ends_within cs n y ]) else true
+ends_within cs (suc n) x =
+    if x.named then (elim (value_named cs x.word) [ None ↦ false | Some y ↦ ends_within cs n y ]) else true
 
 abbrev pub are_distinct : List Constant → Bool
 are_distinct [] = true

@@ -1,4 +1,5 @@
-// Replaced ranges of a text.
+//! Replaced ranges of a text.
+
 ghost use Rattle.std.specs.Prelude.{◌≡◌, IfOk, length};
 ghost use Rattle.text_edits.specs.Applied.{Ascend, replaced_from};
 

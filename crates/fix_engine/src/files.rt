@@ -1,4 +1,4 @@
-// What the engine is given, and what it writes.
+//! What the engine is given, and what it writes.
 
 use go_tree::Text;
 

@@ -1,6 +1,7 @@
-// Constants by their names.
+//! Constants by their names.
+
 ghost use Rattle.std.specs.Prelude.{◌≡◌};
-ghost use Rattle.std.specs.Option.{option_copied, option_map};
+ghost use Rattle.std.specs.Option.{option_copied};
 ghost use Rattle.fix_engine.specs.Chain.{among, stands_for, value_named};
 
 use crate::outline::{Constant, Operand};

@@ -1,4 +1,5 @@
-// Which constants are marked.
+//! Which constants are marked.
+
 ghost use Rattle.std.specs.Prelude.{◌≡◌, IfOk};
 ghost use Rattle.fix_engine.specs.Plan.{marks_of};
 

@@ -1,4 +1,5 @@
-// The file `go.mod`: a module line, an empty line and a go line.
+//! The file `go.mod`: a module line, an empty line and a go line.
+
 ghost use Rattle.std.specs.Prelude.{◌≡◌};
 ghost use Rattle.std.specs.Option.{option_copied};
 ghost use Rattle.fix_engine.specs.ModuleFile.{is_path, is_path_byte, module_path};

@@ -1,4 +1,5 @@
-// The constants of a file and what its `main` prints, read off its tree.
+//! The constants of a file and what its `main` prints, read off its tree.
+
 ghost use Rattle.std.specs.Prelude.{◌≡◌, [], ◌++◌, ◌∷◌, Some, None, IfOk, OnOk, MatchOption, length};
 ghost use Rattle.go_tree.specs.View.{expr_of, exprs_of, stmt_of, stmts_of, const_decl_of};
 ghost use Rattle.go_tree.specs.FileView.{file_of};

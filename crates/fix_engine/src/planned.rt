@@ -1,4 +1,5 @@
-// What is planned: which files to replace, and the report.
+//! What is planned: which files to replace, and the report.
+
 ghost use Rattle.std.specs.Prelude.{◌≡◌};
 
 use crate::files::{PlannedFile, SourceFile};

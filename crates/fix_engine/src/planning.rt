@@ -1,4 +1,5 @@
-// The plan: which files to replace, and the report.
+//! The plan: which files to replace, and the report.
+
 ghost use Rattle.std.specs.Prelude.{◌≡◌, ◌&&◌, ◌^◌, ◌<◌, ◌≤◌, [], ◌∷◌, IfErr, IfOk, IsTrue, MatchOption, Some, bytes_eq, codes, length};
 ghost use Rattle.go_tree.specs.FileView.{file_of};
 ghost use Rattle.go_outline.specs.Outline.{IsOutlineOf, Outline, text_of, tree_of};
@@ -75,7 +76,8 @@ fn make(
     only: &[u8],
 ) -> Result<Made, NoMemory>
     requires { (o : Outline) × IsOutlineOf o text.now × (constants.old ≡ constants_of o) × (prints.now ≡ prints_of o) }
-    ensures { IfOk result (λ r. (o : Outline) → IsOutlineOf o text.now → made (record { path = path.now; text = text.now; outline = o }) only.now ≡ r) }
+    ensures { IfOk result (λ r. (o : Outline) → IsOutlineOf o text.now →
+        made (record { path = path.now; text = text.now; outline = o }) only.now ≡ r) }
 {
     let most = constants.len() + 2;
     let marks = marks_of(alloc, path, only, constants)?;
@@ -92,7 +94,8 @@ fn made_of_tree(
     only: &[u8],
 ) -> Result<Made, PlanFault>
     requires { (o : Outline) × IsOutlineOf o text.now × (file_of tree.now ≡ tree_of o) }
-    ensures made { IfOk result (λ r. (o : Outline) → IsOutlineOf o text.now → made_of (record { path = path.now; text = text.now; outline = o }) only.now ≡ Some r) }
+    ensures made { IfOk result (λ r. (o : Outline) → IsOutlineOf o text.now →
+        made_of (record { path = path.now; text = text.now; outline = o }) only.now ≡ Some r) }
     ensures refused { IfErr result (IsFaultOfText path.now text.now only.now) }
 {
     let Ok(parts) = parts_of(alloc, text, tree) else {
@@ -172,8 +175,11 @@ fn write_of(alloc: Global, main: &SourceFile, text: Text) -> Result<Vec<PlannedF
 pub fn plan(alloc: Global, files: Vec<SourceFile>, only: &str) -> Result<Plan, PlanFault>
     ensures planned { IfOk result (IsPlanOf files.items only.now) }
     ensures refused { IfErr result (IsFaultOf files.items only.now) }
-    ensures kept { (m : Module) → module_of (contents files.items) ≡ Some m → Keeps m.text (text_of (last_outline m only.now)) (ranges_in m only.now) }
-    ensures typed { (m : Module) → module_of (contents files.items) ≡ Some m → IsTrue (well_typed (package_of m.path m.outline)) → IsTrue (well_typed (package_of m.path (last_outline m only.now))) }
+    ensures kept { (m : Module) → module_of (contents files.items) ≡ Some m →
+        Keeps m.text (text_of (last_outline m only.now)) (ranges_in m only.now) }
+    ensures typed { (m : Module) → module_of (contents files.items) ≡ Some m →
+        IsTrue (well_typed (package_of m.path m.outline)) →
+        IsTrue (well_typed (package_of m.path (last_outline m only.now))) }
 {
     let Some((module, main)) = pair(&files) else {
         return Err(of_module(Detail::NotYet));

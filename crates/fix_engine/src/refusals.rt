@@ -1,4 +1,5 @@
-// Why no plan is made.
+//! Why no plan is made.
+
 ghost use Rattle.std.specs.Prelude.{◌≡◌};
 ghost use Rattle.fix_engine.specs.Refusals.{refusal_of};
 

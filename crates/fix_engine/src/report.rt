@@ -1,4 +1,5 @@
-// The lines of a report.
+//! The lines of a report.
+
 ghost use Rattle.std.specs.Prelude.{◌≡◌, ◌≤◌, ◌++◌, IfOk, OnOk, decimal, length};
 ghost use Rattle.fix_engine.specs.Report.{Within, full_name, inlined_text, lines_of, place_text};
 

@@ -1,5 +1,6 @@
-// The run: each use of a marked constant becomes what that constant is declared as.
-ghost use Rattle.std.specs.Prelude.{◌≡◌, [], ◌∷◌, ◌++◌, ◌<◌, IfOk, OnOk, drop, length, map, take};
+//! The run: each use of a marked constant becomes what that constant is declared as.
+
+ghost use Rattle.std.specs.Prelude.{◌≡◌, [], ◌++◌, ◌<◌, IfOk, OnOk, drop, length, map, take};
 ghost use Rattle.fix_engine.specs.Chain.{replaced_names, last_name};
 ghost use Rattle.fix_engine.specs.Settled.{constant_edits, constant_steps, edit_to, edits_next, last_if_replaced, print_edits, print_steps, settled_constants, settled_next, step_at, steps_next, steps_of};
 
@@ -27,7 +28,8 @@ fn follow<'a>(
     word: &'a [u8],
     log: &mut Vec<Step>,
 ) -> Result<&'a [u8], NoMemory>
-    ensures steps { OnOk result (log.new.items ≡ log.old.items ++ map (step_at offset) (replaced_names marks.now constants.now most word.now)) }
+    ensures steps { OnOk result (log.new.items
+        ≡ log.old.items ++ map (step_at offset) (replaced_names marks.now constants.now most word.now)) }
     ensures last { IfOk result (λ last. last.now ≡ last_name marks.now constants.now most word.now) }
 {
     if most == 0 {
@@ -97,9 +99,12 @@ fn settle_value(
     edits: &mut Vec<Edit>,
 ) -> Result<(), NoMemory>
     requires { k < length constants.old }
-    ensures value { OnOk result (constants.new ≡ settled_next marks.now most (take k constants.old) (drop k constants.old)) }
-    ensures steps { OnOk result (log.new.items ≡ log.old.items ++ steps_next marks.now most (take k constants.old) (drop k constants.old)) }
-    ensures edits { OnOk result (edits.new.items ≡ edits.old.items ++ edits_next marks.now most (take k constants.old) (drop k constants.old)) }
+    ensures value { OnOk result (constants.new
+        ≡ settled_next marks.now most (take k constants.old) (drop k constants.old)) }
+    ensures steps { OnOk result (log.new.items
+        ≡ log.old.items ++ steps_next marks.now most (take k constants.old) (drop k constants.old)) }
+    ensures edits { OnOk result (edits.new.items
+        ≡ edits.old.items ++ edits_next marks.now most (take k constants.old) (drop k constants.old)) }
 {
     let now = &constants[..];
     let last = settle(alloc, marks, now, most, &now[k].value, log)?;
@@ -141,7 +146,8 @@ fn settle_prints(
     edits: &mut Vec<Edit>,
 ) -> Result<(), NoMemory>
     ensures steps { OnOk result (log.new.items ≡ log.old.items ++ print_steps marks.now most constants.now prints.now) }
-    ensures edits { OnOk result (edits.new.items ≡ edits.old.items ++ print_edits marks.now most constants.now prints.now) }
+    ensures edits { OnOk result (edits.new.items
+        ≡ edits.old.items ++ print_edits marks.now most constants.now prints.now) }
 {
     for x in prints {
         if let Some(word) = settle(alloc, marks, constants, most, x, log)? {
@@ -167,8 +173,12 @@ pub fn run_over(
     constants: &mut [Constant],
     prints: &[Operand],
 ) -> Result<Run, NoMemory>
-    ensures log { IfOk result (λ r. r.log.items ≡ constant_steps marks.now most [] constants.old ++ print_steps marks.now most (settled_constants marks.now most [] constants.old) prints.now) }
-    ensures edits { IfOk result (λ r. r.edits.items ≡ constant_edits marks.now most [] constants.old ++ print_edits marks.now most (settled_constants marks.now most [] constants.old) prints.now) }
+    ensures log { IfOk result (λ r. r.log.items
+        ≡ constant_steps marks.now most [] constants.old
+        ++ print_steps marks.now most (settled_constants marks.now most [] constants.old) prints.now) }
+    ensures edits { IfOk result (λ r. r.edits.items
+        ≡ constant_edits marks.now most [] constants.old
+        ++ print_edits marks.now most (settled_constants marks.now most [] constants.old) prints.now) }
 {
     let mut log = Vec::new(alloc);
     let mut edits = Vec::new(alloc);

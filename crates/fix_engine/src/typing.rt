@@ -1,5 +1,6 @@
-// Whether constants and what is printed are well typed.
-ghost use Rattle.std.specs.Prelude.{◌≡◌, ◌-◌, ℕ};
+//! Whether constants and what is printed are well typed.
+
+ghost use Rattle.std.specs.Prelude.{◌≡◌, ◌-◌};
 ghost use Rattle.fix_engine.specs.Typed.{are_distinct, are_typed, ends_within, operands_end, values_end};
 
 use crate::lookup::value_named;

@@ -25,4 +25,5 @@ with_bytes files i bytes = slice_set files i (record { path = (slice_index_or fi
 
 -- Each path is below the next, by its bytes.
 abbrev pub IsAscending : List (List ℕ) → Type 0
-IsAscending names = (k : ℕ) → k + 1 < length names → slice_cmp nat_cmp (slice_index_or names k []) (slice_index_or names (k + 1) []) ≡ Less
+IsAscending names = (k : ℕ) → k + 1 < length names →
+    slice_cmp nat_cmp (slice_index_or names k []) (slice_index_or names (k + 1) []) ≡ Less

@@ -1,5 +1,6 @@
-// The numbered calls of an implementation in memory, some of which are to fail.
-ghost use Rattle.std.specs.Prelude.{◌≡◌, ◌↔◌, ◌⊎◌, ℕ, Contains, IsTrue, if◌then◌else◌};
+//! The numbered calls of an implementation in memory, some of which are to fail.
+
+ghost use Rattle.std.specs.Prelude.{◌≡◌, ◌↔◌, ◌⊎◌, Contains, IsTrue, if◌then◌else◌};
 ghost use Rattle.fix_io.specs.Causes.{one_more};
 
 /// The number of the next call, the numbers of those that fail, and how many have failed.

@@ -1,4 +1,5 @@
-// A file that a walk found.
+//! A file that a walk found.
+
 ghost use Rattle.std.specs.Prelude.{◌≡◌, ◌++◌, codes, IfOk, string_bytes};
 
 use std::alloc::{AllocError, Global};

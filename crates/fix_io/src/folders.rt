@@ -1,4 +1,5 @@
-// Folders that a walk of a module doesn't enter.
+//! Folders that a walk of a module doesn't enter.
+
 ghost use Rattle.std.specs.Prelude.{◌↔◌, IsTrue};
 ghost use Rattle.fix_io.specs.Folders.{IsSkipped};
 

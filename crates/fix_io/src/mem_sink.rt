@@ -1,5 +1,6 @@
-// A sink in memory, whose writes fail as they are told to.
-ghost use Rattle.std.specs.Prelude.{◌≡◌, ◌⊎◌, ◌↔◌, ℕ, ◌+◌, ◌-◌, ◌<◌, ◌≤◌, List, [], ◌++◌, length, min, take, Contains, IfOk, OnErr, IsErr, Some, vec_len};
+//! A sink in memory, whose writes fail as they are told to.
+
+ghost use Rattle.std.specs.Prelude.{◌≡◌, ◌⊎◌, ◌↔◌, ◌+◌, ◌-◌, ◌<◌, ◌≤◌, [], ◌++◌, length, min, take, Contains, IfOk, OnErr, IsErr, Some, vec_len};
 ghost use Rattle.std.specs.Vec.{vec_capacity};
 ghost use Rattle.fix_io.specs.Causes.{HasPlainCause, one_more, plain_counted};
 
@@ -20,13 +21,20 @@ pub struct MemSink {
 }
 
 impl Model for MemSink {
-    ghost use Rattle.std.specs.Prelude.{ℕ, ◌≤◌, length};
+    ghost use Rattle.std.specs.Prelude.{◌≤◌, length};
     ghost use Rattle.std.specs.Vec.{vec_capacity};
     ghost use Rattle.fix_io.specs.MemSink.{SinkState};
 
     ghost Value = { SinkState };
 
-    ghost view = { λ s. record { bytes = s.bytes.items; room = s.room; piece = s.piece; next = s.calls.next; fails = s.calls.fails.items; faults = s.calls.faults } };
+    ghost view = { λ s. record {
+      bytes = s.bytes.items;
+      room = s.room;
+      piece = s.piece;
+      next = s.calls.next;
+      fails = s.calls.fails.items;
+      faults = s.calls.faults;
+    } };
 
     ghost invariant = { λ s. (1 ≤ s.piece) × (s.room ≤ vec_capacity s.bytes) × (length s.bytes.items ≤ s.room) };
 }
@@ -75,11 +83,14 @@ impl Sink for MemSink {
         ensures cause { HasPlainCause self.old.faults self.new.faults result }
 
         // It fails exactly where no room is left or its number is one of those, and else takes what it can.
-        ensures fails { IsErr result ↔ ((length self.old.bytes ≡ self.old.room) ⊎ Contains self.old.fails self.old.next) }
-        ensures takes { IfOk result (λ n. n ≡ min (min (length bytes.now) self.old.piece) (self.old.room - length self.old.bytes)) }
+        ensures fails { IsErr result
+            ↔ ((length self.old.bytes ≡ self.old.room) ⊎ Contains self.old.fails self.old.next) }
+        ensures takes { IfOk result (λ n. n
+            ≡ min (min (length bytes.now) self.old.piece) (self.old.room - length self.old.bytes)) }
         ensures counted { self.new.faults ≡ plain_counted self.old.faults result }
         ensures next { self.new.next ≡ one_more self.old.next }
-        ensures stays { (self.new.room ≡ self.old.room) × (self.new.piece ≡ self.old.piece) × (self.new.fails ≡ self.old.fails) }
+        ensures stays { (self.new.room ≡ self.old.room) × (self.new.piece ≡ self.old.piece)
+            × (self.new.fails ≡ self.old.fails) }
     {
         let left = self.room - self.bytes.len();
         if self.calls.next_fails(left == 0) {

@@ -1,5 +1,6 @@
-// A tree in memory, whose calls fail as they are told to.
-ghost use Rattle.std.specs.Prelude.{◌≡◌, ◌⊎◌, ◌↔◌, ℕ, ◌<◌, ◌≤◌, ◌^◌, List, [], length, take, Contains, IfOk, OnOk, OnErr, IsErr, IsErrOf, IsOkUnless, vec_len, Some, None, Option, false};
+//! A tree in memory, whose calls fail as they are told to.
+
+ghost use Rattle.std.specs.Prelude.{◌≡◌, ◌⊎◌, ◌↔◌, ◌<◌, ◌≤◌, ◌^◌, List, [], length, take, Contains, IfOk, OnOk, OnErr, IsErr, IsErrOf, IsOkUnless, vec_len, Some, None, Option, false};
 ghost use Rattle.std.specs.Bool.{MatchBool};
 ghost use Rattle.std.specs.List.Sorted.{IsPermutation};
 ghost use Rattle.fix_io.specs.declared.tree.Call.{Call};
@@ -25,15 +26,24 @@ pub struct MemTree {
 }
 
 impl Model for MemTree {
-    ghost use Rattle.std.specs.Prelude.{ℕ, ◌<◌, ◌^◌, length};
+    ghost use Rattle.std.specs.Prelude.{◌<◌, ◌^◌, length};
     ghost use Rattle.fix_io.specs.MemTree.{MemState, held_files, HaveRoom};
     ghost use Rattle.fix_io.specs.Files.{IsAscending, paths};
 
     ghost Value = { MemState };
 
-    ghost view = { λ t. record { files = held_files t.files.items; listed = t.listed; room = t.room; next = t.calls.next; fails = t.calls.fails.items; faults = t.calls.faults; failed = t.failed } };
+    ghost view = { λ t. record {
+      files = held_files t.files.items;
+      listed = t.listed;
+      room = t.room;
+      next = t.calls.next;
+      fails = t.calls.fails.items;
+      faults = t.calls.faults;
+      failed = t.failed;
+    } };
 
-    ghost invariant = { λ t. IsAscending (paths (held_files t.files.items)) × HaveRoom t.room t.files.items × (length t.files.items < 2 ^ 32) };
+    ghost invariant = { λ t. IsAscending (paths (held_files t.files.items)) × HaveRoom t.room t.files.items
+        × (length t.files.items < 2 ^ 32) };
 }
 
 impl MemTree {

@@ -1,4 +1,5 @@
-// Standard output.
+//! Standard output.
+
 ghost use Rattle.std.specs.Prelude.{◌≡◌, ℕ, None};
 
 use crate::sink::Sink;

@@ -1,4 +1,5 @@
-// The working directory.
+//! The working directory.
+
 ghost use Rattle.std.specs.Prelude.{◌≡◌, ◌<◌, ◌≤◌, ◌^◌, [], IfOk, None, vec_len, Some};
 ghost use Rattle.fix_io.specs.Causes.{one_more};
 
@@ -27,7 +28,7 @@ pub struct RealTree<'a, R: Files + AllocGlobal> {
 }
 
 impl<'a, R: Files + AllocGlobal> Model for RealTree<'a, R> {
-    ghost use Rattle.std.specs.Prelude.{ℕ, ◌<◌, ◌^◌, vec_len};
+    ghost use Rattle.std.specs.Prelude.{◌<◌, ◌^◌, vec_len};
     ghost use Rattle.fix_io.specs.Entries.{entry_paths};
     ghost use Rattle.fix_io.specs.RealTree.{RealState};
 

@@ -1,4 +1,5 @@
-// A sink for bytes.
+//! A sink for bytes.
+
 ghost use Rattle.std.specs.Prelude.{◌≡◌, ℕ, ◌<◌, ◌≤◌, List, length, take, IfOk, OnOk, OnErr, Option};
 ghost use Rattle.fix_io.specs.Causes.{HasPlainCause};
 ghost use Rattle.fix_io.specs.Contents.{appended, IsPartOut};

@@ -1,4 +1,5 @@
-// A tree of files.
+//! A tree of files.
+
 ghost use Rattle.std.specs.Prelude.{◌≡◌, ℕ, ◌<◌, ◌≤◌, List, [], length, take, slice_index_or, IfOk, OnOk, OnErr, IfSome, vec_len};
 ghost use Rattle.std.specs.declared.option.Option.{Option};
 ghost use Rattle.std.specs.Option.{option_map};
@@ -63,7 +64,8 @@ pub trait Tree {
     fn read(&mut self, alloc: Global, i: u32, max: u32) -> Result<Vec<u8>, TreeFault>
         requires { i < length (listed self.old) }
         ensures bound { IfOk result (λ bytes. vec_len bytes ≤ max) }
-        ensures bytes { IfOk result (λ bytes. IfSome (held self.old) (λ files. bytes.items ≡ take max (bytes_at files i))) }
+        ensures bytes { IfOk result (λ bytes.
+            IfSome (held self.old) (λ files. bytes.items ≡ take max (bytes_at files i))) }
         ensures same { held self.new ≡ held self.old }
         ensures paths { listed self.new ≡ listed self.old }
         ensures cause { HasCause (faults self.old) (faults self.new) result }

@@ -1,4 +1,5 @@
-// The files below the working directory.
+//! The files below the working directory.
+
 ghost use Rattle.std.specs.Prelude.{◌≡◌, ◌≤◌, IfOk, string_bytes, vec_len, ⊤};
 ghost use Rattle.std.specs.Bool.{MatchBool};
 ghost use Rattle.fix_io.specs.Entries.{entry_paths, joined};

@@ -1,5 +1,5 @@
 -- A call and the called literal of what is written for the function: one operand, wherever the call stands.
-use Rattle.std.specs.Prelude.{◌≡◌, refl, ℕ, Bool, true, false, not, ◌&&◌, ◌||◌, List, [], ◌∷◌, ◌++◌, Option, Some, None, if◌then◌else◌}
+use Rattle.std.specs.Prelude.{◌≡◌, refl, ℕ, true, false, ◌&&◌, ◌||◌, List, [], ◌∷◌, Option, Some, None}
 use mathlib.Core.Path.{ap, sym, ◌∙◌}
 use Rattle.std.proofs.Common.{arith}
 use Rattle.go_tree.specs.declared.exprs.Rest.{Rest}
@@ -10,7 +10,7 @@ use Rattle.go_types.specs.Types.{pointer_to, slice_of, map_of, struct_of, FuncTy
 use Rattle.go_types.specs.Defined.{has_keys}
 use Rattle.go_types.specs.Entities.{Entity, builtin, Env, meaning, defined_in, Binds, extend, in_block}
 use Rattle.go_types.specs.TypeNames.{resolved, resolved_fields, field_before, params_meant, func_type}
-use Rattle.go_types.specs.Operands.{Operand, a_function, named_operand}
+use Rattle.go_types.specs.Operands.{a_function, named_operand}
 use Rattle.go_types.specs.Primary.{call_of, stands_alone, may_be_deferred}
 use Rattle.go_types.specs.Statements.{means_panic, body_binds, body_ctx, is_panic}
 use Rattle.go_types.specs.Typing.{is_body, parts, all_parts, used, used_left, stmts, is_call}

@@ -17,7 +17,7 @@ use Rattle.go_types.proofs.IdenticalLaws.{identical_self}
 use Rattle.go_types.specs.Defined.{Defined, under}
 use Rattle.go_types.specs.Relations.{assignable, has_nil}
 use Rattle.go_types.specs.Entities.{Builtin, Panic, Print, Println, Content, run, exact, Env, defined_in}
-use Rattle.go_types.specs.Operands.{all_typed, settled, Operand, value, several, a_type, a_function, a_builtin, recovered, Typed, typed, represented, fits, takes, takes_all, spread, results_operand, kind_of}
+use Rattle.go_types.specs.Operands.{all_typed, settled, Operand, value, several, a_function, a_builtin, Typed, typed, represented, fits, takes, takes_all, spread, results_operand, kind_of}
 use Rattle.go_types.specs.Operators.{common_type, joins, arithmetic, calculated_operand, divides_by_zero, truth_operand, logic, compared_at, joins_comparison, comparison_applies, comparison, binary_of}
 use Rattle.go_types.specs.Operands.{kind_passes}
 use Rattle.go_types.specs.Primary.{call_of, is_printed, print_call, panic_call}

@@ -5,7 +5,7 @@ use Rattle.std.specs.Prelude.{◌≡◌, refl, ℕ, true, false, List, [], ◌�
 use Rattle.std.proofs.Common.{arith}
 use Rattle.go_tree.specs.declared.operators.BinOp.TheVariants.{Add, Sub, Mul, Lt, Gt}
 use Rattle.go_tree.specs.declared.operators.UnOp.TheVariants.{Address, Minus}
-use Rattle.go_tree.specs.Tree.{NameAt, Sig, Expr, Stmt, Stmts, no_expr, some_expr, no_value, some_value, plain, no_stmt, some_stmt, nothing, assigns, defines}
+use Rattle.go_tree.specs.Tree.{Sig, Expr, Stmt, Stmts, no_expr, some_expr, no_value, some_value, plain, no_stmt, some_stmt, nothing, assigns, defines}
 use Rattle.const_eval.specs.declared.kinds.Kind.TheVariants as kind
 use Rattle.const_eval.specs.declared.consts.Const.TheVariants.{Whole}
 use Rattle.scope_names.specs.Means.{Environment}

@@ -10,7 +10,7 @@ use Rattle.go_types.specs.Answers.{given, meets, distinct_by, is_among, without}
 use Rattle.go_types.specs.Types.{GoType, FuncType}
 use Rattle.go_types.specs.Defined.{under}
 use Rattle.go_types.specs.Entities.{variable, refused, Entity, Env, defined_in, Binds, extend, in_block}
-use Rattle.go_types.specs.TypeNames.{type_meant, func_type}
+use Rattle.go_types.specs.TypeNames.{func_type}
 use Rattle.go_types.specs.Literals.{is_struct, key_type, inner_type}
 use Rattle.go_types.specs.Statements.{bound_names, body_binds, bind_each, param_binding, param_binds}
 use Rattle.go_types.specs.Typing.{beyond, binds_or, binds_of, new_variables, right_values, used, used_all, used_option, used_elems, used_key, used_value, used_left, used_stmt, used_stmts, used_first, used_block, used_range, used_arms, used_cases, used_variables}

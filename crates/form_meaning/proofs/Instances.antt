@@ -18,7 +18,7 @@ use Rattle.go_kernel.specs.Kernel.{FuncName, Program, Call, Let, Alone, code, Re
 use Rattle.go_translation.specs.Here.{in_frame, Here}
 use Rattle.go_translation.specs.Packages.{Package, sources, paths_in, codes_of, program_of}
 use Rattle.go_translation.specs.Calls.{function_named}
-use Rattle.go_translation.specs.Translation.{expr_term, callee}
+use Rattle.go_translation.specs.Translation.{expr_term}
 use Rattle.form_in_place.specs.Written.{Written, w_leaf, w_local, w_func_lit, s_assign, s_return, w_binary, all_and, all_none, body_and, body_none}
 use Rattle.form_in_place.specs.Leaves.{member, param_and, no_params}
 use Rattle.form_in_place.proofs.TypesInPlace.{type_kept}

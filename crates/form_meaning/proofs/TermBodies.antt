@@ -12,7 +12,7 @@ use Rattle.go_types.specs.Entities.{Entity, variable, Env, Binds, in_block}
 use Rattle.go_types.specs.TypeNames.{func_type, params_meant, type_meant}
 use Rattle.go_types.specs.Statements.{bound_names, body_binds, param_binding, param_binds}
 use Rattle.go_types.proofs.Agreeing.{Bound, binds, later, literal_cover}
-use Rattle.go_kernel.specs.Kernel.{Name, Slot, Term, Func, named_result}
+use Rattle.go_kernel.specs.Kernel.{Name, named_result}
 use Rattle.form_in_place.specs.Places.{Landing}
 use Rattle.form_in_place.specs.Leaves.{WrittenParams, no_params, param_and}
 use Rattle.form_in_place.proofs.Uses.{among_append, among_left}

@@ -1,14 +1,14 @@
 -- What is written for a name does what the name does.
-use Rattle.std.specs.Prelude.{◌≡◌, refl, ℕ, Bool, true, false, not, List, [], ◌∷◌, ◌++◌, Option, Some, None, if◌then◌else◌, bytes_eq}
+use Rattle.std.specs.Prelude.{◌≡◌, refl, ℕ, Bool, true, false, List, Option, Some, None, if◌then◌else◌}
 use mathlib.Core.Path.{ap, sym, ◌∙◌}
 use Rattle.std.proofs.Common.{arith}
 use Rattle.go_tree.specs.Tree.{Expr, ident}
 use Rattle.scope_names.specs.Means.{Environment, means, is_blank}
 use Rattle.go_types.specs.Answers.{given, is_among}
 use Rattle.go_types.specs.Types.{GoType}
-use Rattle.go_types.specs.Entities.{Entity, variable, constant, stand_in, type_name, function, package_name, builtin, nil_name, iota_name, refused, Env, meaning, exported, package_of, defined_in}
-use Rattle.go_types.specs.Operands.{Operand, a_function, named_operand}
-use Rattle.go_kernel.specs.Kernel.{Name, ImportPath, Term}
+use Rattle.go_types.specs.Entities.{Entity, variable, stand_in, function, iota_name, Env, meaning, exported}
+use Rattle.go_types.specs.Operands.{a_function, named_operand}
+use Rattle.go_kernel.specs.Kernel.{ImportPath, Term}
 use Rattle.form_in_place.specs.Places.{at_place, Landing, SameName, has_home, means_function}
 use Rattle.form_in_place.specs.Leaves.{Leaf, member, imported, own, argument}
 use Rattle.form_in_place.proofs.Leaves.{only_exported, exported_no_blank}

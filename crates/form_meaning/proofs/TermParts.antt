@@ -5,7 +5,7 @@ use Rattle.std.proofs.Common.{arith}
 use Rattle.go_tree.specs.Tree.{Expr, Exprs, ExprOption, Value, ValueOption, no_value, some_value, RangeLeft}
 use Rattle.scope_names.specs.Means.{Environment, means, is_blank}
 use Rattle.go_types.specs.Answers.{given, meets}
-use Rattle.go_types.specs.Types.{GoType, GoFields, no_go_fields, go_field, fields_of, is_untyped, map_parts}
+use Rattle.go_types.specs.Types.{GoType, GoFields, no_go_fields, go_field, fields_of, is_untyped}
 use Rattle.go_types.specs.Defined.{Defined}
 use Rattle.go_types.specs.Entities.{Content, Entity, Env, meaning, defined_in, is_declared_here}
 use Rattle.go_types.specs.Operands.{Operand, value, Typed}
@@ -13,12 +13,12 @@ use Rattle.go_types.specs.Primary.{fields_in}
 use Rattle.go_types.specs.Literals.{is_struct, field_key, key_type}
 use Rattle.go_types.specs.Typing.{right_values}
 use Rattle.go_kernel.specs.Kernel.{Term, Local, temporary, Let}
-use Rattle.form_in_place.specs.Places.{at_place, Landing, AllSame, SeenFields, SeenIn, SelectorAlike, KeysSeen, KeysIn}
+use Rattle.form_in_place.specs.Places.{at_place, Landing, AllSame, SeenFields, SeenIn, SelectorAlike}
 use Rattle.form_in_place.specs.Written.{Written, WrittenAll, all_none, all_and, WrittenOption, option_none, option_some, WrittenKey, key_none, key_field, key_some, WrittenValue, value_plain, value_braced, WrittenLeft, left_none, left_assigns, left_defines}
 use Rattle.form_in_place.proofs.Shapes.{blank_there}
 use Rattle.form_in_place.proofs.InPlace.{parts_there, all_there, places_there, here_same}
 use Rattle.go_translation.specs.Values.{path_of, typed_of, nothing}
-use Rattle.go_translation.specs.Here.{Location, Here, defined_here, location}
+use Rattle.go_translation.specs.Here.{Location, Here}
 use Rattle.go_translation.specs.Places.{store_at}
 use Rattle.go_translation.specs.Operators.{no_type, own_type, first_type, other_types, settled_option}
 use Rattle.go_translation.specs.Calls.{field_number, fields_or_none, selected_field, constant_place, keyed_term}

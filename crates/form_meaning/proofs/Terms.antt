@@ -18,7 +18,7 @@ use Rattle.go_types.specs.Literals.{key_type, inner_type, literal_type, is_struc
 use Rattle.go_types.specs.Statements.{body_binds, bound_names, no_values}
 use Rattle.go_types.specs.Typing.{parts, all_parts, places, declares, binds_of, new_variables, right_values, step_op}
 use Rattle.go_types.proofs.Agreeing.{declares_cover, of_covers}
-use Rattle.go_kernel.specs.Kernel.{Name, Label, Kind, Truth, Slot, Checked, Load, MapGet, MapTry, Slicing, Alloc, Compare, Equal, Func, in_cells, temporary, break_label, Term, Vals, Local, Both, Prim, If, Let, Leave, Catch, Field, Op}
+use Rattle.go_kernel.specs.Kernel.{Name, Truth, Checked, Load, MapGet, MapTry, Slicing, Alloc, Compare, Equal, in_cells, temporary, break_label, Term, Vals, Local, Both, Prim, If, Let, Leave, Catch, Field}
 use Rattle.form_in_place.specs.Places.{at_place, Landing, KeysIn, results_in}
 use Rattle.form_in_place.specs.Leaves.{member, imported, own, argument, WrittenType, WrittenParams}
 use Rattle.form_in_place.specs.Bound.{inner_under, stmt_binds, first_binds, range_left_binds, literal_binds, variable_binds, literal_under}
@@ -27,7 +27,7 @@ use Rattle.form_in_place.proofs.Uses.{among_left, among_append}
 use Rattle.form_in_place.proofs.Conversions.{bare_puts}
 use Rattle.form_in_place.proofs.Shapes.{package_there, declared_alike, first_declared_alike, defined_alike, values_alike, breakable_alike}
 use Rattle.form_in_place.proofs.InPlace.{type_there, type_option_there, literal_binds_are, func_type_there, body_binds_there, parts_there, all_there, place_there, places_there, declares_there, declares_first_there, range_declares_there}
-use Rattle.go_translation.specs.Values.{path_of, zero_of, typed_of, one_value, as_value}
+use Rattle.go_translation.specs.Values.{path_of, zero_of, one_value, as_value}
 use Rattle.go_translation.specs.Values as v
 use Rattle.go_translation.specs.Mentions.{Mention, Read, mentions, mentions_option, mentions_first, mentions_stmts, mentions_block, mentions_arms, mentions_cases, mentions_specs, any_mention, is_held}
 use Rattle.go_translation.specs.Here.{Location, Here, defined_here, in_inner, located, declaring, new_cells, name_options, BodyNames, param_locals, result_locals, slots_at, at_body, function_of, param_slots, result_slots, cells_in}

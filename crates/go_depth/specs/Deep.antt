@@ -26,16 +26,22 @@ abbrev pub elem_deep : Elem → ℕ
 elem_deep e = max (depth_value_option (held_value_option_of e.key)) (depth_value (value_of e.value)) + 1
 
 abbrev pub arm_deep : Arm → ℕ
-arm_deep a = max (depth_stmt_option (boxed_stmt_option_of a.first)) (max (depth_expr (expr_of a.test)) (depth_stmts (stmts_of a.body.stmts) + 1)) + 1
+arm_deep a =
+    max (depth_stmt_option (boxed_stmt_option_of a.first))
+    (max (depth_expr (expr_of a.test)) (depth_stmts (stmts_of a.body.stmts) + 1)) + 1
 
 abbrev pub case_deep : Case → ℕ
 case_deep c = max (depth_exprs (exprs_of c.values)) (depth_stmts (stmts_of c.body)) + 1
 
 abbrev pub const_spec_deep : ConstSpec → ℕ
-const_spec_deep c = max (depth_names (map name_at_of c.names)) (max (depth_type_option (option_map type_of c.of)) (depth_exprs (exprs_of c.values))) + 1
+const_spec_deep c =
+    max (depth_names (map name_at_of c.names))
+    (max (depth_type_option (option_map type_of c.of)) (depth_exprs (exprs_of c.values))) + 1
 
 abbrev pub var_spec_deep : VarSpec → ℕ
-var_spec_deep c = max (depth_names (map name_at_of c.names)) (max (depth_type_option (option_map type_of c.of)) (depth_exprs (exprs_of c.values))) + 1
+var_spec_deep c =
+    max (depth_names (map name_at_of c.names))
+    (max (depth_type_option (option_map type_of c.of)) (depth_exprs (exprs_of c.values))) + 1
 
 abbrev pub param_deep : Param → ℕ
 param_deep p = depth_param (param_of p)

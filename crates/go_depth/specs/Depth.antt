@@ -95,7 +95,8 @@ module _ {S : Type 0} where
     depth_stmt (continue_ _ b) = (depth_name_option b) + 1
     depth_stmt (inner _ b) = depth_stmts b + 1
     depth_stmt (if_ _ b c) = (max (depth_arms b) (depth_block_option c)) + 1
-    depth_stmt (for_ _ b c d _ f) = max (depth_stmt_option b) (max (depth_expr_option c) (max (depth_stmt_option d) (depth_stmts f + 1))) + 1
+    depth_stmt (for_ _ b c d _ f) =
+        max (depth_stmt_option b) (max (depth_expr_option c) (max (depth_stmt_option d) (depth_stmts f + 1))) + 1
     depth_stmt (range_ _ b c _ e) = max (depth_range_left b) (max (depth_expr c) (depth_stmts e + 1)) + 1
     depth_stmt (switch _ b c d) = (max (depth_stmt_option b) (max (depth_expr_option c) (depth_cases d))) + 1
     depth_stmt (defer _ b) = (depth_expr b) + 1
@@ -120,7 +121,8 @@ module _ {S : Type 0} where
 
     pub depth_arms : Arms S → ℕ
     depth_arms no_arms = 0
-    depth_arms (arm _ b c _ e f) = max (max (depth_stmt_option b) (max (depth_expr c) (depth_stmts e + 1)) + 1) (depth_arms f)
+    depth_arms (arm _ b c _ e f) =
+        max (max (depth_stmt_option b) (max (depth_expr c) (depth_stmts e + 1)) + 1) (depth_arms f)
 
     pub depth_cases : Cases S → ℕ
     depth_cases no_cases = 0
@@ -128,4 +130,5 @@ module _ {S : Type 0} where
 
     pub depth_value_specs : ValueSpecs S → ℕ
     depth_value_specs no_specs = 0
-    depth_value_specs (spec _ b c d e) = max (max (depth_names b) (max (depth_type_option c) (depth_exprs d)) + 1) (depth_value_specs e)
+    depth_value_specs (spec _ b c d e) =
+        max (max (depth_names b) (max (depth_type_option c) (depth_exprs d)) + 1) (depth_value_specs e)

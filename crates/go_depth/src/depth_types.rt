@@ -1,4 +1,5 @@
-// How deep the nodes of types and signatures are nested.
+//! How deep the nodes of types and signatures are nested.
+
 ghost use Rattle.std.specs.Prelude.{◌≡◌, ◌+◌, ℕ, max, map};
 ghost use Rattle.std.specs.Option.{option_map};
 ghost use Rattle.go_tree.specs.View.{name_at_of, type_of, fields_of, param_of, sig_of};

@@ -11,10 +11,13 @@ use Rattle.go_read.specs.Reading.{at}
 
 -- the statements that stand first, and how many tokens they take, unless memory was refused
 abbrev pub StmtsTaken : {E : Type 0} → List Token → Result (Option (StmtList × ℕ)) E → Type 0
-StmtsTaken tokens (Ok (Some x)) = (x.1 ≤ length tokens) × (at span_to read_stmts (lexemes tokens) ≡ Some (stmts_of x.0, lexemes (drop x.1 tokens)))
+StmtsTaken tokens (Ok (Some x)) = (x.1 ≤ length tokens)
+    × (at span_to read_stmts (lexemes tokens) ≡ Some (stmts_of x.0, lexemes (drop x.1 tokens)))
 StmtsTaken tokens (Ok None) = at span_to read_stmts (lexemes tokens) ≡ None
 StmtsTaken tokens (Err e) = Unit {0}
 
 -- fewer tokens than these may be passed, and the answer is that
-abbrev pub ReadsBelow : {E : Type 0} → (Bor (List Token) → Type 0) → (Bor (List Token) → Result (Option (StmtList × ℕ)) E → Type 0) → ℕ → Type 0
-ReadsBelow {E = E} may answers limit = (tokens : Bor (List Token)) → length tokens.now < limit → may tokens × ((r : Result (Option (StmtList × ℕ)) E) → answers tokens r → StmtsTaken tokens.now r)
+abbrev pub ReadsBelow : {E : Type 0} → (Bor (List Token) → Type 0) →
+    (Bor (List Token) → Result (Option (StmtList × ℕ)) E → Type 0) → ℕ → Type 0
+ReadsBelow {E = E} may answers limit = (tokens : Bor (List Token)) → length tokens.now < limit →
+    may tokens × ((r : Result (Option (StmtList × ℕ)) E) → answers tokens r → StmtsTaken tokens.now r)

@@ -64,7 +64,8 @@ follows_type _ = false
 
 -- the elements and the brace of a composite literal of this type
 abbrev pub composite_program : Lexemes → TypeExpr Span → Lexemes → Program Span (Expr Span × Bool)
-composite_program whole t ts = ask read_elems ts (λ es r. after_end_brace r (λ r. give (composite (span_to whole r) t es, true) r))
+composite_program whole t ts =
+    ask read_elems ts (λ es r. after_end_brace r (λ r. give (composite (span_to whole r) t es, true) r))
 
 unfoldable pub composite_at : Lexemes → TypeExpr Span → Lexemes → Option ((Expr Span × Bool) × Lexemes)
 composite_at whole t ts = run (at span_to) (composite_program whole t ts)
@@ -72,9 +73,12 @@ composite_at whole t ts = run (at span_to) (composite_program whole t ts)
 -- a type as an operand, or in front of a composite literal
 abbrev pub typed_after : Lexemes → TypeExpr Span → Lexemes → Program Span (Expr Span × Bool)
 typed_after whole t (lex b brace ∷ ts) = composite_program whole t ts
-typed_after whole t (lex b paren ∷ ts) = give (type_operand (span_to whole (lex b paren ∷ ts)) t, true) (lex b paren ∷ ts)
-typed_after whole t (lex b comma ∷ ts) = give (type_operand (span_to whole (lex b comma ∷ ts)) t, true) (lex b comma ∷ ts)
-typed_after whole t (lex b end_paren ∷ ts) = give (type_operand (span_to whole (lex b end_paren ∷ ts)) t, true) (lex b end_paren ∷ ts)
+typed_after whole t (lex b paren ∷ ts) =
+    give (type_operand (span_to whole (lex b paren ∷ ts)) t, true) (lex b paren ∷ ts)
+typed_after whole t (lex b comma ∷ ts) =
+    give (type_operand (span_to whole (lex b comma ∷ ts)) t, true) (lex b comma ∷ ts)
+typed_after whole t (lex b end_paren ∷ ts) =
+    give (type_operand (span_to whole (lex b end_paren ∷ ts)) t, true) (lex b end_paren ∷ ts)
 typed_after whole t _ = fail
 
 abbrev pub typed_program : Lexemes → Program Span (Expr Span × Bool)
@@ -89,13 +93,19 @@ word_program false whole ts n = give (ident (span_to whole ts) n, true) ts
 
 -- an operand without what may follow it
 abbrev pub operand_program : Bool → Lexemes → Program Span (Expr Span × Bool)
-operand_program header (lex s (terminal.ident n) ∷ ts) = word_program (literal_here header (lex s (terminal.ident n) ∷ ts)) (lex s (terminal.ident n) ∷ ts) ts n
-operand_program header (lex s (terminal.int_lit n) ∷ ts) = give (int_lit (span_to (lex s (terminal.int_lit n) ∷ ts) ts) n, true) ts
-operand_program header (lex s (terminal.rune_lit n) ∷ ts) = give (rune_lit (span_to (lex s (terminal.rune_lit n) ∷ ts) ts) n, true) ts
-operand_program header (lex s (terminal.str_lit n) ∷ ts) = give (str_lit (span_to (lex s (terminal.str_lit n) ∷ ts) ts) n, true) ts
-operand_program header (lex s paren ∷ ts) = ask (read_expr 1 false) ts (λ x r. after_end_paren r (λ r. give (x.0, false) r))
+operand_program header (lex s (terminal.ident n) ∷ ts) =
+    word_program (literal_here header (lex s (terminal.ident n) ∷ ts)) (lex s (terminal.ident n) ∷ ts) ts n
+operand_program header (lex s (terminal.int_lit n) ∷ ts) =
+    give (int_lit (span_to (lex s (terminal.int_lit n) ∷ ts) ts) n, true) ts
+operand_program header (lex s (terminal.rune_lit n) ∷ ts) =
+    give (rune_lit (span_to (lex s (terminal.rune_lit n) ∷ ts) ts) n, true) ts
+operand_program header (lex s (terminal.str_lit n) ∷ ts) =
+    give (str_lit (span_to (lex s (terminal.str_lit n) ∷ ts) ts) n, true) ts
+operand_program header (lex s paren ∷ ts) =
+    ask (read_expr 1 false) ts (λ x r. after_end_paren r (λ r. give (x.0, false) r))
 operand_program header (lex s key_func ∷ ts) =
-    ask (read_sig false) ts (λ g mid. ask read_block mid (λ b r. give (func_lit (span_to (lex s key_func ∷ ts) r) g b.0 b.1, true) r))
+    ask (read_sig false) ts
+    (λ g mid. ask read_block mid (λ b r. give (func_lit (span_to (lex s key_func ∷ ts) r) g b.0 b.1, true) r))
 operand_program header (lex s bracket ∷ ts) = typed_program (lex s bracket ∷ ts)
 operand_program header (lex s key_map ∷ ts) = typed_program (lex s key_map ∷ ts)
 operand_program header (lex s key_struct ∷ ts) = typed_program (lex s key_struct ∷ ts)
@@ -116,7 +126,9 @@ continues _ = false
 -- after the colon of a slice
 abbrev pub high_program : Lexemes → Expr Span → ExprOption Span → Lexemes → Program Span (Expr Span)
 high_program whole base low (lex s end_bracket ∷ ts) = give (slice (span_to whole ts) base low no_expr) ts
-high_program whole base low ts = ask (read_operand false) ts (λ x r. after_end_bracket r (λ r. give (slice (span_to whole r) base low (some_expr x)) r))
+high_program whole base low ts =
+    ask (read_operand false) ts
+    (λ x r. after_end_bracket r (λ r. give (slice (span_to whole r) base low (some_expr x)) r))
 
 unfoldable pub high_at : Lexemes → Expr Span → ExprOption Span → Lexemes → Option (Expr Span × Lexemes)
 high_at whole base low ts = run (at span_to) (high_program whole base low ts)
@@ -137,7 +149,8 @@ brackets_at whole base ts = run (at span_to) (brackets_program whole base ts)
 -- an operand and one part after it
 abbrev pub postfix_program : Lexemes → Expr Span → Lexemes → Program Span (Expr Span)
 postfix_program whole base (lex s paren ∷ ts) = ask read_args ts (λ x r. give (call (span_to whole r) base x.0 x.1) r)
-postfix_program whole base (lex d dot ∷ lex s (terminal.ident n) ∷ r) = unless (is_func_lit base) (give (selector (span_to whole r) base (name_here span_to s n r)) r)
+postfix_program whole base (lex d dot ∷ lex s (terminal.ident n) ∷ r) =
+    unless (is_func_lit base) (give (selector (span_to whole r) base (name_here span_to s n r)) r)
 postfix_program whole base (lex s bracket ∷ ts) = unless (is_func_lit base) (brackets_program whole base ts)
 postfix_program whole base _ = fail
 

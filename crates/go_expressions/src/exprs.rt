@@ -32,7 +32,8 @@ pub fn expression<'a, F: Fn(&[Token]) -> Taken>(
 ) -> Reading<'a, Expr>
     requires reads { ReadsBelow (F.pre bodies.now.read) (F.post bodies.now.read) bodies.now.limit }
     requires within { length tokens.now ≤ bodies.now.limit }
-    ensures gives { Gives (λ x. (expr_of x.0, lexemes x.1.now)) result (at span_to (read_operand header) (lexemes tokens.now)) }
+    ensures gives { Gives (λ x. (expr_of x.0, lexemes x.1.now)) result
+        (at span_to (read_operand header) (lexemes tokens.now)) }
     ensures shorter { Shorter (λ x. x.1.now) result tokens.now }
 {
     let Some(((e, _), left)) = binary_expr(tokens, 1, header, bodies)? else {
@@ -54,7 +55,8 @@ pub fn expr_list<'a, F: Fn(&[Token]) -> Taken>(
 ) -> Reading<'a, Vec<Expr>>
     requires reads { ReadsBelow (F.pre bodies.now.read) (F.post bodies.now.read) bodies.now.limit }
     requires within { length tokens.now ≤ bodies.now.limit }
-    ensures gives { Gives (λ x. (exprs_from (map expr_of x.0.items), lexemes x.1.now)) result (at span_to (read_exprs header) (lexemes tokens.now)) }
+    ensures gives { Gives (λ x. (exprs_from (map expr_of x.0.items), lexemes x.1.now)) result
+        (at span_to (read_exprs header) (lexemes tokens.now)) }
     ensures shorter { Shorter (λ x. x.1.now) result tokens.now }
 {
     let mut items = Vec::new(bodies.room.alloc);
@@ -80,7 +82,8 @@ pub(crate) fn call_args<'a, F: Fn(&[Token]) -> Taken>(
 ) -> Reading<'a, (ExprList, Rest)>
     requires reads { ReadsBelow (F.pre bodies.now.read) (F.post bodies.now.read) bodies.now.limit }
     requires within { length tokens.now ≤ bodies.now.limit }
-    ensures gives { Gives (λ x. ((exprs_of x.0.0, x.0.1), lexemes x.1.now)) result (at span_to read_args (lexemes tokens.now)) }
+    ensures gives { Gives (λ x. ((exprs_of x.0.0, x.0.1), lexemes x.1.now)) result
+        (at span_to read_args (lexemes tokens.now)) }
     ensures shorter { Shorter (λ x. x.1.now) result tokens.now }
 {
     let mut items = Vec::new(bodies.room.alloc);
@@ -137,7 +140,8 @@ pub fn binary_expr<'a, F: Fn(&[Token]) -> Taken>(
 ) -> Reading<'a, (Expr, bool)>
     requires reads { ReadsBelow (F.pre bodies.now.read) (F.post bodies.now.read) bodies.now.limit }
     requires within { length tokens.now ≤ bodies.now.limit }
-    ensures gives { Gives (λ x. ((expr_of x.0.0, x.0.1), lexemes x.1.now)) result (at span_to (read_expr level header) (lexemes tokens.now)) }
+    ensures gives { Gives (λ x. ((expr_of x.0.0, x.0.1), lexemes x.1.now)) result
+        (at span_to (read_expr level header) (lexemes tokens.now)) }
     ensures shorter { Shorter (λ x. x.1.now) result tokens.now }
 {
     let Some(((e, alone), after)) = unary_expr(tokens, header, bodies)? else {
@@ -192,7 +196,8 @@ fn unary_expr<'a, F: Fn(&[Token]) -> Taken>(
 ) -> Reading<'a, (Expr, bool)>
     requires reads { ReadsBelow (F.pre bodies.now.read) (F.post bodies.now.read) bodies.now.limit }
     requires within { length tokens.now ≤ bodies.now.limit }
-    ensures gives { Gives (λ x. ((expr_of x.0.0, x.0.1), lexemes x.1.now)) result (at span_to (read_unary header) (lexemes tokens.now)) }
+    ensures gives { Gives (λ x. ((expr_of x.0.0, x.0.1), lexemes x.1.now)) result
+        (at span_to (read_unary header) (lexemes tokens.now)) }
     ensures shorter { Shorter (λ x. x.1.now) result tokens.now }
 {
     let Some(prefix) = prefix_of(first(tokens)) else {
@@ -221,7 +226,8 @@ fn primary_expr<'a, F: Fn(&[Token]) -> Taken>(
     requires reads { ReadsBelow (F.pre bodies.now.read) (F.post bodies.now.read) bodies.now.limit }
     requires within { length tokens.now ≤ bodies.now.limit }
     requires unprefixed { prefix_of (first_of (lexemes tokens.now)) ≡ None }
-    ensures gives { Gives (λ x. ((expr_of x.0.0, x.0.1), lexemes x.1.now)) result (at span_to (read_unary header) (lexemes tokens.now)) }
+    ensures gives { Gives (λ x. ((expr_of x.0.0, x.0.1), lexemes x.1.now)) result
+        (at span_to (read_unary header) (lexemes tokens.now)) }
     ensures shorter { Shorter (λ x. x.1.now) result tokens.now }
 {
     let Some(((e, alone), after)) = operand(tokens, header, bodies)? else {

@@ -32,7 +32,8 @@ pub(crate) fn operand<'a, F: Fn(&[Token]) -> Taken>(
 ) -> Reading<'a, (Expr, bool)>
     requires reads { ReadsBelow (F.pre bodies.now.read) (F.post bodies.now.read) bodies.now.limit }
     requires within { length tokens.now ≤ bodies.now.limit }
-    ensures gives { Gives (λ x. ((expr_of x.0.0, x.0.1), lexemes x.1.now)) result (operand_at header (lexemes tokens.now)) }
+    ensures gives { Gives (λ x. ((expr_of x.0.0, x.0.1), lexemes x.1.now)) result
+        (operand_at header (lexemes tokens.now)) }
     ensures shorter { Shorter (λ x. x.1.now) result tokens.now }
 {
     if literal_begins(tokens, header) {
@@ -86,7 +87,8 @@ fn plain_operand<'a>(
     requires first { first_of (lexemes tokens.now) ≡ terminal }
     requires letters { has_letters terminal ≡ true }
     requires alone { literal_here header (lexemes tokens.now) ≡ false }
-    ensures gives { Gives (λ x. ((expr_of x.0.0, x.0.1), lexemes x.1.now)) result (operand_at header (lexemes tokens.now)) }
+    ensures gives { Gives (λ x. ((expr_of x.0.0, x.0.1), lexemes x.1.now)) result
+        (operand_at header (lexemes tokens.now)) }
     ensures shorter { Shorter (λ x. x.1.now) result tokens.now }
 {
     let left = rest(tokens);
@@ -106,7 +108,8 @@ fn in_parens<'a, F: Fn(&[Token]) -> Taken>(
     requires reads { ReadsBelow (F.pre bodies.now.read) (F.post bodies.now.read) bodies.now.limit }
     requires within { length tokens.now ≤ bodies.now.limit }
     requires begins { first_of (lexemes tokens.now) ≡ Terminal.Paren }
-    ensures gives { Gives (λ x. ((expr_of x.0.0, x.0.1), lexemes x.1.now)) result (operand_at header (lexemes tokens.now)) }
+    ensures gives { Gives (λ x. ((expr_of x.0.0, x.0.1), lexemes x.1.now)) result
+        (operand_at header (lexemes tokens.now)) }
     ensures shorter { Shorter (λ x. x.1.now) result tokens.now }
 {
     let Some((operand, left)) = binary_expr(rest(tokens), 1, false, bodies)? else {
@@ -130,7 +133,8 @@ fn func_lit<'a, F: Fn(&[Token]) -> Taken>(
     requires reads { ReadsBelow (F.pre bodies.now.read) (F.post bodies.now.read) bodies.now.limit }
     requires within { length tokens.now ≤ bodies.now.limit }
     requires begins { first_of (lexemes tokens.now) ≡ Terminal.Func }
-    ensures gives { Gives (λ x. ((expr_of x.0.0, x.0.1), lexemes x.1.now)) result (operand_at header (lexemes tokens.now)) }
+    ensures gives { Gives (λ x. ((expr_of x.0.0, x.0.1), lexemes x.1.now)) result
+        (operand_at header (lexemes tokens.now)) }
     ensures shorter { Shorter (λ x. x.1.now) result tokens.now }
 {
     let Some((sig, left)) = signature(bodies.room, rest(tokens), false)? else {
@@ -191,7 +195,8 @@ fn composite<'a, F: Fn(&[Token]) -> Taken>(
 ) -> Reading<'a, (Expr, bool)>
     requires reads { ReadsBelow (F.pre bodies.now.read) (F.post bodies.now.read) bodies.now.limit }
     requires within { length tokens.now ≤ bodies.now.limit }
-    ensures gives { Gives (λ x. ((expr_of x.0.0, x.0.1), lexemes x.1.now)) result (composite_at (lexemes whole.now) (type_of of.value) (lexemes tokens.now)) }
+    ensures gives { Gives (λ x. ((expr_of x.0.0, x.0.1), lexemes x.1.now)) result
+        (composite_at (lexemes whole.now) (type_of of.value) (lexemes tokens.now)) }
     ensures shorter { Shorter (λ x. x.1.now) result tokens.now }
 {
     let Some((elems, left)) = elem_list(tokens, bodies)? else {

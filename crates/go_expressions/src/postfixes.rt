@@ -1,7 +1,6 @@
 //! What may follow an operand (Go specification, Selectors, Index expressions, Slice expressions, Calls).
 
 ghost use Rattle.std.specs.Prelude.{◌≡◌, true, ◌≤◌, length};
-ghost use Rattle.go_tree.specs.Tree.{no_expr};
 ghost use Rattle.go_tree.specs.View.{boxed_expr_option_of, expr_of};
 ghost use Rattle.go_words.specs.Terminals.{lexemes};
 ghost use Rattle.go_expressions.specs.Bodies.{ReadsBelow};
@@ -38,7 +37,8 @@ pub(crate) fn postfix<'a, F: Fn(&[Token]) -> Taken>(
     requires reads { ReadsBelow (F.pre bodies.now.read) (F.post bodies.now.read) bodies.now.limit }
     requires within { length tokens.now ≤ bodies.now.limit }
     requires goes_on { continues (lexemes tokens.now) ≡ true }
-    ensures gives { Gives (λ x. (expr_of x.0, lexemes x.1.now)) result (postfix_at (lexemes whole.now) (expr_of base.value) (lexemes tokens.now)) }
+    ensures gives { Gives (λ x. (expr_of x.0, lexemes x.1.now)) result
+        (postfix_at (lexemes whole.now) (expr_of base.value) (lexemes tokens.now)) }
     ensures shorter { Shorter (λ x. x.1.now) result tokens.now }
 {
     if let Terminal::Paren = first(tokens) {
@@ -71,7 +71,8 @@ fn brackets<'a, F: Fn(&[Token]) -> Taken>(
 ) -> Reading<'a, Expr>
     requires reads { ReadsBelow (F.pre bodies.now.read) (F.post bodies.now.read) bodies.now.limit }
     requires within { length tokens.now ≤ bodies.now.limit }
-    ensures gives { Gives (λ x. (expr_of x.0, lexemes x.1.now)) result (brackets_at (lexemes whole.now) (expr_of base.value) (lexemes tokens.now)) }
+    ensures gives { Gives (λ x. (expr_of x.0, lexemes x.1.now)) result
+        (brackets_at (lexemes whole.now) (expr_of base.value) (lexemes tokens.now)) }
     ensures shorter { Shorter (λ x. x.1.now) result tokens.now }
 {
     if let Terminal::Colon = first(tokens) {
@@ -104,7 +105,8 @@ fn bounds<'a, F: Fn(&[Token]) -> Taken>(
 ) -> Reading<'a, Expr>
     requires reads { ReadsBelow (F.pre bodies.now.read) (F.post bodies.now.read) bodies.now.limit }
     requires within { length tokens.now ≤ bodies.now.limit }
-    ensures gives { Gives (λ x. (expr_of x.0, lexemes x.1.now)) result (high_at (lexemes whole.now) (expr_of base.value) (boxed_expr_option_of from) (lexemes tokens.now)) }
+    ensures gives { Gives (λ x. (expr_of x.0, lexemes x.1.now)) result
+        (high_at (lexemes whole.now) (expr_of base.value) (boxed_expr_option_of from) (lexemes tokens.now)) }
     ensures shorter { Shorter (λ x. x.1.now) result tokens.now }
 {
     if let Terminal::EndBracket = first(tokens) {

@@ -6,7 +6,7 @@ use Rattle.go_kernel.specs.Scope.{names, has, has_all}
 use Rattle.go_kernel.proofs.FrameFacts.{names_put_all, put_all_front, names_push, push_front, pop_front, lookup_front, lookup_behind, lookup_skip, lookup_here}
 use Rattle.go_kernel.proofs.Inserted.{inserted, way, anything}
 use Rattle.go_kernel.proofs.WithinProgram as Sim
-use Rattle.go_kernel.proofs.WithinProgram.{Way, Moves, Follows, All, Slots, Upon, Fits, fits, Acts, Pend, equal, level_follows, chain_follows, after_acts, go_on, caught_acts, on_put, on_push, primed, on_truth_acts, popped_acts, call_acts, unwound_acts, resumed_acts, on_defers, on_alone, with_pending_acts, slotted, each}
+use Rattle.go_kernel.proofs.WithinProgram.{Way, Moves, Follows, All, Slots, Upon, Fits, fits, Acts, equal, level_follows, chain_follows, after_acts, go_on, caught_acts, on_put, on_push, primed, on_truth_acts, popped_acts, call_acts, unwound_acts, resumed_acts, with_pending_acts, slotted}
 
 -- how an argument ends
 pub data Out : Type 0 where

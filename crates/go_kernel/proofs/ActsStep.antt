@@ -8,12 +8,11 @@ use Rattle.go_kernel.specs.Arguments.{Arg, arg, names_of, args_of, rest, choose}
 use Rattle.go_kernel.proofs.FreshNames.{height, name_true}
 use Rattle.go_kernel.proofs.FrameFacts.{by_has, has_left, has_none, has_one}
 use Rattle.go_kernel.proofs.TermConditions as Fits
-use Rattle.go_kernel.proofs.TermConditions.{Fit, sub_self, lift, keep, fit_map, fit_both}
+use Rattle.go_kernel.proofs.TermConditions.{Fit, fit_map, fit_both}
 use Rattle.go_kernel.proofs.Inserted
 use Rattle.go_kernel.proofs.Inserted.{way, fixed}
 use Rattle.go_kernel.proofs.WithinProgram.{Way, Moves, All}
 use Rattle.go_kernel.proofs.PlacedAlike as Place
-use Rattle.go_kernel.proofs.PlacedAlike.{Expr, Good, expr_at, one_value}
 use Rattle.go_kernel.proofs.Means.{Mean}
 use Rattle.go_kernel.proofs.Parameters.{Every, Low, Unbound, NotChosen, below_neq, Cases, hit, miss, choose_cases, choose_none, rest_clear, every_rest, every_map, Own, put_in, put_hit, put_miss, arg_keeps, names_low, BodyUse, BodySet, Body}
 use Rattle.go_kernel.proofs.PlacingStep.{OnUse, MayUse, MaySet, all_move, part_moves}
@@ -21,7 +20,7 @@ use Rattle.go_kernel.proofs.Movability.{no_act, no_act_stop, Still, NoFreeSet, O
 use Rattle.go_kernel.specs.Classes.{steady}
 use Rattle.go_kernel.specs.Items.{Item, Param, Read, Fail, Write, Stop, join, effect_items, uses}
 use Rattle.go_kernel.proofs.DeepItems as Listing
-use Rattle.go_kernel.proofs.DeepItems.{deep, seen, seen_le, clean, split, Split, goes_on, ends, alone, both_true, looks_is, steady_is}
+use Rattle.go_kernel.proofs.DeepItems.{deep, seen, seen_le, clean, split, Split, goes_on, ends, alone, both_true}
 use Rattle.go_kernel.proofs.ItemConditions.{unused_fit}
 use Rattle.go_kernel.proofs.Table.{pure_is}
 use Rattle.go_kernel.proofs.Inserted.{anything}

@@ -9,7 +9,7 @@ use Rattle.go_kernel.specs.Alike.{RunAlike, MeanSame}
 use Rattle.go_kernel.proofs.PlacedAlike as Place
 use Rattle.go_kernel.proofs.PlacedAlike.{Expr, Good, expr_at}
 use Rattle.go_kernel.proofs.WithinProgram as Sim
-use Rattle.go_kernel.proofs.WithinProgram.{Way, Moves, Follows, Behind, inner, outer, Upon, Fits, fits, Acts, Pend, equal, apart, chain_follows}
+use Rattle.go_kernel.proofs.WithinProgram.{Way, Moves, Upon, Fits, fits, Acts, equal, chain_follows}
 use Rattle.go_kernel.proofs.Means
 use Rattle.go_kernel.proofs.Means.{reframed_twice, ends_alike}
 use Rattle.go_kernel.proofs.FreshNames.{name_self}

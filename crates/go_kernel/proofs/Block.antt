@@ -6,7 +6,7 @@ use Rattle.go_kernel.specs.Kernel.{Name, Label, FuncName, Value, Truth, Term, Va
 use Rattle.go_kernel.proofs.PlacedAlike as Place
 use Rattle.go_kernel.proofs.PlacedAlike.{Good, within_good, unwound_ends, called_good, picks_good}
 use Rattle.go_kernel.proofs.WithinProgram as Sim
-use Rattle.go_kernel.proofs.WithinProgram.{Way, Moves, Upon, Fits, fits, Acts, apart, chain_follows}
+use Rattle.go_kernel.proofs.WithinProgram.{Way, Upon, fits, Acts, apart, chain_follows}
 use Rattle.go_kernel.proofs.Means.{Mean, mean_equal, Lev}
 use Rattle.go_kernel.specs.Scope.{has}
 use Rattle.go_kernel.proofs.TermConditions.{Fit, keep}

@@ -7,7 +7,7 @@ use Rattle.go_kernel.proofs.AcrossPrograms.{each_refl}
 use Rattle.go_kernel.specs.Alike.{RunAlike}
 use Rattle.go_kernel.proofs.WithinProgram.{fits, equal, Upon, level_follows}
 use Rattle.go_kernel.proofs.Means
-use Rattle.go_kernel.proofs.Means.{Mean, mean_equal, cov_self, Lev, Cover, left_same}
+use Rattle.go_kernel.proofs.Means.{Mean, cov_self, Lev, Cover, left_same}
 use Rattle.go_kernel.proofs.FrameFacts.{names_push, push_front}
 use Rattle.go_kernel.specs.Scope.{Scoped}
 use Rattle.go_kernel.proofs.Inserted.{Longer, inserted, renamed, way, fixed}

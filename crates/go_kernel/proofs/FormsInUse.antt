@@ -1,7 +1,7 @@
 -- Checks: each law of forms used on a small program, with what then stands written out.
 use Rattle.std.proofs.Common.{◌≡◌, List, [], ◌∷◌, Bool, true, false, true≢false, refl, arith}
 use Rattle.std.specs.Prelude.{codes}
-use Rattle.go_kernel.specs.Kernel.{Name, FuncName, temporary, result_name, Int, Arith, Add, Compare, Less, Equal, Slot, InFrame, InCell, Term, Vals, Both, Prim, If, Let, Loop, Within, Alone, Defer, DeferLit, Func, declared, Program}
+use Rattle.go_kernel.specs.Kernel.{Name, FuncName, temporary, result_name, Int, Arith, Add, Compare, Less, Equal, Slot, InFrame, InCell, Term, Vals, Both, If, Let, Loop, Within, Alone, Defer, DeferLit, Func, declared, Program}
 use Rattle.go_kernel.specs.Alike.{MeanSame}
 use Rattle.go_kernel.specs.Classes.{Steady}
 use Rattle.go_kernel.specs.Items.{items}

@@ -7,7 +7,7 @@ use Rattle.go_kernel.proofs.Means
 use Rattle.go_kernel.proofs.Means.{reframed_self, ends_alike}
 use Rattle.go_kernel.proofs.Looks.{Looks, Use, standing, stands, valued, value_in, looks_value}
 use Rattle.go_kernel.proofs.WithinProgram as Sim
-use Rattle.go_kernel.proofs.WithinProgram.{Way, Moves, Follows, All, Slots, Behind, inner, outer, Upon, Fits, fits, Acts, Pend, equal, level_follows, chain_follows, after_acts, go_on, caught_acts, on_put, on_push, primed, on_truth_acts, popped_acts, call_acts, unwound_acts, resumed_acts, on_defers, put_pending, with_pending_acts, slotted, each, pend_of}
+use Rattle.go_kernel.proofs.WithinProgram.{Way, Moves, Follows, All, Slots, inner, outer, Upon, Fits, fits, Acts, equal, level_follows, chain_follows, after_acts, go_on, caught_acts, on_put, on_push, primed, on_truth_acts, popped_acts, call_acts, unwound_acts, resumed_acts, with_pending_acts, slotted, each}
 
 module _ (x : Name) where
   abbrev pub Gone' : Insertion

@@ -1,7 +1,7 @@
 -- Checks: labels, returns, and cuts at each small budget (Go specification, "Break statements", "Continue statements", "Labeled statements", "Return statements", "For statements", "Calls").
 use Rattle.std.proofs.Common.{◌≡◌, refl}
 use Rattle.std.specs.Prelude.{ℕ, List, [], ◌∷◌, map, true, Option, None, Some, codes}
-use Rattle.go_kernel.specs.Kernel.{named_result, Name, FuncName, return_label, break_label, continue_label, Int, Arith, Add, Sub, Mul, Compare, Equal, Less, Event, Term, Set, Both, Prim, If, Let, Loop, Leave, Catch, Within, Alone, Call, Defer, InFrame, Func, Shown, Running, Ended, prim, free_shows}
+use Rattle.go_kernel.specs.Kernel.{named_result, Name, FuncName, return_label, break_label, continue_label, Int, Arith, Add, Sub, Mul, Compare, Equal, Less, Event, Term, Set, Both, If, Let, Loop, Leave, Catch, Within, Alone, Call, Defer, InFrame, Func, Shown, Running, Ended, prim, free_shows}
 use Rattle.go_kernel.proofs.Programs.{int, num, none, seq, op2, say, loc, set, with_var, return_, yes, said, named, giving, lit, defer_lit, with_main, main, run, run_with}
 
 abbrev numbers : List ℕ → Event

@@ -7,7 +7,7 @@ use Rattle.go_kernel.specs.Alike.{MeanSame}
 use Rattle.go_kernel.proofs.Means
 use Rattle.go_kernel.proofs.Means.{ends_alike, reframed_self}
 use Rattle.go_kernel.proofs.WithinProgram as Sim
-use Rattle.go_kernel.proofs.WithinProgram.{Way, Moves, Upon, Fits, fits, Acts, equal, chain_follows}
+use Rattle.go_kernel.proofs.WithinProgram.{Moves, Upon, Fits, fits, Acts, equal, chain_follows}
 use Rattle.go_kernel.proofs.Inserted.{Insertion, Longer, inserted, way}
 
 abbrev pub Looks : Term → Type 0

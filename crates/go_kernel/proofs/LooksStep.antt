@@ -8,11 +8,10 @@ use Rattle.go_kernel.specs.Arguments.{Arg, arg, names_of, args_of, rest, choose}
 use Rattle.go_kernel.proofs.FreshNames.{height}
 use Rattle.go_kernel.proofs.FrameFacts.{by_has, has_one}
 use Rattle.go_kernel.proofs.TermConditions as Fits
-use Rattle.go_kernel.proofs.TermConditions.{Fit, sub_self, lift, keep, fit_map, fit_both}
+use Rattle.go_kernel.proofs.TermConditions.{Fit, keep, fit_map, fit_both}
 use Rattle.go_kernel.proofs.Inserted
-use Rattle.go_kernel.proofs.Inserted.{way, fixed}
 use Rattle.go_kernel.proofs.WithinProgram as Sim
-use Rattle.go_kernel.proofs.WithinProgram.{Way, Moves, All, Slots}
+use Rattle.go_kernel.proofs.WithinProgram.{Way, Moves, All}
 use Rattle.go_kernel.proofs.Means.{Mean}
 use Rattle.go_kernel.proofs.Parameters.{Every, Low, Unbound, NotChosen, below_neq, every_rest, every_map, Own, put_in, arg_keeps, names_low, BodyUse, BodySet, Body, looks_free, not_has}
 use Rattle.go_kernel.proofs.PlacingStep.{OnUse, MayUse, MaySet, all_move, part_moves}
@@ -20,7 +19,7 @@ use Rattle.go_kernel.proofs.Movability.{no_look, no_look_stop, Calm, looks_singl
 use Rattle.go_kernel.specs.Classes.{looks}
 use Rattle.go_kernel.specs.Items.{Item, Param, Read, Fail, Write, Stop, join, effect_items, uses}
 use Rattle.go_kernel.proofs.DeepItems as Listing
-use Rattle.go_kernel.proofs.DeepItems.{deep, seen, seen_le, clean, split, Split, goes_on, ends, alone, both_true, looks_is, steady_is}
+use Rattle.go_kernel.proofs.DeepItems.{deep, seen, seen_le, clean, split, Split, goes_on, ends, alone}
 use Rattle.go_kernel.proofs.ItemConditions.{unused_fit, clean_fit, calm_fit}
 use Rattle.go_kernel.proofs.Looks
 use Rattle.go_kernel.proofs.Table.{keeps_memory_is}

@@ -6,7 +6,7 @@ use Rattle.go_kernel.proofs.AcrossPrograms.{each_refl, near_refl, cov_out, weake
 use Rattle.go_kernel.proofs.Growth.{Never, Any, Equal, Like, self_same, self_like, chain_self, free_self}
 use Rattle.go_kernel.specs.Alike.{RunAlike, MeanSame}
 use Rattle.go_kernel.proofs.WithinProgram as Sim
-use Rattle.go_kernel.proofs.WithinProgram.{Way, Moves, Follows, Behind, inner, outer, Upon, Fits, fits, Acts, Pend, equal, level_follows}
+use Rattle.go_kernel.proofs.WithinProgram.{Way, Behind, inner, outer, Upon, Fits, fits, Acts, equal, level_follows}
 
 pub reframed_twice : (q w : Frame → Frame) (r : Result) → reframed q (reframed w r) ≡ reframed (λ f. q (w f)) r
 reframed_twice q w (Gives v s) = refl

@@ -8,7 +8,7 @@ use Rattle.go_kernel.proofs.FreshNames.{height, name_neq, name_true}
 use Rattle.go_kernel.proofs.FrameFacts.{by_has, has_none}
 use Rattle.go_kernel.proofs.TermConditions.{Fit, keep}
 use Rattle.go_kernel.proofs.WithinProgram as Sim
-use Rattle.go_kernel.proofs.WithinProgram.{Way, Moves, All, Slots}
+use Rattle.go_kernel.proofs.WithinProgram.{Way, Moves, All}
 use Rattle.go_kernel.proofs.PlacedAlike.{Expr}
 use Rattle.go_kernel.proofs.Looks
 

@@ -8,7 +8,7 @@ use Rattle.go_kernel.proofs.Acts.{Out, Value', Panics, Stops, of_out, Early}
 use Rattle.go_kernel.proofs.ActsMoves.{Places, acts_moves}
 use Rattle.go_kernel.specs.Alike.{MeanSame}
 use Rattle.go_kernel.proofs.WithinProgram as Sim
-use Rattle.go_kernel.proofs.WithinProgram.{Way, Moves, Follows, Upon, Fits, fits, Acts, Pend, equal, apart, level_follows, chain_follows}
+use Rattle.go_kernel.proofs.WithinProgram.{Moves, Upon, fits, Acts, apart, chain_follows}
 
 made : (o : Op) (k : ℕ) → Makes o k → (v w : List Value) (c c' : Store) (e : List Event) → prim o v c ≡ Ok w c' e → length w ≡ k
 unfolding Makes

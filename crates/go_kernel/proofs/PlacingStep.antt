@@ -8,9 +8,9 @@ use Rattle.go_kernel.specs.Arguments.{Arg, arg, names_of, rest, choose}
 use Rattle.go_kernel.proofs.FreshNames.{height, name_true}
 use Rattle.go_kernel.proofs.FrameFacts.{by_has, has_none}
 use Rattle.go_kernel.proofs.TermConditions as Fits
-use Rattle.go_kernel.proofs.TermConditions.{Fit, sub_self, lift, keep, fit_map, fit_both}
+use Rattle.go_kernel.proofs.TermConditions.{Fit, lift}
 use Rattle.go_kernel.proofs.WithinProgram as Sim
-use Rattle.go_kernel.proofs.WithinProgram.{Way, Moves, All, Slots}
+use Rattle.go_kernel.proofs.WithinProgram.{Way, Moves, All}
 use Rattle.go_kernel.proofs.Parameters.{Every, Unbound, NotChosen, Cases, hit, miss, choose_cases, choose_none, choose_unchosen, rest_clear, Known, put_in, put_hit, put_miss, moves_by, all_by}
 
 module _ (P : Program) (N0 : ℕ) where

@@ -9,7 +9,7 @@ use Rattle.go_kernel.proofs.FreshNames.{height, name_neq, name_true}
 use Rattle.go_kernel.proofs.FrameFacts.{by_has, has_none}
 use Rattle.go_kernel.proofs.TermConditions.{Fit, lift}
 use Rattle.go_kernel.proofs.WithinProgram as Sim
-use Rattle.go_kernel.proofs.WithinProgram.{Way, Moves, All, Slots}
+use Rattle.go_kernel.proofs.WithinProgram.{Way, Moves, All}
 use Rattle.go_kernel.proofs.Parameters.{Every, Unread, NotChosen, below_neq, Cases, hit, miss, choose_cases, choose_none, choose_unchosen, every_both, Own, Known, put_in, put_hit, put_miss, arg_keeps, name_keeps, moves_by, all_by}
 use Rattle.go_kernel.proofs.BindFirst as Peel
 use Rattle.go_kernel.proofs.BindFirst.{peeled}

@@ -11,7 +11,6 @@ use Rattle.go_kernel.proofs.FreshNames.{name_true, name_self}
 use Rattle.go_kernel.proofs.FrameFacts.{by_has, lookup_here}
 use Rattle.go_kernel.proofs.TermConditions.{keep}
 use Rattle.go_kernel.proofs.Inserted
-use Rattle.go_kernel.proofs.Inserted.{way}
 use Rattle.go_kernel.proofs.DeepItems.{both_true, not_true}
 use Rattle.go_kernel.proofs.PlacedAlike.{Expr}
 use Rattle.go_kernel.proofs.ComputedConditions.{test_fit, width_is}

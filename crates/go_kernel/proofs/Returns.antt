@@ -10,11 +10,11 @@ use Rattle.go_kernel.proofs.TermConditions.{keep}
 use Rattle.go_kernel.proofs.ComputedConditions.{test_fit, width_is}
 use Rattle.go_kernel.proofs.DeepItems.{not_true}
 use Rattle.go_kernel.proofs.Inserted
-use Rattle.go_kernel.proofs.Inserted.{Longer, inserted, way, in_front}
+use Rattle.go_kernel.proofs.Inserted.{inserted, way, in_front}
 use Rattle.go_kernel.proofs.PlacedAlike as Place
-use Rattle.go_kernel.proofs.PlacedAlike.{Expr, Good, expr_at}
+use Rattle.go_kernel.proofs.PlacedAlike.{Good, expr_at}
 use Rattle.go_kernel.proofs.WithinProgram as Sim
-use Rattle.go_kernel.proofs.WithinProgram.{Moves, Upon, Fits, fits, Acts, apart, chain_follows}
+use Rattle.go_kernel.proofs.WithinProgram.{Moves, Upon, fits, Acts, apart, chain_follows}
 use Rattle.go_kernel.proofs.Means.{Mean, mean_equal, Lev}
 use Rattle.go_kernel.proofs.Tail.{DistinctNames, all_self, read_all}
 

@@ -9,7 +9,7 @@ use Rattle.go_kernel.specs.Forms.{give_slots}
 use Rattle.go_kernel.proofs.FreshNames.{name_self, name_true, true_name}
 use Rattle.go_kernel.proofs.FrameFacts.{lookup_front, lookup_behind, lookup_here, put_behind, push_front, names_push, pop_all}
 use Rattle.go_kernel.proofs.PlacedAlike as Place
-use Rattle.go_kernel.proofs.PlacedAlike.{Expr, Good, expr_at}
+use Rattle.go_kernel.proofs.PlacedAlike.{Good, expr_at}
 use Rattle.go_kernel.proofs.Means.{Lev}
 use Rattle.go_kernel.proofs.Tail.{Apart, put_all_behind, DistinctNames, Sink}
 

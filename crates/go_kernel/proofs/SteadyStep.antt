@@ -9,9 +9,9 @@ use Rattle.go_kernel.proofs.FreshNames.{height}
 use Rattle.go_kernel.proofs.FrameFacts.{has_one}
 use Rattle.go_kernel.proofs.TermConditions.{Fit, fit_map}
 use Rattle.go_kernel.proofs.Inserted
-use Rattle.go_kernel.proofs.Inserted.{way, fixed}
+use Rattle.go_kernel.proofs.Inserted.{way}
 use Rattle.go_kernel.proofs.WithinProgram as Sim
-use Rattle.go_kernel.proofs.WithinProgram.{Way, Moves, All, Slots}
+use Rattle.go_kernel.proofs.WithinProgram.{Way, Moves}
 use Rattle.go_kernel.proofs.Means.{Mean}
 use Rattle.go_kernel.proofs.Parameters.{Every, Unbound, NotChosen, below_neq, every_rest, every_map, Own, put_in, arg_keeps, args_keep, names_low, low_goods, BodyUse, BodySet, Body, looks_free, not_has}
 use Rattle.go_kernel.proofs.PlacingStep.{OnUse, MayUse, MaySet, part_moves}

@@ -14,7 +14,7 @@ use Rattle.go_kernel.proofs.PlacedAlike.{Expr, Good, expr_at}
 use Rattle.go_kernel.proofs.Block
 use Rattle.go_kernel.proofs.Block.{Tidy, Tame, chain_tame}
 use Rattle.go_kernel.proofs.WithinProgram as Sim
-use Rattle.go_kernel.proofs.WithinProgram.{Way, Moves, Upon, Fits, fits, Acts, apart, chain_follows}
+use Rattle.go_kernel.proofs.WithinProgram.{Way, Moves, Upon, fits, Acts, apart, chain_follows}
 use Rattle.go_kernel.proofs.Means.{Mean, mean_equal, Lev}
 
 -- none of these names is among those

@@ -8,7 +8,7 @@ use Rattle.go_kernel.specs.Choosing.{use_of, is_write, is_effect, uses_before}
 use Rattle.go_kernel.proofs.FrameFacts.{by_has, has_left, has_right, has_none}
 use Rattle.go_kernel.proofs.FreshNames.{name_true}
 use Rattle.go_kernel.proofs.DeepItems as Listing
-use Rattle.go_kernel.proofs.DeepItems.{deep, seen, clean, seen_join, seen_cut, clean_join, seen_le, Prefix, items_deep, seen_prefix}
+use Rattle.go_kernel.proofs.DeepItems.{deep, seen, clean, seen_join, seen_cut, seen_le, items_deep, seen_prefix}
 
 -- ---- kinds of items
 

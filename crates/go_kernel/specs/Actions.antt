@@ -1,4 +1,5 @@
--- What a primitive may do, told by the kind of its definition: one that computes is handed no memory and one that reads can't change it, so neither can be done by mistake.
+-- What a primitive may do, told by the kind of its definition: one that computes is handed no memory and one that reads
+-- can't change it, so neither can be done by mistake.
 use Rattle.std.specs.Prelude.{ℕ, zero, suc, List, [], ◌∷◌}
 use Rattle.go_kernel.specs.Values.{Value, Nil, Reason}
 use Rattle.go_kernel.specs.Store.{Memory, Store}
@@ -44,7 +45,8 @@ pub data Action : Type 0 where
   TryWrite : (List Value → Memory → Outcome) → Action
   Draw : (List Value → Memory → List ℕ → Drawing) → Action
 
--- k values: the first of vs, and nil for each that it lacks, so that a primitive answers as many on values that no typed program gives it
+-- k values: the first of vs, and nil for each that it lacks, so that a primitive answers as many on values that no
+-- typed program gives it
 abbrev pub exactly : ℕ → List Value → List Value
 exactly zero vs = []
 exactly (suc k) [] = Nil ∷ exactly k []

@@ -1,4 +1,5 @@
--- When two runs end alike, when two terms mean the same in place, and when a term is another but for parts that mean the same. Deferred calls count as equal when they are equally many and run alike, one by one.
+-- When two runs end alike, when two terms mean the same in place, and when a term is another but for parts that mean
+-- the same. Deferred calls count as equal when they are equally many and run alike, one by one.
 use Rattle.std.specs.Prelude.{◌≡◌, ℕ, ◌<◌, ◌≤◌, List, [], ◌∷◌, Bool, true, Option}
 use Rattle.go_kernel.specs.Kernel.{Name, Label, FuncName, Value, Reason, Event, Op, Slot, Term, Vals, Local, Set, Both, Prim, If, Let, Loop, Leave, Catch, Within, Alone, Recover, Call, Defer, DeferLit, Store, Frame, Deferred, State, Exit, Result, Gives, Leaves, Cuts, after, run_one, Program, chain, free_level, Ext}
 
@@ -10,7 +11,8 @@ out_of (Cuts o) = o
 
 -- a result with its frame changed
 abbrev pub reframed : (Frame → Frame) → Result → Result
-reframed q r = after r (λ v s. Gives v (record s { frame = q s.frame })) (λ e s. Leaves e (record s { frame = q s.frame }))
+reframed q r =
+    after r (λ v s. Gives v (record s { frame = q s.frame })) (λ e s. Leaves e (record s { frame = q s.frame }))
 
 -- two lists of deferred calls, one by one
 pub data Each (D : Deferred → Deferred → Type 0) : List Deferred → List Deferred → Type 0 where
@@ -19,7 +21,9 @@ pub data Each (D : Deferred → Deferred → Type 0) : List Deferred → List De
 
 -- states that differ in their deferred calls alone
 pub data Near (D : Deferred → Deferred → Type 0) : State → State → Type 0 where
-  near : {f : Frame} {c : Store} {p : Option Reason} {o : List Event} {ds ds' : List Deferred} → Each D ds ds' → Near D (record { frame = f; store = c; pending = p; defers = ds; out = o }) (record { frame = f; store = c; pending = p; defers = ds'; out = o })
+  near : {f : Frame} {c : Store} {p : Option Reason} {o : List Event} {ds ds' : List Deferred} → Each D ds ds' →
+      Near D (record { frame = f; store = c; pending = p; defers = ds; out = o })
+      (record { frame = f; store = c; pending = p; defers = ds'; out = o })
 
 -- results of two runs from states with the events o; 'outruns' says whether the second may go on where the first is cut
 pub data Covered (outruns : Type 0) (D : Deferred → Deferred → Type 0) (o : List Event) : Result → Result → Type 0 where
@@ -31,7 +35,8 @@ pub data Covered (outruns : Type 0) (D : Deferred → Deferred → Type 0) (o : 
 module _ (P : Program) (free : FuncName → Bool) (A : ℕ) where
   -- deferred calls that run alike at each budget
   abbrev pub RunAlike : Deferred → Deferred → Type 0
-  RunAlike d d' = (n : ℕ) (e : Option Reason) (s : State) → run_one (free_level P free A n) d e s ≡ run_one (free_level P free A n) d' e s
+  RunAlike d d' = (n : ℕ) (e : Option Reason) (s : State) →
+      run_one (free_level P free A n) d e s ≡ run_one (free_level P free A n) d' e s
 
   -- runs that end alike
   abbrev pub Alike : List Event → Result → Result → Type 0
@@ -39,7 +44,8 @@ module _ (P : Program) (free : FuncName → Bool) (A : ℕ) where
 
   -- terms that mean the same at each budget, in every state, wherever a chain of k more free calls is left
   abbrev pub MeanSame : ℕ → Term → Term → Type 0
-  MeanSame k t t' = (n j : ℕ) → k ≤ j → (s : State) → Alike s.out (chain P free (free_level P free A n) j t s) (chain P free (free_level P free A n) j t' s)
+  MeanSame k t t' = (n j : ℕ) → k ≤ j → (s : State) →
+      Alike s.out (chain P free (free_level P free A n) j t s) (chain P free (free_level P free A n) j t' s)
 
 -- the functions that a body of rank k may call: those that aren't free, and the free ones of lower rank
 abbrev pub Below : (FuncName → Bool) → (FuncName → ℕ) → ℕ → FuncName → Type 0
@@ -62,7 +68,8 @@ pub data Same (E : Term → Term → Type 0) (C : FuncName → Type 0) : Term �
   recover : Same E C Recover Recover
   call : {f : FuncName} {a a' : Term} → C f → Same E C a a' → Same E C (Call f a) (Call f a')
   defer : {f : FuncName} {a a' : Term} → Same E C a a' → Same E C (Defer f a) (Defer f a')
-  defer_lit : {xs : List Name} {a a' b b' : Term} → Same E C a a' → Same E C b b' → Same E C (DeferLit xs a b) (DeferLit xs a' b')
+  defer_lit : {xs : List Name} {a a' b b' : Term} → Same E C a a' → Same E C b b' →
+      Same E C (DeferLit xs a b) (DeferLit xs a' b')
   swap : {a b c : Term} → Same E C a b → E b c → Same E C a c
 
 -- C of each function that a term calls directly

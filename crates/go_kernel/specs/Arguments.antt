@@ -2,7 +2,8 @@
 use Rattle.std.specs.Prelude.{bytes_eq, List, [], ◌∷◌, Bool, true, false, if◌then◌else◌}
 use Rattle.go_kernel.specs.Kernel.{Name, Term, Vals, Local, Both}
 
--- a parameter's name, its argument, names among which are all that are free in the argument as it is written, and whether it is chosen
+-- a parameter's name, its argument, names among which are all that are free in the argument as it is written, and
+-- whether it is chosen
 pub data Arg : Type 0 where
   arg : Name → Term → List Name → Bool → Arg
 

@@ -1,4 +1,6 @@
--- Which arguments of a call may take their parameters' places in the body together: each argument is then evaluated where its parameter is used, and nobody can tell (Go specification, "Calls", "Order of evaluation", "Declarations and scope"). Rows and items are read off the kernel terms of arguments and body.
+-- Which arguments of a call may take their parameters' places in the body together: each argument is then evaluated
+-- where its parameter is used, and nobody can tell (Go specification, "Calls", "Order of evaluation", "Declarations and
+-- scope"). Rows and items are read off the kernel terms of arguments and body.
 use Rattle.std.specs.Prelude.{◌≡◌, ◌≢◌, ◌⊎◌, bytes_eq, ℕ, ◌+◌, ◌≤◌, List, [], ◌∷◌, Bool, true, false, if◌then◌else◌, Option, Some, None, nat_eq}
 use Rattle.go_kernel.specs.Kernel.{Name, Term, Program}
 use Rattle.go_kernel.specs.Scope.{has}
@@ -7,7 +9,8 @@ use Rattle.go_kernel.specs.Items.{Item, Param, Read, Fail, Write, is_stop, uses}
 use Rattle.go_kernel.specs.Arguments.{Arg, arg, names_of}
 use Rattle.go_kernel.specs.Conditions.{width, each_free, no_spares, is_spare, none_in}
 
--- what is asked of an argument and its parameter. Whether the argument may be written twice, has the address of a variable, names a variable that lives in a cell or a variable's last use is a matter of the text
+-- what is asked of an argument and its parameter. Whether the argument may be written twice, has the address of a
+-- variable, names a variable that lives in a cell or a variable's last use is a matter of the text
 pub record Row : Type 0 where
   pub class : Class
   pub constant : Bool
@@ -44,9 +47,12 @@ abbrev pub uses_before : (Item → Bool) → Name → List Item → ℕ
 uses_before kind x [] = 0
 uses_before kind x (i ∷ I) = if is_stop i then 0 else if kind i then 0 else use_of x i + uses_before kind x I
 
--- the list I shows no more uses before a write, before any effect or before another's use than J does: it may end earlier and have further reads, failures and writes
+-- the list I shows no more uses before a write, before any effect or before another's use than J does: it may end
+-- earlier and have further reads, failures and writes
 abbrev pub AsCareful : List Item → List Item → Type 0
-AsCareful I J = (x : Name) → (uses_before is_write x I ≤ uses_before is_write x J) × (uses_before is_effect x I ≤ uses_before is_effect x J) × ((z : Name) → uses_before (is_use z) x I ≤ uses_before (is_use z) x J)
+AsCareful I J = (x : Name) →
+    (uses_before is_write x I ≤ uses_before is_write x J) × (uses_before is_effect x I ≤ uses_before is_effect x J)
+    × ((z : Name) → uses_before (is_use z) x I ≤ uses_before (is_use z) x J)
 
 -- ---- one argument
 
@@ -73,14 +79,17 @@ pub record Solo (r : Row) (x : Name) (I : List Item) (body_writes : Bool) : Type
 
 -- ---- a set of them
 
--- each later parameter whose class clashes with this one's is chosen too, and the uses of this one are listed before its uses
+-- each later parameter whose class clashes with this one's is chosen too, and the uses of this one are listed before
+-- its uses
 abbrev pub Later : Row → Name → List Item → List Row → List Arg → Type 0
-Later r x I (q ∷ rows) (arg z a fr c ∷ os) = (clash r.class q.class ≡ true → (c ≡ true) × (uses_before (is_use z) x I ≡ r.uses)) × Later r x I rows os
+Later r x I (q ∷ rows) (arg z a fr c ∷ os) =
+    (clash r.class q.class ≡ true → (c ≡ true) × (uses_before (is_use z) x I ≡ r.uses)) × Later r x I rows os
 Later r x I _ _ = Unit {0}
 
 -- of two parameters: where one is chosen and the other's name is free in its argument, the other is chosen
 abbrev pub NamesMove : Arg → Arg → Type 0
-NamesMove (arg x a fr c) (arg z b fr' c') = (c ≡ true → c' ≡ false → has z fr ≡ false) × (c' ≡ true → c ≡ false → has x fr' ≡ false)
+NamesMove (arg x a fr c) (arg z b fr' c') = (c ≡ true → c' ≡ false → has z fr ≡ false)
+    × (c' ≡ true → c ≡ false → has x fr' ≡ false)
 
 abbrev pub NamesMoveAll : Arg → List Arg → Type 0
 NamesMoveAll o [] = Unit {0}
@@ -88,7 +97,8 @@ NamesMoveAll o (p ∷ os) = NamesMove o p × NamesMoveAll o os
 
 -- the chosen set is safe
 abbrev pub Safe : List Item → Bool → List Row → List Arg → Type 0
-Safe I w (r ∷ rows) (arg x a fr c ∷ os) = (c ≡ true → Solo r x I w × Later r x I rows os) × NamesMoveAll (arg x a fr c) os × Safe I w rows os
+Safe I w (r ∷ rows) (arg x a fr c ∷ os) = (c ≡ true → Solo r x I w × Later r x I rows os)
+    × NamesMoveAll (arg x a fr c) os × Safe I w rows os
 Safe I w _ _ = Unit {0}
 
 -- ---- rows read off terms
@@ -109,10 +119,14 @@ abbrev pub all_name_only : List Arg → Bool
 all_name_only [] = true
 all_name_only (arg x a fr c ∷ os) = if names_only true fr a then all_name_only os else false
 
--- the row of an argument: its class or a wider one, its uses, and what bars it: an assignment, a captured name, a 'recover' in it, or an argument that assigns a variable which it doesn't declare
+-- the row of an argument: its class or a wider one, its uses, and what bars it: an assignment, a captured name, a
+-- 'recover' in it, or an argument that assigns a variable which it doesn't declare
 abbrev pub IsRow : List Arg → List Name → Term → Arg → Row → Type 0
 IsRow all g t (arg x a fr c) r =
-    (allows r.class (class_of a) ≡ true) × (r.uses ≡ uses x g t) × (r.barred ≡ false → (unassigned x g t ≡ true) × (uncaptured x fr g t ≡ true) × (names_only false fr a ≡ true) × (all_name_only all ≡ true))
+    (allows r.class (class_of a) ≡ true) × (r.uses ≡ uses x g t)
+    × (r.barred ≡ false →
+    (unassigned x g t ≡ true) × (uncaptured x fr g t ≡ true) × (names_only false fr a ≡ true)
+    × (all_name_only all ≡ true))
 
 abbrev pub AreRows : List Arg → List Name → Term → List Arg → List Row → Type 0
 AreRows all g t [] [] = Unit {0}
@@ -132,8 +146,11 @@ is_one None = false
 -- each argument gives one value, and no name is one that the laws rename to
 abbrev pub well_named : Program → List Arg → Bool
 well_named P [] = true
-well_named P (arg x a fr c ∷ os) = if is_one (width P a) then (if is_spare x then false else if no_spares fr then well_named P os else false) else false
+well_named P (arg x a fr c ∷ os) =
+    if is_one (width P a) then (if is_spare x then false else if no_spares fr then well_named P os else false)
+    else false
 
 -- a body's free names are parameters, and it binds no name that the laws rename to
 abbrev pub closed : List Name → List Name → Term → Bool
-closed xs g t = each_free (λ h z. if has z xs then no_spares h else false) (λ h z. if has z xs then no_spares h else false) true g t
+closed xs g t =
+    each_free (λ h z. if has z xs then no_spares h else false) (λ h z. if has z xs then no_spares h else false) true g t

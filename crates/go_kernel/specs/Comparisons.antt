@@ -1,4 +1,5 @@
--- Comparisons and truth values (Go specification, "Comparison operators", "Logical operators"). Slices and maps are compared with nil alone.
+-- Comparisons and truth values (Go specification, "Comparison operators", "Logical operators"). Slices and maps are
+-- compared with nil alone.
 use Rattle.std.specs.Prelude.{Bool, true, false, not, ◌&&◌, ◌||◌, List, [], ◌∷◌, nat_eq, nat_lt, bytes_eq, int_lt}
 use Rattle.go_kernel.specs.Names.{Text, same_text}
 use Rattle.go_kernel.specs.Values.{Base, Numbered, Global, Value, Number, Truth, Str, Nil, Pointer, Empty, With}
@@ -9,7 +10,8 @@ abbrev pub same_truth : Bool → Bool → Bool
 same_truth true b = b
 same_truth false b = not b
 
--- pointers are equal where they lead to the same variable; distinct ones have distinct cells or paths, whatever their size
+-- pointers are equal where they lead to the same variable; distinct ones have distinct cells or paths, whatever their
+-- size
 abbrev pub same_base : Base → Base → Bool
 same_base (Numbered p) (Numbered q) = nat_eq p q
 same_base (Global p n) (Global q m) = same_text p q && same_text n m

@@ -30,7 +30,8 @@ module _ (P : Program) where
   width (Call f a) = then' (width a) (Some (length (P f).results))
   width _ = None
 
--- u of each use of a free name and s of each assignment to one, under the names that are bound there; the result slots of literals are their own; and 'recover' stands in literals alone, or where r says that it may
+-- u of each use of a free name and s of each assignment to one, under the names that are bound there; the result slots
+-- of literals are their own; and 'recover' stands in literals alone, or where r says that it may
 module _ (u s : List Name → Name → Bool) where
   abbrev pub each_set : List Name → List Name → Bool
   each_set g [] = true

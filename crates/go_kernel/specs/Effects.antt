@@ -1,4 +1,6 @@
--- The table of primitives: whether each may panic, whether what it gives may depend on the store, whether it may change the memory or print, and whether it takes choices. What is not said to panic never does, whatever its operands (Go specification, "Run-time panics", "Order of evaluation").
+-- The table of primitives: whether each may panic, whether what it gives may depend on the store, whether it may change
+-- the memory or print, and whether it takes choices. What is not said to panic never does, whatever its operands (Go
+-- specification, "Run-time panics", "Order of evaluation").
 use Rattle.std.specs.Prelude.{◌≡◌, ℕ, Bool, true, false, List, [], length}
 use Rattle.go_kernel.specs.Values.{Value, Reason}
 use Rattle.go_kernel.specs.Store.{Store, empty_store}
@@ -99,7 +101,8 @@ IsCalm o = (vs : List Value) (c : Store) (p : Reason) → prim o vs c ≡ Fails 
 
 -- changes no memory and prints nothing, whether it panics or not
 unfoldable pub KeepsMemory : Op → Type 0
-KeepsMemory o = (vs ws : List Value) (c d : Store) (e : List Event) → prim o vs c ≡ Ok ws d e → (d.memory ≡ c.memory) × (e ≡ [])
+KeepsMemory o = (vs ws : List Value) (c d : Store) (e : List Event) → prim o vs c ≡ Ok ws d e →
+    (d.memory ≡ c.memory) × (e ≡ [])
 
 -- and takes no choice
 unfoldable pub Keeps : Op → Type 0

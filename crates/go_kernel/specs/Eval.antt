@@ -1,4 +1,6 @@
--- Evaluation of terms (Go specification, "Order of evaluation", "Calls", "Statements", "Handling panics"). A budget bounds how deep calls nest and how many turns loops make, so that every evaluation ends: where it is gone, the run is cut.
+-- Evaluation of terms (Go specification, "Order of evaluation", "Calls", "Statements", "Handling panics"). A budget
+-- bounds how deep calls nest and how many turns loops make, so that every evaluation ends: where it is gone, the run is
+-- cut.
 use Rattle.std.specs.Prelude.{ℕ, zero, suc, ◌++◌, List, [], ◌∷◌, Bool, true, false, bytes_eq, if◌then◌else◌, Option, Some, None}
 use Rattle.go_kernel.specs.Names.{Name, Label, FuncName}
 use Rattle.go_kernel.specs.Values.{Value, Truth, Reason, or_nil}
@@ -22,7 +24,9 @@ on_truth (Truth true ∷ []) a b = a
 on_truth _ a b = b
 
 abbrev pub popped : List Name → Result → Result
-popped xs r = after r (λ v s. Gives v (record s { frame = pop xs s.frame })) (λ e s. Leaves e (record s { frame = pop xs s.frame }))
+popped xs r =
+    after r (λ v s. Gives v (record s { frame = pop xs s.frame }))
+    (λ e s. Leaves e (record s { frame = pop xs s.frame }))
 
 -- an exit with this label ends here
 abbrev pub caught_by : Label → Exit → State → Result
@@ -62,15 +66,18 @@ abbrev pub panic_of : Option Reason → Exit → Option Reason
 panic_of e (Gone l) = e
 panic_of e (Panic p) = Some p
 
--- one deferred call in a body that is ending with e. Of it only the store, the events and the panic then pending are seen, which is the result's 'pending'
+-- one deferred call in a body that is ending with e. Of it only the store, the events and the panic then pending are
+-- seen, which is the result's 'pending'
 abbrev pub run_one : Level → Deferred → Option Reason → State → Result
 run_one below d e s =
-    after (below d.body (entered d.frame e s)) (λ v s1. Gives [] (record (back s s1) { pending = s1.pending })) (λ x s1. Gives [] (record (back s s1) { pending = panic_of s1.pending x }))
+    after (below d.body (entered d.frame e s)) (λ v s1. Gives [] (record (back s s1) { pending = s1.pending }))
+    (λ x s1. Gives [] (record (back s s1) { pending = panic_of s1.pending x }))
 
 -- the deferred calls, the last added first
 abbrev pub unwind : Level → List Deferred → Option Reason → State → Result
 unwind below [] e s = ending e s
-unwind below (d ∷ ds) e s = after (run_one below d e s) (λ v s1. unwind below ds s1.pending (record s1 { pending = s.pending })) Leaves
+unwind below (d ∷ ds) e s =
+    after (run_one below d e s) (λ v s1. unwind below ds s1.pending (record s1 { pending = s.pending })) Leaves
 
 -- the state after a body with the deferred calls of the body around it
 abbrev pub resumed : List Deferred → Result → Result
@@ -93,25 +100,34 @@ is_pending (Some p) = Truth true
 abbrev pub eval : Program → (FuncName → Level) → Level → Term → State → Result
 eval P pick below (Vals vs) s = Gives vs s
 eval P pick below (Local x) s = Gives (lookup x s.frame ∷ []) s
-eval P pick below (Set xs a) s = after (eval P pick below a s) (λ v s. Gives [] (record s { frame = put_all xs v s.frame })) Leaves
+eval P pick below (Set xs a) s =
+    after (eval P pick below a s) (λ v s. Gives [] (record s { frame = put_all xs v s.frame })) Leaves
 eval P pick below (Both a b) s =
     after (eval P pick below a s) (λ v s. after (eval P pick below b s) (λ w s. Gives (v ++ w) s) Leaves) Leaves
 eval P pick below (Prim o a) s = after (eval P pick below a s) (λ v s. answered (prim o v s.store) s) Leaves
-eval P pick below (If c a b) s = after (eval P pick below c s) (λ v s. on_truth v (eval P pick below a s) (eval P pick below b s)) Leaves
+eval P pick below (If c a b) s =
+    after (eval P pick below c s) (λ v s. on_truth v (eval P pick below a s) (eval P pick below b s)) Leaves
 eval P pick below (Let xs a b) s =
-    after (eval P pick below a s) (λ v s. popped xs (eval P pick below b (record s { frame = push xs v s.frame }))) Leaves
-eval P pick below (Loop c b) s = after (eval P pick below c s) (λ v s. on_truth v (below (Let [] b (Loop c b)) s) (Gives [] s)) Leaves
+    after (eval P pick below a s)
+    (λ v s. popped xs (eval P pick below b (record s { frame = push xs v s.frame }))) Leaves
+eval P pick below (Loop c b) s =
+    after (eval P pick below c s) (λ v s. on_truth v (below (Let [] b (Loop c b)) s) (Gives [] s)) Leaves
 eval P pick below (Leave l) s = Leaves (Gone l) s
 eval P pick below (Catch l a) s = after (eval P pick below a s) Gives (caught_by l)
-eval P pick below (Within a rs) s = with_slots rs (resumed s.defers (unwound below (eval P pick below a (record s { defers = [] }))))
+eval P pick below (Within a rs) s =
+    with_slots rs (resumed s.defers (unwound below (eval P pick below a (record s { defers = [] }))))
 eval P pick below (Alone a) s = with_pending s.pending (eval P pick below a (record s { pending = None }))
 eval P pick below Recover s = Gives (is_pending s.pending ∷ []) (record s { pending = None })
 eval P pick below (Call f a) s =
-    after (eval P pick below a s) (λ v s. called s (pick f (code (P f)) (entered (push (P f).params v []) None s))) Leaves
+    after (eval P pick below a s)
+    (λ v s. called s (pick f (code (P f)) (entered (push (P f).params v []) None s))) Leaves
 eval P pick below (Defer f a) s =
-    after (eval P pick below a s) (λ v s. Gives [] (record s { defers = (record { frame = push (P f).params v []; body = code (P f) }) ∷ s.defers })) Leaves
+    after (eval P pick below a s)
+    (λ v s. Gives []
+    (record s { defers = (record { frame = push (P f).params v []; body = code (P f) }) ∷ s.defers })) Leaves
 eval P pick below (DeferLit xs a b) s =
-    after (eval P pick below a s) (λ v s. Gives [] (record s { defers = (record { frame = push xs v s.frame; body = b }) ∷ s.defers })) Leaves
+    after (eval P pick below a s)
+    (λ v s. Gives [] (record s { defers = (record { frame = push xs v s.frame; body = b }) ∷ s.defers })) Leaves
 
 -- ---- budgets
 

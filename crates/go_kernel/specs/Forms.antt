@@ -1,4 +1,5 @@
--- Bodies and returns, as the forms of a call need them (Go specification, "Return statements", "Blocks", "Labeled statements", "Defer statements").
+-- Bodies and returns, as the forms of a call need them (Go specification, "Return statements", "Blocks", "Labeled
+-- statements", "Defer statements").
 use Rattle.std.specs.Prelude.{bytes_eq, nat_eq, ℕ, List, [], ◌∷◌, ◌++◌, length, Bool, true, false, if◌then◌else◌, Option, Some, None}
 use Rattle.go_kernel.specs.Kernel.{Name, Label, return_label, Truth, Program, Fail, Save, Unchecked, Slot, InFrame, InCell, Term, Vals, Local, Set, Both, Prim, If, Let, Loop, Leave, Catch, Within, Alone, Recover, Call, Defer, DeferLit}
 use Rattle.go_kernel.specs.Scope.{has, slot_name}
@@ -16,7 +17,8 @@ give_slots (InCell r ∷ rs) (t ∷ ts) = Both (Prim (Save Unchecked) (Both (Loc
 give_slots [] ts = Vals []
 give_slots rs [] = Vals []
 
--- a 'return' where results stand in the frame, and one where they may live in variables that pointers lead to: its operands are evaluated before any result is set
+-- a 'return' where results stand in the frame, and one where they may live in variables that pointers lead to: its
+-- operands are evaluated before any result is set
 abbrev pub return_to : List Name → Term → Term
 return_to ss e = Let [] (Set ss e) (Leave return_label)
 
@@ -98,7 +100,8 @@ abbrev pub has_width : Option ℕ → ℕ → Bool
 has_width (Some k) n = nat_eq k n
 has_width None n = false
 
--- a body's parts that aren't returns name no slot, assign none but parameters ps and variables of their own, and are tidy; its returns set all slots, in no scope of a variable that 'clear' refuses
+-- a body's parts that aren't returns name no slot, assign none but parameters ps and variables of their own, and are
+-- tidy; its returns set all slots, in no scope of a variable that 'clear' refuses
 module _ (P : Program) (ps ss : List Name) (clear : List Name → Bool) where
   abbrev pub may_read : List Name → Name → Bool
   may_read g x = if has x ss then false else true
@@ -110,7 +113,9 @@ module _ (P : Program) (ps ss : List Name) (clear : List Name → Bool) where
   works ls g t = if each_free may_read may_set false g t then tidy ls t else false
 
   abbrev pub returns : List Name → Term → Bool
-  returns g e = if (if each_free may_read may_set false g e then has_width (width P e) (length ss) else false) then (if none_in ss g then clear g else false) else false
+  returns g e =
+      if (if each_free may_read may_set false g e then has_width (width P e) (length ss) else false)
+      then (if none_in ss g then clear g else false) else false
 
   abbrev pub returns_or : Option Term → List Name → Bool → Bool
   returns_or (Some e) g b = returns g e

@@ -1,9 +1,11 @@
--- What a body does, in strict order of evaluation, as a list up to the first part that may not run or may run again; and how often it uses a name (Go specification, "Order of evaluation").
+-- What a body does, in strict order of evaluation, as a list up to the first part that may not run or may run again;
+-- and how often it uses a name (Go specification, "Order of evaluation").
 use Rattle.std.specs.Prelude.{bytes_eq, ℕ, ◌+◌, List, [], ◌∷◌, ◌++◌, Bool, true, false, if◌then◌else◌}
 use Rattle.go_kernel.specs.Kernel.{Name, Effect, effect, Term, Vals, Local, Set, Both, Prim, If, Let, Loop, Leave, Catch, Within, Alone, Recover, Call, Defer, DeferLit}
 use Rattle.go_kernel.specs.Scope.{has}
 
--- a use of a parameter; a read of a cell, package variable or map; an operation that may panic; a store, an allocation, a print, a call or a 'recover'; the end of what is listed
+-- a use of a parameter; a read of a cell, package variable or map; an operation that may panic; a store, an allocation,
+-- a print, a call or a 'recover'; the end of what is listed
 pub data Item : Type 0 where
   Param : Name → Item
   Read Fail Write Stop : Item
@@ -23,7 +25,8 @@ change_items e = if e.writes then Write ∷ [] else if e.reads then Read ∷ [] 
 abbrev pub effect_items : Effect → List Item
 effect_items e = if e.may_panic then Fail ∷ change_items e else change_items e
 
--- the items of a term whose names g are bound in it. Nothing is listed from a condition, a loop, a 'return', a literal's body or a 'defer' on; labels stand on loops and switches alone, which end the list
+-- the items of a term whose names g are bound in it. Nothing is listed from a condition, a loop, a 'return', a
+-- literal's body or a 'defer' on; labels stand on loops and switches alone, which end the list
 abbrev pub items : List Name → Term → List Item
 items g (Vals v) = []
 items g (Local x) = if has x g then [] else Param x ∷ []

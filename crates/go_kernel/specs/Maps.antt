@@ -1,4 +1,5 @@
--- Maps (Go specification, "Map types", "Index expressions", "Deletion of map elements", "For statements with range clause"). A map keeps its entries in order of insertion, and an overwritten key keeps its place.
+-- Maps (Go specification, "Map types", "Index expressions", "Deletion of map elements", "For statements with range
+-- clause"). A map keeps its entries in order of insertion, and an overwritten key keeps its place.
 use Rattle.std.specs.Prelude.{ℕ, suc, ◌%◌, Bool, true, false, not, List, [], ◌∷◌, ◌++◌, length, map, filter, if◌then◌else◌, Option, Some, None, slice_get, codes}
 use Rattle.go_kernel.specs.Values.{Value, Truth, Nil, Map, Empty, With, struct_of, or_nil, runtime_error}
 use Rattle.go_kernel.specs.Store.{Memory, Entries, allocated, with_cell, entries_at}
@@ -57,12 +58,14 @@ abbrev pub map_lit : List Value → Memory → Change
 map_lit vs c = new_map (entries_from vs []) c
 
 abbrev pub map_set : List Value → Memory → Outcome
-map_set (Map p ∷ k ∷ v ∷ []) c = Changes (record { values = []; memory = with_cell p (Entries (with_entry k v (entries_at p c))) c; events = [] })
+map_set (Map p ∷ k ∷ v ∷ []) c =
+    Changes (record { values = []; memory = with_cell p (Entries (with_entry k v (entries_at p c))) c; events = [] })
 map_set (Nil ∷ k ∷ v ∷ []) c = Refuses (runtime_error (codes "nil map"))
 map_set _ c = Changes (record { values = []; memory = c; events = [] })
 
 abbrev pub map_delete : List Value → Memory → Change
-map_delete (Map p ∷ k ∷ []) c = record { values = []; memory = with_cell p (Entries (without_entry k (entries_at p c))) c; events = [] }
+map_delete (Map p ∷ k ∷ []) c =
+    record { values = []; memory = with_cell p (Entries (without_entry k (entries_at p c))) c; events = [] }
 map_delete _ c = record { values = []; memory = c; events = [] }
 
 -- ---- a range over a map
@@ -107,7 +110,9 @@ other_choices (d ∷ ds) = ds
 -- whether there is a turn, its key and element, and what the range then remembers
 abbrev pub turn : Option Value → List Entry → List Value → List Value → List Value
 turn None es given owed = Truth false ∷ Nil ∷ Nil ∷ range_state given owed ∷ []
-turn (Some k) es given owed = Truth true ∷ k ∷ or_nil (entry_in k es) ∷ range_state (given ++ k ∷ []) (filter (λ x. not (same_value k x)) owed) ∷ []
+turn (Some k) es given owed =
+    Truth true ∷ k ∷ or_nil (entry_in k es) ∷ range_state (given ++ k ∷ []) (filter (λ x. not (same_value k x)) owed)
+    ∷ []
 
 -- the number of the key that comes next among n open ones; while none is owed, n itself ends the range
 abbrev pub drawn_number : ℕ → ℕ → List Value → ℕ
@@ -117,11 +122,16 @@ drawn_number d n (o ∷ owed) = d % n
 -- of the open keys, which the map holds and which were not given, one is drawn; without any, nothing is drawn
 abbrev pub drawn : List Entry → List Value → List Value → List Value → List ℕ → Drawing
 drawn es given owed [] cs = record { values = turn None es given owed; choices = cs }
-drawn es given owed (k ∷ ks) cs = record { values = turn (slice_get (k ∷ ks) (drawn_number (choice cs) (suc (length ks)) owed)) es given owed; choices = other_choices cs }
+drawn es given owed (k ∷ ks) cs =
+    record {
+      values = turn (slice_get (k ∷ ks) (drawn_number (choice cs) (suc (length ks)) owed)) es given owed;
+      choices = other_choices cs;
+    }
 
 -- keys that the map no longer holds are owed no more
 abbrev pub next_turn : List Entry → List Value → List Value → List ℕ → Drawing
-next_turn es given owed cs = drawn es given (filter (λ k. is_among k (keys_of es)) owed) (filter (λ k. not (is_among k given)) (keys_of es)) cs
+next_turn es given owed cs =
+    drawn es given (filter (λ k. is_among k (keys_of es)) owed) (filter (λ k. not (is_among k given)) (keys_of es)) cs
 
 abbrev pub range_next : List Value → Memory → List ℕ → Drawing
 range_next (m ∷ s ∷ []) c cs = next_turn (entries_of m c) (given_of s) (owed_of s) cs

@@ -1,4 +1,5 @@
--- Names of a program: identifiers, import paths and what is declared under them (Go specification, "Identifiers", "Declarations and scope", "Import declarations").
+-- Names of a program: identifiers, import paths and what is declared under them (Go specification, "Identifiers",
+-- "Declarations and scope", "Import declarations").
 use Rattle.std.specs.Prelude.{ℕ, Bool, true, false, List, [], ◌∷◌, ◌++◌, Option, Some, None, bytes_eq, ◌&&◌, codes}
 
 -- a text as its bytes
@@ -14,7 +15,8 @@ ImportPath = Text
 abbrev pub same_text : Text → Text → Bool
 same_text = bytes_eq
 
--- names that no source can spell, since neither '.' nor '#' nor the byte 0 is a letter: of a translation's temporaries; of a function's results, with or without a name, so that no other variable hides one; and spare ones for renaming
+-- names that no source can spell, since neither '.' nor '#' nor the byte 0 is a letter: of a translation's temporaries;
+-- of a function's results, with or without a name, so that no other variable hides one; and spare ones for renaming
 abbrev pub temporary : ℕ → Name
 temporary k = 46 ∷ k ∷ []
 

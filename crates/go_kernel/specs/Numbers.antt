@@ -1,4 +1,5 @@
--- Whole numbers of a kind (Go specification, "Arithmetic operators", "Integer operators", "Integer overflow", "Conversions between numeric types").
+-- Whole numbers of a kind (Go specification, "Arithmetic operators", "Integer operators", "Integer overflow",
+-- "Conversions between numeric types").
 use Rattle.std.specs.Prelude.{◌≡◌, ◌⊎◌, ◌<◌, ◌*◌, ℕ, ◌-◌, ◌^◌, Bool, true, false, List, [], ◌∷◌, if◌then◌else◌, nat_eq, nat_lt, ℤ, pos, negsuc, ◌+ℤ◌, ◌-ℤ◌, ◌*ℤ◌, neg_ℤ, int_lt, int_div, int_rem, codes}
 use Rattle.std.specs.Int.{int_bit_and, int_bit_or, int_bit_xor, int_rem_euclid, int_div_euclid, w128}
 use Rattle.go_kernel.specs.Values.{Kind, Int, Int8, Int16, Int32, Int64, Uint, Uint8, Uint16, Uint32, Uint64, Value, Number, runtime_error}
@@ -63,13 +64,17 @@ division Quotient a b = int_div a b
 division Remainder a b = int_rem a b
 
 abbrev pub divide : Division → Kind → List Value → Attempt
-divide o k (Number j a ∷ Number l b ∷ []) = elim (int_eq b (pos 0)) [ true ↦ Panics (runtime_error (codes "divide")) | false ↦ Done (Number k (wrap k (division o a b)) ∷ []) ]
+divide o k (Number j a ∷ Number l b ∷ []) =
+    elim (int_eq b (pos 0))
+    [ true ↦ Panics (runtime_error (codes "divide")) | false ↦ Done (Number k (wrap k (division o a b)) ∷ []) ]
 divide o k _ = Done []
 
 -- by n places; no kind has more than 64, so past them only the sign is left
 abbrev pub shifted : Direction → ℤ → ℕ → ℤ
 shifted Left a n = elim (nat_lt n 64) [ true ↦ a *ℤ pos (2 ^ n) | false ↦ pos 0 ]
-shifted Right a n = elim (nat_lt n 64) [ true ↦ int_div_euclid a (pos (2 ^ n)) | false ↦ (if int_lt a (pos 0) then negsuc 0 else pos 0) ]
+shifted Right a n =
+    elim (nat_lt n 64)
+    [ true ↦ int_div_euclid a (pos (2 ^ n)) | false ↦ (if int_lt a (pos 0) then negsuc 0 else pos 0) ]
 
 abbrev pub shift : Direction → Kind → List Value → Attempt
 shift d k (Number j a ∷ Number l (pos n) ∷ []) = Done (Number k (wrap k (shifted d a n)) ∷ [])

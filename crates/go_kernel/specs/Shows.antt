@@ -1,4 +1,5 @@
--- What a run of a main package shows (Go specification, "Program initialization", "Program execution"), and when one shows at least what another does.
+-- What a run of a main package shows (Go specification, "Program initialization", "Program execution"), and when one
+-- shows at least what another does.
 use Rattle.std.specs.Prelude.{◌≡◌, ℕ, suc, ◌++◌, Bool, List, [], None}
 use Rattle.go_kernel.specs.Names.{FuncName}
 use Rattle.go_kernel.specs.Values.{Reason}
@@ -29,7 +30,8 @@ shows P init main choices n = shown (level P (suc n) (Let [] init (code (P main)
 
 -- the same under free prices: a direct call of a free function costs nothing in a chain of at most A of them
 abbrev pub free_shows : Program → (FuncName → Bool) → ℕ → Term → FuncName → List ℕ → ℕ → Shown
-free_shows P free A init main choices n = shown (free_level P free A (suc n) (Let [] init (code (P main))) (start choices))
+free_shows P free A init main choices n =
+    shown (free_level P free A (suc n) (Let [] init (code (P main))) (start choices))
 
 -- b's events are new ones upon a's
 abbrev pub Ext : List Event → List Event → Type 0

@@ -1,4 +1,6 @@
--- Strings and slices (Go specification, "String types", "Slice types", "Index expressions", "Slice expressions", "Length and capacity", "Making slices, maps and channels", "Appending to and copying slices", "Conversions to and from a string type").
+-- Strings and slices (Go specification, "String types", "Slice types", "Index expressions", "Slice expressions",
+-- "Length and capacity", "Making slices, maps and channels", "Appending to and copying slices", "Conversions to and
+-- from a string type").
 use Rattle.std.specs.Prelude.{ℕ, zero, suc, ◌+◌, ◌-◌, ◌*◌, ◌^◌, Bool, true, false, ◌&&◌, List, [], ◌∷◌, ◌++◌, length, map, take, drop, if◌then◌else◌, Option, Some, None, nat_lt, nat_le, ℤ, pos, negsuc, slice_get, slice_set, codes}
 use Rattle.go_kernel.specs.Values.{Numbered, Value, Int, Uint8, Number, Str, Nil, Pointer, Slice, or_nil, runtime_error}
 use Rattle.go_kernel.specs.Store.{Memory, Elements, allocated, with_cell, elements_at}
@@ -52,7 +54,8 @@ element (Nil ∷ Number k i ∷ []) c = no_index
 element _ c = Done []
 
 abbrev pub element_address : List Value → Attempt
-element_address (Slice p from n cap ∷ Number k i ∷ []) = at_index n i (λ j. Done (Pointer (Numbered p) ((from + j) ∷ []) ∷ []))
+element_address (Slice p from n cap ∷ Number k i ∷ []) =
+    at_index n i (λ j. Done (Pointer (Numbered p) ((from + j) ∷ []) ∷ []))
 element_address (Nil ∷ Number k i ∷ []) = no_index
 element_address _ = Done []
 
@@ -77,7 +80,8 @@ high_bound _ _ n _ = pos n
 
 -- goes on with bounds in order, the higher within the limit
 abbrev pub within : ℕ → ℤ → ℤ → (ℕ → ℕ → Value) → Attempt
-within n (pos a) (pos b) k = if nat_le a b && nat_le b n then Done (k a b ∷ []) else Panics (runtime_error (codes "bounds"))
+within n (pos a) (pos b) k =
+    if nat_le a b && nat_le b n then Done (k a b ∷ []) else Panics (runtime_error (codes "bounds"))
 within n _ _ k = Panics (runtime_error (codes "bounds"))
 
 -- a string is cut within its length, a slice within its capacity; a slice of nil is nil
@@ -99,7 +103,8 @@ copies (suc n) v = v ∷ copies n v
 
 -- a new list of elements, and a slice of the first n of it
 abbrev pub new_slice : ℕ → List Value → Memory → Change
-new_slice n vs c = record { values = Slice (length c.cells) 0 n (length vs) ∷ []; memory = allocated (Elements vs) c; events = [] }
+new_slice n vs c =
+    record { values = Slice (length c.cells) 0 n (length vs) ∷ []; memory = allocated (Elements vs) c; events = [] }
 
 abbrev pub put_all_at : List ℕ → List Value → List Value → List Value
 put_all_at (i ∷ is) (v ∷ vs) zs = put_all_at is vs (slice_set zs i v)
@@ -121,7 +126,8 @@ no_size = Refuses (runtime_error (codes "size"))
 
 -- a size is bad where it is negative or no int, or the length is above the capacity
 abbrev pub made : Value → ℤ → ℤ → Memory → Outcome
-made z (pos n) (pos m) c = elim (nat_le n m && nat_lt m (2 ^ 63)) [ true ↦ Changes (new_slice n (copies m z) c) | false ↦ no_size ]
+made z (pos n) (pos m) c =
+    elim (nat_le n m && nat_lt m (2 ^ 63)) [ true ↦ Changes (new_slice n (copies m z) c) | false ↦ no_size ]
 made z _ _ c = no_size
 
 abbrev pub make_slice : Value → List Value → Memory → Outcome
@@ -156,7 +162,12 @@ grown old need = if nat_lt (2 * old) need then need else 2 * old
 
 abbrev pub append_to : Value → Value → List Value → Memory → Change
 append_to z s vs c =
-    elim (nat_le (length_of s + length vs) (capacity_of s)) [ true ↦ record { values = extended s (length vs) ∷ []; memory = filled s (length_of s) vs c; events = [] } | false ↦ let need : ℕ = length_of s + length vs in new_slice need (contents s c ++ (vs ++ copies (grown (capacity_of s) need - need) z)) c ]
+    elim (nat_le (length_of s + length vs) (capacity_of s)) [
+      | true ↦ record { values = extended s (length vs) ∷ []; memory = filled s (length_of s) vs c; events = [] }
+      | false ↦ let need : ℕ =
+          length_of s + length vs in new_slice need
+          (contents s c ++ (vs ++ copies (grown (capacity_of s) need - need) z)) c
+    ]
 
 abbrev pub append : Value → List Value → Memory → Change
 append z (s ∷ vs) c = append_to z s vs c
@@ -164,7 +175,9 @@ append z [] c = record { values = []; memory = c; events = [] }
 
 -- the source is read as a whole before the destination is written
 abbrev pub copy_to : Value → List Value → Memory → Change
-copy_to d vs c = let n : ℕ = length (take (length_of d) vs) in record { values = int n ∷ []; memory = filled d 0 (take n vs) c; events = [] }
+copy_to d vs c =
+    let n : ℕ = length
+    (take (length_of d) vs) in record { values = int n ∷ []; memory = filled d 0 (take n vs) c; events = [] }
 
 abbrev pub copy : List Value → Memory → Change
 copy (d ∷ s ∷ []) c = copy_to d (contents s c) c

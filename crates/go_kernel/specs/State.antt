@@ -1,4 +1,5 @@
--- What an evaluation goes through: the frame of local variables, the store, the pending panic, the deferred calls and the events; and how a term ends (Go specification, "Blocks", "Defer statements", "Handling panics").
+-- What an evaluation goes through: the frame of local variables, the store, the pending panic, the deferred calls and
+-- the events; and how a term ends (Go specification, "Blocks", "Defer statements", "Handling panics").
 use Rattle.std.specs.Prelude.{List, [], ◌∷◌, if◌then◌else◌, Option, bytes_eq}
 use Rattle.go_kernel.specs.Names.{Name, Label}
 use Rattle.go_kernel.specs.Values.{Value, Nil, Reason}

@@ -1,4 +1,6 @@
--- The kernel language, into which Go's expressions and statements are translated. A term gives a list of values, so that arguments, the results of a call and a call with several results as arguments are one thing (Go specification, "Calls", "Assignment statements", "Return statements").
+-- The kernel language, into which Go's expressions and statements are translated. A term gives a list of values, so
+-- that arguments, the results of a call and a call with several results as arguments are one thing (Go specification,
+-- "Calls", "Assignment statements", "Return statements").
 use Rattle.std.specs.Prelude.{List, [], ◌∷◌, if◌then◌else◌}
 use Rattle.go_kernel.specs.Names.{Name, FuncName, same_func, Label}
 use Rattle.go_kernel.specs.Values.{Value}
@@ -36,12 +38,15 @@ pub data Term : Type 0 where
   -- a deferred literal with its parameters and arguments
   DeferLit : List Name → Term → Term → Term
 
--- a term after these locals were put into cells: each becomes the address of a new variable with its value. So begins what follows the declaration of variables that pointers or deferred literals may reach, and a body whose parameters or results are such, the parameters first
+-- a term after these locals were put into cells: each becomes the address of a new variable with its value. So begins
+-- what follows the declaration of variables that pointers or deferred literals may reach, and a body whose parameters
+-- or results are such, the parameters first
 abbrev pub in_cells : List Name → Term → Term
 in_cells [] t = t
 in_cells (x ∷ xs) t = Let [] (Set (x ∷ []) (Prim Alloc (Local x))) (in_cells xs t)
 
--- a declared function: its parameters, the locals of its results with their zero values, its body, and where its results stand when it ends
+-- a declared function: its parameters, the locals of its results with their zero values, its body, and where its
+-- results stand when it ends
 pub record Func : Type 0 where
   pub params : List Name
   pub slots : List Name

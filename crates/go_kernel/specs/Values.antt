@@ -1,4 +1,6 @@
--- Values of the profile (Go specification, "Types", "Variables"): whole numbers with their kind, truth values, byte strings, structs, nil, pointers, slices and maps; and what a panic carries (Go specification, "Handling panics", "Run-time panics").
+-- Values of the profile (Go specification, "Types", "Variables"): whole numbers with their kind, truth values, byte
+-- strings, structs, nil, pointers, slices and maps; and what a panic carries (Go specification, "Handling panics",
+-- "Run-time panics").
 use Rattle.std.specs.Prelude.{ℕ, zero, suc, Bool, List, [], ◌∷◌, Option, Some, None, ℤ}
 use Rattle.go_kernel.specs.Names.{Text, Name, ImportPath}
 
@@ -11,7 +13,8 @@ pub data Base : Type 0 where
   Numbered : ℕ → Base
   Global : ImportPath → Name → Base
 
--- a struct is With its first field the rest, and ended by Empty. A slice has a cell, the place of its first element there, a length and a capacity; a pointer has a base, and a path of fields and indices
+-- a struct is With its first field the rest, and ended by Empty. A slice has a cell, the place of its first element
+-- there, a length and a capacity; a pointer has a base, and a path of fields and indices
 pub data Value : Type 0 where
   Number : Kind → ℤ → Value
   Truth : Bool → Value
@@ -53,7 +56,8 @@ abbrev pub or_nil : Option Value → Value
 or_nil None = Nil
 or_nil (Some v) = v
 
--- the type with which a panic's value is reported (Go specification, "Handling panics"); run-time panics have a type of their own
+-- the type with which a panic's value is reported (Go specification, "Handling panics"); run-time panics have a type of
+-- their own
 mutual
   pub data PanicType : Type 0 where
     RuntimeError BoolType StringType : PanicType

@@ -1,4 +1,5 @@
--- Structs, variables and pointers (Go specification, "Struct types", "Composite literals", "Selectors", "Address operators", "Allocation", "Variables").
+-- Structs, variables and pointers (Go specification, "Struct types", "Composite literals", "Selectors", "Address
+-- operators", "Allocation", "Variables").
 use Rattle.std.specs.Prelude.{ℕ, List, [], ◌∷◌, ◌++◌, length, Option, Some, None, codes}
 use Rattle.go_kernel.specs.Names.{Name, ImportPath}
 use Rattle.go_kernel.specs.Values.{Numbered, Value, Nil, Pointer, field, with_field, with_path, or_nil, runtime_error}
@@ -63,4 +64,9 @@ first [] = Nil
 first (v ∷ vs) = v
 
 abbrev pub alloc : List Value → Memory → Change
-alloc vs c = record { values = Pointer (Numbered (length c.cells)) [] ∷ []; memory = allocated (Variable (first vs)) c; events = [] }
+alloc vs c =
+    record {
+      values = Pointer (Numbered (length c.cells)) [] ∷ [];
+      memory = allocated (Variable (first vs)) c;
+      events = [];
+    }

@@ -2,7 +2,8 @@
 
 ghost use Rattle.go_kernel.specs.ChosenLaws.{ActingArgumentMoves, CallMovesItsSafeSet, CarefulListServes, LookingArgumentMoves, SafeSetMoves, SteadyArgumentMoves};
 
-/// An argument that can't panic and looks at the frame alone may stand wherever its parameter is used, in loops and deferred literals too.
+/// An argument that can't panic and looks at the frame alone may stand wherever its parameter is used, in loops and
+/// deferred literals too.
 pub fn steady_argument_moves()
     ensures { SteadyArgumentMoves }
 {}
@@ -13,7 +14,8 @@ pub fn looking_argument_moves()
     ensures { LookingArgumentMoves }
 {}
 
-/// Any argument may stand where its parameter is used, if the body uses it once and lists this use before any read, failure or write.
+/// Any argument may stand where its parameter is used, if the body uses it once and lists this use before any read,
+/// failure or write.
 pub fn acting_argument_moves()
     ensures { ActingArgumentMoves }
 {}

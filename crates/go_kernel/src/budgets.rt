@@ -13,7 +13,8 @@ pub fn free_prices_cover()
     ensures { FreePricesCover }
 {}
 
-/// What a run shows at budget n where chains of at most A free calls cost nothing is covered by what it shows at budget (A + 1)(n + 1).
+/// What a run shows at budget n where chains of at most A free calls cost nothing is covered by what it shows at budget
+/// (A + 1)(n + 1).
 pub fn free_prices_are_covered()
     ensures { FreePricesAreCovered }
 {}

@@ -13,7 +13,8 @@ pub fn body_is_block()
     ensures { BodyIsBlock }
 {}
 
-/// Where a called literal is all that a `return` returns, the block of its body with its returns turned into the caller's
+/// Where a called literal is all that a `return` returns, the block of its body with its returns turned into the
+/// caller's
 /// may stand for the `return`. Here the caller's results stand in the frame.
 pub fn tail_is_block()
     ensures { TailIsBlock }

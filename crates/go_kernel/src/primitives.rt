@@ -1,7 +1,7 @@
 //! The table of primitives: what each may do.
 
-ghost use Rattle.std.specs.Prelude.{◌≡◌, ℕ, Bool, true, false, List, [], ◌∷◌, ◌++◌, ◌≢◌, ℤ, pos};
-ghost use Rattle.go_kernel.specs.Kernel.{Kind, Value, Number, Store, Op, Divide, Division, Shift, Direction, Checked, Unchecked, Effect, effect, gives, prim, IsPure, IsLook, SeesMemory, IsCalm, KeepsMemory, Keeps, Makes};
+ghost use Rattle.std.specs.Prelude.{◌≡◌, ℕ, false, List, [], ◌∷◌, ◌++◌, ◌≢◌, ℤ, pos};
+ghost use Rattle.go_kernel.specs.Kernel.{Kind, Value, Number, Store, Op, Divide, Division, Shift, Direction, Checked, Unchecked, effect, gives, prim, IsPure, IsLook, SeesMemory, IsCalm, KeepsMemory, Keeps, Makes};
 
 /// What the table says of a primitive, its answers keep (Go specification, "Run-time panics",
 /// "Order of evaluation"): one that may not panic never does, whatever its operands; one that
@@ -12,7 +12,8 @@ ghost use Rattle.go_kernel.specs.Kernel.{Kind, Value, Number, Store, Op, Divide,
 pub fn table_of_primitives()
     ensures calm { (o : Op) → (effect o).may_panic ≡ false → IsCalm o }
     ensures pure { (o : Op) → (effect o).may_panic ≡ false → (effect o).reads ≡ false → IsPure o }
-    ensures look { (o : Op) → (effect o).may_panic ≡ false → (effect o).writes ≡ false → (effect o).draws ≡ false → IsLook o }
+    ensures look { (o : Op) → (effect o).may_panic ≡ false → (effect o).writes ≡ false → (effect o).draws ≡ false →
+        IsLook o }
     ensures sees_memory { (o : Op) → (effect o).draws ≡ false → SeesMemory o }
     ensures keeps_memory { (o : Op) → (effect o).writes ≡ false → KeepsMemory o }
     ensures keeps { (o : Op) → (effect o).writes ≡ false → (effect o).draws ≡ false → Keeps o }
@@ -24,6 +25,9 @@ pub fn table_of_primitives()
 /// variable (Go specification, "Integer operators").
 #[tactic(auto, using(crate::proofs::Table::divide_same, crate::proofs::Table::shift_same))]
 pub fn constant_operands()
-    ensures divide { (o : Division) (k l : Kind) (b : ℤ) (vs : List Value) (c : Store) → b ≢ pos 0 → prim (Divide Checked o k) (vs ++ Number l b ∷ []) c ≡ prim (Divide Unchecked o k) (vs ++ Number l b ∷ []) c }
-    ensures shift { (d : Direction) (k l : Kind) (n : ℕ) (vs : List Value) (c : Store) → prim (Shift Checked d k) (vs ++ Number l (pos n) ∷ []) c ≡ prim (Shift Unchecked d k) (vs ++ Number l (pos n) ∷ []) c }
+    ensures divide { (o : Division) (k l : Kind) (b : ℤ) (vs : List Value) (c : Store) → b ≢ pos 0 →
+        prim (Divide Checked o k) (vs ++ Number l b ∷ []) c ≡ prim (Divide Unchecked o k) (vs ++ Number l b ∷ []) c }
+    ensures shift { (d : Direction) (k l : Kind) (n : ℕ) (vs : List Value) (c : Store) →
+        prim (Shift Checked d k) (vs ++ Number l (pos n) ∷ []) c
+        ≡ prim (Shift Unchecked d k) (vs ++ Number l (pos n) ∷ []) c }
 {}

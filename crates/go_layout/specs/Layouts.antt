@@ -5,7 +5,8 @@ use Rattle.go_tree.specs.declared.tokens.TokenKind.TheVariants.{Ident, Keyword, 
 use Rattle.go_tree.specs.Tree.{NameAt}
 
 infixr 60 ◌⊕◌
--- A newline carries the indent of the line that it begins. Where it is `true`, the token before it ends a statement or a
+-- A newline carries the indent of the line that it begins. Where it is `true`, the token before it ends a statement or
+-- a
 -- spec, so the newline stands for a semicolon (Go specification, Semicolons); elsewhere it stands for none.
 pub data Layout : Type 0 where
   no_text : Layout

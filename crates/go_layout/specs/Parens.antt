@@ -1,4 +1,5 @@
--- Where an expression needs parentheses around it (Go specification, Operator precedence, Composite literals, Conversions).
+-- Where an expression needs parentheses around it (Go specification, Operator precedence, Composite literals,
+-- Conversions).
 use Rattle.std.specs.Prelude.{ℕ, ◌+◌, Bool, true, false, not, ◌&&◌, ◌||◌, nat_lt}
 use Rattle.go_tree.specs.declared.operators.UnOp.{UnOp}
 use Rattle.go_tree.specs.declared.operators.UnOp.TheVariants.{Plus, Minus, Flip, Address}
@@ -36,7 +37,8 @@ module _ {S : Type 0} where
 
   -- In a place of this level, in a header outside brackets or not. `closed` says that `(`, `,` or `)` directly follows.
   abbrev pub needs_parens : ℕ → Bool → Bool → Expr S → Bool
-  needs_parens level header closed e = nat_lt (precedence e) level || (header && is_named_literal e) || (not closed && is_bracketed_type e)
+  needs_parens level header closed e =
+      nat_lt (precedence e) level || (header && is_named_literal e) || (not closed && is_bracketed_type e)
 
   -- an integer before a dot would be read as a number with a fraction
   abbrev pub is_integer : Expr S → Bool

@@ -1,6 +1,8 @@
--- The layout of expressions and statements (Go specification, Expressions, Statements; go/printer of the Go standard library).
+-- The layout of expressions and statements (Go specification, Expressions, Statements; go/printer of the Go standard
+-- library).
 --
--- `indent` is the indent of the line on which the form begins. `header` says that it stands in the header of an `if`, `for`
+-- `indent` is the indent of the line on which the form begins. `header` says that it stands in the header of an `if`,
+-- `for`
 -- or `switch` outside brackets, and `closed` that `(`, `,` or `)` directly follows it.
 use Rattle.std.specs.Prelude.{ℕ, ◌+◌, Bool, true, false, ◌||◌, List, Option, Some, None, codes}
 use Rattle.go_tree.specs.declared.tokens.TokenKind.TheVariants.{Ident, Integer, Rune, Str}
@@ -156,7 +158,8 @@ module _ {S : Type 0} where
         let p = needs_parens 7 h true f in
         within p (expr_layout i (header_within p h) (closed_within p true) f) ⊕ op (codes "(")
         ⊕ exprs_layout i false (closes rest) xs ⊕ rest_layout rest xs ⊕ op (codes ")")
-    expr_layout i h c (func_lit _ g _ body) = key (codes "func") ⊕ sig_layout g ⊕ gap ⊕ in_braces i body (stmts_layout (deeper i) (Some i) body)
+    expr_layout i h c (func_lit _ g _ body) =
+        key (codes "func") ⊕ sig_layout g ⊕ gap ⊕ in_braces i body (stmts_layout (deeper i) (Some i) body)
     expr_layout i h c (type_operand _ t) = type_layout t
     expr_layout i h c (unary _ o e) =
         let p = needs_parens 6 h c e || runs_into o e in
@@ -166,70 +169,88 @@ module _ {S : Type 0} where
         within p (expr_layout i (header_within p h) (closed_within p false) a) ⊕ spaced (binary_spelling o)
         ⊕ within q (expr_layout i (header_within q h) (closed_within q c) b)
     expr_layout i h c (star _ e) =
-        let p = needs_parens 6 h c e in op (codes "*") ⊕ within p (expr_layout i (header_within p h) (closed_within p c) e)
+        let p = needs_parens 6 h c e in op (codes "*") ⊕ within p
+        (expr_layout i (header_within p h) (closed_within p c) e)
 
     -- `a, b`
     pub exprs_layout : List ℕ → Bool → Bool → Exprs S → Layout
     exprs_layout i h c no_exprs = no_text
     exprs_layout i h c (expr_and e es) =
         let d = closed_before c es in let p = needs_parens 1 h d e in
-        within p (expr_layout i (header_within p h) (closed_within p d) e) ⊕ comma_before_exprs es ⊕ exprs_layout i h c es
+        within p (expr_layout i (header_within p h) (closed_within p d) e) ⊕ comma_before_exprs es ⊕ exprs_layout i h c
+        es
 
     -- a bound of a slice, or a condition between semicolons
     pub option_layout : List ℕ → Bool → ExprOption S → Layout
     option_layout i h no_expr = no_text
-    option_layout i h (some_expr e) = let p = needs_parens 1 h false e in within p (expr_layout i (header_within p h) (closed_within p false) e)
+    option_layout i h (some_expr e) =
+        let p = needs_parens 1 h false e in within p (expr_layout i (header_within p h) (closed_within p false) e)
 
     -- a condition or tag before a brace
     pub test_layout : List ℕ → ExprOption S → Layout
     test_layout i no_expr = no_text
-    test_layout i (some_expr e) = let p = needs_parens 1 true false e in within p (expr_layout i (header_within p true) (closed_within p false) e) ⊕ gap
+    test_layout i (some_expr e) =
+        let p = needs_parens 1 true false e in within p
+        (expr_layout i (header_within p true) (closed_within p false) e) ⊕ gap
 
     -- `a, k: v`
     pub elems_layout : List ℕ → Elems S → Layout
     elems_layout i no_elems = no_text
-    elems_layout i (elem _ k v es) = key_layout i k ⊕ value_layout i (comma_follows es) v ⊕ comma_before_elems es ⊕ elems_layout i es
+    elems_layout i (elem _ k v es) =
+        key_layout i k ⊕ value_layout i (comma_follows es) v ⊕ comma_before_elems es ⊕ elems_layout i es
 
     pub key_layout : List ℕ → ValueOption S → Layout
     key_layout i no_value = no_text
     key_layout i (some_value v) = value_layout i false v ⊕ op (codes ":") ⊕ gap
 
     pub value_layout : List ℕ → Bool → Value S → Layout
-    value_layout i c (plain e) = let p = needs_parens 1 false c e in within p (expr_layout i (header_within p false) (closed_within p c) e)
+    value_layout i c (plain e) =
+        let p = needs_parens 1 false c e in within p (expr_layout i (header_within p false) (closed_within p c) e)
     value_layout i c (braced _ es) = op (codes "{") ⊕ elems_layout i es ⊕ op (codes "}")
 
     -- a statement, without the newline after it
     pub stmt_layout : List ℕ → Bool → Stmt S → Layout
-    stmt_layout i h (const_decl _ grouped ss) = key (codes "const") ⊕ gap ⊕ in_group i grouped ss (specs_layout (spec_indent grouped i) (group_end grouped i) ss)
-    stmt_layout i h (var_decl _ grouped ss) = key (codes "var") ⊕ gap ⊕ in_group i grouped ss (specs_layout (spec_indent grouped i) (group_end grouped i) ss)
+    stmt_layout i h (const_decl _ grouped ss) =
+        key (codes "const") ⊕ gap ⊕ in_group i grouped ss
+        (specs_layout (spec_indent grouped i) (group_end grouped i) ss)
+    stmt_layout i h (var_decl _ grouped ss) =
+        key (codes "var") ⊕ gap ⊕ in_group i grouped ss (specs_layout (spec_indent grouped i) (group_end grouped i) ss)
     stmt_layout i h (empty _) = op (codes ";")
-    stmt_layout i h (eval _ e) = let p = needs_parens 1 h false e in within p (expr_layout i (header_within p h) (closed_within p false) e)
+    stmt_layout i h (eval _ e) =
+        let p = needs_parens 1 h false e in within p (expr_layout i (header_within p h) (closed_within p false) e)
     stmt_layout i h (step _ e up) =
-        let p = needs_parens 1 h false e in within p (expr_layout i (header_within p h) (closed_within p false) e) ⊕ op (step_spelling up)
-    stmt_layout i h (assign _ xs o ys) = exprs_layout i h false xs ⊕ spaced (assign_spelling o) ⊕ exprs_layout i h false ys
+        let p = needs_parens 1 h false e in within p (expr_layout i (header_within p h) (closed_within p false) e) ⊕ op
+        (step_spelling up)
+    stmt_layout i h (assign _ xs o ys) =
+        exprs_layout i h false xs ⊕ spaced (assign_spelling o) ⊕ exprs_layout i h false ys
     stmt_layout i h (define _ ns ys) = names_layout ns ⊕ spaced (codes ":=") ⊕ exprs_layout i h false ys
     stmt_layout i h (return_ _ xs) = key (codes "return") ⊕ gap_before xs ⊕ exprs_layout i false false xs
     stmt_layout i h (break_ _ n) = key (codes "break") ⊕ label_layout n
     stmt_layout i h (continue_ _ n) = key (codes "continue") ⊕ label_layout n
     stmt_layout i h (inner _ body) = in_braces i body (stmts_layout (deeper i) (Some i) body)
     stmt_layout i h (if_ _ arms last) = arms_layout i arms ⊕ last_layout i last
-    stmt_layout i h (for_ _ no_stmt t no_stmt _ body) = key (codes "for") ⊕ gap ⊕ test_layout i t ⊕ in_braces i body (stmts_layout (deeper i) (Some i) body)
+    stmt_layout i h (for_ _ no_stmt t no_stmt _ body) =
+        key (codes "for") ⊕ gap ⊕ test_layout i t ⊕ in_braces i body (stmts_layout (deeper i) (Some i) body)
     stmt_layout i h (for_ _ first t post _ body) =
-        key (codes "for") ⊕ gap ⊕ part_layout i first ⊕ op (codes ";") ⊕ gap ⊕ option_layout i true t ⊕ op (codes ";") ⊕ gap
+        key (codes "for") ⊕ gap ⊕ part_layout i first ⊕ op (codes ";") ⊕ gap ⊕ option_layout i true t ⊕ op
+        (codes ";") ⊕ gap
         ⊕ post_layout i post ⊕ in_braces i body (stmts_layout (deeper i) (Some i) body)
     stmt_layout i h (range_ _ left e _ body) =
         let p = needs_parens 1 true false e in
         key (codes "for") ⊕ gap ⊕ left_layout i left ⊕ key (codes "range") ⊕ gap
-        ⊕ within p (expr_layout i (header_within p true) (closed_within p false) e) ⊕ gap ⊕ in_braces i body (stmts_layout (deeper i) (Some i) body)
+        ⊕ within p (expr_layout i (header_within p true) (closed_within p false) e) ⊕ gap ⊕ in_braces i body
+        (stmts_layout (deeper i) (Some i) body)
     stmt_layout i h (switch _ first t cs) =
-        key (codes "switch") ⊕ gap ⊕ first_layout i first ⊕ test_layout i t ⊕ op (codes "{") ⊕ clauses_start i cs ⊕ cases_layout i cs ⊕ op (codes "}")
+        key (codes "switch") ⊕ gap ⊕ first_layout i first ⊕ test_layout i t ⊕ op
+        (codes "{") ⊕ clauses_start i cs ⊕ cases_layout i cs ⊕ op (codes "}")
     stmt_layout i h (defer _ e) = key (codes "defer") ⊕ gap ⊕ expr_layout i false false e
     stmt_layout i h (label _ n x) = name_layout n ⊕ op (codes ":") ⊕ line false i ⊕ stmt_layout i false x
 
     -- each statement on a line of its own; `end` is the indent of the line after the last, where a newline ends it
     pub stmts_layout : List ℕ → Option (List ℕ) → Stmts S → Layout
     stmts_layout i end no_stmts = no_text
-    stmts_layout i end (stmt_and x xs) = stmt_layout i false x ⊕ stmt_end i end (gives_semicolon x) xs ⊕ stmts_layout i end xs
+    stmts_layout i end (stmt_and x xs) =
+        stmt_layout i false x ⊕ stmt_end i end (gives_semicolon x) xs ⊕ stmts_layout i end xs
 
     -- a statement before a semicolon of a header
     pub part_layout : List ℕ → StmtOption S → Layout
@@ -251,12 +272,14 @@ module _ {S : Type 0} where
     arms_layout i no_arms = no_text
     arms_layout i (arm _ first t _ body arms) =
         let p = needs_parens 1 true false t in
-        key (codes "if") ⊕ gap ⊕ first_layout i first ⊕ within p (expr_layout i (header_within p true) (closed_within p false) t) ⊕ gap
+        key (codes "if") ⊕ gap ⊕ first_layout i first ⊕ within p
+        (expr_layout i (header_within p true) (closed_within p false) t) ⊕ gap
         ⊕ in_braces i body (stmts_layout (deeper i) (Some i) body) ⊕ else_before arms ⊕ arms_layout i arms
 
     pub last_layout : List ℕ → BlockOption S → Layout
     last_layout i no_block = no_text
-    last_layout i (some_block _ body) = gap ⊕ key (codes "else") ⊕ gap ⊕ in_braces i body (stmts_layout (deeper i) (Some i) body)
+    last_layout i (some_block _ body) =
+        gap ⊕ key (codes "else") ⊕ gap ⊕ in_braces i body (stmts_layout (deeper i) (Some i) body)
 
     -- before `range`
     pub left_layout : List ℕ → RangeLeft S → Layout
@@ -275,11 +298,13 @@ module _ {S : Type 0} where
     pub specs_layout : List ℕ → Option (List ℕ) → ValueSpecs S → Layout
     specs_layout i end no_specs = no_text
     specs_layout i end (spec _ ns t xs ss) =
-        names_layout ns ⊕ spec_type_layout t ⊕ equals_before xs ⊕ exprs_layout i false false xs ⊕ spec_end i end ss ⊕ specs_layout i end ss
+        names_layout ns ⊕ spec_type_layout t ⊕ equals_before xs ⊕ exprs_layout i false false xs ⊕ spec_end i end ss ⊕
+        specs_layout i end ss
 
   -- an expression with the parentheses that a place of this level needs
   abbrev pub operand_layout : List ℕ → ℕ → Bool → Bool → Expr S → Layout
-  operand_layout i level h c e = let p = needs_parens level h c e in within p (expr_layout i (header_within p h) (closed_within p c) e)
+  operand_layout i level h c e =
+      let p = needs_parens level h c e in within p (expr_layout i (header_within p h) (closed_within p c) e)
 
   abbrev pub block_layout : List ℕ → Stmts S → Layout
   block_layout i body = in_braces i body (stmts_layout (deeper i) (Some i) body)

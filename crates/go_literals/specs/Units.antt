@@ -8,7 +8,8 @@ use Rattle.go_words.specs.Texts.{between_quotes, digits_in, is_octal, letter_esc
 
 -- how many characters an escape has that begins with this one, without its backslash
 abbrev pub escape_size_by : ℕ → ℕ
-escape_size_by c = if is_octal c then 3 else (if nat_eq c 120 then 3 else (if nat_eq c 117 then 5 else (if nat_eq c 85 then 9 else 1)))
+escape_size_by c =
+    if is_octal c then 3 else (if nat_eq c 120 then 3 else (if nat_eq c 117 then 5 else (if nat_eq c 85 then 9 else 1)))
 
 abbrev pub escape_size : List ℕ → ℕ
 escape_size cs = escape_size_by (slice_index cs 0)
@@ -50,7 +51,8 @@ pub record BeginsEscape (cs : List ℕ) : Type 0 where
 pub data IsUnits : List ℕ → Type 0 where
   no_units : IsUnits []
   plain : (c : ℕ) (cs : List ℕ) → nat_eq c 92 ≡ false → IsUnits cs → IsUnits (c ∷ cs)
-  escaped : (c : ℕ) (cs : List ℕ) → nat_eq c 92 ≡ true → BeginsEscape cs → IsUnits (drop (escape_size cs) cs) → IsUnits (c ∷ cs)
+  escaped : (c : ℕ) (cs : List ℕ) → nat_eq c 92 ≡ true → BeginsEscape cs → IsUnits (drop (escape_size cs) cs) →
+      IsUnits (c ∷ cs)
 
 -- the bytes of one character
 pub record IsCharacter (cs : List ℕ) : Type 0 where

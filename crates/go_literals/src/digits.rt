@@ -1,4 +1,5 @@
-// Numbers by their digits (Go specification, Integer literals, Rune literals).
+//! Numbers by their digits (Go specification, Integer literals, Rune literals).
+
 ghost use Rattle.std.specs.Prelude.{◌≡◌, ◌<◌, ◌^◌};
 ghost use Rattle.go_words.specs.Texts.{digits_in, hex_digit};
 

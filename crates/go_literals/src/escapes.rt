@@ -1,5 +1,6 @@
-// Escapes (Go specification, Rune literals).
-ghost use Rattle.std.specs.Prelude.{◌≡◌, ◌<◌, ◌^◌};
+//! Escapes (Go specification, Rune literals).
+
+ghost use Rattle.std.specs.Prelude.{◌≡◌};
 ghost use Rattle.go_words.specs.Texts.{letter_escape};
 ghost use Rattle.go_literals.specs.Units.{BeginsEscape, escape_code, escape_size};
 

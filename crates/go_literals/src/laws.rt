@@ -1,4 +1,5 @@
-// What tokens know of literals.
+//! What tokens know of literals.
+
 ghost use Rattle.go_literals.specs.Literals.{TokensAreLiterals, TokensAreStrings};
 
 /// The integer, rune and string tokens of a text have the forms that `string_value`, `rune_value`

@@ -1,4 +1,5 @@
-// The quotes of a literal (Go specification, Rune literals, String literals).
+//! The quotes of a literal (Go specification, Rune literals, String literals).
+
 ghost use Rattle.std.specs.Prelude.{◌≡◌, ◌≤◌, length};
 ghost use Rattle.go_words.specs.Texts.{between_quotes};
 

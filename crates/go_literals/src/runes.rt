@@ -1,4 +1,5 @@
-// Rune literals (Go specification, Rune literals).
+//! Rune literals (Go specification, Rune literals).
+
 ghost use Rattle.std.specs.Prelude.{◌≡◌, ◌<◌, length, slice_index, chars};
 ghost use Rattle.go_literals.specs.Literals.{IsRune};
 ghost use Rattle.go_literals.specs.Units.{IsCharacter, IsUnit, rune_inside, rune_value};

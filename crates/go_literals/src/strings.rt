@@ -1,5 +1,6 @@
-// String literals (Go specification, String literals).
-ghost use Rattle.std.specs.Prelude.{◌≡◌, ◌++◌, ◌<◌, ◌≤◌, ◌^◌, drop, length, IfOk};
+//! String literals (Go specification, String literals).
+
+ghost use Rattle.std.specs.Prelude.{◌≡◌, ◌++◌, ◌<◌, ◌≤◌, drop, length, IfOk};
 ghost use Rattle.std.specs.Char.{IsScalar, encode_utf8};
 ghost use Rattle.go_words.specs.Texts.{interpreted_value, raw_value, text_value};
 ghost use Rattle.go_literals.specs.Strings.{IsString};
@@ -58,7 +59,8 @@ fn from(bytes: &[u8], start: usize) -> &[u8]
 /// Adds what an escape without its backslash stands for; gives how many bytes the escape has.
 fn push_escape(value: &mut Vec<u8>, after: &[u8]) -> Result<usize, NoMemory>
     requires { BeginsEscape after.now }
-    ensures { IfOk result (λ size. (size ≡ escape_size after.now) × (value.new.items ≡ value.old.items ++ escaped_bytes after.now)) }
+    ensures { IfOk result (λ size. (size ≡ escape_size after.now)
+        × (value.new.items ≡ value.old.items ++ escaped_bytes after.now)) }
 {
     let (code, size) = escape(after);
     if matches!(after[0], b'u' | b'U') {

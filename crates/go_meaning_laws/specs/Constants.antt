@@ -1,5 +1,5 @@
 -- The values of constant expressions (Go specification, Constant expressions; Integer literals).
-use Rattle.std.specs.Prelude.{ℕ, zero, suc, ◌+◌, ◌-◌, ◌*◌, Bool, List, [], ◌∷◌, length, Option, Some, None, is_some}
+use Rattle.std.specs.Prelude.{ℕ, suc, ◌+◌, ◌-◌, ◌*◌, Bool, List, [], ◌∷◌, length, Option, Some, None, is_some}
 use Rattle.go_tree.specs.Tree.{Expr, ident, int_lit}
 use Rattle.go_meaning_laws.specs.Means.{Environment, constant_meant}
 
@@ -15,7 +15,8 @@ module _ {S : Type 0} (env : Environment S) where
   value_within (suc n) (ident _ name) = elim (constant_meant env name) [ Some e ↦ value_within n e | None ↦ None ]
   value_within n e = None
 
-  -- The value of an expression. A chain of names that is longer than the number of declared names is a cycle, and a constant on a cycle has no value.
+  -- The value of an expression. A chain of names that is longer than the number of declared names is a cycle, and a
+  -- constant on a cycle has no value.
   abbrev pub constant_value : Expr S → Option ℕ
   constant_value e = value_within (length env) e
 

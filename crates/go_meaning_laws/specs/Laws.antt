@@ -10,12 +10,14 @@ use Rattle.go_meaning_laws.specs.Inlined.{Inlined, InlinedByRun}
 
 -- a step keeps packages well typed, together with any further packages
 abbrev pub InlinedIsTyped : Type 0
-InlinedIsTyped = (P P' : Packages Span) → Inlined P P' → (Q : List (Package Span)) → WellTyped (with_further P Q) → WellTyped (with_further P' Q)
+InlinedIsTyped = (P P' : Packages Span) → Inlined P P' → (Q : List (Package Span)) → WellTyped (with_further P Q) →
+    WellTyped (with_further P' Q)
 
 -- a step changes nothing of what is shown: for all further packages, main packages, lists of choices and budgets
 abbrev pub InlinedShowsTheSame : Type 0
 InlinedShowsTheSame = (P P' : Packages Span) → Inlined P P' → (Q : List (Package Span)) → WellTyped (with_further P Q)
-    → (main : ImportPath) (choices : List ℕ) (n : ℕ) → shown_by (with_further P' Q) main choices n ≡ shown_by (with_further P Q) main choices n
+    → (main : ImportPath) (choices : List ℕ) (n : ℕ) →
+    shown_by (with_further P' Q) main choices n ≡ shown_by (with_further P Q) main choices n
 
 abbrev pub InlinedMeansTheSame : Type 0
 InlinedMeansTheSame = (P P' : Packages Span) → Inlined P P' → SameMeaning P P'

@@ -1,7 +1,8 @@
 -- What names mean (Go specification, Declarations and scope; Predeclared identifiers).
--- An environment is a list of names with what they are declared as, innermost first: the package block, then the universe block.
+-- An environment is a list of names with what they are declared as, innermost first: the package block, then the
+-- universe block.
 use Rattle.std.specs.Prelude.{ℕ, if◌then◌else◌, bytes_eq, List, [], ◌∷◌, Option, Some, None, codes}
-use Rattle.go_tree.specs.Tree.{NameAt, TypeExpr, Expr, Exprs, no_exprs, expr_and, ValueSpecs, no_specs, spec, const_decl}
+use Rattle.go_tree.specs.Tree.{Expr, no_exprs, expr_and, ValueSpecs, no_specs, spec, const_decl}
 use Rattle.go_tree.specs.File.{Func, Decl, values, func}
 use Rattle.go_meaning_laws.specs.Package.{SourceTree, Package}
 
@@ -21,7 +22,8 @@ module _ {S : Type 0} where
   -- the constants of a declaration, before what follows
   abbrev pub constants_then : ValueSpecs S → Environment S → Environment S
   constants_then no_specs rest = rest
-  constants_then (spec _ (n ∷ []) None (expr_and e no_exprs) specs) rest = (n.name, constant e) ∷ constants_then specs rest
+  constants_then (spec _ (n ∷ []) None (expr_and e no_exprs) specs) rest =
+      (n.name, constant e) ∷ constants_then specs rest
   constants_then (spec _ _ _ _ specs) rest = constants_then specs rest
 
   -- what declarations of the package block declare

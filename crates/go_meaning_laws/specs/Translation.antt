@@ -1,5 +1,7 @@
--- What programs do, as terms of the kernel (Go specification, Constant expressions; Calls; Function declarations; Bootstrapping; Program initialization; Program execution).
--- Each rule is by cases on the tree. A construct without a rule is `no_rule`, which does nothing; well-typed packages have none.
+-- What programs do, as terms of the kernel (Go specification, Constant expressions; Calls; Function declarations;
+-- Bootstrapping; Program initialization; Program execution).
+-- Each rule is by cases on the tree. A construct without a rule is `no_rule`, which does nothing; well-typed packages
+-- have none.
 use Rattle.std.specs.Prelude.{ℕ, Bool, true, false, if◌then◌else◌, List, [], ◌∷◌, ◌++◌, map, Option, Some, None, pos, bytes_eq, nat_eq, nat_lt, codes}
 use Rattle.go_tree.specs.Tree.{Expr, ident, call, Exprs, no_exprs, expr_and, Stmt, eval, Stmts, no_stmts, stmt_and}
 use Rattle.go_tree.specs.File as file
@@ -51,7 +53,9 @@ module _ {S : Type 0} (env : Environment S) where
   func_code f = record { params = []; slots = []; zeros = []; body = stmts_term f.body; results = [] }
 
   abbrev pub decl_functions : ImportPath → file.Decl S → List (FuncName × Func)
-  decl_functions home (file.func f) = if has_no_signature env f then (record { home = home; receiver = None; name = f.name.name }, func_code f) ∷ [] else []
+  decl_functions home (file.func f) =
+      if has_no_signature env f then (record { home = home; receiver = None; name = f.name.name }, func_code f) ∷ []
+      else []
   decl_functions home d = []
 
   -- what a declaration does before `main` runs: one of variables sets them, and no other does anything
@@ -83,7 +87,12 @@ pub record PackageCode : Type 0 where
   pub functions : List (FuncName × Func)
 
 abbrev pub package_code : {S : Type 0} → Package S → PackageCode
-package_code p = record { path = p.path; initial = files_initial (environment p) p.files; functions = files_functions (environment p) p.path p.files }
+package_code p =
+    record {
+      path = p.path;
+      initial = files_initial (environment p) p.files;
+      functions = files_functions (environment p) p.path p.files;
+    }
 
 -- byte by byte, a text before its continuations
 abbrev pub comes_first : Text → Text → Bool
@@ -122,6 +131,7 @@ main_of home = record { home = home; receiver = None; name = codes "main" }
 abbrev pub shown_by_code : List PackageCode → ImportPath → List ℕ → ℕ → Shown
 shown_by_code cs main choices n = shows (program_of cs) (initial_of cs) (main_of main) choices n
 
--- what the main package with this path shows at a budget: all packages set their variables, in the order of their paths, and then its function `main` runs
+-- what the main package with this path shows at a budget: all packages set their variables, in the order of their
+-- paths, and then its function `main` runs
 abbrev pub shown_by : {S : Type 0} → Packages S → ImportPath → List ℕ → ℕ → Shown
 shown_by P main choices n = shown_by_code (map package_code P.members) main choices n

@@ -1,11 +1,11 @@
 -- The first token over the limit is found from left to right.
-use Rattle.std.proofs.Common.{◌≡◌, ℕ, ◌+◌, ◌<◌, ◌≤◌, Bool, true, false, cond, nat_lt, List, [], ◌∷◌, ◌++◌, length, take, get_or, Option, Some, None, refl, sym, ap, subst, ◌∙◌, arith, All}
+use Rattle.std.proofs.Common.{◌≡◌, ℕ, ◌+◌, ◌<◌, ◌≤◌, Bool, true, false, cond, nat_lt, List, [], ◌∷◌, ◌++◌, length, take, get_or, Option, Some, None, refl, ap, subst, arith, All}
 use Rattle.std.specs.Prelude.{sum}
 use Rattle.std.proofs.lemmas.Bool.Decides.{nat_tests}
 use Rattle.std.proofs.lemmas.List.Elements.{All-nil, All-cons}
 use Rattle.go_tree.specs.declared.tokens.Token.{Token}
-use Rattle.go_read.specs.SpellsWeight.{weights_after, weights_of}
-use Rattle.go_nesting.specs.Over.{IsOverAt, IsFirstOver, counts_at, first_over}
+use Rattle.go_read.specs.SpellsWeight.{weights_after}
+use Rattle.go_nesting.specs.Over.{IsFirstOver, counts_at, first_over}
 
 pub nil-over : (limit : ℕ) (counts : List ℕ) → first_over limit counts [] ≡ None
 unfolding first_over

@@ -26,4 +26,5 @@ counts_at t counts = counts_after (terminal_of t.kind t.spelling) counts
 -- after tokens that leave these counts
 unfoldable pub first_over : ℕ → List ℕ → List Token → Option ℕ
 first_over limit counts [] = None
-first_over limit counts (t ∷ ts) = if nat_lt limit (sum (counts_at t counts)) then Some t.span.start else first_over limit (counts_at t counts) ts
+first_over limit counts (t ∷ ts) =
+    if nat_lt limit (sum (counts_at t counts)) then Some t.span.start else first_over limit (counts_at t counts) ts

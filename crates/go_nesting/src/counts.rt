@@ -1,5 +1,6 @@
-// The counts of the open brackets.
-ghost use Rattle.std.specs.Prelude.{◌≡◌, ℕ, ◌<◌, ◌≤◌, List, [], ◌∷◌, sum};
+//! The counts of the open brackets.
+
+ghost use Rattle.std.specs.Prelude.{◌≡◌, ℕ, ◌≤◌, List, [], ◌∷◌, sum};
 ghost use Rattle.go_words.specs.Codes.{spelled};
 ghost use Rattle.go_read.specs.SpellsWeight.{counts_after};
 ghost use Rattle.go_nesting.specs.Nesting.{after};

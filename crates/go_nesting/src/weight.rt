@@ -1,4 +1,5 @@
-// The first token that nests too deeply.
+//! The first token that nests too deeply.
+
 ghost use Rattle.std.specs.Prelude.{◌≤◌};
 ghost use Rattle.go_nesting.specs.Over.{IsFirstOver};
 

@@ -11,11 +11,19 @@ abbrev pub operand_in : List ℕ → OperandAt → Operand
 operand_in text a = if a.named then named (slice_range text a.start a.end) else number (slice_range text a.start a.end)
 
 abbrev pub constant_in : List ℕ → ConstantAt → Constant
-constant_in text c = record { marked = c.marked; name = slice_range text c.name_start c.name_end; value = operand_in text c.value }
+constant_in text c =
+    record { marked = c.marked; name = slice_range text c.name_start c.name_end; value = operand_in text c.value }
 
 -- a constant's names, type and values, with the span of them all
-abbrev pub spec_tree : List ℕ → ConstantAt → Span × List (tree.NameAt Span) × Option (tree.TypeExpr Span) × tree.Exprs Span
-spec_tree text c = (record { start = c.name_start; end = c.value.end }, record { span = record { start = c.name_start; end = c.name_end }; name = slice_range text c.name_start c.name_end } ∷ [], None, one_expr (operand_tree c.value.start (operand_in text c.value)))
+abbrev pub spec_tree : List ℕ → ConstantAt →
+    Span × List (tree.NameAt Span) × Option (tree.TypeExpr Span) × tree.Exprs Span
+spec_tree text c = (
+  record { start = c.name_start; end = c.value.end },
+  record { span = record { start = c.name_start; end = c.name_end }; name = slice_range text c.name_start c.name_end }
+      ∷ [],
+  None,
+  one_expr (operand_tree c.value.start (operand_in text c.value)),
+)
 
 -- An operand stands at `at`.
 pub record IsOperandAt (text : List ℕ) (at : ℕ) (a : OperandAt) : Type 0 where

@@ -53,7 +53,8 @@ mark_text true = codes "//go:fix inline\n"
 mark_text false = []
 
 abbrev pub constant_then : Constant → List ℕ → List ℕ
-constant_then c rest = mark_text c.marked ++ (codes "const " ++ (c.name ++ (codes " = " ++ (spelling c.value ++ (codes "\n\n" ++ rest)))))
+constant_then c rest =
+    mark_text c.marked ++ (codes "const " ++ (c.name ++ (codes " = " ++ (spelling c.value ++ (codes "\n\n" ++ rest)))))
 
 abbrev pub constants_then : List Constant → List ℕ → List ℕ
 constants_then [] rest = rest
@@ -67,7 +68,8 @@ prints_then [] rest = rest
 prints_then (a ∷ as') rest = print_then a (prints_then as' rest)
 
 abbrev pub text_of : Outline → List ℕ
-text_of o = codes "package main\n\n" ++ constants_then o.constants (codes "func main() {\n" ++ prints_then o.prints (codes "}\n"))
+text_of o = codes "package main\n\n"
+    ++ constants_then o.constants (codes "func main() {\n" ++ prints_then o.prints (codes "}\n"))
 
 -- The text is a file with this outline.
 pub record IsOutlineOf (o : Outline) (text : List ℕ) : Type 0 where
@@ -109,7 +111,8 @@ abbrev pub constant_tree : ℕ → Constant → file.Decl Span
 constant_tree at c =
     file.values (tree.const_decl (record { start = const_at at c; end = value_end at c }) false
     (tree.spec (record { start = name_at at c; end = value_end at c })
-    (record { span = span_at (name_at at c) (length c.name); name = c.name } ∷ []) None (one_expr (operand_tree (value_at at c) c.value)) tree.no_specs))
+    (record { span = span_at (name_at at c) (length c.name); name = c.name } ∷ []) None
+    (one_expr (operand_tree (value_at at c) c.value)) tree.no_specs))
 
 abbrev pub constant_trees : ℕ → List Constant → List (file.Decl Span)
 constant_trees at [] = []
@@ -123,7 +126,8 @@ after_constants at (c ∷ cs) = after_constants (after_constant at c) cs
 abbrev pub print_tree : ℕ → Operand → tree.Stmt Span
 print_tree at a =
     let whole : Span = record { start = at + 1; end = at + 9 + length (spelling a) + 1 } in
-    tree.eval whole (tree.call whole (tree.ident (span_at (at + 1) 7) (codes "println")) (one_expr (operand_tree (at + 9) a)) Plain)
+    tree.eval whole
+    (tree.call whole (tree.ident (span_at (at + 1) 7) (codes "println")) (one_expr (operand_tree (at + 9) a)) Plain)
 
 abbrev pub after_print : ℕ → Operand → ℕ
 after_print at a = at + 9 + length (spelling a) + 2

@@ -51,7 +51,8 @@ read_mark text = elim (after (codes "//go:fix inline\n") text) [
 abbrev pub read_constant_end : Bool → List ℕ → Part Operand → Option (Part Constant)
 read_constant_end marked name value = do
   rest ← after (codes "\n\n") value.rest
-  check (is_constant (record { marked = marked; name = name; value = value.value })) (record { value = record { marked = marked; name = name; value = value.value }; rest = rest })
+  check (is_constant (record { marked = marked; name = name; value = value.value }))
+      (record { value = record { marked = marked; name = name; value = value.value }; rest = rest })
 
 unfoldable pub read_unmarked : Bool → List ℕ → Option (Part Constant)
 read_unmarked marked text = do

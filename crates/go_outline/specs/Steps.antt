@@ -11,7 +11,8 @@ use Rattle.go_outline.specs.Reading.{read_constants, read_prints}
 -- The constants from an offset on have these trees; `main` and its first line stand at the others.
 pub record ConstantsAre (text : List ℕ) (from : ℕ) (decls : List Decl) (main body : ℕ) : Type 0 where
   pub constants : List Constant
-  pub read : read_constants (suc (length text)) (drop from text) ≡ Some (record { value = constants; rest = drop body text })
+  pub read : read_constants (suc (length text)) (drop from text)
+      ≡ Some (record { value = constants; rest = drop body text })
   pub trees : map decl_of decls ≡ constant_trees from constants
   pub place : main ≡ after_constants from constants
   pub line : body ≡ main + 14

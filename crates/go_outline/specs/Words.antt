@@ -19,7 +19,8 @@ keywords =
 unfoldable pub is_keyword : List ℕ → Bool
 is_keyword bytes = list_any (λ word. bytes_eq word bytes) keywords
 
--- the predeclared identifiers of this language: those of the specification, without the types and functions that it leaves out
+-- the predeclared identifiers of this language: those of the specification, without the types and functions that it
+-- leaves out
 abbrev pub predeclared : List (List ℕ)
 predeclared =
     codes "bool" ∷ codes "byte" ∷ codes "int" ∷ codes "int8" ∷ codes "int16" ∷ codes "int32" ∷
@@ -46,4 +47,6 @@ max_digits = 18
 -- a decimal literal of few enough digits: `0`, or digits that begin with another one
 unfoldable pub is_number : List ℕ → Bool
 is_number [] = false
-is_number (b ∷ bs) = is_ascii_digit b && (list_all is_ascii_digit bs && (nat_le (length (b ∷ bs)) max_digits && (not (b == 48) || nat_le (length bs) 0)))
+is_number (b ∷ bs) =
+    is_ascii_digit b
+    && (list_all is_ascii_digit bs && (nat_le (length (b ∷ bs)) max_digits && (not (b == 48) || nat_le (length bs) 0)))

@@ -1,5 +1,6 @@
-// The trees of the parts of a file.
-ghost use Rattle.std.specs.Prelude.{◌≡◌, ◌+◌, ◌^◌, ◌<◌, ◌≤◌, ℕ, List, [], ◌∷◌, map, length, IfOk, None, slice_range, codes};
+//! The trees of the parts of a file.
+
+ghost use Rattle.std.specs.Prelude.{◌≡◌, ◌+◌, ◌^◌, ◌<◌, ◌≤◌, ℕ, [], ◌∷◌, map, length, IfOk, None, slice_range, codes};
 ghost use Rattle.go_tree.specs.View.{name_at_of, expr_of, exprs_of, stmt_of, const_spec_of};
 ghost use Rattle.go_tree.specs.FileView.{decl_of};
 ghost use Rattle.go_tree.specs.Tree.{ident};
@@ -33,7 +34,8 @@ fn bytes_in(alloc: Global, text: &[u8], start: u32, end: u32) -> Result<Vec<u8>,
 fn name_in(alloc: Global, text: &[u8], start: u32, end: u32) -> Result<NameAt, NoMemory>
     requires order { start ≤ end }
     requires within { end ≤ length text.now }
-    ensures { IfOk result (λ n. name_at_of n ≡ record { span = record { start = start; end = end }; name = slice_range text.now start end }) }
+    ensures { IfOk result (λ n. name_at_of n
+        ≡ record { span = record { start = start; end = end }; name = slice_range text.now start end }) }
 {
     let bytes = bytes_in(alloc, text, start, end)?;
     Ok(NameAt {
@@ -94,7 +96,8 @@ fn constant_spec(alloc: Global, text: &[u8], c: ConstantAt) -> Result<ConstSpec,
 /// The declaration of a constant, where its mark and its keyword stand.
 pub fn constant_decl(alloc: Global, text: &[u8], c: ConstantAt) -> Result<Decl, NoMemory>
     requires { IsUnmarkedAt text.now c.keyword c.marked c }
-    ensures { IfOk result (λ d. (at : ℕ) → c.keyword ≡ at + length (mark_text c.marked) → decl_of d ≡ constant_tree at (constant_in text.now c)) }
+    ensures { IfOk result (λ d. (at : ℕ) → c.keyword ≡ at + length (mark_text c.marked) →
+        decl_of d ≡ constant_tree at (constant_in text.now c)) }
 {
     let spec = constant_spec(alloc, text, c)?;
     let specs = only(alloc, spec)?;

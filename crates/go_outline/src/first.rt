@@ -1,10 +1,9 @@
-// Files that hold constants and a function `main` that prints.
-ghost use Rattle.std.specs.Prelude.{◌≡◌, ◌+◌, ◌≤◌, ℕ, suc, List, map, length, drop, IfOk, IsErrOf, Some, None};
-ghost use Rattle.go_tree.specs.View.{stmt_of};
-ghost use Rattle.go_tree.specs.FileView.{decl_of, file_of};
-ghost use Rattle.go_tree.specs.Lists.{stmts_from};
+//! Files that hold constants and a function `main` that prints.
+
+ghost use Rattle.std.specs.Prelude.{◌≡◌, ◌+◌, ◌≤◌, suc, length, drop, IfOk, IsErrOf, Some, None};
+ghost use Rattle.go_tree.specs.FileView.{file_of};
 ghost use Rattle.go_outline.specs.declared.first.FirstFault.TheVariants.{NotYet};
-ghost use Rattle.go_outline.specs.Outline.{Constant, Operand, Outline, constant_trees, after_constants, print_trees, after_prints, tree_of, IsOutlineOf};
+ghost use Rattle.go_outline.specs.Outline.{Outline, tree_of, IsOutlineOf};
 ghost use Rattle.go_outline.specs.Reading.{read_constants, read_prints};
 ghost use Rattle.go_outline.specs.Steps.{ConstantsAre, PrintsAre};
 

@@ -1,4 +1,5 @@
-// Where the parts of a file stand in its text.
+//! Where the parts of a file stand in its text.
+
 ghost use Rattle.std.specs.Prelude.{◌≡◌, ◌+◌, ◌≤◌, length, drop, MatchOption, Some, None, ⊤, not, ◌&&◌, ◌||◌};
 ghost use Rattle.go_outline.specs.Words.{is_name};
 ghost use Rattle.go_outline.specs.Reading.{after, word_length, read_operand, read_constant, read_unmarked, read_print};
@@ -49,7 +50,9 @@ fn rest_from(text: &[u8], at: u32) -> &[u8]
 pub fn after(text: &[u8], at: u32, front: &[u8]) -> Option<u32>
     requires small { length text.now ≤ MAX_OUTLINE_BYTES }
     requires within { at ≤ length text.now }
-    ensures { MatchOption result (after front.now (drop at text.now) ≡ None) (λ end. (after front.now (drop at text.now) ≡ Some (drop end text.now)) × (end ≡ at + length front.now) × (end ≤ length text.now)) }
+    ensures { MatchOption result (after front.now (drop at text.now) ≡ None)
+        (λ end. (after front.now (drop at text.now) ≡ Some (drop end text.now)) × (end ≡ at + length front.now)
+        × (end ≤ length text.now)) }
 {
     match rest_from(text, at).strip_prefix(front) {
         Some(rest) => Some((text.len() - rest.len()) as u32),
@@ -80,7 +83,9 @@ fn word_end(text: &[u8], at: u32) -> u32
 fn operand_at(text: &[u8], at: u32) -> Option<OperandAt>
     requires small { length text.now ≤ MAX_OUTLINE_BYTES }
     requires within { at ≤ length text.now }
-    ensures found { MatchOption result (read_operand (drop at text.now) ≡ None) (λ a. read_operand (drop at text.now) ≡ Some (record { value = operand_in text.now a; rest = drop a.end text.now })) }
+    ensures found { MatchOption result (read_operand (drop at text.now) ≡ None)
+        (λ a. read_operand (drop at text.now)
+        ≡ Some (record { value = operand_in text.now a; rest = drop a.end text.now })) }
     ensures place { MatchOption result ⊤ (λ a. IsOperandAt text.now at a) }
 {
     let end = word_end(text, at);
@@ -101,7 +106,9 @@ fn operand_at(text: &[u8], at: u32) -> Option<OperandAt>
 pub fn constant_at(text: &[u8], at: u32) -> Option<ConstantAt>
     requires small { length text.now ≤ MAX_OUTLINE_BYTES }
     requires within { at ≤ length text.now }
-    ensures found { MatchOption result (read_constant (drop at text.now) ≡ None) (λ c. read_constant (drop at text.now) ≡ Some (record { value = constant_in text.now c; rest = drop c.end text.now })) }
+    ensures found { MatchOption result (read_constant (drop at text.now) ≡ None)
+        (λ c. read_constant (drop at text.now)
+        ≡ Some (record { value = constant_in text.now c; rest = drop c.end text.now })) }
     ensures place { MatchOption result ⊤ (λ c. IsConstantAt text.now at c) }
 {
     match after(text, at, b"//go:fix inline\n") {
@@ -122,7 +129,9 @@ fn is_declared(name: &[u8], marked: bool, named: bool) -> bool
 fn unmarked_at(text: &[u8], keyword: u32, marked: bool) -> Option<ConstantAt>
     requires small { length text.now ≤ MAX_OUTLINE_BYTES }
     requires within { keyword ≤ length text.now }
-    ensures found { MatchOption result (read_unmarked marked (drop keyword text.now) ≡ None) (λ c. read_unmarked marked (drop keyword text.now) ≡ Some (record { value = constant_in text.now c; rest = drop c.end text.now })) }
+    ensures found { MatchOption result (read_unmarked marked (drop keyword text.now) ≡ None)
+        (λ c. read_unmarked marked (drop keyword text.now)
+        ≡ Some (record { value = constant_in text.now c; rest = drop c.end text.now })) }
     ensures place { MatchOption result ⊤ (λ c. IsUnmarkedAt text.now keyword marked c) }
 {
     let Some(name_start) = after(text, keyword, b"const ") else {
@@ -157,7 +166,9 @@ fn unmarked_at(text: &[u8], keyword: u32, marked: bool) -> Option<ConstantAt>
 pub fn print_at(text: &[u8], at: u32) -> Option<PrintAt>
     requires small { length text.now ≤ MAX_OUTLINE_BYTES }
     requires within { at ≤ length text.now }
-    ensures found { MatchOption result (read_print (drop at text.now) ≡ None) (λ p. read_print (drop at text.now) ≡ Some (record { value = operand_in text.now p.argument; rest = drop p.end text.now })) }
+    ensures found { MatchOption result (read_print (drop at text.now) ≡ None)
+        (λ p. read_print (drop at text.now)
+        ≡ Some (record { value = operand_in text.now p.argument; rest = drop p.end text.now })) }
     ensures place { MatchOption result ⊤ (λ p. IsPrintAt text.now at p) }
 {
     let Some(argument_start) = after(text, at, b"\tprintln(") else {

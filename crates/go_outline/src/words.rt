@@ -1,4 +1,5 @@
-// Names and numbers.
+//! Names and numbers.
+
 ghost use Rattle.std.specs.Prelude.{◌≡◌, bytes_eq};
 ghost use Rattle.std.specs.List.{list_any, list_all};
 ghost use Rattle.std.specs.Char.{is_ascii_alphanumeric, is_ascii_digit};

@@ -10,7 +10,7 @@ use Rattle.go_scan.specs.declared.scanner.ScanError.TheVariants as scanned
 use Rattle.go_scan.specs.Scanned.{HasNoTokens, Refuses}
 use Rattle.go_parse.specs.declared.source.ReadError.{ReadError}
 use Rattle.go_parse.specs.declared.source.ReadError.TheVariants.{NotUtf8, BadToken, Unsupported, TooDeep, NotRead, NoMemory}
-use Rattle.go_parse.specs.Sources.{HasTokens, RefusesText, RefusesTokens}
+use Rattle.go_parse.specs.Sources.{RefusesText, RefusesTokens}
 
 refused_text : (text : List ℕ) (tokens : List Token) (comments : List Comment) → TokensOf text tokens comments → (e : ReadError) → RefusesTokens text tokens comments e → RefusesText text e
 refused_text text tokens comments words (NotUtf8 place) refused = absurd refused

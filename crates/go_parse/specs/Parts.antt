@@ -48,20 +48,28 @@ path_at whole n _ = None
 
 -- what follows the keyword of a declaration, with a parenthesis or without
 unfoldable pub grouped_import_at : Lexemes → Lexemes → Option (ImportDecl Span × Lexemes)
-grouped_import_at whole ts = option_and_then (λ x. Some (record { span = span_to whole x.1; grouped = true; specs = x.0 }, x.1)) (closed (at span_to read_import_specs ts))
+grouped_import_at whole ts =
+    option_and_then (λ x. Some (record { span = span_to whole x.1; grouped = true; specs = x.0 }, x.1))
+    (closed (at span_to read_import_specs ts))
 
 unfoldable pub single_import_at : Lexemes → Lexemes → Option (ImportDecl Span × Lexemes)
-single_import_at whole ts = option_and_then (λ x. Some (record { span = span_to whole x.1; grouped = false; specs = x.0 ∷ [] }, x.1)) (at span_to read_import_spec ts)
+single_import_at whole ts =
+    option_and_then (λ x. Some (record { span = span_to whole x.1; grouped = false; specs = x.0 ∷ [] }, x.1))
+    (at span_to read_import_spec ts)
 
 -- the type of a spec that begins at `whole`
 unfoldable pub type_after_at : Lexemes → NameAt Span → Bool → Lexemes → Option (TypeSpec Span × Lexemes)
-type_after_at whole n alias ts = option_and_then (λ x. Some (record { span = span_to whole x.1; name = n; alias = alias; of = x.0 }, x.1)) (at span_to read_type ts)
+type_after_at whole n alias ts =
+    option_and_then (λ x. Some (record { span = span_to whole x.1; name = n; alias = alias; of = x.0 }, x.1))
+    (at span_to read_type ts)
 
 unfoldable pub grouped_types_at : Lexemes → Lexemes → Option (Decl Span × Lexemes)
-grouped_types_at whole ts = option_and_then (λ x. Some (types (span_to whole x.1) true x.0, x.1)) (closed (at span_to read_type_specs ts))
+grouped_types_at whole ts =
+    option_and_then (λ x. Some (types (span_to whole x.1) true x.0, x.1)) (closed (at span_to read_type_specs ts))
 
 unfoldable pub single_type_at : Lexemes → Lexemes → Option (Decl Span × Lexemes)
-single_type_at whole ts = option_and_then (λ x. Some (types (span_to whole x.1) false (x.0 ∷ []), x.1)) (at span_to read_type_spec ts)
+single_type_at whole ts =
+    option_and_then (λ x. Some (types (span_to whole x.1) false (x.0 ∷ []), x.1)) (at span_to read_type_spec ts)
 
 -- the name, signature and body of a function whose declaration begins at `whole`
 unfoldable pub func_at : Lexemes → Option (Receiver Span) → Lexemes → Option (Decl Span × Lexemes)
@@ -69,7 +77,8 @@ func_at whole v ts = run (at span_to) (func_step span_to whole v ts)
 
 -- a receiver that begins at `whole` and whose type's name stands first
 unfoldable pub receiver_here : Lexemes → Option (NameAt Span) → Bool → Lexemes → Option (Receiver Span × Lexemes)
-receiver_here whole n pointer of = Some (record { span = span_to whole (rest_of of); name = n; pointer = pointer; of = name_of of }, rest_of of)
+receiver_here whole n pointer of =
+    Some (record { span = span_to whole (rest_of of); name = n; pointer = pointer; of = name_of of }, rest_of of)
 
 -- a method whose declaration begins at `whole`, from its receiver on
 unfoldable pub method_at : Lexemes → Lexemes → Option (Decl Span × Lexemes)

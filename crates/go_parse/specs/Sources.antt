@@ -1,5 +1,5 @@
 -- What a text reads as, and why it reads as no file (Go specification, Source file organization).
-use Rattle.std.specs.Prelude.{◌≡◌, ℕ, List, length, Option, Some, None}
+use Rattle.std.specs.Prelude.{◌≡◌, ℕ, List, length, Some, None}
 use Rattle.std.specs.Str.{IsValidUpTo}
 use Rattle.go_tree.specs.declared.spans.Span.{Span}
 use Rattle.go_tree.specs.declared.tokens.Token.{Token}
@@ -22,11 +22,13 @@ IsSupported text tokens comments = IsFirst (unsupported_spans text tokens commen
 
 -- the first word that isn't supported starts here
 abbrev pub IsUnsupportedAt : List ℕ → List Token → List Comment → ℕ → Type 0
-IsUnsupportedAt text tokens comments place = (span : Span) × IsFirst (unsupported_spans text tokens comments) (Some span) × (place ≡ span.start)
+IsUnsupportedAt text tokens comments place = (span : Span)
+    × IsFirst (unsupported_spans text tokens comments) (Some span) × (place ≡ span.start)
 
 -- each word is supported, no token nests too deeply, and the tokens spell this tree
 abbrev pub IsTree : List ℕ → List Token → List Comment → File Span → Type 0
-IsTree text tokens comments tree = IsSupported text tokens comments × IsFirstOver MAX_LIMIT tokens None × SpellsFile tokens tree
+IsTree text tokens comments tree = IsSupported text tokens comments × IsFirstOver MAX_LIMIT tokens None
+    × SpellsFile tokens tree
 
 -- these are the tokens and comments of the text, and this is its tree
 abbrev pub IsSource : List ℕ → List Token → List Comment → File Span → Type 0
@@ -35,8 +37,10 @@ IsSource text tokens comments tree = TokensOf text tokens comments × IsTree tex
 -- why the tokens of a text have no tree
 abbrev pub RefusesTokens : List ℕ → List Token → List Comment → ReadError → Type 0
 RefusesTokens text tokens comments (Unsupported place) = IsUnsupportedAt text tokens comments place
-RefusesTokens text tokens comments (TooDeep place) = IsSupported text tokens comments × IsFirstOver MAX_LIMIT tokens (Some place)
-RefusesTokens text tokens comments (NotRead place) = IsSupported text tokens comments × IsFirstOver MAX_LIMIT tokens None × IsRefusedAt (length text) (lexemes tokens) place
+RefusesTokens text tokens comments (TooDeep place) = IsSupported text tokens comments
+    × IsFirstOver MAX_LIMIT tokens (Some place)
+RefusesTokens text tokens comments (NotRead place) = IsSupported text tokens comments
+    × IsFirstOver MAX_LIMIT tokens None × IsRefusedAt (length text) (lexemes tokens) place
 RefusesTokens text tokens comments _ = ⊥
 
 -- the text has tokens, and this is why they have no tree

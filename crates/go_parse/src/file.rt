@@ -20,7 +20,8 @@ use go_words::Terminal;
 /// An import with its semicolon.
 fn whole_import<'a>(room: &Room, tokens: &'a [Token]) -> Reading<'a, ImportDecl>
     requires { HasTexts (lexemes tokens.now) }
-    ensures gives { Gives (λ x. (import_decl_of x.0, lexemes x.1.now)) result (ended (at span_to read_import (lexemes tokens.now))) }
+    ensures gives { Gives (λ x. (import_decl_of x.0, lexemes x.1.now)) result
+        (ended (at span_to read_import (lexemes tokens.now))) }
     ensures shorter { Shorter (λ x. x.1.now) result tokens.now }
 {
     let Some((import, after)) = import(room, tokens)? else {
@@ -34,7 +35,8 @@ fn whole_import<'a>(room: &Room, tokens: &'a [Token]) -> Reading<'a, ImportDecl>
 
 /// A declaration with its semicolon.
 fn whole_decl<'a>(room: &Room, tokens: &'a [Token]) -> Reading<'a, Decl>
-    ensures gives { Gives (λ x. (decl_of x.0, lexemes x.1.now)) result (ended (at span_to read_top (lexemes tokens.now))) }
+    ensures gives { Gives (λ x. (decl_of x.0, lexemes x.1.now)) result
+        (ended (at span_to read_top (lexemes tokens.now))) }
     ensures shorter { Shorter (λ x. x.1.now) result tokens.now }
 {
     let Some((decl, after)) = decl(room, tokens)? else {
@@ -49,7 +51,8 @@ fn whole_decl<'a>(room: &Room, tokens: &'a [Token]) -> Reading<'a, Decl>
 /// Whole imports, each with its semicolon, as long as they follow one another.
 fn imports<'a>(room: &Room, tokens: &'a [Token]) -> Result<(ImportDeclList, &'a [Token]), NoMemory>
     requires { HasTexts (lexemes tokens.now) }
-    ensures gives { IfOk result (λ x. at span_to read_imports (lexemes tokens.now) ≡ Some (map import_decl_of x.0, lexemes x.1.now)) }
+    ensures gives { IfOk result (λ x. at span_to read_imports (lexemes tokens.now)
+        ≡ Some (map import_decl_of x.0, lexemes x.1.now)) }
     ensures within { IfOk result (λ x. length x.1.now ≤ length tokens.now) }
 {
     let mut list = Vec::new(room.alloc);
@@ -65,7 +68,8 @@ fn imports<'a>(room: &Room, tokens: &'a [Token]) -> Result<(ImportDeclList, &'a 
 
 /// Whole declarations, each with its semicolon, as long as they follow one another.
 fn decls<'a>(room: &Room, tokens: &'a [Token]) -> Result<(DeclList, &'a [Token]), NoMemory>
-    ensures gives { IfOk result (λ x. at span_to read_tops (lexemes tokens.now) ≡ Some (map decl_of x.0, lexemes x.1.now)) }
+    ensures gives { IfOk result (λ x. at span_to read_tops (lexemes tokens.now)
+        ≡ Some (map decl_of x.0, lexemes x.1.now)) }
     ensures within { IfOk result (λ x. length x.1.now ≤ length tokens.now) }
 {
     let mut list = Vec::new(room.alloc);

@@ -36,7 +36,8 @@ fn receiver_from<'a>(
     of: &'a [Token],
 ) -> Reading<'a, Receiver>
     requires { first_of (lexemes of.now) ≡ terminal.Ident }
-    ensures gives { Gives (λ x. (receiver_of x.0, lexemes x.1.now)) result (receiver_here (lexemes whole.now) (option_map name_at_of name) pointer (lexemes of.now)) }
+    ensures gives { Gives (λ x. (receiver_of x.0, lexemes x.1.now)) result
+        (receiver_here (lexemes whole.now) (option_map name_at_of name) pointer (lexemes of.now)) }
     ensures shorter { Shorter (λ x. x.1.now) result of.now }
 {
     let after = rest(of);
@@ -54,7 +55,8 @@ fn receiver_from<'a>(
 /// A receiver that begins with a name: its own, or that of its type.
 fn named_receiver<'a>(room: &Room, tokens: &'a [Token]) -> Reading<'a, Receiver>
     requires { first_of (lexemes tokens.now) ≡ terminal.Ident }
-    ensures gives { Gives (λ x. (receiver_of x.0, lexemes x.1.now)) result (at span_to read_receiver (lexemes tokens.now)) }
+    ensures gives { Gives (λ x. (receiver_of x.0, lexemes x.1.now)) result
+        (at span_to read_receiver (lexemes tokens.now)) }
     ensures shorter { Shorter (λ x. x.1.now) result tokens.now }
 {
     let second = rest(tokens);
@@ -76,7 +78,8 @@ fn named_receiver<'a>(room: &Room, tokens: &'a [Token]) -> Reading<'a, Receiver>
 
 /// A receiver without the parentheses around it.
 fn receiver<'a>(room: &Room, tokens: &'a [Token]) -> Reading<'a, Receiver>
-    ensures gives { Gives (λ x. (receiver_of x.0, lexemes x.1.now)) result (at span_to read_receiver (lexemes tokens.now)) }
+    ensures gives { Gives (λ x. (receiver_of x.0, lexemes x.1.now)) result
+        (at span_to read_receiver (lexemes tokens.now)) }
     ensures shorter { Shorter (λ x. x.1.now) result tokens.now }
 {
     let starred = is_star(first(tokens));
@@ -110,7 +113,8 @@ fn function<'a>(
     receiver: Option<Receiver>,
     tokens: &'a [Token],
 ) -> Reading<'a, FuncDecl>
-    ensures gives { Gives (λ x. (decl_of (decls.Func x.0), lexemes x.1.now)) result (func_at (lexemes whole.now) (option_map receiver_of receiver) (lexemes tokens.now)) }
+    ensures gives { Gives (λ x. (decl_of (decls.Func x.0), lexemes x.1.now)) result
+        (func_at (lexemes whole.now) (option_map receiver_of receiver) (lexemes tokens.now)) }
     ensures shorter { Shorter (λ x. x.1.now) result tokens.now }
 {
     let Terminal::Ident = first(tokens) else {
@@ -136,7 +140,8 @@ fn function<'a>(
 
 /// A method whose declaration begins at `whole`, after the parenthesis before its receiver.
 fn method<'a>(room: &Room, whole: &[Token], tokens: &'a [Token]) -> Reading<'a, FuncDecl>
-    ensures gives { Gives (λ x. (decl_of (decls.Func x.0), lexemes x.1.now)) result (method_at (lexemes whole.now) (lexemes tokens.now)) }
+    ensures gives { Gives (λ x. (decl_of (decls.Func x.0), lexemes x.1.now)) result
+        (method_at (lexemes whole.now) (lexemes tokens.now)) }
     ensures shorter { Shorter (λ x. x.1.now) result tokens.now }
 {
     let Some((receiver, after)) = receiver(room, tokens)? else {
@@ -150,7 +155,8 @@ fn method<'a>(room: &Room, whole: &[Token], tokens: &'a [Token]) -> Reading<'a, 
 
 /// A function or a method, whose first token is its keyword.
 pub(crate) fn func_decl<'a>(room: &Room, tokens: &'a [Token]) -> Reading<'a, FuncDecl>
-    ensures gives { Gives (λ x. (decl_of (decls.Func x.0), lexemes x.1.now)) result (func_decl_at (lexemes tokens.now)) }
+    ensures gives { Gives (λ x. (decl_of (decls.Func x.0), lexemes x.1.now)) result
+        (func_decl_at (lexemes tokens.now)) }
     ensures shorter { Shorter (λ x. x.1.now) result tokens.now }
 {
     let inner = rest(tokens);

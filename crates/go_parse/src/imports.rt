@@ -40,7 +40,8 @@ fn import_path<'a>(
     tokens: &'a [Token],
 ) -> Reading<'a, ImportSpec>
     requires { HasTexts (lexemes tokens.now) }
-    ensures gives { Gives (λ x. (import_spec_of x.0, lexemes x.1.now)) result (path_at (lexemes whole.now) (option_map name_at_of name) (lexemes tokens.now)) }
+    ensures gives { Gives (λ x. (import_spec_of x.0, lexemes x.1.now)) result
+        (path_at (lexemes whole.now) (option_map name_at_of name) (lexemes tokens.now)) }
     ensures shorter { Shorter (λ x. x.1.now) result tokens.now }
 {
     let Terminal::StrLit = first(tokens) else {
@@ -55,7 +56,8 @@ fn import_path<'a>(
 /// One import, with its name where it has one.
 fn import_spec<'a>(room: &Room, tokens: &'a [Token]) -> Reading<'a, ImportSpec>
     requires { HasTexts (lexemes tokens.now) }
-    ensures gives { Gives (λ x. (import_spec_of x.0, lexemes x.1.now)) result (at span_to read_import_spec (lexemes tokens.now)) }
+    ensures gives { Gives (λ x. (import_spec_of x.0, lexemes x.1.now)) result
+        (at span_to read_import_spec (lexemes tokens.now)) }
     ensures shorter { Shorter (λ x. x.1.now) result tokens.now }
 {
     let Terminal::Ident = first(tokens) else {
@@ -81,7 +83,8 @@ pub(crate) fn after_spec(tokens: &[Token]) -> Option<&[Token]>
 /// The imports of a group, up to the parenthesis that ends it.
 fn import_group<'a>(room: &Room, tokens: &'a [Token]) -> Reading<'a, ImportSpecList>
     requires { HasTexts (lexemes tokens.now) }
-    ensures gives { Gives (λ x. (map import_spec_of x.0, lexemes x.1.now)) result (closed (at span_to read_import_specs (lexemes tokens.now))) }
+    ensures gives { Gives (λ x. (map import_spec_of x.0, lexemes x.1.now)) result
+        (closed (at span_to read_import_specs (lexemes tokens.now))) }
     ensures shorter { Shorter (λ x. x.1.now) result tokens.now }
 {
     let mut specs = Vec::new(room.alloc);
@@ -104,7 +107,8 @@ fn import_group<'a>(room: &Room, tokens: &'a [Token]) -> Reading<'a, ImportSpecL
 /// The declaration of one import or of a group.
 pub(crate) fn import<'a>(room: &Room, tokens: &'a [Token]) -> Reading<'a, ImportDecl>
     requires { HasTexts (lexemes tokens.now) }
-    ensures gives { Gives (λ x. (import_decl_of x.0, lexemes x.1.now)) result (at span_to read_import (lexemes tokens.now)) }
+    ensures gives { Gives (λ x. (import_decl_of x.0, lexemes x.1.now)) result
+        (at span_to read_import (lexemes tokens.now)) }
     ensures shorter { Shorter (λ x. x.1.now) result tokens.now }
 {
     let Terminal::Import = first(tokens) else {
@@ -120,7 +124,8 @@ pub(crate) fn import<'a>(room: &Room, tokens: &'a [Token]) -> Reading<'a, Import
 
 fn grouped_import<'a>(room: &Room, whole: &[Token], tokens: &'a [Token]) -> Reading<'a, ImportDecl>
     requires { HasTexts (lexemes tokens.now) }
-    ensures gives { Gives (λ x. (import_decl_of x.0, lexemes x.1.now)) result (grouped_import_at (lexemes whole.now) (lexemes tokens.now)) }
+    ensures gives { Gives (λ x. (import_decl_of x.0, lexemes x.1.now)) result
+        (grouped_import_at (lexemes whole.now) (lexemes tokens.now)) }
     ensures shorter { Shorter (λ x. x.1.now) result tokens.now }
 {
     let Some((specs, after)) = import_group(room, tokens)? else {
@@ -137,7 +142,8 @@ fn grouped_import<'a>(room: &Room, whole: &[Token], tokens: &'a [Token]) -> Read
 
 fn single_import<'a>(room: &Room, whole: &[Token], tokens: &'a [Token]) -> Reading<'a, ImportDecl>
     requires { HasTexts (lexemes tokens.now) }
-    ensures gives { Gives (λ x. (import_decl_of x.0, lexemes x.1.now)) result (single_import_at (lexemes whole.now) (lexemes tokens.now)) }
+    ensures gives { Gives (λ x. (import_decl_of x.0, lexemes x.1.now)) result
+        (single_import_at (lexemes whole.now) (lexemes tokens.now)) }
     ensures shorter { Shorter (λ x. x.1.now) result tokens.now }
 {
     let Some((spec, after)) = import_spec(room, tokens)? else {

@@ -1,4 +1,5 @@
-//! A file of Go source: from its bytes to its tokens, comments and tree, or to the first reason why it has none. What is
+//! A file of Go source: from its bytes to its tokens, comments and tree, or to the first reason why it has none. What
+//! is
 //! asked on the way stands here too: whether a word isn't supported, and whether the tokens nest too deeply.
 #![tactic(auto)]
 

@@ -63,7 +63,8 @@ pub fn parse(alloc: Global, text: &[u8], tokens: &Tokens) -> Result<FileTree, Pa
     requires supported { IsFirst (unsupported_spans text.now tokens.now.items tokens.now.comments) None }
     requires shallow { IsFirstOver MAX_LIMIT tokens.now.items None }
     ensures found { IfOk result (λ f. SpellsFile tokens.now.items (file_of f)) }
-    ensures only { (f : File Span) → SpellsFile tokens.now.items f → MatchResult result (λ t. file_of t ≡ f) (λ e. e ≡ ParseError.NoMemory) }
+    ensures only { (f : File Span) → SpellsFile tokens.now.items f →
+        MatchResult result (λ t. file_of t ≡ f) (λ e. e ≡ ParseError.NoMemory) }
     ensures refused { IfErr result (λ e. Refuses (length text.now) (lexemes tokens.now.items) e) }
 {
     let tokens = tokens.items();

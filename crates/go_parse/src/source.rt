@@ -64,7 +64,8 @@ fn supported(alloc: Global, text: &[u8], tokens: &Tokens) -> Result<FileTree, Re
     requires small { length text.now ≤ MAX_FILE_BYTES }
     requires words { TokensOf text.now tokens.now.items tokens.now.comments }
     ensures read { IfOk result (λ f. IsTree text.now tokens.now.items tokens.now.comments (file_of f)) }
-    ensures refused { IfErr result (λ e. e ≢ ReadError.NoMemory → RefusesTokens text.now tokens.now.items tokens.now.comments e) }
+    ensures refused { IfErr result
+        (λ e. e ≢ ReadError.NoMemory → RefusesTokens text.now tokens.now.items tokens.now.comments e) }
 {
     match unsupported(text, tokens) {
         Some(span) => Err(ReadError::Unsupported(span.start)),
@@ -78,7 +79,8 @@ fn shallow(alloc: Global, text: &[u8], tokens: &Tokens) -> Result<FileTree, Read
     requires words { TokensOf text.now tokens.now.items tokens.now.comments }
     requires supported { IsSupported text.now tokens.now.items tokens.now.comments }
     ensures read { IfOk result (λ f. IsTree text.now tokens.now.items tokens.now.comments (file_of f)) }
-    ensures refused { IfErr result (λ e. e ≢ ReadError.NoMemory → RefusesTokens text.now tokens.now.items tokens.now.comments e) }
+    ensures refused { IfErr result
+        (λ e. e ≢ ReadError.NoMemory → RefusesTokens text.now tokens.now.items tokens.now.comments e) }
 {
     match weight_over(tokens, MAX_LIMIT) {
         Some(offset) => Err(ReadError::TooDeep(offset)),
@@ -92,7 +94,8 @@ fn parsed(alloc: Global, text: &[u8], tokens: &Tokens) -> Result<FileTree, ReadE
     requires supported { IsSupported text.now tokens.now.items tokens.now.comments }
     requires shallow { IsFirstOver MAX_LIMIT tokens.now.items None }
     ensures read { IfOk result (λ f. IsTree text.now tokens.now.items tokens.now.comments (file_of f)) }
-    ensures refused { IfErr result (λ e. e ≢ ReadError.NoMemory → RefusesTokens text.now tokens.now.items tokens.now.comments e) }
+    ensures refused { IfErr result
+        (λ e. e ≢ ReadError.NoMemory → RefusesTokens text.now tokens.now.items tokens.now.comments e) }
 {
     match parse(alloc, text, tokens) {
         Ok(file) => Ok(file),

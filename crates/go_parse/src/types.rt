@@ -24,7 +24,8 @@ fn spec_type<'a>(
     alias: bool,
     tokens: &'a [Token],
 ) -> Reading<'a, TypeSpec>
-    ensures gives { Gives (λ x. (type_spec_of x.0, lexemes x.1.now)) result (type_after_at (lexemes whole.now) (name_at_of name) alias (lexemes tokens.now)) }
+    ensures gives { Gives (λ x. (type_spec_of x.0, lexemes x.1.now)) result
+        (type_after_at (lexemes whole.now) (name_at_of name) alias (lexemes tokens.now)) }
     ensures shorter { Shorter (λ x. x.1.now) result tokens.now }
 {
     let Some((of, after)) = type_expr(room, tokens)? else {
@@ -49,7 +50,8 @@ fn is_equals(terminal: Terminal) -> bool
 
 /// A name and its type, with `=` between them for an alias.
 fn type_spec<'a>(room: &Room, tokens: &'a [Token]) -> Reading<'a, TypeSpec>
-    ensures gives { Gives (λ x. (type_spec_of x.0, lexemes x.1.now)) result (at span_to read_type_spec (lexemes tokens.now)) }
+    ensures gives { Gives (λ x. (type_spec_of x.0, lexemes x.1.now)) result
+        (at span_to read_type_spec (lexemes tokens.now)) }
     ensures shorter { Shorter (λ x. x.1.now) result tokens.now }
 {
     let Terminal::Ident = first(tokens) else {
@@ -67,7 +69,8 @@ fn type_spec<'a>(room: &Room, tokens: &'a [Token]) -> Reading<'a, TypeSpec>
 
 /// The specs of a group, up to the parenthesis that ends it.
 fn type_group<'a>(room: &Room, tokens: &'a [Token]) -> Reading<'a, TypeSpecList>
-    ensures gives { Gives (λ x. (map type_spec_of x.0, lexemes x.1.now)) result (closed (at span_to read_type_specs (lexemes tokens.now))) }
+    ensures gives { Gives (λ x. (map type_spec_of x.0, lexemes x.1.now)) result
+        (closed (at span_to read_type_specs (lexemes tokens.now))) }
     ensures shorter { Shorter (λ x. x.1.now) result tokens.now }
 {
     let mut specs = Vec::new(room.alloc);
@@ -93,7 +96,8 @@ pub(crate) fn grouped_types<'a>(
     whole: &[Token],
     tokens: &'a [Token],
 ) -> Reading<'a, TypeDecl>
-    ensures gives { Gives (λ x. (decl_of (decls.Types x.0), lexemes x.1.now)) result (grouped_types_at (lexemes whole.now) (lexemes tokens.now)) }
+    ensures gives { Gives (λ x. (decl_of (decls.Types x.0), lexemes x.1.now)) result
+        (grouped_types_at (lexemes whole.now) (lexemes tokens.now)) }
     ensures shorter { Shorter (λ x. x.1.now) result tokens.now }
 {
     let Some((specs, after)) = type_group(room, tokens)? else {
@@ -114,7 +118,8 @@ pub(crate) fn single_type<'a>(
     whole: &[Token],
     tokens: &'a [Token],
 ) -> Reading<'a, TypeDecl>
-    ensures gives { Gives (λ x. (decl_of (decls.Types x.0), lexemes x.1.now)) result (single_type_at (lexemes whole.now) (lexemes tokens.now)) }
+    ensures gives { Gives (λ x. (decl_of (decls.Types x.0), lexemes x.1.now)) result
+        (single_type_at (lexemes whole.now) (lexemes tokens.now)) }
     ensures shorter { Shorter (λ x. x.1.now) result tokens.now }
 {
     let Some((spec, after)) = type_spec(room, tokens)? else {
@@ -132,7 +137,8 @@ pub(crate) fn single_type<'a>(
 
 /// The declaration of one type or of a group, whose first token is its keyword.
 pub(crate) fn type_decl<'a>(room: &Room, tokens: &'a [Token]) -> Reading<'a, TypeDecl>
-    ensures gives { Gives (λ x. (decl_of (decls.Types x.0), lexemes x.1.now)) result (type_decl_at (lexemes tokens.now)) }
+    ensures gives { Gives (λ x. (decl_of (decls.Types x.0), lexemes x.1.now)) result
+        (type_decl_at (lexemes tokens.now)) }
     ensures shorter { Shorter (λ x. x.1.now) result tokens.now }
 {
     let inner = rest(tokens);

@@ -1,6 +1,6 @@
 -- Parts of a layout that have a function of their own.
 use Rattle.std.specs.Prelude.{ℕ, Bool, true, false, ◌&&◌, List, [], ◌∷◌, ◌++◌, Option, Some, codes}
-use Rattle.go_tree.specs.Tree.{NameAt, TypeExpr, Param, Expr, Exprs, Elems, Value, ValueOption, Stmts, StmtOption, Cases, ValueSpecs, no_exprs, expr_and, no_stmts, stmt_and, no_stmt, some_stmt, no_cases, case, no_specs, spec}
+use Rattle.go_tree.specs.Tree.{NameAt, TypeExpr, Expr, Exprs, Elems, Value, ValueOption, Stmts, StmtOption, Cases, ValueSpecs, no_exprs, expr_and, no_stmts, stmt_and, no_stmt, some_stmt, no_cases, case, no_specs, spec}
 use Rattle.go_tree.specs.File.{TypeSpec}
 use Rattle.go_layout.specs.Layouts.{Layout, gap, line, ◌⊕◌, key, op, name_layout, deeper, within}
 use Rattle.go_layout.specs.Parens.{header_within, closed_within}
@@ -40,14 +40,17 @@ module _ {S : Type 0} where
   elem_layout i closed x = key_layout i x.1 ⊕ value_layout i closed x.2
 
   abbrev pub arm_layout : List ℕ → S × StmtOption S × Expr S × (S × Stmts S) → Layout
-  arm_layout i x = key (codes "if") ⊕ gap ⊕ first_layout i x.1 ⊕ operand_layout i 1 true false x.2 ⊕ gap ⊕ block_layout i x.3.1
+  arm_layout i x =
+      key (codes "if") ⊕ gap ⊕ first_layout i x.1 ⊕ operand_layout i 1 true false x.2 ⊕ gap ⊕ block_layout i x.3.1
 
   -- the statements of a block with the newlines around them
   abbrev pub body_layout : List ℕ → Stmts S → Layout
   body_layout i body = block_start i body ⊕ stmts_layout (deeper i) (Some i) body
 
   abbrev pub clause_layout : List ℕ → S × Exprs S × Stmts S → Layout
-  clause_layout i x = case_word x.1 ⊕ exprs_layout i false false x.1 ⊕ op (codes ":") ⊕ line false (clause_indent i x.2) ⊕ stmts_layout (deeper i) (Some i) x.2
+  clause_layout i x =
+      case_word x.1 ⊕ exprs_layout i false false x.1 ⊕ op (codes ":") ⊕ line false (clause_indent i x.2) ⊕ stmts_layout
+      (deeper i) (Some i) x.2
 
   abbrev pub spec_layout : List ℕ → S × List (NameAt S) × Option (TypeExpr S) × Exprs S → Layout
   spec_layout i x = names_layout x.1 ⊕ spec_type_layout x.2 ⊕ equals_before x.3 ⊕ exprs_layout i false false x.3

@@ -1,4 +1,5 @@
-// Declarations of constants and variables.
+//! Declarations of constants and variables.
+
 ghost use Rattle.std.specs.Prelude.{◌≡◌, ◌++◌, Bool, OnOk, None};
 ghost use Rattle.go_layout.specs.Layouts.{text_of};
 ghost use Rattle.go_layout.specs.TreeLayout.{specs_layout, stmt_layout};
@@ -17,7 +18,9 @@ pub(crate) fn write_const_decl(
     decl: &ConstDecl,
     indent: &[u8],
 ) -> Result<(), NoMemory>
-    ensures { (header : Bool) → OnOk result (out.new.items ≡ out.old.items ++ text_of (stmt_layout indent.now header (const_decl_of decl.now))) }
+    ensures { (header : Bool) →
+        OnOk result (out.new.items
+        ≡ out.old.items ++ text_of (stmt_layout indent.now header (const_decl_of decl.now))) }
 {
     write_text(out, b"const ")?;
     if decl.grouped {
@@ -40,7 +43,8 @@ fn write_const_specs(
     specs: &ConstSpecList,
     indent: &[u8],
 ) -> Result<(), NoMemory>
-    ensures { OnOk result (out.new.items ≡ out.old.items ++ text_of (specs_layout indent.now None (const_specs_of specs.now))) }
+    ensures { OnOk result (out.new.items
+        ≡ out.old.items ++ text_of (specs_layout indent.now None (const_specs_of specs.now))) }
 {
     let items = specs.items();
     for (i, spec) in items.iter().enumerate() {
@@ -66,7 +70,8 @@ pub(crate) fn write_var_decl(
     decl: &VarDecl,
     indent: &[u8],
 ) -> Result<(), NoMemory>
-    ensures { (header : Bool) → OnOk result (out.new.items ≡ out.old.items ++ text_of (stmt_layout indent.now header (var_decl_of decl.now))) }
+    ensures { (header : Bool) →
+        OnOk result (out.new.items ≡ out.old.items ++ text_of (stmt_layout indent.now header (var_decl_of decl.now))) }
 {
     write_text(out, b"var ")?;
     if decl.grouped {
@@ -85,7 +90,8 @@ pub(crate) fn write_var_decl(
 
 #[cycle(tree_text)]
 fn write_var_specs(out: &mut Vec<u8>, specs: &VarSpecList, indent: &[u8]) -> Result<(), NoMemory>
-    ensures { OnOk result (out.new.items ≡ out.old.items ++ text_of (specs_layout indent.now None (var_specs_of specs.now))) }
+    ensures { OnOk result (out.new.items
+        ≡ out.old.items ++ text_of (specs_layout indent.now None (var_specs_of specs.now))) }
 {
     let items = specs.items();
     for (i, spec) in items.iter().enumerate() {

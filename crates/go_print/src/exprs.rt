@@ -1,4 +1,5 @@
-// Expressions.
+//! Expressions.
+
 ghost use Rattle.std.specs.Prelude.{◌≡◌, ◌++◌, OnOk, false};
 ghost use Rattle.go_layout.specs.Layouts.{text_of};
 ghost use Rattle.go_layout.specs.TreeLayout.{expr_layout, exprs_layout, key_layout, operand_layout, option_layout, value_layout};
@@ -24,7 +25,8 @@ pub(crate) fn write_operand(
     header: bool,
     closed: bool,
 ) -> Result<(), NoMemory>
-    ensures { OnOk result (out.new.items ≡ out.old.items ++ text_of (operand_layout indent.now level header closed (expr_of e.now))) }
+    ensures { OnOk result (out.new.items
+        ≡ out.old.items ++ text_of (operand_layout indent.now level header closed (expr_of e.now))) }
 {
     let parens = needs_parens(level, header, closed, e);
     write_within(out, e, indent, parens, header, closed)
@@ -39,7 +41,8 @@ fn write_within(
     header: bool,
     closed: bool,
 ) -> Result<(), NoMemory>
-    ensures { OnOk result (out.new.items ≡ out.old.items ++ text_of (within_layout indent.now parens header closed (expr_of e.now))) }
+    ensures { OnOk result (out.new.items
+        ≡ out.old.items ++ text_of (within_layout indent.now parens header closed (expr_of e.now))) }
 {
     if parens {
         write_text(out, b"(")?;
@@ -59,7 +62,8 @@ pub(crate) fn write_expr(
     header: bool,
     closed: bool,
 ) -> Result<(), NoMemory>
-    ensures { OnOk result (out.new.items ≡ out.old.items ++ text_of (expr_layout indent.now header closed (expr_of e.now))) }
+    ensures { OnOk result (out.new.items
+        ≡ out.old.items ++ text_of (expr_layout indent.now header closed (expr_of e.now))) }
 {
     match e {
         Expr::Ident { name, .. } => write_text(out, name.items()),
@@ -135,7 +139,8 @@ pub(crate) fn write_expr(
 // A bound of a slice, where there is one.
 #[cycle(tree_text)]
 fn write_bound(out: &mut Vec<u8>, e: &Option<Box<Expr>>, indent: &[u8]) -> Result<(), NoMemory>
-    ensures { OnOk result (out.new.items ≡ out.old.items ++ text_of (option_layout indent.now false (boxed_expr_option_of e.now))) }
+    ensures { OnOk result (out.new.items
+        ≡ out.old.items ++ text_of (option_layout indent.now false (boxed_expr_option_of e.now))) }
 {
     match e {
         None => Ok(()),
@@ -152,7 +157,8 @@ pub(crate) fn write_exprs(
     header: bool,
     closed: bool,
 ) -> Result<(), NoMemory>
-    ensures { OnOk result (out.new.items ≡ out.old.items ++ text_of (exprs_layout indent.now header closed (exprs_of exprs.now))) }
+    ensures { OnOk result (out.new.items
+        ≡ out.old.items ++ text_of (exprs_layout indent.now header closed (exprs_of exprs.now))) }
 {
     let items = exprs.items();
     for (i, e) in items.iter().enumerate() {
@@ -180,7 +186,8 @@ fn write_elems(out: &mut Vec<u8>, elems: &ElemList, indent: &[u8]) -> Result<(),
 
 #[cycle(tree_text)]
 fn write_elem(out: &mut Vec<u8>, elem: &Elem, indent: &[u8], closed: bool) -> Result<(), NoMemory>
-    ensures { OnOk result (out.new.items ≡ out.old.items ++ text_of (elem_layout indent.now closed (elem_of elem.now))) }
+    ensures { OnOk result (out.new.items
+        ≡ out.old.items ++ text_of (elem_layout indent.now closed (elem_of elem.now))) }
 {
     write_key(out, &elem.key, indent)?;
     write_value(out, &elem.value, indent, closed)
@@ -188,7 +195,8 @@ fn write_elem(out: &mut Vec<u8>, elem: &Elem, indent: &[u8], closed: bool) -> Re
 
 #[cycle(tree_text)]
 fn write_key(out: &mut Vec<u8>, key: &Option<Value>, indent: &[u8]) -> Result<(), NoMemory>
-    ensures { OnOk result (out.new.items ≡ out.old.items ++ text_of (key_layout indent.now (held_value_option_of key.now))) }
+    ensures { OnOk result (out.new.items
+        ≡ out.old.items ++ text_of (key_layout indent.now (held_value_option_of key.now))) }
 {
     match key {
         None => Ok(()),
@@ -206,7 +214,8 @@ fn write_value(
     indent: &[u8],
     closed: bool,
 ) -> Result<(), NoMemory>
-    ensures { OnOk result (out.new.items ≡ out.old.items ++ text_of (value_layout indent.now closed (value_of value.now))) }
+    ensures { OnOk result (out.new.items
+        ≡ out.old.items ++ text_of (value_layout indent.now closed (value_of value.now))) }
 {
     match value {
         Value::Plain(e) => write_operand(out, e, indent, LOWEST, false, closed),

@@ -1,4 +1,5 @@
-// Files: their package clause, imports and declarations (Go specification, Source file organization).
+//! Files: their package clause, imports and declarations (Go specification, Source file organization).
+
 ghost use Rattle.std.specs.Prelude.{◌≡◌, ◌++◌, IfOk, OnOk, map};
 ghost use Rattle.go_layout.specs.FileLayout.{declaration_layout, file_layout, paragraphs_layout};
 ghost use Rattle.go_layout.specs.Layouts.{text_of};
@@ -28,7 +29,8 @@ pub fn print_file(alloc: Global, file: &FileTree) -> Result<Text, NoMemory>
 
 /// Declarations, an empty line before each.
 fn write_decls(out: &mut Vec<u8>, items: &[Decl]) -> Result<(), NoMemory>
-    ensures { OnOk result (out.new.items ≡ out.old.items ++ text_of (paragraphs_layout declaration_layout (map decl_of items.now))) }
+    ensures { OnOk result (out.new.items
+        ≡ out.old.items ++ text_of (paragraphs_layout declaration_layout (map decl_of items.now))) }
 {
     for decl in items {
         write_line(out, b"")?;

@@ -1,4 +1,5 @@
-// Declarations of functions and methods (Go specification, Function declarations, Method declarations).
+//! Declarations of functions and methods (Go specification, Function declarations, Method declarations).
+
 ghost use Rattle.std.specs.Prelude.{◌≡◌, ◌++◌, OnOk};
 ghost use Rattle.std.specs.Option.{option_map};
 ghost use Rattle.go_layout.specs.FileLayout.{func_layout, pointer_layout, receiver_layout};
@@ -23,7 +24,8 @@ pub(crate) fn write_func(out: &mut Vec<u8>, decl: &FuncDecl) -> Result<(), NoMem
 
 /// The receiver of a method, where there is one.
 fn write_receiver(out: &mut Vec<u8>, receiver: &Option<Receiver>) -> Result<(), NoMemory>
-    ensures { OnOk result (out.new.items ≡ out.old.items ++ text_of (receiver_layout (option_map receiver_of receiver.now))) }
+    ensures { OnOk result (out.new.items
+        ≡ out.old.items ++ text_of (receiver_layout (option_map receiver_of receiver.now))) }
 {
     match receiver {
         None => Ok(()),

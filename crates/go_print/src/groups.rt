@@ -1,4 +1,5 @@
-// What stands around the specs of a declaration that may be a group.
+//! What stands around the specs of a declaration that may be a group.
+
 ghost use Rattle.std.specs.Prelude.{◌≡◌, ◌++◌, OnOk};
 ghost use Rattle.go_layout.specs.FileLayout.{specs_indent};
 ghost use Rattle.go_print.specs.Parts.{closing_text, opening_text};

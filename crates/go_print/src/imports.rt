@@ -1,4 +1,5 @@
-// Import declarations (Go specification, Import declarations).
+//! Import declarations (Go specification, Import declarations).
+
 ghost use Rattle.std.specs.Prelude.{◌≡◌, ◌++◌, OnOk, map};
 ghost use Rattle.go_layout.specs.FileLayout.{import_layout, import_spec_layout, lines_layout, paragraphs_layout};
 ghost use Rattle.go_layout.specs.Layouts.{text_of};
@@ -12,7 +13,8 @@ use go_tree::{ImportDecl, ImportSpec, NoMemory};
 
 /// Import declarations, an empty line before each.
 pub(crate) fn write_imports(out: &mut Vec<u8>, items: &[ImportDecl]) -> Result<(), NoMemory>
-    ensures { OnOk result (out.new.items ≡ out.old.items ++ text_of (paragraphs_layout import_layout (map import_decl_of items.now))) }
+    ensures { OnOk result (out.new.items
+        ≡ out.old.items ++ text_of (paragraphs_layout import_layout (map import_decl_of items.now))) }
 {
     for decl in items {
         write_line(out, b"")?;
@@ -38,7 +40,8 @@ fn write_import_specs(
     items: &[ImportSpec],
     indent: &[u8],
 ) -> Result<(), NoMemory>
-    ensures { OnOk result (out.new.items ≡ out.old.items ++ text_of (lines_layout import_spec_layout indent.now (map import_spec_of items.now))) }
+    ensures { OnOk result (out.new.items
+        ≡ out.old.items ++ text_of (lines_layout import_spec_layout indent.now (map import_spec_of items.now))) }
 {
     for (i, spec) in items.iter().enumerate() {
         write_import_spec(out, spec)?;

@@ -1,4 +1,5 @@
-// Where parentheses stand around an expression.
+//! Where parentheses stand around an expression.
+
 ghost use Rattle.std.specs.Prelude.{◌≡◌, ◌||◌, false};
 ghost use Rattle.go_layout.specs.Parens.{is_bracketed_type, is_integer, is_named_literal, is_one_operator, needs_parens, precedence, runs_into};
 ghost use Rattle.go_tree.specs.View.{expr_of};

@@ -1,4 +1,5 @@
-// Small parts of a text.
+//! Small parts of a text.
+
 ghost use Rattle.std.specs.Prelude.{◌≡◌, ◌∷◌, ◌++◌, IfOk, OnOk};
 ghost use Rattle.go_layout.specs.Layouts.{deeper, name_layout, text_of};
 ghost use Rattle.go_words.specs.Operators.{assign_spelling, binary_spelling};

@@ -1,4 +1,5 @@
-// Import paths as string literals.
+//! Import paths as string literals.
+
 ghost use Rattle.std.specs.Prelude.{◌≡◌, ◌<◌, ◌++◌, OnOk};
 ghost use Rattle.std.specs.Char.{digit_char};
 ghost use Rattle.go_layout.specs.FileLayout.{is_plain, path_spelling, quoted_byte, quoted_bytes};

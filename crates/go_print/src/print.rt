@@ -1,6 +1,6 @@
-// The public calls: a text of its own for a tree.
-ghost use Rattle.std.specs.Prelude.{◌≡◌, ◌≤◌, ◌⊎◌, IfOk, None, false};
-ghost use Rattle.std.specs.List.{All};
+//! The public calls: a text of its own for a tree.
+
+ghost use Rattle.std.specs.Prelude.{◌≡◌, IfOk, None, false};
 ghost use Rattle.go_layout.specs.Layouts.{text_of};
 ghost use Rattle.go_layout.specs.TypeLayout.{type_layout};
 ghost use Rattle.go_layout.specs.TreeLayout.{operand_layout, stmts_layout};

@@ -1,4 +1,5 @@
-// The dots after the last argument of a call.
+//! The dots after the last argument of a call.
+
 ghost use Rattle.std.specs.Prelude.{◌≡◌, ◌++◌, OnOk, false};
 ghost use Rattle.go_layout.specs.Layouts.{text_of};
 ghost use Rattle.go_layout.specs.Parens.{ends_in_integer, last_ends_in_integer};

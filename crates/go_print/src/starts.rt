@@ -1,4 +1,5 @@
-// Whether lists have entries, and what stands before those that have.
+//! Whether lists have entries, and what stands before those that have.
+
 ghost use Rattle.std.specs.Prelude.{◌≡◌, ◌++◌, OnOk};
 ghost use Rattle.go_layout.specs.Layouts.{text_of};
 ghost use Rattle.go_layout.specs.TreeLayout.{case_word, clauses_start, equals_before, gap_before};

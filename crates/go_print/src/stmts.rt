@@ -1,4 +1,5 @@
-// Statements.
+//! Statements.
+
 ghost use Rattle.std.specs.Prelude.{◌≡◌, ◌++◌, OnOk, None, true};
 ghost use Rattle.go_layout.specs.Layouts.{text_of};
 ghost use Rattle.go_layout.specs.TreeLayout.{arms_layout, block_layout, cases_layout, first_layout, last_layout, left_layout, option_layout, part_layout, post_layout, stmt_layout, stmts_layout, test_layout};
@@ -23,7 +24,8 @@ pub(crate) fn write_stmts(
     stmts: &StmtList,
     indent: &[u8],
 ) -> Result<(), NoMemory>
-    ensures { OnOk result (out.new.items ≡ out.old.items ++ text_of (stmts_layout indent.now None (stmts_of stmts.now))) }
+    ensures { OnOk result (out.new.items
+        ≡ out.old.items ++ text_of (stmts_layout indent.now None (stmts_of stmts.now))) }
 {
     let items = stmts.items();
     for (i, stmt) in items.iter().enumerate() {
@@ -36,7 +38,8 @@ pub(crate) fn write_stmts(
 /// A block: `{}`, or its statements one tab deeper than `indent`.
 #[cycle(tree_text)]
 pub(crate) fn write_block(out: &mut Vec<u8>, block: &Block, indent: &[u8]) -> Result<(), NoMemory>
-    ensures { OnOk result (out.new.items ≡ out.old.items ++ text_of (block_layout indent.now (stmts_of block.now.stmts))) }
+    ensures { OnOk result (out.new.items
+        ≡ out.old.items ++ text_of (block_layout indent.now (stmts_of block.now.stmts))) }
 {
     let tabs = deeper(out, indent)?;
     let inner = tabs.as_slice();
@@ -166,7 +169,8 @@ fn has_clause(first: &Option<Box<Stmt>>, post: &Option<Box<Stmt>>) -> bool
 // A statement before a semicolon of a header, where there is one.
 #[cycle(tree_text)]
 fn write_part(out: &mut Vec<u8>, s: &Option<Box<Stmt>>, indent: &[u8]) -> Result<(), NoMemory>
-    ensures { OnOk result (out.new.items ≡ out.old.items ++ text_of (part_layout indent.now (boxed_stmt_option_of s.now))) }
+    ensures { OnOk result (out.new.items
+        ≡ out.old.items ++ text_of (part_layout indent.now (boxed_stmt_option_of s.now))) }
 {
     match s {
         None => Ok(()),
@@ -177,7 +181,8 @@ fn write_part(out: &mut Vec<u8>, s: &Option<Box<Stmt>>, indent: &[u8]) -> Result
 // A header's first statement with its semicolon, where there is one.
 #[cycle(tree_text)]
 fn write_first(out: &mut Vec<u8>, s: &Option<Box<Stmt>>, indent: &[u8]) -> Result<(), NoMemory>
-    ensures { OnOk result (out.new.items ≡ out.old.items ++ text_of (first_layout indent.now (boxed_stmt_option_of s.now))) }
+    ensures { OnOk result (out.new.items
+        ≡ out.old.items ++ text_of (first_layout indent.now (boxed_stmt_option_of s.now))) }
 {
     match s {
         None => Ok(()),
@@ -191,7 +196,8 @@ fn write_first(out: &mut Vec<u8>, s: &Option<Box<Stmt>>, indent: &[u8]) -> Resul
 // The statement after the condition of a `for`, where there is one.
 #[cycle(tree_text)]
 fn write_post(out: &mut Vec<u8>, s: &Option<Box<Stmt>>, indent: &[u8]) -> Result<(), NoMemory>
-    ensures { OnOk result (out.new.items ≡ out.old.items ++ text_of (post_layout indent.now (boxed_stmt_option_of s.now))) }
+    ensures { OnOk result (out.new.items
+        ≡ out.old.items ++ text_of (post_layout indent.now (boxed_stmt_option_of s.now))) }
 {
     match s {
         None => Ok(()),
@@ -205,7 +211,8 @@ fn write_post(out: &mut Vec<u8>, s: &Option<Box<Stmt>>, indent: &[u8]) -> Result
 // A condition between semicolons, where there is one.
 #[cycle(tree_text)]
 fn write_condition(out: &mut Vec<u8>, e: &Option<Expr>, indent: &[u8]) -> Result<(), NoMemory>
-    ensures { OnOk result (out.new.items ≡ out.old.items ++ text_of (option_layout indent.now true (plain_expr_option_of e.now))) }
+    ensures { OnOk result (out.new.items
+        ≡ out.old.items ++ text_of (option_layout indent.now true (plain_expr_option_of e.now))) }
 {
     match e {
         None => Ok(()),
@@ -216,7 +223,8 @@ fn write_condition(out: &mut Vec<u8>, e: &Option<Expr>, indent: &[u8]) -> Result
 // A condition or a tag before a brace, where there is one.
 #[cycle(tree_text)]
 fn write_test(out: &mut Vec<u8>, e: &Option<Expr>, indent: &[u8]) -> Result<(), NoMemory>
-    ensures { OnOk result (out.new.items ≡ out.old.items ++ text_of (test_layout indent.now (plain_expr_option_of e.now))) }
+    ensures { OnOk result (out.new.items
+        ≡ out.old.items ++ text_of (test_layout indent.now (plain_expr_option_of e.now))) }
 {
     match e {
         None => Ok(()),
@@ -253,7 +261,8 @@ fn write_arm(out: &mut Vec<u8>, arm: &Arm, indent: &[u8]) -> Result<(), NoMemory
 // The block after the last `else`, where there is one.
 #[cycle(tree_text)]
 fn write_last(out: &mut Vec<u8>, last: &Option<Block>, indent: &[u8]) -> Result<(), NoMemory>
-    ensures { OnOk result (out.new.items ≡ out.old.items ++ text_of (last_layout indent.now (held_block_option_of last.now))) }
+    ensures { OnOk result (out.new.items
+        ≡ out.old.items ++ text_of (last_layout indent.now (held_block_option_of last.now))) }
 {
     match last {
         None => Ok(()),

@@ -1,4 +1,5 @@
-// Declarations of types (Go specification, Type declarations).
+//! Declarations of types (Go specification, Type declarations).
+
 ghost use Rattle.std.specs.Prelude.{◌≡◌, ◌++◌, OnOk, map};
 ghost use Rattle.go_layout.specs.FileLayout.{alias_layout, lines_layout, type_spec_layout};
 ghost use Rattle.go_layout.specs.Layouts.{text_of};
@@ -11,7 +12,8 @@ use crate::types::write_type;
 use go_tree::{NoMemory, TypeDecl, TypeSpec};
 
 pub(crate) fn write_types(out: &mut Vec<u8>, decl: &TypeDecl) -> Result<(), NoMemory>
-    ensures { OnOk result (out.new.items ≡ out.old.items ++ text_of (types_layout decl.now.grouped (map type_spec_of decl.now.specs))) }
+    ensures { OnOk result (out.new.items
+        ≡ out.old.items ++ text_of (types_layout decl.now.grouped (map type_spec_of decl.now.specs))) }
 {
     let specs = decl.specs.items();
     let any = !specs.is_empty();
@@ -22,7 +24,8 @@ pub(crate) fn write_types(out: &mut Vec<u8>, decl: &TypeDecl) -> Result<(), NoMe
 }
 
 fn write_type_specs(out: &mut Vec<u8>, items: &[TypeSpec], indent: &[u8]) -> Result<(), NoMemory>
-    ensures { OnOk result (out.new.items ≡ out.old.items ++ text_of (lines_layout type_spec_layout indent.now (map type_spec_of items.now))) }
+    ensures { OnOk result (out.new.items
+        ≡ out.old.items ++ text_of (lines_layout type_spec_layout indent.now (map type_spec_of items.now))) }
 {
     for (i, spec) in items.iter().enumerate() {
         write_type_spec(out, spec)?;

@@ -1,4 +1,5 @@
-// Names, types and signatures.
+//! Names, types and signatures.
+
 ghost use Rattle.std.specs.Prelude.{◌≡◌, ◌++◌, OnOk, map};
 ghost use Rattle.std.specs.Option.{option_map};
 ghost use Rattle.go_layout.specs.Layouts.{text_of};
@@ -24,7 +25,8 @@ pub(crate) fn write_names(out: &mut Vec<u8>, names: &NameAtList) -> Result<(), N
 }
 
 fn write_qualifier(out: &mut Vec<u8>, qualifier: &Option<NameAt>) -> Result<(), NoMemory>
-    ensures { OnOk result (out.new.items ≡ out.old.items ++ text_of (qualifier_layout (option_map name_at_of qualifier.now))) }
+    ensures { OnOk result (out.new.items
+        ≡ out.old.items ++ text_of (qualifier_layout (option_map name_at_of qualifier.now))) }
 {
     match qualifier {
         None => Ok(()),
@@ -101,7 +103,8 @@ pub(crate) fn write_spec_type(out: &mut Vec<u8>, t: &Option<TypeExpr>) -> Result
 }
 
 pub(crate) fn write_param_name(out: &mut Vec<u8>, name: &Option<NameAt>) -> Result<(), NoMemory>
-    ensures { OnOk result (out.new.items ≡ out.old.items ++ text_of (param_name_layout (option_map name_at_of name.now))) }
+    ensures { OnOk result (out.new.items
+        ≡ out.old.items ++ text_of (param_name_layout (option_map name_at_of name.now))) }
 {
     match name {
         None => Ok(()),

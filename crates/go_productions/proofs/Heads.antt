@@ -4,7 +4,7 @@ use Rattle.go_tree.specs.declared.tokens.Token.{Token}
 use Rattle.go_tree.specs.declared.tokens.TokenKind.{TokenKind}
 use Rattle.go_tree.specs.declared.tokens.TokenKind.TheVariants.{Ident, Keyword, Operator, Integer, Float, Imaginary, Rune, Str, Inserted}
 use Rattle.go_words.specs.Terminals as pure
-use Rattle.go_words.specs.Terminals.{Lexeme, lexeme_of, lexemes, terminal_of, found_in, keywords, operators}
+use Rattle.go_words.specs.Terminals.{lexeme_of, lexemes, terminal_of, found_in, keywords, operators}
 use Rattle.go_read.specs.SpellsSpans.{end_after, span_to, start_of}
 use Rattle.go_read.specs.SpellsTypes.{Lexemes}
 use Rattle.go_words.specs.declared.terminals.Terminal.{Terminal}

@@ -58,11 +58,13 @@ abbrev pub shared : TypeExpr Span → List (Span × NameAt Span) → List (Span 
 shared t [] = []
 shared t (e ∷ es) = (e.0, e.1, t) ∷ shared t es
 
-abbrev pub shared_read : List (Span × NameAt Span × TypeExpr Span) → (TypeExpr Span × List (Span × NameAt Span)) × Lexemes → List (Span × NameAt Span × TypeExpr Span) × Lexemes
+abbrev pub shared_read : List (Span × NameAt Span × TypeExpr Span) →
+    (TypeExpr Span × List (Span × NameAt Span)) × Lexemes → List (Span × NameAt Span × TypeExpr Span) × Lexemes
 shared_read front x = (front ++ shared x.0.0 x.0.1, x.1)
 
 -- names and the type that they share, after these
-abbrev pub shared_onto : List (Span × NameAt Span × TypeExpr Span) → Lexemes → Option (List (Span × NameAt Span × TypeExpr Span) × Lexemes)
+abbrev pub shared_onto : List (Span × NameAt Span × TypeExpr Span) → Lexemes →
+    Option (List (Span × NameAt Span × TypeExpr Span) × Lexemes)
 shared_onto front ts = option_and_then (λ x. Some (shared_read front x)) (at span_to read_entries ts)
 
 abbrev pub param_from : Span × NameAt Span × TypeExpr Span → Param Span
@@ -78,8 +80,10 @@ abbrev pub rest_from : Span → Option (NameAt Span) → TypeExpr Span → Param
 rest_from s n t = record { span = s; name = n; rest = true; of = t }
 
 -- a variadic parameter that begins at `whole`, from its type on, after these
-abbrev pub rest_onto : List (Param Span) → Lexemes → Option (NameAt Span) → Lexemes → Option (List (Param Span) × Lexemes)
-rest_onto front whole n ts = option_and_then (λ x. Some (front ++ rest_from (span_to whole x.1) n x.0 ∷ [], x.1)) (at span_to read_type ts)
+abbrev pub rest_onto : List (Param Span) → Lexemes → Option (NameAt Span) → Lexemes →
+    Option (List (Param Span) × Lexemes)
+rest_onto front whole n ts =
+    option_and_then (λ x. Some (front ++ rest_from (span_to whole x.1) n x.0 ∷ [], x.1)) (at span_to read_type ts)
 
 -- a variadic parameter, after these
 abbrev pub rest_group : List (Param Span) → Lexemes → Option (List (Param Span) × Lexemes)
@@ -91,7 +95,8 @@ rest_group front _ = None
 -- parameters that share a type, or one without a name, or a variadic one, after these
 abbrev pub group_onto : Bool → Bool → List (Param Span) → Lexemes → Option (List (Param Span) × Lexemes)
 group_onto true named front ts = rest_group front ts
-group_onto false true front ts = option_and_then (λ x. Some (front ++ map param_from (shared x.0.0 x.0.1), x.1)) (at span_to read_entries ts)
+group_onto false true front ts =
+    option_and_then (λ x. Some (front ++ map param_from (shared x.0.0 x.0.1), x.1)) (at span_to read_entries ts)
 group_onto false false front ts = option_and_then (λ x. Some (front ++ unnamed x.0 ∷ [], x.1)) (at span_to read_type ts)
 
 -- parameters with names or without, the last of which may be variadic or not, up to the closing parenthesis
@@ -117,8 +122,11 @@ results_at ts = option_and_then (λ x. Some (unnamed x.0 ∷ [], x.1)) (at span_
 
 -- the declaration of constants that begins with the first token, its keyword (Go specification, Constant declarations)
 unfoldable pub const_decl_at : Lexemes → Option (Stmt Span × Lexemes)
-const_decl_at ts = option_and_then (λ x. Some (const_decl (span_to ts x.1) x.0.0 x.0.1, x.1)) (at span_to (read_decl true) (rest_of ts))
+const_decl_at ts =
+    option_and_then (λ x. Some (const_decl (span_to ts x.1) x.0.0 x.0.1, x.1))
+    (at span_to (read_decl true) (rest_of ts))
 
 -- that of variables (Go specification, Variable declarations)
 unfoldable pub var_decl_at : Lexemes → Option (Stmt Span × Lexemes)
-var_decl_at ts = option_and_then (λ x. Some (var_decl (span_to ts x.1) x.0.0 x.0.1, x.1)) (at span_to (read_decl false) (rest_of ts))
+var_decl_at ts =
+    option_and_then (λ x. Some (var_decl (span_to ts x.1) x.0.0 x.0.1, x.1)) (at span_to (read_decl false) (rest_of ts))

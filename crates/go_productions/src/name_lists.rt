@@ -19,7 +19,8 @@ use go_words::Terminal;
 /// Names with commas between them.
 #[tactic(auto, using(crate::proofs::NameArms::names_none, crate::proofs::NameArms::names_last, crate::proofs::NameArms::names_more))]
 pub fn names<'a>(room: &Room, tokens: &'a [Token]) -> Reading<'a, NameAtList>
-    ensures gives { Gives (λ x. (map name_at_of x.0, lexemes x.1.now)) result (at span_to read_names (lexemes tokens.now)) }
+    ensures gives { Gives (λ x. (map name_at_of x.0, lexemes x.1.now)) result
+        (at span_to read_names (lexemes tokens.now)) }
     ensures shorter { Shorter (λ x. x.1.now) result tokens.now }
 {
     let mut names = Vec::new(room.alloc);

@@ -23,7 +23,8 @@ use go_words::Terminal;
 /// its type.
 #[tactic(auto, using(crate::proofs::SigArms::sig_open, crate::proofs::SigArms::sig_none, crate::proofs::SigArms::sig_some))]
 pub fn signature<'a>(room: &Room, tokens: &'a [Token], variadic: bool) -> Reading<'a, Sig>
-    ensures gives { Gives (λ x. (sig_of x.0, lexemes x.1.now)) result (at span_to (read_sig variadic) (lexemes tokens.now)) }
+    ensures gives { Gives (λ x. (sig_of x.0, lexemes x.1.now)) result
+        (at span_to (read_sig variadic) (lexemes tokens.now)) }
     ensures shorter { Shorter (λ x. x.1.now) result tokens.now }
 {
     let Some((params, left)) = params(room, tokens, variadic)? else {
@@ -58,7 +59,8 @@ fn results<'a>(room: &Room, tokens: &'a [Token]) -> Reading<'a, ParamList>
 /// Parameters in parentheses.
 #[tactic(auto, using(crate::proofs::SigArms::params_open, crate::proofs::SigArms::params_empty, crate::proofs::SigArms::params_listed))]
 fn params<'a>(room: &Room, tokens: &'a [Token], variadic: bool) -> Reading<'a, ParamList>
-    ensures gives { Gives (λ x. (map param_of x.0, lexemes x.1.now)) result (at span_to (read_params variadic) (lexemes tokens.now)) }
+    ensures gives { Gives (λ x. (map param_of x.0, lexemes x.1.now)) result
+        (at span_to (read_params variadic) (lexemes tokens.now)) }
     ensures shorter { Shorter (λ x. x.1.now) result tokens.now }
 {
     let Terminal::Paren = first(tokens) else {
@@ -104,7 +106,8 @@ fn param_list<'a>(
     named: bool,
     variadic: bool,
 ) -> Reading<'a, ParamList>
-    ensures gives { Gives (λ x. (map param_of x.0, lexemes x.1.now)) result (params_at variadic named (lexemes tokens.now)) }
+    ensures gives { Gives (λ x. (map param_of x.0, lexemes x.1.now)) result
+        (params_at variadic named (lexemes tokens.now)) }
     ensures shorter { Shorter (λ x. x.1.now) result tokens.now }
 {
     let mut params = Vec::new(room.alloc);
@@ -161,7 +164,8 @@ fn param_group<'a>(
     named: bool,
     variadic: bool,
 ) -> Reading<'a, Vec<Param>>
-    ensures gives { Gives (λ x. (map param_of x.0.items, lexemes x.1.now)) result (group_onto variadic named (map param_of params.items) (lexemes tokens.now)) }
+    ensures gives { Gives (λ x. (map param_of x.0.items, lexemes x.1.now)) result
+        (group_onto variadic named (map param_of params.items) (lexemes tokens.now)) }
     ensures shorter { Shorter (λ x. x.1.now) result tokens.now }
 {
     if variadic {
@@ -187,7 +191,8 @@ fn param_group<'a>(
 /// A variadic parameter after these.
 #[tactic(auto, using(crate::proofs::ParamArms::rest_dots, crate::proofs::ParamArms::rest_named, crate::proofs::ParamArms::rest_absent, crate::proofs::ParamArms::rest_dotless))]
 fn rest_group<'a>(room: &Room, params: Vec<Param>, tokens: &'a [Token]) -> Reading<'a, Vec<Param>>
-    ensures gives { Gives (λ x. (map param_of x.0.items, lexemes x.1.now)) result (rest_group (map param_of params.items) (lexemes tokens.now)) }
+    ensures gives { Gives (λ x. (map param_of x.0.items, lexemes x.1.now)) result
+        (rest_group (map param_of params.items) (lexemes tokens.now)) }
     ensures shorter { Shorter (λ x. x.1.now) result tokens.now }
 {
     if let Terminal::Ellipsis = first(tokens) {
@@ -213,7 +218,8 @@ fn rest_param<'a>(
     name: Option<NameAt>,
     tokens: &'a [Token],
 ) -> Reading<'a, Vec<Param>>
-    ensures gives { Gives (λ x. (map param_of x.0.items, lexemes x.1.now)) result (rest_onto (map param_of params.items) (lexemes whole.now) (option_map name_at_of name) (lexemes tokens.now)) }
+    ensures gives { Gives (λ x. (map param_of x.0.items, lexemes x.1.now)) result
+        (rest_onto (map param_of params.items) (lexemes whole.now) (option_map name_at_of name) (lexemes tokens.now)) }
     ensures shorter { Shorter (λ x. x.1.now) result tokens.now }
 {
     let mut params = params;

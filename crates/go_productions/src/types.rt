@@ -206,7 +206,8 @@ pub(crate) fn shared_fields<'a>(
     fields: Vec<FieldSpec>,
     tokens: &'a [Token],
 ) -> Reading<'a, Vec<FieldSpec>>
-    ensures gives { Gives (λ x. (map field_of x.0.items, lexemes x.1.now)) result (shared_onto (map field_of fields.items) (lexemes tokens.now)) }
+    ensures gives { Gives (λ x. (map field_of x.0.items, lexemes x.1.now)) result
+        (shared_onto (map field_of fields.items) (lexemes tokens.now)) }
     ensures shorter { Shorter (λ x. x.1.now) result tokens.now }
 {
     let Some(of_all) = skip_names(tokens) else {

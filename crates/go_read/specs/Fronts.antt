@@ -9,7 +9,8 @@ use Rattle.go_read.specs.SpellsFiles.{SpellsFront}
 
 -- the tokens before `rest` are a package clause, whole imports and whole declarations, and no more of them are
 abbrev pub IsLongestFront : Lexemes → Lexemes → Type 0
-IsLongestFront tokens rest = ((f : File Span) × SpellsFront span_to f tokens rest) × ((f : File Span) (other : Lexemes) → SpellsFront span_to f tokens other → length rest ≤ length other)
+IsLongestFront tokens rest = ((f : File Span) × SpellsFront span_to f tokens rest)
+    × ((f : File Span) (other : Lexemes) → SpellsFront span_to f tokens other → length rest ≤ length other)
 
 abbrev pub HasNoFront : Lexemes → Type 0
 HasNoFront tokens = (f : File Span) (rest : Lexemes) → SpellsFront span_to f tokens rest → ⊥
@@ -22,4 +23,5 @@ first_or_end size (lex s t ∷ _) = s.start
 -- no tree spells the tokens of a text of this size, and this is where the first part stands that isn't read
 abbrev pub IsRefusedAt : ℕ → Lexemes → ℕ → Type 0
 IsRefusedAt size tokens place =
-    ((rest : Lexemes) × IsLongestFront tokens rest × (rest ≢ []) × (place ≡ start_of rest)) ⊎ (HasNoFront tokens × (place ≡ first_or_end size tokens))
+    ((rest : Lexemes) × IsLongestFront tokens rest × (rest ≢ []) × (place ≡ start_of rest))
+    ⊎ (HasNoFront tokens × (place ≡ first_or_end size tokens))

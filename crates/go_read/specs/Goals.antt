@@ -10,8 +10,10 @@ pub data Clause (S : Type 0) : Type 0 where
   plain_clause : Stmt S → Clause S
   range_clause : RangeLeft S → Clause S
 
--- A level is the least one of a binary operator. A truth value says whether a header is read, of parameters whether they may
--- be variadic, and of an expression whether it stands without parentheses around it. `whole` holds the tokens from the start of what is read already.
+-- A level is the least one of a binary operator. A truth value says whether a header is read, of parameters whether
+-- they may
+-- be variadic, and of an expression whether it stands without parentheses around it. `whole` holds the tokens from the
+-- start of what is read already.
 pub data Goal (S : Type 0) : Type 0 where
   read_type : Goal S
   read_fields : Goal S

@@ -17,16 +17,20 @@ use Rattle.go_read.specs.Programs.{Program, give, fail, ask, unless, after_end_b
 
 module _ {S : Type 0} (mark : Lexemes → Lexemes → S) where
   unfoldable pub expr_step : ℕ → Bool → Lexemes → Program S (Expr S × Bool)
-  expr_step level header ts = ask (read_unary header) ts (λ x r. ask (read_more level header ts x.0 x.1) r (λ y r. give y r))
+  expr_step level header ts =
+      ask (read_unary header) ts (λ x r. ask (read_more level header ts x.0 x.1) r (λ y r. give y r))
 
   -- the right operand, and what follows it
   abbrev pub binary_step : ℕ → Bool → Lexemes → Expr S → BinOp → Lexemes → Program S (Expr S × Bool)
   binary_step level header whole left op ts =
-      ask (read_expr (level_of op + 1) header) ts (λ x r. unless (is_func_lit x.0) (ask (read_more level header whole (binary (mark whole r) op left x.0) true) r (λ y r. give y r)))
+      ask (read_expr (level_of op + 1) header) ts
+      (λ x r. unless (is_func_lit x.0)
+      (ask (read_more level header whole (binary (mark whole r) op left x.0) true) r (λ y r. give y r)))
 
   unfoldable pub more_step : ℕ → Bool → Lexemes → Expr S → Bool → Lexemes → Program S (Expr S × Bool)
   more_step level header whole left bare (lex s (binary_op op) ∷ ts) =
-      if nat_le level (level_of op) then unless (is_func_lit left) (binary_step level header whole left op ts) else give (left, bare) (lex s (binary_op op) ∷ ts)
+      if nat_le level (level_of op) then unless (is_func_lit left) (binary_step level header whole left op ts)
+      else give (left, bare) (lex s (binary_op op) ∷ ts)
   more_step level header whole left bare ts = give (left, bare) ts
 
   -- an operand that holds the tokens from `whole` on, and what may follow it
@@ -34,42 +38,64 @@ module _ {S : Type 0} (mark : Lexemes → Lexemes → S) where
   then_postfix header whole base bare ts = ask (read_postfix header whole base bare) ts (λ y r. give y r)
 
   abbrev pub composite_step : Bool → Lexemes → TypeExpr S → Lexemes → Program S (Expr S × Bool)
-  composite_step header whole t ts = ask read_elems ts (λ es r. after_end_brace r (λ r. then_postfix header whole (composite (mark whole r) t es) true r))
+  composite_step header whole t ts =
+      ask read_elems ts
+      (λ es r. after_end_brace r (λ r. then_postfix header whole (composite (mark whole r) t es) true r))
 
   abbrev pub word_step : Bool → Span → List ℕ → Lexemes → Program S (Expr S × Bool)
   word_step false s n (lex b brace ∷ ts) =
-      composite_step false (lex s (terminal.ident n) ∷ lex b brace ∷ ts) (named (mark (lex s (terminal.ident n) ∷ lex b brace ∷ ts) (lex b brace ∷ ts)) None (name_here mark s n (lex b brace ∷ ts))) ts
+      composite_step false (lex s (terminal.ident n) ∷ lex b brace ∷ ts)
+      (named (mark (lex s (terminal.ident n) ∷ lex b brace ∷ ts) (lex b brace ∷ ts)) None
+      (name_here mark s n (lex b brace ∷ ts))) ts
   word_step false s p (lex d dot ∷ lex s2 (terminal.ident n) ∷ lex b brace ∷ ts) =
       composite_step false (lex s (terminal.ident p) ∷ lex d dot ∷ lex s2 (terminal.ident n) ∷ lex b brace ∷ ts)
-      (named (mark (lex s (terminal.ident p) ∷ lex d dot ∷ lex s2 (terminal.ident n) ∷ lex b brace ∷ ts) (lex b brace ∷ ts)) (Some (name_here mark s p (lex d dot ∷ lex s2 (terminal.ident n) ∷ lex b brace ∷ ts))) (name_here mark s2 n (lex b brace ∷ ts))) ts
-  word_step header s n ts = then_postfix header (lex s (terminal.ident n) ∷ ts) (ident (mark (lex s (terminal.ident n) ∷ ts) ts) n) true ts
+      (named (mark (lex s (terminal.ident p) ∷ lex d dot ∷ lex s2 (terminal.ident n) ∷ lex b brace ∷ ts)
+      (lex b brace ∷ ts)) (Some (name_here mark s p (lex d dot ∷ lex s2 (terminal.ident n) ∷ lex b brace ∷ ts)))
+      (name_here mark s2 n (lex b brace ∷ ts))) ts
+  word_step header s n ts =
+      then_postfix header (lex s (terminal.ident n) ∷ ts) (ident (mark (lex s (terminal.ident n) ∷ ts) ts) n) true ts
 
   -- a type as an operand, or in front of a composite literal
   abbrev pub type_after : Bool → Lexemes → TypeExpr S → Lexemes → Program S (Expr S × Bool)
   type_after header whole t (lex b brace ∷ ts) = composite_step header whole t ts
-  type_after header whole t (lex b paren ∷ ts) = then_postfix header whole (type_operand (mark whole (lex b paren ∷ ts)) t) true (lex b paren ∷ ts)
-  type_after header whole t (lex b comma ∷ ts) = then_postfix header whole (type_operand (mark whole (lex b comma ∷ ts)) t) true (lex b comma ∷ ts)
-  type_after header whole t (lex b end_paren ∷ ts) = then_postfix header whole (type_operand (mark whole (lex b end_paren ∷ ts)) t) true (lex b end_paren ∷ ts)
+  type_after header whole t (lex b paren ∷ ts) =
+      then_postfix header whole (type_operand (mark whole (lex b paren ∷ ts)) t) true (lex b paren ∷ ts)
+  type_after header whole t (lex b comma ∷ ts) =
+      then_postfix header whole (type_operand (mark whole (lex b comma ∷ ts)) t) true (lex b comma ∷ ts)
+  type_after header whole t (lex b end_paren ∷ ts) =
+      then_postfix header whole (type_operand (mark whole (lex b end_paren ∷ ts)) t) true (lex b end_paren ∷ ts)
   type_after header whole t _ = fail
 
   abbrev pub type_first : Bool → Lexemes → Program S (Expr S × Bool)
   type_first header ts = ask read_type ts (λ t r. type_after header ts t r)
 
   abbrev pub prefix_step : Bool → Lexemes → UnOp → Lexemes → Program S (Expr S × Bool)
-  prefix_step header whole op ts = ask (read_unary header) ts (λ x r. unless (is_func_lit x.0) (give (unary (mark whole r) op x.0, true) r))
+  prefix_step header whole op ts =
+      ask (read_unary header) ts (λ x r. unless (is_func_lit x.0) (give (unary (mark whole r) op x.0, true) r))
 
   unfoldable pub unary_step : Bool → Lexemes → Program S (Expr S × Bool)
   unary_step header (lex s (terminal.ident n) ∷ ts) = word_step header s n ts
-  unary_step header (lex s (terminal.int_lit n) ∷ ts) = then_postfix header (lex s (terminal.int_lit n) ∷ ts) (int_lit (mark (lex s (terminal.int_lit n) ∷ ts) ts) n) true ts
-  unary_step header (lex s (terminal.rune_lit n) ∷ ts) = then_postfix header (lex s (terminal.rune_lit n) ∷ ts) (rune_lit (mark (lex s (terminal.rune_lit n) ∷ ts) ts) n) true ts
-  unary_step header (lex s (terminal.str_lit n) ∷ ts) = then_postfix header (lex s (terminal.str_lit n) ∷ ts) (str_lit (mark (lex s (terminal.str_lit n) ∷ ts) ts) n) true ts
-  unary_step header (lex s paren ∷ ts) = ask (read_expr 1 false) ts (λ x r. after_end_paren r (λ r. then_postfix header (lex s paren ∷ ts) x.0 false r))
+  unary_step header (lex s (terminal.int_lit n) ∷ ts) =
+      then_postfix header (lex s (terminal.int_lit n) ∷ ts)
+      (int_lit (mark (lex s (terminal.int_lit n) ∷ ts) ts) n) true ts
+  unary_step header (lex s (terminal.rune_lit n) ∷ ts) =
+      then_postfix header (lex s (terminal.rune_lit n) ∷ ts)
+      (rune_lit (mark (lex s (terminal.rune_lit n) ∷ ts) ts) n) true ts
+  unary_step header (lex s (terminal.str_lit n) ∷ ts) =
+      then_postfix header (lex s (terminal.str_lit n) ∷ ts)
+      (str_lit (mark (lex s (terminal.str_lit n) ∷ ts) ts) n) true ts
+  unary_step header (lex s paren ∷ ts) =
+      ask (read_expr 1 false) ts (λ x r. after_end_paren r (λ r. then_postfix header (lex s paren ∷ ts) x.0 false r))
   unary_step header (lex s key_func ∷ ts) =
-      ask (read_sig false) ts (λ g mid. ask read_block mid (λ b r. then_postfix header (lex s key_func ∷ ts) (func_lit (mark (lex s key_func ∷ ts) r) g b.0 b.1) true r))
+      ask (read_sig false) ts
+      (λ g mid. ask read_block mid
+      (λ b r. then_postfix header (lex s key_func ∷ ts) (func_lit (mark (lex s key_func ∷ ts) r) g b.0 b.1) true r))
   unary_step header (lex s bracket ∷ ts) = type_first header (lex s bracket ∷ ts)
   unary_step header (lex s key_map ∷ ts) = type_first header (lex s key_map ∷ ts)
   unary_step header (lex s key_struct ∷ ts) = type_first header (lex s key_struct ∷ ts)
-  unary_step header (lex s (binary_op Mul) ∷ ts) = ask (read_unary header) ts (λ x r. unless (is_func_lit x.0) (give (star (mark (lex s (binary_op Mul) ∷ ts) r) x.0, true) r))
+  unary_step header (lex s (binary_op Mul) ∷ ts) =
+      ask (read_unary header) ts
+      (λ x r. unless (is_func_lit x.0) (give (star (mark (lex s (binary_op Mul) ∷ ts) r) x.0, true) r))
   unary_step header (lex s (binary_op Add) ∷ ts) = prefix_step header (lex s (binary_op Add) ∷ ts) Plus ts
   unary_step header (lex s (binary_op Sub) ∷ ts) = prefix_step header (lex s (binary_op Sub) ∷ ts) Minus ts
   unary_step header (lex s (binary_op Xor) ∷ ts) = prefix_step header (lex s (binary_op Xor) ∷ ts) Flip ts
@@ -79,12 +105,16 @@ module _ {S : Type 0} (mark : Lexemes → Lexemes → S) where
 
   -- after the colon of a slice
   abbrev pub bracket_high : Bool → Lexemes → Expr S → ExprOption S → Lexemes → Program S (Expr S × Bool)
-  bracket_high header whole base low (lex _ end_bracket ∷ ts) = then_postfix header whole (slice (mark whole ts) base low no_expr) true ts
+  bracket_high header whole base low (lex _ end_bracket ∷ ts) =
+      then_postfix header whole (slice (mark whole ts) base low no_expr) true ts
   bracket_high header whole base low ts =
-      ask (read_operand false) ts (λ x r. after_end_bracket r (λ r. then_postfix header whole (slice (mark whole r) base low (some_expr x)) true r))
+      ask (read_operand false) ts
+      (λ x r. after_end_bracket r
+      (λ r. then_postfix header whole (slice (mark whole r) base low (some_expr x)) true r))
 
   abbrev pub bracket_after : Bool → Lexemes → Expr S → Expr S → Lexemes → Program S (Expr S × Bool)
-  bracket_after header whole base x (lex _ end_bracket ∷ ts) = then_postfix header whole (index (mark whole ts) base x) true ts
+  bracket_after header whole base x (lex _ end_bracket ∷ ts) =
+      then_postfix header whole (index (mark whole ts) base x) true ts
   bracket_after header whole base x (lex _ colon ∷ ts) = bracket_high header whole base (some_expr x) ts
   bracket_after header whole base x _ = fail
 
@@ -93,9 +123,12 @@ module _ {S : Type 0} (mark : Lexemes → Lexemes → S) where
   bracket_step header whole base ts = ask (read_operand false) ts (λ x r. bracket_after header whole base x r)
 
   unfoldable pub postfix_step : Bool → Lexemes → Expr S → Bool → Lexemes → Program S (Expr S × Bool)
-  postfix_step header whole base bare (lex _ paren ∷ ts) = ask read_args ts (λ x r. then_postfix header whole (call (mark whole r) base x.0 x.1) true r)
-  postfix_step header whole base bare (lex _ dot ∷ lex s (terminal.ident n) ∷ r) = unless (is_func_lit base) (then_postfix header whole (selector (mark whole r) base (name_here mark s n r)) true r)
-  postfix_step header whole base bare (lex _ bracket ∷ ts) = unless (is_func_lit base) (bracket_step header whole base ts)
+  postfix_step header whole base bare (lex _ paren ∷ ts) =
+      ask read_args ts (λ x r. then_postfix header whole (call (mark whole r) base x.0 x.1) true r)
+  postfix_step header whole base bare (lex _ dot ∷ lex s (terminal.ident n) ∷ r) =
+      unless (is_func_lit base) (then_postfix header whole (selector (mark whole r) base (name_here mark s n r)) true r)
+  postfix_step header whole base bare (lex _ bracket ∷ ts) =
+      unless (is_func_lit base) (bracket_step header whole base ts)
   postfix_step header whole base bare ts = give (base, bare) ts
 
   unfoldable pub operand_step : Bool → Lexemes → Program S (Expr S)
@@ -120,7 +153,8 @@ module _ {S : Type 0} (mark : Lexemes → Lexemes → S) where
   args_step ts = ask (read_operand false) ts (λ e r. args_after e r)
 
   abbrev pub elems_after : Lexemes → ValueOption S × Value S → Lexemes → Program S (Elems S)
-  elems_after whole x (lex c comma ∷ ts) = ask read_elems ts (λ es r. give (elem (mark whole (lex c comma ∷ ts)) x.0 x.1 es) r)
+  elems_after whole x (lex c comma ∷ ts) =
+      ask read_elems ts (λ es r. give (elem (mark whole (lex c comma ∷ ts)) x.0 x.1 es) r)
   elems_after whole x ts = give (elem (mark whole ts) x.0 x.1 no_elems) ts
 
   unfoldable pub elems_step : Lexemes → Program S (Elems S)
@@ -135,5 +169,6 @@ module _ {S : Type 0} (mark : Lexemes → Lexemes → S) where
   elem_step ts = ask read_value ts (λ v r. elem_after v r)
 
   unfoldable pub value_step : Lexemes → Program S (Value S)
-  value_step (lex s brace ∷ ts) = ask read_elems ts (λ es r. after_end_brace r (λ r. give (braced (mark (lex s brace ∷ ts) r) es) r))
+  value_step (lex s brace ∷ ts) =
+      ask read_elems ts (λ es r. after_end_brace r (λ r. give (braced (mark (lex s brace ∷ ts) r) es) r))
   value_step ts = ask (read_operand false) ts (λ e r. give (plain e) r)

@@ -12,9 +12,14 @@ use Rattle.go_read.specs.Programs.{Program, give, fail, ask, look, unless, after
 
 module _ {S : Type 0} (mark : Lexemes → Lexemes → S) where
   unfoldable pub import_spec_step : Lexemes → Program S (ImportSpec S)
-  import_spec_step (lex s (str_lit p) ∷ r) = give (record { span = mark (lex s (str_lit p) ∷ r) r; name = None; path = text_value p }) r
+  import_spec_step (lex s (str_lit p) ∷ r) =
+      give (record { span = mark (lex s (str_lit p) ∷ r) r; name = None; path = text_value p }) r
   import_spec_step (lex s (ident n) ∷ lex c (str_lit p) ∷ r) =
-      give (record { span = mark (lex s (ident n) ∷ lex c (str_lit p) ∷ r) r; name = Some (name_here mark s n (lex c (str_lit p) ∷ r)); path = text_value p }) r
+      give (record {
+        span = mark (lex s (ident n) ∷ lex c (str_lit p) ∷ r) r;
+        name = Some (name_here mark s n (lex c (str_lit p) ∷ r));
+        path = text_value p;
+      }) r
   import_spec_step _ = fail
 
   abbrev pub import_specs_after : ImportSpec S → Lexemes → Program S (List (ImportSpec S))
@@ -28,14 +33,28 @@ module _ {S : Type 0} (mark : Lexemes → Lexemes → S) where
 
   unfoldable pub import_step : Lexemes → Program S (ImportDecl S)
   import_step (lex s key_import ∷ lex b paren ∷ ts) =
-      ask read_import_specs ts (λ xs r. after_end_paren r (λ r. give (record { span = mark (lex s key_import ∷ lex b paren ∷ ts) r; grouped = true; specs = xs }) r))
-  import_step (lex s key_import ∷ ts) = ask read_import_spec ts (λ x r. give (record { span = mark (lex s key_import ∷ ts) r; grouped = false; specs = x ∷ [] }) r)
+      ask read_import_specs ts
+      (λ xs r. after_end_paren r
+      (λ r. give (record { span = mark (lex s key_import ∷ lex b paren ∷ ts) r; grouped = true; specs = xs }) r))
+  import_step (lex s key_import ∷ ts) =
+      ask read_import_spec ts
+      (λ x r. give (record { span = mark (lex s key_import ∷ ts) r; grouped = false; specs = x ∷ [] }) r)
   import_step _ = fail
 
   unfoldable pub type_spec_step : Lexemes → Program S (TypeSpec S)
   type_spec_step (lex s (ident n) ∷ lex c (assign None) ∷ ts) =
-      ask read_type ts (λ t r. give (record { span = mark (lex s (ident n) ∷ lex c (assign None) ∷ ts) r; name = name_here mark s n (lex c (assign None) ∷ ts); alias = true; of = t }) r)
-  type_spec_step (lex s (ident n) ∷ ts) = ask read_type ts (λ t r. give (record { span = mark (lex s (ident n) ∷ ts) r; name = name_here mark s n ts; alias = false; of = t }) r)
+      ask read_type ts
+      (λ t r. give
+      (record {
+        span = mark (lex s (ident n) ∷ lex c (assign None) ∷ ts) r;
+        name = name_here mark s n (lex c (assign None) ∷ ts);
+        alias = true;
+        of = t;
+      }) r)
+  type_spec_step (lex s (ident n) ∷ ts) =
+      ask read_type ts
+      (λ t r. give
+      (record { span = mark (lex s (ident n) ∷ ts) r; name = name_here mark s n ts; alias = false; of = t }) r)
   type_spec_step _ = fail
 
   abbrev pub type_specs_after : TypeSpec S → Lexemes → Program S (List (TypeSpec S))
@@ -49,12 +68,28 @@ module _ {S : Type 0} (mark : Lexemes → Lexemes → S) where
 
   unfoldable pub receiver_step : Lexemes → Program S (Receiver S)
   receiver_step (lex c (ident x) ∷ lex p (binary_op Mul) ∷ lex s (ident n) ∷ r) =
-      give (record { span = mark (lex c (ident x) ∷ lex p (binary_op Mul) ∷ lex s (ident n) ∷ r) r; name = Some (name_here mark c x (lex p (binary_op Mul) ∷ lex s (ident n) ∷ r)); pointer = true; of = name_here mark s n r }) r
+      give (record {
+        span = mark (lex c (ident x) ∷ lex p (binary_op Mul) ∷ lex s (ident n) ∷ r) r;
+        name = Some (name_here mark c x (lex p (binary_op Mul) ∷ lex s (ident n) ∷ r));
+        pointer = true;
+        of = name_here mark s n r;
+      }) r
   receiver_step (lex c (ident x) ∷ lex s (ident n) ∷ r) =
-      give (record { span = mark (lex c (ident x) ∷ lex s (ident n) ∷ r) r; name = Some (name_here mark c x (lex s (ident n) ∷ r)); pointer = false; of = name_here mark s n r }) r
+      give (record {
+        span = mark (lex c (ident x) ∷ lex s (ident n) ∷ r) r;
+        name = Some (name_here mark c x (lex s (ident n) ∷ r));
+        pointer = false;
+        of = name_here mark s n r;
+      }) r
   receiver_step (lex p (binary_op Mul) ∷ lex s (ident n) ∷ r) =
-      give (record { span = mark (lex p (binary_op Mul) ∷ lex s (ident n) ∷ r) r; name = None; pointer = true; of = name_here mark s n r }) r
-  receiver_step (lex s (ident n) ∷ r) = give (record { span = mark (lex s (ident n) ∷ r) r; name = None; pointer = false; of = name_here mark s n r }) r
+      give (record {
+        span = mark (lex p (binary_op Mul) ∷ lex s (ident n) ∷ r) r;
+        name = None;
+        pointer = true;
+        of = name_here mark s n r;
+      }) r
+  receiver_step (lex s (ident n) ∷ r) =
+      give (record { span = mark (lex s (ident n) ∷ r) r; name = None; pointer = false; of = name_here mark s n r }) r
   receiver_step _ = fail
 
   -- a function may be variadic, and no method
@@ -65,15 +100,26 @@ module _ {S : Type 0} (mark : Lexemes → Lexemes → S) where
   -- a name, a signature and a block
   abbrev pub func_step : Lexemes → Option (Receiver S) → Lexemes → Program S (Decl S)
   func_step whole v (lex c (ident n) ∷ ts) =
-      ask (read_sig (may_be_variadic v)) ts (λ g mid. ask read_block mid (λ b r. give (func (record { span = mark whole r; receiver = v; name = name_here mark c n ts; sig = g; body_span = b.0; body = b.1 })) r))
+      ask (read_sig (may_be_variadic v)) ts
+      (λ g mid. ask read_block mid
+      (λ b r. give
+      (func (record
+      { span = mark whole r; receiver = v; name = name_here mark c n ts; sig = g; body_span = b.0; body = b.1 }))
+      r))
   func_step whole v _ = fail
 
   unfoldable pub top_step : Lexemes → Program S (Decl S)
-  top_step (lex s key_const ∷ ts) = ask (read_decl true) ts (λ x r. give (values (const_decl (mark (lex s key_const ∷ ts) r) x.0 x.1)) r)
-  top_step (lex s key_var ∷ ts) = ask (read_decl false) ts (λ x r. give (values (var_decl (mark (lex s key_var ∷ ts) r) x.0 x.1)) r)
-  top_step (lex s key_type ∷ lex b paren ∷ ts) = ask read_type_specs ts (λ xs r. after_end_paren r (λ r. give (types (mark (lex s key_type ∷ lex b paren ∷ ts) r) true xs) r))
-  top_step (lex s key_type ∷ ts) = ask read_type_spec ts (λ x r. give (types (mark (lex s key_type ∷ ts) r) false (x ∷ [])) r)
-  top_step (lex s key_func ∷ lex b paren ∷ ts) = ask read_receiver ts (λ v r. after_end_paren r (λ r. func_step (lex s key_func ∷ lex b paren ∷ ts) (Some v) r))
+  top_step (lex s key_const ∷ ts) =
+      ask (read_decl true) ts (λ x r. give (values (const_decl (mark (lex s key_const ∷ ts) r) x.0 x.1)) r)
+  top_step (lex s key_var ∷ ts) =
+      ask (read_decl false) ts (λ x r. give (values (var_decl (mark (lex s key_var ∷ ts) r) x.0 x.1)) r)
+  top_step (lex s key_type ∷ lex b paren ∷ ts) =
+      ask read_type_specs ts
+      (λ xs r. after_end_paren r (λ r. give (types (mark (lex s key_type ∷ lex b paren ∷ ts) r) true xs) r))
+  top_step (lex s key_type ∷ ts) =
+      ask read_type_spec ts (λ x r. give (types (mark (lex s key_type ∷ ts) r) false (x ∷ [])) r)
+  top_step (lex s key_func ∷ lex b paren ∷ ts) =
+      ask read_receiver ts (λ v r. after_end_paren r (λ r. func_step (lex s key_func ∷ lex b paren ∷ ts) (Some v) r))
   top_step (lex s key_func ∷ ts) = func_step (lex s key_func ∷ ts) None ts
   top_step _ = fail
 
@@ -94,5 +140,9 @@ module _ {S : Type 0} (mark : Lexemes → Lexemes → S) where
 
   unfoldable pub front_step : Lexemes → Program S (File S)
   front_step (lex s key_package ∷ lex c (ident n) ∷ lex d semicolon ∷ ts) =
-      unless (is_blank n) (ask read_imports ts (λ is mid. ask read_tops mid (λ ds r. give (record { package_name = name_here mark c n (lex d semicolon ∷ ts); imports = is; decls = ds }) r)))
+      unless (is_blank n)
+      (ask read_imports ts
+      (λ is mid. ask read_tops mid
+      (λ ds r. give
+      (record { package_name = name_here mark c n (lex d semicolon ∷ ts); imports = is; decls = ds }) r)))
   front_step _ = fail

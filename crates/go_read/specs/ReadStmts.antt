@@ -20,7 +20,8 @@ module _ {S : Type 0} (mark : Lexemes → Lexemes → S) where
   one_expr whole _ ts = fail
 
   unfoldable pub simple_after_step : Bool → Lexemes → Exprs S → Lexemes → Program S (Stmt S)
-  simple_after_step header whole xs (lex _ (terminal.assign op) ∷ ts) = ask (read_exprs header) ts (λ ys r. give (assign (mark whole r) xs op ys) r)
+  simple_after_step header whole xs (lex _ (terminal.assign op) ∷ ts) =
+      ask (read_exprs header) ts (λ ys r. give (assign (mark whole r) xs op ys) r)
   simple_after_step header whole xs ts = one_expr whole xs ts
 
   abbrev pub simple_exprs : Bool → Lexemes → Program S (Stmt S)
@@ -28,7 +29,8 @@ module _ {S : Type 0} (mark : Lexemes → Lexemes → S) where
 
   -- names and `:=` where they stand here, else expressions
   abbrev pub simple_names : Bool → Lexemes → Option (List (NameAt S) × Lexemes) → Program S (Stmt S)
-  simple_names header whole (Some (ns, lex _ terminal.define ∷ ts)) = ask (read_exprs header) ts (λ ys r. give (define (mark whole r) ns ys) r)
+  simple_names header whole (Some (ns, lex _ terminal.define ∷ ts)) =
+      ask (read_exprs header) ts (λ ys r. give (define (mark whole r) ns ys) r)
   simple_names header whole _ = simple_exprs header whole
 
   unfoldable pub simple_step : Bool → Lexemes → Program S (Stmt S)
@@ -43,7 +45,8 @@ module _ {S : Type 0} (mark : Lexemes → Lexemes → S) where
 
   abbrev pub clause_names : Lexemes → Option (List (NameAt S) × Lexemes) → Program S (Clause S)
   clause_names whole (Some (ns, lex _ terminal.define ∷ lex _ key_range ∷ ts)) = give (range_clause (defines ns)) ts
-  clause_names whole (Some (ns, lex _ terminal.define ∷ ts)) = ask (read_exprs true) ts (λ ys r. give (plain_clause (define (mark whole r) ns ys)) r)
+  clause_names whole (Some (ns, lex _ terminal.define ∷ ts)) =
+      ask (read_exprs true) ts (λ ys r. give (plain_clause (define (mark whole r) ns ys)) r)
   clause_names whole _ = clause_exprs whole
 
   unfoldable pub clause_step : Lexemes → Program S (Clause S)
@@ -75,8 +78,11 @@ module _ {S : Type 0} (mark : Lexemes → Lexemes → S) where
 
   abbrev pub if_after : Lexemes → StmtOption S × Expr S × S × Stmts S → Lexemes → Program S (Arms S × BlockOption S)
   if_after whole a (lex c key_else ∷ lex s key_if ∷ ts) =
-      ask read_if (lex s key_if ∷ ts) (λ x r. give (arm (mark whole (lex c key_else ∷ lex s key_if ∷ ts)) a.0 a.1 a.2 a.3 x.0, x.1) r)
-  if_after whole a (lex c key_else ∷ ts) = ask read_block ts (λ b r. give (arm (mark whole (lex c key_else ∷ ts)) a.0 a.1 a.2 a.3 no_arms, some_block b.0 b.1) r)
+      ask read_if (lex s key_if ∷ ts)
+      (λ x r. give (arm (mark whole (lex c key_else ∷ lex s key_if ∷ ts)) a.0 a.1 a.2 a.3 x.0, x.1) r)
+  if_after whole a (lex c key_else ∷ ts) =
+      ask read_block ts
+      (λ b r. give (arm (mark whole (lex c key_else ∷ ts)) a.0 a.1 a.2 a.3 no_arms, some_block b.0 b.1) r)
   if_after whole a ts = give (arm (mark whole ts) a.0 a.1 a.2 a.3 no_arms, no_block) ts
 
   unfoldable pub if_step : Lexemes → Program S (Arms S × BlockOption S)
@@ -103,7 +109,8 @@ module _ {S : Type 0} (mark : Lexemes → Lexemes → S) where
   for_plain whole x ts = for_eval whole x ts
 
   abbrev pub for_after : Lexemes → Clause S → Lexemes → Program S (Stmt S)
-  for_after whole (range_clause left) ts = ask (read_operand true) ts (λ e r. ask read_block r (λ b r. give (range_ (mark whole r) left e b.0 b.1) r))
+  for_after whole (range_clause left) ts =
+      ask (read_operand true) ts (λ e r. ask read_block r (λ b r. give (range_ (mark whole r) left e b.0 b.1) r))
   for_after whole (plain_clause x) ts = for_plain whole x ts
 
   abbrev pub for_first : Lexemes → Lexemes → Program S (Stmt S)
@@ -133,10 +140,12 @@ module _ {S : Type 0} (mark : Lexemes → Lexemes → S) where
   switch_first whole ts = ask (read_simple true) ts (λ x r. switch_after whole x r)
 
   abbrev pub case_body : Lexemes → Exprs S → Lexemes → Program S (Cases S)
-  case_body whole xs ts = ask read_stmts ts (λ body mid. ask read_cases mid (λ cs r. give (case (mark whole mid) xs body cs) r))
+  case_body whole xs ts =
+      ask read_stmts ts (λ body mid. ask read_cases mid (λ cs r. give (case (mark whole mid) xs body cs) r))
 
   unfoldable pub cases_step : Lexemes → Program S (Cases S)
-  cases_step (lex s key_case ∷ ts) = ask (read_exprs false) ts (λ xs r. after_colon r (λ r. case_body (lex s key_case ∷ ts) xs r))
+  cases_step (lex s key_case ∷ ts) =
+      ask (read_exprs false) ts (λ xs r. after_colon r (λ r. case_body (lex s key_case ∷ ts) xs r))
   cases_step (lex s key_default ∷ lex c colon ∷ ts) = case_body (lex s key_default ∷ lex c colon ∷ ts) no_exprs ts
   cases_step ts = give no_cases ts
 
@@ -152,12 +161,15 @@ module _ {S : Type 0} (mark : Lexemes → Lexemes → S) where
   stmts_step ts = ask read_stmt ts (λ x r. stmts_after x r)
 
   unfoldable pub block_step : Lexemes → Program S (S × Stmts S)
-  block_step (lex s brace ∷ ts) = ask read_stmts ts (λ body r. after_end_brace r (λ r. give (mark (lex s brace ∷ ts) r, body) r))
+  block_step (lex s brace ∷ ts) =
+      ask read_stmts ts (λ body r. after_end_brace r (λ r. give (mark (lex s brace ∷ ts) r, body) r))
   block_step _ = fail
 
   abbrev pub return_step : Lexemes → Lexemes → Program S (Stmt S)
-  return_step whole (lex c semicolon ∷ ts) = give (return_ (mark whole (lex c semicolon ∷ ts)) no_exprs) (lex c semicolon ∷ ts)
-  return_step whole (lex c end_brace ∷ ts) = give (return_ (mark whole (lex c end_brace ∷ ts)) no_exprs) (lex c end_brace ∷ ts)
+  return_step whole (lex c semicolon ∷ ts) =
+      give (return_ (mark whole (lex c semicolon ∷ ts)) no_exprs) (lex c semicolon ∷ ts)
+  return_step whole (lex c end_brace ∷ ts) =
+      give (return_ (mark whole (lex c end_brace ∷ ts)) no_exprs) (lex c end_brace ∷ ts)
   return_step whole ts = ask (read_exprs false) ts (λ xs r. give (return_ (mark whole r) xs) r)
 
   abbrev pub break_step : Lexemes → Lexemes → Program S (Stmt S)
@@ -177,36 +189,49 @@ module _ {S : Type 0} (mark : Lexemes → Lexemes → S) where
   word_stmt ts = ask (read_simple false) ts (λ x r. give x r)
 
   unfoldable pub stmt_step : Lexemes → Program S (Stmt S)
-  stmt_step (lex s key_const ∷ ts) = ask (read_decl true) ts (λ x r. give (const_decl (mark (lex s key_const ∷ ts) r) x.0 x.1) r)
-  stmt_step (lex s key_var ∷ ts) = ask (read_decl false) ts (λ x r. give (var_decl (mark (lex s key_var ∷ ts) r) x.0 x.1) r)
+  stmt_step (lex s key_const ∷ ts) =
+      ask (read_decl true) ts (λ x r. give (const_decl (mark (lex s key_const ∷ ts) r) x.0 x.1) r)
+  stmt_step (lex s key_var ∷ ts) =
+      ask (read_decl false) ts (λ x r. give (var_decl (mark (lex s key_var ∷ ts) r) x.0 x.1) r)
   stmt_step (lex s key_return ∷ ts) = return_step (lex s key_return ∷ ts) ts
   stmt_step (lex s key_break ∷ ts) = break_step (lex s key_break ∷ ts) ts
   stmt_step (lex s key_continue ∷ ts) = continue_step (lex s key_continue ∷ ts) ts
   stmt_step (lex s brace ∷ ts) = ask read_block (lex s brace ∷ ts) (λ b r. give (inner b.0 b.1) r)
-  stmt_step (lex s key_if ∷ ts) = ask read_if (lex s key_if ∷ ts) (λ x r. give (if_ (mark (lex s key_if ∷ ts) r) x.0 x.1) r)
+  stmt_step (lex s key_if ∷ ts) =
+      ask read_if (lex s key_if ∷ ts) (λ x r. give (if_ (mark (lex s key_if ∷ ts) r) x.0 x.1) r)
   stmt_step (lex s key_for ∷ ts) = for_first (lex s key_for ∷ ts) ts
   stmt_step (lex s key_switch ∷ ts) = switch_first (lex s key_switch ∷ ts) ts
   stmt_step (lex s key_defer ∷ ts) = ask (read_expr 1 false) ts (λ x r. defer_after (lex s key_defer ∷ ts) x r)
-  stmt_step (lex s (ident n) ∷ lex c colon ∷ ts) = ask read_stmt ts (λ x r. give (label (mark (lex s (ident n) ∷ lex c colon ∷ ts) r) (name_here mark s n (lex c colon ∷ ts)) x) r)
-  stmt_step (lex s semicolon ∷ ts) = give (empty (mark (lex s semicolon ∷ ts) (lex s semicolon ∷ ts))) (lex s semicolon ∷ ts)
-  stmt_step (lex s end_brace ∷ ts) = give (empty (mark (lex s end_brace ∷ ts) (lex s end_brace ∷ ts))) (lex s end_brace ∷ ts)
+  stmt_step (lex s (ident n) ∷ lex c colon ∷ ts) =
+      ask read_stmt ts
+      (λ x r. give (label (mark (lex s (ident n) ∷ lex c colon ∷ ts) r) (name_here mark s n (lex c colon ∷ ts)) x) r)
+  stmt_step (lex s semicolon ∷ ts) =
+      give (empty (mark (lex s semicolon ∷ ts) (lex s semicolon ∷ ts))) (lex s semicolon ∷ ts)
+  stmt_step (lex s end_brace ∷ ts) =
+      give (empty (mark (lex s end_brace ∷ ts) (lex s end_brace ∷ ts))) (lex s end_brace ∷ ts)
   stmt_step ts = word_stmt ts
 
   unfoldable pub decl_step : Bool → Lexemes → Program S (Bool × ValueSpecs S)
-  decl_step constant (lex s paren ∷ ts) = ask (read_specs constant) ts (λ ss r. after_end_paren r (λ r. give (true, ss) r))
+  decl_step constant (lex s paren ∷ ts) =
+      ask (read_specs constant) ts (λ ss r. after_end_paren r (λ r. give (true, ss) r))
   decl_step constant ts = ask (read_spec constant) ts (λ x r. give (false, spec (mark ts r) x.0 x.1 x.2 no_specs) r)
 
-  abbrev pub specs_after : Bool → Lexemes → List (NameAt S) × Option (TypeExpr S) × Exprs S → Lexemes → Program S (ValueSpecs S)
-  specs_after constant whole x (lex c semicolon ∷ ts) = ask (read_specs constant) ts (λ ss r. give (spec (mark whole (lex c semicolon ∷ ts)) x.0 x.1 x.2 ss) r)
-  specs_after constant whole x (lex c end_paren ∷ ts) = give (spec (mark whole (lex c end_paren ∷ ts)) x.0 x.1 x.2 no_specs) (lex c end_paren ∷ ts)
+  abbrev pub specs_after : Bool → Lexemes → List (NameAt S) × Option (TypeExpr S) × Exprs S → Lexemes →
+      Program S (ValueSpecs S)
+  specs_after constant whole x (lex c semicolon ∷ ts) =
+      ask (read_specs constant) ts (λ ss r. give (spec (mark whole (lex c semicolon ∷ ts)) x.0 x.1 x.2 ss) r)
+  specs_after constant whole x (lex c end_paren ∷ ts) =
+      give (spec (mark whole (lex c end_paren ∷ ts)) x.0 x.1 x.2 no_specs) (lex c end_paren ∷ ts)
   specs_after constant whole x _ = fail
 
   unfoldable pub specs_step : Bool → Lexemes → Program S (ValueSpecs S)
   specs_step constant (lex c end_paren ∷ ts) = give no_specs (lex c end_paren ∷ ts)
   specs_step constant ts = ask (read_spec constant) ts (λ x r. specs_after constant ts x r)
 
-  abbrev pub typed_after : Bool → List (NameAt S) → TypeExpr S → Lexemes → Program S (List (NameAt S) × Option (TypeExpr S) × Exprs S)
-  typed_after constant ns t (lex _ (terminal.assign None) ∷ ts) = ask (read_exprs false) ts (λ xs r. give (ns, Some t, xs) r)
+  abbrev pub typed_after : Bool → List (NameAt S) → TypeExpr S → Lexemes →
+      Program S (List (NameAt S) × Option (TypeExpr S) × Exprs S)
+  typed_after constant ns t (lex _ (terminal.assign None) ∷ ts) =
+      ask (read_exprs false) ts (λ xs r. give (ns, Some t, xs) r)
   typed_after false ns t ts = give (ns, Some t, no_exprs) ts
   typed_after true ns t ts = fail
 

@@ -10,14 +10,20 @@ use Rattle.go_read.specs.Programs.{Program, give, fail, ask, look, after_end_bra
 module _ {S : Type 0} (mark : Lexemes → Lexemes → S) where
   unfoldable pub type_step : Lexemes → Program S (TypeExpr S)
   type_step (lex s (ident p) ∷ lex d dot ∷ lex s2 (ident n) ∷ r) =
-      give (named (mark (lex s (ident p) ∷ lex d dot ∷ lex s2 (ident n) ∷ r) r) (Some (name_here mark s p (lex d dot ∷ lex s2 (ident n) ∷ r))) (name_here mark s2 n r)) r
+      give (named (mark (lex s (ident p) ∷ lex d dot ∷ lex s2 (ident n) ∷ r) r)
+      (Some (name_here mark s p (lex d dot ∷ lex s2 (ident n) ∷ r))) (name_here mark s2 n r)) r
   type_step (lex s (ident n) ∷ r) = give (named (mark (lex s (ident n) ∷ r) r) None (name_here mark s n r)) r
-  type_step (lex s (binary_op Mul) ∷ ts) = ask read_type ts (λ t r. give (pointer (mark (lex s (binary_op Mul) ∷ ts) r) t) r)
-  type_step (lex s bracket ∷ lex e end_bracket ∷ ts) = ask read_type ts (λ t r. give (slice_type (mark (lex s bracket ∷ lex e end_bracket ∷ ts) r) t) r)
+  type_step (lex s (binary_op Mul) ∷ ts) =
+      ask read_type ts (λ t r. give (pointer (mark (lex s (binary_op Mul) ∷ ts) r) t) r)
+  type_step (lex s bracket ∷ lex e end_bracket ∷ ts) =
+      ask read_type ts (λ t r. give (slice_type (mark (lex s bracket ∷ lex e end_bracket ∷ ts) r) t) r)
   type_step (lex s key_map ∷ lex b bracket ∷ ts) =
-      ask read_type ts (λ k mid. after_end_bracket mid (λ mid. ask read_type mid (λ t r. give (map_type (mark (lex s key_map ∷ lex b bracket ∷ ts) r) k t) r)))
+      ask read_type ts
+      (λ k mid. after_end_bracket mid
+      (λ mid. ask read_type mid (λ t r. give (map_type (mark (lex s key_map ∷ lex b bracket ∷ ts) r) k t) r)))
   type_step (lex s key_struct ∷ lex b brace ∷ ts) =
-      ask read_fields ts (λ fs r. after_end_brace r (λ r. give (struct_type (mark (lex s key_struct ∷ lex b brace ∷ ts) r) fs) r))
+      ask read_fields ts
+      (λ fs r. after_end_brace r (λ r. give (struct_type (mark (lex s key_struct ∷ lex b brace ∷ ts) r) fs) r))
   type_step (lex s paren ∷ ts) = ask read_type ts (λ t r. after_end_paren r (λ r. give t r))
   type_step _ = fail
 
@@ -32,8 +38,11 @@ module _ {S : Type 0} (mark : Lexemes → Lexemes → S) where
 
   unfoldable pub entries_step : Lexemes → Program S (TypeExpr S × List (S × NameAt S))
   entries_step (lex s (ident n) ∷ lex c comma ∷ ts) =
-      ask read_entries ts (λ x r. give (x.0, (mark (lex s (ident n) ∷ lex c comma ∷ ts) r, name_here mark s n (lex c comma ∷ ts)) ∷ x.1) r)
-  entries_step (lex s (ident n) ∷ ts) = ask read_type ts (λ t r. give (t, (mark (lex s (ident n) ∷ ts) r, name_here mark s n ts) ∷ []) r)
+      ask read_entries ts
+      (λ x r. give
+      (x.0, (mark (lex s (ident n) ∷ lex c comma ∷ ts) r, name_here mark s n (lex c comma ∷ ts)) ∷ x.1) r)
+  entries_step (lex s (ident n) ∷ ts) =
+      ask read_type ts (λ t r. give (t, (mark (lex s (ident n) ∷ ts) r, name_here mark s n ts) ∷ []) r)
   entries_step _ = fail
 
   -- the end of a list after its variadic parameter
@@ -44,7 +53,8 @@ module _ {S : Type 0} (mark : Lexemes → Lexemes → S) where
 
   -- a variadic parameter, whose span begins at `whole`, from its type on
   abbrev pub rest_step : Lexemes → Option (NameAt S) → Lexemes → Program S (List (Param S))
-  rest_step whole n ts = ask read_type ts (λ t r. rest_after (record { span = mark whole r; name = n; rest = true; of = t }) r)
+  rest_step whole n ts =
+      ask read_type ts (λ t r. rest_after (record { span = mark whole r; name = n; rest = true; of = t }) r)
 
   abbrev pub named_after : Bool → TypeExpr S × List (S × NameAt S) → Lexemes → Program S (List (Param S))
   named_after v x (lex _ end_paren ∷ r) = give (params_of x.1 x.0 []) r
@@ -53,7 +63,8 @@ module _ {S : Type 0} (mark : Lexemes → Lexemes → S) where
   named_after v x _ = fail
 
   unfoldable pub named_step : Bool → Lexemes → Program S (List (Param S))
-  named_step true (lex s (ident n) ∷ lex d ellipsis ∷ ts) = rest_step (lex s (ident n) ∷ lex d ellipsis ∷ ts) (Some (name_here mark s n (lex d ellipsis ∷ ts))) ts
+  named_step true (lex s (ident n) ∷ lex d ellipsis ∷ ts) =
+      rest_step (lex s (ident n) ∷ lex d ellipsis ∷ ts) (Some (name_here mark s n (lex d ellipsis ∷ ts))) ts
   named_step v ts = ask read_entries ts (λ x r. named_after v x r)
 
   abbrev pub unnamed_after : Bool → TypeExpr S → Lexemes → Program S (List (Param S))
@@ -78,7 +89,8 @@ module _ {S : Type 0} (mark : Lexemes → Lexemes → S) where
 
   -- results stand before a brace
   abbrev pub results_step : List (Param S) → Lexemes → Program S (Sig S)
-  results_step ps (lex s paren ∷ ts) = ask (read_params false) (lex s paren ∷ ts) (λ rs r. give (record { params = ps; results = rs }) r)
+  results_step ps (lex s paren ∷ ts) =
+      ask (read_params false) (lex s paren ∷ ts) (λ rs r. give (record { params = ps; results = rs }) r)
   results_step ps (lex s brace ∷ ts) = give (record { params = ps; results = [] }) (lex s brace ∷ ts)
   results_step ps ts = ask read_type ts (λ t r. give (record { params = ps; results = unnamed t ∷ [] }) r)
 
@@ -86,6 +98,7 @@ module _ {S : Type 0} (mark : Lexemes → Lexemes → S) where
   sig_step v ts = ask (read_params v) ts (λ ps r. results_step ps r)
 
   unfoldable pub names_step : Lexemes → Program S (List (NameAt S))
-  names_step (lex s (ident n) ∷ lex c comma ∷ ts) = ask read_names ts (λ ns r. give (name_here mark s n (lex c comma ∷ ts) ∷ ns) r)
+  names_step (lex s (ident n) ∷ lex c comma ∷ ts) =
+      ask read_names ts (λ ns r. give (name_here mark s n (lex c comma ∷ ts) ∷ ns) r)
   names_step (lex s (ident n) ∷ r) = give (name_here mark s n r ∷ []) r
   names_step _ = fail

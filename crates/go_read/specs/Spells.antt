@@ -1,7 +1,8 @@
 -- What spells an expression, a statement and a declaration of constants or variables (Go specification, Expressions,
 -- Statements, Constant declarations, Variable declarations).
 --
--- A relation that ends in `tokens rest` holds where the tokens before `rest` are spelled by one of the productions; the rules
+-- A relation that ends in `tokens rest` holds where the tokens before `rest` are spelled by one of the productions; the
+-- rules
 -- below are the productions, one each. `mark tokens rest` is what a node has for its span.
 use Rattle.std.specs.Prelude.{◌≡◌, ℕ, ◌+◌, ◌≤◌, Bool, true, false, List, ◌∷◌, Option, Some, None}
 use Rattle.go_tree.specs.declared.spans.Span.{Span}
@@ -38,12 +39,17 @@ is_empty (empty _) = true
 is_empty _ = false
 
 module _ {S : Type 0} (mark : Lexemes → Lexemes → S) where
-  -- the type in front of a composite literal's brace: a name or a qualified name outside a header; or a slice, map or struct type
+  -- the type in front of a composite literal's brace: a name or a qualified name outside a header; or a slice, map or
+  -- struct type
   pub data SpellsLiteralType : Bool → TypeExpr S → Lexemes → Lexemes → Type 0 where
     named_literal_rule : {s : Span} {n : List ℕ} {r : Lexemes}
-        → SpellsLiteralType false (named (mark (lex s (terminal.ident n) ∷ r) r) None (name_here mark s n r)) (lex s (terminal.ident n) ∷ r) r
+        → SpellsLiteralType false (named (mark (lex s (terminal.ident n) ∷ r) r) None (name_here mark s n r))
+        (lex s (terminal.ident n) ∷ r) r
     qualified_literal_rule : {s d s2 : Span} {p n : List ℕ} {r : Lexemes}
-        → SpellsLiteralType false (named (mark (lex s (terminal.ident p) ∷ lex d dot ∷ lex s2 (terminal.ident n) ∷ r) r) (Some (name_here mark s p (lex d dot ∷ lex s2 (terminal.ident n) ∷ r))) (name_here mark s2 n r)) (lex s (terminal.ident p) ∷ lex d dot ∷ lex s2 (terminal.ident n) ∷ r) r
+        → SpellsLiteralType false
+        (named (mark (lex s (terminal.ident p) ∷ lex d dot ∷ lex s2 (terminal.ident n) ∷ r) r)
+        (Some (name_here mark s p (lex d dot ∷ lex s2 (terminal.ident n) ∷ r))) (name_here mark s2 n r))
+        (lex s (terminal.ident p) ∷ lex d dot ∷ lex s2 (terminal.ident n) ∷ r) r
     type_literal_rule : {header : Bool} {t : TypeExpr S} {ts r : Lexemes}
         → starts_type ts ≡ true → SpellsType mark t ts r
         → SpellsLiteralType header t ts r
@@ -72,7 +78,8 @@ module _ {S : Type 0} (mark : Lexemes → Lexemes → S) where
           → SpellsBare l h (type_operand (mark ts r) t) ts r
       -- Primary "." name
       selector_rule : {l : ℕ} {h : Bool} {d s : Span} {n : List ℕ} {e : Expr S} {ts r : Lexemes}
-          → SpellsOperand 7 h e ts (lex d dot ∷ lex s (terminal.ident n) ∷ r) → SpellsBare l h (selector (mark ts r) e (name_here mark s n r)) ts r
+          → SpellsOperand 7 h e ts (lex d dot ∷ lex s (terminal.ident n) ∷ r) →
+          SpellsBare l h (selector (mark ts r) e (name_here mark s n r)) ts r
       -- Primary "[" Expr "]"
       index_rule : {l : ℕ} {h : Bool} {b c : Span} {e i : Expr S} {ts mid r : Lexemes}
           → SpellsOperand 7 h e ts (lex b bracket ∷ mid) → SpellsOperand 1 false i mid (lex c end_bracket ∷ r)
@@ -95,7 +102,8 @@ module _ {S : Type 0} (mark : Lexemes → Lexemes → S) where
           → SpellsBare l h (star (mark (lex s (binary_op Mul) ∷ ts) r) e) (lex s (binary_op Mul) ∷ ts) r
       -- Expr binary Expr, where equal levels associate to the left
       binary_rule : {l : ℕ} {h : Bool} {s : Span} {op : BinOp} {a b : Expr S} {ts mid r : Lexemes}
-          → l ≤ level_of op → SpellsOperand (level_of op) h a ts (lex s (binary_op op) ∷ mid) → SpellsOperand (level_of op + 1) h b mid r
+          → l ≤ level_of op → SpellsOperand (level_of op) h a ts (lex s (binary_op op) ∷ mid) →
+          SpellsOperand (level_of op + 1) h b mid r
           → SpellsBare l h (binary (mark ts r) op a b) ts r
 
     -- the same within any number of parentheses, which make no node
@@ -113,11 +121,13 @@ module _ {S : Type 0} (mark : Lexemes → Lexemes → S) where
     -- [ Expr ]
     pub data SpellsOption : Bool → ExprOption S → Lexemes → Lexemes → Type 0 where
       no_expr_rule : {h : Bool} {r : Lexemes} → SpellsOption h no_expr r r
-      some_expr_rule : {h : Bool} {e : Expr S} {ts r : Lexemes} → SpellsOperand 1 h e ts r → SpellsOption h (some_expr e) ts r
+      some_expr_rule : {h : Bool} {e : Expr S} {ts r : Lexemes} → SpellsOperand 1 h e ts r →
+          SpellsOption h (some_expr e) ts r
 
     -- Exprs = Expr { "," Expr }
     pub data SpellsExprs : Bool → Exprs S → Lexemes → Lexemes → Type 0 where
-      last_expr_rule : {h : Bool} {e : Expr S} {ts r : Lexemes} → SpellsOperand 1 h e ts r → SpellsExprs h (expr_and e no_exprs) ts r
+      last_expr_rule : {h : Bool} {e : Expr S} {ts r : Lexemes} → SpellsOperand 1 h e ts r →
+          SpellsExprs h (expr_and e no_exprs) ts r
       more_exprs_rule : {h : Bool} {c : Span} {e : Expr S} {es : Exprs S} {ts mid r : Lexemes}
           → SpellsOperand 1 h e ts (lex c comma ∷ mid) → SpellsExprs h es mid r
           → SpellsExprs h (expr_and e es) ts r
@@ -125,7 +135,8 @@ module _ {S : Type 0} (mark : Lexemes → Lexemes → S) where
     -- [ Exprs [ "..." ] [ "," ] ] ")"
     pub data SpellsArgs : Exprs S → Rest → Lexemes → Lexemes → Type 0 where
       no_args_rule : {e : Span} {r : Lexemes} → SpellsArgs no_exprs Plain (lex e end_paren ∷ r) r
-      args_rule : {e : Span} {xs : Exprs S} {ts r : Lexemes} → SpellsExprs false xs ts (lex e end_paren ∷ r) → SpellsArgs xs Plain ts r
+      args_rule : {e : Span} {xs : Exprs S} {ts r : Lexemes} → SpellsExprs false xs ts (lex e end_paren ∷ r) →
+          SpellsArgs xs Plain ts r
       comma_args_rule : {c e : Span} {xs : Exprs S} {ts r : Lexemes}
           → SpellsExprs false xs ts (lex c comma ∷ lex e end_paren ∷ r) → SpellsArgs xs Plain ts r
       rest_args_rule : {d e : Span} {xs : Exprs S} {ts r : Lexemes}
@@ -153,11 +164,13 @@ module _ {S : Type 0} (mark : Lexemes → Lexemes → S) where
     pub data SpellsValue : Value S → Lexemes → Lexemes → Type 0 where
       plain_rule : {e : Expr S} {ts r : Lexemes} → SpellsOperand 1 false e ts r → SpellsValue (plain e) ts r
       braced_rule : {s c : Span} {es : Elems S} {ts r : Lexemes}
-          → SpellsElems es ts (lex c end_brace ∷ r) → SpellsValue (braced (mark (lex s brace ∷ ts) r) es) (lex s brace ∷ ts) r
+          → SpellsElems es ts (lex c end_brace ∷ r) →
+          SpellsValue (braced (mark (lex s brace ∷ ts) r) es) (lex s brace ∷ ts) r
 
     -- Simple = [ Expr | Expr "++" | Expr "--" | Exprs assign Exprs | Names ":=" Exprs ], where it is not empty
     pub data SpellsSimple : Bool → Stmt S → Lexemes → Lexemes → Type 0 where
-      eval_rule : {h : Bool} {e : Expr S} {ts r : Lexemes} → SpellsOperand 1 h e ts r → SpellsSimple h (eval (mark ts r) e) ts r
+      eval_rule : {h : Bool} {e : Expr S} {ts r : Lexemes} → SpellsOperand 1 h e ts r →
+          SpellsSimple h (eval (mark ts r) e) ts r
       increment_rule : {h : Bool} {s : Span} {e : Expr S} {ts r : Lexemes}
           → SpellsOperand 1 h e ts (lex s increment ∷ r) → SpellsSimple h (step (mark ts r) e true) ts r
       decrement_rule : {h : Bool} {s : Span} {e : Expr S} {ts r : Lexemes}
@@ -177,28 +190,39 @@ module _ {S : Type 0} (mark : Lexemes → Lexemes → S) where
     -- [ Simple ";" ]
     pub data SpellsFirst : StmtOption S → Lexemes → Lexemes → Type 0 where
       no_first_rule : {r : Lexemes} → SpellsFirst no_stmt r r
-      first_rule : {s : Span} {i : StmtOption S} {ts r : Lexemes} → SpellsPart i ts (lex s semicolon ∷ r) → SpellsFirst i ts r
+      first_rule : {s : Span} {i : StmtOption S} {ts r : Lexemes} → SpellsPart i ts (lex s semicolon ∷ r) →
+          SpellsFirst i ts r
 
     pub data SpellsStmt : Stmt S → Lexemes → Lexemes → Type 0 where
       empty_rule : {r : Lexemes} → SpellsStmt (empty (mark r r)) r r
       simple_rule : {x : Stmt S} {ts r : Lexemes} → SpellsSimple false x ts r → SpellsStmt x ts r
       const_rule : {s : Span} {grouped : Bool} {ss : ValueSpecs S} {ts r : Lexemes}
-          → SpellsDecl true grouped ss ts r → SpellsStmt (const_decl (mark (lex s key_const ∷ ts) r) grouped ss) (lex s key_const ∷ ts) r
+          → SpellsDecl true grouped ss ts r →
+          SpellsStmt (const_decl (mark (lex s key_const ∷ ts) r) grouped ss) (lex s key_const ∷ ts) r
       var_rule : {s : Span} {grouped : Bool} {ss : ValueSpecs S} {ts r : Lexemes}
-          → SpellsDecl false grouped ss ts r → SpellsStmt (var_decl (mark (lex s key_var ∷ ts) r) grouped ss) (lex s key_var ∷ ts) r
+          → SpellsDecl false grouped ss ts r →
+          SpellsStmt (var_decl (mark (lex s key_var ∷ ts) r) grouped ss) (lex s key_var ∷ ts) r
       -- "return" [ Exprs ]
-      return_rule : {s : Span} {r : Lexemes} → SpellsStmt (return_ (mark (lex s key_return ∷ r) r) no_exprs) (lex s key_return ∷ r) r
+      return_rule : {s : Span} {r : Lexemes} →
+          SpellsStmt (return_ (mark (lex s key_return ∷ r) r) no_exprs) (lex s key_return ∷ r) r
       return_values_rule : {s : Span} {xs : Exprs S} {ts r : Lexemes}
-          → SpellsExprs false xs ts r → SpellsStmt (return_ (mark (lex s key_return ∷ ts) r) xs) (lex s key_return ∷ ts) r
+          → SpellsExprs false xs ts r →
+          SpellsStmt (return_ (mark (lex s key_return ∷ ts) r) xs) (lex s key_return ∷ ts) r
       -- "break" [ name ]
-      break_rule : {s : Span} {r : Lexemes} → SpellsStmt (break_ (mark (lex s key_break ∷ r) r) None) (lex s key_break ∷ r) r
+      break_rule : {s : Span} {r : Lexemes} →
+          SpellsStmt (break_ (mark (lex s key_break ∷ r) r) None) (lex s key_break ∷ r) r
       break_label_rule : {s c : Span} {n : List ℕ} {r : Lexemes}
-          → SpellsStmt (break_ (mark (lex s key_break ∷ lex c (terminal.ident n) ∷ r) r) (Some (name_here mark c n r))) (lex s key_break ∷ lex c (terminal.ident n) ∷ r) r
+          → SpellsStmt (break_ (mark (lex s key_break ∷ lex c (terminal.ident n) ∷ r) r) (Some (name_here mark c n r)))
+          (lex s key_break ∷ lex c (terminal.ident n) ∷ r) r
       -- "continue" [ name ]
-      continue_rule : {s : Span} {r : Lexemes} → SpellsStmt (continue_ (mark (lex s key_continue ∷ r) r) None) (lex s key_continue ∷ r) r
+      continue_rule : {s : Span} {r : Lexemes} →
+          SpellsStmt (continue_ (mark (lex s key_continue ∷ r) r) None) (lex s key_continue ∷ r) r
       continue_label_rule : {s c : Span} {n : List ℕ} {r : Lexemes}
-          → SpellsStmt (continue_ (mark (lex s key_continue ∷ lex c (terminal.ident n) ∷ r) r) (Some (name_here mark c n r))) (lex s key_continue ∷ lex c (terminal.ident n) ∷ r) r
-      block_rule : {sb : S} {body : Stmts S} {ts r : Lexemes} → SpellsBlock sb body ts r → SpellsStmt (inner sb body) ts r
+          → SpellsStmt
+          (continue_ (mark (lex s key_continue ∷ lex c (terminal.ident n) ∷ r) r) (Some (name_here mark c n r)))
+          (lex s key_continue ∷ lex c (terminal.ident n) ∷ r) r
+      block_rule : {sb : S} {body : Stmts S} {ts r : Lexemes} → SpellsBlock sb body ts r →
+          SpellsStmt (inner sb body) ts r
       if_rule : {arms : Arms S} {last : BlockOption S} {ts r : Lexemes}
           → SpellsIf arms last ts r → SpellsStmt (if_ (mark ts r) arms last) ts r
       -- "for" [ Expr ] Block
@@ -206,8 +230,10 @@ module _ {S : Type 0} (mark : Lexemes → Lexemes → S) where
           → SpellsOption true t ts mid → SpellsBlock sb body mid r
           → SpellsStmt (for_ (mark (lex s key_for ∷ ts) r) no_stmt t no_stmt sb body) (lex s key_for ∷ ts) r
       -- "for" Simple ";" [ Expr ] ";" Simple Block
-      for_rule : {s c d : Span} {i p : StmtOption S} {t : ExprOption S} {sb : S} {body : Stmts S} {ts ts2 ts3 ts4 r : Lexemes}
-          → SpellsPart i ts (lex c semicolon ∷ ts2) → SpellsOption true t ts2 (lex d semicolon ∷ ts3) → SpellsPart p ts3 ts4
+      for_rule : {s c d : Span} {i p : StmtOption S} {t : ExprOption S} {sb : S} {body : Stmts S}
+          {ts ts2 ts3 ts4 r : Lexemes}
+          → SpellsPart i ts (lex c semicolon ∷ ts2) → SpellsOption true t ts2 (lex d semicolon ∷ ts3) →
+          SpellsPart p ts3 ts4
           → SpellsBlock sb body ts4 r
           → SpellsStmt (for_ (mark (lex s key_for ∷ ts) r) i t p sb body) (lex s key_for ∷ ts) r
       -- "for" [ Exprs "=" | Names ":=" ] "range" Expr Block
@@ -216,7 +242,8 @@ module _ {S : Type 0} (mark : Lexemes → Lexemes → S) where
           → SpellsStmt (range_ (mark (lex s key_for ∷ ts) r) left e sb body) (lex s key_for ∷ ts) r
       -- "switch" [ Simple ";" ] [ Expr ] "{" Cases "}"
       switch_rule : {s b e : Span} {i : StmtOption S} {t : ExprOption S} {cs : Cases S} {ts ts2 ts3 r : Lexemes}
-          → SpellsFirst i ts ts2 → SpellsOption true t ts2 (lex b brace ∷ ts3) → SpellsCases cs ts3 (lex e end_brace ∷ r)
+          → SpellsFirst i ts ts2 → SpellsOption true t ts2 (lex b brace ∷ ts3) →
+          SpellsCases cs ts3 (lex e end_brace ∷ r)
           → SpellsStmt (switch (mark (lex s key_switch ∷ ts) r) i t cs) (lex s key_switch ∷ ts) r
       -- "defer" and a call with no parentheses around it
       defer_rule : {s : Span} {c : S} {f : Expr S} {xs : Exprs S} {rest : Rest} {ts r : Lexemes}
@@ -225,12 +252,15 @@ module _ {S : Type 0} (mark : Lexemes → Lexemes → S) where
       -- name ":" Stmt
       label_rule : {s c : Span} {n : List ℕ} {x : Stmt S} {ts r : Lexemes}
           → SpellsStmt x ts r
-          → SpellsStmt (label (mark (lex s (terminal.ident n) ∷ lex c colon ∷ ts) r) (name_here mark s n (lex c colon ∷ ts)) x) (lex s (terminal.ident n) ∷ lex c colon ∷ ts) r
+          → SpellsStmt
+          (label (mark (lex s (terminal.ident n) ∷ lex c colon ∷ ts) r) (name_here mark s n (lex c colon ∷ ts)) x)
+          (lex s (terminal.ident n) ∷ lex c colon ∷ ts) r
 
     -- Block = "{" { Stmt ";" } "}"
     pub data SpellsBlock : S → Stmts S → Lexemes → Lexemes → Type 0 where
       braces_rule : {s e : Span} {body : Stmts S} {ts r : Lexemes}
-          → SpellsStmts body ts (lex e end_brace ∷ r) → SpellsBlock (mark (lex s brace ∷ ts) r) body (lex s brace ∷ ts) r
+          → SpellsStmts body ts (lex e end_brace ∷ r) →
+          SpellsBlock (mark (lex s brace ∷ ts) r) body (lex s brace ∷ ts) r
 
     -- { Stmt ";" }: the last semicolon may be left out before "}", and then an empty statement makes no node
     pub data SpellsStmts : Stmts S → Lexemes → Lexemes → Type 0 where
@@ -242,14 +272,16 @@ module _ {S : Type 0} (mark : Lexemes → Lexemes → S) where
           → SpellsStmt x ts (lex c semicolon ∷ mid) → SpellsStmts xs mid r
           → SpellsStmts (stmt_and x xs) ts r
 
-    -- If = "if" [ Simple ";" ] Expr Block [ "else" ( If | Block ) ]: its arms, each without the `else` after it, and the last block
+    -- If = "if" [ Simple ";" ] Expr Block [ "else" ( If | Block ) ]: its arms, each without the `else` after it, and
+    -- the last block
     pub data SpellsIf : Arms S → BlockOption S → Lexemes → Lexemes → Type 0 where
       only_arm_rule : {i : StmtOption S} {t : Expr S} {sb : S} {body : Stmts S} {ts r : Lexemes}
           → SpellsArm i t sb body ts r → SpellsIf (arm (mark ts r) i t sb body no_arms) no_block ts r
       else_rule : {c : Span} {i : StmtOption S} {t : Expr S} {sb sl : S} {body last : Stmts S} {ts mid r : Lexemes}
           → SpellsArm i t sb body ts (lex c key_else ∷ mid) → SpellsBlock sl last mid r
           → SpellsIf (arm (mark ts (lex c key_else ∷ mid)) i t sb body no_arms) (some_block sl last) ts r
-      else_if_rule : {c : Span} {i : StmtOption S} {t : Expr S} {sb : S} {body : Stmts S} {arms : Arms S} {last : BlockOption S} {ts mid r : Lexemes}
+      else_if_rule : {c : Span} {i : StmtOption S} {t : Expr S} {sb : S} {body : Stmts S} {arms : Arms S}
+          {last : BlockOption S} {ts mid r : Lexemes}
           → SpellsArm i t sb body ts (lex c key_else ∷ mid) → SpellsIf arms last mid r
           → SpellsIf (arm (mark ts (lex c key_else ∷ mid)) i t sb body arms) last ts r
 
@@ -275,7 +307,8 @@ module _ {S : Type 0} (mark : Lexemes → Lexemes → S) where
           → SpellsCases (case (mark (lex s key_case ∷ ts) mid) xs body cs) (lex s key_case ∷ ts) r
       default_rule : {s c : Span} {body : Stmts S} {cs : Cases S} {ts mid r : Lexemes}
           → SpellsStmts body ts mid → SpellsCases cs mid r
-          → SpellsCases (case (mark (lex s key_default ∷ lex c colon ∷ ts) mid) no_exprs body cs) (lex s key_default ∷ lex c colon ∷ ts) r
+          → SpellsCases (case (mark (lex s key_default ∷ lex c colon ∷ ts) mid) no_exprs body cs)
+          (lex s key_default ∷ lex c colon ∷ ts) r
 
     -- what stands after "const" (true) or "var" (false): a spec, or "(" { Spec ";" } ")"
     pub data SpellsDecl : Bool → Bool → ValueSpecs S → Lexemes → Lexemes → Type 0 where
@@ -287,22 +320,27 @@ module _ {S : Type 0} (mark : Lexemes → Lexemes → S) where
     -- { Spec ";" } before ")", where the last semicolon may be left out
     pub data SpellsSpecs : Bool → ValueSpecs S → Lexemes → Lexemes → Type 0 where
       no_specs_rule : {constant : Bool} {r : Lexemes} → SpellsSpecs constant no_specs r r
-      last_spec_rule : {e : Span} {constant : Bool} {ns : List (NameAt S)} {t : Option (TypeExpr S)} {xs : Exprs S} {ts r : Lexemes}
+      last_spec_rule : {e : Span} {constant : Bool} {ns : List (NameAt S)} {t : Option (TypeExpr S)} {xs : Exprs S}
+          {ts r : Lexemes}
           → SpellsSpec constant ns t xs ts (lex e end_paren ∷ r)
           → SpellsSpecs constant (spec (mark ts (lex e end_paren ∷ r)) ns t xs no_specs) ts (lex e end_paren ∷ r)
-      more_specs_rule : {c : Span} {constant : Bool} {ns : List (NameAt S)} {t : Option (TypeExpr S)} {xs : Exprs S} {ss : ValueSpecs S} {ts mid r : Lexemes}
+      more_specs_rule : {c : Span} {constant : Bool} {ns : List (NameAt S)} {t : Option (TypeExpr S)} {xs : Exprs S}
+          {ss : ValueSpecs S} {ts mid r : Lexemes}
           → SpellsSpec constant ns t xs ts (lex c semicolon ∷ mid) → SpellsSpecs constant ss mid r
           → SpellsSpecs constant (spec (mark ts (lex c semicolon ∷ mid)) ns t xs ss) ts r
 
     -- CSpec = Names [ [ Type ] "=" Exprs ] and VSpec = Names ( Type [ "=" Exprs ] | "=" Exprs )
     pub data SpellsSpec : Bool → List (NameAt S) → Option (TypeExpr S) → Exprs S → Lexemes → Lexemes → Type 0 where
-      repeated_rule : {ns : List (NameAt S)} {ts r : Lexemes} → SpellsNames mark ns ts r → SpellsSpec true ns None no_exprs ts r
+      repeated_rule : {ns : List (NameAt S)} {ts r : Lexemes} → SpellsNames mark ns ts r →
+          SpellsSpec true ns None no_exprs ts r
       typed_var_rule : {ns : List (NameAt S)} {t : TypeExpr S} {ts mid r : Lexemes}
           → SpellsNames mark ns ts mid → SpellsType mark t mid r
           → SpellsSpec false ns (Some t) no_exprs ts r
       values_rule : {s : Span} {constant : Bool} {ns : List (NameAt S)} {xs : Exprs S} {ts mid r : Lexemes}
           → SpellsNames mark ns ts (lex s (terminal.assign None) ∷ mid) → SpellsExprs false xs mid r
           → SpellsSpec constant ns None xs ts r
-      typed_values_rule : {s : Span} {constant : Bool} {ns : List (NameAt S)} {t : TypeExpr S} {xs : Exprs S} {ts mid mid2 r : Lexemes}
-          → SpellsNames mark ns ts mid → SpellsType mark t mid (lex s (terminal.assign None) ∷ mid2) → SpellsExprs false xs mid2 r
+      typed_values_rule : {s : Span} {constant : Bool} {ns : List (NameAt S)} {t : TypeExpr S} {xs : Exprs S}
+          {ts mid mid2 r : Lexemes}
+          → SpellsNames mark ns ts mid → SpellsType mark t mid (lex s (terminal.assign None) ∷ mid2) →
+          SpellsExprs false xs mid2 r
           → SpellsSpec constant ns (Some t) xs ts r

@@ -1,4 +1,5 @@
--- What spells a file (Go specification, Source file organization, Package clause, Import declarations, Type declarations,
+-- What spells a file (Go specification, Source file organization, Package clause, Import declarations, Type
+-- declarations,
 -- Function declarations, Method declarations).
 use Rattle.std.specs.Prelude.{◌≡◌, ℕ, Bool, true, false, bytes_eq, codes, List, [], ◌∷◌, Some, None}
 use Rattle.go_tree.specs.declared.spans.Span.{Span}
@@ -20,9 +21,16 @@ module _ {S : Type 0} (mark : Lexemes → Lexemes → S) where
   -- ISpec = [ name ] string
   pub data SpellsImportSpec : ImportSpec S → Lexemes → Lexemes → Type 0 where
     path_rule : {s : Span} {p : List ℕ} {r : Lexemes}
-        → SpellsImportSpec (record { span = mark (lex s (str_lit p) ∷ r) r; name = None; path = text_value p }) (lex s (str_lit p) ∷ r) r
+        → SpellsImportSpec (record { span = mark (lex s (str_lit p) ∷ r) r; name = None; path = text_value p })
+        (lex s (str_lit p) ∷ r) r
     named_path_rule : {s c : Span} {n p : List ℕ} {r : Lexemes}
-        → SpellsImportSpec (record { span = mark (lex s (ident n) ∷ lex c (str_lit p) ∷ r) r; name = Some (name_here mark s n (lex c (str_lit p) ∷ r)); path = text_value p }) (lex s (ident n) ∷ lex c (str_lit p) ∷ r) r
+        → SpellsImportSpec
+        (record {
+          span = mark (lex s (ident n) ∷ lex c (str_lit p) ∷ r) r;
+          name = Some (name_here mark s n (lex c (str_lit p) ∷ r));
+          path = text_value p;
+        })
+        (lex s (ident n) ∷ lex c (str_lit p) ∷ r) r
 
   -- { ISpec ";" } before ")", where the last semicolon may be left out
   pub data SpellsImportSpecs : List (ImportSpec S) → Lexemes → Lexemes → Type 0 where
@@ -37,19 +45,30 @@ module _ {S : Type 0} (mark : Lexemes → Lexemes → S) where
   pub data SpellsImport : ImportDecl S → Lexemes → Lexemes → Type 0 where
     import_rule : {s : Span} {x : ImportSpec S} {ts r : Lexemes}
         → SpellsImportSpec x ts r
-        → SpellsImport (record { span = mark (lex s key_import ∷ ts) r; grouped = false; specs = x ∷ [] }) (lex s key_import ∷ ts) r
+        → SpellsImport (record { span = mark (lex s key_import ∷ ts) r; grouped = false; specs = x ∷ [] })
+        (lex s key_import ∷ ts) r
     import_group_rule : {s b e : Span} {xs : List (ImportSpec S)} {ts r : Lexemes}
         → SpellsImportSpecs xs ts (lex e end_paren ∷ r)
-        → SpellsImport (record { span = mark (lex s key_import ∷ lex b paren ∷ ts) r; grouped = true; specs = xs }) (lex s key_import ∷ lex b paren ∷ ts) r
+        → SpellsImport (record { span = mark (lex s key_import ∷ lex b paren ∷ ts) r; grouped = true; specs = xs })
+        (lex s key_import ∷ lex b paren ∷ ts) r
 
   -- TSpec = name [ "=" ] Type
   pub data SpellsTypeSpec : TypeSpec S → Lexemes → Lexemes → Type 0 where
     type_spec_rule : {s : Span} {n : List ℕ} {t : TypeExpr S} {ts r : Lexemes}
         → SpellsType mark t ts r
-        → SpellsTypeSpec (record { span = mark (lex s (ident n) ∷ ts) r; name = name_here mark s n ts; alias = false; of = t }) (lex s (ident n) ∷ ts) r
+        → SpellsTypeSpec
+        (record { span = mark (lex s (ident n) ∷ ts) r; name = name_here mark s n ts; alias = false; of = t })
+        (lex s (ident n) ∷ ts) r
     alias_spec_rule : {s c : Span} {n : List ℕ} {t : TypeExpr S} {ts r : Lexemes}
         → SpellsType mark t ts r
-        → SpellsTypeSpec (record { span = mark (lex s (ident n) ∷ lex c (assign None) ∷ ts) r; name = name_here mark s n (lex c (assign None) ∷ ts); alias = true; of = t }) (lex s (ident n) ∷ lex c (assign None) ∷ ts) r
+        → SpellsTypeSpec
+        (record {
+          span = mark (lex s (ident n) ∷ lex c (assign None) ∷ ts) r;
+          name = name_here mark s n (lex c (assign None) ∷ ts);
+          alias = true;
+          of = t;
+        })
+        (lex s (ident n) ∷ lex c (assign None) ∷ ts) r
 
   -- { TSpec ";" } before ")", where the last semicolon may be left out
   pub data SpellsTypeSpecs : List (TypeSpec S) → Lexemes → Lexemes → Type 0 where
@@ -63,13 +82,34 @@ module _ {S : Type 0} (mark : Lexemes → Lexemes → S) where
   -- [ name ] [ "*" ] name
   pub data SpellsReceiver : Receiver S → Lexemes → Lexemes → Type 0 where
     receiver_rule : {s : Span} {n : List ℕ} {r : Lexemes}
-        → SpellsReceiver (record { span = mark (lex s (ident n) ∷ r) r; name = None; pointer = false; of = name_here mark s n r }) (lex s (ident n) ∷ r) r
+        → SpellsReceiver
+        (record { span = mark (lex s (ident n) ∷ r) r; name = None; pointer = false; of = name_here mark s n r })
+        (lex s (ident n) ∷ r) r
     pointer_receiver_rule : {p s : Span} {n : List ℕ} {r : Lexemes}
-        → SpellsReceiver (record { span = mark (lex p (binary_op Mul) ∷ lex s (ident n) ∷ r) r; name = None; pointer = true; of = name_here mark s n r }) (lex p (binary_op Mul) ∷ lex s (ident n) ∷ r) r
+        → SpellsReceiver
+        (record {
+          span = mark (lex p (binary_op Mul) ∷ lex s (ident n) ∷ r) r;
+          name = None;
+          pointer = true;
+          of = name_here mark s n r;
+        }) (lex p (binary_op Mul) ∷ lex s (ident n) ∷ r) r
     named_receiver_rule : {c s : Span} {x n : List ℕ} {r : Lexemes}
-        → SpellsReceiver (record { span = mark (lex c (ident x) ∷ lex s (ident n) ∷ r) r; name = Some (name_here mark c x (lex s (ident n) ∷ r)); pointer = false; of = name_here mark s n r }) (lex c (ident x) ∷ lex s (ident n) ∷ r) r
+        → SpellsReceiver
+        (record {
+          span = mark (lex c (ident x) ∷ lex s (ident n) ∷ r) r;
+          name = Some (name_here mark c x (lex s (ident n) ∷ r));
+          pointer = false;
+          of = name_here mark s n r;
+        })
+        (lex c (ident x) ∷ lex s (ident n) ∷ r) r
     named_pointer_receiver_rule : {c p s : Span} {x n : List ℕ} {r : Lexemes}
-        → SpellsReceiver (record { span = mark (lex c (ident x) ∷ lex p (binary_op Mul) ∷ lex s (ident n) ∷ r) r; name = Some (name_here mark c x (lex p (binary_op Mul) ∷ lex s (ident n) ∷ r)); pointer = true; of = name_here mark s n r })
+        → SpellsReceiver
+        (record {
+          span = mark (lex c (ident x) ∷ lex p (binary_op Mul) ∷ lex s (ident n) ∷ r) r;
+          name = Some (name_here mark c x (lex p (binary_op Mul) ∷ lex s (ident n) ∷ r));
+          pointer = true;
+          of = name_here mark s n r;
+        })
         (lex c (ident x) ∷ lex p (binary_op Mul) ∷ lex s (ident n) ∷ r) r
 
   -- Decl = Const | Var | TypeDecl | Func
@@ -82,18 +122,39 @@ module _ {S : Type 0} (mark : Lexemes → Lexemes → S) where
         → SpellsTop (values (var_decl (mark (lex s key_var ∷ ts) r) grouped ss)) (lex s key_var ∷ ts) r
     -- "type" ( TSpec | "(" { TSpec ";" } ")" )
     top_type_rule : {s : Span} {x : TypeSpec S} {ts r : Lexemes}
-        → SpellsTypeSpec x ts r → SpellsTop (types (mark (lex s key_type ∷ ts) r) false (x ∷ [])) (lex s key_type ∷ ts) r
+        → SpellsTypeSpec x ts r →
+        SpellsTop (types (mark (lex s key_type ∷ ts) r) false (x ∷ [])) (lex s key_type ∷ ts) r
     top_type_group_rule : {s b e : Span} {xs : List (TypeSpec S)} {ts r : Lexemes}
         → SpellsTypeSpecs xs ts (lex e end_paren ∷ r)
         → SpellsTop (types (mark (lex s key_type ∷ lex b paren ∷ ts) r) true xs) (lex s key_type ∷ lex b paren ∷ ts) r
     -- "func" name Sig Block, where the parameters may be variadic
     top_func_rule : {s c : Span} {n : List ℕ} {g : Sig S} {sb : S} {body : Stmts S} {ts mid r : Lexemes}
         → SpellsSig mark true g ts mid → SpellsBlock mark sb body mid r
-        → SpellsTop (func (record { span = mark (lex s key_func ∷ lex c (ident n) ∷ ts) r; receiver = None; name = name_here mark c n ts; sig = g; body_span = sb; body = body })) (lex s key_func ∷ lex c (ident n) ∷ ts) r
+        → SpellsTop (func
+        (record {
+          span = mark (lex s key_func ∷ lex c (ident n) ∷ ts) r;
+          receiver = None;
+          name = name_here mark c n ts;
+          sig = g;
+          body_span = sb;
+          body = body;
+        }))
+        (lex s key_func ∷ lex c (ident n) ∷ ts) r
     -- "func" "(" [ name ] [ "*" ] name ")" name Sig Block
-    top_method_rule : {s b e c : Span} {n : List ℕ} {v : Receiver S} {g : Sig S} {sb : S} {body : Stmts S} {ts ts2 mid r : Lexemes}
-        → SpellsReceiver v ts (lex e end_paren ∷ lex c (ident n) ∷ ts2) → SpellsSig mark false g ts2 mid → SpellsBlock mark sb body mid r
-        → SpellsTop (func (record { span = mark (lex s key_func ∷ lex b paren ∷ ts) r; receiver = Some v; name = name_here mark c n ts2; sig = g; body_span = sb; body = body })) (lex s key_func ∷ lex b paren ∷ ts) r
+    top_method_rule : {s b e c : Span} {n : List ℕ} {v : Receiver S} {g : Sig S} {sb : S} {body : Stmts S}
+        {ts ts2 mid r : Lexemes}
+        → SpellsReceiver v ts (lex e end_paren ∷ lex c (ident n) ∷ ts2) → SpellsSig mark false g ts2 mid →
+        SpellsBlock mark sb body mid r
+        → SpellsTop (func
+        (record {
+          span = mark (lex s key_func ∷ lex b paren ∷ ts) r;
+          receiver = Some v;
+          name = name_here mark c n ts2;
+          sig = g;
+          body_span = sb;
+          body = body;
+        }))
+        (lex s key_func ∷ lex b paren ∷ ts) r
 
   -- { Import ";" }
   pub data SpellsImports : List (ImportDecl S) → Lexemes → Lexemes → Type 0 where
@@ -113,7 +174,8 @@ module _ {S : Type 0} (mark : Lexemes → Lexemes → S) where
   pub data SpellsFront : File S → Lexemes → Lexemes → Type 0 where
     front_rule : {s c d : Span} {n : List ℕ} {is : List (ImportDecl S)} {ds : List (Decl S)} {ts mid r : Lexemes}
         → is_blank n ≡ false → SpellsImports is ts mid → SpellsTops ds mid r
-        → SpellsFront (record { package_name = name_here mark c n (lex d semicolon ∷ ts); imports = is; decls = ds }) (lex s key_package ∷ lex c (ident n) ∷ lex d semicolon ∷ ts) r
+        → SpellsFront (record { package_name = name_here mark c n (lex d semicolon ∷ ts); imports = is; decls = ds })
+        (lex s key_package ∷ lex c (ident n) ∷ lex d semicolon ∷ ts) r
 
 -- all these tokens spell the file, each node with its span
 abbrev pub SpellsFile : List Token → File Span → Type 0

@@ -15,4 +15,5 @@ end_after place (lex s _ ∷ tokens) = end_after s.end tokens
 
 -- the span of the tokens before `rest`; where there are none, the empty one at the start of the token after them
 abbrev pub span_to : List Lexeme → List Lexeme → Span
-span_to tokens rest = record { start = start_of tokens; end = end_after (start_of tokens) (take (length tokens - length rest) tokens) }
+span_to tokens rest =
+    record { start = start_of tokens; end = end_after (start_of tokens) (take (length tokens - length rest) tokens) }

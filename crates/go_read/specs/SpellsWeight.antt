@@ -34,7 +34,9 @@ counts_after _ counts = counted counts
 
 abbrev pub weights_after : List ℕ → List Token → List ℕ
 weights_after counts [] = []
-weights_after counts (t ∷ tokens) = sum (counts_after (terminal_of t.kind t.spelling) counts) ∷ weights_after (counts_after (terminal_of t.kind t.spelling) counts) tokens
+weights_after counts (t ∷ tokens) =
+    sum (counts_after (terminal_of t.kind t.spelling) counts)
+    ∷ weights_after (counts_after (terminal_of t.kind t.spelling) counts) tokens
 
 -- the weight of each token
 abbrev pub weights_of : List Token → List ℕ

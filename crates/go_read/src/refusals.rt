@@ -14,16 +14,22 @@ ghost use Rattle.go_read.specs.Reading.{at};
 /// each with its semicolon, is read, and nothing where there is none; and there is one at most.
 #[tactic(auto, using(crate::proofs::Whole::front_is_longest, crate::proofs::Whole::no_front, crate::proofs::Whole::longest_is_read, crate::proofs::Whole::one_longest))]
 pub fn fronts_are_longest()
-    ensures longest { (f : File Span) (tokens rest : Lexemes) → at span_to read_front tokens ≡ Some (f, rest) → IsLongestFront tokens rest }
+    ensures longest { (f : File Span) (tokens rest : Lexemes) → at span_to read_front tokens ≡ Some (f, rest) →
+        IsLongestFront tokens rest }
     ensures none { (tokens : Lexemes) → at span_to read_front tokens ≡ None → HasNoFront tokens }
-    ensures found { (tokens rest : Lexemes) → IsLongestFront tokens rest → (f : File Span) × (at span_to read_front tokens ≡ Some (f, rest)) }
-    ensures one { (tokens rest other : Lexemes) → IsLongestFront tokens rest → IsLongestFront tokens other → rest ≡ other }
+    ensures found { (tokens rest : Lexemes) → IsLongestFront tokens rest →
+        (f : File Span) × (at span_to read_front tokens ≡ Some (f, rest)) }
+    ensures one { (tokens rest other : Lexemes) → IsLongestFront tokens rest → IsLongestFront tokens other →
+        rest ≡ other }
 {}
 
 /// Tokens that spell no file are refused at one place, and those that spell one at none.
 #[tactic(auto, using(crate::proofs::Whole::refused_once, crate::proofs::Whole::refused_spells_none, crate::proofs::Whole::refused_somewhere))]
 pub fn refusals_have_one_place()
-    ensures one { (size : ℕ) (tokens : Lexemes) (p q : ℕ) → IsRefusedAt size tokens p → IsRefusedAt size tokens q → p ≡ q }
-    ensures some { (size : ℕ) (tokens : Lexemes) → ((f : File Span) → SpellsFront span_to f tokens [] → ⊥) → (p : ℕ) × IsRefusedAt size tokens p }
-    ensures refused { (size : ℕ) (tokens : Lexemes) (p : ℕ) → IsRefusedAt size tokens p → (f : File Span) → SpellsFront span_to f tokens [] → ⊥ }
+    ensures one { (size : ℕ) (tokens : Lexemes) (p q : ℕ) → IsRefusedAt size tokens p → IsRefusedAt size tokens q →
+        p ≡ q }
+    ensures some { (size : ℕ) (tokens : Lexemes) → ((f : File Span) → SpellsFront span_to f tokens [] → ⊥) →
+        (p : ℕ) × IsRefusedAt size tokens p }
+    ensures refused { (size : ℕ) (tokens : Lexemes) (p : ℕ) → IsRefusedAt size tokens p → (f : File Span) →
+        SpellsFront span_to f tokens [] → ⊥ }
 {}

@@ -32,4 +32,5 @@ unfoldable pub longest_from : ℕ → ℕ → Option (ℕ × ℕ) → List ℕ �
 longest_from state len found [] = found
 longest_from state len found (c ∷ cs) =
     if next_of state c == DEAD then found
-    else longest_from (next_of state c) (len + 1) (if is_whole (next_of state c) then Some (next_of state c, len + 1) else found) cs
+    else longest_from (next_of state c) (len + 1)
+    (if is_whole (next_of state c) then Some (next_of state c, len + 1) else found) cs

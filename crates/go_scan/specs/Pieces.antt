@@ -37,7 +37,8 @@ unfoldable pub piece_of : List ℕ → Option (PieceKind × ℕ)
 piece_of [] = None
 piece_of (c ∷ cs) =
     if is_blank c then Some (blanks, prefix_len is_blank (c ∷ cs))
-    else (if is_letter c then Some (word_kind (take (prefix_len is_word (c ∷ cs)) (c ∷ cs)), prefix_len is_word (c ∷ cs))
+    else (if is_letter c
+    then Some (word_kind (take (prefix_len is_word (c ∷ cs)) (c ∷ cs)), prefix_len is_word (c ∷ cs))
     else lexeme_of (c ∷ cs))
 
 -- What is answered is the next piece, and nothing is answered only where no piece is next.

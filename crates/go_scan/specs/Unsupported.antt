@@ -1,4 +1,5 @@
--- Words of Go that lie outside the part that is supported: those that no production holds, which are the keywords `chan`,
+-- Words of Go that lie outside the part that is supported: those that no production holds, which are the keywords
+-- `chan`,
 -- `fallthrough`, `go`, `goto`, `interface` and `select`, the operators `<-` and `~`, floating-point and imaginary
 -- literals (Go specification, Keywords, Operators and punctuation), and a build constraint before the package clause
 -- (go/build/constraint).
@@ -45,7 +46,8 @@ is_constraint text place comment = stands_before comment.span.start place && is_
 
 unfoldable pub constraint_spans : List ℕ → Option ℕ → List Comment → List Span
 constraint_spans text place [] = []
-constraint_spans text place (c ∷ cs) = if is_constraint text place c then c.span ∷ constraint_spans text place cs else constraint_spans text place cs
+constraint_spans text place (c ∷ cs) =
+    if is_constraint text place c then c.span ∷ constraint_spans text place cs else constraint_spans text place cs
 
 unfoldable pub word_spans : List Token → List Span
 word_spans [] = []
@@ -68,8 +70,10 @@ earlier (Some known) span = if nat_le known.start span.start then known else spa
 
 abbrev pub first_word : Option Span → List Token → Option Span
 first_word known [] = known
-first_word known (t ∷ ts) = first_word (if is_unsupported t.kind t.spelling then Some (earlier known t.span) else known) ts
+first_word known (t ∷ ts) =
+    first_word (if is_unsupported t.kind t.spelling then Some (earlier known t.span) else known) ts
 
 abbrev pub first_constraint : List ℕ → Option ℕ → Option Span → List Comment → Option Span
 first_constraint text place known [] = known
-first_constraint text place known (c ∷ cs) = first_constraint text place (if is_constraint text place c then Some (earlier known c.span) else known) cs
+first_constraint text place known (c ∷ cs) =
+    first_constraint text place (if is_constraint text place c then Some (earlier known c.span) else known) cs

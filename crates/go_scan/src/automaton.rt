@@ -1,5 +1,5 @@
-// The automaton of comments, operators, numbers, runes and strings. A state stands for what has been
-// read since the start of the word, and a class for characters that all words treat alike.
+//! The automaton of comments, operators, numbers, runes and strings. A state stands for what has been
+//! read since the start of the word, and a class for characters that all words treat alike.
 
 /// The state after what begins no word.
 pub(crate) const DEAD: u8 = 0;

@@ -1,4 +1,5 @@
-// Characters of Go source (Go specification, Letters and digits, Tokens).
+//! Characters of Go source (Go specification, Letters and digits, Tokens).
+
 ghost use Rattle.std.specs.Prelude.{◌≡◌, ◌<◌, ◌≤◌, length, chars};
 ghost use Rattle.go_scan.specs.Sizes.{size_while};
 ghost use Rattle.go_words.specs.Tokens.Characters.{is_letter, is_digit, is_word, is_blank, is_letter_category, is_decimal_number};

@@ -1,4 +1,5 @@
-// Comments, operators, numbers, runes and strings (Go specification, Lexical elements), by the automaton.
+//! Comments, operators, numbers, runes and strings (Go specification, Lexical elements), by the automaton.
+
 ghost use Rattle.std.specs.Prelude.{◌≡◌, ◌<◌, chars, None};
 ghost use Rattle.go_scan.specs.Automaton.{class_of, next_of, is_whole};
 ghost use Rattle.go_scan.specs.Sizes.{found_by, longest_by_size};

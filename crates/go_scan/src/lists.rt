@@ -1,4 +1,5 @@
-// The tokens and comments so far (Go specification, Semicolons, Comments).
+//! The tokens and comments so far (Go specification, Semicolons, Comments).
+
 ghost use Rattle.std.specs.Prelude.{◌≡◌, ◌+◌, ◌<◌, ◌^◌, ◌++◌, length, map, chars, if◌then◌else◌, OnOk, Some, None};
 ghost use Rattle.go_words.specs.Codes.{spelled, terminal_at};
 ghost use Rattle.go_words.specs.Terminals.{terminal_of};
@@ -13,7 +14,8 @@ use go_tree::{Comment, NoMemory, Span, Spelling, Token, TokenKind};
 use go_words::{Terminal, ends_line, terminal_of};
 use std::alloc::Global;
 
-/// The tokens, the terminal of each, and the comments so far. `due` is the end of the last token where a newline, or the end
+/// The tokens, the terminal of each, and the comments so far. `due` is the end of the last token where a newline, or
+/// the end
 /// of the text, gives a semicolon after it.
 #[derive(Drop)]
 pub(crate) struct Lists {
@@ -32,7 +34,8 @@ fn has_newline(word: &str) -> bool
 /// Adds the semicolon that is due, where one is.
 pub(crate) fn insert_due(alloc: Global, lists: &mut Lists) -> Result<(), NoMemory>
     ensures tokens { OnOk result (lists.new.tokens.items ≡ lists.old.tokens.items ++ inserted lists.old.due) }
-    ensures terminals { OnOk result (lists.new.terminals.items ≡ lists.old.terminals.items ++ map terminal_at (inserted lists.old.due)) }
+    ensures terminals { OnOk result (lists.new.terminals.items
+        ≡ lists.old.terminals.items ++ map terminal_at (inserted lists.old.due)) }
     ensures due { OnOk result (lists.new.due ≡ None) }
     ensures comments { lists.new.comments.items ≡ lists.old.comments.items }
 {

@@ -1,4 +1,5 @@
-// The piece at the front of a text (Go specification, Lexical elements).
+//! The piece at the front of a text (Go specification, Lexical elements).
+
 ghost use Rattle.std.specs.Prelude.{◌≡◌, bytes_eq, chars, codes};
 ghost use Rattle.go_words.specs.Tokens.Pieces.{no_word_first, no_star_first, may_precede};
 ghost use Rattle.go_scan.specs.Automaton.{kind_in};

@@ -1,4 +1,5 @@
-// Tokens and comments of a text (Go specification, Source code representation, Lexical elements).
+//! Tokens and comments of a text (Go specification, Source code representation, Lexical elements).
+
 ghost use Rattle.std.specs.Prelude.{◌≡◌, ◌≢◌, ◌+◌, ◌≤◌, length, map, chars, IfOk, IfErr};
 ghost use Rattle.go_words.specs.Codes.{terminal_at};
 ghost use Rattle.go_words.specs.Tokens.{TokensOf, after_mark, mark_size};

@@ -1,4 +1,5 @@
-// Words that are not supported.
+//! Words that are not supported.
+
 ghost use Rattle.std.specs.Prelude.{◌≡◌, ℕ, ◌≤◌, List, if◌then◌else◌, length, map, All, Some, None};
 ghost use Rattle.go_words.specs.Codes.{spelled, terminal_at};
 ghost use Rattle.go_words.specs.Terminals.{is_foreign};

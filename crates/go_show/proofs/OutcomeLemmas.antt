@@ -1,6 +1,6 @@
 -- What is written of a text that is read, and of one that isn't.
-use Rattle.std.proofs.Common.{◌≡◌, ◌≢◌, inl, inr}
-use Rattle.std.specs.Prelude.{ℕ, List, Option, Result, Ok, Err, IfErr, IfOk, OnOk, codes}
+use Rattle.std.proofs.Common.{◌≢◌, inl, inr}
+use Rattle.std.specs.Prelude.{ℕ, List, Option, Result, Ok, Err, OnOk, codes}
 use Rattle.std.specs.Io.KnownBytes.{Appends}
 use Rattle.go_tree.specs.FileView.{file_of}
 use Rattle.go_layout.specs.Layouts.{text_of}

@@ -1,5 +1,5 @@
 -- What is written of a text.
-use Rattle.std.specs.Prelude.{ℕ, List, [], ◌++◌, Option, codes, decimal, ◌⊎◌}
+use Rattle.std.specs.Prelude.{ℕ, List, ◌++◌, Option, codes, decimal, ◌⊎◌}
 use Rattle.std.specs.Io.KnownBytes.{Appends}
 use Rattle.go_tree.specs.declared.spans.Span.{Span}
 use Rattle.go_tree.specs.declared.tokens.Token.{Token}
@@ -43,4 +43,5 @@ ShowsTree text before after = (Reads text × Appends before after (codes "read\n
 
 -- what is written is the text of the file that is read, in the one layout, or says why it isn't
 abbrev pub ShowsFile : List ℕ → Option (List ℕ) → Option (List ℕ) → Type 0
-ShowsFile text before after = ((file : Reads text) × Appends before after (text_of (file_layout file.tree))) ⊎ SaysWhy text before after
+ShowsFile text before after = ((file : Reads text) × Appends before after (text_of (file_layout file.tree)))
+    ⊎ SaysWhy text before after

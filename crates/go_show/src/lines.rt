@@ -1,4 +1,4 @@
-// A line for each token.
+//! A line for each token.
 
 use go_tree::{Token, TokenKind};
 use std::alloc::{AllocError, Global};

@@ -118,7 +118,8 @@ fn write_tree<W: Write>(alloc: Global, out: &mut W, text: &[u8]) -> io::Result<(
 
 /// Writes a file in the one layout, without its comments.
 fn write_file<W: Write>(alloc: Global, out: &mut W, file: &FileTree) -> io::Result<()>
-    ensures { OnOk result (Appends (W.contents out.old) (W.contents out.new) (text_of (file_layout (file_of file.now)))) }
+    ensures { OnOk result (Appends (W.contents out.old) (W.contents out.new)
+        (text_of (file_layout (file_of file.now)))) }
 {
     let text = print_file(alloc, file)?;
     out.write_all(text.items())

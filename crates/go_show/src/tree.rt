@@ -1,4 +1,4 @@
-// Why a file isn't read.
+//! Why a file isn't read.
 
 ghost use Rattle.std.specs.Prelude.{OnOk};
 ghost use Rattle.go_show.specs.Outcomes.{Says};

@@ -30,7 +30,10 @@ defines_here ts = short_after (skipped ts)
 
 -- names, `:=` and the values that they are declared with
 unfoldable pub define_at : Bool → Lexemes → Option (Stmt Span × Lexemes)
-define_at header ts = option_and_then (λ ns. option_and_then (λ ys. Some (define (span_to ts ys.1) ns.0 ys.0, ys.1)) (at span_to (read_exprs header) (rest_of ns.1))) (at span_to read_names ts)
+define_at header ts =
+    option_and_then
+    (λ ns. option_and_then (λ ys. Some (define (span_to ts ys.1) ns.0 ys.0, ys.1))
+    (at span_to (read_exprs header) (rest_of ns.1))) (at span_to read_names ts)
 
 -- the expression of a statement that is one alone
 abbrev pub evaluated : Stmt Span → Option (Expr Span)
@@ -53,7 +56,8 @@ abbrev pub range_here : Lexemes → Bool
 range_here (lex s (assign None) ∷ lex c key_range ∷ ts) = true
 range_here _ = false
 
-unfoldable pub for_body_at : Lexemes → StmtOption Span → ExprOption Span → StmtOption Span → Lexemes → Option (Stmt Span × Lexemes)
+unfoldable pub for_body_at : Lexemes → StmtOption Span → ExprOption Span → StmtOption Span → Lexemes →
+    Option (Stmt Span × Lexemes)
 for_body_at whole i t p ts = run (at span_to) (for_body span_to whole i t p ts)
 
 unfoldable pub for_post_at : Lexemes → StmtOption Span → ExprOption Span → Lexemes → Option (Stmt Span × Lexemes)
@@ -74,19 +78,23 @@ for_clause_at whole ts = run (at span_to) (ask read_clause ts (λ c r. for_after
 -- ---- `if`
 
 -- an arm with its span
-abbrev pub arm_seen : Lexemes → (StmtOption Span × Expr Span × Span × Stmts Span) × Lexemes → (Span × StmtOption Span × Expr Span × (Span × Stmts Span)) × Lexemes
+abbrev pub arm_seen : Lexemes → (StmtOption Span × Expr Span × Span × Stmts Span) × Lexemes →
+    (Span × StmtOption Span × Expr Span × (Span × Stmts Span)) × Lexemes
 arm_seen ts a = ((span_to ts a.1, a.0.0, a.0.1, (a.0.2, a.0.3)), a.1)
 
 unfoldable pub arm_at : Lexemes → Option ((Span × StmtOption Span × Expr Span × (Span × Stmts Span)) × Lexemes)
 arm_at ts = option_and_then (λ a. Some (arm_seen ts a)) (at span_to read_arm ts)
 
-unfoldable pub arm_body_at : Lexemes → StmtOption Span → Expr Span → Lexemes → Option ((Span × StmtOption Span × Expr Span × (Span × Stmts Span)) × Lexemes)
+unfoldable pub arm_body_at : Lexemes → StmtOption Span → Expr Span → Lexemes →
+    Option ((Span × StmtOption Span × Expr Span × (Span × Stmts Span)) × Lexemes)
 arm_body_at whole i e ts = option_and_then (λ a. Some (arm_seen whole a)) (run (at span_to) (arm_body span_to i e ts))
 
-unfoldable pub arm_test_at : Lexemes → StmtOption Span → Lexemes → Option ((Span × StmtOption Span × Expr Span × (Span × Stmts Span)) × Lexemes)
+unfoldable pub arm_test_at : Lexemes → StmtOption Span → Lexemes →
+    Option ((Span × StmtOption Span × Expr Span × (Span × Stmts Span)) × Lexemes)
 arm_test_at whole i ts = option_and_then (λ a. Some (arm_seen whole a)) (run (at span_to) (arm_test span_to i ts))
 
-abbrev pub arm_and : Span × StmtOption Span × Expr Span × (Span × Stmts Span) → Arms Span × BlockOption Span → Arms Span × BlockOption Span
+abbrev pub arm_and : Span × StmtOption Span × Expr Span × (Span × Stmts Span) → Arms Span × BlockOption Span →
+    Arms Span × BlockOption Span
 arm_and x l = (arm x.0 x.1 x.2 x.3.0 x.3.1 l.0, l.1)
 
 -- ---- `switch`
@@ -113,7 +121,8 @@ case_colon whole xs _ = None
 
 -- a clause of a `switch` with its span
 unfoldable pub case_at : Lexemes → Option ((Span × Exprs Span × Stmts Span) × Lexemes)
-case_at (lex s key_case ∷ ts) = option_and_then (λ xs. case_colon (lex s key_case ∷ ts) xs.0 xs.1) (at span_to (read_exprs false) ts)
+case_at (lex s key_case ∷ ts) =
+    option_and_then (λ xs. case_colon (lex s key_case ∷ ts) xs.0 xs.1) (at span_to (read_exprs false) ts)
 case_at (lex s key_default ∷ lex c colon ∷ ts) = case_body_at (lex s key_default ∷ lex c colon ∷ ts) no_exprs ts
 case_at _ = None
 
@@ -123,10 +132,13 @@ case_and x cs = case x.0 x.1 x.2 cs
 -- ---- declarations
 
 -- a spec with its span
-unfoldable pub spec_at : Bool → Lexemes → Option ((Span × List (NameAt Span) × Option (TypeExpr Span) × Exprs Span) × Lexemes)
-spec_at constant ts = option_and_then (λ x. Some ((span_to ts x.1, x.0.0, x.0.1, x.0.2), x.1)) (at span_to (read_spec constant) ts)
+unfoldable pub spec_at : Bool → Lexemes →
+    Option ((Span × List (NameAt Span) × Option (TypeExpr Span) × Exprs Span) × Lexemes)
+spec_at constant ts =
+    option_and_then (λ x. Some ((span_to ts x.1, x.0.0, x.0.1, x.0.2), x.1)) (at span_to (read_spec constant) ts)
 
-abbrev pub spec_and : Span × List (NameAt Span) × Option (TypeExpr Span) × Exprs Span → ValueSpecs Span → ValueSpecs Span
+abbrev pub spec_and : Span × List (NameAt Span) × Option (TypeExpr Span) × Exprs Span → ValueSpecs Span →
+    ValueSpecs Span
 spec_and x ss = spec x.0 x.1 x.2 x.3 ss
 
 abbrev pub is_equals : Terminal → Bool

@@ -91,7 +91,8 @@ fn arm_test<'a, F: Fn(&[Token]) -> Taken>(
 ) -> Reading<'a, Arm>
     requires reads { ReadsBelow (F.pre bodies.now.read) (F.post bodies.now.read) bodies.now.limit }
     requires within { length tokens.now ≤ bodies.now.limit }
-    ensures gives { Gives (λ x. (arm_of x.0, lexemes x.1.now)) result (arm_test_at (lexemes whole.now) (boxed_stmt_option_of first_stmt) (lexemes tokens.now)) }
+    ensures gives { Gives (λ x. (arm_of x.0, lexemes x.1.now)) result
+        (arm_test_at (lexemes whole.now) (boxed_stmt_option_of first_stmt) (lexemes tokens.now)) }
     ensures shorter { Shorter (λ x. x.1.now) result tokens.now }
 {
     let Some((test, left)) = expression(tokens, true, bodies)? else {
@@ -111,7 +112,8 @@ fn arm_body<'a, F: Fn(&[Token]) -> Taken>(
 ) -> Reading<'a, Arm>
     requires reads { ReadsBelow (F.pre bodies.now.read) (F.post bodies.now.read) bodies.now.limit }
     requires within { length tokens.now ≤ bodies.now.limit }
-    ensures gives { Gives (λ x. (arm_of x.0, lexemes x.1.now)) result (arm_body_at (lexemes whole.now) (boxed_stmt_option_of first_stmt) (expr_of test.value) (lexemes tokens.now)) }
+    ensures gives { Gives (λ x. (arm_of x.0, lexemes x.1.now)) result
+        (arm_body_at (lexemes whole.now) (boxed_stmt_option_of first_stmt) (expr_of test.value) (lexemes tokens.now)) }
     ensures shorter { Shorter (λ x. x.1.now) result tokens.now }
 {
     let Some((body, left)) = block(tokens, bodies)? else {
@@ -169,7 +171,8 @@ fn switch_tag<'a, F: Fn(&[Token]) -> Taken>(
 ) -> Reading<'a, Stmt>
     requires reads { ReadsBelow (F.pre bodies.now.read) (F.post bodies.now.read) bodies.now.limit }
     requires within { length tokens.now ≤ bodies.now.limit }
-    ensures gives { Gives (λ x. (stmt_of x.0, lexemes x.1.now)) result (switch_tag_at (lexemes whole.now) (boxed_stmt_option_of first_stmt) (lexemes tokens.now)) }
+    ensures gives { Gives (λ x. (stmt_of x.0, lexemes x.1.now)) result
+        (switch_tag_at (lexemes whole.now) (boxed_stmt_option_of first_stmt) (lexemes tokens.now)) }
     ensures shorter { Shorter (λ x. x.1.now) result tokens.now }
 {
     if let Terminal::Brace = first(tokens) {
@@ -196,7 +199,9 @@ fn switch_body<'a, F: Fn(&[Token]) -> Taken>(
 ) -> Reading<'a, Stmt>
     requires reads { ReadsBelow (F.pre bodies.now.read) (F.post bodies.now.read) bodies.now.limit }
     requires within { length tokens.now ≤ bodies.now.limit }
-    ensures gives { Gives (λ x. (stmt_of x.0, lexemes x.1.now)) result (switch_body_at (lexemes whole.now) (boxed_stmt_option_of first_stmt) (boxed_expr_option_of tag) (lexemes tokens.now)) }
+    ensures gives { Gives (λ x. (stmt_of x.0, lexemes x.1.now)) result
+        (switch_body_at (lexemes whole.now) (boxed_stmt_option_of first_stmt) (boxed_expr_option_of tag)
+        (lexemes tokens.now)) }
     ensures shorter { Shorter (λ x. x.1.now) result tokens.now }
 {
     let Some((cases, left)) = case_list(tokens, bodies)? else {
@@ -286,7 +291,8 @@ fn case_body<'a, F: Fn(&[Token]) -> Taken>(
 ) -> Reading<'a, Case>
     requires reads { ReadsBelow (F.pre bodies.now.read) (F.post bodies.now.read) bodies.now.limit }
     requires below { length tokens.now < bodies.now.limit }
-    ensures gives { Gives (λ x. (case_of x.0, lexemes x.1.now)) result (case_body_at (lexemes whole.now) (exprs_from (map expr_of values.items)) (lexemes tokens.now)) }
+    ensures gives { Gives (λ x. (case_of x.0, lexemes x.1.now)) result
+        (case_body_at (lexemes whole.now) (exprs_from (map expr_of values.items)) (lexemes tokens.now)) }
     ensures within { Within (λ x. x.1.now) result tokens.now }
 {
     let Some((body, left)) = statements(tokens, bodies)? else {

@@ -54,7 +54,8 @@ fn file_decl<'a>(
     tokens: &'a [Token],
     constant: bool,
 ) -> Reading<'a, (bool, Vec<VarSpec>)>
-    ensures gives { Gives (λ x. ((x.0.0, specs_from (map var_spec_of x.0.1.items)), lexemes x.1.now)) result (at span_to (read_decl constant) (lexemes tokens.now)) }
+    ensures gives { Gives (λ x. ((x.0.0, specs_from (map var_spec_of x.0.1.items)), lexemes x.1.now)) result
+        (at span_to (read_decl constant) (lexemes tokens.now)) }
     ensures shorter { Shorter (λ x. x.1.now) result tokens.now }
 {
     let limit = tokens.len();
@@ -137,7 +138,8 @@ fn decl<'a, F: Fn(&[Token]) -> Taken>(
 ) -> Reading<'a, (bool, Vec<VarSpec>)>
     requires reads { ReadsBelow (F.pre bodies.now.read) (F.post bodies.now.read) bodies.now.limit }
     requires within { length tokens.now ≤ bodies.now.limit }
-    ensures gives { Gives (λ x. ((x.0.0, specs_from (map var_spec_of x.0.1.items)), lexemes x.1.now)) result (at span_to (read_decl constant) (lexemes tokens.now)) }
+    ensures gives { Gives (λ x. ((x.0.0, specs_from (map var_spec_of x.0.1.items)), lexemes x.1.now)) result
+        (at span_to (read_decl constant) (lexemes tokens.now)) }
     ensures shorter { Shorter (λ x. x.1.now) result tokens.now }
 {
     let Terminal::Paren = first(tokens) else {
@@ -166,7 +168,8 @@ fn spec_list<'a, F: Fn(&[Token]) -> Taken>(
 ) -> Reading<'a, Vec<VarSpec>>
     requires reads { ReadsBelow (F.pre bodies.now.read) (F.post bodies.now.read) bodies.now.limit }
     requires within { length tokens.now ≤ bodies.now.limit }
-    ensures gives { Gives (λ x. (specs_from (map var_spec_of x.0.items), lexemes x.1.now)) result (at span_to (read_specs constant) (lexemes tokens.now)) }
+    ensures gives { Gives (λ x. (specs_from (map var_spec_of x.0.items), lexemes x.1.now)) result
+        (at span_to (read_specs constant) (lexemes tokens.now)) }
     ensures within { Within (λ x. x.1.now) result tokens.now }
 {
     let mut items = Vec::new(bodies.room.alloc);

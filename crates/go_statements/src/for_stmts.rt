@@ -49,7 +49,8 @@ fn for_clause<'a, F: Fn(&[Token]) -> Taken>(
     requires reads { ReadsBelow (F.pre bodies.now.read) (F.post bodies.now.read) bodies.now.limit }
     requires within { length tokens.now ≤ bodies.now.limit }
     requires begins { first_of (lexemes tokens.now) ≢ Terminal.Range }
-    ensures gives { Gives (λ x. (stmt_of x.0, lexemes x.1.now)) result (for_clause_at (lexemes whole.now) (lexemes tokens.now)) }
+    ensures gives { Gives (λ x. (stmt_of x.0, lexemes x.1.now)) result
+        (for_clause_at (lexemes whole.now) (lexemes tokens.now)) }
     ensures shorter { Shorter (λ x. x.1.now) result tokens.now }
 {
     if defines(tokens) {
@@ -102,7 +103,8 @@ fn for_plain<'a, F: Fn(&[Token]) -> Taken>(
 ) -> Reading<'a, Stmt>
     requires reads { ReadsBelow (F.pre bodies.now.read) (F.post bodies.now.read) bodies.now.limit }
     requires within { length tokens.now ≤ bodies.now.limit }
-    ensures gives { Gives (λ x. (stmt_of x.0, lexemes x.1.now)) result (for_plain_at (lexemes whole.now) (stmt_of first_stmt) (lexemes tokens.now)) }
+    ensures gives { Gives (λ x. (stmt_of x.0, lexemes x.1.now)) result
+        (for_plain_at (lexemes whole.now) (stmt_of first_stmt) (lexemes tokens.now)) }
     ensures shorter { Shorter (λ x. x.1.now) result tokens.now }
 {
     if let Terminal::Semicolon = first(tokens) {
@@ -126,7 +128,8 @@ fn for_test<'a, F: Fn(&[Token]) -> Taken>(
 ) -> Reading<'a, Stmt>
     requires reads { ReadsBelow (F.pre bodies.now.read) (F.post bodies.now.read) bodies.now.limit }
     requires within { length tokens.now ≤ bodies.now.limit }
-    ensures gives { Gives (λ x. (stmt_of x.0, lexemes x.1.now)) result (for_test_at (lexemes whole.now) (boxed_stmt_option_of first_stmt) (lexemes tokens.now)) }
+    ensures gives { Gives (λ x. (stmt_of x.0, lexemes x.1.now)) result
+        (for_test_at (lexemes whole.now) (boxed_stmt_option_of first_stmt) (lexemes tokens.now)) }
     ensures shorter { Shorter (λ x. x.1.now) result tokens.now }
 {
     if let Terminal::Semicolon = first(tokens) {
@@ -153,7 +156,9 @@ fn for_post<'a, F: Fn(&[Token]) -> Taken>(
 ) -> Reading<'a, Stmt>
     requires reads { ReadsBelow (F.pre bodies.now.read) (F.post bodies.now.read) bodies.now.limit }
     requires within { length tokens.now ≤ bodies.now.limit }
-    ensures gives { Gives (λ x. (stmt_of x.0, lexemes x.1.now)) result (for_post_at (lexemes whole.now) (boxed_stmt_option_of first_stmt) (boxed_expr_option_of test) (lexemes tokens.now)) }
+    ensures gives { Gives (λ x. (stmt_of x.0, lexemes x.1.now)) result
+        (for_post_at (lexemes whole.now) (boxed_stmt_option_of first_stmt) (boxed_expr_option_of test)
+        (lexemes tokens.now)) }
     ensures shorter { Shorter (λ x. x.1.now) result tokens.now }
 {
     if let Terminal::Brace = first(tokens) {
@@ -178,7 +183,9 @@ fn for_body<'a, F: Fn(&[Token]) -> Taken>(
 ) -> Reading<'a, Stmt>
     requires reads { ReadsBelow (F.pre bodies.now.read) (F.post bodies.now.read) bodies.now.limit }
     requires within { length tokens.now ≤ bodies.now.limit }
-    ensures gives { Gives (λ x. (stmt_of x.0, lexemes x.1.now)) result (for_body_at (lexemes whole.now) (boxed_stmt_option_of first_stmt) (boxed_expr_option_of test) (boxed_stmt_option_of post) (lexemes tokens.now)) }
+    ensures gives { Gives (λ x. (stmt_of x.0, lexemes x.1.now)) result
+        (for_body_at (lexemes whole.now) (boxed_stmt_option_of first_stmt) (boxed_expr_option_of test)
+        (boxed_stmt_option_of post) (lexemes tokens.now)) }
     ensures shorter { Shorter (λ x. x.1.now) result tokens.now }
 {
     let Some((body, left)) = block(tokens, bodies)? else {
@@ -201,7 +208,8 @@ fn range_body<'a, F: Fn(&[Token]) -> Taken>(
 ) -> Reading<'a, Stmt>
     requires reads { ReadsBelow (F.pre bodies.now.read) (F.post bodies.now.read) bodies.now.limit }
     requires within { length tokens.now ≤ bodies.now.limit }
-    ensures gives { Gives (λ x. (stmt_of x.0, lexemes x.1.now)) result (range_at (lexemes whole.now) (range_left_of left_side) (lexemes tokens.now)) }
+    ensures gives { Gives (λ x. (stmt_of x.0, lexemes x.1.now)) result
+        (range_at (lexemes whole.now) (range_left_of left_side) (lexemes tokens.now)) }
     ensures shorter { Shorter (λ x. x.1.now) result tokens.now }
 {
     let Some((over, left)) = expression(tokens, true, bodies)? else {

@@ -27,7 +27,8 @@ pub(crate) fn simple_stmt<'a, F: Fn(&[Token]) -> Taken>(
 ) -> Reading<'a, Stmt>
     requires reads { ReadsBelow (F.pre bodies.now.read) (F.post bodies.now.read) bodies.now.limit }
     requires within { length tokens.now ≤ bodies.now.limit }
-    ensures gives { Gives (λ x. (stmt_of x.0, lexemes x.1.now)) result (at span_to (read_simple header) (lexemes tokens.now)) }
+    ensures gives { Gives (λ x. (stmt_of x.0, lexemes x.1.now)) result
+        (at span_to (read_simple header) (lexemes tokens.now)) }
     ensures shorter { Shorter (λ x. x.1.now) result tokens.now }
 {
     if defines(tokens) {
@@ -92,7 +93,9 @@ pub(crate) fn simple_after<'a, F: Fn(&[Token]) -> Taken>(
 ) -> Reading<'a, Stmt>
     requires reads { ReadsBelow (F.pre bodies.now.read) (F.post bodies.now.read) bodies.now.limit }
     requires within { length tokens.now ≤ bodies.now.limit }
-    ensures gives { Gives (λ x. (stmt_of x.0, lexemes x.1.now)) result (at span_to (read_simple_after header (lexemes whole.now) (exprs_from (map expr_of exprs.items))) (lexemes tokens.now)) }
+    ensures gives { Gives (λ x. (stmt_of x.0, lexemes x.1.now)) result
+        (at span_to (read_simple_after header (lexemes whole.now) (exprs_from (map expr_of exprs.items)))
+        (lexemes tokens.now)) }
     ensures within { Within (λ x. x.1.now) result tokens.now }
 {
     if let Terminal::Assign(op) = first(tokens) {

@@ -1,6 +1,6 @@
 //! Statements and blocks (Go specification, Statements, Blocks).
 
-ghost use Rattle.std.specs.Prelude.{◌≡◌, map, ◌<◌, ◌≤◌, length};
+ghost use Rattle.std.specs.Prelude.{◌≡◌, ◌<◌, ◌≤◌, length};
 ghost use Rattle.go_tree.specs.Tree.{empty};
 ghost use Rattle.go_tree.specs.View.{block_of, stmt_of, stmts_of};
 ghost use Rattle.go_words.specs.Terminals.{lexemes};

@@ -1,5 +1,6 @@
-// Copies of expressions. Operands are put in their boxes at once: a step that drops an expression which
-// stands in no box or list is dear to check.
+//! Copies of expressions. Operands are put in their boxes at once: a step that drops an expression which
+//! stands in no box or list is dear to check.
+
 ghost use Rattle.std.specs.Prelude.{◌≡◌, IfOk};
 ghost use Rattle.go_tree.specs.View.{expr_of, exprs_of, boxed_expr_option_of, plain_expr_option_of, value_of, elem_of, elems_of};
 

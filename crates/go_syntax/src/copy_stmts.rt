@@ -1,5 +1,6 @@
-// Copies of statements. What may fail comes before an expression that stands in no box or list: a step
-// that drops one is dear to check.
+//! Copies of statements. What may fail comes before an expression that stands in no box or list: a step
+//! that drops one is dear to check.
+
 ghost use Rattle.std.specs.Prelude.{◌≡◌, IfOk};
 ghost use Rattle.go_tree.specs.View.{block_of, held_block_option_of, stmt_of, stmts_of, boxed_stmt_option_of, range_left_of, arm_of, arms_of, case_of, cases_of, const_spec_of, const_specs_of, var_spec_of, var_specs_of};
 

@@ -1,4 +1,5 @@
-// Copies of names, types and signatures.
+//! Copies of names, types and signatures.
+
 ghost use Rattle.std.specs.Prelude.{◌≡◌, IfOk, map};
 ghost use Rattle.std.specs.Option.{option_map};
 ghost use Rattle.go_tree.specs.View.{type_of, fields_of, field_of, param_of, sig_of};

@@ -11,14 +11,14 @@ use Rattle.go_types.specs.Types.{GoType, basic, slice_of, map_of, struct_of, unt
 use Rattle.go_types.specs.Defined.{Defined}
 use Rattle.go_types.specs.Entities.{Builtin, Append, Cap, Copy, Delete, Len, Make, New, Panic, Print, Println, Recover, exact}
 use Rattle.go_types.specs.Operands.{Operand, value, Typed}
-use Rattle.go_kernel.specs.Kernel.{Name, ImportPath, Value, Kind, Slot, InFrame, InCell, temporary, Func, code, in_cells, Term, Vals, Local, Both, Prim, Let, Alone, result_name, named_result}
+use Rattle.go_kernel.specs.Kernel.{Name, ImportPath, Slot, InFrame, InCell, temporary, code, in_cells, Term, Vals, Local, Both, Prim}
 use Rattle.go_kernel.specs.Kernel as k
 use Rattle.go_kernel.specs.Forms.{give_slots, slot_names, return_to, return_to_slots}
 use Rattle.go_kernel.specs.Scope.{has, has_all, has_slots, slot_name, FreeNames, FreeSlots, Scoped}
 use Rattle.const_eval.specs.declared.kinds.Kind.TheVariants as kind
 use Rattle.go_types.specs.Relations.{is_whole_number}
 use Rattle.go_translation.specs.Values.{kind_at}
-use Rattle.go_translation.specs.Places.{Root, nowhere, in_package, pointed, at_index, at_key, Place, operands, operand_count, fields_of, field_address, pointed_address, stored_in_frame, stored_by_pointer, read_place, store_at, address_of, temporaries, local_values, operand_counts, all_operands, stores, assignment, update}
+use Rattle.go_translation.specs.Places.{Root, nowhere, in_package, pointed, at_index, at_key, Place, operands, operand_count, fields_of, field_address, read_place, store_at, address_of, temporaries, local_values, operand_counts, all_operands, stores, assignment, update}
 use Rattle.go_translation.specs.Places as root
 use Rattle.go_translation.specs.Operators.{own_type, constant_or, folded, operator_term, recovered_term, unary_term}
 use Rattle.go_translation.specs.Calls.{literal_term, is_map, keyed_term, is_slice, conversion_op, conversion_term, is_nil_value, is_untyped_constant, Callee, to_function, to_literal, to_type, to_builtin, to_nothing, make_term, new_term, named_by, builtin_term, with_receiver, call_term, defer_term}

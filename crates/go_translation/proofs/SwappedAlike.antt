@@ -5,7 +5,7 @@ use Rattle.const_eval.specs.declared.kinds.Kind.TheVariants as kind
 use Rattle.const_eval.specs.declared.consts.Const.TheVariants.{Whole}
 use Rattle.scope_names.specs.FreeNames.{names_of, defined}
 use Rattle.go_types.specs.Answers.{given, meets}
-use Rattle.go_types.specs.Types.{GoType, basic, untyped, is_untyped, GoFields, FuncType, element_of, map_parts, fields_of}
+use Rattle.go_types.specs.Types.{GoType, basic, untyped, is_untyped, GoFields, fields_of}
 use Rattle.go_types.specs.Defined.{Defined, under}
 use Rattle.go_types.specs.Entities.{exact, run, Env, meaning, exported, extend, in_block}
 use Rattle.go_types.specs.TypeNames.{func_type, written_type}
@@ -15,8 +15,8 @@ use Rattle.go_types.specs.Jumps.{is_breakable}
 use Rattle.go_types.specs.Statements.{body_binds, no_values, is_blank_name}
 use Rattle.go_types.specs.Typing.{parts, all_parts, place, places, range_declares, binds_of, new_variables, new_by_define, right_values, package_before, step_op}
 use Rattle.go_kernel.specs.Kernel as k
-use Rattle.go_kernel.specs.Kernel.{Name, ImportPath, Label, Kind, Number, Int, Truth, Nil, Slot, InFrame, InCell, Checked, Unchecked, ReadGlobal, Load, Alloc, Element, ByteAt, Slicing, MapGet, MapTry, Compare, Equal, Less, Arith, RangeMap, RangeNext, Func, in_cells, temporary, return_label, break_label, continue_label, Term, Vals, Local, Set, Both, Prim, If, Let, Loop, Leave, Catch}
-use Rattle.go_translation.specs.Values.{one_value, path_of, kind_at, as_value, constant_term, zero_of, typed_of}
+use Rattle.go_kernel.specs.Kernel.{Name, Truth, Checked, Load, Alloc, Slicing, MapGet, MapTry, Compare, Equal, in_cells, temporary, return_label, break_label, Term, Vals, Local, Both, Prim, If, Let, Leave, Catch}
+use Rattle.go_translation.specs.Values.{one_value, path_of, as_value, constant_term, zero_of, typed_of}
 use Rattle.go_translation.specs.Values as v
 use Rattle.go_translation.specs.Mentions.{Mention, Read, mentions, mentions_option, mentions_first, mentions_stmts, mentions_block, mentions_arms, mentions_cases, mentions_specs}
 use Rattle.go_translation.specs.Here.{Here, defined_here, in_inner, declaring, location, new_cells, at_body, function_of}

@@ -5,7 +5,7 @@ use Rattle.go_tree.specs.declared.operators.BinOp.TheVariants.{Add, Mul}
 use Rattle.go_tree.specs.declared.operators.UnOp.TheVariants.{Address}
 use Rattle.go_tree.specs.Tree.{Param, Expr, Stmt}
 use Rattle.go_tree.specs.File.{Decl}
-use Rattle.go_kernel.specs.Kernel.{Name, FuncName, Func, Value, Number, Int, Arith, Alloc, Load, Save, Unchecked, Emit, Println, InCell, InFrame, in_cells, temporary, named_result, result_name, return_label, Term, Vals, Local, Set, Both, Prim, Let, Leave, Within, Alone, Call, Defer, DeferLit, code}
+use Rattle.go_kernel.specs.Kernel.{Name, Func, Number, Int, Arith, Load, Save, Unchecked, Emit, Println, InCell, InFrame, in_cells, temporary, named_result, result_name, return_label, Term, Vals, Local, Set, Both, Prim, Let, Leave, Within, Call, Defer, DeferLit}
 use Rattle.go_kernel.specs.Kernel as k
 use Rattle.go_kernel.specs.Arguments.{arg, args_of}
 use Rattle.go_kernel.specs.Forms.{in_frames, return_to, return_to_slots}

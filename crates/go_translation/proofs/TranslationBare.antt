@@ -14,8 +14,8 @@ use Rattle.go_types.specs.Operands.{Operand, a_type, Typed, named_operand, liter
 use Rattle.go_types.specs.Literals.{key_type, literal_type}
 use Rattle.go_types.specs.Typing.{binds_of, new_variables, new_by_define, right_values, step_op}
 use Rattle.go_kernel.specs.Kernel as k
-use Rattle.go_kernel.specs.Kernel.{Name, ImportPath, Label, Kind, Number, Int, Truth, Nil, Slot, InFrame, InCell, Checked, Unchecked, ReadGlobal, Load, Alloc, Element, ByteAt, Slicing, MapGet, MapTry, Compare, Equal, Less, Arith, RangeMap, RangeNext, Func, in_cells, temporary, return_label, break_label, continue_label, Term, Vals, Local, Set, Both, Prim, If, Let, Loop, Leave, Catch}
-use Rattle.go_translation.specs.Values.{one_value, path_of, kind_at, as_value, constant_term, zero_of, typed_of}
+use Rattle.go_kernel.specs.Kernel.{Name, Truth, Checked, Load, Alloc, Slicing, MapGet, MapTry, Compare, Equal, in_cells, temporary, return_label, break_label, continue_label, Term, Vals, Local, Both, Prim, If, Let, Leave, Catch}
+use Rattle.go_translation.specs.Values.{one_value, path_of, as_value, zero_of, typed_of}
 use Rattle.go_translation.specs.Values as v
 use Rattle.go_translation.specs.Mentions.{Mention, Read}
 use Rattle.go_translation.specs.Here.{Here, defined_here, in_inner, declaring, new_cells, at_body, function_of}

@@ -13,14 +13,14 @@ use Rattle.go_types.specs.Types.{GoType, basic, untyped}
 use Rattle.go_types.specs.Defined.{Defined, under}
 use Rattle.go_types.specs.Entities.{run, Entity, variable, constant, stand_in, iota_name, Env, meaning, exported, Binds, extend, in_block, is_declared_here}
 use Rattle.go_types.specs.TypeNames.{type_meant, func_type, written_type}
-use Rattle.go_types.specs.Operands.{Operand, value, a_type, Typed, typed, settled, named_operand, literal_operand, spread}
+use Rattle.go_types.specs.Operands.{Operand, a_type, Typed, named_operand, literal_operand, spread}
 use Rattle.go_types.specs.Literals.{key_type, literal_type}
 use Rattle.go_types.specs.Jumps.{is_breakable}
 use Rattle.go_types.specs.Statements.{body_binds, no_values}
 use Rattle.go_types.specs.Typing.{parts, all_parts, place, range_declares, binds_of, package_before, step_op}
 use Rattle.go_kernel.specs.Kernel as k
-use Rattle.go_kernel.specs.Kernel.{Name, ImportPath, Label, Kind, Number, Int, Truth, Nil, Slot, InFrame, InCell, Checked, Unchecked, ReadGlobal, Load, Alloc, Element, ByteAt, Slicing, MapGet, MapTry, Compare, Equal, Less, Arith, RangeMap, RangeNext, Func, in_cells, temporary, return_label, break_label, continue_label, Term, Vals, Local, Set, Both, Prim, If, Let, Loop, Leave, Catch}
-use Rattle.go_translation.specs.Values.{one_value, path_of, kind_at, as_value, constant_term, zero_of, typed_of}
+use Rattle.go_kernel.specs.Kernel.{Name, ImportPath, Int, Slot, Alloc, MapGet, MapTry, RangeNext, in_cells, temporary, return_label, break_label, Term, Vals, Local, Set, Both, Prim, If, Let, Leave, Catch}
+use Rattle.go_translation.specs.Values.{one_value, path_of, as_value, constant_term, zero_of, typed_of}
 use Rattle.go_translation.specs.Values as v
 use Rattle.go_translation.specs.Mentions.{Mention, Read, mentions, mentions_stmts, mentions_block, mentions_arms, mentions_specs, is_held, is_held_param, is_pointer}
 use Rattle.go_translation.specs.Here.{Location, no_location, Here, defined_here, in_inner, declaring, location, new_cells, frame_name, BodyNames, at_body, function_of}
@@ -34,7 +34,7 @@ use Rattle.go_types.specs.Defined.{Method, methods}
 use Rattle.go_types.specs.Primary.{find_method}
 use Rattle.go_types.specs.Types.{base_of, named_type}
 use Rattle.go_types.specs.Operands as operand
-use Rattle.go_kernel.specs.Kernel.{FuncName, code, named_result, result_name}
+use Rattle.go_kernel.specs.Kernel.{code, named_result, result_name}
 use Rattle.go_kernel.specs.Scope.{has, has_all, has_slots, Scoped, slot_name}
 use Rattle.go_translation.specs.Here.{in_frame, in_cell, location_at, located_name, located_names, named_and, slot_at, slots_at, param_slots, result_slots, param_locals, result_locals, cell_name, cells_in}
 use Rattle.go_translation.specs.Calls.{receiver_term, method_on, receiver_type}

@@ -75,7 +75,8 @@ module _ {S : Type 0} where
     bare_stmt (continue_ _ b) = continue_ tt (option_map bare_name b)
     bare_stmt (inner _ b) = inner tt (bare_stmts b)
     bare_stmt (if_ _ b c) = if_ tt (bare_arms b) (bare_block_option c)
-    bare_stmt (for_ _ b c d _ f) = for_ tt (bare_stmt_option b) (bare_expr_option c) (bare_stmt_option d) tt (bare_stmts f)
+    bare_stmt (for_ _ b c d _ f) =
+        for_ tt (bare_stmt_option b) (bare_expr_option c) (bare_stmt_option d) tt (bare_stmts f)
     bare_stmt (range_ _ b c _ e) = range_ tt (bare_range_left b) (bare_expr c) tt (bare_stmts e)
     bare_stmt (switch _ b c d) = switch tt (bare_stmt_option b) (bare_expr_option c) (bare_cases d)
     bare_stmt (defer _ b) = defer tt (bare_expr b)
@@ -108,4 +109,5 @@ module _ {S : Type 0} where
 
     pub bare_value_specs : ValueSpecs S → ValueSpecs (Unit {0})
     bare_value_specs no_specs = no_specs
-    bare_value_specs (spec _ b c d e) = spec tt (map bare_name b) (option_map bare_type c) (bare_exprs d) (bare_value_specs e)
+    bare_value_specs (spec _ b c d e) =
+        spec tt (map bare_name b) (option_map bare_type c) (bare_exprs d) (bare_value_specs e)

@@ -18,7 +18,15 @@ module _ {S : Type 0} where
   bare_receiver r = record { span = tt; name = option_map bare_name r.name; pointer = r.pointer; of = bare_name r.of }
 
   abbrev pub bare_func : pure.Func S → pure.Func (Unit {0})
-  bare_func f = record { span = tt; receiver = option_map bare_receiver f.receiver; name = bare_name f.name; sig = bare_sig f.sig; body_span = tt; body = bare_stmts f.body }
+  bare_func f =
+      record {
+        span = tt;
+        receiver = option_map bare_receiver f.receiver;
+        name = bare_name f.name;
+        sig = bare_sig f.sig;
+        body_span = tt;
+        body = bare_stmts f.body;
+      }
 
   abbrev pub bare_decl : pure.Decl S → pure.Decl (Unit {0})
   bare_decl (pure.values s) = pure.values (bare_stmt s)
@@ -26,4 +34,9 @@ module _ {S : Type 0} where
   bare_decl (pure.func f) = pure.func (bare_func f)
 
   abbrev pub bare_file : pure.File S → pure.File (Unit {0})
-  bare_file f = record { package_name = bare_name f.package_name; imports = map bare_import_decl f.imports; decls = map bare_decl f.decls }
+  bare_file f =
+      record {
+        package_name = bare_name f.package_name;
+        imports = map bare_import_decl f.imports;
+        decls = map bare_decl f.decls;
+      }

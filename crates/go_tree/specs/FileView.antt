@@ -26,7 +26,14 @@ abbrev pub receiver_of : Receiver → pure.Receiver Span
 receiver_of r = record { span = r.span; name = option_map name_at_of r.name; pointer = r.pointer; of = name_at_of r.of }
 
 abbrev pub func_of : FuncDecl → pure.Func Span
-func_of f = record { span = f.span; receiver = option_map receiver_of f.receiver; name = name_at_of f.name; sig = sig_of f.sig; body_span = f.body.span; body = stmts_of f.body.stmts }
+func_of f = record {
+  span = f.span;
+  receiver = option_map receiver_of f.receiver;
+  name = name_at_of f.name;
+  sig = sig_of f.sig;
+  body_span = f.body.span;
+  body = stmts_of f.body.stmts;
+}
 
 abbrev pub decl_of : Decl → pure.Decl Span
 decl_of (Const d) = pure.values (const_decl_of d)
@@ -35,4 +42,8 @@ decl_of (Types d) = pure.types d.span d.grouped (map type_spec_of d.specs)
 decl_of (Func f) = pure.func (func_of f)
 
 abbrev pub file_of : FileTree → pure.File Span
-file_of f = record { package_name = name_at_of f.package; imports = map import_decl_of f.imports; decls = map decl_of f.decls }
+file_of f = record {
+  package_name = name_at_of f.package;
+  imports = map import_decl_of f.imports;
+  decls = map decl_of f.decls;
+}

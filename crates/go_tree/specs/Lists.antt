@@ -27,6 +27,7 @@ abbrev pub cases_from : List (Span × pure.Exprs Span × pure.Stmts Span) → pu
 cases_from [] = pure.no_cases
 cases_from (x ∷ xs) = pure.case x.0 x.1 x.2 (cases_from xs)
 
-abbrev pub specs_from : List (Span × List (pure.NameAt Span) × Option (pure.TypeExpr Span) × pure.Exprs Span) → pure.ValueSpecs Span
+abbrev pub specs_from : List (Span × List (pure.NameAt Span) × Option (pure.TypeExpr Span) × pure.Exprs Span) →
+    pure.ValueSpecs Span
 specs_from [] = pure.no_specs
 specs_from (x ∷ xs) = pure.spec x.0 x.1 x.2 x.3 (specs_from xs)

@@ -117,7 +117,8 @@ abbrev mutual
   stmt_of (s.Continue s l) = pure.continue_ s (option_map name_at_of l)
   stmt_of (s.Inner' s _ b) = pure.inner s (stmts_row b)
   stmt_of (s.If' s arms last) = pure.if_ s (arms_of arms) (block_option_of last)
-  stmt_of (s.For' s i x p s' _ b) = pure.for_ s (stmt_option_of i) (expr_option_of x) (stmt_option_of p) s' (stmts_row b)
+  stmt_of (s.For' s i x p s' _ b) =
+      pure.for_ s (stmt_option_of i) (expr_option_of x) (stmt_option_of p) s' (stmts_row b)
   stmt_of (s.Range' s l x s' _ b) = pure.range_ s (range_left_of l) (expr_of x) s' (stmts_row b)
   stmt_of (s.Switch' s i x cs) = pure.switch s (stmt_option_of i) (expr_option_of x) (cases_of cs)
   stmt_of (s.Defer s x) = pure.defer s (expr_of x)
@@ -145,7 +146,8 @@ abbrev mutual
 
   pub arms_row : {n : _} → al.Row_of-Arm n → pure.Arms Span
   arms_row al.end_of-Arm = pure.no_arms
-  arms_row (al.more_of-Arm s i x s' _ b arms) = pure.arm s (stmt_option_of i) (expr_of x) s' (stmts_row b) (arms_row arms)
+  arms_row (al.more_of-Arm s i x s' _ b arms) =
+      pure.arm s (stmt_option_of i) (expr_of x) s' (stmts_row b) (arms_row arms)
 
   pub cases_of : cl.CaseList → pure.Cases Span
   cases_of (cl.CaseList' _ cs) = cases_row cs
@@ -159,14 +161,16 @@ abbrev mutual
 
   pub const_specs_row : {n : _} → csl.Row_of-ConstSpec n → pure.ValueSpecs Span
   const_specs_row csl.end_of-ConstSpec = pure.no_specs
-  const_specs_row (csl.more_of-ConstSpec s ns t _ xs ss) = pure.spec s (map name_at_of ns) (option_map type_of t) (exprs_row xs) (const_specs_row ss)
+  const_specs_row (csl.more_of-ConstSpec s ns t _ xs ss) =
+      pure.spec s (map name_at_of ns) (option_map type_of t) (exprs_row xs) (const_specs_row ss)
 
   pub var_decl_of : vd.VarDecl → pure.Stmt Span
   var_decl_of (vd.VarDecl' s g (vsl.VarSpecList' _ ss)) = pure.var_decl s g (var_specs_row ss)
 
   pub var_specs_row : {n : _} → vsl.Row_of-VarSpec n → pure.ValueSpecs Span
   var_specs_row vsl.end_of-VarSpec = pure.no_specs
-  var_specs_row (vsl.more_of-VarSpec s ns t _ xs ss) = pure.spec s (map name_at_of ns) (option_map type_of t) (exprs_row xs) (var_specs_row ss)
+  var_specs_row (vsl.more_of-VarSpec s ns t _ xs ss) =
+      pure.spec s (map name_at_of ns) (option_map type_of t) (exprs_row xs) (var_specs_row ss)
 
 abbrev pub exprs_of : xl.ExprList → pure.Exprs Span
 exprs_of l = exprs_row (hidden-the_row-Expr-0 l.items)

@@ -1,4 +1,5 @@
-// Statements, and the entries of their lists, made of their parts, each in one place.
+//! Statements, and the entries of their lists, made of their parts, each in one place.
+
 ghost use Rattle.std.specs.Prelude.{◌≡◌, map};
 ghost use Rattle.std.specs.Option.{option_map};
 ghost use Rattle.go_tree.specs.Tree.{const_decl, var_decl, empty, eval, step, assign, define, return_, break_, continue_, inner, if_, for_, range_, switch, defer, label};

@@ -1,4 +1,5 @@
-// Expressions. Each node has the span of its source, parentheses around it left out.
+//! Expressions. Each node has the span of its source, parentheses around it left out.
+
 ghost use Rattle.std.specs.Prelude.{◌≡◌, map};
 ghost use Rattle.go_tree.specs.declared.exprs.ExprList.{out-ExprList};
 ghost use Rattle.go_tree.specs.declared.exprs.ElemList.{out-ElemList};
@@ -12,7 +13,8 @@ use crate::texts::{Name, NameAt, Text};
 use crate::types::{Sig, TypeExpr};
 
 /// How a call hands on the arguments of a variadic function's last parameter (Go specification, Passing arguments to
-/// ... parameters). What is read is `Whole` with `...` after the last argument, and `Plain` without. `Packed` and `Empty`
+/// ... parameters). What is read is `Whole` with `...` after the last argument, and `Plain` without. `Packed` and
+/// `Empty`
 /// are calls whose last argument was made of the arguments that stand in the text, or of none.
 #[derive(Clone, Copy, Debug, PartialEq, Eq)]
 pub enum Rest {

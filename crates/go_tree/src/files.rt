@@ -1,4 +1,5 @@
-// Files and their declarations.
+//! Files and their declarations.
+
 ghost use Rattle.std.specs.Prelude.{◌≡◌};
 
 use crate::spans::Span;

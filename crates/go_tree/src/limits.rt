@@ -1,4 +1,4 @@
-// Limits, and want of memory.
+//! Limits, and want of memory.
 
 /// The most bytes of one file.
 pub const MAX_FILE_BYTES: u32 = 4_194_304;

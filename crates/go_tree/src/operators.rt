@@ -1,4 +1,4 @@
-// Operators (Go specification, Operators and punctuation).
+//! Operators (Go specification, Operators and punctuation).
 
 /// An operator before its operand, `*` aside (Go specification, Operators).
 #[derive(Clone, Copy, Debug, PartialEq, Eq)]

@@ -1,4 +1,4 @@
-// Where things stand in a text.
+//! Where things stand in a text.
 
 /// The bytes from `start` up to but without `end`, counted from 0. `start` is at most `end`.
 #[derive(Clone, Copy, Debug, PartialEq, Eq)]

@@ -1,4 +1,5 @@
-// How tokens are spelled.
+//! How tokens are spelled.
+
 ghost use Rattle.std.specs.Prelude.{◌≡◌, ◌≤◌, length, take, IfOk, IsOk};
 ghost use Rattle.go_tree.specs.Spellings.{bytes_of};
 

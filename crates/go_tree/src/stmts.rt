@@ -1,4 +1,5 @@
-// Statements, and the declarations that may be statements. Each node has the span of its source.
+//! Statements, and the declarations that may be statements. Each node has the span of its source.
+
 ghost use Rattle.std.specs.Prelude.{◌≡◌, map};
 ghost use Rattle.go_tree.specs.declared.stmts.StmtList.{out-StmtList};
 ghost use Rattle.go_tree.specs.declared.stmts.ConstSpecList.{out-ConstSpecList};
@@ -215,7 +216,8 @@ impl VarSpecList {
     }
 }
 
-/// What stands before `range`: nothing, operands that are assigned, or names that are declared (Go specification, For statements with range clause).
+/// What stands before `range`: nothing, operands that are assigned, or names that are declared (Go specification, For
+/// statements with range clause).
 #[derive(Drop)]
 #[cycle(tree)]
 pub enum RangeLeft {

@@ -1,4 +1,5 @@
-// Names and texts as lists of bytes.
+//! Names and texts as lists of bytes.
+
 ghost use Rattle.std.specs.Prelude.{◌≡◌, IfOk};
 
 use crate::limits::NoMemory;

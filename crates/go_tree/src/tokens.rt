@@ -1,4 +1,4 @@
-// Tokens and comments (Go specification, Lexical elements).
+//! Tokens and comments (Go specification, Lexical elements).
 
 use crate::spans::Span;
 use crate::spellings::Spelling;

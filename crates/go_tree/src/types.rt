@@ -1,4 +1,5 @@
-// Types and signatures as they are written.
+//! Types and signatures as they are written.
+
 ghost use Rattle.std.specs.Prelude.{◌≡◌, map};
 ghost use Rattle.go_tree.specs.declared.types.FieldSpecList.{out-FieldSpecList};
 ghost use Rattle.go_tree.specs.View.{field_of, fields_of};

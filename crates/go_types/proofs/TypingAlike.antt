@@ -20,7 +20,7 @@ use Rattle.go_types.specs.Statements.{names_once, Declared, no_names, some_decla
 use mathlib.Core.Path.{ap, sym, ◌∙◌, subst}
 use Rattle.std.proofs.Common.{arith}
 use Rattle.go_tree.specs.Tree.{Fields, no_fields, field, named, pointer, slice_type, map_type, struct_type}
-use Rattle.scope_names.specs.Means.{Environment, means, is_blank}
+use Rattle.scope_names.specs.Means.{Environment, means}
 use Rattle.scope_names.specs.FreeNames.{unless_declared, names_of, declared, declared_option, arms_declared, defined, named_use, sig_names, free_type, free_fields, free_type_option, free_params, free_expr, free_exprs, free_expr_option, free_elems, free_value, free_value_option, free_stmt, free_stmts, free_stmt_option, free_block_option, free_left, free_arms, free_cases, free_specs}
 use Rattle.go_types.specs.Types.{pointer_to, slice_of, map_of, struct_of}
 use Rattle.go_types.specs.Defined.{has_keys}

@@ -11,7 +11,12 @@ digits_in base before (c ∷ cs) = digits_in base (before * base + hex_digit c) 
 
 -- what stands for an escape of one letter; another character stands for itself
 abbrev pub letter_escape : ℕ → ℕ
-letter_escape c = if nat_eq c 97 then 7 else (if nat_eq c 98 then 8 else (if nat_eq c 102 then 12 else (if nat_eq c 110 then 10 else (if nat_eq c 114 then 13 else (if nat_eq c 116 then 9 else (if nat_eq c 118 then 11 else c))))))
+letter_escape c =
+    if nat_eq c 97 then 7
+    else (if nat_eq c 98 then 8
+    else (if nat_eq c 102 then 12
+    else (if nat_eq c 110 then 10
+    else (if nat_eq c 114 then 13 else (if nat_eq c 116 then 9 else (if nat_eq c 118 then 11 else c))))))
 
 abbrev pub is_octal : ℕ → Bool
 is_octal c = nat_le 48 c && nat_lt c 56
@@ -45,4 +50,5 @@ between_quotes cs = take (length cs - 2) (drop 1 cs)
 -- the value of a string literal with this spelling
 abbrev pub text_value : List ℕ → List ℕ
 text_value [] = []
-text_value (c ∷ cs) = if nat_eq c 96 then raw_value (between_quotes (c ∷ cs)) else interpreted_value (length cs) (between_quotes (c ∷ cs))
+text_value (c ∷ cs) =
+    if nat_eq c 96 then raw_value (between_quotes (c ∷ cs)) else interpreted_value (length cs) (between_quotes (c ∷ cs))

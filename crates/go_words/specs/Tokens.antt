@@ -3,16 +3,16 @@ pub mod Characters
 pub mod Forms
 pub mod Literals
 pub mod Pieces
-use Rattle.std.specs.Prelude.{◌≡◌, ◌≢◌, ℕ, ◌+◌, ◌==◌, Bool, true, false, ◌||◌, List, [], ◌∷◌, ◌++◌, map, length, Option, Some, None, codes, bytes_eq, encode_utf8_all, if◌then◌else◌}
+use Rattle.std.specs.Prelude.{◌≡◌, ◌≢◌, ℕ, ◌+◌, ◌==◌, Bool, true, false, ◌||◌, List, [], ◌∷◌, ◌++◌, length, Option, Some, None, codes, bytes_eq, encode_utf8_all, if◌then◌else◌}
 use Rattle.std.specs.Str.{all_scalars}
 use Rattle.go_tree.specs.declared.spans.Span.{Span}
 use Rattle.go_tree.specs.declared.tokens.Token.{Token}
 use Rattle.go_tree.specs.declared.tokens.Comment.{Comment}
 use Rattle.go_tree.specs.declared.tokens.TokenKind.{TokenKind}
-use Rattle.go_tree.specs.declared.tokens.TokenKind.TheVariants.{Ident, Keyword, Operator, Integer, Float, Imaginary, Rune, Str, Inserted}
+use Rattle.go_tree.specs.declared.tokens.TokenKind.TheVariants.{Keyword, Operator, Inserted}
 use Rattle.go_words.specs.Terminals.{fallthrough, terminal_of, ends_statement}
 use Rattle.go_words.specs.Tokens.Characters.{byte_order_mark, is_listed}
-use Rattle.go_words.specs.Tokens.Pieces.{PieceKind, blanks, remark, token, Piece, IsNext, CutsTo}
+use Rattle.go_words.specs.Tokens.Pieces.{PieceKind, remark, token, Piece, IsNext, CutsTo}
 
 -- how many bytes the characters have
 abbrev pub size_of : List ℕ → ℕ
@@ -45,7 +45,8 @@ due_after at due _ word = if is_listed word 10 then None else due
 
 unfoldable pub tokens_from : ℕ → Option ℕ → List Piece → List Token
 tokens_from at due [] = inserted due
-tokens_from at due (p ∷ ps) = tokens_at at due p.kind p.word ++ tokens_from (at + size_of p.word) (due_after at due p.kind p.word) ps
+tokens_from at due (p ∷ ps) =
+    tokens_at at due p.kind p.word ++ tokens_from (at + size_of p.word) (due_after at due p.kind p.word) ps
 
 abbrev pub comments_at : ℕ → PieceKind → List ℕ → List Comment
 comments_at at remark word = record { span = span_of at word } ∷ []

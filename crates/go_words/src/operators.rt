@@ -1,4 +1,5 @@
-// Operators as they are spelled, and how tightly they bind (Go specification, Operators).
+//! Operators as they are spelled, and how tightly they bind (Go specification, Operators).
+
 ghost use Rattle.std.specs.Prelude.{◌≡◌, ◌≤◌};
 ghost use Rattle.go_words.specs.Operators.{binary_spelling, unary_spelling};
 ghost use Rattle.go_words.specs.Terminals.{level_of};

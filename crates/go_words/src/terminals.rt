@@ -1,4 +1,5 @@
-// The terminals of the grammar (Go specification, Tokens, Keywords, Operators and punctuation).
+//! The terminals of the grammar (Go specification, Tokens, Keywords, Operators and punctuation).
+
 ghost use Rattle.std.specs.Prelude.{◌≡◌, ℕ, ◌<◌, List, map, slice_index};
 ghost use Rattle.std.specs.Option.{option_map};
 ghost use Rattle.go_words.specs.Terminals.{keywords, operators, terminal_of, is_foreign, ends_statement};
@@ -162,7 +163,8 @@ static OPERATOR_ROWS: [u8; 128] = [
 
 /// The terminal of the word, where it is that of the row.
 fn row_at(table: &[(&[u8], Terminal)], at: usize, word: &[u8]) -> Option<Terminal>
-    ensures { option_map (λ t. spelled t word.now) result ≡ row_at (map (λ x. (x.0.now, spelled x.1 word.now)) table.now) at word.now }
+    ensures { option_map (λ t. spelled t word.now) result
+        ≡ row_at (map (λ x. (x.0.now, spelled x.1 word.now)) table.now) at word.now }
 {
     match table.get(at) {
         Some((known, terminal)) => {

@@ -1,14 +1,14 @@
 -- A file that is longer than what is read of it belongs to no module of the form that is built.
-use Rattle.std.proofs.Common.{◌≡◌, List, [], ◌∷◌, ℕ, ◌+◌, ◌<◌, ◌≤◌, Bool, true, false, cond, ◌&&◌, leb, length, take, map, refl, ap, sym, ◌∙◌, arith, inl, inr}
+use Rattle.std.proofs.Common.{◌≡◌, List, [], ◌∷◌, ℕ, ◌+◌, ◌<◌, Bool, true, false, cond, ◌&&◌, leb, length, take, map, refl, ap, sym, ◌∙◌, arith, inl, inr}
 use Rattle.std.specs.Prelude.{◌⊎◌, Option, Some, None, codes, bytes_eq, nat_eq}
 use Rattle.std.specs.List.{starts_with, ends_with}
 use Rattle.std.proofs.lemmas.Bool.{lt-leb, leb-true, leb-false}
 use Rattle.std.proofs.lemmas.List.{take_all, length-take}
 use Rattle.go_outline.specs.declared.found.TheConstants.{MAX_OUTLINE_BYTES}
-use Rattle.go_outline.specs.Reading.{read_file, outline_of}
+use Rattle.go_outline.specs.Reading.{outline_of}
 use Rattle.go_tree.specs.declared.limits.TheConstants.{MAX_FILE_BYTES}
 use Rattle.fix_engine.specs.ModuleFile.{module_path, middle, before_path, after_path, is_path}
-use Rattle.fix_engine.specs.Plan.{Module, Outcome, refused, planned, module_of, with_path, with_outline, plan_of, plan_of_module}
+use Rattle.fix_engine.specs.Plan.{refused, planned, module_of, with_path, with_outline, plan_of, plan_of_module}
 use Rattle.fix_io.specs.Files.{HeldFile, paths}
 use Rattle.gofix_cli.specs.Words.{lists_module}
 use Rattle.gofix_cli.specs.Files.{contents_of, front_of, front_content}

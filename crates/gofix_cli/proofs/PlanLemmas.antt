@@ -1,24 +1,21 @@
 -- From what the engine plans to what is written and answered.
-use Rattle.std.proofs.Common.{◌≡◌, List, [], ◌∷◌, ◌++◌, ℕ, zero, suc, ◌+◌, ◌<◌, ◌≤◌, Bool, true, false, cond, length, get_or, map, refl, ap, sym, ◌∙◌, arith}
+use Rattle.std.proofs.Common.{◌≡◌, List, [], ◌∷◌, ◌++◌, ℕ, suc, ◌+◌, ◌<◌, ◌≤◌, Bool, true, false, cond, length, map, refl, ap, sym, ◌∙◌, arith}
 use Rattle.std.specs.Prelude.{Option, Some, None, IfSome, All, bytes_eq, Decides}
 use Rattle.std.proofs.lemmas.Bool.Decides.{same_from_decides, Decides-like}
 use Rattle.std.proofs.lemmas.Slice.Eq.{bytes_eq-Decides}
 use Rattle.std.proofs.lemmas.List.Elements.{All-cons}
-use Rattle.std.proofs.lemmas.List.{length-map}
 use Rattle.fix_engine.specs.declared.SourceFile.{SourceFile}
 use Rattle.fix_engine.specs.declared.PlannedFile.{PlannedFile}
 use Rattle.fix_engine.specs.declared.Plan.{Plan}
 use Rattle.fix_engine.specs.declared.Detail.{Detail}
 use Rattle.fix_engine.specs.declared.Detail.TheVariants.{NotYet, NotTyped}
 use Rattle.fix_engine.specs.declared.Refusal.{Refusal}
-use Rattle.fix_engine.specs.declared.PlanFault.{PlanFault}
 use Rattle.fix_engine.specs.declared.PlanFault.TheVariants as fault
-use Rattle.fix_engine.specs.Plan.{Outcome, refused, planned, contents, changed, plan_of}
+use Rattle.fix_engine.specs.Plan.{refused, planned, contents, changed, plan_of}
 use Rattle.fix_engine.specs.Refusals.{number_of, refusal_of as of_module}
 use Rattle.fix_engine.specs.Answer.{IsPlanOf, IsFaultOf}
 use Rattle.fix_io.specs.Files.{HeldFile, paths}
 use Rattle.fix_io.specs.Writes.{writes_from}
-use Rattle.gofix_cli.specs.declared.status.Status.{Status}
 use Rattle.gofix_cli.specs.declared.status.Status.TheVariants.{Refused}
 use Rattle.gofix_cli.specs.Words.{lists_module}
 use Rattle.gofix_cli.specs.Files.{contents_of, texts_of, writes_of, AreNumbered, AreSources, AreWritesOf}

@@ -5,8 +5,8 @@ use Rattle.std.proofs.lemmas.List.{map-append, take_all, length-map, get_or-map}
 use Rattle.std.proofs.lemmas.Grind.{common_steps}
 use Rattle.fix_engine.specs.declared.SourceFile.{SourceFile}
 use Rattle.fix_engine.specs.Plan.{contents}
-use Rattle.fix_io.specs.Files.{HeldFile, paths, bytes_at, no_file}
-use Rattle.gofix_cli.specs.Files.{front_of, front_content, IsSource, AreNumbered, AreSources}
+use Rattle.fix_io.specs.Files.{HeldFile, paths, no_file}
+use Rattle.gofix_cli.specs.Files.{front_content, IsSource, AreNumbered, AreSources}
 use Rattle.gofix_cli.proofs.ApplyLemmas.{taken_more}
 
 abbrev source_content : SourceFile → List ℕ × List ℕ

@@ -1,23 +1,23 @@
 -- What the parts of a run say of its status.
-use Rattle.std.proofs.Common.{◌≡◌, ◌≢◌, List, [], ◌∷◌, ◌++◌, ℕ, zero, suc, ◌+◌, ◌<◌, ◌≤◌, Bool, true, false, cond, length, get_or, map, take, drop, refl, ap, sym, ◌∙◌, arith, inl, inr, take-append-drop, Decides}
-use Rattle.std.specs.Prelude.{◌⊎◌, Option, Some, None, IfSome, IsSomeAnd, All, codes}
+use Rattle.std.proofs.Common.{◌≡◌, List, [], ◌∷◌, ◌++◌, ℕ, zero, suc, ◌+◌, ◌<◌, true, false, length, get_or, map, take, drop, refl, ap, sym, ◌∙◌, arith, inl, inr, take-append-drop}
+use Rattle.std.specs.Prelude.{◌⊎◌, Option, Some, None, IfSome, IsSomeAnd}
 use Rattle.std.specs.Option.{option_map}
 use Rattle.std.proofs.lemmas.List.{length-map}
 use Rattle.fix_engine.specs.declared.Plan.{Plan}
 use Rattle.fix_engine.specs.declared.Refusal.{Refusal}
-use Rattle.fix_engine.specs.Plan.{Module, Outcome, refused, planned, renewed, module_of, plan_of, plan_of_module, outcome_of, made_of}
+use Rattle.fix_engine.specs.Plan.{Module, refused, planned, renewed, module_of, plan_of, plan_of_module, outcome_of, made_of}
 use Rattle.fix_engine.specs.declared.planned.Made.{Made}
 use Rattle.fix_io.specs.declared.Call.{Call}
-use Rattle.fix_io.specs.Files.{HeldFile, bytes_at, no_file}
+use Rattle.fix_io.specs.Files.{HeldFile, bytes_at}
 use Rattle.fix_io.specs.Contents.{appended, IsPartOut}
-use Rattle.fix_io.specs.Writes.{written, writes_from, with_texts, AreNewUpTo}
+use Rattle.fix_io.specs.Writes.{written, with_texts, AreNewUpTo}
 use Rattle.fix_io.proofs.WritesLemmas.{all_left, fault_left}
 use Rattle.gofix_cli.specs.declared.status.Status.{Status}
 use Rattle.gofix_cli.specs.declared.status.Status.TheVariants.{Done, Found, Usage, NoMemory, ListFault, ReadFault, Refused, WriteFault, ReportFault}
-use Rattle.gofix_cli.specs.Words.{are_accepted, lists_module}
+use Rattle.gofix_cli.specs.Words.{are_accepted}
 use Rattle.gofix_cli.specs.Lines.{IfTold}
-use Rattle.gofix_cli.specs.Files.{content_of, contents_of, texts_of, write_of, writes_of, AreWritesOf}
-use Rattle.gofix_cli.specs.Causes.{HasCause, PassedChecks, IfUnwritten, StopsReading, MayStop}
+use Rattle.gofix_cli.specs.Files.{content_of, contents_of, write_of, writes_of, AreWritesOf}
+use Rattle.gofix_cli.specs.Causes.{HasCause, PassedChecks, IfUnwritten, MayStop}
 use Rattle.gofix_cli.specs.Verdict.{Verdict, verdict_of, verdict, IsDone, IsRefused, IsAnswer, IsUpTo}
 use Rattle.gofix_cli.proofs.DoneLemmas.{planned_is_done}
 use Rattle.gofix_cli.proofs.JudgedLemmas.{refused_as, answer_as}

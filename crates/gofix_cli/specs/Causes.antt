@@ -42,6 +42,7 @@ StopsReading _ rose failed = ⊥
 -- Why there is no plan: the files aren't listed or read, or the verdict is a refusal.
 abbrev pub MayStop : Status → Type 0 → Option Call → List (List ℕ) → Option (List HeldFile) → Type 0
 MayStop ListFault rose failed listed held = rose × (failed ≡ Some call.List)
-MayStop (Refused r) rose failed listed held = IfSome held (λ files. (verdict_of files (plan_of (contents_of files) [])).status ≡ Refused r)
+MayStop (Refused r) rose failed listed held =
+    IfSome held (λ files. (verdict_of files (plan_of (contents_of files) [])).status ≡ Refused r)
 MayStop (ReadFault i) rose failed listed held = StopsReading (ReadFault i) rose failed × (lists_module listed ≡ true)
 MayStop status rose failed listed held = StopsReading status rose failed

@@ -3,7 +3,7 @@ use Rattle.std.specs.Prelude.{◌≡◌, ℕ, suc, ◌+◌, List, [], ◌∷◌,
 use Rattle.fix_engine.specs.declared.SourceFile.{SourceFile}
 use Rattle.fix_engine.specs.declared.PlannedFile.{PlannedFile}
 use Rattle.fix_engine.specs.declared.Plan.{Plan}
-use Rattle.fix_engine.specs.Plan.{Outcome, planned, contents, plan_of}
+use Rattle.fix_engine.specs.Plan.{planned, contents, plan_of}
 use Rattle.fix_io.specs.Files.{HeldFile, paths, bytes_at}
 use Rattle.fix_io.specs.Writes.{writes_from}
 use Rattle.go_tree.specs.declared.limits.TheConstants.{MAX_FILE_BYTES}
@@ -45,7 +45,8 @@ AreNumbered n [] = Unit {0}
 AreNumbered n (f ∷ fs) = (f.index ≡ n) × AreNumbered (suc n) fs
 
 -- The source files are the listed files, with what is read of their bytes where they are told.
-pub record AreSources (held : Option (List HeldFile)) (listed : List (List ℕ)) (sources : List SourceFile) : Type 0 where
+pub record AreSources (held : Option (List HeldFile)) (listed : List (List ℕ))
+    (sources : List SourceFile) : Type 0 where
   pub count : length sources ≡ length listed
   pub numbered : AreNumbered 0 sources
   pub read : IfSome held (λ files. listed ≡ paths files → contents sources ≡ map front_content files)

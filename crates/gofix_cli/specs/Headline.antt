@@ -5,7 +5,10 @@ use Rattle.fix_io.specs.Files.{HeldFile}
 use Rattle.fix_io.specs.Contents.{appended}
 use Rattle.gofix_cli.specs.Files.{contents_of}
 
--- The old files and the new ones read as well-typed packages, of which every program shows the same and ends or panics alike, each within a stated budget of the other. A run of steps leads from the old ones to the new ones, in each of which the first free use of a marked constant becomes the name that it is declared as; no use is free after the last; the bytes outside the uses that were replaced are as they were; and the report of the run was written.
+-- The old files and the new ones read as well-typed packages, of which every program shows the same and ends or panics
+-- alike, each within a stated budget of the other. A run of steps leads from the old ones to the new ones, in each of
+-- which the first free use of a marked constant becomes the name that it is declared as; no use is free after the last;
+-- the bytes outside the uses that were replaced are as they were; and the report of the run was written.
 pub record IsInlined (files : List HeldFile) (held : Option (List HeldFile)) (old new : Option (List ℕ)) : Type 0 where
   pub after : List HeldFile
   pub report : List ℕ

@@ -1,5 +1,5 @@
 -- The line that a status has.
-use Rattle.std.specs.Prelude.{ℕ, ◌<◌, List, [], ◌∷◌, ◌++◌, slice_index_or, codes}
+use Rattle.std.specs.Prelude.{ℕ, ◌<◌, List, [], ◌++◌, slice_index_or, codes}
 use Rattle.fix_engine.specs.declared.Detail.{Detail}
 use Rattle.fix_engine.specs.declared.Detail.TheVariants.{NotYet, NotTyped}
 use Rattle.gofix_cli.specs.declared.status.Status.{Status}

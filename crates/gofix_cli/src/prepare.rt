@@ -1,10 +1,10 @@
-// Listing, reading and planning. No file is changed here.
-ghost use Rattle.std.specs.Prelude.{◌≡◌, ℕ, ◌+◌, ◌^◌, ◌<◌, ◌≤◌, List, [], map, length, take, slice_index_or, All, IfOk, IfErr, OnOk, IfSome, Some, true};
-ghost use Rattle.fix_io.specs.declared.Call.{Call};
-ghost use Rattle.fix_io.specs.Files.{HeldFile, paths, bytes_at};
+//! Listing, reading and planning. No file is changed here.
+
+ghost use Rattle.std.specs.Prelude.{◌≡◌, ◌+◌, ◌<◌, ◌≤◌, length, All, IfOk, IfErr, OnOk, IfSome, true};
+ghost use Rattle.fix_io.specs.Files.{paths};
 ghost use Rattle.fix_io.specs.Causes.{Rose};
 ghost use Rattle.gofix_cli.specs.Words.{lists_module};
-ghost use Rattle.gofix_cli.specs.Files.{writes_of, IsSource, AreSources, AreWritesOf};
+ghost use Rattle.gofix_cli.specs.Files.{IsSource, AreSources, AreWritesOf};
 ghost use Rattle.gofix_cli.specs.Causes.{StopsReading, MayStop};
 ghost use Rattle.gofix_cli.specs.Lines.{IsOfFile};
 
@@ -25,7 +25,8 @@ fn lists_module<T: Tree>(tree: &T) -> bool
 fn read_file<T: Tree>(alloc: Global, tree: &mut T, i: u32) -> Result<SourceFile, Status>
     requires { i < length (T.listed tree.old) }
     ensures file { IfOk result (λ f. IsSource (T.held tree.old) (T.listed tree.old) i f) }
-    ensures stop { IfErr result (λ status. StopsReading status (Rose (T.faults tree.old) (T.faults tree.new)) (T.failed tree.new)) }
+    ensures stop { IfErr result
+        (λ status. StopsReading status (Rose (T.faults tree.old) (T.faults tree.new)) (T.failed tree.new)) }
     ensures named { IfErr result (λ status. IsOfFile status (length (T.listed tree.new))) }
     ensures same { T.held tree.new ≡ T.held tree.old }
     ensures paths { T.listed tree.new ≡ T.listed tree.old }
@@ -48,7 +49,8 @@ fn read_file<T: Tree>(alloc: Global, tree: &mut T, i: u32) -> Result<SourceFile,
 /// Reads every file in order, up to the first that stops it.
 fn read_files<T: Tree>(alloc: Global, tree: &mut T) -> Result<Vec<SourceFile>, Status>
     ensures files { IfOk result (λ sources. AreSources (T.held tree.old) (T.listed tree.old) sources.items) }
-    ensures stop { IfErr result (λ status. StopsReading status (Rose (T.faults tree.old) (T.faults tree.new)) (T.failed tree.new)) }
+    ensures stop { IfErr result
+        (λ status. StopsReading status (Rose (T.faults tree.old) (T.faults tree.new)) (T.failed tree.new)) }
     ensures named { IfErr result (λ status. IsOfFile status (length (T.listed tree.new))) }
     ensures same { T.held tree.new ≡ T.held tree.old }
     ensures paths { T.listed tree.new ≡ T.listed tree.old }
@@ -69,7 +71,9 @@ pub fn prepare<T: Tree>(alloc: Global, tree: &mut T) -> Result<Plan, Status>
     ensures paths { OnOk result (IfSome (T.held tree.new) (λ files. T.listed tree.new ≡ paths files)) }
     ensures module { OnOk result (lists_module (T.listed tree.new) ≡ true) }
     ensures named { IfErr result (λ status. IsOfFile status (length (T.listed tree.new))) }
-    ensures stop { IfErr result (λ status. MayStop status (Rose (T.faults tree.old) (T.faults tree.new)) (T.failed tree.new) (T.listed tree.new) (T.held tree.old)) }
+    ensures stop { IfErr result
+        (λ status. MayStop status (Rose (T.faults tree.old) (T.faults tree.new)) (T.failed tree.new) (T.listed tree.new)
+        (T.held tree.old)) }
     ensures same { T.held tree.new ≡ T.held tree.old }
     ensures later { T.faults tree.old ≤ T.faults tree.new }
 {

@@ -1,5 +1,6 @@
-// The line of a status, written in pieces and without memory.
-ghost use Rattle.std.specs.Prelude.{◌≡◌, ℕ, ◌<◌, ◌≤◌, List, [], ◌∷◌, ◌++◌, length, OnOk, OnErr};
+//! The line of a status, written in pieces and without memory.
+
+ghost use Rattle.std.specs.Prelude.{◌≡◌, ◌<◌, ◌≤◌, [], ◌∷◌, ◌++◌, length, OnOk, OnErr};
 ghost use Rattle.fix_io.specs.Causes.{Rose, HasPlainCause};
 ghost use Rattle.fix_io.specs.Contents.{appended, IsPartOut};
 ghost use Rattle.gofix_cli.specs.Lines.{line_of, refusal_line, IsOfFile};
@@ -10,7 +11,8 @@ use fix_io::{Failed, Sink, Tree, write_all};
 
 fn tell_file<S: Sink>(out: &mut S, front: &str, path: &str) -> Result<(), Failed>
     ensures ok { OnOk result (S.contents out.new ≡ appended (S.contents out.old) (front.now ++ path.now ++ 10 ∷ [])) }
-    ensures err { OnErr result (IsPartOut (S.contents out.old) (S.contents out.new) (front.now ++ path.now ++ 10 ∷ [])) }
+    ensures err { OnErr result
+        (IsPartOut (S.contents out.old) (S.contents out.new) (front.now ++ path.now ++ 10 ∷ [])) }
     ensures cause { HasPlainCause (S.faults out.old) (S.faults out.new) result }
 {
     match write_all(out, front.as_bytes()) {
@@ -41,7 +43,8 @@ fn tell_refusal<S: Sink>(out: &mut S, detail: Detail) -> Result<(), Failed>
 fn tell_line<T: Tree, S: Sink>(status: Status, tree: &T, out: &mut S) -> Result<(), Failed>
     requires { IsOfFile status (length (T.listed tree.now)) }
     ensures ok { OnOk result (S.contents out.new ≡ appended (S.contents out.old) (line_of status (T.listed tree.now))) }
-    ensures err { OnErr result (IsPartOut (S.contents out.old) (S.contents out.new) (line_of status (T.listed tree.now))) }
+    ensures err { OnErr result
+        (IsPartOut (S.contents out.old) (S.contents out.new) (line_of status (T.listed tree.now))) }
     ensures cause { HasPlainCause (S.faults out.old) (S.faults out.new) result }
 {
     match status {
@@ -62,7 +65,8 @@ fn tell_line<T: Tree, S: Sink>(status: Status, tree: &T, out: &mut S) -> Result<
 pub fn tell_status<T: Tree, S: Sink>(status: Status, tree: &T, out: &mut S)
     requires { IsOfFile status (length (T.listed tree.now)) }
     ensures part { IsPartOut (S.contents out.old) (S.contents out.new) (line_of status (T.listed tree.now)) }
-    ensures whole { ¬ Rose (S.faults out.old) (S.faults out.new) → S.contents out.new ≡ appended (S.contents out.old) (line_of status (T.listed tree.now)) }
+    ensures whole { ¬ Rose (S.faults out.old) (S.faults out.new) →
+        S.contents out.new ≡ appended (S.contents out.old) (line_of status (T.listed tree.now)) }
     ensures later { S.faults out.old ≤ S.faults out.new }
 {
     match tell_line(status, tree, out) {

@@ -1,4 +1,5 @@
-// Runs of the top call over a tree and a sink in memory.
+//! Runs of the top call over a tree and a sink in memory.
+
 use crate::status::Status;
 use crate::top::gofix;
 use fix_io::{MemFile, MemSink, MemTree, Tree};

@@ -1,5 +1,6 @@
-// The top call.
-ghost use Rattle.std.specs.Prelude.{◌≡◌, ◌≢◌, ◌↔◌, ℕ, map, IfSome, Some, string_bytes, false};
+//! The top call.
+
+ghost use Rattle.std.specs.Prelude.{◌≡◌, ◌↔◌, ℕ, map, IfSome, Some, string_bytes, false};
 ghost use Rattle.fix_io.specs.Causes.{Rose};
 ghost use Rattle.fix_io.specs.Contents.{appended, IsPartOut};
 ghost use Rattle.gofix_cli.specs.Words.{are_accepted};
@@ -24,16 +25,33 @@ pub fn gofix<T: Tree, S: Sink>(alloc: Global, words: &[String], tree: &mut T, ou
 
     // What a status says of the files that were held.
     ensures unwritten { IfUnwritten result (T.held tree.new ≡ T.held tree.old) }
-    ensures done { result ≡ Status.Done → IfSome (T.held tree.old) (λ files. let v = verdict (map string_bytes words.now) files in IsDone files v × (T.held tree.new ≡ Some v.files)) }
-    ensures headline { result ≡ Status.Done → IfSome (T.held tree.old) (λ files. IsInlined files (T.held tree.new) (S.contents out.old) (S.contents out.new)) }
-    ensures refused { (r : _) → result ≡ Status.Refused r → IfSome (T.held tree.old) (λ files. IsRefused (map string_bytes words.now) files r) }
-    ensures write_fault { (i : ℕ) → result ≡ Status.WriteFault i → IfSome (T.held tree.old) (λ files. IsUpTo i files (verdict (map string_bytes words.now) files) (T.held tree.new)) }
-    ensures report_fault { result ≡ Status.ReportFault → IfSome (T.held tree.old) (λ files. let v = verdict (map string_bytes words.now) files in IsDone files v × (T.held tree.new ≡ Some v.files) × IsPartOut (S.contents out.old) (S.contents out.new) v.bytes) }
+    ensures done { result ≡ Status.Done →
+        IfSome (T.held tree.old)
+        (λ files. let v = verdict (map string_bytes words.now) files in IsDone files v
+        × (T.held tree.new ≡ Some v.files)) }
+    ensures headline { result ≡ Status.Done →
+        IfSome (T.held tree.old)
+        (λ files. IsInlined files (T.held tree.new) (S.contents out.old) (S.contents out.new)) }
+    ensures refused { (r : _) → result ≡ Status.Refused r →
+        IfSome (T.held tree.old) (λ files. IsRefused (map string_bytes words.now) files r) }
+    ensures write_fault { (i : ℕ) → result ≡ Status.WriteFault i →
+        IfSome (T.held tree.old)
+        (λ files. IsUpTo i files (verdict (map string_bytes words.now) files) (T.held tree.new)) }
+    ensures report_fault { result ≡ Status.ReportFault →
+        IfSome (T.held tree.old)
+        (λ files. let v = verdict (map string_bytes words.now) files in IsDone files v
+        × (T.held tree.new ≡ Some v.files) × IsPartOut (S.contents out.old) (S.contents out.new) v.bytes) }
 
     // What is written.
-    ensures report { result ≡ Status.Done → IfSome (T.held tree.old) (λ files. S.contents out.new ≡ appended (S.contents out.old) (verdict (map string_bytes words.now) files).bytes) }
-    ensures line { IfTold result (IsPartOut (S.contents out.old) (S.contents out.new) (line_of result (T.listed tree.new))) }
-    ensures whole_line { IfTold result (¬ Rose (S.faults out.old) (S.faults out.new) → S.contents out.new ≡ appended (S.contents out.old) (line_of result (T.listed tree.new))) }
+    ensures report { result ≡ Status.Done →
+        IfSome (T.held tree.old)
+        (λ files. S.contents out.new
+        ≡ appended (S.contents out.old) (verdict (map string_bytes words.now) files).bytes) }
+    ensures line { IfTold result
+        (IsPartOut (S.contents out.old) (S.contents out.new) (line_of result (T.listed tree.new))) }
+    ensures whole_line { IfTold result
+        (¬ Rose (S.faults out.old) (S.faults out.new) →
+        S.contents out.new ≡ appended (S.contents out.old) (line_of result (T.listed tree.new))) }
 
     // Each fault has its cause, and each answer comes only where the checks before it passed.
     ensures cause { HasCause result (Rose (T.faults tree.old) (T.faults tree.new)) (T.failed tree.new) }
@@ -41,7 +59,8 @@ pub fn gofix<T: Tree, S: Sink>(alloc: Global, words: &[String], tree: &mut T, ou
     ensures passed { PassedChecks result (T.listed tree.new) }
 
     // Without a fault and with memory, the verdict is answered.
-    ensures complete { ¬ Rose (T.faults tree.old) (T.faults tree.new) → ¬ Rose (S.faults out.old) (S.faults out.new) → IfSome (T.held tree.old) (λ files. IsAnswer (map string_bytes words.now) files result) }
+    ensures complete { ¬ Rose (T.faults tree.old) (T.faults tree.new) → ¬ Rose (S.faults out.old) (S.faults out.new) →
+        IfSome (T.held tree.old) (λ files. IsAnswer (map string_bytes words.now) files result) }
 {
     if !are_accepted(words) {
         tell_status(Status::Usage, tree, out);

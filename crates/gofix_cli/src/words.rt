@@ -1,4 +1,5 @@
-// The words after the program's name.
+//! The words after the program's name.
+
 ghost use Rattle.std.specs.Prelude.{◌≡◌, map, string_bytes};
 ghost use Rattle.gofix_cli.specs.Words.{are_accepted};
 

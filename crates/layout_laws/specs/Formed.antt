@@ -1,4 +1,5 @@
--- Trees that the grammar forms: their names and literals are tokens, lists have an entry where the grammar wants one, and a
+-- Trees that the grammar forms: their names and literals are tokens, lists have an entry where the grammar wants one,
+-- and a
 -- literal of a function is called at once and isn't variadic (Go specification, Types, Expressions, Statements).
 use Rattle.std.specs.Prelude.{◌≡◌, ◌⊎◌, ℕ, Bool, true, false, List, [], ◌∷◌, Option, Some, None}
 use Rattle.std.specs.Str.{IsUtf8, chars}
@@ -213,7 +214,8 @@ module _ {S : Type 0} where
 
     pub FormedArms : Arms S → Type 0
     FormedArms no_arms = Unit {0}
-    FormedArms (arm _ first t _ body arms) = FormedPart first × (is_func_lit t ≡ false) × FormedExpr t × FormedStmts body × FormedArms arms
+    FormedArms (arm _ first t _ body arms) = FormedPart first × (is_func_lit t ≡ false) × FormedExpr t
+        × FormedStmts body × FormedArms arms
 
     pub FormedBlock : BlockOption S → Type 0
     FormedBlock no_block = Unit {0}
@@ -231,7 +233,8 @@ module _ {S : Type 0} where
     pub FormedSpecs : Bool → ValueSpecs S → Type 0
     FormedSpecs constant no_specs = Unit {0}
     FormedSpecs constant (spec _ ns t xs ss) =
-        HasNames ns × FormedNames ns × FormedTypeOption t × FormedExprs xs × FormedSpec constant t xs × FormedSpecs constant ss
+        HasNames ns × FormedNames ns × FormedTypeOption t × FormedExprs xs × FormedSpec constant t xs
+        × FormedSpecs constant ss
 
   -- an expression other than a literal of a function
   abbrev pub FormedOperand : Expr S → Type 0

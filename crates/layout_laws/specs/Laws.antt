@@ -62,17 +62,22 @@ abbrev pub may_follow : List ℕ → Bool
 may_follow [] = true
 may_follow (c ∷ cs) = not (is_word c) && not (c == 46)
 
--- Wherever the layout's text stands in front of what may follow it, these are its pieces, and their tokens are so. A text
+-- Wherever the layout's text stands in front of what may follow it, these are its pieces, and their tokens are so. A
+-- text
 -- that is cut up to the layout's first character goes on with them, for a cut is made from the left.
 pub record Stands (a : Layout) (are : Lexemes → Lexemes → Type 0) : Type 0 where
   pub characters : List ℕ
   pub pieces : List Piece
   pub scalars : all_scalars characters ≡ true
   pub encoded : encode_utf8_all characters ≡ text_of a
-  pub cut : (more : List ℕ) (others : List Piece) (rest : List ℕ) → may_follow more ≡ true → CutsTo more others rest → CutsTo (characters ++ more) (pieces ++ others) rest
-  pub tokens : (at : ℕ) (due : Option ℕ) (others : List Piece) → (place : ℕ) × (then_due : Option ℕ) × are (lexemes (tokens_from at due (pieces ++ others))) (lexemes (tokens_from place then_due others))
+  pub cut : (more : List ℕ) (others : List Piece) (rest : List ℕ) → may_follow more ≡ true → CutsTo more others rest →
+      CutsTo (characters ++ more) (pieces ++ others) rest
+  pub tokens : (at : ℕ) (due : Option ℕ) (others : List Piece) →
+      (place : ℕ) × (then_due : Option ℕ)
+      × are (lexemes (tokens_from at due (pieces ++ others))) (lexemes (tokens_from place then_due others))
 
--- The layout's text by itself has tokens, and they are so. At the end of the text stands the semicolon that is inserted there.
+-- The layout's text by itself has tokens, and they are so. At the end of the text stands the semicolon that is inserted
+-- there.
 pub record StandsAlone (a : Layout) (are : Lexemes → Lexemes → Type 0) : Type 0 where
   pub tokens : List Token
   pub of_text : TokensOf (text_of a) tokens []
@@ -81,7 +86,8 @@ pub record StandsAlone (a : Layout) (are : Lexemes → Lexemes → Type 0) : Typ
 
 -- the tokens spell the expression in any place that needs at most this level and header rule
 abbrev pub SpellsWithin : ℕ → Bool → Expr (Unit {0}) → Lexemes → Lexemes → Type 0
-SpellsWithin level header e ts r = (l : ℕ) (h : Bool) → l ≤ level → (h ≡ true → header ≡ true) → SpellsOperand nowhere l h e ts r
+SpellsWithin level header e ts r = (l : ℕ) (h : Bool) → l ≤ level → (h ≡ true → header ≡ true) →
+    SpellsOperand nowhere l h e ts r
 
 -- ---- the laws
 
@@ -106,10 +112,12 @@ last_gives no_stmts = false
 last_gives (stmt_and x no_stmts) = gives_semicolon x
 last_gives (stmt_and x (stmt_and y xs)) = last_gives (stmt_and y xs)
 
--- The tokens spell the statements: with the semicolon after them, or as they are where a brace follows, or where the text
+-- The tokens spell the statements: with the semicolon after them, or as they are where a brace follows, or where the
+-- text
 -- is empty or ends in a semicolon.
 pub record SpellsList (xs : Stmts (Unit {0})) (ts mid : Lexemes) : Type 0 where
-  pub before_semicolon : (s : Span) (r : Lexemes) → last_gives xs ≡ true → mid ≡ lex s semicolon ∷ r → SpellsStmts nowhere xs ts r
+  pub before_semicolon : (s : Span) (r : Lexemes) → last_gives xs ≡ true → mid ≡ lex s semicolon ∷ r →
+      SpellsStmts nowhere xs ts r
   pub before_brace : (s : Span) (r : Lexemes) → mid ≡ lex s end_brace ∷ r → SpellsStmts nowhere xs ts mid
   pub closed : last_gives xs ≡ false → SpellsStmts nowhere xs ts mid
 

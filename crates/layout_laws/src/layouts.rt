@@ -17,8 +17,10 @@ ghost use Rattle.layout_laws.specs.Laws.{SpellsWithin, SpellsList};
 pub fn layouts_see_no_spans()
     ensures of_type { (t : TypeExpr Span) → type_layout (bare_type t) ≡ type_layout t }
     ensures of_signature { (g : Sig Span) → sig_layout (bare_sig g) ≡ sig_layout g }
-    ensures of_expression { (e : Expr Span) (indent : List ℕ) (level : ℕ) (header closed : Bool) → operand_layout indent level header closed (bare_expr e) ≡ operand_layout indent level header closed e }
-    ensures of_statements { (xs : Stmts Span) (indent : List ℕ) (end : Option (List ℕ)) → stmts_layout indent end (bare_stmts xs) ≡ stmts_layout indent end xs }
+    ensures of_expression { (e : Expr Span) (indent : List ℕ) (level : ℕ) (header closed : Bool) →
+        operand_layout indent level header closed (bare_expr e) ≡ operand_layout indent level header closed e }
+    ensures of_statements { (xs : Stmts Span) (indent : List ℕ) (end : Option (List ℕ)) →
+        stmts_layout indent end (bare_stmts xs) ≡ stmts_layout indent end xs }
 {}
 
 /// The tokens of a well-formed tree's layout, where a newline that ends a statement is a semicolon, spell the tree,
@@ -26,8 +28,13 @@ pub fn layouts_see_no_spans()
 /// written for (Go specification, Types, Expressions, Statements, Semicolons).
 #[tactic(auto, using(crate::proofs::SpelledTypes::type_spelled, crate::proofs::SpelledTypes::sig_spelled, crate::proofs::WrittenTrees::within_spelled, crate::proofs::OpenStmts::list_spelled))]
 pub fn layouts_spell_their_trees()
-    ensures of_type { (t : TypeExpr (Unit {0})) (tokens rest : Lexemes) → HasTokens (type_layout t) tokens rest → SpellsType nowhere t tokens rest }
-    ensures of_signature { (variadic : Bool) (g : Sig (Unit {0})) (tokens rest : Lexemes) → FormedSig variadic g → HasTokens (sig_layout g) tokens rest → SpellsSig nowhere variadic g tokens rest }
-    ensures of_expression { (e : Expr (Unit {0})) (indent : List ℕ) (level : ℕ) (header : Bool) → FormedOperand e → (tokens rest : Lexemes) → HasTokens (operand_layout indent level header false e) tokens rest → SpellsWithin level header e tokens rest }
-    ensures of_statements { (xs : Stmts (Unit {0})) → FormedStmts xs → (indent : List ℕ) (tokens rest : Lexemes) → HasTokens (stmts_layout indent None xs) tokens rest → SpellsList xs tokens rest }
+    ensures of_type { (t : TypeExpr (Unit {0})) (tokens rest : Lexemes) → HasTokens (type_layout t) tokens rest →
+        SpellsType nowhere t tokens rest }
+    ensures of_signature { (variadic : Bool) (g : Sig (Unit {0})) (tokens rest : Lexemes) → FormedSig variadic g →
+        HasTokens (sig_layout g) tokens rest → SpellsSig nowhere variadic g tokens rest }
+    ensures of_expression { (e : Expr (Unit {0})) (indent : List ℕ) (level : ℕ) (header : Bool) → FormedOperand e →
+        (tokens rest : Lexemes) → HasTokens (operand_layout indent level header false e) tokens rest →
+        SpellsWithin level header e tokens rest }
+    ensures of_statements { (xs : Stmts (Unit {0})) → FormedStmts xs → (indent : List ℕ) (tokens rest : Lexemes) →
+        HasTokens (stmts_layout indent None xs) tokens rest → SpellsList xs tokens rest }
 {}

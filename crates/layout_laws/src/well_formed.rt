@@ -13,7 +13,8 @@ ghost use Rattle.layout_laws.specs.Laws.{IsSpelledType, IsSpelledSig, IsSpelledE
 #[tactic(auto, using(crate::proofs::WrittenTrees::spelled_type, crate::proofs::WrittenTrees::spelled_stmts))]
 pub fn spelled_trees_are_formed()
     ensures of_type { (t : TypeExpr Span) → IsSpelledType t → FormedType (bare_type t) }
-    ensures of_signature { (variadic : Bool) (g : Sig Span) → IsSpelledSig variadic g → FormedSig variadic (bare_sig g) }
+    ensures of_signature { (variadic : Bool) (g : Sig Span) → IsSpelledSig variadic g →
+        FormedSig variadic (bare_sig g) }
     ensures of_expression { (e : Expr Span) → IsSpelledExpr e → FormedOperand (bare_expr e) }
     ensures of_statements { (xs : Stmts Span) → IsSpelledStmts xs → FormedStmts (bare_stmts xs) }
 {}

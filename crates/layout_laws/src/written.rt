@@ -8,23 +8,31 @@ ghost use Rattle.layout_laws.specs.Formed.{FormedType, FormedSig, FormedOperand,
 ghost use Rattle.layout_laws.specs.Laid.{is_indent};
 ghost use Rattle.layout_laws.specs.Laws.{IsSpelledType, IsSpelledSig, SigIsWritten, IsSpelledExpr, IsSpelledStmts, TypeIsWritten, ExprIsWritten, StmtsAreWritten};
 
-/// For each tree that some tokens of a text spell, the tokens of its layout's text spell the tree again: an expression in
-/// any place that needs at most the level and the header rule that it is written for, with an indent of spaces and tabs.
-/// This holds of the text by itself, and wherever it stands in front of what may follow it. No token runs into the next,
+/// For each tree that some tokens of a text spell, the tokens of its layout's text spell the tree again: an expression
+/// in
+/// any place that needs at most the level and the header rule that it is written for, with an indent of spaces and
+/// tabs.
+/// This holds of the text by itself, and wherever it stands in front of what may follow it. No token runs into the
+/// next,
 /// and a semicolon is inserted exactly where a newline ends a statement (Go specification, Tokens, Semicolons).
 #[tactic(auto, using(crate::proofs::WrittenTrees::lists_written))]
 pub fn spelled_trees_are_written()
     ensures of_type { (t : TypeExpr Span) → IsSpelledType t → TypeIsWritten t }
     ensures of_signature { (variadic : Bool) (g : Sig Span) → IsSpelledSig variadic g → SigIsWritten variadic g }
-    ensures of_expression { (e : Expr Span) → IsSpelledExpr e → (indent : List ℕ) (level : ℕ) (header : Bool) → is_indent indent ≡ true → ExprIsWritten e indent level header }
-    ensures of_statements { (xs : Stmts Span) → IsSpelledStmts xs → (indent : List ℕ) → is_indent indent ≡ true → StmtsAreWritten xs indent }
+    ensures of_expression { (e : Expr Span) → IsSpelledExpr e → (indent : List ℕ) (level : ℕ) (header : Bool) →
+        is_indent indent ≡ true → ExprIsWritten e indent level header }
+    ensures of_statements { (xs : Stmts Span) → IsSpelledStmts xs → (indent : List ℕ) → is_indent indent ≡ true →
+        StmtsAreWritten xs indent }
 {}
 
 /// The same of each well-formed tree, as of one that is built from parts of others.
 #[tactic(auto, using(crate::proofs::WrittenTrees::type_written, crate::proofs::WrittenTrees::stmts_written))]
 pub fn formed_trees_are_written()
     ensures of_type { (t : TypeExpr Span) → FormedType (bare_type t) → TypeIsWritten t }
-    ensures of_signature { (variadic : Bool) (g : Sig Span) → FormedSig variadic (bare_sig g) → SigIsWritten variadic g }
-    ensures of_expression { (e : Expr Span) (indent : List ℕ) (level : ℕ) (header : Bool) → FormedOperand (bare_expr e) → is_indent indent ≡ true → ExprIsWritten e indent level header }
-    ensures of_statements { (xs : Stmts Span) (indent : List ℕ) → FormedStmts (bare_stmts xs) → is_indent indent ≡ true → StmtsAreWritten xs indent }
+    ensures of_signature { (variadic : Bool) (g : Sig Span) → FormedSig variadic (bare_sig g) →
+        SigIsWritten variadic g }
+    ensures of_expression { (e : Expr Span) (indent : List ℕ) (level : ℕ) (header : Bool) →
+        FormedOperand (bare_expr e) → is_indent indent ≡ true → ExprIsWritten e indent level header }
+    ensures of_statements { (xs : Stmts Span) (indent : List ℕ) → FormedStmts (bare_stmts xs) →
+        is_indent indent ≡ true → StmtsAreWritten xs indent }
 {}

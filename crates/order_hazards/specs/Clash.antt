@@ -1,4 +1,5 @@
--- Which arguments may not be evaluated in another order than that of the text (Go specification, "Order of evaluation").
+-- Which arguments may not be evaluated in another order than that of the text (Go specification, "Order of
+-- evaluation").
 use Rattle.order_hazards.specs.declared.facts.Class.{Class}
 use Rattle.order_hazards.specs.declared.facts.Class.TheVariants.{Steady, Looks, Acts}
 

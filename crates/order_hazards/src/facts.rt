@@ -1,3 +1,5 @@
+//! What is known of an argument, of its parameter, and of the operations of a body.
+
 ghost use Rattle.std.specs.Prelude.{◌≡◌};
 ghost use Rattle.order_hazards.specs.Items.{is_use, is_write, is_effect};
 

@@ -1,3 +1,5 @@
+//! Which argument may take its parameter's place, and which two may not change places.
+
 ghost use Rattle.std.specs.Prelude.{◌≡◌, ◌<◌, ◌↔◌, Bool, IsTrue, IfSome, length, position};
 ghost use Rattle.std.specs.List.{list_any, count_by};
 ghost use Rattle.order_hazards.specs.Items.{ListsUses, UsesAhead, IsBefore, is_use, is_write, is_effect};
@@ -45,7 +47,8 @@ fn is_droppable(row: &ParamRow) -> bool
 }
 
 fn keeps_order(row: &ParamRow, i: u32, items: &[Item], body_writes: bool) -> bool
-    ensures { IsTrue result ↔ (LooksBeforeWrites row.now i items.now body_writes × ActsOnceAndFirst row.now i items.now) }
+    ensures { IsTrue result
+        ↔ (LooksBeforeWrites row.now i items.now body_writes × ActsOnceAndFirst row.now i items.now) }
 {
     match row.class {
         Class::Steady => true,
@@ -57,7 +60,8 @@ fn keeps_order(row: &ParamRow, i: u32, items: &[Item], body_writes: bool) -> boo
 // Whether `uses` uses of parameter `i` are listed, all before the index `first`.
 fn lists_before(items: &[Item], i: u32, uses: u32, first: Option<usize>) -> bool
     requires { IfSome first (λ k. k < length items.now) }
-    ensures { (test : Item → Bool) → first ≡ position test items.now → IsTrue result ↔ (ListsUses items.now i uses × UsesAhead items.now i test) }
+    ensures { (test : Item → Bool) → first ≡ position test items.now →
+        IsTrue result ↔ (ListsUses items.now i uses × UsesAhead items.now i test) }
 {
     let end = first.unwrap_or(items.len());
     count_uses(items, i) == uses as usize && !has_use(&items[end..], i)

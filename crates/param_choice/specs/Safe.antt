@@ -14,7 +14,8 @@ pub record IsSafe (t : CallTable) (s : ℕ → Bool) : Type 0 where
   -- each may be moved as far as it alone tells
   pub alone : (i : ℕ) (r : ParamRow) → IsTrue (s i) → slice_get t.rows i ≡ Some r → IsSolo r i t.items t.body_writes
   -- a later one that it clashes with moves too, and its uses come after
-  pub ordered : (i j : ℕ) (r q : ParamRow) → IsTrue (s i) → i < j → slice_get t.rows i ≡ Some r → slice_get t.rows j ≡ Some q
+  pub ordered : (i j : ℕ) (r q : ParamRow) → IsTrue (s i) → i < j → slice_get t.rows i ≡ Some r →
+      slice_get t.rows j ≡ Some q
       → Clash r.class q.class → IsTrue (s j) × IsBefore t.items i r.uses j
   -- another parameter whose name is free in its argument moves too, so that nothing captures the name
   pub named : (i j : ℕ) → IsTrue (s i) → Contains t.names (i, j) → j ≢ i → IsTrue (s j)

@@ -1,3 +1,5 @@
+//! The greatest safe set of parameters.
+
 ghost use Rattle.std.specs.Prelude.{◌≡◌, ℕ, ◌<◌, ◌^◌, ◌↔◌, Bool, false, IsTrue, IfOk, MatchOption, MatchBool, length};
 ghost use Rattle.param_choice.specs.Chosen.{has};
 ghost use Rattle.param_choice.specs.Safe.{IsSafe, union};

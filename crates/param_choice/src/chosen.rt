@@ -1,3 +1,5 @@
+//! A chosen set of parameters.
+
 ghost use Rattle.std.specs.Prelude.{◌≡◌};
 ghost use Rattle.param_choice.specs.Chosen.{has};
 

@@ -1,2 +1,4 @@
+//! Want of memory.
+
 /// Memory was refused.
 pub type NoMemory = std::alloc::AllocError;

@@ -1,3 +1,5 @@
+//! The table of a call: a row for each parameter, and the operations of the body.
+
 ghost use Rattle.std.specs.Prelude.{◌≡◌};
 
 use order_hazards::{Item, ParamRow};

@@ -1,4 +1,5 @@
-// Packages made from files.
+//! Packages made from files.
+
 ghost use Rattle.std.specs.Prelude.{◌≡◌, length, map, IfOk, OnOk};
 ghost use Rattle.pkg_graph.specs.Views.{package_view, AreHomesOf, ArePackagesOf};
 ghost use Rattle.pkg_graph.specs.Assembly.{without_files};

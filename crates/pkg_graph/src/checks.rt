@@ -1,4 +1,5 @@
-// What is wrong with the packages of files.
+//! What is wrong with the packages of files.
+
 ghost use Rattle.std.specs.Prelude.{◌≡◌, ◌<◌, ◌^◌, true, None, ℕ, length, IfErr, OnOk};
 ghost use Rattle.pkg_graph.specs.Numbers.{AreDistinct, AreLinks, is_marked, Reaches};
 ghost use Rattle.pkg_graph.specs.Views.{AreNumbersBelow};

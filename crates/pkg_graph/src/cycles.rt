@@ -1,5 +1,6 @@
-// The least package on a cycle of imports.
-ghost use Rattle.std.specs.Prelude.{◌≡◌, ◌<◌, ◌==◌, ◌||◌, true, List, ℕ, length, IfOk, OnOk, IfSome, IfNone};
+//! The least package on a cycle of imports.
+
+ghost use Rattle.std.specs.Prelude.{◌≡◌, ◌<◌, ◌==◌, ◌||◌, true, ℕ, length, IfOk, OnOk, IfSome, IfNone};
 ghost use Rattle.std.specs.Bool.{OnTrue, OnFalse};
 ghost use Rattle.std.specs.List.{list_all};
 ghost use Rattle.pkg_graph.specs.Numbers.{AreDistinct, is_among, is_marked, left_to_walk, AddsUnmarked, AreLinks, Reaches};

@@ -1,4 +1,5 @@
-// The folders of files, and the packages that they make.
+//! The folders of files, and the packages that they make.
+
 ghost use Rattle.std.specs.Prelude.{◌≡◌, IfOk, OnOk};
 ghost use Rattle.pkg_graph.specs.Pieces.{folder_of, file_name};
 ghost use Rattle.pkg_graph.specs.Package.{import_path};

@@ -1,4 +1,5 @@
-// The imports of all files.
+//! The imports of all files.
+
 ghost use Rattle.std.specs.Prelude.{◌≡◌, ◌<◌, ◌^◌, IfOk, OnOk, map, length};
 ghost use Rattle.pkg_graph.specs.Numbers.{AreDistinct};
 ghost use Rattle.pkg_graph.specs.Views.{AreNumbersBelow};

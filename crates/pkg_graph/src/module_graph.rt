@@ -1,4 +1,5 @@
-// The packages of a module in the order of their imports.
+//! The packages of a module in the order of their imports.
+
 ghost use Rattle.std.specs.Prelude.{◌≡◌, ◌<◌, ◌^◌, length, slice_get, Some, IfOk, IfErr, OnOk};
 ghost use Rattle.pkg_graph.specs.Graph.{Links};
 ghost use Rattle.pkg_graph.specs.Views.{sources_of, AreHomesOf, ArePackagesOf, IsOrderOf};

@@ -1,7 +1,7 @@
-// The order of packages: each time the one with the least path whose imports are all placed.
-ghost use Rattle.std.specs.Prelude.{◌≡◌, ◌<◌, ◌^◌, true, false, List, ℕ, [], ◌∷◌, length, slice_set, IfOk, OnOk, IfSome, IfNone};
+//! The order of packages: each time the one with the least path whose imports are all placed.
+
+ghost use Rattle.std.specs.Prelude.{◌≡◌, ◌<◌, ◌^◌, true, false, List, ℕ, [], length, slice_set, IfOk, OnOk, IfSome, IfNone};
 ghost use Rattle.std.specs.List.{list_all};
-ghost use Rattle.pkg_graph.specs.Pieces.{comes_before};
 ghost use Rattle.pkg_graph.specs.Numbers.{has_path, path_at, AreDistinct, is_among, row, is_marked, AreLinks, AreKept};
 ghost use Rattle.pkg_graph.specs.Numbers.{AreKeptBut, IsOpen, IsLeastOpen, MarksAre, FollowsNumbers};
 ghost use Rattle.pkg_graph.specs.Numbers.{RowsGrow, PathWaits, AreTried, AreWoken};

@@ -1,5 +1,6 @@
-// Ranks of packages, by which most are seen to lie on no cycle of imports. Each round of a walk takes
-// one step off a list; what the walks find is tested afterwards, so nothing rests on it.
+//! Ranks of packages, by which most are seen to lie on no cycle of imports. Each round of a walk takes
+//! one step off a list; what the walks find is tested afterwards, so nothing rests on it.
+
 ghost use Rattle.std.specs.Prelude.{◌≡◌, ◌<◌, length, IfOk};
 
 use crate::rows::Rows;

@@ -1,4 +1,5 @@
-// Which files of a folder are read.
+//! Which files of a folder are read.
+
 ghost use Rattle.std.specs.Prelude.{◌≡◌, ◌<◌, ◌^◌, ◌&&◌, not, length, IfOk, MatchOption, List, ℕ};
 ghost use Rattle.pkg_graph.specs.Numbers.{has_path};
 ghost use Rattle.pkg_graph.specs.Selected.{begins_hidden, is_skipped_folder, is_source_name, is_selected, selected};

@@ -1,4 +1,5 @@
-// Modules that are read and modules that aren't: each call, and each fault.
+//! Modules that are read and modules that aren't: each call, and each fault.
+
 use crate::{Graph, GraphError, Module, SourceTree, build, may_import, read_module, selected};
 use go_tree::{
     DeclList, FileTree, ImportDecl, ImportDeclList, ImportSpec, ImportSpecList, Name, NameAt, Span,

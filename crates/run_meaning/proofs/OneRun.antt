@@ -3,8 +3,7 @@ use Rattle.std.proofs.Common.{◌≡◌, ℕ, List, [], ◌∷◌, ◌++◌, Som
 use Rattle.go_tree.specs.Tree.{Expr, ident, call, Exprs, expr_and, Stmt, const_decl, eval, Stmts, stmt_and, ValueSpecs, spec}
 use Rattle.go_tree.specs.File.{Decl, values, func}
 use Rattle.go_meaning_laws.specs.Package.{SourceTree, Package}
-use Rattle.go_meaning_laws.specs.Means.{environment, constant_meant}
-use Rattle.run_meaning.specs.Places.{Stays, AllStay, exprs_places, stmt_places, stmts_places, specs_places, decl_places, decls_places, FirstOfExprs, FirstOfStmt, FirstOfStmts, FirstOfSpecs, FirstOfDecl, FirstOfDecls, FilesStay, FirstOfFiles, PackagesStay, FirstOfPackages, first, later, operand, value, body}
+use Rattle.run_meaning.specs.Places.{AllStay, exprs_places, stmt_places, stmts_places, specs_places, decl_places, decls_places, FirstOfExprs, FirstOfStmt, FirstOfStmts, FirstOfSpecs, FirstOfDecl, FirstOfDecls, FilesStay, FirstOfFiles, PackagesStay, FirstOfPackages, first, later, operand, value, body}
 use Rattle.run_meaning.specs.Sites.{FormWord, FormOf, constant_form, Logged, Replaces, free}
 use Rattle.run_meaning.specs.Run.{Run, ends, goes_on}
 

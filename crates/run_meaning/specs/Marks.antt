@@ -22,13 +22,18 @@ pub record HasMark (text : List ℕ) (at : ℕ) : Type 0 where
   pub is : text ≡ before ++ (mark_line ++ after)
   pub ends : at ≡ length before + length mark_line
 
--- The declaration declares a constant of this name, and marks it: a mark stands before it, it has no type, and its expression is a name that is no predeclared one.
+-- The declaration declares a constant of this name, and marks it: a mark stands before it, it has no type, and its
+-- expression is a name that is no predeclared one.
 pub data MarksConstant (env : Environment Span) (text : List ℕ) : Decl Span → List ℕ → Type 0 where
-  one : {s s' at : Span} {grouped : Bool} (n : NameAt Span) (word : List ℕ) → HasMark text s.start → ((w : List ℕ) → means env word ≡ Some (predeclared w) → ⊥)
-      → MarksConstant env text (values (const_decl s grouped (spec s' (n ∷ []) None (expr_and (ident at word) no_exprs) no_specs))) n.name
+  one : {s s' at : Span} {grouped : Bool} (n : NameAt Span) (word : List ℕ) → HasMark text s.start →
+      ((w : List ℕ) → means env word ≡ Some (predeclared w) → ⊥)
+      → MarksConstant env text
+      (values (const_decl s grouped (spec s' (n ∷ []) None (expr_and (ident at word) no_exprs) no_specs))) n.name
 
--- The constant with this name in the package with this path is marked: in one of the packages that are read of the files, and with a full name that begins with `only`.
-pub record Marked (files : List (List ℕ × List ℕ)) (only : List ℕ) (ps : List (Package Span)) (home : ImportPath) (name : List ℕ) : Type 0 where
+-- The constant with this name in the package with this path is marked: in one of the packages that are read of the
+-- files, and with a full name that begins with `only`.
+pub record Marked (files : List (List ℕ × List ℕ)) (only : List ℕ) (ps : List (Package Span)) (home : ImportPath)
+    (name : List ℕ) : Type 0 where
   pub of : Package Span
   pub source : SourceTree Span
   pub text : List ℕ

@@ -33,7 +33,10 @@ pub record IsSource (text : List ℕ) (tree : File Span) : Type 0 where
 abbrev pub ReadAs : List (List ℕ × List ℕ) → Packages Span → Type 0
 ReadAs files P = Reads IsModuleFile IsSource files P.members
 
--- What inlining makes of files, where constants count as marked whose full names begin with `only`: the old files read as a well-typed program, from which a run leads to a last one; the new files read as the last one, spans aside, which is well typed and means the same, no function being marked; each file keeps its bytes outside the run's ranges; and this is the report.
+-- What inlining makes of files, where constants count as marked whose full names begin with `only`: the old files read
+-- as a well-typed program, from which a run leads to a last one; the new files read as the last one, spans aside, which
+-- is well typed and means the same, no function being marked; each file keeps its bytes outside the run's ranges; and
+-- this is the report.
 pub record IsInlining (old new : List (List ℕ × List ℕ)) (only report : List ℕ) : Type 0 where
   pub before : Packages Span
   pub after : Packages Span
@@ -54,14 +57,19 @@ pub record IsInlining (old new : List (List ℕ × List ℕ)) (only report : Lis
 
 -- The files are just `go.mod` and `main.go`, neither too long, and read as these packages.
 pub data HasForm : List (List ℕ × List ℕ) → List (Package Span) → Type 0 where
-  two_files : {mod_text text : List ℕ} {ps : List (Package Span)} → length mod_text ≤ MAX_OUTLINE_BYTES → length text ≤ MAX_OUTLINE_BYTES → Reads IsModuleFile IsSource ((codes "go.mod", mod_text) ∷ (codes "main.go", text) ∷ []) ps
+  two_files : {mod_text text : List ℕ} {ps : List (Package Span)} → length mod_text ≤ MAX_OUTLINE_BYTES →
+      length text ≤ MAX_OUTLINE_BYTES →
+      Reads IsModuleFile IsSource ((codes "go.mod", mod_text) ∷ (codes "main.go", text) ∷ []) ps
       → HasForm ((codes "go.mod", mod_text) ∷ (codes "main.go", text) ∷ []) ps
 
--- Files are refused as not built where they are no module of the form, and as not typed where they are one that isn't well typed. For all others there is a plan.
+-- Files are refused as not built where they are no module of the form, and as not typed where they are one that isn't
+-- well typed. For all others there is a plan.
 pub data IsJudged (files : List (List ℕ × List ℕ)) : Outcome → Type 0 where
   not_built : ((ps : List (Package Span)) → HasForm files ps → ⊥) → IsJudged files (refused 100)
-  not_typed : (ps : List (Package Span)) → HasForm files ps → list_all well_typed ps ≡ false → IsJudged files (refused 401)
-  is_planned : (ps : List (Package Span)) (after : List (List ℕ × List ℕ)) (report : List ℕ) (inlined : ℕ) → HasForm files ps → list_all well_typed ps ≡ true → IsJudged files (planned after report inlined)
+  not_typed : (ps : List (Package Span)) → HasForm files ps → list_all well_typed ps ≡ false →
+      IsJudged files (refused 401)
+  is_planned : (ps : List (Package Span)) (after : List (List ℕ × List ℕ)) (report : List ℕ) (inlined : ℕ) →
+      HasForm files ps → list_all well_typed ps ≡ true → IsJudged files (planned after report inlined)
 
 -- ---- the laws
 
@@ -70,16 +78,24 @@ PlansAreJudged = (files : List (List ℕ × List ℕ)) (only : List ℕ) → IsJ
 
 -- Files of the form read as one program.
 abbrev pub FormsAreOne : Type 0
-FormsAreOne = (files : List (List ℕ × List ℕ)) (ps qs : List (Package Span)) → HasForm files ps → HasForm files qs → ps ≡ qs
+FormsAreOne = (files : List (List ℕ × List ℕ)) (ps qs : List (Package Span)) → HasForm files ps → HasForm files qs →
+    ps ≡ qs
 
 -- A program has one run: its steps and its last program.
 abbrev pub RunsAreOne : Type 0
-RunsAreOne = (files : List (List ℕ × List ℕ)) (only : List ℕ) (qs ps last last' : List (Package Span)) (log log' : List (Logged Span)) → Run (Marked files only qs) ps log last → Run (Marked files only qs) ps log' last' → (log ≡ log') × (last ≡ last')
+RunsAreOne =
+    (files : List (List ℕ × List ℕ)) (only : List ℕ) (qs ps last last' : List (Package Span))
+    (log log' : List (Logged Span)) → Run (Marked files only qs) ps log last →
+    Run (Marked files only qs) ps log' last' → (log ≡ log') × (last ≡ last')
 
 -- A run keeps the meaning, whatever constants are marked.
 abbrev pub RunMeansTheSame : Type 0
-RunMeansTheSame = (files : List (List ℕ × List ℕ)) (only : List ℕ) (ps : List (Package Span)) (old new : Packages Span) (log : List (Logged Span)) → Run (Marked files only ps) old.members log new.members → SameMeaning old new
+RunMeansTheSame =
+    (files : List (List ℕ × List ℕ)) (only : List ℕ) (ps : List (Package Span)) (old new : Packages Span)
+    (log : List (Logged Span)) → Run (Marked files only ps) old.members log new.members → SameMeaning old new
 
 -- What is planned for files is what inlining makes of them, with the planned report, in so many steps.
 abbrev pub PlannedIsInlining : Type 0
-PlannedIsInlining = (files after : List (List ℕ × List ℕ)) (only report : List ℕ) (inlined : ℕ) → plan_of files only ≡ planned after report inlined → (made : IsInlining files after only report) × (length made.log ≡ inlined)
+PlannedIsInlining = (files after : List (List ℕ × List ℕ)) (only report : List ℕ) (inlined : ℕ) →
+    plan_of files only ≡ planned after report inlined →
+    (made : IsInlining files after only report) × (length made.log ≡ inlined)

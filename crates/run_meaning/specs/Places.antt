@@ -1,4 +1,5 @@
--- The places of expressions in a program, in the order of the ends of their spans, and a change at the first of them that can be changed.
+-- The places of expressions in a program, in the order of the ends of their spans, and a change at the first of them
+-- that can be changed.
 -- A construct without a rule has no place.
 use Rattle.std.specs.Prelude.{⊤, ℕ, Bool, List, [], ◌∷◌, ◌++◌, Option}
 use Rattle.go_tree.specs.declared.exprs.Rest.{Rest}
@@ -48,26 +49,36 @@ module _ {S L : Type 0} (Becomes : Expr S → L → Expr S → Type 0) where
 
   pub data FirstOfExprs : Exprs S → L → Exprs S → Type 0 where
     first : {e e' : Expr S} {es : Exprs S} {l : L} → Becomes e l e' → FirstOfExprs (expr_and e es) l (expr_and e' es)
-    later : {e : Expr S} {es es' : Exprs S} {l : L} → Stays e → FirstOfExprs es l es' → FirstOfExprs (expr_and e es) l (expr_and e es')
+    later : {e : Expr S} {es es' : Exprs S} {l : L} → Stays e → FirstOfExprs es l es' →
+        FirstOfExprs (expr_and e es) l (expr_and e es')
 
   pub data FirstOfStmt : Stmt S → L → Stmt S → Type 0 where
-    operand : {s s' : S} {f : Expr S} {es es' : Exprs S} {rest : Rest} {l : L} → Stays f → FirstOfExprs es l es' → FirstOfStmt (eval s (call s' f es rest)) l (eval s (call s' f es' rest))
+    operand : {s s' : S} {f : Expr S} {es es' : Exprs S} {rest : Rest} {l : L} → Stays f → FirstOfExprs es l es' →
+        FirstOfStmt (eval s (call s' f es rest)) l (eval s (call s' f es' rest))
 
   pub data FirstOfStmts : Stmts S → L → Stmts S → Type 0 where
-    first : {s s' : Stmt S} {ss : Stmts S} {l : L} → FirstOfStmt s l s' → FirstOfStmts (stmt_and s ss) l (stmt_and s' ss)
-    later : {s : Stmt S} {ss ss' : Stmts S} {l : L} → AllStay (stmt_places s) → FirstOfStmts ss l ss' → FirstOfStmts (stmt_and s ss) l (stmt_and s ss')
+    first : {s s' : Stmt S} {ss : Stmts S} {l : L} → FirstOfStmt s l s' →
+        FirstOfStmts (stmt_and s ss) l (stmt_and s' ss)
+    later : {s : Stmt S} {ss ss' : Stmts S} {l : L} → AllStay (stmt_places s) → FirstOfStmts ss l ss' →
+        FirstOfStmts (stmt_and s ss) l (stmt_and s ss')
 
   pub data FirstOfSpecs : ValueSpecs S → L → ValueSpecs S → Type 0 where
-    first : {s : S} {ns : List (NameAt S)} {t : Option (TypeExpr S)} {es es' : Exprs S} {specs : ValueSpecs S} {l : L} → FirstOfExprs es l es' → FirstOfSpecs (spec s ns t es specs) l (spec s ns t es' specs)
-    later : {s : S} {ns : List (NameAt S)} {t : Option (TypeExpr S)} {es : Exprs S} {specs specs' : ValueSpecs S} {l : L} → AllStay (exprs_places es) → FirstOfSpecs specs l specs' → FirstOfSpecs (spec s ns t es specs) l (spec s ns t es specs')
+    first : {s : S} {ns : List (NameAt S)} {t : Option (TypeExpr S)} {es es' : Exprs S} {specs : ValueSpecs S} {l : L} →
+        FirstOfExprs es l es' → FirstOfSpecs (spec s ns t es specs) l (spec s ns t es' specs)
+    later : {s : S} {ns : List (NameAt S)} {t : Option (TypeExpr S)} {es : Exprs S} {specs specs' : ValueSpecs S}
+        {l : L} → AllStay (exprs_places es) → FirstOfSpecs specs l specs' →
+        FirstOfSpecs (spec s ns t es specs) l (spec s ns t es specs')
 
   pub data FirstOfDecl : Decl S → L → Decl S → Type 0 where
-    value : {s : S} {grouped : Bool} {specs specs' : ValueSpecs S} {l : L} → FirstOfSpecs specs l specs' → FirstOfDecl (values (const_decl s grouped specs)) l (values (const_decl s grouped specs'))
-    body : (f : Func S) {ss : Stmts S} {l : L} → FirstOfStmts f.body l ss → FirstOfDecl (func f) l (func (record f { body = ss }))
+    value : {s : S} {grouped : Bool} {specs specs' : ValueSpecs S} {l : L} → FirstOfSpecs specs l specs' →
+        FirstOfDecl (values (const_decl s grouped specs)) l (values (const_decl s grouped specs'))
+    body : (f : Func S) {ss : Stmts S} {l : L} → FirstOfStmts f.body l ss →
+        FirstOfDecl (func f) l (func (record f { body = ss }))
 
   pub data FirstOfDecls : List (Decl S) → L → List (Decl S) → Type 0 where
     first : {d d' : Decl S} {ds : List (Decl S)} {l : L} → FirstOfDecl d l d' → FirstOfDecls (d ∷ ds) l (d' ∷ ds)
-    later : {d : Decl S} {ds ds' : List (Decl S)} {l : L} → AllStay (decl_places d) → FirstOfDecls ds l ds' → FirstOfDecls (d ∷ ds) l (d ∷ ds')
+    later : {d : Decl S} {ds ds' : List (Decl S)} {l : L} → AllStay (decl_places d) → FirstOfDecls ds l ds' →
+        FirstOfDecls (d ∷ ds) l (d ∷ ds')
 
 -- ---- within a package, by the paths of its files
 
@@ -80,8 +91,11 @@ module _ {S L : Type 0} (Becomes : List ℕ → Expr S → L → Expr S → Type
   FilesStay (f ∷ fs) = FileStays f × FilesStay fs
 
   pub data FirstOfFiles : List (SourceTree S) → L → List (SourceTree S) → Type 0 where
-    first : (f : SourceTree S) {ds : List (Decl S)} {fs : List (SourceTree S)} {l : L} → FirstOfDecls (Becomes f.path) f.tree.decls l ds → FirstOfFiles (f ∷ fs) l (record f { tree = record f.tree { decls = ds } } ∷ fs)
-    later : {f : SourceTree S} {fs fs' : List (SourceTree S)} {l : L} → FileStays f → FirstOfFiles fs l fs' → FirstOfFiles (f ∷ fs) l (f ∷ fs')
+    first : (f : SourceTree S) {ds : List (Decl S)} {fs : List (SourceTree S)} {l : L} →
+        FirstOfDecls (Becomes f.path) f.tree.decls l ds →
+        FirstOfFiles (f ∷ fs) l (record f { tree = record f.tree { decls = ds } } ∷ fs)
+    later : {f : SourceTree S} {fs fs' : List (SourceTree S)} {l : L} → FileStays f → FirstOfFiles fs l fs' →
+        FirstOfFiles (f ∷ fs) l (f ∷ fs')
 
 -- ---- within a program: packages in the order in which each comes after those that it imports
 
@@ -91,17 +105,21 @@ module _ {S L : Type 0} (Becomes : Package S → List ℕ → Expr S → L → E
   PackagesStay (p ∷ ps) = FilesStay (Becomes p) p.files × PackagesStay ps
 
   pub data FirstOfPackages : List (Package S) → L → List (Package S) → Type 0 where
-    first : (p : Package S) {fs : List (SourceTree S)} {ps : List (Package S)} {l : L} → FirstOfFiles (Becomes p) p.files l fs → FirstOfPackages (p ∷ ps) l (record p { files = fs } ∷ ps)
-    later : {p : Package S} {ps ps' : List (Package S)} {l : L} → FilesStay (Becomes p) p.files → FirstOfPackages ps l ps' → FirstOfPackages (p ∷ ps) l (p ∷ ps')
+    first : (p : Package S) {fs : List (SourceTree S)} {ps : List (Package S)} {l : L} →
+        FirstOfFiles (Becomes p) p.files l fs → FirstOfPackages (p ∷ ps) l (record p { files = fs } ∷ ps)
+    later : {p : Package S} {ps ps' : List (Package S)} {l : L} → FilesStay (Becomes p) p.files →
+        FirstOfPackages ps l ps' → FirstOfPackages (p ∷ ps) l (p ∷ ps')
 
 -- ---- all places of a program, each with its package and the path of its file
 
 module _ {S : Type 0} where
-  abbrev pub places_then : Package S → List ℕ → List (Expr S) → List (Package S × List ℕ × Expr S) → List (Package S × List ℕ × Expr S)
+  abbrev pub places_then : Package S → List ℕ → List (Expr S) → List (Package S × List ℕ × Expr S) →
+      List (Package S × List ℕ × Expr S)
   places_then p file [] rest = rest
   places_then p file (e ∷ es) rest = (p, file, e) ∷ places_then p file es rest
 
-  abbrev pub files_places : Package S → List (SourceTree S) → List (Package S × List ℕ × Expr S) → List (Package S × List ℕ × Expr S)
+  abbrev pub files_places : Package S → List (SourceTree S) → List (Package S × List ℕ × Expr S) →
+      List (Package S × List ℕ × Expr S)
   files_places p [] rest = rest
   files_places p (f ∷ fs) rest = places_then p f.path (decls_places f.tree.decls) (files_places p fs rest)
 

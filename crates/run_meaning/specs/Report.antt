@@ -50,17 +50,25 @@ pub record IsArranged (all entries : List Entry) : Type 0 where
 -- ---- lines
 
 module _ (files : List (List ℕ × List ℕ)) where
-  -- `PATH:LINE:COL: inlined FULLNAME as FORM` or `PATH:LINE:COL: kept FULLNAME: OBSTACLE`; line and column are those of the origin in the file as read
+  -- `PATH:LINE:COL: inlined FULLNAME as FORM` or `PATH:LINE:COL: kept FULLNAME: OBSTACLE`; line and column are those of
+  -- the origin in the file as read
   pub data IsLine : Entry → List ℕ → Type 0 where
-    step_line : (l : Logged Span) (text : List ℕ) → IsIn (l.file, text) files → IsLine (step l) (place_text l.file text l.origin.start ++ (codes ": inlined " ++ (full_name l.home l.name ++ (codes " as " ++ (form_text l.form ++ codes "\n")))))
-    kept_line : (k : KeptUse Span) (text : List ℕ) → IsIn (k.file, text) files → IsLine (kept k) (place_text k.file text k.origin.start ++ (codes ": kept " ++ (full_name k.home k.name ++ (codes ": " ++ (obstacle_text k.obstacle ++ codes "\n")))))
+    step_line : (l : Logged Span) (text : List ℕ) → IsIn (l.file, text) files →
+        IsLine (step l)
+        (place_text l.file text l.origin.start
+        ++ (codes ": inlined " ++ (full_name l.home l.name ++ (codes " as " ++ (form_text l.form ++ codes "\n")))))
+    kept_line : (k : KeptUse Span) (text : List ℕ) → IsIn (k.file, text) files →
+        IsLine (kept k)
+        (place_text k.file text k.origin.start
+        ++ (codes ": kept " ++ (full_name k.home k.name ++ (codes ": " ++ (obstacle_text k.obstacle ++ codes "\n")))))
 
   pub data AreLines : List Entry → List ℕ → Type 0 where
     none : AreLines [] []
     line : {e : Entry} {es : List Entry} {l ls : List ℕ} → IsLine e l → AreLines es ls → AreLines (e ∷ es) (l ++ ls)
 
 -- The report of a run over the files as read, with these steps and this last program.
-pub record ReportOf (Mark : ImportPath → List ℕ → Type 0) (files : List (List ℕ × List ℕ)) (log : List (Logged Span)) (last : List (Package Span)) (report : List ℕ) : Type 0 where
+pub record ReportOf (Mark : ImportPath → List ℕ → Type 0) (files : List (List ℕ × List ℕ)) (log : List (Logged Span))
+    (last : List (Package Span)) (report : List ℕ) : Type 0 where
   pub uses : List (KeptUse Span)
   pub kept_uses : KeptAmong Mark (places_of last) uses
   pub entries : List Entry

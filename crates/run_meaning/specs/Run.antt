@@ -10,7 +10,8 @@ use Rattle.run_meaning.specs.Marks.{IsIn}
 use Rattle.run_meaning.specs.Sites.{Logged, KeptUse, Replaces, IsKept}
 
 module _ {S : Type 0} (Mark : ImportPath → List ℕ → Type 0) where
-  -- The first free site is replaced by its form; packages stand in the order of their imports, files in that of their paths, and uses in that of their ends.
+  -- The first free site is replaced by its form; packages stand in the order of their imports, files in that of their
+  -- paths, and uses in that of their ends.
   abbrev pub Next : List (Package S) → Logged S → List (Package S) → Type 0
   Next = FirstOfPackages (Replaces Mark)
 
@@ -20,13 +21,18 @@ module _ {S : Type 0} (Mark : ImportPath → List ℕ → Type 0) where
   -- from the old program to the new one, with its steps; the marks stay those of the old program
   pub data Run : List (Package S) → List (Logged S) → List (Package S) → Type 0 where
     ends : {ps : List (Package S)} → NoFreeSite ps → Run ps [] ps
-    goes_on : {ps rs ps' : List (Package S)} {l : Logged S} {log : List (Logged S)} → Next ps l rs → Run rs log ps' → Run ps (l ∷ log) ps'
+    goes_on : {ps rs ps' : List (Package S)} {l : Logged S} {log : List (Logged S)} → Next ps l rs → Run rs log ps' →
+        Run ps (l ∷ log) ps'
 
   -- the uses that are kept, among places
   pub data KeptAmong : List (Package S × List ℕ × Expr S) → List (KeptUse S) → Type 0 where
     none : KeptAmong [] []
-    kept : {p : Package S} {file : List ℕ} {e : Expr S} {k : KeptUse S} {places : List (Package S × List ℕ × Expr S)} {ks : List (KeptUse S)} → IsKept Mark p file e k → KeptAmong places ks → KeptAmong ((p, file, e) ∷ places) (k ∷ ks)
-    other : {p : Package S} {file : List ℕ} {e : Expr S} {places : List (Package S × List ℕ × Expr S)} {ks : List (KeptUse S)} → ((k : KeptUse S) → IsKept Mark p file e k → ⊥) → KeptAmong places ks → KeptAmong ((p, file, e) ∷ places) ks
+    kept : {p : Package S} {file : List ℕ} {e : Expr S} {k : KeptUse S} {places : List (Package S × List ℕ × Expr S)}
+        {ks : List (KeptUse S)} → IsKept Mark p file e k → KeptAmong places ks →
+        KeptAmong ((p, file, e) ∷ places) (k ∷ ks)
+    other : {p : Package S} {file : List ℕ} {e : Expr S} {places : List (Package S × List ℕ × Expr S)}
+        {ks : List (KeptUse S)} → ((k : KeptUse S) → IsKept Mark p file e k → ⊥) → KeptAmong places ks →
+        KeptAmong ((p, file, e) ∷ places) ks
 
 -- ---- bytes
 
@@ -38,4 +44,5 @@ pub record AreRanges (log : List (Logged Span)) (file : List ℕ) (ranges : List
 -- Each file keeps its path, and its bytes outside the run's ranges.
 pub data FilesKeep (log : List (Logged Span)) : List (List ℕ × List ℕ) → List (List ℕ × List ℕ) → Type 0 where
   none : FilesKeep log [] []
-  file : {path old new : List ℕ} {olds news : List (List ℕ × List ℕ)} (ranges : List Span) → AreRanges log path ranges → Keeps old new ranges → FilesKeep log olds news → FilesKeep log ((path, old) ∷ olds) ((path, new) ∷ news)
+  file : {path old new : List ℕ} {olds news : List (List ℕ × List ℕ)} (ranges : List Span) → AreRanges log path ranges →
+      Keeps old new ranges → FilesKeep log olds news → FilesKeep log ((path, old) ∷ olds) ((path, new) ∷ news)

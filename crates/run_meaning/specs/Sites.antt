@@ -21,7 +21,8 @@ obstacle_text (Shadowed name) = codes "shadowed: " ++ name
 
 -- ---- what is told of a use
 
--- a step: the file and the span of its origin as read, the marked declaration by the path of its package and its name, and the form
+-- a step: the file and the span of its origin as read, the marked declaration by the path of its package and its name,
+-- and the form
 pub record Logged (S : Type 0) : Type 0 where
   pub file : List ℕ
   pub origin : S
@@ -39,7 +40,8 @@ pub record KeptUse (S : Type 0) : Type 0 where
 
 -- What the form's text takes from outside has another meaning at the use than at the declaration.
 pub data Obstacle {S : Type 0} (at_use at_decl : Environment S) : Expr S → ObstacleWord → Type 0 where
-  shadowed : (s : S) (name : List ℕ) → (means at_use name ≡ means at_decl name → ⊥) → Obstacle at_use at_decl (ident s name) (Shadowed name)
+  shadowed : (s : S) (name : List ℕ) → (means at_use name ≡ means at_decl name → ⊥) →
+      Obstacle at_use at_decl (ident s name) (Shadowed name)
 
 module _ {S : Type 0} (Mark : ImportPath → List ℕ → Type 0) (p : Package S) where
   -- A use of a marked constant is an occurrence of its name.
@@ -48,14 +50,18 @@ module _ {S : Type 0} (Mark : ImportPath → List ℕ → Type 0) (p : Package S
 
   -- The form of a constant is the name that it is declared as. What is brought in has the origin of the use.
   pub data FormOf : Expr S → FormWord → Expr S → Type 0 where
-    constant_form : (s s' : S) (name next : List ℕ) → constant_meant (environment p) name ≡ Some (ident s' next) → FormOf (ident s name) ConstWord (ident s next)
+    constant_form : (s s' : S) (name next : List ℕ) → constant_meant (environment p) name ≡ Some (ident s' next) →
+        FormOf (ident s name) ConstWord (ident s next)
 
   -- A free site becomes its form: there is no obstacle.
   pub data Replaces (file : List ℕ) : Expr S → Logged S → Expr S → Type 0 where
-    free : (s : S) (name : List ℕ) (word : FormWord) (form : Expr S) → Site (ident s name) name → FormOf (ident s name) word form → ((o : ObstacleWord) → Obstacle (environment p) (environment p) form o → ⊥)
-        → Replaces file (ident s name) (record { file = file; origin = s; home = p.path; name = name; form = word }) form
+    free : (s : S) (name : List ℕ) (word : FormWord) (form : Expr S) → Site (ident s name) name →
+        FormOf (ident s name) word form → ((o : ObstacleWord) → Obstacle (environment p) (environment p) form o → ⊥)
+        → Replaces file (ident s name)
+        (record { file = file; origin = s; home = p.path; name = name; form = word }) form
 
   -- A site whose form has an obstacle is kept.
   pub data IsKept (file : List ℕ) : Expr S → KeptUse S → Type 0 where
-    kept : (s : S) (name : List ℕ) (word : FormWord) (form : Expr S) (o : ObstacleWord) → Site (ident s name) name → FormOf (ident s name) word form → Obstacle (environment p) (environment p) form o
+    kept : (s : S) (name : List ℕ) (word : FormWord) (form : Expr S) (o : ObstacleWord) → Site (ident s name) name →
+        FormOf (ident s name) word form → Obstacle (environment p) (environment p) form o
         → IsKept file (ident s name) (record { file = file; origin = s; home = p.path; name = name; obstacle = o })

@@ -4,11 +4,11 @@ use Rattle.std.specs.Prelude.{true, false, [], ◌∷◌, Some, None, codes}
 use Rattle.go_tree.specs.declared.exprs.Rest.TheVariants.{Plain}
 use Rattle.go_tree.specs.declared.spans.Span.{Span}
 use Rattle.go_tree.specs.declared.tokens.TokenKind.TheVariants.{Ident, Keyword, Operator, Integer, Str, Inserted}
-use Rattle.go_tree.specs.declared.operators.BinOp.TheVariants.{Add, Eq, Gt, LogOr}
+use Rattle.go_tree.specs.declared.operators.BinOp.TheVariants.{Add, Eq, Gt}
 use Rattle.go_tree.specs.declared.operators.UnOp.TheVariants.{Address}
-use Rattle.go_tree.specs.Tree.{named, struct_type, no_fields, field, ident, int_lit, str_lit, composite, selector, call, func_lit, unary, binary, star, no_exprs, expr_and, some_expr, no_elems, elem, plain, no_value, some_value, const_decl, var_decl, eval, assign, define, return_, inner, if_, switch, defer, no_stmts, stmt_and, no_stmt, no_block, no_arms, arm, no_cases, case, no_specs, spec}
-use Rattle.go_tree.specs.File.{File, values, types}
-use Rattle.run_rules.specs.FormTrees.{ConstForm, ExprForm, BlockForm, TailForm, LiteralForm}
+use Rattle.go_tree.specs.Tree.{named, struct_type, no_fields, field, ident, int_lit, str_lit, composite, selector, call, func_lit, unary, binary, star, no_exprs, expr_and, some_expr, no_elems, elem, plain, some_value, eval, assign, define, return_, inner, if_, switch, defer, no_stmts, stmt_and, no_stmt, no_block, no_arms, arm, no_cases, case}
+use Rattle.go_tree.specs.File.{File, types}
+use Rattle.run_rules.specs.FormTrees.{ExprForm, BlockForm, TailForm, LiteralForm}
 use Rattle.run_rules.proofs.CaseTools.{at, nm, tok, note, param, sig, tspec, fn, pack, source, mark, Module, is_typed, first_change, step_of, kept_uses}
 use Rattle.go_read.specs.SpellsSpans.{span_to}
 use Rattle.go_words.specs.Terminals.{lexemes}

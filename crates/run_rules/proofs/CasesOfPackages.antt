@@ -4,12 +4,11 @@ use Rattle.std.specs.Prelude.{true, false, [], ◌∷◌, Some, None, codes}
 use Rattle.go_tree.specs.declared.exprs.Rest.TheVariants.{Plain}
 use Rattle.go_tree.specs.declared.spans.Span.{Span}
 use Rattle.go_tree.specs.declared.tokens.TokenKind.TheVariants.{Ident, Keyword, Operator, Integer, Str, Inserted}
-use Rattle.go_tree.specs.declared.operators.BinOp.TheVariants.{Mul, Div, Add, Gt}
-use Rattle.go_tree.specs.Tree.{named, struct_type, no_fields, field, ident, int_lit, composite, selector, call, func_lit, binary, no_exprs, expr_and, no_elems, elem, plain, some_value, const_decl, var_decl, eval, assign, define, return_, if_, no_stmts, stmt_and, no_stmt, no_block, no_arms, arm, no_specs, spec}
+use Rattle.go_tree.specs.declared.operators.BinOp.TheVariants.{Mul, Add, Gt}
+use Rattle.go_tree.specs.Tree.{named, struct_type, no_fields, field, ident, int_lit, composite, selector, call, func_lit, binary, no_exprs, expr_and, no_elems, elem, plain, some_value, const_decl, eval, assign, define, return_, if_, no_stmts, stmt_and, no_stmt, no_block, no_arms, arm, no_specs, spec}
 use Rattle.go_tree.specs.File.{File, values, types}
-use Rattle.run_rules.specs.FormTrees.{ConstForm, TypeForm, ExprForm, LiteralForm}
-use Rattle.run_rules.specs.Obstacles.{NotAccessible}
-use Rattle.run_rules.proofs.CaseTools.{at, nm, tok, note, param, sig, imp, imps, tspec, recv, fn, pack, source, mark, Module, is_typed, first_change, step_of, kept_uses}
+use Rattle.run_rules.specs.FormTrees.{ExprForm, LiteralForm}
+use Rattle.run_rules.proofs.CaseTools.{at, nm, tok, note, param, sig, imp, imps, tspec, fn, pack, source, mark, Module, is_typed, first_change, step_of, kept_uses}
 use Rattle.go_read.specs.SpellsSpans.{span_to}
 use Rattle.go_words.specs.Terminals.{lexemes}
 use Rattle.go_words.specs.Tokens.Pieces.{keyword_spellings}

@@ -4,11 +4,10 @@ use Rattle.std.specs.Prelude.{true, false, [], ◌∷◌, Some, None, codes}
 use Rattle.go_tree.specs.declared.exprs.Rest.TheVariants.{Plain}
 use Rattle.go_tree.specs.declared.spans.Span.{Span}
 use Rattle.go_tree.specs.declared.tokens.TokenKind.TheVariants.{Ident, Keyword, Operator, Integer, Str, Inserted}
-use Rattle.go_tree.specs.declared.operators.BinOp.TheVariants.{Mul, Shl, Shr, Add, Eq}
-use Rattle.go_tree.specs.declared.operators.UnOp.TheVariants.{Minus, Not}
-use Rattle.go_tree.specs.Tree.{named, pointer, slice_type, ident, int_lit, str_lit, composite, index, call, func_lit, unary, binary, star, no_exprs, expr_and, no_elems, elem, plain, no_value, var_decl, eval, step, assign, define, return_, inner, defer, no_stmts, stmt_and, no_specs, spec}
+use Rattle.go_tree.specs.declared.operators.BinOp.TheVariants.{Mul, Add}
+use Rattle.go_tree.specs.Tree.{named, ident, int_lit, str_lit, call, func_lit, binary, no_exprs, expr_and, eval, step, assign, define, return_, no_stmts, stmt_and}
 use Rattle.go_tree.specs.File.{File, types}
-use Rattle.run_rules.specs.FormTrees.{ExprForm, BlockForm, LiteralForm}
+use Rattle.run_rules.specs.FormTrees.{ExprForm, LiteralForm}
 use Rattle.run_rules.proofs.CaseTools.{at, nm, tok, note, param, sig, tspec, fn, pack, source, mark, Module, is_typed, first_change, step_of, kept_uses}
 use Rattle.go_read.specs.SpellsSpans.{span_to}
 use Rattle.go_words.specs.Terminals.{lexemes}

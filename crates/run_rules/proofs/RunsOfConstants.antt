@@ -16,13 +16,11 @@ use Rattle.go_read.proofs.Texts.{reading}
 use Rattle.run_rules.proofs.CaseTools.{read_at}
 use Rattle.directive_scan.specs.Lines.{is_inline}
 use Rattle.pkg_graph.specs.Internal.{passes}
-use Rattle.std.specs.Prelude.{ℕ, List, is_some}
-use Rattle.go_tree.specs.declared.tokens.Token.{Token}
-use Rattle.go_tree.specs.declared.tokens.Comment.{Comment}
+use Rattle.std.specs.Prelude.{is_some}
 use Rattle.run_rules.specs.Texts.{FileText}
 use Rattle.run_rules.specs.Steps.{At}
 use Rattle.run_rules.specs.Marks.{marks_of}
-use Rattle.run_rules.specs.Run.{Standing, Logged, as_read, Next, step_in, Run, goes_on, ends, the_limits}
+use Rattle.run_rules.specs.Run.{Standing, Next, step_in, goes_on, ends, the_limits}
 use Rattle.run_rules.specs.Run.{Steps}
 use Rattle.run_rules.specs.Run as run
 use Rattle.go_read.proofs.Whole.{file_spelled}

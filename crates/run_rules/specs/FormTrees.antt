@@ -5,7 +5,6 @@ use Rattle.go_tree.specs.declared.exprs.Rest.TheVariants.{Plain}
 use Rattle.go_tree.specs.Tree.{NameAt, TypeExpr, named, pointer, Expr, ident, selector, call, type_operand, star, no_exprs, expr_and, Stmt, eval, return_, Stmts, no_stmts, stmt_and}
 use Rattle.scope_names.specs.Identifiers.{expr_identifiers, stmts_identifiers, type_identifiers}
 use Rattle.pkg_graph.specs.Package.{Package}
-use Rattle.param_choice.specs.Chosen.{has}
 use Rattle.go_types.specs.Answers.{given}
 use Rattle.go_types.specs.Types.{GoType}
 use Rattle.go_types.specs.Identical.{identical}

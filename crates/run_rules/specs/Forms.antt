@@ -15,7 +15,7 @@ use Rattle.go_types.specs.Operands.{Operand, several, Typed, typed}
 use Rattle.go_types.specs.Primary.{stands_alone}
 use Rattle.go_types.specs.Typing.{parts, stmt, is_call}
 use Rattle.go_types.specs.Recorded.{recorded_stmt, hardens}
-use Rattle.run_rules.specs.Surroundings.{Use, whole, returned, deferred_call, alone, other, Place, Seen, seen, seen_stmt, Around, local_at}
+use Rattle.run_rules.specs.Surroundings.{Use, whole, returned, deferred_call, other, Place, Seen, seen, seen_stmt, Around, local_at}
 use Rattle.run_rules.specs.Rewriting.{Changes, new_expr, new_stmt, new_stmts, new_params}
 use Rattle.run_rules.specs.BodyItems.{number_of}
 use Rattle.run_rules.specs.Sites.{expr_span, is_deferred}

@@ -1,8 +1,6 @@
 -- What a run makes of the files of a module.
 use Rattle.std.specs.Prelude.{◌≡◌, ℕ, List, [], ◌∷◌, ◌++◌, Some, None}
 use Rattle.go_tree.specs.declared.spans.Span.{Span}
-use Rattle.go_tree.specs.declared.tokens.Token.{Token}
-use Rattle.go_tree.specs.declared.tokens.Comment.{Comment}
 use Rattle.go_tree.specs.File.{File}
 use Rattle.go_read.specs.SpellsFiles.{SpellsFile}
 use Rattle.pkg_graph.specs.Package.{SourceTree, Package}

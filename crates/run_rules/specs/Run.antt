@@ -1,10 +1,8 @@
 -- The run: programs, each the next of the one before, up to one in which no use is free; the ranges in which it changes
 -- the files, and its limits.
-use Rattle.std.specs.Prelude.{◌≡◌, ℕ, suc, ◌+◌, ◌≤◌, ◌<◌, Bool, ◌&&◌, List, [], ◌∷◌, ◌++◌, map, filter, length, Option, Some, None, if◌then◌else◌, bytes_eq, nat_eq, nat_lt, codes, slice_get}
+use Rattle.std.specs.Prelude.{◌≡◌, ℕ, suc, ◌+◌, Bool, ◌&&◌, List, [], ◌∷◌, ◌++◌, map, filter, length, Option, Some, None, if◌then◌else◌, bytes_eq, nat_lt, slice_get}
 use Rattle.std.specs.List.{list_any}
 use Rattle.go_tree.specs.declared.spans.Span.{Span}
-use Rattle.go_tree.specs.declared.tokens.Token.{Token}
-use Rattle.go_tree.specs.declared.tokens.Comment.{Comment}
 use Rattle.go_tree.specs.File.{File}
 use Rattle.go_read.specs.SpellsFiles.{SpellsFile}
 use Rattle.go_read.specs.SpellsWeight.{weights_of}

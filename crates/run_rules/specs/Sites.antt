@@ -8,7 +8,7 @@ use Rattle.go_tree.specs.Tree.{NameAt, TypeExpr, named, pointer, slice_type, map
 use Rattle.go_tree.specs.File.{TypeSpec, Func, Decl, values, types, func}
 use Rattle.scope_names.specs.Means.{Environment, means}
 use Rattle.pkg_graph.specs.Package.{SourceTree, Package, import_specs}
-use Rattle.pkg_graph.specs.Members.{Target, local, imported, member, predeclared, outside}
+use Rattle.pkg_graph.specs.Members.{Target, imported, member, predeclared, outside}
 use Rattle.go_types.specs.Answers.{given, meets, otherwise}
 use Rattle.go_types.specs.Types.{base_of, type_name_of}
 use Rattle.go_types.specs.Entities.{Env, defined_in}

@@ -1,5 +1,5 @@
 -- Types that stand at different places are different trees, each with its span.
-use Rattle.std.proofs.Common.{◌≡◌, ℕ, Bool, List, [], ◌∷◌, refl, sym, ap, ◌∙◌}
+use Rattle.std.proofs.Common.{◌≡◌, Bool, List, ◌∷◌, refl, sym, ap, ◌∙◌}
 use Rattle.go_tree.specs.declared.spans.Span.{Span}
 use Rattle.go_tree.specs.Tree.{NameAt, TypeExpr, Fields, Param}
 use Rattle.go_words.specs.Terminals.{Lexeme, lex, comma, semicolon}

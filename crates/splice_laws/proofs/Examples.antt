@@ -20,7 +20,7 @@ use Rattle.go_read.specs.Goals.{read_operand}
 use Rattle.go_read.proofs.Texts.{reading, var, num, name, type, list, block}
 use Rattle.go_layout.specs.Layouts.{text_of}
 use Rattle.splice_laws.specs.Joints.{dots_apart}
-use Rattle.splice_laws.specs.Swaps.{Swap, an_operand, a_type, a_stmt, a_deferred, TypeIn, this_type, inside_type, in_struct, in_field, in_later_fields, SigIn, in_named_params, in_results, in_unnamed, in_named, no_more_params, one_more_param, no_more_alike, one_more_alike, in_named_rest, in_later_named, StmtsIn, this_deferred, this_operand, inside_operand, in_args, in_first_expr, in_eval, in_simple, inside_stmt, in_function, in_this_decl, in_later_decls, in_decls, FileIn, in_right}
+use Rattle.splice_laws.specs.Swaps.{Swap, an_operand, a_type, a_stmt, a_deferred, TypeIn, this_type, inside_type, in_struct, in_field, in_later_fields, SigIn, in_named_params, in_results, in_unnamed, in_named, no_more_params, one_more_param, no_more_alike, in_named_rest, in_later_named, StmtsIn, this_deferred, this_operand, inside_operand, in_args, in_first_expr, in_eval, in_simple, inside_stmt, in_function, in_this_decl, in_later_decls, in_decls, FileIn, in_right}
 use Rattle.splice_laws.specs.Dots.{UndottedExpr}
 use Rattle.splice_laws.specs.Forms.{new_layout}
 use Rattle.splice_laws.specs.Splice.{are_two, first_word, spliced_text}

@@ -67,7 +67,8 @@ module _ {S : Type 0} (w : Swap S) where
       in_map_value : {s : S} {k t u : TypeExpr S} → TypeIn t u → PartOfType (map_type s k t) (map_type s k u)
       in_struct : {s : S} {fs gs : Fields S} → FieldsIn None fs gs → PartOfType (struct_type s fs) (struct_type s gs)
 
-    -- The type of fields: names that share a type, as in `a, b T`, have the same node, and it is swapped for each of them.
+    -- The type of fields: names that share a type, as in `a, b T`, have the same node, and it is swapped for each of
+    -- them.
     -- The fields before and behind them have another type, each with its span. The first index is the type before,
     -- where there is one.
     pub data FieldsIn : Option (TypeExpr S) → Fields S → Fields S → Type 0 where

@@ -1,4 +1,5 @@
-// Trees of whole files, read of their text.
+//! Trees of whole files, read of their text.
+
 ghost use Rattle.std.specs.Prelude.{◌≤◌, None, length};
 ghost use Rattle.go_words.specs.Tokens.{TokensOf};
 ghost use Rattle.go_scan.specs.Unsupported.{IsFirst, unsupported_spans};

@@ -1,4 +1,5 @@
-// Spans of declarations, types and fields, counted by hand.
+//! Spans of declarations, types and fields, counted by hand.
+
 use crate::files::read;
 use go_syntax::{Decl, Expr, Rest, Span, Stmt, TypeExpr, copy_stmt};
 use std::test::Fail;

@@ -1,4 +1,5 @@
-// Places in a text.
+//! Places in a text.
+
 use go_syntax::place;
 
 #[test]

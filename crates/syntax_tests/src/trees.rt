@@ -1,4 +1,5 @@
-// Copies and depth of each construct. A node is what has a span; the depths are counted by hand.
+//! Copies and depth of each construct. A node is what has a span; the depths are counted by hand.
+
 use crate::files::read;
 use go_syntax::{Decl, NoMemory, copy_expr, copy_stmt, depth};
 use std::alloc::Global;
@@ -32,7 +33,8 @@ fn is_deep<R: Abort + AllocGlobal>(rt: &R, text: &[u8], want: u32) -> Result<(),
     Ok(())
 }
 
-/// The literal of a function with this statement, called, is so much deeper than the statement: call, literal and block.
+/// The literal of a function with this statement, called, is so much deeper than the statement: call, literal and
+/// block.
 const AROUND: u32 = 3;
 
 fn holds<R: Abort + AllocGlobal>(rt: &R, stmt: &[u8], want: u32) -> Result<(), Fail> {

@@ -10,7 +10,8 @@ Within size (e ∷ es) = (e.span.end ≤ size) × Within size es
 -- the ranges are disjoint, ascend from an offset on, and end before another
 abbrev pub Ascend : ℕ → ℕ → List Edit → Type 0
 Ascend from size [] = from ≤ size
-Ascend from size (e ∷ es) = (from ≤ e.span.start) × (e.span.start ≤ e.span.end) × (e.span.end ≤ size) × Ascend e.span.end size es
+Ascend from size (e ∷ es) = (from ≤ e.span.start) × (e.span.start ≤ e.span.end) × (e.span.end ≤ size)
+    × Ascend e.span.end size es
 
 -- the old text from an offset on, with each range replaced
 abbrev pub replaced_from : List ℕ → ℕ → List Edit → List ℕ

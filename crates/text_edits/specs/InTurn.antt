@@ -13,8 +13,10 @@ moved_by e f = record f { span = record { start = moved_offset e f.span.start; e
 -- Edits of a text make another of it in turn.
 pub data InTurn : List ℕ → List Edit → List ℕ → Type 0 where
   done : (text : List ℕ) → InTurn text [] text
-  next : (text new : List ℕ) (front back : List Edit) (e : Edit) → InTurn (applied text (e ∷ [])) (front ++ map (moved_by e) back) new → InTurn text (front ++ e ∷ back) new
+  next : (text new : List ℕ) (front back : List Edit) (e : Edit) →
+      InTurn (applied text (e ∷ [])) (front ++ map (moved_by e) back) new → InTurn text (front ++ e ∷ back) new
 
 -- In turn they make what they make together.
 abbrev pub TurnsAgree : Type 0
-TurnsAgree = (text new : List ℕ) (es : List Edit) → Ascend 0 (length text) es → InTurn text es new → new ≡ applied text es
+TurnsAgree = (text new : List ℕ) (es : List Edit) → Ascend 0 (length text) es → InTurn text es new →
+    new ≡ applied text es

@@ -1,4 +1,5 @@
--- How the ranges of edits join that are made in turn: an edit of the text that earlier ones made, as an edit of the text that was first.
+-- How the ranges of edits join that are made in turn: an edit of the text that earlier ones made, as an edit of the
+-- text that was first.
 use Rattle.std.specs.Prelude.{◌≡◌, ℕ, ◌+◌, ◌-◌, ◌≤◌, ◌<◌, ◌⊎◌, if◌then◌else◌, nat_lt, List, [], ◌∷◌, ◌++◌, length, take, drop}
 use Rattle.go_tree.specs.declared.spans.Span.{Span}
 use Rattle.text_edits.specs.declared.edit.Edit.{Edit}
@@ -20,17 +21,21 @@ module _ (next : Edit) where
 
   -- the bytes of the first text from an offset on that stand in the edit's range
   abbrev pub HoldsBytes : Span → ℕ → ℕ → (ℕ → Type 0) → Type 0
-  HoldsBytes s from at P = (k : ℕ) → from ≤ k → P k → next.span.start ≤ at + (k - from) → at + (k - from) < next.span.end → Holds s k
+  HoldsBytes s from at P = (k : ℕ) → from ≤ k → P k → next.span.start ≤ at + (k - from) →
+      at + (k - from) < next.span.end → Holds s k
 
   -- the edit's range and the text of an earlier edit share a byte or meet
   abbrev pub Touches : ℕ → ℕ → Edit → Type 0
   Touches from at f = (begins from at f ≤ next.span.end) × (next.span.start ≤ ends from at f)
 
-  -- A span of the first text covers all bytes of the edit's range that stood there, and the range of each earlier edit that it touches.
+  -- A span of the first text covers all bytes of the edit's range that stood there, and the range of each earlier edit
+  -- that it touches.
   abbrev pub Covers : Span → ℕ → ℕ → List Edit → Type 0
   Covers s from at [] = HoldsBytes s from at (λ k. Unit {0})
   Covers s from at (f ∷ fs) =
-      HoldsBytes s from at (λ k. k < f.span.start) × (Touches from at f → (s.start ≤ f.span.start) × (f.span.end ≤ s.end)) × Covers s f.span.end (ends from at f) fs
+      HoldsBytes s from at (λ k. k < f.span.start)
+      × (Touches from at f → (s.start ≤ f.span.start) × (f.span.end ≤ s.end))
+      × Covers s f.span.end (ends from at f) fs
 
   abbrev pub TouchesOne : ℕ → ℕ → List Edit → Type 0
   TouchesOne from at [] = ⊥
@@ -41,34 +46,47 @@ module _ (next : Edit) where
   -- the earlier edits that end before the range, and those that begin behind it
   abbrev pub edits_before : ℕ → ℕ → List Edit → List Edit
   edits_before from at [] = []
-  edits_before from at (f ∷ fs) = if nat_lt (ends from at f) next.span.start then f ∷ edits_before f.span.end (ends from at f) fs else []
+  edits_before from at (f ∷ fs) =
+      if nat_lt (ends from at f) next.span.start then f ∷ edits_before f.span.end (ends from at f) fs else []
 
   abbrev pub edits_behind : ℕ → ℕ → List Edit → List Edit
   edits_behind from at [] = []
-  edits_behind from at (f ∷ fs) = if nat_lt next.span.end (begins from at f) then f ∷ fs else edits_behind f.span.end (ends from at f) fs
+  edits_behind from at (f ∷ fs) =
+      if nat_lt next.span.end (begins from at f) then f ∷ fs else edits_behind f.span.end (ends from at f) fs
 
   -- where the range begins and ends in the first text; with the ranges that it touches
   abbrev pub start_of : ℕ → ℕ → List Edit → ℕ
   start_of from at [] = from + (next.span.start - at)
   start_of from at (f ∷ fs) =
-      if nat_lt (ends from at f) next.span.start then start_of f.span.end (ends from at f) fs else if nat_lt next.span.start (begins from at f) then from + (next.span.start - at) else f.span.start
+      if nat_lt (ends from at f) next.span.start then start_of f.span.end (ends from at f) fs
+      else if nat_lt next.span.start (begins from at f) then from + (next.span.start - at) else f.span.start
 
   abbrev pub end_of : ℕ → ℕ → List Edit → ℕ
   end_of from at [] = from + (next.span.end - at)
-  end_of from at (f ∷ fs) = if nat_lt next.span.end (begins from at f) then from + (next.span.end - at) else end_of f.span.end (ends from at f) fs
+  end_of from at (f ∷ fs) =
+      if nat_lt next.span.end (begins from at f) then from + (next.span.end - at)
+      else end_of f.span.end (ends from at f) fs
 
   -- what stays before and behind the range of the texts that it touches
   abbrev pub text_before : ℕ → ℕ → List Edit → List ℕ
   text_before from at [] = []
-  text_before from at (f ∷ fs) = if nat_lt (ends from at f) next.span.start then text_before f.span.end (ends from at f) fs else take (next.span.start - begins from at f) f.text
+  text_before from at (f ∷ fs) =
+      if nat_lt (ends from at f) next.span.start then text_before f.span.end (ends from at f) fs
+      else take (next.span.start - begins from at f) f.text
 
   abbrev pub text_behind : ℕ → ℕ → List Edit → List ℕ
   text_behind from at [] = []
-  text_behind from at (f ∷ fs) = if nat_lt next.span.end (begins from at f) then [] else drop (next.span.end - begins from at f) f.text ++ text_behind f.span.end (ends from at f) fs
+  text_behind from at (f ∷ fs) =
+      if nat_lt next.span.end (begins from at f) then []
+      else drop (next.span.end - begins from at f) f.text ++ text_behind f.span.end (ends from at f) fs
 
   -- the edit, joined with all that it touches
   abbrev pub joined_edit : List Edit → Edit
-  joined_edit es = record { span = record { start = start_of 0 0 es; end = end_of 0 0 es }; text = text_before 0 0 es ++ (next.text ++ text_behind 0 0 es) }
+  joined_edit es =
+      record {
+        span = record { start = start_of 0 0 es; end = end_of 0 0 es };
+        text = text_before 0 0 es ++ (next.text ++ text_behind 0 0 es);
+      }
 
   -- the edits of the first text, with one more that is made in the text that they make
   abbrev pub joined : List Edit → List Edit
@@ -90,18 +108,21 @@ Next old es next = Ascend 0 (length old) es × IsSpan next.span × (next.span.en
 
 -- The joined edits make together what the earlier ones and then the next one make.
 abbrev pub JoinedAgree : Type 0
-JoinedAgree = (old : List ℕ) (es : List Edit) (next : Edit) → Next old es next → applied old (joined next es) ≡ applied (applied old es) (next ∷ [])
+JoinedAgree = (old : List ℕ) (es : List Edit) (next : Edit) → Next old es next →
+    applied old (joined next es) ≡ applied (applied old es) (next ∷ [])
 
 abbrev pub JoinedAscend : Type 0
 JoinedAscend = (old : List ℕ) (es : List Edit) (next : Edit) → Next old es next → Ascend 0 (length old) (joined next es)
 
 -- The span of the joined edit covers what it has to, and any other that does holds it.
 abbrev pub JoinedCovers : Type 0
-JoinedCovers = (old : List ℕ) (es : List Edit) (next : Edit) → Next old es next → Covers next (joined_edit next es).span 0 0 es
+JoinedCovers = (old : List ℕ) (es : List Edit) (next : Edit) → Next old es next →
+    Covers next (joined_edit next es).span 0 0 es
 
 abbrev pub JoinedIsLeast : Type 0
 JoinedIsLeast =
-    (old : List ℕ) (es : List Edit) (next : Edit) (other : Span) → Next old es next → (next.span.start < next.span.end) ⊎ TouchesOne next 0 0 es → Covers next other 0 0 es
+    (old : List ℕ) (es : List Edit) (next : Edit) (other : Span) → Next old es next →
+    (next.span.start < next.span.end) ⊎ TouchesOne next 0 0 es → Covers next other 0 0 es
     → (other.start ≤ (joined_edit next es).span.start) × ((joined_edit next es).span.end ≤ other.end)
 
 -- Where there is nothing to cover, it is empty and stands between the same bytes as the edit.
@@ -117,4 +138,5 @@ JoinedApart = (old : List ℕ) (es : List Edit) (next : Edit) → Next old es ne
 -- What keeps a text but for ranges, and is edited once more, keeps it but for the joined ranges.
 abbrev pub JoinedKeeps : Type 0
 JoinedKeeps =
-    (old new : List ℕ) (es : List Edit) (next : Edit) → Next old es next → new ≡ applied old es → Keeps old (applied new (next ∷ [])) (spans (joined next es))
+    (old new : List ℕ) (es : List Edit) (next : Edit) → Next old es next → new ≡ applied old es →
+    Keeps old (applied new (next ∷ [])) (spans (joined next es))

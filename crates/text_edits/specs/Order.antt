@@ -29,7 +29,8 @@ IsFree s (e ∷ es) = (Overlaps e.span s → ⊥) × IsFree s es
 abbrev pub IsPlace : ℕ → Span → List Edit → Type 0
 IsPlace k s es = (k ≤ length es) × ((e : Edit) → e.span ≡ s → InOrder (insert es k e))
 
--- Why an edit of the span isn't added: it overlaps the kept span that is named, or it overlaps none and memory was refused.
+-- Why an edit of the span isn't added: it overlaps the kept span that is named, or it overlaps none and memory was
+-- refused.
 abbrev pub IsCause : AddFault → Span → List Edit → Type 0
 IsCause (Overlap kept) s es = Overlaps kept s × Contains (spans es) kept
 IsCause NoMemory s es = IsFree s es

@@ -13,11 +13,13 @@ IsOutside k (e ∷ es) = (Holds e.span k → ⊥) × IsOutside k es
 abbrev pub place_from : ℕ → ℕ → List Edit → ℕ → ℕ
 place_from from at [] k = at + (k - from)
 place_from from at (e ∷ es) k =
-    if nat_lt k e.span.end then at + (k - from) else place_from e.span.end (at + (e.span.start - from) + length e.text) es k
+    if nat_lt k e.span.end then at + (k - from)
+    else place_from e.span.end (at + (e.span.start - from) + length e.text) es k
 
 abbrev pub place_after : List Edit → ℕ → ℕ
 place_after es k = place_from 0 0 es k
 
 -- Each byte that no edit replaces stands in the new text, at its place.
 abbrev pub BytesStay : Type 0
-BytesStay = (old : List ℕ) (es : List Edit) (k : ℕ) → Ascend 0 (length old) es → k < length old → IsOutside k es → slice_index (applied old es) (place_after es k) ≡ slice_index old k
+BytesStay = (old : List ℕ) (es : List Edit) (k : ℕ) → Ascend 0 (length old) es → k < length old → IsOutside k es →
+    slice_index (applied old es) (place_after es k) ≡ slice_index old k

@@ -1,4 +1,5 @@
--- How two spans of a text stand to each other. A span is the bytes from its start up to but without its end; it is empty where these are one.
+-- How two spans of a text stand to each other. A span is the bytes from its start up to but without its end; it is
+-- empty where these are one.
 use Rattle.std.specs.Prelude.{◌≡◌, ℕ, ◌≤◌, ◌<◌, ◌⊎◌}
 use Rattle.go_tree.specs.declared.spans.Span.{Span}
 
@@ -26,6 +27,7 @@ EmptyAtOneOffset a b = IsEmpty a × IsEmpty b × (a.start ≡ b.start)
 abbrev pub Overlaps : Span → Span → Type 0
 Overlaps a b = SharesByte a b ⊎ (LiesInside a b ⊎ (LiesInside b a ⊎ EmptyAtOneOffset a b))
 
--- The first ends where the second starts or before, and they aren't empty at one offset. An empty span precedes another that starts there.
+-- The first ends where the second starts or before, and they aren't empty at one offset. An empty span precedes another
+-- that starts there.
 abbrev pub Precedes : Span → Span → Type 0
 Precedes a b = (a.end ≤ b.start) × (a.start < b.end)

@@ -1,4 +1,5 @@
-// One edit of a text, and why it can't stand beside others.
+//! One edit of a text, and why it can't stand beside others.
+
 use go_tree::{Span, Text};
 use std::alloc::AllocFailed;
 

@@ -1,4 +1,5 @@
-// Laws of edits, for the runs that make them.
+//! Laws of edits, for the runs that make them.
+
 ghost use Rattle.text_edits.specs.InTurn.{TurnsAgree};
 ghost use Rattle.text_edits.specs.Joined.{JoinedAgree, JoinedApart, JoinedAscend, JoinedCovers, JoinedIsLeast, JoinedKeeps, JoinedStands};
 ghost use Rattle.text_edits.specs.Places.{BytesStay};

@@ -1,4 +1,5 @@
-// Lines and columns.
+//! Lines and columns.
+
 ghost use Rattle.std.specs.Prelude.{◌≡◌, ◌+◌, ◌≤◌, length, take};
 ghost use Rattle.text_places.specs.Lines.{lines_before, column_after};
 

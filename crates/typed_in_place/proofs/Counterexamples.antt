@@ -8,11 +8,10 @@ use Rattle.const_eval.specs.declared.consts.Const.TheVariants.{Whole}
 use Rattle.go_types.specs.Types.{basic, untyped, pointer_to}
 use Rattle.go_types.specs.Entities.{Env, run, exact, shift, constant, variable, type_name}
 use Rattle.go_types.specs.Operands.{value}
-use Rattle.go_types.specs.Recorded.{recorded_stmt}
 use Rattle.go_types.specs.Typing.{parts, stmts}
 use Rattle.go_types.specs.Programs.{Program}
 use Rattle.go_types.specs.WellTyped.{well_typed, refused_place}
-use Rattle.go_types.proofs.Trees.{refused_at, cst, v, int, sel, bin, un, app, comp, sw, ev, def, asg, ss, ty, mp, consts_at, type_at, file, pack}
+use Rattle.go_types.proofs.Trees.{refused_at, v, int, sel, bin, un, app, comp, sw, ev, def, asg, ss, ty, mp, consts_at, type_at, file, pack}
 use Rattle.go_types.proofs.Setting.{here, no_result}
 
 -- here, with const c int = 3, a variable j int, const C = 8, and type A = int8

@@ -1,13 +1,13 @@
 -- A use of a constant that is declared as the name of another, and the name of the other: they stand for one another at the end of the rounds of every program that holds the declaration.
-use Rattle.std.specs.Prelude.{◌≡◌, ℕ, true, false, List, [], ◌∷◌, Option, Some, None, nat_eq}
+use Rattle.std.specs.Prelude.{◌≡◌, ℕ, false, List, Option}
 use mathlib.Core.Path.{◌∙◌}
-use Rattle.go_tree.specs.Tree.{NameAt, Expr, no_exprs, expr_and}
+use Rattle.go_tree.specs.Tree.{NameAt, Expr}
 use Rattle.scope_names.specs.Means.{means, is_blank}
 use Rattle.go_types.specs.Answers.{is_among}
 use Rattle.go_types.specs.Entities.{Entity, Env, block_of}
 use Rattle.go_types.specs.Bodiless.{bodiless}
-use Rattle.go_types.specs.Programs.{constants, Headed, Program}
-use Rattle.go_types.specs.Collect.{env_of, valued_world}
+use Rattle.go_types.specs.Programs.{Headed, Program}
+use Rattle.go_types.specs.Collect.{valued_world}
 use Rattle.typed_in_place.specs.SameFacts.{SameOperand}
 use Rattle.typed_in_place.specs.Leaves.{Names}
 pub use Rattle.typed_in_place.specs.Declared.{NamesConstant}

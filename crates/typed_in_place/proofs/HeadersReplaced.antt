@@ -7,14 +7,14 @@ use Rattle.go_tree.specs.File.{TypeSpec, Receiver, Func}
 use Rattle.scope_names.specs.Means.{is_blank, binding}
 use Rattle.go_types.specs.Answers.{given, both, meets, only_if, otherwise, is_empty, distinct_by}
 use Rattle.go_types.specs.Types.{GoType, named_type, pointer_to, type_name_of, base_of}
-use Rattle.go_types.specs.Defined.{Method, under, has_keys}
+use Rattle.go_types.specs.Defined.{under, has_keys}
 use Rattle.go_types.specs.Entities.{Entity, variable, type_name, function, World, Env, meaning, type_of_name, Binds, extend, in_block}
 use Rattle.go_types.specs.TypeNames.{resolved, type_meant, func_type, written_type}
 use Rattle.go_types.specs.Operands.{all_typed}
 use Rattle.go_types.specs.Statements.{bind_all, bind_each, body_binds, body_ctx, constant_entity, variable_entity}
 use Rattle.go_types.specs.Typing.{all_parts, stmts}
 use Rattle.go_types.specs.Initial.{all_initial}
-use Rattle.go_types.specs.Programs.{Header, constants, variables, a_type_spec, a_func, Headed, header_names}
+use Rattle.go_types.specs.Programs.{Header, Headed, header_names}
 use Rattle.go_types.specs.Collect.{type_declared, file_env, env_of, DeclaredTypes, is_finite, type_entity, spec_type, alias_entity, good_entity, function_declared, declared_by, receiver_type, receiver_binds, method_declared}
 use Rattle.go_types.specs.WellTyped.{is_method, receiver_of, body_env, function_ok, body_ok}
 use Rattle.typed_in_place.specs.Replaced.{TypeReplaced, TypeOptionReplaced, SameName, no_name, one_name, SigReplaced, ExprsReplaced, StmtsReplaced}

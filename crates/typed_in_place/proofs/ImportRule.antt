@@ -1,5 +1,5 @@
 -- The rule for imports by itself: a program is well typed where its declarations are and its imports are; imports that go, and fresh ones that come, leave names declared once.
-use Rattle.std.specs.Prelude.{◌≡◌, refl, ℕ, suc, Bool, true, false, not, ◌&&◌, ◌||◌, List, [], ◌∷◌, ◌++◌, Option, Some, None, if◌then◌else◌, nat_eq, bytes_eq, is_none, codes}
+use Rattle.std.specs.Prelude.{◌≡◌, refl, ℕ, suc, Bool, true, false, not, ◌&&◌, ◌||◌, List, [], ◌∷◌, ◌++◌, nat_eq, bytes_eq, is_none, codes}
 use Rattle.std.specs.List.{list_all}
 use mathlib.Core.Path.{ap, ap₂, sym, ◌∙◌}
 use Rattle.std.proofs.Common.{arith}
@@ -11,7 +11,7 @@ use Rattle.go_types.specs.Collect.{DeclaredTypes, types_declared, collected}
 use Rattle.go_types.specs.WellTyped.{refused_unless, means_function, header_uses, is_used_in, import_ok, first_import, first_header, first_in_files, first_body, lacks_main, refused_header, refused_in, first_refused, well_typed}
 use Rattle.typed_in_place.specs.ProgramsAlike.{OneByOne, no_more, and_more, SameHeaders, DeclaredAlike, MethodsAlike, BodiesAlike}
 use Rattle.typed_in_place.specs.ImportRule.{imports_sound, imports_used, import_names, Fewer, no_imports, this_stays, this_goes, files_import, files_declare, package_declares, package_imports, declarations_ok, imports_ok, SamePackage, DeclarationsAlike}
-use Rattle.typed_in_place.proofs.WellTypedAlike.{none_refused, none_missing, refused_missing, none_one_of, first_header-alike, first_body-alike, well_typed-none}
+use Rattle.typed_in_place.proofs.WellTypedAlike.{none_refused, none_one_of, first_header-alike, first_body-alike, well_typed-none}
 use Rattle.std.proofs.lemmas.Slice.Eq.{bytes_eq-Decides}
 use Rattle.typed_in_place.proofs.SameUses.{Within, tail_within, both_within}
 use Rattle.typed_in_place.proofs.Rising.{and_first, and_second, both_true}

@@ -1,16 +1,16 @@
 -- Headers under other imports declare the same and are typed alike where each name that they look up means what it meant.
 use Rattle.go_types.specs.MethodDeclarations.{MethodName}
-use Rattle.std.specs.Prelude.{◌≡◌, refl, ℕ, Bool, true, false, not, ◌&&◌, ◌||◌, List, [], ◌∷◌, ◌++◌, Option, Some, None, if◌then◌else◌, bytes_eq, nat_eq, is_none, is_some}
+use Rattle.std.specs.Prelude.{◌≡◌, refl, ℕ, true, false, not, ◌&&◌, ◌||◌, List, [], ◌∷◌, ◌++◌, Option, Some, None, if◌then◌else◌, bytes_eq, nat_eq, is_none, is_some}
 use mathlib.Core.Path.{ap, sym, ◌∙◌, subst}
 use Rattle.std.proofs.Common.{arith}
 use Rattle.go_tree.specs.Tree.{Param, Sig, TypeExpr, Expr, ident, int_lit, rune_lit, str_lit, composite, selector, index, slice, call, func_lit, type_operand, unary, binary, star, Exprs, no_exprs, expr_and, Elems, no_elems, elem, Value, plain, braced, ValueOption, no_value, some_value}
 use Rattle.go_tree.specs.File.{TypeSpec, Receiver, Func}
-use Rattle.scope_names.specs.Means.{Environment, means, is_blank}
+use Rattle.scope_names.specs.Means.{Environment, is_blank}
 use Rattle.scope_names.specs.FreeNames.{names_of, free_type, free_type_option, free_params, free_expr, free_exprs, free_elems, free_value, free_value_option, free_stmts}
 use Rattle.go_types.specs.Answers.{given, both, meets, only_if, otherwise, is_empty, distinct_by}
 use Rattle.go_types.specs.Types.{GoType, named_type, type_name_of, base_of}
-use Rattle.go_types.specs.Defined.{Method, under, has_keys}
-use Rattle.go_types.specs.Entities.{Entity, variable, World, Env, meaning, type_of_name, defined_in, Binds, extend, in_block, universe, block_of}
+use Rattle.go_types.specs.Defined.{under, has_keys}
+use Rattle.go_types.specs.Entities.{Entity, variable, World, Env, type_of_name, defined_in, Binds, extend}
 use Rattle.go_types.specs.TypeNames.{resolved, type_meant, params_meant, func_type, written_type}
 use Rattle.go_types.specs.Operands.{typed, constant_of, all_typed}
 use Rattle.go_types.specs.Jumps.{labels_in}
@@ -19,7 +19,7 @@ use Rattle.go_types.specs.Statements.{bind_all, bind_each, body_binds, body_ctx,
 use Rattle.go_types.specs.Typing.{stmts}
 use Rattle.go_types.specs.Initial.{means_maker, means_nil, is_address, is_constant, all_constant, sizes_constant, is_maker, is_composite, is_initial, initial_elems, initial_key, initial_value, all_initial}
 use Rattle.go_types.specs.Bodiless.{all_bodiless}
-use Rattle.go_types.specs.Programs.{Header, constants, variables, a_type_spec, a_func, Headed}
+use Rattle.go_types.specs.Programs.{Header, Headed}
 use Rattle.go_types.specs.Collect.{type_declared, env_of, DeclaredTypes, is_finite, type_entity, spec_type, alias_entity, is_good_type, good_entity, may_be_main, function_declared, declared_by, receiver_type, receiver_binds, method_declared}
 use Rattle.go_types.specs.WellTyped.{receiver_of, body_env, function_ok, body_ok}
 use Rattle.go_types.specs.Agreement.{Same, On, Agrees, with_names}

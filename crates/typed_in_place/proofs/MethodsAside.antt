@@ -7,7 +7,7 @@ use Rattle.go_tree.specs.File.{TypeSpec}
 use Rattle.scope_names.specs.Means.{means, is_blank}
 use Rattle.go_types.specs.Answers.{given, both, only_if}
 use Rattle.go_types.specs.Types.{GoType, basic, named_type, pointer_to, slice_of, map_of, struct_of, tuple_of, untyped, untyped_nil, GoFields, no_go_fields, go_field}
-use Rattle.go_types.specs.Defined.{Method, Defined, find_defined, under_of, under, comparable_by, comparable_within, comparable, has_keys, fields_have_keys}
+use Rattle.go_types.specs.Defined.{Defined, find_defined, under_of, under, comparable_by, comparable_within, comparable, has_keys, fields_have_keys}
 use Rattle.go_types.specs.Entities.{Env, block_of}
 use Rattle.go_types.specs.TypeNames.{named_meaning, resolved, resolved_fields, field_before, type_meant}
 use Rattle.go_types.specs.Programs.{a_type_spec, Headed, Program}

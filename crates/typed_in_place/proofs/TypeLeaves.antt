@@ -1,5 +1,5 @@
 -- One type for another: an alias and what it stands for, in types and as what is called.
-use Rattle.std.specs.Prelude.{◌≡◌, refl, ℕ, true, false, ◌||◌, List, [], ◌∷◌, ◌++◌, Option, Some, None, is_some}
+use Rattle.std.specs.Prelude.{◌≡◌, refl, ℕ, false, ◌||◌, List, [], ◌∷◌, ◌++◌, Option, Some, None, is_some}
 use mathlib.Core.Path.{ap, ap₂, sym, ◌∙◌}
 use Rattle.go_tree.specs.Tree.{NameAt, TypeExpr, named, Expr, no_exprs, expr_and}
 use Rattle.scope_names.specs.Means.{is_blank}

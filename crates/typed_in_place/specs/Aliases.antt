@@ -1,6 +1,6 @@
 -- A type's text in another place, and an alias with the text of its type (Go specification, Alias declarations; Type
 -- identity; Qualified identifiers): the same text but for how names are written.
-use Rattle.std.specs.Prelude.{◌≡◌, ℕ, true, false, List, Option, Some, None, nat_eq}
+use Rattle.std.specs.Prelude.{◌≡◌, true, false, List, Option, Some, None, nat_eq}
 use Rattle.go_tree.specs.Tree.{NameAt, TypeExpr, named, pointer, slice_type, map_type, struct_type, Fields, no_fields, field, Expr, ident, selector, type_operand, star}
 use Rattle.go_tree.specs.File.{TypeSpec}
 use Rattle.scope_names.specs.Means.{is_blank}
@@ -46,7 +46,8 @@ pub data AsExpr {S : Type 0} : TypeExpr S → Expr S → Type 0 where
   by_text : {p : S} {t : TypeExpr S} → AsExpr t (type_operand p t)
 
 -- `type A = t` in a package block, the first declaration of its name there
-pub record DeclaresAlias {S : Type 0} (ps : Program S) (hs : List (Headed S)) (h : Headed S) (t : TypeSpec S) : Type 0 where
+pub record DeclaresAlias {S : Type 0} (ps : Program S) (hs : List (Headed S)) (h : Headed S)
+    (t : TypeSpec S) : Type 0 where
   pub header : h.header ≡ a_type_spec t
   pub alias : t.alias ≡ true
   pub sound : h.sound ≡ true

@@ -33,7 +33,8 @@ pub data ConstantOrRefused : Option Entity → Type 0 where
   refused_yet : ConstantOrRefused (Some refused)
 
 -- `const x = f` in a package block, where `f` is the name of a constant or of what isn't known
-pub record NamesConstant {S : Type 0} (ps : Program S) (hs : List (Headed S)) (h : Headed S) (x : NameAt S) (f : Expr S) (r : Option Entity) : Type 0 where
+pub record NamesConstant {S : Type 0} (ps : Program S) (hs : List (Headed S)) (h : Headed S) (x : NameAt S) (f : Expr S)
+    (r : Option Entity) : Type 0 where
   pub number : ℕ
   pub looked_up : List ℕ
   pub header : h.header ≡ constants (x ∷ []) None (expr_and f no_exprs) number

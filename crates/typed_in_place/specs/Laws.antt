@@ -17,7 +17,7 @@ use Rattle.go_types.specs.Bodies.{Ctx, body_binds, no_values}
 use Rattle.go_types.specs.Typing.{parts, all_parts, place, declares, stmt, stmts, used, used_stmts}
 use Rattle.go_types.specs.Initial.{all_initial}
 use Rattle.go_types.specs.Programs.{Import, Headed, Program, headed, is_init, env_of}
-use Rattle.go_types.specs.Collect.{alias_round, type_round, value_round, refused_world, aliased_world, types_declared, typed_world, valued_world, underlying, collected, package_constants, package_variables}
+use Rattle.go_types.specs.Collect.{alias_round, type_round, value_round, refused_world, aliased_world, types_declared, typed_world, valued_world, collected, package_constants, package_variables}
 use Rattle.go_types.specs.WellTyped.{function_ok, first_import, is_used_in, well_typed, body_ok}
 use Rattle.go_types.specs.Agreement.{Same, On}
 use Rattle.typed_in_place.specs.SameFacts.{UsedAlike, NoneAround, SameType, SameOperand, SameStatement}

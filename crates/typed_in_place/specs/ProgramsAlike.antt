@@ -1,12 +1,8 @@
 -- When two programs declare the same (Go specification, Declarations and scope; Packages): their headers stand one by
 -- one for one another, and declare the same where the rounds of each program end.
-use Rattle.std.specs.Prelude.{◌≡◌, ℕ, List, [], ◌∷◌, Option, Some, None, not, ◌||◌, if◌then◌else◌}
-use Rattle.scope_names.specs.Means.{is_blank}
-use Rattle.go_types.specs.Answers.{given}
-use Rattle.go_types.specs.Types.{GoType}
+use Rattle.std.specs.Prelude.{◌≡◌, List, [], ◌∷◌}
 use Rattle.go_types.specs.Entities.{World}
-use Rattle.go_types.specs.TypeNames.{resolved}
-use Rattle.go_types.specs.Programs.{constants, variables, a_type_spec, a_func, Headed, header_names, Program, headed}
+use Rattle.go_types.specs.Programs.{Headed, header_names, Program, headed}
 use Rattle.go_types.specs.Collect.{DeclaredTypes, alias_entity, type_declared, good_entity, declared_by, declared_on, method_header, aliased_world, types_declared, typed_world, valued_world}
 use Rattle.go_types.specs.WellTyped.{is_method, body_ok}
 

@@ -3,7 +3,7 @@
 -- for a part with the same facts.
 -- `around` are the names that are declared around in the same body, `env` the place; both run along as declarations go
 -- by.
-use Rattle.std.specs.Prelude.{◌≡◌, ℕ, ◌+◌, Bool, true, false, List, [], ◌∷◌, ◌++◌, length, Option, Some, None, if◌then◌else◌}
+use Rattle.std.specs.Prelude.{◌≡◌, ℕ, ◌+◌, Bool, true, false, List, [], ◌∷◌, ◌++◌, length, Option, Some, None}
 use Rattle.go_tree.specs.declared.operators.UnOp.{UnOp}
 use Rattle.go_tree.specs.declared.operators.BinOp.{BinOp}
 use Rattle.go_tree.specs.declared.exprs.Rest.{Rest}
@@ -52,7 +52,8 @@ module _ {S T : Type 0} where
           FieldsReplaced around env fs gs → FieldsReplaced around env (field p n t fs) (field q m u gs)
 
   -- a type that may be left out
-  pub data TypeOptionReplaced (around : List (List ℕ)) (env : Env) : Option (TypeExpr S) → Option (TypeExpr T) → Type 0 where
+  pub data TypeOptionReplaced (around : List (List ℕ)) (env : Env) : Option (TypeExpr S) → Option (TypeExpr T) →
+      Type 0 where
     no_type : TypeOptionReplaced around env None None
     some_type :
         {t : TypeExpr S} {u : TypeExpr T} → TypeReplaced around env t u →
@@ -300,7 +301,8 @@ module _ {S T : Type 0} where
 
     -- the members of a constant group: what a member has or repeats is the same where it stands. The second place is
     -- that at which uses are counted, where the names of the group mean nothing.
-    pub data ConstantsReplaced : List (List ℕ) → Env → Env → Repeated → Repeated → ℕ → ValueSpecs S → ValueSpecs T → Type 0 where
+    pub data ConstantsReplaced : List (List ℕ) → Env → Env → Repeated → Repeated → ℕ → ValueSpecs S → ValueSpecs T →
+        Type 0 where
       no_more_constants :
           {around : List (List ℕ)} {env uses : Env} {r o : Repeated} {i : ℕ} →
           ConstantsReplaced around env uses r o i no_specs no_specs

@@ -1,3 +1,5 @@
+//! Sets of parameters chosen for calls in Go, worked out by hand.
+
 ghost use Rattle.std.specs.Prelude.{◌<◌, ◌^◌, length};
 
 use order_hazards::{Class, Item, ParamRow};

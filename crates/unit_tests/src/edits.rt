@@ -1,4 +1,5 @@
-// Edits of a text, made together, and edits that overlap.
+//! Edits of a text, made together, and edits that overlap.
+
 ghost use Rattle.std.specs.Prelude.{◌≡◌, IfOk};
 
 use go_tree::{Span, Text};

@@ -1,3 +1,5 @@
+//! Arguments of calls in Go, alone and in pairs, worked out by hand.
+
 use order_hazards::{Class, Item, ParamRow, before, clash, solo};
 
 fn row(class: Class, uses: u32) -> ParamRow {

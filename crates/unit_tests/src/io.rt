@@ -1,4 +1,5 @@
-// Each call once with ample memory, and each call as it fails.
+//! Each call once with ample memory, and each call as it fails.
+
 ghost use Rattle.std.specs.Prelude.{◌<◌, length, IfSome};
 
 use fix_io::{

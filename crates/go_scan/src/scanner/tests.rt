@@ -1,5 +1,6 @@
-// Texts and their tokens: the examples of the Go specification, as Go's own go/scanner reads them, and texts that have
-// no tokens.
+//! Texts and their tokens: the examples of the Go specification, as Go's own go/scanner reads them, and texts that have
+//! no tokens.
+
 ghost use Rattle.std.specs.Prelude.{◌≤◌, length};
 
 use super::{ScanError, scan};

@@ -1,4 +1,4 @@
-// Texts and where their first word stands that is not supported.
+//! Texts and where their first word stands that is not supported.
 
 use super::unsupported;
 use crate::scanner::scan;

@@ -1,4 +1,5 @@
--- Characters of Go source (Go specification, Source code representation, Tokens; the Unicode Standard, General_Category).
+-- Characters of Go source (Go specification, Source code representation, Tokens; the Unicode Standard,
+-- General_Category).
 use Rattle.std.specs.Prelude.{ℕ, ◌==◌, Bool, true, false, ◌&&◌, ◌||◌, List, [], ◌∷◌}
 use Rattle.unicode.specs.GeneralCategory.{general_category}
 use Rattle.unicode.specs.declared.properties.GeneralCategory.{GeneralCategory}

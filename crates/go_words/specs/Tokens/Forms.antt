@@ -23,11 +23,13 @@ pub data HasForm : Form → List ℕ → Type 0 where
   without : HasForm empty []
   listed : (cs : List ℕ) (c : ℕ) → is_listed cs c ≡ true → HasForm (one_of cs) (c ∷ [])
   unlisted : (cs : List ℕ) (c : ℕ) → is_listed cs c ≡ false → HasForm (other_than cs) (c ∷ [])
-  joined : (f g : Form) (front back word : List ℕ) → word ≡ front ++ back → HasForm f front → HasForm g back → HasForm (both f g) word
+  joined : (f g : Form) (front back word : List ℕ) → word ≡ front ++ back → HasForm f front → HasForm g back →
+      HasForm (both f g) word
   the_one : (f g : Form) (word : List ℕ) → HasForm f word → HasForm (either f g) word
   the_other : (f g : Form) (word : List ℕ) → HasForm g word → HasForm (either f g) word
   no_more : (f : Form) → HasForm (many f) []
-  once_more : (f : Form) (front back word : List ℕ) → word ≡ front ++ back → HasForm f front → HasForm (many f) back → HasForm (many f) word
+  once_more : (f : Form) (front back word : List ℕ) → word ≡ front ++ back → HasForm f front → HasForm (many f) back →
+      HasForm (many f) word
 
 -- the forms one after the other
 abbrev pub in_turn : List Form → Form

@@ -1,4 +1,5 @@
--- Literals (Go specification, Integer literals, Floating-point literals, Imaginary literals, Rune literals, String literals).
+-- Literals (Go specification, Integer literals, Floating-point literals, Imaginary literals, Rune literals, String
+-- literals).
 use Rattle.std.specs.Prelude.{ℕ, List, [], ◌∷◌, ◌++◌, codes}
 use Rattle.go_words.specs.Tokens.Characters.{byte_order_mark}
 use Rattle.go_words.specs.Tokens.Forms.{Form, one_of, other_than, many, in_turn, any_of, maybe}
@@ -29,7 +30,10 @@ zero_with letters rest = in_turn (one_of (codes "0") ∷ one_of letters ∷ rest
 
 -- `0`, or a digit 1 to 9 and then digits
 abbrev pub decimal_lit : Form
-decimal_lit = any_of (one_of (codes "0") ∷ in_turn (one_of (codes "123456789") ∷ maybe (in_turn (maybe underscore ∷ digits_of decimal_digit ∷ [])) ∷ []) ∷ [])
+decimal_lit =
+    any_of (one_of (codes "0")
+    ∷ in_turn (one_of (codes "123456789") ∷ maybe (in_turn (maybe underscore ∷ digits_of decimal_digit ∷ [])) ∷ [])
+    ∷ [])
 
 abbrev pub binary_lit : Form
 binary_lit = zero_with (codes "bB") (in_turn (maybe underscore ∷ digits_of binary_digit ∷ []))
@@ -52,11 +56,13 @@ exponent_after letters = in_turn (one_of letters ∷ maybe (one_of (codes "+-"))
 
 abbrev pub decimal_float_lit : Form
 decimal_float_lit = let digits = digits_of decimal_digit in let exponent = exponent_after (codes "eE") in
-    any_of (in_turn (digits ∷ point ∷ maybe digits ∷ maybe exponent ∷ []) ∷ in_turn (digits ∷ exponent ∷ []) ∷ in_turn (point ∷ digits ∷ maybe exponent ∷ []) ∷ [])
+    any_of (in_turn (digits ∷ point ∷ maybe digits ∷ maybe exponent ∷ []) ∷ in_turn (digits ∷ exponent ∷ [])
+    ∷ in_turn (point ∷ digits ∷ maybe exponent ∷ []) ∷ [])
 
 abbrev pub hex_mantissa : Form
 hex_mantissa = let digits = digits_of hex_digit in
-    any_of (in_turn (maybe underscore ∷ digits ∷ point ∷ maybe digits ∷ []) ∷ in_turn (maybe underscore ∷ digits ∷ []) ∷ in_turn (point ∷ digits ∷ []) ∷ [])
+    any_of (in_turn (maybe underscore ∷ digits ∷ point ∷ maybe digits ∷ []) ∷ in_turn (maybe underscore ∷ digits ∷ [])
+    ∷ in_turn (point ∷ digits ∷ []) ∷ [])
 
 abbrev pub hex_float_lit : Form
 hex_float_lit = zero_with (codes "xX") (in_turn (hex_mantissa ∷ exponent_after (codes "pP") ∷ []))
@@ -83,7 +89,8 @@ four_digits = any_of (
 
 -- eight hexadecimal digits that name no surrogate and nothing over 10FFFF
 abbrev pub eight_digits : Form
-eight_digits = let nought = one_of (codes "0") in let hex_digits = in_turn (hex_digit ∷ hex_digit ∷ hex_digit ∷ hex_digit ∷ []) in
+eight_digits =
+    let nought = one_of (codes "0") in let hex_digits = in_turn (hex_digit ∷ hex_digit ∷ hex_digit ∷ hex_digit ∷ []) in
     any_of (
     in_turn (nought ∷ nought ∷ nought ∷ nought ∷ four_digits ∷ [])
     ∷ in_turn (nought ∷ nought ∷ nought ∷ one_of (codes "123456789ABCDEFabcdef") ∷ hex_digits ∷ [])

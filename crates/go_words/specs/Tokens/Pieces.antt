@@ -78,7 +78,8 @@ may_precede _ word rest = true
 pub record IsNext (text : List ℕ) (kind : PieceKind) (word rest : List ℕ) : Type 0 where
   pub parts : text ≡ word ++ rest
   pub spelled : IsPiece kind word
-  pub longest : (k : PieceKind) (front more : List ℕ) → text ≡ front ++ more → IsPiece k front → length front ≤ length word
+  pub longest : (k : PieceKind) (front more : List ℕ) → text ≡ front ++ more → IsPiece k front →
+      length front ≤ length word
   pub follows : may_precede kind word rest ≡ true
 
 pub record Piece : Type 0 where

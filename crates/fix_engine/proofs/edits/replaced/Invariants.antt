@@ -1,4 +1,4 @@
-use Rattle.std.proofs.Common.{◌≡◌, ◌≤◌, ◌++◌, drop, length}
+use Rattle.std.proofs.Common.{◌≡◌, ◌++◌, drop, length}
 use Rattle.text_edits.specs.Applied.{Ascend, replaced_from}
 use Rattle.fix_engine.proofs.edits.replaced.Given as goal
 

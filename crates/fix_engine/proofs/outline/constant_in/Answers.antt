@@ -1,4 +1,4 @@
-use Rattle.std.proofs.Common.{None, Some, refl, sym, ◌∙◌}
+use Rattle.std.proofs.Common.{None, Some, sym, ◌∙◌}
 use Rattle.fix_engine.proofs.ReadLemmas.{no_spec, no_name, typed_spec, with_value, made}
 use Rattle.fix_engine.proofs.outline.constant_in.Goals as goal
 

@@ -1,4 +1,4 @@
-use Rattle.std.proofs.Common.{◌≡◌, ℕ, suc, ◌+◌, ◌<◌, ◌≤◌, zero, List, [], ◌∷◌, map, length, drop, get_or, Option, Some, None, refl, sym, ap, subst, ◌∙◌, arith, add-one, drop-cons}
+use Rattle.std.proofs.Common.{◌≡◌, ℕ, suc, ◌+◌, ◌<◌, ◌≤◌, zero, List, [], ◌∷◌, map, length, drop, get_or, Some, None, refl, sym, ap, subst, ◌∙◌, arith, add-one, drop-cons}
 use Rattle.std.specs.Prelude.{sum}
 use Rattle.std.proofs.lemmas.Grind.{common_steps}
 use Rattle.go_tree.specs.declared.tokens.Token.{Token}
@@ -8,11 +8,10 @@ use Rattle.go_words.specs.declared.terminals.Terminal.{Terminal}
 use Rattle.go_words.specs.Codes.{spelled, terminal_at}
 use Rattle.go_words.proofs.CodeLemmas.{terminal_beside}
 use Rattle.go_nesting.proofs.CodeLemmas.{counts_code}
-use Rattle.go_nesting.specs.declared.counts.Counts.{Counts}
 use Rattle.go_nesting.specs.declared.counts.Nesting.{Nesting}
 use Rattle.go_nesting.specs.Nesting.{after}
 use Rattle.go_nesting.specs.Frames.{counts_of}
-use Rattle.go_nesting.specs.Over.{IsFirstOver, counts_at, first_over}
+use Rattle.go_nesting.specs.Over.{counts_at, first_over}
 use Rattle.go_nesting.proofs.OverLemmas.{over_here, over_later, nil-over, first_is_over}
 use Rattle.go_nesting.proofs.weight.weight_over.Goals as goal
 

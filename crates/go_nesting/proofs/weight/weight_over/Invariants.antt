@@ -1,5 +1,4 @@
-use Rattle.std.proofs.Common.{◌≡◌, ◌≤◌, [], ◌∷◌, drop}
-use Rattle.std.specs.Prelude.{sum}
+use Rattle.std.proofs.Common.{◌≡◌, [], ◌∷◌, drop}
 use Rattle.go_nesting.specs.Frames.{counts_of, IsSound}
 use Rattle.go_nesting.specs.Over.{first_over}
 use Rattle.go_nesting.proofs.weight.weight_over.Given as goal

@@ -1,4 +1,4 @@
-use Rattle.go_parse.proofs.SourceLemmas.{invalid, refused_of, stopped}
+use Rattle.go_parse.proofs.SourceLemmas.{invalid, stopped}
 use Rattle.go_parse.proofs.source.read_file.Goals as goal
 
 pub returns-in-Err-NotUtf8 : goal.returns-in-Err-NotUtf8

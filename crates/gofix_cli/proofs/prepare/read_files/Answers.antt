@@ -1,5 +1,5 @@
 use Rattle.std.proofs.Common.{◌∙◌, arith}
-use Rattle.gofix_cli.proofs.ReadLemmas.{none_first, one_more_read, all_first, same_source}
+use Rattle.gofix_cli.proofs.ReadLemmas.{one_more_read, all_first, same_source}
 use Rattle.gofix_cli.proofs.prepare.read_files.Goals as goal
 
 pub loop-i-preserved : goal.loop-i-preserved

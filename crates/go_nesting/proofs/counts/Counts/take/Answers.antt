@@ -1,13 +1,12 @@
-use Rattle.std.proofs.Common.{◌≡◌, ℕ, ◌+◌, ◌-◌, ◌<◌, ◌≤◌, zero, length, get_or, sym, ap, subst, ◌∙◌, arith}
-use Rattle.std.specs.Prelude.{sum}
+use Rattle.std.proofs.Common.{◌≡◌, ℕ, ◌+◌, ◌-◌, ◌<◌, ◌≤◌, length, get_or, sym, ap, ◌∙◌, arith}
 use Rattle.std.proofs.Math.ListN.{set}
 use Rattle.go_nesting.specs.declared.counts.Counts.{Counts}
 use Rattle.go_nesting.specs.declared.counts.Nesting.{Nesting}
 use Rattle.go_nesting.specs.declared.counts.Nesting.TheVariants.{Opens, Closes, Separates, Adds}
-use Rattle.go_read.specs.SpellsWeight.{opened, closed, separated, counted}
+use Rattle.go_read.specs.SpellsWeight.{counted}
 use Rattle.go_nesting.specs.Nesting.{after}
-use Rattle.go_nesting.specs.Frames.{frames, Counted, counts_of, IsSound}
-use Rattle.go_nesting.proofs.FrameLemmas.{top_small, opens_small, opened_is, counted_is, separated_is, closed_is, closed_zero, counted_opened, counted_closed, counted_at, sound_of}
+use Rattle.go_nesting.specs.Frames.{frames, counts_of}
+use Rattle.go_nesting.proofs.FrameLemmas.{top_small, opens_small, opened_is, counted_is, separated_is, closed_is, counted_opened, counted_closed, counted_at, sound_of}
 use Rattle.go_nesting.proofs.counts.Counts.take.Goals as goal
 
 -- what each kind of token leaves
