@@ -13,8 +13,9 @@ DEFINES = re.compile(r"^( *)(?:abbrev |unfoldable )?(?:mutual )?pub (record |dat
 INTRODUCTION = """# Definitions
 
 Each definition that a contract may cite, crate by crate and file by file, in the words that stand beside it in the file. A
-file's head names the section of the Go specification (or of another public document) that it states. This page is made by
-`docs/definitions.py` from crates/CRATE/specs/."""
+file's head names the section of the Go specification (or of another public document) that it states. A family of functions,
+one for each kind of tree, is said once: in the head, or beside the member that it is about; the others are listed behind
+"Of the same concept". This page is made by `docs/definitions.py` from crates/CRATE/specs/."""
 
 
 def crates():
@@ -67,7 +68,7 @@ def page_of(crate):
         rows = list(definitions_of(body))
         told = [f"- `{one}`: {words}" for one, words in rows if words]
         others = ", ".join(f"`{one}`" for one, words in rows if not words)
-        parts.append("\n".join([f"**{name}.** {head}", ""] + told + ([f"- {others}"] if others else [])))
+        parts.append("\n".join([f"**{name}.** {head}", ""] + told + ([f"- Of the same concept: {others}"] if others else [])))
     return f"## {crate}\n\n" + "\n\n".join(parts) if parts else ""
 
 
