@@ -39,7 +39,7 @@ const AROUND: u32 = 3;
 
 fn holds<R: Abort + AllocGlobal>(rt: &R, stmt: &[u8], want: u32) -> Result<(), Fail> {
     let text = joined(rt.alloc(), b"func() { ", stmt, b" }()")?;
-    is_deep(rt, &text, AROUND + want)
+    is_deep(rt, &text, AROUND.saturating_add(want))
 }
 
 #[test]
