@@ -89,5 +89,28 @@ nested "slice types" 397 'var x ' '[]' int '' '\n'
 nested "map types" 198 'var x ' 'map[int]' int '' '\n'
 nested "struct types" 132 'var x ' 'struct{a ' int '}' '\n'
 
+# doubled DEPTH: structs of two names that nest so deeply. Names that share a type have a copy of it each, so their tree has
+# 2^DEPTH types and more.
+doubled() {
+    {
+        printf 'package p\ntype T '
+        repeated 'struct{a, b ' "$1"
+        printf 'int'
+        repeated '}' "$1"
+        printf '\n'
+    } >"$work/file.go"
+}
+
+# bounded DEPTH STATUS ANSWER: the file is answered so within ten seconds of the processor and 2 GiB of memory.
+bounded() {
+    doubled "$1"
+    got=$(ulimit -v 2097152; ulimit -t 10; "$show" tree "$work/file.go" 2>&1)
+    code=$?
+    if [ "$code" = "$2" ] && [[ $got == *"$3" ]]; then pass; else fail "structs of two names, $1 deep: status $code, $got"; fi
+}
+
+bounded 10 0 read
+bounded 30 1 "out of memory"
+
 echo "$passed passed, $failed failed"
 [ "$failed" = 0 ]
