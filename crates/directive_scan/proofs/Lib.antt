@@ -1,4 +1,5 @@
 mod MarkChecks
+pub mod AroundLaws
 pub mod LineLaws
 pub mod TableLaws
 pub mod LedLaws

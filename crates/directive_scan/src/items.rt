@@ -1,13 +1,15 @@
 //! What of a file can be marked, and what can't.
 
-ghost use Rattle.std.specs.Prelude.{◌≡◌, ◌<◌, ◌^◌, ◌++◌, ◌∷◌, [], drop, map, length, None, IfOk};
+ghost use Rattle.std.specs.Prelude.{◌≡◌, ◌++◌, ◌∷◌, [], drop, map, None, IfOk};
 ghost use Rattle.std.specs.Option.{option_map, option_to_list};
 ghost use Rattle.go_tree.specs.Lists.{exprs_from, specs_from};
 ghost use Rattle.go_tree.specs.View.{expr_of, exprs_of, type_of, name_at_of, const_spec_of};
 ghost use Rattle.go_tree.specs.FileView.{type_spec_of, func_of, decl_of, file_of};
 ghost use Rattle.scope_names.specs.Means.{outermost};
+ghost use Rattle.directive_scan.specs.Around.{AreAround};
 ghost use Rattle.directive_scan.specs.Items.{constant_verdict, names_items, member_starts, specs_items, func_item, type_item, types_items, decl_items, items_of};
 
+use crate::around::Around;
 use crate::constants::names_constant;
 use crate::mark_types::{BadReason, MarkKind, Verdict};
 use go_tree::{ConstSpec, Decl, Expr, FileTree, FuncDecl, Name, NameAt, NoMemory, Span, TypeSpec};
@@ -70,13 +72,12 @@ fn member_start(start: u32, grouped: bool, span: Span) -> Option<u32>
 
 /// What a mark makes of the constant that comes `at` so many names behind the first of the spec.
 #[tactic(auto, using(crate::proofs::ItemLaws::verdict_laws))]
-fn value_verdict(names: &FileNames, spec: &ConstSpec, values: &[Expr], at: usize) -> Verdict
-    requires imports { length names.now.imports < 2 ^ 32 }
-    requires members { length names.now.package < 2 ^ 32 }
-    ensures { result ≡ constant_verdict (outermost names.now) (option_map type_of spec.now.of)
+fn value_verdict(around: &Around, spec: &ConstSpec, values: &[Expr], at: usize) -> Verdict
+    requires { AreAround around.now }
+    ensures { result ≡ constant_verdict (outermost around.now.names.now) (option_map type_of spec.now.of)
         (exprs_from (drop at (map expr_of values.now))) }
 {
-    if spec.of.is_none() && at < values.len() && names_constant(names, &values[at]) {
+    if spec.of.is_none() && at < values.len() && names_constant(around, &values[at]) {
         Verdict::Good(MarkKind::Constant)
     } else {
         Verdict::Bad(BadReason::NotNamedConstant)
@@ -87,22 +88,21 @@ fn value_verdict(names: &FileNames, spec: &ConstSpec, values: &[Expr], at: usize
 #[tactic(auto, using(crate::proofs::ItemLaws::names_laws))]
 fn add_names(
     alloc: Global,
-    names: &FileNames,
+    around: &Around,
     start: u32,
     grouped: bool,
     spec: &ConstSpec,
     items: &mut Vec<Item>,
 ) -> Result<(), NoMemory>
-    requires imports { length names.now.imports < 2 ^ 32 }
-    requires members { length names.now.package < 2 ^ 32 }
+    requires { AreAround around.now }
     ensures { IfOk result (λ _. items.new.items ≡ items.old.items
-        ++ names_items (outermost names.now) (member_starts start grouped spec.now.span)
+        ++ names_items (outermost around.now.names.now) (member_starts start grouped spec.now.span)
         (option_map type_of spec.now.of) (map name_at_of spec.now.names) (exprs_of spec.now.values)) }
 {
     let values = spec.values.items();
     let member = member_start(start, grouped, spec.span);
     for (i, name) in spec.names.items().iter().enumerate() {
-        let verdict = value_verdict(names, spec, values, i);
+        let verdict = value_verdict(around, spec, values, i);
         items.push(new_item(alloc, name, start, member, verdict)?)?;
     }
     Ok(())
@@ -110,19 +110,18 @@ fn add_names(
 
 fn add_specs(
     alloc: Global,
-    names: &FileNames,
+    around: &Around,
     start: u32,
     grouped: bool,
     specs: &[ConstSpec],
     items: &mut Vec<Item>,
 ) -> Result<(), NoMemory>
-    requires imports { length names.now.imports < 2 ^ 32 }
-    requires members { length names.now.package < 2 ^ 32 }
+    requires { AreAround around.now }
     ensures { IfOk result (λ _. items.new.items ≡ items.old.items
-        ++ specs_items (outermost names.now) start grouped (specs_from (map const_spec_of specs.now))) }
+        ++ specs_items (outermost around.now.names.now) start grouped (specs_from (map const_spec_of specs.now))) }
 {
     for spec in specs {
-        add_names(alloc, names, start, grouped, spec, items)?;
+        add_names(alloc, around, start, grouped, spec, items)?;
     }
     Ok(())
 }
@@ -134,8 +133,8 @@ fn add_type(
     spec: &TypeSpec,
     items: &mut Vec<Item>,
 ) -> Result<(), NoMemory>
-    ensures { IfOk result (λ _. items.new.items
-        ≡ items.old.items ++ type_item start grouped (type_spec_of spec.now) ∷ []) }
+    ensures { IfOk result (λ _. items.new.items ≡ items.old.items
+        ++ type_item start grouped (type_spec_of spec.now) ∷ []) }
 {
     let verdict = if spec.alias {
         Verdict::Good(MarkKind::Alias)
@@ -189,19 +188,18 @@ fn add_func(alloc: Global, func: &FuncDecl, items: &mut Vec<Item>) -> Result<(),
 
 fn add_decl(
     alloc: Global,
-    names: &FileNames,
+    around: &Around,
     decl: &Decl,
     items: &mut Vec<Item>,
 ) -> Result<(), NoMemory>
-    requires imports { length names.now.imports < 2 ^ 32 }
-    requires members { length names.now.package < 2 ^ 32 }
+    requires { AreAround around.now }
     ensures { IfOk result (λ _. items.new.items ≡ items.old.items
-        ++ decl_items (outermost names.now) (decl_of decl.now)) }
+        ++ decl_items (outermost around.now.names.now) (decl_of decl.now)) }
 {
     match decl {
         Decl::Const(decl) => add_specs(
             alloc,
-            names,
+            around,
             decl.span.start,
             decl.grouped,
             decl.specs.items(),
@@ -219,19 +217,26 @@ fn add_decl(
     }
 }
 
+/// What can be marked at all in a file, with what stands around its declarations.
+fn items_around(alloc: Global, around: &Around, file: &FileTree) -> Result<Vec<Item>, NoMemory>
+    requires { AreAround around.now }
+    ensures { IfOk result (λ items. items.items ≡ items_of around.now.names.now (file_of file.now)) }
+{
+    let mut items = Vec::new(alloc);
+    for decl in file.decls.items() {
+        add_decl(alloc, around, decl, &mut items)?;
+    }
+    Ok(items)
+}
+
 /// What can be marked at all in a file, in the order of the names.
 pub(crate) fn items_of(
     alloc: Global,
     names: &FileNames,
     file: &FileTree,
 ) -> Result<Vec<Item>, NoMemory>
-    requires imports { length names.now.imports < 2 ^ 32 }
-    requires members { length names.now.package < 2 ^ 32 }
     ensures { IfOk result (λ items. items.items ≡ items_of names.now (file_of file.now)) }
 {
-    let mut items = Vec::new(alloc);
-    for decl in file.decls.items() {
-        add_decl(alloc, names, decl, &mut items)?;
-    }
-    Ok(items)
+    let around = Around::of(alloc, names)?;
+    items_around(alloc, &around, file)
 }

@@ -1,6 +1,7 @@
 //! Marks for inlining: the lines `//go:fix inline` before declarations.
 #![tactic(auto)]
 
+mod around;
 mod constants;
 mod directive;
 mod found;

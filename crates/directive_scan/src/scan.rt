@@ -1,6 +1,6 @@
 //! The marks of a file.
 
-ghost use Rattle.std.specs.Prelude.{◌≡◌, ◌≤◌, ◌<◌, ◌+◌, ◌^◌, length, IfOk};
+ghost use Rattle.std.specs.Prelude.{◌≡◌, ◌≤◌, ◌+◌, length, IfOk};
 ghost use Rattle.go_tree.specs.FileView.{file_of};
 ghost use Rattle.directive_scan.specs.Lines.{line_of};
 ghost use Rattle.directive_scan.specs.Marked.{good_marks, bad_marks};
@@ -87,8 +87,6 @@ pub fn marks(
     names: &FileNames,
 ) -> Result<Marks, NoMemory>
     requires small { length text.now ≤ MAX_FILE_BYTES }
-    requires imports { length names.now.imports < 2 ^ 32 }
-    requires members { length names.now.package < 2 ^ 32 }
     ensures good { IfOk result (λ m. m.good ≡ good_marks text.now tokens.now.items tokens.now.comments names.now
         (file_of file.now)) }
     ensures bad { IfOk result (λ m. m.bad ≡ bad_marks text.now tokens.now.items tokens.now.comments names.now
