@@ -18,15 +18,19 @@ use Rattle.go_types.specs.Typing.{parts}
 use Rattle.run_rules.specs.Surroundings.{Place, is_logic, local_at, after_stmt, after_first, block, ranged, in_literal, after_variables}
 use Rattle.run_rules.specs.Classes.{is_variable, is_constant, is_map, is_text, is_string, is_bytes, is_byte_list, points, is_qualified, root, takes_address, may_fail}
 
+-- items, where a test passes
 abbrev pub if_items : Bool → List Item → List Item
 if_items b xs = if b then xs else []
 
+-- the underlying type of a type, where there is one
 abbrev pub underlying : Env → Option GoType → Option GoType
 underlying env t = given t (λ t. Some (under (defined_in env) t))
 
+-- its underlying type is a struct
 abbrev pub has_fields : Env → Option GoType → Bool
 has_fields env t = meets (underlying env t) is_struct
 
+-- a list through its first `Stop`
 abbrev pub up_to_stop : List Item → List Item
 up_to_stop [] = []
 up_to_stop (Stop ∷ xs) = Stop ∷ []
@@ -38,6 +42,7 @@ number_of same i [] v = None
 number_of same i (x ∷ xs) v = if meets x (same v) then Some i else number_of same (suc i) xs v
 
 module _ {S : Type 0} (same : S → S → Bool) (held : S → Bool) (params : List (Option S)) where
+  -- the number of the parameter that a name means at a place
   abbrev pub param_at : Place S → List ℕ → Option ℕ
   param_at p n = given (local_at p n) (number_of same 0 params)
 
@@ -46,9 +51,11 @@ module _ {S : Type 0} (same : S → S → Bool) (held : S → Bool) (params : Li
   read_of (Some v) d = if_items (is_variable d && held v) (Read ∷ [])
   read_of None d = if_items (is_variable d) (Read ∷ [])
 
+  -- a name: a use of a parameter, or a read of another variable
   abbrev pub name_items : Place S → List ℕ → List Item
   name_items p n = elim (param_at p n) [ Some i ↦ Param i ∷ [] | None ↦ read_of (local_at p n) (meaning p.env n) ]
 
+  -- a store to a local variable writes where the variable is held, one to a package variable always
   abbrev pub write_of : Option S → List Item
   write_of (Some v) = if_items (held v) (Write ∷ [])
   write_of None = Write ∷ []
@@ -57,6 +64,7 @@ module _ {S : Type 0} (same : S → S → Bool) (held : S → Bool) (params : Li
   abbrev pub store_name : Place S → List ℕ → List Item
   store_name p n = if is_blank n then [] else write_of (local_at p n)
 
+  -- the declaration of a held variable allocates its cell
   abbrev pub declared_items : List (NameAt S) → List Item
   declared_items [] = []
   declared_items (n ∷ ns) = if_items (held n.span) (Write ∷ []) ++ declared_items ns
@@ -66,9 +74,11 @@ module _ {S : Type 0} (same : S → S → Bool) (held : S → Bool) (params : Li
   selected_items p b xs =
       if is_qualified p.env b then Read ∷ [] else (if points p.env b then xs ++ Fail ∷ Read ∷ [] else xs)
 
+  -- an index, after its operands: of a map it reads, of a string it may fail, of a slice both
   abbrev pub index_items : Place S → Expr S → List Item
   index_items p b = if is_map p.env b then Read ∷ [] else (if is_text p.env b then Fail ∷ [] else Fail ∷ Read ∷ [])
 
+  -- a call, after its operands: a conversion, `len` and `cap` by what they read or allocate; any other call writes
   abbrev pub call_items : Place S → Option Operand → Exprs S → List Item
   call_items p (Some (a_type t)) (expr_and x xs) =
       if is_string p.env t && is_byte_list p.env x then Read ∷ []
@@ -77,9 +87,11 @@ module _ {S : Type 0} (same : S → S → Bool) (held : S → Bool) (params : Li
   call_items p (Some (a_builtin Cap)) xs = []
   call_items p o xs = Write ∷ []
 
+  -- a constant expression isn't evaluated when the program runs
   abbrev pub unless_constant : Env → Expr S → List Item → List Item
   unless_constant env e xs = if is_constant env e then [] else xs
 
+  -- a field of what a variable holds, by that variable; any other is behind a pointer
   abbrev pub field_read : Place S → Option (List ℕ) → List Item
   field_read p None = Fail ∷ Read ∷ []
   field_read p (Some n) = name_items p n
@@ -93,6 +105,7 @@ module _ {S : Type 0} (same : S → S → Bool) (held : S → Bool) (params : Li
   read_left p (index _ b i) = index_items p b
   read_left p e = Fail ∷ Read ∷ []
 
+  -- a store to a field of what a variable holds, by that variable; any other is behind a pointer
   abbrev pub field_store : Place S → Option (List ℕ) → List Item
   field_store p None = Fail ∷ Write ∷ []
   field_store p (Some n) = store_name p n
@@ -104,15 +117,18 @@ module _ {S : Type 0} (same : S → S → Bool) (held : S → Bool) (params : Li
       if is_qualified p.env b then Write ∷ [] else field_store p (root p.env (selector s b n))
   store_left p e = Fail ∷ Write ∷ []
 
+  -- the checks and stores of left sides, from left to right
   abbrev pub store_lefts : Place S → Exprs S → List Item
   store_lefts p no_exprs = []
   store_lefts p (expr_and e es) = store_left p e ++ store_lefts p es
 
+  -- what is read of the left sides of `op=`
   abbrev pub reads_left : Place S → Exprs S → List Item
   reads_left p no_exprs = []
   reads_left p (expr_and e es) = read_left p e ++ reads_left p es
 
   abbrev mutual
+    -- an expression
     pub items : Place S → Expr S → List Item
     items p (ident _ n) = name_items p n
     items p (int_lit _ _) = []
@@ -146,6 +162,7 @@ module _ {S : Type 0} (same : S → S → Bool) (held : S → Bool) (params : Li
     called_items p (func_lit _ g _ b) xs = Stop ∷ stmts_items (in_literal p g) b
     called_items p f xs = call_items p (parts p.env f) xs
 
+    -- the operand of `&`, which isn't read itself
     pub address_items : Place S → Expr S → List Item
     address_items p (ident _ n) = []
     address_items p (selector _ b n) =
@@ -155,10 +172,12 @@ module _ {S : Type 0} (same : S → S → Bool) (held : S → Bool) (params : Li
     address_items p (star _ e) = items p e ++ Fail ∷ []
     address_items p e = []
 
+    -- expressions, from left to right
     pub all_items : Place S → Exprs S → List Item
     all_items p no_exprs = []
     all_items p (expr_and e es) = items p e ++ all_items p es
 
+    -- an expression that may be left out
     pub option_items : Place S → ExprOption S → List Item
     option_items p no_expr = []
     option_items p (some_expr e) = items p e
@@ -169,6 +188,7 @@ module _ {S : Type 0} (same : S → S → Bool) (held : S → Bool) (params : Li
     elem_items p u (elem _ k v es) =
         key_items p u k ++ value_items p (given u (inner_type (defined_in p.env))) v ++ elem_items p u es
 
+    -- a key of a slice or map literal
     pub key_items : Place S → Option GoType → ValueOption S → List Item
     key_items p u no_value = []
     key_items p u (some_value k) =
@@ -190,10 +210,12 @@ module _ {S : Type 0} (same : S → S → Bool) (held : S → Bool) (params : Li
     left_items p (star _ e) = items p e
     left_items p e = []
 
+    -- the operands of left sides, from left to right
     pub lefts_items : Place S → Exprs S → List Item
     lefts_items p no_exprs = []
     lefts_items p (expr_and e es) = left_items p e ++ lefts_items p es
 
+    -- a statement
     pub stmt_items : Place S → Stmt S → List Item
     stmt_items p (const_decl _ _ ss) = []
     stmt_items p (var_decl _ _ ss) = spec_items p ss
@@ -218,18 +240,22 @@ module _ {S : Type 0} (same : S → S → Bool) (held : S → Bool) (params : Li
     stmt_items p (defer _ e) = Stop ∷ items p e
     stmt_items p (label _ n s) = stmt_items p s
 
+    -- statements in their order
     pub stmts_items : Place S → Stmts S → List Item
     stmts_items p no_stmts = []
     stmts_items p (stmt_and s ss) = stmt_items p s ++ stmts_items (after_stmt p s) ss
 
+    -- the first or the last statement of a header
     pub first_items : Place S → StmtOption S → List Item
     first_items p no_stmt = []
     first_items p (some_stmt s) = stmt_items p s
 
+    -- the last block of an `if`
     pub block_items : Place S → BlockOption S → List Item
     block_items p no_block = []
     block_items p (some_block _ b) = stmts_items (block p) b
 
+    -- the left side of a `range` clause
     pub range_items : Place S → RangeLeft S → List Item
     range_items p nothing = []
     range_items p (assigns es) = lefts_items p es ++ store_lefts p es
@@ -242,10 +268,12 @@ module _ {S : Type 0} (same : S → S → Bool) (held : S → Bool) (params : Li
         first_items p i ++ items (after_first p i) t ++ Stop ∷ stmts_items (block (after_first p i)) b
         ++ arm_items (block (after_first p i)) rest
 
+    -- the clauses of a `switch`
     pub case_items : Place S → Cases S → List Item
     case_items p no_cases = []
     case_items p (case _ es b cs) = all_items p es ++ stmts_items (block p) b ++ case_items p cs
 
+    -- the specs of a `var` declaration
     pub spec_items : Place S → ValueSpecs S → List Item
     spec_items p no_specs = []
     spec_items p (spec s ns t es ss) = all_items p es ++ declared_items ns ++ spec_items (after_variables p ns t es) ss

@@ -36,6 +36,7 @@ use Rattle.go_types.specs.Bodies.{is_body}
 
 -- ---- conversions of a value that takes the place of one of a type
 
+-- the type of the other operand
 abbrev pub beside_type : Use → Option GoType
 beside_type (beside t) = Some t
 beside_type u = None
@@ -46,10 +47,12 @@ target_type (into t) = Some t
 target_type (returned (t ∷ [])) = Some t
 target_type u = None
 
+-- it stands whole as an argument of `print`, `println` or `panic`, or as a right side without a type
 abbrev pub is_whole : Use → Bool
 is_whole whole = true
 is_whole u = false
 
+-- the type is `bool`
 abbrev pub is_bool : GoType → Bool
 is_bool t = identical t (basic kind.Bool)
 
@@ -73,6 +76,7 @@ chosen_entity t (u, run) =
     if meets (untyped_kind u) (same_kind kind.UntypedBool) && is_bool t then stand_in elsewhere u run else variable t
 chosen_entity t (u, shift cs) = variable t
 
+-- the blank identifier
 abbrev pub blank : List ℕ
 blank = codes "_"
 
@@ -96,15 +100,18 @@ pub record Call (S : Type 0) : Type 0 where
   pub new : S
   pub written : TypeExpr S → TypeExpr S
 
+-- the arguments are one call with several results
 abbrev pub is_several : Option (List Operand) → Bool
 is_several (Some (several ts ∷ [])) = true
 is_several os = false
 
 module _ {S : Type 0} where
+  -- parameters with their types and arguments, one by one
   abbrev pub givens : List (Param S) → List GoType → List (Expr S) → List (Given S)
   givens (p ∷ ps) (t ∷ ts) (e ∷ es) = record { param = p; type = t; arg = e } ∷ givens ps ts es
   givens ps ts es = []
 
+  -- the parameter's name, or `_` where it has none
   abbrev pub param_name : Param S → List ℕ
   param_name p = elim p.name [ None ↦ blank | Some n ↦ n.name ]
 
@@ -112,14 +119,17 @@ module _ {S : Type 0} where
   abbrev pub declared_place : Param S → Option S
   declared_place p = given p.name (λ n. if is_blank n.name then None else Some n.span)
 
+  -- the expressions as a list
   abbrev pub list_of : Exprs S → List (Expr S)
   list_of no_exprs = []
   list_of (expr_and e es) = e ∷ list_of es
 
+  -- the list as expressions
   abbrev pub exprs_of : List (Expr S) → Exprs S
   exprs_of [] = no_exprs
   exprs_of (e ∷ es) = expr_and e (exprs_of es)
 
+  -- where a part stands
   abbrev pub place_of : Seen S → Place S
   place_of (seen p u e) = p
   place_of (seen_type p t) = p
@@ -132,11 +142,13 @@ module _ {S : Type 0} where
   receiver_for z env b pointer_method =
       if pointer_method then (if points env b then b else unary z Address b) else (if points env b then star z b else b)
 
+  -- the receiver's argument, where a method has this name
   abbrev pub receiver_of : S → Env → Expr S → List ℕ → List (Expr S)
   receiver_of z env b n =
       elim (given (type_at env b) (λ t. find_method n (methods (defined_in env) (otherwise (base_of t) t))))
       [ None ↦ [] | Some m ↦ receiver_for z env b m.pointer ∷ [] ]
 
+  -- the receiver's argument of a call, where a method is called
   abbrev pub receiver_in : S → Bool → Env → Expr S → List (Expr S)
   receiver_in z true env (selector _ b n) = receiver_of z env b n.name
   receiver_in z m env f = []
@@ -156,6 +168,8 @@ module _ {S : Type 0} where
   is_simple (ident _ n) = true
   is_simple e = false
 
+  -- it may be written more than once: a name, a field of a name, a name with its package, `&` of a name, or a literal
+  -- of at most 32 bytes
   abbrev pub is_duplicable : Expr S → Bool
   is_duplicable (ident _ n) = true
   is_duplicable (selector _ e n) = is_simple e
@@ -165,6 +179,7 @@ module _ {S : Type 0} where
   is_duplicable (str_lit _ s) = nat_le (length s) 32
   is_duplicable e = false
 
+  -- the predeclared `recover` is named
   abbrev pub is_recover : Seen S → Bool
   is_recover (seen p u (ident _ n)) = means_recover (meaning p.env n)
     where
@@ -173,10 +188,12 @@ module _ {S : Type 0} where
       means_recover d = false
   is_recover x = false
 
+  -- how many parts of a list pass a test
   abbrev pub count_seen : (Seen S → Bool) → List (Seen S) → ℕ
   count_seen test [] = 0
   count_seen test (x ∷ xs) = if test x then suc (count_seen test xs) else count_seen test xs
 
+  -- a name is a whole left side of `=` or `:=`
   abbrev pub is_stored : Seen S → Bool
   is_stored (seen p stored (ident _ n)) = true
   is_stored x = false
@@ -198,6 +215,7 @@ module _ {S : Type 0} (same : S → S → Bool) where
   changes v (seen p updated e) = is_rooted same v p e
   changes v x = address_taken same v x
 
+  -- the same of a parameter, where it is declared by a name
   abbrev pub changes_param : Option S → Seen S → Bool
   changes_param None x = false
   changes_param (Some v) x = changes v x
@@ -218,6 +236,7 @@ module _ {S : Type 0} (same : S → S → Bool) where
   abbrev pub declared_in_part : ℕ → Place S → List (NameAt S)
   declared_in_part before p = take (length p.bound - before) p.bound
 
+  -- a variable is assigned that the part doesn't declare
   abbrev pub assigns_outside : ℕ → Seen S → Bool
   assigns_outside before (seen p stored e) =
       meets (root p.env e) (λ n. not (is_among n (names_of (declared_in_part before p))))
@@ -228,41 +247,53 @@ module _ {S : Type 0} (same : S → S → Bool) where
   -- ---- a call
 
   module _ (ps : List (Package S)) (c : Call S) where
+    -- where the function's body begins
     abbrev pub start : Place S
     start = body_place ps c.home.number c.home.of c.home.source.tree c.callee
 
+    -- the types of its parameters and results, without a receiver
     abbrev pub func_type_is : FuncType
     func_type_is = type_of_func ps c.home.number c.home.of c.home.source.tree c.callee
 
+    -- its parameters, the receiver first
     abbrev pub all_params : List (Param S)
     all_params = params_of ps c.callee
 
+    -- it is a method
     abbrev pub has_receiver : Bool
     has_receiver = is_some c.callee.receiver
 
+    -- all parts of its body
     abbrev pub body_seen : List (Seen S)
     body_seen = stmts_seen start c.callee.body
 
+    -- the call's arguments are one call with several results
     abbrev pub spread_call : Bool
     spread_call = is_spread c.at.env c.tree
 
+    -- the call's arguments, the receiver's first
     abbrev pub args : List (Expr S)
     args = arguments c.new has_receiver c.at.env c.tree
 
+    -- its parameters with their arguments; none where the arguments are one call with several results
     abbrev pub given_params : List (Given S)
     given_params =
         if spread_call then [] else givens all_params (param_types ps c.home.number c.home.of c.home.source.tree
         c.callee) args
 
+    -- an argument's type, and its value where it is constant
     abbrev pub arg_typed : Expr S → Typed
     arg_typed e = otherwise (given (parts c.at.env e) typed) (untyped_nil, run)
 
+    -- a variable that is held in the function
     abbrev pub callee_held : S → Bool
     callee_held v = is_held same body_seen v
 
+    -- a variable that is held in the declaration around the call
     abbrev pub caller_held : S → Bool
     caller_held v = is_held same c.around v
 
+    -- all parts of the call
     abbrev pub call_seen : List (Seen S)
     call_seen = expr_seen c.at c.use_ c.tree
 
@@ -274,6 +305,7 @@ module _ {S : Type 0} (same : S → S → Bool) where
         let v : Typed = arg_typed g.arg in free_expr [] g.arg
         ++ (if is_untyped v.0 || not (identical v.0 g.type) then free_type [] (c.written g.param.of) else [])
 
+    -- the number of names that the parameters declare
     abbrev pub param_count : ℕ
     param_count = length (not_blank (param_names all_params))
 
@@ -281,15 +313,19 @@ module _ {S : Type 0} (same : S → S → Bool) where
     abbrev pub binders_around : Place S → List (List ℕ)
     binders_around p = names_of (take (length p.bound - param_count) p.bound)
 
+    -- at a use of the parameter a name that is free in its argument is declared in the body
     abbrev pub is_captured : List (List ℕ) → Option S → Seen S → Bool
     is_captured free v x = uses v x && list_any (λ n. is_among n (binders_around (place_of x))) free
 
+    -- all parts of an argument
     abbrev pub arg_seen : Given S → List (Seen S)
     arg_seen g = expr_seen c.at other g.arg
 
+    -- some argument has a literal that assigns a variable declared outside the argument
     abbrev pub some_literal_assigns : Bool
     some_literal_assigns = list_any (λ g. list_any (assigns_outside (length c.at.bound)) (arg_seen g)) given_params
 
+    -- the argument may never take the parameter's place
     abbrev pub is_barred : Given S → Option S → Bool
     is_barred g v =
         list_any (changes_param v) body_seen || (list_any (is_captured (free_names g) v) body_seen
@@ -299,6 +335,7 @@ module _ {S : Type 0} (same : S → S → Bool) where
     abbrev pub is_last_use : S → Bool
     is_last_use v = nat_eq (count_seen (is_use_of v) c.around) (count_seen (is_use_of v) call_seen)
 
+    -- what is known of a parameter
     abbrev pub row : Given S → ParamRow
     row g =
         let v : Option S = declared_place g.param in
@@ -315,21 +352,25 @@ module _ {S : Type 0} (same : S → S → Bool) where
           address = list_any takes_variable (arg_seen g);
         }
 
+    -- the parameters with a name that is free in argument i
     abbrev pub pairs_with : ℕ → List (List ℕ) → List (ℕ × Given S) → List (ℕ × ℕ)
     pairs_with i free [] = []
     pairs_with i free (h ∷ hs) =
         if is_some (declared_place h.1.param) && is_among (param_name h.1.param) free
         then (i, h.0) ∷ pairs_with i free hs else pairs_with i free hs
 
+    -- each argument with the parameters whose names are free in it
     abbrev pub name_pairs : List (ℕ × Given S) → List (ℕ × ℕ)
     name_pairs [] = []
     name_pairs (g ∷ gs) = pairs_with g.0 (free_names g.1) (numbered given_params) ++ name_pairs gs
 
     -- ---- items
 
+    -- a parameter lives in a cell where its address is taken, or where it is held and changed
     abbrev pub lives_in_cell : S → Bool
     lives_in_cell v = list_any (address_taken same v) body_seen || (callee_held v && list_any (changes v) body_seen)
 
+    -- a parameter passes a test, where it is declared by a name
     abbrev pub held_place : (S → Bool) → Param S → Bool
     held_place test p = meets (declared_place p) test
 
@@ -338,11 +379,13 @@ module _ {S : Type 0} (same : S → S → Bool) where
     starts_in_cell =
         list_any (held_place lives_in_cell) all_params || list_any (held_place callee_held) c.callee.sig.results
 
+    -- what evaluating the body does
     abbrev pub all_body_items : List Item
     all_body_items =
         (if starts_in_cell then Write ∷ [] else []) ++ stmts_items same callee_held (map declared_place all_params)
         start c.callee.body
 
+    -- what is known of the call's parameters together
     abbrev pub table : CallTable
     table =
         record {
@@ -354,12 +397,14 @@ module _ {S : Type 0} (same : S → S → Bool) where
 
     -- ---- constant faults, and the chosen set
 
+    -- the chosen parameters' names, each meaning its argument
     abbrev pub chosen_binds : List Bool → List (ℕ × Given S) → Binds
     chosen_binds kept [] = []
     chosen_binds kept (g ∷ gs) =
         (if has kept g.0 then binding (param_name g.1.param) (chosen_entity g.1.type (arg_typed g.1.arg)) else [])
         ++ chosen_binds kept gs
 
+    -- an environment with further names, innermost
     abbrev pub with_meanings : Binds → Env → Env
     with_meanings bs env = record env { names = bs ++ env.names }
 
@@ -367,6 +412,7 @@ module _ {S : Type 0} (same : S → S → Bool) where
     abbrev pub start_with : List Bool → Place S
     start_with kept = record start { env = with_meanings (chosen_binds kept (numbered given_params)) start.env }
 
+    -- the body is well typed where the chosen parameters stand for their arguments
     abbrev pub body_is_typed : List Bool → Bool
     body_is_typed kept = is_body func_type_is c.callee.body (stmts start.ctx (start_with kept).env false c.callee.body)
 
@@ -380,9 +426,11 @@ module _ {S : Type 0} (same : S → S → Bool) where
     abbrev pub chosen : List Bool
     chosen = let kept : List Bool = best table true in if body_is_faulty kept then best table false else kept
 
+    -- the parameters of a list that aren't chosen
     abbrev pub bound_from : List Bool → List (ℕ × Given S) → List (Given S)
     bound_from kept [] = []
     bound_from kept (g ∷ gs) = if has kept g.0 then bound_from kept gs else g.1 ∷ bound_from kept gs
 
+    -- the parameters that aren't chosen, with their arguments
     abbrev pub bound_params : List Bool → List (Given S)
     bound_params kept = bound_from kept (numbered given_params)

@@ -10,14 +10,17 @@ use Rattle.order_hazards.specs.Items.{is_use, is_write, is_effect}
 use Rattle.param_choice.specs.declared.table.CallTable.{CallTable}
 use Rattle.param_choice.specs.Chosen.{has}
 
+-- it is the class of arguments that act
 abbrev pub is_acts : Class → Bool
 is_acts Acts = true
 is_acts Looks = false
 is_acts Steady = false
 
+-- the one implies the other
 abbrev pub holds_if : Bool → Bool → Bool
 holds_if a b = not a || b
 
+-- it is the class of arguments that look
 abbrev pub is_looks : Class → Bool
 is_looks Acts = false
 is_looks Looks = true
@@ -34,6 +37,7 @@ keeps_place c i uses items writes =
     holds_if (is_looks c) (not writes || all_ahead is_write i uses items)
     && holds_if (is_acts c) (nat_eq uses 1 && all_ahead is_effect i 1 items)
 
+-- an argument whose parameter has no use may be left out
 abbrev pub may_be_dropped : ParamRow → Bool
 may_be_dropped r = not (is_acts r.class) && (not r.address && (not r.names_held && not r.last_use))
 
@@ -46,6 +50,7 @@ solo r i items writes =
     && (holds_if (nat_eq r.uses 0) (may_be_dropped r)
     && keeps_place r.class i r.uses items writes)))
 
+-- two arguments that may not change their order
 abbrev pub clash : Class → Class → Bool
 clash Acts Acts = true
 clash Acts Looks = true
@@ -59,6 +64,7 @@ clash Steady c = false
 abbrev pub before : List Item → ℕ → ℕ → ℕ → Bool
 before items i uses j = all_ahead (is_use j) i uses items
 
+-- rows with their numbers, from a number on
 abbrev pub rows_from : ℕ → List ParamRow → List (ℕ × ParamRow)
 rows_from i [] = []
 rows_from i (r ∷ rs) = (i, r) ∷ rows_from (suc i) rs
@@ -81,6 +87,7 @@ module _ (t : CallTable) where
       list_all (λ x. holds_if (clashes_with q x) (has kept x.0)) (rows_from 0 t.rows)
       && list_all (λ n. holds_if (nat_eq n.0 q.0 && not (nat_eq n.1 q.0)) (has kept n.1)) t.names
 
+  -- the parameters that may be chosen as far as no other has to be
   abbrev pub first_kept : Bool → List Bool
   first_kept constants = map (may_be_chosen constants) (rows_from 0 t.rows)
 
@@ -96,6 +103,7 @@ module _ (t : CallTable) where
   all_met kept (q ∷ qs) [] = true
   all_met kept (q ∷ qs) (b ∷ bs) = holds_if b (needs_met kept q) && all_met kept qs bs
 
+  -- what is left after at most so many rounds of striking out
   abbrev pub strikes : ℕ → List Bool → List Bool
   strikes zero kept = kept
   strikes (suc n) kept =

@@ -32,9 +32,11 @@ worse Looks Looks = Looks
 worse Looks Acts = Acts
 worse Acts c = Acts
 
+-- the type is `uint8`
 abbrev pub is_uint8 : GoType → Bool
 is_uint8 t = meets (basic_kind t) (same_kind kind.Uint8)
 
+-- a kind of unsigned whole numbers
 abbrev pub is_unsigned : Kind → Bool
 is_unsigned kind.Uint = true
 is_unsigned kind.Uint8 = true
@@ -43,6 +45,7 @@ is_unsigned kind.Uint32 = true
 is_unsigned kind.Uint64 = true
 is_unsigned k = false
 
+-- a name means a variable
 abbrev pub is_variable : Option Entity → Bool
 is_variable (Some (variable t)) = true
 is_variable d = false
@@ -51,9 +54,11 @@ is_variable d = false
 abbrev pub is_bytes : Env → GoType → Bool
 is_bytes env t = meets (element_of (under (defined_in env) t)) (λ e. is_uint8 (under (defined_in env) e))
 
+-- a type whose underlying type is a string
 abbrev pub is_string : Env → GoType → Bool
 is_string env t = kind_passes (defined_in env) is_text_kind t
 
+-- a constant
 abbrev pub is_constant_operand : Option Operand → Bool
 is_constant_operand (Some (value t (exact c))) = true
 is_constant_operand o = false
@@ -61,24 +66,31 @@ is_constant_operand o = false
 module _ {S : Type 0} where
   -- ---- what expressions are
 
+  -- the type of an expression
   abbrev pub type_at : Env → Expr S → Option GoType
   type_at env e = given (given (parts env e) typed) (λ v. Some v.0)
 
+  -- a constant expression
   abbrev pub is_constant : Env → Expr S → Bool
   is_constant env e = is_constant_operand (parts env e)
 
+  -- a pointer
   abbrev pub points : Env → Expr S → Bool
   points env e = meets (type_at env e) (λ t. is_some (base_of (under (defined_in env) t)))
 
+  -- a map
   abbrev pub is_map : Env → Expr S → Bool
   is_map env e = meets (type_at env e) (λ t. is_some (map_parts (under (defined_in env) t)))
 
+  -- a string
   abbrev pub is_text : Env → Expr S → Bool
   is_text env e = meets (type_at env e) (is_string env)
 
+  -- a slice of bytes
   abbrev pub is_byte_list : Env → Expr S → Bool
   is_byte_list env e = meets (type_at env e) (is_bytes env)
 
+  -- a shift count of an unsigned type
   abbrev pub counts_unsigned : Env → Expr S → Bool
   counts_unsigned env e = meets (type_at env e) (kind_passes (defined_in env) is_unsigned)
 
@@ -90,6 +102,7 @@ module _ {S : Type 0} where
   may_fail env Shr b = not (is_constant env b) && not (counts_unsigned env b)
   may_fail env o b = false
 
+  -- the package before a dot
   abbrev pub is_qualified : Env → Expr S → Bool
   is_qualified env b = is_some (package_before env b)
 
@@ -108,6 +121,7 @@ module _ {S : Type 0} where
   -- ---- held variables, each by the place where it is declared
 
   module _ (same : S → S → Bool) where
+    -- it is the variable that is declared at a place, or a field of it
     abbrev pub is_rooted : S → Place S → Expr S → Bool
     is_rooted v p e = meets (given (root p.env e) (local_at p)) (same v)
 
@@ -123,6 +137,7 @@ module _ {S : Type 0} where
         p.deferred && (not (is_among n (names_of p.since)) && meets (local_at p n) (same v))
     named_later v x = false
 
+    -- its address is taken, or a deferred literal outside which it is declared names it
     abbrev pub is_held : List (Seen S) → S → Bool
     is_held xs v = list_any (λ x. address_taken v x || named_later v x) xs
 
@@ -135,10 +150,12 @@ module _ {S : Type 0} (held : S → Bool) where
   class_of_variable None (Some (variable t)) = Looks
   class_of_variable v d = Steady
 
+  -- the class of a selection: of a package variable, of a field behind a pointer, of a field of a value
   abbrev pub class_of_field : Bool → Bool → Class → Class
   class_of_field qualified pointer c = if qualified then Looks else (if pointer then Acts else c)
 
   abbrev mutual
+    -- the class of an expression
     pub class_of : Place S → Expr S → Class
     class_of p (ident _ n) = class_of_variable (local_at p n) (meaning p.env n)
     class_of p (int_lit _ _) = Steady
@@ -173,10 +190,12 @@ module _ {S : Type 0} (held : S → Bool) where
     class_of_call p (Some (a_builtin Cap)) (expr_and x xs) c = c
     class_of_call p o xs c = Acts
 
+    -- the worst class of expressions
     pub class_of_all : Place S → Exprs S → Class
     class_of_all p no_exprs = Steady
     class_of_all p (expr_and e es) = worse (class_of p e) (class_of_all p es)
 
+    -- the worst class of the elements of a struct literal
     pub class_of_elems : Place S → Elems S → Class
     class_of_elems p no_elems = Steady
     class_of_elems p (elem _ k v es) = worse (class_of_value p v) (class_of_elems p es)

@@ -34,10 +34,12 @@ module _ {S : Type 0} (same : S → S → Bool) where
   is_at z (selector y _ _) = same z y
   is_at z e = false
 
+  -- what an expression form puts in the place of an expression
   abbrev pub expr_in_place : S → Form S → Place S → Use → Expr S → Option (Expr S)
   expr_in_place z (as_expr e) p u x = if is_at z x then Some e else None
   expr_in_place z k p u x = None
 
+  -- what a form that is a statement puts in the place of the statement that is the use, or that returns it
   abbrev pub stmt_in_place : S → Form S → Place S → Stmt S → Option (Stmt S)
   stmt_in_place z (as_dropped e) p (eval y x) =
       if is_at z x then Some (assign y (expr_and (ident y blank) no_exprs) None (expr_and e no_exprs)) else None
@@ -52,12 +54,15 @@ module _ {S : Type 0} (same : S → S → Bool) where
   module _ (ps : List (Package S)) (c : Call S) (names : Names) (kept : List Bool) where
     -- ---- the body with the chosen parameters replaced
 
+    -- the number of the package of the call
     abbrev pub there : ℕ
     there = c.at_package
 
+    -- a type of the function's declaration, written at the call
     abbrev pub new_type_at : Place S → TypeExpr S → TypeExpr S
     new_type_at p t = type_there ps c.home there names c.new p t
 
+    -- the number of the parameter that a name of the body means
     abbrev pub param_number : Place S → List ℕ → Option ℕ
     param_number p n = given (local_at p n) (number_of same 0 (map declared_place (all_params same ps c)))
 
@@ -67,15 +72,19 @@ module _ {S : Type 0} (same : S → S → Bool) where
         if converts (arg_typed same ps c g.arg) g.type u then conversion c.new (new_type_at (top ps c) g.param.of) g.arg
         else g.arg
 
+    -- the parameter with this number
     abbrev pub nth_given : ℕ → List (Given S) → Option (Given S)
     nth_given i [] = None
     nth_given zero (g ∷ gs) = Some g
     nth_given (suc i) (g ∷ gs) = nth_given i gs
 
+    -- what is written for a use of a parameter that is chosen
     abbrev pub chosen_arg : Use → ℕ → Option (Expr S)
     chosen_arg u i =
         if has kept i then given (nth_given i (given_params same ps c)) (λ g. Some (written_arg u g)) else None
 
+    -- an expression of the body that is written otherwise at the call: a use of a chosen parameter, or a name from
+    -- outside
     abbrev pub body_expr : Place S → Use → Expr S → Option (Expr S)
     body_expr p u (ident _ n) =
         elim (param_number p n) [ Some i ↦ chosen_arg u i | None ↦ outside_name ps c.home there names c.new p n ]
@@ -93,20 +102,25 @@ module _ {S : Type 0} (same : S → S → Bool) where
           span = (outside_changes ps c.home there names c.new).span;
         }
 
+    -- the body as it is written at the call
     abbrev pub new_body : Stmts S
     new_body = new_stmts body_changes (start_with same ps c kept) c.callee.body
 
+    -- an expression of the body as it is written at the call
     abbrev pub new_value : Use → Expr S → Expr S
     new_value u e = new_expr body_changes (start_with same ps c kept) u e
 
+    -- the parameters that stay bound
     abbrev pub bound : List (Given S)
     bound = bound_params same ps c kept
 
     -- ---- the value of the one expression
 
+    -- the result's type, where the function has one result
     abbrev pub result_type : Option GoType
     result_type = only_one (func_type_is same ps c).results
 
+    -- an expression that may stand as a statement
     abbrev pub is_statement_call : Expr S → Bool
     is_statement_call e = is_call stands_alone (start_with same ps c kept).env e
 
@@ -119,6 +133,7 @@ module _ {S : Type 0} (same : S → S → Bool) where
         else None)
     bare_argument u e = None
 
+    -- the type of what is written for the value
     abbrev pub value_typed : Expr S → Option Typed
     value_typed e =
         elim (bare_argument (returned (func_type_is same ps c).results) e)
@@ -128,17 +143,21 @@ module _ {S : Type 0} (same : S → S → Bool) where
     abbrev pub result_text : Option (TypeExpr S)
     result_text = given (only_one c.callee.sig.results) (λ r. Some (new_type_at (top ps c) r.of))
 
+    -- a conversion to the result's type is written
     abbrev pub value_converts : Expr S → Bool
     value_converts e = meets result_type (λ t. meets (value_typed e) (λ v. converts v t c.use_))
 
+    -- a value, with a conversion where one is written
     abbrev pub converted_value : Option (TypeExpr S) → Bool → Expr S → Expr S
     converted_value (Some t) true e = conversion c.new t e
     converted_value t b e = e
 
+    -- the value as it is written at the call
     abbrev pub written_value : Expr S → Expr S
     written_value e =
         converted_value result_text (value_converts e) (new_value (returned (func_type_is same ps c).results) e)
 
+    -- the expression form of a body that is one expression
     abbrev pub expr_tree : Bool × Expr S → Form S
     expr_tree q =
         if is_statement c.use_ then (if is_statement_call q.1 then as_expr (new_value other q.1)
@@ -146,21 +165,26 @@ module _ {S : Type 0} (same : S → S → Bool) where
 
     -- ---- statements in braces
 
+    -- the body uses the parameter
     abbrev pub is_used : Given S → Bool
     is_used g = nat_lt 0 (count_seen (uses same (declared_place g.param)) (body_seen same ps c))
 
+    -- the names that a block binds: those of the parameters that the body uses, and `_`
     abbrev pub binding_names : List (Given S) → List (NameAt S)
     binding_names [] = []
     binding_names (g ∷ gs) = a_name c.new (if is_used g then param_name g.param else blank) ∷ binding_names gs
 
+    -- `_` for each parameter
     abbrev pub blanks : List (Given S) → Exprs S
     blanks [] = no_exprs
     blanks (g ∷ gs) = expr_and (ident c.new blank) (blanks gs)
 
+    -- the bound arguments, converted where they have to be
     abbrev pub bound_values : Use → List (Given S) → Exprs S
     bound_values u [] = no_exprs
     bound_values u (g ∷ gs) = expr_and (written_arg u g) (bound_values u gs)
 
+    -- how a block's binding uses the arguments
     abbrev pub binding_use : List (Given S) → Use
     binding_use gs = if list_any is_used gs then whole else other
 
@@ -172,11 +196,13 @@ module _ {S : Type 0} (same : S → S → Bool) where
         then stmt_and (define c.new (binding_names (g ∷ gs)) (bound_values whole (g ∷ gs))) b
         else stmt_and (assign c.new (blanks (g ∷ gs)) None (bound_values other (g ∷ gs))) b
 
+    -- the body in braces, behind the binding
     abbrev pub block_tree : Form S
     block_tree = as_block (with_binding bound new_body)
 
     -- ---- the literal
 
+    -- a parameter of the literal, with its own name and type
     abbrev pub literal_param : Param S → Param S
     literal_param p =
         record {
@@ -186,17 +212,21 @@ module _ {S : Type 0} (same : S → S → Bool) where
           of = new_type_at (top ps c) p.of;
         }
 
+    -- the arguments of bound parameters
     abbrev pub bound_arguments : List (Given S) → List (Expr S)
     bound_arguments gs = map (λ g. g.arg) gs
 
+    -- the parameters of the literal: the bound ones, or all where the arguments are one call
     abbrev pub literal_params : List (Param S)
     literal_params =
         if spread_call same ps c then map literal_param (all_params same ps c)
         else map (λ g. literal_param g.param) bound
 
+    -- the arguments of the literal
     abbrev pub literal_args : List (Expr S)
     literal_args = if spread_call same ps c then args same ps c else bound_arguments bound
 
+    -- a literal of the function, called with the bound arguments
     abbrev pub literal_tree : Form S
     literal_tree =
         as_expr (call c.new (func_lit c.new (record {
@@ -207,9 +237,11 @@ module _ {S : Type 0} (same : S → S → Bool) where
 
     -- ---- when each form applies
 
+    -- no name of a result occurs in the expression
     abbrev pub no_result_in : Expr S → Bool
     no_result_in e = list_all (λ n. not (is_among n (free_expr [] e))) (params_names c.callee.sig.results)
 
+    -- the types of a call with several results
     abbrev pub several_types : Option Operand → Option (List GoType)
     several_types (Some (several (t ∷ u ∷ ts))) = Some (t ∷ u ∷ ts)
     several_types o = None
@@ -226,21 +258,26 @@ module _ {S : Type 0} (same : S → S → Bool) where
         if is_statement c.use_ && not (is_statement_call e) then as_dropped (ident c.new hole)
         else as_expr (ident c.new hole)
 
+    -- the place of the statement around the call
     abbrev pub place_around : Around S → Place S
     place_around a = record c.at { env = a.env; ctx = a.ctx; bound = a.bound }
 
+    -- the statement around the call with a name in its place
     abbrev pub holed : Around S → Expr S → Stmt S
     holed a e = new_stmt (in_place (expr_span c.tree) (hole_form e)) (place_around a) true a.stmt
 
+    -- the environment there, with a meaning of that name
     abbrev pub hole_env : Around S → Entity → Env
     hole_env a d = record a.env { names = (hole, d) ∷ a.env.names }
 
+    -- with this constant in the call's place the statement isn't typed, or a shift in it is constant only then
     abbrev pub faulty_with : Around S → Expr S → GoType → Const → Bool
     faulty_with a e t k =
         not (is_some (stmt a.ctx (hole_env a (stand_in elsewhere t (exact k))) (holed a e)))
         || hardens (recorded_stmt (hole_env a (variable t)) (holed a e))
         (recorded_stmt (hole_env a (stand_in elsewhere t (exact k))) (holed a e))
 
+    -- the value of a constant
     abbrev pub constant_content : Option Typed → Option Const
     constant_content (Some (t, exact k)) = Some k
     constant_content v = None
@@ -251,15 +288,19 @@ module _ {S : Type 0} (same : S → S → Bool) where
         meets c.at.statement (λ a. meets result_type (λ t. meets
         (constant_content (given (parts (start_with same ps c kept).env e) typed)) (λ k. faulty_with a e t k)))
 
+    -- the body names the predeclared `recover`, literals in it included
     abbrev pub some_recover : Bool
     some_recover = list_any is_recover (body_seen same ps c)
 
+    -- the function has no results
     abbrev pub no_results : Bool
     no_results = is_empty (func_type_is same ps c).results
 
+    -- the one expression is a returned value without result names, or a statement in the place of a statement
     abbrev pub may_stand : Bool × Expr S → Bool
     may_stand q = if q.0 then no_result_in q.1 else no_results && is_statement c.use_
 
+    -- the expression form applies
     abbrev pub expr_applies : Bool
     expr_applies =
         meets (one_expr c.callee.body) (λ q.
@@ -277,22 +318,28 @@ module _ {S : Type 0} (same : S → S → Bool) where
     is_return (seen_stmt p (return_ _ es)) = nat_eq p.literals 0
     is_return x = false
 
+    -- a label of the body itself
     abbrev pub is_label : Seen S → Bool
     is_label (seen_stmt p (label _ n s)) = nat_eq p.literals 0
     is_label x = false
 
+    -- a `defer` anywhere in the body
     abbrev pub is_defer : Seen S → Bool
     is_defer (seen p deferred_call e) = true
     is_defer x = false
 
+    -- what block and tail ask alike: no `defer`, label, spread arguments or `recover`, and no bound parameter that is
+    -- only written
     abbrev pub may_be_block : Bool
     may_be_block =
         not (list_any is_defer (body_seen same ps c)) && (not (list_any is_label (body_seen same ps c))
         && (not (spread_call same ps c) && (not some_recover && list_all (λ g. not (is_only_written g)) bound)))
 
+    -- the block form applies
     abbrev pub block_applies : Bool
     block_applies = in_list c.use_ && (no_results && (not (list_any is_return (body_seen same ps c)) && may_be_block))
 
+    -- the tail form applies
     abbrev pub tail_applies : Bool
     tail_applies =
         meets (returned_types c.use_) (λ ts. all_identical ts (func_type_is same ps c).results)
@@ -307,6 +354,7 @@ module _ {S : Type 0} (same : S → S → Bool) where
     form_tree TailForm = Some block_tree
     form_tree LiteralForm = Some literal_tree
 
+    -- a form applies to the call
     abbrev pub applies : FormKind → Bool
     applies ConstForm = false
     applies TypeForm = false

@@ -1,4 +1,5 @@
--- What a run makes of the files of a module.
+-- What a run makes of the files of a module (golang.org/x/tools, analyzer inline; Go specification, Source file
+-- organization; Packages).
 use Rattle.std.specs.Prelude.{◌≡◌, ℕ, List, [], ◌∷◌, ◌++◌, Some, None}
 use Rattle.go_tree.specs.declared.spans.Span.{Span}
 use Rattle.go_tree.specs.File.{File}
@@ -27,6 +28,7 @@ pub data FilesRead (texts : List (List ℕ × FileText)) : List (SourceTree Span
   file : (f : SourceTree Span) (fs : List (SourceTree Span)) (t : FileText) → text_at f.path texts ≡ Some t
       → ReadsAs t f.tree → FilesRead texts fs → FilesRead texts (f ∷ fs)
 
+-- each file of each package has its text
 pub data PackagesRead (texts : List (List ℕ × FileText)) : List (Package Span) → Type 0 where
   none : PackagesRead texts []
   package_ : (p : Package Span) (ps : List (Package Span)) → FilesRead texts p.files → PackagesRead texts ps

@@ -30,23 +30,27 @@ Names = ℕ → List ℕ
 abbrev pub unnamed : Names
 unnamed q = 0 ∷ q ∷ []
 
+-- the number of a package that stands unnamed
 abbrev pub unnamed_package : List ℕ → Option ℕ
 unnamed_package (zero ∷ q ∷ []) = Some q
 unnamed_package n = None
 
--- the packages that stand unnamed among names, each once, in their order
+-- a number stands in a list
 abbrev pub has_number : ℕ → List ℕ → Bool
 has_number q [] = false
 has_number q (r ∷ rs) = if nat_eq q r then true else has_number q rs
 
+-- a list without this number
 abbrev pub new_first : ℕ → List ℕ → List ℕ
 new_first q [] = []
 new_first q (r ∷ rs) = if nat_eq q r then new_first q rs else r ∷ new_first q rs
 
+-- the packages that stand unnamed among names, each once, in their order
 abbrev pub unnamed_in : List (List ℕ) → List ℕ
 unnamed_in [] = []
 unnamed_in (n ∷ ns) = elim (unnamed_package n) [ None ↦ unnamed_in ns | Some q ↦ q ∷ new_first q (unnamed_in ns) ]
 
+-- the span of what stands in no text
 abbrev pub no_span : Span
 no_span = record { start = 0; end = 0 }
 
@@ -62,13 +66,16 @@ first_new zero k base passes = candidate base k
 first_new (suc fuel) k base passes =
     if passes (candidate base k) then candidate base k else first_new fuel (suc k) base passes
 
+-- the name, where its import is added
 abbrev pub name_added : Named → List (List ℕ)
 name_added n = elim n.added [ None ↦ [] | Some i ↦ n.name ∷ [] ]
 
+-- each package's name
 abbrev pub names_by : List Named → Names
 names_by [] q = []
 names_by (n ∷ ns) q = if nat_eq n.of q then n.name else names_by ns q
 
+-- the imports that are added
 abbrev pub imports_added : List Named → List NewImport
 imports_added [] = []
 imports_added (n ∷ ns) = elim n.added [ None ↦ imports_added ns | Some i ↦ i ∷ imports_added ns ]
@@ -77,6 +84,7 @@ imports_added (n ∷ ns) = elim n.added [ None ↦ imports_added ns | Some i ↦
 abbrev pub fuel_for : {S : Type 0} → File S → List (List ℕ) → ℕ
 fuel_for file avoid = suc (length (identifiers file ++ (avoid ++ (keyword_spellings ++ predeclared))))
 
+-- the first candidate for a name that is neither in the file, nor to be avoided, nor a keyword, nor predeclared
 abbrev pub fresh_name : {S : Type 0} → File S → List (List ℕ) → List ℕ → List ℕ
 fresh_name file avoid base = first_new (fuel_for file avoid) 0 base (is_new file avoid)
 
@@ -87,6 +95,7 @@ module _ {S : Type 0} (ps : List (Package S)) where
   abbrev pub package_path : ℕ → List ℕ
   package_path q = elim (slice_get ps q) [ None ↦ [] | Some p ↦ p.path ]
 
+  -- the name in a package's own clause
   abbrev pub own_name : ℕ → List ℕ
   own_name q = elim (slice_get ps q) [ None ↦ [] | Some p ↦ p.name ]
 
@@ -97,22 +106,27 @@ module _ {S : Type 0} (ps : List (Package S)) where
         if nat_eq home.number there then None else given (outer_meaning ps home p n)
         (λ t. given (mark_of t) (λ m. Some (names home.number)))
 
+    -- the name of the package that an import names
     abbrev pub import_qualifier : Place S → List ℕ → Option (List ℕ)
     import_qualifier p q = given (qualifier ps home p q) (λ k. Some (names k))
 
+    -- a name with another span
     abbrev pub moved : S → NameAt S → NameAt S
     moved z n = record { span = z; name = n.name }
 
+    -- a package's name before a name, where it has to stand
     abbrev pub qualified : S → Option (List ℕ) → Option (NameAt S)
     qualified z None = None
     qualified z (Some q) = Some (record { span = z; name = q })
 
+    -- the package's name before a name: another one where it is renamed, else its own
     abbrev pub qualified_or : S → NameAt S → Option (List ℕ) → Option (NameAt S)
     qualified_or z q None = Some (moved z q)
     qualified_or z q (Some x) = Some (record { span = z; name = x })
 
     -- a type's text at the use, with the span of all that is new
     abbrev mutual
+      -- a type
       pub type_there : S → Place S → TypeExpr S → TypeExpr S
       type_there z p (named _ None n) = named z (qualified z (member_qualifier p n.name)) (moved z n)
       type_there z p (named _ (Some q) n) = named z (qualified_or z q (import_qualifier p q.name)) (moved z n)
@@ -121,6 +135,7 @@ module _ {S : Type 0} (ps : List (Package S)) where
       type_there z p (map_type _ k t) = map_type z (type_there z p k) (type_there z p t)
       type_there z p (struct_type _ fs) = struct_type z (fields_there z p fs)
 
+      -- the fields of a struct type
       pub fields_there : S → Place S → Fields S → Fields S
       fields_there z p no_fields = no_fields
       fields_there z p (field _ n t fs) = field z (moved z n) (type_there z p t) (fields_there z p fs)
@@ -136,9 +151,11 @@ module _ {S : Type 0} (ps : List (Package S)) where
         «package» = map (λ x. x.0) (package_block 0 w.of);
       }
 
+  -- what names mean at a place of a file
   abbrev pub environment_here : Where S → Place S → Environment Entity
   environment_here w p = map (λ n. (n, Local no_span)) (names_of p.bound) ++ outermost (names_here w)
 
+  -- the import of a package by a name
   abbrev pub added_import : ℕ → List ℕ → NewImport
   added_import q n = record { name = n; path = package_path q; spelled = not (bytes_eq n (own_name q)) }
 
@@ -151,6 +168,7 @@ module _ {S : Type 0} (ps : List (Package S)) where
             record { of = q; name = n; added = Some (added_import q n) }
       ]
 
+  -- names for packages, one after another, each avoiding those that were added before
   abbrev pub named_packages : Where S → Place S → List (List ℕ) → List ℕ → List Named
   named_packages w p bound [] = []
   named_packages w p bound (q ∷ qs) =

@@ -18,6 +18,7 @@ use Rattle.run_rules.specs.Surroundings.{Place, Seen, seen, seen_type, seen_stmt
 use Rattle.run_rules.specs.Sites.{Where, same_target, mark_of, outer_meaning, qualifier}
 use Rattle.run_rules.specs.Naming.{package_path}
 
+-- the reasons of a report, in the order of their numbers
 pub data Obstacle : Type 0 where
   NotAccessible : List ℕ → Obstacle
   Internal : List ℕ → Obstacle
@@ -32,6 +33,7 @@ abbrev pub first_answer : {A B : Type 0} → (A → Option B) → List A → Opt
 first_answer f [] = None
 first_answer f (x ∷ xs) = one_of (f x) (first_answer f xs)
 
+-- an obstacle, where a test passes
 abbrev pub obstacle_if : Bool → Obstacle → Option Obstacle
 obstacle_if b o = if b then Some o else None
 
@@ -40,15 +42,18 @@ abbrev pub hidden_field : GoFields → Option (List ℕ)
 hidden_field no_go_fields = None
 hidden_field (go_field n p t fs) = if is_exported n then hidden_field fs else Some n
 
+-- a name that isn't exported
 abbrev pub unless_exported : List ℕ → Option (List ℕ)
 unless_exported n = if is_exported n then None else Some n
 
 module _ {S : Type 0} (ps : List (Package S)) (home there : Where S) (at : Place S) where
+  -- the use stands in another package
   abbrev pub is_elsewhere : Bool
   is_elsewhere = not (nat_eq home.number there.number)
 
   -- ---- not accessible
 
+  -- a member of a package that isn't exported
   abbrev pub hidden_member : Option Target → List ℕ → Option (List ℕ)
   hidden_member t n = given t (λ t. given (mark_of t) (λ m. unless_exported n))
 
@@ -58,6 +63,7 @@ module _ {S : Type 0} (ps : List (Package S)) (home there : Where S) (at : Place
 
   -- in a type's text: names, and fields of structs
   abbrev mutual
+    -- the first in a type
     pub hidden_in_type : Place S → TypeExpr S → Option (List ℕ)
     hidden_in_type p (named _ None n) = hidden_name p n.name
     hidden_in_type p (named _ (Some q) n) = None
@@ -66,6 +72,7 @@ module _ {S : Type 0} (ps : List (Package S)) (home there : Where S) (at : Place
     hidden_in_type p (map_type _ k t) = one_of (hidden_in_type p k) (hidden_in_type p t)
     hidden_in_type p (struct_type _ fs) = hidden_in_fields p fs
 
+    -- the first in the fields of a struct type
     pub hidden_in_fields : Place S → Fields S → Option (List ℕ)
     hidden_in_fields p no_fields = None
     hidden_in_fields p (field _ n t fs) =
@@ -77,17 +84,20 @@ module _ {S : Type 0} (ps : List (Package S)) (home there : Where S) (at : Place
   hidden_key fs (some_value k) = given (field_key k) unless_exported
 
   abbrev mutual
+    -- the first field that elements of a literal set
     pub hidden_in_elems : Env → Option GoType → Elems S → Option (List ℕ)
     hidden_in_elems env u no_elems = None
     hidden_in_elems env u (elem _ k v es) =
         one_of (given (given u fields_of) (λ fs. hidden_key fs k))
         (one_of (hidden_in_value env (given u (inner_type (defined_in env))) v) (hidden_in_elems env u es))
 
+    -- the first field that inner braces set
     pub hidden_in_value : Env → Option GoType → Value S → Option (List ℕ)
     hidden_in_value env t (plain e) = None
     hidden_in_value env t (braced _ es) =
         hidden_in_elems env (given t (λ t. Some (under (defined_in env) (literal_type (defined_in env) t)))) es
 
+  -- a field or method that is selected; a name with its package is exported
   abbrev pub hidden_selection : Place S → Expr S → List ℕ → Option (List ℕ)
   hidden_selection p (ident _ q) n = elim (qualifier ps home p q) [ Some k ↦ None | None ↦ unless_exported n ]
   hidden_selection p b n = unless_exported n
@@ -103,15 +113,18 @@ module _ {S : Type 0} (ps : List (Package S)) (home there : Where S) (at : Place
   hidden_here (seen_type p t) = hidden_in_type p t
   hidden_here (seen_stmt p s) = None
 
+  -- the text taken names something that isn't exported, and the use stands in another package
   abbrev pub not_accessible : List (Seen S) → Option Obstacle
   not_accessible text =
       if is_elsewhere then given (first_answer hidden_here text) (λ n. Some (NotAccessible n)) else None
 
   -- ---- internal packages
 
+  -- the path of a package that may not be imported at the use
   abbrev pub refused_import : ℕ → Option (List ℕ)
   refused_import q = if may_import there.of.path (package_path ps q) then None else Some (package_path ps q)
 
+  -- a package that the form needs may not be imported
   abbrev pub internal_package : List ℕ → Option Obstacle
   internal_package needed = given (first_answer refused_import needed) (λ path. Some (Internal path))
 
@@ -123,6 +136,7 @@ module _ {S : Type 0} (ps : List (Package S)) (home there : Where S) (at : Place
   is_taken_plainly (member p f d i) = not is_elsewhere
   is_taken_plainly t = false
 
+  -- a name means this
   abbrev pub means_this : Option Target → Target → Bool
   means_this None t = false
   means_this (Some u) t = same_target u t
@@ -131,10 +145,12 @@ module _ {S : Type 0} (ps : List (Package S)) (home there : Where S) (at : Place
   abbrev pub shadowed_meaning : List ℕ → Target → Option (List ℕ)
   shadowed_meaning n t = if is_taken_plainly t && not (means_this (outer_meaning ps there at n) t) then Some n else None
 
+  -- a name that means something else at the use
   abbrev pub shadowed_name : Place S → List ℕ → Option (List ℕ)
   shadowed_name p n = given (outer_meaning ps home p n) (shadowed_meaning n)
 
   abbrev mutual
+    -- the first in a type
     pub shadowed_in_type : Place S → TypeExpr S → Option (List ℕ)
     shadowed_in_type p (named _ None n) = shadowed_name p n.name
     shadowed_in_type p (named _ (Some q) n) = None
@@ -143,21 +159,25 @@ module _ {S : Type 0} (ps : List (Package S)) (home there : Where S) (at : Place
     shadowed_in_type p (map_type _ k t) = one_of (shadowed_in_type p k) (shadowed_in_type p t)
     shadowed_in_type p (struct_type _ fs) = shadowed_in_fields p fs
 
+    -- the first in the fields of a struct type
     pub shadowed_in_fields : Place S → Fields S → Option (List ℕ)
     shadowed_in_fields p no_fields = None
     shadowed_in_fields p (field _ n t fs) = one_of (shadowed_in_type p t) (shadowed_in_fields p fs)
 
+  -- a name of the text taken that means something else at the use
   abbrev pub shadowed_here : Seen S → Option (List ℕ)
   shadowed_here (seen p u (ident _ n)) = shadowed_name p n
   shadowed_here (seen p u e) = None
   shadowed_here (seen_type p t) = shadowed_in_type p t
   shadowed_here (seen_stmt p s) = None
 
+  -- the text taken names something plainly that has another meaning at the use
   abbrev pub shadowed : List (Seen S) → Option Obstacle
   shadowed text = given (first_answer shadowed_here text) (λ n. Some (Shadowed n))
 
   -- ---- repeated expressions
 
+  -- a list with an item
   abbrev pub has_any : {A : Type 0} → List A → Bool
   has_any [] = false
   has_any (x ∷ xs) = true
@@ -168,6 +188,7 @@ module _ {S : Type 0} (ps : List (Package S)) (home there : Where S) (at : Place
   is_qualified_there (Some (member p f d i)) = is_elsewhere
   is_qualified_there t = false
 
+  -- it is written with an import's name, and a local declaration has it at a later member that repeats the expression
   abbrev pub means_another : Place S → List ℕ → Bool
   means_another p n = is_qualified_there (outer_meaning ps home p n) && list_any (is_among n) p.again
 

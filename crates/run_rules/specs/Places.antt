@@ -16,17 +16,21 @@ use Rattle.go_types.specs.Bodies.{labelled}
 use Rattle.go_types.specs.Declarations.{Repeated, nothing_to_repeat}
 
 module _ {S : Type 0} where
+  -- a written type
   abbrev pub type_seen : Place S → TypeExpr S → List (Seen S)
   type_seen p t = seen_type p t ∷ []
 
+  -- a type that may be left out
   abbrev pub written_seen : Place S → Option (TypeExpr S) → List (Seen S)
   written_seen p None = []
   written_seen p (Some t) = seen_type p t ∷ []
 
+  -- the types of parameters
   abbrev pub params_seen : Place S → List (Param S) → List (Seen S)
   params_seen p [] = []
   params_seen p (x ∷ xs) = seen_type p x.of ∷ params_seen p xs
 
+  -- the types of parameters, and then of results
   abbrev pub sig_seen : Place S → Sig S → List (Seen S)
   sig_seen p g = params_seen p g.params ++ params_seen p g.results
 
@@ -41,6 +45,7 @@ module _ {S : Type 0} where
   after_arms p (arm _ i _ _ _ r) = after_arms (block (after_first p i)) r
 
   abbrev mutual
+    -- an expression, its parts first
     pub expr_seen : Place S → Use → Expr S → List (Seen S)
     expr_seen p u (ident s n) = seen p u (ident s n) ∷ []
     expr_seen p u (int_lit s n) = seen p u (int_lit s n) ∷ []
@@ -74,11 +79,13 @@ module _ {S : Type 0} where
     expr_seen p u (star s e) =
         expr_seen (in_slot (last_slot p.slot (star s e) 6 None) p) other e ++ seen p u (star s e) ∷ []
 
+    -- expressions, each used as its place in the list says
     pub all_seen : Place S → List Use → Exprs S → List (Seen S)
     all_seen p us no_exprs = []
     all_seen p us (expr_and e es) =
         expr_seen (record p { slot = comma_slot p.slot es }) (head_use us) e ++ all_seen p (later_uses us) es
 
+    -- an expression that may be left out
     pub option_seen : Place S → ExprOption S → List (Seen S)
     option_seen p no_expr = []
     option_seen p (some_expr e) = expr_seen p other e
@@ -90,10 +97,12 @@ module _ {S : Type 0} where
         key_seen p u k ++ value_seen (record p { slot = a_slot 1 false (elem_closed es) }) (elem_use p.env u i k) v
         ++ elems_seen p u (suc i) es
 
+    -- a key of a slice or map literal
     pub key_seen : Place S → Option GoType → ValueOption S → List (Seen S)
     key_seen p u no_value = []
     key_seen p u (some_value v) = if meets u is_struct then [] else value_seen p (key_use p.env u) v
 
+    -- an element, or inner braces
     pub value_seen : Place S → Use → Value S → List (Seen S)
     value_seen p u (plain e) = expr_seen p u e
     value_seen p u (braced s es) =
@@ -138,18 +147,22 @@ module _ {S : Type 0} where
     stmt_seen p l (label s n x) =
         stmt_seen (record p { ctx = labelled p.ctx n x }) false x ++ seen_stmt p (label s n x) ∷ []
 
+    -- statements in their order, each with the names that those before it declare
     pub stmts_seen : Place S → Stmts S → List (Seen S)
     stmts_seen p no_stmts = []
     stmts_seen p (stmt_and s ss) = stmt_seen (at_stmt p s) true s ++ stmts_seen (after_stmt p s) ss
 
+    -- the first or the last statement of a header
     pub first_seen : Place S → Bool → StmtOption S → List (Seen S)
     first_seen p post no_stmt = []
     first_seen p post (some_stmt s) = stmt_seen p false s
 
+    -- the last block of an `if`
     pub block_seen : Place S → BlockOption S → List (Seen S)
     block_seen p no_block = []
     block_seen p (some_block s b) = stmts_seen (block p) b
 
+    -- the left side of a `range` clause
     pub left_seen : Place S → RangeLeft S → List (Seen S)
     left_seen p nothing = []
     left_seen p (assigns es) = all_seen p (every_use stored es) es
@@ -162,6 +175,7 @@ module _ {S : Type 0} where
         first_seen (in_heading true p) false i ++ expr_seen (in_heading true (after_first p i)) other t
         ++ stmts_seen (block (after_first p i)) b ++ arms_seen (block (after_first p i)) r
 
+    -- the clauses of a `switch`
     pub cases_seen : Place S → Cases S → List (Seen S)
     cases_seen p no_cases = []
     cases_seen p (case s es b cs) = all_seen (in_heading false p) [] es ++ stmts_seen (block p) b ++ cases_seen p cs
@@ -174,6 +188,7 @@ module _ {S : Type 0} where
         ++ all_seen (before_repeats (in_constant i p) ns ss) (alike (value_use p.env t) ns) es
         ++ constants_seen (after_constants p (repeated_by r t es) i ns) (repeated_by r t es) (suc i) ss
 
+    -- the specs of a `var` declaration
     pub variables_seen : Place S → ValueSpecs S → List (Seen S)
     variables_seen p no_specs = []
     variables_seen p (spec s ns t es ss) =

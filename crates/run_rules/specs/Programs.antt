@@ -25,16 +25,19 @@ use Rattle.run_rules.specs.Places.{written_seen, sig_seen, all_seen, stmts_seen}
 use Rattle.go_types.specs.Bodies.{Ctx, body_ctx}
 use Rattle.go_types.specs.MethodDeclarations.{receiver_type}
 
+-- items with their numbers, from a number on
 abbrev pub numbered_from : {A : Type 0} → ℕ → List A → List (ℕ × A)
 numbered_from k [] = []
 numbered_from k (x ∷ xs) = (k, x) ∷ numbered_from (suc k) xs
 
+-- items with their numbers, from 0 on
 abbrev pub numbered : {A : Type 0} → List A → List (ℕ × A)
 numbered xs = numbered_from 0 xs
 
 module _ {S : Type 0} where
   -- ---- numbers
 
+  -- the number of the package with this path, counted on; behind the last where there is none
   abbrev pub number_from : ℕ → List (Package S) → List ℕ → ℕ
   number_from k [] path = k
   number_from k (p ∷ ps) path = if bytes_eq path p.path then k else number_from (suc k) ps path
@@ -45,13 +48,16 @@ module _ {S : Type 0} where
 
   -- ---- the order of packages: each time the one with the least path whose imports are all placed
 
+  -- it isn't placed yet, and all that it imports is
   abbrev pub is_ready : List (Package S) → List ℕ → ℕ × Package S → Bool
   is_ready ps placed q = not (list_any (λ j. j == q.0) placed) && list_all (is_placed ps placed) (imports_of q.1)
 
+  -- of two packages the one whose path comes first
   abbrev pub lesser : ℕ × Package S → Option (ℕ × Package S) → Option (ℕ × Package S)
   lesser q None = Some q
   lesser q (Some r) = if comes_before r.1.path q.1.path then Some r else Some q
 
+  -- the package with the least path that is ready
   abbrev pub least_ready : List (Package S) → List ℕ → List (ℕ × Package S) → Option (ℕ × Package S)
   least_ready ps placed [] = None
   least_ready ps placed (q ∷ qs) =
@@ -67,6 +73,7 @@ module _ {S : Type 0} where
   abbrev pub in_dependency_order : List (Package S) → List (ℕ × Package S)
   in_dependency_order ps = ordered_after ps (length ps) []
 
+  -- the numbers of numbered packages
   abbrev pub numbers_of : List (ℕ × Package S) → List ℕ
   numbers_of qs = map (λ q. q.0) qs
 
@@ -77,27 +84,34 @@ module _ {S : Type 0} where
   -- ---- as the rules of typing see them
 
   module _ (ps : List (Package S)) where
+    -- an import with its name and the number of its package
     abbrev pub linked_import : ImportSpec S → Import S
     linked_import s = record { span = s.span; name = import_name ps s; of = package_number ps s.path }
 
+    -- the imports of a file
     abbrev pub linked_imports : File S → List (Import S)
     linked_imports file = map linked_import (import_specs file)
 
+    -- a file
     abbrev pub linked_file : SourceTree S → SourceFile S
     linked_file f = record { imports = linked_imports f.tree; decls = f.tree.decls }
 
+    -- a package that has a file
     abbrev pub linked_package : ℕ × Package S → List (SourceTree S) → List (SourcePackage S)
     linked_package q [] = []
     linked_package q (f ∷ fs) =
         record { number = q.0; name = q.1.name; at = f.tree.package_name.span; files = map linked_file q.1.files } ∷ []
 
+    -- packages
     abbrev pub linked_packages : List (ℕ × Package S) → Program S
     linked_packages [] = []
     linked_packages (q ∷ qs) = linked_package q q.1.files ++ linked_packages qs
 
+    -- the packages in dependency order
     abbrev pub linked : Program S
     linked = linked_packages (in_dependency_order ps)
 
+    -- what the packages declare
     abbrev pub world : World
     world = collected linked
 
@@ -107,12 +121,15 @@ module _ {S : Type 0} where
     abbrev pub imports_mean : Package S → File S → Environment Entity
     imports_mean p file = file_block (block_names (map linked_file p.files)) [] (linked_imports file)
 
+    -- the environment outside all functions of a file
     abbrev pub top_env : ℕ → Package S → File S → Env
     top_env k p file = file_env world k (imports_mean p file) None
 
+    -- nothing may be returned, and no jump may stand
     abbrev pub no_ctx : Ctx
     no_ctx = record { results = []; named = false; breakable = false; continuable = false; labels = [] }
 
+    -- a place in an environment, outside all statements
     abbrev pub place_in : Env → List (NameAt S) → Ctx → Place S
     place_in env bound c =
         record {
@@ -133,6 +150,7 @@ module _ {S : Type 0} where
     abbrev pub top_place : ℕ → Package S → File S → Place S
     top_place k p file = place_in (top_env k p file) [] no_ctx
 
+    -- a function's header with what is around it
     abbrev pub headed_func : ℕ → Package S → File S → Func S → Headed S
     headed_func k p file f =
         record {
@@ -147,6 +165,7 @@ module _ {S : Type 0} where
 
     -- ---- functions: a receiver is the first parameter
 
+    -- a receiver as a parameter
     abbrev pub receiver_param : Receiver S → Param S
     receiver_param r =
         record {
@@ -157,19 +176,24 @@ module _ {S : Type 0} where
               then pointer r.span (named r.of.span None r.of) else named r.of.span None r.of;
         }
 
+    -- parameters behind a receiver
     abbrev pub with_receiver : Option (Receiver S) → List (Param S) → List (Param S)
     with_receiver None xs = xs
     with_receiver (Some r) xs = receiver_param r ∷ xs
 
+    -- all parameters of a function, the receiver first
     abbrev pub params_of : Func S → List (Param S)
     params_of f = with_receiver f.receiver f.sig.params
 
+    -- the type of a function without parameters and results
     abbrev pub no_type : FuncType
     no_type = record { params = []; results = [] }
 
+    -- the types of a function's parameters and results, without its receiver
     abbrev pub type_of_func : ℕ → Package S → File S → Func S → FuncType
     type_of_func k p file f = otherwise (func_type (top_env k p file) f.sig) no_type
 
+    -- the type of the receiver, where there is one
     abbrev pub receiver_types : ℕ → Package S → File S → Func S → Option (Receiver S) → List GoType
     receiver_types k p file f None = []
     receiver_types k p file f (Some r) =
@@ -188,30 +212,36 @@ module _ {S : Type 0} where
 
     -- ---- all parts of a declaration of the package block, with their places
 
+    -- the members of a group of constants, from the i-th on
     abbrev pub constants_at_top : Place S → ℕ → ValueSpecs S → List (Seen S)
     constants_at_top q i no_specs = []
     constants_at_top q i (spec _ ns t es ss) =
         written_seen (in_constant i q) t ++ all_seen (in_constant i q) (alike (value_use q.env t) ns) es
         ++ constants_at_top q (suc i) ss
 
+    -- the specs of a `var` declaration
     abbrev pub variables_at_top : Place S → ValueSpecs S → List (Seen S)
     variables_at_top q no_specs = []
     variables_at_top q (spec _ ns t es ss) =
         written_seen q t ++ all_seen q (alike (value_use q.env t) ns) es ++ variables_at_top q ss
 
+    -- the specs of a type declaration
     abbrev pub types_at_top : Place S → List (TypeSpec S) → List (Seen S)
     types_at_top q [] = []
     types_at_top q (t ∷ ts) = seen_type q t.of ∷ types_at_top q ts
 
+    -- the name of a receiver's type
     abbrev pub receiver_seen : Place S → Option (Receiver S) → List (Seen S)
     receiver_seen q None = []
     receiver_seen q (Some r) = seen_type q (named r.of.span None r.of) ∷ []
 
+    -- a function or method: its receiver, its signature, its body
     abbrev pub func_seen : ℕ → Package S → File S → Func S → List (Seen S)
     func_seen k p file f =
         receiver_seen (top_place k p file) f.receiver ++ sig_seen (top_place k p file) f.sig
         ++ stmts_seen (body_place k p file f) f.body
 
+    -- all parts of a declaration, in the order of their ends
     abbrev pub decl_seen : ℕ → Package S → File S → Decl S → List (Seen S)
     decl_seen k p file (values (const_decl _ _ ss)) = constants_at_top (top_place k p file) 0 ss
     decl_seen k p file (values (var_decl _ _ ss)) = variables_at_top (top_place k p file) ss

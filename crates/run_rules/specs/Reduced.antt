@@ -30,6 +30,7 @@ IsKept None = ⊤
 IsKept (Some (kept o)) = ⊤
 IsKept (Some (becomes k f z ns)) = ⊥
 
+-- the marks of a list that aren't among others, each once
 abbrev pub without_marks : List MarkRef → List MarkRef → List MarkRef
 without_marks out [] = []
 without_marks out (m ∷ ms) = if is_among_marks out m then without_marks out ms else m ∷ without_marks (m ∷ out) ms
@@ -39,10 +40,12 @@ module _ {S : Type 0} (same : S → S → Bool) (commented : ℕ → ℕ → S �
     (marks : List MarkRef) where
   -- ---- cycles of marked functions
 
+  -- all parts of the declaration with this number
   abbrev pub parts_of : Where S → ℕ → List (Seen S)
   parts_of w d =
       elim (slice_get w.source.tree.decls d) [ None ↦ [] | Some x ↦ decl_seen ps w.number w.of w.source.tree x ]
 
+  -- the marks of functions and methods among those of uses
   abbrev pub function_marks : List (Site S) → List MarkRef
   function_marks [] = []
   function_marks (x ∷ xs) =
@@ -53,6 +56,7 @@ module _ {S : Type 0} (same : S → S → Bool) (commented : ℕ → ℕ → S �
   leads_to m =
       elim (where_is ps m) [ None ↦ [] | Some w ↦ function_marks (sites_among ps marks w m.decl (parts_of w m.decl)) ]
 
+  -- the marked functions that some of these use
   abbrev pub all_lead_to : List MarkRef → List MarkRef
   all_lead_to [] = []
   all_lead_to (m ∷ ms) = leads_to m ++ all_lead_to ms
@@ -69,6 +73,7 @@ module _ {S : Type 0} (same : S → S → Bool) (commented : ℕ → ℕ → S �
 
   -- ---- what a form takes from a function's declaration, in the order of its text
 
+  -- at some use the chosen argument is converted to its parameter's type
   abbrev pub converts_somewhere : Call S → List Bool → Given S → Bool
   converts_somewhere c chosen_ones g =
       list_any (is_converted g) (stmts_seen (start_with same ps c chosen_ones) c.callee.body)
@@ -78,12 +83,14 @@ module _ {S : Type 0} (same : S → S → Bool) (commented : ℕ → ℕ → S �
           uses same (declared_place g.param) (seen p u e) && converts (arg_typed same ps c g.arg) g.type u
       is_converted g x = false
 
+  -- a bound parameter's type is written: always in a literal, and in a block where the argument is converted
   abbrev pub bound_type_written : Call S → FormKind → List Bool → Given S → Bool
   bound_type_written c LiteralForm chosen_ones g = true
   bound_type_written c k chosen_ones g =
       converts (arg_typed same ps c g.arg) g.type (binding_use same ps c unnamed chosen_ones
       (bound_params same ps c chosen_ones))
 
+  -- the parameters' types that the form writes
   abbrev pub param_text : Call S → FormKind → List Bool → List (ℕ × Given S) → List (Seen S)
   param_text c k chosen_ones [] = []
   param_text c k chosen_ones (g ∷ gs) =
@@ -91,23 +98,28 @@ module _ {S : Type 0} (same : S → S → Bool) (commented : ℕ → ℕ → S �
       then seen_type (top ps c) g.1.param.of ∷ param_text c k chosen_ones gs
       else param_text c k chosen_ones gs
 
+  -- types of parameters or results
   abbrev pub types_text : Call S → List (Param S) → List (Seen S)
   types_text c xs = map (λ x. seen_type (top ps c) x.of) xs
 
+  -- the value of the expression form is converted to the result's type
   abbrev pub writes_result : Call S → List Bool → Bool
   writes_result c chosen_ones =
       meets (one_expr c.callee.body) (λ q. value_converts same ps c unnamed chosen_ones q.1
       && not (is_statement c.use_ && is_statement_call same ps c unnamed chosen_ones q.1))
 
+  -- the results' types that the form writes
   abbrev pub result_types_text : Call S → FormKind → List Bool → List (Seen S)
   result_types_text c LiteralForm chosen_ones = types_text c c.callee.sig.results
   result_types_text c ExprForm chosen_ones =
       if writes_result c chosen_ones then types_text c c.callee.sig.results else []
   result_types_text c k chosen_ones = []
 
+  -- the types of all parameters
   abbrev pub spread_text : Call S → FormKind → List (Seen S)
   spread_text c k = types_text c (all_params same ps c)
 
+  -- the types that the form writes, and the body
   abbrev pub text_taken : Call S → FormKind → List Bool → List (Seen S)
   text_taken c k chosen_ones =
       (if spread_call same ps c then spread_text c k else param_text c k chosen_ones
@@ -123,6 +135,7 @@ module _ {S : Type 0} (same : S → S → Bool) (commented : ℕ → ℕ → S �
       if is_at same z e then y else statement_range true z xs
   statement_range tail z (x ∷ xs) = statement_range tail z xs
 
+  -- what a form of a call replaces
   abbrev pub range_of : FormKind → Call S → S
   range_of TailForm c = statement_range true (expr_span c.tree) c.around
   range_of k c = if is_statement c.use_ then statement_range false (expr_span c.tree) c.around else expr_span c.tree
@@ -142,6 +155,7 @@ module _ {S : Type 0} (same : S → S → Bool) (commented : ℕ → ℕ → S �
 
   -- ---- calls
 
+  -- the call of a use, with the function that it names
   abbrev pub call_at : Site S → Where S → Func S → Expr S → Call S
   call_at x home f e =
       record {
@@ -158,30 +172,38 @@ module _ {S : Type 0} (same : S → S → Bool) (commented : ℕ → ℕ → S �
             type_there ps home x.at.number unnamed (expr_span e) (top_place ps home.number home.of home.source.tree);
       }
 
+  -- the identifiers of a form, where there is one
   abbrev pub identifiers_in : Option (Form S) → List (List ℕ)
   identifiers_in f = elim f [ None ↦ [] | Some f ↦ form_identifiers f ]
 
+  -- the packages that a form of a call needs, in the order of its text
   abbrev pub needed_by : Call S → List Bool → FormKind → List ℕ
   needed_by c chosen_ones k = unnamed_in (identifiers_in (form_tree same ps c unnamed chosen_ones k))
 
+  -- names for them in the file of the use
   abbrev pub names_in_form : Site S → Call S → List Bool → FormKind → List Named
   names_in_form x c chosen_ones k = named_packages ps x.at x.place (func_binders c.callee) (needed_by c chosen_ones k)
 
+  -- what keeps a call from a form
   abbrev pub call_obstacle : Site S → Call S → List Bool → FormKind → Option Obstacle
   call_obstacle x c chosen_ones k =
       obstacle_for x c.home (text_taken c k chosen_ones) (needed_by c chosen_ones k) (range_of k c)
       (is_recursive x.mark) (has_receiver same ps c && spread_call same ps c)
 
+  -- the form applies, and has no obstacle
   abbrev pub is_free_form : Site S → Call S → List Bool → FormKind → Bool
   is_free_form x c chosen_ones k = applies same ps c unnamed chosen_ones k && is_none (call_obstacle x c chosen_ones k)
 
+  -- the first form of a list that is free
   abbrev pub first_free : Site S → Call S → List Bool → List FormKind → Option FormKind
   first_free x c chosen_ones [] = None
   first_free x c chosen_ones (k ∷ ks) = if is_free_form x c chosen_ones k then Some k else first_free x c chosen_ones ks
 
+  -- the use stays, by an obstacle
   abbrev pub kept_by : Option Obstacle → Option (Reduced S)
   kept_by o = given o (λ o. Some (kept o))
 
+  -- a call becomes a form, with names for the packages that it needs
   abbrev pub reduced_to : Site S → Call S → List Bool → FormKind → Option (Reduced S)
   reduced_to x c chosen_ones k =
       let ns : List Named = names_in_form x c chosen_ones k in
@@ -197,19 +219,23 @@ module _ {S : Type 0} (same : S → S → Bool) (commented : ℕ → ℕ → S �
 
   -- ---- constants and aliases
 
+  -- what keeps the use of a constant or an alias
   abbrev pub name_obstacle : Site S → Where S → List (Seen S) → Form S → Option Obstacle
   name_obstacle x home text f =
       obstacle_for x home text (unnamed_in (form_identifiers f)) (part_span x.part) false false
 
+  -- a constant or an alias becomes its form, with names for the packages that it needs
   abbrev pub named_form : Site S → FormKind → (Names → Form S) → Option (Reduced S)
   named_form x k form =
       let ns : List Named = named_packages ps x.at x.place [] (unnamed_in (form_identifiers (form unnamed))) in
       Some (becomes k (form (names_by ns)) (part_span x.part) ns)
 
+  -- a constant or an alias becomes its form, where nothing is in the way
   abbrev pub reduced_name : Site S → Where S → FormKind → List (Seen S) → (Names → Form S) → Option (Reduced S)
   reduced_name x home k text form =
       elim (name_obstacle x home text (form unnamed)) [ Some o ↦ Some (kept o) | None ↦ named_form x k form ]
 
+  -- outside all functions, where a mark's declaration stands
   abbrev pub home_place : Where S → Place S
   home_place home = top_place ps home.number home.of home.source.tree
 
@@ -218,6 +244,7 @@ module _ {S : Type 0} (same : S → S → Bool) (commented : ℕ → ℕ → S �
   constant_form x home e names =
       as_expr (new_expr (outside_changes ps home x.at.number names (part_span x.part)) (home_place home) other e)
 
+  -- the type that an alias stands for, written at the use
   abbrev pub alias_type : Site S → Where S → TypeExpr S → Names → TypeExpr S
   alias_type x home t names = type_there ps home x.at.number names (part_span x.part) (home_place home) t
 
@@ -228,10 +255,12 @@ module _ {S : Type 0} (same : S → S → Bool) (commented : ℕ → ℕ → S �
 
   -- ---- a site
 
+  -- what a call of a function becomes
   abbrev pub reduced_function : Site S → Where S → Func S → Part S → Option (Reduced S)
   reduced_function x home f (an_expr e) = let c : Call S = call_at x home f e in reduced_call x c (chosen same ps c)
   reduced_function x home f (a_type_part t) = None
 
+  -- what a use becomes, by what it is a use of
   abbrev pub reduced_in : Site S → Where S → Inlinable S → Option (Reduced S)
   reduced_in x home (a_constant n e) =
       reduced_name x home ConstForm (expr_seen (home_place home) other e) (constant_form x home e)

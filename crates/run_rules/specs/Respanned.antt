@@ -1,4 +1,5 @@
--- A tree with other spans in the place of its own.
+-- A tree with other spans in the place of its own (Go specification, Types; Expressions; Statements; Source file
+-- organization).
 use Rattle.std.specs.Prelude.{List, map, Option}
 use Rattle.std.specs.Option.{option_map}
 use Rattle.go_tree.specs.Tree.{NameAt, TypeExpr, Fields, named, pointer, slice_type, map_type, struct_type, no_fields, field, Param, Sig, Expr, Exprs, ExprOption, Elems, Value, ValueOption, Stmt, Stmts, StmtOption, BlockOption, RangeLeft, Arms, Cases, ValueSpecs, ident, int_lit, rune_lit, str_lit, composite, selector, index, slice, call, func_lit, type_operand, unary, binary, star, no_exprs, expr_and, no_expr, some_expr, no_elems, elem, plain, braced, no_value, some_value, const_decl, var_decl, empty, eval, step, assign, define, return_, break_, continue_, inner, if_, for_, range_, switch, defer, label, no_stmts, stmt_and, no_stmt, some_stmt, no_block, some_block, nothing, assigns, defines, no_arms, arm, no_cases, case, no_specs, spec}
@@ -6,10 +7,12 @@ use Rattle.go_tree.specs.File.{ImportSpec, ImportDecl, TypeSpec, Receiver, Func,
 use Rattle.pkg_graph.specs.Package.{SourceTree, Package}
 
 module _ {S T : Type 0} (to : S → T) where
+  -- a name
   abbrev pub name_with : NameAt S → NameAt T
   name_with n = record { span = to n.span; name = n.name }
 
   abbrev mutual
+    -- a type
     pub type_with : TypeExpr S → TypeExpr T
     type_with (named s p n) = named (to s) (option_map name_with p) (name_with n)
     type_with (pointer s t) = pointer (to s) (type_with t)
@@ -17,20 +20,25 @@ module _ {S T : Type 0} (to : S → T) where
     type_with (map_type s k t) = map_type (to s) (type_with k) (type_with t)
     type_with (struct_type s fs) = struct_type (to s) (fields_with fs)
 
+    -- fields
     pub fields_with : Fields S → Fields T
     fields_with no_fields = no_fields
     fields_with (field s n t fs) = field (to s) (name_with n) (type_with t) (fields_with fs)
 
+  -- a type that may be left out
   abbrev pub type_option_with : Option (TypeExpr S) → Option (TypeExpr T)
   type_option_with t = option_map type_with t
 
+  -- a parameter
   abbrev pub param_with : Param S → Param T
   param_with p = record { span = to p.span; name = option_map name_with p.name; rest = p.rest; of = type_with p.of }
 
+  -- a signature
   abbrev pub sig_with : Sig S → Sig T
   sig_with g = record { params = map param_with g.params; results = map param_with g.results }
 
   abbrev mutual
+    -- an expression
     pub expr_with : Expr S → Expr T
     expr_with (ident s n) = ident (to s) n
     expr_with (int_lit s n) = int_lit (to s) n
@@ -47,26 +55,32 @@ module _ {S T : Type 0} (to : S → T) where
     expr_with (binary s o a b) = binary (to s) o (expr_with a) (expr_with b)
     expr_with (star s e) = star (to s) (expr_with e)
 
+    -- expressions
     pub exprs_with : Exprs S → Exprs T
     exprs_with no_exprs = no_exprs
     exprs_with (expr_and e es) = expr_and (expr_with e) (exprs_with es)
 
+    -- an expression that may be left out
     pub expr_option_with : ExprOption S → ExprOption T
     expr_option_with no_expr = no_expr
     expr_option_with (some_expr e) = some_expr (expr_with e)
 
+    -- elements
     pub elems_with : Elems S → Elems T
     elems_with no_elems = no_elems
     elems_with (elem s k v es) = elem (to s) (value_option_with k) (value_with v) (elems_with es)
 
+    -- a key that may be left out
     pub value_option_with : ValueOption S → ValueOption T
     value_option_with no_value = no_value
     value_option_with (some_value v) = some_value (value_with v)
 
+    -- a key or an element
     pub value_with : Value S → Value T
     value_with (plain e) = plain (expr_with e)
     value_with (braced s es) = braced (to s) (elems_with es)
 
+    -- a statement
     pub stmt_with : Stmt S → Stmt T
     stmt_with (const_decl s g ss) = const_decl (to s) g (specs_with ss)
     stmt_with (var_decl s g ss) = var_decl (to s) g (specs_with ss)
@@ -87,48 +101,60 @@ module _ {S T : Type 0} (to : S → T) where
     stmt_with (defer s e) = defer (to s) (expr_with e)
     stmt_with (label s n x) = label (to s) (name_with n) (stmt_with x)
 
+    -- statements
     pub stmts_with : Stmts S → Stmts T
     stmts_with no_stmts = no_stmts
     stmts_with (stmt_and s ss) = stmt_and (stmt_with s) (stmts_with ss)
 
+    -- a statement that may be left out
     pub stmt_option_with : StmtOption S → StmtOption T
     stmt_option_with no_stmt = no_stmt
     stmt_option_with (some_stmt s) = some_stmt (stmt_with s)
 
+    -- a block that may be left out
     pub block_option_with : BlockOption S → BlockOption T
     block_option_with no_block = no_block
     block_option_with (some_block s b) = some_block (to s) (stmts_with b)
 
+    -- the left side of a `range` clause
     pub left_with : RangeLeft S → RangeLeft T
     left_with nothing = nothing
     left_with (assigns es) = assigns (exprs_with es)
     left_with (defines ns) = defines (map name_with ns)
 
+    -- the tests of an `if`, with their blocks
     pub arms_with : Arms S → Arms T
     arms_with no_arms = no_arms
     arms_with (arm s i t z b r) = arm (to s) (stmt_option_with i) (expr_with t) (to z) (stmts_with b) (arms_with r)
 
+    -- the clauses of a `switch`
     pub cases_with : Cases S → Cases T
     cases_with no_cases = no_cases
     cases_with (case s es b cs) = case (to s) (exprs_with es) (stmts_with b) (cases_with cs)
 
+    -- the specs of constants or variables
     pub specs_with : ValueSpecs S → ValueSpecs T
     specs_with no_specs = no_specs
     specs_with (spec s ns t es ss) = spec (to s) (map name_with ns) (type_option_with t) (exprs_with es) (specs_with ss)
 
+  -- an import spec
   abbrev pub import_spec_with : ImportSpec S → ImportSpec T
   import_spec_with s = record { span = to s.span; name = option_map name_with s.name; path = s.path }
 
+  -- an import declaration
   abbrev pub import_decl_with : ImportDecl S → ImportDecl T
   import_decl_with d = record { span = to d.span; grouped = d.grouped; specs = map import_spec_with d.specs }
 
+  -- a type spec
   abbrev pub type_spec_with : TypeSpec S → TypeSpec T
   type_spec_with s = record { span = to s.span; name = name_with s.name; alias = s.alias; of = type_with s.of }
 
+  -- a receiver
   abbrev pub receiver_with : Receiver S → Receiver T
   receiver_with r =
       record { span = to r.span; name = option_map name_with r.name; pointer = r.pointer; of = name_with r.of }
 
+  -- a function or method
   abbrev pub func_with : Func S → Func T
   func_with g =
       record {
@@ -140,14 +166,17 @@ module _ {S T : Type 0} (to : S → T) where
         body = stmts_with g.body;
       }
 
+  -- a declaration
   abbrev pub decl_with : Decl S → Decl T
   decl_with (values s) = values (stmt_with s)
   decl_with (types s grouped ts) = types (to s) grouped (map type_spec_with ts)
   decl_with (func g) = func (func_with g)
 
+  -- declarations
   abbrev pub decls_with : List (Decl S) → List (Decl T)
   decls_with ds = map decl_with ds
 
+  -- a file
   abbrev pub file_with : File S → File T
   file_with x =
       record {
@@ -156,11 +185,14 @@ module _ {S T : Type 0} (to : S → T) where
         decls = decls_with x.decls;
       }
 
+  -- a file with its path
   abbrev pub source_with : SourceTree S → SourceTree T
   source_with x = record { path = x.path; tree = file_with x.tree }
 
+  -- a package
   abbrev pub package_with : Package S → Package T
   package_with p = record { path = p.path; name = p.name; files = map source_with p.files }
 
+  -- packages
   abbrev pub packages_with : List (Package S) → List (Package T)
   packages_with ps = map package_with ps

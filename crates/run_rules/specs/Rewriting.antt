@@ -28,31 +28,39 @@ pub record Changes (S : Type 0) : Type 0 where
   pub span : S → S
 
 module _ {S : Type 0} (c : Changes S) where
+  -- a name that is declared
   abbrev pub new_name : NameAt S → NameAt S
   new_name n = record { span = c.span n.span; name = n.name }
 
+  -- names that are declared
   abbrev pub new_names : List (NameAt S) → List (NameAt S)
   new_names ns = map new_name ns
 
+  -- a name or a label that may be left out
   abbrev pub new_label : Option (NameAt S) → Option (NameAt S)
   new_label n = option_map new_name n
 
+  -- a written type
   abbrev pub new_type : Place S → TypeExpr S → TypeExpr S
   new_type p t = c.type p t
 
+  -- a type that may be left out
   abbrev pub new_written : Place S → Option (TypeExpr S) → Option (TypeExpr S)
   new_written p None = None
   new_written p (Some t) = Some (c.type p t)
 
+  -- parameters or results
   abbrev pub new_params : Place S → List (Param S) → List (Param S)
   new_params p [] = []
   new_params p (x ∷ xs) =
       record { span = c.span x.span; name = new_label x.name; rest = x.rest; of = c.type p x.of } ∷ new_params p xs
 
+  -- a signature
   abbrev pub new_sig : Place S → Sig S → Sig S
   new_sig p g = record { params = new_params p g.params; results = new_params p g.results }
 
   abbrev mutual
+    -- an expression
     pub new_expr : Place S → Use → Expr S → Expr S
     new_expr p u (ident s n) = otherwise (c.expr p u (ident s n)) (ident (c.span s) n)
     new_expr p u (int_lit s n) = otherwise (c.expr p u (int_lit s n)) (int_lit (c.span s) n)
@@ -92,32 +100,38 @@ module _ {S : Type 0} (c : Changes S) where
         otherwise (c.expr p u (star s e)) (star (c.span s) (new_expr (in_slot (last_slot p.slot (star s e) 6 None) p)
         other e))
 
+    -- expressions
     pub new_all : Place S → List Use → Exprs S → Exprs S
     new_all p us no_exprs = no_exprs
     new_all p us (expr_and e es) =
         expr_and (new_expr (record p { slot = comma_slot p.slot es }) (head_use us) e) (new_all p (later_uses us) es)
 
+    -- an expression that may be left out
     pub new_option : Place S → ExprOption S → ExprOption S
     new_option p no_expr = no_expr
     new_option p (some_expr e) = some_expr (new_expr p other e)
 
+    -- the elements of a literal with this underlying type, from the i-th on
     pub new_elems : Place S → Option GoType → ℕ → Elems S → Elems S
     new_elems p u i no_elems = no_elems
     new_elems p u i (elem s k v es) =
         elem (c.span s) (new_key p u k) (new_value (record p { slot = a_slot 1 false (elem_closed es) })
         (elem_use p.env u i k) v) (new_elems p u (suc i) es)
 
+    -- a key, which stays where it names a field
     pub new_key : Place S → Option GoType → ValueOption S → ValueOption S
     new_key p u no_value = no_value
     new_key p u (some_value v) =
         some_value (if meets u is_struct then value_with c.span v else (new_value p (key_use p.env u) v))
 
+    -- an element, or inner braces
     pub new_value : Place S → Use → Value S → Value S
     new_value p u (plain e) = plain (new_expr p u e)
     new_value p u (braced s es) =
         braced (c.span s) (new_elems p (given (into_type u)
         (λ t. Some (under (defined_in p.env) (literal_type (defined_in p.env) t)))) 0 es)
 
+    -- a statement, and whether it stands directly in a list
     pub new_stmt : Place S → Bool → Stmt S → Stmt S
     new_stmt p l (const_decl s g ss) =
         otherwise (c.stmt p (const_decl s g ss)) (const_decl (c.span s) g
@@ -161,34 +175,41 @@ module _ {S : Type 0} (c : Changes S) where
         otherwise (c.stmt p (label s n x)) (label (c.span s) (new_name n)
         (new_stmt (record p { ctx = labelled p.ctx n x }) false x))
 
+    -- statements
     pub new_stmts : Place S → Stmts S → Stmts S
     new_stmts p no_stmts = no_stmts
     new_stmts p (stmt_and s ss) = stmt_and (new_stmt (at_stmt p s) true s) (new_stmts (after_stmt p s) ss)
 
+    -- the first or the last statement of a header
     pub new_first : Place S → Bool → StmtOption S → StmtOption S
     new_first p post no_stmt = no_stmt
     new_first p post (some_stmt s) = some_stmt (new_stmt p false s)
 
+    -- the last block of an `if`
     pub new_block : Place S → BlockOption S → BlockOption S
     new_block p no_block = no_block
     new_block p (some_block s b) = some_block (c.span s) (new_stmts (block p) b)
 
+    -- the left side of a `range` clause
     pub new_left : Place S → RangeLeft S → RangeLeft S
     new_left p nothing = nothing
     new_left p (assigns es) = assigns (new_all p (every_use stored es) es)
     new_left p (defines ns) = defines (new_names ns)
 
+    -- the tests of an `if`, with their blocks
     pub new_arms : Place S → Arms S → Arms S
     new_arms p no_arms = no_arms
     new_arms p (arm s i t z b r) =
         arm (c.span s) (new_first (in_heading true p) false i) (new_expr (in_heading true (after_first p i)) other t)
         (c.span z) (new_stmts (block (after_first p i)) b) (new_arms (block (after_first p i)) r)
 
+    -- the clauses of a `switch`
     pub new_cases : Place S → Cases S → Cases S
     new_cases p no_cases = no_cases
     new_cases p (case s es b cs) =
         case (c.span s) (new_all (in_heading false p) [] es) (new_stmts (block p) b) (new_cases p cs)
 
+    -- a group of constants, from the i-th member on, with what a member without values repeats
     pub new_constants : Place S → Repeated → ℕ → ValueSpecs S → ValueSpecs S
     new_constants p r i no_specs = no_specs
     new_constants p r i (spec s ns t es ss) =
@@ -196,6 +217,7 @@ module _ {S : Type 0} (c : Changes S) where
         (new_all (before_repeats (in_constant i p) ns ss) (alike (value_use p.env t) ns) es)
         (new_constants (after_constants p (repeated_by r t es) i ns) (repeated_by r t es) (suc i) ss)
 
+    -- the specs of a `var` declaration
     pub new_variables : Place S → ValueSpecs S → ValueSpecs S
     new_variables p no_specs = no_specs
     new_variables p (spec s ns t es ss) =

@@ -1,5 +1,5 @@
 -- The run: programs, each the next of the one before, up to one in which no use is free; the ranges in which it changes
--- the files, and its limits.
+-- the files, and its limits (golang.org/x/tools, analyzer inline and internal/refactor/inline).
 use Rattle.std.specs.Prelude.{◌≡◌, ℕ, suc, ◌+◌, Bool, ◌&&◌, List, [], ◌∷◌, ◌++◌, map, filter, length, Option, Some, None, if◌then◌else◌, bytes_eq, nat_lt, slice_get}
 use Rattle.std.specs.List.{list_any}
 use Rattle.go_tree.specs.declared.spans.Span.{Span}
@@ -48,9 +48,11 @@ pub record KeptUse : Type 0 where
   pub name : List ℕ
   pub obstacle : Obstacle
 
+-- where a node stands
 abbrev pub here_of : At → Span
 here_of a = a.here
 
+-- what a node comes from
 abbrev pub origin_of : At → Span
 origin_of a = a.origin
 
@@ -58,6 +60,7 @@ origin_of a = a.origin
 abbrev pub as_read : Span → At
 as_read s = record { here = s; origin = s }
 
+-- the path of a file by its numbers
 abbrev pub path_of_file : List (Package At) → ℕ → ℕ → Option (List ℕ)
 path_of_file ps k f = given (slice_get ps k) (λ p. given (slice_get p.files f) (λ s. Some s.path))
 
@@ -67,17 +70,21 @@ is_commented st k f a =
     meets (given (path_of_file st.packages k f) (λ path. text_at path st.texts))
     (λ t. list_any (lies_in a.here) t.comments)
 
+-- texts with that of one file replaced
 abbrev pub with_text : List ℕ → FileText → List (List ℕ × FileText) → List (List ℕ × FileText)
 with_text path new [] = []
 with_text path new (t ∷ ts) = (if bytes_eq path t.0 then (t.0, new) else t) ∷ with_text path new ts
 
 module _ (marks : List MarkRef) where
+  -- the first use that isn't kept, with its form
   abbrev pub step_in : Standing → Option (Found At)
   step_in st = first_step same_here (is_commented st) st.packages marks
 
+  -- the edits of a step
   abbrev pub edits_in : Standing → FileText → Found At → List Edit
   edits_in st t f = step_edits same_here here_of (is_commented st) st.packages marks t f
 
+  -- what is told of a step
   abbrev pub logged : Standing → Found At → List Edit → Logged
   logged st f es =
       record {
@@ -119,6 +126,7 @@ module _ (marks : List MarkRef) where
 
   -- ---- kept uses
 
+  -- what is told of a use that stays
   abbrev pub kept_use : Standing → Site At → Option (Reduced At) → List KeptUse
   kept_use st x (Some (kept o)) =
       record {
@@ -130,6 +138,7 @@ module _ (marks : List MarkRef) where
       } ∷ []
   kept_use st x r = []
 
+  -- what is told of those of a list that stay
   abbrev pub kept_among : Standing → List (Site At) → List KeptUse
   kept_among st [] = []
   kept_among st (x ∷ xs) = kept_use st x (reduced same_here (is_commented st) st.packages marks x) ++ kept_among st xs
@@ -150,6 +159,7 @@ abbrev pub edits_of : List ℕ → List Edit → List Logged → List Edit
 edits_of path made [] = made
 edits_of path made (l ∷ log) = edits_of path (if bytes_eq path l.file then joined_with l.edits made else made) log
 
+-- the ranges of a file as read that the run changes
 abbrev pub ranges_of : List ℕ → List Logged → List Span
 ranges_of path log = spans (edits_of path [] log)
 
@@ -159,11 +169,13 @@ pub data FilesKeep (log : List Logged) : List (List ℕ × List ℕ) → List (L
   file : {path old new : List ℕ} {olds news : List (List ℕ × List ℕ)} → Keeps old new (ranges_of path log)
       → FilesKeep log olds news → FilesKeep log ((path, old) ∷ olds) ((path, new) ∷ news)
 
+-- the bytes of files, by their paths
 abbrev pub bytes_of : List (List ℕ × FileText) → List (List ℕ × List ℕ)
 bytes_of texts = map (λ t. (t.0, t.1.text)) texts
 
 -- ---- limits, in the order in which they are tried
 
+-- what is limited, in the order of the checks
 pub data Limit : Type 0 where
   Steps StepsOfUse Bytes Total Weight : Limit
 
@@ -173,24 +185,30 @@ pub record TooLarge : Type 0 where
   pub count : ℕ
   pub bound : ℕ
 
+-- two steps come from one use
 abbrev pub same_origin : Logged → Logged → Bool
 same_origin a b = bytes_eq a.file b.file && same_span a.origin b.origin
 
+-- how many steps come from the same use
 abbrev pub steps_like : Logged → List Logged → ℕ
 steps_like l log = length (filter (same_origin l) log)
 
+-- the bytes of all files together
 abbrev pub module_size : List (List ℕ × FileText) → ℕ
 module_size [] = 0
 module_size (t ∷ ts) = length t.1.text + module_size ts
 
+-- the first number above a bound
 abbrev pub first_over : ℕ → List ℕ → Option ℕ
 first_over bound [] = None
 first_over bound (w ∷ ws) = if nat_lt bound w then Some w else first_over bound ws
 
+-- a count that passes its limit, or what comes next
 abbrev pub over : Limit → ℕ → ℕ → Option TooLarge → Option TooLarge
 over limit bound count rest =
     if nat_lt bound count then Some (record { limit = limit; count = count; bound = bound }) else rest
 
+-- the weight that passes its limit, where there is one
 abbrev pub over_weight : ℕ → Option ℕ → Option TooLarge
 over_weight bound None = None
 over_weight bound (Some w) = Some (record { limit = Weight; count = w; bound = bound })
@@ -204,6 +222,7 @@ pub record Limits : Type 0 where
   pub total : ℕ
   pub weight : ℕ
 
+-- the limits of a run
 abbrev pub the_limits : Limits
 the_limits = record { steps = 65536; steps_of_use = 1024; bytes = 4194304; total = 16777216; weight = 400 }
 

@@ -26,9 +26,11 @@ pub record FileText : Type 0 where
 -- ---- the layout of a form
 
 module _ {S : Type 0} where
+  -- a value assigned to `_`
   abbrev pub dropped : S → Expr S → Stmt S
   dropped z e = assign z (expr_and (ident z blank) no_exprs) None (expr_and e no_exprs)
 
+  -- the layout of a form in a slot, at an indent
   abbrev pub form_layout : S → List ℕ → Slot → Form S → Layout
   form_layout z indent s (as_expr e) =
       let q : Bool = is_bracketed s e in within q (expr_layout indent (header_within q s.header)
@@ -39,6 +41,7 @@ module _ {S : Type 0} where
 
 -- ---- where a token ends directly before
 
+-- a space or a tab
 abbrev pub is_space_or_tab : ℕ → Bool
 is_space_or_tab b = nat_eq b 32 || nat_eq b 9
 
@@ -46,6 +49,7 @@ is_space_or_tab b = nat_eq b 32 || nat_eq b 9
 abbrev pub indent_at : List ℕ → ℕ → List ℕ
 indent_at text at = let rest : List ℕ = drop (line_start text at) text in take (prefix_len is_space_or_tab rest) rest
 
+-- the spelling of the first token
 abbrev pub first_spelling : Layout → Option (List ℕ)
 first_spelling no_text = None
 first_spelling (a_token kind spelling) = Some spelling
@@ -65,6 +69,7 @@ is_word_byte b =
     nat_le 128 b || (nat_eq b 95 || ((nat_le 48 b && nat_le b 57)
     || ((nat_le 65 b && nat_le b 90) || (nat_le 97 b && nat_le b 122))))
 
+-- it begins as a word does
 abbrev pub begins_word : List ℕ → Bool
 begins_word [] = false
 begins_word (b ∷ bs) = is_word_byte b
@@ -77,6 +82,7 @@ long_operators =
     ∷ codes "+=" ∷ codes "-=" ∷ codes "*=" ∷ codes "/=" ∷ codes "%=" ∷ codes "&=" ∷ codes "|=" ∷ codes "^=" ∷ codes "<<"
     ∷ codes ">>" ∷ codes "&^" ∷ codes "//" ∷ codes "/*" ∷ []
 
+-- an operator that begins with a token and goes on into the next one
 abbrev pub is_longer_front : List ℕ → List ℕ → List ℕ → Bool
 is_longer_front a both_ o = nat_lt (length a) (length o) && starts_with nat_eq both_ o
 
@@ -86,10 +92,12 @@ abbrev pub run_together : List ℕ → List ℕ → Bool
 run_together a b =
     (begins_word a && begins_word b) || (not (begins_word a) && list_any (is_longer_front a (a ++ b)) long_operators)
 
+-- two tokens that would run together
 abbrev pub needs_blank : Option (List ℕ) → Option (List ℕ) → Bool
 needs_blank (Some a) (Some b) = run_together a b
 needs_blank a b = false
 
+-- the blank that parts a form from the token before it
 abbrev pub blank_before : FileText → ℕ → Layout → List ℕ
 blank_before f at l = if needs_blank (spelling_before at f.tokens) (first_spelling l) then codes " " else []
 
