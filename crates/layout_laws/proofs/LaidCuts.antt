@@ -10,8 +10,8 @@ use Rattle.std.specs.Str.{all_scalars}
 use Rattle.std.proofs.lemmas.Str.{encodes-append}
 use Rattle.std.proofs.lemmas.List.{append_assoc, append-nil}
 use Rattle.go_words.specs.Tokens.Characters.{is_letter, is_blank, byte_order_mark}
-use Rattle.go_words.specs.Tokens.{TokensOf, after_mark, mark_size, size_of, ends_line, span_of, due_after, tokens_from, comments_from}
-use Rattle.go_words.specs.Tokens.Pieces.{PieceKind, token, Piece, IsPiece, IsNext, CutsTo}
+use Rattle.go_words.specs.Tokens.{TokensOf, after_mark, mark_size, size_of, ends_line, span_of, due_after, tokens_from, comments_from, pieces_size}
+use Rattle.go_words.specs.Tokens.Pieces.{PieceKind, blanks, token, Piece, IsPiece, IsNext, CutsTo}
 use Rattle.go_scan.specs.Automaton.{next_of, is_whole}
 use Rattle.go_scan.proofs.Derivatives.{and_parts, and_true}
 use Rattle.go_scan.proofs.AutomatonLemmas.{run}
@@ -21,7 +21,7 @@ use Rattle.go_words.specs.Terminals.{lex, terminal_of, lexemes}
 use Rattle.go_read.specs.SpellsTypes.{Lexemes}
 use Rattle.go_layout.specs.Layouts.{Layout, no_text, a_token, gap, line, ◌⊕◌, text_of}
 use Rattle.layout_laws.specs.LayoutTokens.{HasTokens, of_nothing, of_token, of_gap, of_line, of_end, of_both}
-use Rattle.layout_laws.specs.LayoutPieces.{word_of, letters_of, pieces_of, due_of}
+use Rattle.layout_laws.specs.LayoutPieces.{word_of, letters_of, pieces_of, due_of, due_behind}
 use Rattle.layout_laws.specs.Laid.{is_indent, Laid}
 use Rattle.layout_laws.proofs.NextTokens.{START, DEAD}
 
@@ -90,20 +90,56 @@ abbrev pub is_due : Option ℕ → Bool
 is_due None = false
 is_due (Some at) = true
 
+-- ---- the pieces of a layout, and then others
+
+pub size_over : (a : Layout) (ps : List Piece) → pieces_size (pieces_of a ps) ≡ pieces_size (pieces_of a []) + pieces_size ps
+size_over no_text ps = omega arith
+size_over (a_token k w) ps = omega arith
+size_over gap ps = omega arith
+size_over (line ends i) ps = omega arith
+size_over (a ⊕ b) ps =
+    let x = size_over a (pieces_of b ps) in let y = size_over b ps in let z = size_over a (pieces_of b []) in omega (arith, x, y, z)
+
+none_more : (n : ℕ) → n ≡ n + 0
+none_more n = omega arith
+
+one_size : (at n : ℕ) → at + n ≡ at + (n + 0)
+one_size at n = omega arith
+
+pub due_over : (a : Layout) (at : ℕ) (due : Option ℕ) (ps : List Piece)
+    → due_behind at due (pieces_of a ps) ≡ due_behind (at + pieces_size (pieces_of a [])) (due_behind at due (pieces_of a [])) ps
+unfolding due_behind
+due_over no_text at due ps = ap (λ (n : ℕ). due_behind n due ps) (none_more at)
+due_over (a_token k w) at due ps = ap (λ (n : ℕ). due_behind n (due_after at due (token k) (word_of k w)) ps) (one_size at (size_of (word_of k w)))
+due_over gap at due ps = ap (λ (n : ℕ). due_behind n (due_after at due blanks (32 ∷ [])) ps) (one_size at (size_of (32 ∷ [])))
+due_over (line ends i) at due ps = ap (λ (n : ℕ). due_behind n (due_after at due blanks (10 ∷ i)) ps) (one_size at (size_of (10 ∷ i)))
+due_over (a ⊕ b) at due ps =
+    let m : ℕ = at + pieces_size (pieces_of a []) in
+    let d : Option ℕ = due_behind at due (pieces_of a []) in
+    let z = size_over a (pieces_of b []) in
+    let place : m + pieces_size (pieces_of b []) ≡ at + pieces_size (pieces_of a (pieces_of b [])) = omega (arith, z) in
+    due_over a at due (pieces_of b ps) ∙ due_over b m d ps
+    ∙ ap (λ (n : ℕ). due_behind n (due_behind m d (pieces_of b [])) ps) place
+    ∙ ap (λ (o : Option ℕ). due_behind (at + pieces_size (pieces_of a (pieces_of b []))) o ps) (sym (due_over a at due (pieces_of b [])))
+
 -- the tokens of the pieces are those of the layout, and then those of the pieces after it
 pub record After (a : Layout) (d : Bool) (at : ℕ) (due : Option ℕ) (ps : List Piece) : Type 0 where
   pub place : ℕ
   pub then_due : Option ℕ
   pub due_is : is_due then_due ≡ due_of a d
+  pub place_is : place ≡ at + pieces_size (pieces_of a [])
+  pub then_is : then_due ≡ due_behind at due (pieces_of a [])
   pub has : HasTokens a (lexemes (tokens_from at due (pieces_of a ps))) (lexemes (tokens_from place then_due ps))
 
 pub after : (a : Layout) (d : Bool) (more : List ℕ) → Laid a d more → (at : ℕ) (due : Option ℕ) → is_due due ≡ d → (ps : List Piece) → After a d at due ps
-unfolding tokens_from
-after no_text d more laid at due q ps = record { place = at; then_due = due; due_is = q; has = of_nothing }
+unfolding tokens_from due_behind
+after no_text d more laid at due q ps = record { place = at; then_due = due; due_is = q; place_is = none_more at; then_is = refl; has = of_nothing }
 after (a_token k w) d more laid at due q ps = record {
   place = at + size_of (word_of k w);
   then_due = due_after at due (token k) (word_of k w);
   due_is = by_end (ends_line k (word_of k w));
+  place_is = one_size at (size_of (word_of k w));
+  then_is = refl;
   has = subst (λ (x : List ℕ). HasTokens (a_token k w) (lex (span_of at (word_of k w)) (terminal_of k x) ∷ rest) rest) (sym laid.encoded) of_token;
 }
   where
@@ -113,13 +149,13 @@ after (a_token k w) d more laid at due q ps = record {
     by_end : (b : Bool) → is_due (if b then Some (at + size_of (word_of k w)) else None) ≡ b
     by_end true = refl
     by_end false = refl
-after gap d more laid at due q ps = record { place = at + size_of (32 ∷ []); then_due = due; due_is = q; has = of_gap }
+after gap d more laid at due q ps = record { place = at + size_of (32 ∷ []); then_due = due; due_is = q; place_is = one_size at (size_of (32 ∷ [])); then_is = refl; has = of_gap }
 after (line true i) d more laid at None q ps = absurd (nope (laid.0 ∙ sym q))
   where
     nope : true ≡ false → ⊥
     nope e = cc
-after (line true i) d more laid at (Some due) q ps = record { place = at + size_of (10 ∷ i); then_due = None; due_is = refl; has = of_end }
-after (line false i) d more laid at None q ps = record { place = at + size_of (10 ∷ i); then_due = None; due_is = refl; has = of_line }
+after (line true i) d more laid at (Some due) q ps = record { place = at + size_of (10 ∷ i); then_due = None; due_is = refl; place_is = one_size at (size_of (10 ∷ i)); then_is = refl; has = of_end }
+after (line false i) d more laid at None q ps = record { place = at + size_of (10 ∷ i); then_due = None; due_is = refl; place_is = one_size at (size_of (10 ∷ i)); then_is = refl; has = of_line }
 after (line false i) d more laid at (Some due) q ps = absurd (nope (laid.0 ∙ sym q))
   where
     nope : false ≡ true → ⊥
@@ -127,7 +163,17 @@ after (line false i) d more laid at (Some due) q ps = absurd (nope (laid.0 ∙ s
 after (a ⊕ b) d more laid at due q ps =
     let x = after a d (letters_of b more) laid.0 at due q (pieces_of b ps) in
     let y = after b (due_of a d) more laid.1 x.place x.then_due x.due_is ps in
-    record { place = y.place; then_due = y.then_due; due_is = y.due_is; has = of_both x.has y.has }
+    record {
+      place = y.place;
+      then_due = y.then_due;
+      due_is = y.due_is;
+      place_is = places at x.place y.place (pieces_size (pieces_of a [])) (pieces_size (pieces_of b [])) (pieces_size (pieces_of a (pieces_of b []))) x.place_is y.place_is (size_over a (pieces_of b []));
+      then_is = y.then_is ∙ ap (λ (n : ℕ). due_behind n x.then_due (pieces_of b [])) x.place_is ∙ ap (λ (o : Option ℕ). due_behind (at + pieces_size (pieces_of a [])) o (pieces_of b [])) x.then_is ∙ sym (due_over a at due (pieces_of b []));
+      has = of_both x.has y.has;
+    }
+  where
+    places : (at p q m n s : ℕ) → p ≡ at + m → q ≡ p + n → s ≡ m + n → q ≡ at + s
+    places at p q m n s e f g = omega (arith, e, f, g)
 
 pub no_comments : (a : Layout) (at : ℕ) (ps : List Piece) → (place : ℕ) × (comments_from at (pieces_of a ps) ≡ comments_from place ps)
 unfolding comments_from

@@ -1,11 +1,12 @@
 -- What is written for a tree spells the tree.
-use Rattle.std.proofs.Common.{◌≡◌, ℕ, Bool, true, false, List, [], ◌∷◌, ◌++◌, Option, Some, None, refl, sym, ap, subst, ◌∙◌}
+use Rattle.std.specs.Prelude.{is_some}
+use Rattle.std.proofs.Common.{◌≡◌, ℕ, ◌+◌, Bool, true, false, List, [], ◌∷◌, ◌++◌, Option, Some, None, refl, sym, ap, subst, ◌∙◌}
 use Rattle.std.proofs.lemmas.List.{append_assoc, append-nil}
 use Rattle.go_tree.specs.declared.spans.Span.{Span}
 use Rattle.go_tree.specs.declared.tokens.Token.{Token}
 use Rattle.go_tree.specs.Tree.{TypeExpr, Sig, Expr, Stmts}
 use Rattle.go_tree.specs.Bare.{bare_type, bare_sig, bare_expr, bare_stmts}
-use Rattle.go_words.specs.Tokens.{TokensOf, tokens_from}
+use Rattle.go_words.specs.Tokens.{TokensOf, tokens_from, pieces_size}
 use Rattle.go_words.specs.Tokens.Pieces.{Piece, CutsTo}
 use Rattle.go_words.specs.Terminals.{lexemes}
 use Rattle.go_read.specs.SpellsTypes.{Lexemes, SpellsType, SpellsSig}
@@ -20,7 +21,7 @@ use Rattle.go_layout.specs.TreeLayout.{operand_layout, stmts_layout}
 use Rattle.layout_laws.specs.Formed.{FormedType, FormedSig, FormedOperand, FormedStmts}
 use Rattle.layout_laws.specs.Real.{AreReal}
 use Rattle.layout_laws.specs.LayoutTokens.{HasTokens}
-use Rattle.layout_laws.specs.LayoutPieces.{word_of, letters_of, pieces_of, due_of}
+use Rattle.layout_laws.specs.LayoutPieces.{word_of, letters_of, pieces_of, due_of, due_behind}
 use Rattle.layout_laws.specs.Laid.{is_indent, Laid}
 use Rattle.layout_laws.specs.Laws.{TokensFrom, IsSpelledType, IsSpelledSig, SigIsWritten, IsSpelledExpr, IsSpelledStmts, may_follow, Stands, StandsAlone, SpellsWithin, TypeIsWritten, ExprIsWritten, last_gives, SpellsList, StmtsAreWritten}
 use Rattle.layout_laws.proofs.SpelledTypes.{U, type_spelled, sig_spelled}
@@ -69,12 +70,24 @@ stands a are laid so = record {
   cut = λ more others rest off cut. subst (λ (t : List ℕ). CutsTo t (pieces_of a [] ++ others) rest) (letters_on a more)
       (subst (λ (ps : List Piece). CutsTo (letters_of a more) ps rest) (pieces_on a others) (cuts_to a false more others rest (laid false more off) cut));
   tokens = λ at due others. tokens_so at due others;
+  semicolon_due = λ at due. due_so at due;
 }
   where
-    tokens_so : (at : ℕ) (due : Option ℕ) (others : List Piece) → (place : ℕ) × (then_due : Option ℕ) × are (lexemes (tokens_from at due (pieces_of a [] ++ others))) (lexemes (tokens_from place then_due others))
+    due_same : (o : Option ℕ) → is_some o ≡ is_due o
+    due_same None = refl
+    due_same (Some at) = refl
+
+    due_so : (at : ℕ) (due : Option ℕ) → is_some (due_behind at due (pieces_of a [])) ≡ due_of a (is_some due)
+    due_so at due =
+        let x = after a (is_due due) [] (laid (is_due due) [] refl) at due refl [] in
+        ap is_some (sym x.then_is) ∙ due_same x.then_due ∙ x.due_is ∙ ap (λ (d : Bool). due_of a d) (sym (due_same due))
+
+    tokens_so : (at : ℕ) (due : Option ℕ) (others : List Piece) → are (lexemes (tokens_from at due (pieces_of a [] ++ others))) (lexemes (tokens_from (at + pieces_size (pieces_of a [])) (due_behind at due (pieces_of a [])) others))
     tokens_so at due others =
         let x = after a (is_due due) [] (laid (is_due due) [] refl) at due refl others in
-        (x.place, x.then_due, subst (λ (ps : List Piece). are (lexemes (tokens_from at due ps)) (lexemes (tokens_from x.place x.then_due others))) (pieces_on a others) (so (lexemes (tokens_from at due (pieces_of a others))) (lexemes (tokens_from x.place x.then_due others)) x.has))
+        subst (λ (n : ℕ). are (lexemes (tokens_from at due (pieces_of a [] ++ others))) (lexemes (tokens_from n (due_behind at due (pieces_of a [])) others))) x.place_is
+        (subst (λ (o : Option ℕ). are (lexemes (tokens_from at due (pieces_of a [] ++ others))) (lexemes (tokens_from x.place o others))) x.then_is
+        (subst (λ (ps : List Piece). are (lexemes (tokens_from at due ps)) (lexemes (tokens_from x.place x.then_due others))) (pieces_on a others) (so (lexemes (tokens_from at due (pieces_of a others))) (lexemes (tokens_from x.place x.then_due others)) x.has)))
 
 stands_alone : (a : Layout) (are : Lexemes → Lexemes → Type 0) → Laid a false [] → due_of a false ≡ true → ((ts r : Lexemes) → HasTokens a ts r → are ts r) → StandsAlone a are
 unfolding tokens_from
@@ -94,6 +107,7 @@ type_written t f =
     record {
       alone = subst (λ (x : Layout). StandsAlone x (SpellsType nowhere (bare_type t))) (bare.type_bare t) (stands_alone a (SpellsType nowhere (bare_type t)) (laid false [] refl) (type_due (bare_type t) false) so);
       stands = subst (λ (x : Layout). Stands x (SpellsType nowhere (bare_type t))) (bare.type_bare t) (stands a (SpellsType nowhere (bare_type t)) laid so);
+      asks = λ d. ap (λ (x : Layout). due_of x d) (sym (bare.type_bare t)) ∙ type_due (bare_type t) d;
     }
 
 -- ---- signatures
@@ -106,6 +120,7 @@ sig_written v g f =
     record {
       alone = subst (λ (x : Layout). StandsAlone x (SpellsSig nowhere v (bare_sig g))) (bare.sig_bare g) (stands_alone a (SpellsSig nowhere v (bare_sig g)) (laid false [] refl) (sig_due (bare_sig g) false) so);
       stands = subst (λ (x : Layout). Stands x (SpellsSig nowhere v (bare_sig g))) (bare.sig_bare g) (stands a (SpellsSig nowhere v (bare_sig g)) laid so);
+      asks = λ d. ap (λ (x : Layout). due_of x d) (sym (bare.sig_bare g)) ∙ sig_due (bare_sig g) d;
     }
 
 -- ---- expressions
@@ -125,6 +140,7 @@ expr_written e i level header f sp =
     record {
       alone = subst (λ (x : Layout). StandsAlone x are) same (stands_alone a are (laid false [] refl) (placed_due b (needs_parens level header false b) i header false false) so);
       stands = subst (λ (x : Layout). Stands x are) same (stands a are laid so);
+      asks = λ d. ap (λ (x : Layout). due_of x d) (sym same) ∙ placed_due b (needs_parens level header false b) i header false d;
     }
 
 -- ---- statements
@@ -158,6 +174,7 @@ stmts_written xs i f sp =
       of_text = there.of_text;
       alone = there.spelled;
       stands = subst (λ (y : Layout). Stands y (SpellsList b)) same (stands a (SpellsList b) laid so);
+      asks = ap (λ (y : Layout). due_of y false) (sym same) ∙ open_due b f i;
     }
 
 -- ---- trees that some tokens spell are well formed

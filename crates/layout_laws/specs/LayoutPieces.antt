@@ -1,9 +1,9 @@
 -- The pieces of a layout's text.
-use Rattle.std.specs.Prelude.{ℕ, Bool, false, List, [], ◌∷◌, ◌++◌}
+use Rattle.std.specs.Prelude.{ℕ, ◌+◌, Bool, false, List, [], ◌∷◌, ◌++◌, Option}
 use Rattle.std.specs.Str.{chars}
 use Rattle.go_tree.specs.declared.tokens.TokenKind.{TokenKind}
 use Rattle.go_tree.specs.declared.tokens.TokenKind.TheVariants.{Keyword, Operator}
-use Rattle.go_words.specs.Tokens.{ends_line}
+use Rattle.go_words.specs.Tokens.{size_of, ends_line, due_after}
 use Rattle.go_words.specs.Tokens.Pieces.{blanks, token, Piece}
 use Rattle.go_layout.specs.Layouts.{Layout, no_text, a_token, gap, line, ◌⊕◌}
 
@@ -36,3 +36,8 @@ due_of (a_token kind spelling) due = ends_line kind (word_of kind spelling)
 due_of gap due = due
 due_of (line _ _) due = false
 due_of (a ⊕ b) due = due_of b (due_of a due)
+
+-- the end of the last token of pieces that begin at this byte, where a newline behind them gives a semicolon
+unfoldable pub due_behind : ℕ → Option ℕ → List Piece → Option ℕ
+due_behind at due [] = due
+due_behind at due (p ∷ ps) = due_behind (at + size_of p.word) (due_after at due p.kind p.word) ps

@@ -179,7 +179,7 @@ off : (b : Bool) → not b ≡ true → b ≡ true → ⊥
 off true x y = cc
 off false x y = cc
 
-none_found : (f : Terminal → Bool) (rows : List (List ℕ × Terminal)) (w : List ℕ) → none_is f rows ≡ true → f (found_in [] w) ≡ false → f (found_in rows w) ≡ true → ⊥
+pub none_found : (f : Terminal → Bool) (rows : List (List ℕ × Terminal)) (w : List ℕ) → none_is f rows ≡ true → f (found_in [] w) ≡ false → f (found_in rows w) ≡ true → ⊥
 none_found f [] w all none h = clash_bool (f (found_in [] w)) h none
   where
     clash_bool : (b : Bool) → b ≡ true → b ≡ false → ⊥
@@ -197,7 +197,7 @@ says_import (row ∷ rows) = cond (is_import row.1) (bytes_eq row.0 (codes "impo
 same_number : (a b : ℕ) → nat_eq a b ≡ true → a ≡ b
 same_number a b e = grind (arith, nat_tests, e)
 
-bytes_same : (xs ys : List ℕ) → bytes_eq xs ys ≡ true → xs ≡ ys
+pub bytes_same : (xs ys : List ℕ) → bytes_eq xs ys ≡ true → xs ≡ ys
 bytes_same [] [] h = refl
 bytes_same [] (y ∷ ys) h = absurd cc
 bytes_same (x ∷ xs) [] h = absurd cc
@@ -252,16 +252,16 @@ not_inserted k w f none h e = clash_bool (f (terminal_of Inserted w)) (subst (λ
     clash_bool b x y = cc
 
 -- the one token of one lexeme
-one_of : (ts : List Token) (l : Lexeme) → lexemes ts ≡ l ∷ [] → (t : Token) × (ts ≡ t ∷ []) × (lexeme_of t ≡ l)
+pub one_of : (ts : List Token) (l : Lexeme) → lexemes ts ≡ l ∷ [] → (t : Token) × (ts ≡ t ∷ []) × (lexeme_of t ≡ l)
 one_of [] l e = absurd cc
 one_of (t ∷ []) l e = let h : lexeme_of t ≡ l = cc in (t, refl, h)
 one_of (t ∷ u ∷ ts) l e = absurd cc
 
-left_cancel : (xs a b : List ℕ) → xs ++ a ≡ xs ++ b → a ≡ b
+pub left_cancel : (xs a b : List ℕ) → xs ++ a ≡ xs ++ b → a ≡ b
 left_cancel [] a b e = e
 left_cancel (x ∷ xs) a b e = let t : xs ++ a ≡ xs ++ b = cc in left_cancel xs a b t
 
-parts_from : (ps qs : List Piece) (txt : List ℕ) (rest : List ℕ) → PartsTo txt (ps ++ qs) rest → (more : List ℕ) × (txt ≡ words_of ps ++ more) × PartsTo more qs rest
+pub parts_from : (ps qs : List Piece) (txt : List ℕ) (rest : List ℕ) → PartsTo txt (ps ++ qs) rest → (more : List ℕ) × (txt ≡ words_of ps ++ more) × PartsTo more qs rest
 parts_from [] qs txt rest parts = (txt, refl, parts)
 parts_from (p ∷ ps) qs txt rest parts =
     let later = parts_from ps qs parts.0 rest parts.3 in

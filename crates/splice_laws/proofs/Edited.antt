@@ -1,5 +1,5 @@
 -- Any text with the parts within a span replaced, and a file that the tokens then spell.
-use Rattle.std.proofs.Common.{◌≡◌, ℕ, ◌+◌, List, [], ◌∷◌, ◌++◌, Option, Some, None, refl, sym, ap, ◌∙◌}
+use Rattle.std.proofs.Common.{◌≡◌, ℕ, ◌+◌, List, [], ◌∷◌, ◌++◌, length, Option, Some, None, refl, sym, ap, subst, ◌∙◌}
 use Rattle.std.proofs.lemmas.List.{append_assoc}
 use Rattle.go_tree.specs.declared.spans.Span.{Span}
 use Rattle.go_tree.specs.declared.tokens.Token.{Token}
@@ -13,7 +13,10 @@ use Rattle.go_read.specs.SpellsSpans.{span_to}
 use Rattle.go_read.specs.SpellsFiles.{SpellsFront}
 use Rattle.go_read.specs.Bareness.{nowhere}
 use Rattle.layout_laws.proofs.LaidCuts.{is_due}
-use Rattle.text_edits.specs.Applied.{applied}
+use Rattle.text_edits.specs.declared.edit.Edit.{Edit}
+use Rattle.text_edits.specs.Applied.{Ascend, applied}
+use Rattle.text_edits.specs.InTurn.{InTurn}
+use Rattle.text_edits.proofs.Turns.{turns_agree}
 use Rattle.splice_laws.specs.Joints.{InnerEnd, LastEnds, Parted, Fitting, begin_of, span_within, given, due_behind}
 use Rattle.splice_laws.specs.Imports.{Shortened}
 use Rattle.splice_laws.specs.Splice.{ReadsAs}
@@ -80,3 +83,8 @@ removed text mark before inside behind tail p inner last span f g tokens are s f
     edited text mark before inside behind tail p [] [] [] (record { scalars = refl; encoded = refl; words = refl; parts = p.parts_behind }) inner last (bare_file g) (s.front ++ s.rest) s.shorter
     (terminals_both s.front s.rest ∙ ap (λ (ts : List Terminal). ts ++ terminals s.rest) front
     ∙ ap (λ (ts : List Terminal). terminals (lexemes (given m None before)) ++ ts) (rest ∙ behind_alike behind a2 (a1 + 0) d2 (due_behind a1 d1 []) (sym (due_is d2) ∙ sym due ∙ due_is d1 ∙ nothing a1 d1) ∙ ap (λ (ts : List Terminal). ts ++ terminals (lexemes (tokens_from (a1 + 0) (due_behind a1 d1 []) behind))) (nothing_given a1 d1)))
+
+-- ---- several edits
+
+pub turned : (text new : List ℕ) (es : List Edit) (f : File (Unit {0})) → Ascend 0 (length text) es → InTurn text es new → ReadsAs new f → ReadsAs (applied text es) f
+turned text new es f ascend turn r = subst (λ (t : List ℕ). ReadsAs t f) (turns_agree text new es ascend turn) r

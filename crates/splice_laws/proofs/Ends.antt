@@ -64,7 +64,7 @@ each_on : (p : ℕ → Bool) (cs : List ℕ) (d : ℕ) → each p cs ≡ true �
 each_on p [] d h q = and_true (p d) true q refl
 each_on p (c ∷ cs) d h q = let x = and_parts (p c) (each p cs) h in and_true (p c) (each p (cs ++ d ∷ [])) x.0 (each_on p cs d x.1 q)
 
-run_on : (s : ℕ) (w v : List ℕ) → run s (w ++ v) ≡ run (run s w) v
+pub run_on : (s : ℕ) (w v : List ℕ) → run s (w ++ v) ≡ run (run s w) v
 run_on s [] v = refl
 run_on s (c ∷ w) v = run_on (next_of s c) w v
 

@@ -19,7 +19,7 @@ use Rattle.ucd_table.specs.Rows.{value_in}
 use Rattle.go_read.specs.Goals.{read_operand}
 use Rattle.go_read.proofs.Texts.{reading, var, num, name, type, list, block}
 use Rattle.go_layout.specs.Layouts.{text_of}
-use Rattle.splice_laws.specs.Joints.{dots_apart}
+use Rattle.splice_laws.specs.Joints.{dots_apart, left_comments}
 use Rattle.splice_laws.specs.Swaps.{Swap, an_operand, a_type, a_stmt, a_deferred, TypeIn, this_type, inside_type, in_struct, in_field, in_later_fields, SigIn, in_named_params, in_results, in_unnamed, in_named, no_more_params, one_more_param, no_more_alike, in_named_rest, in_later_named, StmtsIn, this_deferred, this_operand, inside_operand, in_args, in_first_expr, in_eval, in_simple, inside_stmt, in_function, in_this_decl, in_later_decls, in_decls, FileIn, in_right}
 use Rattle.splice_laws.specs.Dots.{UndottedExpr}
 use Rattle.splice_laws.specs.Forms.{new_layout}
@@ -164,6 +164,22 @@ number_before_dot = refl
 name_before_dot : new_text [] true false (an_operand 7 false (var (codes "Ptr")) (var (codes "Pointer"))) ≡ codes "Pointer"
 name_before_dot = refl
 
+selected_row : spliced_text (codes "\tprintln(Ptr.x)\n") (at 9 12) false (new_layout [] true false (an_operand 7 false (var (codes "Ptr")) (var (codes "Pointer")))) ≡ codes "\tprintln(Pointer.x)\n"
+selected_row = refl
+
+-- ---- a case, a negative form under a sign, and a call that is deferred, as texts
+
+case_row : spliced_text (codes "\tswitch n {\n\tcase Ptr:\n\t}\n") (at 18 21) false (new_layout [] false false constant) ≡ codes "\tswitch n {\n\tcase Pointer:\n\t}\n"
+case_row = refl
+
+negative_row : spliced_text (codes "\tprintln(-Ptr)\n") (at 10 13) false (new_layout [] false true (an_operand 6 false (var (codes "Ptr")) (unary tt Minus (num (codes "1"))))) ≡ codes "\tprintln(-(-1))\n"
+negative_row = refl
+
+-- ---- the comments that an edit leaves: `/**/ f(Ptr /**/) /**/`, with the argument and the comment behind it replaced
+
+left_row : left_comments (record { span = at 7 15; text = codes "Pointer" }) (record { span = at 0 4 } ∷ record { span = at 11 15 } ∷ record { span = at 17 21 } ∷ []) ≡ record { span = at 0 4 } ∷ record { span = at 16 20 } ∷ []
+left_row = refl
+
 -- ---- an integer before a dot: `+` and `5` side by side are two tokens, but `0x1.ap+5` is one float
 
 plus_number : are_two (codes "+") (codes "5") ≡ true
@@ -206,6 +222,10 @@ deferred_call = a_deferred (call tt (var (codes "Old")) no_exprs Plain) (call tt
 deferred_text : new_text [] false false deferred_call ≡ codes "func() {\n\tg()\n}()"
 unfolding deferred_call
 deferred_text = refl
+
+deferred_row : spliced_text (codes "\tdefer Old()\n") (at 7 12) false (new_layout (9 ∷ []) false false deferred_call) ≡ codes "\tdefer func() {\n\t\tg()\n\t}()\n"
+unfolding deferred_call
+deferred_row = refl
 
 deferred_place : StmtsIn deferred_call (block (defer tt (call tt (var (codes "Old")) no_exprs Plain) ∷ [])) (block (defer tt (call tt (func_lit tt (record { params = []; results = [] }) tt (block (eval tt (call tt (var (codes "g")) no_exprs Plain) ∷ []))) no_exprs Plain) ∷ []))
 unfolding deferred_call

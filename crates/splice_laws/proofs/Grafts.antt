@@ -52,6 +52,21 @@ pub fronts : {r q ts us : Lexemes} → Graft r q ts us → (front : Lexemes) × 
 fronts base = ([], refl, refl)
 fronts (step {t = t} g) = let f = fronts g in (t ∷ f.0, ap (λ (xs : Lexemes). t ∷ xs) f.1, ap (λ (xs : Lexemes). t ∷ xs) f.2)
 
+-- the tokens in front
+abbrev pub front_of : {r q ts us : Lexemes} → Graft r q ts us → Lexemes
+front_of base = []
+front_of (step {t = t} g) = t ∷ front_of g
+
+pub fronts_are : {r q ts us : Lexemes} (g : Graft r q ts us) → (fronts g).0 ≡ front_of g
+unfolding fronts
+fronts_are base = refl
+fronts_are (step {t = t} g) = ap (λ (xs : Lexemes). t ∷ xs) (fronts_are g)
+
+pub front_joined : {m n r q ts us : Lexemes} (f : Graft m n ts us) (g : Graft r q m n) → front_of (joined f g) ≡ front_of f ++ front_of g
+unfolding joined
+front_joined base g = refl
+front_joined (step {t = t} f) g = ap (λ (xs : Lexemes). t ∷ xs) (front_joined f g)
+
 longer : (xs r : Lexemes) (x : Lexeme) → (x ∷ xs) ++ r ≡ r → ⊥
 longer xs r x e = let n = ap length e in let m = length-append (x ∷ xs) r in absurd (omega (arith, n, m))
 

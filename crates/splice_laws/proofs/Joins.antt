@@ -30,7 +30,7 @@ use Rattle.splice_laws.proofs.Over.{ends_before, mark_begins_none, is_piece}
 
 -- ---- a token before a blank
 
-abbrev is_remark_kind : PieceKind → Bool
+abbrev pub is_remark_kind : PieceKind → Bool
 is_remark_kind remark = true
 is_remark_kind _ = false
 
@@ -44,13 +44,13 @@ lt_is a b e = grind (arith, nat_tests, e)
 same_number : (a b : ℕ) → nat_eq a b ≡ true → a ≡ b
 same_number a b e = grind (arith, nat_tests, e)
 
-whole_state : (s : ℕ) → is_whole s ≡ true → (s < 28) × (nat_lt s 2 ≡ false)
+pub whole_state : (s : ℕ) → is_whole s ≡ true → (s < 28) × (nat_lt s 2 ≡ false)
 whole_state s h = let p = and_parts (nat_le 2 s) (nat_lt s 28) h in (lt_is s 28 p.1, under s p.0)
   where
     under : (s : ℕ) → nat_le 2 s ≡ true → nat_lt s 2 ≡ false
     under s e = grind (arith, nat_tests, e)
 
-blank_word : is_word 32 ≡ false
+pub blank_word : is_word 32 ≡ false
 unfolding is_letter is_digit general_category general_category_rows value_in
 blank_word = refl
 
@@ -131,13 +131,13 @@ two_next k w next piece h = by_answer (piece_of (w ++ next)) (piece_exact (w ++ 
 abbrev dies_at : ℕ → ℕ → Bool
 dies_at s c = nat_eq (next_of s c) DEAD
 
-abbrev ends_all : ℕ → Bool
+abbrev pub ends_all : ℕ → Bool
 ends_all s = below 128 (λ c. dies_at s c) && (dies_at s 128 && dies_at s byte_order_mark)
 
-abbrev ends_none : ℕ → Bool
+abbrev pub ends_none : ℕ → Bool
 ends_none s = below 128 (λ c. is_whole (next_of s c) || (c == 10 || c == 0)) && is_whole (next_of s 128)
 
-comments_checked : below 28 (λ s. nat_lt s 2 || (not (is_remark_kind (kind_in s)) || (ends_all s || ends_none s))) ≡ true
+pub comments_checked : below 28 (λ s. nat_lt s 2 || (not (is_remark_kind (kind_in s)) || (ends_all s || ends_none s))) ≡ true
 unfolding below next_of
 comments_checked = refl
 
@@ -164,10 +164,10 @@ all_end s c h = by_ascii (nat_lt c 128) refl
     by_ascii false e = subst (λ (n : ℕ). nat_eq n DEAD ≡ true) (sym (past_ascii s c (c == byte_order_mark) e refl)) (either_way (c == byte_order_mark))
 
 -- what begins no word
-abbrev begins_none : ℕ → Bool
+abbrev pub begins_none : ℕ → Bool
 begins_none c = c == 10 || (c == 0 || c == byte_order_mark)
 
-none_ends : (s c : ℕ) → ends_none s ≡ true → (is_whole (next_of s c) ≡ true) ⊎ (begins_none c ≡ true)
+pub none_ends : (s c : ℕ) → ends_none s ≡ true → (is_whole (next_of s c) ≡ true) ⊎ (begins_none c ≡ true)
 none_ends s c h = by_ascii (nat_lt c 128) refl
   where
     p : (below 128 (λ c. is_whole (next_of s c) || (c == 10 || c == 0)) ≡ true) × (is_whole (next_of s 128) ≡ true)
@@ -204,7 +204,7 @@ unfolding is_letter general_category general_category_rows value_in
 newline_letter = refl
 
 -- no token begins with what begins no word
-token_begins : (k : TokenKind) (c : ℕ) (cs : List ℕ) → IsPiece (token k) (c ∷ cs) → begins_none c ≡ true → ⊥
+pub token_begins : (k : TokenKind) (c : ℕ) (cs : List ℕ) → IsPiece (token k) (c ∷ cs) → begins_none c ≡ true → ⊥
 token_begins k c cs piece h = or_cases (c == 10) (c == 0 || c == byte_order_mark) h (λ q. newline cs (subst (λ (n : ℕ). IsPiece (token k) (n ∷ cs)) (same_number c 10 q) piece))
     (λ q. or_cases (c == 0) (c == byte_order_mark) q (λ r. nought cs (subst (λ (n : ℕ). IsPiece (token k) (n ∷ cs)) (same_number c 0 r) piece))
     (λ r. mark_begins_none (token k) cs (subst (λ (n : ℕ). IsPiece (token k) (n ∷ cs)) (same_number c byte_order_mark r) piece)))
@@ -231,10 +231,28 @@ token_begins k c cs piece h = or_cases (c == 10) (c == 0 || c == byte_order_mark
         by_sort (a_letter _ l _) = clash (is_letter 0) l zero_letter
         by_sort (a_lexeme _ _ form) = nope (subst (λ (s : ℕ). is_whole s ≡ true) (ap (λ (s : ℕ). run s cs) zero_dead ∙ run_dead cs) (form_runs (token k) (0 ∷ cs) form).0)
 
--- a comment before a token is closed, and ends before whatever follows
-remark_ends : (w : List ℕ) (c : ℕ) (cs more others : List ℕ) (k : TokenKind) → IsNext (w ++ c ∷ more) remark w (c ∷ more) → IsPiece (token k) (c ∷ cs) → IsNext (w ++ others) remark w others
-remark_ends [] c cs more others k next piece = absurd (never_empty remark next.spelled)
-remark_ends (d ∷ ds) c cs more others k next piece = by_sort (sort_of remark d ds next.spelled)
+-- a comment before what may begin a word, or before a blank that is no newline, is closed
+pub remark_closed : (d : ℕ) (ds : List ℕ) (c : ℕ) (more : List ℕ) → IsNext (d ∷ ds ++ c ∷ more) remark (d ∷ ds) (c ∷ more) → (begins_none c ≡ true → ⊥) → HasForm (form_of remark) (d ∷ ds) → ends_all (run START (d ∷ ds)) ≡ true
+remark_closed d ds c more next word form =
+    let facts = form_runs remark (d ∷ ds) form in
+    let at = whole_state (run START (d ∷ ds)) facts.0 in
+    or_cases (nat_lt (run START (d ∷ ds)) 2) _ (below_at 28 (λ s. nat_lt s 2 || (not (is_remark_kind (kind_in s)) || (ends_all s || ends_none s))) (run START (d ∷ ds)) comments_checked at.0)
+    (λ q. clash (nat_lt (run START (d ∷ ds)) 2) q at.1)
+    (λ q. or_cases (not (is_remark_kind (kind_in (run START (d ∷ ds))))) _ q (λ r. absurd (nope (is_remark_kind (kind_in (run START (d ∷ ds)))) r (ap is_remark_kind (sym facts.1))))
+    (λ r. or_cases (ends_all (run START (d ∷ ds))) (ends_none (run START (d ∷ ds))) r (λ t. t) (λ t. dies (none_ends (run START (d ∷ ds)) c t))))
+  where
+    nope : (b : Bool) → not b ≡ true → b ≡ true → ⊥
+    nope true a b = cc
+    nope false a b = cc
+
+    dies : (is_whole (next_of (run START (d ∷ ds)) c) ≡ true) ⊎ (begins_none c ≡ true) → ends_all (run START (d ∷ ds)) ≡ true
+    dies (inl h) = absurd (not_whole remark (d ∷ ds) c more next h)
+    dies (inr h) = absurd (word h)
+
+-- so it ends before whatever follows
+pub remark_ends_any : (w : List ℕ) (c : ℕ) (more others : List ℕ) → IsNext (w ++ c ∷ more) remark w (c ∷ more) → (begins_none c ≡ true → ⊥) → IsNext (w ++ others) remark w others
+remark_ends_any [] c more others next word = absurd (never_empty remark next.spelled)
+remark_ends_any (d ∷ ds) c more others next word = by_sort (sort_of remark d ds next.spelled)
   where
     no_blanks : remark ≡ blanks → ⊥
     no_blanks e = cc
@@ -242,23 +260,6 @@ remark_ends (d ∷ ds) c cs more others k next piece = by_sort (sort_of remark d
     no_word : (b : Bool) → remark ≡ cond b (token Keyword) (token Ident) → ⊥
     no_word true e = cc
     no_word false e = cc
-
-    nope : (b : Bool) → not b ≡ true → b ≡ true → ⊥
-    nope true a b = cc
-    nope false a b = cc
-
-    dies : (is_whole (next_of (run START (d ∷ ds)) c) ≡ true) ⊎ (begins_none c ≡ true) → ends_all (run START (d ∷ ds)) ≡ true
-    dies (inl h) = absurd (not_whole remark (d ∷ ds) c more next h)
-    dies (inr h) = absurd (token_begins k c cs piece h)
-
-    closed : HasForm (form_of remark) (d ∷ ds) → ends_all (run START (d ∷ ds)) ≡ true
-    closed form =
-        let facts = form_runs remark (d ∷ ds) form in
-        let at = whole_state (run START (d ∷ ds)) facts.0 in
-        or_cases (nat_lt (run START (d ∷ ds)) 2) _ (below_at 28 (λ s. nat_lt s 2 || (not (is_remark_kind (kind_in s)) || (ends_all s || ends_none s))) (run START (d ∷ ds)) comments_checked at.0)
-        (λ q. clash (nat_lt (run START (d ∷ ds)) 2) q at.1)
-        (λ q. or_cases (not (is_remark_kind (kind_in (run START (d ∷ ds))))) _ q (λ r. absurd (nope (is_remark_kind (kind_in (run START (d ∷ ds)))) r (ap is_remark_kind (sym facts.1))))
-        (λ r. or_cases (ends_all (run START (d ∷ ds))) (ends_none (run START (d ∷ ds))) r (λ t. t) (λ t. dies (none_ends (run START (d ∷ ds)) c t))))
 
     dead : (t : ℕ) → ends_all t ≡ true → stops t others ≡ true
     dead t h = by_list others
@@ -270,7 +271,11 @@ remark_ends (d ∷ ds) c cs more others k next piece = by_sort (sort_of remark d
     by_sort : Sort remark d ds → IsNext (d ∷ ds ++ others) remark (d ∷ ds) others
     by_sort (a_blank e _ _) = absurd (no_blanks e)
     by_sort (a_letter e _ _) = absurd (no_word (is_among keyword_spellings (d ∷ ds)) e)
-    by_sort (a_lexeme b l form) = next_lexeme remark d ds others b l next.spelled (dead (run START (d ∷ ds)) (closed form)) refl
+    by_sort (a_lexeme b l form) = next_lexeme remark d ds others b l next.spelled (dead (run START (d ∷ ds)) (remark_closed d ds c more next word form)) refl
+
+-- a comment before a token is closed, and ends before whatever follows
+remark_ends : (w : List ℕ) (c : ℕ) (cs more others : List ℕ) (k : TokenKind) → IsNext (w ++ c ∷ more) remark w (c ∷ more) → IsPiece (token k) (c ∷ cs) → IsNext (w ++ others) remark w others
+remark_ends w c cs more others k next piece = remark_ends_any w c more others next (λ q. token_begins k c cs piece q)
 
 -- ---- the last part before a place
 

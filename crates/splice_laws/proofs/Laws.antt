@@ -22,12 +22,12 @@ use Rattle.go_layout.specs.Layouts.{Layout}
 use Rattle.layout_laws.specs.LayoutPieces.{letters_of, pieces_of}
 use Rattle.layout_laws.specs.Laid.{is_indent}
 use Rattle.layout_laws.proofs.LaidTypes.{ends_ok}
-use Rattle.splice_laws.specs.Joints.{words_of, PartsTo, LastEnds, begin_of, given, begins_with_dot, dots_apart}
+use Rattle.splice_laws.specs.Joints.{words_of, PartsTo, LastEnds, begin_of, given, begins_with_dot, dots_apart, left_comments}
 use Rattle.splice_laws.specs.Swaps.{Swap, an_operand, a_callee, a_type, a_literal_type, a_stmt, a_deferred, FileIn}
 use Rattle.splice_laws.specs.Fits.{swap_mark, SpellsOld}
 use Rattle.splice_laws.specs.Replaced.{Replaced}
 use Rattle.splice_laws.specs.Forms.{new_layout, FormedNew, AsksOld}
-use Rattle.splice_laws.specs.Splice.{are_apart, first_of, first_word, lead, spliced_text, ReadsAs, IsPut}
+use Rattle.splice_laws.specs.Splice.{are_apart, first_of, first_word, lead, splice, spliced_text, ReadsAs, ReadsWith, IsPut}
 use Rattle.splice_laws.proofs.Splices.{tail_bytes, parted_scalars}
 use Rattle.splice_laws.proofs.Files.{replaced}
 use Rattle.splice_laws.proofs.Rises.{tokens_rise}
@@ -64,7 +64,7 @@ form_put : (text : List ℕ) (tokens : List Token) (comments : List Comment) (f 
     → TokensOf text tokens comments → SpellsFile tokens f → dots_apart tokens ≡ true → FileIn w f g → AsksOld w → FormedNew dotted w → is_indent i ≡ true
     → (dotted ≡ false → begins_with_dot (drop (swap_mark w).end text) ≡ false)
     → (blank ≡ false → are_apart tokens (swap_mark w).start (first_word (new_layout i dotted wrapped w)) ≡ true)
-    → ReadsAs (spliced_text text (swap_mark w) blank (new_layout i dotted wrapped w)) (bare_file g)
+    → ReadsWith (spliced_text text (swap_mark w) blank (new_layout i dotted wrapped w)) (bare_file g) (left_comments (splice (swap_mark w) blank (new_layout i dotted wrapped w)) comments)
 form_put text tokens comments f g w i dotted wrapped blank t d apart p asks form sp undotted joint =
     let r = replaced w f g (lexemes tokens) d (tokens_rise text tokens comments t) p in
     let here = stands_where text tokens comments t apart w asks r.front r.node r.rest r.tokens r.marked r.old in
@@ -74,7 +74,7 @@ form_put text tokens comments f g w i dotted wrapped blank t d apart p asks form
     a = new_layout i dotted wrapped w
 
     by_first : (r : Replaced span_to w (lexemes tokens) (λ us. SpellsFront nowhere (bare_file g) us [])) (here : Where text tokens comments w r.front r.rest)
-        → (c : ℕ) × (cs : List ℕ) × (more : List ℕ) × (first_word a ≡ c ∷ cs) × (letters_of a [] ≡ c ∷ cs ++ more) → ReadsAs (spliced_text text (swap_mark w) blank a) (bare_file g)
+        → (c : ℕ) × (cs : List ℕ) × (more : List ℕ) × (first_word a ≡ c ∷ cs) × (letters_of a [] ≡ c ∷ cs ++ more) → ReadsWith (spliced_text text (swap_mark w) blank a) (bare_file g) (left_comments (splice (swap_mark w) blank a) comments)
     by_first r here x =
         let s = here.spot in
         let tail_is = tail_bytes text s.mark s.before s.inside s.behind s.tail s.parted in
@@ -120,7 +120,7 @@ form_put text tokens comments f g w i dotted wrapped blank t d apart p asks form
         all_on false c cs more tail = ap (λ (v : List ℕ). c ∷ v) (append_assoc cs more tail)
 
 pub forms_put : (text : List ℕ) (tokens : List Token) (comments : List Comment) (f g : File Span) (w : Swap Span) (indent : List ℕ) (dotted wrapped blank : Bool) → IsPut text tokens comments f g w indent dotted wrapped blank
-    → ReadsAs (spliced_text text (swap_mark w) blank (new_layout indent dotted wrapped w)) (bare_file g)
+    → ReadsWith (spliced_text text (swap_mark w) blank (new_layout indent dotted wrapped w)) (bare_file g) (left_comments (splice (swap_mark w) blank (new_layout indent dotted wrapped w)) comments)
 forms_put text tokens comments f g w indent dotted wrapped blank x =
     form_put text tokens comments f g w indent dotted wrapped blank x.of_text x.spelled (tokens_apart text tokens comments f x.of_text x.spelled x.undotted_file) x.swapped x.asks x.formed x.spaces x.undotted x.apart
 
@@ -132,6 +132,6 @@ dots_again text f r u =
 pub forms_put_again : (text : List ℕ) (f : File (Unit {0})) (r : ReadsAs text f) → UndottedFile f → (g : File Span) (w : Swap Span) (indent : List ℕ) (dotted wrapped blank : Bool)
     → FileIn w r.file g → AsksOld w → FormedNew dotted w → is_indent indent ≡ true → (dotted ≡ false → begins_with_dot (drop (swap_mark w).end text) ≡ false)
     → (blank ≡ false → are_apart r.tokens (swap_mark w).start (first_word (new_layout indent dotted wrapped w)) ≡ true)
-    → ReadsAs (spliced_text text (swap_mark w) blank (new_layout indent dotted wrapped w)) (bare_file g)
+    → ReadsWith (spliced_text text (swap_mark w) blank (new_layout indent dotted wrapped w)) (bare_file g) (left_comments (splice (swap_mark w) blank (new_layout indent dotted wrapped w)) r.comments)
 forms_put_again text f r u g w indent dotted wrapped blank swapped asks formed spaces undotted apart =
     form_put text r.tokens r.comments r.file g w indent dotted wrapped blank r.of_text r.spelled (dots_again text f r u).1 swapped asks formed spaces undotted apart

@@ -17,6 +17,7 @@ pub mod PutsTypes
 pub mod Puts
 pub mod PutsFiles
 pub mod Rises
+pub mod Left
 pub mod Files
 pub mod Closes
 pub mod TokenLists

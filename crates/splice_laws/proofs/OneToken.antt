@@ -51,7 +51,7 @@ abbrev is_text_kind : PieceKind → Bool
 is_text_kind (token Str) = true
 is_text_kind _ = false
 
-abbrev ends_all : ℕ → Bool
+abbrev pub ends_all : ℕ → Bool
 ends_all s = below 128 (λ c. nat_eq (next_of s c) DEAD) && (nat_eq (next_of s 128) DEAD && nat_eq (next_of s byte_order_mark) DEAD)
 
 texts_checked : below 28 (λ s. nat_lt s 2 || (not (is_text_kind (kind_in s)) || ends_all s)) ≡ true
@@ -63,7 +63,7 @@ unfolding next_of
 past_ascii s c true far mark = rw (far, mark) refl
 past_ascii s c false far mark = rw (far, mark) refl
 
-all_end : (s c : ℕ) → ends_all s ≡ true → nat_eq (next_of s c) DEAD ≡ true
+pub all_end : (s c : ℕ) → ends_all s ≡ true → nat_eq (next_of s c) DEAD ≡ true
 all_end s c h = by_ascii (nat_lt c 128) refl
   where
     p : (below 128 (λ c. nat_eq (next_of s c) DEAD) ≡ true) × (nat_eq (next_of s 128) DEAD && nat_eq (next_of s byte_order_mark) DEAD ≡ true)

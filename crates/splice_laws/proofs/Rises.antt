@@ -59,7 +59,7 @@ abbrev DueFits : ℕ → Option ℕ → Type 0
 DueFits at None = Unit {0}
 DueFits at (Some d) = d ≤ at
 
-piece_size : (k : PieceKind) (w : List ℕ) → IsPiece k w → 1 ≤ size_of w
+pub piece_size : (k : PieceKind) (w : List ℕ) → IsPiece k w → 1 ≤ size_of w
 piece_size k [] p = absurd (never_empty k p)
 piece_size k (c ∷ cs) p = let a = length-append (encode c) (encode_utf8_all cs) in omega (arith, a, length-encode c, (len_utf8_bounds c).0)
 

@@ -9,7 +9,7 @@ use Rattle.go_tree.specs.declared.tokens.Token.{Token}
 use Rattle.go_tree.specs.declared.tokens.Comment.{Comment}
 use Rattle.go_tree.specs.Tree.{Stmt, empty}
 use Rattle.go_tree.specs.File.{File}
-use Rattle.go_words.specs.Tokens.{TokensOf, size_of, ends_line, tokens_from}
+use Rattle.go_words.specs.Tokens.{TokensOf, size_of, ends_line, tokens_from, comments_from, pieces_size}
 use Rattle.go_words.specs.Tokens.Pieces.{blanks, Piece, CutsTo}
 use Rattle.go_words.specs.Terminals.{ends_statement, Terminal, lex, semicolon, terminal_of, lexemes}
 use Rattle.go_read.specs.SpellsTypes.{Lexemes}
@@ -22,19 +22,20 @@ use Rattle.go_layout.specs.TreeLayout.{gives_semicolon}
 use Rattle.layout_laws.specs.LayoutTokens.{HasTokens}
 use Rattle.layout_laws.specs.LayoutPieces.{word_of, letters_of, pieces_of, due_of}
 use Rattle.layout_laws.specs.Laid.{Laid}
-use Rattle.layout_laws.proofs.LaidCuts.{cuts_to, bytes_of, scalars_of, is_due, after}
+use Rattle.layout_laws.proofs.LaidCuts.{cuts_to, bytes_of, scalars_of, is_due, after, no_comments}
 use Rattle.text_edits.specs.Applied.{applied}
-use Rattle.splice_laws.specs.Joints.{words_of, LastEnds, begin_of, due_behind, Spans, dots_apart}
+use Rattle.splice_laws.specs.Joints.{words_of, LastEnds, begin_of, due_behind, left_comments, Spans, dots_apart}
 use Rattle.splice_laws.specs.Swaps.{Swap, an_operand, a_callee, a_type, a_literal_type, a_stmt, a_deferred}
 use Rattle.splice_laws.specs.Fits.{swap_mark, SpellsOld, SpellsNew}
 use Rattle.splice_laws.specs.Ends.{begins_semicolon}
 use Rattle.splice_laws.specs.Forms.{AsksOld}
-use Rattle.splice_laws.specs.Splice.{lead, ReadsAs}
+use Rattle.splice_laws.specs.Splice.{lead, splice, ReadsWith}
 use Rattle.splice_laws.proofs.Parts.{in_parts}
 use Rattle.splice_laws.specs.Joints.{Fitting}
 use Rattle.splice_laws.proofs.Splices.{scalars_on}
 use Rattle.splice_laws.specs.Spots.{Spot}
 use Rattle.splice_laws.proofs.Spots.{spot, put}
+use Rattle.splice_laws.proofs.Left.{comments_left}
 use Rattle.splice_laws.proofs.Grafts.{U, one_front}
 use Rattle.splice_laws.proofs.Respans.{front_respan}
 use Rattle.splice_laws.proofs.Marks.{front_marked}
@@ -86,7 +87,7 @@ pub record Where (text : List ℕ) (tokens : List Token) (comments : List Commen
   pub before_is : lexemes before ≡ front
   pub behind_is : lexemes behind ≡ rest
 
-begins_same : (ls rest : Lexemes) (s : Span) (x : Terminal) → begins_semicolon ((ls ++ lex s x ∷ []) ++ rest) ≡ begins_semicolon (ls ++ lex s x ∷ [])
+pub begins_same : (ls rest : Lexemes) (s : Span) (x : Terminal) → begins_semicolon ((ls ++ lex s x ∷ []) ++ rest) ≡ begins_semicolon (ls ++ lex s x ∷ [])
 begins_same [] rest s x = begins_one x s rest
   where
     begins_one : (x : Terminal) (s : Span) (rest : Lexemes) → begins_semicolon (lex s x ∷ rest) ≡ begins_semicolon (lex s x ∷ [])
@@ -98,7 +99,7 @@ begins_same (lex s0 x0 ∷ ls) rest s x = begins_two x0
     begins_two semicolon = refl
     begins_two _ = refl
 
-span_of_node : (ls rest : Lexemes) (s : Span) (x : Terminal) → span_to ((ls ++ lex s x ∷ []) ++ rest) rest ≡ own_span (ls ++ lex s x ∷ [])
+pub span_of_node : (ls rest : Lexemes) (s : Span) (x : Terminal) → span_to ((ls ++ lex s x ∷ []) ++ rest) rest ≡ own_span (ls ++ lex s x ∷ [])
 span_of_node [] rest s x = span_own [] rest (lex s x)
 span_of_node (l ∷ ls) rest s x = span_own (ls ++ lex s x ∷ []) rest l
 
@@ -171,6 +172,15 @@ blank_step : (at : ℕ) (due : Option ℕ) (ps : List Piece) → tokens_from at 
 unfolding tokens_from
 blank_step at due ps = refl
 
+blank_comments : (at : ℕ) (ps : List Piece) → comments_from at (record { kind = blanks; word = 32 ∷ [] } ∷ ps) ≡ comments_from (at + size_of (32 ∷ [])) ps
+unfolding comments_from
+blank_comments at ps = refl
+
+-- a layout has none
+layout_comments : (a : Layout) (at : ℕ) → comments_from at (pieces_of a []) ≡ []
+unfolding comments_from
+layout_comments a at = (no_comments a at []).1
+
 due_start : (d : Option ℕ) → is_due d ≡ is_due d
 due_start d = refl
 
@@ -232,7 +242,14 @@ module _ (text : List ℕ) (tokens : List Token) (comments : List Comment) (f : 
       by_end true e = refl
       by_end false e = absurd cc
 
-  pub reads_as : ReadsAs (applied text (record { span = swap_mark w; text = lead blank ++ text_of a } ∷ [])) f
+  no_new_comments : comments_from begin (lead_pieces blank ++ pieces_of a []) ≡ []
+  no_new_comments = by_blank blank
+    where
+      by_blank : (b : Bool) → comments_from begin (lead_pieces b ++ pieces_of a []) ≡ []
+      by_blank true = blank_comments begin (pieces_of a []) ∙ layout_comments a (begin + size_of (32 ∷ []))
+      by_blank false = layout_comments a begin
+
+  pub reads_as : ReadsWith (applied text (splice (swap_mark w) blank a ∷ [])) f (left_comments (splice (swap_mark w) blank a) comments)
   unfolding begin due
   reads_as =
       let x = given_led begin due in
@@ -251,10 +268,13 @@ module _ (text : List ℕ) (tokens : List Token) (comments : List Comment) (f : 
       subst (λ (us : Lexemes). SpellsFront nowhere f us []) (with_spans (front ++ (o.0 ++ rest)) target alike ∙ sym all) (front_respan (spans_at target) before) in
       let marked = front_marked span_to spelled in
       record {
-        tokens = here.before ++ tokens_from begin due ((lead_pieces blank ++ pieces_of a []) ++ here.spot.behind);
-        comments = _;
-        of_text = placed;
-        file = marked.0;
-        spelled = marked.2;
-        same = marked.1;
+        read = record {
+          tokens = here.before ++ tokens_from begin due ((lead_pieces blank ++ pieces_of a []) ++ here.spot.behind);
+          comments = comments_from (size_of here.spot.mark) here.spot.before ++ (comments_from begin (lead_pieces blank ++ pieces_of a []) ++ comments_from (begin + pieces_size (lead_pieces blank ++ pieces_of a [])) here.spot.behind);
+          of_text = placed;
+          file = marked.0;
+          spelled = marked.2;
+          same = marked.1;
+        };
+        comments_are = comments_left text tokens comments here.before here.node here.behind here.last (swap_mark w) here.spot (lead blank ++ letters_of a []) (lead blank ++ text_of a) (lead_pieces blank ++ pieces_of a []) fit no_new_comments;
       }

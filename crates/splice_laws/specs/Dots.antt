@@ -1,6 +1,7 @@
--- Files in which no selector stands on an integer literal, and no integer literal directly before the dots after the
--- arguments of a call (Go specification, Selectors, Passing arguments to ... parameters, Integer literals). No other
--- file is well typed: an integer has no fields and no methods, and what ends in one is no slice.
+-- What stands before the dots of a file: before that of a selector, and before those after the arguments of a call. In
+-- an undotted file the one is no integer literal, and the other ends in none (Go specification, Selectors, Passing
+-- arguments to ... parameters, Integer literals). No other file is well typed: an integer has no fields and no methods,
+-- and what ends in one is no slice.
 use Rattle.std.specs.Prelude.{◌≡◌, Bool, true, false, List, [], ◌∷◌}
 use Rattle.go_tree.specs.declared.exprs.Rest.{Rest}
 use Rattle.go_tree.specs.declared.exprs.Rest.TheVariants.{Whole}
@@ -26,105 +27,162 @@ module _ {S : Type 0} where
   last_in_number (expr_and e no_exprs) = ends_in_number e
   last_in_number (expr_and _ (expr_and e es)) = last_in_number (expr_and e es)
 
+-- What stands before the dot of a selector is so, and so are the arguments of a call with how they are handed on.
+module _ {S : Type 0} (Selected : Expr S → Type 0) (Handed : Rest → Exprs S → Type 0) where
+  abbrev mutual
+    pub ExprDots : Expr S → Type 0
+    ExprDots (ident _ _) = Unit {0}
+    ExprDots (int_lit _ _) = Unit {0}
+    ExprDots (rune_lit _ _) = Unit {0}
+    ExprDots (str_lit _ _) = Unit {0}
+    ExprDots (composite _ _ es) = ElemsDots es
+    ExprDots (selector _ e _) = Selected e × ExprDots e
+    ExprDots (index _ e i) = ExprDots e × ExprDots i
+    ExprDots (slice _ e i j) = ExprDots e × OptionDots i × OptionDots j
+    ExprDots (call _ f xs rest) = ExprDots f × ExprsDots xs × Handed rest xs
+    ExprDots (func_lit _ _ _ body) = StmtsDots body
+    ExprDots (type_operand _ _) = Unit {0}
+    ExprDots (unary _ _ e) = ExprDots e
+    ExprDots (binary _ _ a b) = ExprDots a × ExprDots b
+    ExprDots (star _ e) = ExprDots e
+
+    pub ExprsDots : Exprs S → Type 0
+    ExprsDots no_exprs = Unit {0}
+    ExprsDots (expr_and e es) = ExprDots e × ExprsDots es
+
+    pub OptionDots : ExprOption S → Type 0
+    OptionDots no_expr = Unit {0}
+    OptionDots (some_expr e) = ExprDots e
+
+    pub ElemsDots : Elems S → Type 0
+    ElemsDots no_elems = Unit {0}
+    ElemsDots (elem _ k v es) = KeyDots k × ValueDots v × ElemsDots es
+
+    pub ValueDots : Value S → Type 0
+    ValueDots (plain e) = ExprDots e
+    ValueDots (braced _ es) = ElemsDots es
+
+    pub KeyDots : ValueOption S → Type 0
+    KeyDots no_value = Unit {0}
+    KeyDots (some_value v) = ValueDots v
+
+    pub StmtDots : Stmt S → Type 0
+    StmtDots (const_decl _ _ ss) = SpecsDots ss
+    StmtDots (var_decl _ _ ss) = SpecsDots ss
+    StmtDots (empty _) = Unit {0}
+    StmtDots (eval _ e) = ExprDots e
+    StmtDots (step _ e _) = ExprDots e
+    StmtDots (assign _ xs _ ys) = ExprsDots xs × ExprsDots ys
+    StmtDots (define _ _ ys) = ExprsDots ys
+    StmtDots (return_ _ xs) = ExprsDots xs
+    StmtDots (break_ _ _) = Unit {0}
+    StmtDots (continue_ _ _) = Unit {0}
+    StmtDots (inner _ body) = StmtsDots body
+    StmtDots (if_ _ arms last) = ArmsDots arms × BlockDots last
+    StmtDots (for_ _ i t p _ body) = PartDots i × OptionDots t × PartDots p × StmtsDots body
+    StmtDots (range_ _ left e _ body) = LeftDots left × ExprDots e × StmtsDots body
+    StmtDots (switch _ i t cs) = PartDots i × OptionDots t × CasesDots cs
+    StmtDots (defer _ e) = ExprDots e
+    StmtDots (label _ _ x) = StmtDots x
+
+    pub StmtsDots : Stmts S → Type 0
+    StmtsDots no_stmts = Unit {0}
+    StmtsDots (stmt_and x xs) = StmtDots x × StmtsDots xs
+
+    pub PartDots : StmtOption S → Type 0
+    PartDots no_stmt = Unit {0}
+    PartDots (some_stmt x) = StmtDots x
+
+    pub BlockDots : BlockOption S → Type 0
+    BlockDots no_block = Unit {0}
+    BlockDots (some_block _ xs) = StmtsDots xs
+
+    pub LeftDots : RangeLeft S → Type 0
+    LeftDots nothing = Unit {0}
+    LeftDots (assigns xs) = ExprsDots xs
+    LeftDots (defines _) = Unit {0}
+
+    pub ArmsDots : Arms S → Type 0
+    ArmsDots no_arms = Unit {0}
+    ArmsDots (arm _ i t _ body arms) = PartDots i × ExprDots t × StmtsDots body × ArmsDots arms
+
+    pub CasesDots : Cases S → Type 0
+    CasesDots no_cases = Unit {0}
+    CasesDots (case _ xs body cs) = ExprsDots xs × StmtsDots body × CasesDots cs
+
+    pub SpecsDots : ValueSpecs S → Type 0
+    SpecsDots no_specs = Unit {0}
+    SpecsDots (spec _ _ _ xs ss) = ExprsDots xs × SpecsDots ss
+
+  -- what declares values is a declaration of constants or of variables
+  abbrev pub DeclDots : Decl S → Type 0
+  DeclDots (values (const_decl _ _ ss)) = SpecsDots ss
+  DeclDots (values (var_decl _ _ ss)) = SpecsDots ss
+  DeclDots (values _) = Unit {0}
+  DeclDots (types _ _ _) = Unit {0}
+  DeclDots (func f) = StmtsDots f.body
+
+  abbrev pub DeclsDots : List (Decl S) → Type 0
+  DeclsDots [] = Unit {0}
+  DeclsDots (d ∷ ds) = DeclDots d × DeclsDots ds
+
+module _ {S : Type 0} where
+  abbrev pub NoNumber : Expr S → Type 0
+  NoNumber e = is_number e ≡ false
+
   -- no integer literal stands before the dots after the arguments of a call
   abbrev pub UndottedRest : Rest → Exprs S → Type 0
   UndottedRest Whole xs = last_in_number xs ≡ false
   UndottedRest _ xs = Unit {0}
 
-  abbrev mutual
-    -- no selector in the expression stands on an integer literal, and no dots stand behind one
-    pub UndottedExpr : Expr S → Type 0
-    UndottedExpr (ident _ _) = Unit {0}
-    UndottedExpr (int_lit _ _) = Unit {0}
-    UndottedExpr (rune_lit _ _) = Unit {0}
-    UndottedExpr (str_lit _ _) = Unit {0}
-    UndottedExpr (composite _ _ es) = UndottedElems es
-    UndottedExpr (selector _ e _) = (is_number e ≡ false) × UndottedExpr e
-    UndottedExpr (index _ e i) = UndottedExpr e × UndottedExpr i
-    UndottedExpr (slice _ e i j) = UndottedExpr e × UndottedOption i × UndottedOption j
-    UndottedExpr (call _ f xs rest) = UndottedExpr f × UndottedExprs xs × UndottedRest rest xs
-    UndottedExpr (func_lit _ _ _ body) = UndottedStmts body
-    UndottedExpr (type_operand _ _) = Unit {0}
-    UndottedExpr (unary _ _ e) = UndottedExpr e
-    UndottedExpr (binary _ _ a b) = UndottedExpr a × UndottedExpr b
-    UndottedExpr (star _ e) = UndottedExpr e
+  -- no selector in the expression stands on an integer literal, and no dots stand behind one
+  abbrev pub UndottedExpr : Expr S → Type 0
+  UndottedExpr x = ExprDots NoNumber UndottedRest x
 
-    pub UndottedExprs : Exprs S → Type 0
-    UndottedExprs no_exprs = Unit {0}
-    UndottedExprs (expr_and e es) = UndottedExpr e × UndottedExprs es
+  abbrev pub UndottedExprs : Exprs S → Type 0
+  UndottedExprs x = ExprsDots NoNumber UndottedRest x
 
-    pub UndottedOption : ExprOption S → Type 0
-    UndottedOption no_expr = Unit {0}
-    UndottedOption (some_expr e) = UndottedExpr e
+  abbrev pub UndottedOption : ExprOption S → Type 0
+  UndottedOption x = OptionDots NoNumber UndottedRest x
 
-    pub UndottedElems : Elems S → Type 0
-    UndottedElems no_elems = Unit {0}
-    UndottedElems (elem _ k v es) = UndottedKey k × UndottedValue v × UndottedElems es
+  abbrev pub UndottedElems : Elems S → Type 0
+  UndottedElems x = ElemsDots NoNumber UndottedRest x
 
-    pub UndottedValue : Value S → Type 0
-    UndottedValue (plain e) = UndottedExpr e
-    UndottedValue (braced _ es) = UndottedElems es
+  abbrev pub UndottedValue : Value S → Type 0
+  UndottedValue x = ValueDots NoNumber UndottedRest x
 
-    pub UndottedKey : ValueOption S → Type 0
-    UndottedKey no_value = Unit {0}
-    UndottedKey (some_value v) = UndottedValue v
+  abbrev pub UndottedKey : ValueOption S → Type 0
+  UndottedKey x = KeyDots NoNumber UndottedRest x
 
-    pub UndottedStmt : Stmt S → Type 0
-    UndottedStmt (const_decl _ _ ss) = UndottedSpecs ss
-    UndottedStmt (var_decl _ _ ss) = UndottedSpecs ss
-    UndottedStmt (empty _) = Unit {0}
-    UndottedStmt (eval _ e) = UndottedExpr e
-    UndottedStmt (step _ e _) = UndottedExpr e
-    UndottedStmt (assign _ xs _ ys) = UndottedExprs xs × UndottedExprs ys
-    UndottedStmt (define _ _ ys) = UndottedExprs ys
-    UndottedStmt (return_ _ xs) = UndottedExprs xs
-    UndottedStmt (break_ _ _) = Unit {0}
-    UndottedStmt (continue_ _ _) = Unit {0}
-    UndottedStmt (inner _ body) = UndottedStmts body
-    UndottedStmt (if_ _ arms last) = UndottedArms arms × UndottedBlock last
-    UndottedStmt (for_ _ i t p _ body) = UndottedPart i × UndottedOption t × UndottedPart p × UndottedStmts body
-    UndottedStmt (range_ _ left e _ body) = UndottedLeft left × UndottedExpr e × UndottedStmts body
-    UndottedStmt (switch _ i t cs) = UndottedPart i × UndottedOption t × UndottedCases cs
-    UndottedStmt (defer _ e) = UndottedExpr e
-    UndottedStmt (label _ _ x) = UndottedStmt x
+  abbrev pub UndottedStmt : Stmt S → Type 0
+  UndottedStmt x = StmtDots NoNumber UndottedRest x
 
-    pub UndottedStmts : Stmts S → Type 0
-    UndottedStmts no_stmts = Unit {0}
-    UndottedStmts (stmt_and x xs) = UndottedStmt x × UndottedStmts xs
+  abbrev pub UndottedStmts : Stmts S → Type 0
+  UndottedStmts x = StmtsDots NoNumber UndottedRest x
 
-    pub UndottedPart : StmtOption S → Type 0
-    UndottedPart no_stmt = Unit {0}
-    UndottedPart (some_stmt x) = UndottedStmt x
+  abbrev pub UndottedPart : StmtOption S → Type 0
+  UndottedPart x = PartDots NoNumber UndottedRest x
 
-    pub UndottedBlock : BlockOption S → Type 0
-    UndottedBlock no_block = Unit {0}
-    UndottedBlock (some_block _ xs) = UndottedStmts xs
+  abbrev pub UndottedBlock : BlockOption S → Type 0
+  UndottedBlock x = BlockDots NoNumber UndottedRest x
 
-    pub UndottedLeft : RangeLeft S → Type 0
-    UndottedLeft nothing = Unit {0}
-    UndottedLeft (assigns xs) = UndottedExprs xs
-    UndottedLeft (defines _) = Unit {0}
+  abbrev pub UndottedLeft : RangeLeft S → Type 0
+  UndottedLeft x = LeftDots NoNumber UndottedRest x
 
-    pub UndottedArms : Arms S → Type 0
-    UndottedArms no_arms = Unit {0}
-    UndottedArms (arm _ i t _ body arms) = UndottedPart i × UndottedExpr t × UndottedStmts body × UndottedArms arms
+  abbrev pub UndottedArms : Arms S → Type 0
+  UndottedArms x = ArmsDots NoNumber UndottedRest x
 
-    pub UndottedCases : Cases S → Type 0
-    UndottedCases no_cases = Unit {0}
-    UndottedCases (case _ xs body cs) = UndottedExprs xs × UndottedStmts body × UndottedCases cs
+  abbrev pub UndottedCases : Cases S → Type 0
+  UndottedCases x = CasesDots NoNumber UndottedRest x
 
-    pub UndottedSpecs : ValueSpecs S → Type 0
-    UndottedSpecs no_specs = Unit {0}
-    UndottedSpecs (spec _ _ _ xs ss) = UndottedExprs xs × UndottedSpecs ss
+  abbrev pub UndottedSpecs : ValueSpecs S → Type 0
+  UndottedSpecs x = SpecsDots NoNumber UndottedRest x
 
   abbrev pub UndottedDecl : Decl S → Type 0
-  UndottedDecl (values x) = UndottedStmt x
-  UndottedDecl (types _ _ _) = Unit {0}
-  UndottedDecl (func f) = UndottedStmts f.body
+  UndottedDecl x = DeclDots NoNumber UndottedRest x
 
   abbrev pub UndottedDecls : List (Decl S) → Type 0
-  UndottedDecls [] = Unit {0}
-  UndottedDecls (d ∷ ds) = UndottedDecl d × UndottedDecls ds
+  UndottedDecls x = DeclsDots NoNumber UndottedRest x
 
   -- no selector in the file stands on an integer literal
   abbrev pub UndottedFile : File S → Type 0

@@ -1,12 +1,13 @@
 -- A text in parts: its tokens, comments and blanks, where a run of blanks may be in several parts (Go specification,
 -- Tokens, Comments). So a text can be parted within blanks too, as at the start of a line.
-use Rattle.std.specs.Prelude.{◌≡◌, ◌⊎◌, ℕ, ◌+◌, ◌==◌, Bool, true, false, not, ◌&&◌, nat_eq, bytes_eq, List, [], ◌∷◌, ◌++◌, Option, encode_utf8_all, codes}
+use Rattle.std.specs.Prelude.{◌≡◌, ◌⊎◌, ℕ, ◌+◌, ◌==◌, Bool, true, false, not, ◌&&◌, nat_eq, nat_le, bytes_eq, if◌then◌else◌, List, [], ◌∷◌, ◌++◌, Option, encode_utf8_all, codes}
 use Rattle.std.specs.Str.{all_scalars}
 use Rattle.go_tree.specs.declared.spans.Span.{Span}
 use Rattle.go_tree.specs.declared.tokens.Token.{Token}
 use Rattle.go_tree.specs.declared.tokens.Comment.{Comment}
 use Rattle.go_tree.specs.declared.tokens.TokenKind.{TokenKind}
 use Rattle.go_tree.specs.declared.tokens.TokenKind.TheVariants.{Integer, Operator, Inserted}
+unfoldable pub use Rattle.layout_laws.specs.LayoutPieces.{due_behind}
 use Rattle.text_edits.specs.declared.edit.Edit.{Edit}
 use Rattle.text_edits.specs.InTurn.{moved_offset}
 use Rattle.go_words.specs.Tokens.Characters.{byte_order_mark}
@@ -104,11 +105,6 @@ given at due [] = []
 given at due (p ∷ ps) = tokens_at at due p.kind p.word
     ++ given (at + size_of p.word) (due_after at due p.kind p.word) ps
 
--- the end of the last token, where a newline after the pieces gives a semicolon
-unfoldable pub due_behind : ℕ → Option ℕ → List Piece → Option ℕ
-due_behind at due [] = due
-due_behind at due (p ∷ ps) = due_behind (at + size_of p.word) (due_after at due p.kind p.word) ps
-
 -- ---- the span of some tokens
 
 -- a token that stands in the text, and isn't inserted
@@ -148,3 +144,10 @@ moved_token e t = record t { span = moved_span e t.span }
 
 abbrev pub moved_comment : Edit → Comment → Comment
 moved_comment e c = record { span = moved_span e c.span }
+
+-- the comments that an edit leaves: those before its range, and those behind it, which move; those within it go
+abbrev pub left_comments : Edit → List Comment → List Comment
+left_comments e [] = []
+left_comments e (c ∷ cs) =
+    if nat_le c.span.end e.span.start then c ∷ left_comments e cs
+    else (if nat_le e.span.end c.span.start then moved_comment e c ∷ left_comments e cs else left_comments e cs)

@@ -15,6 +15,7 @@ use Rattle.go_read.specs.SpellsFiles.{SpellsFile}
 use Rattle.go_layout.specs.Layouts.{Layout, text_of}
 use Rattle.layout_laws.specs.LayoutPieces.{pieces_of}
 use Rattle.layout_laws.specs.Laid.{is_indent}
+use Rattle.text_edits.specs.declared.edit.Edit.{Edit}
 use Rattle.text_edits.specs.Applied.{applied}
 use Rattle.splice_laws.specs.Joints.{begins_with_dot, is_open}
 use Rattle.splice_laws.specs.Dots.{UndottedFile}
@@ -63,9 +64,13 @@ lead false = []
 
 -- ---- the new text
 
+-- the edit that puts the layout in place of a span
+abbrev pub splice : Span → Bool → Layout → Edit
+splice span blank a = record { span = span; text = lead blank ++ text_of a }
+
 -- the text with the layout in place of a span
 abbrev pub spliced_text : List ℕ → Span → Bool → Layout → List ℕ
-spliced_text text span blank a = applied text (record { span = span; text = lead blank ++ text_of a } ∷ [])
+spliced_text text span blank a = applied text (splice span blank a ∷ [])
 
 -- the text has tokens, and they spell a file that is this one, spans aside
 pub record ReadsAs (text : List ℕ) (f : File (Unit {0})) : Type 0 where
@@ -75,6 +80,11 @@ pub record ReadsAs (text : List ℕ) (f : File (Unit {0})) : Type 0 where
   pub file : File Span
   pub spelled : SpellsFile tokens file
   pub same : bare_file file ≡ f
+
+-- the text reads as the file, and these are its comments
+pub record ReadsWith (text : List ℕ) (f : File (Unit {0})) (comments : List Comment) : Type 0 where
+  pub read : ReadsAs text f
+  pub comments_are : read.comments ≡ comments
 
 -- A text of a file, and a second file that is the first with one node replaced. The new node is written with this
 -- indent; `dotted` says that a dot follows it, `wrapped` that it stands in parentheses of its own, and `blank` that a

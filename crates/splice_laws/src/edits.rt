@@ -1,6 +1,6 @@
 //! Files that are read from edited texts.
 
-ghost use Rattle.std.specs.Prelude.{◌≡◌, ℕ, true, List, [], ◌∷◌, ◌++◌, None};
+ghost use Rattle.std.specs.Prelude.{◌≡◌, ℕ, true, List, [], ◌∷◌, ◌++◌, None, length};
 ghost use Rattle.go_tree.specs.declared.spans.Span.{Span};
 ghost use Rattle.go_tree.specs.File.{File};
 ghost use Rattle.go_tree.specs.FileBare.{bare_file};
@@ -12,7 +12,9 @@ ghost use Rattle.go_read.specs.SpellsTypes.{Lexemes};
 ghost use Rattle.go_read.specs.SpellsSpans.{span_to};
 ghost use Rattle.go_read.specs.SpellsFiles.{SpellsFront};
 ghost use Rattle.go_read.specs.Bareness.{nowhere};
-ghost use Rattle.text_edits.specs.Applied.{applied};
+ghost use Rattle.text_edits.specs.declared.edit.Edit.{Edit};
+ghost use Rattle.text_edits.specs.Applied.{Ascend, applied};
+ghost use Rattle.text_edits.specs.InTurn.{InTurn};
 ghost use Rattle.splice_laws.specs.Joints.{InnerEnd, LastEnds, Parted, Fitting, begin_of, span_within, given, due_behind};
 ghost use Rattle.splice_laws.specs.Imports.{Shortened};
 ghost use Rattle.splice_laws.specs.Edited.{terminals, given_terminals, gives_semicolon};
@@ -50,4 +52,13 @@ pub fn lines_part_texts()
         (tail : List ℕ) → is_blanks a ≡ true → is_blanks b ≡ true
         → Parted text mark (before ++ a_piece (a ++ b) ∷ []) inside behind tail
         → Parted text mark (before ++ a_piece a ∷ []) (a_piece b ∷ inside) behind tail }
+{}
+
+/// A text to which several edits are made together reads as what it reads as when they are made one after another,
+/// each where the ones before have moved it to. So forms and imports that are put into a text by one step each may be
+/// put into it at once.
+#[tactic(auto, using(crate::proofs::Edited::turned))]
+pub fn edits_are_made_in_turn()
+    ensures together { (text new : List ℕ) (es : List Edit) (f : File (Unit {0})) → Ascend 0 (length text) es
+        → InTurn text es new → ReadsAs new f → ReadsAs (applied text es) f }
 {}

@@ -10,7 +10,7 @@ mod imports;
 mod texts;
 mod trees;
 
-pub use edits::{edited_texts_are_read, lines_part_texts};
+pub use edits::{edited_texts_are_read, edits_are_made_in_turn, lines_part_texts};
 pub use forms::{dots_stand_apart, forms_are_read_in_place};
 pub use imports::{imports_are_changed, imports_are_written};
 pub use texts::{spans_are_replaced, tokens_stand_in_parts};
