@@ -1,0 +1,16 @@
+//! The law of dots in well-typed programs.
+
+ghost use Rattle.std.specs.Prelude.{◌≡◌, true};
+ghost use Rattle.go_tree.specs.declared.spans.Span.{Span};
+ghost use Rattle.go_types.specs.Programs.{Program};
+ghost use Rattle.go_types.specs.WellTyped.{well_typed};
+ghost use Rattle.typed_dots.specs.TypedDots.{FilesAreUndotted};
+
+/// In a file of a well-typed program no selector stands on an integer literal, for an integer has no fields and no
+/// methods (Go specification, Selectors). The rules of typing pay no heed to the dots after a call's arguments, so
+/// of what stands before those the law asks, for each file, that it ends in no integer literal.
+#[tactic(auto, using(crate::proofs::UndottedFiles::files_are_undotted))]
+pub fn well_typed_files_are_undotted()
+    ensures with_spans { (ps : Program Span) → well_typed ps ≡ true → FilesAreUndotted ps }
+    ensures without_spans { (ps : Program (Unit {0})) → well_typed ps ≡ true → FilesAreUndotted ps }
+{}

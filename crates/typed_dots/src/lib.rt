@@ -1,0 +1,7 @@
+//! Dots in well-typed programs: what a selector stands on is no integer literal. Definitions and laws alone, without
+//! code.
+#![tactic(auto)]
+
+mod laws;
+
+pub use laws::well_typed_files_are_undotted;
