@@ -1,15 +1,13 @@
 -- Which comments an edit leaves.
-use Rattle.std.proofs.Common.{◌≡◌, ◌+◌, ◌-◌, ◌<◌, ◌≤◌, ℕ, Bool, true, false, nat_le, List, [], ◌∷◌, ◌++◌, length, map, refl, sym, ap, subst, ◌∙◌, arith}
-use Rattle.std.specs.Prelude.{if◌then◌else◌, encode_utf8_all}
+use Rattle.std.proofs.Common.{◌≡◌, ◌+◌, ◌-◌, ◌<◌, ◌≤◌, ℕ, true, false, nat_le, List, [], ◌∷◌, ◌++◌, length, map, refl, sym, ap, subst, ◌∙◌, arith}
 use Rattle.std.proofs.lemmas.Bool.Decides.{nat_tests}
-use Rattle.std.proofs.lemmas.List.{append_assoc, append-nil}
+use Rattle.std.proofs.lemmas.List.{append-nil}
 use Rattle.go_tree.specs.declared.spans.Span.{Span}
 use Rattle.go_tree.specs.declared.tokens.Token.{Token}
 use Rattle.go_tree.specs.declared.tokens.Comment.{Comment}
 use Rattle.go_words.specs.Tokens.{size_of, comments_at, comments_from, pieces_size}
 use Rattle.go_words.specs.Tokens.Pieces.{PieceKind, blanks, remark, token, Piece}
 use Rattle.text_edits.specs.declared.edit.Edit.{Edit}
-use Rattle.text_edits.specs.InTurn.{moved_offset}
 use Rattle.splice_laws.specs.Joints.{words_of, IsPart, PartsTo, Fitting, begin_of, moved_comment, left_comments}
 use Rattle.splice_laws.specs.Spots.{Spot}
 use Rattle.splice_laws.proofs.Rises.{piece_size}

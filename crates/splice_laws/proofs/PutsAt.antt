@@ -9,7 +9,6 @@ use Rattle.go_words.specs.Terminals.{lex, comma, paren, end_paren, key_defer, le
 use Rattle.go_read.specs.SpellsTypes.{Lexemes, type_mark, SpellsType, named_rule, qualified_rule, pointer_rule, slice_type_rule, map_type_rule, struct_type_rule, type_parens_rule}
 use Rattle.go_read.specs.Spells.{is_func_lit, is_empty, starts_type, follows_type, SpellsLiteralType, SpellsBare, SpellsExpr, SpellsOperand, SpellsSimple, SpellsStmt, SpellsBlock, ident_rule, int_rule, rune_rule, text_rule, composite_rule, func_rule, type_rule, selector_rule, index_rule, slice_rule, call_rule, unary_rule, star_rule, binary_rule, bare_rule, parens_rule, operand_rule, eval_rule, increment_rule, decrement_rule, assign_rule, define_rule, empty_rule, simple_rule, const_rule, var_rule, return_rule, return_values_rule, break_rule, break_label_rule, continue_rule, continue_label_rule, block_rule, if_rule, while_rule, for_rule, range_rule, switch_rule, defer_rule, label_rule, braces_rule}
 use Rattle.go_read.specs.Bareness.{nowhere}
-use Rattle.go_read.proofs.SpansAside as aside
 use Rattle.splice_laws.specs.Swaps.{Swap, an_operand, a_callee, a_type, a_literal_type, a_stmt, a_deferred, PartOfExpr, in_literal_type, in_elems, in_func_body, in_signature, in_type_operand, in_selected, in_indexed, in_index, in_sliced, in_low, in_high, in_called, in_args, in_unary, in_star, in_left, in_right, SimpleIn, in_eval, in_step, in_assigned, in_assign, in_define, PartOfStmt, in_simple, in_const, in_var, in_return, in_block, in_arms, in_else, in_for_first, in_for_test, in_for_post, in_for_body, in_range_left, in_range, in_range_body, in_switch_first, in_tag, in_cases, in_deferred, in_deferred_args, this_deferred, in_label}
 use Rattle.splice_laws.specs.Fits.{expr_mark, stmt_mark, swap_mark, SpellsOld, SpellsNew}
 use Rattle.layout_laws.proofs.SpelledParts.{deferred}
