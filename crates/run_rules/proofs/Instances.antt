@@ -1,7 +1,8 @@
 -- Steps and runs put together from what computes.
-use Rattle.std.proofs.Common.{◌≡◌, refl, sym, subst, ℕ, ◌≤◌, Bool, true, false, ◌&&◌, nat_le, length, List, [], ◌∷◌, Option, Some, None, is_some}
+use Rattle.std.proofs.Common.{◌≡◌, refl, sym, subst, ℕ, ◌≤◌, Bool, true, false, not, ◌&&◌, nat_le, length, List, [], ◌∷◌, Option, Some, None, is_some}
 use Rattle.std.proofs.lemmas.Bool.{leb-true}
 use Rattle.go_tree.specs.declared.spans.Span.{Span}
+use Rattle.go_tree.specs.declared.tokens.Token.{Token}
 use Rattle.go_tree.specs.File.{File}
 use Rattle.go_words.specs.Terminals.{lexemes}
 use Rattle.go_read.specs.SpellsSpans.{span_to}
@@ -9,6 +10,8 @@ use Rattle.go_read.specs.Goals.{read_front}
 use Rattle.go_read.proofs.Whole.{file_spelled}
 use Rattle.text_edits.specs.declared.edit.Edit.{Edit}
 use Rattle.text_edits.specs.Applied.{Ascend, applied}
+use Rattle.import_edit.specs.Removed.{is_semicolon}
+use Rattle.import_edit.specs.Laid.{IsInked, StandInOrder}
 use Rattle.pkg_graph.specs.Package.{Package}
 use Rattle.run_rules.specs.Sites.{MarkRef}
 use Rattle.run_rules.specs.Texts.{FileText}
@@ -42,7 +45,7 @@ module _ (marks : List MarkRef) (st : Standing) (e : is_some (step_in marks st) 
 
   abbrev pub next_by : text_at found.site.at.source.path st.texts ≡ Some old → new.text ≡ applied old.text (edits_in marks st old found) → TokensOf new.text new.tokens new.comments
       → read_at span_to read_front (lexemes new.tokens) ≡ Some (file_with here_of tree, [])
-      → decls_with origin_of tree.decls ≡ decls_with origin_of (new_decls same_here st.packages found.site found.form)
+      → file_with origin_of tree ≡ record (file_with here_of tree) { decls = decls_with origin_of (new_decls same_here st.packages found.site found.form) }
       → Next marks st log_entry stands_after
   next_by stands text scans read origins =
       record {
@@ -75,7 +78,7 @@ second_holds : (a b : Bool) → (a && b) ≡ true → b ≡ true
 second_holds true b h = h
 second_holds false b h = cc
 
-is_at_most : (a b : ℕ) → nat_le a b ≡ true → a ≤ b
+pub is_at_most : (a b : ℕ) → nat_le a b ≡ true → a ≤ b
 is_at_most a b h = leb-true a b h
 
 pub ascends_so : (from size : ℕ) (es : List Edit) → ascends from size es ≡ true → Ascend from size es
@@ -91,6 +94,33 @@ ascends_so from size (e ∷ es) h =
 
 pub kept_by : (log : List Logged) (path old new : List ℕ) (olds news : List (List ℕ × List ℕ)) → ascends 0 (length old) (edits_of path [] log) ≡ true → new ≡ applied old (edits_of path [] log) → FilesKeep log olds news → FilesKeep log ((path, old) ∷ olds) ((path, new) ∷ news)
 kept_by log path old new olds news h e rest = file (record { edits = edits_of path [] log; ranges_are = refl; ascend = ascends_so 0 (length old) (edits_of path [] log) h; replaced = e }) rest
+
+-- ---- tokens that stand in a text, none of them a written semicolon
+
+abbrev pub stand : ℕ → ℕ → List Token → Bool
+stand size from [] = true
+stand size from (t ∷ ts) =
+    nat_le from t.span.start && (nat_le t.span.start t.span.end && (nat_le t.span.end size && (not (is_semicolon t.kind t.spelling) && stand size t.span.end ts)))
+
+no_semicolon : (b : Bool) (P : Type 0) → not b ≡ true → b ≡ true → P
+no_semicolon true P h e = cc
+no_semicolon false P h e = cc
+
+pub stand_so : (text : List ℕ) (from : ℕ) (ts : List Token) → stand (length text) from ts ≡ true → StandInOrder text from ts
+stand_so text from [] h = tt
+stand_so text from (t ∷ ts) h =
+    let others : Bool = not (is_semicolon t.kind t.spelling) && stand (length text) t.span.end ts in
+    let ends : Bool = nat_le t.span.end (length text) && others in
+    let spans : Bool = nat_le t.span.start t.span.end && ends in
+    let a : spans ≡ true = second_holds (nat_le from t.span.start) spans h in
+    let b : ends ≡ true = second_holds (nat_le t.span.start t.span.end) ends a in
+    let c : others ≡ true = second_holds (nat_le t.span.end (length text)) others b in (
+      is_at_most from t.span.start (first_holds (nat_le from t.span.start) spans h),
+      is_at_most t.span.start t.span.end (first_holds (nat_le t.span.start t.span.end) ends a),
+      is_at_most t.span.end (length text) (first_holds (nat_le t.span.end (length text)) others b),
+      no_semicolon (is_semicolon t.kind t.spelling) (IsInked text t.span) (first_holds (not (is_semicolon t.kind t.spelling)) (stand (length text) t.span.end ts) c),
+      stand_so text t.span.end ts (second_holds (not (is_semicolon t.kind t.spelling)) (stand (length text) t.span.end ts) c),
+    )
 
 -- ---- a run, whole
 

@@ -1,11 +1,18 @@
 pub mod WalksAlike
-pub mod WalkLaws
 pub mod Says
 pub mod Chosen
 pub mod Greatest
 pub mod InOrder
 pub mod NamesFound
+pub mod UsesMarked
+pub mod UsesDecided
 pub mod AllKept
+pub mod Chains
+pub mod CyclesFound
+pub mod Zipped
+pub mod OneRun
+pub mod TokensFound
+pub mod EditsApart
 pub mod CaseTools
 pub mod Instances
 mod StepsOfConstants
@@ -16,6 +23,10 @@ mod StepsOfOrder
 mod RunsOfConstants
 mod RunsOfPackages
 mod RunsOfCalls
+mod RunsOfLiterals
+mod RunsOfForms
+mod RunsOfRecover
+mod RunsOfWrappers
 mod StepsOfLibrary
 mod CasesOfValues
 mod CasesOfStatements

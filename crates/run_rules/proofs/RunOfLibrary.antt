@@ -30,6 +30,14 @@ use Rattle.run_rules.specs.Inlining.{standing_as_read, none, file, package_, beg
 use Rattle.run_rules.proofs.CaseTools.{from, nmf}
 use Rattle.run_rules.proofs.Instances.{next_by, kept_by, inlining_by}
 use Rattle.go_words.specs.Tokens.{TokensOf}
+use Rattle.ucd_category.specs.GeneralCategory.{general_category}
+use Rattle.ucd_category.specs.GeneralCategoryRows.{general_category_rows}
+use Rattle.ucd_table.specs.Rows.{value_in}
+use Rattle.go_words.specs.Tokens.{tokens_from, comments_from}
+use Rattle.go_words.specs.Tokens.Characters.{is_letter, is_digit}
+use Rattle.go_scan.specs.Automaton.{next_of, longest_from}
+use Rattle.go_scan.specs.Pieces.{piece_of, lexeme_of}
+use Rattle.run_rules.proofs.TokensFound.{tokens_by}
 
 -- A library of three packages and its callers: seven steps, and the report in its order.
 abbrev library_f0 : File Span
@@ -116,7 +124,7 @@ abbrev library_n3 : FileText
 library_n3 = (record { text = (codes "package main\n\nimport (\n\t\"example.com/lib\"\n\t\"example.com/lib/text\"\n)\n\nfunc load() []text.Line {\n\treturn []lib.Row{{\"a\"}, {\"bc\"}} // two rows\n}\n\nfunc main() {\n\trows := load()\n\tfor i := 0; i < 2; i++ {\n\t\tprintln(lib.PadLeft(rows[i].Body, lib.MaxWidth))\n\t}\n\tlib.Show(rows, 4)\n\tprintln(lib.Total(rows))\n}\n"); tokens = ((tok Keyword 0 7 (codes "package")) ∷ (tok Ident 8 12 (codes "main")) ∷ (tok Inserted 12 12 (codes ";")) ∷ (tok Keyword 14 20 (codes "import")) ∷ (tok Operator 21 22 (codes "(")) ∷ (tok Str 24 41 (codes "\"example.com/lib\"")) ∷ (tok Inserted 41 41 (codes ";")) ∷ (tok Str 43 65 (codes "\"example.com/lib/text\"")) ∷ (tok Inserted 65 65 (codes ";")) ∷ (tok Operator 66 67 (codes ")")) ∷ (tok Inserted 67 67 (codes ";")) ∷ (tok Keyword 69 73 (codes "func")) ∷ (tok Ident 74 78 (codes "load")) ∷ (tok Operator 78 79 (codes "(")) ∷ (tok Operator 79 80 (codes ")")) ∷ (tok Operator 81 82 (codes "[")) ∷ (tok Operator 82 83 (codes "]")) ∷ (tok Ident 83 87 (codes "text")) ∷ (tok Operator 87 88 (codes ".")) ∷ (tok Ident 88 92 (codes "Line")) ∷ (tok Operator 93 94 (codes "{")) ∷ (tok Keyword 96 102 (codes "return")) ∷ (tok Operator 103 104 (codes "[")) ∷ (tok Operator 104 105 (codes "]")) ∷ (tok Ident 105 108 (codes "lib")) ∷ (tok Operator 108 109 (codes ".")) ∷ (tok Ident 109 112 (codes "Row")) ∷ (tok Operator 112 113 (codes "{")) ∷ (tok Operator 113 114 (codes "{")) ∷ (tok Str 114 117 (codes "\"a\"")) ∷ (tok Operator 117 118 (codes "}")) ∷ (tok Operator 118 119 (codes ",")) ∷ (tok Operator 120 121 (codes "{")) ∷ (tok Str 121 125 (codes "\"bc\"")) ∷ (tok Operator 125 126 (codes "}")) ∷ (tok Operator 126 127 (codes "}")) ∷ (tok Inserted 127 127 (codes ";")) ∷ (tok Operator 140 141 (codes "}")) ∷ (tok Inserted 141 141 (codes ";")) ∷ (tok Keyword 143 147 (codes "func")) ∷ (tok Ident 148 152 (codes "main")) ∷ (tok Operator 152 153 (codes "(")) ∷ (tok Operator 153 154 (codes ")")) ∷ (tok Operator 155 156 (codes "{")) ∷ (tok Ident 158 162 (codes "rows")) ∷ (tok Operator 163 165 (codes ":=")) ∷ (tok Ident 166 170 (codes "load")) ∷ (tok Operator 170 171 (codes "(")) ∷ (tok Operator 171 172 (codes ")")) ∷ (tok Inserted 172 172 (codes ";")) ∷ (tok Keyword 174 177 (codes "for")) ∷ (tok Ident 178 179 (codes "i")) ∷ (tok Operator 180 182 (codes ":=")) ∷ (tok Integer 183 184 (codes "0")) ∷ (tok Operator 184 185 (codes ";")) ∷ (tok Ident 186 187 (codes "i")) ∷ (tok Operator 188 189 (codes "<")) ∷ (tok Integer 190 191 (codes "2")) ∷ (tok Operator 191 192 (codes ";")) ∷ (tok Ident 193 194 (codes "i")) ∷ (tok Operator 194 196 (codes "++")) ∷ (tok Operator 197 198 (codes "{")) ∷ (tok Ident 201 208 (codes "println")) ∷ (tok Operator 208 209 (codes "(")) ∷ (tok Ident 209 212 (codes "lib")) ∷ (tok Operator 212 213 (codes ".")) ∷ (tok Ident 213 220 (codes "PadLeft")) ∷ (tok Operator 220 221 (codes "(")) ∷ (tok Ident 221 225 (codes "rows")) ∷ (tok Operator 225 226 (codes "[")) ∷ (tok Ident 226 227 (codes "i")) ∷ (tok Operator 227 228 (codes "]")) ∷ (tok Operator 228 229 (codes ".")) ∷ (tok Ident 229 233 (codes "Body")) ∷ (tok Operator 233 234 (codes ",")) ∷ (tok Ident 235 238 (codes "lib")) ∷ (tok Operator 238 239 (codes ".")) ∷ (tok Ident 239 247 (codes "MaxWidth")) ∷ (tok Operator 247 248 (codes ")")) ∷ (tok Operator 248 249 (codes ")")) ∷ (tok Inserted 249 249 (codes ";")) ∷ (tok Operator 251 252 (codes "}")) ∷ (tok Inserted 252 252 (codes ";")) ∷ (tok Ident 254 257 (codes "lib")) ∷ (tok Operator 257 258 (codes ".")) ∷ (tok Ident 258 262 (codes "Show")) ∷ (tok Operator 262 263 (codes "(")) ∷ (tok Ident 263 267 (codes "rows")) ∷ (tok Operator 267 268 (codes ",")) ∷ (tok Integer 269 270 (codes "4")) ∷ (tok Operator 270 271 (codes ")")) ∷ (tok Inserted 271 271 (codes ";")) ∷ (tok Ident 273 280 (codes "println")) ∷ (tok Operator 280 281 (codes "(")) ∷ (tok Ident 281 284 (codes "lib")) ∷ (tok Operator 284 285 (codes ".")) ∷ (tok Ident 285 290 (codes "Total")) ∷ (tok Operator 290 291 (codes "(")) ∷ (tok Ident 291 295 (codes "rows")) ∷ (tok Operator 295 296 (codes ")")) ∷ (tok Operator 296 297 (codes ")")) ∷ (tok Inserted 297 297 (codes ";")) ∷ (tok Operator 298 299 (codes "}")) ∷ (tok Inserted 299 299 (codes ";")) ∷ []); comments = ((note 128 139) ∷ []) })
 
 abbrev library_tree3 : File At
-library_tree3 = record { package_name = (nmf 8 12 8 12 (codes "main")); imports = ((imps (from 14 67 14 43) true ((imp (from 24 41 24 41) None (codes "example.com/lib")) ∷ (imp (from 43 65 59 66) None (codes "example.com/lib/text")) ∷ [])) ∷ []); decls = ((fn (from 69 141 45 115) None (nmf 74 78 50 54 (codes "load")) (sig [] ((param (from 81 92 57 66) None (slice_type (from 81 92 57 66) (named (from 83 92 59 66) (Some (nmf 83 87 59 66 (codes "text"))) (nmf 88 92 59 66 (codes "Line"))))) ∷ [])) (from 93 141 67 115) (stmt_and (return_ (from 96 127 70 101) (expr_and (composite (from 103 127 77 101) (slice_type (from 103 112 77 86) (named (from 105 112 79 86) (Some (nmf 105 108 79 82 (codes "lib"))) (nmf 109 112 83 86 (codes "Row")))) (elem (from 113 118 87 92) no_value (braced (from 113 118 87 92) (elem (from 114 117 88 91) no_value (plain (str_lit (from 114 117 88 91) (codes "\"a\""))) no_elems)) (elem (from 120 126 94 100) no_value (braced (from 120 126 94 100) (elem (from 121 125 95 99) no_value (plain (str_lit (from 121 125 95 99) (codes "\"bc\""))) no_elems)) no_elems))) no_exprs)) no_stmts)) ∷ (fn (from 143 299 117 273) None (nmf 148 152 122 126 (codes "main")) (sig [] []) (from 155 299 129 273) (stmt_and (define (from 158 172 132 146) ((nmf 158 162 132 136 (codes "rows")) ∷ []) (expr_and (call (from 166 172 140 146) (ident (from 166 170 140 144) (codes "load")) no_exprs Plain) no_exprs)) (stmt_and (for_ (from 174 252 148 226) (some_stmt (define (from 178 184 152 158) ((nmf 178 179 152 153 (codes "i")) ∷ []) (expr_and (int_lit (from 183 184 157 158) (codes "0")) no_exprs))) (some_expr (binary (from 186 191 160 165) Lt (ident (from 186 187 160 161) (codes "i")) (int_lit (from 190 191 164 165) (codes "2")))) (some_stmt (step (from 193 196 167 170) (ident (from 193 194 167 168) (codes "i")) true)) (from 197 252 171 226) (stmt_and (eval (from 201 249 175 223) (call (from 201 249 175 223) (ident (from 201 208 175 182) (codes "println")) (expr_and (call (from 209 248 183 222) (selector (from 209 220 183 194) (ident (from 209 212 183 186) (codes "lib")) (nmf 213 220 187 194 (codes "PadLeft"))) (expr_and (selector (from 221 233 195 207) (index (from 221 228 195 202) (ident (from 221 225 195 199) (codes "rows")) (ident (from 226 227 200 201) (codes "i"))) (nmf 229 233 203 207 (codes "Body"))) (expr_and (selector (from 235 247 209 221) (ident (from 235 238 209 212) (codes "lib")) (nmf 239 247 213 221 (codes "MaxWidth"))) no_exprs)) Plain) no_exprs) Plain)) no_stmts)) (stmt_and (eval (from 254 271 228 245) (call (from 254 271 228 245) (selector (from 254 262 228 236) (ident (from 254 257 228 231) (codes "lib")) (nmf 258 262 232 236 (codes "Show"))) (expr_and (ident (from 263 267 237 241) (codes "rows")) (expr_and (int_lit (from 269 270 243 244) (codes "4")) no_exprs)) Plain)) (stmt_and (eval (from 273 297 247 271) (call (from 273 297 247 271) (ident (from 273 280 247 254) (codes "println")) (expr_and (call (from 281 296 255 270) (selector (from 281 290 255 264) (ident (from 281 284 255 258) (codes "lib")) (nmf 285 290 259 264 (codes "Total"))) (expr_and (ident (from 291 295 265 269) (codes "rows")) no_exprs) Plain) no_exprs) Plain)) no_stmts))))) ∷ []) }
+library_tree3 = record { package_name = (nmf 8 12 8 12 (codes "main")); imports = ((imps (from 14 67 14 67) true ((imp (from 24 41 24 41) None (codes "example.com/lib")) ∷ (imp (from 43 65 43 65) None (codes "example.com/lib/text")) ∷ [])) ∷ []); decls = ((fn (from 69 141 45 115) None (nmf 74 78 50 54 (codes "load")) (sig [] ((param (from 81 92 57 66) None (slice_type (from 81 92 57 66) (named (from 83 92 59 66) (Some (nmf 83 87 59 66 (codes "text"))) (nmf 88 92 59 66 (codes "Line"))))) ∷ [])) (from 93 141 67 115) (stmt_and (return_ (from 96 127 70 101) (expr_and (composite (from 103 127 77 101) (slice_type (from 103 112 77 86) (named (from 105 112 79 86) (Some (nmf 105 108 79 82 (codes "lib"))) (nmf 109 112 83 86 (codes "Row")))) (elem (from 113 118 87 92) no_value (braced (from 113 118 87 92) (elem (from 114 117 88 91) no_value (plain (str_lit (from 114 117 88 91) (codes "\"a\""))) no_elems)) (elem (from 120 126 94 100) no_value (braced (from 120 126 94 100) (elem (from 121 125 95 99) no_value (plain (str_lit (from 121 125 95 99) (codes "\"bc\""))) no_elems)) no_elems))) no_exprs)) no_stmts)) ∷ (fn (from 143 299 117 273) None (nmf 148 152 122 126 (codes "main")) (sig [] []) (from 155 299 129 273) (stmt_and (define (from 158 172 132 146) ((nmf 158 162 132 136 (codes "rows")) ∷ []) (expr_and (call (from 166 172 140 146) (ident (from 166 170 140 144) (codes "load")) no_exprs Plain) no_exprs)) (stmt_and (for_ (from 174 252 148 226) (some_stmt (define (from 178 184 152 158) ((nmf 178 179 152 153 (codes "i")) ∷ []) (expr_and (int_lit (from 183 184 157 158) (codes "0")) no_exprs))) (some_expr (binary (from 186 191 160 165) Lt (ident (from 186 187 160 161) (codes "i")) (int_lit (from 190 191 164 165) (codes "2")))) (some_stmt (step (from 193 196 167 170) (ident (from 193 194 167 168) (codes "i")) true)) (from 197 252 171 226) (stmt_and (eval (from 201 249 175 223) (call (from 201 249 175 223) (ident (from 201 208 175 182) (codes "println")) (expr_and (call (from 209 248 183 222) (selector (from 209 220 183 194) (ident (from 209 212 183 186) (codes "lib")) (nmf 213 220 187 194 (codes "PadLeft"))) (expr_and (selector (from 221 233 195 207) (index (from 221 228 195 202) (ident (from 221 225 195 199) (codes "rows")) (ident (from 226 227 200 201) (codes "i"))) (nmf 229 233 203 207 (codes "Body"))) (expr_and (selector (from 235 247 209 221) (ident (from 235 238 209 212) (codes "lib")) (nmf 239 247 213 221 (codes "MaxWidth"))) no_exprs)) Plain) no_exprs) Plain)) no_stmts)) (stmt_and (eval (from 254 271 228 245) (call (from 254 271 228 245) (selector (from 254 262 228 236) (ident (from 254 257 228 231) (codes "lib")) (nmf 258 262 232 236 (codes "Show"))) (expr_and (ident (from 263 267 237 241) (codes "rows")) (expr_and (int_lit (from 269 270 243 244) (codes "4")) no_exprs)) Plain)) (stmt_and (eval (from 273 297 247 271) (call (from 273 297 247 271) (ident (from 273 280 247 254) (codes "println")) (expr_and (call (from 281 296 255 270) (selector (from 281 290 255 264) (ident (from 281 284 255 258) (codes "lib")) (nmf 285 290 259 264 (codes "Total"))) (expr_and (ident (from 291 295 265 269) (codes "rows")) no_exprs) Plain) no_exprs) Plain)) no_stmts))))) ∷ []) }
 
 library_steps3 : is_some (step_in library.marks library_s2) ≡ true
 unfolding passes keyword_spellings is_inline digits
@@ -136,7 +144,7 @@ abbrev library_n4 : FileText
 library_n4 = (record { text = (codes "package main\n\nimport (\n\t\"example.com/lib\"\n\t\"example.com/lib/text\"\n)\n\nfunc load() []text.Line {\n\treturn []text.Line{{\"a\"}, {\"bc\"}} // two rows\n}\n\nfunc main() {\n\trows := load()\n\tfor i := 0; i < 2; i++ {\n\t\tprintln(lib.PadLeft(rows[i].Body, lib.MaxWidth))\n\t}\n\tlib.Show(rows, 4)\n\tprintln(lib.Total(rows))\n}\n"); tokens = ((tok Keyword 0 7 (codes "package")) ∷ (tok Ident 8 12 (codes "main")) ∷ (tok Inserted 12 12 (codes ";")) ∷ (tok Keyword 14 20 (codes "import")) ∷ (tok Operator 21 22 (codes "(")) ∷ (tok Str 24 41 (codes "\"example.com/lib\"")) ∷ (tok Inserted 41 41 (codes ";")) ∷ (tok Str 43 65 (codes "\"example.com/lib/text\"")) ∷ (tok Inserted 65 65 (codes ";")) ∷ (tok Operator 66 67 (codes ")")) ∷ (tok Inserted 67 67 (codes ";")) ∷ (tok Keyword 69 73 (codes "func")) ∷ (tok Ident 74 78 (codes "load")) ∷ (tok Operator 78 79 (codes "(")) ∷ (tok Operator 79 80 (codes ")")) ∷ (tok Operator 81 82 (codes "[")) ∷ (tok Operator 82 83 (codes "]")) ∷ (tok Ident 83 87 (codes "text")) ∷ (tok Operator 87 88 (codes ".")) ∷ (tok Ident 88 92 (codes "Line")) ∷ (tok Operator 93 94 (codes "{")) ∷ (tok Keyword 96 102 (codes "return")) ∷ (tok Operator 103 104 (codes "[")) ∷ (tok Operator 104 105 (codes "]")) ∷ (tok Ident 105 109 (codes "text")) ∷ (tok Operator 109 110 (codes ".")) ∷ (tok Ident 110 114 (codes "Line")) ∷ (tok Operator 114 115 (codes "{")) ∷ (tok Operator 115 116 (codes "{")) ∷ (tok Str 116 119 (codes "\"a\"")) ∷ (tok Operator 119 120 (codes "}")) ∷ (tok Operator 120 121 (codes ",")) ∷ (tok Operator 122 123 (codes "{")) ∷ (tok Str 123 127 (codes "\"bc\"")) ∷ (tok Operator 127 128 (codes "}")) ∷ (tok Operator 128 129 (codes "}")) ∷ (tok Inserted 129 129 (codes ";")) ∷ (tok Operator 142 143 (codes "}")) ∷ (tok Inserted 143 143 (codes ";")) ∷ (tok Keyword 145 149 (codes "func")) ∷ (tok Ident 150 154 (codes "main")) ∷ (tok Operator 154 155 (codes "(")) ∷ (tok Operator 155 156 (codes ")")) ∷ (tok Operator 157 158 (codes "{")) ∷ (tok Ident 160 164 (codes "rows")) ∷ (tok Operator 165 167 (codes ":=")) ∷ (tok Ident 168 172 (codes "load")) ∷ (tok Operator 172 173 (codes "(")) ∷ (tok Operator 173 174 (codes ")")) ∷ (tok Inserted 174 174 (codes ";")) ∷ (tok Keyword 176 179 (codes "for")) ∷ (tok Ident 180 181 (codes "i")) ∷ (tok Operator 182 184 (codes ":=")) ∷ (tok Integer 185 186 (codes "0")) ∷ (tok Operator 186 187 (codes ";")) ∷ (tok Ident 188 189 (codes "i")) ∷ (tok Operator 190 191 (codes "<")) ∷ (tok Integer 192 193 (codes "2")) ∷ (tok Operator 193 194 (codes ";")) ∷ (tok Ident 195 196 (codes "i")) ∷ (tok Operator 196 198 (codes "++")) ∷ (tok Operator 199 200 (codes "{")) ∷ (tok Ident 203 210 (codes "println")) ∷ (tok Operator 210 211 (codes "(")) ∷ (tok Ident 211 214 (codes "lib")) ∷ (tok Operator 214 215 (codes ".")) ∷ (tok Ident 215 222 (codes "PadLeft")) ∷ (tok Operator 222 223 (codes "(")) ∷ (tok Ident 223 227 (codes "rows")) ∷ (tok Operator 227 228 (codes "[")) ∷ (tok Ident 228 229 (codes "i")) ∷ (tok Operator 229 230 (codes "]")) ∷ (tok Operator 230 231 (codes ".")) ∷ (tok Ident 231 235 (codes "Body")) ∷ (tok Operator 235 236 (codes ",")) ∷ (tok Ident 237 240 (codes "lib")) ∷ (tok Operator 240 241 (codes ".")) ∷ (tok Ident 241 249 (codes "MaxWidth")) ∷ (tok Operator 249 250 (codes ")")) ∷ (tok Operator 250 251 (codes ")")) ∷ (tok Inserted 251 251 (codes ";")) ∷ (tok Operator 253 254 (codes "}")) ∷ (tok Inserted 254 254 (codes ";")) ∷ (tok Ident 256 259 (codes "lib")) ∷ (tok Operator 259 260 (codes ".")) ∷ (tok Ident 260 264 (codes "Show")) ∷ (tok Operator 264 265 (codes "(")) ∷ (tok Ident 265 269 (codes "rows")) ∷ (tok Operator 269 270 (codes ",")) ∷ (tok Integer 271 272 (codes "4")) ∷ (tok Operator 272 273 (codes ")")) ∷ (tok Inserted 273 273 (codes ";")) ∷ (tok Ident 275 282 (codes "println")) ∷ (tok Operator 282 283 (codes "(")) ∷ (tok Ident 283 286 (codes "lib")) ∷ (tok Operator 286 287 (codes ".")) ∷ (tok Ident 287 292 (codes "Total")) ∷ (tok Operator 292 293 (codes "(")) ∷ (tok Ident 293 297 (codes "rows")) ∷ (tok Operator 297 298 (codes ")")) ∷ (tok Operator 298 299 (codes ")")) ∷ (tok Inserted 299 299 (codes ";")) ∷ (tok Operator 300 301 (codes "}")) ∷ (tok Inserted 301 301 (codes ";")) ∷ []); comments = ((note 130 141) ∷ []) })
 
 abbrev library_tree4 : File At
-library_tree4 = record { package_name = (nmf 8 12 8 12 (codes "main")); imports = ((imps (from 14 67 14 43) true ((imp (from 24 41 24 41) None (codes "example.com/lib")) ∷ (imp (from 43 65 59 66) None (codes "example.com/lib/text")) ∷ [])) ∷ []); decls = ((fn (from 69 143 45 115) None (nmf 74 78 50 54 (codes "load")) (sig [] ((param (from 81 92 57 66) None (slice_type (from 81 92 57 66) (named (from 83 92 59 66) (Some (nmf 83 87 59 66 (codes "text"))) (nmf 88 92 59 66 (codes "Line"))))) ∷ [])) (from 93 143 67 115) (stmt_and (return_ (from 96 129 70 101) (expr_and (composite (from 103 129 77 101) (slice_type (from 103 114 77 86) (named (from 105 114 79 86) (Some (nmf 105 109 79 86 (codes "text"))) (nmf 110 114 79 86 (codes "Line")))) (elem (from 115 120 87 92) no_value (braced (from 115 120 87 92) (elem (from 116 119 88 91) no_value (plain (str_lit (from 116 119 88 91) (codes "\"a\""))) no_elems)) (elem (from 122 128 94 100) no_value (braced (from 122 128 94 100) (elem (from 123 127 95 99) no_value (plain (str_lit (from 123 127 95 99) (codes "\"bc\""))) no_elems)) no_elems))) no_exprs)) no_stmts)) ∷ (fn (from 145 301 117 273) None (nmf 150 154 122 126 (codes "main")) (sig [] []) (from 157 301 129 273) (stmt_and (define (from 160 174 132 146) ((nmf 160 164 132 136 (codes "rows")) ∷ []) (expr_and (call (from 168 174 140 146) (ident (from 168 172 140 144) (codes "load")) no_exprs Plain) no_exprs)) (stmt_and (for_ (from 176 254 148 226) (some_stmt (define (from 180 186 152 158) ((nmf 180 181 152 153 (codes "i")) ∷ []) (expr_and (int_lit (from 185 186 157 158) (codes "0")) no_exprs))) (some_expr (binary (from 188 193 160 165) Lt (ident (from 188 189 160 161) (codes "i")) (int_lit (from 192 193 164 165) (codes "2")))) (some_stmt (step (from 195 198 167 170) (ident (from 195 196 167 168) (codes "i")) true)) (from 199 254 171 226) (stmt_and (eval (from 203 251 175 223) (call (from 203 251 175 223) (ident (from 203 210 175 182) (codes "println")) (expr_and (call (from 211 250 183 222) (selector (from 211 222 183 194) (ident (from 211 214 183 186) (codes "lib")) (nmf 215 222 187 194 (codes "PadLeft"))) (expr_and (selector (from 223 235 195 207) (index (from 223 230 195 202) (ident (from 223 227 195 199) (codes "rows")) (ident (from 228 229 200 201) (codes "i"))) (nmf 231 235 203 207 (codes "Body"))) (expr_and (selector (from 237 249 209 221) (ident (from 237 240 209 212) (codes "lib")) (nmf 241 249 213 221 (codes "MaxWidth"))) no_exprs)) Plain) no_exprs) Plain)) no_stmts)) (stmt_and (eval (from 256 273 228 245) (call (from 256 273 228 245) (selector (from 256 264 228 236) (ident (from 256 259 228 231) (codes "lib")) (nmf 260 264 232 236 (codes "Show"))) (expr_and (ident (from 265 269 237 241) (codes "rows")) (expr_and (int_lit (from 271 272 243 244) (codes "4")) no_exprs)) Plain)) (stmt_and (eval (from 275 299 247 271) (call (from 275 299 247 271) (ident (from 275 282 247 254) (codes "println")) (expr_and (call (from 283 298 255 270) (selector (from 283 292 255 264) (ident (from 283 286 255 258) (codes "lib")) (nmf 287 292 259 264 (codes "Total"))) (expr_and (ident (from 293 297 265 269) (codes "rows")) no_exprs) Plain) no_exprs) Plain)) no_stmts))))) ∷ []) }
+library_tree4 = record { package_name = (nmf 8 12 8 12 (codes "main")); imports = ((imps (from 14 67 14 67) true ((imp (from 24 41 24 41) None (codes "example.com/lib")) ∷ (imp (from 43 65 43 65) None (codes "example.com/lib/text")) ∷ [])) ∷ []); decls = ((fn (from 69 143 45 115) None (nmf 74 78 50 54 (codes "load")) (sig [] ((param (from 81 92 57 66) None (slice_type (from 81 92 57 66) (named (from 83 92 59 66) (Some (nmf 83 87 59 66 (codes "text"))) (nmf 88 92 59 66 (codes "Line"))))) ∷ [])) (from 93 143 67 115) (stmt_and (return_ (from 96 129 70 101) (expr_and (composite (from 103 129 77 101) (slice_type (from 103 114 77 86) (named (from 105 114 79 86) (Some (nmf 105 109 79 86 (codes "text"))) (nmf 110 114 79 86 (codes "Line")))) (elem (from 115 120 87 92) no_value (braced (from 115 120 87 92) (elem (from 116 119 88 91) no_value (plain (str_lit (from 116 119 88 91) (codes "\"a\""))) no_elems)) (elem (from 122 128 94 100) no_value (braced (from 122 128 94 100) (elem (from 123 127 95 99) no_value (plain (str_lit (from 123 127 95 99) (codes "\"bc\""))) no_elems)) no_elems))) no_exprs)) no_stmts)) ∷ (fn (from 145 301 117 273) None (nmf 150 154 122 126 (codes "main")) (sig [] []) (from 157 301 129 273) (stmt_and (define (from 160 174 132 146) ((nmf 160 164 132 136 (codes "rows")) ∷ []) (expr_and (call (from 168 174 140 146) (ident (from 168 172 140 144) (codes "load")) no_exprs Plain) no_exprs)) (stmt_and (for_ (from 176 254 148 226) (some_stmt (define (from 180 186 152 158) ((nmf 180 181 152 153 (codes "i")) ∷ []) (expr_and (int_lit (from 185 186 157 158) (codes "0")) no_exprs))) (some_expr (binary (from 188 193 160 165) Lt (ident (from 188 189 160 161) (codes "i")) (int_lit (from 192 193 164 165) (codes "2")))) (some_stmt (step (from 195 198 167 170) (ident (from 195 196 167 168) (codes "i")) true)) (from 199 254 171 226) (stmt_and (eval (from 203 251 175 223) (call (from 203 251 175 223) (ident (from 203 210 175 182) (codes "println")) (expr_and (call (from 211 250 183 222) (selector (from 211 222 183 194) (ident (from 211 214 183 186) (codes "lib")) (nmf 215 222 187 194 (codes "PadLeft"))) (expr_and (selector (from 223 235 195 207) (index (from 223 230 195 202) (ident (from 223 227 195 199) (codes "rows")) (ident (from 228 229 200 201) (codes "i"))) (nmf 231 235 203 207 (codes "Body"))) (expr_and (selector (from 237 249 209 221) (ident (from 237 240 209 212) (codes "lib")) (nmf 241 249 213 221 (codes "MaxWidth"))) no_exprs)) Plain) no_exprs) Plain)) no_stmts)) (stmt_and (eval (from 256 273 228 245) (call (from 256 273 228 245) (selector (from 256 264 228 236) (ident (from 256 259 228 231) (codes "lib")) (nmf 260 264 232 236 (codes "Show"))) (expr_and (ident (from 265 269 237 241) (codes "rows")) (expr_and (int_lit (from 271 272 243 244) (codes "4")) no_exprs)) Plain)) (stmt_and (eval (from 275 299 247 271) (call (from 275 299 247 271) (ident (from 275 282 247 254) (codes "println")) (expr_and (call (from 283 298 255 270) (selector (from 283 292 255 264) (ident (from 283 286 255 258) (codes "lib")) (nmf 287 292 259 264 (codes "Total"))) (expr_and (ident (from 293 297 265 269) (codes "rows")) no_exprs) Plain) no_exprs) Plain)) no_stmts))))) ∷ []) }
 
 library_steps4 : is_some (step_in library.marks library_s3) ≡ true
 unfolding passes keyword_spellings is_inline digits
@@ -156,7 +164,7 @@ abbrev library_n5 : FileText
 library_n5 = (record { text = (codes "package main\n\nimport (\n\t\"example.com/lib\"\n\t\"example.com/lib/text\"\n)\n\nfunc load() []text.Line {\n\treturn []text.Line{{\"a\"}, {\"bc\"}} // two rows\n}\n\nfunc main() {\n\trows := load()\n\tfor i := 0; i < 2; i++ {\n\t\tprintln(lib.PadLeft(rows[i].Body, text.Wide))\n\t}\n\tlib.Show(rows, 4)\n\tprintln(lib.Total(rows))\n}\n"); tokens = ((tok Keyword 0 7 (codes "package")) ∷ (tok Ident 8 12 (codes "main")) ∷ (tok Inserted 12 12 (codes ";")) ∷ (tok Keyword 14 20 (codes "import")) ∷ (tok Operator 21 22 (codes "(")) ∷ (tok Str 24 41 (codes "\"example.com/lib\"")) ∷ (tok Inserted 41 41 (codes ";")) ∷ (tok Str 43 65 (codes "\"example.com/lib/text\"")) ∷ (tok Inserted 65 65 (codes ";")) ∷ (tok Operator 66 67 (codes ")")) ∷ (tok Inserted 67 67 (codes ";")) ∷ (tok Keyword 69 73 (codes "func")) ∷ (tok Ident 74 78 (codes "load")) ∷ (tok Operator 78 79 (codes "(")) ∷ (tok Operator 79 80 (codes ")")) ∷ (tok Operator 81 82 (codes "[")) ∷ (tok Operator 82 83 (codes "]")) ∷ (tok Ident 83 87 (codes "text")) ∷ (tok Operator 87 88 (codes ".")) ∷ (tok Ident 88 92 (codes "Line")) ∷ (tok Operator 93 94 (codes "{")) ∷ (tok Keyword 96 102 (codes "return")) ∷ (tok Operator 103 104 (codes "[")) ∷ (tok Operator 104 105 (codes "]")) ∷ (tok Ident 105 109 (codes "text")) ∷ (tok Operator 109 110 (codes ".")) ∷ (tok Ident 110 114 (codes "Line")) ∷ (tok Operator 114 115 (codes "{")) ∷ (tok Operator 115 116 (codes "{")) ∷ (tok Str 116 119 (codes "\"a\"")) ∷ (tok Operator 119 120 (codes "}")) ∷ (tok Operator 120 121 (codes ",")) ∷ (tok Operator 122 123 (codes "{")) ∷ (tok Str 123 127 (codes "\"bc\"")) ∷ (tok Operator 127 128 (codes "}")) ∷ (tok Operator 128 129 (codes "}")) ∷ (tok Inserted 129 129 (codes ";")) ∷ (tok Operator 142 143 (codes "}")) ∷ (tok Inserted 143 143 (codes ";")) ∷ (tok Keyword 145 149 (codes "func")) ∷ (tok Ident 150 154 (codes "main")) ∷ (tok Operator 154 155 (codes "(")) ∷ (tok Operator 155 156 (codes ")")) ∷ (tok Operator 157 158 (codes "{")) ∷ (tok Ident 160 164 (codes "rows")) ∷ (tok Operator 165 167 (codes ":=")) ∷ (tok Ident 168 172 (codes "load")) ∷ (tok Operator 172 173 (codes "(")) ∷ (tok Operator 173 174 (codes ")")) ∷ (tok Inserted 174 174 (codes ";")) ∷ (tok Keyword 176 179 (codes "for")) ∷ (tok Ident 180 181 (codes "i")) ∷ (tok Operator 182 184 (codes ":=")) ∷ (tok Integer 185 186 (codes "0")) ∷ (tok Operator 186 187 (codes ";")) ∷ (tok Ident 188 189 (codes "i")) ∷ (tok Operator 190 191 (codes "<")) ∷ (tok Integer 192 193 (codes "2")) ∷ (tok Operator 193 194 (codes ";")) ∷ (tok Ident 195 196 (codes "i")) ∷ (tok Operator 196 198 (codes "++")) ∷ (tok Operator 199 200 (codes "{")) ∷ (tok Ident 203 210 (codes "println")) ∷ (tok Operator 210 211 (codes "(")) ∷ (tok Ident 211 214 (codes "lib")) ∷ (tok Operator 214 215 (codes ".")) ∷ (tok Ident 215 222 (codes "PadLeft")) ∷ (tok Operator 222 223 (codes "(")) ∷ (tok Ident 223 227 (codes "rows")) ∷ (tok Operator 227 228 (codes "[")) ∷ (tok Ident 228 229 (codes "i")) ∷ (tok Operator 229 230 (codes "]")) ∷ (tok Operator 230 231 (codes ".")) ∷ (tok Ident 231 235 (codes "Body")) ∷ (tok Operator 235 236 (codes ",")) ∷ (tok Ident 237 241 (codes "text")) ∷ (tok Operator 241 242 (codes ".")) ∷ (tok Ident 242 246 (codes "Wide")) ∷ (tok Operator 246 247 (codes ")")) ∷ (tok Operator 247 248 (codes ")")) ∷ (tok Inserted 248 248 (codes ";")) ∷ (tok Operator 250 251 (codes "}")) ∷ (tok Inserted 251 251 (codes ";")) ∷ (tok Ident 253 256 (codes "lib")) ∷ (tok Operator 256 257 (codes ".")) ∷ (tok Ident 257 261 (codes "Show")) ∷ (tok Operator 261 262 (codes "(")) ∷ (tok Ident 262 266 (codes "rows")) ∷ (tok Operator 266 267 (codes ",")) ∷ (tok Integer 268 269 (codes "4")) ∷ (tok Operator 269 270 (codes ")")) ∷ (tok Inserted 270 270 (codes ";")) ∷ (tok Ident 272 279 (codes "println")) ∷ (tok Operator 279 280 (codes "(")) ∷ (tok Ident 280 283 (codes "lib")) ∷ (tok Operator 283 284 (codes ".")) ∷ (tok Ident 284 289 (codes "Total")) ∷ (tok Operator 289 290 (codes "(")) ∷ (tok Ident 290 294 (codes "rows")) ∷ (tok Operator 294 295 (codes ")")) ∷ (tok Operator 295 296 (codes ")")) ∷ (tok Inserted 296 296 (codes ";")) ∷ (tok Operator 297 298 (codes "}")) ∷ (tok Inserted 298 298 (codes ";")) ∷ []); comments = ((note 130 141) ∷ []) })
 
 abbrev library_tree5 : File At
-library_tree5 = record { package_name = (nmf 8 12 8 12 (codes "main")); imports = ((imps (from 14 67 14 43) true ((imp (from 24 41 24 41) None (codes "example.com/lib")) ∷ (imp (from 43 65 59 66) None (codes "example.com/lib/text")) ∷ [])) ∷ []); decls = ((fn (from 69 143 45 115) None (nmf 74 78 50 54 (codes "load")) (sig [] ((param (from 81 92 57 66) None (slice_type (from 81 92 57 66) (named (from 83 92 59 66) (Some (nmf 83 87 59 66 (codes "text"))) (nmf 88 92 59 66 (codes "Line"))))) ∷ [])) (from 93 143 67 115) (stmt_and (return_ (from 96 129 70 101) (expr_and (composite (from 103 129 77 101) (slice_type (from 103 114 77 86) (named (from 105 114 79 86) (Some (nmf 105 109 79 86 (codes "text"))) (nmf 110 114 79 86 (codes "Line")))) (elem (from 115 120 87 92) no_value (braced (from 115 120 87 92) (elem (from 116 119 88 91) no_value (plain (str_lit (from 116 119 88 91) (codes "\"a\""))) no_elems)) (elem (from 122 128 94 100) no_value (braced (from 122 128 94 100) (elem (from 123 127 95 99) no_value (plain (str_lit (from 123 127 95 99) (codes "\"bc\""))) no_elems)) no_elems))) no_exprs)) no_stmts)) ∷ (fn (from 145 298 117 273) None (nmf 150 154 122 126 (codes "main")) (sig [] []) (from 157 298 129 273) (stmt_and (define (from 160 174 132 146) ((nmf 160 164 132 136 (codes "rows")) ∷ []) (expr_and (call (from 168 174 140 146) (ident (from 168 172 140 144) (codes "load")) no_exprs Plain) no_exprs)) (stmt_and (for_ (from 176 251 148 226) (some_stmt (define (from 180 186 152 158) ((nmf 180 181 152 153 (codes "i")) ∷ []) (expr_and (int_lit (from 185 186 157 158) (codes "0")) no_exprs))) (some_expr (binary (from 188 193 160 165) Lt (ident (from 188 189 160 161) (codes "i")) (int_lit (from 192 193 164 165) (codes "2")))) (some_stmt (step (from 195 198 167 170) (ident (from 195 196 167 168) (codes "i")) true)) (from 199 251 171 226) (stmt_and (eval (from 203 248 175 223) (call (from 203 248 175 223) (ident (from 203 210 175 182) (codes "println")) (expr_and (call (from 211 247 183 222) (selector (from 211 222 183 194) (ident (from 211 214 183 186) (codes "lib")) (nmf 215 222 187 194 (codes "PadLeft"))) (expr_and (selector (from 223 235 195 207) (index (from 223 230 195 202) (ident (from 223 227 195 199) (codes "rows")) (ident (from 228 229 200 201) (codes "i"))) (nmf 231 235 203 207 (codes "Body"))) (expr_and (selector (from 237 246 209 221) (ident (from 237 241 209 221) (codes "text")) (nmf 242 246 209 221 (codes "Wide"))) no_exprs)) Plain) no_exprs) Plain)) no_stmts)) (stmt_and (eval (from 253 270 228 245) (call (from 253 270 228 245) (selector (from 253 261 228 236) (ident (from 253 256 228 231) (codes "lib")) (nmf 257 261 232 236 (codes "Show"))) (expr_and (ident (from 262 266 237 241) (codes "rows")) (expr_and (int_lit (from 268 269 243 244) (codes "4")) no_exprs)) Plain)) (stmt_and (eval (from 272 296 247 271) (call (from 272 296 247 271) (ident (from 272 279 247 254) (codes "println")) (expr_and (call (from 280 295 255 270) (selector (from 280 289 255 264) (ident (from 280 283 255 258) (codes "lib")) (nmf 284 289 259 264 (codes "Total"))) (expr_and (ident (from 290 294 265 269) (codes "rows")) no_exprs) Plain) no_exprs) Plain)) no_stmts))))) ∷ []) }
+library_tree5 = record { package_name = (nmf 8 12 8 12 (codes "main")); imports = ((imps (from 14 67 14 67) true ((imp (from 24 41 24 41) None (codes "example.com/lib")) ∷ (imp (from 43 65 43 65) None (codes "example.com/lib/text")) ∷ [])) ∷ []); decls = ((fn (from 69 143 45 115) None (nmf 74 78 50 54 (codes "load")) (sig [] ((param (from 81 92 57 66) None (slice_type (from 81 92 57 66) (named (from 83 92 59 66) (Some (nmf 83 87 59 66 (codes "text"))) (nmf 88 92 59 66 (codes "Line"))))) ∷ [])) (from 93 143 67 115) (stmt_and (return_ (from 96 129 70 101) (expr_and (composite (from 103 129 77 101) (slice_type (from 103 114 77 86) (named (from 105 114 79 86) (Some (nmf 105 109 79 86 (codes "text"))) (nmf 110 114 79 86 (codes "Line")))) (elem (from 115 120 87 92) no_value (braced (from 115 120 87 92) (elem (from 116 119 88 91) no_value (plain (str_lit (from 116 119 88 91) (codes "\"a\""))) no_elems)) (elem (from 122 128 94 100) no_value (braced (from 122 128 94 100) (elem (from 123 127 95 99) no_value (plain (str_lit (from 123 127 95 99) (codes "\"bc\""))) no_elems)) no_elems))) no_exprs)) no_stmts)) ∷ (fn (from 145 298 117 273) None (nmf 150 154 122 126 (codes "main")) (sig [] []) (from 157 298 129 273) (stmt_and (define (from 160 174 132 146) ((nmf 160 164 132 136 (codes "rows")) ∷ []) (expr_and (call (from 168 174 140 146) (ident (from 168 172 140 144) (codes "load")) no_exprs Plain) no_exprs)) (stmt_and (for_ (from 176 251 148 226) (some_stmt (define (from 180 186 152 158) ((nmf 180 181 152 153 (codes "i")) ∷ []) (expr_and (int_lit (from 185 186 157 158) (codes "0")) no_exprs))) (some_expr (binary (from 188 193 160 165) Lt (ident (from 188 189 160 161) (codes "i")) (int_lit (from 192 193 164 165) (codes "2")))) (some_stmt (step (from 195 198 167 170) (ident (from 195 196 167 168) (codes "i")) true)) (from 199 251 171 226) (stmt_and (eval (from 203 248 175 223) (call (from 203 248 175 223) (ident (from 203 210 175 182) (codes "println")) (expr_and (call (from 211 247 183 222) (selector (from 211 222 183 194) (ident (from 211 214 183 186) (codes "lib")) (nmf 215 222 187 194 (codes "PadLeft"))) (expr_and (selector (from 223 235 195 207) (index (from 223 230 195 202) (ident (from 223 227 195 199) (codes "rows")) (ident (from 228 229 200 201) (codes "i"))) (nmf 231 235 203 207 (codes "Body"))) (expr_and (selector (from 237 246 209 221) (ident (from 237 241 209 221) (codes "text")) (nmf 242 246 209 221 (codes "Wide"))) no_exprs)) Plain) no_exprs) Plain)) no_stmts)) (stmt_and (eval (from 253 270 228 245) (call (from 253 270 228 245) (selector (from 253 261 228 236) (ident (from 253 256 228 231) (codes "lib")) (nmf 257 261 232 236 (codes "Show"))) (expr_and (ident (from 262 266 237 241) (codes "rows")) (expr_and (int_lit (from 268 269 243 244) (codes "4")) no_exprs)) Plain)) (stmt_and (eval (from 272 296 247 271) (call (from 272 296 247 271) (ident (from 272 279 247 254) (codes "println")) (expr_and (call (from 280 295 255 270) (selector (from 280 289 255 264) (ident (from 280 283 255 258) (codes "lib")) (nmf 284 289 259 264 (codes "Total"))) (expr_and (ident (from 290 294 265 269) (codes "rows")) no_exprs) Plain) no_exprs) Plain)) no_stmts))))) ∷ []) }
 
 library_steps5 : is_some (step_in library.marks library_s4) ≡ true
 unfolding passes keyword_spellings is_inline digits
@@ -176,7 +184,7 @@ abbrev library_n6 : FileText
 library_n6 = (record { text = (codes "package main\n\nimport (\n\t\"example.com/lib\"\n\t\"example.com/lib/text\"\n)\n\nfunc load() []text.Line {\n\treturn []text.Line{{\"a\"}, {\"bc\"}} // two rows\n}\n\nfunc main() {\n\trows := load()\n\tfor i := 0; i < 2; i++ {\n\t\tprintln(text.Pad(rows[i].Body, text.Wide, true))\n\t}\n\tlib.Show(rows, 4)\n\tprintln(lib.Total(rows))\n}\n"); tokens = ((tok Keyword 0 7 (codes "package")) ∷ (tok Ident 8 12 (codes "main")) ∷ (tok Inserted 12 12 (codes ";")) ∷ (tok Keyword 14 20 (codes "import")) ∷ (tok Operator 21 22 (codes "(")) ∷ (tok Str 24 41 (codes "\"example.com/lib\"")) ∷ (tok Inserted 41 41 (codes ";")) ∷ (tok Str 43 65 (codes "\"example.com/lib/text\"")) ∷ (tok Inserted 65 65 (codes ";")) ∷ (tok Operator 66 67 (codes ")")) ∷ (tok Inserted 67 67 (codes ";")) ∷ (tok Keyword 69 73 (codes "func")) ∷ (tok Ident 74 78 (codes "load")) ∷ (tok Operator 78 79 (codes "(")) ∷ (tok Operator 79 80 (codes ")")) ∷ (tok Operator 81 82 (codes "[")) ∷ (tok Operator 82 83 (codes "]")) ∷ (tok Ident 83 87 (codes "text")) ∷ (tok Operator 87 88 (codes ".")) ∷ (tok Ident 88 92 (codes "Line")) ∷ (tok Operator 93 94 (codes "{")) ∷ (tok Keyword 96 102 (codes "return")) ∷ (tok Operator 103 104 (codes "[")) ∷ (tok Operator 104 105 (codes "]")) ∷ (tok Ident 105 109 (codes "text")) ∷ (tok Operator 109 110 (codes ".")) ∷ (tok Ident 110 114 (codes "Line")) ∷ (tok Operator 114 115 (codes "{")) ∷ (tok Operator 115 116 (codes "{")) ∷ (tok Str 116 119 (codes "\"a\"")) ∷ (tok Operator 119 120 (codes "}")) ∷ (tok Operator 120 121 (codes ",")) ∷ (tok Operator 122 123 (codes "{")) ∷ (tok Str 123 127 (codes "\"bc\"")) ∷ (tok Operator 127 128 (codes "}")) ∷ (tok Operator 128 129 (codes "}")) ∷ (tok Inserted 129 129 (codes ";")) ∷ (tok Operator 142 143 (codes "}")) ∷ (tok Inserted 143 143 (codes ";")) ∷ (tok Keyword 145 149 (codes "func")) ∷ (tok Ident 150 154 (codes "main")) ∷ (tok Operator 154 155 (codes "(")) ∷ (tok Operator 155 156 (codes ")")) ∷ (tok Operator 157 158 (codes "{")) ∷ (tok Ident 160 164 (codes "rows")) ∷ (tok Operator 165 167 (codes ":=")) ∷ (tok Ident 168 172 (codes "load")) ∷ (tok Operator 172 173 (codes "(")) ∷ (tok Operator 173 174 (codes ")")) ∷ (tok Inserted 174 174 (codes ";")) ∷ (tok Keyword 176 179 (codes "for")) ∷ (tok Ident 180 181 (codes "i")) ∷ (tok Operator 182 184 (codes ":=")) ∷ (tok Integer 185 186 (codes "0")) ∷ (tok Operator 186 187 (codes ";")) ∷ (tok Ident 188 189 (codes "i")) ∷ (tok Operator 190 191 (codes "<")) ∷ (tok Integer 192 193 (codes "2")) ∷ (tok Operator 193 194 (codes ";")) ∷ (tok Ident 195 196 (codes "i")) ∷ (tok Operator 196 198 (codes "++")) ∷ (tok Operator 199 200 (codes "{")) ∷ (tok Ident 203 210 (codes "println")) ∷ (tok Operator 210 211 (codes "(")) ∷ (tok Ident 211 215 (codes "text")) ∷ (tok Operator 215 216 (codes ".")) ∷ (tok Ident 216 219 (codes "Pad")) ∷ (tok Operator 219 220 (codes "(")) ∷ (tok Ident 220 224 (codes "rows")) ∷ (tok Operator 224 225 (codes "[")) ∷ (tok Ident 225 226 (codes "i")) ∷ (tok Operator 226 227 (codes "]")) ∷ (tok Operator 227 228 (codes ".")) ∷ (tok Ident 228 232 (codes "Body")) ∷ (tok Operator 232 233 (codes ",")) ∷ (tok Ident 234 238 (codes "text")) ∷ (tok Operator 238 239 (codes ".")) ∷ (tok Ident 239 243 (codes "Wide")) ∷ (tok Operator 243 244 (codes ",")) ∷ (tok Ident 245 249 (codes "true")) ∷ (tok Operator 249 250 (codes ")")) ∷ (tok Operator 250 251 (codes ")")) ∷ (tok Inserted 251 251 (codes ";")) ∷ (tok Operator 253 254 (codes "}")) ∷ (tok Inserted 254 254 (codes ";")) ∷ (tok Ident 256 259 (codes "lib")) ∷ (tok Operator 259 260 (codes ".")) ∷ (tok Ident 260 264 (codes "Show")) ∷ (tok Operator 264 265 (codes "(")) ∷ (tok Ident 265 269 (codes "rows")) ∷ (tok Operator 269 270 (codes ",")) ∷ (tok Integer 271 272 (codes "4")) ∷ (tok Operator 272 273 (codes ")")) ∷ (tok Inserted 273 273 (codes ";")) ∷ (tok Ident 275 282 (codes "println")) ∷ (tok Operator 282 283 (codes "(")) ∷ (tok Ident 283 286 (codes "lib")) ∷ (tok Operator 286 287 (codes ".")) ∷ (tok Ident 287 292 (codes "Total")) ∷ (tok Operator 292 293 (codes "(")) ∷ (tok Ident 293 297 (codes "rows")) ∷ (tok Operator 297 298 (codes ")")) ∷ (tok Operator 298 299 (codes ")")) ∷ (tok Inserted 299 299 (codes ";")) ∷ (tok Operator 300 301 (codes "}")) ∷ (tok Inserted 301 301 (codes ";")) ∷ []); comments = ((note 130 141) ∷ []) })
 
 abbrev library_tree6 : File At
-library_tree6 = record { package_name = (nmf 8 12 8 12 (codes "main")); imports = ((imps (from 14 67 14 43) true ((imp (from 24 41 24 41) None (codes "example.com/lib")) ∷ (imp (from 43 65 59 66) None (codes "example.com/lib/text")) ∷ [])) ∷ []); decls = ((fn (from 69 143 45 115) None (nmf 74 78 50 54 (codes "load")) (sig [] ((param (from 81 92 57 66) None (slice_type (from 81 92 57 66) (named (from 83 92 59 66) (Some (nmf 83 87 59 66 (codes "text"))) (nmf 88 92 59 66 (codes "Line"))))) ∷ [])) (from 93 143 67 115) (stmt_and (return_ (from 96 129 70 101) (expr_and (composite (from 103 129 77 101) (slice_type (from 103 114 77 86) (named (from 105 114 79 86) (Some (nmf 105 109 79 86 (codes "text"))) (nmf 110 114 79 86 (codes "Line")))) (elem (from 115 120 87 92) no_value (braced (from 115 120 87 92) (elem (from 116 119 88 91) no_value (plain (str_lit (from 116 119 88 91) (codes "\"a\""))) no_elems)) (elem (from 122 128 94 100) no_value (braced (from 122 128 94 100) (elem (from 123 127 95 99) no_value (plain (str_lit (from 123 127 95 99) (codes "\"bc\""))) no_elems)) no_elems))) no_exprs)) no_stmts)) ∷ (fn (from 145 301 117 273) None (nmf 150 154 122 126 (codes "main")) (sig [] []) (from 157 301 129 273) (stmt_and (define (from 160 174 132 146) ((nmf 160 164 132 136 (codes "rows")) ∷ []) (expr_and (call (from 168 174 140 146) (ident (from 168 172 140 144) (codes "load")) no_exprs Plain) no_exprs)) (stmt_and (for_ (from 176 254 148 226) (some_stmt (define (from 180 186 152 158) ((nmf 180 181 152 153 (codes "i")) ∷ []) (expr_and (int_lit (from 185 186 157 158) (codes "0")) no_exprs))) (some_expr (binary (from 188 193 160 165) Lt (ident (from 188 189 160 161) (codes "i")) (int_lit (from 192 193 164 165) (codes "2")))) (some_stmt (step (from 195 198 167 170) (ident (from 195 196 167 168) (codes "i")) true)) (from 199 254 171 226) (stmt_and (eval (from 203 251 175 223) (call (from 203 251 175 223) (ident (from 203 210 175 182) (codes "println")) (expr_and (call (from 211 250 183 222) (selector (from 211 219 183 222) (ident (from 211 215 183 222) (codes "text")) (nmf 216 219 183 222 (codes "Pad"))) (expr_and (selector (from 220 232 195 207) (index (from 220 227 195 202) (ident (from 220 224 195 199) (codes "rows")) (ident (from 225 226 200 201) (codes "i"))) (nmf 228 232 203 207 (codes "Body"))) (expr_and (selector (from 234 243 209 221) (ident (from 234 238 209 221) (codes "text")) (nmf 239 243 209 221 (codes "Wide"))) (expr_and (ident (from 245 249 183 222) (codes "true")) no_exprs))) Plain) no_exprs) Plain)) no_stmts)) (stmt_and (eval (from 256 273 228 245) (call (from 256 273 228 245) (selector (from 256 264 228 236) (ident (from 256 259 228 231) (codes "lib")) (nmf 260 264 232 236 (codes "Show"))) (expr_and (ident (from 265 269 237 241) (codes "rows")) (expr_and (int_lit (from 271 272 243 244) (codes "4")) no_exprs)) Plain)) (stmt_and (eval (from 275 299 247 271) (call (from 275 299 247 271) (ident (from 275 282 247 254) (codes "println")) (expr_and (call (from 283 298 255 270) (selector (from 283 292 255 264) (ident (from 283 286 255 258) (codes "lib")) (nmf 287 292 259 264 (codes "Total"))) (expr_and (ident (from 293 297 265 269) (codes "rows")) no_exprs) Plain) no_exprs) Plain)) no_stmts))))) ∷ []) }
+library_tree6 = record { package_name = (nmf 8 12 8 12 (codes "main")); imports = ((imps (from 14 67 14 67) true ((imp (from 24 41 24 41) None (codes "example.com/lib")) ∷ (imp (from 43 65 43 65) None (codes "example.com/lib/text")) ∷ [])) ∷ []); decls = ((fn (from 69 143 45 115) None (nmf 74 78 50 54 (codes "load")) (sig [] ((param (from 81 92 57 66) None (slice_type (from 81 92 57 66) (named (from 83 92 59 66) (Some (nmf 83 87 59 66 (codes "text"))) (nmf 88 92 59 66 (codes "Line"))))) ∷ [])) (from 93 143 67 115) (stmt_and (return_ (from 96 129 70 101) (expr_and (composite (from 103 129 77 101) (slice_type (from 103 114 77 86) (named (from 105 114 79 86) (Some (nmf 105 109 79 86 (codes "text"))) (nmf 110 114 79 86 (codes "Line")))) (elem (from 115 120 87 92) no_value (braced (from 115 120 87 92) (elem (from 116 119 88 91) no_value (plain (str_lit (from 116 119 88 91) (codes "\"a\""))) no_elems)) (elem (from 122 128 94 100) no_value (braced (from 122 128 94 100) (elem (from 123 127 95 99) no_value (plain (str_lit (from 123 127 95 99) (codes "\"bc\""))) no_elems)) no_elems))) no_exprs)) no_stmts)) ∷ (fn (from 145 301 117 273) None (nmf 150 154 122 126 (codes "main")) (sig [] []) (from 157 301 129 273) (stmt_and (define (from 160 174 132 146) ((nmf 160 164 132 136 (codes "rows")) ∷ []) (expr_and (call (from 168 174 140 146) (ident (from 168 172 140 144) (codes "load")) no_exprs Plain) no_exprs)) (stmt_and (for_ (from 176 254 148 226) (some_stmt (define (from 180 186 152 158) ((nmf 180 181 152 153 (codes "i")) ∷ []) (expr_and (int_lit (from 185 186 157 158) (codes "0")) no_exprs))) (some_expr (binary (from 188 193 160 165) Lt (ident (from 188 189 160 161) (codes "i")) (int_lit (from 192 193 164 165) (codes "2")))) (some_stmt (step (from 195 198 167 170) (ident (from 195 196 167 168) (codes "i")) true)) (from 199 254 171 226) (stmt_and (eval (from 203 251 175 223) (call (from 203 251 175 223) (ident (from 203 210 175 182) (codes "println")) (expr_and (call (from 211 250 183 222) (selector (from 211 219 183 222) (ident (from 211 215 183 222) (codes "text")) (nmf 216 219 183 222 (codes "Pad"))) (expr_and (selector (from 220 232 195 207) (index (from 220 227 195 202) (ident (from 220 224 195 199) (codes "rows")) (ident (from 225 226 200 201) (codes "i"))) (nmf 228 232 203 207 (codes "Body"))) (expr_and (selector (from 234 243 209 221) (ident (from 234 238 209 221) (codes "text")) (nmf 239 243 209 221 (codes "Wide"))) (expr_and (ident (from 245 249 183 222) (codes "true")) no_exprs))) Plain) no_exprs) Plain)) no_stmts)) (stmt_and (eval (from 256 273 228 245) (call (from 256 273 228 245) (selector (from 256 264 228 236) (ident (from 256 259 228 231) (codes "lib")) (nmf 260 264 232 236 (codes "Show"))) (expr_and (ident (from 265 269 237 241) (codes "rows")) (expr_and (int_lit (from 271 272 243 244) (codes "4")) no_exprs)) Plain)) (stmt_and (eval (from 275 299 247 271) (call (from 275 299 247 271) (ident (from 275 282 247 254) (codes "println")) (expr_and (call (from 283 298 255 270) (selector (from 283 292 255 264) (ident (from 283 286 255 258) (codes "lib")) (nmf 287 292 259 264 (codes "Total"))) (expr_and (ident (from 293 297 265 269) (codes "rows")) no_exprs) Plain) no_exprs) Plain)) no_stmts))))) ∷ []) }
 
 library_steps6 : is_some (step_in library.marks library_s5) ≡ true
 unfolding passes keyword_spellings is_inline digits
@@ -196,7 +204,7 @@ abbrev library_n7 : FileText
 library_n7 = (record { text = (codes "package main\n\nimport (\n\t\"example.com/lib\"\n\t\"example.com/lib/text\"\n)\n\nfunc load() []text.Line {\n\treturn []text.Line{{\"a\"}, {\"bc\"}} // two rows\n}\n\nfunc main() {\n\trows := load()\n\tfor i := 0; i < 2; i++ {\n\t\tprintln(text.Pad(rows[i].Body, text.Wide, true))\n\t}\n\t{\n\t\tfor _, r := range rows {\n\t\t\ttext.Put(r, 4)\n\t\t}\n\t}\n\tprintln(lib.Total(rows))\n}\n"); tokens = ((tok Keyword 0 7 (codes "package")) ∷ (tok Ident 8 12 (codes "main")) ∷ (tok Inserted 12 12 (codes ";")) ∷ (tok Keyword 14 20 (codes "import")) ∷ (tok Operator 21 22 (codes "(")) ∷ (tok Str 24 41 (codes "\"example.com/lib\"")) ∷ (tok Inserted 41 41 (codes ";")) ∷ (tok Str 43 65 (codes "\"example.com/lib/text\"")) ∷ (tok Inserted 65 65 (codes ";")) ∷ (tok Operator 66 67 (codes ")")) ∷ (tok Inserted 67 67 (codes ";")) ∷ (tok Keyword 69 73 (codes "func")) ∷ (tok Ident 74 78 (codes "load")) ∷ (tok Operator 78 79 (codes "(")) ∷ (tok Operator 79 80 (codes ")")) ∷ (tok Operator 81 82 (codes "[")) ∷ (tok Operator 82 83 (codes "]")) ∷ (tok Ident 83 87 (codes "text")) ∷ (tok Operator 87 88 (codes ".")) ∷ (tok Ident 88 92 (codes "Line")) ∷ (tok Operator 93 94 (codes "{")) ∷ (tok Keyword 96 102 (codes "return")) ∷ (tok Operator 103 104 (codes "[")) ∷ (tok Operator 104 105 (codes "]")) ∷ (tok Ident 105 109 (codes "text")) ∷ (tok Operator 109 110 (codes ".")) ∷ (tok Ident 110 114 (codes "Line")) ∷ (tok Operator 114 115 (codes "{")) ∷ (tok Operator 115 116 (codes "{")) ∷ (tok Str 116 119 (codes "\"a\"")) ∷ (tok Operator 119 120 (codes "}")) ∷ (tok Operator 120 121 (codes ",")) ∷ (tok Operator 122 123 (codes "{")) ∷ (tok Str 123 127 (codes "\"bc\"")) ∷ (tok Operator 127 128 (codes "}")) ∷ (tok Operator 128 129 (codes "}")) ∷ (tok Inserted 129 129 (codes ";")) ∷ (tok Operator 142 143 (codes "}")) ∷ (tok Inserted 143 143 (codes ";")) ∷ (tok Keyword 145 149 (codes "func")) ∷ (tok Ident 150 154 (codes "main")) ∷ (tok Operator 154 155 (codes "(")) ∷ (tok Operator 155 156 (codes ")")) ∷ (tok Operator 157 158 (codes "{")) ∷ (tok Ident 160 164 (codes "rows")) ∷ (tok Operator 165 167 (codes ":=")) ∷ (tok Ident 168 172 (codes "load")) ∷ (tok Operator 172 173 (codes "(")) ∷ (tok Operator 173 174 (codes ")")) ∷ (tok Inserted 174 174 (codes ";")) ∷ (tok Keyword 176 179 (codes "for")) ∷ (tok Ident 180 181 (codes "i")) ∷ (tok Operator 182 184 (codes ":=")) ∷ (tok Integer 185 186 (codes "0")) ∷ (tok Operator 186 187 (codes ";")) ∷ (tok Ident 188 189 (codes "i")) ∷ (tok Operator 190 191 (codes "<")) ∷ (tok Integer 192 193 (codes "2")) ∷ (tok Operator 193 194 (codes ";")) ∷ (tok Ident 195 196 (codes "i")) ∷ (tok Operator 196 198 (codes "++")) ∷ (tok Operator 199 200 (codes "{")) ∷ (tok Ident 203 210 (codes "println")) ∷ (tok Operator 210 211 (codes "(")) ∷ (tok Ident 211 215 (codes "text")) ∷ (tok Operator 215 216 (codes ".")) ∷ (tok Ident 216 219 (codes "Pad")) ∷ (tok Operator 219 220 (codes "(")) ∷ (tok Ident 220 224 (codes "rows")) ∷ (tok Operator 224 225 (codes "[")) ∷ (tok Ident 225 226 (codes "i")) ∷ (tok Operator 226 227 (codes "]")) ∷ (tok Operator 227 228 (codes ".")) ∷ (tok Ident 228 232 (codes "Body")) ∷ (tok Operator 232 233 (codes ",")) ∷ (tok Ident 234 238 (codes "text")) ∷ (tok Operator 238 239 (codes ".")) ∷ (tok Ident 239 243 (codes "Wide")) ∷ (tok Operator 243 244 (codes ",")) ∷ (tok Ident 245 249 (codes "true")) ∷ (tok Operator 249 250 (codes ")")) ∷ (tok Operator 250 251 (codes ")")) ∷ (tok Inserted 251 251 (codes ";")) ∷ (tok Operator 253 254 (codes "}")) ∷ (tok Inserted 254 254 (codes ";")) ∷ (tok Operator 256 257 (codes "{")) ∷ (tok Keyword 260 263 (codes "for")) ∷ (tok Ident 264 265 (codes "_")) ∷ (tok Operator 265 266 (codes ",")) ∷ (tok Ident 267 268 (codes "r")) ∷ (tok Operator 269 271 (codes ":=")) ∷ (tok Keyword 272 277 (codes "range")) ∷ (tok Ident 278 282 (codes "rows")) ∷ (tok Operator 283 284 (codes "{")) ∷ (tok Ident 288 292 (codes "text")) ∷ (tok Operator 292 293 (codes ".")) ∷ (tok Ident 293 296 (codes "Put")) ∷ (tok Operator 296 297 (codes "(")) ∷ (tok Ident 297 298 (codes "r")) ∷ (tok Operator 298 299 (codes ",")) ∷ (tok Integer 300 301 (codes "4")) ∷ (tok Operator 301 302 (codes ")")) ∷ (tok Inserted 302 302 (codes ";")) ∷ (tok Operator 305 306 (codes "}")) ∷ (tok Inserted 306 306 (codes ";")) ∷ (tok Operator 308 309 (codes "}")) ∷ (tok Inserted 309 309 (codes ";")) ∷ (tok Ident 311 318 (codes "println")) ∷ (tok Operator 318 319 (codes "(")) ∷ (tok Ident 319 322 (codes "lib")) ∷ (tok Operator 322 323 (codes ".")) ∷ (tok Ident 323 328 (codes "Total")) ∷ (tok Operator 328 329 (codes "(")) ∷ (tok Ident 329 333 (codes "rows")) ∷ (tok Operator 333 334 (codes ")")) ∷ (tok Operator 334 335 (codes ")")) ∷ (tok Inserted 335 335 (codes ";")) ∷ (tok Operator 336 337 (codes "}")) ∷ (tok Inserted 337 337 (codes ";")) ∷ []); comments = ((note 130 141) ∷ []) })
 
 abbrev library_tree7 : File At
-library_tree7 = record { package_name = (nmf 8 12 8 12 (codes "main")); imports = ((imps (from 14 67 14 43) true ((imp (from 24 41 24 41) None (codes "example.com/lib")) ∷ (imp (from 43 65 59 66) None (codes "example.com/lib/text")) ∷ [])) ∷ []); decls = ((fn (from 69 143 45 115) None (nmf 74 78 50 54 (codes "load")) (sig [] ((param (from 81 92 57 66) None (slice_type (from 81 92 57 66) (named (from 83 92 59 66) (Some (nmf 83 87 59 66 (codes "text"))) (nmf 88 92 59 66 (codes "Line"))))) ∷ [])) (from 93 143 67 115) (stmt_and (return_ (from 96 129 70 101) (expr_and (composite (from 103 129 77 101) (slice_type (from 103 114 77 86) (named (from 105 114 79 86) (Some (nmf 105 109 79 86 (codes "text"))) (nmf 110 114 79 86 (codes "Line")))) (elem (from 115 120 87 92) no_value (braced (from 115 120 87 92) (elem (from 116 119 88 91) no_value (plain (str_lit (from 116 119 88 91) (codes "\"a\""))) no_elems)) (elem (from 122 128 94 100) no_value (braced (from 122 128 94 100) (elem (from 123 127 95 99) no_value (plain (str_lit (from 123 127 95 99) (codes "\"bc\""))) no_elems)) no_elems))) no_exprs)) no_stmts)) ∷ (fn (from 145 337 117 273) None (nmf 150 154 122 126 (codes "main")) (sig [] []) (from 157 337 129 273) (stmt_and (define (from 160 174 132 146) ((nmf 160 164 132 136 (codes "rows")) ∷ []) (expr_and (call (from 168 174 140 146) (ident (from 168 172 140 144) (codes "load")) no_exprs Plain) no_exprs)) (stmt_and (for_ (from 176 254 148 226) (some_stmt (define (from 180 186 152 158) ((nmf 180 181 152 153 (codes "i")) ∷ []) (expr_and (int_lit (from 185 186 157 158) (codes "0")) no_exprs))) (some_expr (binary (from 188 193 160 165) Lt (ident (from 188 189 160 161) (codes "i")) (int_lit (from 192 193 164 165) (codes "2")))) (some_stmt (step (from 195 198 167 170) (ident (from 195 196 167 168) (codes "i")) true)) (from 199 254 171 226) (stmt_and (eval (from 203 251 175 223) (call (from 203 251 175 223) (ident (from 203 210 175 182) (codes "println")) (expr_and (call (from 211 250 183 222) (selector (from 211 219 183 222) (ident (from 211 215 183 222) (codes "text")) (nmf 216 219 183 222 (codes "Pad"))) (expr_and (selector (from 220 232 195 207) (index (from 220 227 195 202) (ident (from 220 224 195 199) (codes "rows")) (ident (from 225 226 200 201) (codes "i"))) (nmf 228 232 203 207 (codes "Body"))) (expr_and (selector (from 234 243 209 221) (ident (from 234 238 209 221) (codes "text")) (nmf 239 243 209 221 (codes "Wide"))) (expr_and (ident (from 245 249 183 222) (codes "true")) no_exprs))) Plain) no_exprs) Plain)) no_stmts)) (stmt_and (inner (from 256 309 228 245) (stmt_and (range_ (from 260 306 228 245) (defines ((nmf 264 265 228 245 (codes "_")) ∷ (nmf 267 268 228 245 (codes "r")) ∷ [])) (ident (from 278 282 237 241) (codes "rows")) (from 283 306 228 245) (stmt_and (eval (from 288 302 228 245) (call (from 288 302 228 245) (selector (from 288 296 228 245) (ident (from 288 292 228 245) (codes "text")) (nmf 293 296 228 245 (codes "Put"))) (expr_and (ident (from 297 298 228 245) (codes "r")) (expr_and (int_lit (from 300 301 243 244) (codes "4")) no_exprs)) Plain)) no_stmts)) no_stmts)) (stmt_and (eval (from 311 335 247 271) (call (from 311 335 247 271) (ident (from 311 318 247 254) (codes "println")) (expr_and (call (from 319 334 255 270) (selector (from 319 328 255 264) (ident (from 319 322 255 258) (codes "lib")) (nmf 323 328 259 264 (codes "Total"))) (expr_and (ident (from 329 333 265 269) (codes "rows")) no_exprs) Plain) no_exprs) Plain)) no_stmts))))) ∷ []) }
+library_tree7 = record { package_name = (nmf 8 12 8 12 (codes "main")); imports = ((imps (from 14 67 14 67) true ((imp (from 24 41 24 41) None (codes "example.com/lib")) ∷ (imp (from 43 65 43 65) None (codes "example.com/lib/text")) ∷ [])) ∷ []); decls = ((fn (from 69 143 45 115) None (nmf 74 78 50 54 (codes "load")) (sig [] ((param (from 81 92 57 66) None (slice_type (from 81 92 57 66) (named (from 83 92 59 66) (Some (nmf 83 87 59 66 (codes "text"))) (nmf 88 92 59 66 (codes "Line"))))) ∷ [])) (from 93 143 67 115) (stmt_and (return_ (from 96 129 70 101) (expr_and (composite (from 103 129 77 101) (slice_type (from 103 114 77 86) (named (from 105 114 79 86) (Some (nmf 105 109 79 86 (codes "text"))) (nmf 110 114 79 86 (codes "Line")))) (elem (from 115 120 87 92) no_value (braced (from 115 120 87 92) (elem (from 116 119 88 91) no_value (plain (str_lit (from 116 119 88 91) (codes "\"a\""))) no_elems)) (elem (from 122 128 94 100) no_value (braced (from 122 128 94 100) (elem (from 123 127 95 99) no_value (plain (str_lit (from 123 127 95 99) (codes "\"bc\""))) no_elems)) no_elems))) no_exprs)) no_stmts)) ∷ (fn (from 145 337 117 273) None (nmf 150 154 122 126 (codes "main")) (sig [] []) (from 157 337 129 273) (stmt_and (define (from 160 174 132 146) ((nmf 160 164 132 136 (codes "rows")) ∷ []) (expr_and (call (from 168 174 140 146) (ident (from 168 172 140 144) (codes "load")) no_exprs Plain) no_exprs)) (stmt_and (for_ (from 176 254 148 226) (some_stmt (define (from 180 186 152 158) ((nmf 180 181 152 153 (codes "i")) ∷ []) (expr_and (int_lit (from 185 186 157 158) (codes "0")) no_exprs))) (some_expr (binary (from 188 193 160 165) Lt (ident (from 188 189 160 161) (codes "i")) (int_lit (from 192 193 164 165) (codes "2")))) (some_stmt (step (from 195 198 167 170) (ident (from 195 196 167 168) (codes "i")) true)) (from 199 254 171 226) (stmt_and (eval (from 203 251 175 223) (call (from 203 251 175 223) (ident (from 203 210 175 182) (codes "println")) (expr_and (call (from 211 250 183 222) (selector (from 211 219 183 222) (ident (from 211 215 183 222) (codes "text")) (nmf 216 219 183 222 (codes "Pad"))) (expr_and (selector (from 220 232 195 207) (index (from 220 227 195 202) (ident (from 220 224 195 199) (codes "rows")) (ident (from 225 226 200 201) (codes "i"))) (nmf 228 232 203 207 (codes "Body"))) (expr_and (selector (from 234 243 209 221) (ident (from 234 238 209 221) (codes "text")) (nmf 239 243 209 221 (codes "Wide"))) (expr_and (ident (from 245 249 183 222) (codes "true")) no_exprs))) Plain) no_exprs) Plain)) no_stmts)) (stmt_and (inner (from 256 309 228 245) (stmt_and (range_ (from 260 306 228 245) (defines ((nmf 264 265 228 245 (codes "_")) ∷ (nmf 267 268 228 245 (codes "r")) ∷ [])) (ident (from 278 282 237 241) (codes "rows")) (from 283 306 228 245) (stmt_and (eval (from 288 302 228 245) (call (from 288 302 228 245) (selector (from 288 296 228 245) (ident (from 288 292 228 245) (codes "text")) (nmf 293 296 228 245 (codes "Put"))) (expr_and (ident (from 297 298 228 245) (codes "r")) (expr_and (int_lit (from 300 301 243 244) (codes "4")) no_exprs)) Plain)) no_stmts)) no_stmts)) (stmt_and (eval (from 311 335 247 271) (call (from 311 335 247 271) (ident (from 311 318 247 254) (codes "println")) (expr_and (call (from 319 334 255 270) (selector (from 319 328 255 264) (ident (from 319 322 255 258) (codes "lib")) (nmf 323 328 259 264 (codes "Total"))) (expr_and (ident (from 329 333 265 269) (codes "rows")) no_exprs) Plain) no_exprs) Plain)) no_stmts))))) ∷ []) }
 
 library_steps7 : is_some (step_in library.marks library_s6) ≡ true
 unfolding passes keyword_spellings is_inline digits
@@ -212,7 +220,50 @@ abbrev library_next7 : TokensOf library_n7.text library_n7.tokens library_n7.com
 unfolding passes keyword_spellings is_inline digits reading library_steps7
 library_next7 h = next_by library.marks library_s6 library_steps7 library_n6 library_n7 library_tree7 refl refl h refl refl
 
--- the whole run, where these are the tokens of the texts
+-- the whole run, with the tokens of the texts
 library_inlined : (h0 : TokensOf library_t0.text library_t0.tokens library_t0.comments) (h1 : TokensOf library_t1.text library_t1.tokens library_t1.comments) (h2 : TokensOf library_t2.text library_t2.tokens library_t2.comments) (g1 : TokensOf library_n1.text library_n1.tokens library_n1.comments) (g2 : TokensOf library_n2.text library_n2.tokens library_n2.comments) (g3 : TokensOf library_n3.text library_n3.tokens library_n3.comments) (g4 : TokensOf library_n4.text library_n4.tokens library_n4.comments) (g5 : TokensOf library_n5.text library_n5.tokens library_n5.comments) (g6 : TokensOf library_n6.text library_n6.tokens library_n6.comments) (g7 : TokensOf library_n7.text library_n7.tokens library_n7.comments) → IsInlining the_limits 29 library.packages library.texts [] (((codes "cmd/main.go"), library_n7) ∷ ((codes "lib.go"), library_n2) ∷ ((codes "text/text.go"), library_t2) ∷ []) (codes "cmd/main.go:7:15: inlined example.com/lib.Row as type\ncmd/main.go:8:11: inlined example.com/lib.Row as type\ncmd/main.go:14:11: inlined example.com/lib.PadLeft as expr\ncmd/main.go:14:37: inlined example.com/lib.MaxWidth as const\ncmd/main.go:16:2: inlined example.com/lib.Show as block\nlib.go:29:18: inlined example.com/lib.Row as type\nlib.go:36:19: inlined example.com/lib.Row as type\n")
 unfolding passes keyword_spellings is_inline digits reading library_steps1 library_next1 library_steps2 library_next2 library_steps3 library_next3 library_steps4 library_next4 library_steps5 library_next5 library_steps6 library_next6 library_steps7 library_next7
 library_inlined h0 h1 h2 g1 g2 g3 g4 g5 g6 g7 = inlining_by the_limits 29 library.packages library.texts [] library.marks library_s7 ((library_l1 ∷ library_l2 ∷ library_l3 ∷ library_l4 ∷ library_l5 ∷ library_l6 ∷ library_l7 ∷ [])) (codes "cmd/main.go:7:15: inlined example.com/lib.Row as type\ncmd/main.go:8:11: inlined example.com/lib.Row as type\ncmd/main.go:14:11: inlined example.com/lib.PadLeft as expr\ncmd/main.go:14:37: inlined example.com/lib.MaxWidth as const\ncmd/main.go:16:2: inlined example.com/lib.Show as block\nlib.go:29:18: inlined example.com/lib.Row as type\nlib.go:36:19: inlined example.com/lib.Row as type\n") library_marks (package_ _ _ (file _ _ library_t0 refl (record { scans = h0; spells = file_spelled library_t0.tokens library_f0 (library_spelled0) }) none) (package_ _ _ (file _ _ library_t1 refl (record { scans = h1; spells = file_spelled library_t1.tokens library_f1 (library_spelled1) }) none) (package_ _ _ (file _ _ library_t2 refl (record { scans = h2; spells = file_spelled library_t2.tokens library_f2 (library_spelled2) }) none) none))) (goes_on library_s0 library_s1 library_s7 library_l1 (library_l2 ∷ library_l3 ∷ library_l4 ∷ library_l5 ∷ library_l6 ∷ library_l7 ∷ []) (library_next1 g1) (goes_on library_s1 library_s2 library_s7 library_l2 (library_l3 ∷ library_l4 ∷ library_l5 ∷ library_l6 ∷ library_l7 ∷ []) (library_next2 g2) (goes_on library_s2 library_s3 library_s7 library_l3 (library_l4 ∷ library_l5 ∷ library_l6 ∷ library_l7 ∷ []) (library_next3 g3) (goes_on library_s3 library_s4 library_s7 library_l4 (library_l5 ∷ library_l6 ∷ library_l7 ∷ []) (library_next4 g4) (goes_on library_s4 library_s5 library_s7 library_l5 (library_l6 ∷ library_l7 ∷ []) (library_next5 g5) (goes_on library_s5 library_s6 library_s7 library_l6 (library_l7 ∷ []) (library_next6 g6) (goes_on library_s6 library_s7 library_s7 library_l7 [] (library_next7 g7) (ends library_s7 refl)))))))) (steps_on [] (library_l2 ∷ library_l3 ∷ library_l4 ∷ library_l5 ∷ library_l6 ∷ library_l7 ∷ []) library_l1 library_s0 library_s1 library_s7 (library_next1 g1) refl (steps_on (library_l1 ∷ []) (library_l3 ∷ library_l4 ∷ library_l5 ∷ library_l6 ∷ library_l7 ∷ []) library_l2 library_s1 library_s2 library_s7 (library_next2 g2) refl (steps_on (library_l1 ∷ library_l2 ∷ []) (library_l4 ∷ library_l5 ∷ library_l6 ∷ library_l7 ∷ []) library_l3 library_s2 library_s3 library_s7 (library_next3 g3) refl (steps_on (library_l1 ∷ library_l2 ∷ library_l3 ∷ []) (library_l5 ∷ library_l6 ∷ library_l7 ∷ []) library_l4 library_s3 library_s4 library_s7 (library_next4 g4) refl (steps_on (library_l1 ∷ library_l2 ∷ library_l3 ∷ library_l4 ∷ []) (library_l6 ∷ library_l7 ∷ []) library_l5 library_s4 library_s5 library_s7 (library_next5 g5) refl (steps_on (library_l1 ∷ library_l2 ∷ library_l3 ∷ library_l4 ∷ library_l5 ∷ []) (library_l7 ∷ []) library_l6 library_s5 library_s6 library_s7 (library_next6 g6) refl (steps_on (library_l1 ∷ library_l2 ∷ library_l3 ∷ library_l4 ∷ library_l5 ∷ library_l6 ∷ []) [] library_l7 library_s6 library_s7 library_s7 (library_next7 g7) refl (begins ((library_l1 ∷ library_l2 ∷ library_l3 ∷ library_l4 ∷ library_l5 ∷ library_l6 ∷ library_l7 ∷ [])) library_s7)))))))) (kept_by ((library_l1 ∷ library_l2 ∷ library_l3 ∷ library_l4 ∷ library_l5 ∷ library_l6 ∷ library_l7 ∷ [])) (codes "cmd/main.go") library_t0.text library_n7.text (((codes "lib.go"), library_t1.text) ∷ ((codes "text/text.go"), library_t2.text) ∷ []) (((codes "lib.go"), library_n2.text) ∷ ((codes "text/text.go"), library_t2.text) ∷ []) refl refl (kept_by ((library_l1 ∷ library_l2 ∷ library_l3 ∷ library_l4 ∷ library_l5 ∷ library_l6 ∷ library_l7 ∷ [])) (codes "lib.go") library_t1.text library_n2.text (((codes "text/text.go"), library_t2.text) ∷ []) (((codes "text/text.go"), library_t2.text) ∷ []) refl refl (kept_by ((library_l1 ∷ library_l2 ∷ library_l3 ∷ library_l4 ∷ library_l5 ∷ library_l6 ∷ library_l7 ∷ [])) (codes "text/text.go") library_t2.text library_t2.text [] [] refl refl run.none))) refl
+
+library_t0_found : TokensOf library_t0.text library_t0.tokens library_t0.comments
+unfolding piece_of lexeme_of longest_from next_of tokens_from comments_from keyword_spellings is_letter is_digit general_category general_category_rows value_in lib.Utf8.encode
+library_t0_found = tokens_by library_t0.text library_t0.tokens library_t0.comments refl refl refl
+
+library_t1_found : TokensOf library_t1.text library_t1.tokens library_t1.comments
+unfolding piece_of lexeme_of longest_from next_of tokens_from comments_from keyword_spellings is_letter is_digit general_category general_category_rows value_in lib.Utf8.encode
+library_t1_found = tokens_by library_t1.text library_t1.tokens library_t1.comments refl refl refl
+
+library_t2_found : TokensOf library_t2.text library_t2.tokens library_t2.comments
+unfolding piece_of lexeme_of longest_from next_of tokens_from comments_from keyword_spellings is_letter is_digit general_category general_category_rows value_in lib.Utf8.encode
+library_t2_found = tokens_by library_t2.text library_t2.tokens library_t2.comments refl refl refl
+
+library_n1_found : TokensOf library_n1.text library_n1.tokens library_n1.comments
+unfolding piece_of lexeme_of longest_from next_of tokens_from comments_from keyword_spellings is_letter is_digit general_category general_category_rows value_in lib.Utf8.encode
+library_n1_found = tokens_by library_n1.text library_n1.tokens library_n1.comments refl refl refl
+
+library_n2_found : TokensOf library_n2.text library_n2.tokens library_n2.comments
+unfolding piece_of lexeme_of longest_from next_of tokens_from comments_from keyword_spellings is_letter is_digit general_category general_category_rows value_in lib.Utf8.encode
+library_n2_found = tokens_by library_n2.text library_n2.tokens library_n2.comments refl refl refl
+
+library_n3_found : TokensOf library_n3.text library_n3.tokens library_n3.comments
+unfolding piece_of lexeme_of longest_from next_of tokens_from comments_from keyword_spellings is_letter is_digit general_category general_category_rows value_in lib.Utf8.encode
+library_n3_found = tokens_by library_n3.text library_n3.tokens library_n3.comments refl refl refl
+
+library_n4_found : TokensOf library_n4.text library_n4.tokens library_n4.comments
+unfolding piece_of lexeme_of longest_from next_of tokens_from comments_from keyword_spellings is_letter is_digit general_category general_category_rows value_in lib.Utf8.encode
+library_n4_found = tokens_by library_n4.text library_n4.tokens library_n4.comments refl refl refl
+
+library_n5_found : TokensOf library_n5.text library_n5.tokens library_n5.comments
+unfolding piece_of lexeme_of longest_from next_of tokens_from comments_from keyword_spellings is_letter is_digit general_category general_category_rows value_in lib.Utf8.encode
+library_n5_found = tokens_by library_n5.text library_n5.tokens library_n5.comments refl refl refl
+
+library_n6_found : TokensOf library_n6.text library_n6.tokens library_n6.comments
+unfolding piece_of lexeme_of longest_from next_of tokens_from comments_from keyword_spellings is_letter is_digit general_category general_category_rows value_in lib.Utf8.encode
+library_n6_found = tokens_by library_n6.text library_n6.tokens library_n6.comments refl refl refl
+
+library_n7_found : TokensOf library_n7.text library_n7.tokens library_n7.comments
+unfolding piece_of lexeme_of longest_from next_of tokens_from comments_from keyword_spellings is_letter is_digit general_category general_category_rows value_in lib.Utf8.encode
+library_n7_found = tokens_by library_n7.text library_n7.tokens library_n7.comments refl refl refl
+
+library_run : IsInlining the_limits 29 library.packages library.texts [] (((codes "cmd/main.go"), library_n7) ∷ ((codes "lib.go"), library_n2) ∷ ((codes "text/text.go"), library_t2) ∷ []) (codes "cmd/main.go:7:15: inlined example.com/lib.Row as type\ncmd/main.go:8:11: inlined example.com/lib.Row as type\ncmd/main.go:14:11: inlined example.com/lib.PadLeft as expr\ncmd/main.go:14:37: inlined example.com/lib.MaxWidth as const\ncmd/main.go:16:2: inlined example.com/lib.Show as block\nlib.go:29:18: inlined example.com/lib.Row as type\nlib.go:36:19: inlined example.com/lib.Row as type\n")
+library_run = library_inlined library_t0_found library_t1_found library_t2_found library_n1_found library_n2_found library_n3_found library_n4_found library_n5_found library_n6_found library_n7_found

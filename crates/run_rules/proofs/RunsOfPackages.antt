@@ -28,6 +28,14 @@ use Rattle.run_rules.specs.Inlining.{standing_as_read, none, file, package_, beg
 use Rattle.run_rules.proofs.CaseTools.{from, nmf}
 use Rattle.run_rules.proofs.Instances.{stands_after, log_entry, next_by, kept_by, inlining_by}
 use Rattle.go_words.specs.Tokens.{TokensOf}
+use Rattle.ucd_category.specs.GeneralCategory.{general_category}
+use Rattle.ucd_category.specs.GeneralCategoryRows.{general_category_rows}
+use Rattle.ucd_table.specs.Rows.{value_in}
+use Rattle.go_words.specs.Tokens.{tokens_from, comments_from}
+use Rattle.go_words.specs.Tokens.Characters.{is_letter, is_digit}
+use Rattle.go_scan.specs.Automaton.{next_of, longest_from}
+use Rattle.go_scan.specs.Pieces.{piece_of, lexeme_of}
+use Rattle.run_rules.proofs.TokensFound.{tokens_by}
 
 -- A wrapper of another package: the argument comes from where it stood.
 abbrev wrapper_f0 : File Span
@@ -74,7 +82,7 @@ abbrev wrapper_new : FileText
 wrapper_new = (record { text = (codes "package main\n\nimport \"example.com/m/pow\"\n\nfunc main() {\n\tx := 3\n\tprintln(pow.Pow(x, 2))\n}\n"); tokens = ((tok Keyword 0 7 (codes "package")) ∷ (tok Ident 8 12 (codes "main")) ∷ (tok Inserted 12 12 (codes ";")) ∷ (tok Keyword 14 20 (codes "import")) ∷ (tok Str 21 40 (codes "\"example.com/m/pow\"")) ∷ (tok Inserted 40 40 (codes ";")) ∷ (tok Keyword 42 46 (codes "func")) ∷ (tok Ident 47 51 (codes "main")) ∷ (tok Operator 51 52 (codes "(")) ∷ (tok Operator 52 53 (codes ")")) ∷ (tok Operator 54 55 (codes "{")) ∷ (tok Ident 57 58 (codes "x")) ∷ (tok Operator 59 61 (codes ":=")) ∷ (tok Integer 62 63 (codes "3")) ∷ (tok Inserted 63 63 (codes ";")) ∷ (tok Ident 65 72 (codes "println")) ∷ (tok Operator 72 73 (codes "(")) ∷ (tok Ident 73 76 (codes "pow")) ∷ (tok Operator 76 77 (codes ".")) ∷ (tok Ident 77 80 (codes "Pow")) ∷ (tok Operator 80 81 (codes "(")) ∷ (tok Ident 81 82 (codes "x")) ∷ (tok Operator 82 83 (codes ",")) ∷ (tok Integer 84 85 (codes "2")) ∷ (tok Operator 85 86 (codes ")")) ∷ (tok Operator 86 87 (codes ")")) ∷ (tok Inserted 87 87 (codes ";")) ∷ (tok Operator 88 89 (codes "}")) ∷ (tok Inserted 89 89 (codes ";")) ∷ []); comments = [] })
 
 abbrev wrapper_tree : File At
-wrapper_tree = record { package_name = (nmf 8 12 8 12 (codes "main")); imports = ((imps (from 14 40 73 86) false ((imp (from 21 40 73 86) None (codes "example.com/m/pow")) ∷ [])) ∷ []); decls = ((fn (from 42 89 42 89) None (nmf 47 51 47 51 (codes "main")) (sig [] []) (from 54 89 54 89) (stmt_and (define (from 57 63 57 63) ((nmf 57 58 57 58 (codes "x")) ∷ []) (expr_and (int_lit (from 62 63 62 63) (codes "3")) no_exprs)) (stmt_and (eval (from 65 87 65 87) (call (from 65 87 65 87) (ident (from 65 72 65 72) (codes "println")) (expr_and (call (from 73 86 73 86) (selector (from 73 80 73 86) (ident (from 73 76 73 86) (codes "pow")) (nmf 77 80 73 86 (codes "Pow"))) (expr_and (ident (from 81 82 84 85) (codes "x")) (expr_and (int_lit (from 84 85 73 86) (codes "2")) no_exprs)) Plain) no_exprs) Plain)) no_stmts))) ∷ []) }
+wrapper_tree = record { package_name = (nmf 8 12 8 12 (codes "main")); imports = ((imps (from 14 40 14 40) false ((imp (from 21 40 21 40) None (codes "example.com/m/pow")) ∷ [])) ∷ []); decls = ((fn (from 42 89 42 89) None (nmf 47 51 47 51 (codes "main")) (sig [] []) (from 54 89 54 89) (stmt_and (define (from 57 63 57 63) ((nmf 57 58 57 58 (codes "x")) ∷ []) (expr_and (int_lit (from 62 63 62 63) (codes "3")) no_exprs)) (stmt_and (eval (from 65 87 65 87) (call (from 65 87 65 87) (ident (from 65 72 65 72) (codes "println")) (expr_and (call (from 73 86 73 86) (selector (from 73 80 73 86) (ident (from 73 76 73 86) (codes "pow")) (nmf 77 80 73 86 (codes "Pow"))) (expr_and (ident (from 81 82 84 85) (codes "x")) (expr_and (int_lit (from 84 85 73 86) (codes "2")) no_exprs)) Plain) no_exprs) Plain)) no_stmts))) ∷ []) }
 
 wrapper_steps : is_some (step_in wrapper.marks wrapper_start) ≡ true
 unfolding passes keyword_spellings is_inline digits
@@ -84,10 +92,29 @@ abbrev wrapper_next : TokensOf wrapper_new.text wrapper_new.tokens wrapper_new.c
 unfolding passes keyword_spellings is_inline digits reading wrapper_steps
 wrapper_next h = next_by wrapper.marks wrapper_start (wrapper_steps) wrapper_t0 wrapper_new wrapper_tree refl refl h refl refl
 
--- the whole run, where these are the tokens of the texts
+-- the whole run, with the tokens of the texts
 wrapper_inlined : (h0 : TokensOf wrapper_t0.text wrapper_t0.tokens wrapper_t0.comments) (h1 : TokensOf wrapper_t1.text wrapper_t1.tokens wrapper_t1.comments) (h2 : TokensOf wrapper_t2.text wrapper_t2.tokens wrapper_t2.comments) (h : TokensOf wrapper_new.text wrapper_new.tokens wrapper_new.comments) → IsInlining the_limits 29 wrapper.packages wrapper.texts [] (((codes "main.go"), wrapper_new) ∷ ((codes "old/old.go"), wrapper_t1) ∷ ((codes "pow/pow.go"), wrapper_t2) ∷ []) (codes "main.go:7:10: inlined example.com/m/old.Square as expr\n")
 unfolding passes keyword_spellings is_inline digits reading wrapper_steps wrapper_next
 wrapper_inlined h0 h1 h2 h = inlining_by the_limits 29 wrapper.packages wrapper.texts [] wrapper.marks (stands_after wrapper.marks wrapper_start (wrapper_steps) wrapper_t0 wrapper_new wrapper_tree) (log_entry wrapper.marks wrapper_start (wrapper_steps) wrapper_t0 wrapper_new wrapper_tree ∷ []) (codes "main.go:7:10: inlined example.com/m/old.Square as expr\n") wrapper_marks (package_ _ _ (file _ _ wrapper_t0 refl (record { scans = h0; spells = file_spelled wrapper_t0.tokens wrapper_f0 (wrapper_spelled0) }) none) (package_ _ _ (file _ _ wrapper_t1 refl (record { scans = h1; spells = file_spelled wrapper_t1.tokens wrapper_f1 (wrapper_spelled1) }) none) (package_ _ _ (file _ _ wrapper_t2 refl (record { scans = h2; spells = file_spelled wrapper_t2.tokens wrapper_f2 (wrapper_spelled2) }) none) none))) (goes_on wrapper_start (stands_after wrapper.marks wrapper_start (wrapper_steps) wrapper_t0 wrapper_new wrapper_tree) (stands_after wrapper.marks wrapper_start (wrapper_steps) wrapper_t0 wrapper_new wrapper_tree) (log_entry wrapper.marks wrapper_start (wrapper_steps) wrapper_t0 wrapper_new wrapper_tree) [] (wrapper_next h) (ends (stands_after wrapper.marks wrapper_start (wrapper_steps) wrapper_t0 wrapper_new wrapper_tree) refl)) (steps_on [] [] (log_entry wrapper.marks wrapper_start (wrapper_steps) wrapper_t0 wrapper_new wrapper_tree) wrapper_start (stands_after wrapper.marks wrapper_start (wrapper_steps) wrapper_t0 wrapper_new wrapper_tree) (stands_after wrapper.marks wrapper_start (wrapper_steps) wrapper_t0 wrapper_new wrapper_tree) (wrapper_next h) refl (begins (log_entry wrapper.marks wrapper_start (wrapper_steps) wrapper_t0 wrapper_new wrapper_tree ∷ []) (stands_after wrapper.marks wrapper_start (wrapper_steps) wrapper_t0 wrapper_new wrapper_tree))) (kept_by (log_entry wrapper.marks wrapper_start (wrapper_steps) wrapper_t0 wrapper_new wrapper_tree ∷ []) (codes "main.go") wrapper_t0.text wrapper_new.text (((codes "old/old.go"), wrapper_t1.text) ∷ ((codes "pow/pow.go"), wrapper_t2.text) ∷ []) (((codes "old/old.go"), wrapper_t1.text) ∷ ((codes "pow/pow.go"), wrapper_t2.text) ∷ []) refl refl (kept_by (log_entry wrapper.marks wrapper_start (wrapper_steps) wrapper_t0 wrapper_new wrapper_tree ∷ []) (codes "old/old.go") wrapper_t1.text wrapper_t1.text (((codes "pow/pow.go"), wrapper_t2.text) ∷ []) (((codes "pow/pow.go"), wrapper_t2.text) ∷ []) refl refl (kept_by (log_entry wrapper.marks wrapper_start (wrapper_steps) wrapper_t0 wrapper_new wrapper_tree ∷ []) (codes "pow/pow.go") wrapper_t2.text wrapper_t2.text [] [] refl refl run.none))) refl
+
+wrapper_t0_found : TokensOf wrapper_t0.text wrapper_t0.tokens wrapper_t0.comments
+unfolding piece_of lexeme_of longest_from next_of tokens_from comments_from keyword_spellings is_letter is_digit general_category general_category_rows value_in lib.Utf8.encode
+wrapper_t0_found = tokens_by wrapper_t0.text wrapper_t0.tokens wrapper_t0.comments refl refl refl
+
+wrapper_t1_found : TokensOf wrapper_t1.text wrapper_t1.tokens wrapper_t1.comments
+unfolding piece_of lexeme_of longest_from next_of tokens_from comments_from keyword_spellings is_letter is_digit general_category general_category_rows value_in lib.Utf8.encode
+wrapper_t1_found = tokens_by wrapper_t1.text wrapper_t1.tokens wrapper_t1.comments refl refl refl
+
+wrapper_t2_found : TokensOf wrapper_t2.text wrapper_t2.tokens wrapper_t2.comments
+unfolding piece_of lexeme_of longest_from next_of tokens_from comments_from keyword_spellings is_letter is_digit general_category general_category_rows value_in lib.Utf8.encode
+wrapper_t2_found = tokens_by wrapper_t2.text wrapper_t2.tokens wrapper_t2.comments refl refl refl
+
+wrapper_new_found : TokensOf wrapper_new.text wrapper_new.tokens wrapper_new.comments
+unfolding piece_of lexeme_of longest_from next_of tokens_from comments_from keyword_spellings is_letter is_digit general_category general_category_rows value_in lib.Utf8.encode
+wrapper_new_found = tokens_by wrapper_new.text wrapper_new.tokens wrapper_new.comments refl refl refl
+
+wrapper_run : IsInlining the_limits 29 wrapper.packages wrapper.texts [] (((codes "main.go"), wrapper_new) ∷ ((codes "old/old.go"), wrapper_t1) ∷ ((codes "pow/pow.go"), wrapper_t2) ∷ []) (codes "main.go:7:10: inlined example.com/m/old.Square as expr\n")
+wrapper_run = wrapper_inlined wrapper_t0_found wrapper_t1_found wrapper_t2_found wrapper_new_found
 
 -- A comment inside the call.
 abbrev inner_comment_f0 : File Span
@@ -130,10 +157,25 @@ inner_comment_spelled2 = refl
 abbrev inner_comment_start : Standing
 inner_comment_start = standing_as_read inner_comment.packages inner_comment.texts
 
--- the whole run, where these are the tokens of the texts
+-- the whole run, with the tokens of the texts
 inner_comment_inlined : (h0 : TokensOf inner_comment_t0.text inner_comment_t0.tokens inner_comment_t0.comments) (h1 : TokensOf inner_comment_t1.text inner_comment_t1.tokens inner_comment_t1.comments) (h2 : TokensOf inner_comment_t2.text inner_comment_t2.tokens inner_comment_t2.comments) → IsInlining the_limits 29 inner_comment.packages inner_comment.texts [] (((codes "main.go"), inner_comment_t0) ∷ ((codes "old/old.go"), inner_comment_t1) ∷ ((codes "pow/pow.go"), inner_comment_t2) ∷ []) (codes "main.go:7:10: kept example.com/m/old.Square: comment inside\n")
 unfolding passes keyword_spellings is_inline digits reading
 inner_comment_inlined h0 h1 h2 = inlining_by the_limits 29 inner_comment.packages inner_comment.texts [] inner_comment.marks inner_comment_start ([]) (codes "main.go:7:10: kept example.com/m/old.Square: comment inside\n") inner_comment_marks (package_ _ _ (file _ _ inner_comment_t0 refl (record { scans = h0; spells = file_spelled inner_comment_t0.tokens inner_comment_f0 (inner_comment_spelled0) }) none) (package_ _ _ (file _ _ inner_comment_t1 refl (record { scans = h1; spells = file_spelled inner_comment_t1.tokens inner_comment_f1 (inner_comment_spelled1) }) none) (package_ _ _ (file _ _ inner_comment_t2 refl (record { scans = h2; spells = file_spelled inner_comment_t2.tokens inner_comment_f2 (inner_comment_spelled2) }) none) none))) (ends inner_comment_start refl) (begins [] inner_comment_start) (kept_by ([]) (codes "main.go") inner_comment_t0.text inner_comment_t0.text (((codes "old/old.go"), inner_comment_t1.text) ∷ ((codes "pow/pow.go"), inner_comment_t2.text) ∷ []) (((codes "old/old.go"), inner_comment_t1.text) ∷ ((codes "pow/pow.go"), inner_comment_t2.text) ∷ []) refl refl (kept_by ([]) (codes "old/old.go") inner_comment_t1.text inner_comment_t1.text (((codes "pow/pow.go"), inner_comment_t2.text) ∷ []) (((codes "pow/pow.go"), inner_comment_t2.text) ∷ []) refl refl (kept_by ([]) (codes "pow/pow.go") inner_comment_t2.text inner_comment_t2.text [] [] refl refl run.none))) refl
+
+inner_comment_t0_found : TokensOf inner_comment_t0.text inner_comment_t0.tokens inner_comment_t0.comments
+unfolding piece_of lexeme_of longest_from next_of tokens_from comments_from keyword_spellings is_letter is_digit general_category general_category_rows value_in lib.Utf8.encode
+inner_comment_t0_found = tokens_by inner_comment_t0.text inner_comment_t0.tokens inner_comment_t0.comments refl refl refl
+
+inner_comment_t1_found : TokensOf inner_comment_t1.text inner_comment_t1.tokens inner_comment_t1.comments
+unfolding piece_of lexeme_of longest_from next_of tokens_from comments_from keyword_spellings is_letter is_digit general_category general_category_rows value_in lib.Utf8.encode
+inner_comment_t1_found = tokens_by inner_comment_t1.text inner_comment_t1.tokens inner_comment_t1.comments refl refl refl
+
+inner_comment_t2_found : TokensOf inner_comment_t2.text inner_comment_t2.tokens inner_comment_t2.comments
+unfolding piece_of lexeme_of longest_from next_of tokens_from comments_from keyword_spellings is_letter is_digit general_category general_category_rows value_in lib.Utf8.encode
+inner_comment_t2_found = tokens_by inner_comment_t2.text inner_comment_t2.tokens inner_comment_t2.comments refl refl refl
+
+inner_comment_run : IsInlining the_limits 29 inner_comment.packages inner_comment.texts [] (((codes "main.go"), inner_comment_t0) ∷ ((codes "old/old.go"), inner_comment_t1) ∷ ((codes "pow/pow.go"), inner_comment_t2) ∷ []) (codes "main.go:7:10: kept example.com/m/old.Square: comment inside\n")
+inner_comment_run = inner_comment_inlined inner_comment_t0_found inner_comment_t1_found inner_comment_t2_found
 
 -- A predeclared name means a variable at the use.
 abbrev shadowed_word_f0 : File Span
@@ -166,10 +208,21 @@ shadowed_word_spelled1 = refl
 abbrev shadowed_word_start : Standing
 shadowed_word_start = standing_as_read shadowed_word.packages shadowed_word.texts
 
--- the whole run, where these are the tokens of the texts
+-- the whole run, with the tokens of the texts
 shadowed_word_inlined : (h0 : TokensOf shadowed_word_t0.text shadowed_word_t0.tokens shadowed_word_t0.comments) (h1 : TokensOf shadowed_word_t1.text shadowed_word_t1.tokens shadowed_word_t1.comments) → IsInlining the_limits 29 shadowed_word.packages shadowed_word.texts [] (((codes "main.go"), shadowed_word_t0) ∷ ((codes "old/old.go"), shadowed_word_t1) ∷ []) (codes "main.go:7:10: kept example.com/m/old.Size: shadowed: len\n")
 unfolding passes keyword_spellings is_inline digits reading
 shadowed_word_inlined h0 h1 = inlining_by the_limits 29 shadowed_word.packages shadowed_word.texts [] shadowed_word.marks shadowed_word_start ([]) (codes "main.go:7:10: kept example.com/m/old.Size: shadowed: len\n") shadowed_word_marks (package_ _ _ (file _ _ shadowed_word_t0 refl (record { scans = h0; spells = file_spelled shadowed_word_t0.tokens shadowed_word_f0 (shadowed_word_spelled0) }) none) (package_ _ _ (file _ _ shadowed_word_t1 refl (record { scans = h1; spells = file_spelled shadowed_word_t1.tokens shadowed_word_f1 (shadowed_word_spelled1) }) none) none)) (ends shadowed_word_start refl) (begins [] shadowed_word_start) (kept_by ([]) (codes "main.go") shadowed_word_t0.text shadowed_word_t0.text (((codes "old/old.go"), shadowed_word_t1.text) ∷ []) (((codes "old/old.go"), shadowed_word_t1.text) ∷ []) refl refl (kept_by ([]) (codes "old/old.go") shadowed_word_t1.text shadowed_word_t1.text [] [] refl refl run.none)) refl
+
+shadowed_word_t0_found : TokensOf shadowed_word_t0.text shadowed_word_t0.tokens shadowed_word_t0.comments
+unfolding piece_of lexeme_of longest_from next_of tokens_from comments_from keyword_spellings is_letter is_digit general_category general_category_rows value_in lib.Utf8.encode
+shadowed_word_t0_found = tokens_by shadowed_word_t0.text shadowed_word_t0.tokens shadowed_word_t0.comments refl refl refl
+
+shadowed_word_t1_found : TokensOf shadowed_word_t1.text shadowed_word_t1.tokens shadowed_word_t1.comments
+unfolding piece_of lexeme_of longest_from next_of tokens_from comments_from keyword_spellings is_letter is_digit general_category general_category_rows value_in lib.Utf8.encode
+shadowed_word_t1_found = tokens_by shadowed_word_t1.text shadowed_word_t1.tokens shadowed_word_t1.comments refl refl refl
+
+shadowed_word_run : IsInlining the_limits 29 shadowed_word.packages shadowed_word.texts [] (((codes "main.go"), shadowed_word_t0) ∷ ((codes "old/old.go"), shadowed_word_t1) ∷ []) (codes "main.go:7:10: kept example.com/m/old.Size: shadowed: len\n")
+shadowed_word_run = shadowed_word_inlined shadowed_word_t0_found shadowed_word_t1_found
 
 -- A name that is not exported.
 abbrev hidden_helper_f0 : File Span
@@ -202,7 +255,18 @@ hidden_helper_spelled1 = refl
 abbrev hidden_helper_start : Standing
 hidden_helper_start = standing_as_read hidden_helper.packages hidden_helper.texts
 
--- the whole run, where these are the tokens of the texts
+-- the whole run, with the tokens of the texts
 hidden_helper_inlined : (h0 : TokensOf hidden_helper_t0.text hidden_helper_t0.tokens hidden_helper_t0.comments) (h1 : TokensOf hidden_helper_t1.text hidden_helper_t1.tokens hidden_helper_t1.comments) → IsInlining the_limits 29 hidden_helper.packages hidden_helper.texts [] (((codes "main.go"), hidden_helper_t0) ∷ ((codes "old/old.go"), hidden_helper_t1) ∷ []) (codes "main.go:6:10: kept example.com/m/old.Do: not accessible: helper\n")
 unfolding passes keyword_spellings is_inline digits reading
 hidden_helper_inlined h0 h1 = inlining_by the_limits 29 hidden_helper.packages hidden_helper.texts [] hidden_helper.marks hidden_helper_start ([]) (codes "main.go:6:10: kept example.com/m/old.Do: not accessible: helper\n") hidden_helper_marks (package_ _ _ (file _ _ hidden_helper_t0 refl (record { scans = h0; spells = file_spelled hidden_helper_t0.tokens hidden_helper_f0 (hidden_helper_spelled0) }) none) (package_ _ _ (file _ _ hidden_helper_t1 refl (record { scans = h1; spells = file_spelled hidden_helper_t1.tokens hidden_helper_f1 (hidden_helper_spelled1) }) none) none)) (ends hidden_helper_start refl) (begins [] hidden_helper_start) (kept_by ([]) (codes "main.go") hidden_helper_t0.text hidden_helper_t0.text (((codes "old/old.go"), hidden_helper_t1.text) ∷ []) (((codes "old/old.go"), hidden_helper_t1.text) ∷ []) refl refl (kept_by ([]) (codes "old/old.go") hidden_helper_t1.text hidden_helper_t1.text [] [] refl refl run.none)) refl
+
+hidden_helper_t0_found : TokensOf hidden_helper_t0.text hidden_helper_t0.tokens hidden_helper_t0.comments
+unfolding piece_of lexeme_of longest_from next_of tokens_from comments_from keyword_spellings is_letter is_digit general_category general_category_rows value_in lib.Utf8.encode
+hidden_helper_t0_found = tokens_by hidden_helper_t0.text hidden_helper_t0.tokens hidden_helper_t0.comments refl refl refl
+
+hidden_helper_t1_found : TokensOf hidden_helper_t1.text hidden_helper_t1.tokens hidden_helper_t1.comments
+unfolding piece_of lexeme_of longest_from next_of tokens_from comments_from keyword_spellings is_letter is_digit general_category general_category_rows value_in lib.Utf8.encode
+hidden_helper_t1_found = tokens_by hidden_helper_t1.text hidden_helper_t1.tokens hidden_helper_t1.comments refl refl refl
+
+hidden_helper_run : IsInlining the_limits 29 hidden_helper.packages hidden_helper.texts [] (((codes "main.go"), hidden_helper_t0) ∷ ((codes "old/old.go"), hidden_helper_t1) ∷ []) (codes "main.go:6:10: kept example.com/m/old.Do: not accessible: helper\n")
+hidden_helper_run = hidden_helper_inlined hidden_helper_t0_found hidden_helper_t1_found

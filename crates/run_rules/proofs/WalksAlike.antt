@@ -106,9 +106,9 @@ module _ {S : Type 0} (c : Changes S) where
     stmt-alike p l (continue_ s n) h = asked (c.stmt p (continue_ s n)) (continue_ (c.span s) (option_map (name_with c.span) n)) (stmt_with c.span (continue_ s n)) h.0 (refl)
     stmt-alike p l (inner s b) h = asked (c.stmt p (inner s b)) (inner (c.span s) (new_stmts c (block p) b)) (stmt_with c.span (inner s b)) (back (stmts_seen (block p) b) (seen_stmt p (inner s b) ∷ []) h).0 (λ w. inner (c.span s) (stmts-alike (block p) b (front (stmts_seen (block p) b) (seen_stmt p (inner s b) ∷ []) h) w))
     stmt-alike p l (if_ s bs z) h = asked (c.stmt p (if_ s bs z)) (if_ (c.span s) (new_arms c (block p) bs) (new_block c (after_arms (block p) bs) z)) (stmt_with c.span (if_ s bs z)) (back (arms_seen (block p) bs ++ block_seen (after_arms (block p) bs) z) (seen_stmt p (if_ s bs z) ∷ []) h).0 (λ w. if_ (c.span s) (arms-alike (block p) bs (front (arms_seen (block p) bs) (block_seen (after_arms (block p) bs) z) (front (arms_seen (block p) bs ++ block_seen (after_arms (block p) bs) z) (seen_stmt p (if_ s bs z) ∷ []) h)) w) (block-alike (after_arms (block p) bs) z (back (arms_seen (block p) bs) (block_seen (after_arms (block p) bs) z) (front (arms_seen (block p) bs ++ block_seen (after_arms (block p) bs) z) (seen_stmt p (if_ s bs z) ∷ []) h)) w))
-    stmt-alike p l (for_ s i t q z b) h = asked (c.stmt p (for_ s i t q z b)) (for_ (c.span s) (new_first c (in_heading true (block p)) false i) (new_option c (in_heading true (after_first (block p) i)) t) (new_first c (in_heading true (after_first (block p) i)) true q) (c.span z) (new_stmts c (looping (block (after_first (block p) i))) b)) (stmt_with c.span (for_ s i t q z b)) (back (first_seen (in_heading true (block p)) false i ++ option_seen (in_heading true (after_first (block p) i)) t ++ first_seen (in_heading true (after_first (block p) i)) true q ++ stmts_seen (looping (block (after_first (block p) i))) b) (seen_stmt p (for_ s i t q z b) ∷ []) h).0 (λ w. for_ (c.span s) (first-alike (in_heading true (block p)) false i (front (first_seen (in_heading true (block p)) false i) (option_seen (in_heading true (after_first (block p) i)) t) (front (first_seen (in_heading true (block p)) false i ++ option_seen (in_heading true (after_first (block p) i)) t) (first_seen (in_heading true (after_first (block p) i)) true q) (front (first_seen (in_heading true (block p)) false i ++ option_seen (in_heading true (after_first (block p) i)) t ++ first_seen (in_heading true (after_first (block p) i)) true q) (stmts_seen (looping (block (after_first (block p) i))) b) (front (first_seen (in_heading true (block p)) false i ++ option_seen (in_heading true (after_first (block p) i)) t ++ first_seen (in_heading true (after_first (block p) i)) true q ++ stmts_seen (looping (block (after_first (block p) i))) b) (seen_stmt p (for_ s i t q z b) ∷ []) h)))) w) (option-alike (in_heading true (after_first (block p) i)) t (back (first_seen (in_heading true (block p)) false i) (option_seen (in_heading true (after_first (block p) i)) t) (front (first_seen (in_heading true (block p)) false i ++ option_seen (in_heading true (after_first (block p) i)) t) (first_seen (in_heading true (after_first (block p) i)) true q) (front (first_seen (in_heading true (block p)) false i ++ option_seen (in_heading true (after_first (block p) i)) t ++ first_seen (in_heading true (after_first (block p) i)) true q) (stmts_seen (looping (block (after_first (block p) i))) b) (front (first_seen (in_heading true (block p)) false i ++ option_seen (in_heading true (after_first (block p) i)) t ++ first_seen (in_heading true (after_first (block p) i)) true q ++ stmts_seen (looping (block (after_first (block p) i))) b) (seen_stmt p (for_ s i t q z b) ∷ []) h)))) w) (first-alike (in_heading true (after_first (block p) i)) true q (back (first_seen (in_heading true (block p)) false i ++ option_seen (in_heading true (after_first (block p) i)) t) (first_seen (in_heading true (after_first (block p) i)) true q) (front (first_seen (in_heading true (block p)) false i ++ option_seen (in_heading true (after_first (block p) i)) t ++ first_seen (in_heading true (after_first (block p) i)) true q) (stmts_seen (looping (block (after_first (block p) i))) b) (front (first_seen (in_heading true (block p)) false i ++ option_seen (in_heading true (after_first (block p) i)) t ++ first_seen (in_heading true (after_first (block p) i)) true q ++ stmts_seen (looping (block (after_first (block p) i))) b) (seen_stmt p (for_ s i t q z b) ∷ []) h))) w) (c.span z) (stmts-alike (looping (block (after_first (block p) i))) b (back (first_seen (in_heading true (block p)) false i ++ option_seen (in_heading true (after_first (block p) i)) t ++ first_seen (in_heading true (after_first (block p) i)) true q) (stmts_seen (looping (block (after_first (block p) i))) b) (front (first_seen (in_heading true (block p)) false i ++ option_seen (in_heading true (after_first (block p) i)) t ++ first_seen (in_heading true (after_first (block p) i)) true q ++ stmts_seen (looping (block (after_first (block p) i))) b) (seen_stmt p (for_ s i t q z b) ∷ []) h)) w))
+    stmt-alike p l (for_ s i t q z b) h = asked (c.stmt p (for_ s i t q z b)) (for_ (c.span s) (new_first c (in_heading true (block p)) i) (new_option c (in_heading true (after_first (block p) i)) t) (new_first c (in_heading true (after_first (block p) i)) q) (c.span z) (new_stmts c (looping (block (after_first (block p) i))) b)) (stmt_with c.span (for_ s i t q z b)) (back (first_seen (in_heading true (block p)) i ++ option_seen (in_heading true (after_first (block p) i)) t ++ first_seen (in_heading true (after_first (block p) i)) q ++ stmts_seen (looping (block (after_first (block p) i))) b) (seen_stmt p (for_ s i t q z b) ∷ []) h).0 (λ w. for_ (c.span s) (first-alike (in_heading true (block p)) i (front (first_seen (in_heading true (block p)) i) (option_seen (in_heading true (after_first (block p) i)) t) (front (first_seen (in_heading true (block p)) i ++ option_seen (in_heading true (after_first (block p) i)) t) (first_seen (in_heading true (after_first (block p) i)) q) (front (first_seen (in_heading true (block p)) i ++ option_seen (in_heading true (after_first (block p) i)) t ++ first_seen (in_heading true (after_first (block p) i)) q) (stmts_seen (looping (block (after_first (block p) i))) b) (front (first_seen (in_heading true (block p)) i ++ option_seen (in_heading true (after_first (block p) i)) t ++ first_seen (in_heading true (after_first (block p) i)) q ++ stmts_seen (looping (block (after_first (block p) i))) b) (seen_stmt p (for_ s i t q z b) ∷ []) h)))) w) (option-alike (in_heading true (after_first (block p) i)) t (back (first_seen (in_heading true (block p)) i) (option_seen (in_heading true (after_first (block p) i)) t) (front (first_seen (in_heading true (block p)) i ++ option_seen (in_heading true (after_first (block p) i)) t) (first_seen (in_heading true (after_first (block p) i)) q) (front (first_seen (in_heading true (block p)) i ++ option_seen (in_heading true (after_first (block p) i)) t ++ first_seen (in_heading true (after_first (block p) i)) q) (stmts_seen (looping (block (after_first (block p) i))) b) (front (first_seen (in_heading true (block p)) i ++ option_seen (in_heading true (after_first (block p) i)) t ++ first_seen (in_heading true (after_first (block p) i)) q ++ stmts_seen (looping (block (after_first (block p) i))) b) (seen_stmt p (for_ s i t q z b) ∷ []) h)))) w) (first-alike (in_heading true (after_first (block p) i)) q (back (first_seen (in_heading true (block p)) i ++ option_seen (in_heading true (after_first (block p) i)) t) (first_seen (in_heading true (after_first (block p) i)) q) (front (first_seen (in_heading true (block p)) i ++ option_seen (in_heading true (after_first (block p) i)) t ++ first_seen (in_heading true (after_first (block p) i)) q) (stmts_seen (looping (block (after_first (block p) i))) b) (front (first_seen (in_heading true (block p)) i ++ option_seen (in_heading true (after_first (block p) i)) t ++ first_seen (in_heading true (after_first (block p) i)) q ++ stmts_seen (looping (block (after_first (block p) i))) b) (seen_stmt p (for_ s i t q z b) ∷ []) h))) w) (c.span z) (stmts-alike (looping (block (after_first (block p) i))) b (back (first_seen (in_heading true (block p)) i ++ option_seen (in_heading true (after_first (block p) i)) t ++ first_seen (in_heading true (after_first (block p) i)) q) (stmts_seen (looping (block (after_first (block p) i))) b) (front (first_seen (in_heading true (block p)) i ++ option_seen (in_heading true (after_first (block p) i)) t ++ first_seen (in_heading true (after_first (block p) i)) q ++ stmts_seen (looping (block (after_first (block p) i))) b) (seen_stmt p (for_ s i t q z b) ∷ []) h)) w))
     stmt-alike p l (range_ s x e z b) h = asked (c.stmt p (range_ s x e z b)) (range_ (c.span s) (new_left c (in_heading true p) x) (new_expr c (in_heading true p) other e) (c.span z) (new_stmts c (looping (block (ranged p x e))) b)) (stmt_with c.span (range_ s x e z b)) (back (left_seen (in_heading true p) x ++ expr_seen (in_heading true p) other e ++ stmts_seen (looping (block (ranged p x e))) b) (seen_stmt p (range_ s x e z b) ∷ []) h).0 (λ w. range_ (c.span s) (left-alike (in_heading true p) x (front (left_seen (in_heading true p) x) (expr_seen (in_heading true p) other e) (front (left_seen (in_heading true p) x ++ expr_seen (in_heading true p) other e) (stmts_seen (looping (block (ranged p x e))) b) (front (left_seen (in_heading true p) x ++ expr_seen (in_heading true p) other e ++ stmts_seen (looping (block (ranged p x e))) b) (seen_stmt p (range_ s x e z b) ∷ []) h))) w) (expr-alike (in_heading true p) other e (back (left_seen (in_heading true p) x) (expr_seen (in_heading true p) other e) (front (left_seen (in_heading true p) x ++ expr_seen (in_heading true p) other e) (stmts_seen (looping (block (ranged p x e))) b) (front (left_seen (in_heading true p) x ++ expr_seen (in_heading true p) other e ++ stmts_seen (looping (block (ranged p x e))) b) (seen_stmt p (range_ s x e z b) ∷ []) h))) w) (c.span z) (stmts-alike (looping (block (ranged p x e))) b (back (left_seen (in_heading true p) x ++ expr_seen (in_heading true p) other e) (stmts_seen (looping (block (ranged p x e))) b) (front (left_seen (in_heading true p) x ++ expr_seen (in_heading true p) other e ++ stmts_seen (looping (block (ranged p x e))) b) (seen_stmt p (range_ s x e z b) ∷ []) h)) w))
-    stmt-alike p l (switch s i t cs) h = asked (c.stmt p (switch s i t cs)) (switch (c.span s) (new_first c (in_heading true (block p)) false i) (new_option c (in_heading true (after_first (block p) i)) t) (new_cases c (switching (after_first (block p) i)) cs)) (stmt_with c.span (switch s i t cs)) (back (first_seen (in_heading true (block p)) false i ++ option_seen (in_heading true (after_first (block p) i)) t ++ cases_seen (switching (after_first (block p) i)) cs) (seen_stmt p (switch s i t cs) ∷ []) h).0 (λ w. switch (c.span s) (first-alike (in_heading true (block p)) false i (front (first_seen (in_heading true (block p)) false i) (option_seen (in_heading true (after_first (block p) i)) t) (front (first_seen (in_heading true (block p)) false i ++ option_seen (in_heading true (after_first (block p) i)) t) (cases_seen (switching (after_first (block p) i)) cs) (front (first_seen (in_heading true (block p)) false i ++ option_seen (in_heading true (after_first (block p) i)) t ++ cases_seen (switching (after_first (block p) i)) cs) (seen_stmt p (switch s i t cs) ∷ []) h))) w) (option-alike (in_heading true (after_first (block p) i)) t (back (first_seen (in_heading true (block p)) false i) (option_seen (in_heading true (after_first (block p) i)) t) (front (first_seen (in_heading true (block p)) false i ++ option_seen (in_heading true (after_first (block p) i)) t) (cases_seen (switching (after_first (block p) i)) cs) (front (first_seen (in_heading true (block p)) false i ++ option_seen (in_heading true (after_first (block p) i)) t ++ cases_seen (switching (after_first (block p) i)) cs) (seen_stmt p (switch s i t cs) ∷ []) h))) w) (cases-alike (switching (after_first (block p) i)) cs (back (first_seen (in_heading true (block p)) false i ++ option_seen (in_heading true (after_first (block p) i)) t) (cases_seen (switching (after_first (block p) i)) cs) (front (first_seen (in_heading true (block p)) false i ++ option_seen (in_heading true (after_first (block p) i)) t ++ cases_seen (switching (after_first (block p) i)) cs) (seen_stmt p (switch s i t cs) ∷ []) h)) w))
+    stmt-alike p l (switch s i t cs) h = asked (c.stmt p (switch s i t cs)) (switch (c.span s) (new_first c (in_heading true (block p)) i) (new_option c (in_heading true (after_first (block p) i)) t) (new_cases c (switching (after_first (block p) i)) cs)) (stmt_with c.span (switch s i t cs)) (back (first_seen (in_heading true (block p)) i ++ option_seen (in_heading true (after_first (block p) i)) t ++ cases_seen (switching (after_first (block p) i)) cs) (seen_stmt p (switch s i t cs) ∷ []) h).0 (λ w. switch (c.span s) (first-alike (in_heading true (block p)) i (front (first_seen (in_heading true (block p)) i) (option_seen (in_heading true (after_first (block p) i)) t) (front (first_seen (in_heading true (block p)) i ++ option_seen (in_heading true (after_first (block p) i)) t) (cases_seen (switching (after_first (block p) i)) cs) (front (first_seen (in_heading true (block p)) i ++ option_seen (in_heading true (after_first (block p) i)) t ++ cases_seen (switching (after_first (block p) i)) cs) (seen_stmt p (switch s i t cs) ∷ []) h))) w) (option-alike (in_heading true (after_first (block p) i)) t (back (first_seen (in_heading true (block p)) i) (option_seen (in_heading true (after_first (block p) i)) t) (front (first_seen (in_heading true (block p)) i ++ option_seen (in_heading true (after_first (block p) i)) t) (cases_seen (switching (after_first (block p) i)) cs) (front (first_seen (in_heading true (block p)) i ++ option_seen (in_heading true (after_first (block p) i)) t ++ cases_seen (switching (after_first (block p) i)) cs) (seen_stmt p (switch s i t cs) ∷ []) h))) w) (cases-alike (switching (after_first (block p) i)) cs (back (first_seen (in_heading true (block p)) i ++ option_seen (in_heading true (after_first (block p) i)) t) (cases_seen (switching (after_first (block p) i)) cs) (front (first_seen (in_heading true (block p)) i ++ option_seen (in_heading true (after_first (block p) i)) t ++ cases_seen (switching (after_first (block p) i)) cs) (seen_stmt p (switch s i t cs) ∷ []) h)) w))
     stmt-alike p l (defer s e) h = asked (c.stmt p (defer s e)) (defer (c.span s) (new_expr c (record p { deferring = true; slot = a_slot 0 false false }) deferred_call e)) (stmt_with c.span (defer s e)) (back (expr_seen (record p { deferring = true; slot = a_slot 0 false false }) deferred_call e) (seen_stmt p (defer s e) ∷ []) h).0 (λ w. defer (c.span s) (expr-alike (record p { deferring = true; slot = a_slot 0 false false }) deferred_call e (front (expr_seen (record p { deferring = true; slot = a_slot 0 false false }) deferred_call e) (seen_stmt p (defer s e) ∷ []) h) w))
     stmt-alike p l (label s n x) h = asked (c.stmt p (label s n x)) (label (c.span s) (name_with c.span n) (new_stmt c (record p { ctx = labelled p.ctx n x }) false x)) (stmt_with c.span (label s n x)) (back (stmt_seen (record p { ctx = labelled p.ctx n x }) false x) (seen_stmt p (label s n x) ∷ []) h).0 (λ w. label (c.span s) (name_with c.span n) (stmt-alike (record p { ctx = labelled p.ctx n x }) false x (front (stmt_seen (record p { ctx = labelled p.ctx n x }) false x) (seen_stmt p (label s n x) ∷ []) h) w))
 
@@ -116,9 +116,9 @@ module _ {S : Type 0} (c : Changes S) where
     stmts-alike p no_stmts h = refl
     stmts-alike p (stmt_and s ss) h = λ w. stmt_and (stmt-alike (at_stmt p s) true s (front (stmt_seen (at_stmt p s) true s) (stmts_seen (after_stmt p s) ss) h) w) (stmts-alike (after_stmt p s) ss (back (stmt_seen (at_stmt p s) true s) (stmts_seen (after_stmt p s) ss) h) w)
 
-    pub first-alike : (p : Place S) (post : Bool) (x : StmtOption S) → AllQuiet c (first_seen p post x) → new_first c p post x ≡ stmt_option_with c.span x
-    first-alike p post no_stmt h = refl
-    first-alike p post (some_stmt s) h = λ w. some_stmt (stmt-alike p false s h w)
+    pub first-alike : (p : Place S) (x : StmtOption S) → AllQuiet c (first_seen p x) → new_first c p x ≡ stmt_option_with c.span x
+    first-alike p no_stmt h = refl
+    first-alike p (some_stmt s) h = λ w. some_stmt (stmt-alike p false s h w)
 
     pub block-alike : (p : Place S) (x : BlockOption S) → AllQuiet c (block_seen p x) → new_block c p x ≡ block_option_with c.span x
     block-alike p no_block h = refl
@@ -131,7 +131,7 @@ module _ {S : Type 0} (c : Changes S) where
 
     pub arms-alike : (p : Place S) (x : Arms S) → AllQuiet c (arms_seen p x) → new_arms c p x ≡ arms_with c.span x
     arms-alike p no_arms h = refl
-    arms-alike p (arm s i t z b r) h = λ w. arm (c.span s) (first-alike (in_heading true p) false i (front (first_seen (in_heading true p) false i) (expr_seen (in_heading true (after_first p i)) other t) (front (first_seen (in_heading true p) false i ++ expr_seen (in_heading true (after_first p i)) other t) (stmts_seen (block (after_first p i)) b) (front (first_seen (in_heading true p) false i ++ expr_seen (in_heading true (after_first p i)) other t ++ stmts_seen (block (after_first p i)) b) (arms_seen (block (after_first p i)) r) h))) w) (expr-alike (in_heading true (after_first p i)) other t (back (first_seen (in_heading true p) false i) (expr_seen (in_heading true (after_first p i)) other t) (front (first_seen (in_heading true p) false i ++ expr_seen (in_heading true (after_first p i)) other t) (stmts_seen (block (after_first p i)) b) (front (first_seen (in_heading true p) false i ++ expr_seen (in_heading true (after_first p i)) other t ++ stmts_seen (block (after_first p i)) b) (arms_seen (block (after_first p i)) r) h))) w) (c.span z) (stmts-alike (block (after_first p i)) b (back (first_seen (in_heading true p) false i ++ expr_seen (in_heading true (after_first p i)) other t) (stmts_seen (block (after_first p i)) b) (front (first_seen (in_heading true p) false i ++ expr_seen (in_heading true (after_first p i)) other t ++ stmts_seen (block (after_first p i)) b) (arms_seen (block (after_first p i)) r) h)) w) (arms-alike (block (after_first p i)) r (back (first_seen (in_heading true p) false i ++ expr_seen (in_heading true (after_first p i)) other t ++ stmts_seen (block (after_first p i)) b) (arms_seen (block (after_first p i)) r) h) w)
+    arms-alike p (arm s i t z b r) h = λ w. arm (c.span s) (first-alike (in_heading true p) i (front (first_seen (in_heading true p) i) (expr_seen (in_heading true (after_first p i)) other t) (front (first_seen (in_heading true p) i ++ expr_seen (in_heading true (after_first p i)) other t) (stmts_seen (block (after_first p i)) b) (front (first_seen (in_heading true p) i ++ expr_seen (in_heading true (after_first p i)) other t ++ stmts_seen (block (after_first p i)) b) (arms_seen (block (after_first p i)) r) h))) w) (expr-alike (in_heading true (after_first p i)) other t (back (first_seen (in_heading true p) i) (expr_seen (in_heading true (after_first p i)) other t) (front (first_seen (in_heading true p) i ++ expr_seen (in_heading true (after_first p i)) other t) (stmts_seen (block (after_first p i)) b) (front (first_seen (in_heading true p) i ++ expr_seen (in_heading true (after_first p i)) other t ++ stmts_seen (block (after_first p i)) b) (arms_seen (block (after_first p i)) r) h))) w) (c.span z) (stmts-alike (block (after_first p i)) b (back (first_seen (in_heading true p) i ++ expr_seen (in_heading true (after_first p i)) other t) (stmts_seen (block (after_first p i)) b) (front (first_seen (in_heading true p) i ++ expr_seen (in_heading true (after_first p i)) other t ++ stmts_seen (block (after_first p i)) b) (arms_seen (block (after_first p i)) r) h)) w) (arms-alike (block (after_first p i)) r (back (first_seen (in_heading true p) i ++ expr_seen (in_heading true (after_first p i)) other t ++ stmts_seen (block (after_first p i)) b) (arms_seen (block (after_first p i)) r) h) w)
 
     pub cases-alike : (p : Place S) (x : Cases S) → AllQuiet c (cases_seen p x) → new_cases c p x ≡ cases_with c.span x
     cases-alike p no_cases h = refl

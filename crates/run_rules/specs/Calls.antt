@@ -1,11 +1,10 @@
 -- A call of a marked function: its arguments, what is known of each parameter, and the parameters that are replaced by
 -- their arguments (Go specification, Calls; Order of evaluation; Constant expressions; Handling panics).
-use Rattle.std.specs.Prelude.{ℕ, suc, ◌-◌, Bool, true, false, not, ◌&&◌, ◌||◌, List, [], ◌∷◌, ◌++◌, map, take, length, Option, Some, None, if◌then◌else◌, nat_eq, nat_le, is_some, codes}
-use Rattle.std.specs.List.{list_any}
+use Rattle.std.specs.Prelude.{ℕ, ◌-◌, Bool, true, false, not, ◌&&◌, ◌||◌, List, [], ◌∷◌, ◌++◌, map, take, length, Option, Some, None, if◌then◌else◌, nat_eq, nat_le, is_some, codes}
+use Rattle.std.specs.List.{count_by, list_any}
 use Rattle.go_tree.specs.declared.operators.UnOp.TheVariants.{Address}
 use Rattle.go_tree.specs.Tree.{NameAt, TypeExpr, Param, Expr, ident, int_lit, rune_lit, str_lit, selector, call, unary, star, Exprs, no_exprs, expr_and}
 use Rattle.go_tree.specs.File.{Func}
-use Rattle.const_eval.specs.declared.kinds.Kind.TheVariants as kind
 use Rattle.scope_names.specs.FreeNames.{names_of, free_expr, free_type}
 use Rattle.scope_names.specs.Means.{is_blank, binding}
 use Rattle.scope_names.specs.Scopes.{not_blank, param_names}
@@ -17,64 +16,23 @@ use Rattle.order_hazards.specs.Items.{is_write}
 use Rattle.param_choice.specs.declared.table.CallTable.{CallTable}
 use Rattle.param_choice.specs.Chosen.{has}
 use Rattle.go_types.specs.Answers.{given, meets, otherwise, is_among}
-use Rattle.go_types.specs.Types.{GoType, FuncType, basic, untyped_nil, base_of, is_nil, is_untyped, untyped_kind, same_kind}
+use Rattle.go_types.specs.Types.{GoType, FuncType, untyped_nil, base_of, is_untyped}
 use Rattle.go_types.specs.Identical.{identical}
 use Rattle.go_types.specs.Defined.{methods}
-use Rattle.go_types.specs.Entities.{Recover, run, exact, shift, elsewhere, Entity, variable, stand_in, builtin, Env, Binds, meaning, defined_in}
-use Rattle.go_types.specs.Operands.{Operand, several, Typed, typed, default_type}
+use Rattle.go_types.specs.Entities.{Recover, run, Entity, builtin, Env, Binds, meaning, defined_in}
+use Rattle.go_types.specs.Operands.{Operand, several, Typed, typed}
 use Rattle.go_types.specs.Primary.{find_method}
 use Rattle.go_types.specs.Typing.{parts, all_parts, stmts}
 use Rattle.go_types.specs.Recorded.{recorded_stmts, hardens}
-use Rattle.run_rules.specs.Surroundings.{Use, into, beside, whole, returned, stored, updated, addressed, other, Place, Seen, seen, seen_type, seen_stmt, local_at}
+use Rattle.run_rules.specs.Surroundings.{Use, stored, updated, addressed, other, Place, Seen, seen, seen_type, seen_stmt, local_at}
 use Rattle.run_rules.specs.Places.{expr_seen, stmts_seen}
 use Rattle.run_rules.specs.Classes.{type_at, is_constant, points, root, is_rooted, address_taken, is_held, class_of}
 use Rattle.run_rules.specs.BodyItems.{up_to_stop, stmts_items}
 use Rattle.run_rules.specs.Choice.{best}
+use Rattle.run_rules.specs.Conversions.{chosen_entity}
 use Rattle.run_rules.specs.Programs.{numbered, params_of, param_types, type_of_func, body_place}
 use Rattle.run_rules.specs.Sites.{Where, is_deferred}
 use Rattle.go_types.specs.Bodies.{is_body}
-
--- ---- conversions of a value that takes the place of one of a type
-
--- the type of the other operand
-abbrev pub beside_type : Use → Option GoType
-beside_type (beside t) = Some t
-beside_type u = None
-
--- the type that a value goes into
-abbrev pub target_type : Use → Option GoType
-target_type (into t) = Some t
-target_type (returned (t ∷ [])) = Some t
-target_type u = None
-
--- it stands whole as an argument of `print`, `println` or `panic`, or as a right side without a type
-abbrev pub is_whole : Use → Bool
-is_whole whole = true
-is_whole u = false
-
--- the type is `bool`
-abbrev pub is_bool : GoType → Bool
-is_bool t = identical t (basic kind.Bool)
-
--- An untyped value stays as it is: a constant or nil that goes into the type, a constant beside a value of the type, a
--- whole constant whose default type it is, and a truth value that isn't constant where the type is `bool`.
-abbrev pub stays : Typed → GoType → Use → Bool
-stays (t, exact c) to u =
-    meets (target_type u) (identical to) || (meets (beside_type u) (identical to)
-    || (is_whole u && meets (default_type [] t) (identical to)))
-stays (t, run) to u = if is_nil t then meets (target_type u) (identical to) else is_bool to
-stays (t, shift cs) to u = false
-
--- a conversion is written
-abbrev pub converts : Typed → GoType → Use → Bool
-converts v to u = if is_untyped v.0 then not (stays v to u) else not (identical v.0 to)
-
--- what a chosen parameter is in the body: its argument, as it will stand there
-abbrev pub chosen_entity : GoType → Typed → Entity
-chosen_entity t (u, exact c) = stand_in elsewhere t (exact c)
-chosen_entity t (u, run) =
-    if meets (untyped_kind u) (same_kind kind.UntypedBool) && is_bool t then stand_in elsewhere u run else variable t
-chosen_entity t (u, shift cs) = variable t
 
 -- the blank identifier
 abbrev pub blank : List ℕ
@@ -187,11 +145,6 @@ module _ {S : Type 0} where
       means_recover (Some (builtin Recover)) = true
       means_recover d = false
   is_recover x = false
-
-  -- how many parts of a list pass a test
-  abbrev pub count_seen : (Seen S → Bool) → List (Seen S) → ℕ
-  count_seen test [] = 0
-  count_seen test (x ∷ xs) = if test x then suc (count_seen test xs) else count_seen test xs
 
   -- a name is a whole left side of `=` or `:=`
   abbrev pub is_stored : Seen S → Bool
@@ -333,7 +286,7 @@ module _ {S : Type 0} (same : S → S → Bool) where
 
     -- no use of the variable is left outside the call
     abbrev pub is_last_use : S → Bool
-    is_last_use v = nat_eq (count_seen (is_use_of v) c.around) (count_seen (is_use_of v) call_seen)
+    is_last_use v = nat_eq (count_by (is_use_of v) c.around) (count_by (is_use_of v) call_seen)
 
     -- what is known of a parameter
     abbrev pub row : Given S → ParamRow
@@ -344,7 +297,7 @@ module _ {S : Type 0} (same : S → S → Bool) where
           class = class_of caller_held c.at g.arg;
           constant = is_constant c.at.env g.arg;
           duplicable = is_duplicable g.arg;
-          uses = count_seen (uses v) body_seen;
+          uses = count_by (uses v) body_seen;
           barred = is_barred g v;
           deferred_use = is_deferred c.use_ || list_any (λ x. uses v x && (place_of x).deferred) body_seen;
           last_use = list_any is_last_use named_here;

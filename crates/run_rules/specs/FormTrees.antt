@@ -8,7 +8,6 @@ use Rattle.pkg_graph.specs.Package.{Package}
 use Rattle.go_types.specs.Answers.{given}
 use Rattle.go_types.specs.Types.{GoType}
 use Rattle.go_types.specs.Identical.{identical}
-use Rattle.go_types.specs.Typing.{stmt}
 use Rattle.run_rules.specs.Surroundings.{Use, returned, alone, Place}
 use Rattle.run_rules.specs.Rewriting.{Changes}
 use Rattle.run_rules.specs.Programs.{top_place}

@@ -1,11 +1,12 @@
 -- What may stand in the place of a call: when each form applies, and its tree (Go specification, Calls; Return
 -- statements; Blocks; Conversions; Defer statements; Handling panics).
 use Rattle.std.specs.Prelude.{ℕ, zero, suc, Bool, true, false, not, ◌&&◌, ◌||◌, List, [], ◌∷◌, map, Option, Some, None, if◌then◌else◌, nat_eq, nat_lt, is_some}
-use Rattle.std.specs.List.{list_any, list_all}
+use Rattle.std.specs.List.{count_by, list_any, list_all}
 use Rattle.go_tree.specs.declared.exprs.Rest.TheVariants.{Plain}
 use Rattle.go_tree.specs.Tree.{NameAt, TypeExpr, Param, Expr, ident, selector, call, func_lit, Exprs, no_exprs, expr_and, Stmt, eval, assign, define, inner, return_, label, Stmts, stmt_and}
 use Rattle.const_eval.specs.declared.consts.Const.{Const}
 use Rattle.scope_names.specs.FreeNames.{params_names, free_expr}
+use Rattle.scope_names.specs.Scopes.{expr_span}
 use Rattle.pkg_graph.specs.Package.{Package}
 use Rattle.param_choice.specs.Chosen.{has}
 use Rattle.go_types.specs.Answers.{given, meets, is_among, is_empty}
@@ -18,8 +19,9 @@ use Rattle.go_types.specs.Recorded.{recorded_stmt, hardens}
 use Rattle.run_rules.specs.Surroundings.{Use, whole, returned, deferred_call, other, Place, Seen, seen, seen_stmt, Around, local_at}
 use Rattle.run_rules.specs.Rewriting.{Changes, new_expr, new_stmt, new_stmts, new_params}
 use Rattle.run_rules.specs.BodyItems.{number_of}
-use Rattle.run_rules.specs.Sites.{expr_span, is_deferred}
-use Rattle.run_rules.specs.Calls.{Given, Call, converts, blank, param_name, declared_place, exprs_of, is_recover, count_seen, uses, is_stored, start, func_type_is, all_params, body_seen, spread_call, args, given_params, arg_typed, start_with, bound_params}
+use Rattle.run_rules.specs.Sites.{is_deferred}
+use Rattle.run_rules.specs.Conversions.{converts}
+use Rattle.run_rules.specs.Calls.{Given, Call, blank, param_name, declared_place, exprs_of, is_recover, uses, is_stored, start, func_type_is, all_params, body_seen, spread_call, args, given_params, arg_typed, start_with, bound_params}
 use Rattle.run_rules.specs.Naming.{Names, type_there}
 use Rattle.go_types.specs.Bodies.{has_names}
 use Rattle.run_rules.specs.FormTrees.{FormKind, ConstForm, TypeForm, ExprForm, BlockForm, TailForm, LiteralForm, Form, as_expr, as_dropped, as_block, hole, is_statement, in_list, returned_types, all_identical, only_one, conversion, a_name, one_expr, top, keep_span, keep_type, outside_name, outside_selector, outside_changes}
@@ -167,7 +169,7 @@ module _ {S : Type 0} (same : S → S → Bool) where
 
     -- the body uses the parameter
     abbrev pub is_used : Given S → Bool
-    is_used g = nat_lt 0 (count_seen (uses same (declared_place g.param)) (body_seen same ps c))
+    is_used g = nat_lt 0 (count_by (uses same (declared_place g.param)) (body_seen same ps c))
 
     -- the names that a block binds: those of the parameters that the body uses, and `_`
     abbrev pub binding_names : List (Given S) → List (NameAt S)
@@ -300,18 +302,21 @@ module _ {S : Type 0} (same : S → S → Bool) where
     abbrev pub may_stand : Bool × Expr S → Bool
     may_stand q = if q.0 then no_result_in q.1 else no_results && is_statement c.use_
 
+    -- the expression form applies where the body is this one expression
+    abbrev pub expr_serves : Bool × Expr S → Bool
+    expr_serves q =
+        may_stand q && (is_empty bound && (not (spread_call same ps c)
+        && (not (is_deferred c.use_) && (not some_recover && (several_agree q.1 && not (value_is_faulty q.1))))))
+
     -- the expression form applies
     abbrev pub expr_applies : Bool
-    expr_applies =
-        meets (one_expr c.callee.body) (λ q.
-        may_stand q && (is_empty bound && (not (spread_call same ps c)
-        && (not (is_deferred c.use_) && (not some_recover && (several_agree q.1 && not (value_is_faulty q.1)))))))
+    expr_applies = meets (one_expr c.callee.body) expr_serves
 
     -- the body names the parameter, and each time as a whole left side of `=` or `:=`
     abbrev pub is_only_written : Given S → Bool
     is_only_written g =
-        is_used g && nat_eq (count_seen (uses same (declared_place g.param)) (body_seen same ps c))
-        (count_seen (λ x. uses same (declared_place g.param) x && is_stored x) (body_seen same ps c))
+        is_used g && nat_eq (count_by (uses same (declared_place g.param)) (body_seen same ps c))
+        (count_by (λ x. uses same (declared_place g.param) x && is_stored x) (body_seen same ps c))
 
     -- a `return` or a label of the body itself; a `defer` anywhere
     abbrev pub is_return : Seen S → Bool

@@ -6,11 +6,13 @@ pub mod BodyItems
 pub mod Choice
 pub mod Programs
 pub mod Sites
+pub mod Conversions
 pub mod Calls
 pub mod Naming
 pub mod FormTrees
 pub mod Forms
 pub mod Obstacles
+pub mod Cycles
 pub mod Reduced
 pub mod Texts
 pub mod Respanned
@@ -20,3 +22,4 @@ pub mod Marks
 pub mod Run
 pub mod Report
 pub mod Inlining
+pub mod Laws

@@ -2,7 +2,7 @@
 -- Import declarations; Exported identifiers).
 -- While a form is made, a package has a name that no program can have; the packages that the form needs are these names
 -- in the order in which they stand in it.
-use Rattle.std.specs.Prelude.{ℕ, zero, suc, Bool, true, false, not, List, [], ◌∷◌, ◌++◌, map, length, Option, Some, None, if◌then◌else◌, bytes_eq, nat_eq, slice_get}
+use Rattle.std.specs.Prelude.{ℕ, zero, suc, Bool, not, List, [], ◌∷◌, ◌++◌, map, length, Option, Some, None, if◌then◌else◌, bytes_eq, nat_eq, slice_get}
 use Rattle.go_tree.specs.Tree.{NameAt, TypeExpr, named, pointer, slice_type, map_type, struct_type, Fields, no_fields, field}
 use Rattle.go_tree.specs.File.{File}
 use Rattle.go_tree.specs.declared.spans.Span.{Span}
@@ -34,11 +34,6 @@ unnamed q = 0 ∷ q ∷ []
 abbrev pub unnamed_package : List ℕ → Option ℕ
 unnamed_package (zero ∷ q ∷ []) = Some q
 unnamed_package n = None
-
--- a number stands in a list
-abbrev pub has_number : ℕ → List ℕ → Bool
-has_number q [] = false
-has_number q (r ∷ rs) = if nat_eq q r then true else has_number q rs
 
 -- a list without this number
 abbrev pub new_first : ℕ → List ℕ → List ℕ

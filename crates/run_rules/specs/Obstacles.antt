@@ -8,7 +8,7 @@ use Rattle.go_tree.specs.Tree.{TypeExpr, named, pointer, slice_type, map_type, s
 use Rattle.pkg_graph.specs.Package.{Package}
 use Rattle.pkg_graph.specs.Members.{Target, imported, member, predeclared}
 use Rattle.pkg_graph.specs.Internal.{may_import}
-use Rattle.go_types.specs.Answers.{given, one_of, is_among}
+use Rattle.go_types.specs.Answers.{given, one_of, is_among, is_empty}
 use Rattle.go_types.specs.Types.{GoType, GoFields, no_go_fields, go_field, fields_of}
 use Rattle.go_types.specs.Defined.{under}
 use Rattle.go_types.specs.Entities.{Env, is_exported, defined_in}
@@ -177,11 +177,6 @@ module _ {S : Type 0} (ps : List (Package S)) (home there : Where S) (at : Place
 
   -- ---- repeated expressions
 
-  -- a list with an item
-  abbrev pub has_any : {A : Type 0} → List A → Bool
-  has_any [] = false
-  has_any (x ∷ xs) = true
-
   -- the name is written with an import's name
   abbrev pub is_qualified_there : Option Target → Bool
   is_qualified_there (Some (imported k)) = true
@@ -200,4 +195,4 @@ module _ {S : Type 0} (ps : List (Package S)) (home there : Where S) (at : Place
 
   -- the use stands in a member of a group in a function that a later member repeats; or the second case
   abbrev pub is_repeated : List (Seen S) → Bool
-  is_repeated text = has_any at.again || list_any repeats_here text
+  is_repeated text = not (is_empty at.again) || list_any repeats_here text

@@ -132,14 +132,14 @@ module _ {S : Type 0} where
     stmt_seen p l (if_ s bs z) =
         arms_seen (block p) bs ++ block_seen (after_arms (block p) bs) z ++ seen_stmt p (if_ s bs z) ∷ []
     stmt_seen p l (for_ s i t q z b) =
-        first_seen (in_heading true (block p)) false i ++ option_seen (in_heading true (after_first (block p) i)) t
-        ++ first_seen (in_heading true (after_first (block p) i)) true q
+        first_seen (in_heading true (block p)) i ++ option_seen (in_heading true (after_first (block p) i)) t
+        ++ first_seen (in_heading true (after_first (block p) i)) q
         ++ stmts_seen (looping (block (after_first (block p) i))) b ++ seen_stmt p (for_ s i t q z b) ∷ []
     stmt_seen p l (range_ s x e z b) =
         left_seen (in_heading true p) x ++ expr_seen (in_heading true p) other e
         ++ stmts_seen (looping (block (ranged p x e))) b ++ seen_stmt p (range_ s x e z b) ∷ []
     stmt_seen p l (switch s i t cs) =
-        first_seen (in_heading true (block p)) false i ++ option_seen (in_heading true (after_first (block p) i)) t
+        first_seen (in_heading true (block p)) i ++ option_seen (in_heading true (after_first (block p) i)) t
         ++ cases_seen (switching (after_first (block p) i)) cs ++ seen_stmt p (switch s i t cs) ∷ []
     stmt_seen p l (defer s e) =
         expr_seen (record p { deferring = true; slot = a_slot 0 false false }) deferred_call e
@@ -153,9 +153,9 @@ module _ {S : Type 0} where
     stmts_seen p (stmt_and s ss) = stmt_seen (at_stmt p s) true s ++ stmts_seen (after_stmt p s) ss
 
     -- the first or the last statement of a header
-    pub first_seen : Place S → Bool → StmtOption S → List (Seen S)
-    first_seen p post no_stmt = []
-    first_seen p post (some_stmt s) = stmt_seen p false s
+    pub first_seen : Place S → StmtOption S → List (Seen S)
+    first_seen p no_stmt = []
+    first_seen p (some_stmt s) = stmt_seen p false s
 
     -- the last block of an `if`
     pub block_seen : Place S → BlockOption S → List (Seen S)
@@ -172,7 +172,7 @@ module _ {S : Type 0} where
     pub arms_seen : Place S → Arms S → List (Seen S)
     arms_seen p no_arms = []
     arms_seen p (arm s i t z b r) =
-        first_seen (in_heading true p) false i ++ expr_seen (in_heading true (after_first p i)) other t
+        first_seen (in_heading true p) i ++ expr_seen (in_heading true (after_first p i)) other t
         ++ stmts_seen (block (after_first p i)) b ++ arms_seen (block (after_first p i)) r
 
     -- the clauses of a `switch`

@@ -1,22 +1,25 @@
 -- What a use becomes: its first free form, or the obstacle that keeps it (Go specification, Calls; Alias declarations;
 -- Constant declarations).
-use Rattle.std.specs.Prelude.{⊤, ℕ, zero, suc, Bool, true, false, not, ◌&&◌, List, [], ◌∷◌, ◌++◌, map, length, Option, Some, None, if◌then◌else◌, is_none, slice_get}
+use Rattle.std.specs.Prelude.{ℕ, Bool, true, false, not, ◌&&◌, List, [], ◌∷◌, ◌++◌, map, Option, Some, None, if◌then◌else◌, is_none}
 use Rattle.std.specs.List.{list_any}
 use Rattle.go_tree.specs.Tree.{TypeExpr, Param, Expr, eval, return_, no_exprs, expr_and}
 use Rattle.go_tree.specs.File.{Func}
 use Rattle.scope_names.specs.Binders.{func_binders}
+use Rattle.scope_names.specs.Scopes.{expr_span}
 use Rattle.pkg_graph.specs.Package.{Package}
 use Rattle.param_choice.specs.Chosen.{has}
 use Rattle.go_types.specs.Answers.{given, meets, one_of}
 use Rattle.run_rules.specs.Surroundings.{other, Place, Seen, seen, seen_type, seen_stmt}
 use Rattle.run_rules.specs.Places.{expr_seen, stmts_seen}
 use Rattle.run_rules.specs.Rewriting.{new_expr}
-use Rattle.run_rules.specs.Programs.{numbered, top_place, decl_seen}
-use Rattle.run_rules.specs.Sites.{MarkRef, is_among_marks, Where, Inlinable, a_constant, an_alias, a_function, Part, an_expr, a_type_part, Site, part_span, expr_span, where_is, inlinable, is_function, sites_among}
-use Rattle.run_rules.specs.Calls.{bound_params, Given, Call, converts, declared_place, uses, all_params, body_seen, spread_call, arg_typed, start_with, chosen, given_params, has_receiver}
+use Rattle.run_rules.specs.Programs.{numbered, top_place}
+use Rattle.run_rules.specs.Sites.{MarkRef, Where, Inlinable, a_constant, an_alias, a_function, Part, an_expr, a_type_part, Site, part_span, where_is, inlinable, parts_of}
+use Rattle.run_rules.specs.Conversions.{converts}
+use Rattle.run_rules.specs.Calls.{bound_params, Given, Call, declared_place, uses, all_params, body_seen, spread_call, arg_typed, start_with, chosen, given_params, has_receiver}
 use Rattle.run_rules.specs.Naming.{Names, unnamed, unnamed_in, type_there, Named, named_packages, names_by}
 use Rattle.run_rules.specs.FormTrees.{FormKind, ConstForm, TypeForm, ExprForm, BlockForm, TailForm, LiteralForm, Form, as_expr, as_type, top, one_expr, form_identifiers, type_expr, is_statement, outside_changes}
 use Rattle.run_rules.specs.Forms.{is_at, is_statement_call, value_converts, binding_use, form_tree, applies}
+use Rattle.run_rules.specs.Cycles.{is_recursive}
 use Rattle.run_rules.specs.Obstacles.{Obstacle, Recursive, CommentInside, Spread, Repeated, obstacle_if, not_accessible, internal_package, shadowed, is_repeated}
 
 -- A use becomes a form, in the place of what has this span, with these names for packages; or it stays.
@@ -24,53 +27,9 @@ pub data Reduced (S : Type 0) : Type 0 where
   becomes : FormKind → Form S → S → List Named → Reduced S
   kept : Obstacle → Reduced S
 
--- the use isn't free
-abbrev pub IsKept : {S : Type 0} → Option (Reduced S) → Type 0
-IsKept None = ⊤
-IsKept (Some (kept o)) = ⊤
-IsKept (Some (becomes k f z ns)) = ⊥
-
--- the marks of a list that aren't among others, each once
-abbrev pub without_marks : List MarkRef → List MarkRef → List MarkRef
-without_marks out [] = []
-without_marks out (m ∷ ms) = if is_among_marks out m then without_marks out ms else m ∷ without_marks (m ∷ out) ms
-
 -- `commented` says of a span of a file, by the numbers of its package and of the file, that a comment lies in it.
 module _ {S : Type 0} (same : S → S → Bool) (commented : ℕ → ℕ → S → Bool) (ps : List (Package S))
     (marks : List MarkRef) where
-  -- ---- cycles of marked functions
-
-  -- all parts of the declaration with this number
-  abbrev pub parts_of : Where S → ℕ → List (Seen S)
-  parts_of w d =
-      elim (slice_get w.source.tree.decls d) [ None ↦ [] | Some x ↦ decl_seen ps w.number w.of w.source.tree x ]
-
-  -- the marks of functions and methods among those of uses
-  abbrev pub function_marks : List (Site S) → List MarkRef
-  function_marks [] = []
-  function_marks (x ∷ xs) =
-      if meets (inlinable ps x.mark) is_function then x.mark ∷ function_marks xs else function_marks xs
-
-  -- the marked functions that a marked declaration uses
-  abbrev pub leads_to : MarkRef → List MarkRef
-  leads_to m =
-      elim (where_is ps m) [ None ↦ [] | Some w ↦ function_marks (sites_among ps marks w m.decl (parts_of w m.decl)) ]
-
-  -- the marked functions that some of these use
-  abbrev pub all_lead_to : List MarkRef → List MarkRef
-  all_lead_to [] = []
-  all_lead_to (m ∷ ms) = leads_to m ++ all_lead_to ms
-
-  -- what is reached in at most so many further steps, with what has been reached
-  abbrev pub reached : ℕ → List MarkRef → List MarkRef → List MarkRef
-  reached zero seen_before now = seen_before
-  reached (suc n) seen_before now =
-      let new : List MarkRef = without_marks seen_before (all_lead_to now) in reached n (new ++ seen_before) new
-
-  -- it lies on a cycle of marked functions
-  abbrev pub is_recursive : MarkRef → Bool
-  is_recursive m = is_among_marks (reached (suc (length marks)) [] (m ∷ [])) m
-
   -- ---- what a form takes from a function's declaration, in the order of its text
 
   -- at some use the chosen argument is converted to its parameter's type
@@ -115,14 +74,10 @@ module _ {S : Type 0} (same : S → S → Bool) (commented : ℕ → ℕ → S �
       if writes_result c chosen_ones then types_text c c.callee.sig.results else []
   result_types_text c k chosen_ones = []
 
-  -- the types of all parameters
-  abbrev pub spread_text : Call S → FormKind → List (Seen S)
-  spread_text c k = types_text c (all_params same ps c)
-
   -- the types that the form writes, and the body
   abbrev pub text_taken : Call S → FormKind → List Bool → List (Seen S)
   text_taken c k chosen_ones =
-      (if spread_call same ps c then spread_text c k else param_text c k chosen_ones
+      (if spread_call same ps c then types_text c (all_params same ps c) else param_text c k chosen_ones
       (numbered (given_params same ps c))) ++ result_types_text c k chosen_ones ++ body_seen same ps c
 
   -- ---- ranges
@@ -163,7 +118,7 @@ module _ {S : Type 0} (same : S → S → Bool) (commented : ℕ → ℕ → S �
             home;
         callee = f;
         at_package = x.at.number;
-        around = parts_of x.at x.decl;
+        around = parts_of ps x.at x.decl;
         at = x.place;
         use_ = x.use_;
         tree = e;
@@ -188,7 +143,7 @@ module _ {S : Type 0} (same : S → S → Bool) (commented : ℕ → ℕ → S �
   abbrev pub call_obstacle : Site S → Call S → List Bool → FormKind → Option Obstacle
   call_obstacle x c chosen_ones k =
       obstacle_for x c.home (text_taken c k chosen_ones) (needed_by c chosen_ones k) (range_of k c)
-      (is_recursive x.mark) (has_receiver same ps c && spread_call same ps c)
+      (is_recursive ps marks x.mark) (has_receiver same ps c && spread_call same ps c)
 
   -- the form applies, and has no obstacle
   abbrev pub is_free_form : Site S → Call S → List Bool → FormKind → Bool

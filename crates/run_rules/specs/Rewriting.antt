@@ -158,15 +158,15 @@ module _ {S : Type 0} (c : Changes S) where
         otherwise (c.stmt p (if_ s bs z)) (if_ (c.span s) (new_arms (block p) bs)
         (new_block (after_arms (block p) bs) z))
     new_stmt p l (for_ s i t q z b) =
-        otherwise (c.stmt p (for_ s i t q z b)) (for_ (c.span s) (new_first (in_heading true (block p)) false i)
+        otherwise (c.stmt p (for_ s i t q z b)) (for_ (c.span s) (new_first (in_heading true (block p)) i)
         (new_option (in_heading true (after_first (block p) i)) t)
-        (new_first (in_heading true (after_first (block p) i)) true q) (c.span z)
+        (new_first (in_heading true (after_first (block p) i)) q) (c.span z)
         (new_stmts (looping (block (after_first (block p) i))) b))
     new_stmt p l (range_ s x e z b) =
         otherwise (c.stmt p (range_ s x e z b)) (range_ (c.span s) (new_left (in_heading true p) x)
         (new_expr (in_heading true p) other e) (c.span z) (new_stmts (looping (block (ranged p x e))) b))
     new_stmt p l (switch s i t cs) =
-        otherwise (c.stmt p (switch s i t cs)) (switch (c.span s) (new_first (in_heading true (block p)) false i)
+        otherwise (c.stmt p (switch s i t cs)) (switch (c.span s) (new_first (in_heading true (block p)) i)
         (new_option (in_heading true (after_first (block p) i)) t) (new_cases (switching (after_first (block p) i)) cs))
     new_stmt p l (defer s e) =
         otherwise (c.stmt p (defer s e)) (defer (c.span s) (new_expr
@@ -181,9 +181,9 @@ module _ {S : Type 0} (c : Changes S) where
     new_stmts p (stmt_and s ss) = stmt_and (new_stmt (at_stmt p s) true s) (new_stmts (after_stmt p s) ss)
 
     -- the first or the last statement of a header
-    pub new_first : Place S → Bool → StmtOption S → StmtOption S
-    new_first p post no_stmt = no_stmt
-    new_first p post (some_stmt s) = some_stmt (new_stmt p false s)
+    pub new_first : Place S → StmtOption S → StmtOption S
+    new_first p no_stmt = no_stmt
+    new_first p (some_stmt s) = some_stmt (new_stmt p false s)
 
     -- the last block of an `if`
     pub new_block : Place S → BlockOption S → BlockOption S
@@ -200,7 +200,7 @@ module _ {S : Type 0} (c : Changes S) where
     pub new_arms : Place S → Arms S → Arms S
     new_arms p no_arms = no_arms
     new_arms p (arm s i t z b r) =
-        arm (c.span s) (new_first (in_heading true p) false i) (new_expr (in_heading true (after_first p i)) other t)
+        arm (c.span s) (new_first (in_heading true p) i) (new_expr (in_heading true (after_first p i)) other t)
         (c.span z) (new_stmts (block (after_first p i)) b) (new_arms (block (after_first p i)) r)
 
     -- the clauses of a `switch`

@@ -15,8 +15,9 @@ use Rattle.import_edit.specs.Removed.{same_span}
 use Rattle.pkg_graph.specs.Package.{Package}
 use Rattle.go_types.specs.Answers.{given, meets}
 use Rattle.run_rules.specs.Sites.{MarkRef, Site, part_span, sites}
-use Rattle.run_rules.specs.FormTrees.{FormKind}
-use Rattle.run_rules.specs.Reduced.{Reduced, kept, reduced}
+use Rattle.run_rules.specs.Naming.{Named}
+use Rattle.run_rules.specs.FormTrees.{FormKind, Form}
+use Rattle.run_rules.specs.Reduced.{Reduced, becomes, kept, reduced}
 use Rattle.run_rules.specs.Obstacles.{Obstacle}
 use Rattle.run_rules.specs.Texts.{FileText}
 use Rattle.run_rules.specs.Respanned.{file_with, decls_with}
@@ -80,6 +81,15 @@ module _ (marks : List MarkRef) where
   abbrev pub step_in : Standing → Option (Found At)
   step_in st = first_step same_here (is_commented st) st.packages marks
 
+  -- The use becomes this form, its first free one, in the place of what has this span, with these names for packages.
+  abbrev pub FormOf : Standing → Site At → FormKind → Form At → At → List Named → Type 0
+  FormOf st x k form range named =
+      reduced same_here (is_commented st) st.packages marks x ≡ Some (becomes k form range named)
+
+  -- The use stays, and this obstacle is told of it.
+  abbrev pub Kept : Standing → Site At → Obstacle → Type 0
+  Kept st x o = reduced same_here (is_commented st) st.packages marks x ≡ Some (kept o)
+
   -- the edits of a step
   abbrev pub edits_in : Standing → FileText → Found At → List Edit
   edits_in st t f = step_edits same_here here_of (is_commented st) st.packages marks t f
@@ -101,7 +111,8 @@ module _ (marks : List MarkRef) where
 
   -- The first free use becomes its first free form, and the imports are settled: its file has the new text, which reads
   -- as a tree with the form in the use's place. What is brought in comes from the use; the nodes of its arguments, and
-  -- all else, come from where they did.
+  -- all other nodes of declarations, come from where they did. The package name and the imports, of which nothing is
+  -- reported, come from where they stand.
   pub record Next (st : Standing) (l : Logged) (st' : Standing) : Type 0 where
     pub found : Found At
     pub old : FileText
@@ -113,8 +124,9 @@ module _ (marks : List MarkRef) where
     pub text_is : new.text ≡ applied old.text (edits_in st old found)
     pub scans : TokensOf new.text new.tokens new.comments
     pub spells : SpellsFile new.tokens (file_with here_of tree)
-    pub origins_are : decls_with origin_of tree.decls ≡ decls_with origin_of
-        (new_decls same_here st.packages found.site found.form)
+    pub origins_are : file_with origin_of tree ≡ record (file_with here_of tree) {
+      decls = decls_with origin_of (new_decls same_here st.packages found.site found.form);
+    }
     pub packages_are : st'.packages ≡ with_file same_here st.packages found.site.at tree
     pub texts_are : st'.texts ≡ with_text found.site.at.source.path new st.texts
 

@@ -4,9 +4,10 @@
 -- name, with the package before it, other than the one that declares it.
 use Rattle.std.specs.Prelude.{ℕ, zero, suc, Bool, true, false, not, ◌&&◌, ◌||◌, List, [], ◌∷◌, ◌++◌, Option, Some, None, if◌then◌else◌, bytes_eq, nat_eq, is_some, slice_get}
 use Rattle.std.specs.List.{list_any}
-use Rattle.go_tree.specs.Tree.{NameAt, TypeExpr, named, pointer, slice_type, map_type, struct_type, Fields, no_fields, field, Expr, ident, int_lit, rune_lit, str_lit, composite, selector, index, slice, call, func_lit, type_operand, unary, binary, star, Exprs, no_exprs, expr_and, Stmt, const_decl, var_decl, assign, define, ValueSpecs, no_specs, spec}
+use Rattle.go_tree.specs.Tree.{NameAt, TypeExpr, named, pointer, slice_type, map_type, struct_type, Fields, no_fields, field, Expr, ident, selector, call, Exprs, no_exprs, expr_and, Stmt, const_decl, var_decl, assign, define, ValueSpecs, no_specs, spec}
 use Rattle.go_tree.specs.File.{TypeSpec, Func, Decl, values, types, func}
 use Rattle.scope_names.specs.Means.{Environment, means}
+use Rattle.scope_names.specs.Scopes.{expr_span}
 use Rattle.pkg_graph.specs.Package.{SourceTree, Package, import_specs}
 use Rattle.pkg_graph.specs.Members.{Target, imported, member, predeclared, outside}
 use Rattle.go_types.specs.Answers.{given, meets, otherwise}
@@ -141,23 +142,6 @@ module _ {S : Type 0} where
   name_of (an_alias n t) = n.name
   name_of (a_function f) = f.name.name
 
-  -- the span of an expression
-  abbrev pub expr_span : Expr S → S
-  expr_span (ident s _) = s
-  expr_span (int_lit s _) = s
-  expr_span (rune_lit s _) = s
-  expr_span (str_lit s _) = s
-  expr_span (composite s _ _) = s
-  expr_span (selector s _ _) = s
-  expr_span (index s _ _) = s
-  expr_span (slice s _ _ _) = s
-  expr_span (call s _ _ _) = s
-  expr_span (func_lit s _ _ _) = s
-  expr_span (type_operand s _) = s
-  expr_span (unary s _ _) = s
-  expr_span (binary s _ _ _) = s
-  expr_span (star s _) = s
-
   -- the span of a type
   abbrev pub type_span : TypeExpr S → S
   type_span (named s _ _) = s
@@ -208,6 +192,11 @@ module _ {S : Type 0} where
     where_is m =
         given (slice_get ps m.«package») (λ p. given (slice_get p.files m.file)
         (λ f. Some (record { number = m.«package»; of = p; file_number = m.file; source = f })))
+
+    -- all parts of the declaration of a file with this number
+    abbrev pub parts_of : Where S → ℕ → List (Seen S)
+    parts_of w d =
+        elim (slice_get w.source.tree.decls d) [ None ↦ [] | Some x ↦ decl_seen ps w.number w.of w.source.tree x ]
 
     -- what a mark holds for
     abbrev pub inlinable : MarkRef → Option (Inlinable S)

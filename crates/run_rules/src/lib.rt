@@ -5,6 +5,7 @@
 mod laws;
 
 pub use laws::{
-    ended_runs_keep_all_uses, names_found_are_needed, packages_stand_in_dependency_order,
-    replacing_asks_at_the_places_listed, striking_leaves_the_greatest_set,
+    edits_of_steps_stand_apart, ended_runs_keep_all_uses, names_found_are_needed,
+    packages_stand_in_dependency_order, programs_have_one_run, replacing_asks_at_the_places_listed,
+    steps_keep_cycles, striking_leaves_the_greatest_set,
 };
