@@ -1,0 +1,4 @@
+pub mod AscendLaws
+pub mod TokenOrder
+pub mod NameOrder
+pub mod MarkOrder
