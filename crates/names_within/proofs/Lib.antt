@@ -1,0 +1,9 @@
+pub mod ListWalks
+pub mod Found
+pub mod IdentifiersFound
+pub mod BindersFound
+pub mod Freed
+pub mod FreeFound
+pub mod FilesFound
+pub mod SetLaws
+pub mod FreshLaws

@@ -1,0 +1,5 @@
+pub mod Walk
+pub mod TreeWalk
+pub mod FileWalk
+pub mod EachOnce
+pub mod Reserved

@@ -1,0 +1,15 @@
+//! Names that stand in a part of a program: which are free there, which are declared, and which are new to a file.
+#![tactic(auto)]
+
+mod calls;
+mod exprs;
+mod files;
+mod new_names;
+mod sets;
+mod stmts;
+mod types;
+mod walk;
+
+pub use calls::{binders, free_names};
+pub use new_names::fresh;
+pub use sets::NameSet;
