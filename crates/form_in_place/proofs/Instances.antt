@@ -13,7 +13,7 @@ use Rattle.go_types.specs.Types.{GoType, basic, untyped, named_type, pointer_to,
 use Rattle.go_types.specs.Entities.{Entity, variable, constant, type_name, function, package_name, stand_in, elsewhere, run, exact, universe, World, Env}
 use Rattle.go_types.specs.Operands.{value, a_function}
 use Rattle.go_types.specs.Typing.{parts}
-use Rattle.form_in_place.proofs.Trees.{n, ty, qty, ptr, slc, mp, st, par, sig, v, int, rune, str, sel, idx, sl, es, app, top, un, bin, der, els, braces, comp, ss, lit, cst, vr, nop, ev, stp, asg, def, ret, brk, cnt, blk, cond, loop, rng, sw, dfr, lab}
+use Rattle.go_types.proofs.Trees.{n, ty, qty, ptr, slc, mp, st, par, sig, v, int, rune, str, sel, idx, sl, es, app, top, un, bin, der, els, braces, comp, ss, lit, cst, vr, nop, ev, stp, asg, def, ret, brk, cnt, blk, cond, loop, rng, sw, dfr, lab}
 use Rattle.form_in_place.specs.Places.{Landing, SameName, TypeAlike}
 use Rattle.form_in_place.specs.Leaves.{member, imported, own, argument, no_type, a_type, no_params, param_and, whole_constant, bare_constant, bare_nil, bare_truth, untyped_constant}
 use Rattle.form_in_place.specs.Written.{Written, w_leaf, w_local, w_outer, w_int, w_rune, w_str, w_composite, w_selector, w_index, w_slice, w_call, w_func_lit, w_type, w_unary, w_binary, w_star, all_none, all_and, WrittenIntos, into_none, into_and, into_bare, w_into, w_left, w_right, s_eval_into, s_return_into, whole_none, whole_and, whole_bare, s_eval_whole, s_defer_whole, option_none, option_some, elems_none, elems_and, key_none, key_field, key_some, value_plain, value_braced, body_none, body_and, WrittenStmt, s_const, s_var, s_empty, s_eval, s_step, s_assign, s_define, s_return, s_break, s_continue, s_inner, s_if, s_for, s_range, s_switch, s_defer, s_label, first_none, first_some, block_none, block_some, left_none, left_assigns, left_defines, arms_none, arms_and, cases_none, cases_and, constants_none, constants_own, constants_again, WrittenAgain, again_nothing, again, variables_none, variables_and}

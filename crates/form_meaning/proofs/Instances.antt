@@ -25,7 +25,7 @@ use Rattle.form_in_place.proofs.TypesInPlace.{type_kept}
 use Rattle.form_meaning.specs.CallMeaning.{CallOf}
 use Rattle.form_meaning.proofs.Located.{same_name}
 use Rattle.form_meaning.proofs.CallTerms.{call_term_is, literal_term_is}
-use Rattle.form_meaning.proofs.Trees.{ty, par, sig, v, int, sel, es, app, bin, ss, asg, def, ret, ev, dfr, vars_at, func_at, file, pack}
+use Rattle.go_types.proofs.Trees.{ty, par, sig, v, int, sel, es, app, bin, ss, asg, def, ret, ev, dfr, vars_at, func_at, file, pack}
 
 abbrev twice_sig : Sig ℕ
 twice_sig = sig (par (Some (codes "x")) (ty (codes "int")) ∷ []) (par None (ty (codes "int")) ∷ [])

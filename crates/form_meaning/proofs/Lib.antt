@@ -8,6 +8,5 @@ pub mod Terms
 pub mod CallTerms
 pub mod Declared
 pub mod MeaningLaws
-mod Trees
 mod Instances
 mod MethodInstance

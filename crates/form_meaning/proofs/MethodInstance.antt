@@ -23,7 +23,7 @@ use Rattle.form_in_place.proofs.TypesInPlace.{type_kept}
 use Rattle.form_meaning.specs.CallMeaning.{MethodCallOf}
 use Rattle.form_meaning.proofs.Located.{same_name}
 use Rattle.form_meaning.proofs.CallTerms.{method_term_is}
-use Rattle.form_meaning.proofs.Trees.{ty, st, par, sig, v, int, sel, es, app, bin, ss, ret, ev, vr, type_at, method_at, func_at, file, pack}
+use Rattle.go_types.proofs.Trees.{ty, st, par, sig, v, int, sel, es, app, bin, ss, ret, ev, vr, type_at, method_at, func_at, file, pack}
 
 -- type C struct{ n int }; func (c C) Sum(x int) int { return x + x }; func main() { var v C; println(v.Sum(3)) }
 abbrev int_type : GoType

@@ -1,4 +1,3 @@
-mod Trees
 mod Shown
 mod ShownOrder
 mod ShownNumbers

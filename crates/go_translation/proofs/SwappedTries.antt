@@ -18,7 +18,7 @@ use Rattle.go_translation.specs.Swapped.{SwappedExpr, same_expr, constants, in_c
 use Rattle.go_translation.specs.SwappedPackages.{SwappedPackages, of_function, same_header, and_header, no_headers, and_package, no_packages}
 use Rattle.go_translation.proofs.SwappedProgram.{codes-swap}
 use Rattle.go_translation.proofs.Shown.{main_package, line}
-use Rattle.go_translation.proofs.Trees.{sig, v, int, app, bin, lit, ss, ev, stp, cst, def, loop, dfr, n, consts_at, func_at}
+use Rattle.go_types.proofs.Trees.{sig, v, int, app, bin, lit, ss, ev, stp, cst, def, loop, dfr, n, consts_at, func_at}
 
 abbrev print : List (Expr ℕ) → Stmt ℕ
 print xs = ev (app (v (codes "println")) xs)

@@ -13,7 +13,7 @@ use Rattle.go_kernel.specs.Classes.{Steady, Looks, Acts, class_of}
 use Rattle.go_translation.specs.Here.{Location, in_frame, in_cell, Here}
 use Rattle.go_translation.specs.Statements.{int_type}
 use Rattle.go_translation.specs.Translation.{expr_term}
-use Rattle.go_translation.proofs.Trees.{ty, slc, mp, par, sig, v, int, str, sel, idx, sl, app, top, un, bin, der, comp, lit, ret}
+use Rattle.go_types.proofs.Trees.{ty, slc, mp, par, sig, v, int, str, sel, idx, sl, app, top, un, bin, der, comp, lit, ret}
 
 abbrev type_T : GoType
 type_T = named_type 0 (codes "T")

@@ -20,3 +20,5 @@ mod TypedControl
 mod TypedPrograms
 pub mod Agreeing
 pub mod TypingAlike
+pub mod LocalNames
+pub mod TypingElsewhere

@@ -3,7 +3,34 @@ use Rattle.go_types.proofs.IdenticalLaws.{identical_same, equal_identical}
 use Rattle.go_types.proofs.TableLaws.{one_type, one_row, identical_one_row, one_row_identical, stands_kept, row_stands, grown_table}
 use Rattle.go_types.proofs.TypingBare.{parts-bare, place-bare, used_stmts-bare, declares-bare, stmts-bare}
 use Rattle.go_types.proofs.TypingAlike.{parts-alike, place-alike, used_stmts-alike, declares-alike, stmts-alike}
+use Rattle.go_types.proofs.LocalNames.{Apart}
+use Rattle.go_types.proofs.TypingElsewhere.{parts-apart, place-apart, used_stmts-apart, declares-apart, stmts-apart}
+use Rattle.std.specs.Prelude.{◌≡◌, Bool}
+use Rattle.go_tree.specs.Tree.{Expr, Stmt, Stmts}
+use Rattle.go_types.specs.Entities.{Env}
+use Rattle.go_types.specs.Bodies.{Ctx}
+use Rattle.go_types.specs.Typing.{parts, place, declares, stmts, used_stmts}
+use Rattle.go_types.specs.Agreement.{Blocks, with_blocks, SameImports}
 use Rattle.go_types.proofs.HeldConstants.{constant_held, declared_held, held_after}
+
+module _ {S : Type 0} (a : Env) (m : Blocks) (g : SameImports a m) where
+  apart : Apart a m
+  apart = record { same = g }
+
+  operands_apart : (e : Expr S) → parts a e ≡ parts (with_blocks a m) e
+  operands_apart e = parts-apart a e m apart
+
+  places_apart : (e : Expr S) → place a e ≡ place (with_blocks a m) e
+  places_apart e = place-apart a e m apart
+
+  uses_apart : (b : Stmts S) → used_stmts a b ≡ used_stmts (with_blocks a m) b
+  uses_apart b = used_stmts-apart a b m apart
+
+  declarations_apart : (s : Stmt S) → declares a s ≡ declares (with_blocks a m) s
+  declarations_apart s = declares-apart a s m apart
+
+  bodies_apart : (c : Ctx) (before : Bool) (b : Stmts S) → stmts c a before b ≡ stmts c (with_blocks a m) before b
+  bodies_apart c before b = stmts-apart c a before b m apart
 
 pub ruleset type_laws = (
   identical_same,
@@ -22,3 +49,5 @@ pub ruleset bare_laws = (parts-bare, place-bare, used_stmts-bare, declares-bare,
 pub ruleset alike_laws = (parts-alike, place-alike, used_stmts-alike, declares-alike, stmts-alike)
 
 pub ruleset constant_laws = (constant_held, declared_held, held_after)
+
+pub ruleset apart_laws = (operands_apart, places_apart, uses_apart, declarations_apart, bodies_apart)

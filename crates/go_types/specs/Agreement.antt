@@ -1,9 +1,9 @@
--- When two environments agree on names (Go specification, Declarations and scope): the condition under which a part is
--- typed alike in both.
-use Rattle.std.specs.Prelude.{◌≡◌, ℕ, true, List, ◌∷◌}
+-- When two environments agree on names, and when on imported packages (Go specification, Declarations and scope; Import
+-- declarations): the conditions under which a part is typed alike in both.
+use Rattle.std.specs.Prelude.{◌≡◌, ℕ, true, List, ◌∷◌, Some}
 use Rattle.scope_names.specs.Means.{Environment, means, is_blank}
 use Rattle.go_types.specs.Answers.{is_among}
-use Rattle.go_types.specs.Entities.{Entity, Env}
+use Rattle.go_types.specs.Entities.{Entity, Env, meaning, block_of, package_of}
 
 -- a name stands in a list
 pub data In (n : List ℕ) : List (List ℕ) → Type 0 where
@@ -27,3 +27,17 @@ pub record Agrees (around : List (List ℕ)) (a : Env) (m : Environment Entity) 
   pub bound : (n : List ℕ) → is_among n around ≡ true → Same a m n
   pub here : (n : List ℕ) → is_among n a.here ≡ true → Same a m n
   pub blank : (n : List ℕ) → is_blank n ≡ true → Same a m n
+
+-- ---- packages
+
+-- package blocks, by the numbers of their packages
+abbrev pub Blocks : Type 0
+Blocks = List (ℕ × Environment Entity)
+
+-- the same place beside other package blocks
+abbrev pub with_blocks : Env → Blocks → Env
+with_blocks a m = record a { world = record a.world { blocks = m } }
+
+-- the packages that names mean declare the same
+abbrev pub SameImports : Env → Blocks → Type 0
+SameImports a m = (n : List ℕ) (p : ℕ) → package_of (meaning a n) ≡ Some p → block_of a.world.blocks p ≡ block_of m p

@@ -15,7 +15,7 @@ use Rattle.go_types.specs.Operands.{value, all_typed}
 use Rattle.go_types.specs.Declarations.{bound_names, bind_all, constant_entity}
 use Rattle.go_types.specs.Bodies.{Ctx}
 use Rattle.go_types.specs.Typing.{parts, all_parts, place, declares, stmts, used_stmts}
-use Rattle.go_types.specs.Agreement.{with_names, On, Agrees}
+use Rattle.go_types.specs.Agreement.{with_names, On, Agrees, Blocks, with_blocks, SameImports}
 use Rattle.go_types.specs.Constants.{is_held, binds_held, Held}
 
 -- ---- types and their table (Type identity)
@@ -92,6 +92,28 @@ abbrev pub BodiesAlike : Type 0
 BodiesAlike =
     (c : Ctx) (a : Env) (before : Bool) (b : Stmts Span) (m : Environment Entity) (around : List (List ℕ)) →
     Agrees around a m → On (free_stmts around b) a m → stmts c a before b ≡ stmts c (with_names a m) before b
+
+-- ---- packages: a part is typed as beside other package blocks, if the packages that names mean declare the same
+-- (Import
+-- declarations; Qualified identifiers)
+
+abbrev pub OperandsApart : Type 0
+OperandsApart = (a : Env) (e : Expr Span) (m : Blocks) → SameImports a m → parts a e ≡ parts (with_blocks a m) e
+
+abbrev pub PlacesApart : Type 0
+PlacesApart = (a : Env) (e : Expr Span) (m : Blocks) → SameImports a m → place a e ≡ place (with_blocks a m) e
+
+abbrev pub UsesApart : Type 0
+UsesApart = (a : Env) (b : Stmts Span) (m : Blocks) → SameImports a m → used_stmts a b ≡ used_stmts (with_blocks a m) b
+
+abbrev pub DeclarationsApart : Type 0
+DeclarationsApart = (a : Env) (s : Stmt Span) (m : Blocks) → SameImports a m →
+    declares a s ≡ declares (with_blocks a m) s
+
+abbrev pub BodiesApart : Type 0
+BodiesApart =
+    (c : Ctx) (a : Env) (before : Bool) (b : Stmts Span) (m : Blocks) → SameImports a m →
+    stmts c a before b ≡ stmts c (with_blocks a m) before b
 
 -- ---- constants (Constants; Representability)
 

@@ -6,6 +6,8 @@ ghost use Rattle.go_types.specs.Laws.{OperandsNeedNoSpans, PlacesNeedNoSpans, Us
 ghost use Rattle.go_types.specs.Laws.{DeclarationsNeedNoSpans, BodiesNeedNoSpans};
 ghost use Rattle.go_types.specs.Laws.{OperandsAlike, PlacesAlike, UsesAlike};
 ghost use Rattle.go_types.specs.Laws.{DeclarationsAlike, BodiesAlike};
+ghost use Rattle.go_types.specs.Laws.{OperandsApart, PlacesApart, UsesApart};
+ghost use Rattle.go_types.specs.Laws.{DeclarationsApart, BodiesApart};
 ghost use Rattle.go_types.specs.Laws.{ConstantsAreHeld, DeclaredAreHeld, HeldAfter};
 ghost use Rattle.go_types.specs.Laws.{UniverseIsPredeclared};
 
@@ -40,6 +42,17 @@ pub fn typed_alike_where_free_names_mean_the_same()
     ensures uses { UsesAlike }
     ensures declarations { DeclarationsAlike }
     ensures bodies { BodiesAlike }
+{}
+
+/// Typing ignores packages that aren't imported: what is typed beside some package blocks is typed
+/// alike beside others, if the packages that names mean there declare the same.
+#[tactic(auto, using(crate::proofs::TypeLaws::apart_laws))]
+pub fn typing_ignores_packages_not_imported()
+    ensures operands { OperandsApart }
+    ensures places { PlacesApart }
+    ensures uses { UsesApart }
+    ensures declarations { DeclarationsApart }
+    ensures bodies { BodiesApart }
 {}
 
 /// A constant is a value of its type, where the constants are that its names mean: so each

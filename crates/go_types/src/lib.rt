@@ -7,5 +7,6 @@ mod laws;
 
 pub use laws::{
     constants_are_values_of_their_types, equal_rows_are_identical_types,
-    typed_alike_where_free_names_mean_the_same, typing_needs_no_spans, universe_is_predeclared,
+    typed_alike_where_free_names_mean_the_same, typing_ignores_packages_not_imported,
+    typing_needs_no_spans, universe_is_predeclared,
 };
