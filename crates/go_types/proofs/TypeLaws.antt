@@ -13,24 +13,25 @@ use Rattle.go_types.specs.Typing.{parts, place, declares, stmts, used_stmts}
 use Rattle.go_types.specs.Agreement.{Blocks, with_blocks, SameImports}
 use Rattle.go_types.proofs.HeldConstants.{constant_held, declared_held, held_after}
 
-module _ {S : Type 0} (a : Env) (m : Blocks) (g : SameImports a m) where
-  apart : Apart a m
-  apart = record { same = g }
+-- beside other package blocks
+apart : {a : Env} {m : Blocks} → SameImports a m → Apart a m
+apart g = record { same = g }
 
-  operands_apart : (e : Expr S) → parts a e ≡ parts (with_blocks a m) e
-  operands_apart e = parts-apart a e m apart
+module _ {S : Type 0} (a : Env) where
+  pub operands_apart : (e : Expr S) (m : Blocks) → SameImports a m → parts a e ≡ parts (with_blocks a m) e
+  operands_apart e m g = parts-apart a e m (apart g)
 
-  places_apart : (e : Expr S) → place a e ≡ place (with_blocks a m) e
-  places_apart e = place-apart a e m apart
+  pub places_apart : (e : Expr S) (m : Blocks) → SameImports a m → place a e ≡ place (with_blocks a m) e
+  places_apart e m g = place-apart a e m (apart g)
 
-  uses_apart : (b : Stmts S) → used_stmts a b ≡ used_stmts (with_blocks a m) b
-  uses_apart b = used_stmts-apart a b m apart
+  pub uses_apart : (b : Stmts S) (m : Blocks) → SameImports a m → used_stmts a b ≡ used_stmts (with_blocks a m) b
+  uses_apart b m g = used_stmts-apart a b m (apart g)
 
-  declarations_apart : (s : Stmt S) → declares a s ≡ declares (with_blocks a m) s
-  declarations_apart s = declares-apart a s m apart
+  pub declarations_apart : (s : Stmt S) (m : Blocks) → SameImports a m → declares a s ≡ declares (with_blocks a m) s
+  declarations_apart s m g = declares-apart a s m (apart g)
 
-  bodies_apart : (c : Ctx) (before : Bool) (b : Stmts S) → stmts c a before b ≡ stmts c (with_blocks a m) before b
-  bodies_apart c before b = stmts-apart c a before b m apart
+pub bodies_apart : {S : Type 0} (c : Ctx) (a : Env) (before : Bool) (b : Stmts S) (m : Blocks) → SameImports a m → stmts c a before b ≡ stmts c (with_blocks a m) before b
+bodies_apart c a before b m g = stmts-apart c a before b m (apart g)
 
 pub ruleset type_laws = (
   identical_same,

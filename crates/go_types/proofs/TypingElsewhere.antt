@@ -41,9 +41,12 @@ both_each {p = None} {r = r} k l d e h = λ w. both (d w) (e w) l
 both_each {p = Some x} {r = None} k l d e h = λ w. both (d w) (e w) l
 both_each {p = Some x} {r = Some y} k l d e h = h x y refl ∙ (λ w. both (d w) (e w) l)
 
-by_package : {A : Type 0} (f k : ℕ → A) {x y : A} (q : Option ℕ) → ((p : ℕ) → q ≡ Some p → f p ≡ k p) → x ≡ y → elim q [ Some p ↦ f p | None ↦ x ] ≡ elim q [ Some p ↦ k p | None ↦ y ]
-by_package f k (Some p) h e = h p refl
-by_package f k None h e = e
+after_package : {A : Type 0} (f k : ℕ → A) {x y : A} (q : Option ℕ) → ((p : ℕ) → q ≡ Some p → f p ≡ k p) → x ≡ y → ◌≡◌ {A = A} (elim q [ Some p ↦ f p | None ↦ x ]) (elim q [ Some p ↦ k p | None ↦ y ])
+after_package f k (Some p) h e = h p refl
+after_package f k None h e = e
+
+by_package : {A : Type 0} (f k : ℕ → A) {x y : A} (q : Option ℕ) {r : Option ℕ} → q ≡ r → ((p : ℕ) → q ≡ Some p → f p ≡ k p) → x ≡ y → ◌≡◌ {A = A} (elim q [ Some p ↦ f p | None ↦ x ]) (elim r [ Some p ↦ k p | None ↦ y ])
+by_package f k {y = y} q d h e = after_package f k q h e ∙ ap (λ r. elim r [ Some p ↦ k p | None ↦ y ]) d
 
 -- what a spec repeats is typed alike
 abbrev pub Again : Repeated → Type 0
@@ -82,6 +85,10 @@ exported_same : (x : List ℕ) (n : List ℕ) (a : Env) (m : Blocks) → Apart a
 exported_same x n a m g p e = ap (λ b. if is_exported x then means b x else None) (g.same n p e)
 
 module _ {S : Type 0} where
+  before_blocks : (b : Expr S) (a : Env) (m : Blocks) → package_before a b ≡ package_before (with_blocks a m) b
+  before_blocks (ident _ n) a m = refl
+  before_blocks _ a m = refl
+
   before_same : (b : Expr S) (x : List ℕ) (a : Env) (m : Blocks) → Apart a m → (p : ℕ) → package_before a b ≡ Some p → exported a.world p x ≡ exported (with_blocks a m).world p x
   before_same (ident _ n) x a m g p e = exported_same x n a m g p e
   before_same _ x a m g p e = impossible e
@@ -141,7 +148,7 @@ module _ {S : Type 0} where
     parts-apart a (str_lit _ s) m g = λ w. literal_operand kind.UntypedStr (text (text_value s))
     parts-apart a (composite _ t es) m g = λ w. given (type_meant-apart a t m g w) (λ u. given (elements-apart a (under (defined_in a) u) es m g w) (built (defined_in a) a.home u))
     parts-apart a (selector _ b n) m g =
-        by_package (λ p. named_operand a (exported a.world p n.name)) (λ p. named_operand (with_blocks a m) (exported (with_blocks a m).world p n.name)) (package_before a b)
+        by_package (λ p. named_operand a (exported a.world p n.name)) (λ p. named_operand (with_blocks a m) (exported (with_blocks a m).world p n.name)) (package_before a b) (before_blocks b a m)
         (λ p e. ap (named_operand a) (before_same b n.name a m g p e)) (λ w. given (parts-apart a b m g w) (λ o. with_value o (selected (defined_in a) a.home n.name (place-apart a b m g w))))
     parts-apart a (index _ b i) m g = λ w. both (parts-apart a b m g w) (parts-apart a i m g w) (λ o j. both (typed o) (typed j) (index_of (defined_in a)))
     parts-apart a (slice _ b i j) m g = λ w. given (parts-apart a b m g w) (λ o. both (bound-apart a i m g w) (bound-apart a j m g w) (λ i j. with_value o (λ v. sliced (defined_in a) v i j)))
@@ -178,7 +185,7 @@ module _ {S : Type 0} where
     place-apart a (ident _ n) m g = λ w. named_place (meaning a n)
     place-apart a (composite _ t es) m g = λ w. literal
     place-apart a (selector _ b n) m g =
-        by_package (λ p. named_place (exported a.world p n.name)) (λ p. named_place (exported (with_blocks a m).world p n.name)) (package_before a b)
+        by_package (λ p. named_place (exported a.world p n.name)) (λ p. named_place (exported (with_blocks a m).world p n.name)) (package_before a b) (before_blocks b a m)
         (λ p e. ap named_place (before_same b n.name a m g p e)) (λ w. place_by (parts-apart a b m g w) (selected_place (defined_in a) a.home n.name (place-apart a b m g w)))
     place-apart a (index _ b i) m g = λ w. place_by (parts-apart a b m g w) (index_place (defined_in a))
     place-apart a (star _ e) m g = λ w. place_by (parts-apart a e m g w) (λ v. addressable)

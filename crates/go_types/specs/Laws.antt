@@ -94,8 +94,7 @@ BodiesAlike =
     Agrees around a m → On (free_stmts around b) a m → stmts c a before b ≡ stmts c (with_names a m) before b
 
 -- ---- packages: a part is typed as beside other package blocks, if the packages that names mean declare the same
--- (Import
--- declarations; Qualified identifiers)
+-- (Import declarations; Qualified identifiers)
 
 abbrev pub OperandsApart : Type 0
 OperandsApart = (a : Env) (e : Expr Span) (m : Blocks) → SameImports a m → parts a e ≡ parts (with_blocks a m) e
