@@ -30,6 +30,12 @@ pub mod Scopes
 pub mod ScopesOf
 pub mod TranslationScoped
 pub mod ProgramScoped
+pub mod Asking
+pub mod NamesFound
+pub mod TranslationAsking
+pub mod AskedFor
+pub mod DeclaredKnown
+pub mod ProgramAsking
 pub mod TranslationLaws
 mod TermClasses
 mod TermShapes

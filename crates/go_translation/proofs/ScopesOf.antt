@@ -8,9 +8,9 @@ use Rattle.scope_names.specs.FreeNames.{names_of, declared, defined}
 use Rattle.go_types.specs.Answers.{given, both, only_if}
 use Rattle.go_types.specs.Types.{GoType}
 use Rattle.go_types.specs.Defined.{Defined}
-use Rattle.go_types.specs.Entities.{Entity, variable, constant, refused, exact, run, shift, Env, Binds, defined_in, extend, meaning, is_declared_here}
+use Rattle.go_types.specs.Entities.{Entity, variable, constant, stand_in, type_name, function, package_name, builtin, nil_name, iota_name, refused, exact, run, shift, Env, Binds, defined_in, extend, meaning, is_declared_here}
 use Rattle.go_types.specs.TypeNames.{written_type}
-use Rattle.go_types.specs.Operands.{Operand, Typed, typed, all_typed}
+use Rattle.go_types.specs.Operands.{Operand, Typed, settled, typed, all_typed}
 use Rattle.go_types.specs.Jumps.{is_breakable}
 use Rattle.go_types.specs.Statements.{names_once, may_declare, Declared, constants_declared, variables_declared, some_declared, bind_all, bind_each, defined_by, assigns_to, variable_entity, constant_entity, range_binds, range_types, no_values}
 use Rattle.go_types.specs.Typing.{and_then, unused_after, binds_of, new_constants, new_variables, new_by_define, new_by_range, right_values, places, all_parts, used_variables, declares, declares_constants, declares_variables, range_declares, Repeated, nothing_to_repeat}
@@ -47,23 +47,58 @@ covered_more h g j m c = record { locals = λ n. location_more (means h.locals n
 pub covered_inner : (h : Here) (g : List Name) → Covered h g → Covered (in_inner h) g
 covered_inner h g c = record { locals = c.locals; slots = c.slots }
 
--- ---- what is bound
+-- ---- what is bound: variables that have a name in the frame, and nothing that stands in packages alone
 
 abbrev pub EntityIn : List Name → List ℕ → Entity → Type 0
 EntityIn j n (variable t) = has n j ≡ true
+EntityIn j n (stand_in p t c) = ⊥
+EntityIn j n (function f) = ⊥
 EntityIn j n e = Unit {0}
 
 abbrev pub VarsIn : List Name → Binds → Type 0
 VarsIn j [] = Unit {0}
 VarsIn j (b ∷ bs) = EntityIn j b.0 b.1 × VarsIn j bs
 
-has_entity : (e : Entity) (n : List ℕ) (j : List Name) → has n j ≡ true → EntityIn j n e
-has_entity (variable t) n j p = p
-has_entity e n j p = tt
+abbrev some_or : {A : Type 0} → A → Option A → A
+some_or x None = x
+some_or x (Some y) = y
+
+pub some_same : {A : Type 0} (x y : A) → Some x ≡ Some y → x ≡ y
+some_same x y e = ap (some_or x) e
+
+pub from_both : {A B C : Type 0} (p : Option A) (q : Option B) (k : A → B → Option C) (r : C) → both p q k ≡ Some r → (x : A) × (y : B) × (p ≡ Some x) × (q ≡ Some y) × (k x y ≡ Some r)
+from_both None q k r e = grind arith
+from_both (Some x) None k r e = grind arith
+from_both (Some x) (Some y) k r e = (x, y, refl, refl, e)
+
+pub from_only : {A : Type 0} (b : Bool) (p : Option A) (r : A) → only_if b p ≡ Some r → p ≡ Some r
+from_only true p r e = e
+from_only false p r e = grind arith
+
+-- what declarations of variables bind
+abbrev IsVariable : Entity → Type 0
+IsVariable (variable t) = Unit {0}
+IsVariable e = ⊥
+
+has_entity : (e : Entity) (n : List ℕ) (j : List Name) → IsVariable e → has n j ≡ true → EntityIn j n e
+has_entity (variable t) n j v p = p
+has_entity e n j v p = absurd v
+
+variable_entity_is : (ds : List Defined) (t : Option GoType) (v : Typed) (e : Entity) → variable_entity ds t v ≡ Some e → IsVariable e
+variable_entity_is ds None v e q = let r : ((t : GoType) × (settled ds v ≡ Some t) × (Some (variable t) ≡ Some e)) = from_given (settled ds v) (λ t. Some (variable t)) e q in subst IsVariable (some_same (variable r.0) e r.2) tt
+variable_entity_is ds (Some t) v e q = subst IsVariable (some_same (variable t) e (from_only _ (Some (variable t)) e q)) tt
 
 entity_more : (e : Entity) (n : List ℕ) (g j : List Name) → More g j → EntityIn g n e → EntityIn j n e
 entity_more (variable t) n g j m p = m n p
-entity_more e n g j m p = tt
+entity_more (constant t c) n g j m p = p
+entity_more (type_name t) n g j m p = p
+entity_more (package_name q) n g j m p = p
+entity_more (builtin b) n g j m p = p
+entity_more nil_name n g j m p = p
+entity_more iota_name n g j m p = p
+entity_more refused n g j m p = p
+entity_more (stand_in s t c) n g j m p = p
+entity_more (function f) n g j m p = p
 
 pub vars_more : (bs : Binds) (g j : List Name) → More g j → VarsIn g bs → VarsIn j bs
 vars_more [] g j m p = tt
@@ -114,7 +149,7 @@ abbrev pub AllNew : Env → List (List ℕ) → List Name → Type 0
 AllNew a [] j = Unit {0}
 AllNew a (n ∷ ns) j = (is_new a n ≡ true → has n j ≡ true) × AllNew a ns j
 
-all_in_skip : (ns : List (List ℕ)) (x : Name) (j : List Name) → AllIn ns j → AllIn ns (x ∷ j)
+pub all_in_skip : (ns : List (List ℕ)) (x : Name) (j : List Name) → AllIn ns j → AllIn ns (x ∷ j)
 all_in_skip [] x j p = tt
 all_in_skip (n ∷ ns) x j p = (λ e. skip n x j (p.0 e), all_in_skip ns x j p.1)
 
@@ -138,22 +173,6 @@ new_names_in a i (n ∷ ns) g = (λ e. go (is_new a n) e, all_new_skip a ns _ _ 
     go true e = first n (new_names a (suc i) ns ++ g)
     go false e = grind (arith, e)
 
-abbrev some_or : {A : Type 0} → A → Option A → A
-some_or x None = x
-some_or x (Some y) = y
-
-some_same : {A : Type 0} (x y : A) → Some x ≡ Some y → x ≡ y
-some_same x y e = ap (some_or x) e
-
-from_both : {A B C : Type 0} (p : Option A) (q : Option B) (k : A → B → Option C) (r : C) → both p q k ≡ Some r → (x : A) × (y : B) × (p ≡ Some x) × (q ≡ Some y) × (k x y ≡ Some r)
-from_both None q k r e = grind arith
-from_both (Some x) None k r e = grind arith
-from_both (Some x) (Some y) k r e = (x, y, refl, refl, e)
-
-from_only : {A : Type 0} (b : Bool) (p : Option A) (r : A) → only_if b p ≡ Some r → p ≡ Some r
-from_only true p r e = e
-from_only false p r e = grind arith
-
 binding_in : (n : List ℕ) (e : Entity) (bs : Binds) (j : List Name) → (is_blank n ≡ false → EntityIn j n e) → VarsIn j bs → VarsIn j (binding n e ++ bs)
 binding_in n e bs j f p = go (is_blank n) refl
   where
@@ -165,17 +184,17 @@ pub vars_refused : (ns : List (List ℕ)) (j : List Name) → VarsIn j (bind_eac
 vars_refused [] j = tt
 vars_refused (n ∷ ns) j = binding_in n refused (bind_each refused ns) j (λ e. tt) (vars_refused ns j)
 
-bind_each_in : (e : Entity) (ns : List (List ℕ)) (j : List Name) → AllIn ns j → VarsIn j (bind_each e ns)
-bind_each_in e [] j p = tt
-bind_each_in e (n ∷ ns) j p = binding_in n e (bind_each e ns) j (λ q. has_entity e n j (p.0 q)) (bind_each_in e ns j p.1)
+pub bind_each_in : (t : GoType) (ns : List (List ℕ)) (j : List Name) → AllIn ns j → VarsIn j (bind_each (variable t) ns)
+bind_each_in t [] j p = tt
+bind_each_in t (n ∷ ns) j p = binding_in n (variable t) (bind_each (variable t) ns) j p.0 (bind_each_in t ns j p.1)
 
-bind_all_in : (f : Typed → Option Entity) (ns : List (List ℕ)) (vs : List Typed) (bs : Binds) (j : List Name) → bind_all f ns vs ≡ Some bs → AllIn ns j → VarsIn j bs
-bind_all_in f [] [] bs j e p = subst (VarsIn j) (some_same [] bs e) tt
-bind_all_in f [] (v ∷ vs) bs j e p = grind (arith, e)
-bind_all_in f (n ∷ ns) [] bs j e p = grind (arith, e)
-bind_all_in f (n ∷ ns) (v ∷ vs) bs j e p =
-    let q : ((d : Entity) × (cs : Binds) × (f v ≡ Some d) × (bind_all f ns vs ≡ Some cs) × (Some (binding n d ++ cs) ≡ Some bs)) = from_both (f v) (bind_all f ns vs) (λ d cs. Some (binding n d ++ cs)) bs e in
-    subst (VarsIn j) (some_same (binding n q.0 ++ q.1) bs q.4) (binding_in n q.0 q.1 j (λ r. has_entity q.0 n j (p.0 r)) (bind_all_in f ns vs q.1 j q.3 p.1))
+pub bind_all_in : (ds : List Defined) (t : Option GoType) (ns : List (List ℕ)) (vs : List Typed) (bs : Binds) (j : List Name) → bind_all (variable_entity ds t) ns vs ≡ Some bs → AllIn ns j → VarsIn j bs
+bind_all_in ds t [] [] bs j e p = subst (VarsIn j) (some_same [] bs e) tt
+bind_all_in ds t [] (v ∷ vs) bs j e p = grind (arith, e)
+bind_all_in ds t (n ∷ ns) [] bs j e p = grind (arith, e)
+bind_all_in ds t (n ∷ ns) (v ∷ vs) bs j e p =
+    let q : ((x : Entity) × (cs : Binds) × (variable_entity ds t v ≡ Some x) × (bind_all (variable_entity ds t) ns vs ≡ Some cs) × (Some (binding n x ++ cs) ≡ Some bs)) = from_both (variable_entity ds t v) (bind_all (variable_entity ds t) ns vs) (λ x cs. Some (binding n x ++ cs)) bs e in
+    subst (VarsIn j) (some_same (binding n q.0 ++ q.1) bs q.4) (binding_in n q.0 q.1 j (λ r. has_entity q.0 n j (variable_entity_is ds t v q.0 q.2) (p.0 r)) (bind_all_in ds t ns vs q.1 j q.3 p.1))
 
 constant_entity_in : (ds : List Defined) (t : Option GoType) (v : Typed) (e : Entity) (n : List ℕ) (j : List Name) → constant_entity ds t v ≡ Some e → EntityIn j n e
 constant_entity_in ds None (u, exact c) e n j q = subst (EntityIn j n) (some_same (constant u c) e q) tt
@@ -185,7 +204,7 @@ constant_entity_in ds (Some w) (u, run) e n j q = grind (arith, q)
 constant_entity_in ds None (u, shift cs) e n j q = grind (arith, q)
 constant_entity_in ds (Some w) (u, shift cs) e n j q = grind (arith, q)
 
-bind_constants_in : (ds : List Defined) (t : Option GoType) (ns : List (List ℕ)) (vs : List Typed) (bs : Binds) (j : List Name) → bind_all (constant_entity ds t) ns vs ≡ Some bs → VarsIn j bs
+pub bind_constants_in : (ds : List Defined) (t : Option GoType) (ns : List (List ℕ)) (vs : List Typed) (bs : Binds) (j : List Name) → bind_all (constant_entity ds t) ns vs ≡ Some bs → VarsIn j bs
 bind_constants_in ds t [] [] bs j e = subst (VarsIn j) (some_same [] bs e) tt
 bind_constants_in ds t [] (v ∷ vs) bs j e = grind (arith, e)
 bind_constants_in ds t (n ∷ ns) [] bs j e = grind (arith, e)
@@ -214,7 +233,7 @@ defined_by_in a (n ∷ ns) (v ∷ vs) bs j e p = go (is_declared_here a n) refl 
     go true d e f = f bs (from_only (assigns_to (defined_in a) (meaning a n) v) (defined_by (defined_in a) a ns vs) bs e)
     go false d e f =
         let q : ((x : Entity) × (cs : Binds) × (variable_entity (defined_in a) None v ≡ Some x) × (defined_by (defined_in a) a ns vs ≡ Some cs) × (Some (binding n x ++ cs) ≡ Some bs)) = from_both (variable_entity (defined_in a) None v) (defined_by (defined_in a) a ns vs) (λ x cs. Some (binding n x ++ cs)) bs e in
-        subst (VarsIn j) (some_same (binding n q.0 ++ q.1) bs q.4) (binding_in n q.0 q.1 j (λ r. has_entity q.0 n j (p.0 (is_new_here r d))) (f q.1 q.3))
+        subst (VarsIn j) (some_same (binding n q.0 ++ q.1) bs q.4) (binding_in n q.0 q.1 j (λ r. has_entity q.0 n j (variable_entity_is (defined_in a) None v q.0 q.2) (p.0 (is_new_here r d))) (f q.1 q.3))
 
 -- ---- what statements declare
 
@@ -255,9 +274,9 @@ new_variables_in a ns t zeros vs j p d e = go t zeros vs (as_variables (given t 
     go : (t : Option (Option GoType)) (zeros : Bool) (vs : Option (List Typed)) → given t (λ t. if zeros then given t (λ t. Some (bind_each (variable t) ns)) else given vs (bind_all (variable_entity (defined_in a) t) ns)) ≡ Some d.binds → VarsIn j d.binds
     go None zeros vs e = grind (arith, e)
     go (Some None) true vs e = grind (arith, e)
-    go (Some (Some t)) true vs e = subst (VarsIn j) (some_same (bind_each (variable t) ns) d.binds e) (bind_each_in (variable t) ns j p)
+    go (Some (Some t)) true vs e = subst (VarsIn j) (some_same (bind_each (variable t) ns) d.binds e) (bind_each_in t ns j p)
     go (Some t) false None e = grind (arith, e)
-    go (Some t) false (Some vs) e = bind_all_in (variable_entity (defined_in a) t) ns vs d.binds j e p
+    go (Some t) false (Some vs) e = bind_all_in (defined_in a) t ns vs d.binds j e p
 
 new_by_define_in : (a : Env) (ns : List (List ℕ)) (vs : Option (List Typed)) (j : List Name) → AllNew a ns j → DeclaresIn j (new_by_define a ns vs)
 new_by_define_in a ns vs j p d e = go vs (as_some (given vs (defined_by (defined_in a) a ns)) d (from_only (names_once ns) _ d e))

@@ -2,7 +2,7 @@
 -- "Calls", "Defer statements", "Declarations and scope").
 use Rattle.std.specs.Prelude.{ℕ, Bool, true, ◌&&◌, List, [], ◌∷◌, ◌++◌, nat_lt, if◌then◌else◌}
 use Rattle.std.specs.List.{list_any, list_all}
-use Rattle.go_kernel.specs.Kernel.{Name, ImportPath, FuncName, same_text, same_func, Op, ReadGlobal, GlobalAddress, Func, code, Term, Vals, Local, Set, Both, Prim, If, Let, Loop, Leave, Catch, Within, Alone, Recover, Call, Defer, DeferLit}
+use Rattle.go_kernel.specs.Kernel.{Name, ImportPath, FuncName, same_text, same_func, Op, ReadGlobal, GlobalAddress, Save, Func, code, Term, Vals, Local, Set, Both, Prim, If, Let, Loop, Leave, Catch, Within, Alone, Recover, Call, Defer, DeferLit}
 use Rattle.go_translation.specs.Packages.{PackageCode, functions_of, initial_of}
 
 -- ---- functions
@@ -71,6 +71,12 @@ variables (Call f a) = variables a
 variables (Defer f a) = variables a
 variables (DeferLit xs a b) = variables a ++ variables b
 
+-- those that a term sets to values, one after the other
+abbrev pub variables_set_by : Term → List (ImportPath × Name)
+variables_set_by (Let xs a b) = variables_set_by a ++ variables_set_by b
+variables_set_by (Prim (Save c) (Both (Prim (GlobalAddress p n) a) b)) = (p, n) ∷ []
+variables_set_by t = []
+
 -- ---- nothing that is missing is asked for
 
 abbrev pub has_function : List (FuncName × Func) → FuncName → Bool
@@ -84,10 +90,12 @@ asks_for ds vs t =
     list_all (has_function ds) (called t)
     && (list_all (has_function ds) (deferred t) && list_all (λ x. list_any (same_variable x) vs) (variables t))
 
--- Each function that any code asks for is declared, and each package variable is one that is set before `main` runs.
+-- Each function that any code asks for is declared, and each package variable is one that is set before `main` runs; so
+-- are those that the package variables' own values ask for.
 abbrev pub asks_nothing_missing : List PackageCode → Bool
 asks_nothing_missing cs =
-    list_all (λ d. asks_for (functions_of cs) (variables (initial_of cs)) (code d.1)) (functions_of cs)
+    let asks : Term → Bool = asks_for (functions_of cs) (variables_set_by (initial_of cs)) in
+    asks (initial_of cs) && list_all (λ d. asks (code d.1)) (functions_of cs)
 
 -- ---- ranks
 

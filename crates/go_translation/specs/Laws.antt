@@ -16,7 +16,7 @@ use Rattle.go_kernel.specs.Scope.{Scoped}
 use Rattle.go_kernel.specs.Laws.{Ranked, AllScoped}
 use Rattle.go_translation.specs.Packages.{Package, codes_of, initial_of, functions_of, program_of, shown_by, freely_shown_by}
 use Rattle.go_translation.specs.SameMeaning.{Packages, WellTyped, with_further, HasMain, SameMeaning}
-use Rattle.go_translation.specs.Asked.{is_ranked}
+use Rattle.go_translation.specs.Asked.{is_ranked, asks_nothing_missing}
 use Rattle.go_translation.specs.SpansAside.{AllSameButSpans}
 use Rattle.go_translation.specs.Agreement.{at_names, OnHere, AgreesHere}
 use Rattle.go_translation.specs.Swapped.{SwappedExpr, SwappedStmts}
@@ -87,6 +87,13 @@ CodeIsScoped = (ps : List (Package Span)) → AllScoped (program_of (codes_of ps
 -- what sets package variables names no local
 abbrev pub InitialIsScoped : Type 0
 InitialIsScoped = (ps : List (Package Span)) → Scoped [] (initial_of (codes_of ps))
+
+-- ---- what is asked for
+
+-- each function that any code calls or defers, and each package variable that it reads or whose address it takes, is
+-- one that the packages declare
+abbrev pub NothingMissingIsAskedFor : Type 0
+NothingMissingIsAskedFor = (ps : List (Package Span)) → asks_nothing_missing (codes_of ps) ≡ true
 
 -- ---- variables that a deferred literal names
 

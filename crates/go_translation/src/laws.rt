@@ -9,7 +9,7 @@ ghost use Rattle.go_translation.specs.Laws.{ExpressionsNeedNoSpans, StatementsNe
 ghost use Rattle.go_translation.specs.Laws.{MentionsNeedNoSpans, HeldAlike, ExpressionsAlike};
 ghost use Rattle.go_translation.specs.Laws.{StatementsAlike, SwappedExpressions, SwappedStatements};
 ghost use Rattle.go_translation.specs.Laws.{SwappedPrograms, SwappedRuns, SwappedMeaning, CodeIsScoped};
-ghost use Rattle.go_translation.specs.Laws.{InitialIsScoped};
+ghost use Rattle.go_translation.specs.Laws.{InitialIsScoped, NothingMissingIsAskedFor};
 
 /// A part's term, and which variables it holds, depend on no span.
 #[tactic(auto, using(crate::proofs::TranslationLaws::bare_laws))]
@@ -50,6 +50,13 @@ pub fn code_is_scoped()
     ensures functions { CodeIsScoped }
     ensures initial { InitialIsScoped }
     ensures ranked { RankedByComputing }
+{}
+
+/// The terms of packages, well typed or not, ask for nothing that is missing: each function that is
+/// called or deferred is declared with its code, and each package variable that is read or whose
+/// address is taken is one that is set before `main` runs.
+pub fn nothing_missing_is_asked_for()
+    ensures declared { NothingMissingIsAskedFor }
 {}
 
 /// A variable that a deferred literal names from outside lives in a cell, or is a parameter to which

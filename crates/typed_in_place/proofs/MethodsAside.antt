@@ -29,7 +29,7 @@ module _ (ms : List DeclaredMethod) where
   length_methods (d ∷ ds) = ap suc (length_methods ds)
 
   module _ (ds : List Defined) where
-    under_methods : (t : GoType) → under (with_methods ms ds) t ≡ under ds t
+    pub under_methods : (t : GoType) → under (with_methods ms ds) t ≡ under ds t
     under_methods (named_type p n) = find_methods ds p n (named_type p n)
     under_methods (basic k) = refl
     under_methods (pointer_to t) = refl
