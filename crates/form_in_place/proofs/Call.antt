@@ -15,7 +15,8 @@ use Rattle.go_types.specs.Primary.{call_of, stands_alone, may_be_deferred}
 use Rattle.go_types.specs.Statements.{means_panic, body_binds, body_ctx, is_panic}
 use Rattle.go_types.specs.Typing.{is_body, parts, all_parts, used, used_left, stmts, is_call}
 use Rattle.go_types.specs.Initial.{means_maker, is_maker, is_initial, is_constant, sizes_constant}
-use Rattle.form_in_place.specs.Places.{UsedAlike, Apart}
+use Rattle.form_in_place.specs.Places.{Apart}
+use Rattle.typed_in_place.specs.SameFacts.{UsedAlike}
 use Rattle.form_in_place.specs.Written.{Written}
 use Rattle.form_in_place.specs.CalledLiteral.{declared_at, landing_at}
 use Rattle.form_in_place.proofs.Uses.{both_used, same_used, apart_used}

@@ -22,7 +22,8 @@ use Rattle.go_types.specs.Operators.{common_type, joins, arithmetic, calculated_
 use Rattle.go_types.specs.Operands.{kind_passes}
 use Rattle.go_types.specs.Primary.{call_of, is_printed, print_call, panic_call}
 use Rattle.go_types.specs.Typing.{parts, used}
-use Rattle.form_in_place.specs.Places.{at_place, Landing, UsedAlike}
+use Rattle.form_in_place.specs.Places.{at_place, Landing}
+use Rattle.typed_in_place.specs.SameFacts.{UsedAlike}
 use Rattle.form_in_place.specs.Leaves.{Bare, bare_constant, bare_nil, bare_truth, BareConstant, untyped_constant, BareWhole, whole_constant}
 use Rattle.form_in_place.specs.Bound.{is_printer, is_shift_op, types_after}
 use Rattle.form_in_place.proofs.Uses.{apart_used, single_apart}

@@ -13,16 +13,11 @@ use Rattle.go_types.specs.Operands.{Operand, value, a_function, takes}
 use Rattle.go_types.specs.Primary.{sees, find_field, find_method, fields_in, home_of, is_addressable, method_of}
 use Rattle.go_types.specs.Literals.{Element, unkeyed, of_field, keyed, fills, sets_field, fields_set, struct_takes, slice_takes, map_takes, literal_takes}
 use Rattle.go_types.specs.Typing.{parts, elements}
-use Rattle.form_in_place.specs.Places.{Landing, SeenFields, SeenIn, SelectorAlike, KeysIn}
+use Rattle.form_in_place.specs.Places.{Landing, SeenFields, SeenIn, SelectorAlike, KeysIn, is_open, open_in}
 use Rattle.form_in_place.proofs.Fields.{found_alike}
 use Rattle.form_in_place.specs.Leaves.{LiteralAlike}
 
 -- ---- names of fields
-
--- all fields with this name are seen everywhere
-abbrev pub is_open : List ℕ → GoFields → Bool
-is_open n no_go_fields = true
-is_open n (go_field m q t fs) = (not (bytes_eq n m) || is_none q) && is_open n fs
 
 -- all fields are
 abbrev pub all_open : GoFields → Bool
@@ -59,10 +54,6 @@ open_of_all n (go_field m q t fs) e = ap₂ (λ b c. b && c) (go (not (bytes_eq 
     go false c e = e
 
 -- ---- selectors
-
-abbrev pub open_in : List ℕ → Option GoFields → Bool
-open_in n None = true
-open_in n (Some fs) = is_open n fs
 
 module _ (ds : List Defined) (home p : ℕ) where
   method_seen : (n : List ℕ) (t : GoType) (reachable : Bool) → is_exported n ≡ true → method_of ds home n t reachable ≡ method_of ds p n t reachable

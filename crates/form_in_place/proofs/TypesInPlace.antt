@@ -8,7 +8,8 @@ use Rattle.go_types.specs.Answers.{given, both, only_if, is_among}
 use Rattle.go_types.specs.Types.{pointer_to, slice_of, map_of, struct_of, go_field, field_names}
 use Rattle.go_types.specs.Entities.{Entity, Env, meaning, exported, package_of, type_of_name}
 use Rattle.go_types.specs.TypeNames.{resolved_fields, field_package}
-use Rattle.form_in_place.specs.Places.{at_place, Landing, SameName, UsedAlike, Apart, TypeAlike}
+use Rattle.form_in_place.specs.Places.{at_place, Landing, SameName, Apart, TypeAlike}
+use Rattle.typed_in_place.specs.SameFacts.{UsedAlike}
 use Rattle.form_in_place.proofs.Uses.{both_used, same_used, apart_used, single_apart, both_apart, nothing_apart}
 
 -- the fields of a struct type, where none is an unexported one in another package

@@ -8,7 +8,8 @@ use Rattle.go_types.specs.Entities.{Binds}
 use Rattle.go_types.specs.Statements.{bound_names}
 use Rattle.go_types.specs.Typing.{beyond, all_used}
 use Rattle.go_types.proofs.Agreeing.{among_right}
-use Rattle.form_in_place.specs.Places.{UsedAlike, Apart}
+use Rattle.form_in_place.specs.Places.{Apart}
+use Rattle.typed_in_place.specs.SameFacts.{UsedAlike}
 
 or_true : (b : Bool) → (b || true) ≡ true
 or_true true = refl
@@ -27,13 +28,13 @@ among_left n xs ys e = among_append n xs ys ∙ ap (λ b. b || is_among n ys) e
 
 -- one list after another
 pub both_used : {r xs ys xs' ys' : List (List ℕ)} → UsedAlike r xs xs' → UsedAlike r ys ys' → UsedAlike r (xs ++ ys) (xs' ++ ys')
-both_used {xs = xs} {ys = ys} {xs' = xs'} {ys' = ys'} f g = record { same = λ n i. among_append n xs ys ∙ ap₂ (λ b c. b || c) (f.same n i) (g.same n i) ∙ sym (among_append n xs' ys') }
+both_used {xs = xs} {ys = ys} {xs' = xs'} {ys' = ys'} f g = record { each = λ n i. among_append n xs ys ∙ ap₂ (λ b c. b || c) (f.each n i) (g.each n i) ∙ sym (among_append n xs' ys') }
 
 pub same_used : {r xs : List (List ℕ)} → UsedAlike r xs xs
-same_used = record { same = λ n i. refl }
+same_used = record { each = λ n i. refl }
 
 pub apart_used : {r xs ys : List (List ℕ)} → Apart r xs → Apart r ys → UsedAlike r xs ys
-apart_used f g = record { same = λ n i. f.none n i ∙ sym (g.none n i) }
+apart_used f g = record { each = λ n i. f.none n i ∙ sym (g.none n i) }
 
 pub single_apart : (r : List (List ℕ)) (n : List ℕ) → is_among n r ≡ false → Apart r (n ∷ [])
 single_apart r n e = record { none = λ k i. go k i (bytes_eq k n) refl }
@@ -64,10 +65,10 @@ among_without n out (x ∷ xs) = go (is_among x out) refl (bytes_eq n x) refl (a
     go false q false e h = ap (λ c. c || is_among n (without out xs)) e ∙ h
 
 pub without_used : (out : List (List ℕ)) {r xs ys : List (List ℕ)} → UsedAlike r xs ys → UsedAlike r (without out xs) (without out ys)
-without_used out {xs = xs} {ys = ys} f = record { same = λ n i. among_without n out xs ∙ ap (λ b. b && not (is_among n out)) (f.same n i) ∙ sym (among_without n out ys) }
+without_used out {xs = xs} {ys = ys} f = record { each = λ n i. among_without n out xs ∙ ap (λ b. b && not (is_among n out)) (f.each n i) ∙ sym (among_without n out ys) }
 
 pub fewer : (xs : List (List ℕ)) {r us vs : List (List ℕ)} → UsedAlike (xs ++ r) us vs → UsedAlike r us vs
-fewer xs {r = r} f = record { same = λ n i. f.same n (among_right n xs r i) }
+fewer xs {r = r} f = record { each = λ n i. f.each n (among_right n xs r i) }
 
 -- behind a declaration
 pub after_used : {r : List (List ℕ)} (bs bs' : Binds) → bs ≡ bs' → (us : List (List ℕ)) (vs : Binds → List (List ℕ)) → UsedAlike (bound_names bs ++ r) us (vs bs) → UsedAlike r (beyond bs us) (beyond bs' (vs bs'))

@@ -10,7 +10,8 @@ use Rattle.go_types.specs.Entities.{Entity, Env}
 use Rattle.go_types.specs.Operands.{a_function}
 use Rattle.go_types.specs.Statements.{Ctx}
 use Rattle.go_types.specs.Typing.{parts, place, used, used_stmts, stmts}
-use Rattle.form_in_place.specs.Places.{at_place, Landing, UsedAlike, Apart}
+use Rattle.form_in_place.specs.Places.{at_place, Landing, Apart}
+use Rattle.typed_in_place.specs.SameFacts.{UsedAlike}
 use Rattle.form_in_place.specs.Written.{Written, WrittenBody}
 use Rattle.form_in_place.specs.CalledLiteral.{declared_at, landing_at}
 

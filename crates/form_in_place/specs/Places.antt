@@ -1,6 +1,6 @@
 -- Another place in the same world, with other names and maybe in another package; and what is the same there (Go
 -- specification, Declarations and scope; Exported identifiers; Qualified identifiers).
-use Rattle.std.specs.Prelude.{◌≡◌, ℕ, Bool, true, false, ◌&&◌, List, [], ◌∷◌, Option, Some, None, bytes_eq}
+use Rattle.std.specs.Prelude.{◌≡◌, ℕ, Bool, true, false, not, ◌&&◌, ◌||◌, List, [], ◌∷◌, Option, Some, None, bytes_eq, is_none}
 use Rattle.go_tree.specs.Tree.{TypeExpr, Expr, ident, Elems, no_elems, elem, no_value, some_value}
 use Rattle.scope_names.specs.Means.{Environment, means}
 use Rattle.scope_names.specs.FreeNames.{free_type}
@@ -12,6 +12,7 @@ use Rattle.go_types.specs.TypeNames.{resolved}
 use Rattle.go_types.specs.Primary.{sees, fields_in, method_value}
 use Rattle.go_types.specs.Literals.{field_key}
 use Rattle.go_types.specs.Statements.{means_panic}
+use Rattle.typed_in_place.specs.SameFacts.{UsedAlike}
 
 -- the place of `a` with other names, in the package `p`
 abbrev pub at_place : Env → Environment Entity → ℕ → Env
@@ -26,10 +27,6 @@ AllSame a m [] = Unit {0}
 AllSame a m (n ∷ ns) = SameName a m n × AllSame a m ns
 
 -- ---- names that a body declares, and what is used of them
-
--- of these names, two lists have the same
-pub record UsedAlike (declared xs ys : List (List ℕ)) : Type 0 where
-  pub same : (n : List ℕ) → is_among n declared ≡ true → is_among n xs ≡ is_among n ys
 
 -- of these names, a list has none
 pub record Apart (declared xs : List (List ℕ)) : Type 0 where
@@ -87,6 +84,15 @@ SeenFields home p n (go_field m q t fs) =
 abbrev pub SeenIn : ℕ → ℕ → List ℕ → Option GoFields → Type 0
 SeenIn home p n None = Unit {0}
 SeenIn home p n (Some fs) = SeenFields home p n fs
+
+-- all fields with this name are seen everywhere
+abbrev pub is_open : List ℕ → GoFields → Bool
+is_open n no_go_fields = true
+is_open n (go_field m q t fs) = (not (bytes_eq n m) || is_none q) && is_open n fs
+
+abbrev pub open_in : List ℕ → Option GoFields → Bool
+open_in n None = true
+open_in n (Some fs) = is_open n fs
 
 -- a selector that both packages see alike: it names no unexported field or method of another package
 pub record SelectorAlike (ds : List Defined) (home p : ℕ) (n : List ℕ) (t : GoType) : Type 0 where

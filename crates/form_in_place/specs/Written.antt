@@ -17,7 +17,8 @@ use Rattle.go_types.specs.Operands.{value, a_function, a_builtin}
 use Rattle.go_types.specs.Literals.{is_struct, key_type, inner_type}
 use Rattle.go_types.specs.Statements.{bound_names}
 use Rattle.go_types.specs.Typing.{parts, used_constants}
-use Rattle.form_in_place.specs.Places.{at_place, Landing, has_home, means_function, SameName, AllSame, UsedAlike, Outside, TypeAlike, SelectorAlike, results_in}
+use Rattle.form_in_place.specs.Places.{at_place, Landing, has_home, means_function, SameName, AllSame, Outside, TypeAlike, SelectorAlike, results_in}
+use Rattle.typed_in_place.specs.SameFacts.{UsedAlike}
 use Rattle.form_in_place.specs.Bound.{Before, inner_under, types_after, is_printer, is_shift_op, at_iota, stmt_binds, first_binds, range_left_binds, literal_binds, variable_binds, constant_binds, repeated_binds, literal_under}
 use Rattle.form_in_place.specs.Leaves.{Leaf, Bare, BareWhole, WrittenType, WrittenParams, BareConstant, LiteralAlike}
 
