@@ -1,0 +1,7 @@
+//! Tests of the calls that read a module's files: their marks.
+#![tactic(auto)]
+
+#[cfg(test)]
+mod marks;
+#[cfg(test)]
+mod sources;
