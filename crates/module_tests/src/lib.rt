@@ -1,7 +1,9 @@
-//! Tests of the calls that read a module's files: their marks.
+//! Tests of the calls that read a module's files: their packages and marks.
 #![tactic(auto)]
 
 #[cfg(test)]
 mod marks;
+#[cfg(test)]
+mod packages;
 #[cfg(test)]
 mod sources;

@@ -19,8 +19,6 @@ mod paths;
 mod ranks;
 mod rows;
 mod selection;
-#[cfg(test)]
-mod tests;
 mod version;
 
 pub use faults::{GraphError, Module};

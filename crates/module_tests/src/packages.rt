@@ -1,10 +1,10 @@
 //! Modules that are read and modules that aren't: each call, and each fault.
 
-use crate::{Graph, GraphError, Module, SourceTree, build, may_import, read_module, selected};
 use go_tree::{
     DeclList, FileTree, ImportDecl, ImportDeclList, ImportSpec, ImportSpecList, Name, NameAt, Span,
     Text,
 };
+use pkg_graph::{Graph, GraphError, Module, SourceTree, build, may_import, read_module, selected};
 use std::alloc::Global;
 use std::test::Fail;
 
