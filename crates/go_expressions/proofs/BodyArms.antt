@@ -1,10 +1,9 @@
 -- What the reader gives for statements in braces.
-use Rattle.std.proofs.Common.{◌≡◌, ◌≢◌, ℕ, List, ◌∷◌, Some, None, sym, ap, ◌∙◌}
+use Rattle.std.proofs.Common.{◌≡◌, ◌≢◌, ℕ, ◌∷◌, Some, None, sym, ap, ◌∙◌}
 use Rattle.std.specs.Prelude.{drop}
 use Rattle.go_tree.specs.declared.spans.Span.{Span}
-use Rattle.go_tree.specs.declared.tokens.Token.{Token}
 use Rattle.go_tree.specs.Tree.{Stmts}
-use Rattle.go_words.specs.Terminals.{lex, lexemes, brace}
+use Rattle.go_words.specs.Terminals.{lex, brace}
 use Rattle.go_read.specs.SpellsSpans.{span_to}
 use Rattle.go_read.specs.SpellsTypes.{Lexemes}
 use Rattle.go_read.specs.Goals.{read_stmts, read_block}
@@ -16,8 +15,8 @@ use Rattle.go_words.specs.declared.terminals.Terminal.TheVariants as code
 use Rattle.go_productions.specs.Terminals.{first_of, rest_of}
 use Rattle.go_productions.proofs.Steps.{fails, lacks, no_end_brace, on_end_brace}
 
-pub stmts_taken : (ts left : List Token) (n : ℕ) (b : Stmts Span) → at span_to read_stmts (lexemes ts) ≡ Some (b, lexemes (drop n ts)) → left ≡ drop n ts → at span_to read_stmts (lexemes ts) ≡ Some (b, lexemes left)
-stmts_taken ts left n b e d = e ∙ ap (λ (us : List Token). Some (b, lexemes us)) (sym d)
+pub stmts_taken : (ts left : Lexemes) (n : ℕ) (b : Stmts Span) → at span_to read_stmts ts ≡ Some (b, drop n ts) → left ≡ drop n ts → at span_to read_stmts ts ≡ Some (b, left)
+stmts_taken ts left n b e d = e ∙ ap (λ (us : Lexemes). Some (b, us)) (sym d)
 
 -- ---- blocks
 

@@ -14,6 +14,8 @@ use Rattle.go_read.specs.Spells.{is_func_lit}
 use Rattle.go_read.specs.Goals.{read_type, read_sig, read_expr, read_operand, read_args, read_elems, read_elem, read_block}
 use Rattle.go_read.specs.Programs.{Program, give, fail, ask, unless, run, after_end_brace, after_end_bracket, after_end_paren}
 use Rattle.go_read.specs.Reading.{at}
+use Rattle.go_tree.specs.View.{expr_of}
+use Rattle.go_expressions.specs.declared.basics.Operand.{Operand}
 use Rattle.go_expressions.specs.declared.prefixes.Prefix.{Prefix}
 use Rattle.go_expressions.specs.declared.prefixes.Prefix.TheVariants as prefix
 use Rattle.go_words.specs.declared.terminals.Terminal.{Terminal}
@@ -40,6 +42,9 @@ binary_of level (code.Binary op) = if nat_le level (level_of op) then Some op el
 binary_of level _ = None
 
 -- ---- operands
+
+abbrev pub operand_of : Operand → Expr Span × Bool
+operand_of x = (expr_of x.e, x.bare)
 
 -- the name or the basic literal with this spelling
 abbrev pub plain_of : Terminal → Span → List ℕ → Expr Span

@@ -11,6 +11,13 @@ use go_tree::{
 use go_words::Terminal;
 use std::alloc::Global;
 
+/// An expression, and whether it stands without parentheses around it.
+#[derive(Drop)]
+pub struct Operand {
+    pub e: Expr,
+    pub bare: bool,
+}
+
 /// Whether the expression is a literal of a function, which stands only as the callee of a call.
 pub fn is_func_lit(e: &Expr) -> bool
     ensures { is_func_lit (expr_of e.now) ≡ result }

@@ -2,15 +2,15 @@
 
 ghost use Rattle.std.specs.Prelude.{◌<◌, ◌≤◌, length};
 ghost use Rattle.go_tree.specs.View.{block_of, stmts_of};
-ghost use Rattle.go_words.specs.Terminals.{lexemes};
+ghost use Rattle.go_productions.specs.Cursors.{ahead};
 ghost use Rattle.go_read.specs.SpellsSpans.{span_to};
 ghost use Rattle.go_read.specs.Goals.{read_block, read_stmts};
 ghost use Rattle.go_read.specs.Reading.{at};
 ghost use Rattle.go_productions.specs.Answers.{Gives, Shorter, Within};
 ghost use Rattle.go_expressions.specs.Bodies.{ReadsBelow};
 
-use go_productions::{Reading, Room, first, rest, span_between};
-use go_tree::{Block, NoMemory, StmtList, Token};
+use go_productions::{Cursor, Reading, Room};
+use go_tree::{Block, NoMemory, StmtList};
 use go_words::Terminal;
 
 /// Statements and how many tokens they take, or nothing where the tokens don't begin with some.
@@ -28,42 +28,42 @@ pub struct Bodies<'r, F> {
 
 /// Statements up to a closing brace or the next clause of a `switch` (Go specification, Blocks).
 #[tactic(auto, using(crate::proofs::BodyArms::stmts_taken))]
-pub fn statements<'a, F: Fn(&[Token]) -> Taken>(
-    tokens: &'a [Token],
+pub fn statements<'a, F: Fn(Cursor) -> Taken>(
+    tokens: Cursor<'a>,
     bodies: &Bodies<F>,
 ) -> Reading<'a, StmtList>
     requires reads { ReadsBelow (F.pre bodies.now.read) (F.post bodies.now.read) bodies.now.limit }
-    requires below { length tokens.now < bodies.now.limit }
-    ensures gives { Gives (λ x. (stmts_of x.0, lexemes x.1.now)) result (at span_to read_stmts (lexemes tokens.now)) }
-    ensures within { Within (λ x. x.1.now) result tokens.now }
+    requires below { length (ahead tokens) < bodies.now.limit }
+    ensures gives { Gives stmts_of result (at span_to read_stmts (ahead tokens.entry)) }
+    ensures within { Within result tokens.entry }
 {
     let Some((stmts, taken)) = (bodies.read)(tokens)? else {
         return Ok(None);
     };
-    Ok(Some((stmts, &tokens[taken..])))
+    Ok(Some((stmts, tokens.skip(taken))))
 }
 
 /// Statements in braces (Go specification, Blocks).
 #[tactic(auto, using(crate::proofs::BodyArms::block_open, crate::proofs::BodyArms::block_none, crate::proofs::BodyArms::block_end, crate::proofs::BodyArms::block_some))]
-pub fn block<'a, F: Fn(&[Token]) -> Taken>(
-    tokens: &'a [Token],
+pub fn block<'a, F: Fn(Cursor) -> Taken>(
+    tokens: Cursor<'a>,
     bodies: &Bodies<F>,
 ) -> Reading<'a, Block>
     requires reads { ReadsBelow (F.pre bodies.now.read) (F.post bodies.now.read) bodies.now.limit }
-    requires within { length tokens.now ≤ bodies.now.limit }
-    ensures gives { Gives (λ x. (block_of x.0, lexemes x.1.now)) result (at span_to read_block (lexemes tokens.now)) }
-    ensures shorter { Shorter (λ x. x.1.now) result tokens.now }
+    requires within { length (ahead tokens) ≤ bodies.now.limit }
+    ensures gives { Gives block_of result (at span_to read_block (ahead tokens.entry)) }
+    ensures shorter { Shorter result tokens.entry }
 {
-    let Terminal::Brace = first(tokens) else {
+    let Terminal::Brace = tokens.first() else {
         return Ok(None);
     };
-    let Some((stmts, left)) = statements(rest(tokens), bodies)? else {
+    let Some((stmts, left)) = statements(tokens.rest(), bodies)? else {
         return Ok(None);
     };
-    let Terminal::EndBrace = first(left) else {
+    let Terminal::EndBrace = left.first() else {
         return Ok(None);
     };
-    let left = rest(left);
-    let span = span_between(tokens, left);
+    let left = left.rest();
+    let span = tokens.span_to(left);
     Ok(Some((Block { span, stmts }, left)))
 }

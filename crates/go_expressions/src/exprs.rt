@@ -4,41 +4,42 @@ ghost use Rattle.std.specs.Prelude.{◌≡◌, ◌<◌, ◌≤◌, IfSome, None,
 ghost use Rattle.std.specs.Option.{option_map};
 ghost use Rattle.go_tree.specs.Lists.{exprs_from};
 ghost use Rattle.go_tree.specs.View.{expr_of, exprs_of};
-ghost use Rattle.go_words.specs.Terminals.{lexemes};
+ghost use Rattle.go_productions.specs.Cursors.{ahead};
 ghost use Rattle.go_read.specs.SpellsSpans.{span_to};
 ghost use Rattle.go_read.specs.Goals.{read_args, read_expr, read_exprs, read_operand, read_unary};
 ghost use Rattle.go_read.specs.Reading.{at};
 ghost use Rattle.go_expressions.specs.Bodies.{ReadsBelow};
 ghost use Rattle.go_productions.specs.Answers.{Gives, Shorter};
-ghost use Rattle.go_expressions.specs.ExprParts.{args_closed, binary_of, prefix_of};
+ghost use Rattle.go_expressions.specs.ExprParts.{args_closed, binary_of, operand_of, prefix_of};
 ghost use Rattle.go_productions.specs.Terminals.{first_of};
 
-use crate::basics::is_func_lit;
+use crate::basics::{Operand, is_func_lit};
 use crate::bodies::{Bodies, Taken};
 use crate::operands::operand;
 use crate::postfixes::{continues, postfix};
 use crate::prefixes::{prefix_of, prefixed};
-use go_productions::{Reading, first, rest, span_between};
-use go_tree::{BinOp, Expr, ExprList, Rest, Token};
+use go_productions::{Cursor, Reading};
+use go_tree::{BinOp, Expr, ExprList, Rest};
 use go_words::{Terminal, level_of};
 
 /// An expression; in a header no composite literal begins with a name outside of brackets.
 #[cycle(expressions)]
 #[tactic(auto, using(crate::proofs::ExprArms::operand_none, crate::proofs::ExprArms::operand_func, crate::proofs::ExprArms::operand_some))]
-pub fn expression<'a, F: Fn(&[Token]) -> Taken>(
-    tokens: &'a [Token],
+pub fn expression<'a, F: Fn(Cursor) -> Taken>(
+    tokens: Cursor<'a>,
     header: bool,
     bodies: &Bodies<F>,
 ) -> Reading<'a, Expr>
     requires reads { ReadsBelow (F.pre bodies.now.read) (F.post bodies.now.read) bodies.now.limit }
-    requires within { length tokens.now ≤ bodies.now.limit }
-    ensures gives { Gives (λ x. (expr_of x.0, lexemes x.1.now)) result
-        (at span_to (read_operand header) (lexemes tokens.now)) }
-    ensures shorter { Shorter (λ x. x.1.now) result tokens.now }
+    requires within { length (ahead tokens) ≤ bodies.now.limit }
+    ensures gives { Gives expr_of result
+        (at span_to (read_operand header) (ahead tokens.entry)) }
+    ensures shorter { Shorter result tokens.entry }
 {
-    let Some(((e, _), left)) = binary_expr(tokens, 1, header, bodies)? else {
+    let Some((operand, left)) = binary_expr(tokens, 1, header, bodies)? else {
         return Ok(None);
     };
+    let e = operand.e;
     if is_func_lit(&e) {
         drop(e);
         return Ok(None);
@@ -48,16 +49,16 @@ pub fn expression<'a, F: Fn(&[Token]) -> Taken>(
 
 /// Expressions with commas between them, one at least.
 #[tactic(auto, using(crate::proofs::ExprArms::exprs_lost, crate::proofs::ExprArms::exprs_last, crate::proofs::ExprArms::exprs_more))]
-pub fn expr_list<'a, F: Fn(&[Token]) -> Taken>(
-    tokens: &'a [Token],
+pub fn expr_list<'a, F: Fn(Cursor) -> Taken>(
+    tokens: Cursor<'a>,
     header: bool,
     bodies: &Bodies<F>,
 ) -> Reading<'a, Vec<Expr>>
     requires reads { ReadsBelow (F.pre bodies.now.read) (F.post bodies.now.read) bodies.now.limit }
-    requires within { length tokens.now ≤ bodies.now.limit }
-    ensures gives { Gives (λ x. (exprs_from (map expr_of x.0.items), lexemes x.1.now)) result
-        (at span_to (read_exprs header) (lexemes tokens.now)) }
-    ensures shorter { Shorter (λ x. x.1.now) result tokens.now }
+    requires within { length (ahead tokens) ≤ bodies.now.limit }
+    ensures gives { Gives (λ x. exprs_from (map expr_of x.items)) result
+        (at span_to (read_exprs header) (ahead tokens.entry)) }
+    ensures shorter { Shorter result tokens.entry }
 {
     let mut items = Vec::new(bodies.room.alloc);
     let mut left = tokens;
@@ -66,41 +67,41 @@ pub fn expr_list<'a, F: Fn(&[Token]) -> Taken>(
             return Ok(None);
         };
         items.push(e)?;
-        let Terminal::Comma = first(after) else {
+        let Terminal::Comma = after.first() else {
             return Ok(Some((items, after)));
         };
-        left = rest(after);
+        left = after.rest();
     }
 }
 
 /// The arguments of a call, up to its closing parenthesis, and whether dots stand after the last.
 #[cycle(expressions)]
 #[tactic(auto, using(crate::proofs::ExprArms::args_end, crate::proofs::ExprArms::args_lost, crate::proofs::ExprArms::args_more, crate::proofs::ExprArms::args_last, crate::proofs::ExprArms::args_whole, crate::proofs::ExprArms::args_unclosed, crate::proofs::ExprArms::args_stop))]
-pub(crate) fn call_args<'a, F: Fn(&[Token]) -> Taken>(
-    tokens: &'a [Token],
+pub(crate) fn call_args<'a, F: Fn(Cursor) -> Taken>(
+    tokens: Cursor<'a>,
     bodies: &Bodies<F>,
 ) -> Reading<'a, (ExprList, Rest)>
     requires reads { ReadsBelow (F.pre bodies.now.read) (F.post bodies.now.read) bodies.now.limit }
-    requires within { length tokens.now ≤ bodies.now.limit }
-    ensures gives { Gives (λ x. ((exprs_of x.0.0, x.0.1), lexemes x.1.now)) result
-        (at span_to read_args (lexemes tokens.now)) }
-    ensures shorter { Shorter (λ x. x.1.now) result tokens.now }
+    requires within { length (ahead tokens) ≤ bodies.now.limit }
+    ensures gives { Gives (λ x. (exprs_of x.0, x.1)) result
+        (at span_to read_args (ahead tokens.entry)) }
+    ensures shorter { Shorter result tokens.entry }
 {
     let mut items = Vec::new(bodies.room.alloc);
     let mut left = tokens;
     loop {
-        if let Terminal::EndParen = first(left) {
-            return Ok(Some(((ExprList::of(items), Rest::Plain), rest(left))));
+        if let Terminal::EndParen = left.first() {
+            return Ok(Some(((ExprList::of(items), Rest::Plain), left.rest())));
         }
         let Some((e, after)) = expression(left, false, bodies)? else {
             return Ok(None);
         };
         items.push(e)?;
-        match first(after) {
-            Terminal::Comma => left = rest(after),
+        match after.first() {
+            Terminal::Comma => left = after.rest(),
             Terminal::EndParen => left = after,
             Terminal::Ellipsis => {
-                let Some(left) = after_args(rest(after)) else {
+                let Some(left) = after_args(after.rest()) else {
                     return Ok(None);
                 };
                 return Ok(Some(((ExprList::of(items), Rest::Whole), left)));
@@ -111,72 +112,70 @@ pub(crate) fn call_args<'a, F: Fn(&[Token]) -> Taken>(
 }
 
 /// The tokens after the parenthesis that ends arguments, before which a comma may stand.
-fn after_args(tokens: &[Token]) -> Option<&[Token]>
-    ensures is { args_closed (lexemes tokens.now) ≡ option_map (λ r. lexemes r.now) result }
-    ensures shorter { IfSome result (λ r. length r.now < length tokens.now) }
+fn after_args(tokens: Cursor) -> Option<Cursor>
+    ensures is { args_closed (ahead tokens.entry) ≡ option_map ahead result }
+    ensures shorter { IfSome result (λ r. length (ahead r) < length (ahead tokens.entry)) }
 {
-    let left = rest(tokens);
-    match first(tokens) {
+    let left = tokens.rest();
+    match tokens.first() {
         Terminal::EndParen => Some(left),
         Terminal::Comma => {
-            let Terminal::EndParen = first(left) else {
+            let Terminal::EndParen = left.first() else {
                 return None;
             };
-            Some(rest(left))
+            Some(left.rest())
         }
         _ => None,
     }
 }
 
-/// Operands with binary operators of at least this level between them, and whether they stand
-/// without parentheses around them.
+/// Operands with binary operators of at least this level between them.
 #[cycle(expressions)]
 #[tactic(auto, using(crate::proofs::ExprArms::expr_none, crate::proofs::ExprArms::expr_starts, crate::proofs::ExprArms::more_done, crate::proofs::ExprArms::more_func_left, crate::proofs::ExprArms::more_none, crate::proofs::ExprArms::more_func_right, crate::proofs::ExprArms::more_some))]
-pub fn binary_expr<'a, F: Fn(&[Token]) -> Taken>(
-    tokens: &'a [Token],
+pub fn binary_expr<'a, F: Fn(Cursor) -> Taken>(
+    tokens: Cursor<'a>,
     level: u8,
     header: bool,
     bodies: &Bodies<F>,
-) -> Reading<'a, (Expr, bool)>
+) -> Reading<'a, Operand>
     requires reads { ReadsBelow (F.pre bodies.now.read) (F.post bodies.now.read) bodies.now.limit }
-    requires within { length tokens.now ≤ bodies.now.limit }
-    ensures gives { Gives (λ x. ((expr_of x.0.0, x.0.1), lexemes x.1.now)) result
-        (at span_to (read_expr level header) (lexemes tokens.now)) }
-    ensures shorter { Shorter (λ x. x.1.now) result tokens.now }
+    requires within { length (ahead tokens) ≤ bodies.now.limit }
+    ensures gives { Gives operand_of result
+        (at span_to (read_expr level header) (ahead tokens.entry)) }
+    ensures shorter { Shorter result tokens.entry }
 {
-    let Some(((e, alone), after)) = unary_expr(tokens, header, bodies)? else {
+    let Some((first, after)) = unary_expr(tokens, header, bodies)? else {
         return Ok(None);
     };
-    let mut e = e;
-    let mut bare = alone;
+    let mut bare = first.bare;
+    let mut e = first.e;
     let mut left = after;
     while let Some(op) = operator(left, level) {
         let left_operand = Box::new(bodies.room.alloc, e)?;
         if is_func_lit(&left_operand) {
             return Ok(None);
         }
-        let Some((operand, after)) = binary_expr(rest(left), level_of(op) + 1, header, bodies)?
+        let Some((operand, after)) = binary_expr(left.rest(), level_of(op) + 1, header, bodies)?
         else {
             return Ok(None);
         };
-        let (right, _) = operand;
-        let right = Box::new(bodies.room.alloc, right)?;
+        let right = Box::new(bodies.room.alloc, operand.e)?;
         if is_func_lit(&right) {
             return Ok(None);
         }
-        let span = span_between(tokens, after);
+        let span = tokens.span_to(after);
         e = go_tree::binary_expr(span, op, left_operand, right);
         bare = true;
         left = after;
     }
-    Ok(Some(((e, bare), left)))
+    Ok(Some((Operand { e, bare }, left)))
 }
 
 /// The binary operator that stands first, of at least this level.
-fn operator(tokens: &[Token], level: u8) -> Option<BinOp>
-    ensures { binary_of level (first_of (lexemes tokens.now)) ≡ result }
+fn operator(tokens: Cursor, level: u8) -> Option<BinOp>
+    ensures { binary_of level (first_of (ahead tokens.entry)) ≡ result }
 {
-    let Terminal::Binary(op) = first(tokens) else {
+    let Terminal::Binary(op) = tokens.first() else {
         return None;
     };
     if level <= level_of(op) {
@@ -189,52 +188,52 @@ fn operator(tokens: &[Token], level: u8) -> Option<BinOp>
 /// An operand with what may follow it, or such a one behind unary operators.
 #[cycle(expressions)]
 #[tactic(auto, using(crate::proofs::ExprArms::unary_none, crate::proofs::ExprArms::unary_func, crate::proofs::ExprArms::unary_some))]
-fn unary_expr<'a, F: Fn(&[Token]) -> Taken>(
-    tokens: &'a [Token],
+fn unary_expr<'a, F: Fn(Cursor) -> Taken>(
+    tokens: Cursor<'a>,
     header: bool,
     bodies: &Bodies<F>,
-) -> Reading<'a, (Expr, bool)>
+) -> Reading<'a, Operand>
     requires reads { ReadsBelow (F.pre bodies.now.read) (F.post bodies.now.read) bodies.now.limit }
-    requires within { length tokens.now ≤ bodies.now.limit }
-    ensures gives { Gives (λ x. ((expr_of x.0.0, x.0.1), lexemes x.1.now)) result
-        (at span_to (read_unary header) (lexemes tokens.now)) }
-    ensures shorter { Shorter (λ x. x.1.now) result tokens.now }
+    requires within { length (ahead tokens) ≤ bodies.now.limit }
+    ensures gives { Gives operand_of result
+        (at span_to (read_unary header) (ahead tokens.entry)) }
+    ensures shorter { Shorter result tokens.entry }
 {
-    let Some(prefix) = prefix_of(first(tokens)) else {
+    let Some(prefix) = prefix_of(tokens.first()) else {
         return primary_expr(tokens, header, bodies);
     };
-    let Some((operand, left)) = unary_expr(rest(tokens), header, bodies)? else {
+    let Some((operand, left)) = unary_expr(tokens.rest(), header, bodies)? else {
         return Ok(None);
     };
-    let (e, _) = operand;
-    let e = Box::new(bodies.room.alloc, e)?;
+    let e = Box::new(bodies.room.alloc, operand.e)?;
     if is_func_lit(&e) {
         return Ok(None);
     }
-    let span = span_between(tokens, left);
-    Ok(Some(((prefixed(span, prefix, e), true), left)))
+    let span = tokens.span_to(left);
+    let e = prefixed(span, prefix, e);
+    Ok(Some((Operand { e, bare: true }, left)))
 }
 
 /// An operand with what may follow it.
 #[cycle(expressions)]
 #[tactic(auto, using(crate::proofs::PrimaryArms::primary_none, crate::proofs::PrimaryArms::primary_starts, crate::proofs::PrimaryArms::postfix_done, crate::proofs::PrimaryArms::postfix_none, crate::proofs::PrimaryArms::postfix_some))]
-fn primary_expr<'a, F: Fn(&[Token]) -> Taken>(
-    tokens: &'a [Token],
+fn primary_expr<'a, F: Fn(Cursor) -> Taken>(
+    tokens: Cursor<'a>,
     header: bool,
     bodies: &Bodies<F>,
-) -> Reading<'a, (Expr, bool)>
+) -> Reading<'a, Operand>
     requires reads { ReadsBelow (F.pre bodies.now.read) (F.post bodies.now.read) bodies.now.limit }
-    requires within { length tokens.now ≤ bodies.now.limit }
-    requires unprefixed { prefix_of (first_of (lexemes tokens.now)) ≡ None }
-    ensures gives { Gives (λ x. ((expr_of x.0.0, x.0.1), lexemes x.1.now)) result
-        (at span_to (read_unary header) (lexemes tokens.now)) }
-    ensures shorter { Shorter (λ x. x.1.now) result tokens.now }
+    requires within { length (ahead tokens) ≤ bodies.now.limit }
+    requires unprefixed { prefix_of (first_of (ahead tokens)) ≡ None }
+    ensures gives { Gives operand_of result
+        (at span_to (read_unary header) (ahead tokens.entry)) }
+    ensures shorter { Shorter result tokens.entry }
 {
-    let Some(((e, alone), after)) = operand(tokens, header, bodies)? else {
+    let Some((first, after)) = operand(tokens, header, bodies)? else {
         return Ok(None);
     };
-    let mut e = e;
-    let mut bare = alone;
+    let mut bare = first.bare;
+    let mut e = first.e;
     let mut left = after;
     while continues(left) {
         let base = Box::new(bodies.room.alloc, e)?;
@@ -245,5 +244,5 @@ fn primary_expr<'a, F: Fn(&[Token]) -> Taken>(
         bare = true;
         left = after;
     }
-    Ok(Some(((e, bare), left)))
+    Ok(Some((Operand { e, bare }, left)))
 }

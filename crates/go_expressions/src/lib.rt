@@ -1,4 +1,4 @@
-//! Expressions, read of a slice of tokens from left to right.
+//! Expressions, read of the tokens of a file from left to right.
 //!
 //! A function's literal holds statements, which are read by the crate above: each function here is
 //! passed what reads them.
@@ -11,6 +11,6 @@ mod operands;
 mod postfixes;
 mod prefixes;
 
-pub use basics::is_func_lit;
+pub use basics::{Operand, is_func_lit};
 pub use bodies::{Bodies, Taken, block, statements};
 pub use exprs::{binary_expr, expr_list, expression};

@@ -1,12 +1,9 @@
 -- The string literals among the tokens that are left.
-use Rattle.std.proofs.Common.{◌≡◌, ℕ, suc, true, ltb, List, [], ◌∷◌, length, Option, Some, None, refl, sym, ap, subst, arith}
-use Rattle.std.proofs.lemmas.Bool.Decides.{nat_tests}
+use Rattle.std.proofs.Common.{◌≡◌, [], ◌∷◌, Option, Some, None, refl, sym, ap, subst}
 use Rattle.go_tree.specs.declared.spans.Span.{Span}
-use Rattle.std.specs.Prelude.{slice_get}
 use Rattle.go_literals.specs.Strings.{IsString}
-use Rattle.go_tree.specs.declared.tokens.Token.{Token}
 use Rattle.go_tree.specs.File.{ImportSpec, ImportDecl}
-use Rattle.go_words.specs.Terminals.{Terminal, lex, str_lit, semicolon, end_paren, terminal_of, lexemes}
+use Rattle.go_words.specs.Terminals.{Terminal, lex, str_lit, semicolon, end_paren}
 use Rattle.go_read.specs.SpellsSpans.{span_to}
 use Rattle.go_read.specs.SpellsTypes.{Lexemes}
 use Rattle.go_read.specs.Goals.{read_import_spec, read_import}
@@ -15,8 +12,7 @@ use Rattle.go_read.proofs.Sound.{at_sound}
 use Rattle.go_read.proofs.Suffixes.{Suffix, whole, after, import_spec_suffix, import_suffix}
 use Rattle.go_words.specs.declared.terminals.Terminal.TheVariants as code
 use Rattle.go_words.specs.Codes.{code_of}
-use Rattle.go_productions.specs.Terminals.{first_of, rest_of, letters_of, spelling_of, has_letters}
-use Rattle.go_productions.proofs.Heads.{letters_are}
+use Rattle.go_productions.specs.Terminals.{first_of, rest_of, letters_of, spelling_of}
 use Rattle.go_parse.specs.Parts.{ended, spec_end}
 use Rattle.go_parse.specs.Texts.{IsSound, HasTexts}
 
@@ -60,18 +56,11 @@ texts_after_import ts x us e h = go (at span_to read_import ts) refl e
 
 -- ---- the literal that stands first
 
-some_stands : (n : ℕ) → true ≡ ltb 0 (suc n)
-some_stands n = grind (arith, nat_tests)
-
 literal_sound : (u : Terminal) → code_of u ≡ code.StrLit → IsSound u → IsString (letters_of u)
 literal_sound (str_lit p) e h = h
 literal_sound _ e h = absurd (cc)
 
-pub text_stands : (ts : List Token) (t : Token) → Some t ≡ slice_get ts 0 → HasTexts (lexemes ts) → first_of (lexemes ts) ≡ code.StrLit → IsString t.spelling × (t.spelling ≡ spelling_of (lexemes ts))
+pub text_stands : (ts : Lexemes) → HasTexts ts → first_of ts ≡ code.StrLit → IsString (spelling_of ts)
 unfolding HasTexts
-text_stands [] t e h f = absurd (cc)
-text_stands (x ∷ r) t e h f =
-    let same : x ≡ t = cc in
-    let letters : x.spelling ≡ spelling_of (lexemes (x ∷ r)) = letters_are (x ∷ r) x (some_stands (length r)) refl (ap has_letters f) in
-    let sound : IsString (spelling_of (lexemes (x ∷ r))) = literal_sound (terminal_of x.kind x.spelling) f h.0 in
-    subst (λ (y : Token). IsString y.spelling × (y.spelling ≡ spelling_of (lexemes (x ∷ r)))) same (subst IsString (sym letters) sound, letters)
+text_stands [] h f = absurd (cc)
+text_stands (lex s u ∷ r) h f = literal_sound u f h.0

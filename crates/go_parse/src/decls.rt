@@ -2,7 +2,7 @@
 
 ghost use Rattle.std.specs.Prelude.{◌≡◌};
 ghost use Rattle.go_tree.specs.FileView.{decl_of};
-ghost use Rattle.go_words.specs.Terminals.{lexemes};
+ghost use Rattle.go_productions.specs.Cursors.{ahead};
 ghost use Rattle.go_read.specs.SpellsSpans.{span_to};
 ghost use Rattle.go_read.specs.Goals.{read_top};
 ghost use Rattle.go_read.specs.Reading.{at};
@@ -12,17 +12,17 @@ ghost use Rattle.go_productions.specs.Answers.{Gives, Shorter};
 
 use crate::functions::func_decl;
 use crate::types::type_decl;
-use go_productions::{Reading, Room, first};
+use go_productions::{Cursor, Reading, Room};
 use go_statements::{const_decl, var_decl};
-use go_tree::{Decl, Token};
+use go_tree::Decl;
 use go_words::Terminal;
 
 /// A declaration of the package block.
-pub(crate) fn decl<'a>(room: &Room, tokens: &'a [Token]) -> Reading<'a, Decl>
-    ensures gives { Gives (λ x. (decl_of x.0, lexemes x.1.now)) result (at span_to read_top (lexemes tokens.now)) }
-    ensures shorter { Shorter (λ x. x.1.now) result tokens.now }
+pub(crate) fn decl<'a>(room: &Room, tokens: Cursor<'a>) -> Reading<'a, Decl>
+    ensures gives { Gives decl_of result (at span_to read_top (ahead tokens.entry)) }
+    ensures shorter { Shorter result tokens.entry }
 {
-    match first(tokens) {
+    match tokens.first() {
         Terminal::Const => constants(room, tokens),
         Terminal::Var => variables(room, tokens),
         Terminal::Type => types(room, tokens),
@@ -32,10 +32,10 @@ pub(crate) fn decl<'a>(room: &Room, tokens: &'a [Token]) -> Reading<'a, Decl>
 }
 
 /// Constants.
-fn constants<'a>(room: &Room, tokens: &'a [Token]) -> Reading<'a, Decl>
-    requires { first_of (lexemes tokens.now) ≡ terminal.Const }
-    ensures gives { Gives (λ x. (decl_of x.0, lexemes x.1.now)) result (at span_to read_top (lexemes tokens.now)) }
-    ensures shorter { Shorter (λ x. x.1.now) result tokens.now }
+fn constants<'a>(room: &Room, tokens: Cursor<'a>) -> Reading<'a, Decl>
+    requires { first_of (ahead tokens) ≡ terminal.Const }
+    ensures gives { Gives decl_of result (at span_to read_top (ahead tokens.entry)) }
+    ensures shorter { Shorter result tokens.entry }
 {
     let Some((decl, after)) = const_decl(room, tokens)? else {
         return Ok(None);
@@ -44,10 +44,10 @@ fn constants<'a>(room: &Room, tokens: &'a [Token]) -> Reading<'a, Decl>
 }
 
 /// Variables.
-fn variables<'a>(room: &Room, tokens: &'a [Token]) -> Reading<'a, Decl>
-    requires { first_of (lexemes tokens.now) ≡ terminal.Var }
-    ensures gives { Gives (λ x. (decl_of x.0, lexemes x.1.now)) result (at span_to read_top (lexemes tokens.now)) }
-    ensures shorter { Shorter (λ x. x.1.now) result tokens.now }
+fn variables<'a>(room: &Room, tokens: Cursor<'a>) -> Reading<'a, Decl>
+    requires { first_of (ahead tokens) ≡ terminal.Var }
+    ensures gives { Gives decl_of result (at span_to read_top (ahead tokens.entry)) }
+    ensures shorter { Shorter result tokens.entry }
 {
     let Some((decl, after)) = var_decl(room, tokens)? else {
         return Ok(None);
@@ -56,10 +56,10 @@ fn variables<'a>(room: &Room, tokens: &'a [Token]) -> Reading<'a, Decl>
 }
 
 /// Types.
-fn types<'a>(room: &Room, tokens: &'a [Token]) -> Reading<'a, Decl>
-    requires { first_of (lexemes tokens.now) ≡ terminal.Type }
-    ensures gives { Gives (λ x. (decl_of x.0, lexemes x.1.now)) result (at span_to read_top (lexemes tokens.now)) }
-    ensures shorter { Shorter (λ x. x.1.now) result tokens.now }
+fn types<'a>(room: &Room, tokens: Cursor<'a>) -> Reading<'a, Decl>
+    requires { first_of (ahead tokens) ≡ terminal.Type }
+    ensures gives { Gives decl_of result (at span_to read_top (ahead tokens.entry)) }
+    ensures shorter { Shorter result tokens.entry }
 {
     let Some((decl, after)) = type_decl(room, tokens)? else {
         return Ok(None);
@@ -68,10 +68,10 @@ fn types<'a>(room: &Room, tokens: &'a [Token]) -> Reading<'a, Decl>
 }
 
 /// A function or a method.
-fn function<'a>(room: &Room, tokens: &'a [Token]) -> Reading<'a, Decl>
-    requires { first_of (lexemes tokens.now) ≡ terminal.Func }
-    ensures gives { Gives (λ x. (decl_of x.0, lexemes x.1.now)) result (at span_to read_top (lexemes tokens.now)) }
-    ensures shorter { Shorter (λ x. x.1.now) result tokens.now }
+fn function<'a>(room: &Room, tokens: Cursor<'a>) -> Reading<'a, Decl>
+    requires { first_of (ahead tokens) ≡ terminal.Func }
+    ensures gives { Gives decl_of result (at span_to read_top (ahead tokens.entry)) }
+    ensures shorter { Shorter result tokens.entry }
 {
     let Some((decl, after)) = func_decl(room, tokens)? else {
         return Ok(None);

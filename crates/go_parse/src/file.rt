@@ -2,7 +2,7 @@
 
 ghost use Rattle.std.specs.Prelude.{◌≡◌, ◌≤◌, IfOk, length, map, Some};
 ghost use Rattle.go_tree.specs.FileView.{decl_of, file_of, import_decl_of};
-ghost use Rattle.go_words.specs.Terminals.{lexemes};
+ghost use Rattle.go_productions.specs.Cursors.{ahead};
 ghost use Rattle.go_read.specs.SpellsSpans.{span_to};
 ghost use Rattle.go_read.specs.SpellsFiles.{is_blank};
 ghost use Rattle.go_read.specs.Goals.{read_front, read_import, read_imports, read_top, read_tops};
@@ -13,47 +13,47 @@ ghost use Rattle.go_parse.specs.Texts.{HasTexts};
 
 use crate::decls::decl;
 use crate::imports::import;
-use go_productions::{Reading, Room, first, name, rest};
-use go_tree::{Decl, DeclList, FileTree, ImportDecl, ImportDeclList, NameAt, NoMemory, Token};
+use go_productions::{Cursor, Reading, Room, name};
+use go_tree::{Decl, DeclList, FileTree, ImportDecl, ImportDeclList, NameAt, NoMemory};
 use go_words::Terminal;
 
 /// An import with its semicolon.
-fn whole_import<'a>(room: &Room, tokens: &'a [Token]) -> Reading<'a, ImportDecl>
-    requires { HasTexts (lexemes tokens.now) }
-    ensures gives { Gives (λ x. (import_decl_of x.0, lexemes x.1.now)) result
-        (ended (at span_to read_import (lexemes tokens.now))) }
-    ensures shorter { Shorter (λ x. x.1.now) result tokens.now }
+fn whole_import<'a>(room: &Room, tokens: Cursor<'a>) -> Reading<'a, ImportDecl>
+    requires { HasTexts (ahead tokens) }
+    ensures gives { Gives import_decl_of result
+        (ended (at span_to read_import (ahead tokens.entry))) }
+    ensures shorter { Shorter result tokens.entry }
 {
     let Some((import, after)) = import(room, tokens)? else {
         return Ok(None);
     };
-    let Terminal::Semicolon = first(after) else {
+    let Terminal::Semicolon = after.first() else {
         return Ok(None);
     };
-    Ok(Some((import, rest(after))))
+    Ok(Some((import, after.rest())))
 }
 
 /// A declaration with its semicolon.
-fn whole_decl<'a>(room: &Room, tokens: &'a [Token]) -> Reading<'a, Decl>
-    ensures gives { Gives (λ x. (decl_of x.0, lexemes x.1.now)) result
-        (ended (at span_to read_top (lexemes tokens.now))) }
-    ensures shorter { Shorter (λ x. x.1.now) result tokens.now }
+fn whole_decl<'a>(room: &Room, tokens: Cursor<'a>) -> Reading<'a, Decl>
+    ensures gives { Gives decl_of result
+        (ended (at span_to read_top (ahead tokens.entry))) }
+    ensures shorter { Shorter result tokens.entry }
 {
     let Some((decl, after)) = decl(room, tokens)? else {
         return Ok(None);
     };
-    let Terminal::Semicolon = first(after) else {
+    let Terminal::Semicolon = after.first() else {
         return Ok(None);
     };
-    Ok(Some((decl, rest(after))))
+    Ok(Some((decl, after.rest())))
 }
 
 /// Whole imports, each with its semicolon, as long as they follow one another.
-fn imports<'a>(room: &Room, tokens: &'a [Token]) -> Result<(ImportDeclList, &'a [Token]), NoMemory>
-    requires { HasTexts (lexemes tokens.now) }
-    ensures gives { IfOk result (λ x. at span_to read_imports (lexemes tokens.now)
-        ≡ Some (map import_decl_of x.0, lexemes x.1.now)) }
-    ensures within { IfOk result (λ x. length x.1.now ≤ length tokens.now) }
+fn imports<'a>(room: &Room, tokens: Cursor<'a>) -> Result<(ImportDeclList, Cursor<'a>), NoMemory>
+    requires { HasTexts (ahead tokens) }
+    ensures gives { IfOk result (λ x. at span_to read_imports (ahead tokens.entry)
+        ≡ Some (map import_decl_of x.0, ahead x.1)) }
+    ensures within { IfOk result (λ x. length (ahead x.1) ≤ length (ahead tokens.entry)) }
 {
     let mut list = Vec::new(room.alloc);
     let mut left = tokens;
@@ -67,10 +67,10 @@ fn imports<'a>(room: &Room, tokens: &'a [Token]) -> Result<(ImportDeclList, &'a 
 }
 
 /// Whole declarations, each with its semicolon, as long as they follow one another.
-fn decls<'a>(room: &Room, tokens: &'a [Token]) -> Result<(DeclList, &'a [Token]), NoMemory>
-    ensures gives { IfOk result (λ x. at span_to read_tops (lexemes tokens.now)
-        ≡ Some (map decl_of x.0, lexemes x.1.now)) }
-    ensures within { IfOk result (λ x. length x.1.now ≤ length tokens.now) }
+fn decls<'a>(room: &Room, tokens: Cursor<'a>) -> Result<(DeclList, Cursor<'a>), NoMemory>
+    ensures gives { IfOk result (λ x. at span_to read_tops (ahead tokens.entry)
+        ≡ Some (map decl_of x.0, ahead x.1)) }
+    ensures within { IfOk result (λ x. length (ahead x.1) ≤ length (ahead tokens.entry)) }
 {
     let mut list = Vec::new(room.alloc);
     let mut left = tokens;
@@ -91,26 +91,26 @@ fn is_blank(name: &NameAt) -> bool
 }
 
 /// A package clause, whole imports and whole declarations, each with its semicolon.
-pub(crate) fn front<'a>(room: &Room, tokens: &'a [Token]) -> Reading<'a, FileTree>
-    requires { HasTexts (lexemes tokens.now) }
-    ensures { Gives (λ x. (file_of x.0, lexemes x.1.now)) result (at span_to read_front (lexemes tokens.now)) }
+pub(crate) fn front<'a>(room: &Room, tokens: Cursor<'a>) -> Reading<'a, FileTree>
+    requires { HasTexts (ahead tokens) }
+    ensures { Gives file_of result (at span_to read_front (ahead tokens.entry)) }
 {
-    let Terminal::Package = first(tokens) else {
+    let Terminal::Package = tokens.first() else {
         return Ok(None);
     };
-    let named = rest(tokens);
-    let Terminal::Ident = first(named) else {
+    let named = tokens.rest();
+    let Terminal::Ident = named.first() else {
         return Ok(None);
     };
     let package = name(room, named)?;
-    let after = rest(named);
-    let Terminal::Semicolon = first(after) else {
+    let after = named.rest();
+    let Terminal::Semicolon = after.first() else {
         return Ok(None);
     };
     if is_blank(&package) {
         return Ok(None);
     }
-    let (imports, after) = imports(room, rest(after))?;
+    let (imports, after) = imports(room, after.rest())?;
     let (decls, after) = decls(room, after)?;
     let file = FileTree {
         package,

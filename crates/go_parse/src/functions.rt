@@ -5,7 +5,7 @@ ghost use Rattle.std.specs.Option.{option_map};
 ghost use Rattle.go_tree.specs.declared.files.Decl.TheVariants as decls;
 ghost use Rattle.go_tree.specs.View.{name_at_of};
 ghost use Rattle.go_tree.specs.FileView.{decl_of, receiver_of};
-ghost use Rattle.go_words.specs.Terminals.{lexemes};
+ghost use Rattle.go_productions.specs.Cursors.{ahead};
 ghost use Rattle.go_read.specs.SpellsSpans.{span_to};
 ghost use Rattle.go_read.specs.Goals.{read_receiver};
 ghost use Rattle.go_read.specs.ReadFiles.{may_be_variadic};
@@ -15,9 +15,9 @@ ghost use Rattle.go_productions.specs.Terminals.{first_of};
 ghost use Rattle.go_productions.specs.Answers.{Gives, Shorter};
 ghost use Rattle.go_parse.specs.Parts.{func_at, func_decl_at, is_star, method_at, receiver_here};
 
-use go_productions::{Reading, Room, first, name, rest, signature, span_between};
+use go_productions::{Cursor, Reading, Room, name, signature};
 use go_statements::block;
-use go_tree::{BinOp, FuncDecl, NameAt, Receiver, Token};
+use go_tree::{BinOp, FuncDecl, NameAt, Receiver};
 use go_words::Terminal;
 
 /// Whether it is `*`.
@@ -30,18 +30,18 @@ fn is_star(terminal: Terminal) -> bool
 /// The receiver that begins at `whole` and whose type's name stands first of `of`.
 fn receiver_from<'a>(
     room: &Room,
-    whole: &[Token],
+    whole: Cursor,
     name: Option<NameAt>,
     pointer: bool,
-    of: &'a [Token],
+    of: Cursor<'a>,
 ) -> Reading<'a, Receiver>
-    requires { first_of (lexemes of.now) ≡ terminal.Ident }
-    ensures gives { Gives (λ x. (receiver_of x.0, lexemes x.1.now)) result
-        (receiver_here (lexemes whole.now) (option_map name_at_of name) pointer (lexemes of.now)) }
-    ensures shorter { Shorter (λ x. x.1.now) result of.now }
+    requires { first_of (ahead of) ≡ terminal.Ident }
+    ensures gives { Gives receiver_of result
+        (receiver_here (ahead whole.entry) (option_map name_at_of name) pointer (ahead of.entry)) }
+    ensures shorter { Shorter result of.entry }
 {
-    let after = rest(of);
-    let span = span_between(whole, after);
+    let after = of.rest();
+    let span = whole.span_to(after);
     let of = go_productions::name(room, of)?;
     let receiver = Receiver {
         span,
@@ -53,23 +53,23 @@ fn receiver_from<'a>(
 }
 
 /// A receiver that begins with a name: its own, or that of its type.
-fn named_receiver<'a>(room: &Room, tokens: &'a [Token]) -> Reading<'a, Receiver>
-    requires { first_of (lexemes tokens.now) ≡ terminal.Ident }
-    ensures gives { Gives (λ x. (receiver_of x.0, lexemes x.1.now)) result
-        (at span_to read_receiver (lexemes tokens.now)) }
-    ensures shorter { Shorter (λ x. x.1.now) result tokens.now }
+fn named_receiver<'a>(room: &Room, tokens: Cursor<'a>) -> Reading<'a, Receiver>
+    requires { first_of (ahead tokens) ≡ terminal.Ident }
+    ensures gives { Gives receiver_of result
+        (at span_to read_receiver (ahead tokens.entry)) }
+    ensures shorter { Shorter result tokens.entry }
 {
-    let second = rest(tokens);
-    let starred = is_star(first(second));
+    let second = tokens.rest();
+    let starred = is_star(second.first());
     if starred {
-        let third = rest(second);
-        let Terminal::Ident = first(third) else {
+        let third = second.rest();
+        let Terminal::Ident = third.first() else {
             return receiver_from(room, tokens, None, false, tokens);
         };
         let own = name(room, tokens)?;
         return receiver_from(room, tokens, Some(own), true, third);
     }
-    let Terminal::Ident = first(second) else {
+    let Terminal::Ident = second.first() else {
         return receiver_from(room, tokens, None, false, tokens);
     };
     let own = name(room, tokens)?;
@@ -77,20 +77,20 @@ fn named_receiver<'a>(room: &Room, tokens: &'a [Token]) -> Reading<'a, Receiver>
 }
 
 /// A receiver without the parentheses around it.
-fn receiver<'a>(room: &Room, tokens: &'a [Token]) -> Reading<'a, Receiver>
-    ensures gives { Gives (λ x. (receiver_of x.0, lexemes x.1.now)) result
-        (at span_to read_receiver (lexemes tokens.now)) }
-    ensures shorter { Shorter (λ x. x.1.now) result tokens.now }
+fn receiver<'a>(room: &Room, tokens: Cursor<'a>) -> Reading<'a, Receiver>
+    ensures gives { Gives receiver_of result
+        (at span_to read_receiver (ahead tokens.entry)) }
+    ensures shorter { Shorter result tokens.entry }
 {
-    let starred = is_star(first(tokens));
+    let starred = is_star(tokens.first());
     if starred {
-        let second = rest(tokens);
-        let Terminal::Ident = first(second) else {
+        let second = tokens.rest();
+        let Terminal::Ident = second.first() else {
             return Ok(None);
         };
         return receiver_from(room, tokens, None, true, second);
     }
-    let Terminal::Ident = first(tokens) else {
+    let Terminal::Ident = tokens.first() else {
         return Ok(None);
     };
     named_receiver(room, tokens)
@@ -109,25 +109,25 @@ fn may_be_variadic(receiver: &Option<Receiver>) -> bool
 /// The name, signature and body of a function whose declaration begins at `whole`.
 fn function<'a>(
     room: &Room,
-    whole: &[Token],
+    whole: Cursor,
     receiver: Option<Receiver>,
-    tokens: &'a [Token],
+    tokens: Cursor<'a>,
 ) -> Reading<'a, FuncDecl>
-    ensures gives { Gives (λ x. (decl_of (decls.Func x.0), lexemes x.1.now)) result
-        (func_at (lexemes whole.now) (option_map receiver_of receiver) (lexemes tokens.now)) }
-    ensures shorter { Shorter (λ x. x.1.now) result tokens.now }
+    ensures gives { Gives (λ x. decl_of (decls.Func x)) result
+        (func_at (ahead whole.entry) (option_map receiver_of receiver) (ahead tokens.entry)) }
+    ensures shorter { Shorter result tokens.entry }
 {
-    let Terminal::Ident = first(tokens) else {
+    let Terminal::Ident = tokens.first() else {
         return Ok(None);
     };
-    let Some((sig, after)) = signature(room, rest(tokens), may_be_variadic(&receiver))? else {
+    let Some((sig, after)) = signature(room, tokens.rest(), may_be_variadic(&receiver))? else {
         return Ok(None);
     };
     let Some((body, after)) = block(room, after)? else {
         return Ok(None);
     };
     let name = name(room, tokens)?;
-    let span = span_between(whole, after);
+    let span = whole.span_to(after);
     let decl = FuncDecl {
         span,
         receiver,
@@ -139,29 +139,29 @@ fn function<'a>(
 }
 
 /// A method whose declaration begins at `whole`, after the parenthesis before its receiver.
-fn method<'a>(room: &Room, whole: &[Token], tokens: &'a [Token]) -> Reading<'a, FuncDecl>
-    ensures gives { Gives (λ x. (decl_of (decls.Func x.0), lexemes x.1.now)) result
-        (method_at (lexemes whole.now) (lexemes tokens.now)) }
-    ensures shorter { Shorter (λ x. x.1.now) result tokens.now }
+fn method<'a>(room: &Room, whole: Cursor, tokens: Cursor<'a>) -> Reading<'a, FuncDecl>
+    ensures gives { Gives (λ x. decl_of (decls.Func x)) result
+        (method_at (ahead whole.entry) (ahead tokens.entry)) }
+    ensures shorter { Shorter result tokens.entry }
 {
     let Some((receiver, after)) = receiver(room, tokens)? else {
         return Ok(None);
     };
-    let Terminal::EndParen = first(after) else {
+    let Terminal::EndParen = after.first() else {
         return Ok(None);
     };
-    function(room, whole, Some(receiver), rest(after))
+    function(room, whole, Some(receiver), after.rest())
 }
 
 /// A function or a method, whose first token is its keyword.
-pub(crate) fn func_decl<'a>(room: &Room, tokens: &'a [Token]) -> Reading<'a, FuncDecl>
-    ensures gives { Gives (λ x. (decl_of (decls.Func x.0), lexemes x.1.now)) result
-        (func_decl_at (lexemes tokens.now)) }
-    ensures shorter { Shorter (λ x. x.1.now) result tokens.now }
+pub(crate) fn func_decl<'a>(room: &Room, tokens: Cursor<'a>) -> Reading<'a, FuncDecl>
+    ensures gives { Gives (λ x. decl_of (decls.Func x)) result
+        (func_decl_at (ahead tokens.entry)) }
+    ensures shorter { Shorter result tokens.entry }
 {
-    let inner = rest(tokens);
-    if let Terminal::Paren = first(inner) {
-        method(room, tokens, rest(inner))
+    let inner = tokens.rest();
+    if let Terminal::Paren = inner.first() {
+        method(room, tokens, inner.rest())
     } else {
         function(room, tokens, None, inner)
     }

@@ -7,6 +7,7 @@ ghost use Rattle.go_tree.specs.FileView.{file_of};
 ghost use Rattle.go_words.specs.Tokens.{TokensOf};
 ghost use Rattle.go_scan.specs.Unsupported.{IsFirst, unsupported_spans};
 ghost use Rattle.go_words.specs.Terminals.{lexemes};
+ghost use Rattle.go_productions.specs.Cursors.{ahead};
 ghost use Rattle.go_read.specs.SpellsFiles.{SpellsFile};
 ghost use Rattle.go_read.specs.Fronts.{first_or_end};
 ghost use Rattle.go_nesting.specs.Over.{IsFirstOver};
@@ -14,9 +15,9 @@ ghost use Rattle.go_parse.specs.Refusals.{Refuses};
 
 use crate::file::front;
 use go_nesting::MAX_LIMIT;
-use go_productions::Room;
+use go_productions::{Cursor, Room};
 use go_scan::Tokens;
-use go_tree::{FileTree, MAX_FILE_BYTES, Token};
+use go_tree::{FileTree, MAX_FILE_BYTES};
 use std::alloc::{AllocError, Global};
 use thiserror::Error;
 
@@ -42,12 +43,13 @@ impl From<AllocError> for ParseError {
 }
 
 /// Where the first token starts, or the end of the text where there is none.
-fn first_or_end(text: &[u8], tokens: &[Token]) -> u32
+#[tactic(auto, using(crate::proofs::Outcomes::start_is, crate::proofs::Outcomes::end_is))]
+fn first_or_end(text: &[u8], tokens: Cursor) -> u32
     requires { length text.now ≤ MAX_FILE_BYTES }
-    ensures { result ≡ first_or_end (length text.now) (lexemes tokens.now) }
+    ensures { result ≡ first_or_end (length text.now) (ahead tokens.entry) }
 {
-    match tokens.first() {
-        Some(token) => token.span.start,
+    match tokens.start() {
+        Some(start) => start,
         None => text.len() as u32,
     }
 }
@@ -67,12 +69,12 @@ pub fn parse(alloc: Global, text: &[u8], tokens: &Tokens) -> Result<FileTree, Pa
         MatchResult result (λ t. file_of t ≡ f) (λ e. e ≡ ParseError.NoMemory) }
     ensures refused { IfErr result (λ e. Refuses (length text.now) (lexemes tokens.now.items) e) }
 {
-    let tokens = tokens.items();
-    let Some((file, after)) = front(&Room::new(alloc), tokens)? else {
-        return Err(ParseError::NotRead(first_or_end(text, tokens)));
+    let whole = Cursor::new(tokens);
+    let Some((file, after)) = front(&Room::new(alloc), whole)? else {
+        return Err(ParseError::NotRead(first_or_end(text, whole)));
     };
-    match after.first() {
-        Some(token) => Err(ParseError::NotRead(token.span.start)),
+    match after.start() {
+        Some(start) => Err(ParseError::NotRead(start)),
         None => Ok(file),
     }
 }

@@ -4,7 +4,7 @@ ghost use Rattle.std.specs.Prelude.{◌≡◌, map};
 ghost use Rattle.go_tree.specs.declared.files.Decl.TheVariants as decls;
 ghost use Rattle.go_tree.specs.View.{name_at_of};
 ghost use Rattle.go_tree.specs.FileView.{decl_of, type_spec_of};
-ghost use Rattle.go_words.specs.Terminals.{lexemes};
+ghost use Rattle.go_productions.specs.Cursors.{ahead};
 ghost use Rattle.go_read.specs.SpellsSpans.{span_to};
 ghost use Rattle.go_read.specs.Goals.{read_type_spec, read_type_specs};
 ghost use Rattle.go_read.specs.Reading.{at};
@@ -12,26 +12,26 @@ ghost use Rattle.go_productions.specs.Answers.{Gives, Shorter};
 ghost use Rattle.go_parse.specs.Parts.{closed, grouped_types_at, is_equals, single_type_at, type_after_at, type_decl_at};
 
 use crate::imports::after_spec;
-use go_productions::{Reading, Room, first, name, rest, span_between, type_expr};
-use go_tree::{Decl, NameAt, Token, TypeDecl, TypeSpec, TypeSpecList};
+use go_productions::{Cursor, Reading, Room, name, type_expr};
+use go_tree::{Decl, NameAt, TypeDecl, TypeSpec, TypeSpecList};
 use go_words::Terminal;
 
 /// The type of a spec that begins at `whole`, after its name.
 fn spec_type<'a>(
     room: &Room,
-    whole: &[Token],
+    whole: Cursor,
     name: NameAt,
     alias: bool,
-    tokens: &'a [Token],
+    tokens: Cursor<'a>,
 ) -> Reading<'a, TypeSpec>
-    ensures gives { Gives (λ x. (type_spec_of x.0, lexemes x.1.now)) result
-        (type_after_at (lexemes whole.now) (name_at_of name) alias (lexemes tokens.now)) }
-    ensures shorter { Shorter (λ x. x.1.now) result tokens.now }
+    ensures gives { Gives type_spec_of result
+        (type_after_at (ahead whole.entry) (name_at_of name) alias (ahead tokens.entry)) }
+    ensures shorter { Shorter result tokens.entry }
 {
     let Some((of, after)) = type_expr(room, tokens)? else {
         return Ok(None);
     };
-    let span = span_between(whole, after);
+    let span = whole.span_to(after);
     let spec = TypeSpec {
         span,
         name,
@@ -49,35 +49,35 @@ fn is_equals(terminal: Terminal) -> bool
 }
 
 /// A name and its type, with `=` between them for an alias.
-fn type_spec<'a>(room: &Room, tokens: &'a [Token]) -> Reading<'a, TypeSpec>
-    ensures gives { Gives (λ x. (type_spec_of x.0, lexemes x.1.now)) result
-        (at span_to read_type_spec (lexemes tokens.now)) }
-    ensures shorter { Shorter (λ x. x.1.now) result tokens.now }
+fn type_spec<'a>(room: &Room, tokens: Cursor<'a>) -> Reading<'a, TypeSpec>
+    ensures gives { Gives type_spec_of result
+        (at span_to read_type_spec (ahead tokens.entry)) }
+    ensures shorter { Shorter result tokens.entry }
 {
-    let Terminal::Ident = first(tokens) else {
+    let Terminal::Ident = tokens.first() else {
         return Ok(None);
     };
     let name = name(room, tokens)?;
-    let after = rest(tokens);
-    let alias = is_equals(first(after));
+    let after = tokens.rest();
+    let alias = is_equals(after.first());
     if alias {
-        spec_type(room, tokens, name, true, rest(after))
+        spec_type(room, tokens, name, true, after.rest())
     } else {
         spec_type(room, tokens, name, false, after)
     }
 }
 
 /// The specs of a group, up to the parenthesis that ends it.
-fn type_group<'a>(room: &Room, tokens: &'a [Token]) -> Reading<'a, TypeSpecList>
-    ensures gives { Gives (λ x. (map type_spec_of x.0, lexemes x.1.now)) result
-        (closed (at span_to read_type_specs (lexemes tokens.now))) }
-    ensures shorter { Shorter (λ x. x.1.now) result tokens.now }
+fn type_group<'a>(room: &Room, tokens: Cursor<'a>) -> Reading<'a, TypeSpecList>
+    ensures gives { Gives (map type_spec_of) result
+        (closed (at span_to read_type_specs (ahead tokens.entry))) }
+    ensures shorter { Shorter result tokens.entry }
 {
     let mut specs = Vec::new(room.alloc);
     let mut left = tokens;
     'specs: loop {
-        if let Terminal::EndParen = first(left) {
-            return Ok(Some((TypeSpecList::of(specs), rest(left))));
+        if let Terminal::EndParen = left.first() {
+            return Ok(Some((TypeSpecList::of(specs), left.rest())));
         }
         let Some((spec, after)) = type_spec(room, left)? else {
             return Ok(None);
@@ -93,17 +93,17 @@ fn type_group<'a>(room: &Room, tokens: &'a [Token]) -> Reading<'a, TypeSpecList>
 /// The group of types whose declaration begins at `whole`.
 pub(crate) fn grouped_types<'a>(
     room: &Room,
-    whole: &[Token],
-    tokens: &'a [Token],
+    whole: Cursor,
+    tokens: Cursor<'a>,
 ) -> Reading<'a, TypeDecl>
-    ensures gives { Gives (λ x. (decl_of (decls.Types x.0), lexemes x.1.now)) result
-        (grouped_types_at (lexemes whole.now) (lexemes tokens.now)) }
-    ensures shorter { Shorter (λ x. x.1.now) result tokens.now }
+    ensures gives { Gives (λ x. decl_of (decls.Types x)) result
+        (grouped_types_at (ahead whole.entry) (ahead tokens.entry)) }
+    ensures shorter { Shorter result tokens.entry }
 {
     let Some((specs, after)) = type_group(room, tokens)? else {
         return Ok(None);
     };
-    let span = span_between(whole, after);
+    let span = whole.span_to(after);
     let decl = TypeDecl {
         span,
         grouped: true,
@@ -115,18 +115,18 @@ pub(crate) fn grouped_types<'a>(
 /// The one type whose declaration begins at `whole`.
 pub(crate) fn single_type<'a>(
     room: &Room,
-    whole: &[Token],
-    tokens: &'a [Token],
+    whole: Cursor,
+    tokens: Cursor<'a>,
 ) -> Reading<'a, TypeDecl>
-    ensures gives { Gives (λ x. (decl_of (decls.Types x.0), lexemes x.1.now)) result
-        (single_type_at (lexemes whole.now) (lexemes tokens.now)) }
-    ensures shorter { Shorter (λ x. x.1.now) result tokens.now }
+    ensures gives { Gives (λ x. decl_of (decls.Types x)) result
+        (single_type_at (ahead whole.entry) (ahead tokens.entry)) }
+    ensures shorter { Shorter result tokens.entry }
 {
     let Some((spec, after)) = type_spec(room, tokens)? else {
         return Ok(None);
     };
     let specs = TypeSpecList::of(vec![in room.alloc; spec]?);
-    let span = span_between(whole, after);
+    let span = whole.span_to(after);
     let decl = TypeDecl {
         span,
         grouped: false,
@@ -136,14 +136,14 @@ pub(crate) fn single_type<'a>(
 }
 
 /// The declaration of one type or of a group, whose first token is its keyword.
-pub(crate) fn type_decl<'a>(room: &Room, tokens: &'a [Token]) -> Reading<'a, TypeDecl>
-    ensures gives { Gives (λ x. (decl_of (decls.Types x.0), lexemes x.1.now)) result
-        (type_decl_at (lexemes tokens.now)) }
-    ensures shorter { Shorter (λ x. x.1.now) result tokens.now }
+pub(crate) fn type_decl<'a>(room: &Room, tokens: Cursor<'a>) -> Reading<'a, TypeDecl>
+    ensures gives { Gives (λ x. decl_of (decls.Types x)) result
+        (type_decl_at (ahead tokens.entry)) }
+    ensures shorter { Shorter result tokens.entry }
 {
-    let inner = rest(tokens);
-    if let Terminal::Paren = first(inner) {
-        grouped_types(room, tokens, rest(inner))
+    let inner = tokens.rest();
+    if let Terminal::Paren = inner.first() {
+        grouped_types(room, tokens, inner.rest())
     } else {
         single_type(room, tokens, inner)
     }

@@ -1,3 +1,4 @@
 pub mod Terminals
+pub mod Cursors
 pub mod Answers
 pub mod Parts

@@ -1,5 +1,5 @@
 -- The tokens that a reader sees first (Go specification, Tokens).
-use Rattle.std.specs.Prelude.{ℕ, Bool, true, false, List, [], ◌∷◌}
+use Rattle.std.specs.Prelude.{ℕ, Bool, true, false, List, [], ◌∷◌, Option, Some, None}
 use Rattle.go_words.specs.Terminals as pure
 use Rattle.go_tree.specs.declared.spans.Span.{Span}
 use Rattle.go_tree.specs.Tree.{NameAt}
@@ -13,6 +13,11 @@ use Rattle.go_words.specs.Codes.{code_of}
 abbrev pub first_of : Lexemes → Terminal
 first_of [] = code.Foreign
 first_of (pure.lex s t ∷ ts) = code_of t
+
+-- the byte at which the first token begins, where one is left
+abbrev pub start_at : Lexemes → Option ℕ
+start_at [] = None
+start_at (pure.lex s t ∷ ts) = Some s.start
 
 -- the tokens after the first
 abbrev pub rest_of : Lexemes → Lexemes

@@ -3,7 +3,7 @@
 ghost use Rattle.std.specs.Prelude.{◌≡◌, map};
 ghost use Rattle.std.specs.Option.{option_map};
 ghost use Rattle.go_tree.specs.View.{field_of, name_at_of, param_of, sig_of, type_of};
-ghost use Rattle.go_words.specs.Terminals.{lexemes};
+ghost use Rattle.go_productions.specs.Cursors.{ahead};
 ghost use Rattle.go_read.specs.SpellsSpans.{span_to};
 ghost use Rattle.go_read.specs.SpellsTypes.{type_mark, unnamed};
 ghost use Rattle.go_read.specs.Goals.{read_params, read_sig};
@@ -12,20 +12,20 @@ ghost use Rattle.go_productions.specs.Answers.{Gives, Shorter, Within};
 ghost use Rattle.go_productions.specs.Parts.{begins_type, group_onto, has_names, param_from, params_at, rest_from, rest_group, rest_here, rest_onto, results_at};
 
 use crate::Reading;
-use crate::name_lists::skip_names;
+use crate::cursor::Cursor;
+use crate::name_lists::{name, skip_names};
 use crate::room::Room;
-use crate::tokens::{first, name, rest, span_between};
 use crate::types::{shared_fields, type_expr};
-use go_tree::{BinOp, FieldSpec, NameAt, NoMemory, Param, ParamList, Sig, Span, Token, TypeExpr};
+use go_tree::{BinOp, FieldSpec, NameAt, NoMemory, Param, ParamList, Sig, Span, TypeExpr};
 use go_words::Terminal;
 
 /// A signature, whose results stand before a block. The last parameter of a variadic one may have three dots before
 /// its type.
 #[tactic(auto, using(crate::proofs::SigArms::sig_open, crate::proofs::SigArms::sig_none, crate::proofs::SigArms::sig_some))]
-pub fn signature<'a>(room: &Room, tokens: &'a [Token], variadic: bool) -> Reading<'a, Sig>
-    ensures gives { Gives (λ x. (sig_of x.0, lexemes x.1.now)) result
-        (at span_to (read_sig variadic) (lexemes tokens.now)) }
-    ensures shorter { Shorter (λ x. x.1.now) result tokens.now }
+pub fn signature<'a>(room: &Room, tokens: Cursor<'a>, variadic: bool) -> Reading<'a, Sig>
+    ensures gives { Gives sig_of result
+        (at span_to (read_sig variadic) (ahead tokens.entry)) }
+    ensures shorter { Shorter result tokens.entry }
 {
     let Some((params, left)) = params(room, tokens, variadic)? else {
         return Ok(None);
@@ -38,11 +38,11 @@ pub fn signature<'a>(room: &Room, tokens: &'a [Token], variadic: bool) -> Readin
 
 /// The results of a function: parameters, one type, or none before a block.
 #[tactic(auto, using(crate::proofs::SigArms::results_brace, crate::proofs::SigArms::results_paren, crate::proofs::SigArms::results_none, crate::proofs::SigArms::results_some))]
-fn results<'a>(room: &Room, tokens: &'a [Token]) -> Reading<'a, ParamList>
-    ensures gives { Gives (λ x. (map param_of x.0, lexemes x.1.now)) result (results_at (lexemes tokens.now)) }
-    ensures within { Within (λ x. x.1.now) result tokens.now }
+fn results<'a>(room: &Room, tokens: Cursor<'a>) -> Reading<'a, ParamList>
+    ensures gives { Gives (map param_of) result (results_at (ahead tokens.entry)) }
+    ensures within { Within result tokens.entry }
 {
-    match first(tokens) {
+    match tokens.first() {
         Terminal::Paren => params(room, tokens, false),
         Terminal::Brace => Ok(Some((ParamList::of(Vec::new(room.alloc)), tokens))),
         _ => {
@@ -58,28 +58,28 @@ fn results<'a>(room: &Room, tokens: &'a [Token]) -> Reading<'a, ParamList>
 
 /// Parameters in parentheses.
 #[tactic(auto, using(crate::proofs::SigArms::params_open, crate::proofs::SigArms::params_empty, crate::proofs::SigArms::params_listed))]
-fn params<'a>(room: &Room, tokens: &'a [Token], variadic: bool) -> Reading<'a, ParamList>
-    ensures gives { Gives (λ x. (map param_of x.0, lexemes x.1.now)) result
-        (at span_to (read_params variadic) (lexemes tokens.now)) }
-    ensures shorter { Shorter (λ x. x.1.now) result tokens.now }
+fn params<'a>(room: &Room, tokens: Cursor<'a>, variadic: bool) -> Reading<'a, ParamList>
+    ensures gives { Gives (map param_of) result
+        (at span_to (read_params variadic) (ahead tokens.entry)) }
+    ensures shorter { Shorter result tokens.entry }
 {
-    let Terminal::Paren = first(tokens) else {
+    let Terminal::Paren = tokens.first() else {
         return Ok(None);
     };
-    let inner = rest(tokens);
-    if let Terminal::EndParen = first(inner) {
-        return Ok(Some((ParamList::of(Vec::new(room.alloc)), rest(inner))));
+    let inner = tokens.rest();
+    if let Terminal::EndParen = inner.first() {
+        return Ok(Some((ParamList::of(Vec::new(room.alloc)), inner.rest())));
     }
     param_list(room, inner, has_names(inner), variadic)
 }
 
 /// Whether the parameters have names: a type begins after the names that stand first.
-fn has_names(tokens: &[Token]) -> bool
-    ensures { has_names (lexemes tokens.now) ≡ result }
+fn has_names(tokens: Cursor) -> bool
+    ensures { has_names (ahead tokens.entry) ≡ result }
 {
     match skip_names(tokens) {
         None => false,
-        Some(after) => begins_type(first(after)),
+        Some(after) => begins_type(after.first()),
     }
 }
 
@@ -102,13 +102,13 @@ fn begins_type(terminal: Terminal) -> bool
 #[tactic(auto, using(crate::proofs::ParamArms::group_lost, crate::proofs::ParamArms::group_last, crate::proofs::ParamArms::group_comma, crate::proofs::ParamArms::group_more, crate::proofs::ParamArms::group_past, crate::proofs::ParamArms::group_stop))]
 fn param_list<'a>(
     room: &Room,
-    tokens: &'a [Token],
+    tokens: Cursor<'a>,
     named: bool,
     variadic: bool,
 ) -> Reading<'a, ParamList>
-    ensures gives { Gives (λ x. (map param_of x.0, lexemes x.1.now)) result
-        (params_at variadic named (lexemes tokens.now)) }
-    ensures shorter { Shorter (λ x. x.1.now) result tokens.now }
+    ensures gives { Gives (map param_of) result
+        (params_at variadic named (ahead tokens.entry)) }
+    ensures shorter { Shorter result tokens.entry }
 {
     let mut params = Vec::new(room.alloc);
     let mut left = tokens;
@@ -118,14 +118,14 @@ fn param_list<'a>(
             return Ok(None);
         };
         params = more;
-        left = rest(after);
-        match first(after) {
+        left = after.rest();
+        match after.first() {
             Terminal::Comma => {}
             Terminal::EndParen => return Ok(Some((ParamList::of(params), left))),
             _ => return Ok(None),
         }
-        if let Terminal::EndParen = first(left) {
-            return Ok(Some((ParamList::of(params), rest(left))));
+        if let Terminal::EndParen = left.first() {
+            return Ok(Some((ParamList::of(params), left.rest())));
         }
         if ends {
             return Ok(None);
@@ -134,22 +134,22 @@ fn param_list<'a>(
 }
 
 /// Whether a variadic parameter stands first, where one may: its name, if parameters have names, and three dots.
-fn begins_rest(tokens: &[Token], named: bool, variadic: bool) -> bool
-    ensures { rest_here variadic named (lexemes tokens.now) ≡ result }
+fn begins_rest(tokens: Cursor, named: bool, variadic: bool) -> bool
+    ensures { rest_here variadic named (ahead tokens.entry) ≡ result }
 {
     if !variadic {
         return false;
     }
     if named {
-        let Terminal::Ident = first(tokens) else {
+        let Terminal::Ident = tokens.first() else {
             return false;
         };
-        let Terminal::Ellipsis = first(rest(tokens)) else {
+        let Terminal::Ellipsis = tokens.rest().first() else {
             return false;
         };
         return true;
     }
-    let Terminal::Ellipsis = first(tokens) else {
+    let Terminal::Ellipsis = tokens.first() else {
         return false;
     };
     true
@@ -160,13 +160,13 @@ fn begins_rest(tokens: &[Token], named: bool, variadic: bool) -> bool
 fn param_group<'a>(
     room: &Room,
     params: Vec<Param>,
-    tokens: &'a [Token],
+    tokens: Cursor<'a>,
     named: bool,
     variadic: bool,
 ) -> Reading<'a, Vec<Param>>
-    ensures gives { Gives (λ x. (map param_of x.0.items, lexemes x.1.now)) result
-        (group_onto variadic named (map param_of params.items) (lexemes tokens.now)) }
-    ensures shorter { Shorter (λ x. x.1.now) result tokens.now }
+    ensures gives { Gives (λ x. map param_of x.items) result
+        (group_onto variadic named (map param_of params.items) (ahead tokens.entry)) }
+    ensures shorter { Shorter result tokens.entry }
 {
     if variadic {
         return rest_group(room, params, tokens);
@@ -190,23 +190,23 @@ fn param_group<'a>(
 
 /// A variadic parameter after these.
 #[tactic(auto, using(crate::proofs::ParamArms::rest_dots, crate::proofs::ParamArms::rest_named, crate::proofs::ParamArms::rest_absent, crate::proofs::ParamArms::rest_dotless))]
-fn rest_group<'a>(room: &Room, params: Vec<Param>, tokens: &'a [Token]) -> Reading<'a, Vec<Param>>
-    ensures gives { Gives (λ x. (map param_of x.0.items, lexemes x.1.now)) result
-        (rest_group (map param_of params.items) (lexemes tokens.now)) }
-    ensures shorter { Shorter (λ x. x.1.now) result tokens.now }
+fn rest_group<'a>(room: &Room, params: Vec<Param>, tokens: Cursor<'a>) -> Reading<'a, Vec<Param>>
+    ensures gives { Gives (λ x. map param_of x.items) result
+        (rest_group (map param_of params.items) (ahead tokens.entry)) }
+    ensures shorter { Shorter result tokens.entry }
 {
-    if let Terminal::Ellipsis = first(tokens) {
-        return rest_param(room, params, tokens, None, rest(tokens));
+    if let Terminal::Ellipsis = tokens.first() {
+        return rest_param(room, params, tokens, None, tokens.rest());
     }
-    let Terminal::Ident = first(tokens) else {
+    let Terminal::Ident = tokens.first() else {
         return Ok(None);
     };
-    let dots = rest(tokens);
-    let Terminal::Ellipsis = first(dots) else {
+    let dots = tokens.rest();
+    let Terminal::Ellipsis = dots.first() else {
         return Ok(None);
     };
     let name = name(room, tokens)?;
-    rest_param(room, params, tokens, Some(name), rest(dots))
+    rest_param(room, params, tokens, Some(name), dots.rest())
 }
 
 /// The variadic parameter that begins at `whole`, from its type on, after these.
@@ -214,19 +214,19 @@ fn rest_group<'a>(room: &Room, params: Vec<Param>, tokens: &'a [Token]) -> Readi
 fn rest_param<'a>(
     room: &Room,
     params: Vec<Param>,
-    whole: &[Token],
+    whole: Cursor,
     name: Option<NameAt>,
-    tokens: &'a [Token],
+    tokens: Cursor<'a>,
 ) -> Reading<'a, Vec<Param>>
-    ensures gives { Gives (λ x. (map param_of x.0.items, lexemes x.1.now)) result
-        (rest_onto (map param_of params.items) (lexemes whole.now) (option_map name_at_of name) (lexemes tokens.now)) }
-    ensures shorter { Shorter (λ x. x.1.now) result tokens.now }
+    ensures gives { Gives (λ x. map param_of x.items) result
+        (rest_onto (map param_of params.items) (ahead whole.entry) (option_map name_at_of name) (ahead tokens.entry)) }
+    ensures shorter { Shorter result tokens.entry }
 {
     let mut params = params;
     let Some((of, left)) = type_expr(room, tokens)? else {
         return Ok(None);
     };
-    params.push(rest_from(span_between(whole, left), name, of))?;
+    params.push(rest_from(whole.span_to(left), name, of))?;
     Ok(Some((params, left)))
 }
 

@@ -2,7 +2,7 @@
 
 ghost use Rattle.std.specs.Prelude.{◌≡◌, map};
 ghost use Rattle.go_tree.specs.View.{field_of, fields_of, type_of};
-ghost use Rattle.go_words.specs.Terminals.{lexemes};
+ghost use Rattle.go_productions.specs.Cursors.{ahead};
 ghost use Rattle.go_read.specs.SpellsSpans.{span_to};
 ghost use Rattle.go_read.specs.Goals.{read_fields, read_type};
 ghost use Rattle.go_read.specs.Reading.{at};
@@ -11,21 +11,21 @@ ghost use Rattle.go_productions.specs.Parts.{shared_onto};
 ghost use Rattle.go_productions.specs.Terminals.{first_of};
 
 use crate::Reading;
-use crate::name_lists::{qualifies, skip_names};
+use crate::cursor::Cursor;
+use crate::name_lists::{name, qualifies, skip_names};
 use crate::room::Room;
-use crate::tokens::{first, name, rest, span_between};
-use go_tree::{BinOp, FieldSpec, FieldSpecList, Token, TypeExpr};
+use go_tree::{BinOp, FieldSpec, FieldSpecList, TypeExpr};
 use go_words::Terminal;
 
 /// A type.
 #[cycle(types)]
 #[tactic(auto, using(crate::proofs::TypeArms::type_none))]
-pub fn type_expr<'a>(room: &Room, tokens: &'a [Token]) -> Reading<'a, TypeExpr>
-    ensures gives { Gives (λ x. (type_of x.0, lexemes x.1.now)) result (at span_to read_type (lexemes tokens.now)) }
-    ensures shorter { Shorter (λ x. x.1.now) result tokens.now }
+pub fn type_expr<'a>(room: &Room, tokens: Cursor<'a>) -> Reading<'a, TypeExpr>
+    ensures gives { Gives type_of result (at span_to read_type (ahead tokens.entry)) }
+    ensures shorter { Shorter result tokens.entry }
 {
     room.count(0)?;
-    match first(tokens) {
+    match tokens.first() {
         Terminal::Ident => type_name(room, tokens),
         Terminal::Binary(op) => pointer_type(room, tokens, op),
         Terminal::Bracket => slice_type(room, tokens),
@@ -38,14 +38,14 @@ pub fn type_expr<'a>(room: &Room, tokens: &'a [Token]) -> Reading<'a, TypeExpr>
 
 /// The name of a type, with the package's before it where that stands there.
 #[tactic(auto, using(crate::proofs::TypeArms::named_some, crate::proofs::TypeArms::qualified_some, crate::proofs::TypeArms::qualified_word))]
-fn type_name<'a>(room: &Room, tokens: &'a [Token]) -> Reading<'a, TypeExpr>
-    requires { first_of (lexemes tokens.now) ≡ Terminal.Ident }
-    ensures gives { Gives (λ x. (type_of x.0, lexemes x.1.now)) result (at span_to read_type (lexemes tokens.now)) }
-    ensures shorter { Shorter (λ x. x.1.now) result tokens.now }
+fn type_name<'a>(room: &Room, tokens: Cursor<'a>) -> Reading<'a, TypeExpr>
+    requires { first_of (ahead tokens) ≡ Terminal.Ident }
+    ensures gives { Gives type_of result (at span_to read_type (ahead tokens.entry)) }
+    ensures shorter { Shorter result tokens.entry }
 {
-    let after = rest(tokens);
+    let after = tokens.rest();
     if !qualifies(tokens) {
-        let span = span_between(tokens, after);
+        let span = tokens.span_to(after);
         let name = name(room, tokens)?;
         return Ok(Some((
             TypeExpr::Named {
@@ -57,9 +57,9 @@ fn type_name<'a>(room: &Room, tokens: &'a [Token]) -> Reading<'a, TypeExpr>
         )));
     }
     let package = Some(name(room, tokens)?);
-    let left = rest(rest(after));
-    let span = span_between(tokens, left);
-    let name = name(room, rest(after))?;
+    let left = after.rest().rest();
+    let span = tokens.span_to(left);
+    let name = name(room, after.rest())?;
     Ok(Some((
         TypeExpr::Named {
             span,
@@ -72,125 +72,125 @@ fn type_name<'a>(room: &Room, tokens: &'a [Token]) -> Reading<'a, TypeExpr>
 
 #[cycle(types)]
 #[tactic(auto, using(crate::proofs::TypeArms::pointer_some, crate::proofs::TypeArms::pointer_none, crate::proofs::TypeArms::pointer_other))]
-fn pointer_type<'a>(room: &Room, tokens: &'a [Token], op: BinOp) -> Reading<'a, TypeExpr>
-    requires { first_of (lexemes tokens.now) ≡ Terminal.Binary op }
-    ensures gives { Gives (λ x. (type_of x.0, lexemes x.1.now)) result (at span_to read_type (lexemes tokens.now)) }
-    ensures shorter { Shorter (λ x. x.1.now) result tokens.now }
+fn pointer_type<'a>(room: &Room, tokens: Cursor<'a>, op: BinOp) -> Reading<'a, TypeExpr>
+    requires { first_of (ahead tokens) ≡ Terminal.Binary op }
+    ensures gives { Gives type_of result (at span_to read_type (ahead tokens.entry)) }
+    ensures shorter { Shorter result tokens.entry }
 {
     let BinOp::Mul = op else {
         return Ok(None);
     };
-    let Some((to, left)) = type_expr(room, rest(tokens))? else {
+    let Some((to, left)) = type_expr(room, tokens.rest())? else {
         return Ok(None);
     };
-    let span = span_between(tokens, left);
+    let span = tokens.span_to(left);
     let to = Box::new(room.alloc, to)?;
     Ok(Some((TypeExpr::Pointer { span, to }, left)))
 }
 
 #[cycle(types)]
 #[tactic(auto, using(crate::proofs::TypeArms::slice_some, crate::proofs::TypeArms::slice_none, crate::proofs::TypeArms::slice_open))]
-fn slice_type<'a>(room: &Room, tokens: &'a [Token]) -> Reading<'a, TypeExpr>
-    requires { first_of (lexemes tokens.now) ≡ Terminal.Bracket }
-    ensures gives { Gives (λ x. (type_of x.0, lexemes x.1.now)) result (at span_to read_type (lexemes tokens.now)) }
-    ensures shorter { Shorter (λ x. x.1.now) result tokens.now }
+fn slice_type<'a>(room: &Room, tokens: Cursor<'a>) -> Reading<'a, TypeExpr>
+    requires { first_of (ahead tokens) ≡ Terminal.Bracket }
+    ensures gives { Gives type_of result (at span_to read_type (ahead tokens.entry)) }
+    ensures shorter { Shorter result tokens.entry }
 {
-    let after = rest(tokens);
-    let Terminal::EndBracket = first(after) else {
+    let after = tokens.rest();
+    let Terminal::EndBracket = after.first() else {
         return Ok(None);
     };
-    let Some((of, left)) = type_expr(room, rest(after))? else {
+    let Some((of, left)) = type_expr(room, after.rest())? else {
         return Ok(None);
     };
-    let span = span_between(tokens, left);
+    let span = tokens.span_to(left);
     let of = Box::new(room.alloc, of)?;
     Ok(Some((TypeExpr::Slice { span, of }, left)))
 }
 
 #[cycle(types)]
 #[tactic(auto, using(crate::proofs::TypeArms::map_some, crate::proofs::TypeArms::map_none, crate::proofs::TypeArms::map_open, crate::proofs::TypeArms::map_key, crate::proofs::TypeArms::map_end))]
-fn map_type<'a>(room: &Room, tokens: &'a [Token]) -> Reading<'a, TypeExpr>
-    requires { first_of (lexemes tokens.now) ≡ Terminal.Map }
-    ensures gives { Gives (λ x. (type_of x.0, lexemes x.1.now)) result (at span_to read_type (lexemes tokens.now)) }
-    ensures shorter { Shorter (λ x. x.1.now) result tokens.now }
+fn map_type<'a>(room: &Room, tokens: Cursor<'a>) -> Reading<'a, TypeExpr>
+    requires { first_of (ahead tokens) ≡ Terminal.Map }
+    ensures gives { Gives type_of result (at span_to read_type (ahead tokens.entry)) }
+    ensures shorter { Shorter result tokens.entry }
 {
-    let after = rest(tokens);
-    let Terminal::Bracket = first(after) else {
+    let after = tokens.rest();
+    let Terminal::Bracket = after.first() else {
         return Ok(None);
     };
-    let Some((key, after)) = type_expr(room, rest(after))? else {
+    let Some((key, after)) = type_expr(room, after.rest())? else {
         return Ok(None);
     };
     let key = Box::new(room.alloc, key)?;
-    let Terminal::EndBracket = first(after) else {
+    let Terminal::EndBracket = after.first() else {
         return Ok(None);
     };
-    let Some((of, left)) = type_expr(room, rest(after))? else {
+    let Some((of, left)) = type_expr(room, after.rest())? else {
         return Ok(None);
     };
-    let span = span_between(tokens, left);
+    let span = tokens.span_to(left);
     let of = Box::new(room.alloc, of)?;
     Ok(Some((TypeExpr::Map { span, key, of }, left)))
 }
 
 #[cycle(types)]
 #[tactic(auto, using(crate::proofs::TypeArms::struct_some, crate::proofs::TypeArms::struct_none, crate::proofs::TypeArms::struct_open, crate::proofs::TypeArms::struct_end))]
-fn struct_type<'a>(room: &Room, tokens: &'a [Token]) -> Reading<'a, TypeExpr>
-    requires { first_of (lexemes tokens.now) ≡ Terminal.Struct }
-    ensures gives { Gives (λ x. (type_of x.0, lexemes x.1.now)) result (at span_to read_type (lexemes tokens.now)) }
-    ensures shorter { Shorter (λ x. x.1.now) result tokens.now }
+fn struct_type<'a>(room: &Room, tokens: Cursor<'a>) -> Reading<'a, TypeExpr>
+    requires { first_of (ahead tokens) ≡ Terminal.Struct }
+    ensures gives { Gives type_of result (at span_to read_type (ahead tokens.entry)) }
+    ensures shorter { Shorter result tokens.entry }
 {
-    let after = rest(tokens);
-    let Terminal::Brace = first(after) else {
+    let after = tokens.rest();
+    let Terminal::Brace = after.first() else {
         return Ok(None);
     };
-    let Some((fields, left)) = field_list(room, rest(after))? else {
+    let Some((fields, left)) = field_list(room, after.rest())? else {
         return Ok(None);
     };
-    let Terminal::EndBrace = first(left) else {
+    let Terminal::EndBrace = left.first() else {
         return Ok(None);
     };
-    let left = rest(left);
-    let span = span_between(tokens, left);
+    let left = left.rest();
+    let span = tokens.span_to(left);
     Ok(Some((TypeExpr::Struct { span, fields }, left)))
 }
 
 #[cycle(types)]
 #[tactic(auto, using(crate::proofs::TypeArms::parens_some, crate::proofs::TypeArms::parens_none, crate::proofs::TypeArms::parens_end))]
-fn type_in_parens<'a>(room: &Room, tokens: &'a [Token]) -> Reading<'a, TypeExpr>
-    requires { first_of (lexemes tokens.now) ≡ Terminal.Paren }
-    ensures gives { Gives (λ x. (type_of x.0, lexemes x.1.now)) result (at span_to read_type (lexemes tokens.now)) }
-    ensures shorter { Shorter (λ x. x.1.now) result tokens.now }
+fn type_in_parens<'a>(room: &Room, tokens: Cursor<'a>) -> Reading<'a, TypeExpr>
+    requires { first_of (ahead tokens) ≡ Terminal.Paren }
+    ensures gives { Gives type_of result (at span_to read_type (ahead tokens.entry)) }
+    ensures shorter { Shorter result tokens.entry }
 {
-    let Some((of, left)) = type_expr(room, rest(tokens))? else {
+    let Some((of, left)) = type_expr(room, tokens.rest())? else {
         return Ok(None);
     };
-    let Terminal::EndParen = first(left) else {
+    let Terminal::EndParen = left.first() else {
         drop(of);
         return Ok(None);
     };
-    Ok(Some((of, rest(left))))
+    Ok(Some((of, left.rest())))
 }
 
 /// The fields of a struct, up to the closing brace.
 #[cycle(types)]
 #[tactic(auto, using(crate::proofs::FieldArms::fields_end, crate::proofs::FieldArms::fields_lost, crate::proofs::FieldArms::fields_more, crate::proofs::FieldArms::fields_last, crate::proofs::FieldArms::fields_stop))]
-fn field_list<'a>(room: &Room, tokens: &'a [Token]) -> Reading<'a, FieldSpecList>
-    ensures gives { Gives (λ x. (fields_of x.0, lexemes x.1.now)) result (at span_to read_fields (lexemes tokens.now)) }
-    ensures within { Within (λ x. x.1.now) result tokens.now }
+fn field_list<'a>(room: &Room, tokens: Cursor<'a>) -> Reading<'a, FieldSpecList>
+    ensures gives { Gives fields_of result (at span_to read_fields (ahead tokens.entry)) }
+    ensures within { Within result tokens.entry }
 {
     let mut fields = Vec::new(room.alloc);
     let mut left = tokens;
     loop {
-        if let Terminal::EndBrace = first(left) {
+        if let Terminal::EndBrace = left.first() {
             return Ok(Some((FieldSpecList::of(fields), left)));
         }
         let Some((more, after)) = shared_fields(room, fields, left)? else {
             return Ok(None);
         };
         fields = more;
-        match first(after) {
-            Terminal::Semicolon => left = rest(after),
+        match after.first() {
+            Terminal::Semicolon => left = after.rest(),
             Terminal::EndBrace => left = after,
             _ => return Ok(None),
         }
@@ -204,11 +204,11 @@ fn field_list<'a>(room: &Room, tokens: &'a [Token]) -> Reading<'a, FieldSpecList
 pub(crate) fn shared_fields<'a>(
     room: &Room,
     fields: Vec<FieldSpec>,
-    tokens: &'a [Token],
+    tokens: Cursor<'a>,
 ) -> Reading<'a, Vec<FieldSpec>>
-    ensures gives { Gives (λ x. (map field_of x.0.items, lexemes x.1.now)) result
-        (shared_onto (map field_of fields.items) (lexemes tokens.now)) }
-    ensures shorter { Shorter (λ x. x.1.now) result tokens.now }
+    ensures gives { Gives (λ x. map field_of x.items) result
+        (shared_onto (map field_of fields.items) (ahead tokens.entry)) }
+    ensures shorter { Shorter result tokens.entry }
 {
     let Some(of_all) = skip_names(tokens) else {
         return Ok(None);
@@ -221,21 +221,21 @@ pub(crate) fn shared_fields<'a>(
         let Some((of, left)) = shared_type(room, of_all, at.len() != tokens.len())? else {
             return Ok(None);
         };
-        let span = span_between(at, left);
+        let span = at.span_to(left);
         fields.push(FieldSpec { span, name, of })?;
-        at = rest(at);
-        let Terminal::Comma = first(at) else {
+        at = at.rest();
+        let Terminal::Comma = at.first() else {
             return Ok(Some((fields, left)));
         };
-        at = rest(at);
+        at = at.rest();
     }
 }
 
 /// The type that names share; it is a copy where it was read already.
 #[cycle(types)]
-fn shared_type<'a>(room: &Room, tokens: &'a [Token], again: bool) -> Reading<'a, TypeExpr>
-    ensures gives { Gives (λ x. (type_of x.0, lexemes x.1.now)) result (at span_to read_type (lexemes tokens.now)) }
-    ensures shorter { Shorter (λ x. x.1.now) result tokens.now }
+fn shared_type<'a>(room: &Room, tokens: Cursor<'a>, again: bool) -> Reading<'a, TypeExpr>
+    ensures gives { Gives type_of result (at span_to read_type (ahead tokens.entry)) }
+    ensures shorter { Shorter result tokens.entry }
 {
     let before = room.is_copying();
     room.set_copying(before || again);

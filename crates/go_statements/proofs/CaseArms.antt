@@ -1,13 +1,12 @@
 -- What the reader gives for the clauses of a `switch`.
-use Rattle.std.proofs.Common.{◌≡◌, ◌≢◌, true, false, List, [], ◌∷◌, ◌++◌, map, Option, Some, None, refl, sym, ap, ◌∙◌, ◌<◌, ◌≤◌, length, arith}
+use Rattle.std.proofs.Common.{◌≡◌, ◌≢◌, true, false, List, [], ◌∷◌, ◌++◌, map, Option, Some, None, refl, sym, ap, ◌∙◌, ◌<◌, length, arith}
 use Rattle.std.specs.Prelude.{option_and_then}
 use Rattle.go_tree.specs.declared.spans.Span.{Span}
-use Rattle.go_tree.specs.declared.tokens.Token.{Token}
 use Rattle.go_tree.specs.declared.stmts.Case as source
 use Rattle.go_tree.specs.View.{case_of}
 use Rattle.go_tree.specs.Lists.{cases_from}
 use Rattle.go_tree.specs.Tree.{Exprs, no_exprs, Stmts, Cases, no_cases, case}
-use Rattle.go_words.specs.Terminals.{lex, colon, key_case, key_default, lexemes}
+use Rattle.go_words.specs.Terminals.{lex, colon, key_case, key_default}
 use Rattle.go_read.specs.SpellsSpans.{span_to}
 use Rattle.go_read.specs.SpellsTypes.{Lexemes}
 use Rattle.go_read.specs.Goals.{read_exprs, read_stmts, read_cases}
@@ -20,7 +19,6 @@ use Rattle.go_words.specs.declared.terminals.Terminal.TheVariants as code
 use Rattle.go_productions.specs.Terminals.{first_of, rest_of}
 use Rattle.go_productions.specs.Parts.{onto, in_front}
 use Rattle.go_statements.specs.StmtParts.{case_here, case_at, case_colon, case_body_at, case_and}
-use Rattle.go_productions.proofs.Heads.{length_lexemes}
 use Rattle.go_productions.proofs.Fronts.{front_none, front_some, front_push}
 
 -- ---- one clause
@@ -112,10 +110,6 @@ cases_more xs ys x ts r ws i p h a = front_push case_and case_of xs ys x (at spa
 
 -- ---- the tokens that are left
 
-pub case_begun : (ts : List Token) → case_here (lexemes ts) ≡ true → 0 < length ts
+pub case_begun : (ts : Lexemes) → case_here ts ≡ true → 0 < length ts
 case_begun [] e = absurd cc
 case_begun (t ∷ ts) e = omega arith
-
-pub rest_within : (ts us : List Token) → lexemes us ≡ rest_of (lexemes ts) → length us ≤ length ts
-rest_within [] us e = let none : length us ≡ 0 = sym (length_lexemes us) ∙ ap (λ (xs : Lexemes). length xs) e in omega arith
-rest_within (t ∷ ts) us e = let same : length us ≡ length ts = sym (length_lexemes us) ∙ ap (λ (xs : Lexemes). length xs) e ∙ length_lexemes ts in omega arith

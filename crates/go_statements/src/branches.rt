@@ -3,7 +3,7 @@
 ghost use Rattle.std.specs.Prelude.{◌≡◌, true, map, ◌<◌, ◌≤◌, length};
 ghost use Rattle.go_tree.specs.Lists.{exprs_from};
 ghost use Rattle.go_tree.specs.View.{arm_of, boxed_expr_option_of, boxed_stmt_option_of, case_of, cases_of, expr_of, stmt_of};
-ghost use Rattle.go_words.specs.Terminals.{lexemes};
+ghost use Rattle.go_productions.specs.Cursors.{ahead};
 ghost use Rattle.go_read.specs.SpellsSpans.{span_to};
 ghost use Rattle.go_read.specs.Goals.{read_cases, read_stmt};
 ghost use Rattle.go_read.specs.Reading.{at};
@@ -15,21 +15,21 @@ ghost use Rattle.go_productions.specs.Terminals.{first_of};
 use crate::parts::{evaluated, unboxed};
 use crate::simple_stmts::simple_stmt;
 use go_expressions::{Bodies, Taken, block, expr_list, expression, statements};
-use go_productions::{Reading, first, rest, span_between};
-use go_tree::{Arm, ArmList, Case, CaseList, Expr, ExprList, Stmt, Token};
+use go_productions::{Cursor, Reading};
+use go_tree::{Arm, ArmList, Case, CaseList, Expr, ExprList, Stmt};
 use go_words::Terminal;
 
 /// An `if` statement, which begins with its keyword; arms after `else` belong to it.
 #[tactic(auto, using(crate::proofs::BranchArms::if_lost, crate::proofs::BranchArms::if_alone, crate::proofs::BranchArms::if_open, crate::proofs::BranchArms::if_else, crate::proofs::BranchArms::if_more))]
-pub(crate) fn if_stmt<'a, F: Fn(&[Token]) -> Taken>(
-    tokens: &'a [Token],
+pub(crate) fn if_stmt<'a, F: Fn(Cursor) -> Taken>(
+    tokens: Cursor<'a>,
     bodies: &Bodies<F>,
 ) -> Reading<'a, Stmt>
     requires reads { ReadsBelow (F.pre bodies.now.read) (F.post bodies.now.read) bodies.now.limit }
-    requires within { length tokens.now ≤ bodies.now.limit }
-    requires begins { first_of (lexemes tokens.now) ≡ Terminal.If }
-    ensures gives { Gives (λ x. (stmt_of x.0, lexemes x.1.now)) result (at span_to read_stmt (lexemes tokens.now)) }
-    ensures shorter { Shorter (λ x. x.1.now) result tokens.now }
+    requires within { length (ahead tokens) ≤ bodies.now.limit }
+    requires begins { first_of (ahead tokens) ≡ Terminal.If }
+    ensures gives { Gives stmt_of result (at span_to read_stmt (ahead tokens.entry)) }
+    ensures shorter { Shorter result tokens.entry }
 {
     let mut arms = Vec::new(bodies.room.alloc);
     let mut left = tokens;
@@ -38,16 +38,16 @@ pub(crate) fn if_stmt<'a, F: Fn(&[Token]) -> Taken>(
             return Ok(None);
         };
         arms.push(arm)?;
-        let Terminal::Else = first(after) else {
-            let span = span_between(tokens, after);
+        let Terminal::Else = after.first() else {
+            let span = tokens.span_to(after);
             return Ok(Some((go_tree::if_stmt(span, ArmList::of(arms), None), after)));
         };
-        left = rest(after);
-        let Terminal::If = first(left) else {
+        left = after.rest();
+        let Terminal::If = left.first() else {
             let Some((last, left)) = block(left, bodies)? else {
                 return Ok(None);
             };
-            let span = span_between(tokens, left);
+            let span = tokens.span_to(left);
             return Ok(Some((go_tree::if_stmt(span, ArmList::of(arms), Some(last)), left)));
         };
     }
@@ -55,25 +55,25 @@ pub(crate) fn if_stmt<'a, F: Fn(&[Token]) -> Taken>(
 
 /// `if`, the statement before the test where one stands there, the test and the block.
 #[tactic(auto, using(crate::proofs::BranchArms::arm_open, crate::proofs::BranchArms::arm_no_first, crate::proofs::BranchArms::arm_lost, crate::proofs::BranchArms::arm_first_stmt, crate::proofs::BranchArms::arm_stop, crate::proofs::BranchArms::arm_evaluated))]
-fn arm<'a, F: Fn(&[Token]) -> Taken>(tokens: &'a [Token], bodies: &Bodies<F>) -> Reading<'a, Arm>
+fn arm<'a, F: Fn(Cursor) -> Taken>(tokens: Cursor<'a>, bodies: &Bodies<F>) -> Reading<'a, Arm>
     requires reads { ReadsBelow (F.pre bodies.now.read) (F.post bodies.now.read) bodies.now.limit }
-    requires within { length tokens.now ≤ bodies.now.limit }
-    ensures gives { Gives (λ x. (arm_of x.0, lexemes x.1.now)) result (arm_at (lexemes tokens.now)) }
-    ensures shorter { Shorter (λ x. x.1.now) result tokens.now }
+    requires within { length (ahead tokens) ≤ bodies.now.limit }
+    ensures gives { Gives arm_of result (arm_at (ahead tokens.entry)) }
+    ensures shorter { Shorter result tokens.entry }
 {
-    let Terminal::If = first(tokens) else {
+    let Terminal::If = tokens.first() else {
         return Ok(None);
     };
-    let left = rest(tokens);
-    if let Terminal::Semicolon = first(left) {
-        return arm_test(tokens, None, rest(left), bodies);
+    let left = tokens.rest();
+    if let Terminal::Semicolon = left.first() {
+        return arm_test(tokens, None, left.rest(), bodies);
     }
     let Some((first_stmt, left)) = simple_stmt(left, true, bodies)? else {
         return Ok(None);
     };
-    if let Terminal::Semicolon = first(left) {
+    if let Terminal::Semicolon = left.first() {
         let first_stmt = Some(Box::new(bodies.room.alloc, first_stmt)?);
-        return arm_test(tokens, first_stmt, rest(left), bodies);
+        return arm_test(tokens, first_stmt, left.rest(), bodies);
     }
     let Some(test) = evaluated(first_stmt) else {
         return Ok(None);
@@ -83,17 +83,17 @@ fn arm<'a, F: Fn(&[Token]) -> Taken>(tokens: &'a [Token], bodies: &Bodies<F>) ->
 }
 
 #[tactic(auto, using(crate::proofs::BranchArms::arm_untested, crate::proofs::BranchArms::arm_tested))]
-fn arm_test<'a, F: Fn(&[Token]) -> Taken>(
-    whole: &[Token],
+fn arm_test<'a, F: Fn(Cursor) -> Taken>(
+    whole: Cursor,
     first_stmt: Option<Box<Stmt>>,
-    tokens: &'a [Token],
+    tokens: Cursor<'a>,
     bodies: &Bodies<F>,
 ) -> Reading<'a, Arm>
     requires reads { ReadsBelow (F.pre bodies.now.read) (F.post bodies.now.read) bodies.now.limit }
-    requires within { length tokens.now ≤ bodies.now.limit }
-    ensures gives { Gives (λ x. (arm_of x.0, lexemes x.1.now)) result
-        (arm_test_at (lexemes whole.now) (boxed_stmt_option_of first_stmt) (lexemes tokens.now)) }
-    ensures shorter { Shorter (λ x. x.1.now) result tokens.now }
+    requires within { length (ahead tokens) ≤ bodies.now.limit }
+    ensures gives { Gives arm_of result
+        (arm_test_at (ahead whole.entry) (boxed_stmt_option_of first_stmt) (ahead tokens.entry)) }
+    ensures shorter { Shorter result tokens.entry }
 {
     let Some((test, left)) = expression(tokens, true, bodies)? else {
         return Ok(None);
@@ -103,23 +103,23 @@ fn arm_test<'a, F: Fn(&[Token]) -> Taken>(
 }
 
 #[tactic(auto, using(crate::proofs::BranchArms::arm_bodiless, crate::proofs::BranchArms::arm_some))]
-fn arm_body<'a, F: Fn(&[Token]) -> Taken>(
-    whole: &[Token],
+fn arm_body<'a, F: Fn(Cursor) -> Taken>(
+    whole: Cursor,
     first_stmt: Option<Box<Stmt>>,
     test: Box<Expr>,
-    tokens: &'a [Token],
+    tokens: Cursor<'a>,
     bodies: &Bodies<F>,
 ) -> Reading<'a, Arm>
     requires reads { ReadsBelow (F.pre bodies.now.read) (F.post bodies.now.read) bodies.now.limit }
-    requires within { length tokens.now ≤ bodies.now.limit }
-    ensures gives { Gives (λ x. (arm_of x.0, lexemes x.1.now)) result
-        (arm_body_at (lexemes whole.now) (boxed_stmt_option_of first_stmt) (expr_of test.value) (lexemes tokens.now)) }
-    ensures shorter { Shorter (λ x. x.1.now) result tokens.now }
+    requires within { length (ahead tokens) ≤ bodies.now.limit }
+    ensures gives { Gives arm_of result
+        (arm_body_at (ahead whole.entry) (boxed_stmt_option_of first_stmt) (expr_of test.value) (ahead tokens.entry)) }
+    ensures shorter { Shorter result tokens.entry }
 {
     let Some((body, left)) = block(tokens, bodies)? else {
         return Ok(None);
     };
-    let span = span_between(whole, left);
+    let span = whole.span_to(left);
     Ok(Some((
         Arm::new(span, first_stmt, Box::into_inner(test), body),
         left,
@@ -128,90 +128,90 @@ fn arm_body<'a, F: Fn(&[Token]) -> Taken>(
 
 /// A `switch` statement, which begins with its keyword.
 #[tactic(auto, using(crate::proofs::BranchArms::switch_bare, crate::proofs::BranchArms::switch_no_first, crate::proofs::BranchArms::switch_lost, crate::proofs::BranchArms::switch_first_stmt, crate::proofs::BranchArms::switch_stop, crate::proofs::BranchArms::switch_open, crate::proofs::BranchArms::switch_tagged))]
-pub(crate) fn switch_stmt<'a, F: Fn(&[Token]) -> Taken>(
-    tokens: &'a [Token],
+pub(crate) fn switch_stmt<'a, F: Fn(Cursor) -> Taken>(
+    tokens: Cursor<'a>,
     bodies: &Bodies<F>,
 ) -> Reading<'a, Stmt>
     requires reads { ReadsBelow (F.pre bodies.now.read) (F.post bodies.now.read) bodies.now.limit }
-    requires within { length tokens.now ≤ bodies.now.limit }
-    requires begins { first_of (lexemes tokens.now) ≡ Terminal.Switch }
-    ensures gives { Gives (λ x. (stmt_of x.0, lexemes x.1.now)) result (at span_to read_stmt (lexemes tokens.now)) }
-    ensures shorter { Shorter (λ x. x.1.now) result tokens.now }
+    requires within { length (ahead tokens) ≤ bodies.now.limit }
+    requires begins { first_of (ahead tokens) ≡ Terminal.Switch }
+    ensures gives { Gives stmt_of result (at span_to read_stmt (ahead tokens.entry)) }
+    ensures shorter { Shorter result tokens.entry }
 {
-    let left = rest(tokens);
-    if let Terminal::Brace = first(left) {
-        return switch_body(tokens, None, None, rest(left), bodies);
+    let left = tokens.rest();
+    if let Terminal::Brace = left.first() {
+        return switch_body(tokens, None, None, left.rest(), bodies);
     }
-    if let Terminal::Semicolon = first(left) {
-        return switch_tag(tokens, None, rest(left), bodies);
+    if let Terminal::Semicolon = left.first() {
+        return switch_tag(tokens, None, left.rest(), bodies);
     }
     let Some((first_stmt, left)) = simple_stmt(left, true, bodies)? else {
         return Ok(None);
     };
-    if let Terminal::Semicolon = first(left) {
+    if let Terminal::Semicolon = left.first() {
         let first_stmt = Some(Box::new(bodies.room.alloc, first_stmt)?);
-        return switch_tag(tokens, first_stmt, rest(left), bodies);
+        return switch_tag(tokens, first_stmt, left.rest(), bodies);
     }
     let Some(tag) = evaluated(first_stmt) else {
         return Ok(None);
     };
     let tag = Box::new(bodies.room.alloc, tag)?;
-    let Terminal::Brace = first(left) else {
+    let Terminal::Brace = left.first() else {
         return Ok(None);
     };
-    switch_body(tokens, None, Some(tag), rest(left), bodies)
+    switch_body(tokens, None, Some(tag), left.rest(), bodies)
 }
 
 #[tactic(auto, using(crate::proofs::BranchArms::tag_absent, crate::proofs::BranchArms::tag_none, crate::proofs::BranchArms::tag_open, crate::proofs::BranchArms::tag_some))]
-fn switch_tag<'a, F: Fn(&[Token]) -> Taken>(
-    whole: &[Token],
+fn switch_tag<'a, F: Fn(Cursor) -> Taken>(
+    whole: Cursor,
     first_stmt: Option<Box<Stmt>>,
-    tokens: &'a [Token],
+    tokens: Cursor<'a>,
     bodies: &Bodies<F>,
 ) -> Reading<'a, Stmt>
     requires reads { ReadsBelow (F.pre bodies.now.read) (F.post bodies.now.read) bodies.now.limit }
-    requires within { length tokens.now ≤ bodies.now.limit }
-    ensures gives { Gives (λ x. (stmt_of x.0, lexemes x.1.now)) result
-        (switch_tag_at (lexemes whole.now) (boxed_stmt_option_of first_stmt) (lexemes tokens.now)) }
-    ensures shorter { Shorter (λ x. x.1.now) result tokens.now }
+    requires within { length (ahead tokens) ≤ bodies.now.limit }
+    ensures gives { Gives stmt_of result
+        (switch_tag_at (ahead whole.entry) (boxed_stmt_option_of first_stmt) (ahead tokens.entry)) }
+    ensures shorter { Shorter result tokens.entry }
 {
-    if let Terminal::Brace = first(tokens) {
-        return switch_body(whole, first_stmt, None, rest(tokens), bodies);
+    if let Terminal::Brace = tokens.first() {
+        return switch_body(whole, first_stmt, None, tokens.rest(), bodies);
     }
     let Some((tag, left)) = expression(tokens, true, bodies)? else {
         return Ok(None);
     };
     let tag = Box::new(bodies.room.alloc, tag)?;
-    let Terminal::Brace = first(left) else {
+    let Terminal::Brace = left.first() else {
         return Ok(None);
     };
-    switch_body(whole, first_stmt, Some(tag), rest(left), bodies)
+    switch_body(whole, first_stmt, Some(tag), left.rest(), bodies)
 }
 
 /// The clauses of a `switch` and its closing brace.
 #[tactic(auto, using(crate::proofs::BranchArms::switch_none, crate::proofs::BranchArms::switch_end, crate::proofs::BranchArms::switch_some))]
-fn switch_body<'a, F: Fn(&[Token]) -> Taken>(
-    whole: &[Token],
+fn switch_body<'a, F: Fn(Cursor) -> Taken>(
+    whole: Cursor,
     first_stmt: Option<Box<Stmt>>,
     tag: Option<Box<Expr>>,
-    tokens: &'a [Token],
+    tokens: Cursor<'a>,
     bodies: &Bodies<F>,
 ) -> Reading<'a, Stmt>
     requires reads { ReadsBelow (F.pre bodies.now.read) (F.post bodies.now.read) bodies.now.limit }
-    requires within { length tokens.now ≤ bodies.now.limit }
-    ensures gives { Gives (λ x. (stmt_of x.0, lexemes x.1.now)) result
-        (switch_body_at (lexemes whole.now) (boxed_stmt_option_of first_stmt) (boxed_expr_option_of tag)
-        (lexemes tokens.now)) }
-    ensures shorter { Shorter (λ x. x.1.now) result tokens.now }
+    requires within { length (ahead tokens) ≤ bodies.now.limit }
+    ensures gives { Gives stmt_of result
+        (switch_body_at (ahead whole.entry) (boxed_stmt_option_of first_stmt) (boxed_expr_option_of tag)
+        (ahead tokens.entry)) }
+    ensures shorter { Shorter result tokens.entry }
 {
     let Some((cases, left)) = case_list(tokens, bodies)? else {
         return Ok(None);
     };
-    let Terminal::EndBrace = first(left) else {
+    let Terminal::EndBrace = left.first() else {
         return Ok(None);
     };
-    let left = rest(left);
-    let span = span_between(whole, left);
+    let left = left.rest();
+    let span = whole.span_to(left);
     Ok(Some((
         go_tree::switch_stmt(span, first_stmt, unboxed(tag), cases),
         left,
@@ -220,14 +220,14 @@ fn switch_body<'a, F: Fn(&[Token]) -> Taken>(
 
 /// The clauses of a `switch`.
 #[tactic(auto, using(crate::proofs::CaseArms::cases_end, crate::proofs::CaseArms::cases_lost, crate::proofs::CaseArms::cases_more))]
-fn case_list<'a, F: Fn(&[Token]) -> Taken>(
-    tokens: &'a [Token],
+fn case_list<'a, F: Fn(Cursor) -> Taken>(
+    tokens: Cursor<'a>,
     bodies: &Bodies<F>,
 ) -> Reading<'a, CaseList>
     requires reads { ReadsBelow (F.pre bodies.now.read) (F.post bodies.now.read) bodies.now.limit }
-    requires within { length tokens.now ≤ bodies.now.limit }
-    ensures gives { Gives (λ x. (cases_of x.0, lexemes x.1.now)) result (at span_to read_cases (lexemes tokens.now)) }
-    ensures within { Within (λ x. x.1.now) result tokens.now }
+    requires within { length (ahead tokens) ≤ bodies.now.limit }
+    ensures gives { Gives cases_of result (at span_to read_cases (ahead tokens.entry)) }
+    ensures within { Within result tokens.entry }
 {
     let mut items = Vec::new(bodies.room.alloc);
     let mut left = tokens;
@@ -242,62 +242,62 @@ fn case_list<'a, F: Fn(&[Token]) -> Taken>(
 }
 
 /// Whether `case`, or `default` and a colon, stand first.
-fn begins_case(tokens: &[Token]) -> bool
-    ensures { case_here (lexemes tokens.now) ≡ result }
+fn begins_case(tokens: Cursor) -> bool
+    ensures { case_here (ahead tokens.entry) ≡ result }
 {
-    match first(tokens) {
+    match tokens.first() {
         Terminal::Case => true,
-        Terminal::Default => matches!(first(rest(tokens)), Terminal::Colon),
+        Terminal::Default => matches!(tokens.rest().first(), Terminal::Colon),
         _ => false,
     }
 }
 
 /// A clause of a `switch`.
 #[tactic(auto, using(crate::proofs::CaseArms::default_on, crate::proofs::CaseArms::case_none, crate::proofs::CaseArms::case_open, crate::proofs::CaseArms::case_on))]
-fn case_clause<'a, F: Fn(&[Token]) -> Taken>(
-    tokens: &'a [Token],
+fn case_clause<'a, F: Fn(Cursor) -> Taken>(
+    tokens: Cursor<'a>,
     bodies: &Bodies<F>,
 ) -> Reading<'a, Case>
     requires reads { ReadsBelow (F.pre bodies.now.read) (F.post bodies.now.read) bodies.now.limit }
-    requires within { length tokens.now ≤ bodies.now.limit }
-    requires begins { case_here (lexemes tokens.now) ≡ true }
-    ensures gives { Gives (λ x. (case_of x.0, lexemes x.1.now)) result (case_at (lexemes tokens.now)) }
-    ensures shorter { Shorter (λ x. x.1.now) result tokens.now }
+    requires within { length (ahead tokens) ≤ bodies.now.limit }
+    requires begins { case_here (ahead tokens) ≡ true }
+    ensures gives { Gives case_of result (case_at (ahead tokens.entry)) }
+    ensures shorter { Shorter result tokens.entry }
 {
-    let Terminal::Case = first(tokens) else {
+    let Terminal::Case = tokens.first() else {
         return case_body(
             tokens,
             Vec::new(bodies.room.alloc),
-            rest(rest(tokens)),
+            tokens.rest().rest(),
             bodies,
         );
     };
-    let Some((values, left)) = expr_list(rest(tokens), false, bodies)? else {
+    let Some((values, left)) = expr_list(tokens.rest(), false, bodies)? else {
         return Ok(None);
     };
-    let Terminal::Colon = first(left) else {
+    let Terminal::Colon = left.first() else {
         return Ok(None);
     };
-    case_body(tokens, values, rest(left), bodies)
+    case_body(tokens, values, left.rest(), bodies)
 }
 
 /// The statements of a clause.
 #[tactic(auto, using(crate::proofs::CaseArms::case_body_none, crate::proofs::CaseArms::case_body_some))]
-fn case_body<'a, F: Fn(&[Token]) -> Taken>(
-    whole: &[Token],
+fn case_body<'a, F: Fn(Cursor) -> Taken>(
+    whole: Cursor,
     values: Vec<Expr>,
-    tokens: &'a [Token],
+    tokens: Cursor<'a>,
     bodies: &Bodies<F>,
 ) -> Reading<'a, Case>
     requires reads { ReadsBelow (F.pre bodies.now.read) (F.post bodies.now.read) bodies.now.limit }
-    requires below { length tokens.now < bodies.now.limit }
-    ensures gives { Gives (λ x. (case_of x.0, lexemes x.1.now)) result
-        (case_body_at (lexemes whole.now) (exprs_from (map expr_of values.items)) (lexemes tokens.now)) }
-    ensures within { Within (λ x. x.1.now) result tokens.now }
+    requires below { length (ahead tokens) < bodies.now.limit }
+    ensures gives { Gives case_of result
+        (case_body_at (ahead whole.entry) (exprs_from (map expr_of values.items)) (ahead tokens.entry)) }
+    ensures within { Within result tokens.entry }
 {
     let Some((body, left)) = statements(tokens, bodies)? else {
         return Ok(None);
     };
-    let span = span_between(whole, left);
+    let span = whole.span_to(left);
     Ok(Some((Case::new(span, ExprList::of(values), body), left)))
 }

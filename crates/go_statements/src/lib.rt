@@ -1,4 +1,4 @@
-//! Statements, blocks and the declarations that may be statements, read of a slice of tokens from
+//! Statements, blocks and the declarations that may be statements, read of the tokens of a file from
 //! left to right.
 #![tactic(auto)]
 

@@ -3,7 +3,7 @@
 ghost use Rattle.std.specs.Prelude.{◌≡◌, ◌<◌, ◌≤◌, length};
 ghost use Rattle.go_tree.specs.Tree.{empty};
 ghost use Rattle.go_tree.specs.View.{block_of, stmt_of, stmts_of};
-ghost use Rattle.go_words.specs.Terminals.{lexemes};
+ghost use Rattle.go_productions.specs.Cursors.{ahead};
 ghost use Rattle.go_read.specs.SpellsSpans.{span_to};
 ghost use Rattle.go_read.specs.Goals.{read_block, read_stmt, read_stmts};
 ghost use Rattle.go_read.specs.Reading.{at};
@@ -18,27 +18,27 @@ use crate::for_stmts::for_stmt;
 use crate::parts::is_bare_call;
 use crate::simple_stmts::simple_stmt;
 use go_expressions::{Bodies, Taken, binary_expr, expr_list};
-use go_productions::{Reading, Room, first, name, rest, span_between};
-use go_tree::{Block, ExprList, Stmt, StmtList, Token, inner_stmt, label_stmt};
+use go_productions::{Cursor, Reading, Room, name};
+use go_tree::{Block, ExprList, Stmt, StmtList, inner_stmt, label_stmt};
 use go_words::Terminal;
 
 /// Statements in braces.
 #[tactic(auto, using(go_expressions::proofs::BodyArms::block_open, go_expressions::proofs::BodyArms::block_none, go_expressions::proofs::BodyArms::block_end, go_expressions::proofs::BodyArms::block_some))]
-pub fn block<'a>(room: &Room, tokens: &'a [Token]) -> Reading<'a, Block>
-    ensures gives { Gives (λ x. (block_of x.0, lexemes x.1.now)) result (at span_to read_block (lexemes tokens.now)) }
-    ensures shorter { Shorter (λ x. x.1.now) result tokens.now }
+pub fn block<'a>(room: &Room, tokens: Cursor<'a>) -> Reading<'a, Block>
+    ensures gives { Gives block_of result (at span_to read_block (ahead tokens.entry)) }
+    ensures shorter { Shorter result tokens.entry }
 {
-    let Terminal::Brace = first(tokens) else {
+    let Terminal::Brace = tokens.first() else {
         return Ok(None);
     };
-    let Some((stmts, left)) = stmt_list(room, rest(tokens))? else {
+    let Some((stmts, left)) = stmt_list(room, tokens.rest())? else {
         return Ok(None);
     };
-    let Terminal::EndBrace = first(left) else {
+    let Terminal::EndBrace = left.first() else {
         return Ok(None);
     };
-    let left = rest(left);
-    let span = span_between(tokens, left);
+    let left = left.rest();
+    let span = tokens.span_to(left);
     Ok(Some((Block { span, stmts }, left)))
 }
 
@@ -46,14 +46,14 @@ pub fn block<'a>(room: &Room, tokens: &'a [Token]) -> Reading<'a, Block>
 /// left out before a brace.
 #[cycle(statements)]
 #[tactic(auto, using(crate::proofs::TakenArms::stmts_are_taken))]
-pub(crate) fn stmt_list<'a>(room: &Room, tokens: &'a [Token]) -> Reading<'a, StmtList>
-    ensures gives { Gives (λ x. (stmts_of x.0, lexemes x.1.now)) result (at span_to read_stmts (lexemes tokens.now)) }
-    ensures within { Within (λ x. x.1.now) result tokens.now }
+pub(crate) fn stmt_list<'a>(room: &Room, tokens: Cursor<'a>) -> Reading<'a, StmtList>
+    ensures gives { Gives stmts_of result (at span_to read_stmts (ahead tokens.entry)) }
+    ensures within { Within result tokens.entry }
 {
     let limit = tokens.len();
-    let read = |inner: &[Token]| -> Taken
-        requires { length inner.now < limit }
-        ensures { StmtsTaken inner.now result }
+    let read = |inner: Cursor| -> Taken
+        requires { length (ahead inner) < limit }
+        ensures { StmtsTaken inner.entry result }
     {
         let _ = &limit;
         taken(room, inner)
@@ -65,8 +65,8 @@ pub(crate) fn stmt_list<'a>(room: &Room, tokens: &'a [Token]) -> Reading<'a, Stm
 /// Such statements, and how many tokens they take.
 #[cycle(statements)]
 #[tactic(auto, using(crate::proofs::TakenArms::stmts_are_taken))]
-pub(crate) fn taken(room: &Room, tokens: &[Token]) -> Taken
-    ensures { StmtsTaken tokens.now result }
+pub(crate) fn taken(room: &Room, tokens: Cursor) -> Taken
+    ensures { StmtsTaken tokens.entry result }
 {
     let Some((stmts, left)) = stmt_list(room, tokens)? else {
         return Ok(None);
@@ -76,24 +76,24 @@ pub(crate) fn taken(room: &Room, tokens: &[Token]) -> Taken
 
 /// Such statements, with what reads those of the bodies in them.
 #[tactic(auto, using(crate::proofs::StmtArms::stmts_end, crate::proofs::StmtArms::stmts_lost, crate::proofs::StmtArms::stmts_more, crate::proofs::StmtArms::stmts_last, crate::proofs::StmtArms::stmts_stop))]
-fn listed<'a, F: Fn(&[Token]) -> Taken>(
-    tokens: &'a [Token],
+fn listed<'a, F: Fn(Cursor) -> Taken>(
+    tokens: Cursor<'a>,
     bodies: &Bodies<F>,
 ) -> Reading<'a, StmtList>
     requires reads { ReadsBelow (F.pre bodies.now.read) (F.post bodies.now.read) bodies.now.limit }
-    requires within { length tokens.now ≤ bodies.now.limit }
-    ensures gives { Gives (λ x. (stmts_of x.0, lexemes x.1.now)) result (at span_to read_stmts (lexemes tokens.now)) }
-    ensures within { Within (λ x. x.1.now) result tokens.now }
+    requires within { length (ahead tokens) ≤ bodies.now.limit }
+    ensures gives { Gives stmts_of result (at span_to read_stmts (ahead tokens.entry)) }
+    ensures within { Within result tokens.entry }
 {
     let mut items = Vec::new(bodies.room.alloc);
     let mut left = tokens;
-    while !ends_stmts(first(left)) {
+    while !ends_stmts(left.first()) {
         let Some((item, after)) = stmt(left, bodies)? else {
             return Ok(None);
         };
         items.push(item)?;
-        match first(after) {
-            Terminal::Semicolon => left = rest(after),
+        match after.first() {
+            Terminal::Semicolon => left = after.rest(),
             Terminal::EndBrace => left = after,
             _ => return Ok(None),
         }
@@ -114,13 +114,13 @@ fn ends_stmts(terminal: Terminal) -> bool
 /// A statement.
 #[cycle(labels)]
 #[tactic(auto, using(crate::proofs::StmtArms::const_none, crate::proofs::StmtArms::const_some, crate::proofs::StmtArms::var_none, crate::proofs::StmtArms::var_some, crate::proofs::StmtArms::inner_none, crate::proofs::StmtArms::inner_some, crate::proofs::StmtArms::empty_semicolon, crate::proofs::StmtArms::empty_brace, crate::proofs::StmtArms::plain_stmt))]
-fn stmt<'a, F: Fn(&[Token]) -> Taken>(tokens: &'a [Token], bodies: &Bodies<F>) -> Reading<'a, Stmt>
+fn stmt<'a, F: Fn(Cursor) -> Taken>(tokens: Cursor<'a>, bodies: &Bodies<F>) -> Reading<'a, Stmt>
     requires reads { ReadsBelow (F.pre bodies.now.read) (F.post bodies.now.read) bodies.now.limit }
-    requires within { length tokens.now ≤ bodies.now.limit }
-    ensures gives { Gives (λ x. (stmt_of x.0, lexemes x.1.now)) result (at span_to read_stmt (lexemes tokens.now)) }
-    ensures within { Within (λ x. x.1.now) result tokens.now }
+    requires within { length (ahead tokens) ≤ bodies.now.limit }
+    ensures gives { Gives stmt_of result (at span_to read_stmt (ahead tokens.entry)) }
+    ensures within { Within result tokens.entry }
 {
-    match first(tokens) {
+    match tokens.first() {
         Terminal::Const => {
             let Some((d, left)) = const_stmt(tokens, bodies)? else {
                 return Ok(None);
@@ -154,55 +154,55 @@ fn stmt<'a, F: Fn(&[Token]) -> Taken>(tokens: &'a [Token], bodies: &Bodies<F>) -
 }
 
 /// The empty statement before this token.
-fn empty(tokens: &[Token]) -> Stmt
-    ensures { stmt_of result ≡ empty (span_to (lexemes tokens.now) (lexemes tokens.now)) }
+fn empty(tokens: Cursor) -> Stmt
+    ensures { stmt_of result ≡ empty (span_to (ahead tokens.entry) (ahead tokens.entry)) }
 {
     Stmt::Empty {
-        span: span_between(tokens, tokens),
+        span: tokens.span_to(tokens),
     }
 }
 
 /// A statement that begins with a name: a labeled one where a colon follows.
 #[cycle(labels)]
 #[tactic(auto, using(crate::proofs::StmtArms::word_plain, crate::proofs::StmtArms::label_none, crate::proofs::StmtArms::label_some))]
-fn word_stmt<'a, F: Fn(&[Token]) -> Taken>(
-    tokens: &'a [Token],
+fn word_stmt<'a, F: Fn(Cursor) -> Taken>(
+    tokens: Cursor<'a>,
     bodies: &Bodies<F>,
 ) -> Reading<'a, Stmt>
     requires reads { ReadsBelow (F.pre bodies.now.read) (F.post bodies.now.read) bodies.now.limit }
-    requires within { length tokens.now ≤ bodies.now.limit }
-    requires begins { first_of (lexemes tokens.now) ≡ Terminal.Ident }
-    ensures gives { Gives (λ x. (stmt_of x.0, lexemes x.1.now)) result (at span_to read_stmt (lexemes tokens.now)) }
-    ensures shorter { Shorter (λ x. x.1.now) result tokens.now }
+    requires within { length (ahead tokens) ≤ bodies.now.limit }
+    requires begins { first_of (ahead tokens) ≡ Terminal.Ident }
+    ensures gives { Gives stmt_of result (at span_to read_stmt (ahead tokens.entry)) }
+    ensures shorter { Shorter result tokens.entry }
 {
-    let after = rest(tokens);
-    let Terminal::Colon = first(after) else {
+    let after = tokens.rest();
+    let Terminal::Colon = after.first() else {
         return simple_stmt(tokens, false, bodies);
     };
     let name = name(bodies.room, tokens)?;
-    let Some((of, left)) = stmt(rest(after), bodies)? else {
+    let Some((of, left)) = stmt(after.rest(), bodies)? else {
         return Ok(None);
     };
-    let span = span_between(tokens, left);
+    let span = tokens.span_to(left);
     let of = Box::new(bodies.room.alloc, of)?;
     Ok(Some((label_stmt(span, name, of), left)))
 }
 
 /// `return`, with values where they stand there.
 #[tactic(auto, using(crate::proofs::StmtArms::return_alone, crate::proofs::StmtArms::return_none, crate::proofs::StmtArms::return_some))]
-fn return_stmt<'a, F: Fn(&[Token]) -> Taken>(
-    tokens: &'a [Token],
+fn return_stmt<'a, F: Fn(Cursor) -> Taken>(
+    tokens: Cursor<'a>,
     bodies: &Bodies<F>,
 ) -> Reading<'a, Stmt>
     requires reads { ReadsBelow (F.pre bodies.now.read) (F.post bodies.now.read) bodies.now.limit }
-    requires within { length tokens.now ≤ bodies.now.limit }
-    requires begins { first_of (lexemes tokens.now) ≡ Terminal.Return }
-    ensures gives { Gives (λ x. (stmt_of x.0, lexemes x.1.now)) result (at span_to read_stmt (lexemes tokens.now)) }
-    ensures shorter { Shorter (λ x. x.1.now) result tokens.now }
+    requires within { length (ahead tokens) ≤ bodies.now.limit }
+    requires begins { first_of (ahead tokens) ≡ Terminal.Return }
+    ensures gives { Gives stmt_of result (at span_to read_stmt (ahead tokens.entry)) }
+    ensures shorter { Shorter result tokens.entry }
 {
-    let after = rest(tokens);
-    if closes(first(after)) {
-        let span = span_between(tokens, after);
+    let after = tokens.rest();
+    if closes(after.first()) {
+        let span = tokens.span_to(after);
         return Ok(Some((
             go_tree::return_stmt(span, ExprList::of(Vec::new(bodies.room.alloc))),
             after,
@@ -211,7 +211,7 @@ fn return_stmt<'a, F: Fn(&[Token]) -> Taken>(
     let Some((values, left)) = expr_list(after, false, bodies)? else {
         return Ok(None);
     };
-    let span = span_between(tokens, left);
+    let span = tokens.span_to(left);
     Ok(Some((go_tree::return_stmt(span, ExprList::of(values)), left)))
 }
 
@@ -227,59 +227,61 @@ fn closes(terminal: Terminal) -> bool
 
 /// `break`, with a label where one stands there.
 #[tactic(auto, using(crate::proofs::StmtArms::break_alone, crate::proofs::StmtArms::break_label))]
-fn break_stmt<'a>(room: &Room, tokens: &'a [Token]) -> Reading<'a, Stmt>
-    requires begins { first_of (lexemes tokens.now) ≡ Terminal.Break }
-    ensures gives { Gives (λ x. (stmt_of x.0, lexemes x.1.now)) result (at span_to read_stmt (lexemes tokens.now)) }
-    ensures shorter { Shorter (λ x. x.1.now) result tokens.now }
+fn break_stmt<'a>(room: &Room, tokens: Cursor<'a>) -> Reading<'a, Stmt>
+    requires begins { first_of (ahead tokens) ≡ Terminal.Break }
+    ensures gives { Gives stmt_of result (at span_to read_stmt (ahead tokens.entry)) }
+    ensures shorter { Shorter result tokens.entry }
 {
-    let after = rest(tokens);
-    let Terminal::Ident = first(after) else {
-        let span = span_between(tokens, after);
+    let after = tokens.rest();
+    let Terminal::Ident = after.first() else {
+        let span = tokens.span_to(after);
         return Ok(Some((Stmt::Break { span, label: None }, after)));
     };
-    let left = rest(after);
-    let span = span_between(tokens, left);
+    let left = after.rest();
+    let span = tokens.span_to(left);
     let label = Some(name(room, after)?);
     Ok(Some((Stmt::Break { span, label }, left)))
 }
 
 /// `continue`, with a label where one stands there.
 #[tactic(auto, using(crate::proofs::StmtArms::continue_alone, crate::proofs::StmtArms::continue_label))]
-fn continue_stmt<'a>(room: &Room, tokens: &'a [Token]) -> Reading<'a, Stmt>
-    requires begins { first_of (lexemes tokens.now) ≡ Terminal.Continue }
-    ensures gives { Gives (λ x. (stmt_of x.0, lexemes x.1.now)) result (at span_to read_stmt (lexemes tokens.now)) }
-    ensures shorter { Shorter (λ x. x.1.now) result tokens.now }
+fn continue_stmt<'a>(room: &Room, tokens: Cursor<'a>) -> Reading<'a, Stmt>
+    requires begins { first_of (ahead tokens) ≡ Terminal.Continue }
+    ensures gives { Gives stmt_of result (at span_to read_stmt (ahead tokens.entry)) }
+    ensures shorter { Shorter result tokens.entry }
 {
-    let after = rest(tokens);
-    let Terminal::Ident = first(after) else {
-        let span = span_between(tokens, after);
+    let after = tokens.rest();
+    let Terminal::Ident = after.first() else {
+        let span = tokens.span_to(after);
         return Ok(Some((Stmt::Continue { span, label: None }, after)));
     };
-    let left = rest(after);
-    let span = span_between(tokens, left);
+    let left = after.rest();
+    let span = tokens.span_to(left);
     let label = Some(name(room, after)?);
     Ok(Some((Stmt::Continue { span, label }, left)))
 }
 
 /// `defer` and a call without parentheses around it.
 #[tactic(auto, using(crate::proofs::StmtArms::defer_none, crate::proofs::StmtArms::defer_stop, crate::proofs::StmtArms::defer_some))]
-fn defer_stmt<'a, F: Fn(&[Token]) -> Taken>(
-    tokens: &'a [Token],
+fn defer_stmt<'a, F: Fn(Cursor) -> Taken>(
+    tokens: Cursor<'a>,
     bodies: &Bodies<F>,
 ) -> Reading<'a, Stmt>
     requires reads { ReadsBelow (F.pre bodies.now.read) (F.post bodies.now.read) bodies.now.limit }
-    requires within { length tokens.now ≤ bodies.now.limit }
-    requires begins { first_of (lexemes tokens.now) ≡ Terminal.Defer }
-    ensures gives { Gives (λ x. (stmt_of x.0, lexemes x.1.now)) result (at span_to read_stmt (lexemes tokens.now)) }
-    ensures shorter { Shorter (λ x. x.1.now) result tokens.now }
+    requires within { length (ahead tokens) ≤ bodies.now.limit }
+    requires begins { first_of (ahead tokens) ≡ Terminal.Defer }
+    ensures gives { Gives stmt_of result (at span_to read_stmt (ahead tokens.entry)) }
+    ensures shorter { Shorter result tokens.entry }
 {
-    let Some(((call, bare), left)) = binary_expr(rest(tokens), 1, false, bodies)? else {
+    let Some((operand, left)) = binary_expr(tokens.rest(), 1, false, bodies)? else {
         return Ok(None);
     };
+    let bare = operand.bare;
+    let call = operand.e;
     if !is_bare_call(&call, bare) {
         drop(call);
         return Ok(None);
     }
-    let span = span_between(tokens, left);
+    let span = tokens.span_to(left);
     Ok(Some((Stmt::Defer { span, call }, left)))
 }

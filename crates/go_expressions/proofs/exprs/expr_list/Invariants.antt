@@ -1,7 +1,7 @@
 use Rattle.std.proofs.Common.{◌≡◌, ◌≤◌, length, map}
 use Rattle.go_tree.specs.Tree.{expr_and}
 use Rattle.go_tree.specs.View.{expr_of}
-use Rattle.go_words.specs.Terminals.{lexemes}
+use Rattle.go_productions.specs.Cursors.{ahead}
 use Rattle.go_read.specs.SpellsSpans.{span_to}
 use Rattle.go_read.specs.Goals.{read_exprs}
 use Rattle.go_read.specs.Reading.{at}
@@ -10,7 +10,7 @@ use Rattle.go_expressions.proofs.exprs.expr_list.Given as goal
 
 abbrev pub invariant-loop-items : goal.invariant-loop-items
 invariant-loop-items g l =
-    (in_front expr_and (map expr_of l.items.items) (at span_to (read_exprs l.header) (lexemes l.left)) ≡ at span_to (read_exprs l.fn.header) (lexemes l.fn.tokens)) × (length l.left ≤ length l.fn.tokens)
+    (in_front expr_and (map expr_of l.items.items) (at span_to (read_exprs l.header) (ahead l.left)) ≡ at span_to (read_exprs l.fn.header) (ahead l.fn.tokens)) × (length (ahead l.left) ≤ length (ahead l.fn.tokens))
 
 abbrev pub decreases-loop-items : goal.decreases-loop-items
-decreases-loop-items g l = length l.left
+decreases-loop-items g l = length (ahead l.left)

@@ -1,6 +1,6 @@
 use Rattle.std.proofs.Common.{◌≡◌, ◌≤◌, length, map}
 use Rattle.go_tree.specs.FileView.{decl_of}
-use Rattle.go_words.specs.Terminals.{lexemes}
+use Rattle.go_productions.specs.Cursors.{ahead}
 use Rattle.go_read.specs.SpellsSpans.{span_to}
 use Rattle.go_read.specs.Goals.{read_tops}
 use Rattle.go_read.specs.Reading.{at}
@@ -9,9 +9,9 @@ use Rattle.go_parse.proofs.file.decls.Given as goal
 
 abbrev pub invariant-decls : goal.invariant-decls
 invariant-decls l = record {
-  read : with_front (map decl_of l.list.items) (at span_to read_tops (lexemes l.left)) ≡ at span_to read_tops (lexemes l.fn.tokens);
-  within : length l.left ≤ length l.fn.tokens;
+  read : with_front (map decl_of l.list.items) (at span_to read_tops (ahead l.left)) ≡ at span_to read_tops (ahead l.fn.tokens);
+  within : length (ahead l.left) ≤ length (ahead l.fn.tokens);
 }
 
 abbrev pub decreases-decls : goal.decreases-decls
-decreases-decls l = length l.left
+decreases-decls l = length (ahead l.left)

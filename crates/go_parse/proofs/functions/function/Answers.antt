@@ -1,5 +1,5 @@
 use Rattle.go_tree.specs.View.{block_of}
-use Rattle.go_words.specs.Terminals.{lexemes}
+use Rattle.go_productions.specs.Cursors.{ahead}
 use Rattle.go_parse.proofs.FunctionSteps.{func_none, func_without_sig, func_without_body, func_some}
 use Rattle.go_parse.proofs.functions.function.Goals as goal
 
@@ -15,5 +15,5 @@ returns-in_default-3-clause-gives c =
 
 pub returns-clause-gives : goal.returns-clause-gives
 returns-clause-gives c =
-    func_some _ _ _ _ (lexemes c.rest.result.now) _ _ (lexemes c.in-Some.after.now) (block_of c.in-Some-2.body) _ _ c.may_be_variadic.ensures c.in-Ident.ensures.is c.rest.ensures.is (rw c.in-Some.is at c.in_ok-sig.ensures.gives)
-    (rw c.in-Some-2.is at c.in_ok-body.ensures.gives) c.in_ok-name.ensures c.span_between-span.ensures
+    func_some _ _ _ _ (ahead c.rest.result) _ _ (ahead c.in-Some.after) (block_of c.in-Some-2.body) _ _ c.may_be_variadic.ensures c.in-Ident.ensures.is c.rest.ensures.is (rw c.in-Some.is at c.in_ok-sig.ensures.gives)
+    (rw c.in-Some-2.is at c.in_ok-body.ensures.gives) c.in_ok-name.ensures c.span_to-span.ensures

@@ -1,4 +1,4 @@
-use Rattle.go_words.specs.Terminals.{lexemes}
+use Rattle.go_productions.specs.Cursors.{ahead}
 use Rattle.go_parse.proofs.FunctionSteps.{method_is, method_none, method_open}
 use Rattle.go_parse.proofs.functions.method.Goals as goal
 
@@ -10,5 +10,5 @@ returns-in_default-first c = record { gives = method_open _ _ _ _ _ (rw c.in-Som
 
 pub returns-clause-gives : goal.returns-clause-gives
 returns-clause-gives c =
-    rw (method_is (lexemes c.args.whole.now) (lexemes c.args.tokens.now) _ (lexemes c.in-Some.after.now) (lexemes c.rest.result.now) (rw c.in-Some.is at c.in_ok-receiver.ensures.gives) c.in-EndParen.ensures.is c.rest.ensures.is)
+    rw (method_is (ahead c.args.whole) (ahead c.args.tokens) _ (ahead c.in-Some.after) (ahead c.rest.result) (rw c.in-Some.is at c.in_ok-receiver.ensures.gives) c.in-EndParen.ensures.is c.rest.ensures.is)
     c.function.ensures.gives

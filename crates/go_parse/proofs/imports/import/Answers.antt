@@ -1,4 +1,4 @@
-use Rattle.go_words.specs.Terminals.{lexemes}
+use Rattle.go_productions.specs.Cursors.{ahead}
 use Rattle.go_parse.proofs.TextSteps.{texts_from}
 use Rattle.go_parse.proofs.ImportSteps.{import_grouped, import_single, import_none}
 use Rattle.go_parse.proofs.imports.import.Goals as goal
@@ -14,8 +14,8 @@ single_import-requires c = texts_from _ _ c.rest-inner.ensures.is c.requires
 
 pub returns-in-Paren-clause-gives : goal.returns-in-Paren-clause-gives
 returns-in-Paren-clause-gives c =
-    rw (import_grouped (lexemes c.args.tokens.now) (lexemes c.rest-inner.result.now) (lexemes c.rest.result.now) c.in-Import.ensures.is c.rest-inner.ensures.is c.in-Paren.ensures.is c.rest.ensures.is) c.grouped_import.ensures.gives
+    rw (import_grouped (ahead c.args.tokens) (ahead c.rest-inner.result) (ahead c.rest.result) c.in-Import.ensures.is c.rest-inner.ensures.is c.in-Paren.ensures.is c.rest.ensures.is) c.grouped_import.ensures.gives
 
 pub returns-in_default-first-clause-gives : goal.returns-in_default-first-clause-gives
 returns-in_default-first-clause-gives c =
-    rw (import_single (lexemes c.args.tokens.now) (lexemes c.rest-inner.result.now) c.first-2.result c.in-Import.ensures.is c.rest-inner.ensures.is c.first-2.ensures.is c.in_default-first.not-Paren) c.single_import.ensures.gives
+    rw (import_single (ahead c.args.tokens) (ahead c.rest-inner.result) c.first-2.result c.in-Import.ensures.is c.rest-inner.ensures.is c.first-2.ensures.is c.in_default-first.not-Paren) c.single_import.ensures.gives

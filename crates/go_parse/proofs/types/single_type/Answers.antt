@@ -8,4 +8,4 @@ returns-in_default-clause-gives c = single_none _ _ (rw c.in_default.is at c.in_
 
 pub returns-clause-gives : goal.returns-clause-gives
 returns-clause-gives c =
-    single_some _ _ _ _ _ _ (rw c.in-Some.is at c.in_ok-spec.ensures.gives) c.span_between-span.ensures (ap (map type_spec_of) (c.of-specs.ensures ∙ c.in_ok-vec.ensures.items))
+    single_some _ _ _ _ _ _ (rw c.in-Some.is at c.in_ok-spec.ensures.gives) c.span_to-span.ensures (ap (map type_spec_of) (c.of-specs.ensures ∙ c.in_ok-vec.ensures.items))

@@ -2,7 +2,7 @@ use Rattle.std.proofs.Common.{◌≡◌, ◌≤◌, length, true, Some, sym, ap,
 use Rattle.go_tree.specs.declared.spans.Span.{Span}
 use Rattle.go_tree.specs.Tree.{Expr, no_stmt}
 use Rattle.go_tree.specs.View.{expr_of, stmt_of}
-use Rattle.go_words.specs.Terminals.{lexemes}
+use Rattle.go_productions.specs.Cursors.{ahead}
 use Rattle.go_read.specs.SpellsSpans.{span_to}
 use Rattle.go_read.specs.Goals.{read_simple}
 use Rattle.go_read.specs.Reading.{at}
@@ -14,10 +14,10 @@ use Rattle.go_statements.proofs.branches.arm.Goals as goal
 pub returns-in_default-evaluated : goal.returns-in_default-evaluated
 returns-in_default-evaluated g c = record {
   gives =
-      let us = lexemes c.rest-left.result.now in
-      let r = lexemes c.in-Some.left.now in
+      let us = ahead c.rest-left.result in
+      let r = ahead c.in-Some.left in
       let read : at span_to (read_simple true) us ≡ Some (stmt_of c.in-Some.first_stmt, r) = search rules in
-      arm_stop (lexemes c.args.tokens.now) us r (stmt_of c.in-Some.first_stmt) c.first-2.result c.first-3.result
+      arm_stop (ahead c.args.tokens) us r (stmt_of c.in-Some.first_stmt) c.first-2.result c.first-3.result
       c.in-If.ensures.is c.rest-left.ensures.is c.first-2.ensures.is c.in_default-first.not-Semicolon read c.first-3.ensures.is c.in_default-first-2.not-Semicolon c.in_default-evaluated.ensures;
   shorter = tt;
 }
@@ -25,16 +25,16 @@ returns-in_default-evaluated g c = record {
 pub returns : goal.returns
 returns g c = record {
   gives =
-      let us = lexemes c.rest-left.result.now in
-      let r = lexemes c.in-Some.left.now in
+      let us = ahead c.rest-left.result in
+      let r = ahead c.in-Some.left in
       let read : at span_to (read_simple true) us ≡ Some (stmt_of c.in-Some.first_stmt, r) = search rules in
       let boxed : expr_of c.in_ok-test.test.value ≡ expr_of c.in-Some-evaluated.test = search rules in
       passed_on _ c.arm_body.result _ _
-      (arm_evaluated (lexemes c.args.tokens.now) us r (stmt_of c.in-Some.first_stmt) (expr_of c.in-Some-evaluated.test) c.first-2.result c.first-3.result
+      (arm_evaluated (ahead c.args.tokens) us r (stmt_of c.in-Some.first_stmt) (expr_of c.in-Some-evaluated.test) c.first-2.result c.first-3.result
       c.in-If.ensures.is c.rest-left.ensures.is c.first-2.ensures.is c.in_default-first.not-Semicolon read c.first-3.ensures.is c.in_default-first-2.not-Semicolon c.in-Some-evaluated.ensures
-      ∙ ap (λ (e : Expr Span). arm_body_at (lexemes c.args.tokens.now) no_stmt e r) (sym boxed))
+      ∙ ap (λ (e : Expr Span). arm_body_at (ahead c.args.tokens) no_stmt e r) (sym boxed))
       c.arm_body.ensures.gives;
   shorter =
-      let fewer : length c.in-Some.left.now ≤ length c.args.tokens.now = search rules in
-      shorter_on _ c.arm_body.result c.args.tokens.now c.in-Some.left.now fewer c.arm_body.ensures.shorter;
+      let fewer : length (ahead c.in-Some.left) ≤ length (ahead c.args.tokens) = search rules in
+      shorter_on c.arm_body.result c.args.tokens c.in-Some.left fewer c.arm_body.ensures.shorter;
 }

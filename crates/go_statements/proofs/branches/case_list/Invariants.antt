@@ -1,6 +1,6 @@
 use Rattle.std.proofs.Common.{◌≡◌, ◌≤◌, length, map}
 use Rattle.go_tree.specs.View.{case_of}
-use Rattle.go_words.specs.Terminals.{lexemes}
+use Rattle.go_productions.specs.Cursors.{ahead}
 use Rattle.go_read.specs.SpellsSpans.{span_to}
 use Rattle.go_read.specs.Goals.{read_cases}
 use Rattle.go_read.specs.Reading.{at}
@@ -10,7 +10,7 @@ use Rattle.go_statements.proofs.branches.case_list.Given as goal
 
 abbrev pub invariant-loop-left : goal.invariant-loop-left
 invariant-loop-left g l =
-    (in_front case_and (map case_of l.items.items) (at span_to read_cases (lexemes l.left)) ≡ at span_to read_cases (lexemes l.fn.tokens)) × (length l.left ≤ length l.fn.tokens)
+    (in_front case_and (map case_of l.items.items) (at span_to read_cases (ahead l.left)) ≡ at span_to read_cases (ahead l.fn.tokens)) × (length (ahead l.left) ≤ length (ahead l.fn.tokens))
 
 abbrev pub decreases-loop-left : goal.decreases-loop-left
-decreases-loop-left g l = length l.left
+decreases-loop-left g l = length (ahead l.left)

@@ -1,6 +1,6 @@
 use Rattle.std.proofs.Common.{◌≡◌, true, Some, rules}
 use Rattle.go_tree.specs.View.{boxed_stmt_option_of, expr_of}
-use Rattle.go_words.specs.Terminals.{lexemes}
+use Rattle.go_productions.specs.Cursors.{ahead}
 use Rattle.go_read.specs.SpellsSpans.{span_to}
 use Rattle.go_read.specs.Goals.{read_operand}
 use Rattle.go_read.specs.Reading.{at}
@@ -10,10 +10,10 @@ use Rattle.go_statements.proofs.branches.switch_tag.Goals as goal
 pub returns-in_default-first : goal.returns-in_default-first
 returns-in_default-first g c = record {
   gives =
-      let ts = lexemes c.args.tokens.now in
-      let r = lexemes c.in-Some.left.now in
+      let ts = ahead c.args.tokens in
+      let r = ahead c.in-Some.left in
       let read : at span_to (read_operand true) ts ≡ Some (expr_of c.in-Some.tag, r) = search rules in
-      tag_open (lexemes c.args.whole.now) ts r (boxed_stmt_option_of c.args.first_stmt) (expr_of c.in-Some.tag) c.first.result c.first-2.result
+      tag_open (ahead c.args.whole) ts r (boxed_stmt_option_of c.args.first_stmt) (expr_of c.in-Some.tag) c.first.result c.first-2.result
       c.first.ensures.is c.in_default.not-Brace read c.first-2.ensures.is c.in_default-first.not-Brace;
   shorter = tt;
 }

@@ -1,6 +1,6 @@
 use Rattle.std.proofs.Common.{◌≡◌, ◌≤◌, length, map}
 use Rattle.go_tree.specs.View.{var_spec_of}
-use Rattle.go_words.specs.Terminals.{lexemes}
+use Rattle.go_productions.specs.Cursors.{ahead}
 use Rattle.go_read.specs.SpellsSpans.{span_to}
 use Rattle.go_read.specs.Goals.{read_specs}
 use Rattle.go_read.specs.Reading.{at}
@@ -10,7 +10,7 @@ use Rattle.go_statements.proofs.decls.spec_list.Given as goal
 
 abbrev pub invariant-loop-items : goal.invariant-loop-items
 invariant-loop-items g l =
-    (in_front spec_and (map var_spec_of l.items.items) (at span_to (read_specs l.constant) (lexemes l.left)) ≡ at span_to (read_specs l.fn.constant) (lexemes l.fn.tokens)) × (length l.left ≤ length l.fn.tokens)
+    (in_front spec_and (map var_spec_of l.items.items) (at span_to (read_specs l.constant) (ahead l.left)) ≡ at span_to (read_specs l.fn.constant) (ahead l.fn.tokens)) × (length (ahead l.left) ≤ length (ahead l.fn.tokens))
 
 abbrev pub decreases-loop-items : goal.decreases-loop-items
-decreases-loop-items g l = length l.left
+decreases-loop-items g l = length (ahead l.left)

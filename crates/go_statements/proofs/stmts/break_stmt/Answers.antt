@@ -1,7 +1,7 @@
 use Rattle.std.proofs.Common.{Some, None, refl, sym, ap, ◌∙◌, arith}
 use Rattle.go_tree.specs.declared.spans.Span.{Span}
 use Rattle.go_tree.specs.Tree.{break_}
-use Rattle.go_words.specs.Terminals.{lexemes}
+use Rattle.go_productions.specs.Cursors.{ahead}
 use Rattle.go_expressions.proofs.Passing.{begun}
 use Rattle.go_statements.proofs.StmtArms.{break_alone}
 use Rattle.go_statements.proofs.stmts.break_stmt.Goals as goal
@@ -9,8 +9,8 @@ use Rattle.go_statements.proofs.stmts.break_stmt.Goals as goal
 pub returns-in_default : goal.returns-in_default
 returns-in_default c = record {
   gives =
-      let us = lexemes c.rest-after.result.now in
-      break_alone (lexemes c.args.tokens.now) us c.first.result c.requires.begins c.rest-after.ensures.is c.first.ensures.is c.in_default.not-Ident
-      ∙ ap (λ (s : Span). Some (break_ s None, us)) (sym c.span_between-span.ensures);
-  shorter = let one = c.rest-after.ensures.shorter (begun c.args.tokens.now _ c.requires.begins refl) in omega arith;
+      let us = ahead c.rest-after.result in
+      break_alone (ahead c.args.tokens) us c.first.result c.requires.begins c.rest-after.ensures.is c.first.ensures.is c.in_default.not-Ident
+      ∙ ap (λ (s : Span). Some (break_ s None, us)) (sym c.span_to-span.ensures);
+  shorter = let one = c.rest-after.ensures.shorter (begun (ahead c.args.tokens) _ c.requires.begins refl) in omega arith;
 }
