@@ -1,0 +1,1 @@
+-- Programs whose files are read from their texts.

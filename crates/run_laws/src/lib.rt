@@ -1,0 +1,2 @@
+//! Laws of runs whose programs are read from their texts.
+#![tactic(auto)]
