@@ -4,3 +4,7 @@ pub mod SpelledSpans
 pub mod SeenSpans
 pub mod ImportsStand
 pub mod FilesStand
+pub mod FoundSpans
+pub mod StepsApart
+pub mod Reread
+pub mod RunsRead

@@ -1,0 +1,42 @@
+-- Laws of runs whose programs are read from their texts (Go specification, Source file organization;
+-- golang.org/x/tools, internal/refactor/inline).
+use Rattle.std.specs.Prelude.{◌≡◌, ℕ, List, [], ◌∷◌, length}
+use Rattle.go_tree.specs.declared.spans.Span.{Span}
+use Rattle.text_edits.specs.Applied.{Ascend}
+use Rattle.pkg_graph.specs.Package.{Package}
+use Rattle.run_rules.specs.Laws.{file_found}
+use Rattle.run_rules.specs.Sites.{MarkRef}
+use Rattle.run_rules.specs.Texts.{FileText}
+use Rattle.run_rules.specs.Run.{Standing, Logged, Next, Run, ends, goes_on}
+use Rattle.run_rules.specs.Inlining.{ReadsAs, PackagesRead, standing_as_read}
+use Rattle.run_laws.specs.Reading.{ProgramReads, OnePathEach}
+
+-- The edits of a step stand apart, in their order, and lie in the text, where the file of the use reads from its text.
+abbrev pub StepEditsStandApart : Type 0
+StepEditsStandApart =
+    (marks : List MarkRef) (st : Standing) (l : Logged) (after : Standing) (n : Next marks st l after)
+    → ReadsAs n.old (file_found n.found) → Ascend 0 (length n.old.text) l.edits
+
+-- Packages that are read are a program whose files read from their texts.
+abbrev pub ReadPackagesRead : Type 0
+ReadPackagesRead =
+    (ps : List (Package Span)) (texts : List (List ℕ × FileText)) → PackagesRead texts ps
+    → ProgramReads (standing_as_read ps texts)
+
+-- A step leaves a program whose files read from their texts, and each path names one file as before.
+abbrev pub StepsKeepReading : Type 0
+StepsKeepReading =
+    (marks : List MarkRef) (st : Standing) (l : Logged) (after : Standing) → Next marks st l after → ProgramReads st
+    → OnePathEach st.packages → ProgramReads after × OnePathEach after.packages
+
+-- the edits of each step of a run stand apart, in their order, and lie in the text as it stands there
+abbrev pub AllApart : {marks : List MarkRef} {st last : Standing} {log : List Logged} → Run marks st log last → Type 0
+AllApart (ends st over) = Unit {0}
+AllApart (goes_on st next last l log n run) = Ascend 0 (length n.old.text) l.edits × AllApart run
+
+-- So it is in every run from packages that are read, each file under its own path.
+abbrev pub RunEditsStandApart : Type 0
+RunEditsStandApart =
+    (ps : List (Package Span)) (texts : List (List ℕ × FileText)) (marks : List MarkRef) (last : Standing)
+    (log : List Logged) → PackagesRead texts ps → OnePathEach ps
+    → (run : Run marks (standing_as_read ps texts) log last) → AllApart run
