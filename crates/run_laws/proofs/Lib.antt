@@ -8,3 +8,4 @@ pub mod FoundSpans
 pub mod StepsApart
 pub mod Reread
 pub mod RunsRead
+pub mod FilesKept

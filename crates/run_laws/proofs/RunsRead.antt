@@ -22,10 +22,10 @@ use Rattle.run_laws.proofs.StepsApart.{edits_apart}
 
 -- ---- texts by their paths
 
-same_path : (a b : List ℕ) → bytes_eq a b ≡ true → a ≡ b
+pub same_path : (a b : List ℕ) → bytes_eq a b ≡ true → a ≡ b
 same_path a b e = (bytes_eq-Decides a b).0 e
 
-texts_new : (path : List ℕ) (old new : FileText) (ts : List (List ℕ × FileText)) → text_at path ts ≡ Some old → text_at path (with_text path new ts) ≡ Some new
+pub texts_new : (path : List ℕ) (old new : FileText) (ts : List (List ℕ × FileText)) → text_at path ts ≡ Some old → text_at path (with_text path new ts) ≡ Some new
 texts_new path old new [] h = absurd cc
 texts_new path old new (t ∷ ts) h = by (bytes_eq path t.0) refl h (texts_new path old new ts)
   where
@@ -34,7 +34,7 @@ texts_new path old new (t ∷ ts) h = by (bytes_eq path t.0) refl h (texts_new p
     by true e h f = rw e refl
     by false e h f = rw e (f h)
 
-texts_other : (path other : List ℕ) (new : FileText) (ts : List (List ℕ × FileText)) → path ≢ other → text_at other (with_text path new ts) ≡ text_at other ts
+pub texts_other : (path other : List ℕ) (new : FileText) (ts : List (List ℕ × FileText)) → path ≢ other → text_at other (with_text path new ts) ≡ text_at other ts
 texts_other path other new [] no_one = refl
 texts_other path other new (t ∷ ts) differ = by (bytes_eq path t.0) (bytes_eq other t.0) refl refl (texts_other path other new ts differ)
   where

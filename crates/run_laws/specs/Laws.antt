@@ -1,14 +1,16 @@
 -- Laws of runs whose programs are read from their texts (Go specification, Source file organization;
 -- golang.org/x/tools, internal/refactor/inline).
-use Rattle.std.specs.Prelude.{◌≡◌, ℕ, List, [], ◌∷◌, length}
+use Rattle.std.specs.Prelude.{◌≡◌, ℕ, List, [], ◌∷◌, length, Some, slice_get}
 use Rattle.go_tree.specs.declared.spans.Span.{Span}
 use Rattle.text_edits.specs.Applied.{Ascend}
 use Rattle.pkg_graph.specs.Package.{Package}
 use Rattle.run_rules.specs.Laws.{file_found}
+use Rattle.run_rules.specs.Marks.{text_at, marks_of, bad_of}
 use Rattle.run_rules.specs.Sites.{MarkRef}
 use Rattle.run_rules.specs.Texts.{FileText}
-use Rattle.run_rules.specs.Run.{Standing, Logged, Next, Run, ends, goes_on}
-use Rattle.run_rules.specs.Inlining.{ReadsAs, PackagesRead, standing_as_read}
+use Rattle.run_rules.specs.Run.{Standing, Logged, Next, Run, ends, goes_on, FilesKeep, bytes_of, Limits, uses_kept}
+use Rattle.run_rules.specs.Report.{report_of}
+use Rattle.run_rules.specs.Inlining.{ReadsAs, PackagesRead, standing_as_read, Reaches, IsInlining}
 use Rattle.run_laws.specs.Reading.{ProgramReads, OnePathEach}
 
 -- The edits of a step stand apart, in their order, and lie in the text, where the file of the use reads from its text.
@@ -40,3 +42,25 @@ RunEditsStandApart =
     (ps : List (Package Span)) (texts : List (List ℕ × FileText)) (marks : List MarkRef) (last : Standing)
     (log : List Logged) → PackagesRead texts ps → OnePathEach ps
     → (run : Run marks (standing_as_read ps texts) log last) → AllApart run
+
+-- Each text is that of its path.
+abbrev pub OneTextEach : List (List ℕ × FileText) → Type 0
+OneTextEach texts =
+    (i : ℕ) (t : List ℕ × FileText) → slice_get texts i ≡ Some t → text_at t.0 texts ≡ Some t.1
+
+-- Every run from packages that are read keeps each file's bytes outside the run's ranges.
+abbrev pub RunsKeepFiles : Type 0
+RunsKeepFiles =
+    (ps : List (Package Span)) (texts : List (List ℕ × FileText)) (marks : List MarkRef) (last : Standing)
+    (log : List Logged) → PackagesRead texts ps → OnePathEach ps → OneTextEach texts
+    → Run marks (standing_as_read ps texts) log last → FilesKeep log (bytes_of texts) (bytes_of last.texts)
+
+-- So a run in which no step passes a limit is all that is asked of an inlined module.
+abbrev pub RunsAreInlinings : Type 0
+RunsAreInlinings =
+    (m : Limits) (module_bytes : ℕ) (ps : List (Package Span)) (texts : List (List ℕ × FileText)) (only : List ℕ)
+    (last : Standing) (log : List Logged) → PackagesRead texts ps → OnePathEach ps → OneTextEach texts
+    → Run (marks_of ps texts only) (standing_as_read ps texts) log last
+    → Reaches (marks_of ps texts only) m module_bytes [] (standing_as_read ps texts) log last
+    → IsInlining m module_bytes ps texts only last.texts
+    (report_of texts log (uses_kept (marks_of ps texts only) last) (bad_of ps texts ps))

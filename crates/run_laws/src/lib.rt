@@ -1,2 +1,6 @@
-//! Laws of runs whose programs are read from their texts.
+//! Laws of runs whose programs are read from their texts: definitions and laws alone, without code.
 #![tactic(auto)]
+
+mod laws;
+
+pub use laws::{edits_of_steps_stand_apart, read_programs_stay_read, runs_keep_files};
