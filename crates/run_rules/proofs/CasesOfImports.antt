@@ -5,7 +5,7 @@ use Rattle.go_tree.specs.declared.exprs.Rest.TheVariants.{Plain}
 use Rattle.go_tree.specs.declared.spans.Span.{Span}
 use Rattle.go_tree.specs.declared.tokens.TokenKind.TheVariants.{Ident, Keyword, Operator, Integer, Str, Inserted}
 use Rattle.go_tree.specs.declared.operators.BinOp.TheVariants.{Div, Add}
-use Rattle.go_tree.specs.Tree.{named, struct_type, no_fields, field, ident, int_lit, composite, selector, call, binary, no_exprs, expr_and, no_elems, elem, plain, some_value, const_decl, var_decl, eval, define, return_, no_stmts, stmt_and, no_specs, spec}
+use Rattle.go_tree.specs.Tree.{named, map_type, struct_type, no_fields, field, ident, int_lit, composite, selector, call, binary, no_exprs, expr_and, no_elems, elem, plain, braced, no_value, some_value, const_decl, var_decl, eval, define, return_, no_stmts, stmt_and, no_specs, spec}
 use Rattle.go_tree.specs.File.{File, values, types}
 use Rattle.run_rules.specs.FormTrees.{ConstForm, TypeForm, ExprForm}
 use Rattle.run_rules.specs.Obstacles.{NotAccessible}
@@ -230,3 +230,32 @@ top_level_uses_3_ends = refl
 top_level_uses_3_kept : kept_uses top_level_uses_3 ≡ []
 unfolding passes keyword_spellings digits
 top_level_uses_3_kept = refl
+
+-- A map key in braces sets a field that is not exported.
+abbrev hidden_in_key_f0 : File Span
+hidden_in_key_f0 = record { package_name = (nm 8 12 (codes "main")); imports = ((imps (at 14 40) false ((imp (at 21 40) None (codes "example.com/m/old")) ∷ [])) ∷ []); decls = ((fn (at 42 83) None (nm 47 51 (codes "main")) (sig [] []) (at 54 83) (stmt_and (eval (at 57 81) (call (at 57 81) (ident (at 57 64) (codes "println")) (expr_and (call (at 65 80) (ident (at 65 68) (codes "len")) (expr_and (call (at 69 79) (selector (at 69 77) (ident (at 69 72) (codes "old")) (nm 73 77 (codes "Made"))) no_exprs Plain) no_exprs) Plain) no_exprs) Plain)) no_stmts)) ∷ []) }
+
+abbrev hidden_in_key_f1 : File Span
+hidden_in_key_f1 = record { package_name = (nm 8 11 (codes "old")); imports = []; decls = ((types (at 13 35) false ((tspec (at 18 35) (nm 18 19 (codes "K")) false (struct_type (at 20 35) (field (at 28 33) (nm 28 29 (codes "n")) (named (at 30 33) None (nm 30 33 (codes "int"))) no_fields))) ∷ [])) ∷ (fn (at 53 103) None (nm 58 62 (codes "Made")) (sig [] ((param (at 65 74) None (map_type (at 65 74) (named (at 69 70) None (nm 69 70 (codes "K"))) (named (at 71 74) None (nm 71 74 (codes "int"))))) ∷ [])) (at 75 103) (stmt_and (return_ (at 77 101) (expr_and (composite (at 84 101) (map_type (at 84 93) (named (at 88 89) None (nm 88 89 (codes "K"))) (named (at 90 93) None (nm 90 93 (codes "int")))) (elem (at 94 100) (some_value (braced (at 94 97) (elem (at 95 96) no_value (plain (int_lit (at 95 96) (codes "1"))) no_elems))) (plain (int_lit (at 99 100) (codes "2"))) no_elems)) no_exprs)) no_stmts)) ∷ []) }
+
+hidden_in_key_f0_read : read_at span_to read_front (lexemes ((tok Keyword 0 7 (codes "package")) ∷ (tok Ident 8 12 (codes "main")) ∷ (tok Inserted 12 12 (codes ";")) ∷ (tok Keyword 14 20 (codes "import")) ∷ (tok Str 21 40 (codes "\"example.com/m/old\"")) ∷ (tok Inserted 40 40 (codes ";")) ∷ (tok Keyword 42 46 (codes "func")) ∷ (tok Ident 47 51 (codes "main")) ∷ (tok Operator 51 52 (codes "(")) ∷ (tok Operator 52 53 (codes ")")) ∷ (tok Operator 54 55 (codes "{")) ∷ (tok Ident 57 64 (codes "println")) ∷ (tok Operator 64 65 (codes "(")) ∷ (tok Ident 65 68 (codes "len")) ∷ (tok Operator 68 69 (codes "(")) ∷ (tok Ident 69 72 (codes "old")) ∷ (tok Operator 72 73 (codes ".")) ∷ (tok Ident 73 77 (codes "Made")) ∷ (tok Operator 77 78 (codes "(")) ∷ (tok Operator 78 79 (codes ")")) ∷ (tok Operator 79 80 (codes ")")) ∷ (tok Operator 80 81 (codes ")")) ∷ (tok Inserted 81 81 (codes ";")) ∷ (tok Operator 82 83 (codes "}")) ∷ (tok Inserted 83 83 (codes ";")) ∷ [])) ≡ Some (hidden_in_key_f0, [])
+unfolding reading
+hidden_in_key_f0_read = refl
+
+hidden_in_key_f1_read : read_at span_to read_front (lexemes ((tok Keyword 0 7 (codes "package")) ∷ (tok Ident 8 11 (codes "old")) ∷ (tok Inserted 11 11 (codes ";")) ∷ (tok Keyword 13 17 (codes "type")) ∷ (tok Ident 18 19 (codes "K")) ∷ (tok Keyword 20 26 (codes "struct")) ∷ (tok Operator 26 27 (codes "{")) ∷ (tok Ident 28 29 (codes "n")) ∷ (tok Ident 30 33 (codes "int")) ∷ (tok Operator 34 35 (codes "}")) ∷ (tok Inserted 35 35 (codes ";")) ∷ (tok Keyword 53 57 (codes "func")) ∷ (tok Ident 58 62 (codes "Made")) ∷ (tok Operator 62 63 (codes "(")) ∷ (tok Operator 63 64 (codes ")")) ∷ (tok Keyword 65 68 (codes "map")) ∷ (tok Operator 68 69 (codes "[")) ∷ (tok Ident 69 70 (codes "K")) ∷ (tok Operator 70 71 (codes "]")) ∷ (tok Ident 71 74 (codes "int")) ∷ (tok Operator 75 76 (codes "{")) ∷ (tok Keyword 77 83 (codes "return")) ∷ (tok Keyword 84 87 (codes "map")) ∷ (tok Operator 87 88 (codes "[")) ∷ (tok Ident 88 89 (codes "K")) ∷ (tok Operator 89 90 (codes "]")) ∷ (tok Ident 90 93 (codes "int")) ∷ (tok Operator 93 94 (codes "{")) ∷ (tok Operator 94 95 (codes "{")) ∷ (tok Integer 95 96 (codes "1")) ∷ (tok Operator 96 97 (codes "}")) ∷ (tok Operator 97 98 (codes ":")) ∷ (tok Integer 99 100 (codes "2")) ∷ (tok Operator 100 101 (codes "}")) ∷ (tok Operator 102 103 (codes "}")) ∷ (tok Inserted 103 103 (codes ";")) ∷ [])) ≡ Some (hidden_in_key_f1, [])
+unfolding reading
+hidden_in_key_f1_read = refl
+
+abbrev hidden_in_key : Module
+hidden_in_key = record { packages = (pack (codes "example.com/m") (codes "main") (source (codes "main.go") hidden_in_key_f0 ∷ []) ∷ pack (codes "example.com/m/old") (codes "old") (source (codes "old/old.go") hidden_in_key_f1 ∷ []) ∷ []); marks = (mark 1 0 1 0 ∷ []); texts = (((codes "main.go"), record { text = (codes "package main\n\nimport \"example.com/m/old\"\n\nfunc main() {\n\tprintln(len(old.Made()))\n}\n"); tokens = ((tok Keyword 0 7 (codes "package")) ∷ (tok Ident 8 12 (codes "main")) ∷ (tok Inserted 12 12 (codes ";")) ∷ (tok Keyword 14 20 (codes "import")) ∷ (tok Str 21 40 (codes "\"example.com/m/old\"")) ∷ (tok Inserted 40 40 (codes ";")) ∷ (tok Keyword 42 46 (codes "func")) ∷ (tok Ident 47 51 (codes "main")) ∷ (tok Operator 51 52 (codes "(")) ∷ (tok Operator 52 53 (codes ")")) ∷ (tok Operator 54 55 (codes "{")) ∷ (tok Ident 57 64 (codes "println")) ∷ (tok Operator 64 65 (codes "(")) ∷ (tok Ident 65 68 (codes "len")) ∷ (tok Operator 68 69 (codes "(")) ∷ (tok Ident 69 72 (codes "old")) ∷ (tok Operator 72 73 (codes ".")) ∷ (tok Ident 73 77 (codes "Made")) ∷ (tok Operator 77 78 (codes "(")) ∷ (tok Operator 78 79 (codes ")")) ∷ (tok Operator 79 80 (codes ")")) ∷ (tok Operator 80 81 (codes ")")) ∷ (tok Inserted 81 81 (codes ";")) ∷ (tok Operator 82 83 (codes "}")) ∷ (tok Inserted 83 83 (codes ";")) ∷ []); comments = [] }) ∷ ((codes "old/old.go"), record { text = (codes "package old\n\ntype K struct{ n int }\n\n//go:fix inline\nfunc Made() map[K]int { return map[K]int{{1}: 2} }\n"); tokens = ((tok Keyword 0 7 (codes "package")) ∷ (tok Ident 8 11 (codes "old")) ∷ (tok Inserted 11 11 (codes ";")) ∷ (tok Keyword 13 17 (codes "type")) ∷ (tok Ident 18 19 (codes "K")) ∷ (tok Keyword 20 26 (codes "struct")) ∷ (tok Operator 26 27 (codes "{")) ∷ (tok Ident 28 29 (codes "n")) ∷ (tok Ident 30 33 (codes "int")) ∷ (tok Operator 34 35 (codes "}")) ∷ (tok Inserted 35 35 (codes ";")) ∷ (tok Keyword 53 57 (codes "func")) ∷ (tok Ident 58 62 (codes "Made")) ∷ (tok Operator 62 63 (codes "(")) ∷ (tok Operator 63 64 (codes ")")) ∷ (tok Keyword 65 68 (codes "map")) ∷ (tok Operator 68 69 (codes "[")) ∷ (tok Ident 69 70 (codes "K")) ∷ (tok Operator 70 71 (codes "]")) ∷ (tok Ident 71 74 (codes "int")) ∷ (tok Operator 75 76 (codes "{")) ∷ (tok Keyword 77 83 (codes "return")) ∷ (tok Keyword 84 87 (codes "map")) ∷ (tok Operator 87 88 (codes "[")) ∷ (tok Ident 88 89 (codes "K")) ∷ (tok Operator 89 90 (codes "]")) ∷ (tok Ident 90 93 (codes "int")) ∷ (tok Operator 93 94 (codes "{")) ∷ (tok Operator 94 95 (codes "{")) ∷ (tok Integer 95 96 (codes "1")) ∷ (tok Operator 96 97 (codes "}")) ∷ (tok Operator 97 98 (codes ":")) ∷ (tok Integer 99 100 (codes "2")) ∷ (tok Operator 100 101 (codes "}")) ∷ (tok Operator 102 103 (codes "}")) ∷ (tok Inserted 103 103 (codes ";")) ∷ []); comments = ((note 37 52) ∷ []) }) ∷ []) }
+
+hidden_in_key_typed : is_typed hidden_in_key ≡ true
+hidden_in_key_typed = refl
+
+hidden_in_key_ends : step_of hidden_in_key ≡ None
+unfolding passes keyword_spellings
+hidden_in_key_ends = refl
+
+hidden_in_key_kept : kept_uses hidden_in_key ≡ (((codes "main.go"), 69, Some (NotAccessible (codes "n"))) ∷ [])
+unfolding passes keyword_spellings
+hidden_in_key_kept = refl

@@ -13,7 +13,7 @@ use Rattle.go_types.specs.Types.{GoType, GoFields, no_go_fields, go_field, field
 use Rattle.go_types.specs.Defined.{under}
 use Rattle.go_types.specs.Entities.{Env, is_exported, defined_in}
 use Rattle.go_types.specs.TypeNames.{type_meant}
-use Rattle.go_types.specs.Literals.{inner_type, literal_type, field_key}
+use Rattle.go_types.specs.Literals.{key_type, inner_type, literal_type, field_key}
 use Rattle.run_rules.specs.Surroundings.{Place, Seen, seen, seen_type, seen_stmt}
 use Rattle.run_rules.specs.Sites.{Where, same_target, mark_of, outer_meaning, qualifier}
 use Rattle.run_rules.specs.Naming.{package_path}
@@ -89,7 +89,13 @@ module _ {S : Type 0} (ps : List (Package S)) (home there : Where S) (at : Place
     hidden_in_elems env u no_elems = None
     hidden_in_elems env u (elem _ k v es) =
         one_of (given (given u fields_of) (λ fs. hidden_key fs k))
-        (one_of (hidden_in_value env (given u (inner_type (defined_in env))) v) (hidden_in_elems env u es))
+        (one_of (hidden_in_key env (given u (key_type (defined_in env))) k)
+        (one_of (hidden_in_value env (given u (inner_type (defined_in env))) v) (hidden_in_elems env u es)))
+
+    -- the first field that a key in braces sets
+    pub hidden_in_key : Env → Option GoType → ValueOption S → Option (List ℕ)
+    hidden_in_key env t no_value = None
+    hidden_in_key env t (some_value k) = hidden_in_value env t k
 
     -- the first field that inner braces set
     pub hidden_in_value : Env → Option GoType → Value S → Option (List ℕ)
