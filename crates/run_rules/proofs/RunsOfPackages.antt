@@ -6,8 +6,8 @@ use Rattle.go_tree.specs.declared.spans.Span.{Span}
 use Rattle.go_tree.specs.declared.tokens.TokenKind.TheVariants.{Ident, Keyword, Operator, Integer, Str, Inserted}
 use Rattle.go_tree.specs.declared.operators.BinOp.TheVariants.{Mul}
 use Rattle.go_tree.specs.Tree.{named, ident, int_lit, str_lit, selector, call, binary, no_exprs, expr_and, eval, define, return_, no_stmts, stmt_and}
-use Rattle.go_tree.specs.File.{File}
-use Rattle.run_rules.proofs.CaseTools.{at, nm, tok, note, param, sig, imp, imps, fn, pack, source, mark, Module}
+use Rattle.go_tree.specs.File.{File, types}
+use Rattle.run_rules.proofs.CaseTools.{at, nm, tok, note, param, sig, imp, imps, tspec, fn, pack, source, mark, Module}
 use Rattle.go_read.specs.SpellsSpans.{span_to}
 use Rattle.go_words.specs.Terminals.{lexemes}
 use Rattle.go_words.specs.Tokens.Pieces.{keyword_spellings}
@@ -270,3 +270,51 @@ hidden_helper_t1_found = tokens_by hidden_helper_t1.text hidden_helper_t1.tokens
 
 hidden_helper_run : IsInlining the_limits 29 hidden_helper.packages hidden_helper.texts [] (((codes "main.go"), hidden_helper_t0) ∷ ((codes "old/old.go"), hidden_helper_t1) ∷ []) (codes "main.go:6:10: kept example.com/m/old.Do: not accessible: helper\n")
 hidden_helper_run = hidden_helper_inlined hidden_helper_t0_found hidden_helper_t1_found
+
+-- A type that two parameters share is one use.
+
+abbrev shared_type_f0 : File Span
+shared_type_f0 = record { package_name = (nm 8 12 (codes "main")); imports = ((imps (at 14 40) false ((imp (at 21 40) None (codes "example.com/m/old")) ∷ [])) ∷ []); decls = ((fn (at 42 92) None (nm 47 51 (codes "show")) (sig ((param (at 52 62) (Some (nm 52 53 (codes "a"))) (named (at 57 62) (Some (nm 57 60 (codes "old"))) (nm 61 62 (codes "A")))) ∷ (param (at 55 62) (Some (nm 55 56 (codes "b"))) (named (at 57 62) (Some (nm 57 60 (codes "old"))) (nm 61 62 (codes "A")))) ∷ []) []) (at 64 92) (stmt_and (eval (at 67 90) (call (at 67 90) (ident (at 67 74) (codes "println")) (expr_and (call (at 75 81) (ident (at 75 78) (codes "int")) (expr_and (ident (at 79 80) (codes "a")) no_exprs) Plain) (expr_and (call (at 83 89) (ident (at 83 86) (codes "int")) (expr_and (ident (at 87 88) (codes "b")) no_exprs) Plain) no_exprs)) Plain)) no_stmts)) ∷ (fn (at 94 121) None (nm 99 103 (codes "main")) (sig [] []) (at 106 121) (stmt_and (eval (at 109 119) (call (at 109 119) (ident (at 109 113) (codes "show")) (expr_and (int_lit (at 114 115) (codes "1")) (expr_and (int_lit (at 117 118) (codes "2")) no_exprs)) Plain)) no_stmts)) ∷ []) }
+
+abbrev shared_type_f1 : File Span
+shared_type_f1 = record { package_name = (nm 8 11 (codes "old")); imports = []; decls = ((types (at 13 28) false ((tspec (at 18 28) (nm 18 24 (codes "hidden")) false (named (at 25 28) None (nm 25 28 (codes "int")))) ∷ [])) ∷ (types (at 46 61) false ((tspec (at 51 61) (nm 51 52 (codes "A")) true (named (at 55 61) None (nm 55 61 (codes "hidden")))) ∷ [])) ∷ []) }
+
+abbrev shared_type : Module
+shared_type = record { packages = (pack (codes "example.com/m") (codes "main") (source (codes "main.go") shared_type_f0 ∷ []) ∷ pack (codes "example.com/m/old") (codes "old") (source (codes "old/old.go") shared_type_f1 ∷ []) ∷ []); marks = (mark 1 0 1 0 ∷ []); texts = (((codes "main.go"), record { text = (codes "package main\n\nimport \"example.com/m/old\"\n\nfunc show(a, b old.A) {\n\tprintln(int(a), int(b))\n}\n\nfunc main() {\n\tshow(1, 2)\n}\n"); tokens = ((tok Keyword 0 7 (codes "package")) ∷ (tok Ident 8 12 (codes "main")) ∷ (tok Inserted 12 12 (codes ";")) ∷ (tok Keyword 14 20 (codes "import")) ∷ (tok Str 21 40 (codes "\"example.com/m/old\"")) ∷ (tok Inserted 40 40 (codes ";")) ∷ (tok Keyword 42 46 (codes "func")) ∷ (tok Ident 47 51 (codes "show")) ∷ (tok Operator 51 52 (codes "(")) ∷ (tok Ident 52 53 (codes "a")) ∷ (tok Operator 53 54 (codes ",")) ∷ (tok Ident 55 56 (codes "b")) ∷ (tok Ident 57 60 (codes "old")) ∷ (tok Operator 60 61 (codes ".")) ∷ (tok Ident 61 62 (codes "A")) ∷ (tok Operator 62 63 (codes ")")) ∷ (tok Operator 64 65 (codes "{")) ∷ (tok Ident 67 74 (codes "println")) ∷ (tok Operator 74 75 (codes "(")) ∷ (tok Ident 75 78 (codes "int")) ∷ (tok Operator 78 79 (codes "(")) ∷ (tok Ident 79 80 (codes "a")) ∷ (tok Operator 80 81 (codes ")")) ∷ (tok Operator 81 82 (codes ",")) ∷ (tok Ident 83 86 (codes "int")) ∷ (tok Operator 86 87 (codes "(")) ∷ (tok Ident 87 88 (codes "b")) ∷ (tok Operator 88 89 (codes ")")) ∷ (tok Operator 89 90 (codes ")")) ∷ (tok Inserted 90 90 (codes ";")) ∷ (tok Operator 91 92 (codes "}")) ∷ (tok Inserted 92 92 (codes ";")) ∷ (tok Keyword 94 98 (codes "func")) ∷ (tok Ident 99 103 (codes "main")) ∷ (tok Operator 103 104 (codes "(")) ∷ (tok Operator 104 105 (codes ")")) ∷ (tok Operator 106 107 (codes "{")) ∷ (tok Ident 109 113 (codes "show")) ∷ (tok Operator 113 114 (codes "(")) ∷ (tok Integer 114 115 (codes "1")) ∷ (tok Operator 115 116 (codes ",")) ∷ (tok Integer 117 118 (codes "2")) ∷ (tok Operator 118 119 (codes ")")) ∷ (tok Inserted 119 119 (codes ";")) ∷ (tok Operator 120 121 (codes "}")) ∷ (tok Inserted 121 121 (codes ";")) ∷ []); comments = [] }) ∷ ((codes "old/old.go"), record { text = (codes "package old\n\ntype hidden int\n\n//go:fix inline\ntype A = hidden\n"); tokens = ((tok Keyword 0 7 (codes "package")) ∷ (tok Ident 8 11 (codes "old")) ∷ (tok Inserted 11 11 (codes ";")) ∷ (tok Keyword 13 17 (codes "type")) ∷ (tok Ident 18 24 (codes "hidden")) ∷ (tok Ident 25 28 (codes "int")) ∷ (tok Inserted 28 28 (codes ";")) ∷ (tok Keyword 46 50 (codes "type")) ∷ (tok Ident 51 52 (codes "A")) ∷ (tok Operator 53 54 (codes "=")) ∷ (tok Ident 55 61 (codes "hidden")) ∷ (tok Inserted 61 61 (codes ";")) ∷ []); comments = ((note 30 45) ∷ []) }) ∷ []) }
+
+abbrev shared_type_t0 : FileText
+shared_type_t0 = (record { text = (codes "package main\n\nimport \"example.com/m/old\"\n\nfunc show(a, b old.A) {\n\tprintln(int(a), int(b))\n}\n\nfunc main() {\n\tshow(1, 2)\n}\n"); tokens = ((tok Keyword 0 7 (codes "package")) ∷ (tok Ident 8 12 (codes "main")) ∷ (tok Inserted 12 12 (codes ";")) ∷ (tok Keyword 14 20 (codes "import")) ∷ (tok Str 21 40 (codes "\"example.com/m/old\"")) ∷ (tok Inserted 40 40 (codes ";")) ∷ (tok Keyword 42 46 (codes "func")) ∷ (tok Ident 47 51 (codes "show")) ∷ (tok Operator 51 52 (codes "(")) ∷ (tok Ident 52 53 (codes "a")) ∷ (tok Operator 53 54 (codes ",")) ∷ (tok Ident 55 56 (codes "b")) ∷ (tok Ident 57 60 (codes "old")) ∷ (tok Operator 60 61 (codes ".")) ∷ (tok Ident 61 62 (codes "A")) ∷ (tok Operator 62 63 (codes ")")) ∷ (tok Operator 64 65 (codes "{")) ∷ (tok Ident 67 74 (codes "println")) ∷ (tok Operator 74 75 (codes "(")) ∷ (tok Ident 75 78 (codes "int")) ∷ (tok Operator 78 79 (codes "(")) ∷ (tok Ident 79 80 (codes "a")) ∷ (tok Operator 80 81 (codes ")")) ∷ (tok Operator 81 82 (codes ",")) ∷ (tok Ident 83 86 (codes "int")) ∷ (tok Operator 86 87 (codes "(")) ∷ (tok Ident 87 88 (codes "b")) ∷ (tok Operator 88 89 (codes ")")) ∷ (tok Operator 89 90 (codes ")")) ∷ (tok Inserted 90 90 (codes ";")) ∷ (tok Operator 91 92 (codes "}")) ∷ (tok Inserted 92 92 (codes ";")) ∷ (tok Keyword 94 98 (codes "func")) ∷ (tok Ident 99 103 (codes "main")) ∷ (tok Operator 103 104 (codes "(")) ∷ (tok Operator 104 105 (codes ")")) ∷ (tok Operator 106 107 (codes "{")) ∷ (tok Ident 109 113 (codes "show")) ∷ (tok Operator 113 114 (codes "(")) ∷ (tok Integer 114 115 (codes "1")) ∷ (tok Operator 115 116 (codes ",")) ∷ (tok Integer 117 118 (codes "2")) ∷ (tok Operator 118 119 (codes ")")) ∷ (tok Inserted 119 119 (codes ";")) ∷ (tok Operator 120 121 (codes "}")) ∷ (tok Inserted 121 121 (codes ";")) ∷ []); comments = [] })
+
+abbrev shared_type_t1 : FileText
+shared_type_t1 = (record { text = (codes "package old\n\ntype hidden int\n\n//go:fix inline\ntype A = hidden\n"); tokens = ((tok Keyword 0 7 (codes "package")) ∷ (tok Ident 8 11 (codes "old")) ∷ (tok Inserted 11 11 (codes ";")) ∷ (tok Keyword 13 17 (codes "type")) ∷ (tok Ident 18 24 (codes "hidden")) ∷ (tok Ident 25 28 (codes "int")) ∷ (tok Inserted 28 28 (codes ";")) ∷ (tok Keyword 46 50 (codes "type")) ∷ (tok Ident 51 52 (codes "A")) ∷ (tok Operator 53 54 (codes "=")) ∷ (tok Ident 55 61 (codes "hidden")) ∷ (tok Inserted 61 61 (codes ";")) ∷ []); comments = ((note 30 45) ∷ []) })
+
+shared_type_marks : marks_of shared_type.packages shared_type.texts [] ≡ shared_type.marks
+unfolding passes keyword_spellings is_inline digits
+shared_type_marks = refl
+
+shared_type_spelled0 : read_at span_to read_front (lexemes shared_type_t0.tokens) ≡ Some (shared_type_f0, [])
+unfolding reading
+shared_type_spelled0 = refl
+
+shared_type_spelled1 : read_at span_to read_front (lexemes shared_type_t1.tokens) ≡ Some (shared_type_f1, [])
+unfolding reading
+shared_type_spelled1 = refl
+
+abbrev shared_type_start : Standing
+shared_type_start = standing_as_read shared_type.packages shared_type.texts
+
+-- the whole run, with the tokens of the texts
+shared_type_inlined : (h0 : TokensOf shared_type_t0.text shared_type_t0.tokens shared_type_t0.comments) (h1 : TokensOf shared_type_t1.text shared_type_t1.tokens shared_type_t1.comments) → IsInlining the_limits 29 shared_type.packages shared_type.texts [] (((codes "main.go"), shared_type_t0) ∷ ((codes "old/old.go"), shared_type_t1) ∷ []) (codes "main.go:5:16: kept example.com/m/old.A: not accessible: hidden\n")
+unfolding passes keyword_spellings is_inline digits reading
+shared_type_inlined h0 h1 = inlining_by the_limits 29 shared_type.packages shared_type.texts [] shared_type.marks shared_type_start ([]) (codes "main.go:5:16: kept example.com/m/old.A: not accessible: hidden\n") shared_type_marks (package_ _ _ (file _ _ shared_type_t0 refl (record { scans = h0; spells = file_spelled shared_type_t0.tokens shared_type_f0 (shared_type_spelled0) }) none) (package_ _ _ (file _ _ shared_type_t1 refl (record { scans = h1; spells = file_spelled shared_type_t1.tokens shared_type_f1 (shared_type_spelled1) }) none) none)) (ends shared_type_start refl) (begins [] shared_type_start) (kept_by ([]) (codes "main.go") shared_type_t0.text shared_type_t0.text (((codes "old/old.go"), shared_type_t1.text) ∷ []) (((codes "old/old.go"), shared_type_t1.text) ∷ []) refl refl (kept_by ([]) (codes "old/old.go") shared_type_t1.text shared_type_t1.text [] [] refl refl run.none)) refl
+
+shared_type_t0_found : TokensOf shared_type_t0.text shared_type_t0.tokens shared_type_t0.comments
+unfolding piece_of lexeme_of longest_from next_of tokens_from comments_from keyword_spellings is_letter is_digit general_category general_category_rows value_in lib.Utf8.encode
+shared_type_t0_found = tokens_by shared_type_t0.text shared_type_t0.tokens shared_type_t0.comments refl refl refl
+
+shared_type_t1_found : TokensOf shared_type_t1.text shared_type_t1.tokens shared_type_t1.comments
+unfolding piece_of lexeme_of longest_from next_of tokens_from comments_from keyword_spellings is_letter is_digit general_category general_category_rows value_in lib.Utf8.encode
+shared_type_t1_found = tokens_by shared_type_t1.text shared_type_t1.tokens shared_type_t1.comments refl refl refl
+
+shared_type_run : IsInlining the_limits 29 shared_type.packages shared_type.texts [] (((codes "main.go"), shared_type_t0) ∷ ((codes "old/old.go"), shared_type_t1) ∷ []) (codes "main.go:5:16: kept example.com/m/old.A: not accessible: hidden\n")
+shared_type_run = shared_type_inlined shared_type_t0_found shared_type_t1_found

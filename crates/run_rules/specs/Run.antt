@@ -1,6 +1,6 @@
 -- The run: programs, each the next of the one before, up to one in which no use is free; the ranges in which it changes
 -- the files, and its limits (golang.org/x/tools, analyzer inline and internal/refactor/inline).
-use Rattle.std.specs.Prelude.{◌≡◌, ℕ, suc, ◌+◌, Bool, ◌&&◌, List, [], ◌∷◌, ◌++◌, map, filter, length, Option, Some, None, if◌then◌else◌, bytes_eq, nat_lt, slice_get}
+use Rattle.std.specs.Prelude.{◌≡◌, ℕ, suc, ◌+◌, Bool, ◌&&◌, List, [], ◌∷◌, ◌++◌, map, filter, length, Option, Some, None, if◌then◌else◌, bytes_eq, nat_eq, nat_lt, slice_get}
 use Rattle.std.specs.List.{list_any}
 use Rattle.go_tree.specs.declared.spans.Span.{Span}
 use Rattle.go_tree.specs.File.{File}
@@ -155,9 +155,21 @@ module _ (marks : List MarkRef) where
   kept_among st [] = []
   kept_among st (x ∷ xs) = kept_use st x (reduced same_here (is_commented st) st.packages marks x) ++ kept_among st xs
 
+  -- two uses stand at one place: a type that several names share stands once, and is listed for each of them
+  abbrev pub same_place : Site At → Site At → Bool
+  same_place x y =
+      nat_eq x.at.number y.at.number
+      && (nat_eq x.at.file_number y.at.file_number && same_here (part_span x.part) (part_span y.part))
+
+  -- uses behind others, each place once
+  abbrev pub places_once : List (Site At) → List (Site At) → List (Site At)
+  places_once before [] = []
+  places_once before (x ∷ xs) =
+      if list_any (same_place x) before then places_once before xs else x ∷ places_once (x ∷ before) xs
+
   -- the uses that a program keeps, in the order of sites
   abbrev pub uses_kept : Standing → List KeptUse
-  uses_kept st = kept_among st (sites st.packages marks)
+  uses_kept st = kept_among st (places_once [] (sites st.packages marks))
 
 -- ---- bytes: the ranges of a run are spans of the file as read, its edits taken one after another
 
