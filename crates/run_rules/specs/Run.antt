@@ -11,7 +11,6 @@ use Rattle.text_edits.specs.Applied.{applied}
 use Rattle.text_edits.specs.Joined.{joined}
 use Rattle.text_edits.specs.Order.{spans}
 use Rattle.text_edits.specs.Keeps.{Keeps}
-use Rattle.import_edit.specs.Removed.{same_span}
 use Rattle.pkg_graph.specs.Package.{Package}
 use Rattle.go_types.specs.Answers.{given, meets}
 use Rattle.run_rules.specs.Sites.{MarkRef, Site, part_span, sites}
@@ -209,11 +208,11 @@ pub record TooLarge : Type 0 where
   pub count : ℕ
   pub bound : ℕ
 
--- two steps come from one use
+-- two steps have one origin, a file and an offset in it as read
 abbrev pub same_origin : Logged → Logged → Bool
-same_origin a b = bytes_eq a.file b.file && same_span a.origin b.origin
+same_origin a b = bytes_eq a.file b.file && nat_eq a.origin.start b.origin.start
 
--- how many steps come from the same use
+-- how many steps have the same origin
 abbrev pub steps_like : Logged → List Logged → ℕ
 steps_like l log = length (filter (same_origin l) log)
 
