@@ -1,20 +1,19 @@
 -- The edits of a run, as edits of the files as read, make its last texts.
-use Rattle.std.proofs.Common.{◌≡◌, ◌≢◌, ◌<◌, ◌≤◌, ◌+◌, ◌-◌, ℕ, zero, suc, Bool, true, false, List, [], ◌∷◌, ◌++◌, map, length, take, drop, Option, Some, None, if◌then◌else◌, refl, sym, ap, subst, ◌∙◌, arith, bytes_eq, append_assoc, length-append}
-use Rattle.std.specs.Prelude.{slice_get, slice_range}
+use Rattle.std.proofs.Common.{◌≡◌, ◌≢◌, ◌≤◌, ◌-◌, ℕ, zero, suc, Bool, true, false, List, [], ◌∷◌, ◌++◌, map, length, take, drop, Some, if◌then◌else◌, refl, sym, ap, subst, ◌∙◌, arith, bytes_eq, length-append}
+use Rattle.std.specs.Prelude.{slice_get}
 use Rattle.std.proofs.lemmas.Option.{same_Some}
-use Rattle.std.proofs.lemmas.List.{length-take-le, take-append-le, take-take, drop_at, take-append-drop}
+use Rattle.std.proofs.lemmas.List.{length-take-le, take-append-le, take-take, drop_at}
 use Rattle.std.proofs.lemmas.Slice.Eq.{bytes_eq-Decides}
 use Rattle.text_edits.specs.declared.edit.Edit.{Edit}
 use Rattle.text_edits.specs.Applied.{Ascend, replaced_from, applied}
-use Rattle.text_edits.specs.Joined.{joined}
 use Rattle.text_edits.specs.Order.{spans}
 use Rattle.text_edits.specs.Keeps.{Keeps}
 use Rattle.text_edits.proofs.Turns.{ascend_from, replaced_later}
-use Rattle.text_edits.proofs.Joins.{ascend_fits, joined_agree, joined_ascend}
+use Rattle.text_edits.proofs.Joins.{joined_agree, joined_ascend}
 use Rattle.run_rules.specs.Marks.{text_at}
 use Rattle.run_rules.specs.Sites.{MarkRef}
 use Rattle.run_rules.specs.Texts.{FileText}
-use Rattle.run_rules.specs.Run.{Standing, Logged, edits_in, with_text, joined_with, edits_of, ranges_of, FilesKeep, none, file, bytes_of, Next, Run, ends, goes_on}
+use Rattle.run_rules.specs.Run.{Standing, Logged, edits_in, with_text, joined_with, edits_of, FilesKeep, none, file, bytes_of, Run, ends, goes_on}
 use Rattle.run_rules.specs.Inlining.{standing_as_read}
 use Rattle.run_laws.specs.Laws.{AllApart, OneTextEach, RunsKeepFiles, RunsAreInlinings}
 use Rattle.run_laws.proofs.RunsRead.{same_path, texts_new, texts_other, run_edits_apart}
@@ -164,7 +163,6 @@ run_kept marks st last log (goes_on _ next _ l rest n run) apart one olds mades 
   where
     edits_are : l.edits ≡ edits_in marks st n.old n.found
     edits_are = ap (λ (x : Logged). x.edits) n.log_is
-
 
 at_first : (ts : List (List ℕ × FileText)) → Follows (bytes_of ts) (map (λ t. []) ts) ts
 at_first [] = no_texts

@@ -1,22 +1,22 @@
 -- In a text whose tokens spell a file, the imports lie as their spans say, and each part of a declaration behind them.
-use Rattle.std.proofs.Common.{◌≡◌, ◌≤◌, ◌-◌, ℕ, List, [], ◌∷◌, length, refl, sym, subst, arith}
+use Rattle.std.proofs.Common.{◌≡◌, ◌≤◌, ◌-◌, ℕ, List, [], ◌∷◌, length, sym, subst, arith}
 use Rattle.go_tree.specs.declared.spans.Span.{Span}
 use Rattle.go_tree.specs.declared.tokens.Token.{Token}
 use Rattle.go_tree.specs.declared.tokens.Comment.{Comment}
 use Rattle.go_tree.specs.File.{ImportDecl, Decl, File}
 use Rattle.go_words.specs.Tokens.{TokensOf}
-use Rattle.go_words.specs.Terminals.{Lexeme, lex, ident, semicolon, key_const, key_var, key_type, key_func, key_package, lexemes}
+use Rattle.go_words.specs.Terminals.{Lexeme, lex, ident, semicolon, key_const, key_var, key_type, key_func}
 use Rattle.go_read.specs.SpellsTypes.{Lexemes}
 use Rattle.go_read.specs.SpellsSpans.{start_of, span_to}
 use Rattle.go_read.specs.SpellsFiles.{SpellsTop, SpellsTops, SpellsFront, SpellsFile, top_const_rule, top_var_rule, top_type_rule, top_type_group_rule, top_func_rule, top_method_rule, no_tops_rule, more_tops_rule, front_rule}
 use Rattle.splice_laws.proofs.Grafts.{Within, here, later, both_within}
 use Rattle.splice_laws.proofs.Pasts.{top_past}
-use Rattle.import_edit.specs.Laid.{IsInk, IsInked, IsStart, DeclsLie, Laid}
+use Rattle.import_edit.specs.Laid.{IsInk, IsStart, DeclsLie, Laid}
 use Rattle.run_rules.specs.Laws.{ImportsEndBy, LiesBehindImports}
 use Rattle.run_laws.proofs.NodeSpans.{AllDecl}
 use Rattle.run_laws.proofs.SpelledSpans.{top_all}
 use Rattle.run_laws.proofs.TokensStand.{Stand, tokens_stand}
-use Rattle.run_laws.proofs.ImportsStand.{IsWord, Lie, all_lie, in_order, end_before, end_is, lie_lower, lie_past, ends_up, ends_within, ImportsLie, imports_lie}
+use Rattle.run_laws.proofs.ImportsStand.{IsWord, Lie, all_lie, in_order, end_is, lie_lower, lie_past, ends_up, ends_within, ImportsLie, imports_lie}
 
 -- it holds of the parts of each declaration
 abbrev pub AllDecls : (Span → Type 0) → List (Decl Span) → Type 0
@@ -96,9 +96,10 @@ module _ (text : List ℕ) (all : List Token) where
     tops_behind {ts = ts} from (more_tops_rule {c = c} {ts = us} {mid = mid} d1 d2) h name imports =
         let w : Within (lex c semicolon ∷ mid) us = past d1 in
         let a = lie_past text all from w h in
-        let up = ends_up text all from w h in
-        (top_behind (lex c semicolon) mid from d1 h name imports,
-        tops_behind c.end d2 a.4 (omega (arith, name, up, a.0, a.1)) (later_end from c.end file.imports (omega (arith, up, a.0, a.1)) imports))
+        let up = ends_up text all from w h in (
+          top_behind (lex c semicolon) mid from d1 h name imports,
+          tops_behind c.end d2 a.4 (omega (arith, name, up, a.0, a.1)) (later_end from c.end file.imports (omega (arith, up, a.0, a.1)) imports),
+        )
       where
         past : {d : Decl Span} {ts r : Lexemes} → SpellsTop span_to d ts r → Within r ts
         past {ts = ts} d = top_past span_to ts d here

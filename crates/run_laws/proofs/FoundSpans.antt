@@ -1,9 +1,8 @@
 -- Where a use stands among the packages, and that what its form replaces is a part of the declaration around it.
-use Rattle.std.proofs.Common.{◌≡◌, ◌+◌, ℕ, zero, suc, Bool, true, false, List, [], ◌∷◌, ◌++◌, Option, Some, None, if◌then◌else◌, refl, sym, ap, subst, ◌∙◌, arith}
+use Rattle.std.proofs.Common.{◌≡◌, ◌+◌, ℕ, zero, suc, Bool, true, false, List, [], ◌∷◌, ◌++◌, Option, Some, None, refl, sym, subst, arith}
 use Rattle.std.specs.Prelude.{slice_get}
 use Rattle.std.proofs.lemmas.Bool.{cond_both}
-use Rattle.std.proofs.lemmas.Option.{same_Some}
-use Rattle.go_tree.specs.Tree.{TypeExpr, named, pointer, slice_type, map_type, struct_type, Fields, no_fields, field, Expr, Stmt, eval, return_, no_exprs, expr_and}
+use Rattle.go_tree.specs.Tree.{TypeExpr, named, pointer, slice_type, map_type, struct_type, Fields, no_fields, field, eval, return_, no_exprs, expr_and}
 use Rattle.go_tree.specs.File.{Func, Decl}
 use Rattle.scope_names.specs.Scopes.{expr_span}
 use Rattle.pkg_graph.specs.Package.{SourceTree, Package}
@@ -14,7 +13,7 @@ use Rattle.run_rules.specs.Places.{expr_seen}
 use Rattle.run_rules.specs.Programs.{numbered_from, numbered, is_ready, lesser, least_ready, ordered_after, in_dependency_order, decl_seen}
 use Rattle.run_rules.specs.Sites.{MarkRef, Where, Inlinable, a_constant, an_alias, a_function, Part, an_expr, a_type_part, Site, type_span, part_span, named_in, named_in_fields, where_is, inlinable, parts_of, expr_mark, type_mark, site_by, type_sites, site_here, sites_among, decls_sites, files_sites, packages_sites, sites}
 use Rattle.run_rules.specs.Calls.{Call, chosen}
-use Rattle.run_rules.specs.Naming.{Names, Named, unnamed, names_by}
+use Rattle.run_rules.specs.Naming.{Names, unnamed, names_by}
 use Rattle.run_rules.specs.FormTrees.{FormKind, ConstForm, TypeForm, ExprForm, BlockForm, TailForm, LiteralForm, Form, is_statement}
 use Rattle.run_rules.specs.Forms.{is_at, form_tree}
 use Rattle.run_rules.specs.Obstacles.{Obstacle}

@@ -1,6 +1,6 @@
 -- The package name and the imports of a file lie in the text whose tokens spell it, as their spans say; its declarations
 -- stand behind them.
-use Rattle.std.proofs.Common.{◌≡◌, ◌⊎◌, inl, inr, ◌+◌, ◌-◌, ◌<◌, ◌≤◌, ℕ, zero, suc, Bool, true, false, not, ◌&&◌, ◌||◌, nat_eq, List, [], ◌∷◌, ◌++◌, length, take, refl, sym, ap, subst, ◌∙◌, arith, codes, bytes_eq}
+use Rattle.std.proofs.Common.{◌≡◌, inl, inr, ◌+◌, ◌-◌, ◌≤◌, ℕ, suc, Bool, true, false, not, ◌&&◌, ◌||◌, nat_eq, List, [], ◌∷◌, length, take, refl, sym, ap, subst, ◌∙◌, arith, codes, bytes_eq}
 use Rattle.std.specs.Prelude.{if◌then◌else◌}
 use Rattle.std.specs.List.{list_all}
 use Rattle.std.proofs.lemmas.Bool.Decides.{nat_tests}
@@ -9,15 +9,15 @@ use Rattle.go_tree.specs.declared.spans.Span.{Span}
 use Rattle.go_tree.specs.declared.tokens.Token.{Token}
 use Rattle.go_tree.specs.declared.tokens.TokenKind.{TokenKind}
 use Rattle.go_tree.specs.declared.tokens.TokenKind.TheVariants.{Ident, Keyword, Operator, Integer, Float, Imaginary, Rune, Str, Inserted}
-use Rattle.go_tree.specs.File.{ImportSpec, ImportDecl, File}
-use Rattle.go_words.specs.Terminals.{Terminal, Lexeme, lex, ident, str_lit, semicolon, paren, end_paren, key_import, keywords, operators, found_in, terminal_of, lexeme_of, lexemes}
+use Rattle.go_tree.specs.File.{ImportSpec, ImportDecl}
+use Rattle.go_words.specs.Terminals.{Terminal, lex, ident, str_lit, semicolon, paren, end_paren, key_import, keywords, operators, found_in, terminal_of, lexemes}
 use Rattle.go_read.specs.SpellsTypes.{Lexemes}
-use Rattle.go_read.specs.SpellsSpans.{start_of, end_after, span_to}
+use Rattle.go_read.specs.SpellsSpans.{end_after, span_to}
 use Rattle.go_read.specs.SpellsFiles.{SpellsImportSpec, SpellsImportSpecs, SpellsImport, SpellsImports, path_rule, named_path_rule, no_import_specs_rule, last_import_spec_rule, more_import_specs_rule, import_rule, import_group_rule, no_imports_rule, more_imports_rule}
 use Rattle.splice_laws.proofs.Grafts.{Within, here, later}
 use Rattle.splice_laws.proofs.Pasts.{import_specs_past}
 use Rattle.import_edit.specs.Removed.{is_semicolon}
-use Rattle.import_edit.specs.Laid.{IsInk, IsInked, StandInOrder, StartsAt, IsStart, SpecsLie, BodyLies, DeclLies, DeclsLie}
+use Rattle.import_edit.specs.Laid.{IsInked, StandInOrder, StartsAt, IsStart, SpecsLie, DeclLies, DeclsLie}
 use Rattle.run_rules.specs.Laws.{ImportsEndBy}
 use Rattle.run_laws.proofs.TokensStand.{Stand}
 
@@ -227,9 +227,14 @@ module _ (text : List ℕ) (all : List Token) where
       subst (λ (n : ℕ). ImportLies from (record { span = record { start = s.start; end = n }; grouped = true; specs = xs }) r) (sym (end_is s.start whole ∙ ends))
       (record {
         from_is = h.0;
-        lies = ((omega (arith, k.inked.0, h.4.0, h.4.1, up, back.0, size), k.inked.1, y.inked.2), (k.inked.1, k.starts),
-        (subst (λ (n : ℕ). SpecsLie text all (s.start + 1) n xs) (sym last) (specs_lie (s.start + 1) e d1 (lie_lower (s.start + 1) b.end ts (omega (arith, k.inked.0, h.4.0, h.4.1)) h.4.4)),
-        subst (λ (n : ℕ). IsStart text all n) (sym last) (y.inked.1, y.starts)));
+        lies = (
+          (omega (arith, k.inked.0, h.4.0, h.4.1, up, back.0, size), k.inked.1, y.inked.2),
+          (k.inked.1, k.starts),
+          (
+            subst (λ (n : ℕ). SpecsLie text all (s.start + 1) n xs) (sym last) (specs_lie (s.start + 1) e d1 (lie_lower (s.start + 1) b.end ts (omega (arith, k.inked.0, h.4.0, h.4.1)) h.4.4)),
+            subst (λ (n : ℕ). IsStart text all n) (sym last) (y.inked.1, y.starts),
+          ),
+        );
         rest = back.4;
       })
 

@@ -9,3 +9,4 @@ pub mod StepsApart
 pub mod Reread
 pub mod RunsRead
 pub mod FilesKept
+mod Examples

@@ -1,12 +1,12 @@
 -- A tree as read, with the places where its nodes stand, is the tree.
-use Rattle.std.proofs.Common.{◌≡◌, refl, sym, ap, ◌∙◌, List, [], ◌∷◌, map, Option, Some, None}
+use Rattle.std.proofs.Common.{◌≡◌, refl, List, [], ◌∷◌, map, Option, Some, None}
 use Rattle.std.specs.Option.{option_map}
 use Rattle.go_tree.specs.declared.spans.Span.{Span}
 use Rattle.go_tree.specs.Tree.{NameAt, TypeExpr, Fields, named, pointer, slice_type, map_type, struct_type, no_fields, field, Param, Sig, Expr, Exprs, ExprOption, Elems, Value, ValueOption, Stmt, Stmts, StmtOption, BlockOption, RangeLeft, Arms, Cases, ValueSpecs, ident, int_lit, rune_lit, str_lit, composite, selector, index, slice, call, func_lit, type_operand, unary, binary, star, no_exprs, expr_and, no_expr, some_expr, no_elems, elem, plain, braced, no_value, some_value, const_decl, var_decl, empty, eval, step, assign, define, return_, break_, continue_, inner, if_, for_, range_, switch, defer, label, no_stmts, stmt_and, no_stmt, some_stmt, no_block, some_block, nothing, assigns, defines, no_arms, arm, no_cases, case, no_specs, spec}
 use Rattle.go_tree.specs.File.{ImportSpec, ImportDecl, TypeSpec, Receiver, Func, Decl, values, types, func, File}
 use Rattle.run_rules.specs.Respanned.{name_with, type_with, fields_with, param_with, sig_with, expr_with, exprs_with, expr_option_with, elems_with, value_option_with, value_with, stmt_with, stmts_with, stmt_option_with, block_option_with, left_with, arms_with, cases_with, specs_with, import_spec_with, import_decl_with, type_spec_with, receiver_with, func_with, decl_with, file_with}
-use Rattle.run_rules.specs.Steps.{At}
-use Rattle.run_rules.specs.Run.{here_of, origin_of, as_read}
+use Rattle.run_rules.specs.Run.{here_of, as_read}
+
 names-reread : (xs : List (NameAt Span)) → map (name_with here_of) (map (name_with as_read) xs) ≡ xs
 names-reread [] = refl
 names-reread (x ∷ xs) = λ w. x ∷ names-reread xs w
@@ -168,4 +168,3 @@ decls-reread (x ∷ xs) = λ w. decl-reread x w ∷ decls-reread xs w
 
 pub file-reread : (x : File Span) → file_with here_of (file_with as_read x) ≡ x
 file-reread x = λ w. record { package_name = x.package_name; imports = import_decls-reread x.imports w; decls = decls-reread x.decls w }
-

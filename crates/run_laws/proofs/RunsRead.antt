@@ -1,5 +1,5 @@
 -- Each program of a run reads from its texts as it stands, so the edits of each step stand apart.
-use Rattle.std.proofs.Common.{◌≡◌, ◌≢◌, ◌⊎◌, inl, inr, ℕ, zero, suc, Bool, true, false, List, [], ◌∷◌, map, Option, Some, None, if◌then◌else◌, refl, sym, ap, subst, ◌∙◌, bytes_eq}
+use Rattle.std.proofs.Common.{◌≡◌, ◌≢◌, ◌⊎◌, inl, inr, ℕ, zero, suc, Bool, true, false, List, [], ◌∷◌, map, Some, if◌then◌else◌, refl, sym, ap, subst, ◌∙◌, bytes_eq}
 use Rattle.std.proofs.lemmas.Option.{same_Some}
 use Rattle.std.specs.Prelude.{slice_get}
 use Rattle.std.proofs.lemmas.Slice.Eq.{bytes_eq-Decides}
@@ -9,13 +9,13 @@ use Rattle.pkg_graph.specs.Package.{SourceTree, Package}
 use Rattle.run_rules.specs.Marks.{text_at}
 use Rattle.run_rules.specs.Sites.{MarkRef}
 use Rattle.run_rules.specs.Texts.{FileText}
-use Rattle.run_rules.specs.Respanned.{file_with, source_with, package_with, packages_with}
-use Rattle.run_rules.specs.Steps.{At, same_here, change_nth, with_file}
+use Rattle.run_rules.specs.Respanned.{source_with, package_with, packages_with}
+use Rattle.run_rules.specs.Steps.{At, same_here, change_nth}
 use Rattle.run_rules.specs.Laws.{file_found}
 use Rattle.run_rules.specs.Run.{Standing, Logged, here_of, as_read, is_commented, with_text, Next, Run, ends, goes_on}
-use Rattle.run_rules.specs.Inlining.{ReadsAs, FilesRead, PackagesRead, none, file, package_, standing_as_read}
+use Rattle.run_rules.specs.Inlining.{ReadsAs, FilesRead, PackagesRead, file, package_, standing_as_read}
 use Rattle.run_laws.specs.Reading.{FileReads, FileAt, ProgramReads, OnePathEach}
-use Rattle.run_laws.specs.Laws.{StepEditsStandApart, ReadPackagesRead, StepsKeepReading, AllApart, RunEditsStandApart}
+use Rattle.run_laws.specs.Laws.{ReadPackagesRead, StepsKeepReading, AllApart, RunEditsStandApart}
 use Rattle.run_laws.proofs.Reread.{file-reread}
 use Rattle.run_laws.proofs.FoundSpans.{Placed, FoundIn, found_in}
 use Rattle.run_laws.proofs.StepsApart.{edits_apart}
@@ -218,9 +218,10 @@ paths_as_read ps one k i l j f g a b e =
 
 all_apart : (marks : List MarkRef) (st last : Standing) (log : List Logged) → ProgramReads st → OnePathEach st.packages → (run : Run marks st log last) → AllApart run
 all_apart marks st last log reads one (ends _ over) = tt
-all_apart marks st last log reads one (goes_on _ next _ l rest n run) =
-    (edits_apart marks st l next n (found_reads marks st l next n reads one),
-    all_apart marks next last rest (next_reads marks st l next n reads one) (next_paths marks st l next n reads one) run)
+all_apart marks st last log reads one (goes_on _ next _ l rest n run) = (
+  edits_apart marks st l next n (found_reads marks st l next n reads one),
+  all_apart marks next last rest (next_reads marks st l next n reads one) (next_paths marks st l next n reads one) run,
+)
 
 pub run_edits_apart : RunEditsStandApart
 run_edits_apart ps texts marks last log r one run = all_apart marks (standing_as_read ps texts) last log (packages_read ps texts r) (paths_as_read ps one) run

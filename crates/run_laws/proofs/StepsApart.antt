@@ -3,8 +3,7 @@ use Rattle.std.proofs.Common.{◌≡◌, ℕ, zero, suc, List, [], ◌∷◌, ma
 use Rattle.std.specs.Prelude.{slice_get}
 use Rattle.std.proofs.lemmas.Option.{same_Some}
 use Rattle.go_tree.specs.declared.spans.Span.{Span}
-use Rattle.go_tree.specs.File.{Decl, File}
-use Rattle.import_edit.specs.Laid.{Laid}
+use Rattle.go_tree.specs.File.{Decl}
 use Rattle.run_rules.specs.Respanned.{decl_with}
 use Rattle.run_rules.specs.Steps.{same_here}
 use Rattle.run_rules.specs.Laws.{LiesBehindImports, file_found}

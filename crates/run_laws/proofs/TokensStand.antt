@@ -1,6 +1,6 @@
 -- Where the tokens of a text stand: in their order, within the text; each but an inserted semicolon starts and ends with
 -- a byte that isn't a blank.
-use Rattle.std.proofs.Common.{◌≡◌, ◌⊎◌, inl, inr, ◌+◌, ◌-◌, ◌/◌, ◌<◌, ◌≤◌, ℕ, zero, suc, Bool, true, false, cond, not, ◌&&◌, ◌||◌, nat_lt, ◌==◌, get_or, List, [], ◌∷◌, ◌++◌, length, Option, Some, None, refl, sym, ap, subst, ◌∙◌, arith, length-append, append_assoc, append-nil}
+use Rattle.std.proofs.Common.{◌≡◌, ◌+◌, ◌-◌, ◌/◌, ◌<◌, ◌≤◌, ℕ, zero, suc, Bool, true, false, cond, not, ◌&&◌, ◌||◌, nat_lt, ◌==◌, List, [], ◌∷◌, ◌++◌, length, Option, Some, None, refl, sym, ap, subst, ◌∙◌, arith, length-append, append_assoc, append-nil}
 use Rattle.std.specs.Prelude.{if◌then◌else◌, encode_utf8_all}
 use Rattle.std.proofs.lemmas.Bool.Decides.{nat_tests}
 use Rattle.std.proofs.lemmas.Str.{encodes-append, length-encode, len_utf8_bounds}
@@ -8,7 +8,6 @@ use lib.Utf8.{encode, next}
 use Rattle.ucd_category.specs.GeneralCategory.{general_category}
 use Rattle.ucd_category.specs.GeneralCategoryRows.{general_category_rows}
 use Rattle.ucd_table.specs.Rows.{value_in}
-use Rattle.go_tree.specs.declared.spans.Span.{Span}
 use Rattle.go_tree.specs.declared.tokens.Token.{Token}
 use Rattle.go_tree.specs.declared.tokens.Comment.{Comment}
 use Rattle.go_tree.specs.declared.tokens.TokenKind.{TokenKind}
@@ -175,7 +174,7 @@ module _ (text front : List ℕ) (at : ℕ) (at_is : length front ≡ at) (k : T
   last_ends ws c tail n n_is piece e =
       let one : encode_utf8_all (ws ++ c ∷ []) ≡ encode_utf8_all ws ++ encode c = encodes-append ws (c ∷ []) ∙ ap (λ (xs : List ℕ). encode_utf8_all ws ++ xs) (append-nil (encode c)) in
       let parts : text ≡ (front ++ encode_utf8_all ws) ++ (encode c ++ tail) =
-          e ∙ ap (λ (xs : List ℕ). front ++ (xs ++ tail)) one ∙ ap (λ (xs : List ℕ). front ++ xs) (append_assoc (encode_utf8_all ws) (encode c) tail) ∙ sym (append_assoc front (encode_utf8_all ws) (encode c ++ tail)) in
+      e ∙ ap (λ (xs : List ℕ). front ++ (xs ++ tail)) one ∙ ap (λ (xs : List ℕ). front ++ xs) (append_assoc (encode_utf8_all ws) (encode c) tail) ∙ sym (append_assoc front (encode_utf8_all ws) (encode c ++ tail)) in
       let size : size_of (ws ++ c ∷ []) ≡ length (encode_utf8_all ws) + length (encode c) = ap length one ∙ length-append (encode_utf8_all ws) (encode c) in
       let some : 1 ≤ length (encode c) = omega (arith, length-encode c, (len_utf8_bounds c).0) in
       let before : length (front ++ encode_utf8_all ws) ≡ length front + length (encode_utf8_all ws) = length-append front (encode_utf8_all ws) in
@@ -278,9 +277,13 @@ module _ (text : List ℕ) where
           newline_stands at due (size_of p.word) b _ fits in_text (ih (if b then None else due) (due_newline at due (size_of p.word) b fits))
       by_kind (token k) piece ih =
           let b = ends_line k p.word in
-          let d : Option ℕ = if b then Some (at + size_of p.word) else None in
-          (due_low at due fits, omega arith, in_text, (λ no. (word_inked text front at at_is k p.word (encode_utf8_all cut.0) piece parts, refl)),
-          from_token at (size_of p.word) b (tokens_from (at + size_of p.word) d ps) (ih d (due_token at (size_of p.word) b)))
+          let d : Option ℕ = if b then Some (at + size_of p.word) else None in (
+            due_low at due fits,
+            omega arith,
+            in_text,
+            (λ no. (word_inked text front at at_is k p.word (encode_utf8_all cut.0) piece parts, refl)),
+            from_token at (size_of p.word) b (tokens_from (at + size_of p.word) d ps) (ih d (due_token at (size_of p.word) b)),
+          )
 
 mark_stands : (text : List ℕ) (cs : List ℕ) (ps : List Piece) → encode_utf8_all cs ≡ text → CutsTo (after_mark cs) ps [] → Stand text 0 (tokens_from (mark_size cs) None ps)
 mark_stands text [] ps e cut = pieces_stand text ps [] [] 0 None refl (sym e) cut tt

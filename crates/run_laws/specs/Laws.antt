@@ -1,6 +1,6 @@
 -- Laws of runs whose programs are read from their texts (Go specification, Source file organization;
 -- golang.org/x/tools, internal/refactor/inline).
-use Rattle.std.specs.Prelude.{◌≡◌, ℕ, List, [], ◌∷◌, length, Some, slice_get}
+use Rattle.std.specs.Prelude.{◌≡◌, ℕ, List, [], length, Some, slice_get}
 use Rattle.go_tree.specs.declared.spans.Span.{Span}
 use Rattle.text_edits.specs.Applied.{Ascend}
 use Rattle.pkg_graph.specs.Package.{Package}

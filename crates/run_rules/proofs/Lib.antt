@@ -20,7 +20,7 @@ mod StepsOfPackages
 mod StepsOfLiterals
 mod StepsOfForms
 mod StepsOfOrder
-mod RunsOfConstants
+pub mod RunsOfConstants
 mod RunsOfPackages
 mod RunsOfCalls
 mod RunsOfLiterals

@@ -41,13 +41,13 @@ use Rattle.go_scan.specs.Pieces.{piece_of, lexeme_of}
 use Rattle.run_rules.proofs.TokensFound.{tokens_by}
 
 -- A run of one step.
-abbrev one_constant_f0 : File Span
+abbrev pub one_constant_f0 : File Span
 one_constant_f0 = record { package_name = (nm 8 12 (codes "main")); imports = []; decls = ((values (const_decl (at 14 31) false (spec (at 20 31) ((nm 20 27 (codes "Pointer")) ∷ []) None (expr_and (int_lit (at 30 31) (codes "1")) no_exprs) no_specs))) ∷ (values (const_decl (at 49 68) false (spec (at 55 68) ((nm 55 58 (codes "Ptr")) ∷ []) None (expr_and (ident (at 61 68) (codes "Pointer")) no_exprs) no_specs))) ∷ (fn (at 70 99) None (nm 75 79 (codes "main")) (sig [] []) (at 82 99) (stmt_and (eval (at 85 97) (call (at 85 97) (ident (at 85 92) (codes "println")) (expr_and (ident (at 93 96) (codes "Ptr")) no_exprs) Plain)) no_stmts)) ∷ []) }
 
-abbrev one_constant : Module
+abbrev pub one_constant : Module
 one_constant = record { packages = (pack (codes "example.com/m") (codes "main") (source (codes "main.go") one_constant_f0 ∷ []) ∷ []); marks = (mark 0 0 1 0 ∷ []); texts = (((codes "main.go"), record { text = (codes "package main\n\nconst Pointer = 1\n\n//go:fix inline\nconst Ptr = Pointer\n\nfunc main() {\n\tprintln(Ptr)\n}\n"); tokens = ((tok Keyword 0 7 (codes "package")) ∷ (tok Ident 8 12 (codes "main")) ∷ (tok Inserted 12 12 (codes ";")) ∷ (tok Keyword 14 19 (codes "const")) ∷ (tok Ident 20 27 (codes "Pointer")) ∷ (tok Operator 28 29 (codes "=")) ∷ (tok Integer 30 31 (codes "1")) ∷ (tok Inserted 31 31 (codes ";")) ∷ (tok Keyword 49 54 (codes "const")) ∷ (tok Ident 55 58 (codes "Ptr")) ∷ (tok Operator 59 60 (codes "=")) ∷ (tok Ident 61 68 (codes "Pointer")) ∷ (tok Inserted 68 68 (codes ";")) ∷ (tok Keyword 70 74 (codes "func")) ∷ (tok Ident 75 79 (codes "main")) ∷ (tok Operator 79 80 (codes "(")) ∷ (tok Operator 80 81 (codes ")")) ∷ (tok Operator 82 83 (codes "{")) ∷ (tok Ident 85 92 (codes "println")) ∷ (tok Operator 92 93 (codes "(")) ∷ (tok Ident 93 96 (codes "Ptr")) ∷ (tok Operator 96 97 (codes ")")) ∷ (tok Inserted 97 97 (codes ";")) ∷ (tok Operator 98 99 (codes "}")) ∷ (tok Inserted 99 99 (codes ";")) ∷ []); comments = ((note 33 48) ∷ []) }) ∷ []) }
 
-abbrev one_constant_t0 : FileText
+abbrev pub one_constant_t0 : FileText
 one_constant_t0 = (record { text = (codes "package main\n\nconst Pointer = 1\n\n//go:fix inline\nconst Ptr = Pointer\n\nfunc main() {\n\tprintln(Ptr)\n}\n"); tokens = ((tok Keyword 0 7 (codes "package")) ∷ (tok Ident 8 12 (codes "main")) ∷ (tok Inserted 12 12 (codes ";")) ∷ (tok Keyword 14 19 (codes "const")) ∷ (tok Ident 20 27 (codes "Pointer")) ∷ (tok Operator 28 29 (codes "=")) ∷ (tok Integer 30 31 (codes "1")) ∷ (tok Inserted 31 31 (codes ";")) ∷ (tok Keyword 49 54 (codes "const")) ∷ (tok Ident 55 58 (codes "Ptr")) ∷ (tok Operator 59 60 (codes "=")) ∷ (tok Ident 61 68 (codes "Pointer")) ∷ (tok Inserted 68 68 (codes ";")) ∷ (tok Keyword 70 74 (codes "func")) ∷ (tok Ident 75 79 (codes "main")) ∷ (tok Operator 79 80 (codes "(")) ∷ (tok Operator 80 81 (codes ")")) ∷ (tok Operator 82 83 (codes "{")) ∷ (tok Ident 85 92 (codes "println")) ∷ (tok Operator 92 93 (codes "(")) ∷ (tok Ident 93 96 (codes "Ptr")) ∷ (tok Operator 96 97 (codes ")")) ∷ (tok Inserted 97 97 (codes ";")) ∷ (tok Operator 98 99 (codes "}")) ∷ (tok Inserted 99 99 (codes ";")) ∷ []); comments = ((note 33 48) ∷ []) })
 
 one_constant_marks : marks_of one_constant.packages one_constant.texts [] ≡ one_constant.marks
@@ -61,7 +61,7 @@ one_constant_spelled0 = refl
 abbrev one_constant_start : Standing
 one_constant_start = standing_as_read one_constant.packages one_constant.texts
 
-abbrev one_constant_new : FileText
+abbrev pub one_constant_new : FileText
 one_constant_new = (record { text = (codes "package main\n\nconst Pointer = 1\n\n//go:fix inline\nconst Ptr = Pointer\n\nfunc main() {\n\tprintln(Pointer)\n}\n"); tokens = ((tok Keyword 0 7 (codes "package")) ∷ (tok Ident 8 12 (codes "main")) ∷ (tok Inserted 12 12 (codes ";")) ∷ (tok Keyword 14 19 (codes "const")) ∷ (tok Ident 20 27 (codes "Pointer")) ∷ (tok Operator 28 29 (codes "=")) ∷ (tok Integer 30 31 (codes "1")) ∷ (tok Inserted 31 31 (codes ";")) ∷ (tok Keyword 49 54 (codes "const")) ∷ (tok Ident 55 58 (codes "Ptr")) ∷ (tok Operator 59 60 (codes "=")) ∷ (tok Ident 61 68 (codes "Pointer")) ∷ (tok Inserted 68 68 (codes ";")) ∷ (tok Keyword 70 74 (codes "func")) ∷ (tok Ident 75 79 (codes "main")) ∷ (tok Operator 79 80 (codes "(")) ∷ (tok Operator 80 81 (codes ")")) ∷ (tok Operator 82 83 (codes "{")) ∷ (tok Ident 85 92 (codes "println")) ∷ (tok Operator 92 93 (codes "(")) ∷ (tok Ident 93 100 (codes "Pointer")) ∷ (tok Operator 100 101 (codes ")")) ∷ (tok Inserted 101 101 (codes ";")) ∷ (tok Operator 102 103 (codes "}")) ∷ (tok Inserted 103 103 (codes ";")) ∷ []); comments = ((note 33 48) ∷ []) })
 
 abbrev one_constant_tree : File At
@@ -88,7 +88,7 @@ one_constant_new_found : TokensOf one_constant_new.text one_constant_new.tokens 
 unfolding piece_of lexeme_of longest_from next_of tokens_from comments_from keyword_spellings is_letter is_digit general_category general_category_rows value_in lib.Utf8.encode
 one_constant_new_found = tokens_by one_constant_new.text one_constant_new.tokens one_constant_new.comments refl refl refl
 
-one_constant_run : IsInlining the_limits 29 one_constant.packages one_constant.texts [] (((codes "main.go"), one_constant_new) ∷ []) (codes "main.go:9:10: inlined example.com/m.Ptr as const\n")
+pub one_constant_run : IsInlining the_limits 29 one_constant.packages one_constant.texts [] (((codes "main.go"), one_constant_new) ∷ []) (codes "main.go:9:10: inlined example.com/m.Ptr as const\n")
 one_constant_run = one_constant_inlined one_constant_t0_found one_constant_new_found
 
 -- Without a mark nothing is reported.
