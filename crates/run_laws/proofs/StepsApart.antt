@@ -9,7 +9,7 @@ use Rattle.run_rules.specs.Steps.{same_here}
 use Rattle.run_rules.specs.Laws.{LiesBehindImports, file_found}
 use Rattle.run_rules.specs.Run.{here_of, is_commented}
 use Rattle.run_rules.proofs.EditsApart.{step_edits_apart}
-use Rattle.run_laws.specs.Laws.{StepEditsStandApart}
+use Rattle.run_laws.specs.Laws.{ReadFileEditsStandApart}
 use Rattle.run_laws.proofs.NodeSpans.{AllDecl}
 use Rattle.run_laws.proofs.SeenSpans.{decl_in}
 use Rattle.run_laws.proofs.FilesStand.{AllDecls, file_laid, decls_behind}
@@ -20,7 +20,7 @@ one_decl to P [] i d h e = absurd cc
 one_decl to P (x ∷ ds) zero d h e = subst (λ y. AllDecl P (decl_with to y)) (same_Some x d e) h.0
 one_decl to P (x ∷ ds) (suc i) d h e = one_decl to P ds i d h.1 e
 
-pub edits_apart : StepEditsStandApart
+pub edits_apart : ReadFileEditsStandApart
 edits_apart marks st l after n reads =
     step_edits_apart marks st l after n (file_laid n.old.text n.old.tokens n.old.comments (file_found n.found) reads.scans reads.spells)
     (f.range_is (decl_in here_of Behind st.packages n.found.site.at.number n.found.site.at.of n.found.site.at.source.tree p.decl one))

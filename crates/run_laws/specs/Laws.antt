@@ -14,8 +14,8 @@ use Rattle.run_rules.specs.Inlining.{ReadsAs, PackagesRead, standing_as_read, Re
 use Rattle.run_laws.specs.Reading.{ProgramReads, OnePathEach}
 
 -- The edits of a step stand apart, in their order, and lie in the text, where the file of the use reads from its text.
-abbrev pub StepEditsStandApart : Type 0
-StepEditsStandApart =
+abbrev pub ReadFileEditsStandApart : Type 0
+ReadFileEditsStandApart =
     (marks : List MarkRef) (st : Standing) (l : Logged) (after : Standing) (n : Next marks st l after)
     → ReadsAs n.old (file_found n.found) → Ascend 0 (length n.old.text) l.edits
 

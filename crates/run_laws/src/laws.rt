@@ -1,13 +1,13 @@
 //! Laws of the texts of a run.
 
-ghost use Rattle.run_laws.specs.Laws.{ReadPackagesRead, RunEditsStandApart, StepEditsStandApart, StepsKeepReading};
+ghost use Rattle.run_laws.specs.Laws.{ReadPackagesRead, RunEditsStandApart, ReadFileEditsStandApart, StepsKeepReading};
 ghost use Rattle.run_laws.specs.Laws.{RunsAreInlinings, RunsKeepFiles};
 
 /// The edits of a step ascend, don't overlap and lie in the text, where the file of its use reads from
 /// the text; so do those of each step of a run from packages that are read, each file under its own
 /// path.
-pub fn edits_of_steps_stand_apart()
-    ensures step { StepEditsStandApart }
+pub fn edits_of_read_files_stand_apart()
+    ensures step { ReadFileEditsStandApart }
     ensures run { RunEditsStandApart }
 {}
 

@@ -3,4 +3,4 @@
 
 mod laws;
 
-pub use laws::{edits_of_steps_stand_apart, read_programs_stay_read, runs_keep_files};
+pub use laws::{edits_of_read_files_stand_apart, read_programs_stay_read, runs_keep_files};

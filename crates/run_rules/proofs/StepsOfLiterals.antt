@@ -1,14 +1,15 @@
 -- Calls that become literals, and cycles.
 use Rattle.std.proofs.Common.{◌≡◌, refl}
-use Rattle.std.specs.Prelude.{true, [], ◌∷◌, Some, None, codes}
+use Rattle.std.specs.Prelude.{true, false, [], ◌∷◌, map, Some, None, codes}
 use Rattle.go_tree.specs.declared.exprs.Rest.TheVariants.{Plain}
 use Rattle.go_tree.specs.declared.spans.Span.{Span}
 use Rattle.go_tree.specs.declared.tokens.TokenKind.TheVariants.{Ident, Keyword, Operator, Integer, Str, Inserted}
 use Rattle.go_tree.specs.declared.operators.BinOp.TheVariants.{Add, Sub, Eq, Ne, LogAnd, LogOr}
 use Rattle.go_tree.specs.Tree.{named, slice_type, ident, int_lit, str_lit, composite, index, call, func_lit, binary, no_exprs, expr_and, no_elems, elem, plain, no_value, eval, define, return_, defer, no_stmts, stmt_and}
 use Rattle.go_tree.specs.File.{File}
-use Rattle.run_rules.specs.FormTrees.{LiteralForm}
+use Rattle.run_rules.specs.FormTrees.{ExprForm, LiteralForm}
 use Rattle.run_rules.specs.Obstacles.{Recursive}
+use Rattle.run_rules.specs.Cycles.{is_recursive}
 use Rattle.run_rules.proofs.CaseTools.{at, nm, tok, note, param, sig, fn, pack, source, mark, Module, is_typed, first_change, step_of, kept_uses}
 use Rattle.go_read.specs.SpellsSpans.{span_to}
 use Rattle.go_words.specs.Terminals.{lexemes}
@@ -215,3 +216,45 @@ deferred_call_1_ends = refl
 
 deferred_call_1_kept : kept_uses deferred_call_1 ≡ []
 deferred_call_1_kept = refl
+
+-- A call that leads into a cycle is replaced, and the same functions lie on one.
+abbrev cycle_reached_0_f0 : File Span
+cycle_reached_0_f0 = record { package_name = (nm 8 12 (codes "main")); imports = []; decls = ((fn (at 30 81) None (nm 35 39 (codes "Even")) (sig ((param (at 40 45) (Some (nm 40 41 (codes "n"))) (named (at 42 45) None (nm 42 45 (codes "int")))) ∷ []) ((param (at 47 51) None (named (at 47 51) None (nm 47 51 (codes "bool")))) ∷ [])) (at 52 81) (stmt_and (return_ (at 54 79) (expr_and (binary (at 61 79) LogOr (binary (at 61 67) Eq (ident (at 61 62) (codes "n")) (int_lit (at 66 67) (codes "0"))) (call (at 71 79) (ident (at 71 74) (codes "Odd")) (expr_and (binary (at 75 78) Sub (ident (at 75 76) (codes "n")) (int_lit (at 77 78) (codes "1"))) no_exprs) Plain)) no_exprs)) no_stmts)) ∷ (fn (at 99 150) None (nm 104 107 (codes "Odd")) (sig ((param (at 108 113) (Some (nm 108 109 (codes "n"))) (named (at 110 113) None (nm 110 113 (codes "int")))) ∷ []) ((param (at 115 119) None (named (at 115 119) None (nm 115 119 (codes "bool")))) ∷ [])) (at 120 150) (stmt_and (return_ (at 122 148) (expr_and (binary (at 129 148) LogAnd (binary (at 129 135) Ne (ident (at 129 130) (codes "n")) (int_lit (at 134 135) (codes "0"))) (call (at 139 148) (ident (at 139 143) (codes "Even")) (expr_and (binary (at 144 147) Sub (ident (at 144 145) (codes "n")) (int_lit (at 146 147) (codes "1"))) no_exprs) Plain)) no_exprs)) no_stmts)) ∷ (fn (at 168 208) None (nm 173 177 (codes "Zero")) (sig ((param (at 178 183) (Some (nm 178 179 (codes "n"))) (named (at 180 183) None (nm 180 183 (codes "int")))) ∷ []) ((param (at 185 189) None (named (at 185 189) None (nm 185 189 (codes "bool")))) ∷ [])) (at 190 208) (stmt_and (return_ (at 192 206) (expr_and (call (at 199 206) (ident (at 199 203) (codes "Even")) (expr_and (ident (at 204 205) (codes "n")) no_exprs) Plain) no_exprs)) no_stmts)) ∷ (fn (at 210 243) None (nm 215 219 (codes "main")) (sig [] []) (at 222 243) (stmt_and (eval (at 225 241) (call (at 225 241) (ident (at 225 232) (codes "println")) (expr_and (call (at 233 240) (ident (at 233 237) (codes "Zero")) (expr_and (int_lit (at 238 239) (codes "4")) no_exprs) Plain) no_exprs) Plain)) no_stmts)) ∷ []) }
+
+cycle_reached_0_f0_read : read_at span_to read_front (lexemes ((tok Keyword 0 7 (codes "package")) ∷ (tok Ident 8 12 (codes "main")) ∷ (tok Inserted 12 12 (codes ";")) ∷ (tok Keyword 30 34 (codes "func")) ∷ (tok Ident 35 39 (codes "Even")) ∷ (tok Operator 39 40 (codes "(")) ∷ (tok Ident 40 41 (codes "n")) ∷ (tok Ident 42 45 (codes "int")) ∷ (tok Operator 45 46 (codes ")")) ∷ (tok Ident 47 51 (codes "bool")) ∷ (tok Operator 52 53 (codes "{")) ∷ (tok Keyword 54 60 (codes "return")) ∷ (tok Ident 61 62 (codes "n")) ∷ (tok Operator 63 65 (codes "==")) ∷ (tok Integer 66 67 (codes "0")) ∷ (tok Operator 68 70 (codes "||")) ∷ (tok Ident 71 74 (codes "Odd")) ∷ (tok Operator 74 75 (codes "(")) ∷ (tok Ident 75 76 (codes "n")) ∷ (tok Operator 76 77 (codes "-")) ∷ (tok Integer 77 78 (codes "1")) ∷ (tok Operator 78 79 (codes ")")) ∷ (tok Operator 80 81 (codes "}")) ∷ (tok Inserted 81 81 (codes ";")) ∷ (tok Keyword 99 103 (codes "func")) ∷ (tok Ident 104 107 (codes "Odd")) ∷ (tok Operator 107 108 (codes "(")) ∷ (tok Ident 108 109 (codes "n")) ∷ (tok Ident 110 113 (codes "int")) ∷ (tok Operator 113 114 (codes ")")) ∷ (tok Ident 115 119 (codes "bool")) ∷ (tok Operator 120 121 (codes "{")) ∷ (tok Keyword 122 128 (codes "return")) ∷ (tok Ident 129 130 (codes "n")) ∷ (tok Operator 131 133 (codes "!=")) ∷ (tok Integer 134 135 (codes "0")) ∷ (tok Operator 136 138 (codes "&&")) ∷ (tok Ident 139 143 (codes "Even")) ∷ (tok Operator 143 144 (codes "(")) ∷ (tok Ident 144 145 (codes "n")) ∷ (tok Operator 145 146 (codes "-")) ∷ (tok Integer 146 147 (codes "1")) ∷ (tok Operator 147 148 (codes ")")) ∷ (tok Operator 149 150 (codes "}")) ∷ (tok Inserted 150 150 (codes ";")) ∷ (tok Keyword 168 172 (codes "func")) ∷ (tok Ident 173 177 (codes "Zero")) ∷ (tok Operator 177 178 (codes "(")) ∷ (tok Ident 178 179 (codes "n")) ∷ (tok Ident 180 183 (codes "int")) ∷ (tok Operator 183 184 (codes ")")) ∷ (tok Ident 185 189 (codes "bool")) ∷ (tok Operator 190 191 (codes "{")) ∷ (tok Keyword 192 198 (codes "return")) ∷ (tok Ident 199 203 (codes "Even")) ∷ (tok Operator 203 204 (codes "(")) ∷ (tok Ident 204 205 (codes "n")) ∷ (tok Operator 205 206 (codes ")")) ∷ (tok Operator 207 208 (codes "}")) ∷ (tok Inserted 208 208 (codes ";")) ∷ (tok Keyword 210 214 (codes "func")) ∷ (tok Ident 215 219 (codes "main")) ∷ (tok Operator 219 220 (codes "(")) ∷ (tok Operator 220 221 (codes ")")) ∷ (tok Operator 222 223 (codes "{")) ∷ (tok Ident 225 232 (codes "println")) ∷ (tok Operator 232 233 (codes "(")) ∷ (tok Ident 233 237 (codes "Zero")) ∷ (tok Operator 237 238 (codes "(")) ∷ (tok Integer 238 239 (codes "4")) ∷ (tok Operator 239 240 (codes ")")) ∷ (tok Operator 240 241 (codes ")")) ∷ (tok Inserted 241 241 (codes ";")) ∷ (tok Operator 242 243 (codes "}")) ∷ (tok Inserted 243 243 (codes ";")) ∷ [])) ≡ Some (cycle_reached_0_f0, [])
+unfolding reading
+cycle_reached_0_f0_read = refl
+
+abbrev cycle_reached_0 : Module
+cycle_reached_0 = record { packages = (pack (codes "example.com/m") (codes "main") (source (codes "main.go") cycle_reached_0_f0 ∷ []) ∷ []); marks = (mark 0 0 0 0 ∷ mark 0 0 1 0 ∷ mark 0 0 2 0 ∷ []); texts = (((codes "main.go"), record { text = (codes "package main\n\n//go:fix inline\nfunc Even(n int) bool { return n == 0 || Odd(n-1) }\n\n//go:fix inline\nfunc Odd(n int) bool { return n != 0 && Even(n-1) }\n\n//go:fix inline\nfunc Zero(n int) bool { return Even(n) }\n\nfunc main() {\n\tprintln(Zero(4))\n}\n"); tokens = ((tok Keyword 0 7 (codes "package")) ∷ (tok Ident 8 12 (codes "main")) ∷ (tok Inserted 12 12 (codes ";")) ∷ (tok Keyword 30 34 (codes "func")) ∷ (tok Ident 35 39 (codes "Even")) ∷ (tok Operator 39 40 (codes "(")) ∷ (tok Ident 40 41 (codes "n")) ∷ (tok Ident 42 45 (codes "int")) ∷ (tok Operator 45 46 (codes ")")) ∷ (tok Ident 47 51 (codes "bool")) ∷ (tok Operator 52 53 (codes "{")) ∷ (tok Keyword 54 60 (codes "return")) ∷ (tok Ident 61 62 (codes "n")) ∷ (tok Operator 63 65 (codes "==")) ∷ (tok Integer 66 67 (codes "0")) ∷ (tok Operator 68 70 (codes "||")) ∷ (tok Ident 71 74 (codes "Odd")) ∷ (tok Operator 74 75 (codes "(")) ∷ (tok Ident 75 76 (codes "n")) ∷ (tok Operator 76 77 (codes "-")) ∷ (tok Integer 77 78 (codes "1")) ∷ (tok Operator 78 79 (codes ")")) ∷ (tok Operator 80 81 (codes "}")) ∷ (tok Inserted 81 81 (codes ";")) ∷ (tok Keyword 99 103 (codes "func")) ∷ (tok Ident 104 107 (codes "Odd")) ∷ (tok Operator 107 108 (codes "(")) ∷ (tok Ident 108 109 (codes "n")) ∷ (tok Ident 110 113 (codes "int")) ∷ (tok Operator 113 114 (codes ")")) ∷ (tok Ident 115 119 (codes "bool")) ∷ (tok Operator 120 121 (codes "{")) ∷ (tok Keyword 122 128 (codes "return")) ∷ (tok Ident 129 130 (codes "n")) ∷ (tok Operator 131 133 (codes "!=")) ∷ (tok Integer 134 135 (codes "0")) ∷ (tok Operator 136 138 (codes "&&")) ∷ (tok Ident 139 143 (codes "Even")) ∷ (tok Operator 143 144 (codes "(")) ∷ (tok Ident 144 145 (codes "n")) ∷ (tok Operator 145 146 (codes "-")) ∷ (tok Integer 146 147 (codes "1")) ∷ (tok Operator 147 148 (codes ")")) ∷ (tok Operator 149 150 (codes "}")) ∷ (tok Inserted 150 150 (codes ";")) ∷ (tok Keyword 168 172 (codes "func")) ∷ (tok Ident 173 177 (codes "Zero")) ∷ (tok Operator 177 178 (codes "(")) ∷ (tok Ident 178 179 (codes "n")) ∷ (tok Ident 180 183 (codes "int")) ∷ (tok Operator 183 184 (codes ")")) ∷ (tok Ident 185 189 (codes "bool")) ∷ (tok Operator 190 191 (codes "{")) ∷ (tok Keyword 192 198 (codes "return")) ∷ (tok Ident 199 203 (codes "Even")) ∷ (tok Operator 203 204 (codes "(")) ∷ (tok Ident 204 205 (codes "n")) ∷ (tok Operator 205 206 (codes ")")) ∷ (tok Operator 207 208 (codes "}")) ∷ (tok Inserted 208 208 (codes ";")) ∷ (tok Keyword 210 214 (codes "func")) ∷ (tok Ident 215 219 (codes "main")) ∷ (tok Operator 219 220 (codes "(")) ∷ (tok Operator 220 221 (codes ")")) ∷ (tok Operator 222 223 (codes "{")) ∷ (tok Ident 225 232 (codes "println")) ∷ (tok Operator 232 233 (codes "(")) ∷ (tok Ident 233 237 (codes "Zero")) ∷ (tok Operator 237 238 (codes "(")) ∷ (tok Integer 238 239 (codes "4")) ∷ (tok Operator 239 240 (codes ")")) ∷ (tok Operator 240 241 (codes ")")) ∷ (tok Inserted 241 241 (codes ";")) ∷ (tok Operator 242 243 (codes "}")) ∷ (tok Inserted 243 243 (codes ";")) ∷ []); comments = ((note 14 29) ∷ (note 83 98) ∷ (note 152 167) ∷ []) }) ∷ []) }
+
+cycle_reached_0_typed : is_typed cycle_reached_0 ≡ true
+cycle_reached_0_typed = refl
+
+cycle_reached_0_step : first_change cycle_reached_0 ≡ Some ((codes "main.go"), ExprForm, (codes "package main\n\n//go:fix inline\nfunc Even(n int) bool { return n == 0 || Odd(n-1) }\n\n//go:fix inline\nfunc Odd(n int) bool { return n != 0 && Even(n-1) }\n\n//go:fix inline\nfunc Zero(n int) bool { return Even(n) }\n\nfunc main() {\n\tprintln(Even(4))\n}\n"))
+cycle_reached_0_step = refl
+
+abbrev cycle_reached_1_f0 : File Span
+cycle_reached_1_f0 = record { package_name = (nm 8 12 (codes "main")); imports = []; decls = ((fn (at 30 81) None (nm 35 39 (codes "Even")) (sig ((param (at 40 45) (Some (nm 40 41 (codes "n"))) (named (at 42 45) None (nm 42 45 (codes "int")))) ∷ []) ((param (at 47 51) None (named (at 47 51) None (nm 47 51 (codes "bool")))) ∷ [])) (at 52 81) (stmt_and (return_ (at 54 79) (expr_and (binary (at 61 79) LogOr (binary (at 61 67) Eq (ident (at 61 62) (codes "n")) (int_lit (at 66 67) (codes "0"))) (call (at 71 79) (ident (at 71 74) (codes "Odd")) (expr_and (binary (at 75 78) Sub (ident (at 75 76) (codes "n")) (int_lit (at 77 78) (codes "1"))) no_exprs) Plain)) no_exprs)) no_stmts)) ∷ (fn (at 99 150) None (nm 104 107 (codes "Odd")) (sig ((param (at 108 113) (Some (nm 108 109 (codes "n"))) (named (at 110 113) None (nm 110 113 (codes "int")))) ∷ []) ((param (at 115 119) None (named (at 115 119) None (nm 115 119 (codes "bool")))) ∷ [])) (at 120 150) (stmt_and (return_ (at 122 148) (expr_and (binary (at 129 148) LogAnd (binary (at 129 135) Ne (ident (at 129 130) (codes "n")) (int_lit (at 134 135) (codes "0"))) (call (at 139 148) (ident (at 139 143) (codes "Even")) (expr_and (binary (at 144 147) Sub (ident (at 144 145) (codes "n")) (int_lit (at 146 147) (codes "1"))) no_exprs) Plain)) no_exprs)) no_stmts)) ∷ (fn (at 168 208) None (nm 173 177 (codes "Zero")) (sig ((param (at 178 183) (Some (nm 178 179 (codes "n"))) (named (at 180 183) None (nm 180 183 (codes "int")))) ∷ []) ((param (at 185 189) None (named (at 185 189) None (nm 185 189 (codes "bool")))) ∷ [])) (at 190 208) (stmt_and (return_ (at 192 206) (expr_and (call (at 199 206) (ident (at 199 203) (codes "Even")) (expr_and (ident (at 204 205) (codes "n")) no_exprs) Plain) no_exprs)) no_stmts)) ∷ (fn (at 210 243) None (nm 215 219 (codes "main")) (sig [] []) (at 222 243) (stmt_and (eval (at 225 241) (call (at 225 241) (ident (at 225 232) (codes "println")) (expr_and (call (at 233 240) (ident (at 233 237) (codes "Even")) (expr_and (int_lit (at 238 239) (codes "4")) no_exprs) Plain) no_exprs) Plain)) no_stmts)) ∷ []) }
+
+cycle_reached_1_f0_read : read_at span_to read_front (lexemes ((tok Keyword 0 7 (codes "package")) ∷ (tok Ident 8 12 (codes "main")) ∷ (tok Inserted 12 12 (codes ";")) ∷ (tok Keyword 30 34 (codes "func")) ∷ (tok Ident 35 39 (codes "Even")) ∷ (tok Operator 39 40 (codes "(")) ∷ (tok Ident 40 41 (codes "n")) ∷ (tok Ident 42 45 (codes "int")) ∷ (tok Operator 45 46 (codes ")")) ∷ (tok Ident 47 51 (codes "bool")) ∷ (tok Operator 52 53 (codes "{")) ∷ (tok Keyword 54 60 (codes "return")) ∷ (tok Ident 61 62 (codes "n")) ∷ (tok Operator 63 65 (codes "==")) ∷ (tok Integer 66 67 (codes "0")) ∷ (tok Operator 68 70 (codes "||")) ∷ (tok Ident 71 74 (codes "Odd")) ∷ (tok Operator 74 75 (codes "(")) ∷ (tok Ident 75 76 (codes "n")) ∷ (tok Operator 76 77 (codes "-")) ∷ (tok Integer 77 78 (codes "1")) ∷ (tok Operator 78 79 (codes ")")) ∷ (tok Operator 80 81 (codes "}")) ∷ (tok Inserted 81 81 (codes ";")) ∷ (tok Keyword 99 103 (codes "func")) ∷ (tok Ident 104 107 (codes "Odd")) ∷ (tok Operator 107 108 (codes "(")) ∷ (tok Ident 108 109 (codes "n")) ∷ (tok Ident 110 113 (codes "int")) ∷ (tok Operator 113 114 (codes ")")) ∷ (tok Ident 115 119 (codes "bool")) ∷ (tok Operator 120 121 (codes "{")) ∷ (tok Keyword 122 128 (codes "return")) ∷ (tok Ident 129 130 (codes "n")) ∷ (tok Operator 131 133 (codes "!=")) ∷ (tok Integer 134 135 (codes "0")) ∷ (tok Operator 136 138 (codes "&&")) ∷ (tok Ident 139 143 (codes "Even")) ∷ (tok Operator 143 144 (codes "(")) ∷ (tok Ident 144 145 (codes "n")) ∷ (tok Operator 145 146 (codes "-")) ∷ (tok Integer 146 147 (codes "1")) ∷ (tok Operator 147 148 (codes ")")) ∷ (tok Operator 149 150 (codes "}")) ∷ (tok Inserted 150 150 (codes ";")) ∷ (tok Keyword 168 172 (codes "func")) ∷ (tok Ident 173 177 (codes "Zero")) ∷ (tok Operator 177 178 (codes "(")) ∷ (tok Ident 178 179 (codes "n")) ∷ (tok Ident 180 183 (codes "int")) ∷ (tok Operator 183 184 (codes ")")) ∷ (tok Ident 185 189 (codes "bool")) ∷ (tok Operator 190 191 (codes "{")) ∷ (tok Keyword 192 198 (codes "return")) ∷ (tok Ident 199 203 (codes "Even")) ∷ (tok Operator 203 204 (codes "(")) ∷ (tok Ident 204 205 (codes "n")) ∷ (tok Operator 205 206 (codes ")")) ∷ (tok Operator 207 208 (codes "}")) ∷ (tok Inserted 208 208 (codes ";")) ∷ (tok Keyword 210 214 (codes "func")) ∷ (tok Ident 215 219 (codes "main")) ∷ (tok Operator 219 220 (codes "(")) ∷ (tok Operator 220 221 (codes ")")) ∷ (tok Operator 222 223 (codes "{")) ∷ (tok Ident 225 232 (codes "println")) ∷ (tok Operator 232 233 (codes "(")) ∷ (tok Ident 233 237 (codes "Even")) ∷ (tok Operator 237 238 (codes "(")) ∷ (tok Integer 238 239 (codes "4")) ∷ (tok Operator 239 240 (codes ")")) ∷ (tok Operator 240 241 (codes ")")) ∷ (tok Inserted 241 241 (codes ";")) ∷ (tok Operator 242 243 (codes "}")) ∷ (tok Inserted 243 243 (codes ";")) ∷ [])) ≡ Some (cycle_reached_1_f0, [])
+unfolding reading
+cycle_reached_1_f0_read = refl
+
+abbrev cycle_reached_1 : Module
+cycle_reached_1 = record { packages = (pack (codes "example.com/m") (codes "main") (source (codes "main.go") cycle_reached_1_f0 ∷ []) ∷ []); marks = (mark 0 0 0 0 ∷ mark 0 0 1 0 ∷ mark 0 0 2 0 ∷ []); texts = (((codes "main.go"), record { text = (codes "package main\n\n//go:fix inline\nfunc Even(n int) bool { return n == 0 || Odd(n-1) }\n\n//go:fix inline\nfunc Odd(n int) bool { return n != 0 && Even(n-1) }\n\n//go:fix inline\nfunc Zero(n int) bool { return Even(n) }\n\nfunc main() {\n\tprintln(Even(4))\n}\n"); tokens = ((tok Keyword 0 7 (codes "package")) ∷ (tok Ident 8 12 (codes "main")) ∷ (tok Inserted 12 12 (codes ";")) ∷ (tok Keyword 30 34 (codes "func")) ∷ (tok Ident 35 39 (codes "Even")) ∷ (tok Operator 39 40 (codes "(")) ∷ (tok Ident 40 41 (codes "n")) ∷ (tok Ident 42 45 (codes "int")) ∷ (tok Operator 45 46 (codes ")")) ∷ (tok Ident 47 51 (codes "bool")) ∷ (tok Operator 52 53 (codes "{")) ∷ (tok Keyword 54 60 (codes "return")) ∷ (tok Ident 61 62 (codes "n")) ∷ (tok Operator 63 65 (codes "==")) ∷ (tok Integer 66 67 (codes "0")) ∷ (tok Operator 68 70 (codes "||")) ∷ (tok Ident 71 74 (codes "Odd")) ∷ (tok Operator 74 75 (codes "(")) ∷ (tok Ident 75 76 (codes "n")) ∷ (tok Operator 76 77 (codes "-")) ∷ (tok Integer 77 78 (codes "1")) ∷ (tok Operator 78 79 (codes ")")) ∷ (tok Operator 80 81 (codes "}")) ∷ (tok Inserted 81 81 (codes ";")) ∷ (tok Keyword 99 103 (codes "func")) ∷ (tok Ident 104 107 (codes "Odd")) ∷ (tok Operator 107 108 (codes "(")) ∷ (tok Ident 108 109 (codes "n")) ∷ (tok Ident 110 113 (codes "int")) ∷ (tok Operator 113 114 (codes ")")) ∷ (tok Ident 115 119 (codes "bool")) ∷ (tok Operator 120 121 (codes "{")) ∷ (tok Keyword 122 128 (codes "return")) ∷ (tok Ident 129 130 (codes "n")) ∷ (tok Operator 131 133 (codes "!=")) ∷ (tok Integer 134 135 (codes "0")) ∷ (tok Operator 136 138 (codes "&&")) ∷ (tok Ident 139 143 (codes "Even")) ∷ (tok Operator 143 144 (codes "(")) ∷ (tok Ident 144 145 (codes "n")) ∷ (tok Operator 145 146 (codes "-")) ∷ (tok Integer 146 147 (codes "1")) ∷ (tok Operator 147 148 (codes ")")) ∷ (tok Operator 149 150 (codes "}")) ∷ (tok Inserted 150 150 (codes ";")) ∷ (tok Keyword 168 172 (codes "func")) ∷ (tok Ident 173 177 (codes "Zero")) ∷ (tok Operator 177 178 (codes "(")) ∷ (tok Ident 178 179 (codes "n")) ∷ (tok Ident 180 183 (codes "int")) ∷ (tok Operator 183 184 (codes ")")) ∷ (tok Ident 185 189 (codes "bool")) ∷ (tok Operator 190 191 (codes "{")) ∷ (tok Keyword 192 198 (codes "return")) ∷ (tok Ident 199 203 (codes "Even")) ∷ (tok Operator 203 204 (codes "(")) ∷ (tok Ident 204 205 (codes "n")) ∷ (tok Operator 205 206 (codes ")")) ∷ (tok Operator 207 208 (codes "}")) ∷ (tok Inserted 208 208 (codes ";")) ∷ (tok Keyword 210 214 (codes "func")) ∷ (tok Ident 215 219 (codes "main")) ∷ (tok Operator 219 220 (codes "(")) ∷ (tok Operator 220 221 (codes ")")) ∷ (tok Operator 222 223 (codes "{")) ∷ (tok Ident 225 232 (codes "println")) ∷ (tok Operator 232 233 (codes "(")) ∷ (tok Ident 233 237 (codes "Even")) ∷ (tok Operator 237 238 (codes "(")) ∷ (tok Integer 238 239 (codes "4")) ∷ (tok Operator 239 240 (codes ")")) ∷ (tok Operator 240 241 (codes ")")) ∷ (tok Inserted 241 241 (codes ";")) ∷ (tok Operator 242 243 (codes "}")) ∷ (tok Inserted 243 243 (codes ";")) ∷ []); comments = ((note 14 29) ∷ (note 83 98) ∷ (note 152 167) ∷ []) }) ∷ []) }
+
+cycle_reached_1_typed : is_typed cycle_reached_1 ≡ true
+cycle_reached_1_typed = refl
+
+cycle_reached_1_ends : step_of cycle_reached_1 ≡ None
+cycle_reached_1_ends = refl
+
+cycle_reached_1_kept : kept_uses cycle_reached_1 ≡ (((codes "main.go"), 71, Some Recursive) ∷ ((codes "main.go"), 139, Some Recursive) ∷ ((codes "main.go"), 199, Some Recursive) ∷ ((codes "main.go"), 233, Some Recursive) ∷ [])
+cycle_reached_1_kept = refl
+
+cycle_reached_0_cycles : map (is_recursive cycle_reached_0.packages cycle_reached_0.marks) cycle_reached_0.marks ≡ true ∷ true ∷ false ∷ []
+cycle_reached_0_cycles = refl
+
+cycle_reached_1_cycles : map (is_recursive cycle_reached_1.packages cycle_reached_1.marks) cycle_reached_1.marks ≡ true ∷ true ∷ false ∷ []
+cycle_reached_1_cycles = refl

@@ -1,6 +1,6 @@
 use Rattle.run_laws.proofs.StepsApart.{edits_apart}
 use Rattle.run_laws.proofs.RunsRead.{run_edits_apart}
-use Rattle.run_laws.proofs.laws.edits_of_steps_stand_apart.Goals as goal
+use Rattle.run_laws.proofs.laws.edits_of_read_files_stand_apart.Goals as goal
 
 pub returns-clause-step : goal.returns-clause-step
 returns-clause-step c = edits_apart
