@@ -19,6 +19,9 @@ pub mod PackagesBare
 pub mod PackageBudgets
 pub mod HeldVariables
 pub mod Ranks
+pub mod Widths
+pub mod OneValue
+pub mod TypedWidths
 pub mod AgreeingHere
 pub mod SmallAlike
 pub mod MentionsAlike
@@ -41,3 +44,4 @@ mod TermClasses
 mod TermShapes
 pub mod SwappedMeaning
 mod PackagesInUse
+mod WidthsInUse
