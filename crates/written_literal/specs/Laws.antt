@@ -25,12 +25,15 @@ use Rattle.run_rules.specs.Forms.{body_expr}
 use Rattle.run_rules.specs.Naming.{Names}
 use Rattle.run_rules.specs.Obstacles.{hidden_here, shadowed_here, first_answer}
 use Rattle.run_rules.specs.Places.{expr_seen, stmts_seen}
+use Rattle.run_rules.specs.Programs.{world, top_env}
 use Rattle.run_rules.specs.Rewriting.{new_stmts}
 use Rattle.run_rules.specs.Sites.{Where}
 use Rattle.run_rules.specs.Surroundings.{Place, Seen, Use, other}
 use Rattle.written_literal.specs.Within.{Within}
 use Rattle.written_literal.specs.Fine.{keeping}
 use Rattle.written_literal.specs.Listing.{Listing}
+use Rattle.written_literal.specs.LinkedNames.{Standing}
+use Rattle.written_literal.specs.Meant.{FileMeant}
 use Rattle.written_literal.specs.KnownNames.{landing, KnownNames}
 use Rattle.written_literal.specs.PartsTyped.{AllTyped, changes_there}
 use Rattle.written_literal.specs.LiteralThere.{function_place, sig_there, body_there}
@@ -90,6 +93,16 @@ BodiesChangeAsTexts =
 abbrev pub LiteralsAreAlikeAtHome : Type 0
 LiteralsAreAlikeAtHome =
     (site : Landing) (a : Env) (t : Option GoType) (es : Elems Span) → a.home ≡ site.home → LiteralAlike site a t es
+
+-- ---- names
+
+-- A package that stands once among the linked ones, with all its headers declared and no import of the file refused:
+-- what
+-- a run says that a name at the top of the file means is what it means to the rules of typing.
+abbrev pub NamesMeanTheSame : Type 0
+NamesMeanTheSame =
+    (ps : List (Package Span)) (w : Where Span) → Standing ps w →
+    FileMeant ps w (world ps) (top_env ps w.number w.of w.source.tree).names
 
 -- ---- the call
 

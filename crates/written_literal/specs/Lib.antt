@@ -2,6 +2,7 @@ pub mod Within
 pub mod Fine
 pub mod Listing
 pub mod Meant
+pub mod LinkedNames
 pub mod KnownNames
 pub mod TypesTyped
 pub mod PartsTyped

@@ -3,7 +3,7 @@
 ghost use Rattle.written_literal.specs.Laws.{BodiesAreWritten, BodiesChangeAsTexts};
 ghost use Rattle.written_literal.specs.Laws.{ClearCallsMeanTheirLiterals, DeclarationsAreListed};
 ghost use Rattle.written_literal.specs.Laws.{DeferredCallsMeanTheirLiterals, LiteralsAreAlikeAtHome};
-ghost use Rattle.written_literal.specs.Laws.{LiteralsAreWritten};
+ghost use Rattle.written_literal.specs.Laws.{LiteralsAreWritten, NamesMeanTheSame};
 
 /// Where no obstacle stands in the way of a typed function, what is written for it at a use, with all
 /// parameters bound and all spans kept, is what may be written for it there.
@@ -25,4 +25,10 @@ pub fn walks_list_declarations()
 pub fn clear_calls_mean_their_literals()
     ensures operand { ClearCallsMeanTheirLiterals }
     ensures deferred { DeferredCallsMeanTheirLiterals }
+{}
+
+/// What names at the top of a file mean to a run, which tells members, imports and predeclared names
+/// apart, is what they mean to the rules of typing.
+pub fn names_mean_the_same()
+    ensures files { NamesMeanTheSame }
 {}

@@ -6,5 +6,6 @@
 mod laws;
 
 pub use laws::{
-    clear_calls_mean_their_literals, unobstructed_functions_are_written, walks_list_declarations,
+    clear_calls_mean_their_literals, names_mean_the_same, unobstructed_functions_are_written,
+    walks_list_declarations,
 };
