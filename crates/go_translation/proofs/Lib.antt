@@ -22,6 +22,7 @@ pub mod Ranks
 pub mod Widths
 pub mod OneValue
 pub mod TypedWidths
+pub mod ReturnedWidths
 pub mod AgreeingHere
 pub mod SmallAlike
 pub mod MentionsAlike

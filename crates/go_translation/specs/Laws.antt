@@ -1,21 +1,22 @@
 -- The laws of translation. Each is the contract of a function of this crate.
 use Rattle.std.specs.Prelude.{◌≡◌, ◌⊎◌, ℕ, Some, ◌+◌, ◌*◌, ◌≤◌, Bool, true, false, List, [], ◌++◌, length}
 use Rattle.go_tree.specs.declared.spans.Span.{Span}
-use Rattle.go_tree.specs.Tree.{Expr, Stmts}
+use Rattle.go_tree.specs.Tree.{Expr, Exprs, Stmts}
 use Rattle.go_tree.specs.Bare.{bare_expr, bare_stmts}
 use Rattle.scope_names.specs.Means.{Environment}
 use Rattle.scope_names.specs.FreeNames.{free_expr, free_stmts}
 use Rattle.go_types.specs.Types.{GoType}
 use Rattle.go_types.specs.Entities.{Entity, Env}
 use Rattle.go_types.specs.Agreement.{with_names, On, Agrees}
-use Rattle.go_types.specs.Operands.{Operand}
+use Rattle.go_types.specs.Operands.{Operand, spread, takes_all}
+use Rattle.go_types.specs.Bodies.{no_values}
 use Rattle.go_types.specs.Operators.{has_address}
-use Rattle.go_types.specs.Typing.{parts, place}
+use Rattle.go_types.specs.Typing.{parts, all_parts, place}
 use Rattle.go_kernel.specs.Kernel.{ImportPath, FuncName, Covers, Program}
 use Rattle.go_kernel.specs.Conditions.{width}
-use Rattle.go_translation.specs.Mentions.{Read, Addressed, Mention, mentions, mentions_stmts, any_mention, is_stored, is_held, is_held_param}
-use Rattle.go_translation.specs.Here.{Location, Here}
-use Rattle.go_translation.specs.Translation.{expr_term, address, stmts_term}
+use Rattle.go_translation.specs.Mentions.{Read, Addressed, Mention, mentions, mentions_all, mentions_stmts, any_mention, is_stored, is_held, is_held_param}
+use Rattle.go_translation.specs.Here.{Location, Here, defined_here}
+use Rattle.go_translation.specs.Translation.{expr_term, values_term, address, stmts_term}
 use Rattle.go_kernel.specs.Scope.{Scoped}
 use Rattle.go_kernel.specs.Laws.{Ranked, AllScoped}
 use Rattle.go_translation.specs.Packages.{Package, codes_of, initial_of, functions_of, program_of, shown_by, freely_shown_by}
@@ -179,3 +180,11 @@ AddressesAreSingle =
     (P : Program) (h : Here) (e : Expr Span) (o : Operand) → AllThere P h →
     Reachable h (mentions Addressed h.env e) → parts h.env e ≡ Some o → has_address (place h.env e) ≡ true →
     width P (address h e) ≡ Some 1
+
+-- and the values of a typed `return` are as many as the results: what the laws of forms ask of a body's returns
+abbrev pub ReturnsGiveAllResults : Type 0
+ReturnsGiveAllResults =
+    (P : Program) (h : Here) (ts : List GoType) (es : Exprs Span) (os : List Operand) → AllThere P h →
+    Reachable h (mentions_all h.env es) → all_parts h.env es ≡ Some os →
+    takes_all (defined_here h) ts (spread os) ≡ true → no_values es ≡ false →
+    width P (values_term h ts es) ≡ Some (length ts)

@@ -16,4 +16,5 @@ pub mod Agreement
 pub mod Swapped
 pub mod SwappedPackages
 pub mod Widths
+pub mod Frames
 pub mod Laws

@@ -10,6 +10,7 @@ ghost use Rattle.go_translation.specs.Laws.{MentionsNeedNoSpans, HeldAlike, Expr
 ghost use Rattle.go_translation.specs.Laws.{StatementsAlike, SwappedExpressions, SwappedStatements};
 ghost use Rattle.go_translation.specs.Laws.{SwappedPrograms, SwappedRuns, SwappedMeaning, CodeIsScoped};
 ghost use Rattle.go_translation.specs.Laws.{AddressesAreSingle, InitialIsScoped};
+ghost use Rattle.go_translation.specs.Laws.{ReturnsGiveAllResults};
 ghost use Rattle.go_translation.specs.Laws.{NothingMissingIsAskedFor, TypedPartsGiveTheirValues};
 
 /// A part's term, and which variables it holds, depend on no span.
@@ -88,4 +89,5 @@ pub fn packages_need_no_spans()
 pub fn typed_values_are_single()
     ensures operands { TypedPartsGiveTheirValues }
     ensures addresses { AddressesAreSingle }
+    ensures returns { ReturnsGiveAllResults }
 {}
