@@ -1,7 +1,6 @@
 -- The laws of one step over a constant. Each is the contract of a function of this crate (Go specification, Constant
 -- declarations; Declarations and scope; Packages).
-use Rattle.std.specs.Prelude.{◌≡◌, ℕ, Bool, true, false, List, [], ◌∷◌, ◌++◌, Option, Some}
-use Rattle.std.specs.List.{list_all}
+use Rattle.std.specs.Prelude.{◌≡◌, ℕ, Bool, false, List, ◌++◌, Option}
 use Rattle.go_tree.specs.declared.spans.Span.{Span}
 use Rattle.go_tree.specs.Tree.{NameAt, Expr, Stmts}
 use Rattle.go_tree.specs.File.{File}
