@@ -1,13 +1,12 @@
 -- A call means the literal that a run writes for it, where no obstacle is found (Go specification, Calls; Function literals; Defer statements).
-use Rattle.std.specs.Prelude.{◌≡◌, ℕ, suc, Bool, true, false, List, [], None, nat_eq}
+use Rattle.std.specs.Prelude.{◌≡◌, ℕ, suc, Bool, true, false, List, []}
 use mathlib.Core.Path.{subst}
 use Rattle.go_tree.specs.declared.spans.Span.{Span}
 use Rattle.go_tree.specs.declared.exprs.Rest.{Rest}
 use Rattle.go_tree.specs.Tree.{Sig, Expr, call, func_lit, Exprs, Stmts}
-use Rattle.scope_names.specs.Means.{Environment, means, is_blank}
+use Rattle.scope_names.specs.Means.{Environment}
 use Rattle.scope_names.specs.FreeNames.{names_of}
 use Rattle.pkg_graph.specs.Package.{Package}
-use Rattle.go_types.specs.Answers.{is_among}
 use Rattle.go_types.specs.Types.{GoType}
 use Rattle.go_types.specs.Entities.{Entity, World, in_block}
 use Rattle.go_kernel.specs.Kernel.{FuncName, Program, code}
@@ -15,17 +14,14 @@ use Rattle.go_kernel.specs.Scope.{Scoped}
 use Rattle.go_kernel.specs.Alike.{MeanSame}
 use Rattle.go_kernel.specs.Laws.{Ranked, AllScoped}
 use Rattle.go_translation.specs.Here.{Here}
-use Rattle.go_translation.specs.Calls.{to_function, to_literal}
-use Rattle.go_translation.specs.Translation.{callee, expr_term, deferred_term}
+use Rattle.go_translation.specs.Translation.{expr_term, deferred_term}
 use Rattle.form_in_place.specs.CalledLiteral.{declared_at}
 use Rattle.form_in_place.specs.Written.{Written}
-use Rattle.form_meaning.specs.CallMeaning.{declaration_here, CallOf}
+use Rattle.form_meaning.specs.CallMeaning.{CallOf}
 use Rattle.form_meaning.proofs.MeaningLaws.{operand_law, deferred_law}
-use Rattle.run_rules.specs.Surroundings.{other, Place}
+use Rattle.run_rules.specs.Surroundings.{Place}
 use Rattle.run_rules.specs.Sites.{Where}
 use Rattle.run_rules.specs.Naming.{Names}
-use Rattle.run_rules.specs.Obstacles.{hidden_here, shadowed_here, first_answer}
-use Rattle.run_rules.specs.Places.{expr_seen}
 use Rattle.written_literal.specs.LiteralThere.{sig_there, body_there}
 use Rattle.written_literal.specs.ClearCall.{at, ClearCall, literal_there}
 use Rattle.written_literal.proofs.LiteralWritten.{literal_written}

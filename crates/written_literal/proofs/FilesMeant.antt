@@ -1,5 +1,5 @@
 -- What the names at the top of a file mean to the rules of typing is what they mean to a run.
-use Rattle.std.specs.Prelude.{◌≡◌, refl, ℕ, suc, Bool, true, false, ◌&&◌, List, [], ◌∷◌, ◌++◌, map, Option, Some, None, if◌then◌else◌, bytes_eq, nat_eq, is_some, codes, slice_get}
+use Rattle.std.specs.Prelude.{◌≡◌, refl, ℕ, suc, Bool, true, false, List, [], ◌∷◌, ◌++◌, map, Option, Some, None, if◌then◌else◌, bytes_eq, nat_eq, is_some, codes}
 use mathlib.Core.Path.{ap, sym, ◌∙◌, subst}
 use Rattle.std.proofs.Common.{arith}
 use Rattle.std.proofs.lemmas.Slice.Eq.{bytes_eq-Decides}
@@ -9,14 +9,13 @@ use Rattle.scope_names.specs.Means as names
 use Rattle.scope_names.specs.Means.{Environment, means, is_blank, binding, numbered, or_else}
 use Rattle.pkg_graph.specs.Package.{SourceTree, Package, import_specs}
 use Rattle.pkg_graph.specs.Members.{Target, local, imported, member, predeclared, block_names, items_from, decls_from, files_from, package_block, import_name}
-use Rattle.go_types.specs.Answers.{given}
-use Rattle.go_types.specs.Entities.{Entity, World, Binds, block_of, package_of, universe}
+use Rattle.go_types.specs.Entities.{Entity, World, block_of, package_of, universe}
 use Rattle.go_types.specs.Programs as source
 use Rattle.go_types.specs.Programs.{SourcePackage, SourceFile, Program, Headed, headed, headed_package, headed_files, file_block, is_main}
-use Rattle.go_types.specs.Collect.{DeclaredTypes, declared_by, block_by, types_declared, valued_world}
+use Rattle.go_types.specs.Collect.{DeclaredTypes, block_by, types_declared, valued_world}
 use Rattle.typed_in_place.proofs.Collected.{valued_settled}
 use Rattle.form_in_place.specs.Places.{is_member}
-use Rattle.run_rules.specs.Programs.{linked, linked_file, linked_imports, imports_mean, world, top_env}
+use Rattle.run_rules.specs.Programs.{linked, linked_file, imports_mean, world, top_env}
 use Rattle.run_rules.specs.Sites.{Where, outer, import_number}
 use Rattle.written_literal.specs.LinkedNames.{AllDeclared, Standing}
 use Rattle.written_literal.specs.Meant.{FileMeant, is_outer}

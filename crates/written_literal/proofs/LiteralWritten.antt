@@ -7,14 +7,12 @@ use Rattle.pkg_graph.specs.Package.{Package}
 use Rattle.go_types.specs.Entities.{Entity, World, in_block}
 use Rattle.form_in_place.specs.CalledLiteral.{declared_at}
 use Rattle.form_in_place.specs.Written.{Written}
-use Rattle.run_rules.specs.Surroundings.{other, Place, in_literal}
+use Rattle.run_rules.specs.Surroundings.{other, Place}
 use Rattle.run_rules.specs.Sites.{Where}
 use Rattle.run_rules.specs.Naming.{Names}
 use Rattle.run_rules.specs.Obstacles.{hidden_here, shadowed_here, first_answer}
 use Rattle.run_rules.specs.Places.{expr_seen}
-use Rattle.run_rules.specs.Rewriting.{new_sig, new_stmts}
 use Rattle.written_literal.specs.Within.{Within}
-use Rattle.written_literal.specs.Fine.{keeping}
 use Rattle.written_literal.specs.KnownNames.{landing, KnownNames}
 use Rattle.written_literal.specs.LiteralThere.{function_place, sig_there, body_there}
 use Rattle.written_literal.specs.PartsTyped.{changes_there, AllTyped}

@@ -1,16 +1,16 @@
 -- A file's names mean the same to a run and to the rules of typing.
-use Rattle.std.specs.Prelude.{◌≡◌, refl, ℕ, suc, ◌+◌, Bool, true, false, not, ◌&&◌, ◌||◌, List, [], ◌∷◌, ◌++◌, map, Option, Some, None, if◌then◌else◌, bytes_eq, nat_eq, is_some, slice_get}
-use mathlib.Core.Path.{ap, ap₂, sym, ◌∙◌, subst}
+use Rattle.std.specs.Prelude.{◌≡◌, refl, ℕ, suc, ◌+◌, Bool, true, false, ◌&&◌, List, [], ◌∷◌, ◌++◌, map, Option, Some, None, if◌then◌else◌, bytes_eq, nat_eq, is_some, slice_get}
+use mathlib.Core.Path.{ap, sym, ◌∙◌, subst}
 use Rattle.std.proofs.Common.{arith}
 use Rattle.go_tree.specs.Tree.{NameAt, TypeExpr, Exprs, no_exprs, const_decl, var_decl, empty, eval, step, assign, define, return_, break_, continue_, inner, if_, for_, range_, switch, defer, label, ValueSpecs, no_specs, spec}
 use Rattle.go_tree.specs.File.{ImportSpec, TypeSpec, Receiver, Func, Decl, values, types, func}
 use Rattle.scope_names.specs.FreeNames.{names_of}
 use Rattle.scope_names.specs.Means.{Environment, means, is_blank, binding, numbered, or_else}
-use Rattle.pkg_graph.specs.Package.{SourceTree, Package, import_specs}
-use Rattle.pkg_graph.specs.Members.{Target, local, imported, member, predeclared, specs_names, unless_method, block_names, items_from, decls_from, files_from, import_name}
-use Rattle.go_types.specs.Answers.{given, both, only_if, otherwise}
+use Rattle.pkg_graph.specs.Package.{SourceTree, Package}
+use Rattle.pkg_graph.specs.Members.{Target, imported, member, specs_names, unless_method, block_names, items_from, decls_from, files_from, import_name}
+use Rattle.go_types.specs.Answers.{given, only_if}
 use Rattle.go_types.specs.Types.{GoType, FuncType}
-use Rattle.go_types.specs.Entities.{run, exact, shift, Entity, variable, constant, type_name, function, package_name, World, Env, Binds, block_of, package_of}
+use Rattle.go_types.specs.Entities.{run, exact, shift, Entity, variable, constant, type_name, function, World, Env, Binds, block_of, package_of}
 use Rattle.go_types.specs.Operands.{Operand, Typed, all_typed, settled}
 use Rattle.go_types.specs.Declarations.{bind_all, bind_each, constant_entity, variable_entity}
 use Rattle.go_types.specs.Programs as source
@@ -23,7 +23,7 @@ use Rattle.go_types.specs.Bodiless.{all_bodiless}
 use Rattle.go_types.specs.Initial.{all_initial}
 use Rattle.go_types.proofs.Agreeing.{from_given, from_both, from_only, some_same}
 use Rattle.typed_in_place.specs.ImportRule.{imports_sound}
-use Rattle.written_literal.specs.LinkedNames.{AllDeclared, NoneNumbered, Standing}
+use Rattle.written_literal.specs.LinkedNames.{AllDeclared, NoneNumbered}
 use Rattle.form_in_place.specs.Places.{is_member}
 use Rattle.run_rules.specs.Programs.{package_number, linked_import, linked_file}
 

@@ -9,7 +9,7 @@ use Rattle.pkg_graph.specs.Package.{Package}
 use Rattle.pkg_graph.specs.Members.{Target, local, imported, member, predeclared}
 use Rattle.go_types.specs.Answers.{given, otherwise, is_among}
 use Rattle.go_types.specs.Entities.{Entity, World, meaning, universe, block_of, package_of, is_exported, exported}
-use Rattle.form_in_place.specs.Places.{Landing, SameName, has_home, is_member}
+use Rattle.form_in_place.specs.Places.{SameName, has_home, is_member}
 use Rattle.form_in_place.specs.Leaves.{Leaf}
 use Rattle.form_in_place.specs.Written.{Written, w_leaf, w_local, w_outer}
 use Rattle.form_in_place.specs.Leaves as rules
@@ -21,7 +21,7 @@ use Rattle.run_rules.specs.Obstacles.{hidden_name, shadowed_meaning, shadowed_na
 use Rattle.written_literal.specs.Within.{Within}
 use Rattle.written_literal.specs.Fine.{is_package}
 use Rattle.written_literal.specs.KnownNames.{landing, KnownNames}
-use Rattle.written_literal.specs.Meant.{FileMeant, NameTyped, Serves}
+use Rattle.written_literal.specs.Meant.{NameTyped, Serves}
 
 no_some : {A : Type 0} (x : A) → None ≡ Some x → false ≡ true
 no_some x e = ap is_some e

@@ -1,13 +1,12 @@
 -- Checks: a module of two packages whose names mean the same to a run and to the rules of typing.
-use Rattle.std.specs.Prelude.{◌≡◌, refl, ℕ, Bool, true, false, List, [], ◌∷◌, Option, Some, None, codes}
+use Rattle.std.specs.Prelude.{◌≡◌, refl, ℕ, false, List, [], ◌∷◌, None, codes}
 use Rattle.go_tree.specs.Tree.{NameAt, Expr, ident, int_lit, selector, expr_and, no_exprs, const_decl, no_specs, spec}
-use Rattle.go_tree.specs.File.{ImportSpec, ImportDecl, Decl, File, values}
+use Rattle.go_tree.specs.File.{Decl, File, values}
 use Rattle.scope_names.specs.Means.{means}
 use Rattle.pkg_graph.specs.Package.{Package}
-use Rattle.pkg_graph.specs.Members.{predeclared}
 use Rattle.go_types.specs.Entities.{universe}
-use Rattle.run_rules.specs.Programs.{linked, linked_file, world, top_env}
-use Rattle.run_rules.specs.Sites.{Where, outer}
+use Rattle.run_rules.specs.Programs.{linked_file, world, top_env}
+use Rattle.run_rules.specs.Sites.{Where}
 use Rattle.written_literal.specs.LinkedNames.{Standing}
 use Rattle.written_literal.specs.Meant.{FileMeant}
 use Rattle.written_literal.proofs.FilesMeant.{file_meant}

@@ -15,14 +15,13 @@ use Rattle.form_in_place.specs.Places.{TypeAlike}
 use Rattle.form_in_place.proofs.Uses.{both_used, same_used, apart_used, single_apart, both_apart, nothing_apart}
 use Rattle.form_in_place.proofs.TypesInPlace.{FieldsAlike}
 use Rattle.run_rules.specs.Surroundings.{Place, is_local}
-use Rattle.run_rules.specs.Sites.{Where, outer, outer_meaning, mark_of, imported_by, import_number, qualifier}
+use Rattle.run_rules.specs.Sites.{Where, outer, imported_by, import_number, qualifier}
 use Rattle.run_rules.specs.Naming.{Names, member_qualifier, type_there, fields_there, qualified, qualified_or}
 use Rattle.run_rules.specs.Obstacles.{hidden_in_type, hidden_in_fields, shadowed_in_type, shadowed_in_fields, unless_exported}
 use Rattle.written_literal.specs.Within.{Within}
-use Rattle.written_literal.specs.Fine.{is_package}
 use Rattle.written_literal.specs.TypesTyped.{Qualifies, TypeTyped, FieldsTyped}
 use Rattle.written_literal.specs.KnownNames.{landing, KnownNames}
-use Rattle.written_literal.specs.Meant.{NameTyped, Serves}
+use Rattle.written_literal.specs.Meant.{Serves}
 use Rattle.written_literal.proofs.NamesWritten.{Outcome, stays, moves, name_outcome}
 
 pub one_of_none : {A : Type 0} (x y : Option A) → one_of x y ≡ None → (x ≡ None) × (y ≡ None)

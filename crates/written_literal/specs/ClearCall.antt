@@ -1,25 +1,19 @@
 -- A call in whose way no obstacle stands, and the literal that is written for it (Go specification, Calls; Function
 -- literals).
-use Rattle.std.specs.Prelude.{◌≡◌, ℕ, suc, Bool, true, false, List, [], None, nat_eq}
+use Rattle.std.specs.Prelude.{◌≡◌, ℕ, true, false, List, None, nat_eq}
 use Rattle.go_tree.specs.declared.spans.Span.{Span}
-use Rattle.go_tree.specs.declared.exprs.Rest.{Rest}
-use Rattle.go_tree.specs.Tree.{Sig, Expr, call, func_lit, Exprs, Stmts}
+use Rattle.go_tree.specs.Tree.{Sig, Expr, func_lit, Stmts}
 use Rattle.scope_names.specs.Means.{Environment, means, is_blank}
 use Rattle.scope_names.specs.FreeNames.{names_of}
 use Rattle.pkg_graph.specs.Package.{Package}
 use Rattle.go_types.specs.Answers.{is_among}
 use Rattle.go_types.specs.Types.{GoType}
-use Rattle.go_types.specs.Entities.{Entity, World, in_block}
-use Rattle.go_kernel.specs.Kernel.{FuncName, Program, code}
-use Rattle.go_kernel.specs.Scope.{Scoped}
-use Rattle.go_kernel.specs.Alike.{MeanSame}
-use Rattle.go_kernel.specs.Laws.{Ranked, AllScoped}
+use Rattle.go_types.specs.Entities.{Entity, World}
+use Rattle.go_kernel.specs.Kernel.{FuncName, Program}
 use Rattle.go_translation.specs.Here.{Here}
 use Rattle.go_translation.specs.Calls.{to_function, to_literal}
-use Rattle.go_translation.specs.Translation.{callee, expr_term, deferred_term}
-use Rattle.form_in_place.specs.CalledLiteral.{declared_at}
-use Rattle.form_in_place.specs.Written.{Written}
-use Rattle.form_meaning.specs.CallMeaning.{declaration_here, CallOf}
+use Rattle.go_translation.specs.Translation.{callee}
+use Rattle.form_meaning.specs.CallMeaning.{declaration_here}
 use Rattle.run_rules.specs.Surroundings.{other, Place}
 use Rattle.run_rules.specs.Sites.{Where}
 use Rattle.run_rules.specs.Naming.{Names}

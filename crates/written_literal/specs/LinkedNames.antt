@@ -1,7 +1,7 @@
 -- A package among linked ones, all of whose names are declared: what is needed for its files' names to mean the same to
 -- a run and to the rules of typing (Go specification, Declarations and scope; Import declarations; Packages).
-use Rattle.std.specs.Prelude.{◌≡◌, ℕ, Bool, true, false, List, [], ◌∷◌, ◌++◌, map, nat_eq, is_some}
-use Rattle.pkg_graph.specs.Package.{SourceTree, Package}
+use Rattle.std.specs.Prelude.{◌≡◌, ℕ, true, false, List, [], ◌∷◌, ◌++◌, map, nat_eq, is_some}
+use Rattle.pkg_graph.specs.Package.{Package}
 use Rattle.go_types.specs.Entities.{World}
 use Rattle.go_types.specs.Programs.{SourcePackage, Program, Headed, headed, headed_package, block_names}
 use Rattle.go_types.specs.Collect.{DeclaredTypes, declared_by, types_declared, valued_world}

@@ -1,18 +1,14 @@
 -- The literal that is written for a function at a use (Go specification, Function literals).
-use Rattle.std.specs.Prelude.{◌≡◌, refl, ℕ, Bool, true, false, List, [], ◌∷◌, ◌++◌, Option, Some, None, nat_eq}
-use Rattle.go_tree.specs.Tree.{Sig, func_lit, Stmts}
+use Rattle.std.specs.Prelude.{List, []}
+use Rattle.go_tree.specs.Tree.{Sig, Stmts}
 use Rattle.scope_names.specs.Means.{Environment}
 use Rattle.pkg_graph.specs.Package.{Package}
 use Rattle.go_types.specs.Entities.{Entity, World, in_block}
 use Rattle.form_in_place.specs.CalledLiteral.{declared_at}
-use Rattle.form_in_place.specs.Written.{Written}
-use Rattle.run_rules.specs.Surroundings.{other, Place, in_literal}
+use Rattle.run_rules.specs.Surroundings.{Place, in_literal}
 use Rattle.run_rules.specs.Sites.{Where}
 use Rattle.run_rules.specs.Naming.{Names}
-use Rattle.run_rules.specs.Obstacles.{hidden_here, shadowed_here, first_answer}
-use Rattle.run_rules.specs.Places.{expr_seen}
 use Rattle.run_rules.specs.Rewriting.{new_sig, new_stmts}
-use Rattle.written_literal.specs.Within.{Within}
 use Rattle.written_literal.specs.Fine.{keeping}
 use Rattle.written_literal.specs.PartsTyped.{changes_there}
 

@@ -1,37 +1,28 @@
 -- The parts of a typed body, and what is written for them at a use (Go specification, Expressions; Statements;
 -- Qualified
 -- identifiers).
-use Rattle.std.specs.Prelude.{◌≡◌, refl, ℕ, Bool, true, false, ◌&&◌, List, [], ◌∷◌, Option, Some, None, is_some, nat_eq}
-use Rattle.go_tree.specs.Tree.{NameAt, Expr, ident, int_lit, rune_lit, str_lit, composite, selector, index, slice, call, func_lit, type_operand, unary, binary, star, const_decl, eval, defer, Stmts}
+use Rattle.std.specs.Prelude.{◌≡◌, ℕ, true, false, ◌&&◌, List, [], ◌∷◌, Option, Some, None, is_some, nat_eq}
+use Rattle.go_tree.specs.Tree.{NameAt, Expr, ident, composite, selector, func_lit, const_decl, eval, defer}
 use Rattle.scope_names.specs.Means.{Environment}
 use Rattle.scope_names.specs.FreeNames.{names_of}
 use Rattle.pkg_graph.specs.Package.{Package}
-use Rattle.go_types.specs.Answers.{given, is_among}
-use Rattle.go_types.specs.Types.{GoType, GoFields, no_go_fields, go_field}
-use Rattle.go_types.specs.Defined.{Defined}
-use Rattle.go_types.specs.Entities.{Content, Entity, World, meaning, package_of, is_exported, defined_in}
+use Rattle.go_types.specs.Answers.{given}
+use Rattle.go_types.specs.Types.{GoType}
+use Rattle.go_types.specs.Entities.{Content, Entity, World, meaning, is_exported, defined_in}
 use Rattle.go_types.specs.TypeNames.{func_type}
 use Rattle.go_types.specs.Operands.{value}
 use Rattle.go_types.specs.Primary.{fields_in}
 use Rattle.go_types.specs.Typing.{parts}
-use Rattle.form_in_place.specs.Places.{SeenFields, SeenIn, SelectorAlike}
-use Rattle.form_in_place.specs.Written.{Written, WrittenBody}
 use Rattle.form_in_place.specs.Bound.{literal_under}
-use Rattle.form_in_place.specs.Leaves.{Leaf, LiteralAlike}
-use Rattle.form_in_place.specs.Leaves as rules
+use Rattle.form_in_place.specs.Leaves.{LiteralAlike}
 use Rattle.form_in_place.specs.Places.{open_in}
-use Rattle.run_rules.specs.Surroundings.{Use, Place, Seen, seen, seen_type, seen_stmt, inner_slot, in_slot}
+use Rattle.run_rules.specs.Surroundings.{Use, Place, Seen, seen, seen_type, seen_stmt}
 use Rattle.run_rules.specs.Sites.{Where, outer_meaning, mark_of, qualifier}
 use Rattle.run_rules.specs.Naming.{Names, type_there}
 use Rattle.run_rules.specs.FormTrees.{outside_name, no_change}
-use Rattle.run_rules.specs.Obstacles.{hidden_selection, hidden_here, shadowed_here, first_answer, hidden_name, shadowed_name}
-use Rattle.run_rules.specs.Places.{stmts_seen}
-use Rattle.run_rules.specs.Rewriting.{Changes, new_stmts}
-use Rattle.written_literal.specs.Within.{Within}
-use Rattle.written_literal.specs.Fine.{keeping, is_package, names_package, is_call, FineElems, FineSelector, Fine, AllFine}
-use Rattle.written_literal.specs.Fine as fine
+use Rattle.run_rules.specs.Rewriting.{Changes}
+use Rattle.written_literal.specs.Fine.{is_package, names_package, is_call, FineElems, Fine}
 use Rattle.written_literal.specs.Meant.{NameTyped, Serves}
-use Rattle.written_literal.specs.Listing.{Listing}
 use Rattle.written_literal.specs.KnownNames.{landing}
 use Rattle.written_literal.specs.TypesTyped.{TypeTyped}
 

@@ -1,20 +1,14 @@
 -- A type of a body whose names are known at the use (Go specification, Types; Qualified identifiers).
-use Rattle.std.specs.Prelude.{◌≡◌, refl, ℕ, Bool, true, false, not, ◌&&◌, ◌||◌, List, Option, Some, None, is_some, if◌then◌else◌, nat_eq}
-use Rattle.go_tree.specs.Tree.{NameAt, TypeExpr, named, pointer, slice_type, map_type, struct_type, Fields, no_fields, field}
-use Rattle.scope_names.specs.Means.{Environment, means, is_blank}
+use Rattle.std.specs.Prelude.{◌≡◌, ℕ, true, false, List, Some, None, is_some, nat_eq}
+use Rattle.go_tree.specs.Tree.{TypeExpr, named, pointer, slice_type, map_type, struct_type, Fields, no_fields, field}
+use Rattle.scope_names.specs.Means.{Environment, means}
 use Rattle.scope_names.specs.FreeNames.{names_of}
 use Rattle.pkg_graph.specs.Package.{Package}
-use Rattle.pkg_graph.specs.Members.{Target, local, imported, member, predeclared}
-use Rattle.go_types.specs.Answers.{given, both, one_of, only_if, is_among}
-use Rattle.go_types.specs.Types.{pointer_to, slice_of, map_of, struct_of, go_field, field_names}
-use Rattle.go_types.specs.Entities.{Entity, World, Env, meaning, package_of, is_exported, exported, type_of_name}
-use Rattle.go_types.specs.TypeNames.{field_package}
-use Rattle.form_in_place.specs.Places.{TypeAlike}
+use Rattle.go_types.specs.Answers.{given}
+use Rattle.go_types.specs.Entities.{Entity, World, meaning, package_of}
 use Rattle.run_rules.specs.Surroundings.{Place, is_local}
-use Rattle.run_rules.specs.Sites.{Where, outer, outer_meaning, mark_of, imported_by, import_number, qualifier}
-use Rattle.run_rules.specs.Naming.{Names, member_qualifier, type_there, fields_there, qualified, qualified_or}
-use Rattle.run_rules.specs.Obstacles.{hidden_in_type, hidden_in_fields, shadowed_in_type, shadowed_in_fields, unless_exported}
-use Rattle.written_literal.specs.Within.{Within}
+use Rattle.run_rules.specs.Sites.{Where, outer_meaning, mark_of, qualifier}
+use Rattle.run_rules.specs.Naming.{Names}
 use Rattle.written_literal.specs.Fine.{is_package}
 use Rattle.written_literal.specs.Meant.{NameTyped, Serves}
 
