@@ -19,6 +19,10 @@ pub mod PackagesBare
 pub mod PackageBudgets
 pub mod HeldVariables
 pub mod Ranks
+pub mod Widths
+pub mod OneValue
+pub mod TypedWidths
+pub mod ReturnedWidths
 pub mod AgreeingHere
 pub mod SmallAlike
 pub mod MentionsAlike
@@ -41,3 +45,4 @@ mod TermClasses
 mod TermShapes
 pub mod SwappedMeaning
 mod PackagesInUse
+mod WidthsInUse

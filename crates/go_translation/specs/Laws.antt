@@ -1,17 +1,22 @@
 -- The laws of translation. Each is the contract of a function of this crate.
-use Rattle.std.specs.Prelude.{◌≡◌, ◌⊎◌, ℕ, ◌+◌, ◌*◌, ◌≤◌, Bool, true, false, List, [], ◌++◌, length}
+use Rattle.std.specs.Prelude.{◌≡◌, ◌⊎◌, ℕ, Some, ◌+◌, ◌*◌, ◌≤◌, Bool, true, false, List, [], ◌++◌, length}
 use Rattle.go_tree.specs.declared.spans.Span.{Span}
-use Rattle.go_tree.specs.Tree.{Expr, Stmts}
+use Rattle.go_tree.specs.Tree.{Expr, Exprs, Stmts}
 use Rattle.go_tree.specs.Bare.{bare_expr, bare_stmts}
 use Rattle.scope_names.specs.Means.{Environment}
 use Rattle.scope_names.specs.FreeNames.{free_expr, free_stmts}
 use Rattle.go_types.specs.Types.{GoType}
 use Rattle.go_types.specs.Entities.{Entity, Env}
 use Rattle.go_types.specs.Agreement.{with_names, On, Agrees}
-use Rattle.go_kernel.specs.Kernel.{ImportPath, FuncName, Covers}
-use Rattle.go_translation.specs.Mentions.{Mention, mentions_stmts, any_mention, is_stored, is_held, is_held_param}
-use Rattle.go_translation.specs.Here.{Location, Here}
-use Rattle.go_translation.specs.Translation.{expr_term, stmts_term}
+use Rattle.go_types.specs.Operands.{Operand, spread, takes_all}
+use Rattle.go_types.specs.Bodies.{no_values}
+use Rattle.go_types.specs.Operators.{has_address}
+use Rattle.go_types.specs.Typing.{parts, all_parts, place}
+use Rattle.go_kernel.specs.Kernel.{ImportPath, FuncName, Covers, Program}
+use Rattle.go_kernel.specs.Conditions.{width}
+use Rattle.go_translation.specs.Mentions.{Read, Addressed, Mention, mentions, mentions_all, mentions_stmts, any_mention, is_stored, is_held, is_held_param}
+use Rattle.go_translation.specs.Here.{Location, Here, defined_here}
+use Rattle.go_translation.specs.Translation.{expr_term, values_term, address, stmts_term}
 use Rattle.go_kernel.specs.Scope.{Scoped}
 use Rattle.go_kernel.specs.Laws.{Ranked, AllScoped}
 use Rattle.go_translation.specs.Packages.{Package, codes_of, initial_of, functions_of, program_of, shown_by, freely_shown_by}
@@ -19,6 +24,7 @@ use Rattle.go_translation.specs.SameMeaning.{Packages, WellTyped, with_further, 
 use Rattle.go_translation.specs.Asked.{is_ranked, asks_nothing_missing}
 use Rattle.go_translation.specs.SpansAside.{AllSameButSpans}
 use Rattle.go_translation.specs.Agreement.{at_names, OnHere, AgreesHere}
+use Rattle.go_translation.specs.Widths.{GivesItsValues, AllThere, Reachable}
 use Rattle.go_translation.specs.Swapped.{SwappedExpr, SwappedStmts}
 use Rattle.go_translation.specs.SwappedPackages.{SwappedPackages}
 
@@ -158,3 +164,27 @@ abbrev pub RankedByComputing : Type 0
 RankedByComputing =
     (ps : List (Package Span)) (free : FuncName → Bool) (rank : FuncName → ℕ) →
     is_ranked (functions_of (codes_of ps)) free rank ≡ true → Ranked (program_of (codes_of ps)) free rank
+
+-- ---- numbers of values
+
+-- Where a program has what names mean, and variables whose address is taken live in cells, the term of a typed value
+-- gives one value, that of a call its results, and every other typed part has a term that gives some number of values.
+abbrev pub TypedPartsGiveTheirValues : Type 0
+TypedPartsGiveTheirValues =
+    (P : Program) (h : Here) (t : GoType) (e : Expr Span) (o : Operand) → AllThere P h →
+    Reachable h (mentions Read h.env e) → parts h.env e ≡ Some o → GivesItsValues o (width P (expr_term h t e))
+
+-- and what has an address has a term that gives one
+abbrev pub AddressesAreSingle : Type 0
+AddressesAreSingle =
+    (P : Program) (h : Here) (e : Expr Span) (o : Operand) → AllThere P h →
+    Reachable h (mentions Addressed h.env e) → parts h.env e ≡ Some o → has_address (place h.env e) ≡ true →
+    width P (address h e) ≡ Some 1
+
+-- and the values of a typed `return` are as many as the results: what the laws of forms ask of a body's returns
+abbrev pub ReturnsGiveAllResults : Type 0
+ReturnsGiveAllResults =
+    (P : Program) (h : Here) (ts : List GoType) (es : Exprs Span) (os : List Operand) → AllThere P h →
+    Reachable h (mentions_all h.env es) → all_parts h.env es ≡ Some os →
+    takes_all (defined_here h) ts (spread os) ≡ true → no_values es ≡ false →
+    width P (values_term h ts es) ≡ Some (length ts)

@@ -15,4 +15,6 @@ pub mod SameMeaning
 pub mod Agreement
 pub mod Swapped
 pub mod SwappedPackages
+pub mod Widths
+pub mod Frames
 pub mod Laws

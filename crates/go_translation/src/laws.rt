@@ -9,7 +9,9 @@ ghost use Rattle.go_translation.specs.Laws.{ExpressionsNeedNoSpans, StatementsNe
 ghost use Rattle.go_translation.specs.Laws.{MentionsNeedNoSpans, HeldAlike, ExpressionsAlike};
 ghost use Rattle.go_translation.specs.Laws.{StatementsAlike, SwappedExpressions, SwappedStatements};
 ghost use Rattle.go_translation.specs.Laws.{SwappedPrograms, SwappedRuns, SwappedMeaning, CodeIsScoped};
-ghost use Rattle.go_translation.specs.Laws.{InitialIsScoped, NothingMissingIsAskedFor};
+ghost use Rattle.go_translation.specs.Laws.{AddressesAreSingle, InitialIsScoped};
+ghost use Rattle.go_translation.specs.Laws.{ReturnsGiveAllResults};
+ghost use Rattle.go_translation.specs.Laws.{NothingMissingIsAskedFor, TypedPartsGiveTheirValues};
 
 /// A part's term, and which variables it holds, depend on no span.
 #[tactic(auto, using(crate::proofs::TranslationLaws::bare_laws))]
@@ -79,4 +81,13 @@ pub fn budgets_and_free_prices_of_packages()
 pub fn packages_need_no_spans()
     ensures programs { PackagesNeedNoSpans }
     ensures runs { ShowsNeedNoSpans }
+{}
+
+/// A typed value is one value: where a program has what names mean, and variables whose address is
+/// taken live in cells, the term of what is typed gives as many values as it is. So it is never the
+/// term that does nothing.
+pub fn typed_values_are_single()
+    ensures operands { TypedPartsGiveTheirValues }
+    ensures addresses { AddressesAreSingle }
+    ensures returns { ReturnsGiveAllResults }
 {}

@@ -1,0 +1,6 @@
+pub mod Stands
+pub mod DeclStands
+pub mod ConstantSteps
+pub mod Swaps
+pub mod SwapPrograms
+pub mod Laws

@@ -1,0 +1,11 @@
+pub mod Within
+pub mod Fine
+pub mod Listing
+pub mod Meant
+pub mod LinkedNames
+pub mod KnownNames
+pub mod TypesTyped
+pub mod PartsTyped
+pub mod LiteralThere
+pub mod ClearCall
+pub mod Laws
