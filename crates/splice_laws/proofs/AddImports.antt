@@ -64,15 +64,15 @@ inserted_text txt mark before behind tail p ns scalars inner last own own_last a
 
 -- ---- the pieces of an import
 
-blank_ends : (w next : List ℕ) → is_blanks w ≡ true → EndsBefore (a_piece w) next
+pub blank_ends : (w next : List ℕ) → is_blanks w ≡ true → EndsBefore (a_piece w) next
 blank_ends w [] h = h
 blank_ends w (c ∷ cs) h = λ more. h
 
-text_before : (l next : List ℕ) → IsPiece (token Str) l → EndsBefore (record { kind = token Str; word = l }) next
+pub text_before : (l next : List ℕ) → IsPiece (token Str) l → EndsBefore (record { kind = token Str; word = l }) next
 text_before l [] h = text_ends l [] h
 text_before l (c ∷ cs) h = λ more. text_ends l (c ∷ more) h
 
-import_is : IsPiece (token Keyword) (codes "import")
+pub import_is : IsPiece (token Keyword) (codes "import")
 unfolding keyword_spellings
 import_is = refl
 
@@ -131,7 +131,7 @@ token_on k w ps at d = refl
 
 -- ---- what spells it
 
-z : Span
+pub z : Span
 z = record { start = 0; end = 0 }
 
 abbrev name_lexemes : Option (List ℕ) → Lexemes

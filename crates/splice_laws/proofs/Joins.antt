@@ -274,7 +274,7 @@ remark_ends_any (d ∷ ds) c more others next word = by_sort (sort_of remark d d
     by_sort (a_lexeme b l form) = next_lexeme remark d ds others b l next.spelled (dead (run START (d ∷ ds)) (remark_closed d ds c more next word form)) refl
 
 -- a comment before a token is closed, and ends before whatever follows
-remark_ends : (w : List ℕ) (c : ℕ) (cs more others : List ℕ) (k : TokenKind) → IsNext (w ++ c ∷ more) remark w (c ∷ more) → IsPiece (token k) (c ∷ cs) → IsNext (w ++ others) remark w others
+pub remark_ends : (w : List ℕ) (c : ℕ) (cs more others : List ℕ) (k : TokenKind) → IsNext (w ++ c ∷ more) remark w (c ∷ more) → IsPiece (token k) (c ∷ cs) → IsNext (w ++ others) remark w others
 remark_ends w c cs more others k next piece = remark_ends_any w c more others next (λ q. token_begins k c cs piece q)
 
 -- ---- the last part before a place

@@ -177,7 +177,7 @@ pub record Own (tokens : List Token) (ls : Lexemes) (span : Span) : Type 0 where
 abbrev pub own_span : Lexemes → Span
 own_span ls = record { start = start_of ls; end = end_after (start_of ls) ls }
 
-same_lexeme : (t : Token) (s : Span) (x : Terminal) → lexeme_of t ≡ lex s x → (t.span ≡ s) × (terminal_of t.kind t.spelling ≡ x)
+pub same_lexeme : (t : Token) (s : Span) (x : Terminal) → lexeme_of t ≡ lex s x → (t.span ≡ s) × (terminal_of t.kind t.spelling ≡ x)
 same_lexeme t s x e = (ap span_in e, ap terminal_in e)
   where
     span_in : Lexeme → Span
@@ -186,7 +186,7 @@ same_lexeme t s x e = (ap span_in e, ap terminal_in e)
     terminal_in : Lexeme → Terminal
     terminal_in (lex s x) = x
 
-end_last : (n : ℕ) (ls : Lexemes) (s : Span) (x : Terminal) → end_after n (ls ++ lex s x ∷ []) ≡ s.end
+pub end_last : (n : ℕ) (ls : Lexemes) (s : Span) (x : Terminal) → end_after n (ls ++ lex s x ∷ []) ≡ s.end
 end_last n [] s x = refl
 end_last n (lex s0 x0 ∷ ls) s x = end_last s0.end ls s x
 

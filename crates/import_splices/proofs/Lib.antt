@@ -1,0 +1,4 @@
+pub mod Terms
+pub mod Bytes
+pub mod Gaps
+pub mod Nexts
