@@ -2,3 +2,11 @@ pub mod Terms
 pub mod Bytes
 pub mod Gaps
 pub mod Nexts
+pub mod Rights
+pub mod Nodes
+pub mod Closed
+pub mod Steps
+pub mod Lands
+pub mod Outs
+pub mod Walks
+pub mod Files

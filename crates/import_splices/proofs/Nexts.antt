@@ -24,11 +24,11 @@ use Rattle.import_splices.proofs.Gaps.{first_byte}
 
 module _ (f : Terminal → Bool) where
   -- each row of the table whose terminal passes is among these spellings
-  abbrev among : (List ℕ → Bool) → List (List ℕ × Terminal) → Bool
+  abbrev pub among : (List ℕ → Bool) → List (List ℕ × Terminal) → Bool
   among g [] = true
   among g (row ∷ rows) = cond (f row.1) (g row.0) true && among g rows
 
-  found_among : (g : List ℕ → Bool) (rows : List (List ℕ × Terminal)) (w : List ℕ) → among g rows ≡ true → f (found_in [] w) ≡ false → f (found_in rows w) ≡ true → g w ≡ true
+  pub found_among : (g : List ℕ → Bool) (rows : List (List ℕ × Terminal)) (w : List ℕ) → among g rows ≡ true → f (found_in [] w) ≡ false → f (found_in rows w) ≡ true → g w ≡ true
   found_among g [] w all none h = absurd (nope (sym h ∙ none))
     where
       nope : true ≡ false → ⊥
@@ -47,7 +47,7 @@ abbrev pub is_semi : Terminal → Bool
 is_semi semicolon = true
 is_semi _ = false
 
-abbrev is_open_word : List ℕ → Bool
+abbrev pub is_open_word : List ℕ → Bool
 is_open_word w = bytes_eq w (codes ";") || bytes_eq w (codes "(")
 
 -- a written `(` or semicolon
@@ -125,18 +125,19 @@ pub record Written (at : ℕ) (ps : List Piece) (x : Token) (back : List Token) 
   pub token_is : x ≡ record { span = span_of (at + pieces_size gap) word; kind = kind; spelling = encode_utf8_all word }
   pub back_is : back ≡ tokens_from (at + pieces_size gap + size_of word) (due_after (at + pieces_size gap) None (token kind) word) behind
   pub alike : tokens_from at None ps ≡ x ∷ back
+  pub flat : newline_in gap ≡ false
 
 abbrev pub inserted_at : ℕ → Token
 inserted_at d = record { span = record { start = d; end = d }; kind = Inserted; spelling = 59 ∷ [] }
 
 -- the semicolon that is due, or a token
 pub data Next (at d : ℕ) (ps : List Piece) (x : Token) (back : List Token) : Type 0 where
-  is_inserted : x ≡ inserted_at d → back ≡ tokens_from at None ps → Next at d ps x back
+  is_inserted : x ≡ inserted_at d → back ≡ tokens_from at None ps → breaks ps ≡ true → Next at d ps x back
   is_written : Written at ps x back → Next at d ps x back
 
 pub next_of : (ps : List Piece) (at d : ℕ) (x : Token) (back : List Token) → tokens_from at (Some d) ps ≡ x ∷ back → Next at d ps x back
-unfolding tokens_from
-next_of [] at d x back e = let h : inserted_at d ≡ x = first e in let r : [] ≡ back = rest e in is_inserted (sym h) (sym r)
+unfolding tokens_from breaks
+next_of [] at d x back e = let h : inserted_at d ≡ x = first e in let r : [] ≡ back = rest e in is_inserted (sym h) (sym r) refl
   where
     first : inserted (Some d) ≡ x ∷ back → inserted_at d ≡ x
     first e = cc
@@ -157,9 +158,17 @@ next_of (p ∷ ps) at d x back e = by_kind p.kind p.word refl e (λ q. next_of p
     alone : (k : PieceKind) (w : List ℕ) → p ≡ record { kind = k; word = w } → is_silent k ≡ true → tokens_from at None (p ∷ ps) ≡ tokens_from (at + size_of p.word) None ps
     alone k w e s = none_silent (p ∷ []) ps at (one k w e s) ∙ ap (λ (n : ℕ). tokens_from (at + n) None ps) (zero (size_of p.word))
 
-    on : (k : PieceKind) (w : List ℕ) → p ≡ record { kind = k; word = w } → is_silent k ≡ true → Next (at + size_of p.word) d ps x back → Next at d (p ∷ ps) x back
-    on k w e s (is_inserted h r) = is_inserted h (r ∙ sym (alone k w e s))
-    on k w e s (is_written v) =
+    breaks_by : (k : PieceKind) (w : List ℕ) (b : Bool) → is_silent k ≡ true → breaks_at k w b ≡ is_listed w 10 || b
+    breaks_by blanks w b s = refl
+    breaks_by remark w b s = refl
+    breaks_by (token k) w b s = absurd cc
+
+    breaks_on : (k : PieceKind) (w : List ℕ) (c : Bool) → p ≡ record { kind = k; word = w } → is_silent k ≡ true → is_listed w 10 ≡ c → c || breaks ps ≡ true → breaks_at p.kind p.word (breaks ps) ≡ true
+    breaks_on k w c e s n q = ap (λ (v : Piece). breaks_at v.kind v.word (breaks ps)) e ∙ breaks_by k w (breaks ps) s ∙ ap (λ (b : Bool). b || breaks ps) n ∙ q
+
+    on : (k : PieceKind) (w : List ℕ) → p ≡ record { kind = k; word = w } → is_silent k ≡ true → is_listed w 10 ≡ false → Next (at + size_of p.word) d ps x back → Next at d (p ∷ ps) x back
+    on k w e s f (is_inserted h r q) = is_inserted h (r ∙ sym (alone k w e s)) (breaks_on k w false e s f q)
+    on k w e s f (is_written v) =
         let n : at + size_of p.word + pieces_size v.gap ≡ at + (size_of p.word + pieces_size v.gap) = omega arith in
         is_written (record {
           gap = p ∷ v.gap;
@@ -171,18 +180,19 @@ next_of (p ∷ ps) at d x back e = by_kind p.kind p.word refl e (λ q. next_of p
           token_is = v.token_is ∙ ap (λ (n : ℕ). record { span = span_of n v.word; kind = v.kind; spelling = encode_utf8_all v.word }) n;
           back_is = v.back_is ∙ ap (λ (n : ℕ). tokens_from (n + size_of v.word) (due_after n None (token v.kind) v.word) v.behind) n;
           alike = alone k w e s ∙ v.alike;
+          flat = ap (λ (q : Piece). is_listed q.word 10 || newline_in v.gap) e ∙ ap (λ (b : Bool). b || newline_in v.gap) f ∙ v.flat;
         })
 
-    by_newline : (k : PieceKind) (w : List ℕ) → p ≡ record { kind = k; word = w } → is_silent k ≡ true → (b : Bool) → cond b (inserted (Some d)) [] ++ tokens_from (at + size_of w) (cond b None (Some d)) ps ≡ x ∷ back → Later → Next at d (p ∷ ps) x back
-    by_newline k w e s true q later =
+    by_newline : (k : PieceKind) (w : List ℕ) → p ≡ record { kind = k; word = w } → is_silent k ≡ true → (b : Bool) → is_listed w 10 ≡ b → cond b (inserted (Some d)) [] ++ tokens_from (at + size_of w) (cond b None (Some d)) ps ≡ x ∷ back → Later → Next at d (p ∷ ps) x back
+    by_newline k w e s true f q later =
         let h : inserted_at d ≡ x = cc in
         let r : tokens_from (at + size_of w) None ps ≡ back = cc in
-        is_inserted (sym h) (sym r ∙ ap (λ (v : Piece). tokens_from (at + size_of v.word) None ps) (sym e) ∙ sym (alone k w e s))
-    by_newline k w e s false q later = on k w e s (later (ap (λ (v : Piece). tokens_from (at + size_of v.word) (Some d) ps) e ∙ q))
+        is_inserted (sym h) (sym r ∙ ap (λ (v : Piece). tokens_from (at + size_of v.word) None ps) (sym e) ∙ sym (alone k w e s)) (breaks_on k w true e s f refl)
+    by_newline k w e s false f q later = on k w e s f (later (ap (λ (v : Piece). tokens_from (at + size_of v.word) (Some d) ps) e ∙ q))
 
     by_kind : (k : PieceKind) (w : List ℕ) → p ≡ record { kind = k; word = w } → tokens_at at (Some d) k w ++ tokens_from (at + size_of w) (due_after at (Some d) k w) ps ≡ x ∷ back → Later → Next at d (p ∷ ps) x back
-    by_kind blanks w e q later = by_newline blanks w e refl (is_listed w 10) q later
-    by_kind remark w e q later = by_newline remark w e refl (is_listed w 10) q later
+    by_kind blanks w e q later = by_newline blanks w e refl (is_listed w 10) refl q later
+    by_kind remark w e q later = by_newline remark w e refl (is_listed w 10) refl q later
     by_kind (token k) w e q later =
         let t : Token = record { span = span_of at w; kind = k; spelling = encode_utf8_all w } in
         let h : t ≡ x = cc in
@@ -198,6 +208,7 @@ next_of (p ∷ ps) at d x back e = by_kind p.kind p.word refl e (λ q. next_of p
           token_is = sym h ∙ ap (λ (n : ℕ). record { span = span_of n w; kind = k; spelling = encode_utf8_all w }) n;
           back_is = sym r ∙ ap (λ (n : ℕ). tokens_from (n + size_of w) (due_after n None (token k) w) ps) n;
           alike = ap (λ (q : Piece). tokens_from at None (q ∷ ps)) e ∙ q;
+          flat = refl;
         })
 
 -- ---- the semicolon behind an offset
@@ -217,7 +228,7 @@ word_size (c ∷ cs) k piece =
     more : (n m : ℕ) → n ≡ suc m → 0 < n
     more n m e = omega (arith, e)
 
-not_from : (n m : ℕ) → m < n → nat_le n m ≡ false
+pub not_from : (n m : ℕ) → m < n → nat_le n m ≡ false
 not_from n m h = grind (arith, nat_tests, h)
 
 past_piece : (k : PieceKind) (w : List ℕ) (at : ℕ) (d : Option ℕ) (n : ℕ) (us : List Token) → DueBy at d → 0 < size_of w → at + size_of w ≤ n → through_semicolon (tokens_at at d k w ++ us) n ≡ through_semicolon us n

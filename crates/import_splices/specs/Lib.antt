@@ -1,0 +1,2 @@
+pub mod SettledFile
+pub mod SettledReads

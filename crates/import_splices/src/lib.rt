@@ -1,6 +1,7 @@
-//! A file whose imports are settled in its text reads as the file with its imports settled in its tree: laws alone.
+//! A text whose imports are settled reads as the file with its imports settled: definitions and laws alone, without
+//! code.
 #![tactic(auto)]
 
 mod laws;
 
-pub use laws::settled_texts_are_read;
+pub use laws::unused_imports_go;

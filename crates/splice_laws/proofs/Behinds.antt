@@ -43,13 +43,13 @@ newline_is : is_word 10 ≡ false
 unfolding is_letter is_digit general_category general_category_rows value_in
 newline_is = refl
 
-blank_word : (c : ℕ) → is_blank c ≡ true → is_word c ≡ false
+pub blank_word : (c : ℕ) → is_blank c ≡ true → is_word c ≡ false
 blank_word c h = or_cases ((c == 32 || c == 9) || c == 13) (c == 10) h (λ q. or_cases (c == 32 || c == 9) (c == 13) q (λ r. or_cases (c == 32) (c == 9) r (λ t. by_number c 32 t space_is) (λ t. by_number c 9 t tab_is)) (λ r. by_number c 13 r return_is)) (λ q. by_number c 10 q newline_is)
   where
     by_number : (c n : ℕ) → c == n ≡ true → is_word n ≡ false → is_word c ≡ false
     by_number c n q e = ap is_word (same_number c n q) ∙ e
 
-comment_first : (w : List ℕ) → HasForm comment w → no_word_first w ≡ true
+pub comment_first : (w : List ℕ) → HasForm comment w → no_word_first w ≡ true
 unfolding comment is_letter is_digit general_category general_category_rows value_in
 comment_first w h = by_either (view h)
   where

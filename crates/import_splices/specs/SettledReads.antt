@@ -1,0 +1,35 @@
+-- What a text reads as whose imports are settled (Go specification, Import declarations; Source file organization).
+use Rattle.std.specs.Prelude.{ℕ, List, []}
+use Rattle.go_tree.specs.declared.spans.Span.{Span}
+use Rattle.go_tree.specs.declared.tokens.Token.{Token}
+use Rattle.go_tree.specs.declared.tokens.Comment.{Comment}
+use Rattle.go_tree.specs.File.{File}
+use Rattle.go_tree.specs.FileBare.{bare_file}
+use Rattle.go_words.specs.Tokens.{TokensOf}
+use Rattle.go_read.specs.SpellsFiles.{SpellsFile}
+use Rattle.text_edits.specs.Applied.{applied}
+use Rattle.import_edit.specs.Settled.{settled}
+use Rattle.splice_laws.specs.Dots.{UndottedFile}
+use Rattle.splice_laws.specs.Splice.{ReadsAs}
+use Rattle.import_splices.specs.SettledFile.{without_unused}
+
+-- A text without the bytes of its unused imports reads as the file without these imports.
+abbrev pub UnusedGo : Type 0
+UnusedGo =
+    (text : List ℕ) (tokens : List Token) (comments : List Comment) (file : File Span) (unused : List Span)
+    → TokensOf text tokens comments → SpellsFile tokens file → UndottedFile (bare_file file)
+    → ReadsAs (applied text (settled text tokens comments file [] unused))
+    (without_unused text tokens comments unused file)
+
+-- the same of a text that reads as a file
+abbrev pub UnusedGoAgain : Type 0
+UnusedGoAgain =
+    (text : List ℕ) (f : File (Unit {0})) (r : ReadsAs text f) (unused : List Span) → UndottedFile f
+    → ReadsAs (applied text (settled text r.tokens r.comments r.file [] unused))
+    (without_unused text r.tokens r.comments unused r.file)
+
+-- In the file without them too no selector stands on an integer literal.
+abbrev pub UnusedStayUndotted : Type 0
+UnusedStayUndotted =
+    (text : List ℕ) (tokens : List Token) (comments : List Comment) (file : File Span) (unused : List Span)
+    → UndottedFile (bare_file file) → UndottedFile (without_unused text tokens comments unused file)
