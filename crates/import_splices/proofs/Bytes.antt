@@ -1,19 +1,19 @@
 -- Bytes of parts, lines, and what edits leave from an offset on.
-use Rattle.std.proofs.Common.{◌≡◌, inl, inr, ◌⊎◌, ℕ, suc, ◌+◌, ◌-◌, ◌≤◌, ◌<◌, Bool, true, false, cond, not, ◌&&◌, ◌||◌, ◌==◌, nat_eq, List, [], ◌∷◌, ◌++◌, length, take, drop, reverse, refl, sym, ap, subst, ◌∙◌, arith, length-append}
+use Rattle.std.proofs.Common.{◌≡◌, inl, inr, ◌⊎◌, ℕ, suc, ◌+◌, ◌-◌, ◌≤◌, ◌<◌, Bool, true, false, cond, not, ◌&&◌, ◌||◌, ◌==◌, List, [], ◌∷◌, ◌++◌, length, take, drop, reverse, refl, sym, ap, ◌∙◌, arith, length-append}
 use Rattle.std.specs.Prelude.{encode_utf8_all, slice_range}
-use Rattle.std.specs.List.{list_all, prefix_len}
+use Rattle.std.specs.List.{list_all}
 use Rattle.std.proofs.lemmas.Bool.Decides.{nat_tests}
 use Rattle.std.proofs.lemmas.List.{append_assoc, append-nil, reverse-append, length-reverse}
 use Rattle.std.proofs.lemmas.List.Folds.{drop_split}
 use Rattle.std.proofs.lemmas.Str.{encodes-append}
 use Rattle.std.proofs.lemmas.Str.{encode_ascii}
 use Rattle.go_words.specs.Tokens.Characters.{is_blank, is_listed, each}
-use Rattle.go_words.specs.Tokens.{size_of, pieces_size}
+use Rattle.go_words.specs.Tokens.{pieces_size}
 use Rattle.go_words.specs.Tokens.Pieces.{Piece, is_blanks}
 use Rattle.text_edits.specs.declared.edit.Edit.{Edit}
 use Rattle.text_edits.specs.Applied.{replaced_from}
 use Rattle.text_edits.proofs.Parts.{slice_split}
-use Rattle.import_edit.specs.Removed.{is_newline, bytes_to_newline, line_start, newline_size, line_end, begins_line, stands_alone}
+use Rattle.import_edit.specs.Removed.{bytes_to_newline, line_start, newline_size, line_end, begins_line}
 use Rattle.splice_laws.specs.Joints.{words_of}
 use Rattle.splice_laws.proofs.AddImports.{words_both}
 use Rattle.splice_laws.proofs.Splices.{words_size, take_own, drop_own}

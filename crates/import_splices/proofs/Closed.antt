@@ -7,8 +7,8 @@ use Rattle.ucd_category.specs.GeneralCategoryRows.{general_category_rows}
 use Rattle.ucd_table.specs.Rows.{value_in}
 use Rattle.go_tree.specs.declared.tokens.TokenKind.{TokenKind}
 use Rattle.go_tree.specs.declared.tokens.TokenKind.TheVariants.{Ident, Keyword, Operator, Integer, Float, Imaginary, Rune, Str, Inserted}
-use Rattle.go_words.specs.Terminals.{Terminal, str_lit, end_paren, terminal_of, found_in, keywords, operators}
-use Rattle.go_words.specs.Tokens.Characters.{is_letter, is_digit, is_blank}
+use Rattle.go_words.specs.Terminals.{Terminal, str_lit, end_paren, terminal_of, keywords, operators}
+use Rattle.go_words.specs.Tokens.Characters.{is_letter, is_digit}
 use Rattle.go_words.specs.Tokens.Pieces.{token, Piece, IsPiece, IsNext}
 use Rattle.go_scan.specs.Automaton.{next_of}
 use Rattle.go_scan.proofs.AutomatonLemmas.{below, run}

@@ -1,23 +1,22 @@
 -- A text without its unused imports.
-use Rattle.std.proofs.Common.{◌≡◌, inl, inr, ◌⊎◌, ℕ, ◌+◌, ◌≤◌, Bool, true, false, not, ◌&&◌, ◌||◌, List, [], ◌∷◌, ◌++◌, map, length, None, refl, sym, ap, subst, ◌∙◌, arith}
+use Rattle.std.proofs.Common.{◌≡◌, inr, ℕ, ◌+◌, Bool, true, false, not, ◌&&◌, List, [], ◌∷◌, ◌++◌, map, None, refl, sym, ap, subst, ◌∙◌, arith}
 use Rattle.std.specs.Prelude.{encode_utf8_all, slice_range}
 use Rattle.std.specs.Str.{all_scalars}
-use Rattle.std.proofs.lemmas.List.{append_assoc, append-nil}
+use Rattle.std.proofs.lemmas.List.{append-nil}
 use Rattle.std.proofs.lemmas.Str.{encodes-append}
 use Rattle.go_tree.specs.declared.spans.Span.{Span}
 use Rattle.go_tree.specs.declared.tokens.Token.{Token}
 use Rattle.go_tree.specs.declared.tokens.Comment.{Comment}
 use Rattle.go_tree.specs.declared.tokens.TokenKind.{TokenKind}
 use Rattle.go_tree.specs.declared.tokens.TokenKind.TheVariants.{Ident, Keyword, Operator, Integer, Float, Imaginary, Rune, Str, Inserted}
-use Rattle.go_tree.specs.File.{ImportDecl, File}
-use Rattle.go_tree.specs.FileBare.{bare_decl, bare_file}
+use Rattle.go_tree.specs.File.{File}
 use Rattle.go_words.specs.Terminals.{Terminal, lex, ident, semicolon, key_package, terminal_of, lexemes, keywords, operators}
-use Rattle.go_words.specs.Tokens.Characters.{is_blank, is_word}
+use Rattle.go_words.specs.Tokens.Characters.{is_blank}
 use Rattle.go_words.specs.Tokens.{TokensOf, size_of, tokens_from, comments_from, pieces_size, after_mark}
-use Rattle.go_words.specs.Tokens.Pieces.{PieceKind, blanks, remark, token, Piece, no_word_first, IsPiece, IsNext, CutsTo}
+use Rattle.go_words.specs.Tokens.Pieces.{PieceKind, blanks, remark, token, Piece, no_word_first, IsPiece}
 use Rattle.go_read.specs.SpellsTypes.{Lexemes}
-use Rattle.go_read.specs.SpellsSpans.{span_to, start_of}
-use Rattle.go_read.specs.SpellsFiles.{SpellsFront, SpellsFile, front_rule}
+use Rattle.go_read.specs.SpellsSpans.{span_to}
+use Rattle.go_read.specs.SpellsFiles.{SpellsFront, front_rule}
 use Rattle.go_read.specs.Bareness.{nowhere}
 use Rattle.go_read.proofs.SpansAside as aside
 use Rattle.go_scan.proofs.PieceKinds.{never_empty}
@@ -25,8 +24,8 @@ use Rattle.layout_laws.proofs.NextTokens.{next_name}
 use Rattle.text_edits.specs.declared.edit.Edit.{Edit}
 use Rattle.text_edits.specs.Applied.{applied, replaced_from}
 use Rattle.import_edit.specs.Removed.{ranges}
-use Rattle.import_edit.specs.Settled.{removal, settled}
-use Rattle.splice_laws.specs.Joints.{words_of, IsPart, PartsTo, EndsBefore, InnerEnd, LastEnds, IsMark, given, dots_apart}
+use Rattle.import_edit.specs.Settled.{removal}
+use Rattle.splice_laws.specs.Joints.{words_of, PartsTo, EndsBefore, LastEnds, IsMark, given, dots_apart}
 use Rattle.splice_laws.specs.Dots.{UndottedFile}
 use Rattle.splice_laws.specs.Splice.{ReadsAs}
 use Rattle.splice_laws.specs.Edited.{terminals}
@@ -39,13 +38,12 @@ use Rattle.splice_laws.proofs.Parts.{in_parts}
 use Rattle.splice_laws.proofs.Splices.{tokens_then, scalars_parts, scalars_on}
 use Rattle.splice_laws.proofs.TokenDots.{tokens_apart}
 use Rattle.splice_laws.proofs.TokenLists.{earlier_apart}
-use Rattle.import_splices.specs.SettledFile.{left_decls, without_unused}
+use Rattle.import_splices.specs.SettledFile.{without_unused}
 use Rattle.import_splices.specs.SettledReads.{UnusedGo, UnusedGoAgain, UnusedStayUndotted}
-use Rattle.import_splices.proofs.Terms.{terms, terms_are, breaks, breaks_at}
-use Rattle.import_splices.proofs.Bytes.{bytes_of, slice_at, drop_at, HeadFrom, replaced_on}
-use Rattle.import_splices.proofs.Closed.{before_any}
+use Rattle.import_splices.proofs.Terms.{terms_are, breaks, breaks_at}
+use Rattle.import_splices.proofs.Bytes.{bytes_of, slice_at, drop_at, replaced_on}
 use Rattle.import_splices.proofs.Nodes.{token_piece, State, Node, node}
-use Rattle.import_splices.proofs.Steps.{Stop, step_by}
+use Rattle.import_splices.proofs.Steps.{step_by}
 use Rattle.import_splices.proofs.Outs.{Out, whole, kept}
 use Rattle.import_splices.proofs.Walks.{Follows, imports_walk}
 

@@ -1,28 +1,26 @@
 -- Blanks and comments before a token, and behind one, by lines.
-use Rattle.std.proofs.Common.{◌≡◌, inl, inr, ◌⊎◌, ℕ, ◌+◌, ◌≤◌, ◌<◌, ◌/◌, ◌%◌, nat_lt, Bool, true, false, cond, not, ◌&&◌, ◌||◌, ◌==◌, List, [], ◌∷◌, ◌++◌, length, Option, None, refl, sym, ap, subst, ◌∙◌, arith, length-append}
+use Rattle.std.proofs.Common.{◌≡◌, inl, inr, ◌⊎◌, ℕ, ◌+◌, ◌≤◌, ◌<◌, ◌/◌, ◌%◌, nat_lt, Bool, true, false, cond, not, ◌&&◌, ◌||◌, ◌==◌, List, [], ◌∷◌, ◌++◌, length, None, refl, sym, ap, subst, ◌∙◌, arith, length-append}
 use Rattle.std.specs.Prelude.{encode_utf8_all, encode_utf8}
 use Rattle.std.specs.List.{list_all}
 use Rattle.std.proofs.lemmas.Bool.Decides.{nat_tests}
-use Rattle.std.proofs.lemmas.List.{append_assoc, append-nil}
+use Rattle.std.proofs.lemmas.List.{append_assoc}
 use Rattle.std.proofs.lemmas.Str.{encodes-append, chars-encodes}
 use Rattle.std.specs.Str.{all_scalars}
-use Rattle.go_tree.specs.declared.tokens.Token.{Token}
 use Rattle.go_words.specs.Tokens.Characters.{is_blank, is_listed, each, byte_order_mark}
-use Rattle.go_words.specs.Tokens.Forms.{HasForm, many, other_than, one_of, no_more, once_more, unlisted}
+use Rattle.go_words.specs.Tokens.Forms.{HasForm, many, other_than, no_more, once_more, unlisted}
 use Rattle.go_words.specs.Tokens.Literals.{comment}
-use Rattle.go_words.specs.Tokens.{size_of, tokens_at, due_after, tokens_from, pieces_size}
+use Rattle.go_words.specs.Tokens.{size_of, tokens_from}
 use Rattle.go_words.specs.Tokens.Pieces.{PieceKind, blanks, remark, token, Piece, is_blanks, IsPiece}
 use Rattle.go_scan.proofs.BytesLemmas.{newline_same}
 use Rattle.go_scan.proofs.PieceKinds.{never_empty}
-use Rattle.layout_laws.proofs.NextTokens.{no_blank_first}
-use Rattle.splice_laws.specs.Joints.{words_of, IsPart, PartsTo, EndsBefore, InnerEnd}
+use Rattle.splice_laws.specs.Joints.{words_of, PartsTo, EndsBefore, InnerEnd}
 use Rattle.splice_laws.specs.ImportTexts.{a_piece}
 use Rattle.splice_laws.proofs.Ends.{View, view, first_is}
 use Rattle.splice_laws.proofs.Over.{is_piece}
 use Rattle.splice_laws.proofs.Splices.{scalars_parts}
 use Rattle.splice_laws.proofs.Parts.{is_blanks_kind, no_blank_begins}
 use Rattle.import_splices.proofs.Terms.{is_silent, silent, both_parts, none_silent}
-use Rattle.import_splices.proofs.Bytes.{bytes_of, bytes_then, no_newline, listed_then, blank_bytes, blank_each, blanks_all, each_then}
+use Rattle.import_splices.proofs.Bytes.{bytes_of, listed_then, blank_bytes, blank_each, blanks_all, each_then}
 
 -- ---- newlines in a list
 

@@ -6,7 +6,9 @@ pub mod Rights
 pub mod Nodes
 pub mod Closed
 pub mod Steps
+pub mod LineStarts
 pub mod Lands
 pub mod Outs
 pub mod Walks
 pub mod Files
+pub mod Checks

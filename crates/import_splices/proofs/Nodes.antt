@@ -1,13 +1,12 @@
 -- Parts of a text from an offset on, and those of the node that stands next.
-use Rattle.std.proofs.Common.{◌≡◌, inl, inr, ◌⊎◌, ℕ, ◌+◌, ◌≤◌, ◌<◌, Bool, true, false, cond, List, [], ◌∷◌, ◌++◌, length, Option, Some, None, refl, sym, ap, subst, ◌∙◌, arith}
+use Rattle.std.proofs.Common.{◌≡◌, ℕ, ◌+◌, ◌≤◌, ◌<◌, Bool, true, false, cond, List, [], ◌∷◌, ◌++◌, length, Option, Some, None, refl, sym, ap, subst, ◌∙◌, arith}
 use Rattle.std.specs.Prelude.{encode_utf8_all}
 use Rattle.std.specs.Str.{all_scalars}
 use Rattle.std.proofs.lemmas.List.{append_assoc}
 use Rattle.go_tree.specs.declared.spans.Span.{Span}
 use Rattle.go_tree.specs.declared.tokens.Token.{Token}
 use Rattle.go_tree.specs.declared.tokens.TokenKind.{TokenKind}
-use Rattle.go_tree.specs.declared.tokens.TokenKind.TheVariants.{Inserted}
-use Rattle.go_words.specs.Terminals.{Terminal, Lexeme, lex, semicolon, terminal_of, lexeme_of, lexemes}
+use Rattle.go_words.specs.Terminals.{Terminal, Lexeme, lex, terminal_of, lexeme_of, lexemes}
 use Rattle.go_words.specs.Tokens.{size_of, span_of, ends_line, tokens_from, pieces_size}
 use Rattle.go_words.specs.Tokens.Pieces.{token, Piece, IsPiece}
 use Rattle.go_read.specs.SpellsTypes.{Lexemes}
@@ -17,12 +16,11 @@ use Rattle.splice_laws.specs.Joints.{words_of, PartsTo, InnerEnd, given, IsWritt
 use Rattle.splice_laws.specs.Edited.{terminals}
 use Rattle.splice_laws.proofs.AddImports.{terminals_both}
 use Rattle.splice_laws.proofs.Founds.{Found, find}
-use Rattle.splice_laws.proofs.OneToken.{one_token}
 use Rattle.splice_laws.proofs.Over.{is_piece}
 use Rattle.splice_laws.proofs.Places.{parts_split, given_then}
 use Rattle.splice_laws.proofs.Splices.{size_pieces}
 use Rattle.splice_laws.proofs.TokenLists.{Cut, cut_tokens}
-use Rattle.import_splices.proofs.Terms.{at_piece, own, own_then, own_is, due, due_then, is_silent, silent, silent_none, breaks, both_parts, Gap, gap_of}
+use Rattle.import_splices.proofs.Terms.{own, own_then, own_is, due, due_then, is_silent, silent, silent_none, breaks, both_parts, Gap, gap_of}
 use Rattle.import_splices.proofs.Bytes.{bytes_of}
 use Rattle.import_splices.proofs.Nexts.{is_semi, past_given}
 

@@ -1,5 +1,5 @@
 -- What a text becomes from an offset on, when edits are made there.
-use Rattle.std.proofs.Common.{◌≡◌, inl, inr, ◌⊎◌, ℕ, ◌+◌, ◌-◌, ◌≤◌, ◌<◌, Bool, true, false, cond, ◌&&◌, ◌||◌, List, [], ◌∷◌, ◌++◌, length, take, drop, refl, sym, ap, subst, ◌∙◌, arith, length-append}
+use Rattle.std.proofs.Common.{◌≡◌, ℕ, ◌+◌, ◌-◌, ◌≤◌, Bool, true, false, ◌||◌, List, [], ◌∷◌, ◌++◌, length, take, drop, refl, sym, ap, subst, ◌∙◌, arith, length-append}
 use Rattle.std.specs.Prelude.{encode_utf8_all, slice_range}
 use Rattle.std.specs.Str.{all_scalars}
 use Rattle.std.proofs.lemmas.List.{append_assoc}
@@ -14,17 +14,17 @@ use Rattle.text_edits.specs.declared.edit.Edit.{Edit}
 use Rattle.text_edits.specs.Applied.{replaced_from}
 use Rattle.import_edit.specs.Removed.{span_at}
 use Rattle.import_edit.specs.Settled.{removal, insertion}
-use Rattle.import_edit.specs.Added.{Addition}
 use Rattle.splice_laws.specs.Joints.{words_of, PartsTo, InnerEnd, LastEnds}
 use Rattle.splice_laws.specs.Edited.{terminals}
 use Rattle.splice_laws.proofs.AddImports.{words_both, terminals_both}
 use Rattle.splice_laws.proofs.Over.{parts_over}
-use Rattle.splice_laws.proofs.Splices.{size_pieces, scalars_parts, scalars_on}
+use Rattle.splice_laws.proofs.Splices.{scalars_parts, scalars_on}
 use Rattle.import_splices.proofs.Terms.{terms, silent, newline_in, silent_terms, breaks, breaks_silent}
 use Rattle.import_splices.proofs.Bytes.{bytes_of, bytes_then, bytes_size, slice_at, HeadFrom, replaced_on}
 use Rattle.import_splices.proofs.Nodes.{token_piece, State}
-use Rattle.import_splices.proofs.Steps.{Stop, Step, inner_later, inner_before}
-use Rattle.import_splices.proofs.Lands.{gap_closed, Front, Land}
+use Rattle.import_splices.proofs.Steps.{Step, inner_later, inner_before}
+use Rattle.import_splices.proofs.LineStarts.{gap_closed}
+use Rattle.import_splices.proofs.Lands.{Land}
 
 -- The parts `front` stay, and then come others, which spell what is asked.
 pub record Out (text : List ℕ) (at : ℕ) (b : Bool) (ps : List Piece) (es : List Edit) (are : Lexemes → Type 0) : Type 0 where

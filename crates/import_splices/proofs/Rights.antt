@@ -1,5 +1,5 @@
 -- What goes behind an import: its semicolon, where that is written.
-use Rattle.std.proofs.Common.{◌≡◌, inl, inr, ◌⊎◌, ℕ, ◌+◌, ◌≤◌, ◌<◌, Bool, true, false, cond, nat_le, List, [], ◌∷◌, ◌++◌, codes, Option, Some, None, refl, sym, ap, subst, ◌∙◌, arith}
+use Rattle.std.proofs.Common.{◌≡◌, inl, inr, ℕ, ◌+◌, ◌<◌, Bool, true, false, cond, nat_le, List, [], ◌∷◌, ◌++◌, codes, Option, Some, None, refl, sym, ap, subst, ◌∙◌, arith}
 use Rattle.std.specs.Prelude.{encode_utf8_all}
 use Rattle.std.proofs.lemmas.Bool.Decides.{nat_tests}
 use Rattle.std.proofs.lemmas.List.{append_assoc}
@@ -12,7 +12,7 @@ use Rattle.go_words.specs.Tokens.{size_of, due_after, tokens_from, pieces_size}
 use Rattle.go_words.specs.Tokens.Pieces.{token, Piece, IsPiece}
 use Rattle.go_read.specs.SpellsTypes.{Lexemes}
 use Rattle.import_edit.specs.Removed.{is_semicolon, through_semicolon}
-use Rattle.splice_laws.specs.Joints.{words_of, PartsTo}
+use Rattle.splice_laws.specs.Joints.{PartsTo}
 use Rattle.splice_laws.specs.Imports.{IsEnd}
 use Rattle.splice_laws.proofs.ImportLists.{begins_end_paren}
 use Rattle.splice_laws.proofs.Over.{is_piece}

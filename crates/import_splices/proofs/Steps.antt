@@ -1,9 +1,8 @@
 -- A node and the semicolon behind it, and the parts behind both.
-use Rattle.std.proofs.Common.{◌≡◌, inl, inr, ◌⊎◌, ℕ, ◌+◌, ◌≤◌, ◌<◌, Bool, true, false, cond, List, [], ◌∷◌, ◌++◌, length, codes, Option, Some, None, refl, sym, ap, subst, ◌∙◌, arith, length-append}
+use Rattle.std.proofs.Common.{◌≡◌, inl, inr, ◌⊎◌, ℕ, ◌+◌, ◌≤◌, ◌<◌, Bool, true, false, cond, List, [], ◌∷◌, ◌++◌, length, codes, Some, None, refl, sym, ap, subst, ◌∙◌, arith, length-append}
 use Rattle.std.specs.Prelude.{encode_utf8_all}
 use Rattle.std.specs.Str.{all_scalars}
 use Rattle.std.proofs.lemmas.List.{append_assoc, append-nil}
-use Rattle.std.proofs.lemmas.Str.{encodes-append}
 use Rattle.go_tree.specs.declared.spans.Span.{Span}
 use Rattle.go_tree.specs.declared.tokens.Token.{Token}
 use Rattle.go_tree.specs.declared.tokens.TokenKind.{TokenKind}
@@ -25,7 +24,7 @@ use Rattle.splice_laws.proofs.Over.{is_piece}
 use Rattle.splice_laws.proofs.Places.{parts_split}
 use Rattle.splice_laws.proofs.Splices.{size_pieces, scalars_parts}
 use Rattle.splice_laws.proofs.TokenLists.{asks_ends}
-use Rattle.import_splices.proofs.Terms.{own, own_then, due, due_then, terms, terms_then, silent, silent_on, newline_in, breaks, breaks_terms}
+use Rattle.import_splices.proofs.Terms.{own, own_then, due, due_then, terms, terms_then, silent, silent_on, breaks, breaks_terms}
 use Rattle.import_splices.proofs.Bytes.{bytes_of, bytes_then, bytes_size}
 use Rattle.import_splices.proofs.Nexts.{is_semi, opening_ends, opening_token, is_open_word, open_word, word_size}
 use Rattle.import_splices.proofs.Rights.{Sort, due_sort, word_sort, no_sort, Right, right}

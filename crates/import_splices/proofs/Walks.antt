@@ -1,28 +1,27 @@
 -- The imports of a file, one after another, and what the text becomes without those that go.
-use Rattle.std.proofs.Common.{◌≡◌, inl, inr, ◌⊎◌, ℕ, ◌+◌, ◌-◌, ◌≤◌, Bool, true, false, cond, not, ◌&&◌, List, [], ◌∷◌, ◌++◌, map, length, Option, Some, None, refl, sym, ap, subst, ◌∙◌, arith}
-use Rattle.std.specs.List.{list_all}
+use Rattle.std.proofs.Common.{◌≡◌, inl, inr, ℕ, ◌+◌, Bool, true, false, cond, List, [], ◌∷◌, ◌++◌, map, refl, sym, ap, subst, ◌∙◌}
 use Rattle.std.proofs.lemmas.List.{append_assoc, append-nil}
 use Rattle.go_tree.specs.declared.spans.Span.{Span}
 use Rattle.go_tree.specs.declared.tokens.Token.{Token}
 use Rattle.go_tree.specs.declared.tokens.Comment.{Comment}
 use Rattle.go_tree.specs.File.{ImportSpec, ImportDecl}
-use Rattle.go_tree.specs.FileBare.{bare_import_spec, bare_import_decl}
+use Rattle.go_tree.specs.FileBare.{bare_import_spec}
 use Rattle.go_words.specs.Terminals.{Terminal, lex, ident, str_lit, semicolon, paren, end_paren, key_import}
 use Rattle.go_words.specs.Tokens.{pieces_size}
 use Rattle.go_words.specs.Tokens.Pieces.{Piece}
 use Rattle.go_read.specs.SpellsTypes.{Lexemes}
-use Rattle.go_read.specs.SpellsSpans.{span_to, start_of, end_after}
+use Rattle.go_read.specs.SpellsSpans.{span_to, start_of}
 use Rattle.go_read.specs.SpellsFiles.{SpellsImportSpec, SpellsImportSpecs, SpellsImport, SpellsImports, path_rule, named_path_rule, no_import_specs_rule, last_import_spec_rule, more_import_specs_rule, import_rule, import_group_rule, no_imports_rule, more_imports_rule}
 use Rattle.go_read.specs.Bareness.{nowhere}
 use Rattle.text_edits.specs.declared.edit.Edit.{Edit}
 use Rattle.import_edit.specs.Removed.{span_at, through_semicolon, widened, goes, goes_whole, spec_range, decl_range, specs_ranges, decl_ranges, ranges}
 use Rattle.import_edit.specs.Settled.{removal}
-use Rattle.splice_laws.proofs.TokenLists.{end_last, own_span}
+use Rattle.splice_laws.proofs.TokenLists.{end_last}
 use Rattle.splice_laws.proofs.Wholes.{span_of_node}
 use Rattle.import_splices.specs.SettledFile.{left_specs, left_single, left_decl, left_decls}
 use Rattle.import_splices.proofs.Nodes.{State}
-use Rattle.import_splices.proofs.Steps.{Stop, Step, step, opening}
-use Rattle.import_splices.proofs.Lands.{Land, landed}
+use Rattle.import_splices.proofs.Steps.{Stop, step, opening}
+use Rattle.import_splices.proofs.Lands.{landed}
 use Rattle.import_splices.proofs.Outs.{Out, out_map, kept, gone}
 use Rattle.import_splices.proofs.Closed.{is_close}
 use Rattle.splice_laws.specs.Joints.{words_of}
