@@ -127,26 +127,28 @@ module _ (text : List ℕ) (tokens : List Token) where
       slice_at text (st.before ++ bytes_of w.gap) (bytes_of w.body) (bytes_of w.left) (at + pieces_size w.gap) to
       (st.text_is ∙ ap (λ (us : List Piece). st.before ++ bytes_of us) w.is ∙ ap (λ (v : List ℕ). st.before ++ v) (bytes_then w.gap (w.body ++ w.left)) ∙ sym (append_assoc st.before (bytes_of w.gap) (bytes_of (w.body ++ w.left))) ∙ ap (λ (v : List ℕ). (st.before ++ bytes_of w.gap) ++ v) (bytes_then w.body w.left))
       (length-append st.before (bytes_of w.gap) ∙ ap (λ (n : ℕ). n + length (bytes_of w.gap)) st.size ∙ ap (λ (n : ℕ). at + n) (bytes_size w.gap)) (ap (λ (n : ℕ). at + pieces_size w.gap + n) (bytes_size w.body) ∙ sums (pieces_size w.gap) (pieces_size w.body)) in
-      let gap_newline : b ≡ true → newline_in w.gap ≡ true = (λ q. in_gap (w.first.2 ++ w.left) w.first.0 w.first.1 w.gap w.none (sym (ap breaks list) ∙ st.due q)) in
-      (record {
-        front = w.gap;
-        words = (words_of (w.body ++ w.left), ap words_of w.is ∙ words_both w.gap (w.body ++ w.left));
-        none = w.none;
-        inner = inner_before w.gap (w.body ++ w.left) inner;
-        closed = gap_closed w.gap w.first.0 w.first.1 (w.first.2 ++ w.left) (words_of ps) [] gap_parts w.none;
-        new = new;
-        parts = subst (λ (t : List ℕ). PartsTo t new []) (sym (words_both w.body (o.front ++ o.new)))
-            (parts_over w.body (words_of (o.front ++ o.new)) (o.front ++ o.new) [] (inner_before w.body w.left (inner_later w.gap (w.body ++ w.left) inner)) clear wh.parts);
-        scalars = subst (λ (t : List ℕ). all_scalars t ≡ true) (sym (words_both w.body (o.front ++ o.new))) (scalars_on (words_of w.body) (words_of (o.front ++ o.new)) body_scalars wh.scalars);
-        bytes = bytes_then w.body (o.front ++ o.new) ∙ ap (λ (v : List ℕ). v ++ bytes_of (o.front ++ o.new)) (sym body_slice) ∙ ap (λ (v : List ℕ). slice_range text (at + pieces_size w.gap) to ++ v) wh.bytes
-            ∙ sym (replaced_on text (at + pieces_size w.gap) to es (within (pieces_size w.gap) (pieces_size w.body)) wh.heads);
-        heads = heads_from (at + pieces_size w.gap) to es (within (pieces_size w.gap) (pieces_size w.body)) wh.heads;
-        us = (node ++ end) ++ o.us;
-        spelled = on o.us o.spelled;
-        terms_are = w.own sure (o.front ++ o.new) o.due ∙ ap (λ (us : List Terminal). terminals (node ++ end) ++ us) wh.terms_are ∙ sym (terminals_both (node ++ end) o.us);
-        due = λ q. breaks_silent w.gap new w.none ∙ ap (λ (c : Bool). c || breaks new) (gap_newline q);
-      },
-      sym w.start_is, gap_newline)
+      let gap_newline : b ≡ true → newline_in w.gap ≡ true = (λ q. in_gap (w.first.2 ++ w.left) w.first.0 w.first.1 w.gap w.none (sym (ap breaks list) ∙ st.due q)) in (
+        record {
+          front = w.gap;
+          words = (words_of (w.body ++ w.left), ap words_of w.is ∙ words_both w.gap (w.body ++ w.left));
+          none = w.none;
+          inner = inner_before w.gap (w.body ++ w.left) inner;
+          closed = gap_closed w.gap w.first.0 w.first.1 (w.first.2 ++ w.left) (words_of ps) [] gap_parts w.none;
+          new = new;
+          parts = subst (λ (t : List ℕ). PartsTo t new []) (sym (words_both w.body (o.front ++ o.new)))
+              (parts_over w.body (words_of (o.front ++ o.new)) (o.front ++ o.new) [] (inner_before w.body w.left (inner_later w.gap (w.body ++ w.left) inner)) clear wh.parts);
+          scalars = subst (λ (t : List ℕ). all_scalars t ≡ true) (sym (words_both w.body (o.front ++ o.new))) (scalars_on (words_of w.body) (words_of (o.front ++ o.new)) body_scalars wh.scalars);
+          bytes = bytes_then w.body (o.front ++ o.new) ∙ ap (λ (v : List ℕ). v ++ bytes_of (o.front ++ o.new)) (sym body_slice) ∙ ap (λ (v : List ℕ). slice_range text (at + pieces_size w.gap) to ++ v) wh.bytes
+              ∙ sym (replaced_on text (at + pieces_size w.gap) to es (within (pieces_size w.gap) (pieces_size w.body)) wh.heads);
+          heads = heads_from (at + pieces_size w.gap) to es (within (pieces_size w.gap) (pieces_size w.body)) wh.heads;
+          us = (node ++ end) ++ o.us;
+          spelled = on o.us o.spelled;
+          terms_are = w.own sure (o.front ++ o.new) o.due ∙ ap (λ (us : List Terminal). terminals (node ++ end) ++ us) wh.terms_are ∙ sym (terminals_both (node ++ end) o.us);
+          due = λ q. breaks_silent w.gap new w.none ∙ ap (λ (c : Bool). c || breaks new) (gap_newline q);
+        },
+        sym w.start_is,
+        gap_newline,
+      )
     where
       sums : (g c : ℕ) → at + g + c ≡ at + (g + c)
       sums g c = omega arith
@@ -161,24 +163,26 @@ module _ (text : List ℕ) (tokens : List Token) where
       → (o : Out text at b ps (removal (span_at (at + pieces_size w.front.front) w.to) ∷ es) are) × (at + pieces_size o.front ≡ at + pieces_size w.front.front) × (b ≡ true → newline_in o.front ≡ true)
   gone at b ps ts st start stop rest ok w es are o =
       let wh = whole w.to w.b3 w.left rest w.next es are o in
-      let c : ℕ = at + pieces_size w.front.front in
-      (record {
-        front = w.front.front;
-        words = w.front.words;
-        none = w.front.none;
-        inner = w.front.inner;
-        closed = w.front.closed;
-        new = o.front ++ o.new;
-        parts = wh.parts;
-        scalars = wh.scalars;
-        bytes = wh.bytes ∙ sym (nothing c (replaced_from text w.to es));
-        heads = omega arith;
-        us = o.us;
-        spelled = o.spelled;
-        terms_are = wh.terms_are;
-        due = λ q. breaks_silent w.front.front (o.front ++ o.new) w.front.none ∙ ap (λ (d : Bool). d || breaks (o.front ++ o.new)) (w.front.newline (st.due q));
-      },
-      refl, λ q. w.front.newline (st.due q))
+      let c : ℕ = at + pieces_size w.front.front in (
+        record {
+          front = w.front.front;
+          words = w.front.words;
+          none = w.front.none;
+          inner = w.front.inner;
+          closed = w.front.closed;
+          new = o.front ++ o.new;
+          parts = wh.parts;
+          scalars = wh.scalars;
+          bytes = wh.bytes ∙ sym (nothing c (replaced_from text w.to es));
+          heads = omega arith;
+          us = o.us;
+          spelled = o.spelled;
+          terms_are = wh.terms_are;
+          due = λ q. breaks_silent w.front.front (o.front ++ o.new) w.front.none ∙ ap (λ (d : Bool). d || breaks (o.front ++ o.new)) (w.front.newline (st.due q));
+        },
+        refl,
+        λ q. w.front.newline (st.due q),
+      )
     where
       nothing : (c : ℕ) (v : List ℕ) → slice_range text c c ++ ([] ++ v) ≡ v
       nothing c v = ap (λ (n : ℕ). take n (drop c text) ++ v) (none c)

@@ -240,9 +240,13 @@ module _ (text : List ℕ) (tokens : List Token) (at : ℕ) (b : Bool) (ps : Lis
           (λ next ok. ends next)
           (λ ok qs q. terms_then (n.core ++ r.more) qs false ∙ ap (λ (ts : List Terminal). ts ++ terms (due false (n.core ++ r.more)) qs) body_own ∙ ap (λ (c : Bool). (terminals (n0 ++ lex s x ∷ []) ++ semicolon ∷ []) ++ terms c qs) body_due
           ∙ append_assoc (terminals (n0 ++ lex s x ∷ [])) (semicolon ∷ []) (terms false qs) ∙ join z ez (terms false qs))
-          (λ ok. inl (st.before ++ bytes_of (n.gap ++ (n.core ++ g)), 59,
-          ap (λ (us : List Piece). st.before ++ bytes_of us) (ap (λ (us : List Piece). n.gap ++ us) list ∙ sym (append_assoc n.gap (n.core ++ g) semi)) ∙ ap (λ (v : List ℕ). st.before ++ v) (bytes_then (n.gap ++ (n.core ++ g)) semi ∙ ap (λ (v : List ℕ). bytes_of (n.gap ++ (n.core ++ g)) ++ v) semi_bytes)
-          ∙ sym (append_assoc st.before (bytes_of (n.gap ++ (n.core ++ g))) (59 ∷ [])), refl))
+          (λ ok. inl (
+            st.before ++ bytes_of (n.gap ++ (n.core ++ g)),
+            59,
+            ap (λ (us : List Piece). st.before ++ bytes_of us) (ap (λ (us : List Piece). n.gap ++ us) list ∙ sym (append_assoc n.gap (n.core ++ g) semi)) ∙ ap (λ (v : List ℕ). st.before ++ v) (bytes_then (n.gap ++ (n.core ++ g)) semi ∙ ap (λ (v : List ℕ). bytes_of (n.gap ++ (n.core ++ g)) ++ v) semi_bytes)
+                ∙ sym (append_assoc st.before (bytes_of (n.gap ++ (n.core ++ g))) (59 ∷ [])),
+            refl,
+          ))
           (λ q ok next. ends next)
         where
           nope : false ≡ true → ⊥
@@ -317,10 +321,13 @@ module _ (text : List ℕ) (tokens : List Token) (at : ℕ) (b : Bool) (ps : Lis
 
       inked : (n : Node at ps (lex s key_import ∷ []) o paren rest) → (c : ℕ) × (encode_utf8_all n.word ≡ c ∷ []) × (is_blank c ≡ false) → (v : List ℕ) × (c : ℕ) × (st.before ++ bytes_of (n.gap ++ n.core) ≡ v ++ c ∷ []) × (is_blank c ≡ false)
       inked n c =
-          let one : bytes_of (token_piece n.kind n.word ∷ []) ≡ c.0 ∷ [] = ap encode_utf8_all (append-nil n.word) ∙ c.1 in
-          (st.before ++ bytes_of (n.gap ++ n.last.0), c.0,
-           ap (λ (us : List Piece). st.before ++ bytes_of us) (ap (λ (us : List Piece). n.gap ++ us) n.last.1 ∙ sym (append_assoc n.gap n.last.0 (token_piece n.kind n.word ∷ [])))
-           ∙ ap (λ (v : List ℕ). st.before ++ v) (bytes_then (n.gap ++ n.last.0) (token_piece n.kind n.word ∷ []) ∙ ap (λ (v : List ℕ). bytes_of (n.gap ++ n.last.0) ++ v) one) ∙ sym (append_assoc st.before (bytes_of (n.gap ++ n.last.0)) (c.0 ∷ [])), c.2)
+          let one : bytes_of (token_piece n.kind n.word ∷ []) ≡ c.0 ∷ [] = ap encode_utf8_all (append-nil n.word) ∙ c.1 in (
+            st.before ++ bytes_of (n.gap ++ n.last.0),
+            c.0,
+            ap (λ (us : List Piece). st.before ++ bytes_of us) (ap (λ (us : List Piece). n.gap ++ us) n.last.1 ∙ sym (append_assoc n.gap n.last.0 (token_piece n.kind n.word ∷ [])))
+                ∙ ap (λ (v : List ℕ). st.before ++ v) (bytes_then (n.gap ++ n.last.0) (token_piece n.kind n.word ∷ []) ∙ ap (λ (v : List ℕ). bytes_of (n.gap ++ n.last.0) ++ v) one) ∙ sym (append_assoc st.before (bytes_of (n.gap ++ n.last.0)) (c.0 ∷ [])),
+            c.2,
+          )
 
   pub opening : Step text tokens at ps (lex s key_import ∷ lex o paren ∷ []) s.start [] rest (Unit {0}) (λ next. Unit {0})
   opening = opened (node text tokens at b ps (lex s key_import ∷ []) o paren rest st refl)

@@ -158,9 +158,10 @@ silent_none (p ∷ g) s =
     let q = both_parts (is_silent p.kind) (silent g) s in
     let x = silent_piece p.kind p.word false q.0 in
     let later = silent_none g q.1 in
-    let no : (b : Bool) → (cond b (due_terms false) [] ≡ []) × (cond b false false ≡ false) = none in
-    (ap (λ (ts : List Terminal). ts ++ own (after_piece false p.kind p.word) g) (x.0 ∙ (no (is_listed p.word 10)).0) ∙ ap (λ (b : Bool). own b g) (x.1 ∙ (no (is_listed p.word 10)).1) ∙ later.0,
-     ap (λ (b : Bool). due b g) (x.1 ∙ (no (is_listed p.word 10)).1) ∙ later.1)
+    let no : (b : Bool) → (cond b (due_terms false) [] ≡ []) × (cond b false false ≡ false) = none in (
+      ap (λ (ts : List Terminal). ts ++ own (after_piece false p.kind p.word) g) (x.0 ∙ (no (is_listed p.word 10)).0) ∙ ap (λ (b : Bool). own b g) (x.1 ∙ (no (is_listed p.word 10)).1) ∙ later.0,
+      ap (λ (b : Bool). due b g) (x.1 ∙ (no (is_listed p.word 10)).1) ∙ later.1,
+    )
   where
     none : (b : Bool) → (cond b (due_terms false) [] ≡ []) × (cond b false false ≡ false)
     none true = (refl, refl)
