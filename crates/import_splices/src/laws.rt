@@ -6,7 +6,7 @@ ghost use Rattle.import_splices.specs.SettledReads.{UnusedGo, UnusedGoAgain, Unu
 /// imports: a spec, or a declaration from `import` on, through a written semicolon, with the whole lines where only
 /// blanks share them; and a group as a whole where all its specs go and no comment stands in it. In that file too no
 /// selector stands on an integer literal, so other changes may follow.
-#[tactic(auto, using(crate::proofs::Files::unused_go, crate::proofs::Files::unused_go_again, crate::proofs::Files::unused_stay_undotted))]
+#[tactic(auto, using(crate::proofs::Files::unused_stay_undotted))]
 pub fn unused_imports_go()
     ensures reads { UnusedGo }
     ensures again { UnusedGoAgain }
