@@ -1,12 +1,17 @@
 //! Modules that are read and modules that aren't: each call, and each fault.
 
+use crate::sources::source;
 use go_tree::{
     DeclList, FileTree, ImportDecl, ImportDeclList, ImportSpec, ImportSpecList, Name, NameAt, Span,
     Text,
 };
-use pkg_graph::{Graph, GraphError, Module, SourceTree, build, may_import, read_module, selected};
+use pkg_graph::{
+    Graph, GraphError, Module, SourceTree, build, is_module_path, may_import, one_order_at_most,
+    read_module, selected,
+};
 use std::alloc::Global;
 use std::test::Fail;
+use text_places::place;
 
 fn text(alloc: Global, bytes: &str) -> Result<Text, Fail> {
     Ok(Text::of(bytes.as_bytes().to_vec(alloc)?))
@@ -59,6 +64,70 @@ fn built(
         return Err(Fail::new("too many files"));
     }
     Ok(build(alloc, &module, list))
+}
+
+/// The paths of the packages of a module in their order.
+fn paths_in_order(alloc: Global, home: &Module, files: Vec<SourceTree>) -> Result<Vec<Text>, Fail> {
+    if files.len() > 100 {
+        return Err(Fail::new("too many files"));
+    }
+    let Ok(graph) = build(alloc, home, files) else {
+        return Err(Fail::new("a module with a fault"));
+    };
+    one_order_at_most();
+    let mut paths = Vec::new(alloc);
+    for number in graph.order() {
+        paths.push(Text::copied(alloc, graph.package(*number).path.items())?)?;
+    }
+    Ok(paths)
+}
+
+#[test]
+fn packages_in_order(rt: HostRuntime) -> Result<(), Fail> {
+    let alloc = rt.alloc();
+    let home = Module {
+        path: text(alloc, "example.com/m")?,
+    };
+    let mut files = Vec::new(alloc);
+    files.push(file(alloc, "cmd/main.go", "main", &["example.com/m/a"])?)?;
+    files.push(file(alloc, "lib.go", "lib", &[])?)?;
+    files.push(file(alloc, "a/x.go", "a", &["example.com/m"])?)?;
+    let want = ["example.com/m", "example.com/m/a", "example.com/m/cmd"];
+    let paths = paths_in_order(alloc, &home, files)?;
+    assert!(rt; paths.len() == want.len());
+    for (path, name) in paths.iter().zip(want.iter()) {
+        assert!(rt; path.items() == name.as_bytes(), "at {name}");
+    }
+    Ok(())
+}
+
+/// Where the module `example.com/m` of one file imports a path that names no package.
+fn foreign_import(alloc: Global, bytes: &[u8]) -> Result<(u32, u32, Text), Fail> {
+    let home = Module {
+        path: text(alloc, "example.com/m")?,
+    };
+    let mut files = Vec::new(alloc);
+    files.push(SourceTree {
+        path: text(alloc, "main.go")?,
+        tree: source(alloc, bytes)?.tree,
+    })?;
+    match build(alloc, &home, files) {
+        Err(GraphError::NoPackage { file: 0, at, path }) => Ok((0, at, path)),
+        _ => Err(Fail::new("another answer")),
+    }
+}
+
+// `gofix: 304 main.go:3:8: fmt`
+#[test]
+fn foreign_import_of_a_text(rt: HostRuntime) -> Result<(), Fail> {
+    let bytes = b"package main\n\nimport \"fmt\"\n\nfunc main() {\n\tfmt.Println()\n}\n";
+    let (_, at, path) = foreign_import(rt.alloc(), bytes)?;
+    if at as usize > bytes.len() {
+        return Err(Fail::new("a place behind the text"));
+    }
+    let at = place(bytes, at);
+    assert!(rt; at.line == 3 && at.col == 8 && path.items() == b"fmt".as_slice());
+    Ok(())
 }
 
 /// What a module is to be.
@@ -261,6 +330,11 @@ fn is_line(got: &Result<Module, GraphError>, want: &Line) -> bool {
 fn module_files(rt: HostRuntime) -> Result<(), Fail> {
     let alloc = rt.alloc();
     let cases: &[(&str, Line)] = &[
+        (
+            "module example.com/m\n\ngo 1.22\n",
+            Line::Path("example.com/m"),
+        ),
+        ("module example.com/m\n\ngo 1.21\n", Line::OldGo("1.21")),
         ("module m\ngo 1.22\n", Line::Path("m")),
         ("module m\ngo 1.22.1\n", Line::Path("m")),
         ("module m\ngo 1.23rc1\n", Line::Path("m")),
@@ -280,6 +354,10 @@ fn module_files(rt: HostRuntime) -> Result<(), Fail> {
             Line::Path("b.c/d"),
         ),
         ("module `b.c/d`\r\n\tgo\t1.22 // e\r\n", Line::Path("b.c/d")),
+        ("module b.c//d\ngo 1.22\n", Line::Path("b.c")),
+        ("module m //\ngo 1.22//e\n", Line::Path("m")),
+        ("module m\ngo 1.22 e\ngo 1.23\n", Line::Path("m")),
+        ("module \"m`\ngo 1.22\n", Line::NoModuleLine),
     ];
     for (bytes, want) in cases {
         assert!(rt;
@@ -296,6 +374,7 @@ fn files(rt: HostRuntime) -> Result<(), Fail> {
     let cases: &[(&str, bool)] = &[
         (".go", false),
         (".x/a.go", false),
+        ("_test.go", false),
         ("_x/a.go", false),
         ("_x.go", false),
         ("a.go", true),
@@ -338,7 +417,29 @@ fn files(rt: HostRuntime) -> Result<(), Fail> {
 
 #[test]
 fn internal_packages(rt: HostRuntime) -> Result<(), Fail> {
-    assert!(rt; may_import(b"m/a/b", b"m/a/internal/x"));
-    assert!(rt; !may_import(b"m/b", b"m/a/internal/x"));
+    let cases = [
+        ("m/a/b", "m/a/internal/x", true),
+        ("m/a", "m/a/internal/x", true),
+        ("m/b", "m/a/internal/x", false),
+        ("m/b", "internal/x", true),
+        ("m/ab", "m/a/internal", false),
+        ("m/a", "m/internals/x", true),
+        ("m/a/internal/b", "m/a/internal/b/internal/c", true),
+        ("m/a", "m/a/internal/b/internal/c", false),
+        ("m/d/internal/b", "m/a/internal/b", false),
+    ];
+    for (from, path, want) in cases.iter() {
+        assert!(rt;
+            may_import(from.as_bytes(), path.as_bytes()) == *want,
+            "at {from} of {path}"
+        );
+    }
+    Ok(())
+}
+
+#[test]
+fn module_paths(rt: HostRuntime) -> Result<(), Fail> {
+    assert!(rt; is_module_path(b"example.com/m") && is_module_path(b"m"));
+    assert!(rt; !is_module_path(b"") && !is_module_path(b"a b") && !is_module_path(b"a`"));
     Ok(())
 }

@@ -1,11 +1,4 @@
 mod GraphChecks
-pub mod InternalLaws
-mod FieldLaws
-pub mod PathLaws
-pub mod NumberLaws
-pub mod OpenLaws
-pub mod WalkLaws
-pub mod PieceLaws
 pub mod PackageLaws
 pub mod ImportLaws
 pub mod BridgeLaws
@@ -13,7 +6,5 @@ pub mod FindLaws
 pub mod PlanLaws
 pub mod FaultLaws
 pub mod AssemblyLaws
-mod SelectionLaws
 mod OrderLaws
-pub mod RankLaws
 mod FaultsUnique

@@ -11,7 +11,8 @@ use Rattle.pkg_graph.specs.Graph.{ImportAt, all_imports}
 use Rattle.pkg_graph.specs.Views.{sources_of, AreHomesOf}
 use Rattle.pkg_graph.specs.declared.packages.SourceTree.{SourceTree}
 use Rattle.pkg_graph.specs.declared.homes.Homes.{Homes}
-use Rattle.pkg_graph.specs.Numbers.{number_of, path_at, row}
+use Rattle.module_files.specs.PathLists.{number_of, path_at}
+use Rattle.import_order.specs.Numbers.{row}
 use Rattle.pkg_graph.specs.declared.imports.Import.{Import}
 
 -- an import

@@ -2,7 +2,7 @@
 -- initialization and execution: packages are sorted by import path).
 use Rattle.std.specs.Prelude.{◌≡◌, ℕ, ◌==◌, Bool, true, false, bytes_eq, List, [], ◌∷◌, ◌++◌, Option, Some, None, slice_get}
 use Rattle.std.specs.List.{list_any, list_all}
-use Rattle.pkg_graph.specs.Pieces.{comes_before}
+use Rattle.module_files.specs.Pieces.{comes_before}
 use Rattle.pkg_graph.specs.Package.{Package}
 use Rattle.pkg_graph.specs.Graph.{imports_of}
 

@@ -2,7 +2,7 @@
 -- declarations).
 use Rattle.std.specs.Prelude.{ℕ, List, [], ◌∷◌, ◌++◌, map, filter, not, bytes_eq, if◌then◌else◌, codes}
 use Rattle.go_tree.specs.File.{ImportSpec, ImportDecl, File}
-use Rattle.pkg_graph.specs.Pieces.{folder_of, has_bytes}
+use Rattle.module_files.specs.Pieces.{folder_of, has_bytes}
 
 -- a file: its path in the module, and its tree
 pub record SourceTree (S : Type 0) : Type 0 where
@@ -25,12 +25,12 @@ first_seen [] = []
 first_seen (x ∷ xs) = x ∷ filter (λ y. not (bytes_eq x y)) (first_seen xs)
 
 module _ {S : Type 0} where
-  -- the import specs of a file, in its order
   -- the specs of import declarations
   abbrev pub specs_in : List (ImportDecl S) → List (ImportSpec S)
   specs_in [] = []
   specs_in (d ∷ ds) = d.specs ++ specs_in ds
 
+  -- the import specs of a file, in its order
   abbrev pub import_specs : File S → List (ImportSpec S)
   import_specs file = specs_in file.imports
 

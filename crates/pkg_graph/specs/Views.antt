@@ -1,11 +1,11 @@
 -- Packages as values without places in memory.
-use Rattle.std.specs.Prelude.{◌≡◌, ◌<◌, ℕ, List, map, length, slice_index_or, Some}
+use Rattle.std.specs.Prelude.{◌≡◌, ◌<◌, ℕ, List, [], ◌∷◌, ◌++◌, map, length, slice_index_or, if◌then◌else◌, Some}
 use Rattle.go_tree.specs.declared.spans.Span.{Span}
 use Rattle.go_tree.specs.FileView.{file_of}
 use Rattle.pkg_graph.specs.declared.packages.SourceTree.{SourceTree}
 use Rattle.pkg_graph.specs.declared.packages.Package.{Package}
 use Rattle.pkg_graph.specs.declared.homes.Homes.{Homes}
-use Rattle.pkg_graph.specs.Numbers.{number_of, names_with, AddsNumber}
+use Rattle.module_files.specs.PathLists.{number_of, has_path}
 use Rattle.pkg_graph.specs.Package as pure
 use Rattle.pkg_graph.specs.Order.{IsDependencyOrder}
 
@@ -40,6 +40,16 @@ pub record AreHomes
 -- the same of what the code keeps
 abbrev pub AreHomesOf : List ℕ → List SourceTree → Homes → Type 0
 AreHomesOf home files homes = AreHomes home (sources_of files) homes.paths homes.names.items homes.numbers.items
+
+-- the names of packages after one more file, whose package has the path and says the name
+abbrev pub names_with : List (List ℕ) → List (List ℕ) → List ℕ → List ℕ → List (List ℕ)
+names_with paths names home name = if has_path paths home then names else names ++ name ∷ []
+
+-- the number of the path comes last
+pub record AddsNumber (paths : List (List ℕ)) (path : List ℕ) (old new : List ℕ) : Type 0 where
+  pub number : ℕ
+  pub is : number_of paths path ≡ Some number
+  pub added : new ≡ old ++ number ∷ []
 
 -- the names after one more file, whose package has the path and says the name
 abbrev pub names_after : Homes → List ℕ → List ℕ → List (List ℕ)

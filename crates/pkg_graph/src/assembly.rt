@@ -1,8 +1,8 @@
 //! Packages made from files.
 
-ghost use Rattle.std.specs.Prelude.{◌≡◌, length, map, IfOk, OnOk};
-ghost use Rattle.pkg_graph.specs.Views.{package_view, AreHomesOf, ArePackagesOf};
-ghost use Rattle.pkg_graph.specs.Assembly.{without_files};
+ghost use Rattle.std.specs.Prelude.{◌≡◌, length, IfOk, OnOk};
+ghost use Rattle.pkg_graph.specs.Views.{AreHomesOf, ArePackagesOf};
+ghost use Rattle.pkg_graph.specs.Assembly.{HaveNoFiles};
 
 use crate::homes::Homes;
 use crate::packages::{Package, SourceList, SourceTree};
@@ -12,7 +12,7 @@ use std::alloc::Global;
 /// The packages without their files.
 pub(crate) fn empty_packages(alloc: Global, homes: &Homes) -> Result<Vec<Package>, NoMemory>
     requires { length homes.now.names.items ≡ length homes.now.paths }
-    ensures { IfOk result (λ ps. map package_view ps.items ≡ without_files homes.now.paths homes.now.names.items) }
+    ensures { IfOk result (λ ps. HaveNoFiles homes.now ps.items) }
 {
     let mut packages = Vec::new(alloc);
     for k in 0..homes.names.len() {
@@ -33,7 +33,7 @@ pub(crate) fn place_files(
     packages: &mut Vec<Package>,
 ) -> Result<(), NoMemory>
     requires homes { AreHomesOf module_path.now files.items homes.now }
-    requires empty { map package_view packages.old.items ≡ without_files homes.now.paths homes.now.names.items }
+    requires empty { HaveNoFiles homes.now packages.old.items }
     ensures { OnOk result (ArePackagesOf module_path.now files.items packages.new.items) }
 {
     let _ = module_path;

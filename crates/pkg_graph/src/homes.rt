@@ -1,31 +1,16 @@
 //! The folders of files, and the packages that they make.
 
 ghost use Rattle.std.specs.Prelude.{◌≡◌, IfOk, OnOk};
-ghost use Rattle.pkg_graph.specs.Pieces.{folder_of, file_name};
+ghost use Rattle.module_files.specs.Pieces.{folder_of};
 ghost use Rattle.pkg_graph.specs.Package.{import_path};
-ghost use Rattle.pkg_graph.specs.Numbers.{with_path};
+ghost use Rattle.module_files.specs.PathLists.{with_path};
 ghost use Rattle.pkg_graph.specs.Views.{AreHomesOf, names_after, AddsNumberTo};
 
 use crate::packages::SourceTree;
-use crate::paths::Paths;
 use go_tree::{Name, NoMemory};
+use module_files::folders::folder_and_name;
+use module_files::paths::Paths;
 use std::alloc::Global;
-
-/// The folder of a path, and the name of the file in it.
-pub(crate) fn folder_and_name(path: &[u8]) -> (&[u8], &[u8])
-    ensures folder { result.0.now ≡ folder_of path.now }
-    ensures name { result.1.now ≡ file_name path.now }
-{
-    let mut end = 0;
-    let mut start = 0;
-    for (i, byte) in path.iter().enumerate() {
-        if *byte == b'/' {
-            end = i;
-            start = i + 1;
-        }
-    }
-    (&path[..end], &path[start..])
-}
 
 /// The import path of the package that the file with this path belongs to.
 pub(crate) fn home_of(alloc: Global, module_path: &[u8], path: &[u8]) -> Result<Vec<u8>, NoMemory>

@@ -1,15 +1,15 @@
 //! The imports of all files.
 
 ghost use Rattle.std.specs.Prelude.{◌≡◌, ◌<◌, ◌^◌, IfOk, OnOk, map, length};
-ghost use Rattle.pkg_graph.specs.Numbers.{AreDistinct};
+ghost use Rattle.module_files.specs.PathLists.{AreDistinct};
 ghost use Rattle.pkg_graph.specs.Views.{AreNumbersBelow};
 ghost use Rattle.pkg_graph.specs.ImportViews.{import_view, specs_of, imports_in, AreLinksOf, AddsImports, AreImportsOf, AddsLink};
 
 use crate::homes::Homes;
 use crate::packages::SourceTree;
-use crate::paths::Paths;
-use crate::rows::Rows;
 use go_tree::{FileTree, ImportSpec, NoMemory};
+use import_order::rows::Rows;
+use module_files::paths::Paths;
 use std::alloc::Global;
 
 /// An import spec, with the number of its file and the path of the package that imports.

@@ -1,15 +1,7 @@
 //! Laws of modules.
 
-ghost use Rattle.std.specs.Prelude.{◌≡◌, true, List, ℕ};
-ghost use Rattle.pkg_graph.specs.Internal.{may_import, MayImport};
 ghost use Rattle.pkg_graph.specs.GraphLaws.{FaultsAreUnique, LinkedHaveNoFault, OrdersAreUnique, OrdersHoldPackages};
 ghost use Rattle.pkg_graph.specs.GraphLaws.{OrdersHoldAll, AllHaveNoCycle, ProgramsAreUnique};
-
-/// A path may be imported exactly where each of its elements `internal` allows it.
-pub fn internal_elements_decide()
-    ensures allowed { (from path : List ℕ) → MayImport from path → may_import from path ≡ true }
-    ensures each { (from path : List ℕ) → may_import from path ≡ true → MayImport from path }
-{}
 
 /// Files have one fault at most, and none where they link.
 pub fn one_fault_at_most()

@@ -4,14 +4,15 @@ ghost use Rattle.std.specs.Prelude.{◌≡◌, ◌<◌, ◌^◌, length, slice_g
 ghost use Rattle.pkg_graph.specs.Graph.{Links};
 ghost use Rattle.pkg_graph.specs.Views.{sources_of, AreHomesOf, ArePackagesOf, IsOrderOf};
 ghost use Rattle.pkg_graph.specs.GraphFaults.{IsGraphFault};
+ghost use Rattle.pkg_graph.specs.Assembly.{HaveNoFiles};
 
 use crate::assembly::{empty_packages, place_files};
 use crate::checks::{check_cycles, check_named, check_names, check_visible};
-use crate::faults::{GraphError, Module};
 use crate::homes::{Homes, find_homes};
 use crate::imports::{find_imports, find_links};
-use crate::order::dependency_order;
 use crate::packages::{Package, SourceTree};
+use import_order::order::dependency_order;
+use module_files::{GraphError, Module};
 use std::alloc::Global;
 
 /// The order of the packages, where nothing is wrong with them.
@@ -46,6 +47,36 @@ fn find_order(
     Ok(placed.order)
 }
 
+/// The packages of a module without their files, the number of each file's package, and the order.
+#[derive(Drop)]
+struct Plan {
+    homes: Homes,
+    packages: Vec<Package>,
+    order: Vec<u32>,
+}
+
+/// The packages of files, which have no files yet, where nothing is wrong with them.
+fn find_plan(alloc: Global, module_path: &[u8], files: &[SourceTree]) -> Result<Plan, GraphError>
+    requires { length files.now < 2 ^ 32 }
+    ensures homes { IfOk result (λ p. AreHomesOf module_path.now files.now p.homes) }
+    ensures empty { IfOk result (λ p. HaveNoFiles p.homes p.packages.items) }
+    ensures order { IfOk result (λ p. IsOrderOf module_path.now files.now p.order.items) }
+    ensures links { OnOk result (Links module_path.now (sources_of files.now)) }
+    ensures cause { IfErr result (IsGraphFault module_path.now (sources_of files.now)) }
+{
+    let homes = find_homes(alloc, module_path, files)?;
+    let order = match find_order(alloc, module_path, files, &homes) {
+        Ok(order) => order,
+        Err(error) => return Err(error),
+    };
+    let packages = empty_packages(alloc, &homes)?;
+    Ok(Plan {
+        homes,
+        packages,
+        order,
+    })
+}
+
 /// The packages of a module, and their order.
 #[derive(Drop)]
 pub struct Graph {
@@ -67,14 +98,16 @@ pub fn build(alloc: Global, home: &Module, files: Vec<SourceTree>) -> Result<Gra
     ensures cause { IfErr result (IsGraphFault home.now.path (sources_of files.items)) }
 {
     let path = home.path.items();
-    let homes = find_homes(alloc, path, &files)?;
-    let order = match find_order(alloc, path, &files, &homes) {
-        Ok(order) => order,
-        Err(error) => return Err(error),
-    };
-    let mut packages = empty_packages(alloc, &homes)?;
-    place_files(path, &homes, files, &mut packages)?;
-    Ok(Graph { packages, order })
+    match find_plan(alloc, path, &files) {
+        Ok(mut plan) => {
+            place_files(path, &plan.homes, files, &mut plan.packages)?;
+            Ok(Graph {
+                packages: plan.packages,
+                order: plan.order,
+            })
+        }
+        Err(error) => Err(error),
+    }
 }
 
 impl Graph {

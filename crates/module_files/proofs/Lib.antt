@@ -1,0 +1,6 @@
+mod FieldLaws
+mod FileChecks
+mod InternalLaws
+pub mod PathLaws
+pub mod PieceLaws
+mod SelectionLaws
