@@ -1,6 +1,6 @@
 //! Edits in the order of their places, and the text with all of them made.
 
-ghost use Rattle.std.specs.Prelude.{◌≡◌, ℕ, ◌≤◌, ◌↔◌, [], IfErr, IfOk, IsTrue, OnErr, OnOk, length};
+ghost use Rattle.std.specs.Prelude.{◌≡◌, ℕ, ◌≤◌, ◌↔◌, [], ◌∷◌, ◌++◌, IfErr, IfOk, IsTrue, OnErr, OnOk, length};
 ghost use Rattle.std.specs.List.{Contains, insert};
 ghost use Rattle.text_edits.specs.Spans.{IsSpan, Overlaps, Precedes};
 ghost use Rattle.text_edits.specs.Order.{InOrder, IsCause, IsFree, IsPlace, spans};
@@ -60,6 +60,17 @@ impl Edits {
             Err(kept) => return Err(AddFault::Overlap { kept }),
         };
         self.items.insert(place, e)?;
+        Ok(())
+    }
+
+    /// Adds an edit that stands behind all others; an error where memory is refused, and the edits
+    /// are then as before. Takes constant time, but for the growth of the list.
+    pub fn push(&mut self, e: Edit) -> Result<(), NoMemory>
+        requires { InOrder (self.old ++ e ∷ []) }
+        ensures added { OnOk result (self.new ≡ self.old ++ e ∷ []) }
+        ensures same { OnErr result (self.new ≡ self.old) }
+    {
+        self.items.push(e)?;
         Ok(())
     }
 }
