@@ -1,14 +1,8 @@
-mod SettledChecks
-pub mod NeedLaws
-pub mod Blanks
-pub mod Chains
-pub mod Ranges
-pub mod SettledOrder
-mod LaidChecks
-pub mod MeaningLaws
-pub mod NeededMeans
-pub mod NeededNames
 pub mod LineLaws
 pub mod GapLaws
 pub mod WideLaws
-pub mod LocalNames
+pub mod OrderLaws
+pub mod CursorLaws
+pub mod SpanLaws
+pub mod WalkLaws
+pub mod SettleLaws

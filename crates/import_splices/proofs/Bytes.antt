@@ -13,7 +13,7 @@ use Rattle.go_words.specs.Tokens.Pieces.{Piece, is_blanks}
 use Rattle.text_edits.specs.declared.edit.Edit.{Edit}
 use Rattle.text_edits.specs.Applied.{replaced_from}
 use Rattle.text_edits.proofs.Parts.{slice_split}
-use Rattle.import_edit.specs.Removed.{bytes_to_newline, line_start, newline_size, line_end, begins_line}
+use Rattle.import_rules.specs.Removed.{bytes_to_newline, line_start, newline_size, line_end, begins_line}
 use Rattle.splice_laws.specs.Joints.{words_of}
 use Rattle.splice_laws.proofs.AddImports.{words_both}
 use Rattle.splice_laws.proofs.Splices.{words_size, take_own, drop_own}

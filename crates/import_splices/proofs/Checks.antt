@@ -2,7 +2,7 @@
 use Rattle.std.proofs.Common.{◌≡◌, ℕ, true, false, List, [], ◌∷◌, None, codes, refl}
 use Rattle.go_tree.specs.declared.spans.Span.{Span}
 use Rattle.go_tree.specs.File.{ImportSpec, ImportDecl}
-use Rattle.import_edit.specs.Removed.{span_at}
+use Rattle.import_rules.specs.Removed.{span_at}
 use Rattle.import_splices.specs.SettledFile.{left_decls}
 
 abbrev spec_at : {S : Type 0} → S → List ℕ → ImportSpec S

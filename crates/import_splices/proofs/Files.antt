@@ -23,8 +23,8 @@ use Rattle.go_scan.proofs.PieceKinds.{never_empty}
 use Rattle.layout_laws.proofs.NextTokens.{next_name}
 use Rattle.text_edits.specs.declared.edit.Edit.{Edit}
 use Rattle.text_edits.specs.Applied.{applied, replaced_from}
-use Rattle.import_edit.specs.Removed.{ranges}
-use Rattle.import_edit.specs.Settled.{removal}
+use Rattle.import_rules.specs.Removed.{ranges}
+use Rattle.import_rules.specs.Settled.{removal}
 use Rattle.splice_laws.specs.Joints.{words_of, PartsTo, EndsBefore, LastEnds, IsMark, given, dots_apart}
 use Rattle.splice_laws.specs.Dots.{UndottedFile}
 use Rattle.splice_laws.specs.Splice.{ReadsAs}

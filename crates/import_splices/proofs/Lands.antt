@@ -10,7 +10,7 @@ use Rattle.go_words.specs.Tokens.Characters.{is_blank, is_listed}
 use Rattle.go_words.specs.Tokens.{tokens_from, pieces_size}
 use Rattle.go_words.specs.Tokens.Pieces.{Piece}
 use Rattle.go_read.specs.SpellsTypes.{Lexemes}
-use Rattle.import_edit.specs.Removed.{span_at, bytes_to_newline, line_start, line_end, begins_line, stands_alone, widened}
+use Rattle.import_rules.specs.Removed.{span_at, bytes_to_newline, line_start, line_end, begins_line, stands_alone, widened}
 use Rattle.splice_laws.specs.Joints.{words_of, PartsTo, InnerEnd}
 use Rattle.splice_laws.proofs.Splices.{scalars_parts, take_own}
 use Rattle.import_splices.proofs.Terms.{breaks}

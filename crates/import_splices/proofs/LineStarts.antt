@@ -13,7 +13,7 @@ use Rattle.go_words.specs.Tokens.Pieces.{PieceKind, blanks, remark, token, Piece
 use Rattle.go_read.specs.SpellsTypes.{Lexemes}
 use Rattle.go_scan.proofs.BytesLemmas.{newline_same}
 use Rattle.go_scan.proofs.PieceKinds.{never_empty}
-use Rattle.import_edit.specs.Removed.{line_start, begins_line}
+use Rattle.import_rules.specs.Removed.{line_start, begins_line}
 use Rattle.splice_laws.specs.Joints.{words_of, IsPart, PartsTo, EndsBefore, InnerEnd, LastEnds}
 use Rattle.splice_laws.specs.ImportTexts.{a_piece}
 use Rattle.splice_laws.proofs.AddImports.{words_both, blank_ends}

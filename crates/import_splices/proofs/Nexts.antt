@@ -12,7 +12,7 @@ use Rattle.go_words.specs.Tokens.Characters.{is_listed}
 use Rattle.go_words.specs.Tokens.{size_of, span_of, ends_line, inserted, tokens_at, due_after, tokens_from, pieces_size}
 use Rattle.go_words.specs.Tokens.Pieces.{PieceKind, blanks, remark, token, Piece, IsPiece}
 use Rattle.go_scan.proofs.PieceKinds.{never_empty}
-use Rattle.import_edit.specs.Removed.{is_semicolon, through_semicolon}
+use Rattle.import_rules.specs.Removed.{is_semicolon, through_semicolon}
 use Rattle.splice_laws.specs.Joints.{PartsTo, given}
 use Rattle.splice_laws.proofs.AddImports.{none_found, bytes_same}
 use Rattle.splice_laws.proofs.ImportLists.{is_opening}

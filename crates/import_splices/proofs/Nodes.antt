@@ -11,7 +11,7 @@ use Rattle.go_words.specs.Tokens.{size_of, span_of, ends_line, tokens_from, piec
 use Rattle.go_words.specs.Tokens.Pieces.{token, Piece, IsPiece}
 use Rattle.go_read.specs.SpellsTypes.{Lexemes}
 use Rattle.go_read.specs.SpellsSpans.{start_of}
-use Rattle.import_edit.specs.Removed.{through_semicolon}
+use Rattle.import_rules.specs.Removed.{through_semicolon}
 use Rattle.splice_laws.specs.Joints.{words_of, PartsTo, InnerEnd, given, IsWritten}
 use Rattle.splice_laws.specs.Edited.{terminals}
 use Rattle.splice_laws.proofs.AddImports.{terminals_both}

@@ -12,8 +12,8 @@ use Rattle.go_words.specs.Tokens.Pieces.{Piece}
 use Rattle.go_read.specs.SpellsTypes.{Lexemes}
 use Rattle.text_edits.specs.declared.edit.Edit.{Edit}
 use Rattle.text_edits.specs.Applied.{replaced_from}
-use Rattle.import_edit.specs.Removed.{span_at}
-use Rattle.import_edit.specs.Settled.{removal, insertion}
+use Rattle.import_rules.specs.Removed.{span_at}
+use Rattle.import_rules.specs.Settled.{removal, insertion}
 use Rattle.splice_laws.specs.Joints.{words_of, PartsTo, InnerEnd, LastEnds}
 use Rattle.splice_laws.specs.Edited.{terminals}
 use Rattle.splice_laws.proofs.AddImports.{words_both, terminals_both}

@@ -11,7 +11,7 @@ use Rattle.go_words.specs.Terminals.{Terminal, Lexeme, lex, semicolon, terminal_
 use Rattle.go_words.specs.Tokens.{size_of, due_after, tokens_from, pieces_size}
 use Rattle.go_words.specs.Tokens.Pieces.{token, Piece, IsPiece}
 use Rattle.go_read.specs.SpellsTypes.{Lexemes}
-use Rattle.import_edit.specs.Removed.{is_semicolon, through_semicolon}
+use Rattle.import_rules.specs.Removed.{is_semicolon, through_semicolon}
 use Rattle.splice_laws.specs.Joints.{PartsTo}
 use Rattle.splice_laws.specs.Imports.{IsEnd}
 use Rattle.splice_laws.proofs.ImportLists.{begins_end_paren}

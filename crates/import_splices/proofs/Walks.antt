@@ -14,8 +14,8 @@ use Rattle.go_read.specs.SpellsSpans.{span_to, start_of}
 use Rattle.go_read.specs.SpellsFiles.{SpellsImportSpec, SpellsImportSpecs, SpellsImport, SpellsImports, path_rule, named_path_rule, no_import_specs_rule, last_import_spec_rule, more_import_specs_rule, import_rule, import_group_rule, no_imports_rule, more_imports_rule}
 use Rattle.go_read.specs.Bareness.{nowhere}
 use Rattle.text_edits.specs.declared.edit.Edit.{Edit}
-use Rattle.import_edit.specs.Removed.{span_at, through_semicolon, widened, goes, goes_whole, spec_range, decl_range, specs_ranges, decl_ranges, ranges}
-use Rattle.import_edit.specs.Settled.{removal}
+use Rattle.import_rules.specs.Removed.{span_at, through_semicolon, widened, goes, goes_whole, spec_range, decl_range, specs_ranges, decl_ranges, ranges}
+use Rattle.import_rules.specs.Settled.{removal}
 use Rattle.splice_laws.proofs.TokenLists.{end_last}
 use Rattle.splice_laws.proofs.Wholes.{span_of_node}
 use Rattle.import_splices.specs.SettledFile.{left_specs, left_single, left_decl, left_decls}

@@ -5,7 +5,7 @@ use Rattle.go_tree.specs.declared.tokens.Token.{Token}
 use Rattle.go_tree.specs.declared.tokens.Comment.{Comment}
 use Rattle.go_tree.specs.File.{ImportSpec, ImportDecl, File}
 use Rattle.go_tree.specs.FileBare.{bare_import_spec, bare_file}
-use Rattle.import_edit.specs.Removed.{goes, goes_whole}
+use Rattle.import_rules.specs.Removed.{goes, goes_whole}
 
 module _ (text : List ℕ) (tokens : List Token) (comments : List Comment) (unused : List Span) where
   -- the specs that stay

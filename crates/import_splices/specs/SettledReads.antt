@@ -8,7 +8,7 @@ use Rattle.go_tree.specs.FileBare.{bare_file}
 use Rattle.go_words.specs.Tokens.{TokensOf}
 use Rattle.go_read.specs.SpellsFiles.{SpellsFile}
 use Rattle.text_edits.specs.Applied.{applied}
-use Rattle.import_edit.specs.Settled.{settled}
+use Rattle.import_rules.specs.Settled.{settled}
 use Rattle.splice_laws.specs.Dots.{UndottedFile}
 use Rattle.splice_laws.specs.Splice.{ReadsAs}
 use Rattle.import_splices.specs.SettledFile.{without_unused}

@@ -11,7 +11,7 @@ use Rattle.go_read.specs.SpellsSpans.{start_of, span_to}
 use Rattle.go_read.specs.SpellsFiles.{SpellsTop, SpellsTops, SpellsFront, SpellsFile, top_const_rule, top_var_rule, top_type_rule, top_type_group_rule, top_func_rule, top_method_rule, no_tops_rule, more_tops_rule, front_rule}
 use Rattle.splice_laws.proofs.Grafts.{Within, here, later, both_within}
 use Rattle.splice_laws.proofs.Pasts.{top_past}
-use Rattle.import_edit.specs.Laid.{IsInk, IsStart, DeclsLie, Laid}
+use Rattle.import_rules.specs.Laid.{IsInk, IsStart, DeclsLie, Laid}
 use Rattle.run_rules.specs.Laws.{ImportsEndBy, LiesBehindImports}
 use Rattle.run_laws.proofs.NodeSpans.{AllDecl}
 use Rattle.run_laws.proofs.SpelledSpans.{top_all}

@@ -16,8 +16,8 @@ use Rattle.go_read.specs.SpellsSpans.{end_after, span_to}
 use Rattle.go_read.specs.SpellsFiles.{SpellsImportSpec, SpellsImportSpecs, SpellsImport, SpellsImports, path_rule, named_path_rule, no_import_specs_rule, last_import_spec_rule, more_import_specs_rule, import_rule, import_group_rule, no_imports_rule, more_imports_rule}
 use Rattle.splice_laws.proofs.Grafts.{Within, here, later}
 use Rattle.splice_laws.proofs.Pasts.{import_specs_past}
-use Rattle.import_edit.specs.Removed.{is_semicolon}
-use Rattle.import_edit.specs.Laid.{IsInked, StandInOrder, StartsAt, IsStart, SpecsLie, DeclLies, DeclsLie}
+use Rattle.import_rules.specs.Removed.{is_semicolon}
+use Rattle.import_rules.specs.Laid.{IsInked, StandInOrder, StartsAt, IsStart, SpecsLie, DeclLies, DeclsLie}
 use Rattle.run_rules.specs.Laws.{ImportsEndBy}
 use Rattle.run_laws.proofs.TokensStand.{Stand}
 

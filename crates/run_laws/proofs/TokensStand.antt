@@ -22,7 +22,7 @@ use Rattle.go_scan.proofs.LexemeLemmas.{form_runs}
 use Rattle.layout_laws.proofs.NextTokens.{START}
 use Rattle.go_scan.proofs.PieceKinds.{blank_no_letter, a_blank, a_letter, a_lexeme, sort_of, never_empty}
 use Rattle.splice_laws.proofs.Rises.{piece_size}
-use Rattle.import_edit.specs.Laid.{IsInk, IsInked}
+use Rattle.import_rules.specs.Laid.{IsInk, IsInked}
 
 -- ---- characters
 

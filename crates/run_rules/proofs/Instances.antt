@@ -10,8 +10,8 @@ use Rattle.go_read.specs.Goals.{read_front}
 use Rattle.go_read.proofs.Whole.{file_spelled}
 use Rattle.text_edits.specs.declared.edit.Edit.{Edit}
 use Rattle.text_edits.specs.Applied.{Ascend, applied}
-use Rattle.import_edit.specs.Removed.{is_semicolon}
-use Rattle.import_edit.specs.Laid.{IsInked, StandInOrder}
+use Rattle.import_rules.specs.Removed.{is_semicolon}
+use Rattle.import_rules.specs.Laid.{IsInked, StandInOrder}
 use Rattle.pkg_graph.specs.Package.{Package}
 use Rattle.run_rules.specs.Sites.{MarkRef}
 use Rattle.run_rules.specs.Texts.{FileText}

@@ -11,8 +11,8 @@ use Rattle.scope_names.specs.Identifiers.{identifiers}
 use Rattle.scope_names.specs.Means.{predeclared}
 use Rattle.scope_names.specs.Fresh.{candidate, is_new, IsFirst, IsFresh}
 use Rattle.pkg_graph.specs.Package.{Package}
-use Rattle.import_edit.specs.declared.new_import.Needed.{Needed}
-use Rattle.import_edit.specs.Needs.{serving, avoided, IsNeeded, there, new}
+use Rattle.import_rules.specs.declared.new_import.Needed.{Needed}
+use Rattle.import_rules.specs.Needs.{serving, avoided, IsNeeded, there, new}
 use Rattle.run_rules.specs.Surroundings.{Place}
 use Rattle.run_rules.specs.Sites.{Where}
 use Rattle.run_rules.specs.Naming.{Named, package_path, own_name, names_here, environment_here, added_import, named_package, first_new, fuel_for, fresh_name}

@@ -1,6 +1,6 @@
 -- Runs of modules with marked constants, whole.
 use Rattle.std.proofs.Common.{◌≡◌, inl, inr, length, refl}
-use Rattle.import_edit.specs.Laid.{Laid}
+use Rattle.import_rules.specs.Laid.{Laid}
 use Rattle.run_rules.specs.Laws.{LiesBehindImports}
 use Rattle.std.specs.Prelude.{true, false, [], ◌∷◌, Some, None, codes}
 use Rattle.go_tree.specs.declared.exprs.Rest.TheVariants.{Plain}

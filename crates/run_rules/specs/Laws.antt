@@ -10,9 +10,9 @@ use Rattle.param_choice.specs.Chosen.{has}
 use Rattle.param_choice.specs.Greatest.{IsGreatest}
 use Rattle.pkg_graph.specs.Package.{Package}
 use Rattle.pkg_graph.specs.Order.{IsDependencyOrder}
-use Rattle.import_edit.specs.declared.new_import.Needed.{Needed}
-use Rattle.import_edit.specs.Needs.{avoided, IsNeeded}
-use Rattle.import_edit.specs.Laid.{IsStart, Laid}
+use Rattle.import_rules.specs.declared.new_import.Needed.{Needed}
+use Rattle.import_rules.specs.Needs.{avoided, IsNeeded}
+use Rattle.import_rules.specs.Laid.{IsStart, Laid}
 use Rattle.run_rules.specs.Surroundings.{Use, Place}
 use Rattle.run_rules.specs.Places.{expr_seen, stmts_seen}
 use Rattle.run_rules.specs.Rewriting.{Changes, new_expr, new_stmts}

@@ -15,8 +15,8 @@ use Rattle.scope_names.specs.Means.{Environment, predeclared, outermost}
 use Rattle.scope_names.specs.Fresh.{candidate, is_new}
 use Rattle.pkg_graph.specs.Package.{Package, import_specs}
 use Rattle.pkg_graph.specs.Members.{import_name, package_block}
-use Rattle.import_edit.specs.declared.new_import.NewImport.{NewImport}
-use Rattle.import_edit.specs.Needs.{serving, avoided}
+use Rattle.import_rules.specs.declared.new_import.NewImport.{NewImport}
+use Rattle.import_rules.specs.Needs.{serving, avoided}
 use Rattle.go_types.specs.Answers.{given}
 use Rattle.run_rules.specs.Surroundings.{Place}
 use Rattle.run_rules.specs.Sites.{Where, mark_of, outer_meaning, qualifier}

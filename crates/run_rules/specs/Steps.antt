@@ -8,9 +8,9 @@ use Rattle.go_tree.specs.Tree.{NameAt, TypeExpr, named, pointer, slice_type, map
 use Rattle.go_tree.specs.File.{ImportSpec, ImportDecl, TypeSpec, Receiver, Decl, values, types, func, File}
 use Rattle.text_edits.specs.declared.edit.Edit.{Edit}
 use Rattle.text_edits.specs.Applied.{applied}
-use Rattle.import_edit.specs.declared.new_import.NewImport.{NewImport}
-use Rattle.import_edit.specs.Removed.{same_span}
-use Rattle.import_edit.specs.Settled.{settled}
+use Rattle.import_rules.specs.declared.new_import.NewImport.{NewImport}
+use Rattle.import_rules.specs.Removed.{same_span}
+use Rattle.import_rules.specs.Settled.{settled}
 use Rattle.pkg_graph.specs.Package.{Package, import_specs}
 use Rattle.go_types.specs.Answers.{given, meets, otherwise, one_of}
 use Rattle.run_rules.specs.Surroundings.{Slot, Place, Seen, seen, seen_type, seen_stmt, in_constant, value_use, alike}

@@ -1,0 +1,7 @@
+use Rattle.std.proofs.Common.{◌∙◌, sym}
+use Rattle.import_rules.specs.Removed.{same_span}
+use Rattle.import_edit.proofs.SpanLaws.{any_view}
+use Rattle.import_edit.proofs.span_set.SpanSet.has.Goals as goal
+
+pub returns : goal.returns
+returns c = rw (← c.self.view_is) (c.contains.ensures ∙ sym (any_view (same_span c.args.span) c.self.inside.keys.keys))

@@ -1,0 +1,11 @@
+mod SettledChecks
+pub mod NeedLaws
+pub mod Blanks
+pub mod Chains
+pub mod Ranges
+pub mod SettledOrder
+mod LaidChecks
+pub mod MeaningLaws
+pub mod NeededMeans
+pub mod NeededNames
+pub mod LocalNames

@@ -1,0 +1,34 @@
+//! Laws of imports.
+
+ghost use Rattle.import_rules.specs.Needs.{OneNameIsNeeded};
+ghost use Rattle.import_rules.specs.SettledLaws.{SettledAscend, SettledBytesStay, SettledInOrder, SettledKeeps, SettledWithin};
+ghost use Rattle.import_rules.specs.SettledNames.{AddedNamesAreDistinct, AddedNamesAreNew, NeededNamesMean, NeededNamesMeanAt};
+
+/// At a place of a file a package has one name.
+pub fn one_name_is_needed()
+    ensures { OneNameIsNeeded }
+{}
+
+/// The edits that settle a file's imports stand in order and never overlap, within the text and
+/// behind the package name. Each byte outside their ranges stays.
+pub fn settled_edits_stand_in_order()
+    ensures in_order { SettledInOrder }
+    ensures within { SettledWithin }
+    ensures ascend { SettledAscend }
+    ensures keeps { SettledKeeps }
+    ensures bytes_stay { SettledBytesStay }
+{}
+
+/// The names that are needed at a place, one after another, mean their packages there once the
+/// imports are settled: the added ones are there, and no import that serves one is removed.
+pub fn needed_names_mean_their_packages()
+    ensures in_environments { NeededNamesMean }
+    ensures at_places { NeededNamesMeanAt }
+{}
+
+/// The names that are added for a place differ, and clash with no name of the file, its imports and
+/// its package, and none that is bound.
+pub fn added_names_clash_with_none()
+    ensures distinct { AddedNamesAreDistinct }
+    ensures new { AddedNamesAreNew }
+{}
