@@ -6,3 +6,4 @@ pub mod CursorLaws
 pub mod SpanLaws
 pub mod WalkLaws
 pub mod SettleLaws
+pub mod NeedSteps

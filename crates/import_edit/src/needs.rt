@@ -1,0 +1,128 @@
+//! The name by which a file knows a package at a place (Go specification, Import declarations; Declarations and scope).
+
+ghost use Rattle.std.specs.Prelude.{◌≡◌, ◌++◌, IfOk, OnOk, length, map, option_copied};
+ghost use Rattle.go_tree.specs.FileView.{file_of};
+ghost use Rattle.go_words.specs.Tokens.Pieces.{is_among};
+ghost use Rattle.scope_names.specs.declared.names.Entity.{Entity};
+ghost use Rattle.scope_names.specs.Means.{Environment};
+ghost use Rattle.scope_names.specs.Occurrences.{means_import};
+ghost use Rattle.import_rules.specs.Needs.{IsNeeded, avoided};
+ghost use Rattle.import_edit.specs.Meanings.{meanings_of, serves_by, serving_by};
+
+use go_tree::{FileTree, Name, NoMemory, Text};
+use import_rules::Needed;
+use names_within::fresh;
+use scope_names::{Entity, FileNames, ImportName, NameList};
+use std::alloc::Global;
+
+fn means_import(number: usize, meaning: &Option<Entity>) -> bool
+    ensures { result ≡ means_import number meaning.now }
+{
+    match meaning {
+        Some(Entity::Import(import)) => *import as usize == number,
+        _ => false,
+    }
+}
+
+fn is_among(names: &[Name], name: &[u8]) -> bool
+    ensures { result ≡ is_among names.now name.now }
+{
+    for other in names {
+        if name == other.items() {
+            return true;
+        }
+    }
+    false
+}
+
+fn serves(
+    number: usize,
+    import: &ImportName,
+    meaning: &Option<Entity>,
+    bound: &NameList,
+    path: &[u8],
+) -> bool
+    ensures { result ≡ serves_by bound.now path.now number import.now meaning.now }
+{
+    import.path.items() == path
+        && means_import(number, meaning)
+        && !is_among(bound.items(), import.name.items())
+}
+
+// The name of the first import that serves.
+fn serving<'a>(
+    imports: &'a [ImportName],
+    meanings: &[Option<Entity>],
+    bound: &NameList,
+    path: &[u8],
+) -> Option<&'a Name>
+    requires { length meanings.now ≡ length imports.now }
+    ensures { option_copied result ≡ serving_by bound.now path.now 0 imports.now meanings.now }
+{
+    for (number, import) in imports.iter().enumerate() {
+        if serves(number, import, &meanings[number], bound, path) {
+            return Some(&import.name);
+        }
+    }
+    None
+}
+
+fn add_imports(alloc: Global, list: &mut Vec<Name>, imports: &[ImportName]) -> Result<(), NoMemory>
+    ensures { OnOk result (list.new.items ≡ list.old.items ++ map (λ i. i.name) imports.now) }
+{
+    for import in imports {
+        list.push(Name::copied(alloc, import.name.items())?)?;
+    }
+    Ok(())
+}
+
+fn add_names(alloc: Global, list: &mut Vec<Name>, names: &[Name]) -> Result<(), NoMemory>
+    ensures { OnOk result (list.new.items ≡ list.old.items ++ names.now) }
+{
+    for name in names {
+        list.push(Name::copied(alloc, name.items())?)?;
+    }
+    Ok(())
+}
+
+// What a new name avoids besides the names in the file.
+fn avoided(alloc: Global, names: &FileNames, bound: &NameList) -> Result<NameList, NoMemory>
+    ensures { IfOk result (λ list. list ≡ avoided names.now bound.now) }
+{
+    let mut list = Vec::new(alloc);
+    add_imports(alloc, &mut list, names.imports.items())?;
+    add_names(alloc, &mut list, names.package.items())?;
+    add_names(alloc, &mut list, bound.items())?;
+    Ok(NameList::of(list))
+}
+
+/// The name by which the file knows the package with this path and own name at a place, and whether an import has to be
+/// added for it. An import of the path serves where its name means it there and isn't among the bound names; the first
+/// that serves gives its name. Where none does, the name is the first new one of the package's own.
+///
+/// `meanings` says of each import what its name means at the place, and `names` are the file's. An error where memory
+/// is refused. Linear in the file and the names.
+pub fn need(
+    alloc: Global,
+    file: &FileTree,
+    names: &FileNames,
+    meanings: &[Option<Entity>],
+    bound: &NameList,
+    path: &Text,
+    base: &Name,
+) -> Result<Needed, NoMemory>
+    requires { length meanings.now ≡ length names.now.imports }
+    ensures { IfOk result (λ needed. (env : Environment Entity) → meanings.now ≡ meanings_of env names.now.imports
+        → IsNeeded names.now (file_of file.now) env bound.now path.now base.now needed) }
+{
+    match serving(names.imports.items(), meanings, bound, path.items()) {
+        Some(name) => Ok(Needed {
+            name: Name::copied(alloc, name.items())?,
+            added: false,
+        }),
+        None => Ok(Needed {
+            name: fresh(alloc, base, file, &avoided(alloc, names, bound)?)?,
+            added: true,
+        }),
+    }
+}
