@@ -116,8 +116,7 @@ module _ (source : Source) where
   pub decls_fit : (a from : ℕ) (ds : List (ImportDecl Span)) → StandInOrder source.text.now 0 source.tokens.now → a ≤ from → DeclsLie source.text.now source.tokens.now from ds → DeclsFit source a ds
   decls_fit a from [] order le h = tt
   decls_fit a from (d ∷ ds) order le h =
-      let k : d.span.end ≤ length source.text.now = inside d.span h.1.0 in
-      (
+      let k : d.span.end ≤ length source.text.now = inside d.span h.1.0 in (
         omega (arith, h.0),
         omega (arith, h.1.0.0),
         record {

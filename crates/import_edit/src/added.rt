@@ -10,8 +10,8 @@ ghost use Rattle.import_edit.specs.Order.{imports_of};
 
 use crate::lines::blank_start;
 use crate::spec_text::write_spec;
-use import_rules::NewImport;
 use go_tree::{FileTree, ImportDecl, NoMemory, Span, Text};
+use import_rules::NewImport;
 use std::alloc::Global;
 use text_edits::{Edit, Edits};
 
@@ -81,7 +81,11 @@ fn insertion(at: u32, text: Vec<u8>) -> Edit
 }
 
 /// The imports, each within a line of the group whose `)` stands there.
-pub(crate) fn group_insertion(alloc: Global, at: u32, added: &[&NewImport]) -> Result<Edit, NoMemory>
+pub(crate) fn group_insertion(
+    alloc: Global,
+    at: u32,
+    added: &[&NewImport],
+) -> Result<Edit, NoMemory>
     ensures { IfOk result (λ e. e ≡ insertion (group_addition at (imports_of added.now))) }
 {
     let mut text = Vec::new(alloc);
@@ -125,7 +129,11 @@ pub(crate) fn insertion_before(
 }
 
 /// Adds the edits that remove the ranges.
-pub(crate) fn push_removals(alloc: Global, edits: &mut Edits, ranges: &[Span]) -> Result<(), NoMemory>
+pub(crate) fn push_removals(
+    alloc: Global,
+    edits: &mut Edits,
+    ranges: &[Span],
+) -> Result<(), NoMemory>
     requires { InOrder (edits.old ++ map removal ranges.now) }
     ensures { OnOk result (edits.new ≡ edits.old ++ map removal ranges.now) }
 {

@@ -5,8 +5,8 @@ ghost use Rattle.pkg_graph.specs.Pieces.{comes_before};
 ghost use Rattle.import_rules.specs.SpecText.{in_order, is_before, put};
 ghost use Rattle.import_edit.specs.Order.{imports_of, place_of};
 
-use import_rules::NewImport;
 use go_tree::NoMemory;
+use import_rules::NewImport;
 use std::alloc::Global;
 
 #[tactic(auto, using(crate::proofs::OrderLaws::path_before))]

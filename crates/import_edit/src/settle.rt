@@ -11,8 +11,8 @@ use crate::added::{adds_to_group, group_insertion, insertion_before, last_closin
 use crate::order::in_order;
 use crate::removed::{Source, removed_ranges};
 use crate::span_set::SpanSet;
-use import_rules::NewImport;
 use go_tree::{Comment, FileTree, MAX_FILE_BYTES, NoMemory, Span, Token};
+use import_rules::NewImport;
 use std::alloc::Global;
 use text_edits::{Edit, Edits};
 
