@@ -1,10 +1,8 @@
-//! Tests of the calls that read a module's files: their packages, marks and imports.
+//! Tests of the calls that read a module's files: their packages and marks.
 #![tactic(auto)]
 
 #[cfg(test)]
 mod marks;
-#[cfg(test)]
-mod names_needed;
 #[cfg(test)]
 mod packages;
 #[cfg(test)]
