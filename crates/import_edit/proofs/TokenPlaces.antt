@@ -1,15 +1,14 @@
 -- The tokens of a text stand in their order within it, and so do its comments.
-use Rattle.std.proofs.Common.{◌≡◌, ◌∙◌, ◌+◌, ◌-◌, ◌≤◌, ◌<◌, ℕ, suc, Bool, true, false, if◌then◌else◌, List, [], ◌∷◌, ◌++◌, length, get_or, codes, Option, Some, None, refl, sym, ap, subst, arith, append_assoc, length-append}
+use Rattle.std.proofs.Common.{◌≡◌, ◌∙◌, ◌+◌, ◌-◌, ◌≤◌, ℕ, Bool, true, false, if◌then◌else◌, List, [], ◌∷◌, ◌++◌, length, get_or, codes, Option, Some, None, refl, sym, ap, subst, arith, append_assoc, length-append}
 use Rattle.std.specs.Prelude.{encode_utf8_all, ◌==◌}
 use Rattle.std.proofs.lemmas.Str.{encodes-append}
 use Rattle.std.proofs.lemmas.Slice.Eq.{bytes_eq-Decides}
-use Rattle.go_tree.specs.declared.spans.Span.{Span}
 use Rattle.go_tree.specs.declared.tokens.Token.{Token}
 use Rattle.go_tree.specs.declared.tokens.Comment.{Comment}
 use Rattle.go_tree.specs.declared.tokens.TokenKind.{TokenKind}
 use Rattle.go_tree.specs.declared.tokens.TokenKind.TheVariants.{Ident, Keyword, Operator, Integer, Float, Imaginary, Rune, Str, Inserted}
 use Rattle.go_words.specs.Tokens.Characters.{byte_order_mark, is_blank, is_listed}
-use Rattle.go_words.specs.Tokens.{TokensOf, after_mark, mark_size, tokens_at, tokens_from, comments_from, comments_at, size_of, span_of, inserted, due_after, ends_line}
+use Rattle.go_words.specs.Tokens.{TokensOf, after_mark, mark_size, tokens_at, tokens_from, comments_from, comments_at, size_of, inserted, due_after, ends_line}
 use Rattle.go_words.specs.Tokens.Pieces.{PieceKind, blanks, remark, token, Piece, CutsTo}
 use Rattle.import_rules.specs.Removed.{is_semicolon}
 use Rattle.import_rules.specs.Laid.{IsInk, IsInked, StandInOrder}
