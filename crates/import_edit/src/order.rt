@@ -1,7 +1,7 @@
 //! Imports to be added, in their order.
 
 ghost use Rattle.std.specs.Prelude.{◌≡◌, ◌≤◌, IfOk, OnOk, length, map};
-ghost use Rattle.pkg_graph.specs.Pieces.{comes_before};
+ghost use Rattle.module_files.specs.Pieces.{comes_before};
 ghost use Rattle.import_rules.specs.SpecText.{in_order, is_before, put};
 ghost use Rattle.import_edit.specs.Order.{imports_of, place_of};
 
