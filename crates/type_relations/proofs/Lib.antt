@@ -1,0 +1,3 @@
+pub mod UnderLaws
+pub mod GrownLaws
+pub mod MethodLaws

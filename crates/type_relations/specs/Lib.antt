@@ -1,0 +1,5 @@
+pub mod Environment
+pub mod Inside
+pub mod Kinds
+pub mod Methods
+pub mod Typed

@@ -1,0 +1,2 @@
+pub mod InternLaws
+pub mod TypesAtLaws

@@ -1,0 +1,12 @@
+//! Types as numbers: each type is a row of one table, whose parts are rows before it (Go
+//! specification, Types; Type identity).
+#![tactic(auto)]
+
+mod laws;
+mod nodes;
+mod same;
+mod table;
+
+pub use laws::rows_stand_for_types;
+pub use nodes::{Field, FieldList, TypeId, TypeIdList, TypeNode};
+pub use table::TypeTable;
