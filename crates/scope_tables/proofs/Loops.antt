@@ -1,5 +1,5 @@
 -- Turns of the loops that build a table.
-use Rattle.std.proofs.Common.{◌≡◌, ◌∙◌, ◌≤◌, ◌<◌, ◌+◌, ℕ, suc, Bool, true, false, List, [], ◌∷◌, ◌++◌, Option, Some, None, refl, sym, ap, cond, if◌then◌else◌, length, get_or, drop, map, bytes_eq, add-one, append_assoc, append-nil}
+use Rattle.std.proofs.Common.{◌≡◌, ◌∙◌, ◌≤◌, ◌<◌, ◌+◌, ℕ, suc, Bool, true, false, List, [], ◌∷◌, ◌++◌, Option, None, refl, sym, ap, cond, length, get_or, drop, map, bytes_eq, add-one, append_assoc, append-nil}
 use Rattle.std.proofs.Math.Seq.{drop-cons}
 use Rattle.std.proofs.lemmas.List.{drop_all}
 use Rattle.go_tree.specs.declared.spans.Span.{Span}
@@ -12,7 +12,7 @@ use Rattle.scope_names.specs.Scopes.{decls_scopes}
 use Rattle.scope_tables.specs.Table.{IsTableOf}
 use Rattle.names_within.specs.declared.walk.LocalScope.{LocalScope}
 use Rattle.scope_names.specs.declared.names.Entity.{Entity}
-use Rattle.scope_names.specs.Means.{Environment, or_else, means, numbered, is_blank, binding}
+use Rattle.scope_names.specs.Means.{or_else, means, numbered, binding}
 use Rattle.scope_tables.specs.declared.rows.Rows.{Rows}
 use Rattle.scope_tables.specs.Building.{locals_of, outside_of, extent_at, extents_named, KeepsLocals, KeepsOutside, AddsLocal, Claims}
 use Rattle.scope_tables.proofs.TableLaws.{grouped, or_none, first_of, table_is}

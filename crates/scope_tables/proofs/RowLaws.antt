@@ -1,18 +1,14 @@
 -- Names with a row each: rows that are added, and rows that are replaced.
-use Rattle.std.proofs.Common.{◌≡◌, ◌∙◌, ◌≤◌, ◌<◌, ◌+◌, ◌⊎◌, inl, inr, ℕ, zero, suc, Bool, true, false, not, ◌||◌, nat_le, List, [], ◌∷◌, ◌++◌, Option, Some, None, refl, sym, ap, subst, cond, if◌then◌else◌, length, get_or, bytes_eq, arith, slice_set, append-nil, nat_lt, slice_get, position, option_and_then}
+use Rattle.std.proofs.Common.{◌≡◌, ◌∙◌, ◌≤◌, ◌<◌, ◌+◌, ◌⊎◌, inl, inr, ℕ, zero, suc, Bool, true, false, not, ◌||◌, nat_le, List, [], ◌∷◌, ◌++◌, Option, Some, None, refl, sym, ap, cond, length, get_or, bytes_eq, arith, slice_set, nat_lt, slice_get, position, option_and_then}
 use Rattle.std.specs.List.{list_any, position_or_len}
-use Rattle.std.proofs.lemmas.List.{length-append}
 use Rattle.std.proofs.lemmas.Option.{slice_get_past}
 use Rattle.std.proofs.lemmas.Bool.{true≢false, lt-ltb, le-ltb}
 use Rattle.std.proofs.lemmas.Bool.Decides.{leb_tells}
 use Rattle.std.proofs.lemmas.Slice.Eq.{bytes_eq-Decides}
 use Rattle.go_words.specs.Tokens.Pieces.{is_among}
 use Rattle.names_within.specs.EachOnce.{with_name}
-use Rattle.scope_names.specs.declared.names.Entity.{Entity}
-use Rattle.scope_names.specs.Means.{or_else}
 use Rattle.scope_tables.specs.declared.rows.Row.{Row}
-use Rattle.scope_tables.specs.NamedScopes.{Extent}
-use Rattle.scope_tables.specs.Table.{found_in, locals_in, outside_in, part_of}
+use Rattle.scope_tables.specs.Table.{found_in, part_of}
 use Rattle.scope_tables.specs.Building.{position_of}
 
 pub same_name : (a b : List ℕ) → bytes_eq a b ≡ true → a ≡ b

@@ -1,19 +1,17 @@
 -- Steps of a table's building.
-use Rattle.std.proofs.Common.{◌≡◌, ◌∙◌, ◌≤◌, ◌<◌, ◌+◌, ℕ, suc, Bool, true, false, not, List, [], ◌∷◌, ◌++◌, Option, Some, None, is_none, is_some, refl, sym, ap, subst, cond, if◌then◌else◌, length, get_or, drop, map, bytes_eq, arith, add-one, slice_set, append_assoc, append-nil}
-use Rattle.std.proofs.Math.Seq.{drop-cons}
+use Rattle.std.proofs.Common.{◌≡◌, ◌∙◌, ◌≤◌, ◌<◌, ◌+◌, ℕ, Bool, true, false, List, [], ◌∷◌, ◌++◌, Option, Some, None, is_none, is_some, refl, sym, ap, subst, cond, length, get_or, bytes_eq, arith, slice_set, append-nil}
 use Rattle.std.proofs.lemmas.Bool.{true≢false}
 use Rattle.std.proofs.lemmas.List.{length-append}
 use Rattle.names_within.specs.EachOnce.{with_name}
 use Rattle.names_within.specs.declared.walk.LocalScope.{LocalScope}
 use Rattle.scope_names.specs.declared.names.Entity.{Entity}
-use Rattle.scope_names.specs.Means.{Environment, or_else, means, numbered, is_blank, binding}
+use Rattle.scope_names.specs.Means.{or_else, means, is_blank, binding}
 use Rattle.scope_tables.specs.declared.rows.Row.{Row}
 use Rattle.scope_tables.specs.declared.rows.Rows.{Rows}
-use Rattle.scope_tables.specs.NamedScopes.{Extent}
 use Rattle.scope_tables.specs.Table.{found_in, locals_in, outside_in}
 use Rattle.scope_tables.specs.Building.{IsEven, locals_of, outside_of, position_of, extent_at, extents_named, KeepsLocals, KeepsOutside, AddsLocal, Claims}
 use Rattle.scope_tables.proofs.RowLaws.{same_name, placed_old, placed_new, place_of_new, found_grown, found_replaced, found_here}
-use Rattle.scope_tables.proofs.TableLaws.{turned, grouped, or_none, first_of}
+use Rattle.scope_tables.proofs.TableLaws.{turned, or_none}
 
 -- ---- no names
 

@@ -1,7 +1,6 @@
 -- A table of a file's scopes answers as the scopes do.
-use Rattle.std.proofs.Common.{◌≡◌, ◌∙◌, ℕ, zero, suc, Bool, true, false, ◌&&◌, nat_le, nat_lt, List, [], ◌∷◌, ◌++◌, Option, Some, None, option_map, option_and_then, refl, sym, ap, subst, cond, if◌then◌else◌, map, filter, reverse, slice_get, bytes_eq}
+use Rattle.std.proofs.Common.{◌≡◌, ◌∙◌, ℕ, zero, suc, Bool, true, false, ◌&&◌, nat_le, nat_lt, List, [], ◌∷◌, ◌++◌, Option, Some, None, option_map, option_and_then, refl, sym, ap, cond, map, filter, reverse, slice_get, bytes_eq}
 use Rattle.std.proofs.lemmas.List.{map-append, reverse-append}
-use Rattle.std.proofs.lemmas.Bool.{true≢false}
 use Rattle.go_tree.specs.declared.spans.Span.{Span}
 use Rattle.go_tree.specs.File.{File}
 use Rattle.names_within.specs.declared.walk.LocalScope.{LocalScope}
@@ -11,9 +10,9 @@ use Rattle.scope_names.specs.declared.names.Entity.TheVariants.{Local, Import, P
 use Rattle.scope_names.specs.declared.names.FileNames.{FileNames}
 use Rattle.scope_names.specs.declared.names.ImportName.{ImportName}
 use Rattle.scope_names.specs.Means.{Environment, or_else, means, numbered, predeclared, outermost}
-use Rattle.scope_names.specs.Scopes.{Scope, decls_scopes, holds_at, locals_at, meaning_at, captured_at, spec_of, declaration_of}
-use Rattle.scope_tables.specs.NamedScopes.{Extent, is_held, innermost}
-use Rattle.scope_tables.specs.Table.{Table, locals_in, outside_in, meaning_in, captured_in, span_of, IsTableOf}
+use Rattle.scope_names.specs.Scopes.{Scope, decls_scopes, holds_at, locals_at, meaning_at, spec_of, declaration_of}
+use Rattle.scope_tables.specs.NamedScopes.{Extent, innermost}
+use Rattle.scope_tables.specs.Table.{Table, locals_in, outside_in, meaning_in, span_of, IsTableOf}
 use Rattle.scope_tables.specs.Building.{extents_named, extent_at}
 use Rattle.scope_tables.proofs.RowLaws.{same_name, itself}
 

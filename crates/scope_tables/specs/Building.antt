@@ -1,5 +1,5 @@
 -- A table while it is built.
-use Rattle.std.specs.Prelude.{◌≡◌, ℕ, Bool, List, [], ◌∷◌, ◌++◌, Option, Some, None, if◌then◌else◌, bytes_eq, length}
+use Rattle.std.specs.Prelude.{◌≡◌, ℕ, List, [], ◌∷◌, ◌++◌, Option, if◌then◌else◌, bytes_eq, length}
 use Rattle.std.specs.List.{position_or_len}
 use Rattle.names_within.specs.declared.walk.LocalScope.{LocalScope}
 use Rattle.scope_names.specs.declared.names.Entity.{Entity}

@@ -1,4 +1,4 @@
-use Rattle.std.proofs.Common.{leb, arith, rules, slice_index_or}
+use Rattle.std.proofs.Common.{leb, rules, slice_index_or}
 use Rattle.std.proofs.lemmas.List.Sorted.{IsPartitionPoint-from_clause, IsPartitionedBy-leb}
 use Rattle.scope_tables.specs.declared.named.Held.{Held}
 use Rattle.scope_tables.proofs.NamedLaws.{later_begun}

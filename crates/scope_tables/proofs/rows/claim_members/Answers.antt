@@ -1,4 +1,4 @@
-use Rattle.std.proofs.Common.{◌∙◌, ◌+◌, ap, drop, map, refl}
+use Rattle.std.proofs.Common.{◌+◌, ap, drop}
 use Rattle.scope_names.specs.declared.names.Entity.TheVariants.{Package}
 use Rattle.scope_names.specs.Means.{or_else, means, numbered}
 use Rattle.scope_tables.specs.Building.{outside_of}

@@ -1,4 +1,4 @@
-use Rattle.std.proofs.Common.{◌≡◌, ℕ, List, drop, map}
+use Rattle.std.proofs.Common.{◌≡◌, ℕ, List, drop}
 use Rattle.scope_names.specs.declared.names.Entity.TheVariants.{Package}
 use Rattle.scope_names.specs.Means.{or_else, means, numbered}
 use Rattle.scope_tables.specs.Building.{IsEven, KeepsLocals, outside_of}

@@ -1,4 +1,4 @@
-use Rattle.std.proofs.Common.{◌≡◌, ◌≤◌, length, sym, subst}
+use Rattle.std.proofs.Common.{◌≤◌, length, sym, subst}
 use Rattle.scope_tables.specs.NamedScopes.{IsKept, Follows}
 use Rattle.scope_tables.proofs.NamedLaws.{kept_push, Ended}
 use Rattle.scope_tables.proofs.named.NamedScopes.push.Goals as goal

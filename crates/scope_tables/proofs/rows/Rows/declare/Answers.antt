@@ -1,4 +1,4 @@
-use Rattle.std.proofs.Common.{◌∙◌, ◌∷◌, ◌++◌, [], refl, sym, ap}
+use Rattle.std.proofs.Common.{◌∙◌, ◌∷◌, ◌++◌, [], refl, ap}
 use Rattle.std.specs.Vec.{with_item}
 use Rattle.scope_tables.specs.Building.{extent_at}
 use Rattle.scope_tables.proofs.RowSteps.{declared, outside_kept}

@@ -1,7 +1,7 @@
-use Rattle.std.proofs.Common.{◌∙◌, [], None, refl, sym, ap, subst, length, ◌≤◌, ◌<◌, ◌≡◌}
+use Rattle.std.proofs.Common.{◌∙◌, None, refl, ap, subst, length, ◌≤◌, ◌<◌}
 use Rattle.names_within.specs.EachOnce.{with_name}
 use Rattle.scope_tables.specs.Building.{position_of}
-use Rattle.scope_tables.proofs.RowSteps.{Placed, placed_push, placed_same}
+use Rattle.scope_tables.proofs.RowSteps.{placed_push, placed_same}
 use Rattle.scope_tables.proofs.rows.Rows.place.Goals as goal
 
 pub returns-in_ok-push-clause-even : goal.returns-in_ok-push-clause-even

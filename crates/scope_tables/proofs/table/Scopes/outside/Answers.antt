@@ -1,6 +1,4 @@
-use Rattle.std.proofs.Common.{◌∙◌, ℕ, List, [], Some, None, sym, ap, option_map, position, slice_get, bytes_eq}
-use Rattle.scope_names.specs.declared.names.Entity.TheVariants.{Local}
-use Rattle.scope_tables.specs.NamedScopes.{Extent, innermost}
+use Rattle.std.proofs.Common.{◌∙◌, ℕ, List, Some, None, sym, ap, position, slice_get, bytes_eq}
 use Rattle.scope_tables.specs.declared.rows.Row.{Row}
 use Rattle.scope_tables.specs.Table.{part_of}
 use Rattle.scope_tables.proofs.RowLaws.{by_number}
