@@ -1,5 +1,5 @@
 -- What the innermost block learns.
-use Rattle.std.proofs.Common.{◌≡◌, ◌∙◌, ℕ, Bool, false, List, [], ◌∷◌, ◌++◌, Option, Some, None, option_to_list, refl, sym, ap, cond}
+use Rattle.std.proofs.Common.{◌≡◌, ◌∙◌, ℕ, false, List, [], ◌∷◌, ◌++◌, Option, Some, option_to_list, refl, sym, ap, cond}
 use Rattle.scope_names.specs.Means.{is_blank}
 use Rattle.names_within.specs.declared.walk.OpenBlock.{OpenBlock}
 use Rattle.names_within.specs.Walk.{Walk, in_last, known_with, learn}

@@ -1,21 +1,21 @@
 -- What a part of a walk adds to the scopes, and what the innermost block knows after it, where scopes are wanted.
-use Rattle.std.proofs.Common.{◌≡◌, ◌∙◌, ◌+◌, ◌-◌, ◌<◌, ◌≤◌, ℕ, suc, Bool, true, false, not, ◌||◌, ◌&&◌, List, [], ◌∷◌, ◌++◌, Option, Some, None, refl, sym, ap, subst, cond, if◌then◌else◌, map, filter, length, take, slice_get, option_and_then, bytes_eq, append_assoc, append-nil, get_or, arith}
+use Rattle.std.proofs.Common.{◌≡◌, ◌∙◌, ◌+◌, ◌-◌, ◌<◌, ℕ, Bool, true, false, not, ◌||◌, ◌&&◌, List, [], ◌∷◌, ◌++◌, Some, None, refl, sym, ap, subst, cond, map, filter, length, take, slice_get, option_and_then, bytes_eq, append_assoc, append-nil, arith}
 use Rattle.std.proofs.Math.Seq.{take-append_seam, get_or-append_seam}
 use Rattle.std.proofs.lemmas.List.{map-append, length-append}
 use Rattle.std.proofs.lemmas.Option.{slice_get-get_or}
 use Rattle.std.proofs.lemmas.List.Folds.{list_any-append}
 use Rattle.go_tree.specs.declared.spans.Span.{Span}
-use Rattle.go_tree.specs.Tree.{NameAt, Param, Sig}
+use Rattle.go_tree.specs.Tree.{NameAt}
 use Rattle.go_words.specs.Tokens.Pieces.{is_among}
 use Rattle.scope_names.specs.FreeNames.{names_of}
 use Rattle.scope_names.specs.Means.{is_blank}
-use Rattle.scope_names.specs.Scopes.{Scope, not_blank, new_names, scopes_of, param_names, with_name}
+use Rattle.scope_names.specs.Scopes.{Scope, not_blank, new_names, scopes_of}
 use Rattle.names_within.specs.LocalScopes.{scope_of}
 use Rattle.names_within.specs.declared.walk.Wanted.{Wanted}
 use Rattle.names_within.specs.declared.walk.Wanted.TheVariants.{Scopes}
 use Rattle.names_within.specs.declared.walk.OpenBlock.{OpenBlock}
-use Rattle.names_within.specs.Walk.{Walk, finding, mention_in, use_in, bind_in, declare_in, enter_in, opened, hold_before, end_in, innermost, known_with, in_last, mention, used, bind, declare, enter, hold, learn, nesting, leave}
-use Rattle.names_within.specs.TreeWalk.{begin, begin_option, declare_all, hold_all, begin_all, begin_params, begin_sig}
+use Rattle.names_within.specs.Walk.{Walk, mention_in, use_in, bind_in, declare_in, enter_in, opened, hold_before, end_in, innermost, known_with, in_last, mention, used, bind, declare, enter, hold, learn, nesting, leave}
+use Rattle.names_within.specs.TreeWalk.{begin, declare_all, hold_all, begin_all}
 use Rattle.names_within.proofs.BlockLaws.{last_changed}
 use Rattle.names_within.proofs.SetLaws.{among_with, same_name}
 

@@ -1,7 +1,6 @@
 -- Where scopes are wanted a walk gathers those of the file's functions.
-use Rattle.std.proofs.Common.{◌≡◌, ◌∙◌, ℕ, true, false, List, [], ◌∷◌, ◌++◌, Option, Some, None, refl, sym, ap, subst, map, filter, append_assoc, append-nil}
+use Rattle.std.proofs.Common.{◌≡◌, ◌∙◌, ℕ, false, List, [], ◌∷◌, ◌++◌, Option, Some, None, refl, sym, ap, subst, map, append-nil}
 use Rattle.std.proofs.lemmas.List.{map-append}
-use Rattle.std.proofs.lemmas.List.Elements.{filter-append}
 use Rattle.go_tree.specs.declared.spans.Span.{Span}
 use Rattle.go_tree.specs.Tree.{NameAt, TypeExpr, named, pointer, slice_type, map_type, struct_type, Fields, no_fields, field, Param, Sig, Expr, ident, int_lit, rune_lit, str_lit, composite, selector, index, slice, call, func_lit, type_operand, unary, binary, star, Exprs, no_exprs, expr_and, ExprOption, no_expr, some_expr, Elems, no_elems, elem, Value, plain, braced, ValueOption, no_value, some_value, Stmt, const_decl, var_decl, empty, eval, step, assign, define, return_, break_, continue_, inner, if_, for_, range_, switch, defer, label, Stmts, no_stmts, stmt_and, StmtOption, no_stmt, some_stmt, BlockOption, no_block, some_block, RangeLeft, nothing, assigns, defines, Arms, no_arms, arm, Cases, no_cases, case, ValueSpecs, no_specs, spec}
 use Rattle.go_tree.specs.declared.files.Decl.{Decl}
@@ -16,11 +15,11 @@ use Rattle.go_tree.specs.View.{const_specs_row, var_specs_row}
 use Rattle.go_tree.specs.FileView.{type_spec_of, func_of, decl_of}
 use Rattle.go_words.specs.Tokens.Pieces.{is_among}
 use Rattle.scope_names.specs.FreeNames.{names_of}
-use Rattle.scope_names.specs.Scopes.{Scope, not_blank, new_names, specs_declare, declares, known_after, with_name, param_names, sig_declares, scopes_of, expr_span, expr_scopes, exprs_scopes, expr_option_scopes, elems_scopes, value_scopes, value_option_scopes, stmt_scopes, stmts_scopes, stmt_option_scopes, block_option_scopes, left_scopes, arms_scopes, cases_scopes, specs_scopes, receiver_declares, func_declares, func_scopes, values_scopes, decl_scopes, decls_scopes}
+use Rattle.scope_names.specs.Scopes.{Scope, not_blank, specs_declare, known_after, with_name, param_names, sig_declares, scopes_of, expr_span, expr_scopes, exprs_scopes, expr_option_scopes, elems_scopes, value_scopes, value_option_scopes, stmt_scopes, stmts_scopes, stmt_option_scopes, block_option_scopes, left_scopes, arms_scopes, cases_scopes, specs_scopes, receiver_declares, func_declares, func_scopes, values_scopes, decl_scopes, decls_scopes}
 use Rattle.names_within.specs.LocalScopes.{scope_of}
 use Rattle.names_within.specs.declared.walk.Wanted.TheVariants.{Scopes}
 use Rattle.names_within.specs.declared.walk.OpenBlock.{OpenBlock}
-use Rattle.names_within.specs.Walk.{Walk, start, mention, used, bind, declare, enter, nesting, leave}
+use Rattle.names_within.specs.Walk.{Walk, start, mention, declare, enter, nesting, leave}
 use Rattle.names_within.specs.TreeWalk.{mention_option, bind_option, bind_all, begin, begin_option, declare_all, hold_all, begin_all, begin_params, begin_sig, hold_left, declare_left, after_named, after_type, after_fields, after_type_option, after_params, after_sig, after_expr, after_exprs, after_expr_option, after_elems, after_value, after_value_option, after_stmt, after_stmts, after_block, after_stmt_option, after_post, after_block_option, after_left, after_arms, after_cases, after_specs}
 use Rattle.names_within.specs.FileWalk.{after_type_specs, after_receiver, begin_receiver, after_header, after_body, after_func, after_decl, after_decls}
 use Rattle.names_within.proofs.Scoped.{Added, Inside, Moves, Ended, nothing_added, added_then, added_from, added_to, inside_from, moves_from, moves_then, stays, moves_on, knowing, ended, ended_then, ended_further, closed, entered, mention-sc, used-sc, bind-sc, declare-sc, held_nowhere, learned_nowhere, grouped, declare_all-sc, hold_names-sc, begin_names-sc, begin_new-sc, begin_each, begin_each-sc}

@@ -1,4 +1,4 @@
-use Rattle.std.proofs.Common.{◌≡◌, ◌∙◌, refl, sym}
+use Rattle.std.proofs.Common.{sym}
 use Rattle.names_within.specs.Walk.{walk_of}
 use Rattle.names_within.proofs.BlockLaws.{learned}
 use Rattle.names_within.proofs.walk.NameWalk.learn.Goals as goal
