@@ -2,7 +2,9 @@
 use Rattle.std.proofs.Common.{◌≡◌, ℕ, List, [], ◌∷◌, ◌++◌, sym, ap, ◌∙◌, subst, append_assoc, append-nil}
 use Rattle.names_within.specs.declared.walk.Wanted.{Wanted}
 use Rattle.names_within.specs.declared.walk.Wanted.TheVariants.{Identifiers, Binders}
-use Rattle.names_within.specs.Walk.{Walk, finding, mention_in, use_in, bind_in, declare_in, mention, used, bind, declare, leave}
+use Rattle.names_within.specs.declared.walk.Nesting.{Nesting}
+use Rattle.names_within.specs.Walk.{Walk, finding, mention_in, use_in, bind_in, mention, used, bind, leave}
+use Rattle.names_within.proofs.Kept.{Kept}
 
 pub record Found (w : Wanted) (s s' : Walk) (names : List (List ℕ)) : Type 0 where
   pub wanted : s'.wanted ≡ w
@@ -18,7 +20,10 @@ joined {s = s} {n = n} {m = m} p q = record { wanted = q.wanted; found = q.found
 pub quiet : {w : Wanted} {s s1 s2 : Walk} {n : List (List ℕ)} → s2 ≡ s1 → Found w s s1 n → Found w s s2 n
 quiet {w = w} {s = s} {n = n} e p = subst (λ t. Found w s t n) (sym e) p
 
-pub left_at : {w : Wanted} {s s' : Walk} {n : List (List ℕ)} (mark : ℕ) → Found w s s' n → Found w s (leave mark s') n
+pub further : {w : Wanted} {s s1 s2 : Walk} {n : List (List ℕ)} → Found w s s1 n → Kept s1 s2 → Found w s s2 n
+further p q = record { wanted = q.wanted ∙ p.wanted; found = q.found ∙ p.found }
+
+pub left_at : {w : Wanted} {s s' : Walk} {n : List (List ℕ)} (mark : Nesting) → Found w s s' n → Found w s (leave mark s') n
 unfolding leave
 left_at mark p = record { wanted = p.wanted; found = p.found }
 
@@ -39,10 +44,6 @@ pub bind-ids : (n : List ℕ) (s : Walk) → s.wanted ≡ Identifiers → Found 
 unfolding bind
 bind-ids n s e = found_by Identifiers n s (bind_in s.wanted n s) e (ap (λ w. bind_in w n s) e)
 
-pub declare-ids : (n : List ℕ) (s : Walk) → s.wanted ≡ Identifiers → declare n s ≡ s
-unfolding declare
-declare-ids n s e = ap (λ w. declare_in w n s) e
-
 -- ---- where all binders are wanted
 
 pub mention-bin : (n : List ℕ) (s : Walk) → s.wanted ≡ Binders → mention n s ≡ s
@@ -56,7 +57,3 @@ used-bin n s e = ap (λ w. use_in w n s) e
 pub bind-bin : (n : List ℕ) (s : Walk) → s.wanted ≡ Binders → Found Binders s (bind n s) (n ∷ [])
 unfolding bind
 bind-bin n s e = found_by Binders n s (bind_in s.wanted n s) e (ap (λ w. bind_in w n s) e)
-
-pub declare-bin : (n : List ℕ) (s : Walk) → s.wanted ≡ Binders → declare n s ≡ s
-unfolding declare
-declare-bin n s e = ap (λ w. declare_in w n s) e

@@ -2,12 +2,14 @@
 use Rattle.std.proofs.Common.{◌≡◌, ℕ, Bool, true, false, ◌||◌, List, [], ◌∷◌, ◌++◌, Option, Some, None, length, take, refl, sym, ap, ◌∙◌, subst, if◌then◌else◌, bytes_eq, append_assoc, append-nil}
 use Rattle.std.proofs.Math.Seq.{take-append_seam}
 use Rattle.std.proofs.lemmas.List.Folds.{list_any-append}
+use Rattle.go_tree.specs.declared.spans.Span.{Span}
 use Rattle.go_tree.specs.Tree.{NameAt, Param, Sig, RangeLeft, nothing, assigns, defines}
 use Rattle.go_words.specs.Tokens.Pieces.{is_among}
 use Rattle.scope_names.specs.FreeNames.{unless_declared, names_of, name_then, params_names, sig_names, defined}
 use Rattle.names_within.specs.declared.walk.Wanted.TheVariants.{Free}
-use Rattle.names_within.specs.Walk.{Walk, finding, mention_in, use_in, bind_in, declare_in, mention, used, bind, declare, nesting, leave}
-use Rattle.names_within.specs.TreeWalk.{mention_option, bind_option, declare_option, bind_all, declare_all, declare_params, declare_sig, declare_left}
+use Rattle.names_within.specs.Walk.{Walk, finding, mention_in, use_in, bind_in, declare_in, mention, used, bind, declare, hold, learn, nesting, leave}
+use Rattle.names_within.specs.TreeWalk.{mention_option, bind_option, begin, begin_option, bind_all, declare_all, begin_all, hold_all, begin_params, begin_sig, declare_left}
+use Rattle.names_within.proofs.Kept.{Still, still_then, hold-still, learn-still, hold_all-still}
 
 -- the names of the environment are declared around
 pub record Here (s : Walk) (env : List (List ℕ)) : Type 0 where
@@ -46,6 +48,20 @@ then_declared {s = s} {s2 = s2} {d = d} {d' = d'} {n = n} p q = subst (Grown s s
 
 pub quiet : {s s1 s2 : Walk} {d n : List (List ℕ)} → s2 ≡ s1 → Grown s s1 d n → Grown s s2 d n
 quiet {s = s} {d = d} {n = n} e p = subst (λ t. Grown s t d n) (sym e) p
+
+-- a part that adds nothing and leaves the names around
+pub then_still : {s s1 s2 : Walk} {d n : List (List ℕ)} → Grown s s1 d n → Still s1 s2 → Grown s s2 d n
+then_still p q = record { wanted = q.wanted ∙ p.wanted; around = q.around ∙ p.around; found = q.found ∙ p.found }
+
+pub still_here : {s s' : Walk} {env : List (List ℕ)} → Still s s' → Here s env → Here s' env
+still_here q h = record { free = q.wanted ∙ h.free; same = λ n. ap (λ xs. is_among xs n) q.around ∙ h.same n }
+
+still_grown : {s s1 s2 : Walk} {d n : List (List ℕ)} → Still s s1 → Grown s1 s2 d n → Grown s s2 d n
+still_grown {d = d} {n = n} q p = record {
+  wanted = p.wanted ∙ q.wanted;
+  around = p.around ∙ ap (λ xs. xs ++ d) q.around;
+  found = p.found ∙ ap (λ xs. xs ++ n) q.found;
+}
 
 pub same_here : {s s' : Walk} {env : List (List ℕ)} → s' ≡ s → Here s env → Here s' env
 same_here {env = env} e h = subst (λ t. Here t env) (sym e) h
@@ -103,50 +119,59 @@ unfolding declare
 declare-free n s e =
     subst (λ t. Grown s t (n ∷ []) []) (sym (ap (λ w. declare_in w n s) e)) (record { wanted = refl; around = refl; found = sym (append-nil s.found) })
 
-module _ {S : Type 0} where
-  pub mention_option-free : (n : Option (NameAt S)) (s : Walk) (env : List (List ℕ)) → Here s env → mention_option n s ≡ s
-  mention_option-free None s env h = refl
-  mention_option-free (Some n) s env h = mention-free n.name s env h
+pub mention_option-free : (n : Option (NameAt Span)) (s : Walk) (env : List (List ℕ)) → Here s env → mention_option n s ≡ s
+mention_option-free None s env h = refl
+mention_option-free (Some n) s env h = mention-free n.name s env h
 
-  pub bind_option-free : (n : Option (NameAt S)) (s : Walk) (env : List (List ℕ)) → Here s env → bind_option n s ≡ s
-  bind_option-free None s env h = refl
-  bind_option-free (Some n) s env h = bind-free n.name s h.free
+pub bind_option-free : (n : Option (NameAt Span)) (s : Walk) (env : List (List ℕ)) → Here s env → bind_option n s ≡ s
+bind_option-free None s env h = refl
+bind_option-free (Some n) s env h = bind-free n.name s h.free
 
-  all_bound : (ns : List (NameAt S)) (s : Walk) → s.wanted ≡ Free → bind_all ns s ≡ s
-  all_bound [] s e = refl
-  all_bound (n ∷ ns) s e = ap (bind_all ns) (bind-free n.name s e) ∙ all_bound ns s e
+all_bound : (ns : List (NameAt Span)) (s : Walk) → s.wanted ≡ Free → bind_all ns s ≡ s
+all_bound [] s e = refl
+all_bound (n ∷ ns) s e = ap (bind_all ns) (bind-free n.name s e) ∙ all_bound ns s e
 
-  pub bind_all-free : (ns : List (NameAt S)) (s : Walk) (env : List (List ℕ)) → Here s env → bind_all ns s ≡ s
-  bind_all-free ns s env h = all_bound ns s h.free
+pub bind_all-free : (ns : List (NameAt Span)) (s : Walk) (env : List (List ℕ)) → Here s env → bind_all ns s ≡ s
+bind_all-free ns s env h = all_bound ns s h.free
 
-  all_declared : (ns : List (NameAt S)) (s : Walk) → s.wanted ≡ Free → Grown s (declare_all ns s) (names_of ns) []
-  all_declared [] s e = none s
-  all_declared (n ∷ ns) s e =
-      let p1 = declare-free n.name s e in
-      joined p1 (all_declared ns (declare n.name s) (p1.wanted ∙ e))
+all_declared : (ns : List (NameAt Span)) (s : Walk) → s.wanted ≡ Free → Grown s (declare_all ns s) (names_of ns) []
+all_declared [] s e = none s
+all_declared (n ∷ ns) s e =
+    let s1 : Walk = learn n.name s in
+    let q1 = learn-still n.name s in
+    let p1 = still_grown q1 (declare-free n.name s1 (q1.wanted ∙ e)) in
+    joined p1 (all_declared ns (declare n.name s1) (p1.wanted ∙ e))
 
-  pub declare_all-free : (ns : List (NameAt S)) (s : Walk) (env : List (List ℕ)) → Here s env → Grown s (declare_all ns s) (names_of ns) []
-  declare_all-free ns s env h = all_declared ns s h.free
+pub begin_all-free : (only_new : Bool) (from : ℕ) (ns : List (NameAt Span)) (s : Walk) (env : List (List ℕ)) → Here s env → Grown s (begin_all only_new from ns s) (names_of ns) []
+begin_all-free only_new from ns s env h =
+    let q = hold_all-still only_new from ns s in
+    still_grown q (all_declared ns (hold_all only_new from ns s) (q.wanted ∙ h.free))
 
-  option_then : (n : Option (NameAt S)) (rest : List (List ℕ)) (s s' : Walk) → s.wanted ≡ Free
-      → ((t : Walk) → t.wanted ≡ Free → t ≡ declare_option n s → Grown t s' rest []) → Grown s s' (name_then n rest) []
-  option_then None rest s s' e f = f s e refl
-  option_then (Some n) rest s s' e f =
-      let p1 = declare-free n.name s e in
-      joined p1 (f (declare n.name s) (p1.wanted ∙ e) refl)
+begun : (from : ℕ) (n : NameAt Span) (s : Walk) → s.wanted ≡ Free → Grown s (begin from n s) (n.name ∷ []) []
+begun from n s e =
+    let s1 : Walk = hold false from n s in
+    let q = still_then (hold-still false from n s) (learn-still n.name s1) in
+    still_grown q (declare-free n.name (learn n.name s1) (q.wanted ∙ e))
 
-  params_declared : (ps : List (Param S)) (s : Walk) → s.wanted ≡ Free → Grown s (declare_params ps s) (params_names ps) []
-  params_declared [] s e = none s
-  params_declared (p ∷ ps) s e =
-      option_then p.name (params_names ps) s (declare_params ps (declare_option p.name s)) e
-      (λ t w is. subst (λ r. Grown t (declare_params ps r) (params_names ps) []) is (params_declared ps t w))
+option_then : (from : ℕ) (n : Option (NameAt Span)) (rest : List (List ℕ)) (s s' : Walk) → s.wanted ≡ Free
+    → ((t : Walk) → t.wanted ≡ Free → t ≡ begin_option from n s → Grown t s' rest []) → Grown s s' (name_then n rest) []
+option_then from None rest s s' e f = f s e refl
+option_then from (Some n) rest s s' e f =
+    let p1 = begun from n s e in
+    joined p1 (f (begin from n s) (p1.wanted ∙ e) refl)
 
-  pub declare_sig-free : (g : Sig S) (s : Walk) (env : List (List ℕ)) → Here s env → Grown s (declare_sig g s) (sig_names g) []
-  declare_sig-free g s env h =
-      let p1 = params_declared g.params s h.free in
-      joined p1 (params_declared g.results (declare_params g.params s) (p1.wanted ∙ h.free))
+params_begun : (from : ℕ) (ps : List (Param Span)) (s : Walk) → s.wanted ≡ Free → Grown s (begin_params from ps s) (params_names ps) []
+params_begun from [] s e = none s
+params_begun from (p ∷ ps) s e =
+    option_then from p.name (params_names ps) s (begin_params from ps (begin_option from p.name s)) e
+    (λ t w is. subst (λ r. Grown t (begin_params from ps r) (params_names ps) []) is (params_begun from ps t w))
 
-  pub declare_left-free : (l : RangeLeft S) (s : Walk) (env : List (List ℕ)) → Here s env → Grown s (declare_left l s) (defined l) []
-  declare_left-free nothing s env h = none s
-  declare_left-free (assigns _) s env h = none s
-  declare_left-free (defines ns) s env h = all_declared ns s h.free
+pub begin_sig-free : (from : ℕ) (g : Sig Span) (s : Walk) (env : List (List ℕ)) → Here s env → Grown s (begin_sig from g s) (sig_names g) []
+begin_sig-free from g s env h =
+    let p1 = params_begun from g.params s h.free in
+    joined p1 (params_begun from g.results (begin_params from g.params s) (p1.wanted ∙ h.free))
+
+pub declare_left-free : (l : RangeLeft Span) (s : Walk) (env : List (List ℕ)) → Here s env → Grown s (declare_left l s) (defined l) []
+declare_left-free nothing s env h = none s
+declare_left-free (assigns _) s env h = none s
+declare_left-free (defines ns) s env h = all_declared ns s h.free

@@ -1,9 +1,13 @@
 pub mod ListWalks
+pub mod BlockLaws
+pub mod Kept
 pub mod Found
 pub mod IdentifiersFound
 pub mod BindersFound
 pub mod Freed
 pub mod FreeFound
 pub mod FilesFound
+pub mod Scoped
+pub mod ScopesFound
 pub mod SetLaws
 pub mod FreshLaws

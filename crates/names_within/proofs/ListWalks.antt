@@ -2,13 +2,14 @@
 use Rattle.std.proofs.Common.{◌≡◌, ℕ, ◌<◌, ◌≤◌, ◌+◌, suc, List, [], ◌∷◌, length, drop, get_or, refl, sym, ap, ◌∙◌, add-one}
 use Rattle.std.proofs.Math.Seq.{drop-cons}
 use Rattle.std.proofs.lemmas.List.{drop_all}
+use Rattle.go_tree.specs.declared.spans.Span.{Span}
 use Rattle.go_tree.specs.Tree.{Stmts, no_stmts, stmt_and}
-use Rattle.names_within.specs.Walk.{Walk, nesting, leave}
+use Rattle.names_within.specs.Walk.{Walk, enter, nesting, leave}
 use Rattle.names_within.specs.TreeWalk.{after_stmts, after_block}
 
-pub block_left : {S : Type 0} (b : Stmts S) (s : Walk) → leave (nesting s) (after_stmts b s) ≡ after_block b s
-block_left no_stmts s = refl
-block_left (stmt_and x xs) s = refl
+pub block_left : (to : ℕ) (b : Stmts Span) (s : Walk) → leave (nesting s) (after_stmts b (enter to s)) ≡ after_block to b s
+block_left to no_stmts s = refl
+block_left to (stmt_and x xs) s = refl
 
 -- one more entry of a list
 pub each_step : {A : Type 0} {W : Type 0} (walk : List A → W → W) (one : A → W → W) → ((x : A) (xs : List A) (s : W) → walk (x ∷ xs) s ≡ walk xs (one x s))

@@ -1,7 +1,7 @@
 -- Sets of names, and lists without repetition.
-use Rattle.std.proofs.Common.{◌≡◌, ◌∙◌, ◌<◌, ◌+◌, ℕ, suc, Bool, true, false, ◌||◌, ◌&&◌, not, if◌then◌else◌, List, [], ◌∷◌, ◌++◌, length, drop, get_or, map, filter, refl, sym, ap, arith, add-one, bytes_eq, append_assoc, append-nil}
+use Rattle.std.proofs.Common.{◌≡◌, ◌∙◌, ◌<◌, ◌+◌, ℕ, suc, Bool, true, false, ◌||◌, ◌&&◌, not, if◌then◌else◌, List, [], ◌∷◌, ◌++◌, length, drop, get_or, map, filter, refl, sym, ap, arith, add-one, cond, nat_lt, position, Some, None, bytes_eq, append_assoc, append-nil}
 use Rattle.std.proofs.Math.Seq.{drop-cons}
-use Rattle.std.specs.List.{list_any}
+use Rattle.std.specs.List.{list_any, position_or_len}
 use Rattle.std.proofs.lemmas.List.Folds.{list_any-append}
 use Rattle.std.proofs.lemmas.Slice.Eq.{bytes_eq-Decides}
 use Rattle.go_words.specs.Tokens.Pieces.{is_among}
@@ -11,6 +11,22 @@ module _ {V : Type 0} (items : V → List ℕ) where
   pub any_view : (p : List ℕ → Bool) (ks : List V) → list_any p (map items ks) ≡ list_any (λ k. p (items k)) ks
   any_view p [] = refl
   any_view p (k ∷ ks) = ap (λ b. p (items k) || b) (any_view p ks)
+
+  pub place_view : (p : List ℕ → Bool) (ks : List V) → position_or_len p (map items ks) ≡ position_or_len (λ k. p (items k)) ks
+  place_view p [] = refl
+  place_view p (k ∷ ks) = by (p (items k)) (place_view p ks)
+    where
+      by : (b : Bool) → position_or_len p (map items ks) ≡ position_or_len (λ x. p (items x)) ks
+          → cond (not b) (1 + position_or_len p (map items ks)) 0 ≡ cond (not b) (1 + position_or_len (λ x. p (items x)) ks) 0
+      by true e = refl
+      by false e = ap (λ n. 1 + n) e
+
+  length_view : (ks : List V) → length (map items ks) ≡ length ks
+  length_view [] = refl
+  length_view (k ∷ ks) = ap suc (length_view ks)
+
+  pub number_view : (p : List ℕ → Bool) (ks : List V) → position p (map items ks) ≡ position (λ k. p (items k)) ks
+  number_view p ks = ap (λ n. cond (nat_lt n (length (map items ks))) (Some n) None) (place_view p ks) ∙ ap (λ m. cond (nat_lt (position_or_len (λ k. p (items k)) ks) m) (Some (position_or_len (λ k. p (items k)) ks)) None) (length_view ks)
 
   append_view : (ks : List V) (k : V) → map items (ks ++ k ∷ []) ≡ map items ks ++ items k ∷ []
   append_view [] k = refl

@@ -1,37 +1,51 @@
 -- Walks over declarations and files, in the order of the source.
-use Rattle.std.specs.Prelude.{List, [], ◌∷◌, Option, Some, None}
+use Rattle.std.specs.Prelude.{ℕ, List, [], ◌∷◌, Option, Some, None}
+use Rattle.go_tree.specs.declared.spans.Span.{Span}
 use Rattle.go_tree.specs.File.{ImportSpec, ImportDecl, TypeSpec, Receiver, Func, Decl, values, types, func, File}
-use Rattle.names_within.specs.Walk.{Walk, mention}
-use Rattle.names_within.specs.TreeWalk.{mention_option, bind_option, after_type, after_sig, after_stmt, after_block}
+use Rattle.names_within.specs.Walk.{Walk, mention, enter, nesting, leave}
+use Rattle.names_within.specs.TreeWalk.{mention_option, bind_option, begin_option, begin_sig, after_type, after_sig, after_stmt, after_stmts}
 
-module _ {S : Type 0} where
-  abbrev pub after_import_specs : List (ImportSpec S) → Walk → Walk
-  after_import_specs [] s = s
-  after_import_specs (x ∷ xs) s = after_import_specs xs (mention_option x.name s)
+abbrev pub after_import_specs : List (ImportSpec Span) → Walk → Walk
+after_import_specs [] s = s
+after_import_specs (x ∷ xs) s = after_import_specs xs (mention_option x.name s)
 
-  abbrev pub after_imports : List (ImportDecl S) → Walk → Walk
-  after_imports [] s = s
-  after_imports (x ∷ xs) s = after_imports xs (after_import_specs x.specs s)
+abbrev pub after_imports : List (ImportDecl Span) → Walk → Walk
+after_imports [] s = s
+after_imports (x ∷ xs) s = after_imports xs (after_import_specs x.specs s)
 
-  abbrev pub after_type_specs : List (TypeSpec S) → Walk → Walk
-  after_type_specs [] s = s
-  after_type_specs (x ∷ xs) s = after_type_specs xs (after_type x.of (mention x.name.name s))
+abbrev pub after_type_specs : List (TypeSpec Span) → Walk → Walk
+after_type_specs [] s = s
+after_type_specs (x ∷ xs) s = after_type_specs xs (after_type x.of (mention x.name.name s))
 
-  abbrev pub after_receiver : Option (Receiver S) → Walk → Walk
-  after_receiver None s = s
-  after_receiver (Some r) s = mention r.of.name (bind_option r.name s)
+abbrev pub after_receiver : Option (Receiver Span) → Walk → Walk
+after_receiver None s = s
+after_receiver (Some r) s = mention r.of.name (bind_option r.name s)
 
-  abbrev pub after_func : Func S → Walk → Walk
-  after_func f s = after_block f.body (after_sig f.sig (mention f.name.name (after_receiver f.receiver s)))
+-- the receiver as the body sees it
+abbrev pub begin_receiver : ℕ → Option (Receiver Span) → Walk → Walk
+begin_receiver from None s = s
+begin_receiver from (Some r) s = begin_option from r.name s
 
-  abbrev pub after_decl : Decl S → Walk → Walk
-  after_decl (values x) s = after_stmt x s
-  after_decl (types _ _ xs) s = after_type_specs xs s
-  after_decl (func f) s = after_func f s
+abbrev pub after_header : Func Span → Walk → Walk
+after_header f s = after_sig f.sig (mention f.name.name (after_receiver f.receiver s))
 
-  abbrev pub after_decls : List (Decl S) → Walk → Walk
-  after_decls [] s = s
-  after_decls (x ∷ xs) s = after_decls xs (after_decl x s)
+abbrev pub after_body : Func Span → Walk → Walk
+after_body f s =
+    leave (nesting s)
+    (after_stmts f.body
+    (begin_sig f.body_span.start f.sig (begin_receiver f.body_span.start f.receiver (enter f.body_span.end s))))
 
-  abbrev pub after_file : File S → Walk → Walk
-  after_file f s = after_decls f.decls (after_imports f.imports (mention f.package_name.name s))
+abbrev pub after_func : Func Span → Walk → Walk
+after_func f s = after_body f (after_header f s)
+
+abbrev pub after_decl : Decl Span → Walk → Walk
+after_decl (values x) s = after_stmt x s
+after_decl (types _ _ xs) s = after_type_specs xs s
+after_decl (func f) s = after_func f s
+
+abbrev pub after_decls : List (Decl Span) → Walk → Walk
+after_decls [] s = s
+after_decls (x ∷ xs) s = after_decls xs (after_decl x s)
+
+abbrev pub after_file : File Span → Walk → Walk
+after_file f s = after_decls f.decls (after_imports f.imports (mention f.package_name.name s))

@@ -3,3 +3,4 @@ pub mod TreeWalk
 pub mod FileWalk
 pub mod EachOnce
 pub mod Reserved
+pub mod LocalScopes

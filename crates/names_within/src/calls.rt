@@ -1,17 +1,19 @@
 //! The names of one expression or function.
 
-ghost use Rattle.std.specs.Prelude.{◌≡◌, IfOk, []};
+ghost use Rattle.std.specs.Prelude.{◌≡◌, IfOk, [], map};
 ghost use Rattle.go_tree.specs.View.{expr_of};
-ghost use Rattle.go_tree.specs.FileView.{func_of};
+ghost use Rattle.go_tree.specs.FileView.{file_of, func_of};
 ghost use Rattle.scope_names.specs.Binders.{func_binders};
 ghost use Rattle.scope_names.specs.FreeNames.{free_expr};
+ghost use Rattle.scope_names.specs.Scopes.{decls_scopes};
 ghost use Rattle.names_within.specs.EachOnce.{each_once};
+ghost use Rattle.names_within.specs.LocalScopes.{scope_of};
 
 use crate::exprs::expr_names;
-use crate::files::func_names;
+use crate::files::{decls_names, func_names};
 use crate::sets::each_once;
-use crate::walk::{NameWalk, Wanted};
-use go_tree::{Expr, FuncDecl, NoMemory};
+use crate::walk::{LocalScope, NameWalk, Wanted};
+use go_tree::{Expr, FileTree, FuncDecl, NoMemory};
 use scope_names::NameList;
 use std::alloc::Global;
 
@@ -36,4 +38,16 @@ pub fn binders(alloc: Global, f: &FuncDecl) -> Result<NameList, NoMemory>
     let mut names = NameWalk::new(alloc, Wanted::Binders);
     func_names(&mut names, f)?;
     Ok(NameList::of(names.found()))
+}
+
+/// What the functions of a file declare, parameters and results included, each with the bytes in which it holds, in the
+/// order of the source; of two that hold at a place the later one is the inner one (Go specification, Declarations and
+/// scope). An error where memory is refused.
+#[tactic(auto, using(crate::proofs::ScopesFound::scopes_found))]
+pub fn local_scopes(alloc: Global, file: &FileTree) -> Result<Vec<LocalScope>, NoMemory>
+    ensures { IfOk result (λ list. map scope_of list.items ≡ decls_scopes (file_of file.now).decls) }
+{
+    let mut names = NameWalk::new(alloc, Wanted::Scopes);
+    decls_names(&mut names, file.decls.items())?;
+    Ok(names.scopes())
 }

@@ -2,13 +2,36 @@
 
 ghost use Rattle.std.specs.Prelude.{◌≡◌, OnOk};
 ghost use Rattle.go_tree.specs.View.{expr_of, exprs_of, boxed_expr_option_of, plain_expr_option_of, value_of, held_value_option_of, elem_of, elems_of};
+ghost use Rattle.scope_names.specs.Scopes.{expr_span};
 ghost use Rattle.names_within.specs.Walk.{walk_of};
 ghost use Rattle.names_within.specs.TreeWalk.{after_expr, after_exprs, after_expr_option, after_value, after_value_option, after_elem, after_elems};
 
-use crate::stmts::block_names;
-use crate::types::{declare_sig, sig_names, type_names};
+use crate::stmts::stmts_names;
+use crate::types::{begin_sig, sig_names, type_names};
 use crate::walk::NameWalk;
 use go_tree::{Elem, ElemList, Expr, ExprList, NoMemory, Value};
+
+/// Where the expression's node ends.
+pub(crate) fn expr_end(e: &Expr) -> u32
+    ensures { result ≡ (expr_span (expr_of e.now)).end }
+{
+    match e {
+        Expr::Ident { span, .. }
+        | Expr::IntLit { span, .. }
+        | Expr::RuneLit { span, .. }
+        | Expr::StrLit { span, .. }
+        | Expr::Composite { span, .. }
+        | Expr::Selector { span, .. }
+        | Expr::Index { span, .. }
+        | Expr::Slice { span, .. }
+        | Expr::Call { span, .. }
+        | Expr::FuncLit { span, .. }
+        | Expr::TypeOperand { span, .. }
+        | Expr::Unary { span, .. }
+        | Expr::Binary { span, .. }
+        | Expr::Star { span, .. } => span.end,
+    }
+}
 
 #[cycle(tree_names)]
 pub(crate) fn expr_names(names: &mut NameWalk, e: &Expr) -> Result<(), NoMemory>
@@ -41,8 +64,9 @@ pub(crate) fn expr_names(names: &mut NameWalk, e: &Expr) -> Result<(), NoMemory>
         Expr::FuncLit { sig, body, .. } => {
             let mark = names.nesting();
             sig_names(names, sig)?;
-            declare_sig(names, sig)?;
-            block_names(names, body)?;
+            names.enter(body.span.end)?;
+            begin_sig(names, body.span.start, sig)?;
+            stmts_names(names, &body.stmts)?;
             names.leave(mark);
             Ok(())
         }

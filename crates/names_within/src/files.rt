@@ -4,10 +4,10 @@ ghost use Rattle.std.specs.Prelude.{◌≡◌, OnOk, map};
 ghost use Rattle.std.specs.Option.{option_map};
 ghost use Rattle.go_tree.specs.FileView.{import_spec_of, import_decl_of, type_spec_of, receiver_of, func_of, decl_of, file_of};
 ghost use Rattle.names_within.specs.Walk.{walk_of};
-ghost use Rattle.names_within.specs.FileWalk.{after_import_specs, after_imports, after_type_specs, after_receiver, after_func, after_decl, after_decls, after_file};
+ghost use Rattle.names_within.specs.FileWalk.{after_import_specs, after_imports, after_type_specs, after_receiver, begin_receiver, after_header, after_body, after_func, after_decl, after_decls, after_file};
 
-use crate::stmts::{block_names, const_decl_names, var_decl_names};
-use crate::types::{bind_option, mention_option, sig_names, type_names};
+use crate::stmts::{const_decl_names, stmts_names, var_decl_names};
+use crate::types::{begin_option, begin_sig, bind_option, mention_option, sig_names, type_names};
 use crate::walk::NameWalk;
 use go_tree::{Decl, FileTree, FuncDecl, ImportDecl, ImportSpec, NoMemory, Receiver, TypeSpec};
 
@@ -52,13 +52,45 @@ fn receiver_names(names: &mut NameWalk, receiver: &Option<Receiver>) -> Result<(
     }
 }
 
-pub(crate) fn func_names(names: &mut NameWalk, f: &FuncDecl) -> Result<(), NoMemory>
-    ensures { OnOk result (walk_of names.new ≡ after_func (func_of f.now) (walk_of names.old)) }
+fn begin_receiver(
+    names: &mut NameWalk,
+    from: u32,
+    receiver: &Option<Receiver>,
+) -> Result<(), NoMemory>
+    ensures { OnOk result (walk_of names.new
+        ≡ begin_receiver from (option_map receiver_of receiver.now) (walk_of names.old)) }
+{
+    match receiver {
+        None => Ok(()),
+        Some(receiver) => begin_option(names, from, &receiver.name),
+    }
+}
+
+fn header_names(names: &mut NameWalk, f: &FuncDecl) -> Result<(), NoMemory>
+    ensures { OnOk result (walk_of names.new ≡ after_header (func_of f.now) (walk_of names.old)) }
 {
     receiver_names(names, &f.receiver)?;
     names.mention(&f.name.name)?;
-    sig_names(names, &f.sig)?;
-    block_names(names, &f.body)
+    sig_names(names, &f.sig)
+}
+
+fn body_names(names: &mut NameWalk, f: &FuncDecl) -> Result<(), NoMemory>
+    ensures { OnOk result (walk_of names.new ≡ after_body (func_of f.now) (walk_of names.old)) }
+{
+    let mark = names.nesting();
+    names.enter(f.body.span.end)?;
+    begin_receiver(names, f.body.span.start, &f.receiver)?;
+    begin_sig(names, f.body.span.start, &f.sig)?;
+    stmts_names(names, &f.body.stmts)?;
+    names.leave(mark);
+    Ok(())
+}
+
+pub(crate) fn func_names(names: &mut NameWalk, f: &FuncDecl) -> Result<(), NoMemory>
+    ensures { OnOk result (walk_of names.new ≡ after_func (func_of f.now) (walk_of names.old)) }
+{
+    header_names(names, f)?;
+    body_names(names, f)
 }
 
 fn decl_names(names: &mut NameWalk, decl: &Decl) -> Result<(), NoMemory>
@@ -72,7 +104,7 @@ fn decl_names(names: &mut NameWalk, decl: &Decl) -> Result<(), NoMemory>
     }
 }
 
-fn decls_names(names: &mut NameWalk, decls: &[Decl]) -> Result<(), NoMemory>
+pub(crate) fn decls_names(names: &mut NameWalk, decls: &[Decl]) -> Result<(), NoMemory>
     ensures { OnOk result (walk_of names.new ≡ after_decls (map decl_of decls.now) (walk_of names.old)) }
 {
     for decl in decls {

@@ -10,6 +10,7 @@ mod stmts;
 mod types;
 mod walk;
 
-pub use calls::{binders, free_names};
+pub use calls::{binders, free_names, local_scopes};
 pub use new_names::fresh;
 pub use sets::NameSet;
+pub use walk::LocalScope;

@@ -1,6 +1,7 @@
 //! Sets of names, and lists without repetition.
 
-ghost use Rattle.std.specs.Prelude.{◌≡◌, ◌||◌, ◌++◌, ◌∷◌, if◌then◌else◌, not, [], ℕ, List, IfOk, OnOk, length, ◌<◌, ◌^◌};
+ghost use Rattle.std.specs.Prelude.{◌≡◌, ◌||◌, ◌++◌, ◌∷◌, if◌then◌else◌, not, [], ℕ, List, IfOk, OnOk, length, ◌<◌, ◌^◌, bytes_eq, position};
+ghost use Rattle.std.specs.List.{position_or_len};
 ghost use Rattle.go_words.specs.Tokens.Pieces.{is_among};
 ghost use Rattle.names_within.specs.EachOnce.{each_once, with_name};
 
@@ -42,6 +43,22 @@ impl NameSet {
         Ok(is_new)
     }
 
+    /// The name's place among the names, at which it is added as the last one unless it is there.
+    pub fn place(&mut self, name: Vec<u8>) -> Result<usize, NoMemory>
+        ensures added { OnOk result (self.new ≡ with_name self.old name.items) }
+        ensures place { IfOk result (λ k. k ≡ position_or_len (bytes_eq name.items) self.old) }
+    {
+        let (place, _) = self.keys.insert_full(name)?;
+        Ok(place)
+    }
+
+    /// The name's place among the names; None where it isn't among them.
+    pub fn number(&self, name: &[u8]) -> Option<usize>
+        ensures { result ≡ position (bytes_eq name.now) self.now }
+    {
+        self.keys.get_index_of(name)
+    }
+
     /// Whether the name is there.
     pub fn has(&self, name: &[u8]) -> bool
         ensures { result ≡ is_among self.now name.now }
@@ -58,7 +75,7 @@ impl NameSet {
     }
 }
 
-fn copy_of(alloc: Global, name: &[u8]) -> Result<Vec<u8>, NoMemory>
+pub(crate) fn copy_of(alloc: Global, name: &[u8]) -> Result<Vec<u8>, NoMemory>
     ensures { IfOk result (λ copy. copy.items ≡ name.now) }
 {
     Ok(name.to_vec(alloc)?)

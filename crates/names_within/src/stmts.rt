@@ -3,10 +3,10 @@
 ghost use Rattle.std.specs.Prelude.{◌≡◌, OnOk};
 ghost use Rattle.go_tree.specs.View.{held_block_option_of, stmt_of, stmts_of, boxed_stmt_option_of, range_left_of, arm_of, arms_of, case_of, cases_of, const_spec_of, const_specs_of, const_decl_of, var_spec_of, var_specs_of, var_decl_of};
 ghost use Rattle.names_within.specs.Walk.{walk_of};
-ghost use Rattle.names_within.specs.TreeWalk.{after_stmt, after_stmts, after_block, after_block_option, after_stmt_option, after_post, after_left, declare_left, after_arm, after_arms, after_case, after_cases, after_spec, after_specs};
+ghost use Rattle.names_within.specs.TreeWalk.{after_stmt, after_stmts, after_block, after_block_option, after_stmt_option, after_post, after_left, hold_left, declare_left, after_arm, after_arms, after_case, after_cases, after_spec, after_specs};
 
-use crate::exprs::{expr_names, exprs_names, option_names};
-use crate::types::{bind_all, declare_all, mention_option, type_option_names};
+use crate::exprs::{expr_end, expr_names, exprs_names, option_names};
+use crate::types::{begin_all, bind_all, declare_all, hold_all, mention_option, type_option_names};
 use crate::walk::NameWalk;
 use go_tree::{
     Arm, ArmList, Block, Case, CaseList, ConstDecl, ConstSpec, ConstSpecList, NoMemory, RangeLeft,
@@ -29,47 +29,50 @@ fn stmt_names(names: &mut NameWalk, s: &Stmt) -> Result<(), NoMemory>
             exprs_names(names, right)
         }
         Stmt::Define {
+            span,
             names: list,
             right,
-            ..
         } => {
             bind_all(names, list)?;
             exprs_names(names, right)?;
-            declare_all(names, list)
+            begin_all(names, true, span.end, list)
         }
         Stmt::Return { values, .. } => exprs_names(names, values),
         Stmt::Break { label, .. } | Stmt::Continue { label, .. } => mention_option(names, label),
         Stmt::Inner(block) => block_names(names, block),
-        Stmt::If { arms, last, .. } => {
+        Stmt::If { span, arms, last } => {
             let mark = names.nesting();
-            arms_names(names, arms)?;
+            arms_names(names, span.end, arms)?;
             block_option_names(names, last)?;
             names.leave(mark);
             Ok(())
         }
         Stmt::For {
+            span,
             first,
             test,
             post,
             body,
-            ..
         } => {
             let mark = names.nesting();
+            names.enter(span.end)?;
             stmt_option_names(names, first)?;
             option_names(names, test)?;
-            post_names(names, post)?;
+            post_names(names, span.end, post)?;
             block_names(names, body)?;
             names.leave(mark);
             Ok(())
         }
         Stmt::Range {
+            span,
             left,
             over,
             body,
-            ..
         } => {
             let mark = names.nesting();
+            names.enter(span.end)?;
             left_names(names, left)?;
+            hold_left(names, expr_end(over), left)?;
             expr_names(names, over)?;
             declare_left(names, left)?;
             block_names(names, body)?;
@@ -77,12 +80,13 @@ fn stmt_names(names: &mut NameWalk, s: &Stmt) -> Result<(), NoMemory>
             Ok(())
         }
         Stmt::Switch {
+            span,
             first,
             tag,
             cases,
-            ..
         } => {
             let mark = names.nesting();
+            names.enter(span.end)?;
             stmt_option_names(names, first)?;
             option_names(names, tag)?;
             cases_names(names, cases)?;
@@ -97,7 +101,7 @@ fn stmt_names(names: &mut NameWalk, s: &Stmt) -> Result<(), NoMemory>
 }
 
 #[cycle(tree_names)]
-fn stmts_names(names: &mut NameWalk, stmts: &StmtList) -> Result<(), NoMemory>
+pub(crate) fn stmts_names(names: &mut NameWalk, stmts: &StmtList) -> Result<(), NoMemory>
     ensures { OnOk result (walk_of names.new ≡ after_stmts (stmts_of stmts.now) (walk_of names.old)) }
 {
     for stmt in stmts.items() {
@@ -109,9 +113,11 @@ fn stmts_names(names: &mut NameWalk, stmts: &StmtList) -> Result<(), NoMemory>
 #[cycle(tree_names)]
 #[tactic(auto, using(crate::proofs::ListWalks::block_left))]
 pub(crate) fn block_names(names: &mut NameWalk, block: &Block) -> Result<(), NoMemory>
-    ensures { OnOk result (walk_of names.new ≡ after_block (stmts_of block.now.stmts) (walk_of names.old)) }
+    ensures { OnOk result (walk_of names.new
+        ≡ after_block block.now.span.end (stmts_of block.now.stmts) (walk_of names.old)) }
 {
     let mark = names.nesting();
+    names.enter(block.span.end)?;
     stmts_names(names, &block.stmts)?;
     names.leave(mark);
     Ok(())
@@ -139,13 +145,14 @@ fn stmt_option_names(names: &mut NameWalk, stmt: &Option<Box<Stmt>>) -> Result<(
 }
 
 #[cycle(tree_names)]
-fn post_names(names: &mut NameWalk, stmt: &Option<Box<Stmt>>) -> Result<(), NoMemory>
-    ensures { OnOk result (walk_of names.new ≡ after_post (boxed_stmt_option_of stmt.now) (walk_of names.old)) }
+fn post_names(names: &mut NameWalk, to: u32, stmt: &Option<Box<Stmt>>) -> Result<(), NoMemory>
+    ensures { OnOk result (walk_of names.new ≡ after_post to (boxed_stmt_option_of stmt.now) (walk_of names.old)) }
 {
     match stmt {
         None => Ok(()),
         Some(stmt) => {
             let mark = names.nesting();
+            names.enter(to)?;
             stmt_names(names, stmt)?;
             names.leave(mark);
             Ok(())
@@ -164,6 +171,15 @@ fn left_names(names: &mut NameWalk, left: &RangeLeft) -> Result<(), NoMemory>
     }
 }
 
+fn hold_left(names: &mut NameWalk, from: u32, left: &RangeLeft) -> Result<(), NoMemory>
+    ensures { OnOk result (walk_of names.new ≡ hold_left from (range_left_of left.now) (walk_of names.old)) }
+{
+    match left {
+        RangeLeft::Nothing | RangeLeft::Assigns(_) => Ok(()),
+        RangeLeft::Defines(list) => hold_all(names, false, from, list),
+    }
+}
+
 fn declare_left(names: &mut NameWalk, left: &RangeLeft) -> Result<(), NoMemory>
     ensures { OnOk result (walk_of names.new ≡ declare_left (range_left_of left.now) (walk_of names.old)) }
 {
@@ -174,20 +190,21 @@ fn declare_left(names: &mut NameWalk, left: &RangeLeft) -> Result<(), NoMemory>
 }
 
 #[cycle(tree_names)]
-fn arm_names(names: &mut NameWalk, arm: &Arm) -> Result<(), NoMemory>
-    ensures { OnOk result (walk_of names.new ≡ after_arm (arm_of arm.now) (walk_of names.old)) }
+fn arm_names(names: &mut NameWalk, to: u32, arm: &Arm) -> Result<(), NoMemory>
+    ensures { OnOk result (walk_of names.new ≡ after_arm to (arm_of arm.now) (walk_of names.old)) }
 {
+    names.enter(to)?;
     stmt_option_names(names, &arm.first)?;
     expr_names(names, &arm.test)?;
     block_names(names, &arm.body)
 }
 
 #[cycle(tree_names)]
-fn arms_names(names: &mut NameWalk, arms: &ArmList) -> Result<(), NoMemory>
-    ensures { OnOk result (walk_of names.new ≡ after_arms (arms_of arms.now) (walk_of names.old)) }
+fn arms_names(names: &mut NameWalk, to: u32, arms: &ArmList) -> Result<(), NoMemory>
+    ensures { OnOk result (walk_of names.new ≡ after_arms to (arms_of arms.now) (walk_of names.old)) }
 {
     for arm in arms.items() {
-        arm_names(names, arm)?;
+        arm_names(names, to, arm)?;
     }
     Ok(())
 }
@@ -199,6 +216,7 @@ fn case_names(names: &mut NameWalk, case: &Case) -> Result<(), NoMemory>
 {
     exprs_names(names, &case.values)?;
     let mark = names.nesting();
+    names.enter(case.span.end)?;
     stmts_names(names, &case.body)?;
     names.leave(mark);
     Ok(())
@@ -221,7 +239,7 @@ fn const_spec_names(names: &mut NameWalk, spec: &ConstSpec) -> Result<(), NoMemo
     bind_all(names, &spec.names)?;
     type_option_names(names, &spec.of)?;
     exprs_names(names, &spec.values)?;
-    declare_all(names, &spec.names)
+    begin_all(names, false, spec.span.end, &spec.names)
 }
 
 #[cycle(tree_names)]
@@ -241,7 +259,7 @@ fn var_spec_names(names: &mut NameWalk, spec: &VarSpec) -> Result<(), NoMemory>
     bind_all(names, &spec.names)?;
     type_option_names(names, &spec.of)?;
     exprs_names(names, &spec.values)?;
-    declare_all(names, &spec.names)
+    begin_all(names, false, spec.span.end, &spec.names)
 }
 
 #[cycle(tree_names)]

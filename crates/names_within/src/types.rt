@@ -4,7 +4,7 @@ ghost use Rattle.std.specs.Prelude.{◌≡◌, OnOk, map};
 ghost use Rattle.std.specs.Option.{option_map};
 ghost use Rattle.go_tree.specs.View.{name_at_of, type_of, fields_of, field_of, param_of, sig_of};
 ghost use Rattle.names_within.specs.Walk.{walk_of};
-ghost use Rattle.names_within.specs.TreeWalk.{mention_option, bind_option, declare_option, bind_all, declare_all, after_named, after_type, after_fields, after_field, after_type_option, after_param, after_params, declare_params, after_sig, declare_sig};
+ghost use Rattle.names_within.specs.TreeWalk.{mention_option, bind_option, begin, begin_option, bind_all, declare_all, hold_all, begin_all, after_named, after_type, after_fields, after_field, after_type_option, after_param, after_params, begin_params, after_sig, begin_sig};
 
 use crate::walk::NameWalk;
 use go_tree::{FieldSpec, FieldSpecList, NameAt, NameAtList, NoMemory, Param, Sig, TypeExpr};
@@ -27,12 +27,26 @@ pub(crate) fn bind_option(names: &mut NameWalk, name: &Option<NameAt>) -> Result
     }
 }
 
-fn declare_option(names: &mut NameWalk, name: &Option<NameAt>) -> Result<(), NoMemory>
-    ensures { OnOk result (walk_of names.new ≡ declare_option (option_map name_at_of name.now) (walk_of names.old)) }
+/// A name whose scope begins at `from`.
+fn begin(names: &mut NameWalk, from: u32, name: &NameAt) -> Result<(), NoMemory>
+    ensures { OnOk result (walk_of names.new ≡ begin from (name_at_of name.now) (walk_of names.old)) }
+{
+    names.hold(false, from, name)?;
+    names.learn(&name.name)?;
+    names.declare(&name.name)
+}
+
+pub(crate) fn begin_option(
+    names: &mut NameWalk,
+    from: u32,
+    name: &Option<NameAt>,
+) -> Result<(), NoMemory>
+    ensures { OnOk result (walk_of names.new
+        ≡ begin_option from (option_map name_at_of name.now) (walk_of names.old)) }
 {
     match name {
         None => Ok(()),
-        Some(name) => names.declare(&name.name),
+        Some(name) => begin(names, from, name),
     }
 }
 
@@ -46,14 +60,45 @@ pub(crate) fn bind_all(names: &mut NameWalk, list: &NameAtList) -> Result<(), No
     Ok(())
 }
 
-/// Names whose scopes begin.
+/// Names that are declared from here on.
 pub(crate) fn declare_all(names: &mut NameWalk, list: &NameAtList) -> Result<(), NoMemory>
     ensures { OnOk result (walk_of names.new ≡ declare_all (map name_at_of list.now) (walk_of names.old)) }
 {
     for name in list.items() {
+        names.learn(&name.name)?;
         names.declare(&name.name)?;
     }
     Ok(())
+}
+
+/// Names that hold from `from` on.
+pub(crate) fn hold_all(
+    names: &mut NameWalk,
+    only_new: bool,
+    from: u32,
+    list: &NameAtList,
+) -> Result<(), NoMemory>
+    ensures { OnOk result (walk_of names.new
+        ≡ hold_all only_new from (map name_at_of list.now) (walk_of names.old)) }
+{
+    for name in list.items() {
+        names.hold(only_new, from, name)?;
+    }
+    Ok(())
+}
+
+/// Names whose scopes begin at `from`.
+pub(crate) fn begin_all(
+    names: &mut NameWalk,
+    only_new: bool,
+    from: u32,
+    list: &NameAtList,
+) -> Result<(), NoMemory>
+    ensures { OnOk result (walk_of names.new
+        ≡ begin_all only_new from (map name_at_of list.now) (walk_of names.old)) }
+{
+    hold_all(names, only_new, from, list)?;
+    declare_all(names, list)
 }
 
 fn named_names(
@@ -132,11 +177,11 @@ fn params_names(names: &mut NameWalk, params: &[Param]) -> Result<(), NoMemory>
     Ok(())
 }
 
-fn declare_params(names: &mut NameWalk, params: &[Param]) -> Result<(), NoMemory>
-    ensures { OnOk result (walk_of names.new ≡ declare_params (map param_of params.now) (walk_of names.old)) }
+fn begin_params(names: &mut NameWalk, from: u32, params: &[Param]) -> Result<(), NoMemory>
+    ensures { OnOk result (walk_of names.new ≡ begin_params from (map param_of params.now) (walk_of names.old)) }
 {
     for param in params {
-        declare_option(names, &param.name)?;
+        begin_option(names, from, &param.name)?;
     }
     Ok(())
 }
@@ -149,10 +194,10 @@ pub(crate) fn sig_names(names: &mut NameWalk, sig: &Sig) -> Result<(), NoMemory>
     params_names(names, sig.results.items())
 }
 
-/// The parameters and results as a body sees them.
-pub(crate) fn declare_sig(names: &mut NameWalk, sig: &Sig) -> Result<(), NoMemory>
-    ensures { OnOk result (walk_of names.new ≡ declare_sig (sig_of sig.now) (walk_of names.old)) }
+/// The parameters and results as a body that begins at `from` sees them.
+pub(crate) fn begin_sig(names: &mut NameWalk, from: u32, sig: &Sig) -> Result<(), NoMemory>
+    ensures { OnOk result (walk_of names.new ≡ begin_sig from (sig_of sig.now) (walk_of names.old)) }
 {
-    declare_params(names, sig.params.items())?;
-    declare_params(names, sig.results.items())
+    begin_params(names, from, sig.params.items())?;
+    begin_params(names, from, sig.results.items())
 }

@@ -1,10 +1,13 @@
 //! Names gathered in the order of the source.
 
-ghost use Rattle.std.specs.Prelude.{◌≡◌, OnOk};
+ghost use Rattle.std.specs.Prelude.{◌≡◌, OnOk, IfOk, option_and_then};
 ghost use Rattle.go_words.specs.Tokens.Pieces.{is_among};
-ghost use Rattle.names_within.specs.Walk.{walk_of, start, finding, mention, used, bind, declare, nesting, leave};
+ghost use Rattle.go_tree.specs.View.{name_at_of};
+ghost use Rattle.scope_names.specs.Means.{is_blank};
+ghost use Rattle.names_within.specs.Walk.{walk_of, start, finding, mention, used, bind, declare, enter, hold, end_in, innermost, learn, known_with, nesting, leave};
 
-use go_tree::{Name, NoMemory};
+use crate::sets::{NameSet, copy_of};
+use go_tree::{Name, NameAt, NoMemory, Span};
 use std::alloc::Global;
 
 /// Which names are gathered.
@@ -16,15 +19,44 @@ pub(crate) enum Wanted {
     Binders,
     /// Each name that is used there and not declared within around that use.
     Free,
+    /// What each block of a function declares.
+    Scopes,
 }
 
-/// The names found so far, and those that are declared around the place, the innermost last.
+/// A block around the place: the offset before which it ends, and the names that it has declared.
+#[derive(Drop)]
+pub(crate) struct OpenBlock {
+    end: u32,
+    known: NameSet,
+}
+
+/// How many names are declared, and how many blocks are open, around a place.
+#[derive(Clone, Copy, Debug, PartialEq, Eq)]
+pub(crate) struct Nesting {
+    names: usize,
+    blocks: usize,
+}
+
+/// What a function declares: the name, where it is declared, and the bytes from which and before which the declaration
+/// holds (Go specification, Declarations and scope).
+#[derive(Drop)]
+pub struct LocalScope {
+    pub name: Name,
+    pub declared_at: Span,
+    pub from: u32,
+    pub to: u32,
+}
+
+/// The names found so far, those that are declared around the place and the blocks around it, the innermost last, and
+/// what has been declared in blocks.
 #[derive(Drop)]
 pub(crate) struct NameWalk {
     alloc: Global,
     wanted: Wanted,
     around: Vec<Name>,
     found: Vec<Name>,
+    blocks: Vec<OpenBlock>,
+    scopes: Vec<LocalScope>,
 }
 
 #[tactic(auto, unfolding(crate::specs::Walk::walk_of))]
@@ -38,6 +70,8 @@ impl NameWalk {
             wanted,
             around: Vec::new(alloc),
             found: Vec::new(alloc),
+            blocks: Vec::new(alloc),
+            scopes: Vec::new(alloc),
         }
     }
 
@@ -46,6 +80,13 @@ impl NameWalk {
         ensures { result.items ≡ (walk_of self).found }
     {
         self.found
+    }
+
+    /// What was declared in blocks.
+    pub(crate) fn scopes(self) -> Vec<LocalScope>
+        ensures { result.items ≡ (walk_of self).scopes }
+    {
+        self.scopes
     }
 
     fn find(&mut self, name: &Name) -> Result<(), NoMemory>
@@ -62,7 +103,7 @@ impl NameWalk {
     {
         match self.wanted {
             Wanted::Identifiers => self.find(name),
-            Wanted::Binders | Wanted::Free => Ok(()),
+            Wanted::Binders | Wanted::Free | Wanted::Scopes => Ok(()),
         }
     }
 
@@ -73,7 +114,7 @@ impl NameWalk {
     {
         match self.wanted {
             Wanted::Identifiers => self.find(name),
-            Wanted::Binders => Ok(()),
+            Wanted::Binders | Wanted::Scopes => Ok(()),
             Wanted::Free => {
                 if self.is_declared(name) {
                     Ok(())
@@ -91,7 +132,7 @@ impl NameWalk {
     {
         match self.wanted {
             Wanted::Identifiers | Wanted::Binders => self.find(name),
-            Wanted::Free => Ok(()),
+            Wanted::Free | Wanted::Scopes => Ok(()),
         }
     }
 
@@ -101,7 +142,7 @@ impl NameWalk {
         ensures { OnOk result (walk_of self.new ≡ declare name.now (walk_of self.old)) }
     {
         match self.wanted {
-            Wanted::Identifiers | Wanted::Binders => Ok(()),
+            Wanted::Identifiers | Wanted::Binders | Wanted::Scopes => Ok(()),
             Wanted::Free => {
                 self.around.push(Name::copied(self.alloc, name.items())?)?;
                 Ok(())
@@ -115,19 +156,113 @@ impl NameWalk {
         self.around.iter().any(|n| n.items() == name.items())
     }
 
-    /// How many names are declared around the place.
-    #[tactic(auto, unfolding(crate::specs::Walk::walk_of, crate::specs::Walk::nesting))]
-    pub(crate) fn nesting(&self) -> usize
-        ensures { result ≡ nesting (walk_of self.now) }
+    /// The begin of a block that ends before `to`.
+    #[tactic(auto, unfolding(crate::specs::Walk::walk_of, crate::specs::Walk::enter))]
+    pub(crate) fn enter(&mut self, to: u32) -> Result<(), NoMemory>
+        ensures { OnOk result (walk_of self.new ≡ enter to (walk_of self.old)) }
     {
-        self.around.len()
+        match self.wanted {
+            Wanted::Identifiers | Wanted::Binders | Wanted::Free => Ok(()),
+            Wanted::Scopes => {
+                let block = OpenBlock {
+                    end: to,
+                    known: NameSet::new(self.alloc),
+                };
+                self.blocks.push(block)?;
+                Ok(())
+            }
+        }
     }
 
-    /// The end of a block before which this many names were declared around.
+    /// The offset before which the innermost block ends, where the name begins to hold in it.
+    #[tactic(auto, unfolding(crate::specs::Walk::walk_of))]
+    fn end_for(&self, only_new: bool, name: &Name) -> Option<u32>
+        ensures { result ≡ option_and_then (end_in only_new name.now) (innermost (walk_of self.now).blocks) }
+    {
+        match self.blocks.last() {
+            None => None,
+            Some(block) => {
+                if is_blank(name) || only_new && block.known.has(name.items()) {
+                    None
+                } else {
+                    Some(block.end)
+                }
+            }
+        }
+    }
+
+    /// A name that holds from here to the end of its block; where only new names are declared, none that the block
+    /// knows; none where no block is around.
+    #[tactic(auto, unfolding(crate::specs::Walk::walk_of, crate::specs::Walk::hold))]
+    pub(crate) fn hold(&mut self, only_new: bool, from: u32, name: &NameAt) -> Result<(), NoMemory>
+        ensures { OnOk result (walk_of self.new ≡ hold only_new from (name_at_of name.now) (walk_of self.old)) }
+    {
+        match self.end_for(only_new, &name.name) {
+            None => Ok(()),
+            Some(to) => {
+                let copy = Name::copied(self.alloc, name.name.items())?;
+                let scope = LocalScope {
+                    name: copy,
+                    declared_at: name.span,
+                    from,
+                    to,
+                };
+                self.scopes.push(scope)?;
+                Ok(())
+            }
+        }
+    }
+
+    /// A name that the innermost block knows from here on.
+    #[tactic(auto, unfolding(crate::specs::Walk::walk_of, crate::specs::Walk::learn))]
+    pub(crate) fn learn(&mut self, name: &Name) -> Result<(), NoMemory>
+        ensures { OnOk result (walk_of self.new ≡ learn name.now (walk_of self.old)) }
+    {
+        if is_blank(name) {
+            return Ok(());
+        }
+        match self.blocks.pop() {
+            None => Ok(()),
+            Some(block) => {
+                self.blocks.push(with_known(self.alloc, block, name)?)?;
+                Ok(())
+            }
+        }
+    }
+
+    /// How many names are declared, and how many blocks are open, around the place.
+    #[tactic(auto, unfolding(crate::specs::Walk::walk_of, crate::specs::Walk::nesting))]
+    pub(crate) fn nesting(&self) -> Nesting
+        ensures { result ≡ nesting (walk_of self.now) }
+    {
+        Nesting {
+            names: self.around.len(),
+            blocks: self.blocks.len(),
+        }
+    }
+
+    /// The end of a block before which this many names were declared and this many blocks were open.
     #[tactic(auto, unfolding(crate::specs::Walk::walk_of, crate::specs::Walk::leave))]
-    pub(crate) fn leave(&mut self, mark: usize)
+    pub(crate) fn leave(&mut self, mark: Nesting)
         ensures { walk_of self.new ≡ leave mark (walk_of self.old) }
     {
-        self.around.truncate(mark);
+        self.around.truncate(mark.names);
+        self.blocks.truncate(mark.blocks);
     }
+}
+
+/// `_`, which declares nothing (Go specification, Blank identifier).
+fn is_blank(name: &Name) -> bool
+    ensures { result ≡ is_blank name.now }
+{
+    name.items() == b"_".as_slice()
+}
+
+/// The block, which knows the name besides.
+fn with_known(alloc: Global, block: OpenBlock, name: &Name) -> Result<OpenBlock, NoMemory>
+    ensures { IfOk result (λ r. r ≡ known_with name.now block) }
+{
+    let OpenBlock { end, mut known } = block;
+    known.add(copy_of(alloc, name.items())?)?;
+    Ok(OpenBlock { end, known })
 }

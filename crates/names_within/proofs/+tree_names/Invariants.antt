@@ -22,8 +22,8 @@ invariant-stmts::stmts_names-loop-stmt l =
 
 abbrev pub invariant-stmts::arms_names-loop-arm : goal.invariant-stmts::arms_names-loop-arm
 invariant-stmts::arms_names-loop-arm l =
-    after_arms (arms_from (map arm_of (drop l.arm-index l.arm-items))) (walk_of l.names)
-    ≡ after_arms (arms_from (map arm_of l.arm-items)) (walk_of l.initial.names)
+    after_arms l.to (arms_from (map arm_of (drop l.arm-index l.arm-items))) (walk_of l.names)
+    ≡ after_arms l.to (arms_from (map arm_of l.arm-items)) (walk_of l.initial.names)
 
 abbrev pub invariant-stmts::cases_names-loop-case : goal.invariant-stmts::cases_names-loop-case
 invariant-stmts::cases_names-loop-case l =

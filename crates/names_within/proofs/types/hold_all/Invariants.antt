@@ -1,0 +1,10 @@
+use Rattle.std.proofs.Common.{◌≡◌, drop, map}
+use Rattle.go_tree.specs.View.{name_at_of}
+use Rattle.names_within.specs.TreeWalk.{hold_all}
+use Rattle.names_within.specs.Walk.{walk_of}
+use Rattle.names_within.proofs.types.hold_all.Given as goal
+
+abbrev pub invariant-loop-name : goal.invariant-loop-name
+invariant-loop-name l =
+    hold_all l.only_new l.from (map name_at_of (drop l.name-index l.name-items)) (walk_of l.names)
+    ≡ hold_all l.only_new l.from (map name_at_of l.name-items) (walk_of l.initial.names)

@@ -1,0 +1,21 @@
+use Rattle.scope_tables.proofs.NamedLaws.{found_entry, within_entry, ended_entry, begun_entry, none_left, one_less}
+use Rattle.scope_tables.proofs.named.search.Goals as goal
+
+pub loop-count-preserved-then-last-at : goal.loop-count-preserved-then-last-at
+loop-count-preserved-then-last-at c = record {
+  within = within_entry c.args.held.now c.loop-count.count c.requires.linked c.loop-count-test.true c.loop-count.invariant.within;
+  behind = ended_entry c.args.at c.args.held.now c.loop-count.count c.requires.linked c.loop-count-test.true c.loop-count.invariant.within c.if-last-at.true c.loop-count.invariant.behind;
+}
+
+pub returns-then-last-at-2 : goal.returns-then-last-at-2
+returns-then-last-at-2 c =
+    found_entry c.args.at c.args.held.now c.loop-count.count c.loop-count-test.true c.loop-count.invariant.within c.if-last-at-2.true c.if-last-at.false c.loop-count.invariant.behind
+
+pub loop-count-preserved : goal.loop-count-preserved
+loop-count-preserved c = record {
+  within = one_less c.loop-count.count c.args.held.now c.loop-count.invariant.within;
+  behind = begun_entry c.args.at c.args.held.now c.loop-count.count c.loop-count-test.true c.loop-count.invariant.within c.if-last-at-2.false c.loop-count.invariant.behind;
+}
+
+pub returns : goal.returns
+returns c = none_left c.args.at c.args.held.now c.loop-count.count c.loop-count-test.false c.loop-count.invariant.behind

@@ -1,0 +1,43 @@
+-- A table while it is built.
+use Rattle.std.specs.Prelude.{◌≡◌, ℕ, List, [], ◌∷◌, ◌++◌, Option, if◌then◌else◌, bytes_eq, length}
+use Rattle.std.specs.List.{position_or_len}
+use Rattle.names_within.specs.declared.walk.LocalScope.{LocalScope}
+use Rattle.scope_names.specs.declared.names.Entity.{Entity}
+use Rattle.scope_names.specs.Means.{or_else, means, binding}
+use Rattle.scope_tables.specs.NamedScopes.{Extent}
+use Rattle.scope_tables.specs.Table.{locals_in, outside_in}
+use Rattle.scope_tables.specs.declared.rows.Rows.{Rows}
+
+-- each name has a row
+abbrev pub IsEven : Rows → Type 0
+IsEven r = length r.rows.items ≡ length r.names
+
+unfoldable pub locals_of : Rows → List ℕ → List Extent
+locals_of r q = locals_in r.names r.rows.items q
+
+unfoldable pub outside_of : Rows → List ℕ → Option Entity
+outside_of r q = outside_in r.names r.rows.items q
+
+abbrev pub position_of : List ℕ → List (List ℕ) → ℕ
+position_of name names = position_or_len (bytes_eq name) names
+
+abbrev pub extent_at : LocalScope → Extent
+extent_at s = record { declared_at = s.declared_at; from = s.from; to = s.to }
+
+abbrev pub extents_named : List ℕ → List LocalScope → List Extent
+extents_named q [] = []
+extents_named q (s ∷ ss) = if bytes_eq q s.name then extent_at s ∷ extents_named q ss else extents_named q ss
+
+pub record KeepsLocals (old new : Rows) : Type 0 where
+  pub same : (q : List ℕ) → locals_of new q ≡ locals_of old q
+
+pub record KeepsOutside (old new : Rows) : Type 0 where
+  pub same : (q : List ℕ) → outside_of new q ≡ outside_of old q
+
+pub record AddsLocal (s : LocalScope) (old new : Rows) : Type 0 where
+  pub added : (q : List ℕ) → locals_of new q ≡ locals_of old q ++ extents_named q (s ∷ [])
+
+-- the entity is what the name means unless that was known; `_` means nothing
+pub record Claims (name : List ℕ) (entity : Entity) (old new : Rows) : Type 0 where
+  pub claimed : (q : List ℕ) → outside_of new q
+      ≡ or_else (outside_of old q) (means (binding name entity) q)

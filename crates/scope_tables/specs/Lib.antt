@@ -1,0 +1,3 @@
+pub mod NamedScopes
+pub mod Table
+pub mod Building

@@ -1,0 +1,44 @@
+-- The innermost of the declarations of one name (Go specification, Declarations and scope).
+use Rattle.std.specs.Prelude.{◌≡◌, ◌≤◌, ◌<◌, ◌-◌, ℕ, Bool, true, false, ◌&&◌, nat_le, nat_lt, List, [], ◌∷◌, Option, Some, None, if◌then◌else◌, length, slice_index_or}
+use Rattle.std.specs.List.Sorted.{IsNonDecreasingBy}
+use Rattle.go_tree.specs.declared.spans.Span.{Span}
+use Rattle.scope_names.specs.Means.{or_else}
+use Rattle.scope_tables.specs.declared.named.Held.{Held}
+
+-- where a declaration stands, and the bytes from which and before which it holds
+pub record Extent : Type 0 where
+  pub declared_at : Span
+  pub from : ℕ
+  pub to : ℕ
+
+abbrev pub extent_of : Held → Extent
+extent_of h = record { declared_at = h.declared_at; from = h.from; to = h.to }
+
+abbrev pub is_held : ℕ → Extent → Bool
+is_held at e = nat_le e.from at && nat_lt at e.to
+
+-- the declaration that holds at the place; of several the last one, which is the inner one
+abbrev pub innermost : ℕ → List Extent → Option Span
+innermost at [] = None
+innermost at (e ∷ es) = or_else (innermost at es) (if is_held at e then Some e.declared_at else None)
+
+-- ---- how they are kept
+
+-- where a declaration has ended, those have ended too that stand before it and behind its first `before` ones
+pub record IsLinked (hs : List Held) : Type 0 where
+  pub fewer : (i : ℕ) (d : Held) → i < length hs → (slice_index_or hs i d).before ≤ i
+  pub ended : (i j : ℕ) (d : Held) → i < length hs → (slice_index_or hs i d).before ≤ j → j < i
+      → (slice_index_or hs j d).to ≤ (slice_index_or hs i d).to
+
+pub record IsKept (in_order : Bool) (hs : List Held) : Type 0 where
+  pub linked : IsLinked hs
+  pub sorted : in_order ≡ true → IsNonDecreasingBy (λ (h : Held). h.from) hs
+
+-- none behind the first ones holds at the place
+abbrev pub Behind : ℕ → List Held → ℕ → Type 0
+Behind at hs first =
+    (j : ℕ) (d : Held) → first ≤ j → j < length hs → is_held at (extent_of (slice_index_or hs j d)) ≡ false
+
+-- the last one begins no later
+abbrev pub Follows : List Held → ℕ → Type 0
+Follows hs from = (d : Held) → 0 < length hs → (slice_index_or hs (length hs - 1) d).from ≤ from

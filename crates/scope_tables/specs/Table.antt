@@ -1,0 +1,61 @@
+-- What a table of scopes says of names (Go specification, Declarations and scope).
+use Rattle.std.specs.Prelude.{◌≡◌, ℕ, List, [], ◌∷◌, Option, Some, None, if◌then◌else◌, bytes_eq, slice_get, option_map, option_and_then}
+use Rattle.go_tree.specs.declared.spans.Span.{Span}
+use Rattle.go_tree.specs.File.{File}
+use Rattle.scope_names.specs.declared.names.Entity.{Entity}
+use Rattle.scope_names.specs.declared.names.Entity.TheVariants.{Local, Import, Package, Universe}
+use Rattle.scope_names.specs.declared.names.FileNames.{FileNames}
+use Rattle.scope_names.specs.Means.{or_else, means, numbered, predeclared}
+use Rattle.scope_names.specs.Scopes.{meaning_at, captured_at}
+use Rattle.scope_tables.specs.NamedScopes.{Extent, innermost}
+use Rattle.scope_tables.specs.declared.rows.Row.{Row}
+use Rattle.scope_tables.specs.declared.table.Scopes.{Scopes}
+
+-- names with what declares them, and the spans of the file's imports
+pub record Table : Type 0 where
+  pub names : List (List ℕ)
+  pub rows : List Row
+  pub specs : List Span
+
+-- what the row of a name has, or nothing where the name has none
+module _ {X : Type 0} (part : Row → X) (none : X) where
+  abbrev pub found_in : List (List ℕ) → List Row → List ℕ → X
+  found_in [] rs q = none
+  found_in (n ∷ ns) [] q = none
+  found_in (n ∷ ns) (r ∷ rs) q = if bytes_eq q n then part r else found_in ns rs q
+
+-- the same of a row that may be there
+abbrev pub part_of : {X : Type 0} → (Row → X) → X → Option Row → X
+part_of part none None = none
+part_of part none (Some r) = part r
+
+-- the declarations of a name in functions
+abbrev pub locals_in : List (List ℕ) → List Row → List ℕ → List Extent
+locals_in names rows q = found_in (λ r. r.locals) [] names rows q
+
+-- what a name means outside of functions, unless it is predeclared
+abbrev pub outside_in : List (List ℕ) → List Row → List ℕ → Option Entity
+outside_in names rows q = found_in (λ r. r.outside) None names rows q
+
+abbrev pub meaning_in : Table → List ℕ → ℕ → Option Entity
+meaning_in t name at =
+    or_else (option_map Local (innermost at (locals_in t.names t.rows name)))
+    (or_else (outside_in t.names t.rows name) (means (numbered Universe 0 predeclared) name))
+
+-- the local declaration or the import spec that an entity is
+abbrev pub span_of : List Span → Entity → Option Span
+span_of specs (Local s) = Some s
+span_of specs (Import k) = slice_get specs k
+span_of specs (Package k) = None
+span_of specs (Universe k) = None
+
+abbrev pub captured_in : Table → List ℕ → ℕ → Option Span
+captured_in t name at = option_and_then (span_of t.specs) (meaning_in t name at)
+
+abbrev pub table_of : Scopes → Table
+table_of s = record { names = s.names; rows = s.rows.items; specs = s.specs.items }
+
+-- the table answers as the scopes of the file do
+pub record IsTableOf (names : FileNames) (file : File Span) (t : Table) : Type 0 where
+  pub meaning : (name : List ℕ) (at : ℕ) → meaning_in t name at ≡ meaning_at names file name at
+  pub captured : (name : List ℕ) (at : ℕ) → captured_in t name at ≡ captured_at names file name at
