@@ -29,6 +29,7 @@ pub struct Constant {
 
 const MARK_LINE: &[u8] = b"\n//go:fix inline\n";
 
+/// A text of these bytes; `NoMemory` where memory was refused.
 pub fn copy(alloc: Global, bytes: &[u8]) -> Result<Text, NoMemory>
     ensures { IfOk result (λ t. t ≡ bytes.now) }
 {

@@ -12,6 +12,7 @@ pub(crate) struct Calls {
 }
 
 impl Calls {
+    /// No call yet; those with the given numbers, counted from nought, will fail.
     pub fn new(fails: Vec<u64>) -> Calls
         ensures start { (result.next ≡ 0) × (result.faults ≡ 0) }
         ensures fails { result.fails.items ≡ fails.items }

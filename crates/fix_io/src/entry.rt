@@ -12,6 +12,7 @@ pub(crate) struct Entry {
 }
 
 impl Entry {
+    /// The file at a path; the new one is to stand beside it, with `.gofix-new` behind its name.
     pub fn new(alloc: Global, path: String) -> Result<Entry, AllocError>
         ensures path { IfOk result (λ e. string_bytes e.path ≡ string_bytes path) }
         ensures fresh { IfOk result (λ e. string_bytes e.fresh ≡ string_bytes path ++ codes ".gofix-new") }

@@ -24,6 +24,7 @@ impl<'a, R: Print> Model for RealSink<'a, R> {
 }
 
 impl<'a, R: Print> RealSink<'a, R> {
+    /// The standard output, to which nothing was written and at which nothing failed yet.
     pub fn new(rt: &'a R) -> RealSink<'a, R>
         ensures fresh { result ≡ 0 }
     {

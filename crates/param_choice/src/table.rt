@@ -35,12 +35,14 @@ impl Model for RowList {
 }
 
 impl RowList {
+    /// The list of these rows, in their order.
     pub fn of(v: Vec<ParamRow>) -> Self
         ensures { result ≡ v.items }
     {
         RowList { entries: v }
     }
 
+    /// The rows, in their order.
     pub fn items(&self) -> &[ParamRow]
         ensures { result.now ≡ self.now }
     {
@@ -64,12 +66,14 @@ impl Model for ItemList {
 }
 
 impl ItemList {
+    /// The list of these items, in their order.
     pub fn of(v: Vec<Item>) -> Self
         ensures { result ≡ v.items }
     {
         ItemList { entries: v }
     }
 
+    /// The items, in their order.
     pub fn items(&self) -> &[Item]
         ensures { result.now ≡ self.now }
     {
@@ -92,12 +96,14 @@ impl Model for PairList {
 }
 
 impl PairList {
+    /// The list of these pairs, in their order.
     pub fn of(v: Vec<(u32, u32)>) -> Self
         ensures { result ≡ v.items }
     {
         PairList { entries: v }
     }
 
+    /// The pairs, in their order.
     pub fn items(&self) -> &[(u32, u32)]
         ensures { result.now ≡ self.now }
     {
