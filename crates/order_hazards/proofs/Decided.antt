@@ -1,5 +1,5 @@
 -- Each condition on an argument holds or fails: for a list of items some test tells.
-use Rattle.std.proofs.Common.{◌≡◌, ◌≢◌, ◌⊎◌, inl, inr, ℕ, ◌<◌, ◌≤◌, Bool, true, false, true≢false, nat_eq, nat_lt, List, drop, refl, sym, eq-eqb, arith}
+use Rattle.std.proofs.Common.{◌≡◌, ◌⊎◌, inl, inr, ℕ, ◌<◌, ◌≤◌, Bool, true, false, true≢false, nat_eq, nat_lt, List, drop, refl, sym, eq-eqb, arith}
 use Rattle.std.proofs.lemmas.Bool.{eqb-true, ltb-true, ltb-false}
 use Rattle.std.specs.List.{count_by, list_any, position_or_len}
 use Rattle.order_hazards.specs.Items.{is_use, is_write, is_effect, ListsUses, UsesAhead, IsBefore}

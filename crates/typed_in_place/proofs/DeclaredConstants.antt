@@ -5,7 +5,6 @@ use Rattle.go_tree.specs.Tree.{NameAt, Expr}
 use Rattle.scope_names.specs.Means.{means, is_blank}
 use Rattle.go_types.specs.Answers.{is_among}
 use Rattle.go_types.specs.Entities.{Entity, Env, block_of}
-use Rattle.go_types.specs.Bodiless.{bodiless}
 use Rattle.go_types.specs.Programs.{Headed, Program}
 use Rattle.go_types.specs.Collect.{valued_world}
 use Rattle.typed_in_place.specs.SameFacts.{SameOperand}
