@@ -1,5 +1,5 @@
 -- Modules that are read, put together from what computes.
-use Rattle.std.proofs.Common.{◌≡◌, ◌<◌, refl, sym, subst, ℕ, zero, suc, Bool, true, false, ◌&&◌, nat_lt, List, [], ◌∷◌, map, Option, Some, None, codes, if◌then◌else◌, arith}
+use Rattle.std.proofs.Common.{◌≡◌, ◌<◌, refl, sym, subst, ℕ, zero, suc, Bool, true, false, ◌&&◌, nat_lt, List, [], ◌∷◌, map, Some, None, codes, if◌then◌else◌, arith}
 use Rattle.std.specs.Prelude.{find, Contains}
 use Rattle.std.specs.List.{list_all}
 use Rattle.std.proofs.lemmas.Bool.{leb-true}
@@ -10,7 +10,7 @@ use Rattle.module_files.specs.Pieces.{comes_before}
 use Rattle.module_files.specs.Selected.{module_file}
 use Rattle.module_files.specs.ModuleFile.{argument_in, module_path, is_version, unquoted, digits, behind_digits, is_number, is_minor, version_answer, path_answer, is_module, module_of}
 use Rattle.pkg_graph.specs.Package.{SourceTree, Package, packages_of}
-use Rattle.pkg_graph.specs.Graph.{imports_of, Imports, imported, Leads, directly, over, first_mixed, first_unnamed, first_internal, HasNoCycle}
+use Rattle.pkg_graph.specs.Graph.{imports_of, Imports, imported, Leads, directly, over, first_mixed, first_unnamed, first_internal}
 use Rattle.pkg_graph.specs.Reads.{Source, is_at, go_files, AreTrees}
 use Rattle.pkg_graph.specs.Reads as reads
 use Rattle.run_rules.specs.Programs.{in_dependency_order, package_number}
