@@ -16,7 +16,8 @@ use Rattle.run_rules.specs.Texts.{FileText}
 use Rattle.run_rules.specs.Run.{Standing, Logged, edits_in, with_text, joined_with, edits_of, FilesKeep, none, file, bytes_of, Run, ends, goes_on}
 use Rattle.run_rules.specs.Inlining.{standing_as_read}
 use Rattle.run_laws.specs.Laws.{AllApart, OneTextEach, RunsKeepFiles, RunsAreInlinings}
-use Rattle.run_laws.proofs.RunsRead.{same_path, texts_new, texts_other, run_edits_apart}
+use Rattle.run_laws.proofs.PathsOwn.{same_path, paths_own}
+use Rattle.run_laws.proofs.RunsRead.{texts_new, texts_other, run_edits_apart}
 
 -- ---- the first of some edits, made last
 
@@ -173,12 +174,13 @@ all_kept log [] _ no_files = none
 all_kept log (t ∷ ts) _ (file_and _ _ new _ _ news _ k more) = file k (all_kept log ts news more)
 
 pub runs_keep_files : RunsKeepFiles
-runs_keep_files ps texts marks last log r paths one run =
+runs_keep_files files ps texts marks last log r run =
+    let own = paths_own files ps texts r in
     all_kept log texts (bytes_of last.texts)
-    (run_kept marks (standing_as_read ps texts) last log run (run_edits_apart ps texts marks last log r paths run) one (bytes_of texts) (map (λ t. []) texts) (at_first texts))
+    (run_kept marks (standing_as_read ps texts) last log run (run_edits_apart files ps texts marks last log r run) own.1 (bytes_of texts) (map (λ t. []) texts) (at_first texts))
 
 pub runs_are_inlinings : RunsAreInlinings
-runs_are_inlinings m module_bytes ps texts only last log r paths one run within =
+runs_are_inlinings m files ps texts only last log r run within =
     record {
       last = last;
       log = log;
@@ -186,6 +188,6 @@ runs_are_inlinings m module_bytes ps texts only last log r paths one run within 
       run = run;
       within = within;
       after_is = refl;
-      keeps = runs_keep_files ps texts _ last log r paths one run;
+      keeps = runs_keep_files files ps texts _ last log r run;
       reported = refl;
     }

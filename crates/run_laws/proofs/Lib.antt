@@ -7,6 +7,7 @@ pub mod FilesStand
 pub mod FoundSpans
 pub mod StepsApart
 pub mod Reread
+pub mod PathsOwn
 pub mod RunsRead
 pub mod FilesKept
 mod Examples

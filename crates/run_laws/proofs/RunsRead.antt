@@ -2,7 +2,6 @@
 use Rattle.std.proofs.Common.{◌≡◌, ◌≢◌, ◌⊎◌, inl, inr, ℕ, zero, suc, Bool, true, false, List, [], ◌∷◌, map, Some, if◌then◌else◌, refl, sym, ap, subst, ◌∙◌, bytes_eq}
 use Rattle.std.proofs.lemmas.Option.{same_Some}
 use Rattle.std.specs.Prelude.{slice_get}
-use Rattle.std.proofs.lemmas.Slice.Eq.{bytes_eq-Decides}
 use Rattle.go_tree.specs.declared.spans.Span.{Span}
 use Rattle.go_tree.specs.File.{File}
 use Rattle.pkg_graph.specs.Package.{SourceTree, Package}
@@ -13,17 +12,15 @@ use Rattle.run_rules.specs.Respanned.{source_with, package_with, packages_with}
 use Rattle.run_rules.specs.Steps.{At, same_here, change_nth}
 use Rattle.run_rules.specs.Laws.{file_found}
 use Rattle.run_rules.specs.Run.{Standing, Logged, here_of, as_read, is_commented, with_text, Next, Run, ends, goes_on}
-use Rattle.run_rules.specs.Inlining.{ReadsAs, FilesRead, PackagesRead, file, package_, standing_as_read}
+use Rattle.run_rules.specs.Inlining.{ReadsAs, standing_as_read}
 use Rattle.run_laws.specs.Reading.{FileReads, FileAt, ProgramReads, OnePathEach}
-use Rattle.run_laws.specs.Laws.{ReadPackagesRead, StepsKeepReading, AllApart, RunEditsStandApart}
+use Rattle.run_laws.specs.Laws.{ReadModulesRead, StepsKeepReading, AllApart, RunEditsStandApart}
 use Rattle.run_laws.proofs.Reread.{file-reread}
+use Rattle.run_laws.proofs.PathsOwn.{same_path, HasText, its_text, paths_own}
 use Rattle.run_laws.proofs.FoundSpans.{Placed, FoundIn, found_in}
 use Rattle.run_laws.proofs.StepsApart.{edits_apart}
 
 -- ---- texts by their paths
-
-pub same_path : (a b : List ℕ) → bytes_eq a b ≡ true → a ≡ b
-same_path a b e = (bytes_eq-Decides a b).0 e
 
 pub texts_new : (path : List ℕ) (old new : FileText) (ts : List (List ℕ × FileText)) → text_at path ts ≡ Some old → text_at path (with_text path new ts) ≡ Some new
 texts_new path old new [] h = absurd cc
@@ -173,28 +170,9 @@ steps_keep_reading marks st l after n reads one = (next_reads marks st l after n
 
 -- ---- the packages as read
 
-module _ (texts : List (List ℕ × FileText)) where
-  file_read : (fs : List (SourceTree Span)) (i : ℕ) (f : SourceTree At) → FilesRead texts fs → slice_get (map (source_with as_read) fs) i ≡ Some f → FileReads texts f
-  file_read [] i f r h = absurd cc
-  file_read (x ∷ fs) zero f (file _ _ t there reads rest) h =
-      subst (λ (s : SourceTree At). FileReads texts s) (same_Some (source_with as_read x) f h)
-      (record { text = t; there = there; reads = subst (λ (tree : File Span). ReadsAs t tree) (sym (file-reread x.tree)) reads })
-  file_read (x ∷ fs) (suc i) f (file _ _ t there reads rest) h = file_read fs i f rest h
-
-  package_read : (ps : List (Package Span)) (k : ℕ) (p : Package At) (i : ℕ) (f : SourceTree At) → PackagesRead texts ps → slice_get (packages_with as_read ps) k ≡ Some p → slice_get p.files i ≡ Some f → FileReads texts f
-  package_read [] k p i f r h g = absurd cc
-  package_read (x ∷ ps) zero p i f (package_ _ _ files rest) h g =
-      file_read x.files i f files (subst (λ (q : Package At). slice_get q.files i ≡ Some f) (sym (same_Some (package_with as_read x) p h)) g)
-  package_read (x ∷ ps) (suc k) p i f (package_ _ _ files rest) h g = package_read ps k p i f rest h g
-
-pub packages_read : ReadPackagesRead
-packages_read ps texts r k i f at = package_read texts ps k at.of i f r at.package_is at.file_is
-
--- ---- paths of the packages as read
-
-file_was_read : (fs : List (SourceTree Span)) (i : ℕ) (f : SourceTree At) → slice_get (map (source_with as_read) fs) i ≡ Some f → (x : SourceTree Span) × (slice_get fs i ≡ Some x) × (x.path ≡ f.path)
+file_was_read : (fs : List (SourceTree Span)) (i : ℕ) (f : SourceTree At) → slice_get (map (source_with as_read) fs) i ≡ Some f → (x : SourceTree Span) × (slice_get fs i ≡ Some x) × (source_with as_read x ≡ f)
 file_was_read [] i f h = absurd cc
-file_was_read (x ∷ fs) zero f h = (x, refl, ap (λ (s : SourceTree At). s.path) (same_Some (source_with as_read x) f h))
+file_was_read (x ∷ fs) zero f h = (x, refl, same_Some (source_with as_read x) f h)
 file_was_read (x ∷ fs) (suc i) f h = file_was_read fs i f h
 
 package_was_read : (ps : List (Package Span)) (k : ℕ) (p : Package At) → slice_get (packages_with as_read ps) k ≡ Some p → (x : Package Span) × (slice_get ps k ≡ Some x) × (package_with as_read x ≡ p)
@@ -202,7 +180,7 @@ package_was_read [] k p h = absurd cc
 package_was_read (x ∷ ps) zero p h = (x, refl, same_Some (package_with as_read x) p h)
 package_was_read (x ∷ ps) (suc k) p h = package_was_read ps k p h
 
-was_at : (ps : List (Package Span)) (k i : ℕ) (f : SourceTree At) → FileAt (packages_with as_read ps) k i f → (x : SourceTree Span) × FileAt ps k i x × (x.path ≡ f.path)
+was_at : (ps : List (Package Span)) (k i : ℕ) (f : SourceTree At) → FileAt (packages_with as_read ps) k i f → (x : SourceTree Span) × FileAt ps k i x × (source_with as_read x ≡ f)
 was_at ps k i f at =
     let p = package_was_read ps k at.of at.package_is in
     let x = file_was_read p.0.files i f (subst (λ (q : Package At). slice_get q.files i ≡ Some f) (sym p.2) at.file_is) in
@@ -212,7 +190,14 @@ paths_as_read : (ps : List (Package Span)) → OnePathEach ps → OnePathEach (p
 paths_as_read ps one k i l j f g a b e =
     let x = was_at ps k i f a in
     let y = was_at ps l j g b in
-    one k i l j x.0 y.0 x.1 y.1 (x.2 ∙ e ∙ sym y.2)
+    one k i l j x.0 y.0 x.1 y.1 (ap (λ (s : SourceTree At). s.path) x.2 ∙ e ∙ ap (λ (s : SourceTree At). s.path) (sym y.2))
+
+pub modules_read : ReadModulesRead
+modules_read files ps texts r k i f at =
+    let x = was_at ps k i f at in
+    let t : HasText texts x.0 = its_text files ps texts r k i x.0 x.1 in
+    subst (λ (s : SourceTree At). FileReads texts s) x.2
+    (record { text = t.text; there = t.there; reads = subst (λ (tree : File Span). ReadsAs t.text tree) (sym (file-reread x.0.tree)) t.reads })
 
 -- ---- runs
 
@@ -224,4 +209,6 @@ all_apart marks st last log reads one (goes_on _ next _ l rest n run) = (
 )
 
 pub run_edits_apart : RunEditsStandApart
-run_edits_apart ps texts marks last log r one run = all_apart marks (standing_as_read ps texts) last log (packages_read ps texts r) (paths_as_read ps one) run
+run_edits_apart files ps texts marks last log r run =
+    let own = paths_own files ps texts r in
+    all_apart marks (standing_as_read ps texts) last log (modules_read files ps texts r) (paths_as_read ps own.0) run

@@ -4,13 +4,14 @@ use Rattle.std.specs.Prelude.{◌≡◌, ℕ, List, [], length, Some, slice_get}
 use Rattle.go_tree.specs.declared.spans.Span.{Span}
 use Rattle.text_edits.specs.Applied.{Ascend}
 use Rattle.pkg_graph.specs.Package.{Package}
+use Rattle.pkg_graph.specs.Reads.{Source}
 use Rattle.run_rules.specs.Laws.{file_found}
 use Rattle.run_rules.specs.Marks.{text_at, marks_of, bad_of}
 use Rattle.run_rules.specs.Sites.{MarkRef}
 use Rattle.run_rules.specs.Texts.{FileText}
 use Rattle.run_rules.specs.Run.{Standing, Logged, Next, Run, ends, goes_on, FilesKeep, bytes_of, Limits, uses_kept}
 use Rattle.run_rules.specs.Report.{report_of}
-use Rattle.run_rules.specs.Inlining.{ReadsAs, PackagesRead, standing_as_read, Reaches, IsInlining}
+use Rattle.run_rules.specs.Inlining.{ReadsAs, ModuleReads, standing_as_read, Reaches, IsInlining}
 use Rattle.run_laws.specs.Reading.{ProgramReads, OnePathEach}
 
 -- The edits of a step stand apart, in their order, and lie in the text, where the file of the use reads from its text.
@@ -19,11 +20,22 @@ ReadFileEditsStandApart =
     (marks : List MarkRef) (st : Standing) (l : Logged) (after : Standing) (n : Next marks st l after)
     → ReadsAs n.old (file_found n.found) → Ascend 0 (length n.old.text) l.edits
 
--- Packages that are read are a program whose files read from their texts.
-abbrev pub ReadPackagesRead : Type 0
-ReadPackagesRead =
-    (ps : List (Package Span)) (texts : List (List ℕ × FileText)) → PackagesRead texts ps
+-- Files that read as a module are a program whose files read from their texts.
+abbrev pub ReadModulesRead : Type 0
+ReadModulesRead =
+    (files : List Source) (ps : List (Package Span)) (texts : List (List ℕ × FileText)) → ModuleReads files ps texts
     → ProgramReads (standing_as_read ps texts)
+
+-- Each text is that of its path.
+abbrev pub OneTextEach : List (List ℕ × FileText) → Type 0
+OneTextEach texts =
+    (i : ℕ) (t : List ℕ × FileText) → slice_get texts i ≡ Some t → text_at t.0 texts ≡ Some t.1
+
+-- Each file of such a module has its own path, and each path its own text.
+abbrev pub ReadModulesHaveOnePathEach : Type 0
+ReadModulesHaveOnePathEach =
+    (files : List Source) (ps : List (Package Span)) (texts : List (List ℕ × FileText)) → ModuleReads files ps texts
+    → OnePathEach ps × OneTextEach texts
 
 -- A step leaves a program whose files read from their texts, and each path names one file as before.
 abbrev pub StepsKeepReading : Type 0
@@ -36,31 +48,26 @@ abbrev pub AllApart : {marks : List MarkRef} {st last : Standing} {log : List Lo
 AllApart (ends st over) = Unit {0}
 AllApart (goes_on st next last l log n run) = Ascend 0 (length n.old.text) l.edits × AllApart run
 
--- So it is in every run from packages that are read, each file under its own path.
+-- So it is in every run from files that read as a module.
 abbrev pub RunEditsStandApart : Type 0
 RunEditsStandApart =
-    (ps : List (Package Span)) (texts : List (List ℕ × FileText)) (marks : List MarkRef) (last : Standing)
-    (log : List Logged) → PackagesRead texts ps → OnePathEach ps
+    (files : List Source) (ps : List (Package Span)) (texts : List (List ℕ × FileText)) (marks : List MarkRef)
+    (last : Standing) (log : List Logged) → ModuleReads files ps texts
     → (run : Run marks (standing_as_read ps texts) log last) → AllApart run
 
--- Each text is that of its path.
-abbrev pub OneTextEach : List (List ℕ × FileText) → Type 0
-OneTextEach texts =
-    (i : ℕ) (t : List ℕ × FileText) → slice_get texts i ≡ Some t → text_at t.0 texts ≡ Some t.1
-
--- Every run from packages that are read keeps each file's bytes outside the run's ranges.
+-- Every run from files that read as a module keeps each file's bytes outside the run's ranges.
 abbrev pub RunsKeepFiles : Type 0
 RunsKeepFiles =
-    (ps : List (Package Span)) (texts : List (List ℕ × FileText)) (marks : List MarkRef) (last : Standing)
-    (log : List Logged) → PackagesRead texts ps → OnePathEach ps → OneTextEach texts
+    (files : List Source) (ps : List (Package Span)) (texts : List (List ℕ × FileText)) (marks : List MarkRef)
+    (last : Standing) (log : List Logged) → ModuleReads files ps texts
     → Run marks (standing_as_read ps texts) log last → FilesKeep log (bytes_of texts) (bytes_of last.texts)
 
 -- So a run in which no step passes a limit is all that is asked of an inlined module.
 abbrev pub RunsAreInlinings : Type 0
 RunsAreInlinings =
-    (m : Limits) (module_bytes : ℕ) (ps : List (Package Span)) (texts : List (List ℕ × FileText)) (only : List ℕ)
-    (last : Standing) (log : List Logged) → PackagesRead texts ps → OnePathEach ps → OneTextEach texts
+    (m : Limits) (files : List Source) (ps : List (Package Span)) (texts : List (List ℕ × FileText)) (only : List ℕ)
+    (last : Standing) (log : List Logged) → ModuleReads files ps texts
     → Run (marks_of ps texts only) (standing_as_read ps texts) log last
-    → Reaches (marks_of ps texts only) m module_bytes [] (standing_as_read ps texts) log last
-    → IsInlining m module_bytes ps texts only last.texts
+    → Reaches (marks_of ps texts only) m files [] (standing_as_read ps texts) log last
+    → IsInlining m files ps texts only last.texts
     (report_of texts log (uses_kept (marks_of ps texts only) last) (bad_of ps texts ps))

@@ -13,6 +13,7 @@ use Rattle.text_edits.specs.Applied.{Ascend, applied}
 use Rattle.import_rules.specs.Removed.{is_semicolon}
 use Rattle.import_rules.specs.Laid.{IsInked, StandInOrder}
 use Rattle.pkg_graph.specs.Package.{Package}
+use Rattle.pkg_graph.specs.Reads.{Source}
 use Rattle.run_rules.specs.Sites.{MarkRef}
 use Rattle.run_rules.specs.Texts.{FileText}
 use Rattle.run_rules.specs.Respanned.{file_with, decls_with}
@@ -20,7 +21,7 @@ use Rattle.run_rules.specs.Steps.{At, same_here, Found, new_decls, with_file}
 use Rattle.run_rules.specs.Marks.{text_at, marks_of, bad_of}
 use Rattle.run_rules.specs.Run.{Standing, Logged, here_of, origin_of, step_in, edits_in, logged, with_text, Next, Run, uses_kept, edits_of, FilesKeep, file, bytes_of, Limits, TooLarge, passed}
 use Rattle.run_rules.specs.Report.{report_of}
-use Rattle.run_rules.specs.Inlining.{standing_as_read, PackagesRead, Reaches, begins, IsInlining, IsTooLarge}
+use Rattle.run_rules.specs.Inlining.{standing_as_read, ModuleReads, Reaches, begins, IsInlining, IsTooLarge}
 use Rattle.run_rules.proofs.CaseTools.{read_at}
 use Rattle.go_words.specs.Tokens.{TokensOf}
 
@@ -124,35 +125,36 @@ stand_so text from (t ∷ ts) h =
 
 -- ---- a run, whole
 
-module _ (m : Limits) (module_bytes : ℕ) (ps : List (Package Span)) (texts : List (List ℕ × FileText)) (only : List ℕ) where
-  pub inlining_by : (marks : List MarkRef) (last : Standing) (log : List Logged) (report : List ℕ) → marks_of ps texts only ≡ marks → PackagesRead texts ps → Run marks (standing_as_read ps texts) log last
-      → Reaches marks m module_bytes [] (standing_as_read ps texts) log last → FilesKeep log (bytes_of texts) (bytes_of last.texts) → report ≡ report_of texts log (uses_kept marks last) (bad_of ps texts ps)
-      → IsInlining m module_bytes ps texts only last.texts report
+module _ (m : Limits) (files : List Source) (ps : List (Package Span)) (texts : List (List ℕ × FileText)) (only : List ℕ) where
+  pub inlining_by : (marks : List MarkRef) (last : Standing) (log : List Logged) (report : List ℕ) → marks_of ps texts only ≡ marks → ModuleReads files ps texts → Run marks (standing_as_read ps texts) log last
+      → Reaches marks m files [] (standing_as_read ps texts) log last → FilesKeep log (bytes_of texts) (bytes_of last.texts) → report ≡ report_of texts log (uses_kept marks last) (bad_of ps texts ps)
+      → IsInlining m files ps texts only last.texts report
   inlining_by marks last log report e read run within keeps told =
       record {
         last = last;
         log = log;
         read = read;
         run = subst (λ (ms : List MarkRef). Run ms (standing_as_read ps texts) log last) (sym e) run;
-        within = subst (λ (ms : List MarkRef). Reaches ms m module_bytes [] (standing_as_read ps texts) log last) (sym e) within;
+        within = subst (λ (ms : List MarkRef). Reaches ms m files [] (standing_as_read ps texts) log last) (sym e) within;
         after_is = refl;
         keeps = keeps;
         reported = subst (λ (ms : List MarkRef). report ≡ report_of texts log (uses_kept ms last) (bad_of ps texts ps)) (sym e) told;
       }
 
   -- the first step passes a limit
-  pub too_large_by : (marks : List MarkRef) (after : Standing) (last : Logged) (r : TooLarge) → marks ≡ marks_of ps texts only → (n : Next marks (standing_as_read ps texts) last after) → passed m module_bytes [] last n.new after.texts ≡ Some r
-      → IsTooLarge m module_bytes ps texts only r
-  too_large_by marks after last r e n h =
+  pub too_large_by : (marks : List MarkRef) (after : Standing) (last : Logged) (r : TooLarge) → marks ≡ marks_of ps texts only → ModuleReads files ps texts → (n : Next marks (standing_as_read ps texts) last after) → passed m files [] last n.new after.texts ≡ Some r
+      → IsTooLarge m files ps texts only r
+  too_large_by marks after last r e read n h =
       record {
         before = standing_as_read ps texts;
         after = after;
         log = [];
         last = last;
+        read = read;
         reached = begins [] (standing_as_read ps texts);
         next = moved.0;
         passes = moved.1;
       }
     where
-      moved : (n : Next (marks_of ps texts only) (standing_as_read ps texts) last after) × (passed m module_bytes [] last n.new after.texts ≡ Some r)
-      moved = subst (λ (ms : List MarkRef). (n : Next ms (standing_as_read ps texts) last after) × (passed m module_bytes [] last n.new after.texts ≡ Some r)) e (n, h)
+      moved : (n : Next (marks_of ps texts only) (standing_as_read ps texts) last after) × (passed m files [] last n.new after.texts ≡ Some r)
+      moved = subst (λ (ms : List MarkRef). (n : Next ms (standing_as_read ps texts) last after) × (passed m files [] last n.new after.texts ≡ Some r)) e (n, h)

@@ -15,6 +15,7 @@ pub mod TokensFound
 pub mod EditsApart
 pub mod CaseTools
 pub mod Instances
+pub mod ModulesRead
 mod StepsOfConstants
 mod StepsOfPackages
 mod StepsOfLiterals

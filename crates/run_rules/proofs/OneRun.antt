@@ -10,6 +10,7 @@ use Rattle.go_read.specs.SpellsFiles.{SpellsFile}
 use Rattle.go_read.proofs.Whole as read
 use Rattle.text_edits.specs.Applied.{applied}
 use Rattle.pkg_graph.specs.Package.{Package}
+use Rattle.pkg_graph.specs.Reads.{Source}
 use Rattle.run_rules.specs.Sites.{MarkRef}
 use Rattle.run_rules.specs.Texts.{FileText}
 use Rattle.run_rules.specs.Respanned.{file_with, decls_with}
@@ -116,22 +117,22 @@ module _ (marks : List MarkRef) where
 
   -- ---- limits
 
-  module _ (m : Limits) (module_bytes : ℕ) where
+  module _ (m : Limits) (files : List Source) where
     -- a step after others passes a limit
     abbrev Over : List Logged → Standing → Standing → Logged → TooLarge → Type 0
-    Over done st after l r = (n : Next marks st l after) × (passed m module_bytes done l n.new after.texts ≡ Some r)
+    Over done st after l r = (n : Next marks st l after) × (passed m files done l n.new after.texts ≡ Some r)
 
     -- what a step passes is one, whichever next program is looked at
     one_passed : (done : List Logged) (st a b : Standing) (l k : Logged) (n : Next marks st l a) (o : Next marks st k b)
-        → passed m module_bytes done l n.new a.texts ≡ passed m module_bytes done k o.new b.texts
+        → passed m files done l n.new a.texts ≡ passed m files done k o.new b.texts
     one_passed done st a b l k n o =
         let one : (l ≡ k) × (a ≡ b) = one_next st l k a b n o in
-        λ w. passed m module_bytes done (one.0 w) (news st l k a b n o w) (one.1 w).texts
+        λ w. passed m files done (one.0 w) (news st l k a b n o w) (one.1 w).texts
 
     apart_at : (done : List Logged) (st a b : Standing) (l k : Logged) (r : TooLarge) (n : Next marks st l a) (o : Next marks st k b)
-        → passed m module_bytes done l n.new a.texts ≡ Some r → passed m module_bytes done k o.new b.texts ≡ None → ⊥
+        → passed m files done l n.new a.texts ≡ Some r → passed m files done k o.new b.texts ≡ None → ⊥
     apart_at done st a b l k r n o h e =
-        never_both (passed m module_bytes done k o.new b.texts) r e (sym (one_passed done st a b l k n o) ∙ h)
+        never_both (passed m files done k o.new b.texts) r e (sym (one_passed done st a b l k n o) ∙ h)
 
     -- the first of some steps, and those behind it
     record Stepped (done : List Logged) (st last : Standing) (log : List Logged) : Type 0 where
@@ -139,11 +140,11 @@ module _ (marks : List MarkRef) where
       next : Standing
       others : List Logged
       step : Next marks st first next
-      within : passed m module_bytes done first step.new next.texts ≡ None
-      rest : Reaches marks m module_bytes (done ++ first ∷ []) next others last
+      within : passed m files done first step.new next.texts ≡ None
+      rest : Reaches marks m files (done ++ first ∷ []) next others last
       log_is : log ≡ first ∷ others
 
-    stepped : (done : List Logged) (st last : Standing) (log : List Logged) → Reaches marks m module_bytes done st log last → ((last ≡ st) × (log ≡ [])) ⊎ Stepped done st last log
+    stepped : (done : List Logged) (st last : Standing) (log : List Logged) → Reaches marks m files done st log last → ((last ≡ st) × (log ≡ [])) ⊎ Stepped done st last log
     stepped done st last log (begins d s) = inl (refl, refl)
     stepped done st last log (steps_on d others l s t z n p r) =
         inr (record { first = l; next = t; others = others; step = n; within = p; rest = r; log_is = refl })
@@ -157,16 +158,16 @@ module _ (marks : List MarkRef) where
     one_on (x ∷ xs) log l = λ w. x ∷ one_on xs log l w
 
     -- the others of a first step, behind another step from the same program
-    rest_of : (done : List Logged) (st last t : Standing) (log : List Logged) (l : Logged) → Next marks st l t → (z : Stepped done st last log) → Reaches marks m module_bytes (done ++ l ∷ []) t z.others last
+    rest_of : (done : List Logged) (st last t : Standing) (log : List Logged) (l : Logged) → Next marks st l t → (z : Stepped done st last log) → Reaches marks m files (done ++ l ∷ []) t z.others last
     rest_of done st last t log l n z =
         let one : (z.first ≡ l) × (z.next ≡ t) = one_next st z.first l z.next t z.step n in
-        subst (λ (x : Logged). Reaches marks m module_bytes (done ++ x ∷ []) t z.others last) one.0
-        (subst (λ (x : Standing). Reaches marks m module_bytes (done ++ z.first ∷ []) x z.others last) one.1 z.rest)
+        subst (λ (x : Logged). Reaches marks m files (done ++ x ∷ []) t z.others last) one.0
+        (subst (λ (x : Standing). Reaches marks m files (done ++ z.first ∷ []) x z.others last) one.1 z.rest)
 
     -- steps within the limits that come to an end don't pass a step that is over one
     not_ended : (done : List Logged) (st before last after : Standing) (log other : List Logged) (l : Logged) (r : TooLarge)
-        → Reaches marks m module_bytes done st log before → Over (done ++ log) before after l r
-        → Reaches marks m module_bytes done st other last → step_in marks last ≡ None → ⊥
+        → Reaches marks m files done st log before → Over (done ++ log) before after l r
+        → Reaches marks m files done st other last → step_in marks last ≡ None → ⊥
     not_ended done st before last after log other l r (begins d s) h q e = by (stepped d s last other q)
       where
         by : ((last ≡ s) × (other ≡ [])) ⊎ Stepped d s last other → ⊥
@@ -178,13 +179,13 @@ module _ (marks : List MarkRef) where
         by (λ others way'. not_ended (d ++ k ∷ []) t z last after rest others l r way (subst (λ (x : List Logged). Over x z after l r) (one_on d rest k) h) way' e)
         (stepped d s last other q)
       where
-        by : ((others : List Logged) → Reaches marks m module_bytes (d ++ k ∷ []) t others last → ⊥) → ((last ≡ s) × (other ≡ [])) ⊎ Stepped d s last other → ⊥
+        by : ((others : List Logged) → Reaches marks m files (d ++ k ∷ []) t others last → ⊥) → ((last ≡ s) × (other ≡ [])) ⊎ Stepped d s last other → ⊥
         by f (inl i) = never_both (step_in marks s) n.found (subst (λ (x : Standing). step_in marks x ≡ None) i.0 e) n.is_first
         by f (inr y) = f y.others (rest_of d s last t other k n y)
 
     one_over : (done : List Logged) (st before after before' after' : Standing) (log log' : List Logged) (l l' : Logged) (r r' : TooLarge)
-        → Reaches marks m module_bytes done st log before → Over (done ++ log) before after l r
-        → Reaches marks m module_bytes done st log' before' → Over (done ++ log') before' after' l' r' → r ≡ r'
+        → Reaches marks m files done st log before → Over (done ++ log) before after l r
+        → Reaches marks m files done st log' before' → Over (done ++ log') before' after' l' r' → r ≡ r'
     one_over done st before after before' after' log log' l l' r r' (begins d s) h q h' = by (stepped d s before' log' q)
       where
         mine : Over d s after l r
@@ -214,19 +215,19 @@ module _ (marks : List MarkRef) where
             let moved : Over (d ++ (k ∷ y.others)) before' after' l' r' = subst (λ (x : Logged). Over (d ++ (x ∷ y.others)) before' after' l' r') one.0 whole in
             subst (λ (x : List Logged). Over x before' after' l' r') (one_on d y.others k) moved
 
-        by : ((others : List Logged) → Reaches marks m module_bytes (d ++ k ∷ []) t others before' → Over ((d ++ k ∷ []) ++ others) before' after' l' r' → r ≡ r')
+        by : ((others : List Logged) → Reaches marks m files (d ++ k ∷ []) t others before' → Over ((d ++ k ∷ []) ++ others) before' after' l' r' → r ≡ r')
             → ((before' ≡ s) × (log' ≡ [])) ⊎ Stepped d s before' log' → r ≡ r'
         by f (inl i) = let its : Over d s after' l' r' = at_end i.0 i.1 in absurd (apart_at d s after' t l' k r' its.0 n its.1 p)
         by f (inr y) = f y.others (rest_of d s before' t log' k n y) (behind y)
 
 -- ---- modules
 
-module _ (m : Limits) (module_bytes : ℕ) (ps : List (Package Span)) (texts : List (List ℕ × FileText)) (only : List ℕ) where
+module _ (m : Limits) (files : List Source) (ps : List (Package Span)) (texts : List (List ℕ × FileText)) (only : List ℕ) where
   abbrev marks : List MarkRef
   marks = marks_of ps texts only
 
   -- a module has one last program, one log, one text for each file, and one report
-  pub one_inlining : (a b : List (List ℕ × FileText)) (r q : List ℕ) (i : IsInlining m module_bytes ps texts only a r) (j : IsInlining m module_bytes ps texts only b q)
+  pub one_inlining : (a b : List (List ℕ × FileText)) (r q : List ℕ) (i : IsInlining m files ps texts only a r) (j : IsInlining m files ps texts only b q)
       → (i.log ≡ j.log) × (i.last ≡ j.last) × (a ≡ b) × (r ≡ q)
   one_inlining a b r q i j =
       let one : (i.log ≡ j.log) × (i.last ≡ j.last) = one_run marks (standing_as_read ps texts) i.last j.last i.log j.log i.run j.run in
@@ -235,11 +236,11 @@ module _ (m : Limits) (module_bytes : ℕ) (ps : List (Package Span)) (texts : L
       (one.0, one.1, i.after_is ∙ (ap (λ (s : Standing). s.texts) one.1 ∙ sym j.after_is), i.reported ∙ (told ∙ sym j.reported))
 
   -- it passes one limit
-  pub one_too_large : (r q : TooLarge) → IsTooLarge m module_bytes ps texts only r → IsTooLarge m module_bytes ps texts only q → r ≡ q
+  pub one_too_large : (r q : TooLarge) → IsTooLarge m files ps texts only r → IsTooLarge m files ps texts only q → r ≡ q
   one_too_large r q i j =
-      one_over marks m module_bytes [] (standing_as_read ps texts) i.before i.after j.before j.after i.log j.log i.last j.last r q i.reached (i.next, i.passes) j.reached (j.next, j.passes)
+      one_over marks m files [] (standing_as_read ps texts) i.before i.after j.before j.after i.log j.log i.last j.last r q i.reached (i.next, i.passes) j.reached (j.next, j.passes)
 
   -- it is inlined, or it passes a limit
-  pub not_both : (a : List (List ℕ × FileText)) (r : List ℕ) (t : TooLarge) → IsInlining m module_bytes ps texts only a r → IsTooLarge m module_bytes ps texts only t → ⊥
+  pub not_both : (a : List (List ℕ × FileText)) (r : List ℕ) (t : TooLarge) → IsInlining m files ps texts only a r → IsTooLarge m files ps texts only t → ⊥
   not_both a r t i j =
-      not_ended marks m module_bytes [] (standing_as_read ps texts) j.before i.last j.after j.log i.log j.last t j.reached (j.next, j.passes) i.within (run_ends marks (standing_as_read ps texts) i.last i.log i.run)
+      not_ended marks m files [] (standing_as_read ps texts) j.before i.last j.after j.log i.log j.last t j.reached (j.next, j.passes) i.within (run_ends marks (standing_as_read ps texts) i.last i.log i.run)

@@ -26,9 +26,10 @@ use Rattle.run_rules.specs.Run.{Standing, Logged, as_read, Next, step_in, goes_o
 use Rattle.run_rules.specs.Run as run
 use Rattle.go_read.proofs.Whole.{file_spelled}
 use Rattle.std.specs.Fmt.{digits}
-use Rattle.run_rules.specs.Inlining.{standing_as_read, none, file, package_, begins, steps_on, IsInlining}
+use Rattle.run_rules.specs.Inlining.{standing_as_read, begins, steps_on, IsInlining}
 use Rattle.run_rules.proofs.CaseTools.{from, nmf}
 use Rattle.run_rules.proofs.Instances.{next_by, kept_by, inlining_by}
+use Rattle.run_rules.proofs.ModulesRead.{module_by, module_text, folder, library_module, library_module_is}
 use Rattle.go_words.specs.Tokens.{TokensOf}
 use Rattle.ucd_category.specs.GeneralCategory.{general_category}
 use Rattle.ucd_category.specs.GeneralCategoryRows.{general_category_rows}
@@ -221,9 +222,9 @@ unfolding passes keyword_spellings is_inline digits reading library_steps7
 library_next7 h = next_by library.marks library_s6 library_steps7 library_n6 library_n7 library_tree7 refl refl h refl refl
 
 -- the whole run, with the tokens of the texts
-library_inlined : (h0 : TokensOf library_t0.text library_t0.tokens library_t0.comments) (h1 : TokensOf library_t1.text library_t1.tokens library_t1.comments) (h2 : TokensOf library_t2.text library_t2.tokens library_t2.comments) (g1 : TokensOf library_n1.text library_n1.tokens library_n1.comments) (g2 : TokensOf library_n2.text library_n2.tokens library_n2.comments) (g3 : TokensOf library_n3.text library_n3.tokens library_n3.comments) (g4 : TokensOf library_n4.text library_n4.tokens library_n4.comments) (g5 : TokensOf library_n5.text library_n5.tokens library_n5.comments) (g6 : TokensOf library_n6.text library_n6.tokens library_n6.comments) (g7 : TokensOf library_n7.text library_n7.tokens library_n7.comments) → IsInlining the_limits 29 library.packages library.texts [] (((codes "cmd/main.go"), library_n7) ∷ ((codes "lib.go"), library_n2) ∷ ((codes "text/text.go"), library_t2) ∷ []) (codes "cmd/main.go:7:15: inlined example.com/lib.Row as type\ncmd/main.go:8:11: inlined example.com/lib.Row as type\ncmd/main.go:14:11: inlined example.com/lib.PadLeft as expr\ncmd/main.go:14:37: inlined example.com/lib.MaxWidth as const\ncmd/main.go:16:2: inlined example.com/lib.Show as block\nlib.go:29:18: inlined example.com/lib.Row as type\nlib.go:36:19: inlined example.com/lib.Row as type\n")
+library_inlined : (h0 : TokensOf library_t0.text library_t0.tokens library_t0.comments) (h1 : TokensOf library_t1.text library_t1.tokens library_t1.comments) (h2 : TokensOf library_t2.text library_t2.tokens library_t2.comments) (g1 : TokensOf library_n1.text library_n1.tokens library_n1.comments) (g2 : TokensOf library_n2.text library_n2.tokens library_n2.comments) (g3 : TokensOf library_n3.text library_n3.tokens library_n3.comments) (g4 : TokensOf library_n4.text library_n4.tokens library_n4.comments) (g5 : TokensOf library_n5.text library_n5.tokens library_n5.comments) (g6 : TokensOf library_n6.text library_n6.tokens library_n6.comments) (g7 : TokensOf library_n7.text library_n7.tokens library_n7.comments) → IsInlining the_limits (folder library_module library.texts) library.packages library.texts [] (((codes "cmd/main.go"), library_n7) ∷ ((codes "lib.go"), library_n2) ∷ ((codes "text/text.go"), library_t2) ∷ []) (codes "cmd/main.go:7:15: inlined example.com/lib.Row as type\ncmd/main.go:8:11: inlined example.com/lib.Row as type\ncmd/main.go:14:11: inlined example.com/lib.PadLeft as expr\ncmd/main.go:14:37: inlined example.com/lib.MaxWidth as const\ncmd/main.go:16:2: inlined example.com/lib.Show as block\nlib.go:29:18: inlined example.com/lib.Row as type\nlib.go:36:19: inlined example.com/lib.Row as type\n")
 unfolding passes keyword_spellings is_inline digits reading library_steps1 library_next1 library_steps2 library_next2 library_steps3 library_next3 library_steps4 library_next4 library_steps5 library_next5 library_steps6 library_next6 library_steps7 library_next7
-library_inlined h0 h1 h2 g1 g2 g3 g4 g5 g6 g7 = inlining_by the_limits 29 library.packages library.texts [] library.marks library_s7 ((library_l1 ∷ library_l2 ∷ library_l3 ∷ library_l4 ∷ library_l5 ∷ library_l6 ∷ library_l7 ∷ [])) (codes "cmd/main.go:7:15: inlined example.com/lib.Row as type\ncmd/main.go:8:11: inlined example.com/lib.Row as type\ncmd/main.go:14:11: inlined example.com/lib.PadLeft as expr\ncmd/main.go:14:37: inlined example.com/lib.MaxWidth as const\ncmd/main.go:16:2: inlined example.com/lib.Show as block\nlib.go:29:18: inlined example.com/lib.Row as type\nlib.go:36:19: inlined example.com/lib.Row as type\n") library_marks (package_ _ _ (file _ _ library_t0 refl (record { scans = h0; spells = file_spelled library_t0.tokens library_f0 (library_spelled0) }) none) (package_ _ _ (file _ _ library_t1 refl (record { scans = h1; spells = file_spelled library_t1.tokens library_f1 (library_spelled1) }) none) (package_ _ _ (file _ _ library_t2 refl (record { scans = h2; spells = file_spelled library_t2.tokens library_f2 (library_spelled2) }) none) none))) (goes_on library_s0 library_s1 library_s7 library_l1 (library_l2 ∷ library_l3 ∷ library_l4 ∷ library_l5 ∷ library_l6 ∷ library_l7 ∷ []) (library_next1 g1) (goes_on library_s1 library_s2 library_s7 library_l2 (library_l3 ∷ library_l4 ∷ library_l5 ∷ library_l6 ∷ library_l7 ∷ []) (library_next2 g2) (goes_on library_s2 library_s3 library_s7 library_l3 (library_l4 ∷ library_l5 ∷ library_l6 ∷ library_l7 ∷ []) (library_next3 g3) (goes_on library_s3 library_s4 library_s7 library_l4 (library_l5 ∷ library_l6 ∷ library_l7 ∷ []) (library_next4 g4) (goes_on library_s4 library_s5 library_s7 library_l5 (library_l6 ∷ library_l7 ∷ []) (library_next5 g5) (goes_on library_s5 library_s6 library_s7 library_l6 (library_l7 ∷ []) (library_next6 g6) (goes_on library_s6 library_s7 library_s7 library_l7 [] (library_next7 g7) (ends library_s7 refl)))))))) (steps_on [] (library_l2 ∷ library_l3 ∷ library_l4 ∷ library_l5 ∷ library_l6 ∷ library_l7 ∷ []) library_l1 library_s0 library_s1 library_s7 (library_next1 g1) refl (steps_on (library_l1 ∷ []) (library_l3 ∷ library_l4 ∷ library_l5 ∷ library_l6 ∷ library_l7 ∷ []) library_l2 library_s1 library_s2 library_s7 (library_next2 g2) refl (steps_on (library_l1 ∷ library_l2 ∷ []) (library_l4 ∷ library_l5 ∷ library_l6 ∷ library_l7 ∷ []) library_l3 library_s2 library_s3 library_s7 (library_next3 g3) refl (steps_on (library_l1 ∷ library_l2 ∷ library_l3 ∷ []) (library_l5 ∷ library_l6 ∷ library_l7 ∷ []) library_l4 library_s3 library_s4 library_s7 (library_next4 g4) refl (steps_on (library_l1 ∷ library_l2 ∷ library_l3 ∷ library_l4 ∷ []) (library_l6 ∷ library_l7 ∷ []) library_l5 library_s4 library_s5 library_s7 (library_next5 g5) refl (steps_on (library_l1 ∷ library_l2 ∷ library_l3 ∷ library_l4 ∷ library_l5 ∷ []) (library_l7 ∷ []) library_l6 library_s5 library_s6 library_s7 (library_next6 g6) refl (steps_on (library_l1 ∷ library_l2 ∷ library_l3 ∷ library_l4 ∷ library_l5 ∷ library_l6 ∷ []) [] library_l7 library_s6 library_s7 library_s7 (library_next7 g7) refl (begins ((library_l1 ∷ library_l2 ∷ library_l3 ∷ library_l4 ∷ library_l5 ∷ library_l6 ∷ library_l7 ∷ [])) library_s7)))))))) (kept_by ((library_l1 ∷ library_l2 ∷ library_l3 ∷ library_l4 ∷ library_l5 ∷ library_l6 ∷ library_l7 ∷ [])) (codes "cmd/main.go") library_t0.text library_n7.text (((codes "lib.go"), library_t1.text) ∷ ((codes "text/text.go"), library_t2.text) ∷ []) (((codes "lib.go"), library_n2.text) ∷ ((codes "text/text.go"), library_t2.text) ∷ []) refl refl (kept_by ((library_l1 ∷ library_l2 ∷ library_l3 ∷ library_l4 ∷ library_l5 ∷ library_l6 ∷ library_l7 ∷ [])) (codes "lib.go") library_t1.text library_n2.text (((codes "text/text.go"), library_t2.text) ∷ []) (((codes "text/text.go"), library_t2.text) ∷ []) refl refl (kept_by ((library_l1 ∷ library_l2 ∷ library_l3 ∷ library_l4 ∷ library_l5 ∷ library_l6 ∷ library_l7 ∷ [])) (codes "text/text.go") library_t2.text library_t2.text [] [] refl refl run.none))) refl
+library_inlined h0 h1 h2 g1 g2 g3 g4 g5 g6 g7 = inlining_by the_limits (folder library_module library.texts) library.packages library.texts [] library.marks library_s7 ((library_l1 ∷ library_l2 ∷ library_l3 ∷ library_l4 ∷ library_l5 ∷ library_l6 ∷ library_l7 ∷ [])) (codes "cmd/main.go:7:15: inlined example.com/lib.Row as type\ncmd/main.go:8:11: inlined example.com/lib.Row as type\ncmd/main.go:14:11: inlined example.com/lib.PadLeft as expr\ncmd/main.go:14:37: inlined example.com/lib.MaxWidth as const\ncmd/main.go:16:2: inlined example.com/lib.Show as block\nlib.go:29:18: inlined example.com/lib.Row as type\nlib.go:36:19: inlined example.com/lib.Row as type\n") library_marks (module_by (codes "example.com/lib") (module_text library_module) (record { path = codes "cmd/main.go"; text = library_t0; tree = library_f0; reads = record { scans = h0; spells = file_spelled library_t0.tokens library_f0 library_spelled0 } } ∷ record { path = codes "lib.go"; text = library_t1; tree = library_f1; reads = record { scans = h1; spells = file_spelled library_t1.tokens library_f1 library_spelled1 } } ∷ record { path = codes "text/text.go"; text = library_t2; tree = library_f2; reads = record { scans = h2; spells = file_spelled library_t2.tokens library_f2 library_spelled2 } } ∷ []) (folder library_module library.texts) library.packages library.texts library_module_is refl refl refl refl refl refl refl refl refl) (goes_on library_s0 library_s1 library_s7 library_l1 (library_l2 ∷ library_l3 ∷ library_l4 ∷ library_l5 ∷ library_l6 ∷ library_l7 ∷ []) (library_next1 g1) (goes_on library_s1 library_s2 library_s7 library_l2 (library_l3 ∷ library_l4 ∷ library_l5 ∷ library_l6 ∷ library_l7 ∷ []) (library_next2 g2) (goes_on library_s2 library_s3 library_s7 library_l3 (library_l4 ∷ library_l5 ∷ library_l6 ∷ library_l7 ∷ []) (library_next3 g3) (goes_on library_s3 library_s4 library_s7 library_l4 (library_l5 ∷ library_l6 ∷ library_l7 ∷ []) (library_next4 g4) (goes_on library_s4 library_s5 library_s7 library_l5 (library_l6 ∷ library_l7 ∷ []) (library_next5 g5) (goes_on library_s5 library_s6 library_s7 library_l6 (library_l7 ∷ []) (library_next6 g6) (goes_on library_s6 library_s7 library_s7 library_l7 [] (library_next7 g7) (ends library_s7 refl)))))))) (steps_on [] (library_l2 ∷ library_l3 ∷ library_l4 ∷ library_l5 ∷ library_l6 ∷ library_l7 ∷ []) library_l1 library_s0 library_s1 library_s7 (library_next1 g1) refl (steps_on (library_l1 ∷ []) (library_l3 ∷ library_l4 ∷ library_l5 ∷ library_l6 ∷ library_l7 ∷ []) library_l2 library_s1 library_s2 library_s7 (library_next2 g2) refl (steps_on (library_l1 ∷ library_l2 ∷ []) (library_l4 ∷ library_l5 ∷ library_l6 ∷ library_l7 ∷ []) library_l3 library_s2 library_s3 library_s7 (library_next3 g3) refl (steps_on (library_l1 ∷ library_l2 ∷ library_l3 ∷ []) (library_l5 ∷ library_l6 ∷ library_l7 ∷ []) library_l4 library_s3 library_s4 library_s7 (library_next4 g4) refl (steps_on (library_l1 ∷ library_l2 ∷ library_l3 ∷ library_l4 ∷ []) (library_l6 ∷ library_l7 ∷ []) library_l5 library_s4 library_s5 library_s7 (library_next5 g5) refl (steps_on (library_l1 ∷ library_l2 ∷ library_l3 ∷ library_l4 ∷ library_l5 ∷ []) (library_l7 ∷ []) library_l6 library_s5 library_s6 library_s7 (library_next6 g6) refl (steps_on (library_l1 ∷ library_l2 ∷ library_l3 ∷ library_l4 ∷ library_l5 ∷ library_l6 ∷ []) [] library_l7 library_s6 library_s7 library_s7 (library_next7 g7) refl (begins ((library_l1 ∷ library_l2 ∷ library_l3 ∷ library_l4 ∷ library_l5 ∷ library_l6 ∷ library_l7 ∷ [])) library_s7)))))))) (kept_by ((library_l1 ∷ library_l2 ∷ library_l3 ∷ library_l4 ∷ library_l5 ∷ library_l6 ∷ library_l7 ∷ [])) (codes "cmd/main.go") library_t0.text library_n7.text (((codes "lib.go"), library_t1.text) ∷ ((codes "text/text.go"), library_t2.text) ∷ []) (((codes "lib.go"), library_n2.text) ∷ ((codes "text/text.go"), library_t2.text) ∷ []) refl refl (kept_by ((library_l1 ∷ library_l2 ∷ library_l3 ∷ library_l4 ∷ library_l5 ∷ library_l6 ∷ library_l7 ∷ [])) (codes "lib.go") library_t1.text library_n2.text (((codes "text/text.go"), library_t2.text) ∷ []) (((codes "text/text.go"), library_t2.text) ∷ []) refl refl (kept_by ((library_l1 ∷ library_l2 ∷ library_l3 ∷ library_l4 ∷ library_l5 ∷ library_l6 ∷ library_l7 ∷ [])) (codes "text/text.go") library_t2.text library_t2.text [] [] refl refl run.none))) refl
 
 library_t0_found : TokensOf library_t0.text library_t0.tokens library_t0.comments
 unfolding piece_of lexeme_of longest_from next_of tokens_from comments_from keyword_spellings is_letter is_digit general_category general_category_rows value_in lib.Utf8.encode
@@ -265,5 +266,5 @@ library_n7_found : TokensOf library_n7.text library_n7.tokens library_n7.comment
 unfolding piece_of lexeme_of longest_from next_of tokens_from comments_from keyword_spellings is_letter is_digit general_category general_category_rows value_in lib.Utf8.encode
 library_n7_found = tokens_by library_n7.text library_n7.tokens library_n7.comments refl refl refl
 
-library_run : IsInlining the_limits 29 library.packages library.texts [] (((codes "cmd/main.go"), library_n7) ∷ ((codes "lib.go"), library_n2) ∷ ((codes "text/text.go"), library_t2) ∷ []) (codes "cmd/main.go:7:15: inlined example.com/lib.Row as type\ncmd/main.go:8:11: inlined example.com/lib.Row as type\ncmd/main.go:14:11: inlined example.com/lib.PadLeft as expr\ncmd/main.go:14:37: inlined example.com/lib.MaxWidth as const\ncmd/main.go:16:2: inlined example.com/lib.Show as block\nlib.go:29:18: inlined example.com/lib.Row as type\nlib.go:36:19: inlined example.com/lib.Row as type\n")
+library_run : IsInlining the_limits (folder library_module library.texts) library.packages library.texts [] (((codes "cmd/main.go"), library_n7) ∷ ((codes "lib.go"), library_n2) ∷ ((codes "text/text.go"), library_t2) ∷ []) (codes "cmd/main.go:7:15: inlined example.com/lib.Row as type\ncmd/main.go:8:11: inlined example.com/lib.Row as type\ncmd/main.go:14:11: inlined example.com/lib.PadLeft as expr\ncmd/main.go:14:37: inlined example.com/lib.MaxWidth as const\ncmd/main.go:16:2: inlined example.com/lib.Show as block\nlib.go:29:18: inlined example.com/lib.Row as type\nlib.go:36:19: inlined example.com/lib.Row as type\n")
 library_run = library_inlined library_t0_found library_t1_found library_t2_found library_n1_found library_n2_found library_n3_found library_n4_found library_n5_found library_n6_found library_n7_found

@@ -25,9 +25,10 @@ use Rattle.run_rules.specs.Run.{Standing, Next, step_in, goes_on, ends, the_limi
 use Rattle.run_rules.specs.Run as run
 use Rattle.go_read.proofs.Whole.{file_spelled}
 use Rattle.std.specs.Fmt.{digits}
-use Rattle.run_rules.specs.Inlining.{standing_as_read, none, file, package_, begins, steps_on, IsInlining}
+use Rattle.run_rules.specs.Inlining.{standing_as_read, begins, steps_on, IsInlining}
 use Rattle.run_rules.proofs.CaseTools.{from, nmf}
 use Rattle.run_rules.proofs.Instances.{stands_after, log_entry, next_by, kept_by, inlining_by}
+use Rattle.run_rules.proofs.ModulesRead.{module_by, module_text, folder, small_module, small_module_is}
 use Rattle.go_words.specs.Tokens.{TokensOf}
 use Rattle.ucd_category.specs.GeneralCategory.{general_category}
 use Rattle.ucd_category.specs.GeneralCategoryRows.{general_category_rows}
@@ -60,15 +61,15 @@ abbrev even_and_odd_start : Standing
 even_and_odd_start = standing_as_read even_and_odd.packages even_and_odd.texts
 
 -- the whole run, with the tokens of the texts
-even_and_odd_inlined : (h0 : TokensOf even_and_odd_t0.text even_and_odd_t0.tokens even_and_odd_t0.comments) → IsInlining the_limits 29 even_and_odd.packages even_and_odd.texts [] (((codes "main.go"), even_and_odd_t0) ∷ []) (codes "main.go:4:42: kept example.com/m.Odd: recursive\nmain.go:7:41: kept example.com/m.Even: recursive\nmain.go:10:10: kept example.com/m.Even: recursive\n")
+even_and_odd_inlined : (h0 : TokensOf even_and_odd_t0.text even_and_odd_t0.tokens even_and_odd_t0.comments) → IsInlining the_limits (folder small_module even_and_odd.texts) even_and_odd.packages even_and_odd.texts [] (((codes "main.go"), even_and_odd_t0) ∷ []) (codes "main.go:4:42: kept example.com/m.Odd: recursive\nmain.go:7:41: kept example.com/m.Even: recursive\nmain.go:10:10: kept example.com/m.Even: recursive\n")
 unfolding passes keyword_spellings is_inline digits reading
-even_and_odd_inlined h0 = inlining_by the_limits 29 even_and_odd.packages even_and_odd.texts [] even_and_odd.marks even_and_odd_start ([]) (codes "main.go:4:42: kept example.com/m.Odd: recursive\nmain.go:7:41: kept example.com/m.Even: recursive\nmain.go:10:10: kept example.com/m.Even: recursive\n") even_and_odd_marks (package_ _ _ (file _ _ even_and_odd_t0 refl (record { scans = h0; spells = file_spelled even_and_odd_t0.tokens even_and_odd_f0 (even_and_odd_spelled0) }) none) none) (ends even_and_odd_start refl) (begins [] even_and_odd_start) (kept_by ([]) (codes "main.go") even_and_odd_t0.text even_and_odd_t0.text [] [] refl refl run.none) refl
+even_and_odd_inlined h0 = inlining_by the_limits (folder small_module even_and_odd.texts) even_and_odd.packages even_and_odd.texts [] even_and_odd.marks even_and_odd_start ([]) (codes "main.go:4:42: kept example.com/m.Odd: recursive\nmain.go:7:41: kept example.com/m.Even: recursive\nmain.go:10:10: kept example.com/m.Even: recursive\n") even_and_odd_marks (module_by (codes "example.com/m") (module_text small_module) (record { path = codes "main.go"; text = even_and_odd_t0; tree = even_and_odd_f0; reads = record { scans = h0; spells = file_spelled even_and_odd_t0.tokens even_and_odd_f0 even_and_odd_spelled0 } } ∷ []) (folder small_module even_and_odd.texts) even_and_odd.packages even_and_odd.texts small_module_is refl refl refl refl refl refl refl refl refl) (ends even_and_odd_start refl) (begins [] even_and_odd_start) (kept_by ([]) (codes "main.go") even_and_odd_t0.text even_and_odd_t0.text [] [] refl refl run.none) refl
 
 even_and_odd_t0_found : TokensOf even_and_odd_t0.text even_and_odd_t0.tokens even_and_odd_t0.comments
 unfolding piece_of lexeme_of longest_from next_of tokens_from comments_from keyword_spellings is_letter is_digit general_category general_category_rows value_in lib.Utf8.encode
 even_and_odd_t0_found = tokens_by even_and_odd_t0.text even_and_odd_t0.tokens even_and_odd_t0.comments refl refl refl
 
-even_and_odd_run : IsInlining the_limits 29 even_and_odd.packages even_and_odd.texts [] (((codes "main.go"), even_and_odd_t0) ∷ []) (codes "main.go:4:42: kept example.com/m.Odd: recursive\nmain.go:7:41: kept example.com/m.Even: recursive\nmain.go:10:10: kept example.com/m.Even: recursive\n")
+even_and_odd_run : IsInlining the_limits (folder small_module even_and_odd.texts) even_and_odd.packages even_and_odd.texts [] (((codes "main.go"), even_and_odd_t0) ∷ []) (codes "main.go:4:42: kept example.com/m.Odd: recursive\nmain.go:7:41: kept example.com/m.Even: recursive\nmain.go:10:10: kept example.com/m.Even: recursive\n")
 even_and_odd_run = even_and_odd_inlined even_and_odd_t0_found
 
 -- A constant keeps its type.
@@ -107,9 +108,9 @@ unfolding passes keyword_spellings is_inline digits reading stop_steps
 stop_next h = next_by stop.marks stop_start (stop_steps) stop_t0 stop_new stop_tree refl refl h refl refl
 
 -- the whole run, with the tokens of the texts
-stop_inlined : (h0 : TokensOf stop_t0.text stop_t0.tokens stop_t0.comments) (h : TokensOf stop_new.text stop_new.tokens stop_new.comments) → IsInlining the_limits 29 stop.packages stop.texts [] (((codes "main.go"), stop_new) ∷ []) (codes "main.go:7:2: inlined example.com/m.Stop as expr\n")
+stop_inlined : (h0 : TokensOf stop_t0.text stop_t0.tokens stop_t0.comments) (h : TokensOf stop_new.text stop_new.tokens stop_new.comments) → IsInlining the_limits (folder small_module stop.texts) stop.packages stop.texts [] (((codes "main.go"), stop_new) ∷ []) (codes "main.go:7:2: inlined example.com/m.Stop as expr\n")
 unfolding passes keyword_spellings is_inline digits reading stop_steps stop_next
-stop_inlined h0 h = inlining_by the_limits 29 stop.packages stop.texts [] stop.marks (stands_after stop.marks stop_start (stop_steps) stop_t0 stop_new stop_tree) (log_entry stop.marks stop_start (stop_steps) stop_t0 stop_new stop_tree ∷ []) (codes "main.go:7:2: inlined example.com/m.Stop as expr\n") stop_marks (package_ _ _ (file _ _ stop_t0 refl (record { scans = h0; spells = file_spelled stop_t0.tokens stop_f0 (stop_spelled0) }) none) none) (goes_on stop_start (stands_after stop.marks stop_start (stop_steps) stop_t0 stop_new stop_tree) (stands_after stop.marks stop_start (stop_steps) stop_t0 stop_new stop_tree) (log_entry stop.marks stop_start (stop_steps) stop_t0 stop_new stop_tree) [] (stop_next h) (ends (stands_after stop.marks stop_start (stop_steps) stop_t0 stop_new stop_tree) refl)) (steps_on [] [] (log_entry stop.marks stop_start (stop_steps) stop_t0 stop_new stop_tree) stop_start (stands_after stop.marks stop_start (stop_steps) stop_t0 stop_new stop_tree) (stands_after stop.marks stop_start (stop_steps) stop_t0 stop_new stop_tree) (stop_next h) refl (begins (log_entry stop.marks stop_start (stop_steps) stop_t0 stop_new stop_tree ∷ []) (stands_after stop.marks stop_start (stop_steps) stop_t0 stop_new stop_tree))) (kept_by (log_entry stop.marks stop_start (stop_steps) stop_t0 stop_new stop_tree ∷ []) (codes "main.go") stop_t0.text stop_new.text [] [] refl refl run.none) refl
+stop_inlined h0 h = inlining_by the_limits (folder small_module stop.texts) stop.packages stop.texts [] stop.marks (stands_after stop.marks stop_start (stop_steps) stop_t0 stop_new stop_tree) (log_entry stop.marks stop_start (stop_steps) stop_t0 stop_new stop_tree ∷ []) (codes "main.go:7:2: inlined example.com/m.Stop as expr\n") stop_marks (module_by (codes "example.com/m") (module_text small_module) (record { path = codes "main.go"; text = stop_t0; tree = stop_f0; reads = record { scans = h0; spells = file_spelled stop_t0.tokens stop_f0 stop_spelled0 } } ∷ []) (folder small_module stop.texts) stop.packages stop.texts small_module_is refl refl refl refl refl refl refl refl refl) (goes_on stop_start (stands_after stop.marks stop_start (stop_steps) stop_t0 stop_new stop_tree) (stands_after stop.marks stop_start (stop_steps) stop_t0 stop_new stop_tree) (log_entry stop.marks stop_start (stop_steps) stop_t0 stop_new stop_tree) [] (stop_next h) (ends (stands_after stop.marks stop_start (stop_steps) stop_t0 stop_new stop_tree) refl)) (steps_on [] [] (log_entry stop.marks stop_start (stop_steps) stop_t0 stop_new stop_tree) stop_start (stands_after stop.marks stop_start (stop_steps) stop_t0 stop_new stop_tree) (stands_after stop.marks stop_start (stop_steps) stop_t0 stop_new stop_tree) (stop_next h) refl (begins (log_entry stop.marks stop_start (stop_steps) stop_t0 stop_new stop_tree ∷ []) (stands_after stop.marks stop_start (stop_steps) stop_t0 stop_new stop_tree))) (kept_by (log_entry stop.marks stop_start (stop_steps) stop_t0 stop_new stop_tree ∷ []) (codes "main.go") stop_t0.text stop_new.text [] [] refl refl run.none) refl
 
 stop_t0_found : TokensOf stop_t0.text stop_t0.tokens stop_t0.comments
 unfolding piece_of lexeme_of longest_from next_of tokens_from comments_from keyword_spellings is_letter is_digit general_category general_category_rows value_in lib.Utf8.encode
@@ -119,7 +120,7 @@ stop_new_found : TokensOf stop_new.text stop_new.tokens stop_new.comments
 unfolding piece_of lexeme_of longest_from next_of tokens_from comments_from keyword_spellings is_letter is_digit general_category general_category_rows value_in lib.Utf8.encode
 stop_new_found = tokens_by stop_new.text stop_new.tokens stop_new.comments refl refl refl
 
-stop_run : IsInlining the_limits 29 stop.packages stop.texts [] (((codes "main.go"), stop_new) ∷ []) (codes "main.go:7:2: inlined example.com/m.Stop as expr\n")
+stop_run : IsInlining the_limits (folder small_module stop.texts) stop.packages stop.texts [] (((codes "main.go"), stop_new) ∷ []) (codes "main.go:7:2: inlined example.com/m.Stop as expr\n")
 stop_run = stop_inlined stop_t0_found stop_new_found
 
 -- A bound parameter of a statement.
@@ -158,9 +159,9 @@ unfolding passes keyword_spellings is_inline digits reading log_block_steps
 log_block_next h = next_by log_block.marks log_block_start (log_block_steps) log_block_t0 log_block_new log_block_tree refl refl h refl refl
 
 -- the whole run, with the tokens of the texts
-log_block_inlined : (h0 : TokensOf log_block_t0.text log_block_t0.tokens log_block_t0.comments) (h : TokensOf log_block_new.text log_block_new.tokens log_block_new.comments) → IsInlining the_limits 29 log_block.packages log_block.texts [] (((codes "main.go"), log_block_new) ∷ []) (codes "main.go:13:2: inlined example.com/m.Log as block\n")
+log_block_inlined : (h0 : TokensOf log_block_t0.text log_block_t0.tokens log_block_t0.comments) (h : TokensOf log_block_new.text log_block_new.tokens log_block_new.comments) → IsInlining the_limits (folder small_module log_block.texts) log_block.packages log_block.texts [] (((codes "main.go"), log_block_new) ∷ []) (codes "main.go:13:2: inlined example.com/m.Log as block\n")
 unfolding passes keyword_spellings is_inline digits reading log_block_steps log_block_next
-log_block_inlined h0 h = inlining_by the_limits 29 log_block.packages log_block.texts [] log_block.marks (stands_after log_block.marks log_block_start (log_block_steps) log_block_t0 log_block_new log_block_tree) (log_entry log_block.marks log_block_start (log_block_steps) log_block_t0 log_block_new log_block_tree ∷ []) (codes "main.go:13:2: inlined example.com/m.Log as block\n") log_block_marks (package_ _ _ (file _ _ log_block_t0 refl (record { scans = h0; spells = file_spelled log_block_t0.tokens log_block_f0 (log_block_spelled0) }) none) none) (goes_on log_block_start (stands_after log_block.marks log_block_start (log_block_steps) log_block_t0 log_block_new log_block_tree) (stands_after log_block.marks log_block_start (log_block_steps) log_block_t0 log_block_new log_block_tree) (log_entry log_block.marks log_block_start (log_block_steps) log_block_t0 log_block_new log_block_tree) [] (log_block_next h) (ends (stands_after log_block.marks log_block_start (log_block_steps) log_block_t0 log_block_new log_block_tree) refl)) (steps_on [] [] (log_entry log_block.marks log_block_start (log_block_steps) log_block_t0 log_block_new log_block_tree) log_block_start (stands_after log_block.marks log_block_start (log_block_steps) log_block_t0 log_block_new log_block_tree) (stands_after log_block.marks log_block_start (log_block_steps) log_block_t0 log_block_new log_block_tree) (log_block_next h) refl (begins (log_entry log_block.marks log_block_start (log_block_steps) log_block_t0 log_block_new log_block_tree ∷ []) (stands_after log_block.marks log_block_start (log_block_steps) log_block_t0 log_block_new log_block_tree))) (kept_by (log_entry log_block.marks log_block_start (log_block_steps) log_block_t0 log_block_new log_block_tree ∷ []) (codes "main.go") log_block_t0.text log_block_new.text [] [] refl refl run.none) refl
+log_block_inlined h0 h = inlining_by the_limits (folder small_module log_block.texts) log_block.packages log_block.texts [] log_block.marks (stands_after log_block.marks log_block_start (log_block_steps) log_block_t0 log_block_new log_block_tree) (log_entry log_block.marks log_block_start (log_block_steps) log_block_t0 log_block_new log_block_tree ∷ []) (codes "main.go:13:2: inlined example.com/m.Log as block\n") log_block_marks (module_by (codes "example.com/m") (module_text small_module) (record { path = codes "main.go"; text = log_block_t0; tree = log_block_f0; reads = record { scans = h0; spells = file_spelled log_block_t0.tokens log_block_f0 log_block_spelled0 } } ∷ []) (folder small_module log_block.texts) log_block.packages log_block.texts small_module_is refl refl refl refl refl refl refl refl refl) (goes_on log_block_start (stands_after log_block.marks log_block_start (log_block_steps) log_block_t0 log_block_new log_block_tree) (stands_after log_block.marks log_block_start (log_block_steps) log_block_t0 log_block_new log_block_tree) (log_entry log_block.marks log_block_start (log_block_steps) log_block_t0 log_block_new log_block_tree) [] (log_block_next h) (ends (stands_after log_block.marks log_block_start (log_block_steps) log_block_t0 log_block_new log_block_tree) refl)) (steps_on [] [] (log_entry log_block.marks log_block_start (log_block_steps) log_block_t0 log_block_new log_block_tree) log_block_start (stands_after log_block.marks log_block_start (log_block_steps) log_block_t0 log_block_new log_block_tree) (stands_after log_block.marks log_block_start (log_block_steps) log_block_t0 log_block_new log_block_tree) (log_block_next h) refl (begins (log_entry log_block.marks log_block_start (log_block_steps) log_block_t0 log_block_new log_block_tree ∷ []) (stands_after log_block.marks log_block_start (log_block_steps) log_block_t0 log_block_new log_block_tree))) (kept_by (log_entry log_block.marks log_block_start (log_block_steps) log_block_t0 log_block_new log_block_tree ∷ []) (codes "main.go") log_block_t0.text log_block_new.text [] [] refl refl run.none) refl
 
 log_block_t0_found : TokensOf log_block_t0.text log_block_t0.tokens log_block_t0.comments
 unfolding piece_of lexeme_of longest_from next_of tokens_from comments_from keyword_spellings is_letter is_digit general_category general_category_rows value_in lib.Utf8.encode
@@ -170,7 +171,7 @@ log_block_new_found : TokensOf log_block_new.text log_block_new.tokens log_block
 unfolding piece_of lexeme_of longest_from next_of tokens_from comments_from keyword_spellings is_letter is_digit general_category general_category_rows value_in lib.Utf8.encode
 log_block_new_found = tokens_by log_block_new.text log_block_new.tokens log_block_new.comments refl refl refl
 
-log_block_run : IsInlining the_limits 29 log_block.packages log_block.texts [] (((codes "main.go"), log_block_new) ∷ []) (codes "main.go:13:2: inlined example.com/m.Log as block\n")
+log_block_run : IsInlining the_limits (folder small_module log_block.texts) log_block.packages log_block.texts [] (((codes "main.go"), log_block_new) ∷ []) (codes "main.go:13:2: inlined example.com/m.Log as block\n")
 log_block_run = log_block_inlined log_block_t0_found log_block_new_found
 
 -- A deferred call.
@@ -209,9 +210,9 @@ unfolding passes keyword_spellings is_inline digits reading deferred_close_steps
 deferred_close_next h = next_by deferred_close.marks deferred_close_start (deferred_close_steps) deferred_close_t0 deferred_close_new deferred_close_tree refl refl h refl refl
 
 -- the whole run, with the tokens of the texts
-deferred_close_inlined : (h0 : TokensOf deferred_close_t0.text deferred_close_t0.tokens deferred_close_t0.comments) (h : TokensOf deferred_close_new.text deferred_close_new.tokens deferred_close_new.comments) → IsInlining the_limits 29 deferred_close.packages deferred_close.texts [] (((codes "main.go"), deferred_close_new) ∷ []) (codes "main.go:8:8: inlined example.com/m.Close as literal\n")
+deferred_close_inlined : (h0 : TokensOf deferred_close_t0.text deferred_close_t0.tokens deferred_close_t0.comments) (h : TokensOf deferred_close_new.text deferred_close_new.tokens deferred_close_new.comments) → IsInlining the_limits (folder small_module deferred_close.texts) deferred_close.packages deferred_close.texts [] (((codes "main.go"), deferred_close_new) ∷ []) (codes "main.go:8:8: inlined example.com/m.Close as literal\n")
 unfolding passes keyword_spellings is_inline digits reading deferred_close_steps deferred_close_next
-deferred_close_inlined h0 h = inlining_by the_limits 29 deferred_close.packages deferred_close.texts [] deferred_close.marks (stands_after deferred_close.marks deferred_close_start (deferred_close_steps) deferred_close_t0 deferred_close_new deferred_close_tree) (log_entry deferred_close.marks deferred_close_start (deferred_close_steps) deferred_close_t0 deferred_close_new deferred_close_tree ∷ []) (codes "main.go:8:8: inlined example.com/m.Close as literal\n") deferred_close_marks (package_ _ _ (file _ _ deferred_close_t0 refl (record { scans = h0; spells = file_spelled deferred_close_t0.tokens deferred_close_f0 (deferred_close_spelled0) }) none) none) (goes_on deferred_close_start (stands_after deferred_close.marks deferred_close_start (deferred_close_steps) deferred_close_t0 deferred_close_new deferred_close_tree) (stands_after deferred_close.marks deferred_close_start (deferred_close_steps) deferred_close_t0 deferred_close_new deferred_close_tree) (log_entry deferred_close.marks deferred_close_start (deferred_close_steps) deferred_close_t0 deferred_close_new deferred_close_tree) [] (deferred_close_next h) (ends (stands_after deferred_close.marks deferred_close_start (deferred_close_steps) deferred_close_t0 deferred_close_new deferred_close_tree) refl)) (steps_on [] [] (log_entry deferred_close.marks deferred_close_start (deferred_close_steps) deferred_close_t0 deferred_close_new deferred_close_tree) deferred_close_start (stands_after deferred_close.marks deferred_close_start (deferred_close_steps) deferred_close_t0 deferred_close_new deferred_close_tree) (stands_after deferred_close.marks deferred_close_start (deferred_close_steps) deferred_close_t0 deferred_close_new deferred_close_tree) (deferred_close_next h) refl (begins (log_entry deferred_close.marks deferred_close_start (deferred_close_steps) deferred_close_t0 deferred_close_new deferred_close_tree ∷ []) (stands_after deferred_close.marks deferred_close_start (deferred_close_steps) deferred_close_t0 deferred_close_new deferred_close_tree))) (kept_by (log_entry deferred_close.marks deferred_close_start (deferred_close_steps) deferred_close_t0 deferred_close_new deferred_close_tree ∷ []) (codes "main.go") deferred_close_t0.text deferred_close_new.text [] [] refl refl run.none) refl
+deferred_close_inlined h0 h = inlining_by the_limits (folder small_module deferred_close.texts) deferred_close.packages deferred_close.texts [] deferred_close.marks (stands_after deferred_close.marks deferred_close_start (deferred_close_steps) deferred_close_t0 deferred_close_new deferred_close_tree) (log_entry deferred_close.marks deferred_close_start (deferred_close_steps) deferred_close_t0 deferred_close_new deferred_close_tree ∷ []) (codes "main.go:8:8: inlined example.com/m.Close as literal\n") deferred_close_marks (module_by (codes "example.com/m") (module_text small_module) (record { path = codes "main.go"; text = deferred_close_t0; tree = deferred_close_f0; reads = record { scans = h0; spells = file_spelled deferred_close_t0.tokens deferred_close_f0 deferred_close_spelled0 } } ∷ []) (folder small_module deferred_close.texts) deferred_close.packages deferred_close.texts small_module_is refl refl refl refl refl refl refl refl refl) (goes_on deferred_close_start (stands_after deferred_close.marks deferred_close_start (deferred_close_steps) deferred_close_t0 deferred_close_new deferred_close_tree) (stands_after deferred_close.marks deferred_close_start (deferred_close_steps) deferred_close_t0 deferred_close_new deferred_close_tree) (log_entry deferred_close.marks deferred_close_start (deferred_close_steps) deferred_close_t0 deferred_close_new deferred_close_tree) [] (deferred_close_next h) (ends (stands_after deferred_close.marks deferred_close_start (deferred_close_steps) deferred_close_t0 deferred_close_new deferred_close_tree) refl)) (steps_on [] [] (log_entry deferred_close.marks deferred_close_start (deferred_close_steps) deferred_close_t0 deferred_close_new deferred_close_tree) deferred_close_start (stands_after deferred_close.marks deferred_close_start (deferred_close_steps) deferred_close_t0 deferred_close_new deferred_close_tree) (stands_after deferred_close.marks deferred_close_start (deferred_close_steps) deferred_close_t0 deferred_close_new deferred_close_tree) (deferred_close_next h) refl (begins (log_entry deferred_close.marks deferred_close_start (deferred_close_steps) deferred_close_t0 deferred_close_new deferred_close_tree ∷ []) (stands_after deferred_close.marks deferred_close_start (deferred_close_steps) deferred_close_t0 deferred_close_new deferred_close_tree))) (kept_by (log_entry deferred_close.marks deferred_close_start (deferred_close_steps) deferred_close_t0 deferred_close_new deferred_close_tree ∷ []) (codes "main.go") deferred_close_t0.text deferred_close_new.text [] [] refl refl run.none) refl
 
 deferred_close_t0_found : TokensOf deferred_close_t0.text deferred_close_t0.tokens deferred_close_t0.comments
 unfolding piece_of lexeme_of longest_from next_of tokens_from comments_from keyword_spellings is_letter is_digit general_category general_category_rows value_in lib.Utf8.encode
@@ -221,7 +222,7 @@ deferred_close_new_found : TokensOf deferred_close_new.text deferred_close_new.t
 unfolding piece_of lexeme_of longest_from next_of tokens_from comments_from keyword_spellings is_letter is_digit general_category general_category_rows value_in lib.Utf8.encode
 deferred_close_new_found = tokens_by deferred_close_new.text deferred_close_new.tokens deferred_close_new.comments refl refl refl
 
-deferred_close_run : IsInlining the_limits 29 deferred_close.packages deferred_close.texts [] (((codes "main.go"), deferred_close_new) ∷ []) (codes "main.go:8:8: inlined example.com/m.Close as literal\n")
+deferred_close_run : IsInlining the_limits (folder small_module deferred_close.texts) deferred_close.packages deferred_close.texts [] (((codes "main.go"), deferred_close_new) ∷ []) (codes "main.go:8:8: inlined example.com/m.Close as literal\n")
 deferred_close_run = deferred_close_inlined deferred_close_t0_found deferred_close_new_found
 
 -- A method: its full name has the type.
@@ -246,15 +247,15 @@ abbrev spread_add_start : Standing
 spread_add_start = standing_as_read spread_add.packages spread_add.texts
 
 -- the whole run, with the tokens of the texts
-spread_add_inlined : (h0 : TokensOf spread_add_t0.text spread_add_t0.tokens spread_add_t0.comments) → IsInlining the_limits 29 spread_add.packages spread_add.texts [] (((codes "main.go"), spread_add_t0) ∷ []) (codes "main.go:12:10: kept example.com/m.C.Add: spread arguments\n")
+spread_add_inlined : (h0 : TokensOf spread_add_t0.text spread_add_t0.tokens spread_add_t0.comments) → IsInlining the_limits (folder small_module spread_add.texts) spread_add.packages spread_add.texts [] (((codes "main.go"), spread_add_t0) ∷ []) (codes "main.go:12:10: kept example.com/m.C.Add: spread arguments\n")
 unfolding passes keyword_spellings is_inline digits reading
-spread_add_inlined h0 = inlining_by the_limits 29 spread_add.packages spread_add.texts [] spread_add.marks spread_add_start ([]) (codes "main.go:12:10: kept example.com/m.C.Add: spread arguments\n") spread_add_marks (package_ _ _ (file _ _ spread_add_t0 refl (record { scans = h0; spells = file_spelled spread_add_t0.tokens spread_add_f0 (spread_add_spelled0) }) none) none) (ends spread_add_start refl) (begins [] spread_add_start) (kept_by ([]) (codes "main.go") spread_add_t0.text spread_add_t0.text [] [] refl refl run.none) refl
+spread_add_inlined h0 = inlining_by the_limits (folder small_module spread_add.texts) spread_add.packages spread_add.texts [] spread_add.marks spread_add_start ([]) (codes "main.go:12:10: kept example.com/m.C.Add: spread arguments\n") spread_add_marks (module_by (codes "example.com/m") (module_text small_module) (record { path = codes "main.go"; text = spread_add_t0; tree = spread_add_f0; reads = record { scans = h0; spells = file_spelled spread_add_t0.tokens spread_add_f0 spread_add_spelled0 } } ∷ []) (folder small_module spread_add.texts) spread_add.packages spread_add.texts small_module_is refl refl refl refl refl refl refl refl refl) (ends spread_add_start refl) (begins [] spread_add_start) (kept_by ([]) (codes "main.go") spread_add_t0.text spread_add_t0.text [] [] refl refl run.none) refl
 
 spread_add_t0_found : TokensOf spread_add_t0.text spread_add_t0.tokens spread_add_t0.comments
 unfolding piece_of lexeme_of longest_from next_of tokens_from comments_from keyword_spellings is_letter is_digit general_category general_category_rows value_in lib.Utf8.encode
 spread_add_t0_found = tokens_by spread_add_t0.text spread_add_t0.tokens spread_add_t0.comments refl refl refl
 
-spread_add_run : IsInlining the_limits 29 spread_add.packages spread_add.texts [] (((codes "main.go"), spread_add_t0) ∷ []) (codes "main.go:12:10: kept example.com/m.C.Add: spread arguments\n")
+spread_add_run : IsInlining the_limits (folder small_module spread_add.texts) spread_add.packages spread_add.texts [] (((codes "main.go"), spread_add_t0) ∷ []) (codes "main.go:12:10: kept example.com/m.C.Add: spread arguments\n")
 spread_add_run = spread_add_inlined spread_add_t0_found
 
 -- A method with a pointer receiver.
@@ -293,9 +294,9 @@ unfolding passes keyword_spellings is_inline digits reading get_method_steps
 get_method_next h = next_by get_method.marks get_method_start (get_method_steps) get_method_t0 get_method_new get_method_tree refl refl h refl refl
 
 -- the whole run, with the tokens of the texts
-get_method_inlined : (h0 : TokensOf get_method_t0.text get_method_t0.tokens get_method_t0.comments) (h : TokensOf get_method_new.text get_method_new.tokens get_method_new.comments) → IsInlining the_limits 29 get_method.packages get_method.texts [] (((codes "main.go"), get_method_new) ∷ []) (codes "main.go:10:10: inlined example.com/m.C.Get as expr\n")
+get_method_inlined : (h0 : TokensOf get_method_t0.text get_method_t0.tokens get_method_t0.comments) (h : TokensOf get_method_new.text get_method_new.tokens get_method_new.comments) → IsInlining the_limits (folder small_module get_method.texts) get_method.packages get_method.texts [] (((codes "main.go"), get_method_new) ∷ []) (codes "main.go:10:10: inlined example.com/m.C.Get as expr\n")
 unfolding passes keyword_spellings is_inline digits reading get_method_steps get_method_next
-get_method_inlined h0 h = inlining_by the_limits 29 get_method.packages get_method.texts [] get_method.marks (stands_after get_method.marks get_method_start (get_method_steps) get_method_t0 get_method_new get_method_tree) (log_entry get_method.marks get_method_start (get_method_steps) get_method_t0 get_method_new get_method_tree ∷ []) (codes "main.go:10:10: inlined example.com/m.C.Get as expr\n") get_method_marks (package_ _ _ (file _ _ get_method_t0 refl (record { scans = h0; spells = file_spelled get_method_t0.tokens get_method_f0 (get_method_spelled0) }) none) none) (goes_on get_method_start (stands_after get_method.marks get_method_start (get_method_steps) get_method_t0 get_method_new get_method_tree) (stands_after get_method.marks get_method_start (get_method_steps) get_method_t0 get_method_new get_method_tree) (log_entry get_method.marks get_method_start (get_method_steps) get_method_t0 get_method_new get_method_tree) [] (get_method_next h) (ends (stands_after get_method.marks get_method_start (get_method_steps) get_method_t0 get_method_new get_method_tree) refl)) (steps_on [] [] (log_entry get_method.marks get_method_start (get_method_steps) get_method_t0 get_method_new get_method_tree) get_method_start (stands_after get_method.marks get_method_start (get_method_steps) get_method_t0 get_method_new get_method_tree) (stands_after get_method.marks get_method_start (get_method_steps) get_method_t0 get_method_new get_method_tree) (get_method_next h) refl (begins (log_entry get_method.marks get_method_start (get_method_steps) get_method_t0 get_method_new get_method_tree ∷ []) (stands_after get_method.marks get_method_start (get_method_steps) get_method_t0 get_method_new get_method_tree))) (kept_by (log_entry get_method.marks get_method_start (get_method_steps) get_method_t0 get_method_new get_method_tree ∷ []) (codes "main.go") get_method_t0.text get_method_new.text [] [] refl refl run.none) refl
+get_method_inlined h0 h = inlining_by the_limits (folder small_module get_method.texts) get_method.packages get_method.texts [] get_method.marks (stands_after get_method.marks get_method_start (get_method_steps) get_method_t0 get_method_new get_method_tree) (log_entry get_method.marks get_method_start (get_method_steps) get_method_t0 get_method_new get_method_tree ∷ []) (codes "main.go:10:10: inlined example.com/m.C.Get as expr\n") get_method_marks (module_by (codes "example.com/m") (module_text small_module) (record { path = codes "main.go"; text = get_method_t0; tree = get_method_f0; reads = record { scans = h0; spells = file_spelled get_method_t0.tokens get_method_f0 get_method_spelled0 } } ∷ []) (folder small_module get_method.texts) get_method.packages get_method.texts small_module_is refl refl refl refl refl refl refl refl refl) (goes_on get_method_start (stands_after get_method.marks get_method_start (get_method_steps) get_method_t0 get_method_new get_method_tree) (stands_after get_method.marks get_method_start (get_method_steps) get_method_t0 get_method_new get_method_tree) (log_entry get_method.marks get_method_start (get_method_steps) get_method_t0 get_method_new get_method_tree) [] (get_method_next h) (ends (stands_after get_method.marks get_method_start (get_method_steps) get_method_t0 get_method_new get_method_tree) refl)) (steps_on [] [] (log_entry get_method.marks get_method_start (get_method_steps) get_method_t0 get_method_new get_method_tree) get_method_start (stands_after get_method.marks get_method_start (get_method_steps) get_method_t0 get_method_new get_method_tree) (stands_after get_method.marks get_method_start (get_method_steps) get_method_t0 get_method_new get_method_tree) (get_method_next h) refl (begins (log_entry get_method.marks get_method_start (get_method_steps) get_method_t0 get_method_new get_method_tree ∷ []) (stands_after get_method.marks get_method_start (get_method_steps) get_method_t0 get_method_new get_method_tree))) (kept_by (log_entry get_method.marks get_method_start (get_method_steps) get_method_t0 get_method_new get_method_tree ∷ []) (codes "main.go") get_method_t0.text get_method_new.text [] [] refl refl run.none) refl
 
 get_method_t0_found : TokensOf get_method_t0.text get_method_t0.tokens get_method_t0.comments
 unfolding piece_of lexeme_of longest_from next_of tokens_from comments_from keyword_spellings is_letter is_digit general_category general_category_rows value_in lib.Utf8.encode
@@ -305,5 +306,5 @@ get_method_new_found : TokensOf get_method_new.text get_method_new.tokens get_me
 unfolding piece_of lexeme_of longest_from next_of tokens_from comments_from keyword_spellings is_letter is_digit general_category general_category_rows value_in lib.Utf8.encode
 get_method_new_found = tokens_by get_method_new.text get_method_new.tokens get_method_new.comments refl refl refl
 
-get_method_run : IsInlining the_limits 29 get_method.packages get_method.texts [] (((codes "main.go"), get_method_new) ∷ []) (codes "main.go:10:10: inlined example.com/m.C.Get as expr\n")
+get_method_run : IsInlining the_limits (folder small_module get_method.texts) get_method.packages get_method.texts [] (((codes "main.go"), get_method_new) ∷ []) (codes "main.go:10:10: inlined example.com/m.C.Get as expr\n")
 get_method_run = get_method_inlined get_method_t0_found get_method_new_found

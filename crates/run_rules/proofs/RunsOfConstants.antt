@@ -27,9 +27,10 @@ use Rattle.run_rules.specs.Run.{Steps}
 use Rattle.run_rules.specs.Run as run
 use Rattle.go_read.proofs.Whole.{file_spelled}
 use Rattle.std.specs.Fmt.{digits}
-use Rattle.run_rules.specs.Inlining.{standing_as_read, none, file, package_, begins, steps_on, IsInlining, IsTooLarge}
+use Rattle.run_rules.specs.Inlining.{standing_as_read, begins, steps_on, IsInlining, IsTooLarge}
 use Rattle.run_rules.proofs.CaseTools.{from, nmf}
 use Rattle.run_rules.proofs.Instances.{stand_so, is_at_most, stands_after, log_entry, next_by, kept_by, inlining_by, too_large_by}
+use Rattle.run_rules.proofs.ModulesRead.{module_by, module_text, folder, small_module, small_module_is}
 use Rattle.go_words.specs.Tokens.{TokensOf}
 use Rattle.ucd_category.specs.GeneralCategory.{general_category}
 use Rattle.ucd_category.specs.GeneralCategoryRows.{general_category_rows}
@@ -76,9 +77,9 @@ unfolding passes keyword_spellings is_inline digits reading one_constant_steps
 one_constant_next h = next_by one_constant.marks one_constant_start (one_constant_steps) one_constant_t0 one_constant_new one_constant_tree refl refl h refl refl
 
 -- the whole run, with the tokens of the texts
-one_constant_inlined : (h0 : TokensOf one_constant_t0.text one_constant_t0.tokens one_constant_t0.comments) (h : TokensOf one_constant_new.text one_constant_new.tokens one_constant_new.comments) → IsInlining the_limits 29 one_constant.packages one_constant.texts [] (((codes "main.go"), one_constant_new) ∷ []) (codes "main.go:9:10: inlined example.com/m.Ptr as const\n")
+one_constant_inlined : (h0 : TokensOf one_constant_t0.text one_constant_t0.tokens one_constant_t0.comments) (h : TokensOf one_constant_new.text one_constant_new.tokens one_constant_new.comments) → IsInlining the_limits (folder small_module one_constant.texts) one_constant.packages one_constant.texts [] (((codes "main.go"), one_constant_new) ∷ []) (codes "main.go:9:10: inlined example.com/m.Ptr as const\n")
 unfolding passes keyword_spellings is_inline digits reading one_constant_steps one_constant_next
-one_constant_inlined h0 h = inlining_by the_limits 29 one_constant.packages one_constant.texts [] one_constant.marks (stands_after one_constant.marks one_constant_start (one_constant_steps) one_constant_t0 one_constant_new one_constant_tree) (log_entry one_constant.marks one_constant_start (one_constant_steps) one_constant_t0 one_constant_new one_constant_tree ∷ []) (codes "main.go:9:10: inlined example.com/m.Ptr as const\n") one_constant_marks (package_ _ _ (file _ _ one_constant_t0 refl (record { scans = h0; spells = file_spelled one_constant_t0.tokens one_constant_f0 (one_constant_spelled0) }) none) none) (goes_on one_constant_start (stands_after one_constant.marks one_constant_start (one_constant_steps) one_constant_t0 one_constant_new one_constant_tree) (stands_after one_constant.marks one_constant_start (one_constant_steps) one_constant_t0 one_constant_new one_constant_tree) (log_entry one_constant.marks one_constant_start (one_constant_steps) one_constant_t0 one_constant_new one_constant_tree) [] (one_constant_next h) (ends (stands_after one_constant.marks one_constant_start (one_constant_steps) one_constant_t0 one_constant_new one_constant_tree) refl)) (steps_on [] [] (log_entry one_constant.marks one_constant_start (one_constant_steps) one_constant_t0 one_constant_new one_constant_tree) one_constant_start (stands_after one_constant.marks one_constant_start (one_constant_steps) one_constant_t0 one_constant_new one_constant_tree) (stands_after one_constant.marks one_constant_start (one_constant_steps) one_constant_t0 one_constant_new one_constant_tree) (one_constant_next h) refl (begins (log_entry one_constant.marks one_constant_start (one_constant_steps) one_constant_t0 one_constant_new one_constant_tree ∷ []) (stands_after one_constant.marks one_constant_start (one_constant_steps) one_constant_t0 one_constant_new one_constant_tree))) (kept_by (log_entry one_constant.marks one_constant_start (one_constant_steps) one_constant_t0 one_constant_new one_constant_tree ∷ []) (codes "main.go") one_constant_t0.text one_constant_new.text [] [] refl refl run.none) refl
+one_constant_inlined h0 h = inlining_by the_limits (folder small_module one_constant.texts) one_constant.packages one_constant.texts [] one_constant.marks (stands_after one_constant.marks one_constant_start (one_constant_steps) one_constant_t0 one_constant_new one_constant_tree) (log_entry one_constant.marks one_constant_start (one_constant_steps) one_constant_t0 one_constant_new one_constant_tree ∷ []) (codes "main.go:9:10: inlined example.com/m.Ptr as const\n") one_constant_marks (module_by (codes "example.com/m") (module_text small_module) (record { path = codes "main.go"; text = one_constant_t0; tree = one_constant_f0; reads = record { scans = h0; spells = file_spelled one_constant_t0.tokens one_constant_f0 one_constant_spelled0 } } ∷ []) (folder small_module one_constant.texts) one_constant.packages one_constant.texts small_module_is refl refl refl refl refl refl refl refl refl) (goes_on one_constant_start (stands_after one_constant.marks one_constant_start (one_constant_steps) one_constant_t0 one_constant_new one_constant_tree) (stands_after one_constant.marks one_constant_start (one_constant_steps) one_constant_t0 one_constant_new one_constant_tree) (log_entry one_constant.marks one_constant_start (one_constant_steps) one_constant_t0 one_constant_new one_constant_tree) [] (one_constant_next h) (ends (stands_after one_constant.marks one_constant_start (one_constant_steps) one_constant_t0 one_constant_new one_constant_tree) refl)) (steps_on [] [] (log_entry one_constant.marks one_constant_start (one_constant_steps) one_constant_t0 one_constant_new one_constant_tree) one_constant_start (stands_after one_constant.marks one_constant_start (one_constant_steps) one_constant_t0 one_constant_new one_constant_tree) (stands_after one_constant.marks one_constant_start (one_constant_steps) one_constant_t0 one_constant_new one_constant_tree) (one_constant_next h) refl (begins (log_entry one_constant.marks one_constant_start (one_constant_steps) one_constant_t0 one_constant_new one_constant_tree ∷ []) (stands_after one_constant.marks one_constant_start (one_constant_steps) one_constant_t0 one_constant_new one_constant_tree))) (kept_by (log_entry one_constant.marks one_constant_start (one_constant_steps) one_constant_t0 one_constant_new one_constant_tree ∷ []) (codes "main.go") one_constant_t0.text one_constant_new.text [] [] refl refl run.none) refl
 
 one_constant_t0_found : TokensOf one_constant_t0.text one_constant_t0.tokens one_constant_t0.comments
 unfolding piece_of lexeme_of longest_from next_of tokens_from comments_from keyword_spellings is_letter is_digit general_category general_category_rows value_in lib.Utf8.encode
@@ -88,7 +89,7 @@ one_constant_new_found : TokensOf one_constant_new.text one_constant_new.tokens 
 unfolding piece_of lexeme_of longest_from next_of tokens_from comments_from keyword_spellings is_letter is_digit general_category general_category_rows value_in lib.Utf8.encode
 one_constant_new_found = tokens_by one_constant_new.text one_constant_new.tokens one_constant_new.comments refl refl refl
 
-pub one_constant_run : IsInlining the_limits 29 one_constant.packages one_constant.texts [] (((codes "main.go"), one_constant_new) ∷ []) (codes "main.go:9:10: inlined example.com/m.Ptr as const\n")
+pub one_constant_run : IsInlining the_limits (folder small_module one_constant.texts) one_constant.packages one_constant.texts [] (((codes "main.go"), one_constant_new) ∷ []) (codes "main.go:9:10: inlined example.com/m.Ptr as const\n")
 one_constant_run = one_constant_inlined one_constant_t0_found one_constant_new_found
 
 -- Without a mark nothing is reported.
@@ -113,15 +114,15 @@ abbrev no_mark_start : Standing
 no_mark_start = standing_as_read no_mark.packages no_mark.texts
 
 -- the whole run, with the tokens of the texts
-no_mark_inlined : (h0 : TokensOf no_mark_t0.text no_mark_t0.tokens no_mark_t0.comments) → IsInlining the_limits 29 no_mark.packages no_mark.texts [] (((codes "main.go"), no_mark_t0) ∷ []) (codes "")
+no_mark_inlined : (h0 : TokensOf no_mark_t0.text no_mark_t0.tokens no_mark_t0.comments) → IsInlining the_limits (folder small_module no_mark.texts) no_mark.packages no_mark.texts [] (((codes "main.go"), no_mark_t0) ∷ []) (codes "")
 unfolding passes keyword_spellings is_inline digits reading
-no_mark_inlined h0 = inlining_by the_limits 29 no_mark.packages no_mark.texts [] no_mark.marks no_mark_start ([]) (codes "") no_mark_marks (package_ _ _ (file _ _ no_mark_t0 refl (record { scans = h0; spells = file_spelled no_mark_t0.tokens no_mark_f0 (no_mark_spelled0) }) none) none) (ends no_mark_start refl) (begins [] no_mark_start) (kept_by ([]) (codes "main.go") no_mark_t0.text no_mark_t0.text [] [] refl refl run.none) refl
+no_mark_inlined h0 = inlining_by the_limits (folder small_module no_mark.texts) no_mark.packages no_mark.texts [] no_mark.marks no_mark_start ([]) (codes "") no_mark_marks (module_by (codes "example.com/m") (module_text small_module) (record { path = codes "main.go"; text = no_mark_t0; tree = no_mark_f0; reads = record { scans = h0; spells = file_spelled no_mark_t0.tokens no_mark_f0 no_mark_spelled0 } } ∷ []) (folder small_module no_mark.texts) no_mark.packages no_mark.texts small_module_is refl refl refl refl refl refl refl refl refl) (ends no_mark_start refl) (begins [] no_mark_start) (kept_by ([]) (codes "main.go") no_mark_t0.text no_mark_t0.text [] [] refl refl run.none) refl
 
 no_mark_t0_found : TokensOf no_mark_t0.text no_mark_t0.tokens no_mark_t0.comments
 unfolding piece_of lexeme_of longest_from next_of tokens_from comments_from keyword_spellings is_letter is_digit general_category general_category_rows value_in lib.Utf8.encode
 no_mark_t0_found = tokens_by no_mark_t0.text no_mark_t0.tokens no_mark_t0.comments refl refl refl
 
-no_mark_run : IsInlining the_limits 29 no_mark.packages no_mark.texts [] (((codes "main.go"), no_mark_t0) ∷ []) (codes "")
+no_mark_run : IsInlining the_limits (folder small_module no_mark.texts) no_mark.packages no_mark.texts [] (((codes "main.go"), no_mark_t0) ∷ []) (codes "")
 no_mark_run = no_mark_inlined no_mark_t0_found
 
 -- The name means another declaration at the use.
@@ -146,15 +147,15 @@ abbrev shadowed_start : Standing
 shadowed_start = standing_as_read shadowed.packages shadowed.texts
 
 -- the whole run, with the tokens of the texts
-shadowed_inlined : (h0 : TokensOf shadowed_t0.text shadowed_t0.tokens shadowed_t0.comments) → IsInlining the_limits 29 shadowed.packages shadowed.texts [] (((codes "main.go"), shadowed_t0) ∷ []) (codes "main.go:10:10: kept example.com/m.Ptr: shadowed: Pointer\n")
+shadowed_inlined : (h0 : TokensOf shadowed_t0.text shadowed_t0.tokens shadowed_t0.comments) → IsInlining the_limits (folder small_module shadowed.texts) shadowed.packages shadowed.texts [] (((codes "main.go"), shadowed_t0) ∷ []) (codes "main.go:10:10: kept example.com/m.Ptr: shadowed: Pointer\n")
 unfolding passes keyword_spellings is_inline digits reading
-shadowed_inlined h0 = inlining_by the_limits 29 shadowed.packages shadowed.texts [] shadowed.marks shadowed_start ([]) (codes "main.go:10:10: kept example.com/m.Ptr: shadowed: Pointer\n") shadowed_marks (package_ _ _ (file _ _ shadowed_t0 refl (record { scans = h0; spells = file_spelled shadowed_t0.tokens shadowed_f0 (shadowed_spelled0) }) none) none) (ends shadowed_start refl) (begins [] shadowed_start) (kept_by ([]) (codes "main.go") shadowed_t0.text shadowed_t0.text [] [] refl refl run.none) refl
+shadowed_inlined h0 = inlining_by the_limits (folder small_module shadowed.texts) shadowed.packages shadowed.texts [] shadowed.marks shadowed_start ([]) (codes "main.go:10:10: kept example.com/m.Ptr: shadowed: Pointer\n") shadowed_marks (module_by (codes "example.com/m") (module_text small_module) (record { path = codes "main.go"; text = shadowed_t0; tree = shadowed_f0; reads = record { scans = h0; spells = file_spelled shadowed_t0.tokens shadowed_f0 shadowed_spelled0 } } ∷ []) (folder small_module shadowed.texts) shadowed.packages shadowed.texts small_module_is refl refl refl refl refl refl refl refl refl) (ends shadowed_start refl) (begins [] shadowed_start) (kept_by ([]) (codes "main.go") shadowed_t0.text shadowed_t0.text [] [] refl refl run.none) refl
 
 shadowed_t0_found : TokensOf shadowed_t0.text shadowed_t0.tokens shadowed_t0.comments
 unfolding piece_of lexeme_of longest_from next_of tokens_from comments_from keyword_spellings is_letter is_digit general_category general_category_rows value_in lib.Utf8.encode
 shadowed_t0_found = tokens_by shadowed_t0.text shadowed_t0.tokens shadowed_t0.comments refl refl refl
 
-shadowed_run : IsInlining the_limits 29 shadowed.packages shadowed.texts [] (((codes "main.go"), shadowed_t0) ∷ []) (codes "main.go:10:10: kept example.com/m.Ptr: shadowed: Pointer\n")
+shadowed_run : IsInlining the_limits (folder small_module shadowed.texts) shadowed.packages shadowed.texts [] (((codes "main.go"), shadowed_t0) ∷ []) (codes "main.go:10:10: kept example.com/m.Ptr: shadowed: Pointer\n")
 shadowed_run = shadowed_inlined shadowed_t0_found
 
 -- A later member of the group repeats the expression with the use.
@@ -179,15 +180,15 @@ abbrev repeated_start : Standing
 repeated_start = standing_as_read repeated.packages repeated.texts
 
 -- the whole run, with the tokens of the texts
-repeated_inlined : (h0 : TokensOf repeated_t0.text repeated_t0.tokens repeated_t0.comments) → IsInlining the_limits 29 repeated.packages repeated.texts [] (((codes "main.go"), repeated_t0) ∷ []) (codes "main.go:10:13: kept example.com/m.Ptr: repeated expression\n")
+repeated_inlined : (h0 : TokensOf repeated_t0.text repeated_t0.tokens repeated_t0.comments) → IsInlining the_limits (folder small_module repeated.texts) repeated.packages repeated.texts [] (((codes "main.go"), repeated_t0) ∷ []) (codes "main.go:10:13: kept example.com/m.Ptr: repeated expression\n")
 unfolding passes keyword_spellings is_inline digits reading
-repeated_inlined h0 = inlining_by the_limits 29 repeated.packages repeated.texts [] repeated.marks repeated_start ([]) (codes "main.go:10:13: kept example.com/m.Ptr: repeated expression\n") repeated_marks (package_ _ _ (file _ _ repeated_t0 refl (record { scans = h0; spells = file_spelled repeated_t0.tokens repeated_f0 (repeated_spelled0) }) none) none) (ends repeated_start refl) (begins [] repeated_start) (kept_by ([]) (codes "main.go") repeated_t0.text repeated_t0.text [] [] refl refl run.none) refl
+repeated_inlined h0 = inlining_by the_limits (folder small_module repeated.texts) repeated.packages repeated.texts [] repeated.marks repeated_start ([]) (codes "main.go:10:13: kept example.com/m.Ptr: repeated expression\n") repeated_marks (module_by (codes "example.com/m") (module_text small_module) (record { path = codes "main.go"; text = repeated_t0; tree = repeated_f0; reads = record { scans = h0; spells = file_spelled repeated_t0.tokens repeated_f0 repeated_spelled0 } } ∷ []) (folder small_module repeated.texts) repeated.packages repeated.texts small_module_is refl refl refl refl refl refl refl refl refl) (ends repeated_start refl) (begins [] repeated_start) (kept_by ([]) (codes "main.go") repeated_t0.text repeated_t0.text [] [] refl refl run.none) refl
 
 repeated_t0_found : TokensOf repeated_t0.text repeated_t0.tokens repeated_t0.comments
 unfolding piece_of lexeme_of longest_from next_of tokens_from comments_from keyword_spellings is_letter is_digit general_category general_category_rows value_in lib.Utf8.encode
 repeated_t0_found = tokens_by repeated_t0.text repeated_t0.tokens repeated_t0.comments refl refl refl
 
-repeated_run : IsInlining the_limits 29 repeated.packages repeated.texts [] (((codes "main.go"), repeated_t0) ∷ []) (codes "main.go:10:13: kept example.com/m.Ptr: repeated expression\n")
+repeated_run : IsInlining the_limits (folder small_module repeated.texts) repeated.packages repeated.texts [] (((codes "main.go"), repeated_t0) ∷ []) (codes "main.go:10:13: kept example.com/m.Ptr: repeated expression\n")
 repeated_run = repeated_inlined repeated_t0_found
 
 -- A mark that means nothing.
@@ -216,15 +217,15 @@ abbrev bad_mark_start : Standing
 bad_mark_start = standing_as_read bad_mark.packages bad_mark.texts
 
 -- the whole run, with the tokens of the texts
-bad_mark_inlined : (h0 : TokensOf bad_mark_t0.text bad_mark_t0.tokens bad_mark_t0.comments) → IsInlining the_limits 29 bad_mark.packages bad_mark.texts [] (((codes "main.go"), bad_mark_t0) ∷ []) (codes "main.go:4:7: bad mark: constant is not another named constant\n")
+bad_mark_inlined : (h0 : TokensOf bad_mark_t0.text bad_mark_t0.tokens bad_mark_t0.comments) → IsInlining the_limits (folder small_module bad_mark.texts) bad_mark.packages bad_mark.texts [] (((codes "main.go"), bad_mark_t0) ∷ []) (codes "main.go:4:7: bad mark: constant is not another named constant\n")
 unfolding passes keyword_spellings is_inline digits reading
-bad_mark_inlined h0 = inlining_by the_limits 29 bad_mark.packages bad_mark.texts [] bad_mark.marks bad_mark_start ([]) (codes "main.go:4:7: bad mark: constant is not another named constant\n") bad_mark_marks (package_ _ _ (file _ _ bad_mark_t0 refl (record { scans = h0; spells = file_spelled bad_mark_t0.tokens bad_mark_f0 (bad_mark_spelled0) }) none) none) (ends bad_mark_start refl) (begins [] bad_mark_start) (kept_by ([]) (codes "main.go") bad_mark_t0.text bad_mark_t0.text [] [] refl refl run.none) refl
+bad_mark_inlined h0 = inlining_by the_limits (folder small_module bad_mark.texts) bad_mark.packages bad_mark.texts [] bad_mark.marks bad_mark_start ([]) (codes "main.go:4:7: bad mark: constant is not another named constant\n") bad_mark_marks (module_by (codes "example.com/m") (module_text small_module) (record { path = codes "main.go"; text = bad_mark_t0; tree = bad_mark_f0; reads = record { scans = h0; spells = file_spelled bad_mark_t0.tokens bad_mark_f0 bad_mark_spelled0 } } ∷ []) (folder small_module bad_mark.texts) bad_mark.packages bad_mark.texts small_module_is refl refl refl refl refl refl refl refl refl) (ends bad_mark_start refl) (begins [] bad_mark_start) (kept_by ([]) (codes "main.go") bad_mark_t0.text bad_mark_t0.text [] [] refl refl run.none) refl
 
 bad_mark_t0_found : TokensOf bad_mark_t0.text bad_mark_t0.tokens bad_mark_t0.comments
 unfolding piece_of lexeme_of longest_from next_of tokens_from comments_from keyword_spellings is_letter is_digit general_category general_category_rows value_in lib.Utf8.encode
 bad_mark_t0_found = tokens_by bad_mark_t0.text bad_mark_t0.tokens bad_mark_t0.comments refl refl refl
 
-bad_mark_run : IsInlining the_limits 29 bad_mark.packages bad_mark.texts [] (((codes "main.go"), bad_mark_t0) ∷ []) (codes "main.go:4:7: bad mark: constant is not another named constant\n")
+bad_mark_run : IsInlining the_limits (folder small_module bad_mark.texts) bad_mark.packages bad_mark.texts [] (((codes "main.go"), bad_mark_t0) ∷ []) (codes "main.go:4:7: bad mark: constant is not another named constant\n")
 bad_mark_run = bad_mark_inlined bad_mark_t0_found
 
 one_constant_marks_back : one_constant.marks ≡ marks_of one_constant.packages one_constant.texts []
@@ -232,11 +233,11 @@ unfolding passes keyword_spellings is_inline digits
 one_constant_marks_back = refl
 
 -- where no step is allowed, the first one passes the limit
-one_constant_too_large : (h : TokensOf one_constant_new.text one_constant_new.tokens one_constant_new.comments) → IsTooLarge (record the_limits { steps = 0 }) 29 one_constant.packages one_constant.texts [] (record { limit = Steps; count = 1; bound = 0 })
+one_constant_too_large : (h : TokensOf one_constant_new.text one_constant_new.tokens one_constant_new.comments) → IsTooLarge (record the_limits { steps = 0 }) (folder small_module one_constant.texts) one_constant.packages one_constant.texts [] (record { limit = Steps; count = 1; bound = 0 })
 unfolding passes keyword_spellings is_inline digits reading one_constant_steps one_constant_next
-one_constant_too_large h = too_large_by (record the_limits { steps = 0 }) 29 one_constant.packages one_constant.texts [] one_constant.marks (stands_after one_constant.marks one_constant_start (one_constant_steps) one_constant_t0 one_constant_new one_constant_tree) (log_entry one_constant.marks one_constant_start (one_constant_steps) one_constant_t0 one_constant_new one_constant_tree) (record { limit = Steps; count = 1; bound = 0 }) one_constant_marks_back (one_constant_next h) refl
+one_constant_too_large h = too_large_by (record the_limits { steps = 0 }) (folder small_module one_constant.texts) one_constant.packages one_constant.texts [] one_constant.marks (stands_after one_constant.marks one_constant_start (one_constant_steps) one_constant_t0 one_constant_new one_constant_tree) (log_entry one_constant.marks one_constant_start (one_constant_steps) one_constant_t0 one_constant_new one_constant_tree) (record { limit = Steps; count = 1; bound = 0 }) one_constant_marks_back one_constant_run.read (one_constant_next h) refl
 
-one_constant_over : IsTooLarge (record the_limits { steps = 0 }) 29 one_constant.packages one_constant.texts [] (record { limit = Steps; count = 1; bound = 0 })
+one_constant_over : IsTooLarge (record the_limits { steps = 0 }) (folder small_module one_constant.texts) one_constant.packages one_constant.texts [] (record { limit = Steps; count = 1; bound = 0 })
 one_constant_over = one_constant_too_large one_constant_new_found
 
 -- no full name begins so

@@ -25,10 +25,11 @@ use Rattle.run_rules.specs.Run.{Standing, Next, step_in, goes_on, ends, the_limi
 use Rattle.run_rules.specs.Run as run
 use Rattle.go_read.proofs.Whole.{file_spelled}
 use Rattle.std.specs.Fmt.{digits}
-use Rattle.run_rules.specs.Inlining.{standing_as_read, none, file, package_, begins, steps_on, IsInlining}
+use Rattle.run_rules.specs.Inlining.{standing_as_read, begins, steps_on, IsInlining}
 use Rattle.run_rules.proofs.CaseTools.{from, nmf}
 use Rattle.go_words.specs.Tokens.{TokensOf}
 use Rattle.run_rules.proofs.Instances.{stands_after, log_entry, next_by, kept_by, inlining_by}
+use Rattle.run_rules.proofs.ModulesRead.{module_by, module_text, folder, small_module, small_module_is}
 use Rattle.ucd_category.specs.GeneralCategory.{general_category}
 use Rattle.ucd_category.specs.GeneralCategoryRows.{general_category_rows}
 use Rattle.ucd_table.specs.Rows.{value_in}
@@ -74,9 +75,9 @@ unfolding passes keyword_spellings is_inline digits reading tail_call_steps
 tail_call_next h = next_by tail_call.marks tail_call_start (tail_call_steps) tail_call_t0 tail_call_new tail_call_tree refl refl h refl refl
 
 -- the whole run, with the tokens of the texts
-tail_call_inlined : (h0 : TokensOf tail_call_t0.text tail_call_t0.tokens tail_call_t0.comments) (h : TokensOf tail_call_new.text tail_call_new.tokens tail_call_new.comments) → IsInlining the_limits 29 tail_call.packages tail_call.texts [] (((codes "main.go"), tail_call_new) ∷ []) (codes "main.go:12:9: inlined example.com/m.Split as tail\n")
+tail_call_inlined : (h0 : TokensOf tail_call_t0.text tail_call_t0.tokens tail_call_t0.comments) (h : TokensOf tail_call_new.text tail_call_new.tokens tail_call_new.comments) → IsInlining the_limits (folder small_module tail_call.texts) tail_call.packages tail_call.texts [] (((codes "main.go"), tail_call_new) ∷ []) (codes "main.go:12:9: inlined example.com/m.Split as tail\n")
 unfolding passes keyword_spellings is_inline digits reading tail_call_steps tail_call_next
-tail_call_inlined h0 h = inlining_by the_limits 29 tail_call.packages tail_call.texts [] tail_call.marks (stands_after tail_call.marks tail_call_start (tail_call_steps) tail_call_t0 tail_call_new tail_call_tree) (log_entry tail_call.marks tail_call_start (tail_call_steps) tail_call_t0 tail_call_new tail_call_tree ∷ []) (codes "main.go:12:9: inlined example.com/m.Split as tail\n") tail_call_marks (package_ _ _ (file _ _ tail_call_t0 refl (record { scans = h0; spells = file_spelled tail_call_t0.tokens tail_call_f0 (tail_call_spelled0) }) none) none) (goes_on tail_call_start (stands_after tail_call.marks tail_call_start (tail_call_steps) tail_call_t0 tail_call_new tail_call_tree) (stands_after tail_call.marks tail_call_start (tail_call_steps) tail_call_t0 tail_call_new tail_call_tree) (log_entry tail_call.marks tail_call_start (tail_call_steps) tail_call_t0 tail_call_new tail_call_tree) [] (tail_call_next h) (ends (stands_after tail_call.marks tail_call_start (tail_call_steps) tail_call_t0 tail_call_new tail_call_tree) refl)) (steps_on [] [] (log_entry tail_call.marks tail_call_start (tail_call_steps) tail_call_t0 tail_call_new tail_call_tree) tail_call_start (stands_after tail_call.marks tail_call_start (tail_call_steps) tail_call_t0 tail_call_new tail_call_tree) (stands_after tail_call.marks tail_call_start (tail_call_steps) tail_call_t0 tail_call_new tail_call_tree) (tail_call_next h) refl (begins (log_entry tail_call.marks tail_call_start (tail_call_steps) tail_call_t0 tail_call_new tail_call_tree ∷ []) (stands_after tail_call.marks tail_call_start (tail_call_steps) tail_call_t0 tail_call_new tail_call_tree))) (kept_by (log_entry tail_call.marks tail_call_start (tail_call_steps) tail_call_t0 tail_call_new tail_call_tree ∷ []) (codes "main.go") tail_call_t0.text tail_call_new.text [] [] refl refl run.none) refl
+tail_call_inlined h0 h = inlining_by the_limits (folder small_module tail_call.texts) tail_call.packages tail_call.texts [] tail_call.marks (stands_after tail_call.marks tail_call_start (tail_call_steps) tail_call_t0 tail_call_new tail_call_tree) (log_entry tail_call.marks tail_call_start (tail_call_steps) tail_call_t0 tail_call_new tail_call_tree ∷ []) (codes "main.go:12:9: inlined example.com/m.Split as tail\n") tail_call_marks (module_by (codes "example.com/m") (module_text small_module) (record { path = codes "main.go"; text = tail_call_t0; tree = tail_call_f0; reads = record { scans = h0; spells = file_spelled tail_call_t0.tokens tail_call_f0 tail_call_spelled0 } } ∷ []) (folder small_module tail_call.texts) tail_call.packages tail_call.texts small_module_is refl refl refl refl refl refl refl refl refl) (goes_on tail_call_start (stands_after tail_call.marks tail_call_start (tail_call_steps) tail_call_t0 tail_call_new tail_call_tree) (stands_after tail_call.marks tail_call_start (tail_call_steps) tail_call_t0 tail_call_new tail_call_tree) (log_entry tail_call.marks tail_call_start (tail_call_steps) tail_call_t0 tail_call_new tail_call_tree) [] (tail_call_next h) (ends (stands_after tail_call.marks tail_call_start (tail_call_steps) tail_call_t0 tail_call_new tail_call_tree) refl)) (steps_on [] [] (log_entry tail_call.marks tail_call_start (tail_call_steps) tail_call_t0 tail_call_new tail_call_tree) tail_call_start (stands_after tail_call.marks tail_call_start (tail_call_steps) tail_call_t0 tail_call_new tail_call_tree) (stands_after tail_call.marks tail_call_start (tail_call_steps) tail_call_t0 tail_call_new tail_call_tree) (tail_call_next h) refl (begins (log_entry tail_call.marks tail_call_start (tail_call_steps) tail_call_t0 tail_call_new tail_call_tree ∷ []) (stands_after tail_call.marks tail_call_start (tail_call_steps) tail_call_t0 tail_call_new tail_call_tree))) (kept_by (log_entry tail_call.marks tail_call_start (tail_call_steps) tail_call_t0 tail_call_new tail_call_tree ∷ []) (codes "main.go") tail_call_t0.text tail_call_new.text [] [] refl refl run.none) refl
 
 tail_call_t0_found : TokensOf tail_call_t0.text tail_call_t0.tokens tail_call_t0.comments
 unfolding piece_of lexeme_of longest_from next_of tokens_from comments_from keyword_spellings is_letter is_digit general_category general_category_rows value_in lib.Utf8.encode
@@ -86,7 +87,7 @@ tail_call_new_found : TokensOf tail_call_new.text tail_call_new.tokens tail_call
 unfolding piece_of lexeme_of longest_from next_of tokens_from comments_from keyword_spellings is_letter is_digit general_category general_category_rows value_in lib.Utf8.encode
 tail_call_new_found = tokens_by tail_call_new.text tail_call_new.tokens tail_call_new.comments refl refl refl
 
-tail_call_run : IsInlining the_limits 29 tail_call.packages tail_call.texts [] (((codes "main.go"), tail_call_new) ∷ []) (codes "main.go:12:9: inlined example.com/m.Split as tail\n")
+tail_call_run : IsInlining the_limits (folder small_module tail_call.texts) tail_call.packages tail_call.texts [] (((codes "main.go"), tail_call_new) ∷ []) (codes "main.go:12:9: inlined example.com/m.Split as tail\n")
 tail_call_run = tail_call_inlined tail_call_t0_found tail_call_new_found
 
 -- A composite literal in a header.
@@ -125,9 +126,9 @@ unfolding passes keyword_spellings is_inline digits reading header_call_steps
 header_call_next h = next_by header_call.marks header_call_start (header_call_steps) header_call_t0 header_call_new header_call_tree refl refl h refl refl
 
 -- the whole run, with the tokens of the texts
-header_call_inlined : (h0 : TokensOf header_call_t0.text header_call_t0.tokens header_call_t0.comments) (h : TokensOf header_call_new.text header_call_new.tokens header_call_new.comments) → IsInlining the_limits 29 header_call.packages header_call.texts [] (((codes "main.go"), header_call_new) ∷ []) (codes "main.go:10:5: inlined example.com/m.IsOne as expr\n")
+header_call_inlined : (h0 : TokensOf header_call_t0.text header_call_t0.tokens header_call_t0.comments) (h : TokensOf header_call_new.text header_call_new.tokens header_call_new.comments) → IsInlining the_limits (folder small_module header_call.texts) header_call.packages header_call.texts [] (((codes "main.go"), header_call_new) ∷ []) (codes "main.go:10:5: inlined example.com/m.IsOne as expr\n")
 unfolding passes keyword_spellings is_inline digits reading header_call_steps header_call_next
-header_call_inlined h0 h = inlining_by the_limits 29 header_call.packages header_call.texts [] header_call.marks (stands_after header_call.marks header_call_start (header_call_steps) header_call_t0 header_call_new header_call_tree) (log_entry header_call.marks header_call_start (header_call_steps) header_call_t0 header_call_new header_call_tree ∷ []) (codes "main.go:10:5: inlined example.com/m.IsOne as expr\n") header_call_marks (package_ _ _ (file _ _ header_call_t0 refl (record { scans = h0; spells = file_spelled header_call_t0.tokens header_call_f0 (header_call_spelled0) }) none) none) (goes_on header_call_start (stands_after header_call.marks header_call_start (header_call_steps) header_call_t0 header_call_new header_call_tree) (stands_after header_call.marks header_call_start (header_call_steps) header_call_t0 header_call_new header_call_tree) (log_entry header_call.marks header_call_start (header_call_steps) header_call_t0 header_call_new header_call_tree) [] (header_call_next h) (ends (stands_after header_call.marks header_call_start (header_call_steps) header_call_t0 header_call_new header_call_tree) refl)) (steps_on [] [] (log_entry header_call.marks header_call_start (header_call_steps) header_call_t0 header_call_new header_call_tree) header_call_start (stands_after header_call.marks header_call_start (header_call_steps) header_call_t0 header_call_new header_call_tree) (stands_after header_call.marks header_call_start (header_call_steps) header_call_t0 header_call_new header_call_tree) (header_call_next h) refl (begins (log_entry header_call.marks header_call_start (header_call_steps) header_call_t0 header_call_new header_call_tree ∷ []) (stands_after header_call.marks header_call_start (header_call_steps) header_call_t0 header_call_new header_call_tree))) (kept_by (log_entry header_call.marks header_call_start (header_call_steps) header_call_t0 header_call_new header_call_tree ∷ []) (codes "main.go") header_call_t0.text header_call_new.text [] [] refl refl run.none) refl
+header_call_inlined h0 h = inlining_by the_limits (folder small_module header_call.texts) header_call.packages header_call.texts [] header_call.marks (stands_after header_call.marks header_call_start (header_call_steps) header_call_t0 header_call_new header_call_tree) (log_entry header_call.marks header_call_start (header_call_steps) header_call_t0 header_call_new header_call_tree ∷ []) (codes "main.go:10:5: inlined example.com/m.IsOne as expr\n") header_call_marks (module_by (codes "example.com/m") (module_text small_module) (record { path = codes "main.go"; text = header_call_t0; tree = header_call_f0; reads = record { scans = h0; spells = file_spelled header_call_t0.tokens header_call_f0 header_call_spelled0 } } ∷ []) (folder small_module header_call.texts) header_call.packages header_call.texts small_module_is refl refl refl refl refl refl refl refl refl) (goes_on header_call_start (stands_after header_call.marks header_call_start (header_call_steps) header_call_t0 header_call_new header_call_tree) (stands_after header_call.marks header_call_start (header_call_steps) header_call_t0 header_call_new header_call_tree) (log_entry header_call.marks header_call_start (header_call_steps) header_call_t0 header_call_new header_call_tree) [] (header_call_next h) (ends (stands_after header_call.marks header_call_start (header_call_steps) header_call_t0 header_call_new header_call_tree) refl)) (steps_on [] [] (log_entry header_call.marks header_call_start (header_call_steps) header_call_t0 header_call_new header_call_tree) header_call_start (stands_after header_call.marks header_call_start (header_call_steps) header_call_t0 header_call_new header_call_tree) (stands_after header_call.marks header_call_start (header_call_steps) header_call_t0 header_call_new header_call_tree) (header_call_next h) refl (begins (log_entry header_call.marks header_call_start (header_call_steps) header_call_t0 header_call_new header_call_tree ∷ []) (stands_after header_call.marks header_call_start (header_call_steps) header_call_t0 header_call_new header_call_tree))) (kept_by (log_entry header_call.marks header_call_start (header_call_steps) header_call_t0 header_call_new header_call_tree ∷ []) (codes "main.go") header_call_t0.text header_call_new.text [] [] refl refl run.none) refl
 
 header_call_t0_found : TokensOf header_call_t0.text header_call_t0.tokens header_call_t0.comments
 unfolding piece_of lexeme_of longest_from next_of tokens_from comments_from keyword_spellings is_letter is_digit general_category general_category_rows value_in lib.Utf8.encode
@@ -137,7 +138,7 @@ header_call_new_found : TokensOf header_call_new.text header_call_new.tokens hea
 unfolding piece_of lexeme_of longest_from next_of tokens_from comments_from keyword_spellings is_letter is_digit general_category general_category_rows value_in lib.Utf8.encode
 header_call_new_found = tokens_by header_call_new.text header_call_new.tokens header_call_new.comments refl refl refl
 
-header_call_run : IsInlining the_limits 29 header_call.packages header_call.texts [] (((codes "main.go"), header_call_new) ∷ []) (codes "main.go:10:5: inlined example.com/m.IsOne as expr\n")
+header_call_run : IsInlining the_limits (folder small_module header_call.texts) header_call.packages header_call.texts [] (((codes "main.go"), header_call_new) ∷ []) (codes "main.go:10:5: inlined example.com/m.IsOne as expr\n")
 header_call_run = header_call_inlined header_call_t0_found header_call_new_found
 
 -- Both are bound at once.
@@ -176,9 +177,9 @@ unfolding passes keyword_spellings is_inline digits reading pair_block_steps
 pair_block_next h = next_by pair_block.marks pair_block_start (pair_block_steps) pair_block_t0 pair_block_new pair_block_tree refl refl h refl refl
 
 -- the whole run, with the tokens of the texts
-pair_block_inlined : (h0 : TokensOf pair_block_t0.text pair_block_t0.tokens pair_block_t0.comments) (h : TokensOf pair_block_new.text pair_block_new.tokens pair_block_new.comments) → IsInlining the_limits 29 pair_block.packages pair_block.texts [] (((codes "main.go"), pair_block_new) ∷ []) (codes "main.go:14:2: inlined example.com/m.Pair as block\n")
+pair_block_inlined : (h0 : TokensOf pair_block_t0.text pair_block_t0.tokens pair_block_t0.comments) (h : TokensOf pair_block_new.text pair_block_new.tokens pair_block_new.comments) → IsInlining the_limits (folder small_module pair_block.texts) pair_block.packages pair_block.texts [] (((codes "main.go"), pair_block_new) ∷ []) (codes "main.go:14:2: inlined example.com/m.Pair as block\n")
 unfolding passes keyword_spellings is_inline digits reading pair_block_steps pair_block_next
-pair_block_inlined h0 h = inlining_by the_limits 29 pair_block.packages pair_block.texts [] pair_block.marks (stands_after pair_block.marks pair_block_start (pair_block_steps) pair_block_t0 pair_block_new pair_block_tree) (log_entry pair_block.marks pair_block_start (pair_block_steps) pair_block_t0 pair_block_new pair_block_tree ∷ []) (codes "main.go:14:2: inlined example.com/m.Pair as block\n") pair_block_marks (package_ _ _ (file _ _ pair_block_t0 refl (record { scans = h0; spells = file_spelled pair_block_t0.tokens pair_block_f0 (pair_block_spelled0) }) none) none) (goes_on pair_block_start (stands_after pair_block.marks pair_block_start (pair_block_steps) pair_block_t0 pair_block_new pair_block_tree) (stands_after pair_block.marks pair_block_start (pair_block_steps) pair_block_t0 pair_block_new pair_block_tree) (log_entry pair_block.marks pair_block_start (pair_block_steps) pair_block_t0 pair_block_new pair_block_tree) [] (pair_block_next h) (ends (stands_after pair_block.marks pair_block_start (pair_block_steps) pair_block_t0 pair_block_new pair_block_tree) refl)) (steps_on [] [] (log_entry pair_block.marks pair_block_start (pair_block_steps) pair_block_t0 pair_block_new pair_block_tree) pair_block_start (stands_after pair_block.marks pair_block_start (pair_block_steps) pair_block_t0 pair_block_new pair_block_tree) (stands_after pair_block.marks pair_block_start (pair_block_steps) pair_block_t0 pair_block_new pair_block_tree) (pair_block_next h) refl (begins (log_entry pair_block.marks pair_block_start (pair_block_steps) pair_block_t0 pair_block_new pair_block_tree ∷ []) (stands_after pair_block.marks pair_block_start (pair_block_steps) pair_block_t0 pair_block_new pair_block_tree))) (kept_by (log_entry pair_block.marks pair_block_start (pair_block_steps) pair_block_t0 pair_block_new pair_block_tree ∷ []) (codes "main.go") pair_block_t0.text pair_block_new.text [] [] refl refl run.none) refl
+pair_block_inlined h0 h = inlining_by the_limits (folder small_module pair_block.texts) pair_block.packages pair_block.texts [] pair_block.marks (stands_after pair_block.marks pair_block_start (pair_block_steps) pair_block_t0 pair_block_new pair_block_tree) (log_entry pair_block.marks pair_block_start (pair_block_steps) pair_block_t0 pair_block_new pair_block_tree ∷ []) (codes "main.go:14:2: inlined example.com/m.Pair as block\n") pair_block_marks (module_by (codes "example.com/m") (module_text small_module) (record { path = codes "main.go"; text = pair_block_t0; tree = pair_block_f0; reads = record { scans = h0; spells = file_spelled pair_block_t0.tokens pair_block_f0 pair_block_spelled0 } } ∷ []) (folder small_module pair_block.texts) pair_block.packages pair_block.texts small_module_is refl refl refl refl refl refl refl refl refl) (goes_on pair_block_start (stands_after pair_block.marks pair_block_start (pair_block_steps) pair_block_t0 pair_block_new pair_block_tree) (stands_after pair_block.marks pair_block_start (pair_block_steps) pair_block_t0 pair_block_new pair_block_tree) (log_entry pair_block.marks pair_block_start (pair_block_steps) pair_block_t0 pair_block_new pair_block_tree) [] (pair_block_next h) (ends (stands_after pair_block.marks pair_block_start (pair_block_steps) pair_block_t0 pair_block_new pair_block_tree) refl)) (steps_on [] [] (log_entry pair_block.marks pair_block_start (pair_block_steps) pair_block_t0 pair_block_new pair_block_tree) pair_block_start (stands_after pair_block.marks pair_block_start (pair_block_steps) pair_block_t0 pair_block_new pair_block_tree) (stands_after pair_block.marks pair_block_start (pair_block_steps) pair_block_t0 pair_block_new pair_block_tree) (pair_block_next h) refl (begins (log_entry pair_block.marks pair_block_start (pair_block_steps) pair_block_t0 pair_block_new pair_block_tree ∷ []) (stands_after pair_block.marks pair_block_start (pair_block_steps) pair_block_t0 pair_block_new pair_block_tree))) (kept_by (log_entry pair_block.marks pair_block_start (pair_block_steps) pair_block_t0 pair_block_new pair_block_tree ∷ []) (codes "main.go") pair_block_t0.text pair_block_new.text [] [] refl refl run.none) refl
 
 pair_block_t0_found : TokensOf pair_block_t0.text pair_block_t0.tokens pair_block_t0.comments
 unfolding piece_of lexeme_of longest_from next_of tokens_from comments_from keyword_spellings is_letter is_digit general_category general_category_rows value_in lib.Utf8.encode
@@ -188,7 +189,7 @@ pair_block_new_found : TokensOf pair_block_new.text pair_block_new.tokens pair_b
 unfolding piece_of lexeme_of longest_from next_of tokens_from comments_from keyword_spellings is_letter is_digit general_category general_category_rows value_in lib.Utf8.encode
 pair_block_new_found = tokens_by pair_block_new.text pair_block_new.tokens pair_block_new.comments refl refl refl
 
-pair_block_run : IsInlining the_limits 29 pair_block.packages pair_block.texts [] (((codes "main.go"), pair_block_new) ∷ []) (codes "main.go:14:2: inlined example.com/m.Pair as block\n")
+pair_block_run : IsInlining the_limits (folder small_module pair_block.texts) pair_block.packages pair_block.texts [] (((codes "main.go"), pair_block_new) ∷ []) (codes "main.go:14:2: inlined example.com/m.Pair as block\n")
 pair_block_run = pair_block_inlined pair_block_t0_found pair_block_new_found
 
 -- Two signs would be one token.
@@ -227,9 +228,9 @@ unfolding passes keyword_spellings is_inline digits reading minus_call_steps
 minus_call_next h = next_by minus_call.marks minus_call_start (minus_call_steps) minus_call_t0 minus_call_new minus_call_tree refl refl h refl refl
 
 -- the whole run, with the tokens of the texts
-minus_call_inlined : (h0 : TokensOf minus_call_t0.text minus_call_t0.tokens minus_call_t0.comments) (h : TokensOf minus_call_new.text minus_call_new.tokens minus_call_new.comments) → IsInlining the_limits 29 minus_call.packages minus_call.texts [] (((codes "main.go"), minus_call_new) ∷ []) (codes "main.go:8:12: inlined example.com/m.Neg as expr\n")
+minus_call_inlined : (h0 : TokensOf minus_call_t0.text minus_call_t0.tokens minus_call_t0.comments) (h : TokensOf minus_call_new.text minus_call_new.tokens minus_call_new.comments) → IsInlining the_limits (folder small_module minus_call.texts) minus_call.packages minus_call.texts [] (((codes "main.go"), minus_call_new) ∷ []) (codes "main.go:8:12: inlined example.com/m.Neg as expr\n")
 unfolding passes keyword_spellings is_inline digits reading minus_call_steps minus_call_next
-minus_call_inlined h0 h = inlining_by the_limits 29 minus_call.packages minus_call.texts [] minus_call.marks (stands_after minus_call.marks minus_call_start (minus_call_steps) minus_call_t0 minus_call_new minus_call_tree) (log_entry minus_call.marks minus_call_start (minus_call_steps) minus_call_t0 minus_call_new minus_call_tree ∷ []) (codes "main.go:8:12: inlined example.com/m.Neg as expr\n") minus_call_marks (package_ _ _ (file _ _ minus_call_t0 refl (record { scans = h0; spells = file_spelled minus_call_t0.tokens minus_call_f0 (minus_call_spelled0) }) none) none) (goes_on minus_call_start (stands_after minus_call.marks minus_call_start (minus_call_steps) minus_call_t0 minus_call_new minus_call_tree) (stands_after minus_call.marks minus_call_start (minus_call_steps) minus_call_t0 minus_call_new minus_call_tree) (log_entry minus_call.marks minus_call_start (minus_call_steps) minus_call_t0 minus_call_new minus_call_tree) [] (minus_call_next h) (ends (stands_after minus_call.marks minus_call_start (minus_call_steps) minus_call_t0 minus_call_new minus_call_tree) refl)) (steps_on [] [] (log_entry minus_call.marks minus_call_start (minus_call_steps) minus_call_t0 minus_call_new minus_call_tree) minus_call_start (stands_after minus_call.marks minus_call_start (minus_call_steps) minus_call_t0 minus_call_new minus_call_tree) (stands_after minus_call.marks minus_call_start (minus_call_steps) minus_call_t0 minus_call_new minus_call_tree) (minus_call_next h) refl (begins (log_entry minus_call.marks minus_call_start (minus_call_steps) minus_call_t0 minus_call_new minus_call_tree ∷ []) (stands_after minus_call.marks minus_call_start (minus_call_steps) minus_call_t0 minus_call_new minus_call_tree))) (kept_by (log_entry minus_call.marks minus_call_start (minus_call_steps) minus_call_t0 minus_call_new minus_call_tree ∷ []) (codes "main.go") minus_call_t0.text minus_call_new.text [] [] refl refl run.none) refl
+minus_call_inlined h0 h = inlining_by the_limits (folder small_module minus_call.texts) minus_call.packages minus_call.texts [] minus_call.marks (stands_after minus_call.marks minus_call_start (minus_call_steps) minus_call_t0 minus_call_new minus_call_tree) (log_entry minus_call.marks minus_call_start (minus_call_steps) minus_call_t0 minus_call_new minus_call_tree ∷ []) (codes "main.go:8:12: inlined example.com/m.Neg as expr\n") minus_call_marks (module_by (codes "example.com/m") (module_text small_module) (record { path = codes "main.go"; text = minus_call_t0; tree = minus_call_f0; reads = record { scans = h0; spells = file_spelled minus_call_t0.tokens minus_call_f0 minus_call_spelled0 } } ∷ []) (folder small_module minus_call.texts) minus_call.packages minus_call.texts small_module_is refl refl refl refl refl refl refl refl refl) (goes_on minus_call_start (stands_after minus_call.marks minus_call_start (minus_call_steps) minus_call_t0 minus_call_new minus_call_tree) (stands_after minus_call.marks minus_call_start (minus_call_steps) minus_call_t0 minus_call_new minus_call_tree) (log_entry minus_call.marks minus_call_start (minus_call_steps) minus_call_t0 minus_call_new minus_call_tree) [] (minus_call_next h) (ends (stands_after minus_call.marks minus_call_start (minus_call_steps) minus_call_t0 minus_call_new minus_call_tree) refl)) (steps_on [] [] (log_entry minus_call.marks minus_call_start (minus_call_steps) minus_call_t0 minus_call_new minus_call_tree) minus_call_start (stands_after minus_call.marks minus_call_start (minus_call_steps) minus_call_t0 minus_call_new minus_call_tree) (stands_after minus_call.marks minus_call_start (minus_call_steps) minus_call_t0 minus_call_new minus_call_tree) (minus_call_next h) refl (begins (log_entry minus_call.marks minus_call_start (minus_call_steps) minus_call_t0 minus_call_new minus_call_tree ∷ []) (stands_after minus_call.marks minus_call_start (minus_call_steps) minus_call_t0 minus_call_new minus_call_tree))) (kept_by (log_entry minus_call.marks minus_call_start (minus_call_steps) minus_call_t0 minus_call_new minus_call_tree ∷ []) (codes "main.go") minus_call_t0.text minus_call_new.text [] [] refl refl run.none) refl
 
 minus_call_t0_found : TokensOf minus_call_t0.text minus_call_t0.tokens minus_call_t0.comments
 unfolding piece_of lexeme_of longest_from next_of tokens_from comments_from keyword_spellings is_letter is_digit general_category general_category_rows value_in lib.Utf8.encode
@@ -239,7 +240,7 @@ minus_call_new_found : TokensOf minus_call_new.text minus_call_new.tokens minus_
 unfolding piece_of lexeme_of longest_from next_of tokens_from comments_from keyword_spellings is_letter is_digit general_category general_category_rows value_in lib.Utf8.encode
 minus_call_new_found = tokens_by minus_call_new.text minus_call_new.tokens minus_call_new.comments refl refl refl
 
-minus_call_run : IsInlining the_limits 29 minus_call.packages minus_call.texts [] (((codes "main.go"), minus_call_new) ∷ []) (codes "main.go:8:12: inlined example.com/m.Neg as expr\n")
+minus_call_run : IsInlining the_limits (folder small_module minus_call.texts) minus_call.packages minus_call.texts [] (((codes "main.go"), minus_call_new) ∷ []) (codes "main.go:8:12: inlined example.com/m.Neg as expr\n")
 minus_call_run = minus_call_inlined minus_call_t0_found minus_call_new_found
 
 -- A bound parameter without a use.
@@ -278,9 +279,9 @@ unfolding passes keyword_spellings is_inline digits reading note_block_steps
 note_block_next h = next_by note_block.marks note_block_start (note_block_steps) note_block_t0 note_block_new note_block_tree refl refl h refl refl
 
 -- the whole run, with the tokens of the texts
-note_block_inlined : (h0 : TokensOf note_block_t0.text note_block_t0.tokens note_block_t0.comments) (h : TokensOf note_block_new.text note_block_new.tokens note_block_new.comments) → IsInlining the_limits 29 note_block.packages note_block.texts [] (((codes "main.go"), note_block_new) ∷ []) (codes "main.go:13:2: inlined example.com/m.Note as block\n")
+note_block_inlined : (h0 : TokensOf note_block_t0.text note_block_t0.tokens note_block_t0.comments) (h : TokensOf note_block_new.text note_block_new.tokens note_block_new.comments) → IsInlining the_limits (folder small_module note_block.texts) note_block.packages note_block.texts [] (((codes "main.go"), note_block_new) ∷ []) (codes "main.go:13:2: inlined example.com/m.Note as block\n")
 unfolding passes keyword_spellings is_inline digits reading note_block_steps note_block_next
-note_block_inlined h0 h = inlining_by the_limits 29 note_block.packages note_block.texts [] note_block.marks (stands_after note_block.marks note_block_start (note_block_steps) note_block_t0 note_block_new note_block_tree) (log_entry note_block.marks note_block_start (note_block_steps) note_block_t0 note_block_new note_block_tree ∷ []) (codes "main.go:13:2: inlined example.com/m.Note as block\n") note_block_marks (package_ _ _ (file _ _ note_block_t0 refl (record { scans = h0; spells = file_spelled note_block_t0.tokens note_block_f0 (note_block_spelled0) }) none) none) (goes_on note_block_start (stands_after note_block.marks note_block_start (note_block_steps) note_block_t0 note_block_new note_block_tree) (stands_after note_block.marks note_block_start (note_block_steps) note_block_t0 note_block_new note_block_tree) (log_entry note_block.marks note_block_start (note_block_steps) note_block_t0 note_block_new note_block_tree) [] (note_block_next h) (ends (stands_after note_block.marks note_block_start (note_block_steps) note_block_t0 note_block_new note_block_tree) refl)) (steps_on [] [] (log_entry note_block.marks note_block_start (note_block_steps) note_block_t0 note_block_new note_block_tree) note_block_start (stands_after note_block.marks note_block_start (note_block_steps) note_block_t0 note_block_new note_block_tree) (stands_after note_block.marks note_block_start (note_block_steps) note_block_t0 note_block_new note_block_tree) (note_block_next h) refl (begins (log_entry note_block.marks note_block_start (note_block_steps) note_block_t0 note_block_new note_block_tree ∷ []) (stands_after note_block.marks note_block_start (note_block_steps) note_block_t0 note_block_new note_block_tree))) (kept_by (log_entry note_block.marks note_block_start (note_block_steps) note_block_t0 note_block_new note_block_tree ∷ []) (codes "main.go") note_block_t0.text note_block_new.text [] [] refl refl run.none) refl
+note_block_inlined h0 h = inlining_by the_limits (folder small_module note_block.texts) note_block.packages note_block.texts [] note_block.marks (stands_after note_block.marks note_block_start (note_block_steps) note_block_t0 note_block_new note_block_tree) (log_entry note_block.marks note_block_start (note_block_steps) note_block_t0 note_block_new note_block_tree ∷ []) (codes "main.go:13:2: inlined example.com/m.Note as block\n") note_block_marks (module_by (codes "example.com/m") (module_text small_module) (record { path = codes "main.go"; text = note_block_t0; tree = note_block_f0; reads = record { scans = h0; spells = file_spelled note_block_t0.tokens note_block_f0 note_block_spelled0 } } ∷ []) (folder small_module note_block.texts) note_block.packages note_block.texts small_module_is refl refl refl refl refl refl refl refl refl) (goes_on note_block_start (stands_after note_block.marks note_block_start (note_block_steps) note_block_t0 note_block_new note_block_tree) (stands_after note_block.marks note_block_start (note_block_steps) note_block_t0 note_block_new note_block_tree) (log_entry note_block.marks note_block_start (note_block_steps) note_block_t0 note_block_new note_block_tree) [] (note_block_next h) (ends (stands_after note_block.marks note_block_start (note_block_steps) note_block_t0 note_block_new note_block_tree) refl)) (steps_on [] [] (log_entry note_block.marks note_block_start (note_block_steps) note_block_t0 note_block_new note_block_tree) note_block_start (stands_after note_block.marks note_block_start (note_block_steps) note_block_t0 note_block_new note_block_tree) (stands_after note_block.marks note_block_start (note_block_steps) note_block_t0 note_block_new note_block_tree) (note_block_next h) refl (begins (log_entry note_block.marks note_block_start (note_block_steps) note_block_t0 note_block_new note_block_tree ∷ []) (stands_after note_block.marks note_block_start (note_block_steps) note_block_t0 note_block_new note_block_tree))) (kept_by (log_entry note_block.marks note_block_start (note_block_steps) note_block_t0 note_block_new note_block_tree ∷ []) (codes "main.go") note_block_t0.text note_block_new.text [] [] refl refl run.none) refl
 
 note_block_t0_found : TokensOf note_block_t0.text note_block_t0.tokens note_block_t0.comments
 unfolding piece_of lexeme_of longest_from next_of tokens_from comments_from keyword_spellings is_letter is_digit general_category general_category_rows value_in lib.Utf8.encode
@@ -290,5 +291,5 @@ note_block_new_found : TokensOf note_block_new.text note_block_new.tokens note_b
 unfolding piece_of lexeme_of longest_from next_of tokens_from comments_from keyword_spellings is_letter is_digit general_category general_category_rows value_in lib.Utf8.encode
 note_block_new_found = tokens_by note_block_new.text note_block_new.tokens note_block_new.comments refl refl refl
 
-note_block_run : IsInlining the_limits 29 note_block.packages note_block.texts [] (((codes "main.go"), note_block_new) ∷ []) (codes "main.go:13:2: inlined example.com/m.Note as block\n")
+note_block_run : IsInlining the_limits (folder small_module note_block.texts) note_block.packages note_block.texts [] (((codes "main.go"), note_block_new) ∷ []) (codes "main.go:13:2: inlined example.com/m.Note as block\n")
 note_block_run = note_block_inlined note_block_t0_found note_block_new_found

@@ -24,10 +24,11 @@ use Rattle.run_rules.specs.Run.{Standing, Next, step_in, goes_on, ends, the_limi
 use Rattle.run_rules.specs.Run as run
 use Rattle.go_read.proofs.Whole.{file_spelled}
 use Rattle.std.specs.Fmt.{digits}
-use Rattle.run_rules.specs.Inlining.{standing_as_read, none, file, package_, begins, steps_on, IsInlining}
+use Rattle.run_rules.specs.Inlining.{standing_as_read, begins, steps_on, IsInlining}
 use Rattle.run_rules.proofs.CaseTools.{from, nmf}
 use Rattle.go_words.specs.Tokens.{TokensOf}
 use Rattle.run_rules.proofs.Instances.{stands_after, log_entry, next_by, kept_by, inlining_by}
+use Rattle.run_rules.proofs.ModulesRead.{module_by, module_text, folder, small_module, small_module_is}
 use Rattle.ucd_category.specs.GeneralCategory.{general_category}
 use Rattle.ucd_category.specs.GeneralCategoryRows.{general_category_rows}
 use Rattle.ucd_table.specs.Rows.{value_in}
@@ -73,9 +74,9 @@ unfolding passes keyword_spellings is_inline digits reading bound_constant_steps
 bound_constant_next h = next_by bound_constant.marks bound_constant_start (bound_constant_steps) bound_constant_t0 bound_constant_new bound_constant_tree refl refl h refl refl
 
 -- the whole run, with the tokens of the texts
-bound_constant_inlined : (h0 : TokensOf bound_constant_t0.text bound_constant_t0.tokens bound_constant_t0.comments) (h : TokensOf bound_constant_new.text bound_constant_new.tokens bound_constant_new.comments) → IsInlining the_limits 29 bound_constant.packages bound_constant.texts [] (((codes "main.go"), bound_constant_new) ∷ []) (codes "main.go:9:10: inlined example.com/m.Inc as literal\n")
+bound_constant_inlined : (h0 : TokensOf bound_constant_t0.text bound_constant_t0.tokens bound_constant_t0.comments) (h : TokensOf bound_constant_new.text bound_constant_new.tokens bound_constant_new.comments) → IsInlining the_limits (folder small_module bound_constant.texts) bound_constant.packages bound_constant.texts [] (((codes "main.go"), bound_constant_new) ∷ []) (codes "main.go:9:10: inlined example.com/m.Inc as literal\n")
 unfolding passes keyword_spellings is_inline digits reading bound_constant_steps bound_constant_next
-bound_constant_inlined h0 h = inlining_by the_limits 29 bound_constant.packages bound_constant.texts [] bound_constant.marks (stands_after bound_constant.marks bound_constant_start (bound_constant_steps) bound_constant_t0 bound_constant_new bound_constant_tree) (log_entry bound_constant.marks bound_constant_start (bound_constant_steps) bound_constant_t0 bound_constant_new bound_constant_tree ∷ []) (codes "main.go:9:10: inlined example.com/m.Inc as literal\n") bound_constant_marks (package_ _ _ (file _ _ bound_constant_t0 refl (record { scans = h0; spells = file_spelled bound_constant_t0.tokens bound_constant_f0 (bound_constant_spelled0) }) none) none) (goes_on bound_constant_start (stands_after bound_constant.marks bound_constant_start (bound_constant_steps) bound_constant_t0 bound_constant_new bound_constant_tree) (stands_after bound_constant.marks bound_constant_start (bound_constant_steps) bound_constant_t0 bound_constant_new bound_constant_tree) (log_entry bound_constant.marks bound_constant_start (bound_constant_steps) bound_constant_t0 bound_constant_new bound_constant_tree) [] (bound_constant_next h) (ends (stands_after bound_constant.marks bound_constant_start (bound_constant_steps) bound_constant_t0 bound_constant_new bound_constant_tree) refl)) (steps_on [] [] (log_entry bound_constant.marks bound_constant_start (bound_constant_steps) bound_constant_t0 bound_constant_new bound_constant_tree) bound_constant_start (stands_after bound_constant.marks bound_constant_start (bound_constant_steps) bound_constant_t0 bound_constant_new bound_constant_tree) (stands_after bound_constant.marks bound_constant_start (bound_constant_steps) bound_constant_t0 bound_constant_new bound_constant_tree) (bound_constant_next h) refl (begins (log_entry bound_constant.marks bound_constant_start (bound_constant_steps) bound_constant_t0 bound_constant_new bound_constant_tree ∷ []) (stands_after bound_constant.marks bound_constant_start (bound_constant_steps) bound_constant_t0 bound_constant_new bound_constant_tree))) (kept_by (log_entry bound_constant.marks bound_constant_start (bound_constant_steps) bound_constant_t0 bound_constant_new bound_constant_tree ∷ []) (codes "main.go") bound_constant_t0.text bound_constant_new.text [] [] refl refl run.none) refl
+bound_constant_inlined h0 h = inlining_by the_limits (folder small_module bound_constant.texts) bound_constant.packages bound_constant.texts [] bound_constant.marks (stands_after bound_constant.marks bound_constant_start (bound_constant_steps) bound_constant_t0 bound_constant_new bound_constant_tree) (log_entry bound_constant.marks bound_constant_start (bound_constant_steps) bound_constant_t0 bound_constant_new bound_constant_tree ∷ []) (codes "main.go:9:10: inlined example.com/m.Inc as literal\n") bound_constant_marks (module_by (codes "example.com/m") (module_text small_module) (record { path = codes "main.go"; text = bound_constant_t0; tree = bound_constant_f0; reads = record { scans = h0; spells = file_spelled bound_constant_t0.tokens bound_constant_f0 bound_constant_spelled0 } } ∷ []) (folder small_module bound_constant.texts) bound_constant.packages bound_constant.texts small_module_is refl refl refl refl refl refl refl refl refl) (goes_on bound_constant_start (stands_after bound_constant.marks bound_constant_start (bound_constant_steps) bound_constant_t0 bound_constant_new bound_constant_tree) (stands_after bound_constant.marks bound_constant_start (bound_constant_steps) bound_constant_t0 bound_constant_new bound_constant_tree) (log_entry bound_constant.marks bound_constant_start (bound_constant_steps) bound_constant_t0 bound_constant_new bound_constant_tree) [] (bound_constant_next h) (ends (stands_after bound_constant.marks bound_constant_start (bound_constant_steps) bound_constant_t0 bound_constant_new bound_constant_tree) refl)) (steps_on [] [] (log_entry bound_constant.marks bound_constant_start (bound_constant_steps) bound_constant_t0 bound_constant_new bound_constant_tree) bound_constant_start (stands_after bound_constant.marks bound_constant_start (bound_constant_steps) bound_constant_t0 bound_constant_new bound_constant_tree) (stands_after bound_constant.marks bound_constant_start (bound_constant_steps) bound_constant_t0 bound_constant_new bound_constant_tree) (bound_constant_next h) refl (begins (log_entry bound_constant.marks bound_constant_start (bound_constant_steps) bound_constant_t0 bound_constant_new bound_constant_tree ∷ []) (stands_after bound_constant.marks bound_constant_start (bound_constant_steps) bound_constant_t0 bound_constant_new bound_constant_tree))) (kept_by (log_entry bound_constant.marks bound_constant_start (bound_constant_steps) bound_constant_t0 bound_constant_new bound_constant_tree ∷ []) (codes "main.go") bound_constant_t0.text bound_constant_new.text [] [] refl refl run.none) refl
 
 bound_constant_t0_found : TokensOf bound_constant_t0.text bound_constant_t0.tokens bound_constant_t0.comments
 unfolding piece_of lexeme_of longest_from next_of tokens_from comments_from keyword_spellings is_letter is_digit general_category general_category_rows value_in lib.Utf8.encode
@@ -85,7 +86,7 @@ bound_constant_new_found : TokensOf bound_constant_new.text bound_constant_new.t
 unfolding piece_of lexeme_of longest_from next_of tokens_from comments_from keyword_spellings is_letter is_digit general_category general_category_rows value_in lib.Utf8.encode
 bound_constant_new_found = tokens_by bound_constant_new.text bound_constant_new.tokens bound_constant_new.comments refl refl refl
 
-bound_constant_run : IsInlining the_limits 29 bound_constant.packages bound_constant.texts [] (((codes "main.go"), bound_constant_new) ∷ []) (codes "main.go:9:10: inlined example.com/m.Inc as literal\n")
+bound_constant_run : IsInlining the_limits (folder small_module bound_constant.texts) bound_constant.packages bound_constant.texts [] (((codes "main.go"), bound_constant_new) ∷ []) (codes "main.go:9:10: inlined example.com/m.Inc as literal\n")
 bound_constant_run = bound_constant_inlined bound_constant_t0_found bound_constant_new_found
 
 -- What may panic and has no use is bound.
@@ -124,9 +125,9 @@ unfolding passes keyword_spellings is_inline digits reading bound_index_steps
 bound_index_next h = next_by bound_index.marks bound_index_start (bound_index_steps) bound_index_t0 bound_index_new bound_index_tree refl refl h refl refl
 
 -- the whole run, with the tokens of the texts
-bound_index_inlined : (h0 : TokensOf bound_index_t0.text bound_index_t0.tokens bound_index_t0.comments) (h : TokensOf bound_index_new.text bound_index_new.tokens bound_index_new.comments) → IsInlining the_limits 29 bound_index.packages bound_index.texts [] (((codes "main.go"), bound_index_new) ∷ []) (codes "main.go:10:10: inlined example.com/m.First as literal\n")
+bound_index_inlined : (h0 : TokensOf bound_index_t0.text bound_index_t0.tokens bound_index_t0.comments) (h : TokensOf bound_index_new.text bound_index_new.tokens bound_index_new.comments) → IsInlining the_limits (folder small_module bound_index.texts) bound_index.packages bound_index.texts [] (((codes "main.go"), bound_index_new) ∷ []) (codes "main.go:10:10: inlined example.com/m.First as literal\n")
 unfolding passes keyword_spellings is_inline digits reading bound_index_steps bound_index_next
-bound_index_inlined h0 h = inlining_by the_limits 29 bound_index.packages bound_index.texts [] bound_index.marks (stands_after bound_index.marks bound_index_start (bound_index_steps) bound_index_t0 bound_index_new bound_index_tree) (log_entry bound_index.marks bound_index_start (bound_index_steps) bound_index_t0 bound_index_new bound_index_tree ∷ []) (codes "main.go:10:10: inlined example.com/m.First as literal\n") bound_index_marks (package_ _ _ (file _ _ bound_index_t0 refl (record { scans = h0; spells = file_spelled bound_index_t0.tokens bound_index_f0 (bound_index_spelled0) }) none) none) (goes_on bound_index_start (stands_after bound_index.marks bound_index_start (bound_index_steps) bound_index_t0 bound_index_new bound_index_tree) (stands_after bound_index.marks bound_index_start (bound_index_steps) bound_index_t0 bound_index_new bound_index_tree) (log_entry bound_index.marks bound_index_start (bound_index_steps) bound_index_t0 bound_index_new bound_index_tree) [] (bound_index_next h) (ends (stands_after bound_index.marks bound_index_start (bound_index_steps) bound_index_t0 bound_index_new bound_index_tree) refl)) (steps_on [] [] (log_entry bound_index.marks bound_index_start (bound_index_steps) bound_index_t0 bound_index_new bound_index_tree) bound_index_start (stands_after bound_index.marks bound_index_start (bound_index_steps) bound_index_t0 bound_index_new bound_index_tree) (stands_after bound_index.marks bound_index_start (bound_index_steps) bound_index_t0 bound_index_new bound_index_tree) (bound_index_next h) refl (begins (log_entry bound_index.marks bound_index_start (bound_index_steps) bound_index_t0 bound_index_new bound_index_tree ∷ []) (stands_after bound_index.marks bound_index_start (bound_index_steps) bound_index_t0 bound_index_new bound_index_tree))) (kept_by (log_entry bound_index.marks bound_index_start (bound_index_steps) bound_index_t0 bound_index_new bound_index_tree ∷ []) (codes "main.go") bound_index_t0.text bound_index_new.text [] [] refl refl run.none) refl
+bound_index_inlined h0 h = inlining_by the_limits (folder small_module bound_index.texts) bound_index.packages bound_index.texts [] bound_index.marks (stands_after bound_index.marks bound_index_start (bound_index_steps) bound_index_t0 bound_index_new bound_index_tree) (log_entry bound_index.marks bound_index_start (bound_index_steps) bound_index_t0 bound_index_new bound_index_tree ∷ []) (codes "main.go:10:10: inlined example.com/m.First as literal\n") bound_index_marks (module_by (codes "example.com/m") (module_text small_module) (record { path = codes "main.go"; text = bound_index_t0; tree = bound_index_f0; reads = record { scans = h0; spells = file_spelled bound_index_t0.tokens bound_index_f0 bound_index_spelled0 } } ∷ []) (folder small_module bound_index.texts) bound_index.packages bound_index.texts small_module_is refl refl refl refl refl refl refl refl refl) (goes_on bound_index_start (stands_after bound_index.marks bound_index_start (bound_index_steps) bound_index_t0 bound_index_new bound_index_tree) (stands_after bound_index.marks bound_index_start (bound_index_steps) bound_index_t0 bound_index_new bound_index_tree) (log_entry bound_index.marks bound_index_start (bound_index_steps) bound_index_t0 bound_index_new bound_index_tree) [] (bound_index_next h) (ends (stands_after bound_index.marks bound_index_start (bound_index_steps) bound_index_t0 bound_index_new bound_index_tree) refl)) (steps_on [] [] (log_entry bound_index.marks bound_index_start (bound_index_steps) bound_index_t0 bound_index_new bound_index_tree) bound_index_start (stands_after bound_index.marks bound_index_start (bound_index_steps) bound_index_t0 bound_index_new bound_index_tree) (stands_after bound_index.marks bound_index_start (bound_index_steps) bound_index_t0 bound_index_new bound_index_tree) (bound_index_next h) refl (begins (log_entry bound_index.marks bound_index_start (bound_index_steps) bound_index_t0 bound_index_new bound_index_tree ∷ []) (stands_after bound_index.marks bound_index_start (bound_index_steps) bound_index_t0 bound_index_new bound_index_tree))) (kept_by (log_entry bound_index.marks bound_index_start (bound_index_steps) bound_index_t0 bound_index_new bound_index_tree ∷ []) (codes "main.go") bound_index_t0.text bound_index_new.text [] [] refl refl run.none) refl
 
 bound_index_t0_found : TokensOf bound_index_t0.text bound_index_t0.tokens bound_index_t0.comments
 unfolding piece_of lexeme_of longest_from next_of tokens_from comments_from keyword_spellings is_letter is_digit general_category general_category_rows value_in lib.Utf8.encode
@@ -136,7 +137,7 @@ bound_index_new_found : TokensOf bound_index_new.text bound_index_new.tokens bou
 unfolding piece_of lexeme_of longest_from next_of tokens_from comments_from keyword_spellings is_letter is_digit general_category general_category_rows value_in lib.Utf8.encode
 bound_index_new_found = tokens_by bound_index_new.text bound_index_new.tokens bound_index_new.comments refl refl refl
 
-bound_index_run : IsInlining the_limits 29 bound_index.packages bound_index.texts [] (((codes "main.go"), bound_index_new) ∷ []) (codes "main.go:10:10: inlined example.com/m.First as literal\n")
+bound_index_run : IsInlining the_limits (folder small_module bound_index.texts) bound_index.packages bound_index.texts [] (((codes "main.go"), bound_index_new) ∷ []) (codes "main.go:10:10: inlined example.com/m.First as literal\n")
 bound_index_run = bound_index_inlined bound_index_t0_found bound_index_new_found
 
 -- What acts and is used twice is bound.
@@ -175,9 +176,9 @@ unfolding passes keyword_spellings is_inline digits reading bound_call_steps
 bound_call_next h = next_by bound_call.marks bound_call_start (bound_call_steps) bound_call_t0 bound_call_new bound_call_tree refl refl h refl refl
 
 -- the whole run, with the tokens of the texts
-bound_call_inlined : (h0 : TokensOf bound_call_t0.text bound_call_t0.tokens bound_call_t0.comments) (h : TokensOf bound_call_new.text bound_call_new.tokens bound_call_new.comments) → IsInlining the_limits 29 bound_call.packages bound_call.texts [] (((codes "main.go"), bound_call_new) ∷ []) (codes "main.go:13:10: inlined example.com/m.Twice as literal\n")
+bound_call_inlined : (h0 : TokensOf bound_call_t0.text bound_call_t0.tokens bound_call_t0.comments) (h : TokensOf bound_call_new.text bound_call_new.tokens bound_call_new.comments) → IsInlining the_limits (folder small_module bound_call.texts) bound_call.packages bound_call.texts [] (((codes "main.go"), bound_call_new) ∷ []) (codes "main.go:13:10: inlined example.com/m.Twice as literal\n")
 unfolding passes keyword_spellings is_inline digits reading bound_call_steps bound_call_next
-bound_call_inlined h0 h = inlining_by the_limits 29 bound_call.packages bound_call.texts [] bound_call.marks (stands_after bound_call.marks bound_call_start (bound_call_steps) bound_call_t0 bound_call_new bound_call_tree) (log_entry bound_call.marks bound_call_start (bound_call_steps) bound_call_t0 bound_call_new bound_call_tree ∷ []) (codes "main.go:13:10: inlined example.com/m.Twice as literal\n") bound_call_marks (package_ _ _ (file _ _ bound_call_t0 refl (record { scans = h0; spells = file_spelled bound_call_t0.tokens bound_call_f0 (bound_call_spelled0) }) none) none) (goes_on bound_call_start (stands_after bound_call.marks bound_call_start (bound_call_steps) bound_call_t0 bound_call_new bound_call_tree) (stands_after bound_call.marks bound_call_start (bound_call_steps) bound_call_t0 bound_call_new bound_call_tree) (log_entry bound_call.marks bound_call_start (bound_call_steps) bound_call_t0 bound_call_new bound_call_tree) [] (bound_call_next h) (ends (stands_after bound_call.marks bound_call_start (bound_call_steps) bound_call_t0 bound_call_new bound_call_tree) refl)) (steps_on [] [] (log_entry bound_call.marks bound_call_start (bound_call_steps) bound_call_t0 bound_call_new bound_call_tree) bound_call_start (stands_after bound_call.marks bound_call_start (bound_call_steps) bound_call_t0 bound_call_new bound_call_tree) (stands_after bound_call.marks bound_call_start (bound_call_steps) bound_call_t0 bound_call_new bound_call_tree) (bound_call_next h) refl (begins (log_entry bound_call.marks bound_call_start (bound_call_steps) bound_call_t0 bound_call_new bound_call_tree ∷ []) (stands_after bound_call.marks bound_call_start (bound_call_steps) bound_call_t0 bound_call_new bound_call_tree))) (kept_by (log_entry bound_call.marks bound_call_start (bound_call_steps) bound_call_t0 bound_call_new bound_call_tree ∷ []) (codes "main.go") bound_call_t0.text bound_call_new.text [] [] refl refl run.none) refl
+bound_call_inlined h0 h = inlining_by the_limits (folder small_module bound_call.texts) bound_call.packages bound_call.texts [] bound_call.marks (stands_after bound_call.marks bound_call_start (bound_call_steps) bound_call_t0 bound_call_new bound_call_tree) (log_entry bound_call.marks bound_call_start (bound_call_steps) bound_call_t0 bound_call_new bound_call_tree ∷ []) (codes "main.go:13:10: inlined example.com/m.Twice as literal\n") bound_call_marks (module_by (codes "example.com/m") (module_text small_module) (record { path = codes "main.go"; text = bound_call_t0; tree = bound_call_f0; reads = record { scans = h0; spells = file_spelled bound_call_t0.tokens bound_call_f0 bound_call_spelled0 } } ∷ []) (folder small_module bound_call.texts) bound_call.packages bound_call.texts small_module_is refl refl refl refl refl refl refl refl refl) (goes_on bound_call_start (stands_after bound_call.marks bound_call_start (bound_call_steps) bound_call_t0 bound_call_new bound_call_tree) (stands_after bound_call.marks bound_call_start (bound_call_steps) bound_call_t0 bound_call_new bound_call_tree) (log_entry bound_call.marks bound_call_start (bound_call_steps) bound_call_t0 bound_call_new bound_call_tree) [] (bound_call_next h) (ends (stands_after bound_call.marks bound_call_start (bound_call_steps) bound_call_t0 bound_call_new bound_call_tree) refl)) (steps_on [] [] (log_entry bound_call.marks bound_call_start (bound_call_steps) bound_call_t0 bound_call_new bound_call_tree) bound_call_start (stands_after bound_call.marks bound_call_start (bound_call_steps) bound_call_t0 bound_call_new bound_call_tree) (stands_after bound_call.marks bound_call_start (bound_call_steps) bound_call_t0 bound_call_new bound_call_tree) (bound_call_next h) refl (begins (log_entry bound_call.marks bound_call_start (bound_call_steps) bound_call_t0 bound_call_new bound_call_tree ∷ []) (stands_after bound_call.marks bound_call_start (bound_call_steps) bound_call_t0 bound_call_new bound_call_tree))) (kept_by (log_entry bound_call.marks bound_call_start (bound_call_steps) bound_call_t0 bound_call_new bound_call_tree ∷ []) (codes "main.go") bound_call_t0.text bound_call_new.text [] [] refl refl run.none) refl
 
 bound_call_t0_found : TokensOf bound_call_t0.text bound_call_t0.tokens bound_call_t0.comments
 unfolding piece_of lexeme_of longest_from next_of tokens_from comments_from keyword_spellings is_letter is_digit general_category general_category_rows value_in lib.Utf8.encode
@@ -187,7 +188,7 @@ bound_call_new_found : TokensOf bound_call_new.text bound_call_new.tokens bound_
 unfolding piece_of lexeme_of longest_from next_of tokens_from comments_from keyword_spellings is_letter is_digit general_category general_category_rows value_in lib.Utf8.encode
 bound_call_new_found = tokens_by bound_call_new.text bound_call_new.tokens bound_call_new.comments refl refl refl
 
-bound_call_run : IsInlining the_limits 29 bound_call.packages bound_call.texts [] (((codes "main.go"), bound_call_new) ∷ []) (codes "main.go:13:10: inlined example.com/m.Twice as literal\n")
+bound_call_run : IsInlining the_limits (folder small_module bound_call.texts) bound_call.packages bound_call.texts [] (((codes "main.go"), bound_call_new) ∷ []) (codes "main.go:13:10: inlined example.com/m.Twice as literal\n")
 bound_call_run = bound_call_inlined bound_call_t0_found bound_call_new_found
 
 -- The order of two arguments that act stays.
@@ -226,9 +227,9 @@ unfolding passes keyword_spellings is_inline digits reading bound_first_steps
 bound_first_next h = next_by bound_first.marks bound_first_start (bound_first_steps) bound_first_t0 bound_first_new bound_first_tree refl refl h refl refl
 
 -- the whole run, with the tokens of the texts
-bound_first_inlined : (h0 : TokensOf bound_first_t0.text bound_first_t0.tokens bound_first_t0.comments) (h : TokensOf bound_first_new.text bound_first_new.tokens bound_first_new.comments) → IsInlining the_limits 29 bound_first.packages bound_first.texts [] (((codes "main.go"), bound_first_new) ∷ []) (codes "main.go:13:10: inlined example.com/m.Less as literal\n")
+bound_first_inlined : (h0 : TokensOf bound_first_t0.text bound_first_t0.tokens bound_first_t0.comments) (h : TokensOf bound_first_new.text bound_first_new.tokens bound_first_new.comments) → IsInlining the_limits (folder small_module bound_first.texts) bound_first.packages bound_first.texts [] (((codes "main.go"), bound_first_new) ∷ []) (codes "main.go:13:10: inlined example.com/m.Less as literal\n")
 unfolding passes keyword_spellings is_inline digits reading bound_first_steps bound_first_next
-bound_first_inlined h0 h = inlining_by the_limits 29 bound_first.packages bound_first.texts [] bound_first.marks (stands_after bound_first.marks bound_first_start (bound_first_steps) bound_first_t0 bound_first_new bound_first_tree) (log_entry bound_first.marks bound_first_start (bound_first_steps) bound_first_t0 bound_first_new bound_first_tree ∷ []) (codes "main.go:13:10: inlined example.com/m.Less as literal\n") bound_first_marks (package_ _ _ (file _ _ bound_first_t0 refl (record { scans = h0; spells = file_spelled bound_first_t0.tokens bound_first_f0 (bound_first_spelled0) }) none) none) (goes_on bound_first_start (stands_after bound_first.marks bound_first_start (bound_first_steps) bound_first_t0 bound_first_new bound_first_tree) (stands_after bound_first.marks bound_first_start (bound_first_steps) bound_first_t0 bound_first_new bound_first_tree) (log_entry bound_first.marks bound_first_start (bound_first_steps) bound_first_t0 bound_first_new bound_first_tree) [] (bound_first_next h) (ends (stands_after bound_first.marks bound_first_start (bound_first_steps) bound_first_t0 bound_first_new bound_first_tree) refl)) (steps_on [] [] (log_entry bound_first.marks bound_first_start (bound_first_steps) bound_first_t0 bound_first_new bound_first_tree) bound_first_start (stands_after bound_first.marks bound_first_start (bound_first_steps) bound_first_t0 bound_first_new bound_first_tree) (stands_after bound_first.marks bound_first_start (bound_first_steps) bound_first_t0 bound_first_new bound_first_tree) (bound_first_next h) refl (begins (log_entry bound_first.marks bound_first_start (bound_first_steps) bound_first_t0 bound_first_new bound_first_tree ∷ []) (stands_after bound_first.marks bound_first_start (bound_first_steps) bound_first_t0 bound_first_new bound_first_tree))) (kept_by (log_entry bound_first.marks bound_first_start (bound_first_steps) bound_first_t0 bound_first_new bound_first_tree ∷ []) (codes "main.go") bound_first_t0.text bound_first_new.text [] [] refl refl run.none) refl
+bound_first_inlined h0 h = inlining_by the_limits (folder small_module bound_first.texts) bound_first.packages bound_first.texts [] bound_first.marks (stands_after bound_first.marks bound_first_start (bound_first_steps) bound_first_t0 bound_first_new bound_first_tree) (log_entry bound_first.marks bound_first_start (bound_first_steps) bound_first_t0 bound_first_new bound_first_tree ∷ []) (codes "main.go:13:10: inlined example.com/m.Less as literal\n") bound_first_marks (module_by (codes "example.com/m") (module_text small_module) (record { path = codes "main.go"; text = bound_first_t0; tree = bound_first_f0; reads = record { scans = h0; spells = file_spelled bound_first_t0.tokens bound_first_f0 bound_first_spelled0 } } ∷ []) (folder small_module bound_first.texts) bound_first.packages bound_first.texts small_module_is refl refl refl refl refl refl refl refl refl) (goes_on bound_first_start (stands_after bound_first.marks bound_first_start (bound_first_steps) bound_first_t0 bound_first_new bound_first_tree) (stands_after bound_first.marks bound_first_start (bound_first_steps) bound_first_t0 bound_first_new bound_first_tree) (log_entry bound_first.marks bound_first_start (bound_first_steps) bound_first_t0 bound_first_new bound_first_tree) [] (bound_first_next h) (ends (stands_after bound_first.marks bound_first_start (bound_first_steps) bound_first_t0 bound_first_new bound_first_tree) refl)) (steps_on [] [] (log_entry bound_first.marks bound_first_start (bound_first_steps) bound_first_t0 bound_first_new bound_first_tree) bound_first_start (stands_after bound_first.marks bound_first_start (bound_first_steps) bound_first_t0 bound_first_new bound_first_tree) (stands_after bound_first.marks bound_first_start (bound_first_steps) bound_first_t0 bound_first_new bound_first_tree) (bound_first_next h) refl (begins (log_entry bound_first.marks bound_first_start (bound_first_steps) bound_first_t0 bound_first_new bound_first_tree ∷ []) (stands_after bound_first.marks bound_first_start (bound_first_steps) bound_first_t0 bound_first_new bound_first_tree))) (kept_by (log_entry bound_first.marks bound_first_start (bound_first_steps) bound_first_t0 bound_first_new bound_first_tree ∷ []) (codes "main.go") bound_first_t0.text bound_first_new.text [] [] refl refl run.none) refl
 
 bound_first_t0_found : TokensOf bound_first_t0.text bound_first_t0.tokens bound_first_t0.comments
 unfolding piece_of lexeme_of longest_from next_of tokens_from comments_from keyword_spellings is_letter is_digit general_category general_category_rows value_in lib.Utf8.encode
@@ -238,7 +239,7 @@ bound_first_new_found : TokensOf bound_first_new.text bound_first_new.tokens bou
 unfolding piece_of lexeme_of longest_from next_of tokens_from comments_from keyword_spellings is_letter is_digit general_category general_category_rows value_in lib.Utf8.encode
 bound_first_new_found = tokens_by bound_first_new.text bound_first_new.tokens bound_first_new.comments refl refl refl
 
-bound_first_run : IsInlining the_limits 29 bound_first.packages bound_first.texts [] (((codes "main.go"), bound_first_new) ∷ []) (codes "main.go:13:10: inlined example.com/m.Less as literal\n")
+bound_first_run : IsInlining the_limits (folder small_module bound_first.texts) bound_first.packages bound_first.texts [] (((codes "main.go"), bound_first_new) ∷ []) (codes "main.go:13:10: inlined example.com/m.Less as literal\n")
 bound_first_run = bound_first_inlined bound_first_t0_found bound_first_new_found
 
 -- A constant that gives the statement a constant fault.
@@ -277,9 +278,9 @@ unfolding passes keyword_spellings is_inline digits reading faulty_operand_steps
 faulty_operand_next h = next_by faulty_operand.marks faulty_operand_start (faulty_operand_steps) faulty_operand_t0 faulty_operand_new faulty_operand_tree refl refl h refl refl
 
 -- the whole run, with the tokens of the texts
-faulty_operand_inlined : (h0 : TokensOf faulty_operand_t0.text faulty_operand_t0.tokens faulty_operand_t0.comments) (h : TokensOf faulty_operand_new.text faulty_operand_new.tokens faulty_operand_new.comments) → IsInlining the_limits 29 faulty_operand.packages faulty_operand.texts [] (((codes "main.go"), faulty_operand_new) ∷ []) (codes "main.go:8:14: inlined example.com/m.Zero as literal\n")
+faulty_operand_inlined : (h0 : TokensOf faulty_operand_t0.text faulty_operand_t0.tokens faulty_operand_t0.comments) (h : TokensOf faulty_operand_new.text faulty_operand_new.tokens faulty_operand_new.comments) → IsInlining the_limits (folder small_module faulty_operand.texts) faulty_operand.packages faulty_operand.texts [] (((codes "main.go"), faulty_operand_new) ∷ []) (codes "main.go:8:14: inlined example.com/m.Zero as literal\n")
 unfolding passes keyword_spellings is_inline digits reading faulty_operand_steps faulty_operand_next
-faulty_operand_inlined h0 h = inlining_by the_limits 29 faulty_operand.packages faulty_operand.texts [] faulty_operand.marks (stands_after faulty_operand.marks faulty_operand_start (faulty_operand_steps) faulty_operand_t0 faulty_operand_new faulty_operand_tree) (log_entry faulty_operand.marks faulty_operand_start (faulty_operand_steps) faulty_operand_t0 faulty_operand_new faulty_operand_tree ∷ []) (codes "main.go:8:14: inlined example.com/m.Zero as literal\n") faulty_operand_marks (package_ _ _ (file _ _ faulty_operand_t0 refl (record { scans = h0; spells = file_spelled faulty_operand_t0.tokens faulty_operand_f0 (faulty_operand_spelled0) }) none) none) (goes_on faulty_operand_start (stands_after faulty_operand.marks faulty_operand_start (faulty_operand_steps) faulty_operand_t0 faulty_operand_new faulty_operand_tree) (stands_after faulty_operand.marks faulty_operand_start (faulty_operand_steps) faulty_operand_t0 faulty_operand_new faulty_operand_tree) (log_entry faulty_operand.marks faulty_operand_start (faulty_operand_steps) faulty_operand_t0 faulty_operand_new faulty_operand_tree) [] (faulty_operand_next h) (ends (stands_after faulty_operand.marks faulty_operand_start (faulty_operand_steps) faulty_operand_t0 faulty_operand_new faulty_operand_tree) refl)) (steps_on [] [] (log_entry faulty_operand.marks faulty_operand_start (faulty_operand_steps) faulty_operand_t0 faulty_operand_new faulty_operand_tree) faulty_operand_start (stands_after faulty_operand.marks faulty_operand_start (faulty_operand_steps) faulty_operand_t0 faulty_operand_new faulty_operand_tree) (stands_after faulty_operand.marks faulty_operand_start (faulty_operand_steps) faulty_operand_t0 faulty_operand_new faulty_operand_tree) (faulty_operand_next h) refl (begins (log_entry faulty_operand.marks faulty_operand_start (faulty_operand_steps) faulty_operand_t0 faulty_operand_new faulty_operand_tree ∷ []) (stands_after faulty_operand.marks faulty_operand_start (faulty_operand_steps) faulty_operand_t0 faulty_operand_new faulty_operand_tree))) (kept_by (log_entry faulty_operand.marks faulty_operand_start (faulty_operand_steps) faulty_operand_t0 faulty_operand_new faulty_operand_tree ∷ []) (codes "main.go") faulty_operand_t0.text faulty_operand_new.text [] [] refl refl run.none) refl
+faulty_operand_inlined h0 h = inlining_by the_limits (folder small_module faulty_operand.texts) faulty_operand.packages faulty_operand.texts [] faulty_operand.marks (stands_after faulty_operand.marks faulty_operand_start (faulty_operand_steps) faulty_operand_t0 faulty_operand_new faulty_operand_tree) (log_entry faulty_operand.marks faulty_operand_start (faulty_operand_steps) faulty_operand_t0 faulty_operand_new faulty_operand_tree ∷ []) (codes "main.go:8:14: inlined example.com/m.Zero as literal\n") faulty_operand_marks (module_by (codes "example.com/m") (module_text small_module) (record { path = codes "main.go"; text = faulty_operand_t0; tree = faulty_operand_f0; reads = record { scans = h0; spells = file_spelled faulty_operand_t0.tokens faulty_operand_f0 faulty_operand_spelled0 } } ∷ []) (folder small_module faulty_operand.texts) faulty_operand.packages faulty_operand.texts small_module_is refl refl refl refl refl refl refl refl refl) (goes_on faulty_operand_start (stands_after faulty_operand.marks faulty_operand_start (faulty_operand_steps) faulty_operand_t0 faulty_operand_new faulty_operand_tree) (stands_after faulty_operand.marks faulty_operand_start (faulty_operand_steps) faulty_operand_t0 faulty_operand_new faulty_operand_tree) (log_entry faulty_operand.marks faulty_operand_start (faulty_operand_steps) faulty_operand_t0 faulty_operand_new faulty_operand_tree) [] (faulty_operand_next h) (ends (stands_after faulty_operand.marks faulty_operand_start (faulty_operand_steps) faulty_operand_t0 faulty_operand_new faulty_operand_tree) refl)) (steps_on [] [] (log_entry faulty_operand.marks faulty_operand_start (faulty_operand_steps) faulty_operand_t0 faulty_operand_new faulty_operand_tree) faulty_operand_start (stands_after faulty_operand.marks faulty_operand_start (faulty_operand_steps) faulty_operand_t0 faulty_operand_new faulty_operand_tree) (stands_after faulty_operand.marks faulty_operand_start (faulty_operand_steps) faulty_operand_t0 faulty_operand_new faulty_operand_tree) (faulty_operand_next h) refl (begins (log_entry faulty_operand.marks faulty_operand_start (faulty_operand_steps) faulty_operand_t0 faulty_operand_new faulty_operand_tree ∷ []) (stands_after faulty_operand.marks faulty_operand_start (faulty_operand_steps) faulty_operand_t0 faulty_operand_new faulty_operand_tree))) (kept_by (log_entry faulty_operand.marks faulty_operand_start (faulty_operand_steps) faulty_operand_t0 faulty_operand_new faulty_operand_tree ∷ []) (codes "main.go") faulty_operand_t0.text faulty_operand_new.text [] [] refl refl run.none) refl
 
 faulty_operand_t0_found : TokensOf faulty_operand_t0.text faulty_operand_t0.tokens faulty_operand_t0.comments
 unfolding piece_of lexeme_of longest_from next_of tokens_from comments_from keyword_spellings is_letter is_digit general_category general_category_rows value_in lib.Utf8.encode
@@ -289,7 +290,7 @@ faulty_operand_new_found : TokensOf faulty_operand_new.text faulty_operand_new.t
 unfolding piece_of lexeme_of longest_from next_of tokens_from comments_from keyword_spellings is_letter is_digit general_category general_category_rows value_in lib.Utf8.encode
 faulty_operand_new_found = tokens_by faulty_operand_new.text faulty_operand_new.tokens faulty_operand_new.comments refl refl refl
 
-faulty_operand_run : IsInlining the_limits 29 faulty_operand.packages faulty_operand.texts [] (((codes "main.go"), faulty_operand_new) ∷ []) (codes "main.go:8:14: inlined example.com/m.Zero as literal\n")
+faulty_operand_run : IsInlining the_limits (folder small_module faulty_operand.texts) faulty_operand.packages faulty_operand.texts [] (((codes "main.go"), faulty_operand_new) ∷ []) (codes "main.go:8:14: inlined example.com/m.Zero as literal\n")
 faulty_operand_run = faulty_operand_inlined faulty_operand_t0_found faulty_operand_new_found
 
 -- A print stands before the use of a package variable.
@@ -328,9 +329,9 @@ unfolding passes keyword_spellings is_inline digits reading looked_at_first_step
 looked_at_first_next h = next_by looked_at_first.marks looked_at_first_start (looked_at_first_steps) looked_at_first_t0 looked_at_first_new looked_at_first_tree refl refl h refl refl
 
 -- the whole run, with the tokens of the texts
-looked_at_first_inlined : (h0 : TokensOf looked_at_first_t0.text looked_at_first_t0.tokens looked_at_first_t0.comments) (h : TokensOf looked_at_first_new.text looked_at_first_new.tokens looked_at_first_new.comments) → IsInlining the_limits 29 looked_at_first.packages looked_at_first.texts [] (((codes "main.go"), looked_at_first_new) ∷ []) (codes "main.go:12:10: inlined example.com/m.Seen as literal\n")
+looked_at_first_inlined : (h0 : TokensOf looked_at_first_t0.text looked_at_first_t0.tokens looked_at_first_t0.comments) (h : TokensOf looked_at_first_new.text looked_at_first_new.tokens looked_at_first_new.comments) → IsInlining the_limits (folder small_module looked_at_first.texts) looked_at_first.packages looked_at_first.texts [] (((codes "main.go"), looked_at_first_new) ∷ []) (codes "main.go:12:10: inlined example.com/m.Seen as literal\n")
 unfolding passes keyword_spellings is_inline digits reading looked_at_first_steps looked_at_first_next
-looked_at_first_inlined h0 h = inlining_by the_limits 29 looked_at_first.packages looked_at_first.texts [] looked_at_first.marks (stands_after looked_at_first.marks looked_at_first_start (looked_at_first_steps) looked_at_first_t0 looked_at_first_new looked_at_first_tree) (log_entry looked_at_first.marks looked_at_first_start (looked_at_first_steps) looked_at_first_t0 looked_at_first_new looked_at_first_tree ∷ []) (codes "main.go:12:10: inlined example.com/m.Seen as literal\n") looked_at_first_marks (package_ _ _ (file _ _ looked_at_first_t0 refl (record { scans = h0; spells = file_spelled looked_at_first_t0.tokens looked_at_first_f0 (looked_at_first_spelled0) }) none) none) (goes_on looked_at_first_start (stands_after looked_at_first.marks looked_at_first_start (looked_at_first_steps) looked_at_first_t0 looked_at_first_new looked_at_first_tree) (stands_after looked_at_first.marks looked_at_first_start (looked_at_first_steps) looked_at_first_t0 looked_at_first_new looked_at_first_tree) (log_entry looked_at_first.marks looked_at_first_start (looked_at_first_steps) looked_at_first_t0 looked_at_first_new looked_at_first_tree) [] (looked_at_first_next h) (ends (stands_after looked_at_first.marks looked_at_first_start (looked_at_first_steps) looked_at_first_t0 looked_at_first_new looked_at_first_tree) refl)) (steps_on [] [] (log_entry looked_at_first.marks looked_at_first_start (looked_at_first_steps) looked_at_first_t0 looked_at_first_new looked_at_first_tree) looked_at_first_start (stands_after looked_at_first.marks looked_at_first_start (looked_at_first_steps) looked_at_first_t0 looked_at_first_new looked_at_first_tree) (stands_after looked_at_first.marks looked_at_first_start (looked_at_first_steps) looked_at_first_t0 looked_at_first_new looked_at_first_tree) (looked_at_first_next h) refl (begins (log_entry looked_at_first.marks looked_at_first_start (looked_at_first_steps) looked_at_first_t0 looked_at_first_new looked_at_first_tree ∷ []) (stands_after looked_at_first.marks looked_at_first_start (looked_at_first_steps) looked_at_first_t0 looked_at_first_new looked_at_first_tree))) (kept_by (log_entry looked_at_first.marks looked_at_first_start (looked_at_first_steps) looked_at_first_t0 looked_at_first_new looked_at_first_tree ∷ []) (codes "main.go") looked_at_first_t0.text looked_at_first_new.text [] [] refl refl run.none) refl
+looked_at_first_inlined h0 h = inlining_by the_limits (folder small_module looked_at_first.texts) looked_at_first.packages looked_at_first.texts [] looked_at_first.marks (stands_after looked_at_first.marks looked_at_first_start (looked_at_first_steps) looked_at_first_t0 looked_at_first_new looked_at_first_tree) (log_entry looked_at_first.marks looked_at_first_start (looked_at_first_steps) looked_at_first_t0 looked_at_first_new looked_at_first_tree ∷ []) (codes "main.go:12:10: inlined example.com/m.Seen as literal\n") looked_at_first_marks (module_by (codes "example.com/m") (module_text small_module) (record { path = codes "main.go"; text = looked_at_first_t0; tree = looked_at_first_f0; reads = record { scans = h0; spells = file_spelled looked_at_first_t0.tokens looked_at_first_f0 looked_at_first_spelled0 } } ∷ []) (folder small_module looked_at_first.texts) looked_at_first.packages looked_at_first.texts small_module_is refl refl refl refl refl refl refl refl refl) (goes_on looked_at_first_start (stands_after looked_at_first.marks looked_at_first_start (looked_at_first_steps) looked_at_first_t0 looked_at_first_new looked_at_first_tree) (stands_after looked_at_first.marks looked_at_first_start (looked_at_first_steps) looked_at_first_t0 looked_at_first_new looked_at_first_tree) (log_entry looked_at_first.marks looked_at_first_start (looked_at_first_steps) looked_at_first_t0 looked_at_first_new looked_at_first_tree) [] (looked_at_first_next h) (ends (stands_after looked_at_first.marks looked_at_first_start (looked_at_first_steps) looked_at_first_t0 looked_at_first_new looked_at_first_tree) refl)) (steps_on [] [] (log_entry looked_at_first.marks looked_at_first_start (looked_at_first_steps) looked_at_first_t0 looked_at_first_new looked_at_first_tree) looked_at_first_start (stands_after looked_at_first.marks looked_at_first_start (looked_at_first_steps) looked_at_first_t0 looked_at_first_new looked_at_first_tree) (stands_after looked_at_first.marks looked_at_first_start (looked_at_first_steps) looked_at_first_t0 looked_at_first_new looked_at_first_tree) (looked_at_first_next h) refl (begins (log_entry looked_at_first.marks looked_at_first_start (looked_at_first_steps) looked_at_first_t0 looked_at_first_new looked_at_first_tree ∷ []) (stands_after looked_at_first.marks looked_at_first_start (looked_at_first_steps) looked_at_first_t0 looked_at_first_new looked_at_first_tree))) (kept_by (log_entry looked_at_first.marks looked_at_first_start (looked_at_first_steps) looked_at_first_t0 looked_at_first_new looked_at_first_tree ∷ []) (codes "main.go") looked_at_first_t0.text looked_at_first_new.text [] [] refl refl run.none) refl
 
 looked_at_first_t0_found : TokensOf looked_at_first_t0.text looked_at_first_t0.tokens looked_at_first_t0.comments
 unfolding piece_of lexeme_of longest_from next_of tokens_from comments_from keyword_spellings is_letter is_digit general_category general_category_rows value_in lib.Utf8.encode
@@ -340,7 +341,7 @@ looked_at_first_new_found : TokensOf looked_at_first_new.text looked_at_first_ne
 unfolding piece_of lexeme_of longest_from next_of tokens_from comments_from keyword_spellings is_letter is_digit general_category general_category_rows value_in lib.Utf8.encode
 looked_at_first_new_found = tokens_by looked_at_first_new.text looked_at_first_new.tokens looked_at_first_new.comments refl refl refl
 
-looked_at_first_run : IsInlining the_limits 29 looked_at_first.packages looked_at_first.texts [] (((codes "main.go"), looked_at_first_new) ∷ []) (codes "main.go:12:10: inlined example.com/m.Seen as literal\n")
+looked_at_first_run : IsInlining the_limits (folder small_module looked_at_first.texts) looked_at_first.packages looked_at_first.texts [] (((codes "main.go"), looked_at_first_new) ∷ []) (codes "main.go:12:10: inlined example.com/m.Seen as literal\n")
 looked_at_first_run = looked_at_first_inlined looked_at_first_t0_found looked_at_first_new_found
 
 -- A local variable may be read later.
@@ -379,9 +380,9 @@ unfolding passes keyword_spellings is_inline digits reading steady_later_steps
 steady_later_next h = next_by steady_later.marks steady_later_start (steady_later_steps) steady_later_t0 steady_later_new steady_later_tree refl refl h refl refl
 
 -- the whole run, with the tokens of the texts
-steady_later_inlined : (h0 : TokensOf steady_later_t0.text steady_later_t0.tokens steady_later_t0.comments) (h : TokensOf steady_later_new.text steady_later_new.tokens steady_later_new.comments) → IsInlining the_limits 29 steady_later.packages steady_later.texts [] (((codes "main.go"), steady_later_new) ∷ []) (codes "main.go:13:10: inlined example.com/m.Seen as literal\n")
+steady_later_inlined : (h0 : TokensOf steady_later_t0.text steady_later_t0.tokens steady_later_t0.comments) (h : TokensOf steady_later_new.text steady_later_new.tokens steady_later_new.comments) → IsInlining the_limits (folder small_module steady_later.texts) steady_later.packages steady_later.texts [] (((codes "main.go"), steady_later_new) ∷ []) (codes "main.go:13:10: inlined example.com/m.Seen as literal\n")
 unfolding passes keyword_spellings is_inline digits reading steady_later_steps steady_later_next
-steady_later_inlined h0 h = inlining_by the_limits 29 steady_later.packages steady_later.texts [] steady_later.marks (stands_after steady_later.marks steady_later_start (steady_later_steps) steady_later_t0 steady_later_new steady_later_tree) (log_entry steady_later.marks steady_later_start (steady_later_steps) steady_later_t0 steady_later_new steady_later_tree ∷ []) (codes "main.go:13:10: inlined example.com/m.Seen as literal\n") steady_later_marks (package_ _ _ (file _ _ steady_later_t0 refl (record { scans = h0; spells = file_spelled steady_later_t0.tokens steady_later_f0 (steady_later_spelled0) }) none) none) (goes_on steady_later_start (stands_after steady_later.marks steady_later_start (steady_later_steps) steady_later_t0 steady_later_new steady_later_tree) (stands_after steady_later.marks steady_later_start (steady_later_steps) steady_later_t0 steady_later_new steady_later_tree) (log_entry steady_later.marks steady_later_start (steady_later_steps) steady_later_t0 steady_later_new steady_later_tree) [] (steady_later_next h) (ends (stands_after steady_later.marks steady_later_start (steady_later_steps) steady_later_t0 steady_later_new steady_later_tree) refl)) (steps_on [] [] (log_entry steady_later.marks steady_later_start (steady_later_steps) steady_later_t0 steady_later_new steady_later_tree) steady_later_start (stands_after steady_later.marks steady_later_start (steady_later_steps) steady_later_t0 steady_later_new steady_later_tree) (stands_after steady_later.marks steady_later_start (steady_later_steps) steady_later_t0 steady_later_new steady_later_tree) (steady_later_next h) refl (begins (log_entry steady_later.marks steady_later_start (steady_later_steps) steady_later_t0 steady_later_new steady_later_tree ∷ []) (stands_after steady_later.marks steady_later_start (steady_later_steps) steady_later_t0 steady_later_new steady_later_tree))) (kept_by (log_entry steady_later.marks steady_later_start (steady_later_steps) steady_later_t0 steady_later_new steady_later_tree ∷ []) (codes "main.go") steady_later_t0.text steady_later_new.text [] [] refl refl run.none) refl
+steady_later_inlined h0 h = inlining_by the_limits (folder small_module steady_later.texts) steady_later.packages steady_later.texts [] steady_later.marks (stands_after steady_later.marks steady_later_start (steady_later_steps) steady_later_t0 steady_later_new steady_later_tree) (log_entry steady_later.marks steady_later_start (steady_later_steps) steady_later_t0 steady_later_new steady_later_tree ∷ []) (codes "main.go:13:10: inlined example.com/m.Seen as literal\n") steady_later_marks (module_by (codes "example.com/m") (module_text small_module) (record { path = codes "main.go"; text = steady_later_t0; tree = steady_later_f0; reads = record { scans = h0; spells = file_spelled steady_later_t0.tokens steady_later_f0 steady_later_spelled0 } } ∷ []) (folder small_module steady_later.texts) steady_later.packages steady_later.texts small_module_is refl refl refl refl refl refl refl refl refl) (goes_on steady_later_start (stands_after steady_later.marks steady_later_start (steady_later_steps) steady_later_t0 steady_later_new steady_later_tree) (stands_after steady_later.marks steady_later_start (steady_later_steps) steady_later_t0 steady_later_new steady_later_tree) (log_entry steady_later.marks steady_later_start (steady_later_steps) steady_later_t0 steady_later_new steady_later_tree) [] (steady_later_next h) (ends (stands_after steady_later.marks steady_later_start (steady_later_steps) steady_later_t0 steady_later_new steady_later_tree) refl)) (steps_on [] [] (log_entry steady_later.marks steady_later_start (steady_later_steps) steady_later_t0 steady_later_new steady_later_tree) steady_later_start (stands_after steady_later.marks steady_later_start (steady_later_steps) steady_later_t0 steady_later_new steady_later_tree) (stands_after steady_later.marks steady_later_start (steady_later_steps) steady_later_t0 steady_later_new steady_later_tree) (steady_later_next h) refl (begins (log_entry steady_later.marks steady_later_start (steady_later_steps) steady_later_t0 steady_later_new steady_later_tree ∷ []) (stands_after steady_later.marks steady_later_start (steady_later_steps) steady_later_t0 steady_later_new steady_later_tree))) (kept_by (log_entry steady_later.marks steady_later_start (steady_later_steps) steady_later_t0 steady_later_new steady_later_tree ∷ []) (codes "main.go") steady_later_t0.text steady_later_new.text [] [] refl refl run.none) refl
 
 steady_later_t0_found : TokensOf steady_later_t0.text steady_later_t0.tokens steady_later_t0.comments
 unfolding piece_of lexeme_of longest_from next_of tokens_from comments_from keyword_spellings is_letter is_digit general_category general_category_rows value_in lib.Utf8.encode
@@ -391,5 +392,5 @@ steady_later_new_found : TokensOf steady_later_new.text steady_later_new.tokens 
 unfolding piece_of lexeme_of longest_from next_of tokens_from comments_from keyword_spellings is_letter is_digit general_category general_category_rows value_in lib.Utf8.encode
 steady_later_new_found = tokens_by steady_later_new.text steady_later_new.tokens steady_later_new.comments refl refl refl
 
-steady_later_run : IsInlining the_limits 29 steady_later.packages steady_later.texts [] (((codes "main.go"), steady_later_new) ∷ []) (codes "main.go:13:10: inlined example.com/m.Seen as literal\n")
+steady_later_run : IsInlining the_limits (folder small_module steady_later.texts) steady_later.packages steady_later.texts [] (((codes "main.go"), steady_later_new) ∷ []) (codes "main.go:13:10: inlined example.com/m.Seen as literal\n")
 steady_later_run = steady_later_inlined steady_later_t0_found steady_later_new_found

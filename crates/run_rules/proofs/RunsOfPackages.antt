@@ -24,9 +24,10 @@ use Rattle.run_rules.specs.Run.{Standing, Next, step_in, goes_on, ends, the_limi
 use Rattle.run_rules.specs.Run as run
 use Rattle.go_read.proofs.Whole.{file_spelled}
 use Rattle.std.specs.Fmt.{digits}
-use Rattle.run_rules.specs.Inlining.{standing_as_read, none, file, package_, begins, steps_on, IsInlining}
+use Rattle.run_rules.specs.Inlining.{standing_as_read, begins, steps_on, IsInlining}
 use Rattle.run_rules.proofs.CaseTools.{from, nmf}
 use Rattle.run_rules.proofs.Instances.{stands_after, log_entry, next_by, kept_by, inlining_by}
+use Rattle.run_rules.proofs.ModulesRead.{module_by, module_text, folder, small_module, small_module_is}
 use Rattle.go_words.specs.Tokens.{TokensOf}
 use Rattle.ucd_category.specs.GeneralCategory.{general_category}
 use Rattle.ucd_category.specs.GeneralCategoryRows.{general_category_rows}
@@ -93,9 +94,9 @@ unfolding passes keyword_spellings is_inline digits reading wrapper_steps
 wrapper_next h = next_by wrapper.marks wrapper_start (wrapper_steps) wrapper_t0 wrapper_new wrapper_tree refl refl h refl refl
 
 -- the whole run, with the tokens of the texts
-wrapper_inlined : (h0 : TokensOf wrapper_t0.text wrapper_t0.tokens wrapper_t0.comments) (h1 : TokensOf wrapper_t1.text wrapper_t1.tokens wrapper_t1.comments) (h2 : TokensOf wrapper_t2.text wrapper_t2.tokens wrapper_t2.comments) (h : TokensOf wrapper_new.text wrapper_new.tokens wrapper_new.comments) → IsInlining the_limits 29 wrapper.packages wrapper.texts [] (((codes "main.go"), wrapper_new) ∷ ((codes "old/old.go"), wrapper_t1) ∷ ((codes "pow/pow.go"), wrapper_t2) ∷ []) (codes "main.go:7:10: inlined example.com/m/old.Square as expr\n")
+wrapper_inlined : (h0 : TokensOf wrapper_t0.text wrapper_t0.tokens wrapper_t0.comments) (h1 : TokensOf wrapper_t1.text wrapper_t1.tokens wrapper_t1.comments) (h2 : TokensOf wrapper_t2.text wrapper_t2.tokens wrapper_t2.comments) (h : TokensOf wrapper_new.text wrapper_new.tokens wrapper_new.comments) → IsInlining the_limits (folder small_module wrapper.texts) wrapper.packages wrapper.texts [] (((codes "main.go"), wrapper_new) ∷ ((codes "old/old.go"), wrapper_t1) ∷ ((codes "pow/pow.go"), wrapper_t2) ∷ []) (codes "main.go:7:10: inlined example.com/m/old.Square as expr\n")
 unfolding passes keyword_spellings is_inline digits reading wrapper_steps wrapper_next
-wrapper_inlined h0 h1 h2 h = inlining_by the_limits 29 wrapper.packages wrapper.texts [] wrapper.marks (stands_after wrapper.marks wrapper_start (wrapper_steps) wrapper_t0 wrapper_new wrapper_tree) (log_entry wrapper.marks wrapper_start (wrapper_steps) wrapper_t0 wrapper_new wrapper_tree ∷ []) (codes "main.go:7:10: inlined example.com/m/old.Square as expr\n") wrapper_marks (package_ _ _ (file _ _ wrapper_t0 refl (record { scans = h0; spells = file_spelled wrapper_t0.tokens wrapper_f0 (wrapper_spelled0) }) none) (package_ _ _ (file _ _ wrapper_t1 refl (record { scans = h1; spells = file_spelled wrapper_t1.tokens wrapper_f1 (wrapper_spelled1) }) none) (package_ _ _ (file _ _ wrapper_t2 refl (record { scans = h2; spells = file_spelled wrapper_t2.tokens wrapper_f2 (wrapper_spelled2) }) none) none))) (goes_on wrapper_start (stands_after wrapper.marks wrapper_start (wrapper_steps) wrapper_t0 wrapper_new wrapper_tree) (stands_after wrapper.marks wrapper_start (wrapper_steps) wrapper_t0 wrapper_new wrapper_tree) (log_entry wrapper.marks wrapper_start (wrapper_steps) wrapper_t0 wrapper_new wrapper_tree) [] (wrapper_next h) (ends (stands_after wrapper.marks wrapper_start (wrapper_steps) wrapper_t0 wrapper_new wrapper_tree) refl)) (steps_on [] [] (log_entry wrapper.marks wrapper_start (wrapper_steps) wrapper_t0 wrapper_new wrapper_tree) wrapper_start (stands_after wrapper.marks wrapper_start (wrapper_steps) wrapper_t0 wrapper_new wrapper_tree) (stands_after wrapper.marks wrapper_start (wrapper_steps) wrapper_t0 wrapper_new wrapper_tree) (wrapper_next h) refl (begins (log_entry wrapper.marks wrapper_start (wrapper_steps) wrapper_t0 wrapper_new wrapper_tree ∷ []) (stands_after wrapper.marks wrapper_start (wrapper_steps) wrapper_t0 wrapper_new wrapper_tree))) (kept_by (log_entry wrapper.marks wrapper_start (wrapper_steps) wrapper_t0 wrapper_new wrapper_tree ∷ []) (codes "main.go") wrapper_t0.text wrapper_new.text (((codes "old/old.go"), wrapper_t1.text) ∷ ((codes "pow/pow.go"), wrapper_t2.text) ∷ []) (((codes "old/old.go"), wrapper_t1.text) ∷ ((codes "pow/pow.go"), wrapper_t2.text) ∷ []) refl refl (kept_by (log_entry wrapper.marks wrapper_start (wrapper_steps) wrapper_t0 wrapper_new wrapper_tree ∷ []) (codes "old/old.go") wrapper_t1.text wrapper_t1.text (((codes "pow/pow.go"), wrapper_t2.text) ∷ []) (((codes "pow/pow.go"), wrapper_t2.text) ∷ []) refl refl (kept_by (log_entry wrapper.marks wrapper_start (wrapper_steps) wrapper_t0 wrapper_new wrapper_tree ∷ []) (codes "pow/pow.go") wrapper_t2.text wrapper_t2.text [] [] refl refl run.none))) refl
+wrapper_inlined h0 h1 h2 h = inlining_by the_limits (folder small_module wrapper.texts) wrapper.packages wrapper.texts [] wrapper.marks (stands_after wrapper.marks wrapper_start (wrapper_steps) wrapper_t0 wrapper_new wrapper_tree) (log_entry wrapper.marks wrapper_start (wrapper_steps) wrapper_t0 wrapper_new wrapper_tree ∷ []) (codes "main.go:7:10: inlined example.com/m/old.Square as expr\n") wrapper_marks (module_by (codes "example.com/m") (module_text small_module) (record { path = codes "main.go"; text = wrapper_t0; tree = wrapper_f0; reads = record { scans = h0; spells = file_spelled wrapper_t0.tokens wrapper_f0 wrapper_spelled0 } } ∷ record { path = codes "old/old.go"; text = wrapper_t1; tree = wrapper_f1; reads = record { scans = h1; spells = file_spelled wrapper_t1.tokens wrapper_f1 wrapper_spelled1 } } ∷ record { path = codes "pow/pow.go"; text = wrapper_t2; tree = wrapper_f2; reads = record { scans = h2; spells = file_spelled wrapper_t2.tokens wrapper_f2 wrapper_spelled2 } } ∷ []) (folder small_module wrapper.texts) wrapper.packages wrapper.texts small_module_is refl refl refl refl refl refl refl refl refl) (goes_on wrapper_start (stands_after wrapper.marks wrapper_start (wrapper_steps) wrapper_t0 wrapper_new wrapper_tree) (stands_after wrapper.marks wrapper_start (wrapper_steps) wrapper_t0 wrapper_new wrapper_tree) (log_entry wrapper.marks wrapper_start (wrapper_steps) wrapper_t0 wrapper_new wrapper_tree) [] (wrapper_next h) (ends (stands_after wrapper.marks wrapper_start (wrapper_steps) wrapper_t0 wrapper_new wrapper_tree) refl)) (steps_on [] [] (log_entry wrapper.marks wrapper_start (wrapper_steps) wrapper_t0 wrapper_new wrapper_tree) wrapper_start (stands_after wrapper.marks wrapper_start (wrapper_steps) wrapper_t0 wrapper_new wrapper_tree) (stands_after wrapper.marks wrapper_start (wrapper_steps) wrapper_t0 wrapper_new wrapper_tree) (wrapper_next h) refl (begins (log_entry wrapper.marks wrapper_start (wrapper_steps) wrapper_t0 wrapper_new wrapper_tree ∷ []) (stands_after wrapper.marks wrapper_start (wrapper_steps) wrapper_t0 wrapper_new wrapper_tree))) (kept_by (log_entry wrapper.marks wrapper_start (wrapper_steps) wrapper_t0 wrapper_new wrapper_tree ∷ []) (codes "main.go") wrapper_t0.text wrapper_new.text (((codes "old/old.go"), wrapper_t1.text) ∷ ((codes "pow/pow.go"), wrapper_t2.text) ∷ []) (((codes "old/old.go"), wrapper_t1.text) ∷ ((codes "pow/pow.go"), wrapper_t2.text) ∷ []) refl refl (kept_by (log_entry wrapper.marks wrapper_start (wrapper_steps) wrapper_t0 wrapper_new wrapper_tree ∷ []) (codes "old/old.go") wrapper_t1.text wrapper_t1.text (((codes "pow/pow.go"), wrapper_t2.text) ∷ []) (((codes "pow/pow.go"), wrapper_t2.text) ∷ []) refl refl (kept_by (log_entry wrapper.marks wrapper_start (wrapper_steps) wrapper_t0 wrapper_new wrapper_tree ∷ []) (codes "pow/pow.go") wrapper_t2.text wrapper_t2.text [] [] refl refl run.none))) refl
 
 wrapper_t0_found : TokensOf wrapper_t0.text wrapper_t0.tokens wrapper_t0.comments
 unfolding piece_of lexeme_of longest_from next_of tokens_from comments_from keyword_spellings is_letter is_digit general_category general_category_rows value_in lib.Utf8.encode
@@ -113,7 +114,7 @@ wrapper_new_found : TokensOf wrapper_new.text wrapper_new.tokens wrapper_new.com
 unfolding piece_of lexeme_of longest_from next_of tokens_from comments_from keyword_spellings is_letter is_digit general_category general_category_rows value_in lib.Utf8.encode
 wrapper_new_found = tokens_by wrapper_new.text wrapper_new.tokens wrapper_new.comments refl refl refl
 
-wrapper_run : IsInlining the_limits 29 wrapper.packages wrapper.texts [] (((codes "main.go"), wrapper_new) ∷ ((codes "old/old.go"), wrapper_t1) ∷ ((codes "pow/pow.go"), wrapper_t2) ∷ []) (codes "main.go:7:10: inlined example.com/m/old.Square as expr\n")
+wrapper_run : IsInlining the_limits (folder small_module wrapper.texts) wrapper.packages wrapper.texts [] (((codes "main.go"), wrapper_new) ∷ ((codes "old/old.go"), wrapper_t1) ∷ ((codes "pow/pow.go"), wrapper_t2) ∷ []) (codes "main.go:7:10: inlined example.com/m/old.Square as expr\n")
 wrapper_run = wrapper_inlined wrapper_t0_found wrapper_t1_found wrapper_t2_found wrapper_new_found
 
 -- A comment inside the call.
@@ -158,9 +159,9 @@ abbrev inner_comment_start : Standing
 inner_comment_start = standing_as_read inner_comment.packages inner_comment.texts
 
 -- the whole run, with the tokens of the texts
-inner_comment_inlined : (h0 : TokensOf inner_comment_t0.text inner_comment_t0.tokens inner_comment_t0.comments) (h1 : TokensOf inner_comment_t1.text inner_comment_t1.tokens inner_comment_t1.comments) (h2 : TokensOf inner_comment_t2.text inner_comment_t2.tokens inner_comment_t2.comments) → IsInlining the_limits 29 inner_comment.packages inner_comment.texts [] (((codes "main.go"), inner_comment_t0) ∷ ((codes "old/old.go"), inner_comment_t1) ∷ ((codes "pow/pow.go"), inner_comment_t2) ∷ []) (codes "main.go:7:10: kept example.com/m/old.Square: comment inside\n")
+inner_comment_inlined : (h0 : TokensOf inner_comment_t0.text inner_comment_t0.tokens inner_comment_t0.comments) (h1 : TokensOf inner_comment_t1.text inner_comment_t1.tokens inner_comment_t1.comments) (h2 : TokensOf inner_comment_t2.text inner_comment_t2.tokens inner_comment_t2.comments) → IsInlining the_limits (folder small_module inner_comment.texts) inner_comment.packages inner_comment.texts [] (((codes "main.go"), inner_comment_t0) ∷ ((codes "old/old.go"), inner_comment_t1) ∷ ((codes "pow/pow.go"), inner_comment_t2) ∷ []) (codes "main.go:7:10: kept example.com/m/old.Square: comment inside\n")
 unfolding passes keyword_spellings is_inline digits reading
-inner_comment_inlined h0 h1 h2 = inlining_by the_limits 29 inner_comment.packages inner_comment.texts [] inner_comment.marks inner_comment_start ([]) (codes "main.go:7:10: kept example.com/m/old.Square: comment inside\n") inner_comment_marks (package_ _ _ (file _ _ inner_comment_t0 refl (record { scans = h0; spells = file_spelled inner_comment_t0.tokens inner_comment_f0 (inner_comment_spelled0) }) none) (package_ _ _ (file _ _ inner_comment_t1 refl (record { scans = h1; spells = file_spelled inner_comment_t1.tokens inner_comment_f1 (inner_comment_spelled1) }) none) (package_ _ _ (file _ _ inner_comment_t2 refl (record { scans = h2; spells = file_spelled inner_comment_t2.tokens inner_comment_f2 (inner_comment_spelled2) }) none) none))) (ends inner_comment_start refl) (begins [] inner_comment_start) (kept_by ([]) (codes "main.go") inner_comment_t0.text inner_comment_t0.text (((codes "old/old.go"), inner_comment_t1.text) ∷ ((codes "pow/pow.go"), inner_comment_t2.text) ∷ []) (((codes "old/old.go"), inner_comment_t1.text) ∷ ((codes "pow/pow.go"), inner_comment_t2.text) ∷ []) refl refl (kept_by ([]) (codes "old/old.go") inner_comment_t1.text inner_comment_t1.text (((codes "pow/pow.go"), inner_comment_t2.text) ∷ []) (((codes "pow/pow.go"), inner_comment_t2.text) ∷ []) refl refl (kept_by ([]) (codes "pow/pow.go") inner_comment_t2.text inner_comment_t2.text [] [] refl refl run.none))) refl
+inner_comment_inlined h0 h1 h2 = inlining_by the_limits (folder small_module inner_comment.texts) inner_comment.packages inner_comment.texts [] inner_comment.marks inner_comment_start ([]) (codes "main.go:7:10: kept example.com/m/old.Square: comment inside\n") inner_comment_marks (module_by (codes "example.com/m") (module_text small_module) (record { path = codes "main.go"; text = inner_comment_t0; tree = inner_comment_f0; reads = record { scans = h0; spells = file_spelled inner_comment_t0.tokens inner_comment_f0 inner_comment_spelled0 } } ∷ record { path = codes "old/old.go"; text = inner_comment_t1; tree = inner_comment_f1; reads = record { scans = h1; spells = file_spelled inner_comment_t1.tokens inner_comment_f1 inner_comment_spelled1 } } ∷ record { path = codes "pow/pow.go"; text = inner_comment_t2; tree = inner_comment_f2; reads = record { scans = h2; spells = file_spelled inner_comment_t2.tokens inner_comment_f2 inner_comment_spelled2 } } ∷ []) (folder small_module inner_comment.texts) inner_comment.packages inner_comment.texts small_module_is refl refl refl refl refl refl refl refl refl) (ends inner_comment_start refl) (begins [] inner_comment_start) (kept_by ([]) (codes "main.go") inner_comment_t0.text inner_comment_t0.text (((codes "old/old.go"), inner_comment_t1.text) ∷ ((codes "pow/pow.go"), inner_comment_t2.text) ∷ []) (((codes "old/old.go"), inner_comment_t1.text) ∷ ((codes "pow/pow.go"), inner_comment_t2.text) ∷ []) refl refl (kept_by ([]) (codes "old/old.go") inner_comment_t1.text inner_comment_t1.text (((codes "pow/pow.go"), inner_comment_t2.text) ∷ []) (((codes "pow/pow.go"), inner_comment_t2.text) ∷ []) refl refl (kept_by ([]) (codes "pow/pow.go") inner_comment_t2.text inner_comment_t2.text [] [] refl refl run.none))) refl
 
 inner_comment_t0_found : TokensOf inner_comment_t0.text inner_comment_t0.tokens inner_comment_t0.comments
 unfolding piece_of lexeme_of longest_from next_of tokens_from comments_from keyword_spellings is_letter is_digit general_category general_category_rows value_in lib.Utf8.encode
@@ -174,7 +175,7 @@ inner_comment_t2_found : TokensOf inner_comment_t2.text inner_comment_t2.tokens 
 unfolding piece_of lexeme_of longest_from next_of tokens_from comments_from keyword_spellings is_letter is_digit general_category general_category_rows value_in lib.Utf8.encode
 inner_comment_t2_found = tokens_by inner_comment_t2.text inner_comment_t2.tokens inner_comment_t2.comments refl refl refl
 
-inner_comment_run : IsInlining the_limits 29 inner_comment.packages inner_comment.texts [] (((codes "main.go"), inner_comment_t0) ∷ ((codes "old/old.go"), inner_comment_t1) ∷ ((codes "pow/pow.go"), inner_comment_t2) ∷ []) (codes "main.go:7:10: kept example.com/m/old.Square: comment inside\n")
+inner_comment_run : IsInlining the_limits (folder small_module inner_comment.texts) inner_comment.packages inner_comment.texts [] (((codes "main.go"), inner_comment_t0) ∷ ((codes "old/old.go"), inner_comment_t1) ∷ ((codes "pow/pow.go"), inner_comment_t2) ∷ []) (codes "main.go:7:10: kept example.com/m/old.Square: comment inside\n")
 inner_comment_run = inner_comment_inlined inner_comment_t0_found inner_comment_t1_found inner_comment_t2_found
 
 -- A predeclared name means a variable at the use.
@@ -209,9 +210,9 @@ abbrev shadowed_word_start : Standing
 shadowed_word_start = standing_as_read shadowed_word.packages shadowed_word.texts
 
 -- the whole run, with the tokens of the texts
-shadowed_word_inlined : (h0 : TokensOf shadowed_word_t0.text shadowed_word_t0.tokens shadowed_word_t0.comments) (h1 : TokensOf shadowed_word_t1.text shadowed_word_t1.tokens shadowed_word_t1.comments) → IsInlining the_limits 29 shadowed_word.packages shadowed_word.texts [] (((codes "main.go"), shadowed_word_t0) ∷ ((codes "old/old.go"), shadowed_word_t1) ∷ []) (codes "main.go:7:10: kept example.com/m/old.Size: shadowed: len\n")
+shadowed_word_inlined : (h0 : TokensOf shadowed_word_t0.text shadowed_word_t0.tokens shadowed_word_t0.comments) (h1 : TokensOf shadowed_word_t1.text shadowed_word_t1.tokens shadowed_word_t1.comments) → IsInlining the_limits (folder small_module shadowed_word.texts) shadowed_word.packages shadowed_word.texts [] (((codes "main.go"), shadowed_word_t0) ∷ ((codes "old/old.go"), shadowed_word_t1) ∷ []) (codes "main.go:7:10: kept example.com/m/old.Size: shadowed: len\n")
 unfolding passes keyword_spellings is_inline digits reading
-shadowed_word_inlined h0 h1 = inlining_by the_limits 29 shadowed_word.packages shadowed_word.texts [] shadowed_word.marks shadowed_word_start ([]) (codes "main.go:7:10: kept example.com/m/old.Size: shadowed: len\n") shadowed_word_marks (package_ _ _ (file _ _ shadowed_word_t0 refl (record { scans = h0; spells = file_spelled shadowed_word_t0.tokens shadowed_word_f0 (shadowed_word_spelled0) }) none) (package_ _ _ (file _ _ shadowed_word_t1 refl (record { scans = h1; spells = file_spelled shadowed_word_t1.tokens shadowed_word_f1 (shadowed_word_spelled1) }) none) none)) (ends shadowed_word_start refl) (begins [] shadowed_word_start) (kept_by ([]) (codes "main.go") shadowed_word_t0.text shadowed_word_t0.text (((codes "old/old.go"), shadowed_word_t1.text) ∷ []) (((codes "old/old.go"), shadowed_word_t1.text) ∷ []) refl refl (kept_by ([]) (codes "old/old.go") shadowed_word_t1.text shadowed_word_t1.text [] [] refl refl run.none)) refl
+shadowed_word_inlined h0 h1 = inlining_by the_limits (folder small_module shadowed_word.texts) shadowed_word.packages shadowed_word.texts [] shadowed_word.marks shadowed_word_start ([]) (codes "main.go:7:10: kept example.com/m/old.Size: shadowed: len\n") shadowed_word_marks (module_by (codes "example.com/m") (module_text small_module) (record { path = codes "main.go"; text = shadowed_word_t0; tree = shadowed_word_f0; reads = record { scans = h0; spells = file_spelled shadowed_word_t0.tokens shadowed_word_f0 shadowed_word_spelled0 } } ∷ record { path = codes "old/old.go"; text = shadowed_word_t1; tree = shadowed_word_f1; reads = record { scans = h1; spells = file_spelled shadowed_word_t1.tokens shadowed_word_f1 shadowed_word_spelled1 } } ∷ []) (folder small_module shadowed_word.texts) shadowed_word.packages shadowed_word.texts small_module_is refl refl refl refl refl refl refl refl refl) (ends shadowed_word_start refl) (begins [] shadowed_word_start) (kept_by ([]) (codes "main.go") shadowed_word_t0.text shadowed_word_t0.text (((codes "old/old.go"), shadowed_word_t1.text) ∷ []) (((codes "old/old.go"), shadowed_word_t1.text) ∷ []) refl refl (kept_by ([]) (codes "old/old.go") shadowed_word_t1.text shadowed_word_t1.text [] [] refl refl run.none)) refl
 
 shadowed_word_t0_found : TokensOf shadowed_word_t0.text shadowed_word_t0.tokens shadowed_word_t0.comments
 unfolding piece_of lexeme_of longest_from next_of tokens_from comments_from keyword_spellings is_letter is_digit general_category general_category_rows value_in lib.Utf8.encode
@@ -221,7 +222,7 @@ shadowed_word_t1_found : TokensOf shadowed_word_t1.text shadowed_word_t1.tokens 
 unfolding piece_of lexeme_of longest_from next_of tokens_from comments_from keyword_spellings is_letter is_digit general_category general_category_rows value_in lib.Utf8.encode
 shadowed_word_t1_found = tokens_by shadowed_word_t1.text shadowed_word_t1.tokens shadowed_word_t1.comments refl refl refl
 
-shadowed_word_run : IsInlining the_limits 29 shadowed_word.packages shadowed_word.texts [] (((codes "main.go"), shadowed_word_t0) ∷ ((codes "old/old.go"), shadowed_word_t1) ∷ []) (codes "main.go:7:10: kept example.com/m/old.Size: shadowed: len\n")
+shadowed_word_run : IsInlining the_limits (folder small_module shadowed_word.texts) shadowed_word.packages shadowed_word.texts [] (((codes "main.go"), shadowed_word_t0) ∷ ((codes "old/old.go"), shadowed_word_t1) ∷ []) (codes "main.go:7:10: kept example.com/m/old.Size: shadowed: len\n")
 shadowed_word_run = shadowed_word_inlined shadowed_word_t0_found shadowed_word_t1_found
 
 -- A name that is not exported.
@@ -256,9 +257,9 @@ abbrev hidden_helper_start : Standing
 hidden_helper_start = standing_as_read hidden_helper.packages hidden_helper.texts
 
 -- the whole run, with the tokens of the texts
-hidden_helper_inlined : (h0 : TokensOf hidden_helper_t0.text hidden_helper_t0.tokens hidden_helper_t0.comments) (h1 : TokensOf hidden_helper_t1.text hidden_helper_t1.tokens hidden_helper_t1.comments) → IsInlining the_limits 29 hidden_helper.packages hidden_helper.texts [] (((codes "main.go"), hidden_helper_t0) ∷ ((codes "old/old.go"), hidden_helper_t1) ∷ []) (codes "main.go:6:10: kept example.com/m/old.Do: not accessible: helper\n")
+hidden_helper_inlined : (h0 : TokensOf hidden_helper_t0.text hidden_helper_t0.tokens hidden_helper_t0.comments) (h1 : TokensOf hidden_helper_t1.text hidden_helper_t1.tokens hidden_helper_t1.comments) → IsInlining the_limits (folder small_module hidden_helper.texts) hidden_helper.packages hidden_helper.texts [] (((codes "main.go"), hidden_helper_t0) ∷ ((codes "old/old.go"), hidden_helper_t1) ∷ []) (codes "main.go:6:10: kept example.com/m/old.Do: not accessible: helper\n")
 unfolding passes keyword_spellings is_inline digits reading
-hidden_helper_inlined h0 h1 = inlining_by the_limits 29 hidden_helper.packages hidden_helper.texts [] hidden_helper.marks hidden_helper_start ([]) (codes "main.go:6:10: kept example.com/m/old.Do: not accessible: helper\n") hidden_helper_marks (package_ _ _ (file _ _ hidden_helper_t0 refl (record { scans = h0; spells = file_spelled hidden_helper_t0.tokens hidden_helper_f0 (hidden_helper_spelled0) }) none) (package_ _ _ (file _ _ hidden_helper_t1 refl (record { scans = h1; spells = file_spelled hidden_helper_t1.tokens hidden_helper_f1 (hidden_helper_spelled1) }) none) none)) (ends hidden_helper_start refl) (begins [] hidden_helper_start) (kept_by ([]) (codes "main.go") hidden_helper_t0.text hidden_helper_t0.text (((codes "old/old.go"), hidden_helper_t1.text) ∷ []) (((codes "old/old.go"), hidden_helper_t1.text) ∷ []) refl refl (kept_by ([]) (codes "old/old.go") hidden_helper_t1.text hidden_helper_t1.text [] [] refl refl run.none)) refl
+hidden_helper_inlined h0 h1 = inlining_by the_limits (folder small_module hidden_helper.texts) hidden_helper.packages hidden_helper.texts [] hidden_helper.marks hidden_helper_start ([]) (codes "main.go:6:10: kept example.com/m/old.Do: not accessible: helper\n") hidden_helper_marks (module_by (codes "example.com/m") (module_text small_module) (record { path = codes "main.go"; text = hidden_helper_t0; tree = hidden_helper_f0; reads = record { scans = h0; spells = file_spelled hidden_helper_t0.tokens hidden_helper_f0 hidden_helper_spelled0 } } ∷ record { path = codes "old/old.go"; text = hidden_helper_t1; tree = hidden_helper_f1; reads = record { scans = h1; spells = file_spelled hidden_helper_t1.tokens hidden_helper_f1 hidden_helper_spelled1 } } ∷ []) (folder small_module hidden_helper.texts) hidden_helper.packages hidden_helper.texts small_module_is refl refl refl refl refl refl refl refl refl) (ends hidden_helper_start refl) (begins [] hidden_helper_start) (kept_by ([]) (codes "main.go") hidden_helper_t0.text hidden_helper_t0.text (((codes "old/old.go"), hidden_helper_t1.text) ∷ []) (((codes "old/old.go"), hidden_helper_t1.text) ∷ []) refl refl (kept_by ([]) (codes "old/old.go") hidden_helper_t1.text hidden_helper_t1.text [] [] refl refl run.none)) refl
 
 hidden_helper_t0_found : TokensOf hidden_helper_t0.text hidden_helper_t0.tokens hidden_helper_t0.comments
 unfolding piece_of lexeme_of longest_from next_of tokens_from comments_from keyword_spellings is_letter is_digit general_category general_category_rows value_in lib.Utf8.encode
@@ -268,7 +269,7 @@ hidden_helper_t1_found : TokensOf hidden_helper_t1.text hidden_helper_t1.tokens 
 unfolding piece_of lexeme_of longest_from next_of tokens_from comments_from keyword_spellings is_letter is_digit general_category general_category_rows value_in lib.Utf8.encode
 hidden_helper_t1_found = tokens_by hidden_helper_t1.text hidden_helper_t1.tokens hidden_helper_t1.comments refl refl refl
 
-hidden_helper_run : IsInlining the_limits 29 hidden_helper.packages hidden_helper.texts [] (((codes "main.go"), hidden_helper_t0) ∷ ((codes "old/old.go"), hidden_helper_t1) ∷ []) (codes "main.go:6:10: kept example.com/m/old.Do: not accessible: helper\n")
+hidden_helper_run : IsInlining the_limits (folder small_module hidden_helper.texts) hidden_helper.packages hidden_helper.texts [] (((codes "main.go"), hidden_helper_t0) ∷ ((codes "old/old.go"), hidden_helper_t1) ∷ []) (codes "main.go:6:10: kept example.com/m/old.Do: not accessible: helper\n")
 hidden_helper_run = hidden_helper_inlined hidden_helper_t0_found hidden_helper_t1_found
 
 -- A type that two parameters share is one use.
@@ -304,9 +305,9 @@ abbrev shared_type_start : Standing
 shared_type_start = standing_as_read shared_type.packages shared_type.texts
 
 -- the whole run, with the tokens of the texts
-shared_type_inlined : (h0 : TokensOf shared_type_t0.text shared_type_t0.tokens shared_type_t0.comments) (h1 : TokensOf shared_type_t1.text shared_type_t1.tokens shared_type_t1.comments) → IsInlining the_limits 29 shared_type.packages shared_type.texts [] (((codes "main.go"), shared_type_t0) ∷ ((codes "old/old.go"), shared_type_t1) ∷ []) (codes "main.go:5:16: kept example.com/m/old.A: not accessible: hidden\n")
+shared_type_inlined : (h0 : TokensOf shared_type_t0.text shared_type_t0.tokens shared_type_t0.comments) (h1 : TokensOf shared_type_t1.text shared_type_t1.tokens shared_type_t1.comments) → IsInlining the_limits (folder small_module shared_type.texts) shared_type.packages shared_type.texts [] (((codes "main.go"), shared_type_t0) ∷ ((codes "old/old.go"), shared_type_t1) ∷ []) (codes "main.go:5:16: kept example.com/m/old.A: not accessible: hidden\n")
 unfolding passes keyword_spellings is_inline digits reading
-shared_type_inlined h0 h1 = inlining_by the_limits 29 shared_type.packages shared_type.texts [] shared_type.marks shared_type_start ([]) (codes "main.go:5:16: kept example.com/m/old.A: not accessible: hidden\n") shared_type_marks (package_ _ _ (file _ _ shared_type_t0 refl (record { scans = h0; spells = file_spelled shared_type_t0.tokens shared_type_f0 (shared_type_spelled0) }) none) (package_ _ _ (file _ _ shared_type_t1 refl (record { scans = h1; spells = file_spelled shared_type_t1.tokens shared_type_f1 (shared_type_spelled1) }) none) none)) (ends shared_type_start refl) (begins [] shared_type_start) (kept_by ([]) (codes "main.go") shared_type_t0.text shared_type_t0.text (((codes "old/old.go"), shared_type_t1.text) ∷ []) (((codes "old/old.go"), shared_type_t1.text) ∷ []) refl refl (kept_by ([]) (codes "old/old.go") shared_type_t1.text shared_type_t1.text [] [] refl refl run.none)) refl
+shared_type_inlined h0 h1 = inlining_by the_limits (folder small_module shared_type.texts) shared_type.packages shared_type.texts [] shared_type.marks shared_type_start ([]) (codes "main.go:5:16: kept example.com/m/old.A: not accessible: hidden\n") shared_type_marks (module_by (codes "example.com/m") (module_text small_module) (record { path = codes "main.go"; text = shared_type_t0; tree = shared_type_f0; reads = record { scans = h0; spells = file_spelled shared_type_t0.tokens shared_type_f0 shared_type_spelled0 } } ∷ record { path = codes "old/old.go"; text = shared_type_t1; tree = shared_type_f1; reads = record { scans = h1; spells = file_spelled shared_type_t1.tokens shared_type_f1 shared_type_spelled1 } } ∷ []) (folder small_module shared_type.texts) shared_type.packages shared_type.texts small_module_is refl refl refl refl refl refl refl refl refl) (ends shared_type_start refl) (begins [] shared_type_start) (kept_by ([]) (codes "main.go") shared_type_t0.text shared_type_t0.text (((codes "old/old.go"), shared_type_t1.text) ∷ []) (((codes "old/old.go"), shared_type_t1.text) ∷ []) refl refl (kept_by ([]) (codes "old/old.go") shared_type_t1.text shared_type_t1.text [] [] refl refl run.none)) refl
 
 shared_type_t0_found : TokensOf shared_type_t0.text shared_type_t0.tokens shared_type_t0.comments
 unfolding piece_of lexeme_of longest_from next_of tokens_from comments_from keyword_spellings is_letter is_digit general_category general_category_rows value_in lib.Utf8.encode
@@ -316,5 +317,5 @@ shared_type_t1_found : TokensOf shared_type_t1.text shared_type_t1.tokens shared
 unfolding piece_of lexeme_of longest_from next_of tokens_from comments_from keyword_spellings is_letter is_digit general_category general_category_rows value_in lib.Utf8.encode
 shared_type_t1_found = tokens_by shared_type_t1.text shared_type_t1.tokens shared_type_t1.comments refl refl refl
 
-shared_type_run : IsInlining the_limits 29 shared_type.packages shared_type.texts [] (((codes "main.go"), shared_type_t0) ∷ ((codes "old/old.go"), shared_type_t1) ∷ []) (codes "main.go:5:16: kept example.com/m/old.A: not accessible: hidden\n")
+shared_type_run : IsInlining the_limits (folder small_module shared_type.texts) shared_type.packages shared_type.texts [] (((codes "main.go"), shared_type_t0) ∷ ((codes "old/old.go"), shared_type_t1) ∷ []) (codes "main.go:5:16: kept example.com/m/old.A: not accessible: hidden\n")
 shared_type_run = shared_type_inlined shared_type_t0_found shared_type_t1_found

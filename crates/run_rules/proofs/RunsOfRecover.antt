@@ -24,10 +24,11 @@ use Rattle.run_rules.specs.Run.{Standing, Next, step_in, goes_on, ends, the_limi
 use Rattle.run_rules.specs.Run as run
 use Rattle.go_read.proofs.Whole.{file_spelled}
 use Rattle.std.specs.Fmt.{digits}
-use Rattle.run_rules.specs.Inlining.{standing_as_read, none, file, package_, begins, steps_on, IsInlining}
+use Rattle.run_rules.specs.Inlining.{standing_as_read, begins, steps_on, IsInlining}
 use Rattle.run_rules.proofs.CaseTools.{from, nmf}
 use Rattle.go_words.specs.Tokens.{TokensOf}
 use Rattle.run_rules.proofs.Instances.{stands_after, log_entry, next_by, kept_by, inlining_by}
+use Rattle.run_rules.proofs.ModulesRead.{module_by, module_text, folder, small_module, small_module_is}
 use Rattle.ucd_category.specs.GeneralCategory.{general_category}
 use Rattle.ucd_category.specs.GeneralCategoryRows.{general_category_rows}
 use Rattle.ucd_table.specs.Rows.{value_in}
@@ -73,9 +74,9 @@ unfolding passes keyword_spellings is_inline digits reading deferred_guard_steps
 deferred_guard_next h = next_by deferred_guard.marks deferred_guard_start (deferred_guard_steps) deferred_guard_t0 deferred_guard_new deferred_guard_tree refl refl h refl refl
 
 -- the whole run, with the tokens of the texts
-deferred_guard_inlined : (h0 : TokensOf deferred_guard_t0.text deferred_guard_t0.tokens deferred_guard_t0.comments) (h : TokensOf deferred_guard_new.text deferred_guard_new.tokens deferred_guard_new.comments) → IsInlining the_limits 29 deferred_guard.packages deferred_guard.texts [] (((codes "main.go"), deferred_guard_new) ∷ []) (codes "main.go:7:8: inlined example.com/m.Guard as literal\n")
+deferred_guard_inlined : (h0 : TokensOf deferred_guard_t0.text deferred_guard_t0.tokens deferred_guard_t0.comments) (h : TokensOf deferred_guard_new.text deferred_guard_new.tokens deferred_guard_new.comments) → IsInlining the_limits (folder small_module deferred_guard.texts) deferred_guard.packages deferred_guard.texts [] (((codes "main.go"), deferred_guard_new) ∷ []) (codes "main.go:7:8: inlined example.com/m.Guard as literal\n")
 unfolding passes keyword_spellings is_inline digits reading deferred_guard_steps deferred_guard_next
-deferred_guard_inlined h0 h = inlining_by the_limits 29 deferred_guard.packages deferred_guard.texts [] deferred_guard.marks (stands_after deferred_guard.marks deferred_guard_start (deferred_guard_steps) deferred_guard_t0 deferred_guard_new deferred_guard_tree) (log_entry deferred_guard.marks deferred_guard_start (deferred_guard_steps) deferred_guard_t0 deferred_guard_new deferred_guard_tree ∷ []) (codes "main.go:7:8: inlined example.com/m.Guard as literal\n") deferred_guard_marks (package_ _ _ (file _ _ deferred_guard_t0 refl (record { scans = h0; spells = file_spelled deferred_guard_t0.tokens deferred_guard_f0 (deferred_guard_spelled0) }) none) none) (goes_on deferred_guard_start (stands_after deferred_guard.marks deferred_guard_start (deferred_guard_steps) deferred_guard_t0 deferred_guard_new deferred_guard_tree) (stands_after deferred_guard.marks deferred_guard_start (deferred_guard_steps) deferred_guard_t0 deferred_guard_new deferred_guard_tree) (log_entry deferred_guard.marks deferred_guard_start (deferred_guard_steps) deferred_guard_t0 deferred_guard_new deferred_guard_tree) [] (deferred_guard_next h) (ends (stands_after deferred_guard.marks deferred_guard_start (deferred_guard_steps) deferred_guard_t0 deferred_guard_new deferred_guard_tree) refl)) (steps_on [] [] (log_entry deferred_guard.marks deferred_guard_start (deferred_guard_steps) deferred_guard_t0 deferred_guard_new deferred_guard_tree) deferred_guard_start (stands_after deferred_guard.marks deferred_guard_start (deferred_guard_steps) deferred_guard_t0 deferred_guard_new deferred_guard_tree) (stands_after deferred_guard.marks deferred_guard_start (deferred_guard_steps) deferred_guard_t0 deferred_guard_new deferred_guard_tree) (deferred_guard_next h) refl (begins (log_entry deferred_guard.marks deferred_guard_start (deferred_guard_steps) deferred_guard_t0 deferred_guard_new deferred_guard_tree ∷ []) (stands_after deferred_guard.marks deferred_guard_start (deferred_guard_steps) deferred_guard_t0 deferred_guard_new deferred_guard_tree))) (kept_by (log_entry deferred_guard.marks deferred_guard_start (deferred_guard_steps) deferred_guard_t0 deferred_guard_new deferred_guard_tree ∷ []) (codes "main.go") deferred_guard_t0.text deferred_guard_new.text [] [] refl refl run.none) refl
+deferred_guard_inlined h0 h = inlining_by the_limits (folder small_module deferred_guard.texts) deferred_guard.packages deferred_guard.texts [] deferred_guard.marks (stands_after deferred_guard.marks deferred_guard_start (deferred_guard_steps) deferred_guard_t0 deferred_guard_new deferred_guard_tree) (log_entry deferred_guard.marks deferred_guard_start (deferred_guard_steps) deferred_guard_t0 deferred_guard_new deferred_guard_tree ∷ []) (codes "main.go:7:8: inlined example.com/m.Guard as literal\n") deferred_guard_marks (module_by (codes "example.com/m") (module_text small_module) (record { path = codes "main.go"; text = deferred_guard_t0; tree = deferred_guard_f0; reads = record { scans = h0; spells = file_spelled deferred_guard_t0.tokens deferred_guard_f0 deferred_guard_spelled0 } } ∷ []) (folder small_module deferred_guard.texts) deferred_guard.packages deferred_guard.texts small_module_is refl refl refl refl refl refl refl refl refl) (goes_on deferred_guard_start (stands_after deferred_guard.marks deferred_guard_start (deferred_guard_steps) deferred_guard_t0 deferred_guard_new deferred_guard_tree) (stands_after deferred_guard.marks deferred_guard_start (deferred_guard_steps) deferred_guard_t0 deferred_guard_new deferred_guard_tree) (log_entry deferred_guard.marks deferred_guard_start (deferred_guard_steps) deferred_guard_t0 deferred_guard_new deferred_guard_tree) [] (deferred_guard_next h) (ends (stands_after deferred_guard.marks deferred_guard_start (deferred_guard_steps) deferred_guard_t0 deferred_guard_new deferred_guard_tree) refl)) (steps_on [] [] (log_entry deferred_guard.marks deferred_guard_start (deferred_guard_steps) deferred_guard_t0 deferred_guard_new deferred_guard_tree) deferred_guard_start (stands_after deferred_guard.marks deferred_guard_start (deferred_guard_steps) deferred_guard_t0 deferred_guard_new deferred_guard_tree) (stands_after deferred_guard.marks deferred_guard_start (deferred_guard_steps) deferred_guard_t0 deferred_guard_new deferred_guard_tree) (deferred_guard_next h) refl (begins (log_entry deferred_guard.marks deferred_guard_start (deferred_guard_steps) deferred_guard_t0 deferred_guard_new deferred_guard_tree ∷ []) (stands_after deferred_guard.marks deferred_guard_start (deferred_guard_steps) deferred_guard_t0 deferred_guard_new deferred_guard_tree))) (kept_by (log_entry deferred_guard.marks deferred_guard_start (deferred_guard_steps) deferred_guard_t0 deferred_guard_new deferred_guard_tree ∷ []) (codes "main.go") deferred_guard_t0.text deferred_guard_new.text [] [] refl refl run.none) refl
 
 deferred_guard_t0_found : TokensOf deferred_guard_t0.text deferred_guard_t0.tokens deferred_guard_t0.comments
 unfolding piece_of lexeme_of longest_from next_of tokens_from comments_from keyword_spellings is_letter is_digit general_category general_category_rows value_in lib.Utf8.encode
@@ -85,7 +86,7 @@ deferred_guard_new_found : TokensOf deferred_guard_new.text deferred_guard_new.t
 unfolding piece_of lexeme_of longest_from next_of tokens_from comments_from keyword_spellings is_letter is_digit general_category general_category_rows value_in lib.Utf8.encode
 deferred_guard_new_found = tokens_by deferred_guard_new.text deferred_guard_new.tokens deferred_guard_new.comments refl refl refl
 
-deferred_guard_run : IsInlining the_limits 29 deferred_guard.packages deferred_guard.texts [] (((codes "main.go"), deferred_guard_new) ∷ []) (codes "main.go:7:8: inlined example.com/m.Guard as literal\n")
+deferred_guard_run : IsInlining the_limits (folder small_module deferred_guard.texts) deferred_guard.packages deferred_guard.texts [] (((codes "main.go"), deferred_guard_new) ∷ []) (codes "main.go:7:8: inlined example.com/m.Guard as literal\n")
 deferred_guard_run = deferred_guard_inlined deferred_guard_t0_found deferred_guard_new_found
 
 -- A call of a function that recovers stays a call.
@@ -124,9 +125,9 @@ unfolding passes keyword_spellings is_inline digits reading inner_guard_steps
 inner_guard_next h = next_by inner_guard.marks inner_guard_start (inner_guard_steps) inner_guard_t0 inner_guard_new inner_guard_tree refl refl h refl refl
 
 -- the whole run, with the tokens of the texts
-inner_guard_inlined : (h0 : TokensOf inner_guard_t0.text inner_guard_t0.tokens inner_guard_t0.comments) (h : TokensOf inner_guard_new.text inner_guard_new.tokens inner_guard_new.comments) → IsInlining the_limits 29 inner_guard.packages inner_guard.texts [] (((codes "main.go"), inner_guard_new) ∷ []) (codes "main.go:8:3: inlined example.com/m.Guard as literal\n")
+inner_guard_inlined : (h0 : TokensOf inner_guard_t0.text inner_guard_t0.tokens inner_guard_t0.comments) (h : TokensOf inner_guard_new.text inner_guard_new.tokens inner_guard_new.comments) → IsInlining the_limits (folder small_module inner_guard.texts) inner_guard.packages inner_guard.texts [] (((codes "main.go"), inner_guard_new) ∷ []) (codes "main.go:8:3: inlined example.com/m.Guard as literal\n")
 unfolding passes keyword_spellings is_inline digits reading inner_guard_steps inner_guard_next
-inner_guard_inlined h0 h = inlining_by the_limits 29 inner_guard.packages inner_guard.texts [] inner_guard.marks (stands_after inner_guard.marks inner_guard_start (inner_guard_steps) inner_guard_t0 inner_guard_new inner_guard_tree) (log_entry inner_guard.marks inner_guard_start (inner_guard_steps) inner_guard_t0 inner_guard_new inner_guard_tree ∷ []) (codes "main.go:8:3: inlined example.com/m.Guard as literal\n") inner_guard_marks (package_ _ _ (file _ _ inner_guard_t0 refl (record { scans = h0; spells = file_spelled inner_guard_t0.tokens inner_guard_f0 (inner_guard_spelled0) }) none) none) (goes_on inner_guard_start (stands_after inner_guard.marks inner_guard_start (inner_guard_steps) inner_guard_t0 inner_guard_new inner_guard_tree) (stands_after inner_guard.marks inner_guard_start (inner_guard_steps) inner_guard_t0 inner_guard_new inner_guard_tree) (log_entry inner_guard.marks inner_guard_start (inner_guard_steps) inner_guard_t0 inner_guard_new inner_guard_tree) [] (inner_guard_next h) (ends (stands_after inner_guard.marks inner_guard_start (inner_guard_steps) inner_guard_t0 inner_guard_new inner_guard_tree) refl)) (steps_on [] [] (log_entry inner_guard.marks inner_guard_start (inner_guard_steps) inner_guard_t0 inner_guard_new inner_guard_tree) inner_guard_start (stands_after inner_guard.marks inner_guard_start (inner_guard_steps) inner_guard_t0 inner_guard_new inner_guard_tree) (stands_after inner_guard.marks inner_guard_start (inner_guard_steps) inner_guard_t0 inner_guard_new inner_guard_tree) (inner_guard_next h) refl (begins (log_entry inner_guard.marks inner_guard_start (inner_guard_steps) inner_guard_t0 inner_guard_new inner_guard_tree ∷ []) (stands_after inner_guard.marks inner_guard_start (inner_guard_steps) inner_guard_t0 inner_guard_new inner_guard_tree))) (kept_by (log_entry inner_guard.marks inner_guard_start (inner_guard_steps) inner_guard_t0 inner_guard_new inner_guard_tree ∷ []) (codes "main.go") inner_guard_t0.text inner_guard_new.text [] [] refl refl run.none) refl
+inner_guard_inlined h0 h = inlining_by the_limits (folder small_module inner_guard.texts) inner_guard.packages inner_guard.texts [] inner_guard.marks (stands_after inner_guard.marks inner_guard_start (inner_guard_steps) inner_guard_t0 inner_guard_new inner_guard_tree) (log_entry inner_guard.marks inner_guard_start (inner_guard_steps) inner_guard_t0 inner_guard_new inner_guard_tree ∷ []) (codes "main.go:8:3: inlined example.com/m.Guard as literal\n") inner_guard_marks (module_by (codes "example.com/m") (module_text small_module) (record { path = codes "main.go"; text = inner_guard_t0; tree = inner_guard_f0; reads = record { scans = h0; spells = file_spelled inner_guard_t0.tokens inner_guard_f0 inner_guard_spelled0 } } ∷ []) (folder small_module inner_guard.texts) inner_guard.packages inner_guard.texts small_module_is refl refl refl refl refl refl refl refl refl) (goes_on inner_guard_start (stands_after inner_guard.marks inner_guard_start (inner_guard_steps) inner_guard_t0 inner_guard_new inner_guard_tree) (stands_after inner_guard.marks inner_guard_start (inner_guard_steps) inner_guard_t0 inner_guard_new inner_guard_tree) (log_entry inner_guard.marks inner_guard_start (inner_guard_steps) inner_guard_t0 inner_guard_new inner_guard_tree) [] (inner_guard_next h) (ends (stands_after inner_guard.marks inner_guard_start (inner_guard_steps) inner_guard_t0 inner_guard_new inner_guard_tree) refl)) (steps_on [] [] (log_entry inner_guard.marks inner_guard_start (inner_guard_steps) inner_guard_t0 inner_guard_new inner_guard_tree) inner_guard_start (stands_after inner_guard.marks inner_guard_start (inner_guard_steps) inner_guard_t0 inner_guard_new inner_guard_tree) (stands_after inner_guard.marks inner_guard_start (inner_guard_steps) inner_guard_t0 inner_guard_new inner_guard_tree) (inner_guard_next h) refl (begins (log_entry inner_guard.marks inner_guard_start (inner_guard_steps) inner_guard_t0 inner_guard_new inner_guard_tree ∷ []) (stands_after inner_guard.marks inner_guard_start (inner_guard_steps) inner_guard_t0 inner_guard_new inner_guard_tree))) (kept_by (log_entry inner_guard.marks inner_guard_start (inner_guard_steps) inner_guard_t0 inner_guard_new inner_guard_tree ∷ []) (codes "main.go") inner_guard_t0.text inner_guard_new.text [] [] refl refl run.none) refl
 
 inner_guard_t0_found : TokensOf inner_guard_t0.text inner_guard_t0.tokens inner_guard_t0.comments
 unfolding piece_of lexeme_of longest_from next_of tokens_from comments_from keyword_spellings is_letter is_digit general_category general_category_rows value_in lib.Utf8.encode
@@ -136,7 +137,7 @@ inner_guard_new_found : TokensOf inner_guard_new.text inner_guard_new.tokens inn
 unfolding piece_of lexeme_of longest_from next_of tokens_from comments_from keyword_spellings is_letter is_digit general_category general_category_rows value_in lib.Utf8.encode
 inner_guard_new_found = tokens_by inner_guard_new.text inner_guard_new.tokens inner_guard_new.comments refl refl refl
 
-inner_guard_run : IsInlining the_limits 29 inner_guard.packages inner_guard.texts [] (((codes "main.go"), inner_guard_new) ∷ []) (codes "main.go:8:3: inlined example.com/m.Guard as literal\n")
+inner_guard_run : IsInlining the_limits (folder small_module inner_guard.texts) inner_guard.packages inner_guard.texts [] (((codes "main.go"), inner_guard_new) ∷ []) (codes "main.go:8:3: inlined example.com/m.Guard as literal\n")
 inner_guard_run = inner_guard_inlined inner_guard_t0_found inner_guard_new_found
 
 -- A range over a map.
@@ -179,9 +180,9 @@ unfolding passes keyword_spellings is_inline digits reading map_sum_steps
 map_sum_next h = next_by map_sum.marks map_sum_start (map_sum_steps) map_sum_t0 map_sum_new map_sum_tree refl refl h refl refl
 
 -- the whole run, with the tokens of the texts
-map_sum_inlined : (h0 : TokensOf map_sum_t0.text map_sum_t0.tokens map_sum_t0.comments) (h : TokensOf map_sum_new.text map_sum_new.tokens map_sum_new.comments) → IsInlining the_limits 29 map_sum.packages map_sum.texts [] (((codes "main.go"), map_sum_new) ∷ []) (codes "main.go:14:10: inlined example.com/m.Sum as literal\n")
+map_sum_inlined : (h0 : TokensOf map_sum_t0.text map_sum_t0.tokens map_sum_t0.comments) (h : TokensOf map_sum_new.text map_sum_new.tokens map_sum_new.comments) → IsInlining the_limits (folder small_module map_sum.texts) map_sum.packages map_sum.texts [] (((codes "main.go"), map_sum_new) ∷ []) (codes "main.go:14:10: inlined example.com/m.Sum as literal\n")
 unfolding passes keyword_spellings is_inline digits reading map_sum_steps map_sum_next
-map_sum_inlined h0 h = inlining_by the_limits 29 map_sum.packages map_sum.texts [] map_sum.marks (stands_after map_sum.marks map_sum_start (map_sum_steps) map_sum_t0 map_sum_new map_sum_tree) (log_entry map_sum.marks map_sum_start (map_sum_steps) map_sum_t0 map_sum_new map_sum_tree ∷ []) (codes "main.go:14:10: inlined example.com/m.Sum as literal\n") map_sum_marks (package_ _ _ (file _ _ map_sum_t0 refl (record { scans = h0; spells = file_spelled map_sum_t0.tokens map_sum_f0 (map_sum_spelled0) }) none) none) (goes_on map_sum_start (stands_after map_sum.marks map_sum_start (map_sum_steps) map_sum_t0 map_sum_new map_sum_tree) (stands_after map_sum.marks map_sum_start (map_sum_steps) map_sum_t0 map_sum_new map_sum_tree) (log_entry map_sum.marks map_sum_start (map_sum_steps) map_sum_t0 map_sum_new map_sum_tree) [] (map_sum_next h) (ends (stands_after map_sum.marks map_sum_start (map_sum_steps) map_sum_t0 map_sum_new map_sum_tree) refl)) (steps_on [] [] (log_entry map_sum.marks map_sum_start (map_sum_steps) map_sum_t0 map_sum_new map_sum_tree) map_sum_start (stands_after map_sum.marks map_sum_start (map_sum_steps) map_sum_t0 map_sum_new map_sum_tree) (stands_after map_sum.marks map_sum_start (map_sum_steps) map_sum_t0 map_sum_new map_sum_tree) (map_sum_next h) refl (begins (log_entry map_sum.marks map_sum_start (map_sum_steps) map_sum_t0 map_sum_new map_sum_tree ∷ []) (stands_after map_sum.marks map_sum_start (map_sum_steps) map_sum_t0 map_sum_new map_sum_tree))) (kept_by (log_entry map_sum.marks map_sum_start (map_sum_steps) map_sum_t0 map_sum_new map_sum_tree ∷ []) (codes "main.go") map_sum_t0.text map_sum_new.text [] [] refl refl run.none) refl
+map_sum_inlined h0 h = inlining_by the_limits (folder small_module map_sum.texts) map_sum.packages map_sum.texts [] map_sum.marks (stands_after map_sum.marks map_sum_start (map_sum_steps) map_sum_t0 map_sum_new map_sum_tree) (log_entry map_sum.marks map_sum_start (map_sum_steps) map_sum_t0 map_sum_new map_sum_tree ∷ []) (codes "main.go:14:10: inlined example.com/m.Sum as literal\n") map_sum_marks (module_by (codes "example.com/m") (module_text small_module) (record { path = codes "main.go"; text = map_sum_t0; tree = map_sum_f0; reads = record { scans = h0; spells = file_spelled map_sum_t0.tokens map_sum_f0 map_sum_spelled0 } } ∷ []) (folder small_module map_sum.texts) map_sum.packages map_sum.texts small_module_is refl refl refl refl refl refl refl refl refl) (goes_on map_sum_start (stands_after map_sum.marks map_sum_start (map_sum_steps) map_sum_t0 map_sum_new map_sum_tree) (stands_after map_sum.marks map_sum_start (map_sum_steps) map_sum_t0 map_sum_new map_sum_tree) (log_entry map_sum.marks map_sum_start (map_sum_steps) map_sum_t0 map_sum_new map_sum_tree) [] (map_sum_next h) (ends (stands_after map_sum.marks map_sum_start (map_sum_steps) map_sum_t0 map_sum_new map_sum_tree) refl)) (steps_on [] [] (log_entry map_sum.marks map_sum_start (map_sum_steps) map_sum_t0 map_sum_new map_sum_tree) map_sum_start (stands_after map_sum.marks map_sum_start (map_sum_steps) map_sum_t0 map_sum_new map_sum_tree) (stands_after map_sum.marks map_sum_start (map_sum_steps) map_sum_t0 map_sum_new map_sum_tree) (map_sum_next h) refl (begins (log_entry map_sum.marks map_sum_start (map_sum_steps) map_sum_t0 map_sum_new map_sum_tree ∷ []) (stands_after map_sum.marks map_sum_start (map_sum_steps) map_sum_t0 map_sum_new map_sum_tree))) (kept_by (log_entry map_sum.marks map_sum_start (map_sum_steps) map_sum_t0 map_sum_new map_sum_tree ∷ []) (codes "main.go") map_sum_t0.text map_sum_new.text [] [] refl refl run.none) refl
 
 map_sum_t0_found : TokensOf map_sum_t0.text map_sum_t0.tokens map_sum_t0.comments
 unfolding piece_of lexeme_of longest_from next_of tokens_from comments_from keyword_spellings is_letter is_digit general_category general_category_rows value_in lib.Utf8.encode
@@ -191,5 +192,5 @@ map_sum_new_found : TokensOf map_sum_new.text map_sum_new.tokens map_sum_new.com
 unfolding piece_of lexeme_of longest_from next_of tokens_from comments_from keyword_spellings is_letter is_digit general_category general_category_rows value_in lib.Utf8.encode
 map_sum_new_found = tokens_by map_sum_new.text map_sum_new.tokens map_sum_new.comments refl refl refl
 
-map_sum_run : IsInlining the_limits 29 map_sum.packages map_sum.texts [] (((codes "main.go"), map_sum_new) ∷ []) (codes "main.go:14:10: inlined example.com/m.Sum as literal\n")
+map_sum_run : IsInlining the_limits (folder small_module map_sum.texts) map_sum.packages map_sum.texts [] (((codes "main.go"), map_sum_new) ∷ []) (codes "main.go:14:10: inlined example.com/m.Sum as literal\n")
 map_sum_run = map_sum_inlined map_sum_t0_found map_sum_new_found

@@ -25,9 +25,10 @@ use Rattle.run_rules.specs.Run.{Standing, Logged, Next, step_in, goes_on, ends, 
 use Rattle.run_rules.specs.Run as run
 use Rattle.go_read.proofs.Whole.{file_spelled}
 use Rattle.std.specs.Fmt.{digits}
-use Rattle.run_rules.specs.Inlining.{standing_as_read, none, file, package_, begins, steps_on, IsInlining}
+use Rattle.run_rules.specs.Inlining.{standing_as_read, begins, steps_on, IsInlining}
 use Rattle.run_rules.proofs.CaseTools.{from, nmf}
 use Rattle.run_rules.proofs.Instances.{next_by, kept_by, inlining_by}
+use Rattle.run_rules.proofs.ModulesRead.{module_by, module_text, folder, small_module, small_module_is}
 use Rattle.go_words.specs.Tokens.{TokensOf}
 use Rattle.ucd_category.specs.GeneralCategory.{general_category}
 use Rattle.ucd_category.specs.GeneralCategoryRows.{general_category_rows}
@@ -124,9 +125,9 @@ unfolding passes keyword_spellings is_inline digits reading brought_steps3
 brought_next3 h = next_by brought.marks brought_s2 brought_steps3 brought_n2 brought_n3 brought_tree3 refl refl h refl refl
 
 -- the whole run, with the tokens of the texts
-brought_inlined : (h0 : TokensOf brought_t0.text brought_t0.tokens brought_t0.comments) (g1 : TokensOf brought_n1.text brought_n1.tokens brought_n1.comments) (g2 : TokensOf brought_n2.text brought_n2.tokens brought_n2.comments) (g3 : TokensOf brought_n3.text brought_n3.tokens brought_n3.comments) → IsInlining the_limits 29 brought.packages brought.texts [] (((codes "main.go"), brought_n3) ∷ []) (codes "main.go:5:10: inlined example.com/m.Outer as expr\nmain.go:5:10: inlined example.com/m.Inner as expr\nmain.go:9:32: inlined example.com/m.Inner as expr\n")
+brought_inlined : (h0 : TokensOf brought_t0.text brought_t0.tokens brought_t0.comments) (g1 : TokensOf brought_n1.text brought_n1.tokens brought_n1.comments) (g2 : TokensOf brought_n2.text brought_n2.tokens brought_n2.comments) (g3 : TokensOf brought_n3.text brought_n3.tokens brought_n3.comments) → IsInlining the_limits (folder small_module brought.texts) brought.packages brought.texts [] (((codes "main.go"), brought_n3) ∷ []) (codes "main.go:5:10: inlined example.com/m.Outer as expr\nmain.go:5:10: inlined example.com/m.Inner as expr\nmain.go:9:32: inlined example.com/m.Inner as expr\n")
 unfolding passes keyword_spellings is_inline digits reading brought_steps1 brought_next1 brought_steps2 brought_next2 brought_steps3 brought_next3
-brought_inlined h0 g1 g2 g3 = inlining_by the_limits 29 brought.packages brought.texts [] brought.marks brought_s3 ((brought_l1 ∷ brought_l2 ∷ brought_l3 ∷ [])) (codes "main.go:5:10: inlined example.com/m.Outer as expr\nmain.go:5:10: inlined example.com/m.Inner as expr\nmain.go:9:32: inlined example.com/m.Inner as expr\n") brought_marks (package_ _ _ (file _ _ brought_t0 refl (record { scans = h0; spells = file_spelled brought_t0.tokens brought_f0 (brought_spelled0) }) none) none) (goes_on brought_s0 brought_s1 brought_s3 brought_l1 (brought_l2 ∷ brought_l3 ∷ []) (brought_next1 g1) (goes_on brought_s1 brought_s2 brought_s3 brought_l2 (brought_l3 ∷ []) (brought_next2 g2) (goes_on brought_s2 brought_s3 brought_s3 brought_l3 [] (brought_next3 g3) (ends brought_s3 refl)))) (steps_on [] (brought_l2 ∷ brought_l3 ∷ []) brought_l1 brought_s0 brought_s1 brought_s3 (brought_next1 g1) refl (steps_on (brought_l1 ∷ []) (brought_l3 ∷ []) brought_l2 brought_s1 brought_s2 brought_s3 (brought_next2 g2) refl (steps_on (brought_l1 ∷ brought_l2 ∷ []) [] brought_l3 brought_s2 brought_s3 brought_s3 (brought_next3 g3) refl (begins ((brought_l1 ∷ brought_l2 ∷ brought_l3 ∷ [])) brought_s3)))) (kept_by ((brought_l1 ∷ brought_l2 ∷ brought_l3 ∷ [])) (codes "main.go") brought_t0.text brought_n3.text [] [] refl refl run.none) refl
+brought_inlined h0 g1 g2 g3 = inlining_by the_limits (folder small_module brought.texts) brought.packages brought.texts [] brought.marks brought_s3 ((brought_l1 ∷ brought_l2 ∷ brought_l3 ∷ [])) (codes "main.go:5:10: inlined example.com/m.Outer as expr\nmain.go:5:10: inlined example.com/m.Inner as expr\nmain.go:9:32: inlined example.com/m.Inner as expr\n") brought_marks (module_by (codes "example.com/m") (module_text small_module) (record { path = codes "main.go"; text = brought_t0; tree = brought_f0; reads = record { scans = h0; spells = file_spelled brought_t0.tokens brought_f0 brought_spelled0 } } ∷ []) (folder small_module brought.texts) brought.packages brought.texts small_module_is refl refl refl refl refl refl refl refl refl) (goes_on brought_s0 brought_s1 brought_s3 brought_l1 (brought_l2 ∷ brought_l3 ∷ []) (brought_next1 g1) (goes_on brought_s1 brought_s2 brought_s3 brought_l2 (brought_l3 ∷ []) (brought_next2 g2) (goes_on brought_s2 brought_s3 brought_s3 brought_l3 [] (brought_next3 g3) (ends brought_s3 refl)))) (steps_on [] (brought_l2 ∷ brought_l3 ∷ []) brought_l1 brought_s0 brought_s1 brought_s3 (brought_next1 g1) refl (steps_on (brought_l1 ∷ []) (brought_l3 ∷ []) brought_l2 brought_s1 brought_s2 brought_s3 (brought_next2 g2) refl (steps_on (brought_l1 ∷ brought_l2 ∷ []) [] brought_l3 brought_s2 brought_s3 brought_s3 (brought_next3 g3) refl (begins ((brought_l1 ∷ brought_l2 ∷ brought_l3 ∷ [])) brought_s3)))) (kept_by ((brought_l1 ∷ brought_l2 ∷ brought_l3 ∷ [])) (codes "main.go") brought_t0.text brought_n3.text [] [] refl refl run.none) refl
 
 brought_t0_found : TokensOf brought_t0.text brought_t0.tokens brought_t0.comments
 unfolding piece_of lexeme_of longest_from next_of tokens_from comments_from keyword_spellings is_letter is_digit general_category general_category_rows value_in lib.Utf8.encode
@@ -144,5 +145,5 @@ brought_n3_found : TokensOf brought_n3.text brought_n3.tokens brought_n3.comment
 unfolding piece_of lexeme_of longest_from next_of tokens_from comments_from keyword_spellings is_letter is_digit general_category general_category_rows value_in lib.Utf8.encode
 brought_n3_found = tokens_by brought_n3.text brought_n3.tokens brought_n3.comments refl refl refl
 
-brought_run : IsInlining the_limits 29 brought.packages brought.texts [] (((codes "main.go"), brought_n3) ∷ []) (codes "main.go:5:10: inlined example.com/m.Outer as expr\nmain.go:5:10: inlined example.com/m.Inner as expr\nmain.go:9:32: inlined example.com/m.Inner as expr\n")
+brought_run : IsInlining the_limits (folder small_module brought.texts) brought.packages brought.texts [] (((codes "main.go"), brought_n3) ∷ []) (codes "main.go:5:10: inlined example.com/m.Outer as expr\nmain.go:5:10: inlined example.com/m.Inner as expr\nmain.go:9:32: inlined example.com/m.Inner as expr\n")
 brought_run = brought_inlined brought_t0_found brought_n1_found brought_n2_found brought_n3_found

@@ -24,10 +24,11 @@ use Rattle.run_rules.specs.Run.{Standing, Next, step_in, goes_on, ends, the_limi
 use Rattle.run_rules.specs.Run as run
 use Rattle.go_read.proofs.Whole.{file_spelled}
 use Rattle.std.specs.Fmt.{digits}
-use Rattle.run_rules.specs.Inlining.{standing_as_read, none, file, package_, begins, steps_on, IsInlining}
+use Rattle.run_rules.specs.Inlining.{standing_as_read, begins, steps_on, IsInlining}
 use Rattle.run_rules.proofs.CaseTools.{from, nmf}
 use Rattle.go_words.specs.Tokens.{TokensOf}
 use Rattle.run_rules.proofs.Instances.{stands_after, log_entry, next_by, kept_by, inlining_by}
+use Rattle.run_rules.proofs.ModulesRead.{module_by, module_text, folder, small_module, small_module_is}
 use Rattle.ucd_category.specs.GeneralCategory.{general_category}
 use Rattle.ucd_category.specs.GeneralCategoryRows.{general_category_rows}
 use Rattle.ucd_table.specs.Rows.{value_in}
@@ -93,9 +94,9 @@ unfolding passes keyword_spellings is_inline digits reading acting_wrapper_steps
 acting_wrapper_next h = next_by acting_wrapper.marks acting_wrapper_start (acting_wrapper_steps) acting_wrapper_t0 acting_wrapper_new acting_wrapper_tree refl refl h refl refl
 
 -- the whole run, with the tokens of the texts
-acting_wrapper_inlined : (h0 : TokensOf acting_wrapper_t0.text acting_wrapper_t0.tokens acting_wrapper_t0.comments) (h1 : TokensOf acting_wrapper_t1.text acting_wrapper_t1.tokens acting_wrapper_t1.comments) (h2 : TokensOf acting_wrapper_t2.text acting_wrapper_t2.tokens acting_wrapper_t2.comments) (h : TokensOf acting_wrapper_new.text acting_wrapper_new.tokens acting_wrapper_new.comments) → IsInlining the_limits 29 acting_wrapper.packages acting_wrapper.texts [] (((codes "main.go"), acting_wrapper_new) ∷ ((codes "old/old.go"), acting_wrapper_t1) ∷ ((codes "pow/pow.go"), acting_wrapper_t2) ∷ []) (codes "main.go:11:10: inlined example.com/m/old.Square as expr\n")
+acting_wrapper_inlined : (h0 : TokensOf acting_wrapper_t0.text acting_wrapper_t0.tokens acting_wrapper_t0.comments) (h1 : TokensOf acting_wrapper_t1.text acting_wrapper_t1.tokens acting_wrapper_t1.comments) (h2 : TokensOf acting_wrapper_t2.text acting_wrapper_t2.tokens acting_wrapper_t2.comments) (h : TokensOf acting_wrapper_new.text acting_wrapper_new.tokens acting_wrapper_new.comments) → IsInlining the_limits (folder small_module acting_wrapper.texts) acting_wrapper.packages acting_wrapper.texts [] (((codes "main.go"), acting_wrapper_new) ∷ ((codes "old/old.go"), acting_wrapper_t1) ∷ ((codes "pow/pow.go"), acting_wrapper_t2) ∷ []) (codes "main.go:11:10: inlined example.com/m/old.Square as expr\n")
 unfolding passes keyword_spellings is_inline digits reading acting_wrapper_steps acting_wrapper_next
-acting_wrapper_inlined h0 h1 h2 h = inlining_by the_limits 29 acting_wrapper.packages acting_wrapper.texts [] acting_wrapper.marks (stands_after acting_wrapper.marks acting_wrapper_start (acting_wrapper_steps) acting_wrapper_t0 acting_wrapper_new acting_wrapper_tree) (log_entry acting_wrapper.marks acting_wrapper_start (acting_wrapper_steps) acting_wrapper_t0 acting_wrapper_new acting_wrapper_tree ∷ []) (codes "main.go:11:10: inlined example.com/m/old.Square as expr\n") acting_wrapper_marks (package_ _ _ (file _ _ acting_wrapper_t0 refl (record { scans = h0; spells = file_spelled acting_wrapper_t0.tokens acting_wrapper_f0 (acting_wrapper_spelled0) }) none) (package_ _ _ (file _ _ acting_wrapper_t1 refl (record { scans = h1; spells = file_spelled acting_wrapper_t1.tokens acting_wrapper_f1 (acting_wrapper_spelled1) }) none) (package_ _ _ (file _ _ acting_wrapper_t2 refl (record { scans = h2; spells = file_spelled acting_wrapper_t2.tokens acting_wrapper_f2 (acting_wrapper_spelled2) }) none) none))) (goes_on acting_wrapper_start (stands_after acting_wrapper.marks acting_wrapper_start (acting_wrapper_steps) acting_wrapper_t0 acting_wrapper_new acting_wrapper_tree) (stands_after acting_wrapper.marks acting_wrapper_start (acting_wrapper_steps) acting_wrapper_t0 acting_wrapper_new acting_wrapper_tree) (log_entry acting_wrapper.marks acting_wrapper_start (acting_wrapper_steps) acting_wrapper_t0 acting_wrapper_new acting_wrapper_tree) [] (acting_wrapper_next h) (ends (stands_after acting_wrapper.marks acting_wrapper_start (acting_wrapper_steps) acting_wrapper_t0 acting_wrapper_new acting_wrapper_tree) refl)) (steps_on [] [] (log_entry acting_wrapper.marks acting_wrapper_start (acting_wrapper_steps) acting_wrapper_t0 acting_wrapper_new acting_wrapper_tree) acting_wrapper_start (stands_after acting_wrapper.marks acting_wrapper_start (acting_wrapper_steps) acting_wrapper_t0 acting_wrapper_new acting_wrapper_tree) (stands_after acting_wrapper.marks acting_wrapper_start (acting_wrapper_steps) acting_wrapper_t0 acting_wrapper_new acting_wrapper_tree) (acting_wrapper_next h) refl (begins (log_entry acting_wrapper.marks acting_wrapper_start (acting_wrapper_steps) acting_wrapper_t0 acting_wrapper_new acting_wrapper_tree ∷ []) (stands_after acting_wrapper.marks acting_wrapper_start (acting_wrapper_steps) acting_wrapper_t0 acting_wrapper_new acting_wrapper_tree))) (kept_by (log_entry acting_wrapper.marks acting_wrapper_start (acting_wrapper_steps) acting_wrapper_t0 acting_wrapper_new acting_wrapper_tree ∷ []) (codes "main.go") acting_wrapper_t0.text acting_wrapper_new.text (((codes "old/old.go"), acting_wrapper_t1.text) ∷ ((codes "pow/pow.go"), acting_wrapper_t2.text) ∷ []) (((codes "old/old.go"), acting_wrapper_t1.text) ∷ ((codes "pow/pow.go"), acting_wrapper_t2.text) ∷ []) refl refl (kept_by (log_entry acting_wrapper.marks acting_wrapper_start (acting_wrapper_steps) acting_wrapper_t0 acting_wrapper_new acting_wrapper_tree ∷ []) (codes "old/old.go") acting_wrapper_t1.text acting_wrapper_t1.text (((codes "pow/pow.go"), acting_wrapper_t2.text) ∷ []) (((codes "pow/pow.go"), acting_wrapper_t2.text) ∷ []) refl refl (kept_by (log_entry acting_wrapper.marks acting_wrapper_start (acting_wrapper_steps) acting_wrapper_t0 acting_wrapper_new acting_wrapper_tree ∷ []) (codes "pow/pow.go") acting_wrapper_t2.text acting_wrapper_t2.text [] [] refl refl run.none))) refl
+acting_wrapper_inlined h0 h1 h2 h = inlining_by the_limits (folder small_module acting_wrapper.texts) acting_wrapper.packages acting_wrapper.texts [] acting_wrapper.marks (stands_after acting_wrapper.marks acting_wrapper_start (acting_wrapper_steps) acting_wrapper_t0 acting_wrapper_new acting_wrapper_tree) (log_entry acting_wrapper.marks acting_wrapper_start (acting_wrapper_steps) acting_wrapper_t0 acting_wrapper_new acting_wrapper_tree ∷ []) (codes "main.go:11:10: inlined example.com/m/old.Square as expr\n") acting_wrapper_marks (module_by (codes "example.com/m") (module_text small_module) (record { path = codes "main.go"; text = acting_wrapper_t0; tree = acting_wrapper_f0; reads = record { scans = h0; spells = file_spelled acting_wrapper_t0.tokens acting_wrapper_f0 acting_wrapper_spelled0 } } ∷ record { path = codes "old/old.go"; text = acting_wrapper_t1; tree = acting_wrapper_f1; reads = record { scans = h1; spells = file_spelled acting_wrapper_t1.tokens acting_wrapper_f1 acting_wrapper_spelled1 } } ∷ record { path = codes "pow/pow.go"; text = acting_wrapper_t2; tree = acting_wrapper_f2; reads = record { scans = h2; spells = file_spelled acting_wrapper_t2.tokens acting_wrapper_f2 acting_wrapper_spelled2 } } ∷ []) (folder small_module acting_wrapper.texts) acting_wrapper.packages acting_wrapper.texts small_module_is refl refl refl refl refl refl refl refl refl) (goes_on acting_wrapper_start (stands_after acting_wrapper.marks acting_wrapper_start (acting_wrapper_steps) acting_wrapper_t0 acting_wrapper_new acting_wrapper_tree) (stands_after acting_wrapper.marks acting_wrapper_start (acting_wrapper_steps) acting_wrapper_t0 acting_wrapper_new acting_wrapper_tree) (log_entry acting_wrapper.marks acting_wrapper_start (acting_wrapper_steps) acting_wrapper_t0 acting_wrapper_new acting_wrapper_tree) [] (acting_wrapper_next h) (ends (stands_after acting_wrapper.marks acting_wrapper_start (acting_wrapper_steps) acting_wrapper_t0 acting_wrapper_new acting_wrapper_tree) refl)) (steps_on [] [] (log_entry acting_wrapper.marks acting_wrapper_start (acting_wrapper_steps) acting_wrapper_t0 acting_wrapper_new acting_wrapper_tree) acting_wrapper_start (stands_after acting_wrapper.marks acting_wrapper_start (acting_wrapper_steps) acting_wrapper_t0 acting_wrapper_new acting_wrapper_tree) (stands_after acting_wrapper.marks acting_wrapper_start (acting_wrapper_steps) acting_wrapper_t0 acting_wrapper_new acting_wrapper_tree) (acting_wrapper_next h) refl (begins (log_entry acting_wrapper.marks acting_wrapper_start (acting_wrapper_steps) acting_wrapper_t0 acting_wrapper_new acting_wrapper_tree ∷ []) (stands_after acting_wrapper.marks acting_wrapper_start (acting_wrapper_steps) acting_wrapper_t0 acting_wrapper_new acting_wrapper_tree))) (kept_by (log_entry acting_wrapper.marks acting_wrapper_start (acting_wrapper_steps) acting_wrapper_t0 acting_wrapper_new acting_wrapper_tree ∷ []) (codes "main.go") acting_wrapper_t0.text acting_wrapper_new.text (((codes "old/old.go"), acting_wrapper_t1.text) ∷ ((codes "pow/pow.go"), acting_wrapper_t2.text) ∷ []) (((codes "old/old.go"), acting_wrapper_t1.text) ∷ ((codes "pow/pow.go"), acting_wrapper_t2.text) ∷ []) refl refl (kept_by (log_entry acting_wrapper.marks acting_wrapper_start (acting_wrapper_steps) acting_wrapper_t0 acting_wrapper_new acting_wrapper_tree ∷ []) (codes "old/old.go") acting_wrapper_t1.text acting_wrapper_t1.text (((codes "pow/pow.go"), acting_wrapper_t2.text) ∷ []) (((codes "pow/pow.go"), acting_wrapper_t2.text) ∷ []) refl refl (kept_by (log_entry acting_wrapper.marks acting_wrapper_start (acting_wrapper_steps) acting_wrapper_t0 acting_wrapper_new acting_wrapper_tree ∷ []) (codes "pow/pow.go") acting_wrapper_t2.text acting_wrapper_t2.text [] [] refl refl run.none))) refl
 
 acting_wrapper_t0_found : TokensOf acting_wrapper_t0.text acting_wrapper_t0.tokens acting_wrapper_t0.comments
 unfolding piece_of lexeme_of longest_from next_of tokens_from comments_from keyword_spellings is_letter is_digit general_category general_category_rows value_in lib.Utf8.encode
@@ -113,7 +114,7 @@ acting_wrapper_new_found : TokensOf acting_wrapper_new.text acting_wrapper_new.t
 unfolding piece_of lexeme_of longest_from next_of tokens_from comments_from keyword_spellings is_letter is_digit general_category general_category_rows value_in lib.Utf8.encode
 acting_wrapper_new_found = tokens_by acting_wrapper_new.text acting_wrapper_new.tokens acting_wrapper_new.comments refl refl refl
 
-acting_wrapper_run : IsInlining the_limits 29 acting_wrapper.packages acting_wrapper.texts [] (((codes "main.go"), acting_wrapper_new) ∷ ((codes "old/old.go"), acting_wrapper_t1) ∷ ((codes "pow/pow.go"), acting_wrapper_t2) ∷ []) (codes "main.go:11:10: inlined example.com/m/old.Square as expr\n")
+acting_wrapper_run : IsInlining the_limits (folder small_module acting_wrapper.texts) acting_wrapper.packages acting_wrapper.texts [] (((codes "main.go"), acting_wrapper_new) ∷ ((codes "old/old.go"), acting_wrapper_t1) ∷ ((codes "pow/pow.go"), acting_wrapper_t2) ∷ []) (codes "main.go:11:10: inlined example.com/m/old.Square as expr\n")
 acting_wrapper_run = acting_wrapper_inlined acting_wrapper_t0_found acting_wrapper_t1_found acting_wrapper_t2_found acting_wrapper_new_found
 
 -- The package gets a new name.
@@ -172,9 +173,9 @@ unfolding passes keyword_spellings is_inline digits reading renamed_wrapper_step
 renamed_wrapper_next h = next_by renamed_wrapper.marks renamed_wrapper_start (renamed_wrapper_steps) renamed_wrapper_t0 renamed_wrapper_new renamed_wrapper_tree refl refl h refl refl
 
 -- the whole run, with the tokens of the texts
-renamed_wrapper_inlined : (h0 : TokensOf renamed_wrapper_t0.text renamed_wrapper_t0.tokens renamed_wrapper_t0.comments) (h1 : TokensOf renamed_wrapper_t1.text renamed_wrapper_t1.tokens renamed_wrapper_t1.comments) (h2 : TokensOf renamed_wrapper_t2.text renamed_wrapper_t2.tokens renamed_wrapper_t2.comments) (h : TokensOf renamed_wrapper_new.text renamed_wrapper_new.tokens renamed_wrapper_new.comments) → IsInlining the_limits 29 renamed_wrapper.packages renamed_wrapper.texts [] (((codes "main.go"), renamed_wrapper_new) ∷ ((codes "old/old.go"), renamed_wrapper_t1) ∷ ((codes "pow/pow.go"), renamed_wrapper_t2) ∷ []) (codes "main.go:7:10: inlined example.com/m/old.Square as expr\n")
+renamed_wrapper_inlined : (h0 : TokensOf renamed_wrapper_t0.text renamed_wrapper_t0.tokens renamed_wrapper_t0.comments) (h1 : TokensOf renamed_wrapper_t1.text renamed_wrapper_t1.tokens renamed_wrapper_t1.comments) (h2 : TokensOf renamed_wrapper_t2.text renamed_wrapper_t2.tokens renamed_wrapper_t2.comments) (h : TokensOf renamed_wrapper_new.text renamed_wrapper_new.tokens renamed_wrapper_new.comments) → IsInlining the_limits (folder small_module renamed_wrapper.texts) renamed_wrapper.packages renamed_wrapper.texts [] (((codes "main.go"), renamed_wrapper_new) ∷ ((codes "old/old.go"), renamed_wrapper_t1) ∷ ((codes "pow/pow.go"), renamed_wrapper_t2) ∷ []) (codes "main.go:7:10: inlined example.com/m/old.Square as expr\n")
 unfolding passes keyword_spellings is_inline digits reading renamed_wrapper_steps renamed_wrapper_next
-renamed_wrapper_inlined h0 h1 h2 h = inlining_by the_limits 29 renamed_wrapper.packages renamed_wrapper.texts [] renamed_wrapper.marks (stands_after renamed_wrapper.marks renamed_wrapper_start (renamed_wrapper_steps) renamed_wrapper_t0 renamed_wrapper_new renamed_wrapper_tree) (log_entry renamed_wrapper.marks renamed_wrapper_start (renamed_wrapper_steps) renamed_wrapper_t0 renamed_wrapper_new renamed_wrapper_tree ∷ []) (codes "main.go:7:10: inlined example.com/m/old.Square as expr\n") renamed_wrapper_marks (package_ _ _ (file _ _ renamed_wrapper_t0 refl (record { scans = h0; spells = file_spelled renamed_wrapper_t0.tokens renamed_wrapper_f0 (renamed_wrapper_spelled0) }) none) (package_ _ _ (file _ _ renamed_wrapper_t1 refl (record { scans = h1; spells = file_spelled renamed_wrapper_t1.tokens renamed_wrapper_f1 (renamed_wrapper_spelled1) }) none) (package_ _ _ (file _ _ renamed_wrapper_t2 refl (record { scans = h2; spells = file_spelled renamed_wrapper_t2.tokens renamed_wrapper_f2 (renamed_wrapper_spelled2) }) none) none))) (goes_on renamed_wrapper_start (stands_after renamed_wrapper.marks renamed_wrapper_start (renamed_wrapper_steps) renamed_wrapper_t0 renamed_wrapper_new renamed_wrapper_tree) (stands_after renamed_wrapper.marks renamed_wrapper_start (renamed_wrapper_steps) renamed_wrapper_t0 renamed_wrapper_new renamed_wrapper_tree) (log_entry renamed_wrapper.marks renamed_wrapper_start (renamed_wrapper_steps) renamed_wrapper_t0 renamed_wrapper_new renamed_wrapper_tree) [] (renamed_wrapper_next h) (ends (stands_after renamed_wrapper.marks renamed_wrapper_start (renamed_wrapper_steps) renamed_wrapper_t0 renamed_wrapper_new renamed_wrapper_tree) refl)) (steps_on [] [] (log_entry renamed_wrapper.marks renamed_wrapper_start (renamed_wrapper_steps) renamed_wrapper_t0 renamed_wrapper_new renamed_wrapper_tree) renamed_wrapper_start (stands_after renamed_wrapper.marks renamed_wrapper_start (renamed_wrapper_steps) renamed_wrapper_t0 renamed_wrapper_new renamed_wrapper_tree) (stands_after renamed_wrapper.marks renamed_wrapper_start (renamed_wrapper_steps) renamed_wrapper_t0 renamed_wrapper_new renamed_wrapper_tree) (renamed_wrapper_next h) refl (begins (log_entry renamed_wrapper.marks renamed_wrapper_start (renamed_wrapper_steps) renamed_wrapper_t0 renamed_wrapper_new renamed_wrapper_tree ∷ []) (stands_after renamed_wrapper.marks renamed_wrapper_start (renamed_wrapper_steps) renamed_wrapper_t0 renamed_wrapper_new renamed_wrapper_tree))) (kept_by (log_entry renamed_wrapper.marks renamed_wrapper_start (renamed_wrapper_steps) renamed_wrapper_t0 renamed_wrapper_new renamed_wrapper_tree ∷ []) (codes "main.go") renamed_wrapper_t0.text renamed_wrapper_new.text (((codes "old/old.go"), renamed_wrapper_t1.text) ∷ ((codes "pow/pow.go"), renamed_wrapper_t2.text) ∷ []) (((codes "old/old.go"), renamed_wrapper_t1.text) ∷ ((codes "pow/pow.go"), renamed_wrapper_t2.text) ∷ []) refl refl (kept_by (log_entry renamed_wrapper.marks renamed_wrapper_start (renamed_wrapper_steps) renamed_wrapper_t0 renamed_wrapper_new renamed_wrapper_tree ∷ []) (codes "old/old.go") renamed_wrapper_t1.text renamed_wrapper_t1.text (((codes "pow/pow.go"), renamed_wrapper_t2.text) ∷ []) (((codes "pow/pow.go"), renamed_wrapper_t2.text) ∷ []) refl refl (kept_by (log_entry renamed_wrapper.marks renamed_wrapper_start (renamed_wrapper_steps) renamed_wrapper_t0 renamed_wrapper_new renamed_wrapper_tree ∷ []) (codes "pow/pow.go") renamed_wrapper_t2.text renamed_wrapper_t2.text [] [] refl refl run.none))) refl
+renamed_wrapper_inlined h0 h1 h2 h = inlining_by the_limits (folder small_module renamed_wrapper.texts) renamed_wrapper.packages renamed_wrapper.texts [] renamed_wrapper.marks (stands_after renamed_wrapper.marks renamed_wrapper_start (renamed_wrapper_steps) renamed_wrapper_t0 renamed_wrapper_new renamed_wrapper_tree) (log_entry renamed_wrapper.marks renamed_wrapper_start (renamed_wrapper_steps) renamed_wrapper_t0 renamed_wrapper_new renamed_wrapper_tree ∷ []) (codes "main.go:7:10: inlined example.com/m/old.Square as expr\n") renamed_wrapper_marks (module_by (codes "example.com/m") (module_text small_module) (record { path = codes "main.go"; text = renamed_wrapper_t0; tree = renamed_wrapper_f0; reads = record { scans = h0; spells = file_spelled renamed_wrapper_t0.tokens renamed_wrapper_f0 renamed_wrapper_spelled0 } } ∷ record { path = codes "old/old.go"; text = renamed_wrapper_t1; tree = renamed_wrapper_f1; reads = record { scans = h1; spells = file_spelled renamed_wrapper_t1.tokens renamed_wrapper_f1 renamed_wrapper_spelled1 } } ∷ record { path = codes "pow/pow.go"; text = renamed_wrapper_t2; tree = renamed_wrapper_f2; reads = record { scans = h2; spells = file_spelled renamed_wrapper_t2.tokens renamed_wrapper_f2 renamed_wrapper_spelled2 } } ∷ []) (folder small_module renamed_wrapper.texts) renamed_wrapper.packages renamed_wrapper.texts small_module_is refl refl refl refl refl refl refl refl refl) (goes_on renamed_wrapper_start (stands_after renamed_wrapper.marks renamed_wrapper_start (renamed_wrapper_steps) renamed_wrapper_t0 renamed_wrapper_new renamed_wrapper_tree) (stands_after renamed_wrapper.marks renamed_wrapper_start (renamed_wrapper_steps) renamed_wrapper_t0 renamed_wrapper_new renamed_wrapper_tree) (log_entry renamed_wrapper.marks renamed_wrapper_start (renamed_wrapper_steps) renamed_wrapper_t0 renamed_wrapper_new renamed_wrapper_tree) [] (renamed_wrapper_next h) (ends (stands_after renamed_wrapper.marks renamed_wrapper_start (renamed_wrapper_steps) renamed_wrapper_t0 renamed_wrapper_new renamed_wrapper_tree) refl)) (steps_on [] [] (log_entry renamed_wrapper.marks renamed_wrapper_start (renamed_wrapper_steps) renamed_wrapper_t0 renamed_wrapper_new renamed_wrapper_tree) renamed_wrapper_start (stands_after renamed_wrapper.marks renamed_wrapper_start (renamed_wrapper_steps) renamed_wrapper_t0 renamed_wrapper_new renamed_wrapper_tree) (stands_after renamed_wrapper.marks renamed_wrapper_start (renamed_wrapper_steps) renamed_wrapper_t0 renamed_wrapper_new renamed_wrapper_tree) (renamed_wrapper_next h) refl (begins (log_entry renamed_wrapper.marks renamed_wrapper_start (renamed_wrapper_steps) renamed_wrapper_t0 renamed_wrapper_new renamed_wrapper_tree ∷ []) (stands_after renamed_wrapper.marks renamed_wrapper_start (renamed_wrapper_steps) renamed_wrapper_t0 renamed_wrapper_new renamed_wrapper_tree))) (kept_by (log_entry renamed_wrapper.marks renamed_wrapper_start (renamed_wrapper_steps) renamed_wrapper_t0 renamed_wrapper_new renamed_wrapper_tree ∷ []) (codes "main.go") renamed_wrapper_t0.text renamed_wrapper_new.text (((codes "old/old.go"), renamed_wrapper_t1.text) ∷ ((codes "pow/pow.go"), renamed_wrapper_t2.text) ∷ []) (((codes "old/old.go"), renamed_wrapper_t1.text) ∷ ((codes "pow/pow.go"), renamed_wrapper_t2.text) ∷ []) refl refl (kept_by (log_entry renamed_wrapper.marks renamed_wrapper_start (renamed_wrapper_steps) renamed_wrapper_t0 renamed_wrapper_new renamed_wrapper_tree ∷ []) (codes "old/old.go") renamed_wrapper_t1.text renamed_wrapper_t1.text (((codes "pow/pow.go"), renamed_wrapper_t2.text) ∷ []) (((codes "pow/pow.go"), renamed_wrapper_t2.text) ∷ []) refl refl (kept_by (log_entry renamed_wrapper.marks renamed_wrapper_start (renamed_wrapper_steps) renamed_wrapper_t0 renamed_wrapper_new renamed_wrapper_tree ∷ []) (codes "pow/pow.go") renamed_wrapper_t2.text renamed_wrapper_t2.text [] [] refl refl run.none))) refl
 
 renamed_wrapper_t0_found : TokensOf renamed_wrapper_t0.text renamed_wrapper_t0.tokens renamed_wrapper_t0.comments
 unfolding piece_of lexeme_of longest_from next_of tokens_from comments_from keyword_spellings is_letter is_digit general_category general_category_rows value_in lib.Utf8.encode
@@ -192,7 +193,7 @@ renamed_wrapper_new_found : TokensOf renamed_wrapper_new.text renamed_wrapper_ne
 unfolding piece_of lexeme_of longest_from next_of tokens_from comments_from keyword_spellings is_letter is_digit general_category general_category_rows value_in lib.Utf8.encode
 renamed_wrapper_new_found = tokens_by renamed_wrapper_new.text renamed_wrapper_new.tokens renamed_wrapper_new.comments refl refl refl
 
-renamed_wrapper_run : IsInlining the_limits 29 renamed_wrapper.packages renamed_wrapper.texts [] (((codes "main.go"), renamed_wrapper_new) ∷ ((codes "old/old.go"), renamed_wrapper_t1) ∷ ((codes "pow/pow.go"), renamed_wrapper_t2) ∷ []) (codes "main.go:7:10: inlined example.com/m/old.Square as expr\n")
+renamed_wrapper_run : IsInlining the_limits (folder small_module renamed_wrapper.texts) renamed_wrapper.packages renamed_wrapper.texts [] (((codes "main.go"), renamed_wrapper_new) ∷ ((codes "old/old.go"), renamed_wrapper_t1) ∷ ((codes "pow/pow.go"), renamed_wrapper_t2) ∷ []) (codes "main.go:7:10: inlined example.com/m/old.Square as expr\n")
 renamed_wrapper_run = renamed_wrapper_inlined renamed_wrapper_t0_found renamed_wrapper_t1_found renamed_wrapper_t2_found renamed_wrapper_new_found
 
 -- A comment behind the call stays.
@@ -251,9 +252,9 @@ unfolding passes keyword_spellings is_inline digits reading outer_comment_steps
 outer_comment_next h = next_by outer_comment.marks outer_comment_start (outer_comment_steps) outer_comment_t0 outer_comment_new outer_comment_tree refl refl h refl refl
 
 -- the whole run, with the tokens of the texts
-outer_comment_inlined : (h0 : TokensOf outer_comment_t0.text outer_comment_t0.tokens outer_comment_t0.comments) (h1 : TokensOf outer_comment_t1.text outer_comment_t1.tokens outer_comment_t1.comments) (h2 : TokensOf outer_comment_t2.text outer_comment_t2.tokens outer_comment_t2.comments) (h : TokensOf outer_comment_new.text outer_comment_new.tokens outer_comment_new.comments) → IsInlining the_limits 29 outer_comment.packages outer_comment.texts [] (((codes "main.go"), outer_comment_new) ∷ ((codes "old/old.go"), outer_comment_t1) ∷ ((codes "pow/pow.go"), outer_comment_t2) ∷ []) (codes "main.go:7:10: inlined example.com/m/old.Square as expr\n")
+outer_comment_inlined : (h0 : TokensOf outer_comment_t0.text outer_comment_t0.tokens outer_comment_t0.comments) (h1 : TokensOf outer_comment_t1.text outer_comment_t1.tokens outer_comment_t1.comments) (h2 : TokensOf outer_comment_t2.text outer_comment_t2.tokens outer_comment_t2.comments) (h : TokensOf outer_comment_new.text outer_comment_new.tokens outer_comment_new.comments) → IsInlining the_limits (folder small_module outer_comment.texts) outer_comment.packages outer_comment.texts [] (((codes "main.go"), outer_comment_new) ∷ ((codes "old/old.go"), outer_comment_t1) ∷ ((codes "pow/pow.go"), outer_comment_t2) ∷ []) (codes "main.go:7:10: inlined example.com/m/old.Square as expr\n")
 unfolding passes keyword_spellings is_inline digits reading outer_comment_steps outer_comment_next
-outer_comment_inlined h0 h1 h2 h = inlining_by the_limits 29 outer_comment.packages outer_comment.texts [] outer_comment.marks (stands_after outer_comment.marks outer_comment_start (outer_comment_steps) outer_comment_t0 outer_comment_new outer_comment_tree) (log_entry outer_comment.marks outer_comment_start (outer_comment_steps) outer_comment_t0 outer_comment_new outer_comment_tree ∷ []) (codes "main.go:7:10: inlined example.com/m/old.Square as expr\n") outer_comment_marks (package_ _ _ (file _ _ outer_comment_t0 refl (record { scans = h0; spells = file_spelled outer_comment_t0.tokens outer_comment_f0 (outer_comment_spelled0) }) none) (package_ _ _ (file _ _ outer_comment_t1 refl (record { scans = h1; spells = file_spelled outer_comment_t1.tokens outer_comment_f1 (outer_comment_spelled1) }) none) (package_ _ _ (file _ _ outer_comment_t2 refl (record { scans = h2; spells = file_spelled outer_comment_t2.tokens outer_comment_f2 (outer_comment_spelled2) }) none) none))) (goes_on outer_comment_start (stands_after outer_comment.marks outer_comment_start (outer_comment_steps) outer_comment_t0 outer_comment_new outer_comment_tree) (stands_after outer_comment.marks outer_comment_start (outer_comment_steps) outer_comment_t0 outer_comment_new outer_comment_tree) (log_entry outer_comment.marks outer_comment_start (outer_comment_steps) outer_comment_t0 outer_comment_new outer_comment_tree) [] (outer_comment_next h) (ends (stands_after outer_comment.marks outer_comment_start (outer_comment_steps) outer_comment_t0 outer_comment_new outer_comment_tree) refl)) (steps_on [] [] (log_entry outer_comment.marks outer_comment_start (outer_comment_steps) outer_comment_t0 outer_comment_new outer_comment_tree) outer_comment_start (stands_after outer_comment.marks outer_comment_start (outer_comment_steps) outer_comment_t0 outer_comment_new outer_comment_tree) (stands_after outer_comment.marks outer_comment_start (outer_comment_steps) outer_comment_t0 outer_comment_new outer_comment_tree) (outer_comment_next h) refl (begins (log_entry outer_comment.marks outer_comment_start (outer_comment_steps) outer_comment_t0 outer_comment_new outer_comment_tree ∷ []) (stands_after outer_comment.marks outer_comment_start (outer_comment_steps) outer_comment_t0 outer_comment_new outer_comment_tree))) (kept_by (log_entry outer_comment.marks outer_comment_start (outer_comment_steps) outer_comment_t0 outer_comment_new outer_comment_tree ∷ []) (codes "main.go") outer_comment_t0.text outer_comment_new.text (((codes "old/old.go"), outer_comment_t1.text) ∷ ((codes "pow/pow.go"), outer_comment_t2.text) ∷ []) (((codes "old/old.go"), outer_comment_t1.text) ∷ ((codes "pow/pow.go"), outer_comment_t2.text) ∷ []) refl refl (kept_by (log_entry outer_comment.marks outer_comment_start (outer_comment_steps) outer_comment_t0 outer_comment_new outer_comment_tree ∷ []) (codes "old/old.go") outer_comment_t1.text outer_comment_t1.text (((codes "pow/pow.go"), outer_comment_t2.text) ∷ []) (((codes "pow/pow.go"), outer_comment_t2.text) ∷ []) refl refl (kept_by (log_entry outer_comment.marks outer_comment_start (outer_comment_steps) outer_comment_t0 outer_comment_new outer_comment_tree ∷ []) (codes "pow/pow.go") outer_comment_t2.text outer_comment_t2.text [] [] refl refl run.none))) refl
+outer_comment_inlined h0 h1 h2 h = inlining_by the_limits (folder small_module outer_comment.texts) outer_comment.packages outer_comment.texts [] outer_comment.marks (stands_after outer_comment.marks outer_comment_start (outer_comment_steps) outer_comment_t0 outer_comment_new outer_comment_tree) (log_entry outer_comment.marks outer_comment_start (outer_comment_steps) outer_comment_t0 outer_comment_new outer_comment_tree ∷ []) (codes "main.go:7:10: inlined example.com/m/old.Square as expr\n") outer_comment_marks (module_by (codes "example.com/m") (module_text small_module) (record { path = codes "main.go"; text = outer_comment_t0; tree = outer_comment_f0; reads = record { scans = h0; spells = file_spelled outer_comment_t0.tokens outer_comment_f0 outer_comment_spelled0 } } ∷ record { path = codes "old/old.go"; text = outer_comment_t1; tree = outer_comment_f1; reads = record { scans = h1; spells = file_spelled outer_comment_t1.tokens outer_comment_f1 outer_comment_spelled1 } } ∷ record { path = codes "pow/pow.go"; text = outer_comment_t2; tree = outer_comment_f2; reads = record { scans = h2; spells = file_spelled outer_comment_t2.tokens outer_comment_f2 outer_comment_spelled2 } } ∷ []) (folder small_module outer_comment.texts) outer_comment.packages outer_comment.texts small_module_is refl refl refl refl refl refl refl refl refl) (goes_on outer_comment_start (stands_after outer_comment.marks outer_comment_start (outer_comment_steps) outer_comment_t0 outer_comment_new outer_comment_tree) (stands_after outer_comment.marks outer_comment_start (outer_comment_steps) outer_comment_t0 outer_comment_new outer_comment_tree) (log_entry outer_comment.marks outer_comment_start (outer_comment_steps) outer_comment_t0 outer_comment_new outer_comment_tree) [] (outer_comment_next h) (ends (stands_after outer_comment.marks outer_comment_start (outer_comment_steps) outer_comment_t0 outer_comment_new outer_comment_tree) refl)) (steps_on [] [] (log_entry outer_comment.marks outer_comment_start (outer_comment_steps) outer_comment_t0 outer_comment_new outer_comment_tree) outer_comment_start (stands_after outer_comment.marks outer_comment_start (outer_comment_steps) outer_comment_t0 outer_comment_new outer_comment_tree) (stands_after outer_comment.marks outer_comment_start (outer_comment_steps) outer_comment_t0 outer_comment_new outer_comment_tree) (outer_comment_next h) refl (begins (log_entry outer_comment.marks outer_comment_start (outer_comment_steps) outer_comment_t0 outer_comment_new outer_comment_tree ∷ []) (stands_after outer_comment.marks outer_comment_start (outer_comment_steps) outer_comment_t0 outer_comment_new outer_comment_tree))) (kept_by (log_entry outer_comment.marks outer_comment_start (outer_comment_steps) outer_comment_t0 outer_comment_new outer_comment_tree ∷ []) (codes "main.go") outer_comment_t0.text outer_comment_new.text (((codes "old/old.go"), outer_comment_t1.text) ∷ ((codes "pow/pow.go"), outer_comment_t2.text) ∷ []) (((codes "old/old.go"), outer_comment_t1.text) ∷ ((codes "pow/pow.go"), outer_comment_t2.text) ∷ []) refl refl (kept_by (log_entry outer_comment.marks outer_comment_start (outer_comment_steps) outer_comment_t0 outer_comment_new outer_comment_tree ∷ []) (codes "old/old.go") outer_comment_t1.text outer_comment_t1.text (((codes "pow/pow.go"), outer_comment_t2.text) ∷ []) (((codes "pow/pow.go"), outer_comment_t2.text) ∷ []) refl refl (kept_by (log_entry outer_comment.marks outer_comment_start (outer_comment_steps) outer_comment_t0 outer_comment_new outer_comment_tree ∷ []) (codes "pow/pow.go") outer_comment_t2.text outer_comment_t2.text [] [] refl refl run.none))) refl
 
 outer_comment_t0_found : TokensOf outer_comment_t0.text outer_comment_t0.tokens outer_comment_t0.comments
 unfolding piece_of lexeme_of longest_from next_of tokens_from comments_from keyword_spellings is_letter is_digit general_category general_category_rows value_in lib.Utf8.encode
@@ -271,5 +272,5 @@ outer_comment_new_found : TokensOf outer_comment_new.text outer_comment_new.toke
 unfolding piece_of lexeme_of longest_from next_of tokens_from comments_from keyword_spellings is_letter is_digit general_category general_category_rows value_in lib.Utf8.encode
 outer_comment_new_found = tokens_by outer_comment_new.text outer_comment_new.tokens outer_comment_new.comments refl refl refl
 
-outer_comment_run : IsInlining the_limits 29 outer_comment.packages outer_comment.texts [] (((codes "main.go"), outer_comment_new) ∷ ((codes "old/old.go"), outer_comment_t1) ∷ ((codes "pow/pow.go"), outer_comment_t2) ∷ []) (codes "main.go:7:10: inlined example.com/m/old.Square as expr\n")
+outer_comment_run : IsInlining the_limits (folder small_module outer_comment.texts) outer_comment.packages outer_comment.texts [] (((codes "main.go"), outer_comment_new) ∷ ((codes "old/old.go"), outer_comment_t1) ∷ ((codes "pow/pow.go"), outer_comment_t2) ∷ []) (codes "main.go:7:10: inlined example.com/m/old.Square as expr\n")
 outer_comment_run = outer_comment_inlined outer_comment_t0_found outer_comment_t1_found outer_comment_t2_found outer_comment_new_found

@@ -10,6 +10,7 @@ use Rattle.param_choice.specs.Chosen.{has}
 use Rattle.param_choice.specs.Greatest.{IsGreatest}
 use Rattle.pkg_graph.specs.Package.{Package}
 use Rattle.pkg_graph.specs.Order.{IsDependencyOrder}
+use Rattle.pkg_graph.specs.Reads.{Source}
 use Rattle.import_rules.specs.declared.new_import.Needed.{Needed}
 use Rattle.import_rules.specs.Needs.{avoided, IsNeeded}
 use Rattle.import_rules.specs.Laid.{IsStart, Laid}
@@ -154,20 +155,20 @@ OneRun =
 -- A module is inlined in one way: its log, its last program, its texts and its report.
 abbrev pub OneInlining : Type 0
 OneInlining =
-    (m : Limits) (module_bytes : ℕ) (ps : List (Package Span)) (texts : List (List ℕ × FileText)) (only : List ℕ)
-    (a b : List (List ℕ × FileText)) (r q : List ℕ) (i : IsInlining m module_bytes ps texts only a r)
-    (j : IsInlining m module_bytes ps texts only b q)
+    (m : Limits) (files : List Source) (ps : List (Package Span)) (texts : List (List ℕ × FileText)) (only : List ℕ)
+    (a b : List (List ℕ × FileText)) (r q : List ℕ) (i : IsInlining m files ps texts only a r)
+    (j : IsInlining m files ps texts only b q)
     → (i.log ≡ j.log) × (i.last ≡ j.last) × (a ≡ b) × (r ≡ q)
 
 -- A module passes one limit at most, and the count is one.
 abbrev pub OneTooLarge : Type 0
 OneTooLarge =
-    (m : Limits) (module_bytes : ℕ) (ps : List (Package Span)) (texts : List (List ℕ × FileText)) (only : List ℕ)
-    (r q : TooLarge) → IsTooLarge m module_bytes ps texts only r → IsTooLarge m module_bytes ps texts only q → r ≡ q
+    (m : Limits) (files : List Source) (ps : List (Package Span)) (texts : List (List ℕ × FileText)) (only : List ℕ)
+    (r q : TooLarge) → IsTooLarge m files ps texts only r → IsTooLarge m files ps texts only q → r ≡ q
 
 -- No module is inlined and passes a limit.
 abbrev pub InlinedOrTooLarge : Type 0
 InlinedOrTooLarge =
-    (m : Limits) (module_bytes : ℕ) (ps : List (Package Span)) (texts : List (List ℕ × FileText)) (only : List ℕ)
+    (m : Limits) (files : List Source) (ps : List (Package Span)) (texts : List (List ℕ × FileText)) (only : List ℕ)
     (after : List (List ℕ × FileText)) (report : List ℕ) (r : TooLarge)
-    → IsInlining m module_bytes ps texts only after report → IsTooLarge m module_bytes ps texts only r → ⊥
+    → IsInlining m files ps texts only after report → IsTooLarge m files ps texts only r → ⊥

@@ -1,6 +1,6 @@
 -- The run: programs, each the next of the one before, up to one in which no use is free; the ranges in which it changes
 -- the files, and its limits (golang.org/x/tools, analyzer inline and internal/refactor/inline).
-use Rattle.std.specs.Prelude.{◌≡◌, ℕ, suc, ◌+◌, Bool, ◌&&◌, List, [], ◌∷◌, ◌++◌, map, filter, length, Option, Some, None, if◌then◌else◌, bytes_eq, nat_eq, nat_lt, slice_get}
+use Rattle.std.specs.Prelude.{◌≡◌, ℕ, suc, ◌+◌, Bool, ◌&&◌, List, [], ◌∷◌, ◌++◌, map, filter, find, length, Option, Some, None, if◌then◌else◌, bytes_eq, nat_eq, nat_lt, slice_get}
 use Rattle.std.specs.List.{list_any}
 use Rattle.go_tree.specs.declared.spans.Span.{Span}
 use Rattle.go_tree.specs.File.{File}
@@ -11,7 +11,9 @@ use Rattle.text_edits.specs.Applied.{applied}
 use Rattle.text_edits.specs.Joined.{joined}
 use Rattle.text_edits.specs.Order.{spans}
 use Rattle.text_edits.specs.Keeps.{Keeps}
+use Rattle.module_files.specs.Selected.{module_file}
 use Rattle.pkg_graph.specs.Package.{Package}
+use Rattle.pkg_graph.specs.Reads.{Source, is_at}
 use Rattle.go_types.specs.Answers.{given, meets}
 use Rattle.run_rules.specs.Sites.{MarkRef, Site, part_span, sites}
 use Rattle.run_rules.specs.Naming.{Named}
@@ -216,10 +218,14 @@ same_origin a b = bytes_eq a.file b.file && nat_eq a.origin.start b.origin.start
 abbrev pub steps_like : Logged → List Logged → ℕ
 steps_like l log = length (filter (same_origin l) log)
 
--- the bytes of all files together
-abbrev pub module_size : List (List ℕ × FileText) → ℕ
-module_size [] = 0
-module_size (t ∷ ts) = length t.1.text + module_size ts
+-- the bytes of `go.mod` in the root
+abbrev pub module_file_size : List Source → ℕ
+module_file_size files = elim (find (is_at module_file) files) [ None ↦ 0 | Some f ↦ length f.text ]
+
+-- the bytes of texts together
+abbrev pub texts_size : List (List ℕ × FileText) → ℕ
+texts_size [] = 0
+texts_size (t ∷ ts) = length t.1.text + texts_size ts
 
 -- the first number above a bound
 abbrev pub first_over : ℕ → List ℕ → Option ℕ
@@ -249,10 +255,10 @@ pub record Limits : Type 0 where
 abbrev pub the_limits : Limits
 the_limits = record { steps = 65536; steps_of_use = 1024; bytes = 4194304; total = 16777216; weight = 400 }
 
--- The first limit that a step passes which comes after these steps, with the file's new text and the texts after it;
--- `module_bytes` counts what of the module isn't Go source.
-abbrev pub passed : Limits → ℕ → List Logged → Logged → FileText → List (List ℕ × FileText) → Option TooLarge
-passed m module_bytes log l new texts =
+-- The first limit that a step passes which comes after these steps, with the file's new text and the texts after it.
+-- The module's bytes are those of the texts and of `go.mod` among the files of the folder.
+abbrev pub passed : Limits → List Source → List Logged → Logged → FileText → List (List ℕ × FileText) → Option TooLarge
+passed m files log l new texts =
     over Steps m.steps (suc (length log)) (over StepsOfUse m.steps_of_use (suc (steps_like l log))
-    (over Bytes m.bytes (length new.text) (over Total m.total (module_bytes + module_size texts)
+    (over Bytes m.bytes (length new.text) (over Total m.total (module_file_size files + texts_size texts)
     (over_weight m.weight (first_over m.weight (weights_of new.tokens))))))
