@@ -25,7 +25,7 @@ use Rattle.form_in_place.proofs.Conversions.{bare_puts}
 use Rattle.form_in_place.proofs.Shapes.{declared_alike, first_declared_alike, defined_alike, values_alike}
 use Rattle.form_in_place.proofs.InPlace.{type_there, type_option_there, literal_binds_there, sig_names_there, parts_there, all_there, places_there, declares_there, declares_first_there, range_declares_there}
 use Rattle.go_translation.specs.Values.{typed_of}
-use Rattle.go_translation.specs.Mentions.{Way, Read, Stored, Addressed, Deferred, Mention, mention, callee_way, variable_mention, in_deferred, literal_mentions, is_pointer, operand_way, unary_way, beyond_names, beyond, stored_again, mentions, mentions_all, mentions_option, mentions_left, mentions_elems, mentions_key, mentions_value, mentions_stmt, mentions_stmts, mentions_first, mentions_block, mentions_range, mentions_arms, mentions_cases, mentions_specs, any_mention}
+use Rattle.go_translation.specs.Mentions.{Way, Read, Stored, Addressed, Deferred, Mention, mention, callee_way, variable_mention, in_deferred, literal_mentions, is_pointer, operand_way, unary_way, beyond_names, beyond, within_names, group_mentions, own_mentions, stored_again, mentions, mentions_all, mentions_option, mentions_left, mentions_elems, mentions_key, mentions_value, mentions_stmt, mentions_stmts, mentions_first, mentions_block, mentions_range, mentions_arms, mentions_cases, mentions_specs, any_mention}
 use Rattle.go_types.proofs.Agreeing.{among_right}
 
 -- of these names, two lists have the same mentions
@@ -107,6 +107,46 @@ beyond_any ns {r = r} {xs = xs} {ys = ys} f = record { same = λ p n i. go p n i
     go : (p : Mention → Bool) (n : List ℕ) → is_among n r ≡ true → (b : Bool) → is_among n ns ≡ b → any_mention p n (beyond_names ns xs) ≡ any_mention p n (beyond_names ns ys)
     go p n i true e = all_bound p n ns xs e ∙ sym (all_bound p n ns ys e)
     go p n i false e = without_bound p n ns xs e ∙ f.same p n i ∙ sym (without_bound p n ns ys e)
+
+-- within a declaration
+is_among_left : (n : List ℕ) (xs ys : List (List ℕ)) → is_among n xs ≡ true → is_among n (xs ++ ys) ≡ true
+is_among_left n [] ys e = absurd (grind (arith, e))
+is_among_left n (x ∷ xs) ys e = go (bytes_eq n x) e (is_among_left n xs ys)
+  where
+    go : (b : Bool) → (b || is_among n xs) ≡ true → (is_among n xs ≡ true → is_among n (xs ++ ys) ≡ true) → (b || is_among n (xs ++ ys)) ≡ true
+    go true e f = refl
+    go false e f = f e
+
+bound_within : (p : Mention → Bool) (n : List ℕ) (ns : List (List ℕ)) (xs : List Mention) → is_among n ns ≡ true → any_mention p n (within_names ns xs) ≡ any_mention p n xs
+bound_within p n ns [] e = refl
+bound_within p n ns (x ∷ xs) e = go (is_among x.name ns) refl (bound_within p n ns xs e)
+  where
+    go : (b : Bool) → is_among x.name ns ≡ b → any_mention p n (within_names ns xs) ≡ any_mention p n xs → any_mention p n (if b then x ∷ within_names ns xs else within_names ns xs) ≡ ((bytes_eq n x.name && p x) || any_mention p n xs)
+    go true q h = ap (λ r. (bytes_eq n x.name && p x) || r) h
+    go false q h = h ∙ sym (ap (λ b. (b && p x) || any_mention p n xs) (differs (bytes_eq n x.name) refl))
+      where
+        differs : (b : Bool) → bytes_eq n x.name ≡ b → b ≡ false
+        differs true k = absurd (grind (arith, sym e ∙ ap (λ z. is_among z ns) ((bytes_eq-Decides n x.name).0 k) ∙ q))
+        differs false k = refl
+
+none_within : (p : Mention → Bool) (n : List ℕ) (ns : List (List ℕ)) (xs : List Mention) → is_among n ns ≡ false → any_mention p n (within_names ns xs) ≡ false
+none_within p n ns [] e = refl
+none_within p n ns (x ∷ xs) e = go (is_among x.name ns) refl (none_within p n ns xs e)
+  where
+    go : (b : Bool) → is_among x.name ns ≡ b → any_mention p n (within_names ns xs) ≡ false → any_mention p n (if b then x ∷ within_names ns xs else within_names ns xs) ≡ false
+    go false q h = h
+    go true q h = ap (λ b. (b && p x) || any_mention p n (within_names ns xs)) (differs (bytes_eq n x.name) refl) ∙ h
+      where
+        differs : (b : Bool) → bytes_eq n x.name ≡ b → b ≡ false
+        differs true k = absurd (grind (arith, sym e ∙ ap (λ z. is_among z ns) ((bytes_eq-Decides n x.name).0 k) ∙ q))
+        differs false k = refl
+
+within_alike : (ns : List (List ℕ)) (r r' : List (List ℕ)) (xs ys : List Mention) → MentionsAlike (ns ++ r) xs ys → MentionsAlike r' (within_names ns xs) (within_names ns ys)
+within_alike ns r r' xs ys f = record { same = λ p n i. go p n (is_among n ns) refl }
+  where
+    go : (p : Mention → Bool) (n : List ℕ) (b : Bool) → is_among n ns ≡ b → any_mention p n (within_names ns xs) ≡ any_mention p n (within_names ns ys)
+    go p n true e = bound_within p n ns xs e ∙ f.same p n (is_among_left n ns r e) ∙ sym (bound_within p n ns ys e)
+    go p n false e = none_within p n ns xs e ∙ sym (none_within p n ns ys e)
 
 pub after_mentions : {r : List (List ℕ)} (bs bs' : Binds) → bs ≡ bs' → (us : List Mention) (vs : Binds → List Mention) → MentionsAlike (bound_names bs ++ r) us (vs bs) → MentionsAlike r (beyond bs us) (beyond bs' (vs bs'))
 after_mentions {r = r} bs bs' e us vs f = subst (λ z. MentionsAlike r (beyond bs us) (beyond z (vs z))) e (beyond_alike (bound_names bs) f)
@@ -277,3 +317,17 @@ module _ {S : Type 0} (site : Landing) (bound : site.puts ≡ false) where
         let bs : Binds = variable_binds a ns t es in
         both_mentions (mentions_all_there r a m we)
         (after_mentions bs (variable_binds (at_place a m site.home) ns t' es') (λ w. binds_of (names_of ns) (new_variables a (names_of ns) (type_option_there site wt w) (values_alike site we w) (right_values a (length ns) (places_there site r a m we w) (all_there site r a m we w)))) (mentions_specs (extend bs a) ss) (λ z. mentions_specs (extend z (at_place a m site.home)) ss') (mentions_specs_there (bound_names bs ++ r) (extend bs a) (bs ++ m) ws))
+
+  -- what a group of variables mentions of its own
+  group_mentions_there : (r r' : List (List ℕ)) (a : Env) (m : Environment Entity) {ss ss' : ValueSpecs S} → WrittenVariables site r a m ss ss' → MentionsAlike r' (group_mentions a ss) (group_mentions (at_place a m site.home) ss')
+  group_mentions_there r r' a m variables_none = same_mentions
+  group_mentions_there r r' a m (variables_and {ns = ns} {t = t} {t' = t'} {es = es} {es' = es'} {ss = ss} {ss' = ss'} wt we ws) =
+      let bs : Binds = variable_binds a ns t es in let bs' : Binds = variable_binds (at_place a m site.home) ns t' es' in
+      let c : bs ≡ bs' = (λ w. binds_of (names_of ns) (new_variables a (names_of ns) (type_option_there site wt w) (values_alike site we w) (right_values a (length ns) (places_there site r a m we w) (all_there site r a m we w)))) in
+      subst (λ z. MentionsAlike r' (within_names (bound_names bs) (mentions_specs (extend bs a) ss) ++ group_mentions (extend bs a) ss) (within_names (bound_names z) (mentions_specs (extend z (at_place a m site.home)) ss') ++ group_mentions (extend z (at_place a m site.home)) ss')) c
+      (both_mentions (within_alike (bound_names bs) r r' (mentions_specs (extend bs a) ss) (mentions_specs (extend bs (at_place a m site.home)) ss') (mentions_specs_there (bound_names bs ++ r) (extend bs a) (bs ++ m) ws)) (group_mentions_there (bound_names bs ++ r) r' (extend bs a) (bs ++ m) ws))
+
+  pub own_mentions_there : (ts : List GoType) (r r' : List (List ℕ)) (a : Env) (m : Environment Entity) {s s' : Stmt S} → WrittenStmt site ts r a m s s' → MentionsAlike r' (own_mentions a s) (own_mentions (at_place a m site.home) s')
+  own_mentions_there ts r r' a m (s_var w) = group_mentions_there r r' a m w
+  own_mentions_there ts r r' a m (s_label w) = own_mentions_there ts r r' a m w
+  own_mentions_there ts r r' a m w = same_mentions

@@ -29,7 +29,7 @@ use Rattle.form_in_place.proofs.Shapes.{package_there, declared_alike, first_dec
 use Rattle.form_in_place.proofs.InPlace.{type_there, type_option_there, literal_binds_are, func_type_there, body_binds_there, parts_there, all_there, place_there, places_there, declares_there, declares_first_there, range_declares_there}
 use Rattle.go_translation.specs.Values.{path_of, zero_of, one_value, as_value}
 use Rattle.go_translation.specs.Values as v
-use Rattle.go_translation.specs.Mentions.{Mention, Read, mentions, mentions_option, mentions_first, mentions_stmts, mentions_block, mentions_arms, mentions_cases, mentions_specs, any_mention, is_held}
+use Rattle.go_translation.specs.Mentions.{Mention, Read, mentions, mentions_option, mentions_first, mentions_stmts, mentions_block, mentions_arms, mentions_cases, mentions_specs, own_mentions, any_mention, is_held}
 use Rattle.go_translation.specs.Here.{Location, Here, defined_here, in_inner, located, declaring, new_cells, name_options, BodyNames, param_locals, result_locals, slots_at, at_body, function_of, param_slots, result_slots, cells_in}
 use Rattle.go_translation.specs.Places.{Place, pointed, at_index, at_key, from, field_at, address_term, assignment, update}
 use Rattle.go_translation.specs.Operators.{no_type, answer_or, type_or, own_type, first_type, other_types, operand_list, is_folded, is_folded_unary, folded, operator_term, left_type, right_type, is_recovered, recovered_term, unary_term}
@@ -39,7 +39,7 @@ use Rattle.go_translation.specs.Statements.{return_term, loop_term, renewed, Ran
 use Rattle.go_translation.specs.Facts.{define_binds, typed_at, typed_option, first_typed, value_types, target_types, count_exprs, range_type, element_place, element_places, literal_names}
 use Rattle.go_translation.specs.Translation.{expr_term, args_term, values_term, try_term, option_term, elems_term, key_term, element_term, place_term, place_terms, address, callee, stmts_term, stmt_term, first_term, test_term, tag_term, block_term, arms_term, turn_term, cases_term, fits_term, default_term, deferred_term, specs_term}
 use Rattle.form_meaning.specs.Landed.{landed, LocalsAlike}
-use Rattle.form_meaning.proofs.Mentioned.{MentionsAlike, both_mentions, same_mentions, fewer_mentions, mentions_there, mentions_option_there, mentions_first_there, mentions_stmts_there, mentions_arms_there, mentions_cases_there, mentions_specs_there}
+use Rattle.form_meaning.proofs.Mentioned.{MentionsAlike, both_mentions, same_mentions, fewer_mentions, mentions_there, mentions_option_there, mentions_first_there, mentions_stmts_there, mentions_arms_there, mentions_cases_there, mentions_specs_there, own_mentions_there}
 use Rattle.form_meaning.proofs.Located.{locals_after, locals_inner, declared_known, located_names_are, located_alike, either_of}
 use Rattle.form_meaning.proofs.TermLeaves.{local_term, outer_term, local_name_root, outer_name_root, local_callee, outer_name_callee, leaf_term, leaf_place_term, leaf_address, leaf_callee}
 use Rattle.form_meaning.proofs.TermParts.{KeySeen, field_alike, struct_no_map, typed_there, typed_option_there, first_typed_there, value_types_there, count_there, bounds_there, target_types_there, range_type_there, key_place_there, new_names_there, defined_types_there, old_stored_there}
@@ -403,9 +403,9 @@ module _ {S : Type 0} (site : Landing) (bound : site.puts ≡ false) where
     pub stmts_there : (ts : List GoType) (r : List (List ℕ)) (h : Here) (m : Environment Entity) (k : Environment Location) → Alike site r h k → {b b' : Stmts S} → WrittenBody site ts r h.env m b b' → stmts_term h b ≡ stmts_term (landed h m k site.home) b'
     stmts_there ts r h m k al body_none = refl
     stmts_there ts r h m k al (body_and {s = s} {s' = s'} {ss = ss} {ss' = ss'} w ws) =
-        let bs : Binds = stmt_binds h.env s in let ms : List Mention = mentions_stmts (extend bs h.env) ss in let bs' : Binds = stmt_binds (at_place h.env m site.home) s' in let ms' : List Mention = mentions_stmts (extend bs' (at_place h.env m site.home)) ss' in
+        let bs : Binds = stmt_binds h.env s in let ms : List Mention = own_mentions h.env s ++ mentions_stmts (extend bs h.env) ss in let bs' : Binds = stmt_binds (at_place h.env m site.home) s' in let ms' : List Mention = own_mentions (at_place h.env m site.home) s' ++ mentions_stmts (extend bs' (at_place h.env m site.home)) ss' in
         let e : bs ≡ bs' = (λ i. binds_of (declared_alike site w i) (declares_there site ts r h.env m w i)) in
-        let ma : MentionsAlike (bound_names bs ++ r) ms ms' = subst (λ z. MentionsAlike (bound_names bs ++ r) ms (mentions_stmts (extend z (at_place h.env m site.home)) ss')) e (mentions_stmts_there site bound ts (bound_names bs ++ r) (extend bs h.env) (bs ++ m) ws) in
+        let ma : MentionsAlike (bound_names bs ++ r) ms ms' = both_mentions (own_mentions_there site bound ts r (bound_names bs ++ r) h.env m w) (subst (λ z. MentionsAlike (bound_names bs ++ r) (mentions_stmts (extend bs h.env) ss) (mentions_stmts (extend z (at_place h.env m site.home)) ss')) e (mentions_stmts_there site bound ts (bound_names bs ++ r) (extend bs h.env) (bs ++ m) ws)) in
         stmt_there ts r h m k al w None ms ms' ma (stmts_term (declaring bs ms h) ss) (stmts_term (declaring bs' ms' (landed h m k site.home)) ss')
         (stmts_there ts (bound_names bs ++ r) (declaring bs ms h) (bs ++ m) (located ms bs ++ k) (alike_after site r h k bs ms al) ws ∙ ap (λ q. stmts_term q ss') (declaring_there site h m k bs bs' ms ms' e (located_alike r bs ma)))
 

@@ -9,7 +9,7 @@ use Rattle.go_types.specs.Entities.{Entity, Env, defined_in, Binds, extend, in_b
 use Rattle.go_types.specs.TypeNames.{written_type, func_type}
 use Rattle.go_types.specs.Operands.{Operand, Typed}
 use Rattle.go_types.specs.Literals.{is_struct, key_type, inner_type, literal_type}
-use Rattle.go_types.specs.Statements.{no_values, body_binds}
+use Rattle.go_types.specs.Statements.{bound_names, no_values, body_binds}
 use Rattle.go_types.specs.Typing.{binds_or, parts, all_parts, places, declares, declares_first, range_declares, binds_of, new_variables, right_values}
 use Rattle.go_translation.specs.Values.{typed_of}
 use mathlib.Core.Path.{ap, sym, ◌∙◌, subst}
@@ -19,7 +19,7 @@ use Rattle.go_types.specs.Agreement.{with_names, On, Agrees}
 use Rattle.go_types.proofs.Agreeing.{on_first, on_second, name_alike, agrees_in_block, agrees_after, declares_cover, first_cover, range_cover, of_covers, literal_cover, new_variables_cover}
 use Rattle.go_types.proofs.TypingAlike.{parts-alike, all_parts-alike, places-alike, declares-alike, declares_first-alike, range_declares-alike}
 use Rattle.go_translation.proofs.SmallAlike.{or_covers, kept, append_in_turn, type_meant-alike, written_type-alike, func_type-alike}
-use Rattle.go_translation.specs.Mentions.{Way, Read, Stored, Deferred, Mention, variable_mention, callee_way, literal_mentions, operand_way, unary_way, beyond_names, beyond, stored_again, mentions, mentions_all, mentions_option, mentions_left, mentions_elems, mentions_key, mentions_value, mentions_stmt, mentions_stmts, mentions_first, mentions_block, mentions_range, mentions_arms, mentions_cases, mentions_specs}
+use Rattle.go_translation.specs.Mentions.{Way, Read, Stored, Deferred, Mention, variable_mention, callee_way, literal_mentions, operand_way, unary_way, beyond_names, beyond, within_names, group_mentions, own_mentions, stored_again, mentions, mentions_all, mentions_option, mentions_left, mentions_elems, mentions_key, mentions_value, mentions_stmt, mentions_stmts, mentions_first, mentions_block, mentions_range, mentions_arms, mentions_cases, mentions_specs}
 
 module _ {S : Type 0} where
   mutual
@@ -140,3 +140,17 @@ module _ {S : Type 0} where
         let q : Agrees (names_of ns ++ around) k l = agrees_after (names_of ns) around bs a m (of_covers (names_of ns) (new_variables a (names_of ns) (written_type a t) (no_values es) vs) a (new_variables_cover a (names_of ns) (written_type a t) (no_values es) vs)) g in
         (λ ww. mentions_all-alike a es m around g (on_second (free_type_option around t) (free_exprs around es) a m (on_first (free_type_option around t ++ free_exprs around es) (free_specs (names_of ns ++ around) ss) a m h)) ww ++ beyond bs (mentions_specs-alike k ss l (names_of ns ++ around) q (kept (free_specs (names_of ns ++ around) ss) bs a m (on_second (free_type_option around t ++ free_exprs around es) (free_specs (names_of ns ++ around) ss) a m h)) ww))
         ∙ ap (λ d. let bs : Binds = binds_of (names_of ns) d in mentions_all (with_names a m) es ++ beyond bs (mentions_specs (extend bs (with_names a m)) ss)) (λ ww. new_variables a (names_of ns) (written_type-alike a t m around g (on_first (free_type_option around t) (free_exprs around es) a m (on_first (free_type_option around t ++ free_exprs around es) (free_specs (names_of ns ++ around) ss) a m h)) ww) (no_values es) (right_values a (length ns) (places-alike a es m around g (on_second (free_type_option around t) (free_exprs around es) a m (on_first (free_type_option around t ++ free_exprs around es) (free_specs (names_of ns ++ around) ss) a m h)) ww) (all_parts-alike a es m around g (on_second (free_type_option around t) (free_exprs around es) a m (on_first (free_type_option around t ++ free_exprs around es) (free_specs (names_of ns ++ around) ss) a m h)) ww)))
+
+  group_mentions-alike : (a : Env) (u : ValueSpecs S) (m : Environment Entity) (around : List (List ℕ)) → Agrees around a m → On (free_specs around u) a m → group_mentions a u ≡ group_mentions (with_names a m) u
+  group_mentions-alike a no_specs m around g h = λ ww. []
+  group_mentions-alike a (spec _ ns t es ss) m around g h =
+      let vs : Option (List Typed) = right_values a (length ns) (places a es) (all_parts a es) in
+      let bs : Binds = binds_of (names_of ns) (new_variables a (names_of ns) (written_type a t) (no_values es) vs) in let k : Env = extend bs a in let l : Environment Entity = bs ++ m in
+      let q : Agrees (names_of ns ++ around) k l = agrees_after (names_of ns) around bs a m (of_covers (names_of ns) (new_variables a (names_of ns) (written_type a t) (no_values es) vs) a (new_variables_cover a (names_of ns) (written_type a t) (no_values es) vs)) g in
+      (λ ww. within_names (bound_names bs) (mentions_specs-alike k ss l (names_of ns ++ around) q (kept (free_specs (names_of ns ++ around) ss) bs a m (on_second (free_type_option around t ++ free_exprs around es) (free_specs (names_of ns ++ around) ss) a m h)) ww) ++ group_mentions-alike k ss l (names_of ns ++ around) q (kept (free_specs (names_of ns ++ around) ss) bs a m (on_second (free_type_option around t ++ free_exprs around es) (free_specs (names_of ns ++ around) ss) a m h)) ww)
+      ∙ ap (λ d. let bs : Binds = binds_of (names_of ns) d in within_names (bound_names bs) (mentions_specs (extend bs (with_names a m)) ss) ++ group_mentions (extend bs (with_names a m)) ss) (λ ww. new_variables a (names_of ns) (written_type-alike a t m around g (on_first (free_type_option around t) (free_exprs around es) a m (on_first (free_type_option around t ++ free_exprs around es) (free_specs (names_of ns ++ around) ss) a m h)) ww) (no_values es) (right_values a (length ns) (places-alike a es m around g (on_second (free_type_option around t) (free_exprs around es) a m (on_first (free_type_option around t ++ free_exprs around es) (free_specs (names_of ns ++ around) ss) a m h)) ww) (all_parts-alike a es m around g (on_second (free_type_option around t) (free_exprs around es) a m (on_first (free_type_option around t ++ free_exprs around es) (free_specs (names_of ns ++ around) ss) a m h)) ww)))
+
+  pub own_mentions-alike : (a : Env) (u : Stmt S) (m : Environment Entity) (around : List (List ℕ)) → Agrees around a m → On (free_stmt around u) a m → own_mentions a u ≡ own_mentions (with_names a m) u
+  own_mentions-alike a (var_decl _ _ ss) m around g h = group_mentions-alike a ss m around g h
+  own_mentions-alike a (label _ n s) m around g h = own_mentions-alike a s m around g h
+  own_mentions-alike a s m around g h = λ ww. []

@@ -6,13 +6,14 @@ use Rattle.go_types.specs.Types.{GoType}
 use Rattle.go_types.specs.Defined.{under}
 use Rattle.go_types.specs.Entities.{Env, meaning, defined_in, Binds, extend, in_block}
 use Rattle.go_types.specs.Literals.{is_struct, key_type, inner_type, literal_type}
+use Rattle.go_types.specs.Statements.{bound_names}
 use Rattle.go_types.specs.Typing.{binds_of, new_variables, right_values}
 use Rattle.go_translation.specs.Values.{typed_of}
 use Rattle.go_tree.specs.Bare.{bare_expr, bare_exprs, bare_expr_option, bare_elems, bare_value, bare_value_option, bare_stmt, bare_stmts, bare_stmt_option, bare_block_option, bare_range_left, bare_arms, bare_cases, bare_value_specs}
 use Rattle.scope_names.proofs.FreeNamesBare.{names_of-bare, sig_names-bare, declared-bare, declared_option-bare, defined-bare}
 use Rattle.go_types.proofs.TypingBare.{type_meant-bare, written_type-bare, parts-bare, all_parts-bare, places-bare, declares-bare, declares_first-bare, range_declares-bare}
 use Rattle.go_translation.proofs.SmallBare.{length-bare, no_values-bare, literal_env-bare}
-use Rattle.go_translation.specs.Mentions.{Way, Read, Stored, Deferred, Mention, variable_mention, callee_way, literal_mentions, operand_way, unary_way, beyond_names, beyond, stored_again, mentions, mentions_all, mentions_option, mentions_left, mentions_elems, mentions_key, mentions_value, mentions_stmt, mentions_stmts, mentions_first, mentions_block, mentions_range, mentions_arms, mentions_cases, mentions_specs}
+use Rattle.go_translation.specs.Mentions.{Way, Read, Stored, Deferred, Mention, variable_mention, callee_way, literal_mentions, operand_way, unary_way, beyond_names, beyond, within_names, group_mentions, own_mentions, stored_again, mentions, mentions_all, mentions_option, mentions_left, mentions_elems, mentions_key, mentions_value, mentions_stmt, mentions_stmts, mentions_first, mentions_block, mentions_range, mentions_arms, mentions_cases, mentions_specs}
 
 module _ {S : Type 0} where
   mutual
@@ -109,3 +110,13 @@ module _ {S : Type 0} where
     mentions_specs-bare env no_specs = λ ww. []
     mentions_specs-bare env (spec _ ns t es ss) = λ ww. let bs : Binds = binds_of ((names_of-bare ns ww)) (new_variables env ((names_of-bare ns ww)) ((written_type-bare env t ww)) ((no_values-bare es ww)) (right_values env ((length-bare ns ww)) ((places-bare env es ww)) ((all_parts-bare env es ww)))) in
         (mentions_all-bare env es ww) ++ beyond bs ((mentions_specs-bare (extend bs env) ss ww))
+
+  group_mentions-bare : (a : Env) (b : ValueSpecs S) → group_mentions a (bare_value_specs b) ≡ group_mentions a b
+  group_mentions-bare env no_specs = λ ww. []
+  group_mentions-bare env (spec _ ns t es ss) = λ ww. let bs : Binds = binds_of ((names_of-bare ns ww)) (new_variables env ((names_of-bare ns ww)) ((written_type-bare env t ww)) ((no_values-bare es ww)) (right_values env ((length-bare ns ww)) ((places-bare env es ww)) ((all_parts-bare env es ww)))) in
+      within_names (bound_names bs) (mentions_specs-bare (extend bs env) ss ww) ++ group_mentions-bare (extend bs env) ss ww
+
+  pub own_mentions-bare : (a : Env) (b : Stmt S) → own_mentions a (bare_stmt b) ≡ own_mentions a b
+  own_mentions-bare env (var_decl _ _ ss) = group_mentions-bare env ss
+  own_mentions-bare env (label _ n s) = own_mentions-bare env s
+  own_mentions-bare env s = λ ww. []

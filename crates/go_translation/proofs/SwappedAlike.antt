@@ -12,7 +12,7 @@ use Rattle.go_types.specs.TypeNames.{func_type, written_type}
 use Rattle.go_types.specs.Operands.{Operand, value, Typed, typed, named_operand, spread}
 use Rattle.go_types.specs.Literals.{inner_type, key_type, literal_type}
 use Rattle.go_types.specs.Jumps.{is_breakable}
-use Rattle.go_types.specs.Statements.{body_binds, no_values, is_blank_name}
+use Rattle.go_types.specs.Statements.{bound_names, body_binds, no_values, is_blank_name}
 use Rattle.go_types.specs.Typing.{parts, all_parts, place, places, range_declares, binds_of, new_variables, new_by_define, right_values, package_before, step_op}
 use Rattle.go_kernel.specs.Kernel as k
 use Rattle.go_kernel.specs.Kernel.{Name, Truth, Checked, Load, Alloc, Slicing, MapGet, MapTry, Compare, Equal, in_cells, temporary, return_label, break_label, Term, Vals, Local, Both, Prim, If, Let, Leave, Catch}
@@ -37,7 +37,7 @@ use Rattle.go_types.specs.Literals.{keyed, is_struct, built, built_inside}
 use Rattle.go_types.specs.Statements.{Declared}
 use Rattle.go_types.specs.Typing.{Repeated, nothing_to_repeat, new_constants, declares_constants, and_then, unused_after, used_variables, declares_variables, binds_or, bound, elements, element, with_key, place_by}
 use Rattle.go_translation.specs.Swapped.{ConstantName, SwappedArms, SwappedBlock, SwappedCases, SwappedConsts, SwappedElems, SwappedExpr, SwappedExprs, SwappedFirst, SwappedKey, SwappedLeft, SwappedOption, SwappedSpecs, SwappedStmt, SwappedStmts, SwappedValue, arm_here, arm_mentions, arm_uses, at_iota, begins_anew, bound_alike, bound_by, by_name, by_package, const_binds, constants, in_arm, in_assign, in_assigned, in_binary, in_block_stmt, in_braces, in_call, in_case, in_composite, in_const, in_consts, in_defer, in_define, in_elems, in_eval, in_exprs, in_first, in_for, in_if, in_index, in_key, in_label, in_last, in_literal, in_option, in_plain, in_range, in_return, in_selector, in_slice, in_spec, in_star, in_step, in_stmts, in_switch, in_unary, in_var, loop_here, loop_mentions, loop_uses, no_arm, range_bound, range_here, range_uses, same_block, same_cases, same_consts, same_elems, same_expr, same_exprs, same_first, same_key, same_left, same_option, same_specs, same_stmt, same_stmts, same_value, spec_uses, switch_here, switch_mentions, switch_uses}
-use Rattle.go_translation.specs.Mentions.{Way, Stored, Deferred, variable_mention, callee_way, operand_way, unary_way, literal_mentions, beyond_names, beyond, stored_again, mentions, mentions_all, mentions_option, mentions_left, mentions_elems, mentions_key, mentions_value, mentions_stmt, mentions_stmts, mentions_first, mentions_block, mentions_range, mentions_arms, mentions_cases, mentions_specs}
+use Rattle.go_translation.specs.Mentions.{Way, Stored, Deferred, variable_mention, callee_way, operand_way, unary_way, literal_mentions, beyond_names, beyond, within_names, group_mentions, own_mentions, stored_again, mentions, mentions_all, mentions_option, mentions_left, mentions_elems, mentions_key, mentions_value, mentions_stmt, mentions_stmts, mentions_first, mentions_block, mentions_range, mentions_arms, mentions_cases, mentions_specs}
 use Rattle.go_translation.specs.Statements.{RangeForm, return_term, loop_term, renewed, range_form, turn_values, range_term, new_names, variable_names, old_stored, defined_types, spec_types, tag_type, first_place, truth_type, int_type, update_type, element_type}
 use Rattle.go_translation.specs.Names.{entity_root, entity_term, name_term, gives_two, first_value, element_of_map, index_op}
 use Rattle.go_translation.specs.Facts.{has_bound, typed_at, typed_option, first_typed, value_types, target_types, count_exprs, range_type, key_place, element_place, element_places, literal_names, binds_after, binds_first, spec_binds, define_binds, following, after}
@@ -463,6 +463,17 @@ module _ {S : Type 0} where
         (λ ww. mentions_all-swap h r_es ww ++ beyond (spec_binds h.env ns t es) (mentions_specs-swap (declaring (spec_binds h.env ns t es) (spec_uses h ms ns t es ss) h) r_ss ww))
         ∙ ap (λ bs. mentions_all h.env es' ++ beyond bs (mentions_specs (extend bs h.env) ss')) (spec_binds-swap h ns t r_es)
 
+    group_mentions-swap : (h : Here) → {ms : List Mention} → {x x' : ValueSpecs S} → SwappedSpecs h ms x x' → group_mentions h.env x ≡ group_mentions h.env x'
+    group_mentions-swap h same_specs = refl
+    group_mentions-swap h (in_spec {ms = ms} s ns t {es = es} {es' = es'} {ss = ss} {ss' = ss'} r_es r_ss) =
+        (λ ww. within_names (bound_names (spec_binds h.env ns t es)) (mentions_specs-swap (declaring (spec_binds h.env ns t es) (spec_uses h ms ns t es ss) h) r_ss ww) ++ group_mentions-swap (declaring (spec_binds h.env ns t es) (spec_uses h ms ns t es ss) h) r_ss ww)
+        ∙ ap (λ bs. within_names (bound_names bs) (mentions_specs (extend bs h.env) ss') ++ group_mentions (extend bs h.env) ss') (spec_binds-swap h ns t r_es)
+
+    own_mentions-swap : (h : Here) → {ms : List Mention} → {x x' : Stmt S} → SwappedStmt h ms x x' → own_mentions h.env x ≡ own_mentions h.env x'
+    own_mentions-swap h (in_var s g r_ss) = group_mentions-swap h r_ss
+    own_mentions-swap h (in_label s n r_s) = own_mentions-swap h r_s
+    own_mentions-swap h r = refl
+
     pub mentions_arms-swap : (h : Here) {last last' : BlockOption S} {x x' : Arms S} → SwappedArms h last last' x x' → mentions_arms h.env (λ k. mentions_block k last) x ≡ mentions_arms h.env (λ k. mentions_block k last') x'
     mentions_arms-swap h (no_arm r) = mentions_block-swap h r
     mentions_arms-swap h (in_arm s r {last = last} {last' = last'} {i = i} {i' = i'} {t = t} {t' = t'} {b = b} {b' = b'} {more = more} {more' = more'} r_i r_t r_b r_more) =
@@ -601,8 +612,8 @@ module _ {S : Type 0} where
     stmts_term-swap h same_stmts = refl
     stmts_term-swap h (in_stmts {s = s} {s' = s'} {ss = ss} {ss' = ss'} r_s r_ss) =
         (λ ww. stmt_term-swap h None (following h s ss) r_s (stmts_term-swap (after h s ss) r_ss ww) ww)
-        ∙ ap (λ us. stmt_term h None us s' (stmts_term (declaring (binds_after h.env s) us h) ss')) (mentions_stmts-swap (after h s ss) r_ss)
-        ∙ ap (λ bs. let us : List Mention = mentions_stmts (extend bs h.env) ss' in stmt_term h None us s' (stmts_term (declaring bs us h) ss')) (binds_after-swap h r_s)
+        ∙ ap (λ us. stmt_term h None us s' (stmts_term (declaring (binds_after h.env s) us h) ss')) (λ ww. own_mentions-swap h r_s ww ++ mentions_stmts-swap (after h s ss) r_ss ww)
+        ∙ ap (λ bs. let us : List Mention = own_mentions h.env s' ++ mentions_stmts (extend bs h.env) ss' in stmt_term h None us s' (stmts_term (declaring bs us h) ss')) (binds_after-swap h r_s)
 
     pub stmt_term-swap : (h : Here) → (l : Option (List ℕ)) → (ms : List Mention) → {x x' : Stmt S} → SwappedStmt h ms x x' → (rest : Term) → stmt_term h l ms x rest ≡ stmt_term h l ms x' rest
     stmt_term-swap h l ms same_stmt rest = refl

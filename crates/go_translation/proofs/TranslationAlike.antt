@@ -22,7 +22,7 @@ use Rattle.go_kernel.specs.Kernel as k
 use Rattle.go_kernel.specs.Kernel.{Name, Truth, Checked, Load, Alloc, Slicing, MapGet, MapTry, Compare, Equal, in_cells, temporary, return_label, break_label, continue_label, Term, Vals, Local, Both, Prim, If, Let, Leave, Catch}
 use Rattle.go_translation.specs.Values.{one_value, path_of, as_value, zero_of, typed_of}
 use Rattle.go_translation.specs.Values as v
-use Rattle.go_translation.specs.Mentions.{Mention, Read, mentions, mentions_option, mentions_first, mentions_stmts, mentions_block, mentions_arms, mentions_cases, mentions_specs}
+use Rattle.go_translation.specs.Mentions.{own_mentions, Mention, Read, mentions, mentions_option, mentions_first, mentions_stmts, mentions_block, mentions_arms, mentions_cases, mentions_specs}
 use Rattle.go_translation.specs.Here.{Location, Here, defined_here, in_inner, declaring, new_cells, at_body, function_of}
 use Rattle.go_translation.specs.Places.{nowhere, pointed, at_index, at_key, from, field_at, address_term, assignment, update}
 use Rattle.go_translation.specs.Operators.{no_type, answer_or, type_or, own_type, first_type, other_types, operand_list, constant_or, is_folded, is_folded_unary, folded, operator_term, left_type, right_type, is_recovered, recovered_term, unary_term}
@@ -38,7 +38,7 @@ use Rattle.go_translation.specs.Agreement.{at_names, OnHere, AgreesHere}
 use Rattle.go_translation.specs.Here.{located}
 use Rattle.go_translation.proofs.SmallAlike.{append_in_turn, or_each, type_meant-alike, written_type-alike, func_type-alike, package_before-alike, typed_at-alike, typed_option-alike, first_typed-alike, value_types-alike, target_types-alike, range_type-alike, element_place-alike, element_places-alike, binds_after-alike, binds_first-alike, spec_binds-alike, define_binds-alike, defined_types-alike, old_stored-alike}
 use Rattle.go_translation.proofs.AgreeingHere.{on_left, on_right, variable_alike, agrees_inner, agrees_declaring, kept_declaring, own_locals, agrees_body, kept_body}
-use Rattle.go_translation.proofs.MentionsAlike.{mentions-alike, mentions_option-alike, mentions_stmts-alike, mentions_first-alike, mentions_block-alike, mentions_arms-alike, mentions_cases-alike, mentions_specs-alike}
+use Rattle.go_translation.proofs.MentionsAlike.{own_mentions-alike, mentions-alike, mentions_option-alike, mentions_stmts-alike, mentions_first-alike, mentions_block-alike, mentions_arms-alike, mentions_cases-alike, mentions_specs-alike}
 use Rattle.go_translation.specs.Mentions.{mentions, mentions_option, mentions_stmts, mentions_first, mentions_block, mentions_arms, mentions_cases, mentions_specs}
 use Rattle.go_translation.specs.Statements.{RangeForm, return_term, loop_term, renewed, range_form, turn_values, range_term, new_names, variable_names, spec_types, tag_type, first_place, truth_type, int_type, update_type, element_type}
 use Rattle.go_translation.specs.Names.{entity_root, entity_term, gives_two, first_value, element_of_map, index_op}
@@ -151,12 +151,12 @@ module _ {S : Type 0} where
     stmts_term-alike h no_stmts nn ll around gg oo = λ ww. v.nothing
     stmts_term-alike h (stmt_and s ss) nn ll around gg oo =
         let bs : Binds = binds_after h.env s in
-        let us : List Mention = mentions_stmts (extend bs h.env) ss in
+        let us : List Mention = own_mentions h.env s ++ mentions_stmts (extend bs h.env) ss in
         let q : Here = declaring bs us h in let mm : Environment Entity = bs ++ nn in let kk : Environment Location = located us bs ++ ll in
         let qq : AgreesHere (declared s ++ around) q mm kk = agrees_declaring (declared s) around bs us h nn ll (of_covers (declared s) (declares h.env s) h.env (declares_cover s h.env)) gg in
         (λ ww. stmt_term-alike h None us s (stmts_term-alike q ss mm kk (declared s ++ around) qq (kept_declaring (free_stmts (declared s ++ around) ss) bs us h nn ll (on_right (free_stmt around s) (free_stmts (declared s ++ around) ss) h nn ll oo)) ww) nn ll around gg (on_left (free_stmt around s) (free_stmts (declared s ++ around) ss) h nn ll oo) ww)
-        ∙ ap (λ u. stmt_term (at_names h nn ll) None u s (stmts_term (declaring bs u (at_names h nn ll)) ss)) (λ ww. mentions_stmts-alike (extend bs h.env) ss mm (declared s ++ around) qq.names (kept_declaring (free_stmts (declared s ++ around) ss) bs us h nn ll (on_right (free_stmt around s) (free_stmts (declared s ++ around) ss) h nn ll oo)).0 ww)
-        ∙ ap (λ b_. let u : List Mention = mentions_stmts (extend b_ ((at_names h nn ll)).env) ss in stmt_term (at_names h nn ll) None u s (stmts_term (declaring b_ u (at_names h nn ll)) ss)) (binds_after-alike h.env s nn around gg.names (on_left (free_stmt around s) (free_stmts (declared s ++ around) ss) h nn ll oo).0)
+        ∙ ap (λ u. stmt_term (at_names h nn ll) None u s (stmts_term (declaring bs u (at_names h nn ll)) ss)) (λ ww. own_mentions-alike h.env s nn around gg.names (on_left (free_stmt around s) (free_stmts (declared s ++ around) ss) h nn ll oo).0 ww ++ mentions_stmts-alike (extend bs h.env) ss mm (declared s ++ around) qq.names (kept_declaring (free_stmts (declared s ++ around) ss) bs us h nn ll (on_right (free_stmt around s) (free_stmts (declared s ++ around) ss) h nn ll oo)).0 ww)
+        ∙ ap (λ b_. let u : List Mention = own_mentions (at_names h nn ll).env s ++ mentions_stmts (extend b_ ((at_names h nn ll)).env) ss in stmt_term (at_names h nn ll) None u s (stmts_term (declaring b_ u (at_names h nn ll)) ss)) (binds_after-alike h.env s nn around gg.names (on_left (free_stmt around s) (free_stmts (declared s ++ around) ss) h nn ll oo).0)
 
     pub stmt_term-alike : (h : Here) (u : Option (List ℕ)) (v : List Mention) (x : Stmt S) (y : Term) (nn : Environment Entity) (ll : Environment Location) (around : List (List ℕ)) → AgreesHere around h nn ll → OnHere (free_stmt around x) h nn ll → stmt_term h u v x y ≡ stmt_term (at_names h nn ll) u v x y
     stmt_term-alike h l ms (const_decl _ _ ss) rest nn ll around gg oo = λ ww. rest

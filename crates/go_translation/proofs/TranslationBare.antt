@@ -28,7 +28,7 @@ use Rattle.go_tree.specs.Bare.{bare_name, bare_type, bare_sig, bare_expr, bare_e
 use Rattle.scope_names.proofs.FreeNamesBare.{names_of-bare, declared-bare, declared_option-bare, defined-bare}
 use Rattle.go_types.proofs.TypingBare.{type_meant-bare, written_type-bare, func_type-bare, parts-bare, all_parts-bare, place-bare, places-bare, declares-bare, declares_first-bare, range_declares-bare}
 use Rattle.go_translation.proofs.SmallBare.{length-bare, no_values-bare, body_binds-bare, package_before-bare, is_blank_name-bare, field_key-bare, each_as-bare, is_breakable-bare, name_options-bare}
-use Rattle.go_translation.proofs.MentionsBare.{mentions-bare, mentions_option-bare, mentions_stmts-bare, mentions_first-bare, mentions_block-bare, mentions_arms-bare, mentions_cases-bare, mentions_specs-bare}
+use Rattle.go_translation.proofs.MentionsBare.{own_mentions-bare, mentions-bare, mentions_option-bare, mentions_stmts-bare, mentions_first-bare, mentions_block-bare, mentions_arms-bare, mentions_cases-bare, mentions_specs-bare}
 use Rattle.go_translation.specs.Statements.{RangeForm, return_term, loop_term, renewed, range_form, turn_values, range_term, new_names, variable_names, old_stored, defined_types, spec_types, tag_type, first_place, truth_type, int_type, update_type, element_type, key_name}
 use Rattle.go_translation.specs.Names.{entity_root, name_root, entity_term, name_term, gives_two, first_value, element_of_map, index_op}
 use Rattle.go_translation.specs.Facts.{label_option, has_bound, typed_at, typed_option, first_typed, value_types, target_types, count_exprs, range_type, key_place, element_place, element_places, literal_names, binds_after, binds_first, spec_binds, define_binds, following, after}
@@ -101,7 +101,7 @@ module _ {S : Type 0} where
   define_binds-bare env ns rs = λ w. binds_of (names_of-bare ns w) (new_by_define env (names_of-bare ns w) (right_values env (length-bare ns w) (places-bare env rs w) (all_parts-bare env rs w)))
 
   following-bare : (h : Here) (s : Stmt S) (ss : Stmts S) → following h (bare_stmt s) (bare_stmts ss) ≡ following h s ss
-  following-bare h s ss = λ w. mentions_stmts-bare (extend (binds_after-bare h.env s w) h.env) ss w
+  following-bare h s ss = λ w. own_mentions-bare h.env s w ++ mentions_stmts-bare (extend (binds_after-bare h.env s w) h.env) ss w
 
   after-bare : (h : Here) (s : Stmt S) (ss : Stmts S) → after h (bare_stmt s) (bare_stmts ss) ≡ after h s ss
   after-bare h s ss = λ w. declaring (binds_after-bare h.env s w) (following-bare h s ss w) h

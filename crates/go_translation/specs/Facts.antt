@@ -1,6 +1,6 @@
 -- What is read off a tree before it is translated: types of operands, places of elements, what declarations bind and
 -- what follows them (Go specification, "Assignment statements", "Composite literals", "Declarations and scope").
-use Rattle.std.specs.Prelude.{ℕ, suc, Bool, true, false, List, [], ◌∷◌, length, Option, Some, None, if◌then◌else◌}
+use Rattle.std.specs.Prelude.{ℕ, suc, Bool, true, false, List, [], ◌∷◌, ◌++◌, length, Option, Some, None, if◌then◌else◌}
 use Rattle.go_tree.specs.Tree.{NameAt, Sig, TypeExpr, Expr, Exprs, no_exprs, expr_and, ExprOption, no_expr, some_expr, Elems, no_elems, elem, plain, braced, ValueOption, no_value, some_value, Stmt, Stmts, StmtOption, RangeLeft, assigns}
 use Rattle.scope_names.specs.FreeNames.{names_of, declared, declared_option}
 use Rattle.go_types.specs.Answers.{meets}
@@ -12,7 +12,7 @@ use Rattle.go_types.specs.Literals.{field_key}
 use Rattle.go_types.specs.Statements.{no_values, is_blank_name}
 use Rattle.go_types.specs.Typing.{parts, all_parts, places, declares, declares_first, binds_of, new_variables, new_by_define, right_values}
 use Rattle.go_translation.specs.Values.{typed_of}
-use Rattle.go_translation.specs.Mentions.{Mention, mentions_stmts}
+use Rattle.go_translation.specs.Mentions.{Mention, mentions_stmts, own_mentions}
 use Rattle.go_translation.specs.Here.{Here, declaring, BodyNames, name_options}
 use Rattle.go_translation.specs.Operators.{no_type, own_type, first_type, other_types, settled_option}
 use Rattle.go_translation.specs.Calls.{field_number, constant_place}
@@ -103,9 +103,9 @@ module _ {S : Type 0} where
       binds_of (names_of ns)
       (new_by_define env (names_of ns) (right_values env (length ns) (places env rs) (all_parts env rs)))
 
-  -- what the statements after a statement mention, and the place where they stand
+  -- how what a statement declares is mentioned, and the place where the statements after it stand
   abbrev pub following : Here → Stmt S → Stmts S → List Mention
-  following h s ss = mentions_stmts (extend (binds_after h.env s) h.env) ss
+  following h s ss = own_mentions h.env s ++ mentions_stmts (extend (binds_after h.env s) h.env) ss
 
   abbrev pub after : Here → Stmt S → Stmts S → Here
   after h s ss = declaring (binds_after h.env s) (following h s ss) h

@@ -83,6 +83,11 @@ beyond_names ns (m ∷ ms) = if is_among m.name ns then beyond_names ns ms else 
 abbrev pub beyond : Binds → List Mention → List Mention
 beyond bs ms = beyond_names (bound_names bs) ms
 
+-- those of names that are declared within
+abbrev pub within_names : List (List ℕ) → List Mention → List Mention
+within_names ns [] = []
+within_names ns (m ∷ ms) = if is_among m.name ns then m ∷ within_names ns ms else within_names ns ms
+
 -- `:=` stores to the names that the block declares already
 abbrev pub stored_again : Env → List (List ℕ) → List Mention
 stored_again env [] = []
@@ -210,6 +215,21 @@ module _ {S : Type 0} where
         (new_variables env (names_of ns) (written_type env t) (no_values es)
         (right_values env (length ns) (places env es) (all_parts env es))) in
         mentions_all env es ++ beyond bs (mentions_specs (extend bs env) ss)
+
+  -- how a group of variables mentions, in later values, the variables that it declares itself
+  abbrev pub group_mentions : Env → ValueSpecs S → List Mention
+  group_mentions env no_specs = []
+  group_mentions env (spec _ ns t es ss) =
+      let bs : Binds =
+      binds_of (names_of ns)
+      (new_variables env (names_of ns) (written_type env t) (no_values es)
+      (right_values env (length ns) (places env es) (all_parts env es))) in
+      within_names (bound_names bs) (mentions_specs (extend bs env) ss) ++ group_mentions (extend bs env) ss
+
+  abbrev pub own_mentions : Env → Stmt S → List Mention
+  own_mentions env (var_decl _ _ ss) = group_mentions env ss
+  own_mentions env (label _ n s) = own_mentions env s
+  own_mentions env s = []
 
 -- ---- which variables live in cells
 
