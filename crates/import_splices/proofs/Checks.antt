@@ -1,9 +1,14 @@
--- What is left of imports, in examples (Go specification, Import declarations).
-use Rattle.std.proofs.Common.{◌≡◌, ℕ, true, false, List, [], ◌∷◌, None, codes, refl}
+-- Imports that are left and added, in examples (Go specification, Import declarations).
+use Rattle.std.proofs.Common.{◌≡◌, ℕ, true, false, List, [], ◌∷◌, Some, None, codes, refl}
 use Rattle.go_tree.specs.declared.spans.Span.{Span}
-use Rattle.go_tree.specs.File.{ImportSpec, ImportDecl}
+use Rattle.go_tree.specs.File.{ImportSpec, ImportDecl, File}
+use Rattle.text_edits.specs.Applied.{applied}
+use Rattle.import_rules.specs.declared.new_import.NewImport.{NewImport}
+use Rattle.import_rules.specs.SpecText.{in_order}
 use Rattle.import_rules.specs.Removed.{span_at}
-use Rattle.import_splices.specs.SettledFile.{left_decls}
+use Rattle.import_rules.specs.Settled.{settled}
+use Rattle.import_splices.specs.AddedFile.{AreWritable, added_decls, with_first}
+use Rattle.import_splices.specs.SettledFile.{left_decls, without_unused}
 
 abbrev spec_at : {S : Type 0} → S → List ℕ → ImportSpec S
 spec_at s path = record { span = s; name = None; path = path }
@@ -37,3 +42,63 @@ comment_stays = refl
 -- spans of no spec remove nothing
 none_go : left_decls [] [] [] (span_at 10 20 ∷ []) decls ≡ single_left ∷ record { span = tt; grouped = true; specs = spec_at tt (codes "a") ∷ spec_at tt (codes "b") ∷ [] } ∷ []
 none_go = refl
+
+-- ---- added imports
+
+unfoldable new_one : NewImport
+new_one = record { name = codes "strings"; path = codes "strings"; spelled = false }
+
+unfoldable new_two : NewImport
+new_two = record { name = codes "r"; path = codes "math/rand"; spelled = true }
+
+-- by path, each in a declaration of its own; the name stands where it isn't the package's own
+first_two : added_decls (in_order (new_one ∷ new_two ∷ [])) ≡ record {
+  span = tt;
+  grouped = false;
+  specs = record { span = tt; name = Some (record { span = tt; name = codes "r" }); path = codes "math/rand" } ∷ [];
+} ∷ record { span = tt; grouped = false; specs = spec_at tt (codes "strings") ∷ [] } ∷ []
+unfolding new_one new_two
+first_two = refl
+
+-- a path of octets alone is asked of an import without a name
+writable : AreWritable (new_one ∷ [])
+unfolding new_one
+writable = ((λ h. absurd (nope h)), refl, tt)
+  where
+    nope : false ≡ true → ⊥
+    nope e = cc
+
+unfoldable bare_text : List ℕ
+bare_text = codes "package p\n"
+
+unfoldable bare_go : File Span
+bare_go = record { package_name = record { span = span_at 8 9; name = codes "p" }; imports = []; decls = [] }
+
+-- behind the package name
+behind_name : applied bare_text (settled bare_text [] [] bare_go (new_one ∷ new_two ∷ []) []) ≡ codes "package p\n\nimport r \"math/rand\"\nimport \"strings\"\n"
+unfolding new_one new_two bare_text bare_go
+behind_name = refl
+
+unfoldable one_text : List ℕ
+one_text = codes "package p\n\nimport \"x\"\n"
+
+unfoldable one_go : File Span
+one_go = record {
+  package_name = record { span = span_at 8 9; name = codes "p" };
+  imports = record { span = span_at 11 21; grouped = false; specs = spec_at (span_at 18 21) (codes "x") ∷ [] } ∷ [];
+  decls = [];
+}
+
+-- before the first declaration, which goes or stays
+before_gone : applied one_text (settled one_text [] [] one_go (new_one ∷ []) (span_at 18 21 ∷ [])) ≡ codes "package p\n\nimport \"strings\"\n"
+unfolding new_one one_text one_go
+before_gone = refl
+
+before_left : applied one_text (settled one_text [] [] one_go (new_one ∷ []) []) ≡ codes "package p\n\nimport \"strings\"\nimport \"x\"\n"
+unfolding new_one one_text one_go
+before_left = refl
+
+-- the tree says the same
+tree_gone : (with_first (in_order (new_one ∷ [])) (without_unused one_text [] [] (span_at 18 21 ∷ []) one_go)).imports ≡ added_decls (new_one ∷ [])
+unfolding new_one one_go
+tree_gone = refl

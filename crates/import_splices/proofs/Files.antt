@@ -9,14 +9,15 @@ use Rattle.go_tree.specs.declared.tokens.Token.{Token}
 use Rattle.go_tree.specs.declared.tokens.Comment.{Comment}
 use Rattle.go_tree.specs.declared.tokens.TokenKind.{TokenKind}
 use Rattle.go_tree.specs.declared.tokens.TokenKind.TheVariants.{Ident, Keyword, Operator, Integer, Float, Imaginary, Rune, Str, Inserted}
-use Rattle.go_tree.specs.File.{File}
+use Rattle.go_tree.specs.File.{ImportDecl, File}
+use Rattle.go_tree.specs.FileBare.{bare_file}
 use Rattle.go_words.specs.Terminals.{Terminal, lex, ident, semicolon, key_package, terminal_of, lexemes, keywords, operators}
 use Rattle.go_words.specs.Tokens.Characters.{is_blank}
 use Rattle.go_words.specs.Tokens.{TokensOf, size_of, tokens_from, comments_from, pieces_size, after_mark}
 use Rattle.go_words.specs.Tokens.Pieces.{PieceKind, blanks, remark, token, Piece, no_word_first, IsPiece}
 use Rattle.go_read.specs.SpellsTypes.{Lexemes}
 use Rattle.go_read.specs.SpellsSpans.{span_to}
-use Rattle.go_read.specs.SpellsFiles.{SpellsFront, front_rule}
+use Rattle.go_read.specs.SpellsFiles.{SpellsImports, SpellsFront, front_rule}
 use Rattle.go_read.specs.Bareness.{nowhere}
 use Rattle.go_read.proofs.SpansAside as aside
 use Rattle.go_scan.proofs.PieceKinds.{never_empty}
@@ -38,7 +39,7 @@ use Rattle.splice_laws.proofs.Parts.{in_parts}
 use Rattle.splice_laws.proofs.Splices.{tokens_then, scalars_parts, scalars_on}
 use Rattle.splice_laws.proofs.TokenDots.{tokens_apart}
 use Rattle.splice_laws.proofs.TokenLists.{earlier_apart}
-use Rattle.import_splices.specs.SettledFile.{without_unused}
+use Rattle.import_splices.specs.SettledFile.{left_decls, without_unused}
 use Rattle.import_splices.specs.SettledReads.{UnusedGo, UnusedGoAgain, UnusedStayUndotted}
 use Rattle.import_splices.proofs.Terms.{terms_are, breaks, breaks_at}
 use Rattle.import_splices.proofs.Bytes.{bytes_of, slice_at, drop_at, replaced_on}
@@ -94,15 +95,15 @@ words_are [] t parts = parts
 words_are (p ∷ ps) t parts = parts.1 ∙ ap (λ (v : List ℕ). p.word ++ v) (words_are ps parts.0 parts.3)
 
 -- A text is a byte order mark or none, and then parts.
-record Start (text : List ℕ) (tokens : List Token) : Type 0 where
-  mark : List ℕ
-  is_mark : IsMark mark
-  mark_scalars : all_scalars mark ≡ true
-  pieces : List Piece
-  state : State text tokens (size_of mark) false pieces (lexemes tokens)
-  before_is : state.before ≡ encode_utf8_all mark
+pub record Start (text : List ℕ) (tokens : List Token) : Type 0 where
+  pub mark : List ℕ
+  pub is_mark : IsMark mark
+  pub mark_scalars : all_scalars mark ≡ true
+  pub pieces : List Piece
+  pub state : State text tokens (size_of mark) false pieces (lexemes tokens)
+  pub before_is : state.before ≡ encode_utf8_all mark
 
-start : (text : List ℕ) (tokens : List Token) (comments : List Comment) → TokensOf text tokens comments → dots_apart tokens ≡ true → Start text tokens
+pub start : (text : List ℕ) (tokens : List Token) (comments : List Comment) → TokensOf text tokens comments → dots_apart tokens ≡ true → Start text tokens
 start text tokens comments t apart =
     let m = the_mark t.characters in
     let parts : PartsTo (after_mark t.characters) t.pieces [] = in_parts t.pieces (after_mark t.characters) [] t.cut in
@@ -137,7 +138,7 @@ start text tokens comments t apart =
     nope e = cc
 
 -- what the parts become is read
-assembled : (text : List ℕ) (tokens : List Token) (z : Start text tokens) (es : List Edit) (f : File (Unit {0})) → Out text (size_of z.mark) false z.pieces es (λ us. SpellsFront nowhere f us []) → ReadsAs (applied text es) f
+pub assembled : (text : List ℕ) (tokens : List Token) (z : Start text tokens) (es : List Edit) (f : File (Unit {0})) → Out text (size_of z.mark) false z.pieces es (λ us. SpellsFront nowhere f us []) → ReadsAs (applied text es) f
 assembled text tokens z es f o =
     let w = whole text tokens (size_of z.mark) false z.pieces (lexemes tokens) z.state es (λ us. SpellsFront nowhere f us []) o in
     let qs : List Piece = o.front ++ o.new in
@@ -152,7 +153,7 @@ assembled text tokens z es f o =
     zero n = omega arith
 
 -- what stands behind the imports stays
-stays_all : (text : List ℕ) (tokens : List Token) (comments : List Comment) (unused : List Span) (M : Lexemes) → Follows text tokens comments unused M [] (λ us. us ≡ M)
+pub stays_all : (text : List ℕ) (tokens : List Token) (comments : List Comment) (unused : List Span) (M : Lexemes) → Follows text tokens comments unused M [] (λ us. us ≡ M)
 stays_all text tokens comments unused M at b ps st stop = record {
   front = [];
   words = (words_of ps, refl);
@@ -173,49 +174,54 @@ stays_all text tokens comments unused M at b ps st stop = record {
     zero : (n : ℕ) → n + 0 ≡ n
     zero n = omega arith
 
-unused_from : (text : List ℕ) (tokens : List Token) (comments : List Comment) (file : File Span) (unused : List Span) (z : Start text tokens) (ts : Lexemes) → lexemes tokens ≡ ts → SpellsFront span_to file ts []
-    → ReadsAs (applied text (map removal (ranges text tokens comments unused false file.imports))) (without_unused text tokens comments unused file)
-unused_from text tokens comments file unused z _ e (front_rule {s = s} {c = c} {d = d} {n = n} {is = is} {ds = ds} {ts = ts} {mid = mid} q a b) =
+-- a name ends before what begins with no letter and no digit
+pub named : (at : ℕ) (ps : List Piece) (n0 : Lexemes) (c : Span) (n : List ℕ) (r : Lexemes) (x : Node at ps n0 c (ident n) r) (next : List ℕ) → no_word_first next ≡ true → LastEnds x.core next
+named at ps n0 c n r x next h =
+    let k : x.kind ≡ Ident = name_kind x.kind (encode_utf8_all x.word) (ap is_name x.x_is) in
+    subst (λ (us : List Piece). LastEnds us next) (sym x.last.1) (last_of x.last.0 (token_piece x.kind x.word) next (ends k))
+  where
+    ends : x.kind ≡ Ident → EndsBefore (token_piece x.kind x.word) next
+    ends k = subst (λ (j : TokenKind). EndsBefore (token_piece j x.word) next) (sym k) (by next h)
+      where
+        piece : IsPiece (token Ident) x.word
+        piece = subst (λ (j : TokenKind). IsPiece (token j) x.word) k x.piece
+
+        by : (next : List ℕ) → no_word_first next ≡ true → EndsBefore (token_piece Ident x.word) next
+        by [] h = next_name x.word [] piece refl
+        by (c ∷ cs) h = λ more. next_name x.word (c ∷ more) piece h
+
+-- where the imports become others, from the package clause on, the file becomes one with these
+pub file_from : (text : List ℕ) (tokens : List Token) (comments : List Comment) (file : File Span) (unused : List Span) (js : List (ImportDecl (Unit {0}))) (es : List Edit) (z : Start text tokens) (ts : Lexemes) → lexemes tokens ≡ ts → SpellsFront span_to file ts []
+    → ((front us mid : Lexemes) → lexemes tokens ≡ front ++ us → SpellsImports span_to file.imports us mid → Follows text tokens comments unused us es (λ ws. SpellsImports nowhere js ws mid))
+    → ReadsAs (applied text es) (record (bare_file file) { imports = js })
+file_from text tokens comments file unused js es z _ e (front_rule {s = s} {c = c} {d = d} {n = n} {is = is} {ds = ds} {ts = ts} {mid = mid} q a b) walk =
     let at : ℕ = size_of z.mark in
     let all : Lexemes = lex s key_package ∷ lex c (ident n) ∷ lex d semicolon ∷ ts in
     let st : State text tokens at false z.pieces all = subst (λ (us : Lexemes). State text tokens at false z.pieces us) e z.state in
     let x = node text tokens at false z.pieces (lex s key_package ∷ []) c (ident n) (lex d semicolon ∷ ts) st refl in
     let w = step_by text tokens at false z.pieces (lex s key_package ∷ []) c (ident n) (lex d semicolon ∷ []) ts st (refl, refl) x (λ next. LastEnds x.core next) (λ next ok. ok) (inr (d, refl)) (λ r. absurd (nope r)) in
-    let o = imports_walk text tokens comments unused mid a [] (stays_all text tokens comments unused mid) (at + (pieces_size w.of.gap + pieces_size w.of.body)) w.of.b2 w.of.left w.of.next (w.of.stops nope) in
-    let wh = whole text tokens (at + (pieces_size w.of.gap + pieces_size w.of.body)) w.of.b2 w.of.left ts w.of.next (map removal (ranges text tokens comments unused false is) ++ []) _ o in
-    let k = kept text tokens at false z.pieces all st (lex s key_package ∷ lex c (ident n) ∷ []) s.start (lex d semicolon ∷ []) ts (lex d semicolon ∷ [] ≡ [] → ⊥) (λ next. LastEnds x.core next) w.of nope (map removal (ranges text tokens comments unused false is) ++ [])
-    (λ us. SpellsFront nowhere (without_unused text tokens comments unused file) us []) _ o
-    (by_due w.of.b2 w.of.body refl (λ r next. w.of.shut r nope next) x (λ next ok. w.of.closed next ok) (o.front ++ o.new) wh.parts o.due)
+    let o = walk (lex s key_package ∷ lex c (ident n) ∷ lex d semicolon ∷ []) ts mid e a (at + (pieces_size w.of.gap + pieces_size w.of.body)) w.of.b2 w.of.left w.of.next (w.of.stops nope) in
+    let wh = whole text tokens (at + (pieces_size w.of.gap + pieces_size w.of.body)) w.of.b2 w.of.left ts w.of.next es _ o in
+    let k = kept text tokens at false z.pieces all st (lex s key_package ∷ lex c (ident n) ∷ []) s.start (lex d semicolon ∷ []) ts (lex d semicolon ∷ [] ≡ [] → ⊥) (λ next. LastEnds x.core next) w.of nope es
+    (λ us. SpellsFront nowhere (record (bare_file file) { imports = js }) us []) _ o
+    (by_due w.of.b2 w.of.body (λ r next. w.of.shut r nope next) x (λ next ok. w.of.closed next ok) (o.front ++ o.new) wh.parts o.due)
     (λ us h. front_rule q h (aside.tops_bare span_to b)) in
-    subst (λ (es : List Edit). ReadsAs (applied text es) (without_unused text tokens comments unused file)) (append-nil (map removal (ranges text tokens comments unused false is)))
-    (assembled text tokens z (map removal (ranges text tokens comments unused false is) ++ []) (without_unused text tokens comments unused file) k.0)
+    assembled text tokens z es (record (bare_file file) { imports = js }) k.0
   where
     nope : lex d semicolon ∷ [] ≡ [] → ⊥
     nope e = cc
 
-    named : (x : Node (size_of z.mark) z.pieces (lex s key_package ∷ []) c (ident n) (lex d semicolon ∷ ts)) (next : List ℕ) → no_word_first next ≡ true → LastEnds x.core next
-    named x next h =
-        let k : x.kind ≡ Ident = name_kind x.kind (encode_utf8_all x.word) (ap is_name x.x_is) in
-        subst (λ (us : List Piece). LastEnds us next) (sym x.last.1) (last_of x.last.0 (token_piece x.kind x.word) next (ends x k next h))
-      where
-        ends : (x : Node (size_of z.mark) z.pieces (lex s key_package ∷ []) c (ident n) (lex d semicolon ∷ ts)) → x.kind ≡ Ident → (next : List ℕ) → no_word_first next ≡ true → EndsBefore (token_piece x.kind x.word) next
-        ends x k next h = subst (λ (j : TokenKind). EndsBefore (token_piece j x.word) next) (sym k) (by next h)
-          where
-            piece : IsPiece (token Ident) x.word
-            piece = subst (λ (j : TokenKind). IsPiece (token j) x.word) k x.piece
-
-            by : (next : List ℕ) → no_word_first next ≡ true → EndsBefore (token_piece Ident x.word) next
-            by [] h = next_name x.word [] piece refl
-            by (c ∷ cs) h = λ more. next_name x.word (c ∷ more) piece h
-
-    by_due : (b2 : Bool) (body : List Piece) → (bb : b2 ≡ b2) → (b2 ≡ false → (next : List ℕ) → LastEnds body next) → (x : Node (size_of z.mark) z.pieces (lex s key_package ∷ []) c (ident n) (lex d semicolon ∷ ts)) → ((next : List ℕ) → LastEnds x.core next → LastEnds body next)
+    by_due : (b2 : Bool) (body : List Piece) → (b2 ≡ false → (next : List ℕ) → LastEnds body next) → (x : Node (size_of z.mark) z.pieces (lex s key_package ∷ []) c (ident n) (lex d semicolon ∷ ts)) → ((next : List ℕ) → LastEnds x.core next → LastEnds body next)
         → (qs : List Piece) → PartsTo (words_of qs) qs [] → (b2 ≡ true → breaks qs ≡ true) → LastEnds body (words_of qs)
-    by_due true body bb shut x closed qs parts due = closed (words_of qs) (named x (words_of qs) (breaks_word qs (words_of qs) parts (due refl)))
-    by_due false body bb shut x closed qs parts due = shut refl (words_of qs)
+    by_due true body shut x closed qs parts due = closed (words_of qs) (named (size_of z.mark) z.pieces (lex s key_package ∷ []) c n (lex d semicolon ∷ ts) x (words_of qs) (breaks_word qs (words_of qs) parts (due refl)))
+    by_due false body shut x closed qs parts due = shut refl (words_of qs)
 
 pub unused_go : UnusedGo
 unused_go text tokens comments file unused t d u =
-    unused_from text tokens comments file unused (start text tokens comments t (tokens_apart text tokens comments file t d u)) (lexemes tokens) refl d
+    let fs : List Edit = map removal (ranges text tokens comments unused false file.imports) in
+    subst (λ (es : List Edit). ReadsAs (applied text es) (without_unused text tokens comments unused file)) (append-nil fs)
+    (file_from text tokens comments file unused (left_decls text tokens comments unused file.imports) (fs ++ []) (start text tokens comments t (tokens_apart text tokens comments file t d u)) (lexemes tokens) refl d
+    (λ front us mid q a. imports_walk text tokens comments unused mid a [] (stays_all text tokens comments unused mid)))
 
 pub unused_go_again : UnusedGoAgain
 unused_go_again text f r unused u = unused_go text r.tokens r.comments r.file unused r.of_text r.spelled (subst (λ (g : File (Unit {0})). UndottedFile g) (sym r.same) u)

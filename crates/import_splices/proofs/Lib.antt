@@ -9,6 +9,9 @@ pub mod Steps
 pub mod LineStarts
 pub mod Lands
 pub mod Outs
+pub mod Quotes
+pub mod News
 pub mod Walks
 pub mod Files
+pub mod Adds
 pub mod Checks

@@ -64,7 +64,7 @@ out_map text at b ps es are then f o = record {
 
 module _ (text : List ℕ) (tokens : List Token) where
   -- the bytes of parts in front of an offset
-  slice_is : (at : ℕ) (b : Bool) (ps : List Piece) (ts : Lexemes) → State text tokens at b ps ts → (front : List Piece) → (more : List ℕ) → words_of ps ≡ words_of front ++ more → slice_range text at (at + pieces_size front) ≡ bytes_of front
+  pub slice_is : (at : ℕ) (b : Bool) (ps : List Piece) (ts : Lexemes) → State text tokens at b ps ts → (front : List Piece) → (more : List ℕ) → words_of ps ≡ words_of front ++ more → slice_range text at (at + pieces_size front) ≡ bytes_of front
   slice_is at b ps ts st front more e =
       slice_at text st.before (bytes_of front) (encode_utf8_all more) at (at + pieces_size front)
       (st.text_is ∙ ap (λ (v : List ℕ). st.before ++ v) (ap encode_utf8_all e ∙ encodes-append (words_of front) more)) st.size (ap (λ (n : ℕ). at + n) (bytes_size front))

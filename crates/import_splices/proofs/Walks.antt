@@ -15,10 +15,12 @@ use Rattle.go_read.specs.SpellsFiles.{SpellsImportSpec, SpellsImportSpecs, Spell
 use Rattle.go_read.specs.Bareness.{nowhere}
 use Rattle.text_edits.specs.declared.edit.Edit.{Edit}
 use Rattle.import_rules.specs.Removed.{span_at, through_semicolon, widened, goes, goes_whole, spec_range, decl_range, specs_ranges, decl_ranges, ranges}
+use Rattle.import_rules.specs.Added.{single_start, front_of}
 use Rattle.import_rules.specs.Settled.{removal}
 use Rattle.splice_laws.proofs.TokenLists.{end_last}
 use Rattle.splice_laws.proofs.Wholes.{span_of_node}
 use Rattle.import_splices.specs.SettledFile.{left_specs, left_single, left_decl, left_decls}
+use Rattle.import_splices.proofs.Terms.{newline_in}
 use Rattle.import_splices.proofs.Nodes.{State}
 use Rattle.import_splices.proofs.Steps.{Stop, step, opening}
 use Rattle.import_splices.proofs.Lands.{landed}
@@ -31,20 +33,20 @@ use Rattle.splice_laws.proofs.ImportLists.{begins_end_paren}
 -- ---- the lexemes of an import
 
 -- the lexemes of a spec: all but its last one, which is a string
-record SpecIs (x : ImportSpec Span) (ts r : Lexemes) : Type 0 where
-  n0 : Lexemes
-  s : Span
-  p : List ℕ
-  is : ts ≡ n0 ++ lex s (str_lit p) ∷ r
-  span_is : x.span ≡ record { start = start_of ts; end = s.end }
-  again : (q : Lexemes) → SpellsImportSpec nowhere (bare_import_spec x) ((n0 ++ lex s (str_lit p) ∷ []) ++ q) q
+pub record SpecIs (x : ImportSpec Span) (ts r : Lexemes) : Type 0 where
+  pub n0 : Lexemes
+  pub s : Span
+  pub p : List ℕ
+  pub is : ts ≡ n0 ++ lex s (str_lit p) ∷ r
+  pub span_is : x.span ≡ record { start = start_of ts; end = s.end }
+  pub again : (q : Lexemes) → SpellsImportSpec nowhere (bare_import_spec x) ((n0 ++ lex s (str_lit p) ∷ []) ++ q) q
 
-spec_is : {x : ImportSpec Span} {ts r : Lexemes} → SpellsImportSpec span_to x ts r → SpecIs x ts r
+pub spec_is : {x : ImportSpec Span} {ts r : Lexemes} → SpellsImportSpec span_to x ts r → SpecIs x ts r
 spec_is (path_rule {s = s} {p = p} {r = r}) = record { n0 = []; s = s; p = p; is = refl; span_is = span_of_node [] r s (str_lit p); again = λ q. path_rule }
 spec_is (named_path_rule {s = s} {c = c} {n = n} {p = p} {r = r}) = record { n0 = lex s (ident n) ∷ []; s = c; p = p; is = refl; span_is = span_of_node (lex s (ident n) ∷ []) r c (str_lit p); again = λ q. named_path_rule }
 
 -- those of the specs of a group stand before its `)`
-specs_front : {xs : List (ImportSpec Span)} {ts r : Lexemes} → SpellsImportSpecs span_to xs ts r → (m : Lexemes) × (ts ≡ m ++ r)
+pub specs_front : {xs : List (ImportSpec Span)} {ts r : Lexemes} → SpellsImportSpecs span_to xs ts r → (m : Lexemes) × (ts ≡ m ++ r)
 specs_front (no_import_specs_rule {r = r}) = ([], refl)
 specs_front (last_import_spec_rule {e = e} {r = r} d) = let x = spec_is d in (x.n0 ++ lex x.s (str_lit x.p) ∷ [], x.is ∙ sym (append_assoc x.n0 (lex x.s (str_lit x.p) ∷ []) (lex e end_paren ∷ r)))
 specs_front (more_import_specs_rule {c = c} {r = r} d k) =
@@ -53,12 +55,18 @@ specs_front (more_import_specs_rule {c = c} {r = r} d k) =
     let own : Lexemes = x.n0 ++ lex x.s (str_lit x.p) ∷ lex c semicolon ∷ [] in
     (own ++ y.0, x.is ∙ ap (λ (us : Lexemes). x.n0 ++ lex x.s (str_lit x.p) ∷ lex c semicolon ∷ us) y.1 ∙ sym (append_assoc x.n0 (lex x.s (str_lit x.p) ∷ lex c semicolon ∷ []) (y.0 ++ r)) ∙ sym (append_assoc own y.0 r))
 
-span_same : (s : Span) (a b : ℕ) → s ≡ record { start = a; end = b } → (s.start ≡ a) × (s.end ≡ b)
+pub span_same : (s : Span) (a b : ℕ) → s ≡ record { start = a; end = b } → (s.start ≡ a) × (s.end ≡ b)
 span_same s a b e = (ap (λ (t : Span). t.start) e, ap (λ (t : Span). t.end) e)
 
 starts_same : (n0 : Lexemes) (s : Span) (x : Terminal) (a b : Lexemes) → start_of ((n0 ++ lex s x ∷ []) ++ a) ≡ start_of (n0 ++ lex s x ∷ b)
 starts_same [] s x a b = refl
 starts_same (lex t y ∷ n0) s x a b = refl
+
+-- What a text becomes, where the parts that stay in front go up to a place, through the newline that is due.
+pub record Led (text : List ℕ) (at : ℕ) (b : Bool) (ps : List Piece) (es : List Edit) (are : Lexemes → Type 0) (place : ℕ) : Type 0 where
+  pub out : Out text at b ps es are
+  pub up_to : at + pieces_size out.front ≡ place
+  pub newline : b ≡ true → newline_in out.front ≡ true
 
 module _ (text : List ℕ) (tokens : List Token) (comments : List Comment) (unused : List Span) where
   -- what is left spells, from a state on
@@ -68,7 +76,13 @@ module _ (text : List ℕ) (tokens : List Token) (comments : List Comment) (unus
   abbrev pub Follows : Lexemes → List Edit → (Lexemes → Type 0) → Type 0
   Follows ts es are = (at : ℕ) (b : Bool) (ps : List Piece) (st : State text tokens at b ps ts) → Stop st.before ps → Out text at b ps es are
 
-  abbrev again : (at : ℕ) (b : Bool) (ps : List Piece) (ts us : Lexemes) → ts ≡ us → State text tokens at b ps ts → State text tokens at b ps us
+  abbrev pub Leads : Lexemes → List Edit → (Lexemes → Type 0) → ℕ → Type 0
+  Leads ts es are place = (at : ℕ) (b : Bool) (ps : List Piece) (st : State text tokens at b ps ts) → Stop st.before ps → Led text at b ps es are place
+
+  led_at : (at : ℕ) (b : Bool) (ps : List Piece) (es : List Edit) (are : Lexemes → Type 0) (place to : ℕ) → place ≡ to → Led text at b ps es are place → Led text at b ps es are to
+  led_at at b ps es are place to e o = subst (λ (n : ℕ). Led text at b ps es are n) e o
+
+  abbrev pub again : (at : ℕ) (b : Bool) (ps : List Piece) (ts us : Lexemes) → ts ≡ us → State text tokens at b ps ts → State text tokens at b ps us
   again at b ps ts us e st = record {
     before = st.before;
     text_is = st.text_is;
@@ -86,25 +100,34 @@ module _ (text : List ℕ) (tokens : List Token) (comments : List Comment) (unus
   -- ---- one node
 
   module _ (n0 : Lexemes) (s : Span) (x : Terminal) (closing : is_close x ≡ true) (end rest : Lexemes) (is_end : IsEnd end) (ends : end ≡ [] → begins_end_paren rest ≡ true) (es : List Edit) (are : Lexemes → Type 0) where
-    goes_on : (r : Span) → r ≡ widened text (span_at (start_of (n0 ++ lex s x ∷ (end ++ rest))) (through_semicolon tokens s.end))
+    goes_led : (r : Span) → r ≡ widened text (span_at (start_of (n0 ++ lex s x ∷ (end ++ rest))) (through_semicolon tokens s.end))
         → (k : (at : ℕ) (b : Bool) (ps : List Piece) (st : State text tokens at b ps rest) → ((end ≡ [] → ⊥) → Stop st.before ps) → Out text at b ps es are)
-        → Follows (n0 ++ lex s x ∷ (end ++ rest)) (removal r ∷ es) are
-    goes_on r e k at b ps st stop =
+        → Leads (n0 ++ lex s x ∷ (end ++ rest)) (removal r ∷ es) are r.start
+    goes_led r e k at b ps st stop =
         let w = step text tokens at b ps n0 s x end rest st closing is_end ends in
         let l = landed text tokens at b ps (n0 ++ lex s x ∷ (end ++ rest)) st stop (n0 ++ lex s x ∷ []) (start_of (n0 ++ lex s x ∷ (end ++ rest))) end rest (end ≡ [] → ⊥) (λ next. Unit {0}) w.of in
         let o = gone text tokens at b ps (n0 ++ lex s x ∷ (end ++ rest)) st (start_of (n0 ++ lex s x ∷ (end ++ rest))) (at + (pieces_size w.of.gap + pieces_size w.of.body)) rest (end ≡ [] → ⊥) l es are (k l.to l.b3 l.left l.next l.stops) in
-        subst (λ (q : Span). Out text at b ps (removal q ∷ es) are) (sym (e ∙ ap (λ (n : ℕ). widened text (span_at (start_of (n0 ++ lex s x ∷ (end ++ rest))) n)) w.through ∙ l.range)) o.0
+        subst (λ (q : Span). Led text at b ps (removal q ∷ es) are q.start) (sym (e ∙ ap (λ (n : ℕ). widened text (span_at (start_of (n0 ++ lex s x ∷ (end ++ rest))) n)) w.through ∙ l.range)) (record { out = o.0; up_to = o.1; newline = o.2 })
 
-    stays : (c : Span) → end ≡ lex c semicolon ∷ [] → (then : Lexemes → Type 0) → Follows rest es then → ((us : Lexemes) → then us → are (((n0 ++ lex s x ∷ []) ++ end) ++ us)) → Freely (n0 ++ lex s x ∷ (end ++ rest)) es are
-    stays c ec then k on at b ps st =
+    pub goes_on : (r : Span) → r ≡ widened text (span_at (start_of (n0 ++ lex s x ∷ (end ++ rest))) (through_semicolon tokens s.end))
+        → (k : (at : ℕ) (b : Bool) (ps : List Piece) (st : State text tokens at b ps rest) → ((end ≡ [] → ⊥) → Stop st.before ps) → Out text at b ps es are)
+        → Follows (n0 ++ lex s x ∷ (end ++ rest)) (removal r ∷ es) are
+    goes_on r e k at b ps st stop = (goes_led r e k at b ps st stop).out
+
+    pub stays_led : (c : Span) → end ≡ lex c semicolon ∷ [] → (then : Lexemes → Type 0) → Follows rest es then → ((us : Lexemes) → then us → are (((n0 ++ lex s x ∷ []) ++ end) ++ us)) → (at : ℕ) (b : Bool) (ps : List Piece) (st : State text tokens at b ps (n0 ++ lex s x ∷ (end ++ rest))) → Led text at b ps es are (start_of (n0 ++ lex s x ∷ (end ++ rest)))
+    stays_led c ec then k on at b ps st =
         let w = step text tokens at b ps n0 s x end rest st closing is_end ends in
         let sure : end ≡ [] → ⊥ = (λ q. nope (sym ec ∙ q)) in
         let o = k (at + (pieces_size w.of.gap + pieces_size w.of.body)) w.of.b2 w.of.left w.of.next (w.of.stops sure) in
-        (kept text tokens at b ps (n0 ++ lex s x ∷ (end ++ rest)) st (n0 ++ lex s x ∷ []) (start_of (n0 ++ lex s x ∷ (end ++ rest))) end rest (end ≡ [] → ⊥) (λ next. Unit {0}) w.of sure es are then
-        o (w.of.closed (words_of (o.front ++ o.new)) tt) on).0
+        let y = kept text tokens at b ps (n0 ++ lex s x ∷ (end ++ rest)) st (n0 ++ lex s x ∷ []) (start_of (n0 ++ lex s x ∷ (end ++ rest))) end rest (end ≡ [] → ⊥) (λ next. Unit {0}) w.of sure es are then
+        o (w.of.closed (words_of (o.front ++ o.new)) tt) on in
+        record { out = y.0; up_to = y.1; newline = y.2 }
       where
         nope : lex c semicolon ∷ [] ≡ [] → ⊥
         nope e = cc
+
+    pub stays : (c : Span) → end ≡ lex c semicolon ∷ [] → (then : Lexemes → Type 0) → Follows rest es then → ((us : Lexemes) → then us → are (((n0 ++ lex s x ∷ []) ++ end) ++ us)) → Freely (n0 ++ lex s x ∷ (end ++ rest)) es are
+    stays c ec then k on at b ps st = (stays_led c ec then k on at b ps st).out
 
   -- ---- the specs of a group
 
@@ -170,8 +193,13 @@ module _ (text : List ℕ) (tokens : List Token) (comments : List Comment) (unus
       nope : lex c semicolon ∷ [] ≡ [] → ⊥
       nope e = cc
 
+      group_start : (sp : Span) (ys xs : List (ImportSpec Span)) → single_start text tokens comments unused (record { span = sp; grouped = true; specs = ys }) xs ≡ sp.start
+      group_start sp ys [] = refl
+      group_start sp ys (x ∷ xs) = refl
+
       single : (s : Span) (x : ImportSpec Span) (ts : Lexemes) (sp : Span) → sp ≡ span_to (lex s key_import ∷ ts) (lex c semicolon ∷ mid) → SpecIs x ts (lex c semicolon ∷ mid)
-          → Follows (lex s key_import ∷ ts) (map removal (decl_ranges text tokens comments unused false (record { span = sp; grouped = false; specs = x ∷ [] })) ++ es) (Imports (left_decl text tokens comments unused (record { span = sp; grouped = false; specs = x ∷ [] }) ++ js))
+          → Leads (lex s key_import ∷ ts) (map removal (decl_ranges text tokens comments unused false (record { span = sp; grouped = false; specs = x ∷ [] })) ++ es) (Imports (left_decl text tokens comments unused (record { span = sp; grouped = false; specs = x ∷ [] }) ++ js))
+          (front_of text tokens comments unused (record { span = sp; grouped = false; specs = x ∷ [] }))
       single s x ts sp e i at b ps st stop = by_goes (goes text tokens comments unused x)
         where
           d : ImportDecl Span
@@ -183,18 +211,20 @@ module _ (text : List ℕ) (tokens : List Token) (comments : List Comment) (unus
           range : widened text (span_at sp.start (through_semicolon tokens x.span.end)) ≡ widened text (span_at s.start (through_semicolon tokens i.s.end))
           range = ap (λ (q : Span). widened text (span_at q.start (through_semicolon tokens x.span.end))) e ∙ ap (λ (q : Span). widened text (span_at s.start (through_semicolon tokens q.end))) i.span_is
 
-          by_goes : (t : Bool) → Out text at b ps (map removal (cond t (widened text (span_at sp.start (through_semicolon tokens x.span.end)) ∷ []) []) ++ es) (Imports (left_single text tokens comments unused (cond t [] (bare_import_spec x ∷ [])) ++ js))
+          by_goes : (t : Bool) → Led text at b ps (map removal (cond t (widened text (span_at sp.start (through_semicolon tokens x.span.end)) ∷ []) []) ++ es) (Imports (left_single text tokens comments unused (cond t [] (bare_import_spec x ∷ [])) ++ js))
+              (cond t (widened text (span_at sp.start (through_semicolon tokens x.span.end))).start sp.start)
           by_goes true =
-              goes_on (lex s key_import ∷ i.n0) i.s (str_lit i.p) refl (lex c semicolon ∷ []) mid (inr (c, refl)) (λ z. absurd (nope z)) es (Imports js) (widened text (span_at sp.start (through_semicolon tokens x.span.end))) range
+              goes_led (lex s key_import ∷ i.n0) i.s (str_lit i.p) refl (lex c semicolon ∷ []) mid (inr (c, refl)) (λ z. absurd (nope z)) es (Imports js) (widened text (span_at sp.start (through_semicolon tokens x.span.end))) range
               (λ at b ps st more. later at b ps st (more nope)) at b ps (again at b ps (lex s key_import ∷ ts) _ whole st) stop
           by_goes false =
-              stays (lex s key_import ∷ i.n0) i.s (str_lit i.p) refl (lex c semicolon ∷ []) mid (inr (c, refl)) (λ z. absurd (nope z)) es (Imports (record { span = tt; grouped = false; specs = bare_import_spec x ∷ [] } ∷ js)) c refl (Imports js) later
+              led_at at b ps es _ s.start sp.start (sym (ap (λ (q : Span). q.start) e)) (stays_led (lex s key_import ∷ i.n0) i.s (str_lit i.p) refl (lex c semicolon ∷ []) mid (inr (c, refl)) (λ z. absurd (nope z)) es (Imports (record { span = tt; grouped = false; specs = bare_import_spec x ∷ [] } ∷ js)) c refl (Imports js) later
               (λ us o. subst (λ (ws : Lexemes). SpellsImports nowhere (record { span = tt; grouped = false; specs = bare_import_spec x ∷ [] } ∷ js) (lex s key_import ∷ ws) M) (sym (append_assoc (i.n0 ++ lex i.s (str_lit i.p) ∷ []) (lex c semicolon ∷ []) us))
               (more_imports_rule {c = c} (import_rule (i.again (lex c semicolon ∷ us))) o))
-              at b ps (again at b ps (lex s key_import ∷ ts) _ whole st)
+              at b ps (again at b ps (lex s key_import ∷ ts) _ whole st))
 
       group : (s o e : Span) (xs : List (ImportSpec Span)) (ts : Lexemes) (sp : Span) → sp ≡ span_to (lex s key_import ∷ lex o paren ∷ ts) (lex c semicolon ∷ mid) → SpellsImportSpecs span_to xs ts (lex e end_paren ∷ lex c semicolon ∷ mid)
-          → Follows (lex s key_import ∷ lex o paren ∷ ts) (map removal (decl_ranges text tokens comments unused false (record { span = sp; grouped = true; specs = xs })) ++ es) (Imports (left_decl text tokens comments unused (record { span = sp; grouped = true; specs = xs }) ++ js))
+          → Leads (lex s key_import ∷ lex o paren ∷ ts) (map removal (decl_ranges text tokens comments unused false (record { span = sp; grouped = true; specs = xs })) ++ es) (Imports (left_decl text tokens comments unused (record { span = sp; grouped = true; specs = xs }) ++ js))
+          (front_of text tokens comments unused (record { span = sp; grouped = true; specs = xs }))
       group s o e xs ts sp q specs at b ps st stop = by_whole (goes_whole text tokens comments unused false (record { span = sp; grouped = true; specs = xs }))
         where
           f : (m : Lexemes) × (ts ≡ m ++ (lex e end_paren ∷ lex c semicolon ∷ mid))
@@ -216,10 +246,11 @@ module _ (text : List ℕ) (tokens : List Token) (comments : List Comment) (unus
               stays m e end_paren refl (lex c semicolon ∷ []) mid (inr (c, refl)) (λ z. absurd (nope z)) es _ c refl (Imports js) later
               (λ us o. (lex e end_paren ∷ lex c semicolon ∷ us, append_assoc (m ++ lex e end_paren ∷ []) (lex c semicolon ∷ []) us ∙ append_assoc m (lex e end_paren ∷ []) (lex c semicolon ∷ us), (e, us, refl, o)))
 
-          by_whole : (t : Bool) → Out text at b ps (map removal (cond t (decl_range text tokens comments unused (record { span = sp; grouped = true; specs = xs }) ∷ []) (specs_ranges text tokens comments unused (record { span = sp; grouped = true; specs = xs }) xs)) ++ es)
+          by_whole : (t : Bool) → Led text at b ps (map removal (cond t (decl_range text tokens comments unused (record { span = sp; grouped = true; specs = xs }) ∷ []) (specs_ranges text tokens comments unused (record { span = sp; grouped = true; specs = xs }) xs)) ++ es)
               (Imports (cond t [] (record { span = tt; grouped = true; specs = left_specs text tokens comments unused xs } ∷ []) ++ js))
+              (cond t (decl_range text tokens comments unused (record { span = sp; grouped = true; specs = xs })).start (single_start text tokens comments unused (record { span = sp; grouped = true; specs = xs }) xs))
           by_whole true =
-              goes_on (lex s key_import ∷ lex o paren ∷ f.0) e end_paren refl (lex c semicolon ∷ []) mid (inr (c, refl)) (λ z. absurd (nope z)) es (Imports js) (decl_range text tokens comments unused (record { span = sp; grouped = true; specs = xs }))
+              goes_led (lex s key_import ∷ lex o paren ∷ f.0) e end_paren refl (lex c semicolon ∷ []) mid (inr (c, refl)) (λ z. absurd (nope z)) es (Imports js) (decl_range text tokens comments unused (record { span = sp; grouped = true; specs = xs }))
               (ap (λ (z : Span). widened text (span_at z.start (through_semicolon tokens z.end))) span_is)
               (λ at b ps st more. later at b ps st (more nope)) at b ps (again at b ps (lex s key_import ∷ lex o paren ∷ ts) _ whole st) stop
           by_whole false =
@@ -227,13 +258,14 @@ module _ (text : List ℕ) (tokens : List Token) (comments : List Comment) (unus
               let inside =
               specs_walk (record { span = sp; grouped = true; specs = xs }) refl e (lex c semicolon ∷ mid) es (λ vs. (e2 : Span) × (ws : Lexemes) × (vs ≡ lex e2 end_paren ∷ lex c semicolon ∷ ws) × Imports js ws)
               (λ vs o. (o.0, lex c semicolon ∷ o.1, o.2)) closes specs (at + (pieces_size w.gap + pieces_size w.body)) w.b2 w.left w.next (w.stops tt) in
-              (kept text tokens at b ps (lex s key_import ∷ lex o paren ∷ ts) st (lex s key_import ∷ lex o paren ∷ []) s.start [] ts (Unit {0}) (λ next. Unit {0}) w tt
+              let y = kept text tokens at b ps (lex s key_import ∷ lex o paren ∷ ts) st (lex s key_import ∷ lex o paren ∷ []) s.start [] ts (Unit {0}) (λ next. Unit {0}) w tt
               (map removal (specs_ranges text tokens comments unused (record { span = sp; grouped = true; specs = xs }) xs) ++ es) (Imports (record { span = tt; grouped = true; specs = left_specs text tokens comments unused xs } ∷ js))
               (λ us. (vs : Lexemes) × SpellsImportSpecs nowhere (left_specs text tokens comments unused xs) us vs × ((e2 : Span) × (ws : Lexemes) × (vs ≡ lex e2 end_paren ∷ lex c semicolon ∷ ws) × Imports js ws))
               inside (w.closed (words_of (inside.front ++ inside.new)) tt)
-              (λ us o. more_imports_rule {c = c} (import_group_rule (subst (λ (vs : Lexemes). SpellsImportSpecs nowhere (left_specs text tokens comments unused xs) us vs) o.2.2 o.1)) o.2.3)).0
+              (λ us o. more_imports_rule {c = c} (import_group_rule (subst (λ (vs : Lexemes). SpellsImportSpecs nowhere (left_specs text tokens comments unused xs) us vs) o.2.2 o.1)) o.2.3) in
+              record { out = y.0; up_to = y.1 ∙ sym (group_start sp xs xs ∙ ap (λ (q : Span). q.start) span_is); newline = y.2 }
 
-      one_walk : {d : ImportDecl Span} {ts : Lexemes} → SpellsImport span_to d ts (lex c semicolon ∷ mid) → Follows ts (map removal (decl_ranges text tokens comments unused false d) ++ es) (Imports (left_decl text tokens comments unused d ++ js))
+      pub one_walk : {d : ImportDecl Span} {ts : Lexemes} → SpellsImport span_to d ts (lex c semicolon ∷ mid) → Leads ts (map removal (decl_ranges text tokens comments unused false d) ++ es) (Imports (left_decl text tokens comments unused d ++ js)) (front_of text tokens comments unused d)
       one_walk (import_rule {s = s} {x = x} {ts = ts} a) = single s x ts (span_to (lex s key_import ∷ ts) (lex c semicolon ∷ mid)) refl (spec_is a)
       one_walk (import_group_rule {s = s} {b = o} {e = e} {xs = xs} {ts = ts} a) = group s o e xs ts (span_to (lex s key_import ∷ lex o paren ∷ ts) (lex c semicolon ∷ mid)) refl a
 
@@ -241,13 +273,23 @@ module _ (text : List ℕ) (tokens : List Token) (comments : List Comment) (unus
     ranges_next d [] = sym (append-nil (decl_ranges text tokens comments unused false d))
     ranges_next d (e ∷ ds) = refl
 
-    map_both : (xs ys : List Span) → map removal (xs ++ ys) ≡ map removal xs ++ map removal ys
+    pub map_both : (xs ys : List Span) → map removal (xs ++ ys) ≡ map removal xs ++ map removal ys
     map_both [] ys = refl
     map_both (x ∷ xs) ys = ap (λ (es : List Edit). removal x ∷ es) (map_both xs ys)
 
+    first_walk : (c : Span) {d : ImportDecl Span} (ds : List (ImportDecl Span)) {ts : Lexemes} (mid : Lexemes) → SpellsImport span_to d ts (lex c semicolon ∷ mid) → (es : List Edit)
+        → Follows mid (map removal (ranges text tokens comments unused false ds) ++ es) (Imports (left_decls text tokens comments unused ds))
+        → Leads ts (map removal (ranges text tokens comments unused false (d ∷ ds)) ++ es) (Imports (left_decls text tokens comments unused (d ∷ ds))) (front_of text tokens comments unused d)
+    first_walk c {d = d} ds mid a es later at b ps st stop =
+        subst (λ (fs : List Edit). Led text at b ps fs (Imports (left_decl text tokens comments unused d ++ left_decls text tokens comments unused ds)) (front_of text tokens comments unused d))
+        (sym (append_assoc (map removal (decl_ranges text tokens comments unused false d)) (map removal (ranges text tokens comments unused false ds)) es) ∙ ap (λ (fs : List Edit). fs ++ es) (sym (map_both (decl_ranges text tokens comments unused false d) (ranges text tokens comments unused false ds)) ∙ ap (map removal) (sym (ranges_next d ds))))
+        (one_walk c mid (map removal (ranges text tokens comments unused false ds) ++ es) (left_decls text tokens comments unused ds) later a at b ps st stop)
+
     pub imports_walk : {ds : List (ImportDecl Span)} {ts mid : Lexemes} → SpellsImports span_to ds ts mid → (es : List Edit) → Follows mid es (λ us. us ≡ M) → Follows ts (map removal (ranges text tokens comments unused false ds) ++ es) (Imports (left_decls text tokens comments unused ds))
     imports_walk no_imports_rule es last at b ps st stop = out_map text at b ps es _ _ (λ us o. subst (λ (vs : Lexemes). SpellsImports nowhere [] vs M) (sym o) no_imports_rule) (last at b ps st stop)
-    imports_walk (more_imports_rule {c = c} {d = d} {ds = ds} {mid = mid} a k) es last at b ps st stop =
-        subst (λ (fs : List Edit). Out text at b ps fs (Imports (left_decl text tokens comments unused d ++ left_decls text tokens comments unused ds)))
-        (sym (append_assoc (map removal (decl_ranges text tokens comments unused false d)) (map removal (ranges text tokens comments unused false ds)) es) ∙ ap (λ (fs : List Edit). fs ++ es) (sym (map_both (decl_ranges text tokens comments unused false d) (ranges text tokens comments unused false ds)) ∙ ap (map removal) (sym (ranges_next d ds))))
-        (one_walk c mid (map removal (ranges text tokens comments unused false ds) ++ es) (left_decls text tokens comments unused ds) (imports_walk k es last) a at b ps st stop)
+    imports_walk (more_imports_rule {c = c} {d = d} {ds = ds} {mid = mid} a k) es last at b ps st stop = (first_walk c ds mid a es (imports_walk k es last) at b ps st stop).out
+
+    -- where there is one, up to the first
+    pub lead_walk : {d : ImportDecl Span} {ds : List (ImportDecl Span)} {ts mid : Lexemes} → SpellsImports span_to (d ∷ ds) ts mid → (es : List Edit) → Follows mid es (λ us. us ≡ M)
+        → Leads ts (map removal (ranges text tokens comments unused false (d ∷ ds)) ++ es) (Imports (left_decls text tokens comments unused (d ∷ ds))) (front_of text tokens comments unused d)
+    lead_walk (more_imports_rule {c = c} {ds = ds} {mid = mid} a k) es last = first_walk c ds mid a es (imports_walk k es last)

@@ -1,2 +1,3 @@
 pub mod SettledFile
 pub mod SettledReads
+pub mod AddedFile

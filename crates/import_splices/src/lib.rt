@@ -4,4 +4,4 @@
 
 mod laws;
 
-pub use laws::unused_imports_go;
+pub use laws::{imports_are_settled, unused_imports_go};
