@@ -5,11 +5,7 @@ use Rattle.std.proofs.lemmas.List.{take-append-drop, reverse-append}
 use Rattle.std.specs.List.{ends_with}
 use Rattle.std.specs.Cmp.Lexicographic.{same_text, pointwise}
 use Rattle.fix_engine.proofs.Parts.{At, pass}
-use Rattle.go_tree.specs.Tree as tree
-use Rattle.go_tree.specs.File as file
 use Rattle.go_outline.specs.Outline as outline
-use Rattle.fix_engine.specs.declared.outline.Operand.{Operand}
-use Rattle.fix_engine.specs.declared.outline.Constant.{Constant}
 use Rattle.fix_engine.specs.Located.{located, located_constant, located_constants, located_prints, constants_of, prints_of}
 use Rattle.fix_engine.specs.Read.{mark_line, is_marked_at, operand_of, constant_in, constants_in, all_printed, prints_in, valued}
 

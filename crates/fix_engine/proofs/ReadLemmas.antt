@@ -2,7 +2,6 @@
 use Rattle.std.proofs.Common.{◌≡◌, ℕ, Bool, List, [], ◌∷◌, map, length, Option, Some, None, is_some, true, false, refl, sym, ap, ◌∙◌}
 use Rattle.std.specs.Option.{option_map}
 use denote.Hole.Carrier
-use Rattle.go_tree.specs.declared.exprs.Expr.TheBlock as e
 use Rattle.go_tree.specs.Tree as tree
 use Rattle.go_tree.specs.File.{values}
 use Rattle.go_tree.specs.View.{name_at_of, type_of, expr_of, exprs_of, const_decl_of, const_spec_of, const_specs_of}

@@ -1,5 +1,5 @@
 -- What is one value: indices, slices, operators; and what a selector is.
-use Rattle.std.specs.Prelude.{◌≡◌, ◌⊎◌, ◌++◌, refl, ℕ, Bool, true, false, not, ◌&&◌, ◌||◌, List, [], ◌∷◌, Option, Some, None, if◌then◌else◌}
+use Rattle.std.specs.Prelude.{◌≡◌, ◌⊎◌, ◌++◌, refl, ℕ, Bool, true, false, ◌||◌, List, Option, Some, None, if◌then◌else◌}
 use mathlib.Core.Path.{sym, subst}
 use Rattle.std.proofs.Common.{inl, inr, arith}
 use Rattle.go_tree.specs.declared.operators.UnOp.{UnOp}
@@ -9,12 +9,12 @@ use Rattle.go_tree.specs.declared.operators.BinOp.TheVariants as bin
 use Rattle.const_eval.specs.declared.kinds.Kind.{Kind}
 use Rattle.const_eval.specs.Operators.{unary_value, binary_value, is_comparison}
 use Rattle.const_eval.specs.declared.kinds.Kind.TheVariants.{UntypedBool}
-use Rattle.go_types.specs.Answers.{given, both, only_if}
-use Rattle.go_types.specs.Types.{GoType, basic, untyped, pointer_to, base_of, element_of, map_parts, named_type, pointer_to, slice_of, map_of, struct_of, tuple_of, untyped_nil}
+use Rattle.go_types.specs.Answers.{given, only_if}
+use Rattle.go_types.specs.Types.{GoType, untyped, pointer_to, base_of, element_of, map_parts, pointer_to, untyped_nil}
 use Rattle.go_types.specs.Defined.{Defined, under}
-use Rattle.go_types.specs.Entities.{Content, run, exact, shift, Place}
-use Rattle.go_types.specs.Operands.{leaves, with_value, Operand, value, several, a_type, a_function, a_builtin, recovered, Typed, typed, plain_value, fits, kind_of, default_type}
-use Rattle.go_types.specs.Operators.{has_address, not_constant, calculated_operand, truth_operand, common_type, compared_at, arithmetic, logic, comparison, shifted_operand, shifting, other_binary, binary_value_operand, recover_compared, a_comparison, binary_of, changed_operand, unary_value_operand, address_of, unary_of, star_of}
+use Rattle.go_types.specs.Entities.{Content, run, exact, Place}
+use Rattle.go_types.specs.Operands.{leaves, with_value, Operand, value, a_type, a_function, recovered, Typed, typed, plain_value, fits, kind_of}
+use Rattle.go_types.specs.Operators.{has_address, not_constant, calculated_operand, truth_operand, common_type, compared_at, arithmetic, logic, comparison, shifted_operand, shifting, other_binary, binary_value_operand, a_comparison, binary_of, changed_operand, unary_value_operand, address_of, unary_of, star_of}
 use Rattle.go_types.specs.Primary.{is_addressable, find_method, field_type, method_of, method_value, selected, string_element, is_index, index_of, sliced_type, sliced}
 use Rattle.go_types.specs.Defined.{methods}
 use Rattle.go_types.proofs.Agreeing.{from_given}

@@ -1,17 +1,16 @@
 -- The values of a typed `return` are as many as its results.
-use Rattle.std.specs.Prelude.{◌≡◌, refl, ℕ, suc, ◌+◌, Bool, true, false, not, ◌&&◌, ◌||◌, List, [], ◌∷◌, ◌++◌, length, map, Option, Some, None, if◌then◌else◌, is_some}
+use Rattle.std.specs.Prelude.{◌≡◌, refl, ℕ, suc, ◌+◌, Bool, true, false, ◌&&◌, List, [], ◌∷◌, length, map, Option, Some, None, if◌then◌else◌, is_some}
 use mathlib.Core.Path.{ap, ap₂, sym, ◌∙◌, subst}
 use Rattle.std.proofs.Common.{arith}
 use Rattle.go_tree.specs.Tree.{Expr, ident, int_lit, rune_lit, str_lit, composite, selector, index, slice, call, func_lit, type_operand, unary, binary, star, Exprs, no_exprs, expr_and}
-use Rattle.go_types.specs.Answers.{given, both, meets}
+use Rattle.go_types.specs.Answers.{given}
 use Rattle.go_types.specs.Types.{GoType}
 use Rattle.go_types.specs.Defined.{Defined, under}
 use Rattle.go_types.specs.Entities.{Place as StandsAt, addressable, map_element, literal, elsewhere, run, Entity, variable, constant, stand_in, type_name, function, package_name, builtin, nil_name, iota_name, refused, Env, meaning, exported, defined_in}
-use Rattle.go_types.specs.Operands.{Operand, value, several, a_type, a_function, a_builtin, recovered, Typed, typed, with_value, named_operand, named_place, place_by, spread, fits, takes, takes_all}
+use Rattle.go_types.specs.Operands.{Operand, value, several, a_type, a_function, a_builtin, recovered, Typed, typed, with_value, named_operand, named_place, place_by, spread, takes, takes_all}
 use Rattle.go_types.specs.Primary.{selected, selected_place, field_place, field_type, is_addressable, index_of}
 use Rattle.go_types.specs.Bodies.{no_values}
 use Rattle.go_types.specs.Typing.{parts, all_parts, place, package_before}
-use Rattle.go_types.proofs.Agreeing.{from_given}
 use Rattle.go_kernel.specs.Kernel.{Program, Term}
 use Rattle.go_kernel.specs.Conditions.{width, plus}
 use Rattle.go_translation.specs.Mentions.{Read, mentions, mentions_all}
@@ -19,9 +18,9 @@ use Rattle.go_translation.specs.Here.{Here, defined_here}
 use Rattle.go_translation.specs.Operators.{first_type, other_types}
 use Rattle.go_translation.specs.Names.{gives_two, first_value}
 use Rattle.go_translation.specs.Translation.{expr_term, values_term, try_term}
-use Rattle.go_translation.specs.Widths.{GivesItsValues, AllThere, Reachable}
+use Rattle.go_translation.specs.Widths.{AllThere, Reachable}
 use Rattle.go_translation.proofs.ScopesOf.{some_same, from_both}
-use Rattle.go_translation.proofs.Widths.{IsOne, gives_one, typed_one}
+use Rattle.go_translation.proofs.Widths.{IsOne, gives_one}
 use Rattle.go_translation.proofs.OneValue.{index_one}
 use Rattle.go_translation.proofs.TypedWidths.{reach_left, reach_right, expr_gives}
 

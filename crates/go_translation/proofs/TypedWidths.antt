@@ -1,22 +1,20 @@
 -- The term of what is typed gives as many values as its operand is.
-use Rattle.std.specs.Prelude.{◌≡◌, ◌⊎◌, refl, ℕ, zero, suc, Bool, true, false, not, ◌&&◌, ◌||◌, List, [], ◌∷◌, ◌++◌, length, map, Option, Some, None, if◌then◌else◌, is_some, is_none, pos}
+use Rattle.std.specs.Prelude.{◌≡◌, ◌⊎◌, refl, ℕ, suc, Bool, true, false, not, ◌&&◌, ◌||◌, List, [], ◌∷◌, ◌++◌, length, Option, Some, None, if◌then◌else◌, is_some, is_none, pos}
 use mathlib.Core.Path.{ap, ap₂, sym, ◌∙◌, subst}
 use Rattle.std.proofs.Common.{inl, inr, arith}
 use Rattle.go_tree.specs.Tree.{Expr, ident, int_lit, rune_lit, str_lit, composite, selector, index, slice, call, func_lit, type_operand, unary, binary, star, Exprs, no_exprs, expr_and, ExprOption, no_expr, some_expr, Elems, no_elems, elem, Value, plain, braced, ValueOption, no_value, some_value, Param, Sig, NameAt}
-use Rattle.go_tree.specs.declared.operators.UnOp.{UnOp}
-use Rattle.go_tree.specs.declared.operators.UnOp.TheVariants as un
 use Rattle.const_eval.specs.declared.kinds.Kind.TheVariants as kind
 use Rattle.const_eval.specs.Exact.{number, text}
 use Rattle.const_eval.specs.declared.consts.Const.TheVariants.{Whole}
 use Rattle.const_eval.specs.Literals.{integer_value, literal_value}
 use Rattle.go_words.specs.Texts.{text_value}
 use Rattle.scope_names.specs.Means.{is_blank}
-use Rattle.go_types.specs.Answers.{given, both, only_if, answers_of, meets}
-use Rattle.go_types.specs.Types.{GoType, basic, untyped, untyped_nil, named_type, pointer_to, slice_of, map_of, struct_of, tuple_of, base_of, FuncType, fields_of, element_of, map_parts}
+use Rattle.go_types.specs.Answers.{given, only_if, answers_of, meets}
+use Rattle.go_types.specs.Types.{GoType, basic, untyped, untyped_nil, named_type, pointer_to, slice_of, map_of, struct_of, tuple_of, base_of, FuncType, element_of, map_parts}
 use Rattle.go_types.specs.Defined.{Defined, under, Method, methods}
-use Rattle.go_types.specs.Entities.{Binds, Place as StandsAt, addressable, map_element, elsewhere, run, exact, Entity, variable, constant, stand_in, type_name, function, package_name, builtin, nil_name, iota_name, refused, Env, meaning, exported, is_exported, defined_in, extend, in_block}
+use Rattle.go_types.specs.Entities.{Binds, Place as StandsAt, addressable, map_element, elsewhere, run, exact, Entity, variable, constant, stand_in, type_name, function, package_name, builtin, nil_name, iota_name, refused, Env, meaning, exported, is_exported, extend, in_block}
 use Rattle.go_types.specs.TypeNames.{type_meant, func_type, params_meant}
-use Rattle.go_types.specs.Operands.{with_value, place_by, Operand, value, several, a_type, a_function, a_builtin, recovered, Typed, typed, plain_value, named_operand, literal_operand, spread, named_place}
+use Rattle.go_types.specs.Operands.{with_value, place_by, Operand, value, several, a_type, a_function, a_builtin, recovered, Typed, typed, plain_value, named_operand, spread, named_place}
 use Rattle.go_types.specs.Operators.{unary_of, binary_of, star_of, has_address}
 use Rattle.go_types.specs.Primary.{sees, home_of, find_method, is_addressable, selected, selected_place, field_place, field_type, method_of, method_value, sliced, index_of, index_place, call_of}
 use Rattle.go_types.specs.Literals.{Element, keyed, of_field, is_struct, field_key, key_type, inner_type, literal_type, built}
@@ -25,22 +23,21 @@ use Rattle.go_types.specs.Typing.{parts, all_parts, bound, elements, element, wi
 use Rattle.go_types.proofs.Agreeing.{from_given}
 use Rattle.go_kernel.specs.Kernel as k
 use Rattle.go_kernel.specs.Kernel.{ImportPath, Program, Alloc, Term, Local, Both, Prim}
-use Rattle.go_kernel.specs.Conditions.{width, plus}
+use Rattle.go_kernel.specs.Conditions.{width}
 use Rattle.go_translation.specs.Values.{path_of, zero_of, typed_of}
 use Rattle.go_translation.specs.Values as v
 use Rattle.go_translation.specs.Mentions.{is_held, variable_mention, Way, Read, Addressed, Mention, mentions, mentions_all, mentions_option, mentions_elems, mentions_key, mentions_value, mentions_stmts, callee_way, operand_way, unary_way, takes_address, is_pointer, selected_way}
-use Rattle.go_translation.specs.Here.{Location, in_frame, in_cell, no_location, Here, defined_here, location, slots_at, name_option, name_options, at_body, function_of}
-use Rattle.go_translation.specs.Places.{Root, nowhere, in_package, pointed, at_index, at_key, address_of, field_address, Place, from, field_at, address_term}
-use Rattle.go_translation.specs.Places as root
+use Rattle.go_translation.specs.Here.{Location, in_frame, in_cell, no_location, Here, defined_here, location, slots_at, name_options, at_body, function_of}
+use Rattle.go_translation.specs.Places.{Root, nowhere, pointed, at_index, at_key, address_of, field_address, Place, from, field_at, address_term}
 use Rattle.go_translation.specs.Operators.{no_type, answer_or, type_or, own_type, operand_list, is_folded, is_folded_unary, folded, operator_term, left_type, right_type, is_recovered, recovered_term, unary_term, first_type, other_types}
-use Rattle.go_translation.specs.Calls.{is_slice, call_term, function_named, method_named, selected_field, is_pointer_value, struct_value, is_map, keyed_term, inner_literal, literal_term, Callee, to_function, to_literal, to_type, to_builtin, to_nothing, named_callee, type_callee, method_callee, method_on, receiver_type, receiver_term, callee_wants}
+use Rattle.go_translation.specs.Calls.{is_slice, call_term, function_named, selected_field, is_pointer_value, struct_value, is_map, keyed_term, literal_term, Callee, to_function, to_literal, to_type, to_builtin, to_nothing, named_callee, type_callee, method_callee, method_on, receiver_term, callee_wants}
 use Rattle.go_translation.specs.Names.{root_at, entity_root, name_root, variable_term, iota_term, entity_term, element_of_map, index_op}
 use Rattle.go_translation.specs.Statements.{int_type, element_type}
-use Rattle.go_translation.specs.Facts.{typed_at, has_bound, element_place, element_places, literal_names}
+use Rattle.go_translation.specs.Facts.{typed_at, element_place, element_places, literal_names}
 use Rattle.go_translation.specs.Translation.{expr_term, args_term, option_term, elems_term, key_term, element_term, place_term, address, callee, stmts_term}
 use Rattle.go_translation.specs.Widths.{GivesItsValues, IsThere, MethodIsThere, AllThere, is_in_frame, Reachable}
 use Rattle.go_translation.proofs.ScopesOf.{some_same, from_both, from_only}
-use Rattle.go_translation.proofs.Widths.{IsResult, call_result, plain_one, constant_one, IsOne, IsSelected, one_gives, selected_gives, gives_one, gives_some, typed_one, plus_is, then_is, prim_one, both_some, if_width, constant_width, literal_gives, folded_gives, operator_gives, recovered_gives, unary_gives, struct_gives, built_gives, inside_gives, ReceiverGives, CalleeGives, ArgsGive, args_and, call_gives, args_some}
+use Rattle.go_translation.proofs.Widths.{IsResult, call_result, plain_one, constant_one, IsOne, one_gives, selected_gives, gives_one, gives_some, typed_one, prim_one, both_some, constant_width, literal_gives, folded_gives, operator_gives, recovered_gives, unary_gives, struct_gives, built_gives, inside_gives, CalleeGives, ArgsGive, args_and, call_gives}
 use Rattle.go_translation.proofs.OneValue.{index_one, slice_one, binary_one, binary_values, unary_one, address_there, selector_is, star_is}
 
 -- ---- what is reachable in a part is so in its parts

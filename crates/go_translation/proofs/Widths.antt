@@ -1,6 +1,6 @@
 -- How many values terms that are made of others give.
-use Rattle.std.specs.Prelude.{◌≡◌, refl, ℕ, suc, ◌+◌, Bool, true, false, not, ◌&&◌, ◌||◌, List, [], ◌∷◌, ◌++◌, length, map, Option, Some, None, if◌then◌else◌, is_some, pos}
-use mathlib.Core.Path.{ap, ap₂, sym, ◌∙◌, subst}
+use Rattle.std.specs.Prelude.{◌≡◌, refl, ℕ, Bool, true, false, not, ◌&&◌, ◌||◌, List, [], ◌∷◌, length, Option, Some, None, if◌then◌else◌, is_some, pos}
+use mathlib.Core.Path.{ap, ap₂, sym, subst}
 use Rattle.std.proofs.Common.{arith}
 use Rattle.go_tree.specs.declared.operators.UnOp.{UnOp}
 use Rattle.go_tree.specs.declared.operators.UnOp.TheVariants as un
@@ -11,15 +11,14 @@ use Rattle.const_eval.specs.declared.kinds.Kind.TheVariants.{Int, Str}
 use Rattle.const_eval.specs.declared.consts.Const.{Const}
 use Rattle.const_eval.specs.declared.consts.Const.TheVariants.{Bytes}
 use Rattle.const_eval.specs.Exact.{Exact, number, represents}
-use Rattle.go_types.specs.Answers.{given, both, only_if, answers_of}
-use Rattle.go_types.specs.Types.{GoType, basic, named_type, pointer_to, slice_of, map_of, struct_of, tuple_of, untyped, untyped_nil, base_of, element_of, map_parts, fields_of, basic_kind, FuncType}
+use Rattle.go_types.specs.Answers.{given, only_if}
+use Rattle.go_types.specs.Types.{GoType, basic, named_type, pointer_to, slice_of, map_of, struct_of, tuple_of, untyped, untyped_nil, element_of, map_parts, basic_kind}
 use Rattle.go_types.specs.Defined.{Defined, under}
 use Rattle.go_types.specs.Relations.{is_whole_number}
-use Rattle.go_types.specs.Entities.{Builtin, Append, Cap, Copy, Delete, Len, Make, New, Panic, Print, Println, Recover, Content, run, exact, shift, Place}
-use Rattle.go_types.specs.Operands.{Operand, value, several, a_type, a_function, a_builtin, recovered, Typed, typed, all_typed, with_value, plain_value, constant_at, constant_value, literal_operand, spread, results_operand, settled}
-use Rattle.go_types.specs.Operators.{truth_operand, calculated_operand, arithmetic, logic, comparison, shifting, shifted_operand, binary_value_operand, recover_compared, binary_of, unary_value_operand, changed_operand, address_of, unary_of, star_of, common_type, compared_at, not_constant}
-use Rattle.go_types.specs.Primary.{field_type, method_of, method_value, selected, index_of, string_element, is_index, sliced, sliced_type, converted, converted_constant, conversion, append_call, cap_call, len_call, length_of, copy_call, delete_call, panic_call, print_call, recover_call, make_call, new_call, on_values, builtin_call, call_of, find_method}
-use Rattle.go_types.specs.Literals.{literal_takes, built, built_inside}
+use Rattle.go_types.specs.Entities.{Builtin, Append, Cap, Copy, Delete, Len, Make, New, Panic, Print, Println, Recover, Content, run, exact, shift}
+use Rattle.go_types.specs.Operands.{Operand, value, several, a_type, a_function, a_builtin, recovered, Typed, typed, all_typed, plain_value, constant_at, constant_value, literal_operand, spread, results_operand, settled}
+use Rattle.go_types.specs.Primary.{converted, append_call, cap_call, len_call, length_of, copy_call, delete_call, panic_call, print_call, recover_call, make_call, new_call, on_values, builtin_call, call_of}
+use Rattle.go_types.specs.Literals.{literal_takes, built}
 use Rattle.go_types.proofs.Agreeing.{from_given}
 use Rattle.go_kernel.specs.Kernel as k
 use Rattle.go_kernel.specs.Kernel.{Program, Op, gives, Term, Vals, Both, Prim}
@@ -29,7 +28,7 @@ use Rattle.go_translation.specs.Values as v
 use Rattle.go_translation.specs.Operators.{own_type, constant_or, folded, operator_term, sum_op, is_text, recovered_term, unary_term}
 use Rattle.go_translation.specs.Calls.{literal_term, is_slice, conversion_op, conversion_term, is_nil_value, is_untyped_constant, first_operand, is_map, operand_type, element_zero, Callee, to_function, to_literal, to_type, to_builtin, to_nothing, with_receiver, call_term, builtin_term, named_by, make_term, new_term, struct_value}
 use Rattle.go_translation.specs.Widths.{GivesItsValues}
-use Rattle.go_translation.proofs.ScopesOf.{some_same, from_both, from_only}
+use Rattle.go_translation.proofs.ScopesOf.{some_same, from_only}
 
 -- ---- operands
 

@@ -1,14 +1,13 @@
 -- Checks: the law of values used at a small place, and what it needs; frames that deferred literals keep.
-use Rattle.std.specs.Prelude.{◌≡◌, refl, ℕ, Bool, true, false, List, [], ◌∷◌, Option, Some, None, if◌then◌else◌, bytes_eq, codes, pos}
-use mathlib.Core.Path.{sym, subst}
+use Rattle.std.specs.Prelude.{◌≡◌, refl, ℕ, Bool, true, false, List, [], ◌∷◌, Some, None, if◌then◌else◌, bytes_eq, codes, pos}
+use mathlib.Core.Path.{subst}
 use Rattle.std.proofs.Common.{arith}
 use Rattle.std.proofs.lemmas.Slice.Eq.{bytes_eq-Decides}
 use Rattle.go_tree.specs.Tree.{Expr, ident, unary}
 use Rattle.go_tree.specs.declared.operators.UnOp.TheVariants.{Minus, Address}
 use Rattle.const_eval.specs.declared.kinds.Kind.TheVariants as kind
-use Rattle.scope_names.specs.Means.{is_blank}
 use Rattle.go_types.specs.Types.{GoType, basic, named_type, pointer_to, slice_of, map_of, struct_of, tuple_of, untyped, untyped_nil}
-use Rattle.go_types.specs.Entities.{run, Entity, variable, World, Env, is_exported}
+use Rattle.go_types.specs.Entities.{run, variable, is_exported}
 use Rattle.go_types.specs.Defined.{methods}
 use Rattle.go_types.specs.Operands.{value}
 use Rattle.go_types.specs.Primary.{find_method}

@@ -1,5 +1,5 @@
 -- A file that is longer than what is read of it belongs to no module of the form that is built.
-use Rattle.std.proofs.Common.{◌≡◌, List, [], ◌∷◌, ℕ, ◌+◌, ◌<◌, Bool, true, false, cond, ◌&&◌, leb, length, take, map, refl, ap, sym, ◌∙◌, arith, inl, inr}
+use Rattle.std.proofs.Common.{◌≡◌, List, [], ◌∷◌, ℕ, ◌+◌, ◌<◌, Bool, true, false, cond, ◌&&◌, leb, length, map, refl, ap, sym, ◌∙◌, arith, inl, inr}
 use Rattle.std.specs.Prelude.{◌⊎◌, Option, Some, None, codes, bytes_eq, nat_eq}
 use Rattle.std.specs.List.{starts_with, ends_with}
 use Rattle.std.proofs.lemmas.Bool.{lt-leb, leb-true, leb-false}

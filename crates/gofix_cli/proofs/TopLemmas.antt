@@ -1,5 +1,5 @@
 -- What the parts of a run say of its status.
-use Rattle.std.proofs.Common.{◌≡◌, List, [], ◌∷◌, ◌++◌, ℕ, zero, suc, ◌+◌, ◌<◌, true, false, length, get_or, map, take, drop, refl, ap, sym, ◌∙◌, arith, inl, inr, take-append-drop}
+use Rattle.std.proofs.Common.{◌≡◌, List, [], ◌∷◌, ◌++◌, ℕ, zero, suc, ◌<◌, true, false, length, get_or, map, take, drop, refl, ap, sym, ◌∙◌, arith, inl, inr, take-append-drop}
 use Rattle.std.specs.Prelude.{◌⊎◌, Option, Some, None, IfSome, IsSomeAnd}
 use Rattle.std.specs.Option.{option_map}
 use Rattle.std.proofs.lemmas.List.{length-map}

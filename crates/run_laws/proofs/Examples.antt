@@ -1,5 +1,5 @@
 -- The laws, each applied to a run of one step over one file.
-use Rattle.std.proofs.Common.{◌≡◌, List, []}
+use Rattle.std.proofs.Common.{List, []}
 use Rattle.pkg_graph.specs.Reads.{Source}
 use Rattle.run_rules.specs.Marks.{marks_of}
 use Rattle.run_rules.specs.Run.{Run, FilesKeep, bytes_of}

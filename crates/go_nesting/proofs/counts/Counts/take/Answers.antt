@@ -3,7 +3,6 @@ use Rattle.std.proofs.Math.ListN.{set}
 use Rattle.go_nesting.specs.declared.counts.Counts.{Counts}
 use Rattle.go_nesting.specs.declared.counts.Nesting.{Nesting}
 use Rattle.go_nesting.specs.declared.counts.Nesting.TheVariants.{Opens, Closes, Separates, Adds}
-use Rattle.go_read.specs.SpellsWeight.{counted}
 use Rattle.go_nesting.specs.Nesting.{after}
 use Rattle.go_nesting.specs.Frames.{frames, counts_of}
 use Rattle.go_nesting.proofs.FrameLemmas.{top_small, opens_small, opened_is, counted_is, separated_is, closed_is, counted_opened, counted_closed, counted_at, sound_of}
