@@ -88,11 +88,11 @@ fn compare<R: Abort + AllocGlobal>(rt: &R, table: &Scopes, rows: &str) -> Result
         let entity = table.lookup(&name, at);
         let (kind, number) = kind(entity);
         let found = format!(in rt.alloc(); "{at} {word} {kind} {number}")?;
-        assert!(rt; found.as_str() == row, "found {found}, not {row}");
+        assert!(rt; found.as_str() == row, "found {found}");
         let captured = table
             .captured(&name, at)
             .map(|span: Span| -> u32 { span.start });
-        assert!(rt; captured == declaration(entity), "captured at {row}");
+        assert!(rt; captured == declaration(entity), "captured at {at}");
     }
     Ok(())
 }
