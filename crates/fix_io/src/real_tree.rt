@@ -8,7 +8,7 @@ use crate::no_memory::NoMemory;
 use crate::tree::{Call, Failed, Tree, TreeFault};
 use crate::walk::all_files;
 use std::alloc::Global;
-use std::fs::File;
+use std::fs::{File, OpenFile};
 use std::io::{ErrorKind, Read, Write};
 use std::marker::Model;
 use std::rt::Files;
@@ -142,14 +142,31 @@ fn read_front<R: Files>(rt: &R, alloc: Global, path: &str, max: usize) -> Result
     Ok(bytes)
 }
 
-/// Writes a new file beside the old one, and puts it in its place. Builds no text.
+/// Writes a new file beside the old one, and puts it in its place. Builds no text. Where that fails, the new file goes.
 fn exchange<R: Files>(rt: &R, entry: &Entry, bytes: &[u8]) -> io::Result<()> {
+    let fresh = entry.fresh.as_str();
     // What an earlier call left, or a link, is never written through.
-    if fs::exists(rt, entry.fresh.as_str())? {
-        fs::remove_file(rt, entry.fresh.as_str())?;
+    if fs::exists(rt, fresh)? {
+        fs::remove_file(rt, fresh)?;
     }
+    match write_fresh(rt, entry, bytes) {
+        Ok(()) => Ok(()),
+        Err(e) => {
+            // Its own failure says no more than the first.
+            match fs::remove_file(rt, fresh) {
+                Ok(()) | Err(_) => Err(e),
+            }
+        }
+    }
+}
+
+/// Writes the new file with the old one's permission bits, and moves it once its bytes are on the disk.
+fn write_fresh<R: Files>(rt: &R, entry: &Entry, bytes: &[u8]) -> io::Result<()> {
+    let permissions = fs::metadata(rt, entry.path.as_str())?.permissions();
     let mut file = File::create_new(rt, entry.fresh.as_str())?;
+    file.set_permissions(permissions)?;
     file.write_all(bytes)?;
+    file.sync_all()?;
     drop(file);
     fs::rename(rt, entry.fresh.as_str(), entry.path.as_str())
 }

@@ -1,5 +1,5 @@
 -- Why a status comes.
-use Rattle.std.specs.Prelude.{◌≡◌, ℕ, true, List, [], Option, Some, IfSome}
+use Rattle.std.specs.Prelude.{◌≡◌, ℕ, true, List, [], Option, Some, IfSome, Result, Ok, Err}
 use Rattle.fix_io.specs.declared.Call.{Call}
 use Rattle.fix_io.specs.declared.Call.TheVariants as call
 use Rattle.fix_io.specs.Files.{HeldFile}
@@ -32,6 +32,23 @@ IfUnwritten Done P = Unit {0}
 IfUnwritten (WriteFault _) P = Unit {0}
 IfUnwritten ReportFault P = Unit {0}
 IfUnwritten _ P = P
+
+-- A fact for each status but those that tell of a call of the tree that failed.
+abbrev pub IfNoFault : Status → Type 0 → Type 0
+IfNoFault ListFault P = Unit {0}
+IfNoFault (ReadFault _) P = Unit {0}
+IfNoFault (WriteFault _) P = Unit {0}
+IfNoFault _ P = P
+
+-- A fact for each answer but those that tell of a call of the tree that failed.
+abbrev pub IfQuiet : {T : Type 0} → Result T Status → Type 0 → Type 0
+IfQuiet (Ok _) P = P
+IfQuiet (Err status) P = IfNoFault status P
+
+-- A tree has counted no fault, and remembers the same call that failed last.
+abbrev pub IsQuiet : ℕ → ℕ → Option Call → Option Call → Type 0
+IsQuiet faults_before faults_now failed_before failed_now =
+    (faults_now ≡ faults_before) × (failed_now ≡ failed_before)
 
 -- Why the files aren't read: no memory, or a fault of the tree.
 abbrev pub StopsReading : Status → Type 0 → Option Call → Type 0

@@ -5,6 +5,7 @@ ghost use Rattle.std.specs.Option.{option_map};
 ghost use Rattle.fix_io.specs.declared.Call.{Call};
 ghost use Rattle.fix_io.specs.Causes.{Rose};
 ghost use Rattle.fix_io.specs.Writes.{written};
+ghost use Rattle.gofix_cli.specs.Causes.{IsQuiet};
 ghost use Rattle.gofix_cli.specs.Files.{writes_of};
 
 use fix_engine::PlannedFile;
@@ -20,6 +21,8 @@ pub fn apply<T: Tree>(files: &[PlannedFile], tree: &mut T) -> Result<(), u32>
         × (T.held tree.new ≡ option_map (written (take k (writes_of files.now))) (T.held tree.old))) }
     ensures paths { T.listed tree.new ≡ T.listed tree.old }
     ensures later { T.faults tree.old ≤ T.faults tree.new }
+    ensures quiet { OnOk result
+        (IsQuiet (T.faults tree.old) (T.faults tree.new) (T.failed tree.old) (T.failed tree.new)) }
     ensures cause { IfErr result
         (λ i. Rose (T.faults tree.old) (T.faults tree.new) × (T.failed tree.new ≡ Some (Call.Replace i))) }
 {

@@ -2,6 +2,8 @@
 #![tactic(auto)]
 
 mod apply;
+#[cfg(test)]
+mod logged;
 mod prepare;
 mod status;
 mod tell;

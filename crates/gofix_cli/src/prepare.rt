@@ -5,7 +5,7 @@ ghost use Rattle.fix_io.specs.Files.{paths};
 ghost use Rattle.fix_io.specs.Causes.{Rose};
 ghost use Rattle.gofix_cli.specs.Words.{lists_module};
 ghost use Rattle.gofix_cli.specs.Files.{IsSource, AreSources, AreWritesOf};
-ghost use Rattle.gofix_cli.specs.Causes.{StopsReading, MayStop};
+ghost use Rattle.gofix_cli.specs.Causes.{IfQuiet, IsQuiet, StopsReading, MayStop};
 ghost use Rattle.gofix_cli.specs.Lines.{IsOfFile};
 
 use crate::status::Status;
@@ -31,6 +31,8 @@ fn read_file<T: Tree>(alloc: Global, tree: &mut T, i: u32) -> Result<SourceFile,
     ensures same { T.held tree.new ≡ T.held tree.old }
     ensures paths { T.listed tree.new ≡ T.listed tree.old }
     ensures later { T.faults tree.old ≤ T.faults tree.new }
+    ensures quiet { IfQuiet result
+        (IsQuiet (T.faults tree.old) (T.faults tree.new) (T.failed tree.old) (T.failed tree.new)) }
 {
     match tree.read(alloc, i, MAX_FILE_BYTES + 1) {
         Ok(bytes) => {
@@ -55,6 +57,8 @@ fn read_files<T: Tree>(alloc: Global, tree: &mut T) -> Result<Vec<SourceFile>, S
     ensures same { T.held tree.new ≡ T.held tree.old }
     ensures paths { T.listed tree.new ≡ T.listed tree.old }
     ensures later { T.faults tree.old ≤ T.faults tree.new }
+    ensures quiet { IfQuiet result
+        (IsQuiet (T.faults tree.old) (T.faults tree.new) (T.failed tree.old) (T.failed tree.new)) }
 {
     let mut sources = Vec::new(alloc);
     for i in 0..tree.count() {
@@ -76,6 +80,8 @@ pub fn prepare<T: Tree>(alloc: Global, tree: &mut T) -> Result<Plan, Status>
         (T.held tree.old)) }
     ensures same { T.held tree.new ≡ T.held tree.old }
     ensures later { T.faults tree.old ≤ T.faults tree.new }
+    ensures quiet { IfQuiet result
+        (IsQuiet (T.faults tree.old) (T.faults tree.new) (T.failed tree.old) (T.failed tree.new)) }
 {
     match tree.list(alloc) {
         Ok(()) => {}

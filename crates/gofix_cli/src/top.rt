@@ -5,7 +5,7 @@ ghost use Rattle.fix_io.specs.Causes.{Rose};
 ghost use Rattle.fix_io.specs.Contents.{appended, IsPartOut};
 ghost use Rattle.gofix_cli.specs.Words.{are_accepted};
 ghost use Rattle.gofix_cli.specs.Lines.{line_of, IfTold};
-ghost use Rattle.gofix_cli.specs.Causes.{HasCause, PassedChecks, IfUnwritten};
+ghost use Rattle.gofix_cli.specs.Causes.{HasCause, PassedChecks, IfNoFault, IfUnwritten, IsQuiet};
 ghost use Rattle.gofix_cli.specs.Verdict.{verdict, IsDone, IsRefused, IsAnswer, IsUpTo};
 ghost use Rattle.gofix_cli.specs.Headline.{IsInlined};
 
@@ -55,6 +55,8 @@ pub fn gofix<T: Tree, S: Sink>(alloc: Global, words: &[String], tree: &mut T, ou
 
     // Each fault has its cause, and each answer comes only where the checks before it passed.
     ensures cause { HasCause result (Rose (T.faults tree.old) (T.faults tree.new)) (T.failed tree.new) }
+    ensures quiet { IfNoFault result
+        (IsQuiet (T.faults tree.old) (T.faults tree.new) (T.failed tree.old) (T.failed tree.new)) }
     ensures report_cause { result ≡ Status.ReportFault → Rose (S.faults out.old) (S.faults out.new) }
     ensures passed { PassedChecks result (T.listed tree.new) }
 

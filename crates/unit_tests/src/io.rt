@@ -8,7 +8,8 @@ use fix_io::{
 };
 use std::alloc::Global;
 use std::fs;
-use std::os::unix::fs::symlink;
+use std::fs::Permissions;
+use std::os::unix::fs::{PermissionsExt, symlink};
 use std::test::Fail;
 
 fn file(alloc: Global, path: &str, text: &str) -> Result<MemFile, Fail> {
@@ -128,6 +129,44 @@ fn replaces_a_real_file(rt: HostRuntime) -> Result<(), Fail> {
     fs::remove_dir_all(&rt, "gofix-test")?;
     assert_eq!(rt; tree.read(alloc, at, 5), Err(TreeFault::Failed));
     assert_eq!(rt; tree.replace(at, b"new text"), Err(Failed));
+    Ok(())
+}
+
+#[test]
+fn keeps_permission_bits(rt: HostRuntime) -> Result<(), Fail> {
+    let alloc = rt.alloc();
+    fs::create_dir_all(&rt, "gofix-bits")?;
+    fs::write(&rt, "gofix-bits/a.go", "old")?;
+    fs::set_permissions(&rt, "gofix-bits/a.go", Permissions::from_mode(0o604))?;
+    let mut tree = RealTree::new(&rt, alloc)?;
+    tree.list(alloc)?;
+    let Some(at) = number_of(&tree, "gofix-bits/a.go") else {
+        return Err(Fail::new("not listed"));
+    };
+    assert_eq!(rt; tree.replace(at, b"new"), Ok(()));
+    assert_eq!(rt; tree.read(alloc, at, 9)?.as_slice(), b"new".as_slice());
+    let mode = fs::metadata(&rt, "gofix-bits/a.go")?.permissions().mode();
+    assert_eq!(rt; mode % 0o1000, 0o604);
+    fs::remove_dir_all(&rt, "gofix-bits")?;
+    Ok(())
+}
+
+#[test]
+fn leaves_no_extra_file(rt: HostRuntime) -> Result<(), Fail> {
+    let alloc = rt.alloc();
+    fs::create_dir_all(&rt, "gofix-extra")?;
+    fs::write(&rt, "gofix-extra/a.go", "old")?;
+    let mut tree = RealTree::new(&rt, alloc)?;
+    tree.list(alloc)?;
+    let Some(at) = number_of(&tree, "gofix-extra/a.go") else {
+        return Err(Fail::new("not listed"));
+    };
+    // A file can't take the place of a folder.
+    fs::remove_file(&rt, "gofix-extra/a.go")?;
+    fs::create_dir(&rt, "gofix-extra/a.go")?;
+    assert_eq!(rt; tree.replace(at, b"new"), Err(Failed));
+    assert!(rt; !fs::exists(&rt, "gofix-extra/a.go.gofix-new")?);
+    fs::remove_dir_all(&rt, "gofix-extra")?;
     Ok(())
 }
 

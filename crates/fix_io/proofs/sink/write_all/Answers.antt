@@ -1,4 +1,4 @@
-use Rattle.std.proofs.Common.{arith}
+use Rattle.std.proofs.Common.{◌∙◌, arith}
 use Rattle.fix_io.proofs.Appended.{appended_more, take_piece}
 use Rattle.fix_io.proofs.sink.write_all.Goals as goal
 
@@ -8,6 +8,5 @@ loop-done-preserved g c =
     let wrote = c.in_ok-done.ensures in (
       omega (arith, wrote.some.1),
       appended_more _ _ _ _ _ _ kept.1 wrote.ok (take_piece c.loop-done.done c.in_ok-done.field-0 c.args.bytes.now),
-      omega (arith, kept.2, wrote.cause.later),
-      (λ e. wrote.cause.stays (kept.3 e)),
+      wrote.cause.quiet ∙ kept.2,
     )

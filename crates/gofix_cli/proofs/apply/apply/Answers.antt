@@ -5,7 +5,7 @@ use Rattle.gofix_cli.proofs.ApplyLemmas.{one_more, write_at}
 use Rattle.gofix_cli.proofs.apply.apply.Goals as goal
 
 pub loop-file-init : goal.loop-file-init
-loop-file-init g c = record { held = written-none _ (writes_of c.args.files.now); paths = refl; later = omega arith }
+loop-file-init g c = record { held = written-none _ (writes_of c.args.files.now); paths = refl; quiet = (refl, refl) }
 
 pub loop-file-preserved : goal.loop-file-preserved
 loop-file-preserved g c =
@@ -13,7 +13,7 @@ loop-file-preserved g c =
     record {
       held = one_more _ _ _ c.args.files.now c.loop-file.file-index c.file-item.result c.items.result.now kept.held c.in-Ok.ensures.ok c.items.ensures c.loop-file-test.true c.file-item.is;
       paths = c.in-Ok.ensures.paths ∙ kept.paths;
-      later = omega (arith, kept.later, c.in-Ok.ensures.cause.later);
+      quiet = (c.in-Ok.ensures.cause.quiet ∙ kept.quiet.0, c.in-Ok.ensures.named ∙ kept.quiet.1);
     }
 
 pub returns-in-Err-clause-err : goal.returns-in-Err-clause-err

@@ -10,7 +10,7 @@ loop-i-preserved g c =
       sources = one_more_read _ _ c.loop-i.sources.items c.push.new.self.items c.in_ok-source.source c.loop-i.i kept.sources (omega (arith, kept.end, c.loop-i-test.true)) (same_source _ _ _ _ c.loop-i.i c.in_ok-source.source kept.held kept.paths one.file) c.in_ok-push.ensures.items;
       held = one.same ∙ kept.held;
       paths = one.paths ∙ kept.paths;
-      later = omega (arith, kept.later, one.later);
+      quiet = (one.quiet.0 ∙ kept.quiet.0, one.quiet.1 ∙ kept.quiet.1);
       end = kept.end;
     }
 
