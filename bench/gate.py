@@ -2,7 +2,7 @@
 """Measures the gate: runs `rt ci` at the top of the checkout and adds up the processor seconds of its processes.
 
 Usage: bench/gate.py [TABLE]. Prints what `rt ci` prints, then a table: a line for each crate, with the processor seconds of its
-proof, of its tests and of its edits, and the wall time of the whole. It only reads: `rt ci`'s lines and the processes' times in
+proof, of its tests, of its edits and of the dearest edit behind the first, and the wall time of the whole. It only reads: `rt ci`'s lines and the processes' times in
 /proc. What earlier runs on this machine passed is not proved again by `rt ci`, and so counts nothing here.
 """
 import os
@@ -67,18 +67,29 @@ def watch(seen, done, top):
         done.wait(PERIOD)
 
 
+def dearest_edits(seen):
+    """The processor seconds of each crate's dearest edit behind its first, whose check proves the crate besides."""
+    edits = {}
+    for (_, start), (crate, kind, seconds) in seen.items():
+        if kind == "edits":
+            edits.setdefault(crate, []).append((int(start), seconds))
+    return {crate: max((it[1] for it in sorted(every)[1:]), default=0.0) for crate, every in edits.items()}
+
+
 def table_of(seen, wall):
     rows = {}
     for crate, kind, seconds in seen.values():
         row = rows.setdefault(crate, dict.fromkeys(COLUMNS, 0.0))
         row[kind] += seconds
-    lines = ["| crate | " + " | ".join(COLUMNS) + " | all |", "|---" * (len(COLUMNS) + 2) + "|"]
+    lines = ["| crate | " + " | ".join(COLUMNS) + " | all | dearest edit |", "|---" * (len(COLUMNS) + 3) + "|"]
+    dearest = dearest_edits(seen)
     total = dict.fromkeys(COLUMNS, 0.0)
     for crate, row in sorted(rows.items(), key=lambda it: -sum(it[1].values())):
         for column in COLUMNS:
             total[column] += row[column]
-        lines.append(f"| {crate} | " + " | ".join(f"{row[c]:.0f}" for c in COLUMNS) + f" | {sum(row.values()):.0f} |")
-    lines.append("| **all** | " + " | ".join(f"{total[c]:.0f}" for c in COLUMNS) + f" | {sum(total.values()):.0f} |")
+        edit = f"{dearest[crate]:.0f}" if crate in dearest else ""
+        lines.append(f"| {crate} | " + " | ".join(f"{row[c]:.0f}" for c in COLUMNS) + f" | {sum(row.values()):.0f} | {edit} |")
+    lines.append("| **all** | " + " | ".join(f"{total[c]:.0f}" for c in COLUMNS) + f" | {sum(total.values()):.0f} | |")
     lines.append("")
     lines.append(f"Wall time: {wall / 60:.1f} minutes.")
     return "\n".join(lines)
