@@ -1,9 +1,10 @@
 #!/usr/bin/env python3
 """Measures the gate: runs `rt ci` at the top of the checkout and adds up the processor seconds of its processes.
 
-Usage: bench/gate.py [TABLE]. Prints what `rt ci` prints, then a table: a line for each crate, with the processor seconds of its
-proof, of its tests, of its edits and of the dearest edit behind the first, and the wall time of the whole. It only reads: `rt ci`'s lines and the processes' times in
-/proc. What earlier runs on this machine passed is not proved again by `rt ci`, and so counts nothing here.
+Usage: bench/gate.py [TABLE]. Prints what `rt ci` prints, then a table: a line for each crate, with the processor seconds
+of its proof, of its tests, of its edits and of the dearest edit behind the first, and the wall time of the whole. It only
+reads: `rt ci`'s lines and the processes' times in /proc. What earlier runs on this machine passed is not proved again by
+`rt ci`, and so counts nothing here.
 """
 import os
 import subprocess
@@ -88,7 +89,8 @@ def table_of(seen, wall):
         for column in COLUMNS:
             total[column] += row[column]
         edit = f"{dearest[crate]:.0f}" if crate in dearest else ""
-        lines.append(f"| {crate} | " + " | ".join(f"{row[c]:.0f}" for c in COLUMNS) + f" | {sum(row.values()):.0f} | {edit} |")
+        cells = [*(f"{row[c]:.0f}" for c in COLUMNS), f"{sum(row.values()):.0f}", edit]
+        lines.append(f"| {crate} | " + " | ".join(cells) + " |")
     lines.append("| **all** | " + " | ".join(f"{total[c]:.0f}" for c in COLUMNS) + f" | {sum(total.values()):.0f} | |")
     lines.append("")
     lines.append(f"Wall time: {wall / 60:.1f} minutes.")
