@@ -10,7 +10,7 @@ ghost use Rattle.std.specs.List.Sorted.{IsPermutation, IsSortedByKey};
 ghost use Rattle.std.specs.Cmp.Lexicographic.{slice_cmp};
 ghost use Rattle.std.specs.Ordering.{nat_cmp};
 
-use crate::no_memory::NoMemory;
+use go_tree::NoMemory;
 use std::alloc::{AllocError, Global};
 
 /// A file of a tree in memory.

@@ -5,9 +5,9 @@ ghost use Rattle.std.specs.Vec.{vec_capacity};
 ghost use Rattle.fix_io.specs.Causes.{HasPlainCause, one_more, plain_counted};
 
 use crate::calls::Calls;
-use crate::no_memory::NoMemory;
 use crate::sink::Sink;
 use crate::tree::Failed;
+use go_tree::NoMemory;
 use std::alloc::Global;
 use std::marker::Model;
 

@@ -9,8 +9,8 @@ ghost use Rattle.fix_io.specs.Causes.{HasCause, HasPlainCause, last_failed, last
 
 use crate::calls::Calls;
 use crate::mem_file::{MemFile, front, has_path, make_ready, put};
-use crate::no_memory::NoMemory;
 use crate::tree::{Call, Failed, Tree, TreeFault};
+use go_tree::NoMemory;
 use std::alloc::Global;
 use std::marker::Model;
 

@@ -4,9 +4,9 @@ ghost use Rattle.std.specs.Prelude.{◌≡◌, ◌<◌, ◌≤◌, ◌^◌, [], 
 ghost use Rattle.fix_io.specs.Causes.{one_more};
 
 use crate::entry::Entry;
-use crate::no_memory::NoMemory;
 use crate::tree::{Call, Failed, Tree, TreeFault};
 use crate::walk::all_files;
+use go_tree::NoMemory;
 use std::alloc::Global;
 use std::fs::{File, OpenFile};
 use std::io::{ErrorKind, Read, Write};
