@@ -9,13 +9,12 @@ import re
 import sys
 
 TOP = os.path.dirname(os.path.dirname(os.path.abspath(__file__)))
-DEFINES = re.compile(r"^( *)(?:abbrev |unfoldable )?(?:mutual )?pub (record |data )?([^\s:({]+)")
+DEFINES = re.compile(r"^( *)(?:abbrev |unfoldable )?(?:mutual )?pub (?!use |mod )(record |data )?([^\s:({]+)")
 INTRODUCTION = """# Definitions
 
 Each definition that a contract may cite, crate by crate and file by file, in the words that stand beside it in the file. A
-file's head names the section of the Go specification (or of another public document) that it states. A family of functions,
-one for each kind of tree, is said once: in the head, or beside the member that it is about; the others are listed behind
-"Of the same concept". This page is made by `docs/definitions.py` from crates/CRATE/specs/."""
+file's head names the section of the Go specification (or of another public document) that it states. Where words begin with
+"so", they go on from those of the definition before. This page is made by `docs/definitions.py` from crates/CRATE/specs/."""
 
 
 def crates():
@@ -68,7 +67,7 @@ def page_of(crate):
         rows = list(definitions_of(body))
         told = [f"- `{one}`: {words}" for one, words in rows if words]
         others = ", ".join(f"`{one}`" for one, words in rows if not words)
-        parts.append("\n".join([f"**{name}.** {head}", ""] + told + ([f"- Of the same concept: {others}"] if others else [])))
+        parts.append("\n".join([f"**{name}.** {head}", ""] + told + ([f"- Without words: {others}"] if others else [])))
     return f"## {crate}\n\n" + "\n\n".join(parts) if parts else ""
 
 

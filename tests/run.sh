@@ -20,36 +20,17 @@ expect() {
 # same NAME FILE WANTED: the file has exactly the wanted bytes.
 same() { if cmp -s "$2" "$3"; then pass; else fail "$1"; fi }
 
-# what is done once is done: a second run finds nothing
+# the shipped example has the report that stands beside it
 mkdir "$work/one" && cd "$work/one" || exit 1
 cp "$top/examples/constants/go.mod" "$top/examples/constants/main.go" .
-expect "a marked constant" 0 "$(cat "$top/examples/constants/report.txt")" --fix
-cp main.go "$work/once.go"
-expect "nothing is left to do" 0 "" --fix
-same "a second run changes nothing" main.go "$work/once.go"
+expect "the example" 0 "$(cat "$top/examples/constants/report.txt")" --fix
 
-# a name that isn't UTF-8 can't be listed
+# a name that isn't UTF-8 can't be listed (no text archive can hold it, so it is no file of runs/)
 mkdir "$work/two" && cd "$work/two" || exit 1
 cp "$top/examples/constants/go.mod" "$top/examples/constants/main.go" .
 : >"$(printf 'a\377.go')"
 expect "a name that isn't UTF-8" 1 "gofix: can't list files" --fix
 same "a folder that can't be listed stays" main.go "$top/examples/constants/main.go"
-
-mkdir "$work/three" && cd "$work/three" || exit 1
-cp "$top/examples/constants/go.mod" .
-
-# printed FIRST: a main.go of 4,085 bytes and the digits of its first argument.
-printed() {
-    printf 'package main\n\nfunc main() {\n\tprintln(%s)\n' "$1"
-    for ((i = 0; i < 337; i++)); do printf '\tprintln(0)\n'; done
-    printf '}\n'
-}
-
-# a file has at most 4,096 bytes
-printed 12345678901 >main.go
-expect "4,096 bytes" 0 "" --fix
-printed 123456789012 >main.go
-expect "4,097 bytes" 1 "gofix: 100 module: not built yet" --fix
 
 # add SCRIPT: another script of this folder, and what it counts.
 add() {

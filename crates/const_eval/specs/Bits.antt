@@ -10,17 +10,22 @@ abbrev pub parity : ℤ → ℕ
 parity (pos n) = n % 2
 parity (negsuc n) = 1 - n % 2
 
+-- the bit with this number
 abbrev pub bit_of : ℤ → ℕ → ℕ
 bit_of z i = parity (int_shr z i)
 
+-- each bit of the complement is turned
 abbrev pub ComplementBits : Type 0
 ComplementBits = (a : ℤ) (i : ℕ) → bit_of (complement a) i ≡ 1 - bit_of a i
 
+-- a bit of `a & b` is 1 where both are
 abbrev pub AndBits : Type 0
 AndBits = (a b : ℤ) (i : ℕ) → bit_of (and_of a b) i ≡ min (bit_of a i) (bit_of b i)
 
+-- a bit of `a | b` is 1 where one of them is
 abbrev pub OrBits : Type 0
 OrBits = (a b : ℤ) (i : ℕ) → bit_of (or_of a b) i ≡ max (bit_of a i) (bit_of b i)
 
+-- a bit of `a ^ b` is 1 where they differ
 abbrev pub XorBits : Type 0
 XorBits = (a b : ℤ) (i : ℕ) → bit_of (xor_of a b) i ≡ (bit_of a i + bit_of b i) % 2

@@ -12,18 +12,21 @@ abbrev pub complement : ℤ → ℤ
 complement (pos a) = negsuc a
 complement (negsuc a) = pos a
 
+-- the bits that both numbers have
 abbrev pub and_of : ℤ → ℤ → ℤ
 and_of (pos a) (pos b) = pos (bit_and a b)
 and_of (pos a) (negsuc b) = pos (bits_without a b)
 and_of (negsuc a) (pos b) = pos (bits_without b a)
 and_of (negsuc a) (negsuc b) = negsuc (bit_or a b)
 
+-- the bits that one of the numbers has
 abbrev pub or_of : ℤ → ℤ → ℤ
 or_of (pos a) (pos b) = pos (bit_or a b)
 or_of (pos a) (negsuc b) = negsuc (bits_without b a)
 or_of (negsuc a) (pos b) = negsuc (bits_without a b)
 or_of (negsuc a) (negsuc b) = negsuc (bit_and a b)
 
+-- the bits in which the numbers differ
 abbrev pub xor_of : ℤ → ℤ → ℤ
 xor_of (pos a) (pos b) = pos (bit_xor a b)
 xor_of (pos a) (negsuc b) = negsuc (bit_xor a b)

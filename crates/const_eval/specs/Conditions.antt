@@ -12,6 +12,7 @@ use Rattle.const_eval.specs.Kinds.{limits}
 use Rattle.const_eval.specs.Operators.{is_comparison}
 use Rattle.const_eval.specs.Exact.{is_truth_kind, is_text_kind, represents}
 
+-- a kind of whole numbers
 abbrev pub is_number_kind : Kind → Bool
 is_number_kind k = is_some (limits k)
 
@@ -22,6 +23,7 @@ is_on_number Minus = true
 is_on_number Flip = true
 is_on_number _ = false
 
+-- the operator applies to one operand of the kind
 abbrev pub unary_applies : UnOp → Kind → Bool
 unary_applies Not k = is_truth_kind k
 unary_applies op k = is_on_number op && is_number_kind k
@@ -32,6 +34,7 @@ is_on_numbers LogAnd = false
 is_on_numbers LogOr = false
 is_on_numbers _ = true
 
+-- the operators on two truth values
 abbrev pub is_on_truths : BinOp → Bool
 is_on_truths Eq = true
 is_on_truths Ne = true
@@ -39,10 +42,12 @@ is_on_truths LogAnd = true
 is_on_truths LogOr = true
 is_on_truths _ = false
 
+-- the operators on two strings
 abbrev pub is_on_texts : BinOp → Bool
 is_on_texts Add = true
 is_on_texts op = is_comparison op
 
+-- the operator applies to two operands of the kind
 abbrev pub binary_applies : BinOp → Kind → Bool
 binary_applies op k =
     (is_on_numbers op && is_number_kind k) || (is_on_truths op && is_truth_kind k) || (is_on_texts op && is_text_kind k)
@@ -51,6 +56,7 @@ binary_applies op k =
 abbrev pub is_arithmetic : BinOp → Bool
 is_arithmetic op = is_on_numbers op && not (is_comparison op)
 
+-- a whole number
 abbrev pub is_whole : Const → Bool
 is_whole (Whole z) = true
 is_whole (Truth b) = false

@@ -26,15 +26,18 @@ exact_of (Whole z) = number z
 exact_of (Truth b) = truth b
 exact_of (Bytes bs) = text bs
 
+-- the number lies within limits, where there are any
 abbrev pub lies_within : Option (ℤ × ℤ) → ℤ → Bool
 lies_within None z = false
 lies_within (Some l) z = int_le l.0 z && int_le z l.1
 
+-- `bool`, or an untyped truth value
 abbrev pub is_truth_kind : Kind → Bool
 is_truth_kind kind.Bool = true
 is_truth_kind kind.UntypedBool = true
 is_truth_kind _ = false
 
+-- `string`, or an untyped string
 abbrev pub is_text_kind : Kind → Bool
 is_text_kind kind.Str = true
 is_text_kind kind.UntypedStr = true

@@ -24,14 +24,17 @@ prefix_with c =
 abbrev pub prefix_of : List ℕ → ℕ × ℕ
 prefix_of cs = if nat_eq (slice_index cs 0) 48 then prefix_with (slice_index cs 1) else (10, 0)
 
+-- the number that an integer literal stands for
 abbrev pub integer_value : List ℕ → ℕ
 integer_value cs = digits_in (prefix_of cs).0 0 (digits_of (drop (prefix_of cs).1 cs))
 
 -- ---- literals by their first character
 
+-- a double quote or a backquote
 abbrev pub is_text_quote : ℕ → Bool
 is_text_quote c = nat_eq c 34 || nat_eq c 96
 
+-- what an integer, rune or string literal stands for
 abbrev pub literal_value : List ℕ → Exact
 literal_value cs =
     if is_text_quote (slice_index cs 0) then text (text_value cs)

@@ -23,6 +23,7 @@ unary_value Flip k (Whole z) = number (xor_of (all_ones k) z)
 unary_value Not k (Truth b) = truth (not b)
 unary_value _ k c = senseless
 
+-- the divisor is 0
 abbrev pub is_zero : ℤ → Bool
 is_zero (pos n) = nat_eq n 0
 is_zero (negsuc n) = false
@@ -53,6 +54,7 @@ calculated Or a b = number (or_of a b)
 calculated Xor a b = number (xor_of a b)
 calculated _ a b = senseless
 
+-- the comparison operators
 abbrev pub is_comparison : BinOp → Bool
 is_comparison Eq = true
 is_comparison Ne = true
@@ -72,6 +74,7 @@ compared Gt o = is_gt o
 compared Ge o = is_ge o
 compared _ o = false
 
+-- an operator on two numbers
 abbrev pub on_numbers : BinOp → ℤ → ℤ → Exact
 on_numbers op a b = if is_comparison op then truth (compared op (int_cmp a b)) else calculated op a b
 
@@ -90,6 +93,7 @@ abbrev pub on_texts : BinOp → List ℕ → List ℕ → Exact
 on_texts Add a b = text (a ++ b)
 on_texts op a b = if is_comparison op then truth (compared op (slice_cmp nat_cmp a b)) else senseless
 
+-- an operator on two constants; on values of different sorts it has no sense
 abbrev pub binary_value : BinOp → Const → Const → Exact
 binary_value op (Whole a) (Whole b) = on_numbers op a b
 binary_value op (Truth a) (Truth b) = on_truths op a b

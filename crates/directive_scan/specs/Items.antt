@@ -27,36 +27,44 @@ member_starts start grouped s = if grouped then start ∷ s.start ∷ [] else st
 
 -- ---- types
 
+-- an alias can be marked, and a defined type can't
 abbrev pub type_verdict : Bool → Verdict
 type_verdict alias = if alias then Good Alias else Bad NotAlias
 
+-- a type spec: what a mark of it means
 abbrev pub type_item : ℕ → Bool → TypeSpec Span → Item
 type_item start grouped s =
     record { name = s.name; starts = member_starts start grouped s.span; verdict = type_verdict s.alias }
 
+-- the type specs of a declaration
 abbrev pub types_items : ℕ → Bool → List (TypeSpec Span) → List Item
 types_items start grouped [] = []
 types_items start grouped (s ∷ ss) = type_item start grouped s ∷ types_items start grouped ss
 
 -- ---- functions and methods
 
+-- a method has a receiver, and a function has none
 abbrev pub func_kind : Option (Receiver Span) → MarkKind
 func_kind None = Function
 func_kind (Some r) = Method
 
+-- a function or a method: what a mark of it means
 abbrev pub func_item : Func Span → Item
 func_item f = record { name = f.name; starts = f.span.start ∷ []; verdict = Good (func_kind f.receiver) }
 
 -- ---- constants
 
+-- the name means a predeclared one
 abbrev pub is_predeclared : Option Entity → Bool
 is_predeclared (Some (Universe k)) = true
 is_predeclared m = false
 
+-- the name means an import
 abbrev pub is_import : Option Entity → Bool
 is_import (Some (Import k)) = true
 is_import m = false
 
+-- the expressions after the first
 abbrev pub rest_of : Exprs Span → Exprs Span
 rest_of no_exprs = no_exprs
 rest_of (expr_and x xs) = xs
@@ -68,6 +76,7 @@ module _ (env : Environment Entity) where
   names_constant (selector _ (ident _ p) _) = is_import (means env p)
   names_constant x = false
 
+  -- a constant that is another one's name can be marked: without a type, and with an expression of its own
   abbrev pub constant_verdict : Option (TypeExpr Span) → Exprs Span → Verdict
   constant_verdict (Some t) xs = Bad NotNamedConstant
   constant_verdict None no_exprs = Bad NotNamedConstant
@@ -79,6 +88,7 @@ module _ (env : Environment Entity) where
   names_items starts of (n ∷ ns) xs =
       record { name = n; starts = starts; verdict = constant_verdict of xs } ∷ names_items starts of ns (rest_of xs)
 
+  -- the names of constant specs, each an item
   abbrev pub specs_items : ℕ → Bool → ValueSpecs Span → List Item
   specs_items start grouped no_specs = []
   specs_items start grouped (spec s ns t xs ss) =
@@ -86,12 +96,14 @@ module _ (env : Environment Entity) where
 
   -- ---- declarations
 
+  -- what a declaration has that can be marked; variables can't
   abbrev pub decl_items : Decl Span → List Item
   decl_items (values (const_decl s grouped ss)) = specs_items s.start grouped ss
   decl_items (values s) = []
   decl_items (types s grouped ss) = types_items s.start grouped ss
   decl_items (func f) = func_item f ∷ []
 
+  -- what declarations have that can be marked
   abbrev pub decls_items : List (Decl Span) → List Item
   decls_items [] = []
   decls_items (d ∷ ds) = decl_items d ++ decls_items ds

@@ -10,6 +10,7 @@ use Rattle.text_places.specs.Lines.{lines_before}
 use Rattle.go_words.specs.Tokens.Characters.{is_blank}
 use Rattle.go_scan.specs.Unsupported.{bytes_in}
 
+-- the line on which the byte at an offset stands, counted from 0
 abbrev pub line_of : List ℕ → ℕ → ℕ
 line_of text at = lines_before (take at text)
 
@@ -40,6 +41,7 @@ line_front text at = reverse (take_while (λ b. not (b == 10)) (reverse (take at
 abbrev pub without_mark : List ℕ → List ℕ
 without_mark bytes = if starts_with nat_eq bytes (239 ∷ 187 ∷ 191 ∷ []) then drop 3 bytes else bytes
 
+-- nothing is left
 abbrev pub is_nothing : List ℕ → Bool
 is_nothing [] = true
 is_nothing (b ∷ bs) = false
@@ -66,6 +68,7 @@ is_directive comment = starts_with nat_eq comment (codes "//go:fix ") && is_inli
 abbrev pub is_mark : List ℕ → Comment → Bool
 is_mark text c = is_directive (bytes_in text c.span) && list_all is_blank (without_mark (line_front text c.span.start))
 
+-- a comment makes the line a mark line
 abbrev pub is_mark_line : List ℕ → List Comment → ℕ → Bool
 is_mark_line text comments line = list_any (λ c. is_mark text c && (line_of text c.span.start == line)) comments
 

@@ -37,10 +37,12 @@ first_comes (a ∷ firsts) (b ∷ bs) = nat_le a.at b.at
 
 -- ---- what a mark that holds for an item says
 
+-- the mark of an item that can be marked
 abbrev pub mark_by : NameAt Span → Verdict → Option Mark
 mark_by n (Good kind) = Some (record { decl = n.span; name = n.name; kind = kind })
 mark_by n (Bad reason) = None
 
+-- why the mark of an item means nothing, where it can't be marked
 abbrev pub bad_by : NameAt Span → Verdict → Option BadMark
 bad_by n (Good kind) = None
 bad_by n (Bad reason) = Some (record { at = n.span.start; reason = reason })
@@ -85,9 +87,11 @@ module _ (text : List ℕ) (tokens : List Token) (comments : List Comment) where
 
   -- ---- as it is found
 
+  -- a mark stands among the lead lines of what starts at the offset
   abbrev pub is_led_at : ℕ → Bool
   is_led_at start = is_led (is_comment_line text tokens comments) (is_mark_line text comments) (line_of text start)
 
+  -- a mark holds for one of the lines on which the item starts
   abbrev pub is_marked : Item → Bool
   is_marked i = list_any is_led_at i.starts
 
@@ -97,12 +101,15 @@ module _ (text : List ℕ) (tokens : List Token) (comments : List Comment) where
       leads_one (is_comment_line text tokens comments) (starts_on text items) (line_of text (length text))
       (line_of text c.span.start)
 
+  -- the comment is a mark that holds for no item
   abbrev pub marks_nothing : List Item → Comment → Bool
   marks_nothing items c = is_mark text c && not (holds_for_one items c)
 
+  -- the marks of items that can be marked
   abbrev pub good_in : List Item → List Mark
   good_in items = filter_map (λ i. mark_by i.name i.verdict) (filter is_marked items)
 
+  -- the marks of items that can't be marked, and those that hold for nothing, by place
   abbrev pub bad_in : List Item → List BadMark
   bad_in items =
       placed_in (filter_map (λ i. bad_by i.name i.verdict) (filter is_marked items))

@@ -7,6 +7,7 @@ use Rattle.go_tree.specs.declared.tokens.Comment.{Comment}
 use Rattle.directive_scan.specs.Lines.{line_of, is_mark}
 use Rattle.directive_scan.specs.Items.{Item}
 
+-- the line of the next byte
 abbrev pub next_line : ℕ → ℕ → ℕ
 next_line line byte = if byte == 10 then suc line else line
 

@@ -4,6 +4,7 @@ use Rattle.std.specs.List.{list_any}
 use Rattle.fix_engine.specs.declared.outline.Operand.{Operand}
 use Rattle.fix_engine.specs.declared.outline.Constant.{Constant}
 
+-- the word is one of these
 abbrev pub among : List (List ℕ) → List ℕ → Bool
 among words word = list_any (λ w. bytes_eq w word) words
 
@@ -12,6 +13,7 @@ abbrev pub value_named : List Constant → List ℕ → Option Operand
 value_named [] word = None
 value_named (c ∷ cs) word = if bytes_eq c.name word then Some c.value else value_named cs word
 
+-- the name that an operand is, if it is one
 abbrev pub name_in : Option Operand → Option (List ℕ)
 name_in None = None
 name_in (Some x) = if x.named then Some x.word else None

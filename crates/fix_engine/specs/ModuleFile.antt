@@ -3,9 +3,11 @@ use Rattle.std.specs.Prelude.{◌≡◌, ℕ, ◌+◌, ◌-◌, Bool, true, not,
 use Rattle.std.specs.List.{starts_with, ends_with}
 use Rattle.go_outline.specs.declared.found.TheConstants.{MAX_OUTLINE_BYTES}
 
+-- what stands before the path
 abbrev pub before_path : List ℕ
 before_path = codes "module "
 
+-- what stands behind the path
 abbrev pub after_path : List ℕ
 after_path = codes "\n\ngo 1.22\n"
 
@@ -18,6 +20,7 @@ abbrev pub is_path_after : ℕ → List ℕ → Bool
 is_path_after before [] = true
 is_path_after before (b ∷ bs) = is_path_byte b && (not (before == 47 && b == 47) && is_path_after b bs)
 
+-- one byte of a path or more, with no two `/` in a row
 abbrev pub is_path : List ℕ → Bool
 is_path path = nat_lt 0 (length path) && is_path_after 0 path
 

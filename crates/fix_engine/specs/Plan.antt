@@ -28,10 +28,12 @@ pub record Module : Type 0 where
   pub text : List ℕ
   pub outline : Outline
 
+-- the module of a path and a text, where the text has an outline
 abbrev pub with_outline : List ℕ → List ℕ → Option Outline → Option Module
 with_outline path text None = None
 with_outline path text (Some o) = Some (record { path = path; text = text; outline = o })
 
+-- the module of a path and a text, where there is a path
 abbrev pub with_path : Option (List ℕ) → List ℕ → Option Module
 with_path None text = None
 with_path (Some path) text = with_outline path text (outline_of text)
@@ -42,6 +44,7 @@ module_of (m ∷ f ∷ []) =
     if bytes_eq m.0 (codes "go.mod") && bytes_eq f.0 (codes "main.go") then with_path (module_path m.1) f.1 else None
 module_of files = None
 
+-- the package of a module with this path and outline
 abbrev pub package_of : List ℕ → Outline → Package Span
 package_of path o =
     record { path = path; name = codes "main"; files = record { path = codes "main.go"; tree = tree_of o } ∷ [] }
@@ -56,6 +59,7 @@ marks_of path only (c ∷ cs) =
     else marks_of path only cs
 
 module _ (m : Module) (only : List ℕ) where
+  -- the names of the constants that count as marked
   abbrev pub marks : List (List ℕ)
   marks = marks_of m.path only (constants_of m.outline)
 
@@ -63,15 +67,19 @@ module _ (m : Module) (only : List ℕ) where
   abbrev pub most : ℕ
   most = length m.outline.constants + 2
 
+  -- the constants after the run
   abbrev pub last_constants : List Constant
   last_constants = settled_constants marks most [] (constants_of m.outline)
 
+  -- what is printed after the run
   abbrev pub last_prints : List Operand
   last_prints = settled_prints marks most last_constants (prints_of m.outline)
 
+  -- the outline of `main.go` after the run
   abbrev pub last_outline : Outline
   last_outline = outline_of_parts last_constants last_prints
 
+  -- the steps of the run, in their order
   abbrev pub log : List Step
   log = constant_steps marks most [] (constants_of m.outline)
       ++ print_steps marks most last_constants (prints_of m.outline)
@@ -81,6 +89,7 @@ module _ (m : Module) (only : List ℕ) where
   edits_in = constant_edits marks most [] (constants_of m.outline)
       ++ print_edits marks most last_constants (prints_of m.outline)
 
+  -- the spans of the edits
   abbrev pub ranges_in : List Span
   ranges_in = spans edits_in
 
@@ -113,10 +122,12 @@ abbrev pub renewed : List (List ℕ × List ℕ) → List ℕ → List (List ℕ
 renewed (m ∷ f ∷ []) text = m ∷ (f.0, text) ∷ []
 renewed files text = files
 
+-- the planned files, or the refusal of a module that isn't well typed
 abbrev pub outcome_of : List (List ℕ × List ℕ) → Option Made → Outcome
 outcome_of files None = refused 401
 outcome_of files (Some r) = planned (renewed files r.text) r.report r.inlined
 
+-- the plan of a module, or the refusal of files that are none
 abbrev pub plan_of_module : List (List ℕ × List ℕ) → List ℕ → Option Module → Outcome
 plan_of_module files only None = refused 100
 plan_of_module files only (Some m) = outcome_of files (made_of m only)

@@ -4,6 +4,7 @@ use Rattle.fix_engine.specs.declared.refusals.Detail.{Detail}
 use Rattle.fix_engine.specs.declared.refusals.Detail.TheVariants.{NotYet, NotTyped}
 use Rattle.fix_engine.specs.declared.refusals.Refusal.{Refusal}
 
+-- the number of a refusal
 abbrev pub number_of : Detail → ℕ
 number_of NotYet = 100
 number_of NotTyped = 401

@@ -18,6 +18,7 @@ place_text file text offset =
     file ++ codes ":" ++ decimal (lines_before (take offset text) + 1) ++ codes ":"
     ++ decimal (column_after (take offset text) + 1)
 
+-- the end of a line: what was inlined
 abbrev pub inlined_text : List ℕ → List ℕ → List ℕ
 inlined_text path name = codes ": inlined " ++ full_name path name ++ codes " as const\n"
 
@@ -26,6 +27,7 @@ module _ (file text path : List ℕ) where
   abbrev pub line_of : Step → List ℕ
   line_of s = place_text file text s.offset ++ inlined_text path s.name
 
+  -- the lines of steps, in their order
   abbrev pub lines_of : List Step → List ℕ
   lines_of [] = []
   lines_of (s ∷ ss) = line_of s ++ lines_of ss

@@ -2,6 +2,7 @@
 use Rattle.std.specs.Prelude.{◌≡◌, ℕ, ◌≤◌, List, ◌++◌, length, take, Option}
 use Rattle.std.specs.Option.{option_map}
 
+-- what a sink got after further bytes, where it tells what it got
 abbrev pub appended : Option (List ℕ) → List ℕ → Option (List ℕ)
 appended before bytes = option_map (λ had. had ++ bytes) before
 

@@ -2,9 +2,11 @@
 use Rattle.std.specs.Prelude.{ℕ, List, [], ◌∷◌, ◌++◌, codes, map, string_bytes}
 use Rattle.fix_io.specs.declared.entry.Entry.{Entry}
 
+-- the bytes of a found file's path
 abbrev pub entry_path : Entry → List ℕ
 entry_path e = string_bytes e.path
 
+-- the paths of found files
 abbrev pub entry_paths : List Entry → List (List ℕ)
 entry_paths entries = map entry_path entries
 

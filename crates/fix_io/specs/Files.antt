@@ -4,6 +4,7 @@ use Rattle.std.specs.Ordering.{nat_cmp}
 use Rattle.std.specs.Cmp.Lexicographic.{slice_cmp}
 use Rattle.std.specs.declared.cmp.Ordering.TheVariants.{Less}
 
+-- a file: its path and its bytes
 pub record HeldFile : Type 0 where
   pub path : List ℕ
   pub bytes : List ℕ
@@ -12,6 +13,7 @@ pub record HeldFile : Type 0 where
 abbrev pub no_file : HeldFile
 no_file = record { path = []; bytes = [] }
 
+-- the paths of files
 abbrev pub paths : List HeldFile → List (List ℕ)
 paths files = map (λ f. f.path) files
 

@@ -21,6 +21,8 @@ module _ {S : Type 0} where
   module _ (site : Landing) where
     -- ---- names
 
+    -- a name or a parameter, and what may be written for it at the other place: itself, with an import's name before
+    -- it, or an argument
     pub data Leaf (declared : List (List ℕ)) (a : Env) (m : Environment Entity) : Expr S → Expr S → Type 0 where
       -- a name of the body's package, with the name of an import of it
       member :
@@ -81,6 +83,7 @@ module _ {S : Type 0} where
           represented (defined_in a) (basic (default_kind k)) c ≡ true → is_among n declared ≡ false →
           Apart declared (used (at_place a m site.home) e) → BareWhole declared a m (ident s n) e
 
+    -- the type of a spec, where it is there
     pub data WrittenType (declared : List (List ℕ)) (a : Env) (m : Environment Entity)
         : Option (TypeExpr S) → Option (TypeExpr S) → Type 0 where
       no_type : WrittenType declared a m None None

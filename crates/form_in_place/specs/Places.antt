@@ -22,6 +22,7 @@ at_place a m p = record a { names = m; home = p }
 abbrev pub SameName : Env → Environment Entity → List ℕ → Type 0
 SameName a m n = meaning a n ≡ means m n
 
+-- so of each of these names
 abbrev pub AllSame : Env → Environment Entity → List (List ℕ) → Type 0
 AllSame a m [] = Unit {0}
 AllSame a m (n ∷ ns) = SameName a m n × AllSame a m ns
@@ -54,6 +55,7 @@ has_home (Some (stand_in q t c)) = true
 has_home (Some (function f)) = true
 has_home e = false
 
+-- what a package declares and its name can stand before: a variable, a constant, a type or a function
 abbrev pub is_member : Entity → Bool
 is_member (variable t) = true
 is_member (constant t c) = true
@@ -61,6 +63,7 @@ is_member (type_name t) = true
 is_member (function f) = true
 is_member e = false
 
+-- the name means a function
 abbrev pub means_function : Option Entity → Bool
 means_function (Some (function f)) = true
 means_function e = false
@@ -81,6 +84,7 @@ SeenFields home p n no_go_fields = Unit {0}
 SeenFields home p n (go_field m q t fs) =
     ((bytes_eq n m && sees home q) ≡ (bytes_eq n m && sees p q)) × SeenFields home p n fs
 
+-- so of a struct's fields; what is no struct has none
 abbrev pub SeenIn : ℕ → ℕ → List ℕ → Option GoFields → Type 0
 SeenIn home p n None = Unit {0}
 SeenIn home p n (Some fs) = SeenFields home p n fs
@@ -90,6 +94,7 @@ abbrev pub is_open : List ℕ → GoFields → Bool
 is_open n no_go_fields = true
 is_open n (go_field m q t fs) = (not (bytes_eq n m) || is_none q) && is_open n fs
 
+-- so of a struct's fields; what is no struct has none
 abbrev pub open_in : List ℕ → Option GoFields → Bool
 open_in n None = true
 open_in n (Some fs) = is_open n fs
@@ -110,10 +115,12 @@ KeysSeen home p fs no_elems = Unit {0}
 KeysSeen home p fs (elem _ no_value x es) = KeysSeen home p fs es
 KeysSeen home p fs (elem _ (some_value k) x es) = SeenFields home p (key_name (field_key k)) fs × KeysSeen home p fs es
 
+-- so of a literal of any type; only those of structs name fields
 abbrev pub KeysIn : {S : Type 0} → ℕ → ℕ → Option GoFields → Elems S → Type 0
 KeysIn home p None es = Unit {0}
 KeysIn home p (Some fs) es = KeysSeen home p fs es
 
+-- the types of a function's results
 abbrev pub results_in : Option FuncType → List GoType
 results_in None = []
 results_in (Some f) = f.results

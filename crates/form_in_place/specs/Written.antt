@@ -26,6 +26,7 @@ module _ {S : Type 0} (site : Landing) where
   mutual
     -- ---- expressions
 
+    -- an expression, and what may be written for it at the other place
     pub data Written : List (List ℕ) → Env → Environment Entity → Expr S → Expr S → Type 0 where
       w_leaf :
           {r : List (List ℕ)} {a : Env} {m : Environment Entity} {x e : Expr S} → Leaf site r a m x e →
@@ -101,6 +102,7 @@ module _ {S : Type 0} (site : Landing) where
           {r : List (List ℕ)} {a : Env} {m : Environment Entity} {s : S} {e e' : Expr S} → Written r a m e e' →
           Written r a m (star s e) (star s e')
 
+    -- a list of expressions
     pub data WrittenAll : List (List ℕ) → Env → Environment Entity → Exprs S → Exprs S → Type 0 where
       all_none : {r : List (List ℕ)} {a : Env} {m : Environment Entity} → WrittenAll r a m no_exprs no_exprs
       all_and :
@@ -131,6 +133,7 @@ module _ {S : Type 0} (site : Landing) where
           {r : List (List ℕ)} {a : Env} {m : Environment Entity} {e e' : Expr S} {es es' : Exprs S} →
           BareWhole site r a m e e' → WrittenWholes r a m es es' → WrittenWholes r a m (expr_and e es) (expr_and e' es')
 
+    -- a bound or a condition, which may be left out
     pub data WrittenOption : List (List ℕ) → Env → Environment Entity → ExprOption S → ExprOption S → Type 0 where
       option_none : {r : List (List ℕ)} {a : Env} {m : Environment Entity} → WrittenOption r a m no_expr no_expr
       option_some :
@@ -148,6 +151,7 @@ module _ {S : Type 0} (site : Landing) where
           WrittenValue r a m (given u (inner_type (defined_in a))) v v' → WrittenElems r a m u es es' →
           WrittenElems r a m u (elem s k v es) (elem s k' v' es')
 
+    -- an element's key; that of a struct names a field, and stays
     pub data WrittenKey
         : List (List ℕ) → Env → Environment Entity → Option GoType → ValueOption S → ValueOption S → Type 0 where
       key_none :
@@ -161,6 +165,7 @@ module _ {S : Type 0} (site : Landing) where
           meets u is_struct ≡ false → WrittenValue r a m (given u (key_type (defined_in a))) v v' →
           WrittenKey r a m u (some_value v) (some_value v')
 
+    -- an element's value, for a place of this type where it stands in braces alone
     pub data WrittenValue : List (List ℕ) → Env → Environment Entity → Option GoType → Value S → Value S → Type 0 where
       value_plain :
           {r : List (List ℕ)} {a : Env} {m : Environment Entity} {t : Option GoType} {e e' : Expr S} →
@@ -172,6 +177,7 @@ module _ {S : Type 0} (site : Landing) where
 
     -- ---- statements of a body with these results
 
+    -- the statements of a body whose results have these types; each sees what those before it declare
     pub data WrittenBody : List GoType → List (List ℕ) → Env → Environment Entity → Stmts S → Stmts S → Type 0 where
       body_none :
           {ts : List GoType} {r : List (List ℕ)} {a : Env} {m : Environment Entity} →
@@ -182,6 +188,7 @@ module _ {S : Type 0} (site : Landing) where
           WrittenBody ts (bound_names (stmt_binds a s) ++ r) (extend (stmt_binds a s) a) (stmt_binds a s ++ m) ss
           ss' → WrittenBody ts r a m (stmt_and s ss) (stmt_and s' ss')
 
+    -- a statement
     pub data WrittenStmt : List GoType → List (List ℕ) → Env → Environment Entity → Stmt S → Stmt S → Type 0 where
       s_const :
           {ts : List GoType} {r : List (List ℕ)} {a : Env} {m : Environment Entity} {s : S} {grouped : Bool}
@@ -288,6 +295,7 @@ module _ {S : Type 0} (site : Landing) where
           {ts : List GoType} {r : List (List ℕ)} {a : Env} {m : Environment Entity} {s s' : Stmt S} →
           WrittenStmt ts r a m s s' → WrittenFirst ts r a m (some_stmt s) (some_stmt s')
 
+    -- the last block of an `if`
     pub data WrittenBlock
         : List GoType → List (List ℕ) → Env → Environment Entity → BlockOption S → BlockOption S → Type 0 where
       block_none :
@@ -325,6 +333,7 @@ module _ {S : Type 0} (site : Landing) where
           (first_binds a i ++ m) last last' bs bs' →
           WrittenArms ts r a m last last' (arm s i t s1 b bs) (arm s i' t' s1 b' bs')
 
+    -- the clauses of a switch
     pub data WrittenCases : List GoType → List (List ℕ) → Env → Environment Entity → Cases S → Cases S → Type 0 where
       cases_none :
           {ts : List GoType} {r : List (List ℕ)} {a : Env} {m : Environment Entity} →
@@ -366,6 +375,7 @@ module _ {S : Type 0} (site : Landing) where
           {es es' : Exprs S} → WrittenType site r a m t t' → WrittenAll r (at_iota a i) m es es' →
           WrittenAgain r a m (Some (t, es)) (Some (t', es')) i
 
+    -- the specs of variables; each sees what those before it declare
     pub data WrittenVariables : List (List ℕ) → Env → Environment Entity → ValueSpecs S → ValueSpecs S → Type 0 where
       variables_none :
           {r : List (List ℕ)} {a : Env} {m : Environment Entity} → WrittenVariables r a m no_specs no_specs

@@ -58,6 +58,7 @@ DeferredMeansItsLiteral =
 
 -- ---- a method's call and its literal, whose first argument is the receiver's
 
+-- a call of a free method means its literal, with the receiver as the first argument
 abbrev pub MethodMeansItsLiteral : Type 0
 MethodMeansItsLiteral =
     (P : Program) (c : Here) (around : List (List ℕ)) (e x : Expr Span) (f : FuncName) (q : GoType)
@@ -67,6 +68,7 @@ MethodMeansItsLiteral =
     MeanSame P free A (suc (rank f)) (expr_term c p (call u e xs z))
     (expr_term c p (call u (func_lit s g t b) (expr_and x xs) z))
 
+-- and a deferred call of any method its deferred literal
 abbrev pub DeferredMethodMeansItsLiteral : Type 0
 DeferredMethodMeansItsLiteral =
     (P : Program) (c : Here) (around : List (List ℕ)) (e x : Expr Span) (f : FuncName) (q : GoType)

@@ -23,6 +23,7 @@ use Rattle.go_words.specs.declared.terminals.Terminal.TheVariants as code
 
 -- ---- operators
 
+-- the unary operator that a terminal is, if it is one
 abbrev pub prefix_of : Terminal → Option Prefix
 prefix_of code.Not = Some (prefix.Sign Not)
 prefix_of (code.Binary Mul) = Some prefix.Star
@@ -32,6 +33,7 @@ prefix_of (code.Binary Xor) = Some (prefix.Sign Flip)
 prefix_of (code.Binary And) = Some (prefix.Sign Address)
 prefix_of _ = None
 
+-- the expression that the operator makes of its operand
 abbrev pub prefixed : Prefix → Span → Expr Span → Expr Span
 prefixed prefix.Star s e = star s e
 prefixed (prefix.Sign op) s e = unary s op e
@@ -43,6 +45,7 @@ binary_of level _ = None
 
 -- ---- operands
 
+-- a read operand as a value, and whether no parentheses stand around it
 abbrev pub operand_of : Operand → Expr Span × Bool
 operand_of x = (expr_of x.e, x.bare)
 
@@ -72,6 +75,7 @@ abbrev pub composite_program : Lexemes → TypeExpr Span → Lexemes → Program
 composite_program whole t ts =
     ask read_elems ts (λ es r. after_end_brace r (λ r. give (composite (span_to whole r) t es, true) r))
 
+-- the rest of a composite literal of this type, as it is read from these tokens
 unfoldable pub composite_at : Lexemes → TypeExpr Span → Lexemes → Option ((Expr Span × Bool) × Lexemes)
 composite_at whole t ts = run (at span_to) (composite_program whole t ts)
 
@@ -86,12 +90,15 @@ typed_after whole t (lex b end_paren ∷ ts) =
     give (type_operand (span_to whole (lex b end_paren ∷ ts)) t, true) (lex b end_paren ∷ ts)
 typed_after whole t _ = fail
 
+-- an operand that begins with a type
 abbrev pub typed_program : Lexemes → Program Span (Expr Span × Bool)
 typed_program ts = ask read_type ts (λ t r. typed_after ts t r)
 
+-- an operand that begins with a type, as it is read from these tokens
 unfoldable pub typed_at : Lexemes → Option ((Expr Span × Bool) × Lexemes)
 typed_at ts = run (at span_to) (typed_program ts)
 
+-- an operand that begins with a name: a composite literal where one may begin, or else the name
 abbrev pub word_program : Bool → Lexemes → Lexemes → List ℕ → Program Span (Expr Span × Bool)
 word_program true whole ts n = typed_program whole
 word_program false whole ts n = give (ident (span_to whole ts) n, true) ts
@@ -116,6 +123,7 @@ operand_program header (lex s key_map ∷ ts) = typed_program (lex s key_map ∷
 operand_program header (lex s key_struct ∷ ts) = typed_program (lex s key_struct ∷ ts)
 operand_program header _ = fail
 
+-- an operand without what may follow it, as it is read from these tokens
 unfoldable pub operand_at : Bool → Lexemes → Option ((Expr Span × Bool) × Lexemes)
 operand_at header ts = run (at span_to) (operand_program header ts)
 
@@ -135,9 +143,11 @@ high_program whole base low ts =
     ask (read_operand false) ts
     (λ x r. after_end_bracket r (λ r. give (slice (span_to whole r) base low (some_expr x)) r))
 
+-- what stands after the colon of a slice, as it is read from these tokens
 unfoldable pub high_at : Lexemes → Expr Span → ExprOption Span → Lexemes → Option (Expr Span × Lexemes)
 high_at whole base low ts = run (at span_to) (high_program whole base low ts)
 
+-- behind the first expression in brackets: the end of an index, or the colon of a slice
 abbrev pub index_after : Lexemes → Expr Span → Expr Span → Lexemes → Program Span (Expr Span)
 index_after whole base x (lex s end_bracket ∷ ts) = give (index (span_to whole ts) base x) ts
 index_after whole base x (lex s colon ∷ ts) = high_program whole base (some_expr x) ts
@@ -148,6 +158,7 @@ abbrev pub brackets_program : Lexemes → Expr Span → Lexemes → Program Span
 brackets_program whole base (lex s colon ∷ ts) = high_program whole base no_expr ts
 brackets_program whole base ts = ask (read_operand false) ts (λ x r. index_after whole base x r)
 
+-- what stands after an opening bracket, as it is read from these tokens
 unfoldable pub brackets_at : Lexemes → Expr Span → Lexemes → Option (Expr Span × Lexemes)
 brackets_at whole base ts = run (at span_to) (brackets_program whole base ts)
 
@@ -159,11 +170,13 @@ postfix_program whole base (lex d dot ∷ lex s (terminal.ident n) ∷ r) =
 postfix_program whole base (lex s bracket ∷ ts) = unless (is_func_lit base) (brackets_program whole base ts)
 postfix_program whole base _ = fail
 
+-- an operand with one part after it, as it is read from these tokens
 unfoldable pub postfix_at : Lexemes → Expr Span → Lexemes → Option (Expr Span × Lexemes)
 postfix_at whole base ts = run (at span_to) (postfix_program whole base ts)
 
 -- ---- arguments
 
+-- an argument in front of arguments
 abbrev pub arg_and : Expr Span → Exprs Span × Rest → Exprs Span × Rest
 arg_and e x = (expr_and e x.0, x.1)
 
@@ -179,5 +192,6 @@ args_closed _ = None
 unfoldable pub elem_at : Lexemes → Option ((Span × ValueOption Span × Value Span) × Lexemes)
 elem_at ts = option_and_then (λ x. Some ((span_to ts x.1, x.0.0, x.0.1), x.1)) (at span_to read_elem ts)
 
+-- an element in front of elements
 abbrev pub elem_and : Span × ValueOption Span × Value Span → Elems Span → Elems Span
 elem_and x es = elem x.0 x.1 x.2 es

@@ -36,6 +36,8 @@ pub record Drawing : Type 0 where
   pub values : List Value
   pub choices : List ℕ
 
+-- what a primitive does with its operands: it computes, reads the memory, writes it, or draws choices; with `Try` it
+-- may panic
 pub data Action : Type 0 where
   Compute : (List Value → List Value) → Action
   Read : (List Value → Memory → List Value) → Action
@@ -54,23 +56,29 @@ exactly (suc k) (v ∷ vs) = v ∷ exactly k vs
 
 -- ---- the answer of each, where k values are wanted
 
+-- k values, over the same store
 abbrev pub of_values : ℕ → List Value → Store → Answer
 of_values k vs c = Ok (exactly k vs) c []
 
+-- an attempt as an answer of k values
 abbrev pub of_attempt : ℕ → Attempt → Store → Answer
 of_attempt k (Done vs) c = of_values k vs c
 of_attempt k (Panics p) c = Fails p
 
+-- a change as an answer of k values, with the new memory and the new events
 abbrev pub of_change : ℕ → Change → Store → Answer
 of_change k r c = Ok (exactly k r.values) (record c { memory = r.memory }) r.events
 
+-- a change or a panic as an answer
 abbrev pub of_outcome : ℕ → Outcome → Store → Answer
 of_outcome k (Changes r) c = of_change k r c
 of_outcome k (Refuses p) c = Fails p
 
+-- a drawing as an answer of k values, with the choices that are left
 abbrev pub of_drawing : ℕ → Drawing → Store → Answer
 of_drawing k r c = Ok (exactly k r.values) (record c { choices = r.choices }) []
 
+-- the answer of an action of k values on operands over a store
 abbrev pub perform : ℕ → Action → List Value → Store → Answer
 perform k (Compute f) vs c = of_values k (f vs) c
 perform k (Read f) vs c = of_values k (f vs c.memory) c
@@ -87,10 +95,12 @@ abbrev pub values_done : Attempt → List Value
 values_done (Done vs) = vs
 values_done (Panics p) = []
 
+-- an attempt that is known not to panic computes
 abbrev pub try_if : Check → (List Value → Attempt) → Action
 try_if Checked f = Try f
 try_if Unchecked f = Compute (λ vs. values_done (f vs))
 
+-- an attempt on the memory that is known not to panic reads
 abbrev pub try_read_if : Check → (List Value → Memory → Attempt) → Action
 try_read_if Checked f = TryRead f
 try_read_if Unchecked f = Read (λ vs c. values_done (f vs c))

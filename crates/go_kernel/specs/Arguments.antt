@@ -7,6 +7,7 @@ use Rattle.go_kernel.specs.Kernel.{Name, Term, Vals, Local, Both}
 pub data Arg : Type 0 where
   arg : Name → Term → List Name → Bool → Arg
 
+-- the names of the parameters
 abbrev pub names_of : List Arg → List Name
 names_of [] = []
 names_of (arg x a fr c ∷ os) = x ∷ names_of os
@@ -28,5 +29,6 @@ choose [] σ z = σ z
 choose (arg x a fr true ∷ os) σ z = if bytes_eq z x then a else choose os σ z
 choose (arg x a fr false ∷ os) σ z = choose os σ z
 
+-- the chosen arguments in place of their parameters, and each other name as it is
 abbrev pub chosen : List Arg → Name → Term
 chosen os = choose os Local

@@ -24,18 +24,22 @@ pub record Row : Type 0 where
 
 -- ---- items
 
+-- one, where the item is a use of the parameter
 abbrev pub use_of : Name → Item → ℕ
 use_of x (Param z) = if bytes_eq z x then 1 else 0
 use_of x _ = 0
 
+-- a use of the parameter
 abbrev pub is_use : Name → Item → Bool
 is_use x (Param z) = bytes_eq z x
 is_use x _ = false
 
+-- a store, an allocation, a print, or what else changes the memory
 abbrev pub is_write : Item → Bool
 is_write Write = true
 is_write _ = false
 
+-- what an argument that acts must not pass
 abbrev pub is_effect : Item → Bool
 is_effect Read = true
 is_effect Fail = true
@@ -56,6 +60,8 @@ AsCareful I J = (x : Name) →
 
 -- ---- one argument
 
+-- The argument of a parameter without uses may be dropped: it does nothing, has no address of a variable, and names no
+-- variable that lives in a cell or that is used nowhere else.
 pub record Droppable (r : Row) : Type 0 where
   pub acts_not : r.class ≢ Acts
   pub address_not : r.address ≡ false
@@ -91,6 +97,7 @@ abbrev pub NamesMove : Arg → Arg → Type 0
 NamesMove (arg x a fr c) (arg z b fr' c') = (c ≡ true → c' ≡ false → has z fr ≡ false)
     × (c' ≡ true → c ≡ false → has x fr' ≡ false)
 
+-- so of a parameter and each of those after it
 abbrev pub NamesMoveAll : Arg → List Arg → Type 0
 NamesMoveAll o [] = Unit {0}
 NamesMoveAll o (p ∷ os) = NamesMove o p × NamesMoveAll o os
@@ -115,6 +122,7 @@ uncaptured x fr g t = each_free (λ h z. if bytes_eq z x then none_in fr h else 
 abbrev pub names_only : Bool → List Name → Term → Bool
 names_only r fr a = each_free (λ h w. has w fr) (λ h w. false) r [] a
 
+-- so of all arguments
 abbrev pub all_name_only : List Arg → Bool
 all_name_only [] = true
 all_name_only (arg x a fr c ∷ os) = if names_only true fr a then all_name_only os else false
@@ -128,6 +136,7 @@ IsRow all g t (arg x a fr c) r =
     (unassigned x g t ≡ true) × (uncaptured x fr g t ≡ true) × (names_only false fr a ≡ true)
     × (all_name_only all ≡ true))
 
+-- the rows of all arguments, one each
 abbrev pub AreRows : List Arg → List Name → Term → List Arg → List Row → Type 0
 AreRows all g t [] [] = Unit {0}
 AreRows all g t (o ∷ os) (r ∷ rows) = IsRow all g t o r × AreRows all g t os rows
@@ -135,10 +144,12 @@ AreRows all g t _ _ = ⊥
 
 -- ---- what calls have anyway
 
+-- no two parameters have one name
 abbrev pub distinct : List Arg → Bool
 distinct [] = true
 distinct (arg x a fr c ∷ os) = if has x (names_of os) then false else distinct os
 
+-- one value
 abbrev pub is_one : Option ℕ → Bool
 is_one (Some k) = nat_eq k 1
 is_one None = false

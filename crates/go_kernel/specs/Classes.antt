@@ -6,9 +6,11 @@ use Rattle.go_kernel.specs.Kernel.{Effect, effect, Term, Vals, Local, Both, Prim
 pub data Class : Type 0 where
   Steady Looks Acts : Class
 
+-- can't panic, changes nothing and takes no choice
 abbrev pub only_looks : Effect → Bool
 only_looks e = if e.may_panic then false else if e.writes then false else if e.draws then false else true
 
+-- and doesn't look at the store either
 abbrev pub only_computes : Effect → Bool
 only_computes e = if e.reads then false else only_looks e
 
@@ -30,9 +32,11 @@ steady (Prim o a) = if only_computes (effect o) then steady a else false
 steady (If c a b) = if steady c then (if steady a then steady b else false) else false
 steady _ = false
 
+-- the narrowest class of a term
 abbrev pub class_of : Term → Class
 class_of a = if steady a then Steady else if looks a then Looks else Acts
 
+-- the class of terms that may do anything
 abbrev pub is_acts : Class → Bool
 is_acts Acts = true
 is_acts _ = false

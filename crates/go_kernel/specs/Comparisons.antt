@@ -6,6 +6,7 @@ use Rattle.go_kernel.specs.Values.{Base, Numbered, Global, Value, Number, Truth,
 use Rattle.go_kernel.specs.Numbers.{int_eq}
 use Rattle.go_kernel.specs.Ops.{Comparison, Equal, NotEqual, Less, LessOrEqual, Greater, GreaterOrEqual}
 
+-- two truth values are equal
 abbrev pub same_truth : Bool → Bool → Bool
 same_truth true b = b
 same_truth false b = not b
@@ -17,6 +18,7 @@ same_base (Numbered p) (Numbered q) = nat_eq p q
 same_base (Global p n) (Global q m) = same_text p q && same_text n m
 same_base _ _ = false
 
+-- two values are equal
 abbrev pub same_value : Value → Value → Bool
 same_value (Number j a) (Number k b) = int_eq a b
 same_value (Truth a) (Truth b) = same_truth a b
@@ -34,11 +36,13 @@ text_before [] (y ∷ ys) = true
 text_before (x ∷ xs) [] = false
 text_before (x ∷ xs) (y ∷ ys) = nat_lt x y || (nat_eq x y && text_before xs ys)
 
+-- of two numbers or two strings, the first is less
 abbrev pub before : Value → Value → Bool
 before (Number j a) (Number k b) = int_lt a b
 before (Str a) (Str b) = text_before a b
 before _ _ = false
 
+-- a comparison holds of two values
 abbrev pub holds : Comparison → Value → Value → Bool
 holds Equal v w = same_value v w
 holds NotEqual v w = not (same_value v w)
@@ -47,10 +51,12 @@ holds LessOrEqual v w = not (before w v)
 holds Greater v w = before w v
 holds GreaterOrEqual v w = not (before v w)
 
+-- the primitive of a comparison
 abbrev pub compare : Comparison → List Value → List Value
 compare o (v ∷ w ∷ []) = Truth (holds o v w) ∷ []
 compare o _ = []
 
+-- the primitive `!`
 abbrev pub negation : List Value → List Value
 negation (Truth b ∷ []) = Truth (not b) ∷ []
 negation _ = []

@@ -3,20 +3,24 @@ use Rattle.std.specs.Prelude.{nat_eq, ℕ, zero, ◌+◌, List, [], ◌∷◌, �
 use Rattle.go_kernel.specs.Kernel.{Name, gives, Slot, Term, Vals, Local, Set, Both, Prim, If, Let, Loop, Leave, Catch, Within, Alone, Recover, Call, Defer, DeferLit, Program}
 use Rattle.go_kernel.specs.Scope.{has, slot_name}
 
+-- the sum, where both are known
 abbrev pub plus : Option ℕ → Option ℕ → Option ℕ
 plus (Some i) (Some j) = Some (i + j)
 plus _ _ = None
 
+-- the second, where the first is known
 abbrev pub then' : Option ℕ → Option ℕ → Option ℕ
 then' (Some i) w = w
 then' None w = None
 
+-- the number, where both are known and equal
 abbrev pub equal' : Option ℕ → Option ℕ → Option ℕ
 equal' (Some i) (Some j) = if nat_eq i j then Some i else None
 equal' _ _ = None
 
 -- the number of values of an expression: of a term that ends by values or a panic, and defers nothing
 module _ (P : Program) where
+  -- how many values a term gives, where the text tells it
   abbrev pub width : Term → Option ℕ
   width (Vals v) = Some (length v)
   width (Local x) = Some 1
@@ -33,14 +37,17 @@ module _ (P : Program) where
 -- u of each use of a free name and s of each assignment to one, under the names that are bound there; the result slots
 -- of literals are their own; and 'recover' stands in literals alone, or where r says that it may
 module _ (u s : List Name → Name → Bool) where
+  -- of each name that is assigned and not bound in the term, `s` holds
   abbrev pub each_set : List Name → List Name → Bool
   each_set g [] = true
   each_set g (x ∷ xs) = if (if has x g then true else s g x) then each_set g xs else false
 
+  -- result slots that are bound in the term
   abbrev pub own_slots : List Slot → List Name → Bool
   own_slots [] g = true
   own_slots (r ∷ rs) g = if has (slot_name r) g then own_slots rs g else false
 
+  -- `u` holds of each name that is used free in the term, and `s` of each that is assigned there; `r` allows 'recover'
   abbrev pub each_free : Bool → List Name → Term → Bool
   each_free r g (Vals v) = true
   each_free r g (Local x) = if has x g then true else u g x
@@ -64,6 +71,7 @@ abbrev pub is_spare : Name → Bool
 is_spare (zero ∷ k ∷ []) = true
 is_spare _ = false
 
+-- none of the names is one that the laws rename to
 abbrev pub no_spares : List Name → Bool
 no_spares [] = true
 no_spares (x ∷ g) = if is_spare x then false else no_spares g

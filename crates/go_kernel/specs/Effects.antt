@@ -8,21 +8,26 @@ use Rattle.go_kernel.specs.Actions.{Event, Answer, Ok, Fails}
 use Rattle.go_kernel.specs.Prims.{prim}
 use Rattle.go_kernel.specs.Ops.{Check, Checked, Unchecked, Op, Arith, Divide, Shift, Negate, Complement, Convert, Not, Compare, Concat, ByteAt, BytesOfString, StringOfBytes, Field, SetField, StructLit, ReadGlobal, GlobalAddress, Load, Save, Address, Alloc, SliceLit, MakeSlice, Element, ElementAddress, Len, Cap, Copy, Append, Slicing, MapLit, MakeMap, MapLen, MapSet, MapDelete, MapGet, MapTry, RangeMap, RangeNext, Emit, Fail}
 
+-- whether a primitive may panic, depends on the store, changes the memory or prints, and takes choices
 pub record Effect : Type 0 where
   pub may_panic : Bool
   pub reads : Bool
   pub writes : Bool
   pub draws : Bool
 
+-- depends on its operands alone
 abbrev pub computes : Effect
 computes = record { may_panic = false; reads = false; writes = false; draws = false }
 
+-- reads the memory
 abbrev pub looks : Effect
 looks = record { may_panic = false; reads = true; writes = false; draws = false }
 
+-- reads and changes the memory, or prints
 abbrev pub changes : Effect
 changes = record { may_panic = false; reads = true; writes = true; draws = false }
 
+-- reads the memory and takes a choice
 abbrev pub chooses : Effect
 chooses = record { may_panic = false; reads = true; writes = false; draws = true }
 
@@ -30,10 +35,12 @@ chooses = record { may_panic = false; reads = true; writes = false; draws = true
 abbrev pub or_panics : Effect → Effect
 or_panics e = record e { may_panic = true }
 
+-- a primitive may panic where it looks for a fault
 abbrev pub checked : Check → Effect → Effect
 checked Checked e = or_panics e
 checked Unchecked e = e
 
+-- the effect of each primitive
 abbrev pub effect : Op → Effect
 effect (Arith o k) = computes
 effect (Divide c o k) = checked c computes
@@ -79,6 +86,7 @@ effect (Fail t) = or_panics computes
 
 -- ---- what the table says of the answers
 
+-- the values of an answer; a panic has none
 abbrev pub values_of : Answer → List Value
 values_of (Ok vs c e) = vs
 values_of (Fails p) = []

@@ -15,14 +15,17 @@ after (Gives v s) k h = k v s
 after (Leaves e s) k h = h e s
 after (Cuts o) k h = Cuts o
 
+-- the result of a primitive's answer: its values, or the panic
 abbrev pub answered : Answer → State → Result
 answered (Ok vs c e) s = Gives vs (record s { store = c; out = e ++ s.out })
 answered (Fails p) s = Leaves (Panic p) s
 
+-- the first where the condition is true, else the second
 abbrev pub on_truth : List Value → Result → Result → Result
 on_truth (Truth true ∷ []) a b = a
 on_truth _ a b = b
 
+-- the result without the locals that a term had bound
 abbrev pub popped : List Name → Result → Result
 popped xs r =
     after r (λ v s. Gives v (record s { frame = pop xs s.frame }))
@@ -35,14 +38,17 @@ caught_by l (Panic p) s = Leaves (Panic p) s
 
 -- ---- bodies
 
+-- the value of a result slot, in the frame or in the variable that it points to
 abbrev pub read_slot : Slot → Frame → Store → Value
 read_slot (InFrame x) f c = lookup x f
 read_slot (InCell x) f c = or_nil (value_at (lookup x f) c)
 
+-- the values of result slots
 abbrev pub read_slots : List Slot → Frame → Store → List Value
 read_slots [] f c = []
 read_slots (r ∷ rs) f c = read_slot r f c ∷ read_slots rs f c
 
+-- a body that ends with values gives those of its result slots
 abbrev pub with_slots : List Slot → Result → Result
 with_slots rs r = after r (λ v s. Gives (read_slots rs s.frame s.store) s) Leaves
 
@@ -50,9 +56,11 @@ with_slots rs r = after r (λ v s. Gives (read_slots rs s.frame s.store) s) Leav
 abbrev pub entered : Frame → Option Reason → State → State
 entered f p s = record { frame = f; store = s.store; pending = p; defers = []; out = s.out }
 
+-- the caller's state with the store and the events that the call left
 abbrev pub back : State → State → State
 back s s1 = record s { store = s1.store; out = s1.out }
 
+-- the result of a call, back in the caller's frame
 abbrev pub called : State → Result → Result
 called s r = after r (λ v s1. Gives v (back s s1)) (λ e s1. Leaves e (back s s1))
 
@@ -83,6 +91,7 @@ unwind below (d ∷ ds) e s =
 abbrev pub resumed : List Deferred → Result → Result
 resumed ds r = after r (λ v s. Gives v (record s { defers = ds })) (λ e s. Leaves e (record s { defers = ds }))
 
+-- a body's end, after which its deferred calls run
 abbrev pub unwound : Level → Result → Result
 unwound below r = after r (λ v s. unwind below s.defers None s) (λ e s. unwind below s.defers (panic_of None e) s)
 
@@ -90,6 +99,7 @@ unwound below r = after r (λ v s. unwind below s.defers None s) (λ e s. unwind
 abbrev pub with_pending : Option Reason → Result → Result
 with_pending p r = after r (λ v s. Gives v (record s { pending = p })) (λ e s. Leaves e (record s { pending = p }))
 
+-- whether a panic is pending, as a truth value
 abbrev pub is_pending : Option Reason → Value
 is_pending None = Truth false
 is_pending (Some p) = Truth true
@@ -131,6 +141,7 @@ eval P pick below (DeferLit xs a b) s =
 
 -- ---- budgets
 
+-- a budget that is gone
 abbrev pub cut : Level
 cut t s = Cuts s.out
 
@@ -143,13 +154,16 @@ level P (suc n) = eval P (λ f. level P n) (level P n)
 abbrev pub free_pick : (FuncName → Bool) → Level → Level → FuncName → Level
 free_pick free inner below f = if free f then inner else below
 
+-- at which level each called function runs, where k free calls may still follow one another
 abbrev pub picks : Program → (FuncName → Bool) → Level → ℕ → FuncName → Level
 picks P free below zero = λ f. below
 picks P free below (suc k) = free_pick free (eval P (picks P free below k) below) below
 
+-- a term at that level
 abbrev pub chain : Program → (FuncName → Bool) → Level → ℕ → Level
 chain P free below k = eval P (picks P free below k) below
 
+-- the meaning at a budget, under free prices
 abbrev pub free_level : Program → (FuncName → Bool) → ℕ → ℕ → Level
 free_level P free A zero = cut
 free_level P free A (suc n) = chain P free (free_level P free A n) A

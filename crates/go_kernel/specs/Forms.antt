@@ -22,13 +22,16 @@ give_slots rs [] = Vals []
 abbrev pub return_to : List Name → Term → Term
 return_to ss e = Let [] (Set ss e) (Leave return_label)
 
+-- a 'return' where a result may live in a variable that a pointer leads to
 abbrev pub return_to_slots : List Slot → List Name → Term → Term
 return_to_slots rs ts e = Let [] (Let ts e (give_slots rs ts)) (Leave return_label)
 
+-- the locals in which result slots stand, or which point to them
 abbrev pub slot_names : List Slot → List Name
 slot_names [] = []
 slot_names (r ∷ rs) = slot_name r ∷ slot_names rs
 
+-- no name stands twice
 abbrev pub distinct_names : List Name → Bool
 distinct_names [] = true
 distinct_names (x ∷ xs) = if has x xs then false else distinct_names xs
@@ -65,15 +68,18 @@ never _ = false
 
 -- ---- a body's returns turned to another way of returning
 
+-- the same names in the same order
 abbrev pub same_names : List Name → List Name → Bool
 same_names [] [] = true
 same_names (x ∷ xs) (y ∷ ys) = if bytes_eq x y then same_names xs ys else false
 same_names _ _ = false
 
+-- a jump to the end of the body
 abbrev pub is_return : Term → Bool
 is_return (Leave l) = bytes_eq l return_label
 is_return _ = false
 
+-- what an assignment to exactly these slots assigns
 abbrev pub sets_slots : List Name → Term → Option Term
 sets_slots ss (Set xs e) = if same_names xs ss then Some e else None
 sets_slots ss _ = None
@@ -83,6 +89,7 @@ abbrev pub returned : List Name → List Name → Term → Term → Option Term
 returned ss [] a b = if is_return b then sets_slots ss a else None
 returned ss (x ∷ xs) a b = None
 
+-- a return of e made one that sets what 'sink e' sets; where it is none, the term
 abbrev pub turned : (Term → Term) → Option Term → Term → Term
 turned sink (Some e) t = Let [] (sink e) (Leave return_label)
 turned sink None t = t
@@ -96,6 +103,7 @@ retarget ss sink (Loop c b) = Loop c (retarget ss sink b)
 retarget ss sink (Catch l a) = Catch l (retarget ss sink a)
 retarget ss sink t = t
 
+-- the number of values is known, and is n
 abbrev pub has_width : Option ℕ → ℕ → Bool
 has_width (Some k) n = nat_eq k n
 has_width None n = false
@@ -103,24 +111,31 @@ has_width None n = false
 -- a body's parts that aren't returns name no slot, assign none but parameters ps and variables of their own, and are
 -- tidy; its returns set all slots, in no scope of a variable that 'clear' refuses
 module _ (P : Program) (ps ss : List Name) (clear : List Name → Bool) where
+  -- a part that isn't a return names no slot
   abbrev pub may_read : List Name → Name → Bool
   may_read g x = if has x ss then false else true
 
+  -- it assigns parameters alone, besides variables of its own
   abbrev pub may_set : List Name → Name → Bool
   may_set g x = if has x ss then false else has x ps
 
+  -- a part that isn't a return: it keeps to those names and is tidy
   abbrev pub works : List Label → List Name → Term → Bool
   works ls g t = if each_free may_read may_set false g t then tidy ls t else false
 
+  -- a return gives as many values as there are slots, names none of them, and is in no scope of a slot's name or of a
+  -- name that 'clear' refuses
   abbrev pub returns : List Name → Term → Bool
   returns g e =
       if (if each_free may_read may_set false g e then has_width (width P e) (length ss) else false)
       then (if none_in ss g then clear g else false) else false
 
+  -- the check of a return, or else that of another term
   abbrev pub returns_or : Option Term → List Name → Bool → Bool
   returns_or (Some e) g b = returns g e
   returns_or None g b = b
 
+  -- a body each of whose parts is such
   abbrev pub turns : List Label → List Name → Term → Bool
   turns ls g (Let xs a b) = returns_or (returned ss xs a b) g (if turns ls g a then turns ls (xs ++ g) b else false)
   turns ls g (Both a b) = if turns ls g a then turns ls g b else false

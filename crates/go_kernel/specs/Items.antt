@@ -10,6 +10,7 @@ pub data Item : Type 0 where
   Param : Name → Item
   Read Fail Write Stop : Item
 
+-- the end of what is listed
 abbrev pub is_stop : Item → Bool
 is_stop Stop = true
 is_stop _ = false
@@ -19,9 +20,11 @@ abbrev pub join : List Item → List Item → List Item
 join [] J = J
 join (i ∷ I) J = if is_stop i then i ∷ [] else i ∷ join I J
 
+-- the item of a primitive that writes or reads
 abbrev pub change_items : Effect → List Item
 change_items e = if e.writes then Write ∷ [] else if e.reads then Read ∷ [] else []
 
+-- a primitive that may panic fails before it writes
 abbrev pub effect_items : Effect → List Item
 effect_items e = if e.may_panic then Fail ∷ change_items e else change_items e
 

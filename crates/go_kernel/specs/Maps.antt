@@ -7,17 +7,21 @@ use Rattle.go_kernel.specs.Comparisons.{same_value}
 use Rattle.go_kernel.specs.Slices.{int}
 use Rattle.go_kernel.specs.Actions.{Change, Outcome, Changes, Refuses, Drawing}
 
+-- a key and its element
 abbrev pub Entry : Type 0
 Entry = Value × Value
 
+-- the element with this key, if there is one
 abbrev pub entry_in : Value → List Entry → Option Value
 entry_in k [] = None
 entry_in k (e ∷ es) = if same_value k e.0 then Some e.1 else entry_in k es
 
+-- the entries with this key's element set; a new key stands last
 abbrev pub with_entry : Value → Value → List Entry → List Entry
 with_entry k v [] = (k, v) ∷ []
 with_entry k v (e ∷ es) = if same_value k e.0 then (e.0, v) ∷ es else e ∷ with_entry k v es
 
+-- the entries without this key
 abbrev pub without_entry : Value → List Entry → List Entry
 without_entry k es = filter (λ e. not (same_value k e.0)) es
 
@@ -26,26 +30,32 @@ abbrev pub entries_of : Value → Memory → List Entry
 entries_of (Map p) c = entries_at p c
 entries_of _ c = []
 
+-- `len` of a map
 abbrev pub map_len : List Value → Memory → List Value
 map_len (m ∷ []) c = int (length (entries_of m c)) ∷ []
 map_len _ c = []
 
+-- the element, or the zero value of its type
 abbrev pub value_or : Value → Option Value → Value
 value_or z None = z
 value_or z (Some v) = v
 
+-- whether there was an element, as a truth value
 abbrev pub is_there : Option Value → Value
 is_there None = Truth false
 is_there (Some v) = Truth true
 
+-- an element of a map, or the zero value
 abbrev pub map_get : Value → List Value → Memory → List Value
 map_get z (m ∷ k ∷ []) c = value_or z (entry_in k (entries_of m c)) ∷ []
 map_get z _ c = []
 
+-- an element of a map, or the zero value, and whether it is there
 abbrev pub map_try : Value → List Value → Memory → List Value
 map_try z (m ∷ k ∷ []) c = let v : Option Value = entry_in k (entries_of m c) in value_or z v ∷ is_there v ∷ []
 map_try z _ c = []
 
+-- a map in a new cell
 abbrev pub new_map : List Entry → Memory → Change
 new_map es c = record { values = Map (length c.cells) ∷ []; memory = allocated (Entries es) c; events = [] }
 
@@ -54,15 +64,18 @@ abbrev pub entries_from : List Value → List Entry → List Entry
 entries_from (k ∷ v ∷ vs) es = entries_from vs (with_entry k v es)
 entries_from _ es = es
 
+-- a map literal
 abbrev pub map_lit : List Value → Memory → Change
 map_lit vs c = new_map (entries_from vs []) c
 
+-- an assignment to an element; of nil it panics
 abbrev pub map_set : List Value → Memory → Outcome
 map_set (Map p ∷ k ∷ v ∷ []) c =
     Changes (record { values = []; memory = with_cell p (Entries (with_entry k v (entries_at p c))) c; events = [] })
 map_set (Nil ∷ k ∷ v ∷ []) c = Refuses (runtime_error (codes "nil map"))
 map_set _ c = Changes (record { values = []; memory = c; events = [] })
 
+-- `delete` of a map
 abbrev pub map_delete : List Value → Memory → Change
 map_delete (Map p ∷ k ∷ []) c =
     record { values = []; memory = with_cell p (Entries (without_entry k (entries_at p c))) c; events = [] }
@@ -70,13 +83,16 @@ map_delete _ c = record { values = []; memory = c; events = [] }
 
 -- ---- a range over a map
 
+-- the keys of entries
 abbrev pub keys_of : List Entry → List Value
 keys_of es = map (λ e. e.0) es
 
+-- the key is among these
 abbrev pub is_among : Value → List Value → Bool
 is_among k [] = false
 is_among k (x ∷ xs) = if same_value k x then true else is_among k xs
 
+-- the values that a struct holds, as a list
 abbrev pub listed : Value → List Value
 listed (With v vs) = v ∷ listed vs
 listed _ = []
@@ -85,10 +101,12 @@ listed _ = []
 abbrev pub range_state : List Value → List Value → Value
 range_state given owed = With (struct_of given) (With (struct_of owed) Empty)
 
+-- the keys that a range has given
 abbrev pub given_of : Value → List Value
 given_of (With given s) = listed given
 given_of _ = []
 
+-- the keys that a range still owes
 abbrev pub owed_of : Value → List Value
 owed_of (With given (With owed s)) = listed owed
 owed_of _ = []
@@ -103,6 +121,7 @@ abbrev pub choice : List ℕ → ℕ
 choice [] = 0
 choice (d ∷ ds) = d
 
+-- the choices after the first
 abbrev pub other_choices : List ℕ → List ℕ
 other_choices [] = []
 other_choices (d ∷ ds) = ds
@@ -133,6 +152,7 @@ abbrev pub next_turn : List Entry → List Value → List Value → List ℕ →
 next_turn es given owed cs =
     drawn es given (filter (λ k. is_among k (keys_of es)) owed) (filter (λ k. not (is_among k given)) (keys_of es)) cs
 
+-- the next turn of a range over a map
 abbrev pub range_next : List Value → Memory → List ℕ → Drawing
 range_next (m ∷ s ∷ []) c cs = next_turn (entries_of m c) (given_of s) (owed_of s) cs
 range_next _ c cs = record { values = []; choices = cs }

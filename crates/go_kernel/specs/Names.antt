@@ -6,12 +6,15 @@ use Rattle.std.specs.Prelude.{ℕ, Bool, true, false, List, [], ◌∷◌, ◌++
 abbrev pub Text : Type 0
 Text = List ℕ
 
+-- the name of a local, a package variable or a function
 abbrev pub Name : Type 0
 Name = Text
 
+-- the path of a package
 abbrev pub ImportPath : Type 0
 ImportPath = Text
 
+-- two texts are equal
 abbrev pub same_text : Text → Text → Bool
 same_text = bytes_eq
 
@@ -20,12 +23,15 @@ same_text = bytes_eq
 abbrev pub temporary : ℕ → Name
 temporary k = 46 ∷ k ∷ []
 
+-- the slot of a named result that is a variable of its own too
 abbrev pub named_result : Name → Name
 named_result x = 35 ∷ x
 
+-- the slot of the result with this number, which has no name
 abbrev pub result_name : ℕ → Name
 result_name k = 35 ∷ 46 ∷ k ∷ []
 
+-- the name with this number that the laws rename to
 abbrev pub spare : ℕ → Name
 spare k = 0 ∷ k ∷ []
 
@@ -35,12 +41,14 @@ pub record FuncName : Type 0 where
   pub receiver : Option Name
   pub name : Name
 
+-- both are functions, or both are methods of types with one name
 abbrev pub same_receiver : Option Name → Option Name → Bool
 same_receiver None None = true
 same_receiver (Some a) (Some b) = same_text a b
 same_receiver None (Some b) = false
 same_receiver (Some a) None = false
 
+-- the same function of the same package
 abbrev pub same_func : FuncName → FuncName → Bool
 same_func f g = same_text f.home g.home && (same_receiver f.receiver g.receiver && same_text f.name g.name)
 
@@ -48,6 +56,7 @@ same_func f g = same_text f.home g.home && (same_receiver f.receiver g.receiver 
 abbrev pub Label : Type 0
 Label = Text
 
+-- where 'return' leads to
 abbrev pub return_label : Label
 return_label = codes "return"
 
@@ -56,6 +65,7 @@ abbrev pub break_label : Option Name → Label
 break_label None = codes "break"
 break_label (Some l) = codes "break " ++ l
 
+-- 'continue' of the statement around, or of the statement with this label
 abbrev pub continue_label : Option Name → Label
 continue_label None = codes "continue"
 continue_label (Some l) = codes "continue " ++ l

@@ -6,6 +6,7 @@ use Rattle.go_kernel.specs.Values.{Kind, Int, Int8, Int16, Int32, Int64, Uint, U
 use Rattle.go_kernel.specs.Ops.{Arithmetic, Add, Sub, Mul, And, Or, Xor, AndNot, Division, Quotient, Remainder, Direction, Left, Right}
 use Rattle.go_kernel.specs.Actions.{Attempt, Done, Panics}
 
+-- how many bits a number of the kind has
 abbrev pub bits : Kind → ℕ
 bits Int = 64
 bits Int8 = 8
@@ -18,6 +19,7 @@ bits Uint16 = 16
 bits Uint32 = 32
 bits Uint64 = 64
 
+-- the kind has negative numbers
 abbrev pub is_signed : Kind → Bool
 is_signed Int = true
 is_signed Int8 = true
@@ -38,6 +40,7 @@ least k = if is_signed k then neg_ℤ (pos (2 ^ (bits k - 1))) else pos 0
 abbrev pub wrap : Kind → ℤ → ℤ
 wrap k z = int_rem_euclid (z -ℤ least k) (pos (2 ^ bits k)) +ℤ least k
 
+-- two integers are equal
 abbrev pub int_eq : ℤ → ℤ → Bool
 int_eq (pos a) (pos b) = nat_eq a b
 int_eq (negsuc a) (negsuc b) = nat_eq a b
@@ -54,6 +57,7 @@ arithmetic Or a b = int_bit_or w128 a b
 arithmetic Xor a b = int_bit_xor w128 a b
 arithmetic AndNot a b = int_bit_and w128 a (negsuc 0 -ℤ b)
 
+-- the primitive of an operator that can't fail, wrapped to the kind
 abbrev pub arith : Arithmetic → Kind → List Value → List Value
 arith o k (Number j a ∷ Number l b ∷ []) = Number k (wrap k (arithmetic o a b)) ∷ []
 arith o k _ = []
@@ -63,6 +67,7 @@ abbrev pub division : Division → ℤ → ℤ → ℤ
 division Quotient a b = int_div a b
 division Remainder a b = int_rem a b
 
+-- the primitive of a division; by zero it panics
 abbrev pub divide : Division → Kind → List Value → Attempt
 divide o k (Number j a ∷ Number l b ∷ []) =
     elim (int_eq b (pos 0))
@@ -76,11 +81,13 @@ shifted Right a n =
     elim (nat_lt n 64)
     [ true ↦ int_div_euclid a (pos (2 ^ n)) | false ↦ (if int_lt a (pos 0) then negsuc 0 else pos 0) ]
 
+-- the primitive of a shift; by a negative count it panics
 abbrev pub shift : Direction → Kind → List Value → Attempt
 shift d k (Number j a ∷ Number l (pos n) ∷ []) = Done (Number k (wrap k (shifted d a n)) ∷ [])
 shift d k (Number j a ∷ Number l (negsuc n) ∷ []) = Panics (runtime_error (codes "shift"))
 shift d k _ = Done []
 
+-- the primitive `-`, wrapped to the kind
 abbrev pub negate : Kind → List Value → List Value
 negate k (Number j a ∷ []) = Number k (wrap k (neg_ℤ a)) ∷ []
 negate k _ = []
@@ -90,6 +97,7 @@ abbrev pub complement : Kind → List Value → List Value
 complement k (Number j a ∷ []) = Number k (wrap k (negsuc 0 -ℤ a)) ∷ []
 complement k _ = []
 
+-- a conversion to the kind
 abbrev pub convert : Kind → List Value → List Value
 convert k (Number j a ∷ []) = Number k (wrap k a) ∷ []
 convert k _ = []

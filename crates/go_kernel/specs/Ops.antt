@@ -8,12 +8,15 @@ use Rattle.go_kernel.specs.Values.{Kind, Value, PanicType}
 pub data Arithmetic : Type 0 where
   Add Sub Mul And Or Xor AndNot : Arithmetic
 
+-- the operators `/` and `%`
 pub data Division : Type 0 where
   Quotient Remainder : Division
 
+-- the operators `<<` and `>>`
 pub data Direction : Type 0 where
   Left Right : Direction
 
+-- the comparison operators
 pub data Comparison : Type 0 where
   Equal NotEqual Less LessOrEqual Greater GreaterOrEqual : Comparison
 
@@ -25,6 +28,7 @@ pub data Check : Type 0 where
 pub data Printer : Type 0 where
   Print Println : Printer
 
+-- the primitives
 pub data Op : Type 0 where
   -- whole numbers of a kind. Division is unchecked by a constant that is not zero, a shift by a count of an unsigned
   -- type or a constant

@@ -11,6 +11,7 @@ use Rattle.go_kernel.specs.Variables.{field_read, field_set, with_fields, load, 
 use Rattle.go_kernel.specs.Slices.{concat, len, cap, element, element_address, byte_at, slicing, slice_lit, make_slice, append, copy, string_of_bytes, bytes_of_string}
 use Rattle.go_kernel.specs.Maps.{map_len, map_get, map_try, new_map, map_lit, map_set, map_delete, range_map, range_next}
 
+-- a store, which panics on nil where it goes through a pointer of the program
 abbrev pub save_if : Check → Action
 save_if Checked = TryWrite save
 save_if Unchecked = Write assign
@@ -23,6 +24,7 @@ emit p vs c = record { values = []; memory = c; events = record { printer = p; v
 abbrev pub panic : PanicType → List Value → Attempt
 panic t vs = Panics (record { of = t; value = first vs })
 
+-- what each primitive does
 abbrev pub action : Op → Action
 action (Arith o k) = Compute (arith o k)
 action (Divide c o k) = try_if c (divide o k)
@@ -66,6 +68,7 @@ action RangeNext = Draw range_next
 action (Emit p) = Write (emit p)
 action (Fail t) = Try (panic t)
 
+-- how many values each primitive gives
 abbrev pub gives : Op → ℕ
 gives (Save c) = 0
 gives MapSet = 0
@@ -76,5 +79,6 @@ gives (MapTry z) = 2
 gives RangeNext = 4
 gives _ = 1
 
+-- the answer of a primitive on operands over a store
 unfoldable pub prim : Op → List Value → Store → Answer
 prim o vs c = perform (gives o) (action o) vs c

@@ -2,22 +2,27 @@
 use Rattle.std.specs.Prelude.{bytes_eq, ◌≡◌, List, [], ◌∷◌, ◌++◌, Bool, true, false, if◌then◌else◌}
 use Rattle.go_kernel.specs.Kernel.{Name, Term, Vals, Local, Set, Both, Prim, If, Let, Loop, Leave, Catch, Within, Alone, Recover, Call, Defer, DeferLit, Slot, InFrame, InCell, Frame}
 
+-- the names of a frame's locals
 abbrev pub names : Frame → List Name
 names [] = []
 names (b ∷ f) = b.0 ∷ names f
 
+-- the name is among these
 abbrev pub has : Name → List Name → Bool
 has x [] = false
 has x (y ∷ g) = if bytes_eq x y then true else has x g
 
+-- all of these names are among those
 abbrev pub has_all : List Name → List Name → Type 0
 has_all [] g = Unit {0}
 has_all (x ∷ xs) g = (has x g ≡ true) × has_all xs g
 
+-- the local in which a result slot stands, or which points to it
 abbrev pub slot_name : Slot → Name
 slot_name (InFrame x) = x
 slot_name (InCell x) = x
 
+-- all of these slots' locals are among the names
 abbrev pub has_slots : List Slot → List Name → Type 0
 has_slots [] g = Unit {0}
 has_slots (r ∷ rs) g = (has (slot_name r) g ≡ true) × has_slots rs g
@@ -27,6 +32,7 @@ abbrev pub FreeNames : (Name → Type 0) → List Name → List Name → Type 0
 FreeNames Q g [] = Unit {0}
 FreeNames Q g (x ∷ xs) = (has x g ≡ false → Q x) × FreeNames Q g xs
 
+-- Q of each of these slots' locals that isn't among g
 abbrev pub FreeSlots : (Name → Type 0) → List Name → List Slot → Type 0
 FreeSlots Q g [] = Unit {0}
 FreeSlots Q g (r ∷ rs) = (has (slot_name r) g ≡ false → Q (slot_name r)) × FreeSlots Q g rs

@@ -15,12 +15,14 @@ pub data Shown : Type 0 where
   Ended : List Event → Shown
   Panicked : Reason → List Event → Shown
 
+-- what a result shows
 abbrev pub shown : Result → Shown
 shown (Gives v s) = Ended s.out
 shown (Leaves (Gone l) s) = Ended s.out
 shown (Leaves (Panic p) s) = Panicked p s.out
 shown (Cuts o) = Running o
 
+-- the state before a run, with these choices
 abbrev pub start : List ℕ → State
 start choices = record { frame = []; store = empty_store choices; pending = None; defers = []; out = [] }
 

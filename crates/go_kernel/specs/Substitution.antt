@@ -12,6 +12,7 @@ abbrev pub name_of : Term → Name → Name
 name_of (Local z) x = z
 name_of _ x = x
 
+-- the variables that an assignment to these names sets
 abbrev pub names_at : (Name → Term) → List Name → List Name → List Name
 names_at τ g [] = []
 names_at τ g (x ∷ xs) = name_of (at τ g x) x ∷ names_at τ g xs

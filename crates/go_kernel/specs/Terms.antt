@@ -10,6 +10,7 @@ use Rattle.go_kernel.specs.Ops.{Op, Alloc}
 pub data Slot : Type 0 where
   InFrame InCell : Name → Slot
 
+-- the terms of the kernel language
 pub data Term : Type 0 where
   -- these values
   Vals : List Value → Term
@@ -66,6 +67,7 @@ Program = FuncName → Func
 abbrev pub no_func : Func
 no_func = record { params = []; slots = []; zeros = []; body = Vals []; results = [] }
 
+-- the program of these declarations; of several with one name the first counts
 abbrev pub declared : List (FuncName × Func) → Program
 declared [] f = no_func
 declared (d ∷ ds) f = if same_func f d.0 then d.1 else declared ds f

@@ -26,6 +26,7 @@ pub data Value : Type 0 where
   Empty : Value
   With : Value → Value → Value
 
+-- the struct of these fields
 abbrev pub struct_of : List Value → Value
 struct_of [] = Empty
 struct_of (v ∷ vs) = With v (struct_of vs)
@@ -37,6 +38,7 @@ field (suc i) (With v vs) = field i vs
 field zero v = None
 field (suc i) v = None
 
+-- the value with another field or element of this number
 abbrev pub with_field : ℕ → Value → Value → Value
 with_field zero x (With v vs) = With x vs
 with_field (suc i) x (With v vs) = With v (with_field i x vs)
@@ -48,10 +50,12 @@ abbrev pub at_path : List ℕ → Value → Option Value
 at_path [] v = Some v
 at_path (i ∷ is) v = elim (field i v) [ None ↦ None | Some w ↦ at_path is w ]
 
+-- the value with another at a path of fields
 abbrev pub with_path : List ℕ → Value → Value → Value
 with_path [] x v = x
 with_path (i ∷ is) x v = elim (field i v) [ None ↦ v | Some w ↦ with_field i (with_path is x w) v ]
 
+-- the value, or nil where there is none
 abbrev pub or_nil : Option Value → Value
 or_nil None = Nil
 or_nil (Some v) = v
@@ -59,6 +63,7 @@ or_nil (Some v) = v
 -- the type with which a panic's value is reported (Go specification, "Handling panics"); run-time panics have a type of
 -- their own
 mutual
+  -- a type, as it is reported
   pub data PanicType : Type 0 where
     RuntimeError BoolType StringType : PanicType
     NumberType : Kind → PanicType
@@ -72,6 +77,7 @@ mutual
     NoField : FieldTypes
     AndField : Name → Option ImportPath → PanicType → FieldTypes → FieldTypes
 
+-- why a program panics: a value and its type
 pub record Reason : Type 0 where
   pub of : PanicType
   pub value : Value

@@ -8,10 +8,12 @@ use Rattle.go_kernel.specs.Actions.{Attempt, Done, Panics, Change, Outcome, Chan
 
 -- ---- structs
 
+-- the primitive that reads a field of a struct
 abbrev pub field_read : ℕ → List Value → List Value
 field_read i (v ∷ []) = or_nil (field i v) ∷ []
 field_read i _ = []
 
+-- the struct with another value at a path of fields
 abbrev pub field_set : List ℕ → List Value → List Value
 field_set is (v ∷ x ∷ []) = with_path is x v ∷ []
 field_set is _ = []
@@ -23,13 +25,16 @@ with_fields _ _ v = v
 
 -- ---- pointers
 
+-- the panic of a nil pointer
 abbrev pub nil_pointer : Attempt
 nil_pointer = Panics (runtime_error (codes "nil pointer"))
 
+-- what was found behind a pointer, or the panic
 abbrev pub found : Option Value → Attempt
 found None = nil_pointer
 found (Some v) = Done (v ∷ [])
 
+-- the primitive that reads what a pointer leads to
 abbrev pub load : List Value → Memory → Attempt
 load (p ∷ []) c = found (at_pointer p c)
 load _ c = Done []
@@ -45,6 +50,7 @@ abbrev pub assign : List Value → Memory → Change
 assign (p ∷ v ∷ []) c = record { values = []; memory = written p v c; events = [] }
 assign _ c = record { values = []; memory = c; events = [] }
 
+-- a store through a pointer that leads somewhere, or the panic
 abbrev pub save_found : List Value → Memory → Option Value → Outcome
 save_found vs c None = Refuses (runtime_error (codes "nil pointer"))
 save_found vs c (Some old) = Changes (assign vs c)
@@ -54,15 +60,18 @@ abbrev pub save : List Value → Memory → Outcome
 save (p ∷ v ∷ []) c = save_found (p ∷ v ∷ []) c (at_pointer p c)
 save vs c = Changes (assign vs c)
 
+-- the primitive that reads a package variable
 abbrev pub read_global : ImportPath → Name → Memory → List Value
 read_global p n c = or_nil (global_in p n c.globals) ∷ []
 
 -- ---- new variables
 
+-- the first value
 abbrev pub first : List Value → Value
 first [] = Nil
 first (v ∷ vs) = v
 
+-- the primitive that makes a new variable with a value
 abbrev pub alloc : List Value → Memory → Change
 alloc vs c =
     record {

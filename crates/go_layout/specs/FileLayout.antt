@@ -18,6 +18,7 @@ abbrev pub quoted_byte : ℕ → List ℕ
 quoted_byte byte =
     if is_plain byte then byte ∷ [] else codes "\\x" ++ digit_char (byte / 16) ∷ digit_char (byte % 16) ∷ []
 
+-- bytes as they stand between double quotes
 abbrev pub quoted_bytes : List ℕ → List ℕ
 quoted_bytes [] = []
 quoted_bytes (byte ∷ bytes) = quoted_byte byte ++ quoted_bytes bytes
@@ -32,11 +33,13 @@ specs_indent false = []
 specs_indent true = deeper []
 
 module _ {A : Type 0} where
+  -- the parenthesis that opens a group, and the line on which its first spec stands
   abbrev pub opening : Bool → List A → Layout
   opening false xs = no_text
   opening true [] = op (codes "(")
   opening true (x ∷ xs) = op (codes "(") ⊕ line false (specs_indent true)
 
+  -- the parenthesis that ends a group, on a line of its own where there are specs
   abbrev pub closing : Bool → List A → Layout
   closing false xs = no_text
   closing true [] = op (codes ")")
@@ -47,10 +50,12 @@ module _ {A : Type 0} where
   line_before indent [] = no_text
   line_before indent (x ∷ xs) = line true indent
 
+  -- the specs of a declaration, each on a line of its own
   abbrev pub lines_layout : (A → Layout) → List ℕ → List A → Layout
   lines_layout entry indent [] = no_text
   lines_layout entry indent (x ∷ xs) = entry x ⊕ line_before indent xs ⊕ lines_layout entry indent xs
 
+  -- the specs of a declaration, within parentheses where it is a group
   abbrev pub group_layout : (A → Layout) → Bool → List A → Layout
   group_layout entry grouped xs =
       opening grouped xs ⊕ lines_layout entry (specs_indent grouped) xs ⊕ closing grouped xs
@@ -71,12 +76,15 @@ pointer_layout false = no_text
 pointer_layout true = op (codes "*")
 
 module _ {S : Type 0} where
+  -- `name "path"`
   abbrev pub import_spec_layout : ImportSpec S → Layout
   import_spec_layout s = param_name_layout s.name ⊕ a_token Str (path_spelling s.path)
 
+  -- an import declaration
   abbrev pub import_layout : ImportDecl S → Layout
   import_layout d = key (codes "import") ⊕ gap ⊕ group_layout import_spec_layout d.grouped d.specs
 
+  -- `T int`, or `T = int` where it is an alias
   abbrev pub type_spec_layout : TypeSpec S → Layout
   type_spec_layout s = name_layout s.name ⊕ alias_layout s.alias ⊕ type_layout s.of
 
@@ -86,17 +94,20 @@ module _ {S : Type 0} where
   receiver_layout (Some r) =
       op (codes "(") ⊕ param_name_layout r.name ⊕ pointer_layout r.pointer ⊕ name_layout r.of ⊕ op (codes ")") ⊕ gap
 
+  -- a function or a method
   abbrev pub func_layout : Func S → Layout
   func_layout f =
       key (codes "func") ⊕ gap ⊕ receiver_layout f.receiver ⊕ name_layout f.name ⊕ sig_layout f.sig ⊕ gap
       ⊕ block_layout [] f.body
 
+  -- a declaration
   abbrev pub declaration_layout : Decl S → Layout
   declaration_layout (values s) = stmt_layout [] false s
   declaration_layout (types _ grouped specs) =
       key (codes "type") ⊕ gap ⊕ group_layout type_spec_layout grouped specs
   declaration_layout (func f) = func_layout f
 
+  -- a file: the package clause, the imports and the declarations
   abbrev pub file_layout : File S → Layout
   file_layout f =
       key (codes "package") ⊕ gap ⊕ name_layout f.package_name ⊕ line true []

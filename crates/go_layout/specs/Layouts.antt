@@ -23,12 +23,15 @@ text_of gap = 32 ∷ []
 text_of (line ends indent) = 10 ∷ indent
 text_of (a ⊕ b) = text_of a ++ text_of b
 
+-- a keyword
 abbrev pub key : List ℕ → Layout
 key spelling = a_token Keyword spelling
 
+-- an operator
 abbrev pub op : List ℕ → Layout
 op spelling = a_token Operator spelling
 
+-- a name
 abbrev pub name_layout : {S : Type 0} → NameAt S → Layout
 name_layout n = a_token Ident n.name
 

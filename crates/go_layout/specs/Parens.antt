@@ -45,6 +45,7 @@ module _ {S : Type 0} where
   is_integer (int_lit _ _) = true
   is_integer _ = false
 
+  -- the operator would be read as one with that in front of its operand
   abbrev pub runs_into : UnOp → Expr S → Bool
   runs_into op (unary _ inner _) = is_one_operator op inner
   runs_into op _ = false

@@ -15,6 +15,7 @@ use Rattle.go_words.specs.Operators.{binary_spelling, unary_spelling, assign_spe
 use Rattle.go_layout.specs.TypeLayout.{names_layout, type_layout, sig_layout}
 use Rattle.go_layout.specs.Parens.{needs_parens, is_integer, runs_into, last_ends_in_integer, header_within, closed_within}
 
+-- an operator with a blank before and behind it
 abbrev pub spaced : List ℕ → Layout
 spaced spelling = gap ⊕ op spelling ⊕ gap
 
@@ -23,6 +24,7 @@ abbrev pub end_line : Bool → Option (List ℕ) → Layout
 end_line ends None = no_text
 end_line ends (Some indent) = line ends indent
 
+-- `++`, or `--`
 abbrev pub step_spelling : Bool → List ℕ
 step_spelling true = codes "++"
 step_spelling false = codes "--"
@@ -32,10 +34,12 @@ abbrev pub spec_indent : Bool → List ℕ → List ℕ
 spec_indent false indent = indent
 spec_indent true indent = deeper indent
 
+-- the indent of the line after the last spec of a group
 abbrev pub group_end : Bool → List ℕ → Option (List ℕ)
 group_end false indent = None
 group_end true indent = Some indent
 
+-- a blank, where that is asked for
 abbrev pub gap_where : Bool → Layout
 gap_where true = gap
 gap_where false = no_text
@@ -46,10 +50,12 @@ closes Whole = false
 closes _ = true
 
 module _ {S : Type 0} where
+  -- the comma before further expressions
   abbrev pub comma_before_exprs : Exprs S → Layout
   comma_before_exprs no_exprs = no_text
   comma_before_exprs (expr_and _ _) = op (codes ",") ⊕ gap
 
+  -- the comma before further elements
   abbrev pub comma_before_elems : Elems S → Layout
   comma_before_elems no_elems = no_text
   comma_before_elems (elem _ _ _ _) = op (codes ",") ⊕ gap
@@ -64,18 +70,22 @@ module _ {S : Type 0} where
   closed_before closed no_exprs = closed
   closed_before closed (expr_and _ _) = true
 
+  -- whether a comma follows: further elements do
   abbrev pub comma_follows : Elems S → Bool
   comma_follows no_elems = false
   comma_follows (elem _ _ _ _) = true
 
+  -- `else` before a further arm
   abbrev pub else_before : Arms S → Layout
   else_before no_arms = no_text
   else_before (arm _ _ _ _ _ _) = gap ⊕ key (codes "else") ⊕ gap
 
+  -- the label of a `break` or `continue`
   abbrev pub label_layout : Option (NameAt S) → Layout
   label_layout None = no_text
   label_layout (Some n) = gap ⊕ name_layout n
 
+  -- the type of a spec
   abbrev pub spec_type_layout : Option (TypeExpr S) → Layout
   spec_type_layout None = no_text
   spec_type_layout (Some t) = gap ⊕ type_layout t
@@ -91,6 +101,7 @@ module _ {S : Type 0} where
   stmt_end indent end ends no_stmts = end_line ends end
   stmt_end indent end ends (stmt_and _ _) = line ends indent
 
+  -- the newline after a spec, which others or the end of the group follow
   abbrev pub spec_end : List ℕ → Option (List ℕ) → ValueSpecs S → Layout
   spec_end indent end no_specs = end_line true end
   spec_end indent end (spec _ _ _ _ _) = line true indent
@@ -105,10 +116,12 @@ module _ {S : Type 0} where
   block_start indent no_stmts = no_text
   block_start indent (stmt_and _ _) = line false (deeper indent)
 
+  -- the newline before the specs of a group
   abbrev pub group_start : List ℕ → ValueSpecs S → Layout
   group_start indent no_specs = no_text
   group_start indent (spec _ _ _ _ _) = line false (deeper indent)
 
+  -- the newline before the clauses of a `switch`
   abbrev pub clauses_start : List ℕ → Cases S → Layout
   clauses_start indent no_cases = no_text
   clauses_start indent (case _ _ _ _) = line false indent
@@ -127,10 +140,12 @@ module _ {S : Type 0} where
   gap_before no_exprs = no_text
   gap_before (expr_and _ _) = gap
 
+  -- `=` before the values of a spec
   abbrev pub equals_before : Exprs S → Layout
   equals_before no_exprs = no_text
   equals_before (expr_and _ _) = spaced (codes "=")
 
+  -- `case`, or `default` where there are no expressions
   abbrev pub case_word : Exprs S → Layout
   case_word no_exprs = key (codes "default")
   case_word (expr_and _ _) = key (codes "case") ⊕ gap
@@ -199,10 +214,12 @@ module _ {S : Type 0} where
     elems_layout i (elem _ k v es) =
         key_layout i k ⊕ value_layout i (comma_follows es) v ⊕ comma_before_elems es ⊕ elems_layout i es
 
+    -- `k: `
     pub key_layout : List ℕ → ValueOption S → Layout
     key_layout i no_value = no_text
     key_layout i (some_value v) = value_layout i false v ⊕ op (codes ":") ⊕ gap
 
+    -- an element's value, or its elements in braces
     pub value_layout : List ℕ → Bool → Value S → Layout
     value_layout i c (plain e) =
         let p = needs_parens 1 false c e in within p (expr_layout i (header_within p false) (closed_within p c) e)
@@ -276,6 +293,7 @@ module _ {S : Type 0} where
         (expr_layout i (header_within p true) (closed_within p false) t) ⊕ gap
         ⊕ in_braces i body (stmts_layout (deeper i) (Some i) body) ⊕ else_before arms ⊕ arms_layout i arms
 
+    -- the last block of an `if`, behind `else`
     pub last_layout : List ℕ → BlockOption S → Layout
     last_layout i no_block = no_text
     last_layout i (some_block _ body) =
@@ -306,8 +324,10 @@ module _ {S : Type 0} where
   operand_layout i level h c e =
       let p = needs_parens level h c e in within p (expr_layout i (header_within p h) (closed_within p c) e)
 
+  -- a block
   abbrev pub block_layout : List ℕ → Stmts S → Layout
   block_layout i body = in_braces i body (stmts_layout (deeper i) (Some i) body)
 
+  -- what stands behind `const` or `var`
   abbrev pub decl_layout : List ℕ → Bool → ValueSpecs S → Layout
   decl_layout i grouped ss = in_group i grouped ss (specs_layout (spec_indent grouped i) (group_end grouped i) ss)

@@ -19,6 +19,7 @@ module _ {S : Type 0} where
   names_layout [] = no_text
   names_layout (n ∷ ns) = name_layout n ⊕ comma_before ns ⊕ names_layout ns
 
+  -- `p.`
   abbrev pub qualifier_layout : Option (NameAt S) → Layout
   qualifier_layout None = no_text
   qualifier_layout (Some p) = name_layout p ⊕ op (codes ".")
@@ -30,6 +31,7 @@ module _ {S : Type 0} where
 
   -- `T`, `p.T`, `*T`, `[]T`, `map[K]V`, `struct{a int; b T}`
   abbrev mutual
+    -- the layout of a type
     pub type_layout : TypeExpr S → Layout
     type_layout (named _ p n) = qualifier_layout p ⊕ name_layout n
     type_layout (pointer _ t) = op (codes "*") ⊕ type_layout t
@@ -37,10 +39,12 @@ module _ {S : Type 0} where
     type_layout (map_type _ k t) = key (codes "map") ⊕ op (codes "[") ⊕ type_layout k ⊕ op (codes "]") ⊕ type_layout t
     type_layout (struct_type _ fs) = key (codes "struct") ⊕ op (codes "{") ⊕ fields_layout fs ⊕ op (codes "}")
 
+    -- the fields of a struct, with semicolons between them
     pub fields_layout : Fields S → Layout
     fields_layout no_fields = no_text
     fields_layout (field _ n t fs) = name_layout n ⊕ gap ⊕ type_layout t ⊕ field_end fs ⊕ fields_layout fs
 
+  -- a name and a blank, where there is a name
   abbrev pub param_name_layout : Option (NameAt S) → Layout
   param_name_layout None = no_text
   param_name_layout (Some n) = name_layout n ⊕ gap
@@ -54,6 +58,7 @@ module _ {S : Type 0} where
   param_list_layout [] = no_text
   param_list_layout (p ∷ ps) = param_layout p ⊕ comma_before ps ⊕ param_list_layout ps
 
+  -- parameters in their parentheses
   abbrev pub params_layout : List (Param S) → Layout
   params_layout ps = op (codes "(") ⊕ param_list_layout ps ⊕ op (codes ")")
 
@@ -68,5 +73,6 @@ module _ {S : Type 0} where
   results_layout (p ∷ []) = gap ⊕ result_layout p.name p
   results_layout (p ∷ q ∷ ps) = gap ⊕ params_layout (p ∷ q ∷ ps)
 
+  -- a signature: parameters and results
   abbrev pub sig_layout : Sig S → Layout
   sig_layout g = params_layout g.params ⊕ results_layout g.results

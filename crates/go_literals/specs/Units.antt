@@ -11,6 +11,7 @@ abbrev pub escape_size_by : ℕ → ℕ
 escape_size_by c =
     if is_octal c then 3 else (if nat_eq c 120 then 3 else (if nat_eq c 117 then 5 else (if nat_eq c 85 then 9 else 1)))
 
+-- how many characters an escape has, without its backslash
 abbrev pub escape_size : List ℕ → ℕ
 escape_size cs = escape_size_by (slice_index cs 0)
 
@@ -24,6 +25,7 @@ escape_code (c ∷ cs) =
     else (if nat_eq c 85 then digits_in 16 0 (take 8 cs)
     else letter_escape c)))
 
+-- the number of the rune that stands between the quotes: of an escape, or of the character
 abbrev pub rune_inside : List ℕ → ℕ
 rune_inside cs = if nat_eq (slice_index cs 0) 92 then escape_code (drop 1 cs) else slice_index (chars cs) 0
 

@@ -20,5 +20,6 @@ module _ {S : Type 0} (env : Environment S) where
   abbrev pub constant_value : Expr S → Option ℕ
   constant_value e = value_within (length env) e
 
+  -- the expression has a value
   abbrev pub has_value : Expr S → Bool
   has_value e = is_some (constant_value e)

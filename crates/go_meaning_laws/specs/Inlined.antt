@@ -27,6 +27,7 @@ module _ {S : Type 0} (env : Environment S) where
     operand : {s s' : S} {f : Expr S} {es es' : Exprs S} {rest : Rest} → InExprs es es' →
         InStmt (eval s (call s' f es rest)) (eval s (call s' f es' rest))
 
+  -- in one statement of a list
   pub data InStmts : Stmts S → Stmts S → Type 0 where
     first : {s s' : Stmt S} {ss : Stmts S} → InStmt s s' → InStmts (stmt_and s ss) (stmt_and s' ss)
     later : {s : Stmt S} {ss ss' : Stmts S} → InStmts ss ss' → InStmts (stmt_and s ss) (stmt_and s ss')
@@ -44,10 +45,12 @@ module _ {S : Type 0} (env : Environment S) where
         InDecl (values (const_decl s grouped specs)) (values (const_decl s grouped specs'))
     body : (f : Func S) {ss : Stmts S} → InStmts f.body ss → InDecl (func f) (func (record f { body = ss }))
 
+  -- in one of the declarations of a file
   pub data InDecls : List (Decl S) → List (Decl S) → Type 0 where
     first : {d d' : Decl S} {ds : List (Decl S)} → InDecl d d' → InDecls (d ∷ ds) (d' ∷ ds)
     later : {d : Decl S} {ds ds' : List (Decl S)} → InDecls ds ds' → InDecls (d ∷ ds) (d ∷ ds')
 
+  -- in one of the files of a package
   pub data InFiles : List (SourceTree S) → List (SourceTree S) → Type 0 where
     first : (f : SourceTree S) {ds : List (Decl S)} {fs : List (SourceTree S)} → InDecls f.tree.decls ds →
         InFiles (f ∷ fs) (record f { tree = record f.tree { decls = ds } } ∷ fs)
@@ -62,9 +65,11 @@ module _ {S : Type 0} where
 
 -- ---- without spans
 
+-- a source file without spans
 abbrev pub bare_source : {S : Type 0} → SourceTree S → SourceTree (Unit {0})
 bare_source f = record { path = f.path; tree = bare_file f.tree }
 
+-- a package without spans
 abbrev pub bare_package : {S : Type 0} → Package S → Package (Unit {0})
 bare_package p = record { path = p.path; name = p.name; files = map bare_source p.files }
 

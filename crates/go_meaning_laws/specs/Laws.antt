@@ -19,6 +19,7 @@ InlinedShowsTheSame = (P P' : Packages Span) → Inlined P P' → (Q : List (Pac
     → (main : ImportPath) (choices : List ℕ) (n : ℕ) →
     shown_by (with_further P' Q) main choices n ≡ shown_by (with_further P Q) main choices n
 
+-- a step keeps the meaning
 abbrev pub InlinedMeansTheSame : Type 0
 InlinedMeansTheSame = (P P' : Packages Span) → Inlined P P' → SameMeaning P P'
 

@@ -6,11 +6,13 @@ use Rattle.go_tree.specs.Tree.{Expr, no_exprs, expr_and, ValueSpecs, no_specs, s
 use Rattle.go_tree.specs.File.{Func, Decl, values, func}
 use Rattle.go_meaning_laws.specs.Package.{SourceTree, Package}
 
+-- what a name means: a constant with its expression, a function, or what is predeclared
 pub data Entity (S : Type 0) : Type 0 where
   constant : Expr S → Entity S
   function : Func S → Entity S
   predeclared : List ℕ → Entity S
 
+-- names with what they mean, innermost first
 abbrev pub Environment : Type 0 → Type 0
 Environment S = List (List ℕ × Entity S)
 
@@ -33,10 +35,12 @@ module _ {S : Type 0} where
   decls_then (func f ∷ ds) rest = (f.name.name, function f) ∷ decls_then ds rest
   decls_then (d ∷ ds) rest = decls_then ds rest
 
+  -- what the files of a package declare, before what follows
   abbrev pub files_then : List (SourceTree S) → Environment S → Environment S
   files_then [] rest = rest
   files_then (f ∷ fs) rest = decls_then f.tree.decls (files_then fs rest)
 
+  -- what a package declares
   abbrev pub package_block : Package S → Environment S
   package_block p = files_then p.files []
 
@@ -49,6 +53,7 @@ module _ {S : Type 0} where
   means [] name = None
   means (x ∷ xs) name = if bytes_eq x.0 name then Some x.1 else means xs name
 
+  -- the expression of a constant
   abbrev pub expression_of : Option (Entity S) → Option (Expr S)
   expression_of (Some (constant e)) = Some e
   expression_of x = None

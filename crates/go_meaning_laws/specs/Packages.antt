@@ -11,6 +11,7 @@ pub record Packages (S : Type 0) : Type 0 where
   pub marked : List FuncName
 
 module _ {S : Type 0} where
+  -- the package has this import path
   abbrev pub has_path : ImportPath → Package S → Bool
   has_path path p = same_text p.path path
 
@@ -23,9 +24,11 @@ module _ {S : Type 0} where
   have_distinct_paths [] = true
   have_distinct_paths (p ∷ ps) = not (list_any (has_path p.path) ps) && have_distinct_paths ps
 
+  -- each package is well typed, and no two have one path
   abbrev pub are_well_typed : List (Package S) → Bool
   are_well_typed ps = have_distinct_paths ps && list_all well_typed ps
 
+  -- the packages are well typed
   abbrev pub WellTyped : Packages S → Type 0
   WellTyped P = IsTrue (are_well_typed P.members)
 

@@ -12,6 +12,7 @@ use Rattle.go_meaning_laws.specs.Constants.{constant_value}
 use Rattle.go_meaning_laws.specs.Typing.{has_no_signature}
 use Rattle.go_meaning_laws.specs.Packages.{Packages}
 
+-- what has no meaning in this language does nothing
 abbrev pub no_rule : Term
 no_rule = Vals []
 
@@ -39,19 +40,23 @@ module _ {S : Type 0} (env : Environment S) where
 
   -- ---- statements
 
+  -- a call as a statement, of what its name means
   abbrev pub stmt_term : Stmt S → Term
   stmt_term (eval _ (call _ (ident _ name) args _)) = call_term (means env name) (exprs_term args)
   stmt_term s = no_rule
 
+  -- statements one after the other
   abbrev pub stmts_term : Stmts S → Term
   stmts_term no_stmts = Vals []
   stmts_term (stmt_and s ss) = Let [] (stmt_term s) (stmts_term ss)
 
   -- ---- declarations
 
+  -- a function without parameters and results
   abbrev pub func_code : file.Func S → Func
   func_code f = record { params = []; slots = []; zeros = []; body = stmts_term f.body; results = [] }
 
+  -- the function that a declaration declares, if it is one
   abbrev pub decl_functions : ImportPath → file.Decl S → List (FuncName × Func)
   decl_functions home (file.func f) =
       if has_no_signature env f then (record { home = home; receiver = None; name = f.name.name }, func_code f) ∷ []
@@ -62,18 +67,22 @@ module _ {S : Type 0} (env : Environment S) where
   abbrev pub decl_initial : file.Decl S → Term
   decl_initial d = Vals []
 
+  -- the functions that declarations declare
   abbrev pub decls_functions : ImportPath → List (file.Decl S) → List (FuncName × Func)
   decls_functions home [] = []
   decls_functions home (d ∷ ds) = decl_functions home d ++ decls_functions home ds
 
+  -- what declarations do before `main` runs, one after the other
   abbrev pub decls_initial : List (file.Decl S) → Term → Term
   decls_initial [] rest = rest
   decls_initial (d ∷ ds) rest = Let [] (decl_initial d) (decls_initial ds rest)
 
+  -- the functions of a package's files
   abbrev pub files_functions : ImportPath → List (SourceTree S) → List (FuncName × Func)
   files_functions home [] = []
   files_functions home (f ∷ fs) = decls_functions home f.tree.decls ++ files_functions home fs
 
+  -- what a package's files do before `main` runs
   abbrev pub files_initial : List (SourceTree S) → Term
   files_initial [] = Vals []
   files_initial (f ∷ fs) = decls_initial f.tree.decls (files_initial fs)
@@ -86,6 +95,7 @@ pub record PackageCode : Type 0 where
   pub initial : Term
   pub functions : List (FuncName × Func)
 
+-- what a package is in the kernel
 abbrev pub package_code : {S : Type 0} → Package S → PackageCode
 package_code p =
     record {
@@ -100,10 +110,12 @@ comes_first [] b = true
 comes_first (x ∷ xs) [] = false
 comes_first (x ∷ xs) (y ∷ ys) = if nat_eq x y then comes_first xs ys else nat_lt x y
 
+-- a package put in its place among others in the order of their paths
 abbrev pub inserted : PackageCode → List PackageCode → List PackageCode
 inserted c [] = c ∷ []
 inserted c (d ∷ ds) = if comes_first c.path d.path then c ∷ d ∷ ds else d ∷ inserted c ds
 
+-- packages in the order of their paths
 abbrev pub in_path_order : List PackageCode → List PackageCode
 in_path_order [] = []
 in_path_order (c ∷ cs) = inserted c (in_path_order cs)
@@ -113,21 +125,26 @@ abbrev pub one_by_one : List PackageCode → Term
 one_by_one [] = Vals []
 one_by_one (c ∷ cs) = Let [] c.initial (one_by_one cs)
 
+-- what packages do before `main` runs, in the order of their paths
 abbrev pub initial_of : List PackageCode → Term
 initial_of cs = one_by_one (in_path_order cs)
 
+-- the functions of packages
 abbrev pub functions_of : List PackageCode → List (FuncName × Func)
 functions_of [] = []
 functions_of (c ∷ cs) = c.functions ++ functions_of cs
 
+-- the kernel program of packages
 abbrev pub program_of : List PackageCode → Program
 program_of cs = declared (functions_of cs)
 
+-- the function `main` of a package
 abbrev pub main_of : ImportPath → FuncName
 main_of home = record { home = home; receiver = None; name = codes "main" }
 
 -- ---- what is shown
 
+-- what the main package with this path shows at a budget
 abbrev pub shown_by_code : List PackageCode → ImportPath → List ℕ → ℕ → Shown
 shown_by_code cs main choices n = shows (program_of cs) (initial_of cs) (main_of main) choices n
 

@@ -14,12 +14,14 @@ pub record IsOverAt (limit : ℕ) (tokens : List Token) (place : ℕ) : Type 0 w
   pub over : limit < slice_index (weights_of tokens) (length front)
   pub place_is : place ≡ token.span.start
 
+-- No token's weight passes the limit, or the first whose weight does starts here.
 abbrev pub IsFirstOver : ℕ → List Token → Option ℕ → Type 0
 IsFirstOver limit tokens None = All (λ weight. weight ≤ limit) (weights_of tokens)
 IsFirstOver limit tokens (Some place) = IsOverAt limit tokens place
 
 -- ---- as it is looked for
 
+-- the counts after a token
 abbrev pub counts_at : Token → List ℕ → List ℕ
 counts_at t counts = counts_after (terminal_of t.kind t.spelling) counts
 

@@ -7,9 +7,11 @@ use Rattle.go_outline.specs.Outline.{Operand, named, number, mark_text, Constant
 use Rattle.go_tree.specs.declared.spans.Span.{Span}
 use Rattle.go_tree.specs.Tree as tree
 
+-- the operand that stands at a place of a text
 abbrev pub operand_in : List ℕ → OperandAt → Operand
 operand_in text a = if a.named then named (slice_range text a.start a.end) else number (slice_range text a.start a.end)
 
+-- the constant that stands at a place of a text
 abbrev pub constant_in : List ℕ → ConstantAt → Constant
 constant_in text c =
     record { marked = c.marked; name = slice_range text c.name_start c.name_end; value = operand_in text c.value }

@@ -7,10 +7,12 @@ use Rattle.go_outline.specs.declared.found.TheConstants.{MAX_OUTLINE_BYTES}
 
 -- what comes of a part that is there
 infixl 10 ◌>>=◌
+-- goes on with an answer, where there is one
 abbrev pub ◌>>=◌ : {A B : Type 0} → Option A → (A → Option B) → Option B
 (Some x) >>= f = f x
 None >>= f = None
 
+-- an answer where the test holds
 abbrev pub check : {A : Type 0} → Bool → A → Option A
 check true x = Some x
 check false x = None
@@ -31,29 +33,35 @@ pub record Part (A : Type 0) : Type 0 where
   pub value : A
   pub rest : List ℕ
 
+-- the letters and digits at the front
 unfoldable pub word : List ℕ → Part (List ℕ)
 word text = record { value = take (word_length text) text; rest = drop (word_length text) text }
 
+-- the operand that bytes are, if they are one
 abbrev pub operand_of : List ℕ → Option Operand
 operand_of bytes = if is_name bytes then Some (named bytes) else check (is_number bytes) (number bytes)
 
+-- an operand at the front
 unfoldable pub read_operand : List ℕ → Option (Part Operand)
 read_operand text = do
   a ← operand_of (word text).value
   Some (record { value = a; rest = (word text).rest })
 
+-- whether the line of a mark stands at the front
 unfoldable pub read_mark : List ℕ → Part Bool
 read_mark text = elim (after (codes "//go:fix inline\n") text) [
   | Some rest ↦ record { value = true; rest = rest }
   | None ↦ record { value = false; rest = text }
 ]
 
+-- the rest of a constant behind its value, where its parts are good
 abbrev pub read_constant_end : Bool → List ℕ → Part Operand → Option (Part Constant)
 read_constant_end marked name value = do
   rest ← after (codes "\n\n") value.rest
   check (is_constant (record { marked = marked; name = name; value = value.value }))
       (record { value = record { marked = marked; name = name; value = value.value }; rest = rest })
 
+-- a constant from its keyword on
 unfoldable pub read_unmarked : Bool → List ℕ → Option (Part Constant)
 read_unmarked marked text = do
   named_from ← after (codes "const ") text
@@ -61,6 +69,7 @@ read_unmarked marked text = do
   value ← read_operand value_from
   read_constant_end marked (word named_from).value value
 
+-- a constant at the front, with its mark
 abbrev pub read_constant : List ℕ → Option (Part Constant)
 read_constant text = read_unmarked (read_mark text).value (read_mark text).rest
 
@@ -75,6 +84,7 @@ read_constants (suc n) text = elim (after (codes "func main() {\n") text) [
     Some (record { value = c.value ∷ cs.value; rest = cs.rest })
 ]
 
+-- a line that prints at the front
 unfoldable pub read_print : List ℕ → Option (Part Operand)
 read_print text = do
   from ← after (codes "\tprintln(") text
@@ -93,6 +103,7 @@ read_prints (suc n) text = elim (after (codes "}\n") text) [
     Some (a.value ∷ as')
 ]
 
+-- the outline of a whole text
 abbrev pub read_file : List ℕ → Option Outline
 read_file text = do
   constants_from ← after (codes "package main\n\n") text

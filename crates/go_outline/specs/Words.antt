@@ -8,6 +8,7 @@ unfoldable pub is_identifier : List ℕ → Bool
 is_identifier [] = false
 is_identifier (b ∷ bs) = is_ascii_alphabetic b && list_all is_ascii_alphanumeric bs
 
+-- Go specification, Keywords
 abbrev pub keywords : List (List ℕ)
 keywords =
     codes "break" ∷ codes "case" ∷ codes "chan" ∷ codes "const" ∷ codes "continue" ∷ codes "default" ∷
@@ -16,6 +17,7 @@ keywords =
     codes "range" ∷ codes "return" ∷ codes "select" ∷ codes "struct" ∷ codes "switch" ∷ codes "type" ∷
     codes "var" ∷ []
 
+-- one of the keywords
 unfoldable pub is_keyword : List ℕ → Bool
 is_keyword bytes = list_any (λ word. bytes_eq word bytes) keywords
 
@@ -29,6 +31,7 @@ predeclared =
     codes "append" ∷ codes "cap" ∷ codes "copy" ∷ codes "delete" ∷ codes "len" ∷ codes "make" ∷ codes "new" ∷
     codes "panic" ∷ codes "print" ∷ codes "println" ∷ []
 
+-- one of the predeclared identifiers
 unfoldable pub is_predeclared : List ℕ → Bool
 is_predeclared bytes = list_any (λ word. bytes_eq word bytes) predeclared
 

@@ -52,6 +52,7 @@ grouped_import_at whole ts =
     option_and_then (λ x. Some (record { span = span_to whole x.1; grouped = true; specs = x.0 }, x.1))
     (closed (at span_to read_import_specs ts))
 
+-- an import declaration without parentheses, as it is read from these tokens
 unfoldable pub single_import_at : Lexemes → Lexemes → Option (ImportDecl Span × Lexemes)
 single_import_at whole ts =
     option_and_then (λ x. Some (record { span = span_to whole x.1; grouped = false; specs = x.0 ∷ [] }, x.1))
@@ -63,10 +64,12 @@ type_after_at whole n alias ts =
     option_and_then (λ x. Some (record { span = span_to whole x.1; name = n; alias = alias; of = x.0 }, x.1))
     (at span_to read_type ts)
 
+-- the types of a group, as they are read from these tokens
 unfoldable pub grouped_types_at : Lexemes → Lexemes → Option (Decl Span × Lexemes)
 grouped_types_at whole ts =
     option_and_then (λ x. Some (types (span_to whole x.1) true x.0, x.1)) (closed (at span_to read_type_specs ts))
 
+-- a declaration of one type, as it is read from these tokens
 unfoldable pub single_type_at : Lexemes → Lexemes → Option (Decl Span × Lexemes)
 single_type_at whole ts =
     option_and_then (λ x. Some (types (span_to whole x.1) false (x.0 ∷ []), x.1)) (at span_to read_type_spec ts)
@@ -89,6 +92,7 @@ unfoldable pub type_decl_at : Lexemes → Option (Decl Span × Lexemes)
 type_decl_at (x ∷ lex b paren ∷ ts) = grouped_types_at (x ∷ lex b paren ∷ ts) ts
 type_decl_at ts = single_type_at ts (rest_of ts)
 
+-- the declaration of a function, or of a method where a parenthesis follows the keyword
 unfoldable pub func_decl_at : Lexemes → Option (Decl Span × Lexemes)
 func_decl_at (x ∷ lex b paren ∷ ts) = method_at (x ∷ lex b paren ∷ ts) ts
 func_decl_at ts = func_at ts None (rest_of ts)
@@ -98,6 +102,7 @@ abbrev pub is_equals : Terminal → Bool
 is_equals (code.Assign None) = true
 is_equals _ = false
 
+-- `*`
 abbrev pub is_star : Terminal → Bool
 is_star (code.Binary Mul) = true
 is_star _ = false

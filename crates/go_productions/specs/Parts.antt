@@ -24,6 +24,7 @@ abbrev pub in_front : {A L : Type 0} → (A → L → L) → List A → Option (
 in_front cons front None = None
 in_front cons front (Some x) = Some (onto cons front x.0, x.1)
 
+-- a field in front of fields
 abbrev pub field_and : Span × NameAt Span × TypeExpr Span → Fields Span → Fields Span
 field_and x fs = field x.0 x.1 x.2 fs
 
@@ -58,6 +59,7 @@ abbrev pub shared : TypeExpr Span → List (Span × NameAt Span) → List (Span 
 shared t [] = []
 shared t (e ∷ es) = (e.0, e.1, t) ∷ shared t es
 
+-- names and the type that they share, as they are read, after these
 abbrev pub shared_read : List (Span × NameAt Span × TypeExpr Span) →
     (TypeExpr Span × List (Span × NameAt Span)) × Lexemes → List (Span × NameAt Span × TypeExpr Span) × Lexemes
 shared_read front x = (front ++ shared x.0.0 x.0.1, x.1)
@@ -67,6 +69,7 @@ abbrev pub shared_onto : List (Span × NameAt Span × TypeExpr Span) → Lexemes
     Option (List (Span × NameAt Span × TypeExpr Span) × Lexemes)
 shared_onto front ts = option_and_then (λ x. Some (shared_read front x)) (at span_to read_entries ts)
 
+-- the parameter that a name and its type are
 abbrev pub param_from : Span × NameAt Span × TypeExpr Span → Param Span
 param_from x = record { span = x.0; name = Some x.1; rest = false; of = x.2 }
 
@@ -76,6 +79,7 @@ rest_here true true (lex s (ident n) ∷ lex d ellipsis ∷ ts) = true
 rest_here true false (lex d ellipsis ∷ ts) = true
 rest_here _ _ _ = false
 
+-- the variadic parameter with this type, with a name or without
 abbrev pub rest_from : Span → Option (NameAt Span) → TypeExpr Span → Param Span
 rest_from s n t = record { span = s; name = n; rest = true; of = t }
 
@@ -109,6 +113,7 @@ abbrev pub begins_after : Option Lexemes → Bool
 begins_after None = false
 begins_after (Some ts) = begins_type (first_of ts)
 
+-- whether the parameters that stand here have names
 abbrev pub has_names : Lexemes → Bool
 has_names ts = begins_after (skipped ts)
 

@@ -24,6 +24,7 @@ abbrev pub rest_of : Lexemes → Lexemes
 rest_of [] = []
 rest_of (x ∷ ts) = ts
 
+-- the bytes of a name or a literal; other terminals have none of their own
 abbrev pub letters_of : pure.Terminal → List ℕ
 letters_of (pure.ident w) = w
 letters_of (pure.int_lit w) = w

@@ -12,6 +12,7 @@ abbrev pub IsLongestFront : Lexemes → Lexemes → Type 0
 IsLongestFront tokens rest = ((f : File Span) × SpellsFront span_to f tokens rest)
     × ((f : File Span) (other : Lexemes) → SpellsFront span_to f tokens other → length rest ≤ length other)
 
+-- No file spells any front of the tokens, so the package clause isn't read.
 abbrev pub HasNoFront : Lexemes → Type 0
 HasNoFront tokens = (f : File Span) (rest : Lexemes) → SpellsFront span_to f tokens rest → ⊥
 

@@ -56,6 +56,7 @@ pub data Goal (S : Type 0) : Type 0 where
   read_tops : Goal S
   read_front : Goal S
 
+-- what is answered to each goal; the truth value beside an expression says that no parentheses stand around it
 abbrev pub Answer : {S : Type 0} → Goal S → Type 0
 Answer {S} read_type = TypeExpr S
 Answer {S} read_fields = Fields S

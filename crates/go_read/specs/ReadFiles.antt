@@ -11,6 +11,7 @@ use Rattle.go_read.specs.Goals.{read_type, read_sig, read_block, read_decl, read
 use Rattle.go_read.specs.Programs.{Program, give, fail, ask, look, unless, after_end_paren}
 
 module _ {S : Type 0} (mark : Lexemes → Lexemes → S) where
+  -- an import: a name, if any, and the path
   unfoldable pub import_spec_step : Lexemes → Program S (ImportSpec S)
   import_spec_step (lex s (str_lit p) ∷ r) =
       give (record { span = mark (lex s (str_lit p) ∷ r) r; name = None; path = text_value p }) r
@@ -22,15 +23,18 @@ module _ {S : Type 0} (mark : Lexemes → Lexemes → S) where
       }) r
   import_spec_step _ = fail
 
+  -- behind an import of a group: a semicolon and further ones, or the end
   abbrev pub import_specs_after : ImportSpec S → Lexemes → Program S (List (ImportSpec S))
   import_specs_after x (lex _ semicolon ∷ ts) = ask read_import_specs ts (λ xs r. give (x ∷ xs) r)
   import_specs_after x (lex c end_paren ∷ ts) = give (x ∷ []) (lex c end_paren ∷ ts)
   import_specs_after x _ = fail
 
+  -- the imports of a group, up to before its closing parenthesis
   unfoldable pub import_specs_step : Lexemes → Program S (List (ImportSpec S))
   import_specs_step (lex c end_paren ∷ ts) = give [] (lex c end_paren ∷ ts)
   import_specs_step ts = ask read_import_spec ts (λ x r. import_specs_after x r)
 
+  -- an import declaration: a group, or one import
   unfoldable pub import_step : Lexemes → Program S (ImportDecl S)
   import_step (lex s key_import ∷ lex b paren ∷ ts) =
       ask read_import_specs ts
@@ -41,6 +45,7 @@ module _ {S : Type 0} (mark : Lexemes → Lexemes → S) where
       (λ x r. give (record { span = mark (lex s key_import ∷ ts) r; grouped = false; specs = x ∷ [] }) r)
   import_step _ = fail
 
+  -- the declaration of a type: an alias with `=`, else a defined type
   unfoldable pub type_spec_step : Lexemes → Program S (TypeSpec S)
   type_spec_step (lex s (ident n) ∷ lex c (assign None) ∷ ts) =
       ask read_type ts
@@ -57,15 +62,18 @@ module _ {S : Type 0} (mark : Lexemes → Lexemes → S) where
       (record { span = mark (lex s (ident n) ∷ ts) r; name = name_here mark s n ts; alias = false; of = t }) r)
   type_spec_step _ = fail
 
+  -- behind a type of a group: a semicolon and further ones, or the end
   abbrev pub type_specs_after : TypeSpec S → Lexemes → Program S (List (TypeSpec S))
   type_specs_after x (lex _ semicolon ∷ ts) = ask read_type_specs ts (λ xs r. give (x ∷ xs) r)
   type_specs_after x (lex c end_paren ∷ ts) = give (x ∷ []) (lex c end_paren ∷ ts)
   type_specs_after x _ = fail
 
+  -- the types of a group, up to before its closing parenthesis
   unfoldable pub type_specs_step : Lexemes → Program S (List (TypeSpec S))
   type_specs_step (lex c end_paren ∷ ts) = give [] (lex c end_paren ∷ ts)
   type_specs_step ts = ask read_type_spec ts (λ x r. type_specs_after x r)
 
+  -- a receiver: a name, if any, a star, if any, and the name of its type
   unfoldable pub receiver_step : Lexemes → Program S (Receiver S)
   receiver_step (lex c (ident x) ∷ lex p (binary_op Mul) ∷ lex s (ident n) ∷ r) =
       give (record {
@@ -108,6 +116,7 @@ module _ {S : Type 0} (mark : Lexemes → Lexemes → S) where
       r))
   func_step whole v _ = fail
 
+  -- a declaration at the top of a file
   unfoldable pub top_step : Lexemes → Program S (Decl S)
   top_step (lex s key_const ∷ ts) =
       ask (read_decl true) ts (λ x r. give (values (const_decl (mark (lex s key_const ∷ ts) r) x.0 x.1)) r)
@@ -128,16 +137,20 @@ module _ {S : Type 0} (mark : Lexemes → Lexemes → S) where
   imports_after whole (Some (d, lex _ semicolon ∷ ts)) = ask read_imports ts (λ ds r. give (d ∷ ds) r)
   imports_after whole _ = give [] whole
 
+  -- import declarations as long as whole ones follow
   unfoldable pub imports_step : Lexemes → Program S (List (ImportDecl S))
   imports_step ts = look read_import ts (λ o. imports_after ts o)
 
+  -- behind a declaration: a semicolon and further ones, or the end of the front
   abbrev pub tops_after : Lexemes → Option (Decl S × Lexemes) → Program S (List (Decl S))
   tops_after whole (Some (d, lex _ semicolon ∷ ts)) = ask read_tops ts (λ ds r. give (d ∷ ds) r)
   tops_after whole _ = give [] whole
 
+  -- declarations as long as whole ones follow
   unfoldable pub tops_step : Lexemes → Program S (List (Decl S))
   tops_step ts = look read_top ts (λ o. tops_after ts o)
 
+  -- a package clause, whole imports and whole declarations
   unfoldable pub front_step : Lexemes → Program S (File S)
   front_step (lex s key_package ∷ lex c (ident n) ∷ lex d semicolon ∷ ts) =
       unless (is_blank n)

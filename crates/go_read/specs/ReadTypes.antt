@@ -8,6 +8,7 @@ use Rattle.go_read.specs.Goals.{read_type, read_fields, read_entries, read_named
 use Rattle.go_read.specs.Programs.{Program, give, fail, ask, look, after_end_brace, after_end_bracket, after_end_paren}
 
 module _ {S : Type 0} (mark : Lexemes → Lexemes → S) where
+  -- a type, by its first tokens
   unfoldable pub type_step : Lexemes → Program S (TypeExpr S)
   type_step (lex s (ident p) ∷ lex d dot ∷ lex s2 (ident n) ∷ r) =
       give (named (mark (lex s (ident p) ∷ lex d dot ∷ lex s2 (ident n) ∷ r) r)
@@ -27,15 +28,18 @@ module _ {S : Type 0} (mark : Lexemes → Lexemes → S) where
   type_step (lex s paren ∷ ts) = ask read_type ts (λ t r. after_end_paren r (λ r. give t r))
   type_step _ = fail
 
+  -- behind fields that share a type: a semicolon and further ones, or the end
   abbrev pub fields_after : TypeExpr S × List (S × NameAt S) → Lexemes → Program S (Fields S)
   fields_after x (lex _ semicolon ∷ ts) = ask read_fields ts (λ fs r. give (fields_of x.1 x.0 fs) r)
   fields_after x (lex c end_brace ∷ ts) = give (fields_of x.1 x.0 no_fields) (lex c end_brace ∷ ts)
   fields_after x _ = fail
 
+  -- the fields of a struct, up to before its closing brace
   unfoldable pub fields_step : Lexemes → Program S (Fields S)
   fields_step (lex c end_brace ∷ ts) = give no_fields (lex c end_brace ∷ ts)
   fields_step ts = ask read_entries ts (λ x r. fields_after x r)
 
+  -- names that share a type, and the type; each entry reaches to the type's end
   unfoldable pub entries_step : Lexemes → Program S (TypeExpr S × List (S × NameAt S))
   entries_step (lex s (ident n) ∷ lex c comma ∷ ts) =
       ask read_entries ts
@@ -56,23 +60,27 @@ module _ {S : Type 0} (mark : Lexemes → Lexemes → S) where
   rest_step whole n ts =
       ask read_type ts (λ t r. rest_after (record { span = mark whole r; name = n; rest = true; of = t }) r)
 
+  -- behind named parameters that share a type: a comma and further ones, or the end
   abbrev pub named_after : Bool → TypeExpr S × List (S × NameAt S) → Lexemes → Program S (List (Param S))
   named_after v x (lex _ end_paren ∷ r) = give (params_of x.1 x.0 []) r
   named_after v x (lex _ comma ∷ lex _ end_paren ∷ r) = give (params_of x.1 x.0 []) r
   named_after v x (lex _ comma ∷ ts) = ask (read_named v) ts (λ ps r. give (params_of x.1 x.0 ps) r)
   named_after v x _ = fail
 
+  -- named parameters; the last one may be variadic where the flag says so
   unfoldable pub named_step : Bool → Lexemes → Program S (List (Param S))
   named_step true (lex s (ident n) ∷ lex d ellipsis ∷ ts) =
       rest_step (lex s (ident n) ∷ lex d ellipsis ∷ ts) (Some (name_here mark s n (lex d ellipsis ∷ ts))) ts
   named_step v ts = ask read_entries ts (λ x r. named_after v x r)
 
+  -- behind the type of a parameter: a comma and further ones, or the end
   abbrev pub unnamed_after : Bool → TypeExpr S → Lexemes → Program S (List (Param S))
   unnamed_after v t (lex _ end_paren ∷ r) = give (unnamed t ∷ []) r
   unnamed_after v t (lex _ comma ∷ lex _ end_paren ∷ r) = give (unnamed t ∷ []) r
   unnamed_after v t (lex _ comma ∷ ts) = ask (read_unnamed v) ts (λ ps r. give (unnamed t ∷ ps) r)
   unnamed_after v t _ = fail
 
+  -- parameters without names; the last one may be variadic where the flag says so
   unfoldable pub unnamed_step : Bool → Lexemes → Program S (List (Param S))
   unnamed_step true (lex d ellipsis ∷ ts) = rest_step (lex d ellipsis ∷ ts) None ts
   unnamed_step v ts = ask read_type ts (λ t r. unnamed_after v t r)
@@ -82,6 +90,7 @@ module _ {S : Type 0} (mark : Lexemes → Lexemes → S) where
   params_either v ts (Some x) = give x.0 x.1
   params_either v ts None = ask (read_unnamed v) ts (λ ps r. give ps r)
 
+  -- parameters in their parentheses
   unfoldable pub params_step : Bool → Lexemes → Program S (List (Param S))
   params_step v (lex _ paren ∷ lex _ end_paren ∷ r) = give [] r
   params_step v (lex _ paren ∷ ts) = look (read_named v) ts (λ o. params_either v ts o)
@@ -94,9 +103,11 @@ module _ {S : Type 0} (mark : Lexemes → Lexemes → S) where
   results_step ps (lex s brace ∷ ts) = give (record { params = ps; results = [] }) (lex s brace ∷ ts)
   results_step ps ts = ask read_type ts (λ t r. give (record { params = ps; results = unnamed t ∷ [] }) r)
 
+  -- a signature: parameters, and results
   unfoldable pub sig_step : Bool → Lexemes → Program S (Sig S)
   sig_step v ts = ask (read_params v) ts (λ ps r. results_step ps r)
 
+  -- names with commas between them
   unfoldable pub names_step : Lexemes → Program S (List (NameAt S))
   names_step (lex s (ident n) ∷ lex c comma ∷ ts) =
       ask read_names ts (λ ns r. give (name_here mark s n (lex c comma ∷ ts) ∷ ns) r)

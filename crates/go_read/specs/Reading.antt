@@ -9,6 +9,7 @@ use Rattle.go_read.specs.ReadStmts.{simple_step, simple_after_step, clause_step,
 use Rattle.go_read.specs.ReadFiles.{import_spec_step, import_specs_step, import_step, type_spec_step, type_specs_step, receiver_step, top_step, imports_step, tops_step, front_step}
 
 module _ {S : Type 0} (mark : Lexemes → Lexemes → S) where
+  -- the step of each goal
   abbrev pub step : (g : Goal S) → Lexemes → Program S (Answer g)
   step read_type ts = type_step mark ts
   step read_fields ts = fields_step mark ts

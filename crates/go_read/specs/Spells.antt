@@ -30,10 +30,12 @@ follows_type (lex _ comma ∷ _) = true
 follows_type (lex _ end_paren ∷ _) = true
 follows_type _ = false
 
+-- a literal of a function
 abbrev pub is_func_lit : {S : Type 0} → Expr S → Bool
 is_func_lit (func_lit _ _ _ _) = true
 is_func_lit _ = false
 
+-- an empty statement
 abbrev pub is_empty : {S : Type 0} → Stmt S → Bool
 is_empty (empty _) = true
 is_empty _ = false
@@ -193,6 +195,8 @@ module _ {S : Type 0} (mark : Lexemes → Lexemes → S) where
       first_rule : {s : Span} {i : StmtOption S} {ts r : Lexemes} → SpellsPart i ts (lex s semicolon ∷ r) →
           SpellsFirst i ts r
 
+    -- Stmt = [ Simple | ( "const" | "var" ) Decl | "return" [ Exprs ] | ( "break" | "continue" ) [ name ] | Block | If
+    -- | For | Switch | "defer" call | name ":" Stmt ]
     pub data SpellsStmt : Stmt S → Lexemes → Lexemes → Type 0 where
       empty_rule : {r : Lexemes} → SpellsStmt (empty (mark r r)) r r
       simple_rule : {x : Stmt S} {ts r : Lexemes} → SpellsSimple false x ts r → SpellsStmt x ts r

@@ -9,6 +9,7 @@ use Rattle.go_tree.specs.declared.operators.BinOp.TheVariants.{Mul}
 use Rattle.go_tree.specs.Tree.{NameAt, TypeExpr, named, pointer, slice_type, map_type, struct_type, Fields, no_fields, field, Param, Sig}
 use Rattle.go_words.specs.Terminals.{Lexeme, lex, ident, binary_op, comma, semicolon, dot, ellipsis, paren, end_paren, bracket, end_bracket, brace, end_brace, key_map, key_struct}
 
+-- the terminals from a place on, each where it stands
 abbrev pub Lexemes : Type 0
 Lexemes = List Lexeme
 
@@ -25,6 +26,7 @@ abbrev pub fields_of : {S : Type 0} → List (S × NameAt S) → TypeExpr S → 
 fields_of [] t more = more
 fields_of (e ∷ es) t more = field e.0 e.1 t (fields_of es t more)
 
+-- an entry for each of the names that share a type, before further parameters
 abbrev pub params_of : {S : Type 0} → List (S × NameAt S) → TypeExpr S → List (Param S) → List (Param S)
 params_of [] t more = more
 params_of (e ∷ es) t more = record { span = e.0; name = Some e.1; rest = false; of = t } ∷ params_of es t more

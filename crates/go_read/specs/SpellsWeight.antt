@@ -3,6 +3,7 @@ use Rattle.std.specs.Prelude.{ℕ, ◌+◌, List, [], ◌∷◌, sum}
 use Rattle.go_tree.specs.declared.tokens.Token.{Token}
 use Rattle.go_words.specs.Terminals.{Terminal, comma, semicolon, paren, end_paren, bracket, end_bracket, brace, end_brace, terminal_of}
 
+-- behind an opening bracket: it counts for the bracket around it, and nothing is counted in it yet
 abbrev pub opened : List ℕ → List ℕ
 opened [] = []
 opened (n ∷ counts) = 0 ∷ (n + 1) ∷ counts
@@ -12,10 +13,12 @@ abbrev pub closed : List ℕ → List ℕ
 closed (n ∷ m ∷ counts) = m ∷ counts
 closed counts = counts
 
+-- behind a comma or a semicolon, which begins the count of the innermost bracket anew
 abbrev pub separated : List ℕ → List ℕ
 separated [] = []
 separated (n ∷ counts) = 0 ∷ counts
 
+-- behind any other token, which counts for the innermost bracket
 abbrev pub counted : List ℕ → List ℕ
 counted [] = []
 counted (n ∷ counts) = (n + 1) ∷ counts
@@ -32,6 +35,7 @@ counts_after end_bracket counts = closed counts
 counts_after end_brace counts = closed counts
 counts_after _ counts = counted counts
 
+-- the weight of each token: the sum of the counts behind it
 abbrev pub weights_after : List ℕ → List Token → List ℕ
 weights_after counts [] = []
 weights_after counts (t ∷ tokens) =

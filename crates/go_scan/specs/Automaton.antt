@@ -5,6 +5,7 @@ use Rattle.go_tree.specs.declared.tokens.TokenKind.TheVariants.{Operator, Intege
 use Rattle.go_words.specs.Tokens.Characters.{byte_order_mark}
 use Rattle.go_words.specs.Tokens.Pieces.{PieceKind, remark, token}
 
+-- the class of a character, by which the automaton goes on: ASCII by a table, all others alike but the byte order mark
 abbrev pub class_of : ℕ → ℕ
 class_of c = if nat_lt c 128 then slice_index CLASS c else (if c == byte_order_mark then FOREIGN else OTHER)
 

@@ -9,21 +9,26 @@ use Rattle.go_scan.specs.declared.pieces.PieceKind.TheVariants.{Blanks, Comment,
 use Rattle.go_scan.specs.declared.automaton.TheConstants.{START}
 use Rattle.go_scan.specs.Automaton.{kind_in, longest_from}
 
+-- the kind of a piece that the scanner saw
 abbrev pub kind_of : source.PieceKind → PieceKind
 kind_of Blanks = blanks
 kind_of Comment = remark
 kind_of (Token k) = token k
 
+-- what the scanner saw as a value
 abbrev pub seen : Option (source.PieceKind × ℕ) → Option (PieceKind × ℕ)
 seen None = None
 seen (Some x) = Some (kind_of x.0, x.1)
 
+-- a word of letters and digits is a keyword or an identifier
 abbrev pub word_kind : List ℕ → PieceKind
 word_kind word = if is_among keyword_spellings word then token Keyword else token Ident
 
+-- a piece of this length, where what follows may follow it
 abbrev pub checked : PieceKind → ℕ → List ℕ → Option (PieceKind × ℕ)
 checked kind len text = if may_precede kind (take len text) (drop len text) then Some (kind, len) else None
 
+-- a piece that the automaton ended with, where what follows may follow it
 abbrev pub lexeme_checked : Option (ℕ × ℕ) → List ℕ → Option (PieceKind × ℕ)
 lexeme_checked None text = None
 lexeme_checked (Some x) text = checked (kind_in x.0) x.1 text

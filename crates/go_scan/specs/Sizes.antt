@@ -13,6 +13,7 @@ abbrev pub size_while : (ℕ → Bool) → List ℕ → ℕ
 size_while passes [] = 0
 size_while passes (c ∷ cs) = if passes c then len_utf8 c + size_while passes cs else 0
 
+-- the longest whole word so far, after a further character
 abbrev pub found_by : Option (ℕ × ℕ) → ℕ → ℕ → Option (ℕ × ℕ)
 found_by found state size = if is_whole state then Some (state, size) else found
 

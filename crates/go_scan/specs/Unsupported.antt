@@ -17,6 +17,7 @@ use Rattle.go_words.specs.Tokens.Characters.{is_blank}
 abbrev pub is_unsupported : TokenKind → List ℕ → Bool
 is_unsupported kind spelling = is_foreign (terminal_of kind spelling)
 
+-- the keyword `package`
 abbrev pub is_package : TokenKind → List ℕ → Bool
 is_package Keyword spelling = bytes_eq spelling (codes "package")
 is_package _ spelling = false
@@ -26,10 +27,12 @@ abbrev pub package_start : List Token → Option ℕ
 package_start [] = None
 package_start (t ∷ ts) = if is_package t.kind t.spelling then Some t.span.start else package_start ts
 
+-- the offset is before the first `package`
 abbrev pub stands_before : ℕ → Option ℕ → Bool
 stands_before start None = false
 stands_before start (Some place) = nat_lt start place
 
+-- a blank is next, or nothing
 abbrev pub blank_or_end : List ℕ → Bool
 blank_or_end [] = true
 blank_or_end (b ∷ bs) = is_blank b
@@ -38,17 +41,21 @@ blank_or_end (b ∷ bs) = is_blank b
 abbrev pub is_build_line : List ℕ → Bool
 is_build_line bytes = starts_with nat_eq bytes (codes "//go:build") && blank_or_end (drop 10 bytes)
 
+-- the bytes of a text within a span
 abbrev pub bytes_in : List ℕ → Span → List ℕ
 bytes_in text span = take (span.end - span.start) (drop span.start text)
 
+-- a build constraint, which stands before the package clause
 abbrev pub is_constraint : List ℕ → Option ℕ → Comment → Bool
 is_constraint text place comment = stands_before comment.span.start place && is_build_line (bytes_in text comment.span)
 
+-- the spans of build constraints
 unfoldable pub constraint_spans : List ℕ → Option ℕ → List Comment → List Span
 constraint_spans text place [] = []
 constraint_spans text place (c ∷ cs) =
     if is_constraint text place c then c.span ∷ constraint_spans text place cs else constraint_spans text place cs
 
+-- the spans of tokens that no production holds
 unfoldable pub word_spans : List Token → List Span
 word_spans [] = []
 word_spans (t ∷ ts) = if is_unsupported t.kind t.spelling then t.span ∷ word_spans ts else word_spans ts
@@ -64,15 +71,18 @@ IsFirst spans (Some span) = Contains spans span × All (λ other. span.start ≤
 
 -- ---- as it is looked for
 
+-- the span that begins first
 abbrev pub earlier : Option Span → Span → Span
 earlier None span = span
 earlier (Some known) span = if nat_le known.start span.start then known else span
 
+-- the first of a known span, if any, and those of tokens that no production holds
 abbrev pub first_word : Option Span → List Token → Option Span
 first_word known [] = known
 first_word known (t ∷ ts) =
     first_word (if is_unsupported t.kind t.spelling then Some (earlier known t.span) else known) ts
 
+-- the first of a known span, if any, and those of build constraints
 abbrev pub first_constraint : List ℕ → Option ℕ → Option Span → List Comment → Option Span
 first_constraint text place known [] = known
 first_constraint text place known (c ∷ cs) =

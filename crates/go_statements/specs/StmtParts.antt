@@ -16,10 +16,12 @@ use Rattle.go_productions.specs.Parts.{skipped}
 
 -- ---- simple statements
 
+-- `:=`
 abbrev pub is_short : Terminal → Bool
 is_short code.Define = true
 is_short _ = false
 
+-- whether `:=` stands behind names that were read
 abbrev pub short_after : Option Lexemes → Bool
 short_after None = false
 short_after (Some ts) = is_short (first_of ts)
@@ -45,6 +47,7 @@ abbrev pub only : Exprs Span → Option (Expr Span)
 only (expr_and e no_exprs) = Some e
 only _ = None
 
+-- a call without parentheses around it
 abbrev pub is_bare_call : Expr Span → Bool → Bool
 is_bare_call (call s f xs rest) true = true
 is_bare_call _ _ = false
@@ -56,22 +59,28 @@ abbrev pub range_here : Lexemes → Bool
 range_here (lex s (assign None) ∷ lex c key_range ∷ ts) = true
 range_here _ = false
 
+-- the block of a `for` with a header, as it is read from these tokens
 unfoldable pub for_body_at : Lexemes → StmtOption Span → ExprOption Span → StmtOption Span → Lexemes →
     Option (Stmt Span × Lexemes)
 for_body_at whole i t p ts = run (at span_to) (for_body span_to whole i t p ts)
 
+-- the last clause of a `for` and its block, as they are read from these tokens
 unfoldable pub for_post_at : Lexemes → StmtOption Span → ExprOption Span → Lexemes → Option (Stmt Span × Lexemes)
 for_post_at whole i t ts = run (at span_to) (for_post span_to whole i t ts)
 
+-- what stands behind the first semicolon of a `for`, as it is read from these tokens
 unfoldable pub for_test_at : Lexemes → StmtOption Span → Lexemes → Option (Stmt Span × Lexemes)
 for_test_at whole i ts = run (at span_to) (for_test span_to whole i ts)
 
+-- what stands behind a simple statement in the header of a `for`, as it is read from these tokens
 unfoldable pub for_plain_at : Lexemes → Stmt Span → Lexemes → Option (Stmt Span × Lexemes)
 for_plain_at whole x ts = run (at span_to) (for_plain span_to whole x ts)
 
+-- what stands behind `range`, as it is read from these tokens
 unfoldable pub range_at : Lexemes → RangeLeft Span → Lexemes → Option (Stmt Span × Lexemes)
 range_at whole left ts = run (at span_to) (for_after span_to whole (range_clause left) ts)
 
+-- a `for` statement from its first clause on, as it is read from these tokens
 unfoldable pub for_clause_at : Lexemes → Lexemes → Option (Stmt Span × Lexemes)
 for_clause_at whole ts = run (at span_to) (ask read_clause ts (λ c r. for_after span_to whole c r))
 
@@ -82,26 +91,32 @@ abbrev pub arm_seen : Lexemes → (StmtOption Span × Expr Span × Span × Stmts
     (Span × StmtOption Span × Expr Span × (Span × Stmts Span)) × Lexemes
 arm_seen ts a = ((span_to ts a.1, a.0.0, a.0.1, (a.0.2, a.0.3)), a.1)
 
+-- an arm of an `if`, as it is read from these tokens, with its span
 unfoldable pub arm_at : Lexemes → Option ((Span × StmtOption Span × Expr Span × (Span × Stmts Span)) × Lexemes)
 arm_at ts = option_and_then (λ a. Some (arm_seen ts a)) (at span_to read_arm ts)
 
+-- the block of an arm with its test, as it is read from these tokens
 unfoldable pub arm_body_at : Lexemes → StmtOption Span → Expr Span → Lexemes →
     Option ((Span × StmtOption Span × Expr Span × (Span × Stmts Span)) × Lexemes)
 arm_body_at whole i e ts = option_and_then (λ a. Some (arm_seen whole a)) (run (at span_to) (arm_body span_to i e ts))
 
+-- the test of an arm behind its first statement, as it is read from these tokens
 unfoldable pub arm_test_at : Lexemes → StmtOption Span → Lexemes →
     Option ((Span × StmtOption Span × Expr Span × (Span × Stmts Span)) × Lexemes)
 arm_test_at whole i ts = option_and_then (λ a. Some (arm_seen whole a)) (run (at span_to) (arm_test span_to i ts))
 
+-- an arm in front of arms and the last block
 abbrev pub arm_and : Span × StmtOption Span × Expr Span × (Span × Stmts Span) → Arms Span × BlockOption Span →
     Arms Span × BlockOption Span
 arm_and x l = (arm x.0 x.1 x.2 x.3.0 x.3.1 l.0, l.1)
 
 -- ---- `switch`
 
+-- the clauses of a `switch`, as they are read from these tokens
 unfoldable pub switch_body_at : Lexemes → StmtOption Span → ExprOption Span → Lexemes → Option (Stmt Span × Lexemes)
 switch_body_at whole i t ts = run (at span_to) (switch_body span_to whole i t ts)
 
+-- the tag of a `switch` behind its first statement, as it is read from these tokens
 unfoldable pub switch_tag_at : Lexemes → StmtOption Span → Lexemes → Option (Stmt Span × Lexemes)
 switch_tag_at whole i ts = run (at span_to) (switch_tag span_to whole i ts)
 
@@ -115,6 +130,7 @@ case_here _ = false
 unfoldable pub case_body_at : Lexemes → Exprs Span → Lexemes → Option ((Span × Exprs Span × Stmts Span) × Lexemes)
 case_body_at whole xs ts = option_and_then (λ b. Some ((span_to whole b.1, xs, b.0), b.1)) (at span_to read_stmts ts)
 
+-- the statements of a clause, where its colon stands
 abbrev pub case_colon : Lexemes → Exprs Span → Lexemes → Option ((Span × Exprs Span × Stmts Span) × Lexemes)
 case_colon whole xs (lex c colon ∷ ts) = case_body_at whole xs ts
 case_colon whole xs _ = None
@@ -126,6 +142,7 @@ case_at (lex s key_case ∷ ts) =
 case_at (lex s key_default ∷ lex c colon ∷ ts) = case_body_at (lex s key_default ∷ lex c colon ∷ ts) no_exprs ts
 case_at _ = None
 
+-- a clause in front of clauses
 abbrev pub case_and : Span × Exprs Span × Stmts Span → Cases Span → Cases Span
 case_and x cs = case x.0 x.1 x.2 cs
 
@@ -137,10 +154,12 @@ unfoldable pub spec_at : Bool → Lexemes →
 spec_at constant ts =
     option_and_then (λ x. Some ((span_to ts x.1, x.0.0, x.0.1, x.0.2), x.1)) (at span_to (read_spec constant) ts)
 
+-- a spec in front of specs
 abbrev pub spec_and : Span × List (NameAt Span) × Option (TypeExpr Span) × Exprs Span → ValueSpecs Span →
     ValueSpecs Span
 spec_and x ss = spec x.0 x.1 x.2 x.3 ss
 
+-- `=`
 abbrev pub is_equals : Terminal → Bool
 is_equals (code.Assign None) = true
 is_equals _ = false
@@ -152,12 +171,14 @@ repeats true code.EndParen = true
 repeats true code.EndBrace = true
 repeats _ _ = false
 
+-- statements end before a closing brace, `case` and `default`
 abbrev pub ends_stmts : Terminal → Bool
 ends_stmts code.EndBrace = true
 ends_stmts code.Case = true
 ends_stmts code.Default = true
 ends_stmts _ = false
 
+-- a `return` has no values before a semicolon and a closing brace
 abbrev pub closes : Terminal → Bool
 closes code.Semicolon = true
 closes code.EndBrace = true

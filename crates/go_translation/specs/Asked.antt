@@ -47,6 +47,7 @@ deferred (DeferLit xs a b) = deferred a ++ deferred b
 
 -- ---- package variables
 
+-- the package variable that a primitive reads, or whose address it gives
 abbrev pub variable_of : Op → List (ImportPath × Name)
 variable_of (ReadGlobal p n) = (p, n) ∷ []
 variable_of (GlobalAddress p n) = (p, n) ∷ []
@@ -79,12 +80,15 @@ variables_set_by t = []
 
 -- ---- nothing that is missing is asked for
 
+-- the function is declared
 abbrev pub has_function : List (FuncName × Func) → FuncName → Bool
 has_function ds f = list_any (λ d. same_func f d.0) ds
 
+-- the same variable of the same package
 abbrev pub same_variable : ImportPath × Name → ImportPath × Name → Bool
 same_variable x y = same_text x.0 y.0 && same_text x.1 y.1
 
+-- each function and each package variable that the term asks for is there
 abbrev pub asks_for : List (FuncName × Func) → List (ImportPath × Name) → Term → Bool
 asks_for ds vs t =
     list_all (has_function ds) (called t)

@@ -25,11 +25,13 @@ abbrev pub field_number : ℕ → List ℕ → GoFields → ℕ
 field_number home n no_go_fields = 0
 field_number home n (go_field m p t fs) = if bytes_eq n m && sees home p then 0 else suc (field_number home n fs)
 
+-- the type of the field with this number
 abbrev pub field_type_at : ℕ → GoFields → GoType
 field_type_at i no_go_fields = no_type
 field_type_at zero (go_field m p t fs) = t
 field_type_at (suc i) (go_field m p t fs) = field_type_at i fs
 
+-- the fields of a struct, or none
 abbrev pub fields_or_none : Option GoFields → GoFields
 fields_or_none None = no_go_fields
 fields_or_none (Some fs) = fs
@@ -38,6 +40,7 @@ fields_or_none (Some fs) = fs
 abbrev pub selected_field : List Defined → ℕ → List ℕ → Option Typed → ℕ
 selected_field ds home n v = field_number home n (fields_or_none (given v (λ v. fields_in ds v.0)))
 
+-- a value whose type is a pointer
 abbrev pub is_pointer_value : List Defined → Option Typed → Bool
 is_pointer_value ds v = meets v (λ v. is_pointer ds v.0)
 
@@ -59,6 +62,7 @@ literal_term ds (slice_of t) is a = Prim (SliceLit (zero_of ds t) is) a
 literal_term ds (map_of q t) is a = Prim MapLit a
 literal_term ds u is a = nothing
 
+-- a map type
 abbrev pub is_map : GoType → Bool
 is_map u = is_some (map_parts u)
 
@@ -72,9 +76,12 @@ inner_literal ds t e = if is_pointer ds t then Prim Alloc e else e
 
 -- ---- conversions
 
+-- a type whose underlying type is a slice
 abbrev pub is_slice : List Defined → GoType → Bool
 is_slice ds t = is_some (element_of (under ds t))
 
+-- a conversion of a value that isn't constant: to a whole number, between bytes and a string, or one that changes
+-- nothing
 abbrev pub conversion_op : List Defined → GoType → GoType → Term → Term
 conversion_op ds t to a =
     if is_whole_number ds to
@@ -83,10 +90,12 @@ conversion_op ds t to a =
     then Prim BytesOfString a
     else (if is_slice ds t && not (is_slice ds to) then Prim StringOfBytes a else a))
 
+-- an untyped constant
 abbrev pub is_untyped_constant : Option Typed → Bool
 is_untyped_constant (Some (untyped k, exact c)) = true
 is_untyped_constant v = false
 
+-- `nil`
 abbrev pub is_nil_value : Option Typed → Bool
 is_nil_value (Some (untyped_nil, c)) = true
 is_nil_value v = false
@@ -101,6 +110,8 @@ conversion_term ds v to a =
 
 -- ---- what is called
 
+-- what is called: a declared function, a method with its receiver, a literal, a type in a conversion, or a predeclared
+-- function
 pub data Callee : Type 0 where
   -- a function or a method with its receiver's argument, and the types of its parameters
   to_function : FuncName → List GoType → Option Term → Callee
@@ -109,9 +120,11 @@ pub data Callee : Type 0 where
   to_builtin : Builtin → Callee
   to_nothing : Callee
 
+-- the function with this name of a package
 abbrev pub function_named : ImportPath → List ℕ → FuncName
 function_named home n = record { home = home; receiver = None; name = n }
 
+-- the method with this name of a package's type
 abbrev pub method_named : ImportPath → List ℕ → List ℕ → FuncName
 method_named home t n = record { home = home; receiver = Some t; name = n }
 
@@ -122,6 +135,7 @@ named_callee home n (Some (a_type t)) = to_type t
 named_callee home n (Some (a_builtin b)) = to_builtin b
 named_callee home n o = to_nothing
 
+-- a type that is called is a conversion
 abbrev pub type_callee : Option Operand → Callee
 type_callee (Some (a_type t)) = to_type t
 type_callee o = to_nothing
@@ -135,12 +149,14 @@ abbrev pub receiver_term : Bool → Bool → Term → Term → Term
 receiver_term wants_pointer is_pointer v address =
     if wants_pointer then (if is_pointer then v else address) else (if is_pointer then Prim (k.Load Checked) v else v)
 
+-- a method that is called on an operand
 abbrev pub method_on : List (ℕ × ImportPath) → GoType → Method → Term → Term → GoType → Callee
 method_on paths (named_type p t) m v address operand =
     to_function (method_named (path_of paths p) t m.name) m.type.params
     (Some (receiver_term m.pointer (is_some (base_of operand)) v address))
 method_on paths t m v address operand = to_nothing
 
+-- what a selector that is no package's name calls
 abbrev pub method_callee : List (ℕ × ImportPath) → List Defined → List ℕ → Option Typed → Term → Term → Callee
 method_callee paths ds n None e address = to_nothing
 method_callee paths ds n (Some v) e address =
@@ -151,14 +167,17 @@ method_callee paths ds n (Some v) e address =
 
 -- ---- arguments
 
+-- the types of operands; an untyped one has its default type
 abbrev pub operand_types : List Defined → List Operand → List GoType
 operand_types ds [] = []
 operand_types ds (o ∷ os) = type_or no_type (given (typed o) (settled ds)) ∷ operand_types ds os
 
+-- the type of the first operand
 abbrev pub operand_type : List Operand → GoType
 operand_type [] = no_type
 operand_type (o ∷ os) = own_type no_type (typed o)
 
+-- this type for each of a list
 abbrev pub each_as : {A : Type 0} → GoType → List A → List GoType
 each_as t [] = []
 each_as t (x ∷ xs) = t ∷ each_as t xs
@@ -171,6 +190,7 @@ builtin_wants ds Delete os =
 builtin_wants ds Make os = each_as (basic kind.Int) os
 builtin_wants ds b os = operand_types ds os
 
+-- the types at which the arguments of a call are wanted
 abbrev pub callee_wants : List Defined → Callee → List Operand → List GoType
 callee_wants ds (to_function f ts r) os = ts
 callee_wants ds (to_literal f ts) os = ts
@@ -180,34 +200,43 @@ callee_wants ds to_nothing os = []
 
 -- ---- predeclared functions
 
+-- the first operand, where it is a value
 abbrev pub first_operand : List Operand → Option Typed
 first_operand [] = None
 first_operand (o ∷ os) = typed o
 
+-- the type that the first argument of `make` or `new` names
 abbrev pub named_by : List Operand → Option GoType
 named_by (a_type t ∷ os) = Some t
 named_by os = None
 
+-- the zero value of a slice's elements
 abbrev pub element_zero : List Defined → GoType → Value
 element_zero ds t = zero_of ds (type_or no_type (element_of (under ds t)))
 
+-- the primitive of `make`
 abbrev pub make_op : List Defined → GoType → Op
 make_op ds t = if is_slice ds t then MakeSlice (element_zero ds t) else MakeMap
 
+-- a call of `make`
 abbrev pub make_term : List Defined → Option GoType → Term → Term
 make_term ds None a = nothing
 make_term ds (Some t) a = Prim (make_op ds t) a
 
+-- a call of `new`
 abbrev pub new_term : List Defined → Option GoType → Term
 new_term ds None = nothing
 new_term ds (Some t) = Prim Alloc (one_value (zero_of ds t))
 
+-- the primitive of `len`
 abbrev pub length_op : List Defined → GoType → Op
 length_op ds t = if is_map (under ds t) then MapLen else k.Len
 
+-- the type of the value of a `panic`
 abbrev pub fail_type : List (ℕ × ImportPath) → List Defined → Option Typed → k.PanicType
 fail_type paths ds v = panic_type paths (type_or no_type (given v (settled ds)))
 
+-- a call of a predeclared function
 abbrev pub builtin_term : List (ℕ × ImportPath) → List Defined → Builtin → List Operand → Term → Term
 builtin_term paths ds Append os a = Prim (k.Append (element_zero ds (operand_type os))) a
 builtin_term paths ds Cap os a = Prim k.Cap a

@@ -19,21 +19,26 @@ use Rattle.go_translation.specs.Calls.{field_number, constant_place}
 use Rattle.go_translation.specs.Statements.{tag_type, key_name}
 
 module _ {S : Type 0} where
+  -- a label that may be left out
   abbrev pub label_option : Option (NameAt S) → Option (List ℕ)
   label_option None = None
   label_option (Some n) = Some n.name
 
+  -- a bound is there
   abbrev pub has_bound : ExprOption S → Bool
   has_bound no_expr = false
   has_bound (some_expr e) = true
 
+  -- an expression's type, and its content where it is constant
   abbrev pub typed_at : Env → Expr S → Option Typed
   typed_at env e = typed_of (parts env e)
 
+  -- those of a bound or a tag, if it is there
   abbrev pub typed_option : Env → ExprOption S → Option Typed
   typed_option env no_expr = None
   typed_option env (some_expr e) = typed_at env e
 
+  -- those of the first expression
   abbrev pub first_typed : Env → Exprs S → Option Typed
   first_typed env no_exprs = None
   first_typed env (expr_and e es) = typed_at env e
@@ -49,6 +54,7 @@ module _ {S : Type 0} where
       (if is_blank_name e then first_type ts else own_type no_type (typed_at env e))
       ∷ target_types env es (other_types ts)
 
+  -- how many expressions these are
   abbrev pub count_exprs : Exprs S → ℕ
   count_exprs no_exprs = 0
   count_exprs (expr_and e es) = suc (count_exprs es)
@@ -63,6 +69,7 @@ module _ {S : Type 0} where
 
   -- ---- elements of literals of the underlying type u, counted on from i
 
+  -- the place of an element with this key, or without one after those before it
   abbrev pub key_place : Env → Option GoFields → ℕ → ValueOption S → ℕ
   key_place env fs i no_value = i
   key_place env (Some fs) i (some_value k) = field_number env.home (key_name (field_key k)) fs
@@ -73,6 +80,7 @@ module _ {S : Type 0} where
   abbrev pub element_place : Env → GoType → ℕ → ValueOption S → ℕ
   element_place env u i k = key_place env (fields_of u) i k
 
+  -- the places of the elements of a literal
   abbrev pub element_places : Env → GoType → ℕ → Elems S → List ℕ
   element_places env u i no_elems = []
   element_places env u i (elem _ k v es) =
@@ -86,18 +94,22 @@ module _ {S : Type 0} where
 
   -- ---- after a declaration
 
+  -- what a statement binds for those after it
   abbrev pub binds_after : Env → Stmt S → Binds
   binds_after env s = binds_of (declared s) (declares env s)
 
+  -- what a statement in a header binds
   abbrev pub binds_first : Env → StmtOption S → Binds
   binds_first env i = binds_of (declared_option i) (declares_first env i)
 
+  -- what a variable spec binds
   abbrev pub spec_binds : Env → List (NameAt S) → Option (TypeExpr S) → Exprs S → Binds
   spec_binds env ns t es =
       binds_of (names_of ns)
       (new_variables env (names_of ns) (written_type env t) (no_values es)
       (right_values env (length ns) (places env es) (all_parts env es)))
 
+  -- what `:=` binds
   abbrev pub define_binds : Env → List (NameAt S) → Exprs S → Binds
   define_binds env ns rs =
       binds_of (names_of ns)
@@ -107,5 +119,6 @@ module _ {S : Type 0} where
   abbrev pub following : Here → Stmt S → Stmts S → List Mention
   following h s ss = own_mentions h.env s ++ mentions_stmts (extend (binds_after h.env s) h.env) ss
 
+  -- where the statements after one stand
   abbrev pub after : Here → Stmt S → Stmts S → Here
   after h s ss = declaring (binds_after h.env s) (following h s ss) h

@@ -12,6 +12,7 @@ abbrev pub from_outside : List Name → List Name → List Name
 from_outside g [] = []
 from_outside g (x ∷ xs) = if has x g then from_outside g xs else x ∷ from_outside g xs
 
+-- the locals in which result slots stand, or which point to them
 abbrev pub slot_names : List Slot → List Name
 slot_names [] = []
 slot_names (r ∷ rs) = slot_name r ∷ slot_names rs

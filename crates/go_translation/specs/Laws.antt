@@ -30,12 +30,15 @@ use Rattle.go_translation.specs.SwappedPackages.{SwappedPackages}
 
 -- ---- spans
 
+-- an expression's term doesn't hang on its spans
 abbrev pub ExpressionsNeedNoSpans : Type 0
 ExpressionsNeedNoSpans = (h : Here) (t : GoType) (e : Expr Span) → expr_term h t (bare_expr e) ≡ expr_term h t e
 
+-- nor does that of statements
 abbrev pub StatementsNeedNoSpans : Type 0
 StatementsNeedNoSpans = (h : Here) (b : Stmts Span) → stmts_term h (bare_stmts b) ≡ stmts_term h b
 
+-- nor does what they mention
 abbrev pub MentionsNeedNoSpans : Type 0
 MentionsNeedNoSpans = (a : Env) (b : Stmts Span) → mentions_stmts a (bare_stmts b) ≡ mentions_stmts a b
 
@@ -47,12 +50,15 @@ HeldAlike =
     (a : Env) (b : Stmts Span) (m : Environment Entity) (around : List (List ℕ)) → Agrees around a m →
     On (free_stmts around b) a m → mentions_stmts a b ≡ mentions_stmts (with_names a m) b
 
+-- an expression has the same term under other names, where its free names mean what they meant and stand where they
+-- stood
 abbrev pub ExpressionsAlike : Type 0
 ExpressionsAlike =
     (h : Here) (t : GoType) (e : Expr Span) (m : Environment Entity) (l : Environment Location)
     (around : List (List ℕ)) → AgreesHere around h m l → OnHere (free_expr around e) h m l →
     expr_term h t e ≡ expr_term (at_names h m l) t e
 
+-- so have statements
 abbrev pub StatementsAlike : Type 0
 StatementsAlike =
     (h : Here) (b : Stmts Span) (m : Environment Entity) (l : Environment Location) (around : List (List ℕ)) →
@@ -60,16 +66,20 @@ StatementsAlike =
 
 -- ---- constants
 
+-- an expression keeps its term where names of constants are swapped
 abbrev pub SwappedExpressions : Type 0
 SwappedExpressions =
     (h : Here) (t : GoType) (e e' : Expr Span) → SwappedExpr h e e' → expr_term h t e ≡ expr_term h t e'
 
+-- so do statements
 abbrev pub SwappedStatements : Type 0
 SwappedStatements = (h : Here) (b b' : Stmts Span) → SwappedStmts h b b' → stmts_term h b ≡ stmts_term h b'
 
+-- packages keep their code where names of constants are swapped
 abbrev pub SwappedPrograms : Type 0
 SwappedPrograms = (ps ps' : List (Package Span)) → SwappedPackages ps ps' → codes_of ps ≡ codes_of ps'
 
+-- and show the same at each budget
 abbrev pub SwappedRuns : Type 0
 SwappedRuns =
     (ps ps' : List (Package Span)) → SwappedPackages ps ps' → (main : ImportPath) (choices : List ℕ) (n : ℕ) →

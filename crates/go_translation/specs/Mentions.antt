@@ -29,6 +29,7 @@ pub record Mention : Type 0 where
   pub way : Way
   pub deferred : Bool
 
+-- a name that is mentioned, not in a deferred literal
 abbrev pub mention : Way → List ℕ → Mention
 mention w n = record { name = n; way = w; deferred = false }
 
@@ -43,14 +44,17 @@ abbrev pub callee_way : Way → Way
 callee_way Deferred = Deferred
 callee_way w = Read
 
+-- mentions in a deferred literal
 abbrev pub in_deferred : List Mention → List Mention
 in_deferred [] = []
 in_deferred (m ∷ ms) = record m { deferred = true } ∷ in_deferred ms
 
+-- what a literal mentions: one that is deferred, or another
 abbrev pub literal_mentions : Way → List Mention → List Mention
 literal_mentions Deferred ms = in_deferred ms
 literal_mentions w ms = ms
 
+-- a type whose underlying type is a pointer
 abbrev pub is_pointer : List Defined → GoType → Bool
 is_pointer ds t = is_some (base_of (under ds t))
 
@@ -71,6 +75,7 @@ operand_way ds home n w None = Read
 operand_way ds home n w (Some v) =
     if takes_address ds home n v.0 then Addressed else (if is_pointer ds v.0 then Read else selected_way w)
 
+-- how the operand of an operator stands: `&` takes its address
 abbrev pub unary_way : UnOp → Way
 unary_way Address = Addressed
 unary_way op = Read
@@ -80,6 +85,7 @@ abbrev pub beyond_names : List (List ℕ) → List Mention → List Mention
 beyond_names ns [] = []
 beyond_names ns (m ∷ ms) = if is_among m.name ns then beyond_names ns ms else m ∷ beyond_names ns ms
 
+-- those of names that a declaration doesn't bind
 abbrev pub beyond : Binds → List Mention → List Mention
 beyond bs ms = beyond_names (bound_names bs) ms
 
@@ -96,6 +102,7 @@ stored_again env (n ∷ ns) =
 
 module _ {S : Type 0} where
   abbrev mutual
+    -- what an expression mentions that stands so
     pub mentions : Way → Env → Expr S → List Mention
     mentions w env (ident _ n) = variable_mention w n (meaning env n)
     mentions w env (int_lit _ s) = []
@@ -115,10 +122,12 @@ module _ {S : Type 0} where
     mentions w env (binary _ op x y) = mentions Read env x ++ mentions Read env y
     mentions w env (star _ e) = mentions Read env e
 
+    -- what a list of expressions mentions
     pub mentions_all : Env → Exprs S → List Mention
     mentions_all env no_exprs = []
     mentions_all env (expr_and e es) = mentions Read env e ++ mentions_all env es
 
+    -- what a bound or a condition mentions
     pub mentions_option : Env → ExprOption S → List Mention
     mentions_option env no_expr = []
     mentions_option env (some_expr e) = mentions Read env e
@@ -135,16 +144,19 @@ module _ {S : Type 0} where
         mentions_key env u k ++ mentions_value env (given u (inner_type (defined_in env))) v
         ++ mentions_elems env u es
 
+    -- what an element's key mentions; the name of a field is no mention
     pub mentions_key : Env → Option GoType → ValueOption S → List Mention
     mentions_key env u no_value = []
     mentions_key env u (some_value k) =
         if meets u is_struct then [] else mentions_value env (given u (key_type (defined_in env))) k
 
+    -- what an element's value mentions
     pub mentions_value : Env → Option GoType → Value S → List Mention
     mentions_value env t (plain e) = mentions Read env e
     mentions_value env t (braced _ es) =
         mentions_elems env (given t (λ t. Some (under (defined_in env) (literal_type (defined_in env) t)))) es
 
+    -- what a statement mentions
     pub mentions_stmt : Env → Stmt S → List Mention
     mentions_stmt env (const_decl _ _ ss) = []
     mentions_stmt env (var_decl _ _ ss) = mentions_specs env ss
@@ -174,6 +186,7 @@ module _ {S : Type 0} where
     mentions_stmt env (defer _ e) = mentions Deferred env e
     mentions_stmt env (label _ n s) = mentions_stmt env s
 
+    -- what statements mention of the variables that are declared around
     pub mentions_stmts : Env → Stmts S → List Mention
     mentions_stmts env no_stmts = []
     mentions_stmts env (stmt_and s ss) = let bs : Binds = binds_of (declared s) (declares env s) in
@@ -184,10 +197,12 @@ module _ {S : Type 0} where
     mentions_first env no_stmt = []
     mentions_first env (some_stmt s) = mentions_stmt env s
 
+    -- what the last block of an `if` mentions
     pub mentions_block : Env → BlockOption S → List Mention
     mentions_block env no_block = []
     mentions_block env (some_block _ b) = mentions_stmts (in_block env) b
 
+    -- what the left side of a range clause mentions
     pub mentions_range : Env → RangeLeft S → List Mention
     mentions_range env nothing = []
     mentions_range env (assigns es) = mentions_left env es
@@ -202,11 +217,13 @@ module _ {S : Type 0} where
         mentions_first env i
         ++ beyond bs (mentions Read k e ++ mentions_stmts (in_block k) b ++ mentions_arms (in_block k) last rest)
 
+    -- what the clauses of a switch mention
     pub mentions_cases : Env → Cases S → List Mention
     mentions_cases env no_cases = []
     mentions_cases env (case _ es b cs) =
         mentions_all env es ++ mentions_stmts (in_block env) b ++ mentions_cases env cs
 
+    -- what variable specs mention
     pub mentions_specs : Env → ValueSpecs S → List Mention
     mentions_specs env no_specs = []
     mentions_specs env (spec _ ns t es ss) =
@@ -226,6 +243,7 @@ module _ {S : Type 0} where
       (right_values env (length ns) (places env es) (all_parts env es))) in
       within_names (bound_names bs) (mentions_specs (extend bs env) ss) ++ group_mentions (extend bs env) ss
 
+  -- how a statement mentions the variables that it declares itself
   abbrev pub own_mentions : Env → Stmt S → List Mention
   own_mentions env (var_decl _ _ ss) = group_mentions env ss
   own_mentions env (label _ n s) = own_mentions env s
@@ -233,14 +251,17 @@ module _ {S : Type 0} where
 
 -- ---- which variables live in cells
 
+-- the address is taken
 abbrev pub is_addressed : Way → Bool
 is_addressed Addressed = true
 is_addressed w = false
 
+-- it is stored to
 abbrev pub is_stored : Way → Bool
 is_stored Stored = true
 is_stored w = false
 
+-- some mention of the name passes
 abbrev pub any_mention : (Mention → Bool) → List ℕ → List Mention → Bool
 any_mention p n ms = list_any (λ m. bytes_eq n m.name && p m) ms
 

@@ -27,6 +27,7 @@ abbrev pub answer_or : {A B : Type 0} → B → Option A → (A → B) → B
 answer_or b None k = b
 answer_or b (Some a) k = k a
 
+-- the type, or another where there is none
 abbrev pub type_or : GoType → Option GoType → GoType
 type_or d None = d
 type_or d (Some t) = t
@@ -36,28 +37,34 @@ abbrev pub own_type : GoType → Option Typed → GoType
 own_type t None = t
 own_type t (Some v) = if is_untyped v.0 then t else v.0
 
+-- the first of the types
 abbrev pub first_type : List GoType → GoType
 first_type [] = no_type
 first_type (t ∷ ts) = t
 
+-- the types after the first
 abbrev pub other_types : List GoType → List GoType
 other_types [] = []
 other_types (t ∷ ts) = ts
 
+-- the types of values; an untyped one has its default type
 abbrev pub settled_types : List Defined → List Typed → List GoType
 settled_types ds [] = []
 settled_types ds (v ∷ vs) = type_or no_type (settled ds v) ∷ settled_types ds vs
 
+-- the types of values, where there are any
 abbrev pub settled_option : List Defined → Option (List Typed) → List GoType
 settled_option ds None = []
 settled_option ds (Some vs) = settled_types ds vs
 
+-- the operands, where they are typed
 abbrev pub operand_list : Option (List Operand) → List Operand
 operand_list None = []
 operand_list (Some os) = os
 
 -- ---- constants. An untyped one is a value of the type from its place; a typed one is never folded
 
+-- an untyped constant as a value of type t, or else the term
 abbrev pub constant_or : List Defined → GoType → Option Operand → Term → Term
 constant_or ds t (Some (value (untyped k) (exact c))) e = one_value (as_value ds t c)
 constant_or ds t o e = e
@@ -67,6 +74,7 @@ abbrev pub folds : Option Typed → Bool
 folds (Some (untyped k, c)) = not (is_truth_kind k)
 folds v = false
 
+-- what the operator makes of untyped numbers or strings is folded; of a shift the left one counts alone
 abbrev pub is_folded : BinOp → Option Typed → Option Typed → Bool
 is_folded bin.LogAnd v w = false
 is_folded bin.LogOr v w = false
@@ -74,15 +82,18 @@ is_folded bin.Shl v w = folds v
 is_folded bin.Shr v w = folds v
 is_folded op v w = folds v && folds w
 
+-- so of one operand, but for `!`
 abbrev pub is_folded_unary : UnOp → Bool
 is_folded_unary un.Not = false
 is_folded_unary op = true
 
+-- the constant where it is folded, or else the term
 abbrev pub folded : Bool → List Defined → GoType → Option Operand → Term → Term
 folded b ds t o e = if b then constant_or ds t o e else e
 
 -- ---- operators
 
+-- a constant, which isn't zero as a divisor
 abbrev pub is_known_divisor : Option Typed → Bool
 is_known_divisor (Some (t, exact c)) = true
 is_known_divisor v = false
@@ -91,6 +102,7 @@ is_known_divisor v = false
 abbrev pub divisor_check : Option Typed → Check
 divisor_check v = if is_known_divisor v then Unchecked else Checked
 
+-- the kinds of unsigned numbers
 abbrev pub is_unsigned : Option c.Kind → Bool
 is_unsigned (Some kind.Uint) = true
 is_unsigned (Some kind.Uint8) = true
@@ -99,6 +111,7 @@ is_unsigned (Some kind.Uint32) = true
 is_unsigned (Some kind.Uint64) = true
 is_unsigned j = false
 
+-- a shift's count that can't be negative: a constant, or of an unsigned type
 abbrev pub is_sure_count : List Defined → Option Typed → Bool
 is_sure_count ds None = false
 is_sure_count ds (Some v) = is_known_divisor (Some v) || is_unsigned (basic_kind (under ds v.0))
@@ -107,9 +120,11 @@ is_sure_count ds (Some v) = is_known_divisor (Some v) || is_unsigned (basic_kind
 abbrev pub count_check : List Defined → Option Typed → Check
 count_check ds v = if is_sure_count ds v then Unchecked else Checked
 
+-- `+` of strings or of numbers
 abbrev pub sum_op : Bool → Kind → Op
 sum_op text j = if text then Concat else Arith k.Add j
 
+-- a type whose underlying type is a string
 abbrev pub is_text : List Defined → GoType → Bool
 is_text ds t = meets (kind_of ds t) is_text_kind
 
@@ -140,10 +155,12 @@ abbrev pub common_at : List Defined → GoType → Option Typed → Option Typed
 common_at ds t (Some v) (Some w) = own_type t (given (common_type ds v.0 w.0) (λ u. Some (u, run)))
 common_at ds t v w = t
 
+-- the type at which compared operands meet
 abbrev pub compared_type : List Defined → Option Typed → Option Typed → GoType
 compared_type ds (Some v) (Some w) = type_or no_type (given (compared_at ds v w) (default_type ds))
 compared_type ds v w = no_type
 
+-- the comparison operators
 abbrev pub is_compared : BinOp → Bool
 is_compared bin.Eq = true
 is_compared bin.Ne = true
@@ -153,11 +170,13 @@ is_compared bin.Gt = true
 is_compared bin.Ge = true
 is_compared op = false
 
+-- a shift
 abbrev pub is_shift : BinOp → Bool
 is_shift bin.Shl = true
 is_shift bin.Shr = true
 is_shift op = false
 
+-- the type at which the left operand is wanted
 abbrev pub left_type : List Defined → BinOp → GoType → Option Typed → Option Typed → GoType
 left_type ds op t v w =
     if is_shift op then own_type t v else (if is_compared op then compared_type ds v w else common_at ds t v w)
@@ -166,6 +185,7 @@ left_type ds op t v w =
 abbrev pub right_type : List Defined → BinOp → GoType → Option Typed → Option Typed → GoType
 right_type ds op t v w = if is_shift op then own_type (basic kind.Int) w else left_type ds op t v w
 
+-- a call of `recover`
 abbrev pub is_recovered : Option Operand → Bool
 is_recovered (Some recovered) = true
 is_recovered o = false
@@ -175,6 +195,7 @@ abbrev pub recovered_term : BinOp → Term
 recovered_term bin.Eq = Prim k.Not k.Recover
 recovered_term op = k.Recover
 
+-- a unary operator on an operand of type t, which has this term and this address
 abbrev pub unary_term : List Defined → UnOp → GoType → Term → Term → Term
 unary_term ds un.Plus t v address = v
 unary_term ds un.Minus t v address = Prim (Negate (kind_at ds t)) v

@@ -36,21 +36,26 @@ pub record PackageCode : Type 0 where
   pub initial : Term
   pub functions : List (FuncName × Func)
 
+-- what is bound, or nothing
 abbrev pub binds_or_none : Option Binds → Binds
 binds_or_none None = []
 binds_or_none (Some bs) = bs
 
+-- the function under its name, where both are there
 abbrev pub named_code : Option FuncName → Option Func → List (FuncName × Func)
 named_code (Some n) (Some f) = (n, f) ∷ []
 named_code n f = []
 
+-- a package variable on the left side of its declaration; `_` is none
 abbrev pub variable_place : ImportPath → List ℕ → Place
 variable_place p n = from (if is_blank n then nowhere else in_package p n)
 
 module _ {S : Type 0} where
+  -- the sources of packages
   abbrev pub sources : List (Package S) → List (SourcePackage S)
   sources ps = map (λ p. p.source) ps
 
+  -- the numbers of packages with their import paths
   abbrev pub paths_in : List (Package S) → List (ℕ × ImportPath)
   paths_in ps = map (λ p. (p.source.number, p.path)) ps
 
@@ -60,6 +65,7 @@ module _ {S : Type 0} where
   abbrev pub file_here : List (ℕ × ImportPath) → World → Headed S → Here
   file_here paths w h = record { env = env_of w h None; paths = paths; locals = []; results = []; types = [] }
 
+  -- the name of a receiver as a parameter
   abbrev pub receiver_names : Option (Receiver S) → List (Option (List ℕ))
   receiver_names None = []
   receiver_names (Some r) = name_option r.name ∷ []
@@ -73,9 +79,11 @@ module _ {S : Type 0} where
         types = g.results;
       }
 
+  -- what the receiver and the signature of a function bind in its body
   abbrev pub function_binds : World → Headed S → Function S → FuncType → Binds
   function_binds w h f g = binds_or_none (body_binds (receiver_of w h f.receiver) f.sig g)
 
+  -- a declared function in the kernel
   abbrev pub function_code : List (ℕ × ImportPath) → World → Headed S → Function S → FuncType → Func
   function_code paths w h f g =
       let k : Here = file_here paths w h in
@@ -95,11 +103,13 @@ module _ {S : Type 0} where
             ]
       ]
 
+  -- a declared function in the kernel, under its name
   abbrev pub func_code : List (ℕ × ImportPath) → World → Headed S → Function S → List (FuncName × Func)
   func_code paths w h f =
       named_code (called_name paths w h f)
       (given (func_type (env_of w h None) f.sig) (λ g. Some (function_code paths w h f g)))
 
+  -- the function that a declaration declares, if it is one
   abbrev pub header_functions : List (ℕ × ImportPath) → World → Headed S → List (FuncName × Func)
   header_functions paths w h =
       elim h.header [
@@ -116,6 +126,7 @@ module _ {S : Type 0} where
       assignment 0 (map (variable_place (path_of k.paths k.env.home)) (names_of ns))
       (if no_values es then Vals (zeros_of (defined_in k.env) ts) else values_term k ts es)
 
+  -- what a declaration does before `main` runs: one of variables sets them
   abbrev pub header_initial : List (ℕ × ImportPath) → World → Headed S → Term
   header_initial paths w h =
       elim h.header [
@@ -125,6 +136,7 @@ module _ {S : Type 0} where
         | a_func f ↦ nothing
       ]
 
+  -- the functions that declarations declare
   abbrev pub headers_functions : List (ℕ × ImportPath) → World → List (Headed S) → List (FuncName × Func)
   headers_functions paths w [] = []
   headers_functions paths w (h ∷ hs) = header_functions paths w h ++ headers_functions paths w hs
@@ -134,6 +146,7 @@ module _ {S : Type 0} where
   headers_initial paths w [] = nothing
   headers_initial paths w (h ∷ hs) = Let [] (header_initial paths w h) (headers_initial paths w hs)
 
+  -- what a package is in the kernel
   abbrev pub package_code : List (ℕ × ImportPath) → World → Package S → PackageCode
   package_code paths w p =
       record {
@@ -142,6 +155,7 @@ module _ {S : Type 0} where
         functions = headers_functions paths w (headed_package p.source);
       }
 
+  -- what packages are in the kernel
   abbrev pub codes_of : List (Package S) → List PackageCode
   codes_of ps = map (package_code (paths_in ps) (collected (sources ps))) ps
 
@@ -153,10 +167,12 @@ comes_first [] b = true
 comes_first (x ∷ xs) [] = false
 comes_first (x ∷ xs) (y ∷ ys) = if nat_eq x y then comes_first xs ys else nat_lt x y
 
+-- a package put in its place among others in the order of their paths
 abbrev pub inserted : PackageCode → List PackageCode → List PackageCode
 inserted c [] = c ∷ []
 inserted c (d ∷ ds) = if comes_first c.path d.path then c ∷ d ∷ ds else d ∷ inserted c ds
 
+-- packages in the order of their paths
 abbrev pub in_path_order : List PackageCode → List PackageCode
 in_path_order [] = []
 in_path_order (c ∷ cs) = inserted c (in_path_order cs)
@@ -166,21 +182,26 @@ abbrev pub one_by_one : List PackageCode → Term
 one_by_one [] = nothing
 one_by_one (c ∷ cs) = Let [] c.initial (one_by_one cs)
 
+-- what packages do before `main` runs, in the order of their paths
 abbrev pub initial_of : List PackageCode → Term
 initial_of cs = one_by_one (in_path_order cs)
 
+-- the functions of packages
 abbrev pub functions_of : List PackageCode → List (FuncName × Func)
 functions_of [] = []
 functions_of (c ∷ cs) = c.functions ++ functions_of cs
 
+-- the kernel program of packages
 abbrev pub program_of : List PackageCode → Program
 program_of cs = declared (functions_of cs)
 
+-- the function `main` of a package
 abbrev pub main_of : ImportPath → FuncName
 main_of home = function_named home (codes "main")
 
 -- ---- what is shown
 
+-- what the main package with this path shows at a budget
 abbrev pub shown_by_code : List PackageCode → ImportPath → List ℕ → ℕ → Shown
 shown_by_code cs main choices n = shows (program_of cs) (initial_of cs) (main_of main) choices n
 
@@ -202,9 +223,11 @@ module _ {S : Type 0} where
 
   -- ---- packages that are run as one program
 
+  -- the package has this import path
   abbrev pub has_path : ImportPath → Package S → Bool
   has_path path p = same_text p.path path
 
+  -- the package has this number
   abbrev pub has_number : ℕ → Package S → Bool
   has_number i p = nat_eq p.source.number i
 
@@ -222,9 +245,11 @@ module _ {S : Type 0} where
   abbrev pub imports_known : List (Package S) → SourceFile S → Bool
   imports_known before f = list_all (λ i. list_any (has_number i.of) before) f.imports
 
+  -- each package imports packages before it alone
   abbrev pub are_linked : List (Package S) → List (Package S) → Bool
   are_linked before [] = true
   are_linked before (p ∷ ps) = list_all (imports_known before) p.source.files && are_linked (p ∷ before) ps
 
+  -- packages with distinct paths and numbers, which import those before them alone and are well typed
   abbrev pub are_well_typed : List (Package S) → Bool
   are_well_typed ps = are_distinct ps && (are_linked [] ps && well_typed (sources ps))

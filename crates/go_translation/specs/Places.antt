@@ -19,20 +19,24 @@ pub record Place : Type 0 where
   pub root : Root
   pub path : List ℕ
 
+-- the variable or element itself
 abbrev pub from : Root → Place
 from r = record { root = r; path = [] }
 
+-- a field of the place
 abbrev pub field_at : ℕ → Place → Place
 field_at i p = record p { path = p.path ++ i ∷ [] }
 
 -- ---- operands, which are evaluated before the place is used
 
+-- what is evaluated before a place is stored to: a pointer, or a slice or map with its index or key
 abbrev pub operands : Root → Term
 operands (pointed p) = p
 operands (at_index a) = a
 operands (at_key z a) = a
 operands _ = nothing
 
+-- how many values those are
 abbrev pub operand_count : Root → ℕ
 operand_count (pointed p) = 1
 operand_count (at_index a) = 2
@@ -41,6 +45,7 @@ operand_count _ = 0
 
 -- ---- with its operands at hand: read, stored to, and its address
 
+-- the field of a value at a path
 abbrev pub fields_of : List ℕ → Term → Term
 fields_of [] v = v
 fields_of (i ∷ is) v = fields_of is (Prim (Field i) v)
@@ -54,14 +59,17 @@ field_address (i ∷ is) p = Prim (Address Unchecked (i ∷ is)) p
 abbrev pub pointed_address : List ℕ → Term → Term
 pointed_address is p = Prim (Address Checked is) p
 
+-- a store to a variable in the frame, or to a field of it
 abbrev pub stored_in_frame : Name → List ℕ → Term → Term
 stored_in_frame x [] v = Set (x ∷ []) v
 stored_in_frame x (i ∷ is) v = Set (x ∷ []) (Prim (SetField (i ∷ is)) (Both (Local x) v))
 
+-- a store to what a pointer of the program points to, or to a field of it
 abbrev pub stored_by_pointer : List ℕ → Term → Term → Term
 stored_by_pointer [] p v = Prim (Save Checked) (Both p v)
 stored_by_pointer (i ∷ is) p v = Prim (Save Unchecked) (Both (pointed_address (i ∷ is) p) v)
 
+-- the value at a place, whose operands have these values
 abbrev pub read_place : Root → List ℕ → Term → Term
 read_place nowhere is a = nothing
 read_place (in_frame x) is a = fields_of is (Local x)
@@ -71,6 +79,7 @@ read_place (pointed e) is a = fields_of is (Prim (Load Checked) a)
 read_place (at_index e) is a = fields_of is (Prim Element a)
 read_place (at_key z e) is a = fields_of is (Prim (MapGet z) a)
 
+-- a store of v at a place, whose operands have these values
 abbrev pub store_at : Root → List ℕ → Term → Term → Term
 store_at nowhere is a v = nothing
 store_at (in_frame x) is a v = stored_in_frame x is v
@@ -88,23 +97,28 @@ address_of (pointed e) is = pointed_address is e
 address_of (at_index e) is = field_address is (Prim ElementAddress e)
 address_of r is = nothing
 
+-- the address of a place
 abbrev pub address_term : Place → Term
 address_term p = address_of p.root p.path
 
 -- ---- temporaries, which nest and hide each other
 
+-- n temporaries from number k on
 abbrev pub temporaries : ℕ → ℕ → List Name
 temporaries k zero = []
 temporaries k (suc n) = temporary k ∷ temporaries (suc k) n
 
+-- the values of these locals
 abbrev pub local_values : List Name → Term
 local_values [] = nothing
 local_values (x ∷ xs) = Both (Local x) (local_values xs)
 
+-- how many operands the places have together
 abbrev pub operand_counts : List Place → ℕ
 operand_counts [] = 0
 operand_counts (p ∷ ps) = operand_count p.root + operand_counts ps
 
+-- the operands of the places, from left to right
 abbrev pub all_operands : List Place → Term
 all_operands [] = nothing
 all_operands (p ∷ ps) = Both (operands p.root) (all_operands ps)

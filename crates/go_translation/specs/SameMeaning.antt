@@ -11,6 +11,7 @@ pub record Packages (S : Type 0) : Type 0 where
   pub marked : List FuncName
 
 module _ {S : Type 0} where
+  -- the packages are well typed
   abbrev pub WellTyped : Packages S → Type 0
   WellTyped P = IsTrue (are_well_typed P.members)
 

@@ -23,6 +23,7 @@ use Rattle.go_translation.specs.Names.{variable_root, element_of_map}
 
 -- ---- results
 
+-- no result stands in a cell
 abbrev pub all_in_frame : List Slot → Bool
 all_in_frame [] = true
 all_in_frame (InFrame x ∷ rs) = all_in_frame rs
@@ -35,6 +36,7 @@ return_term rs e =
 
 -- ---- loops and ranges
 
+-- a turn of a loop, where `continue` ends, with the loop's label or without
 abbrev pub labelled_turn : Option (List ℕ) → Term → Term
 labelled_turn None body = Catch (continue_label None) body
 labelled_turn (Some l) body = Catch (continue_label None) (Catch (continue_label (Some l)) body)
@@ -48,10 +50,12 @@ abbrev pub renewed : List Name → Term → Term
 renewed [] post = post
 renewed (x ∷ xs) post = Let [] (Set (x ∷ []) (Prim Alloc (Prim (Load Unchecked) (Local x)))) (renewed xs post)
 
+-- what is ranged over: a slice, a map, or numbers up to a limit
 pub data RangeForm : Type 0 where
   over_slice over_map : RangeForm
   over_numbers : Kind → RangeForm
 
+-- the form of a range over this operand, where numbers have type t
 abbrev pub range_form : List Defined → GoType → Option Typed → RangeForm
 range_form ds t v =
     if meets v (λ v. is_slice ds v.0)
@@ -64,14 +68,17 @@ turn_element over_slice = Prim Element (Both (Local (temporary 1)) (Local (tempo
 turn_element over_map = Local (temporary 2)
 turn_element (over_numbers k) = v.nothing
 
+-- the values of a turn, as many as are stored
 abbrev pub turn_values : RangeForm → List GoType → Term
 turn_values r [] = v.nothing
 turn_values r (t ∷ []) = Local (temporary 0)
 turn_values r (t ∷ u ∷ ts) = Both (Local (temporary 0)) (turn_element r)
 
+-- the next index or number
 abbrev pub count_up : Kind → Term
 count_up i = Set (temporary 0 ∷ []) (Prim (Arith k.Add i) (Both (Local (temporary 0)) (one_value (Number i (pos 1)))))
 
+-- the index or number is below the limit in a temporary
 abbrev pub below_limit : ℕ → Term
 below_limit j = Prim (Compare Less) (Both (Local (temporary 0)) (Local (temporary j)))
 
@@ -95,6 +102,7 @@ range_term over_map l e body =
 
 -- ---- declarations
 
+-- a name on the left of `:=` that the block doesn't declare yet
 abbrev pub is_new : Env → List ℕ → Bool
 is_new env n = not (is_blank n || is_declared_here env n)
 
@@ -103,6 +111,7 @@ abbrev pub new_names : Env → ℕ → List (List ℕ) → List Name
 new_names env i [] = []
 new_names env i (n ∷ ns) = (if is_new env n then n else temporary i) ∷ new_names env (suc i) ns
 
+-- the frame's names of a spec's variables
 abbrev pub variable_names : ℕ → List (List ℕ) → List Name
 variable_names i [] = []
 variable_names i (n ∷ ns) = frame_name (λ n. n) (temporary i) (Some n) ∷ variable_names (suc i) ns
@@ -115,6 +124,7 @@ old_stored h i (n ∷ ns) rest =
     then Let [] (store_at (variable_root h n) [] v.nothing (Local (temporary i))) (old_stored h (suc i) ns rest)
     else old_stored h (suc i) ns rest
 
+-- the type of a variable, or else t
 abbrev pub entity_type : GoType → Option Entity → GoType
 entity_type t (Some (variable u)) = u
 entity_type t e = t
@@ -126,21 +136,26 @@ defined_types env (n ∷ ns) ts =
     (if is_declared_here env n then entity_type (first_type ts) (meaning env n) else first_type ts)
     ∷ defined_types env ns (other_types ts)
 
+-- the types of a spec's places: the written one, or those of the values
 abbrev pub spec_types : Option (Option GoType) → List (List ℕ) → List GoType → List GoType
 spec_types (Some (Some t)) ns ts = each_as t ns
 spec_types t ns ts = ts
 
+-- the type of a switch's tag; without one, cases are truth values
 abbrev pub tag_type : List Defined → Option Typed → GoType
 tag_type ds None = basic kind.Bool
 tag_type ds (Some v) = type_or no_type (settled ds v)
 
+-- the place of a statement with one left side
 abbrev pub first_place : List Place → Place
 first_place [] = from nowhere
 first_place (p ∷ ps) = p
 
+-- `bool`
 abbrev pub truth_type : GoType
 truth_type = basic kind.Bool
 
+-- `int`
 abbrev pub int_type : GoType
 int_type = basic kind.Int
 
@@ -152,6 +167,7 @@ update_type ds op t w = right_type ds op t (Some (t, run)) w
 abbrev pub element_type : List Defined → GoType → ℕ → GoType
 element_type ds u i = elim (fields_of u) [ Some fs ↦ field_type_at i fs | None ↦ type_or no_type (inner_type ds u) ]
 
+-- the name of a field as a key, or none
 abbrev pub key_name : Option (List ℕ) → List ℕ
 key_name None = []
 key_name (Some n) = n

@@ -36,41 +36,53 @@ pub data ConstantName {S : Type 0} (a : Env) : Expr S → GoType → Const → T
 abbrev pub loop_mentions : {S : Type 0} → Env → ExprOption S → StmtOption S → Stmts S → List Mention
 loop_mentions e t p b = mentions_option e t ++ mentions_first e p ++ mentions_stmts (in_block e) b
 
+-- what the tag and the clauses of a switch mention
 abbrev pub switch_mentions : {S : Type 0} → Env → ExprOption S → Cases S → List Mention
 switch_mentions e t cs = mentions_option e t ++ mentions_cases e cs
 
+-- what an arm mentions from its test on, with the arms after it and the last block
 abbrev pub arm_mentions : {S : Type 0} → Env → Expr S → Stmts S → BlockOption S → Arms S → List Mention
 arm_mentions e t b last more =
     mentions Read e t ++ mentions_stmts (in_block e) b ++ mentions_arms (in_block e) (λ k. mentions_block k last) more
 
 module _ {S : Type 0} where
+  -- what a `for` mentions behind its first statement
   abbrev pub loop_uses : Here → StmtOption S → ExprOption S → StmtOption S → Stmts S → List Mention
   loop_uses h i t p b = loop_mentions (extend (binds_first (in_block h.env) i) (in_block h.env)) t p b
 
+  -- where the condition of a `for` stands, behind its first statement
   abbrev pub loop_here : Here → StmtOption S → ExprOption S → StmtOption S → Stmts S → Here
   loop_here h i t p b = declaring (binds_first (in_block h.env) i) (loop_uses h i t p b) (in_inner h)
 
+  -- what a range clause binds
   abbrev pub range_bound : Here → RangeLeft S → Expr S → Binds
   range_bound h x e = binds_of (defined x) (range_declares h.env (parts h.env e) x)
 
+  -- what the block of a range mentions
   abbrev pub range_uses : Here → RangeLeft S → Expr S → Stmts S → List Mention
   range_uses h x e b = mentions_stmts (in_block (extend (range_bound h x e) (in_block h.env))) b
 
+  -- where the block of a range stands
   abbrev pub range_here : Here → RangeLeft S → Expr S → Stmts S → Here
   range_here h x e b = declaring (range_bound h x e) (range_uses h x e b) (in_inner h)
 
+  -- what a switch mentions behind its first statement
   abbrev pub switch_uses : Here → StmtOption S → ExprOption S → Cases S → List Mention
   switch_uses h i t cs = switch_mentions (extend (binds_first (in_block h.env) i) (in_block h.env)) t cs
 
+  -- where the tag of a switch stands
   abbrev pub switch_here : Here → StmtOption S → ExprOption S → Cases S → Here
   switch_here h i t cs = declaring (binds_first (in_block h.env) i) (switch_uses h i t cs) (in_inner h)
 
+  -- what an arm mentions behind its first statement
   abbrev pub arm_uses : Here → StmtOption S → Expr S → Stmts S → BlockOption S → Arms S → List Mention
   arm_uses h i t b last more = arm_mentions (extend (binds_first h.env i) h.env) t b last more
 
+  -- where the test of an arm stands
   abbrev pub arm_here : Here → StmtOption S → Expr S → Stmts S → BlockOption S → Arms S → Here
   arm_here h i t b last more = declaring (binds_first h.env i) (arm_uses h i t b last more) h
 
+  -- what the variable specs after one mention, and then the statements after them
   abbrev pub spec_uses :
       Here → List Mention → List (NameAt S) → Option (TypeExpr S) → Exprs S → ValueSpecs S → List Mention
   spec_uses h ms ns t es ss = mentions_specs (extend (spec_binds h.env ns t es) h.env) ss ++ ms
@@ -89,12 +101,14 @@ module _ {S : Type 0} where
   begins_anew no_specs = true
   begins_anew (spec _ ns t es ss) = not (no_values es)
 
+  -- what the constant spec with this number binds
   abbrev pub const_binds : Here → ℕ → List (NameAt S) → Option (TypeExpr S) → Exprs S → Binds
   const_binds h i ns t es =
       binds_of (names_of ns)
       (new_constants (at_iota h i).env (names_of ns) (written_type h.env t) (all_parts (at_iota h i).env es))
 
 mutual
+  -- an expression with names of constants swapped for others of the same type and value
   pub data SwappedExpr {S : Type 0} : Here → Expr S → Expr S → Type 0 where
     same_expr : {h : Here} {e : Expr S} → SwappedExpr h e e
     constants :
@@ -129,12 +143,14 @@ mutual
         SwappedExpr h (binary s op x y) (binary s op x' y')
     in_star : {h : Here} (s : S) {e e' : Expr S} → SwappedExpr h e e' → SwappedExpr h (star s e) (star s e')
 
+  -- so of a list of expressions
   pub data SwappedExprs {S : Type 0} : Here → Exprs S → Exprs S → Type 0 where
     same_exprs : {h : Here} {es : Exprs S} → SwappedExprs h es es
     in_exprs :
         {h : Here} {e e' : Expr S} {es es' : Exprs S} → SwappedExpr h e e' → SwappedExprs h es es' →
         SwappedExprs h (expr_and e es) (expr_and e' es')
 
+  -- so of a bound or a condition
   pub data SwappedOption {S : Type 0} : Here → ExprOption S → ExprOption S → Type 0 where
     same_option : {h : Here} {e : ExprOption S} → SwappedOption h e e
     in_option : {h : Here} {e e' : Expr S} → SwappedExpr h e e' → SwappedOption h (some_expr e) (some_expr e')
@@ -229,24 +245,28 @@ mutual
         SwappedConsts (declaring (const_binds h i ns t es) [] h) (i + 1) ss ss' →
         SwappedConsts h i (spec s ns t es ss) (spec s ns t es' ss')
 
+  -- so of the statements of a block
   pub data SwappedStmts {S : Type 0} : Here → Stmts S → Stmts S → Type 0 where
     same_stmts : {h : Here} {ss : Stmts S} → SwappedStmts h ss ss
     in_stmts :
         {h : Here} {s s' : Stmt S} {ss ss' : Stmts S} → SwappedStmt h (following h s ss) s s' →
         SwappedStmts (after h s ss) ss ss' → SwappedStmts h (stmt_and s ss) (stmt_and s' ss')
 
+  -- so of a statement in a header, before what is mentioned as ms
   pub data SwappedFirst {S : Type 0} : Here → List Mention → StmtOption S → StmtOption S → Type 0 where
     same_first : {h : Here} {ms : List Mention} {i : StmtOption S} → SwappedFirst h ms i i
     in_first :
         {h : Here} {ms : List Mention} {s s' : Stmt S} → SwappedStmt h ms s s' →
         SwappedFirst h ms (some_stmt s) (some_stmt s')
 
+  -- so of the last block of an `if`
   pub data SwappedBlock {S : Type 0} : Here → BlockOption S → BlockOption S → Type 0 where
     same_block : {h : Here} {b : BlockOption S} → SwappedBlock h b b
     in_last :
         {h : Here} (s : S) {b b' : Stmts S} → SwappedStmts (in_inner h) b b' →
         SwappedBlock h (some_block s b) (some_block s b')
 
+  -- so of what a range clause assigns to
   pub data SwappedLeft {S : Type 0} : Here → RangeLeft S → RangeLeft S → Type 0 where
     same_left : {h : Here} {x : RangeLeft S} → SwappedLeft h x x
     in_assigned : {h : Here} {es es' : Exprs S} → SwappedExprs h es es' → SwappedLeft h (assigns es) (assigns es')
@@ -262,12 +282,14 @@ mutual
         SwappedArms (in_inner (arm_here h i t b last more)) last last' more more' →
         SwappedArms h last last' (arm s i t r b more) (arm s i' t' r b' more')
 
+  -- so of the clauses of a switch
   pub data SwappedCases {S : Type 0} : Here → Cases S → Cases S → Type 0 where
     same_cases : {h : Here} {cs : Cases S} → SwappedCases h cs cs
     in_case :
         {h : Here} (s : S) {es es' : Exprs S} {b b' : Stmts S} {cs cs' : Cases S} → SwappedExprs h es es' →
         SwappedStmts (in_inner h) b b' → SwappedCases h cs cs' → SwappedCases h (case s es b cs) (case s es' b' cs')
 
+  -- so of variable specs, before what is mentioned as ms
   pub data SwappedSpecs {S : Type 0} : Here → List Mention → ValueSpecs S → ValueSpecs S → Type 0 where
     same_specs : {h : Here} {ms : List Mention} {ss : ValueSpecs S} → SwappedSpecs h ms ss ss
     in_spec :

@@ -37,6 +37,7 @@ pub data SwappedHeader {S : Type 0} (paths : List (ℕ × ImportPath)) (w : Worl
       SwappedStmts (function_here paths w h f g) f.body b →
       SwappedHeader paths w (record h { header = a_func f }) (record h { header = a_func (record f { body = b }) })
 
+-- so one by one
 pub data SwappedHeaders {S : Type 0} (paths : List (ℕ × ImportPath)) (w : World)
     : List (Headed S) → List (Headed S) → Type 0 where
   no_headers : SwappedHeaders paths w [] []
@@ -44,6 +45,7 @@ pub data SwappedHeaders {S : Type 0} (paths : List (ℕ × ImportPath)) (w : Wor
       {h h' : Headed S} {hs hs' : List (Headed S)} → SwappedHeader paths w h h' → SwappedHeaders paths w hs hs' →
       SwappedHeaders paths w (h ∷ hs) (h' ∷ hs')
 
+-- packages with the same paths, whose headers are so one by one
 pub data SwappedMembers {S : Type 0} (paths : List (ℕ × ImportPath)) (w : World)
     : List (Package S) → List (Package S) → Type 0 where
   no_packages : SwappedMembers paths w [] []

@@ -35,6 +35,7 @@ module _ {S : Type 0} where
   abbrev mutual
     -- ---- expressions, at a place of type t
 
+    -- an expression at a place of type t
     pub expr_term : Here → GoType → Expr S → Term
     expr_term h t (ident _ n) = name_term h t n (meaning h.env n)
     expr_term h t (int_lit _ s) =
@@ -105,6 +106,7 @@ module _ {S : Type 0} where
         ]
     try_term h e = v.nothing
 
+    -- a bound or a condition, or nothing
     pub option_term : Here → GoType → ExprOption S → Term
     option_term h t no_expr = v.nothing
     option_term h t (some_expr e) = expr_term h t e
@@ -117,6 +119,7 @@ module _ {S : Type 0} where
         (Both (element_term h (element_type (defined_here h) u (element_place h.env u i k)) x)
         (elems_term h u (suc (element_place h.env u i k)) es))
 
+    -- an element's key, or nothing
     pub key_term : Here → Option GoType → ValueOption S → Term
     key_term h t no_value = v.nothing
     key_term h t (some_value x) = element_term h (type_or no_type t) x
@@ -131,6 +134,7 @@ module _ {S : Type 0} where
 
     -- ---- places, and the addresses of variables and literals
 
+    -- what an expression on a left side stores to
     pub place_term : Here → Expr S → Place
     place_term h (ident _ n) = from (name_root h n)
     place_term h (selector _ b n) =
@@ -150,10 +154,12 @@ module _ {S : Type 0} where
     place_term h (star _ e) = from (pointed (expr_term h no_type e))
     place_term h e = from nowhere
 
+    -- what a list of left sides stores to
     pub place_terms : Here → Exprs S → List Place
     place_terms h no_exprs = []
     place_terms h (expr_and e es) = place_term h e ∷ place_terms h es
 
+    -- the address of an expression; of a literal, that of a new variable with its value
     pub address : Here → Expr S → Term
     address h (composite _ u es) =
         answer_or v.nothing (type_meant h.env u) (λ w.
@@ -176,6 +182,7 @@ module _ {S : Type 0} where
 
     -- ---- what is called
 
+    -- what an expression calls
     pub callee : Here → Expr S → Callee
     callee h (ident _ n) = named_callee (path_of h.paths h.env.home) n (named_operand h.env (meaning h.env n))
     callee h (selector _ b n) =
@@ -196,6 +203,7 @@ module _ {S : Type 0} where
 
     -- ---- statements, each before what follows it
 
+    -- the statements of a block, one after the other
     pub stmts_term : Here → Stmts S → Term
     stmts_term h no_stmts = v.nothing
     stmts_term h (stmt_and s ss) = stmt_term h None (following h s ss) s (stmts_term (after h s ss) ss)
@@ -277,10 +285,12 @@ module _ {S : Type 0} where
     test_term h no_expr = one_value (Truth true)
     test_term h (some_expr e) = expr_term h truth_type e
 
+    -- a switch's tag, or true
     pub tag_term : Here → GoType → ExprOption S → Term
     tag_term h u no_expr = one_value (Truth true)
     tag_term h u (some_expr e) = expr_term h u e
 
+    -- the last block of an `if`, or nothing
     pub block_term : Here → BlockOption S → Term
     block_term h no_block = v.nothing
     block_term h (some_block _ b) = stmts_term (in_inner h) b
@@ -313,16 +323,19 @@ module _ {S : Type 0} where
         then cases_term h u last cs
         else If (fits_term h u es) (stmts_term (in_inner h) b) (cases_term h u last cs)
 
+    -- whether the tag, in temporary 0, is equal to one of a clause's expressions
     pub fits_term : Here → GoType → Exprs S → Term
     fits_term h u no_exprs = one_value (Truth false)
     fits_term h u (expr_and e es) =
         If (Prim (Compare Equal) (Both (Local (temporary 0)) (expr_term h u e))) (one_value (Truth true))
         (fits_term h u es)
 
+    -- the statements of the default clause, or nothing
     pub default_term : Here → Cases S → Term
     default_term h no_cases = v.nothing
     default_term h (case _ es b cs) = if no_values es then stmts_term (in_inner h) b else default_term h cs
 
+    -- a call that is deferred
     pub deferred_term : Here → Expr S → Term
     deferred_term h (call _ f xs _) =
         let c : Callee = callee h f in

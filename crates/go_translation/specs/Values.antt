@@ -10,9 +10,11 @@ use Rattle.go_types.specs.Defined.{Defined, under}
 use Rattle.go_types.specs.Operands.{Operand, Typed, typed}
 use Rattle.go_kernel.specs.Kernel.{ImportPath, Kind, Int, Int8, Int16, Int32, Int64, Uint, Uint8, Uint16, Uint32, Uint64, Value, Number, Truth, Str, Nil, Empty, With, PanicType, BoolType, StringType, NumberType, DefinedType, PointerType, SliceType, MapType, StructType, FieldTypes, NoField, AndField, Term, Vals}
 
+-- no values
 abbrev pub nothing : Term
 nothing = Vals []
 
+-- one value
 abbrev pub one_value : Value → Term
 one_value v = Vals (v ∷ [])
 
@@ -23,6 +25,7 @@ path_of (q ∷ qs) p = if nat_eq q.0 p then q.1 else path_of qs p
 
 -- ---- whole numbers
 
+-- a kind of whole numbers as the kernel's
 abbrev pub number_kind : c.Kind → Kind
 number_kind kind.Int8 = Int8
 number_kind kind.Int16 = Int16
@@ -35,6 +38,7 @@ number_kind kind.Uint32 = Uint32
 number_kind kind.Uint64 = Uint64
 number_kind k = Int
 
+-- so of a type that has one, else `int`
 abbrev pub number_kind_or_int : Option c.Kind → Kind
 number_kind_or_int None = Int
 number_kind_or_int (Some k) = number_kind k
@@ -56,6 +60,7 @@ constant_term ds t u c = one_value (as_value ds u c)
 
 -- ---- zero values
 
+-- the zero value of a basic type
 abbrev pub zero_of_kind : c.Kind → Value
 zero_of_kind kind.Bool = Truth false
 zero_of_kind kind.Str = Str []
@@ -69,6 +74,7 @@ abbrev mutual
   zero_by names (struct_of fs) = zero_fields names fs
   zero_by names t = Nil
 
+  -- the zero values of a struct's fields
   pub zero_fields : (GoType → Value) → GoFields → Value
   zero_fields names no_go_fields = Empty
   zero_fields names (go_field n p t fs) = With (zero_by names t) (zero_fields names fs)
@@ -78,25 +84,30 @@ abbrev pub zero_within : ℕ → List Defined → GoType → Value
 zero_within zero ds t = Nil
 zero_within (suc k) ds t = zero_by (λ u. zero_within k ds (under ds u)) t
 
+-- the zero value of a type
 abbrev pub zero_of : List Defined → GoType → Value
 zero_of ds t = zero_within (suc (length ds)) ds t
 
+-- the zero values of types
 abbrev pub zeros_of : List Defined → List GoType → List Value
 zeros_of ds [] = []
 zeros_of ds (t ∷ ts) = zero_of ds t ∷ zeros_of ds ts
 
 -- ---- types of panics
 
+-- a basic type, as a panic tells it
 abbrev pub panic_kind : c.Kind → PanicType
 panic_kind kind.Bool = BoolType
 panic_kind kind.Str = StringType
 panic_kind k = NumberType (number_kind k)
 
+-- the import path of the package to which an unexported field belongs
 abbrev pub field_home : List (ℕ × ImportPath) → Option ℕ → Option ImportPath
 field_home paths None = None
 field_home paths (Some p) = Some (path_of paths p)
 
 abbrev mutual
+  -- a type, as a panic tells it
   pub panic_type : List (ℕ × ImportPath) → GoType → PanicType
   panic_type paths (basic k) = panic_kind k
   panic_type paths (named_type p n) = DefinedType (path_of paths p) n
@@ -108,12 +119,14 @@ abbrev mutual
   panic_type paths (untyped k) = panic_kind k
   panic_type paths untyped_nil = BoolType
 
+  -- the fields of a struct, as a panic tells them
   pub panic_fields : List (ℕ × ImportPath) → GoFields → FieldTypes
   panic_fields paths no_go_fields = NoField
   panic_fields paths (go_field n p t fs) = AndField n (field_home paths p) (panic_type paths t) (panic_fields paths fs)
 
 -- ---- what is known of an operand
 
+-- the type and content of an operand that is a value
 abbrev pub typed_of : Option Operand → Option Typed
 typed_of None = None
 typed_of (Some o) = typed o

@@ -11,6 +11,7 @@ pub record NameAt (S : Type 0) : Type 0 where
   pub name : List ℕ
 
 mutual
+  -- types as they are written: a name, perhaps of a package, a pointer, a slice, a map, a struct
   pub data TypeExpr (S : Type 0) : Type 0 where
     named : S → Option (NameAt S) → NameAt S → TypeExpr S
     pointer : S → TypeExpr S → TypeExpr S
@@ -23,6 +24,7 @@ mutual
     no_fields : Fields S
     field : S → NameAt S → TypeExpr S → Fields S → Fields S
 
+-- a parameter or a result: its name, if any, whether it is variadic, and its type
 pub record Param (S : Type 0) : Type 0 where
   pub span : S
   pub name : Option (NameAt S)
@@ -30,11 +32,13 @@ pub record Param (S : Type 0) : Type 0 where
   pub rest : Bool
   pub of : TypeExpr S
 
+-- a signature: its parameters and its results
 pub record Sig (S : Type 0) : Type 0 where
   pub params : List (Param S)
   pub results : List (Param S)
 
 mutual
+  -- expressions; `type_operand` is a type where an expression stands, as in a conversion or a call of `make`
   pub data Expr (S : Type 0) : Type 0 where
     ident : S → List ℕ → Expr S
     int_lit : S → List ℕ → Expr S
@@ -51,10 +55,12 @@ mutual
     binary : S → BinOp → Expr S → Expr S → Expr S
     star : S → Expr S → Expr S
 
+  -- a list of expressions
   pub data Exprs (S : Type 0) : Type 0 where
     no_exprs : Exprs S
     expr_and : Expr S → Exprs S → Exprs S
 
+  -- an expression that may be left out: a bound of a slice, or a condition
   pub data ExprOption (S : Type 0) : Type 0 where
     no_expr : ExprOption S
     some_expr : Expr S → ExprOption S
@@ -64,14 +70,17 @@ mutual
     no_elems : Elems S
     elem : S → ValueOption S → Value S → Elems S → Elems S
 
+  -- an element's value, or its key: an expression, or elements in braces whose type is left out
   pub data Value (S : Type 0) : Type 0 where
     plain : Expr S → Value S
     braced : S → Elems S → Value S
 
+  -- an element's key, which may be left out
   pub data ValueOption (S : Type 0) : Type 0 where
     no_value : ValueOption S
     some_value : Value S → ValueOption S
 
+  -- statements; declarations of constants and of variables are among them
   pub data Stmt (S : Type 0) : Type 0 where
     const_decl : S → Bool → ValueSpecs S → Stmt S
     var_decl : S → Bool → ValueSpecs S → Stmt S
@@ -91,18 +100,22 @@ mutual
     defer : S → Expr S → Stmt S
     label : S → NameAt S → Stmt S → Stmt S
 
+  -- a list of statements
   pub data Stmts (S : Type 0) : Type 0 where
     no_stmts : Stmts S
     stmt_and : Stmt S → Stmts S → Stmts S
 
+  -- a statement in the header of an `if`, a `for` or a `switch`, which may be left out
   pub data StmtOption (S : Type 0) : Type 0 where
     no_stmt : StmtOption S
     some_stmt : Stmt S → StmtOption S
 
+  -- the last block of an `if`, which may be left out
   pub data BlockOption (S : Type 0) : Type 0 where
     no_block : BlockOption S
     some_block : S → Stmts S → BlockOption S
 
+  -- the left side of a range clause: nothing, what it assigns to, or the variables that it declares
   pub data RangeLeft (S : Type 0) : Type 0 where
     nothing : RangeLeft S
     assigns : Exprs S → RangeLeft S
@@ -113,6 +126,7 @@ mutual
     no_arms : Arms S
     arm : S → StmtOption S → Expr S → S → Stmts S → Arms S → Arms S
 
+  -- the clauses of a switch: each one's span, expressions and statements; the default has no expressions
   pub data Cases (S : Type 0) : Type 0 where
     no_cases : Cases S
     case : S → Exprs S → Stmts S → Cases S → Cases S

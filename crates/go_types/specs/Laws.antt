@@ -50,44 +50,54 @@ RowsAreKept = (rows more : List TypeNode) (i : ℕ) (t : GoType) → StandsFor r
 
 -- ---- spans: a tree is typed as it is without its spans
 
+-- what an expression is doesn't hang on its spans
 abbrev pub OperandsNeedNoSpans : Type 0
 OperandsNeedNoSpans = (a : Env) (e : Expr Span) → parts a (bare_expr e) ≡ parts a e
 
+-- nor does whether it is addressable
 abbrev pub PlacesNeedNoSpans : Type 0
 PlacesNeedNoSpans = (a : Env) (e : Expr Span) → place a (bare_expr e) ≡ place a e
 
+-- nor do the names that statements use
 abbrev pub UsesNeedNoSpans : Type 0
 UsesNeedNoSpans = (a : Env) (b : Stmts Span) → used_stmts a (bare_stmts b) ≡ used_stmts a b
 
+-- nor does what a statement declares
 abbrev pub DeclarationsNeedNoSpans : Type 0
 DeclarationsNeedNoSpans = (a : Env) (s : Stmt Span) → declares a (bare_stmt s) ≡ declares a s
 
+-- nor does whether statements are well typed
 abbrev pub BodiesNeedNoSpans : Type 0
 BodiesNeedNoSpans =
     (c : Ctx) (a : Env) (before : Bool) (b : Stmts Span) → stmts c a before (bare_stmts b) ≡ stmts c a before b
 
 -- ---- names: a part is typed as with other names around it that agree (Declarations and scope)
 
+-- an expression is the same under other names, where its free names mean what they meant
 abbrev pub OperandsAlike : Type 0
 OperandsAlike =
     (a : Env) (e : Expr Span) (m : Environment Entity) (around : List (List ℕ)) → Agrees around a m →
     On (free_expr around e) a m → parts a e ≡ parts (with_names a m) e
 
+-- it is as addressable as before
 abbrev pub PlacesAlike : Type 0
 PlacesAlike =
     (a : Env) (e : Expr Span) (m : Environment Entity) (around : List (List ℕ)) → Agrees around a m →
     On (free_expr around e) a m → place a e ≡ place (with_names a m) e
 
+-- statements use the same under other names, where their free names mean what they meant
 abbrev pub UsesAlike : Type 0
 UsesAlike =
     (a : Env) (b : Stmts Span) (m : Environment Entity) (around : List (List ℕ)) → Agrees around a m →
     On (free_stmts around b) a m → used_stmts a b ≡ used_stmts (with_names a m) b
 
+-- a statement declares the same there
 abbrev pub DeclarationsAlike : Type 0
 DeclarationsAlike =
     (a : Env) (s : Stmt Span) (m : Environment Entity) (around : List (List ℕ)) → Agrees around a m →
     On (free_stmt around s) a m → declares a s ≡ declares (with_names a m) s
 
+-- statements are as well typed there
 abbrev pub BodiesAlike : Type 0
 BodiesAlike =
     (c : Ctx) (a : Env) (before : Bool) (b : Stmts Span) (m : Environment Entity) (around : List (List ℕ)) →
@@ -96,19 +106,24 @@ BodiesAlike =
 -- ---- packages: a part is typed as beside other package blocks, if the packages that names mean declare the same
 -- (Import declarations; Qualified identifiers)
 
+-- an expression is the same beside other package blocks, where the packages that names mean declare the same
 abbrev pub OperandsApart : Type 0
 OperandsApart = (a : Env) (e : Expr Span) (m : Blocks) → SameImports a m → parts a e ≡ parts (with_blocks a m) e
 
+-- it is as addressable as before
 abbrev pub PlacesApart : Type 0
 PlacesApart = (a : Env) (e : Expr Span) (m : Blocks) → SameImports a m → place a e ≡ place (with_blocks a m) e
 
+-- statements use the same there
 abbrev pub UsesApart : Type 0
 UsesApart = (a : Env) (b : Stmts Span) (m : Blocks) → SameImports a m → used_stmts a b ≡ used_stmts (with_blocks a m) b
 
+-- a statement declares the same there
 abbrev pub DeclarationsApart : Type 0
 DeclarationsApart = (a : Env) (s : Stmt Span) (m : Blocks) → SameImports a m →
     declares a s ≡ declares (with_blocks a m) s
 
+-- statements are as well typed there
 abbrev pub BodiesApart : Type 0
 BodiesApart =
     (c : Ctx) (a : Env) (before : Bool) (b : Stmts Span) (m : Blocks) → SameImports a m →

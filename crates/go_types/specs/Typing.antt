@@ -28,8 +28,7 @@ use Rattle.go_types.specs.Statements.{Target, blank, target_at, stores_all, upda
 
 module _ {S : Type 0} where
   abbrev mutual
-    -- ---- what an expression is, by its parts
-
+    -- the operand that an expression is, where it is well typed
     pub parts : Env → Expr S → Option Operand
     parts env (ident _ n) = named_operand env (meaning env n)
     parts env (int_lit _ s) = literal_operand kind.UntypedInt (number (pos (integer_value s)))
@@ -91,8 +90,7 @@ module _ {S : Type 0} where
         then given (field_key k) (λ n. Some (of_field n o))
         else given (element env (key_type (defined_in env) u) k) (λ q. Some (keyed q o))
 
-    -- ---- where an expression stands
-
+    -- whether an expression is addressable, an element of a map, or a composite literal
     pub place : Env → Expr S → Place
     place env (ident _ n) = named_place (meaning env n)
     place env (composite _ t es) = literal
@@ -110,8 +108,7 @@ module _ {S : Type 0} where
     places env no_exprs = []
     places env (expr_and e es) = place env e ∷ places env es
 
-    -- ---- the names that are used: any occurrence but as a whole left side of `=` or `:=`
-
+    -- the names that an expression uses: any occurrence but as a whole left side of `=` or `:=`
     pub used : Env → Expr S → List (List ℕ)
     used env (ident _ n) = n ∷ []
     used env (int_lit _ s) = []
@@ -131,10 +128,12 @@ module _ {S : Type 0} where
     used env (binary _ op x y) = used env x ++ used env y
     used env (star _ e) = used env e
 
+    -- the names that a list of expressions uses
     pub used_all : Env → Exprs S → List (List ℕ)
     used_all env no_exprs = []
     used_all env (expr_and e es) = used env e ++ used_all env es
 
+    -- the names that a bound or a condition uses, which may be left out
     pub used_option : Env → ExprOption S → List (List ℕ)
     used_option env no_expr = []
     used_option env (some_expr e) = used env e
@@ -145,11 +144,13 @@ module _ {S : Type 0} where
     used_elems env u (elem _ k v es) =
         used_key env u k ++ used_value env (given u (inner_type (defined_in env))) v ++ used_elems env u es
 
+    -- the names that a key uses; one of a struct is a field's name, which is no use
     pub used_key : Env → Option GoType → ValueOption S → List (List ℕ)
     used_key env u no_value = []
     used_key env u (some_value k) =
         if meets u is_struct then [] else used_value env (given u (key_type (defined_in env))) k
 
+    -- the names that a value of an element uses, whose type is left out where it stands in braces alone
     pub used_value : Env → Option GoType → Value S → List (List ℕ)
     used_value env t (plain e) = used env e
     used_value env t (braced _ es) =
@@ -161,6 +162,7 @@ module _ {S : Type 0} where
     used_left env (expr_and (ident _ n) es) = used_left env es
     used_left env (expr_and e es) = used env e ++ used_left env es
 
+    -- the names that a statement uses, those of blocks in it only where they aren't declared there
     pub used_stmt : Env → Stmt S → List (List ℕ)
     used_stmt env (const_decl _ _ ss) = used_constants env ss
     used_stmt env (var_decl _ _ ss) = used_variables env ss
@@ -188,6 +190,7 @@ module _ {S : Type 0} where
     used_stmt env (defer _ e) = used env e
     used_stmt env (label _ n s) = used_stmt env s
 
+    -- the names that statements use beyond what those before them declare
     pub used_stmts : Env → Stmts S → List (List ℕ)
     used_stmts env no_stmts = []
     used_stmts env (stmt_and s ss) = let bs : Binds = binds_of (declared s) (declares env s) in
@@ -198,10 +201,12 @@ module _ {S : Type 0} where
     used_first env no_stmt = []
     used_first env (some_stmt s) = used_stmt env s
 
+    -- the names that the last block of an `if` uses
     pub used_block : Env → BlockOption S → List (List ℕ)
     used_block env no_block = []
     used_block env (some_block _ b) = used_stmts (in_block env) b
 
+    -- the names that the left side of a range clause uses
     pub used_range : Env → RangeLeft S → List (List ℕ)
     used_range env nothing = []
     used_range env (assigns es) = used_left env es
@@ -214,6 +219,7 @@ module _ {S : Type 0} where
         let bs : Binds = binds_of (declared_option i) (declares_first env i) in let k : Env = extend bs env in
         used_first env i ++ beyond bs (used k e ++ used_stmts (in_block k) b ++ used_arms (in_block k) last rest)
 
+    -- the names that the clauses of a switch use
     pub used_cases : Env → Cases S → List (List ℕ)
     used_cases env no_cases = []
     used_cases env (case _ es b cs) = used_all env es ++ used_stmts (in_block env) b ++ used_cases env cs
@@ -224,6 +230,7 @@ module _ {S : Type 0} where
     used_constants env (spec _ ns t es ss) = let bs : Binds = bind_each refused (names_of ns) in
         free_type_option [] t ++ used_all env es ++ beyond bs (used_constants (extend bs env) ss)
 
+    -- the names that specs of variables use beyond what the specs before them declare
     pub used_variables : Env → ValueSpecs S → List (List ℕ)
     used_variables env no_specs = []
     used_variables env (spec _ ns t es ss) =
@@ -233,8 +240,7 @@ module _ {S : Type 0} where
         (right_values env (length ns) (places env es) (all_parts env es))) in
         free_type_option [] t ++ used_all env es ++ beyond bs (used_variables (extend bs env) ss)
 
-    -- ---- what a statement declares for those after it
-
+    -- what a statement declares in its block
     pub declares : Env → Stmt S → Option Declared
     declares env (const_decl _ _ ss) = declares_constants env nothing_to_repeat 0 ss
     declares env (var_decl _ _ ss) = declares_variables env ss
@@ -272,8 +278,6 @@ module _ {S : Type 0} where
     range_declares env o (defines ns) = given o (new_by_range env (names_of ns))
     range_declares env o l = Some no_names
 
-    -- ---- which statements are typed, and whether they are terminating
-
     -- where the left sides of an assignment store
     pub targets : Env → Exprs S → Option (List Target)
     targets env no_exprs = Some []
@@ -282,6 +286,7 @@ module _ {S : Type 0} where
         (if is_blank_name e then Some blank else given (parts env e) (λ o. with_value o (target_at (place env e))))
         (targets env es) (λ t ts. Some (t ∷ ts))
 
+    -- whether a statement is well typed, and then whether it is terminating
     pub stmt : Ctx → Env → Stmt S → Option Bool
     stmt c env (const_decl _ _ ss) = given (declares_constants env nothing_to_repeat 0 ss) (λ d. Some false)
     stmt c env (var_decl _ _ ss) = given (declares_variables env ss) (λ d. Some false)

@@ -99,6 +99,7 @@ terminal_at t = code_of (pure.terminal_of t.kind t.spelling)
 
 -- ---- a word in a table
 
+-- a word that no table has is foreign
 abbrev pub foreign_or : Option pure.Terminal → pure.Terminal
 foreign_or None = pure.foreign
 foreign_or (Some t) = t
@@ -114,5 +115,6 @@ row_at [] at word = None
 row_at (row ∷ rows) zero word = if bytes_eq row.0 word then Some row.1 else None
 row_at (row ∷ rows) (suc at) word = row_at rows at word
 
+-- the hash of a word, by its first two bytes and its length
 abbrev pub hash_of : ℕ → ℕ → List ℕ → ℕ
 hash_of second size word = slice_index word 0 + second * slice_index word 1 + size * (length word % 64)

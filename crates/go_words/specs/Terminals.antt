@@ -79,9 +79,11 @@ keywords =
     ∷ (codes "struct", key_struct) ∷ (codes "switch", key_switch) ∷ (codes "type", key_type)
     ∷ (codes "var", key_var) ∷ []
 
+-- a binary operator with its spelling
 abbrev pub binary_row : BinOp → List ℕ × Terminal
 binary_row op = (binary_spelling op, binary_op op)
 
+-- an assignment operator with its spelling
 abbrev pub assign_row : Option BinOp → List ℕ × Terminal
 assign_row op = (assign_spelling op, assign op)
 
@@ -111,6 +113,7 @@ found_in (row ∷ rows) spelling = if bytes_eq row.0 spelling then row.1 else fo
 
 -- ---- the terminals of tokens
 
+-- the terminal of a token of this kind and spelling
 abbrev pub terminal_of : TokenKind → List ℕ → Terminal
 terminal_of Ident spelling = ident spelling
 terminal_of Keyword spelling = found_in keywords spelling
@@ -122,9 +125,11 @@ terminal_of Rune spelling = rune_lit spelling
 terminal_of Str spelling = str_lit spelling
 terminal_of Inserted spelling = semicolon
 
+-- a token's terminal where it stands
 abbrev pub lexeme_of : Token → Lexeme
 lexeme_of t = lex t.span (terminal_of t.kind t.spelling)
 
+-- the terminals of tokens where they stand
 abbrev pub lexemes : List Token → List Lexeme
 lexemes tokens = map lexeme_of tokens
 

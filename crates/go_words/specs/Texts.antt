@@ -1,6 +1,7 @@
 -- What a string literal stands for (Go specification, Rune literals and String literals).
 use Rattle.std.specs.Prelude.{ℕ, zero, suc, ◌+◌, ◌-◌, ◌*◌, Bool, ◌&&◌, nat_eq, nat_le, nat_lt, if◌then◌else◌, List, [], ◌∷◌, ◌++◌, length, take, drop, encode_utf8}
 
+-- the value of a hexadecimal digit, by its code
 abbrev pub hex_digit : ℕ → ℕ
 hex_digit c = if nat_lt c 58 then c - 48 else (if nat_lt c 71 then c - 55 else c - 87)
 
@@ -18,6 +19,7 @@ letter_escape c =
     else (if nat_eq c 110 then 10
     else (if nat_eq c 114 then 13 else (if nat_eq c 116 then 9 else (if nat_eq c 118 then 11 else c))))))
 
+-- an octal digit, by its code
 abbrev pub is_octal : ℕ → Bool
 is_octal c = nat_le 48 c && nat_lt c 56
 

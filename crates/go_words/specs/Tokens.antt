@@ -30,6 +30,7 @@ abbrev pub inserted : Option ℕ → List Token
 inserted None = []
 inserted (Some at) = record { span = record { start = at; end = at }; kind = Inserted; spelling = codes ";" } ∷ []
 
+-- the span of a word that begins at a byte
 abbrev pub span_of : ℕ → List ℕ → Span
 span_of at word = record { start = at; end = at + size_of word }
 
@@ -39,19 +40,23 @@ abbrev pub tokens_at : ℕ → Option ℕ → PieceKind → List ℕ → List To
 tokens_at at due (token k) word = record { span = span_of at word; kind = k; spelling = encode_utf8_all word } ∷ []
 tokens_at at due _ word = if is_listed word 10 then inserted due else []
 
+-- where a semicolon is due after a piece: at the end of a token that ends a line, until the newline has passed
 abbrev pub due_after : ℕ → Option ℕ → PieceKind → List ℕ → Option ℕ
 due_after at due (token k) word = if ends_line k word then Some (at + size_of word) else None
 due_after at due _ word = if is_listed word 10 then None else due
 
+-- the tokens of pieces from a byte on, with the semicolons that are inserted
 unfoldable pub tokens_from : ℕ → Option ℕ → List Piece → List Token
 tokens_from at due [] = inserted due
 tokens_from at due (p ∷ ps) =
     tokens_at at due p.kind p.word ++ tokens_from (at + size_of p.word) (due_after at due p.kind p.word) ps
 
+-- the comment that a piece is, if it is one
 abbrev pub comments_at : ℕ → PieceKind → List ℕ → List Comment
 comments_at at remark word = record { span = span_of at word } ∷ []
 comments_at at _ word = []
 
+-- the comments among pieces from a byte on
 unfoldable pub comments_from : ℕ → List Piece → List Comment
 comments_from at [] = []
 comments_from at (p ∷ ps) = comments_at at p.kind p.word ++ comments_from (at + size_of p.word) ps
@@ -76,6 +81,7 @@ pub record TokensOf (text : List ℕ) (tokens : List Token) (comments : List Com
   pub tokens_are : tokens ≡ tokens_from (mark_size characters) None pieces
   pub comments_are : comments ≡ comments_from (mark_size characters) pieces
 
+-- how many bytes pieces have
 abbrev pub pieces_size : List Piece → ℕ
 pieces_size [] = 0
 pieces_size (p ∷ ps) = size_of p.word + pieces_size ps

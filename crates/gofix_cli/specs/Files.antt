@@ -12,9 +12,11 @@ use Rattle.go_tree.specs.declared.limits.TheConstants.{MAX_FILE_BYTES}
 abbrev pub content_of : HeldFile → List ℕ × List ℕ
 content_of f = (f.path, f.bytes)
 
+-- the paths and the bytes of files
 abbrev pub contents_of : List HeldFile → List (List ℕ × List ℕ)
 contents_of files = map content_of files
 
+-- the bytes of files
 abbrev pub texts_of : List HeldFile → List (List ℕ)
 texts_of files = map (λ f. f.bytes) files
 
@@ -30,6 +32,7 @@ front_content f = (f.path, front_of f.bytes)
 abbrev pub write_of : PlannedFile → ℕ × List ℕ
 write_of f = (f.index, f.bytes)
 
+-- the writes of planned files
 abbrev pub writes_of : List PlannedFile → List (ℕ × List ℕ)
 writes_of files = map write_of files
 

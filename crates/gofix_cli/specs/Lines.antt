@@ -5,6 +5,7 @@ use Rattle.fix_engine.specs.declared.Detail.TheVariants.{NotYet, NotTyped}
 use Rattle.gofix_cli.specs.declared.status.Status.{Status}
 use Rattle.gofix_cli.specs.declared.status.Status.TheVariants.{Done, Found, Usage, NoMemory, ListFault, ReadFault, Refused, WriteFault, ReportFault}
 
+-- the line of each refusal of a module as a whole
 abbrev pub refusal_line : Detail → List ℕ
 refusal_line NotYet = codes "gofix: 100 module: not built yet\n"
 refusal_line NotTyped = codes "gofix: 401 module: not typed\n"

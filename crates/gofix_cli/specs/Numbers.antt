@@ -3,6 +3,7 @@ use Rattle.std.specs.Prelude.{ℕ}
 use Rattle.gofix_cli.specs.declared.status.Status.{Status}
 use Rattle.gofix_cli.specs.declared.status.Status.TheVariants.{Done, Found, Usage, NoMemory}
 
+-- the number of each status
 abbrev pub number_of : Status → ℕ
 number_of Done = 0
 number_of Found = 3

@@ -18,6 +18,7 @@ use Rattle.gofix_cli.specs.Words.{are_accepted}
 use Rattle.gofix_cli.specs.Lines.{line_of}
 use Rattle.gofix_cli.specs.Files.{contents_of}
 
+-- a status, the files that are held afterwards, and the bytes that are written out
 pub record Verdict : Type 0 where
   pub status : Status
   pub files : List HeldFile
@@ -32,6 +33,7 @@ refusal_of number =
 abbrev pub stays : Status → List HeldFile → Verdict
 stays status files = record { status = status; files = files; bytes = line_of status [] }
 
+-- the verdict of an outcome
 abbrev pub verdict_of : List HeldFile → Outcome → Verdict
 verdict_of files (refused number) = stays (Refused (refusal_of number)) files
 verdict_of files (planned after report steps) =
@@ -53,6 +55,7 @@ WhyRefused files NotYet = (ps : List (Package Span)) → HasForm (contents_of fi
 WhyRefused files NotTyped = (ps : List (Package Span)) × HasForm (contents_of files) ps
     × (list_all well_typed ps ≡ false)
 
+-- The verdict refuses the files, for the cause that they have.
 pub record IsRefused (words : List (List ℕ)) (files : List HeldFile) (r : Refusal) : Type 0 where
   pub status : (verdict words files).status ≡ Refused r
   pub why : WhyRefused files r.detail

@@ -26,6 +26,7 @@ module _ (text : List ℕ) (tokens : List Token) (comments : List Comment) (unus
       else (if d.grouped then record { span = tt; grouped = true; specs = left_specs d.specs } ∷ []
       else left_single (left_specs d.specs))
 
+  -- what is left of the declarations
   abbrev pub left_decls : List (ImportDecl Span) → List (ImportDecl (Unit {0}))
   left_decls [] = []
   left_decls (d ∷ ds) = left_decl d ++ left_decls ds

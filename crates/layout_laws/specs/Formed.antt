@@ -17,6 +17,7 @@ use Rattle.go_read.specs.Spells.{is_func_lit}
 abbrev pub IsToken : TokenKind → List ℕ → Type 0
 IsToken kind spelling = IsUtf8 spelling × IsPiece (token kind) (chars spelling)
 
+-- the bytes spell an identifier
 abbrev pub IsName : List ℕ → Type 0
 IsName name = IsToken Ident name
 
@@ -34,19 +35,23 @@ is_assign (Some LogOr) = false
 is_assign (Some _) = true
 
 module _ {S : Type 0} where
+  -- a name that is there is an identifier
   abbrev pub FormedName : Option (NameAt S) → Type 0
   FormedName None = Unit {0}
   FormedName (Some n) = IsName n.name
 
+  -- each name is an identifier
   abbrev pub FormedNames : List (NameAt S) → Type 0
   FormedNames [] = Unit {0}
   FormedNames (n ∷ ns) = IsName n.name × FormedNames ns
 
+  -- there is a name at least
   abbrev pub HasNames : List (NameAt S) → Type 0
   HasNames [] = ⊥
   HasNames (n ∷ ns) = Unit {0}
 
   abbrev mutual
+    -- each name in the type is an identifier
     pub FormedType : TypeExpr S → Type 0
     FormedType (named _ p n) = FormedName p × IsName n.name
     FormedType (pointer _ t) = FormedType t
@@ -54,14 +59,17 @@ module _ {S : Type 0} where
     FormedType (map_type _ k t) = FormedType k × FormedType t
     FormedType (struct_type _ fs) = FormedFields fs
 
+    -- fields with identifiers for names, and types that are formed
     pub FormedFields : Fields S → Type 0
     FormedFields no_fields = Unit {0}
     FormedFields (field _ n t fs) = IsName n.name × FormedType t × FormedFields fs
 
+  -- a parameter or result has a name
   abbrev pub IsNamed : Option (NameAt S) → Type 0
   IsNamed None = ⊥
   IsNamed (Some n) = IsName n.name
 
+  -- a parameter or result has no name
   abbrev pub IsUnnamed : Option (NameAt S) → Type 0
   IsUnnamed None = Unit {0}
   IsUnnamed (Some n) = ⊥
@@ -73,11 +81,13 @@ module _ {S : Type 0} where
   FitsRest true true (_ ∷ _) = ⊥
   FitsRest true false ps = ⊥
 
+  -- parameters each of which has a name
   abbrev pub FormedNamed : Bool → List (Param S) → Type 0
   FormedNamed variadic [] = Unit {0}
   FormedNamed variadic (p ∷ ps) =
       IsNamed p.name × FormedType p.of × FormedNamed variadic ps × FitsRest p.rest variadic ps
 
+  -- parameters none of which has a name
   abbrev pub FormedUnnamed : Bool → List (Param S) → Type 0
   FormedUnnamed variadic [] = Unit {0}
   FormedUnnamed variadic (p ∷ ps) =
@@ -91,6 +101,7 @@ module _ {S : Type 0} where
   abbrev pub FormedSig : Bool → Sig S → Type 0
   FormedSig variadic g = FormedParams variadic g.params × FormedParams false g.results
 
+  -- a type that may be left out
   abbrev pub FormedTypeOption : Option (TypeExpr S) → Type 0
   FormedTypeOption None = Unit {0}
   FormedTypeOption (Some t) = FormedType t
@@ -106,10 +117,12 @@ module _ {S : Type 0} where
   FormedTypeOperand (pointer _ _) = ⊥
   FormedTypeOperand t = FormedType t
 
+  -- there is an expression at least
   abbrev pub HasExprs : Exprs S → Type 0
   HasExprs no_exprs = ⊥
   HasExprs (expr_and _ _) = Unit {0}
 
+  -- there is an arm at least
   abbrev pub HasArms : Arms S → Type 0
   HasArms no_arms = ⊥
   HasArms (arm _ _ _ _ _ _) = Unit {0}
@@ -121,6 +134,7 @@ module _ {S : Type 0} where
   FormedRest Packed xs = ⊥
   FormedRest Empty xs = ⊥
 
+  -- a call
   abbrev pub is_call : Expr S → Bool
   is_call (call _ _ _ _) = true
   is_call _ = false
@@ -149,6 +163,8 @@ module _ {S : Type 0} where
   FormedSpec false (Some _) no_exprs = Unit {0}
 
   abbrev mutual
+    -- an expression: its names and literals are tokens, and of its parts only what is called may be a literal of a
+    -- function
     pub FormedExpr : Expr S → Type 0
     FormedExpr (ident _ n) = IsName n
     FormedExpr (int_lit _ n) = IsToken Integer n
@@ -165,26 +181,32 @@ module _ {S : Type 0} where
     FormedExpr (binary _ o a b) = (is_func_lit a ≡ false) × FormedExpr a × (is_func_lit b ≡ false) × FormedExpr b
     FormedExpr (star _ e) = (is_func_lit e ≡ false) × FormedExpr e
 
+    -- a bound or a condition, which may be left out
     pub FormedOption : ExprOption S → Type 0
     FormedOption no_expr = Unit {0}
     FormedOption (some_expr e) = (is_func_lit e ≡ false) × FormedExpr e
 
+    -- expressions, none of which is a literal of a function
     pub FormedExprs : Exprs S → Type 0
     FormedExprs no_exprs = Unit {0}
     FormedExprs (expr_and e es) = (is_func_lit e ≡ false) × FormedExpr e × FormedExprs es
 
+    -- the elements of a composite literal
     pub FormedElems : Elems S → Type 0
     FormedElems no_elems = Unit {0}
     FormedElems (elem _ k v es) = FormedKey k × FormedValue v × FormedElems es
 
+    -- an element's key, which may be left out
     pub FormedKey : ValueOption S → Type 0
     FormedKey no_value = Unit {0}
     FormedKey (some_value v) = FormedValue v
 
+    -- an element's value: an expression, or elements in braces
     pub FormedValue : Value S → Type 0
     FormedValue (plain e) = (is_func_lit e ≡ false) × FormedExpr e
     FormedValue (braced _ es) = FormedElems es
 
+    -- a statement whose parts are formed, with entries in lists where the grammar wants one
     pub FormedStmt : Stmt S → Type 0
     FormedStmt (const_decl _ grouped ss) = FormedGroup grouped ss × FormedSpecs true ss
     FormedStmt (var_decl _ grouped ss) = FormedGroup grouped ss × FormedSpecs false ss
@@ -204,32 +226,39 @@ module _ {S : Type 0} where
     FormedStmt (defer _ e) = (is_call e ≡ true) × FormedExpr e
     FormedStmt (label _ n x) = IsName n.name × FormedStmt x
 
+    -- a list of statements
     pub FormedStmts : Stmts S → Type 0
     FormedStmts no_stmts = Unit {0}
     FormedStmts (stmt_and x xs) = FormedStmt x × FormedStmts xs
 
+    -- a simple statement in a header, which may be left out
     pub FormedPart : StmtOption S → Type 0
     FormedPart no_stmt = Unit {0}
     FormedPart (some_stmt x) = (is_simple x ≡ true) × FormedStmt x
 
+    -- the arms of an `if`
     pub FormedArms : Arms S → Type 0
     FormedArms no_arms = Unit {0}
     FormedArms (arm _ first t _ body arms) = FormedPart first × (is_func_lit t ≡ false) × FormedExpr t
         × FormedStmts body × FormedArms arms
 
+    -- the last block of an `if`, which may be left out
     pub FormedBlock : BlockOption S → Type 0
     FormedBlock no_block = Unit {0}
     FormedBlock (some_block _ body) = FormedStmts body
 
+    -- the left side of a range clause, with an entry at least where it isn't empty
     pub FormedLeft : RangeLeft S → Type 0
     FormedLeft nothing = Unit {0}
     FormedLeft (assigns xs) = HasExprs xs × FormedExprs xs
     FormedLeft (defines ns) = HasNames ns × FormedNames ns
 
+    -- the clauses of a switch
     pub FormedCases : Cases S → Type 0
     FormedCases no_cases = Unit {0}
     FormedCases (case _ xs body cs) = FormedExprs xs × FormedStmts body × FormedCases cs
 
+    -- specs of constants or of variables, each with a name at least
     pub FormedSpecs : Bool → ValueSpecs S → Type 0
     FormedSpecs constant no_specs = Unit {0}
     FormedSpecs constant (spec _ ns t xs ss) =

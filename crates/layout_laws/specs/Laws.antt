@@ -30,18 +30,21 @@ pub record TokensFrom (ts : Lexemes) : Type 0 where
   pub of_text : TokensOf text tokens comments
   pub from_there : lexemes tokens ≡ front ++ ts
 
+-- Some tokens of a text spell the type.
 pub record IsSpelledType (t : TypeExpr Span) : Type 0 where
   pub tokens : Lexemes
   pub rest : Lexemes
   pub of_text : TokensFrom tokens
   pub spelled : SpellsType span_to t tokens rest
 
+-- Some tokens of a text spell the signature.
 pub record IsSpelledSig (variadic : Bool) (g : Sig Span) : Type 0 where
   pub tokens : Lexemes
   pub rest : Lexemes
   pub of_text : TokensFrom tokens
   pub spelled : SpellsSig span_to variadic g tokens rest
 
+-- Some tokens of a text spell the expression, in a place of some level.
 pub record IsSpelledExpr (e : Expr Span) : Type 0 where
   pub tokens : Lexemes
   pub rest : Lexemes
@@ -50,6 +53,7 @@ pub record IsSpelledExpr (e : Expr Span) : Type 0 where
   pub of_text : TokensFrom tokens
   pub spelled : SpellsOperand span_to level header e tokens rest
 
+-- Some tokens of a text spell the statements.
 pub record IsSpelledStmts (xs : Stmts Span) : Type 0 where
   pub tokens : Lexemes
   pub rest : Lexemes

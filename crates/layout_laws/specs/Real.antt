@@ -14,6 +14,7 @@ IsReal (str_lit n) = IsToken Str n
 IsReal (assign op) = is_assign op ≡ true
 IsReal _ = Unit {0}
 
+-- so are all of them
 abbrev pub AreReal : Lexemes → Type 0
 AreReal [] = Unit {0}
 AreReal (lex _ x ∷ ts) = IsReal x × AreReal ts

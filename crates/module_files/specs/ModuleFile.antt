@@ -64,6 +64,7 @@ is_decimal b = nat_le 48 b && nat_le b 57
 unfoldable pub digits : List ℕ → List ℕ
 digits bytes = take (prefix_len is_decimal bytes) bytes
 
+-- what is behind the digits at the front
 unfoldable pub behind_digits : List ℕ → List ℕ
 behind_digits bytes = drop (prefix_len is_decimal bytes) bytes
 

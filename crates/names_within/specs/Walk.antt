@@ -13,6 +13,8 @@ use Rattle.names_within.specs.declared.walk.LocalScope.{LocalScope}
 use Rattle.names_within.specs.declared.walk.NameWalk.{NameWalk}
 use Rattle.names_within.specs.EachOnce.{with_name}
 
+-- what the walk is for, the names that are declared around, the names that are found, the open blocks, and the scopes
+-- that are gathered
 pub record Walk : Type 0 where
   pub wanted : Wanted
   pub around : List (List ℕ)
@@ -20,6 +22,7 @@ pub record Walk : Type 0 where
   pub blocks : List OpenBlock
   pub scopes : List LocalScope
 
+-- a walk of the code as a value
 unfoldable pub walk_of : NameWalk → Walk
 walk_of w = record {
   wanted = w.wanted;
@@ -29,9 +32,11 @@ walk_of w = record {
   scopes = w.scopes.items;
 }
 
+-- a walk that has gathered nothing yet
 abbrev pub start : Wanted → Walk
 start wanted = record { wanted = wanted; around = []; found = []; blocks = []; scopes = [] }
 
+-- one more name found
 abbrev pub finding : List ℕ → Walk → Walk
 finding n s = record s { found = s.found ++ n ∷ [] }
 
@@ -63,23 +68,29 @@ declare_in Binders n s = s
 declare_in Free n s = record s { around = s.around ++ n ∷ [] }
 declare_in Scopes n s = s
 
+-- a name that is mentioned alone, for what this walk wants
 unfoldable pub mention : List ℕ → Walk → Walk
 mention n s = mention_in s.wanted n s
 
+-- a name that is used, for what this walk wants
 unfoldable pub used : List ℕ → Walk → Walk
 used n s = use_in s.wanted n s
 
+-- a name in the place where it is declared, for what this walk wants
 unfoldable pub bind : List ℕ → Walk → Walk
 bind n s = bind_in s.wanted n s
 
+-- a name whose scope begins, for what this walk wants
 unfoldable pub declare : List ℕ → Walk → Walk
 declare n s = declare_in s.wanted n s
 
 -- ---- where scopes are wanted
 
+-- a block that ends before `to` and in which nothing is declared yet
 abbrev pub opened : ℕ → OpenBlock
 opened to = record { end = to; known = [] }
 
+-- the begin of a block; it matters where scopes are wanted
 abbrev pub enter_in : Wanted → ℕ → Walk → Walk
 enter_in Identifiers to s = s
 enter_in Binders to s = s
@@ -90,6 +101,7 @@ enter_in Scopes to s = record s { blocks = s.blocks ++ opened to ∷ [] }
 unfoldable pub enter : ℕ → Walk → Walk
 enter to s = enter_in s.wanted to s
 
+-- the scope of a name that holds from one byte to before another
 abbrev pub scope_until : ℕ → ℕ → NameAt Span → LocalScope
 scope_until to from n = record { name = n.name; declared_at = n.span; from = from; to = to }
 
@@ -98,9 +110,11 @@ scope_until to from n = record { name = n.name; declared_at = n.span; from = fro
 abbrev pub end_in : Bool → List ℕ → OpenBlock → Option ℕ
 end_in only_new n b = if is_blank n || (only_new && is_among b.known n) then None else Some b.end
 
+-- the last of the open blocks
 abbrev pub innermost : List OpenBlock → Option OpenBlock
 innermost bs = slice_get bs (length bs - 1)
 
+-- the scope of a name is gathered, where its end is known
 abbrev pub hold_before : Option ℕ → ℕ → NameAt Span → Walk → Walk
 hold_before None from n s = s
 hold_before (Some to) from n s = record s { scopes = s.scopes ++ scope_until to from n ∷ [] }
@@ -109,9 +123,11 @@ hold_before (Some to) from n s = record s { scopes = s.scopes ++ scope_until to 
 unfoldable pub hold : Bool → ℕ → NameAt Span → Walk → Walk
 hold only_new from n s = hold_before (option_and_then (end_in only_new n.name) (innermost s.blocks)) from n s
 
+-- a block in which one more name is declared
 abbrev pub known_with : List ℕ → OpenBlock → OpenBlock
 known_with n b = record b { known = with_name b.known n }
 
+-- the last block changed, if there is one
 abbrev pub in_last : (OpenBlock → OpenBlock) → List OpenBlock → List OpenBlock
 in_last f [] = []
 in_last f (b ∷ []) = f b ∷ []

@@ -13,6 +13,7 @@ is_use i Fail = false
 is_use i Write = false
 is_use i Stop = false
 
+-- an item that an argument which looks may not pass
 abbrev pub is_write : Item → Bool
 is_write (Param j) = false
 is_write Read = false

@@ -25,6 +25,7 @@ pub record IsDroppable (r : ParamRow) : Type 0 where
   pub held_not : r.names_held ≡ false
   pub last_not : r.last_use ≡ false
 
+-- a parameter without uses may be dropped
 abbrev pub IsDroppableWhereUnused : ParamRow → Type 0
 IsDroppableWhereUnused r = r.uses ≡ 0 → IsDroppable r
 

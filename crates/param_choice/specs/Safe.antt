@@ -8,6 +8,7 @@ use Rattle.order_hazards.specs.Solo.{IsSolo}
 use Rattle.order_hazards.specs.declared.facts.ParamRow.{ParamRow}
 use Rattle.param_choice.specs.declared.table.CallTable.{CallTable}
 
+-- The parameters of the set may be replaced by their arguments, all together.
 pub record IsSafe (t : CallTable) (s : ℕ → Bool) : Type 0 where
   -- its members are parameters
   pub params : (i : ℕ) → IsTrue (s i) → i < length t.rows
@@ -20,5 +21,6 @@ pub record IsSafe (t : CallTable) (s : ℕ → Bool) : Type 0 where
   -- another parameter whose name is free in its argument moves too, so that nothing captures the name
   pub named : (i j : ℕ) → IsTrue (s i) → Contains t.names (i, j) → j ≢ i → IsTrue (s j)
 
+-- the parameters of either set
 abbrev pub union : (ℕ → Bool) → (ℕ → Bool) → ℕ → Bool
 union s u i = s i || u i

@@ -73,6 +73,7 @@ pub data IsJudged (files : List (List ℕ × List ℕ)) : Outcome → Type 0 whe
 
 -- ---- the laws
 
+-- What is planned for files is refused for the cause that they have.
 abbrev pub PlansAreJudged : Type 0
 PlansAreJudged = (files : List (List ℕ × List ℕ)) (only : List ℕ) → IsJudged files (plan_of files only)
 

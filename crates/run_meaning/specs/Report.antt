@@ -10,10 +10,12 @@ use Rattle.run_meaning.specs.Marks.{IsIn}
 use Rattle.run_meaning.specs.Sites.{form_text, obstacle_text, Logged, KeptUse}
 use Rattle.run_meaning.specs.Run.{KeptAmong}
 
+-- what has a line: a step, or a use that is kept
 pub data Entry : Type 0 where
   step : Logged Span → Entry
   kept : KeptUse Span → Entry
 
+-- the file of an entry
 abbrev pub file_of : Entry → List ℕ
 file_of (step l) = l.file
 file_of (kept k) = k.file
@@ -30,10 +32,12 @@ pub data InOrder (a b : Entry) : Type 0 where
   other_file : comes_first (file_of a) (file_of b) ≡ true → (file_of a ≡ file_of b → ⊥) → InOrder a b
   same_file : file_of a ≡ file_of b → offset_of a ≤ offset_of b → InOrder a b
 
+-- the entry may stand before each of these
 abbrev pub BeforeAll : Entry → List Entry → Type 0
 BeforeAll a [] = ⊤
 BeforeAll a (b ∷ bs) = InOrder a b × BeforeAll a bs
 
+-- each entry may stand before all later ones
 abbrev pub IsSorted : List Entry → Type 0
 IsSorted [] = ⊤
 IsSorted (a ∷ bs) = BeforeAll a bs × IsSorted bs
@@ -62,6 +66,7 @@ module _ (files : List (List ℕ × List ℕ)) where
         (place_text k.file text k.origin.start
         ++ (codes ": kept " ++ (full_name k.home k.name ++ (codes ": " ++ (obstacle_text k.obstacle ++ codes "\n")))))
 
+  -- the text is a line for each entry, in their order
   pub data AreLines : List Entry → List ℕ → Type 0 where
     none : AreLines [] []
     line : {e : Entry} {es : List Entry} {l ls : List ℕ} → IsLine e l → AreLines es ls → AreLines (e ∷ es) (l ++ ls)

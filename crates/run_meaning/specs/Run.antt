@@ -15,6 +15,7 @@ module _ {S : Type 0} (Mark : ImportPath → List ℕ → Type 0) where
   abbrev pub Next : List (Package S) → Logged S → List (Package S) → Type 0
   Next = FirstOfPackages (Replaces Mark)
 
+  -- no use of a marked constant is left that has no obstacle
   abbrev pub NoFreeSite : List (Package S) → Type 0
   NoFreeSite = PackagesStay (Replaces Mark)
 

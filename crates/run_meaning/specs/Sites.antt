@@ -7,15 +7,19 @@ use Rattle.go_meaning_laws.specs.Means.{Environment, means, environment, constan
 
 -- ---- forms and obstacles by their words
 
+-- what a use became
 pub data FormWord : Type 0 where
   ConstWord : FormWord
 
+-- the word for it in a report
 abbrev pub form_text : FormWord → List ℕ
 form_text ConstWord = codes "const"
 
+-- what is in the way of a use's form
 pub data ObstacleWord : Type 0 where
   Shadowed : List ℕ → ObstacleWord
 
+-- the words for it in a report
 abbrev pub obstacle_text : ObstacleWord → List ℕ
 obstacle_text (Shadowed name) = codes "shadowed: " ++ name
 

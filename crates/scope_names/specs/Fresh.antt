@@ -25,5 +25,6 @@ pub record IsFirst (base : List ℕ) (passes : List ℕ → Bool) (name : List �
   pub new : passes name ≡ true
   pub none_before : (k : ℕ) → k < number → passes (candidate base k) ≡ false
 
+-- The name is the first candidate that is new in the file.
 abbrev pub IsFresh : {S : Type 0} → List ℕ → File S → List (List ℕ) → List ℕ → Type 0
 IsFresh base file avoid name = IsFirst base (is_new file avoid) name

@@ -7,6 +7,7 @@ use Rattle.scope_names.specs.declared.names.Entity.{Entity}
 use Rattle.scope_names.specs.declared.names.Entity.TheVariants.{Import, Package, Universe}
 use Rattle.scope_names.specs.declared.names.FileNames.{FileNames}
 
+-- names with what they mean, innermost first
 abbrev pub Environment : Type 0 → Type 0
 Environment E = List (List ℕ × E)
 
@@ -24,6 +25,7 @@ predeclared =
     ∷ codes "panic" ∷ codes "print" ∷ codes "println" ∷ codes "recover" ∷ []
 
 module _ {E : Type 0} where
+  -- what a name means in an environment: the innermost entry of that name
   abbrev pub means : Environment E → List ℕ → Option E
   means [] name = None
   means (b ∷ bs) name = if bytes_eq b.0 name then Some b.1 else means bs name

@@ -27,6 +27,7 @@ module _ {E : Type 0} (a_local : Span → E) where
   with_names env [] = env
   with_names env (n ∷ ns) = with_names ((n.name, a_local n.span) ∷ env) ns
 
+  -- the environment with the names of constant or variable specs declared in it
   abbrev pub with_specs : Environment E → ValueSpecs Span → Environment E
   with_specs env no_specs = env
   with_specs env (spec _ ns _ _ ss) = with_specs (with_names env (not_blank ns)) ss
@@ -40,22 +41,27 @@ module _ {E : Type 0} (a_local : Span → E) where
   after_option env no_stmt = env
   after_option env (some_stmt s) = after_stmt [] env s
 
+  -- what stands around the last block of an `if`: what the statements before its tests declare
   abbrev pub after_arms : Environment E → Arms Span → Environment E
   after_arms env no_arms = env
   after_arms env (arm _ i _ _ _ rest) = after_arms (after_option env i) rest
 
+  -- what stands around the block of a range clause: the variables that it declares
   abbrev pub after_left : Environment E → RangeLeft Span → Environment E
   after_left env (defines ns) = with_names env (not_blank ns)
   after_left env l = env
 
+  -- one use of a name, with what it means there
   abbrev pub use_of : Environment E → Span → List ℕ → List (Occurrence E)
   use_of env s n = record { span = s; name = n; is_key = false; meaning = means env n } ∷ []
 
+  -- the use of a type's name, or of the package before it
   abbrev pub named_uses : Environment E → Option (NameAt Span) → NameAt Span → List (Occurrence E)
   named_uses env None n = use_of env n.span n.name
   named_uses env (Some p) n = use_of env p.span p.name
 
   abbrev mutual
+    -- the uses of names in a type
     pub type_uses : Environment E → TypeExpr Span → List (Occurrence E)
     type_uses env (named _ p n) = named_uses env p n
     type_uses env (pointer _ t) = type_uses env t
@@ -63,18 +69,22 @@ module _ {E : Type 0} (a_local : Span → E) where
     type_uses env (map_type _ k t) = type_uses env k ++ type_uses env t
     type_uses env (struct_type _ fs) = fields_uses env fs
 
+    -- the uses of names in the types of fields
     pub fields_uses : Environment E → Fields Span → List (Occurrence E)
     fields_uses env no_fields = []
     fields_uses env (field _ _ t fs) = type_uses env t ++ fields_uses env fs
 
+  -- the uses of names in a type that may be left out
   abbrev pub type_option_uses : Environment E → Option (TypeExpr Span) → List (Occurrence E)
   type_option_uses env None = []
   type_option_uses env (Some t) = type_uses env t
 
+  -- the uses of names in the types of parameters or results
   abbrev pub params_uses : Environment E → List (Param Span) → List (Occurrence E)
   params_uses env [] = []
   params_uses env (p ∷ ps) = type_uses env p.of ++ params_uses env ps
 
+  -- the uses of names in a signature
   abbrev pub sig_uses : Environment E → Sig Span → List (Occurrence E)
   sig_uses env g = params_uses env g.params ++ params_uses env g.results
 
@@ -86,6 +96,7 @@ module _ {E : Type 0} (a_local : Span → E) where
       else redeclared_uses known env ns
 
   abbrev mutual
+    -- the uses of names in an expression
     pub expr_uses : Environment E → Expr Span → List (Occurrence E)
     expr_uses env (ident s n) = use_of env s n
     expr_uses env (int_lit _ _) = []
@@ -103,18 +114,22 @@ module _ {E : Type 0} (a_local : Span → E) where
     expr_uses env (binary _ _ x y) = expr_uses env x ++ expr_uses env y
     expr_uses env (star _ x) = expr_uses env x
 
+    -- the uses of names in a list of expressions
     pub exprs_uses : Environment E → Exprs Span → List (Occurrence E)
     exprs_uses env no_exprs = []
     exprs_uses env (expr_and x xs) = expr_uses env x ++ exprs_uses env xs
 
+    -- the uses of names in a bound or a condition, which may be left out
     pub expr_option_uses : Environment E → ExprOption Span → List (Occurrence E)
     expr_option_uses env no_expr = []
     expr_option_uses env (some_expr x) = expr_uses env x
 
+    -- the uses of names in the keys and values of elements
     pub elems_uses : Environment E → Elems Span → List (Occurrence E)
     elems_uses env no_elems = []
     elems_uses env (elem _ k x es) = key_uses env k ++ value_uses env x ++ elems_uses env es
 
+    -- the uses of names in a key; a key that is a name alone is marked, since it may be the name of a field
     pub key_uses : Environment E → ValueOption Span → List (Occurrence E)
     key_uses env no_value = []
     key_uses env (some_value (plain (ident s n))) =
@@ -122,6 +137,7 @@ module _ {E : Type 0} (a_local : Span → E) where
     key_uses env (some_value (plain x)) = expr_uses env x
     key_uses env (some_value (braced _ es)) = elems_uses env es
 
+    -- the uses of names in an element's value
     pub value_uses : Environment E → Value Span → List (Occurrence E)
     value_uses env (plain x) = expr_uses env x
     value_uses env (braced _ es) = elems_uses env es
@@ -149,19 +165,23 @@ module _ {E : Type 0} (a_local : Span → E) where
     stmt_uses known env (defer _ x) = expr_uses env x
     stmt_uses known env (label _ _ s) = stmt_uses known env s
 
+    -- the uses of names in statements, each of which sees what those before it declare
     pub stmts_uses : List (List ℕ) → Environment E → Stmts Span → List (Occurrence E)
     stmts_uses known env no_stmts = []
     stmts_uses known env (stmt_and s ss) =
         stmt_uses known env s ++ stmts_uses (known_after known s) (after_stmt known env s) ss
 
+    -- the uses of names in a statement in a header, which may be left out
     pub stmt_option_uses : Environment E → StmtOption Span → List (Occurrence E)
     stmt_option_uses env no_stmt = []
     stmt_option_uses env (some_stmt s) = stmt_uses [] env s
 
+    -- the uses of names in the last block of an `if`
     pub block_option_uses : Environment E → BlockOption Span → List (Occurrence E)
     block_option_uses env no_block = []
     block_option_uses env (some_block _ b) = stmts_uses [] env b
 
+    -- the uses of names in what a range clause assigns to
     pub left_uses : Environment E → RangeLeft Span → List (Occurrence E)
     left_uses env nothing = []
     left_uses env (assigns xs) = exprs_uses env xs
@@ -174,6 +194,7 @@ module _ {E : Type 0} (a_local : Span → E) where
         stmt_option_uses env i ++ expr_uses (after_option env i) x ++ stmts_uses [] (after_option env i) b
         ++ arms_uses (after_option env i) rest
 
+    -- the uses of names in the clauses of a switch
     pub cases_uses : Environment E → Cases Span → List (Occurrence E)
     cases_uses env no_cases = []
     cases_uses env (case _ xs b cs) = exprs_uses env xs ++ stmts_uses [] env b ++ cases_uses env cs
@@ -186,23 +207,28 @@ module _ {E : Type 0} (a_local : Span → E) where
 
   -- ---- declarations of the package block, whose names stand in the environment
 
+  -- the uses of names in the specs of the package block's constants and variables
   abbrev pub values_uses : Environment E → ValueSpecs Span → List (Occurrence E)
   values_uses env no_specs = []
   values_uses env (spec _ _ t xs ss) = type_option_uses env t ++ exprs_uses env xs ++ values_uses env ss
 
+  -- the uses of names in the types that are declared
   abbrev pub type_specs_uses : Environment E → List (TypeSpec Span) → List (Occurrence E)
   type_specs_uses env [] = []
   type_specs_uses env (s ∷ ss) = type_uses env s.of ++ type_specs_uses env ss
 
+  -- the use of the name of a receiver's type
   abbrev pub receiver_uses : Environment E → Option (Receiver Span) → List (Occurrence E)
   receiver_uses env None = []
   receiver_uses env (Some r) = use_of env r.of.span r.of.name
 
+  -- the uses of names in a function's receiver, signature and body
   abbrev pub func_uses : Environment E → Func Span → List (Occurrence E)
   func_uses env f =
       receiver_uses env f.receiver ++ sig_uses env f.sig
       ++ stmts_uses (names_of (func_declares f)) (with_names env (func_declares f)) f.body
 
+  -- the uses of names in a declaration
   abbrev pub decl_uses : Environment E → Decl Span → List (Occurrence E)
   decl_uses env (values (const_decl _ _ ss)) = values_uses env ss
   decl_uses env (values (var_decl _ _ ss)) = values_uses env ss
@@ -210,15 +236,18 @@ module _ {E : Type 0} (a_local : Span → E) where
   decl_uses env (types _ _ ss) = type_specs_uses env ss
   decl_uses env (func f) = func_uses env f
 
+  -- the uses of names in declarations
   abbrev pub decls_uses : Environment E → List (Decl Span) → List (Occurrence E)
   decls_uses env [] = []
   decls_uses env (d ∷ ds) = decl_uses env d ++ decls_uses env ds
 
 -- ---- uses of a file
 
+-- the uses of names in a file's declarations
 abbrev pub file_uses : FileNames → File Span → List (Occurrence Entity)
 file_uses names file = decls_uses Local (outermost names) file.decls
 
+-- the meaning is the import with this number
 abbrev pub means_import : ℕ → Option Entity → Bool
 means_import k (Some (Import j)) = j == k
 means_import k m = false

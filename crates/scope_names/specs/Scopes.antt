@@ -31,6 +31,7 @@ module _ {S : Type 0} where
   abbrev pub new_names : List (List ℕ) → List (NameAt S) → List (NameAt S)
   new_names known ns = filter (λ n. not (is_blank n.name || is_among known n.name)) ns
 
+  -- the names that constant or variable specs declare
   abbrev pub specs_declare : ValueSpecs S → List (NameAt S)
   specs_declare no_specs = []
   specs_declare (spec _ ns _ _ ss) = not_blank ns ++ specs_declare ss
@@ -43,13 +44,16 @@ module _ {S : Type 0} where
   declares known (label _ _ s) = declares known s
   declares known s = []
 
+  -- the names that a block has declared after a statement
   abbrev pub known_after : List (List ℕ) → Stmt S → List (List ℕ)
   known_after known s = names_of (declares known s) ++ known
 
+  -- a name that may be left out, before others
   abbrev pub with_name : Option (NameAt S) → List (NameAt S) → List (NameAt S)
   with_name None ns = ns
   with_name (Some n) ns = n ∷ ns
 
+  -- the names of parameters or results
   abbrev pub param_names : List (Param S) → List (NameAt S)
   param_names [] = []
   param_names (p ∷ ps) = with_name p.name (param_names ps)
@@ -60,9 +64,11 @@ module _ {S : Type 0} where
 
 -- ---- scopes
 
+-- the scopes of names that hold from and before the same bytes
 abbrev pub scopes_of : ℕ → ℕ → List (NameAt Span) → List Scope
 scopes_of from to ns = map (λ n. record { name = n.name; declared_at = n.span; from = from; to = to }) ns
 
+-- the span of an expression
 abbrev pub expr_span : {S : Type 0} → Expr S → S
 expr_span (ident s _) = s
 expr_span (int_lit s _) = s
@@ -82,6 +88,7 @@ expr_span (star s _) = s
 -- Each declaration holds from the end of its spec, short variable declaration or range clause to the end of its
 -- block; a parameter or result holds in the body.
 abbrev mutual
+  -- the scopes in an expression, which stand in literals of functions
   pub expr_scopes : Expr Span → List Scope
   expr_scopes (ident _ _) = []
   expr_scopes (int_lit _ _) = []
@@ -99,22 +106,27 @@ abbrev mutual
   expr_scopes (binary _ _ x y) = expr_scopes x ++ expr_scopes y
   expr_scopes (star _ x) = expr_scopes x
 
+  -- the scopes in a list of expressions
   pub exprs_scopes : Exprs Span → List Scope
   exprs_scopes no_exprs = []
   exprs_scopes (expr_and x xs) = expr_scopes x ++ exprs_scopes xs
 
+  -- the scopes in a bound or a condition, which may be left out
   pub expr_option_scopes : ExprOption Span → List Scope
   expr_option_scopes no_expr = []
   expr_option_scopes (some_expr x) = expr_scopes x
 
+  -- the scopes in the keys and values of elements
   pub elems_scopes : Elems Span → List Scope
   elems_scopes no_elems = []
   elems_scopes (elem _ k x es) = value_option_scopes k ++ value_scopes x ++ elems_scopes es
 
+  -- the scopes in an element's value
   pub value_scopes : Value Span → List Scope
   value_scopes (plain x) = expr_scopes x
   value_scopes (braced _ es) = elems_scopes es
 
+  -- the scopes in an element's key, which may be left out
   pub value_option_scopes : ValueOption Span → List Scope
   value_option_scopes no_value = []
   value_option_scopes (some_value x) = value_scopes x
@@ -141,6 +153,7 @@ abbrev mutual
   stmt_scopes known to (defer _ x) = expr_scopes x
   stmt_scopes known to (label _ _ s) = stmt_scopes known to s
 
+  -- the scopes of a list of statements in a block that ends before `to`
   pub stmts_scopes : List (List ℕ) → ℕ → Stmts Span → List Scope
   stmts_scopes known to no_stmts = []
   stmts_scopes known to (stmt_and s ss) = stmt_scopes known to s ++ stmts_scopes (known_after known s) to ss
@@ -150,15 +163,18 @@ abbrev mutual
   stmt_option_scopes to no_stmt = []
   stmt_option_scopes to (some_stmt s) = stmt_scopes [] to s
 
+  -- the scopes in the last block of an `if`
   pub block_option_scopes : BlockOption Span → List Scope
   block_option_scopes no_block = []
   block_option_scopes (some_block s b) = stmts_scopes [] s.end b
 
+  -- the scopes of the variables that a range clause declares, or those in what it assigns to
   pub left_scopes : ℕ → ℕ → RangeLeft Span → List Scope
   left_scopes from to nothing = []
   left_scopes from to (assigns xs) = exprs_scopes xs
   left_scopes from to (defines ns) = scopes_of from to (not_blank ns)
 
+  -- the scopes in the arms of an `if` that ends before `to`
   pub arms_scopes : ℕ → Arms Span → List Scope
   arms_scopes to no_arms = []
   arms_scopes to (arm _ i x s b rest) =
@@ -169,10 +185,12 @@ abbrev mutual
   cases_scopes no_cases = []
   cases_scopes (case s xs b cs) = exprs_scopes xs ++ stmts_scopes [] s.end b ++ cases_scopes cs
 
+  -- the scopes of declared constants or variables, each from the end of its spec on
   pub specs_scopes : ℕ → ValueSpecs Span → List Scope
   specs_scopes to no_specs = []
   specs_scopes to (spec s ns _ xs ss) = exprs_scopes xs ++ scopes_of s.end to (not_blank ns) ++ specs_scopes to ss
 
+-- the name of a receiver, where it has one
 abbrev pub receiver_declares : {S : Type 0} → Option (Receiver S) → List (NameAt S)
 receiver_declares None = []
 receiver_declares (Some r) = with_name r.name []
@@ -181,6 +199,7 @@ receiver_declares (Some r) = with_name r.name []
 abbrev pub func_declares : {S : Type 0} → Func S → List (NameAt S)
 func_declares f = not_blank (receiver_declares f.receiver) ++ sig_declares f.sig
 
+-- the scopes in a function: those of its receiver and signature are its body
 abbrev pub func_scopes : Func Span → List Scope
 func_scopes f =
     scopes_of f.body_span.start f.body_span.end (func_declares f)
@@ -191,6 +210,7 @@ abbrev pub values_scopes : ValueSpecs Span → List Scope
 values_scopes no_specs = []
 values_scopes (spec _ _ _ xs ss) = exprs_scopes xs ++ values_scopes ss
 
+-- the scopes in a declaration
 abbrev pub decl_scopes : Decl Span → List Scope
 decl_scopes (values (const_decl _ _ ss)) = values_scopes ss
 decl_scopes (values (var_decl _ _ ss)) = values_scopes ss
@@ -198,12 +218,14 @@ decl_scopes (values s) = []
 decl_scopes (types _ _ _) = []
 decl_scopes (func f) = func_scopes f
 
+-- the scopes in declarations
 abbrev pub decls_scopes : List (Decl Span) → List Scope
 decls_scopes [] = []
 decls_scopes (d ∷ ds) = decl_scopes d ++ decls_scopes ds
 
 -- ---- what a name means at a place
 
+-- the scope holds the place
 abbrev pub holds_at : ℕ → Scope → Bool
 holds_at at s = nat_le s.from at && nat_lt at s.to
 
@@ -212,12 +234,15 @@ holds_at at s = nat_le s.from at && nat_lt at s.to
 abbrev pub locals_at : ℕ → List Scope → Environment Entity
 locals_at at scopes = map (λ s. (s.name, Local s.declared_at)) (reverse (filter (holds_at at) scopes))
 
+-- what stands around a place in a file
 abbrev pub environment_at : FileNames → File Span → ℕ → Environment Entity
 environment_at names file at = locals_at at (decls_scopes file.decls) ++ outermost names
 
+-- what a name means at a place in a file
 abbrev pub meaning_at : FileNames → File Span → List ℕ → ℕ → Option Entity
 meaning_at names file name at = means (environment_at names file at) name
 
+-- the span of the import spec with this number
 abbrev pub spec_of : List ImportName → ℕ → Option Span
 spec_of [] k = None
 spec_of (i ∷ is) zero = Some i.spec
@@ -230,5 +255,6 @@ declaration_of imports (Import k) = spec_of imports k
 declaration_of imports (Package k) = None
 declaration_of imports (Universe k) = None
 
+-- the local declaration or the import that a name means at a place, if it means one
 abbrev pub captured_at : FileNames → File Span → List ℕ → ℕ → Option Span
 captured_at names file name at = option_and_then (declaration_of names.imports) (meaning_at names file name at)

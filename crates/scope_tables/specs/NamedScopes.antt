@@ -11,9 +11,11 @@ pub record Extent : Type 0 where
   pub from : ℕ
   pub to : ℕ
 
+-- the extent of a declaration that a table holds
 abbrev pub extent_of : Held → Extent
 extent_of h = record { declared_at = h.declared_at; from = h.from; to = h.to }
 
+-- the declaration holds at the place
 abbrev pub is_held : ℕ → Extent → Bool
 is_held at e = nat_le e.from at && nat_lt at e.to
 
@@ -30,6 +32,7 @@ pub record IsLinked (hs : List Held) : Type 0 where
   pub ended : (i j : ℕ) (d : Held) → i < length hs → (slice_index_or hs i d).before ≤ j → j < i
       → (slice_index_or hs j d).to ≤ (slice_index_or hs i d).to
 
+-- The links are right, and where declarations come in order, each begins no earlier than the one before it.
 pub record IsKept (in_order : Bool) (hs : List Held) : Type 0 where
   pub linked : IsLinked hs
   pub sorted : in_order ≡ true → IsNonDecreasingBy (λ (h : Held). h.from) hs

@@ -19,6 +19,7 @@ pub record Table : Type 0 where
 
 -- what the row of a name has, or nothing where the name has none
 module _ {X : Type 0} (part : Row → X) (none : X) where
+  -- that part of the first row of a name
   abbrev pub found_in : List (List ℕ) → List Row → List ℕ → X
   found_in [] rs q = none
   found_in (n ∷ ns) [] q = none
@@ -37,6 +38,8 @@ locals_in names rows q = found_in (λ r. r.locals) [] names rows q
 abbrev pub outside_in : List (List ℕ) → List Row → List ℕ → Option Entity
 outside_in names rows q = found_in (λ r. r.outside) None names rows q
 
+-- what a name means at a place, by the table: the innermost declaration there, what is outside of functions, or what is
+-- predeclared
 abbrev pub meaning_in : Table → List ℕ → ℕ → Option Entity
 meaning_in t name at =
     or_else (option_map Local (innermost at (locals_in t.names t.rows name)))
@@ -49,9 +52,11 @@ span_of specs (Import k) = slice_get specs k
 span_of specs (Package k) = None
 span_of specs (Universe k) = None
 
+-- the local declaration or the import that a name means at a place, by the table
 abbrev pub captured_in : Table → List ℕ → ℕ → Option Span
 captured_in t name at = option_and_then (span_of t.specs) (meaning_in t name at)
 
+-- a table of the code as a value
 abbrev pub table_of : Scopes → Table
 table_of s = record { names = s.names; rows = s.rows.items; specs = s.specs.items }
 

@@ -9,6 +9,7 @@ use Rattle.go_tree.specs.Tree.{Expr, Exprs, ExprOption, Elems, Value, ValueOptio
 use Rattle.go_tree.specs.File.{Decl, values, types, func, File}
 
 module _ {S : Type 0} where
+  -- an integer literal
   abbrev pub is_number : Expr S → Bool
   is_number (int_lit _ _) = true
   is_number _ = false
@@ -30,6 +31,7 @@ module _ {S : Type 0} where
 -- What stands before the dot of a selector is so, and so are the arguments of a call with how they are handed on.
 module _ {S : Type 0} (Selected : Expr S → Type 0) (Handed : Rest → Exprs S → Type 0) where
   abbrev mutual
+    -- in the expression, each selector stands on what `Selected` allows, and each call's arguments are as `Handed` says
     pub ExprDots : Expr S → Type 0
     ExprDots (ident _ _) = Unit {0}
     ExprDots (int_lit _ _) = Unit {0}
@@ -46,26 +48,32 @@ module _ {S : Type 0} (Selected : Expr S → Type 0) (Handed : Rest → Exprs S 
     ExprDots (binary _ _ a b) = ExprDots a × ExprDots b
     ExprDots (star _ e) = ExprDots e
 
+    -- so in each of a list of expressions
     pub ExprsDots : Exprs S → Type 0
     ExprsDots no_exprs = Unit {0}
     ExprsDots (expr_and e es) = ExprDots e × ExprsDots es
 
+    -- so in a bound or a condition
     pub OptionDots : ExprOption S → Type 0
     OptionDots no_expr = Unit {0}
     OptionDots (some_expr e) = ExprDots e
 
+    -- so in the keys and values of elements
     pub ElemsDots : Elems S → Type 0
     ElemsDots no_elems = Unit {0}
     ElemsDots (elem _ k v es) = KeyDots k × ValueDots v × ElemsDots es
 
+    -- so in an element's value
     pub ValueDots : Value S → Type 0
     ValueDots (plain e) = ExprDots e
     ValueDots (braced _ es) = ElemsDots es
 
+    -- so in an element's key
     pub KeyDots : ValueOption S → Type 0
     KeyDots no_value = Unit {0}
     KeyDots (some_value v) = ValueDots v
 
+    -- so in a statement
     pub StmtDots : Stmt S → Type 0
     StmtDots (const_decl _ _ ss) = SpecsDots ss
     StmtDots (var_decl _ _ ss) = SpecsDots ss
@@ -85,31 +93,38 @@ module _ {S : Type 0} (Selected : Expr S → Type 0) (Handed : Rest → Exprs S 
     StmtDots (defer _ e) = ExprDots e
     StmtDots (label _ _ x) = StmtDots x
 
+    -- so in each of a list of statements
     pub StmtsDots : Stmts S → Type 0
     StmtsDots no_stmts = Unit {0}
     StmtsDots (stmt_and x xs) = StmtDots x × StmtsDots xs
 
+    -- so in a statement of a header
     pub PartDots : StmtOption S → Type 0
     PartDots no_stmt = Unit {0}
     PartDots (some_stmt x) = StmtDots x
 
+    -- so in the last block of an `if`
     pub BlockDots : BlockOption S → Type 0
     BlockDots no_block = Unit {0}
     BlockDots (some_block _ xs) = StmtsDots xs
 
+    -- so in what a range clause assigns to
     pub LeftDots : RangeLeft S → Type 0
     LeftDots nothing = Unit {0}
     LeftDots (assigns xs) = ExprsDots xs
     LeftDots (defines _) = Unit {0}
 
+    -- so in the arms of an `if`
     pub ArmsDots : Arms S → Type 0
     ArmsDots no_arms = Unit {0}
     ArmsDots (arm _ i t _ body arms) = PartDots i × ExprDots t × StmtsDots body × ArmsDots arms
 
+    -- so in the clauses of a switch
     pub CasesDots : Cases S → Type 0
     CasesDots no_cases = Unit {0}
     CasesDots (case _ xs body cs) = ExprsDots xs × StmtsDots body × CasesDots cs
 
+    -- so in the values of specs
     pub SpecsDots : ValueSpecs S → Type 0
     SpecsDots no_specs = Unit {0}
     SpecsDots (spec _ _ _ xs ss) = ExprsDots xs × SpecsDots ss
@@ -122,11 +137,13 @@ module _ {S : Type 0} (Selected : Expr S → Type 0) (Handed : Rest → Exprs S 
   DeclDots (types _ _ _) = Unit {0}
   DeclDots (func f) = StmtsDots f.body
 
+  -- so in each of a list of declarations
   abbrev pub DeclsDots : List (Decl S) → Type 0
   DeclsDots [] = Unit {0}
   DeclsDots (d ∷ ds) = DeclDots d × DeclsDots ds
 
 module _ {S : Type 0} where
+  -- no integer literal
   abbrev pub NoNumber : Expr S → Type 0
   NoNumber e = is_number e ≡ false
 
@@ -139,48 +156,63 @@ module _ {S : Type 0} where
   abbrev pub UndottedExpr : Expr S → Type 0
   UndottedExpr x = ExprDots NoNumber UndottedRest x
 
+  -- so in a list of expressions
   abbrev pub UndottedExprs : Exprs S → Type 0
   UndottedExprs x = ExprsDots NoNumber UndottedRest x
 
+  -- so in a bound or a condition
   abbrev pub UndottedOption : ExprOption S → Type 0
   UndottedOption x = OptionDots NoNumber UndottedRest x
 
+  -- so in the keys and values of elements
   abbrev pub UndottedElems : Elems S → Type 0
   UndottedElems x = ElemsDots NoNumber UndottedRest x
 
+  -- so in an element's value
   abbrev pub UndottedValue : Value S → Type 0
   UndottedValue x = ValueDots NoNumber UndottedRest x
 
+  -- so in an element's key
   abbrev pub UndottedKey : ValueOption S → Type 0
   UndottedKey x = KeyDots NoNumber UndottedRest x
 
+  -- so in a statement
   abbrev pub UndottedStmt : Stmt S → Type 0
   UndottedStmt x = StmtDots NoNumber UndottedRest x
 
+  -- so in a list of statements
   abbrev pub UndottedStmts : Stmts S → Type 0
   UndottedStmts x = StmtsDots NoNumber UndottedRest x
 
+  -- so in a statement of a header
   abbrev pub UndottedPart : StmtOption S → Type 0
   UndottedPart x = PartDots NoNumber UndottedRest x
 
+  -- so in the last block of an `if`
   abbrev pub UndottedBlock : BlockOption S → Type 0
   UndottedBlock x = BlockDots NoNumber UndottedRest x
 
+  -- so in what a range clause assigns to
   abbrev pub UndottedLeft : RangeLeft S → Type 0
   UndottedLeft x = LeftDots NoNumber UndottedRest x
 
+  -- so in the arms of an `if`
   abbrev pub UndottedArms : Arms S → Type 0
   UndottedArms x = ArmsDots NoNumber UndottedRest x
 
+  -- so in the clauses of a switch
   abbrev pub UndottedCases : Cases S → Type 0
   UndottedCases x = CasesDots NoNumber UndottedRest x
 
+  -- so in the values of specs
   abbrev pub UndottedSpecs : ValueSpecs S → Type 0
   UndottedSpecs x = SpecsDots NoNumber UndottedRest x
 
+  -- so in a declaration
   abbrev pub UndottedDecl : Decl S → Type 0
   UndottedDecl x = DeclDots NoNumber UndottedRest x
 
+  -- so in declarations
   abbrev pub UndottedDecls : List (Decl S) → Type 0
   UndottedDecls x = DeclsDots NoNumber UndottedRest x
 

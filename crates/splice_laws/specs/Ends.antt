@@ -4,6 +4,7 @@ use Rattle.std.specs.Prelude.{Bool, true, false, [], ◌∷◌}
 use Rattle.go_words.specs.Terminals.{Terminal, lex, binary_op, assign, define, increment, decrement, comma, semicolon, colon, dot, ellipsis, paren, end_paren, bracket, end_bracket, brace, end_brace}
 use Rattle.go_read.specs.SpellsTypes.{Lexemes}
 
+-- a semicolon comes first
 abbrev pub begins_semicolon : Lexemes → Bool
 begins_semicolon (lex _ semicolon ∷ _) = true
 begins_semicolon _ = false
@@ -28,6 +29,7 @@ stops brace = true
 stops end_brace = true
 stops _ = false
 
+-- what comes first may follow a node in a place
 abbrev pub ends_node : Lexemes → Bool
 ends_node [] = false
 ends_node (lex _ x ∷ _) = stops x

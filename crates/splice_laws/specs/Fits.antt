@@ -11,6 +11,7 @@ use Rattle.splice_laws.specs.Swaps.{Swap, an_operand, a_callee, a_type, a_litera
 
 -- what a node has for its span
 module _ {S : Type 0} where
+  -- what an expression has for its span
   abbrev pub expr_mark : Expr S → S
   expr_mark (ident s _) = s
   expr_mark (int_lit s _) = s
@@ -27,6 +28,7 @@ module _ {S : Type 0} where
   expr_mark (binary s _ _ _) = s
   expr_mark (star s _) = s
 
+  -- what a statement has for its span
   abbrev pub stmt_mark : Stmt S → S
   stmt_mark (const_decl s _ _) = s
   stmt_mark (var_decl s _ _) = s

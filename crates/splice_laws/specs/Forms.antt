@@ -10,6 +10,7 @@ use Rattle.go_layout.specs.TreeLayout.{expr_layout, stmt_layout, gives_semicolon
 use Rattle.layout_laws.specs.Formed.{is_call, FormedType, FormedLiteralType, FormedExpr, FormedOperand, FormedStmt}
 use Rattle.splice_laws.specs.Swaps.{Swap, an_operand, a_callee, a_type, a_literal_type, a_stmt, a_deferred}
 
+-- a name, perhaps of a package
 abbrev pub is_named_type : {S : Type 0} → TypeExpr S → Bool
 is_named_type (named _ _ _) = true
 is_named_type _ = false

@@ -26,6 +26,7 @@ module _ {S : Type 0} where
     without_later : {d : ImportDecl S} {ds es : List (ImportDecl S)} → ImportsWithout m ds es
         → ImportsWithout m (d ∷ ds) (d ∷ es)
 
+  -- the second file is the first without one import, which has this for its span
   pub data FileWithout (m : S) : File S → File S → Type 0 where
     without : {n : NameAt S} {is js : List (ImportDecl S)} {ds : List (Decl S)} → ImportsWithout m is js
         → FileWithout m (record { package_name = n; imports = is; decls = ds })
@@ -39,6 +40,7 @@ module _ {S : Type 0} where
     with_later : {d : ImportDecl S} {ds es : List (ImportDecl S)} → ImportsWithSpec x ds es
         → ImportsWithSpec x (d ∷ ds) (d ∷ es)
 
+  -- the second file is the first with one import more, at the end of its last group
   pub data FileWithSpec (x : ImportSpec S) : File S → File S → Type 0 where
     with_spec : {n : NameAt S} {is js : List (ImportDecl S)} {ds : List (Decl S)} → ImportsWithSpec x is js
         → FileWithSpec x (record { package_name = n; imports = is; decls = ds })

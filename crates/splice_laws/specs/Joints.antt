@@ -55,6 +55,7 @@ LastEnds (p ∷ q ∷ ps) next = LastEnds (q ∷ ps) next
 abbrev pub IsOpen : Piece → Type 0
 IsOpen p = (p.kind ≡ token Integer) ⊎ ((p.kind ≡ token Operator) × (p.word ≡ codes "."))
 
+-- a dot comes first
 abbrev pub begins_with_dot : List ℕ → Bool
 begins_with_dot [] = false
 begins_with_dot (c ∷ cs) = c == 46
@@ -67,6 +68,7 @@ DotsApart (p ∷ q ∷ ps) = (begins_with_dot q.word ≡ true → IsOpen p → �
 
 -- ---- a text in three parts
 
+-- a byte order mark, or nothing
 abbrev pub IsMark : List ℕ → Type 0
 IsMark mark = (mark ≡ []) ⊎ (mark ≡ byte_order_mark ∷ [])
 
@@ -83,6 +85,7 @@ pub record Parted (text mark : List ℕ) (before inside behind : List Piece) (ta
 abbrev pub begin_of : List ℕ → List Piece → ℕ
 begin_of mark before = size_of mark + pieces_size before
 
+-- the span of the parts within, behind a mark and the parts before them
 abbrev pub span_within : List ℕ → List Piece → List Piece → Span
 span_within mark before inside = record {
   start = begin_of mark before;
@@ -119,6 +122,7 @@ pub data Spans : List Token → Token → Span → Type 0 where
 
 -- ---- dots, by tokens
 
+-- an integer or a dot, which may go on behind a dot
 abbrev pub is_open : TokenKind → List ℕ → Bool
 is_open Integer spelling = true
 is_open Operator spelling = bytes_eq spelling (codes ".")
@@ -136,12 +140,15 @@ dots_apart (t ∷ u ∷ ts) = not (runs_on t u) && dots_apart (u ∷ ts)
 
 -- ---- what moves behind an edit
 
+-- a span behind an edit, once the edit is made
 abbrev pub moved_span : Edit → Span → Span
 moved_span e s = record { start = moved_offset e s.start; end = moved_offset e s.end }
 
+-- a token behind an edit, once the edit is made
 abbrev pub moved_token : Edit → Token → Token
 moved_token e t = record t { span = moved_span e t.span }
 
+-- a comment behind an edit, once the edit is made
 abbrev pub moved_comment : Edit → Comment → Comment
 moved_comment e c = record { span = moved_span e c.span }
 

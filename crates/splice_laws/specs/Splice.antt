@@ -30,9 +30,11 @@ abbrev pub has_length : Option (PieceKind × ℕ) → ℕ → Bool
 has_length None n = false
 has_length (Some x) n = nat_eq x.1 n
 
+-- the first of two words is the first piece where they stand side by side
 unfoldable pub are_two : List ℕ → List ℕ → Bool
 are_two word next = has_length (piece_of (word ++ next)) (length word)
 
+-- an inserted semicolon
 abbrev pub is_inserted : TokenKind → Bool
 is_inserted Inserted = true
 is_inserted _ = false
@@ -54,6 +56,7 @@ abbrev pub first_of : List Piece → List ℕ
 first_of [] = []
 first_of (p ∷ ps) = p.word
 
+-- the first word of a layout
 abbrev pub first_word : Layout → List ℕ
 first_word a = first_of (pieces_of a [])
 

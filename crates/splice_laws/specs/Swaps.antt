@@ -32,10 +32,12 @@ module _ {S : Type 0} where
   OtherFirst t [] = Unit {0}
   OtherFirst t (p ∷ ps) = p.of ≡ t → ⊥
 
+  -- the first of the fields, if there is one, has another type
   abbrev pub OtherField : TypeExpr S → Fields S → Type 0
   OtherField t no_fields = Unit {0}
   OtherField t (field _ _ b _) = b ≡ t → ⊥
 
+  -- the type before, if there is one, is another
   abbrev pub OtherBefore : Option (TypeExpr S) → TypeExpr S → Type 0
   OtherBefore None t = Unit {0}
   OtherBefore (Some b) t = b ≡ t → ⊥
@@ -56,10 +58,12 @@ module _ {S : Type 0} where
 
 module _ {S : Type 0} (w : Swap S) where
   mutual
+    -- the type itself is swapped, or a part of it
     pub data TypeIn : TypeExpr S → TypeExpr S → Type 0 where
       this_type : {t u : TypeExpr S} → w ≡ a_type t u → TypeIn t u
       inside_type : {t u : TypeExpr S} → PartOfType t u → TypeIn t u
 
+    -- a part of the type is swapped: what it points to, an element, a key, or the type of fields
     pub data PartOfType : TypeExpr S → TypeExpr S → Type 0 where
       in_pointer : {s : S} {t u : TypeExpr S} → TypeIn t u → PartOfType (pointer s t) (pointer s u)
       in_slice_type : {s : S} {t u : TypeExpr S} → TypeIn t u → PartOfType (slice_type s t) (slice_type s u)
@@ -104,6 +108,7 @@ module _ {S : Type 0} (w : Swap S) where
     in_later_named : {before : Option (TypeExpr S)} {p : Param S} {ps qs : List (Param S)}
         → NamedIn (Some p.of) ps qs → NamedIn before (p ∷ ps) (p ∷ qs)
 
+  -- a type of a signature is swapped: of parameters or of results, with names or without
   pub data SigIn : Sig S → Sig S → Type 0 where
     in_named_params : {ps qs rs : List (Param S)} → NamedIn None ps qs
         → SigIn (record { params = ps; results = rs }) (record { params = qs; results = rs })
@@ -120,6 +125,7 @@ module _ {S : Type 0} (w : Swap S) where
       this_operand : {l : ℕ} {h : Bool} {e f : Expr S} → w ≡ an_operand l h e f → OperandIn l h e f
       inside_operand : {l : ℕ} {h : Bool} {e f : Expr S} → PartOfExpr h e f → OperandIn l h e f
 
+    -- what is called is swapped, or a part of it
     pub data CalleeIn : Bool → Expr S → Expr S → Type 0 where
       this_callee : {h : Bool} {e f : Expr S} → w ≡ a_callee h e f → CalleeIn h e f
       inside_callee : {h : Bool} {e f : Expr S} → PartOfExpr h e f → CalleeIn h e f
@@ -158,15 +164,18 @@ module _ {S : Type 0} (w : Swap S) where
       in_right : {h : Bool} {s : S} {o : BinOp} {a b c : Expr S} → OperandIn (level_of o + 1) h b c
           → PartOfExpr h (binary s o a b) (binary s o a c)
 
+    -- a bound or a condition
     pub data OptionIn : Bool → ExprOption S → ExprOption S → Type 0 where
       in_option : {h : Bool} {e f : Expr S} → OperandIn 1 h e f → OptionIn h (some_expr e) (some_expr f)
 
+    -- one of a list of expressions, or a part of it
     pub data ExprsIn : Bool → Exprs S → Exprs S → Type 0 where
       in_first_expr : {h : Bool} {e f : Expr S} {es : Exprs S} → OperandIn 1 h e f
           → ExprsIn h (expr_and e es) (expr_and f es)
       in_later_exprs : {h : Bool} {e : Expr S} {es fs : Exprs S} → ExprsIn h es fs
           → ExprsIn h (expr_and e es) (expr_and e fs)
 
+    -- the key or the value of one of the elements, or a part of it
     pub data ElemsIn : Elems S → Elems S → Type 0 where
       in_key : {s : S} {k j v : Value S} {es : Elems S} → ValueIn k j
           → ElemsIn (elem s (some_value k) v es) (elem s (some_value j) v es)
@@ -175,6 +184,7 @@ module _ {S : Type 0} (w : Swap S) where
       in_later_elems : {s : S} {k : ValueOption S} {v : Value S} {es fs : Elems S} → ElemsIn es fs
           → ElemsIn (elem s k v es) (elem s k v fs)
 
+    -- an element's value, or one of the elements in its braces
     pub data ValueIn : Value S → Value S → Type 0 where
       in_plain : {e f : Expr S} → OperandIn 1 false e f → ValueIn (plain e) (plain f)
       in_braced : {s : S} {es fs : Elems S} → ElemsIn es fs → ValueIn (braced s es) (braced s fs)
@@ -191,9 +201,11 @@ module _ {S : Type 0} (w : Swap S) where
       in_define : {h : Bool} {s : S} {ns : List (NameAt S)} {ys zs : Exprs S} → ExprsIn h ys zs
           → SimpleIn h (define s ns ys) (define s ns zs)
 
+    -- a part of a statement in a header
     pub data PartIn : StmtOption S → StmtOption S → Type 0 where
       in_part : {x y : Stmt S} → SimpleIn true x y → PartIn (some_stmt x) (some_stmt y)
 
+    -- a part of a statement is swapped: an operand, a statement in its header, or one in a block of it
     pub data PartOfStmt : Stmt S → Stmt S → Type 0 where
       in_simple : {x y : Stmt S} → SimpleIn false x y → PartOfStmt x y
       in_const : {s : S} {g : Bool} {ss us : ValueSpecs S} → SpecsIn ss us
@@ -240,6 +252,7 @@ module _ {S : Type 0} (w : Swap S) where
       inside_stmt : {x y : Stmt S} {xs : Stmts S} → PartOfStmt x y → StmtsIn (stmt_and x xs) (stmt_and y xs)
       in_later_stmts : {x : Stmt S} {xs ys : Stmts S} → StmtsIn xs ys → StmtsIn (stmt_and x xs) (stmt_and x ys)
 
+    -- a part of one of an `if`'s arms
     pub data ArmsIn : Arms S → Arms S → Type 0 where
       in_arm_first : {s b : S} {i j : StmtOption S} {t : Expr S} {xs : Stmts S} {ars : Arms S} → PartIn i j
           → ArmsIn (arm s i t b xs ars) (arm s j t b xs ars)
@@ -250,6 +263,7 @@ module _ {S : Type 0} (w : Swap S) where
       in_later_arms : {s b : S} {i : StmtOption S} {t : Expr S} {xs : Stmts S} {ars brs : Arms S} → ArmsIn ars brs
           → ArmsIn (arm s i t b xs ars) (arm s i t b xs brs)
 
+    -- a part of one of a switch's clauses
     pub data CasesIn : Cases S → Cases S → Type 0 where
       in_case : {s : S} {es fs : Exprs S} {xs : Stmts S} {cs : Cases S} → ExprsIn false es fs
           → CasesIn (case s es xs cs) (case s fs xs cs)
@@ -258,6 +272,7 @@ module _ {S : Type 0} (w : Swap S) where
       in_later_cases : {s : S} {es : Exprs S} {xs : Stmts S} {cs ds : Cases S} → CasesIn cs ds
           → CasesIn (case s es xs cs) (case s es xs ds)
 
+    -- the type or a value of one of the specs, or a part of it
     pub data SpecsIn : ValueSpecs S → ValueSpecs S → Type 0 where
       in_spec_type : {s : S} {ns : List (NameAt S)} {t u : TypeExpr S} {xs : Exprs S} {ss : ValueSpecs S}
           → TypeIn t u → SpecsIn (spec s ns (Some t) xs ss) (spec s ns (Some u) xs ss)
@@ -272,10 +287,12 @@ module _ {S : Type 0} (w : Swap S) where
         → TypeSpecIn (record { span = s; name = n; alias = alias; of = t })
         (record { span = s; name = n; alias = alias; of = u })
 
+  -- the type of one of the declared types, or a part of it
   pub data TypeSpecsIn : List (TypeSpec S) → List (TypeSpec S) → Type 0 where
     in_this_spec : {x y : TypeSpec S} {xs : List (TypeSpec S)} → TypeSpecIn x y → TypeSpecsIn (x ∷ xs) (y ∷ xs)
     in_further_specs : {x : TypeSpec S} {xs ys : List (TypeSpec S)} → TypeSpecsIn xs ys → TypeSpecsIn (x ∷ xs) (x ∷ ys)
 
+  -- a part of a declaration
   pub data DeclIn : Decl S → Decl S → Type 0 where
     in_constants : {s : S} {g : Bool} {ss us : ValueSpecs S} → SpecsIn ss us
         → DeclIn (values (const_decl s g ss)) (values (const_decl s g us))
@@ -289,6 +306,7 @@ module _ {S : Type 0} (w : Swap S) where
         → DeclIn (func (record { span = s; receiver = v; name = n; sig = g; body_span = b; body = xs }))
         (func (record { span = s; receiver = v; name = n; sig = k; body_span = b; body = xs }))
 
+  -- a part of one of the declarations
   pub data DeclsIn : List (Decl S) → List (Decl S) → Type 0 where
     in_this_decl : {d c : Decl S} {ds : List (Decl S)} → DeclIn d c → DeclsIn (d ∷ ds) (c ∷ ds)
     in_later_decls : {d : Decl S} {ds cs : List (Decl S)} → DeclsIn ds cs → DeclsIn (d ∷ ds) (d ∷ cs)

@@ -18,5 +18,6 @@ abbrev pub replaced_from : List ℕ → ℕ → List Edit → List ℕ
 replaced_from old from [] = drop from old
 replaced_from old from (e ∷ es) = slice_range old from e.span.start ++ (e.text ++ replaced_from old e.span.end es)
 
+-- the old text with each range replaced
 abbrev pub applied : List ℕ → List Edit → List ℕ
 applied old es = replaced_from old 0 es

@@ -7,6 +7,7 @@ use Rattle.text_edits.specs.Applied.{Ascend, applied}
 abbrev pub moved_offset : Edit → ℕ → ℕ
 moved_offset e k = k + length e.text - (e.span.end - e.span.start)
 
+-- a later edit, once the one before it is made
 abbrev pub moved_by : Edit → Edit → Edit
 moved_by e f = record f { span = record { start = moved_offset e f.span.start; end = moved_offset e f.span.end } }
 

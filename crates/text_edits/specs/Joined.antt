@@ -13,6 +13,7 @@ use Rattle.text_edits.specs.Places.{place_after}
 abbrev pub begins : ℕ → ℕ → Edit → ℕ
 begins from at f = at + (f.span.start - from)
 
+-- where the text of an earlier edit ends now
 abbrev pub ends : ℕ → ℕ → Edit → ℕ
 ends from at f = at + (f.span.start - from) + length f.text
 
@@ -37,6 +38,7 @@ module _ (next : Edit) where
       × (Touches from at f → (s.start ≤ f.span.start) × (f.span.end ≤ s.end))
       × Covers s f.span.end (ends from at f) fs
 
+  -- the edit's range touches one of the earlier edits
   abbrev pub TouchesOne : ℕ → ℕ → List Edit → Type 0
   TouchesOne from at [] = ⊥
   TouchesOne from at (f ∷ fs) = Touches from at f ⊎ TouchesOne f.span.end (ends from at f) fs
@@ -49,6 +51,7 @@ module _ (next : Edit) where
   edits_before from at (f ∷ fs) =
       if nat_lt (ends from at f) next.span.start then f ∷ edits_before f.span.end (ends from at f) fs else []
 
+  -- the earlier edits that begin behind the range
   abbrev pub edits_behind : ℕ → ℕ → List Edit → List Edit
   edits_behind from at [] = []
   edits_behind from at (f ∷ fs) =
@@ -61,6 +64,7 @@ module _ (next : Edit) where
       if nat_lt (ends from at f) next.span.start then start_of f.span.end (ends from at f) fs
       else if nat_lt next.span.start (begins from at f) then from + (next.span.start - at) else f.span.start
 
+  -- where the range ends in the first text, with the ranges that it touches
   abbrev pub end_of : ℕ → ℕ → List Edit → ℕ
   end_of from at [] = from + (next.span.end - at)
   end_of from at (f ∷ fs) =
@@ -74,6 +78,7 @@ module _ (next : Edit) where
       if nat_lt (ends from at f) next.span.start then text_before f.span.end (ends from at f) fs
       else take (next.span.start - begins from at f) f.text
 
+  -- what stays behind the range of the last text that it touches
   abbrev pub text_behind : ℕ → ℕ → List Edit → List ℕ
   text_behind from at [] = []
   text_behind from at (f ∷ fs) =
@@ -97,12 +102,14 @@ abbrev pub Behind : ℕ → List Edit → Type 0
 Behind k [] = Unit {0}
 Behind k (e ∷ es) = k < e.span.start
 
+-- between all ranges some byte stays
 abbrev pub Apart : List Edit → Type 0
 Apart [] = Unit {0}
 Apart (e ∷ es) = Behind e.span.end es × Apart es
 
 -- ---- its laws, for an edit within the text as it stands
 
+-- edits of a text, and one more of the text that they make
 abbrev pub Next : List ℕ → List Edit → Edit → Type 0
 Next old es next = Ascend 0 (length old) es × IsSpan next.span × (next.span.end ≤ length (applied old es))
 
@@ -111,6 +118,7 @@ abbrev pub JoinedAgree : Type 0
 JoinedAgree = (old : List ℕ) (es : List Edit) (next : Edit) → Next old es next →
     applied old (joined next es) ≡ applied (applied old es) (next ∷ [])
 
+-- The joined edits stand in order, within the text.
 abbrev pub JoinedAscend : Type 0
 JoinedAscend = (old : List ℕ) (es : List Edit) (next : Edit) → Next old es next → Ascend 0 (length old) (joined next es)
 
@@ -119,6 +127,7 @@ abbrev pub JoinedCovers : Type 0
 JoinedCovers = (old : List ℕ) (es : List Edit) (next : Edit) → Next old es next →
     Covers next (joined_edit next es).span 0 0 es
 
+-- Where there is something to cover, any span that covers it holds that of the joined edit.
 abbrev pub JoinedIsLeast : Type 0
 JoinedIsLeast =
     (old : List ℕ) (es : List Edit) (next : Edit) (other : Span) → Next old es next →

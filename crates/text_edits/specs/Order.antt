@@ -7,6 +7,7 @@ use Rattle.text_edits.specs.declared.edit.AddFault.{AddFault}
 use Rattle.text_edits.specs.declared.edit.AddFault.TheVariants.{Overlap, NoMemory}
 use Rattle.text_edits.specs.Spans.{IsSpan, Overlaps, Precedes}
 
+-- the spans of edits
 abbrev pub spans : List Edit → List Span
 spans es = map (λ (e : Edit). e.span) es
 

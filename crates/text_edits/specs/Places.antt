@@ -16,6 +16,7 @@ place_from from at (e ∷ es) k =
     if nat_lt k e.span.end then at + (k - from)
     else place_from e.span.end (at + (e.span.start - from) + length e.text) es k
 
+-- where a byte of the old text stands after the edits
 abbrev pub place_after : List Edit → ℕ → ℕ
 place_after es k = place_from 0 0 es k
 

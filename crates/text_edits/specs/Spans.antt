@@ -3,9 +3,11 @@
 use Rattle.std.specs.Prelude.{◌≡◌, ℕ, ◌≤◌, ◌<◌, ◌⊎◌}
 use Rattle.go_tree.specs.declared.spans.Span.{Span}
 
+-- it ends where it starts, or behind
 abbrev pub IsSpan : Span → Type 0
 IsSpan a = a.start ≤ a.end
 
+-- it has no byte
 abbrev pub IsEmpty : Span → Type 0
 IsEmpty a = a.start ≡ a.end
 
@@ -13,6 +15,7 @@ IsEmpty a = a.start ≡ a.end
 abbrev pub Holds : Span → ℕ → Type 0
 Holds a k = (a.start ≤ k) × (k < a.end)
 
+-- a byte is in both
 abbrev pub SharesByte : Span → Span → Type 0
 SharesByte a b = (k : ℕ) × Holds a k × Holds b k
 
@@ -20,6 +23,7 @@ SharesByte a b = (k : ℕ) × Holds a k × Holds b k
 abbrev pub LiesInside : Span → Span → Type 0
 LiesInside a b = IsEmpty a × (b.start < a.start) × (a.start < b.end)
 
+-- both are empty, at one offset
 abbrev pub EmptyAtOneOffset : Span → Span → Type 0
 EmptyAtOneOffset a b = IsEmpty a × IsEmpty b × (a.start ≡ b.start)
 

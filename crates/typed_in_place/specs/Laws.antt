@@ -34,26 +34,32 @@ use Rattle.typed_in_place.specs.ProgramReplaced.{InPlace, InPlaceBeside}
 
 -- ---- parts that are replaced by others with the same facts
 
+-- an expression with parts replaced is the same operand
 abbrev pub OperandsStay : Type 0
 OperandsStay = (around : List (List ℕ)) (a : Env) (e f : Expr Span) → ExprReplaced around a e f → parts a e ≡ parts a f
 
+-- it is as addressable as before
 abbrev pub PlacesStay : Type 0
 PlacesStay = (around : List (List ℕ)) (a : Env) (e f : Expr Span) → ExprReplaced around a e f → place a e ≡ place a f
 
+-- a statement with parts replaced declares the same
 abbrev pub DeclarationsStay : Type 0
 DeclarationsStay =
     (around : List (List ℕ)) (a : Env) (s r : Stmt Span) → StmtReplaced around a s r → declares a s ≡ declares a r
 
+-- it is as well typed as before
 abbrev pub StatementsStay : Type 0
 StatementsStay =
     (around : List (List ℕ)) (a : Env) (s r : Stmt Span) → StmtReplaced around a s r → (c : Ctx) →
     stmt c a s ≡ stmt c a r
 
+-- so are lists of statements
 abbrev pub BodiesStay : Type 0
 BodiesStay =
     (around : List (List ℕ)) (a : Env) (s r : Stmts Span) → StmtsReplaced around a s r → (c : Ctx) (before : Bool) →
     stmts c a before s ≡ stmts c a before r
 
+-- they use the same of the names that are declared around
 abbrev pub UsesStay : Type 0
 UsesStay =
     (around : List (List ℕ)) (a : Env) (s r : Stmts Span) → StmtsReplaced around a s r →
@@ -61,10 +67,12 @@ UsesStay =
 
 -- ---- trees that are equal but for spans stand for one another
 
+-- expressions that differ only in spans are the same operand
 abbrev pub ExpressionsButForSpans : Type 0
 ExpressionsButForSpans =
     (around : List (List ℕ)) (a : Env) (e f : Expr Span) → bare_expr e ≡ bare_expr f → SameOperand around a e f
 
+-- statements that differ only in spans are typed alike
 abbrev pub StatementsButForSpans : Type 0
 StatementsButForSpans =
     (around : List (List ℕ)) (a : Env) (s r : Stmt Span) → bare_stmt s ≡ bare_stmt r → SameStatement around a s r
@@ -76,11 +84,13 @@ abbrev pub AliasesSettle : Type 0
 AliasesSettle =
     (ps : Program Span) → alias_round ps (headed ps) (aliased_world ps (headed ps)) ≡ aliased_world ps (headed ps)
 
+-- a further round of types refuses nothing more
 abbrev pub TypesSettle : Type 0
 TypesSettle =
     (ps : Program Span) →
     type_round ps (headed ps) (types_declared ps (headed ps)) (typed_world ps (headed ps)) ≡ typed_world ps (headed ps)
 
+-- a further round of values finds nothing more
 abbrev pub ValuesSettle : Type 0
 ValuesSettle =
     (ps : Program Span) →
@@ -221,14 +231,17 @@ abbrev pub MovedAliases : Type 0
 MovedAliases =
     (w : World) (is : Environment Entity) (h : Headed Span) → Moved w is h → AliasesStand w h (under_imports is h)
 
+-- so as far as types go that aren't refused
 abbrev pub MovedTypes : Type 0
 MovedTypes =
     (w : World) (is : Environment Entity) (h : Headed Span) → Moved w is h → TypesStand w h (under_imports is h)
 
+-- so as far as all that it declares goes
 abbrev pub MovedValues : Type 0
 MovedValues =
     (w : World) (is : Environment Entity) (h : Headed Span) → Moved w is h → ValuesStand w h (under_imports is h)
 
+-- a body under other imports is as well typed, where each name in it means what it meant
 abbrev pub MovedBodies : Type 0
 MovedBodies =
     (w : World) (is : Environment Entity) (h : Headed Span) → Moved w is h → MovedBody w is h h.header →
@@ -236,21 +249,26 @@ MovedBodies =
 
 -- ---- whole programs, also beside further packages
 
+-- programs whose declarations stand in each other's place declare the same
 abbrev pub DeclaresTheSame : Type 0
 DeclaresTheSame = (ps qs : Program Span) → InPlace ps qs → collected ps ≡ collected qs
 
+-- the second is well typed where the first is and its own imports are right
 abbrev pub StaysWellTyped : Type 0
 StaysWellTyped =
     (ps qs : Program Span) → InPlace ps qs → well_typed ps ≡ true → imports_ok qs ≡ true → well_typed qs ≡ true
 
+-- they are well typed alike where their imports are right alike
 abbrev pub WellTypedAsBefore : Type 0
 WellTypedAsBefore =
     (ps qs : Program Span) → InPlace ps qs → imports_ok ps ≡ imports_ok qs → well_typed ps ≡ well_typed qs
 
+-- they declare the same beside further packages
 abbrev pub DeclaresTheSameBeside : Type 0
 DeclaresTheSameBeside =
     (more ps qs : Program Span) → InPlaceBeside more ps qs → collected (ps ++ more) ≡ collected (qs ++ more)
 
+-- the second stays well typed beside further packages, where its own imports are right
 abbrev pub StaysWellTypedBeside : Type 0
 StaysWellTypedBeside =
     (more ps qs : Program Span) → InPlaceBeside more ps qs → well_typed (ps ++ more) ≡ true →

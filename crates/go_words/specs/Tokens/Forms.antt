@@ -2,6 +2,8 @@
 use Rattle.std.specs.Prelude.{◌≡◌, ℕ, true, false, List, [], ◌∷◌, ◌++◌}
 use Rattle.go_words.specs.Tokens.Characters.{is_listed}
 
+-- `nothing` is the form of no word, `empty` that of the empty word; `one_of` and `other_than` are a character among
+-- these and one that isn't; `both` is one form after another, `either` one of two, and `many` any number of one
 pub data Form : Type 0 where
   -- no word
   nothing : Form

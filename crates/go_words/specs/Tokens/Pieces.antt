@@ -8,6 +8,7 @@ use Rattle.go_words.specs.Tokens.Characters.{is_letter, is_word, is_blank, each}
 use Rattle.go_words.specs.Tokens.Forms.{Form, one_of, in_turn, any_of, HasForm}
 use Rattle.go_words.specs.Tokens.Literals.{int_lit, float_lit, imaginary_lit, rune_lit, string_lit, comment}
 
+-- a run of blanks, a comment, or a token of some kind
 pub data PieceKind : Type 0 where
   blanks : PieceKind
   remark : PieceKind
@@ -25,6 +26,7 @@ operator_spellings = spellings operators
 abbrev pub exactly : List ℕ → Form
 exactly word = in_turn (map (λ c. one_of (c ∷ [])) word)
 
+-- the spelling of an operator
 unfoldable pub operator : Form
 unfolding operator_spellings
 operator = any_of (map exactly operator_spellings)
@@ -38,6 +40,7 @@ abbrev pub is_identifier : List ℕ → Bool
 is_identifier [] = false
 is_identifier (c ∷ cs) = is_letter c && each is_word cs
 
+-- blanks alone, and at least one
 abbrev pub is_blanks : List ℕ → Bool
 is_blanks [] = false
 is_blanks (c ∷ cs) = each is_blank (c ∷ cs)
@@ -82,6 +85,7 @@ pub record IsNext (text : List ℕ) (kind : PieceKind) (word rest : List ℕ) : 
       length front ≤ length word
   pub follows : may_precede kind word rest ≡ true
 
+-- a piece: its kind, and its characters
 pub record Piece : Type 0 where
   pub kind : PieceKind
   pub word : List ℕ
