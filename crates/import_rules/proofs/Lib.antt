@@ -9,3 +9,4 @@ pub mod MeaningLaws
 pub mod NeededMeans
 pub mod NeededNames
 pub mod LocalNames
+pub mod UnusedLaws

@@ -15,8 +15,8 @@ use Rattle.import_rules.specs.Laid.{IsInk, IsStart, DeclsLie, Laid}
 use Rattle.run_rules.specs.Laws.{ImportsEndBy, LiesBehindImports}
 use Rattle.run_laws.proofs.NodeSpans.{AllDecl}
 use Rattle.run_laws.proofs.SpelledSpans.{top_all}
-use Rattle.run_laws.proofs.TokensStand.{Stand, tokens_stand}
-use Rattle.run_laws.proofs.ImportsStand.{IsWord, Lie, all_lie, in_order, end_is, lie_lower, lie_past, ends_up, ends_within, ImportsLie, imports_lie}
+use Rattle.import_places.proofs.TokensStand.{Stand, tokens_stand}
+use Rattle.import_places.proofs.ImportsStand.{IsWord, Lie, all_lie, in_order, end_is, lie_lower, lie_past, ends_up, ends_within, ImportsLie, imports_lie}
 
 -- it holds of the parts of each declaration
 abbrev pub AllDecls : (Span → Type 0) → List (Decl Span) → Type 0
