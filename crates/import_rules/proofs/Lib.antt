@@ -5,6 +5,7 @@ pub mod Chains
 pub mod Ranges
 pub mod SettledOrder
 mod LaidChecks
+mod NeedChecks
 pub mod MeaningLaws
 pub mod NeededMeans
 pub mod NeededNames
