@@ -1,7 +1,7 @@
 -- The comments of a text start in their order.
 use Rattle.std.proofs.Common.{◌+◌, ◌≤◌, ℕ, List, [], ◌∷◌, ◌++◌, sym, subst, arith}
 use Rattle.go_tree.specs.declared.tokens.Comment.{Comment}
-use Rattle.go_words.specs.Tokens.{TokensOf, mark_size, comments_from, comments_at, size_of}
+use Rattle.go_words.specs.Tokens.{mark_size, comments_from, comments_at, size_of}
 use Rattle.go_words.specs.Tokens.Pieces.{PieceKind, blanks, remark, token, Piece}
 use Rattle.import_rules.specs.Laid.{CommentsAscend}
 use Rattle.import_places.specs.ReadFiles.{CommentsOfTextsAscend}

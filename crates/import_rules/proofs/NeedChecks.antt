@@ -1,10 +1,10 @@
 -- The names that packages get in small files, and the imports that go (Go specification, Declarations and scope; Blank
 -- identifier; Package initialization).
-use Rattle.std.proofs.Common.{◌≡◌, ◌<◌, ℕ, zero, suc, Bool, true, false, List, [], ◌∷◌, Option, None, refl, arith, codes}
+use Rattle.std.proofs.Common.{◌≡◌, ◌<◌, ℕ, zero, suc, Bool, true, false, List, [], ◌∷◌, None, refl, arith, codes}
 use Rattle.std.specs.Fmt.{digits}
 use Rattle.go_tree.specs.declared.spans.Span.{Span}
-use Rattle.go_tree.specs.Tree.{NameAt, Expr, ident, int_lit, selector, no_exprs, expr_and, eval, define, Stmts, no_stmts, stmt_and}
-use Rattle.go_tree.specs.File.{ImportSpec, ImportDecl, File, func}
+use Rattle.go_tree.specs.Tree.{NameAt, ident, int_lit, selector, no_exprs, expr_and, eval, define, Stmts, no_stmts, stmt_and}
+use Rattle.go_tree.specs.File.{File, func}
 use Rattle.go_words.specs.Tokens.Pieces.{keyword_spellings}
 use Rattle.scope_names.specs.declared.names.ImportName.{ImportName}
 use Rattle.scope_names.specs.declared.names.FileNames.{FileNames}
@@ -13,7 +13,7 @@ use Rattle.scope_names.specs.Occurrences.{uses_import}
 use Rattle.scope_names.specs.Fresh.{candidate, IsFirst}
 use Rattle.import_rules.specs.declared.new_import.Needed.{Needed}
 use Rattle.import_rules.specs.Needs.{IsNeededAt, there, new}
-use Rattle.import_rules.specs.SettledNames.{Wanted, AreNeeded}
+use Rattle.import_rules.specs.SettledNames.{AreNeeded}
 use Rattle.import_rules.specs.Unused.{unused_specs}
 
 -- ---- the first candidates

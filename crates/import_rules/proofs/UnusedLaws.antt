@@ -1,24 +1,24 @@
 -- Imports that are used stay.
-use Rattle.std.proofs.Common.{◌≡◌, inl, inr, ◌+◌, ◌-◌, ◌≤◌, ◌<◌, ℕ, zero, suc, Bool, true, false, not, ◌&&◌, ◌||◌, cond, nat_eq, List, [], ◌∷◌, ◌++◌, map, Option, Some, None, refl, sym, subst, ap, ◌∙◌, arith}
+use Rattle.std.proofs.Common.{◌≡◌, inl, inr, ◌+◌, ◌-◌, ◌≤◌, ◌<◌, ℕ, zero, suc, Bool, true, false, not, ◌&&◌, cond, nat_eq, List, [], ◌∷◌, ◌++◌, map, Option, Some, refl, sym, subst, ap, ◌∙◌, arith}
 use Rattle.std.specs.List.{list_any}
 use Rattle.std.proofs.lemmas.Bool.{or_left, or_right, not_from_false}
 use Rattle.std.proofs.lemmas.Bool.Decides.{nat_tests}
 use Rattle.std.proofs.lemmas.Option.{same_Some}
 use Rattle.go_tree.specs.declared.spans.Span.{Span}
 use Rattle.go_tree.specs.declared.tokens.Token.{Token}
-use Rattle.go_tree.specs.File.{ImportSpec, ImportDecl, File}
+use Rattle.go_tree.specs.File.{ImportSpec, ImportDecl}
 use Rattle.scope_names.specs.declared.names.Entity.{Entity}
 use Rattle.scope_names.specs.declared.names.Entity.TheVariants.{Import}
 use Rattle.scope_names.specs.declared.names.ImportName.{ImportName}
 use Rattle.scope_names.specs.declared.names.FileNames.{FileNames}
 use Rattle.scope_names.specs.Means.{Environment, means}
 use Rattle.scope_names.specs.Scopes.{environment_at}
-use Rattle.scope_names.specs.Occurrences.{Occurrence, file_uses, means_import, uses_import}
+use Rattle.scope_names.specs.Occurrences.{Occurrence, file_uses, means_import}
 use Rattle.import_rules.specs.declared.new_import.Needed.{Needed}
 use Rattle.import_rules.specs.Removed.{same_span}
 use Rattle.import_rules.specs.Laid.{SpecsLie, BodyLies, DeclsLie}
-use Rattle.import_rules.specs.SettledNames.{stays, import_at, Stays, ServingStay}
-use Rattle.import_rules.specs.Unused.{unused_from, unused_specs, spec_spans, AreUsed, StandsIn, EachStands, StandingNamesAreUsed, UsedImportsStay, UsedNamesMeanAt}
+use Rattle.import_rules.specs.SettledNames.{import_at, ServingStay}
+use Rattle.import_rules.specs.Unused.{unused_from, unused_specs, spec_spans, AreUsed, StandsIn, StandingNamesAreUsed, UsedImportsStay, UsedNamesMeanAt}
 use Rattle.import_rules.proofs.NeededNames.{needed_names_mean_at}
 
 -- ---- specs stand apart
