@@ -17,7 +17,7 @@ use crate::span_set::SpanSet;
 use go_scan::scan;
 use go_tree::{Comment, FileTree, MAX_FILE_BYTES, NoMemory, Span, Token};
 use import_rules::NewImport;
-use std::alloc::Global;
+use std::alloc::{AllocError, Global};
 use text_edits::{Edit, Edits};
 
 fn removals(alloc: Global, ranges: &[Span]) -> Result<Edits, NoMemory>
@@ -143,7 +143,7 @@ pub fn settle(
 {
     let Ok(scanned) = scan(alloc, text) else {
         // A text that reads has tokens, so what is refused is memory.
-        return Err(NoMemory);
+        return Err(AllocError);
     };
     let edits = settle_scanned(
         alloc,
