@@ -1,9 +1,8 @@
 -- Which import serves, by a table of scopes.
-use Rattle.std.proofs.Common.{◌≡◌, ◌∙◌, ◌&&◌, not, ℕ, suc, true, false, if◌then◌else◌, bytes_eq, List, [], ◌∷◌, Option, Some, None, refl, sym, ap, subst}
+use Rattle.std.proofs.Common.{◌≡◌, ◌∙◌, ◌&&◌, not, ℕ, suc, true, false, if◌then◌else◌, bytes_eq, List, [], ◌∷◌, Some, None, refl, sym, ap, subst}
 use Rattle.go_tree.specs.declared.spans.Span.{Span}
 use Rattle.go_tree.specs.File.{File}
 use Rattle.go_words.specs.Tokens.Pieces.{is_among}
-use Rattle.scope_names.specs.declared.names.Entity.{Entity}
 use Rattle.scope_names.specs.declared.names.ImportName.{ImportName}
 use Rattle.scope_names.specs.declared.names.FileNames.{FileNames}
 use Rattle.scope_names.specs.Fresh.{IsFresh}
