@@ -37,9 +37,8 @@ use Rattle.splice_laws.proofs.Splices.{size_pieces, scalars_parts, scalars_on}
 use Rattle.splice_laws.proofs.TokenDots.{tokens_apart}
 use Rattle.splice_laws.proofs.TokenLists.{asks_ends}
 use Rattle.splice_laws.proofs.Wholes.{span_of_node}
-use Rattle.import_splices.specs.AddedFile.{AreWritable, added_decls, with_first}
-use Rattle.import_splices.specs.SettledFile.{left_decls, without_unused}
-use Rattle.import_splices.specs.SettledReads.{AddedGo, AddedGoAgain, AddedStayUndotted}
+use Rattle.import_splices.specs.AddedFile.{AreWritable, added_decls}
+use Rattle.import_splices.specs.SettledFile.{left_decls}
 use Rattle.import_splices.proofs.Terms.{own, own_then, due, due_then, terms, terms_then, terms_are, silent_none}
 use Rattle.import_splices.proofs.Bytes.{bytes_of, bytes_then, bytes_size, drop_at, HeadFrom}
 use Rattle.import_splices.proofs.Nodes.{State, Node, node}
@@ -48,7 +47,7 @@ use Rattle.import_splices.proofs.Outs.{Out, slice_is, put_in}
 use Rattle.import_splices.proofs.Quotes.{low_all}
 use Rattle.import_splices.proofs.News.{lines, is_some, NextLines, next_lines}
 use Rattle.import_splices.proofs.Walks.{Follows, Led, lead_walk}
-use Rattle.import_splices.proofs.Files.{Start, start, assembled, named, stays_all, file_from, unused_go}
+use Rattle.import_splices.proofs.Files.{Start, start, assembled, named, stays_all, file_from}
 
 -- ---- before the first declaration
 
@@ -240,7 +239,7 @@ pub order_writable : (is : List NewImport) → AreWritable is → AreWritable (i
 order_writable [] h = h
 order_writable (i ∷ is) h = put_writable i (in_order is) (h.0, h.1, tt) (order_writable is h.2)
 
-put_some : (i : NewImport) (js : List NewImport) → is_some (put i js) ≡ true
+pub put_some : (i : NewImport) (js : List NewImport) → is_some (put i js) ≡ true
 put_some i [] = refl
 put_some i (j ∷ js) = by (is_before i j)
   where
@@ -249,7 +248,7 @@ put_some i (j ∷ js) = by (is_before i j)
     by false = refl
 
 module _ (text : List ℕ) (tokens : List Token) (comments : List Comment) (file : File Span) (unused : List Span) (t : TokensOf text tokens comments) (d : SpellsFile tokens file) (u : UndottedFile (bare_file file)) where
-  some_go : (added : List NewImport) (w : AreWritable added) → is_some added ≡ true → (is : List (ImportDecl Span)) → file.imports ≡ is → adds_to_group text is ≡ false
+  pub some_go : (added : List NewImport) (w : AreWritable added) → is_some added ≡ true → (is : List (ImportDecl Span)) → file.imports ≡ is → adds_to_group text is ≡ false
       → ReadsAs (applied text (put_edit (insertion (addition_among text tokens comments unused file.package_name.span.end is added)) (map removal (ranges text tokens comments unused (adds_to_group text is) is))))
       (record (bare_file file) { imports = added_decls added ++ left_decls text tokens comments unused is })
   unfolding behind_text
@@ -260,14 +259,3 @@ module _ (text : List ℕ) (tokens : List Token) (comments : List Comment) (file
       (file_from text tokens comments file unused (added_decls added ++ left_decls text tokens comments unused (i ∷ is))
       (put_edit (insertion (record { at = front_of text tokens comments unused i; text = each_within (codes "import ") (codes "\n") added })) (map removal (ranges text tokens comments unused false (i ∷ is)))) (start text tokens comments t (tokens_apart text tokens comments file t d u)) (lexemes tokens) refl d
       (λ front us mid q a. front_walk text tokens comments unused added w i is us mid (subst (λ (ds : List (ImportDecl Span)). SpellsImports span_to ds us mid) e a)))
-
-pub added_go : AddedGo
-added_go text tokens comments file [] unused t d u w h = unused_go text tokens comments file unused t d u
-added_go text tokens comments file (i ∷ is) unused t d u w h =
-    some_go text tokens comments file unused t d u (in_order (i ∷ is)) (order_writable (i ∷ is) w) (put_some i (in_order is)) file.imports refl h
-
-pub added_go_again : AddedGoAgain
-added_go_again text f r added unused u w h = added_go text r.tokens r.comments r.file added unused r.of_text r.spelled (subst (λ (g : File (Unit {0})). UndottedFile g) (sym r.same) u) w h
-
-pub added_stay_undotted : AddedStayUndotted
-added_stay_undotted text tokens comments file added unused u = u

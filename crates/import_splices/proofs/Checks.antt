@@ -7,8 +7,8 @@ use Rattle.import_rules.specs.declared.new_import.NewImport.{NewImport}
 use Rattle.import_rules.specs.SpecText.{in_order}
 use Rattle.import_rules.specs.Removed.{span_at}
 use Rattle.import_rules.specs.Settled.{settled}
-use Rattle.import_splices.specs.AddedFile.{AreWritable, added_decls, with_first}
-use Rattle.import_splices.specs.SettledFile.{left_decls, without_unused}
+use Rattle.import_splices.specs.AddedFile.{AreWritable, added_decls}
+use Rattle.import_splices.specs.SettledFile.{left_decls, settled_decls}
 
 abbrev spec_at : {S : Type 0} → S → List ℕ → ImportSpec S
 spec_at s path = record { span = s; name = None; path = path }
@@ -99,6 +99,45 @@ unfolding new_one one_text one_go
 before_left = refl
 
 -- the tree says the same
-tree_gone : (with_first (in_order (new_one ∷ [])) (without_unused one_text [] [] (span_at 18 21 ∷ []) one_go)).imports ≡ added_decls (new_one ∷ [])
+tree_gone : settled_decls one_text [] [] (span_at 18 21 ∷ []) (new_one ∷ []) one_go.imports ≡ added_decls (new_one ∷ [])
 unfolding new_one one_go
 tree_gone = refl
+
+unfoldable group_text : List ℕ
+group_text = codes "package p\n\nimport (\n\t\"a\"\n\t\"b\"\n)\n"
+
+unfoldable group_go : File Span
+group_go = record {
+  package_name = record { span = span_at 8 9; name = codes "p" };
+  imports = record { span = span_at 11 31; grouped = true; specs = spec_at (span_at 21 24) (codes "a") ∷ spec_at (span_at 26 29) (codes "b") ∷ [] } ∷ [];
+  decls = [];
+}
+
+-- in a group, also where its other specs go
+in_group : applied group_text (settled group_text [] [] group_go (new_one ∷ new_two ∷ []) (span_at 26 29 ∷ [])) ≡ codes "package p\n\nimport (\n\t\"a\"\n\tr \"math/rand\"\n\t\"strings\"\n)\n"
+unfolding new_one new_two group_text group_go
+in_group = refl
+
+-- the tree says the same
+tree_group : settled_decls group_text [] [] (span_at 26 29 ∷ []) (new_one ∷ new_two ∷ []) group_go.imports ≡ record {
+  span = tt;
+  grouped = true;
+  specs = spec_at tt (codes "a") ∷ record { span = tt; name = Some (record { span = tt; name = codes "r" }); path = codes "math/rand" } ∷ spec_at tt (codes "strings") ∷ [];
+} ∷ []
+unfolding new_one new_two group_text group_go
+tree_group = refl
+
+unfoldable line_text : List ℕ
+line_text = codes "package p\n\nimport (\"a\")\n"
+
+unfoldable line_go : File Span
+line_go = record {
+  package_name = record { span = span_at 8 9; name = codes "p" };
+  imports = record { span = span_at 11 23; grouped = true; specs = spec_at (span_at 19 22) (codes "a") ∷ [] } ∷ [];
+  decls = [];
+}
+
+-- a group with a spec on the line of its `)` takes none
+before_group : applied line_text (settled line_text [] [] line_go (new_one ∷ []) []) ≡ codes "package p\n\nimport \"strings\"\nimport (\"a\")\n"
+unfolding new_one line_text line_go
+before_group = refl
