@@ -1,6 +1,6 @@
 -- A text with imports added and the unused ones removed.
 use Rattle.std.proofs.Common.{◌≡◌, ℕ, ◌+◌, ◌≤◌, Bool, true, false, cond, not, nat_le, List, [], ◌∷◌, ◌++◌, length, map, None, Some, codes, refl, sym, ap, subst, ◌∙◌, arith, length-append}
-use Rattle.std.specs.Prelude.{encode_utf8_all, slice_range, drop, if◌then◌else◌}
+use Rattle.std.specs.Prelude.{slice_range, drop, if◌then◌else◌}
 use Rattle.std.specs.Str.{all_scalars}
 use Rattle.std.proofs.lemmas.Bool.Decides.{nat_tests}
 use Rattle.std.proofs.lemmas.List.{append_assoc, append-nil}
@@ -23,8 +23,8 @@ use Rattle.text_edits.specs.Applied.{applied, replaced_from}
 use Rattle.import_rules.specs.declared.new_import.NewImport.{NewImport}
 use Rattle.import_rules.specs.SpecText.{is_before, put, in_order}
 use Rattle.import_rules.specs.Removed.{ranges}
-use Rattle.import_rules.specs.Added.{Addition, each_within, adds_to_group, last_closing, front_of, addition_among}
-use Rattle.import_rules.specs.Settled.{removal, insertion, put_edit, settled}
+use Rattle.import_rules.specs.Added.{each_within, adds_to_group, last_closing, front_of, addition_among}
+use Rattle.import_rules.specs.Settled.{removal, insertion, put_edit}
 use Rattle.splice_laws.specs.Joints.{words_of, PartsTo, InnerEnd, LastEnds}
 use Rattle.splice_laws.specs.Dots.{UndottedFile}
 use Rattle.splice_laws.specs.Splice.{ReadsAs}

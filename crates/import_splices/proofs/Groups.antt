@@ -1,5 +1,5 @@
 -- The `)` of a group, and what stands before it on its line (Go specification, Import declarations).
-use Rattle.std.proofs.Common.{◌≡◌, inl, inr, ◌⊎◌, ℕ, ◌+◌, Bool, true, false, ◌&&◌, ◌||◌, List, [], ◌∷◌, ◌++◌, length, codes, Some, None, cond, refl, sym, ap, subst, ◌∙◌, arith, length-append}
+use Rattle.std.proofs.Common.{◌≡◌, inl, inr, ◌⊎◌, ℕ, ◌+◌, Bool, true, false, ◌||◌, List, [], ◌∷◌, ◌++◌, length, codes, Some, None, cond, refl, sym, ap, subst, ◌∙◌, arith, length-append}
 use Rattle.std.specs.Prelude.{encode_utf8_all}
 use Rattle.std.specs.Str.{all_scalars}
 use Rattle.std.specs.List.{list_all}
@@ -9,11 +9,11 @@ use Rattle.go_tree.specs.declared.spans.Span.{Span}
 use Rattle.go_tree.specs.declared.tokens.Token.{Token}
 use Rattle.go_tree.specs.declared.tokens.TokenKind.{TokenKind}
 use Rattle.go_tree.specs.declared.tokens.TokenKind.TheVariants.{Operator, Str}
-use Rattle.go_words.specs.Terminals.{Terminal, Lexeme, lex, str_lit, semicolon, end_paren, ends_statement, terminal_of, lexeme_of, lexemes}
+use Rattle.go_words.specs.Terminals.{Lexeme, lex, str_lit, semicolon, end_paren, ends_statement, terminal_of, lexeme_of, lexemes}
 use Rattle.go_words.specs.Tokens.Characters.{is_blank, is_listed}
 use Rattle.go_words.specs.Tokens.Forms.{HasForm}
 use Rattle.go_words.specs.Tokens.Literals.{string_lit}
-use Rattle.go_words.specs.Tokens.{size_of, ends_line, tokens_from, pieces_size}
+use Rattle.go_words.specs.Tokens.{ends_line, tokens_from, pieces_size}
 use Rattle.go_words.specs.Tokens.Pieces.{token, Piece, IsPiece}
 use Rattle.go_read.specs.SpellsTypes.{Lexemes}
 use Rattle.go_scan.proofs.BytesLemmas.{newline_same}
@@ -26,7 +26,7 @@ use Rattle.splice_laws.proofs.TokenLists.{asks_ends}
 use Rattle.import_splices.proofs.Terms.{newline_in}
 use Rattle.import_splices.proofs.Bytes.{bytes_of, bytes_then, bytes_size, line_starts, listed_then}
 use Rattle.import_splices.proofs.Gaps.{at_last, all_later}
-use Rattle.import_splices.proofs.Nexts.{inserted_at, Written, Next, is_inserted, is_written, next_of}
+use Rattle.import_splices.proofs.Nexts.{Written, Next, is_inserted, is_written, next_of}
 use Rattle.import_splices.proofs.Nodes.{token_piece, span_in, terminal_in, State, Node, node}
 use Rattle.import_splices.proofs.Closed.{is_close, close_token}
 use Rattle.import_splices.proofs.Quotes.{low_all}

@@ -1,5 +1,5 @@
 -- A text with its imports settled, also where a group takes the added ones.
-use Rattle.std.proofs.Common.{◌≡◌, inl, inr, ℕ, ◌+◌, ◌-◌, ◌≤◌, ◌<◌, Bool, true, false, cond, ◌&&◌, nat_le, List, [], ◌∷◌, ◌++◌, map, take, reverse, codes, refl, sym, ap, subst, ◌∙◌, arith}
+use Rattle.std.proofs.Common.{◌≡◌, inr, ℕ, ◌+◌, ◌-◌, ◌<◌, Bool, true, false, cond, nat_le, List, [], ◌∷◌, ◌++◌, map, take, reverse, codes, refl, sym, ap, subst, ◌∙◌, arith}
 use Rattle.std.specs.Prelude.{if◌then◌else◌}
 use Rattle.std.proofs.lemmas.Bool.Decides.{nat_tests}
 use Rattle.std.proofs.lemmas.List.{append_assoc, append-nil}
@@ -21,7 +21,7 @@ use Rattle.import_rules.specs.declared.new_import.NewImport.{NewImport}
 use Rattle.import_rules.specs.SpecText.{in_order}
 use Rattle.import_rules.specs.Removed.{span_at, through_semicolon, stands_alone, line_start, line_end, bytes_to_newline, begins_line, widened, goes, goes_whole, spec_range, decl_range, specs_ranges, decl_ranges, ranges}
 use Rattle.import_rules.specs.Added.{each_within, closing, adds_to_group, last_closing, front_of, addition_among}
-use Rattle.import_rules.specs.Settled.{removal, insertion, put_edit, settled}
+use Rattle.import_rules.specs.Settled.{removal, insertion, put_edit}
 use Rattle.splice_laws.specs.Joints.{words_of}
 use Rattle.splice_laws.specs.Replaced.{starts_rise}
 use Rattle.splice_laws.specs.Dots.{UndottedFile}

@@ -7,7 +7,7 @@ use Rattle.std.proofs.lemmas.Str.{encodes-append}
 use Rattle.go_tree.specs.declared.spans.Span.{Span}
 use Rattle.go_tree.specs.declared.tokens.TokenKind.TheVariants.{Ident, Keyword, Str}
 use Rattle.go_tree.specs.File.{ImportSpec, ImportDecl}
-use Rattle.go_words.specs.Terminals.{Terminal, lex, ident, str_lit, semicolon, key_import, end_paren}
+use Rattle.go_words.specs.Terminals.{Terminal, lex, ident, str_lit, semicolon, key_import}
 use Rattle.go_words.specs.Texts.{text_value}
 use Rattle.go_words.specs.Tokens.Characters.{each}
 use Rattle.go_words.specs.Tokens.Pieces.{token, Piece, is_blanks, IsPiece}
@@ -20,7 +20,7 @@ use Rattle.import_rules.specs.Added.{each_within}
 use Rattle.splice_laws.specs.Joints.{words_of, InnerEnd, LastEnds}
 use Rattle.splice_laws.specs.ImportTexts.{IsNewName, a_piece, spec_pieces, new_name}
 use Rattle.splice_laws.specs.Edited.{terminals}
-use Rattle.splice_laws.proofs.AddImports.{words_both, terminals_both, blank_ends, text_before, import_is, z}
+use Rattle.splice_laws.proofs.AddImports.{words_both, blank_ends, text_before, import_is, z}
 use Rattle.splice_laws.proofs.Joins.{token_before_blank}
 use Rattle.splice_laws.proofs.Splices.{scalars_on}
 use Rattle.import_splices.specs.AddedFile.{is_byte, IsName, AreWritable, added_spec, added_decls}

@@ -1,8 +1,7 @@
 -- A file to which imports are added (Go specification, Import declarations).
-use Rattle.std.specs.Prelude.{◌≡◌, ℕ, Bool, true, false, nat_lt, List, [], ◌∷◌, Option, Some, None, if◌then◌else◌, encode_utf8_all}
+use Rattle.std.specs.Prelude.{◌≡◌, ℕ, Bool, true, false, nat_lt, List, [], ◌∷◌, Some, None, if◌then◌else◌, encode_utf8_all}
 use Rattle.std.specs.Str.{all_scalars}
 use Rattle.go_tree.specs.declared.tokens.TokenKind.TheVariants.{Ident}
-use Rattle.go_tree.specs.Tree.{NameAt}
 use Rattle.go_tree.specs.File.{ImportSpec, ImportDecl}
 use Rattle.go_words.specs.Tokens.Characters.{each}
 use Rattle.go_words.specs.Tokens.Pieces.{token, IsPiece}
