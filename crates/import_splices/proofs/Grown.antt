@@ -6,14 +6,14 @@ use Rattle.std.proofs.lemmas.List.{append_assoc, append-nil}
 use Rattle.go_tree.specs.declared.spans.Span.{Span}
 use Rattle.go_tree.specs.declared.tokens.Token.{Token}
 use Rattle.go_tree.specs.declared.tokens.Comment.{Comment}
-use Rattle.go_tree.specs.File.{ImportSpec, ImportDecl, File}
+use Rattle.go_tree.specs.File.{ImportSpec, ImportDecl, Decl, File}
 use Rattle.go_tree.specs.FileBare.{bare_import_spec, bare_file}
 use Rattle.go_words.specs.Terminals.{Terminal, lex, str_lit, semicolon, paren, end_paren, key_import, lexemes}
 use Rattle.go_words.specs.Tokens.{TokensOf, pieces_size}
 use Rattle.go_words.specs.Tokens.Pieces.{Piece}
 use Rattle.go_read.specs.SpellsTypes.{Lexemes}
 use Rattle.go_read.specs.SpellsSpans.{span_to, start_of}
-use Rattle.go_read.specs.SpellsFiles.{SpellsImportSpecs, SpellsImport, SpellsImports, SpellsFile, no_import_specs_rule, last_import_spec_rule, more_import_specs_rule, import_rule, import_group_rule, no_imports_rule, more_imports_rule}
+use Rattle.go_read.specs.SpellsFiles.{SpellsImportSpecs, SpellsImport, SpellsImports, SpellsTops, SpellsFile, no_import_specs_rule, last_import_spec_rule, more_import_specs_rule, import_rule, import_group_rule, no_imports_rule, more_imports_rule}
 use Rattle.go_read.specs.Bareness.{nowhere}
 use Rattle.text_edits.specs.declared.edit.Edit.{Edit}
 use Rattle.text_edits.specs.Applied.{applied}
@@ -21,7 +21,7 @@ use Rattle.import_rules.specs.declared.new_import.NewImport.{NewImport}
 use Rattle.import_rules.specs.SpecText.{in_order}
 use Rattle.import_rules.specs.Removed.{span_at, through_semicolon, stands_alone, line_start, line_end, bytes_to_newline, begins_line, widened, goes, goes_whole, spec_range, decl_range, specs_ranges, decl_ranges, ranges}
 use Rattle.import_rules.specs.Added.{each_within, closing, adds_to_group, last_closing, front_of, addition_among}
-use Rattle.import_rules.specs.Settled.{removal, insertion, put_edit}
+use Rattle.import_rules.specs.Settled.{removal, insertion, put_edit, settled}
 use Rattle.splice_laws.specs.Joints.{words_of}
 use Rattle.splice_laws.specs.Replaced.{starts_rise}
 use Rattle.splice_laws.specs.Dots.{UndottedFile}
@@ -31,15 +31,15 @@ use Rattle.splice_laws.proofs.TokenDots.{tokens_apart}
 use Rattle.splice_laws.proofs.TokenLists.{end_last}
 use Rattle.splice_laws.proofs.Wholes.{span_of_node}
 use Rattle.import_splices.specs.AddedFile.{AreWritable, added_spec, added_decls}
-use Rattle.import_splices.specs.SettledFile.{left_specs, left_decl, left_decls, grown_decls}
+use Rattle.import_splices.specs.SettledFile.{left_specs, left_decl, left_decls, grown_decls, settled_decls, with_settled}
 use Rattle.import_splices.specs.SettledReads.{SettledGo, SettledGoAgain, SettledStayUndotted}
 use Rattle.import_splices.proofs.Nodes.{State}
 use Rattle.import_splices.proofs.Steps.{opening}
 use Rattle.import_splices.proofs.Outs.{Out, out_map, kept, put_in}
 use Rattle.import_splices.proofs.Groups.{paren_wide, closing_not_open}
 use Rattle.import_splices.proofs.SpecLines.{spec_lines}
-use Rattle.import_splices.proofs.Walks.{SpecIs, spec_is, specs_front, span_same, Follows, again, goes_on, stays, stays_led, map_both, one_walk}
-use Rattle.import_splices.proofs.Files.{start, stays_all, file_from, unused_go}
+use Rattle.import_splices.proofs.Walks.{SpecIs, spec_is, specs_front, ImportsThen, import_front, imports_front, span_same, Follows, again, goes_on, stays, stays_led, map_both, one_walk}
+use Rattle.import_splices.proofs.Files.{start, Tail, tail_stays, file_from, left_go}
 use Rattle.import_splices.proofs.News.{is_some}
 use Rattle.import_splices.proofs.Adds.{some_go, order_writable, put_some}
 
@@ -61,10 +61,10 @@ module _ (text : List ℕ) (tokens : List Token) (comments : List Comment) (unus
   abbrev put_at : ℕ → Edit
   put_at n = insertion (record { at = n; text = tab_text })
 
-  module _ (M : Lexemes) (c : Span) (mid : Lexemes) (es : List Edit) (js : List (ImportDecl (Unit {0}))) (later : Follows text tokens comments unused mid es (λ us. SpellsImports nowhere js us M)) where
+  module _ (P : Lexemes → Type 0) (c : Span) (mid : Lexemes) (es : List Edit) (js : List (ImportDecl (Unit {0}))) (later : Follows text tokens comments unused mid es (ImportsThen P js)) where
     -- what stands from `)` on
     abbrev Closing : Lexemes → Type 0
-    Closing vs = (e2 : Span) × (ws : Lexemes) × (vs ≡ lex e2 end_paren ∷ lex c semicolon ∷ ws) × SpellsImports nowhere js ws M
+    Closing vs = (e2 : Span) × (ws : Lexemes) × (vs ≡ lex e2 end_paren ∷ lex c semicolon ∷ ws) × ImportsThen P js ws
 
     -- what spells specs before that
     abbrev Specs : List (ImportSpec (Unit {0})) → Lexemes → Type 0
@@ -78,7 +78,7 @@ module _ (text : List ℕ) (tokens : List Token) (comments : List Comment) (unus
     specs_added e n q at b ps st =
         let old : Lexemes → Type 0 = λ us. Closing us in
         let new : Lexemes → Type 0 = λ us. Specs (map added_spec added) us in
-        let led = stays_led text tokens comments unused [] e end_paren refl (lex c semicolon ∷ []) mid (inr (c, refl)) (λ z. absurd (nope z)) es old c refl (λ us. SpellsImports nowhere js us M) later (λ us o. (e, us, refl, o)) at b ps st in
+        let led = stays_led text tokens comments unused [] e end_paren refl (lex c semicolon ∷ []) mid (inr (c, refl)) (λ z. absurd (nope z)) es old c refl (ImportsThen P js) later (λ us o. (e, us, refl, o)) at b ps st in
         let l = spec_lines added w in
         let o = put_in text tokens at b ps l.ns l.inner l.closed l.scalars l.vs l.own es new old led.out led.newline
         (λ us o. (us, subst (λ (xs : List (ImportSpec (Unit {0}))). SpellsImportSpecs nowhere xs (l.vs ++ us) us) (append-nil (map added_spec added)) (l.spells [] us us no_import_specs_rule), o)) in
@@ -126,7 +126,7 @@ module _ (text : List ℕ) (tokens : List Token) (comments : List Comment) (unus
     group_grown : (s o e : Span) (xs : List (ImportSpec Span)) (ts : Lexemes) (sp : Span) → sp ≡ span_to (lex s key_import ∷ lex o paren ∷ ts) (lex c semicolon ∷ mid) → SpellsImportSpecs span_to xs ts (lex e end_paren ∷ lex c semicolon ∷ mid)
         → begins_line text (closing (record { span = sp; grouped = true; specs = xs })) ≡ true
         → Follows text tokens comments unused (lex s key_import ∷ lex o paren ∷ ts) (map removal (specs_ranges text tokens comments unused (record { span = sp; grouped = true; specs = xs }) xs) ++ (put_at (closing (record { span = sp; grouped = true; specs = xs })) ∷ es))
-        (λ us. SpellsImports nowhere (record { span = tt; grouped = true; specs = left_specs text tokens comments unused xs ++ map added_spec added } ∷ js) us M)
+        (ImportsThen P (record { span = tt; grouped = true; specs = left_specs text tokens comments unused xs ++ map added_spec added } ∷ js))
     group_grown s o e xs ts sp q specs taken at b ps st stop =
         let f = specs_front specs in
         let whole : lex s key_import ∷ lex o paren ∷ ts ≡ (lex s key_import ∷ lex o paren ∷ f.0) ++ lex e end_paren ∷ (lex c semicolon ∷ mid) = ap (λ (us : Lexemes). lex s key_import ∷ lex o paren ∷ us) f.1 in
@@ -137,15 +137,15 @@ module _ (text : List ℕ) (tokens : List Token) (comments : List Comment) (unus
         specs_grown (record { span = sp; grouped = true; specs = xs }) refl e (closing (record { span = sp; grouped = true; specs = xs })) close (ap (begins_line text) close ∙ taken) specs (at + (pieces_size w.gap + pieces_size w.body)) w.b2 w.left w.next (w.stops tt) in
         (kept text tokens at b ps (lex s key_import ∷ lex o paren ∷ ts) st (lex s key_import ∷ lex o paren ∷ []) s.start [] ts (Unit {0}) (λ next. Unit {0}) w tt
         (map removal (specs_ranges text tokens comments unused (record { span = sp; grouped = true; specs = xs }) xs) ++ (put_at (closing (record { span = sp; grouped = true; specs = xs })) ∷ es))
-        (λ us. SpellsImports nowhere (record { span = tt; grouped = true; specs = left_specs text tokens comments unused xs ++ map added_spec added } ∷ js) us M)
+        (ImportsThen P (record { span = tt; grouped = true; specs = left_specs text tokens comments unused xs ++ map added_spec added } ∷ js))
         (λ us. Specs (left_specs text tokens comments unused xs ++ map added_spec added) us) inside (w.closed (words_of (inside.front ++ inside.new)) tt)
-        (λ us o. more_imports_rule {c = c} (import_group_rule (subst (λ (vs : Lexemes). SpellsImportSpecs nowhere (left_specs text tokens comments unused xs ++ map added_spec added) us vs) o.2.2 o.1)) o.2.3)).0
+        (λ us o. (o.2.3.0, more_imports_rule {c = c} (import_group_rule (subst (λ (vs : Lexemes). SpellsImportSpecs nowhere (left_specs text tokens comments unused xs ++ map added_spec added) us vs) o.2.2 o.1)) o.2.3.1, o.2.3.2))).0
       where
         less : (a b k : ℕ) → b ≡ a + 1 → k ≡ b → a ≡ k - 1
         less a b k e f = omega (arith, e, f)
 
     one_grown : {d : ImportDecl Span} {ts : Lexemes} → SpellsImport span_to d ts (lex c semicolon ∷ mid) → adds_to_group text (d ∷ []) ≡ true
-        → Follows text tokens comments unused ts (map removal (decl_ranges text tokens comments unused true d) ++ (put_at (closing d) ∷ es)) (λ us. SpellsImports nowhere (record { span = tt; grouped = true; specs = left_specs text tokens comments unused d.specs ++ map added_spec added } ∷ js) us M)
+        → Follows text tokens comments unused ts (map removal (decl_ranges text tokens comments unused true d) ++ (put_at (closing d) ∷ es)) (ImportsThen P (record { span = tt; grouped = true; specs = left_specs text tokens comments unused d.specs ++ map added_spec added } ∷ js))
     one_grown (import_rule a) taken at b ps st stop = absurd (clash taken)
       where
         clash : false ≡ true → ⊥
@@ -154,18 +154,18 @@ module _ (text : List ℕ) (tokens : List Token) (comments : List Comment) (unus
 
   -- ---- the declarations
 
-  grown_walk : (M : Lexemes) (c : Span) {d : ImportDecl Span} {ds : List (ImportDecl Span)} {ts mid r : Lexemes} → SpellsImport span_to d ts (lex c semicolon ∷ mid) → SpellsImports span_to ds mid r → adds_to_group text (d ∷ ds) ≡ true
-      → (es : List Edit) → Follows text tokens comments unused r es (λ us. us ≡ M)
-      → Follows text tokens comments unused ts (map removal (ranges text tokens comments unused true (d ∷ ds)) ++ (put_at (last_closing (d ∷ ds)) ∷ es)) (λ us. SpellsImports nowhere (grown_decls text tokens comments unused added (d ∷ ds)) us M)
-  grown_walk M c {mid = mid} a no_imports_rule taken es last at b ps st stop =
-      one_grown M c mid es [] (λ at b ps st stop. out_map text at b ps es _ _ (λ us o. subst (λ (vs : Lexemes). SpellsImports nowhere [] vs M) (sym o) no_imports_rule) (last at b ps st stop)) a taken at b ps st stop
-  grown_walk M c {d = d} {mid = mid} a (more_imports_rule {c = c2} {d = d2} {ds = ds} {mid = mid2} a2 k) taken es last at b ps st stop =
+  grown_walk : (P : Lexemes → Type 0) (c : Span) {d : ImportDecl Span} {ds : List (ImportDecl Span)} {ts mid r : Lexemes} → SpellsImport span_to d ts (lex c semicolon ∷ mid) → SpellsImports span_to ds mid r → adds_to_group text (d ∷ ds) ≡ true
+      → (es : List Edit) → Follows text tokens comments unused r es P
+      → Follows text tokens comments unused ts (map removal (ranges text tokens comments unused true (d ∷ ds)) ++ (put_at (last_closing (d ∷ ds)) ∷ es)) (ImportsThen P (grown_decls text tokens comments unused added (d ∷ ds)))
+  grown_walk P c {mid = mid} a no_imports_rule taken es last at b ps st stop =
+      one_grown P c mid es [] (λ at b ps st stop. out_map text at b ps es _ _ (λ us o. (us, no_imports_rule, o)) (last at b ps st stop)) a taken at b ps st stop
+  grown_walk P c {d = d} {mid = mid} a (more_imports_rule {c = c2} {d = d2} {ds = ds} {mid = mid2} a2 k) taken es last at b ps st stop =
       let fs : List Edit = put_at (last_closing (d2 ∷ ds)) ∷ es in
       let own : List Span = decl_ranges text tokens comments unused false d in
       let others : List Span = ranges text tokens comments unused true (d2 ∷ ds) in
-      subst (λ (gs : List Edit). Out text at b ps gs (λ us. SpellsImports nowhere (left_decl text tokens comments unused d ++ grown_decls text tokens comments unused added (d2 ∷ ds)) us M))
-      (sym (append_assoc (map removal own) (map removal others) fs) ∙ ap (λ (gs : List Edit). gs ++ fs) (sym (map_both text tokens comments unused M own others)))
-      (one_walk text tokens comments unused M c mid (map removal others ++ fs) (grown_decls text tokens comments unused added (d2 ∷ ds)) (grown_walk M c2 a2 k taken es last) a at b ps st stop).out
+      subst (λ (gs : List Edit). Out text at b ps gs (ImportsThen P (left_decl text tokens comments unused d ++ grown_decls text tokens comments unused added (d2 ∷ ds))))
+      (sym (append_assoc (map removal own) (map removal others) fs) ∙ ap (λ (gs : List Edit). gs ++ fs) (sym (map_both own others)))
+      (one_walk text tokens comments unused P c mid (map removal others ++ fs) (grown_decls text tokens comments unused added (d2 ∷ ds)) (grown_walk P c2 a2 k taken es last) a at b ps st stop).out
 
 -- ---- the edits by place
 
@@ -193,15 +193,11 @@ rise_past : (n0 : Lexemes) (s : Span) (x : Terminal) (m : Lexemes) (e : Span) (y
 rise_past [] s x m e y r h = rise_to s x m e y r h
 rise_past (lex u z ∷ n0) s x m e y r h = rise_to u z (n0 ++ lex s x ∷ m) e y r (subst (λ (us : Lexemes). starts_rise (lex u z ∷ us)) (sym (append_assoc n0 (lex s x ∷ m) (lex e y ∷ r))) h)
 
-rise_later : (m ts : Lexemes) → starts_rise (m ++ ts) → starts_rise ts
+pub rise_later : (m ts : Lexemes) → starts_rise (m ++ ts) → starts_rise ts
 rise_later [] ts h = h
 rise_later (lex s x ∷ []) [] h = tt
 rise_later (lex s x ∷ []) (lex u y ∷ ts) h = h.1
 rise_later (lex s x ∷ lex u y ∷ m) ts h = rise_later (lex u y ∷ m) ts h.1
-
-import_front : {d : ImportDecl Span} {ts r : Lexemes} → SpellsImport span_to d ts r → (m : Lexemes) × (ts ≡ m ++ r)
-import_front (import_rule {s = s} {r = r} a) = let x = spec_is a in (lex s key_import ∷ (x.n0 ++ lex x.s (str_lit x.p) ∷ []), ap (λ (us : Lexemes). lex s key_import ∷ us) (x.is ∙ sym (append_assoc x.n0 (lex x.s (str_lit x.p) ∷ []) r)))
-import_front (import_group_rule {s = s} {b = o} {e = e} {r = r} a) = let f = specs_front a in (lex s key_import ∷ lex o paren ∷ (f.0 ++ lex e end_paren ∷ []), ap (λ (us : Lexemes). lex s key_import ∷ lex o paren ∷ us) (f.1 ∙ sym (append_assoc f.0 (lex e end_paren ∷ []) r)))
 
 module _ (text : List ℕ) (tokens : List Token) (comments : List Comment) (unused : List Span) where
   -- whole lines start no later
@@ -297,7 +293,7 @@ module _ (text : List ℕ) (tokens : List Token) (comments : List Comment) (unus
         rest = l.rest;
         is = whole ∙ ap (λ (us : Lexemes). (f.0 ++ lex c semicolon ∷ []) ++ us) l.is ∙ sym (append_assoc (f.0 ++ lex c semicolon ∷ []) l.m (lex l.e end_paren ∷ l.rest));
         closing_is = l.closing_is;
-        below = λ rise. subst (λ (es : List Edit). Below l.e.start es) (sym (map_both text tokens comments unused [] (decl_ranges text tokens comments unused false d) (ranges text tokens comments unused true (d2 ∷ ds))))
+        below = λ rise. subst (λ (es : List Edit). Below l.e.start es) (sym (map_both (decl_ranges text tokens comments unused false d) (ranges text tokens comments unused true (d2 ∷ ds))))
             (below_both l.e.start (map removal (decl_ranges text tokens comments unused false d)) (map removal (ranges text tokens comments unused true (d2 ∷ ds)))
             (decl_below l.e end_paren l.rest a (lex c semicolon ∷ l.m) (ap (λ (us : Lexemes). lex c semicolon ∷ us) l.is) rise)
             (l.below (rise_later (f.0 ++ lex c semicolon ∷ []) mid (subst (λ (us : Lexemes). starts_rise us) whole rise))));
@@ -305,50 +301,55 @@ module _ (text : List ℕ) (tokens : List Token) (comments : List Comment) (unus
 
 -- ---- the file
 
-module _ (text : List ℕ) (tokens : List Token) (comments : List Comment) (file : File Span) (unused : List Span) (t : TokensOf text tokens comments) (d : SpellsFile tokens file) (u : UndottedFile (bare_file file)) where
-  grown_go : (added : List NewImport) (w : AreWritable added) (i : ImportDecl Span) (is : List (ImportDecl Span)) → file.imports ≡ i ∷ is → adds_to_group text (i ∷ is) ≡ true
-      → ReadsAs (applied text (put_edit (insertion (record { at = last_closing (i ∷ is); text = each_within (codes "\t") (codes "\n") added })) (map removal (ranges text tokens comments unused true (i ∷ is)))))
-      (record (bare_file file) { imports = grown_decls text tokens comments unused added (i ∷ is) })
+module _ (text : List ℕ) (tokens : List Token) (comments : List Comment) (file : File Span) (unused : List Span) (t : TokensOf text tokens comments) (d : SpellsFile tokens file) (u : UndottedFile (bare_file file)) (es : List Edit) (cs : List (Decl (Unit {0}))) (tail : Tail text tokens comments unused file es cs) where
+  by_rule : (added : List NewImport) (w : AreWritable added) (i : ImportDecl Span) (is : List (ImportDecl Span)) → adds_to_group text (i ∷ is) ≡ true → (front us mid : Lexemes) → lexemes tokens ≡ front ++ us → starts_rise us → SpellsImports span_to (i ∷ is) us mid → SpellsTops span_to file.decls mid []
+      → Follows text tokens comments unused us (put_edit (insertion (record { at = last_closing (i ∷ is); text = each_within (codes "\t") (codes "\n") added })) (map removal (ranges text tokens comments unused true (i ∷ is))) ++ es)
+      (ImportsThen (λ vs. SpellsTops nowhere cs vs []) (grown_decls text tokens comments unused added (i ∷ is)))
   unfolding tab_text
-  grown_go added w i is e taken =
-      file_from text tokens comments file unused (grown_decls text tokens comments unused added (i ∷ is)) _ (start text tokens comments t (tokens_apart text tokens comments file t d u)) (lexemes tokens) refl d
-      (λ front us mid q a. by_rule us mid (rise_later front us (subst (λ (ts : Lexemes). starts_rise ts) q (tokens_rise text tokens comments t))) (subst (λ (ds : List (ImportDecl Span)). SpellsImports span_to ds us mid) e a))
+  by_rule added w i is taken front us mid q rise (more_imports_rule {c = c} {mid = m} a k) b at bb ps st stop =
+      let fs : List Edit = map removal (ranges text tokens comments unused true (i ∷ is)) in
+      let ins : Edit = insertion (record { at = last_closing (i ∷ is); text = each_within (codes "\t") (codes "\n") added }) in
+      let l = last_of text tokens comments unused c a k taken in
+      let wide = paren_wide text tokens at bb ps l.m l.e l.rest (again text tokens comments unused at bb ps us _ l.is st) in
+      let place : l.e.start ≡ last_closing (i ∷ is) = less l.e.start l.e.end (last_closing (i ∷ is)) wide l.closing_is in
+      let f = imports_front (more_imports_rule {c = c} a k) in
+      subst (λ (gs : List Edit). Out text at bb ps gs (ImportsThen (λ vs. SpellsTops nowhere cs vs []) (grown_decls text tokens comments unused added (i ∷ is))))
+      (sym (append_assoc fs (ins ∷ []) es) ∙ ap (λ (gs : List Edit). gs ++ es) (sym (put_last ins fs (subst (λ (n : ℕ). Below n fs) place (l.below rise)))))
+      (grown_walk text tokens comments unused added w (λ vs. SpellsTops nowhere cs vs []) c a k taken es (tail (front ++ f.0) mid (q ∙ ap (λ (vs : Lexemes). front ++ vs) f.1 ∙ sym (append_assoc front f.0 mid)) b) at bb ps st stop)
     where
-      ins : Edit
-      ins = insertion (record { at = last_closing (i ∷ is); text = each_within (codes "\t") (codes "\n") added })
+      less : (a b k : ℕ) → b ≡ a + 1 → k ≡ b - 1 → a ≡ k
+      less a b k e f = omega (arith, e, f)
 
-      by_rule : (us mid : Lexemes) → starts_rise us → SpellsImports span_to (i ∷ is) us mid
-          → Follows text tokens comments unused us (put_edit (insertion (record { at = last_closing (i ∷ is); text = each_within (codes "\t") (codes "\n") added })) (map removal (ranges text tokens comments unused true (i ∷ is))))
-          (λ ws. SpellsImports nowhere (grown_decls text tokens comments unused added (i ∷ is)) ws mid)
-      by_rule us mid rise (more_imports_rule {c = c} a k) at b ps st stop =
-          let l = last_of text tokens comments unused c a k taken in
-          let wide = paren_wide text tokens at b ps l.m l.e l.rest (again text tokens comments unused at b ps us _ l.is st) in
-          let place : l.e.start ≡ last_closing (i ∷ is) = less l.e.start l.e.end (last_closing (i ∷ is)) wide l.closing_is in
-          subst (λ (es : List Edit). Out text at b ps es (λ ws. SpellsImports nowhere (grown_decls text tokens comments unused added (i ∷ is)) ws mid))
-          (sym (put_last (insertion (record { at = last_closing (i ∷ is); text = each_within (codes "\t") (codes "\n") added })) (map removal (ranges text tokens comments unused true (i ∷ is)))
-          (subst (λ (n : ℕ). Below n (map removal (ranges text tokens comments unused true (i ∷ is)))) place (l.below rise))))
-          (grown_walk text tokens comments unused added w mid c a k taken [] (stays_all text tokens comments unused mid) at b ps st stop)
-        where
-          less : (a b k : ℕ) → b ≡ a + 1 → k ≡ b - 1 → a ≡ k
-          less a b k e f = omega (arith, e, f)
+  grown_go : (added : List NewImport) (w : AreWritable added) (i : ImportDecl Span) (is : List (ImportDecl Span)) → file.imports ≡ i ∷ is → adds_to_group text (i ∷ is) ≡ true
+      → ReadsAs (applied text (put_edit (insertion (record { at = last_closing (i ∷ is); text = each_within (codes "\t") (codes "\n") added })) (map removal (ranges text tokens comments unused true (i ∷ is))) ++ es))
+      (record (bare_file file) { imports = grown_decls text tokens comments unused added (i ∷ is); decls = cs })
+  grown_go added w i is e taken =
+      file_from text tokens comments file unused (grown_decls text tokens comments unused added (i ∷ is)) cs
+      (put_edit (insertion (record { at = last_closing (i ∷ is); text = each_within (codes "\t") (codes "\n") added })) (map removal (ranges text tokens comments unused true (i ∷ is))) ++ es) (start text tokens comments t (tokens_apart text tokens comments file t d u)) (lexemes tokens) refl d
+      (λ front us mid q a b. by_rule added w i is taken front us mid q (rise_later front us (subst (λ (ts : Lexemes). starts_rise ts) q (tokens_rise text tokens comments t))) (subst (λ (ds : List (ImportDecl Span)). SpellsImports span_to ds us mid) e a) b)
 
   settle : (added : List NewImport) (w : AreWritable added) → is_some added ≡ true → (is : List (ImportDecl Span)) → file.imports ≡ is → (c : Bool) → adds_to_group text is ≡ c
-      → ReadsAs (applied text (put_edit (insertion (addition_among text tokens comments unused file.package_name.span.end is added)) (map removal (ranges text tokens comments unused (adds_to_group text is) is))))
-      (record (bare_file file) { imports = if c then grown_decls text tokens comments unused added is else added_decls added ++ left_decls text tokens comments unused is })
-  settle added w some [] e false h = some_go text tokens comments file unused t d u added w some [] e refl
+      → ReadsAs (applied text (put_edit (insertion (addition_among text tokens comments unused file.package_name.span.end is added)) (map removal (ranges text tokens comments unused (adds_to_group text is) is)) ++ es))
+      (record (bare_file file) { imports = if c then grown_decls text tokens comments unused added is else added_decls added ++ left_decls text tokens comments unused is; decls = cs })
+  settle added w some [] e false h = some_go text tokens comments file unused t d u es cs tail added w some [] e refl
   settle added w some [] e true h = absurd (clash h)
     where
       clash : false ≡ true → ⊥
       clash e = cc
-  settle added w some (i ∷ is) e false h = some_go text tokens comments file unused t d u added w some (i ∷ is) e h
+  settle added w some (i ∷ is) e false h = some_go text tokens comments file unused t d u es cs tail added w some (i ∷ is) e h
   settle added w some (i ∷ is) e true h =
       subst (λ (c : Bool). ReadsAs (applied text (put_edit (insertion (if c then record { at = last_closing (i ∷ is); text = each_within (codes "\t") (codes "\n") added } else record { at = front_of text tokens comments unused i; text = each_within (codes "import ") (codes "\n") added }))
-      (map removal (ranges text tokens comments unused c (i ∷ is))))) (record (bare_file file) { imports = grown_decls text tokens comments unused added (i ∷ is) })) (sym h) (grown_go added w i is e h)
+      (map removal (ranges text tokens comments unused c (i ∷ is))) ++ es)) (record (bare_file file) { imports = grown_decls text tokens comments unused added (i ∷ is); decls = cs })) (sym h) (grown_go added w i is e h)
+
+  -- all edits that settle the imports, and others behind them
+  pub all_go : (added : List NewImport) → AreWritable added → ReadsAs (applied text (settled text tokens comments file added unused ++ es)) (record (bare_file file) { imports = settled_decls text tokens comments unused added file.imports; decls = cs })
+  all_go [] w = left_go text tokens comments file unused t d u es cs tail
+  all_go (i ∷ is) w = settle (in_order (i ∷ is)) (order_writable (i ∷ is) w) (put_some i (in_order is)) file.imports refl (adds_to_group text file.imports) refl
 
 pub settled_go : SettledGo
-settled_go text tokens comments file [] unused t d u w = unused_go text tokens comments file unused t d u
-settled_go text tokens comments file (i ∷ is) unused t d u w =
-    settle text tokens comments file unused t d u (in_order (i ∷ is)) (order_writable (i ∷ is) w) (put_some i (in_order is)) file.imports refl (adds_to_group text file.imports) refl
+settled_go text tokens comments file added unused t d u w =
+    subst (λ (es : List Edit). ReadsAs (applied text es) (with_settled text tokens comments unused added file)) (append-nil (settled text tokens comments file added unused))
+    (all_go text tokens comments file unused t d u [] (bare_file file).decls (tail_stays text tokens comments unused file) added w)
 
 pub settled_go_again : SettledGoAgain
 settled_go_again text f r added unused u w = settled_go text r.tokens r.comments r.file added unused r.of_text r.spelled (subst (λ (g : File (Unit {0})). UndottedFile g) (sym r.same) u) w

@@ -17,4 +17,6 @@ pub mod Walks
 pub mod Files
 pub mod Adds
 pub mod Grown
+pub mod FormTails
+pub mod FormsToo
 pub mod Checks

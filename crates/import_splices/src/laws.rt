@@ -2,6 +2,7 @@
 
 ghost use Rattle.import_splices.specs.SettledReads.{UnusedGo, UnusedGoAgain, UnusedStayUndotted};
 ghost use Rattle.import_splices.specs.SettledReads.{SettledGo, SettledGoAgain, SettledStayUndotted};
+ghost use Rattle.import_splices.specs.SettledReads.{FormSettledGo, FormSettledGoAgain};
 
 /// A text that reads as a file, without the bytes that go with its unused imports, reads as the file without these
 /// imports: a spec, or a declaration from `import` on, through a written semicolon, with the whole lines where only
@@ -25,4 +26,13 @@ pub fn imports_are_settled()
     ensures reads { SettledGo }
     ensures again { SettledGoAgain }
     ensures undotted { SettledStayUndotted }
+{}
+
+/// A text that reads as a file, with its imports settled and the layout of another node in place of a node's span, all
+/// of it by edits that are made at once, reads as the file with that node replaced and its imports settled. Of the
+/// node the same is asked as where it alone is put in.
+#[tactic(auto)]
+pub fn forms_and_imports_are_read_at_once()
+    ensures together { FormSettledGo }
+    ensures again { FormSettledGoAgain }
 {}
