@@ -1,9 +1,9 @@
 -- A text with imports added and the unused ones removed.
-use Rattle.std.proofs.Common.{◌≡◌, inr, ℕ, ◌+◌, ◌≤◌, Bool, true, false, cond, not, nat_le, List, [], ◌∷◌, ◌++◌, length, map, None, Some, codes, refl, sym, ap, subst, ◌∙◌, arith, length-append}
-use Rattle.std.specs.Prelude.{slice_range, drop, if◌then◌else◌}
+use Rattle.std.proofs.Common.{◌≡◌, inr, ℕ, ◌+◌, ◌≤◌, Bool, true, false, not, nat_le, List, [], ◌∷◌, ◌++◌, length, map, codes, refl, sym, ap, subst, ◌∙◌, arith, length-append}
+use Rattle.std.specs.Prelude.{slice_range, if◌then◌else◌}
 use Rattle.std.specs.Str.{all_scalars}
 use Rattle.std.proofs.lemmas.Bool.Decides.{nat_tests}
-use Rattle.std.proofs.lemmas.List.{append_assoc, append-nil}
+use Rattle.std.proofs.lemmas.List.{append_assoc}
 use Rattle.std.proofs.lemmas.Str.{encodes-append}
 use Rattle.go_tree.specs.declared.spans.Span.{Span}
 use Rattle.go_tree.specs.declared.tokens.Token.{Token}
@@ -11,13 +11,12 @@ use Rattle.go_tree.specs.declared.tokens.Comment.{Comment}
 use Rattle.go_tree.specs.File.{ImportDecl, Decl, File}
 use Rattle.go_tree.specs.FileBare.{bare_file}
 use Rattle.go_words.specs.Terminals.{Terminal, lex, ident, semicolon, key_package, ends_statement, lexemes}
-use Rattle.go_words.specs.Tokens.{TokensOf, size_of, ends_line, tokens_from, pieces_size}
+use Rattle.go_words.specs.Tokens.{TokensOf, size_of, ends_line, pieces_size}
 use Rattle.go_words.specs.Tokens.Pieces.{Piece, no_word_first}
 use Rattle.go_read.specs.SpellsTypes.{Lexemes}
 use Rattle.go_read.specs.SpellsSpans.{span_to}
 use Rattle.go_read.specs.SpellsFiles.{SpellsImports, SpellsTops, SpellsFront, SpellsFile, no_imports_rule, more_imports_rule, front_rule}
 use Rattle.go_read.specs.Bareness.{nowhere}
-use Rattle.go_read.proofs.SpansAside as aside
 use Rattle.text_edits.specs.declared.edit.Edit.{Edit}
 use Rattle.text_edits.specs.Applied.{applied, replaced_from}
 use Rattle.import_rules.specs.declared.new_import.NewImport.{NewImport}
@@ -39,7 +38,7 @@ use Rattle.splice_laws.proofs.TokenLists.{asks_ends}
 use Rattle.splice_laws.proofs.Wholes.{span_of_node}
 use Rattle.import_splices.specs.AddedFile.{AreWritable, added_decls}
 use Rattle.import_splices.specs.SettledFile.{left_decls}
-use Rattle.import_splices.proofs.Terms.{own, own_then, due, due_then, terms, terms_then, terms_are, silent_none}
+use Rattle.import_splices.proofs.Terms.{own, own_then, due, due_then, terms, terms_then, silent_none}
 use Rattle.import_splices.proofs.Bytes.{bytes_of, bytes_then, bytes_size, slice_at, replaced_on, HeadFrom}
 use Rattle.import_splices.proofs.Nodes.{State, Node, node}
 use Rattle.import_splices.proofs.Steps.{inner_before, inner_later, step_with}

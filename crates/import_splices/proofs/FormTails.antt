@@ -3,14 +3,13 @@ use Rattle.std.proofs.Common.{◌≡◌, ℕ, ◌+◌, ◌≤◌, Bool, true, fa
 use Rattle.std.specs.Prelude.{encode_utf8_all, slice_range}
 use Rattle.std.specs.Str.{all_scalars}
 use Rattle.std.proofs.lemmas.List.{append_assoc}
-use Rattle.std.proofs.lemmas.Str.{encodes-append}
 use Rattle.go_tree.specs.declared.spans.Span.{Span}
 use Rattle.go_tree.specs.declared.tokens.Token.{Token}
 use Rattle.go_tree.specs.declared.tokens.TokenKind.{TokenKind}
-use Rattle.go_words.specs.Terminals.{Terminal, lexemes}
+use Rattle.go_words.specs.Terminals.{lexemes}
 use Rattle.go_words.specs.Tokens.Characters.{is_listed}
 use Rattle.go_words.specs.Tokens.{tokens_from, pieces_size}
-use Rattle.go_words.specs.Tokens.Pieces.{PieceKind, blanks, remark, token, Piece, no_word_first}
+use Rattle.go_words.specs.Tokens.Pieces.{PieceKind, blanks, remark, token, Piece}
 use Rattle.go_read.specs.SpellsTypes.{Lexemes}
 use Rattle.go_read.specs.SpellsSpans.{span_to}
 use Rattle.go_layout.specs.Layouts.{Layout}
@@ -18,7 +17,6 @@ use Rattle.layout_laws.specs.Laid.{Laid, is_indent}
 use Rattle.layout_laws.specs.LayoutPieces.{letters_of, pieces_of}
 use Rattle.layout_laws.proofs.LaidCuts.{cuts_to}
 use Rattle.layout_laws.proofs.LaidTypes.{ends_ok}
-use Rattle.text_edits.specs.declared.edit.Edit.{Edit}
 use Rattle.text_edits.specs.Applied.{replaced_from}
 use Rattle.splice_laws.specs.Joints.{words_of, PartsTo, InnerEnd, LastEnds, due_behind, given, begins_with_dot}
 use Rattle.splice_laws.specs.Swaps.{Swap}
@@ -39,7 +37,7 @@ use Rattle.splice_laws.proofs.Places.{Given, given_at}
 use Rattle.splice_laws.proofs.Splices.{tokens_then, size_pieces, scalars_parts, scalars_on}
 use Rattle.splice_laws.proofs.TokenLists.{behind_alike, layout_front, terminals_joined}
 use Rattle.splice_laws.proofs.Wholes.{Among, stands_among, lexemes_on, lead_pieces, words_on, fits, given_led, closed_due}
-use Rattle.import_splices.proofs.Terms.{terms, terms_are, breaks, breaks_at}
+use Rattle.import_splices.proofs.Terms.{terms_are, breaks, breaks_at}
 use Rattle.import_splices.proofs.Bytes.{bytes_of, bytes_then, bytes_size, drop_at}
 use Rattle.import_splices.proofs.Nodes.{token_piece, State}
 use Rattle.import_splices.proofs.Steps.{inner_before, parts_left}

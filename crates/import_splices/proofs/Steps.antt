@@ -199,23 +199,23 @@ module _ (text : List ℕ) (tokens : List Token) (at : ℕ) (b : Bool) (ps : Lis
       unfolding next further
       whole_of bb q closed owns stops shut = (
         record {
-        of = record {
-          gap = n.gap;
-          body = n.core ++ r.more;
-          left = r.left;
-          is = is;
-          none = n.none;
-          first = first;
-          start_is = n.start_is;
-          closed = closed;
-          b2 = bb;
-          shut = shut;
-          own = owns;
-          next = next bb q;
-          stops = stops;
-        };
-        through = ap (through_semicolon tokens) (n.end_is ∙ place) ∙ r.through ∙ to_is;
-      },
+          of = record {
+            gap = n.gap;
+            body = n.core ++ r.more;
+            left = r.left;
+            is = is;
+            none = n.none;
+            first = first;
+            start_is = n.start_is;
+            closed = closed;
+            b2 = bb;
+            shut = shut;
+            own = owns;
+            next = next bb q;
+            stops = stops;
+          };
+          through = ap (through_semicolon tokens) (n.end_is ∙ place) ∙ r.through ∙ to_is;
+        },
         r.more,
         refl,
         refl,

@@ -238,8 +238,12 @@ module _ (text : List ℕ) (tokens : List Token) (comments : List Comment) (unus
               (λ at b ps st more. later at b ps st (more nope)) at b ps (again at b ps (lex s key_import ∷ ts) _ whole st) stop
           by_goes false =
               led_at at b ps es _ s.start sp.start (sym (ap (λ (q : Span). q.start) e)) (stays_led (lex s key_import ∷ i.n0) i.s (str_lit i.p) refl (lex c semicolon ∷ []) mid (inr (c, refl)) (λ z. absurd (nope z)) es (Imports (record { span = tt; grouped = false; specs = bare_import_spec x ∷ [] } ∷ js)) c refl (Imports js) later
-              (λ us o. (o.0, subst (λ (ws : Lexemes). SpellsImports nowhere (record { span = tt; grouped = false; specs = bare_import_spec x ∷ [] } ∷ js) (lex s key_import ∷ ws) o.0) (sym (append_assoc (i.n0 ++ lex i.s (str_lit i.p) ∷ []) (lex c semicolon ∷ []) us))
-              (more_imports_rule {c = c} (import_rule (i.again (lex c semicolon ∷ us))) o.1), o.2))
+              (λ us o. (
+                o.0,
+                subst (λ (ws : Lexemes). SpellsImports nowhere (record { span = tt; grouped = false; specs = bare_import_spec x ∷ [] } ∷ js) (lex s key_import ∷ ws) o.0) (sym (append_assoc (i.n0 ++ lex i.s (str_lit i.p) ∷ []) (lex c semicolon ∷ []) us))
+                    (more_imports_rule {c = c} (import_rule (i.again (lex c semicolon ∷ us))) o.1),
+                o.2,
+              ))
               at b ps (again at b ps (lex s key_import ∷ ts) _ whole st))
 
       group : (s o e : Span) (xs : List (ImportSpec Span)) (ts : Lexemes) (sp : Span) → sp ≡ span_to (lex s key_import ∷ lex o paren ∷ ts) (lex c semicolon ∷ mid) → SpellsImportSpecs span_to xs ts (lex e end_paren ∷ lex c semicolon ∷ mid)
