@@ -4,3 +4,4 @@ pub mod UndottedTrees
 pub mod UndottedFiles
 pub mod UnspreadDots
 pub mod UnspreadKept
+pub mod Examples
