@@ -120,6 +120,7 @@ form_put text tokens comments f g w i dotted wrapped blank t d apart p asks form
         reads_as text tokens comments (bare_file g) w r.front r.rest r.new here a (λ ts has. new_reads w i dotted wrapped form ts r.rest (rest_of w (r.node ++ r.rest) r.rest r.old) has) (λ d2. new_ends w i dotted wrapped form d2)
         (λ d2. new_laid w i dotted wrapped form sp d2 s.tail off) (new_laid w i dotted wrapped form sp false [] refl) blank
         (subst (λ (v : List ℕ). LastEnds s.before v) (sym (all_on blank x.0 x.1 x.2 s.tail) ∙ ap (λ (v : List ℕ). (lead blank ++ v) ++ s.tail) (sym x.4)) ends)
+
 pub forms_put : (text : List ℕ) (tokens : List Token) (comments : List Comment) (f g : File Span) (w : Swap Span) (indent : List ℕ) (dotted wrapped blank : Bool) → IsPut text tokens comments f g w indent dotted wrapped blank
     → ReadsWith (spliced_text text (swap_mark w) blank (new_layout indent dotted wrapped w)) (bare_file g) (left_comments (splice (swap_mark w) blank (new_layout indent dotted wrapped w)) comments)
 forms_put text tokens comments f g w indent dotted wrapped blank x =
