@@ -7,4 +7,4 @@ pub mod SpanLaws
 pub mod WalkLaws
 pub mod SettleLaws
 pub mod NeedSteps
-pub mod TokenPlaces
+pub mod ReadLaws

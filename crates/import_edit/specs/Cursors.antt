@@ -19,11 +19,6 @@ abbrev pub starts_before : List Comment → ℕ → Bool
 starts_before [] at = false
 starts_before (c ∷ cs) at = nat_lt c.span.start at
 
--- Comments start in their order, at an offset or behind it.
-abbrev pub CommentsAscend : ℕ → List Comment → Type 0
-CommentsAscend from [] = Unit {0}
-CommentsAscend from (c ∷ cs) = (from ≤ c.span.start) × CommentsAscend c.span.start cs
-
 -- From an offset on, the tokens behind the cursor answer as all of them do.
 pub record TokensServe (tokens : List Token) (cursor from : ℕ) : Type 0 where
   pub within : cursor ≤ length tokens

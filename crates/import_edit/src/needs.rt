@@ -1,18 +1,18 @@
 //! The name by which a file knows a package at a place (Go specification, Import declarations; Declarations and scope).
 
-ghost use Rattle.std.specs.Prelude.{◌≡◌, ◌++◌, IfOk, OnOk, length, map, option_copied};
+ghost use Rattle.std.specs.Prelude.{◌≡◌, ◌++◌, IfOk, OnOk, map, option_copied};
 ghost use Rattle.go_tree.specs.FileView.{file_of};
 ghost use Rattle.go_words.specs.Tokens.Pieces.{is_among};
-ghost use Rattle.scope_names.specs.declared.names.Entity.{Entity};
-ghost use Rattle.scope_names.specs.Means.{Environment};
 ghost use Rattle.scope_names.specs.Occurrences.{means_import};
-ghost use Rattle.import_rules.specs.Needs.{IsNeeded, avoided};
-ghost use Rattle.import_edit.specs.Meanings.{meanings_of, serves_by, serving_by};
+ghost use Rattle.scope_tables.specs.Table.{IsTableOf, table_of};
+ghost use Rattle.import_rules.specs.Needs.{IsNeededAt, avoided};
+ghost use Rattle.import_edit.specs.Serving.{serves_at, serving_at};
 
 use go_tree::{FileTree, Name, NoMemory, Text};
 use import_rules::Needed;
 use names_within::fresh;
 use scope_names::{Entity, FileNames, ImportName, NameList};
+use scope_tables::Scopes;
 use std::alloc::Global;
 
 fn means_import(number: usize, meaning: &Option<Entity>) -> bool
@@ -35,32 +35,34 @@ fn is_among(names: &[Name], name: &[u8]) -> bool
     false
 }
 
+// Whether the import of this number is of the path, and its name, which isn't bound, means it at the place.
 fn serves(
     number: usize,
     import: &ImportName,
-    meaning: &Option<Entity>,
+    scopes: &Scopes,
+    at: u32,
     bound: &NameList,
     path: &[u8],
 ) -> bool
-    ensures { result ≡ serves_by bound.now path.now number import.now meaning.now }
+    ensures { result ≡ serves_at (table_of scopes.now) at bound.now path.now number import.now }
 {
     import.path.items() == path
-        && means_import(number, meaning)
+        && means_import(number, &scopes.lookup(&import.name, at))
         && !is_among(bound.items(), import.name.items())
 }
 
 // The name of the first import that serves.
 fn serving<'a>(
     imports: &'a [ImportName],
-    meanings: &[Option<Entity>],
+    scopes: &Scopes,
+    at: u32,
     bound: &NameList,
     path: &[u8],
 ) -> Option<&'a Name>
-    requires { length meanings.now ≡ length imports.now }
-    ensures { option_copied result ≡ serving_by bound.now path.now 0 imports.now meanings.now }
+    ensures { option_copied result ≡ serving_at (table_of scopes.now) at bound.now path.now 0 imports.now }
 {
     for (number, import) in imports.iter().enumerate() {
-        if serves(number, import, &meanings[number], bound, path) {
+        if serves(number, import, scopes, at, bound, path) {
             return Some(&import.name);
         }
     }
@@ -100,22 +102,22 @@ fn avoided(alloc: Global, names: &FileNames, bound: &NameList) -> Result<NameLis
 /// added for it. An import of the path serves where its name means it there and isn't among the bound names; the first
 /// that serves gives its name. Where none does, the name is the first new one of the package's own.
 ///
-/// `meanings` says of each import what its name means at the place, and `names` are the file's. An error where memory
-/// is refused. Linear in the file and the names.
+/// `scopes` is the table of the file with these names, and `names` are those of its imports and its package block. An
+/// error where memory is refused. Linear in the file and the names, but for a search in the table for each import.
 pub fn need(
     alloc: Global,
     file: &FileTree,
     names: &FileNames,
-    meanings: &[Option<Entity>],
+    scopes: &Scopes,
+    at: u32,
     bound: &NameList,
     path: &Text,
     base: &Name,
 ) -> Result<Needed, NoMemory>
-    requires { length meanings.now ≡ length names.now.imports }
-    ensures { IfOk result (λ needed. (env : Environment Entity) → meanings.now ≡ meanings_of env names.now.imports
-        → IsNeeded names.now (file_of file.now) env bound.now path.now base.now needed) }
+    requires { IsTableOf names.now (file_of file.now) (table_of scopes.now) }
+    ensures { IfOk result (λ needed. IsNeededAt names.now (file_of file.now) at bound.now path.now base.now needed) }
 {
-    match serving(names.imports.items(), meanings, bound, path.items()) {
+    match serving(names.imports.items(), scopes, at, bound, path.items()) {
         Some(name) => Ok(Needed {
             name: Name::copied(alloc, name.items())?,
             added: false,

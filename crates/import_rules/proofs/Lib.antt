@@ -5,7 +5,9 @@ pub mod Chains
 pub mod Ranges
 pub mod SettledOrder
 mod LaidChecks
+mod NeedChecks
 pub mod MeaningLaws
 pub mod NeededMeans
 pub mod NeededNames
 pub mod LocalNames
+pub mod UnusedLaws

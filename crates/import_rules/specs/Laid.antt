@@ -3,6 +3,7 @@
 use Rattle.std.specs.Prelude.{◌≡◌, ℕ, ◌+◌, ◌-◌, ◌≤◌, ◌<◌, ◌⊎◌, Bool, true, false, List, [], ◌∷◌, length, get_or}
 use Rattle.go_tree.specs.declared.spans.Span.{Span}
 use Rattle.go_tree.specs.declared.tokens.Token.{Token}
+use Rattle.go_tree.specs.declared.tokens.Comment.{Comment}
 use Rattle.go_tree.specs.File.{ImportSpec, ImportDecl, File}
 use Rattle.go_words.specs.Tokens.Characters.{is_blank}
 use Rattle.import_rules.specs.Removed.{is_semicolon}
@@ -21,6 +22,11 @@ StandInOrder text from [] = Unit {0}
 StandInOrder text from (t ∷ ts) =
     (from ≤ t.span.start) × (t.span.start ≤ t.span.end) × (t.span.end ≤ length text)
     × (is_semicolon t.kind t.spelling ≡ true → IsInked text t.span) × StandInOrder text t.span.end ts
+
+-- Comments start in their order, at an offset or behind it.
+abbrev pub CommentsAscend : ℕ → List Comment → Type 0
+CommentsAscend from [] = Unit {0}
+CommentsAscend from (c ∷ cs) = (from ≤ c.span.start) × CommentsAscend c.span.start cs
 
 -- one of the tokens starts at the offset and is no semicolon
 abbrev pub StartsAt : ℕ → List Token → Type 0

@@ -3,6 +3,7 @@
 ghost use Rattle.import_rules.specs.Needs.{OneNameIsNeeded};
 ghost use Rattle.import_rules.specs.SettledLaws.{SettledAscend, SettledBytesStay, SettledInOrder, SettledKeeps, SettledWithin};
 ghost use Rattle.import_rules.specs.SettledNames.{AddedNamesAreDistinct, AddedNamesAreNew, NeededNamesMean, NeededNamesMeanAt};
+ghost use Rattle.import_rules.specs.Unused.{StandingNamesAreUsed, UsedImportsStay, UsedNamesMeanAt};
 
 /// At a place of a file a package has one name.
 pub fn one_name_is_needed()
@@ -31,4 +32,13 @@ pub fn needed_names_mean_their_packages()
 pub fn added_names_clash_with_none()
     ensures distinct { AddedNamesAreDistinct }
     ensures new { AddedNamesAreNew }
+{}
+
+/// A name that stands in a file with the meaning of an import uses it. Where the imports lie in their text, and those
+/// go that were used before a step and aren't afterwards, none goes that serves a name that is used afterwards; so the
+/// names that are needed at a place mean their packages there.
+pub fn used_imports_stay()
+    ensures standing { StandingNamesAreUsed }
+    ensures stay { UsedImportsStay }
+    ensures mean { UsedNamesMeanAt }
 {}

@@ -2,14 +2,14 @@
 use Rattle.std.proofs.Common.{◌≡◌, inr, ℕ, ◌+◌, Bool, true, false, not, ◌&&◌, List, [], ◌∷◌, ◌++◌, map, None, refl, sym, ap, subst, ◌∙◌, arith}
 use Rattle.std.specs.Prelude.{encode_utf8_all, slice_range}
 use Rattle.std.specs.Str.{all_scalars}
-use Rattle.std.proofs.lemmas.List.{append-nil}
+use Rattle.std.proofs.lemmas.List.{append_assoc, append-nil}
 use Rattle.std.proofs.lemmas.Str.{encodes-append}
 use Rattle.go_tree.specs.declared.spans.Span.{Span}
 use Rattle.go_tree.specs.declared.tokens.Token.{Token}
 use Rattle.go_tree.specs.declared.tokens.Comment.{Comment}
 use Rattle.go_tree.specs.declared.tokens.TokenKind.{TokenKind}
 use Rattle.go_tree.specs.declared.tokens.TokenKind.TheVariants.{Ident, Keyword, Operator, Integer, Float, Imaginary, Rune, Str, Inserted}
-use Rattle.go_tree.specs.File.{ImportDecl, File}
+use Rattle.go_tree.specs.File.{ImportDecl, Decl, File}
 use Rattle.go_tree.specs.FileBare.{bare_file}
 use Rattle.go_words.specs.Terminals.{Terminal, lex, ident, semicolon, key_package, terminal_of, lexemes, keywords, operators}
 use Rattle.go_words.specs.Tokens.Characters.{is_blank}
@@ -17,7 +17,7 @@ use Rattle.go_words.specs.Tokens.{TokensOf, size_of, tokens_from, comments_from,
 use Rattle.go_words.specs.Tokens.Pieces.{PieceKind, blanks, remark, token, Piece, no_word_first, IsPiece}
 use Rattle.go_read.specs.SpellsTypes.{Lexemes}
 use Rattle.go_read.specs.SpellsSpans.{span_to}
-use Rattle.go_read.specs.SpellsFiles.{SpellsImports, SpellsFront, front_rule}
+use Rattle.go_read.specs.SpellsFiles.{SpellsImports, SpellsTops, SpellsFront, SpellsFile, front_rule}
 use Rattle.go_read.specs.Bareness.{nowhere}
 use Rattle.go_read.proofs.SpansAside as aside
 use Rattle.go_scan.proofs.PieceKinds.{never_empty}
@@ -45,8 +45,8 @@ use Rattle.import_splices.proofs.Terms.{terms_are, breaks, breaks_at}
 use Rattle.import_splices.proofs.Bytes.{bytes_of, slice_at, drop_at, replaced_on}
 use Rattle.import_splices.proofs.Nodes.{token_piece, State, Node, node}
 use Rattle.import_splices.proofs.Steps.{step_by}
-use Rattle.import_splices.proofs.Outs.{Out, whole, kept}
-use Rattle.import_splices.proofs.Walks.{Follows, imports_walk}
+use Rattle.import_splices.proofs.Outs.{Out, out_map, whole, kept}
+use Rattle.import_splices.proofs.Walks.{Follows, ImportsThen, imports_front, imports_walk}
 
 -- ---- names
 
@@ -190,38 +190,53 @@ named at ps n0 c n r x next h =
         by [] h = next_name x.word [] piece refl
         by (c ∷ cs) h = λ more. next_name x.word (c ∷ more) piece h
 
--- where the imports become others, from the package clause on, the file becomes one with these
-pub file_from : (text : List ℕ) (tokens : List Token) (comments : List Comment) (file : File Span) (unused : List Span) (js : List (ImportDecl (Unit {0}))) (es : List Edit) (z : Start text tokens) (ts : Lexemes) → lexemes tokens ≡ ts → SpellsFront span_to file ts []
-    → ((front us mid : Lexemes) → lexemes tokens ≡ front ++ us → SpellsImports span_to file.imports us mid → Follows text tokens comments unused us es (λ ws. SpellsImports nowhere js ws mid))
-    → ReadsAs (applied text es) (record (bare_file file) { imports = js })
-file_from text tokens comments file unused js es z _ e (front_rule {s = s} {c = c} {d = d} {n = n} {is = is} {ds = ds} {ts = ts} {mid = mid} q a b) walk =
+-- a name and what goes with it end before what follows
+pub by_due : (at : ℕ) (ps : List Piece) (n0 : Lexemes) (c : Span) (n : List ℕ) (r : Lexemes) (x : Node at ps n0 c (ident n) r) (b2 : Bool) (body : List Piece) → (b2 ≡ false → (next : List ℕ) → LastEnds body next) → ((next : List ℕ) → LastEnds x.core next → LastEnds body next)
+    → (qs : List Piece) → PartsTo (words_of qs) qs [] → (b2 ≡ true → breaks qs ≡ true) → LastEnds body (words_of qs)
+by_due at ps n0 c n r x true body shut closed qs parts due = closed (words_of qs) (named at ps n0 c n r x (words_of qs) (breaks_word qs (words_of qs) parts (due refl)))
+by_due at ps n0 c n r x false body shut closed qs parts due = shut refl (words_of qs)
+
+-- what stands behind the imports stays, or becomes what spells these declarations
+abbrev pub Tail : (text : List ℕ) (tokens : List Token) (comments : List Comment) (unused : List Span) → File Span → List Edit → List (Decl (Unit {0})) → Type 0
+Tail text tokens comments unused file es cs =
+    (front mid : Lexemes) → lexemes tokens ≡ front ++ mid → SpellsTops span_to file.decls mid [] → Follows text tokens comments unused mid es (λ us. SpellsTops nowhere cs us [])
+
+pub tail_stays : (text : List ℕ) (tokens : List Token) (comments : List Comment) (unused : List Span) (file : File Span) → Tail text tokens comments unused file [] (bare_file file).decls
+tail_stays text tokens comments unused file front mid e d at b ps st stop =
+    out_map text at b ps [] _ _ (λ us o. subst (λ (vs : Lexemes). SpellsTops nowhere (bare_file file).decls vs []) (sym o) (aside.tops_bare span_to d)) (stays_all text tokens comments unused mid at b ps st stop)
+
+-- where the imports become others, from the package clause on, and the declarations too, the file becomes one with these
+pub file_from : (text : List ℕ) (tokens : List Token) (comments : List Comment) (file : File Span) (unused : List Span) (js : List (ImportDecl (Unit {0}))) (cs : List (Decl (Unit {0}))) (es : List Edit) (z : Start text tokens) (ts : Lexemes) → lexemes tokens ≡ ts → SpellsFront span_to file ts []
+    → ((front us mid : Lexemes) → lexemes tokens ≡ front ++ us → SpellsImports span_to file.imports us mid → SpellsTops span_to file.decls mid [] → Follows text tokens comments unused us es (ImportsThen (λ vs. SpellsTops nowhere cs vs []) js))
+    → ReadsAs (applied text es) (record (bare_file file) { imports = js; decls = cs })
+file_from text tokens comments file unused js cs es z _ e (front_rule {s = s} {c = c} {d = d} {n = n} {is = is} {ds = ds} {ts = ts} {mid = mid} q a b) walk =
     let at : ℕ = size_of z.mark in
     let all : Lexemes = lex s key_package ∷ lex c (ident n) ∷ lex d semicolon ∷ ts in
     let st : State text tokens at false z.pieces all = subst (λ (us : Lexemes). State text tokens at false z.pieces us) e z.state in
     let x = node text tokens at false z.pieces (lex s key_package ∷ []) c (ident n) (lex d semicolon ∷ ts) st refl in
     let w = step_by text tokens at false z.pieces (lex s key_package ∷ []) c (ident n) (lex d semicolon ∷ []) ts st (refl, refl) x (λ next. LastEnds x.core next) (λ next ok. ok) (inr (d, refl)) (λ r. absurd (nope r)) in
-    let o = walk (lex s key_package ∷ lex c (ident n) ∷ lex d semicolon ∷ []) ts mid e a (at + (pieces_size w.of.gap + pieces_size w.of.body)) w.of.b2 w.of.left w.of.next (w.of.stops nope) in
+    let o = walk (lex s key_package ∷ lex c (ident n) ∷ lex d semicolon ∷ []) ts mid e a b (at + (pieces_size w.of.gap + pieces_size w.of.body)) w.of.b2 w.of.left w.of.next (w.of.stops nope) in
     let wh = whole text tokens (at + (pieces_size w.of.gap + pieces_size w.of.body)) w.of.b2 w.of.left ts w.of.next es _ o in
     let k = kept text tokens at false z.pieces all st (lex s key_package ∷ lex c (ident n) ∷ []) s.start (lex d semicolon ∷ []) ts (lex d semicolon ∷ [] ≡ [] → ⊥) (λ next. LastEnds x.core next) w.of nope es
-    (λ us. SpellsFront nowhere (record (bare_file file) { imports = js }) us []) _ o
-    (by_due w.of.b2 w.of.body (λ r next. w.of.shut r nope next) x (λ next ok. w.of.closed next ok) (o.front ++ o.new) wh.parts o.due)
-    (λ us h. front_rule q h (aside.tops_bare span_to b)) in
-    assembled text tokens z es (record (bare_file file) { imports = js }) k.0
+    (λ us. SpellsFront nowhere (record (bare_file file) { imports = js; decls = cs }) us []) _ o
+    (by_due at z.pieces (lex s key_package ∷ []) c n (lex d semicolon ∷ ts) x w.of.b2 w.of.body (λ r next. w.of.shut r nope next) (λ next ok. w.of.closed next ok) (o.front ++ o.new) wh.parts o.due)
+    (λ us h. front_rule q h.1 h.2) in
+    assembled text tokens z es (record (bare_file file) { imports = js; decls = cs }) k.0
   where
     nope : lex d semicolon ∷ [] ≡ [] → ⊥
     nope e = cc
 
-    by_due : (b2 : Bool) (body : List Piece) → (b2 ≡ false → (next : List ℕ) → LastEnds body next) → (x : Node (size_of z.mark) z.pieces (lex s key_package ∷ []) c (ident n) (lex d semicolon ∷ ts)) → ((next : List ℕ) → LastEnds x.core next → LastEnds body next)
-        → (qs : List Piece) → PartsTo (words_of qs) qs [] → (b2 ≡ true → breaks qs ≡ true) → LastEnds body (words_of qs)
-    by_due true body shut x closed qs parts due = closed (words_of qs) (named (size_of z.mark) z.pieces (lex s key_package ∷ []) c n (lex d semicolon ∷ ts) x (words_of qs) (breaks_word qs (words_of qs) parts (due refl)))
-    by_due false body shut x closed qs parts due = shut refl (words_of qs)
+-- the imports that go, and what becomes of the declarations
+pub left_go : (text : List ℕ) (tokens : List Token) (comments : List Comment) (file : File Span) (unused : List Span) → TokensOf text tokens comments → SpellsFile tokens file → UndottedFile (bare_file file) → (es : List Edit) (cs : List (Decl (Unit {0}))) → Tail text tokens comments unused file es cs
+    → ReadsAs (applied text (map removal (ranges text tokens comments unused false file.imports) ++ es)) (record (bare_file file) { imports = left_decls text tokens comments unused file.imports; decls = cs })
+left_go text tokens comments file unused t d u es cs tail =
+    file_from text tokens comments file unused (left_decls text tokens comments unused file.imports) cs (map removal (ranges text tokens comments unused false file.imports) ++ es) (start text tokens comments t (tokens_apart text tokens comments file t d u)) (lexemes tokens) refl d
+    (λ front us mid q a b. imports_walk text tokens comments unused (λ vs. SpellsTops nowhere cs vs []) a es (tail (front ++ (imports_front a).0) mid (q ∙ ap (λ (vs : Lexemes). front ++ vs) (imports_front a).1 ∙ sym (append_assoc front (imports_front a).0 mid)) b))
 
 pub unused_go : UnusedGo
 unused_go text tokens comments file unused t d u =
-    let fs : List Edit = map removal (ranges text tokens comments unused false file.imports) in
-    subst (λ (es : List Edit). ReadsAs (applied text es) (without_unused text tokens comments unused file)) (append-nil fs)
-    (file_from text tokens comments file unused (left_decls text tokens comments unused file.imports) (fs ++ []) (start text tokens comments t (tokens_apart text tokens comments file t d u)) (lexemes tokens) refl d
-    (λ front us mid q a. imports_walk text tokens comments unused mid a [] (stays_all text tokens comments unused mid)))
+    subst (λ (es : List Edit). ReadsAs (applied text es) (without_unused text tokens comments unused file)) (append-nil (map removal (ranges text tokens comments unused false file.imports)))
+    (left_go text tokens comments file unused t d u [] (bare_file file).decls (tail_stays text tokens comments unused file))
 
 pub unused_go_again : UnusedGoAgain
 unused_go_again text f r unused u = unused_go text r.tokens r.comments r.file unused r.of_text r.spelled (subst (λ (g : File (Unit {0})). UndottedFile g) (sym r.same) u)

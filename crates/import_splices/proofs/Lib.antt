@@ -11,7 +11,12 @@ pub mod Lands
 pub mod Outs
 pub mod Quotes
 pub mod News
+pub mod Groups
+pub mod SpecLines
 pub mod Walks
 pub mod Files
 pub mod Adds
+pub mod Grown
+pub mod FormTails
+pub mod FormsToo
 pub mod Checks

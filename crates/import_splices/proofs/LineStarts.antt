@@ -33,7 +33,7 @@ pub clash_true : {X : Type 0} → (b : Bool) → b ≡ true → b ≡ false → 
 clash_true true e f = absurd cc
 clash_true false e f = absurd cc
 
-ends_ink : (m : List ℕ) (c : ℕ) → is_blank c ≡ false → list_all is_blank (m ++ c ∷ []) ≡ false
+pub ends_ink : (m : List ℕ) (c : ℕ) → is_blank c ≡ false → list_all is_blank (m ++ c ∷ []) ≡ false
 ends_ink m c h = all_earlier m (c ∷ []) (ap (λ (b : Bool). b && true) h)
 
 pub ink_last : (m : List ℕ) (c : ℕ) (b y : List ℕ) → is_blank c ≡ false → m ++ c ∷ [] ≡ b ++ 10 ∷ y → list_all is_blank y ≡ false

@@ -7,7 +7,7 @@ use Rattle.std.proofs.lemmas.Str.{encodes-append}
 use Rattle.go_tree.specs.declared.spans.Span.{Span}
 use Rattle.go_tree.specs.declared.tokens.TokenKind.TheVariants.{Ident, Keyword, Str}
 use Rattle.go_tree.specs.File.{ImportSpec, ImportDecl}
-use Rattle.go_words.specs.Terminals.{Terminal, lex, ident, str_lit, semicolon, key_import, end_paren}
+use Rattle.go_words.specs.Terminals.{Terminal, lex, ident, str_lit, semicolon, key_import}
 use Rattle.go_words.specs.Texts.{text_value}
 use Rattle.go_words.specs.Tokens.Characters.{each}
 use Rattle.go_words.specs.Tokens.Pieces.{token, Piece, is_blanks, IsPiece}
@@ -20,7 +20,7 @@ use Rattle.import_rules.specs.Added.{each_within}
 use Rattle.splice_laws.specs.Joints.{words_of, InnerEnd, LastEnds}
 use Rattle.splice_laws.specs.ImportTexts.{IsNewName, a_piece, spec_pieces, new_name}
 use Rattle.splice_laws.specs.Edited.{terminals}
-use Rattle.splice_laws.proofs.AddImports.{words_both, terminals_both, blank_ends, text_before, import_is, z}
+use Rattle.splice_laws.proofs.AddImports.{words_both, blank_ends, text_before, import_is, z}
 use Rattle.splice_laws.proofs.Joins.{token_before_blank}
 use Rattle.splice_laws.proofs.Splices.{scalars_on}
 use Rattle.import_splices.specs.AddedFile.{is_byte, IsName, AreWritable, added_spec, added_decls}
@@ -30,15 +30,15 @@ use Rattle.import_splices.proofs.Quotes.{low_all, Literal, literal}
 
 -- ---- a spec
 
-record SpecOf (i : NewImport) : Type 0 where
-  name : Option (List ℕ)
-  is_name : IsNewName name
-  text : IsPiece (token Str) (quoted i.path)
-  scalars : all_scalars (words_of (spec_pieces name (quoted i.path))) ≡ true
-  bytes : bytes_of (spec_pieces name (quoted i.path)) ≡ spec_text i
-  tree : added_spec i ≡ record { span = tt; name = new_name name; path = text_value (encode_utf8_all (quoted i.path)) }
+pub record SpecOf (i : NewImport) : Type 0 where
+  pub name : Option (List ℕ)
+  pub is_name : IsNewName name
+  pub text : IsPiece (token Str) (quoted i.path)
+  pub scalars : all_scalars (words_of (spec_pieces name (quoted i.path))) ≡ true
+  pub bytes : bytes_of (spec_pieces name (quoted i.path)) ≡ spec_text i
+  pub tree : added_spec i ≡ record { span = tt; name = new_name name; path = text_value (encode_utf8_all (quoted i.path)) }
 
-spec_of : (i : NewImport) → (i.spelled ≡ true → IsName i.name) → each is_byte i.path ≡ true → SpecOf i
+pub spec_of : (i : NewImport) → (i.spelled ≡ true → IsName i.name) → each is_byte i.path ≡ true → SpecOf i
 spec_of i named h = by i.spelled refl
   where
     l : Literal i.path
@@ -82,11 +82,11 @@ key_piece = record { kind = token Keyword; word = codes "import" }
 abbrev spoken : Option (List ℕ) → List ℕ → List Piece → List Piece
 spoken n l rest = key_piece ∷ a_piece (codes " ") ∷ (spec_pieces n l ++ rest)
 
-blank_inner : (w : List ℕ) (rest : List Piece) → is_blanks w ≡ true → InnerEnd rest → InnerEnd (a_piece w ∷ rest)
+pub blank_inner : (w : List ℕ) (rest : List Piece) → is_blanks w ≡ true → InnerEnd rest → InnerEnd (a_piece w ∷ rest)
 blank_inner w [] h x = tt
 blank_inner w (p ∷ rest) h x = (blank_ends w p.word h, x)
 
-blank_last : (w : List ℕ) (rest : List Piece) → is_blanks w ≡ true → (next : List ℕ) → LastEnds rest next → LastEnds (a_piece w ∷ rest) next
+pub blank_last : (w : List ℕ) (rest : List Piece) → is_blanks w ≡ true → (next : List ℕ) → LastEnds rest next → LastEnds (a_piece w ∷ rest) next
 blank_last w [] h next x = blank_ends w next h
 blank_last w (p ∷ rest) h next x = x
 
@@ -99,11 +99,11 @@ module _ (l : List ℕ) (is_text : IsPiece (token Str) l) where
   text_last [] next x = text_before l next is_text
   text_last (p ∷ rest) next x = x
 
-  spec_inner : (n : Option (List ℕ)) → IsNewName n → (rest : List Piece) → InnerEnd rest → InnerEnd (spec_pieces n l ++ rest)
+  pub spec_inner : (n : Option (List ℕ)) → IsNewName n → (rest : List Piece) → InnerEnd rest → InnerEnd (spec_pieces n l ++ rest)
   spec_inner None h rest x = text_inner rest x
   spec_inner (Some n) h rest x = ((λ more. token_before_blank Ident n more h.0), (blank_ends (codes " ") l refl, text_inner rest x))
 
-  spec_last : (n : Option (List ℕ)) (rest : List Piece) (next : List ℕ) → LastEnds rest next → LastEnds (spec_pieces n l ++ rest) next
+  pub spec_last : (n : Option (List ℕ)) (rest : List Piece) (next : List ℕ) → LastEnds rest next → LastEnds (spec_pieces n l ++ rest) next
   spec_last None rest next x = text_last rest next x
   spec_last (Some n) rest next x = text_last rest next x
 
@@ -116,23 +116,23 @@ module _ (l : List ℕ) (is_text : IsPiece (token Str) l) where
   spoken_last None rest next x = text_last rest next x
   spoken_last (Some n) rest next x = text_last rest next x
 
-abbrev name_terminals : Option (List ℕ) → List Terminal
+abbrev pub name_terminals : Option (List ℕ) → List Terminal
 name_terminals None = []
 name_terminals (Some n) = ident (encode_utf8_all n) ∷ []
 
-abbrev name_lexemes : Option (List ℕ) → Lexemes
+abbrev pub name_lexemes : Option (List ℕ) → Lexemes
 name_lexemes None = []
 name_lexemes (Some n) = lex z (ident (encode_utf8_all n)) ∷ []
 
 -- the lexemes of a spec, before others
-abbrev spec_lexemes : Option (List ℕ) → List ℕ → Lexemes → Lexemes
+abbrev pub spec_lexemes : Option (List ℕ) → List ℕ → Lexemes → Lexemes
 spec_lexemes n l r = name_lexemes n ++ lex z (str_lit (encode_utf8_all l)) ∷ r
 
-spec_terminals : (n : Option (List ℕ)) (l : List ℕ) (r : Lexemes) → terminals (spec_lexemes n l r) ≡ name_terminals n ++ str_lit (encode_utf8_all l) ∷ terminals r
+pub spec_terminals : (n : Option (List ℕ)) (l : List ℕ) (r : Lexemes) → terminals (spec_lexemes n l r) ≡ name_terminals n ++ str_lit (encode_utf8_all l) ∷ terminals r
 spec_terminals None l r = refl
 spec_terminals (Some n) l r = refl
 
-spec_spells : (n : Option (List ℕ)) (l : List ℕ) (r : Lexemes) → SpellsImportSpec nowhere (record { span = tt; name = new_name n; path = text_value (encode_utf8_all l) }) (spec_lexemes n l r) r
+pub spec_spells : (n : Option (List ℕ)) (l : List ℕ) (r : Lexemes) → SpellsImportSpec nowhere (record { span = tt; name = new_name n; path = text_value (encode_utf8_all l) }) (spec_lexemes n l r) r
 spec_spells None l r = path_rule
 spec_spells (Some n) l r = named_path_rule
 

@@ -56,6 +56,7 @@ pub record Node (at : ℕ) (ps : List Piece) (n0 : Lexemes) (s : Span) (x : Term
   pub last : (h : List Piece) × (core ≡ h ++ token_piece kind word ∷ [])
   pub start_is : start_of (n0 ++ lex s x ∷ r) ≡ at + pieces_size gap
   pub end_is : s.end ≡ at + (pieces_size gap + pieces_size core)
+  pub wide : s.end ≡ s.start + size_of word
   pub x_is : terminal_of kind (encode_utf8_all word) ≡ x
   pub piece : IsPiece (token kind) word
   pub own_is : own false core ≡ terminals (n0 ++ lex s x ∷ [])
@@ -87,10 +88,10 @@ prefix (g ∷ gap) k0 w0 b0 (p ∷ before) k w b s e =
     let x = prefix gap k0 w0 b0 before k w b (both_parts (is_silent g.kind) (silent gap) s).1 r in
     record { inside = x.inside; before_is = ap (λ (ps : List Piece). p ∷ ps) x.before_is ∙ ap (λ (q : Piece). q ∷ (gap ++ x.inside)) (sym h); later = x.later; core_is = x.core_is }
 
-abbrev span_in : Lexeme → Span
+abbrev pub span_in : Lexeme → Span
 span_in (lex s x) = s
 
-abbrev terminal_in : Lexeme → Terminal
+abbrev pub terminal_in : Lexeme → Terminal
 terminal_in (lex s x) = x
 
 own_one : (k : TokenKind) (w : List ℕ) (b : Bool) → own b (token_piece k w ∷ []) ≡ terminal_of k (encode_utf8_all w) ∷ []
@@ -140,6 +141,7 @@ module _ (text : List ℕ) (tokens : List Token) (at : ℕ) (b : Bool) (ps : Lis
         last = (pre.inside, sym pre.core_is);
         start_is = ap start_of (sym st.lexed ∙ ap lexemes e0) ∙ ap (λ (t : Token). t.span.start) g.token_is;
         end_is = ap (λ (l : Lexeme). (span_in l).end) (sym ey) ∙ ap (λ (t : Token). t.span.end) f.token_is ∙ place;
+        wide = ap (λ (l : Lexeme). (span_in l).end) (sym ey) ∙ ap (λ (t : Token). t.span.end) f.token_is ∙ ap (λ (n : ℕ). n + size_of f.word) (sym (ap (λ (l : Lexeme). (span_in l).start) (sym ey) ∙ ap (λ (t : Token). t.span.start) f.token_is));
         x_is = terminal;
         piece = is_piece (token y.kind) f.word s1.2.0 s1.2.2;
         own_is = sym (own_then g.gap core false ∙ ap (λ (ts : List Terminal). ts ++ own (due false g.gap) core) none.0 ∙ ap (λ (c : Bool). own c core) none.1) ∙ ap (own false) (sym list) ∙ owns;

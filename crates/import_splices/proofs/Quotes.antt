@@ -1,14 +1,14 @@
 -- A path between double quotes is a string literal that stands for it (Go specification, String literals).
-use Rattle.std.proofs.Common.{◌≡◌, inl, inr, ℕ, zero, suc, ◌+◌, ◌-◌, ◌/◌, ◌%◌, ◌≤◌, ◌<◌, Bool, true, false, cond, not, ◌&&◌, nat_eq, nat_lt, List, [], ◌∷◌, ◌++◌, length, take, drop, codes, refl, sym, ap, subst, ◌∙◌, arith, length-append}
+use Rattle.std.proofs.Common.{◌≡◌, ℕ, zero, suc, ◌+◌, ◌-◌, ◌/◌, ◌%◌, ◌≤◌, ◌<◌, Bool, true, false, not, ◌&&◌, nat_eq, nat_lt, List, [], ◌∷◌, ◌++◌, length, codes, refl, ap, ◌∙◌, arith, length-append}
 use Rattle.std.specs.Prelude.{encode_utf8_all, if◌then◌else◌}
 use Rattle.std.specs.Str.{all_scalars}
 use Rattle.std.proofs.lemmas.Bool.Decides.{nat_tests}
 use Rattle.std.proofs.lemmas.Str.{encode_ascii}
 use Rattle.go_tree.specs.declared.tokens.TokenKind.TheVariants.{Str}
-use Rattle.go_words.specs.Texts.{digits_in, escape_value, interpreted_value, between_quotes, text_value}
+use Rattle.go_words.specs.Texts.{digits_in, escape_value, interpreted_value, text_value}
 use Rattle.go_words.specs.Tokens.Characters.{byte_order_mark, each, is_listed}
-use Rattle.go_words.specs.Tokens.Forms.{Form, one_of, other_than, both, either, many, HasForm, listed, unlisted, joined, the_one, the_other, no_more, once_more}
-use Rattle.go_words.specs.Tokens.Literals.{hex_digit as hex_form, unit_within, escape_within, interpreted_string, string_lit}
+use Rattle.go_words.specs.Tokens.Forms.{other_than, both, many, HasForm, listed, unlisted, joined, the_one, the_other, no_more, once_more}
+use Rattle.go_words.specs.Tokens.Literals.{hex_digit as hex_form, unit_within, escape_within, string_lit}
 use Rattle.go_words.specs.Tokens.Pieces.{token, IsPiece}
 use Rattle.go_scan.proofs.AutomatonLemmas.{below, below_at}
 use Rattle.go_scan.proofs.Derivatives.{and_parts, and_true}

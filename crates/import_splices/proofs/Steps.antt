@@ -121,6 +121,10 @@ not_semi _ h = absurd cc
 -- ---- a node and its semicolon
 
 module _ (text : List ℕ) (tokens : List Token) (at : ℕ) (b : Bool) (ps : List Piece) (n0 : Lexemes) (s : Span) (x : Terminal) (end rest : Lexemes) (st : State text tokens at b ps (n0 ++ lex s x ∷ (end ++ rest))) where
+  -- the step, and that it has the parts of the node, and then more
+  abbrev With : Node at ps n0 s x (end ++ rest) → (List ℕ → Type 0) → Type 0
+  With n may = (w : Whole text tokens at ps (n0 ++ lex s x ∷ []) (start_of (n0 ++ lex s x ∷ (end ++ rest))) s.end end rest may) × (more : List Piece) × (w.of.gap ≡ n.gap) × (w.of.body ≡ n.core ++ more)
+
   module _ (facts : (is_semi x ≡ false) × (ends_statement x ≡ true)) (n : Node at ps n0 s x (end ++ rest)) (may : List ℕ → Type 0) (core_ends : (next : List ℕ) → may next → LastEnds n.core next) (e : ℕ) (place : at + (pieces_size n.gap + pieces_size n.core) ≡ e) where
     line : ends_line n.kind n.word ≡ true
     line = asks_ends n.kind n.word (ap ends_statement n.x_is ∙ facts.1)
@@ -191,31 +195,36 @@ module _ (text : List ℕ) (tokens : List Token) (at : ℕ) (b : Bool) (ps : Lis
       whole_of : (bb : Bool) → (bb ≡ true → breaks r.left ≡ true) → ((next : List ℕ) → may next → LastEnds (n.core ++ r.more) next)
           → ((end ≡ [] → ⊥) → (qs : List Piece) → (bb ≡ true → breaks qs ≡ true) → terms false ((n.core ++ r.more) ++ qs) ≡ terminals ((n0 ++ lex s x ∷ []) ++ end) ++ terms false qs)
           → ((end ≡ [] → ⊥) → Stop (st.before ++ bytes_of (n.gap ++ (n.core ++ r.more))) r.left) → (bb ≡ false → (end ≡ [] → ⊥) → (next : List ℕ) → LastEnds (n.core ++ r.more) next)
-          → Whole text tokens at ps (n0 ++ lex s x ∷ []) (start_of (n0 ++ lex s x ∷ (end ++ rest))) s.end end rest may
+          → With n may
       unfolding next further
-      whole_of bb q closed owns stops shut = record {
-        of = record {
-          gap = n.gap;
-          body = n.core ++ r.more;
-          left = r.left;
-          is = is;
-          none = n.none;
-          first = first;
-          start_is = n.start_is;
-          closed = closed;
-          b2 = bb;
-          shut = shut;
-          own = owns;
-          next = next bb q;
-          stops = stops;
-        };
-        through = ap (through_semicolon tokens) (n.end_is ∙ place) ∙ r.through ∙ to_is;
-      }
+      whole_of bb q closed owns stops shut = (
+        record {
+          of = record {
+            gap = n.gap;
+            body = n.core ++ r.more;
+            left = r.left;
+            is = is;
+            none = n.none;
+            first = first;
+            start_is = n.start_is;
+            closed = closed;
+            b2 = bb;
+            shut = shut;
+            own = owns;
+            next = next bb q;
+            stops = stops;
+          };
+          through = ap (through_semicolon tokens) (n.end_is ∙ place) ∙ r.through ∙ to_is;
+        },
+        r.more,
+        refl,
+        refl,
+      )
 
       core_alone : r.more ≡ [] → n.core ++ r.more ≡ n.core
       core_alone m = ap (λ (us : List Piece). n.core ++ us) m ∙ append-nil n.core
 
-      by_sort : Sort r.more r.left end → Whole text tokens at ps (n0 ++ lex s x ∷ []) (start_of (n0 ++ lex s x ∷ (end ++ rest))) s.end end rest may
+      by_sort : Sort r.more r.left end → With n may
       by_sort (due_sort m k z ez) =
           whole_of true (λ q. k) (λ next ok. subst (λ (us : List Piece). LastEnds us next) (sym (core_alone m)) (core_ends next ok))
           (λ ok qs q. ap (λ (us : List Piece). terms false (us ++ qs)) (core_alone m) ∙ own_core qs ∙ ap (λ (ts : List Terminal). terminals (n0 ++ lex s x ∷ []) ++ ts) (breaks_terms qs (q refl)) ∙ join z ez (terms false qs))
@@ -260,12 +269,15 @@ module _ (text : List ℕ) (tokens : List Token) (at : ℕ) (b : Bool) (ps : Lis
           nope : false ≡ true → ⊥
           nope e = cc
 
-  pub step_by : (is_semi x ≡ false) × (ends_statement x ≡ true) → (n : Node at ps n0 s x (end ++ rest)) (may : List ℕ → Type 0) → ((next : List ℕ) → may next → LastEnds n.core next) → IsEnd end → (end ≡ [] → begins_end_paren rest ≡ true)
-      → Whole text tokens at ps (n0 ++ lex s x ∷ []) (start_of (n0 ++ lex s x ∷ (end ++ rest))) s.end end rest may
-  step_by facts n may core_ends is_end ends =
+  pub step_with : (is_semi x ≡ false) × (ends_statement x ≡ true) → (n : Node at ps n0 s x (end ++ rest)) (may : List ℕ → Type 0) → ((next : List ℕ) → may next → LastEnds n.core next) → IsEnd end → (end ≡ [] → begins_end_paren rest ≡ true) → With n may
+  step_with facts n may core_ends is_end ends =
       let e : ℕ = at + (pieces_size n.gap + pieces_size n.core) in
       let r = behind facts n may core_ends e refl is_end ends in
       by_sort facts n may core_ends e refl r r.sort
+
+  pub step_by : (is_semi x ≡ false) × (ends_statement x ≡ true) → (n : Node at ps n0 s x (end ++ rest)) (may : List ℕ → Type 0) → ((next : List ℕ) → may next → LastEnds n.core next) → IsEnd end → (end ≡ [] → begins_end_paren rest ≡ true)
+      → Whole text tokens at ps (n0 ++ lex s x ∷ []) (start_of (n0 ++ lex s x ∷ (end ++ rest))) s.end end rest may
+  step_by facts n may core_ends is_end ends = (step_with facts n may core_ends is_end ends).0
 
   pub step : is_close x ≡ true → IsEnd end → (end ≡ [] → begins_end_paren rest ≡ true) → Whole text tokens at ps (n0 ++ lex s x ∷ []) (start_of (n0 ++ lex s x ∷ (end ++ rest))) s.end end rest (λ next. Unit {0})
   step closing is_end ends =

@@ -62,6 +62,26 @@ starts_same : (n0 : Lexemes) (s : Span) (x : Terminal) (a b : Lexemes) → start
 starts_same [] s x a b = refl
 starts_same (lex t y ∷ n0) s x a b = refl
 
+pub map_both : (xs ys : List Span) → map removal (xs ++ ys) ≡ map removal xs ++ map removal ys
+map_both [] ys = refl
+map_both (x ∷ xs) ys = ap (λ (es : List Edit). removal x ∷ es) (map_both xs ys)
+
+-- what spells import declarations, and then what is so
+abbrev pub ImportsThen : (Lexemes → Type 0) → List (ImportDecl (Unit {0})) → Lexemes → Type 0
+ImportsThen P js us = (m : Lexemes) × SpellsImports nowhere js us m × P m
+
+-- the lexemes of declarations stand before what follows
+pub import_front : {d : ImportDecl Span} {ts r : Lexemes} → SpellsImport span_to d ts r → (m : Lexemes) × (ts ≡ m ++ r)
+import_front (import_rule {s = s} {r = r} a) = let x = spec_is a in (lex s key_import ∷ (x.n0 ++ lex x.s (str_lit x.p) ∷ []), ap (λ (us : Lexemes). lex s key_import ∷ us) (x.is ∙ sym (append_assoc x.n0 (lex x.s (str_lit x.p) ∷ []) r)))
+import_front (import_group_rule {s = s} {b = o} {e = e} {r = r} a) = let f = specs_front a in (lex s key_import ∷ lex o paren ∷ (f.0 ++ lex e end_paren ∷ []), ap (λ (us : Lexemes). lex s key_import ∷ lex o paren ∷ us) (f.1 ∙ sym (append_assoc f.0 (lex e end_paren ∷ []) r)))
+
+pub imports_front : {ds : List (ImportDecl Span)} {ts r : Lexemes} → SpellsImports span_to ds ts r → (m : Lexemes) × (ts ≡ m ++ r)
+imports_front no_imports_rule = ([], refl)
+imports_front (more_imports_rule {c = c} {r = r} a k) =
+    let f = import_front a in
+    let l = imports_front k in
+    (f.0 ++ lex c semicolon ∷ l.0, f.1 ∙ ap (λ (us : Lexemes). f.0 ++ lex c semicolon ∷ us) l.1 ∙ sym (append_assoc f.0 (lex c semicolon ∷ l.0) r))
+
 -- What a text becomes, where the parts that stay in front go up to a place, through the newline that is due.
 pub record Led (text : List ℕ) (at : ℕ) (b : Bool) (ps : List Piece) (es : List Edit) (are : Lexemes → Type 0) (place : ℕ) : Type 0 where
   pub out : Out text at b ps es are
@@ -184,10 +204,10 @@ module _ (text : List ℕ) (tokens : List Token) (comments : List Comment) (unus
 
   -- ---- the imports
 
-  module _ (M : Lexemes) where
-    -- what spells the declarations that are left, before the rest
+  module _ (P : Lexemes → Type 0) where
+    -- what spells the declarations that are left, and then what is so
     abbrev Imports : List (ImportDecl (Unit {0})) → Lexemes → Type 0
-    Imports js us = SpellsImports nowhere js us M
+    Imports js us = ImportsThen P js us
 
     module _ (c : Span) (mid : Lexemes) (es : List Edit) (js : List (ImportDecl (Unit {0}))) (later : Follows mid es (Imports js)) where
       nope : lex c semicolon ∷ [] ≡ [] → ⊥
@@ -218,8 +238,12 @@ module _ (text : List ℕ) (tokens : List Token) (comments : List Comment) (unus
               (λ at b ps st more. later at b ps st (more nope)) at b ps (again at b ps (lex s key_import ∷ ts) _ whole st) stop
           by_goes false =
               led_at at b ps es _ s.start sp.start (sym (ap (λ (q : Span). q.start) e)) (stays_led (lex s key_import ∷ i.n0) i.s (str_lit i.p) refl (lex c semicolon ∷ []) mid (inr (c, refl)) (λ z. absurd (nope z)) es (Imports (record { span = tt; grouped = false; specs = bare_import_spec x ∷ [] } ∷ js)) c refl (Imports js) later
-              (λ us o. subst (λ (ws : Lexemes). SpellsImports nowhere (record { span = tt; grouped = false; specs = bare_import_spec x ∷ [] } ∷ js) (lex s key_import ∷ ws) M) (sym (append_assoc (i.n0 ++ lex i.s (str_lit i.p) ∷ []) (lex c semicolon ∷ []) us))
-              (more_imports_rule {c = c} (import_rule (i.again (lex c semicolon ∷ us))) o))
+              (λ us o. (
+                o.0,
+                subst (λ (ws : Lexemes). SpellsImports nowhere (record { span = tt; grouped = false; specs = bare_import_spec x ∷ [] } ∷ js) (lex s key_import ∷ ws) o.0) (sym (append_assoc (i.n0 ++ lex i.s (str_lit i.p) ∷ []) (lex c semicolon ∷ []) us))
+                    (more_imports_rule {c = c} (import_rule (i.again (lex c semicolon ∷ us))) o.1),
+                o.2,
+              ))
               at b ps (again at b ps (lex s key_import ∷ ts) _ whole st))
 
       group : (s o e : Span) (xs : List (ImportSpec Span)) (ts : Lexemes) (sp : Span) → sp ≡ span_to (lex s key_import ∷ lex o paren ∷ ts) (lex c semicolon ∷ mid) → SpellsImportSpecs span_to xs ts (lex e end_paren ∷ lex c semicolon ∷ mid)
@@ -262,7 +286,7 @@ module _ (text : List ℕ) (tokens : List Token) (comments : List Comment) (unus
               (map removal (specs_ranges text tokens comments unused (record { span = sp; grouped = true; specs = xs }) xs) ++ es) (Imports (record { span = tt; grouped = true; specs = left_specs text tokens comments unused xs } ∷ js))
               (λ us. (vs : Lexemes) × SpellsImportSpecs nowhere (left_specs text tokens comments unused xs) us vs × ((e2 : Span) × (ws : Lexemes) × (vs ≡ lex e2 end_paren ∷ lex c semicolon ∷ ws) × Imports js ws))
               inside (w.closed (words_of (inside.front ++ inside.new)) tt)
-              (λ us o. more_imports_rule {c = c} (import_group_rule (subst (λ (vs : Lexemes). SpellsImportSpecs nowhere (left_specs text tokens comments unused xs) us vs) o.2.2 o.1)) o.2.3) in
+              (λ us o. (o.2.3.0, more_imports_rule {c = c} (import_group_rule (subst (λ (vs : Lexemes). SpellsImportSpecs nowhere (left_specs text tokens comments unused xs) us vs) o.2.2 o.1)) o.2.3.1, o.2.3.2)) in
               record { out = y.0; up_to = y.1 ∙ sym (group_start sp xs xs ∙ ap (λ (q : Span). q.start) span_is); newline = y.2 }
 
       pub one_walk : {d : ImportDecl Span} {ts : Lexemes} → SpellsImport span_to d ts (lex c semicolon ∷ mid) → Leads ts (map removal (decl_ranges text tokens comments unused false d) ++ es) (Imports (left_decl text tokens comments unused d ++ js)) (front_of text tokens comments unused d)
@@ -273,10 +297,6 @@ module _ (text : List ℕ) (tokens : List Token) (comments : List Comment) (unus
     ranges_next d [] = sym (append-nil (decl_ranges text tokens comments unused false d))
     ranges_next d (e ∷ ds) = refl
 
-    pub map_both : (xs ys : List Span) → map removal (xs ++ ys) ≡ map removal xs ++ map removal ys
-    map_both [] ys = refl
-    map_both (x ∷ xs) ys = ap (λ (es : List Edit). removal x ∷ es) (map_both xs ys)
-
     first_walk : (c : Span) {d : ImportDecl Span} (ds : List (ImportDecl Span)) {ts : Lexemes} (mid : Lexemes) → SpellsImport span_to d ts (lex c semicolon ∷ mid) → (es : List Edit)
         → Follows mid (map removal (ranges text tokens comments unused false ds) ++ es) (Imports (left_decls text tokens comments unused ds))
         → Leads ts (map removal (ranges text tokens comments unused false (d ∷ ds)) ++ es) (Imports (left_decls text tokens comments unused (d ∷ ds))) (front_of text tokens comments unused d)
@@ -285,11 +305,11 @@ module _ (text : List ℕ) (tokens : List Token) (comments : List Comment) (unus
         (sym (append_assoc (map removal (decl_ranges text tokens comments unused false d)) (map removal (ranges text tokens comments unused false ds)) es) ∙ ap (λ (fs : List Edit). fs ++ es) (sym (map_both (decl_ranges text tokens comments unused false d) (ranges text tokens comments unused false ds)) ∙ ap (map removal) (sym (ranges_next d ds))))
         (one_walk c mid (map removal (ranges text tokens comments unused false ds) ++ es) (left_decls text tokens comments unused ds) later a at b ps st stop)
 
-    pub imports_walk : {ds : List (ImportDecl Span)} {ts mid : Lexemes} → SpellsImports span_to ds ts mid → (es : List Edit) → Follows mid es (λ us. us ≡ M) → Follows ts (map removal (ranges text tokens comments unused false ds) ++ es) (Imports (left_decls text tokens comments unused ds))
-    imports_walk no_imports_rule es last at b ps st stop = out_map text at b ps es _ _ (λ us o. subst (λ (vs : Lexemes). SpellsImports nowhere [] vs M) (sym o) no_imports_rule) (last at b ps st stop)
+    pub imports_walk : {ds : List (ImportDecl Span)} {ts mid : Lexemes} → SpellsImports span_to ds ts mid → (es : List Edit) → Follows mid es P → Follows ts (map removal (ranges text tokens comments unused false ds) ++ es) (Imports (left_decls text tokens comments unused ds))
+    imports_walk no_imports_rule es last at b ps st stop = out_map text at b ps es _ _ (λ us o. (us, no_imports_rule, o)) (last at b ps st stop)
     imports_walk (more_imports_rule {c = c} {d = d} {ds = ds} {mid = mid} a k) es last at b ps st stop = (first_walk c ds mid a es (imports_walk k es last) at b ps st stop).out
 
     -- where there is one, up to the first
-    pub lead_walk : {d : ImportDecl Span} {ds : List (ImportDecl Span)} {ts mid : Lexemes} → SpellsImports span_to (d ∷ ds) ts mid → (es : List Edit) → Follows mid es (λ us. us ≡ M)
+    pub lead_walk : {d : ImportDecl Span} {ds : List (ImportDecl Span)} {ts mid : Lexemes} → SpellsImports span_to (d ∷ ds) ts mid → (es : List Edit) → Follows mid es P
         → Leads ts (map removal (ranges text tokens comments unused false (d ∷ ds)) ++ es) (Imports (left_decls text tokens comments unused (d ∷ ds))) (front_of text tokens comments unused d)
     lead_walk (more_imports_rule {c = c} {ds = ds} {mid = mid} a k) es last = first_walk c ds mid a es (imports_walk k es last)

@@ -1,9 +1,8 @@
 -- A file to which imports are added (Go specification, Import declarations).
-use Rattle.std.specs.Prelude.{◌≡◌, ℕ, Bool, true, false, nat_lt, List, [], ◌∷◌, ◌++◌, Option, Some, None, if◌then◌else◌, encode_utf8_all}
+use Rattle.std.specs.Prelude.{◌≡◌, ℕ, Bool, true, false, nat_lt, List, [], ◌∷◌, Some, None, if◌then◌else◌, encode_utf8_all}
 use Rattle.std.specs.Str.{all_scalars}
 use Rattle.go_tree.specs.declared.tokens.TokenKind.TheVariants.{Ident}
-use Rattle.go_tree.specs.Tree.{NameAt}
-use Rattle.go_tree.specs.File.{ImportSpec, ImportDecl, File}
+use Rattle.go_tree.specs.File.{ImportSpec, ImportDecl}
 use Rattle.go_words.specs.Tokens.Characters.{each}
 use Rattle.go_words.specs.Tokens.Pieces.{token, IsPiece}
 use Rattle.import_rules.specs.declared.new_import.NewImport.{NewImport}
@@ -33,7 +32,3 @@ added_spec i = record {
 abbrev pub added_decls : List NewImport → List (ImportDecl (Unit {0}))
 added_decls [] = []
 added_decls (i ∷ is) = record { span = tt; grouped = false; specs = added_spec i ∷ [] } ∷ added_decls is
-
--- the file with these imports before its others
-abbrev pub with_first : List NewImport → File (Unit {0}) → File (Unit {0})
-with_first added f = record f { imports = added_decls added ++ f.imports }

@@ -1,3 +1,3 @@
+pub mod AddedFile
 pub mod SettledFile
 pub mod SettledReads
-pub mod AddedFile

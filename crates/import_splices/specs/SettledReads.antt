@@ -1,5 +1,5 @@
 -- What a text reads as whose imports are settled (Go specification, Import declarations; Source file organization).
-use Rattle.std.specs.Prelude.{◌≡◌, ℕ, false, List, []}
+use Rattle.std.specs.Prelude.{◌≡◌, ℕ, Bool, true, false, List, [], ◌∷◌, ◌++◌, drop}
 use Rattle.go_tree.specs.declared.spans.Span.{Span}
 use Rattle.go_tree.specs.declared.tokens.Token.{Token}
 use Rattle.go_tree.specs.declared.tokens.Comment.{Comment}
@@ -9,13 +9,16 @@ use Rattle.go_words.specs.Tokens.{TokensOf}
 use Rattle.go_read.specs.SpellsFiles.{SpellsFile}
 use Rattle.text_edits.specs.Applied.{applied}
 use Rattle.import_rules.specs.declared.new_import.NewImport.{NewImport}
-use Rattle.import_rules.specs.SpecText.{in_order}
-use Rattle.import_rules.specs.Added.{adds_to_group}
 use Rattle.import_rules.specs.Settled.{settled}
 use Rattle.splice_laws.specs.Dots.{UndottedFile}
-use Rattle.splice_laws.specs.Splice.{ReadsAs}
-use Rattle.import_splices.specs.AddedFile.{AreWritable, with_first}
-use Rattle.import_splices.specs.SettledFile.{without_unused}
+use Rattle.splice_laws.specs.Joints.{begins_with_dot}
+use Rattle.splice_laws.specs.Swaps.{Swap, FileIn}
+use Rattle.splice_laws.specs.Fits.{swap_mark}
+use Rattle.splice_laws.specs.Forms.{new_layout, FormedNew, AsksOld}
+use Rattle.splice_laws.specs.Splice.{are_apart, first_word, splice, ReadsAs, IsPut}
+use Rattle.layout_laws.specs.Laid.{is_indent}
+use Rattle.import_splices.specs.AddedFile.{AreWritable}
+use Rattle.import_splices.specs.SettledFile.{without_unused, with_settled}
 
 -- A text without the bytes of its unused imports reads as the file without these imports.
 abbrev pub UnusedGo : Type 0
@@ -38,29 +41,53 @@ UnusedStayUndotted =
     (text : List ℕ) (tokens : List Token) (comments : List Comment) (file : File Span) (unused : List Span)
     → UndottedFile (bare_file file) → UndottedFile (without_unused text tokens comments unused file)
 
--- A text to which imports are added, and in which no group takes them, reads as the file without its unused imports,
--- with the added ones first.
-abbrev pub AddedGo : Type 0
-AddedGo =
+-- A text with its imports settled reads as the file without the unused ones and with the added ones.
+abbrev pub SettledGo : Type 0
+SettledGo =
     (text : List ℕ) (tokens : List Token) (comments : List Comment) (file : File Span) (added : List NewImport)
     (unused : List Span)
     → TokensOf text tokens comments → SpellsFile tokens file → UndottedFile (bare_file file) → AreWritable added
-    → adds_to_group text file.imports ≡ false
     → ReadsAs (applied text (settled text tokens comments file added unused))
-    (with_first (in_order added) (without_unused text tokens comments unused file))
+    (with_settled text tokens comments unused added file)
 
 -- the same of a text that reads as a file
-abbrev pub AddedGoAgain : Type 0
-AddedGoAgain =
+abbrev pub SettledGoAgain : Type 0
+SettledGoAgain =
     (text : List ℕ) (f : File (Unit {0})) (r : ReadsAs text f) (added : List NewImport) (unused : List Span)
-    → UndottedFile f → AreWritable added → adds_to_group text r.file.imports ≡ false
+    → UndottedFile f → AreWritable added
     → ReadsAs (applied text (settled text r.tokens r.comments r.file added unused))
-    (with_first (in_order added) (without_unused text r.tokens r.comments unused r.file))
+    (with_settled text r.tokens r.comments unused added r.file)
 
--- In the file with them too no selector stands on an integer literal.
-abbrev pub AddedStayUndotted : Type 0
-AddedStayUndotted =
+-- In the file so settled too no selector stands on an integer literal.
+abbrev pub SettledStayUndotted : Type 0
+SettledStayUndotted =
     (text : List ℕ) (tokens : List Token) (comments : List Comment) (file : File Span) (added : List NewImport)
     (unused : List Span)
-    → UndottedFile (bare_file file)
-    → UndottedFile (with_first (in_order added) (without_unused text tokens comments unused file))
+    → UndottedFile (bare_file file) → UndottedFile (with_settled text tokens comments unused added file)
+
+-- ---- with a form at once
+
+-- A text with its imports settled and a node's layout in place of another node, by edits that are all made at once,
+-- reads as the file with that node replaced and its imports settled.
+abbrev pub FormSettledGo : Type 0
+FormSettledGo =
+    (text : List ℕ) (tokens : List Token) (comments : List Comment) (f g : File Span) (w : Swap Span)
+    (indent : List ℕ) (dotted wrapped blank : Bool) (added : List NewImport) (unused : List Span)
+    → IsPut text tokens comments f g w indent dotted wrapped blank → AreWritable added
+    → ReadsAs (applied text (settled text tokens comments f added unused
+    ++ splice (swap_mark w) blank (new_layout indent dotted wrapped w) ∷ []))
+    (with_settled text tokens comments unused added g)
+
+-- the same of a text that reads as a file
+abbrev pub FormSettledGoAgain : Type 0
+FormSettledGoAgain =
+    (text : List ℕ) (f : File (Unit {0})) (r : ReadsAs text f) → UndottedFile f
+    → (g : File Span) (w : Swap Span) (indent : List ℕ) (dotted wrapped blank : Bool) (added : List NewImport)
+    (unused : List Span)
+    → FileIn w r.file g → AsksOld w → FormedNew dotted w → is_indent indent ≡ true
+    → (dotted ≡ false → begins_with_dot (drop (swap_mark w).end text) ≡ false)
+    → (blank ≡ false → are_apart r.tokens (swap_mark w).start (first_word (new_layout indent dotted wrapped w)) ≡ true)
+    → AreWritable added
+    → ReadsAs (applied text (settled text r.tokens r.comments r.file added unused
+    ++ splice (swap_mark w) blank (new_layout indent dotted wrapped w) ∷ []))
+    (with_settled text r.tokens r.comments unused added g)

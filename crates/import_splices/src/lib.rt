@@ -4,4 +4,4 @@
 
 mod laws;
 
-pub use laws::{imports_are_settled, unused_imports_go};
+pub use laws::{forms_and_imports_are_read_at_once, imports_are_settled, unused_imports_go};

@@ -1,5 +1,5 @@
--- In a text whose tokens spell a file, the imports lie as their spans say, and each part of a declaration behind them.
-use Rattle.std.proofs.Common.{◌≡◌, ◌≤◌, ◌-◌, ℕ, List, [], ◌∷◌, length, sym, subst, arith}
+-- In a text whose tokens spell a file, each part of a declaration stands behind the imports.
+use Rattle.std.proofs.Common.{◌≡◌, ◌≤◌, ℕ, List, [], ◌∷◌, length, refl, sym, subst, arith}
 use Rattle.go_tree.specs.declared.spans.Span.{Span}
 use Rattle.go_tree.specs.declared.tokens.Token.{Token}
 use Rattle.go_tree.specs.declared.tokens.Comment.{Comment}
@@ -11,12 +11,13 @@ use Rattle.go_read.specs.SpellsSpans.{start_of, span_to}
 use Rattle.go_read.specs.SpellsFiles.{SpellsTop, SpellsTops, SpellsFront, SpellsFile, top_const_rule, top_var_rule, top_type_rule, top_type_group_rule, top_func_rule, top_method_rule, no_tops_rule, more_tops_rule, front_rule}
 use Rattle.splice_laws.proofs.Grafts.{Within, here, later, both_within}
 use Rattle.splice_laws.proofs.Pasts.{top_past}
-use Rattle.import_rules.specs.Laid.{IsInk, IsStart, DeclsLie, Laid}
+use Rattle.import_rules.specs.Laid.{IsStart, DeclsLie, Laid}
 use Rattle.run_rules.specs.Laws.{ImportsEndBy, LiesBehindImports}
 use Rattle.run_laws.proofs.NodeSpans.{AllDecl}
 use Rattle.run_laws.proofs.SpelledSpans.{top_all}
-use Rattle.run_laws.proofs.TokensStand.{Stand, tokens_stand}
-use Rattle.run_laws.proofs.ImportsStand.{IsWord, Lie, all_lie, in_order, end_is, lie_lower, lie_past, ends_up, ends_within, ImportsLie, imports_lie}
+use Rattle.import_places.proofs.TokensStand.{tokens_stand}
+use Rattle.import_places.proofs.ImportsStand.{IsWord, Lie, ImportsLie, last_end, all_lie, end_is, lie_lower, lie_past, ends_up, ends_within, imports_lie}
+use Rattle.import_places.proofs.FilesLaid.{imports_laid}
 
 -- it holds of the parts of each declaration
 abbrev pub AllDecls : (Span → Type 0) → List (Decl Span) → Type 0
@@ -104,40 +105,28 @@ module _ (text : List ℕ) (all : List Token) where
         past : {d : Decl Span} {ts r : Lexemes} → SpellsTop span_to d ts r → Within r ts
         past {ts = ts} d = top_past span_to ts d here
 
-  pub record FileStands (file : File Span) : Type 0 where
-    pub name_within : file.package_name.span.end ≤ length text
-    pub name_ends : IsInk text (file.package_name.span.end - 1)
-    pub imports : DeclsLie text all file.package_name.span.end file.imports
-    pub behind : AllDecls (LiesBehindImports text all file) file.decls
+  imports_up : (from : ℕ) (is : List (ImportDecl Span)) → DeclsLie text all from is → from ≤ last_end from is
+  imports_up from [] h = omega arith
+  imports_up from (d ∷ ds) h = let k = imports_up d.span.end ds h.2 in omega (arith, h.0, h.1.0.0, k)
 
-  front_stands : {f : File Span} {ts r : Lexemes} (from : ℕ) → SpellsFront span_to f ts r → Lie text all from ts → FileStands f
-  front_stands from (front_rule {s = s} {c = c} {d = d} {n = n} {is = is} {ds = ds} {ts = ts} {mid = mid} {r = r} d1 d2 d3) h =
-      let k : IsWord text all c (ident n) = h.4.3 (λ e. cc) in
+  imports_end : (from at : ℕ) (is : List (ImportDecl Span)) → DeclsLie text all from is → last_end from is ≤ at → ImportsEndBy at is
+  imports_end from at [] h le = tt
+  imports_end from at (d ∷ ds) h le = let k = imports_up d.span.end ds h.2 in (omega (arith, k, le), imports_end d.span.end at ds h.2 le)
+
+  front_behind : {f : File Span} {ts r : Lexemes} (from : ℕ) → SpellsFront span_to f ts r → Lie text all from ts → AllDecls (LiesBehindImports text all f) f.decls
+  front_behind from (front_rule {s = s} {c = c} {d = d} {n = n} {is = is} {ds = ds} {ts = ts} {mid = mid} {r = r} d1 d2 d3) h =
       let one : Within (lex d semicolon ∷ ts) (lex c (ident n) ∷ lex d semicolon ∷ ts) = later here in
       let e : (span_to (lex c (ident n) ∷ lex d semicolon ∷ ts) (lex d semicolon ∷ ts)).end ≡ c.end = end_is c.start one in
       let own : Lie text all c.end ts = lie_lower text all c.end d.end ts (omega (arith, h.4.4.0, h.4.4.1)) h.4.4.4 in
       let i : ImportsLie text all c.end is mid = imports_lie text all c.end d2 own in
-      record {
-        name_within = subst (λ (m : ℕ). m ≤ length text) (sym e) h.4.2;
-        name_ends = subst (λ (m : ℕ). IsInk text (m - 1)) (sym e) k.inked.2;
-        imports = subst (λ (m : ℕ). DeclsLie text all m is) (sym e) i.lie;
-        behind = tops_behind (record { package_name = record { span = span_to (lex c (ident n) ∷ lex d semicolon ∷ ts) (lex d semicolon ∷ ts); name = n }; imports = is; decls = ds }) i.last d3 i.rest
-            (subst (λ (m : ℕ). m ≤ i.last) (sym e) i.from_is) i.end_by;
-      }
+      tops_behind (record { package_name = record { span = span_to (lex c (ident n) ∷ lex d semicolon ∷ ts) (lex d semicolon ∷ ts); name = n }; imports = is; decls = ds }) (last_end c.end is) d3 i.rest
+      (subst (λ (m : ℕ). m ≤ last_end c.end is) (sym e) (imports_up c.end is i.lie)) (imports_end c.end (last_end c.end is) is i.lie (omega arith))
 
 -- ---- a file that is read
 
 module _ (text : List ℕ) (tokens : List Token) (comments : List Comment) (file : File Span) (scans : TokensOf text tokens comments) (spells : SpellsFile tokens file) where
-  stands : Stand text 0 tokens
-  stands = tokens_stand text tokens comments scans
-
-  file_stands : FileStands text tokens file
-  file_stands = front_stands text tokens 0 spells (all_lie text tokens stands)
-
   pub file_laid : Laid text tokens file
-  file_laid =
-      let s : FileStands text tokens file = file_stands in
-      record { order = in_order text 0 tokens stands; name_within = s.name_within; name_ends = s.name_ends; imports = s.imports }
+  file_laid = imports_laid text tokens comments file scans (record { whole = file; spelled = spells; name_is = refl; imports_are = refl })
 
   pub decls_behind : AllDecls (LiesBehindImports text tokens file) file.decls
-  decls_behind = let s : FileStands text tokens file = file_stands in s.behind
+  decls_behind = front_behind text tokens 0 spells (all_lie text tokens (tokens_stand text tokens comments scans))

@@ -1,8 +1,6 @@
-pub mod TokensStand
 pub mod NodeSpans
 pub mod SpelledSpans
 pub mod SeenSpans
-pub mod ImportsStand
 pub mod FilesStand
 pub mod FoundSpans
 pub mod StepsApart

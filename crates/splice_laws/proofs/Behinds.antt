@@ -11,10 +11,12 @@ use Rattle.go_words.specs.Tokens.Characters.{is_letter, is_digit, is_word, is_bl
 use Rattle.go_words.specs.Tokens.Forms.{HasForm}
 use Rattle.go_words.specs.Tokens.Literals.{comment}
 use Rattle.go_words.specs.Tokens.{tokens_from}
-use Rattle.go_words.specs.Tokens.Pieces.{PieceKind, blanks, remark, token, Piece, operator_spellings, operator, no_word_first, is_blanks, IsPiece, CutsTo}
+use Rattle.go_words.specs.Tokens.Pieces.{PieceKind, blanks, remark, token, Piece, operator_spellings, operator, no_word_first, is_blanks, IsPiece}
 use Rattle.go_scan.proofs.Derivatives.{and_parts}
 use Rattle.go_scan.proofs.PieceKinds.{never_empty}
 use Rattle.go_words.specs.Terminals.{Terminal, terminal_of, lexemes, found_in, keywords}
+use Rattle.splice_laws.specs.Joints.{PartsTo}
+use Rattle.splice_laws.proofs.Over.{is_piece}
 use Rattle.splice_laws.specs.Ends.{stops, ends_node}
 use Rattle.splice_laws.proofs.Ends.{View, view, first_is, each_word, operator_passes, or_cases}
 
@@ -111,12 +113,12 @@ blanks_first : (w : List ℕ) → is_blanks w ≡ true → no_word_first w ≡ t
 blanks_first [] h = refl
 blanks_first (c ∷ cs) h = no_word (is_word c) (blank_word c (and_parts (is_blank c) (each is_blank cs) h).0)
 
-pub behind_first : (ps : List Piece) (tail : List ℕ) (at : ℕ) (due : Option ℕ) → CutsTo tail ps [] → ends_node (lexemes (tokens_from at due ps)) ≡ true → no_word_first tail ≡ true
+pub behind_first : (ps : List Piece) (tail : List ℕ) (at : ℕ) (due : Option ℕ) → PartsTo tail ps [] → ends_node (lexemes (tokens_from at due ps)) ≡ true → no_word_first tail ≡ true
 unfolding tokens_from
-behind_first [] tail at due cut h = ap no_word_first cut
-behind_first (p ∷ ps) tail at due cut h = ap no_word_first cut.1.parts ∙ by_kind p.kind p.word cut.1.spelled h
+behind_first [] tail at due parts h = ap no_word_first parts
+behind_first (p ∷ ps) tail at due parts h = ap no_word_first parts.1 ∙ by_kind p.kind p.word (is_piece p.kind p.word parts.0 parts.2) h
   where
-    by_kind : (k : PieceKind) (w : List ℕ) → IsPiece k w → ends_node (lexemes (tokens_from at due (record { kind = k; word = w } ∷ ps))) ≡ true → no_word_first (w ++ cut.0) ≡ true
-    by_kind blanks w x q = front_first blanks w cut.0 x (blanks_first w x)
-    by_kind remark w x q = front_first remark w cut.0 x (comment_first w x)
-    by_kind (token k) w x q = front_first (token k) w cut.0 x (token_first k w x q)
+    by_kind : (k : PieceKind) (w : List ℕ) → IsPiece k w → ends_node (lexemes (tokens_from at due (record { kind = k; word = w } ∷ ps))) ≡ true → no_word_first (w ++ parts.0) ≡ true
+    by_kind blanks w x q = front_first blanks w parts.0 x (blanks_first w x)
+    by_kind remark w x q = front_first remark w parts.0 x (comment_first w x)
+    by_kind (token k) w x q = front_first (token k) w parts.0 x (token_first k w x q)

@@ -1,6 +1,8 @@
 -- Forms in texts, by computation: each text is the row's, and the decisions at the joints.
-use Rattle.std.proofs.Common.{◌≡◌, ℕ, Bool, true, false, List, [], ◌∷◌, Some, None, refl}
+use Rattle.std.proofs.Common.{◌≡◌, ℕ, Bool, true, false, ◌&&◌, List, [], ◌∷◌, Some, None, refl, ap, ◌∙◌}
 use Rattle.std.specs.Prelude.{codes}
+use Rattle.std.specs.Str.{chars}
+use Rattle.std.proofs.lemmas.Str.{chars-encodes}
 use Rattle.go_tree.specs.declared.exprs.Rest.TheVariants.{Plain}
 use Rattle.go_tree.specs.declared.spans.Span.{Span}
 use Rattle.go_tree.specs.declared.tokens.Token.{Token}
@@ -20,10 +22,10 @@ use Rattle.go_read.specs.Goals.{read_operand}
 use Rattle.go_read.proofs.Texts.{reading, var, num, name, type, list, block}
 use Rattle.go_layout.specs.Layouts.{text_of}
 use Rattle.splice_laws.specs.Joints.{dots_apart, left_comments}
-use Rattle.splice_laws.specs.Swaps.{Swap, an_operand, a_type, a_stmt, a_deferred, TypeIn, this_type, inside_type, in_struct, in_field, in_later_fields, SigIn, in_named_params, in_results, in_unnamed, in_named, no_more_params, one_more_param, no_more_alike, in_named_rest, in_later_named, StmtsIn, this_deferred, this_operand, inside_operand, in_args, in_first_expr, in_eval, in_simple, inside_stmt, in_function, in_this_decl, in_later_decls, in_decls, FileIn, in_right}
+use Rattle.splice_laws.specs.Swaps.{Swap, an_operand, a_type, a_stmt, a_deferred, TypeIn, this_type, inside_type, in_struct, in_field, in_later_fields, SigIn, in_named_params, in_results, in_unnamed, in_named, no_more_params, one_more_param, no_more_alike, in_named_rest, in_later_named, StmtsIn, this_deferred, this_operand, inside_operand, in_args, in_first_expr, in_eval, in_simple, inside_stmt, in_function, in_this_decl, in_later_decls, in_decls, FileIn, in_right, ArmsIn, in_arm_test}
 use Rattle.splice_laws.specs.Dots.{UndottedExpr}
 use Rattle.splice_laws.specs.Forms.{new_layout}
-use Rattle.splice_laws.specs.Splice.{are_two, first_word, spliced_text}
+use Rattle.splice_laws.specs.Splice.{are_two, stays_apart, are_apart, first_word, spliced_text}
 use Rattle.splice_laws.proofs.Grafts.{U}
 
 abbrev S : Type 0
@@ -103,6 +105,16 @@ no_literal_in_header : reading (read_operand true) (codes "q == P { 1 }") ≡ No
 unfolding reading
 no_literal_in_header = refl
 
+-- and the place of a header takes no form that is written for a place outside of one
+
+abbrev outside : S
+outside = an_operand 1 false (call tt (var (codes "IsOne")) (list (var (codes "q") ∷ [])) Plain) (binary tt Eq (var (codes "q")) (composite tt (type (codes "P")) (elem tt no_value (plain (num (codes "1"))) no_elems)))
+
+header_kept : ArmsIn outside (arm tt no_stmt (call tt (var (codes "IsOne")) (list (var (codes "q") ∷ [])) Plain) tt (block []) no_arms)
+    (arm tt no_stmt (binary tt Eq (var (codes "q")) (composite tt (type (codes "P")) (elem tt no_value (plain (num (codes "1"))) no_elems))) tt (block []) no_arms) → ⊥
+header_kept (in_arm_test (this_operand e)) = cc
+header_kept (in_arm_test (inside_operand p)) = elim p [ ]
+
 -- ---- the joint
 
 abbrev negative : S
@@ -120,6 +132,16 @@ blank_row = refl
 one_sign : piece_of (codes "--b))") ≡ Some (token Operator, 2)
 unfolding piece_of lexeme_of longest_from next_of keyword_spellings is_letter is_digit general_category general_category_rows value_in
 one_sign = refl
+
+-- so the law asks for one there
+
+minus_chars : chars (codes "-") ≡ codes "-"
+unfolding lib.Utf8.encode
+minus_chars = chars-encodes (codes "-") refl
+
+blank_needed : are_apart (record { span = at 0 1; kind = Ident; spelling = codes "a" } ∷ record { span = at 1 2; kind = Operator; spelling = codes "-" } ∷ []) 2 (first_word (new_layout [] false false negative)) ≡ false
+unfolding stays_apart
+blank_needed = ap (λ (v : List ℕ). (are_two v (first_word (new_layout [] false false negative)) && true) && true) minus_chars ∙ ap (λ (b : Bool). (b && true) && true) two_signs
 
 under_minus : new_text [] false true (an_operand 6 false (var (codes "Ptr")) (unary tt Minus (num (codes "1")))) ≡ codes "(-1)"
 under_minus = refl

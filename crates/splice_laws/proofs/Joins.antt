@@ -279,7 +279,7 @@ remark_ends w c cs more others k next piece = remark_ends_any w c more others ne
 
 -- ---- the last part before a place
 
-later_tokens_apart : (xs ys : List Token) (at : ℕ) (next : List ℕ) → are_apart (xs ++ ys) at next ≡ true → are_apart ys at next ≡ true
+pub later_tokens_apart : (xs ys : List Token) (at : ℕ) (next : List ℕ) → are_apart (xs ++ ys) at next ≡ true → are_apart ys at next ≡ true
 later_tokens_apart [] ys at next h = h
 later_tokens_apart (x ∷ xs) ys at next h = later_tokens_apart xs ys at next (and_parts (stays_apart at next x) (are_apart (xs ++ ys) at next) h).1
 

@@ -42,7 +42,7 @@ use Rattle.splice_laws.proofs.Begins.{has_any, new_begins}
 use Rattle.splice_laws.proofs.Behinds.{behind_first}
 use Rattle.splice_laws.proofs.Joins.{earlier_tokens_apart, last_ends}
 
-rest_of : (w : Swap Span) (ts r : Lexemes) → SpellsOld span_to w ts r → RestOf w r
+pub rest_of : (w : Swap Span) (ts r : Lexemes) → SpellsOld span_to w ts r → RestOf w r
 rest_of (an_operand _ _ _ _) ts r d = tt
 rest_of (a_callee _ _ _) ts r d = d.3
 rest_of (a_type _ _) ts r d = tt
@@ -51,7 +51,7 @@ rest_of (a_stmt _ _) ts r d = tt
 rest_of (a_deferred _ _) ts r d = tt
 
 -- the first word of a layout, and its letters
-letters_begin : (ps : List Piece) (letters : List ℕ) → words_of ps ≡ letters → CutsTo letters ps [] → has_any ps ≡ true
+pub letters_begin : (ps : List Piece) (letters : List ℕ) → words_of ps ≡ letters → CutsTo letters ps [] → has_any ps ≡ true
     → (c : ℕ) × (cs : List ℕ) × (more : List ℕ) × (first_of ps ≡ c ∷ cs) × (letters ≡ c ∷ cs ++ more)
 letters_begin [] letters e cut q = absurd cc
 letters_begin (p ∷ ps) letters e cut q = by_word p.word refl cut.1.spelled
@@ -59,6 +59,31 @@ letters_begin (p ∷ ps) letters e cut q = by_word p.word refl cut.1.spelled
     by_word : (v : List ℕ) → p.word ≡ v → IsPiece p.kind v → (c : ℕ) × (cs : List ℕ) × (more : List ℕ) × (p.word ≡ c ∷ cs) × (letters ≡ c ∷ cs ++ more)
     by_word [] x y = absurd (never_empty p.kind y)
     by_word (c ∷ cs) x y = (c, cs, words_of ps, x, sym e ∙ ap (λ (v : List ℕ). v ++ words_of ps) x)
+
+-- ---- what stands behind
+
+pub no_dot : (tail : List ℕ) → begins_with_dot (encode_utf8_all tail) ≡ false → begins_with_dot tail ≡ false
+no_dot tail q = by_test (begins_with_dot tail) refl
+  where
+    by_test : (b : Bool) → begins_with_dot tail ≡ b → begins_with_dot tail ≡ false
+    by_test true e = clash (begins_with_dot (encode_utf8_all tail)) (dot_bytes tail e) q
+    by_test false e = e
+
+pub ends_well : (dotted : Bool) (tail : List ℕ) → no_word_first tail ≡ true → (dotted ≡ false → begins_with_dot tail ≡ false) → ends_ok dotted tail ≡ true
+ends_well dotted [] x y = refl
+ends_well dotted (c ∷ cs) x y = and_true (not (is_word c)) (dotted || not (c == 46)) x (by_dot dotted refl)
+  where
+    not_dot : (b : Bool) → b ≡ false → not b ≡ true
+    not_dot true e = absurd cc
+    not_dot false e = refl
+
+    by_dot : (b : Bool) → dotted ≡ b → b || not (c == 46) ≡ true
+    by_dot true e = refl
+    by_dot false e = not_dot (c == 46) (y e)
+
+pub all_on : (b : Bool) (c : ℕ) (cs more tail : List ℕ) → (lead b ++ (c ∷ cs ++ more)) ++ tail ≡ (lead b ++ c ∷ cs) ++ (more ++ tail)
+all_on true c cs more tail = ap (λ (v : List ℕ). 32 ∷ c ∷ v) (append_assoc cs more tail)
+all_on false c cs more tail = ap (λ (v : List ℕ). c ∷ v) (append_assoc cs more tail)
 
 form_put : (text : List ℕ) (tokens : List Token) (comments : List Comment) (f g : File Span) (w : Swap Span) (i : List ℕ) (dotted wrapped blank : Bool)
     → TokensOf text tokens comments → SpellsFile tokens f → dots_apart tokens ≡ true → FileIn w f g → AsksOld w → FormedNew dotted w → is_indent i ≡ true
@@ -83,8 +108,8 @@ form_put text tokens comments f g w i dotted wrapped blank t d apart p asks form
         let sc = parted_scalars text s.mark s.before s.inside s.behind s.tail s.parted in
         let bytes : encode_utf8_all s.tail ≡ drop (swap_mark w).end text = tail_is ∙ ap (λ (n : ℕ). drop n text) (sym end_is) in
         let follows : ends_node (lexemes here.behind) ≡ true = ap ends_node here.behind_is ∙ r.follows in
-        let word_off : no_word_first s.tail ≡ true = behind_first s.behind s.tail (swap_mark w).end _ s.cut_behind (subst (λ (ts : List Token). ends_node (lexemes ts) ≡ true) s.back_is follows) in
-        let off : ends_ok dotted s.tail ≡ true = ends_well s.tail word_off (λ q. no_dot s.tail (subst (λ (v : List ℕ). begins_with_dot v ≡ false) (sym bytes) (undotted q))) in
+        let word_off : no_word_first s.tail ≡ true = behind_first s.behind s.tail (swap_mark w).end _ s.parted.parts_behind (subst (λ (ts : List Token). ends_node (lexemes ts) ≡ true) s.back_is follows) in
+        let off : ends_ok dotted s.tail ≡ true = ends_well dotted s.tail word_off (λ q. no_dot s.tail (subst (λ (v : List ℕ). begins_with_dot v ≡ false) (sym bytes) (undotted q))) in
         let parts : PartsTo (words_of s.before ++ (words_of s.inside ++ s.tail)) (s.before ++ (record { kind = token s.first.0; word = s.first.1 } ∷ (s.first.2 ++ s.behind))) [] =
         subst (λ (ps : List Piece). PartsTo (words_of s.before ++ (words_of s.inside ++ s.tail)) (s.before ++ (ps ++ s.behind)) []) s.first.3 s.parted.parts in
         let ends = last_ends s.before s.first.0 s.first.1 (s.first.2 ++ s.behind) (words_of s.before ++ (words_of s.inside ++ s.tail)) (size_of s.mark) None blank x.0 x.1 (x.2 ++ s.tail) sc.0 parts
@@ -95,29 +120,6 @@ form_put text tokens comments f g w i dotted wrapped blank t d apart p asks form
         reads_as text tokens comments (bare_file g) w r.front r.rest r.new here a (λ ts has. new_reads w i dotted wrapped form ts r.rest (rest_of w (r.node ++ r.rest) r.rest r.old) has) (λ d2. new_ends w i dotted wrapped form d2)
         (λ d2. new_laid w i dotted wrapped form sp d2 s.tail off) (new_laid w i dotted wrapped form sp false [] refl) blank
         (subst (λ (v : List ℕ). LastEnds s.before v) (sym (all_on blank x.0 x.1 x.2 s.tail) ∙ ap (λ (v : List ℕ). (lead blank ++ v) ++ s.tail) (sym x.4)) ends)
-      where
-        no_dot : (tail : List ℕ) → begins_with_dot (encode_utf8_all tail) ≡ false → begins_with_dot tail ≡ false
-        no_dot tail q = by_test (begins_with_dot tail) refl
-          where
-            by_test : (b : Bool) → begins_with_dot tail ≡ b → begins_with_dot tail ≡ false
-            by_test true e = clash (begins_with_dot (encode_utf8_all tail)) (dot_bytes tail e) q
-            by_test false e = e
-
-        ends_well : (tail : List ℕ) → no_word_first tail ≡ true → (dotted ≡ false → begins_with_dot tail ≡ false) → ends_ok dotted tail ≡ true
-        ends_well [] x y = refl
-        ends_well (c ∷ cs) x y = and_true (not (is_word c)) (dotted || not (c == 46)) x (by_dot dotted refl)
-          where
-            not_dot : (b : Bool) → b ≡ false → not b ≡ true
-            not_dot true e = absurd cc
-            not_dot false e = refl
-
-            by_dot : (b : Bool) → dotted ≡ b → b || not (c == 46) ≡ true
-            by_dot true e = refl
-            by_dot false e = not_dot (c == 46) (y e)
-
-        all_on : (b : Bool) (c : ℕ) (cs more tail : List ℕ) → (lead b ++ (c ∷ cs ++ more)) ++ tail ≡ (lead b ++ c ∷ cs) ++ (more ++ tail)
-        all_on true c cs more tail = ap (λ (v : List ℕ). 32 ∷ c ∷ v) (append_assoc cs more tail)
-        all_on false c cs more tail = ap (λ (v : List ℕ). c ∷ v) (append_assoc cs more tail)
 
 pub forms_put : (text : List ℕ) (tokens : List Token) (comments : List Comment) (f g : File Span) (w : Swap Span) (indent : List ℕ) (dotted wrapped blank : Bool) → IsPut text tokens comments f g w indent dotted wrapped blank
     → ReadsWith (spliced_text text (swap_mark w) blank (new_layout indent dotted wrapped w)) (bare_file g) (left_comments (splice (swap_mark w) blank (new_layout indent dotted wrapped w)) comments)

@@ -6,11 +6,12 @@ use Rattle.std.proofs.lemmas.List.{append_assoc, append-nil}
 use Rattle.std.proofs.lemmas.Str.{encodes-append}
 use Rattle.go_tree.specs.declared.spans.Span.{Span}
 use Rattle.go_tree.specs.declared.tokens.Token.{Token}
+use Rattle.go_tree.specs.declared.tokens.TokenKind.{TokenKind}
 use Rattle.go_tree.specs.declared.tokens.Comment.{Comment}
 use Rattle.go_tree.specs.Tree.{Stmt, empty}
 use Rattle.go_tree.specs.File.{File}
 use Rattle.go_words.specs.Tokens.{TokensOf, size_of, ends_line, tokens_from, comments_from, pieces_size}
-use Rattle.go_words.specs.Tokens.Pieces.{blanks, Piece, CutsTo}
+use Rattle.go_words.specs.Tokens.Pieces.{blanks, Piece}
 use Rattle.go_words.specs.Terminals.{ends_statement, Terminal, lex, semicolon, terminal_of, lexemes}
 use Rattle.go_read.specs.SpellsTypes.{Lexemes}
 use Rattle.go_read.specs.Spells.{is_empty}
@@ -22,15 +23,14 @@ use Rattle.go_layout.specs.TreeLayout.{gives_semicolon}
 use Rattle.layout_laws.specs.LayoutTokens.{HasTokens}
 use Rattle.layout_laws.specs.LayoutPieces.{word_of, letters_of, pieces_of, due_of}
 use Rattle.layout_laws.specs.Laid.{Laid}
-use Rattle.layout_laws.proofs.LaidCuts.{cuts_to, bytes_of, scalars_of, is_due, after, no_comments}
+use Rattle.layout_laws.proofs.LaidCuts.{bytes_of, scalars_of, is_due, after, no_comments}
 use Rattle.text_edits.specs.Applied.{applied}
-use Rattle.splice_laws.specs.Joints.{words_of, LastEnds, begin_of, due_behind, left_comments, Spans, dots_apart}
+use Rattle.splice_laws.specs.Joints.{words_of, PartsTo, LastEnds, begin_of, due_behind, left_comments, Spans, dots_apart}
 use Rattle.splice_laws.specs.Swaps.{Swap, an_operand, a_callee, a_type, a_literal_type, a_stmt, a_deferred}
 use Rattle.splice_laws.specs.Fits.{swap_mark, SpellsOld, SpellsNew}
 use Rattle.splice_laws.specs.Ends.{begins_semicolon}
 use Rattle.splice_laws.specs.Forms.{AsksOld}
 use Rattle.splice_laws.specs.Splice.{lead, splice, ReadsWith}
-use Rattle.splice_laws.proofs.Parts.{in_parts}
 use Rattle.splice_laws.specs.Joints.{Fitting}
 use Rattle.splice_laws.proofs.Splices.{scalars_on}
 use Rattle.splice_laws.specs.Spots.{Spot}
@@ -103,9 +103,20 @@ pub span_of_node : (ls rest : Lexemes) (s : Span) (x : Terminal) → span_to ((l
 span_of_node [] rest s x = span_own [] rest (lex s x)
 span_of_node (l ∷ ls) rest s x = span_own (ls ++ lex s x ∷ []) rest l
 
-pub stands_where : (text : List ℕ) (tokens : List Token) (comments : List Comment) → TokensOf text tokens comments → dots_apart tokens ≡ true → (w : Swap Span) → AsksOld w → (front node rest : Lexemes) → lexemes tokens ≡ front ++ (node ++ rest)
-    → swap_mark w ≡ span_to (node ++ rest) rest → SpellsOld span_to w (node ++ rest) rest → Where text tokens comments w front rest
-stands_where text tokens comments t apart w q front node rest e m old =
+-- the tokens before a node, its own, and those behind it
+pub record Among (tokens : List Token) (w : Swap Span) (front rest : Lexemes) : Type 0 where
+  pub before : List Token
+  pub node : List Token
+  pub behind : List Token
+  pub last : Token
+  pub whole : tokens ≡ before ++ (node ++ behind)
+  pub spans : Spans node last (swap_mark w)
+  pub closes : ends_statement (terminal_of last.kind last.spelling) ≡ true
+  pub before_is : lexemes before ≡ front
+  pub behind_is : lexemes behind ≡ rest
+
+pub stands_among : (tokens : List Token) (w : Swap Span) → AsksOld w → (front node rest : Lexemes) → lexemes tokens ≡ front ++ (node ++ rest) → swap_mark w ≡ span_to (node ++ rest) rest → SpellsOld span_to w (node ++ rest) rest → Among tokens w front rest
+stands_among tokens w q front node rest e m old =
     let c = closed_front (old_closes span_to w (node ++ rest) rest q old) in
     let own : node ≡ c.0 ++ lex c.1 c.2 ∷ [] = one_front node (c.0 ++ lex c.1 c.2 ∷ []) rest (c.4 ∙ sym (append_assoc c.0 (lex c.1 c.2 ∷ []) rest)) in
     let one = cut_tokens tokens front (node ++ rest) e in
@@ -113,21 +124,35 @@ stands_where text tokens comments t apart w q front node rest e m old =
     let opens : begins_semicolon (c.0 ++ lex c.1 c.2 ∷ []) ≡ false = sym (begins_same c.0 rest c.1 c.2) ∙ ap (λ (us : Lexemes). begins_semicolon (us ++ rest)) (sym own) ∙ old_opens span_to w (node ++ rest) rest q old in
     let mine = own_tokens two.first c.0 c.1 c.2 (two.first_is ∙ own) c.3 opens in
     let span : own_span (c.0 ++ lex c.1 c.2 ∷ []) ≡ swap_mark w = sym (m ∙ ap (λ (us : Lexemes). span_to (us ++ rest) rest) own ∙ span_of_node c.0 rest c.1 c.2) in
-    let whole : tokens ≡ one.first ++ (two.first ++ two.second) = one.whole ∙ ap (λ (ts : List Token). one.first ++ ts) two.whole in
     record {
       before = one.first;
       node = two.first;
       behind = two.second;
       last = mine.last;
-      whole = whole;
-      spot = spot text tokens comments one.first two.first two.second mine.last (swap_mark w) t whole (subst (λ (s : Span). Spans two.first mine.last s) span mine.spans)
-          (earlier_apart one.first (two.first ++ two.second) (subst (λ (ts : List Token). dots_apart ts ≡ true) whole apart));
+      whole = one.whole ∙ ap (λ (ts : List Token). one.first ++ ts) two.whole;
+      spans = subst (λ (s : Span). Spans two.first mine.last s) span mine.spans;
       closes = mine.closes;
       before_is = one.first_is;
       behind_is = two.second_is;
     }
 
-lexemes_on : (xs ys : List Token) → lexemes (xs ++ ys) ≡ lexemes xs ++ lexemes ys
+pub stands_where : (text : List ℕ) (tokens : List Token) (comments : List Comment) → TokensOf text tokens comments → dots_apart tokens ≡ true → (w : Swap Span) → AsksOld w → (front node rest : Lexemes) → lexemes tokens ≡ front ++ (node ++ rest)
+    → swap_mark w ≡ span_to (node ++ rest) rest → SpellsOld span_to w (node ++ rest) rest → Where text tokens comments w front rest
+stands_where text tokens comments t apart w q front node rest e m old =
+    let x = stands_among tokens w q front node rest e m old in
+    record {
+      before = x.before;
+      node = x.node;
+      behind = x.behind;
+      last = x.last;
+      whole = x.whole;
+      spot = spot text tokens comments x.before x.node x.behind x.last (swap_mark w) t x.whole x.spans (earlier_apart x.before (x.node ++ x.behind) (subst (λ (ts : List Token). dots_apart ts ≡ true) x.whole apart));
+      closes = x.closes;
+      before_is = x.before_is;
+      behind_is = x.behind_is;
+    }
+
+pub lexemes_on : (xs ys : List Token) → lexemes (xs ++ ys) ≡ lexemes xs ++ lexemes ys
 lexemes_on [] ys = refl
 lexemes_on (x ∷ xs) ys = ap (λ (zs : Lexemes). lex x.span (terminal_of x.kind x.spelling) ∷ zs) (lexemes_on xs ys)
 
@@ -162,7 +187,7 @@ words_on gap ps = refl
 words_on (line ends i) ps = refl
 words_on (a ⊕ b) ps = words_on a (pieces_of b ps) ∙ ap (λ (x : List ℕ). letters_of a x) (words_on b ps)
 
-abbrev lead_pieces : Bool → List Piece
+abbrev pub lead_pieces : Bool → List Piece
 lead_pieces true = record { kind = blanks; word = 32 ∷ [] } ∷ []
 lead_pieces false = []
 
@@ -181,18 +206,27 @@ layout_comments : (a : Layout) (at : ℕ) → comments_from at (pieces_of a []) 
 unfolding comments_from
 layout_comments a at = (no_comments a at []).1
 
-due_start : (d : Option ℕ) → is_due d ≡ is_due d
-due_start d = refl
+-- before parts come those of the layout
+parts_to : (a : Layout) (d : Bool) (more : List ℕ) (ps : List Piece) (rest : List ℕ) → Laid a d more → PartsTo more ps rest → PartsTo (letters_of a more) (pieces_of a ps) rest
+parts_to no_text d more ps rest laid parts = parts
+parts_to (a_token k w) d more ps rest laid parts = (more, laid.next.parts, laid.next, parts)
+parts_to gap d more ps rest laid parts = (more, laid.parts, laid.spelled, parts)
+parts_to (line ends i) d more ps rest laid parts = (more, laid.1.next.parts, laid.1.next.spelled, parts)
+parts_to (a ⊕ b) d more ps rest laid parts = parts_to a d (letters_of b more) (pieces_of b ps) rest laid.0 (parts_to b (due_of a d) more ps rest laid.1 parts)
 
-module _ (text : List ℕ) (tokens : List Token) (comments : List Comment) (f : File U) (w : Swap Span) (front rest : Lexemes) (new : (others : Lexemes) → SpellsNew w others rest → SpellsFront nowhere f (front ++ others) [])
-    (here : Where text tokens comments w front rest) (a : Layout) (reads : (ts : Lexemes) → HasTokens a ts rest → SpellsNew w ts rest) (ends : (d : Bool) → due_of a d ≡ true)
-    (laid : (d : Bool) → Laid a d here.spot.tail) (laid_alone : Laid a false []) (blank : Bool) (joint : LastEnds here.spot.before ((lead blank ++ letters_of a []) ++ here.spot.tail)) where
-  fit : Fitting (lead blank ++ letters_of a []) (lead_pieces blank ++ pieces_of a []) here.spot.tail here.spot.behind (lead blank ++ text_of a)
-  fit = by_blank blank
+-- what is given from the place on
+pub record Given (a : Layout) (behind : List Piece) (ts : List Token) : Type 0 where
+  pub place : ℕ
+  pub then_due : Option ℕ
+  pub due_is : is_due then_due ≡ true
+  pub has : HasTokens a (lexemes ts) (lexemes (tokens_from place then_due behind))
+
+module _ (a : Layout) (tail : List ℕ) (behind : List Piece) (laid : (d : Bool) → Laid a d tail) (blank : Bool) where
+  pub fits : PartsTo tail behind [] → Laid a false [] → Fitting (lead blank ++ letters_of a []) (lead_pieces blank ++ pieces_of a []) tail behind (lead blank ++ text_of a)
+  fits parts laid_alone = by_blank blank
     where
-      cut : CutsTo (letters_of a [] ++ here.spot.tail) (pieces_of a [] ++ here.spot.behind) []
-      cut = subst (λ (xs : List ℕ). CutsTo xs (pieces_of a [] ++ here.spot.behind) []) (letters_on a here.spot.tail)
-          (subst (λ (ps : List Piece). CutsTo (letters_of a here.spot.tail) ps []) (pieces_on a here.spot.behind) (cuts_to a false here.spot.tail here.spot.behind [] (laid false) here.spot.cut_behind))
+      own : PartsTo (letters_of a [] ++ tail) (pieces_of a [] ++ behind) []
+      own = subst (λ (xs : List ℕ). PartsTo xs (pieces_of a [] ++ behind) []) (letters_on a tail) (subst (λ (ps : List Piece). PartsTo (letters_of a tail) ps []) (pieces_on a behind) (parts_to a false tail behind [] (laid false) parts))
 
       scalars : all_scalars (letters_of a []) ≡ true
       scalars = scalars_of a false [] laid_alone refl
@@ -200,14 +234,40 @@ module _ (text : List ℕ) (tokens : List Token) (comments : List Comment) (f : 
       encoded : encode_utf8_all (letters_of a []) ≡ text_of a
       encoded = bytes_of a false [] laid_alone ∙ append-nil (text_of a)
 
-      by_blank : (b : Bool) → Fitting (lead b ++ letters_of a []) (lead_pieces b ++ pieces_of a []) here.spot.tail here.spot.behind (lead b ++ text_of a)
+      by_blank : (b : Bool) → Fitting (lead b ++ letters_of a []) (lead_pieces b ++ pieces_of a []) tail behind (lead b ++ text_of a)
       by_blank true = record {
         scalars = scalars_on (32 ∷ []) (letters_of a []) refl scalars;
         encoded = encodes-append (32 ∷ []) (letters_of a []) ∙ blank_bytes (encode_utf8_all (letters_of a [])) ∙ ap (λ (x : List ℕ). 32 ∷ x) encoded;
         words = ap (λ (x : List ℕ). 32 ∷ x) (words_on a []);
-        parts = (letters_of a [] ++ here.spot.tail, refl, refl, in_parts (pieces_of a [] ++ here.spot.behind) (letters_of a [] ++ here.spot.tail) [] cut);
+        parts = (letters_of a [] ++ tail, refl, refl, own);
       }
-      by_blank false = record { scalars = scalars; encoded = encoded; words = words_on a []; parts = in_parts (pieces_of a [] ++ here.spot.behind) (letters_of a [] ++ here.spot.tail) [] cut }
+      by_blank false = record { scalars = scalars; encoded = encoded; words = words_on a []; parts = own }
+
+  given_layout : ((d : Bool) → due_of a d ≡ true) → (at : ℕ) (d : Option ℕ) → Given a behind (tokens_from at d (pieces_of a [] ++ behind))
+  given_layout ends at d =
+      let x = after a (is_due d) tail (laid (is_due d)) at d refl behind in
+      record { place = x.place; then_due = x.then_due; due_is = x.due_is ∙ ends (is_due d); has = subst (λ (ps : List Piece). HasTokens a (lexemes (tokens_from at d ps)) (lexemes (tokens_from x.place x.then_due behind))) (pieces_on a behind) x.has }
+
+  pub given_led : ((d : Bool) → due_of a d ≡ true) → (at : ℕ) (d : Option ℕ) → Given a behind (tokens_from at d ((lead_pieces blank ++ pieces_of a []) ++ behind))
+  given_led ends at d = by_blank blank
+    where
+      by_blank : (b : Bool) → Given a behind (tokens_from at d ((lead_pieces b ++ pieces_of a []) ++ behind))
+      by_blank true = subst (λ (ts : List Token). Given a behind ts) (sym (blank_step at d (pieces_of a [] ++ behind))) (given_layout ends (at + size_of (32 ∷ [])) d)
+      by_blank false = given_layout ends at d
+
+-- behind a token that closes a statement a semicolon is due
+pub closed_due : (k : TokenKind) (spelling word : List ℕ) (end : ℕ) (d : Option ℕ) → d ≡ cond (ends_line k word) (Some end) None → spelling ≡ encode_utf8_all word → ends_statement (terminal_of k spelling) ≡ true → is_due d ≡ true
+closed_due k spelling word end d e s closes = ap is_due e ∙ by_end (ends_line k word) (asks_ends k word (subst (λ (v : List ℕ). ends_statement (terminal_of k v) ≡ true) s closes))
+  where
+    by_end : (b : Bool) → b ≡ true → is_due (cond b (Some end) None) ≡ true
+    by_end true e = refl
+    by_end false e = absurd cc
+
+module _ (text : List ℕ) (tokens : List Token) (comments : List Comment) (f : File U) (w : Swap Span) (front rest : Lexemes) (new : (others : Lexemes) → SpellsNew w others rest → SpellsFront nowhere f (front ++ others) [])
+    (here : Where text tokens comments w front rest) (a : Layout) (reads : (ts : Lexemes) → HasTokens a ts rest → SpellsNew w ts rest) (ends : (d : Bool) → due_of a d ≡ true)
+    (laid : (d : Bool) → Laid a d here.spot.tail) (laid_alone : Laid a false []) (blank : Bool) (joint : LastEnds here.spot.before ((lead blank ++ letters_of a []) ++ here.spot.tail)) where
+  fit : Fitting (lead blank ++ letters_of a []) (lead_pieces blank ++ pieces_of a []) here.spot.tail here.spot.behind (lead blank ++ text_of a)
+  fit = fits a here.spot.tail here.spot.behind laid blank here.spot.parted.parts_behind laid_alone
 
   begin : ℕ
   begin = begin_of here.spot.mark here.spot.before
@@ -215,32 +275,9 @@ module _ (text : List ℕ) (tokens : List Token) (comments : List Comment) (f : 
   due : Option ℕ
   due = due_behind (size_of here.spot.mark) None here.spot.before
 
-  -- what is given from the place on
-  record Given (ts : List Token) : Type 0 where
-    place : ℕ
-    then_due : Option ℕ
-    due_is : is_due then_due ≡ true
-    has : HasTokens a (lexemes ts) (lexemes (tokens_from place then_due here.spot.behind))
-
-  given_at : (at : ℕ) (d : Option ℕ) → Given (tokens_from at d (pieces_of a [] ++ here.spot.behind))
-  given_at at d =
-      let x = after a (is_due d) here.spot.tail (laid (is_due d)) at d refl here.spot.behind in
-      record { place = x.place; then_due = x.then_due; due_is = x.due_is ∙ ends (is_due d); has = subst (λ (ps : List Piece). HasTokens a (lexemes (tokens_from at d ps)) (lexemes (tokens_from x.place x.then_due here.spot.behind))) (pieces_on a here.spot.behind) x.has }
-
-  given_led : (at : ℕ) (d : Option ℕ) → Given (tokens_from at d ((lead_pieces blank ++ pieces_of a []) ++ here.spot.behind))
-  given_led at d = by_blank blank
-    where
-      by_blank : (b : Bool) → Given (tokens_from at d ((lead_pieces b ++ pieces_of a []) ++ here.spot.behind))
-      by_blank true = subst (λ (ts : List Token). Given ts) (sym (blank_step at d (pieces_of a [] ++ here.spot.behind))) (given_at (at + size_of (32 ∷ [])) d)
-      by_blank false = given_at at d
-
   old_due : is_due (due_behind begin due here.spot.inside) ≡ true
   unfolding begin due
-  old_due = ap is_due here.spot.due_is ∙ by_end (ends_line here.last.kind here.spot.word) (asks_ends here.last.kind here.spot.word (subst (λ (s : List ℕ). ends_statement (terminal_of here.last.kind s) ≡ true) here.spot.word_is here.closes))
-    where
-      by_end : (b : Bool) → b ≡ true → is_due (cond b (Some (swap_mark w).end) None) ≡ true
-      by_end true e = refl
-      by_end false e = absurd cc
+  old_due = closed_due here.last.kind here.last.spelling here.spot.word (swap_mark w).end (due_behind begin due here.spot.inside) here.spot.due_is here.spot.word_is here.closes
 
   no_new_comments : comments_from begin (lead_pieces blank ++ pieces_of a []) ≡ []
   no_new_comments = by_blank blank
@@ -252,7 +289,7 @@ module _ (text : List ℕ) (tokens : List Token) (comments : List Comment) (f : 
   pub reads_as : ReadsWith (applied text (splice (swap_mark w) blank a ∷ [])) f (left_comments (splice (swap_mark w) blank a) comments)
   unfolding begin due
   reads_as =
-      let x = given_led begin due in
+      let x = given_led a here.spot.tail here.spot.behind laid blank ends begin due in
       let o = layout_front x.has in
       let placed = put text tokens comments here.before here.node here.behind here.last (swap_mark w) here.spot (lead blank ++ letters_of a []) (lead blank ++ text_of a) (lead_pieces blank ++ pieces_of a []) fit joint in
       let same : terminals rest ≡ terminals (lexemes (tokens_from x.place x.then_due here.spot.behind)) =

@@ -1,1 +1,2 @@
 pub mod TypedDots
+pub mod Unspread

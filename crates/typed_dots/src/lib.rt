@@ -4,4 +4,4 @@
 
 mod laws;
 
-pub use laws::well_typed_files_are_undotted;
+pub use laws::{files_without_spread_calls_are_undotted, well_typed_files_are_undotted};

@@ -1,9 +1,9 @@
-use Rattle.import_splices.proofs.Adds.{added_go, added_go_again}
+use Rattle.import_splices.proofs.Grown.{settled_go, settled_go_again}
 use Rattle.import_splices.proofs.laws.imports_are_settled.Goals as goal
 
 -- src/laws.rt
 pub returns-clause-reads : goal.returns-clause-reads
-returns-clause-reads c = added_go
+returns-clause-reads c = settled_go
 
 pub returns-clause-again : goal.returns-clause-again
-returns-clause-again c = added_go_again
+returns-clause-again c = settled_go_again

@@ -12,7 +12,7 @@ use Rattle.import_edit.specs.Order.{imports_of}
 use Rattle.import_edit.specs.Walks.{DeclsFit}
 use Rattle.import_edit.proofs.WalkLaws.{decls_fit}
 use Rattle.import_edit.proofs.SettleLaws.{grown_made, fronted_made, lasts_fit}
-use Rattle.import_edit.proofs.settle.settle_added.Goals as goal
+use Rattle.import_edit.proofs.settling.settle_added.Goals as goal
 
 pub adds_to_group-grows-requires : goal.adds_to_group-grows-requires
 adds_to_group-grows-requires c =

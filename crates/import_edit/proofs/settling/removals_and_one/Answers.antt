@@ -3,7 +3,7 @@ use Rattle.text_edits.specs.declared.edit.Edit.{Edit}
 use Rattle.text_edits.specs.Order.{InOrder}
 use Rattle.import_rules.specs.Settled.{removal}
 use Rattle.import_edit.proofs.SettleLaws.{order_front}
-use Rattle.import_edit.proofs.settle.removals_and_one.Goals as goal
+use Rattle.import_edit.proofs.settling.removals_and_one.Goals as goal
 
 pub push_removals-requires : goal.push_removals-requires
 push_removals-requires c =

@@ -18,8 +18,7 @@ use Rattle.splice_laws.proofs.Grafts.{Within, here, later}
 use Rattle.splice_laws.proofs.Pasts.{import_specs_past}
 use Rattle.import_rules.specs.Removed.{is_semicolon}
 use Rattle.import_rules.specs.Laid.{IsInked, StandInOrder, StartsAt, IsStart, SpecsLie, DeclLies, DeclsLie}
-use Rattle.run_rules.specs.Laws.{ImportsEndBy}
-use Rattle.run_laws.proofs.TokensStand.{Stand}
+use Rattle.import_places.proofs.TokensStand.{Stand}
 
 -- ---- terminals
 
@@ -113,6 +112,11 @@ in_order text from [] h = tt
 in_order text from (t ∷ ts) h = (h.0, h.1, h.2, (λ e. (h.3 (semicolon_is t.kind t.spelling e).1).0), in_order text t.span.end ts h.4)
 
 -- ---- where parts end
+
+-- where the last of import declarations ends, or an offset where there is none
+abbrev pub last_end : ℕ → List (ImportDecl Span) → ℕ
+last_end from [] = from
+last_end from (d ∷ ds) = last_end d.span.end ds
 
 -- the end of the last token before others, or an offset where there is none
 abbrev pub end_before : {r ts : Lexemes} → ℕ → Within r ts → ℕ
@@ -238,16 +242,14 @@ module _ (text : List ℕ) (all : List Token) where
         rest = back.4;
       })
 
+  -- import declarations lie from an offset on, and what stands behind the last one
   pub record ImportsLie (from : ℕ) (is : List (ImportDecl Span)) (r : Lexemes) : Type 0 where
-    pub last : ℕ
-    pub from_is : from ≤ last
     pub lie : DeclsLie text all from is
-    pub end_by : ImportsEndBy last is
-    pub rest : L last r
+    pub rest : L (last_end from is) r
 
   pub imports_lie : {is : List (ImportDecl Span)} {ts r : Lexemes} (from : ℕ) → SpellsImports span_to is ts r → L from ts → ImportsLie from is r
-  imports_lie from no_imports_rule h = record { last = from; from_is = omega arith; lie = tt; end_by = tt; rest = h }
+  imports_lie from no_imports_rule h = record { lie = tt; rest = h }
   imports_lie {r = r} from (more_imports_rule {c = c} {d = d} {ds = ds} {mid = mid} d1 d2) h =
       let x : ImportLies from d (lex c semicolon ∷ mid) = import_lies from d1 h in
       let y : ImportsLie d.span.end ds r = imports_lie d.span.end d2 (lie_lower d.span.end c.end mid (omega (arith, x.rest.0, x.rest.1)) x.rest.4) in
-      record { last = y.last; from_is = omega (arith, x.from_is, x.lies.0.0, y.from_is); lie = (x.from_is, x.lies, y.lie); end_by = (y.from_is, y.end_by); rest = y.rest }
+      record { lie = (x.from_is, x.lies, y.lie); rest = y.rest }

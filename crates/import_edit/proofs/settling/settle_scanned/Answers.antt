@@ -1,7 +1,7 @@
 use Rattle.std.proofs.Common.{◌∙◌}
 use Rattle.go_tree.specs.FileView.{file_of}
 use Rattle.import_edit.proofs.SettleLaws.{settled_same}
-use Rattle.import_edit.proofs.settle.settle_scanned.Goals as goal
+use Rattle.import_edit.proofs.settling.settle_scanned.Goals as goal
 
 pub returns : goal.returns
 returns c =

@@ -1,19 +1,23 @@
 //! The edits that settle a file's imports.
 
-ghost use Rattle.std.specs.Prelude.{◌≡◌, ◌≤◌, ◌<◌, ◌++◌, ◌∷◌, [], map, IfOk, length};
+ghost use Rattle.std.specs.Prelude.{◌≡◌, ◌≤◌, ◌<◌, ◌++◌, ◌∷◌, [], List, map, IfOk, length};
+ghost use Rattle.go_tree.specs.declared.tokens.Comment.{Comment};
+ghost use Rattle.go_tree.specs.declared.tokens.Token.{Token};
 ghost use Rattle.go_tree.specs.FileView.{file_of};
+ghost use Rattle.go_words.specs.Tokens.{TokensOf};
 ghost use Rattle.text_edits.specs.Order.{InOrder};
-ghost use Rattle.import_rules.specs.Laid.{Laid};
+ghost use Rattle.import_rules.specs.Laid.{CommentsAscend, Laid};
 ghost use Rattle.import_rules.specs.Settled.{removal, settled};
-ghost use Rattle.import_edit.specs.Cursors.{CommentsAscend};
+ghost use Rattle.import_places.specs.ReadFiles.{ReadsImportsOf};
 
 use crate::added::{adds_to_group, group_insertion, insertion_before, last_closing, push_removals};
 use crate::order::in_order;
 use crate::removed::{Source, removed_ranges};
 use crate::span_set::SpanSet;
+use go_scan::scan;
 use go_tree::{Comment, FileTree, MAX_FILE_BYTES, NoMemory, Span, Token};
 use import_rules::NewImport;
-use std::alloc::Global;
+use std::alloc::{AllocError, Global};
 use text_edits::{Edit, Edits};
 
 fn removals(alloc: Global, ranges: &[Span]) -> Result<Edits, NoMemory>
@@ -120,5 +124,35 @@ pub fn settle_scanned(
         unused: &unused,
     };
     let edits = settle_source(alloc, &source, file, added)?;
+    Ok(edits)
+}
+
+/// The same for a text that reads as a file with this package name and these imports, where their spans say: its tokens
+/// and comments are found first. Linear in the text.
+pub fn settle(
+    alloc: Global,
+    text: &[u8],
+    file: &FileTree,
+    added: &[NewImport],
+    unused: &[Span],
+) -> Result<Edits, NoMemory>
+    requires size { length text.now ≤ MAX_FILE_BYTES }
+    requires reads { ReadsImportsOf text.now (file_of file.now) }
+    ensures { IfOk result (λ es. (tokens : List Token) (comments : List Comment) → TokensOf text.now tokens comments
+        → es ≡ settled text.now tokens comments (file_of file.now) added.now unused.now) }
+{
+    let Ok(scanned) = scan(alloc, text) else {
+        // A text that reads has tokens, so what is refused is memory.
+        return Err(AllocError);
+    };
+    let edits = settle_scanned(
+        alloc,
+        text,
+        scanned.items(),
+        scanned.comments(),
+        file,
+        added,
+        unused,
+    )?;
     Ok(edits)
 }

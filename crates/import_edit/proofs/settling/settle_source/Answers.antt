@@ -10,7 +10,7 @@ use Rattle.import_edit.specs.Walks.{DeclsFit}
 use Rattle.import_edit.proofs.WalkLaws.{decls_fit}
 use Rattle.import_edit.proofs.SettleLaws.{none_made}
 use Rattle.std.proofs.lemmas.Bool.Decides.{nat_tests}
-use Rattle.import_edit.proofs.settle.settle_source.Goals as goal
+use Rattle.import_edit.proofs.settling.settle_source.Goals as goal
 
 pub removed_ranges-requires-clause-fit : goal.removed_ranges-requires-clause-fit
 removed_ranges-requires-clause-fit c =

@@ -1,0 +1,4 @@
+pub mod TokensStand
+pub mod ImportsStand
+pub mod CommentsStand
+pub mod FilesLaid
