@@ -21,9 +21,11 @@ module _ {S : Type 0} where
   abbrev pub UnspreadExpr : Expr S → Type 0
   UnspreadExpr e = ExprDots AnyExpr UnspreadRest e
 
+  -- of no call in the statement
   abbrev pub UnspreadStmt : Stmt S → Type 0
   UnspreadStmt x = StmtDots AnyExpr UnspreadRest x
 
+  -- of no call in the declarations
   abbrev pub UnspreadDecls : List (Decl S) → Type 0
   UnspreadDecls ds = DeclsDots AnyExpr UnspreadRest ds
 
