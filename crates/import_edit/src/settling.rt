@@ -114,7 +114,8 @@ pub fn settle_scanned(
     requires size { length text.now ≤ MAX_FILE_BYTES }
     requires laid { Laid text.now tokens.now (file_of file.now) }
     requires ascend { CommentsAscend 0 comments.now }
-    ensures { IfOk result (λ es. es ≡ settled text.now tokens.now comments.now (file_of file.now) added.now unused.now) }
+    ensures { IfOk result (λ es. es
+        ≡ settled text.now tokens.now comments.now (file_of file.now) added.now unused.now) }
 {
     let unused = SpanSet::of(alloc, unused)?;
     let source = Source {
