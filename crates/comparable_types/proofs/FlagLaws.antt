@@ -1,5 +1,5 @@
 -- Flags that are sound and closed say which types are comparable.
-use Rattle.std.specs.Prelude.{◌≡◌, refl, ℕ, zero, suc, ◌+◌, ◌<◌, nat_eq, Bool, true, false, ◌&&◌, List, [], ◌∷◌, map, ◌++◌, length, Option, Some, None, slice_get, slice_index_or, slice_set, replicate, ◌⊎◌, if◌then◌else◌}
+use Rattle.std.specs.Prelude.{◌≡◌, refl, ℕ, zero, suc, ◌+◌, ◌<◌, nat_eq, Bool, true, false, ◌&&◌, List, [], ◌∷◌, map, ◌++◌, length, Option, Some, None, slice_get, slice_index_or, slice_set, replicate, ◌⊎◌}
 use Rattle.std.specs.List.{list_all}
 use mathlib.Core.Path.{ap, ap₂, sym, subst, ◌∙◌}
 use borrow.Author.Tests.{eqb-true}
@@ -7,7 +7,7 @@ use Rattle.std.proofs.Common.{inl, inr, take, arith}
 use Rattle.std.specs.Cmp.{both_ways}
 use Rattle.go_types.specs.Types.{GoType, named_type}
 use Rattle.go_types.specs.Defined.{under, comparable_by, comparable_fields, comparable_within}
-use Rattle.go_types.specs.Table.{NodeField, TypeNode as Row, basic_node, named_node, pointer_node, slice_node, map_node, struct_node, tuple_node, untyped_node, nil_node, node_parts, AllBelow, none_above, below_and, IsTable}
+use Rattle.go_types.specs.Table.{NodeField, TypeNode as Row, basic_node, named_node, pointer_node, slice_node, map_node, struct_node, tuple_node, untyped_node, nil_node, node_parts, AllBelow, none_above, below_and}
 use Rattle.go_types.proofs.IdenticalLaws.{and_left, and_right}
 use Rattle.type_table.specs.declared.nodes.Field.{Field}
 use Rattle.type_table.specs.declared.nodes.TypeNode.{TypeNode}
@@ -15,10 +15,10 @@ use Rattle.type_table.specs.declared.nodes.TypeNode.TheVariants.{Struct}
 use Rattle.type_table.specs.Rows.{FieldsBelow, field_of, row_of}
 use Rattle.type_table.specs.TypesAt.{fields_by, type_by, type_at}
 use Rattle.type_table.proofs.TypesAtLaws.{type_at_row, get_within, got_within}
-use Rattle.type_relations.specs.Environment.{Environment, IsEnvironment, definition_in, under_by, defined_types, env_type}
+use Rattle.type_relations.specs.Environment.{Environment, IsEnvironment, under_by, defined_types, env_type}
 use Rattle.type_relations.proofs.UnderLaws.{is_named, named_option, undefined, under_at, under_within}
 use Rattle.comparable_types.specs.Comparable.{is_comparable, AreComparable}
-use Rattle.comparable_types.specs.Flags.{flag_at, under_number, row_by, row_option, under_flag, row_flag, IsSound, IsClosed, missing, Kept, Passed}
+use Rattle.comparable_types.specs.Flags.{flag_at, under_number, row_by, row_option, under_flag, row_flag, SoundFlags, ClosedFlags, missing, KeptFlags, PassedFlags}
 use Rattle.comparable_types.proofs.NamesEnd.{and_both, names_stay}
 
 -- ---- the rule of a row
@@ -132,7 +132,7 @@ module _ (e : Environment) (good : IsEnvironment e) where
     -- ---- a type whose flag follows from sound ones is comparable
 
     pub row_sound :
-        IsSound e flags → (t : ℕ) → row_flag e flags t ≡ true → is_comparable e t ≡ true
+        SoundFlags e flags → (t : ℕ) → row_flag e flags t ≡ true → is_comparable e t ≡ true
     row_sound sound t r = go (slice_get e.rows t) refl r
       where
         go : (o : Option Row) → slice_get e.rows t ≡ o → row_option (under_flag e flags) t o ≡ true → is_comparable e t ≡ true
@@ -162,7 +162,7 @@ module _ (e : Environment) (good : IsEnvironment e) where
         ∙ sym (ap (comparable_within (suc k) (defined_types e)) s) in
         least (under_number e t) (under_within e good t h) (u ∙ c)
 
-    module _ (closed : IsClosed e flags) (k : ℕ) (least : Least k) where
+    module _ (closed : ClosedFlags e flags) (k : ℕ) (least : Least k) where
       abbrev Names : GoType → Bool
       Names u = comparable_within k (defined_types e) (under (defined_types e) u)
 
@@ -200,13 +200,13 @@ module _ (e : Environment) (good : IsEnvironment e) where
       first zero t l h c = absurd (omega (arith, l))
       first (suc m) t l h c = by_before t (λ i j. first m i (omega (arith, j, l))) h c
 
-    pub least : IsClosed e flags → (k : ℕ) → Least k
+    pub least : ClosedFlags e flags → (k : ℕ) → Least k
     least closed zero t h c = absurd cc
     least closed (suc k) t h c = first closed k (least closed k) (suc t) t (omega arith) h c
 
     -- ---- so sound and closed flags are right
 
-    flag_is : IsSound e flags → IsClosed e flags → (t : ℕ) → t < length e.rows → flag_at flags t ≡ is_comparable e t
+    flag_is : SoundFlags e flags → ClosedFlags e flags → (t : ℕ) → t < length e.rows → flag_at flags t ≡ is_comparable e t
     flag_is sound closed t h = both_ways (flag_at flags t) (is_comparable e t) (sound t) (least closed (suc (length (defined_types e))) t h)
 
 -- an element that is there
@@ -219,8 +219,8 @@ pub some_flag : (flags : List Bool) (t : ℕ) {b : Bool} → t < length flags �
 some_flag flags t {b = b} h e = let s : Some (flag_at flags t) ≡ Some b = sym (got_flag flags t h) ∙ e in cc
 
 pub settled :
-    (e : Environment) → IsEnvironment e → (flags : List Bool) → length flags ≡ length e.rows → IsSound e flags →
-    IsClosed e flags → AreComparable e flags
+    (e : Environment) → IsEnvironment e → (flags : List Bool) → length flags ≡ length e.rows → SoundFlags e flags →
+    ClosedFlags e flags → AreComparable e flags
 settled e good flags l sound closed t h =
     got_flag flags t h ∙ ap Some (flag_is e good flags sound closed t (omega (arith, l, h)))
 
@@ -254,8 +254,8 @@ set_flag (b ∷ bs) (suc t) (suc i) e = go (set_flag bs t i e)
 
 -- a flag that is set for a comparable type is sound
 pub set_sound :
-    (e : Environment) (flags : List Bool) (t : ℕ) → IsSound e flags → is_comparable e t ≡ true →
-    IsSound e (slice_set flags t true)
+    (e : Environment) (flags : List Bool) (t : ℕ) → SoundFlags e flags → is_comparable e t ≡ true →
+    SoundFlags e (slice_set flags t true)
 set_sound e flags t sound c i f = go (set_flag flags t i f)
   where
     go : (i ≡ t) ⊎ (flag_at flags i ≡ true) → is_comparable e i ≡ true
@@ -270,10 +270,10 @@ false_flags (suc n) (suc t) = false_flags n t
 
 -- ---- what the loops keep
 
-pub kept_at_first : (e : Environment) (flags : List Bool) → Kept e flags flags
+pub kept_at_first : (e : Environment) (flags : List Bool) → KeptFlags e flags flags
 kept_at_first e flags = record { count = refl; sound = λ s. s }
 
-pub passed_none : (e : Environment) (flags : List Bool) → Passed e flags flags 0 false
+pub passed_none : (e : Environment) (flags : List Bool) → PassedFlags e flags flags 0 false
 passed_none e flags =
     record {
       kept = kept_at_first e flags;
@@ -282,11 +282,11 @@ passed_none e flags =
       closed = λ f t l. absurd (omega (arith, l));
     }
 
-module _ (e : Environment) (old flags new : List Bool) (t : ℕ) (before : Bool) (p : Passed e old flags t before) (count : length new ≡ length flags) (sound : IsSound e flags → IsSound e new) where
-  keeps_on : Kept e old new
+module _ (e : Environment) (old flags new : List Bool) (t : ℕ) (before : Bool) (p : PassedFlags e old flags t before) (count : length new ≡ length flags) (sound : SoundFlags e flags → SoundFlags e new) where
+  keeps_on : KeptFlags e old new
   keeps_on = record { count = count ∙ p.kept.count; sound = λ s. sound (p.kept.sound s) }
 
-  pub passed_set : missing new < missing flags → Passed e old new (t + 1) true
+  pub passed_set : missing new < missing flags → PassedFlags e old new (t + 1) true
   passed_set l =
       record {
         kept = keeps_on;
@@ -300,7 +300,7 @@ module _ (e : Environment) (old flags new : List Bool) (t : ℕ) (before : Bool)
       go false f = omega (arith, l, ap missing (p.same f))
 
   pub passed_same :
-      new ≡ flags → (row_flag e flags t ≡ true → flag_at flags t ≡ true) → Passed e old new (t + 1) before
+      new ≡ flags → (row_flag e flags t ≡ true → flag_at flags t ≡ true) → PassedFlags e old new (t + 1) before
   passed_same s c =
       record {
         kept = keeps_on;

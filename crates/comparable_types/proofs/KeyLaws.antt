@@ -1,5 +1,5 @@
 -- The flags of types whose maps have comparable key types follow from those of their parts.
-use Rattle.std.specs.Prelude.{◌≡◌, refl, ℕ, zero, suc, ◌+◌, ◌<◌, nat_eq, Bool, true, false, ◌&&◌, List, [], ◌∷◌, ◌++◌, map, length, Option, Some, None, slice_get}
+use Rattle.std.specs.Prelude.{◌≡◌, refl, ℕ, zero, suc, ◌+◌, ◌<◌, nat_eq, Bool, true, false, ◌&&◌, List, [], ◌∷◌, ◌++◌, map, length, Some, slice_get}
 use Rattle.std.specs.List.{list_all}
 use mathlib.Core.Path.{ap, ap₂, sym, subst, ◌∙◌}
 use borrow.Author.Tests.{eqb-true}
@@ -9,10 +9,10 @@ use Rattle.go_types.specs.Table.{NodeField, TypeNode as Row, basic_node, named_n
 use Rattle.type_table.specs.declared.nodes.Field.{Field}
 use Rattle.type_table.specs.declared.nodes.TypeNode.{TypeNode}
 use Rattle.type_table.specs.declared.nodes.TypeNode.TheVariants.{Struct}
-use Rattle.type_table.specs.Rows.{field_of, row_of}
+use Rattle.type_table.specs.Rows.{row_of}
 use Rattle.type_table.specs.TypesAt.{fields_by, type_by, type_at}
 use Rattle.type_table.proofs.TypesAtLaws.{type_at_row, get_within}
-use Rattle.type_relations.specs.Environment.{Environment, IsEnvironment, defined_types, env_type}
+use Rattle.type_relations.specs.Environment.{Environment, IsEnvironment, defined_types}
 use Rattle.comparable_types.specs.Comparable.{is_comparable, AreComparable}
 use Rattle.comparable_types.specs.Flags.{flag_at}
 use Rattle.comparable_types.specs.Keys.{is_keyed, AreKeyed, keys_by, keys_option}

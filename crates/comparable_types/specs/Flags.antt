@@ -1,5 +1,5 @@
--- How the flags of types follow from those of the types that they hold by value: a struct holds its fields, a named type
--- its underlying type (Go specification, Comparison operators; Underlying types).
+-- How the flags of types follow from those of the types that they hold by value: a struct holds its fields, a named
+-- type its underlying type (Go specification, Comparison operators; Underlying types).
 use Rattle.std.specs.Prelude.{◌≡◌, ℕ, suc, ◌<◌, Bool, true, false, List, [], ◌∷◌, length, Option, Some, None, slice_get, slice_index_or, if◌then◌else◌}
 use Rattle.std.specs.List.{list_all}
 use Rattle.go_types.specs.Table.{TypeNode, basic_node, named_node, pointer_node, slice_node, map_node, struct_node, tuple_node, untyped_node, nil_node}
@@ -41,12 +41,12 @@ module _ (e : Environment) (flags : List Bool) where
   row_flag t = row_option under_flag t (slice_get e.rows t)
 
   -- types with a flag are comparable
-  abbrev pub IsSound : Type 0
-  IsSound = (t : ℕ) → flag_at flags t ≡ true → is_comparable e t ≡ true
+  abbrev pub SoundFlags : Type 0
+  SoundFlags = (t : ℕ) → flag_at flags t ≡ true → is_comparable e t ≡ true
 
   -- no flag is missing by the others
-  abbrev pub IsClosed : Type 0
-  IsClosed = (t : ℕ) → t < length e.rows → row_flag t ≡ true → flag_at flags t ≡ true
+  abbrev pub ClosedFlags : Type 0
+  ClosedFlags = (t : ℕ) → t < length e.rows → row_flag t ≡ true → flag_at flags t ≡ true
 
 -- how many flags are false
 abbrev pub missing : List Bool → ℕ
@@ -54,13 +54,13 @@ missing [] = 0
 missing (b ∷ bs) = if b then missing bs else suc (missing bs)
 
 -- flags of as many types, which are sound where those before were
-pub record Kept (e : Environment) (old flags : List Bool) : Type 0 where
+pub record KeptFlags (e : Environment) (old flags : List Bool) : Type 0 where
   pub count : length flags ≡ length old
-  pub sound : IsSound e old → IsSound e flags
+  pub sound : SoundFlags e old → SoundFlags e flags
 
 -- after the first rows: nothing was set, and nothing is missing among them; or something was
-pub record Passed (e : Environment) (old flags : List Bool) (rows : ℕ) (changed : Bool) : Type 0 where
-  pub kept : Kept e old flags
+pub record PassedFlags (e : Environment) (old flags : List Bool) (rows : ℕ) (changed : Bool) : Type 0 where
+  pub kept : KeptFlags e old flags
   pub fewer : changed ≡ true → missing flags < missing old
   pub same : changed ≡ false → flags ≡ old
   pub closed : changed ≡ false → (t : ℕ) → t < rows → row_flag e old t ≡ true → flag_at old t ≡ true

@@ -6,7 +6,7 @@ ghost use Rattle.std.specs.List.{list_all};
 ghost use Rattle.type_table.specs.Rows.{FieldsBelow, field_of};
 ghost use Rattle.type_relations.specs.Environment.{IsEnvironment};
 ghost use Rattle.comparable_types.specs.Comparable.{AreComparable};
-ghost use Rattle.comparable_types.specs.Flags.{IsClosed, IsSound, flag_at, missing, row_flag, under_flag};
+ghost use Rattle.comparable_types.specs.Flags.{ClosedFlags, SoundFlags, flag_at, missing, row_flag, under_flag};
 
 use crate::order::set_in_order;
 use go_tree::NoMemory;
@@ -31,9 +31,9 @@ fn set_missing(env: &Env, flags: &mut [bool]) -> bool
     requires good { IsEnvironment env.now }
     requires count { length flags.old ≡ length env.now.rows }
     ensures count { length flags.new ≡ length flags.old }
-    ensures sound { IsSound env.now flags.old → IsSound env.now flags.new }
+    ensures sound { SoundFlags env.now flags.old → SoundFlags env.now flags.new }
     ensures fewer { result ≡ true → missing flags.new < missing flags.old }
-    ensures closed { result ≡ false → IsClosed env.now flags.new }
+    ensures closed { result ≡ false → ClosedFlags env.now flags.new }
 {
     let mut changed = false;
     for t in 0..flags.len() {
@@ -50,7 +50,7 @@ pub(crate) fn set_flag(env: &Env, flags: &mut [bool], t: usize) -> bool
     requires count { length flags.old ≡ length env.now.rows }
     requires within { t < length flags.old }
     ensures count { length flags.new ≡ length flags.old }
-    ensures sound { IsSound env.now flags.old → IsSound env.now flags.new }
+    ensures sound { SoundFlags env.now flags.old → SoundFlags env.now flags.new }
     ensures fewer { result ≡ true → missing flags.new < missing flags.old }
     ensures same { result ≡ false → flags.new ≡ flags.old }
     ensures closed { result ≡ false → row_flag env.now flags.old t ≡ true → flag_at flags.old t ≡ true }

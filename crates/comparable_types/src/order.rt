@@ -3,7 +3,7 @@
 
 ghost use Rattle.std.specs.Prelude.{◌≡◌, ◌<◌, length};
 ghost use Rattle.type_relations.specs.Environment.{IsEnvironment};
-ghost use Rattle.comparable_types.specs.Flags.{IsSound};
+ghost use Rattle.comparable_types.specs.Flags.{SoundFlags};
 
 use crate::flags::set_flag;
 use go_tree::NoMemory;
@@ -23,7 +23,7 @@ pub(crate) fn set_in_order(alloc: Global, env: &Env, flags: &mut [bool]) -> Resu
     requires good { IsEnvironment env.now }
     requires count { length flags.old ≡ length env.now.rows }
     ensures count { length flags.new ≡ length flags.old }
-    ensures sound { IsSound env.now flags.old → IsSound env.now flags.new }
+    ensures sound { SoundFlags env.now flags.old → SoundFlags env.now flags.new }
 {
     let mut seen = vec![in alloc; false; flags.len()]?;
     let mut steps = Vec::new(alloc);
@@ -35,11 +35,16 @@ pub(crate) fn set_in_order(alloc: Global, env: &Env, flags: &mut [bool]) -> Resu
 }
 
 /// Walks until no step is left.
-fn walk(env: &Env, flags: &mut [bool], seen: &mut [bool], steps: &mut Vec<Step>) -> Result<(), NoMemory>
+fn walk(
+    env: &Env,
+    flags: &mut [bool],
+    seen: &mut [bool],
+    steps: &mut Vec<Step>,
+) -> Result<(), NoMemory>
     requires good { IsEnvironment env.now }
     requires count { length flags.old ≡ length env.now.rows }
     ensures count { length flags.new ≡ length flags.old }
-    ensures sound { IsSound env.now flags.old → IsSound env.now flags.new }
+    ensures sound { SoundFlags env.now flags.old → SoundFlags env.now flags.new }
 {
     for _ in 0..u64::MAX {
         match steps.pop() {

@@ -1,5 +1,4 @@
-use Rattle.std.proofs.Common.{◌≡◌, Bool, true, false, ◌∙◌, sym, arith}
-use Rattle.comparable_types.specs.Flags.{row_flag}
+use Rattle.std.proofs.Common.{◌≡◌, true, ◌∙◌, sym, arith}
 use Rattle.comparable_types.proofs.FlagLaws.{row_sound, set_fewer, set_sound}
 use Rattle.comparable_types.proofs.flags.set_flag.Goals as goal
 

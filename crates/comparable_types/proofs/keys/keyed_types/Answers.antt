@@ -1,4 +1,4 @@
-use Rattle.std.proofs.Common.{◌≡◌, ◌<◌, ◌++◌, ◌∷◌, [], Bool, List, length, slice_get, ◌∙◌, ap, arith}
+use Rattle.std.proofs.Common.{◌<◌, Bool, List, length, slice_get, ◌∙◌, ap, arith}
 use Rattle.comparable_types.specs.Flags.{flag_at}
 use Rattle.comparable_types.specs.Keys.{keys_option}
 use Rattle.comparable_types.proofs.KeyLaws.{next_keyed, one_more_keyed, all_are_keyed}
