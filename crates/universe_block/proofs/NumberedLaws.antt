@@ -1,5 +1,5 @@
 -- What a predeclared name means stands at the place of its number.
-use Rattle.std.specs.Prelude.{◌≡◌, refl, ℕ, zero, suc, ◌+◌, Bool, true, false, not, ◌&&◌, List, [], ◌∷◌, ◌++◌, map, Option, Some, None, ◌⊎◌, slice_get, slice_index_or, length, nat_lt, bytes_eq, if◌then◌else◌}
+use Rattle.std.specs.Prelude.{◌≡◌, refl, ℕ, zero, suc, ◌+◌, Bool, true, false, not, List, [], ◌∷◌, ◌++◌, map, Option, Some, None, ◌⊎◌, slice_get, slice_index_or, length, nat_lt, bytes_eq, if◌then◌else◌}
 use Rattle.std.specs.List.{list_all}
 use mathlib.Core.Path.{ap, sym, ◌∙◌}
 use Rattle.std.proofs.Common.{inl, inr, arith}
@@ -8,8 +8,8 @@ use Rattle.go_types.proofs.IdenticalLaws.{and_left, and_right}
 use Rattle.go_types.specs.Entities as go
 use Rattle.go_types.specs.Entities.{universe}
 use Rattle.scope_names.specs.declared.names.Entity.{Entity}
-use Rattle.scope_names.specs.declared.names.Entity.TheVariants.{Local, Import, Package, Universe}
-use Rattle.scope_names.specs.Means.{Environment, means, is_blank, numbered, predeclared, binding}
+use Rattle.scope_names.specs.declared.names.Entity.TheVariants.{Universe}
+use Rattle.scope_names.specs.Means.{Environment, means, is_blank, numbered, predeclared}
 
 module _ {E : Type 0} (name : List ℕ) where
   abbrev names_of : Environment E → List (List ℕ)
