@@ -1,4 +1,5 @@
-//! Tests of the table of types, of the relations on types, and of which types are comparable.
+//! Tests of the table of types, of the relations on types, of which types are comparable, and of what
+//! predeclared names mean.
 #![tactic(auto)]
 
 #[cfg(test)]
@@ -7,3 +8,5 @@ mod comparison;
 mod declared;
 #[cfg(test)]
 mod relations;
+#[cfg(test)]
+mod universe;
