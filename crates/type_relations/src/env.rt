@@ -5,7 +5,7 @@ ghost use Rattle.std.specs.Prelude.{◌≡◌, ℕ, ◌<◌, [], length, Some, t
 ghost use Rattle.go_types.specs.Defined.{under};
 ghost use Rattle.type_table.specs.Rows.{PartsBelow, row_of};
 ghost use Rattle.type_table.specs.TypesAt.{type_by, type_at};
-ghost use Rattle.type_relations.specs.Environment.{MethodsWithin, definition_in, defined_types, env_type, has_methods};
+ghost use Rattle.type_relations.specs.Environment.{IsEnvironment, MethodsWithin, definition_in, defined_types, env_type, has_methods};
 ghost use Rattle.type_relations.specs.Environment.{is_defined, is_named_type};
 ghost use Rattle.type_relations.specs.Environment.{under_by, with_definition, with_methods, with_type};
 ghost use Rattle.type_relations.specs.Methods.{declared_method, seen_method, shown_method};
@@ -49,6 +49,14 @@ impl Env {
             unders: IndexMap::new(alloc),
             methods: IndexMap::new(alloc),
         }
+    }
+
+    /// How many types.
+    pub fn len(&self) -> usize
+        ensures count { result ≡ length self.now.rows }
+        ensures good { IsEnvironment self.now }
+    {
+        self.types.len()
     }
 
     /// Whether the number is that of a type in the table.

@@ -1,0 +1,3 @@
+pub mod NamesEnd
+pub mod FlagLaws
+pub mod KeyLaws

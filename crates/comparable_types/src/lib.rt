@@ -1,0 +1,10 @@
+//! Which types are comparable, and in which each map has a comparable key type (Go specification,
+//! Comparison operators; Map types).
+#![tactic(auto)]
+
+mod flags;
+mod keys;
+mod order;
+
+pub use flags::comparable_types;
+pub use keys::keyed_types;

@@ -1,0 +1,6 @@
+//! What each predeclared name means (Go specification, Predeclared identifiers).
+#![tactic(auto)]
+
+mod block;
+
+pub use block::{Builtin, PredeclaredEntity, predeclared};
