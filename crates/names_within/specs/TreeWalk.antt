@@ -129,7 +129,7 @@ abbrev mutual
   after_stmt (range_ r l x b bs) s =
       leave (nesting s)
       (after_block b.end bs
-      (declare_left l (after_expr x (hold_left (expr_span x).end l (after_left l (enter r.end s))))))
+      (begin_left (expr_span x).end l (after_expr x (after_left l (enter r.end s)))))
   after_stmt (switch w i x cs) s =
       leave (nesting s) (after_cases cs (after_expr_option x (after_stmt_option i (enter w.end s))))
   after_stmt (defer _ x) s = after_expr x s
@@ -162,15 +162,10 @@ abbrev mutual
   after_left (assigns xs) s = after_exprs xs s
   after_left (defines ns) s = bind_all ns s
 
-  pub hold_left : ℕ → RangeLeft Span → Walk → Walk
-  hold_left from nothing s = s
-  hold_left from (assigns _) s = s
-  hold_left from (defines ns) s = hold_all false from ns s
-
-  pub declare_left : RangeLeft Span → Walk → Walk
-  declare_left nothing s = s
-  declare_left (assigns _) s = s
-  declare_left (defines ns) s = declare_all ns s
+  pub begin_left : ℕ → RangeLeft Span → Walk → Walk
+  begin_left from nothing s = s
+  begin_left from (assigns _) s = s
+  begin_left from (defines ns) s = begin_all false from ns s
 
   -- each arm's statement stands in a block of its own, which ends with the whole
   pub after_arms : ℕ → Arms Span → Walk → Walk

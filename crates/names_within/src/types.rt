@@ -61,7 +61,7 @@ pub(crate) fn bind_all(names: &mut NameWalk, list: &NameAtList) -> Result<(), No
 }
 
 /// Names that are declared from here on.
-pub(crate) fn declare_all(names: &mut NameWalk, list: &NameAtList) -> Result<(), NoMemory>
+fn declare_all(names: &mut NameWalk, list: &NameAtList) -> Result<(), NoMemory>
     ensures { OnOk result (walk_of names.new ≡ declare_all (map name_at_of list.now) (walk_of names.old)) }
 {
     for name in list.items() {
@@ -72,7 +72,7 @@ pub(crate) fn declare_all(names: &mut NameWalk, list: &NameAtList) -> Result<(),
 }
 
 /// Names that hold from `from` on.
-pub(crate) fn hold_all(
+fn hold_all(
     names: &mut NameWalk,
     only_new: bool,
     from: u32,
