@@ -6,8 +6,8 @@ use Rattle.scope_names.specs.Scopes.{expr_span}
 use Rattle.scope_names.specs.FreeNames.{names_of, name_then, params_names, sig_names}
 use Rattle.scope_names.specs.Identifiers.{name_option}
 use Rattle.scope_names.specs.Binders.{expr_binders, exprs_binders, expr_option_binders, elems_binders, value_binders, value_option_binders, stmt_binders, stmts_binders, stmt_option_binders, block_option_binders, left_binders, arms_binders, cases_binders, specs_binders}
-use Rattle.names_within.specs.declared.walk.Wanted.TheVariants.{Binders}
-use Rattle.names_within.specs.Walk.{Walk, mention, bind, enter, nesting}
+use Rattle.name_walks.specs.declared.walk.Wanted.TheVariants.{Binders}
+use Rattle.name_walks.specs.Walk.{Walk, mention, bind, enter, nesting}
 use Rattle.names_within.specs.TreeWalk.{mention_option, bind_option, bind_all, begin_all, after_named, after_type, after_fields, after_type_option, after_params, after_sig, begin_sig, after_expr, after_exprs, after_expr_option, after_elems, after_value, after_value_option, after_stmt, after_stmts, after_block, after_stmt_option, after_post, after_block_option, after_left, begin_left, after_arms, after_cases, after_specs}
 use Rattle.names_within.proofs.Found.{Found, none, joined, quiet, further, left_at, mention-bin, used-bin, bind-bin}
 use Rattle.names_within.proofs.Kept.{kept, enter-still, begin_all-kept, begin_sig-kept, begin_left-kept}

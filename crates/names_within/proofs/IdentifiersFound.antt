@@ -5,8 +5,8 @@ use Rattle.go_tree.specs.Tree.{NameAt, TypeExpr, named, pointer, slice_type, map
 use Rattle.scope_names.specs.Scopes.{expr_span}
 use Rattle.scope_names.specs.FreeNames.{names_of}
 use Rattle.scope_names.specs.Identifiers.{name_option, type_identifiers, fields_identifiers, type_option_identifiers, params_identifiers, sig_identifiers, expr_identifiers, exprs_identifiers, expr_option_identifiers, elems_identifiers, value_identifiers, value_option_identifiers, stmt_identifiers, stmts_identifiers, stmt_option_identifiers, block_option_identifiers, left_identifiers, arms_identifiers, cases_identifiers, specs_identifiers}
-use Rattle.names_within.specs.declared.walk.Wanted.TheVariants.{Identifiers}
-use Rattle.names_within.specs.Walk.{Walk, mention, used, bind, enter, nesting}
+use Rattle.name_walks.specs.declared.walk.Wanted.TheVariants.{Identifiers}
+use Rattle.name_walks.specs.Walk.{Walk, mention, used, bind, enter, nesting}
 use Rattle.names_within.specs.TreeWalk.{mention_option, bind_option, bind_all, begin_all, after_named, after_type, after_fields, after_type_option, after_params, after_sig, begin_sig, after_expr, after_exprs, after_expr_option, after_elems, after_value, after_value_option, after_stmt, after_stmts, after_block, after_stmt_option, after_post, after_block_option, after_left, begin_left, after_arms, after_cases, after_specs}
 use Rattle.names_within.proofs.Found.{Found, none, joined, further, left_at, mention-ids, used-ids, bind-ids}
 use Rattle.names_within.proofs.Kept.{kept, enter-still, begin_all-kept, begin_sig-kept, begin_left-kept}

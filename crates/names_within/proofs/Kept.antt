@@ -4,9 +4,9 @@ use Rattle.go_tree.specs.declared.spans.Span.{Span}
 use Rattle.go_tree.specs.Tree.{NameAt, Param, Sig, RangeLeft, nothing, assigns, defines}
 use Rattle.go_tree.specs.File.{Receiver}
 use Rattle.scope_names.specs.Means.{is_blank}
-use Rattle.names_within.specs.declared.walk.Wanted.{Wanted}
-use Rattle.names_within.specs.declared.walk.Wanted.TheVariants.{Identifiers, Binders, Free, Scopes}
-use Rattle.names_within.specs.Walk.{Walk, declare_in, enter_in, hold_before, end_in, innermost, known_with, in_last, declare, enter, hold, learn}
+use Rattle.name_walks.specs.declared.walk.Wanted.{Wanted}
+use Rattle.name_walks.specs.declared.walk.Wanted.TheVariants.{Identifiers, Binders, Free, Scopes}
+use Rattle.name_walks.specs.Walk.{Walk, declare_in, enter_in, hold_before, end_in, innermost, known_with, in_last, declare, enter, hold, learn}
 use Rattle.names_within.specs.TreeWalk.{begin, begin_option, declare_all, hold_all, begin_all, begin_params, begin_sig, begin_left}
 use Rattle.names_within.specs.FileWalk.{begin_receiver}
 

@@ -16,10 +16,10 @@ use Rattle.go_tree.specs.FileView.{type_spec_of, func_of, decl_of}
 use Rattle.go_words.specs.Tokens.Pieces.{is_among}
 use Rattle.scope_names.specs.FreeNames.{names_of}
 use Rattle.scope_names.specs.Scopes.{Scope, not_blank, specs_declare, known_after, with_name, param_names, range_declares, sig_declares, scopes_of, expr_span, expr_scopes, exprs_scopes, expr_option_scopes, elems_scopes, value_scopes, value_option_scopes, stmt_scopes, stmts_scopes, stmt_option_scopes, block_option_scopes, left_scopes, arms_scopes, cases_scopes, specs_scopes, receiver_declares, func_declares, func_scopes, values_scopes, decl_scopes, decls_scopes}
-use Rattle.names_within.specs.LocalScopes.{scope_of}
-use Rattle.names_within.specs.declared.walk.Wanted.TheVariants.{Scopes}
-use Rattle.names_within.specs.declared.walk.OpenBlock.{OpenBlock}
-use Rattle.names_within.specs.Walk.{Walk, start, mention, declare, enter, nesting, leave}
+use Rattle.name_walks.specs.LocalScopes.{scope_of}
+use Rattle.name_walks.specs.declared.walk.Wanted.TheVariants.{Scopes}
+use Rattle.name_walks.specs.declared.walk.OpenBlock.{OpenBlock}
+use Rattle.name_walks.specs.Walk.{Walk, start, mention, declare, enter, nesting, leave}
 use Rattle.names_within.specs.TreeWalk.{mention_option, bind_option, bind_all, begin, begin_option, declare_all, hold_all, begin_all, begin_params, begin_sig, begin_left, after_named, after_type, after_fields, after_type_option, after_params, after_sig, after_expr, after_exprs, after_expr_option, after_elems, after_value, after_value_option, after_stmt, after_stmts, after_block, after_stmt_option, after_post, after_block_option, after_left, after_arms, after_cases, after_specs}
 use Rattle.names_within.specs.FileWalk.{after_type_specs, after_receiver, begin_receiver, after_header, after_body, after_func, after_decl, after_decls}
 use Rattle.names_within.proofs.Scoped.{Added, Inside, Moves, Ended, nothing_added, added_then, added_from, added_to, inside_from, moves_from, moves_then, stays, moves_on, knowing, ended, ended_then, ended_further, closed, entered, mention-sc, used-sc, bind-sc, declare-sc, held_nowhere, learned_nowhere, grouped, begin_names-sc, begin_new-sc, begin_each, begin_each-sc}
