@@ -11,7 +11,7 @@ use Rattle.scope_names.specs.declared.names.Entity.TheVariants.{Local}
 use Rattle.scope_names.specs.FreeNames.{names_of}
 use Rattle.scope_names.specs.Means.{is_blank, means}
 use Rattle.scope_names.specs.Identifiers as ids
-use Rattle.scope_names.specs.Scopes.{Scope, not_blank, new_names, with_name, param_names, sig_declares, receiver_declares, func_declares, scopes_of, known_after, expr_span, expr_scopes, exprs_scopes, expr_option_scopes, elems_scopes, value_scopes, value_option_scopes, stmt_scopes, stmts_scopes, stmt_option_scopes, block_option_scopes, left_scopes, arms_scopes, cases_scopes, specs_scopes, func_scopes, values_scopes, decl_scopes, decls_scopes, holds_at, locals_at}
+use Rattle.scope_names.specs.Scopes.{Scope, not_blank, new_names, with_name, param_names, range_declares, sig_declares, receiver_declares, func_declares, scopes_of, known_after, expr_span, expr_scopes, exprs_scopes, expr_option_scopes, elems_scopes, value_scopes, value_option_scopes, stmt_scopes, stmts_scopes, stmt_option_scopes, block_option_scopes, left_scopes, arms_scopes, cases_scopes, specs_scopes, func_scopes, values_scopes, decl_scopes, decls_scopes, holds_at, locals_at}
 use Rattle.import_rules.proofs.NeededMeans.{any_append, eq_turn}
 
 -- each name of the one list is one of the other
@@ -106,6 +106,11 @@ sig_held g =
     (left (names_of (param_names g.params)) (ids.params_identifiers g.params) (ids.params_identifiers g.results) (param_held g.params))
     (right (names_of (param_names g.results)) (ids.params_identifiers g.params) (ids.params_identifiers g.results) (param_held g.results))))
 
+range_held : (from to : ℕ) (l : RangeLeft Span) → HeldIn (scopes_of from to (range_declares l)) (ids.left_identifiers l)
+range_held from to nothing = nothing_held []
+range_held from to (assigns xs) = nothing_held (ids.exprs_identifiers xs)
+range_held from to (defines ns) = kept_held from to (λ n. not (is_blank n.name)) ns
+
 -- ---- expressions and statements
 
 mutual
@@ -162,7 +167,14 @@ mutual
   stmt_held known to (inner s b) = stmts_held [] s.end b
   stmt_held known to (if_ s arms last) = both (arms_scopes s.end arms) (block_option_scopes last) (ids.arms_identifiers arms) (ids.block_option_identifiers last) (arms_held s.end arms) (block_option_held last)
   stmt_held known to (for_ s i x p b ss) = both (((stmt_option_scopes s.end i) ++ (expr_option_scopes x)) ++ (stmt_option_scopes s.end p)) (stmts_scopes [] b.end ss) (((ids.stmt_option_identifiers i) ++ (ids.expr_option_identifiers x)) ++ (ids.stmt_option_identifiers p)) (ids.stmts_identifiers ss) (both ((stmt_option_scopes s.end i) ++ (expr_option_scopes x)) (stmt_option_scopes s.end p) ((ids.stmt_option_identifiers i) ++ (ids.expr_option_identifiers x)) (ids.stmt_option_identifiers p) (both (stmt_option_scopes s.end i) (expr_option_scopes x) (ids.stmt_option_identifiers i) (ids.expr_option_identifiers x) (stmt_option_held s.end i) (expr_option_held x)) (stmt_option_held s.end p)) (stmts_held [] b.end ss)
-  stmt_held known to (range_ s l x b ss) = both ((left_scopes (expr_span x).end s.end l) ++ (expr_scopes x)) (stmts_scopes [] b.end ss) ((ids.left_identifiers l) ++ (ids.expr_identifiers x)) (ids.stmts_identifiers ss) (both (left_scopes (expr_span x).end s.end l) (expr_scopes x) (ids.left_identifiers l) (ids.expr_identifiers x) (left_held (expr_span x).end s.end l) (expr_held x)) (stmts_held [] b.end ss)
+  stmt_held known to (range_ s l x b ss) =
+      let front = ids.left_identifiers l ++ ids.expr_identifiers x in
+      let own = scopes_of (expr_span x).end s.end (range_declares l) in
+      both (left_scopes l ++ expr_scopes x ++ own) (stmts_scopes [] b.end ss) front (ids.stmts_identifiers ss)
+      (join (left_scopes l ++ expr_scopes x) own front
+      (both (left_scopes l) (expr_scopes x) (ids.left_identifiers l) (ids.expr_identifiers x) (left_held l) (expr_held x))
+      (left (scope_names own) (ids.left_identifiers l) (ids.expr_identifiers x) (range_held (expr_span x).end s.end l)))
+      (stmts_held [] b.end ss)
   stmt_held known to (switch s i x cs) = both ((stmt_option_scopes s.end i) ++ (expr_option_scopes x)) (cases_scopes cs) ((ids.stmt_option_identifiers i) ++ (ids.expr_option_identifiers x)) (ids.cases_identifiers cs) (both (stmt_option_scopes s.end i) (expr_option_scopes x) (ids.stmt_option_identifiers i) (ids.expr_option_identifiers x) (stmt_option_held s.end i) (expr_option_held x)) (cases_held cs)
   stmt_held known to (defer s x) = expr_held x
   stmt_held known to (label s n st) = behind (scope_names (stmt_scopes known to st)) (ids.stmt_identifiers st) n.name (stmt_held known to st)
@@ -179,10 +191,10 @@ mutual
   block_option_held no_block = nothing_held []
   block_option_held (some_block s b) = stmts_held [] s.end b
 
-  left_held : (from to : ℕ) (l : RangeLeft Span) → HeldIn (left_scopes from to l) (ids.left_identifiers l)
-  left_held from to nothing = nothing_held []
-  left_held from to (assigns xs) = exprs_held xs
-  left_held from to (defines ns) = kept_held from to (λ n. not (is_blank n.name)) ns
+  left_held : (l : RangeLeft Span) → HeldIn (left_scopes l) (ids.left_identifiers l)
+  left_held nothing = nothing_held []
+  left_held (assigns xs) = exprs_held xs
+  left_held (defines ns) = nothing_held (names_of ns)
 
   arms_held : (to : ℕ) (arms : Arms Span) → HeldIn (arms_scopes to arms) (ids.arms_identifiers arms)
   arms_held to no_arms = nothing_held []

@@ -6,11 +6,11 @@ use Rattle.scope_names.specs.Scopes.{expr_span}
 use Rattle.scope_names.specs.FreeNames.{names_of, name_then, params_names, sig_names}
 use Rattle.scope_names.specs.Identifiers.{name_option}
 use Rattle.scope_names.specs.Binders.{expr_binders, exprs_binders, expr_option_binders, elems_binders, value_binders, value_option_binders, stmt_binders, stmts_binders, stmt_option_binders, block_option_binders, left_binders, arms_binders, cases_binders, specs_binders}
-use Rattle.names_within.specs.declared.walk.Wanted.TheVariants.{Binders}
-use Rattle.names_within.specs.Walk.{Walk, mention, bind, enter, nesting}
-use Rattle.names_within.specs.TreeWalk.{mention_option, bind_option, bind_all, begin_all, after_named, after_type, after_fields, after_type_option, after_params, after_sig, begin_sig, after_expr, after_exprs, after_expr_option, after_elems, after_value, after_value_option, after_stmt, after_stmts, after_block, after_stmt_option, after_post, after_block_option, after_left, hold_left, declare_left, after_arms, after_cases, after_specs}
+use Rattle.name_walks.specs.declared.walk.Wanted.TheVariants.{Binders}
+use Rattle.name_walks.specs.Walk.{Walk, mention, bind, enter, nesting}
+use Rattle.names_within.specs.TreeWalk.{mention_option, bind_option, bind_all, begin_all, after_named, after_type, after_fields, after_type_option, after_params, after_sig, begin_sig, after_expr, after_exprs, after_expr_option, after_elems, after_value, after_value_option, after_stmt, after_stmts, after_block, after_stmt_option, after_post, after_block_option, after_left, begin_left, after_arms, after_cases, after_specs}
 use Rattle.names_within.proofs.Found.{Found, none, joined, quiet, further, left_at, mention-bin, used-bin, bind-bin}
-use Rattle.names_within.proofs.Kept.{kept, enter-still, hold_left-still, begin_all-kept, begin_sig-kept, declare_left-kept}
+use Rattle.names_within.proofs.Kept.{kept, enter-still, begin_all-kept, begin_sig-kept, begin_left-kept}
 
 mention_option-bin : (n : Option (NameAt Span)) (s : Walk) → s.wanted ≡ Binders → mention_option n s ≡ s
 mention_option-bin None s e = refl
@@ -173,13 +173,11 @@ mutual
       let p0 = further (none s e) (kept (enter-still r.end s)) in
       let s1 : Walk = after_left l s0 in
       let p1 = joined p0 (left-bin l s0 p0.wanted) in
-      let s2 : Walk = hold_left (expr_span x).end l s1 in
-      let p2 = further p1 (kept (hold_left-still (expr_span x).end l s1)) in
-      let s3 : Walk = after_expr x s2 in
-      let p3 = joined p2 (expr-bin x s2 p2.wanted) in
-      let s4 : Walk = declare_left l s3 in
-      let p4 = further p3 (declare_left-kept l s3) in
-      left_at (nesting s) (joined p4 (block-bin b.end bs s4 p4.wanted))
+      let s2 : Walk = after_expr x s1 in
+      let p2 = joined p1 (expr-bin x s1 p1.wanted) in
+      let s3 : Walk = begin_left (expr_span x).end l s2 in
+      let p3 = further p2 (begin_left-kept (expr_span x).end l s2) in
+      left_at (nesting s) (joined p3 (block-bin b.end bs s3 p3.wanted))
   stmt-bin (switch w i x cs) s e =
       let s0 : Walk = enter w.end s in
       let p0 = further (none s e) (kept (enter-still w.end s)) in

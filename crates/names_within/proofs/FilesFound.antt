@@ -6,8 +6,8 @@ use Rattle.go_tree.specs.File.{ImportSpec, ImportDecl, TypeSpec, Receiver, Func,
 use Rattle.scope_names.specs.FreeNames.{free_expr, name_then}
 use Rattle.scope_names.specs.Identifiers.{name_option, import_specs_identifiers, imports_identifiers, type_specs_identifiers, receiver_identifiers, decl_identifiers, decls_identifiers, identifiers, stmts_identifiers}
 use Rattle.scope_names.specs.Binders.{receiver_names, func_binders, stmts_binders}
-use Rattle.names_within.specs.declared.walk.Wanted.TheVariants.{Identifiers, Binders, Free}
-use Rattle.names_within.specs.Walk.{Walk, start, mention, enter, nesting}
+use Rattle.name_walks.specs.declared.walk.Wanted.TheVariants.{Identifiers, Binders, Free}
+use Rattle.name_walks.specs.Walk.{Walk, start, mention, enter, nesting}
 use Rattle.names_within.specs.TreeWalk.{mention_option, bind_option, begin_sig, after_type, after_sig, after_expr}
 use Rattle.names_within.specs.FileWalk.{after_import_specs, after_imports, after_type_specs, after_receiver, begin_receiver, after_body, after_func, after_decl, after_decls, after_file}
 use Rattle.names_within.proofs.Found.{Found, none, joined, quiet, further, left_at, mention-ids, mention-bin}

@@ -1,9 +1,9 @@
 -- What a part of a walk adds to the names found, where all identifiers or all binders are wanted.
 use Rattle.std.proofs.Common.{◌≡◌, ℕ, List, [], ◌∷◌, ◌++◌, sym, ap, ◌∙◌, subst, append_assoc, append-nil}
-use Rattle.names_within.specs.declared.walk.Wanted.{Wanted}
-use Rattle.names_within.specs.declared.walk.Wanted.TheVariants.{Identifiers, Binders}
-use Rattle.names_within.specs.declared.walk.Nesting.{Nesting}
-use Rattle.names_within.specs.Walk.{Walk, finding, mention_in, use_in, bind_in, mention, used, bind, leave}
+use Rattle.name_walks.specs.declared.walk.Wanted.{Wanted}
+use Rattle.name_walks.specs.declared.walk.Wanted.TheVariants.{Identifiers, Binders}
+use Rattle.name_walks.specs.declared.walk.Nesting.{Nesting}
+use Rattle.name_walks.specs.Walk.{Walk, finding, mention_in, use_in, bind_in, mention, used, bind, leave}
 use Rattle.names_within.proofs.Kept.{Kept}
 
 pub record Found (w : Wanted) (s s' : Walk) (names : List (List ℕ)) : Type 0 where

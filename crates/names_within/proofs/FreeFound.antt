@@ -4,10 +4,10 @@ use Rattle.go_tree.specs.declared.spans.Span.{Span}
 use Rattle.go_tree.specs.Tree.{NameAt, TypeExpr, named, pointer, slice_type, map_type, struct_type, Fields, no_fields, field, Param, Sig, Expr, ident, int_lit, rune_lit, str_lit, composite, selector, index, slice, call, func_lit, type_operand, unary, binary, star, Exprs, no_exprs, expr_and, ExprOption, no_expr, some_expr, Elems, no_elems, elem, Value, plain, braced, ValueOption, no_value, some_value, Stmt, const_decl, var_decl, empty, eval, step, assign, define, return_, break_, continue_, inner, if_, for_, range_, switch, defer, label, Stmts, no_stmts, stmt_and, StmtOption, no_stmt, some_stmt, BlockOption, no_block, some_block, RangeLeft, nothing, assigns, defines, Arms, no_arms, arm, Cases, no_cases, case, ValueSpecs, no_specs, spec}
 use Rattle.scope_names.specs.Scopes.{expr_span}
 use Rattle.scope_names.specs.FreeNames.{unless_declared, names_of, sig_names, specs_names, declared, declared_option, arms_declared, defined, named_use, free_type, free_fields, free_type_option, free_params, free_expr, free_exprs, free_expr_option, free_elems, free_value, free_value_option, free_stmt, free_stmts, free_stmt_option, free_block_option, free_left, free_arms, free_cases, free_specs}
-use Rattle.names_within.specs.Walk.{Walk, mention, used, enter}
-use Rattle.names_within.specs.TreeWalk.{bind_option, bind_all, begin_all, after_named, after_type, after_fields, after_type_option, after_params, after_sig, begin_sig, after_expr, after_exprs, after_expr_option, after_elems, after_value, after_value_option, after_stmt, after_stmts, after_block, after_stmt_option, after_post, after_block_option, after_left, hold_left, declare_left, after_arms, after_cases, after_specs}
-use Rattle.names_within.proofs.Freed.{Here, Grown, Ends, Arrives, none, joined, then_declared, quiet, same_here, next, regrouped, left_at, mention-free, used-free, mention_option-free, bind_option-free, bind_all-free, begin_all-free, begin_sig-free, declare_left-free, then_still, still_here}
-use Rattle.names_within.proofs.Kept.{enter-still, hold_left-still}
+use Rattle.name_walks.specs.Walk.{Walk, mention, used, enter}
+use Rattle.names_within.specs.TreeWalk.{bind_option, bind_all, begin_all, after_named, after_type, after_fields, after_type_option, after_params, after_sig, begin_sig, after_expr, after_exprs, after_expr_option, after_elems, after_value, after_value_option, after_stmt, after_stmts, after_block, after_stmt_option, after_post, after_block_option, after_left, begin_left, after_arms, after_cases, after_specs}
+use Rattle.names_within.proofs.Freed.{Here, Grown, Ends, Arrives, none, joined, then_declared, quiet, same_here, next, regrouped, left_at, mention-free, used-free, mention_option-free, bind_option-free, bind_all-free, begin_all-free, begin_sig-free, begin_left-free, then_still, still_here}
+use Rattle.names_within.proofs.Kept.{enter-still}
 
 named-free : (p : Option (NameAt Span)) (n : NameAt Span) (s : Walk) (env : List (List ℕ)) → Here s env → Grown s (after_named p n s) [] (unless_declared env (named_use p n))
 named-free None n s env h = used-free n.name s env h
@@ -219,19 +219,16 @@ mutual
       let q1 = joined (then_still (none s) e0) (left-free l s0 env h0) in
       let s1 : Walk = after_left l s0 in
       let h1 = next h q1 in
-      let e2 = hold_left-still (expr_span x).end l s1 in
-      let s2 : Walk = hold_left (expr_span x).end l s1 in
-      let h2 = still_here e2 h1 in
-      let q3 = expr-free x s2 env h2 in
-      let s3 : Walk = after_expr x s2 in
-      let p3 = joined (then_still q1 e2) q3 in
+      let q2 = expr-free x s1 env h1 in
+      let s2 : Walk = after_expr x s1 in
+      let p2 = joined q1 q2 in
+      let h2 = next h1 q2 in
+      let q3 = begin_left-free (expr_span x).end l s2 env h2 in
+      let s3 : Walk = begin_left (expr_span x).end l s2 in
+      let p3 = then_declared p2 q3 in
       let h3 = next h2 q3 in
-      let q4 = declare_left-free l s3 env h3 in
-      let s4 : Walk = declare_left l s3 in
-      let p4 = then_declared p3 q4 in
-      let h4 = next h3 q4 in
-      let q5 = block-free b.end bs s4 (defined l ++ env) h4 in
-      left_at (joined p4 q5)
+      let q4 = block-free b.end bs s3 (defined l ++ env) h3 in
+      left_at (joined p3 q4)
   stmt-free (switch w i x cs) s env h =
       let e0 = enter-still w.end s in
       let s0 : Walk = enter w.end s in

@@ -6,9 +6,9 @@ use Rattle.go_tree.specs.declared.spans.Span.{Span}
 use Rattle.go_tree.specs.Tree.{NameAt, Param, Sig, RangeLeft, nothing, assigns, defines}
 use Rattle.go_words.specs.Tokens.Pieces.{is_among}
 use Rattle.scope_names.specs.FreeNames.{unless_declared, names_of, name_then, params_names, sig_names, defined}
-use Rattle.names_within.specs.declared.walk.Wanted.TheVariants.{Free}
-use Rattle.names_within.specs.Walk.{Walk, finding, mention_in, use_in, bind_in, declare_in, mention, used, bind, declare, hold, learn, nesting, leave}
-use Rattle.names_within.specs.TreeWalk.{mention_option, bind_option, begin, begin_option, bind_all, declare_all, begin_all, hold_all, begin_params, begin_sig, declare_left}
+use Rattle.name_walks.specs.declared.walk.Wanted.TheVariants.{Free}
+use Rattle.name_walks.specs.Walk.{Walk, finding, mention_in, use_in, bind_in, declare_in, mention, used, bind, declare, hold, learn, nesting, leave}
+use Rattle.names_within.specs.TreeWalk.{mention_option, bind_option, begin, begin_option, bind_all, declare_all, begin_all, hold_all, begin_params, begin_sig, begin_left}
 use Rattle.names_within.proofs.Kept.{Still, still_then, hold-still, learn-still, hold_all-still}
 
 -- the names of the environment are declared around
@@ -171,7 +171,7 @@ begin_sig-free from g s env h =
     let p1 = params_begun from g.params s h.free in
     joined p1 (params_begun from g.results (begin_params from g.params s) (p1.wanted ∙ h.free))
 
-pub declare_left-free : (l : RangeLeft Span) (s : Walk) (env : List (List ℕ)) → Here s env → Grown s (declare_left l s) (defined l) []
-declare_left-free nothing s env h = none s
-declare_left-free (assigns _) s env h = none s
-declare_left-free (defines ns) s env h = all_declared ns s h.free
+pub begin_left-free : (from : ℕ) (l : RangeLeft Span) (s : Walk) (env : List (List ℕ)) → Here s env → Grown s (begin_left from l s) (defined l) []
+begin_left-free from nothing s env h = none s
+begin_left-free from (assigns _) s env h = none s
+begin_left-free from (defines ns) s env h = begin_all-free false from ns s env h

@@ -5,11 +5,11 @@ use Rattle.go_tree.specs.Tree.{NameAt, TypeExpr, named, pointer, slice_type, map
 use Rattle.scope_names.specs.Scopes.{expr_span}
 use Rattle.scope_names.specs.FreeNames.{names_of}
 use Rattle.scope_names.specs.Identifiers.{name_option, type_identifiers, fields_identifiers, type_option_identifiers, params_identifiers, sig_identifiers, expr_identifiers, exprs_identifiers, expr_option_identifiers, elems_identifiers, value_identifiers, value_option_identifiers, stmt_identifiers, stmts_identifiers, stmt_option_identifiers, block_option_identifiers, left_identifiers, arms_identifiers, cases_identifiers, specs_identifiers}
-use Rattle.names_within.specs.declared.walk.Wanted.TheVariants.{Identifiers}
-use Rattle.names_within.specs.Walk.{Walk, mention, used, bind, enter, nesting}
-use Rattle.names_within.specs.TreeWalk.{mention_option, bind_option, bind_all, begin_all, after_named, after_type, after_fields, after_type_option, after_params, after_sig, begin_sig, after_expr, after_exprs, after_expr_option, after_elems, after_value, after_value_option, after_stmt, after_stmts, after_block, after_stmt_option, after_post, after_block_option, after_left, hold_left, declare_left, after_arms, after_cases, after_specs}
+use Rattle.name_walks.specs.declared.walk.Wanted.TheVariants.{Identifiers}
+use Rattle.name_walks.specs.Walk.{Walk, mention, used, bind, enter, nesting}
+use Rattle.names_within.specs.TreeWalk.{mention_option, bind_option, bind_all, begin_all, after_named, after_type, after_fields, after_type_option, after_params, after_sig, begin_sig, after_expr, after_exprs, after_expr_option, after_elems, after_value, after_value_option, after_stmt, after_stmts, after_block, after_stmt_option, after_post, after_block_option, after_left, begin_left, after_arms, after_cases, after_specs}
 use Rattle.names_within.proofs.Found.{Found, none, joined, further, left_at, mention-ids, used-ids, bind-ids}
-use Rattle.names_within.proofs.Kept.{kept, enter-still, hold_left-still, begin_all-kept, begin_sig-kept, declare_left-kept}
+use Rattle.names_within.proofs.Kept.{kept, enter-still, begin_all-kept, begin_sig-kept, begin_left-kept}
 
 pub mention_option-ids : (n : Option (NameAt Span)) (s : Walk) → s.wanted ≡ Identifiers → Found Identifiers s (mention_option n s) (name_option n)
 mention_option-ids None s e = none s e
@@ -178,13 +178,11 @@ mutual
       let p0 = further (none s e) (kept (enter-still r.end s)) in
       let s1 : Walk = after_left l s0 in
       let p1 = joined p0 (left-ids l s0 p0.wanted) in
-      let s2 : Walk = hold_left (expr_span x).end l s1 in
-      let p2 = further p1 (kept (hold_left-still (expr_span x).end l s1)) in
-      let s3 : Walk = after_expr x s2 in
-      let p3 = joined p2 (expr-ids x s2 p2.wanted) in
-      let s4 : Walk = declare_left l s3 in
-      let p4 = further p3 (declare_left-kept l s3) in
-      left_at (nesting s) (joined p4 (block-ids b.end bs s4 p4.wanted))
+      let s2 : Walk = after_expr x s1 in
+      let p2 = joined p1 (expr-ids x s1 p1.wanted) in
+      let s3 : Walk = begin_left (expr_span x).end l s2 in
+      let p3 = further p2 (begin_left-kept (expr_span x).end l s2) in
+      left_at (nesting s) (joined p3 (block-ids b.end bs s3 p3.wanted))
   stmt-ids (switch w i x cs) s e =
       let s0 : Walk = enter w.end s in
       let p0 = further (none s e) (kept (enter-still w.end s)) in

@@ -4,10 +4,10 @@ use Rattle.go_tree.specs.declared.spans.Span.{Span}
 use Rattle.go_tree.specs.Tree.{NameAt, Param, Sig, RangeLeft, nothing, assigns, defines}
 use Rattle.go_tree.specs.File.{Receiver}
 use Rattle.scope_names.specs.Means.{is_blank}
-use Rattle.names_within.specs.declared.walk.Wanted.{Wanted}
-use Rattle.names_within.specs.declared.walk.Wanted.TheVariants.{Identifiers, Binders, Free, Scopes}
-use Rattle.names_within.specs.Walk.{Walk, declare_in, enter_in, hold_before, end_in, innermost, known_with, in_last, declare, enter, hold, learn}
-use Rattle.names_within.specs.TreeWalk.{begin, begin_option, declare_all, hold_all, begin_all, begin_params, begin_sig, hold_left, declare_left}
+use Rattle.name_walks.specs.declared.walk.Wanted.{Wanted}
+use Rattle.name_walks.specs.declared.walk.Wanted.TheVariants.{Identifiers, Binders, Free, Scopes}
+use Rattle.name_walks.specs.Walk.{Walk, declare_in, enter_in, hold_before, end_in, innermost, known_with, in_last, declare, enter, hold, learn}
+use Rattle.names_within.specs.TreeWalk.{begin, begin_option, declare_all, hold_all, begin_all, begin_params, begin_sig, begin_left}
 use Rattle.names_within.specs.FileWalk.{begin_receiver}
 
 pub record Kept (s t : Walk) : Type 0 where
@@ -79,11 +79,6 @@ pub hold_all-still : (only_new : Bool) (from : ℕ) (ns : List (NameAt Span)) (s
 hold_all-still only_new from [] s = still s
 hold_all-still only_new from (n ∷ ns) s = still_then (hold-still only_new from n s) (hold_all-still only_new from ns (hold only_new from n s))
 
-pub hold_left-still : (from : ℕ) (l : RangeLeft Span) (s : Walk) → Still s (hold_left from l s)
-hold_left-still from nothing s = still s
-hold_left-still from (assigns _) s = still s
-hold_left-still from (defines ns) s = hold_all-still false from ns s
-
 declare_all-kept : (ns : List (NameAt Span)) (s : Walk) → Kept s (declare_all ns s)
 declare_all-kept [] s = same s
 declare_all-kept (n ∷ ns) s =
@@ -112,7 +107,7 @@ pub begin_receiver-kept : (from : ℕ) (r : Option (Receiver Span)) (s : Walk) �
 begin_receiver-kept from None s = same s
 begin_receiver-kept from (Some r) s = begin_option-kept from r.name s
 
-pub declare_left-kept : (l : RangeLeft Span) (s : Walk) → Kept s (declare_left l s)
-declare_left-kept nothing s = same s
-declare_left-kept (assigns _) s = same s
-declare_left-kept (defines ns) s = declare_all-kept ns s
+pub begin_left-kept : (from : ℕ) (l : RangeLeft Span) (s : Walk) → Kept s (begin_left from l s)
+begin_left-kept from nothing s = same s
+begin_left-kept from (assigns _) s = same s
+begin_left-kept from (defines ns) s = begin_all-kept false from ns s

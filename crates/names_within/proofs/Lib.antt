@@ -1,5 +1,4 @@
 pub mod ListWalks
-pub mod BlockLaws
 pub mod Kept
 pub mod Found
 pub mod IdentifiersFound
@@ -9,5 +8,4 @@ pub mod FreeFound
 pub mod FilesFound
 pub mod Scoped
 pub mod ScopesFound
-pub mod SetLaws
-pub mod FreshLaws
+pub mod NewNames

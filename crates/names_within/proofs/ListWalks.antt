@@ -4,7 +4,7 @@ use Rattle.std.proofs.Math.Seq.{drop-cons}
 use Rattle.std.proofs.lemmas.List.{drop_all}
 use Rattle.go_tree.specs.declared.spans.Span.{Span}
 use Rattle.go_tree.specs.Tree.{Stmts, no_stmts, stmt_and}
-use Rattle.names_within.specs.Walk.{Walk, enter, nesting, leave}
+use Rattle.name_walks.specs.Walk.{Walk, enter, nesting, leave}
 use Rattle.names_within.specs.TreeWalk.{after_stmts, after_block}
 
 pub block_left : (to : ℕ) (b : Stmts Span) (s : Walk) → leave (nesting s) (after_stmts b (enter to s)) ≡ after_block to b s

@@ -10,14 +10,14 @@ use Rattle.go_words.specs.Tokens.Pieces.{is_among}
 use Rattle.scope_names.specs.FreeNames.{names_of}
 use Rattle.scope_names.specs.Means.{is_blank}
 use Rattle.scope_names.specs.Scopes.{Scope, not_blank, new_names, scopes_of}
-use Rattle.names_within.specs.LocalScopes.{scope_of}
-use Rattle.names_within.specs.declared.walk.Wanted.{Wanted}
-use Rattle.names_within.specs.declared.walk.Wanted.TheVariants.{Scopes}
-use Rattle.names_within.specs.declared.walk.OpenBlock.{OpenBlock}
-use Rattle.names_within.specs.Walk.{Walk, mention_in, use_in, bind_in, declare_in, enter_in, opened, hold_before, end_in, innermost, known_with, in_last, mention, used, bind, declare, enter, hold, learn, nesting, leave}
+use Rattle.name_walks.specs.LocalScopes.{scope_of}
+use Rattle.name_walks.specs.declared.walk.Wanted.{Wanted}
+use Rattle.name_walks.specs.declared.walk.Wanted.TheVariants.{Scopes}
+use Rattle.name_walks.specs.declared.walk.OpenBlock.{OpenBlock}
+use Rattle.name_walks.specs.Walk.{Walk, mention_in, use_in, bind_in, declare_in, enter_in, opened, hold_before, end_in, innermost, known_with, in_last, mention, used, bind, declare, enter, hold, learn, nesting, leave}
 use Rattle.names_within.specs.TreeWalk.{begin, declare_all, hold_all, begin_all}
-use Rattle.names_within.proofs.BlockLaws.{last_changed}
-use Rattle.names_within.proofs.SetLaws.{among_with, same_name}
+use Rattle.name_walks.proofs.BlockLaws.{last_changed}
+use Rattle.name_walks.proofs.SetLaws.{among_with, same_name}
 
 -- outside of blocks, or after a block
 pub record Added (s s' : Walk) (more : List Scope) : Type 0 where

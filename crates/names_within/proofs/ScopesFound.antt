@@ -15,14 +15,14 @@ use Rattle.go_tree.specs.View.{const_specs_row, var_specs_row}
 use Rattle.go_tree.specs.FileView.{type_spec_of, func_of, decl_of}
 use Rattle.go_words.specs.Tokens.Pieces.{is_among}
 use Rattle.scope_names.specs.FreeNames.{names_of}
-use Rattle.scope_names.specs.Scopes.{Scope, not_blank, specs_declare, known_after, with_name, param_names, sig_declares, scopes_of, expr_span, expr_scopes, exprs_scopes, expr_option_scopes, elems_scopes, value_scopes, value_option_scopes, stmt_scopes, stmts_scopes, stmt_option_scopes, block_option_scopes, left_scopes, arms_scopes, cases_scopes, specs_scopes, receiver_declares, func_declares, func_scopes, values_scopes, decl_scopes, decls_scopes}
-use Rattle.names_within.specs.LocalScopes.{scope_of}
-use Rattle.names_within.specs.declared.walk.Wanted.TheVariants.{Scopes}
-use Rattle.names_within.specs.declared.walk.OpenBlock.{OpenBlock}
-use Rattle.names_within.specs.Walk.{Walk, start, mention, declare, enter, nesting, leave}
-use Rattle.names_within.specs.TreeWalk.{mention_option, bind_option, bind_all, begin, begin_option, declare_all, hold_all, begin_all, begin_params, begin_sig, hold_left, declare_left, after_named, after_type, after_fields, after_type_option, after_params, after_sig, after_expr, after_exprs, after_expr_option, after_elems, after_value, after_value_option, after_stmt, after_stmts, after_block, after_stmt_option, after_post, after_block_option, after_left, after_arms, after_cases, after_specs}
+use Rattle.scope_names.specs.Scopes.{Scope, not_blank, specs_declare, known_after, with_name, param_names, range_declares, sig_declares, scopes_of, expr_span, expr_scopes, exprs_scopes, expr_option_scopes, elems_scopes, value_scopes, value_option_scopes, stmt_scopes, stmts_scopes, stmt_option_scopes, block_option_scopes, left_scopes, arms_scopes, cases_scopes, specs_scopes, receiver_declares, func_declares, func_scopes, values_scopes, decl_scopes, decls_scopes}
+use Rattle.name_walks.specs.LocalScopes.{scope_of}
+use Rattle.name_walks.specs.declared.walk.Wanted.TheVariants.{Scopes}
+use Rattle.name_walks.specs.declared.walk.OpenBlock.{OpenBlock}
+use Rattle.name_walks.specs.Walk.{Walk, start, mention, declare, enter, nesting, leave}
+use Rattle.names_within.specs.TreeWalk.{mention_option, bind_option, bind_all, begin, begin_option, declare_all, hold_all, begin_all, begin_params, begin_sig, begin_left, after_named, after_type, after_fields, after_type_option, after_params, after_sig, after_expr, after_exprs, after_expr_option, after_elems, after_value, after_value_option, after_stmt, after_stmts, after_block, after_stmt_option, after_post, after_block_option, after_left, after_arms, after_cases, after_specs}
 use Rattle.names_within.specs.FileWalk.{after_type_specs, after_receiver, begin_receiver, after_header, after_body, after_func, after_decl, after_decls}
-use Rattle.names_within.proofs.Scoped.{Added, Inside, Moves, Ended, nothing_added, added_then, added_from, added_to, inside_from, moves_from, moves_then, stays, moves_on, knowing, ended, ended_then, ended_further, closed, entered, mention-sc, used-sc, bind-sc, declare-sc, held_nowhere, learned_nowhere, grouped, declare_all-sc, hold_names-sc, begin_names-sc, begin_new-sc, begin_each, begin_each-sc}
+use Rattle.names_within.proofs.Scoped.{Added, Inside, Moves, Ended, nothing_added, added_then, added_from, added_to, inside_from, moves_from, moves_then, stays, moves_on, knowing, ended, ended_then, ended_further, closed, entered, mention-sc, used-sc, bind-sc, declare-sc, held_nowhere, learned_nowhere, grouped, begin_names-sc, begin_new-sc, begin_each, begin_each-sc}
 
 -- ---- parts that open no scope
 
@@ -98,15 +98,11 @@ begin_option-sc {outer = outer} {to = to} known from n s h =
 
 -- ---- a range clause
 
-abbrev left_known : RangeLeft Span → List (List ℕ)
-left_known nothing = []
-left_known (assigns _) = []
-left_known (defines ns) = names_of (not_blank ns)
-
-declare_left-sc : {outer : List OpenBlock} {to : ℕ} (l : RangeLeft Span) (s : Walk) → Inside outer to [] s → Moves outer to (left_known l ++ []) s (declare_left l s) []
-declare_left-sc nothing s h = stays h (nothing_added s h.wanted)
-declare_left-sc (assigns _) s h = stays h (nothing_added s h.wanted)
-declare_left-sc (defines ns) s h = declare_all-sc [] ns s h
+begin_left-sc : {outer : List OpenBlock} {to : ℕ} (from : ℕ) (l : RangeLeft Span) (s : Walk) → Inside outer to [] s
+    → Moves outer to (names_of (range_declares l) ++ []) s (begin_left from l s) (scopes_of from to (range_declares l))
+begin_left-sc from nothing s h = stays h (nothing_added s h.wanted)
+begin_left-sc from (assigns _) s h = stays h (nothing_added s h.wanted)
+begin_left-sc from (defines ns) s h = begin_names-sc [] from ns s h
 
 spec_names : (ns : List (NameAt Span)) (ss : ValueSpecs Span) (known : List (List ℕ)) (q : List ℕ)
     → is_among (names_of (specs_declare ss) ++ (names_of (not_blank ns) ++ known)) q ≡ is_among (names_of (not_blank ns ++ specs_declare ss) ++ known) q
@@ -223,12 +219,12 @@ mutual
       let p3 = ended_then p2 (post-sc f.end p s2 p2.wanted) in
       stays h (closed (ended_then p3 (block-sc b.end bs (after_post f.end p s2) p3.wanted)))
   stmt-sc (range_ r l x b bs) s outer to known h =
-      let p1 = left-sc r.end (expr_span x).end l s h.wanted in
-      let s1 : Walk = hold_left (expr_span x).end l (after_left l (enter r.end s)) in
+      let p1 = left-sc r.end l s h.wanted in
+      let s1 : Walk = after_left l (enter r.end s) in
       let p2 = moves_on p1 (expr-sc x s1 p1.here.wanted) in
       let s2 : Walk = after_expr x s1 in
-      let p3 = subst (Moves s.blocks r.end (left_known l ++ []) s (declare_left l s2)) (append-nil (left_scopes (expr_span x).end r.end l ++ expr_scopes x)) (moves_then p2 (declare_left-sc l s2 p2.here)) in
-      stays h (closed (ended_then (ended p3) (block-sc b.end bs (declare_left l s2) p3.here.wanted)))
+      let p3 = moves_then p2 (begin_left-sc (expr_span x).end l s2 p2.here) in
+      stays h (closed (ended_then (ended p3) (block-sc b.end bs (begin_left (expr_span x).end l s2) p3.here.wanted)))
   stmt-sc (switch w i x cs) s outer to known h =
       let p1 = first-sc w.end i s h.wanted in
       let s1 : Walk = after_stmt_option i (enter w.end s) in
@@ -272,16 +268,17 @@ mutual
   block_option-sc no_block s e = nothing_added s e
   block_option-sc (some_block b bs) s e = block-sc b.end bs s e
 
-  pub left-sc : (to from : ℕ) (l : RangeLeft Span) (s : Walk) → s.wanted ≡ Scopes → Moves s.blocks to [] s (hold_left from l (after_left l (enter to s))) (left_scopes from to l)
-  left-sc to from nothing s e = entered to s e
-  left-sc to from (assigns xs) s e =
+  pub left-sc : (to : ℕ) (l : RangeLeft Span) (s : Walk) → s.wanted ≡ Scopes → Moves s.blocks to [] s (after_left l (enter to s)) (left_scopes l)
+  left-sc to nothing s e = entered to s e
+  left-sc to (assigns xs) s e =
       let p0 = entered to s e in
       moves_on p0 (exprs-sc xs (enter to s) p0.here.wanted)
-  left-sc to from (defines ns) s e =
+  left-sc to (defines ns) s e =
       let p0 = entered to s e in
       let s0 : Walk = enter to s in
       let e1 = bind_all-sc ns s0 p0.here.wanted in
-      moves_then p0 (moves_from e1 (hold_names-sc [] from ns (bind_all ns s0) (inside_from e1 p0.here)))
+      let h1 = inside_from e1 p0.here in
+      moves_then p0 (moves_from e1 (stays h1 (nothing_added (bind_all ns s0) h1.wanted)))
 
   pub arms-sc : (to : ℕ) (x : Arms Span) (s : Walk) → s.wanted ≡ Scopes → Ended s.blocks s (after_arms to x s) (arms_scopes to x)
   arms-sc to no_arms s e = record { wanted = e; open_blocks = []; blocks = sym (append-nil s.blocks); scopes = (nothing_added s e).scopes }

@@ -4,7 +4,7 @@ use Rattle.std.specs.Prelude.{ℕ, Bool, true, false, List, [], ◌∷◌, Optio
 use Rattle.go_tree.specs.declared.spans.Span.{Span}
 use Rattle.go_tree.specs.Tree.{NameAt, TypeExpr, named, pointer, slice_type, map_type, struct_type, Fields, no_fields, field, Param, Sig, Expr, ident, int_lit, rune_lit, str_lit, composite, selector, index, slice, call, func_lit, type_operand, unary, binary, star, Exprs, no_exprs, expr_and, ExprOption, no_expr, some_expr, Elems, no_elems, elem, Value, plain, braced, ValueOption, no_value, some_value, Stmt, const_decl, var_decl, empty, eval, step, assign, define, return_, break_, continue_, inner, if_, for_, range_, switch, defer, label, Stmts, no_stmts, stmt_and, StmtOption, no_stmt, some_stmt, BlockOption, no_block, some_block, RangeLeft, nothing, assigns, defines, Arms, no_arms, arm, Cases, no_cases, case, ValueSpecs, no_specs, spec}
 use Rattle.scope_names.specs.Scopes.{expr_span}
-use Rattle.names_within.specs.Walk.{Walk, mention, used, bind, declare, enter, hold, learn, nesting, leave}
+use Rattle.name_walks.specs.Walk.{Walk, mention, used, bind, declare, enter, hold, learn, nesting, leave}
 
 -- a name that is mentioned, if it is there
 abbrev pub mention_option : Option (NameAt Span) → Walk → Walk
@@ -150,7 +150,7 @@ abbrev mutual
   after_stmt (range_ r l x b bs) s =
       leave (nesting s)
       (after_block b.end bs
-      (declare_left l (after_expr x (hold_left (expr_span x).end l (after_left l (enter r.end s))))))
+      (begin_left (expr_span x).end l (after_expr x (after_left l (enter r.end s)))))
   after_stmt (switch w i x cs) s =
       leave (nesting s) (after_cases cs (after_expr_option x (after_stmt_option i (enter w.end s))))
   after_stmt (defer _ x) s = after_expr x s
@@ -187,17 +187,11 @@ abbrev mutual
   after_left (assigns xs) s = after_exprs xs s
   after_left (defines ns) s = bind_all ns s
 
-  -- the variables of a range clause, which hold from here to the end of the statement
-  pub hold_left : ℕ → RangeLeft Span → Walk → Walk
-  hold_left from nothing s = s
-  hold_left from (assigns _) s = s
-  hold_left from (defines ns) s = hold_all false from ns s
-
-  -- the variables of a range clause, whose scopes begin here
-  pub declare_left : RangeLeft Span → Walk → Walk
-  declare_left nothing s = s
-  declare_left (assigns _) s = s
-  declare_left (defines ns) s = declare_all ns s
+  -- the variables of a range clause, whose scopes begin at an offset
+  pub begin_left : ℕ → RangeLeft Span → Walk → Walk
+  begin_left from nothing s = s
+  begin_left from (assigns _) s = s
+  begin_left from (defines ns) s = begin_all false from ns s
 
   -- each arm's statement stands in a block of its own, which ends with the whole
   pub after_arms : ℕ → Arms Span → Walk → Walk

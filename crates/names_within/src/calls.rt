@@ -6,14 +6,13 @@ ghost use Rattle.go_tree.specs.FileView.{file_of, func_of};
 ghost use Rattle.scope_names.specs.Binders.{func_binders};
 ghost use Rattle.scope_names.specs.FreeNames.{free_expr};
 ghost use Rattle.scope_names.specs.Scopes.{decls_scopes};
-ghost use Rattle.names_within.specs.EachOnce.{each_once};
-ghost use Rattle.names_within.specs.LocalScopes.{scope_of};
+ghost use Rattle.name_walks.specs.EachOnce.{each_once};
+ghost use Rattle.name_walks.specs.LocalScopes.{scope_of};
 
 use crate::exprs::expr_names;
 use crate::files::{decls_names, func_names};
-use crate::sets::each_once;
-use crate::walk::{LocalScope, NameWalk, Wanted};
 use go_tree::{Expr, FileTree, FuncDecl, NoMemory};
+use name_walks::{LocalScope, NameWalk, Wanted, each_once};
 use scope_names::NameList;
 use std::alloc::Global;
 

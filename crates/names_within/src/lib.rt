@@ -5,12 +5,8 @@ mod calls;
 mod exprs;
 mod files;
 mod new_names;
-mod sets;
 mod stmts;
 mod types;
-mod walk;
 
 pub use calls::{binders, free_names, local_scopes};
 pub use new_names::fresh;
-pub use sets::NameSet;
-pub use walk::LocalScope;

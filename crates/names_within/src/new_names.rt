@@ -2,71 +2,15 @@
 
 ghost use Rattle.std.specs.Prelude.{◌≡◌, IfOk, ◌||◌, ℕ, List};
 ghost use Rattle.go_tree.specs.FileView.{file_of};
-ghost use Rattle.go_words.specs.Tokens.Pieces.{is_among, keyword_spellings};
-ghost use Rattle.names_within.specs.Reserved.{is_reserved};
-ghost use Rattle.scope_names.specs.Fresh.{candidate, IsFresh};
+ghost use Rattle.go_words.specs.Tokens.Pieces.{is_among};
+ghost use Rattle.scope_names.specs.Fresh.{IsFresh};
 ghost use Rattle.scope_names.specs.Identifiers.{identifiers};
-ghost use Rattle.scope_names.specs.Means.{predeclared};
 
 use crate::files::file_names;
-use crate::sets::{NameSet, add_all};
-use crate::walk::{NameWalk, Wanted};
 use go_tree::{FileTree, Name, NoMemory};
-use go_words::keyword;
-use itoa::Buffer;
-use scope_names::{FileNames, ImportList, NameList, meaning_outside};
+use name_walks::{NameSet, NameWalk, Wanted, add_all, new_name};
+use scope_names::NameList;
 use std::alloc::Global;
-
-/// How many words are no new names: the keywords, the predeclared names, and `init`.
-const RESERVED_WORDS: usize = 55;
-
-/// The name of a package's initialization.
-const INIT: &[u8] = b"init";
-
-/// The base, and then the base with a number behind it.
-#[tactic(auto, using(crate::proofs::FreshLaws::candidate_numbered))]
-fn candidate(alloc: Global, base: &[u8], number: usize) -> Result<Vec<u8>, NoMemory>
-    ensures { IfOk result (λ name. name.items ≡ candidate base.now number) }
-{
-    let mut name = base.to_vec(alloc)?;
-    if number > 0 {
-        let mut buffer = Buffer::new();
-        name.extend_from_slice(buffer.format(number - 1).as_bytes())?;
-    }
-    Ok(name)
-}
-
-/// What no declaration of a file brings about: the predeclared names.
-#[tactic(auto, using(crate::proofs::FreshLaws::predeclared_meant))]
-fn is_predeclared(alloc: Global, name: &[u8]) -> bool
-    ensures { result ≡ is_among predeclared name.now }
-{
-    let nothing = FileNames {
-        imports: ImportList::of(Vec::new(alloc)),
-        package: NameList::of(Vec::new(alloc)),
-    };
-    meaning_outside(&nothing, name).is_some()
-}
-
-#[tactic(auto, using(crate::proofs::FreshLaws::keyword_found))]
-fn is_keyword(word: &[u8]) -> bool
-    ensures { result ≡ is_among keyword_spellings word.now }
-{
-    keyword(word).is_some()
-}
-
-#[tactic(auto, unfolding(crate::specs::Reserved::is_reserved))]
-fn is_reserved(alloc: Global, name: &[u8]) -> bool
-    ensures { result ≡ is_reserved name.now }
-{
-    is_keyword(name) || is_predeclared(alloc, name) || name == INIT
-}
-
-fn is_taken(alloc: Global, taken: &NameSet, name: &[u8]) -> bool
-    ensures { result ≡ (is_among taken.now name.now || is_reserved name.now) }
-{
-    taken.has(name) || is_reserved(alloc, name)
-}
 
 /// The identifiers of the file, and the names to avoid.
 #[tactic(auto, using(crate::proofs::FilesFound::identifiers_found))]
@@ -85,6 +29,7 @@ fn taken_names(alloc: Global, file: &FileTree, avoid: &NameList) -> Result<NameS
 /// The first of `base`, `base0`, `base1` and so on that stands nowhere in the file, isn't to be avoided, and is neither
 /// a keyword nor predeclared nor `init` (Go specification, Identifiers; Keywords; Predeclared identifiers; Package
 /// initialization); an error where memory is refused.
+#[tactic(auto, using(crate::proofs::NewNames::fresh_first))]
 pub fn fresh(
     alloc: Global,
     base: &Name,
@@ -94,11 +39,5 @@ pub fn fresh(
     ensures { IfOk result (λ name. IsFresh base.now (file_of file.now) avoid.now name) }
 {
     let taken = taken_names(alloc, file, avoid)?;
-    for number in 0..taken.len() + RESERVED_WORDS + 1 {
-        let name = candidate(alloc, base.items(), number)?;
-        if !is_taken(alloc, &taken, &name) {
-            return Ok(Name::of(name));
-        }
-    }
-    unreachable!()
+    new_name(alloc, base, &taken)
 }

@@ -2,16 +2,16 @@
 
 ghost use Rattle.std.specs.Prelude.{◌≡◌, OnOk};
 ghost use Rattle.go_tree.specs.View.{held_block_option_of, stmt_of, stmts_of, boxed_stmt_option_of, range_left_of, arm_of, arms_of, case_of, cases_of, const_spec_of, const_specs_of, const_decl_of, var_spec_of, var_specs_of, var_decl_of};
-ghost use Rattle.names_within.specs.Walk.{walk_of};
-ghost use Rattle.names_within.specs.TreeWalk.{after_stmt, after_stmts, after_block, after_block_option, after_stmt_option, after_post, after_left, hold_left, declare_left, after_arm, after_arms, after_case, after_cases, after_spec, after_specs};
+ghost use Rattle.name_walks.specs.Walk.{walk_of};
+ghost use Rattle.names_within.specs.TreeWalk.{after_stmt, after_stmts, after_block, after_block_option, after_stmt_option, after_post, after_left, begin_left, after_arm, after_arms, after_case, after_cases, after_spec, after_specs};
 
 use crate::exprs::{expr_end, expr_names, exprs_names, option_names};
-use crate::types::{begin_all, bind_all, declare_all, hold_all, mention_option, type_option_names};
-use crate::walk::NameWalk;
+use crate::types::{begin_all, bind_all, mention_option, type_option_names};
 use go_tree::{
     Arm, ArmList, Block, Case, CaseList, ConstDecl, ConstSpec, ConstSpecList, NoMemory, RangeLeft,
     Stmt, StmtList, VarDecl, VarSpec, VarSpecList,
 };
+use name_walks::NameWalk;
 
 #[cycle(tree_names)]
 fn stmt_names(names: &mut NameWalk, s: &Stmt) -> Result<(), NoMemory>
@@ -72,9 +72,8 @@ fn stmt_names(names: &mut NameWalk, s: &Stmt) -> Result<(), NoMemory>
             let mark = names.nesting();
             names.enter(span.end)?;
             left_names(names, left)?;
-            hold_left(names, expr_end(over), left)?;
             expr_names(names, over)?;
-            declare_left(names, left)?;
+            begin_left(names, expr_end(over), left)?;
             block_names(names, body)?;
             names.leave(mark);
             Ok(())
@@ -171,21 +170,13 @@ fn left_names(names: &mut NameWalk, left: &RangeLeft) -> Result<(), NoMemory>
     }
 }
 
-fn hold_left(names: &mut NameWalk, from: u32, left: &RangeLeft) -> Result<(), NoMemory>
-    ensures { OnOk result (walk_of names.new ≡ hold_left from (range_left_of left.now) (walk_of names.old)) }
+/// The names that the clause defines, whose scopes begin at `from`.
+fn begin_left(names: &mut NameWalk, from: u32, left: &RangeLeft) -> Result<(), NoMemory>
+    ensures { OnOk result (walk_of names.new ≡ begin_left from (range_left_of left.now) (walk_of names.old)) }
 {
     match left {
         RangeLeft::Nothing | RangeLeft::Assigns(_) => Ok(()),
-        RangeLeft::Defines(list) => hold_all(names, false, from, list),
-    }
-}
-
-fn declare_left(names: &mut NameWalk, left: &RangeLeft) -> Result<(), NoMemory>
-    ensures { OnOk result (walk_of names.new ≡ declare_left (range_left_of left.now) (walk_of names.old)) }
-{
-    match left {
-        RangeLeft::Nothing | RangeLeft::Assigns(_) => Ok(()),
-        RangeLeft::Defines(list) => declare_all(names, list),
+        RangeLeft::Defines(list) => begin_all(names, false, from, list),
     }
 }
 

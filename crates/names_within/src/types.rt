@@ -3,11 +3,11 @@
 ghost use Rattle.std.specs.Prelude.{◌≡◌, OnOk, map};
 ghost use Rattle.std.specs.Option.{option_map};
 ghost use Rattle.go_tree.specs.View.{name_at_of, type_of, fields_of, field_of, param_of, sig_of};
-ghost use Rattle.names_within.specs.Walk.{walk_of};
+ghost use Rattle.name_walks.specs.Walk.{walk_of};
 ghost use Rattle.names_within.specs.TreeWalk.{mention_option, bind_option, begin, begin_option, bind_all, declare_all, hold_all, begin_all, after_named, after_type, after_fields, after_field, after_type_option, after_param, after_params, begin_params, after_sig, begin_sig};
 
-use crate::walk::NameWalk;
 use go_tree::{FieldSpec, FieldSpecList, NameAt, NameAtList, NoMemory, Param, Sig, TypeExpr};
+use name_walks::NameWalk;
 
 pub(crate) fn mention_option(names: &mut NameWalk, name: &Option<NameAt>) -> Result<(), NoMemory>
     ensures { OnOk result (walk_of names.new ≡ mention_option (option_map name_at_of name.now) (walk_of names.old)) }
@@ -61,7 +61,7 @@ pub(crate) fn bind_all(names: &mut NameWalk, list: &NameAtList) -> Result<(), No
 }
 
 /// Names that are declared from here on.
-pub(crate) fn declare_all(names: &mut NameWalk, list: &NameAtList) -> Result<(), NoMemory>
+fn declare_all(names: &mut NameWalk, list: &NameAtList) -> Result<(), NoMemory>
     ensures { OnOk result (walk_of names.new ≡ declare_all (map name_at_of list.now) (walk_of names.old)) }
 {
     for name in list.items() {
@@ -72,7 +72,7 @@ pub(crate) fn declare_all(names: &mut NameWalk, list: &NameAtList) -> Result<(),
 }
 
 /// Names that hold from `from` on.
-pub(crate) fn hold_all(
+fn hold_all(
     names: &mut NameWalk,
     only_new: bool,
     from: u32,

@@ -58,6 +58,12 @@ module _ {S : Type 0} where
   param_names [] = []
   param_names (p ∷ ps) = with_name p.name (param_names ps)
 
+  -- a range clause that defines its names
+  abbrev pub range_declares : RangeLeft S → List (NameAt S)
+  range_declares nothing = []
+  range_declares (assigns _) = []
+  range_declares (defines ns) = not_blank ns
+
   -- parameters and results
   abbrev pub sig_declares : Sig S → List (NameAt S)
   sig_declares g = not_blank (param_names g.params ++ param_names g.results)
@@ -148,7 +154,8 @@ abbrev mutual
   stmt_scopes known to (for_ s i x p s' b) =
       stmt_option_scopes s.end i ++ expr_option_scopes x ++ stmt_option_scopes s.end p ++ stmts_scopes [] s'.end b
   stmt_scopes known to (range_ s l x s' b) =
-      left_scopes (expr_span x).end s.end l ++ expr_scopes x ++ stmts_scopes [] s'.end b
+      left_scopes l ++ expr_scopes x
+      ++ scopes_of (expr_span x).end s.end (range_declares l) ++ stmts_scopes [] s'.end b
   stmt_scopes known to (switch s i x cs) = stmt_option_scopes s.end i ++ expr_option_scopes x ++ cases_scopes cs
   stmt_scopes known to (defer _ x) = expr_scopes x
   stmt_scopes known to (label _ _ s) = stmt_scopes known to s
@@ -168,11 +175,11 @@ abbrev mutual
   block_option_scopes no_block = []
   block_option_scopes (some_block s b) = stmts_scopes [] s.end b
 
-  -- the scopes of the variables that a range clause declares, or those in what it assigns to
-  pub left_scopes : ℕ → ℕ → RangeLeft Span → List Scope
-  left_scopes from to nothing = []
-  left_scopes from to (assigns xs) = exprs_scopes xs
-  left_scopes from to (defines ns) = scopes_of from to (not_blank ns)
+  -- the operands on the left of a range clause
+  pub left_scopes : RangeLeft Span → List Scope
+  left_scopes nothing = []
+  left_scopes (assigns xs) = exprs_scopes xs
+  left_scopes (defines _) = []
 
   -- the scopes in the arms of an `if` that ends before `to`
   pub arms_scopes : ℕ → Arms Span → List Scope

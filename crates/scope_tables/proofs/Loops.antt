@@ -4,13 +4,13 @@ use Rattle.std.proofs.Math.Seq.{drop-cons}
 use Rattle.std.proofs.lemmas.List.{drop_all}
 use Rattle.go_tree.specs.declared.spans.Span.{Span}
 use Rattle.go_tree.specs.File.{File}
-use Rattle.names_within.specs.LocalScopes.{scope_of}
+use Rattle.name_walks.specs.LocalScopes.{scope_of}
 use Rattle.scope_names.specs.declared.names.FileNames.{FileNames}
 use Rattle.scope_names.specs.declared.names.ImportName.{ImportName}
 use Rattle.scope_names.specs.declared.names.Entity.TheVariants.{Import, Package}
 use Rattle.scope_names.specs.Scopes.{decls_scopes}
 use Rattle.scope_tables.specs.Table.{IsTableOf}
-use Rattle.names_within.specs.declared.walk.LocalScope.{LocalScope}
+use Rattle.name_walks.specs.declared.walk.LocalScope.{LocalScope}
 use Rattle.scope_names.specs.declared.names.Entity.{Entity}
 use Rattle.scope_names.specs.Means.{or_else, means, numbered, binding}
 use Rattle.scope_tables.specs.declared.rows.Rows.{Rows}

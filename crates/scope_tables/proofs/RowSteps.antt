@@ -2,8 +2,8 @@
 use Rattle.std.proofs.Common.{◌≡◌, ◌∙◌, ◌≤◌, ◌<◌, ◌+◌, ℕ, Bool, true, false, List, [], ◌∷◌, ◌++◌, Option, Some, None, is_none, is_some, refl, sym, ap, subst, cond, length, get_or, bytes_eq, arith, slice_set, append-nil}
 use Rattle.std.proofs.lemmas.Bool.{true≢false}
 use Rattle.std.proofs.lemmas.List.{length-append}
-use Rattle.names_within.specs.EachOnce.{with_name}
-use Rattle.names_within.specs.declared.walk.LocalScope.{LocalScope}
+use Rattle.name_walks.specs.EachOnce.{with_name}
+use Rattle.name_walks.specs.declared.walk.LocalScope.{LocalScope}
 use Rattle.scope_names.specs.declared.names.Entity.{Entity}
 use Rattle.scope_names.specs.Means.{or_else, means, is_blank, binding}
 use Rattle.scope_tables.specs.declared.rows.Row.{Row}

@@ -3,8 +3,8 @@ use Rattle.std.proofs.Common.{◌≡◌, ◌∙◌, ℕ, zero, suc, Bool, true, 
 use Rattle.std.proofs.lemmas.List.{map-append, reverse-append}
 use Rattle.go_tree.specs.declared.spans.Span.{Span}
 use Rattle.go_tree.specs.File.{File}
-use Rattle.names_within.specs.declared.walk.LocalScope.{LocalScope}
-use Rattle.names_within.specs.LocalScopes.{scope_of}
+use Rattle.name_walks.specs.declared.walk.LocalScope.{LocalScope}
+use Rattle.name_walks.specs.LocalScopes.{scope_of}
 use Rattle.scope_names.specs.declared.names.Entity.{Entity}
 use Rattle.scope_names.specs.declared.names.Entity.TheVariants.{Local, Import, Package, Universe}
 use Rattle.scope_names.specs.declared.names.FileNames.{FileNames}

@@ -1,7 +1,7 @@
 -- A table while it is built.
 use Rattle.std.specs.Prelude.{◌≡◌, ℕ, List, [], ◌∷◌, ◌++◌, Option, if◌then◌else◌, bytes_eq, length}
 use Rattle.std.specs.List.{position_or_len}
-use Rattle.names_within.specs.declared.walk.LocalScope.{LocalScope}
+use Rattle.name_walks.specs.declared.walk.LocalScope.{LocalScope}
 use Rattle.scope_names.specs.declared.names.Entity.{Entity}
 use Rattle.scope_names.specs.Means.{or_else, means, binding}
 use Rattle.scope_tables.specs.NamedScopes.{Extent}

@@ -19,7 +19,8 @@ pub(crate) struct Held {
     before: usize,
 }
 
-/// The declarations of one name, in the order of the source.
+/// The declarations of one name, in the order of the source, and whether they begin in that order too, as those of a
+/// file that was read do.
 #[derive(Drop)]
 pub(crate) struct NamedScopes {
     held: Vec<Held>,

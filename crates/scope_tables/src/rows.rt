@@ -8,7 +8,7 @@ ghost use Rattle.scope_tables.specs.Building.{IsEven, locals_of, outside_of, Kee
 
 use crate::named::NamedScopes;
 use go_tree::{Name, NoMemory, Span};
-use names_within::{LocalScope, NameSet};
+use name_walks::{LocalScope, NameSet};
 use scope_names::{Entity, ImportName};
 use std::alloc::Global;
 

@@ -8,7 +8,7 @@ ghost use Rattle.scope_tables.specs.Table.{captured_in, locals_in, meaning_in, o
 
 use crate::rows::{Row, Rows};
 use go_tree::{Name, Span};
-use names_within::NameSet;
+use name_walks::NameSet;
 use scope_names::{Entity, predeclared};
 
 /// What each name means at each place of a file (Go specification, Declarations and scope).
@@ -29,8 +29,8 @@ impl Scopes {
     }
 
     /// What the name means at the place: its innermost declaration. None where no block around the place declares it. It
-    /// takes a binary search among the declarations of the name, and then no more steps than blocks stand around the
-    /// place.
+    /// takes a binary search among the declarations of the name in a file that was read, and then no more steps than
+    /// blocks stand around the last of them that begins before the place.
     pub fn lookup(&self, name: &Name, at: u32) -> Option<Entity>
         ensures { result ≡ meaning_in (table_of self.now) name.now at }
     {

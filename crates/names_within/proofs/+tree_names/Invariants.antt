@@ -2,7 +2,7 @@ use Rattle.std.proofs.Common.{◌≡◌, drop, map}
 use Rattle.go_tree.specs.View.{expr_of, elem_of, stmt_of, arm_of, case_of, const_spec_of, var_spec_of}
 use Rattle.go_tree.specs.Lists.{exprs_from, elems_from, stmts_from, arms_from, cases_from, specs_from}
 use Rattle.names_within.specs.TreeWalk.{after_exprs, after_elems, after_stmts, after_arms, after_cases, after_specs}
-use Rattle.names_within.specs.Walk.{walk_of}
+use Rattle.name_walks.specs.Walk.{walk_of}
 use Rattle.names_within.proofs.+tree_names.Given as goal
 
 abbrev pub invariant-exprs::exprs_names-loop-expr : goal.invariant-exprs::exprs_names-loop-expr

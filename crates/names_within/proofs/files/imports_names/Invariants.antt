@@ -1,7 +1,7 @@
 use Rattle.std.proofs.Common.{◌≡◌, drop, map}
 use Rattle.go_tree.specs.FileView.{import_decl_of}
 use Rattle.names_within.specs.FileWalk.{after_imports}
-use Rattle.names_within.specs.Walk.{walk_of}
+use Rattle.name_walks.specs.Walk.{walk_of}
 use Rattle.names_within.proofs.files.imports_names.Given as goal
 
 abbrev pub invariant-loop-import : goal.invariant-loop-import

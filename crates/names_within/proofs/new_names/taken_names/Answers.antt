@@ -4,7 +4,7 @@ use Rattle.go_words.specs.Tokens.Pieces.{is_among}
 use Rattle.scope_names.specs.Identifiers.{identifiers}
 use Rattle.names_within.specs.FileWalk.{after_file}
 use Rattle.names_within.proofs.FilesFound.{identifiers_found}
-use Rattle.names_within.proofs.FreshLaws.{or_false}
+use Rattle.names_within.proofs.NewNames.{or_false}
 use Rattle.names_within.proofs.new_names.taken_names.Goals as goal
 
 pub returns : goal.returns

@@ -2,7 +2,7 @@ use Rattle.std.proofs.Common.{◌≡◌, drop, map}
 use Rattle.go_tree.specs.View.{field_of}
 use Rattle.go_tree.specs.Lists.{fields_from}
 use Rattle.names_within.specs.TreeWalk.{after_fields}
-use Rattle.names_within.specs.Walk.{walk_of}
+use Rattle.name_walks.specs.Walk.{walk_of}
 use Rattle.names_within.proofs.types.+type_names.Given as goal
 
 abbrev pub invariant-fields_names-loop-field : goal.invariant-fields_names-loop-field

@@ -1,7 +1,7 @@
 use Rattle.std.proofs.Common.{◌≡◌, drop, map}
 use Rattle.go_tree.specs.View.{name_at_of}
 use Rattle.names_within.specs.TreeWalk.{hold_all}
-use Rattle.names_within.specs.Walk.{walk_of}
+use Rattle.name_walks.specs.Walk.{walk_of}
 use Rattle.names_within.proofs.types.hold_all.Given as goal
 
 abbrev pub invariant-loop-name : goal.invariant-loop-name

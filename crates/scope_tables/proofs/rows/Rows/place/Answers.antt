@@ -1,5 +1,5 @@
 use Rattle.std.proofs.Common.{◌∙◌, None, refl, ap, subst, length, ◌≤◌, ◌<◌}
-use Rattle.names_within.specs.EachOnce.{with_name}
+use Rattle.name_walks.specs.EachOnce.{with_name}
 use Rattle.scope_tables.specs.Building.{position_of}
 use Rattle.scope_tables.proofs.RowSteps.{placed_push, placed_same}
 use Rattle.scope_tables.proofs.rows.Rows.place.Goals as goal

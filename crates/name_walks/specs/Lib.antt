@@ -1,0 +1,4 @@
+pub mod EachOnce
+pub mod Reserved
+pub mod Walk
+pub mod LocalScopes

@@ -1,6 +1,0 @@
-use Rattle.std.proofs.Common.{◌∙◌, bytes_eq, sym}
-use Rattle.names_within.proofs.SetLaws.{any_view}
-use Rattle.names_within.proofs.sets.NameSet.has.Goals as goal
-
-pub returns : goal.returns
-returns c = rw (← c.self.view_is) (c.contains.ensures ∙ sym (any_view (λ k. k.items) (bytes_eq c.args.name.now) c.self.inside.keys.keys))

@@ -1,7 +1,0 @@
--- The scopes that a walk has gathered.
-use Rattle.scope_names.specs.Scopes.{Scope}
-use Rattle.names_within.specs.declared.walk.LocalScope.{LocalScope}
-
--- a gathered scope as a value
-abbrev pub scope_of : LocalScope → Scope
-scope_of s = record { name = s.name; declared_at = s.declared_at; from = s.from; to = s.to }

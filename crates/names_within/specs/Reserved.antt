@@ -1,8 +1,0 @@
--- Words that are no new names (Go specification, Keywords; Predeclared identifiers; Package initialization).
-use Rattle.std.specs.Prelude.{ℕ, Bool, ◌||◌, List, bytes_eq, codes}
-use Rattle.go_words.specs.Tokens.Pieces.{is_among, keyword_spellings}
-use Rattle.scope_names.specs.Means.{predeclared}
-
--- a keyword, a predeclared name, or `init`
-unfoldable pub is_reserved : List ℕ → Bool
-is_reserved q = is_among keyword_spellings q || (is_among predeclared q || bytes_eq q (codes "init"))
