@@ -1,0 +1,7 @@
+pub mod Called
+pub mod Walked
+pub mod Put
+pub mod KeptCalls
+pub mod NoCallees
+pub mod DeclCalls
+pub mod NameStepsLead

@@ -1,0 +1,4 @@
+pub mod PutCalls
+pub mod NamesNoFunction
+pub mod NameSteps
+pub mod Laws
