@@ -1,11 +1,10 @@
 -- The marked functions that a part of a program calls, by names and types alone: the walk that lists finds the same.
-use Rattle.std.proofs.Common.{ℕ, suc, ◌+◌, Bool, List, [], ◌∷◌, ◌++◌, length, Option, Some, None, if◌then◌else◌}
+use Rattle.std.proofs.Common.{ℕ, suc, Bool, List, [], ◌∷◌, ◌++◌, length, Option, Some, None, if◌then◌else◌}
 use Rattle.go_tree.specs.Tree.{NameAt, Sig, TypeExpr, Expr, ident, int_lit, rune_lit, str_lit, composite, selector, index, slice, call, func_lit, type_operand, unary, binary, star, Exprs, no_exprs, expr_and, ExprOption, no_expr, some_expr, Elems, no_elems, elem, Value, plain, braced, ValueOption, no_value, some_value, Stmt, const_decl, var_decl, empty, eval, step, assign, define, return_, break_, continue_, inner, if_, for_, range_, switch, defer, label, Stmts, no_stmts, stmt_and, StmtOption, no_stmt, some_stmt, BlockOption, no_block, some_block, RangeLeft, nothing, assigns, defines, Arms, no_arms, arm, Cases, no_cases, case, ValueSpecs, no_specs, spec}
 use Rattle.scope_names.specs.FreeNames.{names_of, declared, declared_option, defined}
-use Rattle.scope_names.specs.Means.{means}
 use Rattle.scope_names.specs.Scopes as scopes
 use Rattle.scope_names.specs.Scopes.{not_blank, sig_declares}
-use Rattle.pkg_graph.specs.Members.{Target, member}
+use Rattle.pkg_graph.specs.Members.{Target}
 use Rattle.go_types.specs.Answers.{given, meets, is_among, otherwise}
 use Rattle.go_types.specs.Types.{GoType, base_of, type_name_of}
 use Rattle.go_types.specs.Defined.{under}
@@ -16,7 +15,7 @@ use Rattle.go_types.specs.Statements.{right_values}
 use Rattle.go_types.specs.Typing.{parts, all_parts, places, declares, declares_first, range_declares, binds_of}
 use Rattle.go_types.specs.Bodies.{no_values, literal_env}
 use Rattle.go_types.specs.Declarations.{Repeated, nothing_to_repeat, new_constants, new_variables}
-use Rattle.run_rules.specs.Surroundings.{Use, alone, into_type, elem_use, key_use, repeated_by, first_declares, left_declares}
+use Rattle.run_rules.specs.Surroundings.{Use, into_type, elem_use, key_use, repeated_by, first_declares, left_declares}
 use Rattle.run_rules.specs.Sites.{MarkRef}
 use Rattle.run_rules.specs.Classes.{type_at}
 use Rattle.go_types.specs.Primary.{field_type}

@@ -31,7 +31,8 @@ use Rattle.cycle_laws.specs.PutCalls.{called_among, AllPutCallAlike}
 use Rattle.cycle_laws.specs.NameSteps.{KeepsStatements}
 use Rattle.cycle_laws.proofs.Called.{calls_stmts}
 use Rattle.cycle_laws.proofs.Walked.{callees, app, type-led, written-led, sig-led, all-led, stmts-led}
-use Rattle.cycle_laws.proofs.Put.{front, back, sig-params, params-declared, all-put, stmts-put}
+use Rattle.cycle_laws.proofs.PutNames.{sig-params, params-declared}
+use Rattle.cycle_laws.proofs.Put.{front, back, all-put, stmts-put}
 
 module _ {S : Type 0} (ps : List (Package S)) (marks : List MarkRef) (w : Where S) (at : ℕ) (same : S → S → Bool) (c : Changes S) (quiet : KeepsStatements c) (P : TypeExpr S → TypeExpr S → Type 0) (k : ℕ) (pk : Package S) (file : File S) where
   abbrev q : Place S

@@ -1,5 +1,6 @@
 pub mod Called
 pub mod Walked
+pub mod PutNames
 pub mod Put
 pub mod KeptCalls
 pub mod NoCallees

@@ -1,7 +1,7 @@
 -- A use of a constant or of an alias names no function and no import, and holds no call; two such expressions of one
 -- type call the same.
 use Rattle.std.proofs.Common.{◌≡◌, ℕ, Bool, true, false, List, Option, Some, None, if◌then◌else◌, refl, sym, ◌∙◌}
-use Rattle.go_tree.specs.Tree.{NameAt, Expr, ident, selector, call}
+use Rattle.go_tree.specs.Tree.{NameAt, Expr, ident, selector}
 use Rattle.scope_names.specs.FreeNames.{names_of}
 use Rattle.pkg_graph.specs.Package.{Package}
 use Rattle.pkg_graph.specs.Members.{Target, local, imported, member, predeclared}

@@ -1,5 +1,5 @@
 -- The walk that lists finds the calls of a part of a program: one line a clause.
-use Rattle.std.proofs.Common.{◌≡◌, refl, sym, ◌∙◌, ℕ, suc, ◌+◌, Bool, true, false, not, ◌||◌, List, [], ◌∷◌, ◌++◌, Option, Some, None, if◌then◌else◌}
+use Rattle.std.proofs.Common.{◌≡◌, refl, sym, ◌∙◌, ℕ, suc, ◌+◌, Bool, true, false, ◌||◌, List, [], ◌∷◌, ◌++◌, Option, Some, None, if◌then◌else◌}
 use Rattle.go_tree.specs.Tree.{NameAt, Param, Sig, TypeExpr, named, pointer, slice_type, map_type, struct_type, Expr, ident, int_lit, rune_lit, str_lit, composite, selector, index, slice, call, func_lit, type_operand, unary, binary, star, Exprs, no_exprs, expr_and, ExprOption, no_expr, some_expr, Elems, no_elems, elem, Value, plain, braced, ValueOption, no_value, some_value, Stmt, const_decl, var_decl, empty, eval, step, assign, define, return_, break_, continue_, inner, if_, for_, range_, switch, defer, label, Stmts, no_stmts, stmt_and, StmtOption, no_stmt, some_stmt, BlockOption, no_block, some_block, RangeLeft, nothing, assigns, defines, Arms, no_arms, arm, Cases, no_cases, case, ValueSpecs, no_specs, spec}
 use Rattle.go_tree.specs.declared.exprs.Rest.{Rest}
 use Rattle.go_words.specs.Terminals.{level_of}
@@ -8,14 +8,13 @@ use Rattle.scope_names.specs.Means.{means}
 use Rattle.scope_names.specs.Scopes as scopes
 use Rattle.scope_names.specs.Scopes.{not_blank, sig_declares}
 use Rattle.pkg_graph.specs.Package.{Package}
-use Rattle.pkg_graph.specs.Members.{member}
 use Rattle.go_types.specs.Answers.{given, meets}
 use Rattle.go_types.specs.Types.{GoType, FuncType}
 use Rattle.go_types.specs.Defined.{under}
 use Rattle.go_types.specs.Entities.{defined_in, in_block}
 use Rattle.go_types.specs.TypeNames.{type_meant, func_type}
 use Rattle.go_types.specs.Literals.{is_struct, literal_type}
-use Rattle.go_types.specs.Typing.{parts, all_parts, declares}
+use Rattle.go_types.specs.Typing.{parts, all_parts}
 use Rattle.go_types.specs.Bodies.{labelled, body_ctx, literal_env}
 use Rattle.go_types.specs.Declarations.{Repeated, nothing_to_repeat}
 use Rattle.run_rules.specs.Surroundings.{Use, whole, stored, updated, called, deferred_call, alone, other, Slot, a_slot, Place, Seen, seen, seen_type, seen_stmt, alike, into_type, head_use, later_uses, arg_uses, unary_use, operand_use, first_operand_use, right_uses, every_use, value_use, return_uses, elem_use, key_use, inner_slot, last_slot, in_slot, callee_place, comma_slot, elem_closed, after_stmt, after_first, block, looping, switching, in_heading, at_stmt, plain_slot, ranged, in_literal, repeated_by, in_constant, after_constants, before_repeats, after_variables, is_old, first_declares, left_declares}

@@ -19,8 +19,8 @@ use Rattle.cycle_laws.specs.PutCalls.{called_among, AllPutCallAlike}
 abbrev pub KeepsStatements : {S : Type 0} → Changes S → Type 0
 KeepsStatements {S = S} c = (p : Place S) (s : Stmt S) → c.stmt p s ≡ None
 
--- Two programs read calls alike: a declaration in a file of the one calls the marked functions that one which differs by
--- where its nodes stand calls in the same file of the other.
+-- Two programs read calls alike: a declaration in a file of the one calls the marked functions that one which differs
+-- by where its nodes stand calls in the same file of the other.
 abbrev pub ReadCallsAlike : List MarkRef → List (Package At) → List (Package At) → Type 0
 ReadCallsAlike marks before after =
     (a : MarkRef) (w v : Where At) → where_is before a ≡ Some w → where_is after a ≡ Some v → (d e : Decl At)

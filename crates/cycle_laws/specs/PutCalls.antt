@@ -1,7 +1,7 @@
 -- What a change puts in a declaration calls the marked functions that stood there (Go specification, Calls; Selectors;
 -- Constant declarations; Alias declarations).
 use Rattle.std.specs.Prelude.{◌≡◌, ℕ, true, List, [], ◌∷◌, Some, is_some}
-use Rattle.go_tree.specs.Tree.{NameAt, Expr, selector, call, func_lit, Stmt, const_decl}
+use Rattle.go_tree.specs.Tree.{NameAt, Expr, selector, func_lit, Stmt, const_decl}
 use Rattle.pkg_graph.specs.Package.{Package}
 use Rattle.go_types.specs.TypeNames.{func_type}
 use Rattle.go_types.specs.Declarations.{nothing_to_repeat}
