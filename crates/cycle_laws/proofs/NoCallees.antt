@@ -15,6 +15,7 @@ use Rattle.run_rules.specs.Surroundings.{other, Place}
 use Rattle.run_rules.specs.Sites.{MarkRef, Where, Inlinable, find_marked_method, a_constant, an_alias, a_function, mark_of, imported_by, is_free_function, not_function, inlinable, import_number, member_of, name_mark, outer_meaning, qualifier, marked, marked_as, expr_mark, selected_method}
 use Rattle.cycle_laws.specs.PutCalls.{CallsAlike}
 use Rattle.cycle_laws.specs.NamesNoFunction.{NamesNoFunction}
+use Rattle.cycle_laws.proofs.Gives.{gives-by}
 use Rattle.cycle_laws.proofs.Walked.{expr-led}
 
 module _ {S : Type 0} (ps : List (Package S)) (marks : List MarkRef) (w : Where S) where
@@ -70,9 +71,9 @@ module _ {S : Type 0} (ps : List (Package S)) (marks : List MarkRef) (w : Where 
       selects = λ v x. refl;
     }
 
-    pub names-alike : (x y : Expr S) → NamesNoFunction ps marks w at p x → NamesNoFunction ps marks w at p y → type_at p.env x ≡ type_at p.env y → CallsAlike ps marks w at p x y
-    names-alike x y h k t = record {
-      inside = h.inside ∙ sym k.inside;
+    pub names-alike : (x y : Expr S) → NamesNoFunction ps marks w at p x → NamesNoFunction ps marks w at p y → type_at p.env x ≡ type_at p.env y → (m : MarkRef) → CallsAlike ps marks w at m p x y
+    names-alike x y h k t m = record {
+      inside = gives-by (h.inside ∙ sym k.inside);
       called_so = h.no_callee ∙ sym k.no_callee;
-      selected_so = λ s z m. h.selects s (record m { span = z }) ∙ (λ v. marked ps marks (given (given (t v) (λ u. if is_some (field_type (defined_in p.env) p.env.home m.name u) then None else type_name_of (otherwise (base_of u) u))) (λ q. find_marked_method ps marks q.0 q.1 m.name))) ∙ sym (k.selects s m);
+      selected_so = λ s z n. h.selects s (record n { span = z }) ∙ (λ v. marked ps marks (given (given (t v) (λ u. if is_some (field_type (defined_in p.env) p.env.home n.name u) then None else type_name_of (otherwise (base_of u) u))) (λ q. find_marked_method ps marks q.0 q.1 n.name))) ∙ sym (k.selects s n);
     }

@@ -27,20 +27,24 @@ use Rattle.typed_in_place.specs.SameFacts.{SameStatement}
 use Rattle.typed_in_place.proofs.TypingReplaced.{type_meant-in, func_type-in, literal_env-in, parts-in}
 use Rattle.step_laws.specs.Stands.{Asked, stays, is_put, SameExpr, AsOperand, is_operand, SigStands, ExprStands, ExprsStands, ExprOptionStands, ElemsStands, KeyStands, ValueStands, StmtStands, StmtsStands, FirstStands, BlockStands, LeftStands, ArmsStand, CasesStands, VariablesStands}
 use Rattle.step_laws.proofs.Standing.{written-stands, sig-stands, expr-stands, all-stands, stmt-stands, first-stands, left-stands}
-use Rattle.cycle_laws.specs.PutCalls.{called_among, CallsAlike, PutCallsAlike, AllPutCallAlike}
+use Rattle.cycle_laws.specs.PutCalls.{GivesWayAmong, mark_there, called_among, CallsAlike, PutCallsAlike, AllPutCallAlike}
+use Rattle.cycle_laws.proofs.Gives.{gives-same, gives-by, gives-eq, gives-then, gives-app}
 use Rattle.cycle_laws.proofs.Called.{Callees, home_of_method, env_lit, bound_lit, first_bound, range_bound, after_bound, more_bound, called_by, callee, calls_expr, calls_all, calls_option, calls_elems, calls_key, calls_value, calls_stmt, calls_stmts, calls_first, calls_block, calls_left, calls_arms, calls_cases, calls_constants, calls_variables}
 use Rattle.cycle_laws.proofs.Walked.{first-bound, range-bound, after-bound, more-bound, literal-bound, literal-place, callee-bound, callee-env, callees, callee-is, expr-led, constants-led}
 use Rattle.cycle_laws.proofs.PutNames.{field-kept, names-put, more-bound-same, after-bound-same, first-bound-same, range-bound-same, sig-declares-put, after-env-same, first-env-same, range-env-same, variables-env-same}
 
-module _ {S : Type 0} (ps : List (Package S)) (marks : List MarkRef) (w : Where S) (at : ℕ) (c : Changes S) (quiet : (p : Place S) (s : Stmt S) → c.stmt p s ≡ None) where
+module _ {S : Type 0} (ps : List (Package S)) (marks : List MarkRef) (w : Where S) (at : ℕ) (way : MarkRef) (c : Changes S) (quiet : (p : Place S) (s : Stmt S) → c.stmt p s ≡ None) where
   abbrev D : Callees
   D = callees ps marks w
 
+  abbrev Gives : List MarkRef → List MarkRef → Type 0
+  Gives new old = GivesWayAmong ps marks (mark_there w at) way new old
+
   abbrev Lead : Seen S → Type 0
-  Lead x = PutCallsAlike ps marks w at c x
+  Lead x = PutCallsAlike ps marks w at way c x
 
   abbrev AllLead : List (Seen S) → Type 0
-  AllLead xs = AllPutCallAlike ps marks w at c xs
+  AllLead xs = AllPutCallAlike ps marks w at way c xs
 
   pub front : (xs ys : List (Seen S)) → AllLead (xs ++ ys) → AllLead xs
   front [] ys h = tt
@@ -51,18 +55,18 @@ module _ {S : Type 0} (ps : List (Package S)) (marks : List MarkRef) (w : Where 
   back (x ∷ xs) ys h = back xs ys h.1
 
   abbrev PutAt : Place S → Use → Expr S → Type 0
-  PutAt p u x = (y : Expr S) → c.expr p u x ≡ Some y → CallsAlike ps marks w at p y x
+  PutAt p u x = (y : Expr S) → c.expr p u x ≡ Some y → CallsAlike ps marks w at way p y x
 
   no_stmt_put : (p : Place S) (s : Stmt S) → c.stmt p s ≡ None
   no_stmt_put p s = quiet p s
 
   expr-answer : (o : Option (Expr S)) (d : Expr S) (p : Place S) (b : List (List ℕ)) → names_of p.bound ≡ b → (u : Use) (x : Expr S) → c.expr p u x ≡ o → {around : List (List ℕ)} {Parts : Type 0} → Asked (SameExpr around p.env x) Parts o
-      → PutAt p u x → (Parts → calls_expr D p.env b d ≡ calls_expr D p.env b x) → calls_expr D p.env b (otherwise o d) ≡ calls_expr D p.env b x
+      → PutAt p u x → (Parts → Gives (calls_expr D p.env b d) (calls_expr D p.env b x)) → Gives (calls_expr D p.env b (otherwise o d)) (calls_expr D p.env b x)
   expr-answer None d p b h u x e (stays q) al k = k q
-  expr-answer (Some y) d p b h u x e (is_put s) al k = sym (expr-led ps marks w at p b h other y) ∙ (al y e).inside ∙ expr-led ps marks w at p b h other x
+  expr-answer (Some y) d p b h u x e (is_put s) al k = gives-eq (sym (expr-led ps marks w at p b h other y)) (gives-then (al y e).inside (expr-led ps marks w at p b h other x))
 
   stmt-answer : (o : Option (Stmt S)) (d : Stmt S) (env : Env) (b : List (List ℕ)) (x : Stmt S) → o ≡ None → {around : List (List ℕ)} {Parts : Type 0} → Asked (SameStatement around env x) Parts o
-      → (Parts → calls_stmt D env b d ≡ calls_stmt D env b x) → calls_stmt D env b (otherwise o d) ≡ calls_stmt D env b x
+      → (Parts → Gives (calls_stmt D env b d) (calls_stmt D env b x)) → Gives (calls_stmt D env b (otherwise o d)) (calls_stmt D env b x)
   stmt-answer None d env b x e (stays q) k = k q
   stmt-answer (Some y) d env b x e q k = cc
 
@@ -81,9 +85,9 @@ module _ {S : Type 0} (ps : List (Package S)) (marks : List MarkRef) (w : Where 
       by (Some fs) false e = cc
       by (Some fs) true e = λ x. into_or (given (field-kept c.span v x) (λ n. find_field p.env.home n fs))
 
-  key-case : (t : Bool) (x y v : Value S) (f : Value S → List MarkRef) {Parts : Type 0} → AsOperand Parts t → (xs : List (Seen S)) → AllLead (if t then [] else xs) → (Parts → AllLead xs → f y ≡ f v)
-      → (if t then [] else f (if t then x else y)) ≡ (if t then [] else f v)
-  key-case true x y v f q xs al k = refl
+  key-case : (t : Bool) (x y v : Value S) (f : Value S → List MarkRef) {Parts : Type 0} → AsOperand Parts t → (xs : List (Seen S)) → AllLead (if t then [] else xs) → (Parts → AllLead xs → Gives (f y) (f v))
+      → Gives (if t then [] else f (if t then x else y)) (if t then [] else f v)
+  key-case true x y v f q xs al k = gives-same []
   key-case false x y v f (is_operand q) xs al k = k q al
 
   callee-at : (p : Place S) (l : Slot) (f : Expr S) (P : Env → Expr S → Type 0) → P (callee_place l f p).env (new_expr c (callee_place l f p) called f) → P p.env (new_expr c (callee_place l f p) called f)
@@ -97,16 +101,16 @@ module _ {S : Type 0} (ps : List (Package S)) (marks : List MarkRef) (w : Where 
   typed-literal (Some f) a b h = refl
 
   literal-put : (around : List (List ℕ)) (p : Place S) (b : List (List ℕ)) (g : Sig S) (y : Stmts S) → SigStands c around p.env p g → is_some (func_type p.env g) ≡ true → StmtsStands c (sig_names g ++ around) (literal_env p.env g) (in_literal p g) y
-      → (StmtsStands c (sig_names g ++ around) (in_literal p g).env (in_literal p g) y → calls_stmts D (in_literal p g).env (bound_lit p.env b g) (new_stmts c (in_literal p g) y) ≡ calls_stmts D (in_literal p g).env (bound_lit p.env b g) y)
-      → calls_stmts D (env_lit p.env (new_sig c p g)) (bound_lit p.env b (new_sig c p g)) (new_stmts c (in_literal p g) y) ++ [] ≡ calls_stmts D (env_lit p.env g) (bound_lit p.env b g) y ++ []
+      → (StmtsStands c (sig_names g ++ around) (in_literal p g).env (in_literal p g) y → Gives (calls_stmts D (in_literal p g).env (bound_lit p.env b g) (new_stmts c (in_literal p g) y)) (calls_stmts D (in_literal p g).env (bound_lit p.env b g) y))
+      → Gives (calls_stmts D (env_lit p.env (new_sig c p g)) (bound_lit p.env b (new_sig c p g)) (new_stmts c (in_literal p g) y) ++ []) (calls_stmts D (env_lit p.env g) (bound_lit p.env b g) y ++ [])
   literal-put around p b g y sg t st k =
       let r : SigReplaced around p.env g (new_sig c p g) = sig-stands c around p.env p g sg in
       let e : (in_literal p g).env ≡ env_lit p.env g = literal-place p g in
       let same : (in_literal p g).env ≡ literal_env p.env g = e ∙ typed-literal (func_type p.env g) p.env (literal_env p.env g) t in
-      let i : calls_stmts D (in_literal p g).env (bound_lit p.env b g) (new_stmts c (in_literal p g) y) ≡ calls_stmts D (in_literal p g).env (bound_lit p.env b g) y =
+      let i : Gives (calls_stmts D (in_literal p g).env (bound_lit p.env b g) (new_stmts c (in_literal p g) y)) (calls_stmts D (in_literal p g).env (bound_lit p.env b g) y) =
       k (subst (λ (z : Env). StmtsStands c (sig_names g ++ around) z (in_literal p g) y) (sym same) st) in
-      (λ v. calls_stmts D (env-back r v) (bound-back r v) (new_stmts c (in_literal p g) y) ++ [])
-      ∙ (λ v. calls_stmts D (sym e v) (bound_lit p.env b g) (new_stmts c (in_literal p g) y) ++ []) ∙ (λ v. i v ++ []) ∙ (λ v. calls_stmts D (e v) (bound_lit p.env b g) y ++ [])
+      gives-app (gives-eq ((λ v. calls_stmts D (env-back r v) (bound-back r v) (new_stmts c (in_literal p g) y)) ∙ (λ v. calls_stmts D (sym e v) (bound_lit p.env b g) (new_stmts c (in_literal p g) y)))
+      (gives-then i (λ v. calls_stmts D (e v) (bound_lit p.env b g) y))) (gives-same [])
     where
       env-back : SigReplaced around p.env g (new_sig c p g) → env_lit p.env (new_sig c p g) ≡ env_lit p.env g
       env-back r = sym (λ v. elim (func_type-in r v) [ None ↦ p.env | Some f ↦ literal_env-in r v ])
@@ -134,7 +138,7 @@ module _ {S : Type 0} (ps : List (Package S)) (marks : List MarkRef) (w : Where 
   marks-alike : (q : Place S) (b : List (List ℕ)) → names_of q.bound ≡ b → (x y : Expr S) → called_mark ps marks w q x ≡ called_mark ps marks w q y → callee D q.env b x ≡ callee D q.env b y
   marks-alike q b h x y k = (λ v. callee D q.env (sym h v) x) ∙ sym (callee-is ps marks w q x) ∙ k ∙ callee-is ps marks w q y ∙ (λ v. callee D q.env (h v) y)
 
-  named-so : (q : Place S) (b : List (List ℕ)) → names_of q.bound ≡ b → (s : S) (x : Expr S) (m : NameAt S) (y : Expr S) → CallsAlike ps marks w at q y x → callee D q.env b (selector (c.span s) y (new_name c m)) ≡ callee D q.env b (selector s x m)
+  named-so : (q : Place S) (b : List (List ℕ)) → names_of q.bound ≡ b → (s : S) (x : Expr S) (m : NameAt S) (y : Expr S) → CallsAlike ps marks w at way q y x → callee D q.env b (selector (c.span s) y (new_name c m)) ≡ callee D q.env b (selector s x m)
   named-so q b h s x m y a = marks-alike q b h (selector (c.span s) y (new_name c m)) (selector s x m) (a.selected_so (c.span s) (c.span m.span) m)
 
   ident-case : (o : Option (Expr S)) (q : Place S) (b : List (List ℕ)) → names_of q.bound ≡ b → (s : S) (x d : Expr S) (m : NameAt S) → c.expr q other x ≡ o
@@ -195,104 +199,104 @@ module _ {S : Type 0} (ps : List (Package S)) (marks : List MarkRef) (w : Where 
 
   mutual
     pub expr-put : (around : List (List ℕ)) (p : Place S) (b : List (List ℕ)) → names_of p.bound ≡ b → (u : Use) → (x : Expr S) → ExprStands c around p.env p u x → AllLead (expr_seen p u x)
-        → calls_expr D p.env b (new_expr c p u x) ≡ calls_expr D p.env b x
-    expr-put around p b h u (ident s n) st al = expr-answer (c.expr p u (ident s n)) (ident (c.span s) n) p b h u (ident s n) refl st (((al)).0).1 (λ given_. refl)
-    expr-put around p b h u (int_lit s n) st al = expr-answer (c.expr p u (int_lit s n)) (int_lit (c.span s) n) p b h u (int_lit s n) refl st (((al)).0).1 (λ given_. refl)
-    expr-put around p b h u (rune_lit s n) st al = expr-answer (c.expr p u (rune_lit s n)) (rune_lit (c.span s) n) p b h u (rune_lit s n) refl st (((al)).0).1 (λ given_. refl)
-    expr-put around p b h u (str_lit s n) st al = expr-answer (c.expr p u (str_lit s n)) (str_lit (c.span s) n) p b h u (str_lit s n) refl st (((al)).0).1 (λ given_. refl)
-    expr-put around p b h u (composite s t es) st al = expr-answer (c.expr p u (composite s t es)) (composite (c.span s) (new_type c p t) (new_elems c (in_slot (a_slot 1 false false) p) (given (type_meant p.env t) (λ u. Some (under (defined_in p.env) u))) 0 es)) p b h u (composite s t es) refl st (((back ((type_seen p t) ++ (elems_seen (in_slot (a_slot 1 false false) p) (given (type_meant p.env t) (λ u. Some (under (defined_in p.env) u))) 0 es)) (seen p u (composite s t es) ∷ []) (al))).0).1 (λ given_. (λ v. calls_elems D p.env b (given (sym (type_meant-in given_.0) v) (λ u. Some (under (defined_in p.env) u))) 0 (new_elems c (in_slot (a_slot 1 false false) p) (given (type_meant p.env t) (λ u. Some (under (defined_in p.env) u))) 0 es) ++ []) ∙ (λ v. (elems-put around (given (type_meant p.env t) (λ u. Some (under (defined_in p.env) u))) (in_slot (a_slot 1 false false) p) b h (given (type_meant p.env t) (λ u. Some (under (defined_in p.env) u))) 0 es given_.1 (back ((type_seen p t)) (elems_seen (in_slot (a_slot 1 false false) p) (given (type_meant p.env t) (λ u. Some (under (defined_in p.env) u))) 0 es) (front ((type_seen p t) ++ (elems_seen (in_slot (a_slot 1 false false) p) (given (type_meant p.env t) (λ u. Some (under (defined_in p.env) u))) 0 es)) (seen p u (composite s t es) ∷ []) (al)))) v ++ []))
-    expr-put around p b h u (selector s d m) st al = expr-answer (c.expr p u (selector s d m)) (selector (c.span s) (new_expr c (in_slot (inner_slot p.slot (selector s d m) 7 false true) p) other d) (new_name c m)) p b h u (selector s d m) refl st (((back ((expr_seen (in_slot (inner_slot p.slot (selector s d m) 7 false true) p) other d)) (seen p u (selector s d m) ∷ []) (al))).0).1 (λ given_. (λ v. (expr-put around (in_slot (inner_slot p.slot (selector s d m) 7 false true) p) b h other d given_ (front ((expr_seen (in_slot (inner_slot p.slot (selector s d m) 7 false true) p) other d)) (seen p u (selector s d m) ∷ []) (al))) v ++ []))
-    expr-put around p b h u (index s d i) st al = expr-answer (c.expr p u (index s d i)) (index (c.span s) (new_expr c (in_slot (inner_slot p.slot (index s d i) 7 false false) p) other d) (new_expr c (in_slot (a_slot 1 false false) p) other i)) p b h u (index s d i) refl st (((back ((expr_seen (in_slot (inner_slot p.slot (index s d i) 7 false false) p) other d) ++ (expr_seen (in_slot (a_slot 1 false false) p) other i)) (seen p u (index s d i) ∷ []) (al))).0).1 (λ given_. (λ v. (expr-put around (in_slot (inner_slot p.slot (index s d i) 7 false false) p) b h other d given_.0 (front ((expr_seen (in_slot (inner_slot p.slot (index s d i) 7 false false) p) other d)) (expr_seen (in_slot (a_slot 1 false false) p) other i) (front ((expr_seen (in_slot (inner_slot p.slot (index s d i) 7 false false) p) other d) ++ (expr_seen (in_slot (a_slot 1 false false) p) other i)) (seen p u (index s d i) ∷ []) (al)))) v ++ (expr-put around (in_slot (a_slot 1 false false) p) b h other i given_.1 (back ((expr_seen (in_slot (inner_slot p.slot (index s d i) 7 false false) p) other d)) (expr_seen (in_slot (a_slot 1 false false) p) other i) (front ((expr_seen (in_slot (inner_slot p.slot (index s d i) 7 false false) p) other d) ++ (expr_seen (in_slot (a_slot 1 false false) p) other i)) (seen p u (index s d i) ∷ []) (al)))) v ++ []))
-    expr-put around p b h u (slice s d i j) st al = expr-answer (c.expr p u (slice s d i j)) (slice (c.span s) (new_expr c (in_slot (inner_slot p.slot (slice s d i j) 7 false false) p) other d) (new_option c (in_slot (a_slot 1 false false) p) i) (new_option c (in_slot (a_slot 1 false false) p) j)) p b h u (slice s d i j) refl st (((back ((expr_seen (in_slot (inner_slot p.slot (slice s d i j) 7 false false) p) other d) ++ (option_seen (in_slot (a_slot 1 false false) p) i) ++ (option_seen (in_slot (a_slot 1 false false) p) j)) (seen p u (slice s d i j) ∷ []) (al))).0).1 (λ given_. (λ v. (expr-put around (in_slot (inner_slot p.slot (slice s d i j) 7 false false) p) b h other d given_.0 (front ((expr_seen (in_slot (inner_slot p.slot (slice s d i j) 7 false false) p) other d)) (option_seen (in_slot (a_slot 1 false false) p) i) (front ((expr_seen (in_slot (inner_slot p.slot (slice s d i j) 7 false false) p) other d) ++ (option_seen (in_slot (a_slot 1 false false) p) i)) (option_seen (in_slot (a_slot 1 false false) p) j) (front ((expr_seen (in_slot (inner_slot p.slot (slice s d i j) 7 false false) p) other d) ++ (option_seen (in_slot (a_slot 1 false false) p) i) ++ (option_seen (in_slot (a_slot 1 false false) p) j)) (seen p u (slice s d i j) ∷ []) (al))))) v ++ (option-put around (in_slot (a_slot 1 false false) p) b h i given_.1.0 (back ((expr_seen (in_slot (inner_slot p.slot (slice s d i j) 7 false false) p) other d)) (option_seen (in_slot (a_slot 1 false false) p) i) (front ((expr_seen (in_slot (inner_slot p.slot (slice s d i j) 7 false false) p) other d) ++ (option_seen (in_slot (a_slot 1 false false) p) i)) (option_seen (in_slot (a_slot 1 false false) p) j) (front ((expr_seen (in_slot (inner_slot p.slot (slice s d i j) 7 false false) p) other d) ++ (option_seen (in_slot (a_slot 1 false false) p) i) ++ (option_seen (in_slot (a_slot 1 false false) p) j)) (seen p u (slice s d i j) ∷ []) (al))))) v ++ (option-put around (in_slot (a_slot 1 false false) p) b h j given_.1.1 (back ((expr_seen (in_slot (inner_slot p.slot (slice s d i j) 7 false false) p) other d) ++ (option_seen (in_slot (a_slot 1 false false) p) i)) (option_seen (in_slot (a_slot 1 false false) p) j) (front ((expr_seen (in_slot (inner_slot p.slot (slice s d i j) 7 false false) p) other d) ++ (option_seen (in_slot (a_slot 1 false false) p) i) ++ (option_seen (in_slot (a_slot 1 false false) p) j)) (seen p u (slice s d i j) ∷ []) (al)))) v ++ []))
-    expr-put around p b h u (call s f xs r) st al = expr-answer (c.expr p u (call s f xs r)) (call (c.span s) (new_expr c (callee_place (inner_slot p.slot (call s f xs r) 7 true false) f p) called f) (new_all c (in_slot (a_slot 1 false true) p) (arg_uses p.env (parts p.env f) (all_parts p.env xs)) xs) r) p b h u (call s f xs r) refl st (((back ((expr_seen (callee_place (inner_slot p.slot (call s f xs r) 7 true false) f p) called f) ++ (all_seen (in_slot (a_slot 1 false true) p) (arg_uses p.env (parts p.env f) (all_parts p.env xs)) xs)) (seen p u (call s f xs r) ∷ []) (al))).0).1 (λ given_. (λ v. (callee-at p (inner_slot p.slot (call s f xs r) 7 true false) f (λ e m. calls_expr D e b m ≡ calls_expr D e b f) (expr-put around (callee_place (inner_slot p.slot (call s f xs r) 7 true false) f p) b (callee-bound p b (inner_slot p.slot (call s f xs r) 7 true false) f h) called f (callee-stands around p (inner_slot p.slot (call s f xs r) 7 true false) f given_.0) (front ((expr_seen (callee_place (inner_slot p.slot (call s f xs r) 7 true false) f p) called f)) (all_seen (in_slot (a_slot 1 false true) p) (arg_uses p.env (parts p.env f) (all_parts p.env xs)) xs) (front ((expr_seen (callee_place (inner_slot p.slot (call s f xs r) 7 true false) f p) called f) ++ (all_seen (in_slot (a_slot 1 false true) p) (arg_uses p.env (parts p.env f) (all_parts p.env xs)) xs)) (seen p u (call s f xs r) ∷ []) (al))))) v ++ (all-put around (in_slot (a_slot 1 false true) p) b h (arg_uses p.env (parts p.env f) (all_parts p.env xs)) xs given_.1 (back ((expr_seen (callee_place (inner_slot p.slot (call s f xs r) 7 true false) f p) called f)) (all_seen (in_slot (a_slot 1 false true) p) (arg_uses p.env (parts p.env f) (all_parts p.env xs)) xs) (front ((expr_seen (callee_place (inner_slot p.slot (call s f xs r) 7 true false) f p) called f) ++ (all_seen (in_slot (a_slot 1 false true) p) (arg_uses p.env (parts p.env f) (all_parts p.env xs)) xs)) (seen p u (call s f xs r) ∷ []) (al)))) v ++ called_by D (callee-put around p b h f (inner_slot p.slot (call s f xs r) 7 true false) given_.0 (front ((expr_seen (callee_place (inner_slot p.slot (call s f xs r) 7 true false) f p) called f)) (all_seen (in_slot (a_slot 1 false true) p) (arg_uses p.env (parts p.env f) (all_parts p.env xs)) xs) (front ((expr_seen (callee_place (inner_slot p.slot (call s f xs r) 7 true false) f p) called f) ++ (all_seen (in_slot (a_slot 1 false true) p) (arg_uses p.env (parts p.env f) (all_parts p.env xs)) xs)) (seen p u (call s f xs r) ∷ []) (al))) v)))
+        → Gives (calls_expr D p.env b (new_expr c p u x)) (calls_expr D p.env b x)
+    expr-put around p b h u (ident s n) st al = expr-answer (c.expr p u (ident s n)) (ident (c.span s) n) p b h u (ident s n) refl st (((al)).0).1 (λ given_. gives-same [])
+    expr-put around p b h u (int_lit s n) st al = expr-answer (c.expr p u (int_lit s n)) (int_lit (c.span s) n) p b h u (int_lit s n) refl st (((al)).0).1 (λ given_. gives-same [])
+    expr-put around p b h u (rune_lit s n) st al = expr-answer (c.expr p u (rune_lit s n)) (rune_lit (c.span s) n) p b h u (rune_lit s n) refl st (((al)).0).1 (λ given_. gives-same [])
+    expr-put around p b h u (str_lit s n) st al = expr-answer (c.expr p u (str_lit s n)) (str_lit (c.span s) n) p b h u (str_lit s n) refl st (((al)).0).1 (λ given_. gives-same [])
+    expr-put around p b h u (composite s t es) st al = expr-answer (c.expr p u (composite s t es)) (composite (c.span s) (new_type c p t) (new_elems c (in_slot (a_slot 1 false false) p) (given (type_meant p.env t) (λ u. Some (under (defined_in p.env) u))) 0 es)) p b h u (composite s t es) refl st (((back ((type_seen p t) ++ (elems_seen (in_slot (a_slot 1 false false) p) (given (type_meant p.env t) (λ u. Some (under (defined_in p.env) u))) 0 es)) (seen p u (composite s t es) ∷ []) (al))).0).1 (λ given_. gives-eq (λ v. calls_elems D p.env b (given (sym (type_meant-in given_.0) v) (λ u. Some (under (defined_in p.env) u))) 0 (new_elems c (in_slot (a_slot 1 false false) p) (given (type_meant p.env t) (λ u. Some (under (defined_in p.env) u))) 0 es) ++ []) (gives-app (elems-put around (given (type_meant p.env t) (λ u. Some (under (defined_in p.env) u))) (in_slot (a_slot 1 false false) p) b h (given (type_meant p.env t) (λ u. Some (under (defined_in p.env) u))) 0 es given_.1 (back ((type_seen p t)) (elems_seen (in_slot (a_slot 1 false false) p) (given (type_meant p.env t) (λ u. Some (under (defined_in p.env) u))) 0 es) (front ((type_seen p t) ++ (elems_seen (in_slot (a_slot 1 false false) p) (given (type_meant p.env t) (λ u. Some (under (defined_in p.env) u))) 0 es)) (seen p u (composite s t es) ∷ []) (al)))) (gives-same [])))
+    expr-put around p b h u (selector s d m) st al = expr-answer (c.expr p u (selector s d m)) (selector (c.span s) (new_expr c (in_slot (inner_slot p.slot (selector s d m) 7 false true) p) other d) (new_name c m)) p b h u (selector s d m) refl st (((back ((expr_seen (in_slot (inner_slot p.slot (selector s d m) 7 false true) p) other d)) (seen p u (selector s d m) ∷ []) (al))).0).1 (λ given_. (gives-app (expr-put around (in_slot (inner_slot p.slot (selector s d m) 7 false true) p) b h other d given_ (front ((expr_seen (in_slot (inner_slot p.slot (selector s d m) 7 false true) p) other d)) (seen p u (selector s d m) ∷ []) (al))) (gives-same [])))
+    expr-put around p b h u (index s d i) st al = expr-answer (c.expr p u (index s d i)) (index (c.span s) (new_expr c (in_slot (inner_slot p.slot (index s d i) 7 false false) p) other d) (new_expr c (in_slot (a_slot 1 false false) p) other i)) p b h u (index s d i) refl st (((back ((expr_seen (in_slot (inner_slot p.slot (index s d i) 7 false false) p) other d) ++ (expr_seen (in_slot (a_slot 1 false false) p) other i)) (seen p u (index s d i) ∷ []) (al))).0).1 (λ given_. (gives-app (gives-app (expr-put around (in_slot (inner_slot p.slot (index s d i) 7 false false) p) b h other d given_.0 (front ((expr_seen (in_slot (inner_slot p.slot (index s d i) 7 false false) p) other d)) (expr_seen (in_slot (a_slot 1 false false) p) other i) (front ((expr_seen (in_slot (inner_slot p.slot (index s d i) 7 false false) p) other d) ++ (expr_seen (in_slot (a_slot 1 false false) p) other i)) (seen p u (index s d i) ∷ []) (al)))) (expr-put around (in_slot (a_slot 1 false false) p) b h other i given_.1 (back ((expr_seen (in_slot (inner_slot p.slot (index s d i) 7 false false) p) other d)) (expr_seen (in_slot (a_slot 1 false false) p) other i) (front ((expr_seen (in_slot (inner_slot p.slot (index s d i) 7 false false) p) other d) ++ (expr_seen (in_slot (a_slot 1 false false) p) other i)) (seen p u (index s d i) ∷ []) (al))))) (gives-same [])))
+    expr-put around p b h u (slice s d i j) st al = expr-answer (c.expr p u (slice s d i j)) (slice (c.span s) (new_expr c (in_slot (inner_slot p.slot (slice s d i j) 7 false false) p) other d) (new_option c (in_slot (a_slot 1 false false) p) i) (new_option c (in_slot (a_slot 1 false false) p) j)) p b h u (slice s d i j) refl st (((back ((expr_seen (in_slot (inner_slot p.slot (slice s d i j) 7 false false) p) other d) ++ (option_seen (in_slot (a_slot 1 false false) p) i) ++ (option_seen (in_slot (a_slot 1 false false) p) j)) (seen p u (slice s d i j) ∷ []) (al))).0).1 (λ given_. (gives-app (gives-app (gives-app (expr-put around (in_slot (inner_slot p.slot (slice s d i j) 7 false false) p) b h other d given_.0 (front ((expr_seen (in_slot (inner_slot p.slot (slice s d i j) 7 false false) p) other d)) (option_seen (in_slot (a_slot 1 false false) p) i) (front ((expr_seen (in_slot (inner_slot p.slot (slice s d i j) 7 false false) p) other d) ++ (option_seen (in_slot (a_slot 1 false false) p) i)) (option_seen (in_slot (a_slot 1 false false) p) j) (front ((expr_seen (in_slot (inner_slot p.slot (slice s d i j) 7 false false) p) other d) ++ (option_seen (in_slot (a_slot 1 false false) p) i) ++ (option_seen (in_slot (a_slot 1 false false) p) j)) (seen p u (slice s d i j) ∷ []) (al))))) (option-put around (in_slot (a_slot 1 false false) p) b h i given_.1.0 (back ((expr_seen (in_slot (inner_slot p.slot (slice s d i j) 7 false false) p) other d)) (option_seen (in_slot (a_slot 1 false false) p) i) (front ((expr_seen (in_slot (inner_slot p.slot (slice s d i j) 7 false false) p) other d) ++ (option_seen (in_slot (a_slot 1 false false) p) i)) (option_seen (in_slot (a_slot 1 false false) p) j) (front ((expr_seen (in_slot (inner_slot p.slot (slice s d i j) 7 false false) p) other d) ++ (option_seen (in_slot (a_slot 1 false false) p) i) ++ (option_seen (in_slot (a_slot 1 false false) p) j)) (seen p u (slice s d i j) ∷ []) (al)))))) (option-put around (in_slot (a_slot 1 false false) p) b h j given_.1.1 (back ((expr_seen (in_slot (inner_slot p.slot (slice s d i j) 7 false false) p) other d) ++ (option_seen (in_slot (a_slot 1 false false) p) i)) (option_seen (in_slot (a_slot 1 false false) p) j) (front ((expr_seen (in_slot (inner_slot p.slot (slice s d i j) 7 false false) p) other d) ++ (option_seen (in_slot (a_slot 1 false false) p) i) ++ (option_seen (in_slot (a_slot 1 false false) p) j)) (seen p u (slice s d i j) ∷ []) (al))))) (gives-same [])))
+    expr-put around p b h u (call s f xs r) st al = expr-answer (c.expr p u (call s f xs r)) (call (c.span s) (new_expr c (callee_place (inner_slot p.slot (call s f xs r) 7 true false) f p) called f) (new_all c (in_slot (a_slot 1 false true) p) (arg_uses p.env (parts p.env f) (all_parts p.env xs)) xs) r) p b h u (call s f xs r) refl st (((back ((expr_seen (callee_place (inner_slot p.slot (call s f xs r) 7 true false) f p) called f) ++ (all_seen (in_slot (a_slot 1 false true) p) (arg_uses p.env (parts p.env f) (all_parts p.env xs)) xs)) (seen p u (call s f xs r) ∷ []) (al))).0).1 (λ given_. (gives-app (gives-app (callee-at p (inner_slot p.slot (call s f xs r) 7 true false) f (λ e m. Gives (calls_expr D e b m) (calls_expr D e b f)) (expr-put around (callee_place (inner_slot p.slot (call s f xs r) 7 true false) f p) b (callee-bound p b (inner_slot p.slot (call s f xs r) 7 true false) f h) called f (callee-stands around p (inner_slot p.slot (call s f xs r) 7 true false) f given_.0) (front ((expr_seen (callee_place (inner_slot p.slot (call s f xs r) 7 true false) f p) called f)) (all_seen (in_slot (a_slot 1 false true) p) (arg_uses p.env (parts p.env f) (all_parts p.env xs)) xs) (front ((expr_seen (callee_place (inner_slot p.slot (call s f xs r) 7 true false) f p) called f) ++ (all_seen (in_slot (a_slot 1 false true) p) (arg_uses p.env (parts p.env f) (all_parts p.env xs)) xs)) (seen p u (call s f xs r) ∷ []) (al))))) (all-put around (in_slot (a_slot 1 false true) p) b h (arg_uses p.env (parts p.env f) (all_parts p.env xs)) xs given_.1 (back ((expr_seen (callee_place (inner_slot p.slot (call s f xs r) 7 true false) f p) called f)) (all_seen (in_slot (a_slot 1 false true) p) (arg_uses p.env (parts p.env f) (all_parts p.env xs)) xs) (front ((expr_seen (callee_place (inner_slot p.slot (call s f xs r) 7 true false) f p) called f) ++ (all_seen (in_slot (a_slot 1 false true) p) (arg_uses p.env (parts p.env f) (all_parts p.env xs)) xs)) (seen p u (call s f xs r) ∷ []) (al))))) (gives-by (λ v. called_by D (callee-put around p b h f (inner_slot p.slot (call s f xs r) 7 true false) given_.0 (front ((expr_seen (callee_place (inner_slot p.slot (call s f xs r) 7 true false) f p) called f)) (all_seen (in_slot (a_slot 1 false true) p) (arg_uses p.env (parts p.env f) (all_parts p.env xs)) xs) (front ((expr_seen (callee_place (inner_slot p.slot (call s f xs r) 7 true false) f p) called f) ++ (all_seen (in_slot (a_slot 1 false true) p) (arg_uses p.env (parts p.env f) (all_parts p.env xs)) xs)) (seen p u (call s f xs r) ∷ []) (al))) v)))))
     expr-put around p b h u (func_lit s g z y) st al = expr-answer (c.expr p u (func_lit s g z y)) (func_lit (c.span s) (new_sig c p g) (c.span z) (new_stmts c (in_literal p g) y)) p b h u (func_lit s g z y) refl st (((back ((sig_seen p g) ++ (stmts_seen (in_literal p g) y)) (seen p u (func_lit s g z y) ∷ []) (al))).0).1 (λ given_. literal-put around p b g y given_.0 (((back ((sig_seen p g) ++ (stmts_seen (in_literal p g) y)) (seen p u (func_lit s g z y) ∷ []) (al))).0).0 given_.1 (λ n. stmts-put (sig_names g ++ around) (in_literal p g) (bound_lit p.env b g) (literal-bound p b g h) y n (back ((sig_seen p g)) (stmts_seen (in_literal p g) y) (front ((sig_seen p g) ++ (stmts_seen (in_literal p g) y)) (seen p u (func_lit s g z y) ∷ []) (al)))))
-    expr-put around p b h u (type_operand s t) st al = expr-answer (c.expr p u (type_operand s t)) (type_operand (c.span s) (new_type c p t)) p b h u (type_operand s t) refl st (((back ((type_seen p t)) (seen p u (type_operand s t) ∷ []) (al))).0).1 (λ given_. refl)
-    expr-put around p b h u (unary s o d) st al = expr-answer (c.expr p u (unary s o d)) (unary (c.span s) o (new_expr c (in_slot (last_slot p.slot (unary s o d) 6 (Some o)) p) (unary_use o) d)) p b h u (unary s o d) refl st (((back ((expr_seen (in_slot (last_slot p.slot (unary s o d) 6 (Some o)) p) (unary_use o) d)) (seen p u (unary s o d) ∷ []) (al))).0).1 (λ given_. (λ v. (expr-put around (in_slot (last_slot p.slot (unary s o d) 6 (Some o)) p) b h (unary_use o) d given_ (front ((expr_seen (in_slot (last_slot p.slot (unary s o d) 6 (Some o)) p) (unary_use o) d)) (seen p u (unary s o d) ∷ []) (al))) v ++ []))
-    expr-put around p b h u (binary s o d e) st al = expr-answer (c.expr p u (binary s o d e)) (binary (c.span s) o (new_expr c (in_slot (inner_slot p.slot (binary s o d e) (level_of o) false false) p) (operand_use p.env o e) d) (new_expr c (in_slot (last_slot p.slot (binary s o d e) (level_of o + 1) None) p) (operand_use p.env o d) e)) p b h u (binary s o d e) refl st (((back ((expr_seen (in_slot (inner_slot p.slot (binary s o d e) (level_of o) false false) p) (operand_use p.env o e) d) ++ (expr_seen (in_slot (last_slot p.slot (binary s o d e) (level_of o + 1) None) p) (operand_use p.env o d) e)) (seen p u (binary s o d e) ∷ []) (al))).0).1 (λ given_. (λ v. (expr-put around (in_slot (inner_slot p.slot (binary s o d e) (level_of o) false false) p) b h (operand_use p.env o e) d given_.0 (front ((expr_seen (in_slot (inner_slot p.slot (binary s o d e) (level_of o) false false) p) (operand_use p.env o e) d)) (expr_seen (in_slot (last_slot p.slot (binary s o d e) (level_of o + 1) None) p) (operand_use p.env o d) e) (front ((expr_seen (in_slot (inner_slot p.slot (binary s o d e) (level_of o) false false) p) (operand_use p.env o e) d) ++ (expr_seen (in_slot (last_slot p.slot (binary s o d e) (level_of o + 1) None) p) (operand_use p.env o d) e)) (seen p u (binary s o d e) ∷ []) (al)))) v ++ (expr-put around (in_slot (last_slot p.slot (binary s o d e) (level_of o + 1) None) p) b h (operand_use p.env o d) e given_.1 (back ((expr_seen (in_slot (inner_slot p.slot (binary s o d e) (level_of o) false false) p) (operand_use p.env o e) d)) (expr_seen (in_slot (last_slot p.slot (binary s o d e) (level_of o + 1) None) p) (operand_use p.env o d) e) (front ((expr_seen (in_slot (inner_slot p.slot (binary s o d e) (level_of o) false false) p) (operand_use p.env o e) d) ++ (expr_seen (in_slot (last_slot p.slot (binary s o d e) (level_of o + 1) None) p) (operand_use p.env o d) e)) (seen p u (binary s o d e) ∷ []) (al)))) v ++ []))
-    expr-put around p b h u (star s d) st al = expr-answer (c.expr p u (star s d)) (star (c.span s) (new_expr c (in_slot (last_slot p.slot (star s d) 6 None) p) other d)) p b h u (star s d) refl st (((back ((expr_seen (in_slot (last_slot p.slot (star s d) 6 None) p) other d)) (seen p u (star s d) ∷ []) (al))).0).1 (λ given_. (λ v. (expr-put around (in_slot (last_slot p.slot (star s d) 6 None) p) b h other d given_ (front ((expr_seen (in_slot (last_slot p.slot (star s d) 6 None) p) other d)) (seen p u (star s d) ∷ []) (al))) v ++ []))
+    expr-put around p b h u (type_operand s t) st al = expr-answer (c.expr p u (type_operand s t)) (type_operand (c.span s) (new_type c p t)) p b h u (type_operand s t) refl st (((back ((type_seen p t)) (seen p u (type_operand s t) ∷ []) (al))).0).1 (λ given_. gives-same [])
+    expr-put around p b h u (unary s o d) st al = expr-answer (c.expr p u (unary s o d)) (unary (c.span s) o (new_expr c (in_slot (last_slot p.slot (unary s o d) 6 (Some o)) p) (unary_use o) d)) p b h u (unary s o d) refl st (((back ((expr_seen (in_slot (last_slot p.slot (unary s o d) 6 (Some o)) p) (unary_use o) d)) (seen p u (unary s o d) ∷ []) (al))).0).1 (λ given_. (gives-app (expr-put around (in_slot (last_slot p.slot (unary s o d) 6 (Some o)) p) b h (unary_use o) d given_ (front ((expr_seen (in_slot (last_slot p.slot (unary s o d) 6 (Some o)) p) (unary_use o) d)) (seen p u (unary s o d) ∷ []) (al))) (gives-same [])))
+    expr-put around p b h u (binary s o d e) st al = expr-answer (c.expr p u (binary s o d e)) (binary (c.span s) o (new_expr c (in_slot (inner_slot p.slot (binary s o d e) (level_of o) false false) p) (operand_use p.env o e) d) (new_expr c (in_slot (last_slot p.slot (binary s o d e) (level_of o + 1) None) p) (operand_use p.env o d) e)) p b h u (binary s o d e) refl st (((back ((expr_seen (in_slot (inner_slot p.slot (binary s o d e) (level_of o) false false) p) (operand_use p.env o e) d) ++ (expr_seen (in_slot (last_slot p.slot (binary s o d e) (level_of o + 1) None) p) (operand_use p.env o d) e)) (seen p u (binary s o d e) ∷ []) (al))).0).1 (λ given_. (gives-app (gives-app (expr-put around (in_slot (inner_slot p.slot (binary s o d e) (level_of o) false false) p) b h (operand_use p.env o e) d given_.0 (front ((expr_seen (in_slot (inner_slot p.slot (binary s o d e) (level_of o) false false) p) (operand_use p.env o e) d)) (expr_seen (in_slot (last_slot p.slot (binary s o d e) (level_of o + 1) None) p) (operand_use p.env o d) e) (front ((expr_seen (in_slot (inner_slot p.slot (binary s o d e) (level_of o) false false) p) (operand_use p.env o e) d) ++ (expr_seen (in_slot (last_slot p.slot (binary s o d e) (level_of o + 1) None) p) (operand_use p.env o d) e)) (seen p u (binary s o d e) ∷ []) (al)))) (expr-put around (in_slot (last_slot p.slot (binary s o d e) (level_of o + 1) None) p) b h (operand_use p.env o d) e given_.1 (back ((expr_seen (in_slot (inner_slot p.slot (binary s o d e) (level_of o) false false) p) (operand_use p.env o e) d)) (expr_seen (in_slot (last_slot p.slot (binary s o d e) (level_of o + 1) None) p) (operand_use p.env o d) e) (front ((expr_seen (in_slot (inner_slot p.slot (binary s o d e) (level_of o) false false) p) (operand_use p.env o e) d) ++ (expr_seen (in_slot (last_slot p.slot (binary s o d e) (level_of o + 1) None) p) (operand_use p.env o d) e)) (seen p u (binary s o d e) ∷ []) (al))))) (gives-same [])))
+    expr-put around p b h u (star s d) st al = expr-answer (c.expr p u (star s d)) (star (c.span s) (new_expr c (in_slot (last_slot p.slot (star s d) 6 None) p) other d)) p b h u (star s d) refl st (((back ((expr_seen (in_slot (last_slot p.slot (star s d) 6 None) p) other d)) (seen p u (star s d) ∷ []) (al))).0).1 (λ given_. (gives-app (expr-put around (in_slot (last_slot p.slot (star s d) 6 None) p) b h other d given_ (front ((expr_seen (in_slot (last_slot p.slot (star s d) 6 None) p) other d)) (seen p u (star s d) ∷ []) (al))) (gives-same [])))
 
     pub all-put : (around : List (List ℕ)) (p : Place S) (b : List (List ℕ)) → names_of p.bound ≡ b → (us : List Use) → (x : Exprs S) → ExprsStands c around p.env p us x → AllLead (all_seen p us x)
-        → calls_all D p.env b (new_all c p us x) ≡ calls_all D p.env b x
-    all-put around p b h us no_exprs st al = refl
-    all-put around p b h us (expr_and d es) st al = (λ v. (expr-put around (record p { slot = comma_slot p.slot es }) b h (head_use us) d st.0 (front ((expr_seen (record p { slot = comma_slot p.slot es }) (head_use us) d)) (all_seen p (later_uses us) es) (al))) v ++ (all-put around p b h (later_uses us) es st.1 (back ((expr_seen (record p { slot = comma_slot p.slot es }) (head_use us) d)) (all_seen p (later_uses us) es) (al))) v)
+        → Gives (calls_all D p.env b (new_all c p us x)) (calls_all D p.env b x)
+    all-put around p b h us no_exprs st al = gives-same []
+    all-put around p b h us (expr_and d es) st al = (gives-app (expr-put around (record p { slot = comma_slot p.slot es }) b h (head_use us) d st.0 (front ((expr_seen (record p { slot = comma_slot p.slot es }) (head_use us) d)) (all_seen p (later_uses us) es) (al))) (all-put around p b h (later_uses us) es st.1 (back ((expr_seen (record p { slot = comma_slot p.slot es }) (head_use us) d)) (all_seen p (later_uses us) es) (al))))
 
     pub option-put : (around : List (List ℕ)) (p : Place S) (b : List (List ℕ)) → names_of p.bound ≡ b → (x : ExprOption S) → ExprOptionStands c around p.env p x → AllLead (option_seen p x)
-        → calls_option D p.env b (new_option c p x) ≡ calls_option D p.env b x
-    option-put around p b h no_expr st al = refl
-    option-put around p b h (some_expr d) st al = (λ v. (expr-put around p b h other d st (al)) v)
+        → Gives (calls_option D p.env b (new_option c p x)) (calls_option D p.env b x)
+    option-put around p b h no_expr st al = gives-same []
+    option-put around p b h (some_expr d) st al = (expr-put around p b h other d st (al))
 
     pub elems-put : (around : List (List ℕ)) (t : Option GoType) (p : Place S) (b : List (List ℕ)) → names_of p.bound ≡ b → (u : Option GoType) (i : ℕ) → (x : Elems S) → ElemsStands c around p.env t p u i x → AllLead (elems_seen p u i x)
-        → calls_elems D p.env b u i (new_elems c p u i x) ≡ calls_elems D p.env b u i x
-    elems-put around t p b h u i no_elems st al = refl
-    elems-put around t p b h u i (elem s k v es) st al = (λ w_. calls_key D p.env b u (new_key c p u k) ++ calls_value D p.env b (elem-use-put p u i k w_) (new_value c (record p { slot = a_slot 1 false (elem_closed es) }) (elem_use p.env u i k) v) ++ calls_elems D p.env b u (suc i) (new_elems c p u (suc i) es)) ∙ (λ w_. (key-put around t p b h u k st.0 (front ((key_seen p u k)) (value_seen (record p { slot = a_slot 1 false (elem_closed es) }) (elem_use p.env u i k) v) (front ((key_seen p u k) ++ (value_seen (record p { slot = a_slot 1 false (elem_closed es) }) (elem_use p.env u i k) v)) (elems_seen p u (suc i) es) (al)))) w_ ++ (value-put around (given t (inner_type (defined_in p.env))) (record p { slot = a_slot 1 false (elem_closed es) }) b h (elem_use p.env u i k) v st.1.0 (back ((key_seen p u k)) (value_seen (record p { slot = a_slot 1 false (elem_closed es) }) (elem_use p.env u i k) v) (front ((key_seen p u k) ++ (value_seen (record p { slot = a_slot 1 false (elem_closed es) }) (elem_use p.env u i k) v)) (elems_seen p u (suc i) es) (al)))) w_ ++ (elems-put around t p b h u (suc i) es st.1.1 (back ((key_seen p u k) ++ (value_seen (record p { slot = a_slot 1 false (elem_closed es) }) (elem_use p.env u i k) v)) (elems_seen p u (suc i) es) (al))) w_)
+        → Gives (calls_elems D p.env b u i (new_elems c p u i x)) (calls_elems D p.env b u i x)
+    elems-put around t p b h u i no_elems st al = gives-same []
+    elems-put around t p b h u i (elem s k v es) st al = gives-eq (λ w_. calls_key D p.env b u (new_key c p u k) ++ calls_value D p.env b (elem-use-put p u i k w_) (new_value c (record p { slot = a_slot 1 false (elem_closed es) }) (elem_use p.env u i k) v) ++ calls_elems D p.env b u (suc i) (new_elems c p u (suc i) es)) (gives-app (gives-app (key-put around t p b h u k st.0 (front ((key_seen p u k)) (value_seen (record p { slot = a_slot 1 false (elem_closed es) }) (elem_use p.env u i k) v) (front ((key_seen p u k) ++ (value_seen (record p { slot = a_slot 1 false (elem_closed es) }) (elem_use p.env u i k) v)) (elems_seen p u (suc i) es) (al)))) (value-put around (given t (inner_type (defined_in p.env))) (record p { slot = a_slot 1 false (elem_closed es) }) b h (elem_use p.env u i k) v st.1.0 (back ((key_seen p u k)) (value_seen (record p { slot = a_slot 1 false (elem_closed es) }) (elem_use p.env u i k) v) (front ((key_seen p u k) ++ (value_seen (record p { slot = a_slot 1 false (elem_closed es) }) (elem_use p.env u i k) v)) (elems_seen p u (suc i) es) (al))))) (elems-put around t p b h u (suc i) es st.1.1 (back ((key_seen p u k) ++ (value_seen (record p { slot = a_slot 1 false (elem_closed es) }) (elem_use p.env u i k) v)) (elems_seen p u (suc i) es) (al))))
 
     pub key-put : (around : List (List ℕ)) (t : Option GoType) (p : Place S) (b : List (List ℕ)) → names_of p.bound ≡ b → (u : Option GoType) → (x : ValueOption S) → KeyStands c around p.env t p u x → AllLead (key_seen p u x)
-        → calls_key D p.env b u (new_key c p u x) ≡ calls_key D p.env b u x
-    key-put around t p b h u no_value st al = refl
+        → Gives (calls_key D p.env b u (new_key c p u x)) (calls_key D p.env b u x)
+    key-put around t p b h u no_value st al = gives-same []
     key-put around t p b h u (some_value v) st al = key-case (meets u is_struct) (value_with c.span v) (new_value c p (key_use p.env u) v) v (calls_value D p.env b (key_use p.env u)) st.1 (value_seen p (key_use p.env u) v) al (λ q m. value-put around (given t (key_type (defined_in p.env))) p b h (key_use p.env u) v q m)
 
     pub value-put : (around : List (List ℕ)) (t : Option GoType) (p : Place S) (b : List (List ℕ)) → names_of p.bound ≡ b → (u : Use) → (x : Value S) → ValueStands c around p.env t p u x → AllLead (value_seen p u x)
-        → calls_value D p.env b u (new_value c p u x) ≡ calls_value D p.env b u x
-    value-put around t p b h u (plain d) st al = (λ v. (expr-put around p b h u d st (al)) v)
-    value-put around t p b h u (braced s es) st al = (λ v. (elems-put around (given t (λ t. Some (under (defined_in p.env) (literal_type (defined_in p.env) t)))) p b h (given (into_type u) (λ t. Some (under (defined_in p.env) (literal_type (defined_in p.env) t)))) 0 es st (al)) v)
+        → Gives (calls_value D p.env b u (new_value c p u x)) (calls_value D p.env b u x)
+    value-put around t p b h u (plain d) st al = (expr-put around p b h u d st (al))
+    value-put around t p b h u (braced s es) st al = (elems-put around (given t (λ t. Some (under (defined_in p.env) (literal_type (defined_in p.env) t)))) p b h (given (into_type u) (λ t. Some (under (defined_in p.env) (literal_type (defined_in p.env) t)))) 0 es st (al))
 
     pub stmt-put : (around : List (List ℕ)) (p : Place S) (b : List (List ℕ)) → names_of p.bound ≡ b → (l : Bool) → (x : Stmt S) → StmtStands c around p.env p l x → AllLead (stmt_seen p l x)
-        → calls_stmt D p.env b (new_stmt c p l x) ≡ calls_stmt D p.env b x
-    stmt-put around p b h l (const_decl s g ss) st al = stmt-answer (c.stmt p (const_decl s g ss)) (const_decl (c.span s) g (run.new_constants c (plain_slot p) nothing_to_repeat 0 ss)) p.env b (const_decl s g ss) (no_stmt_put p (const_decl s g ss)) st (λ given_. constants-none p b h ss (back (constants_seen (plain_slot p) nothing_to_repeat 0 ss) (seen_stmt p (const_decl s g ss) ∷ []) al).0)
-    stmt-put around p b h l (var_decl s g ss) st al = stmt-answer (c.stmt p (var_decl s g ss)) (var_decl (c.span s) g (new_variables c (plain_slot p) ss)) p.env b (var_decl s g ss) (no_stmt_put p (var_decl s g ss)) st (λ given_. (λ v. (variables-put around (plain_slot p) b h ss given_ (front ((variables_seen (plain_slot p) ss)) (seen_stmt p (var_decl s g ss) ∷ []) (al))) v ++ []))
-    stmt-put around p b h l (empty s) st al = stmt-answer (c.stmt p (empty s)) (empty (c.span s)) p.env b (empty s) (no_stmt_put p (empty s)) st (λ given_. refl)
-    stmt-put around p b h l (eval s d) st al = stmt-answer (c.stmt p (eval s d)) (eval (c.span s) (new_expr c p (alone l) d)) p.env b (eval s d) (no_stmt_put p (eval s d)) st (λ given_. (λ v. (expr-put around p b h (alone l) d given_ (front ((expr_seen p (alone l) d)) (seen_stmt p (eval s d) ∷ []) (al))) v ++ []))
-    stmt-put around p b h l (step s d y) st al = stmt-answer (c.stmt p (step s d y)) (step (c.span s) (new_expr c p updated d) y) p.env b (step s d y) (no_stmt_put p (step s d y)) st (λ given_. (λ v. (expr-put around p b h updated d given_ (front ((expr_seen p updated d)) (seen_stmt p (step s d y) ∷ []) (al))) v ++ []))
-    stmt-put around p b h l (assign s xs None ys) st al = stmt-answer (c.stmt p (assign s xs None ys)) (assign (c.span s) (new_all c p (every_use stored xs) xs) None (new_all c p (right_uses p.env xs) ys)) p.env b (assign s xs None ys) (no_stmt_put p (assign s xs None ys)) st (λ given_. (λ v. (all-put around p b h (every_use stored xs) xs given_.0 (front ((all_seen p (every_use stored xs) xs)) (all_seen p (right_uses p.env xs) ys) (front ((all_seen p (every_use stored xs) xs) ++ (all_seen p (right_uses p.env xs) ys)) (seen_stmt p (assign s xs None ys) ∷ []) (al)))) v ++ (all-put around p b h (right_uses p.env xs) ys given_.1 (back ((all_seen p (every_use stored xs) xs)) (all_seen p (right_uses p.env xs) ys) (front ((all_seen p (every_use stored xs) xs) ++ (all_seen p (right_uses p.env xs) ys)) (seen_stmt p (assign s xs None ys) ∷ []) (al)))) v ++ []))
-    stmt-put around p b h l (assign s xs (Some o) ys) st al = stmt-answer (c.stmt p (assign s xs (Some o) ys)) (assign (c.span s) (new_all c p (every_use updated xs) xs) (Some o) (new_all c p (first_operand_use p.env o xs ∷ []) ys)) p.env b (assign s xs (Some o) ys) (no_stmt_put p (assign s xs (Some o) ys)) st (λ given_. (λ v. (all-put around p b h (every_use updated xs) xs given_.0 (front ((all_seen p (every_use updated xs) xs)) (all_seen p (first_operand_use p.env o xs ∷ []) ys) (front ((all_seen p (every_use updated xs) xs) ++ (all_seen p (first_operand_use p.env o xs ∷ []) ys)) (seen_stmt p (assign s xs (Some o) ys) ∷ []) (al)))) v ++ (all-put around p b h (first_operand_use p.env o xs ∷ []) ys given_.1 (back ((all_seen p (every_use updated xs) xs)) (all_seen p (first_operand_use p.env o xs ∷ []) ys) (front ((all_seen p (every_use updated xs) xs) ++ (all_seen p (first_operand_use p.env o xs ∷ []) ys)) (seen_stmt p (assign s xs (Some o) ys) ∷ []) (al)))) v ++ []))
-    stmt-put around p b h l (define s ns ys) st al = stmt-answer (c.stmt p (define s ns ys)) (define (c.span s) (new_names c ns) (new_all c p (alike whole ns) ys)) p.env b (define s ns ys) (no_stmt_put p (define s ns ys)) st (λ given_. (λ v. (all-put around p b h (alike whole ns) ys given_ (back ((old_seen p ns)) (all_seen p (alike whole ns) ys) (front ((old_seen p ns) ++ (all_seen p (alike whole ns) ys)) (seen_stmt p (define s ns ys) ∷ []) (al)))) v ++ []))
-    stmt-put around p b h l (return_ s xs) st al = stmt-answer (c.stmt p (return_ s xs)) (return_ (c.span s) (new_all c p (return_uses p.ctx.results xs) xs)) p.env b (return_ s xs) (no_stmt_put p (return_ s xs)) st (λ given_. (λ v. (all-put around p b h (return_uses p.ctx.results xs) xs given_ (front ((all_seen p (return_uses p.ctx.results xs) xs)) (seen_stmt p (return_ s xs) ∷ []) (al))) v ++ []))
-    stmt-put around p b h l (break_ s o) st al = stmt-answer (c.stmt p (break_ s o)) (break_ (c.span s) (new_label c o)) p.env b (break_ s o) (no_stmt_put p (break_ s o)) st (λ given_. refl)
-    stmt-put around p b h l (continue_ s o) st al = stmt-answer (c.stmt p (continue_ s o)) (continue_ (c.span s) (new_label c o)) p.env b (continue_ s o) (no_stmt_put p (continue_ s o)) st (λ given_. refl)
-    stmt-put around p b h l (inner s y) st al = stmt-answer (c.stmt p (inner s y)) (inner (c.span s) (new_stmts c (block p) y)) p.env b (inner s y) (no_stmt_put p (inner s y)) st (λ given_. (λ v. (stmts-put around (block p) b h y given_ (front ((stmts_seen (block p) y)) (seen_stmt p (inner s y) ∷ []) (al))) v ++ []))
-    stmt-put around p b h l (if_ s bs z) st al = stmt-answer (c.stmt p (if_ s bs z)) (if_ (c.span s) (new_arms c (block p) bs) (new_block c (after_arms (block p) bs) z)) p.env b (if_ s bs z) (no_stmt_put p (if_ s bs z)) st (λ given_. λ v. arms-put around (block p) b h z (λ a q m e n k. block-put a q m e z n k) bs given_ (front (arms_seen (block p) bs) (block_seen (after_arms (block p) bs) z) (front ((arms_seen (block p) bs) ++ (block_seen (after_arms (block p) bs) z)) (seen_stmt p (if_ s bs z) ∷ []) al)) (back (arms_seen (block p) bs) (block_seen (after_arms (block p) bs) z) (front ((arms_seen (block p) bs) ++ (block_seen (after_arms (block p) bs) z)) (seen_stmt p (if_ s bs z) ∷ []) al)) v ++ [])
-    stmt-put around p b h l (for_ s i t q z y) st al = stmt-answer (c.stmt p (for_ s i t q z y)) (for_ (c.span s) (new_first c (in_heading true (block p)) i) (new_option c (in_heading true (after_first (block p) i)) t) (new_first c (in_heading true (after_first (block p) i)) q) (c.span z) (new_stmts c (looping (block (after_first (block p) i))) y)) p.env b (for_ s i t q z y) (no_stmt_put p (for_ s i t q z y)) st (λ given_. (λ v. calls_first D (in_block p.env) b (new_first c (in_heading true (block p)) i) ++ calls_option D (first-env-same (first-stands c around (in_block p.env) (in_heading true (block p)) i given_.0) v) (first-bound-same c quiet b (in_heading true (block p)) i v) (new_option c (in_heading true (after_first (block p) i)) t) ++ calls_first D (first-env-same (first-stands c around (in_block p.env) (in_heading true (block p)) i given_.0) v) (first-bound-same c quiet b (in_heading true (block p)) i v) (new_first c (in_heading true (after_first (block p) i)) q) ++ calls_stmts D (in_block (first-env-same (first-stands c around (in_block p.env) (in_heading true (block p)) i given_.0) v)) (first-bound-same c quiet b (in_heading true (block p)) i v) (new_stmts c (looping (block (after_first (block p) i))) y) ++ []) ∙ (λ v. (first-put around (in_heading true (block p)) b h i given_.0 (front ((first_seen (in_heading true (block p)) i)) (option_seen (in_heading true (after_first (block p) i)) t) (front ((first_seen (in_heading true (block p)) i) ++ (option_seen (in_heading true (after_first (block p) i)) t)) (first_seen (in_heading true (after_first (block p) i)) q) (front ((first_seen (in_heading true (block p)) i) ++ (option_seen (in_heading true (after_first (block p) i)) t) ++ (first_seen (in_heading true (after_first (block p) i)) q)) (stmts_seen (looping (block (after_first (block p) i))) y) (front ((first_seen (in_heading true (block p)) i) ++ (option_seen (in_heading true (after_first (block p) i)) t) ++ (first_seen (in_heading true (after_first (block p) i)) q) ++ (stmts_seen (looping (block (after_first (block p) i))) y)) (seen_stmt p (for_ s i t q z y) ∷ []) (al)))))) v ++ (option-put (declared_option i ++ around) (in_heading true (after_first (block p) i)) (first_bound b i) (first-bound (block p) b i h) t given_.1.0 (back ((first_seen (in_heading true (block p)) i)) (option_seen (in_heading true (after_first (block p) i)) t) (front ((first_seen (in_heading true (block p)) i) ++ (option_seen (in_heading true (after_first (block p) i)) t)) (first_seen (in_heading true (after_first (block p) i)) q) (front ((first_seen (in_heading true (block p)) i) ++ (option_seen (in_heading true (after_first (block p) i)) t) ++ (first_seen (in_heading true (after_first (block p) i)) q)) (stmts_seen (looping (block (after_first (block p) i))) y) (front ((first_seen (in_heading true (block p)) i) ++ (option_seen (in_heading true (after_first (block p) i)) t) ++ (first_seen (in_heading true (after_first (block p) i)) q) ++ (stmts_seen (looping (block (after_first (block p) i))) y)) (seen_stmt p (for_ s i t q z y) ∷ []) (al)))))) v ++ (first-put (declared_option i ++ around) (in_heading true (after_first (block p) i)) (first_bound b i) (first-bound (block p) b i h) q given_.1.1.0 (back ((first_seen (in_heading true (block p)) i) ++ (option_seen (in_heading true (after_first (block p) i)) t)) (first_seen (in_heading true (after_first (block p) i)) q) (front ((first_seen (in_heading true (block p)) i) ++ (option_seen (in_heading true (after_first (block p) i)) t) ++ (first_seen (in_heading true (after_first (block p) i)) q)) (stmts_seen (looping (block (after_first (block p) i))) y) (front ((first_seen (in_heading true (block p)) i) ++ (option_seen (in_heading true (after_first (block p) i)) t) ++ (first_seen (in_heading true (after_first (block p) i)) q) ++ (stmts_seen (looping (block (after_first (block p) i))) y)) (seen_stmt p (for_ s i t q z y) ∷ []) (al))))) v ++ (stmts-put (declared_option i ++ around) (looping (block (after_first (block p) i))) (first_bound b i) (first-bound (block p) b i h) y given_.1.1.1 (back ((first_seen (in_heading true (block p)) i) ++ (option_seen (in_heading true (after_first (block p) i)) t) ++ (first_seen (in_heading true (after_first (block p) i)) q)) (stmts_seen (looping (block (after_first (block p) i))) y) (front ((first_seen (in_heading true (block p)) i) ++ (option_seen (in_heading true (after_first (block p) i)) t) ++ (first_seen (in_heading true (after_first (block p) i)) q) ++ (stmts_seen (looping (block (after_first (block p) i))) y)) (seen_stmt p (for_ s i t q z y) ∷ []) (al)))) v ++ []))
-    stmt-put around p b h l (range_ s x d z y) st al = stmt-answer (c.stmt p (range_ s x d z y)) (range_ (c.span s) (new_left c (in_heading true p) x) (new_expr c (in_heading true p) other d) (c.span z) (new_stmts c (looping (block (ranged p x d))) y)) p.env b (range_ s x d z y) (no_stmt_put p (range_ s x d z y)) st (λ given_. (λ v. calls_left D p.env b (new_left c (in_heading true p) x) ++ calls_expr D p.env b (new_expr c (in_heading true p) other d) ++ calls_stmts D (in_block (range-env-same (left-stands c around p.env (in_heading true p) x given_.0) (expr-stands c around p.env (in_heading true p) other d given_.1.0) v)) (range-bound-same c b (in_heading true p) x v) (new_stmts c (looping (block (ranged p x d))) y) ++ []) ∙ (λ v. (left-put around (in_heading true p) b h x given_.0 (front ((left_seen (in_heading true p) x)) (expr_seen (in_heading true p) other d) (front ((left_seen (in_heading true p) x) ++ (expr_seen (in_heading true p) other d)) (stmts_seen (looping (block (ranged p x d))) y) (front ((left_seen (in_heading true p) x) ++ (expr_seen (in_heading true p) other d) ++ (stmts_seen (looping (block (ranged p x d))) y)) (seen_stmt p (range_ s x d z y) ∷ []) (al))))) v ++ (expr-put around (in_heading true p) b h other d given_.1.0 (back ((left_seen (in_heading true p) x)) (expr_seen (in_heading true p) other d) (front ((left_seen (in_heading true p) x) ++ (expr_seen (in_heading true p) other d)) (stmts_seen (looping (block (ranged p x d))) y) (front ((left_seen (in_heading true p) x) ++ (expr_seen (in_heading true p) other d) ++ (stmts_seen (looping (block (ranged p x d))) y)) (seen_stmt p (range_ s x d z y) ∷ []) (al))))) v ++ (stmts-put (defined x ++ around) (looping (block (ranged p x d))) (range_bound b x) (range-bound p b x d h) y given_.1.1 (back ((left_seen (in_heading true p) x) ++ (expr_seen (in_heading true p) other d)) (stmts_seen (looping (block (ranged p x d))) y) (front ((left_seen (in_heading true p) x) ++ (expr_seen (in_heading true p) other d) ++ (stmts_seen (looping (block (ranged p x d))) y)) (seen_stmt p (range_ s x d z y) ∷ []) (al)))) v ++ []))
-    stmt-put around p b h l (switch s i t cs) st al = stmt-answer (c.stmt p (switch s i t cs)) (switch (c.span s) (new_first c (in_heading true (block p)) i) (new_option c (in_heading true (after_first (block p) i)) t) (new_cases c (switching (after_first (block p) i)) cs)) p.env b (switch s i t cs) (no_stmt_put p (switch s i t cs)) st (λ given_. (λ v. calls_first D (in_block p.env) b (new_first c (in_heading true (block p)) i) ++ calls_option D (first-env-same (first-stands c around (in_block p.env) (in_heading true (block p)) i given_.0) v) (first-bound-same c quiet b (in_heading true (block p)) i v) (new_option c (in_heading true (after_first (block p) i)) t) ++ calls_cases D (first-env-same (first-stands c around (in_block p.env) (in_heading true (block p)) i given_.0) v) (first-bound-same c quiet b (in_heading true (block p)) i v) (new_cases c (switching (after_first (block p) i)) cs) ++ []) ∙ (λ v. (first-put around (in_heading true (block p)) b h i given_.0 (front ((first_seen (in_heading true (block p)) i)) (option_seen (in_heading true (after_first (block p) i)) t) (front ((first_seen (in_heading true (block p)) i) ++ (option_seen (in_heading true (after_first (block p) i)) t)) (cases_seen (switching (after_first (block p) i)) cs) (front ((first_seen (in_heading true (block p)) i) ++ (option_seen (in_heading true (after_first (block p) i)) t) ++ (cases_seen (switching (after_first (block p) i)) cs)) (seen_stmt p (switch s i t cs) ∷ []) (al))))) v ++ (option-put (declared_option i ++ around) (in_heading true (after_first (block p) i)) (first_bound b i) (first-bound (block p) b i h) t given_.1.0 (back ((first_seen (in_heading true (block p)) i)) (option_seen (in_heading true (after_first (block p) i)) t) (front ((first_seen (in_heading true (block p)) i) ++ (option_seen (in_heading true (after_first (block p) i)) t)) (cases_seen (switching (after_first (block p) i)) cs) (front ((first_seen (in_heading true (block p)) i) ++ (option_seen (in_heading true (after_first (block p) i)) t) ++ (cases_seen (switching (after_first (block p) i)) cs)) (seen_stmt p (switch s i t cs) ∷ []) (al))))) v ++ (cases-put (declared_option i ++ around) (switching (after_first (block p) i)) (first_bound b i) (first-bound (block p) b i h) cs given_.1.1 (back ((first_seen (in_heading true (block p)) i) ++ (option_seen (in_heading true (after_first (block p) i)) t)) (cases_seen (switching (after_first (block p) i)) cs) (front ((first_seen (in_heading true (block p)) i) ++ (option_seen (in_heading true (after_first (block p) i)) t) ++ (cases_seen (switching (after_first (block p) i)) cs)) (seen_stmt p (switch s i t cs) ∷ []) (al)))) v ++ []))
-    stmt-put around p b h l (defer s d) st al = stmt-answer (c.stmt p (defer s d)) (defer (c.span s) (new_expr c (record p { deferring = true; slot = a_slot 0 false false }) deferred_call d)) p.env b (defer s d) (no_stmt_put p (defer s d)) st (λ given_. (λ v. (expr-put around (record p { deferring = true; slot = a_slot 0 false false }) b h deferred_call d given_ (front ((expr_seen (record p { deferring = true; slot = a_slot 0 false false }) deferred_call d)) (seen_stmt p (defer s d) ∷ []) (al))) v ++ []))
-    stmt-put around p b h l (label s m x) st al = stmt-answer (c.stmt p (label s m x)) (label (c.span s) (new_name c m) (new_stmt c (record p { ctx = labelled p.ctx m x }) false x)) p.env b (label s m x) (no_stmt_put p (label s m x)) st (λ given_. (λ v. (stmt-put around (record p { ctx = labelled p.ctx m x }) b h false x given_ (front ((stmt_seen (record p { ctx = labelled p.ctx m x }) false x)) (seen_stmt p (label s m x) ∷ []) (al))) v ++ []))
+        → Gives (calls_stmt D p.env b (new_stmt c p l x)) (calls_stmt D p.env b x)
+    stmt-put around p b h l (const_decl s g ss) st al = stmt-answer (c.stmt p (const_decl s g ss)) (const_decl (c.span s) g (run.new_constants c (plain_slot p) nothing_to_repeat 0 ss)) p.env b (const_decl s g ss) (no_stmt_put p (const_decl s g ss)) st (λ given_. gives-by (constants-none p b h ss (back (constants_seen (plain_slot p) nothing_to_repeat 0 ss) (seen_stmt p (const_decl s g ss) ∷ []) al).0))
+    stmt-put around p b h l (var_decl s g ss) st al = stmt-answer (c.stmt p (var_decl s g ss)) (var_decl (c.span s) g (new_variables c (plain_slot p) ss)) p.env b (var_decl s g ss) (no_stmt_put p (var_decl s g ss)) st (λ given_. (gives-app (variables-put around (plain_slot p) b h ss given_ (front ((variables_seen (plain_slot p) ss)) (seen_stmt p (var_decl s g ss) ∷ []) (al))) (gives-same [])))
+    stmt-put around p b h l (empty s) st al = stmt-answer (c.stmt p (empty s)) (empty (c.span s)) p.env b (empty s) (no_stmt_put p (empty s)) st (λ given_. gives-same [])
+    stmt-put around p b h l (eval s d) st al = stmt-answer (c.stmt p (eval s d)) (eval (c.span s) (new_expr c p (alone l) d)) p.env b (eval s d) (no_stmt_put p (eval s d)) st (λ given_. (gives-app (expr-put around p b h (alone l) d given_ (front ((expr_seen p (alone l) d)) (seen_stmt p (eval s d) ∷ []) (al))) (gives-same [])))
+    stmt-put around p b h l (step s d y) st al = stmt-answer (c.stmt p (step s d y)) (step (c.span s) (new_expr c p updated d) y) p.env b (step s d y) (no_stmt_put p (step s d y)) st (λ given_. (gives-app (expr-put around p b h updated d given_ (front ((expr_seen p updated d)) (seen_stmt p (step s d y) ∷ []) (al))) (gives-same [])))
+    stmt-put around p b h l (assign s xs None ys) st al = stmt-answer (c.stmt p (assign s xs None ys)) (assign (c.span s) (new_all c p (every_use stored xs) xs) None (new_all c p (right_uses p.env xs) ys)) p.env b (assign s xs None ys) (no_stmt_put p (assign s xs None ys)) st (λ given_. (gives-app (gives-app (all-put around p b h (every_use stored xs) xs given_.0 (front ((all_seen p (every_use stored xs) xs)) (all_seen p (right_uses p.env xs) ys) (front ((all_seen p (every_use stored xs) xs) ++ (all_seen p (right_uses p.env xs) ys)) (seen_stmt p (assign s xs None ys) ∷ []) (al)))) (all-put around p b h (right_uses p.env xs) ys given_.1 (back ((all_seen p (every_use stored xs) xs)) (all_seen p (right_uses p.env xs) ys) (front ((all_seen p (every_use stored xs) xs) ++ (all_seen p (right_uses p.env xs) ys)) (seen_stmt p (assign s xs None ys) ∷ []) (al))))) (gives-same [])))
+    stmt-put around p b h l (assign s xs (Some o) ys) st al = stmt-answer (c.stmt p (assign s xs (Some o) ys)) (assign (c.span s) (new_all c p (every_use updated xs) xs) (Some o) (new_all c p (first_operand_use p.env o xs ∷ []) ys)) p.env b (assign s xs (Some o) ys) (no_stmt_put p (assign s xs (Some o) ys)) st (λ given_. (gives-app (gives-app (all-put around p b h (every_use updated xs) xs given_.0 (front ((all_seen p (every_use updated xs) xs)) (all_seen p (first_operand_use p.env o xs ∷ []) ys) (front ((all_seen p (every_use updated xs) xs) ++ (all_seen p (first_operand_use p.env o xs ∷ []) ys)) (seen_stmt p (assign s xs (Some o) ys) ∷ []) (al)))) (all-put around p b h (first_operand_use p.env o xs ∷ []) ys given_.1 (back ((all_seen p (every_use updated xs) xs)) (all_seen p (first_operand_use p.env o xs ∷ []) ys) (front ((all_seen p (every_use updated xs) xs) ++ (all_seen p (first_operand_use p.env o xs ∷ []) ys)) (seen_stmt p (assign s xs (Some o) ys) ∷ []) (al))))) (gives-same [])))
+    stmt-put around p b h l (define s ns ys) st al = stmt-answer (c.stmt p (define s ns ys)) (define (c.span s) (new_names c ns) (new_all c p (alike whole ns) ys)) p.env b (define s ns ys) (no_stmt_put p (define s ns ys)) st (λ given_. (gives-app (all-put around p b h (alike whole ns) ys given_ (back ((old_seen p ns)) (all_seen p (alike whole ns) ys) (front ((old_seen p ns) ++ (all_seen p (alike whole ns) ys)) (seen_stmt p (define s ns ys) ∷ []) (al)))) (gives-same [])))
+    stmt-put around p b h l (return_ s xs) st al = stmt-answer (c.stmt p (return_ s xs)) (return_ (c.span s) (new_all c p (return_uses p.ctx.results xs) xs)) p.env b (return_ s xs) (no_stmt_put p (return_ s xs)) st (λ given_. (gives-app (all-put around p b h (return_uses p.ctx.results xs) xs given_ (front ((all_seen p (return_uses p.ctx.results xs) xs)) (seen_stmt p (return_ s xs) ∷ []) (al))) (gives-same [])))
+    stmt-put around p b h l (break_ s o) st al = stmt-answer (c.stmt p (break_ s o)) (break_ (c.span s) (new_label c o)) p.env b (break_ s o) (no_stmt_put p (break_ s o)) st (λ given_. gives-same [])
+    stmt-put around p b h l (continue_ s o) st al = stmt-answer (c.stmt p (continue_ s o)) (continue_ (c.span s) (new_label c o)) p.env b (continue_ s o) (no_stmt_put p (continue_ s o)) st (λ given_. gives-same [])
+    stmt-put around p b h l (inner s y) st al = stmt-answer (c.stmt p (inner s y)) (inner (c.span s) (new_stmts c (block p) y)) p.env b (inner s y) (no_stmt_put p (inner s y)) st (λ given_. (gives-app (stmts-put around (block p) b h y given_ (front ((stmts_seen (block p) y)) (seen_stmt p (inner s y) ∷ []) (al))) (gives-same [])))
+    stmt-put around p b h l (if_ s bs z) st al = stmt-answer (c.stmt p (if_ s bs z)) (if_ (c.span s) (new_arms c (block p) bs) (new_block c (after_arms (block p) bs) z)) p.env b (if_ s bs z) (no_stmt_put p (if_ s bs z)) st (λ given_. gives-app (arms-put around (block p) b h z (λ a q m e n k. block-put a q m e z n k) bs given_ (front (arms_seen (block p) bs) (block_seen (after_arms (block p) bs) z) (front ((arms_seen (block p) bs) ++ (block_seen (after_arms (block p) bs) z)) (seen_stmt p (if_ s bs z) ∷ []) al)) (back (arms_seen (block p) bs) (block_seen (after_arms (block p) bs) z) (front ((arms_seen (block p) bs) ++ (block_seen (after_arms (block p) bs) z)) (seen_stmt p (if_ s bs z) ∷ []) al))) (gives-same []))
+    stmt-put around p b h l (for_ s i t q z y) st al = stmt-answer (c.stmt p (for_ s i t q z y)) (for_ (c.span s) (new_first c (in_heading true (block p)) i) (new_option c (in_heading true (after_first (block p) i)) t) (new_first c (in_heading true (after_first (block p) i)) q) (c.span z) (new_stmts c (looping (block (after_first (block p) i))) y)) p.env b (for_ s i t q z y) (no_stmt_put p (for_ s i t q z y)) st (λ given_. gives-eq (λ v. calls_first D (in_block p.env) b (new_first c (in_heading true (block p)) i) ++ calls_option D (first-env-same (first-stands c around (in_block p.env) (in_heading true (block p)) i given_.0) v) (first-bound-same c quiet b (in_heading true (block p)) i v) (new_option c (in_heading true (after_first (block p) i)) t) ++ calls_first D (first-env-same (first-stands c around (in_block p.env) (in_heading true (block p)) i given_.0) v) (first-bound-same c quiet b (in_heading true (block p)) i v) (new_first c (in_heading true (after_first (block p) i)) q) ++ calls_stmts D (in_block (first-env-same (first-stands c around (in_block p.env) (in_heading true (block p)) i given_.0) v)) (first-bound-same c quiet b (in_heading true (block p)) i v) (new_stmts c (looping (block (after_first (block p) i))) y) ++ []) (gives-app (gives-app (gives-app (gives-app (first-put around (in_heading true (block p)) b h i given_.0 (front ((first_seen (in_heading true (block p)) i)) (option_seen (in_heading true (after_first (block p) i)) t) (front ((first_seen (in_heading true (block p)) i) ++ (option_seen (in_heading true (after_first (block p) i)) t)) (first_seen (in_heading true (after_first (block p) i)) q) (front ((first_seen (in_heading true (block p)) i) ++ (option_seen (in_heading true (after_first (block p) i)) t) ++ (first_seen (in_heading true (after_first (block p) i)) q)) (stmts_seen (looping (block (after_first (block p) i))) y) (front ((first_seen (in_heading true (block p)) i) ++ (option_seen (in_heading true (after_first (block p) i)) t) ++ (first_seen (in_heading true (after_first (block p) i)) q) ++ (stmts_seen (looping (block (after_first (block p) i))) y)) (seen_stmt p (for_ s i t q z y) ∷ []) (al)))))) (option-put (declared_option i ++ around) (in_heading true (after_first (block p) i)) (first_bound b i) (first-bound (block p) b i h) t given_.1.0 (back ((first_seen (in_heading true (block p)) i)) (option_seen (in_heading true (after_first (block p) i)) t) (front ((first_seen (in_heading true (block p)) i) ++ (option_seen (in_heading true (after_first (block p) i)) t)) (first_seen (in_heading true (after_first (block p) i)) q) (front ((first_seen (in_heading true (block p)) i) ++ (option_seen (in_heading true (after_first (block p) i)) t) ++ (first_seen (in_heading true (after_first (block p) i)) q)) (stmts_seen (looping (block (after_first (block p) i))) y) (front ((first_seen (in_heading true (block p)) i) ++ (option_seen (in_heading true (after_first (block p) i)) t) ++ (first_seen (in_heading true (after_first (block p) i)) q) ++ (stmts_seen (looping (block (after_first (block p) i))) y)) (seen_stmt p (for_ s i t q z y) ∷ []) (al))))))) (first-put (declared_option i ++ around) (in_heading true (after_first (block p) i)) (first_bound b i) (first-bound (block p) b i h) q given_.1.1.0 (back ((first_seen (in_heading true (block p)) i) ++ (option_seen (in_heading true (after_first (block p) i)) t)) (first_seen (in_heading true (after_first (block p) i)) q) (front ((first_seen (in_heading true (block p)) i) ++ (option_seen (in_heading true (after_first (block p) i)) t) ++ (first_seen (in_heading true (after_first (block p) i)) q)) (stmts_seen (looping (block (after_first (block p) i))) y) (front ((first_seen (in_heading true (block p)) i) ++ (option_seen (in_heading true (after_first (block p) i)) t) ++ (first_seen (in_heading true (after_first (block p) i)) q) ++ (stmts_seen (looping (block (after_first (block p) i))) y)) (seen_stmt p (for_ s i t q z y) ∷ []) (al)))))) (stmts-put (declared_option i ++ around) (looping (block (after_first (block p) i))) (first_bound b i) (first-bound (block p) b i h) y given_.1.1.1 (back ((first_seen (in_heading true (block p)) i) ++ (option_seen (in_heading true (after_first (block p) i)) t) ++ (first_seen (in_heading true (after_first (block p) i)) q)) (stmts_seen (looping (block (after_first (block p) i))) y) (front ((first_seen (in_heading true (block p)) i) ++ (option_seen (in_heading true (after_first (block p) i)) t) ++ (first_seen (in_heading true (after_first (block p) i)) q) ++ (stmts_seen (looping (block (after_first (block p) i))) y)) (seen_stmt p (for_ s i t q z y) ∷ []) (al))))) (gives-same [])))
+    stmt-put around p b h l (range_ s x d z y) st al = stmt-answer (c.stmt p (range_ s x d z y)) (range_ (c.span s) (new_left c (in_heading true p) x) (new_expr c (in_heading true p) other d) (c.span z) (new_stmts c (looping (block (ranged p x d))) y)) p.env b (range_ s x d z y) (no_stmt_put p (range_ s x d z y)) st (λ given_. gives-eq (λ v. calls_left D p.env b (new_left c (in_heading true p) x) ++ calls_expr D p.env b (new_expr c (in_heading true p) other d) ++ calls_stmts D (in_block (range-env-same (left-stands c around p.env (in_heading true p) x given_.0) (expr-stands c around p.env (in_heading true p) other d given_.1.0) v)) (range-bound-same c b (in_heading true p) x v) (new_stmts c (looping (block (ranged p x d))) y) ++ []) (gives-app (gives-app (gives-app (left-put around (in_heading true p) b h x given_.0 (front ((left_seen (in_heading true p) x)) (expr_seen (in_heading true p) other d) (front ((left_seen (in_heading true p) x) ++ (expr_seen (in_heading true p) other d)) (stmts_seen (looping (block (ranged p x d))) y) (front ((left_seen (in_heading true p) x) ++ (expr_seen (in_heading true p) other d) ++ (stmts_seen (looping (block (ranged p x d))) y)) (seen_stmt p (range_ s x d z y) ∷ []) (al))))) (expr-put around (in_heading true p) b h other d given_.1.0 (back ((left_seen (in_heading true p) x)) (expr_seen (in_heading true p) other d) (front ((left_seen (in_heading true p) x) ++ (expr_seen (in_heading true p) other d)) (stmts_seen (looping (block (ranged p x d))) y) (front ((left_seen (in_heading true p) x) ++ (expr_seen (in_heading true p) other d) ++ (stmts_seen (looping (block (ranged p x d))) y)) (seen_stmt p (range_ s x d z y) ∷ []) (al)))))) (stmts-put (defined x ++ around) (looping (block (ranged p x d))) (range_bound b x) (range-bound p b x d h) y given_.1.1 (back ((left_seen (in_heading true p) x) ++ (expr_seen (in_heading true p) other d)) (stmts_seen (looping (block (ranged p x d))) y) (front ((left_seen (in_heading true p) x) ++ (expr_seen (in_heading true p) other d) ++ (stmts_seen (looping (block (ranged p x d))) y)) (seen_stmt p (range_ s x d z y) ∷ []) (al))))) (gives-same [])))
+    stmt-put around p b h l (switch s i t cs) st al = stmt-answer (c.stmt p (switch s i t cs)) (switch (c.span s) (new_first c (in_heading true (block p)) i) (new_option c (in_heading true (after_first (block p) i)) t) (new_cases c (switching (after_first (block p) i)) cs)) p.env b (switch s i t cs) (no_stmt_put p (switch s i t cs)) st (λ given_. gives-eq (λ v. calls_first D (in_block p.env) b (new_first c (in_heading true (block p)) i) ++ calls_option D (first-env-same (first-stands c around (in_block p.env) (in_heading true (block p)) i given_.0) v) (first-bound-same c quiet b (in_heading true (block p)) i v) (new_option c (in_heading true (after_first (block p) i)) t) ++ calls_cases D (first-env-same (first-stands c around (in_block p.env) (in_heading true (block p)) i given_.0) v) (first-bound-same c quiet b (in_heading true (block p)) i v) (new_cases c (switching (after_first (block p) i)) cs) ++ []) (gives-app (gives-app (gives-app (first-put around (in_heading true (block p)) b h i given_.0 (front ((first_seen (in_heading true (block p)) i)) (option_seen (in_heading true (after_first (block p) i)) t) (front ((first_seen (in_heading true (block p)) i) ++ (option_seen (in_heading true (after_first (block p) i)) t)) (cases_seen (switching (after_first (block p) i)) cs) (front ((first_seen (in_heading true (block p)) i) ++ (option_seen (in_heading true (after_first (block p) i)) t) ++ (cases_seen (switching (after_first (block p) i)) cs)) (seen_stmt p (switch s i t cs) ∷ []) (al))))) (option-put (declared_option i ++ around) (in_heading true (after_first (block p) i)) (first_bound b i) (first-bound (block p) b i h) t given_.1.0 (back ((first_seen (in_heading true (block p)) i)) (option_seen (in_heading true (after_first (block p) i)) t) (front ((first_seen (in_heading true (block p)) i) ++ (option_seen (in_heading true (after_first (block p) i)) t)) (cases_seen (switching (after_first (block p) i)) cs) (front ((first_seen (in_heading true (block p)) i) ++ (option_seen (in_heading true (after_first (block p) i)) t) ++ (cases_seen (switching (after_first (block p) i)) cs)) (seen_stmt p (switch s i t cs) ∷ []) (al)))))) (cases-put (declared_option i ++ around) (switching (after_first (block p) i)) (first_bound b i) (first-bound (block p) b i h) cs given_.1.1 (back ((first_seen (in_heading true (block p)) i) ++ (option_seen (in_heading true (after_first (block p) i)) t)) (cases_seen (switching (after_first (block p) i)) cs) (front ((first_seen (in_heading true (block p)) i) ++ (option_seen (in_heading true (after_first (block p) i)) t) ++ (cases_seen (switching (after_first (block p) i)) cs)) (seen_stmt p (switch s i t cs) ∷ []) (al))))) (gives-same [])))
+    stmt-put around p b h l (defer s d) st al = stmt-answer (c.stmt p (defer s d)) (defer (c.span s) (new_expr c (record p { deferring = true; slot = a_slot 0 false false }) deferred_call d)) p.env b (defer s d) (no_stmt_put p (defer s d)) st (λ given_. (gives-app (expr-put around (record p { deferring = true; slot = a_slot 0 false false }) b h deferred_call d given_ (front ((expr_seen (record p { deferring = true; slot = a_slot 0 false false }) deferred_call d)) (seen_stmt p (defer s d) ∷ []) (al))) (gives-same [])))
+    stmt-put around p b h l (label s m x) st al = stmt-answer (c.stmt p (label s m x)) (label (c.span s) (new_name c m) (new_stmt c (record p { ctx = labelled p.ctx m x }) false x)) p.env b (label s m x) (no_stmt_put p (label s m x)) st (λ given_. (gives-app (stmt-put around (record p { ctx = labelled p.ctx m x }) b h false x given_ (front ((stmt_seen (record p { ctx = labelled p.ctx m x }) false x)) (seen_stmt p (label s m x) ∷ []) (al))) (gives-same [])))
 
     pub stmts-put : (around : List (List ℕ)) (p : Place S) (b : List (List ℕ)) → names_of p.bound ≡ b → (x : Stmts S) → StmtsStands c around p.env p x → AllLead (stmts_seen p x)
-        → calls_stmts D p.env b (new_stmts c p x) ≡ calls_stmts D p.env b x
-    stmts-put around p b h no_stmts st al = refl
-    stmts-put around p b h (stmt_and s ss) st al = (λ v. calls_stmt D p.env b (new_stmt c (at_stmt p s) true s) ++ calls_stmts D (after-env-same (stmt-stands c around p.env (at_stmt p s) true s st.0) v) (after-bound-same c quiet p.env b (at_stmt p s) true s v) (new_stmts c (after_stmt p s) ss)) ∙ (λ v. (stmt-put around (at_stmt p s) b h true s st.0 (front ((stmt_seen (at_stmt p s) true s)) (stmts_seen (after_stmt p s) ss) (al))) v ++ (stmts-put (declared s ++ around) (after_stmt p s) (after_bound p.env b s) (after-bound p b s h) ss st.1 (back ((stmt_seen (at_stmt p s) true s)) (stmts_seen (after_stmt p s) ss) (al))) v)
+        → Gives (calls_stmts D p.env b (new_stmts c p x)) (calls_stmts D p.env b x)
+    stmts-put around p b h no_stmts st al = gives-same []
+    stmts-put around p b h (stmt_and s ss) st al = gives-eq (λ v. calls_stmt D p.env b (new_stmt c (at_stmt p s) true s) ++ calls_stmts D (after-env-same (stmt-stands c around p.env (at_stmt p s) true s st.0) v) (after-bound-same c quiet p.env b (at_stmt p s) true s v) (new_stmts c (after_stmt p s) ss)) (gives-app (stmt-put around (at_stmt p s) b h true s st.0 (front ((stmt_seen (at_stmt p s) true s)) (stmts_seen (after_stmt p s) ss) (al))) (stmts-put (declared s ++ around) (after_stmt p s) (after_bound p.env b s) (after-bound p b s h) ss st.1 (back ((stmt_seen (at_stmt p s) true s)) (stmts_seen (after_stmt p s) ss) (al))))
 
     pub first-put : (around : List (List ℕ)) (p : Place S) (b : List (List ℕ)) → names_of p.bound ≡ b → (x : StmtOption S) → FirstStands c around p.env p x → AllLead (first_seen p x)
-        → calls_first D p.env b (new_first c p x) ≡ calls_first D p.env b x
-    first-put around p b h no_stmt st al = refl
-    first-put around p b h (some_stmt s) st al = (λ v. (stmt-put around p b h false s st (al)) v)
+        → Gives (calls_first D p.env b (new_first c p x)) (calls_first D p.env b x)
+    first-put around p b h no_stmt st al = gives-same []
+    first-put around p b h (some_stmt s) st al = (stmt-put around p b h false s st (al))
 
     pub block-put : (around : List (List ℕ)) (p : Place S) (b : List (List ℕ)) → names_of p.bound ≡ b → (x : BlockOption S) → BlockStands c around p.env p x → AllLead (block_seen p x)
-        → calls_block D p.env b (new_block c p x) ≡ calls_block D p.env b x
-    block-put around p b h no_block st al = refl
-    block-put around p b h (some_block s y) st al = (λ v. (stmts-put around (block p) b h y st (al)) v)
+        → Gives (calls_block D p.env b (new_block c p x)) (calls_block D p.env b x)
+    block-put around p b h no_block st al = gives-same []
+    block-put around p b h (some_block s y) st al = (stmts-put around (block p) b h y st (al))
 
     pub left-put : (around : List (List ℕ)) (p : Place S) (b : List (List ℕ)) → names_of p.bound ≡ b → (x : RangeLeft S) → LeftStands c around p.env p x → AllLead (left_seen p x)
-        → calls_left D p.env b (new_left c p x) ≡ calls_left D p.env b x
-    left-put around p b h nothing st al = refl
-    left-put around p b h (assigns es) st al = (λ v. (all-put around p b h (every_use stored es) es st (al)) v)
-    left-put around p b h (defines ns) st al = refl
+        → Gives (calls_left D p.env b (new_left c p x)) (calls_left D p.env b x)
+    left-put around p b h nothing st al = gives-same []
+    left-put around p b h (assigns es) st al = (all-put around p b h (every_use stored es) es st (al))
+    left-put around p b h (defines ns) st al = gives-same []
 
     pub arms-put : (around : List (List ℕ)) (p : Place S) (b : List (List ℕ)) → names_of p.bound ≡ b → (z : BlockOption S)
-        → ((a : List (List ℕ)) (q : Place S) (m : List (List ℕ)) → names_of q.bound ≡ m → BlockStands c a q.env q z → AllLead (block_seen q z) → calls_block D q.env m (new_block c q z) ≡ calls_block D q.env m z)
+        → ((a : List (List ℕ)) (q : Place S) (m : List (List ℕ)) → names_of q.bound ≡ m → BlockStands c a q.env q z → AllLead (block_seen q z) → Gives (calls_block D q.env m (new_block c q z)) (calls_block D q.env m z))
         → (x : Arms S) → ArmsStand c around p.env p (λ a e q. BlockStands c a e q z) x → AllLead (arms_seen p x) → AllLead (block_seen (after_arms p x) z)
-        → calls_arms D p.env b (λ e y. calls_block D e y (new_block c (after_arms p x) z)) (new_arms c p x) ≡ calls_arms D p.env b (λ e y. calls_block D e y z) x
+        → Gives (calls_arms D p.env b (λ e y. calls_block D e y (new_block c (after_arms p x) z)) (new_arms c p x)) (calls_arms D p.env b (λ e y. calls_block D e y z) x)
     arms-put around p b h z k no_arms st al zl = k around p b h st zl
     arms-put around p b h z k (arm s i t z_ y r) st al zl =
-        (λ v. first-put around (in_heading true p) b h i st.0 (front (first_seen (in_heading true p) i) (expr_seen (in_heading true (after_first p i)) other t) (front ((first_seen (in_heading true p) i) ++ (expr_seen (in_heading true (after_first p i)) other t)) (stmts_seen (block (after_first p i)) y) (front ((first_seen (in_heading true p) i) ++ (expr_seen (in_heading true (after_first p i)) other t) ++ (stmts_seen (block (after_first p i)) y)) (arms_seen (block (after_first p i)) r) al))) v ++ calls_expr D (first-env-same (first-stands c around p.env (in_heading true p) i st.0) v) (first-bound-same c quiet b (in_heading true p) i v) (new_expr c (in_heading true (after_first p i)) other t) ++ calls_stmts D (in_block (first-env-same (first-stands c around p.env (in_heading true p) i st.0) v)) (first-bound-same c quiet b (in_heading true p) i v) (new_stmts c (block (after_first p i)) y) ++ calls_arms D (in_block (first-env-same (first-stands c around p.env (in_heading true p) i st.0) v)) (first-bound-same c quiet b (in_heading true p) i v) (λ e m. calls_block D e m (new_block c (after_arms (block (after_first p i)) r) z)) (new_arms c (block (after_first p i)) r))
-        ∙ (λ v. calls_first D p.env b i ++ expr-put (declared_option i ++ around) (in_heading true (after_first p i)) (first_bound b i) (first-bound p b i h) other t st.1.0 (back (first_seen (in_heading true p) i) (expr_seen (in_heading true (after_first p i)) other t) (front ((first_seen (in_heading true p) i) ++ (expr_seen (in_heading true (after_first p i)) other t)) (stmts_seen (block (after_first p i)) y) (front ((first_seen (in_heading true p) i) ++ (expr_seen (in_heading true (after_first p i)) other t) ++ (stmts_seen (block (after_first p i)) y)) (arms_seen (block (after_first p i)) r) al))) v ++ stmts-put (declared_option i ++ around) (block (after_first p i)) (first_bound b i) (first-bound p b i h) y st.1.1.0 (back ((first_seen (in_heading true p) i) ++ (expr_seen (in_heading true (after_first p i)) other t)) (stmts_seen (block (after_first p i)) y) (front ((first_seen (in_heading true p) i) ++ (expr_seen (in_heading true (after_first p i)) other t) ++ (stmts_seen (block (after_first p i)) y)) (arms_seen (block (after_first p i)) r) al)) v ++ arms-put (declared_option i ++ around) (block (after_first p i)) (first_bound b i) (first-bound p b i h) z k r st.1.1.1 (back ((first_seen (in_heading true p) i) ++ (expr_seen (in_heading true (after_first p i)) other t) ++ (stmts_seen (block (after_first p i)) y)) (arms_seen (block (after_first p i)) r) al) zl v)
+        gives-eq (λ v. calls_first D p.env b (new_first c (in_heading true p) i) ++ calls_expr D (first-env-same (first-stands c around p.env (in_heading true p) i st.0) v) (first-bound-same c quiet b (in_heading true p) i v) (new_expr c (in_heading true (after_first p i)) other t) ++ calls_stmts D (in_block (first-env-same (first-stands c around p.env (in_heading true p) i st.0) v)) (first-bound-same c quiet b (in_heading true p) i v) (new_stmts c (block (after_first p i)) y) ++ calls_arms D (in_block (first-env-same (first-stands c around p.env (in_heading true p) i st.0) v)) (first-bound-same c quiet b (in_heading true p) i v) (λ e m. calls_block D e m (new_block c (after_arms (block (after_first p i)) r) z)) (new_arms c (block (after_first p i)) r))
+        (gives-app (gives-app (gives-app (first-put around (in_heading true p) b h i st.0 (front (first_seen (in_heading true p) i) (expr_seen (in_heading true (after_first p i)) other t) (front ((first_seen (in_heading true p) i) ++ (expr_seen (in_heading true (after_first p i)) other t)) (stmts_seen (block (after_first p i)) y) (front ((first_seen (in_heading true p) i) ++ (expr_seen (in_heading true (after_first p i)) other t) ++ (stmts_seen (block (after_first p i)) y)) (arms_seen (block (after_first p i)) r) al)))) (expr-put (declared_option i ++ around) (in_heading true (after_first p i)) (first_bound b i) (first-bound p b i h) other t st.1.0 (back (first_seen (in_heading true p) i) (expr_seen (in_heading true (after_first p i)) other t) (front ((first_seen (in_heading true p) i) ++ (expr_seen (in_heading true (after_first p i)) other t)) (stmts_seen (block (after_first p i)) y) (front ((first_seen (in_heading true p) i) ++ (expr_seen (in_heading true (after_first p i)) other t) ++ (stmts_seen (block (after_first p i)) y)) (arms_seen (block (after_first p i)) r) al))))) (stmts-put (declared_option i ++ around) (block (after_first p i)) (first_bound b i) (first-bound p b i h) y st.1.1.0 (back ((first_seen (in_heading true p) i) ++ (expr_seen (in_heading true (after_first p i)) other t)) (stmts_seen (block (after_first p i)) y) (front ((first_seen (in_heading true p) i) ++ (expr_seen (in_heading true (after_first p i)) other t) ++ (stmts_seen (block (after_first p i)) y)) (arms_seen (block (after_first p i)) r) al)))) (arms-put (declared_option i ++ around) (block (after_first p i)) (first_bound b i) (first-bound p b i h) z k r st.1.1.1 (back ((first_seen (in_heading true p) i) ++ (expr_seen (in_heading true (after_first p i)) other t) ++ (stmts_seen (block (after_first p i)) y)) (arms_seen (block (after_first p i)) r) al) zl))
 
     pub cases-put : (around : List (List ℕ)) (p : Place S) (b : List (List ℕ)) → names_of p.bound ≡ b → (x : Cases S) → CasesStands c around p.env p x → AllLead (cases_seen p x)
-        → calls_cases D p.env b (new_cases c p x) ≡ calls_cases D p.env b x
-    cases-put around p b h no_cases st al = refl
-    cases-put around p b h (case s es y cs) st al = (λ v. (all-put around (in_heading false p) b h [] es st.0 (front ((all_seen (in_heading false p) [] es)) (stmts_seen (block p) y) (front ((all_seen (in_heading false p) [] es) ++ (stmts_seen (block p) y)) (cases_seen p cs) (al)))) v ++ (stmts-put around (block p) b h y st.1.0 (back ((all_seen (in_heading false p) [] es)) (stmts_seen (block p) y) (front ((all_seen (in_heading false p) [] es) ++ (stmts_seen (block p) y)) (cases_seen p cs) (al)))) v ++ (cases-put around p b h cs st.1.1 (back ((all_seen (in_heading false p) [] es) ++ (stmts_seen (block p) y)) (cases_seen p cs) (al))) v)
+        → Gives (calls_cases D p.env b (new_cases c p x)) (calls_cases D p.env b x)
+    cases-put around p b h no_cases st al = gives-same []
+    cases-put around p b h (case s es y cs) st al = (gives-app (gives-app (all-put around (in_heading false p) b h [] es st.0 (front ((all_seen (in_heading false p) [] es)) (stmts_seen (block p) y) (front ((all_seen (in_heading false p) [] es) ++ (stmts_seen (block p) y)) (cases_seen p cs) (al)))) (stmts-put around (block p) b h y st.1.0 (back ((all_seen (in_heading false p) [] es)) (stmts_seen (block p) y) (front ((all_seen (in_heading false p) [] es) ++ (stmts_seen (block p) y)) (cases_seen p cs) (al))))) (cases-put around p b h cs st.1.1 (back ((all_seen (in_heading false p) [] es) ++ (stmts_seen (block p) y)) (cases_seen p cs) (al))))
 
     pub variables-put : (around : List (List ℕ)) (p : Place S) (b : List (List ℕ)) → names_of p.bound ≡ b → (x : ValueSpecs S) → VariablesStands c around p.env p x → AllLead (variables_seen p x)
-        → calls_variables D p.env b (new_variables c p x) ≡ calls_variables D p.env b x
-    variables-put around p b h no_specs st al = refl
-    variables-put around p b h (spec s ns t es ss) st al = (λ v. calls_all D p.env b (new_all c p (alike (value_use p.env t) ns) es) ++ calls_variables D (variables-env-same ns (new_names c ns) (names-put c ns) (written-stands c around p.env p t st.0) (all-stands c around p.env p (alike (value_use p.env t) ns) es st.1.0) v) (more-bound-same c b ns v) (new_variables c (after_variables p ns t es) ss)) ∙ (λ v. (all-put around p b h (alike (value_use p.env t) ns) es st.1.0 (back ((written_seen p t)) (all_seen p (alike (value_use p.env t) ns) es) (front ((written_seen p t) ++ (all_seen p (alike (value_use p.env t) ns) es)) (variables_seen (after_variables p ns t es) ss) (al)))) v ++ (variables-put (names_of ns ++ around) (after_variables p ns t es) (more_bound b ns) (more-bound p.bound b ns h) ss st.1.1 (back ((written_seen p t) ++ (all_seen p (alike (value_use p.env t) ns) es)) (variables_seen (after_variables p ns t es) ss) (al))) v)
+        → Gives (calls_variables D p.env b (new_variables c p x)) (calls_variables D p.env b x)
+    variables-put around p b h no_specs st al = gives-same []
+    variables-put around p b h (spec s ns t es ss) st al = gives-eq (λ v. calls_all D p.env b (new_all c p (alike (value_use p.env t) ns) es) ++ calls_variables D (variables-env-same ns (new_names c ns) (names-put c ns) (written-stands c around p.env p t st.0) (all-stands c around p.env p (alike (value_use p.env t) ns) es st.1.0) v) (more-bound-same c b ns v) (new_variables c (after_variables p ns t es) ss)) (gives-app (all-put around p b h (alike (value_use p.env t) ns) es st.1.0 (back ((written_seen p t)) (all_seen p (alike (value_use p.env t) ns) es) (front ((written_seen p t) ++ (all_seen p (alike (value_use p.env t) ns) es)) (variables_seen (after_variables p ns t es) ss) (al)))) (variables-put (names_of ns ++ around) (after_variables p ns t es) (more_bound b ns) (more-bound p.bound b ns h) ss st.1.1 (back ((written_seen p t) ++ (all_seen p (alike (value_use p.env t) ns) es)) (variables_seen (after_variables p ns t es) ss) (al))))

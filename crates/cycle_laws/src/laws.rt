@@ -1,11 +1,11 @@
 //! Laws of the calls of marked functions where a step puts something.
 
 ghost use Rattle.cycle_laws.specs.Laws.{BodiesCallAlike, DeclarationsCallAlike, ExpressionsCallAlike};
-ghost use Rattle.cycle_laws.specs.Laws.{NameStepsGiveWay, NameStepsKeepCycles};
 ghost use Rattle.cycle_laws.specs.Laws.{NamesCallAlike, NamesNameNoFunction, QualifiedNameNoFunction};
+ghost use Rattle.cycle_laws.specs.Laws.{SameNamesReadAlike, StepsGiveWay, StepsKeepMarksOnCycles};
 
 /// Where all that the replacing walk puts has the same facts and calls the marked functions that stood
-/// there, what it makes of a part calls the marked functions that the part calls.
+/// there, but that one gives way to what it leads to, so with what the walk makes of a part.
 pub fn walks_keep_calls()
     ensures expressions { ExpressionsCallAlike }
     ensures bodies { BodiesCallAlike }
@@ -20,10 +20,11 @@ pub fn names_call_alike()
     ensures put { NamesCallAlike }
 {}
 
-/// Where the program after reads calls as the one before, a step that puts in a use's place what has the
-/// same facts and calls what stood there, as one over a constant or an alias does, meets what keeps
-/// cycles; so the same marked functions lie on cycles.
-pub fn steps_over_names_give_way()
-    ensures gives_way { NameStepsGiveWay }
-    ensures kept { NameStepsKeepCycles }
+/// Programs that declare the same, and in whose files names mean the same, read calls alike. Where they
+/// do, a step that puts in a use's place what has the same facts and calls what stood there, but that
+/// what was used gives way to what it leads to, meets what keeps cycles.
+pub fn steps_give_way()
+    ensures reads { SameNamesReadAlike }
+    ensures gives_way { StepsGiveWay }
+    ensures kept { StepsKeepMarksOnCycles }
 {}

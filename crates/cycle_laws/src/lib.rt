@@ -4,4 +4,4 @@
 
 mod laws;
 
-pub use laws::{names_call_alike, steps_over_names_give_way, walks_keep_calls};
+pub use laws::{names_call_alike, steps_give_way, walks_keep_calls};

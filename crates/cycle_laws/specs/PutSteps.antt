@@ -1,5 +1,5 @@
--- Steps over constants and aliases: what the program after is asked, so that each declaration leads to the marked
--- functions to which it led (Go specification, Constant declarations; Alias declarations; Declarations and scope).
+-- Steps: what the form and the program after are asked, so that each declaration leads to the marked functions to which
+-- it led, but that what was used gives way (Go specification, Constant declarations; Alias declarations; Declarations and scope).
 use Rattle.std.specs.Prelude.{◌≡◌, List, Some, None, slice_get}
 use Rattle.go_tree.specs.Tree.{Stmt}
 use Rattle.go_tree.specs.File.{Decl}
@@ -19,8 +19,8 @@ use Rattle.cycle_laws.specs.PutCalls.{called_among, AllPutCallAlike}
 abbrev pub KeepsStatements : {S : Type 0} → Changes S → Type 0
 KeepsStatements {S = S} c = (p : Place S) (s : Stmt S) → c.stmt p s ≡ None
 
--- Two programs read calls alike: a declaration in a file of the one calls the marked functions that one which differs
--- by where its nodes stand calls in the same file of the other.
+-- Two programs read calls alike: a declaration in a file of the one calls the marked functions that one which differs by
+-- where its nodes stand calls in the same file of the other.
 abbrev pub ReadCallsAlike : List MarkRef → List (Package At) → List (Package At) → Type 0
 ReadCallsAlike marks before after =
     (a : MarkRef) (w v : Where At) → where_is before a ≡ Some w → where_is after a ≡ Some v → (d e : Decl At)
@@ -29,8 +29,8 @@ ReadCallsAlike marks before after =
     ≡ called_among before marks w a.decl (decl_seen before w.number w.of w.source.tree d)
 
 -- In the declaration of the use all that the form puts has the same facts, and calls the marked functions that stood
--- there.
-pub record PutsNames (marks : List MarkRef) (ps : List (Package At)) (x : Site At) (f : Form At) : Type 0 where
+-- there, but that what was used gives way to what it leads to.
+pub record PutsAlike (marks : List MarkRef) (ps : List (Package At)) (x : Site At) (f : Form At) : Type 0 where
   pub statements : KeepsStatements (changes_for same_here (part_span x.part) f)
   pub stands :
       (d : Decl At) → slice_get x.at.source.tree.decls x.decl ≡ Some d
@@ -40,5 +40,5 @@ pub record PutsNames (marks : List MarkRef) (ps : List (Package At)) (x : Site A
       (top_place ps x.at.number x.at.of x.at.source.tree) (λ g. body_place ps x.at.number x.at.of x.at.source.tree g) d
   pub calls :
       (d : Decl At) → slice_get x.at.source.tree.decls x.decl ≡ Some d
-      → AllPutCallAlike ps marks x.at x.decl (changes_for same_here (part_span x.part) f)
+      → AllPutCallAlike ps marks x.at x.decl x.mark (changes_for same_here (part_span x.part) f)
       (decl_seen ps x.at.number x.at.of x.at.source.tree d)

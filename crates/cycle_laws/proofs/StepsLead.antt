@@ -1,5 +1,5 @@
--- After a step over a constant or an alias each declaration leads to the marked functions to which it led.
-use Rattle.std.proofs.Common.{◌≡◌, ◌⊎◌, inl, inr, refl, sym, ap, ◌∙◌, subst, ℕ, zero, suc, Bool, true, false, true≢false, List, [], ◌∷◌, map, Option, Some, None}
+-- After a step each declaration leads to the marked functions to which it led, but that what was used gives way.
+use Rattle.std.proofs.Common.{◌≡◌, ◌⊎◌, inl, inr, refl, sym, ap, ◌∙◌, subst, ℕ, zero, suc, true, List, [], ◌∷◌, map, Option, Some, None}
 use Rattle.std.proofs.lemmas.Option.{same_Some}
 use Rattle.std.specs.Prelude.{slice_get}
 use Rattle.go_tree.specs.declared.spans.Span.{Span}
@@ -8,14 +8,15 @@ use Rattle.pkg_graph.specs.Package.{SourceTree, Package}
 use Rattle.go_types.specs.Answers.{given}
 use Rattle.run_rules.specs.Programs.{decl_seen}
 use Rattle.run_rules.specs.Respanned.{decl_with, decls_with}
-use Rattle.run_rules.specs.Sites.{MarkRef, is_among_marks, Where, Site, part_span, where_is, parts_of, sites_among}
-use Rattle.run_rules.specs.Cycles.{Chain, last_link, more_links, GivesWay, LeadsTo, leads_to, is_recursive, function_marks}
-use Rattle.run_rules.proofs.CyclesFound.{recursive_is}
+use Rattle.run_rules.specs.Sites.{MarkRef, Where, Site, part_span, where_is, parts_of, sites_among}
+use Rattle.run_rules.specs.Cycles.{GivesWay, LeadsTo, leads_to, is_recursive, function_marks}
+use Rattle.run_rules.proofs.CyclesFound.{cycles_kept}
 use Rattle.run_rules.specs.Steps.{At, same_here, change_nth, changes_for, new_decl, with_file}
 use Rattle.run_rules.specs.Run.{Standing, Logged, Next, here_of, origin_of, is_commented}
 use Rattle.run_laws.proofs.FoundSpans.{Placed, FoundIn, found_in}
-use Rattle.cycle_laws.specs.PutCalls.{called_among}
-use Rattle.cycle_laws.specs.NameSteps.{ReadCallsAlike, PutsNames}
+use Rattle.cycle_laws.specs.PutCalls.{GivesWayAmong, mark_there, called_among}
+use Rattle.cycle_laws.proofs.Gives.{gives-same, gives-by, gives-eq, gives-then}
+use Rattle.cycle_laws.specs.PutSteps.{ReadCallsAlike, PutsAlike}
 use Rattle.cycle_laws.proofs.DeclCalls.{decl-kept}
 
 -- ---- lists with an entry changed
@@ -41,15 +42,6 @@ module _ {A : Type 0} (g : A → A) where
   change-at [] n y h = cc
   change-at (x ∷ xs) zero y h = λ v. Some (g (same_Some x y h v))
   change-at (x ∷ xs) (suc n) y h = change-at xs n y h
-
-chain-map : {A : Type 0} {r s : A → A → Type 0} → ((a b : A) → r a b → s a b) → (a b : A) → Chain r a b → Chain s a b
-chain-map f a b (last_link x y h) = last_link x y (f x y h)
-chain-map f a b (more_links x y z h c) = more_links x y z (f x y h) (chain-map f y z c)
-
-same_tests : (a b : Bool) → (a ≡ true → b ≡ true) → (b ≡ true → a ≡ true) → a ≡ b
-same_tests true b f g = sym (f refl)
-same_tests false true f g = absurd (true≢false (sym (g refl)))
-same_tests false false f g = refl
 
 get-map : {A B : Type 0} (f : A → B) (xs : List A) (k : ℕ) → slice_get (map f xs) k ≡ given (slice_get xs k) (λ x. Some (f x))
 get-map f [] k = refl
@@ -79,7 +71,11 @@ module _ (marks : List MarkRef) (ps : List (Package At)) where
   led-of : (w : Where At) (n : ℕ) (o : Option (Decl At)) → slice_get w.source.tree.decls n ≡ o → led_from w n ≡ called_among ps marks w n (elim o [ None ↦ [] | Some x ↦ decl_seen ps w.number w.of w.source.tree x ])
   led-of w n o h = λ v. called_among ps marks w n (elim (h v) [ None ↦ [] | Some x ↦ decl_seen ps w.number w.of w.source.tree x ])
 
-module _ (marks : List MarkRef) (before after : List (Package At)) (reads : ReadCallsAlike marks before after) where
+module _ (marks : List MarkRef) (before after : List (Package At)) (m : MarkRef) (reads : ReadCallsAlike marks before after) where
+  -- the declaration leads on as before, but that m gives way
+  abbrev LeadsOn : ℕ → ℕ → ℕ → Type 0
+  LeadsOn i j n = GivesWayAmong before marks (numbered_mark marks before i j n) m (leads_to after marks (numbered_mark marks after i j n)) (leads_to before marks (numbered_mark marks before i j n))
+
   -- declarations that differ by where their nodes stand lead to the same
   same-decls : (i j n : ℕ) (w v : Where At) → where_is before (numbered_mark marks before i j n) ≡ Some w → where_is after (numbered_mark marks after i j n) ≡ Some v → slice_get v.source.tree.decls n ≡ slice_get w.source.tree.decls n
       → leads_to after marks (numbered_mark marks after i j n) ≡ leads_to before marks (numbered_mark marks before i j n)
@@ -92,7 +88,7 @@ module _ (marks : List MarkRef) (before after : List (Package At)) (reads : Read
   module _ (x : Site At) (change : Decl At → Decl At) (tree : File At) (after_is : after ≡ with_file same_here before x.at tree)
     (decls_are : decls_with origin_of tree.decls ≡ decls_with origin_of (change_nth x.decl change x.at.source.tree.decls))
     (package_is : slice_get before x.at.number ≡ Some x.at.of) (file_is : slice_get x.at.of.files x.at.file_number ≡ Some x.at.source)
-    (kept : (d : Decl At) → slice_get x.at.source.tree.decls x.decl ≡ Some d → called_among before marks x.at x.decl (decl_seen before x.at.number x.at.of x.at.source.tree (change d)) ≡ called_among before marks x.at x.decl (decl_seen before x.at.number x.at.of x.at.source.tree d)) where
+    (kept : (d : Decl At) → slice_get x.at.source.tree.decls x.decl ≡ Some d → GivesWayAmong before marks (mark_there x.at x.decl) m (called_among before marks x.at x.decl (decl_seen before x.at.number x.at.of x.at.source.tree (change d))) (called_among before marks x.at x.decl (decl_seen before x.at.number x.at.of x.at.source.tree d))) where
     abbrev put_file : SourceTree At → SourceTree At
     put_file s = record s { tree = tree }
 
@@ -135,21 +131,21 @@ module _ (marks : List MarkRef) (before after : List (Package At)) (reads : Read
     alike n (Some d) None e = cc
     alike n (Some d) (Some f) e = reads (mark n) x.at now (where-before n) (where-after n) f d (same_Some (decl_with origin_of d) (decl_with origin_of f) e)
 
-    old-calls : (n : ℕ) → Seen_before n (slice_get (change_nth x.decl change x.at.source.tree.decls) n) ≡ Seen_before n (slice_get x.at.source.tree.decls n)
+    old-calls : (n : ℕ) → GivesWayAmong before marks (mark n) m (Seen_before n (slice_get (change_nth x.decl change x.at.source.tree.decls) n)) (Seen_before n (slice_get x.at.source.tree.decls n))
     unfolding Changed
     old-calls n = by (changed-or-not change x.at.source.tree.decls x.decl n)
       where
-        there_kept : (o : Option (Decl At)) → slice_get x.at.source.tree.decls x.decl ≡ o → Seen_before x.decl (given o (λ y. Some (change y))) ≡ Seen_before x.decl o
-        there_kept None e = refl
+        there_kept : (o : Option (Decl At)) → slice_get x.at.source.tree.decls x.decl ≡ o → GivesWayAmong before marks (mark x.decl) m (Seen_before x.decl (given o (λ y. Some (change y)))) (Seen_before x.decl o)
+        there_kept None e = gives-same []
         there_kept (Some d) e = kept d e
 
         by : ((n ≡ x.decl) × (slice_get (change_nth x.decl change x.at.source.tree.decls) n ≡ given (slice_get x.at.source.tree.decls n) (λ y. Some (change y)))) ⊎ (slice_get (change_nth x.decl change x.at.source.tree.decls) n ≡ slice_get x.at.source.tree.decls n)
-            → Seen_before n (slice_get (change_nth x.decl change x.at.source.tree.decls) n) ≡ Seen_before n (slice_get x.at.source.tree.decls n)
-        by (inl e) = (λ v. Seen_before n (e.1 v)) ∙ subst (λ (z : ℕ). Seen_before z (given (slice_get x.at.source.tree.decls z) (λ y. Some (change y))) ≡ Seen_before z (slice_get x.at.source.tree.decls z)) (sym e.0) (there_kept (slice_get x.at.source.tree.decls x.decl) refl)
-        by (inr e) = λ v. Seen_before n (e v)
+            → GivesWayAmong before marks (mark n) m (Seen_before n (slice_get (change_nth x.decl change x.at.source.tree.decls) n)) (Seen_before n (slice_get x.at.source.tree.decls n))
+        by (inl e) = gives-eq (λ v. Seen_before n (e.1 v)) (subst (λ (z : ℕ). GivesWayAmong before marks (mark z) m (Seen_before z (given (slice_get x.at.source.tree.decls z) (λ y. Some (change y)))) (Seen_before z (slice_get x.at.source.tree.decls z))) (sym e.0) (there_kept (slice_get x.at.source.tree.decls x.decl) refl))
+        by (inr e) = gives-by (λ v. Seen_before n (e v))
 
-    at-file : (n : ℕ) → leads_to after marks (mark n) ≡ leads_to before marks (mark n)
-    at-file n = leads-at marks after x.at.number x.at.file_number n now (where-after n) ∙ alike n (slice_get tree.decls n) (slice_get (change_nth x.decl change x.at.source.tree.decls) n) (decls-spanned n) ∙ old-calls n ∙ sym (leads-at marks before x.at.number x.at.file_number n x.at (where-before n))
+    at-file : (n : ℕ) → LeadsOn x.at.number x.at.file_number n
+    at-file n = gives-eq (leads-at marks after x.at.number x.at.file_number n now (where-after n) ∙ alike n (slice_get tree.decls n) (slice_get (change_nth x.decl change x.at.source.tree.decls) n) (decls-spanned n)) (gives-then (old-calls n) (sym (leads-at marks before x.at.number x.at.file_number n x.at (where-before n))))
 
     other-file : (j n : ℕ) (o : Option (SourceTree At)) → slice_get x.at.of.files j ≡ o → slice_get (put_package x.at.of).files j ≡ o
         → leads_to after marks (numbered_mark marks after x.at.number j n) ≡ leads_to before marks (numbered_mark marks before x.at.number j n)
@@ -158,14 +154,14 @@ module _ (marks : List MarkRef) (before after : List (Package At)) (reads : Read
     other-file j n (Some s) e f = same-decls x.at.number j n (there marks before x.at.number j x.at.of s) (there marks after x.at.number j (put_package x.at.of) s)
         (where-at marks before x.at.number j n x.at.of s package_is e) (where-at marks after x.at.number j n (put_package x.at.of) s package-after f) refl
 
-    at-package : (j n : ℕ) → leads_to after marks (numbered_mark marks after x.at.number j n) ≡ leads_to before marks (numbered_mark marks before x.at.number j n)
+    at-package : (j n : ℕ) → LeadsOn x.at.number j n
     unfolding Changed
     at-package j n = by (changed-or-not put_file x.at.of.files x.at.file_number j)
       where
         by : ((j ≡ x.at.file_number) × (slice_get (put_package x.at.of).files j ≡ given (slice_get x.at.of.files j) (λ y. Some (put_file y)))) ⊎ (slice_get (put_package x.at.of).files j ≡ slice_get x.at.of.files j)
-            → leads_to after marks (numbered_mark marks after x.at.number j n) ≡ leads_to before marks (numbered_mark marks before x.at.number j n)
-        by (inl e) = subst (λ (z : ℕ). leads_to after marks (numbered_mark marks after x.at.number z n) ≡ leads_to before marks (numbered_mark marks before x.at.number z n)) (sym e.0) (at-file n)
-        by (inr e) = other-file j n (slice_get x.at.of.files j) refl e
+            → LeadsOn x.at.number j n
+        by (inl e) = subst (λ (z : ℕ). LeadsOn x.at.number z n) (sym e.0) (at-file n)
+        by (inr e) = gives-by (other-file j n (slice_get x.at.of.files j) refl e)
 
     other-package : (i j n : ℕ) (o : Option (Package At)) → slice_get before i ≡ o → slice_get after i ≡ o → leads_to after marks (numbered_mark marks after i j n) ≡ leads_to before marks (numbered_mark marks before i j n)
     other-package i j n None e f = leads-nowhere marks after i j n (λ v. given (f v) (λ p. given (slice_get p.files j) (λ s. Some (there marks after i j p s)))) ∙ sym (leads-nowhere marks before i j n (λ v. given (e v) (λ p. given (slice_get p.files j) (λ s. Some (there marks before i j p s)))))
@@ -176,30 +172,19 @@ module _ (marks : List MarkRef) (before after : List (Package At)) (reads : Read
             ∙ sym (leads-nowhere marks before i j n ((λ v. given (e v) (λ p. given (slice_get p.files j) (λ s. Some (there marks before i j p s)))) ∙ (λ v. given (h v) (λ s. Some (there marks before i j p s)))))
         by (Some s) h = same-decls i j n (there marks before i j p s) (there marks after i j p s) (where-at marks before i j n p s e h) (where-at marks after i j n p s f h) refl
 
-    all-lead : (i j n : ℕ) → leads_to after marks (numbered_mark marks after i j n) ≡ leads_to before marks (numbered_mark marks before i j n)
+    all-lead : (i j n : ℕ) → LeadsOn i j n
     unfolding Changed
     all-lead i j n = by (changed-or-not put_package before x.at.number i)
       where
         by : ((i ≡ x.at.number) × (slice_get (with_file same_here before x.at tree) i ≡ given (slice_get before i) (λ y. Some (put_package y)))) ⊎ (slice_get (with_file same_here before x.at tree) i ≡ slice_get before i)
-            → leads_to after marks (numbered_mark marks after i j n) ≡ leads_to before marks (numbered_mark marks before i j n)
-        by (inl e) = subst (λ (z : ℕ). leads_to after marks (numbered_mark marks after z j n) ≡ leads_to before marks (numbered_mark marks before z j n)) (sym e.0) (at-package j n)
-        by (inr e) = other-package i j n (slice_get before i) refl ((λ v. slice_get (after_is v) i) ∙ e)
+            → LeadsOn i j n
+        by (inl e) = subst (λ (z : ℕ). LeadsOn z j n) (sym e.0) (at-package j n)
+        by (inr e) = gives-by (other-package i j n (slice_get before i) refl ((λ v. slice_get (after_is v) i) ∙ e))
 
-    pub leads-still : (a b : MarkRef) → LeadsTo before marks a b → LeadsTo after marks a b
-    leads-still a b h = subst (λ (z : List MarkRef). is_among_marks z b ≡ true) (sym (all-lead a.«package» a.file a.decl)) h
-
-    pub led-before : (a b : MarkRef) → LeadsTo after marks a b → LeadsTo before marks a b
-    led-before a b h = subst (λ (z : List MarkRef). is_among_marks z b ≡ true) (all-lead a.«package» a.file a.decl) h
-
-    pub same-recursive : (x : MarkRef) → is_recursive before marks x ≡ is_recursive after marks x
-    same-recursive x = same_tests (is_recursive before marks x) (is_recursive after marks x)
-        (λ h. (recursive_is after marks x).1 (chain-map leads-still x x ((recursive_is before marks x).0 h)))
-        (λ h. (recursive_is before marks x).1 (chain-map led-before x x ((recursive_is after marks x).0 h)))
-
-    pub give-way : (m : MarkRef) → GivesWay (LeadsTo before marks) (LeadsTo after marks) m
-    give-way m = record {
-      stays = λ a b h. inl (leads-still a b h);
-      comes = λ a b h. inl (led-before a b h);
+    pub give-way : GivesWay (LeadsTo before marks) (LeadsTo after marks) m
+    give-way = record {
+      stays = λ a b h. (all-lead a.«package» a.file a.decl).stays b h;
+      comes = λ a b h. (all-lead a.«package» a.file a.decl).comes b h;
     }
 
 -- ---- a step
@@ -211,15 +196,11 @@ module _ (marks : List MarkRef) (st : Standing) (l : Logged) (after : Standing) 
   placed : Placed here_of Any st.packages marks n.found.site
   placed = let f : FoundIn here_of Any st.packages marks same_here (is_commented st) n.found = found_in here_of Any st.packages marks same_here (is_commented st) n.found n.is_first in f.placed
 
-  pub step-gives-way : PutsNames marks st.packages n.found.site n.found.form → ReadCallsAlike marks st.packages after.packages → GivesWay (LeadsTo st.packages marks) (LeadsTo after.packages marks) n.found.site.mark
+  pub step-gives-way : PutsAlike marks st.packages n.found.site n.found.form → ReadCallsAlike marks st.packages after.packages → GivesWay (LeadsTo st.packages marks) (LeadsTo after.packages marks) n.found.site.mark
   step-gives-way h r =
-      give-way marks st.packages after.packages r n.found.site (new_decl same_here st.packages (changes_for same_here (part_span n.found.site.part) n.found.form) n.found.site.at.number n.found.site.at.of n.found.site.at.source.tree)
+      give-way marks st.packages after.packages n.found.site.mark r n.found.site (new_decl same_here st.packages (changes_for same_here (part_span n.found.site.part) n.found.form) n.found.site.at.number n.found.site.at.of n.found.site.at.source.tree)
       n.tree n.packages_are (λ v. (n.origins_are v).decls) placed.package_is placed.file_is
-      (λ d e. decl-kept st.packages marks n.found.site.at n.found.site.decl same_here (changes_for same_here (part_span n.found.site.part) n.found.form) h.statements (λ t u. Unit {0}) n.found.site.at.number n.found.site.at.of n.found.site.at.source.tree d (h.stands d e) (h.calls d e))
-      n.found.site.mark
+      (λ d e. decl-kept st.packages marks n.found.site.at n.found.site.decl n.found.site.mark same_here (changes_for same_here (part_span n.found.site.part) n.found.form) h.statements (λ t u. Unit {0}) n.found.site.at.number n.found.site.at.of n.found.site.at.source.tree d (h.stands d e) (h.calls d e))
 
-  pub step-keeps-cycles : PutsNames marks st.packages n.found.site n.found.form → ReadCallsAlike marks st.packages after.packages → (x : MarkRef) → is_recursive st.packages marks x ≡ is_recursive after.packages marks x
-  step-keeps-cycles h r =
-      same-recursive marks st.packages after.packages r n.found.site (new_decl same_here st.packages (changes_for same_here (part_span n.found.site.part) n.found.form) n.found.site.at.number n.found.site.at.of n.found.site.at.source.tree)
-      n.tree n.packages_are (λ v. (n.origins_are v).decls) placed.package_is placed.file_is
-      (λ d e. decl-kept st.packages marks n.found.site.at n.found.site.decl same_here (changes_for same_here (part_span n.found.site.part) n.found.form) h.statements (λ t u. Unit {0}) n.found.site.at.number n.found.site.at.of n.found.site.at.source.tree d (h.stands d e) (h.calls d e))
+  pub step-keeps-marks : PutsAlike marks st.packages n.found.site n.found.form → ReadCallsAlike marks st.packages after.packages → (is_recursive st.packages marks n.found.site.mark ≡ true → ⊥) → (x : MarkRef) → is_recursive st.packages marks x ≡ is_recursive after.packages marks x
+  step-keeps-marks h r off x = cycles_kept st.packages after.packages marks n.found.site.mark off (step-gives-way h r) x
