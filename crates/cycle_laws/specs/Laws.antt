@@ -24,18 +24,24 @@ use Rattle.cycle_laws.specs.PutSteps.{KeepsStatements, ReadCallsAlike, PutsAlike
 -- so with what it makes of an expression.
 abbrev pub ExpressionsCallAlike : Type 0
 ExpressionsCallAlike =
-    (ps : List (Package At)) (marks : List MarkRef) (w : Where At) (at : ℕ) (m : MarkRef) (c : Changes At) → KeepsStatements c
+    (ps : List (Package At)) (marks : List MarkRef) (w : Where At) (at : ℕ) (m : MarkRef) (c : Changes At)
+    → KeepsStatements c
     → (around : List (List ℕ)) (p : Place At) (u : Use) (x : Expr At) → ExprStands c around p.env p u x
     → AllPutCallAlike ps marks w at m c (expr_seen p u x)
-    → GivesWayAmong ps marks (mark_there w at) m (called_among ps marks w at (expr_seen p u (new_expr c p u x))) (called_among ps marks w at (expr_seen p u x))
+    → GivesWayAmong ps marks (mark_there w at) m
+    (called_among ps marks w at (expr_seen p u (new_expr c p u x)))
+    (called_among ps marks w at (expr_seen p u x))
 
 -- So with a body.
 abbrev pub BodiesCallAlike : Type 0
 BodiesCallAlike =
-    (ps : List (Package At)) (marks : List MarkRef) (w : Where At) (at : ℕ) (m : MarkRef) (c : Changes At) → KeepsStatements c
+    (ps : List (Package At)) (marks : List MarkRef) (w : Where At) (at : ℕ) (m : MarkRef) (c : Changes At)
+    → KeepsStatements c
     → (around : List (List ℕ)) (p : Place At) (b : Stmts At) → StmtsStands c around p.env p b
     → AllPutCallAlike ps marks w at m c (stmts_seen p b)
-    → GivesWayAmong ps marks (mark_there w at) m (called_among ps marks w at (stmts_seen p (new_stmts c p b))) (called_among ps marks w at (stmts_seen p b))
+    → GivesWayAmong ps marks (mark_there w at) m
+    (called_among ps marks w at (stmts_seen p (new_stmts c p b)))
+    (called_among ps marks w at (stmts_seen p b))
 
 -- ---- names of constants and aliases
 
@@ -64,12 +70,14 @@ NamesCallAlike =
 -- So with a declaration.
 abbrev pub DeclarationsCallAlike : Type 0
 DeclarationsCallAlike =
-    (ps : List (Package At)) (marks : List MarkRef) (w : Where At) (at : ℕ) (m : MarkRef) (same : At → At → Bool) (c : Changes At)
+    (ps : List (Package At)) (marks : List MarkRef) (w : Where At) (at : ℕ) (m : MarkRef)
+    (same : At → At → Bool) (c : Changes At)
     → KeepsStatements c → (k : ℕ) (pk : Package At) (file : File At) (d : Decl At)
     → DeclStands same ps c (λ t u. Unit {0}) (λ i. record (top_place ps k pk file).env { iota = i })
     (λ f. (body_place ps k pk file f).env) (top_place ps k pk file) (λ f. body_place ps k pk file f) d
     → AllPutCallAlike ps marks w at m c (decl_seen ps k pk file d)
-    → GivesWayAmong ps marks (mark_there w at) m (called_among ps marks w at (decl_seen ps k pk file (new_decl same ps c k pk file d)))
+    → GivesWayAmong ps marks (mark_there w at) m
+    (called_among ps marks w at (decl_seen ps k pk file (new_decl same ps c k pk file d)))
     (called_among ps marks w at (decl_seen ps k pk file d))
 
 -- ---- programs
@@ -82,8 +90,8 @@ SameNamesReadAlike =
 
 -- ---- steps
 
--- A step that puts in a use's place what has the same facts and calls what stood there, but that what was used gives way
--- to what it leads to, meets what keeps cycles, if the program after reads calls as the one before.
+-- A step that puts in a use's place what has the same facts and calls what stood there, but that what was used gives
+-- way to what it leads to, meets what keeps cycles, if the program after reads calls as the one before.
 abbrev pub StepsGiveWay : Type 0
 StepsGiveWay =
     (marks : List MarkRef) (st : Standing) (l : Logged) (after : Standing) (n : Next marks st l after)

@@ -1,5 +1,5 @@
--- What a change puts in a declaration calls the marked functions that stood there, but for one that gives way to what it
--- leads to (Go specification, Calls; Selectors; Constant declarations; Alias declarations).
+-- What a change puts in a declaration calls the marked functions that stood there, but for one that gives way to what
+-- it leads to (Go specification, Calls; Selectors; Constant declarations; Alias declarations).
 use Rattle.std.specs.Prelude.{◌≡◌, ℕ, ◌⊎◌, true, List, [], ◌∷◌, Some, is_some}
 use Rattle.go_tree.specs.Tree.{NameAt, Expr, selector, func_lit, Stmt, const_decl}
 use Rattle.pkg_graph.specs.Package.{Package}
@@ -11,7 +11,8 @@ use Rattle.run_rules.specs.Rewriting.{Changes, new_constants}
 use Rattle.run_rules.specs.Sites.{MarkRef, is_among_marks, Where, called_mark, sites_among}
 use Rattle.run_rules.specs.Cycles.{LeadsTo, function_marks}
 
--- In the declaration a: what is called now was called, or m led to it and a to m; what was called is called still, or is m.
+-- In the declaration a: what is called now was called, or m led to it and a to m; what was called is called still, or
+-- is m.
 pub record GivesWayAmong {S : Type 0} (ps : List (Package S)) (marks : List MarkRef) (a m : MarkRef)
     (new old : List MarkRef) : Type 0 where
   pub stays : (b : MarkRef) → is_among_marks old b ≡ true → (is_among_marks new b ≡ true) ⊎ (b ≡ m)
@@ -33,9 +34,13 @@ module _ {S : Type 0} (ps : List (Package S)) (marks : List MarkRef) (w : Where 
     -- Two expressions call alike there: the first in itself as the second, but for m, and both where each is called and
     -- where each stands before a dot.
     pub record CallsAlike (p : Place S) (x y : Expr S) : Type 0 where
-      pub inside : GivesWayAmong ps marks (mark_there w at) m (called_among (expr_seen p other x)) (called_among (expr_seen p other y))
+      pub inside :
+          GivesWayAmong ps marks (mark_there w at) m (called_among (expr_seen p other x))
+          (called_among (expr_seen p other y))
       pub called_so : called_mark ps marks w p x ≡ called_mark ps marks w p y
-      pub selected_so : (s z : S) (m : NameAt S) → called_mark ps marks w p (selector s x (record m { span = z })) ≡ called_mark ps marks w p (selector s y m)
+      pub selected_so :
+          (s z : S) (m : NameAt S) → called_mark ps marks w p (selector s x (record m { span = z }))
+          ≡ called_mark ps marks w p (selector s y m)
 
     module _ (c : Changes S) where
       -- a literal of a function has a type

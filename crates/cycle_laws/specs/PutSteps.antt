@@ -1,5 +1,6 @@
 -- Steps: what the form and the program after are asked, so that each declaration leads to the marked functions to which
--- it led, but that what was used gives way (Go specification, Constant declarations; Alias declarations; Declarations and scope).
+-- it led, but that what was used gives way (Go specification, Calls; Constant declarations; Alias declarations;
+-- Declarations and scope).
 use Rattle.std.specs.Prelude.{◌≡◌, List, Some, None, slice_get}
 use Rattle.go_tree.specs.Tree.{Stmt}
 use Rattle.go_tree.specs.File.{Decl}
@@ -19,8 +20,8 @@ use Rattle.cycle_laws.specs.PutCalls.{called_among, AllPutCallAlike}
 abbrev pub KeepsStatements : {S : Type 0} → Changes S → Type 0
 KeepsStatements {S = S} c = (p : Place S) (s : Stmt S) → c.stmt p s ≡ None
 
--- Two programs read calls alike: a declaration in a file of the one calls the marked functions that one which differs by
--- where its nodes stand calls in the same file of the other.
+-- Two programs read calls alike: a declaration in a file of the one calls the marked functions that one which differs
+-- by where its nodes stand calls in the same file of the other.
 abbrev pub ReadCallsAlike : List MarkRef → List (Package At) → List (Package At) → Type 0
 ReadCallsAlike marks before after =
     (a : MarkRef) (w v : Where At) → where_is before a ≡ Some w → where_is after a ≡ Some v → (d e : Decl At)
