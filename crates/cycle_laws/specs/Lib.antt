@@ -1,0 +1,5 @@
+pub mod PutCalls
+pub mod NamesNoFunction
+pub mod PutSteps
+pub mod NamesStay
+pub mod Laws
