@@ -61,7 +61,7 @@ module _ (rs : List (run.Package ℕ)) (pk : run.Package ℕ) (tree : File ℕ) 
   is_expected = refl
 
   stands_in_place : InPlaceBeside [] before (with_last new_use)
-  stands_in_place = constant-step nat_eq rs 31 new_use 0 pk tree [] 0 0 2 before (record { before = at_ends_before; after = at_ends_after; apart = all_of_none })
+  stands_in_place = constant-step nat_eq rs 31 new_use 0 pk tree [] 0 0 2 before (record { before = at_ends_before; after = at_ends_after }) all_of_none
 
   -- by the law alone
   still_well_typed : well_typed (with_last new_use) ≡ true

@@ -1,6 +1,6 @@
 -- The laws of one step over a constant. Each is the contract of a function of this crate (Go specification, Constant
 -- declarations; Declarations and scope; Packages).
-use Rattle.std.specs.Prelude.{◌≡◌, ℕ, Bool, false, List, ◌++◌, Option}
+use Rattle.std.specs.Prelude.{◌≡◌, ℕ, Bool, true, false, List, ◌++◌, Option}
 use Rattle.go_tree.specs.declared.spans.Span.{Span}
 use Rattle.go_tree.specs.Tree.{NameAt, Expr, Stmts}
 use Rattle.go_tree.specs.File.{File}
@@ -12,11 +12,11 @@ use Rattle.go_types.specs.Programs.{Program, Headed, headed}
 use Rattle.go_types.specs.Collect.{collected, valued_world}
 use Rattle.typed_in_place.specs.Declared.{NamesConstant}
 use Rattle.typed_in_place.specs.Leaves.{Names}
-use Rattle.typed_in_place.specs.ProgramReplaced.{InPlaceBeside}
+use Rattle.typed_in_place.specs.ProgramReplaced.{InPlaceBeside, All, Apart}
 use Rattle.typed_in_place.specs.Replaced.{ExprReplaced, StmtsReplaced}
 use Rattle.run_rules.specs.Surroundings.{Place, Use}
 use Rattle.run_rules.specs.Rewriting.{Changes, new_expr, new_stmts}
-use Rattle.go_translation.specs.Packages.{Package, sources, paths_in, codes_of}
+use Rattle.go_translation.specs.Packages.{Package, sources, paths_in, codes_of, are_distinct}
 use Rattle.go_translation.specs.SameMeaning.{Packages, WellTyped, with_further, SameMeaning}
 use Rattle.step_laws.specs.Stands.{SameExpr, ExprStands, StmtsStands}
 use Rattle.step_laws.specs.DeclStands.{AtNth}
@@ -57,7 +57,7 @@ abbrev pub StepStaysInPlace : Type 0
 StepStaysInPlace =
     (same : Span → Span → Bool) (rs : List (run.Package Span)) (z : Span) (e : Expr Span) (number : ℕ)
     (pk : run.Package Span) (tree : File Span) (more : Program Span) (k m n : ℕ) (ps : Program Span) →
-    ConstantStep same rs z e number pk tree more k m n ps →
+    ConstantStep same rs z e number pk tree more k m n ps → All (Apart (headed ps)) more →
     InPlaceBeside more ps (constant_put same rs z e number pk tree k m n ps)
 
 -- and leaves the kernel program equal, where both names mean the same constant
@@ -65,7 +65,7 @@ abbrev pub StepKeepsTheCode : Type 0
 StepKeepsTheCode =
     (same : Span → Span → Bool) (rs : List (run.Package Span)) (z : Span) (e : Expr Span) (number : ℕ)
     (pk : run.Package Span) (tree : File Span) (k m n : ℕ) (ps more : List (Package Span)) →
-    ConstantStep same rs z e number pk tree (sources more) k m n (sources ps) →
+    ConstantStep same rs z e number pk tree (sources more) k m n (sources ps) → are_distinct (ps ++ more) ≡ true →
     AtNth (PackageSwaps same rs z e number pk tree (paths_in (ps ++ more)) (collected (sources (ps ++ more))) m n) k
     ps → codes_of (ps ++ more) ≡ codes_of (members_put same rs z e number pk tree k m n ps ++ more)
 

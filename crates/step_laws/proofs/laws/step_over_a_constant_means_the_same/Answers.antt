@@ -5,10 +5,10 @@ use Rattle.step_laws.proofs.StepsCompose.{in-place-then}
 use Rattle.step_laws.proofs.laws.step_over_a_constant_means_the_same.Goals as goal
 
 pub returns-clause-in_place : goal.returns-clause-in_place
-returns-clause-in_place c = λ same rs z e number pk tree more k m n ps s. constant-step same rs z e number pk tree more k m n ps s
+returns-clause-in_place c = λ same rs z e number pk tree more k m n ps s a. constant-step same rs z e number pk tree more k m n ps s a
 
 pub returns-clause-code : goal.returns-clause-code
-returns-clause-code c = λ same rs z e number pk tree k m n ps more s h. constant-codes same rs z e number pk tree k m n ps more s h
+returns-clause-code c = λ same rs z e number pk tree k m n ps more s d h. constant-codes same rs z e number pk tree k m n ps more s d h
 
 pub returns-clause-meaning : goal.returns-clause-meaning
 returns-clause-meaning c = λ same rs z e number pk tree k m n P s i w. constant-step-means-the-same same rs z e number pk tree k m n P s i w
