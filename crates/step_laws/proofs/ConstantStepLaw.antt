@@ -29,7 +29,7 @@ all-nth P f n [] = tt
 all-nth P f zero (x ∷ xs) = f x
 all-nth P f (suc n) (x ∷ xs) = all-nth P f n xs
 
-then-nth : {A : Type 0} (P Q : A → Type 0) → ((a : A) → P a → Q a) → (n : ℕ) (xs : List A) → AtNth P n xs → AtNth Q n xs
+pub then-nth : {A : Type 0} (P Q : A → Type 0) → ((a : A) → P a → Q a) → (n : ℕ) (xs : List A) → AtNth P n xs → AtNth Q n xs
 then-nth P Q f n [] h = tt
 then-nth P Q f zero (x ∷ xs) h = f x h
 then-nth P Q f (suc n) (x ∷ xs) h = then-nth P Q f n xs h

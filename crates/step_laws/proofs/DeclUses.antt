@@ -1,6 +1,6 @@
 -- A declaration in which a use of a constant becomes another name of it: what is asked of it, from what the walk lists.
 use Rattle.std.specs.Prelude.{◌≡◌, refl, ℕ, suc, Bool, true, false, not, ◌||◌, List, [], ◌∷◌, ◌++◌, Option, Some, None, if◌then◌else◌, bytes_eq}
-use mathlib.Core.Path.{ap, ap₂, sym, ◌∙◌}
+use mathlib.Core.Path.{ap, sym, ◌∙◌}
 use Rattle.std.proofs.Common.{arith}
 use Rattle.go_tree.specs.Tree.{NameAt, Param, Sig, TypeExpr, Expr, Exprs, no_exprs, expr_and, const_decl, var_decl, empty, eval, step, assign, define, return_, break_, continue_, inner, if_, for_, range_, switch, defer, label, ValueSpecs, no_specs, spec}
 use Rattle.go_tree.specs.File.{TypeSpec, Receiver, Func, Decl, values, types, func, File}
@@ -10,15 +10,15 @@ use Rattle.scope_names.specs.Scopes.{not_blank, param_names, with_name}
 use Rattle.pkg_graph.specs.Package.{Package}
 use Rattle.go_types.specs.Answers.{given, otherwise, is_among, only_if, distinct_by}
 use Rattle.go_types.specs.Types.{GoType, FuncType, named_type, pointer_to}
-use Rattle.go_types.specs.Entities.{Entity, variable, World, Env, Binds, extend, in_block}
+use Rattle.go_types.specs.Entities.{Entity, variable, World, Env, Binds, in_block}
 use Rattle.go_types.specs.TypeNames.{func_type}
 use Rattle.go_types.specs.Statements.{bound_names, param_binding, param_binds, body_binds}
 use Rattle.go_types.specs.MethodDeclarations.{receiver_type, receiver_binds}
 use Rattle.go_types.specs.Programs.{a_func, Headed}
 use Rattle.go_types.specs.Collect.{file_env, env_of}
 use Rattle.go_types.specs.WellTyped.{receiver_of, receiver_names, body_env}
-use Rattle.form_in_place.proofs.Uses.{among_append, among_left}
-use Rattle.typed_in_place.specs.Replaced.{TypeReplaced, same_type}
+use Rattle.form_in_place.proofs.Uses.{among_left}
+use Rattle.typed_in_place.specs.Replaced.{same_type}
 use Rattle.typed_in_place.proofs.Leaves.{type_itself}
 use Rattle.run_rules.specs.FormTrees.{as_expr}
 use Rattle.run_rules.specs.Surroundings.{Use, Place, Seen, alike, value_use, in_constant}
@@ -28,13 +28,12 @@ use Rattle.run_rules.specs.Rewriting.{Changes}
 use Rattle.run_rules.specs.Steps.{changes_for}
 use Rattle.written_literal.proofs.WithinLaws.{behind_front}
 use Rattle.written_literal.proofs.ListedHeads.{blank_append, names_both, named_params}
-use Rattle.step_laws.specs.Stands.{WrittenStands, ParamsStand, SigStands, ExprsStands}
-use Rattle.step_laws.specs.DeclStands.{Written, nothing_written, own_or_before, MemberOfGroupStands, GroupStands, VariableGroupStands, TypeSpecsStand, FuncStands, DeclStands, body_there}
-use Rattle.step_laws.specs.Answered.{AllAnswered}
-use Rattle.step_laws.specs.NamesOutside.{NamesOutside, UsesThere, AllUsesThere}
+use Rattle.step_laws.specs.Stands.{WrittenStands, ParamsStand, ExprsStands}
+use Rattle.step_laws.specs.DeclStands.{Written, nothing_written, own_or_before, MemberOfGroupStands, GroupStands, VariableGroupStands, TypeSpecsStand, FuncStands, body_there}
+use Rattle.step_laws.specs.NamesOutside.{NamesOutside, AllUsesThere}
 use Rattle.step_laws.specs.ConstantSteps.{DeclThereStands}
 use Rattle.step_laws.proofs.ConstantStepLaw.{receiver-stays}
-use Rattle.step_laws.proofs.OutsideHolds.{outside_holds, among_right, of_either, no_name, still_there}
+use Rattle.step_laws.proofs.OutsideHolds.{outside_holds, among_right, of_either, no_name, none_blank, still_there}
 use Rattle.step_laws.proofs.Walking.{all-walk}
 use Rattle.step_laws.proofs.UsesAnswered.{uses-answered, body-with-use}
 
@@ -173,6 +172,7 @@ module _ {S : Type 0} (rs : List (Package S)) where
         typed_block = λ n i. of_either n (bound_names (start_binds w h f)) [] (λ j. start-bound n w h f j) (λ j. no_name n j) i;
         walked_block = λ n i. of_either n (bound_names (start_binds v k f)) [] (λ j. start-bound n v k f j) (λ j. no_name n j) i;
         world = refl;
+        blank = λ n b. none_blank n (param_names f.sig.results ++ param_names (params_of rs f)) b;
       }
 
 -- ---- declarations
@@ -191,7 +191,7 @@ module _ {S : Type 0} (same : S → S → Bool) (rs : List (Package S)) (z : S) 
   at n = file_env w home is n
 
   at-top : (n : Option ℕ) (p : Place S) → p.env.here ≡ [] → p.bound ≡ [] → NamesOutside top [] (at n) p.env p.bound
-  at-top n p e b = record { outer = λ m j. refl; listed = λ m y j. no_name m j; typed_block = λ m j. no_name m j; walked_block = λ m j. no_name m (sym (ap (is_among m) e) ∙ j); world = refl }
+  at-top n p e b = record { outer = λ m j. refl; listed = λ m y j. no_name m j; typed_block = λ m j. no_name m j; walked_block = λ m j. no_name m (sym (ap (is_among m) e) ∙ j); world = refl; blank = λ m y. ap (λ l. is_among m (names_of l)) b }
 
   front : (xs ys : List (Seen S)) → AllUsesThere same z e top (xs ++ ys) → AllUsesThere same z e top xs
   front [] ys a = tt

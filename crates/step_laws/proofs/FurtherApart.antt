@@ -1,10 +1,10 @@
 -- Packages with other numbers: no header of the packages before stands in one of the further packages.
-use Rattle.std.specs.Prelude.{◌≡◌, ℕ, suc, Bool, true, false, not, ◌&&◌, ◌||◌, List, [], ◌∷◌, ◌++◌, nat_eq}
+use Rattle.std.specs.Prelude.{◌≡◌, ℕ, suc, Bool, true, false, not, ◌||◌, List, [], ◌∷◌, ◌++◌, nat_eq}
 use Rattle.std.specs.List.{list_any}
 use Rattle.std.proofs.Common.{arith}
 use Rattle.scope_names.specs.Means.{Environment}
 use Rattle.go_types.specs.Entities.{Entity}
-use Rattle.go_types.specs.Programs.{Header, Headed, SourceFile, SourcePackage, header_names, names_in, all_headers, block_names, file_block, is_main, headed, headed_file, headed_files, headed_package}
+use Rattle.go_types.specs.Programs.{Header, SourceFile, SourcePackage, header_names, names_in, all_headers, block_names, file_block, is_main, headed, headed_file, headed_files, headed_package}
 use Rattle.typed_in_place.specs.ProgramReplaced.{All, all_of_none, all_and, Apart}
 use Rattle.typed_in_place.proofs.Rising.{and_first, and_second}
 use Rattle.go_translation.specs.Packages.{Package, sources, has_path, has_number, are_distinct}

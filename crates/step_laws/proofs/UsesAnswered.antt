@@ -6,7 +6,7 @@ use Rattle.go_tree.specs.Tree.{NameAt, Expr, Stmt, Stmts, eval, return_}
 use Rattle.scope_names.specs.Means.{is_blank}
 use Rattle.scope_names.specs.FreeNames.{names_of}
 use Rattle.go_types.specs.Answers.{is_among}
-use Rattle.go_types.specs.Entities.{Entity, Env, World, meaning, exported, package_of}
+use Rattle.go_types.specs.Entities.{Entity, Env, meaning, exported, package_of}
 use Rattle.typed_in_place.specs.Leaves.{Names, plain_name, qualified_name}
 use Rattle.typed_in_place.specs.Replaced.{same_type}
 use Rattle.typed_in_place.proofs.Leaves.{same_constant_name, type_itself}

@@ -2,7 +2,7 @@
 -- Blocks; Declarations and scope; Composite literals; Function literals).
 -- `R` says of a place what typing has there, which are the names that are declared around in the same body and what
 -- names mean, beside what the walk has there: what names mean, and the names that it lists.
-use Rattle.std.specs.Prelude.{◌≡◌, ℕ, suc, Bool, List, [], ◌∷◌, ◌++◌, length, Option, Some, None}
+use Rattle.std.specs.Prelude.{◌≡◌, ℕ, suc, List, [], ◌∷◌, ◌++◌, length, Option, Some}
 use Rattle.go_tree.specs.Tree.{NameAt, Sig, TypeExpr, Expr, composite, func_lit, Exprs, Elems, no_elems, elem, Value, plain, braced, ValueOption, no_value, some_value, Stmt, const_decl, StmtOption, RangeLeft}
 use Rattle.scope_names.specs.FreeNames.{names_of, sig_names, declared, declared_option, defined}
 use Rattle.go_types.specs.Answers.{given, meets}

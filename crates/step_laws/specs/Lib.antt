@@ -3,6 +3,7 @@ pub mod DeclStands
 pub mod ConstantSteps
 pub mod Answered
 pub mod NamesOutside
+pub mod ConstantUses
 pub mod Swaps
 pub mod SwapPrograms
 pub mod Laws

@@ -24,6 +24,7 @@ pub record NamesOutside {S : Type 0} (top : Env) (around : List (List ℕ)) (env
   pub typed_block : (n : List ℕ) → is_among n env.here ≡ true → is_among n (names_of bound) ≡ true
   pub walked_block : (n : List ℕ) → is_among n a.here ≡ true → is_among n (names_of bound) ≡ true
   pub world : env.world ≡ top.world
+  pub blank : (n : List ℕ) → is_blank n ≡ true → is_among n (names_of bound) ≡ false
 
 -- an expression that is a name, and one that is put in its place: both mean one constant at the top of the file, and
 -- neither is declared around the place within its declaration

@@ -2,6 +2,7 @@ use Rattle.step_laws.proofs.ConstantStepLaw.{constant-step}
 use Rattle.step_laws.proofs.SwapProgram.{constant-codes}
 use Rattle.step_laws.proofs.StepMeaning.{constant-step-means-the-same}
 use Rattle.step_laws.proofs.StepsCompose.{in-place-then}
+use Rattle.step_laws.proofs.StepUses.{step-with-uses}
 use Rattle.step_laws.proofs.laws.step_over_a_constant_means_the_same.Goals as goal
 
 pub returns-clause-in_place : goal.returns-clause-in_place
@@ -15,3 +16,6 @@ returns-clause-meaning c = λ same rs z e number pk tree k m n P s i w. constant
 
 pub returns-clause-composed : goal.returns-clause-composed
 returns-clause-composed c = λ more ps qs rs d e. in-place-then more ps qs rs d e
+
+pub returns-clause-steps : goal.returns-clause-steps
+returns-clause-steps c = λ same rs z e number pk tree more k m n ps u. step-with-uses same rs z e number pk tree more k m n ps u
