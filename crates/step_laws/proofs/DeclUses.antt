@@ -73,7 +73,7 @@ module _ {S : Type 0} (rs : List (Package S)) where
   listed-right : (n : List ℕ) (xs ys : List (NameAt S)) → is_among n (names_of (not_blank ys)) ≡ true → is_among n (names_of (not_blank (xs ++ ys))) ≡ true
   listed-right n xs ys e = ap (λ z. is_among n (names_of z)) (blank_append xs ys) ∙ ap (is_among n) (names_both (not_blank xs) (not_blank ys)) ∙ among_right n (names_of (not_blank xs)) (names_of (not_blank ys)) e
 
-  start-listed : (n : List ℕ) (r : Binds) (g : Sig S) (ps : List (NameAt S)) (o : Option FuncType) → Listed n r ps → (is_among n (names_of (not_blank (param_names g.params))) ≡ true → is_among n (names_of (not_blank ps)) ≡ true)
+  pub start-listed : (n : List ℕ) (r : Binds) (g : Sig S) (ps : List (NameAt S)) (o : Option FuncType) → Listed n r ps → (is_among n (names_of (not_blank (param_names g.params))) ≡ true → is_among n (names_of (not_blank ps)) ≡ true)
       → Listed n (otherwise (given o (body_binds r g)) []) (param_names g.results ++ ps)
   start-listed n r g ps None f h e = no_name n e
   start-listed n r g ps (Some t) f h e = go (distinct_by bytes_eq (bound_names (r ++ param_binds g.params t.params ++ param_binds g.results t.results))) e
@@ -91,7 +91,7 @@ module _ {S : Type 0} (rs : List (Package S)) where
           (λ i. listed-right n (param_names g.results) ps (of_either n (bound_names r) (bound_names params) f (λ j. h (params-listed n g.params t.params j)) (sym (ap (is_among n) (bound-append r params)) ∙ i)))
           (λ i. listed-left n (param_names g.results) ps (params-listed n g.results t.results i)) (sym (ap (is_among n) (bound-append (r ++ params) results)) ∙ e)
 
-  receiver-listed : (n : List ℕ) (w : World) (h : Headed S) (q : Option (Receiver S)) (xs : List (Param S)) → Listed n (receiver_of w h q) (param_names (with_receiver rs q xs))
+  pub receiver-listed : (n : List ℕ) (w : World) (h : Headed S) (q : Option (Receiver S)) (xs : List (Param S)) → Listed n (receiver_of w h q) (param_names (with_receiver rs q xs))
   receiver-listed n w h None xs i = no_name n i
   receiver-listed n w h (Some r) xs i = go (receiver_type w h r) i
     where
@@ -107,7 +107,7 @@ module _ {S : Type 0} (rs : List (Package S)) where
       go None e = no_name n e
       go (Some m) e = named r.name (if r.pointer then pointer_to (named_type h.home m) else named_type h.home m) e
 
-  behind-receiver : (n : List ℕ) (q : Option (Receiver S)) (xs : List (Param S)) → is_among n (names_of (not_blank (param_names xs))) ≡ true → is_among n (names_of (not_blank (param_names (with_receiver rs q xs)))) ≡ true
+  pub behind-receiver : (n : List ℕ) (q : Option (Receiver S)) (xs : List (Param S)) → is_among n (names_of (not_blank (param_names xs))) ≡ true → is_among n (names_of (not_blank (param_names (with_receiver rs q xs)))) ≡ true
   behind-receiver n None xs e = e
   behind-receiver n (Some r) xs e = go r.name
     where
@@ -137,7 +137,7 @@ module _ {S : Type 0} (rs : List (Package S)) where
       go None = ap (is_among n) (named_params xs) ∙ e
       go (Some x) = among_right n (x.name ∷ []) (names_of (param_names xs)) (ap (is_among n) (named_params xs) ∙ e)
 
-  all-named : (n : List ℕ) (q : Option (Receiver S)) (g : Sig S) → is_among n (receiver_names q ++ sig_names g) ≡ true → is_among n (names_of (param_names g.results ++ param_names (with_receiver rs q g.params))) ≡ true
+  pub all-named : (n : List ℕ) (q : Option (Receiver S)) (g : Sig S) → is_among n (receiver_names q ++ sig_names g) ≡ true → is_among n (names_of (param_names g.results ++ param_names (with_receiver rs q g.params))) ≡ true
   all-named n q g e =
       let us : List (List ℕ) = names_of (param_names g.results) in
       let ps : List (List ℕ) = names_of (param_names (with_receiver rs q g.params)) in
@@ -150,7 +150,7 @@ module _ {S : Type 0} (rs : List (Package S)) where
   abbrev start_binds : World → Headed S → Func S → Binds
   start_binds w h f = otherwise (given (func_type (in_block (env_of w h None)) f.sig) (body_binds (receiver_of w h f.receiver) f.sig)) []
 
-  abbrev start_names : Func S → List (NameAt S)
+  abbrev pub start_names : Func S → List (NameAt S)
   start_names f = not_blank (param_names f.sig.results ++ param_names (params_of rs f))
 
   start-bound : (n : List ℕ) (w : World) (h : Headed S) (f : Func S) → is_among n (bound_names (start_binds w h f)) ≡ true → is_among n (names_of (start_names f)) ≡ true
@@ -164,7 +164,7 @@ module _ {S : Type 0} (rs : List (Package S)) where
       go true i = absurd (grind (arith, sym e ∙ start-bound n w h f i))
       go false i = refl
 
-  body-begins : (w v : World) (h k : Headed S) (f : Func S) → NamesOutside (env_of w h None) (receiver_names f.receiver ++ sig_names f.sig) (body_env w h f) (body_env v k f) (start_names f)
+  pub body-begins : (w v : World) (h k : Headed S) (f : Func S) → NamesOutside (env_of w h None) (receiver_names f.receiver ++ sig_names f.sig) (body_env w h f) (body_env v k f) (start_names f)
   body-begins w v h k f =
       record {
         outer = λ n i. behind_front (start_binds w h f) (env_of w h None).names n (not-bound n w h f i);
@@ -190,7 +190,7 @@ module _ {S : Type 0} (same : S → S → Bool) (rs : List (Package S)) (z : S) 
   abbrev at : Option ℕ → Env
   at n = file_env w home is n
 
-  at-top : (n : Option ℕ) (p : Place S) → p.env.here ≡ [] → p.bound ≡ [] → NamesOutside top [] (at n) p.env p.bound
+  pub at-top : (n : Option ℕ) (p : Place S) → p.env.here ≡ [] → p.bound ≡ [] → NamesOutside top [] (at n) p.env p.bound
   at-top n p e b = record { outer = λ m j. refl; listed = λ m y j. no_name m j; typed_block = λ m j. no_name m j; walked_block = λ m j. no_name m (sym (ap (is_among m) e) ∙ j); world = refl; blank = λ m y. ap (λ l. is_among m (names_of l)) b }
 
   front : (xs ys : List (Seen S)) → AllUsesThere same z e top (xs ++ ys) → AllUsesThere same z e top xs

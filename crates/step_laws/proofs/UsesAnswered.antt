@@ -29,7 +29,7 @@ pub record NamedThere {S : Type 0} (env : Env) (e : Expr S) (r : Option Entity) 
   pub names : Names env e means n
   pub same : means ≡ r
 
-named-there : {S : Type 0} (top env : Env) {e : Expr S} {r : Option Entity} {n : List ℕ} → meaning env n ≡ meaning top n → env.world ≡ top.world → Names top e r n → NamedThere env e r n
+pub named-there : {S : Type 0} (top env : Env) {e : Expr S} {r : Option Entity} {n : List ℕ} → meaning env n ≡ meaning top n → env.world ≡ top.world → Names top e r n → NamedThere env e r n
 named-there top env q w (plain_name {n = n}) = record { means = meaning env n; names = plain_name; same = q }
 named-there top env q w (qualified_name {m = m} {k = k} p) = record { means = exported env.world k m.name; names = qualified_name (ap package_of q ∙ p); same = ap (λ v. exported v k m.name) w }
 

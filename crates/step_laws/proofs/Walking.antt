@@ -43,7 +43,7 @@ module _ {S : Type 0} (c : Changes S) (R : List (List ℕ) → Env → Env → L
   as-operand false xs a f = is_operand (f a)
 
   -- what is called stands where the call does
-  at-callee : (around : List (List ℕ)) (env : Env) (z : Slot) (f : Expr S) (p : Place S) → R around env p.env p.bound → R around env (callee_place z f p).env (callee_place z f p).bound
+  pub at-callee : (around : List (List ℕ)) (env : Env) (z : Slot) (f : Expr S) (p : Place S) → R around env p.env p.bound → R around env (callee_place z f p).env (callee_place z f p).bound
   at-callee around env z (ident _ _) p r = r
   at-callee around env z (int_lit _ _) p r = r
   at-callee around env z (rune_lit _ _) p r = r

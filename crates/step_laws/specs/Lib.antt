@@ -5,5 +5,6 @@ pub mod Answered
 pub mod NamesOutside
 pub mod ConstantUses
 pub mod Swaps
+pub mod SwapUses
 pub mod SwapPrograms
 pub mod Laws
