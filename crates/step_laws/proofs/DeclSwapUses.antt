@@ -1,8 +1,8 @@
 -- A declaration in which uses of a constant become another name of it: its code stays, from what the walk lists.
-use Rattle.std.specs.Prelude.{◌≡◌, refl, ℕ, suc, Bool, true, false, List, [], ◌∷◌, ◌++◌, Option, Some, None}
+use Rattle.std.specs.Prelude.{◌≡◌, refl, ℕ, Bool, true, false, List, [], ◌++◌, Option, Some, None}
 use mathlib.Core.Path.{ap, sym, ◌∙◌}
 use Rattle.std.proofs.Common.{arith}
-use Rattle.go_tree.specs.Tree.{NameAt, Expr, const_decl, var_decl, empty, eval, step, assign, define, return_, break_, continue_, inner, if_, for_, range_, switch, defer, label, ValueSpecs, no_specs, spec}
+use Rattle.go_tree.specs.Tree.{Expr, const_decl, var_decl, empty, eval, step, assign, define, return_, break_, continue_, inner, if_, for_, range_, switch, defer, label, ValueSpecs, no_specs, spec}
 use Rattle.go_tree.specs.File.{Func, Decl, values, types, func, File}
 use Rattle.scope_names.specs.Means.{Environment}
 use Rattle.scope_names.specs.FreeNames.{names_of, sig_names}

@@ -30,7 +30,9 @@ use Rattle.step_laws.specs.Answered.{HoldsWithin, AllAnswered}
 use Rattle.step_laws.specs.NamesOutside.{NamesOutside, UseThere, AllUsesThere}
 use Rattle.step_laws.specs.ConstantSteps.{DeclThereStands, ConstantStep, ImportsRight, constant_put}
 use Rattle.step_laws.specs.ConstantUses.{UseOfConstant, ConstantUses}
-use Rattle.step_laws.specs.SwapPrograms.{PackageSwaps, members_put}
+use Rattle.go_kernel.specs.Kernel.{ImportPath}
+use Rattle.step_laws.specs.SwapUses.{AllSwapsThere, DeclTyped}
+use Rattle.step_laws.specs.SwapPrograms.{DeclSwaps, PackageSwaps, members_put}
 
 -- ---- what the walk puts
 
@@ -96,6 +98,15 @@ DeclarationsWithUsesStand =
     (is : Environment Entity) (d : Decl Span) →
     AllUsesThere same z e (file_env w home is None) (decl_seen rs number pk tree d) →
     DeclThereStands same rs z e number pk tree w home in_main file is d
+
+-- and its code stays, where the constant is known
+abbrev pub DeclarationsWithUsesKeepTheirCode : Type 0
+DeclarationsWithUsesKeepTheirCode =
+    (same : Span → Span → Bool) (rs : List (run.Package Span)) (z : Span) (e : Expr Span) (number : ℕ)
+    (pk : run.Package Span) (tree : File Span) (paths : List (ℕ × ImportPath)) (w : World) (home : ℕ)
+    (in_main : Bool) (file : ℕ) (is : Environment Entity) (d : Decl Span) → DeclTyped (file_env w home is None) d →
+    AllSwapsThere same z e (file_env w home is None) (decl_seen rs number pk tree d) →
+    DeclSwaps same rs z e number pk tree paths w home in_main file is d
 
 -- a use of a constant and a name of what the constant is declared as mean one constant
 abbrev pub UsesMeanOneConstant : Type 0

@@ -2,6 +2,7 @@
 
 ghost use Rattle.step_laws.specs.Laws.{AnsweredBodiesStand, AnsweredExpressionsStand};
 ghost use Rattle.step_laws.specs.Laws.{NamesAroundAreKnown};
+ghost use Rattle.step_laws.specs.Laws.{DeclarationsWithUsesKeepTheirCode};
 ghost use Rattle.step_laws.specs.Laws.{DeclarationsWithUsesStand, NamesOutsideHold, UsesMeanOneConstant};
 ghost use Rattle.step_laws.specs.Laws.{StepKeepsTheCode, StepMeansTheSame, StepStaysInPlace, StepsOverUses};
 ghost use Rattle.step_laws.specs.Laws.{StepsCompose, UsesOfConstantsStand, ValuesEndAlike};
@@ -29,6 +30,7 @@ pub fn uses_of_constants_stand()
     ensures facts { UsesOfConstantsStand }
     ensures ends { ValuesEndAlike }
     ensures declarations { DeclarationsWithUsesStand }
+    ensures code { DeclarationsWithUsesKeepTheirCode }
     ensures one { UsesMeanOneConstant }
 {}
 
