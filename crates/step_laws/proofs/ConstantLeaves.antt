@@ -29,7 +29,7 @@ pub asked-there : {S : Type 0} {around : List (List ℕ)} {env : Env} {x : Expr 
 asked-there e true f k = is_put (f refl)
 asked-there e false f k = stays (k refl)
 
-names-bodiless : {S : Type 0} {env : Env} {e : Expr S} {r : Option Entity} {n : List ℕ} → Names env e r n → bodiless e ≡ true
+pub names-bodiless : {S : Type 0} {env : Env} {e : Expr S} {r : Option Entity} {n : List ℕ} → Names env e r n → bodiless e ≡ true
 names-bodiless plain_name = refl
 names-bodiless (qualified_name q) = refl
 

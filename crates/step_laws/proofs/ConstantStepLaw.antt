@@ -6,7 +6,7 @@ use Rattle.scope_names.specs.Means.{Environment}
 use Rattle.pkg_graph.specs.Package.{Package}
 use Rattle.go_types.specs.Entities.{Entity, World, Env}
 use Rattle.go_types.specs.TypeNames.{resolved}
-use Rattle.go_types.specs.Programs.{Header, SourceFile, Program, block_names, file_block, is_main}
+use Rattle.go_types.specs.Programs.{Header, SourceFile, Program, headed, block_names, file_block, is_main}
 use Rattle.go_types.specs.Collect.{file_env}
 use Rattle.run_rules.specs.Surroundings.{Place}
 use Rattle.run_rules.specs.Rewriting.{Changes}
@@ -15,7 +15,7 @@ use Rattle.run_rules.specs.FormTrees.{as_expr}
 use Rattle.run_rules.specs.Steps.{changes_for, new_decl, new_receiver_option}
 use Rattle.typed_in_place.specs.Replaced.{same_type, TypeReplaced}
 use Rattle.typed_in_place.specs.HeaderReplaced.{SameReceiver}
-use Rattle.typed_in_place.specs.ProgramReplaced.{at_last, InPlaceBeside}
+use Rattle.typed_in_place.specs.ProgramReplaced.{at_last, InPlaceBeside, All, Apart}
 use Rattle.typed_in_place.proofs.Leaves.{type_itself}
 use Rattle.typed_in_place.proofs.ProgramsReplaced.{one_by_one}
 use Rattle.step_laws.specs.DeclStands.{FilesBy, no_files, and_file, DeclTypesStand, DeclaredTypesStand, body_there, ProgramBy, ResolvedAlike, TypesAlike, ValuesAlike, WholeAlike, AtNth, changed}
@@ -29,7 +29,7 @@ all-nth P f n [] = tt
 all-nth P f zero (x ∷ xs) = f x
 all-nth P f (suc n) (x ∷ xs) = all-nth P f n xs
 
-then-nth : {A : Type 0} (P Q : A → Type 0) → ((a : A) → P a → Q a) → (n : ℕ) (xs : List A) → AtNth P n xs → AtNth Q n xs
+pub then-nth : {A : Type 0} (P Q : A → Type 0) → ((a : A) → P a → Q a) → (n : ℕ) (xs : List A) → AtNth P n xs → AtNth Q n xs
 then-nth P Q f n [] h = tt
 then-nth P Q f zero (x ∷ xs) h = f x h
 then-nth P Q f (suc n) (x ∷ xs) h = then-nth P Q f n xs h
@@ -57,7 +57,7 @@ module _ {S : Type 0} (same : S → S → Bool) (rs : List (Package S)) (z : S) 
 
   -- ---- types and receivers stay
 
-  receiver-stays : (r : Option (Receiver S)) → SameReceiver r (new_receiver_option same rs c q r)
+  pub receiver-stays : (r : Option (Receiver S)) → SameReceiver r (new_receiver_option same rs c q r)
   receiver-stays None = receiver_itself None
   receiver-stays (Some r) = receiver_itself (Some r)
 
@@ -107,8 +107,8 @@ module _ {S : Type 0} (same : S → S → Bool) (rs : List (Package S)) (z : S) 
         (then-nth (PackageThereStands same rs z e number pk file w m n) (DeclOfPackageBy (WholeAlike w) (whole_itself w) change m n) (λ p y. whole-files p.number (is_main p) (block_names p.files) 0 m n p.files y) k ps h)
 
   -- one step over a constant
-  pub constant-step : (more : Program S) (k m n : ℕ) (ps : Program S) → ConstantStep same rs z e number pk file more k m n ps → InPlaceBeside more ps (changed change k m n ps)
-  constant-step more k m n ps s = step-in-place more ps (changed change k m n ps) (record {
+  pub constant-step : (more : Program S) (k m n : ℕ) (ps : Program S) → ConstantStep same rs z e number pk file more k m n ps → All (Apart (headed ps)) more → InPlaceBeside more ps (changed change k m n ps)
+  constant-step more k m n ps s others = step-in-place more ps (changed change k m n ps) (record {
     aliases_before = resolved-stays _ k m n ps;
     aliases_after = resolved-stays _ k m n ps;
     types_before = types-stay-put _ k m n ps;
@@ -116,5 +116,5 @@ module _ {S : Type 0} (same : S → S → Bool) (rs : List (Package S)) (z : S) 
     before = λ w x. values-of w (whole-stands w k m n ps (s.before w x));
     after = λ w x. values-of w (whole-stands w k m n ps (s.after w x));
     bodies = whole-stands _ k m n ps (s.before _ at_last);
-    apart = s.apart;
+    apart = others;
   })

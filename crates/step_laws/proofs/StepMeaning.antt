@@ -8,7 +8,7 @@ use Rattle.pkg_graph.specs.Package as run
 use Rattle.go_types.specs.Programs.{SourceFile, Program}
 use Rattle.go_types.specs.Collect.{collected}
 use Rattle.go_types.specs.WellTyped.{well_typed}
-use Rattle.typed_in_place.proofs.Rising.{and_second}
+use Rattle.typed_in_place.proofs.Rising.{and_first, and_second}
 use Rattle.typed_in_place.proofs.ProgramsReplaced.{stays_well_typed_beside}
 use Rattle.run_rules.specs.Steps.{change_nth}
 use Rattle.go_translation.specs.Packages.{Package, sources, paths_in, has_path, has_number, are_distinct, imports_known, are_linked, are_well_typed}
@@ -18,7 +18,12 @@ use Rattle.step_laws.specs.DeclStands.{AtNth, changed, decl_changed}
 use Rattle.step_laws.specs.ConstantSteps.{ImportsRight, ConstantStep}
 use Rattle.step_laws.specs.SwapPrograms.{put_decl, PackageSwaps, members_put}
 use Rattle.step_laws.proofs.ConstantStepLaw.{constant-step}
+use Rattle.step_laws.proofs.FurtherApart.{further-apart}
 use Rattle.step_laws.proofs.SwapProgram.{constant-swapped, sources-before, sources-after}
+
+-- well-typed packages have distinct numbers
+distinct-before : {S : Type 0} (ps more : List (Package S)) → are_well_typed (ps ++ more) ≡ true → are_distinct (ps ++ more) ≡ true
+distinct-before ps more w = and_first (are_distinct (ps ++ more)) (are_linked [] (ps ++ more) && well_typed (sources (ps ++ more))) w
 
 module _ {S : Type 0} (same : S → S → Bool) (rs : List (run.Package S)) (z : S) (e : Expr S) (number : ℕ) (pk : run.Package S) (tree : File S) where
   abbrev after : ℕ → ℕ → ℕ → List (Package S) → List (Package S)
@@ -72,7 +77,7 @@ module _ {S : Type 0} (same : S → S → Bool) (rs : List (run.Package S)) (z :
         let t : Bool = well_typed (sources (ps ++ more)) in
         let rest : (l && t) ≡ true = and_second d (l && t) w in
         let old : well_typed (sources ps ++ sources more) ≡ true = sym (ap well_typed (sources-before same rs z e number pk tree ps more)) ∙ and_second l t rest in
-        let now : well_typed (new ++ sources more) ≡ true = stays_well_typed_beside (sources more) (sources ps) new (constant-step same rs z e number pk tree (sources more) k m n (sources ps) s) old i in
+        let now : well_typed (new ++ sources more) ≡ true = stays_well_typed_beside (sources more) (sources ps) new (constant-step same rs z e number pk tree (sources more) k m n (sources ps) s (further-apart ps more (distinct-before ps more w))) old i in
         let typed : well_typed (sources (after k m n ps ++ more)) ≡ true = ap well_typed (sources-after same rs z e number pk tree k m n ps more) ∙ now in
         sym (λ j. distinct-same k m n ps more j && (linked-same [] k m n ps more j && (and_second l t rest ∙ sym typed) j)) ∙ w
 
@@ -85,4 +90,4 @@ pub constant-step-means-the-same : {S : Type 0} (same : S → S → Bool) (rs : 
 constant-step-means-the-same same rs z e number pk tree k m n P step right swaps =
     swapped_meaning P (record P { members = members_put same rs z e number pk tree k m n P.members })
     (λ Q w. typed-after same rs z e number pk tree k m n P.members Q (step Q w) (right Q w) w)
-    (λ Q w. constant-swapped same rs z e number pk tree k m n P.members Q (step Q w) (swaps Q w))
+    (λ Q w. constant-swapped same rs z e number pk tree k m n P.members Q (step Q w) (distinct-before P.members Q w) (swaps Q w))

@@ -1,5 +1,5 @@
 -- A step over a constant leaves the kernel program what it was.
-use Rattle.std.specs.Prelude.{◌≡◌, refl, ℕ, zero, suc, Bool, not, ◌&&◌, ◌||◌, List, [], ◌∷◌, ◌++◌, map, Option, None, Some}
+use Rattle.std.specs.Prelude.{◌≡◌, refl, ℕ, zero, suc, Bool, true, not, ◌&&◌, ◌||◌, List, [], ◌∷◌, ◌++◌, map, Option, None, Some}
 use Rattle.std.specs.List.{list_all}
 use mathlib.Core.Path.{ap, sym, ◌∙◌, subst}
 use Rattle.go_tree.specs.Tree.{TypeExpr, Expr, Exprs, no_exprs, expr_and, const_decl, var_decl, ValueSpecs, no_specs, spec, empty, eval, step, assign, define, return_, break_, continue_, inner, if_, for_, range_, switch, defer, label}
@@ -19,7 +19,7 @@ use Rattle.run_rules.specs.Rewriting.{new_all, new_sig, new_stmts}
 use Rattle.run_rules.specs.Programs.{top_place, body_place}
 use Rattle.run_rules.specs.Steps.{change_nth, new_receiver_option, new_type_spec}
 use Rattle.run_rules.specs.Steps as steps
-use Rattle.go_translation.specs.Packages.{Package, sources, paths_in, codes_of}
+use Rattle.go_translation.specs.Packages.{Package, sources, paths_in, codes_of, are_distinct}
 use Rattle.go_translation.specs.SwappedPackages.{no_headers, and_header, and_package, no_packages, SwappedHeader, same_header, of_constants, of_variables, of_function, SwappedHeaders, SwappedMembers, SwappedPackages}
 use Rattle.go_translation.proofs.SwappedProgram.{codes-swap}
 use Rattle.step_laws.specs.DeclStands.{AtNth, file_changed, decl_changed, changed}
@@ -28,6 +28,7 @@ use Rattle.step_laws.specs.Swaps.{put}
 use Rattle.step_laws.specs.SwapPrograms.{headed_there, put_decl, VariablesSwap, FunctionSwaps, DeclSwaps, FilesSwap, PackageSwaps, package_put, members_put}
 use Rattle.step_laws.proofs.Swapping.{all-swap, stmts-swap, written-same, sig-same}
 use Rattle.step_laws.proofs.ConstantStepLaw.{constant-step}
+use Rattle.step_laws.proofs.FurtherApart.{further-apart}
 
 -- two headers at one place of which the one may be swapped for the other
 pub record Swappable {S : Type 0} (paths : List (ℕ × ImportPath)) (w : World) (home : ℕ) (in_main : Bool) (file : ℕ) (is : Environment Entity) (h k : S × Header S) : Type 0 where
@@ -182,15 +183,15 @@ module _ {S : Type 0} (same : S → S → Bool) (rs : List (run.Package S)) (z :
   sources-after (suc k) m n (p ∷ ps) more = λ x. p.source ∷ sources-after k m n ps more x
 
   -- beside all further packages, the packages differ in names of constants alone
-  pub constant-swapped : (k m n : ℕ) (ps more : List (Package S)) → ConstantStep same rs z e number pk tree (sources more) k m n (sources ps)
+  pub constant-swapped : (k m n : ℕ) (ps more : List (Package S)) → ConstantStep same rs z e number pk tree (sources more) k m n (sources ps) → are_distinct (ps ++ more) ≡ true
       → AtNth (PackageSwaps same rs z e number pk tree (paths_in (ps ++ more)) (collected (sources (ps ++ more))) m n) k ps → SwappedPackages (ps ++ more) (members_put same rs z e number pk tree k m n ps ++ more)
-  constant-swapped k m n ps more s h = record {
+  constant-swapped k m n ps more s d h = record {
     paths = paths-same k m n ps more;
-    declare = ap collected (sources-before ps more) ∙ declares_the_same_beside (sources more) (sources ps) (changed (put_decl same rs z e number pk tree) k m n (sources ps)) (constant-step same rs z e number pk tree (sources more) k m n (sources ps) s) ∙ sym (ap collected (sources-after k m n ps more));
+    declare = ap collected (sources-before ps more) ∙ declares_the_same_beside (sources more) (sources ps) (changed (put_decl same rs z e number pk tree) k m n (sources ps)) (constant-step same rs z e number pk tree (sources more) k m n (sources ps) s (further-apart ps more d)) ∙ sym (ap collected (sources-after k m n ps more));
     members = members-swap (paths_in (ps ++ more)) (collected (sources (ps ++ more))) k m n ps more h;
   }
 
   -- so the kernel programs are equal
-  pub constant-codes : (k m n : ℕ) (ps more : List (Package S)) → ConstantStep same rs z e number pk tree (sources more) k m n (sources ps)
+  pub constant-codes : (k m n : ℕ) (ps more : List (Package S)) → ConstantStep same rs z e number pk tree (sources more) k m n (sources ps) → are_distinct (ps ++ more) ≡ true
       → AtNth (PackageSwaps same rs z e number pk tree (paths_in (ps ++ more)) (collected (sources (ps ++ more))) m n) k ps → codes_of (ps ++ more) ≡ codes_of (members_put same rs z e number pk tree k m n ps ++ more)
-  constant-codes k m n ps more s h = codes-swap (ps ++ more) (members_put same rs z e number pk tree k m n ps ++ more) (constant-swapped k m n ps more s h)
+  constant-codes k m n ps more s d h = codes-swap (ps ++ more) (members_put same rs z e number pk tree k m n ps ++ more) (constant-swapped k m n ps more s d h)

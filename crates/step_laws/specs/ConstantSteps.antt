@@ -14,7 +14,7 @@ use Rattle.run_rules.specs.Programs.{top_place, body_place}
 use Rattle.run_rules.specs.FormTrees.{as_expr}
 use Rattle.run_rules.specs.Steps.{changes_for, new_decl}
 use Rattle.typed_in_place.specs.ImportRule.{package_imports}
-use Rattle.typed_in_place.specs.ProgramReplaced.{ValuesEnd, All, Apart}
+use Rattle.typed_in_place.specs.ProgramReplaced.{ValuesEnd}
 use Rattle.step_laws.specs.DeclStands.{DeclStands, body_there, AtNth, changed}
 
 -- `e` is put at `z`, in a file of a package of the run's packages `rs`
@@ -42,11 +42,11 @@ module _ {S : Type 0} (same : S → S → Bool) (rs : List (Package S)) (z : S) 
   abbrev pub constant_put : ℕ → ℕ → ℕ → Program S → Program S
   constant_put k m n ps = changed (λ d. new_decl same rs (changes_for same z (as_expr e)) number pk file d) k m n ps
 
-  -- what the step asks, beside further packages: what is put has the same facts in each world where the values of the program before or of the one after are settled, and the further packages have other numbers
+  -- what the step asks, beside further packages: what is put has the same facts in each world where the values of the
+  -- program before or of the one after are settled
   pub record ConstantStep (more : Program S) (k m n : ℕ) (ps : Program S) : Type 0 where
     pub before : (w : World) → ValuesEnd (ps ++ more) w → AtNth (PackageThereStands w m n) k ps
     pub after : (w : World) → ValuesEnd (constant_put k m n ps ++ more) w → AtNth (PackageThereStands w m n) k ps
-    pub apart : All (Apart (headed ps)) more
 
   -- the imports of the packages after are right, beside further packages
   abbrev pub ImportsRight : ℕ → ℕ → ℕ → Program S → Program S → Type 0

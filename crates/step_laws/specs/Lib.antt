@@ -1,6 +1,10 @@
 pub mod Stands
 pub mod DeclStands
 pub mod ConstantSteps
+pub mod Answered
+pub mod NamesOutside
+pub mod ConstantUses
 pub mod Swaps
+pub mod SwapUses
 pub mod SwapPrograms
 pub mod Laws

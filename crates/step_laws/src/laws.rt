@@ -1,6 +1,10 @@
 //! Laws of one step over a constant.
 
-ghost use Rattle.step_laws.specs.Laws.{StepKeepsTheCode, StepMeansTheSame, StepStaysInPlace};
+ghost use Rattle.step_laws.specs.Laws.{AnsweredBodiesStand, AnsweredExpressionsStand};
+ghost use Rattle.step_laws.specs.Laws.{NamesAroundAreKnown};
+ghost use Rattle.step_laws.specs.Laws.{DeclarationsWithUsesKeepTheirCode};
+ghost use Rattle.step_laws.specs.Laws.{DeclarationsWithUsesStand, NamesOutsideHold, UsesMeanOneConstant};
+ghost use Rattle.step_laws.specs.Laws.{StepKeepsTheCode, StepMeansTheSame, StepStaysInPlace, StepsOverUses};
 ghost use Rattle.step_laws.specs.Laws.{StepsCompose, UsesOfConstantsStand, ValuesEndAlike};
 ghost use Rattle.step_laws.specs.Laws.{WalkedBodies, WalkedExpressions};
 
@@ -11,16 +15,29 @@ pub fn walks_replace_in_place()
     ensures bodies { WalkedBodies }
 {}
 
+/// Where each place that the walk lists is answered, what the walk makes of it stands; and names that
+/// a declaration doesn't declare mean throughout what they mean at the top of the file.
+pub fn answered_places_stand()
+    ensures expressions { AnsweredExpressionsStand }
+    ensures bodies { AnsweredBodiesStand }
+    ensures outside { NamesOutsideHold }
+    ensures known { NamesAroundAreKnown }
+{}
+
 /// A name of a constant and a name of what the constant is declared as have the same facts, once the
 /// rounds of declarations have ended.
 pub fn uses_of_constants_stand()
     ensures facts { UsesOfConstantsStand }
     ensures ends { ValuesEndAlike }
+    ensures declarations { DeclarationsWithUsesStand }
+    ensures code { DeclarationsWithUsesKeepTheirCode }
+    ensures one { UsesMeanOneConstant }
 {}
 
-/// A use of a constant that becomes a name with the same facts leaves the program in place, and its
+/// A use of a constant that becomes another name of it leaves the program in place, and its
 /// kernel program equal, beside all further packages; so the packages mean the same.
 pub fn step_over_a_constant_means_the_same()
+    ensures steps { StepsOverUses }
     ensures in_place { StepStaysInPlace }
     ensures code { StepKeepsTheCode }
     ensures meaning { StepMeansTheSame }

@@ -5,5 +5,6 @@
 mod laws;
 
 pub use laws::{
-    step_over_a_constant_means_the_same, uses_of_constants_stand, walks_replace_in_place,
+    answered_places_stand, step_over_a_constant_means_the_same, uses_of_constants_stand,
+    walks_replace_in_place,
 };

@@ -50,7 +50,7 @@ module _ {S : Type 0} where
 
   -- ---- signatures
 
-  blank_append : (xs ys : List (NameAt S)) → not_blank (xs ++ ys) ≡ (not_blank xs ++ not_blank ys)
+  pub blank_append : (xs ys : List (NameAt S)) → not_blank (xs ++ ys) ≡ (not_blank xs ++ not_blank ys)
   blank_append [] ys = refl
   blank_append (x ∷ xs) ys = go (is_blank x.name) (blank_append xs ys)
     where
@@ -58,7 +58,7 @@ module _ {S : Type 0} where
       go true e = e
       go false e = ap (λ z. x ∷ z) e
 
-  named_params : (ps : List (Param S)) → names_of (param_names ps) ≡ params_names ps
+  pub named_params : (ps : List (Param S)) → names_of (param_names ps) ≡ params_names ps
   named_params [] = refl
   named_params (p ∷ ps) = go p.name (named_params ps)
     where
@@ -66,7 +66,7 @@ module _ {S : Type 0} where
       go None e = e
       go (Some n) e = ap (λ z. n.name ∷ z) e
 
-  names_both : (xs ys : List (NameAt S)) → names_of (xs ++ ys) ≡ (names_of xs ++ names_of ys)
+  pub names_both : (xs ys : List (NameAt S)) → names_of (xs ++ ys) ≡ (names_of xs ++ names_of ys)
   names_both [] ys = refl
   names_both (x ∷ xs) ys = ap (λ r. x.name ∷ r) (names_both xs ys)
 

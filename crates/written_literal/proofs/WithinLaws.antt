@@ -33,7 +33,7 @@ under_front : (f : Binds) (l k : Environment Entity) (n : List ℕ) → means l 
 under_front [] l k n e = e
 under_front (b ∷ f) l k n e = ap (λ r. if bytes_eq b.0 n then Some b.1 else r) (under_front f l k n e)
 
-behind_front : (f : Binds) (l : Environment Entity) (n : List ℕ) → is_among n (bound_names f) ≡ false → means (f ++ l) n ≡ means l n
+pub behind_front : (f : Binds) (l : Environment Entity) (n : List ℕ) → is_among n (bound_names f) ≡ false → means (f ++ l) n ≡ means l n
 behind_front [] l n e = refl
 behind_front (b ∷ f) l n e = go (bytes_eq b.0 n) refl (behind_front f l n)
   where

@@ -2,16 +2,20 @@ use Rattle.step_laws.proofs.ConstantStepLaw.{constant-step}
 use Rattle.step_laws.proofs.SwapProgram.{constant-codes}
 use Rattle.step_laws.proofs.StepMeaning.{constant-step-means-the-same}
 use Rattle.step_laws.proofs.StepsCompose.{in-place-then}
+use Rattle.step_laws.proofs.StepUses.{step-with-uses}
 use Rattle.step_laws.proofs.laws.step_over_a_constant_means_the_same.Goals as goal
 
 pub returns-clause-in_place : goal.returns-clause-in_place
-returns-clause-in_place c = λ same rs z e number pk tree more k m n ps s. constant-step same rs z e number pk tree more k m n ps s
+returns-clause-in_place c = λ same rs z e number pk tree more k m n ps s a. constant-step same rs z e number pk tree more k m n ps s a
 
 pub returns-clause-code : goal.returns-clause-code
-returns-clause-code c = λ same rs z e number pk tree k m n ps more s h. constant-codes same rs z e number pk tree k m n ps more s h
+returns-clause-code c = λ same rs z e number pk tree k m n ps more s d h. constant-codes same rs z e number pk tree k m n ps more s d h
 
 pub returns-clause-meaning : goal.returns-clause-meaning
 returns-clause-meaning c = λ same rs z e number pk tree k m n P s i w. constant-step-means-the-same same rs z e number pk tree k m n P s i w
 
 pub returns-clause-composed : goal.returns-clause-composed
 returns-clause-composed c = λ more ps qs rs d e. in-place-then more ps qs rs d e
+
+pub returns-clause-steps : goal.returns-clause-steps
+returns-clause-steps c = λ same rs z e number pk tree more k m n ps u. step-with-uses same rs z e number pk tree more k m n ps u

@@ -1,5 +1,8 @@
 use Rattle.step_laws.proofs.ConstantLeaves.{constant-use-stands}
 use Rattle.step_laws.proofs.StepsCompose.{values-end}
+use Rattle.step_laws.proofs.DeclUses.{decl-with-use}
+use Rattle.step_laws.proofs.StepUses.{use-of-constant}
+use Rattle.step_laws.proofs.DeclSwapUses.{decl-swaps}
 use Rattle.step_laws.proofs.laws.uses_of_constants_stand.Goals as goal
 
 pub returns-clause-facts : goal.returns-clause-facts
@@ -7,3 +10,12 @@ returns-clause-facts c = λ ps hs h x f r d around env e e' n m p q a i j k b u 
 
 pub returns-clause-ends : goal.returns-clause-ends
 returns-clause-ends c = λ more ps qs d. values-end more ps qs d
+
+pub returns-clause-declarations : goal.returns-clause-declarations
+returns-clause-declarations c = λ same rs z e number pk tree w home in_main file is d a. decl-with-use same rs z e number pk tree w home in_main file is d a
+
+pub returns-clause-one : goal.returns-clause-one
+returns-clause-one c = λ ps h n f w top p x e u. use-of-constant ps h n f w top p x e u
+
+pub returns-clause-code : goal.returns-clause-code
+returns-clause-code c = λ same rs z e number pk tree paths w home in_main file is d t a. decl-swaps same rs z e number pk tree paths w home in_main file is d t a

@@ -1,0 +1,16 @@
+use Rattle.step_laws.specs.NamesOutside.{NamesOutside}
+use Rattle.step_laws.proofs.Walking.{expr-walks, stmts-walk}
+use Rattle.step_laws.proofs.OutsideHolds.{outside_holds}
+use Rattle.step_laws.proofs.laws.answered_places_stand.Goals as goal
+
+pub returns-clause-expressions : goal.returns-clause-expressions
+returns-clause-expressions c = λ d top around env p u x r a. expr-walks d (NamesOutside top) (outside_holds top) around env p u x r a
+
+pub returns-clause-bodies : goal.returns-clause-bodies
+returns-clause-bodies c = λ d top around env p x r a. stmts-walk d (NamesOutside top) (outside_holds top) around env p x r a
+
+pub returns-clause-outside : goal.returns-clause-outside
+returns-clause-outside c = λ top. outside_holds top
+
+pub returns-clause-known : goal.returns-clause-known
+returns-clause-known c = λ ps home there p names new all outside top around env h t r. record { home_file = h; there_file = t; not_around = r.outer; blank = r.blank }
