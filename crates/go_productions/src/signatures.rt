@@ -99,10 +99,7 @@ fn begins_type(terminal: Terminal) -> bool
 
 /// Parameters up to the closing parenthesis, with a comma after the last or without.
 #[tactic(auto, using(crate::proofs::ParamArms::group_lost, crate::proofs::ParamArms::group_last, crate::proofs::ParamArms::group_comma, crate::proofs::ParamArms::group_more, crate::proofs::ParamArms::group_past, crate::proofs::ParamArms::group_stop))]
-fn param_list<'a>(tokens: Cursor<'a>,
-    named: bool,
-    variadic: bool,
-) -> Reading<'a, ParamList>
+fn param_list<'a>(tokens: Cursor<'a>, named: bool, variadic: bool) -> Reading<'a, ParamList>
     ensures gives { Gives (map param_of) result
         (params_at variadic named (ahead tokens.entry)) }
     ensures shorter { Shorter result tokens.entry }
@@ -154,7 +151,8 @@ fn begins_rest(tokens: Cursor, named: bool, variadic: bool) -> bool
 
 /// Parameters that share a type, or one without a name, or a variadic one, after these.
 #[tactic(auto, using(crate::proofs::ParamArms::named_group, crate::proofs::ParamArms::no_named_group, crate::proofs::ParamArms::unnamed_group, crate::proofs::ParamArms::no_unnamed_group))]
-fn param_group<'a>(params: Vec<Param>,
+fn param_group<'a>(
+    params: Vec<Param>,
     tokens: Cursor<'a>,
     named: bool,
     variadic: bool,
@@ -206,7 +204,8 @@ fn rest_group<'a>(params: Vec<Param>, tokens: Cursor<'a>) -> Reading<'a, Vec<Par
 
 /// The variadic parameter that begins at `whole`, from its type on, after these.
 #[tactic(auto, using(crate::proofs::ParamArms::rest_none, crate::proofs::ParamArms::rest_some))]
-fn rest_param<'a>(params: Vec<Param>,
+fn rest_param<'a>(
+    params: Vec<Param>,
     whole: Cursor,
     name: Option<NameAt>,
     tokens: Cursor<'a>,

@@ -200,7 +200,8 @@ fn field_list<'a>(tokens: Cursor<'a>) -> Reading<'a, FieldSpecList>
 /// once for each of them, since the tree has it once for each.
 #[cycle(types)]
 #[tactic(auto, using(crate::proofs::FieldArms::shared_lost, crate::proofs::FieldArms::shared_untyped, crate::proofs::FieldArms::shared_last, crate::proofs::FieldArms::shared_more))]
-pub(crate) fn shared_fields<'a>(fields: Vec<FieldSpec>,
+pub(crate) fn shared_fields<'a>(
+    fields: Vec<FieldSpec>,
     tokens: Cursor<'a>,
 ) -> Reading<'a, Vec<FieldSpec>>
     ensures gives { Gives (λ x. map field_of x.items) result
