@@ -1,12 +1,13 @@
 -- What the reader gives for an expression.
 use Rattle.std.proofs.Common.{◌≡◌, ◌≢◌, ℕ, ◌+◌, Bool, true, false, nat_le, if◌then◌else◌, List, [], ◌∷◌, ◌++◌, map, Option, Some, None, refl, sym, ap, ◌∙◌}
+use Rattle.std.specs.Option.{option_map}
 use Rattle.go_tree.specs.declared.spans.Span.{Span}
 use Rattle.go_tree.specs.declared.operators.BinOp.{BinOp}
 use Rattle.go_tree.specs.declared.operators.BinOp.TheVariants.{Mul, Add, Sub, Xor, And}
 use Rattle.go_tree.specs.declared.operators.UnOp.TheVariants.{Plus, Minus, Not, Flip, Address}
 use Rattle.go_tree.specs.declared.exprs.Expr as source
 use Rattle.go_tree.specs.declared.exprs.Rest.{Rest}
-use Rattle.go_tree.specs.declared.exprs.Rest.TheVariants.{Plain, Whole}
+use Rattle.go_tree.specs.declared.exprs.Rest.TheVariants.{Plain}
 use Rattle.go_tree.specs.View.{expr_of}
 use Rattle.go_tree.specs.Lists.{exprs_from}
 use Rattle.go_tree.specs.Tree.{Expr, Exprs, no_exprs, expr_and, binary}
@@ -24,8 +25,8 @@ use Rattle.go_expressions.specs.declared.prefixes.Prefix.TheVariants as prefix
 use Rattle.go_words.specs.declared.terminals.Terminal.{Terminal}
 use Rattle.go_words.specs.declared.terminals.Terminal.TheVariants as code
 use Rattle.go_productions.specs.Terminals.{first_of, rest_of}
-use Rattle.go_productions.specs.Parts.{onto, in_front}
-use Rattle.go_expressions.specs.ExprParts.{arg_and, args_closed, prefix_of, prefixed, binary_of}
+use Rattle.go_productions.specs.Parts.{onto, in_front, args_end}
+use Rattle.go_expressions.specs.ExprParts.{arg_and, prefix_of, prefixed, binary_of}
 use Rattle.go_productions.proofs.Fronts.{front_none, front_some, front_push, front_last}
 use Rattle.go_productions.proofs.Steps.{lacks, refuses, goes_on, on_true, on_false}
 
@@ -172,12 +173,12 @@ unfolding args_step
 open_args (lex c end_paren ∷ ts) k h n = absurd (n (sym h))
 open_args ts k h n = finish span_to read_args ts (record { is = refl })
 
-pub args_end : (front : List (Expr Span)) (ts us : Lexemes) (ws : Lexemes) → before front ts ≡ at span_to read_args ws → first_of ts ≡ code.EndParen → us ≡ rest_of ts → at span_to read_args ws ≡ Some ((exprs_from front, Plain), us)
+pub closed_args : (front : List (Expr Span)) (ts us : Lexemes) (ws : Lexemes) → before front ts ≡ at span_to read_args ws → first_of ts ≡ code.EndParen → us ≡ rest_of ts → at span_to read_args ws ≡ Some ((exprs_from front, Plain), us)
 unfolding args_step
-args_end front (lex c end_paren ∷ ts) us ws i h u =
+closed_args front (lex c end_paren ∷ ts) us ws i h u =
     front_some arg_and front (at span_to read_args (lex c end_paren ∷ ts)) (at span_to read_args ws) (no_exprs, Plain) ts i (finish span_to read_args (lex c end_paren ∷ ts) (gives span_to))
     ∙ ap (λ (x : Exprs Span × Rest). Some (x, ts)) (onto_args front Plain) ∙ ap (λ (vs : Lexemes). Some ((exprs_from front, Plain), vs)) (sym u)
-args_end front _ us ws i h u = absurd cc
+closed_args front _ us ws i h u = absurd cc
 
 pub args_lost : (front : List (Expr Span)) (ts : Lexemes) (k : Terminal) (ws : Lexemes) → before front ts ≡ at span_to read_args ws → first_of ts ≡ k → k ≢ code.EndParen → at span_to (read_operand false) ts ≡ None → at span_to read_args ws ≡ None
 args_lost front ts k ws i h n e = front_none arg_and front (at span_to read_args ts) (at span_to read_args ws) i (open_args ts k h n ∙ (lacks {k = λ e r. args_after span_to e r} e).is)
@@ -187,49 +188,32 @@ args_and ts (lex c comma ∷ r) us x k h n e f u =
     open_args ts k h n ∙ (asks span_to {k = λ e r. args_after span_to e r} e (goes_on {g = read_args} {ts = r} arg_and x)).is ∙ ap (before (x ∷ [])) (sym u)
 args_and ts _ us x k h n e f u = absurd cc
 
-args_one : (ts r : Lexemes) (x : Expr Span) (k : Terminal) → first_of ts ≡ k → k ≢ code.EndParen → at span_to (read_operand false) ts ≡ Some (x, r) → first_of r ≡ code.EndParen → at span_to read_args ts ≡ before (x ∷ []) r
-unfolding args_step
-args_one ts (lex c end_paren ∷ r) x k h n e f =
-    open_args ts k h n ∙ (asks span_to {k = λ e r. args_after span_to e r} e (gives span_to)).is ∙ ap (in_front arg_and (x ∷ [])) (sym (finish span_to read_args (lex c end_paren ∷ r) (gives span_to)))
-args_one ts _ x k h n e f = absurd cc
+-- arguments that end after this one
+unfoldable ended : Expr Span → Option (Rest × Lexemes) → Option ((Exprs Span × Rest) × Lexemes)
+ended x o = option_map (λ (y : Rest × Lexemes). ((expr_and x no_exprs, y.0), y.1)) o
 
-args_dots : (ts r us vs : Lexemes) (x : Expr Span) (k : Terminal) → first_of ts ≡ k → k ≢ code.EndParen → at span_to (read_operand false) ts ≡ Some (x, r) → first_of r ≡ code.Ellipsis → us ≡ rest_of r → args_closed us ≡ Some vs → at span_to read_args ts ≡ Some (arg_and x (no_exprs, Whole), vs)
-args_dots ts (lex d ellipsis ∷ us) vs ws x k h n e f u q = open_args ts k h n ∙ (asks span_to {k = λ e r. args_after span_to e r} e (closes us (ap args_closed (sym u) ∙ q))).is
-  where
-    closes : (us : Lexemes) → args_closed us ≡ Some ws → Runs span_to (args_after span_to x (lex d ellipsis ∷ us)) (Some ((expr_and x no_exprs, Whole), ws))
-    closes (lex c end_paren ∷ r) q = record { is = ap (λ (vs : Lexemes). Some ((expr_and x no_exprs, Whole), vs)) (let z : r ≡ ws = cc in z) }
-    closes (lex c comma ∷ lex b end_paren ∷ r) q = record { is = ap (λ (vs : Lexemes). Some ((expr_and x no_exprs, Whole), vs)) (let z : r ≡ ws = cc in z) }
-    closes _ q = absurd cc
-args_dots ts _ vs ws x k h n e f u q = absurd cc
+closes : (x : Expr Span) (r : Lexemes) (l : Terminal) → first_of r ≡ l → l ≢ code.Comma → Runs span_to (args_after span_to x r) (ended x (args_end r))
+unfolding ended
+closes x (lex c comma ∷ r) l f n = absurd (n (sym f))
+closes x (lex c end_paren ∷ r) l f n = record { is = refl }
+closes x (lex d ellipsis ∷ lex c end_paren ∷ r) l f n = record { is = refl }
+closes x (lex d ellipsis ∷ lex c comma ∷ lex b end_paren ∷ r) l f n = record { is = refl }
+closes x _ l f n = record { is = refl }
 
-args_undone : (ts r us : Lexemes) (x : Expr Span) (k : Terminal) → first_of ts ≡ k → k ≢ code.EndParen → at span_to (read_operand false) ts ≡ Some (x, r) → first_of r ≡ code.Ellipsis → us ≡ rest_of r → args_closed us ≡ None → at span_to read_args ts ≡ None
-args_undone ts (lex d ellipsis ∷ us) vs x k h n e f u q = open_args ts k h n ∙ (asks span_to {k = λ e r. args_after span_to e r} e (undone us (ap args_closed (sym u) ∙ q))).is
-  where
-    undone : (us : Lexemes) → args_closed us ≡ None → Runs span_to (args_after span_to x (lex d ellipsis ∷ us)) None
-    undone (lex c end_paren ∷ r) q = absurd cc
-    undone (lex c comma ∷ lex b end_paren ∷ r) q = absurd cc
-    undone _ q = record { is = refl }
-args_undone ts _ vs x k h n e f u q = absurd cc
+args_ended : (ts r : Lexemes) (x : Expr Span) (k l : Terminal) → first_of ts ≡ k → k ≢ code.EndParen → at span_to (read_operand false) ts ≡ Some (x, r) → first_of r ≡ l → l ≢ code.Comma → at span_to read_args ts ≡ ended x (args_end r)
+args_ended ts r x k l h n e f c = open_args ts k h n ∙ (asks span_to {k = λ e r. args_after span_to e r} e (closes x r l f c)).is
 
 pub args_more : (xs ys : List source.Expr) (x : source.Expr) (ts r us : Lexemes) (k : Terminal) (ws : Lexemes) → before (map expr_of xs) ts ≡ at span_to read_args ws → ys ≡ xs ++ x ∷ [] → first_of ts ≡ k → k ≢ code.EndParen → at span_to (read_operand false) ts ≡ Some (expr_of x, r) → first_of r ≡ code.Comma → us ≡ rest_of r
     → before (map expr_of ys) us ≡ at span_to read_args ws
 args_more xs ys x ts r us k ws i p h n e f u = front_push arg_and expr_of xs ys x (at span_to read_args ts) (at span_to read_args us) (at span_to read_args ws) p i (args_and ts r us (expr_of x) k h n e f u)
 
-pub args_last : (xs ys : List source.Expr) (x : source.Expr) (ts r : Lexemes) (k : Terminal) (ws : Lexemes) → before (map expr_of xs) ts ≡ at span_to read_args ws → ys ≡ xs ++ x ∷ [] → first_of ts ≡ k → k ≢ code.EndParen → at span_to (read_operand false) ts ≡ Some (expr_of x, r) → first_of r ≡ code.EndParen
-    → before (map expr_of ys) r ≡ at span_to read_args ws
-args_last xs ys x ts r k ws i p h n e f = front_push arg_and expr_of xs ys x (at span_to read_args ts) (at span_to read_args r) (at span_to read_args ws) p i (args_one ts r (expr_of x) k h n e f)
+pub args_last : (xs ys : List source.Expr) (x : source.Expr) (ts r vs : Lexemes) (w : Rest) (k l : Terminal) (ws : Lexemes) → before (map expr_of xs) ts ≡ at span_to read_args ws → ys ≡ xs ++ x ∷ [] → first_of ts ≡ k → k ≢ code.EndParen → at span_to (read_operand false) ts ≡ Some (expr_of x, r) → first_of r ≡ l → l ≢ code.Comma → args_end r ≡ Some (w, vs)
+    → at span_to read_args ws ≡ Some ((exprs_from (map expr_of ys), w), vs)
+unfolding ended
+args_last xs ys x ts r vs w k l ws i p h n e f c q =
+    front_last arg_and expr_of xs ys x (no_exprs, w) vs (at span_to read_args ts) (at span_to read_args ws) p i (args_ended ts r (expr_of x) k l h n e f c ∙ ap (ended (expr_of x)) q)
+    ∙ ap (λ (l : Exprs Span × Rest). Some (l, vs)) (onto_args (map expr_of ys) w)
 
-pub args_whole : (xs ys : List source.Expr) (x : source.Expr) (ts r us vs : Lexemes) (k : Terminal) (ws : Lexemes) → before (map expr_of xs) ts ≡ at span_to read_args ws → ys ≡ xs ++ x ∷ [] → first_of ts ≡ k → k ≢ code.EndParen → at span_to (read_operand false) ts ≡ Some (expr_of x, r) → first_of r ≡ code.Ellipsis → us ≡ rest_of r → args_closed us ≡ Some vs
-    → at span_to read_args ws ≡ Some ((exprs_from (map expr_of ys), Whole), vs)
-args_whole xs ys x ts r us vs k ws i p h n e f u q =
-    front_last arg_and expr_of xs ys x (no_exprs, Whole) vs (at span_to read_args ts) (at span_to read_args ws) p i (args_dots ts r us vs (expr_of x) k h n e f u q)
-    ∙ ap (λ (l : Exprs Span × Rest). Some (l, vs)) (onto_args (map expr_of ys) Whole)
-
-pub args_unclosed : (front : List (Expr Span)) (ts r us : Lexemes) (x : Expr Span) (k : Terminal) (ws : Lexemes) → before front ts ≡ at span_to read_args ws → first_of ts ≡ k → k ≢ code.EndParen → at span_to (read_operand false) ts ≡ Some (x, r) → first_of r ≡ code.Ellipsis → us ≡ rest_of r → args_closed us ≡ None → at span_to read_args ws ≡ None
-args_unclosed front ts r us x k ws i h n e f u q = front_none arg_and front (at span_to read_args ts) (at span_to read_args ws) i (args_undone ts r us x k h n e f u q)
-
-pub args_stop : (front : List (Expr Span)) (ts r : Lexemes) (x : Expr Span) (k l : Terminal) (ws : Lexemes) → before front ts ≡ at span_to read_args ws → first_of ts ≡ k → k ≢ code.EndParen → at span_to (read_operand false) ts ≡ Some (x, r) → first_of r ≡ l → l ≢ code.Comma → l ≢ code.EndParen → l ≢ code.Ellipsis → at span_to read_args ws ≡ None
-args_stop front ts (lex c comma ∷ r) x k l ws i h n e f a b d = absurd (a (sym f))
-args_stop front ts (lex c end_paren ∷ r) x k l ws i h n e f a b d = absurd (b (sym f))
-args_stop front ts (lex c ellipsis ∷ r) x k l ws i h n e f a b d = absurd (d (sym f))
-args_stop front ts r x k l ws i h n e f a b d = front_none arg_and front (at span_to read_args ts) (at span_to read_args ws) i (open_args ts k h n ∙ (asks span_to {k = λ e r. args_after span_to e r} e (record { is = refl })).is)
+pub args_stop : (front : List (Expr Span)) (ts r : Lexemes) (x : Expr Span) (k l : Terminal) (ws : Lexemes) → before front ts ≡ at span_to read_args ws → first_of ts ≡ k → k ≢ code.EndParen → at span_to (read_operand false) ts ≡ Some (x, r) → first_of r ≡ l → l ≢ code.Comma → args_end r ≡ None → at span_to read_args ws ≡ None
+unfolding ended
+args_stop front ts r x k l ws i h n e f c q = front_none arg_and front (at span_to read_args ts) (at span_to read_args ws) i (args_ended ts r x k l h n e f c ∙ ap (ended x) q)

@@ -14,7 +14,8 @@ use Rattle.go_read.specs.Spells.{is_func_lit}
 use Rattle.go_read.specs.Goals.{read_type, read_sig, read_expr, read_operand, read_args, read_elems, read_elem, read_block}
 use Rattle.go_read.specs.Programs.{Program, give, fail, ask, unless, run, after_end_brace, after_end_bracket, after_end_paren}
 use Rattle.go_read.specs.Reading.{at}
-use Rattle.go_tree.specs.View.{expr_of}
+use Rattle.go_tree.specs.View.{expr_of, exprs_of}
+use Rattle.go_expressions.specs.declared.basics.Args.{Args}
 use Rattle.go_expressions.specs.declared.basics.Operand.{Operand}
 use Rattle.go_expressions.specs.declared.prefixes.Prefix.{Prefix}
 use Rattle.go_expressions.specs.declared.prefixes.Prefix.TheVariants as prefix
@@ -180,11 +181,8 @@ postfix_at whole base ts = run (at span_to) (postfix_program whole base ts)
 abbrev pub arg_and : Expr Span → Exprs Span × Rest → Exprs Span × Rest
 arg_and e x = (expr_and e x.0, x.1)
 
--- the tokens after the parenthesis that ends arguments, before which a comma may stand
-abbrev pub args_closed : Lexemes → Option Lexemes
-args_closed (lex e end_paren ∷ r) = Some r
-args_closed (lex c comma ∷ lex e end_paren ∷ r) = Some r
-args_closed _ = None
+abbrev pub args_of : Args → Exprs Span × Rest
+args_of x = (exprs_of x.list, x.rest)
 
 -- ---- elements
 

@@ -1,4 +1,4 @@
-//! Names and basic literals, and which expressions are literals of functions.
+//! Names and basic literals, what is said of expressions beside their trees, and which expressions are literals of functions.
 
 ghost use Rattle.std.specs.Prelude.{◌≡◌, IfOk};
 ghost use Rattle.go_tree.specs.View.{expr_of};
@@ -6,7 +6,8 @@ ghost use Rattle.go_read.specs.Spells.{is_func_lit};
 ghost use Rattle.go_expressions.specs.ExprParts.{plain_of};
 
 use go_tree::{
-    Expr, Name, NoMemory, Span, Text, ident_expr, int_lit_expr, rune_lit_expr, str_lit_expr,
+    Expr, ExprList, Name, NoMemory, Rest, Span, Text, ident_expr, int_lit_expr, rune_lit_expr,
+    str_lit_expr,
 };
 use go_words::Terminal;
 use std::alloc::Global;
@@ -16,6 +17,14 @@ use std::alloc::Global;
 pub struct Operand {
     pub e: Expr,
     pub bare: bool,
+}
+
+/// The arguments of a call.
+#[derive(Drop)]
+pub(crate) struct Args {
+    pub(crate) list: ExprList,
+    /// `Whole` where three dots stand after the last of them, `Plain` where none do.
+    pub(crate) rest: Rest,
 }
 
 /// Whether the expression is a literal of a function, which stands only as the callee of a call.

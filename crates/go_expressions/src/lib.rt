@@ -12,5 +12,5 @@ mod postfixes;
 mod prefixes;
 
 pub use basics::{Operand, is_func_lit};
-pub use bodies::{Bodies, Taken, block, statements};
+pub use bodies::{Place, Taken, block, statements};
 pub use exprs::{binary_expr, expr_list, expression};

@@ -1,20 +1,20 @@
 //! Operands (Go specification, Operands, Composite literals, Function literals).
 
-ghost use Rattle.std.specs.Prelude.{◌≡◌, false, true, ◌≤◌, length};
+ghost use Rattle.std.specs.Prelude.{◌≡◌, false, true};
 ghost use Rattle.go_tree.specs.View.{elem_of, elems_of, expr_of, type_of, value_of};
 ghost use Rattle.go_productions.specs.Cursors.{ahead};
 ghost use Rattle.go_read.specs.SpellsSpans.{span_to};
 ghost use Rattle.go_read.specs.Goals.{read_elems, read_value};
 ghost use Rattle.go_read.specs.Reading.{at};
-ghost use Rattle.go_expressions.specs.Bodies.{ReadsBelow};
+ghost use Rattle.go_expressions.specs.Bodies.{Ready};
 ghost use Rattle.go_productions.specs.Answers.{Gives, Shorter, Within};
 ghost use Rattle.go_expressions.specs.ExprParts.{composite_at, elem_at, follows_type, literal_here, operand_at, operand_of, typed_at};
 ghost use Rattle.go_productions.specs.Terminals.{first_of, has_letters};
 
 use crate::basics::{Operand, plain_expr};
-use crate::bodies::{Bodies, Taken, block};
+use crate::bodies::{Place, Taken, block};
 use crate::exprs::{binary_expr, expression};
-use go_productions::{Cursor, Reading, Room, qualifies, signature, type_expr};
+use go_productions::{Cursor, Reading, qualifies, signature, type_expr};
 use go_tree::{
     Elem, ElemList, Expr, TypeExpr, Value, composite_expr, func_lit_expr, type_operand_expr,
 };
@@ -23,49 +23,44 @@ use go_words::Terminal;
 /// An operand.
 #[cycle(expressions)]
 #[tactic(auto, using(crate::proofs::OperandArms::no_operand, crate::proofs::OperandArms::literal_typed, crate::proofs::OperandArms::bracket_typed, crate::proofs::OperandArms::map_typed, crate::proofs::OperandArms::struct_typed))]
-pub(crate) fn operand<'a, F: Fn(Cursor) -> Taken>(
-    tokens: Cursor<'a>,
-    header: bool,
-    bodies: &Bodies<F>,
-) -> Reading<'a, Operand>
-    requires reads { ReadsBelow (F.pre bodies.now.read) (F.post bodies.now.read) bodies.now.limit }
-    requires within { length (ahead tokens) ≤ bodies.now.limit }
+pub(crate) fn operand<'a, F: Fn(Cursor) -> Taken>(place: Place<'a, '_, F>) -> Reading<'a, Operand>
+    requires ready { Ready F.Fn place }
     ensures gives { Gives operand_of result
-        (operand_at header (ahead tokens.entry)) }
-    ensures shorter { Shorter result tokens.entry }
+        (operand_at place.entry.header (ahead place.entry.at)) }
+    ensures shorter { Shorter result place.entry.at }
 {
-    if literal_begins(tokens, header) {
-        return typed(tokens, bodies);
+    if literal_begins(place) {
+        return typed(place);
     }
-    match tokens.first() {
-        Terminal::Ident => plain_operand(bodies.room, tokens, header, Terminal::Ident),
-        Terminal::IntLit => plain_operand(bodies.room, tokens, header, Terminal::IntLit),
-        Terminal::RuneLit => plain_operand(bodies.room, tokens, header, Terminal::RuneLit),
-        Terminal::StrLit => plain_operand(bodies.room, tokens, header, Terminal::StrLit),
-        Terminal::Paren => in_parens(tokens, header, bodies),
-        Terminal::Func => func_lit(tokens, header, bodies),
-        Terminal::Bracket => typed(tokens, bodies),
-        Terminal::Map => typed(tokens, bodies),
-        Terminal::Struct => typed(tokens, bodies),
+    match place.at.first() {
+        Terminal::Ident => plain_operand(place, Terminal::Ident),
+        Terminal::IntLit => plain_operand(place, Terminal::IntLit),
+        Terminal::RuneLit => plain_operand(place, Terminal::RuneLit),
+        Terminal::StrLit => plain_operand(place, Terminal::StrLit),
+        Terminal::Paren => in_parens(place),
+        Terminal::Func => func_lit(place),
+        Terminal::Bracket => typed(place),
+        Terminal::Map => typed(place),
+        Terminal::Struct => typed(place),
         _ => Ok(None),
     }
 }
 
 /// Whether a composite literal begins with a name here.
-fn literal_begins(tokens: Cursor, header: bool) -> bool
-    ensures { literal_here header (ahead tokens.entry) ≡ result }
+fn literal_begins<F>(place: Place<F>) -> bool
+    ensures { literal_here place.entry.header (ahead place.entry.at) ≡ result }
 {
-    if header {
+    if place.header {
         return false;
     }
-    let Terminal::Ident = tokens.first() else {
+    let Terminal::Ident = place.at.first() else {
         return false;
     };
-    let after = tokens.rest();
+    let after = place.at.rest();
     if let Terminal::Brace = after.first() {
         return true;
     }
-    if !qualifies(tokens) {
+    if !qualifies(place.at) {
         return false;
     }
     match after.rest().rest().first() {
@@ -76,41 +71,39 @@ fn literal_begins(tokens: Cursor, header: bool) -> bool
 
 /// A name or a basic literal.
 #[tactic(auto, using(crate::proofs::OperandArms::plain_some))]
-fn plain_operand<'a>(
-    room: &Room,
-    tokens: Cursor<'a>,
-    header: bool,
-    terminal: Terminal,
-) -> Reading<'a, Operand>
-    requires first { first_of (ahead tokens) ≡ terminal }
+fn plain_operand<'a, F>(place: Place<'a, '_, F>, terminal: Terminal) -> Reading<'a, Operand>
+    requires first { first_of (ahead place.at) ≡ terminal }
     requires letters { has_letters terminal ≡ true }
-    requires alone { literal_here header (ahead tokens) ≡ false }
+    requires alone { literal_here place.header (ahead place.at) ≡ false }
     ensures gives { Gives operand_of result
-        (operand_at header (ahead tokens.entry)) }
-    ensures shorter { Shorter result tokens.entry }
+        (operand_at place.entry.header (ahead place.entry.at)) }
+    ensures shorter { Shorter result place.entry.at }
 {
-    let left = tokens.rest();
-    let span = tokens.span_to(left);
-    let e = plain_expr(room.alloc, span, terminal, tokens.spelling())?;
+    let left = place.at.rest();
+    let span = place.at.span_to(left);
+    let e = plain_expr(place.at.room.alloc, span, terminal, place.at.spelling())?;
     Ok(Some((Operand { e, bare: true }, left)))
 }
 
 /// An expression in parentheses.
 #[cycle(expressions)]
 #[tactic(auto, using(crate::proofs::OperandArms::parens_none, crate::proofs::OperandArms::parens_end, crate::proofs::OperandArms::parens_some))]
-fn in_parens<'a, F: Fn(Cursor) -> Taken>(
-    tokens: Cursor<'a>,
-    header: bool,
-    bodies: &Bodies<F>,
-) -> Reading<'a, Operand>
-    requires reads { ReadsBelow (F.pre bodies.now.read) (F.post bodies.now.read) bodies.now.limit }
-    requires within { length (ahead tokens) ≤ bodies.now.limit }
-    requires begins { first_of (ahead tokens) ≡ Terminal.Paren }
+fn in_parens<'a, F: Fn(Cursor) -> Taken>(place: Place<'a, '_, F>) -> Reading<'a, Operand>
+    requires ready { Ready F.Fn place }
+    requires begins { first_of (ahead place.at) ≡ Terminal.Paren }
     ensures gives { Gives operand_of result
-        (operand_at header (ahead tokens.entry)) }
-    ensures shorter { Shorter result tokens.entry }
+        (operand_at place.entry.header (ahead place.entry.at)) }
+    ensures shorter { Shorter result place.entry.at }
 {
-    let Some((operand, left)) = binary_expr(tokens.rest(), 1, false, bodies)? else {
+    let Some((operand, left)) = binary_expr(
+        Place {
+            at: place.at.rest(),
+            header: false,
+            ..place
+        },
+        1,
+    )?
+    else {
         return Ok(None);
     };
     let e = operand.e;
@@ -123,25 +116,20 @@ fn in_parens<'a, F: Fn(Cursor) -> Taken>(
 
 /// A literal of a function.
 #[tactic(auto, using(crate::proofs::OperandArms::func_unsigned, crate::proofs::OperandArms::func_open, crate::proofs::OperandArms::func_some))]
-fn func_lit<'a, F: Fn(Cursor) -> Taken>(
-    tokens: Cursor<'a>,
-    header: bool,
-    bodies: &Bodies<F>,
-) -> Reading<'a, Operand>
-    requires reads { ReadsBelow (F.pre bodies.now.read) (F.post bodies.now.read) bodies.now.limit }
-    requires within { length (ahead tokens) ≤ bodies.now.limit }
-    requires begins { first_of (ahead tokens) ≡ Terminal.Func }
+fn func_lit<'a, F: Fn(Cursor) -> Taken>(place: Place<'a, '_, F>) -> Reading<'a, Operand>
+    requires ready { Ready F.Fn place }
+    requires begins { first_of (ahead place.at) ≡ Terminal.Func }
     ensures gives { Gives operand_of result
-        (operand_at header (ahead tokens.entry)) }
-    ensures shorter { Shorter result tokens.entry }
+        (operand_at place.entry.header (ahead place.entry.at)) }
+    ensures shorter { Shorter result place.entry.at }
 {
-    let Some((sig, left)) = signature(bodies.room, tokens.rest(), false)? else {
+    let Some((sig, left)) = signature(place.at.rest(), false)? else {
         return Ok(None);
     };
-    let Some((body, left)) = block(left, bodies)? else {
+    let Some((body, left)) = block(Place { at: left, ..place })? else {
         return Ok(None);
     };
-    let span = tokens.span_to(left);
+    let span = place.at.span_to(left);
     let e = func_lit_expr(span, sig, body);
     Ok(Some((Operand { e, bare: true }, left)))
 }
@@ -149,24 +137,30 @@ fn func_lit<'a, F: Fn(Cursor) -> Taken>(
 /// A type as an operand, or in front of a composite literal.
 #[cycle(expressions)]
 #[tactic(auto, using(crate::proofs::OperandArms::typeless, crate::proofs::OperandArms::typed_literal, crate::proofs::OperandArms::typed_stop, crate::proofs::OperandArms::typed_operand))]
-fn typed<'a, F: Fn(Cursor) -> Taken>(tokens: Cursor<'a>, bodies: &Bodies<F>) -> Reading<'a, Operand>
-    requires reads { ReadsBelow (F.pre bodies.now.read) (F.post bodies.now.read) bodies.now.limit }
-    requires within { length (ahead tokens) ≤ bodies.now.limit }
-    ensures gives { Gives operand_of result (typed_at (ahead tokens.entry)) }
-    ensures shorter { Shorter result tokens.entry }
+fn typed<'a, F: Fn(Cursor) -> Taken>(place: Place<'a, '_, F>) -> Reading<'a, Operand>
+    requires ready { Ready F.Fn place }
+    ensures gives { Gives operand_of result (typed_at (ahead place.entry.at)) }
+    ensures shorter { Shorter result place.entry.at }
 {
-    let Some((of, left)) = type_expr(bodies.room, tokens)? else {
+    let Some((of, left)) = type_expr(place.at)? else {
         return Ok(None);
     };
     if let Terminal::Brace = left.first() {
-        let of = Box::new(bodies.room.alloc, of)?;
-        return composite(tokens, of, left.rest(), bodies);
+        let of = Box::new(place.at.room.alloc, of)?;
+        return composite(
+            place.at,
+            of,
+            Place {
+                at: left.rest(),
+                ..place
+            },
+        );
     }
     if !follows_type(left.first()) {
         drop(of);
         return Ok(None);
     }
-    let span = tokens.span_to(left);
+    let span = place.at.span_to(left);
     let e = type_operand_expr(span, of);
     Ok(Some((Operand { e, bare: true }, left)))
 }
@@ -187,16 +181,14 @@ fn follows_type(terminal: Terminal) -> bool
 fn composite<'a, F: Fn(Cursor) -> Taken>(
     whole: Cursor,
     of: Box<TypeExpr>,
-    tokens: Cursor<'a>,
-    bodies: &Bodies<F>,
+    place: Place<'a, '_, F>,
 ) -> Reading<'a, Operand>
-    requires reads { ReadsBelow (F.pre bodies.now.read) (F.post bodies.now.read) bodies.now.limit }
-    requires within { length (ahead tokens) ≤ bodies.now.limit }
+    requires ready { Ready F.Fn place }
     ensures gives { Gives operand_of result
-        (composite_at (ahead whole.entry) (type_of of.value) (ahead tokens.entry)) }
-    ensures shorter { Shorter result tokens.entry }
+        (composite_at (ahead whole.entry) (type_of of.value) (ahead place.entry.at)) }
+    ensures shorter { Shorter result place.entry.at }
 {
-    let Some((elems, left)) = elem_list(tokens, bodies)? else {
+    let Some((elems, left)) = elem_list(place)? else {
         return Ok(None);
     };
     let Terminal::EndBrace = left.first() else {
@@ -211,22 +203,18 @@ fn composite<'a, F: Fn(Cursor) -> Taken>(
 /// The elements of a composite literal, up to its closing brace.
 #[cycle(expressions)]
 #[tactic(auto, using(crate::proofs::ElemArms::elems_end, crate::proofs::ElemArms::elems_lost, crate::proofs::ElemArms::elems_last, crate::proofs::ElemArms::elems_more))]
-fn elem_list<'a, F: Fn(Cursor) -> Taken>(
-    tokens: Cursor<'a>,
-    bodies: &Bodies<F>,
-) -> Reading<'a, ElemList>
-    requires reads { ReadsBelow (F.pre bodies.now.read) (F.post bodies.now.read) bodies.now.limit }
-    requires within { length (ahead tokens) ≤ bodies.now.limit }
-    ensures gives { Gives elems_of result (at span_to read_elems (ahead tokens.entry)) }
-    ensures within { Within result tokens.entry }
+fn elem_list<'a, F: Fn(Cursor) -> Taken>(place: Place<'a, '_, F>) -> Reading<'a, ElemList>
+    requires ready { Ready F.Fn place }
+    ensures gives { Gives elems_of result (at span_to read_elems (ahead place.entry.at)) }
+    ensures within { Within result place.entry.at }
 {
-    let mut items = Vec::new(bodies.room.alloc);
-    let mut left = tokens;
+    let mut items = Vec::new(place.at.room.alloc);
+    let mut left = place.at;
     loop {
         if let Terminal::EndBrace = left.first() {
             return Ok(Some((ElemList::of(items), left)));
         }
-        let Some((item, after)) = elem(left, bodies)? else {
+        let Some((item, after)) = elem(Place { at: left, ..place })? else {
             return Ok(None);
         };
         items.push(item)?;
@@ -240,24 +228,27 @@ fn elem_list<'a, F: Fn(Cursor) -> Taken>(
 /// An element, with its key where it has one.
 #[cycle(expressions)]
 #[tactic(auto, using(crate::proofs::ElemArms::elem_none, crate::proofs::ElemArms::elem_plain, crate::proofs::ElemArms::elem_open, crate::proofs::ElemArms::elem_keyed))]
-fn elem<'a, F: Fn(Cursor) -> Taken>(tokens: Cursor<'a>, bodies: &Bodies<F>) -> Reading<'a, Elem>
-    requires reads { ReadsBelow (F.pre bodies.now.read) (F.post bodies.now.read) bodies.now.limit }
-    requires within { length (ahead tokens) ≤ bodies.now.limit }
-    ensures gives { Gives elem_of result (elem_at (ahead tokens.entry)) }
-    ensures shorter { Shorter result tokens.entry }
+fn elem<'a, F: Fn(Cursor) -> Taken>(place: Place<'a, '_, F>) -> Reading<'a, Elem>
+    requires ready { Ready F.Fn place }
+    ensures gives { Gives elem_of result (elem_at (ahead place.entry.at)) }
+    ensures shorter { Shorter result place.entry.at }
 {
-    let Some((key, left)) = value(tokens, bodies)? else {
+    let Some((key, left)) = value(place)? else {
         return Ok(None);
     };
     let Terminal::Colon = left.first() else {
-        let span = tokens.span_to(left);
+        let span = place.at.span_to(left);
         return Ok(Some((Elem::new(span, None, key), left)));
     };
-    let key = Box::new(bodies.room.alloc, key)?;
-    let Some((value, left)) = value(left.rest(), bodies)? else {
+    let key = Box::new(place.at.room.alloc, key)?;
+    let Some((value, left)) = value(Place {
+        at: left.rest(),
+        ..place
+    })?
+    else {
         return Ok(None);
     };
-    let span = tokens.span_to(left);
+    let span = place.at.span_to(left);
     let key = Some(Box::into_inner(key));
     Ok(Some((Elem::new(span, key, value), left)))
 }
@@ -265,25 +256,32 @@ fn elem<'a, F: Fn(Cursor) -> Taken>(tokens: Cursor<'a>, bodies: &Bodies<F>) -> R
 /// A key or a value: an expression, or elements in braces.
 #[cycle(expressions)]
 #[tactic(auto, using(crate::proofs::ElemArms::value_none, crate::proofs::ElemArms::value_plain, crate::proofs::ElemArms::braced_none, crate::proofs::ElemArms::braced_end, crate::proofs::ElemArms::braced_some))]
-fn value<'a, F: Fn(Cursor) -> Taken>(tokens: Cursor<'a>, bodies: &Bodies<F>) -> Reading<'a, Value>
-    requires reads { ReadsBelow (F.pre bodies.now.read) (F.post bodies.now.read) bodies.now.limit }
-    requires within { length (ahead tokens) ≤ bodies.now.limit }
-    ensures gives { Gives value_of result (at span_to read_value (ahead tokens.entry)) }
-    ensures shorter { Shorter result tokens.entry }
+fn value<'a, F: Fn(Cursor) -> Taken>(place: Place<'a, '_, F>) -> Reading<'a, Value>
+    requires ready { Ready F.Fn place }
+    ensures gives { Gives value_of result (at span_to read_value (ahead place.entry.at)) }
+    ensures shorter { Shorter result place.entry.at }
 {
-    let Terminal::Brace = tokens.first() else {
-        let Some((e, left)) = expression(tokens, false, bodies)? else {
+    let Terminal::Brace = place.at.first() else {
+        let Some((e, left)) = expression(Place {
+            header: false,
+            ..place
+        })?
+        else {
             return Ok(None);
         };
         return Ok(Some((Value::Plain(e), left)));
     };
-    let Some((elems, left)) = elem_list(tokens.rest(), bodies)? else {
+    let Some((elems, left)) = elem_list(Place {
+        at: place.at.rest(),
+        ..place
+    })?
+    else {
         return Ok(None);
     };
     let Terminal::EndBrace = left.first() else {
         return Ok(None);
     };
     let left = left.rest();
-    let span = tokens.span_to(left);
+    let span = place.at.span_to(left);
     Ok(Some((Value::Braced { span, elems }, left)))
 }

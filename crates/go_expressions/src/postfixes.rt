@@ -1,14 +1,14 @@
 //! What may follow an operand (Go specification, Selectors, Index expressions, Slice expressions, Calls).
 
-ghost use Rattle.std.specs.Prelude.{◌≡◌, true, ◌≤◌, length};
+ghost use Rattle.std.specs.Prelude.{◌≡◌, true};
 ghost use Rattle.go_tree.specs.View.{boxed_expr_option_of, expr_of};
 ghost use Rattle.go_productions.specs.Cursors.{ahead};
-ghost use Rattle.go_expressions.specs.Bodies.{ReadsBelow};
+ghost use Rattle.go_expressions.specs.Bodies.{Ready};
 ghost use Rattle.go_productions.specs.Answers.{Gives, Shorter};
 ghost use Rattle.go_expressions.specs.ExprParts.{brackets_at, continues, high_at, postfix_at};
 
 use crate::basics::is_func_lit;
-use crate::bodies::{Bodies, Taken};
+use crate::bodies::{Place, Taken};
 use crate::exprs::{call_args, expression};
 use go_productions::{Cursor, Reading, name};
 use go_tree::{Expr, call_expr, index_expr, selector_expr, slice_expr};
@@ -31,31 +31,40 @@ pub(crate) fn continues(tokens: Cursor) -> bool
 pub(crate) fn postfix<'a, F: Fn(Cursor) -> Taken>(
     whole: Cursor,
     base: Box<Expr>,
-    tokens: Cursor<'a>,
-    bodies: &Bodies<F>,
+    place: Place<'a, '_, F>,
 ) -> Reading<'a, Expr>
-    requires reads { ReadsBelow (F.pre bodies.now.read) (F.post bodies.now.read) bodies.now.limit }
-    requires within { length (ahead tokens) ≤ bodies.now.limit }
-    requires goes_on { continues (ahead tokens) ≡ true }
+    requires ready { Ready F.Fn place }
+    requires goes_on { continues (ahead place.at) ≡ true }
     ensures gives { Gives expr_of result
-        (postfix_at (ahead whole.entry) (expr_of base.value) (ahead tokens.entry)) }
-    ensures shorter { Shorter result tokens.entry }
+        (postfix_at (ahead whole.entry) (expr_of base.value) (ahead place.entry.at)) }
+    ensures shorter { Shorter result place.entry.at }
 {
-    if let Terminal::Paren = tokens.first() {
-        let Some(((args, handed), left)) = call_args(tokens.rest(), bodies)? else {
+    if let Terminal::Paren = place.at.first() {
+        let Some((args, left)) = call_args(Place {
+            at: place.at.rest(),
+            ..place
+        })?
+        else {
             return Ok(None);
         };
         let span = whole.span_to(left);
-        return Ok(Some((call_expr(span, base, args, handed), left)));
+        return Ok(Some((call_expr(span, base, args.list, args.rest), left)));
     }
     if is_func_lit(&base) {
         return Ok(None);
     }
-    let Terminal::Dot = tokens.first() else {
-        return brackets(whole, base, tokens.rest(), bodies);
+    let Terminal::Dot = place.at.first() else {
+        return brackets(
+            whole,
+            base,
+            Place {
+                at: place.at.rest(),
+                ..place
+            },
+        );
     };
-    let name = name(bodies.room, tokens.rest())?;
-    let left = tokens.rest().rest();
+    let name = name(place.at.rest())?;
+    let left = place.at.rest().rest();
     let span = whole.span_to(left);
     Ok(Some((selector_expr(span, base, name), left)))
 }
@@ -66,24 +75,42 @@ pub(crate) fn postfix<'a, F: Fn(Cursor) -> Taken>(
 fn brackets<'a, F: Fn(Cursor) -> Taken>(
     whole: Cursor,
     base: Box<Expr>,
-    tokens: Cursor<'a>,
-    bodies: &Bodies<F>,
+    place: Place<'a, '_, F>,
 ) -> Reading<'a, Expr>
-    requires reads { ReadsBelow (F.pre bodies.now.read) (F.post bodies.now.read) bodies.now.limit }
-    requires within { length (ahead tokens) ≤ bodies.now.limit }
+    requires ready { Ready F.Fn place }
     ensures gives { Gives expr_of result
-        (brackets_at (ahead whole.entry) (expr_of base.value) (ahead tokens.entry)) }
-    ensures shorter { Shorter result tokens.entry }
+        (brackets_at (ahead whole.entry) (expr_of base.value) (ahead place.entry.at)) }
+    ensures shorter { Shorter result place.entry.at }
 {
-    if let Terminal::Colon = tokens.first() {
-        return bounds(whole, base, None, tokens.rest(), bodies);
+    if let Terminal::Colon = place.at.first() {
+        return bounds(
+            whole,
+            base,
+            None,
+            Place {
+                at: place.at.rest(),
+                ..place
+            },
+        );
     }
-    let Some((at, left)) = expression(tokens, false, bodies)? else {
+    let Some((at, left)) = expression(Place {
+        header: false,
+        ..place
+    })?
+    else {
         return Ok(None);
     };
-    let at = Box::new(bodies.room.alloc, at)?;
+    let at = Box::new(place.at.room.alloc, at)?;
     match left.first() {
-        Terminal::Colon => bounds(whole, base, Some(at), left.rest(), bodies),
+        Terminal::Colon => bounds(
+            whole,
+            base,
+            Some(at),
+            Place {
+                at: left.rest(),
+                ..place
+            },
+        ),
         Terminal::EndBracket => {
             let left = left.rest();
             let span = whole.span_to(left);
@@ -100,24 +127,26 @@ fn bounds<'a, F: Fn(Cursor) -> Taken>(
     whole: Cursor,
     base: Box<Expr>,
     from: Option<Box<Expr>>,
-    tokens: Cursor<'a>,
-    bodies: &Bodies<F>,
+    place: Place<'a, '_, F>,
 ) -> Reading<'a, Expr>
-    requires reads { ReadsBelow (F.pre bodies.now.read) (F.post bodies.now.read) bodies.now.limit }
-    requires within { length (ahead tokens) ≤ bodies.now.limit }
+    requires ready { Ready F.Fn place }
     ensures gives { Gives expr_of result
-        (high_at (ahead whole.entry) (expr_of base.value) (boxed_expr_option_of from) (ahead tokens.entry)) }
-    ensures shorter { Shorter result tokens.entry }
+        (high_at (ahead whole.entry) (expr_of base.value) (boxed_expr_option_of from) (ahead place.entry.at)) }
+    ensures shorter { Shorter result place.entry.at }
 {
-    if let Terminal::EndBracket = tokens.first() {
-        let left = tokens.rest();
+    if let Terminal::EndBracket = place.at.first() {
+        let left = place.at.rest();
         let span = whole.span_to(left);
         return Ok(Some((slice_expr(span, base, from, None), left)));
     }
-    let Some((to, left)) = expression(tokens, false, bodies)? else {
+    let Some((to, left)) = expression(Place {
+        header: false,
+        ..place
+    })?
+    else {
         return Ok(None);
     };
-    let to = Box::new(bodies.room.alloc, to)?;
+    let to = Box::new(place.at.room.alloc, to)?;
     let Terminal::EndBracket = left.first() else {
         return Ok(None);
     };

@@ -17,17 +17,15 @@ use Rattle.go_words.specs.declared.terminals.Terminal.{Terminal}
 use Rattle.go_words.specs.declared.terminals.Terminal.TheVariants as code
 use Rattle.go_productions.specs.Parts.{const_decl_at, var_decl_at}
 use Rattle.go_productions.specs.Terminals.{first_of, rest_of, name_of}
+use Rattle.go_statements.specs.StmtParts.{valued}
 use Rattle.go_parse.specs.Parts.{ended, and_before, func_at, grouped_types_at, single_type_at, type_decl_at, method_at, func_decl_at}
 use Rattle.go_parse.proofs.Firsts.{by_first, apart}
 use Rattle.go_parse.proofs.Lists.{closes, IsRow}
 
 -- ---- declarations
 
-valued : Option (Stmt Span × Lexemes) → Option (Decl Span × Lexemes)
-valued o = option_and_then (λ x. Some (values x.0, x.1)) o
-
-const_on : (ts : Lexemes) → first_of ts ≡ code.Const → at span_to read_top ts ≡ valued (const_decl_at ts)
-unfolding top_step const_decl_at valued
+pub const_on : (ts : Lexemes) → first_of ts ≡ code.Const → at span_to read_top ts ≡ valued (const_decl_at ts)
+unfolding top_step const_decl_at
 const_on ts e = by_first (λ ts. at span_to read_top ts ≡ valued (const_decl_at ts)) code.Const ts e refl
     (λ s w r. at_is span_to read_top (lex s key_const ∷ r) ∙ each s r (at span_to (read_decl true) r))
   where
@@ -36,8 +34,8 @@ const_on ts e = by_first (λ ts. at span_to read_top ts ≡ valued (const_decl_a
     each s r None = refl
     each s r (Some x) = refl
 
-var_on : (ts : Lexemes) → first_of ts ≡ code.Var → at span_to read_top ts ≡ valued (var_decl_at ts)
-unfolding top_step var_decl_at valued
+pub var_on : (ts : Lexemes) → first_of ts ≡ code.Var → at span_to read_top ts ≡ valued (var_decl_at ts)
+unfolding top_step var_decl_at
 var_on ts e = by_first (λ ts. at span_to read_top ts ≡ valued (var_decl_at ts)) code.Var ts e refl
     (λ s w r. at_is span_to read_top (lex s key_var ∷ r) ∙ each s r (at span_to (read_decl false) r))
   where
@@ -45,22 +43,6 @@ var_on ts e = by_first (λ ts. at span_to read_top ts ≡ valued (var_decl_at ts
         ≡ valued (option_and_then (λ x. Some (var_decl (span_to (lex s key_var ∷ r) x.1) x.0.0 x.0.1, x.1)) o)
     each s r None = refl
     each s r (Some x) = refl
-
-pub const_some : (ts : Lexemes) (x : Stmt Span) (r : Lexemes) → first_of ts ≡ code.Const → const_decl_at ts ≡ Some (x, r) → at span_to read_top ts ≡ Some (values x, r)
-unfolding valued
-const_some ts x r e f = const_on ts e ∙ ap valued f
-
-pub const_none : (ts : Lexemes) → first_of ts ≡ code.Const → const_decl_at ts ≡ None → at span_to read_top ts ≡ None
-unfolding valued
-const_none ts e f = const_on ts e ∙ ap valued f
-
-pub var_some : (ts : Lexemes) (x : Stmt Span) (r : Lexemes) → first_of ts ≡ code.Var → var_decl_at ts ≡ Some (x, r) → at span_to read_top ts ≡ Some (values x, r)
-unfolding valued
-var_some ts x r e f = var_on ts e ∙ ap valued f
-
-pub var_none : (ts : Lexemes) → first_of ts ≡ code.Var → var_decl_at ts ≡ None → at span_to read_top ts ≡ None
-unfolding valued
-var_none ts e f = var_on ts e ∙ ap valued f
 
 pub type_on : (ts : Lexemes) → first_of ts ≡ code.Type → at span_to read_top ts ≡ type_decl_at ts
 unfolding top_step type_decl_at grouped_types_at single_type_at

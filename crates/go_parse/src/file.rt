@@ -13,18 +13,18 @@ ghost use Rattle.go_parse.specs.Texts.{HasTexts};
 
 use crate::decls::decl;
 use crate::imports::import;
-use go_productions::{Cursor, Reading, Room, name};
+use go_productions::{Cursor, Reading, name};
 use go_tree::{Decl, DeclList, FileTree, ImportDecl, ImportDeclList, NameAt, NoMemory};
 use go_words::Terminal;
 
 /// An import with its semicolon.
-fn whole_import<'a>(room: &Room, tokens: Cursor<'a>) -> Reading<'a, ImportDecl>
+fn whole_import<'a>(tokens: Cursor<'a>) -> Reading<'a, ImportDecl>
     requires { HasTexts (ahead tokens) }
     ensures gives { Gives import_decl_of result
         (ended (at span_to read_import (ahead tokens.entry))) }
     ensures shorter { Shorter result tokens.entry }
 {
-    let Some((import, after)) = import(room, tokens)? else {
+    let Some((import, after)) = import(tokens)? else {
         return Ok(None);
     };
     let Terminal::Semicolon = after.first() else {
@@ -34,12 +34,12 @@ fn whole_import<'a>(room: &Room, tokens: Cursor<'a>) -> Reading<'a, ImportDecl>
 }
 
 /// A declaration with its semicolon.
-fn whole_decl<'a>(room: &Room, tokens: Cursor<'a>) -> Reading<'a, Decl>
+fn whole_decl<'a>(tokens: Cursor<'a>) -> Reading<'a, Decl>
     ensures gives { Gives decl_of result
         (ended (at span_to read_top (ahead tokens.entry))) }
     ensures shorter { Shorter result tokens.entry }
 {
-    let Some((decl, after)) = decl(room, tokens)? else {
+    let Some((decl, after)) = decl(tokens)? else {
         return Ok(None);
     };
     let Terminal::Semicolon = after.first() else {
@@ -49,16 +49,16 @@ fn whole_decl<'a>(room: &Room, tokens: Cursor<'a>) -> Reading<'a, Decl>
 }
 
 /// Whole imports, each with its semicolon, as long as they follow one another.
-fn imports<'a>(room: &Room, tokens: Cursor<'a>) -> Result<(ImportDeclList, Cursor<'a>), NoMemory>
+fn imports<'a>(tokens: Cursor<'a>) -> Result<(ImportDeclList, Cursor<'a>), NoMemory>
     requires { HasTexts (ahead tokens) }
     ensures gives { IfOk result (λ x. at span_to read_imports (ahead tokens.entry)
         ≡ Some (map import_decl_of x.0, ahead x.1)) }
     ensures within { IfOk result (λ x. length (ahead x.1) ≤ length (ahead tokens.entry)) }
 {
-    let mut list = Vec::new(room.alloc);
+    let mut list = Vec::new(tokens.room.alloc);
     let mut left = tokens;
     'decls: loop {
-        let Some((decl, next)) = whole_import(room, left)? else {
+        let Some((decl, next)) = whole_import(left)? else {
             return Ok((ImportDeclList::of(list), left));
         };
         list.push(decl)?;
@@ -67,15 +67,15 @@ fn imports<'a>(room: &Room, tokens: Cursor<'a>) -> Result<(ImportDeclList, Curso
 }
 
 /// Whole declarations, each with its semicolon, as long as they follow one another.
-fn decls<'a>(room: &Room, tokens: Cursor<'a>) -> Result<(DeclList, Cursor<'a>), NoMemory>
+fn decls<'a>(tokens: Cursor<'a>) -> Result<(DeclList, Cursor<'a>), NoMemory>
     ensures gives { IfOk result (λ x. at span_to read_tops (ahead tokens.entry)
         ≡ Some (map decl_of x.0, ahead x.1)) }
     ensures within { IfOk result (λ x. length (ahead x.1) ≤ length (ahead tokens.entry)) }
 {
-    let mut list = Vec::new(room.alloc);
+    let mut list = Vec::new(tokens.room.alloc);
     let mut left = tokens;
     'decls: loop {
-        let Some((decl, next)) = whole_decl(room, left)? else {
+        let Some((decl, next)) = whole_decl(left)? else {
             return Ok((DeclList::of(list), left));
         };
         list.push(decl)?;
@@ -91,7 +91,7 @@ fn is_blank(name: &NameAt) -> bool
 }
 
 /// A package clause, whole imports and whole declarations, each with its semicolon.
-pub(crate) fn front<'a>(room: &Room, tokens: Cursor<'a>) -> Reading<'a, FileTree>
+pub(crate) fn front<'a>(tokens: Cursor<'a>) -> Reading<'a, FileTree>
     requires { HasTexts (ahead tokens) }
     ensures { Gives file_of result (at span_to read_front (ahead tokens.entry)) }
 {
@@ -102,7 +102,7 @@ pub(crate) fn front<'a>(room: &Room, tokens: Cursor<'a>) -> Reading<'a, FileTree
     let Terminal::Ident = named.first() else {
         return Ok(None);
     };
-    let package = name(room, named)?;
+    let package = name(named)?;
     let after = named.rest();
     let Terminal::Semicolon = after.first() else {
         return Ok(None);
@@ -110,8 +110,8 @@ pub(crate) fn front<'a>(room: &Room, tokens: Cursor<'a>) -> Reading<'a, FileTree
     if is_blank(&package) {
         return Ok(None);
     }
-    let (imports, after) = imports(room, after.rest())?;
-    let (decls, after) = decls(room, after)?;
+    let (imports, after) = imports(after.rest())?;
+    let (decls, after) = decls(after)?;
     let file = FileTree {
         package,
         imports,

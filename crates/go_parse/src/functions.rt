@@ -2,7 +2,6 @@
 
 ghost use Rattle.std.specs.Prelude.{◌≡◌};
 ghost use Rattle.std.specs.Option.{option_map};
-ghost use Rattle.go_tree.specs.declared.files.Decl.TheVariants as decls;
 ghost use Rattle.go_tree.specs.View.{name_at_of};
 ghost use Rattle.go_tree.specs.FileView.{decl_of, receiver_of};
 ghost use Rattle.go_productions.specs.Cursors.{ahead};
@@ -15,9 +14,9 @@ ghost use Rattle.go_productions.specs.Terminals.{first_of};
 ghost use Rattle.go_productions.specs.Answers.{Gives, Shorter};
 ghost use Rattle.go_parse.specs.Parts.{func_at, func_decl_at, is_star, method_at, receiver_here};
 
-use go_productions::{Cursor, Reading, Room, name, signature};
+use go_productions::{Cursor, Reading, name, signature};
 use go_statements::block;
-use go_tree::{BinOp, FuncDecl, NameAt, Receiver};
+use go_tree::{BinOp, Decl, FuncDecl, NameAt, Receiver};
 use go_words::Terminal;
 
 /// Whether it is `*`.
@@ -29,7 +28,6 @@ fn is_star(terminal: Terminal) -> bool
 
 /// The receiver that begins at `whole` and whose type's name stands first of `of`.
 fn receiver_from<'a>(
-    room: &Room,
     whole: Cursor,
     name: Option<NameAt>,
     pointer: bool,
@@ -42,7 +40,7 @@ fn receiver_from<'a>(
 {
     let after = of.rest();
     let span = whole.span_to(after);
-    let of = go_productions::name(room, of)?;
+    let of = go_productions::name(of)?;
     let receiver = Receiver {
         span,
         name,
@@ -53,7 +51,7 @@ fn receiver_from<'a>(
 }
 
 /// A receiver that begins with a name: its own, or that of its type.
-fn named_receiver<'a>(room: &Room, tokens: Cursor<'a>) -> Reading<'a, Receiver>
+fn named_receiver<'a>(tokens: Cursor<'a>) -> Reading<'a, Receiver>
     requires { first_of (ahead tokens) ≡ terminal.Ident }
     ensures gives { Gives receiver_of result
         (at span_to read_receiver (ahead tokens.entry)) }
@@ -64,20 +62,20 @@ fn named_receiver<'a>(room: &Room, tokens: Cursor<'a>) -> Reading<'a, Receiver>
     if starred {
         let third = second.rest();
         let Terminal::Ident = third.first() else {
-            return receiver_from(room, tokens, None, false, tokens);
+            return receiver_from(tokens, None, false, tokens);
         };
-        let own = name(room, tokens)?;
-        return receiver_from(room, tokens, Some(own), true, third);
+        let own = name(tokens)?;
+        return receiver_from(tokens, Some(own), true, third);
     }
     let Terminal::Ident = second.first() else {
-        return receiver_from(room, tokens, None, false, tokens);
+        return receiver_from(tokens, None, false, tokens);
     };
-    let own = name(room, tokens)?;
-    receiver_from(room, tokens, Some(own), false, second)
+    let own = name(tokens)?;
+    receiver_from(tokens, Some(own), false, second)
 }
 
 /// A receiver without the parentheses around it.
-fn receiver<'a>(room: &Room, tokens: Cursor<'a>) -> Reading<'a, Receiver>
+fn receiver<'a>(tokens: Cursor<'a>) -> Reading<'a, Receiver>
     ensures gives { Gives receiver_of result
         (at span_to read_receiver (ahead tokens.entry)) }
     ensures shorter { Shorter result tokens.entry }
@@ -88,12 +86,12 @@ fn receiver<'a>(room: &Room, tokens: Cursor<'a>) -> Reading<'a, Receiver>
         let Terminal::Ident = second.first() else {
             return Ok(None);
         };
-        return receiver_from(room, tokens, None, true, second);
+        return receiver_from(tokens, None, true, second);
     }
     let Terminal::Ident = tokens.first() else {
         return Ok(None);
     };
-    named_receiver(room, tokens)
+    named_receiver(tokens)
 }
 
 /// Whether the last parameter may be variadic: that of a function may, that of a method may not.
@@ -107,26 +105,21 @@ fn may_be_variadic(receiver: &Option<Receiver>) -> bool
 }
 
 /// The name, signature and body of a function whose declaration begins at `whole`.
-fn function<'a>(
-    room: &Room,
-    whole: Cursor,
-    receiver: Option<Receiver>,
-    tokens: Cursor<'a>,
-) -> Reading<'a, FuncDecl>
-    ensures gives { Gives (λ x. decl_of (decls.Func x)) result
+fn function<'a>(whole: Cursor, receiver: Option<Receiver>, tokens: Cursor<'a>) -> Reading<'a, Decl>
+    ensures gives { Gives decl_of result
         (func_at (ahead whole.entry) (option_map receiver_of receiver) (ahead tokens.entry)) }
     ensures shorter { Shorter result tokens.entry }
 {
     let Terminal::Ident = tokens.first() else {
         return Ok(None);
     };
-    let Some((sig, after)) = signature(room, tokens.rest(), may_be_variadic(&receiver))? else {
+    let Some((sig, after)) = signature(tokens.rest(), may_be_variadic(&receiver))? else {
         return Ok(None);
     };
-    let Some((body, after)) = block(room, after)? else {
+    let Some((body, after)) = block(after)? else {
         return Ok(None);
     };
-    let name = name(room, tokens)?;
+    let name = name(tokens)?;
     let span = whole.span_to(after);
     let decl = FuncDecl {
         span,
@@ -135,34 +128,34 @@ fn function<'a>(
         sig,
         body,
     };
-    Ok(Some((decl, after)))
+    Ok(Some((Decl::Func(decl), after)))
 }
 
 /// A method whose declaration begins at `whole`, after the parenthesis before its receiver.
-fn method<'a>(room: &Room, whole: Cursor, tokens: Cursor<'a>) -> Reading<'a, FuncDecl>
-    ensures gives { Gives (λ x. decl_of (decls.Func x)) result
+fn method<'a>(whole: Cursor, tokens: Cursor<'a>) -> Reading<'a, Decl>
+    ensures gives { Gives decl_of result
         (method_at (ahead whole.entry) (ahead tokens.entry)) }
     ensures shorter { Shorter result tokens.entry }
 {
-    let Some((receiver, after)) = receiver(room, tokens)? else {
+    let Some((receiver, after)) = receiver(tokens)? else {
         return Ok(None);
     };
     let Terminal::EndParen = after.first() else {
         return Ok(None);
     };
-    function(room, whole, Some(receiver), after.rest())
+    function(whole, Some(receiver), after.rest())
 }
 
 /// A function or a method, whose first token is its keyword.
-pub(crate) fn func_decl<'a>(room: &Room, tokens: Cursor<'a>) -> Reading<'a, FuncDecl>
-    ensures gives { Gives (λ x. decl_of (decls.Func x)) result
+pub(crate) fn func_decl<'a>(tokens: Cursor<'a>) -> Reading<'a, Decl>
+    ensures gives { Gives decl_of result
         (func_decl_at (ahead tokens.entry)) }
     ensures shorter { Shorter result tokens.entry }
 {
     let inner = tokens.rest();
     if let Terminal::Paren = inner.first() {
-        method(room, tokens, inner.rest())
+        method(tokens, inner.rest())
     } else {
-        function(room, tokens, None, inner)
+        function(tokens, None, inner)
     }
 }

@@ -16,22 +16,21 @@ ghost use Rattle.go_parse.specs.Texts.{HasTexts};
 ghost use Rattle.go_parse.specs.Parts.{closed, grouped_import_at, path_at, single_import_at, spec_end};
 
 use go_literals::string_value;
-use go_productions::{Cursor, Reading, Room, name};
+use go_productions::{Cursor, Reading, name};
 use go_tree::{ImportDecl, ImportSpec, ImportSpecList, NameAt, NoMemory, Text};
 use go_words::Terminal;
 
 /// The value of the string literal that stands first.
-fn text(room: &Room, tokens: Cursor) -> Result<Text, NoMemory>
+fn text(tokens: Cursor) -> Result<Text, NoMemory>
     requires texts { HasTexts (ahead tokens) }
     requires stands { first_of (ahead tokens) ≡ terminal.StrLit }
     ensures { IfOk result (λ t. t ≡ text_value (spelling_of (ahead tokens.entry))) }
 {
-    string_value(room.alloc, tokens.spelling())
+    string_value(tokens.room.alloc, tokens.spelling())
 }
 
 /// The path of an import that begins at `whole`, after its name.
 fn import_path<'a>(
-    room: &Room,
     whole: Cursor,
     name: Option<NameAt>,
     tokens: Cursor<'a>,
@@ -44,24 +43,24 @@ fn import_path<'a>(
     let Terminal::StrLit = tokens.first() else {
         return Ok(None);
     };
-    let path = text(room, tokens)?;
+    let path = text(tokens)?;
     let after = tokens.rest();
     let span = whole.span_to(after);
     Ok(Some((ImportSpec { span, name, path }, after)))
 }
 
 /// One import, with its name where it has one.
-fn import_spec<'a>(room: &Room, tokens: Cursor<'a>) -> Reading<'a, ImportSpec>
+fn import_spec<'a>(tokens: Cursor<'a>) -> Reading<'a, ImportSpec>
     requires { HasTexts (ahead tokens) }
     ensures gives { Gives import_spec_of result
         (at span_to read_import_spec (ahead tokens.entry)) }
     ensures shorter { Shorter result tokens.entry }
 {
     let Terminal::Ident = tokens.first() else {
-        return import_path(room, tokens, None, tokens);
+        return import_path(tokens, None, tokens);
     };
-    let name = name(room, tokens)?;
-    import_path(room, tokens, Some(name), tokens.rest())
+    let name = name(tokens)?;
+    import_path(tokens, Some(name), tokens.rest())
 }
 
 /// What follows a spec of a group: the tokens after its semicolon, or those from the parenthesis
@@ -78,19 +77,19 @@ pub(crate) fn after_spec(tokens: Cursor) -> Option<Cursor>
 }
 
 /// The imports of a group, up to the parenthesis that ends it.
-fn import_group<'a>(room: &Room, tokens: Cursor<'a>) -> Reading<'a, ImportSpecList>
+fn import_group<'a>(tokens: Cursor<'a>) -> Reading<'a, ImportSpecList>
     requires { HasTexts (ahead tokens) }
     ensures gives { Gives (map import_spec_of) result
         (closed (at span_to read_import_specs (ahead tokens.entry))) }
     ensures shorter { Shorter result tokens.entry }
 {
-    let mut specs = Vec::new(room.alloc);
+    let mut specs = Vec::new(tokens.room.alloc);
     let mut left = tokens;
     'specs: loop {
         if let Terminal::EndParen = left.first() {
             return Ok(Some((ImportSpecList::of(specs), left.rest())));
         }
-        let Some((spec, after)) = import_spec(room, left)? else {
+        let Some((spec, after)) = import_spec(left)? else {
             return Ok(None);
         };
         specs.push(spec)?;
@@ -102,7 +101,7 @@ fn import_group<'a>(room: &Room, tokens: Cursor<'a>) -> Reading<'a, ImportSpecLi
 }
 
 /// The declaration of one import or of a group.
-pub(crate) fn import<'a>(room: &Room, tokens: Cursor<'a>) -> Reading<'a, ImportDecl>
+pub(crate) fn import<'a>(tokens: Cursor<'a>) -> Reading<'a, ImportDecl>
     requires { HasTexts (ahead tokens) }
     ensures gives { Gives import_decl_of result
         (at span_to read_import (ahead tokens.entry)) }
@@ -113,19 +112,19 @@ pub(crate) fn import<'a>(room: &Room, tokens: Cursor<'a>) -> Reading<'a, ImportD
     };
     let inner = tokens.rest();
     if let Terminal::Paren = inner.first() {
-        grouped_import(room, tokens, inner.rest())
+        grouped_import(tokens, inner.rest())
     } else {
-        single_import(room, tokens, inner)
+        single_import(tokens, inner)
     }
 }
 
-fn grouped_import<'a>(room: &Room, whole: Cursor, tokens: Cursor<'a>) -> Reading<'a, ImportDecl>
+fn grouped_import<'a>(whole: Cursor, tokens: Cursor<'a>) -> Reading<'a, ImportDecl>
     requires { HasTexts (ahead tokens) }
     ensures gives { Gives import_decl_of result
         (grouped_import_at (ahead whole.entry) (ahead tokens.entry)) }
     ensures shorter { Shorter result tokens.entry }
 {
-    let Some((specs, after)) = import_group(room, tokens)? else {
+    let Some((specs, after)) = import_group(tokens)? else {
         return Ok(None);
     };
     let span = whole.span_to(after);
@@ -137,16 +136,16 @@ fn grouped_import<'a>(room: &Room, whole: Cursor, tokens: Cursor<'a>) -> Reading
     Ok(Some((decl, after)))
 }
 
-fn single_import<'a>(room: &Room, whole: Cursor, tokens: Cursor<'a>) -> Reading<'a, ImportDecl>
+fn single_import<'a>(whole: Cursor, tokens: Cursor<'a>) -> Reading<'a, ImportDecl>
     requires { HasTexts (ahead tokens) }
     ensures gives { Gives import_decl_of result
         (single_import_at (ahead whole.entry) (ahead tokens.entry)) }
     ensures shorter { Shorter result tokens.entry }
 {
-    let Some((spec, after)) = import_spec(room, tokens)? else {
+    let Some((spec, after)) = import_spec(tokens)? else {
         return Ok(None);
     };
-    let specs = ImportSpecList::of(vec![in room.alloc; spec]?);
+    let specs = ImportSpecList::of(vec![in tokens.room.alloc; spec]?);
     let span = whole.span_to(after);
     let decl = ImportDecl {
         span,

@@ -69,8 +69,9 @@ pub fn parse(alloc: Global, text: &[u8], tokens: &Tokens) -> Result<FileTree, Pa
         MatchResult result (λ t. file_of t ≡ f) (λ e. e ≡ ParseError.NoMemory) }
     ensures refused { IfErr result (λ e. Refuses (length text.now) (lexemes tokens.now.items) e) }
 {
-    let whole = Cursor::new(tokens);
-    let Some((file, after)) = front(&Room::new(alloc), whole)? else {
+    let room = Room::new(alloc);
+    let whole = Cursor::new(&room, tokens);
+    let Some((file, after)) = front(whole)? else {
         return Err(ParseError::NotRead(first_or_end(text, whole)));
     };
     match after.start() {

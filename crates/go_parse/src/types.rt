@@ -1,7 +1,6 @@
 //! Type declarations (Go specification, Type declarations).
 
 ghost use Rattle.std.specs.Prelude.{◌≡◌, map};
-ghost use Rattle.go_tree.specs.declared.files.Decl.TheVariants as decls;
 ghost use Rattle.go_tree.specs.View.{name_at_of};
 ghost use Rattle.go_tree.specs.FileView.{decl_of, type_spec_of};
 ghost use Rattle.go_productions.specs.Cursors.{ahead};
@@ -12,13 +11,12 @@ ghost use Rattle.go_productions.specs.Answers.{Gives, Shorter};
 ghost use Rattle.go_parse.specs.Parts.{closed, grouped_types_at, is_equals, single_type_at, type_after_at, type_decl_at};
 
 use crate::imports::after_spec;
-use go_productions::{Cursor, Reading, Room, name, type_expr};
+use go_productions::{Cursor, Reading, name, type_expr};
 use go_tree::{Decl, NameAt, TypeDecl, TypeSpec, TypeSpecList};
 use go_words::Terminal;
 
 /// The type of a spec that begins at `whole`, after its name.
 fn spec_type<'a>(
-    room: &Room,
     whole: Cursor,
     name: NameAt,
     alias: bool,
@@ -28,7 +26,7 @@ fn spec_type<'a>(
         (type_after_at (ahead whole.entry) (name_at_of name) alias (ahead tokens.entry)) }
     ensures shorter { Shorter result tokens.entry }
 {
-    let Some((of, after)) = type_expr(room, tokens)? else {
+    let Some((of, after)) = type_expr(tokens)? else {
         return Ok(None);
     };
     let span = whole.span_to(after);
@@ -49,7 +47,7 @@ fn is_equals(terminal: Terminal) -> bool
 }
 
 /// A name and its type, with `=` between them for an alias.
-fn type_spec<'a>(room: &Room, tokens: Cursor<'a>) -> Reading<'a, TypeSpec>
+fn type_spec<'a>(tokens: Cursor<'a>) -> Reading<'a, TypeSpec>
     ensures gives { Gives type_spec_of result
         (at span_to read_type_spec (ahead tokens.entry)) }
     ensures shorter { Shorter result tokens.entry }
@@ -57,29 +55,29 @@ fn type_spec<'a>(room: &Room, tokens: Cursor<'a>) -> Reading<'a, TypeSpec>
     let Terminal::Ident = tokens.first() else {
         return Ok(None);
     };
-    let name = name(room, tokens)?;
+    let name = name(tokens)?;
     let after = tokens.rest();
     let alias = is_equals(after.first());
     if alias {
-        spec_type(room, tokens, name, true, after.rest())
+        spec_type(tokens, name, true, after.rest())
     } else {
-        spec_type(room, tokens, name, false, after)
+        spec_type(tokens, name, false, after)
     }
 }
 
 /// The specs of a group, up to the parenthesis that ends it.
-fn type_group<'a>(room: &Room, tokens: Cursor<'a>) -> Reading<'a, TypeSpecList>
+fn type_group<'a>(tokens: Cursor<'a>) -> Reading<'a, TypeSpecList>
     ensures gives { Gives (map type_spec_of) result
         (closed (at span_to read_type_specs (ahead tokens.entry))) }
     ensures shorter { Shorter result tokens.entry }
 {
-    let mut specs = Vec::new(room.alloc);
+    let mut specs = Vec::new(tokens.room.alloc);
     let mut left = tokens;
     'specs: loop {
         if let Terminal::EndParen = left.first() {
             return Ok(Some((TypeSpecList::of(specs), left.rest())));
         }
-        let Some((spec, after)) = type_spec(room, left)? else {
+        let Some((spec, after)) = type_spec(left)? else {
             return Ok(None);
         };
         specs.push(spec)?;
@@ -91,16 +89,12 @@ fn type_group<'a>(room: &Room, tokens: Cursor<'a>) -> Reading<'a, TypeSpecList>
 }
 
 /// The group of types whose declaration begins at `whole`.
-pub(crate) fn grouped_types<'a>(
-    room: &Room,
-    whole: Cursor,
-    tokens: Cursor<'a>,
-) -> Reading<'a, TypeDecl>
-    ensures gives { Gives (λ x. decl_of (decls.Types x)) result
+pub(crate) fn grouped_types<'a>(whole: Cursor, tokens: Cursor<'a>) -> Reading<'a, Decl>
+    ensures gives { Gives decl_of result
         (grouped_types_at (ahead whole.entry) (ahead tokens.entry)) }
     ensures shorter { Shorter result tokens.entry }
 {
-    let Some((specs, after)) = type_group(room, tokens)? else {
+    let Some((specs, after)) = type_group(tokens)? else {
         return Ok(None);
     };
     let span = whole.span_to(after);
@@ -109,42 +103,38 @@ pub(crate) fn grouped_types<'a>(
         grouped: true,
         specs,
     };
-    Ok(Some((decl, after)))
+    Ok(Some((Decl::Types(decl), after)))
 }
 
 /// The one type whose declaration begins at `whole`.
-pub(crate) fn single_type<'a>(
-    room: &Room,
-    whole: Cursor,
-    tokens: Cursor<'a>,
-) -> Reading<'a, TypeDecl>
-    ensures gives { Gives (λ x. decl_of (decls.Types x)) result
+pub(crate) fn single_type<'a>(whole: Cursor, tokens: Cursor<'a>) -> Reading<'a, Decl>
+    ensures gives { Gives decl_of result
         (single_type_at (ahead whole.entry) (ahead tokens.entry)) }
     ensures shorter { Shorter result tokens.entry }
 {
-    let Some((spec, after)) = type_spec(room, tokens)? else {
+    let Some((spec, after)) = type_spec(tokens)? else {
         return Ok(None);
     };
-    let specs = TypeSpecList::of(vec![in room.alloc; spec]?);
+    let specs = TypeSpecList::of(vec![in tokens.room.alloc; spec]?);
     let span = whole.span_to(after);
     let decl = TypeDecl {
         span,
         grouped: false,
         specs,
     };
-    Ok(Some((decl, after)))
+    Ok(Some((Decl::Types(decl), after)))
 }
 
 /// The declaration of one type or of a group, whose first token is its keyword.
-pub(crate) fn type_decl<'a>(room: &Room, tokens: Cursor<'a>) -> Reading<'a, TypeDecl>
-    ensures gives { Gives (λ x. decl_of (decls.Types x)) result
+pub(crate) fn type_decl<'a>(tokens: Cursor<'a>) -> Reading<'a, Decl>
+    ensures gives { Gives decl_of result
         (type_decl_at (ahead tokens.entry)) }
     ensures shorter { Shorter result tokens.entry }
 {
     let inner = tokens.rest();
     if let Terminal::Paren = inner.first() {
-        grouped_types(room, tokens, inner.rest())
+        grouped_types(tokens, inner.rest())
     } else {
-        single_type(room, tokens, inner)
+        single_type(tokens, inner)
     }
 }

@@ -1,15 +1,20 @@
 -- Parts of the grammar that no goal of the reader is for.
 use Rattle.std.specs.Prelude.{Bool, true, false, List, [], ◌∷◌, ◌++◌, map, Option, Some, None, option_and_then}
+use Rattle.std.specs.Option.{option_map}
+use Rattle.go_tree.specs.declared.exprs.Rest.{Rest}
+use Rattle.go_tree.specs.declared.exprs.Rest.TheVariants.{Plain, Whole}
 use Rattle.go_tree.specs.declared.spans.Span.{Span}
 use Rattle.go_tree.specs.declared.operators.BinOp.TheVariants.{Mul}
 use Rattle.go_tree.specs.Tree.{NameAt, TypeExpr, Fields, field, Param, Stmt, const_decl, var_decl}
-use Rattle.go_words.specs.Terminals.{lex, ident, comma, dot, ellipsis, paren, brace}
+use Rattle.go_words.specs.Terminals.{lex, ident, comma, dot, ellipsis, paren, end_paren, brace}
 use Rattle.go_read.specs.SpellsSpans.{span_to}
 use Rattle.go_read.specs.SpellsTypes.{Lexemes, unnamed}
 use Rattle.go_read.specs.Goals.{read_type, read_entries, read_named, read_unnamed, read_params, read_decl}
 use Rattle.go_read.specs.Reading.{at}
 use Rattle.go_words.specs.declared.terminals.Terminal.{Terminal}
 use Rattle.go_words.specs.declared.terminals.Terminal.TheVariants as code
+use Rattle.go_productions.specs.declared.arguments.ArgsEnd.{ArgsEnd}
+use Rattle.go_productions.specs.Cursors.{ahead}
 use Rattle.go_productions.specs.Terminals.{first_of, rest_of, name_of}
 
 -- ---- lists
@@ -122,6 +127,24 @@ abbrev pub results_at : Lexemes → Option (List (Param Span) × Lexemes)
 results_at (lex s paren ∷ ts) = at span_to (read_params false) (lex s paren ∷ ts)
 results_at (lex s brace ∷ ts) = Some ([], lex s brace ∷ ts)
 results_at ts = option_and_then (λ x. Some (unnamed x.0 ∷ [], x.1)) (at span_to read_type ts)
+
+-- ---- arguments
+
+-- the tokens after the parenthesis that ends arguments, before which a comma may stand
+abbrev pub args_closed : Lexemes → Option Lexemes
+args_closed (lex e end_paren ∷ r) = Some r
+args_closed (lex c comma ∷ lex e end_paren ∷ r) = Some r
+args_closed _ = None
+
+-- what stands after the last argument of a call, and the tokens after it: the parenthesis that ends them, or three dots
+-- before it (Go specification, Calls)
+abbrev pub args_end : Lexemes → Option (Rest × Lexemes)
+args_end (lex e end_paren ∷ r) = Some (Plain, r)
+args_end (lex d ellipsis ∷ ts) = option_map (λ r. (Whole, r)) (args_closed ts)
+args_end _ = None
+
+abbrev pub args_end_of : ArgsEnd → Rest × Lexemes
+args_end_of x = (x.rest, ahead x.after)
 
 -- ---- declarations
 

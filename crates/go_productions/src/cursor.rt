@@ -6,13 +6,16 @@ ghost use Rattle.go_read.specs.SpellsSpans.{span_to};
 ghost use Rattle.go_productions.specs.Cursors.{ahead};
 ghost use Rattle.go_productions.specs.Terminals.{first_of, rest_of, start_at, taken, spelling_of, has_letters};
 
+use crate::room::Room;
 use go_scan::Tokens;
 use go_tree::{Span, Token};
 use go_words::Terminal;
 
-/// A place among the tokens of a file: those before it are read, those from it on stand ahead.
+/// A place among the tokens of a file: those before it are read, those from it on stand ahead. It hands on the room
+/// that the file's tree is made in.
 #[derive(Clone, Copy)]
 pub struct Cursor<'a> {
+    pub room: &'a Room,
     tokens: &'a Tokens,
     at: usize,
 }
@@ -20,10 +23,14 @@ pub struct Cursor<'a> {
 impl<'a> Cursor<'a> {
     /// The place before the first token.
     #[tactic(auto, using(crate::proofs::Heads::new_at))]
-    pub fn new(tokens: &'a Tokens) -> Cursor<'a>
+    pub fn new(room: &'a Room, tokens: &'a Tokens) -> Cursor<'a>
         ensures { ahead result ≡ lexemes tokens.now.items }
     {
-        Cursor { tokens, at: 0 }
+        Cursor {
+            room,
+            tokens,
+            at: 0,
+        }
     }
 
     /// The terminal that stands first, or `Foreign` where no token is left.
@@ -48,8 +55,8 @@ impl<'a> Cursor<'a> {
     {
         if self.at < self.tokens.items().len() {
             Cursor {
-                tokens: self.tokens,
                 at: self.at + 1,
+                ..self
             }
         } else {
             self
@@ -71,8 +78,8 @@ impl<'a> Cursor<'a> {
         ensures { ahead result ≡ drop taken (ahead self.entry) }
     {
         Cursor {
-            tokens: self.tokens,
             at: self.tokens.items().len() - (self.len() - taken),
+            ..self
         }
     }
 

@@ -1,12 +1,14 @@
-//! Types, signatures and lists of names, read of the tokens of a file from left to right.
+//! Types, signatures, lists of names and the ends of arguments, read of the tokens of a file from left to right.
 #![tactic(auto)]
 
+mod arguments;
 mod cursor;
 mod name_lists;
 mod room;
 mod signatures;
 mod types;
 
+pub use arguments::{ArgsEnd, args_end};
 pub use cursor::Cursor;
 use go_tree::NoMemory;
 pub use name_lists::{name, names, qualifies, skip_names};

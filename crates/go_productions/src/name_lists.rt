@@ -13,24 +13,23 @@ ghost use Rattle.go_productions.specs.Parts.{is_qualified, skipped};
 
 use crate::Reading;
 use crate::cursor::Cursor;
-use crate::room::Room;
 use go_tree::{Name, NameAt, NameAtList, NoMemory};
 use go_words::Terminal;
 
 /// Names with commas between them.
 #[tactic(auto, using(crate::proofs::NameArms::names_none, crate::proofs::NameArms::names_last, crate::proofs::NameArms::names_more))]
-pub fn names<'a>(room: &Room, tokens: Cursor<'a>) -> Reading<'a, NameAtList>
+pub fn names<'a>(tokens: Cursor<'a>) -> Reading<'a, NameAtList>
     ensures gives { Gives (map name_at_of) result
         (at span_to read_names (ahead tokens.entry)) }
     ensures shorter { Shorter result tokens.entry }
 {
-    let mut names = Vec::new(room.alloc);
+    let mut names = Vec::new(tokens.room.alloc);
     let mut left = tokens;
     loop {
         let Terminal::Ident = left.first() else {
             return Ok(None);
         };
-        names.push(name(room, left)?)?;
+        names.push(name(left)?)?;
         left = left.rest();
         let Terminal::Comma = left.first() else {
             return Ok(Some((NameAtList::of(names), left)));
@@ -75,13 +74,13 @@ pub fn qualifies(tokens: Cursor) -> bool
 }
 
 /// The name that stands first.
-pub fn name(room: &Room, tokens: Cursor) -> Result<NameAt, NoMemory>
+pub fn name(tokens: Cursor) -> Result<NameAt, NoMemory>
     requires { first_of (ahead tokens) ≡ Terminal.Ident }
     ensures { IfOk result (λ n. name_at_of n ≡ name_of (ahead tokens.entry)) }
 {
     let span = tokens.span_to(tokens.rest());
     let spelling = tokens.spelling();
-    room.count(spelling.len())?;
-    let name = Name::copied(room.alloc, spelling)?;
+    tokens.room.count(spelling.len())?;
+    let name = Name::copied(tokens.room.alloc, spelling)?;
     Ok(NameAt { span, name })
 }

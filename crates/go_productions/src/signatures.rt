@@ -14,7 +14,6 @@ ghost use Rattle.go_productions.specs.Parts.{begins_type, group_onto, has_names,
 use crate::Reading;
 use crate::cursor::Cursor;
 use crate::name_lists::{name, skip_names};
-use crate::room::Room;
 use crate::types::{shared_fields, type_expr};
 use go_tree::{BinOp, FieldSpec, NameAt, NoMemory, Param, ParamList, Sig, Span, TypeExpr};
 use go_words::Terminal;
@@ -22,15 +21,15 @@ use go_words::Terminal;
 /// A signature, whose results stand before a block. The last parameter of a variadic one may have three dots before
 /// its type.
 #[tactic(auto, using(crate::proofs::SigArms::sig_open, crate::proofs::SigArms::sig_none, crate::proofs::SigArms::sig_some))]
-pub fn signature<'a>(room: &Room, tokens: Cursor<'a>, variadic: bool) -> Reading<'a, Sig>
+pub fn signature<'a>(tokens: Cursor<'a>, variadic: bool) -> Reading<'a, Sig>
     ensures gives { Gives sig_of result
         (at span_to (read_sig variadic) (ahead tokens.entry)) }
     ensures shorter { Shorter result tokens.entry }
 {
-    let Some((params, left)) = params(room, tokens, variadic)? else {
+    let Some((params, left)) = params(tokens, variadic)? else {
         return Ok(None);
     };
-    let Some((results, left)) = results(room, left)? else {
+    let Some((results, left)) = results(left)? else {
         return Ok(None);
     };
     Ok(Some((Sig { params, results }, left)))
@@ -38,18 +37,18 @@ pub fn signature<'a>(room: &Room, tokens: Cursor<'a>, variadic: bool) -> Reading
 
 /// The results of a function: parameters, one type, or none before a block.
 #[tactic(auto, using(crate::proofs::SigArms::results_brace, crate::proofs::SigArms::results_paren, crate::proofs::SigArms::results_none, crate::proofs::SigArms::results_some))]
-fn results<'a>(room: &Room, tokens: Cursor<'a>) -> Reading<'a, ParamList>
+fn results<'a>(tokens: Cursor<'a>) -> Reading<'a, ParamList>
     ensures gives { Gives (map param_of) result (results_at (ahead tokens.entry)) }
     ensures within { Within result tokens.entry }
 {
     match tokens.first() {
-        Terminal::Paren => params(room, tokens, false),
-        Terminal::Brace => Ok(Some((ParamList::of(Vec::new(room.alloc)), tokens))),
+        Terminal::Paren => params(tokens, false),
+        Terminal::Brace => Ok(Some((ParamList::of(Vec::new(tokens.room.alloc)), tokens))),
         _ => {
-            let Some((of, left)) = type_expr(room, tokens)? else {
+            let Some((of, left)) = type_expr(tokens)? else {
                 return Ok(None);
             };
-            let mut results = Vec::new(room.alloc);
+            let mut results = Vec::new(tokens.room.alloc);
             results.push(without_name(of))?;
             Ok(Some((ParamList::of(results), left)))
         }
@@ -58,7 +57,7 @@ fn results<'a>(room: &Room, tokens: Cursor<'a>) -> Reading<'a, ParamList>
 
 /// Parameters in parentheses.
 #[tactic(auto, using(crate::proofs::SigArms::params_open, crate::proofs::SigArms::params_empty, crate::proofs::SigArms::params_listed))]
-fn params<'a>(room: &Room, tokens: Cursor<'a>, variadic: bool) -> Reading<'a, ParamList>
+fn params<'a>(tokens: Cursor<'a>, variadic: bool) -> Reading<'a, ParamList>
     ensures gives { Gives (map param_of) result
         (at span_to (read_params variadic) (ahead tokens.entry)) }
     ensures shorter { Shorter result tokens.entry }
@@ -68,9 +67,9 @@ fn params<'a>(room: &Room, tokens: Cursor<'a>, variadic: bool) -> Reading<'a, Pa
     };
     let inner = tokens.rest();
     if let Terminal::EndParen = inner.first() {
-        return Ok(Some((ParamList::of(Vec::new(room.alloc)), inner.rest())));
+        return Ok(Some((ParamList::of(Vec::new(tokens.room.alloc)), inner.rest())));
     }
-    param_list(room, inner, has_names(inner), variadic)
+    param_list(inner, has_names(inner), variadic)
 }
 
 /// Whether the parameters have names: a type begins after the names that stand first.
@@ -100,21 +99,16 @@ fn begins_type(terminal: Terminal) -> bool
 
 /// Parameters up to the closing parenthesis, with a comma after the last or without.
 #[tactic(auto, using(crate::proofs::ParamArms::group_lost, crate::proofs::ParamArms::group_last, crate::proofs::ParamArms::group_comma, crate::proofs::ParamArms::group_more, crate::proofs::ParamArms::group_past, crate::proofs::ParamArms::group_stop))]
-fn param_list<'a>(
-    room: &Room,
-    tokens: Cursor<'a>,
-    named: bool,
-    variadic: bool,
-) -> Reading<'a, ParamList>
+fn param_list<'a>(tokens: Cursor<'a>, named: bool, variadic: bool) -> Reading<'a, ParamList>
     ensures gives { Gives (map param_of) result
         (params_at variadic named (ahead tokens.entry)) }
     ensures shorter { Shorter result tokens.entry }
 {
-    let mut params = Vec::new(room.alloc);
+    let mut params = Vec::new(tokens.room.alloc);
     let mut left = tokens;
     loop {
         let ends = begins_rest(left, named, variadic);
-        let Some((more, after)) = param_group(room, params, left, named, ends)? else {
+        let Some((more, after)) = param_group(params, left, named, ends)? else {
             return Ok(None);
         };
         params = more;
@@ -158,7 +152,6 @@ fn begins_rest(tokens: Cursor, named: bool, variadic: bool) -> bool
 /// Parameters that share a type, or one without a name, or a variadic one, after these.
 #[tactic(auto, using(crate::proofs::ParamArms::named_group, crate::proofs::ParamArms::no_named_group, crate::proofs::ParamArms::unnamed_group, crate::proofs::ParamArms::no_unnamed_group))]
 fn param_group<'a>(
-    room: &Room,
     params: Vec<Param>,
     tokens: Cursor<'a>,
     named: bool,
@@ -169,11 +162,11 @@ fn param_group<'a>(
     ensures shorter { Shorter result tokens.entry }
 {
     if variadic {
-        return rest_group(room, params, tokens);
+        return rest_group(params, tokens);
     }
     let mut params = params;
     if named {
-        let Some((fields, left)) = shared_fields(room, Vec::new(room.alloc), tokens)? else {
+        let Some((fields, left)) = shared_fields(Vec::new(tokens.room.alloc), tokens)? else {
             return Ok(None);
         };
         for field in fields {
@@ -181,7 +174,7 @@ fn param_group<'a>(
         }
         return Ok(Some((params, left)));
     }
-    let Some((of, left)) = type_expr(room, tokens)? else {
+    let Some((of, left)) = type_expr(tokens)? else {
         return Ok(None);
     };
     params.push(without_name(of))?;
@@ -190,13 +183,13 @@ fn param_group<'a>(
 
 /// A variadic parameter after these.
 #[tactic(auto, using(crate::proofs::ParamArms::rest_dots, crate::proofs::ParamArms::rest_named, crate::proofs::ParamArms::rest_absent, crate::proofs::ParamArms::rest_dotless))]
-fn rest_group<'a>(room: &Room, params: Vec<Param>, tokens: Cursor<'a>) -> Reading<'a, Vec<Param>>
+fn rest_group<'a>(params: Vec<Param>, tokens: Cursor<'a>) -> Reading<'a, Vec<Param>>
     ensures gives { Gives (λ x. map param_of x.items) result
         (rest_group (map param_of params.items) (ahead tokens.entry)) }
     ensures shorter { Shorter result tokens.entry }
 {
     if let Terminal::Ellipsis = tokens.first() {
-        return rest_param(room, params, tokens, None, tokens.rest());
+        return rest_param(params, tokens, None, tokens.rest());
     }
     let Terminal::Ident = tokens.first() else {
         return Ok(None);
@@ -205,14 +198,13 @@ fn rest_group<'a>(room: &Room, params: Vec<Param>, tokens: Cursor<'a>) -> Readin
     let Terminal::Ellipsis = dots.first() else {
         return Ok(None);
     };
-    let name = name(room, tokens)?;
-    rest_param(room, params, tokens, Some(name), dots.rest())
+    let name = name(tokens)?;
+    rest_param(params, tokens, Some(name), dots.rest())
 }
 
 /// The variadic parameter that begins at `whole`, from its type on, after these.
 #[tactic(auto, using(crate::proofs::ParamArms::rest_none, crate::proofs::ParamArms::rest_some))]
 fn rest_param<'a>(
-    room: &Room,
     params: Vec<Param>,
     whole: Cursor,
     name: Option<NameAt>,
@@ -223,7 +215,7 @@ fn rest_param<'a>(
     ensures shorter { Shorter result tokens.entry }
 {
     let mut params = params;
-    let Some((of, left)) = type_expr(room, tokens)? else {
+    let Some((of, left)) = type_expr(tokens)? else {
         return Ok(None);
     };
     params.push(rest_from(whole.span_to(left), name, of))?;

@@ -13,32 +13,31 @@ ghost use Rattle.go_productions.specs.Terminals.{first_of};
 use crate::Reading;
 use crate::cursor::Cursor;
 use crate::name_lists::{name, qualifies, skip_names};
-use crate::room::Room;
 use go_tree::{BinOp, FieldSpec, FieldSpecList, TypeExpr};
 use go_words::Terminal;
 
 /// A type.
 #[cycle(types)]
 #[tactic(auto, using(crate::proofs::TypeArms::type_none))]
-pub fn type_expr<'a>(room: &Room, tokens: Cursor<'a>) -> Reading<'a, TypeExpr>
+pub fn type_expr<'a>(tokens: Cursor<'a>) -> Reading<'a, TypeExpr>
     ensures gives { Gives type_of result (at span_to read_type (ahead tokens.entry)) }
     ensures shorter { Shorter result tokens.entry }
 {
-    room.count(0)?;
+    tokens.room.count(0)?;
     match tokens.first() {
-        Terminal::Ident => type_name(room, tokens),
-        Terminal::Binary(op) => pointer_type(room, tokens, op),
-        Terminal::Bracket => slice_type(room, tokens),
-        Terminal::Map => map_type(room, tokens),
-        Terminal::Struct => struct_type(room, tokens),
-        Terminal::Paren => type_in_parens(room, tokens),
+        Terminal::Ident => type_name(tokens),
+        Terminal::Binary(op) => pointer_type(tokens, op),
+        Terminal::Bracket => slice_type(tokens),
+        Terminal::Map => map_type(tokens),
+        Terminal::Struct => struct_type(tokens),
+        Terminal::Paren => type_in_parens(tokens),
         _ => Ok(None),
     }
 }
 
 /// The name of a type, with the package's before it where that stands there.
 #[tactic(auto, using(crate::proofs::TypeArms::named_some, crate::proofs::TypeArms::qualified_some, crate::proofs::TypeArms::qualified_word))]
-fn type_name<'a>(room: &Room, tokens: Cursor<'a>) -> Reading<'a, TypeExpr>
+fn type_name<'a>(tokens: Cursor<'a>) -> Reading<'a, TypeExpr>
     requires { first_of (ahead tokens) ≡ Terminal.Ident }
     ensures gives { Gives type_of result (at span_to read_type (ahead tokens.entry)) }
     ensures shorter { Shorter result tokens.entry }
@@ -46,7 +45,7 @@ fn type_name<'a>(room: &Room, tokens: Cursor<'a>) -> Reading<'a, TypeExpr>
     let after = tokens.rest();
     if !qualifies(tokens) {
         let span = tokens.span_to(after);
-        let name = name(room, tokens)?;
+        let name = name(tokens)?;
         return Ok(Some((
             TypeExpr::Named {
                 span,
@@ -56,10 +55,10 @@ fn type_name<'a>(room: &Room, tokens: Cursor<'a>) -> Reading<'a, TypeExpr>
             after,
         )));
     }
-    let package = Some(name(room, tokens)?);
+    let package = Some(name(tokens)?);
     let left = after.rest().rest();
     let span = tokens.span_to(left);
-    let name = name(room, after.rest())?;
+    let name = name(after.rest())?;
     Ok(Some((
         TypeExpr::Named {
             span,
@@ -72,7 +71,7 @@ fn type_name<'a>(room: &Room, tokens: Cursor<'a>) -> Reading<'a, TypeExpr>
 
 #[cycle(types)]
 #[tactic(auto, using(crate::proofs::TypeArms::pointer_some, crate::proofs::TypeArms::pointer_none, crate::proofs::TypeArms::pointer_other))]
-fn pointer_type<'a>(room: &Room, tokens: Cursor<'a>, op: BinOp) -> Reading<'a, TypeExpr>
+fn pointer_type<'a>(tokens: Cursor<'a>, op: BinOp) -> Reading<'a, TypeExpr>
     requires { first_of (ahead tokens) ≡ Terminal.Binary op }
     ensures gives { Gives type_of result (at span_to read_type (ahead tokens.entry)) }
     ensures shorter { Shorter result tokens.entry }
@@ -80,17 +79,17 @@ fn pointer_type<'a>(room: &Room, tokens: Cursor<'a>, op: BinOp) -> Reading<'a, T
     let BinOp::Mul = op else {
         return Ok(None);
     };
-    let Some((to, left)) = type_expr(room, tokens.rest())? else {
+    let Some((to, left)) = type_expr(tokens.rest())? else {
         return Ok(None);
     };
     let span = tokens.span_to(left);
-    let to = Box::new(room.alloc, to)?;
+    let to = Box::new(tokens.room.alloc, to)?;
     Ok(Some((TypeExpr::Pointer { span, to }, left)))
 }
 
 #[cycle(types)]
 #[tactic(auto, using(crate::proofs::TypeArms::slice_some, crate::proofs::TypeArms::slice_none, crate::proofs::TypeArms::slice_open))]
-fn slice_type<'a>(room: &Room, tokens: Cursor<'a>) -> Reading<'a, TypeExpr>
+fn slice_type<'a>(tokens: Cursor<'a>) -> Reading<'a, TypeExpr>
     requires { first_of (ahead tokens) ≡ Terminal.Bracket }
     ensures gives { Gives type_of result (at span_to read_type (ahead tokens.entry)) }
     ensures shorter { Shorter result tokens.entry }
@@ -99,17 +98,17 @@ fn slice_type<'a>(room: &Room, tokens: Cursor<'a>) -> Reading<'a, TypeExpr>
     let Terminal::EndBracket = after.first() else {
         return Ok(None);
     };
-    let Some((of, left)) = type_expr(room, after.rest())? else {
+    let Some((of, left)) = type_expr(after.rest())? else {
         return Ok(None);
     };
     let span = tokens.span_to(left);
-    let of = Box::new(room.alloc, of)?;
+    let of = Box::new(tokens.room.alloc, of)?;
     Ok(Some((TypeExpr::Slice { span, of }, left)))
 }
 
 #[cycle(types)]
 #[tactic(auto, using(crate::proofs::TypeArms::map_some, crate::proofs::TypeArms::map_none, crate::proofs::TypeArms::map_open, crate::proofs::TypeArms::map_key, crate::proofs::TypeArms::map_end))]
-fn map_type<'a>(room: &Room, tokens: Cursor<'a>) -> Reading<'a, TypeExpr>
+fn map_type<'a>(tokens: Cursor<'a>) -> Reading<'a, TypeExpr>
     requires { first_of (ahead tokens) ≡ Terminal.Map }
     ensures gives { Gives type_of result (at span_to read_type (ahead tokens.entry)) }
     ensures shorter { Shorter result tokens.entry }
@@ -118,24 +117,24 @@ fn map_type<'a>(room: &Room, tokens: Cursor<'a>) -> Reading<'a, TypeExpr>
     let Terminal::Bracket = after.first() else {
         return Ok(None);
     };
-    let Some((key, after)) = type_expr(room, after.rest())? else {
+    let Some((key, after)) = type_expr(after.rest())? else {
         return Ok(None);
     };
-    let key = Box::new(room.alloc, key)?;
+    let key = Box::new(tokens.room.alloc, key)?;
     let Terminal::EndBracket = after.first() else {
         return Ok(None);
     };
-    let Some((of, left)) = type_expr(room, after.rest())? else {
+    let Some((of, left)) = type_expr(after.rest())? else {
         return Ok(None);
     };
     let span = tokens.span_to(left);
-    let of = Box::new(room.alloc, of)?;
+    let of = Box::new(tokens.room.alloc, of)?;
     Ok(Some((TypeExpr::Map { span, key, of }, left)))
 }
 
 #[cycle(types)]
 #[tactic(auto, using(crate::proofs::TypeArms::struct_some, crate::proofs::TypeArms::struct_none, crate::proofs::TypeArms::struct_open, crate::proofs::TypeArms::struct_end))]
-fn struct_type<'a>(room: &Room, tokens: Cursor<'a>) -> Reading<'a, TypeExpr>
+fn struct_type<'a>(tokens: Cursor<'a>) -> Reading<'a, TypeExpr>
     requires { first_of (ahead tokens) ≡ Terminal.Struct }
     ensures gives { Gives type_of result (at span_to read_type (ahead tokens.entry)) }
     ensures shorter { Shorter result tokens.entry }
@@ -144,7 +143,7 @@ fn struct_type<'a>(room: &Room, tokens: Cursor<'a>) -> Reading<'a, TypeExpr>
     let Terminal::Brace = after.first() else {
         return Ok(None);
     };
-    let Some((fields, left)) = field_list(room, after.rest())? else {
+    let Some((fields, left)) = field_list(after.rest())? else {
         return Ok(None);
     };
     let Terminal::EndBrace = left.first() else {
@@ -157,12 +156,12 @@ fn struct_type<'a>(room: &Room, tokens: Cursor<'a>) -> Reading<'a, TypeExpr>
 
 #[cycle(types)]
 #[tactic(auto, using(crate::proofs::TypeArms::parens_some, crate::proofs::TypeArms::parens_none, crate::proofs::TypeArms::parens_end))]
-fn type_in_parens<'a>(room: &Room, tokens: Cursor<'a>) -> Reading<'a, TypeExpr>
+fn type_in_parens<'a>(tokens: Cursor<'a>) -> Reading<'a, TypeExpr>
     requires { first_of (ahead tokens) ≡ Terminal.Paren }
     ensures gives { Gives type_of result (at span_to read_type (ahead tokens.entry)) }
     ensures shorter { Shorter result tokens.entry }
 {
-    let Some((of, left)) = type_expr(room, tokens.rest())? else {
+    let Some((of, left)) = type_expr(tokens.rest())? else {
         return Ok(None);
     };
     let Terminal::EndParen = left.first() else {
@@ -175,17 +174,17 @@ fn type_in_parens<'a>(room: &Room, tokens: Cursor<'a>) -> Reading<'a, TypeExpr>
 /// The fields of a struct, up to the closing brace.
 #[cycle(types)]
 #[tactic(auto, using(crate::proofs::FieldArms::fields_end, crate::proofs::FieldArms::fields_lost, crate::proofs::FieldArms::fields_more, crate::proofs::FieldArms::fields_last, crate::proofs::FieldArms::fields_stop))]
-fn field_list<'a>(room: &Room, tokens: Cursor<'a>) -> Reading<'a, FieldSpecList>
+fn field_list<'a>(tokens: Cursor<'a>) -> Reading<'a, FieldSpecList>
     ensures gives { Gives fields_of result (at span_to read_fields (ahead tokens.entry)) }
     ensures within { Within result tokens.entry }
 {
-    let mut fields = Vec::new(room.alloc);
+    let mut fields = Vec::new(tokens.room.alloc);
     let mut left = tokens;
     loop {
         if let Terminal::EndBrace = left.first() {
             return Ok(Some((FieldSpecList::of(fields), left)));
         }
-        let Some((more, after)) = shared_fields(room, fields, left)? else {
+        let Some((more, after)) = shared_fields(fields, left)? else {
             return Ok(None);
         };
         fields = more;
@@ -202,7 +201,6 @@ fn field_list<'a>(room: &Room, tokens: Cursor<'a>) -> Reading<'a, FieldSpecList>
 #[cycle(types)]
 #[tactic(auto, using(crate::proofs::FieldArms::shared_lost, crate::proofs::FieldArms::shared_untyped, crate::proofs::FieldArms::shared_last, crate::proofs::FieldArms::shared_more))]
 pub(crate) fn shared_fields<'a>(
-    room: &Room,
     fields: Vec<FieldSpec>,
     tokens: Cursor<'a>,
 ) -> Reading<'a, Vec<FieldSpec>>
@@ -216,9 +214,9 @@ pub(crate) fn shared_fields<'a>(
     let mut fields = fields;
     let mut at = tokens;
     loop {
-        room.count(0)?;
-        let name = name(room, at)?;
-        let Some((of, left)) = shared_type(room, of_all, at.len() != tokens.len())? else {
+        tokens.room.count(0)?;
+        let name = name(at)?;
+        let Some((of, left)) = shared_type(of_all, at.len() != tokens.len())? else {
             return Ok(None);
         };
         let span = at.span_to(left);
@@ -233,13 +231,13 @@ pub(crate) fn shared_fields<'a>(
 
 /// The type that names share; it is a copy where it was read already.
 #[cycle(types)]
-fn shared_type<'a>(room: &Room, tokens: Cursor<'a>, again: bool) -> Reading<'a, TypeExpr>
+fn shared_type<'a>(tokens: Cursor<'a>, again: bool) -> Reading<'a, TypeExpr>
     ensures gives { Gives type_of result (at span_to read_type (ahead tokens.entry)) }
     ensures shorter { Shorter result tokens.entry }
 {
-    let before = room.is_copying();
-    room.set_copying(before || again);
-    let answer = type_expr(room, tokens);
-    room.set_copying(before);
+    let before = tokens.room.is_copying();
+    tokens.room.set_copying(before || again);
+    let answer = type_expr(tokens);
+    tokens.room.set_copying(before);
     answer
 }

@@ -18,7 +18,7 @@ use Rattle.go_words.specs.declared.terminals.Terminal.{Terminal}
 use Rattle.go_words.specs.declared.terminals.Terminal.TheVariants as code
 use Rattle.go_productions.specs.Terminals.{first_of, rest_of}
 use Rattle.go_productions.specs.Parts.{onto, in_front}
-use Rattle.go_statements.specs.StmtParts.{evaluated, arm_seen, arm_at, arm_body_at, arm_test_at, arm_and, switch_body_at, switch_tag_at}
+use Rattle.go_statements.specs.StmtParts.{evaluated, arm_seen, arm_at, arm_body_at, arm_test_at, arm_and, switch_body_at, switch_tag_at, switch_after_at}
 use Rattle.go_productions.proofs.Fronts.{front_none, front_push, front_last, then_some, then_none}
 use Rattle.go_productions.proofs.Steps.{fails, lacks, no_brace, on_brace, no_end_brace, on_end_brace}
 
@@ -203,15 +203,17 @@ switched ts us k f n m = refl
 pub switch_lost : (ts us : Lexemes) (k : Terminal) → first_of ts ≡ code.Switch → us ≡ rest_of ts → first_of us ≡ k → k ≢ code.Brace → k ≢ code.Semicolon → at span_to (read_simple true) us ≡ None → at span_to read_stmt ts ≡ None
 switch_lost ts us k h u f n m a = switch_is ts us h u ∙ switched ts us k f n m ∙ (lacks {k = λ x r. switch_after span_to ts x r} a).is
 
-switch_next : (ts us r : Lexemes) (x : Stmt Span) (k : Terminal) → first_of ts ≡ code.Switch → us ≡ rest_of ts → first_of us ≡ k → k ≢ code.Brace → k ≢ code.Semicolon → at span_to (read_simple true) us ≡ Some (x, r) → at span_to read_stmt ts ≡ run (at span_to) (switch_after span_to ts x r)
+pub switch_next : (ts us r : Lexemes) (x : Stmt Span) (k : Terminal) → first_of ts ≡ code.Switch → us ≡ rest_of ts → first_of us ≡ k → k ≢ code.Brace → k ≢ code.Semicolon → at span_to (read_simple true) us ≡ Some (x, r) → at span_to read_stmt ts ≡ switch_after_at ts x r
+unfolding switch_after_at
 switch_next ts us r x k h u f n m a = switch_is ts us h u ∙ switched ts us k f n m ∙ (asks span_to {k = λ x r. switch_after span_to ts x r} a (record { is = refl })).is
 
-pub switch_first_stmt : (ts us r vs : Lexemes) (x : Stmt Span) (k : Terminal) → first_of ts ≡ code.Switch → us ≡ rest_of ts → first_of us ≡ k → k ≢ code.Brace → k ≢ code.Semicolon → at span_to (read_simple true) us ≡ Some (x, r) → first_of r ≡ code.Semicolon → vs ≡ rest_of r → at span_to read_stmt ts ≡ switch_tag_at ts (some_stmt x) vs
-unfolding switch_tag_at
-switch_first_stmt ts us (lex s semicolon ∷ r) vs x k h u f n m a g v = switch_next ts us (lex s semicolon ∷ r) x k h u f n m a ∙ ap (λ (ws : Lexemes). run (at span_to) (switch_tag span_to ts (some_stmt x) ws)) (sym v)
-switch_first_stmt ts us _ vs x k h u f n m a g v = absurd cc
+pub switch_first_stmt : (w r vs : Lexemes) (x : Stmt Span) → first_of r ≡ code.Semicolon → vs ≡ rest_of r → switch_after_at w x r ≡ switch_tag_at w (some_stmt x) vs
+unfolding switch_after_at switch_tag_at
+switch_first_stmt w (lex s semicolon ∷ r) vs x g v = ap (λ (ws : Lexemes). run (at span_to) (switch_tag span_to w (some_stmt x) ws)) (sym v)
+switch_first_stmt w _ vs x g v = absurd cc
 
-switch_eval_is : (w r : Lexemes) (x : Stmt Span) (l : Terminal) → first_of r ≡ l → l ≢ code.Semicolon → run (at span_to) (switch_after span_to w x r) ≡ run (at span_to) (switch_eval span_to w x r)
+switch_eval_is : (w r : Lexemes) (x : Stmt Span) (l : Terminal) → first_of r ≡ l → l ≢ code.Semicolon → switch_after_at w x r ≡ run (at span_to) (switch_eval span_to w x r)
+unfolding switch_after_at
 switch_eval_is w (lex s semicolon ∷ r) x l f n = absurd (n (sym f))
 switch_eval_is w r x l f n = refl
 
@@ -223,16 +225,15 @@ switch_off : (w r : Lexemes) (x : Stmt Span) → evaluated x ≡ None → run (a
 switch_off w r (eval s y) h = absurd cc
 switch_off w r _ h = refl
 
-pub switch_stop : (ts us r : Lexemes) (x : Stmt Span) (k l : Terminal) → first_of ts ≡ code.Switch → us ≡ rest_of ts → first_of us ≡ k → k ≢ code.Brace → k ≢ code.Semicolon → at span_to (read_simple true) us ≡ Some (x, r) → first_of r ≡ l → l ≢ code.Semicolon → evaluated x ≡ None → at span_to read_stmt ts ≡ None
-switch_stop ts us r x k l h u f n m a g o e = switch_next ts us r x k h u f n m a ∙ switch_eval_is ts r x l g o ∙ switch_off ts r x e
+pub switch_stop : (w r : Lexemes) (x : Stmt Span) (l : Terminal) → first_of r ≡ l → l ≢ code.Semicolon → evaluated x ≡ None → switch_after_at w x r ≡ None
+switch_stop w r x l g o e = switch_eval_is w r x l g o ∙ switch_off w r x e
 
-pub switch_open : (ts us r : Lexemes) (x : Stmt Span) (t : Expr Span) (k l : Terminal) → first_of ts ≡ code.Switch → us ≡ rest_of ts → first_of us ≡ k → k ≢ code.Brace → k ≢ code.Semicolon → at span_to (read_simple true) us ≡ Some (x, r) → first_of r ≡ l → l ≢ code.Semicolon → evaluated x ≡ Some t → l ≢ code.Brace → at span_to read_stmt ts ≡ None
-switch_open ts us r x t k l h u f n m a g o e p = switch_next ts us r x k h u f n m a ∙ switch_eval_is ts r x l g o ∙ switch_on ts r x t e ∙ (no_brace r l (λ r. switch_body span_to ts no_stmt (some_expr t) r) g p).is
+pub switch_open : (w r : Lexemes) (x : Stmt Span) (t : Expr Span) (l m : Terminal) → first_of r ≡ l → l ≢ code.Semicolon → evaluated x ≡ Some t → first_of r ≡ m → m ≢ code.Brace → switch_after_at w x r ≡ None
+switch_open w r x t l m g o e f p = switch_eval_is w r x l g o ∙ switch_on w r x t e ∙ (no_brace r m (λ r. switch_body span_to w no_stmt (some_expr t) r) f p).is
 
-pub switch_tagged : (ts us r vs : Lexemes) (x : Stmt Span) (t : Expr Span) (k l : Terminal) → first_of ts ≡ code.Switch → us ≡ rest_of ts → first_of us ≡ k → k ≢ code.Brace → k ≢ code.Semicolon → at span_to (read_simple true) us ≡ Some (x, r) → first_of r ≡ l → l ≢ code.Semicolon → evaluated x ≡ Some t → first_of r ≡ code.Brace → vs ≡ rest_of r → at span_to read_stmt ts ≡ switch_body_at ts no_stmt (some_expr t) vs
+pub switch_tagged : (w r vs : Lexemes) (x : Stmt Span) (t : Expr Span) (l : Terminal) → first_of r ≡ l → l ≢ code.Semicolon → evaluated x ≡ Some t → first_of r ≡ code.Brace → vs ≡ rest_of r → switch_after_at w x r ≡ switch_body_at w no_stmt (some_expr t) vs
 unfolding switch_body_at
-switch_tagged ts us r vs x t k l h u f n m a g o e p v =
-    switch_next ts us r x k h u f n m a ∙ switch_eval_is ts r x l g o ∙ switch_on ts r x t e ∙ (on_brace r vs (λ r. switch_body span_to ts no_stmt (some_expr t) r) p v (record { is = refl })).is
+switch_tagged w r vs x t l g o e p v = switch_eval_is w r x l g o ∙ switch_on w r x t e ∙ (on_brace r vs (λ r. switch_body span_to w no_stmt (some_expr t) r) p v (record { is = refl })).is
 
 pub tag_absent : (w ts us : Lexemes) (i : StmtOption Span) → first_of ts ≡ code.Brace → us ≡ rest_of ts → switch_tag_at w i ts ≡ switch_body_at w i no_expr us
 unfolding switch_tag_at switch_body_at

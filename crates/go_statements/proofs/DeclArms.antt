@@ -5,7 +5,8 @@ use Rattle.go_tree.specs.declared.spans.Span.{Span}
 use Rattle.go_tree.specs.declared.stmts.VarSpec as source
 use Rattle.go_tree.specs.View.{var_spec_of}
 use Rattle.go_tree.specs.Lists.{specs_from}
-use Rattle.go_tree.specs.Tree.{NameAt, TypeExpr, Exprs, no_exprs, const_decl, var_decl, ValueSpecs, no_specs, spec}
+use Rattle.go_tree.specs.File.{values}
+use Rattle.go_tree.specs.Tree.{NameAt, TypeExpr, Exprs, Stmt, no_exprs, const_decl, var_decl, ValueSpecs, no_specs, spec}
 use Rattle.go_words.specs.Terminals.{lex, assign, semicolon, paren, end_paren, end_brace}
 use Rattle.go_read.specs.SpellsSpans.{span_to}
 use Rattle.go_read.specs.SpellsTypes.{Lexemes}
@@ -18,7 +19,7 @@ use Rattle.go_words.specs.declared.terminals.Terminal.{Terminal}
 use Rattle.go_words.specs.declared.terminals.Terminal.TheVariants as code
 use Rattle.go_productions.specs.Terminals.{first_of, rest_of}
 use Rattle.go_productions.specs.Parts.{onto, in_front, const_decl_at, var_decl_at}
-use Rattle.go_statements.specs.StmtParts.{spec_at, spec_and, is_equals, repeats}
+use Rattle.go_statements.specs.StmtParts.{valued, spec_at, spec_and, is_equals, repeats}
 use Rattle.go_productions.proofs.Fronts.{front_none, front_some, front_push, then_some, then_none}
 use Rattle.go_productions.proofs.Steps.{lacks, goes_on, no_end_paren, on_end_paren}
 
@@ -39,6 +40,18 @@ var_decl_none ts us u a = ap (option_and_then (λ x. Some (var_decl (span_to ts 
 pub var_decl_some : (ts us r : Lexemes) (b : Bool) (ss : ValueSpecs Span) → us ≡ rest_of ts → at span_to (read_decl false) us ≡ Some ((b, ss), r) → var_decl_at ts ≡ Some (var_decl (span_to ts r) b ss, r)
 unfolding var_decl_at
 var_decl_some ts us r b ss u a = ap (option_and_then (λ x. Some (var_decl (span_to ts x.1) x.0.0 x.0.1, x.1))) (ap (at span_to (read_decl false)) (sym u) ∙ a)
+
+pub const_top_none : (ts us : Lexemes) → us ≡ rest_of ts → at span_to (read_decl true) us ≡ None → valued (const_decl_at ts) ≡ None
+const_top_none ts us u a = ap (λ (o : Option (Stmt Span × Lexemes)). valued o) (const_decl_none ts us u a)
+
+pub const_top_some : (ts us r : Lexemes) (b : Bool) (ss : ValueSpecs Span) → us ≡ rest_of ts → at span_to (read_decl true) us ≡ Some ((b, ss), r) → valued (const_decl_at ts) ≡ Some (values (const_decl (span_to ts r) b ss), r)
+const_top_some ts us r b ss u a = ap (λ (o : Option (Stmt Span × Lexemes)). valued o) (const_decl_some ts us r b ss u a)
+
+pub var_top_none : (ts us : Lexemes) → us ≡ rest_of ts → at span_to (read_decl false) us ≡ None → valued (var_decl_at ts) ≡ None
+var_top_none ts us u a = ap (λ (o : Option (Stmt Span × Lexemes)). valued o) (var_decl_none ts us u a)
+
+pub var_top_some : (ts us r : Lexemes) (b : Bool) (ss : ValueSpecs Span) → us ≡ rest_of ts → at span_to (read_decl false) us ≡ Some ((b, ss), r) → valued (var_decl_at ts) ≡ Some (values (var_decl (span_to ts r) b ss), r)
+var_top_some ts us r b ss u a = ap (λ (o : Option (Stmt Span × Lexemes)). valued o) (var_decl_some ts us r b ss u a)
 
 -- ---- one spec, or a group
 
@@ -164,15 +177,15 @@ repeated false ns _ e = absurd cc
 pub spec_repeated : (c : Bool) (ts r : Lexemes) (ns : List (NameAt Span)) → at span_to read_names ts ≡ Some (ns, r) → repeats c (first_of r) ≡ true → spec_at c ts ≡ Some ((span_to ts r, ns, None, no_exprs), r)
 spec_repeated c ts r ns a e = spec_is c ts r ns (Some ((ns, None, no_exprs), r)) a (repeated c ns r e)
 
-valued : (c : Bool) (ns : List (NameAt Span)) (r us : Lexemes) (o : Option (Exprs Span × Lexemes)) → is_equals (first_of r) ≡ true → us ≡ rest_of r → at span_to (read_exprs false) us ≡ o → run (at span_to) (spec_after span_to c ns r) ≡ option_and_then {U = (List (NameAt Span) × Option (TypeExpr Span) × Exprs Span) × Lexemes} (λ xs. Some ((ns, None, xs.0), xs.1)) o
-valued c ns (lex s (assign None) ∷ r) us o e u a = ap (option_and_then {U = (List (NameAt Span) × Option (TypeExpr Span) × Exprs Span) × Lexemes} (λ xs. Some ((ns, None, xs.0), xs.1))) (ap (at span_to (read_exprs false)) (sym u) ∙ a)
-valued c ns _ us o e u a = absurd cc
+given_values : (c : Bool) (ns : List (NameAt Span)) (r us : Lexemes) (o : Option (Exprs Span × Lexemes)) → is_equals (first_of r) ≡ true → us ≡ rest_of r → at span_to (read_exprs false) us ≡ o → run (at span_to) (spec_after span_to c ns r) ≡ option_and_then {U = (List (NameAt Span) × Option (TypeExpr Span) × Exprs Span) × Lexemes} (λ xs. Some ((ns, None, xs.0), xs.1)) o
+given_values c ns (lex s (assign None) ∷ r) us o e u a = ap (option_and_then {U = (List (NameAt Span) × Option (TypeExpr Span) × Exprs Span) × Lexemes} (λ xs. Some ((ns, None, xs.0), xs.1))) (ap (at span_to (read_exprs false)) (sym u) ∙ a)
+given_values c ns _ us o e u a = absurd cc
 
 pub spec_valueless : (c : Bool) (ts r us : Lexemes) (ns : List (NameAt Span)) → at span_to read_names ts ≡ Some (ns, r) → is_equals (first_of r) ≡ true → us ≡ rest_of r → at span_to (read_exprs false) us ≡ None → spec_at c ts ≡ None
-spec_valueless c ts r us ns a e u b = spec_is c ts r ns None a (valued c ns r us None e u b)
+spec_valueless c ts r us ns a e u b = spec_is c ts r ns None a (given_values c ns r us None e u b)
 
 pub spec_values : (c : Bool) (ts r us q : Lexemes) (ns : List (NameAt Span)) (xs : Exprs Span) → at span_to read_names ts ≡ Some (ns, r) → is_equals (first_of r) ≡ true → us ≡ rest_of r → at span_to (read_exprs false) us ≡ Some (xs, q) → spec_at c ts ≡ Some ((span_to ts q, ns, None, xs), q)
-spec_values c ts r us q ns xs a e u b = spec_is c ts r ns (Some ((ns, None, xs), q)) a (valued c ns r us (Some (xs, q)) e u b)
+spec_values c ts r us q ns xs a e u b = spec_is c ts r ns (Some ((ns, None, xs), q)) a (given_values c ns r us (Some (xs, q)) e u b)
 
 typed : (c : Bool) (ns : List (NameAt Span)) (r : Lexemes) → repeats c (first_of r) ≡ false → is_equals (first_of r) ≡ false → run (at span_to) (spec_after span_to c ns r) ≡ run (at span_to) (typed_step span_to c ns r)
 typed c ns (lex s (assign None) ∷ r) e f = absurd cc

@@ -5,12 +5,12 @@ use Rattle.go_tree.specs.declared.spans.Span.{Span}
 use Rattle.go_tree.specs.declared.stmts.Stmt as source
 use Rattle.go_tree.specs.View.{stmt_of}
 use Rattle.go_tree.specs.Lists.{stmts_from}
-use Rattle.go_tree.specs.Tree.{Expr, Exprs, no_exprs, call, Stmt, Stmts, no_stmts, stmt_and, empty, return_, break_, continue_, inner, defer, label}
+use Rattle.go_tree.specs.Tree.{Expr, Exprs, no_exprs, call, Stmt, Stmts, no_stmts, stmt_and, ValueSpecs, const_decl, var_decl, empty, return_, break_, continue_, inner, defer, label}
 use Rattle.go_words.specs.Terminals.{lex, ident, colon, semicolon, brace, end_brace, key_break, key_case, key_const, key_continue, key_default, key_defer, key_for, key_if, key_return, key_switch, key_var}
 use Rattle.go_read.specs.SpellsSpans.{span_to}
 use Rattle.go_read.specs.SpellsTypes.{Lexemes}
 use Rattle.go_read.specs.Spells.{is_empty, SpellsStmt, SpellsSimple, empty_rule, simple_rule, eval_rule, increment_rule, decrement_rule, assign_rule, define_rule}
-use Rattle.go_read.specs.Goals.{read_expr, read_exprs, read_simple, read_stmt, read_stmts, read_block}
+use Rattle.go_read.specs.Goals.{read_decl, read_expr, read_exprs, read_simple, read_stmt, read_stmts, read_block}
 use Rattle.go_read.specs.Programs.{give, ask, run}
 use Rattle.go_read.specs.ReadStmts.{stmt_step, stmts_step, stmts_after, return_step, defer_after, word_stmt}
 use Rattle.go_read.specs.Reading.{at}
@@ -23,6 +23,7 @@ use Rattle.go_productions.specs.Parts.{onto, in_front, const_decl_at, var_decl_a
 use Rattle.go_statements.specs.StmtParts.{closes, ends_stmts, is_bare_call}
 use Rattle.go_productions.proofs.Fronts.{front_none, front_some, front_push}
 use Rattle.go_productions.proofs.Steps.{lacks, goes_on}
+use Rattle.go_statements.proofs.DeclArms.{const_decl_none, const_decl_some, var_decl_none, var_decl_some}
 
 -- ---- lists of statements
 
@@ -94,25 +95,27 @@ stmts_stop front ts r x k ws i h a f n m = front_none stmt_and front (at span_to
 
 -- ---- statements
 
-pub const_none : (ts : Lexemes) → first_of ts ≡ code.Const → const_decl_at ts ≡ None → at span_to read_stmt ts ≡ None
+const_is : (ts : Lexemes) (o : Option (Stmt Span × Lexemes)) → first_of ts ≡ code.Const → const_decl_at ts ≡ o → at span_to read_stmt ts ≡ o
 unfolding stmt_step const_decl_at
-const_none (lex s key_const ∷ ts) f a = finish span_to read_stmt (lex s key_const ∷ ts) (record { is = a })
-const_none _ f a = absurd cc
+const_is (lex s key_const ∷ ts) o f a = finish span_to read_stmt (lex s key_const ∷ ts) (record { is = a })
+const_is _ o f a = absurd cc
 
-pub const_some : (ts r : Lexemes) (x : Stmt Span) → first_of ts ≡ code.Const → const_decl_at ts ≡ Some (x, r) → at span_to read_stmt ts ≡ Some (x, r)
-unfolding stmt_step const_decl_at
-const_some (lex s key_const ∷ ts) r x f a = finish span_to read_stmt (lex s key_const ∷ ts) (record { is = a })
-const_some _ r x f a = absurd cc
+pub const_none : (ts us : Lexemes) → first_of ts ≡ code.Const → us ≡ rest_of ts → at span_to (read_decl true) us ≡ None → at span_to read_stmt ts ≡ None
+const_none ts us f u a = const_is ts None f (const_decl_none ts us u a)
 
-pub var_none : (ts : Lexemes) → first_of ts ≡ code.Var → var_decl_at ts ≡ None → at span_to read_stmt ts ≡ None
+pub const_some : (ts us r : Lexemes) (b : Bool) (ss : ValueSpecs Span) → first_of ts ≡ code.Const → us ≡ rest_of ts → at span_to (read_decl true) us ≡ Some ((b, ss), r) → at span_to read_stmt ts ≡ Some (const_decl (span_to ts r) b ss, r)
+const_some ts us r b ss f u a = const_is ts (Some (const_decl (span_to ts r) b ss, r)) f (const_decl_some ts us r b ss u a)
+
+var_is : (ts : Lexemes) (o : Option (Stmt Span × Lexemes)) → first_of ts ≡ code.Var → var_decl_at ts ≡ o → at span_to read_stmt ts ≡ o
 unfolding stmt_step var_decl_at
-var_none (lex s key_var ∷ ts) f a = finish span_to read_stmt (lex s key_var ∷ ts) (record { is = a })
-var_none _ f a = absurd cc
+var_is (lex s key_var ∷ ts) o f a = finish span_to read_stmt (lex s key_var ∷ ts) (record { is = a })
+var_is _ o f a = absurd cc
 
-pub var_some : (ts r : Lexemes) (x : Stmt Span) → first_of ts ≡ code.Var → var_decl_at ts ≡ Some (x, r) → at span_to read_stmt ts ≡ Some (x, r)
-unfolding stmt_step var_decl_at
-var_some (lex s key_var ∷ ts) r x f a = finish span_to read_stmt (lex s key_var ∷ ts) (record { is = a })
-var_some _ r x f a = absurd cc
+pub var_none : (ts us : Lexemes) → first_of ts ≡ code.Var → us ≡ rest_of ts → at span_to (read_decl false) us ≡ None → at span_to read_stmt ts ≡ None
+var_none ts us f u a = var_is ts None f (var_decl_none ts us u a)
+
+pub var_some : (ts us r : Lexemes) (b : Bool) (ss : ValueSpecs Span) → first_of ts ≡ code.Var → us ≡ rest_of ts → at span_to (read_decl false) us ≡ Some ((b, ss), r) → at span_to read_stmt ts ≡ Some (var_decl (span_to ts r) b ss, r)
+var_some ts us r b ss f u a = var_is ts (Some (var_decl (span_to ts r) b ss, r)) f (var_decl_some ts us r b ss u a)
 
 pub inner_none : (ts : Lexemes) → first_of ts ≡ code.Brace → at span_to read_block ts ≡ None → at span_to read_stmt ts ≡ None
 unfolding stmt_step

@@ -1,13 +1,17 @@
 -- Parts of statements that no goal of the reader is for.
-use Rattle.std.specs.Prelude.{Bool, true, false, List, ◌∷◌, Option, Some, None, option_and_then}
+use Rattle.std.specs.Prelude.{Bool, true, false, List, map, ◌∷◌, Option, Some, None, option_and_then}
 use Rattle.go_tree.specs.declared.spans.Span.{Span}
 use Rattle.go_tree.specs.Tree.{NameAt, TypeExpr, Expr, Exprs, ExprOption, Stmt, Stmts, StmtOption, BlockOption, RangeLeft, Arms, arm, Cases, case, ValueSpecs, spec, define, eval, call, expr_and, no_exprs}
+use Rattle.go_tree.specs.File.{Decl, values}
+use Rattle.go_tree.specs.Lists.{specs_from}
+use Rattle.go_tree.specs.View.{var_spec_of}
+use Rattle.go_statements.specs.declared.decls.Group.{Group}
 use Rattle.go_words.specs.Terminals.{lex, assign, colon, key_case, key_default, key_range}
 use Rattle.go_read.specs.SpellsSpans.{span_to}
 use Rattle.go_read.specs.SpellsTypes.{Lexemes}
 use Rattle.go_read.specs.Goals.{range_clause, read_names, read_exprs, read_clause, read_arm, read_spec, read_stmts}
 use Rattle.go_read.specs.Programs.{ask, run}
-use Rattle.go_read.specs.ReadStmts.{arm_body, arm_test, for_body, for_post, for_test, for_plain, for_after, switch_body, switch_tag}
+use Rattle.go_read.specs.ReadStmts.{arm_body, arm_test, for_body, for_post, for_test, for_plain, for_after, switch_body, switch_tag, switch_after}
 use Rattle.go_read.specs.Reading.{at}
 use Rattle.go_words.specs.declared.terminals.Terminal.{Terminal}
 use Rattle.go_words.specs.declared.terminals.Terminal.TheVariants as code
@@ -120,6 +124,9 @@ switch_body_at whole i t ts = run (at span_to) (switch_body span_to whole i t ts
 unfoldable pub switch_tag_at : Lexemes → StmtOption Span → Lexemes → Option (Stmt Span × Lexemes)
 switch_tag_at whole i ts = run (at span_to) (switch_tag span_to whole i ts)
 
+unfoldable pub switch_after_at : Lexemes → Stmt Span → Lexemes → Option (Stmt Span × Lexemes)
+switch_after_at whole x ts = run (at span_to) (switch_after span_to whole x ts)
+
 -- whether a clause of a `switch` begins here
 abbrev pub case_here : Lexemes → Bool
 case_here (lex s key_case ∷ ts) = true
@@ -147,6 +154,14 @@ abbrev pub case_and : Span × Exprs Span × Stmts Span → Cases Span → Cases 
 case_and x cs = case x.0 x.1 x.2 cs
 
 -- ---- declarations
+
+-- the declaration of the package block that a statement is
+abbrev pub valued : Option (Stmt Span × Lexemes) → Option (Decl Span × Lexemes)
+valued o = option_and_then (λ x. Some (values x.0, x.1)) o
+
+-- specs, and whether they are a group
+abbrev pub group_of : Group → Bool × ValueSpecs Span
+group_of x = (x.grouped, specs_from (map var_spec_of x.specs.items))
 
 -- a spec with its span
 unfoldable pub spec_at : Bool → Lexemes →

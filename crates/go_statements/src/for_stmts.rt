@@ -6,36 +6,46 @@ ghost use Rattle.go_productions.specs.Cursors.{ahead};
 ghost use Rattle.go_read.specs.SpellsSpans.{span_to};
 ghost use Rattle.go_read.specs.Goals.{read_stmt};
 ghost use Rattle.go_read.specs.Reading.{at};
-ghost use Rattle.go_expressions.specs.Bodies.{ReadsBelow};
+ghost use Rattle.go_expressions.specs.Bodies.{Ready};
 ghost use Rattle.go_productions.specs.Answers.{Gives, Shorter};
 ghost use Rattle.go_statements.specs.StmtParts.{defines_here, for_body_at, for_clause_at, for_plain_at, for_post_at, for_test_at, range_at, range_here};
 ghost use Rattle.go_productions.specs.Terminals.{first_of};
 
 use crate::parts::{assigned, evaluated, unboxed};
 use crate::simple_stmts::{defines, simple_after, simple_stmt};
-use go_expressions::{Bodies, Taken, block, expr_list, expression};
+use go_expressions::{Place, Taken, block, expr_list, expression};
 use go_productions::{Cursor, Reading, names};
 use go_tree::{Expr, ExprList, RangeLeft, Stmt, define_stmt, range_stmt};
 use go_words::Terminal;
 
 /// A `for` statement, which begins with its keyword.
 #[tactic(auto, using(crate::proofs::ForArms::for_endless, crate::proofs::ForArms::for_no_first, crate::proofs::ForArms::for_range, crate::proofs::ForArms::for_clause))]
-pub(crate) fn for_stmt<'a, F: Fn(Cursor) -> Taken>(
-    tokens: Cursor<'a>,
-    bodies: &Bodies<F>,
-) -> Reading<'a, Stmt>
-    requires reads { ReadsBelow (F.pre bodies.now.read) (F.post bodies.now.read) bodies.now.limit }
-    requires within { length (ahead tokens) ≤ bodies.now.limit }
-    requires begins { first_of (ahead tokens) ≡ Terminal.For }
-    ensures gives { Gives stmt_of result (at span_to read_stmt (ahead tokens.entry)) }
-    ensures shorter { Shorter result tokens.entry }
+pub(crate) fn for_stmt<'a, F: Fn(Cursor) -> Taken>(place: Place<'a, '_, F>) -> Reading<'a, Stmt>
+    requires ready { Ready F.Fn place }
+    requires begins { first_of (ahead place.at) ≡ Terminal.For }
+    ensures gives { Gives stmt_of result (at span_to read_stmt (ahead place.entry.at)) }
+    ensures shorter { Shorter result place.entry.at }
 {
-    let left = tokens.rest();
+    let left = place.at.rest();
     match left.first() {
-        Terminal::Brace => for_body(tokens, None, None, None, left, bodies),
-        Terminal::Semicolon => for_test(tokens, None, left.rest(), bodies),
-        Terminal::Range => range_body(tokens, RangeLeft::Nothing, left.rest(), bodies),
-        _ => for_clause(tokens, left, bodies),
+        Terminal::Brace => for_body(place.at, None, None, None, Place { at: left, ..place }),
+        Terminal::Semicolon => for_test(
+            place.at,
+            None,
+            Place {
+                at: left.rest(),
+                ..place
+            },
+        ),
+        Terminal::Range => range_body(
+            place.at,
+            RangeLeft::Nothing,
+            Place {
+                at: left.rest(),
+                ..place
+            },
+        ),
+        _ => for_clause(place.at, Place { at: left, ..place }),
     }
 }
 
@@ -43,59 +53,87 @@ pub(crate) fn for_stmt<'a, F: Fn(Cursor) -> Taken>(
 #[tactic(auto, using(crate::proofs::ForArms::clause_exprs_none, crate::proofs::ForArms::clause_assigns, crate::proofs::ForArms::clause_simple_none, crate::proofs::ForArms::clause_simple))]
 fn for_clause<'a, F: Fn(Cursor) -> Taken>(
     whole: Cursor,
-    tokens: Cursor<'a>,
-    bodies: &Bodies<F>,
+    place: Place<'a, '_, F>,
 ) -> Reading<'a, Stmt>
-    requires reads { ReadsBelow (F.pre bodies.now.read) (F.post bodies.now.read) bodies.now.limit }
-    requires within { length (ahead tokens) ≤ bodies.now.limit }
-    requires begins { first_of (ahead tokens) ≢ Terminal.Range }
+    requires ready { Ready F.Fn place }
+    requires begins { first_of (ahead place.at) ≢ Terminal.Range }
     ensures gives { Gives stmt_of result
-        (for_clause_at (ahead whole.entry) (ahead tokens.entry)) }
-    ensures shorter { Shorter result tokens.entry }
+        (for_clause_at (ahead whole.entry) (ahead place.entry.at)) }
+    ensures shorter { Shorter result place.entry.at }
 {
-    if defines(tokens) {
-        return for_defined(whole, tokens, bodies);
+    if defines(place.at) {
+        return for_defined(whole, place);
     }
-    let Some((exprs, left)) = expr_list(tokens, true, bodies)? else {
+    let Some((exprs, left)) = expr_list(Place {
+        header: true,
+        ..place
+    })?
+    else {
         return Ok(None);
     };
     if ranges(left) {
-        return range_body(whole, assigned(exprs), left.rest().rest(), bodies);
+        return range_body(
+            whole,
+            assigned(exprs),
+            Place {
+                at: left.rest().rest(),
+                ..place
+            },
+        );
     }
-    let Some((first_stmt, left)) = simple_after(tokens, exprs, left, true, bodies)? else {
+    let Some((first_stmt, left)) = simple_after(
+        place.at,
+        exprs,
+        Place {
+            at: left,
+            header: true,
+            ..place
+        },
+    )?
+    else {
         return Ok(None);
     };
-    for_plain(whole, first_stmt, left, bodies)
+    for_plain(whole, first_stmt, Place { at: left, ..place })
 }
 
 /// A clause that begins with names and `:=`.
 #[tactic(auto, using(crate::proofs::ForArms::clause_lost, crate::proofs::ForArms::clause_range, crate::proofs::ForArms::clause_valueless, crate::proofs::ForArms::clause_defines))]
 fn for_defined<'a, F: Fn(Cursor) -> Taken>(
     whole: Cursor,
-    tokens: Cursor<'a>,
-    bodies: &Bodies<F>,
+    place: Place<'a, '_, F>,
 ) -> Reading<'a, Stmt>
-    requires reads { ReadsBelow (F.pre bodies.now.read) (F.post bodies.now.read) bodies.now.limit }
-    requires within { length (ahead tokens) ≤ bodies.now.limit }
-    requires begins { first_of (ahead tokens) ≢ Terminal.Range }
-    requires defines { defines_here (ahead tokens) ≡ true }
+    requires ready { Ready F.Fn place }
+    requires begins { first_of (ahead place.at) ≢ Terminal.Range }
+    requires defines { defines_here (ahead place.at) ≡ true }
     ensures gives { Gives stmt_of result
-        (for_clause_at (ahead whole.entry) (ahead tokens.entry)) }
-    ensures shorter { Shorter result tokens.entry }
+        (for_clause_at (ahead whole.entry) (ahead place.entry.at)) }
+    ensures shorter { Shorter result place.entry.at }
 {
-    let Some((names, left)) = names(bodies.room, tokens)? else {
+    let Some((names, left)) = names(place.at)? else {
         return Ok(None);
     };
     let left = left.rest();
     if let Terminal::Range = left.first() {
-        return range_body(whole, RangeLeft::Defines(names), left.rest(), bodies);
+        return range_body(
+            whole,
+            RangeLeft::Defines(names),
+            Place {
+                at: left.rest(),
+                ..place
+            },
+        );
     }
-    let Some((right, left)) = expr_list(left, true, bodies)? else {
+    let Some((right, left)) = expr_list(Place {
+        at: left,
+        header: true,
+        ..place
+    })?
+    else {
         return Ok(None);
     };
-    let span = tokens.span_to(left);
+    let span = place.at.span_to(left);
     let first_stmt = define_stmt(span, names, ExprList::of(right));
-    for_plain(whole, first_stmt, left, bodies)
+    for_plain(whole, first_stmt, Place { at: left, ..place })
 }
 
 /// Whether `=` and `range` stand first.
@@ -116,24 +154,29 @@ fn ranges(tokens: Cursor) -> bool
 fn for_plain<'a, F: Fn(Cursor) -> Taken>(
     whole: Cursor,
     first_stmt: Stmt,
-    tokens: Cursor<'a>,
-    bodies: &Bodies<F>,
+    place: Place<'a, '_, F>,
 ) -> Reading<'a, Stmt>
-    requires reads { ReadsBelow (F.pre bodies.now.read) (F.post bodies.now.read) bodies.now.limit }
-    requires within { length (ahead tokens) ≤ bodies.now.limit }
+    requires ready { Ready F.Fn place }
     ensures gives { Gives stmt_of result
-        (for_plain_at (ahead whole.entry) (stmt_of first_stmt) (ahead tokens.entry)) }
-    ensures shorter { Shorter result tokens.entry }
+        (for_plain_at (ahead whole.entry) (stmt_of first_stmt) (ahead place.entry.at)) }
+    ensures shorter { Shorter result place.entry.at }
 {
-    if let Terminal::Semicolon = tokens.first() {
-        let first_stmt = Some(Box::new(bodies.room.alloc, first_stmt)?);
-        return for_test(whole, first_stmt, tokens.rest(), bodies);
+    if let Terminal::Semicolon = place.at.first() {
+        let first_stmt = Some(Box::new(place.at.room.alloc, first_stmt)?);
+        return for_test(
+            whole,
+            first_stmt,
+            Place {
+                at: place.at.rest(),
+                ..place
+            },
+        );
     }
     let Some(test) = evaluated(first_stmt) else {
         return Ok(None);
     };
-    let test = Box::new(bodies.room.alloc, test)?;
-    for_body(whole, None, Some(test), None, tokens, bodies)
+    let test = Box::new(place.at.room.alloc, test)?;
+    for_body(whole, None, Some(test), None, place)
 }
 
 /// The test of a header and what follows it.
@@ -141,26 +184,44 @@ fn for_plain<'a, F: Fn(Cursor) -> Taken>(
 fn for_test<'a, F: Fn(Cursor) -> Taken>(
     whole: Cursor,
     first_stmt: Option<Box<Stmt>>,
-    tokens: Cursor<'a>,
-    bodies: &Bodies<F>,
+    place: Place<'a, '_, F>,
 ) -> Reading<'a, Stmt>
-    requires reads { ReadsBelow (F.pre bodies.now.read) (F.post bodies.now.read) bodies.now.limit }
-    requires within { length (ahead tokens) ≤ bodies.now.limit }
+    requires ready { Ready F.Fn place }
     ensures gives { Gives stmt_of result
-        (for_test_at (ahead whole.entry) (boxed_stmt_option_of first_stmt) (ahead tokens.entry)) }
-    ensures shorter { Shorter result tokens.entry }
+        (for_test_at (ahead whole.entry) (boxed_stmt_option_of first_stmt) (ahead place.entry.at)) }
+    ensures shorter { Shorter result place.entry.at }
 {
-    if let Terminal::Semicolon = tokens.first() {
-        return for_post(whole, first_stmt, None, tokens.rest(), bodies);
+    if let Terminal::Semicolon = place.at.first() {
+        return for_post(
+            whole,
+            first_stmt,
+            None,
+            Place {
+                at: place.at.rest(),
+                ..place
+            },
+        );
     }
-    let Some((test, left)) = expression(tokens, true, bodies)? else {
+    let Some((test, left)) = expression(Place {
+        header: true,
+        ..place
+    })?
+    else {
         return Ok(None);
     };
-    let test = Box::new(bodies.room.alloc, test)?;
+    let test = Box::new(place.at.room.alloc, test)?;
     let Terminal::Semicolon = left.first() else {
         return Ok(None);
     };
-    for_post(whole, first_stmt, Some(test), left.rest(), bodies)
+    for_post(
+        whole,
+        first_stmt,
+        Some(test),
+        Place {
+            at: left.rest(),
+            ..place
+        },
+    )
 }
 
 /// The last statement of a header, and the body.
@@ -169,24 +230,26 @@ fn for_post<'a, F: Fn(Cursor) -> Taken>(
     whole: Cursor,
     first_stmt: Option<Box<Stmt>>,
     test: Option<Box<Expr>>,
-    tokens: Cursor<'a>,
-    bodies: &Bodies<F>,
+    place: Place<'a, '_, F>,
 ) -> Reading<'a, Stmt>
-    requires reads { ReadsBelow (F.pre bodies.now.read) (F.post bodies.now.read) bodies.now.limit }
-    requires within { length (ahead tokens) ≤ bodies.now.limit }
+    requires ready { Ready F.Fn place }
     ensures gives { Gives stmt_of result
         (for_post_at (ahead whole.entry) (boxed_stmt_option_of first_stmt) (boxed_expr_option_of test)
-        (ahead tokens.entry)) }
-    ensures shorter { Shorter result tokens.entry }
+        (ahead place.entry.at)) }
+    ensures shorter { Shorter result place.entry.at }
 {
-    if let Terminal::Brace = tokens.first() {
-        return for_body(whole, first_stmt, test, None, tokens, bodies);
+    if let Terminal::Brace = place.at.first() {
+        return for_body(whole, first_stmt, test, None, place);
     }
-    let Some((post, left)) = simple_stmt(tokens, true, bodies)? else {
+    let Some((post, left)) = simple_stmt(Place {
+        header: true,
+        ..place
+    })?
+    else {
         return Ok(None);
     };
-    let post = Some(Box::new(bodies.room.alloc, post)?);
-    for_body(whole, first_stmt, test, post, left, bodies)
+    let post = Some(Box::new(place.at.room.alloc, post)?);
+    for_body(whole, first_stmt, test, post, Place { at: left, ..place })
 }
 
 /// The body behind the header.
@@ -196,17 +259,15 @@ fn for_body<'a, F: Fn(Cursor) -> Taken>(
     first_stmt: Option<Box<Stmt>>,
     test: Option<Box<Expr>>,
     post: Option<Box<Stmt>>,
-    tokens: Cursor<'a>,
-    bodies: &Bodies<F>,
+    place: Place<'a, '_, F>,
 ) -> Reading<'a, Stmt>
-    requires reads { ReadsBelow (F.pre bodies.now.read) (F.post bodies.now.read) bodies.now.limit }
-    requires within { length (ahead tokens) ≤ bodies.now.limit }
+    requires ready { Ready F.Fn place }
     ensures gives { Gives stmt_of result
         (for_body_at (ahead whole.entry) (boxed_stmt_option_of first_stmt) (boxed_expr_option_of test)
-        (boxed_stmt_option_of post) (ahead tokens.entry)) }
-    ensures shorter { Shorter result tokens.entry }
+        (boxed_stmt_option_of post) (ahead place.entry.at)) }
+    ensures shorter { Shorter result place.entry.at }
 {
-    let Some((body, left)) = block(tokens, bodies)? else {
+    let Some((body, left)) = block(place)? else {
         return Ok(None);
     };
     let span = whole.span_to(left);
@@ -221,21 +282,23 @@ fn for_body<'a, F: Fn(Cursor) -> Taken>(
 fn range_body<'a, F: Fn(Cursor) -> Taken>(
     whole: Cursor,
     left_side: RangeLeft,
-    tokens: Cursor<'a>,
-    bodies: &Bodies<F>,
+    place: Place<'a, '_, F>,
 ) -> Reading<'a, Stmt>
-    requires reads { ReadsBelow (F.pre bodies.now.read) (F.post bodies.now.read) bodies.now.limit }
-    requires within { length (ahead tokens) ≤ bodies.now.limit }
+    requires ready { Ready F.Fn place }
     ensures gives { Gives stmt_of result
-        (range_at (ahead whole.entry) (range_left_of left_side) (ahead tokens.entry)) }
-    ensures shorter { Shorter result tokens.entry }
+        (range_at (ahead whole.entry) (range_left_of left_side) (ahead place.entry.at)) }
+    ensures shorter { Shorter result place.entry.at }
 {
-    let left_side = Box::new(bodies.room.alloc, left_side)?;
-    let Some((over, left)) = expression(tokens, true, bodies)? else {
+    let left_side = Box::new(place.at.room.alloc, left_side)?;
+    let Some((over, left)) = expression(Place {
+        header: true,
+        ..place
+    })?
+    else {
         return Ok(None);
     };
-    let over = Box::new(bodies.room.alloc, over)?;
-    let Some((body, left)) = block(left, bodies)? else {
+    let over = Box::new(place.at.room.alloc, over)?;
+    let Some((body, left)) = block(Place { at: left, ..place })? else {
         return Ok(None);
     };
     let span = whole.span_to(left);

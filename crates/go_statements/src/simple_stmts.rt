@@ -9,35 +9,30 @@ ghost use Rattle.go_productions.specs.Cursors.{ahead};
 ghost use Rattle.go_read.specs.SpellsSpans.{span_to};
 ghost use Rattle.go_read.specs.Goals.{read_simple, read_simple_after};
 ghost use Rattle.go_read.specs.Reading.{at};
-ghost use Rattle.go_expressions.specs.Bodies.{ReadsBelow};
+ghost use Rattle.go_expressions.specs.Bodies.{Ready};
 ghost use Rattle.go_productions.specs.Answers.{Gives, Shorter, Within};
 ghost use Rattle.go_statements.specs.StmtParts.{define_at, defines_here, is_short, only};
 
-use go_expressions::{Bodies, Taken, expr_list};
+use go_expressions::{Place, Taken, expr_list};
 use go_productions::{Cursor, Reading, names, skip_names};
 use go_tree::{Expr, ExprList, Stmt, assign_stmt, define_stmt};
 use go_words::Terminal;
 
 /// A simple statement; in a header no composite literal begins with a name outside of brackets.
 #[tactic(auto, using(crate::proofs::SimpleArms::simple_defines, crate::proofs::SimpleArms::simple_none, crate::proofs::SimpleArms::simple_goes))]
-pub(crate) fn simple_stmt<'a, F: Fn(Cursor) -> Taken>(
-    tokens: Cursor<'a>,
-    header: bool,
-    bodies: &Bodies<F>,
-) -> Reading<'a, Stmt>
-    requires reads { ReadsBelow (F.pre bodies.now.read) (F.post bodies.now.read) bodies.now.limit }
-    requires within { length (ahead tokens) ≤ bodies.now.limit }
+pub(crate) fn simple_stmt<'a, F: Fn(Cursor) -> Taken>(place: Place<'a, '_, F>) -> Reading<'a, Stmt>
+    requires ready { Ready F.Fn place }
     ensures gives { Gives stmt_of result
-        (at span_to (read_simple header) (ahead tokens.entry)) }
-    ensures shorter { Shorter result tokens.entry }
+        (at span_to (read_simple place.entry.header) (ahead place.entry.at)) }
+    ensures shorter { Shorter result place.entry.at }
 {
-    if defines(tokens) {
-        return define(tokens, header, bodies);
+    if defines(place.at) {
+        return define(place);
     }
-    let Some((exprs, left)) = expr_list(tokens, header, bodies)? else {
+    let Some((exprs, left)) = expr_list(place)? else {
         return Ok(None);
     };
-    simple_after(tokens, exprs, left, header, bodies)
+    simple_after(place.at, exprs, Place { at: left, ..place })
 }
 
 /// Whether names and `:=` stand first.
@@ -61,23 +56,22 @@ fn is_short(terminal: Terminal) -> bool
 
 /// Names, `:=` and values.
 #[tactic(auto, using(crate::proofs::SimpleArms::define_lost, crate::proofs::SimpleArms::define_none, crate::proofs::SimpleArms::define_some))]
-fn define<'a, F: Fn(Cursor) -> Taken>(
-    tokens: Cursor<'a>,
-    header: bool,
-    bodies: &Bodies<F>,
-) -> Reading<'a, Stmt>
-    requires reads { ReadsBelow (F.pre bodies.now.read) (F.post bodies.now.read) bodies.now.limit }
-    requires within { length (ahead tokens) ≤ bodies.now.limit }
-    ensures gives { Gives stmt_of result (define_at header (ahead tokens.entry)) }
-    ensures shorter { Shorter result tokens.entry }
+fn define<'a, F: Fn(Cursor) -> Taken>(place: Place<'a, '_, F>) -> Reading<'a, Stmt>
+    requires ready { Ready F.Fn place }
+    ensures gives { Gives stmt_of result (define_at place.entry.header (ahead place.entry.at)) }
+    ensures shorter { Shorter result place.entry.at }
 {
-    let Some((names, left)) = names(bodies.room, tokens)? else {
+    let Some((names, left)) = names(place.at)? else {
         return Ok(None);
     };
-    let Some((right, left)) = expr_list(left.rest(), header, bodies)? else {
+    let Some((right, left)) = expr_list(Place {
+        at: left.rest(),
+        ..place
+    })?
+    else {
         return Ok(None);
     };
-    let span = tokens.span_to(left);
+    let span = place.at.span_to(left);
     Ok(Some((define_stmt(span, names, ExprList::of(right)), left)))
 }
 
@@ -87,19 +81,20 @@ fn define<'a, F: Fn(Cursor) -> Taken>(
 pub(crate) fn simple_after<'a, F: Fn(Cursor) -> Taken>(
     whole: Cursor,
     exprs: Vec<Expr>,
-    tokens: Cursor<'a>,
-    header: bool,
-    bodies: &Bodies<F>,
+    place: Place<'a, '_, F>,
 ) -> Reading<'a, Stmt>
-    requires reads { ReadsBelow (F.pre bodies.now.read) (F.post bodies.now.read) bodies.now.limit }
-    requires within { length (ahead tokens) ≤ bodies.now.limit }
+    requires ready { Ready F.Fn place }
     ensures gives { Gives stmt_of result
-        (at span_to (read_simple_after header (ahead whole.entry) (exprs_from (map expr_of exprs.items)))
-        (ahead tokens.entry)) }
-    ensures within { Within result tokens.entry }
+        (at span_to (read_simple_after place.entry.header (ahead whole.entry) (exprs_from (map expr_of exprs.items)))
+        (ahead place.entry.at)) }
+    ensures within { Within result place.entry.at }
 {
-    if let Terminal::Assign(op) = tokens.first() {
-        let Some((right, left)) = expr_list(tokens.rest(), header, bodies)? else {
+    if let Terminal::Assign(op) = place.at.first() {
+        let Some((right, left)) = expr_list(Place {
+            at: place.at.rest(),
+            ..place
+        })?
+        else {
             return Ok(None);
         };
         let span = whole.span_to(left);
@@ -111,20 +106,20 @@ pub(crate) fn simple_after<'a, F: Fn(Cursor) -> Taken>(
     let Some(e) = only(exprs) else {
         return Ok(None);
     };
-    match tokens.first() {
+    match place.at.first() {
         Terminal::Increment => {
-            let left = tokens.rest();
+            let left = place.at.rest();
             let span = whole.span_to(left);
             Ok(Some((Stmt::Step { span, e, up: true }, left)))
         }
         Terminal::Decrement => {
-            let left = tokens.rest();
+            let left = place.at.rest();
             let span = whole.span_to(left);
             Ok(Some((Stmt::Step { span, e, up: false }, left)))
         }
         _ => {
-            let span = whole.span_to(tokens);
-            Ok(Some((Stmt::Eval { span, e }, tokens)))
+            let span = whole.span_to(place.at);
+            Ok(Some((Stmt::Eval { span, e }, place.at)))
         }
     }
 }

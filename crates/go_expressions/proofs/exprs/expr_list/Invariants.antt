@@ -10,7 +10,7 @@ use Rattle.go_expressions.proofs.exprs.expr_list.Given as goal
 
 abbrev pub invariant-loop-items : goal.invariant-loop-items
 invariant-loop-items g l =
-    (in_front expr_and (map expr_of l.items.items) (at span_to (read_exprs l.header) (ahead l.left)) ≡ at span_to (read_exprs l.fn.header) (ahead l.fn.tokens)) × (length (ahead l.left) ≤ length (ahead l.fn.tokens))
+    (in_front expr_and (map expr_of l.items.items) (at span_to (read_exprs l.place.header) (ahead l.left)) ≡ at span_to (read_exprs l.fn.place.header) (ahead l.fn.place.at)) × (length (ahead l.left) ≤ length (ahead l.fn.place.at))
 
 abbrev pub decreases-loop-items : goal.decreases-loop-items
 decreases-loop-items g l = length (ahead l.left)

@@ -17,7 +17,7 @@ returns-in_default-evaluated g c = record {
       let us = ahead c.rest-left.result in
       let r = ahead c.in-Some.left in
       let read : at span_to (read_simple true) us ≡ Some (stmt_of c.in-Some.first_stmt, r) = search rules in
-      arm_stop (ahead c.args.tokens) us r (stmt_of c.in-Some.first_stmt) c.first-2.result c.first-3.result
+      arm_stop (ahead c.args.place.at) us r (stmt_of c.in-Some.first_stmt) c.first-2.result c.first-3.result
       c.in-If.ensures.is c.rest-left.ensures.is c.first-2.ensures.is c.in_default-first.not-Semicolon read c.first-3.ensures.is c.in_default-first-2.not-Semicolon c.in_default-evaluated.ensures;
   shorter = tt;
 }
@@ -30,11 +30,11 @@ returns g c = record {
       let read : at span_to (read_simple true) us ≡ Some (stmt_of c.in-Some.first_stmt, r) = search rules in
       let boxed : expr_of c.in_ok-test.test.value ≡ expr_of c.in-Some-evaluated.test = search rules in
       passed_on _ c.arm_body.result _ _
-      (arm_evaluated (ahead c.args.tokens) us r (stmt_of c.in-Some.first_stmt) (expr_of c.in-Some-evaluated.test) c.first-2.result c.first-3.result
+      (arm_evaluated (ahead c.args.place.at) us r (stmt_of c.in-Some.first_stmt) (expr_of c.in-Some-evaluated.test) c.first-2.result c.first-3.result
       c.in-If.ensures.is c.rest-left.ensures.is c.first-2.ensures.is c.in_default-first.not-Semicolon read c.first-3.ensures.is c.in_default-first-2.not-Semicolon c.in-Some-evaluated.ensures
-      ∙ ap (λ (e : Expr Span). arm_body_at (ahead c.args.tokens) no_stmt e r) (sym boxed))
+      ∙ ap (λ (e : Expr Span). arm_body_at (ahead c.args.place.at) no_stmt e r) (sym boxed))
       c.arm_body.ensures.gives;
   shorter =
-      let fewer : length (ahead c.in-Some.left) ≤ length (ahead c.args.tokens) = search rules in
-      shorter_on c.arm_body.result c.args.tokens c.in-Some.left fewer c.arm_body.ensures.shorter;
+      let fewer : length (ahead c.in-Some.left) ≤ length (ahead c.args.place.at) = search rules in
+      shorter_on c.arm_body.result c.args.place.at c.in-Some.left fewer c.arm_body.ensures.shorter;
 }

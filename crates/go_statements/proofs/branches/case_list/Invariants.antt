@@ -10,7 +10,7 @@ use Rattle.go_statements.proofs.branches.case_list.Given as goal
 
 abbrev pub invariant-loop-left : goal.invariant-loop-left
 invariant-loop-left g l =
-    (in_front case_and (map case_of l.items.items) (at span_to read_cases (ahead l.left)) ≡ at span_to read_cases (ahead l.fn.tokens)) × (length (ahead l.left) ≤ length (ahead l.fn.tokens))
+    (in_front case_and (map case_of l.items.items) (at span_to read_cases (ahead l.left)) ≡ at span_to read_cases (ahead l.fn.place.at)) × (length (ahead l.left) ≤ length (ahead l.fn.place.at))
 
 abbrev pub decreases-loop-left : goal.decreases-loop-left
 decreases-loop-left g l = length (ahead l.left)

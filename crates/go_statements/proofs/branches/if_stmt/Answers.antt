@@ -15,7 +15,7 @@ use Rattle.go_statements.proofs.branches.if_stmt.Goals as goal
 pub returns-in_default-first-2 : goal.returns-in_default-first-2
 returns-in_default-first-2 g c = record {
   gives =
-      let ts = ahead c.args.tokens in
+      let ts = ahead c.args.place.at in
       let us = ahead c.loop-arms.left in
       let r = ahead c.in-Some.after in
       let vs = ahead c.rest-left.result in

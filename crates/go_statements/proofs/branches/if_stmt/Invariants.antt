@@ -10,7 +10,7 @@ use Rattle.go_statements.proofs.branches.if_stmt.Given as goal
 
 abbrev pub invariant-loop-arms : goal.invariant-loop-arms
 invariant-loop-arms g l =
-    (in_front arm_and (map arm_of l.arms.items) (at span_to read_if (ahead l.left)) ≡ at span_to read_if (ahead l.fn.tokens)) × (length (ahead l.left) ≤ length (ahead l.fn.tokens))
+    (in_front arm_and (map arm_of l.arms.items) (at span_to read_if (ahead l.left)) ≡ at span_to read_if (ahead l.fn.place.at)) × (length (ahead l.left) ≤ length (ahead l.fn.place.at))
 
 abbrev pub decreases-loop-arms : goal.decreases-loop-arms
 decreases-loop-arms g l = length (ahead l.left)

@@ -10,7 +10,7 @@ use Rattle.go_statements.proofs.branches.switch_tag.Goals as goal
 pub returns-in_default-first : goal.returns-in_default-first
 returns-in_default-first g c = record {
   gives =
-      let ts = ahead c.args.tokens in
+      let ts = ahead c.args.place.at in
       let r = ahead c.in-Some.left in
       let read : at span_to (read_operand true) ts ≡ Some (expr_of c.in-Some.tag, r) = search rules in
       tag_open (ahead c.args.whole) ts r (boxed_stmt_option_of c.args.first_stmt) (expr_of c.in-Some.tag) c.first.result c.first-2.result

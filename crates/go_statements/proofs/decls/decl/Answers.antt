@@ -13,5 +13,5 @@ returns-clause-gives g c =
     let us = ahead c.rest.result in
     let r = ahead c.in-Some-2.left in
     let listed : at span_to (read_specs c.args.constant) us ≡ Some (specs_from (map var_spec_of c.in-Some-2.specs.items), r) = search rules in
-    group_some c.args.constant (ahead c.args.tokens) us r (ahead c.rest-2.result) (specs_from (map var_spec_of c.in-Some-2.specs.items))
+    group_some c.args.constant (ahead c.args.place.at) us r (ahead c.rest-2.result) (specs_from (map var_spec_of c.in-Some-2.specs.items))
     c.in-Paren.ensures.is c.rest.ensures.is listed c.in-EndParen.ensures.is c.rest-2.ensures.is

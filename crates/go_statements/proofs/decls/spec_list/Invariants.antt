@@ -10,7 +10,7 @@ use Rattle.go_statements.proofs.decls.spec_list.Given as goal
 
 abbrev pub invariant-loop-items : goal.invariant-loop-items
 invariant-loop-items g l =
-    (in_front spec_and (map var_spec_of l.items.items) (at span_to (read_specs l.constant) (ahead l.left)) ≡ at span_to (read_specs l.fn.constant) (ahead l.fn.tokens)) × (length (ahead l.left) ≤ length (ahead l.fn.tokens))
+    (in_front spec_and (map var_spec_of l.items.items) (at span_to (read_specs l.constant) (ahead l.left)) ≡ at span_to (read_specs l.fn.constant) (ahead l.fn.place.at)) × (length (ahead l.left) ≤ length (ahead l.fn.place.at))
 
 abbrev pub decreases-loop-items : goal.decreases-loop-items
 decreases-loop-items g l = length (ahead l.left)

@@ -15,7 +15,7 @@ use Rattle.go_statements.proofs.for_stmts.for_defined.Goals as goal
 pub returns : goal.returns
 returns g c = record {
   gives =
-      let ts = ahead c.args.tokens in
+      let ts = ahead c.args.place.at in
       let r = ahead c.in-Some.left in
       let us = ahead c.rest-left.result in
       let q = ahead c.in-Some-2.left in
@@ -28,8 +28,8 @@ returns g c = record {
       ∙ ap (λ (x : Stmt Span). for_plain_at (ahead c.args.whole) x q) (ap (λ (s : Span). define s ns ys) (sym c.span_to-span.ensures) ∙ ap (λ (xs : Exprs Span). define c.span_to-span.result ns xs) (sym c.of.ensures.made) ∙ sym c.define_stmt-first_stmt.ensures))
       c.for_plain.ensures.gives;
   shorter =
-      let first : length (ahead c.in-Some.left) < length (ahead c.args.tokens) = search rules in
+      let first : length (ahead c.in-Some.left) < length (ahead c.args.place.at) = search rules in
       let second = rest_within (ahead c.in-Some.left) (ahead c.rest-left.result) c.rest-left.ensures.is in
       let third : length (ahead c.in-Some-2.left) < length (ahead c.rest-left.result) = search rules in
-      shorter_on c.for_plain.result c.args.tokens c.in-Some-2.left (omega arith) c.for_plain.ensures.shorter;
+      shorter_on c.for_plain.result c.args.place.at c.in-Some-2.left (omega arith) c.for_plain.ensures.shorter;
 }

@@ -12,7 +12,7 @@ use Rattle.go_statements.proofs.stmts.listed.Given as goal
 
 abbrev pub invariant-loop-left : goal.invariant-loop-left
 invariant-loop-left g l =
-    (in_front stmt_and (map stmt_of l.items.items) (at span_to read_stmts (ahead l.left)) ≡ at span_to read_stmts (ahead l.fn.tokens)) × (length (ahead l.left) ≤ length (ahead l.fn.tokens))
+    (in_front stmt_and (map stmt_of l.items.items) (at span_to read_stmts (ahead l.left)) ≡ at span_to read_stmts (ahead l.fn.place.at)) × (length (ahead l.left) ≤ length (ahead l.fn.place.at))
 
 abbrev pub decreases-loop-left : goal.decreases-loop-left
 decreases-loop-left g l = 2 * length (ahead l.left) + still (first_of (ahead l.left))
