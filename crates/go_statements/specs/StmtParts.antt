@@ -124,6 +124,7 @@ switch_body_at whole i t ts = run (at span_to) (switch_body span_to whole i t ts
 unfoldable pub switch_tag_at : Lexemes → StmtOption Span → Lexemes → Option (Stmt Span × Lexemes)
 switch_tag_at whole i ts = run (at span_to) (switch_tag span_to whole i ts)
 
+-- what follows the statement behind `switch`, as it is read from these tokens
 unfoldable pub switch_after_at : Lexemes → Stmt Span → Lexemes → Option (Stmt Span × Lexemes)
 switch_after_at whole x ts = run (at span_to) (switch_after span_to whole x ts)
 
