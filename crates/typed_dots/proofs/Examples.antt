@@ -1,5 +1,5 @@
 -- Dots behind the arguments of a call, by examples (Go specification, Passing arguments to ... parameters).
-use Rattle.std.proofs.Common.{◌≡◌, List, [], ◌∷◌, codes, refl}
+use Rattle.std.proofs.Common.{codes, refl}
 use Rattle.go_tree.specs.declared.exprs.Rest.{Rest}
 use Rattle.go_tree.specs.declared.exprs.Rest.TheVariants.{Plain, Whole}
 use Rattle.go_tree.specs.Tree.{Expr, ident, int_lit, call, expr_and, no_exprs}

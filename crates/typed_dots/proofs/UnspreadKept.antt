@@ -1,8 +1,8 @@
 -- A file in which no call hands on a slice, with a node put in that has no such call, is such a file again.
-use Rattle.std.proofs.Common.{◌≡◌, ℕ, Bool, List, map, Option, subst}
+use Rattle.std.proofs.Common.{ℕ, Bool, List, map, subst}
 use Rattle.go_tree.specs.declared.exprs.Rest.{Rest}
 use Rattle.go_tree.specs.declared.exprs.Rest.TheVariants.{Plain, Whole, Packed, Empty}
-use Rattle.go_tree.specs.Tree.{TypeExpr, Expr, Exprs, ExprOption, Elems, Value, Stmt, Stmts, StmtOption, Arms, Cases, ValueSpecs}
+use Rattle.go_tree.specs.Tree.{Expr, Exprs, ExprOption, Elems, Value, Stmt, Stmts, StmtOption, Arms, Cases, ValueSpecs}
 use Rattle.go_tree.specs.Bare.{bare_expr, bare_exprs, bare_expr_option, bare_elems, bare_value, bare_stmt, bare_stmts, bare_stmt_option, bare_arms, bare_cases, bare_value_specs}
 use Rattle.go_tree.specs.File.{Decl, File}
 use Rattle.go_tree.specs.FileBare.{bare_decl, bare_file}
