@@ -181,6 +181,7 @@ postfix_at whole base ts = run (at span_to) (postfix_program whole base ts)
 abbrev pub arg_and : Expr Span → Exprs Span × Rest → Exprs Span × Rest
 arg_and e x = (expr_and e x.0, x.1)
 
+-- arguments with what stands behind the last, as the grammar tells them
 abbrev pub args_of : Args → Exprs Span × Rest
 args_of x = (exprs_of x.list, x.rest)
 

@@ -2,7 +2,7 @@
 use Rattle.std.proofs.Common.{◌≡◌, ◌≢◌, ℕ, Bool, true, false, List, [], ◌∷◌, Option, Some, None, refl, sym, ap, subst, ◌∙◌}
 use Rattle.std.specs.Prelude.{option_and_then, if◌then◌else◌}
 use Rattle.go_tree.specs.declared.spans.Span.{Span}
-use Rattle.go_tree.specs.Tree.{NameAt, Stmt, ValueSpecs, const_decl, var_decl}
+use Rattle.go_tree.specs.Tree.{NameAt, ValueSpecs, const_decl, var_decl}
 use Rattle.go_tree.specs.File.{ImportDecl, Decl, File, values, types}
 use Rattle.go_words.specs.Terminals.{lex, ident, semicolon, paren, key_const, key_func, key_package, key_type, key_var}
 use Rattle.go_read.specs.SpellsSpans.{span_to}

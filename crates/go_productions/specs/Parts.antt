@@ -143,6 +143,7 @@ args_end (lex e end_paren ∷ r) = Some (Plain, r)
 args_end (lex d ellipsis ∷ ts) = option_map (λ r. (Whole, r)) (args_closed ts)
 args_end _ = None
 
+-- an end of arguments as the grammar tells it: what stands behind the last, and the tokens that are left
 abbrev pub args_end_of : ArgsEnd → Rest × Lexemes
 args_end_of x = (x.rest, ahead x.after)
 
