@@ -101,7 +101,7 @@ module _ {S : Type 0} where
   field-set-bare env i (some_value y) fs = λ v. given (field_key-bare y v) (λ n. find_field env.home n fs)
 
   elem-use-bare : (env : Env) (u : Option GoType) (i : ℕ) (k : ValueOption S) → elem_use env u i (bare_value_option k) ≡ elem_use env u i k
-  elem-use-bare env u i k = λ v. into_or (given u (λ u. elim (fields_of u) [ | Some fs ↦ field-set-bare env i k fs v | None ↦ inner_type (defined_in env) u ]))
+  elem-use-bare env u i k = λ v. into_or (given u (λ u. elim (fields_of u) [ Some fs ↦ field-set-bare env i k fs v | None ↦ inner_type (defined_in env) u ]))
 
 module _ (D : Callees) {S : Type 0} where
   callee-bare : (env : Env) (b : List (List ℕ)) (f : Expr S) → callee D env b (bare_expr f) ≡ callee D env b f

@@ -27,7 +27,6 @@ in_first x xs ys h = among_both x xs ys ∙ or_left (is_among_marks xs x) (is_am
 in_last : (x : MarkRef) (xs ys : List MarkRef) → is_among_marks ys x ≡ true → is_among_marks (xs ++ ys) x ≡ true
 in_last x xs ys h = among_both x xs ys ∙ or_right (is_among_marks xs x) (is_among_marks ys x) h
 
-
 module _ {S : Type 0} {ps : List (Package S)} {marks : List MarkRef} {a m : MarkRef} where
   pub gives-same : (xs : List MarkRef) → GivesWayAmong ps marks a m xs xs
   gives-same xs = record { stays = λ b h. inl h; comes = λ b h. inl h }

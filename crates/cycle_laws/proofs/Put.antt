@@ -80,7 +80,7 @@ module _ {S : Type 0} (ps : List (Package S)) (marks : List MarkRef) (w : Where 
   elem-use-put p None i (some_value v) = refl
   elem-use-put p (Some t) i (some_value v) = by (fields_of t) (is_some (fields_of t)) refl
     where
-      by : (o : Option GoFields) (k : Bool) → is_some o ≡ k → into_or (elim o [ | Some fs ↦ field_set p.env i (some_value (if k then value_with c.span v else new_value c p (key_use p.env (Some t)) v)) fs | None ↦ inner_type (defined_in p.env) t ]) ≡ into_or (elim o [ | Some fs ↦ field_set p.env i (some_value v) fs | None ↦ inner_type (defined_in p.env) t ])
+      by : (o : Option GoFields) (k : Bool) → is_some o ≡ k → into_or (elim o [ Some fs ↦ field_set p.env i (some_value (if k then value_with c.span v else new_value c p (key_use p.env (Some t)) v)) fs | None ↦ inner_type (defined_in p.env) t ]) ≡ into_or (elim o [ Some fs ↦ field_set p.env i (some_value v) fs | None ↦ inner_type (defined_in p.env) t ])
       by None k e = refl
       by (Some fs) false e = cc
       by (Some fs) true e = λ x. into_or (given (field-kept c.span v x) (λ n. find_field p.env.home n fs))
@@ -133,6 +133,7 @@ module _ {S : Type 0} (ps : List (Package S)) (marks : List MarkRef) (w : Where 
   own p u (unary s o d) al = (back ((expr_seen (in_slot (last_slot p.slot (unary s o d) 6 (Some o)) p) (unary_use o) d)) (seen p u (unary s o d) ∷ []) al).0
   own p u (binary s o d e) al = (back ((expr_seen (in_slot (inner_slot p.slot (binary s o d e) (level_of o) false false) p) (operand_use p.env o e) d) ++ (expr_seen (in_slot (last_slot p.slot (binary s o d e) (level_of o + 1) None) p) (operand_use p.env o d) e)) (seen p u (binary s o d e) ∷ []) al).0
   own p u (star s d) al = (back ((expr_seen (in_slot (last_slot p.slot (star s d) 6 None) p) other d)) (seen p u (star s d) ∷ []) al).0
+
   -- ---- callees
 
   marks-alike : (q : Place S) (b : List (List ℕ)) → names_of q.bound ≡ b → (x y : Expr S) → called_mark ps marks w q x ≡ called_mark ps marks w q y → callee D q.env b x ≡ callee D q.env b y
@@ -155,7 +156,6 @@ module _ {S : Type 0} (ps : List (Package S)) (marks : List MarkRef) (w : Where 
   callee-case : (o : Option (Expr S)) (q : Place S) (b : List (List ℕ)) → names_of q.bound ≡ b → (x d : Expr S) → c.expr q called x ≡ o → callee D q.env b d ≡ callee D q.env b x → PutAt q called x → callee D q.env b (otherwise o d) ≡ callee D q.env b x
   callee-case None q b h x d e k al = k
   callee-case (Some y) q b h x d e k al = marks-alike q b h y x (al y e).called_so
-
 
   selector-put : (around : List (List ℕ)) (q : Place S) (b : List (List ℕ)) → names_of q.bound ≡ b → (s : S) (d : Expr S) (m : NameAt S) → ExprStands c around q.env q other d → AllLead (expr_seen q other d)
       → callee D q.env b (selector (c.span s) (new_expr c q other d) (new_name c m)) ≡ callee D q.env b (selector s d m)

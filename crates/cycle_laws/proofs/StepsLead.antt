@@ -86,9 +86,9 @@ module _ (marks : List MarkRef) (before after : List (Package At)) (m : MarkRef)
       by (Some d) = reads (numbered_mark marks before i j n) w v hw hv d d refl
 
   module _ (x : Site At) (change : Decl At → Decl At) (tree : File At) (after_is : after ≡ with_file same_here before x.at tree)
-    (decls_are : decls_with origin_of tree.decls ≡ decls_with origin_of (change_nth x.decl change x.at.source.tree.decls))
-    (package_is : slice_get before x.at.number ≡ Some x.at.of) (file_is : slice_get x.at.of.files x.at.file_number ≡ Some x.at.source)
-    (kept : (d : Decl At) → slice_get x.at.source.tree.decls x.decl ≡ Some d → GivesWayAmong before marks (mark_there x.at x.decl) m (called_among before marks x.at x.decl (decl_seen before x.at.number x.at.of x.at.source.tree (change d))) (called_among before marks x.at x.decl (decl_seen before x.at.number x.at.of x.at.source.tree d))) where
+      (decls_are : decls_with origin_of tree.decls ≡ decls_with origin_of (change_nth x.decl change x.at.source.tree.decls))
+      (package_is : slice_get before x.at.number ≡ Some x.at.of) (file_is : slice_get x.at.of.files x.at.file_number ≡ Some x.at.source)
+      (kept : (d : Decl At) → slice_get x.at.source.tree.decls x.decl ≡ Some d → GivesWayAmong before marks (mark_there x.at x.decl) m (called_among before marks x.at x.decl (decl_seen before x.at.number x.at.of x.at.source.tree (change d))) (called_among before marks x.at x.decl (decl_seen before x.at.number x.at.of x.at.source.tree d))) where
     abbrev put_file : SourceTree At → SourceTree At
     put_file s = record s { tree = tree }
 

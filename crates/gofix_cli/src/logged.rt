@@ -19,7 +19,8 @@ struct Log {
 
 impl Log {
     fn add(&self, digit: u64) {
-        self.digits.set(self.digits.get().wrapping_mul(10).wrapping_add(digit));
+        self.digits
+            .set(self.digits.get().wrapping_mul(10).wrapping_add(digit));
     }
 }
 
@@ -90,13 +91,24 @@ fn file(alloc: Global, path: &str, text: &str) -> Result<MemFile, Fail> {
 fn logged(alloc: Global, main: &str, fails: Vec<u64>) -> Result<(Status, u64), Fail> {
     let words = vec![in alloc; String::from_str(alloc, "--fix")?]?;
     let module = "module example.com/m\n\ngo 1.22\n";
-    let files = vec![in alloc; file(alloc, "go.mod", module)?, file(alloc, "main.go", main)?]?;
+    let files = vec![in alloc;
+        file(alloc, "go.mod", module)?,
+        file(alloc, "main.go", main)?,
+    ]?;
     if !MemTree::distinct(&files) || files.len() > 2 {
         return Err(Fail::new("two paths"));
     }
-    let log = Log { digits: Cell::new(0) };
-    let mut tree = LoggedTree { tree: MemTree::new(alloc, files, 4096, fails)?, log: &log };
-    let mut out = LoggedSink { sink: MemSink::new(alloc, 4096, 4096, Vec::new(alloc))?, log: &log };
+    let log = Log {
+        digits: Cell::new(0),
+    };
+    let mut tree = LoggedTree {
+        tree: MemTree::new(alloc, files, 4096, fails)?,
+        log: &log,
+    };
+    let mut out = LoggedSink {
+        sink: MemSink::new(alloc, 4096, 4096, Vec::new(alloc))?,
+        log: &log,
+    };
     let status = gofix(alloc, &words, &mut tree, &mut out);
     Ok((status, log.digits.get()))
 }

@@ -44,9 +44,11 @@ module _ {S : Type 0} (same : S → S → Bool) (rs : List (run.Package S)) (z :
   variables-swap no_specs k = tt
   variables-swap (spec s ns t es ss) k =
       let types : List (Seen S) = written_seen q t in
-      let vs : List (Seen S) = all_seen q (alike (value_use q.env t) ns) es in
-      (λ x b. all-swap same z e top [] (file_here paths w (headed_there home in_main i is x b (variables ns t es))) q (alike (value_use q.env t) ns) es (at-top same rs z e number pk tree w home in_main i is None q refl refl)
-          (behind same z e top types vs (front same z e top (types ++ vs) (variables_at_top rs q ss) k)), variables-swap ss (behind same z e top (types ++ vs) (variables_at_top rs q ss) k))
+      let vs : List (Seen S) = all_seen q (alike (value_use q.env t) ns) es in (
+        λ x b. all-swap same z e top [] (file_here paths w (headed_there home in_main i is x b (variables ns t es))) q (alike (value_use q.env t) ns) es (at-top same rs z e number pk tree w home in_main i is None q refl refl)
+            (behind same z e top types vs (front same z e top (types ++ vs) (variables_at_top rs q ss) k)),
+        variables-swap ss (behind same z e top (types ++ vs) (variables_at_top rs q ss) k),
+      )
 
   -- what is bound at the start of a function's body is listed there
   bound-listed : (n : List ℕ) (h : Headed S) (f : Func S) (t : FuncType) → is_among n (bound_names (function_binds w h f t)) ≡ true → is_among n (names_of (start_names rs f)) ≡ true
@@ -77,10 +79,15 @@ module _ {S : Type 0} (same : S → S → Bool) (rs : List (run.Package S)) (z :
   function-swaps : (f : Func S) → FunctionTyped top f → AllSwapsThere same z e top (decl_seen rs number pk tree (func f)) → FunctionSwaps same rs z e number pk tree paths w home in_main i is f
   function-swaps f t k =
       let r : List (Seen S) = receiver_seen rs q f.receiver in
-      let g : List (Seen S) = sig_seen q f.sig in
-      (t.0, (t.1, λ x b. stmts-swap same z e top (receiver_names f.receiver ++ sig_names f.sig) (function_here paths w (headed_there home in_main i is x b (a_func f)) f t.0) (body_place rs number pk tree f) f.body
-          (function-begins x b f t.0 (body-begins rs w (world rs) (headed_there home in_main i is x b (a_func f)) (headed_func rs number pk tree f) f).walked_block)
-          (behind same z e top (r ++ g) (stmts_seen (body_place rs number pk tree f) f.body) k)))
+      let g : List (Seen S) = sig_seen q f.sig in (
+        t.0,
+        (
+          t.1,
+          λ x b. stmts-swap same z e top (receiver_names f.receiver ++ sig_names f.sig) (function_here paths w (headed_there home in_main i is x b (a_func f)) f t.0) (body_place rs number pk tree f) f.body
+              (function-begins x b f t.0 (body-begins rs w (world rs) (headed_there home in_main i is x b (a_func f)) (headed_func rs number pk tree f) f).walked_block)
+              (behind same z e top (r ++ g) (stmts_seen (body_place rs number pk tree f) f.body) k),
+        ),
+      )
 
   -- a declaration in which all that stands at the span are uses
   pub decl-swaps : (d : Decl S) → DeclTyped top d → AllSwapsThere same z e top (decl_seen rs number pk tree d) → DeclSwaps same rs z e number pk tree paths w home in_main i is d

@@ -83,7 +83,9 @@ seven = Some (constant (untyped kind.UntypedInt) (Whole (pos 7)))
 module _ (rs : List (run.Package ℕ)) (pk : run.Package ℕ) (tree : File ℕ) where
   use_there : (w : World) → meaning (file_env w 0 [] None) (codes "C") ≡ seven → meaning (file_env w 0 [] None) (codes "D") ≡ seven → AtNth (PackageUses nat_eq rs 31 new_use 0 pk tree w 0 2) 0 before
   use_there w a b = (
-      (tt, λ i. record {
+    (
+      tt,
+      λ i. record {
         old = codes "C";
         new = codes "D";
         constant = seven;
@@ -98,7 +100,10 @@ module _ (rs : List (run.Package ℕ)) (pk : run.Package ℕ) (tree : File ℕ) 
         new_spelled = refl;
         old_free = refl;
         new_free = refl;
-      }), tt)
+      },
+    ),
+    tt,
+  )
 
   uses_before : (w : World) → ValuesEnd (before ++ []) w → AtNth (PackageUses nat_eq rs 31 new_use 0 pk tree w 0 2) 0 before
   uses_before _ after_values = use_there _ refl refl
