@@ -18,7 +18,8 @@ StmtsTaken tokens (Ok None) = at span_to read_stmts (ahead tokens) ≡ None
 StmtsTaken tokens (Err e) = Unit {0}
 
 -- fewer tokens than these may be passed, and the answer is that
-abbrev pub ReadsBelow : {F E : Type 0} → Shared F (Cursor × Unit {0}) (Result (Option (StmtList × ℕ)) E) → F → ℕ → Type 0
+abbrev pub ReadsBelow :
+    {F E : Type 0} → Shared F (Cursor × Unit {0}) (Result (Option (StmtList × ℕ)) E) → F → ℕ → Type 0
 ReadsBelow {E = E} calls read limit = (tokens : Cursor) → length (ahead tokens) < limit → calls.pre read (tokens, tt)
     × ((r : Result (Option (StmtList × ℕ)) E) → calls.post read (tokens, tt) r → StmtsTaken tokens r)
 

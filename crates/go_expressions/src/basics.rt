@@ -1,4 +1,5 @@
-//! Names and basic literals, what is said of expressions beside their trees, and which expressions are literals of functions.
+//! Names and basic literals, what is said of expressions beside their trees, and which expressions are literals of
+//! functions.
 
 ghost use Rattle.std.specs.Prelude.{◌≡◌, IfOk};
 ghost use Rattle.go_tree.specs.View.{expr_of};

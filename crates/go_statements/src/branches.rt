@@ -127,7 +127,8 @@ fn arm_body<'a, F: Fn(Cursor) -> Taken>(
 ) -> Reading<'a, Arm>
     requires ready { Ready F.Fn place }
     ensures gives { Gives arm_of result
-        (arm_body_at (ahead whole.entry) (boxed_stmt_option_of first_stmt) (expr_of test.value) (ahead place.entry.at)) }
+        (arm_body_at (ahead whole.entry) (boxed_stmt_option_of first_stmt) (expr_of test.value)
+        (ahead place.entry.at)) }
     ensures shorter { Shorter result place.entry.at }
 {
     let Some((body, left)) = block(place)? else {

@@ -64,9 +64,9 @@ fn is_taken(alloc: Global, taken: &NameSet, name: &[u8]) -> bool
     taken.has(name) || is_reserved(alloc, name)
 }
 
-/// The first of `base`, `base0`, `base1` and so on that isn't among these names, and is neither a keyword nor predeclared
-/// nor `init` (Go specification, Identifiers; Keywords; Predeclared identifiers; Package initialization); an error
-/// where memory is refused.
+/// The first of `base`, `base0`, `base1` and so on that isn't among these names, and is neither a keyword nor
+/// predeclared nor `init` (Go specification, Identifiers; Keywords; Predeclared identifiers; Package initialization);
+/// an error where memory is refused.
 pub fn new_name(alloc: Global, base: &Name, taken: &NameSet) -> Result<Name, NoMemory>
     ensures { IfOk result (λ name. IsFirst base.now (is_untaken taken.now) name) }
 {

@@ -109,7 +109,8 @@ fn is_blank(name: &Name) -> bool
 pub(crate) fn declare_all(rows: &mut Rows, scopes: &[LocalScope]) -> Result<(), NoMemory>
     requires { IsEven rows.old }
     ensures even { OnOk result (IsEven rows.new) }
-    ensures locals { OnOk result ((q : List ℕ) → locals_of rows.new q ≡ locals_of rows.old q ++ extents_named q scopes.now) }
+    ensures locals { OnOk result
+        ((q : List ℕ) → locals_of rows.new q ≡ locals_of rows.old q ++ extents_named q scopes.now) }
     ensures outside { OnOk result (KeepsOutside rows.old rows.new) }
 {
     for scope in scopes {

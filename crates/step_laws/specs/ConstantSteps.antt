@@ -21,7 +21,8 @@ use Rattle.step_laws.specs.DeclStands.{DeclStands, body_there, AtNth, changed}
 module _ {S : Type 0} (same : S → S → Bool) (rs : List (Package S)) (z : S) (e : Expr S) (number : ℕ) (pk : Package S)
     (file : File S) where
   module _ (w : World) where
-    -- a declaration of the file, in a package with this number, which has the name `main` or not, in a file with this number and these imports
+    -- a declaration of the file, in a package with this number, which has the name `main` or not, in a file with this
+    -- number and these imports
     abbrev pub DeclThereStands : ℕ → Bool → ℕ → Environment Entity → Decl S → Type 0
     DeclThereStands home in_main i is d =
         DeclStands same rs (changes_for same z (as_expr e)) (λ t u. Unit {0}) (file_env w home is)

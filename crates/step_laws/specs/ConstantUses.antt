@@ -20,8 +20,8 @@ use Rattle.step_laws.specs.ConstantSteps.{constant_put}
 -- At the top of a file, in a world where the rounds of a program have ended that holds the declaration `const c = f`:
 -- `x` names the constant, and `e` means what `f` means where the constant is declared. Neither name is declared around
 -- the place.
-pub record UseOfConstant {S : Type 0} (ps : Program S) (h : Headed S) (c : NameAt S) (f : Expr S) (w : World) (top : Env)
-    (p : Place S) (x e : Expr S) : Type 0 where
+pub record UseOfConstant {S : Type 0} (ps : Program S) (h : Headed S) (c : NameAt S) (f : Expr S) (w : World)
+    (top : Env) (p : Place S) (x e : Expr S) : Type 0 where
   pub meant : Option Entity
   pub declares : NamesConstant ps (headed ps) h c f meant
   pub ended : ValuesEnd ps w

@@ -36,7 +36,8 @@ use Rattle.step_laws.specs.SwapPrograms.{DeclSwaps, PackageSwaps, members_put}
 
 -- ---- what the walk puts
 
--- where all that the walk puts has the same facts, an expression is one with parts replaced by parts with the same facts
+-- where all that the walk puts has the same facts, an expression is one with parts replaced by parts with the same
+-- facts
 abbrev pub WalkedExpressions : Type 0
 WalkedExpressions =
     (c : Changes Span) (around : List (List ℕ)) (env : Env) (p : Place Span) (u : Use) (x : Expr Span) →

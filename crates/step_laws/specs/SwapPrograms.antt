@@ -44,7 +44,8 @@ module _ {S : Type 0} (same : S → S → Bool) (rs : List (run.Package S)) (z :
       -- the body of a function whose header is typed
       abbrev pub FunctionSwaps : Function S → Type 0
       FunctionSwaps f =
-          (g : FuncType) × ((func_type (env_of w (headed_there home in_main file is f.span true (a_func f)) None) f.sig ≡
+          (g : FuncType) × ((func_type
+          (env_of w (headed_there home in_main file is f.span true (a_func f)) None) f.sig ≡
           Some g)
           × ((x : S) (b : Bool) → StmtsSwap same z e (function_here paths w
           (headed_there home in_main file is x b (a_func f)) f g) (body_place rs number pk tree f) f.body))

@@ -56,10 +56,12 @@ a_field n p i = record { name = n; package_number = p; of = i }
 -- fields of which the test tells that they are the same are
 pub row_field_is : (f g : NodeField) → same_field f g ≡ true → f ≡ g
 row_field_is f g e =
-    let a : (same_package f.package_number g.package_number && nat_eq f.of g.of) ≡ true = and_right (bytes_eq f.name g.name) _ e in
+    let a : (same_package f.package_number g.package_number && nat_eq f.of g.of) ≡ true =
+    and_right (bytes_eq f.name g.name) _ e in
     ap₂ (λ n p. a_field n p f.of) (bytes_same f.name g.name (and_left (bytes_eq f.name g.name) _ e))
     (package_same f.package_number g.package_number (and_left (same_package f.package_number g.package_number) _ a))
-    ∙ ap (λ i. a_field g.name g.package_number i) (nat_same f.of g.of (and_right (same_package f.package_number g.package_number) _ a))
+    ∙ ap (λ i. a_field g.name g.package_number i)
+    (nat_same f.of g.of (and_right (same_package f.package_number g.package_number) _ a))
 
 -- a field is the same as itself
 pub row_field_self : (f : NodeField) → same_field f f ≡ true
@@ -109,7 +111,8 @@ same_row_self (untyped_node k) = nat_self (kind_number k)
 same_row_self nil_node = refl
 
 -- a test of what values are made of, where it tells which are the same
-module _ {A B : Type 0} (f : A → B) (same : B → B → Bool) (is : (a b : B) → same a b ≡ true → a ≡ b) (self : (a : B) → same a a ≡ true) where
+module _ {A B : Type 0} (f : A → B) (same : B → B → Bool) (is : (a b : B) → same a b ≡ true → a ≡ b)
+    (self : (a : B) → same a a ≡ true) where
   -- the test passes for what is equal
   turned : (a b : B) → a ≡ b → same b a ≡ true
   turned a b e = subst (λ v. same v a ≡ true) e (self a)
@@ -119,7 +122,8 @@ module _ {A B : Type 0} (f : A → B) (same : B → B → Bool) (is : (a b : B) 
   decided_equiv =
       record {
         refl = λ x. self (f x);
-        symm = λ x y. both_ways (same (f x) (f y)) (same (f y) (f x)) (λ e. turned (f x) (f y) (is (f x) (f y) e)) (λ e. turned (f y) (f x) (is (f y) (f x) e));
+        symm = λ x y. both_ways (same (f x) (f y)) (same (f y) (f x)) (λ e. turned (f x) (f y) (is (f x) (f y) e))
+            (λ e. turned (f y) (f x) (is (f y) (f x) e));
         congr = λ x y z e. ap (λ v. same v (f z)) (is (f x) (f y) e);
       }
 
