@@ -21,7 +21,7 @@ use Rattle.go_types.specs.Primary.{converted, append_call, cap_call, len_call, l
 use Rattle.go_types.specs.Literals.{literal_takes, built}
 use Rattle.go_types.proofs.Agreeing.{from_given}
 use Rattle.go_kernel.specs.Kernel as k
-use Rattle.go_kernel.specs.Kernel.{Program, Op, gives, Term, Vals, Both, Prim}
+use Rattle.go_kernel.specs.Kernel.{Program, Op, gives, Term, Both, Prim}
 use Rattle.go_kernel.specs.Conditions.{width, plus, then', equal'}
 use Rattle.go_translation.specs.Values.{constant_term, kind_at}
 use Rattle.go_translation.specs.Values as v

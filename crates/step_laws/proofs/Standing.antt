@@ -11,7 +11,7 @@ use Rattle.go_types.specs.Entities.{Env, defined_in, extend, in_block, refused}
 use Rattle.go_types.specs.TypeNames.{type_meant, written_type}
 use Rattle.go_types.specs.Literals.{is_struct, field_key, key_type, inner_type, literal_type}
 use Rattle.go_types.specs.Statements.{bind_each, no_values}
-use Rattle.go_types.specs.Typing.{parts, all_parts, places, used_all, declares, declares_first, range_declares, binds_of, literal_env, right_values, labelled, Repeated, nothing_to_repeat}
+use Rattle.go_types.specs.Typing.{parts, all_parts, places, declares, declares_first, range_declares, binds_of, literal_env, right_values, labelled, Repeated, nothing_to_repeat}
 use Rattle.go_types.specs.Typing as typing
 use Rattle.run_rules.specs.Surroundings.{Use, whole, stored, updated, called, deferred_call, alone, other, a_slot, Place, alike, into_type, head_use, later_uses, arg_uses, unary_use, operand_use, first_operand_use, right_uses, every_use, value_use, return_uses, elem_use, key_use, inner_slot, last_slot, in_slot, callee_place, comma_slot, elem_closed, after_stmt, after_first, block, looping, switching, in_heading, at_stmt, plain_slot, ranged, in_literal, repeated_by, in_constant, after_constants, before_repeats, after_variables}
 use Rattle.run_rules.specs.Places.{after_arms}

@@ -11,7 +11,7 @@ use Rattle.pkg_graph.specs.Package.{SourceTree, Package, import_specs}
 use Rattle.pkg_graph.specs.Members.{Target, local, imported, member, predeclared, block_names, items_from, decls_from, files_from, package_block, import_name}
 use Rattle.go_types.specs.Entities.{Entity, World, block_of, package_of, universe}
 use Rattle.go_types.specs.Programs as source
-use Rattle.go_types.specs.Programs.{SourcePackage, SourceFile, Program, Headed, headed, headed_package, headed_files, file_block, is_main}
+use Rattle.go_types.specs.Programs.{SourceFile, Program, Headed, headed, headed_package, headed_files, is_main}
 use Rattle.go_types.specs.Collect.{DeclaredTypes, block_by, types_declared, valued_world}
 use Rattle.typed_in_place.proofs.Collected.{valued_settled}
 use Rattle.form_in_place.specs.Places.{is_member}

@@ -1,5 +1,5 @@
 -- The literal that a run writes for a call is written from the function, where no obstacle is found; so the call means it (Go specification, Calls; Function literals; Defer statements).
-use Rattle.std.specs.Prelude.{◌≡◌, refl, ℕ, Bool, true, false, List, [], ◌∷◌, ◌++◌, Option, Some, None, nat_eq}
+use Rattle.std.specs.Prelude.{◌≡◌, refl, Bool, true, false, List, [], None, nat_eq}
 use Rattle.std.proofs.Common.{arith}
 use Rattle.go_tree.specs.Tree.{Sig, func_lit, Stmts}
 use Rattle.scope_names.specs.Means.{Environment}

@@ -1,5 +1,5 @@
 -- A name of the body is written as it may be, where no obstacle is found at it (Go specification, Qualified identifiers; Exported identifiers; Declarations and scope).
-use Rattle.std.specs.Prelude.{◌≡◌, refl, ℕ, zero, suc, Bool, true, false, not, ◌&&◌, List, [], ◌∷◌, Option, Some, None, is_some, if◌then◌else◌, nat_eq}
+use Rattle.std.specs.Prelude.{◌≡◌, refl, ℕ, Bool, true, false, not, ◌&&◌, List, [], ◌∷◌, Option, Some, None, is_some, if◌then◌else◌, nat_eq}
 use mathlib.Core.Path.{ap, sym, ◌∙◌, subst}
 use Rattle.std.proofs.Common.{arith}
 use Rattle.go_tree.specs.Tree.{Expr, ident, selector}
@@ -10,11 +10,10 @@ use Rattle.pkg_graph.specs.Members.{Target, local, imported, member, predeclared
 use Rattle.go_types.specs.Answers.{given, otherwise, is_among}
 use Rattle.go_types.specs.Entities.{Entity, World, meaning, universe, block_of, package_of, is_exported, exported}
 use Rattle.form_in_place.specs.Places.{SameName, has_home, is_member}
-use Rattle.form_in_place.specs.Leaves.{Leaf}
 use Rattle.form_in_place.specs.Written.{Written, w_leaf, w_local, w_outer}
 use Rattle.form_in_place.specs.Leaves as rules
 use Rattle.run_rules.specs.Surroundings.{Place, is_local}
-use Rattle.run_rules.specs.Sites.{Where, outer, outer_meaning, same_target, mark_of}
+use Rattle.run_rules.specs.Sites.{Where, outer, outer_meaning, mark_of}
 use Rattle.run_rules.specs.Naming.{Names, member_qualifier}
 use Rattle.run_rules.specs.FormTrees.{a_name, outside_name}
 use Rattle.run_rules.specs.Obstacles.{hidden_name, shadowed_meaning, shadowed_name, means_this, hidden_member}

@@ -13,18 +13,17 @@ use Rattle.go_types.specs.Entities.{Entity, World, package_of, is_exported, defi
 use Rattle.go_types.specs.Primary.{fields_in}
 use Rattle.form_in_place.specs.Places.{SeenFields, SeenIn, SelectorAlike}
 use Rattle.form_in_place.specs.Written.{WrittenBody}
-use Rattle.form_in_place.specs.Leaves.{Leaf, LiteralAlike}
 use Rattle.form_in_place.specs.Leaves as rules
 use Rattle.form_in_place.proofs.Seen.{exported_selector}
 use Rattle.form_in_place.specs.Places.{open_in}
 use Rattle.run_rules.specs.Surroundings.{Use, Place, Seen, seen, seen_type, seen_stmt, inner_slot, in_slot}
 use Rattle.run_rules.specs.Sites.{Where}
 use Rattle.run_rules.specs.Naming.{Names}
-use Rattle.run_rules.specs.Obstacles.{hidden_selection, hidden_here, shadowed_here, first_answer, hidden_name, shadowed_name}
+use Rattle.run_rules.specs.Obstacles.{hidden_selection, hidden_here, shadowed_here, first_answer}
 use Rattle.run_rules.specs.Places.{stmts_seen}
 use Rattle.run_rules.specs.Rewriting.{new_stmts}
 use Rattle.written_literal.specs.Within.{Within}
-use Rattle.written_literal.specs.Fine.{keeping, is_package, names_package, is_call, FineElems, FineSelector, Fine, AllFine}
+use Rattle.written_literal.specs.Fine.{keeping, names_package, FineSelector, Fine, AllFine}
 use Rattle.written_literal.specs.Fine as fine
 use Rattle.written_literal.specs.Meant.{Serves}
 use Rattle.written_literal.specs.KnownNames.{landing, KnownNames}
