@@ -1,3 +1,4 @@
 pub mod SetLaws
+pub mod AroundLaws
 pub mod BlockLaws
 pub mod FreshLaws

@@ -2,3 +2,4 @@ pub mod EachOnce
 pub mod Reserved
 pub mod Walk
 pub mod LocalScopes
+pub mod Around

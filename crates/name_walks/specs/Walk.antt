@@ -26,7 +26,7 @@ pub record Walk : Type 0 where
 unfoldable pub walk_of : NameWalk → Walk
 walk_of w = record {
   wanted = w.wanted;
-  around = w.around.items;
+  around = w.around;
   found = w.found.items;
   blocks = w.blocks.items;
   scopes = w.scopes.items;

@@ -1,6 +1,7 @@
 //! What a walk over a tree gathers of names, sets of names, and names that are new to a set.
 #![tactic(auto)]
 
+mod around;
 mod new_names;
 mod sets;
 mod walk;

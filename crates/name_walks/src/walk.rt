@@ -1,11 +1,11 @@
 //! Names gathered in the order of the source.
 
 ghost use Rattle.std.specs.Prelude.{◌≡◌, OnOk, IfOk, option_and_then};
-ghost use Rattle.go_words.specs.Tokens.Pieces.{is_among};
 ghost use Rattle.go_tree.specs.View.{name_at_of};
 ghost use Rattle.scope_names.specs.Means.{is_blank};
 ghost use Rattle.name_walks.specs.Walk.{walk_of, start, finding, mention, used, bind, declare, enter, hold, end_in, innermost, learn, known_with, nesting, leave};
 
+use crate::around::NamesAround;
 use crate::sets::{NameSet, copy_of};
 use go_tree::{Name, NameAt, NoMemory, Span};
 use std::alloc::Global;
@@ -53,7 +53,7 @@ pub struct LocalScope {
 pub struct NameWalk {
     alloc: Global,
     wanted: Wanted,
-    around: Vec<Name>,
+    around: NamesAround,
     found: Vec<Name>,
     blocks: Vec<OpenBlock>,
     scopes: Vec<LocalScope>,
@@ -68,7 +68,7 @@ impl NameWalk {
         NameWalk {
             alloc,
             wanted,
-            around: Vec::new(alloc),
+            around: NamesAround::new(alloc),
             found: Vec::new(alloc),
             blocks: Vec::new(alloc),
             scopes: Vec::new(alloc),
@@ -116,13 +116,21 @@ impl NameWalk {
             Wanted::Identifiers => self.find(name),
             Wanted::Binders | Wanted::Scopes => Ok(()),
             Wanted::Free => {
-                if self.is_declared(name) {
+                if self.around.has(name) {
                     Ok(())
                 } else {
                     self.find(name)
                 }
             }
         }
+    }
+
+    /// A name that is a key of a composite literal. Whether it is that of a field is a question of types, which a tree
+    /// doesn't answer, so it counts as used (Go specification, Composite literals).
+    pub fn use_key(&mut self, name: &Name) -> Result<(), NoMemory>
+        ensures { OnOk result (walk_of self.new ≡ used name.now (walk_of self.old)) }
+    {
+        self.use_name(name)
     }
 
     /// A name in the place where it is declared.
@@ -143,17 +151,8 @@ impl NameWalk {
     {
         match self.wanted {
             Wanted::Identifiers | Wanted::Binders | Wanted::Scopes => Ok(()),
-            Wanted::Free => {
-                self.around.push(Name::copied(self.alloc, name.items())?)?;
-                Ok(())
-            }
+            Wanted::Free => self.around.push(name),
         }
-    }
-
-    fn is_declared(&self, name: &Name) -> bool
-        ensures { result ≡ is_among (walk_of self.now).around name.now }
-    {
-        self.around.iter().any(|n| n.items() == name.items())
     }
 
     /// The begin of a block that ends before `to`.

@@ -134,6 +134,7 @@ fn value_option_names(names: &mut NameWalk, value: &Option<Value>) -> Result<(),
 {
     match value {
         None => Ok(()),
+        Some(Value::Plain(Expr::Ident { name, .. })) => names.use_key(name),
         Some(value) => value_names(names, value),
     }
 }

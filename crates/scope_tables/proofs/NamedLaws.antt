@@ -8,7 +8,7 @@ use Rattle.std.proofs.lemmas.Bool.Decides.{leb_tells}
 use Rattle.std.proofs.lemmas.Option.{slice_get-get_or, get_or_from_slice_get}
 use Rattle.scope_names.specs.Means.{or_else}
 use Rattle.scope_tables.specs.declared.named.Held.{Held}
-use Rattle.scope_tables.specs.NamedScopes.{Extent, extent_of, is_held, innermost, IsLinked, IsKept, Behind, Follows}
+use Rattle.scope_tables.specs.NamedScopes.{Extent, extent_of, is_held, innermost, IsLinked, IsKept, Behind, Ended, LeadsBack, Follows}
 
 and_false : (b : Bool) → (b && false) ≡ false
 and_false true = refl
@@ -103,10 +103,6 @@ goes_down hs count x linked some within e =
 
 -- ---- a declaration more
 
--- those behind the first ones have ended before `to`
-abbrev pub Ended : ℕ → List Held → ℕ → Type 0
-Ended to hs count = (j : ℕ) (d : Held) → count ≤ j → j < length hs → (get_or hs j d).to ≤ to
-
 pub reach_none : (to : ℕ) (hs : List Held) → Ended to hs (length hs)
 reach_none to hs = λ j d low high. absurd (omega (arith, low, high))
 
@@ -119,10 +115,12 @@ reach_step to hs count x linked some within e ended b = λ j d low high. by j d 
         let below = until_entry hs count x linked some within e j d low p.1 in
         omega (arith, below, ended)
 
-linked_push : (hs : List Held) (x : Held) → IsLinked hs → x.before ≤ length hs → Ended x.to hs x.before → IsLinked (hs ++ x ∷ [])
-linked_push hs x linked within ended = record {
+linked_push : (hs : List Held) (x : Held) → IsLinked hs → x.before ≤ length hs → Ended x.to hs x.before → x.far.first ≤ length hs → Ended x.far.ended hs x.far.first → x.to ≤ x.far.ended → IsLinked (hs ++ x ∷ [])
+linked_push hs x linked within ended far_within far_ended far_last = record {
   fewer = λ i d h. fewer_by i d (one_more i h) (leb_tells (length hs) i);
   ended = λ i j d h low high. ended_by i j d (one_more i h) low high (leb_tells (length hs) i);
+  farther = λ i d h. farther_by i d (one_more i h) (leb_tells (length hs) i);
+  passed = λ i j d h low high. passed_by i j d (one_more i h) low high (leb_tells (length hs) i) (leb_tells (length hs) j);
 }
   where
     one_more : (i : ℕ) → i < length (hs ++ x ∷ []) → i < length hs + 1
@@ -139,6 +137,12 @@ linked_push hs x linked within ended = record {
         subst (λ z. z.before ≤ i) (sym (seam i d h low)) (omega (arith, within, low))
     fewer_by i d h (inr p) = subst (λ z. z.before ≤ i) (sym (get_or_append_left hs (x ∷ []) d i p.1)) (linked.fewer i d p.1)
 
+    farther_by : (i : ℕ) (d : Held) → i < length hs + 1 → ((nat_le (length hs) i ≡ true) × (length hs ≤ i)) ⊎ ((nat_le (length hs) i ≡ false) × (i < length hs)) → (get_or (hs ++ x ∷ []) i d).far.first ≤ i
+    farther_by i d h (inl p) =
+        let low = p.1 in
+        subst (λ z. z.far.first ≤ i) (sym (seam i d h low)) (omega (arith, far_within, low))
+    farther_by i d h (inr p) = subst (λ z. z.far.first ≤ i) (sym (get_or_append_left hs (x ∷ []) d i p.1)) (linked.farther i d p.1)
+
     ended_by : (i j : ℕ) (d : Held) → i < length hs + 1 → (get_or (hs ++ x ∷ []) i d).before ≤ j → j < i → ((nat_le (length hs) i ≡ true) × (length hs ≤ i)) ⊎ ((nat_le (length hs) i ≡ false) × (i < length hs))
         → (get_or (hs ++ x ∷ []) j d).to ≤ (get_or (hs ++ x ∷ []) i d).to
     ended_by i j d h low high (inl p) =
@@ -154,22 +158,46 @@ linked_push hs x linked within ended = record {
         (subst (λ z. z.to ≤ (get_or hs i d).to) (sym (get_or_append_left hs (x ∷ []) d j inside))
         (linked.ended i j d last (subst (λ z. z.before ≤ j) there low) high))
 
-pub kept_push : (hs : List Held) (x : Held) (o t : Bool) → IsKept o hs → x.before ≤ length hs → Ended x.to hs x.before → (t ≡ true → o ≡ true) → (t ≡ true → Follows hs x.from) → IsKept t (hs ++ x ∷ [])
-kept_push hs x o t kept within ended order follows = record {
-  linked = linked_push hs x kept.linked within ended;
+    passed_by : (i j : ℕ) (d : Held) → i < length hs + 1 → (get_or (hs ++ x ∷ []) i d).far.first ≤ j → j ≤ i → ((nat_le (length hs) i ≡ true) × (length hs ≤ i)) ⊎ ((nat_le (length hs) i ≡ false) × (i < length hs))
+        → ((nat_le (length hs) j ≡ true) × (length hs ≤ j)) ⊎ ((nat_le (length hs) j ≡ false) × (j < length hs))
+        → (get_or (hs ++ x ∷ []) j d).to ≤ (get_or (hs ++ x ∷ []) i d).far.ended
+    passed_by i j d h low high (inl p) (inl r) =
+        let below : j < length hs + 1 = omega (arith, h, high) in
+        subst (λ z. (get_or (hs ++ x ∷ []) j d).to ≤ z.far.ended) (sym (seam i d h p.1)) (subst (λ z. z.to ≤ x.far.ended) (sym (seam j d below r.1)) far_last)
+    passed_by i j d h low high (inl p) (inr r) =
+        let here = subst (λ z. z.far.first ≤ j) (seam i d h p.1) low in
+        subst (λ z. (get_or (hs ++ x ∷ []) j d).to ≤ z.far.ended) (sym (seam i d h p.1))
+        (subst (λ z. z.to ≤ x.far.ended) (sym (get_or_append_left hs (x ∷ []) d j r.1)) (far_ended j d here r.1))
+    passed_by i j d h low high (inr p) t =
+        let last = p.1 in
+        let inside : j < length hs = omega (arith, last, high) in
+        let there = get_or_append_left hs (x ∷ []) d i last in
+        subst (λ z. (get_or (hs ++ x ∷ []) j d).to ≤ z.far.ended) (sym there)
+        (subst (λ z. z.to ≤ (get_or hs i d).far.ended) (sym (get_or_append_left hs (x ∷ []) d j inside))
+        (linked.passed i j d last (subst (λ z. z.far.first ≤ j) there low) high))
+
+pub kept_push : (hs : List Held) (x : Held) (o t : Bool) → IsKept o hs → x.before ≤ length hs → Ended x.to hs x.before
+    → x.far.first ≤ length hs → Ended x.far.ended hs x.far.first → x.to ≤ x.far.ended → (t ≡ true → o ≡ true) → (t ≡ true → Follows hs x.from) → IsKept t (hs ++ x ∷ [])
+kept_push hs x o t kept within ended far_within far_ended far_last order follows = record {
+  linked = linked_push hs x kept.linked within ended far_within far_ended far_last;
   sorted = λ e. IsNonDecreasingBy-push (λ h. h.from) hs x (kept.sorted (order e)) (follows e);
 }
 
 pub kept_none : (o : Bool) → IsKept o []
 kept_none o = record {
-  linked = record { fewer = λ i d h. absurd (omega (arith, h)); ended = λ i j d h low high. absurd (omega (arith, h)) };
+  linked = record {
+    fewer = λ i d h. absurd (omega (arith, h));
+    ended = λ i j d h low high. absurd (omega (arith, h));
+    farther = λ i d h. absurd (omega (arith, h));
+    passed = λ i j d h low high. absurd (omega (arith, h));
+  };
   sorted = λ e. λ i j d low high. absurd (omega (arith, high));
 }
 
 -- ---- as the code reads entries
 
 abbrev pub no_entry : Held
-no_entry = record { declared_at = record { start = 0; end = 0 }; from = 0; to = 0; before = 0 }
+no_entry = record { declared_at = record { start = 0; end = 0 }; from = 0; to = 0; before = 0; far = record { first = 0; ended = 0; ways = 0 } }
 
 abbrev pub entry_at : List Held → ℕ → Held
 entry_at hs count = get_or hs (count - 1) no_entry
@@ -208,3 +236,33 @@ reach_entry to hs count linked some within ended b = reach_step to hs count (ent
 
 pub none_left : (at : ℕ) (hs : List Held) (count : ℕ) → count ≤ 0 → Behind at hs count → None ≡ innermost at (map extent_of hs)
 none_left at hs count none b = sym (none_held at hs (λ j d low high. b j d (omega (arith, none)) high))
+
+-- ---- far ways
+
+pub way_entry : (hs : List Held) (count : ℕ) → IsLinked hs → 0 < count → count ≤ length hs → LeadsBack hs count (entry_at hs count).far
+way_entry hs count linked some within = record {
+  fewer =
+      let down : (entry_at hs count).far.first ≤ count - 1 = subst (λ z. z.far.first ≤ count - 1) (sym (again hs count some within)) (linked.farther (count - 1) (entry_at hs count) inside) in
+      omega (arith, down, some);
+  ended = λ j d low high.
+      let same : get_or hs (count - 1) d ≡ entry_at hs count = same_entry hs (count - 1) (entry_at hs count) d inside (again hs count some within) in
+      subst (λ z. (get_or hs j d).to ≤ z.far.ended) same
+      (linked.passed (count - 1) j d inside (subst (λ z. z.far.first ≤ j) (sym same) low) (omega (arith, high, some)));
+}
+  where
+    inside : count - 1 < length hs
+    inside = omega (arith, some, within)
+
+pub far_within_entry : (hs : List Held) (count : ℕ) → IsLinked hs → 0 < count → count ≤ length hs → (entry_at hs count).far.first ≤ length hs
+far_within_entry hs count linked some within =
+    let down = (way_entry hs count linked some within).fewer in
+    omega (arith, down, within)
+
+pub far_entry : (at : ℕ) (hs : List Held) (count : ℕ) → IsLinked hs → 0 < count → count ≤ length hs → (entry_at hs count).far.ended ≤ at → Behind at hs count → Behind at hs (entry_at hs count).far.first
+far_entry at hs count linked some within ended b = λ j d low high. by j d low high (leb_tells count j)
+  where
+    by : (j : ℕ) (d : Held) → (entry_at hs count).far.first ≤ j → j < length hs → ((nat_le count j ≡ true) × (count ≤ j)) ⊎ ((nat_le count j ≡ false) × (j < count)) → is_held at (extent_of (get_or hs j d)) ≡ false
+    by j d low high (inl p) = b j d p.1 high
+    by j d low high (inr p) =
+        let below = (way_entry hs count linked some within).ended j d low p.1 in
+        ended_there at (extent_of (get_or hs j d)) (omega (arith, below, ended))

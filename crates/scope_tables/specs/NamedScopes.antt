@@ -4,6 +4,7 @@ use Rattle.std.specs.List.Sorted.{IsNonDecreasingBy}
 use Rattle.go_tree.specs.declared.spans.Span.{Span}
 use Rattle.scope_names.specs.Means.{or_else}
 use Rattle.scope_tables.specs.declared.named.Held.{Held}
+use Rattle.scope_tables.specs.declared.named.Way.{Way}
 
 -- where a declaration stands, and the bytes from which and before which it holds
 pub record Extent : Type 0 where
@@ -26,11 +27,24 @@ innermost at (e ∷ es) = or_else (innermost at es) (if is_held at e then Some e
 
 -- ---- how they are kept
 
--- where a declaration has ended, those have ended too that stand before it and behind its first `before` ones
+-- Where a declaration has ended, those have ended too that stand before it and behind its first `before` ones; where
+-- its far way says so, it has ended with those behind the first ones of that way.
 pub record IsLinked (hs : List Held) : Type 0 where
   pub fewer : (i : ℕ) (d : Held) → i < length hs → (slice_index_or hs i d).before ≤ i
   pub ended : (i j : ℕ) (d : Held) → i < length hs → (slice_index_or hs i d).before ≤ j → j < i
       → (slice_index_or hs j d).to ≤ (slice_index_or hs i d).to
+  pub farther : (i : ℕ) (d : Held) → i < length hs → (slice_index_or hs i d).far.first ≤ i
+  pub passed : (i j : ℕ) (d : Held) → i < length hs → (slice_index_or hs i d).far.first ≤ j → j ≤ i
+      → (slice_index_or hs j d).to ≤ (slice_index_or hs i d).far.ended
+
+-- those behind the first ones have ended before `to`
+abbrev pub Ended : ℕ → List Held → ℕ → Type 0
+Ended to hs count = (j : ℕ) (d : Held) → count ≤ j → j < length hs → (slice_index_or hs j d).to ≤ to
+
+-- A way back from the first `count` ones: the last of them have ended before its byte, all but its first ones.
+pub record LeadsBack (hs : List Held) (count : ℕ) (way : Way) : Type 0 where
+  pub fewer : way.first < count
+  pub ended : (j : ℕ) (d : Held) → way.first ≤ j → j < count → (slice_index_or hs j d).to ≤ way.ended
 
 -- The links are right, and where declarations come in order, each begins no earlier than the one before it.
 pub record IsKept (in_order : Bool) (hs : List Held) : Type 0 where

@@ -1,22 +1,32 @@
 //! The declarations of one name.
 
-ghost use Rattle.std.specs.Prelude.{◌≡◌, ◌≤◌, ◌<◌, ◌-◌, ℕ, Bool, true, false, [], ◌∷◌, ◌++◌, length, map, slice_index_or, OnOk};
+ghost use Rattle.std.specs.Prelude.{◌≡◌, ◌≤◌, ◌<◌, ◌-◌, ℕ, Bool, true, false, [], ◌∷◌, ◌++◌, length, map, IfSome, OnOk};
 ghost use Rattle.std.specs.List.Sorted.{IsNonDecreasingBy};
 ghost use Rattle.scope_tables.specs.declared.named.Held.{Held};
-ghost use Rattle.scope_tables.specs.NamedScopes.{extent_of, innermost, Behind, IsLinked, Follows};
+ghost use Rattle.scope_tables.specs.NamedScopes.{extent_of, innermost, Behind, Ended, IsLinked, LeadsBack, Follows};
 
 use go_tree::{NoMemory, Span};
 use std::alloc::Global;
 use std::marker::Model;
 
-/// Where a declaration stands, the bytes from which and before which it holds, and how many of the declarations before
-/// it may still hold where it has ended.
+/// A way back over declarations: how many of the first ones may still hold where those behind them, up to the one whose
+/// way it is, have ended, the byte before which these have, and how many single ways it is as good as.
+#[derive(Clone, Copy, Debug, PartialEq, Eq)]
+pub(crate) struct Way {
+    first: usize,
+    ended: u32,
+    ways: usize,
+}
+
+/// Where a declaration stands, the bytes from which and before which it holds, how many of the declarations before it
+/// may still hold where it has ended, and a longer way back.
 #[derive(Clone, Copy, Debug, PartialEq, Eq)]
 pub(crate) struct Held {
     declared_at: Span,
     from: u32,
     to: u32,
     before: usize,
+    far: Way,
 }
 
 /// The declarations of one name, in the order of the source, and whether they begin in that order too, as those of a
@@ -55,12 +65,14 @@ impl NamedScopes {
             ≡ self.old ++ record { declared_at = declared_at; from = from; to = to } ∷ []) }
     {
         let before = reach(&self.held, to);
+        let far = far_way(&self.held, before, to);
         let in_order = stays_in_order(self.in_order, &self.held, from);
         self.held.push(Held {
             declared_at,
             from,
             to,
             before,
+            far,
         })?;
         self.in_order = in_order;
         Ok(())
@@ -84,13 +96,58 @@ impl NamedScopes {
 fn reach(held: &[Held], to: u32) -> usize
     requires { IsLinked held.now }
     ensures within { result ≤ length held.now }
-    ensures ended { (j : ℕ) (d : Held) → result ≤ j → j < length held.now → (slice_index_or held.now j d).to ≤ to }
+    ensures ended { Ended to held.now result }
 {
     let mut count = held.len();
     while count > 0 && held[count - 1].to <= to {
         count = held[count - 1].before;
     }
     count
+}
+
+/// The way back from the last of the first declarations; None where there are none.
+fn way_of(held: &[Held], count: usize) -> Option<Way>
+    requires linked { IsLinked held.now }
+    requires within { count ≤ length held.now }
+    ensures { IfSome result (λ way. LeadsBack held.now count way) }
+{
+    if count == 0 {
+        None
+    } else {
+        Some(held[count - 1].far)
+    }
+}
+
+/// The way back from a declaration that stands behind all, where those behind the first `before` ones have ended before
+/// `to`. It leads over two ways of the same length where these follow one another, so from any declaration few of them
+/// lead to any that is to be found; else it leads to `before` alone.
+fn far_way(held: &[Held], before: usize, to: u32) -> Way
+    requires linked { IsLinked held.now }
+    requires within { before ≤ length held.now }
+    requires ended { Ended to held.now before }
+    ensures within { result.first ≤ length held.now }
+    ensures ended { Ended result.ended held.now result.first }
+    ensures last { to ≤ result.ended }
+{
+    let near = Way {
+        first: before,
+        ended: to,
+        ways: 1,
+    };
+    let Some(next) = way_of(held, before) else {
+        return near;
+    };
+    let Some(last) = way_of(held, next.first) else {
+        return near;
+    };
+    if next.ways != last.ways {
+        return near;
+    }
+    Way {
+        first: last.first,
+        ended: to.max(next.ended).max(last.ended),
+        ways: next.ways.saturating_add(last.ways).saturating_add(1),
+    }
 }
 
 /// Whether declarations in order are so with one more, which begins to hold at `from`.
@@ -123,7 +180,9 @@ fn search(held: &[Held], first: usize, at: u32) -> Option<Span>
     let mut count = first;
     while count > 0 {
         let last = held[count - 1];
-        if last.to <= at {
+        if last.far.ended <= at {
+            count = last.far.first;
+        } else if last.to <= at {
             count = last.before;
         } else if last.from <= at {
             return Some(last.declared_at);

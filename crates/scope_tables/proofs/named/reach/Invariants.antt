@@ -1,5 +1,5 @@
 use Rattle.std.proofs.Common.{◌≤◌, length}
-use Rattle.scope_tables.proofs.NamedLaws.{Ended}
+use Rattle.scope_tables.specs.NamedScopes.{Ended}
 use Rattle.scope_tables.proofs.named.reach.Given as goal
 
 abbrev pub invariant-loop-count : goal.invariant-loop-count

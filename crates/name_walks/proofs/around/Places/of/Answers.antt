@@ -1,0 +1,6 @@
+use Rattle.std.proofs.Common.{◌∙◌}
+use Rattle.name_walks.proofs.AroundLaws.{place_found}
+use Rattle.name_walks.proofs.around.Places.of.Goals as goal
+
+pub returns : goal.returns
+returns c = rw (← c.self.view_is) (c.copied.ensures ∙ c.get.ensures.value ∙ place_found (λ k. k.items) c.args.name.now c.self.inside.places.entries)
