@@ -158,5 +158,3 @@ module _ (text : List ℕ) where
     -- the two lists that the program joins
     pub both_are : (items : List Item) → placed_in (filter_map (λ i. bad_by i.name i.verdict) (flagged text (led_table text tokens comments) items)) (map bad_at (unflagged text (leading_table text tokens comments items) comments)) ≡ bad_in text tokens comments items
     both_are items = λ w. placed_in (bad_is items w) (nothing_is items w)
-
-pub ruleset scan_laws = (good_is, both_are)

@@ -64,6 +64,16 @@ pub(crate) fn bad_of(
     Ok(marks)
 }
 
+/// The mark of a comment that means nothing.
+fn nothing_at(comment: &Comment) -> BadMark
+    ensures { result ≡ bad_at comment.now }
+{
+    BadMark {
+        at: comment.span.start,
+        reason: BadReason::NothingMarked,
+    }
+}
+
 /// The bad marks of the comments that make a mark line whose flag is not set.
 pub(crate) fn nothing_of(
     alloc: Global,
@@ -78,10 +88,7 @@ pub(crate) fn nothing_of(
     let mut marks = Vec::new(alloc);
     for comment in comments {
         if is_mark(text, comment) && !flag_at(text, numbers, leading, comment.span.start) {
-            marks.push(BadMark {
-                at: comment.span.start,
-                reason: BadReason::NothingMarked,
-            })?;
+            marks.push(nothing_at(comment))?;
         }
     }
     Ok(marks)

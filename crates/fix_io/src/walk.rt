@@ -10,9 +10,9 @@ use crate::folders::skipped_folder;
 use crate::tree::TreeFault;
 use std::alloc::{AllocError, Global};
 use std::cmp::Ordering;
-use std::fs;
 use std::fs::DirEntry;
 use std::rt::Files;
+use std::{fs, io};
 
 /// How many entries of folders one walk may meet.
 const MOST_ENTRIES: u32 = 1_048_576;
@@ -31,15 +31,15 @@ pub(crate) fn all_files<R: Files + AllocGlobal>(
         folders: Vec::new(alloc),
         met: 0,
     };
-    walk.enter(rt, "")?;
-    // Each folder is one of the entries met.
-    for _ in 0..MOST_ENTRIES {
-        match walk.folders.pop() {
-            Some(folder) => walk.enter(rt, &folder)?,
-            None => break,
-        }
-    }
-    let mut entries = walk.entries;
+    walk.enter_all(rt)?;
+    in_order(walk.entries)
+}
+
+/// The files by ascending path, unless they are too many or two have one path.
+fn in_order(mut entries: Vec<Entry>) -> Result<Vec<Entry>, TreeFault>
+    ensures ascending { IfOk result (λ entries. IsAscending (entry_paths entries.items)) }
+    ensures few { IfOk result (λ entries. vec_len entries ≤ MOST_ENTRIES) }
+{
     entries.sort_unstable_by(|a, b| a.path.as_str().cmp(b.path.as_str()));
     if entries.len() > MOST_ENTRIES as usize || !ascends(&entries) {
         return Err(TreeFault::Failed);
@@ -57,13 +57,35 @@ struct Walk {
 }
 
 impl Walk {
+    /// Takes each entry of the working directory and of the folders in it.
+    fn enter_all<R: Files + AllocGlobal>(&mut self, rt: &R) -> Result<(), TreeFault> {
+        self.enter(rt, "")?;
+        // Each folder is one of the entries met.
+        for _ in 0..MOST_ENTRIES {
+            match self.folders.pop() {
+                Some(folder) => self.enter(rt, &folder)?,
+                None => break,
+            }
+        }
+        Ok(())
+    }
+
     /// Takes each entry of a folder.
     fn enter<R: Files + AllocGlobal>(&mut self, rt: &R, folder: &str) -> Result<(), TreeFault> {
         let place = if folder.is_empty() { "." } else { folder };
         for entry in fs::read_dir(&rt, place)? {
-            self.take(folder, &entry?)?;
+            self.meet(folder, entry)?;
         }
         Ok(())
+    }
+
+    /// Takes one entry, if it could be read.
+    fn meet<R: Files + AllocGlobal>(
+        &mut self,
+        folder: &str,
+        entry: io::Result<DirEntry<&R>>,
+    ) -> Result<(), TreeFault> {
+        self.take(folder, &entry?)
     }
 
     /// Takes one entry: a file is kept, a folder is left for later, and a link is neither.
@@ -76,16 +98,28 @@ impl Walk {
             return Err(TreeFault::Failed);
         }
         self.met += 1;
-        let name = entry.file_name();
-        let path = join(self.alloc, folder, name)?;
         let kind = entry.file_type()?;
         if kind.is_dir() {
-            if !skipped_folder(name) {
-                self.folders.push(path)?;
-            }
+            self.leave(folder, entry.file_name())
         } else if kind.is_file() {
-            self.entries.push(Entry::new(self.alloc, path)?)?;
+            self.keep(folder, entry.file_name())
+        } else {
+            Ok(())
         }
+    }
+
+    /// Leaves a folder for later, unless it is skipped.
+    fn leave(&mut self, folder: &str, name: &str) -> Result<(), TreeFault> {
+        if !skipped_folder(name) {
+            self.folders.push(join(self.alloc, folder, name)?)?;
+        }
+        Ok(())
+    }
+
+    /// Keeps a file.
+    fn keep(&mut self, folder: &str, name: &str) -> Result<(), TreeFault> {
+        let path = join(self.alloc, folder, name)?;
+        self.entries.push(Entry::new(self.alloc, path)?)?;
         Ok(())
     }
 }

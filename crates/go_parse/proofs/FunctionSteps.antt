@@ -15,7 +15,7 @@ use Rattle.go_read.proofs.Sound.{at_is}
 use Rattle.go_words.specs.declared.terminals.Terminal.{Terminal}
 use Rattle.go_words.specs.declared.terminals.Terminal.TheVariants as code
 use Rattle.go_productions.specs.Terminals.{first_of, rest_of, name_of}
-use Rattle.go_parse.specs.Parts.{closed, receiver_here, func_at, method_at, func_decl_at}
+use Rattle.go_parse.specs.Parts.{PartsOfFunc, closed, receiver_here, func_at, func_parts_at, method_at, func_decl_at}
 use Rattle.go_parse.proofs.Firsts.{by_first, apart}
 use Rattle.go_parse.proofs.Lists.{closed_some, closed_none}
 
@@ -113,46 +113,80 @@ receiver_none ts f g = receiver_off ts f g
 
 -- ---- functions
 
-func_off : (whole : Lexemes) (v : Option (Receiver Span)) (ts : Lexemes) → first_of ts ≢ code.Ident → func_at whole v ts ≡ None
-unfolding func_at
-func_off whole v [] off = refl
-func_off whole v (lex c (ident w) ∷ r) off = absurd (off refl)
-func_off whole v (lex c _ ∷ r) off = refl
+parts_off : (b : Bool) (ts : Lexemes) → first_of ts ≢ code.Ident → func_parts_at b ts ≡ None
+unfolding func_parts_at
+parts_off b [] off = refl
+parts_off b (lex c (ident w) ∷ r) off = absurd (off refl)
+parts_off b (lex c _ ∷ r) off = refl
 
 -- what the name, the signature and the body give
-made : Lexemes → Option (Receiver Span) → NameAt Span → Option (Sig Span × Lexemes) → Option (Decl Span × Lexemes)
-made whole v n o = option_and_then (λ x. option_and_then (λ y. Some (func (record { span = span_to whole y.1; receiver = v; name = n; sig = x.0; body_span = y.0.0; body = y.0.1 }), y.1)) (at span_to read_block x.1)) o
+parted : NameAt Span → Option (Sig Span × Lexemes) → Option (PartsOfFunc × Lexemes)
+parted n o = option_and_then (λ x. option_and_then (λ y. Some ((n, (x.0, y.0)), y.1)) (at span_to read_block x.1)) o
 
-func_on : (whole : Lexemes) (v : Option (Receiver Span)) (ts : Lexemes) → first_of ts ≡ code.Ident → func_at whole v ts ≡ made whole v (name_of ts) (at span_to (read_sig (may_be_variadic span_to v)) (rest_of ts))
-unfolding func_at made
-func_on whole v ts e = by_first (λ ts. func_at whole v ts ≡ made whole v (name_of ts) (at span_to (read_sig (may_be_variadic span_to v)) (rest_of ts))) code.Ident ts e refl (λ s w r. refl)
+parts_on : (b : Bool) (ts r : Lexemes) → first_of ts ≡ code.Ident → r ≡ rest_of ts → func_parts_at b ts ≡ parted (name_of ts) (at span_to (read_sig b) r)
+unfolding func_parts_at parted
+parts_on b ts r e er =
+    by_first (λ ts. func_parts_at b ts ≡ parted (name_of ts) (at span_to (read_sig b) (rest_of ts))) code.Ident ts e refl (λ s w r. refl)
+    ∙ ap (λ (u : Lexemes). parted (name_of ts) (at span_to (read_sig b) u)) (sym er)
 
-pub func_none : (whole : Lexemes) (v : Option (Receiver Span)) (ts : Lexemes) (k : Terminal) → first_of ts ≡ k → (k ≡ code.Ident → ⊥) → func_at whole v ts ≡ None
-func_none whole v ts k e f = func_off whole v ts (apart ts k code.Ident e f)
+pub parts_none : (b : Bool) (ts : Lexemes) (k : Terminal) → first_of ts ≡ k → (k ≡ code.Ident → ⊥) → func_parts_at b ts ≡ None
+parts_none b ts k e f = parts_off b ts (apart ts k code.Ident e f)
 
-sig_same : (v : Option (Receiver Span)) (b : Bool) (ts r : Lexemes) → b ≡ may_be_variadic span_to v → r ≡ rest_of ts → at span_to (read_sig (may_be_variadic span_to v)) (rest_of ts) ≡ at span_to (read_sig b) r
-sig_same v b ts r m er = ap (λ (c : Bool). at span_to (read_sig c) (rest_of ts)) (sym m) ∙ ap (at span_to (read_sig b)) (sym er)
+pub parts_without_sig : (b : Bool) (ts r : Lexemes) → first_of ts ≡ code.Ident → r ≡ rest_of ts → at span_to (read_sig b) r ≡ None → func_parts_at b ts ≡ None
+unfolding parted
+parts_without_sig b ts r e er none = parts_on b ts r e er ∙ ap (parted (name_of ts)) none
 
-pub func_without_sig : (whole : Lexemes) (v : Option (Receiver Span)) (b : Bool) (ts r : Lexemes) → b ≡ may_be_variadic span_to v → first_of ts ≡ code.Ident → r ≡ rest_of ts → at span_to (read_sig b) r ≡ None → func_at whole v ts ≡ None
-unfolding made
-func_without_sig whole v b ts r m e er none = func_on whole v ts e ∙ ap (made whole v (name_of ts)) (sig_same v b ts r m er ∙ none)
+pub parts_without_body : (b : Bool) (ts r : Lexemes) (g : Sig Span) (mid : Lexemes) → first_of ts ≡ code.Ident → r ≡ rest_of ts → at span_to (read_sig b) r ≡ Some (g, mid) → at span_to read_block mid ≡ None
+    → func_parts_at b ts ≡ None
+unfolding parted
+parts_without_body b ts r g mid e er sig none =
+    parts_on b ts r e er ∙ ap (parted (name_of ts)) sig
+    ∙ ap (λ (o : Option ((Span × Stmts Span) × Lexemes)). option_and_then (λ y. Some ((name_of ts, (g, y.0)), y.1)) o) none
 
-pub func_without_body : (whole : Lexemes) (v : Option (Receiver Span)) (b : Bool) (ts r : Lexemes) (g : Sig Span) (mid : Lexemes) → b ≡ may_be_variadic span_to v → first_of ts ≡ code.Ident → r ≡ rest_of ts → at span_to (read_sig b) r ≡ Some (g, mid) → at span_to read_block mid ≡ None
-    → func_at whole v ts ≡ None
-unfolding made
-func_without_body whole v b ts r g mid m e er sig none =
-    func_on whole v ts e ∙ ap (made whole v (name_of ts)) (sig_same v b ts r m er ∙ sig)
-    ∙ ap (λ (o : Option ((Span × Stmts Span) × Lexemes)). option_and_then (λ y. Some (func (record { span = span_to whole y.1; receiver = v; name = name_of ts; sig = g; body_span = y.0.0; body = y.0.1 }), y.1)) o) none
+pub parts_some : (b : Bool) (ts r : Lexemes) (n : NameAt Span) (g : Sig Span) (mid : Lexemes) (z : Span × Stmts Span) (us : Lexemes)
+    → first_of ts ≡ code.Ident → r ≡ rest_of ts → at span_to (read_sig b) r ≡ Some (g, mid) → at span_to read_block mid ≡ Some (z, us) → n ≡ name_of ts
+    → func_parts_at b ts ≡ Some ((n, (g, z)), us)
+unfolding parted
+parts_some b ts r n g mid z us e er sig body en =
+    parts_on b ts r e er ∙ ap (parted (name_of ts)) sig
+    ∙ ap (λ (o : Option ((Span × Stmts Span) × Lexemes)). option_and_then (λ y. Some ((name_of ts, (g, y.0)), y.1)) o) body
+    ∙ ap (λ (n : NameAt Span). Some ((n, (g, z)), us)) (sym en)
 
-pub func_some : (whole : Lexemes) (v : Option (Receiver Span)) (b : Bool) (ts r : Lexemes) (n : NameAt Span) (g : Sig Span) (mid : Lexemes) (z : Span × Stmts Span) (us : Lexemes) (s : Span)
-    → b ≡ may_be_variadic span_to v → first_of ts ≡ code.Ident → r ≡ rest_of ts → at span_to (read_sig b) r ≡ Some (g, mid) → at span_to read_block mid ≡ Some (z, us) → n ≡ name_of ts → s ≡ span_to whole us
-    → func_at whole v ts ≡ Some (func (record { span = s; receiver = v; name = n; sig = g; body_span = z.0; body = z.1 }), us)
-unfolding made
-func_some whole v b ts r n g mid z us s m e er sig body en es =
-    func_on whole v ts e ∙ ap (made whole v (name_of ts)) (sig_same v b ts r m er ∙ sig)
-    ∙ ap (λ (o : Option ((Span × Stmts Span) × Lexemes)). option_and_then (λ y. Some (func (record { span = span_to whole y.1; receiver = v; name = name_of ts; sig = g; body_span = y.0.0; body = y.0.1 }), y.1)) o) body
-    ∙ ap (λ (s : Span). Some (func (record { span = s; receiver = v; name = name_of ts; sig = g; body_span = z.0; body = z.1 }), us)) (sym es)
-    ∙ ap (λ (n : NameAt Span). Some (func (record { span = s; receiver = v; name = n; sig = g; body_span = z.0; body = z.1 }), us)) (sym en)
+-- the declaration of these parts
+func_of_parts : Lexemes → Option (Receiver Span) → Option (PartsOfFunc × Lexemes) → Option (Decl Span × Lexemes)
+func_of_parts whole v o = option_and_then (λ x. Some (func (record { span = span_to whole x.1; receiver = v; name = x.0.0; sig = x.0.1.0; body_span = x.0.1.1.0; body = x.0.1.1.1 }), x.1)) o
+
+by_body : (whole : Lexemes) (v : Option (Receiver Span)) (n : NameAt Span) (g : Sig Span) (o : Option ((Span × Stmts Span) × Lexemes))
+    → option_and_then (λ y. Some (func (record { span = span_to whole y.1; receiver = v; name = n; sig = g; body_span = y.0.0; body = y.0.1 }), y.1)) o
+    ≡ func_of_parts whole v (option_and_then (λ y. Some ((n, (g, y.0)), y.1)) o)
+unfolding func_of_parts
+by_body whole v n g None = refl
+by_body whole v n g (Some y) = refl
+
+by_sig : (whole : Lexemes) (v : Option (Receiver Span)) (n : NameAt Span) (o : Option (Sig Span × Lexemes))
+    → option_and_then (λ x. option_and_then (λ y. Some (func (record { span = span_to whole y.1; receiver = v; name = n; sig = x.0; body_span = y.0.0; body = y.0.1 }), y.1)) (at span_to read_block x.1)) o
+    ≡ func_of_parts whole v (parted n o)
+unfolding func_of_parts parted
+by_sig whole v n None = refl
+by_sig whole v n (Some x) = by_body whole v n x.0 (at span_to read_block x.1)
+
+func_by_parts : (whole : Lexemes) (v : Option (Receiver Span)) (ts : Lexemes) → func_at whole v ts ≡ func_of_parts whole v (func_parts_at (may_be_variadic span_to v) ts)
+unfolding func_at func_parts_at func_of_parts parted
+func_by_parts whole v [] = refl
+func_by_parts whole v (lex c (ident w) ∷ r) = by_sig whole v (name_of (lex c (ident w) ∷ r)) (at span_to (read_sig (may_be_variadic span_to v)) r)
+func_by_parts whole v (lex c _ ∷ r) = refl
+
+pub func_without : (whole : Lexemes) (v : Option (Receiver Span)) (b : Bool) (ts : Lexemes) → b ≡ may_be_variadic span_to v → func_parts_at b ts ≡ None → func_at whole v ts ≡ None
+unfolding func_of_parts
+func_without whole v b ts m none = func_by_parts whole v ts ∙ ap (λ (c : Bool). func_of_parts whole v (func_parts_at c ts)) (sym m) ∙ ap (func_of_parts whole v) none
+
+pub func_some : (whole : Lexemes) (v : Option (Receiver Span)) (b : Bool) (ts : Lexemes) (p : PartsOfFunc) (us : Lexemes) (s : Span)
+    → b ≡ may_be_variadic span_to v → func_parts_at b ts ≡ Some (p, us) → s ≡ span_to whole us
+    → func_at whole v ts ≡ Some (func (record { span = s; receiver = v; name = p.0; sig = p.1.0; body_span = p.1.1.0; body = p.1.1.1 }), us)
+unfolding func_of_parts
+func_some whole v b ts p us s m parts es =
+    func_by_parts whole v ts ∙ ap (λ (c : Bool). func_of_parts whole v (func_parts_at c ts)) (sym m) ∙ ap (func_of_parts whole v) parts
+    ∙ ap (λ (s : Span). Some (func (record { span = s; receiver = v; name = p.0; sig = p.1.0; body_span = p.1.1.0; body = p.1.1.1 }), us)) (sym es)
 
 -- ---- methods
 

@@ -1,13 +1,14 @@
 -- Parts of declarations that no goal of the reader is for.
 use Rattle.std.specs.Prelude.{Bool, true, false, List, [], ◌∷◌, ◌++◌, Option, Some, None, option_and_then}
 use Rattle.go_tree.specs.declared.spans.Span.{Span}
-use Rattle.go_tree.specs.Tree.{NameAt}
+use Rattle.go_tree.specs.Tree.{NameAt, Sig, Stmts}
+use Rattle.go_tree.specs.View.{block_of, name_at_of, sig_of}
 use Rattle.go_tree.specs.File.{ImportSpec, ImportDecl, TypeSpec, Receiver, Decl, types}
-use Rattle.go_words.specs.Terminals.{lex, str_lit, semicolon, paren, end_paren}
+use Rattle.go_words.specs.Terminals.{lex, ident, str_lit, semicolon, paren, end_paren}
 use Rattle.go_read.specs.SpellsSpans.{span_to}
 use Rattle.go_words.specs.Texts.{text_value}
 use Rattle.go_read.specs.SpellsTypes.{Lexemes}
-use Rattle.go_read.specs.Goals.{read_type, read_import_spec, read_import_specs, read_type_spec, read_type_specs, read_receiver}
+use Rattle.go_read.specs.Goals.{read_sig, read_block, read_type, read_import_spec, read_import_specs, read_type_spec, read_type_specs, read_receiver}
 use Rattle.go_read.specs.Programs.{run}
 use Rattle.go_read.specs.ReadFiles.{func_step}
 use Rattle.go_read.specs.Reading.{at}
@@ -15,6 +16,7 @@ use Rattle.go_tree.specs.declared.operators.BinOp.TheVariants.{Mul}
 use Rattle.go_words.specs.declared.terminals.Terminal.{Terminal}
 use Rattle.go_words.specs.declared.terminals.Terminal.TheVariants as code
 use Rattle.go_productions.specs.Terminals.{rest_of, name_of}
+use Rattle.go_parse.specs.declared.functions.FuncParts.{FuncParts as Parsed}
 
 -- what stands before a closing parenthesis
 abbrev pub closed : {X : Type 0} → Option (X × Lexemes) → Option (X × Lexemes)
@@ -73,6 +75,22 @@ grouped_types_at whole ts =
 unfoldable pub single_type_at : Lexemes → Lexemes → Option (Decl Span × Lexemes)
 single_type_at whole ts =
     option_and_then (λ x. Some (types (span_to whole x.1) false (x.0 ∷ []), x.1)) (at span_to read_type_spec ts)
+
+-- the name, the signature and the body of a function, with its span
+abbrev pub PartsOfFunc : Type 0
+PartsOfFunc = NameAt Span × (Sig Span × (Span × Stmts Span))
+
+-- what the parser holds as a function's name, signature and body
+abbrev pub parts_of : Parsed → PartsOfFunc
+parts_of p = (name_at_of p.name, (sig_of p.sig, block_of p.body))
+
+-- the name, signature and body of a function, from its name on
+unfoldable pub func_parts_at : Bool → Lexemes → Option (PartsOfFunc × Lexemes)
+func_parts_at variadic (lex c (ident w) ∷ ts) =
+    option_and_then
+    (λ x. option_and_then (λ y. Some ((name_of (lex c (ident w) ∷ ts), (x.0, y.0)), y.1)) (at span_to read_block x.1))
+    (at span_to (read_sig variadic) ts)
+func_parts_at variadic _ = None
 
 -- the name, signature and body of a function whose declaration begins at `whole`
 unfoldable pub func_at : Lexemes → Option (Receiver Span) → Lexemes → Option (Decl Span × Lexemes)

@@ -12,11 +12,11 @@ ghost use Rattle.go_read.specs.Reading.{at};
 ghost use Rattle.go_words.specs.declared.terminals.Terminal.TheVariants as terminal;
 ghost use Rattle.go_productions.specs.Terminals.{first_of};
 ghost use Rattle.go_productions.specs.Answers.{Gives, Shorter};
-ghost use Rattle.go_parse.specs.Parts.{func_at, func_decl_at, is_star, method_at, receiver_here};
+ghost use Rattle.go_parse.specs.Parts.{func_at, func_decl_at, func_parts_at, is_star, method_at, parts_of, receiver_here};
 
 use go_productions::{Cursor, Reading, name, signature};
 use go_statements::block;
-use go_tree::{BinOp, Decl, FuncDecl, NameAt, Receiver};
+use go_tree::{BinOp, Block, Decl, FuncDecl, NameAt, Receiver, Sig};
 use go_words::Terminal;
 
 /// Whether it is `*`.
@@ -104,31 +104,60 @@ fn may_be_variadic(receiver: &Option<Receiver>) -> bool
     }
 }
 
-/// The name, signature and body of a function whose declaration begins at `whole`.
-fn function<'a>(whole: Cursor, receiver: Option<Receiver>, tokens: Cursor<'a>) -> Reading<'a, Decl>
-    ensures gives { Gives decl_of result
-        (func_at (ahead whole.entry) (option_map receiver_of receiver) (ahead tokens.entry)) }
+/// What follows the keyword of a function, or the receiver of a method.
+#[derive(Drop)]
+struct FuncParts {
+    name: NameAt,
+    sig: Sig,
+    body: Block,
+}
+
+/// The name, signature and body of a function.
+fn func_parts<'a>(tokens: Cursor<'a>, variadic: bool) -> Reading<'a, FuncParts>
+    ensures gives { Gives parts_of result (func_parts_at variadic (ahead tokens.entry)) }
     ensures shorter { Shorter result tokens.entry }
 {
     let Terminal::Ident = tokens.first() else {
         return Ok(None);
     };
-    let Some((sig, after)) = signature(tokens.rest(), may_be_variadic(&receiver))? else {
+    let Some((sig, after)) = signature(tokens.rest(), variadic)? else {
         return Ok(None);
     };
     let Some((body, after)) = block(after)? else {
         return Ok(None);
     };
     let name = name(tokens)?;
-    let span = whole.span_to(after);
-    let decl = FuncDecl {
-        span,
-        receiver,
-        name,
-        sig,
-        body,
-    };
-    Ok(Some((Decl::Func(decl), after)))
+    Ok(Some((FuncParts { name, sig, body }, after)))
+}
+
+/// The name, signature and body of a function whose declaration begins at `whole`.
+#[tactic(auto, using(crate::proofs::FunctionSteps::func_without, crate::proofs::FunctionSteps::func_some))]
+fn function<'a>(whole: Cursor, receiver: Option<Receiver>, tokens: Cursor<'a>) -> Reading<'a, Decl>
+    ensures gives { Gives decl_of result
+        (func_at (ahead whole.entry) (option_map receiver_of receiver) (ahead tokens.entry)) }
+    ensures shorter { Shorter result tokens.entry }
+{
+    match func_parts(tokens, may_be_variadic(&receiver)) {
+        Ok(Some((parts, after))) => {
+            let span = whole.span_to(after);
+            let decl = FuncDecl {
+                span,
+                receiver,
+                name: parts.name,
+                sig: parts.sig,
+                body: parts.body,
+            };
+            Ok(Some((Decl::Func(decl), after)))
+        }
+        Ok(None) => {
+            drop(receiver);
+            Ok(None)
+        }
+        Err(fault) => {
+            drop(receiver);
+            Err(fault)
+        }
+    }
 }
 
 /// A method whose declaration begins at `whole`, after the parenthesis before its receiver.

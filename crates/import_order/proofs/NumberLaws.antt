@@ -21,6 +21,14 @@ behind_by p q ps k None e h f = absurd (cc)
 behind_by p q ps zero (Some j) e h f = absurd (cc)
 behind_by p q ps (suc k) (Some j) e h f = let same : j ≡ k = cc in let g : (k < length ps) × (path_at ps k ≡ q) = f k (e ∙ ap Some same) in let b : k < length ps = g.0 in (omega arith, g.1)
 
+same_bytes : (q : List ℕ) → bytes_eq q q ≡ true
+same_bytes [] = refl
+same_bytes (b ∷ bs) = grind (arith, same_bytes bs)
+
+-- a path that is added is there
+pub added_here : (p q : List ℕ) (there : Bool) → p ≡ q → (bytes_eq q p || there) ≡ true
+added_here p q there e = ap (λ (p : List ℕ). bytes_eq q p || there) e ∙ ap (λ (t : Bool). t || there) (same_bytes q)
+
 number_at_by : (p q : List ℕ) (ps : List (List ℕ)) (k : ℕ) (t : Bool) → bytes_eq q p ≡ t → (if t then Some 0 else option_map suc (number_of ps q)) ≡ Some k
     → ((j : ℕ) → number_of ps q ≡ Some j → (j < length ps) × (path_at ps j ≡ q)) → (k < length (p ∷ ps)) × (path_at (p ∷ ps) k ≡ q)
 number_at_by p q ps zero true e h f = (omega arith, sym (are_same q p e))

@@ -45,7 +45,7 @@ pub(crate) fn unmarked_paths(
     let mut set = PathSet::new(alloc);
     for (k, mark) in marks.iter().enumerate() {
         if !*mark {
-            set.add(paths.path(k).to_vec(alloc)?)?;
+            try_later(alloc, paths, k, &mut set)?;
         }
     }
     Ok(set)

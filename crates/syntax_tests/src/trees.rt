@@ -1,7 +1,7 @@
 //! Copies and depth of each construct. A node is what has a span; the depths are counted by hand.
 
 use crate::files::read;
-use go_syntax::{Decl, NoMemory, copy_expr, copy_stmt, depth};
+use go_syntax::{Decl, Expr, FileTree, NoMemory, copy_expr, copy_stmt, depth};
 use std::alloc::Global;
 use std::process::Abort;
 use std::test::Fail;
@@ -13,11 +13,15 @@ fn joined(alloc: Global, front: &[u8], text: &[u8], back: &[u8]) -> Result<Vec<u
     Ok(all)
 }
 
-/// The value of a variable, and its copy, are so deep; each statement of a literal that is called there is copied.
-fn is_deep<R: Abort + AllocGlobal>(rt: &R, text: &[u8], want: u32) -> Result<(), Fail> {
-    let alloc = rt.alloc();
-    let source = joined(alloc, b"package p\n\nvar v = ", text, b"\n")?;
-    let file = read(alloc, &source)?;
+/// The value, and its copy, are so deep.
+fn value_is_deep<R: Abort + AllocGlobal>(rt: &R, e: &Expr, want: u32) -> Result<(), Fail> {
+    let copy = Box::new(rt.alloc(), copy_expr(rt.alloc(), e)?)?;
+    assert_eq!(rt; depth(e), want);
+    assert_eq!(rt; depth(&copy), want);
+    Ok(())
+}
+
+fn only_value<R: Abort + AllocGlobal>(rt: &R, file: &FileTree, want: u32) -> Result<(), Fail> {
     let [Decl::Var(decl)] = file.decls.items() else {
         return Err(Fail::new("other than one declaration of variables"));
     };
@@ -27,10 +31,14 @@ fn is_deep<R: Abort + AllocGlobal>(rt: &R, text: &[u8], want: u32) -> Result<(),
     let [e] = spec.values.items() else {
         return Err(Fail::new("other than one value"));
     };
-    let copy = copy_expr(alloc, e)?;
-    assert_eq!(rt; depth(e), want);
-    assert_eq!(rt; depth(&copy), want);
-    Ok(())
+    value_is_deep(rt, e, want)
+}
+
+/// The value of a variable, and its copy, are so deep; each statement of a literal that is called there is copied.
+fn is_deep<R: Abort + AllocGlobal>(rt: &R, text: &[u8], want: u32) -> Result<(), Fail> {
+    let source = joined(rt.alloc(), b"package p\n\nvar v = ", text, b"\n")?;
+    let file = read(rt.alloc(), &source)?;
+    only_value(rt, &file, want)
 }
 
 /// The literal of a function with this statement, called, is so much deeper than the statement: call, literal and
@@ -93,19 +101,19 @@ fn statements(rt: HostRuntime) -> Result<(), Fail> {
     Ok(())
 }
 
-#[test]
-fn copied_statements(rt: HostRuntime) -> Result<(), Fail> {
-    let alloc = rt.alloc();
-    let file = read(
-        alloc,
-        b"package p\n\nfunc f() {\n\tif i := 0; x {\n\t\treturn\n\t}\n\tx++\n}\n",
-    )?;
-    let [Decl::Func(f)] = file.decls.items() else {
+fn copies_each(alloc: Global, decls: &[Decl]) -> Result<(), Fail> {
+    let [Decl::Func(f)] = decls else {
         return Err(Fail::new("other than one function"));
     };
     for stmt in f.body.stmts.items() {
-        let copy = copy_stmt(alloc, stmt)?;
-        drop(copy);
+        drop(copy_stmt(alloc, stmt)?);
     }
     Ok(())
+}
+
+#[test]
+fn copied_statements(rt: HostRuntime) -> Result<(), Fail> {
+    let text = b"package p\n\nfunc f() {\n\tif i := 0; x {\n\t\treturn\n\t}\n\tx++\n}\n";
+    let file = read(rt.alloc(), text)?;
+    copies_each(rt.alloc(), file.decls.items())
 }

@@ -3,6 +3,9 @@ use Rattle.std.proofs.lemmas.Bool.{OnTrue_at}
 use Rattle.import_order.proofs.RankLaws.{at_any, never_back}
 use Rattle.import_order.proofs.cycles.is_on_cycle.Goals as goal
 
+pub returns-then-are_above-clause-on : goal.returns-then-are_above-clause-on
+returns-then-are_above-clause-on c = tt
+
 pub returns-then-are_above-clause-off : goal.returns-then-are_above-clause-off
 returns-then-are_above-clause-off c =
     let links = c.args.links.now in
