@@ -1,0 +1,6 @@
+mod GraphImports
+mod StepImports
+mod PlacesBound
+mod IdentifiersWith
+mod StepNames
+mod NamesNeeded

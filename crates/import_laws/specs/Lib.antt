@@ -1,0 +1,2 @@
+pub mod GraphNames
+pub mod Steps
