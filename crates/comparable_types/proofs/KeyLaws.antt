@@ -54,12 +54,12 @@ module _ (e : Environment) (good : IsEnvironment e) (comparable : List Bool) (co
           ap (keys_option (flag_at comparable) (flag_at keyed)) g ∙ by_parts n (good.table.earlier t n g)
           ∙ sym (ap (has_keys (defined_types e)) (type_at_row e.rows good.table t n g))
 
-flag_before : (xs : List Bool) (b : Bool) (i : ℕ) → i < length xs → flag_at (xs ++ b ∷ []) i ≡ flag_at xs i
+pub flag_before : (xs : List Bool) (b : Bool) (i : ℕ) → i < length xs → flag_at (xs ++ b ∷ []) i ≡ flag_at xs i
 flag_before [] b i l = absurd (omega (arith, l))
 flag_before (x ∷ xs) b zero l = refl
 flag_before (x ∷ xs) b (suc i) l = flag_before xs b i (omega (arith, l))
 
-flag_last : (xs : List Bool) (b : Bool) (i : ℕ) → i ≡ length xs → flag_at (xs ++ b ∷ []) i ≡ b
+pub flag_last : (xs : List Bool) (b : Bool) (i : ℕ) → i ≡ length xs → flag_at (xs ++ b ∷ []) i ≡ b
 flag_last xs b i e = ap (flag_at (xs ++ b ∷ [])) e ∙ go xs
   where
     go : (xs : List Bool) → flag_at (xs ++ b ∷ []) (length xs) ≡ b

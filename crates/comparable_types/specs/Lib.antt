@@ -1,3 +1,4 @@
 pub mod Comparable
 pub mod Flags
 pub mod Keys
+pub mod Grown

@@ -30,7 +30,7 @@ pub fn keyed_types(alloc: Global, env: &Env, comparable: &[bool]) -> Result<Vec<
 }
 
 /// A type's flag by those of its parts.
-fn row_keyed(env: &Env, comparable: &[bool], keyed: &[bool], t: TypeId) -> bool
+pub(crate) fn row_keyed(env: &Env, comparable: &[bool], keyed: &[bool], t: TypeId) -> bool
     requires { t.0 < length env.now.rows }
     ensures { result ≡ keys_option (flag_at comparable.now) (flag_at keyed.now) (slice_get env.now.rows t.0) }
 {
@@ -45,7 +45,7 @@ fn row_keyed(env: &Env, comparable: &[bool], keyed: &[bool], t: TypeId) -> bool
 }
 
 /// Whether the types of all fields have their flags.
-fn all_keyed(keyed: &[bool], fields: &[Field]) -> bool
+pub(crate) fn all_keyed(keyed: &[bool], fields: &[Field]) -> bool
     ensures { result ≡ list_all (λ f. flag_at keyed.now f.of.0) fields.now }
 {
     for field in fields {

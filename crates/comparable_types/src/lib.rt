@@ -3,8 +3,10 @@
 #![tactic(auto)]
 
 mod flags;
+mod grown;
 mod keys;
 mod order;
 
 pub use flags::comparable_types;
+pub use grown::TypeFlags;
 pub use keys::keyed_types;

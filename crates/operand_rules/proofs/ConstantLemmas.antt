@@ -1,0 +1,37 @@
+-- A table of constants, with one more.
+use Rattle.std.specs.Prelude.{◌≡◌, ℕ, ◌<◌, false, List, [], ◌∷◌, ◌++◌, length, get_or, refl}
+use Rattle.std.proofs.Common.{arith, length-append}
+use Rattle.std.proofs.Math.ListN.{get_or-append}
+use Rattle.std.proofs.Math.Seq.{get_or-append_seam}
+use mathlib.Core.Path.{ap, ◌∙◌}
+use Rattle.const_eval.specs.declared.consts.Const.{Const}
+use Rattle.const_eval.specs.declared.consts.Const.TheVariants.{Truth}
+use Rattle.operand_rules.specs.Constants.{Grown, const_at}
+
+-- the constants that were there stay
+pub grown_by_one : (old new : List Const) (v : Const) → new ≡ old ++ v ∷ [] → Grown old new
+grown_by_one old new v e =
+    record {
+      more = omega (arith, ap length e, length-append old (v ∷ []));
+      same = λ i h. ap (λ l. get_or l i (Truth false)) e ∙ get_or-append old (v ∷ []) (Truth false) i h;
+    }
+
+-- constants stay as they are
+pub grown_self : (cs : List Const) → Grown cs cs
+grown_self cs = record { more = omega arith; same = λ i h. refl }
+
+-- nothing is added
+pub grown_by_none : (old new : List Const) → new ≡ old → Grown old new
+grown_by_none old new e =
+    record { more = omega (arith, ap length e); same = λ i h. ap (λ l. get_or l i (Truth false)) e }
+
+-- the constant that was added
+pub added_at : (old new : List Const) (v : Const) (i : ℕ) → new ≡ old ++ v ∷ [] → i ≡ length old → const_at new i ≡ v
+added_at old new v i e d =
+    ap (λ l. get_or l i (Truth false)) e ∙ ap (λ n. get_or (old ++ v ∷ []) n (Truth false)) d
+    ∙ get_or-append_seam old v [] (Truth false)
+
+-- its number is in the table
+pub added_within :
+    (old new : List Const) (v : Const) (i : ℕ) → new ≡ old ++ v ∷ [] → i ≡ length old → i < length new
+added_within old new v i e d = omega (arith, d, ap length e, length-append old (v ∷ []))

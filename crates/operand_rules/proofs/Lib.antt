@@ -1,0 +1,11 @@
+pub mod TypeLemmas
+pub mod FoldingLemmas
+pub mod UnaryLemmas
+pub mod OpenLemmas
+pub mod OperatorLemmas
+pub mod OpenedLemmas
+pub mod ArithmeticLemmas
+pub mod LiteralLemmas
+pub mod ConversionLemmas
+pub mod ShiftLemmas
+pub mod ConstantLemmas

@@ -1,0 +1,13 @@
+-- Constants by their numbers (Go specification, Constants).
+use Rattle.std.specs.Prelude.{◌≡◌, ℕ, ◌<◌, ◌≤◌, false, List, length, slice_index_or}
+use Rattle.const_eval.specs.declared.consts.Const.{Const}
+use Rattle.const_eval.specs.declared.consts.Const.TheVariants.{Truth}
+
+-- the constant of a number
+abbrev pub const_at : List Const → ℕ → Const
+const_at cs i = slice_index_or cs i (Truth false)
+
+-- constants are added, and those that are there stay
+pub record Grown (old new : List Const) : Type 0 where
+  pub more : length old ≤ length new
+  pub same : (i : ℕ) → i < length old → const_at new i ≡ const_at old i

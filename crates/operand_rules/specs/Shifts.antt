@@ -1,0 +1,13 @@
+-- Counts of shifts (Go specification, Operators).
+use Rattle.std.specs.Prelude.{◌≡◌, ◌<◌, true, List, length}
+use Rattle.const_eval.specs.declared.consts.Const.{Const}
+use Rattle.const_eval.specs.Conditions.{is_whole}
+use Rattle.operand_rules.specs.declared.values.Content.{Content}
+use Rattle.operand_rules.specs.declared.values.Content.TheVariants.{Run, Exact, Shift}
+use Rattle.operand_rules.specs.Constants.{const_at}
+
+-- a constant count is a whole number of the table
+abbrev pub IsCount : List Const → Content → Type 0
+IsCount cs Run = Unit {0}
+IsCount cs (Exact c) = (c.0 < length cs) × (is_whole (const_at cs c.0) ≡ true)
+IsCount cs (Shift b) = Unit {0}

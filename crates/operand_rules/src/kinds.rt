@@ -1,0 +1,79 @@
+//! Kinds of types and values (Go specification, Numeric types; Boolean types; String types).
+
+ghost use Rattle.std.specs.Prelude.{◌≡◌, ◌<◌, length};
+ghost use Rattle.const_eval.specs.Conditions.{is_number_kind};
+ghost use Rattle.const_eval.specs.Exact.{is_text_kind, is_truth_kind};
+ghost use Rattle.const_eval.specs.declared.kinds.Kind.TheVariants.{Uint8};
+ghost use Rattle.go_types.specs.Operands as go;
+ghost use Rattle.go_types.specs.Types.{same_kind};
+ghost use Rattle.go_types.specs.Relations.{akin};
+ghost use Rattle.type_relations.specs.Environment.{defined_types};
+ghost use Rattle.type_relations.specs.Kinds.{under_kind};
+ghost use Rattle.operand_rules.specs.Values.{IsType, type_of};
+
+use crate::values::ValueType;
+use const_eval::Kind;
+use type_relations::Env;
+use type_table::{TypeId, TypeNode};
+
+/// A kind of whole numbers.
+pub(crate) fn is_number_kind(k: Kind) -> bool
+    ensures { result ≡ is_number_kind k }
+{
+    !is_truth_kind(k) && !is_text_kind(k)
+}
+
+/// A kind of truth values.
+pub(crate) fn is_truth_kind(k: Kind) -> bool
+    ensures { result ≡ is_truth_kind k }
+{
+    matches!(k, Kind::Bool | Kind::UntypedBool)
+}
+
+/// A kind of strings.
+pub(crate) fn is_text_kind(k: Kind) -> bool
+    ensures { result ≡ is_text_kind k }
+{
+    matches!(k, Kind::Str | Kind::UntypedStr)
+}
+
+/// Both are kinds of numbers, of truth values, or of strings.
+pub(crate) fn akin(j: Kind, k: Kind) -> bool
+    ensures { result ≡ akin j k }
+{
+    (is_number_kind(j) && is_number_kind(k))
+        || (is_truth_kind(j) && is_truth_kind(k))
+        || (is_text_kind(j) && is_text_kind(k))
+}
+
+/// The kind of `uint8`, which is that of `byte`.
+pub(crate) fn is_byte_kind(k: Kind) -> bool
+    ensures { result ≡ same_kind Uint8 k }
+{
+    matches!(k, Kind::Uint8)
+}
+
+/// The kind of the underlying type, where that is a predeclared type.
+pub(crate) fn under_kind(env: &Env, t: TypeId) -> Option<Kind>
+    requires { t.0 < length env.now.rows }
+    ensures { result ≡ under_kind env.now t.0 }
+{
+    match env.node(env.under(t)) {
+        TypeNode::Basic(k) => Some(*k),
+        _ => None,
+    }
+}
+
+/// The kind of a value's operations: that of its underlying type, or of the untyped constant (Go
+/// specification, Constants; Arithmetic operators).
+#[tactic(auto, using(crate::proofs::TypeLemmas::kind_of_typed))]
+pub fn kind_of(env: &Env, t: ValueType) -> Option<Kind>
+    requires { IsType env.now t }
+    ensures { result ≡ go.kind_of (defined_types env.now) (type_of env.now t) }
+{
+    match t {
+        ValueType::Typed(t) => under_kind(env, t),
+        ValueType::Untyped(k) => Some(k),
+        ValueType::Nil => None,
+    }
+}
