@@ -1,0 +1,5 @@
+pub mod OffCycles
+pub mod NamesHere
+pub mod Unobstructed
+pub mod UsesPut
+mod Examples

@@ -1,0 +1,2 @@
+pub mod NamesPut
+pub mod Laws

@@ -1,0 +1,3 @@
+pub mod FormLayouts
+pub mod FormsFound
+mod Examples

@@ -1,0 +1,2 @@
+pub mod UnspreadForms
+pub mod Laws
