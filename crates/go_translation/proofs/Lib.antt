@@ -41,6 +41,13 @@ pub mod AskedFor
 pub mod DeclaredKnown
 pub mod ProgramAsking
 pub mod TranslationLaws
+pub mod Keeping
+pub mod KeptTerms
+pub mod KeptPlaces
+pub mod KeptDeclarations
+pub mod KeptBodies
+pub mod TranslationKept
+pub mod ProgramKept
 mod TermClasses
 mod TermShapes
 pub mod SwappedMeaning

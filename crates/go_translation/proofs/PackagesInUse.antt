@@ -6,8 +6,11 @@ use Rattle.go_kernel.specs.Laws.{Ranked}
 use Rattle.typed_in_place.specs.ProgramsAlike.{no_more, and_more}
 use Rattle.go_translation.specs.Packages.{Package, codes_of, functions_of, program_of, shown_by}
 use Rattle.go_translation.specs.Asked.{is_ranked, asks_nothing_missing}
+use Rattle.go_translation.specs.Frames.{frames_are_kept}
+use Rattle.go_translation.specs.Spelled.{AreSpelled}
 use Rattle.go_translation.specs.SpansAside.{AllSameButSpans}
 use Rattle.go_translation.proofs.PackagesBare.{shown-bare}
+use Rattle.go_translation.proofs.ProgramKept.{frames_kept}
 use Rattle.go_translation.proofs.Ranks.{program_ranked}
 use Rattle.go_translation.proofs.Shown.{main_package}
 use Rattle.go_types.proofs.Trees.{ty, par, sig, v, int, app, ret, ev, dfr, func_at}
@@ -50,3 +53,10 @@ not_ranked = refl
 -- each function that is called or deferred is declared
 nothing_missing : asks_nothing_missing (codes_of calls) ≡ true
 nothing_missing = refl
+
+-- the one local name is one that a source can spell
+calls_spelled : AreSpelled calls
+calls_spelled = ((tt, (refl, tt), ((tt, tt), tt)), ((tt, (refl, tt), (((tt, (tt, tt)), tt), tt)), ((tt, tt, ((tt, (tt, tt)), ((tt, ((tt, (tt, tt)), tt)), tt))), tt)))
+
+calls_keep : frames_are_kept (codes_of calls) ≡ true
+calls_keep = frames_kept calls calls_spelled

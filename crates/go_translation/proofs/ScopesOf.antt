@@ -268,7 +268,7 @@ new_constants_in a ns t os j d e = go t os (as_constants (both t os (λ t os. gi
     go (Some t) None e = grind (arith, e)
     go (Some t) (Some os) e = let q : ((vs : List Typed) × (all_typed os ≡ Some vs) × (bind_all (constant_entity (defined_in a) t) ns vs ≡ Some d.binds)) = from_given (all_typed os) (bind_all (constant_entity (defined_in a) t) ns) d.binds e in bind_constants_in (defined_in a) t ns q.0 d.binds j q.2
 
-new_variables_in : (a : Env) (ns : List (List ℕ)) (t : Option (Option GoType)) (zeros : Bool) (vs : Option (List Typed)) (j : List Name) → AllIn ns j → DeclaresIn j (new_variables a ns t zeros vs)
+pub new_variables_in : (a : Env) (ns : List (List ℕ)) (t : Option (Option GoType)) (zeros : Bool) (vs : Option (List Typed)) (j : List Name) → AllIn ns j → DeclaresIn j (new_variables a ns t zeros vs)
 new_variables_in a ns t zeros vs j p d e = go t zeros vs (as_variables (given t (λ t. if zeros then given t (λ t. Some (bind_each (variable t) ns)) else given vs (bind_all (variable_entity (defined_in a) t) ns))) d (from_only (may_declare a ns) _ d e))
   where
     go : (t : Option (Option GoType)) (zeros : Bool) (vs : Option (List Typed)) → given t (λ t. if zeros then given t (λ t. Some (bind_each (variable t) ns)) else given vs (bind_all (variable_entity (defined_in a) t) ns)) ≡ Some d.binds → VarsIn j d.binds
@@ -278,14 +278,14 @@ new_variables_in a ns t zeros vs j p d e = go t zeros vs (as_variables (given t 
     go (Some t) false None e = grind (arith, e)
     go (Some t) false (Some vs) e = bind_all_in (defined_in a) t ns vs d.binds j e p
 
-new_by_define_in : (a : Env) (ns : List (List ℕ)) (vs : Option (List Typed)) (j : List Name) → AllNew a ns j → DeclaresIn j (new_by_define a ns vs)
+pub new_by_define_in : (a : Env) (ns : List (List ℕ)) (vs : Option (List Typed)) (j : List Name) → AllNew a ns j → DeclaresIn j (new_by_define a ns vs)
 new_by_define_in a ns vs j p d e = go vs (as_some (given vs (defined_by (defined_in a) a ns)) d (from_only (names_once ns) _ d e))
   where
     go : (vs : Option (List Typed)) → given vs (defined_by (defined_in a) a ns) ≡ Some d.binds → VarsIn j d.binds
     go None e = grind (arith, e)
     go (Some vs) e = defined_by_in a ns vs d.binds j e p
 
-new_by_range_in : (a : Env) (ns : List (List ℕ)) (o : Option Typed) (j : List Name) → AllIn ns j → (d : Declared) → given o (λ v. only_if (names_once ns) (some_declared (given (range_types (defined_in a) v) (range_binds (defined_in a) ns)))) ≡ Some d → VarsIn j d.binds
+pub new_by_range_in : (a : Env) (ns : List (List ℕ)) (o : Option Typed) (j : List Name) → AllIn ns j → (d : Declared) → given o (λ v. only_if (names_once ns) (some_declared (given (range_types (defined_in a) v) (range_binds (defined_in a) ns)))) ≡ Some d → VarsIn j d.binds
 new_by_range_in a ns None j p d e = grind arith
 new_by_range_in a ns (Some v) j p d e = go (range_types (defined_in a) v) (as_some (given (range_types (defined_in a) v) (range_binds (defined_in a) ns)) d (from_only (names_once ns) _ d e))
   where

@@ -22,6 +22,8 @@ use Rattle.go_kernel.specs.Laws.{Ranked, AllScoped}
 use Rattle.go_translation.specs.Packages.{Package, codes_of, initial_of, functions_of, program_of, shown_by, freely_shown_by}
 use Rattle.go_translation.specs.SameMeaning.{Packages, WellTyped, with_further, HasMain, SameMeaning}
 use Rattle.go_translation.specs.Asked.{is_ranked, asks_nothing_missing}
+use Rattle.go_translation.specs.Spelled.{AreSpelled}
+use Rattle.go_translation.specs.Frames.{frames_are_kept}
 use Rattle.go_translation.specs.SpansAside.{AllSameButSpans}
 use Rattle.go_translation.specs.Agreement.{at_names, OnHere, AgreesHere}
 use Rattle.go_translation.specs.Widths.{GivesItsValues, AllThere, Reachable}
@@ -123,6 +125,11 @@ abbrev pub DeferredParametersKeepTheirValue : Type 0
 DeferredParametersKeepTheirValue =
     (ms : List Mention) (n : List ℕ) → any_mention (λ m. m.deferred) n ms ≡ true →
     (is_held_param ms n ≡ true) ⊎ (any_mention (λ m. is_stored m.way) n ms ≡ false)
+
+-- So the terms of packages keep the frames of deferred literals: no local that one names from outside is assigned, but
+-- for the cell in which it lives. The names that the packages declare in bodies are names that a source can spell.
+abbrev pub FramesAreKept : Type 0
+FramesAreKept = (ps : List (Package Span)) → AreSpelled ps → frames_are_kept (codes_of ps) ≡ true
 
 -- ---- budgets and free prices
 

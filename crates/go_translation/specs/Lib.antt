@@ -9,6 +9,7 @@ pub mod Statements
 pub mod Facts
 pub mod Translation
 pub mod Packages
+pub mod Spelled
 pub mod SpansAside
 pub mod Asked
 pub mod SameMeaning

@@ -71,7 +71,7 @@ selected_way w = w
 -- how the operand of a selector stands: a field of a struct value stands as the value does, and a field of what a
 -- pointer points to is reached by reading the pointer
 abbrev pub operand_way : List Defined → ℕ → List ℕ → Way → Option Typed → Way
-operand_way ds home n w None = Read
+operand_way ds home n w None = selected_way w
 operand_way ds home n w (Some v) =
     if takes_address ds home n v.0 then Addressed else (if is_pointer ds v.0 then Read else selected_way w)
 

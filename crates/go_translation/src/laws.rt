@@ -1,6 +1,7 @@
 //! Laws of translation.
 
-ghost use Rattle.go_translation.specs.Laws.{DeferredVariablesAreHeld, RankedByComputing};
+ghost use Rattle.go_translation.specs.Laws.{DeferredVariablesAreHeld, FramesAreKept};
+ghost use Rattle.go_translation.specs.Laws.{RankedByComputing};
 ghost use Rattle.go_translation.specs.Laws.{DeferredParametersKeepTheirValue, LargerBudgetsCover};
 ghost use Rattle.go_translation.specs.Laws.{FreePricesCover, FreePricesAreCovered};
 ghost use Rattle.go_translation.specs.Laws.{EqualFreeShowsMeanTheSame, PackagesNeedNoSpans};
@@ -62,10 +63,11 @@ pub fn nothing_missing_is_asked_for()
 {}
 
 /// A variable that a deferred literal names from outside lives in a cell, or is a parameter to which
-/// nothing is stored: so the literal may keep the frame as it stands.
+/// nothing is stored: so the literal may keep the frame as it stands, and the terms of packages do.
 pub fn deferred_literals_may_keep_the_frame()
     ensures variables { DeferredVariablesAreHeld }
     ensures parameters { DeferredParametersKeepTheirValue }
+    ensures frames { FramesAreKept }
 {}
 
 /// What packages show grows with the budget, and free prices change it within a stated budget. So
