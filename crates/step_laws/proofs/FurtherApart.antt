@@ -9,7 +9,7 @@ use Rattle.typed_in_place.specs.ProgramReplaced.{All, all_of_none, all_and, Apar
 use Rattle.typed_in_place.proofs.Rising.{and_first, and_second}
 use Rattle.go_translation.specs.Packages.{Package, sources, has_path, has_number, are_distinct}
 
-both-all : {A : Type 0} {P : A → Type 0} {xs ys : List A} → All P xs → All P ys → All P (xs ++ ys)
+pub both-all : {A : Type 0} {P : A → Type 0} {xs ys : List A} → All P xs → All P ys → All P (xs ++ ys)
 both-all all_of_none q = q
 both-all (all_and r rs) q = all_and r (both-all rs q)
 

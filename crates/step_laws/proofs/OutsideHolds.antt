@@ -10,10 +10,10 @@ use Rattle.scope_names.specs.Scopes.{not_blank, new_names, specs_declare, param_
 use Rattle.scope_names.specs.Scopes as scopes
 use Rattle.go_types.specs.Answers.{is_among}
 use Rattle.go_types.specs.Types.{FuncType}
-use Rattle.go_types.specs.Entities.{Env, Binds, extend, in_block}
+use Rattle.go_types.specs.Entities.{Env, Binds, extend, in_block, refused}
 use Rattle.go_types.specs.TypeNames.{func_type}
 use Rattle.go_types.specs.Bodies.{body_ctx}
-use Rattle.go_types.specs.Statements.{bound_names}
+use Rattle.go_types.specs.Statements.{bound_names, bind_each}
 use Rattle.go_types.specs.Typing.{literal_env}
 use Rattle.form_in_place.specs.Bound.{stmt_binds, first_binds, range_left_binds, literal_binds, variable_binds}
 use Rattle.form_in_place.proofs.Uses.{among_append, among_left}
@@ -24,6 +24,7 @@ use Rattle.written_literal.proofs.WithinLaws.{behind_front}
 use Rattle.written_literal.proofs.ListedHeads.{listing, names_both, named_params}
 use Rattle.step_laws.specs.Answered.{HoldsWithin}
 use Rattle.step_laws.specs.NamesOutside.{NamesOutside}
+use Rattle.written_literal.proofs.Listed.{members_grow, grows, each_lists}
 
 or_true : (b : Bool) → (b || true) ≡ true
 or_true true = refl
@@ -246,4 +247,11 @@ module _ {S : Type 0} (top : Env) where
             grown around env p.env p.bound (names_of ns) (not_blank ns) (variable_binds env ns t es) (variable_binds p.env ns t es) r (as_listed (lists.after_variables env ns t es) p.bound r.typed_block) (as_listed (lists.after_variables p.env ns t es) p.bound r.walked_block)
             (λ n b i. in_front n (not_blank ns) p.bound (still_there n ns b i)) (λ n b. none_blank n ns b);
         in_literals = λ around env p g f e r. in_literal_of around env p g f (func_type p.env g) e r;
+        at_members = λ around env a bound i j r. record { outer = r.outer; listed = r.listed; typed_block = r.typed_block; walked_block = r.walked_block; world = r.world; blank = r.blank };
+        after_members = λ around env p r again n i ns o.
+            grown around env p.env p.bound (names_of ns) (not_blank ns) _ _ o (as_listed (members_grow env.here (record env { iota = Some n }) ns (r.0 env) (r.1 (record env { iota = Some n }))) p.bound o.typed_block)
+            (as_listed (members_grow p.env.here (record p.env { iota = Some i }) ns (again.0 p.env) (again.1 (record p.env { iota = Some i }))) p.bound o.walked_block) (λ m b j. in_front m (not_blank ns) p.bound (still_there m ns b j)) (λ m b. none_blank m ns b);
+        after_refused = λ around uses p again i ns o.
+            grown around uses p.env p.bound (names_of ns) (not_blank ns) _ _ o (as_listed (grows uses.here (not_blank ns) (bind_each refused (names_of ns)) (each_lists refused ns)) p.bound o.typed_block)
+            (as_listed (members_grow p.env.here (record p.env { iota = Some i }) ns (again.0 p.env) (again.1 (record p.env { iota = Some i }))) p.bound o.walked_block) (λ m b j. in_front m (not_blank ns) p.bound (still_there m ns b j)) (λ m b. none_blank m ns b);
       }

@@ -22,7 +22,7 @@ use Rattle.step_laws.proofs.FurtherApart.{further-apart}
 use Rattle.step_laws.proofs.SwapProgram.{constant-swapped, sources-before, sources-after}
 
 -- well-typed packages have distinct numbers
-distinct-before : {S : Type 0} (ps more : List (Package S)) → are_well_typed (ps ++ more) ≡ true → are_distinct (ps ++ more) ≡ true
+pub distinct-before : {S : Type 0} (ps more : List (Package S)) → are_well_typed (ps ++ more) ≡ true → are_distinct (ps ++ more) ≡ true
 distinct-before ps more w = and_first (are_distinct (ps ++ more)) (are_linked [] (ps ++ more) && well_typed (sources (ps ++ more))) w
 
 module _ {S : Type 0} (same : S → S → Bool) (rs : List (run.Package S)) (z : S) (e : Expr S) (number : ℕ) (pk : run.Package S) (tree : File S) where

@@ -46,6 +46,11 @@ use-of-constant ps h c f w top p x e u =
       new_free = u.new_free;
     }
 
+-- that constant is what the declaration names
+pub constant-of-use : {S : Type 0} (ps : Program S) (h : Headed S) (c : NameAt S) (f : Expr S) (w : World) (top : Env) (p : Place S) (x e : Expr S) (u : UseOfConstant ps h c f w top p x e) → (use-of-constant ps h c f w top p x e u).constant ≡ u.meant
+unfolding use-of-constant
+constant-of-use ps h c f w top p x e u = refl
+
 module _ {S : Type 0} (same : S → S → Bool) (rs : List (Package S)) (z : S) (e : Expr S) (number : ℕ) (pk : Package S) (file : File S) where
   files-with-use : (w : World) (home : ℕ) (in_main : Bool) (members : List (List ℕ)) (i m n : ℕ) (fs : List (SourceFile S)) → FilesUse same rs z e number pk file w home members m n fs → FilesThereStand same rs z e number pk file w home in_main members i m n fs
   files-with-use w home in_main members i m n [] h = tt

@@ -1,36 +1,41 @@
 -- Where uses of a constant become another name of it, a body's term stays: one line a clause of the walk.
-use Rattle.std.specs.Prelude.{◌≡◌, ℕ, suc, ◌+◌, Bool, true, false, List, [], ◌∷◌, ◌++◌, Option, Some, None, if◌then◌else◌}
-use mathlib.Core.Path.{ap, ◌∙◌, subst}
+use Rattle.std.specs.Prelude.{◌≡◌, ℕ, suc, ◌+◌, Bool, true, false, List, [], ◌∷◌, ◌++◌, Option, Some, None, if◌then◌else◌, refl}
+use mathlib.Core.Path.{ap, sym, ◌∙◌, subst}
 use Rattle.go_tree.specs.Tree.{Sig, Expr, ident, int_lit, rune_lit, str_lit, composite, selector, index, slice, call, func_lit, type_operand, unary, binary, star, Exprs, no_exprs, expr_and, ExprOption, no_expr, some_expr, Elems, no_elems, elem, Value, plain, braced, ValueOption, no_value, some_value, Stmt, const_decl, var_decl, empty, eval, step, assign, define, return_, break_, continue_, inner, if_, for_, range_, switch, defer, label, Stmts, no_stmts, stmt_and, StmtOption, no_stmt, some_stmt, BlockOption, no_block, some_block, RangeLeft, nothing, assigns, defines, Arms, no_arms, arm, Cases, no_cases, case, ValueSpecs, no_specs, spec}
 use Rattle.go_words.specs.Terminals.{level_of}
-use Rattle.scope_names.specs.FreeNames.{names_of, sig_names, declared, declared_option, defined}
+use Rattle.scope_names.specs.FreeNames.{names_of, sig_names, declared, declared_option, defined, specs_names}
 use Rattle.go_types.specs.Answers.{given, meets}
 use Rattle.go_types.specs.Types.{GoType}
 use Rattle.go_types.specs.Defined.{under}
-use Rattle.go_types.specs.Entities.{Env, defined_in, extend, in_block}
+use Rattle.go_types.specs.Entities.{Env, defined_in, extend, in_block, Entity}
 use Rattle.go_types.specs.TypeNames.{type_meant, func_type}
 use Rattle.go_types.specs.Literals.{is_struct, key_type, inner_type, literal_type}
 use Rattle.go_types.specs.Declarations.{binds_or}
 use Rattle.go_types.specs.Statements.{body_binds}
-use Rattle.go_types.specs.Typing.{parts, all_parts, literal_env, labelled, nothing_to_repeat}
+use Rattle.go_types.specs.Typing.{parts, all_parts, literal_env, labelled, nothing_to_repeat, Repeated}
 use Rattle.go_translation.specs.Mentions.{Mention, mentions_stmts}
 use Rattle.go_translation.specs.Here.{Here, defined_here, in_inner, declaring, at_body}
 use Rattle.go_translation.specs.Facts.{literal_names, spec_binds, following, after}
-use Rattle.go_translation.specs.Swapped.{loop_uses, loop_here, range_here, switch_uses, switch_here, arm_uses, arm_here, spec_uses, SwappedExpr}
-use Rattle.run_rules.specs.Rewriting.{Changes, new_stmts}
-use Rattle.run_rules.specs.Surroundings.{Use, whole, stored, updated, called, deferred_call, alone, other, a_slot, Place, Seen, seen, seen_type, seen_stmt, alike, into_type, head_use, later_uses, arg_uses, unary_use, operand_use, first_operand_use, right_uses, every_use, value_use, return_uses, elem_use, key_use, inner_slot, last_slot, in_slot, callee_place, comma_slot, elem_closed, after_stmt, after_first, block, looping, switching, in_heading, at_stmt, plain_slot, ranged, in_literal, after_variables}
+use Rattle.go_translation.specs.Swapped.{loop_uses, loop_here, range_here, switch_uses, switch_here, arm_uses, arm_here, spec_uses, SwappedExpr, SwappedConsts, bound_alike, bound_by}
+use Rattle.run_rules.specs.Rewriting.{Changes, new_stmts, new_constants}
+use Rattle.run_rules.specs.Surroundings.{Use, whole, stored, updated, called, deferred_call, alone, other, a_slot, Place, Seen, seen, seen_type, seen_stmt, alike, into_type, head_use, later_uses, arg_uses, unary_use, operand_use, first_operand_use, right_uses, every_use, value_use, return_uses, elem_use, key_use, inner_slot, last_slot, in_slot, callee_place, comma_slot, elem_closed, after_stmt, after_first, block, looping, switching, in_heading, at_stmt, plain_slot, ranged, in_literal, after_variables, after_constants, repeated_by}
 use Rattle.run_rules.specs.Places.{type_seen, written_seen, sig_seen, old_seen, after_arms, expr_seen, all_seen, option_seen, elems_seen, key_seen, value_seen, stmt_seen, stmts_seen, first_seen, block_seen, left_seen, arms_seen, cases_seen, constants_seen, variables_seen}
 use Rattle.typed_in_place.proofs.TypingReplaced.{parts-in}
-use Rattle.step_laws.specs.Answered.{HoldsWithin}
+use Rattle.step_laws.specs.Answered.{HoldsWithin, KeysAlike, KeyAlike, InnerAlike}
 use Rattle.step_laws.specs.NamesOutside.{NamesOutside, UseThere, AllUsesThere}
-use Rattle.step_laws.specs.SwapUses.{SwapThere, SigKnown, ElemsKnown, KeyKnown, ValueKnown, AllSwapsThere}
+use Rattle.step_laws.specs.SwapUses.{SwapThere, SigKnown, KeyKnown, ValueKnown, AllSwapsThere, BracesKnown}
 use Rattle.step_laws.specs.Swaps.{FieldOrOperand, a_field, an_operand, put, ExprSwaps, ExprsSwap, OptionSwaps, ElemsSwap, KeySwaps, ValueSwaps, StmtSwaps, StmtsSwap, FirstSwaps, BlockSwaps, LeftSwaps, ArmsSwap, CasesSwap, SpecsSwap}
 use Rattle.step_laws.proofs.ConstantLeaves.{constants-swap}
 use Rattle.step_laws.proofs.OutsideHolds.{outside_holds}
-use Rattle.step_laws.proofs.Standing.{expr-stands}
-use Rattle.step_laws.proofs.Swapping.{sig-same}
-use Rattle.step_laws.proofs.UsesAnswered.{NamedThere, named-there, expr-with-use}
-use Rattle.step_laws.proofs.Walking.{at-callee}
+use Rattle.step_laws.proofs.Standing.{expr-stands, constants-stand}
+use Rattle.step_laws.proofs.Swapping.{sig-same, names-same}
+use Rattle.step_laws.proofs.UsesAnswered.{NamedThere, named-there, expr-with-use, uses-answered, repeats-stay}
+use Rattle.step_laws.proofs.Walking.{at-callee, constants-walk}
+use Rattle.step_laws.specs.Kept.{RepeatsKept}
+use Rattle.step_laws.proofs.SpansKept.{value-kept}
+use Rattle.step_laws.proofs.GroupsDeclare.{group-declares}
+use Rattle.typed_in_place.specs.Leaves.{Names}
+use Rattle.go_tree.specs.declared.exprs.Rest.{Rest}
 
 module _ {S : Type 0} (same : S → S → Bool) (z : S) (e : Expr S) (top : Env) where
   abbrev c : Changes S
@@ -52,11 +57,35 @@ module _ {S : Type 0} (same : S → S → Bool) (z : S) (e : Expr S) (top : Env)
   uses-of [] a = tt
   uses-of (seen p u x ∷ xs) a = ((a.0.0.0, λ i. (a.0.1 i).use_), uses-of xs a.1)
   uses-of (seen_type p t ∷ xs) a = (tt, uses-of xs a.1)
-  uses-of (seen_stmt p s ∷ xs) a = (a.0.0, uses-of xs a.1)
+  uses-of (seen_stmt p s ∷ xs) a = (a.0, uses-of xs a.1)
 
-  as-operand : {Field Parts : Type 0} (b : Bool) (xs : List (Seen S)) → AllSwapsThere same z e top (if b then [] else xs) → Field → (AllSwapsThere same z e top xs → Parts) → FieldOrOperand Field Parts b
+  as-operand : {Field Parts : Type 0} (b : Bool) (xs : List (Seen S)) → AllSwapsThere same z e top (if b then [] else xs) → Field → (b ≡ false → AllSwapsThere same z e top xs → Parts) → FieldOrOperand Field Parts b
   as-operand true xs a q f = a_field q
-  as-operand false xs a q f = an_operand (f a)
+  as-operand false xs a q f = an_operand (f refl a)
+
+  -- a call is no use of a constant
+  no-call : (p : Place S) (x : Expr S) (b : Bool) → ((r : Option Entity) (n : List ℕ) → Names top x r n → ⊥) → (b ≡ true → SwapThere top p x e) → b ≡ false
+  no-call p x true none h = absurd (none (h refl).use_.old_means (h refl).use_.old (h refl).use_.old_names)
+  no-call p x false none h = refl
+
+  -- a call is no name
+  call-names : (s : S) (f : Expr S) (xs : Exprs S) (y : Rest) (r : Option Entity) (n : List ℕ) → Names top (call s f xs y) r n → ⊥
+  call-names s f xs y r n d = elim d [ ]
+
+  -- a group of constants declares what it did
+  specs-same : (p : Place S) (r : Repeated) (i : ℕ) (ss : ValueSpecs S) → specs_names ss ≡ specs_names (new_constants c p r i ss)
+  specs-same p r i no_specs = refl
+  specs-same p r i (spec s ns t es ss) = λ y. names_of (sym (names-same same z e ns) y) ++ specs-same (after_constants p (repeated_by r t es) i ns) (repeated_by r t es) (suc i) ss y
+
+  group-swaps : (around : List (List ℕ)) (h : Here) (p : Place S) (ss : ValueSpecs S) → NamesOutside top around h.env p.env p.bound → RepeatsKept same z (plain_slot p) nothing_to_repeat 0 ss → AllSwapsThere same z e top (constants_seen (plain_slot p) nothing_to_repeat 0 ss)
+      → SwappedConsts h 0 ss (new_constants c (plain_slot p) nothing_to_repeat 0 ss)
+  group-swaps around h p ss r kept a =
+      bound_alike (specs-same (plain_slot p) nothing_to_repeat 0 ss)
+      (λ o. ap bound_by
+      (group-declares
+      (constants-stand c around h.env h.env o o 0 (plain_slot p) nothing_to_repeat 0 ss
+      (constants-walk c (NamesOutside top) k around h.env h.env o o 0 (plain_slot p) nothing_to_repeat 0 ss r r (λ b. refl) (repeats-stay top same z e (plain_slot p) nothing_to_repeat 0 ss kept)
+      (uses-answered top same z e (constants_seen (plain_slot p) nothing_to_repeat 0 ss) (uses-of (constants_seen (plain_slot p) nothing_to_repeat 0 ss) a))))))
 
   -- a use and the other name of its constant
   swap-there : (around : List (List ℕ)) (h : Here) (p : Place S) (x : Expr S) → NamesOutside top around h.env p.env p.bound → SwapThere top p x e → SwappedExpr h x e
@@ -86,11 +115,11 @@ module _ {S : Type 0} (same : S → S → Bool) (z : S) (e : Expr S) (top : Env)
     expr-swaps around h p u (int_lit s n) r a = tt
     expr-swaps around h p u (rune_lit s n) r a = tt
     expr-swaps around h p u (str_lit s n) r a = tt
-    expr-swaps around h p u (composite s t es) r a = (((behind (type_seen p t ++ elems_seen (in_slot (a_slot 1 false false) p) (given (type_meant p.env t) (λ u. Some (under (defined_in p.env) u))) 0 es) (seen p u (composite s t es) ∷ []) a).0.0.1 around h r).0, (((behind (type_seen p t ++ elems_seen (in_slot (a_slot 1 false false) p) (given (type_meant p.env t) (λ u. Some (under (defined_in p.env) u))) 0 es) (seen p u (composite s t es) ∷ []) a).0.0.1 around h r).1.0, elems-swap around h (under (defined_here h) ((behind (type_seen p t ++ elems_seen (in_slot (a_slot 1 false false) p) (given (type_meant p.env t) (λ u. Some (under (defined_in p.env) u))) 0 es) (seen p u (composite s t es) ∷ []) a).0.0.1 around h r).0) (in_slot (a_slot 1 false false) p) (given (type_meant p.env t) (λ u. Some (under (defined_in p.env) u))) 0 es r ((behind (type_seen p t ++ elems_seen (in_slot (a_slot 1 false false) p) (given (type_meant p.env t) (λ u. Some (under (defined_in p.env) u))) 0 es) (seen p u (composite s t es) ∷ []) a).0.0.1 around h r).1.1 (behind (type_seen p t) (elems_seen (in_slot (a_slot 1 false false) p) (given (type_meant p.env t) (λ u. Some (under (defined_in p.env) u))) 0 es) (front (type_seen p t ++ elems_seen (in_slot (a_slot 1 false false) p) (given (type_meant p.env t) (λ u. Some (under (defined_in p.env) u))) 0 es) (seen p u (composite s t es) ∷ []) a))))
+    expr-swaps around h p u (composite s t es) r a = (((behind (type_seen p t ++ elems_seen (in_slot (a_slot 1 false false) p) (given (type_meant p.env t) (λ u. Some (under (defined_in p.env) u))) 0 es) (seen p u (composite s t es) ∷ []) a).0.0.1 around h r).0, (((behind (type_seen p t ++ elems_seen (in_slot (a_slot 1 false false) p) (given (type_meant p.env t) (λ u. Some (under (defined_in p.env) u))) 0 es) (seen p u (composite s t es) ∷ []) a).0.0.1 around h r).1.0, elems-swap around h (under (defined_here h) ((behind (type_seen p t ++ elems_seen (in_slot (a_slot 1 false false) p) (given (type_meant p.env t) (λ u. Some (under (defined_in p.env) u))) 0 es) (seen p u (composite s t es) ∷ []) a).0.0.1 around h r).0) (in_slot (a_slot 1 false false) p) (given (type_meant p.env t) (λ u. Some (under (defined_in p.env) u))) 0 es r (subst (λ o. KeysAlike h.env p.env (given o (λ u. Some (under (defined_in h.env) u))) (given (type_meant p.env t) (λ u. Some (under (defined_in p.env) u))) 0 es) ((behind (type_seen p t ++ elems_seen (in_slot (a_slot 1 false false) p) (given (type_meant p.env t) (λ u. Some (under (defined_in p.env) u))) 0 es) (seen p u (composite s t es) ∷ []) a).0.0.1 around h r).1.0 ((behind (type_seen p t ++ elems_seen (in_slot (a_slot 1 false false) p) (given (type_meant p.env t) (λ u. Some (under (defined_in p.env) u))) 0 es) (seen p u (composite s t es) ∷ []) a).0.0.0 around h.env r)) ((behind (type_seen p t ++ elems_seen (in_slot (a_slot 1 false false) p) (given (type_meant p.env t) (λ u. Some (under (defined_in p.env) u))) 0 es) (seen p u (composite s t es) ∷ []) a).0.0.1 around h r).1.1 (behind (type_seen p t) (elems_seen (in_slot (a_slot 1 false false) p) (given (type_meant p.env t) (λ u. Some (under (defined_in p.env) u))) 0 es) (front (type_seen p t ++ elems_seen (in_slot (a_slot 1 false false) p) (given (type_meant p.env t) (λ u. Some (under (defined_in p.env) u))) 0 es) (seen p u (composite s t es) ∷ []) a))))
     expr-swaps around h p u (selector s b n) r a = ((λ at. swap-there around h p (selector s b n) r ((behind (expr_seen (in_slot (inner_slot p.slot (selector s b n) 7 false true) p) other b) (seen p u (selector s b n) ∷ []) a).0.1 at)), expr-swaps around h (in_slot (inner_slot p.slot (selector s b n) 7 false true) p) other b r (front (expr_seen (in_slot (inner_slot p.slot (selector s b n) 7 false true) p) other b) (seen p u (selector s b n) ∷ []) a))
     expr-swaps around h p u (index s b i) r a = (expr-swaps around h (in_slot (inner_slot p.slot (index s b i) 7 false false) p) other b r (front (expr_seen (in_slot (inner_slot p.slot (index s b i) 7 false false) p) other b) (expr_seen (in_slot (a_slot 1 false false) p) other i) (front (expr_seen (in_slot (inner_slot p.slot (index s b i) 7 false false) p) other b ++ expr_seen (in_slot (a_slot 1 false false) p) other i) (seen p u (index s b i) ∷ []) a)), expr-swaps around h (in_slot (a_slot 1 false false) p) other i r (behind (expr_seen (in_slot (inner_slot p.slot (index s b i) 7 false false) p) other b) (expr_seen (in_slot (a_slot 1 false false) p) other i) (front (expr_seen (in_slot (inner_slot p.slot (index s b i) 7 false false) p) other b ++ expr_seen (in_slot (a_slot 1 false false) p) other i) (seen p u (index s b i) ∷ []) a)))
     expr-swaps around h p u (slice s b i j) r a = (expr-swaps around h (in_slot (inner_slot p.slot (slice s b i j) 7 false false) p) other b r (front (expr_seen (in_slot (inner_slot p.slot (slice s b i j) 7 false false) p) other b) (option_seen (in_slot (a_slot 1 false false) p) i) (front (expr_seen (in_slot (inner_slot p.slot (slice s b i j) 7 false false) p) other b ++ option_seen (in_slot (a_slot 1 false false) p) i) (option_seen (in_slot (a_slot 1 false false) p) j) (front (expr_seen (in_slot (inner_slot p.slot (slice s b i j) 7 false false) p) other b ++ option_seen (in_slot (a_slot 1 false false) p) i ++ option_seen (in_slot (a_slot 1 false false) p) j) (seen p u (slice s b i j) ∷ []) a))), (option-swaps around h (in_slot (a_slot 1 false false) p) i r (behind (expr_seen (in_slot (inner_slot p.slot (slice s b i j) 7 false false) p) other b) (option_seen (in_slot (a_slot 1 false false) p) i) (front (expr_seen (in_slot (inner_slot p.slot (slice s b i j) 7 false false) p) other b ++ option_seen (in_slot (a_slot 1 false false) p) i) (option_seen (in_slot (a_slot 1 false false) p) j) (front (expr_seen (in_slot (inner_slot p.slot (slice s b i j) 7 false false) p) other b ++ option_seen (in_slot (a_slot 1 false false) p) i ++ option_seen (in_slot (a_slot 1 false false) p) j) (seen p u (slice s b i j) ∷ []) a))), option-swaps around h (in_slot (a_slot 1 false false) p) j r (behind (expr_seen (in_slot (inner_slot p.slot (slice s b i j) 7 false false) p) other b ++ option_seen (in_slot (a_slot 1 false false) p) i) (option_seen (in_slot (a_slot 1 false false) p) j) (front (expr_seen (in_slot (inner_slot p.slot (slice s b i j) 7 false false) p) other b ++ option_seen (in_slot (a_slot 1 false false) p) i ++ option_seen (in_slot (a_slot 1 false false) p) j) (seen p u (slice s b i j) ∷ []) a))))
-    expr-swaps around h p u (call s f xs y) r a = ((behind (expr_seen (callee_place (inner_slot p.slot (call s f xs y) 7 true false) f p) called f ++ all_seen (in_slot (a_slot 1 false true) p) (arg_uses p.env (parts p.env f) (all_parts p.env xs)) xs) (seen p u (call s f xs y) ∷ []) a).0.0.1, (expr-swaps around h (callee_place (inner_slot p.slot (call s f xs y) 7 true false) f p) called f (at-callee c (NamesOutside top) k around h.env (inner_slot p.slot (call s f xs y) 7 true false) f p r) (front (expr_seen (callee_place (inner_slot p.slot (call s f xs y) 7 true false) f p) called f) (all_seen (in_slot (a_slot 1 false true) p) (arg_uses p.env (parts p.env f) (all_parts p.env xs)) xs) (front (expr_seen (callee_place (inner_slot p.slot (call s f xs y) 7 true false) f p) called f ++ all_seen (in_slot (a_slot 1 false true) p) (arg_uses p.env (parts p.env f) (all_parts p.env xs)) xs) (seen p u (call s f xs y) ∷ []) a)), all-swap around h (in_slot (a_slot 1 false true) p) (arg_uses p.env (parts p.env f) (all_parts p.env xs)) xs r (behind (expr_seen (callee_place (inner_slot p.slot (call s f xs y) 7 true false) f p) called f) (all_seen (in_slot (a_slot 1 false true) p) (arg_uses p.env (parts p.env f) (all_parts p.env xs)) xs) (front (expr_seen (callee_place (inner_slot p.slot (call s f xs y) 7 true false) f p) called f ++ all_seen (in_slot (a_slot 1 false true) p) (arg_uses p.env (parts p.env f) (all_parts p.env xs)) xs) (seen p u (call s f xs y) ∷ []) a))))
+    expr-swaps around h p u (call s f xs y) r a = (no-call p (call s f xs y) (same z s) (call-names s f xs y) (behind (expr_seen (callee_place (inner_slot p.slot (call s f xs y) 7 true false) f p) called f ++ all_seen (in_slot (a_slot 1 false true) p) (arg_uses p.env (parts p.env f) (all_parts p.env xs)) xs) (seen p u (call s f xs y) ∷ []) a).0.1, (expr-swaps around h (callee_place (inner_slot p.slot (call s f xs y) 7 true false) f p) called f (at-callee c (NamesOutside top) k around h.env (inner_slot p.slot (call s f xs y) 7 true false) f p r) (front (expr_seen (callee_place (inner_slot p.slot (call s f xs y) 7 true false) f p) called f) (all_seen (in_slot (a_slot 1 false true) p) (arg_uses p.env (parts p.env f) (all_parts p.env xs)) xs) (front (expr_seen (callee_place (inner_slot p.slot (call s f xs y) 7 true false) f p) called f ++ all_seen (in_slot (a_slot 1 false true) p) (arg_uses p.env (parts p.env f) (all_parts p.env xs)) xs) (seen p u (call s f xs y) ∷ []) a)), all-swap around h (in_slot (a_slot 1 false true) p) (arg_uses p.env (parts p.env f) (all_parts p.env xs)) xs r (behind (expr_seen (callee_place (inner_slot p.slot (call s f xs y) 7 true false) f p) called f) (all_seen (in_slot (a_slot 1 false true) p) (arg_uses p.env (parts p.env f) (all_parts p.env xs)) xs) (front (expr_seen (callee_place (inner_slot p.slot (call s f xs y) 7 true false) f p) called f ++ all_seen (in_slot (a_slot 1 false true) p) (arg_uses p.env (parts p.env f) (all_parts p.env xs)) xs) (seen p u (call s f xs y) ∷ []) a))))
     expr-swaps around h p u (func_lit s g y b) r a = (((behind (sig_seen p g ++ stmts_seen (in_literal p g) b) (seen p u (func_lit s g y b) ∷ []) a).0.0.1 around h r).type, (((behind (sig_seen p g ++ stmts_seen (in_literal p g) b) (seen p u (func_lit s g y b) ∷ []) a).0.0.1 around h r).binds, (((behind (sig_seen p g ++ stmts_seen (in_literal p g) b) (seen p u (func_lit s g y b) ∷ []) a).0.0.1 around h r).typed, (((behind (sig_seen p g ++ stmts_seen (in_literal p g) b) (seen p u (func_lit s g y b) ∷ []) a).0.0.1 around h r).bound, (literal-typed around h p u s g y b r a, stmts-swap (sig_names g ++ around) (at_body h ((behind (sig_seen p g ++ stmts_seen (in_literal p g) b) (seen p u (func_lit s g y b) ∷ []) a).0.0.1 around h r).binds (literal_names g ((behind (sig_seen p g ++ stmts_seen (in_literal p g) b) (seen p u (func_lit s g y b) ∷ []) a).0.0.1 around h r).type) (mentions_stmts (extend ((behind (sig_seen p g ++ stmts_seen (in_literal p g) b) (seen p u (func_lit s g y b) ∷ []) a).0.0.1 around h r).binds (in_block h.env)) b)) (in_literal p g) b (literal-begins around h p g ((behind (sig_seen p g ++ stmts_seen (in_literal p g) b) (seen p u (func_lit s g y b) ∷ []) a).0.0.1 around h r) (k.in_literals around h.env p g (behind (sig_seen p g ++ stmts_seen (in_literal p g) b) (seen p u (func_lit s g y b) ∷ []) a).0.0.0.0 (behind (sig_seen p g ++ stmts_seen (in_literal p g) b) (seen p u (func_lit s g y b) ∷ []) a).0.0.0.1 r)) (behind (sig_seen p g) (stmts_seen (in_literal p g) b) (front (sig_seen p g ++ stmts_seen (in_literal p g) b) (seen p u (func_lit s g y b) ∷ []) a)))))))
     expr-swaps around h p u (type_operand s t) r a = tt
     expr-swaps around h p u (unary s o x) r a = expr-swaps around h (in_slot (last_slot p.slot (unary s o x) 6 (Some o)) p) (unary_use o) x r (front (expr_seen (in_slot (last_slot p.slot (unary s o x) 6 (Some o)) p) (unary_use o) x) (seen p u (unary s o x) ∷ []) a)
@@ -105,20 +134,20 @@ module _ {S : Type 0} (same : S → S → Bool) (z : S) (e : Expr S) (top : Env)
     option-swaps around h p no_expr r a = tt
     option-swaps around h p (some_expr x) r a = expr-swaps around h p other x r a
 
-    elems-swap : (around : List (List ℕ)) (h : Here) (w : GoType) (p : Place S) (u : Option GoType) (i : ℕ) (es : Elems S) → NamesOutside top around h.env p.env p.bound → ElemsKnown (defined_here h) w p.env u i es → AllSwapsThere same z e top (elems_seen p u i es) → ElemsSwap same z e h w p u i es
-    elems-swap around h w p u i no_elems r m a = tt
-    elems-swap around h w p u i (elem s key v es) r m a = (key-swaps around h w p u key r m.0 (front (key_seen p u key) (value_seen (record p { slot = a_slot 1 false (elem_closed es) }) (elem_use p.env u i key) v) (front (key_seen p u key ++ value_seen (record p { slot = a_slot 1 false (elem_closed es) }) (elem_use p.env u i key) v) (elems_seen p u (suc i) es) a)), (value-swaps around h (inner_type (defined_here h) w) (record p { slot = a_slot 1 false (elem_closed es) }) (elem_use p.env u i key) v r m.1.0 (behind (key_seen p u key) (value_seen (record p { slot = a_slot 1 false (elem_closed es) }) (elem_use p.env u i key) v) (front (key_seen p u key ++ value_seen (record p { slot = a_slot 1 false (elem_closed es) }) (elem_use p.env u i key) v) (elems_seen p u (suc i) es) a)), elems-swap around h w p u (suc i) es r m.1.1 (behind (key_seen p u key ++ value_seen (record p { slot = a_slot 1 false (elem_closed es) }) (elem_use p.env u i key) v) (elems_seen p u (suc i) es) a)))
+    elems-swap : (around : List (List ℕ)) (h : Here) (w : GoType) (p : Place S) (u : Option GoType) (i : ℕ) (es : Elems S) → NamesOutside top around h.env p.env p.bound → KeysAlike h.env p.env (Some w) u i es → BracesKnown (defined_here h) w es → AllSwapsThere same z e top (elems_seen p u i es) → ElemsSwap same z e h w p u i es
+    elems-swap around h w p u i no_elems r j m a = tt
+    elems-swap around h w p u i (elem s key v es) r j m a = (key-swaps around h w p u key r j.0 m.0 (front (key_seen p u key) (value_seen (record p { slot = a_slot 1 false (elem_closed es) }) (elem_use p.env u i key) v) (front (key_seen p u key ++ value_seen (record p { slot = a_slot 1 false (elem_closed es) }) (elem_use p.env u i key) v) (elems_seen p u (suc i) es) a)), (value-swaps around h (inner_type (defined_here h) w) (record p { slot = a_slot 1 false (elem_closed es) }) (elem_use p.env u i key) v r j.1.0 m.1.0 (behind (key_seen p u key) (value_seen (record p { slot = a_slot 1 false (elem_closed es) }) (elem_use p.env u i key) v) (front (key_seen p u key ++ value_seen (record p { slot = a_slot 1 false (elem_closed es) }) (elem_use p.env u i key) v) (elems_seen p u (suc i) es) a)), elems-swap around h w p u (suc i) es r j.1.1 m.1.1 (behind (key_seen p u key ++ value_seen (record p { slot = a_slot 1 false (elem_closed es) }) (elem_use p.env u i key) v) (elems_seen p u (suc i) es) a)))
 
-    key-swaps : (around : List (List ℕ)) (h : Here) (w : GoType) (p : Place S) (u : Option GoType) (x : ValueOption S) → NamesOutside top around h.env p.env p.bound → KeyKnown (defined_here h) w p.env u x → AllSwapsThere same z e top (key_seen p u x) → KeySwaps same z e h w p u x
-    key-swaps around h w p u no_value r m a = tt
-    key-swaps around h w p u (some_value v) r m a = (m.0, as-operand (meets u is_struct) (value_seen p (key_use p.env u) v) a m.1.0 (λ b. value-swaps around h (key_type (defined_here h) w) p (key_use p.env u) v r m.1.1 b))
+    key-swaps : (around : List (List ℕ)) (h : Here) (w : GoType) (p : Place S) (u : Option GoType) (x : ValueOption S) → NamesOutside top around h.env p.env p.bound → KeyAlike h.env p.env (Some w) u x → KeyKnown (defined_here h) w x → AllSwapsThere same z e top (key_seen p u x) → KeySwaps same z e h w p u x
+    key-swaps around h w p u no_value r j m a = tt
+    key-swaps around h w p u (some_value v) r j m a = (j.0, as-operand (meets u is_struct) (value_seen p (key_use p.env u) v) a (value-kept v) (λ q b. value-swaps around h (key_type (defined_here h) w) p (key_use p.env u) v r j.1 (m (j.0.equal ∙ q)) b))
 
-    value-swaps : (around : List (List ℕ)) (h : Here) (t : Option GoType) (p : Place S) (u : Use) (x : Value S) → NamesOutside top around h.env p.env p.bound → ValueKnown (defined_here h) t p.env u x → AllSwapsThere same z e top (value_seen p u x) → ValueSwaps same z e h t p u x
-    value-swaps around h t p u (plain x) r m a = expr-swaps around h p u x r a
-    value-swaps around h t p u (braced s es) r m a = (m.0, (m.1.0, elems-swap around h (under (defined_here h) (literal_type (defined_here h) m.0)) p (given (into_type u) (λ t. Some (under (defined_in p.env) (literal_type (defined_in p.env) t)))) 0 es r m.1.1 a))
+    value-swaps : (around : List (List ℕ)) (h : Here) (t : Option GoType) (p : Place S) (u : Use) (x : Value S) → NamesOutside top around h.env p.env p.bound → InnerAlike h.env p.env t u x → ValueKnown (defined_here h) t x → AllSwapsThere same z e top (value_seen p u x) → ValueSwaps same z e h t p u x
+    value-swaps around h t p u (plain x) r j m a = expr-swaps around h p u x r a
+    value-swaps around h t p u (braced s es) r j m a = (m.0, (m.1.0, elems-swap around h (under (defined_here h) (literal_type (defined_here h) m.0)) p (given (into_type u) (λ t. Some (under (defined_in p.env) (literal_type (defined_in p.env) t)))) 0 es r (subst (λ o. KeysAlike h.env p.env (given o (λ t. Some (under (defined_in h.env) (literal_type (defined_in h.env) t)))) (given (into_type u) (λ t. Some (under (defined_in p.env) (literal_type (defined_in p.env) t)))) 0 es) m.1.0 j) m.1.1 a))
 
     pub stmt-swaps : (around : List (List ℕ)) (h : Here) (ms : List Mention) (p : Place S) (l : Bool) (x : Stmt S) → NamesOutside top around h.env p.env p.bound → AllSwapsThere same z e top (stmt_seen p l x) → StmtSwaps same z e h ms p l x
-    stmt-swaps around h ms p l (const_decl s g ss) r a = (behind (constants_seen (plain_slot p) nothing_to_repeat 0 ss) (seen_stmt p (const_decl s g ss) ∷ []) a).0.1 around h r
+    stmt-swaps around h ms p l (const_decl s g ss) r a = group-swaps around h p ss r (behind (constants_seen (plain_slot p) nothing_to_repeat 0 ss) (seen_stmt p (const_decl s g ss) ∷ []) a).0 (front (constants_seen (plain_slot p) nothing_to_repeat 0 ss) (seen_stmt p (const_decl s g ss) ∷ []) a)
     stmt-swaps around h ms p l (var_decl s g ss) r a = specs-swap around h ms (plain_slot p) ss r (front (variables_seen (plain_slot p) ss) (seen_stmt p (var_decl s g ss) ∷ []) a)
     stmt-swaps around h ms p l (empty s) r a = tt
     stmt-swaps around h ms p l (eval s x) r a = expr-swaps around h p (alone l) x r (front (expr_seen p (alone l) x) (seen_stmt p (eval s x) ∷ []) a)

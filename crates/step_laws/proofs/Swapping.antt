@@ -38,11 +38,11 @@ module _ {S : Type 0} (same : S → S → Bool) (z : S) (e : Expr S) where
   abbrev c : Changes S
   c = put same z e
 
-  names-same : (ns : List (NameAt S)) → new_names c ns ≡ ns
+  pub names-same : (ns : List (NameAt S)) → new_names c ns ≡ ns
   names-same [] = refl
   names-same (n ∷ ns) = λ i. n ∷ names-same ns i
 
-  label-same : (n : Option (NameAt S)) → new_label c n ≡ n
+  pub label-same : (n : Option (NameAt S)) → new_label c n ≡ n
   label-same None = refl
   label-same (Some n) = refl
 

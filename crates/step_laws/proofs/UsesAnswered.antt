@@ -1,8 +1,8 @@
 -- A use of a constant whose name and the name that is put aren't declared around within the declaration: the two have the same facts there.
-use Rattle.std.specs.Prelude.{◌≡◌, refl, ℕ, Bool, true, false, List, [], ◌∷◌, Option, Some, None, if◌then◌else◌, is_some}
+use Rattle.std.specs.Prelude.{◌≡◌, refl, ℕ, Bool, true, false, List, [], ◌∷◌, Option, Some, None, if◌then◌else◌, is_some, suc}
 use mathlib.Core.Path.{ap, sym, ◌∙◌, subst}
 use Rattle.std.proofs.Common.{arith}
-use Rattle.go_tree.specs.Tree.{NameAt, Expr, Stmt, Stmts, eval, return_}
+use Rattle.go_tree.specs.Tree.{NameAt, Expr, Stmt, Stmts, eval, return_, const_decl, ValueSpecs, no_specs, spec}
 use Rattle.scope_names.specs.Means.{is_blank}
 use Rattle.scope_names.specs.FreeNames.{names_of}
 use Rattle.go_types.specs.Answers.{is_among}
@@ -14,14 +14,18 @@ use Rattle.run_rules.specs.FormTrees.{as_expr}
 use Rattle.run_rules.specs.Forms.{is_at}
 use Rattle.run_rules.specs.Steps.{changes_for}
 use Rattle.run_rules.specs.Rewriting.{Changes}
-use Rattle.run_rules.specs.Surroundings.{Use, Place, Seen, seen, seen_type, seen_stmt}
+use Rattle.run_rules.specs.Surroundings.{Use, Place, Seen, seen, seen_type, seen_stmt, alike, value_use, plain_slot, in_constant, before_repeats, after_constants, repeated_by}
 use Rattle.run_rules.specs.Places.{expr_seen, stmts_seen}
 use Rattle.step_laws.specs.Stands.{SameExpr, ExprStands, StmtsStands}
-use Rattle.step_laws.specs.Answered.{AllAnswered}
+use Rattle.step_laws.specs.Answered.{AllAnswered, StmtKnown, RepeatsStay}
 use Rattle.step_laws.specs.NamesOutside.{NamesOutside, UseThere, AllUsesThere}
 use Rattle.step_laws.proofs.ConstantLeaves.{names-bodiless}
 use Rattle.step_laws.proofs.Walking.{expr-walks, stmts-walk}
 use Rattle.step_laws.proofs.OutsideHolds.{outside_holds}
+use Rattle.go_types.specs.Typing.{Repeated, nothing_to_repeat}
+use Rattle.step_laws.specs.Kept.{RepeatsKept, GroupKept}
+use Rattle.step_laws.proofs.NothingPut.{all-free}
+use Rattle.step_laws.proofs.Swapping.{written-same}
 
 -- a name at a place, from what it means at the top
 pub record NamedThere {S : Type 0} (env : Env) (e : Expr S) (r : Option Entity) (n : List ℕ) : Type 0 where
@@ -65,11 +69,20 @@ module _ {S : Type 0} (top : Env) where
     stmt-stays p (return_ y es) = refl
     stmt-stays p s = refl
 
+    -- members that are repeated stay, where nothing stands in them at the span
+    pub repeats-stay : (p : Place S) (r : Repeated) (i : ℕ) (ss : ValueSpecs S) → RepeatsKept same z p r i ss → RepeatsStay c p r i ss
+    repeats-stay p r i no_specs h = tt
+    repeats-stay p r i (spec s ns t es ss) h = (λ b. (all-free same z e (before_repeats (in_constant i p) ns ss) (alike (value_use p.env t) ns) es (h.0 b), written-same same z e (before_repeats (in_constant i p) ns ss) t), repeats-stay (after_constants p (repeated_by r t es) i ns) (repeated_by r t es) (suc i) ss h.1)
+
+    group-stays : (p : Place S) (s : Stmt S) → GroupKept same z p s → StmtKnown c p s
+    group-stays p (const_decl s g ss) h = repeats-stay (plain_slot p) nothing_to_repeat 0 ss h
+    group-stays p s h = tt
+
     pub uses-answered : (xs : List (Seen S)) → AllUsesThere same z e top xs → AllAnswered c (NamesOutside top) xs
     uses-answered [] a = tt
     uses-answered (seen p u x ∷ xs) a = ((a.0.0, λ around env r f q. put-there around env x f (is_at same z x) (λ i. use-answered around env p x e r (a.0.1 i)) q), uses-answered xs a.1)
     uses-answered (seen_type p t ∷ xs) a = (λ around env r. same_type (type_itself around env t), uses-answered xs a.1)
-    uses-answered (seen_stmt p s ∷ xs) a = ((a.0, λ around env r f q. absurd (grind (arith, ap is_some (sym (stmt-stays p s) ∙ q)))), uses-answered xs a.1)
+    uses-answered (seen_stmt p s ∷ xs) a = ((group-stays p s a.0, λ around env r f q. absurd (grind (arith, ap is_some (sym (stmt-stays p s) ∙ q)))), uses-answered xs a.1)
 
     -- so what the walk makes of an expression and of a body has the same facts
     pub expr-with-use : (around : List (List ℕ)) (env : Env) (p : Place S) (u : Use) (x : Expr S) → NamesOutside top around env p.env p.bound → AllUsesThere same z e top (expr_seen p u x) → ExprStands c around env p u x

@@ -1,23 +1,27 @@
 -- Where each place that the walk lists is answered, all that the walk makes of a part stands: one line a clause of the walk.
-use Rattle.std.specs.Prelude.{◌≡◌, refl, ℕ, suc, ◌+◌, Bool, true, false, List, [], ◌∷◌, ◌++◌, length, Option, Some, None, if◌then◌else◌}
+use Rattle.std.specs.Prelude.{◌≡◌, refl, ℕ, suc, ◌+◌, Bool, true, false, List, [], ◌∷◌, ◌++◌, length, Option, Some, None, if◌then◌else◌, not}
+use mathlib.Core.Path.{ap, sym, ◌∙◌}
 use Rattle.go_tree.specs.Tree.{NameAt, Param, Sig, TypeExpr, Expr, ident, int_lit, rune_lit, str_lit, composite, selector, index, slice, call, func_lit, type_operand, unary, binary, star, Exprs, no_exprs, expr_and, ExprOption, no_expr, some_expr, Elems, no_elems, elem, Value, plain, braced, ValueOption, no_value, some_value, Stmt, const_decl, var_decl, empty, eval, step, assign, define, return_, break_, continue_, inner, if_, for_, range_, switch, defer, label, Stmts, no_stmts, stmt_and, StmtOption, no_stmt, some_stmt, BlockOption, no_block, some_block, RangeLeft, nothing, assigns, defines, Arms, no_arms, arm, Cases, no_cases, case, ValueSpecs, no_specs, spec}
 use Rattle.go_words.specs.Terminals.{level_of}
 use Rattle.scope_names.specs.FreeNames.{names_of, sig_names, declared, declared_option, defined}
 use Rattle.go_types.specs.Answers.{given, meets}
 use Rattle.go_types.specs.Types.{GoType}
 use Rattle.go_types.specs.Defined.{under}
-use Rattle.go_types.specs.Entities.{Env, defined_in, extend, in_block}
+use Rattle.go_types.specs.Entities.{Env, defined_in, extend, in_block, refused}
 use Rattle.go_types.specs.TypeNames.{type_meant, written_type}
 use Rattle.go_types.specs.Literals.{is_struct, key_type, inner_type, literal_type}
-use Rattle.go_types.specs.Statements.{no_values}
-use Rattle.go_types.specs.Typing.{parts, all_parts, places, declares, declares_first, range_declares, binds_of, literal_env, right_values, labelled, nothing_to_repeat}
+use Rattle.go_types.specs.Statements.{no_values, bind_each}
+use Rattle.go_types.specs.Typing.{parts, all_parts, places, declares, declares_first, range_declares, binds_of, literal_env, right_values, labelled, nothing_to_repeat, Repeated}
 use Rattle.go_types.specs.Typing as typing
-use Rattle.run_rules.specs.Surroundings.{Use, whole, stored, updated, called, deferred_call, alone, other, Slot, a_slot, Place, Seen, seen, seen_stmt, alike, into_type, head_use, later_uses, arg_uses, unary_use, operand_use, first_operand_use, right_uses, every_use, value_use, return_uses, elem_use, key_use, inner_slot, last_slot, in_slot, callee_place, comma_slot, elem_closed, after_stmt, after_first, block, looping, switching, in_heading, at_stmt, plain_slot, ranged, in_literal, after_variables}
+use Rattle.run_rules.specs.Surroundings.{Use, whole, stored, updated, called, deferred_call, alone, other, Slot, a_slot, Place, Seen, seen, seen_stmt, alike, into_type, head_use, later_uses, arg_uses, unary_use, operand_use, first_operand_use, right_uses, every_use, value_use, return_uses, elem_use, key_use, inner_slot, last_slot, in_slot, callee_place, comma_slot, elem_closed, after_stmt, after_first, block, looping, switching, in_heading, at_stmt, plain_slot, ranged, in_literal, after_variables, in_constant, before_repeats, after_constants, repeated_by}
 use Rattle.run_rules.specs.Places.{type_seen, written_seen, params_seen, sig_seen, old_seen, after_arms, expr_seen, all_seen, option_seen, elems_seen, key_seen, value_seen, stmt_seen, stmts_seen, first_seen, block_seen, left_seen, arms_seen, cases_seen, constants_seen, variables_seen}
-use Rattle.run_rules.specs.Rewriting.{Changes}
+use Rattle.run_rules.specs.Rewriting.{Changes, new_all, new_written}
 use Rattle.typed_in_place.specs.SameFacts.{SameStatement}
-use Rattle.step_laws.specs.Stands.{Asked, stays, is_put, SameExpr, AsOperand, names_a_field, is_operand, WrittenStands, ParamsStand, SigStands, ExprStands, ExprsStands, ExprOptionStands, ElemsStands, KeyStands, ValueStands, StmtStands, StmtsStands, FirstStands, BlockStands, LeftStands, ArmsStand, CasesStands, VariablesStands}
-use Rattle.step_laws.specs.Answered.{HoldsWithin, KeysAlike, KeyAlike, InnerAlike, AllAnswered}
+use Rattle.step_laws.specs.Stands.{Asked, stays, is_put, SameExpr, AsOperand, names_a_field, is_operand, WrittenStands, ParamsStand, SigStands, ExprStands, ExprsStands, ExprOptionStands, ElemsStands, KeyStands, ValueStands, StmtStands, StmtsStands, FirstStands, BlockStands, LeftStands, ArmsStand, CasesStands, VariablesStands, MemberStands, ConstantsStand}
+use Rattle.step_laws.specs.Answered.{HoldsWithin, KeysAlike, KeyAlike, InnerAlike, AllAnswered, RepeatsStay}
+use Rattle.go_translation.specs.Swapped.{begins_anew}
+use Rattle.typed_in_place.proofs.TypingReplaced.{written_type-in, free_type_option-in, all_parts-in, used_all-in}
+use Rattle.step_laws.proofs.Standing.{written-stands, all-stands}
 
 -- what is put has the same facts; where nothing is, the parts stand
 asked : {S : Type 0} {around : List (List ℕ)} {env : Env} {x : Expr S} {Parts : Type 0} (o : Option (Expr S)) → ((f : Expr S) → o ≡ Some f → SameExpr around env x f) → Parts → Asked (SameExpr around env x) Parts o
@@ -70,6 +74,35 @@ module _ {S : Type 0} (c : Changes S) (R : List (List ℕ) → Env → Env → L
   pub sig-walks : (around : List (List ℕ)) (env : Env) (p : Place S) (g : Sig S) → R around env p.env p.bound → AllAnswered c R (sig_seen p g) → SigStands c around env p g
   sig-walks around env p g r a = (params-walk around env p g.params r (front (params_seen p g.params) (params_seen p g.results) a), params-walk around env p g.results r (behind (params_seen p g.params) (params_seen p g.results) a))
 
+  -- a member of a group of constants: what it has or repeats, in both places where typing looks at it
+  member-stands : (around : List (List ℕ)) (env uses : Env) (r o : Repeated) (n : ℕ) (q : Place S) (us : List Use) (t : Option (TypeExpr S)) (es : Exprs S) → WrittenStands c around env q t → ExprsStands c around (record env { iota = Some n }) q us es → ExprsStands c around uses q us es
+      → (no_values es ≡ true → r ≡ o) → MemberStands around env uses (repeated_by r t es) (repeated_by o (new_written c q t) (new_all c q us es)) n t (new_written c q t) es (new_all c q us es)
+  member-stands around env uses r o n q us t no_exprs w h g e =
+      record {
+        same_type = ap (λ y. y.0 env) (e refl);
+        same_values = ap (λ y. y.1 (record env { iota = Some n })) (e refl);
+        type_uses = free_type_option-in (written-stands c around env q t w);
+        value_uses = used_all-in (all-stands c around uses q us no_exprs g);
+      }
+  member-stands around env uses r o n q us t (expr_and x xs) w h g e =
+      record {
+        same_type = written_type-in (written-stands c around env q t w);
+        same_values = all_parts-in (all-stands c around (record env { iota = Some n }) q us (expr_and x xs) h);
+        type_uses = free_type_option-in (written-stands c around env q t w);
+        value_uses = used_all-in (all-stands c around uses q us (expr_and x xs) g);
+      }
+
+  -- what a later member repeats stays
+  repeated-stays : (r o : Repeated) (t u : Option (TypeExpr S)) (es fs : Exprs S) → (no_values es ≡ true → r ≡ o) → no_values es ≡ no_values fs → (fs ≡ es) × (u ≡ t) → repeated_by r t es ≡ repeated_by o u fs
+  repeated-stays r o t u no_exprs fs e v h = e refl ∙ ap (λ y. if y then o else (λ a. written_type a u, λ a. all_parts a fs)) v
+  repeated-stays r o t u (expr_and x xs) fs e v h =
+      let parts_stay : ◌≡◌ {A = Repeated} (λ a. written_type a t, λ a. all_parts a (expr_and x xs)) (λ a. written_type a u, λ a. all_parts a fs) = (λ y. (λ a. written_type a (sym h.1 y), λ a. all_parts a (sym h.0 y))) in
+      parts_stay ∙ ap (λ y. if y then o else (λ a. written_type a u, λ a. all_parts a fs)) v
+
+  values-as-before : (q : Place S) (us : List Use) (es : Exprs S) → no_values es ≡ no_values (new_all c q us es)
+  values-as-before q us no_exprs = refl
+  values-as-before q us (expr_and x xs) = refl
+
   mutual
     pub expr-walks : (around : List (List ℕ)) (env : Env) (p : Place S) (u : Use) (x : Expr S) → R around env p.env p.bound → AllAnswered c R (expr_seen p u x) → ExprStands c around env p u x
     expr-walks around env p u (ident s n) r a = asked (c.expr p u (ident s n)) (λ put same. a.0.1 around env r put same) (tt)
@@ -108,7 +141,7 @@ module _ {S : Type 0} (c : Changes S) (R : List (List ℕ) → Env → Env → L
     value-walks around env t p u (braced s es) r h a = elems-walk around env (given t (λ t. Some (under (defined_in env) (literal_type (defined_in env) t)))) p (given (into_type u) (λ t. Some (under (defined_in p.env) (literal_type (defined_in p.env) t)))) 0 es r h a
 
     pub stmt-walks : (around : List (List ℕ)) (env : Env) (p : Place S) (l : Bool) (x : Stmt S) → R around env p.env p.bound → AllAnswered c R (stmt_seen p l x) → StmtStands c around env p l x
-    stmt-walks around env p l (const_decl s g ss) r a = asked-stmt (c.stmt p (const_decl s g ss)) (λ put same. (behind (constants_seen (plain_slot p) nothing_to_repeat 0 ss) (seen_stmt p (const_decl s g ss) ∷ []) a).0.1 around env r put same) ((behind (constants_seen (plain_slot p) nothing_to_repeat 0 ss) (seen_stmt p (const_decl s g ss) ∷ []) a).0.0 around env r)
+    stmt-walks around env p l (const_decl s g ss) r a = asked-stmt (c.stmt p (const_decl s g ss)) (λ put same. (behind (constants_seen (plain_slot p) nothing_to_repeat 0 ss) (seen_stmt p (const_decl s g ss) ∷ []) a).0.1 around env r put same) (constants-walk around env env nothing_to_repeat nothing_to_repeat 0 (plain_slot p) nothing_to_repeat 0 ss r r (λ b. refl) (behind (constants_seen (plain_slot p) nothing_to_repeat 0 ss) (seen_stmt p (const_decl s g ss) ∷ []) a).0.0 (front (constants_seen (plain_slot p) nothing_to_repeat 0 ss) (seen_stmt p (const_decl s g ss) ∷ []) a))
     stmt-walks around env p l (var_decl s g ss) r a = asked-stmt (c.stmt p (var_decl s g ss)) (λ put same. (behind (variables_seen (plain_slot p) ss) (seen_stmt p (var_decl s g ss) ∷ []) a).0.1 around env r put same) (variables-walk around env (plain_slot p) ss r (front (variables_seen (plain_slot p) ss) (seen_stmt p (var_decl s g ss) ∷ []) a))
     stmt-walks around env p l (empty s) r a = asked-stmt (c.stmt p (empty s)) (λ put same. a.0.1 around env r put same) (tt)
     stmt-walks around env p l (eval s x) r a = asked-stmt (c.stmt p (eval s x)) (λ put same. (behind (expr_seen p (alone l) x) (seen_stmt p (eval s x) ∷ []) a).0.1 around env r put same) (expr-walks around env p (alone l) x r (front (expr_seen p (alone l) x) (seen_stmt p (eval s x) ∷ []) a))
@@ -155,3 +188,7 @@ module _ {S : Type 0} (c : Changes S) (R : List (List ℕ) → Env → Env → L
     variables-walk : (around : List (List ℕ)) (env : Env) (p : Place S) (x : ValueSpecs S) → R around env p.env p.bound → AllAnswered c R (variables_seen p x) → VariablesStands c around env p x
     variables-walk around env p no_specs r a = tt
     variables-walk around env p (spec s ns t es ss) r a = (written-walks around env p t r (front (written_seen p t) (all_seen p (alike (value_use p.env t) ns) es) (front (written_seen p t ++ all_seen p (alike (value_use p.env t) ns) es) (variables_seen (after_variables p ns t es) ss) a)), (all-walk around env p (alike (value_use p.env t) ns) es r (behind (written_seen p t) (all_seen p (alike (value_use p.env t) ns) es) (front (written_seen p t ++ all_seen p (alike (value_use p.env t) ns) es) (variables_seen (after_variables p ns t es) ss) a)), variables-walk (names_of ns ++ around) (extend (binds_of (names_of ns) (typing.new_variables env (names_of ns) (written_type env t) (no_values es) (right_values env (length ns) (places env es) (all_parts env es)))) env) (after_variables p ns t es) ss (k.after_specs around env p ns t es r) (behind (written_seen p t ++ all_seen p (alike (value_use p.env t) ns) es) (variables_seen (after_variables p ns t es) ss) a)))
+
+    pub constants-walk : (around : List (List ℕ)) (env uses : Env) (f o : Repeated) (n : ℕ) (p : Place S) (w : Repeated) (i : ℕ) (x : ValueSpecs S) → R around env p.env p.bound → R around uses p.env p.bound → (begins_anew x ≡ false → f ≡ o) → RepeatsStay c p w i x → AllAnswered c R (constants_seen p w i x) → ConstantsStand c around env uses f o n p w i x
+    constants-walk around env uses f o n p w i no_specs r g e h a = tt
+    constants-walk around env uses f o n p w i (spec s ns t es ss) r g e h a = (member-stands around env uses f o n (before_repeats (in_constant i p) ns ss) (alike (value_use p.env t) ns) t es (written-walks around env (before_repeats (in_constant i p) ns ss) t (k.at_members around env p.env p.bound env.iota (Some i) r) (front (written_seen (before_repeats (in_constant i p) ns ss) t) (all_seen (before_repeats (in_constant i p) ns ss) (alike (value_use p.env t) ns) es) (front (written_seen (before_repeats (in_constant i p) ns ss) t ++ all_seen (before_repeats (in_constant i p) ns ss) (alike (value_use p.env t) ns) es) (constants_seen (after_constants p (repeated_by w t es) i ns) (repeated_by w t es) (suc i) ss) a))) (all-walk around (record env { iota = Some n }) (before_repeats (in_constant i p) ns ss) (alike (value_use p.env t) ns) es (k.at_members around env p.env p.bound (Some n) (Some i) r) (behind (written_seen (before_repeats (in_constant i p) ns ss) t) (all_seen (before_repeats (in_constant i p) ns ss) (alike (value_use p.env t) ns) es) (front (written_seen (before_repeats (in_constant i p) ns ss) t ++ all_seen (before_repeats (in_constant i p) ns ss) (alike (value_use p.env t) ns) es) (constants_seen (after_constants p (repeated_by w t es) i ns) (repeated_by w t es) (suc i) ss) a))) (all-walk around uses (before_repeats (in_constant i p) ns ss) (alike (value_use p.env t) ns) es (k.at_members around uses p.env p.bound uses.iota (Some i) g) (behind (written_seen (before_repeats (in_constant i p) ns ss) t) (all_seen (before_repeats (in_constant i p) ns ss) (alike (value_use p.env t) ns) es) (front (written_seen (before_repeats (in_constant i p) ns ss) t ++ all_seen (before_repeats (in_constant i p) ns ss) (alike (value_use p.env t) ns) es) (constants_seen (after_constants p (repeated_by w t es) i ns) (repeated_by w t es) (suc i) ss) a))) (λ b. e (ap not b)), constants-walk (names_of ns ++ around) (extend (binds_of (names_of ns) (typing.new_constants (record env { iota = Some n }) (names_of ns) ((repeated_by f t es).0 env) ((repeated_by f t es).1 (record env { iota = Some n })))) env) (extend (bind_each refused (names_of ns)) uses) (repeated_by f t es) (repeated_by o (new_written c (before_repeats (in_constant i p) ns ss) t) (new_all c (before_repeats (in_constant i p) ns ss) (alike (value_use p.env t) ns) es)) (n + 1) (after_constants p (repeated_by w t es) i ns) (repeated_by w t es) (suc i) ss (k.after_members around env p (repeated_by f t es) (repeated_by w t es) n i ns r) (k.after_refused around uses p (repeated_by w t es) i ns g) (λ b. repeated-stays f o t (new_written c (before_repeats (in_constant i p) ns ss) t) es (new_all c (before_repeats (in_constant i p) ns ss) (alike (value_use p.env t) ns) es) (λ v. e (ap not v)) (values-as-before (before_repeats (in_constant i p) ns ss) (alike (value_use p.env t) ns) es) (h.0 b)) h.1 (behind (written_seen (before_repeats (in_constant i p) ns ss) t ++ all_seen (before_repeats (in_constant i p) ns ss) (alike (value_use p.env t) ns) es) (constants_seen (after_constants p (repeated_by w t es) i ns) (repeated_by w t es) (suc i) ss) a))

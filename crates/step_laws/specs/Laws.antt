@@ -1,6 +1,6 @@
 -- The laws of one step over a constant. Each is the contract of a function of this crate (Go specification, Constant
 -- declarations; Declarations and scope; Packages).
-use Rattle.std.specs.Prelude.{◌≡◌, ℕ, Bool, true, false, List, ◌++◌, Option, None}
+use Rattle.std.specs.Prelude.{◌≡◌, ℕ, Bool, true, false, List, ◌++◌, Option, Some, None}
 use Rattle.go_tree.specs.declared.spans.Span.{Span}
 use Rattle.go_tree.specs.Tree.{NameAt, Expr, Stmts}
 use Rattle.go_tree.specs.File.{Decl, File}
@@ -9,18 +9,19 @@ use Rattle.pkg_graph.specs.Package as run
 use Rattle.go_types.specs.Answers.{is_among}
 use Rattle.go_types.specs.Entities.{Entity, World, Env, block_of}
 use Rattle.go_types.specs.Programs.{Program, Headed, headed}
-use Rattle.go_types.specs.Collect.{file_env, collected, valued_world}
+use Rattle.go_types.specs.Collect.{file_env, types_declared, collected, valued_world}
+use Rattle.go_types.specs.WellTyped.{well_typed}
 use Rattle.typed_in_place.specs.Declared.{NamesConstant}
 use Rattle.typed_in_place.specs.Leaves.{Names}
 use Rattle.typed_in_place.specs.ProgramReplaced.{InPlaceBeside, All, Apart}
 use Rattle.typed_in_place.specs.Replaced.{ExprReplaced, StmtsReplaced}
-use Rattle.run_rules.specs.Surroundings.{Place, Use}
+use Rattle.run_rules.specs.Surroundings.{Place, Use, is_local}
 use Rattle.run_rules.specs.Rewriting.{Changes, new_expr, new_stmts}
 use Rattle.run_rules.specs.Places.{expr_seen, stmts_seen}
 use Rattle.run_rules.specs.Programs.{decl_seen}
 use Rattle.go_translation.specs.Packages.{Package, sources, paths_in, codes_of, are_distinct}
 use Rattle.go_translation.specs.SameMeaning.{Packages, WellTyped, with_further, SameMeaning}
-use Rattle.run_rules.specs.Sites.{Where}
+use Rattle.run_rules.specs.Sites.{MarkRef, Where, expr_mark}
 use Rattle.run_rules.specs.Naming.{Names as PackageNames}
 use Rattle.written_literal.specs.Meant.{FileMeant}
 use Rattle.written_literal.specs.KnownNames.{KnownNames}
@@ -31,7 +32,10 @@ use Rattle.step_laws.specs.NamesOutside.{NamesOutside, UseThere, AllUsesThere}
 use Rattle.step_laws.specs.ConstantSteps.{DeclThereStands, ConstantStep, ImportsRight, constant_put}
 use Rattle.step_laws.specs.ConstantUses.{UseOfConstant, ConstantUses}
 use Rattle.go_kernel.specs.Kernel.{ImportPath}
-use Rattle.step_laws.specs.SwapUses.{AllSwapsThere, DeclTyped}
+use Rattle.step_laws.specs.ConstantSwaps.{ConstantSwaps}
+use Rattle.step_laws.specs.ConstantRuns.{ConstantRun}
+use Rattle.step_laws.specs.PartsTyped.{HeaderTyped}
+use Rattle.step_laws.specs.SwapUses.{SwapThere, AllSwapsThere, DeclTyped}
 use Rattle.step_laws.specs.SwapPrograms.{DeclSwaps, PackageSwaps, members_put}
 
 -- ---- what the walk puts
@@ -79,6 +83,14 @@ NamesAroundAreKnown =
     FileMeant ps home all outside → FileMeant ps there all top.names → NamesOutside top around env p.env p.bound →
     KnownNames ps home there (record p { env = env }) names new all outside top.names
 
+-- the name by which a use of a marked declaration stands, or the package before it, isn't declared around the use
+-- within its declaration
+abbrev pub UsesAreNotLocal : Type 0
+UsesAreNotLocal =
+    (ps : List (run.Package Span)) (marks : List MarkRef) (w : Where Span) (p : Place Span) (top : Env) (x : Expr Span)
+    (r : Option Entity) (n : List ℕ) (m : MarkRef) → Names top x r n → expr_mark ps marks w p x ≡ Some m →
+    is_local p n ≡ false
+
 -- ---- a use of a constant
 
 -- where the rounds of declarations have ended, for every program that declares `const x = f`, f a name that means r: a
@@ -114,6 +126,18 @@ abbrev pub UsesMeanOneConstant : Type 0
 UsesMeanOneConstant =
     (ps : Program Span) (h : Headed Span) (c : NameAt Span) (f : Expr Span) (w : World) (top : Env) (p : Place Span)
     (x e : Expr Span) → UseOfConstant ps h c f w top p x e → UseThere top p x e
+
+-- in a well-typed program such a constant is known
+abbrev pub UsesAreOfKnownConstants : Type 0
+UsesAreOfKnownConstants =
+    (ps : Program Span) (h : Headed Span) (c : NameAt Span) (f : Expr Span) (w : World) (top : Env) (p : Place Span)
+    (x e : Expr Span) → well_typed ps ≡ true → UseOfConstant ps h c f w top p x e → SwapThere top p x e
+
+-- in a well-typed program each header declares something, or is a method that may stand; and its body is typed
+abbrev pub HeadersAreTyped : Type 0
+HeadersAreTyped =
+    (ps : Program Span) → well_typed ps ≡ true → All (HeaderTyped (types_declared ps (headed ps)) (collected ps))
+    (headed ps)
 
 -- ---- one step: `e` is put at `z` in a declaration, in the tree of a file of the package pk of the run's packages rs
 
@@ -157,7 +181,24 @@ StepMeansTheSame =
     (collected (sources (P.members ++ Q))) m n) k P.members) →
     SameMeaning P (record P { members = members_put same rs z e number pk tree k m n P.members })
 
+-- So they do if at the step's span uses of a constant stand that is known, for every list of further packages with which
+-- those before are well typed, and the imports of the packages after are right.
+abbrev pub UsesMeanTheSame : Type 0
+UsesMeanTheSame =
+    (same : Span → Span → Bool) (rs : List (run.Package Span)) (z : Span) (e : Expr Span) (number : ℕ)
+    (pk : run.Package Span) (tree : File Span) (k m n : ℕ) (P : Packages Span) →
+    ((Q : List (Package Span)) → WellTyped (with_further P Q) →
+    ConstantSwaps same rs z e number pk tree (sources Q) k m n (sources P.members)) →
+    ((Q : List (Package Span)) → WellTyped (with_further P Q) →
+    ImportsRight same rs z e number pk tree k m n (sources P.members) (sources Q)) →
+    SameMeaning P (record P { members = members_put same rs z e number pk tree k m n P.members })
+
 -- ---- steps, one after the other
+
+-- the packages after a run of such steps mean what those before do
+abbrev pub RunsMeanTheSame : Type 0
+RunsMeanTheSame =
+    (same : Span → Span → Bool) (P P' : Packages Span) → ConstantRun same P P' → SameMeaning P P'
 
 -- programs in place of one another compose
 abbrev pub StepsCompose : Type 0

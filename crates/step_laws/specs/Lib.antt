@@ -7,4 +7,8 @@ pub mod ConstantUses
 pub mod Swaps
 pub mod SwapUses
 pub mod SwapPrograms
+pub mod PartsTyped
+pub mod ConstantSwaps
+pub mod Kept
+pub mod ConstantRuns
 pub mod Laws

@@ -12,7 +12,8 @@ use Rattle.run_rules.specs.FormTrees.{as_expr}
 use Rattle.run_rules.specs.Forms.{is_at}
 use Rattle.run_rules.specs.Steps.{changes_for}
 use Rattle.run_rules.specs.Surroundings.{Place, Seen, seen, seen_type, seen_stmt, is_local}
-use Rattle.step_laws.specs.Answered.{ExprKnown, StmtKnown}
+use Rattle.step_laws.specs.Answered.{ExprKnown}
+use Rattle.step_laws.specs.Kept.{GroupKept}
 
 -- `top` is the top of the file, to typing; `around` are the names that typing counts as declared around, and `env` is
 -- what names mean to it; `a` and `bound` are what the walk has
@@ -51,7 +52,7 @@ module _ {S : Type 0} (same : S → S → Bool) (z : S) (e : Expr S) (top : Env)
   UsesThere (seen p u x) =
       ExprKnown (changes_for same z (as_expr e)) (NamesOutside top) p x × (is_at same z x ≡ true → UseThere top p x e)
   UsesThere (seen_type p t) = Unit {0}
-  UsesThere (seen_stmt p s) = StmtKnown (changes_for same z (as_expr e)) (NamesOutside top) p s
+  UsesThere (seen_stmt p s) = GroupKept same z p s
 
   -- in all parts of a list
   abbrev pub AllUsesThere : List (Seen S) → Type 0

@@ -1,27 +1,21 @@
 -- What the translation needs to know where a use of a constant becomes another name of it, at each place that the walk
 -- lists (Go specification, Constant declarations; Composite literals; Function literals).
-use Rattle.std.specs.Prelude.{◌≡◌, ℕ, suc, Bool, true, false, List, [], ◌∷◌, Option, Some}
-use Rattle.go_tree.specs.Tree.{Sig, Expr, composite, call, func_lit, Elems, no_elems, elem, Value, plain, braced, ValueOption, no_value, some_value, Stmt, const_decl}
+use Rattle.std.specs.Prelude.{◌≡◌, ℕ, Bool, true, false, List, [], ◌∷◌, Option, Some}
+use Rattle.go_tree.specs.Tree.{Sig, Expr, composite, func_lit, Elems, no_elems, elem, Value, plain, braced, ValueOption, no_value, some_value}
 use Rattle.go_tree.specs.File.{Func, Decl, func}
 use Rattle.const_eval.specs.declared.consts.Const.{Const}
-use Rattle.go_types.specs.Answers.{given, meets}
 use Rattle.go_types.specs.Types.{GoType, FuncType}
 use Rattle.go_types.specs.Defined.{Defined, under}
-use Rattle.go_types.specs.Entities.{constant, Env, Binds, defined_in}
+use Rattle.go_types.specs.Entities.{constant, Env, Binds}
 use Rattle.go_types.specs.TypeNames.{type_meant, func_type}
 use Rattle.go_types.specs.Literals.{is_struct, key_type, inner_type, literal_type}
 use Rattle.go_types.specs.Statements.{body_binds}
-use Rattle.go_types.specs.Typing.{nothing_to_repeat}
-use Rattle.run_rules.specs.FormTrees.{keep_span}
 use Rattle.run_rules.specs.Forms.{is_at}
-use Rattle.run_rules.specs.Respanned.{value_with}
-use Rattle.run_rules.specs.Rewriting.{new_constants}
-use Rattle.run_rules.specs.Surroundings.{Use, Place, Seen, seen, seen_type, seen_stmt, into_type, elem_use, key_use, plain_slot}
+use Rattle.run_rules.specs.Surroundings.{Place, Seen, seen, seen_type, seen_stmt}
 use Rattle.go_translation.specs.Here.{Here, defined_here}
-use Rattle.go_translation.specs.Swapped.{SwappedConsts}
-use Rattle.step_laws.specs.Answered.{ExprKnown, StmtKnown}
+use Rattle.step_laws.specs.Answered.{ExprKnown}
+use Rattle.step_laws.specs.Kept.{GroupKept}
 use Rattle.step_laws.specs.NamesOutside.{NamesOutside, UseThere}
-use Rattle.step_laws.specs.Stands.{SameAnswer}
 use Rattle.step_laws.specs.Swaps.{put}
 
 -- a use of a constant that is known
@@ -40,46 +34,32 @@ pub record SigKnown {S : Type 0} (h : Here) (g : Sig S) : Type 0 where
 
 module _ {S : Type 0} (ds : List Defined) where
   abbrev mutual
-    -- in a literal of the underlying type w, which the walk knows as u where names mean `a`, keys name fields in both,
-    -- and the types of inner braces are known
-    pub ElemsKnown : GoType → Env → Option GoType → ℕ → Elems S → Type 0
-    ElemsKnown w a u i no_elems = Unit {0}
-    ElemsKnown w a u i (elem s k v es) =
-        KeyKnown w a u k × (ValueKnown (inner_type ds w) a (elem_use a u i k) v × ElemsKnown w a u (suc i) es)
+    -- in a literal of the underlying type w the types of inner braces are known
+    pub BracesKnown : GoType → Elems S → Type 0
+    BracesKnown w no_elems = Unit {0}
+    BracesKnown w (elem s k v es) = KeyKnown w k × (ValueKnown (inner_type ds w) v × BracesKnown w es)
 
-    -- a key
-    pub KeyKnown : GoType → Env → Option GoType → ValueOption S → Type 0
-    KeyKnown w a u no_value = Unit {0}
-    KeyKnown w a u (some_value v) =
-        SameAnswer (is_struct w) (meets u is_struct) ×
-        ((value_with keep_span v ≡ v) × ValueKnown (key_type ds w) a (key_use a u) v)
+    -- so in a key
+    pub KeyKnown : GoType → ValueOption S → Type 0
+    KeyKnown w no_value = Unit {0}
+    KeyKnown w (some_value v) = is_struct w ≡ false → ValueKnown (key_type ds w) v
 
-    -- an element, or inner braces
-    pub ValueKnown : Option GoType → Env → Use → Value S → Type 0
-    ValueKnown t a u (plain x) = Unit {0}
-    ValueKnown t a u (braced s es) =
-        (w : GoType) × ((t ≡ Some w) × ElemsKnown (under ds (literal_type ds w)) a
-        (given (into_type u) (λ t. Some (under (defined_in a) (literal_type (defined_in a) t)))) 0 es)
+    -- so in an element, or inner braces
+    pub ValueKnown : Option GoType → Value S → Type 0
+    ValueKnown t (plain x) = Unit {0}
+    ValueKnown t (braced s es) =
+        (w : GoType) × ((t ≡ Some w) × BracesKnown (under ds (literal_type ds w)) es)
 
 -- `e` is put at the span z
 module _ {S : Type 0} (same : S → S → Bool) (z : S) (e : Expr S) (top : Env) where
-  -- an expression by itself
+  -- an expression by itself: the type of a literal is known
   abbrev pub ExprSwappable : Place S → Expr S → Type 0
   ExprSwappable p (composite s t es) =
       (around : List (List ℕ)) (h : Here) → NamesOutside top around h.env p.env p.bound →
-      (w : GoType) × ((type_meant h.env t ≡ Some w) × ElemsKnown (defined_here h) (under (defined_here h) w) p.env
-      (given (type_meant p.env t) (λ u. Some (under (defined_in p.env) u))) 0 es)
+      (w : GoType) × ((type_meant h.env t ≡ Some w) × BracesKnown (defined_here h) (under (defined_here h) w) es)
   ExprSwappable p (func_lit s g r b) =
       (around : List (List ℕ)) (h : Here) → NamesOutside top around h.env p.env p.bound → SigKnown h g
-  ExprSwappable p (call s f xs r) = same z s ≡ false
   ExprSwappable p x = Unit {0}
-
-  -- a statement by itself
-  abbrev pub StmtSwappable : Place S → Stmt S → Type 0
-  StmtSwappable p (const_decl s g ss) =
-      (around : List (List ℕ)) (h : Here) → NamesOutside top around h.env p.env p.bound →
-      SwappedConsts h 0 ss (new_constants (put same z e) (plain_slot p) nothing_to_repeat 0 ss)
-  StmtSwappable p s = Unit {0}
 
   -- what stands at the span is a use of a constant that is known
   abbrev pub SwapsThere : Seen S → Type 0
@@ -87,7 +67,7 @@ module _ {S : Type 0} (same : S → S → Bool) (z : S) (e : Expr S) (top : Env)
       (ExprKnown (put same z e) (NamesOutside top) p x × ExprSwappable p x) ×
       (is_at same z x ≡ true → SwapThere top p x e)
   SwapsThere (seen_type p t) = Unit {0}
-  SwapsThere (seen_stmt p s) = StmtKnown (put same z e) (NamesOutside top) p s × StmtSwappable p s
+  SwapsThere (seen_stmt p s) = GroupKept same z p s
 
   -- in all parts of a list
   abbrev pub AllSwapsThere : List (Seen S) → Type 0

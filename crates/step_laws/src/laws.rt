@@ -1,11 +1,12 @@
 //! Laws of one step over a constant.
 
 ghost use Rattle.step_laws.specs.Laws.{AnsweredBodiesStand, AnsweredExpressionsStand};
-ghost use Rattle.step_laws.specs.Laws.{NamesAroundAreKnown};
+ghost use Rattle.step_laws.specs.Laws.{HeadersAreTyped, NamesAroundAreKnown, RunsMeanTheSame};
 ghost use Rattle.step_laws.specs.Laws.{DeclarationsWithUsesKeepTheirCode};
 ghost use Rattle.step_laws.specs.Laws.{DeclarationsWithUsesStand, NamesOutsideHold, UsesMeanOneConstant};
 ghost use Rattle.step_laws.specs.Laws.{StepKeepsTheCode, StepMeansTheSame, StepStaysInPlace, StepsOverUses};
 ghost use Rattle.step_laws.specs.Laws.{StepsCompose, UsesOfConstantsStand, ValuesEndAlike};
+ghost use Rattle.step_laws.specs.Laws.{UsesAreNotLocal, UsesAreOfKnownConstants, UsesMeanTheSame};
 ghost use Rattle.step_laws.specs.Laws.{WalkedBodies, WalkedExpressions};
 
 /// Where all that the replacing walk puts has the same facts, what it makes of a part is that part
@@ -22,6 +23,7 @@ pub fn answered_places_stand()
     ensures bodies { AnsweredBodiesStand }
     ensures outside { NamesOutsideHold }
     ensures known { NamesAroundAreKnown }
+    ensures free { UsesAreNotLocal }
 {}
 
 /// A name of a constant and a name of what the constant is declared as have the same facts, once the
@@ -32,6 +34,8 @@ pub fn uses_of_constants_stand()
     ensures declarations { DeclarationsWithUsesStand }
     ensures code { DeclarationsWithUsesKeepTheirCode }
     ensures one { UsesMeanOneConstant }
+    ensures headers { HeadersAreTyped }
+    ensures known { UsesAreOfKnownConstants }
 {}
 
 /// A use of a constant that becomes another name of it leaves the program in place, and its
@@ -41,5 +45,7 @@ pub fn step_over_a_constant_means_the_same()
     ensures in_place { StepStaysInPlace }
     ensures code { StepKeepsTheCode }
     ensures meaning { StepMeansTheSame }
+    ensures uses { UsesMeanTheSame }
+    ensures runs { RunsMeanTheSame }
     ensures composed { StepsCompose }
 {}

@@ -143,11 +143,15 @@ module _ {S : Type 0} where
   or_refused ns ms None f h = f
   or_refused ns ms (Some d) f h = h
 
+  -- a member of a group of constants, whatever it has or repeats
+  pub members_grow : (here : List (List ℕ)) (a : Env) (ns : List (NameAt S)) (t : Option (Option GoType)) (os : Option (List Operand)) → Grows here (not_blank ns) (binds_of (names_of ns) (new_constants a (names_of ns) t os))
+  members_grow here a ns t os = grows here (not_blank ns) (binds_of (names_of ns) (new_constants a (names_of ns) t os)) (or_refused ns (not_blank ns) (new_constants a (names_of ns) t os) (each_lists refused ns) (new_constants_list a ns t os))
+
   pub constants_grow : (a : Env) (i : ℕ) (ns : List (NameAt S)) (t : Option (TypeExpr S)) (es : Exprs S) → Grows a.here (not_blank ns) (constant_binds a i ns t es)
-  constants_grow a i ns t es = grows a.here (not_blank ns) (constant_binds a i ns t es) (or_refused ns (not_blank ns) (new_constants (at_iota a i) (names_of ns) (written_type a t) (all_parts (at_iota a i) es)) (each_lists refused ns) (new_constants_list (at_iota a i) ns (written_type a t) (all_parts (at_iota a i) es)))
+  constants_grow a i ns t es = members_grow a.here (at_iota a i) ns (written_type a t) (all_parts (at_iota a i) es)
 
   pub repeats_grow : (a : Env) (i : ℕ) (ns : List (NameAt S)) (o : Before S) → Grows a.here (not_blank ns) (repeated_binds a i ns o)
-  repeats_grow a i ns o = grows a.here (not_blank ns) (repeated_binds a i ns o) (or_refused ns (not_blank ns) (new_constants (at_iota a i) (names_of ns) ((repeats o).0 a) ((repeats o).1 (at_iota a i))) (each_lists refused ns) (new_constants_list (at_iota a i) ns ((repeats o).0 a) ((repeats o).1 (at_iota a i))))
+  repeats_grow a i ns o = members_grow a.here (at_iota a i) ns ((repeats o).0 a) ((repeats o).1 (at_iota a i))
 
   pub variables_grow : (a : Env) (ns : List (NameAt S)) (t : Option (TypeExpr S)) (es : Exprs S) → Grows a.here (not_blank ns) (variable_binds a ns t es)
   variables_grow a ns t es =

@@ -1,6 +1,7 @@
 use Rattle.step_laws.specs.NamesOutside.{NamesOutside}
 use Rattle.step_laws.proofs.Walking.{expr-walks, stmts-walk}
 use Rattle.step_laws.proofs.OutsideHolds.{outside_holds}
+use Rattle.step_laws.proofs.UsesFree.{uses-are-free}
 use Rattle.step_laws.proofs.laws.answered_places_stand.Goals as goal
 
 pub returns-clause-expressions : goal.returns-clause-expressions
@@ -14,3 +15,6 @@ returns-clause-outside c = λ top. outside_holds top
 
 pub returns-clause-known : goal.returns-clause-known
 returns-clause-known c = λ ps home there p names new all outside top around env h t r. record { home_file = h; there_file = t; not_around = r.outer; blank = r.blank }
+
+pub returns-clause-free : goal.returns-clause-free
+returns-clause-free c = λ ps marks w p top x r n m q e. uses-are-free ps marks w p top x r n m q e

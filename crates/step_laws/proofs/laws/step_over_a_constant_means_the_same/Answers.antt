@@ -2,6 +2,8 @@ use Rattle.step_laws.proofs.ConstantStepLaw.{constant-step}
 use Rattle.step_laws.proofs.SwapProgram.{constant-codes}
 use Rattle.step_laws.proofs.StepMeaning.{constant-step-means-the-same}
 use Rattle.step_laws.proofs.StepsCompose.{in-place-then}
+use Rattle.step_laws.proofs.ConstantRuns.{run-means-the-same}
+use Rattle.step_laws.proofs.StepSwaps.{known-constant-means-the-same}
 use Rattle.step_laws.proofs.StepUses.{step-with-uses}
 use Rattle.step_laws.proofs.laws.step_over_a_constant_means_the_same.Goals as goal
 
@@ -19,3 +21,9 @@ returns-clause-composed c = λ more ps qs rs d e. in-place-then more ps qs rs d 
 
 pub returns-clause-steps : goal.returns-clause-steps
 returns-clause-steps c = λ same rs z e number pk tree more k m n ps u. step-with-uses same rs z e number pk tree more k m n ps u
+
+pub returns-clause-uses : goal.returns-clause-uses
+returns-clause-uses c = λ same rs z e number pk tree k m n P s i. known-constant-means-the-same same rs z e number pk tree k m n P s i
+
+pub returns-clause-runs : goal.returns-clause-runs
+returns-clause-runs c = λ same P P' r. run-means-the-same same P P' r

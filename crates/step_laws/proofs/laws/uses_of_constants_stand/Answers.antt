@@ -3,6 +3,8 @@ use Rattle.step_laws.proofs.StepsCompose.{values-end}
 use Rattle.step_laws.proofs.DeclUses.{decl-with-use}
 use Rattle.step_laws.proofs.StepUses.{use-of-constant}
 use Rattle.step_laws.proofs.DeclSwapUses.{decl-swaps}
+use Rattle.step_laws.proofs.KnownConstants.{known-use}
+use Rattle.step_laws.proofs.PartsTyped.{headers-typed}
 use Rattle.step_laws.proofs.laws.uses_of_constants_stand.Goals as goal
 
 pub returns-clause-facts : goal.returns-clause-facts
@@ -19,3 +21,9 @@ returns-clause-one c = λ ps h n f w top p x e u. use-of-constant ps h n f w top
 
 pub returns-clause-code : goal.returns-clause-code
 returns-clause-code c = λ same rs z e number pk tree paths w home in_main file is d t a. decl-swaps same rs z e number pk tree paths w home in_main file is d t a
+
+pub returns-clause-headers : goal.returns-clause-headers
+returns-clause-headers c = λ ps e. headers-typed ps e
+
+pub returns-clause-known : goal.returns-clause-known
+returns-clause-known c = λ ps h d f w top p x e well u. known-use ps h d f w top p x e well u
