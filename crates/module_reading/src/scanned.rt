@@ -1,0 +1,60 @@
+//! The tokens of all files.
+
+ghost use Rattle.std.specs.Prelude.{◌≡◌, ◌≢◌, ◌≤◌, ◌<◌, ◌^◌, All, IfErr, IfOk, length};
+ghost use Rattle.go_words.specs.Tokens.{TokensOf};
+ghost use Rattle.module_files.specs.declared.faults.GraphError.TheVariants.{NoMemory};
+ghost use Rattle.module_reading.specs.Files.{AreScanned, IsScanned, go_files};
+ghost use Rattle.module_reading.specs.Refusals.{Fails, IsOfScan, RefusesScan};
+ghost use Rattle.module_reading.specs.declared.faults.ReadFault.TheVariants.{Module};
+
+use crate::faults::{ReadFault, TextFault};
+use crate::files::{ScannedFile, SourceFile};
+use go_scan::{ScanError, scan};
+use go_tree::MAX_FILE_BYTES;
+use pkg_graph::GraphError;
+use std::alloc::Global;
+
+/// The tokens of a file, which is the one of this number.
+fn scan_file(alloc: Global, number: u32, file: SourceFile) -> Result<ScannedFile, ReadFault>
+    requires { length file.bytes ≤ MAX_FILE_BYTES }
+    ensures same { IfOk result (λ s. s.file ≡ file) }
+    ensures scanned { IfOk result IsScanned }
+    ensures refused { IfErr result (IsOfScan number file) }
+{
+    match scan(alloc, file.bytes.items()) {
+        Ok(tokens) => Ok(ScannedFile { file, tokens }),
+        Err(ScanError::NotUtf8(at)) => Err(ReadFault::Text {
+            file: number,
+            fault: TextFault::NotUtf8(at),
+        }),
+        Err(ScanError::BadToken(at)) => Err(ReadFault::Text {
+            file: number,
+            fault: TextFault::BadToken(at),
+        }),
+        Err(ScanError::NoMemory) => Err(ReadFault::Module(GraphError::NoMemory)),
+    }
+}
+
+/// The files of Go source with their tokens, up to the first that has none.
+pub(crate) fn scan_files(
+    alloc: Global,
+    files: Vec<SourceFile>,
+) -> Result<Vec<ScannedFile>, ReadFault>
+    requires count { length files.items < 2 ^ 32 }
+    requires small { All (λ f. length f.bytes ≤ MAX_FILE_BYTES) files.items }
+    ensures scanned { IfOk result (λ list. AreScanned (go_files files.items) list.items) }
+    ensures refused { IfErr result (RefusesScan (go_files files.items)) }
+{
+    let mut list = Vec::new(alloc);
+    for file in files {
+        if file.is_go_file() {
+            let number = list.len() as u32;
+            let scanned = match scan_file(alloc, number, file) {
+                Ok(scanned) => scanned,
+                Err(fault) => return Err(fault),
+            };
+            list.push(scanned)?;
+        }
+    }
+    Ok(list)
+}
