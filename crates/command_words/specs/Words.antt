@@ -1,5 +1,5 @@
--- The words after the program's name, as clap takes them (its documentation, Arg: an option that takes a value has it as
--- the next word or behind `=`; none may stand twice; `--` ends the options).
+-- The words after the program's name, as clap takes them (its documentation, Arg: an option that takes a value has it
+-- as the next word or behind `=`; none may stand twice; `--` ends the options).
 use Rattle.std.specs.Prelude.{◌≡◌, Bool, true, false, List, [], Option, Some, None, codes, bytes_eq, unwrap_or}
 use Rattle.clap.specs.Simple.{App, Shape, matches_of, new_app, new_rule, on_top, with_rule}
 use Rattle.clap.specs.Walk.{Rule, Text, first_of, is_empty}

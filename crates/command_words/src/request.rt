@@ -70,8 +70,8 @@ fn prefix<'a>(matches: &ArgMatches<'a>) -> &'a str
     }
 }
 
-/// What the words ask for. `Usage` comes exactly where clap refuses them for another cause than want of memory: `--help`
-/// is refused, since it asks for nothing that is built.
+/// What the words ask for. `Usage` comes exactly where clap refuses them for another cause than want of memory:
+/// `--help` is refused, since it asks for nothing that is built.
 pub fn read_words<'a>(alloc: Global, words: &'a [String]) -> Result<Request<'a>, WordsFault>
     ensures read { IfOk result (λ r. IsRequest (map string_bytes words.entry.now) r) }
     ensures refused { IfErr result

@@ -5,8 +5,8 @@ ghost use Rattle.import_laws.specs.Steps.{RemovedAreUnused, StepNamesMean};
 
 /// A module's graph gives what the calls for imports are to be told of a file: its names are those of its imports, and
 /// its text reads as the file. An import that a name means by them is the one that it means among packages. So the
-/// names that are needed at a place mean their packages there once the imports are settled, where what is needed is used
-/// afterwards.
+/// names that are needed at a place mean their packages there once the imports are settled, where what is needed is
+/// used afterwards.
 pub fn graph_files_may_be_settled()
     ensures told { FilesMaySettle }
     ensures alike { ImportsMeanAlike }

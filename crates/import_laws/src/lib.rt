@@ -1,5 +1,5 @@
-//! The imports of a module's files and of a run's steps, as the calls for imports are told of them: definitions and laws
-//! alone, without code.
+//! The imports of a module's files and of a run's steps, as the calls for imports are told of them: definitions and
+//! laws alone, without code.
 #![tactic(auto)]
 
 mod laws;

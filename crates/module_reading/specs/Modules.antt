@@ -68,8 +68,7 @@ abbrev pub Refuses : List Source → ReadFault → Type 0
 Refuses files (Text k fault) = NamesModule files × RefusesTexts (go_sources files) k fault
 Refuses files (Module error) = RefusesModule files error
 
--- Files with these paths, among all files of a folder those that are selected, are read: so the folder reads as a module
--- of these packages.
+-- Where the selected files of a folder are read as a module, the folder reads as a module of the same packages.
 abbrev pub SelectedFilesRead : Type 0
 SelectedFilesRead =
     (all : List Source) (files : List SourceFile) (m : ReadModule)

@@ -23,7 +23,9 @@ IsOpen cs Run = Unit {0}
 -- a kind represents the constants where it represents the least and the greatest
 abbrev pub IsWithin : List Const → Option Bounds → Type 0
 IsWithin cs None = cs ≡ []
-IsWithin cs (Some b) = (int_le b.least b.greatest ≡ true) × ((k : Kind) → list_all (represents k) cs ≡ list_all (represents k) (within b))
+IsWithin cs (Some b) =
+    (int_le b.least b.greatest ≡ true)
+    × ((k : Kind) → list_all (represents k) cs ≡ list_all (represents k) (within b))
 
 -- the bounds of two lists of constants together
 pub record AreJoined (a b r : Option Bounds) : Type 0 where

@@ -95,7 +95,9 @@ fn calculated(
     requires left { IsJoined consts.old t k x }
     requires right { IsJoined consts.old t k y }
     ensures grown { Grown consts.old consts.new }
-    ensures gives { Gives env.now consts.new (go.calculated_operand (defined_types env.now) op (type_of env.now t) k (content_of consts.old x) (content_of consts.old y)) result }
+    ensures gives { Gives env.now consts.new
+        (go.calculated_operand (defined_types env.now) op (type_of env.now t) k (content_of consts.old x)
+        (content_of consts.old y)) result }
 {
     match both_exact(x, y) {
         Some((a, b)) => {
@@ -123,7 +125,9 @@ pub fn arithmetic(
     requires left { IsValue env.now consts.old x }
     requires right { IsValue env.now consts.old y }
     ensures grown { Grown consts.old consts.new }
-    ensures gives { Gives env.now consts.new (go.arithmetic (defined_types env.now) op (typed_of env.now consts.old x) (typed_of env.now consts.old y)) result }
+    ensures gives { Gives env.now consts.new
+        (go.arithmetic (defined_types env.now) op (typed_of env.now consts.old x) (typed_of env.now consts.old y))
+        result }
 {
     let Some(t) = common_type(env, x.of, y.of) else {
         return Err(Refusal::NotTyped);

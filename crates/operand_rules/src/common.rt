@@ -29,7 +29,8 @@ fn greater_kind(j: Kind, k: Kind) -> Kind
 pub(crate) fn common_type(env: &Env, a: ValueType, b: ValueType) -> Option<ValueType>
     requires left { IsType env.now a }
     requires right { IsType env.now b }
-    ensures is { type_option env.now result ≡ go.common_type (defined_types env.now) (type_of env.now a) (type_of env.now b) }
+    ensures is { type_option env.now result
+        ≡ go.common_type (defined_types env.now) (type_of env.now a) (type_of env.now b) }
     ensures good { IfSome result (IsType env.now) }
     ensures common { IfSome result (IsCommon a b) }
 {

@@ -67,7 +67,8 @@ fn constant_converted(
 ) -> Result<Value, Refusal>
     requires to { IsType env.now (Typed to) }
     requires constant { c.0 < length consts.now }
-    ensures { Gives env.now consts.now (go.converted_constant (defined_types env.now) (env_type env.now to.0) (const_at consts.now c.0)) result }
+    ensures { Gives env.now consts.now
+        (go.converted_constant (defined_types env.now) (env_type env.now to.0) (const_at consts.now c.0)) result }
 {
     let of = ValueType::Typed(to);
     match under_kind(env, to) {
@@ -93,7 +94,8 @@ fn constant_converted(
 pub fn conversion(env: &Env, consts: &ConstTable, to: TypeId, x: Value) -> Result<Value, Refusal>
     requires to { IsType env.now (Typed to) }
     requires value { IsValue env.now consts.now x }
-    ensures { Gives env.now consts.now (go.converted (defined_types env.now) (env_type env.now to.0) (typed_of env.now consts.now x)) result }
+    ensures { Gives env.now consts.now
+        (go.converted (defined_types env.now) (env_type env.now to.0) (typed_of env.now consts.now x)) result }
 {
     let run = Value {
         of: ValueType::Typed(to),

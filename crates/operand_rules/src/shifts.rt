@@ -73,7 +73,9 @@ pub fn shifting(
     requires left { IsValue env.now consts.old x }
     requires count { IsValue env.now consts.old n }
     ensures grown { Grown consts.old consts.new }
-    ensures gives { Gives env.now consts.new (go.shifting (defined_types env.now) op (typed_of env.now consts.old x) (typed_of env.now consts.old n)) result }
+    ensures gives { Gives env.now consts.new
+        (go.shifting (defined_types env.now) op (typed_of env.now consts.old x) (typed_of env.now consts.old n))
+        result }
 {
     let Some(k) = kind_of(env, x.of) else {
         return Err(Refusal::NotTyped);
@@ -103,7 +105,9 @@ fn shifted(
     requires left { IsJoined consts.old of k x }
     requires count { IsCount consts.old n }
     ensures grown { Grown consts.old consts.new }
-    ensures gives { Gives env.now consts.new (go.shifted_operand (defined_types env.now) op (type_of env.now of) k (content_of consts.old x) (content_of consts.old n)) result }
+    ensures gives { Gives env.now consts.new
+        (go.shifted_operand (defined_types env.now) op (type_of env.now of) k (content_of consts.old x)
+        (content_of consts.old n)) result }
 {
     match both_exact(x, n) {
         Some((a, b)) => {

@@ -38,7 +38,8 @@ pub fn unary_value(
 ) -> Result<Value, Refusal>
     requires { IsValue env.now consts.old x }
     ensures grown { Grown consts.old consts.new }
-    ensures gives { Gives env.now consts.new (go.unary_value_operand (defined_types env.now) op (typed_of env.now consts.old x)) result }
+    ensures gives { Gives env.now consts.new
+        (go.unary_value_operand (defined_types env.now) op (typed_of env.now consts.old x)) result }
 {
     let Some(k) = kind_of(env, x.of) else {
         return Err(Refusal::NotTyped);

@@ -29,8 +29,8 @@ impl Scopes {
     }
 
     /// What the name means at the place: its innermost declaration. None where no block around the place declares it.
-    /// It takes a binary search among the declarations of the name in a file that was read, and then no more steps than
-    /// blocks stand around the last of them that begins before the place.
+    /// It takes a binary search among the declarations of the name in a file that was read, and then some two steps for
+    /// each doubling of the blocks that declare it around the last of them that begins before the place.
     pub fn lookup(&self, name: &Name, at: u32) -> Option<Entity>
         ensures { result ≡ meaning_in (table_of self.now) name.now at }
     {

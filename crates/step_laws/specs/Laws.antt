@@ -181,8 +181,8 @@ StepMeansTheSame =
     (collected (sources (P.members ++ Q))) m n) k P.members) →
     SameMeaning P (record P { members = members_put same rs z e number pk tree k m n P.members })
 
--- So they do if at the step's span uses of a constant stand that is known, for every list of further packages with which
--- those before are well typed, and the imports of the packages after are right.
+-- So they do if at the step's span uses of a constant stand that is known, for every list of further packages with
+-- which those before are well typed, and the imports of the packages after are right.
 abbrev pub UsesMeanTheSame : Type 0
 UsesMeanTheSame =
     (same : Span → Span → Bool) (rs : List (run.Package Span)) (z : Span) (e : Expr Span) (number : ℕ)
