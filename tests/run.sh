@@ -44,8 +44,9 @@ add() {
     fi
 }
 
-# modules, trees of files, files printed, and what documents name
+# modules, tokens and trees of files, files printed, and what documents name
 add runs.sh
+add tokens.sh
 add trees.sh
 add print.sh
 add docs.sh

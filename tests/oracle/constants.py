@@ -1,5 +1,5 @@
 #!/usr/bin/env python3
-"""Computes the answers of crates/const_eval/src/rows.rt again, by Python's integers, and prints each that is another.
+"""Computes the answers of crates/unit_tests/src/value_rows.rt again, by Python's integers, and prints each that is another.
 
 Usage: tests/oracle/constants.py. The rules are those of the Go specification (Constant expressions, Arithmetic operators,
 Integer operators, Conversions), with 128 bits for all that is exact. The gate doesn't run this program.
@@ -8,7 +8,7 @@ import os
 import re
 import sys
 
-FILE = os.path.join(os.path.dirname(os.path.abspath(__file__)), "../../crates/const_eval/src/rows.rt")
+FILE = os.path.join(os.path.dirname(os.path.abspath(__file__)), "../../crates/unit_tests/src/value_rows.rt")
 LEAST, GREATEST = -(2**127), 2**127 - 1
 BITS = {"Int": 64, "Int8": 8, "Int16": 16, "Int32": 32, "Int64": 64}
 BITS.update({f"U{kind.lower()}": bits for kind, bits in BITS.items()})

@@ -2,7 +2,5 @@
 #![tactic(auto)]
 
 mod request;
-#[cfg(test)]
-mod tests;
 
 pub use request::{Request, WordsFault, read_words};

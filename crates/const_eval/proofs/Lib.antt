@@ -4,5 +4,4 @@ pub mod ShiftLemmas
 pub mod AnswerLemmas
 pub mod DigitLemmas
 pub mod Examples
-pub mod Recognised
 pub mod BitLemmas

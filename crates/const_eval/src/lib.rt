@@ -18,8 +18,3 @@ pub use conversions::{convert, represent};
 pub use kinds::Kind;
 pub use literals::literal;
 pub use operators::{binary, unary};
-
-#[cfg(test)]
-mod rows;
-#[cfg(test)]
-mod tests;

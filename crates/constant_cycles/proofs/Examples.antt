@@ -32,18 +32,18 @@ use Rattle.constant_cycles.specs.NamesPut.{NameForName, AllNamesPut}
 use Rattle.constant_cycles.specs.Laws.{UsesOf, NamesFor}
 use Rattle.constant_cycles.proofs.UsesPut.{uses-put-alike}
 
-abbrev node : ℕ → At
+abbrev pub node : ℕ → At
 node n = from n (suc n) n (suc n)
 
 abbrev a_const : ℕ → List ℕ → Expr At → Decl At
 a_const s n e = values (const_decl (node s) false (spec (node s) (record { span = node s; name = n } ∷ []) None (expr_and e no_exprs) no_specs))
 
-abbrev a_func : ℕ → List ℕ → Expr At → Decl At
+abbrev pub a_func : ℕ → List ℕ → Expr At → Decl At
 a_func s n e =
     fn (node s) None (record { span = node s; name = n }) (sig [] (param (node s) None (named (node s) None (record { span = node s; name = codes "int" })) ∷ [])) (node s)
     (stmt_and (return_ (node s) (expr_and e no_exprs)) no_stmts)
 
-abbrev call_of : ℕ → List ℕ → Expr At
+abbrev pub call_of : ℕ → List ℕ → Expr At
 call_of s n = call (node s) (ident (node (suc s)) n) no_exprs Plain
 
 -- what One and Two return
@@ -62,17 +62,17 @@ module_of one two =
       } ∷ [];
     } ∷ []
 
-abbrev marks : List MarkRef
+abbrev pub marks : List MarkRef
 marks = mark 0 0 1 0 ∷ mark 0 0 2 0 ∷ mark 0 0 3 0 ∷ []
 
-abbrev pointer : ℕ → Expr At
+abbrev pub pointer : ℕ → Expr At
 pointer s = ident (node s) (codes "Ptr")
 
-abbrev before : List (Package At)
+abbrev pub before : List (Package At)
 before = module_of (pointer 31) (binary (node 41) Add (call_of 42 (codes "One")) (pointer 45))
 
 -- the use in Two
-abbrev in_two : Site At
+abbrev pub in_two : Site At
 in_two = the (slice_get (sites before marks) 2) refl
 
 its_span : part_span in_two.part ≡ node 45
@@ -81,11 +81,11 @@ its_span = refl
 its_mark : in_two.mark ≡ mark 0 0 1 0
 its_mark = refl
 
-abbrev new_name : Expr At
+abbrev pub new_name : Expr At
 new_name = ident (node 45) (codes "Pointer")
 
 -- where Ptr stands, both names mean 1
-abbrev in_sum : Place At
+abbrev pub in_sum : Place At
 in_sum = in_two.place
 
 one_use : UseThere (top_env before in_two.at.number in_two.at.of in_two.at.source.tree) in_sum (pointer 45) new_name
@@ -110,7 +110,6 @@ one_name : NameForName same_here (part_span in_two.part) new_name before marks i
 one_name = record {
   old = record { inside = refl; no_callee = refl; selects = λ s m. refl };
   new = record { inside = refl; no_callee = refl; selects = λ s m. refl };
-  one_type = refl;
 }
 
 uses : UsesOf before in_two new_name

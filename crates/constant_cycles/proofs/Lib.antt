@@ -2,4 +2,4 @@ pub mod OffCycles
 pub mod NamesHere
 pub mod Unobstructed
 pub mod UsesPut
-mod Examples
+pub mod Examples

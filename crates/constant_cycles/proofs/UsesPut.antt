@@ -45,7 +45,7 @@ module _ {S : Type 0} (same : S → S → Bool) (z : S) (e : Expr S) (ps : List 
   put-alike : (p : Place S) (x y : Expr S) → (is_at same z x ≡ true → NameForName same z e ps marks w at m p x) → (b : Bool) → is_at same z x ≡ b → (if b then Some e else None) ≡ Some y → CallsAlike ps marks w at m p y x
   put-alike p x y n true h k =
       let q : NameForName same z e ps marks w at m p x = n h in
-      subst (λ (v : Expr S). CallsAlike ps marks w at m p v x) (same_Some e y k) (names-alike ps marks w at p e x q.new q.old q.one_type m)
+      subst (λ (v : Expr S). CallsAlike ps marks w at m p v x) (same_Some e y k) (names-alike ps marks w at p e x q.new q.old m)
   put-alike p x y n false h k = cc
 
   pub all-put-alike : (xs : List (Seen S)) → AllUsesThere same z e top xs → AllNamesPut same z e ps marks w at m xs → AllPutCallAlike ps marks w at m (changes_for same z (as_expr e)) xs

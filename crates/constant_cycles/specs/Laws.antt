@@ -34,7 +34,7 @@ UsesOf ps x e =
     → AllUsesThere same_here (part_span x.part) e (top_env ps x.at.number x.at.of x.at.source.tree)
     (decl_seen ps x.at.number x.at.of x.at.source.tree d)
 
--- And they name no function, nor does e, and have one type with it.
+-- And they name no function, nor does e.
 abbrev pub NamesFor : List (Package At) → List MarkRef → Site At → Expr At → Type 0
 NamesFor ps marks x e =
     (d : Decl At) → slice_get x.at.source.tree.decls x.decl ≡ Some d

@@ -4,7 +4,6 @@ use Rattle.std.specs.Prelude.{◌≡◌, ℕ, Bool, true, List, [], ◌∷◌}
 use Rattle.go_tree.specs.Tree.{TypeExpr, Expr}
 use Rattle.pkg_graph.specs.Package.{Package}
 use Rattle.run_rules.specs.Surroundings.{Place, Seen, seen, seen_type, seen_stmt}
-use Rattle.run_rules.specs.Classes.{type_at}
 use Rattle.run_rules.specs.Sites.{MarkRef, Where}
 use Rattle.run_rules.specs.FormTrees.{as_expr, as_type}
 use Rattle.run_rules.specs.Forms.{is_at}
@@ -15,11 +14,10 @@ use Rattle.cycle_laws.specs.NamesNoFunction.{NamesNoFunction}
 -- `e` is put at the span z for a use of m, in the declaration with the number `at` of the file of `w`
 module _ {S : Type 0} (same : S → S → Bool) (z : S) (e : Expr S) (ps : List (Package S)) (marks : List MarkRef)
     (w : Where S) (at : ℕ) (m : MarkRef) where
-  -- what stands there and what is put name no function, and they have one type
+  -- what stands there and what is put name no function
   pub record NameForName (p : Place S) (x : Expr S) : Type 0 where
     pub old : NamesNoFunction ps marks w at p x
     pub new : NamesNoFunction ps marks w at p e
-    pub one_type : type_at p.env e ≡ type_at p.env x
 
   -- so is what stands at the span; and the constants that a statement declares call nothing, before and after
   abbrev pub NamePut : Seen S → Type 0

@@ -5,8 +5,8 @@ ghost use Rattle.constant_cycles.specs.Laws.{QualifiedNamesNameNoFunction, Types
 ghost use Rattle.constant_cycles.specs.Laws.{UnobstructedConstantsNameNoFunction};
 
 /// A constant and an alias lie on no cycle of marked functions. Where all that stands at a step's span are uses of a
-/// constant, and they and the name that is put there name no function and have one type, what is put calls what stood
-/// there; so the same marked functions lie on cycles after the step, if its program reads calls as the one before.
+/// constant, and they and the name that is put there name no function, what is put calls what stood there; so the same
+/// marked functions lie on cycles after the step, if its program reads calls as the one before.
 /// A type that is put for the use of an alias calls nothing, and so keeps them too.
 pub fn constants_keep_cycles()
     ensures off { ConstantsLieOnNoCycle }

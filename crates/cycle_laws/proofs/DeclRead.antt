@@ -40,33 +40,33 @@ use Rattle.cycle_laws.proofs.BareWith.{decl-with}
 -- ---- what a declaration calls, by what its package and its file say
 
 module _ (D : Callees) (w : World) (k : ℕ) (is : Environment Entity) where
-  abbrev top_of : Option ℕ → Env
+  abbrev pub top_of : Option ℕ → Env
   top_of i = file_env w k is i
 
   module _ {S : Type 0} where
-    abbrev calls_group : ℕ → ValueSpecs S → List MarkRef
+    abbrev pub calls_group : ℕ → ValueSpecs S → List MarkRef
     calls_group i no_specs = []
     calls_group i (spec s ns t es ss) = calls_all D (top_of (Some i)) [] es ++ calls_group (suc i) ss
 
-    abbrev calls_of_variables : ValueSpecs S → List MarkRef
+    abbrev pub calls_of_variables : ValueSpecs S → List MarkRef
     calls_of_variables no_specs = []
     calls_of_variables (spec s ns t es ss) = calls_all D (top_of None) [] es ++ calls_of_variables ss
 
-    abbrev received : Option (Receiver S) → Binds
+    abbrev pub received : Option (Receiver S) → Binds
     received None = []
     received (Some r) = elim (given (type_of_name (meaning (top_of None) r.of.name)) (λ t. given (type_name_of t) (λ y. only_if (nat_eq y.0 k && is_none (base_of (under w.defined t))) (Some y.1)))) [ None ↦ [] | Some n ↦ receiver_binds r (named_type k n) ]
 
-    abbrev body_start : Func S → Env
+    abbrev pub body_start : Func S → Env
     body_start f = extend (otherwise (given (func_type (top_of None) f.sig) (body_binds (received f.receiver) f.sig)) []) (top_of None)
 
-    abbrev receiver_name : Option (Receiver S) → List (NameAt S) → List (NameAt S)
+    abbrev pub receiver_name : Option (Receiver S) → List (NameAt S) → List (NameAt S)
     receiver_name None ns = ns
     receiver_name (Some r) ns = with_name r.name ns
 
-    abbrev body_names : Func S → List (List ℕ)
+    abbrev pub body_names : Func S → List (List ℕ)
     body_names f = names_of (not_blank (param_names f.sig.results ++ receiver_name f.receiver (param_names f.sig.params)))
 
-    abbrev calls_decl : Decl S → List MarkRef
+    abbrev pub calls_decl : Decl S → List MarkRef
     calls_decl (values (const_decl _ _ ss)) = calls_group 0 ss
     calls_decl (values (var_decl _ _ ss)) = calls_of_variables ss
     calls_decl (values s) = []
@@ -112,7 +112,7 @@ module _ (D : Callees) (w : World) (k : ℕ) (is : Environment Entity) where
     body-names-bare : (f : Func S) → body_names (bare_func f) ≡ body_names f
     body-names-bare f = params-names-bare f.sig.results (receiver_name (option_map bare_receiver f.receiver) (param_names (map bare_param f.sig.params))) (receiver_name f.receiver (param_names f.sig.params)) (receiver-names-bare f.receiver f.sig.params)
 
-    decl-bare : (d : Decl S) → calls_decl (bare_decl d) ≡ calls_decl d
+    pub decl-bare : (d : Decl S) → calls_decl (bare_decl d) ≡ calls_decl d
     decl-bare (values (const_decl _ _ ss)) = group-bare 0 ss
     decl-bare (values (var_decl _ _ ss)) = variables-bare ss
     decl-bare (values (empty _)) = refl
@@ -180,7 +180,7 @@ module _ {S : Type 0} (ps : List (Package S)) (marks : List MarkRef) (w : Where 
       by None = refl
       by (Some r) = refl
 
-  decl-led : (d : Decl S) → led (decl_seen ps k pk file d) ≡ calls_decl D (world ps) k is d
+  pub decl-led : (d : Decl S) → led (decl_seen ps k pk file d) ≡ calls_decl D (world ps) k is d
   decl-led (values (const_decl _ _ ss)) = group-led 0 ss
   decl-led (values (var_decl _ _ ss)) = variables-led ss
   decl-led (values (empty _)) = refl
@@ -206,7 +206,7 @@ module _ {S : Type 0} (ps : List (Package S)) (marks : List MarkRef) (w : Where 
 -- ---- two programs
 
 module _ (marks : List MarkRef) (before after : List (Package At)) (s : NamesStay marks before after) where
-  bare-origins : (d e : Decl At) → decl_with origin_of e ≡ decl_with origin_of d → bare_decl e ≡ bare_decl d
+  pub bare-origins : (d e : Decl At) → decl_with origin_of e ≡ decl_with origin_of d → bare_decl e ≡ bare_decl d
   bare-origins d e h = sym (decl-with origin_of e) ∙ (λ v. bare_decl (h v)) ∙ decl-with origin_of d
 
   pub names-read-alike : ReadCallsAlike marks before after

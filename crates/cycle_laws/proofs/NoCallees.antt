@@ -1,5 +1,5 @@
--- A use of a constant or of an alias names no function and no import, and holds no call; two such expressions of one
--- type call the same.
+-- A use of a constant or of an alias names no function and no import, and holds no call; two such expressions call the
+-- same.
 use Rattle.std.proofs.Common.{◌≡◌, ℕ, Bool, true, false, List, Option, Some, None, if◌then◌else◌, refl, sym, ◌∙◌}
 use Rattle.go_tree.specs.Tree.{NameAt, Expr, ident, selector}
 use Rattle.scope_names.specs.FreeNames.{names_of}
@@ -10,7 +10,6 @@ use Rattle.go_types.specs.Types.{base_of, type_name_of}
 use Rattle.go_types.specs.Entities.{defined_in}
 use Rattle.go_types.specs.Primary.{field_type}
 use Rattle.std.specs.Prelude.{is_some}
-use Rattle.run_rules.specs.Classes.{type_at}
 use Rattle.run_rules.specs.Surroundings.{other, Place}
 use Rattle.run_rules.specs.Sites.{MarkRef, Where, Inlinable, find_marked_method, a_constant, an_alias, a_function, mark_of, imported_by, is_free_function, not_function, inlinable, import_number, member_of, name_mark, outer_meaning, qualifier, marked, marked_as, expr_mark, selected_method}
 use Rattle.cycle_laws.specs.PutCalls.{CallsAlike}
@@ -71,9 +70,9 @@ module _ {S : Type 0} (ps : List (Package S)) (marks : List MarkRef) (w : Where 
       selects = λ v x. refl;
     }
 
-    pub names-alike : (x y : Expr S) → NamesNoFunction ps marks w at p x → NamesNoFunction ps marks w at p y → type_at p.env x ≡ type_at p.env y → (m : MarkRef) → CallsAlike ps marks w at m p x y
-    names-alike x y h k t m = record {
+    pub names-alike : (x y : Expr S) → NamesNoFunction ps marks w at p x → NamesNoFunction ps marks w at p y → (m : MarkRef) → CallsAlike ps marks w at m p x y
+    names-alike x y h k m = record {
       inside = gives-by (h.inside ∙ sym k.inside);
       called_so = h.no_callee ∙ sym k.no_callee;
-      selected_so = λ s z n. h.selects s (record n { span = z }) ∙ (λ v. marked ps marks (given (given (t v) (λ u. if is_some (field_type (defined_in p.env) p.env.home n.name u) then None else type_name_of (otherwise (base_of u) u))) (λ q. find_marked_method ps marks q.0 q.1 n.name))) ∙ sym (k.selects s n);
+      selected_so = λ t s z n. h.selects s (record n { span = z }) ∙ (λ v. marked ps marks (given (given (t v) (λ u. if is_some (field_type (defined_in p.env) p.env.home n.name u) then None else type_name_of (otherwise (base_of u) u))) (λ q. find_marked_method ps marks q.0 q.1 n.name))) ∙ sym (k.selects s n);
     }

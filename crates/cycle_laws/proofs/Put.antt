@@ -139,19 +139,19 @@ module _ {S : Type 0} (ps : List (Package S)) (marks : List MarkRef) (w : Where 
   marks-alike : (q : Place S) (b : List (List ℕ)) → names_of q.bound ≡ b → (x y : Expr S) → called_mark ps marks w q x ≡ called_mark ps marks w q y → callee D q.env b x ≡ callee D q.env b y
   marks-alike q b h x y k = (λ v. callee D q.env (sym h v) x) ∙ sym (callee-is ps marks w q x) ∙ k ∙ callee-is ps marks w q y ∙ (λ v. callee D q.env (h v) y)
 
-  named-so : (q : Place S) (b : List (List ℕ)) → names_of q.bound ≡ b → (s : S) (x : Expr S) (m : NameAt S) (y : Expr S) → CallsAlike ps marks w at way q y x → callee D q.env b (selector (c.span s) y (new_name c m)) ≡ callee D q.env b (selector s x m)
-  named-so q b h s x m y a = marks-alike q b h (selector (c.span s) y (new_name c m)) (selector s x m) (a.selected_so (c.span s) (c.span m.span) m)
+  named-so : (q : Place S) (b : List (List ℕ)) → names_of q.bound ≡ b → (s : S) (x : Expr S) (m : NameAt S) (y : Expr S) → parts q.env x ≡ parts q.env y → CallsAlike ps marks w at way q y x → callee D q.env b (selector (c.span s) y (new_name c m)) ≡ callee D q.env b (selector s x m)
+  named-so q b h s x m y pe a = marks-alike q b h (selector (c.span s) y (new_name c m)) (selector s x m) (a.selected_so (λ v. given (given (sym pe v) typed) (λ v. Some v.0)) (c.span s) (c.span m.span) m)
 
-  ident-case : (o : Option (Expr S)) (q : Place S) (b : List (List ℕ)) → names_of q.bound ≡ b → (s : S) (x d : Expr S) (m : NameAt S) → c.expr q other x ≡ o
+  ident-case : (o : Option (Expr S)) (q : Place S) (b : List (List ℕ)) → names_of q.bound ≡ b → (s : S) (x d : Expr S) (m : NameAt S) → c.expr q other x ≡ o → parts q.env x ≡ parts q.env (otherwise o d)
       → callee D q.env b (selector (c.span s) d (new_name c m)) ≡ callee D q.env b (selector s x m) → PutAt q other x → callee D q.env b (selector (c.span s) (otherwise o d) (new_name c m)) ≡ callee D q.env b (selector s x m)
-  ident-case None q b h s x d m e k al = k
-  ident-case (Some y) q b h s x d m e k al = named-so q b h s x m y (al y e)
+  ident-case None q b h s x d m e pe k al = k
+  ident-case (Some y) q b h s x d m e pe k al = named-so q b h s x m y pe (al y e)
 
   method-case : (o : Option (Expr S)) (q : Place S) (b : List (List ℕ)) → names_of q.bound ≡ b → (s : S) (x d : Expr S) (m : NameAt S) → c.expr q other x ≡ o → parts q.env x ≡ parts q.env (otherwise o d)
       → callee D q.env b (selector (c.span s) d (new_name c m)) ≡ D.method (home_of_method q.env d m.name) m.name → callee D q.env b (selector s x m) ≡ D.method (home_of_method q.env x m.name) m.name
       → PutAt q other x → callee D q.env b (selector (c.span s) (otherwise o d) (new_name c m)) ≡ callee D q.env b (selector s x m)
   method-case None q b h s x d m e pe k n al = k ∙ (λ v. D.method (given (given (given (sym pe v) typed) (λ v. Some v.0)) (λ t. if is_some (field_type (defined_in q.env) q.env.home m.name t) then None else type_name_of (otherwise (base_of t) t))) m.name) ∙ sym n
-  method-case (Some y) q b h s x d m e pe k n al = named-so q b h s x m y (al y e)
+  method-case (Some y) q b h s x d m e pe k n al = named-so q b h s x m y pe (al y e)
 
   callee-case : (o : Option (Expr S)) (q : Place S) (b : List (List ℕ)) → names_of q.bound ≡ b → (x d : Expr S) → c.expr q called x ≡ o → callee D q.env b d ≡ callee D q.env b x → PutAt q called x → callee D q.env b (otherwise o d) ≡ callee D q.env b x
   callee-case None q b h x d e k al = k
@@ -159,7 +159,7 @@ module _ {S : Type 0} (ps : List (Package S)) (marks : List MarkRef) (w : Where 
 
   selector-put : (around : List (List ℕ)) (q : Place S) (b : List (List ℕ)) → names_of q.bound ≡ b → (s : S) (d : Expr S) (m : NameAt S) → ExprStands c around q.env q other d → AllLead (expr_seen q other d)
       → callee D q.env b (selector (c.span s) (new_expr c q other d) (new_name c m)) ≡ callee D q.env b (selector s d m)
-  selector-put around q b h s (ident s1 n1) m st al = ident-case (c.expr q other (ident s1 n1)) q b h s (ident s1 n1) (ident (c.span s1) n1) m refl refl (own q other (ident s1 n1) al).1
+  selector-put around q b h s (ident s1 n1) m st al = ident-case (c.expr q other (ident s1 n1)) q b h s (ident s1 n1) (ident (c.span s1) n1) m refl (parts-in (expr-stands c around q.env q other (ident s1 n1) st)) refl (own q other (ident s1 n1) al).1
   selector-put around q b h s (int_lit s1 n1) m st al = method-case (c.expr q other (int_lit s1 n1)) q b h s (int_lit s1 n1) (int_lit (c.span s1) n1) m refl (parts-in (expr-stands c around q.env q other (int_lit s1 n1) st)) refl refl (own q other (int_lit s1 n1) al).1
   selector-put around q b h s (rune_lit s1 n1) m st al = method-case (c.expr q other (rune_lit s1 n1)) q b h s (rune_lit s1 n1) (rune_lit (c.span s1) n1) m refl (parts-in (expr-stands c around q.env q other (rune_lit s1 n1) st)) refl refl (own q other (rune_lit s1 n1) al).1
   selector-put around q b h s (str_lit s1 n1) m st al = method-case (c.expr q other (str_lit s1 n1)) q b h s (str_lit s1 n1) (str_lit (c.span s1) n1) m refl (parts-in (expr-stands c around q.env q other (str_lit s1 n1) st)) refl refl (own q other (str_lit s1 n1) al).1

@@ -16,7 +16,7 @@ use Rattle.run_rules.specs.Run.{Standing, Logged, Next, here_of, origin_of, is_c
 use Rattle.run_laws.proofs.FoundSpans.{Placed, FoundIn, found_in}
 use Rattle.cycle_laws.specs.PutCalls.{GivesWayAmong, mark_there, called_among}
 use Rattle.cycle_laws.proofs.Gives.{gives-same, gives-by, gives-eq, gives-then}
-use Rattle.cycle_laws.specs.PutSteps.{ReadCallsAlike, PutsAlike}
+use Rattle.cycle_laws.specs.PutSteps.{ReadCallsAlike, ReadCallsAlikeIn, PutsAlike}
 use Rattle.cycle_laws.proofs.DeclCalls.{decl-kept}
 
 -- ---- lists with an entry changed
@@ -38,7 +38,7 @@ module _ {A : Type 0} (g : A → A) where
       next (inl e) = inl (ap suc e.0, e.1)
       next (inr e) = inr e
 
-  change-at : (xs : List A) (n : ℕ) (y : A) → slice_get xs n ≡ Some y → slice_get (change_nth n g xs) n ≡ Some (g y)
+  pub change-at : (xs : List A) (n : ℕ) (y : A) → slice_get xs n ≡ Some y → slice_get (change_nth n g xs) n ≡ Some (g y)
   change-at [] n y h = cc
   change-at (x ∷ xs) zero y h = λ v. Some (g (same_Some x y h v))
   change-at (x ∷ xs) (suc n) y h = change-at xs n y h
@@ -71,7 +71,7 @@ module _ (marks : List MarkRef) (ps : List (Package At)) where
   led-of : (w : Where At) (n : ℕ) (o : Option (Decl At)) → slice_get w.source.tree.decls n ≡ o → led_from w n ≡ called_among ps marks w n (elim o [ None ↦ [] | Some x ↦ decl_seen ps w.number w.of w.source.tree x ])
   led-of w n o h = λ v. called_among ps marks w n (elim (h v) [ None ↦ [] | Some x ↦ decl_seen ps w.number w.of w.source.tree x ])
 
-module _ (marks : List MarkRef) (before after : List (Package At)) (m : MarkRef) (reads : ReadCallsAlike marks before after) where
+module _ (marks : List MarkRef) (before after : List (Package At)) (m : MarkRef) (reads : ReadCallsAlikeIn marks before after) where
   -- the declaration leads on as before, but that m gives way
   abbrev LeadsOn : ℕ → ℕ → ℕ → Type 0
   LeadsOn i j n = GivesWayAmong before marks (numbered_mark marks before i j n) m (leads_to after marks (numbered_mark marks after i j n)) (leads_to before marks (numbered_mark marks before i j n))
@@ -79,11 +79,11 @@ module _ (marks : List MarkRef) (before after : List (Package At)) (m : MarkRef)
   -- declarations that differ by where their nodes stand lead to the same
   same-decls : (i j n : ℕ) (w v : Where At) → where_is before (numbered_mark marks before i j n) ≡ Some w → where_is after (numbered_mark marks after i j n) ≡ Some v → slice_get v.source.tree.decls n ≡ slice_get w.source.tree.decls n
       → leads_to after marks (numbered_mark marks after i j n) ≡ leads_to before marks (numbered_mark marks before i j n)
-  same-decls i j n w v hw hv e = leads-at marks after i j n v hv ∙ led-of marks after v n (slice_get w.source.tree.decls n) e ∙ by (slice_get w.source.tree.decls n) ∙ sym (leads-at marks before i j n w hw)
+  same-decls i j n w v hw hv e = leads-at marks after i j n v hv ∙ led-of marks after v n (slice_get w.source.tree.decls n) e ∙ by (slice_get w.source.tree.decls n) refl ∙ sym (leads-at marks before i j n w hw)
     where
-      by : (o : Option (Decl At)) → called_among after marks v n (elim o [ None ↦ [] | Some x ↦ decl_seen after v.number v.of v.source.tree x ]) ≡ called_among before marks w n (elim o [ None ↦ [] | Some x ↦ decl_seen before w.number w.of w.source.tree x ])
-      by None = refl
-      by (Some d) = reads (numbered_mark marks before i j n) w v hw hv d d refl
+      by : (o : Option (Decl At)) → slice_get w.source.tree.decls n ≡ o → called_among after marks v n (elim o [ None ↦ [] | Some x ↦ decl_seen after v.number v.of v.source.tree x ]) ≡ called_among before marks w n (elim o [ None ↦ [] | Some x ↦ decl_seen before w.number w.of w.source.tree x ])
+      by None g = refl
+      by (Some d) g = reads (numbered_mark marks before i j n) w v hw hv d d (e ∙ g) refl
 
   module _ (x : Site At) (change : Decl At → Decl At) (tree : File At) (after_is : after ≡ with_file same_here before x.at tree)
       (decls_are : decls_with origin_of tree.decls ≡ decls_with origin_of (change_nth x.decl change x.at.source.tree.decls))
@@ -125,11 +125,11 @@ module _ (marks : List MarkRef) (before after : List (Package At)) (m : MarkRef)
     abbrev Seen_before : ℕ → Option (Decl At) → List MarkRef
     Seen_before n o = called_among before marks x.at n (elim o [ None ↦ [] | Some d ↦ decl_seen before x.at.number x.at.of x.at.source.tree d ])
 
-    alike : (n : ℕ) (o p : Option (Decl At)) → spanned o ≡ spanned p → Seen_after n o ≡ Seen_before n p
-    alike n None None e = refl
-    alike n None (Some d) e = cc
-    alike n (Some d) None e = cc
-    alike n (Some d) (Some f) e = reads (mark n) x.at now (where-before n) (where-after n) f d (same_Some (decl_with origin_of d) (decl_with origin_of f) e)
+    alike : (n : ℕ) (o p : Option (Decl At)) → slice_get tree.decls n ≡ o → spanned o ≡ spanned p → Seen_after n o ≡ Seen_before n p
+    alike n None None g e = refl
+    alike n None (Some d) g e = cc
+    alike n (Some d) None g e = cc
+    alike n (Some d) (Some f) g e = reads (mark n) x.at now (where-before n) (where-after n) f d g (same_Some (decl_with origin_of d) (decl_with origin_of f) e)
 
     old-calls : (n : ℕ) → GivesWayAmong before marks (mark n) m (Seen_before n (slice_get (change_nth x.decl change x.at.source.tree.decls) n)) (Seen_before n (slice_get x.at.source.tree.decls n))
     unfolding Changed
@@ -145,7 +145,7 @@ module _ (marks : List MarkRef) (before after : List (Package At)) (m : MarkRef)
         by (inr e) = gives-by (λ v. Seen_before n (e v))
 
     at-file : (n : ℕ) → LeadsOn x.at.number x.at.file_number n
-    at-file n = gives-eq (leads-at marks after x.at.number x.at.file_number n now (where-after n) ∙ alike n (slice_get tree.decls n) (slice_get (change_nth x.decl change x.at.source.tree.decls) n) (decls-spanned n)) (gives-then (old-calls n) (sym (leads-at marks before x.at.number x.at.file_number n x.at (where-before n))))
+    at-file n = gives-eq (leads-at marks after x.at.number x.at.file_number n now (where-after n) ∙ alike n (slice_get tree.decls n) (slice_get (change_nth x.decl change x.at.source.tree.decls) n) refl (decls-spanned n)) (gives-then (old-calls n) (sym (leads-at marks before x.at.number x.at.file_number n x.at (where-before n))))
 
     other-file : (j n : ℕ) (o : Option (SourceTree At)) → slice_get x.at.of.files j ≡ o → slice_get (put_package x.at.of).files j ≡ o
         → leads_to after marks (numbered_mark marks after x.at.number j n) ≡ leads_to before marks (numbered_mark marks before x.at.number j n)
@@ -198,7 +198,7 @@ module _ (marks : List MarkRef) (st : Standing) (l : Logged) (after : Standing) 
 
   pub step-gives-way : PutsAlike marks st.packages n.found.site n.found.form → ReadCallsAlike marks st.packages after.packages → GivesWay (LeadsTo st.packages marks) (LeadsTo after.packages marks) n.found.site.mark
   step-gives-way h r =
-      give-way marks st.packages after.packages n.found.site.mark r n.found.site (new_decl same_here st.packages (changes_for same_here (part_span n.found.site.part) n.found.form) n.found.site.at.number n.found.site.at.of n.found.site.at.source.tree)
+      give-way marks st.packages after.packages n.found.site.mark (λ a w v hw hv d e g k. r a w v hw hv d e k) n.found.site (new_decl same_here st.packages (changes_for same_here (part_span n.found.site.part) n.found.form) n.found.site.at.number n.found.site.at.of n.found.site.at.source.tree)
       n.tree n.packages_are (λ v. (n.origins_are v).decls) placed.package_is placed.file_is
       (λ d e. decl-kept st.packages marks n.found.site.at n.found.site.decl n.found.site.mark same_here (changes_for same_here (part_span n.found.site.part) n.found.form) h.statements (λ t u. Unit {0}) n.found.site.at.number n.found.site.at.of n.found.site.at.source.tree d (h.stands d e) (h.calls d e))
 

@@ -11,7 +11,6 @@ use Rattle.run_rules.specs.Programs.{top_place, body_place, decl_seen}
 use Rattle.run_rules.specs.Places.{expr_seen, stmts_seen}
 use Rattle.run_rules.specs.Rewriting.{Changes, new_expr, new_stmts}
 use Rattle.run_rules.specs.Sites.{MarkRef, Where, expr_mark}
-use Rattle.run_rules.specs.Classes.{type_at}
 use Rattle.run_rules.specs.Steps.{At, new_decl}
 use Rattle.run_rules.specs.Cycles.{GivesWay, LeadsTo, is_recursive}
 use Rattle.run_rules.specs.Run.{Standing, Logged, Next}
@@ -58,12 +57,12 @@ QualifiedNameNoFunction =
     (n : NameAt At) (m : MarkRef) → expr_mark ps marks w p (selector s (ident z q) n) ≡ Some m
     → NamesNoFunction ps marks w at p (selector s (ident z q) n)
 
--- two expressions of one type that name no function call alike
+-- two expressions that name no function call alike
 abbrev pub NamesCallAlike : Type 0
 NamesCallAlike =
     (ps : List (Package At)) (marks : List MarkRef) (w : Where At) (at : ℕ) (p : Place At) (x y : Expr At)
-    → NamesNoFunction ps marks w at p x → NamesNoFunction ps marks w at p y → type_at p.env x ≡ type_at p.env y
-    → (m : MarkRef) → CallsAlike ps marks w at m p x y
+    → NamesNoFunction ps marks w at p x → NamesNoFunction ps marks w at p y → (m : MarkRef)
+    → CallsAlike ps marks w at m p x y
 
 -- ---- declarations
 

@@ -8,6 +8,7 @@ use Rattle.go_types.specs.Declarations.{nothing_to_repeat}
 use Rattle.run_rules.specs.Surroundings.{other, Place, Seen, seen, seen_type, seen_stmt, plain_slot}
 use Rattle.run_rules.specs.Places.{expr_seen, constants_seen}
 use Rattle.run_rules.specs.Rewriting.{Changes, new_constants}
+use Rattle.run_rules.specs.Classes.{type_at}
 use Rattle.run_rules.specs.Sites.{MarkRef, is_among_marks, Where, called_mark, sites_among}
 use Rattle.run_rules.specs.Cycles.{LeadsTo, function_marks}
 
@@ -31,15 +32,16 @@ module _ {S : Type 0} (ps : List (Package S)) (marks : List MarkRef) (w : Where 
   called_among xs = function_marks ps marks (sites_among ps marks w at xs)
 
   module _ (m : MarkRef) where
-    -- Two expressions call alike there: the first in itself as the second, but for m, and both where each is called and
-    -- where each stands before a dot.
+    -- Two expressions call alike there: the first in itself as the second, but for m, and both where each is called
+    -- and, if they have one type, where each stands before a dot.
     pub record CallsAlike (p : Place S) (x y : Expr S) : Type 0 where
       pub inside :
           GivesWayAmong ps marks (mark_there w at) m (called_among (expr_seen p other x))
           (called_among (expr_seen p other y))
       pub called_so : called_mark ps marks w p x ≡ called_mark ps marks w p y
       pub selected_so :
-          (s z : S) (m : NameAt S) → called_mark ps marks w p (selector s x (record m { span = z }))
+          type_at p.env x ≡ type_at p.env y → (s z : S) (m : NameAt S)
+          → called_mark ps marks w p (selector s x (record m { span = z }))
           ≡ called_mark ps marks w p (selector s y m)
 
     module _ (c : Changes S) where

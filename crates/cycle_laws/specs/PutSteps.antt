@@ -29,6 +29,15 @@ ReadCallsAlike marks before after =
     → called_among after marks v a.decl (decl_seen after v.number v.of v.source.tree e)
     ≡ called_among before marks w a.decl (decl_seen before w.number w.of w.source.tree d)
 
+-- They do so where declarations stand: one that stands in a file of the second calls the marked functions that one
+-- which differs by where its nodes stand calls in the same file of the first.
+abbrev pub ReadCallsAlikeIn : List MarkRef → List (Package At) → List (Package At) → Type 0
+ReadCallsAlikeIn marks before after =
+    (a : MarkRef) (w v : Where At) → where_is before a ≡ Some w → where_is after a ≡ Some v → (d e : Decl At)
+    → slice_get v.source.tree.decls a.decl ≡ Some e → decl_with origin_of e ≡ decl_with origin_of d
+    → called_among after marks v a.decl (decl_seen after v.number v.of v.source.tree e)
+    ≡ called_among before marks w a.decl (decl_seen before w.number w.of w.source.tree d)
+
 -- In the declaration of the use all that the form puts has the same facts, and calls the marked functions that stood
 -- there, but that what was used gives way to what it leads to.
 pub record PutsAlike (marks : List MarkRef) (ps : List (Package At)) (x : Site At) (f : Form At) : Type 0 where

@@ -12,8 +12,8 @@ pub fn walks_keep_calls()
     ensures declarations { DeclarationsCallAlike }
 {}
 
-/// A use of a constant or of an alias names no function, and two expressions that name none and have
-/// one type call alike wherever one is put for the other.
+/// A use of a constant or of an alias names no function, and two expressions that name none call alike
+/// wherever one is put for the other.
 pub fn names_call_alike()
     ensures names { NamesNameNoFunction }
     ensures qualified { QualifiedNameNoFunction }

@@ -142,6 +142,3 @@ fn scan_source(alloc: Global, source: &str) -> Result<Tokens, ScanError>
         comments: lists.comments,
     })
 }
-
-#[cfg(test)]
-mod tests;

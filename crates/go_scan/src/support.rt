@@ -116,6 +116,3 @@ fn first_word(known: Option<Span>, tokens: &[Token], terminals: &[Terminal]) -> 
     }
     first
 }
-
-#[cfg(test)]
-mod tests;

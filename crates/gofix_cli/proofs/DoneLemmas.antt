@@ -1,5 +1,5 @@
 -- A verdict of Done is what inlining makes of the files.
-use Rattle.std.proofs.Common.{◌≡◌, List, [], ◌∷◌, ℕ, map, refl, ap, sym, subst}
+use Rattle.std.proofs.Common.{◌≡◌, ◌∙◌, List, [], ◌∷◌, ℕ, Bool, true, cond, map, refl, ap, sym, subst}
 use Rattle.std.specs.Prelude.{Option, Some, None, IfSome}
 use Rattle.go_tree.specs.declared.spans.Span.{Span}
 use Rattle.fix_engine.specs.Plan.{planned, plan_of}
@@ -12,7 +12,9 @@ use Rattle.fix_io.specs.Contents.{appended}
 use Rattle.fix_io.specs.Writes.{with_texts}
 use Rattle.gofix_cli.specs.Files.{contents_of}
 use Rattle.gofix_cli.specs.Headline.{IsInlined}
-use Rattle.gofix_cli.specs.Verdict.{Verdict, verdict_of, verdict, IsDone}
+use Rattle.gofix_cli.specs.Verdict.{Verdict, ended, verdict_of, verdict, IsEnd}
+use Rattle.gofix_cli.specs.declared.status.Status.{Status}
+use Rattle.command_words.specs.Words.{has_fix, only_of}
 
 abbrev first_path : List (List ℕ × List ℕ) → List ℕ
 first_path [] = []
@@ -31,17 +33,29 @@ kept_contents log (f ∷ fs) _ _ e (file {new = new} {olds = olds} {news = news}
     let tail : contents_of (with_texts fs (map (λ a. a.1) news)) ≡ news = kept_contents log fs olds news (ap rest_of e) rest in
     λ i. (ap first_path e i, new) ∷ tail i
 
-planned_inlined : (files : List HeldFile) (after : List (List ℕ × List ℕ)) (report : List ℕ) (steps : ℕ) → plan_of (contents_of files) [] ≡ planned after report steps → IsInlining (contents_of files) (contents_of (with_texts files (map (λ a. a.1) after))) [] report
-planned_inlined files after report steps e =
-    let made = planned_inlining (contents_of files) after [] report steps e in
-    subst (λ a. IsInlining (contents_of files) a [] report) (sym (kept_contents made.0.log files (contents_of files) after refl made.0.keeps)) made.0
+-- the verdict of a plan is how its run ends
+pub planned_is_end : (words : List (List ℕ)) (files : List HeldFile) (after : List (List ℕ × List ℕ)) (report : List ℕ) (steps : ℕ) → plan_of (contents_of files) (only_of words) ≡ planned after report steps → IsEnd words files (verdict_of (has_fix words) files (planned after report steps))
+planned_is_end words files after report steps e =
+    let made = planned_inlining (contents_of files) after (only_of words) report steps e in
+    record {
+      after = after;
+      inlined = made.0;
+      status = ap (ended (has_fix words)) (sym made.1);
+      written = λ fix. ap (λ (b : Bool). contents_of (cond b (with_texts files (map (λ a. a.1) after)) files)) fix ∙ kept_contents made.0.log files (contents_of files) after refl made.0.keeps;
+      stay = λ none. ap (λ (b : Bool). cond b (with_texts files (map (λ a. a.1) after)) files) none;
+    }
 
-pub planned_is_done : (files : List HeldFile) (after : List (List ℕ × List ℕ)) (report : List ℕ) (steps : ℕ) → plan_of (contents_of files) [] ≡ planned after report steps → IsDone files (verdict_of files (planned after report steps))
-planned_is_done files after report steps e = record { status = refl; inlined = planned_inlined files after report steps e }
+end_inlined : (words : List (List ℕ)) (files : List HeldFile) (v : Verdict) (now : Option (List HeldFile)) (old new : Option (List ℕ)) → has_fix words ≡ true → IsEnd words files v → now ≡ Some v.files → new ≡ appended old v.bytes → IsInlined (only_of words) files now old new
+end_inlined words files v now old new fix is held out = record {
+  after = v.files;
+  report = v.bytes;
+  held_is = held;
+  written = out;
+  inlined = subst (λ a. IsInlining (contents_of files) a (only_of words) v.bytes) (sym (is.written fix)) is.inlined;
+}
 
-pub told_inlined : (words : List (List ℕ)) (before now : Option (List HeldFile)) (old new : Option (List ℕ)) → IfSome before (λ files. IsDone files (verdict words files) × (now ≡ Some (verdict words files).files))
-    → IfSome before (λ files. new ≡ appended old (verdict words files).bytes) → IfSome before (λ files. IsInlined files now old new)
-told_inlined words None now old new done out = tt
-told_inlined words (Some files) now old new done out =
-    let v : Verdict = verdict words files in
-    record { after = v.files; report = v.bytes; held_is = done.1; written = out; inlined = done.0.inlined }
+pub told_inlined : (words : List (List ℕ)) (before now : Option (List HeldFile)) (s : Status) (old new : Option (List ℕ)) → has_fix words ≡ true
+    → IfSome before (λ files. IsEnd words files (verdict words files) × (s ≡ (verdict words files).status) × (now ≡ Some (verdict words files).files))
+    → IfSome before (λ files. new ≡ appended old (verdict words files).bytes) → IfSome before (λ files. IsInlined (only_of words) files now old new)
+told_inlined words None now s old new fix done out = tt
+told_inlined words (Some files) now s old new fix done out = end_inlined words files (verdict words files) now old new fix done.0 done.2 out

@@ -10,7 +10,7 @@ use Rattle.go_tree.specs.declared.limits.TheConstants.{MAX_FILE_BYTES}
 use Rattle.fix_engine.specs.ModuleFile.{module_path, middle, before_path, after_path, is_path}
 use Rattle.fix_engine.specs.Plan.{refused, planned, module_of, with_path, with_outline, plan_of, plan_of_module}
 use Rattle.fix_io.specs.Files.{HeldFile, paths}
-use Rattle.gofix_cli.specs.Words.{lists_module}
+use Rattle.gofix_cli.specs.Listed.{lists_module}
 use Rattle.gofix_cli.specs.Files.{contents_of, front_of, front_content}
 
 -- what is read of the files
@@ -52,38 +52,38 @@ whole_or_long bytes = by_size (leb (length bytes) (MAX_FILE_BYTES + 1)) refl
         inr (omega (arith, length-take (MAX_FILE_BYTES + 1) bytes), omega arith)
 
 -- what is planned for what is read is planned for the files, and then all of them is read
-pub record SamePlan (files : List HeldFile) : Type 0 where
-  pub same : plan_of (fronts_of files) [] ≡ plan_of (contents_of files) []
-  pub whole : (after : List (List ℕ × List ℕ)) (report : List ℕ) (steps : ℕ) → plan_of (fronts_of files) [] ≡ planned after report steps → fronts_of files ≡ contents_of files
+pub record SamePlan (only : List ℕ) (files : List HeldFile) : Type 0 where
+  pub same : plan_of (fronts_of files) only ≡ plan_of (contents_of files) only
+  pub whole : (after : List (List ℕ × List ℕ)) (report : List ℕ) (steps : ℕ) → plan_of (fronts_of files) only ≡ planned after report steps → fronts_of files ≡ contents_of files
 
-both_refused : (files : List HeldFile) → module_of (fronts_of files) ≡ None → module_of (contents_of files) ≡ None → SamePlan files
-both_refused files e f =
-    let front : plan_of (fronts_of files) [] ≡ refused 100 = ap (plan_of_module (fronts_of files) []) e in
-    let whole : plan_of (contents_of files) [] ≡ refused 100 = ap (plan_of_module (contents_of files) []) f in
+both_refused : (only : List ℕ) (files : List HeldFile) → module_of (fronts_of files) ≡ None → module_of (contents_of files) ≡ None → SamePlan only files
+both_refused only files e f =
+    let front : plan_of (fronts_of files) only ≡ refused 100 = ap (plan_of_module (fronts_of files) only) e in
+    let whole : plan_of (contents_of files) only ≡ refused 100 = ap (plan_of_module (contents_of files) only) f in
     record { same = front ∙ sym whole; whole = λ after report steps is. let clash : refused 100 ≡ planned after report steps = sym front ∙ is in cc }
 
-all_read : (files : List HeldFile) → fronts_of files ≡ contents_of files → SamePlan files
-all_read files e = record { same = ap (λ c. plan_of c []) e; whole = λ after report steps is. e }
+all_read : (only : List ℕ) (files : List HeldFile) → fronts_of files ≡ contents_of files → SamePlan only files
+all_read only files e = record { same = ap (λ c. plan_of c only) e; whole = λ after report steps is. e }
 
-two_files : (m f : HeldFile) → SamePlan (m ∷ f ∷ [])
-two_files m f =
+two_files : (only : List ℕ) (m f : HeldFile) → SamePlan only (m ∷ f ∷ [])
+two_files only m f =
     elim (whole_or_long m.bytes) [
-      | inr long ↦ both_refused (m ∷ f ∷ []) (no_module (m.path, front_of m.bytes) (f.path, front_of f.bytes) (inl long.0)) (no_module (m.path, m.bytes) (f.path, f.bytes) (inl long.1))
+      | inr long ↦ both_refused only (m ∷ f ∷ []) (no_module (m.path, front_of m.bytes) (f.path, front_of f.bytes) (inl long.0)) (no_module (m.path, m.bytes) (f.path, f.bytes) (inl long.1))
       | inl is ↦ elim (whole_or_long f.bytes) [
-        | inr long ↦ both_refused (m ∷ f ∷ []) (no_module (m.path, front_of m.bytes) (f.path, front_of f.bytes) (inr long.0)) (no_module (m.path, m.bytes) (f.path, f.bytes) (inr long.1))
-        | inl also ↦ all_read (m ∷ f ∷ []) (rw (is, also) refl)
+        | inr long ↦ both_refused only (m ∷ f ∷ []) (no_module (m.path, front_of m.bytes) (f.path, front_of f.bytes) (inr long.0)) (no_module (m.path, m.bytes) (f.path, f.bytes) (inr long.1))
+        | inl also ↦ all_read only (m ∷ f ∷ []) (rw (is, also) refl)
       ]
     ]
 
-pub same_plan : (files : List HeldFile) → SamePlan files
-same_plan [] = both_refused [] refl refl
-same_plan (a ∷ []) = both_refused (a ∷ []) refl refl
-same_plan (m ∷ f ∷ []) = two_files m f
-same_plan (a ∷ b ∷ c ∷ files) = both_refused (a ∷ b ∷ c ∷ files) refl refl
+pub same_plan : (only : List ℕ) (files : List HeldFile) → SamePlan only files
+same_plan only [] = both_refused only [] refl refl
+same_plan only (a ∷ []) = both_refused only (a ∷ []) refl refl
+same_plan only (m ∷ f ∷ []) = two_files only m f
+same_plan only (a ∷ b ∷ c ∷ files) = both_refused only (a ∷ b ∷ c ∷ files) refl refl
 
 -- other paths are those of no module
-pub other_paths : (files : List HeldFile) → lists_module (paths files) ≡ false → plan_of (contents_of files) [] ≡ refused 100
-other_paths [] e = refl
-other_paths (a ∷ []) e = refl
-other_paths (m ∷ f ∷ []) e = ap (λ b. plan_of_module ((m.path, m.bytes) ∷ (f.path, f.bytes) ∷ []) [] (cond b (with_path (module_path m.bytes) f.bytes) None)) e
-other_paths (a ∷ b ∷ c ∷ files) e = refl
+pub other_paths : (only : List ℕ) (files : List HeldFile) → lists_module (paths files) ≡ false → plan_of (contents_of files) only ≡ refused 100
+other_paths only [] e = refl
+other_paths only (a ∷ []) e = refl
+other_paths only (m ∷ f ∷ []) e = ap (λ b. plan_of_module ((m.path, m.bytes) ∷ (f.path, f.bytes) ∷ []) only (cond b (with_path (module_path m.bytes) f.bytes) None)) e
+other_paths only (a ∷ b ∷ c ∷ files) e = refl

@@ -7,17 +7,16 @@ use Rattle.std.proofs.lemmas.List.Elements.{All-cons}
 use Rattle.fix_engine.specs.declared.SourceFile.{SourceFile}
 use Rattle.fix_engine.specs.declared.PlannedFile.{PlannedFile}
 use Rattle.fix_engine.specs.declared.Plan.{Plan}
-use Rattle.fix_engine.specs.declared.Detail.{Detail}
-use Rattle.fix_engine.specs.declared.Detail.TheVariants.{NotYet, NotTyped}
 use Rattle.fix_engine.specs.declared.Refusal.{Refusal}
+use Rattle.refusals.specs.declared.refusal.Refusal as told
 use Rattle.fix_engine.specs.declared.PlanFault.TheVariants as fault
 use Rattle.fix_engine.specs.Plan.{refused, planned, contents, changed, plan_of}
-use Rattle.fix_engine.specs.Refusals.{number_of, refusal_of as of_module}
+use Rattle.fix_engine.specs.Refusals.{number_of}
 use Rattle.fix_engine.specs.Answer.{IsPlanOf, IsFaultOf}
 use Rattle.fix_io.specs.Files.{HeldFile, paths}
 use Rattle.fix_io.specs.Writes.{writes_from}
 use Rattle.gofix_cli.specs.declared.status.Status.TheVariants.{Refused}
-use Rattle.gofix_cli.specs.Words.{lists_module}
+use Rattle.gofix_cli.specs.Listed.{lists_module}
 use Rattle.gofix_cli.specs.Files.{contents_of, texts_of, writes_of, AreNumbered, AreSources, AreWritesOf}
 use Rattle.gofix_cli.specs.Verdict.{verdict_of, refusal_of}
 use Rattle.gofix_cli.proofs.FrontLemmas.{fronts_of, same_plan, other_paths}
@@ -61,44 +60,44 @@ texts_of_contents : (files : List HeldFile) → texts_of files ≡ map (λ c. c.
 texts_of_contents [] = refl
 texts_of_contents (f ∷ files) = ap (λ bs. f.bytes ∷ bs) (texts_of_contents files)
 
-pub planned_writes : (files : List HeldFile) (sources : List SourceFile) (p : Plan) → contents sources ≡ fronts_of files → AreNumbered 0 sources → IsPlanOf sources [] p → AreWritesOf files p
-planned_writes files sources p read numbered is =
-    let front : plan_of (fronts_of files) [] ≡ planned is.after p.report p.inlined = ap (λ c. plan_of c []) (sym read) ∙ is.outcome in
-    let whole : fronts_of files ≡ contents_of files = (same_plan files).whole is.after p.report p.inlined front in
+pub planned_writes : (only : List ℕ) (files : List HeldFile) (sources : List SourceFile) (p : Plan) → contents sources ≡ fronts_of files → AreNumbered 0 sources → IsPlanOf sources only p → AreWritesOf only files p
+planned_writes only files sources p read numbered is =
+    let front : plan_of (fronts_of files) only ≡ planned is.after p.report p.inlined = ap (λ c. plan_of c only) (sym read) ∙ is.outcome in
+    let whole : fronts_of files ≡ contents_of files = (same_plan only files).whole is.after p.report p.inlined front in
     let texts : map (λ f. f.bytes) sources ≡ texts_of files = bytes_of_contents sources ∙ ap (map (λ c. c.1)) (read ∙ whole) ∙ sym (texts_of_contents files) in
     record {
       after = is.after;
-      outcome = ap (λ c. plan_of c []) (sym whole) ∙ front;
+      outcome = ap (λ c. plan_of c only) (sym whole) ∙ front;
       writes = ap writes_of is.writes ∙ changed_writes 0 sources is.after numbered ∙ ap (λ ts. writes_from 0 ts (map (λ a. a.1) is.after)) texts;
     }
 
-pub told_writes : (held : Option (List HeldFile)) (listed : List (List ℕ)) (sources : List SourceFile) (p : Plan) → AreSources held listed sources → IfSome held (λ files. listed ≡ paths files) → IsPlanOf sources [] p → IfSome held (λ files. AreWritesOf files p)
-told_writes None listed sources p are exact is = tt
-told_writes (Some files) listed sources p are exact is = planned_writes files sources p (are.read exact) are.numbered is
+pub told_writes : (only : List ℕ) (held : Option (List HeldFile)) (listed : List (List ℕ)) (sources : List SourceFile) (p : Plan) → AreSources held listed sources → IfSome held (λ files. listed ≡ paths files) → IsPlanOf sources only p → IfSome held (λ files. AreWritesOf only files p)
+told_writes only None listed sources p are exact is = tt
+told_writes only (Some files) listed sources p are exact is = planned_writes only files sources p (are.read exact) are.numbered is
 
-pub planned_below : (held : Option (List HeldFile)) (listed : List (List ℕ)) (sources : List SourceFile) (p : Plan) → AreSources held listed sources → IsPlanOf sources [] p → All (λ w. w.index < length listed) p.writes.items
-planned_below held listed sources p are is =
+pub planned_below : (only : List ℕ) (held : Option (List HeldFile)) (listed : List (List ℕ)) (sources : List SourceFile) (p : Plan) → AreSources held listed sources → IsPlanOf sources only p → All (λ w. w.index < length listed) p.writes.items
+planned_below only held listed sources p are is =
     let below = changed_below 0 sources is.after (length listed) are.numbered (omega (arith, are.count)) in
     rw is.writes below
 
 -- ---- refusals
 
-same_refusal : (d : Detail) → refusal_of (number_of d) ≡ of_module d
-same_refusal NotYet = refl
-same_refusal NotTyped = refl
+-- a module that is refused as a whole, whether or not files are to be written
+abbrev pub IsRefusedAs : List ℕ → told.Refusal → List HeldFile → Type 0
+IsRefusedAs only r files = (fix : Bool) → (verdict_of fix files (plan_of (contents_of files) only)).status ≡ Refused r
 
-pub verdict_refused : (files : List HeldFile) (sources : List SourceFile) (r : Refusal) → contents sources ≡ fronts_of files → IsFaultOf sources [] (fault.Refused r)
-    → (verdict_of files (plan_of (contents_of files) [])).status ≡ Refused r
-verdict_refused files sources r read is =
-    let same : plan_of (contents_of files) [] ≡ refused (number_of r.detail) = sym (same_plan files).same ∙ ap (λ c. plan_of c []) (sym read) ∙ is.1 in
-    ap (λ o. (verdict_of files o).status) same ∙ ap Refused (same_refusal r.detail ∙ sym is.0)
+verdict_refused : (only : List ℕ) (files : List HeldFile) (sources : List SourceFile) (r : Refusal) → contents sources ≡ fronts_of files → IsFaultOf sources only (fault.Refused r)
+    → IsRefusedAs only (refusal_of (number_of r.detail)) files
+verdict_refused only files sources r read is = λ fix.
+    let same : plan_of (contents_of files) only ≡ refused (number_of r.detail) = sym (same_plan only files).same ∙ ap (λ c. plan_of c only) (sym read) ∙ is.1 in
+    ap (λ o. (verdict_of fix files o).status) same
 
-pub told_refused : (held : Option (List HeldFile)) (listed : List (List ℕ)) (sources : List SourceFile) (r : Refusal) → AreSources held listed sources → IfSome held (λ files. listed ≡ paths files) → IsFaultOf sources [] (fault.Refused r)
-    → IfSome held (λ files. (verdict_of files (plan_of (contents_of files) [])).status ≡ Refused r)
-told_refused None listed sources r are exact is = tt
-told_refused (Some files) listed sources r are exact is = verdict_refused files sources r (are.read exact) is
+pub told_refused : (only : List ℕ) (held : Option (List HeldFile)) (listed : List (List ℕ)) (sources : List SourceFile) (r : Refusal) (t : told.Refusal) → AreSources held listed sources → IfSome held (λ files. listed ≡ paths files) → IsFaultOf sources only (fault.Refused r)
+    → t ≡ refusal_of (number_of r.detail) → IfSome held (IsRefusedAs only t)
+told_refused only None listed sources r t are exact is same = tt
+told_refused only (Some files) listed sources r t are exact is same = rw same (verdict_refused only files sources r (are.read exact) is)
 
-pub told_other_paths : (held : Option (List HeldFile)) (listed : List (List ℕ)) → IfSome held (λ files. listed ≡ paths files) → lists_module listed ≡ false
-    → IfSome held (λ files. (verdict_of files (plan_of (contents_of files) [])).status ≡ Refused (refusal_of 100))
-told_other_paths None listed exact e = tt
-told_other_paths (Some files) listed exact e = ap (λ o. (verdict_of files o).status) (other_paths files (ap lists_module (sym exact) ∙ e))
+pub told_other_paths : (only : List ℕ) (held : Option (List HeldFile)) (listed : List (List ℕ)) (t : told.Refusal) → IfSome held (λ files. listed ≡ paths files) → lists_module listed ≡ false → t ≡ refusal_of 100
+    → IfSome held (IsRefusedAs only t)
+told_other_paths only None listed t exact e same = tt
+told_other_paths only (Some files) listed t exact e same = rw same (λ fix. ap (λ o. (verdict_of fix files o).status) (other_paths only files (ap lists_module (sym exact) ∙ e)))

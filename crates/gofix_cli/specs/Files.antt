@@ -54,8 +54,8 @@ pub record AreSources (held : Option (List HeldFile)) (listed : List (List ℕ))
   pub numbered : AreNumbered 0 sources
   pub read : IfSome held (λ files. listed ≡ paths files → contents sources ≡ map front_content files)
 
--- The plan is that for the files, and writes those that change.
-pub record AreWritesOf (files : List HeldFile) (p : Plan) : Type 0 where
+-- The plan is that for the files, of constants whose full names begin with `only`, and writes those that change.
+pub record AreWritesOf (only : List ℕ) (files : List HeldFile) (p : Plan) : Type 0 where
   pub after : List (List ℕ × List ℕ)
-  pub outcome : plan_of (contents_of files) [] ≡ planned after p.report p.inlined
+  pub outcome : plan_of (contents_of files) only ≡ planned after p.report p.inlined
   pub writes : writes_of p.writes.items ≡ writes_from 0 (texts_of files) (map (λ a. a.1) after)

@@ -1,5 +1,5 @@
 pub mod Numbers
-pub mod Words
+pub mod Listed
 pub mod Lines
 pub mod Files
 pub mod Causes

@@ -1,14 +1,18 @@
 -- The line that a status has.
-use Rattle.std.specs.Prelude.{ℕ, ◌<◌, List, [], ◌++◌, slice_index_or, codes}
-use Rattle.fix_engine.specs.declared.Detail.{Detail}
-use Rattle.fix_engine.specs.declared.Detail.TheVariants.{NotYet, NotTyped}
+use Rattle.std.specs.Prelude.{ℕ, ◌<◌, List, [], ◌++◌, slice_index_or, codes, Option, Some, None}
+use Rattle.refusals.specs.declared.refusal.Refusal.{Refusal}
+use Rattle.refusals.specs.Line as refusal
 use Rattle.gofix_cli.specs.declared.status.Status.{Status}
 use Rattle.gofix_cli.specs.declared.status.Status.TheVariants.{Done, Found, Usage, NoMemory, ListFault, ReadFault, Refused, WriteFault, ReportFault}
 
--- the line of each refusal of a module as a whole
-abbrev pub refusal_line : Detail → List ℕ
-refusal_line NotYet = codes "gofix: 100 module: not built yet\n"
-refusal_line NotTyped = codes "gofix: 401 module: not typed\n"
+-- the path of the listed file that a refusal names, or nothing
+abbrev pub path_in : List (List ℕ) → Option ℕ → List ℕ
+path_in paths None = []
+path_in paths (Some i) = slice_index_or paths i []
+
+-- the line of a refusal, by the listed paths
+abbrev pub refusal_line : Refusal → List (List ℕ) → List ℕ
+refusal_line r paths = refusal.line_of r (path_in paths r.file)
 
 -- by the listed paths, to which the numbers of a status point
 abbrev pub line_of : Status → List (List ℕ) → List ℕ
@@ -16,14 +20,20 @@ line_of Usage paths = codes "gofix: usage: gofix [--fix] [--only PREFIX] [--load
 line_of NoMemory paths = codes "gofix: out of memory\n"
 line_of ListFault paths = codes "gofix: can't list files\n"
 line_of (ReadFault i) paths = codes "gofix: can't read " ++ slice_index_or paths i [] ++ codes "\n"
-line_of (Refused r) paths = refusal_line r.detail
+line_of (Refused r) paths = refusal_line r paths
 line_of (WriteFault i) paths = codes "gofix: can't replace " ++ slice_index_or paths i [] ++ codes "\n"
 line_of _ paths = []
+
+-- The file that a refusal names, if it names one, is one of so many.
+abbrev pub IsIn : Option ℕ → ℕ → Type 0
+IsIn None n = Unit {0}
+IsIn (Some i) n = i < n
 
 -- The file that a status names is one of so many.
 abbrev pub IsOfFile : Status → ℕ → Type 0
 IsOfFile (ReadFault i) n = i < n
 IsOfFile (WriteFault i) n = i < n
+IsOfFile (Refused r) n = IsIn r.file n
 IsOfFile _ n = Unit {0}
 
 -- A fact for each status that has a line.
@@ -32,3 +42,9 @@ IfTold Done P = Unit {0}
 IfTold Found P = Unit {0}
 IfTold ReportFault P = Unit {0}
 IfTold _ P = P
+
+-- A fact for each status whose report is out.
+abbrev pub IfOut : Status → Type 0 → Type 0
+IfOut Done P = P
+IfOut Found P = P
+IfOut _ P = Unit {0}

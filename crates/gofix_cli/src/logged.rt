@@ -3,7 +3,6 @@
 ghost use Rattle.std.specs.Prelude.{◌≡◌, length, Some};
 ghost use Rattle.fix_io.specs.MemTree.{mem_listed};
 
-use crate::status::Status;
 use crate::top::gofix;
 use fix_io::{Failed, MemFile, MemSink, MemTree, Sink, Tree, TreeFault};
 use std::alloc::Global;
@@ -88,7 +87,7 @@ fn file(alloc: Global, path: &str, text: &str) -> Result<MemFile, Fail> {
 }
 
 /// How a run with `--fix` over `go.mod` and this `main.go` ends, and its calls.
-fn logged(alloc: Global, main: &str, fails: Vec<u64>) -> Result<(Status, u64), Fail> {
+fn logged(alloc: Global, main: &str, fails: Vec<u64>) -> Result<(u8, u64), Fail> {
     let words = vec![in alloc; String::from_str(alloc, "--fix")?]?;
     let module = "module example.com/m\n\ngo 1.22\n";
     let files = vec![in alloc;
@@ -109,8 +108,8 @@ fn logged(alloc: Global, main: &str, fails: Vec<u64>) -> Result<(Status, u64), F
         sink: MemSink::new(alloc, 4096, 4096, Vec::new(alloc))?,
         log: &log,
     };
-    let status = gofix(alloc, &words, &mut tree, &mut out);
-    Ok((status, log.digits.get()))
+    let number = gofix(alloc, &words, &mut tree, &mut out).number();
+    Ok((number, log.digits.get()))
 }
 
 const MARKED: &str =
@@ -120,10 +119,10 @@ const MARKED: &str =
 fn lists_once_reads_each_file_once_and_writes_last(rt: HostRuntime) -> Result<(), Fail> {
     let alloc = rt.alloc();
     let done = logged(alloc, MARKED, Vec::new(alloc))?;
-    assert_eq!(rt; done.0, Status::Done);
+    assert_eq!(rt; done.0, 0);
     assert_eq!(rt; done.1, 12359);
     let same = logged(alloc, "package main\n\nfunc main() {\n}\n", Vec::new(alloc))?;
-    assert_eq!(rt; same.0, Status::Done);
+    assert_eq!(rt; same.0, 0);
     assert_eq!(rt; same.1, 123);
     Ok(())
 }

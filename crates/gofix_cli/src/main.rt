@@ -5,12 +5,13 @@ mod apply;
 #[cfg(test)]
 mod logged;
 mod prepare;
+mod report;
+mod requests;
 mod status;
 mod tell;
 #[cfg(test)]
 mod tests;
 mod top;
-mod words;
 
 use crate::status::Status;
 use crate::top::gofix;

@@ -3,15 +3,18 @@
 ghost use Rattle.std.specs.Prelude.{◌≡◌, ◌+◌, ◌<◌, ◌≤◌, length, All, IfOk, IfErr, OnOk, IfSome, true};
 ghost use Rattle.fix_io.specs.Files.{paths};
 ghost use Rattle.fix_io.specs.Causes.{Rose};
-ghost use Rattle.gofix_cli.specs.Words.{lists_module};
+ghost use Rattle.gofix_cli.specs.Listed.{lists_module};
 ghost use Rattle.gofix_cli.specs.Files.{IsSource, AreSources, AreWritesOf};
 ghost use Rattle.gofix_cli.specs.Causes.{IfQuiet, IsQuiet, StopsReading, MayStop};
 ghost use Rattle.gofix_cli.specs.Lines.{IsOfFile};
+ghost use Rattle.fix_engine.specs.Refusals.{number_of};
+ghost use Rattle.gofix_cli.specs.Verdict.{refusal_of};
 
 use crate::status::Status;
-use fix_engine::{Plan, PlanFault, SourceFile, plan};
+use fix_engine::{Detail as PlanDetail, Plan, PlanFault, SourceFile, plan};
 use fix_io::{Tree, TreeFault};
 use go_tree::{MAX_FILE_BYTES, Text};
+use refusals::{Detail, Refusal};
 use std::alloc::Global;
 
 /// Whether the listed paths are exactly `go.mod` and `main.go`.
@@ -68,16 +71,31 @@ fn read_files<T: Tree>(alloc: Global, tree: &mut T) -> Result<Vec<SourceFile>, S
     Ok(sources)
 }
 
-/// Lists, reads and plans.
-pub fn prepare<T: Tree>(alloc: Global, tree: &mut T) -> Result<Plan, Status>
-    ensures plan { IfOk result (λ p. IfSome (T.held tree.old) (λ files. AreWritesOf files p)) }
+/// The refusal of the module as a whole.
+fn of_module(detail: PlanDetail) -> Refusal
+    ensures { result ≡ refusal_of (number_of detail) }
+{
+    let detail = match detail {
+        PlanDetail::NotYet => Detail::NotYet,
+        PlanDetail::NotTyped => Detail::NotTyped,
+    };
+    Refusal {
+        file: None,
+        place: None,
+        detail,
+    }
+}
+
+/// Lists, reads and plans, for constants whose full names begin with `only`.
+pub fn prepare<T: Tree>(alloc: Global, only: &str, tree: &mut T) -> Result<Plan, Status>
+    ensures plan { IfOk result (λ p. IfSome (T.held tree.old) (λ files. AreWritesOf only.now files p)) }
     ensures indices { IfOk result (λ p. All (λ f. f.index < length (T.listed tree.new)) p.writes.items) }
     ensures paths { OnOk result (IfSome (T.held tree.new) (λ files. T.listed tree.new ≡ paths files)) }
     ensures module { OnOk result (lists_module (T.listed tree.new) ≡ true) }
     ensures named { IfErr result (λ status. IsOfFile status (length (T.listed tree.new))) }
     ensures stop { IfErr result
-        (λ status. MayStop status (Rose (T.faults tree.old) (T.faults tree.new)) (T.failed tree.new) (T.listed tree.new)
-        (T.held tree.old)) }
+        (λ status. MayStop only.now status (Rose (T.faults tree.old) (T.faults tree.new)) (T.failed tree.new)
+        (T.listed tree.new) (T.held tree.old)) }
     ensures same { T.held tree.new ≡ T.held tree.old }
     ensures later { T.faults tree.old ≤ T.faults tree.new }
     ensures quiet { IfQuiet result
@@ -89,12 +107,12 @@ pub fn prepare<T: Tree>(alloc: Global, tree: &mut T) -> Result<Plan, Status>
         Err(TreeFault::NoMemory) => return Err(Status::NoMemory),
     }
     if !lists_module(tree) {
-        return Err(Status::NOT_YET);
+        return Err(Status::Refused(of_module(PlanDetail::NotYet)));
     }
     let sources = read_files(alloc, tree)?;
-    match plan(alloc, sources, "") {
+    match plan(alloc, sources, only) {
         Ok(plan) => Ok(plan),
-        Err(PlanFault::Refused(refusal)) => Err(Status::Refused(refusal)),
+        Err(PlanFault::Refused(refusal)) => Err(Status::Refused(of_module(refusal.detail))),
         Err(PlanFault::NoMemory) => Err(Status::NoMemory),
     }
 }

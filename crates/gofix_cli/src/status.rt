@@ -3,11 +3,11 @@
 ghost use Rattle.std.specs.Prelude.{◌≡◌};
 ghost use Rattle.gofix_cli.specs.Numbers.{number_of};
 
-use fix_engine::{Detail, NOT_YET, Refusal};
+use refusals::Refusal;
 use std::alloc::{AllocError, AllocFailed};
 
 /// How a run ends. A number is that of a listed path.
-#[derive(Clone, Copy, Debug, PartialEq, Eq)]
+#[derive(Drop)]
 pub enum Status {
     Done,
     Found,
@@ -21,14 +21,6 @@ pub enum Status {
 }
 
 impl Status {
-    /// The module has a construct that isn't built yet.
-    pub const NOT_YET: Status = Status::Refused(Refusal {
-        number: NOT_YET,
-        file: None,
-        place: None,
-        detail: Detail::NotYet,
-    });
-
     /// The number that the process ends with.
     pub fn number(&self) -> u8
         ensures { result ≡ number_of self.now }

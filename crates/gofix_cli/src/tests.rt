@@ -1,6 +1,5 @@
 //! Runs of the top call over a tree and a sink in memory.
 
-use crate::status::Status;
 use crate::top::gofix;
 use fix_io::{MemFile, MemSink, MemTree, Tree};
 use std::alloc::Global;
@@ -14,9 +13,9 @@ const MARKED: &str =
 const INLINED: &str =
     "package main\n\nconst Pointer = 1\n\n//go:fix inline\nconst Ptr = Pointer\n\nfunc main() {\n\tprintln(Pointer)\n}\n";
 
-/// How a run ended, the bytes of `main.go` after it, and what was written.
+/// The number with which a run ended, the bytes of `main.go` after it, and what was written.
 struct Ending {
-    status: Status,
+    number: u8,
     main: Vec<u8>,
     out: Vec<u8>,
 }
@@ -28,7 +27,7 @@ fn file(alloc: Global, path: &str, text: &str) -> Result<MemFile, Fail> {
     })
 }
 
-/// Runs with these words over `go.mod` and a `main.go`. The calls of the tree and of the sink with
+/// Runs with this word, or with none, over `go.mod` and a `main.go`. The calls of the tree and of the sink with
 /// these numbers fail.
 fn run(
     alloc: Global,
@@ -37,7 +36,10 @@ fn run(
     tree_fails: Vec<u64>,
     sink_fails: Vec<u64>,
 ) -> Result<Ending, Fail> {
-    let words = vec![in alloc; String::from_str(alloc, word)?]?;
+    let mut words = Vec::new(alloc);
+    if !word.is_empty() {
+        words.push(String::from_str(alloc, word)?)?;
+    }
     let files = vec![in alloc;
         file(alloc, "go.mod", MODULE)?,
         file(alloc, "main.go", main)?,
@@ -47,13 +49,13 @@ fn run(
     }
     let mut tree = MemTree::new(alloc, files, 4096, tree_fails)?;
     let mut sink = MemSink::new(alloc, 4096, 16, sink_fails)?;
-    let status = gofix(alloc, &words, &mut tree, &mut sink);
+    let number = gofix(alloc, &words, &mut tree, &mut sink).number();
     tree.list(alloc)?;
     if tree.count() != 2 {
         return Err(Fail::new("two files"));
     }
     Ok(Ending {
-        status,
+        number,
         main: tree.bytes(1).to_vec(alloc)?,
         out: sink.bytes().to_vec(alloc)?,
     })
@@ -66,9 +68,22 @@ fn fixed(alloc: Global, main: &str) -> Result<Ending, Fail> {
 
 #[test]
 fn replaces_a_use_and_reports_it(rt: HostRuntime) -> Result<(), Fail> {
-    let Ending { status, main, out } = fixed(rt.alloc(), MARKED)?;
-    assert_eq!(rt; status, Status::Done);
+    let Ending { number, main, out } = fixed(rt.alloc(), MARKED)?;
+    assert_eq!(rt; number, 0);
     assert_eq!(rt; main.as_slice(), INLINED.as_bytes());
+    assert_eq!(rt;
+        out.as_slice(),
+        b"main.go:9:10: inlined example.com/m.Ptr as const\n".as_slice()
+    );
+    Ok(())
+}
+
+#[test]
+fn finds_a_use_where_it_only_reports(rt: HostRuntime) -> Result<(), Fail> {
+    let alloc = rt.alloc();
+    let Ending { number, main, out } = run(alloc, "", MARKED, Vec::new(alloc), Vec::new(alloc))?;
+    assert_eq!(rt; number, 3);
+    assert_eq!(rt; main.as_slice(), MARKED.as_bytes());
     assert_eq!(rt;
         out.as_slice(),
         b"main.go:9:10: inlined example.com/m.Ptr as const\n".as_slice()
@@ -80,8 +95,8 @@ fn replaces_a_use_and_reports_it(rt: HostRuntime) -> Result<(), Fail> {
 fn leaves_a_module_without_marks(rt: HostRuntime) -> Result<(), Fail> {
     let text =
         "package main\n\nconst Pointer = 1\n\nconst Ptr = Pointer\n\nfunc main() {\n\tprintln(Ptr)\n}\n";
-    let Ending { status, main, out } = fixed(rt.alloc(), text)?;
-    assert_eq!(rt; status, Status::Done);
+    let Ending { number, main, out } = fixed(rt.alloc(), text)?;
+    assert_eq!(rt; number, 0);
     assert_eq!(rt; main.as_slice(), text.as_bytes());
     assert_eq!(rt; out.as_slice(), b"".as_slice());
     Ok(())
@@ -95,8 +110,8 @@ fn follows_a_chain_of_marked_constants(rt: HostRuntime) -> Result<(), Fail> {
         "package main\n\nconst Last = 1\n\n//go:fix inline\nconst Three = Last\n\n//go:fix inline\nconst Two = Last\n\n//go:fix inline\nconst One = Last\n\nfunc main() {\n\tprintln(Last)\n\tprintln(Last)\n\tprintln(Last)\n}\n";
     let report =
         "main.go:9:13: inlined example.com/m.Three as const\nmain.go:12:13: inlined example.com/m.Two as const\nmain.go:15:10: inlined example.com/m.One as const\nmain.go:17:10: inlined example.com/m.Two as const\n";
-    let Ending { status, main, out } = fixed(rt.alloc(), text)?;
-    assert_eq!(rt; status, Status::Done);
+    let Ending { number, main, out } = fixed(rt.alloc(), text)?;
+    assert_eq!(rt; number, 0);
     assert_eq!(rt; main.as_slice(), new.as_bytes());
     assert_eq!(rt; out.as_slice(), report.as_bytes());
     Ok(())
@@ -106,14 +121,14 @@ fn follows_a_chain_of_marked_constants(rt: HostRuntime) -> Result<(), Fail> {
 fn names_the_call_of_the_tree_that_fails(rt: HostRuntime) -> Result<(), Fail> {
     let alloc = rt.alloc();
     let answers = [
-        (0u64, Status::ListFault, "gofix: can't list files\n"),
-        (1, Status::ReadFault(0), "gofix: can't read go.mod\n"),
-        (3, Status::WriteFault(1), "gofix: can't replace main.go\n"),
+        (0u64, "gofix: can't list files\n"),
+        (1, "gofix: can't read go.mod\n"),
+        (3, "gofix: can't replace main.go\n"),
     ];
-    for (number, wanted, line) in answers {
-        let fails = vec![in alloc; number]?;
-        let Ending { status, main, out } = run(alloc, "--fix", MARKED, fails, Vec::new(alloc))?;
-        assert_eq!(rt; status, wanted);
+    for (call, line) in answers {
+        let fails = vec![in alloc; call]?;
+        let Ending { number, main, out } = run(alloc, "--fix", MARKED, fails, Vec::new(alloc))?;
+        assert_eq!(rt; number, 1);
         assert_eq!(rt; main.as_slice(), MARKED.as_bytes());
         assert_eq!(rt; out.as_slice(), line.as_bytes());
     }
@@ -124,8 +139,8 @@ fn names_the_call_of_the_tree_that_fails(rt: HostRuntime) -> Result<(), Fail> {
 fn replaces_files_though_the_report_fails(rt: HostRuntime) -> Result<(), Fail> {
     let alloc = rt.alloc();
     let fails = vec![in alloc; 0u64]?;
-    let Ending { status, main, out } = run(alloc, "--fix", MARKED, Vec::new(alloc), fails)?;
-    assert_eq!(rt; status, Status::ReportFault);
+    let Ending { number, main, out } = run(alloc, "--fix", MARKED, Vec::new(alloc), fails)?;
+    assert_eq!(rt; number, 1);
     assert_eq!(rt; main.as_slice(), INLINED.as_bytes());
     assert_eq!(rt; out.as_slice(), b"".as_slice());
     Ok(())
@@ -146,15 +161,15 @@ fn refuses_words_and_modules(rt: HostRuntime) -> Result<(), Fail> {
             "gofix: usage: gofix [--fix] [--only PREFIX] [--load N]\n",
         ),
     ];
-    for (word, before, number, line) in answers {
-        let Ending { status, main, out } = run(
+    for (word, before, wanted, line) in answers {
+        let Ending { number, main, out } = run(
             alloc,
             word,
             before,
             Vec::new(alloc),
             Vec::new(alloc),
         )?;
-        assert_eq!(rt; status.number(), number);
+        assert_eq!(rt; number, wanted);
         assert_eq!(rt; main.as_slice(), before.as_bytes());
         assert_eq!(rt; out.as_slice(), line.as_bytes());
     }

@@ -1,6 +1,6 @@
-mod GraphImports
+pub mod GraphImports
 mod StepImports
 mod PlacesBound
 mod IdentifiersWith
 mod StepNames
-mod NamesNeeded
+pub mod NamesNeeded

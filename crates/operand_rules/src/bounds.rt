@@ -11,7 +11,7 @@ use crate::values::{Bounds, Content, ValueType};
 use const_eval::Const;
 
 /// The constants of two operands, where both are constant.
-pub(crate) fn both_exact(x: Content, y: Content) -> Option<(ConstId, ConstId)>
+pub fn both_exact(x: Content, y: Content) -> Option<(ConstId, ConstId)>
     ensures { result ≡ both_exact x y }
 {
     match x {

@@ -22,7 +22,7 @@ use std::alloc::Global;
 use type_relations::Env;
 
 /// Whether the operator applies to two operands of the kind.
-pub(crate) fn binary_applies(op: BinOp, k: Kind) -> bool
+pub fn binary_applies(op: BinOp, k: Kind) -> bool
     ensures { result ≡ binary_applies op k }
 {
     match op {

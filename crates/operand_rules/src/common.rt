@@ -26,7 +26,7 @@ fn greater_kind(j: Kind, k: Kind) -> Kind
 /// The type of two operands together: an untyped one takes the type of the other, and two typed ones
 /// have the same.
 #[tactic(auto, using(crate::proofs::TypeLemmas::common_left, crate::proofs::TypeLemmas::common_untyped, crate::proofs::TypeLemmas::common_nil))]
-pub(crate) fn common_type(env: &Env, a: ValueType, b: ValueType) -> Option<ValueType>
+pub fn common_type(env: &Env, a: ValueType, b: ValueType) -> Option<ValueType>
     requires left { IsType env.now a }
     requires right { IsType env.now b }
     ensures is { type_option env.now result
@@ -59,7 +59,7 @@ pub(crate) fn common_type(env: &Env, a: ValueType, b: ValueType) -> Option<Value
 
 /// Whether an operand becomes the common type.
 #[tactic(auto, using(crate::proofs::TypeLemmas::joins_typed))]
-pub(crate) fn joins(env: &Env, consts: &ConstTable, t: ValueType, x: Value) -> bool
+pub fn joins(env: &Env, consts: &ConstTable, t: ValueType, x: Value) -> bool
     requires common { IsType env.now t }
     requires some { is_not_nil t ≡ true }
     requires value { IsValue env.now consts.now x }

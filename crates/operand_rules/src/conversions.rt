@@ -10,22 +10,11 @@ ghost use Rattle.operand_rules.specs.Values.{Gives, IsType, IsValue, type_of, ty
 
 use crate::constants::{ConstId, ConstTable};
 use crate::fitting::{assignable_to, has_nil, shift_fits};
-use crate::kinds::{is_byte_kind, is_number_kind, is_text_kind, under_kind};
+use crate::kinds::{is_byte_kind, is_number_kind, is_text_kind, is_whole_type, under_kind};
 use crate::values::{Content, Refusal, Value, ValueType};
 use const_eval::represent;
 use type_relations::{Env, convertible};
 use type_table::{TypeId, TypeNode};
-
-/// Whether values of the type are whole numbers.
-fn is_whole_number(env: &Env, t: TypeId) -> bool
-    requires { t.0 < length env.now.rows }
-    ensures { result ≡ relation.is_whole_number (defined_types env.now) (env_type env.now t.0) }
-{
-    match under_kind(env, t) {
-        Some(k) => is_number_kind(k),
-        None => false,
-    }
-}
 
 /// A slice whose elements have the underlying type `uint8`.
 fn is_byte_slice(env: &Env, t: TypeId) -> bool
@@ -51,7 +40,7 @@ fn convertible_to(env: &Env, t: ValueType, to: TypeId) -> bool
         ValueType::Typed(t) => convertible(env, t, to),
         ValueType::Untyped(j) => {
             assignable_to(env, t, to)
-                || ((is_number_kind(j) && is_whole_number(env, to))
+                || ((is_number_kind(j) && is_whole_type(env, to))
                     || (is_text_kind(j) && is_byte_slice(env, to)))
         }
         ValueType::Nil => has_nil(env, to),

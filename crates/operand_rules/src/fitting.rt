@@ -26,7 +26,7 @@ pub(crate) fn represented(env: &Env, to: TypeId, constant: &Const) -> bool
 }
 
 /// A type of which nil is a value.
-pub(crate) fn has_nil(env: &Env, t: TypeId) -> bool
+pub fn has_nil(env: &Env, t: TypeId) -> bool
     requires { t.0 < length env.now.rows }
     ensures { result ≡ relation.has_nil (under (defined_types env.now) (env_type env.now t.0)) }
 {

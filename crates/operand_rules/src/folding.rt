@@ -9,7 +9,7 @@ use const_eval::{Const, ConstError};
 
 /// The value of a type that a constant is, or why there is none.
 #[tactic(auto, using(crate::proofs::ConstantLemmas::grown_self, crate::proofs::ConstantLemmas::grown_by_one, crate::proofs::ConstantLemmas::grown_by_none, crate::proofs::ConstantLemmas::added_at, crate::proofs::ConstantLemmas::added_within))]
-pub(crate) fn folded(
+pub fn folded(
     consts: &mut ConstTable,
     of: ValueType,
     constant: Result<Const, ConstError>,

@@ -6,8 +6,9 @@ ghost use Rattle.const_eval.specs.Exact.{is_text_kind, is_truth_kind};
 ghost use Rattle.const_eval.specs.declared.kinds.Kind.TheVariants.{Uint8};
 ghost use Rattle.go_types.specs.Operands as go;
 ghost use Rattle.go_types.specs.Types.{same_kind};
+ghost use Rattle.go_types.specs.Relations as relation;
 ghost use Rattle.go_types.specs.Relations.{akin};
-ghost use Rattle.type_relations.specs.Environment.{defined_types};
+ghost use Rattle.type_relations.specs.Environment.{defined_types, env_type};
 ghost use Rattle.type_relations.specs.Kinds.{under_kind};
 ghost use Rattle.operand_rules.specs.Values.{IsType, type_of};
 
@@ -17,21 +18,21 @@ use type_relations::Env;
 use type_table::{TypeId, TypeNode};
 
 /// A kind of whole numbers.
-pub(crate) fn is_number_kind(k: Kind) -> bool
+pub fn is_number_kind(k: Kind) -> bool
     ensures { result ≡ is_number_kind k }
 {
     !is_truth_kind(k) && !is_text_kind(k)
 }
 
 /// A kind of truth values.
-pub(crate) fn is_truth_kind(k: Kind) -> bool
+pub fn is_truth_kind(k: Kind) -> bool
     ensures { result ≡ is_truth_kind k }
 {
     matches!(k, Kind::Bool | Kind::UntypedBool)
 }
 
 /// A kind of strings.
-pub(crate) fn is_text_kind(k: Kind) -> bool
+pub fn is_text_kind(k: Kind) -> bool
     ensures { result ≡ is_text_kind k }
 {
     matches!(k, Kind::Str | Kind::UntypedStr)
@@ -54,7 +55,7 @@ pub(crate) fn is_byte_kind(k: Kind) -> bool
 }
 
 /// The kind of the underlying type, where that is a predeclared type.
-pub(crate) fn under_kind(env: &Env, t: TypeId) -> Option<Kind>
+pub fn under_kind(env: &Env, t: TypeId) -> Option<Kind>
     requires { t.0 < length env.now.rows }
     ensures { result ≡ under_kind env.now t.0 }
 {
@@ -75,5 +76,27 @@ pub fn kind_of(env: &Env, t: ValueType) -> Option<Kind>
         ValueType::Typed(t) => under_kind(env, t),
         ValueType::Untyped(k) => Some(k),
         ValueType::Nil => None,
+    }
+}
+
+/// Whether values of the type are whole numbers.
+pub(crate) fn is_whole_type(env: &Env, t: TypeId) -> bool
+    requires { t.0 < length env.now.rows }
+    ensures { result ≡ relation.is_whole_number (defined_types env.now) (env_type env.now t.0) }
+{
+    match under_kind(env, t) {
+        Some(k) => is_number_kind(k),
+        None => false,
+    }
+}
+
+/// Whether values of the type are whole numbers; an untyped one is none.
+pub fn is_whole_number(env: &Env, t: ValueType) -> bool
+    requires { IsType env.now t }
+    ensures { result ≡ relation.is_whole_number (defined_types env.now) (type_of env.now t) }
+{
+    match t {
+        ValueType::Typed(t) => is_whole_type(env, t),
+        _ => false,
     }
 }

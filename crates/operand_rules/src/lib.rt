@@ -15,11 +15,16 @@ mod shifts;
 mod unary;
 mod values;
 
-pub use calculations::arithmetic;
+pub use bounds::both_exact;
+pub use calculations::{arithmetic, binary_applies};
+pub use common::{common_type, joins};
 pub use constants::{ConstId, ConstTable};
 pub use conversions::conversion;
-pub use fitting::fits;
-pub use kinds::kind_of;
+pub use fitting::{fits, has_nil};
+pub use folding::folded;
+pub use kinds::{
+    is_number_kind, is_text_kind, is_truth_kind, is_whole_number, kind_of, under_kind,
+};
 pub use literals::literal;
 pub use shifts::shifting;
 pub use unary::unary_value;

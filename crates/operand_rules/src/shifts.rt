@@ -4,7 +4,6 @@ ghost use Rattle.std.specs.Prelude.{◌≡◌, ◌&&◌, true, Some};
 ghost use Rattle.const_eval.specs.Conditions.{is_number_kind};
 ghost use Rattle.go_types.specs.Operands.{kind_of};
 ghost use Rattle.go_types.specs.Operators as go;
-ghost use Rattle.go_types.specs.Relations as relation;
 ghost use Rattle.type_relations.specs.Environment.{defined_types};
 ghost use Rattle.operand_rules.specs.Constants.{Grown};
 ghost use Rattle.operand_rules.specs.Operators.{is_shift_operator};
@@ -15,26 +14,12 @@ ghost use Rattle.operand_rules.specs.Values.{Gives, IsType, IsValue, content_of,
 use crate::bounds::{both_exact, not_constant};
 use crate::constants::ConstTable;
 use crate::folding::folded;
-use crate::kinds::{is_number_kind, kind_of, under_kind};
+use crate::kinds::{is_number_kind, is_whole_number, kind_of};
 use crate::values::{Content, Refusal, Value, ValueType};
 use const_eval::{Const, Kind, binary};
 use go_tree::BinOp;
 use std::alloc::Global;
 use type_relations::Env;
-
-/// Whether values of the type are whole numbers.
-pub(crate) fn is_whole_number(env: &Env, t: ValueType) -> bool
-    requires { IsType env.now t }
-    ensures { result ≡ relation.is_whole_number (defined_types env.now) (type_of env.now t) }
-{
-    match t {
-        ValueType::Typed(t) => match under_kind(env, t) {
-            Some(k) => is_number_kind(k),
-            None => false,
-        },
-        _ => false,
-    }
-}
 
 /// Whether the value may be the count of a shift: a whole number, and a constant one isn't negative.
 fn is_count(env: &Env, consts: &ConstTable, n: Value) -> bool

@@ -65,7 +65,7 @@ module _ {S : Type 0} (same : S → S → Bool) (rs : List (Package S)) (z : S) 
   types-stay P r at inside [] = tt
   types-stay P r at inside (t ∷ ts) = (r t.of, types-stay P r at inside ts)
 
-  decl-types-stay : (P : TypeExpr S → TypeExpr S → Type 0) → ((t : TypeExpr S) → P t t) → (at : Option ℕ → Env) (inside : Func S → Env) (d : Decl S) → DeclTypesStand same rs c P at inside q inner d
+  pub decl-types-stay : (P : TypeExpr S → TypeExpr S → Type 0) → ((t : TypeExpr S) → P t t) → (at : Option ℕ → Env) (inside : Func S → Env) (d : Decl S) → DeclTypesStand same rs c P at inside q inner d
   decl-types-stay P r at inside (values s) = tt
   decl-types-stay P r at inside (types _ _ ts) = types-stay P r at inside ts
   decl-types-stay P r at inside (func f) = receiver-stays f.receiver

@@ -93,7 +93,7 @@ module _ {S : Type 0} (H : ℕ → Bool → ℕ → Environment Entity → Heade
   files_by home in_main members i zero n (f ∷ fs) h = and_file (record { imports = refl; headers = headers_changed home in_main i (file_block members [] f.imports) n f.decls h }) (same_files home in_main members (suc i) fs)
   files_by home in_main members i (suc m) n (f ∷ fs) h = and_file (same_file home in_main members i f) (files_by home in_main members (suc i) m n fs h)
 
-  same_package : (p : SourcePackage S) → PackageBy H p p
+  pub same_package : (p : SourcePackage S) → PackageBy H p p
   same_package p = record { number = refl; name = refl; files = same_files p.number (is_main p) (block_names p.files) 0 p.files }
 
   -- if the declaration with these numbers does, where the packages have it

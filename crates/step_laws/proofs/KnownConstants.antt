@@ -26,7 +26,7 @@ use Rattle.step_laws.proofs.PartsTyped.{headers-typed}
 use Rattle.step_laws.proofs.StepUses.{use-of-constant, constant-of-use}
 
 -- what is said of all headers is said of the first with a name
-of-first : {S : Type 0} {P : Headed S → Type 0} (n : List ℕ) (h : Headed S) (hs : List (Headed S)) → FirstWith n h hs → All P hs → P h
+pub of-first : {S : Type 0} {P : Headed S → Type 0} (n : List ℕ) (h : Headed S) (hs : List (Headed S)) → FirstWith n h hs → All P hs → P h
 of-first n h [] d a = elim d [ ]
 of-first n h (_ ∷ hs) this_one (all_and r rs) = r
 of-first n h (k ∷ hs) (a_later_one e d) (all_and r rs) = of-first n h hs d rs
@@ -45,7 +45,7 @@ module _ {S : Type 0} (ps : Program S) (h : Headed S) where
   at-last i (qualified_name q) = qualified_name q
 
   -- the header of a constant declares something
-  declares-it : (ds : DeclaredTypes) (w : World) (b : List MethodName) (x : Header S) → h.header ≡ x → is_method x ≡ false → header_ok ds w b h ≡ true → is_some (declared_by ds w h) ≡ true
+  pub declares-it : (ds : DeclaredTypes) (w : World) (b : List MethodName) (x : Header S) → h.header ≡ x → is_method x ≡ false → header_ok ds w b h ≡ true → is_some (declared_by ds w h) ≡ true
   declares-it ds w b x q m e = sym (ap (λ z. if z then method_ok w b h else is_some (declared_by ds w h)) (ap is_method q ∙ m)) ∙ e
 
   module _ (c : NameAt S) (f : Expr S) (r : Option Entity) (d : NamesConstant ps (headed ps) h c f r) (well : well_typed ps ≡ true) where

@@ -45,7 +45,7 @@ module _ {S : Type 0} (H : ℕ → Bool → ℕ → Environment Entity → Heade
       and_more (record { home = a; in_main = b; file = refl; imports = d; sound = λ x. names_once (n x) && list_all (λ m. is_blank m || not (is_among m (e x) || is_init m)) (n x); headers = r })
       (file-headers home home' in_main in_main' file is is' (header_names h.1 ++ before) (header_names k.1 ++ before') hs ks a b d (λ x. n x ++ e x) rs)
 
-  members-by : {home : ℕ} {in_main : Bool} {members : List (List ℕ)} {i : ℕ} {fs gs : List (SourceFile S)} → FilesBy H home in_main members i fs gs → block_names fs ≡ block_names gs
+  pub members-by : {home : ℕ} {in_main : Bool} {members : List (List ℕ)} {i : ℕ} {fs gs : List (SourceFile S)} → FilesBy H home in_main members i fs gs → block_names fs ≡ block_names gs
   members-by no_files = refl
   members-by (and_file r rs) = λ x. all-names r.headers x ++ members-by rs x
 

@@ -21,7 +21,7 @@ use Rattle.step_laws.proofs.ConstantStepLaw.{then-nth}
 use Rattle.step_laws.proofs.DeclUses.{decl-with-use}
 
 -- the rounds' last worlds know the same names
-same-blocks : {S : Type 0} (ps : Program S) (w : World) (p : ℕ) (n : List ℕ) → ValuesEnd ps w → means (block_of w.blocks p) n ≡ means (block_of (valued_world ps (headed ps)).blocks p) n
+pub same-blocks : {S : Type 0} (ps : Program S) (w : World) (p : ℕ) (n : List ℕ) → ValuesEnd ps w → means (block_of w.blocks p) n ≡ means (block_of (valued_world ps (headed ps)).blocks p) n
 same-blocks ps _ p n after_values = refl
 same-blocks ps _ p n at_last = refl
 

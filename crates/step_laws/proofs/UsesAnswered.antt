@@ -38,7 +38,7 @@ named-there top env q w (plain_name {n = n}) = record { means = meaning env n; n
 named-there top env q w (qualified_name {m = m} {k = k} p) = record { means = exported env.world k m.name; names = qualified_name (ap package_of q ∙ p); same = ap (λ v. exported v k m.name) w }
 
 module _ {S : Type 0} (top : Env) where
-  not-around : (around : List (List ℕ)) (env a : Env) (bound : List (NameAt S)) (n : List ℕ) → NamesOutside top around env a bound → is_blank n ≡ false → is_among n (names_of bound) ≡ false → is_among n around ≡ false
+  pub not-around : (around : List (List ℕ)) (env a : Env) (bound : List (NameAt S)) (n : List ℕ) → NamesOutside top around env a bound → is_blank n ≡ false → is_among n (names_of bound) ≡ false → is_among n around ≡ false
   not-around around env a bound n r b i = go (is_among n around) refl
     where
       go : (c : Bool) → is_among n around ≡ c → c ≡ false
@@ -59,12 +59,12 @@ module _ {S : Type 0} (top : Env) where
     abbrev c : Changes S
     c = changes_for same z (as_expr e)
 
-    put-there : (around : List (List ℕ)) (env : Env) (x f : Expr S) (b : Bool) → (b ≡ true → SameExpr around env x e) → (if b then Some e else None) ≡ Some f → SameExpr around env x f
+    pub put-there : (around : List (List ℕ)) (env : Env) (x f : Expr S) (b : Bool) → (b ≡ true → SameExpr around env x e) → (if b then Some e else None) ≡ Some f → SameExpr around env x f
     put-there around env x f true h q = subst (λ g. SameExpr around env x g) (ap (λ o. elim o [ None ↦ e | Some g ↦ g ]) q) (h refl)
     put-there around env x f false h q = absurd (grind (arith, ap is_some q))
 
     -- no statement is replaced
-    stmt-stays : (p : Place S) (s : Stmt S) → c.stmt p s ≡ None
+    pub stmt-stays : (p : Place S) (s : Stmt S) → c.stmt p s ≡ None
     stmt-stays p (eval y x) = refl
     stmt-stays p (return_ y es) = refl
     stmt-stays p s = refl
@@ -74,7 +74,7 @@ module _ {S : Type 0} (top : Env) where
     repeats-stay p r i no_specs h = tt
     repeats-stay p r i (spec s ns t es ss) h = (λ b. (all-free same z e (before_repeats (in_constant i p) ns ss) (alike (value_use p.env t) ns) es (h.0 b), written-same same z e (before_repeats (in_constant i p) ns ss) t), repeats-stay (after_constants p (repeated_by r t es) i ns) (repeated_by r t es) (suc i) ss h.1)
 
-    group-stays : (p : Place S) (s : Stmt S) → GroupKept same z p s → StmtKnown c p s
+    pub group-stays : (p : Place S) (s : Stmt S) → GroupKept same z p s → StmtKnown c p s
     group-stays p (const_decl s g ss) h = repeats-stay (plain_slot p) nothing_to_repeat 0 ss h
     group-stays p s h = tt
 

@@ -5,15 +5,42 @@ use std::test::Fail;
 use universe_block::{Builtin, PredeclaredEntity, predeclared};
 
 #[test]
-fn predeclared_as_the_specification_says(rt: HostRuntime) -> Result<(), Fail> {
-    assert!(rt; predeclared(b"byte") == Some(PredeclaredEntity::TypeName(Kind::Uint8)));
-    assert!(rt; predeclared(b"rune") == Some(PredeclaredEntity::TypeName(Kind::Int32)));
-    assert!(rt; predeclared(b"uint") == Some(PredeclaredEntity::TypeName(Kind::Uint)));
-    assert!(rt; predeclared(b"false") == Some(PredeclaredEntity::Truth(false)));
-    assert!(rt; predeclared(b"nil") == Some(PredeclaredEntity::Nil));
-    assert!(rt; predeclared(b"append") == Some(PredeclaredEntity::Function(Builtin::Append)));
-    assert!(rt; predeclared(b"recover") == Some(PredeclaredEntity::Function(Builtin::Recover)));
-    assert!(rt; predeclared(b"float64") == None);
-    assert!(rt; predeclared(b"_") == None);
+fn predeclared_as_the_specification_says() -> Result<(), Fail> {
+    let cases: &[(&[u8], Option<PredeclaredEntity>, &str)] = &[
+        (
+            b"byte",
+            Some(PredeclaredEntity::TypeName(Kind::Uint8)),
+            "byte",
+        ),
+        (
+            b"rune",
+            Some(PredeclaredEntity::TypeName(Kind::Int32)),
+            "rune",
+        ),
+        (
+            b"uint",
+            Some(PredeclaredEntity::TypeName(Kind::Uint)),
+            "uint",
+        ),
+        (b"false", Some(PredeclaredEntity::Truth(false)), "false"),
+        (b"nil", Some(PredeclaredEntity::Nil), "nil"),
+        (
+            b"append",
+            Some(PredeclaredEntity::Function(Builtin::Append)),
+            "append",
+        ),
+        (
+            b"recover",
+            Some(PredeclaredEntity::Function(Builtin::Recover)),
+            "recover",
+        ),
+        (b"float64", None, "float64"),
+        (b"_", None, "_"),
+    ];
+    for (name, want, shown) in cases {
+        if predeclared(*name) != *want {
+            return Err(Fail::new(*shown));
+        }
+    }
     Ok(())
 }

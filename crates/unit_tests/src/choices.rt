@@ -1,7 +1,5 @@
 //! Sets of parameters chosen for calls in Go, worked out by hand.
 
-ghost use Rattle.std.specs.Prelude.{◌<◌, ◌^◌, length};
-
 use order_hazards::{Class, Item, ParamRow};
 use param_choice::{CallTable, ItemList, PairList, RowList, choose};
 use std::alloc::Global;
@@ -21,119 +19,113 @@ fn row(class: Class, uses: u32) -> ParamRow {
     }
 }
 
-// The numbers of the chosen parameters.
-fn chosen(
+/// A call: its name, its parameters, what its body does, which argument names which parameter, whether constants may be
+/// chosen, and the numbers of the chosen parameters.
+type Case<'a> = (
+    &'a str,
+    &'a [ParamRow],
+    &'a [Item],
+    &'a [(u32, u32)],
+    bool,
+    &'a [u32],
+);
+
+/// The table of a call.
+fn table(
     alloc: Global,
     rows: &[ParamRow],
     items: &[Item],
     names: &[(u32, u32)],
-    constants: bool,
-) -> Result<Vec<u32>, Fail>
-    requires { length rows.now < 2 ^ 32 }
-{
-    let t = CallTable {
-        rows: RowList::of(Vec::from_slice(alloc, rows)?),
-        items: ItemList::of(Vec::from_slice(alloc, items)?),
-        body_writes: items.contains(&Item::Write),
-        names: PairList::of(Vec::from_slice(alloc, names)?),
-    };
-    let set = choose(alloc, &t, constants)?;
-    let mut numbers = Vec::new(alloc);
-    for i in 0..rows.len() as u32 {
-        if set.has(i) {
-            numbers.push(i)?;
+) -> Result<CallTable, Fail> {
+    let rows = Vec::from_slice(alloc, rows)?;
+    let body_writes = items.contains(&Item::Write);
+    let items = Vec::from_slice(alloc, items)?;
+    let names = Vec::from_slice(alloc, names)?;
+    Ok(CallTable {
+        rows: RowList::of(rows),
+        items: ItemList::of(items),
+        body_writes,
+        names: PairList::of(names),
+    })
+}
+
+/// Whether the chosen parameters of the table are the wanted ones.
+fn is_chosen(alloc: Global, t: &CallTable, constants: bool, want: &[u32]) -> Result<bool, Fail> {
+    let count = t.rows.items().len();
+    if count > 1000 {
+        return Err(Fail::new("too many parameters"));
+    }
+    let set = choose(alloc, t, constants)?;
+    let mut same = true;
+    for i in 0..count as u32 {
+        same = same && set.has(i) == want.contains(&i);
+    }
+    Ok(same)
+}
+
+fn compare(alloc: Global, cases: &[Case]) -> Result<(), Fail> {
+    for (name, rows, items, names, constants, want) in cases {
+        let t = table(alloc, *rows, *items, *names)?;
+        let same = is_chosen(alloc, &t, *constants, *want)?;
+        if !same {
+            return Err(Fail::new(*name));
         }
     }
-    Ok(numbers)
+    Ok(())
 }
 
 #[test]
 fn one_parameter(rt: HostRuntime) -> Result<(), Fail> {
-    let alloc = rt.alloc();
-    // `return pow.Pow(x, 2)`, at `Square(x)`, `Square(next())` and `Square(pow)`.
-    let called = [Item::Param(0), Item::Write];
     let variable = row(Class::Steady, 1);
     let call = row(Class::Acts, 1);
-    assert_eq!(rt;
-        chosen(alloc, &[variable], &called, &[(0, 0)], true)?.as_slice(),
-        [0].as_slice(),
-        "Square(x)"
-    );
-    assert_eq!(rt;
-        chosen(alloc, &[call], &called, &[], true)?.as_slice(),
-        [0].as_slice(),
-        "Square(next())"
-    );
-    assert_eq!(rt;
-        chosen(alloc, &[variable], &called, &[], true)?.as_slice(),
-        [0].as_slice(),
-        "Square(pow)"
-    );
-    // `return x + 1`, at `Inc(127)`, where the sum is a constant fault.
     let literal = ParamRow {
         constant: true,
         ..variable
     };
-    assert_eq!(rt;
-        chosen(alloc, &[literal], &[Item::Param(0)], &[], true)?.as_slice(),
-        [0].as_slice(),
-        "Inc(127)"
-    );
-    assert!(rt;
-        chosen(alloc, &[literal], &[Item::Param(0)], &[], false)?.is_empty(),
-        "Inc(127), bound"
-    );
-    // `return x + x`, at `Twice(next())`.
+    let both = row(Class::Acts, 2);
+    // `return pow.Pow(x, 2)`, `return x + 1`, where the sum is a constant fault, and `return x + x`.
+    let called = [Item::Param(0), Item::Write];
+    let once = [Item::Param(0)];
     let doubled = [Item::Param(0), Item::Param(0)];
-    assert!(rt;
-        chosen(alloc, &[row(Class::Acts, 2)], &doubled, &[], true)?.is_empty(),
-        "Twice(next())"
-    );
-    assert!(rt;
-        chosen(alloc, &[], &[], &[], true)?.is_empty(),
-        "no parameters"
-    );
-    Ok(())
+    compare(
+        rt.alloc(),
+        &[
+            ("Square(x)", &[variable], &called, &[(0, 0)], true, &[0]),
+            ("Square(next())", &[call], &called, &[], true, &[0]),
+            ("Square(pow)", &[variable], &called, &[], true, &[0]),
+            ("Inc(127)", &[literal], &once, &[], true, &[0]),
+            ("Inc(127), bound", &[literal], &once, &[], false, &[]),
+            ("Twice(next())", &[both], &doubled, &[], true, &[]),
+            ("no parameters", &[], &[], &[], true, &[]),
+        ],
+    )
 }
 
 #[test]
 fn two_parameters(rt: HostRuntime) -> Result<(), Fail> {
-    let alloc = rt.alloc();
     let variable = row(Class::Steady, 1);
     let call = row(Class::Acts, 1);
-    // `return y`, at `First(a[i], b)`.
     let unused = [row(Class::Acts, 0), variable];
-    assert_eq!(rt;
-        chosen(alloc, &unused, &[Item::Param(1)], &[], true)?.as_slice(),
-        [1].as_slice(),
-        "First(a[i], b)"
-    );
-    // `return b - a`, at `Less(g(), h())`, and `println(b, a)`, at `Log(g(), h())`.
-    let turned = [Item::Param(1), Item::Param(0)];
-    assert_eq!(rt;
-        chosen(alloc, &[call, call], &turned, &[], true)?.as_slice(),
-        [1].as_slice(),
-        "Less(g(), h())"
-    );
-    let printed = [Item::Param(1), Item::Param(0), Item::Write];
-    assert_eq!(rt;
-        chosen(alloc, &[call, call], &printed, &[], true)?.as_slice(),
-        [1].as_slice(),
-        "Log(g(), h())"
-    );
-    // `println(a, a, b)`, at `Pair(next(), a)`: the argument a names the bound parameter a.
-    let twice = [Item::Param(0), Item::Param(0), Item::Param(1), Item::Write];
     let pair = [row(Class::Acts, 2), variable];
-    assert!(rt;
-        chosen(alloc, &pair, &twice, &[(1, 0)], true)?.is_empty(),
-        "Pair(next(), a)"
-    );
-    Ok(())
+    // `return y`, `return b - a`, `println(b, a)` and `println(a, a, b)`; in the last call the argument a names the
+    // bound parameter a.
+    let second = [Item::Param(1)];
+    let turned = [Item::Param(1), Item::Param(0)];
+    let printed = [Item::Param(1), Item::Param(0), Item::Write];
+    let twice = [Item::Param(0), Item::Param(0), Item::Param(1), Item::Write];
+    compare(
+        rt.alloc(),
+        &[
+            ("First(a[i], b)", &unused, &second, &[], true, &[1]),
+            ("Less(g(), h())", &[call, call], &turned, &[], true, &[1]),
+            ("Log(g(), h())", &[call, call], &printed, &[], true, &[1]),
+            ("Pair(next(), a)", &pair, &twice, &[(1, 0)], true, &[]),
+        ],
+    )
 }
 
 #[test]
 fn names_in_turn(rt: HostRuntime) -> Result<(), Fail> {
-    let alloc = rt.alloc();
     let variable = row(Class::Steady, 1);
     let bound = ParamRow {
         barred: true,
@@ -142,40 +134,40 @@ fn names_in_turn(rt: HostRuntime) -> Result<(), Fail> {
     // The first is bound, and each of the next three names the one before it.
     let chain = [bound, variable, variable, variable, variable];
     let names = [(1, 0), (2, 1), (3, 2)];
-    assert_eq!(rt;
-        chosen(alloc, &chain, &[], &names, true)?.as_slice(),
-        [4].as_slice(),
-        "one strikes three more"
-    );
+    let three = [variable, variable, variable];
+    let held = [variable, bound, variable];
     let circle = [(0, 1), (1, 2), (2, 0)];
-    assert_eq!(rt;
-        chosen(alloc, &[variable, variable, variable], &[], &circle, true)?.as_slice(),
-        [0, 1, 2].as_slice(),
-        "a circle"
-    );
-    assert!(rt;
-        chosen(alloc, &[variable, bound, variable], &[], &circle, true)?.is_empty(),
-        "a circle with a bound one"
-    );
-    Ok(())
+    compare(
+        rt.alloc(),
+        &[
+            ("one strikes three more", &chain, &[], &names, true, &[4]),
+            ("a circle", &three, &[], &circle, true, &[0, 1, 2]),
+            ("a circle with a bound one", &held, &[], &circle, true, &[]),
+        ],
+    )
 }
 
 // A hundred calls, used in order, of which each names the next. While the last is bound, all are.
 #[test]
 fn large_table(rt: HostRuntime) -> Result<(), Fail> {
-    let alloc = rt.alloc();
-    let mut rows = [row(Class::Acts, 1); 100];
+    let free = [row(Class::Acts, 1); 100];
     let mut items = [Item::Read; 1000];
-    let mut names = Vec::new(alloc);
+    let mut names = [(0, 0); 99];
+    let mut all = [0; 100];
     for i in 0..100u32 {
         items[i as usize] = Item::Param(i);
+        all[i as usize] = i;
         if i < 99 {
-            names.push((i, i + 1))?;
+            names[i as usize] = (i, i + 1);
         }
     }
-    rows[99].barred = true;
-    assert!(rt; chosen(alloc, &rows, &items, &names, true)?.is_empty());
-    rows[99].barred = false;
-    assert_eq!(rt; chosen(alloc, &rows, &items, &names, true)?.len(), 100);
-    Ok(())
+    let mut held = free;
+    held[99].barred = true;
+    compare(
+        rt.alloc(),
+        &[
+            ("the last bound", &held, &items, &names, true, &[]),
+            ("none bound", &free, &items, &names, true, &all),
+        ],
+    )
 }

@@ -10,10 +10,30 @@ use text_edits::{AddFault, Edit, Edits, apply};
 fn edit(alloc: Global, start: u32, end: u32, text: &str) -> Result<Edit, Fail>
     ensures { IfOk result (λ e. (e.span.start ≡ start) × (e.span.end ≡ end)) }
 {
+    let bytes = text.as_bytes().to_vec(alloc)?;
     Ok(Edit {
         span: Span { start, end },
-        text: Text::of(text.as_bytes().to_vec(alloc)?),
+        text: Text::of(bytes),
     })
+}
+
+/// The span of the kept edit that a new one overlaps, if it isn't added.
+fn overlapped(
+    alloc: Global,
+    edits: &mut Edits,
+    start: u32,
+    end: u32,
+    text: &str,
+) -> Result<Option<Span>, Fail> {
+    if start > end {
+        return Err(Fail::new("no span"));
+    }
+    let new = edit(alloc, start, end, text)?;
+    match edits.add(new) {
+        Ok(()) => Ok(None),
+        Err(AddFault::Overlap { kept }) => Ok(Some(kept)),
+        Err(AddFault::NoMemory) => Err(Fail::new("no memory")),
+    }
 }
 
 // The text with edits made that are added in this order.
@@ -30,54 +50,59 @@ fn edited(alloc: Global, text: &[u8], rows: &[(u32, u32, &str)]) -> Result<Vec<u
     Ok(apply(alloc, text, &edits)?)
 }
 
+fn makes(alloc: Global, rows: &[(u32, u32, &str)], want: &str) -> Result<bool, Fail> {
+    let bytes = edited(alloc, b"abcdef", rows)?;
+    Ok(bytes.as_slice() == want.as_bytes())
+}
+
 #[test]
 fn edits_made_together(rt: HostRuntime) -> Result<(), Fail> {
-    let alloc = rt.alloc();
-    let text = b"abcdef";
-    assert_eq!(rt; edited(alloc, text, &[])?.as_slice(), b"abcdef".as_slice());
-    assert_eq!(rt;
-        edited(alloc, text, &[(0, 6, "new")])?.as_slice(),
-        b"new".as_slice()
-    );
-    assert_eq!(rt;
-        edited(alloc, text, &[(1, 5, "")])?.as_slice(),
-        b"af".as_slice()
-    );
-    assert_eq!(rt;
-        edited(alloc, text, &[(6, 6, "!"), (0, 0, "<")])?.as_slice(),
-        b"<abcdef!".as_slice(),
-        "insertions at both ends"
-    );
-    assert_eq!(rt;
-        edited(alloc, text, &[(2, 4, "Y"), (0, 2, "X")])?.as_slice(),
-        b"XYef".as_slice(),
-        "touching spans"
-    );
-    assert_eq!(rt;
-        edited(alloc, text, &[(2, 4, "Y"), (2, 2, "+"), (4, 4, "-")])?.as_slice(),
-        b"ab+Y-ef".as_slice(),
-        "insertions where a span starts and ends"
-    );
+    let cases: &[(&str, &[(u32, u32, &str)], &str)] = &[
+        ("no edit", &[], "abcdef"),
+        ("the whole text", &[(0, 6, "new")], "new"),
+        ("no new text", &[(1, 5, "")], "af"),
+        (
+            "insertions at both ends",
+            &[(6, 6, "!"), (0, 0, "<")],
+            "<abcdef!",
+        ),
+        ("touching spans", &[(2, 4, "Y"), (0, 2, "X")], "XYef"),
+        (
+            "insertions where a span starts and ends",
+            &[(2, 4, "Y"), (2, 2, "+"), (4, 4, "-")],
+            "ab+Y-ef",
+        ),
+    ];
+    for (name, rows, want) in cases {
+        if !makes(rt.alloc(), *rows, *want)? {
+            return Err(Fail::new(*name));
+        }
+    }
+    Ok(())
+}
+
+fn add_in_turn(alloc: Global, edits: &mut Edits) -> Result<(), Fail> {
+    let span = Some(Span { start: 2, end: 4 });
+    let place = Some(Span { start: 6, end: 6 });
+    for (start, end, want, name) in [
+        (6, 6, None, "a place"),
+        (2, 4, None, "a span"),
+        (2, 4, span, "equal spans"),
+        (3, 5, span, "a shared byte"),
+        (3, 3, span, "a place inside"),
+        (5, 7, place, "round a place"),
+        (6, 6, place, "equal places"),
+        (4, 6, None, "between both"),
+    ] {
+        if overlapped(alloc, edits, start, end, "x")? != want {
+            return Err(Fail::new(name));
+        }
+    }
     Ok(())
 }
 
 #[test]
 fn edits_that_overlap(rt: HostRuntime) -> Result<(), Fail> {
-    let alloc = rt.alloc();
-    let mut edits = Edits::new(alloc);
-    let span = Err(AddFault::Overlap {
-        kept: Span { start: 2, end: 4 },
-    });
-    let place = Err(AddFault::Overlap {
-        kept: Span { start: 6, end: 6 },
-    });
-    assert_eq!(rt; edits.add(edit(alloc, 6, 6, "p")?), Ok(()));
-    assert_eq!(rt; edits.add(edit(alloc, 2, 4, "s")?), Ok(()));
-    assert_eq!(rt; edits.add(edit(alloc, 2, 4, "x")?), span, "equal spans");
-    assert_eq!(rt; edits.add(edit(alloc, 3, 5, "x")?), span, "a shared byte");
-    assert_eq!(rt; edits.add(edit(alloc, 3, 3, "x")?), span, "a place inside");
-    assert_eq!(rt; edits.add(edit(alloc, 5, 7, "x")?), place, "round a place");
-    assert_eq!(rt; edits.add(edit(alloc, 6, 6, "x")?), place, "equal places");
-    assert_eq!(rt; edits.add(edit(alloc, 4, 6, "t")?), Ok(()), "between both");
-    Ok(())
+    let mut edits = Edits::new(rt.alloc());
+    add_in_turn(rt.alloc(), &mut edits)
 }

@@ -9,3 +9,11 @@ mod edits;
 mod hazards;
 #[cfg(test)]
 mod io;
+#[cfg(test)]
+mod tokens;
+#[cfg(test)]
+mod value_rows;
+#[cfg(test)]
+mod values;
+#[cfg(test)]
+mod words;

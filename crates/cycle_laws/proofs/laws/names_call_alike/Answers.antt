@@ -8,4 +8,4 @@ pub returns-clause-qualified : goal.returns-clause-qualified
 returns-clause-qualified c = λ ps marks w at p s z q n m h. selector-names ps marks w at p s z q n m h
 
 pub returns-clause-put : goal.returns-clause-put
-returns-clause-put c = λ ps marks w at p x y h k t m. names-alike ps marks w at p x y h k t m
+returns-clause-put c = λ ps marks w at p x y h k m. names-alike ps marks w at p x y h k m

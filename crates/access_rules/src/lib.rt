@@ -1,0 +1,21 @@
+//! Rules of access over operands: selectors, indices, slices, dereferences, addresses and calls
+//! (Go specification, Selectors; Index expressions; Slice expressions; Address operators; Calls).
+#![tactic(auto)]
+
+mod calls;
+mod fields;
+mod forms;
+mod indices;
+mod methods;
+mod places;
+mod pointers;
+mod selectors;
+mod slices;
+
+pub use calls::{takes_call, takes_values};
+pub use forms::form;
+pub use indices::{index_of, index_place, is_index};
+pub use places::Place;
+pub use pointers::{address_of, pointed};
+pub use selectors::{Selection, selected, selected_place};
+pub use slices::sliced;

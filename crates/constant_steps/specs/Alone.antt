@@ -1,0 +1,63 @@
+-- Declarations of constants each of which stands alone in its spec, and where the declaration of a package's name
+-- stands (Go specification, Constant declarations; Declarations and scope; Package block).
+use Rattle.std.specs.Prelude.{◌≡◌, ℕ, zero, suc, false, not, List, [], ◌∷◌, ◌++◌, None, nat_eq}
+use Rattle.go_tree.specs.Tree.{NameAt, Expr, no_exprs, expr_and, const_decl, ValueSpecs, no_specs, spec}
+use Rattle.go_tree.specs.File.{Func, Decl, values, func}
+use Rattle.scope_names.specs.Means.{Environment}
+use Rattle.pkg_graph.specs.Members.{Target, decls_from}
+use Rattle.go_types.specs.Entities.{Entity}
+use Rattle.go_types.specs.Programs.{Header, constants, Headed, SourceFile, SourcePackage, Program, is_init}
+use Rattle.typed_in_place.specs.Declared.{FirstWith}
+
+module _ {S : Type 0} where
+  -- each spec of a group has one name, no type, and one expression of its own
+  pub data SingleSpecs : ValueSpecs S → Type 0 where
+    no_constants : SingleSpecs no_specs
+    and_constant :
+        {s : S} {n : NameAt S} {e : Expr S} {ss : ValueSpecs S} → SingleSpecs ss →
+        SingleSpecs (spec s (n ∷ []) None (expr_and e no_exprs) ss)
+
+  -- such a group, or a function or method
+  pub data PlainDecl : Decl S → Type 0 where
+    constants_alone :
+        {s : S} {g : _} {ss : ValueSpecs S} → SingleSpecs ss → PlainDecl (values (const_decl s g ss))
+    a_function : {f : Func S} → PlainDecl (func f)
+
+  -- all declarations are such
+  pub data PlainDecls : List (Decl S) → Type 0 where
+    no_decls : PlainDecls []
+    and_decl : {d : Decl S} {ds : List (Decl S)} → PlainDecl d → PlainDecls ds → PlainDecls (d ∷ ds)
+
+  -- those of all files are
+  pub data PlainFiles : List (SourceFile S) → Type 0 where
+    no_files : PlainFiles []
+    and_file : {f : SourceFile S} {fs : List (SourceFile S)} → PlainDecls f.decls → PlainFiles fs → PlainFiles (f ∷ fs)
+
+  -- the names of the files of a package, from the one with the number f on, each with the place of its declaration
+  abbrev pub block_from : ℕ → ℕ → List (SourceFile S) → Environment Target
+  block_from p f [] = []
+  block_from p f (x ∷ xs) = decls_from p f 0 x.decls ++ block_from p (suc f) xs
+
+  -- the k-th package of a program is p, and none before it has its number
+  pub data PackageAt (p : SourcePackage S) : ℕ → Program S → Type 0 where
+    this_package : {ps : Program S} → PackageAt p zero (p ∷ ps)
+    a_later_package :
+        {k : ℕ} {q : SourcePackage S} {ps : Program S} → nat_eq q.number p.number ≡ false → PackageAt p k ps →
+        PackageAt p (suc k) (q ∷ ps)
+
+  -- a header that declares the constant c alone, as e
+  pub record ConstantHeader (n : List ℕ) (h : Header S) (c : NameAt S) (e : Expr S) : Type 0 where
+    pub number : ℕ
+    pub is : h ≡ constants (c ∷ []) None (expr_and e no_exprs) number
+    pub named : c.name ≡ n
+
+  -- The first header of its package with the name n, in a package with this number and a file with these imports. Where
+  -- W holds of a constant and its expression, it declares that.
+  pub record FirstIs (n : List ℕ) (home : ℕ) (imports : Environment Entity) (W : NameAt S → Expr S → Type 0)
+      (hs : List (Headed S)) : Type 0 where
+    pub header : Headed S
+    pub first : FirstWith n header hs
+    pub home_is : header.home ≡ home
+    pub imports_are : header.imports ≡ imports
+    pub sound : header.sound ≡ not (is_init n)
+    pub declares : (c : NameAt S) (e : Expr S) → W c e → ConstantHeader n header.header c e

@@ -1,0 +1,6 @@
+pub mod Alone
+pub mod PlainUse
+pub mod HeaderUses
+pub mod PlainRuns
+pub mod PlainLinks
+pub mod Laws

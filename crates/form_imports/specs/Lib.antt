@@ -1,0 +1,6 @@
+pub mod Literals
+pub mod Written
+pub mod OwnNames
+pub mod Laws
+pub mod Bodies
+pub mod CallLaws

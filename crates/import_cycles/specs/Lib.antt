@@ -1,0 +1,4 @@
+pub mod NamesRead
+pub mod OtherImports
+pub mod ImportSteps
+pub mod Laws

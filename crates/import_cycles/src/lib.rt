@@ -1,0 +1,7 @@
+//! What other imports of a file keep of the calls of marked functions (Go specification, Import declarations;
+//! Declarations and scope; Calls).
+#![tactic(auto)]
+
+mod laws;
+
+pub use laws::other_imports_call_alike;

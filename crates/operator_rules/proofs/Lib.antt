@@ -1,0 +1,5 @@
+pub mod TruthLemmas
+pub mod LogicalLemmas
+pub mod TypeLemmas
+pub mod KeptLemmas
+pub mod GrowthLemmas

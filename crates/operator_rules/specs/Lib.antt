@@ -1,0 +1,7 @@
+pub mod BasicTypes
+pub mod Truths
+pub mod Settling
+pub mod Comparisons
+pub mod Kept
+pub mod Parts
+pub mod Growth

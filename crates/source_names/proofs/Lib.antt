@@ -1,0 +1,4 @@
+pub mod FirstLetters
+pub mod FormedNames
+pub mod ReadNames
+pub mod NoIdentifiers

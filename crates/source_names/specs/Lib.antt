@@ -1,0 +1,2 @@
+pub mod ReadPackages
+pub mod Laws

@@ -1,0 +1,5 @@
+pub mod PackagesAlike
+pub mod Steps
+pub mod OwnConstants
+pub mod Calls
+pub mod Laws

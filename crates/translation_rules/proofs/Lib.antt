@@ -1,0 +1,17 @@
+pub mod CalledRules
+pub mod TermRules
+pub mod ExprRules
+pub mod Standing
+pub mod StandingBodies
+pub mod RuledLemmas
+pub mod HeadedStatements
+pub mod FieldsCounted
+pub mod LiteralFields
+pub mod ValueCounts
+pub mod Carried
+pub mod RuledParts
+pub mod BlocksStand
+pub mod FunctionsStand
+pub mod HeadersTyped
+pub mod RuledPackages
+pub mod RulesInUse

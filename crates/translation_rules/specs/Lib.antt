@@ -1,0 +1,5 @@
+pub mod Fields
+pub mod Rules
+pub mod Ruled
+pub mod RuledPackages
+pub mod Laws

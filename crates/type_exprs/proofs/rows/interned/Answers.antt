@@ -1,0 +1,20 @@
+use Rattle.std.proofs.Common.{◌∙◌, ap, sym, Some}
+use Rattle.go_types.specs.Types.{is_untyped}
+use Rattle.type_relations.specs.Environment.{env_type}
+use Rattle.type_table.specs.Rows.{row_of}
+use Rattle.type_exprs.proofs.RowLaws.{row_grown, row_kept}
+use Rattle.type_exprs.proofs.rows.interned.Goals as goal
+
+pub returns-in-Ok-clause-grown : goal.returns-in-Ok-clause-grown
+returns-in-Ok-clause-grown c =
+    row_grown c.args.types.now c.intern.new.self (row_of c.args.n) c.in-Ok.ensures.added c.intern.ensures.types
+    c.intern.ensures.defined
+
+pub returns-in-Ok-clause-gives : goal.returns-in-Ok-clause-gives
+returns-in-Ok-clause-gives c = (
+  (c.in-Ok.ensures.within, ap is_untyped c.in-Ok.ensures.is ∙ c.requires.typed (env_type c.intern.new.self)),
+  ap Some (sym c.in-Ok.ensures.is),
+)
+
+pub returns-in-Err-clause-grown : goal.returns-in-Err-clause-grown
+returns-in-Err-clause-grown c = row_kept c.args.types.now c.intern.new.self c.in-Err.ensures.same

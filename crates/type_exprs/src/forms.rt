@@ -1,0 +1,67 @@
+//! Types made of types that are known, if they are (Go specification, Pointer types; Slice types; Map
+//! types).
+
+ghost use Rattle.std.specs.Prelude.{◌≡◌, ◌<◌, length, Option, Some, IfOk};
+ghost use Rattle.go_types.specs.Answers.{both, given};
+ghost use Rattle.go_types.specs.Types.{GoType, map_of, pointer_to, slice_of};
+ghost use Rattle.type_relations.specs.Environment.{env_type};
+ghost use Rattle.type_exprs.specs.Answers.{GivesType};
+ghost use Rattle.type_exprs.specs.Grown.{TypesGrown};
+
+use crate::rows::interned;
+use operand_rules::Refusal;
+use type_relations::Env;
+use type_table::{TypeId, TypeNode};
+
+/// The pointer to a type.
+#[tactic(auto, using(crate::proofs::GrownLaws::grown_self))]
+pub(crate) fn pointer_type(
+    types: &mut Env,
+    base: Result<TypeId, Refusal>,
+) -> Result<TypeId, Refusal>
+    requires within { IfOk base (λ t. t.0 < length types.old.rows) }
+    ensures grown { TypesGrown types.old types.new }
+    ensures gives { (d : Option GoType) → GivesType types.old d base
+        → GivesType types.new (given d (λ u. Some (pointer_to u))) result }
+{
+    match base {
+        Ok(base) => interned(types, TypeNode::Pointer(base)),
+        Err(refusal) => Err(refusal),
+    }
+}
+
+/// The slice of elements of a type.
+#[tactic(auto, using(crate::proofs::GrownLaws::grown_self))]
+pub(crate) fn slice_type(
+    types: &mut Env,
+    element: Result<TypeId, Refusal>,
+) -> Result<TypeId, Refusal>
+    requires within { IfOk element (λ t. t.0 < length types.old.rows) }
+    ensures grown { TypesGrown types.old types.new }
+    ensures gives { (d : Option GoType) → GivesType types.old d element
+        → GivesType types.new (given d (λ u. Some (slice_of u))) result }
+{
+    match element {
+        Ok(element) => interned(types, TypeNode::Slice(element)),
+        Err(refusal) => Err(refusal),
+    }
+}
+
+/// The map from keys of a type to elements of a type.
+#[tactic(auto, using(crate::proofs::GrownLaws::grown_self))]
+pub(crate) fn map_type(
+    types: &mut Env,
+    key: TypeId,
+    element: Result<TypeId, Refusal>,
+) -> Result<TypeId, Refusal>
+    requires key { key.0 < length types.old.rows }
+    requires element { IfOk element (λ t. t.0 < length types.old.rows) }
+    ensures grown { TypesGrown types.old types.new }
+    ensures gives { (k : GoType) (d : Option GoType) → k ≡ env_type types.old key.0 → GivesType types.old d element
+        → GivesType types.new (both (Some k) d (λ a b. Some (map_of a b))) result }
+{
+    match element {
+        Ok(element) => interned(types, TypeNode::Map { key, element }),
+        Err(refusal) => Err(refusal),
+    }
+}

@@ -1,0 +1,4 @@
+pub mod Meanings
+pub mod Locals
+pub mod Scopes
+pub mod Known

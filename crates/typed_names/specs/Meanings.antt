@@ -1,0 +1,65 @@
+-- What names mean, read through the tables of types and constants (Go specification, Declarations and scope; Package
+-- block; Predeclared identifiers).
+use Rattle.std.specs.Prelude.{ℕ, suc, List, [], ◌∷◌, map, Option, Some, None, slice_index_or}
+use Rattle.const_eval.specs.declared.consts.Const.{Const}
+use Rattle.scope_names.specs.Means as scope
+use Rattle.go_types.specs.Types.{GoType, tuple_of, GoTypes, no_go_types, go_type, FuncType}
+use Rattle.go_types.specs.Entities as go
+use Rattle.type_relations.specs.Environment.{Environment, defined_types, env_type}
+use Rattle.operand_rules.specs.Constants.{const_at}
+use Rattle.operand_rules.specs.Values.{type_of}
+use Rattle.universe_block.specs.Meanings.{entity_of}
+use Rattle.typed_names.specs.declared.entities.Entity.{Entity}
+use Rattle.typed_names.specs.declared.entities.Entity.TheVariants.{Variable, Constant, TypeName, Function, Package, Predeclared, Refused}
+
+-- the types of a tuple in order
+abbrev pub listed : GoTypes → List GoType
+listed no_go_types = []
+listed (go_type t ts) = t ∷ listed ts
+
+-- those of a type that is a tuple
+abbrev pub tuple_list : GoType → List GoType
+tuple_list (tuple_of ts) = listed ts
+tuple_list t = []
+
+-- names of the code with what they mean, innermost first
+abbrev pub Names : Type 0
+Names = scope.Environment Entity
+
+-- the names of a package block
+abbrev pub block_at : List Names → ℕ → Names
+block_at bs p = slice_index_or bs p []
+
+-- types are read in an environment, constants in a list
+module _ (e : Environment) (cs : List Const) where
+  -- the types of a signature, by the tuples of its parameters and results
+  abbrev pub signature_at : ℕ → ℕ → FuncType
+  signature_at ps rs = record { params = tuple_list (env_type e ps); results = tuple_list (env_type e rs) }
+
+  -- what a name means
+  abbrev pub entity_at : Entity → go.Entity
+  entity_at (Variable t) = go.variable (env_type e t.0)
+  entity_at (Constant t c) = go.constant (type_of e t) (const_at cs c.0)
+  entity_at (TypeName t) = go.type_name (env_type e t.0)
+  entity_at (Function ps rs) = go.function (signature_at ps.0 rs.0)
+  entity_at (Package p) = go.package_name p
+  entity_at (Predeclared p) = entity_of p
+  entity_at Refused = go.refused
+
+  -- what it means, if it means anything
+  abbrev pub entity_option : Option Entity → Option go.Entity
+  entity_option None = None
+  entity_option (Some x) = Some (entity_at x)
+
+  -- names with what they mean
+  abbrev pub names_at : Names → scope.Environment go.Entity
+  names_at bs = map (λ b. (b.0, entity_at b.1)) bs
+
+  -- package blocks with the numbers of their packages, counted from one
+  abbrev pub blocks_from : ℕ → List Names → List (ℕ × scope.Environment go.Entity)
+  blocks_from i [] = []
+  blocks_from i (b ∷ bs) = (i, names_at b) ∷ blocks_from (suc i) bs
+
+  -- the defined types and the package blocks
+  abbrev pub world_at : List Names → go.World
+  world_at bs = record { defined = defined_types e; blocks = blocks_from 0 bs }

@@ -1,0 +1,18 @@
+-- A place in a file, read through the tables of types and constants (Go specification, Blocks; Declarations and scope).
+use Rattle.std.specs.Prelude.{List}
+use Rattle.const_eval.specs.declared.consts.Const.{Const}
+use Rattle.go_types.specs.Entities as go
+use Rattle.go_types.specs.Entities.{extend}
+use Rattle.go_types.specs.Programs.{file_env}
+use Rattle.type_relations.specs.Environment.{Environment}
+use Rattle.typed_names.specs.declared.scopes.Scope.{Scope}
+use Rattle.typed_names.specs.Meanings.{Names, names_at, world_at}
+
+module _ (e : Environment) (cs : List Const) (blocks : List Names) (s : Scope) where
+  -- around the declarations of the file
+  abbrev pub file_env_at : go.Env
+  file_env_at = file_env (world_at e cs blocks) s.home (names_at e cs s.imports) s.iota
+
+  -- at the place, whose names are those of one block
+  abbrev pub env_at : go.Env
+  env_at = extend (names_at e cs s.locals) file_env_at
