@@ -5,16 +5,19 @@ use Rattle.std.proofs.lemmas.Option.{same_Some}
 use Rattle.go_tree.specs.Tree.{Stmt, const_decl, var_decl, empty, eval, step, assign, define, return_, break_, continue_, inner, if_, for_, range_, switch, defer, label}
 use Rattle.go_tree.specs.File.{Receiver, Decl, values, types, func}
 use Rattle.scope_names.specs.Identifiers.{name_option, sig_identifiers, stmts_identifiers, receiver_identifiers, decl_identifiers}
+use Rattle.scope_names.specs.Means.{means}
 use Rattle.pkg_graph.specs.Package.{SourceTree, Package}
 use Rattle.pkg_graph.specs.Members.{decls_from, files_from, package_block}
 use Rattle.go_types.specs.Answers.{given, meets, only_if}
 use Rattle.go_types.specs.Types.{base_of, type_name_of}
 use Rattle.go_types.specs.Defined.{under}
-use Rattle.go_types.specs.Entities.{type_of_name}
+use Rattle.go_types.specs.Entities.{type_of_name, universe}
 use Rattle.go_types.specs.Agreement.{In, head, Same}
 use Rattle.run_rules.specs.Programs.{world, imports_mean, top_env}
 use Rattle.run_rules.specs.Sites.{MarkRef, is_among_marks, Where, Inlinable, is_function, is_free_function, inlinable_in, where_is, inlinable, members_in, member_of, is_this_method, find_marked_method, marked, marked_as}
 use Rattle.typed_in_place.specs.ProgramsAlike.{OneByOne, no_more, and_more}
+use Rattle.same_worlds.specs.SameWorlds.{SameWorld}
+use Rattle.same_worlds.proofs.DefinedSame.{under-same}
 use Rattle.step_cycles.specs.PackagesAlike.{function_part, DeclAlike, FileAlike, PackageAlike, PackagesAlike}
 use Rattle.step_cycles.proofs.AlikeStay.{OptionBy, neither, each, get-by, at-both, receives, method_by, this_by, this-here, functions-alike, kinds-alike, free-alike, member-of-alike}
 use Rattle.step_cycles.proofs.StepAlike.{no-function-in, no-function-among}
@@ -142,7 +145,7 @@ module _ {S : Type 0} (ps qs : List (Package S)) (h : PackagesBeside ps qs) wher
 
   -- ---- methods
 
-  module _ (declared : world qs ≡ world ps) (reads : IdentifiersRead ps qs) where
+  module _ (declared : SameWorld (world qs) (world ps)) (reads : IdentifiersRead ps qs) where
     no-values : (s : Stmt S) (i : ℕ) → function_part (inlinable_in (values s) i) ≡ None
     no-values (const_decl _ _ ss) i = no-function-in i ss
     no-values (var_decl _ _ ss) i = refl
@@ -186,8 +189,11 @@ module _ {S : Type 0} (ps qs : List (Package S)) (h : PackagesBeside ps qs) wher
     method-stays : (k : ℕ) (t n : List ℕ) (m : MarkRef) (w v : Where S) → where_is ps m ≡ Some w → where_is qs m ≡ Some v → v.number ≡ w.number → (x : List ℕ × Option (List ℕ)) → function_part (inlinable qs m) ≡ Some x
         → method_by (world qs) v.number (imports_mean qs v.of v.source.tree) k t n x ≡ method_by (world ps) w.number (imports_mean ps w.of w.source.tree) k t n x
     method-stays k t n m w v hw hv same x e =
-        (λ i. method_by (declared i) v.number (imports_mean qs v.of v.source.tree) k t n x) ∙ by x.1 refl
+        (λ i. nat_eq v.number k && (bytes_eq x.0 n && meets x.1 (λ r. meets (received-so r i) (bytes_eq t)))) ∙ by x.1 refl
       where
+        received-so : (r : List ℕ) → receives (world qs) v.number (imports_mean qs v.of v.source.tree) r ≡ receives (world ps) v.number (imports_mean qs v.of v.source.tree) r
+        received-so r = λ i. given (type_of_name (means (imports_mean qs v.of v.source.tree ++ declared.blocks v.number i ++ universe) r)) (λ t. given (type_name_of t) (λ q. only_if (nat_eq q.0 v.number && is_none (base_of (under-same (world qs) (world ps) declared t i))) (Some q.1)))
+
         of-receiver : (r : List ℕ) → x.1 ≡ Some r → receives (world ps) v.number (imports_mean qs v.of v.source.tree) r ≡ receives (world ps) w.number (imports_mean ps w.of w.source.tree) r
         of-receiver r g = λ i. given (type_of_name (sym (receiver-reads m w v hw hv x e r g) i)) (λ t. given (type_name_of t) (λ q. only_if (nat_eq q.0 (same i) && is_none (base_of (under (world ps).defined t))) (Some q.1)))
 

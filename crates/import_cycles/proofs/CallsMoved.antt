@@ -36,14 +36,14 @@ nowhere n e = grind (arith, e)
 pub agrees-kept : (bs : Binds) (a : Env) (m : Environment Entity) → Agrees [] a m → Agrees [] (extend bs a) (bs ++ m)
 agrees-kept bs a m g = agrees_after [] [] bs a m (λ n i b. nowhere n i) g
 
-agrees-in-member : (i : ℕ) (a : Env) (m : Environment Entity) → Agrees [] a m → Agrees [] (at_member i a) m
+pub agrees-in-member : (i : ℕ) (a : Env) (m : Environment Entity) → Agrees [] a m → Agrees [] (at_member i a) m
 agrees-in-member i a m g = record { bound = g.bound; here = g.here; blank = g.blank }
 
 module _ {S : Type 0} (a : Env) (m : Environment Entity) (g : Agrees [] a m) where
   pub type-alike : (t : TypeExpr S) → On (free_type [] t) a m → type_meant a t ≡ type_meant (with_names a m) t
   type-alike t h = λ w. given (resolved-alike t a m [] g h w) (λ u. only_if (has_keys (defined_in a) u) (Some u))
 
-  written-alike : (t : Option (TypeExpr S)) → On (free_type_option [] t) a m → written_type a t ≡ written_type (with_names a m) t
+  pub written-alike : (t : Option (TypeExpr S)) → On (free_type_option [] t) a m → written_type a t ≡ written_type (with_names a m) t
   written-alike None h = refl
   written-alike (Some t) h = λ w. given (type-alike t h w) (λ u. Some (Some u))
 
@@ -52,7 +52,7 @@ module _ {S : Type 0} where
   field-set-alike a m i no_value fs = refl
   field-set-alike a m i (some_value y) fs = refl
 
-  elem-use-alike : (a : Env) (m : Environment Entity) (u : Option GoType) (i : ℕ) (k : ValueOption S) → elem_use a u i k ≡ elem_use (with_names a m) u i k
+  pub elem-use-alike : (a : Env) (m : Environment Entity) (u : Option GoType) (i : ℕ) (k : ValueOption S) → elem_use a u i k ≡ elem_use (with_names a m) u i k
   elem-use-alike a m u i k = λ v. into_or (given u (λ u. elim (fields_of u) [ Some fs ↦ field-set-alike a m i k fs v | None ↦ inner_type (defined_in a) u ]))
 
 module _ (D : Callees) (f : List ℕ → Option Target) (q : Option Target → Option ℕ) (nothing_so : q None ≡ D.package_of None) where

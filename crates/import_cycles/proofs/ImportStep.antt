@@ -22,7 +22,7 @@ use Rattle.import_cycles.proofs.NamesReadAlike.{identifiers-read-alike}
 use Rattle.import_cycles.proofs.LeadAlike.{same-beside, recursive-same}
 
 -- an item changed twice
-twice : {A : Type 0} (f g : A → A) (n : ℕ) (xs : List A) → change_nth n f (change_nth n g xs) ≡ change_nth n (λ x. f (g x)) xs
+pub twice : {A : Type 0} (f g : A → A) (n : ℕ) (xs : List A) → change_nth n f (change_nth n g xs) ≡ change_nth n (λ x. f (g x)) xs
 twice f g n [] = refl
 twice f g zero (x ∷ xs) = refl
 twice f g (suc n) (x ∷ xs) = λ v. x ∷ twice f g n xs v
@@ -58,7 +58,7 @@ module _ (marks : List MarkRef) (st : Standing) (l : Logged) (after : Standing) 
 
   -- ---- the form is put, and the imports are settled
 
-  decls-are : decls_with origin_of n.tree.decls ≡ decls_with origin_of (change_nth x.decl change x.at.source.tree.decls)
+  pub decls-are : decls_with origin_of n.tree.decls ≡ decls_with origin_of (change_nth x.decl change x.at.source.tree.decls)
   decls-are = λ v. (n.origins_are v).decls
 
   abbrev Declare : SourceTree At → SourceTree At → Type 0

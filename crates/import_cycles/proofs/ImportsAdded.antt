@@ -43,10 +43,10 @@ module _ {S : Type 0} (ps : List (Package S)) (n : List ℕ) where
   name-without (p ∷ rs) path = λ v. if bytes_eq path p.path then p.name else name-without rs path v
 
   module _ (qs : List (Package S)) (h : PackagesBeside ps qs) where
-    names-stay : (path : List ℕ) → package_name qs path ≡ package_name ps path
+    pub names-stay : (path : List ℕ) → package_name qs path ≡ package_name ps path
     names-stay path = sym (name-without qs path) ∙ names-of-packages (alike-without ps qs h) path ∙ name-without ps path
 
-    path-stays : (ss : List (ImportSpec S)) → import_path qs ss n ≡ import_path ps ss n
+    pub path-stays : (ss : List (ImportSpec S)) → import_path qs ss n ≡ import_path ps ss n
     path-stays [] = refl
     path-stays (s ∷ ss) = λ v. if bytes_eq (name_or s.name (names-stay s.path v)) n then Some s.path else path-stays ss v
 
@@ -90,7 +90,7 @@ module _ (marks : List MarkRef) (st : Standing) (l : Logged) (after : Standing) 
   reads-itself : (f : SourceTree At) → Reads f f
   reads-itself f k d e m i = path-stays st.packages m mid beside (import_specs f.tree)
 
-  reads-added : Reads x.at.source (record x.at.source { tree = file_added n.found })
+  pub reads-added : Reads x.at.source (record x.at.source { tree = file_added n.found })
   reads-added k d e m i =
       (λ v. import_path mid (specs-of-both x.at.source.tree.imports (added_decls n.found.range (imports_added n.found.named)) v) m)
       ∙ path-in-both mid m (import_specs x.at.source.tree) (specs_in (added_decls n.found.range (imports_added n.found.named))) (new k d e m i)

@@ -11,3 +11,5 @@ pub mod ImportsAdded
 mod Example
 pub mod HeadersMoved
 pub mod WorldMoved
+pub mod CallsSame
+pub mod DeclSame

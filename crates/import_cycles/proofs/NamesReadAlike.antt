@@ -22,7 +22,9 @@ use Rattle.cycle_laws.proofs.DeclRead.{calls_decl, decl-bare, decl-led}
 use Rattle.cycle_laws.specs.PutSteps.{ReadCallsAlikeIn}
 use Rattle.import_cycles.specs.NamesRead.{MarksStay, AllRead}
 use Rattle.import_cycles.specs.OtherImports.{PackagesBeside, IdentifiersRead}
+use Rattle.same_worlds.specs.SameWorlds.{SameWorld}
 use Rattle.import_cycles.proofs.CallsMoved.{E}
+use Rattle.import_cycles.proofs.DeclSame.{decl-same}
 use Rattle.import_cycles.proofs.DeclMoved.{D, f, q, same-callees, fine, decl-moved}
 use Rattle.import_cycles.proofs.BesideStay.{marks-stay, places-stay}
 
@@ -42,7 +44,7 @@ past-blank members before (i ∷ is) rest last n e = by (is_blank i.name) refl (
     by true g k = k
     by false g k = (λ v. if other g (bytes_eq i.name n) refl v then Some (import_entity (import_sound members before i) i.of) else means (more ++ rest ++ last) n) ∙ k
 
-module _ (marks : List MarkRef) (ps qs : List (Package At)) (h : PackagesBeside ps qs) (declared : world qs ≡ world ps) (reads : IdentifiersRead ps qs) where
+module _ (marks : List MarkRef) (ps qs : List (Package At)) (h : PackagesBeside ps qs) (declared : SameWorld (world qs) (world ps)) (reads : IdentifiersRead ps qs) where
   abbrev s : MarksStay ps qs marks
   s = marks-stay ps qs h declared reads marks
 
@@ -52,7 +54,8 @@ module _ (marks : List MarkRef) (ps qs : List (Package At)) (h : PackagesBeside 
   pub identifiers-read-alike : ReadCallsAlikeIn marks ps qs
   identifiers-read-alike a w v hw hv d e stands k =
       decl-led qs marks v a.decl v.number v.of v.source.tree e
-      ∙ (λ x. calls_decl (same-callees marks ps qs w v s x) (declared x) v.number js e)
+      ∙ (λ x. calls_decl (same-callees marks ps qs w v s x) (world qs) v.number js e)
+      ∙ decl-same (E (D marks ps qs w v s) (f marks ps qs w v s) (q marks ps qs w v s) refl) (world qs) (world ps) declared v.number js e
       ∙ (λ x. calls_decl (E (D marks ps qs w v s) (f marks ps qs w v s) (q marks ps qs w v s) refl) (world ps) (same x) js e)
       ∙ sym (decl-moved (D marks ps qs w v s) (f marks ps qs w v s) (q marks ps qs w v s) refl (world ps) w.number is js blank e (fine marks ps qs w v s (decl_identifiers e) (top_env ps w.number w.of w.source.tree) (js ++ block_of (world ps).blocks w.number ++ universe) here))
       ∙ sym (decl-bare (callees ps marks w) (world ps) w.number is e)

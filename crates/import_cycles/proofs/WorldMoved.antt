@@ -8,12 +8,12 @@ use Rattle.go_types.specs.Answers.{is_among}
 use Rattle.go_types.specs.Entities.{Entity, World, block_of, universe}
 use Rattle.go_types.specs.Programs as typed
 use Rattle.go_types.specs.Programs.{Headed, all_headers, names_in, is_init, import_entity, file_block, headed_files, headed}
-use Rattle.go_types.specs.Collect.{types_declared, aliased_world, typed_world, valued_world, alias_entity, good_entity, type_declared, declared_by, DeclaredTypes}
+use Rattle.go_types.specs.Collect.{types_declared, aliased_world, typed_world, valued_world, alias_entity, good_entity, type_declared, declared_by, DeclaredTypes, collected}
 use Rattle.typed_in_place.specs.ProgramsAlike.{OneByOne, no_more, and_more, SameHeader, SameMethod, SameNumbers, DeclareAlike}
 use Rattle.typed_in_place.proofs.Collected.{same_collected}
 use Rattle.typed_in_place.proofs.ImportsMoved.{alias-moved, good-moved, type_declared-moved, declared-moved, method-moved, header-moved}
 use Rattle.typed_in_place.proofs.ProgramsReplaced.{one_by_one, append_one}
-use Rattle.run_rules.specs.Programs.{linked_imports, linked_file, linked_package, linked_packages, linked, world}
+use Rattle.run_rules.specs.Programs.{linked_imports, linked_file, linked_package, linked_packages, in_dependency_order, world}
 use Rattle.import_cycles.specs.OtherImports.{PackagesBeside, import_path, FileUnder, PackageUnder, SameOrder}
 use Rattle.import_cycles.proofs.NamesReadAlike.{past-blank}
 use Rattle.import_cycles.proofs.ImportPaths.{by-path}
@@ -93,29 +93,38 @@ module _ {S : Type 0} (ps qs : List (Package S)) (h : PackagesBeside ps qs) wher
   same-declared : (ds : DeclaredTypes) (w : World) (x k : Headed S) → HeaderMoved x k → Declare ds w x k
   same-declared ds w x k r = subst (λ z. Declare ds w x z) (sym r.same) (declared-moved w r.imports x (r.moved w) ds)
 
-  module _ (order : SameOrder ps qs) where
-    aliases : (w : World) → OneByOne (λ x k. alias_entity w x ≡ alias_entity w k) (headed (linked ps)) (headed (linked qs))
+  module _ (xs ys : List (ℕ × Package S)) (order : OneByOne (PackageUnder ps qs) xs ys) where
+    abbrev before : typed.Program S
+    before = linked_packages ps xs
+
+    abbrev after : typed.Program S
+    after = linked_packages qs ys
+
+    aliases : (w : World) → OneByOne (λ x k. alias_entity w x ≡ alias_entity w k) (headed before) (headed after)
     aliases w = one_by_one (λ x k r. alias-moved w r.imports x (r.moved w) ∙ ap (alias_entity w) (sym r.same)) (all-moved order)
 
-    good : (ds : DeclaredTypes) (w : World) → OneByOne (λ x k. good_entity ds w x ≡ good_entity ds w k) (headed (linked ps)) (headed (linked qs))
+    good : (ds : DeclaredTypes) (w : World) → OneByOne (λ x k. good_entity ds w x ≡ good_entity ds w k) (headed before) (headed after)
     good ds w = one_by_one (λ x k r. good-moved w r.imports x (r.moved w) ds ∙ ap (good_entity ds w) (sym r.same)) (all-moved order)
 
-    declare : (ds : DeclaredTypes) (w : World) → OneByOne (Declare ds w) (headed (linked ps)) (headed (linked qs))
+    declare : (ds : DeclaredTypes) (w : World) → OneByOne (Declare ds w) (headed before) (headed after)
     declare ds w = one_by_one {R = HeaderMoved} {Q = Declare ds w} (same-declared ds w) (all-moved order)
 
-    alike : DeclareAlike (linked ps) (linked qs)
+    alike : DeclareAlike before after
     alike = record {
       numbers = numbers order;
-      headers = one_by_one (λ x k r. same-header x k r (world ps)) (all-moved order);
-      aliases_before = aliases (aliased_world (linked ps) (headed (linked ps)));
-      aliases_after = aliases (aliased_world (linked qs) (headed (linked qs)));
-      defined = one_by_one (λ x k r. type_declared-moved (aliased_world (linked ps) (headed (linked ps))) r.imports x (r.moved (aliased_world (linked ps) (headed (linked ps)))) ∙ ap (type_declared (aliased_world (linked ps) (headed (linked ps)))) (sym r.same)) (all-moved order);
-      good_before = good (types_declared (linked ps) (headed (linked ps))) (typed_world (linked ps) (headed (linked ps)));
-      good_after = good (types_declared (linked qs) (headed (linked qs))) (typed_world (linked qs) (headed (linked qs)));
-      declared_before = declare (types_declared (linked ps) (headed (linked ps))) (valued_world (linked ps) (headed (linked ps)));
-      declared_after = declare (types_declared (linked qs) (headed (linked qs))) (valued_world (linked qs) (headed (linked qs)));
-      methods = one_by_one (λ x k r. same-method x k r (valued_world (linked ps) (headed (linked ps)))) (all-moved order);
+      headers = one_by_one (λ x k r. same-header x k r (collected before)) (all-moved order);
+      aliases_before = aliases (aliased_world before (headed before));
+      aliases_after = aliases (aliased_world after (headed after));
+      defined = one_by_one (λ x k r. type_declared-moved (aliased_world before (headed before)) r.imports x (r.moved (aliased_world before (headed before))) ∙ ap (type_declared (aliased_world before (headed before))) (sym r.same)) (all-moved order);
+      good_before = good (types_declared before (headed before)) (typed_world before (headed before));
+      good_after = good (types_declared after (headed after)) (typed_world after (headed after));
+      declared_before = declare (types_declared before (headed before)) (valued_world before (headed before));
+      declared_after = declare (types_declared after (headed after)) (valued_world after (headed after));
+      methods = one_by_one (λ x k r. same-method x k r (valued_world before (headed before))) (all-moved order);
     }
 
-    pub world-moved : world qs ≡ world ps
-    world-moved = sym (same_collected (linked ps) (linked qs) alike)
+    pub collected-moved : collected after ≡ collected before
+    collected-moved = sym (same_collected before after alike)
+
+  pub world-moved : SameOrder ps qs → world qs ≡ world ps
+  world-moved order = collected-moved (in_dependency_order ps) (in_dependency_order qs) order

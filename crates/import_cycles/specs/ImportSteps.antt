@@ -13,6 +13,7 @@ use Rattle.run_rules.specs.Cycles.{is_recursive}
 use Rattle.run_rules.specs.Run.{Standing, Logged, Next}
 use Rattle.cycle_laws.specs.PutCalls.{GivesWayAmong, mark_there, called_among}
 use Rattle.step_cycles.specs.PackagesAlike.{DeclAlike}
+use Rattle.same_worlds.specs.SameWorlds.{SameWorld}
 use Rattle.import_cycles.specs.OtherImports.{IdentifiersRead, import_path}
 
 -- the file of a use with the imports that its form adds, before the form is put
@@ -78,7 +79,7 @@ KeepsNames {st = st} n =
 pub record SettlesImports {marks : List MarkRef} {st : Standing} {l : Logged} {after : Standing}
     (n : Next marks st l after) : Type 0 where
   pub added : IdentifiersRead st.packages (packages_added st.packages n.found)
-  pub added_declare : world (packages_added st.packages n.found) ≡ world st.packages
+  pub added_declare : SameWorld (world (packages_added st.packages n.found)) (world st.packages)
   pub names : DeclaresAlike n
   pub calls :
       (d : Decl At) → slice_get n.found.site.at.source.tree.decls n.found.site.decl ≡ Some d
@@ -87,5 +88,5 @@ pub record SettlesImports {marks : List MarkRef} {st : Standing} {l : Logged} {a
       (calls_added marks st.packages n.found (decl_put st.packages n.found d))
       (calls_added marks st.packages n.found d)
   pub settled : IdentifiersRead (packages_added st.packages n.found) after.packages
-  pub settled_declare : world after.packages ≡ world (packages_added st.packages n.found)
+  pub settled_declare : SameWorld (world after.packages) (world (packages_added st.packages n.found))
   pub off : is_recursive st.packages marks n.found.site.mark ≡ true → ⊥

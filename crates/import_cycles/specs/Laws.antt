@@ -16,6 +16,7 @@ use Rattle.run_rules.specs.Cycles.{is_recursive}
 use Rattle.run_rules.specs.Run.{Standing, Logged, Next}
 use Rattle.cycle_laws.specs.PutCalls.{called_among}
 use Rattle.cycle_laws.specs.PutSteps.{ReadCallsAlikeIn}
+use Rattle.same_worlds.specs.SameWorlds.{SameWorld}
 use Rattle.import_cycles.specs.NamesRead.{AllRead, MarksStay}
 use Rattle.import_cycles.specs.ImportSteps.{packages_added, AddsNewNames, DeclaresAlike, KeepsNames, SettlesImports}
 use Rattle.import_cycles.specs.OtherImports.{PackagesBeside, PackagesSame, IdentifiersRead, ImportsRead, SameOrder}
@@ -30,10 +31,10 @@ BodiesCallAlike =
     ≡ called_among before marks w at (stmts_seen p b)
 
 -- Programs that differ by what their files import, and by what their declarations hold, read calls alike where
--- declarations stand, if each identifier of these means the same, and all that they declare has the same types.
+-- declarations stand, if each identifier of these means the same, and what they declare is found the same.
 abbrev pub OtherImportsReadAlike : Type 0
 OtherImportsReadAlike =
-    (marks : List MarkRef) (ps qs : List (Package At)) → PackagesBeside ps qs → world qs ≡ world ps
+    (marks : List MarkRef) (ps qs : List (Package At)) → PackagesBeside ps qs → SameWorld (world qs) (world ps)
     → IdentifiersRead ps qs → ReadCallsAlikeIn marks ps qs
 
 -- An identifier means the same where it is the name of the same import of its file as before, or of none.
@@ -63,7 +64,7 @@ OtherImportsDeclareTheSame =
 -- Where the same declarations stand in both, the same marked functions lie on cycles.
 abbrev pub OtherImportsKeepCycles : Type 0
 OtherImportsKeepCycles =
-    (marks : List MarkRef) (ps qs : List (Package At)) → PackagesSame ps qs → world qs ≡ world ps
+    (marks : List MarkRef) (ps qs : List (Package At)) → PackagesSame ps qs → SameWorld (world qs) (world ps)
     → IdentifiersRead ps qs → (m : MarkRef) → is_recursive ps marks m ≡ is_recursive qs marks m
 
 -- A step that adds and removes imports keeps which marked functions lie on a cycle, where identifiers mean what they

@@ -4,4 +4,4 @@
 
 mod laws;
 
-pub use laws::other_imports_call_alike;
+pub use laws::{imports_by_their_names, other_imports_call_alike, other_imports_keep_cycles};
