@@ -27,6 +27,10 @@ use Rattle.run_rules.specs.Surroundings.{Use, into_type, elem_use, key_use, into
 use Rattle.run_rules.specs.Sites.{MarkRef}
 use Rattle.cycle_laws.proofs.Called.{Callees, at_member, home_of_method, called_by, callee, member_or, meaning_past, env_lit, bound_lit, first_bound, range_bound, after_bound, more_bound, calls_expr, calls_all, calls_option, calls_elems, calls_key, calls_value, calls_stmt, calls_stmts, calls_first, calls_block, calls_left, calls_arms, calls_cases, calls_constants, calls_variables}
 
+module _ (left right : World) (same : SameWorld left right) where
+  key_use-same : (a : Env) (u : Option GoType) → key_use (at left a) u ≡ key_use (at right a) u
+  key_use-same a u = λ v. into_or (given u (λ t. key_type-same left right same t v))
+
 module _ (D : Callees) (left right : World) (same : SameWorld left right) where
   module _ {S : Type 0} where
     field-set-same : (a : Env) (i : ℕ) (k : ValueOption S) (fs : GoFields) → field_set (at left a) i k fs ≡ field_set (at right a) i k fs
@@ -35,9 +39,6 @@ module _ (D : Callees) (left right : World) (same : SameWorld left right) where
 
     elem_use-same : (a : Env) (u : Option GoType) (i : ℕ) (k : ValueOption S) → elem_use (at left a) u i k ≡ elem_use (at right a) u i k
     elem_use-same a u i k = λ v. into_or (given u (λ u. elim (fields_of u) as (λ r. Option GoType) [ Some fs ↦ field-set-same a i k fs v | None ↦ inner_type-same left right same u v ]))
-
-    key_use-same : (a : Env) (u : Option GoType) → key_use (at left a) u ≡ key_use (at right a) u
-    key_use-same a u = λ v. into_or (given u (λ t. key_type-same left right same t v))
 
     method-same : (a : Env) (d : Expr S) (n : List ℕ) → home_of_method (at left a) d n ≡ home_of_method (at right a) d n
     method-same a d n = λ v. given (given (given (parts-same left right same a d v) typed) (λ x. Some x.0)) (λ t. if is_some (field_type-same left right same a.home n t v) then None else type_name_of (otherwise (base_of t) t))
@@ -95,7 +96,7 @@ module _ (D : Callees) (left right : World) (same : SameWorld left right) where
 
       pub calls_key-same : (x1 : Env) (x2 : List (List ℕ)) (x3 : Option GoType) (x4 : ValueOption S) → calls_key D (at left x1) x2 x3 x4 ≡ calls_key D (at right x1) x2 x3 x4
       calls_key-same env b u no_value = λ point. []
-      calls_key-same env b u (some_value v) = λ point. if meets u is_struct then [] else (calls_value-same env b (key_use-same env u point) v point)
+      calls_key-same env b u (some_value v) = λ point. if meets u is_struct then [] else (calls_value-same env b (key_use-same left right same env u point) v point)
 
       pub calls_value-same : (x1 : Env) (x2 : List (List ℕ)) (x3 : Use) (x4 : Value S) → calls_value D (at left x1) x2 x3 x4 ≡ calls_value D (at right x1) x2 x3 x4
       calls_value-same env b u (plain d) = λ point. calls_expr-same env b d point

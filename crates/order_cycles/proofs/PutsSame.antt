@@ -23,7 +23,11 @@ use Rattle.run_rules.specs.Respanned.{value_with}
 use Rattle.cycle_laws.proofs.Called.{at_member, env_lit}
 use Rattle.order_cycles.proofs.Puts.{Putting, put_name, put_names, put_label, put_written, put_sig, put_expr, put_all, put_option, put_elems, put_key, put_value, put_stmt, put_stmts, put_first, put_block, put_last, put_left, put_arms, put_cases, put_constants, put_variables}
 
-module _ (left right : World) (same : SameWorld left right) {S : Type 0} (to : S → S) (form : Putting S) where
+module _ (left right : World) (same : SameWorld left right) where
+  key_use-same : (a : Env) (u : Option GoType) → key_use (at left a) u ≡ key_use (at right a) u
+  key_use-same a u = λ point. into_or (given u (λ t. key_type-same left right same t point))
+
+module _ (left right : World) (same : SameWorld left right) {S : Type 0} where
   field-set-same : (a : Env) (i : ℕ) (q : ValueOption S) (fs : GoFields) → field_set (at left a) i q fs ≡ field_set (at right a) i q fs
   field-set-same a i no_value fs = refl
   field-set-same a i (some_value y) fs = refl
@@ -31,9 +35,7 @@ module _ (left right : World) (same : SameWorld left right) {S : Type 0} (to : S
   elem_use-same : (a : Env) (u : Option GoType) (i : ℕ) (q : ValueOption S) → elem_use (at left a) u i q ≡ elem_use (at right a) u i q
   elem_use-same a u i q = λ point. into_or (given u (λ u. elim (fields_of u) as (λ r. Option GoType) [ Some fs ↦ field-set-same a i q fs point | None ↦ inner_type-same left right same u point ]))
 
-  key_use-same : (a : Env) (u : Option GoType) → key_use (at left a) u ≡ key_use (at right a) u
-  key_use-same a u = λ point. into_or (given u (λ t. key_type-same left right same t point))
-
+module _ (left right : World) (same : SameWorld left right) {S : Type 0} (to : S → S) (form : Putting S) where
   literal-same : (a : Env) (x : Sig S) (y : Stmts S)
       → put_stmts to form (at left a) y ≡ put_stmts to form (at right a) y
       → ((bs : Binds) → put_stmts to form (at left (extend bs (in_block a))) y ≡ put_stmts to form (at right (extend bs (in_block a))) y)
@@ -74,11 +76,11 @@ module _ (left right : World) (same : SameWorld left right) {S : Type 0} (to : S
 
     pub put_elems-same : (x1 : Env) (x2 : Option GoType) (x3 : ℕ) (x4 : Elems S) → put_elems to form (at left x1) x2 x3 x4 ≡ put_elems to form (at right x1) x2 x3 x4
     put_elems-same env u i no_elems = λ point. no_elems
-    put_elems-same env u i (elem s q v es) = λ point. elem (to s) (put_key-same env u q point) (put_value-same env (elem_use-same env u i q point) v point) (put_elems-same env u (suc i) es point)
+    put_elems-same env u i (elem s q v es) = λ point. elem (to s) (put_key-same env u q point) (put_value-same env (elem_use-same left right same env u i q point) v point) (put_elems-same env u (suc i) es point)
 
     pub put_key-same : (x1 : Env) (x2 : Option GoType) (x3 : ValueOption S) → put_key to form (at left x1) x2 x3 ≡ put_key to form (at right x1) x2 x3
     put_key-same env u no_value = λ point. no_value
-    put_key-same env u (some_value v) = λ point. some_value (if meets u is_struct then value_with to v else (put_value-same env (key_use-same env u point) v point))
+    put_key-same env u (some_value v) = λ point. some_value (if meets u is_struct then value_with to v else (put_value-same env (key_use-same left right same env u point) v point))
 
     pub put_value-same : (x1 : Env) (x2 : Use) (x3 : Value S) → put_value to form (at left x1) x2 x3 ≡ put_value to form (at right x1) x2 x3
     put_value-same env u (plain e) = λ point. plain (put_expr-same env e point)
