@@ -2,5 +2,5 @@ pub mod GraphImports
 mod StepImports
 mod PlacesBound
 mod IdentifiersWith
-mod StepNames
+pub mod StepNames
 pub mod NamesNeeded

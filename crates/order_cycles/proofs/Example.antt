@@ -7,7 +7,7 @@
 -- stands before h afterwards.
 use Rattle.std.specs.Prelude.{◌≡◌, ℕ, zero, suc, true, false, ◌==◌, List, [], ◌∷◌, Some, None, codes, slice_get}
 use Rattle.std.specs.List.{list_any}
-use Rattle.std.proofs.Common.{refl, sym, ap, ◌∙◌, subst, absurd, arith}
+use Rattle.std.proofs.Common.{refl, sym, ap, ◌∙◌, subst, arith}
 use Rattle.std.proofs.lemmas.Option.{same_Some}
 use Rattle.go_tree.specs.Tree.{NameAt, named, Expr, ident, selector, int_lit, no_exprs, expr_and, const_decl, return_, no_stmts, stmt_and, no_specs, spec}
 use Rattle.go_tree.specs.File.{ImportDecl, Decl, values, File}
@@ -25,7 +25,7 @@ use Rattle.run_rules.proofs.Instances.{the}
 use Rattle.constant_cycles.proofs.Examples.{node}
 use Rattle.typed_in_place.specs.ProgramsAlike.{OneByOne, no_more, and_more}
 use Rattle.step_cycles.specs.PackagesAlike.{DeclAlike}
-use Rattle.step_cycles.proofs.StepAlike.{file-itself}
+use Rattle.typed_in_place.proofs.ProgramsReplaced.{each_one}
 use Rattle.same_worlds.specs.SameWorlds.{SameWorld}
 use Rattle.import_cycles.specs.OtherImports.{PackagesBeside, import_path}
 use Rattle.import_cycles.specs.ImportSteps.{file_added, packages_added, where_added, decl_put}
@@ -134,12 +134,12 @@ under =
 
 beside : PackagesBeside between after
 beside =
-    and_more (record { path = refl; name = refl; files = and_more itself no_more })
-    (and_more (record { path = refl; name = refl; files = and_more itself no_more })
-    (and_more (record { path = refl; name = refl; files = and_more itself no_more }) no_more))
+    and_more (record { path = refl; name = refl; files = and_more (itself _) no_more })
+    (and_more (record { path = refl; name = refl; files = and_more (itself _) no_more })
+    (and_more (record { path = refl; name = refl; files = and_more (itself _) no_more }) no_more))
   where
-    itself : {f : SourceTree At} → OneByOne DeclAlike f.tree.decls f.tree.decls
-    itself {f = f} = (file-itself f).decls
+    itself : (ds : List (Decl At)) → OneByOne DeclAlike ds ds
+    itself ds = each_one (λ d. record { names = refl; functions = λ i. refl }) ds
 
 -- what the packages declare is found the same
 declared : SameWorld (world after) (world between)
@@ -147,12 +147,12 @@ declared = orders-declare between after beside under all-between all-after
 
 -- ---- and yet it isn't listed in the same order
 
-second-number : List (ℕ × Environment Entity) → ℕ
+abbrev second-number : List (ℕ × Environment Entity) → ℕ
 second-number (a ∷ b ∷ bs) = b.0
 second-number bs = 0
 
 listed-apart : world after ≡ world between → ⊥
-listed-apart e = let n : 2 ≡ 1 = ap (λ (w : World). second-number w.blocks) e in absurd (omega (arith, n))
+listed-apart e = let n : ◌≡◌ {A = ℕ} 2 1 = ap (λ (w : World). second-number w.blocks) e in cc
 
 -- ---- the step puts its form as it does with the import added, and has names by their paths
 

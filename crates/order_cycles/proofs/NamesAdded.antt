@@ -105,6 +105,7 @@ module _ (ps : List (Package At)) (w : Where At) (p : Place At) where
         by true e = names-stay ps n qs h (package_path ps q) ∙ paths q ∙ sym ((bytes_eq-Decides n (own_name ps q)).0 e)
 
     among : (m : List ℕ) (ns : List (List ℕ)) → In m ns → is_among ns m ≡ true
+    among m [] i = elim i [ ]
     among m (n ∷ ns) head = (λ v. (bytes_eq-Decides m m).1 refl v || list_any (bytes_eq m) ns)
     among m (n ∷ ns) (tail i) = (λ v. bytes_eq m n || among m ns i v) ∙ last (bytes_eq m n)
       where

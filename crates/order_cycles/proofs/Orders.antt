@@ -29,22 +29,22 @@ module _ {S : Type 0} where
     where
       same : j ≡ n
       same = omega (arith, e)
-  item-at j (suc i) n (p ∷ ps) e = by (nat_eq j n) refl
+  item-at j (suc i) n (p ∷ ps) e = by (item-at (suc j) i n ps (omega (arith, e))) (nat_eq j n) refl
     where
-      by : (b : Bool) → nat_eq j n ≡ b → (if b then Some p else item (numbered_from (suc j) ps) n) ≡ slice_get ps i
-      by true g = let s : j ≡ n = nat_same j n g in absurd (omega (arith, e, s))
-      by false g = item-at (suc j) i n ps (omega (arith, e))
+      by : item (numbered_from (suc j) ps) n ≡ slice_get ps i → (b : Bool) → nat_eq j n ≡ b → (if b then Some p else item (numbered_from (suc j) ps) n) ≡ slice_get ps i
+      by r true g = let s : j ≡ n = nat_same j n g in absurd (omega (arith, e, s))
+      by r false g = r
 
   item-of : (ps : List (Package S)) (k : ℕ) → item (numbered ps) k ≡ slice_get ps k
   item-of ps k = item-at 0 k k ps (omega arith)
 
   none-before : (n c j : ℕ) (ps : List (Package S)) → j ≡ suc (n + c) → item (numbered_from j ps) n ≡ None
   none-before n c j [] e = refl
-  none-before n c j (p ∷ ps) e = by (nat_eq j n) refl
+  none-before n c j (p ∷ ps) e = by (none-before n (suc c) (suc j) ps (omega (arith, e))) (nat_eq j n) refl
     where
-      by : (b : Bool) → nat_eq j n ≡ b → (if b then Some p else item (numbered_from (suc j) ps) n) ≡ None
-      by true g = let s : j ≡ n = nat_same j n g in absurd (omega (arith, e, s))
-      by false g = none-before n (suc c) (suc j) ps (omega (arith, e))
+      by : item (numbered_from (suc j) ps) n ≡ None → (b : Bool) → nat_eq j n ≡ b → (if b then Some p else item (numbered_from (suc j) ps) n) ≡ None
+      by r true g = let s : j ≡ n = nat_same j n g in absurd (omega (arith, e, s))
+      by r false g = r
 
   distinct-from : (j : ℕ) (ps : List (Package S)) → Distinct (numbered_from j ps)
   distinct-from j [] = tt
@@ -93,64 +93,64 @@ module _ {S : Type 0} (ps : List (Package S)) where
 
   any-more : (k : ℕ) (xs ys : List ℕ) → list_any (λ j. j == k) xs ≡ true → list_any (λ j. j == k) (xs ++ ys) ≡ true
   any-more k [] ys e = cc
-  any-more k (x ∷ xs) ys e = by (x == k) e
+  any-more k (x ∷ xs) ys e = by (any-more k xs ys) (x == k) e
     where
-      by : (b : Bool) → (b || list_any (λ j. j == k) xs) ≡ true → (b || list_any (λ j. j == k) (xs ++ ys)) ≡ true
-      by true e = refl
-      by false e = any-more k xs ys e
+      by : (list_any (λ j. j == k) xs ≡ true → list_any (λ j. j == k) (xs ++ ys) ≡ true) → (b : Bool) → (b || list_any (λ j. j == k) xs) ≡ true → (b || list_any (λ j. j == k) (xs ++ ys)) ≡ true
+      by r true e = refl
+      by r false e = r e
 
   any-last : (k : ℕ) (xs : List ℕ) → list_any (λ j. j == k) (xs ++ k ∷ []) ≡ true
   any-last k [] = (λ z. nat_self k z || false)
-  any-last k (x ∷ xs) = by (x == k)
+  any-last k (x ∷ xs) = by (any-last k xs) (x == k)
     where
-      by : (b : Bool) → (b || list_any (λ j. j == k) (xs ++ k ∷ [])) ≡ true
-      by true = refl
-      by false = any-last k xs
+      by : list_any (λ j. j == k) (xs ++ k ∷ []) ≡ true → (b : Bool) → (b || list_any (λ j. j == k) (xs ++ k ∷ [])) ≡ true
+      by r true = refl
+      by r false = r
 
   -- what is placed doesn't come again
   not-again : (n : ℕ) (placed : List ℕ) (k : ℕ) → list_any (λ j. j == k) placed ≡ true → item (ordered_after ps n placed) k ≡ None
   not-again zero placed k e = refl
-  not-again (suc n) placed k e = by (least_ready ps placed (numbered ps)) (least-found placed (numbered ps) numbered-found)
+  not-again (suc n) placed k e = by (λ more h. not-again n more k h) (least_ready ps placed (numbered ps)) (least-found placed (numbered ps) numbered-found)
     where
-      other : (q : ℕ × Package S) → is_ready ps placed q ≡ true → (b : Bool) → nat_eq q.0 k ≡ b → (if b then Some q.1 else item (ordered_after ps n (placed ++ q.0 ∷ [])) k) ≡ None
-      other q r true g = let c : true ≡ false = sym e ∙ (λ z. list_any (λ j. j == sym (nat_same q.0 k g) z) placed) ∙ is-open placed q r in cc
-      other q r false g = not-again n (placed ++ q.0 ∷ []) k (any-more k placed (q.0 ∷ []) e)
+      other : ((more : List ℕ) → list_any (λ j. j == k) more ≡ true → item (ordered_after ps n more) k ≡ None) → (q : ℕ × Package S) → is_ready ps placed q ≡ true → (b : Bool) → nat_eq q.0 k ≡ b → (if b then Some q.1 else item (ordered_after ps n (placed ++ q.0 ∷ [])) k) ≡ None
+      other i q r true g = let c : true ≡ false = sym e ∙ (λ z. list_any (λ j. j == sym (nat_same q.0 k g) z) placed) ∙ is-open placed q r in cc
+      other i q r false g = i (placed ++ q.0 ∷ []) (any-more k placed (q.0 ∷ []) e)
 
-      by : (o : Option (ℕ × Package S)) → Found placed o → item (elim o as (λ r. List (ℕ × Package S)) [ None ↦ [] | Some q ↦ q ∷ ordered_after ps n (placed ++ q.0 ∷ []) ]) k ≡ None
-      by None f = refl
-      by (Some q) f = other q f.1 (nat_eq q.0 k) refl
+      by : ((more : List ℕ) → list_any (λ j. j == k) more ≡ true → item (ordered_after ps n more) k ≡ None) → (o : Option (ℕ × Package S)) → Found placed o → item (elim o as (λ r. List (ℕ × Package S)) [ None ↦ [] | Some q ↦ q ∷ ordered_after ps n (placed ++ q.0 ∷ []) ]) k ≡ None
+      by i None f = refl
+      by i (Some q) f = other i q f.1 (nat_eq q.0 k) refl
 
   ordered-distinct : (n : ℕ) (placed : List ℕ) → Distinct (ordered_after ps n placed)
   ordered-distinct zero placed = tt
-  ordered-distinct (suc n) placed = by (least_ready ps placed (numbered ps))
+  ordered-distinct (suc n) placed = by (ordered-distinct n) (least_ready ps placed (numbered ps))
     where
-      by : (o : Option (ℕ × Package S)) → Distinct (elim o as (λ r. List (ℕ × Package S)) [ None ↦ [] | Some q ↦ q ∷ ordered_after ps n (placed ++ q.0 ∷ []) ])
-      by None = tt
-      by (Some q) = (not-again n (placed ++ q.0 ∷ []) q.0 (any-last q.0 placed), ordered-distinct n (placed ++ q.0 ∷ []))
+      by : ((more : List ℕ) → Distinct (ordered_after ps n more)) → (o : Option (ℕ × Package S)) → Distinct (elim o as (λ r. List (ℕ × Package S)) [ None ↦ [] | Some q ↦ q ∷ ordered_after ps n (placed ++ q.0 ∷ []) ])
+      by i None = tt
+      by i (Some q) = (not-again n (placed ++ q.0 ∷ []) q.0 (any-last q.0 placed), i (placed ++ q.0 ∷ []))
 
   ordered-found : (n : ℕ) (placed : List ℕ) → AllFound (ordered_after ps n placed)
   ordered-found zero placed = tt
-  ordered-found (suc n) placed = by (least_ready ps placed (numbered ps)) (least-found placed (numbered ps) numbered-found)
+  ordered-found (suc n) placed = by (ordered-found n) (least_ready ps placed (numbered ps)) (least-found placed (numbered ps) numbered-found)
     where
-      by : (o : Option (ℕ × Package S)) → Found placed o → AllFound (elim o as (λ r. List (ℕ × Package S)) [ None ↦ [] | Some q ↦ q ∷ ordered_after ps n (placed ++ q.0 ∷ []) ])
-      by None f = tt
-      by (Some q) f = (f.0, ordered-found n (placed ++ q.0 ∷ []))
+      by : ((more : List ℕ) → AllFound (ordered_after ps n more)) → (o : Option (ℕ × Package S)) → Found placed o → AllFound (elim o as (λ r. List (ℕ × Package S)) [ None ↦ [] | Some q ↦ q ∷ ordered_after ps n (placed ++ q.0 ∷ []) ])
+      by i None f = tt
+      by i (Some q) f = (f.0, i (placed ++ q.0 ∷ []))
 
   found-item : (xs : List (ℕ × Package S)) → AllFound xs → (k : ℕ) (p : Package S) → item xs k ≡ Some p → item (numbered ps) k ≡ Some p
   found-item [] f k p e = cc
-  found-item (x ∷ xs) f k p e = by (nat_eq x.0 k) refl e
+  found-item (x ∷ xs) f k p e = by (found-item xs f.1 k p) (nat_eq x.0 k) refl e
     where
-      by : (b : Bool) → nat_eq x.0 k ≡ b → (if b then Some x.1 else item xs k) ≡ Some p → item (numbered ps) k ≡ Some p
-      by true g h = (λ z. item (numbered ps) (sym (nat_same x.0 k g) z)) ∙ f.0 ∙ h
-      by false g h = found-item xs f.1 k p h
+      by : (item xs k ≡ Some p → item (numbered ps) k ≡ Some p) → (b : Bool) → nat_eq x.0 k ≡ b → (if b then Some x.1 else item xs k) ≡ Some p → item (numbered ps) k ≡ Some p
+      by i true g h = (λ z. item (numbered ps) (sym (nat_same x.0 k g) z)) ∙ f.0 ∙ h
+      by i false g h = i h
 
   among-item : (xs : List (ℕ × Package S)) (k : ℕ) → list_any (λ j. j == k) (numbers_of xs) ≡ true → item xs k ≡ None → true ≡ false
   among-item [] k e h = sym e
-  among-item (x ∷ xs) k e h = by (nat_eq x.0 k) e h
+  among-item (x ∷ xs) k e h = by (among-item xs k) (nat_eq x.0 k) e h
     where
-      by : (b : Bool) → (b || list_any (λ j. j == k) (numbers_of xs)) ≡ true → (if b then Some x.1 else item xs k) ≡ None → true ≡ false
-      by true e h = cc
-      by false e h = among-item xs k e h
+      by : (list_any (λ j. j == k) (numbers_of xs) ≡ true → item xs k ≡ None → true ≡ false) → (b : Bool) → (b || list_any (λ j. j == k) (numbers_of xs)) ≡ true → (if b then Some x.1 else item xs k) ≡ None → true ≡ false
+      by i true e h = cc
+      by i false e h = i e h
 
   module _ (all : AllOrdered ps) where
     same-found : (k : ℕ) → item (in_dependency_order ps) k ≡ item (numbered ps) k
@@ -177,7 +177,7 @@ module _ {S : Type 0} (ps : List (Package S)) where
   one-linked a [] r = r
   one-linked a (f ∷ fs) r = same_first _ r
 
-  two-linked : (a b : ℕ × Package S) (fs gs : List (SourceTree S)) (xs : List (SourcePackage S)) → nat_eq a.0 b.0 ≡ false → Reordered (linked_package ps a fs ++ linked_package ps b gs ++ xs) (linked_package ps b gs ++ linked_package ps a fs ++ xs)
+  two-linked : (a b : ℕ × Package S) (fs gs : List (SourceTree S)) (xs : List (SourcePackage S)) → nat_eq a.0 b.0 ≡ false → Reordered (linked_package ps a fs ++ (linked_package ps b gs ++ xs)) (linked_package ps b gs ++ (linked_package ps a fs ++ xs))
   two-linked a b [] gs xs e = reordered-itself (linked_package ps b gs ++ xs)
   two-linked a b (f ∷ fs) [] xs e = reordered-itself (linked_package ps a (f ∷ fs) ++ xs)
   two-linked a b (f ∷ fs) (g ∷ gs) xs e = swapped _ _ xs e

@@ -20,6 +20,11 @@ pub record Putting (S : Type 0) : Type 0 where
   pub type : TypeExpr S → TypeExpr S
   pub stmt : Stmt S → Option (Stmt S)
 
+-- what names mean in the last block of an `if`, after the statements before its tests
+abbrev pub arms_env : {S : Type 0} → Env → Arms S → Env
+arms_env env no_arms = env
+arms_env env (arm _ i _ _ _ r) = arms_env (in_block (first_env env i)) r
+
 module _ {S : Type 0} (to : S → S) where
   abbrev pub put_name : NameAt S → NameAt S
   put_name n = record { span = to n.span; name = n.name }
@@ -92,7 +97,7 @@ module _ {S : Type 0} (to : S → S) where
       put_stmt env (break_ s n) = otherwise (form.stmt (break_ s n)) (break_ (to s) (put_label n))
       put_stmt env (continue_ s n) = otherwise (form.stmt (continue_ s n)) (continue_ (to s) (put_label n))
       put_stmt env (inner s b) = otherwise (form.stmt (inner s b)) (inner (to s) (put_stmts (in_block env) b))
-      put_stmt env (if_ s bs z) = otherwise (form.stmt (if_ s bs z)) (if_ (to s) (put_arms (in_block env) bs) (put_last (in_block env) bs z))
+      put_stmt env (if_ s bs z) = otherwise (form.stmt (if_ s bs z)) (if_ (to s) (put_arms (in_block env) bs) (put_block (arms_env (in_block env) bs) z))
       put_stmt env (for_ s i t q z b) = otherwise (form.stmt (for_ s i t q z b)) (for_ (to s) (put_first (in_block env) i) (put_option (first_env (in_block env) i) t) (put_first (first_env (in_block env) i) q) (to z) (put_stmts (in_block (first_env (in_block env) i)) b))
       put_stmt env (range_ s x e z b) = otherwise (form.stmt (range_ s x e z b)) (range_ (to s) (put_left env x) (put_expr env e) (to z) (put_stmts (in_block (range_env env x e)) b))
       put_stmt env (switch s i t cs) = otherwise (form.stmt (switch s i t cs)) (switch (to s) (put_first (in_block env) i) (put_option (first_env (in_block env) i) t) (put_cases (first_env (in_block env) i) cs))
@@ -110,11 +115,6 @@ module _ {S : Type 0} (to : S → S) where
       pub put_block : Env → BlockOption S → BlockOption S
       put_block env no_block = no_block
       put_block env (some_block s b) = some_block (to s) (put_stmts (in_block env) b)
-
-      -- the last block of an `if`, after the statements before its tests
-      pub put_last : Env → Arms S → BlockOption S → BlockOption S
-      put_last env no_arms b = put_block env b
-      put_last env (arm _ i _ _ _ r) b = put_last (in_block (first_env env i)) r b
 
       pub put_left : Env → RangeLeft S → RangeLeft S
       put_left env nothing = nothing

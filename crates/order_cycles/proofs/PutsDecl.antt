@@ -39,19 +39,19 @@ use Rattle.order_cycles.proofs.PutsMoved.{fine-first, fine-second, fine-kept, on
 -- ---- what a form puts in a use's place doesn't look at places
 
 module _ {S : Type 0} (same : S → S → Bool) (z : S) where
-  expr_for : Form S → Expr S → Option (Expr S)
+  abbrev pub expr_for : Form S → Expr S → Option (Expr S)
   expr_for (as_expr e) x = if is_at same z x then Some e else None
   expr_for (as_dropped e) x = None
   expr_for (as_block b) x = None
   expr_for (as_type t) x = None
 
-  type_for : Form S → TypeExpr S → TypeExpr S
+  abbrev pub type_for : Form S → TypeExpr S → TypeExpr S
   type_for (as_type new) t = type_replaced same z new t
   type_for (as_expr e) t = t
   type_for (as_dropped e) t = t
   type_for (as_block b) t = t
 
-  stmt_for : Form S → Stmt S → Option (Stmt S)
+  abbrev pub stmt_for : Form S → Stmt S → Option (Stmt S)
   stmt_for (as_dropped e) (eval y x) = if is_at same z x then Some (assign y (expr_and (ident y blank) no_exprs) None (expr_and e no_exprs)) else None
   stmt_for (as_block b) (eval y x) = if is_at same z x then Some (inner y b) else None
   stmt_for (as_block b) (return_ y (expr_and x no_exprs)) = if is_at same z x then Some (inner y b) else None

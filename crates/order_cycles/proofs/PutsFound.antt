@@ -10,7 +10,7 @@ use Rattle.go_types.specs.Entities.{Env, defined_in}
 use Rattle.go_types.specs.TypeNames.{type_meant, func_type}
 use Rattle.go_types.specs.Literals.{is_struct, literal_type}
 use Rattle.go_types.specs.Typing.{parts, all_parts}
-use Rattle.run_rules.specs.Surroundings.{Use, whole, stored, updated, called, deferred_call, alone, other, a_slot, Place, alike, into_type, head_use, later_uses, arg_uses, unary_use, operand_use, first_operand_use, right_uses, every_use, value_use, return_uses, elem_use, key_use, inner_slot, last_slot, in_slot, callee_place, comma_slot, elem_closed, after_stmt, after_first, block, looping, switching, in_heading, at_stmt, plain_slot, ranged, in_literal, repeated_by, in_constant, after_constants, before_repeats, after_variables}
+use Rattle.run_rules.specs.Surroundings.{Use, Slot, whole, stored, updated, called, deferred_call, alone, other, a_slot, Place, alike, into_type, head_use, later_uses, arg_uses, unary_use, operand_use, first_operand_use, right_uses, every_use, value_use, return_uses, elem_use, key_use, inner_slot, last_slot, in_slot, callee_place, comma_slot, elem_closed, after_stmt, after_first, block, looping, switching, in_heading, at_stmt, plain_slot, ranged, in_literal, repeated_by, in_constant, after_constants, before_repeats, after_variables}
 use Rattle.run_rules.specs.Places.{after_arms}
 use Rattle.run_rules.specs.Respanned.{value_with}
 use Rattle.run_rules.specs.Rewriting.{Changes, new_written, new_params, new_sig, new_expr, new_all, new_option, new_elems, new_key, new_value, new_stmt, new_stmts, new_first, new_block, new_left, new_arms, new_cases, new_constants, new_variables}
@@ -18,13 +18,21 @@ use Rattle.go_types.specs.Bodies.{labelled, literal_env, body_ctx}
 use Rattle.go_types.specs.Declarations.{Repeated, nothing_to_repeat}
 use Rattle.scope_names.specs.Scopes.{sig_declares}
 use Rattle.cycle_laws.proofs.Called.{env_lit}
-use Rattle.order_cycles.proofs.Puts.{Putting, put_name, put_names, put_label, put_written, put_params, put_sig, put_expr, put_all, put_option, put_elems, put_key, put_value, put_stmt, put_stmts, put_first, put_block, put_last, put_left, put_arms, put_cases, put_constants, put_variables}
+use Rattle.order_cycles.proofs.Puts.{Putting, arms_env, put_name, put_names, put_label, put_written, put_params, put_sig, put_expr, put_all, put_option, put_elems, put_key, put_value, put_stmt, put_stmts, put_first, put_block, put_left, put_arms, put_cases, put_constants, put_variables}
 
 -- the changes don't look at places
 pub record Placeless {S : Type 0} (c : Changes S) (form : Putting S) : Type 0 where
   pub expr : (p : Place S) (u : Use) (x : Expr S) → c.expr p u x ≡ form.expr x
   pub type : (p : Place S) (t : TypeExpr S) → c.type p t ≡ form.type t
   pub stmt : (p : Place S) (s : Stmt S) → c.stmt p s ≡ form.stmt s
+
+callee-env : {S : Type 0} → (s : Slot) (f : Expr S) (p : Place S) → (callee_place s f p).env ≡ p.env
+callee-env s (func_lit _ _ _ _) p = refl
+callee-env s f p = refl
+
+arms-env : {S : Type 0} → (p : Place S) (bs : Arms S) → (after_arms p bs).env ≡ arms_env p.env bs
+arms-env p no_arms = refl
+arms-env p (arm _ i _ _ _ r) = arms-env (block (after_first p i)) r
 
 module _ {S : Type 0} (c : Changes S) (form : Putting S) (h : Placeless c form) where
   pub written-found : (p : Place S) (t : Option (TypeExpr S)) → new_written c p t ≡ put_written c.span form t
@@ -69,7 +77,7 @@ module _ {S : Type 0} (c : Changes S) (form : Putting S) (h : Placeless c form) 
     expr-found p u (selector s b n) = λ point. otherwise (h.expr p u (selector s b n) point) (selector (c.span s) (expr-found (in_slot (inner_slot p.slot (selector s b n) 7 false true) p) other b point) (put_name c.span n))
     expr-found p u (index s b i) = λ point. otherwise (h.expr p u (index s b i) point) (index (c.span s) (expr-found (in_slot (inner_slot p.slot (index s b i) 7 false false) p) other b point) (expr-found (in_slot (a_slot 1 false false) p) other i point))
     expr-found p u (slice s b i j) = λ point. otherwise (h.expr p u (slice s b i j) point) (slice (c.span s) (expr-found (in_slot (inner_slot p.slot (slice s b i j) 7 false false) p) other b point) (option-found (in_slot (a_slot 1 false false) p) i point) (option-found (in_slot (a_slot 1 false false) p) j point))
-    expr-found p u (call s f xs r) = λ point. otherwise (h.expr p u (call s f xs r) point) (call (c.span s) (expr-found (callee_place (inner_slot p.slot (call s f xs r) 7 true false) f p) called f point) (all-found (in_slot (a_slot 1 false true) p) (arg_uses p.env (parts p.env f) (all_parts p.env xs)) xs point) r)
+    expr-found p u (call s f xs r) = λ point. otherwise (h.expr p u (call s f xs r) point) (call (c.span s) ((expr-found (callee_place (inner_slot p.slot (call s f xs r) 7 true false) f p) called f ∙ ap (λ e. put_expr c.span form e f) (callee-env (inner_slot p.slot (call s f xs r) 7 true false) f p)) point) (all-found (in_slot (a_slot 1 false true) p) (arg_uses p.env (parts p.env f) (all_parts p.env xs)) xs point) r)
     expr-found p u (func_lit s g z b) = λ point. otherwise (h.expr p u (func_lit s g z b) point) (func_lit (c.span s) (sig-found p g point) (c.span z) ((stmts-found (in_literal p g) b ∙ ap (λ e. put_stmts c.span form e b) (lit-env p g)) point))
     expr-found p u (type_operand s t) = λ point. otherwise (h.expr p u (type_operand s t) point) (type_operand (c.span s) (h.type p t point))
     expr-found p u (unary s o e) = λ point. otherwise (h.expr p u (unary s o e) point) (unary (c.span s) o (expr-found (in_slot (last_slot p.slot (unary s o e) 6 (Some o)) p) (unary_use o) e point))
@@ -109,7 +117,7 @@ module _ {S : Type 0} (c : Changes S) (form : Putting S) (h : Placeless c form) 
     stmt-found p l (break_ s n) = λ point. otherwise (h.stmt p (break_ s n) point) (break_ (c.span s) (put_label c.span n))
     stmt-found p l (continue_ s n) = λ point. otherwise (h.stmt p (continue_ s n) point) (continue_ (c.span s) (put_label c.span n))
     stmt-found p l (inner s b) = λ point. otherwise (h.stmt p (inner s b) point) (inner (c.span s) (stmts-found (block p) b point))
-    stmt-found p l (if_ s bs z) = λ point. otherwise (h.stmt p (if_ s bs z) point) (if_ (c.span s) (arms-found (block p) bs point) (last-found (block p) bs z point))
+    stmt-found p l (if_ s bs z) = λ point. otherwise (h.stmt p (if_ s bs z) point) (if_ (c.span s) (arms-found (block p) bs point) ((block-found (after_arms (block p) bs) z ∙ ap (λ e. put_block c.span form e z) (arms-env (block p) bs)) point))
     stmt-found p l (for_ s i t q z b) = λ point. otherwise (h.stmt p (for_ s i t q z b) point) (for_ (c.span s) (first-found (in_heading true (block p)) i point) (option-found (in_heading true (after_first (block p) i)) t point) (first-found (in_heading true (after_first (block p) i)) q point) (c.span z) (stmts-found (looping (block (after_first (block p) i))) b point))
     stmt-found p l (range_ s x e z b) = λ point. otherwise (h.stmt p (range_ s x e z b) point) (range_ (c.span s) (left-found (in_heading true p) x point) (expr-found (in_heading true p) other e point) (c.span z) (stmts-found (looping (block (ranged p x e))) b point))
     stmt-found p l (switch s i t cs) = λ point. otherwise (h.stmt p (switch s i t cs) point) (switch (c.span s) (first-found (in_heading true (block p)) i point) (option-found (in_heading true (after_first (block p) i)) t point) (cases-found (switching (after_first (block p) i)) cs point))
@@ -127,10 +135,6 @@ module _ {S : Type 0} (c : Changes S) (form : Putting S) (h : Placeless c form) 
     pub block-found : (p : Place S) (x : BlockOption S) → new_block c p x ≡ put_block c.span form p.env x
     block-found p no_block = λ point. no_block
     block-found p (some_block s b) = λ point. some_block (c.span s) (stmts-found (block p) b point)
-
-    last-found : (p : Place S) (bs : Arms S) (z : BlockOption S) → new_block c (after_arms p bs) z ≡ put_last c.span form p.env bs z
-    last-found p no_arms z = block-found p z
-    last-found p (arm _ i _ _ _ r) z = last-found (block (after_first p i)) r z
 
     pub left-found : (p : Place S) (x : RangeLeft S) → new_left c p x ≡ put_left c.span form p.env x
     left-found p nothing = λ point. nothing

@@ -24,17 +24,17 @@ use Rattle.go_types.proofs.Agreeing.{agrees_in_block, agrees_after, under_same}
 use Rattle.run_rules.specs.Respanned.{value_with}
 use Rattle.cycle_laws.proofs.Called.{at_member, env_lit}
 use Rattle.import_cycles.proofs.CallsMoved.{agrees-kept, agrees-in-member, type-alike, written-alike, elem-use-alike}
-use Rattle.order_cycles.proofs.Puts.{Putting, put_name, put_names, put_label, put_written, put_sig, put_expr, put_all, put_option, put_elems, put_key, put_value, put_stmt, put_stmts, put_first, put_block, put_last, put_left, put_arms, put_cases, put_constants, put_variables}
+use Rattle.order_cycles.proofs.Puts.{Putting, arms_env, put_name, put_names, put_label, put_written, put_sig, put_expr, put_all, put_option, put_elems, put_key, put_value, put_stmt, put_stmts, put_first, put_block, put_left, put_arms, put_cases, put_constants, put_variables}
 
 -- ---- names that mean the same
 
-fine-first : (xs ys : List (List ℕ)) (a : Env) (m : Environment Entity) → On (xs ++ ys) a m → On xs a m
+pub fine-first : (xs ys : List (List ℕ)) (a : Env) (m : Environment Entity) → On (xs ++ ys) a m → On xs a m
 fine-first xs ys a m h n i = h n (in-left n xs ys i)
 
-fine-second : (xs ys : List (List ℕ)) (a : Env) (m : Environment Entity) → On (xs ++ ys) a m → On ys a m
+pub fine-second : (xs ys : List (List ℕ)) (a : Env) (m : Environment Entity) → On (xs ++ ys) a m → On ys a m
 fine-second xs ys a m h n i = h n (in-right n xs ys i)
 
-fine-kept : (ns : List (List ℕ)) (bs : Binds) (a : Env) (m : Environment Entity) → On ns a m → On ns (extend bs a) (bs ++ m)
+pub fine-kept : (ns : List (List ℕ)) (bs : Binds) (a : Env) (m : Environment Entity) → On ns a m → On ns (extend bs a) (bs ++ m)
 fine-kept ns bs a m h n i = under_same n bs a.names m (h n i)
 
 fine-both : (xs ys : List (List ℕ)) (a : Env) (m : Environment Entity) → On xs a m → On ys a m → On (xs ++ ys) a m
@@ -44,11 +44,11 @@ fine-both xs ys a m h k n i = by (in-either n xs ys i)
     by (inl j) = h n j
     by (inr j) = k n j
 
-on-of : (xs ns : List (List ℕ)) (a : Env) (m : Environment Entity) → Within xs ns → On ns a m → On xs a m
+pub on-of : (xs ns : List (List ℕ)) (a : Env) (m : Environment Entity) → Within xs ns → On ns a m → On xs a m
 on-of xs ns a m u h n i = h n (u n i)
 
 -- what a spec repeats is typed alike
-record Again (a : Env) (m : Environment Entity) (r : Repeated) : Type 0 where
+pub record Again (a : Env) (m : Environment Entity) (r : Repeated) : Type 0 where
   pub names : List (List ℕ)
   pub fine : On names a m
   pub so : (k : Env) (l : Environment Entity) → Agrees [] k l → On names k l → (r.0 k ≡ r.0 (with_names k l)) × (r.1 k ≡ r.1 (with_names k l))
@@ -79,6 +79,14 @@ module _ {S : Type 0} where
 
   parts-fine : (a : Env) (m : Environment Entity) (d : Expr S) → Agrees [] a m → On (expr_identifiers d) a m → parts a d ≡ parts (with_names a m) d
   parts-fine a m d g h = parts-alike a d m [] g (on-of (free_expr [] d) (expr_identifiers d) a m (expr-in [] d) h)
+
+module _ {S : Type 0} {A : Type 0} (f : Env → A) (ns : List (List ℕ)) (f_so : (k : Env) (l : Environment Entity) → Agrees [] k l → On ns k l → f k ≡ f (with_names k l)) where
+  arms-moved : (a : Env) (x : Arms S) (m : Environment Entity) → Agrees [] a m → On (arms_identifiers x) a m → On ns a m → f (arms_env a x) ≡ f (arms_env (with_names a m) x)
+  arms-moved a no_arms m g h e = f_so a m g e
+  arms-moved a (arm s i t c y rest) m g h e =
+      let bs : Binds = binds_of (declared_option i) (declares_first a i) in let k : Env = extend bs a in let l : Environment Entity = bs ++ m in let u : Agrees [] k l = agrees-kept bs a m g in
+      arms-moved (in_block k) rest l (agrees_in_block u) (fine-kept (arms_identifiers rest) bs a m (fine-second (stmt_option_identifiers i ++ expr_identifiers t ++ stmts_identifiers y) (arms_identifiers rest) a m h)) (fine-kept ns bs a m e)
+      ∙ ap (λ d. f (arms_env (in_block (extend (binds_of (declared_option i) d) (with_names a m))) rest)) (declares_first-alike a i m [] g (on-of (free_stmt_option [] i) (stmt_option_identifiers i) a m (first-in [] i) (fine-first (stmt_option_identifiers i) (expr_identifiers t) a m (fine-first (stmt_option_identifiers i ++ expr_identifiers t) (stmts_identifiers y) a m (fine-first (stmt_option_identifiers i ++ expr_identifiers t ++ stmts_identifiers y) (arms_identifiers rest) a m h)))))
 
 module _ {S : Type 0} (to : S → S) (form : Putting S) where
   literal-put : (a : Env) (x : Sig S) (y : Stmts S) (m : Environment Entity)
@@ -145,7 +153,7 @@ module _ {S : Type 0} (to : S → S) (form : Putting S) where
     put_stmt-moved a (break_ s o) m g h = λ point. otherwise (form.stmt (break_ s o)) (break_ (to s) (put_label to o))
     put_stmt-moved a (continue_ s o) m g h = λ point. otherwise (form.stmt (continue_ s o)) (continue_ (to s) (put_label to o))
     put_stmt-moved a (inner s y) m g h = λ point. otherwise (form.stmt (inner s y)) (inner (to s) (put_stmts-moved (in_block a) y m (agrees_in_block g) h point))
-    put_stmt-moved a (if_ s bs z) m g h = λ point. otherwise (form.stmt (if_ s bs z)) (if_ (to s) (put_arms-moved (in_block a) bs m (agrees_in_block g) (fine-first (arms_identifiers bs) (block_option_identifiers z) a m h) point) (put_last-moved (in_block a) bs z m (agrees_in_block g) (fine-first (arms_identifiers bs) (block_option_identifiers z) a m h) (fine-second (arms_identifiers bs) (block_option_identifiers z) a m h) point))
+    put_stmt-moved a (if_ s bs z) m g h = λ point. otherwise (form.stmt (if_ s bs z)) (if_ (to s) (put_arms-moved (in_block a) bs m (agrees_in_block g) (fine-first (arms_identifiers bs) (block_option_identifiers z) a m h) point) (arms-moved (λ e. put_block to form e z) (block_option_identifiers z) (λ k l u r. put_block-moved k z l u r) (in_block a) bs m (agrees_in_block g) (fine-first (arms_identifiers bs) (block_option_identifiers z) a m h) (fine-second (arms_identifiers bs) (block_option_identifiers z) a m h) point))
     put_stmt-moved a (for_ s i t p z y) m g h = let bs : Binds = binds_of (declared_option i) (declares_first (in_block a) i) in let k : Env = extend bs (in_block a) in let l : Environment Entity = bs ++ m in let u : Agrees [] k l = agrees-kept bs (in_block a) m (agrees_in_block g) in (λ point. otherwise (form.stmt (for_ s i t p z y)) (for_ (to s) (put_first-moved (in_block a) i m (agrees_in_block g) (fine-first (stmt_option_identifiers i) (expr_option_identifiers t) a m (fine-first (stmt_option_identifiers i ++ expr_option_identifiers t) (stmt_option_identifiers p) a m (fine-first (stmt_option_identifiers i ++ expr_option_identifiers t ++ stmt_option_identifiers p) (stmts_identifiers y) a m h))) point) (put_option-moved k t l u (fine-kept (expr_option_identifiers t) bs (in_block a) m (fine-second (stmt_option_identifiers i) (expr_option_identifiers t) a m (fine-first (stmt_option_identifiers i ++ expr_option_identifiers t) (stmt_option_identifiers p) a m (fine-first (stmt_option_identifiers i ++ expr_option_identifiers t ++ stmt_option_identifiers p) (stmts_identifiers y) a m h)))) point) (put_first-moved k p l u (fine-kept (stmt_option_identifiers p) bs (in_block a) m (fine-second (stmt_option_identifiers i ++ expr_option_identifiers t) (stmt_option_identifiers p) a m (fine-first (stmt_option_identifiers i ++ expr_option_identifiers t ++ stmt_option_identifiers p) (stmts_identifiers y) a m h))) point) (to z) (put_stmts-moved (in_block k) y l (agrees_in_block u) (fine-kept (stmts_identifiers y) bs (in_block a) m (fine-second (stmt_option_identifiers i ++ expr_option_identifiers t ++ stmt_option_identifiers p) (stmts_identifiers y) a m h)) point))) ∙ ap (λ d. let k : Env = extend (binds_of (declared_option i) d) (in_block (with_names a m)) in otherwise (form.stmt (for_ s i t p z y)) (for_ (to s) (put_first to form (in_block (with_names a m)) i) (put_option to form k t) (put_first to form k p) (to z) (put_stmts to form (in_block k) y))) (declares_first-alike (in_block a) i m [] (agrees_in_block g) (on-of (free_stmt_option [] i) (stmt_option_identifiers i) (in_block a) m (first-in [] i) (fine-first (stmt_option_identifiers i) (expr_option_identifiers t) a m (fine-first (stmt_option_identifiers i ++ expr_option_identifiers t) (stmt_option_identifiers p) a m (fine-first (stmt_option_identifiers i ++ expr_option_identifiers t ++ stmt_option_identifiers p) (stmts_identifiers y) a m h)))))
     put_stmt-moved a (range_ s x d z y) m g h = let bs : Binds = binds_of (defined x) (range_declares a (parts a d) x) in let k : Env = extend bs (in_block a) in let l : Environment Entity = bs ++ m in let u : Agrees [] k l = agrees-kept bs (in_block a) m (agrees_in_block g) in (λ point. otherwise (form.stmt (range_ s x d z y)) (range_ (to s) (put_left-moved a x m g (fine-first (left_identifiers x) (expr_identifiers d) a m (fine-first (left_identifiers x ++ expr_identifiers d) (stmts_identifiers y) a m h)) point) (put_expr-moved a d m g (fine-second (left_identifiers x) (expr_identifiers d) a m (fine-first (left_identifiers x ++ expr_identifiers d) (stmts_identifiers y) a m h)) point) (to z) (put_stmts-moved (in_block k) y l (agrees_in_block u) (fine-kept (stmts_identifiers y) bs (in_block a) m (fine-second (left_identifiers x ++ expr_identifiers d) (stmts_identifiers y) a m h)) point))) ∙ ap (λ r. otherwise (form.stmt (range_ s x d z y)) (range_ (to s) (put_left to form (with_names a m) x) (put_expr to form (with_names a m) d) (to z) (put_stmts to form (in_block (extend (binds_of (defined x) r) (in_block (with_names a m)))) y))) (λ w. range_declares-alike a (parts-fine a m d g (fine-second (left_identifiers x) (expr_identifiers d) a m (fine-first (left_identifiers x ++ expr_identifiers d) (stmts_identifiers y) a m h)) w) x m [] g (on-of (free_left [] x) (left_identifiers x) a m (left-in [] x) (fine-first (left_identifiers x) (expr_identifiers d) a m (fine-first (left_identifiers x ++ expr_identifiers d) (stmts_identifiers y) a m h))) w)
     put_stmt-moved a (switch s i t cs) m g h = let bs : Binds = binds_of (declared_option i) (declares_first (in_block a) i) in let k : Env = extend bs (in_block a) in let l : Environment Entity = bs ++ m in let u : Agrees [] k l = agrees-kept bs (in_block a) m (agrees_in_block g) in (λ point. otherwise (form.stmt (switch s i t cs)) (switch (to s) (put_first-moved (in_block a) i m (agrees_in_block g) (fine-first (stmt_option_identifiers i) (expr_option_identifiers t) a m (fine-first (stmt_option_identifiers i ++ expr_option_identifiers t) (cases_identifiers cs) a m h)) point) (put_option-moved k t l u (fine-kept (expr_option_identifiers t) bs (in_block a) m (fine-second (stmt_option_identifiers i) (expr_option_identifiers t) a m (fine-first (stmt_option_identifiers i ++ expr_option_identifiers t) (cases_identifiers cs) a m h))) point) (put_cases-moved k cs l u (fine-kept (cases_identifiers cs) bs (in_block a) m (fine-second (stmt_option_identifiers i ++ expr_option_identifiers t) (cases_identifiers cs) a m h)) point))) ∙ ap (λ d. let k : Env = extend (binds_of (declared_option i) d) (in_block (with_names a m)) in otherwise (form.stmt (switch s i t cs)) (switch (to s) (put_first to form (in_block (with_names a m)) i) (put_option to form k t) (put_cases to form k cs))) (declares_first-alike (in_block a) i m [] (agrees_in_block g) (on-of (free_stmt_option [] i) (stmt_option_identifiers i) (in_block a) m (first-in [] i) (fine-first (stmt_option_identifiers i) (expr_option_identifiers t) a m (fine-first (stmt_option_identifiers i ++ expr_option_identifiers t) (cases_identifiers cs) a m h))))
@@ -179,15 +187,8 @@ module _ {S : Type 0} (to : S → S) (form : Putting S) where
 
     pub put_constants-moved : (a : Env) (r : Repeated) (i : ℕ) (x : ValueSpecs S) (m : Environment Entity) → Agrees [] a m → On (specs_identifiers x) a m → Again a m r → put_constants to form a r i x ≡ put_constants to form (with_names a m) r i x
     put_constants-moved a r i no_specs m g h y = λ point. no_specs
-    put_constants-moved a r i (spec s ns t es ss) m g h y = let again : Repeated = repeated_by r t es in let z : Again a m again = again-next a m r t es y (fine-both (type_option_identifiers t) (exprs_identifiers es) a m (fine-second (names_of ns) (type_option_identifiers t) a m (fine-first (names_of ns ++ type_option_identifiers t) (exprs_identifiers es) a m (fine-first (names_of ns ++ type_option_identifiers t ++ exprs_identifiers es) (specs_identifiers ss) a m h))) (fine-second (names_of ns ++ type_option_identifiers t) (exprs_identifiers es) a m (fine-first (names_of ns ++ type_option_identifiers t ++ exprs_identifiers es) (specs_identifiers ss) a m h))) in let here : Env = at_member i a in let bs : Binds = binds_of (names_of ns) (new_constants here (names_of ns) (again.0 a) (again.1 here)) in (λ point. spec (to s) (put_names to ns) (put_written to form t) (put_all-moved here es m (agrees-in-member i a m g) (fine-second (names_of ns ++ type_option_identifiers t) (exprs_identifiers es) a m (fine-first (names_of ns ++ type_option_identifiers t ++ exprs_identifiers es) (specs_identifiers ss) a m h)) point) (put_constants-moved (extend bs a) again (suc i) ss (bs ++ m) (agrees-kept bs a m g) (fine-kept (specs_identifiers ss) bs a m (fine-second (names_of ns ++ type_option_identifiers t ++ exprs_identifiers es) (specs_identifiers ss) a m h)) (again-kept bs a m again z) point)) ∙ ap (λ d. spec (to s) (put_names to ns) (put_written to form t) (put_all to form (at_member i (with_names a m)) es) (put_constants to form (extend (binds_of (names_of ns) d) (with_names a m)) (repeated_by r t es) (suc i) ss)) (λ w. new_constants here (names_of ns) ((z.so a m g (λ n j. (z.fine n j).0)).0 w) ((z.so here m (agrees-in-member i a m g) (λ n j. (z.fine n j).0)).1 w))
+    put_constants-moved a r i (spec s ns t es ss) m g h y = let again : Repeated = repeated_by r t es in let z : Again a m again = again-next a m r t es y (fine-both (type_option_identifiers t) (exprs_identifiers es) a m (fine-second (names_of ns) (type_option_identifiers t) a m (fine-first (names_of ns ++ type_option_identifiers t) (exprs_identifiers es) a m (fine-first (names_of ns ++ type_option_identifiers t ++ exprs_identifiers es) (specs_identifiers ss) a m h))) (fine-second (names_of ns ++ type_option_identifiers t) (exprs_identifiers es) a m (fine-first (names_of ns ++ type_option_identifiers t ++ exprs_identifiers es) (specs_identifiers ss) a m h))) in let here : Env = at_member i a in let bs : Binds = binds_of (names_of ns) (new_constants here (names_of ns) (again.0 a) (again.1 here)) in (λ point. spec (to s) (put_names to ns) (put_written to form t) (put_all-moved here es m (agrees-in-member i a m g) (fine-second (names_of ns ++ type_option_identifiers t) (exprs_identifiers es) a m (fine-first (names_of ns ++ type_option_identifiers t ++ exprs_identifiers es) (specs_identifiers ss) a m h)) point) (put_constants-moved (extend bs a) again (suc i) ss (bs ++ m) (agrees-kept bs a m g) (fine-kept (specs_identifiers ss) bs a m (fine-second (names_of ns ++ type_option_identifiers t ++ exprs_identifiers es) (specs_identifiers ss) a m h)) (again-kept bs a m again z) point)) ∙ ap (λ d. spec (to s) (put_names to ns) (put_written to form t) (put_all to form (at_member i (with_names a m)) es) (put_constants to form (extend (binds_of (names_of ns) d) (with_names a m)) (repeated_by r t es) (suc i) ss)) (λ w. new_constants here (names_of ns) ((z.so a m g (λ n j. z.fine n j)).0 w) ((z.so here m (agrees-in-member i a m g) (λ n j. z.fine n j)).1 w))
 
     pub put_variables-moved : (a : Env) (x : ValueSpecs S) (m : Environment Entity) → Agrees [] a m → On (specs_identifiers x) a m → put_variables to form a x ≡ put_variables to form (with_names a m) x
     put_variables-moved a no_specs m g h = λ point. no_specs
     put_variables-moved a (spec s ns t es ss) m g h = let bs : Binds = binds_of (names_of ns) (new_variables a (names_of ns) (written_type a t) (no_values es) (right_values a (length ns) (places a es) (all_parts a es))) in (λ point. spec (to s) (put_names to ns) (put_written to form t) (put_all-moved a es m g (fine-second (names_of ns ++ type_option_identifiers t) (exprs_identifiers es) a m (fine-first (names_of ns ++ type_option_identifiers t ++ exprs_identifiers es) (specs_identifiers ss) a m h)) point) (put_variables-moved (extend bs a) ss (bs ++ m) (agrees-kept bs a m g) (fine-kept (specs_identifiers ss) bs a m (fine-second (names_of ns ++ type_option_identifiers t ++ exprs_identifiers es) (specs_identifiers ss) a m h)) point)) ∙ ap (λ d. spec (to s) (put_names to ns) (put_written to form t) (put_all to form (with_names a m) es) (put_variables to form (extend (binds_of (names_of ns) d) (with_names a m)) ss)) (λ w. new_variables a (names_of ns) (written-alike a m g t (on-of (free_type_option [] t) (type_option_identifiers t) a m (written-in [] t) (fine-second (names_of ns) (type_option_identifiers t) a m (fine-first (names_of ns ++ type_option_identifiers t) (exprs_identifiers es) a m (fine-first (names_of ns ++ type_option_identifiers t ++ exprs_identifiers es) (specs_identifiers ss) a m h)))) w) (no_values es) (right_values a (length ns) (places-alike a es m [] g (on-of (free_exprs [] es) (exprs_identifiers es) a m (exprs-in [] es) (fine-second (names_of ns ++ type_option_identifiers t) (exprs_identifiers es) a m (fine-first (names_of ns ++ type_option_identifiers t ++ exprs_identifiers es) (specs_identifiers ss) a m h))) w) (all_parts-alike a es m [] g (on-of (free_exprs [] es) (exprs_identifiers es) a m (exprs-in [] es) (fine-second (names_of ns ++ type_option_identifiers t) (exprs_identifiers es) a m (fine-first (names_of ns ++ type_option_identifiers t ++ exprs_identifiers es) (specs_identifiers ss) a m h))) w)))
-
-    put_last-moved : (a : Env) (x : Arms S) (z : BlockOption S) (m : Environment Entity) → Agrees [] a m → On (arms_identifiers x) a m → On (block_option_identifiers z) a m → put_last to form a x z ≡ put_last to form (with_names a m) x z
-    put_last-moved a no_arms z m g h e = put_block-moved a z m g e
-    put_last-moved a (arm s i t c y rest) z m g h e =
-        let bs : Binds = binds_of (declared_option i) (declares_first a i) in let k : Env = extend bs a in let l : Environment Entity = bs ++ m in let u : Agrees [] k l = agrees-kept bs a m g in
-        put_last-moved (in_block k) rest z l (agrees_in_block u) (fine-kept (arms_identifiers rest) bs a m (fine-second (stmt_option_identifiers i ++ expr_identifiers t ++ stmts_identifiers y) (arms_identifiers rest) a m h)) (fine-kept (block_option_identifiers z) bs a m e)
-        ∙ ap (λ d. put_last to form (in_block (extend (binds_of (declared_option i) d) (with_names a m))) rest z) (declares_first-alike a i m [] g (on-of (free_stmt_option [] i) (stmt_option_identifiers i) a m (first-in [] i) (fine-first (stmt_option_identifiers i) (expr_identifiers t) a m (fine-first (stmt_option_identifiers i ++ expr_identifiers t) (stmts_identifiers y) a m (fine-first (stmt_option_identifiers i ++ expr_identifiers t ++ stmts_identifiers y) (arms_identifiers rest) a m h)))))

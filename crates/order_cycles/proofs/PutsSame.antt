@@ -21,7 +21,7 @@ use Rattle.same_worlds.proofs.TypingSame.{parts-same, all_parts-same, places-sam
 use Rattle.run_rules.specs.Surroundings.{Use, into_type, elem_use, key_use, into_or, field_set, repeated_by}
 use Rattle.run_rules.specs.Respanned.{value_with}
 use Rattle.cycle_laws.proofs.Called.{at_member, env_lit}
-use Rattle.order_cycles.proofs.Puts.{Putting, put_name, put_names, put_label, put_written, put_sig, put_expr, put_all, put_option, put_elems, put_key, put_value, put_stmt, put_stmts, put_first, put_block, put_last, put_left, put_arms, put_cases, put_constants, put_variables}
+use Rattle.order_cycles.proofs.Puts.{Putting, arms_env, put_name, put_names, put_label, put_written, put_sig, put_expr, put_all, put_option, put_elems, put_key, put_value, put_stmt, put_stmts, put_first, put_block, put_left, put_arms, put_cases, put_constants, put_variables}
 
 module _ (left right : World) (same : SameWorld left right) where
   key_use-same : (a : Env) (u : Option GoType) → key_use (at left a) u ≡ key_use (at right a) u
@@ -34,6 +34,11 @@ module _ (left right : World) (same : SameWorld left right) {S : Type 0} where
 
   elem_use-same : (a : Env) (u : Option GoType) (i : ℕ) (q : ValueOption S) → elem_use (at left a) u i q ≡ elem_use (at right a) u i q
   elem_use-same a u i q = λ point. into_or (given u (λ u. elim (fields_of u) as (λ r. Option GoType) [ Some fs ↦ field-set-same a i q fs point | None ↦ inner_type-same left right same u point ]))
+
+module _ (left right : World) (same : SameWorld left right) {S : Type 0} {A : Type 0} (f : Env → A) (h : (k : Env) → f (at left k) ≡ f (at right k)) where
+  arms-same : (env : Env) (bs : Arms S) → f (arms_env (at left env) bs) ≡ f (arms_env (at right env) bs)
+  arms-same env no_arms = h env
+  arms-same env (arm _ i _ _ _ r) = λ point. arms-same (in_block (extend (binds_of (declared_option i) (declares_first-same left right same env i point)) env)) r point
 
 module _ (left right : World) (same : SameWorld left right) {S : Type 0} (to : S → S) (form : Putting S) where
   literal-same : (a : Env) (x : Sig S) (y : Stmts S)
@@ -99,7 +104,7 @@ module _ (left right : World) (same : SameWorld left right) {S : Type 0} (to : S
     put_stmt-same env (break_ s n) = λ point. otherwise (form.stmt (break_ s n)) (break_ (to s) (put_label to n))
     put_stmt-same env (continue_ s n) = λ point. otherwise (form.stmt (continue_ s n)) (continue_ (to s) (put_label to n))
     put_stmt-same env (inner s b) = λ point. otherwise (form.stmt (inner s b)) (inner (to s) (put_stmts-same (in_block env) b point))
-    put_stmt-same env (if_ s bs z) = λ point. otherwise (form.stmt (if_ s bs z)) (if_ (to s) (put_arms-same (in_block env) bs point) (put_last-same (in_block env) bs z point))
+    put_stmt-same env (if_ s bs z) = λ point. otherwise (form.stmt (if_ s bs z)) (if_ (to s) (put_arms-same (in_block env) bs point) (arms-same left right same (λ e. put_block to form e z) (λ k. put_block-same k z) (in_block env) bs point))
     put_stmt-same env (for_ s i t q z b) = λ point. otherwise (form.stmt (for_ s i t q z b)) (for_ (to s) (put_first-same (in_block env) i point) (put_option-same (extend (binds_of (declared_option i) (declares_first-same left right same (in_block env) i point)) (in_block env)) t point) (put_first-same (extend (binds_of (declared_option i) (declares_first-same left right same (in_block env) i point)) (in_block env)) q point) (to z) (put_stmts-same (in_block (extend (binds_of (declared_option i) (declares_first-same left right same (in_block env) i point)) (in_block env))) b point))
     put_stmt-same env (range_ s x e z b) = λ point. otherwise (form.stmt (range_ s x e z b)) (range_ (to s) (put_left-same env x point) (put_expr-same env e point) (to z) (put_stmts-same (in_block (extend (binds_of (defined x) (range_declares-same left right same env (parts-same left right same env e point) x point)) (in_block env))) b point))
     put_stmt-same env (switch s i t cs) = λ point. otherwise (form.stmt (switch s i t cs)) (switch (to s) (put_first-same (in_block env) i point) (put_option-same (extend (binds_of (declared_option i) (declares_first-same left right same (in_block env) i point)) (in_block env)) t point) (put_cases-same (extend (binds_of (declared_option i) (declares_first-same left right same (in_block env) i point)) (in_block env)) cs point))
@@ -117,10 +122,6 @@ module _ (left right : World) (same : SameWorld left right) {S : Type 0} (to : S
     pub put_block-same : (x1 : Env) (x2 : BlockOption S) → put_block to form (at left x1) x2 ≡ put_block to form (at right x1) x2
     put_block-same env no_block = λ point. no_block
     put_block-same env (some_block s b) = λ point. some_block (to s) (put_stmts-same (in_block env) b point)
-
-    put_last-same : (x1 : Env) (x2 : Arms S) (x3 : BlockOption S) → put_last to form (at left x1) x2 x3 ≡ put_last to form (at right x1) x2 x3
-    put_last-same env no_arms b = put_block-same env b
-    put_last-same env (arm _ i _ _ _ r) b = λ point. put_last-same (in_block (extend (binds_of (declared_option i) (declares_first-same left right same env i point)) env)) r b point
 
     pub put_left-same : (x1 : Env) (x2 : RangeLeft S) → put_left to form (at left x1) x2 ≡ put_left to form (at right x1) x2
     put_left-same env nothing = λ point. nothing

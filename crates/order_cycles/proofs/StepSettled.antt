@@ -232,5 +232,5 @@ module _ (marks : List MarkRef) (st : Standing) (l : Logged) (after : Standing) 
   step-keeps m = imports-kept marks st l after n settles m
 
 pub runs-keep : (marks : List MarkRef) (st last : Standing) (log : List Logged) (run : Run marks st log last) → AllGiveWayAdded run → (m : MarkRef) → is_recursive st.packages marks m ≡ is_recursive last.packages marks m
-runs-keep marks st _ _ (ends st over) h m = refl
-runs-keep marks st last _ (goes_on st next last l log n run) h m = step-keeps marks st l next n h.0 m ∙ runs-keep marks next last log run h.1 m
+runs-keep marks _ _ _ (ends st over) h m = refl
+runs-keep marks _ _ _ (goes_on st next last l log n run) h m = step-keeps marks st l next n h.0 m ∙ runs-keep marks next last log run h.1 m

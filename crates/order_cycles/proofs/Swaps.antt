@@ -46,19 +46,19 @@ module _ {A : Type 0} where
 
   out-first : (k : ℕ) (a : A) (xs : List (ℕ × A)) → item xs k ≡ Some a → Swaps xs ((k, a) ∷ without k xs)
   out-first k a [] e = cc
-  out-first k a (x ∷ xs) e = by (nat_eq x.0 k) refl e
+  out-first k a (x ∷ xs) e = by (out-first k a xs) (nat_eq x.0 k) refl e
     where
-      by : (b : Bool) → nat_eq x.0 k ≡ b → (if b then Some x.1 else item xs k) ≡ Some a → Swaps (x ∷ xs) ((k, a) ∷ (if b then xs else x ∷ without k xs))
-      by true g h = subst (λ (y : ℕ × A). Swaps (x ∷ xs) (y ∷ xs)) (λ z. (nat_same x.0 k g z, same_Some x.1 a h z)) (swaps-itself (x ∷ xs))
-      by false g h = and_then (later_items x (out-first k a xs h)) (first_two x (k, a) (without k xs) g)
+      by : (item xs k ≡ Some a → Swaps xs ((k, a) ∷ without k xs)) → (b : Bool) → nat_eq x.0 k ≡ b → (if b then Some x.1 else item xs k) ≡ Some a → Swaps (x ∷ xs) ((k, a) ∷ (if b then xs else x ∷ without k xs))
+      by i true g h = subst (λ (y : ℕ × A). Swaps (x ∷ xs) (y ∷ xs)) (λ z. (nat_same x.0 k g z, same_Some x.1 a h z)) (swaps-itself (x ∷ xs))
+      by i false g h = and_then (later_items x (i h)) (first_two x (k, a) (without k xs) g)
 
   other-items : (k j : ℕ) (xs : List (ℕ × A)) → Distinct xs → item (without k xs) j ≡ (if nat_eq k j then None else item xs j)
   other-items k j [] d = by (nat_eq k j)
     where
-      by : (b : Bool) → None ≡ (if b then None else None)
+      by : (b : Bool) → ◌≡◌ {A = Option A} None (if b then None else None)
       by true = refl
       by false = refl
-  other-items k j (x ∷ xs) d = by (nat_eq x.0 k) refl (nat_eq k j) refl (nat_eq x.0 j) refl
+  other-items k j (x ∷ xs) d = by (other-items k j xs d.1) (nat_eq x.0 k) refl (nat_eq k j) refl (nat_eq x.0 j) refl
     where
       first-out : nat_eq x.0 k ≡ true → (c : Bool) → nat_eq k j ≡ c → item xs j ≡ (if c then None else (if nat_eq x.0 j then Some x.1 else item xs j))
       first-out g true h = (λ z. item xs (sym (nat_same x.0 k g ∙ nat_same k j h) z)) ∙ d.0
@@ -67,25 +67,25 @@ module _ {A : Type 0} where
       never : nat_eq x.0 k ≡ false → nat_eq k j ≡ true → nat_eq x.0 j ≡ true → true ≡ false
       never g h i = sym (nat_self x.0) ∙ (λ z. nat_eq x.0 ((nat_same x.0 j i ∙ sym (nat_same k j h)) z)) ∙ g
 
-      by : (b : Bool) → nat_eq x.0 k ≡ b → (c : Bool) → nat_eq k j ≡ c → (e : Bool) → nat_eq x.0 j ≡ e
+      by : item (without k xs) j ≡ (if nat_eq k j then None else item xs j) → (b : Bool) → nat_eq x.0 k ≡ b → (c : Bool) → nat_eq k j ≡ c → (e : Bool) → nat_eq x.0 j ≡ e
           → item (if b then xs else x ∷ without k xs) j ≡ (if c then None else (if nat_eq x.0 j then Some x.1 else item xs j))
-      by true g c h e i = first-out g c h
-      by false g true h true i = let n : true ≡ false = never g h i in cc
-      by false g true h false i = (λ z. if i z then Some x.1 else item (without k xs) j) ∙ other-items k j xs d.1 ∙ (λ z. if h z then None else item xs j)
-      by false g false h true i = (λ z. if i z then Some x.1 else item (without k xs) j) ∙ sym (λ z. if i z then Some x.1 else item xs j)
-      by false g false h false i = (λ z. if i z then Some x.1 else item (without k xs) j) ∙ other-items k j xs d.1 ∙ (λ z. if h z then None else item xs j) ∙ sym (λ z. if i z then Some x.1 else item xs j)
+      by r true g c h e i = first-out g c h
+      by r false g true h true i = let n : true ≡ false = never g h i in cc
+      by r false g true h false i = (λ z. if i z then Some x.1 else item (without k xs) j) ∙ r ∙ (λ z. if h z then None else item xs j)
+      by r false g false h true i = (λ z. if i z then Some x.1 else item (without k xs) j) ∙ sym (λ z. if i z then Some x.1 else item xs j)
+      by r false g false h false i = (λ z. if i z then Some x.1 else item (without k xs) j) ∙ r ∙ (λ z. if h z then None else item xs j) ∙ sym (λ z. if i z then Some x.1 else item xs j)
 
   still-distinct : (k : ℕ) (xs : List (ℕ × A)) → Distinct xs → Distinct (without k xs)
   still-distinct k [] d = tt
-  still-distinct k (x ∷ xs) d = by (nat_eq x.0 k)
+  still-distinct k (x ∷ xs) d = by (still-distinct k xs d.1) (nat_eq x.0 k)
     where
       none : (b : Bool) → (if b then None else item xs x.0) ≡ None
       none true = refl
       none false = d.0
 
-      by : (b : Bool) → Distinct (if b then xs else x ∷ without k xs)
-      by true = d.1
-      by false = (other-items k x.0 xs d.1 ∙ none (nat_eq k x.0), still-distinct k xs d.1)
+      by : Distinct (without k xs) → (b : Bool) → Distinct (if b then xs else x ∷ without k xs)
+      by r true = d.1
+      by r false = (other-items k x.0 xs d.1 ∙ none (nat_eq k x.0), r)
 
   -- Lists in which the same is looked up are in other orders.
   pub same-items : (xs ys : List (ℕ × A)) → Distinct xs → Distinct ys → ((k : ℕ) → item xs k ≡ item ys k) → Swaps xs ys
