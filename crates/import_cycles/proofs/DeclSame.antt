@@ -1,5 +1,5 @@
 -- What a declaration calls is read by look-ups alone: in two worlds in which the same is found it is the same.
-use Rattle.std.proofs.Common.{◌≡◌, refl, ℕ, suc, List, [], ◌∷◌, ◌++◌, Option, Some, None}
+use Rattle.std.proofs.Common.{◌≡◌, refl, ℕ, suc, [], ◌++◌, Option, Some, None}
 use Rattle.std.specs.Prelude.{nat_eq, is_none, ◌&&◌}
 use Rattle.go_tree.specs.Tree.{const_decl, var_decl, empty, eval, step, assign, define, return_, break_, continue_, inner, if_, for_, range_, switch, defer, label, ValueSpecs, no_specs, spec}
 use Rattle.go_tree.specs.File.{Receiver, Func, Decl, values, types, func}

@@ -1,5 +1,5 @@
 -- Steps over constants and aliases, with their imports added, put what gives way.
-use Rattle.std.proofs.Common.{◌≡◌, sym, ◌∙◌, subst, ℕ, true, false, List}
+use Rattle.std.proofs.Common.{◌≡◌, sym, subst, false, List}
 use Rattle.go_tree.specs.Tree.{TypeExpr, Expr}
 use Rattle.pkg_graph.specs.Package.{Package}
 use Rattle.go_types.specs.Answers.{meets}

@@ -7,7 +7,7 @@
 -- stands before h afterwards.
 use Rattle.std.specs.Prelude.{◌≡◌, ℕ, zero, suc, true, false, ◌==◌, List, [], ◌∷◌, Some, None, codes, slice_get}
 use Rattle.std.specs.List.{list_any}
-use Rattle.std.proofs.Common.{refl, sym, ap, ◌∙◌, subst, arith}
+use Rattle.std.proofs.Common.{refl, sym, ap, ◌∙◌, subst}
 use Rattle.std.proofs.lemmas.Option.{same_Some}
 use Rattle.go_tree.specs.Tree.{NameAt, named, Expr, ident, selector, int_lit, no_exprs, expr_and, const_decl, return_, no_stmts, stmt_and, no_specs, spec}
 use Rattle.go_tree.specs.File.{ImportDecl, Decl, values, File}

@@ -1,15 +1,13 @@
 -- The imports that a step adds have names that no identifier of its file has.
-use Rattle.std.proofs.Common.{◌≡◌, refl, sym, ◌∙◌, ap, subst, ℕ, suc, ◌+◌, ◌<◌, ◌^◌, Bool, true, false, not, ◌&&◌, ◌||◌, List, [], ◌∷◌, ◌++◌, map, length, Option, Some, None, if◌then◌else◌, arith}
+use Rattle.std.proofs.Common.{◌≡◌, refl, sym, ◌∙◌, subst, ℕ, suc, ◌+◌, ◌<◌, ◌^◌, Bool, true, false, not, ◌&&◌, ◌||◌, List, [], ◌∷◌, ◌++◌, map, length, Option, Some, None, if◌then◌else◌, arith}
 use Rattle.std.specs.Prelude.{slice_get, bytes_eq, codes, zero}
 use Rattle.std.specs.List.{list_any}
-use Rattle.std.proofs.lemmas.Bool.{not-true, and_parts}
 use Rattle.std.proofs.lemmas.List.{length-append}
 use Rattle.std.proofs.lemmas.Option.{same_Some}
 use Rattle.std.proofs.lemmas.Slice.Eq.{bytes_eq-Decides}
-use Rattle.go_tree.specs.Tree.{NameAt}
-use Rattle.go_tree.specs.File.{ImportSpec, ImportDecl, Decl}
+use Rattle.go_tree.specs.File.{Decl}
 use Rattle.go_words.specs.Tokens.Pieces.{is_among, keyword_spellings}
-use Rattle.scope_names.specs.Fresh.{is_new, IsFresh}
+use Rattle.scope_names.specs.Fresh.{is_new}
 use Rattle.scope_names.specs.Identifiers.{identifiers, imports_identifiers, decl_identifiers, decls_identifiers}
 use Rattle.scope_names.specs.Means.{predeclared}
 use Rattle.pkg_graph.specs.Package.{Package, specs_in}
@@ -20,7 +18,7 @@ use Rattle.go_types.specs.Agreement.{In, head, tail}
 use Rattle.run_rules.specs.Surroundings.{Place}
 use Rattle.run_rules.specs.Sites.{MarkRef, Where}
 use Rattle.run_rules.specs.Naming.{Named, fuel_for, fresh_name, package_path, own_name, names_here, environment_here, added_import, named_packages, name_added, imports_added}
-use Rattle.run_rules.specs.Steps.{At, same_here, spec_for, added_decls}
+use Rattle.run_rules.specs.Steps.{At, spec_for, added_decls}
 use Rattle.run_rules.specs.Run.{Standing, Logged, Next, is_commented}
 use Rattle.run_rules.proofs.NamesFound.{found_is_fresh}
 use Rattle.import_laws.specs.Steps.{binders_of}

@@ -1,7 +1,7 @@
 -- A form is put in a declaration as it is put with imports added to the file: where each identifier means the same, and
 -- what the packages declare is found the same.
-use Rattle.std.proofs.Common.{◌≡◌, refl, sym, ap, ◌∙◌, ℕ, suc, Bool, true, List, [], ◌∷◌, ◌++◌, map, Option, Some, None, if◌then◌else◌}
-use Rattle.std.specs.Prelude.{nat_eq, is_none, ◌&&◌, slice_get}
+use Rattle.std.proofs.Common.{◌≡◌, refl, ap, ◌∙◌, ℕ, suc, Bool, true, List, [], ◌∷◌, ◌++◌, map, Option, Some, None, if◌then◌else◌}
+use Rattle.std.specs.Prelude.{nat_eq, is_none, ◌&&◌}
 use Rattle.go_tree.specs.Tree.{NameAt, TypeExpr, named, pointer, slice_type, map_type, struct_type, Expr, expr_and, no_exprs, ident, Stmt, const_decl, var_decl, empty, eval, step, assign, define, return_, break_, continue_, inner, if_, for_, range_, switch, defer, label, ValueSpecs, no_specs, spec}
 use Rattle.go_tree.specs.File.{TypeSpec, Receiver, Func, Decl, values, types, func, File}
 use Rattle.scope_names.specs.FreeNames.{names_of, free_params}
@@ -17,7 +17,7 @@ use Rattle.go_types.specs.Programs.{file_env}
 use Rattle.go_types.specs.Bodies.{body_binds}
 use Rattle.go_types.specs.MethodDeclarations.{receiver_binds}
 use Rattle.go_types.specs.WellTyped.{receiver_of}
-use Rattle.go_types.specs.Agreement.{In, head, tail, Same, On, Agrees, with_names}
+use Rattle.go_types.specs.Agreement.{head, tail, Same, On, Agrees, with_names}
 use Rattle.typed_in_place.proofs.ImportsMoved.{func_type-moved}
 use Rattle.run_rules.specs.Surroundings.{Use, Place, alike, value_use, in_constant}
 use Rattle.run_rules.specs.Rewriting.{Changes}

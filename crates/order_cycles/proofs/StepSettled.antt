@@ -1,16 +1,14 @@
 -- A step that adds imports, puts its form and settles imports: with its imports added it declares what it declared, so
 -- with the form put, and so once the imports are settled.
-use Rattle.std.proofs.Common.{◌≡◌, refl, sym, ◌∙◌, subst, ℕ, zero, suc, ◌==◌, true, false, List, [], ◌∷◌, ◌++◌, map, Option, Some, None}
+use Rattle.std.proofs.Common.{◌≡◌, refl, sym, ◌∙◌, subst, ℕ, zero, suc, ◌==◌, true, false, List, [], ◌∷◌, ◌++◌, map, Option, Some}
 use Rattle.std.specs.Prelude.{slice_get}
 use Rattle.std.specs.List.{list_any}
 use Rattle.go_tree.specs.declared.spans.Span.{Span}
 use Rattle.go_tree.specs.File.{Decl, File}
 use Rattle.go_tree.specs.FileBare.{bare_decl}
-use Rattle.scope_names.specs.Identifiers.{decl_identifiers}
 use Rattle.pkg_graph.specs.Package.{SourceTree, Package, import_specs}
 use Rattle.pkg_graph.specs.Graph.{imports_of, files_import}
-use Rattle.go_types.specs.Agreement.{In}
-use Rattle.run_rules.specs.Programs.{numbered, numbers_of, in_dependency_order, dependency_order, top_place, decl_seen, world}
+use Rattle.run_rules.specs.Programs.{numbers_of, dependency_order, world}
 use Rattle.run_rules.specs.Rewriting.{Changes}
 use Rattle.run_rules.specs.Respanned.{decls_with}
 use Rattle.run_rules.specs.Sites.{MarkRef, Site, part_span}
@@ -20,8 +18,8 @@ use Rattle.run_rules.specs.Run.{Standing, Logged, Next, Run, ends, goes_on, here
 use Rattle.run_laws.proofs.FoundSpans.{Placed}
 use Rattle.typed_in_place.specs.ProgramsAlike.{OneByOne, no_more, and_more}
 use Rattle.typed_in_place.specs.ProgramReplaced.{at_last}
-use Rattle.typed_in_place.proofs.ProgramsReplaced.{each_one, one_by_one}
-use Rattle.cycle_laws.specs.PutCalls.{GivesWayAmong, mark_there, called_among}
+use Rattle.typed_in_place.proofs.ProgramsReplaced.{one_by_one}
+use Rattle.cycle_laws.specs.PutCalls.{GivesWayAmong, mark_there}
 use Rattle.cycle_laws.proofs.DeclCalls.{decl-kept}
 use Rattle.cycle_laws.proofs.StepsLead.{change-at}
 use Rattle.cycle_laws.proofs.BareWith as spans
@@ -29,13 +27,12 @@ use Rattle.same_worlds.specs.SameWorlds.{SameWorld}
 use Rattle.step_cycles.specs.PackagesAlike.{DeclAlike}
 use Rattle.step_cycles.proofs.AlikeStay.{OptionBy, neither, each, get-by}
 use Rattle.step_cycles.proofs.Orders.{NumberedBy, rows-by, order-by}
-use Rattle.step_cycles.proofs.StepAlike.{one-changed, both-changed, changed-alike, all-from-origins, file-itself, new-alike}
+use Rattle.step_cycles.proofs.StepAlike.{both-changed, changed-alike, all-from-origins, file-itself, new-alike}
 use Rattle.step_cycles.proofs.WorldStays.{receivers-stay, put-world, FileSpans, PackageSpans, spans-world}
-use Rattle.import_cycles.specs.OtherImports.{PackagesBeside, PackageBeside, import_path, FileUnder, PackageUnder}
+use Rattle.import_cycles.specs.OtherImports.{PackagesBeside, import_path, FileUnder}
 use Rattle.import_cycles.specs.ImportSteps.{file_added, packages_added, where_added, decl_put, DeclaresAlike, calls_added, SettlesImports}
-use Rattle.import_cycles.proofs.ImportStep.{twice, placed, added-same, put-beside, decls-are, imports-kept}
-use Rattle.import_cycles.proofs.LeadAlike.{same-beside}
-use Rattle.import_cycles.proofs.ImportsAdded.{path-stays, reads-added, new-names-read, settled-names-read}
+use Rattle.import_cycles.proofs.ImportStep.{twice, placed, put-beside, decls-are, imports-kept}
+use Rattle.import_cycles.proofs.ImportsAdded.{path-stays, new-names-read, settled-names-read}
 use Rattle.order_cycles.specs.Orders.{AllOrdered, PackagesUnder}
 use Rattle.order_cycles.specs.Steps.{site_added, PutsTheSame, GivesWayAdded, AllGiveWayAdded}
 use Rattle.order_cycles.proofs.Orders.{worlds-then, equal-worlds, orders-declare}

@@ -1,6 +1,6 @@
 -- The laws of what a step of a run keeps of the cycles of marked functions. Each is the contract of a function of this
 -- crate (Go specification, Import declarations; Declarations and scope; Calls; Program initialization).
-use Rattle.std.specs.Prelude.{◌≡◌, ℕ, false, List}
+use Rattle.std.specs.Prelude.{◌≡◌, false, List}
 use Rattle.go_tree.specs.Tree.{TypeExpr, Expr}
 use Rattle.pkg_graph.specs.Package.{Package}
 use Rattle.go_types.specs.Answers.{meets}

@@ -1,6 +1,6 @@
 -- What a step is asked that adds imports to the file of its use, puts its form there and removes imports (Go
 -- specification, Import declarations; Declarations and scope; Calls; Program initialization).
-use Rattle.std.specs.Prelude.{◌≡◌, ℕ, true, List, Some, slice_get}
+use Rattle.std.specs.Prelude.{◌≡◌, true, List, Some, slice_get}
 use Rattle.go_tree.specs.File.{Decl}
 use Rattle.pkg_graph.specs.Package.{Package}
 use Rattle.run_rules.specs.Programs.{decl_seen}

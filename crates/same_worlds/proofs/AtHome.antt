@@ -1,6 +1,6 @@
 -- What the headers of a program declare in a package is what those of the package declare, in their order.
 use Rattle.std.proofs.Common.{refl, sym, ◌∙◌, arith}
-use Rattle.std.specs.Prelude.{◌≡◌, ℕ, suc, Bool, true, false, not, ◌&&◌, ◌||◌, List, [], ◌∷◌, ◌++◌, length, Option, Some, None, if◌then◌else◌, bytes_eq, nat_eq}
+use Rattle.std.specs.Prelude.{◌≡◌, ℕ, Bool, true, false, not, ◌&&◌, ◌||◌, List, [], ◌∷◌, ◌++◌, Option, Some, None, if◌then◌else◌, bytes_eq, nat_eq}
 use Rattle.std.specs.List.{list_any}
 use Rattle.go_tree.specs.File.{TypeSpec, Receiver, Func}
 use Rattle.scope_names.specs.Means.{is_blank}

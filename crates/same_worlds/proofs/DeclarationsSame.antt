@@ -1,20 +1,16 @@
 -- What declarations bind is read by look-ups alone.
-use Rattle.std.proofs.Common.{refl}
 use Rattle.std.specs.Prelude.{◌≡◌}
-use Rattle.std.specs.Prelude.{ℕ, Bool, false, not, ◌&&◌, List, [], ◌∷◌, ◌++◌, map, Option, Some, None, bytes_eq, if◌then◌else◌, is_some}
-use Rattle.std.specs.List.{list_all}
-use Rattle.scope_names.specs.Means.{is_blank, binding}
-use Rattle.go_types.specs.Answers.{given, both, only_if, distinct_by, is_empty, is_among, without}
+use Rattle.std.specs.Prelude.{ℕ, Bool, false, ◌&&◌, List, [], ◌∷◌, ◌++◌, Option, Some, None, if◌then◌else◌, is_some}
+use Rattle.scope_names.specs.Means.{binding}
+use Rattle.go_types.specs.Answers.{given, both, only_if}
 use Rattle.go_types.specs.Types.{GoType, basic_kind}
-use Rattle.go_types.specs.Defined.{Defined, under}
-use Rattle.go_types.specs.Entities.{run, exact, shift, Entity, variable, constant, refused, Env, meaning, defined_in, Binds, is_declared_here}
-use Rattle.go_types.specs.Operands.{Operand, Typed, all_typed, fits, settled}
-use Rattle.go_types.specs.Declarations.{not_blank, names_once, may_declare, bound_names, no_names, constants_declared, variables_declared, some_declared, constant_entity, variable_entity, bind_all, bind_each, assigns_to, defined_by, new_constants, new_variables, new_by_define, Repeated, nothing_to_repeat, and_then, unused_after, binds_or, binds_of, beyond, all_used, Declared}
+use Rattle.go_types.specs.Entities.{run, exact, shift, Entity, variable, constant, Env, meaning, is_declared_here}
+use Rattle.go_types.specs.Operands.{Operand, Typed, all_typed}
+use Rattle.go_types.specs.Declarations.{names_once, may_declare, constants_declared, variables_declared, some_declared, constant_entity, variable_entity, bind_all, bind_each, assigns_to, defined_by, new_constants, new_variables, new_by_define}
 use Rattle.go_types.specs.Entities.{World}
 use Rattle.same_worlds.specs.SameWorlds.{SameWorld, at}
-use Rattle.same_worlds.proofs.DefinedSame.{under-same, methods-same, comparable-same, has_keys-same, exported-same}
-use Rattle.same_worlds.proofs.OperandsSame.{named_operand-same, kind_of-same, kind_passes-same, represented-same, fits-same, takes-same, takes_all-same, default_type-same, settled-same}
-use Rattle.same_worlds.proofs.RelationsSame.{has_kind-same, is_whole_number-same, is_string-same, is_truth-same, is_byte_slice-same, same_underlying-same, assignable-same, similar_pointers-same, becomes-same, convertible-same}
+use Rattle.same_worlds.proofs.DefinedSame.{under-same}
+use Rattle.same_worlds.proofs.OperandsSame.{fits-same, settled-same}
 
 module _ (left right : World) (same : SameWorld left right) where
   pub constant_entity-same : (x1 : Option GoType) (x2 : Typed) → constant_entity left.defined x1 x2 ≡ constant_entity right.defined x1 x2

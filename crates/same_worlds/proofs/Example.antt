@@ -2,7 +2,7 @@
 --   package 0: type A int
 --   package 1: type B int
 use Rattle.std.specs.Prelude.{◌≡◌, ℕ, false, List, [], ◌∷◌, None, codes}
-use Rattle.std.proofs.Common.{refl, ap, arith}
+use Rattle.std.proofs.Common.{refl, ap}
 use Rattle.go_tree.specs.declared.spans.Span.{Span}
 use Rattle.go_tree.specs.Tree.{NameAt, named}
 use Rattle.go_tree.specs.File.{types}
@@ -10,7 +10,7 @@ use Rattle.go_types.specs.Defined.{Defined}
 use Rattle.go_types.specs.Entities.{World}
 use Rattle.go_types.specs.Programs.{SourcePackage, Program}
 use Rattle.go_types.specs.Collect.{collected}
-use Rattle.same_worlds.specs.SameWorlds.{SameWorld, Reordered, no_packages, swapped}
+use Rattle.same_worlds.specs.SameWorlds.{SameWorld, swapped}
 use Rattle.same_worlds.proofs.OrdersSame.{collected-same}
 
 abbrev nowhere : Span

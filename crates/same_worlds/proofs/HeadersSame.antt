@@ -1,25 +1,24 @@
 -- What a header declares is read by look-ups alone, of the world and of the types that are declared.
 use Rattle.std.proofs.Common.{refl}
-use Rattle.std.specs.Prelude.{◌≡◌, ℕ, zero, suc, Bool, true, false, not, ◌&&◌, ◌||◌, List, [], ◌∷◌, ◌++◌, length, Option, Some, None, if◌then◌else◌, nat_eq, is_none}
+use Rattle.std.specs.Prelude.{◌≡◌, ℕ, zero, suc, not, ◌&&◌, ◌||◌, List, [], ◌∷◌, ◌++◌, length, Option, Some, None, if◌then◌else◌, nat_eq, is_none}
 use Rattle.std.specs.List.{list_any}
 use Rattle.go_tree.specs.Tree.{NameAt, TypeExpr, Exprs}
 use Rattle.go_tree.specs.File.{TypeSpec, Receiver, Func}
 use Rattle.scope_names.specs.FreeNames.{names_of}
 use Rattle.scope_names.specs.Means.{Environment, is_blank, binding}
 use Rattle.go_types.specs.Answers.{given, both, meets, only_if, is_among, and_also}
-use Rattle.go_types.specs.Types.{GoType, named_type, FuncType, base_of, fields_of, field_names, type_name_of}
-use Rattle.go_types.specs.Defined.{under, has_keys, Method}
+use Rattle.go_types.specs.Types.{GoType, named_type, base_of, fields_of, field_names, type_name_of}
 use Rattle.go_types.specs.Entities.{Entity, variable, function, universe, World, Env, Binds, meaning, type_of_name}
-use Rattle.go_types.specs.TypeNames.{resolved, func_type, written_type}
+use Rattle.go_types.specs.TypeNames.{resolved, func_type}
 use Rattle.go_types.specs.Operands.{all_typed}
-use Rattle.go_types.specs.Declarations.{bind_all, bind_each, constant_entity, variable_entity}
+use Rattle.go_types.specs.Declarations.{bind_all, bind_each}
 use Rattle.go_types.specs.Bodies.{body_binds, no_values}
 use Rattle.go_types.specs.Bodiless.{all_bodiless}
 use Rattle.go_types.specs.Programs.{constants, variables, a_type_spec, a_func, spec_of, func_of, Headed, env_of}
-use Rattle.go_types.specs.TypeDeclarations.{DeclaredType, DeclaredTypes, declared_as, under_within, is_finite_by, is_finite_within, is_finite}
-use Rattle.go_types.specs.MethodDeclarations.{MethodName, DeclaredMethod, fields_under, has_method_name, is_new_method, receiver_type, receiver_binds, method_declared, method_header, declared_on, methods_from}
-use Rattle.go_types.specs.Collect.{type_entity, spec_type, alias_entity, type_declared, declared_types, is_good_type, good_entity, package_constants, package_variables, may_be_main, function_declared, func_declared, declared_by}
-use Rattle.same_worlds.specs.SameWorlds.{SameWorld, at}
+use Rattle.go_types.specs.TypeDeclarations.{DeclaredTypes, declared_as, under_within, is_finite_by, is_finite_within, is_finite}
+use Rattle.go_types.specs.MethodDeclarations.{MethodName, fields_under, has_method_name, is_new_method, receiver_type, receiver_binds, method_declared, method_header, declared_on, methods_from}
+use Rattle.go_types.specs.Collect.{type_entity, spec_type, alias_entity, type_declared, declared_types, is_good_type, good_entity, package_constants, package_variables, may_be_main, function_declared, declared_by}
+use Rattle.same_worlds.specs.SameWorlds.{SameWorld}
 use Rattle.same_worlds.proofs.DefinedSame.{under-same, has_keys-same}
 use Rattle.same_worlds.proofs.DeclarationsSame.{constant_entity-same, variable_entity-same}
 use Rattle.same_worlds.proofs.TypeNamesSame.{resolved-same, func_type-same, written_type-same}
@@ -110,11 +109,11 @@ module _ (left right : World) (same : SameWorld left right) {S : Type 0} where
 
     pub declared_by-same : (h : Headed S) → declared_by ds left h ≡ declared_by es right h
     declared_by-same h = λ z. only_if h.sound (elim h.header as (λ r. Option Binds) [
-        | constants ns t es i ↦ constants_around h (Some i) ns t es z
-        | variables ns t es ↦ variables_around h ns t es z
-        | a_type_spec t ↦ given (good_entity-same h z) (λ e. Some (binding t.name.name e))
-        | a_func f ↦ elim f.receiver as (λ r. Option Binds) [ None ↦ function_declared-same h f z | Some r ↦ Some [] ]
-      ])
+      | constants ns t es i ↦ constants_around h (Some i) ns t es z
+      | variables ns t es ↦ variables_around h ns t es z
+      | a_type_spec t ↦ given (good_entity-same h z) (λ e. Some (binding t.name.name e))
+      | a_func f ↦ elim f.receiver as (λ r. Option Binds) [ None ↦ function_declared-same h f z | Some r ↦ Some [] ]
+    ])
 
   -- ---- methods
 

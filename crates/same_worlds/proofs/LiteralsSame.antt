@@ -1,30 +1,21 @@
 -- What composite literals are is read by look-ups alone.
-use Rattle.std.proofs.Common.{refl}
 use Rattle.std.specs.Prelude.{◌≡◌}
-use Rattle.std.specs.Prelude.{ℕ, ◌+◌, Bool, true, false, not, ◌&&◌, List, [], ◌∷◌, Option, Some, None, nat_eq, bytes_eq, is_some, pos}
+use Rattle.std.specs.Prelude.{ℕ, ◌+◌, Bool, true, false, not, ◌&&◌, List, [], ◌∷◌, Option, Some, None, nat_eq, bytes_eq, pos}
 use Rattle.std.specs.List.{list_all}
-use Rattle.std.specs.Ordering.{is_eq, int_cmp}
 use Rattle.const_eval.specs.declared.kinds.Kind.TheVariants as kind
-use Rattle.const_eval.specs.declared.consts.Const.{Const}
-use Rattle.const_eval.specs.declared.consts.Const.TheVariants.{Whole, Truth, Bytes}
+use Rattle.const_eval.specs.declared.consts.Const.TheVariants.{Whole}
 use Rattle.const_eval.specs.Exact.{represents}
-use Rattle.go_tree.specs.Tree.{Value, plain, ident}
 use Rattle.scope_names.specs.Means.{is_blank}
 use Rattle.go_types.specs.Answers.{given, meets, only_if, distinct_by}
 use Rattle.go_types.specs.Types.{GoType, GoFields, no_go_fields, go_field, base_of, element_of, map_parts, fields_of}
-use Rattle.go_types.specs.Defined.{Defined, under}
 use Rattle.go_types.specs.Entities.{exact}
-use Rattle.go_types.specs.Operands.{Operand, value, plain_value, takes}
+use Rattle.go_types.specs.Operands.{Operand, value, plain_value}
 use Rattle.go_types.specs.Primary.{sees, find_field}
-use Rattle.go_types.specs.Literals.{is_struct, field_key, same_truth, same_const, distinct_consts, constant_then, constant_keys, element_value, fills, sets_field, fields_set, struct_takes, constant_index, index_or, indices, slice_takes, has_key, map_takes, literal_takes, built, key_type, inner_type, literal_type, built_inside, Element, unkeyed, of_field, keyed}
-use Rattle.go_types.specs.Entities.{World, Env, defined_in}
-use Rattle.same_worlds.specs.SameWorlds.{SameWorld, at}
-use Rattle.same_worlds.proofs.DeclarationsSame.{constant_entity-same, variable_entity-same, assigns_to-same, defined_by-same, new_constants-same, new_variables-same, new_by_define-same}
-use Rattle.same_worlds.proofs.DefinedSame.{under-same, methods-same, comparable-same, has_keys-same, exported-same}
-use Rattle.same_worlds.proofs.OperandsSame.{named_operand-same, kind_of-same, kind_passes-same, represented-same, fits-same, takes-same, takes_all-same, default_type-same, settled-same}
-use Rattle.same_worlds.proofs.OperatorsSame.{common_with_untyped-same, common_type-same, joins-same, calculated_operand-same, arithmetic-same, truth_operand-same, logic-same, compared_at-same, joins_comparison-same, equal_applies-same, comparison_applies-same, comparison-same, is_count-same, shifted_operand-same, shifting-same, other_binary-same, binary_value_operand-same, is_equality-same, recover_compared-same, binary_of-same, changed_operand-same, unary_value_operand-same, address_of-same, unary_of-same, star_of-same}
-use Rattle.same_worlds.proofs.PrimarySame.{fields_in-same, field_type-same, field_place-same, method_of-same, method_value-same, selected-same, selected_place-same, is_index-same, lies_in-same, string_element-same, index_of-same, index_place-same, rise-same, is_bound-same, sliced_type-same, sliced-same, converted_constant-same, converted-same, conversion-same, nothing_back-same, append_call-same, cap_call-same, length_of-same, has_length-same, len_call-same, copies_from-same, copy_call-same, delete_call-same, panic_call-same, is_printed-same, print_call-same, recover_call-same, make_sizes-same, make_call-same, new_call-same, on_values-same, builtin_call-same, call_of-same}
-use Rattle.same_worlds.proofs.RelationsSame.{has_kind-same, is_whole_number-same, is_string-same, is_truth-same, is_byte_slice-same, same_underlying-same, assignable-same, similar_pointers-same, becomes-same, convertible-same}
+use Rattle.go_types.specs.Literals.{distinct_consts, constant_keys, element_value, fills, sets_field, fields_set, struct_takes, constant_index, index_or, indices, slice_takes, has_key, map_takes, literal_takes, built, key_type, inner_type, literal_type, built_inside, Element, unkeyed, of_field, keyed}
+use Rattle.go_types.specs.Entities.{World}
+use Rattle.same_worlds.specs.SameWorlds.{SameWorld}
+use Rattle.same_worlds.proofs.DefinedSame.{under-same}
+use Rattle.same_worlds.proofs.OperandsSame.{takes-same}
 
 module _ (left right : World) (same : SameWorld left right) where
   pub fills-same : (x1 : ℕ) (x2 : GoFields) (x3 : List Element) → fills left.defined x1 x2 x3 ≡ fills right.defined x1 x2 x3

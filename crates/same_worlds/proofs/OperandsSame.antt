@@ -1,24 +1,20 @@
 -- What an operand is, and where it may stand, is read by look-ups alone.
-use Rattle.std.proofs.Common.{refl}
 use Rattle.std.specs.Prelude.{◌≡◌}
-use Rattle.std.specs.Prelude.{ℕ, Bool, true, false, ◌&&◌, List, [], ◌∷◌, map, length, Option, Some, None, nat_eq, if◌then◌else◌, Result, Ok, Err, pos}
+use Rattle.std.specs.Prelude.{Bool, true, false, ◌&&◌, List, [], ◌∷◌, Option, Some, None, if◌then◌else◌, pos}
 use Rattle.std.specs.List.{list_all}
 use Rattle.const_eval.specs.declared.kinds.Kind.{Kind}
 use Rattle.const_eval.specs.declared.kinds.Kind.TheVariants as kind
 use Rattle.const_eval.specs.declared.consts.Const.{Const}
-use Rattle.const_eval.specs.declared.consts.Const.TheVariants.{Whole, Truth, Bytes}
-use Rattle.const_eval.specs.declared.consts.ConstError.{ConstError}
-use Rattle.const_eval.specs.Exact.{Exact, number, truth, text, zero_divisor, negative_count, senseless, is_truth_kind, is_text_kind, represents, kept}
-use Rattle.go_types.specs.Answers.{given, meets, only_if, answers_of}
-use Rattle.go_types.specs.Types.{GoType, basic, untyped, untyped_nil, FuncType, basic_kind, is_untyped, default_kind}
-use Rattle.go_types.specs.Defined.{Defined, under}
-use Rattle.go_types.specs.Relations.{assignable, is_whole_number}
-use Rattle.go_types.specs.Entities.{Builtin, Content, run, exact, shift, Place, addressable, elsewhere, Entity, variable, constant, stand_in, type_name, function, package_name, builtin, nil_name, iota_name, refused, Env}
-use Rattle.go_types.specs.Operands.{Typed, typed, all_typed, with_value, plain_value, named_operand, named_place, place_by, known, constant_at, constant_value, literal_operand, leaves, constant_of, is_shift, kind_of, kind_passes, represented, fits, takes, takes_all, default_type, settled, spread, results_operand, values_of, Operand, value, several, a_type, a_function, a_builtin, recovered}
-use Rattle.go_types.specs.Entities.{World, defined_in}
+use Rattle.const_eval.specs.declared.consts.Const.TheVariants.{Whole}
+use Rattle.const_eval.specs.Exact.{represents}
+use Rattle.go_types.specs.Answers.{given, meets, only_if}
+use Rattle.go_types.specs.Types.{GoType, basic, untyped, untyped_nil, basic_kind, is_untyped, default_kind}
+use Rattle.go_types.specs.Entities.{run, exact, shift, Entity, variable, constant, stand_in, type_name, function, package_name, builtin, nil_name, iota_name, refused, Env}
+use Rattle.go_types.specs.Operands.{Typed, typed, named_operand, kind_of, kind_passes, represented, fits, takes, takes_all, default_type, settled, Operand, value, a_type, a_function, a_builtin}
+use Rattle.go_types.specs.Entities.{World}
 use Rattle.same_worlds.specs.SameWorlds.{SameWorld, at}
-use Rattle.same_worlds.proofs.DefinedSame.{under-same, methods-same, comparable-same, has_keys-same, exported-same}
-use Rattle.same_worlds.proofs.RelationsSame.{has_kind-same, is_whole_number-same, is_string-same, is_truth-same, is_byte_slice-same, same_underlying-same, assignable-same, similar_pointers-same, becomes-same, convertible-same}
+use Rattle.same_worlds.proofs.DefinedSame.{under-same}
+use Rattle.same_worlds.proofs.RelationsSame.{is_whole_number-same, assignable-same}
 
 module _ (left right : World) (same : SameWorld left right) where
   pub named_operand-same : (x1 : Env) (x2 : Option Entity) → named_operand (at left x1) x2 ≡ named_operand (at right x1) x2

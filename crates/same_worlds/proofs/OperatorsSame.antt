@@ -1,31 +1,27 @@
 -- What operators make of operands is read by look-ups alone.
-use Rattle.std.proofs.Common.{refl}
 use Rattle.std.specs.Prelude.{◌≡◌}
-use Rattle.std.specs.Prelude.{Bool, true, false, not, ◌&&◌, ◌||◌, List, ◌++◌, Option, Some, None, if◌then◌else◌, pos, negsuc}
+use Rattle.std.specs.Prelude.{Bool, true, false, not, ◌&&◌, ◌||◌, ◌++◌, Some, None, if◌then◌else◌, pos, negsuc}
 use Rattle.go_tree.specs.declared.operators.UnOp.{UnOp}
 use Rattle.go_tree.specs.declared.operators.UnOp.TheVariants.{Address}
 use Rattle.go_tree.specs.declared.operators.BinOp.{BinOp}
-use Rattle.go_tree.specs.declared.operators.BinOp.TheVariants.{Div, Rem, Shl, Shr, Eq, Ne, LogAnd, LogOr}
+use Rattle.go_tree.specs.declared.operators.BinOp.TheVariants.{Shl, Shr, Eq, Ne, LogAnd, LogOr}
 use Rattle.const_eval.specs.declared.kinds.Kind.{Kind}
 use Rattle.const_eval.specs.declared.kinds.Kind.TheVariants as kind
-use Rattle.const_eval.specs.declared.consts.Const.{Const}
 use Rattle.const_eval.specs.declared.consts.Const.TheVariants.{Whole, Truth, Bytes}
 use Rattle.const_eval.specs.Conditions.{unary_applies, binary_applies, is_number_kind}
-use Rattle.const_eval.specs.Operators.{unary_value, binary_value, is_zero, is_comparison}
+use Rattle.const_eval.specs.Operators.{unary_value, binary_value, is_comparison}
 use Rattle.go_types.specs.Answers.{given, both, only_if}
 use Rattle.go_types.specs.Types.{GoType, untyped, untyped_nil, pointer_to, is_untyped, is_nil, base_of}
 use Rattle.go_types.specs.Identical.{identical}
-use Rattle.go_types.specs.Defined.{Defined, under, comparable}
-use Rattle.go_types.specs.Relations.{assignable, has_nil, akin, is_whole_number}
-use Rattle.go_types.specs.Entities.{Content, run, exact, shift, Place, addressable, map_element, literal, elsewhere}
-use Rattle.go_types.specs.Operands.{Operand, value, a_type, recovered, Typed, typed, with_value, constant_value, leaves, is_shift, kind_of, kind_passes, fits, default_type}
+use Rattle.go_types.specs.Relations.{has_nil, akin}
+use Rattle.go_types.specs.Entities.{Content, run, exact, shift, Place}
+use Rattle.go_types.specs.Operands.{Operand, value, a_type, recovered, Typed, typed, with_value, constant_value, leaves, is_shift}
 use Rattle.go_types.specs.Operators.{a_comparison, not_constant, divides_by_zero, greater_kind, has_address, common_with_untyped, common_type, joins, calculated_operand, arithmetic, truth_operand, logic, compared_at, joins_comparison, equal_applies, comparison_applies, comparison, is_count, shifted_operand, shifting, other_binary, binary_value_operand, is_equality, recover_compared, binary_of, changed_operand, unary_value_operand, address_of, unary_of, star_of}
-use Rattle.go_types.specs.Entities.{World, Env, defined_in}
-use Rattle.same_worlds.specs.SameWorlds.{SameWorld, at}
-use Rattle.same_worlds.proofs.DeclarationsSame.{constant_entity-same, variable_entity-same, assigns_to-same, defined_by-same, new_constants-same, new_variables-same, new_by_define-same}
-use Rattle.same_worlds.proofs.DefinedSame.{under-same, methods-same, comparable-same, has_keys-same, exported-same}
-use Rattle.same_worlds.proofs.OperandsSame.{named_operand-same, kind_of-same, kind_passes-same, represented-same, fits-same, takes-same, takes_all-same, default_type-same, settled-same}
-use Rattle.same_worlds.proofs.RelationsSame.{has_kind-same, is_whole_number-same, is_string-same, is_truth-same, is_byte_slice-same, same_underlying-same, assignable-same, similar_pointers-same, becomes-same, convertible-same}
+use Rattle.go_types.specs.Entities.{World}
+use Rattle.same_worlds.specs.SameWorlds.{SameWorld}
+use Rattle.same_worlds.proofs.DefinedSame.{under-same, comparable-same}
+use Rattle.same_worlds.proofs.OperandsSame.{kind_of-same, kind_passes-same, fits-same, default_type-same}
+use Rattle.same_worlds.proofs.RelationsSame.{is_whole_number-same, assignable-same}
 
 module _ (left right : World) (same : SameWorld left right) where
   pub common_with_untyped-same : (x1 : Kind) (x2 : GoType) → common_with_untyped left.defined x1 x2 ≡ common_with_untyped right.defined x1 x2

@@ -1,18 +1,17 @@
 -- What the packages of a program declare is found the same, whatever their order.
 use Rattle.std.proofs.Common.{refl, sym, ◌∙◌, subst}
 use Rattle.std.proofs.lemmas.Slice.Eq.{bytes_eq-Decides}
-use Rattle.std.specs.Prelude.{◌≡◌, ℕ, zero, suc, Bool, true, false, ◌&&◌, ◌||◌, List, [], ◌∷◌, ◌++◌, length, map, Option, Some, None, if◌then◌else◌, bytes_eq, nat_eq}
-use Rattle.go_types.specs.Answers.{given, only_if}
+use Rattle.std.specs.Prelude.{◌≡◌, ℕ, zero, suc, Bool, true, false, ◌&&◌, ◌||◌, List, [], ◌∷◌, length, Option, Some, None, if◌then◌else◌, bytes_eq, nat_eq}
+use Rattle.go_types.specs.Answers.{given}
 use Rattle.go_types.specs.Defined.{Defined, find_defined}
-use Rattle.go_types.specs.Declarations.{bind_each}
 use Rattle.go_types.specs.Entities.{Entity, World, Binds, block_of}
-use Rattle.go_types.specs.Programs.{SourcePackage, Program, Headed, header_names, headed}
-use Rattle.go_types.specs.TypeDeclarations.{DeclaredType, DeclaredTypes, declared_as, under_within, underlying}
+use Rattle.go_types.specs.Programs.{Program, Headed, headed}
+use Rattle.go_types.specs.TypeDeclarations.{DeclaredTypes, declared_as, under_within, underlying}
 use Rattle.go_types.specs.MethodDeclarations.{DeclaredMethod, methods_on, with_methods, methods_from}
 use Rattle.go_types.specs.Collect.{times, declared_types, alias_entity, good_entity, declared_by, entity_binds, block_by, blocks_by, alias_round, type_round, value_round, refused_world, rounds, aliased_world, types_declared, typed_world, valued_world, world_of, collected}
 use Rattle.same_worlds.specs.SameWorlds.{SameWorld, Reordered}
 use Rattle.same_worlds.proofs.HeadersSame.{SameDeclared, under_all-same, alias_entity-same, declared_types-same, good_entity-same, declared_by-same, methods_from-same}
-use Rattle.same_worlds.proofs.AtHome.{nat_same, at_home, block_at_home, types_at_home, methods_at_home}
+use Rattle.same_worlds.proofs.AtHome.{nat_same, block_at_home, types_at_home, methods_at_home}
 use Rattle.same_worlds.proofs.HeadersMoved.{HeadersMoved, home-stays, count-stays, types-count-stays, program-moved, has_number, number-stays}
 
 -- ---- defined types

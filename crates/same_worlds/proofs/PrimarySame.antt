@@ -1,7 +1,6 @@
 -- What selectors, indices, slices, conversions and calls make of operands is read by look-ups alone.
-use Rattle.std.proofs.Common.{refl}
 use Rattle.std.specs.Prelude.{◌≡◌}
-use Rattle.std.specs.Prelude.{ℕ, Bool, true, false, not, ◌&&◌, ◌||◌, List, [], ◌∷◌, length, Option, Some, None, nat_eq, nat_le, nat_lt, bytes_eq, if◌then◌else◌, is_some, pos, negsuc}
+use Rattle.std.specs.Prelude.{ℕ, Bool, true, false, not, ◌&&◌, ◌||◌, List, [], ◌∷◌, length, Option, Some, None, nat_le, nat_lt, if◌then◌else◌, is_some, pos, negsuc}
 use Rattle.std.specs.List.{list_all}
 use Rattle.const_eval.specs.declared.kinds.Kind.TheVariants as kind
 use Rattle.const_eval.specs.declared.consts.Const.{Const}
@@ -9,20 +8,16 @@ use Rattle.const_eval.specs.declared.consts.Const.TheVariants.{Whole, Truth, Byt
 use Rattle.const_eval.specs.Exact.{number, represents, is_text_kind}
 use Rattle.scope_names.specs.Means.{is_blank}
 use Rattle.go_types.specs.Answers.{given, meets, only_if}
-use Rattle.go_types.specs.Types.{GoType, basic, named_type, pointer_to, slice_of, map_of, GoFields, no_go_fields, go_field, base_of, element_of, map_parts, fields_of, basic_kind}
+use Rattle.go_types.specs.Types.{GoType, basic, pointer_to, slice_of, map_of, GoFields, base_of, element_of, map_parts, fields_of, basic_kind}
 use Rattle.go_types.specs.Identical.{identical}
-use Rattle.go_types.specs.Defined.{Defined, Method, under, methods}
-use Rattle.go_types.specs.Relations.{is_whole_number, convertible}
 use Rattle.go_types.specs.Entities.{Builtin, Append, Cap, Copy, Delete, Len, Make, New, Panic, Print, Println, Recover, Content, run, exact, shift, Place, addressable, map_element, elsewhere, is_exported}
-use Rattle.go_types.specs.Operands.{Operand, value, several, a_type, a_function, a_builtin, recovered, Typed, all_typed, with_value, plain_value, constant_value, spread, results_operand, fits, takes_all, kind_passes, default_type, settled}
-use Rattle.go_types.specs.Primary.{sees, find_field, find_method, is_addressable, home_of, fields_in, field_type, field_place, method_of, method_value, selected, selected_place, is_index, lies_in, string_element, index_of, index_place, rise, is_bound, sliced_type, sliced, converted_constant, converted, conversion, nothing_back, append_call, cap_call, length_of, has_length, len_call, copies_from, copy_call, delete_call, panic_call, is_printed, print_call, recover_call, make_sizes, make_call, new_call, on_values, builtin_call, call_of, builtin_stands_alone, is_recover, stands_alone, may_be_deferred}
-use Rattle.go_types.specs.Entities.{World, Env, defined_in}
-use Rattle.same_worlds.specs.SameWorlds.{SameWorld, at}
-use Rattle.same_worlds.proofs.DeclarationsSame.{constant_entity-same, variable_entity-same, assigns_to-same, defined_by-same, new_constants-same, new_variables-same, new_by_define-same}
-use Rattle.same_worlds.proofs.DefinedSame.{under-same, methods-same, comparable-same, has_keys-same, exported-same}
-use Rattle.same_worlds.proofs.OperandsSame.{named_operand-same, kind_of-same, kind_passes-same, represented-same, fits-same, takes-same, takes_all-same, default_type-same, settled-same}
-use Rattle.same_worlds.proofs.OperatorsSame.{common_with_untyped-same, common_type-same, joins-same, calculated_operand-same, arithmetic-same, truth_operand-same, logic-same, compared_at-same, joins_comparison-same, equal_applies-same, comparison_applies-same, comparison-same, is_count-same, shifted_operand-same, shifting-same, other_binary-same, binary_value_operand-same, is_equality-same, recover_compared-same, binary_of-same, changed_operand-same, unary_value_operand-same, address_of-same, unary_of-same, star_of-same}
-use Rattle.same_worlds.proofs.RelationsSame.{has_kind-same, is_whole_number-same, is_string-same, is_truth-same, is_byte_slice-same, same_underlying-same, assignable-same, similar_pointers-same, becomes-same, convertible-same}
+use Rattle.go_types.specs.Operands.{Operand, value, several, a_type, a_function, a_builtin, recovered, Typed, all_typed, with_value, plain_value, constant_value, spread, results_operand}
+use Rattle.go_types.specs.Primary.{sees, find_field, find_method, is_addressable, home_of, fields_in, field_type, field_place, method_of, method_value, selected, selected_place, is_index, lies_in, string_element, index_of, index_place, rise, is_bound, sliced_type, sliced, converted_constant, converted, conversion, nothing_back, append_call, cap_call, length_of, has_length, len_call, copies_from, copy_call, delete_call, panic_call, is_printed, print_call, recover_call, make_sizes, make_call, new_call, on_values, builtin_call, call_of}
+use Rattle.go_types.specs.Entities.{World}
+use Rattle.same_worlds.specs.SameWorlds.{SameWorld}
+use Rattle.same_worlds.proofs.DefinedSame.{under-same, methods-same}
+use Rattle.same_worlds.proofs.OperandsSame.{kind_passes-same, fits-same, takes_all-same, default_type-same, settled-same}
+use Rattle.same_worlds.proofs.RelationsSame.{is_whole_number-same, convertible-same}
 
 module _ (left right : World) (same : SameWorld left right) where
   pub fields_in-same : (x1 : GoType) → fields_in left.defined x1 ≡ fields_in right.defined x1

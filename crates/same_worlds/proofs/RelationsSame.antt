@@ -1,19 +1,17 @@
 -- Which types are assignable and convertible is read by look-ups alone.
-use Rattle.std.proofs.Common.{refl}
 use Rattle.std.specs.Prelude.{◌≡◌}
-use Rattle.std.specs.Prelude.{Bool, true, false, not, ◌&&◌, ◌||◌, List}
+use Rattle.std.specs.Prelude.{Bool, false, not, ◌&&◌, ◌||◌}
 use Rattle.const_eval.specs.declared.kinds.Kind.{Kind}
 use Rattle.const_eval.specs.declared.kinds.Kind.TheVariants as kind
 use Rattle.const_eval.specs.Conditions.{is_number_kind}
 use Rattle.const_eval.specs.Exact.{is_truth_kind, is_text_kind}
 use Rattle.go_types.specs.Answers.{meets}
-use Rattle.go_types.specs.Types.{GoType, pointer_to, slice_of, map_of, untyped, untyped_nil, basic_kind, base_of, element_of, has_name, same_kind}
+use Rattle.go_types.specs.Types.{GoType, untyped, untyped_nil, basic_kind, base_of, element_of, has_name, same_kind}
 use Rattle.go_types.specs.Identical.{identical}
-use Rattle.go_types.specs.Defined.{Defined, under}
 use Rattle.go_types.specs.Relations.{has_nil, akin, has_kind, is_whole_number, is_string, is_truth, is_byte_slice, same_underlying, assignable, similar_pointers, becomes, convertible}
-use Rattle.go_types.specs.Entities.{World, Env, defined_in}
-use Rattle.same_worlds.specs.SameWorlds.{SameWorld, at}
-use Rattle.same_worlds.proofs.DefinedSame.{under-same, methods-same, comparable-same, has_keys-same, exported-same}
+use Rattle.go_types.specs.Entities.{World}
+use Rattle.same_worlds.specs.SameWorlds.{SameWorld}
+use Rattle.same_worlds.proofs.DefinedSame.{under-same}
 
 module _ (left right : World) (same : SameWorld left right) where
   pub has_kind-same : (x1 : (Kind → Bool)) (x2 : GoType) → has_kind left.defined x1 x2 ≡ has_kind right.defined x1 x2

@@ -1,37 +1,26 @@
 -- What statements ask of operands is read by look-ups alone.
-use Rattle.std.proofs.Common.{refl}
 use Rattle.std.specs.Prelude.{◌≡◌}
-use Rattle.std.specs.Prelude.{ℕ, zero, suc, Bool, true, false, ◌&&◌, ◌||◌, List, [], ◌∷◌, ◌++◌, Option, Some, None, nat_eq, nat_le, is_some, pos}
+use Rattle.std.specs.Prelude.{ℕ, zero, suc, true, false, ◌&&◌, ◌||◌, List, [], ◌∷◌, ◌++◌, Option, Some, None, is_some}
 use Rattle.go_tree.specs.declared.operators.BinOp.{BinOp}
-use Rattle.go_tree.specs.declared.operators.BinOp.TheVariants.{Add, Sub, Eq}
-use Rattle.go_tree.specs.Tree.{Expr, ident, call, Exprs, no_exprs, expr_and, ExprOption, no_expr, some_expr, Stmt, empty, define, StmtOption, some_stmt, BlockOption, no_block, some_block}
+use Rattle.go_tree.specs.declared.operators.BinOp.TheVariants.{Eq}
+use Rattle.go_tree.specs.Tree.{Expr, ident, call}
 use Rattle.const_eval.specs.declared.kinds.Kind.TheVariants as kind
-use Rattle.const_eval.specs.declared.consts.Const.{Const}
-use Rattle.const_eval.specs.declared.consts.Const.TheVariants.{Whole, Truth, Bytes}
+use Rattle.const_eval.specs.declared.consts.Const.TheVariants.{Truth}
 use Rattle.const_eval.specs.Exact.{is_truth_kind}
-use Rattle.scope_names.specs.Means.{is_blank, binding}
+use Rattle.scope_names.specs.Means.{binding}
 use Rattle.go_types.specs.Answers.{given, meets, only_if, unless_missing}
 use Rattle.go_types.specs.Types.{GoType, basic, untyped, element_of, map_parts}
-use Rattle.go_types.specs.Defined.{Defined, under, comparable}
-use Rattle.go_types.specs.Relations.{has_nil, is_whole_number}
-use Rattle.go_types.specs.Entities.{Panic, run, exact, Place, addressable, map_element, literal, elsewhere, Entity, variable, builtin, Env, meaning, package_of, defined_in, Binds}
-use Rattle.go_types.specs.Operands.{Operand, value, Typed, typed, with_value, fits, settled, kind_passes, values_of}
-use Rattle.go_types.specs.Operators.{binary_of, comparison}
-use Rattle.go_types.specs.Literals.{distinct_consts}
-use Rattle.go_types.specs.Declarations.{names_once, may_declare, bound_names, Declared, no_names, constants_declared, variables_declared, some_declared, constant_entity, variable_entity, bind_all, bind_each, assigns_to, defined_by}
-use Rattle.go_types.specs.Bodies.{Ctx, in_loop, in_switch, label_around, may_break, may_continue, param_binding, param_binds, body_binds, has_names, body_ctx, no_values}
-use Rattle.go_types.specs.Statements.{target_at, one_more, step_op, stores, stores_all, assigned_values, updates, right_values, is_condition, is_test, range_types, range_stores, range_assigns, range_binds, new_by_range, tag_value, case_value, tag_of, case_constants, choice, means_panic, package_before, is_blank_name, is_panic, is_default, is_absent, is_define, is_empty_stmt, has_last, Target, blank, store, Clauses}
+use Rattle.go_types.specs.Relations.{has_nil}
+use Rattle.go_types.specs.Entities.{run, exact, Place, map_element, variable, Env, meaning, package_of}
+use Rattle.go_types.specs.Operands.{Operand, value, Typed, typed, with_value, values_of}
+use Rattle.go_types.specs.Declarations.{names_once, some_declared}
+use Rattle.go_types.specs.Statements.{target_at, stores, stores_all, assigned_values, updates, right_values, is_condition, is_test, range_types, range_stores, range_assigns, range_binds, new_by_range, tag_value, case_value, tag_of, means_panic, package_before, is_panic, Target, blank, store}
 use Rattle.go_types.specs.Entities.{World}
 use Rattle.same_worlds.specs.SameWorlds.{SameWorld, at}
-use Rattle.same_worlds.proofs.BodiesSame.{returns-same}
-use Rattle.same_worlds.proofs.DeclarationsSame.{constant_entity-same, variable_entity-same, assigns_to-same, defined_by-same, new_constants-same, new_variables-same, new_by_define-same}
-use Rattle.same_worlds.proofs.DefinedSame.{under-same, methods-same, comparable-same, has_keys-same, exported-same}
-use Rattle.same_worlds.proofs.LiteralsSame.{fills-same, sets_field-same, fields_set-same, struct_takes-same, constant_index-same, index_or-same, indices-same, slice_takes-same, has_key-same, map_takes-same, literal_takes-same, built-same, key_type-same, inner_type-same, literal_type-same, built_inside-same}
-use Rattle.same_worlds.proofs.OperandsSame.{named_operand-same, kind_of-same, kind_passes-same, represented-same, fits-same, takes-same, takes_all-same, default_type-same, settled-same}
-use Rattle.same_worlds.proofs.OperatorsSame.{common_with_untyped-same, common_type-same, joins-same, calculated_operand-same, arithmetic-same, truth_operand-same, logic-same, compared_at-same, joins_comparison-same, equal_applies-same, comparison_applies-same, comparison-same, is_count-same, shifted_operand-same, shifting-same, other_binary-same, binary_value_operand-same, is_equality-same, recover_compared-same, binary_of-same, changed_operand-same, unary_value_operand-same, address_of-same, unary_of-same, star_of-same}
-use Rattle.same_worlds.proofs.PrimarySame.{fields_in-same, field_type-same, field_place-same, method_of-same, method_value-same, selected-same, selected_place-same, is_index-same, lies_in-same, string_element-same, index_of-same, index_place-same, rise-same, is_bound-same, sliced_type-same, sliced-same, converted_constant-same, converted-same, conversion-same, nothing_back-same, append_call-same, cap_call-same, length_of-same, has_length-same, len_call-same, copies_from-same, copy_call-same, delete_call-same, panic_call-same, is_printed-same, print_call-same, recover_call-same, make_sizes-same, make_call-same, new_call-same, on_values-same, builtin_call-same, call_of-same}
-use Rattle.same_worlds.proofs.RelationsSame.{has_kind-same, is_whole_number-same, is_string-same, is_truth-same, is_byte_slice-same, same_underlying-same, assignable-same, similar_pointers-same, becomes-same, convertible-same}
-use Rattle.same_worlds.proofs.TypeNamesSame.{named_meaning-same, resolved-same, resolved_fields-same, type_meant-same, params_meant-same, func_type-same, written_type-same}
+use Rattle.same_worlds.proofs.DefinedSame.{under-same, comparable-same}
+use Rattle.same_worlds.proofs.OperandsSame.{kind_passes-same, fits-same, settled-same}
+use Rattle.same_worlds.proofs.OperatorsSame.{comparison-same, binary_of-same}
+use Rattle.same_worlds.proofs.RelationsSame.{is_whole_number-same}
 
 module _ (left right : World) (same : SameWorld left right) where
   pub stores-same : (x1 : Target) (x2 : Typed) → stores left.defined x1 x2 ≡ stores right.defined x1 x2

@@ -1,9 +1,8 @@
 -- What expressions are, and what statements declare and use, is read by look-ups alone.
-use Rattle.std.proofs.Common.{refl}
 use Rattle.std.specs.Prelude.{◌≡◌}
 use Rattle.std.specs.Prelude.{ℕ, ◌+◌, Bool, true, false, not, ◌&&◌, List, [], ◌∷◌, ◌++◌, length, Option, Some, None, if◌then◌else◌, is_some, pos}
 use Rattle.std.specs.List.{list_all}
-use Rattle.go_tree.specs.Tree.{TypeExpr, Expr, ident, int_lit, rune_lit, str_lit, composite, selector, index, slice, call, func_lit, type_operand, unary, binary, star, Exprs, no_exprs, expr_and, ExprOption, no_expr, some_expr, Elems, no_elems, elem, Value, plain, braced, ValueOption, no_value, some_value, Stmt, const_decl, var_decl, empty, eval, step, assign, define, return_, break_, continue_, inner, if_, for_, range_, switch, defer, label, Stmts, no_stmts, stmt_and, StmtOption, no_stmt, some_stmt, BlockOption, no_block, some_block, RangeLeft, nothing, assigns, defines, Arms, no_arms, arm, Cases, no_cases, case, ValueSpecs, no_specs, spec}
+use Rattle.go_tree.specs.Tree.{Expr, ident, int_lit, rune_lit, str_lit, composite, selector, index, slice, call, func_lit, type_operand, unary, binary, star, Exprs, no_exprs, expr_and, ExprOption, no_expr, some_expr, Elems, no_elems, elem, Value, plain, braced, ValueOption, no_value, some_value, Stmt, const_decl, var_decl, empty, eval, step, assign, define, return_, break_, continue_, inner, if_, for_, range_, switch, defer, label, Stmts, no_stmts, stmt_and, StmtOption, no_stmt, some_stmt, BlockOption, no_block, some_block, RangeLeft, nothing, assigns, defines, Arms, no_arms, arm, Cases, no_cases, case, ValueSpecs, no_specs, spec}
 use Rattle.const_eval.specs.declared.kinds.Kind.TheVariants as kind
 use Rattle.const_eval.specs.Exact.{number, text}
 use Rattle.const_eval.specs.Literals.{integer_value, literal_value}
@@ -11,35 +10,31 @@ use Rattle.go_words.specs.Texts.{text_value}
 use Rattle.scope_names.specs.FreeNames.{names_of, sig_names, free_type, free_type_option, free_params, declared, declared_option, defined}
 use Rattle.go_types.specs.Answers.{given, both, meets, only_if, without}
 use Rattle.go_types.specs.Types.{GoType}
-use Rattle.go_types.specs.Defined.{under}
-use Rattle.go_types.specs.Entities.{Place, addressable, literal, elsewhere, refused, Env, meaning, exported, defined_in, Binds, extend, in_block}
-use Rattle.go_types.specs.TypeNames.{type_meant, func_type, written_type}
-use Rattle.go_types.specs.Operands.{Operand, a_type, a_function, Typed, typed, all_typed, with_value, named_operand, named_place, literal_operand}
-use Rattle.go_types.specs.Operators.{unary_of, binary_of, star_of}
-use Rattle.go_types.specs.Primary.{selected, selected_place, index_of, index_place, sliced, call_of, stands_alone, may_be_deferred}
-use Rattle.go_types.specs.Literals.{Element, unkeyed, of_field, keyed, is_struct, field_key, built, built_inside, key_type, inner_type, literal_type}
+use Rattle.go_types.specs.Entities.{Place, addressable, literal, elsewhere, refused, Env, meaning, Binds, extend, in_block}
+use Rattle.go_types.specs.TypeNames.{written_type}
+use Rattle.go_types.specs.Operands.{Operand, a_type, a_function, Typed, typed, all_typed, with_value, named_place, literal_operand}
+use Rattle.go_types.specs.Primary.{stands_alone, may_be_deferred}
+use Rattle.go_types.specs.Literals.{unkeyed, of_field, keyed, is_struct, field_key}
 use Rattle.go_types.specs.Jumps.{breaks, breaks_in}
 use Rattle.go_types.specs.Operands.{place_by}
-use Rattle.go_types.specs.Declarations.{and_then, unused_after, binds_or, binds_of, beyond, new_constants, new_variables, new_by_define, Repeated, nothing_to_repeat, all_used}
-use Rattle.go_types.specs.Bodies.{literal_env, is_body, returns, labelled}
-use Rattle.go_types.specs.Statements.{Clauses, one_more, step_op, right_values, is_test, new_by_range, tag_of, choice, package_before, is_default}
-use Rattle.go_types.specs.Declarations.{Declared, no_names, bind_each}
+use Rattle.go_types.specs.Declarations.{and_then, unused_after, binds_or, binds_of, beyond, Repeated, nothing_to_repeat, all_used}
+use Rattle.go_types.specs.Bodies.{is_body, labelled}
+use Rattle.go_types.specs.Statements.{one_more, step_op, choice, is_default}
+use Rattle.go_types.specs.Declarations.{no_names, bind_each}
 use Rattle.go_types.specs.Bodies.{Ctx, in_loop, in_switch, may_break, may_continue, body_binds, body_ctx, no_values}
-use Rattle.go_types.specs.Statements.{Target, blank, target_at, stores_all, updates, is_condition, range_types, range_assigns, case_value, case_constants, is_blank_name, is_panic, is_absent, is_define, is_empty_stmt, has_last}
-use Rattle.go_types.specs.Typing.{parts, all_parts, bound, elements, element, with_key, place, places, used, used_all, used_option, used_elems, used_key, used_value, used_left, used_stmt, used_stmts, used_first, used_block, used_range, used_arms, used_cases, used_constants, used_variables, declares, declares_first, declares_constants, declares_variables, range_declares, targets, stmt, stmts, first, block, is_call, ranges, arms, clauses, own_or_repeated}
-use Rattle.go_types.specs.Defined.{Defined}
+use Rattle.go_types.specs.Statements.{blank, target_at, case_constants, is_blank_name, is_absent, is_define, is_empty_stmt, has_last}
+use Rattle.go_types.specs.Typing.{parts, all_parts, bound, elements, element, with_key, place, places, used, used_all, used_option, used_elems, used_key, used_value, used_left, used_stmt, used_stmts, used_first, used_block, used_range, used_arms, used_cases, used_constants, used_variables, declares, declares_first, declares_constants, declares_variables, range_declares, targets, stmt, stmts, first, block, is_call, ranges, arms, clauses}
 use Rattle.go_types.specs.Entities.{World}
 use Rattle.same_worlds.specs.SameWorlds.{SameWorld, at}
 use Rattle.same_worlds.proofs.BodiesSame.{returns-same}
-use Rattle.same_worlds.proofs.DeclarationsSame.{constant_entity-same, variable_entity-same, assigns_to-same, defined_by-same, new_constants-same, new_variables-same, new_by_define-same}
-use Rattle.same_worlds.proofs.DefinedSame.{under-same, methods-same, comparable-same, has_keys-same, exported-same}
-use Rattle.same_worlds.proofs.LiteralsSame.{fills-same, sets_field-same, fields_set-same, struct_takes-same, constant_index-same, index_or-same, indices-same, slice_takes-same, has_key-same, map_takes-same, literal_takes-same, built-same, key_type-same, inner_type-same, literal_type-same, built_inside-same}
-use Rattle.same_worlds.proofs.OperandsSame.{named_operand-same, kind_of-same, kind_passes-same, represented-same, fits-same, takes-same, takes_all-same, default_type-same, settled-same}
-use Rattle.same_worlds.proofs.OperatorsSame.{common_with_untyped-same, common_type-same, joins-same, calculated_operand-same, arithmetic-same, truth_operand-same, logic-same, compared_at-same, joins_comparison-same, equal_applies-same, comparison_applies-same, comparison-same, is_count-same, shifted_operand-same, shifting-same, other_binary-same, binary_value_operand-same, is_equality-same, recover_compared-same, binary_of-same, changed_operand-same, unary_value_operand-same, address_of-same, unary_of-same, star_of-same}
-use Rattle.same_worlds.proofs.PrimarySame.{fields_in-same, field_type-same, field_place-same, method_of-same, method_value-same, selected-same, selected_place-same, is_index-same, lies_in-same, string_element-same, index_of-same, index_place-same, rise-same, is_bound-same, sliced_type-same, sliced-same, converted_constant-same, converted-same, conversion-same, nothing_back-same, append_call-same, cap_call-same, length_of-same, has_length-same, len_call-same, copies_from-same, copy_call-same, delete_call-same, panic_call-same, is_printed-same, print_call-same, recover_call-same, make_sizes-same, make_call-same, new_call-same, on_values-same, builtin_call-same, call_of-same}
-use Rattle.same_worlds.proofs.RelationsSame.{has_kind-same, is_whole_number-same, is_string-same, is_truth-same, is_byte_slice-same, same_underlying-same, assignable-same, similar_pointers-same, becomes-same, convertible-same}
-use Rattle.same_worlds.proofs.StatementsSame.{stores-same, stores_all-same, assigned_values-same, updates-same, right_values-same, is_condition-same, is_test-same, range_types-same, range_stores-same, range_assigns-same, range_binds-same, new_by_range-same, tag_value-same, case_value-same, tag_of-same, package_before-same, is_panic-same}
-use Rattle.same_worlds.proofs.TypeNamesSame.{named_meaning-same, resolved-same, resolved_fields-same, type_meant-same, params_meant-same, func_type-same, written_type-same}
+use Rattle.same_worlds.proofs.DeclarationsSame.{new_constants-same, new_variables-same, new_by_define-same}
+use Rattle.same_worlds.proofs.DefinedSame.{under-same, exported-same}
+use Rattle.same_worlds.proofs.LiteralsSame.{built-same, key_type-same, inner_type-same, literal_type-same, built_inside-same}
+use Rattle.same_worlds.proofs.OperandsSame.{named_operand-same}
+use Rattle.same_worlds.proofs.OperatorsSame.{binary_of-same, unary_of-same, star_of-same}
+use Rattle.same_worlds.proofs.PrimarySame.{selected-same, selected_place-same, index_of-same, index_place-same, sliced-same, call_of-same}
+use Rattle.same_worlds.proofs.StatementsSame.{stores_all-same, updates-same, right_values-same, is_condition-same, is_test-same, range_types-same, range_assigns-same, new_by_range-same, case_value-same, tag_of-same, package_before-same, is_panic-same}
+use Rattle.same_worlds.proofs.TypeNamesSame.{type_meant-same, func_type-same, written_type-same}
 use Rattle.same_worlds.proofs.AgainSame.{Again, either-again, nothing-again}
 
 module _ (left right : World) (same : SameWorld left right) where
