@@ -75,7 +75,7 @@ KeepsNames {st = st} n =
 -- A step that keeps cycles also where it changes imports: with its imports added, each identifier that stands means
 -- what it meant; the form in the use's place then calls what stood there, but that what was used, which lies on no
 -- cycle, gives way to what it leads to; with the imports settled, each identifier that stands means the same again; and
--- all the time the packages declare the same, of the same types.
+-- all the time what the packages declare is found the same.
 pub record SettlesImports {marks : List MarkRef} {st : Standing} {l : Logged} {after : Standing}
     (n : Next marks st l after) : Type 0 where
   pub added : IdentifiersRead st.packages (packages_added st.packages n.found)

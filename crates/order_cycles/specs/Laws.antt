@@ -60,8 +60,8 @@ RunsKeepCycles =
 
 -- ---- constants and aliases
 
--- A step over a constant does so, where with its imports added uses of the constant alone stand at the span of the use,
--- wherever values are settled, and the name that is put there is another name of it; neither names a function.
+-- A step over a constant does so, where with its imports added uses of the constant alone stand at the span of the
+-- use, wherever values are settled, and the name that is put there is another name of it; neither names a function.
 abbrev pub ConstantStepsKeepCycles : Type 0
 ConstantStepsKeepCycles =
     (marks : List MarkRef) (st : Standing) (l : Logged) (after : Standing) (n : Next marks st l after)

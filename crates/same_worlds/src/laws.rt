@@ -1,10 +1,10 @@
 //! Laws of worlds in which the same is found.
 
-ghost use Rattle.same_worlds.specs.Laws.{BodiesSame, DeclarationsSame, OperandsSame, PlacesSame, UsesSame};
-ghost use Rattle.same_worlds.specs.Laws.{OrdersDeclareTheSame};
+ghost use Rattle.same_worlds.specs.Laws.{BodiesSame, DeclarationsSame, OperandsSame, PlacesSame};
+ghost use Rattle.same_worlds.specs.Laws.{OrdersDeclareTheSame, UsesSame};
 
-/// Typing reads a world by look-ups alone: of defined types by their packages and names, and of package blocks by the
-/// numbers of their packages.
+/// Typing reads a world by look-ups alone: of defined types by their packages and names, and of
+/// package blocks by the numbers of their packages.
 pub fn typing_finds_the_same()
     ensures operands { OperandsSame }
     ensures places { PlacesSame }

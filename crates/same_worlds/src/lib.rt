@@ -1,5 +1,6 @@
-//! Worlds in which the same is found, whatever the order in which packages stand in them: the rules of typing read them
-//! alike (Go specification, Packages; Type definitions; Declarations and scope; Program initialization).
+//! Worlds in which the same is found, whatever the order in which packages stand in them: the rules
+//! of typing read them alike (Go specification, Packages; Type definitions; Declarations and scope;
+//! Program initialization).
 #![tactic(auto)]
 
 mod laws;
