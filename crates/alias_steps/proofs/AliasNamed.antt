@@ -44,7 +44,7 @@ module _ {S : Type 0} (ps : Program S) (h : Headed S) (a : TypeSpec S) (top : En
   alias-use w p s q n u e m f g = record { meant = alias-meant w s q n u e m; old_outside = f; new_outside = g }
 
   -- the name of the alias at an end of rounds
-  alias-entity : {w : World} → DeclaresAlias ps (headed ps) h a → TypesEnd ps (headed ps) w → means (block_of w.blocks h.home) a.name.name ≡ Some (as_declared (type_meant (env_of w h None) a.of))
+  pub alias-entity : {w : World} → DeclaresAlias ps (headed ps) h a → TypesEnd ps (headed ps) w → means (block_of w.blocks h.home) a.name.name ≡ Some (as_declared (type_meant (env_of w h None) a.of))
   alias-entity d after_types = alias_means_typed ps (headed ps) h a d.header d.alias d.sound d.named d.home d.first d.in_program
   alias-entity d after_values = alias_means_valued ps (headed ps) h a d.header d.alias d.sound d.named d.home d.first d.in_program
   alias-entity d at_last = alias_means_last ps (headed ps) h a d.header d.alias d.sound d.named d.home d.first d.in_program

@@ -1,0 +1,2 @@
+pub mod AliasFirst
+pub mod AliasMeant

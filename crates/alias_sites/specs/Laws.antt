@@ -1,0 +1,36 @@
+-- The laws of uses of aliases among the packages of a run. Each is the contract of a function of this crate (Go
+-- specification, Alias declarations; Declarations and scope).
+use Rattle.std.specs.Prelude.{◌≡◌, ℕ, false, List, [], Some, None, slice_get}
+use Rattle.go_tree.specs.declared.spans.Span.{Span}
+use Rattle.go_tree.specs.Tree.{NameAt, TypeExpr, named}
+use Rattle.go_tree.specs.File.{Decl}
+use Rattle.scope_names.specs.Means.{Environment, means}
+use Rattle.pkg_graph.specs.Members.{member}
+use Rattle.go_types.specs.Programs.{SourceFile, SourcePackage, Program, block_names, file_block, is_init}
+use Rattle.run_rules.specs.Sites.{an_alias, inlinable_in}
+use Rattle.constant_steps.specs.Alone.{block_from, PackageAt}
+use Rattle.go_types.specs.Entities.{Entity, World}
+use Rattle.go_types.specs.Collect.{file_env}
+use Rattle.alias_steps.specs.AliasUses.{NamesAlias}
+use Rattle.alias_sites.specs.FirstAlias.{FirstAlias, AliasEnd}
+
+-- In every program with the package, a name that means a declaration by its numbers, for which a mark can hold as for an
+-- alias, is declared by the first header of the package that has the name, as an alias of the same text. The name isn't
+-- `init`.
+abbrev pub AliasesAreFirst : Type 0
+AliasesAreFirst =
+    (n : List ℕ) (p : SourcePackage Span) (k : ℕ) (ps : Program Span) (f d i : ℕ) (file : SourceFile Span)
+    (decl : Decl Span) (c : NameAt Span) (u : TypeExpr Span) → PackageAt p k ps →
+    means (block_from p.number 0 p.files) n ≡ Some (member p.number f d i) → slice_get p.files f ≡ Some file →
+    slice_get file.decls d ≡ Some decl → inlinable_in decl i ≡ Some (an_alias c u) → is_init n ≡ false →
+    FirstAlias n p.number (file_block (block_names p.files) [] file.imports) u ps
+
+-- In a file of the package whose imports have neither name, and where the imports of the alias's file don't have the new
+-- one, the name names the alias, and the name that the alias is declared as is its text.
+abbrev pub PlainNamesNameAliases : Type 0
+PlainNamesNameAliases =
+    (old new : NameAt Span) (at s z : Span) (home : ℕ) (there here : Environment Entity) (ps : Program Span)
+    (w : World) (f : FirstAlias old.name home there (named at None new) ps) → AliasEnd ps w →
+    means here old.name ≡ None → means here new.name ≡ None → means there new.name ≡ None →
+    NamesAlias ps f.header f.spec w (file_env w home here None) (named s None old)
+    (named z None (record { span = z; name = new.name }))

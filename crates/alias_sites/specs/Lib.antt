@@ -1,0 +1,2 @@
+pub mod FirstAlias
+pub mod Laws
