@@ -99,6 +99,10 @@ abbrev decl_of : Target → ℕ
 decl_of (member p f d i) = d
 decl_of t = 0
 
+abbrev package_of : Target → ℕ
+package_of (member p f d i) = p
+package_of t = 0
+
 abbrev item_of : Target → ℕ
 item_of (member p f d i) = i
 item_of t = 0
@@ -476,3 +480,7 @@ module _ {S : Type 0} where
         home_is = r.home_is;
         imports_are = r.imports_are ∙ ap (λ s. file_block members [] s.imports) same_file;
       }
+
+  -- a member that a name of the block means is one of this package
+  pub member-here : (n : List ℕ) (p : SourcePackage S) (a f d i : ℕ) → means (block_from p.number 0 p.files) n ≡ Some (member a f d i) → a ≡ p.number
+  member-here n p a f d i q = ap package_of (files_found n (member a f d i) p.number (is_main p) (typed.block_names p.files) p.number 0 0 p.files q).is_item

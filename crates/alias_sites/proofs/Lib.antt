@@ -1,2 +1,3 @@
 pub mod AliasFirst
 pub mod AliasMeant
+pub mod AliasUsed

@@ -1,14 +1,19 @@
 -- The laws of uses of aliases among the packages of a run. Each is the contract of a function of this crate (Go
 -- specification, Alias declarations; Declarations and scope).
-use Rattle.std.specs.Prelude.{◌≡◌, ℕ, false, List, [], Some, None, slice_get}
+use Rattle.std.specs.Prelude.{◌≡◌, ℕ, Bool, false, List, [], Some, None, slice_get}
 use Rattle.go_tree.specs.declared.spans.Span.{Span}
 use Rattle.go_tree.specs.Tree.{NameAt, TypeExpr, named}
 use Rattle.go_tree.specs.File.{Decl}
 use Rattle.scope_names.specs.Means.{Environment, means}
 use Rattle.pkg_graph.specs.Members.{member}
 use Rattle.go_types.specs.Programs.{SourceFile, SourcePackage, Program, block_names, file_block, is_init}
-use Rattle.run_rules.specs.Sites.{an_alias, inlinable_in}
+use Rattle.run_rules.specs.Sites.{MarkRef, Site, an_alias, inlinable_in}
+use Rattle.pkg_graph.specs.Package.{Package}
+use Rattle.run_rules.specs.Programs.{linked_imports}
 use Rattle.constant_steps.specs.Alone.{block_from, PackageAt}
+use Rattle.constant_steps.specs.PlainUse.{linked_at}
+use Rattle.alias_steps.specs.PlainAlias.{PlainAliasUse}
+use Rattle.alias_sites.specs.NamedUse.{NamedUse}
 use Rattle.go_types.specs.Entities.{Entity, World}
 use Rattle.go_types.specs.Collect.{file_env}
 use Rattle.alias_steps.specs.AliasUses.{NamesAlias}
@@ -34,3 +39,15 @@ PlainNamesNameAliases =
     means here old.name ≡ None → means here new.name ≡ None → means there new.name ≡ None →
     NamesAlias ps f.header f.spec w (file_env w home here None) (named s None old)
     (named z None (record { span = z; name = new.name }))
+
+-- So a plain use of an alias by its name names, in each program that holds its package and in each world at an end of the
+-- rounds, the alias that the mark holds for, and the name that the alias is declared as is its text there.
+abbrev pub PlainUsesNameAliases : Type 0
+PlainUsesNameAliases =
+    (same : Span → Span → Bool) (commented : ℕ → ℕ → Span → Bool) (rs : List (Package Span)) (marks : List MarkRef)
+    (x : Site Span) (u : PlainAliasUse same commented rs marks x) (v : NamedUse rs marks x) (s : Span) (k : ℕ)
+    (ps : Program Span) → PackageAt (linked_at rs x.at s) k ps →
+    (there : Environment Entity) × ((f : FirstAlias v.name.name x.at.number there (named u.at None u.new) ps) ×
+    ((w : World) → AliasEnd ps w → (at z : Span) → NamesAlias ps f.header f.spec w (file_env w x.at.number
+    (file_block (block_names (linked_at rs x.at s).files) [] (linked_imports rs x.at.source.tree)) None)
+    (named at None v.name) (named z None (record { span = z; name = u.new.name }))))

@@ -1,2 +1,3 @@
 pub mod FirstAlias
+pub mod NamedUse
 pub mod Laws
