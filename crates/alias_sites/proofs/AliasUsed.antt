@@ -13,7 +13,7 @@ use Rattle.go_types.specs.Programs.{SourcePackage, Program, file_block, block_na
 use Rattle.go_types.specs.Collect.{file_env}
 use Rattle.go_types.proofs.Agreeing.{some_same}
 use Rattle.written_literal.proofs.NamesMeant.{means_join}
-use Rattle.run_rules.specs.Surroundings.{Place}
+use Rattle.run_rules.specs.Surroundings.{Place, is_local}
 use Rattle.run_rules.specs.Programs.{linked_file, linked_import, linked_imports, package_number}
 use Rattle.run_rules.specs.Sites.{MarkRef, Where, Site, an_alias, not_function, same_target, outer, outer_meaning, name_mark}
 use Rattle.run_rules.specs.Reduced.{home_place}
@@ -121,13 +121,13 @@ module _ {S : Type 0} (same : S → S → Bool) (commented : ℕ → ℕ → S �
   old-named : outer_meaning rs x.at x.place old ≡ Some (member_of_mark x.mark)
   old-named = named_member (outer_meaning rs x.at x.place old) x.mark (marked_so rs marks not_function (name_mark rs x.at x.place old) x.mark v.marked)
 
-  old-there : MemberThere rs x.at old (member_of_mark x.mark)
+  pub old-there : MemberThere rs x.at old (member_of_mark x.mark)
   old-there = member_there rs x.at old x.mark.«package» x.mark.file x.mark.decl x.mark.item (not_local rs u.home x.at x.place old (member_of_mark x.mark) old-named).1
 
-  number-is : x.mark.«package» ≡ x.at.number
+  pub number-is : x.mark.«package» ≡ x.at.number
   number-is = member-here old p x.mark.«package» x.mark.file x.mark.decl x.mark.item old-there.in_block
 
-  declared : DeclaredThere rs x.mark (an_alias u.alias (named u.at None u.new))
+  pub declared : DeclaredThere rs x.mark (an_alias u.alias (named u.at None u.new))
   declared = declared_there rs x.mark (an_alias u.alias (named u.at None u.new)) u.declared
 
   stands : StandsThere rs x.mark declared.file
@@ -136,22 +136,26 @@ module _ {S : Type 0} (same : S → S → Bool) (commented : ℕ → ℕ → S �
   package-is : declared.file.of ≡ x.at.of
   package-is = some_same declared.file.of x.at.of (sym stands.package_there ∙ ap (slice_get rs) number-is ∙ v.package_there)
 
-  file-there : slice_get p.files x.mark.file ≡ Some (linked_file rs declared.file.source)
+  pub file-there : slice_get p.files x.mark.file ≡ Some (linked_file rs declared.file.source)
   file-there = nth_mapped (linked_file rs) x.at.of.files x.mark.file declared.file.source (sym (ap (λ k. slice_get k.files x.mark.file) package-is) ∙ stands.file_there)
 
-  abbrev there : Environment Entity
+  abbrev pub there : Environment Entity
   there = file_block (block_names p.files) [] (linked_imports rs declared.file.source.tree)
 
   -- the alias's file is that of the mark
   same-file : u.home ≡ declared.file
   same-file = some_same u.home declared.file (sym u.stands ∙ declared.stands)
 
-  new-at-home : means there u.new.name ≡ None
-  new-at-home =
-      ap (λ w. means (file_block (block_names p.files) [] (linked_imports rs w.source.tree)) u.new.name) (sym same-file)
-      ∙ no-import rs u.home x.at x.place u.home u.new.name u.target (not_local rs x.at u.home home_at u.new.name u.target u.names).1 u.plainly (block_names p.files)
+  pub new-at-home : (members : List (List ℕ)) → means (file_block members [] (linked_imports rs declared.file.source.tree)) u.new.name ≡ None
+  new-at-home members =
+      ap (λ w. means (file_block members [] (linked_imports rs w.source.tree)) u.new.name) (sym same-file)
+      ∙ no-import rs u.home x.at x.place u.home u.new.name u.target (not_local rs x.at u.home home_at u.new.name u.target u.names).1 u.plainly members
 
-  new-here : means here u.new.name ≡ None
+  -- the use's name isn't declared around it
+  pub old-free : is_local x.place old ≡ false
+  old-free = (not_local rs u.home x.at x.place old (member_of_mark x.mark) old-named).0
+
+  pub new-here : means here u.new.name ≡ None
   new-here =
       let m : ((a : Target) × ((outer_meaning rs x.at x.place u.new.name ≡ Some a) × (is_taken_plainly rs u.home x.at x.place a ≡ true))) =
       plain-meaning rs u.home x.at x.place (outer_meaning rs x.at x.place u.new.name) u.target (alias-means-there same commented rs marks x u) u.plainly in
@@ -161,4 +165,4 @@ module _ {S : Type 0} (same : S → S → Bool) (commented : ℕ → ℕ → S �
   plain-names k ps at =
       let in_block : means (block_from x.at.number 0 p.files) old ≡ Some (member x.at.number x.mark.file x.mark.decl x.mark.item) = old-there.in_block ∙ ap (λ j. Some (member j x.mark.file x.mark.decl x.mark.item)) number-is in
       let f : FirstAlias old x.at.number there (named u.at None u.new) ps = first-alias old p k ps x.mark.file x.mark.decl x.mark.item (linked_file rs declared.file.source) declared.decl u.alias (named u.at None u.new) at in_block file-there declared.nth declared.holds v.spelled_so in
-      (there, (f, λ w end a z. names-alias ps w v.name u.new u.at a z x.at.number there here f end (old-there.no_import (block_names p.files)) new-here new-at-home))
+      (there, (f, λ w end a z. names-alias ps w v.name u.new u.at a z x.at.number there here f end (old-there.no_import (block_names p.files)) new-here (new-at-home (block_names p.files))))

@@ -1,3 +1,4 @@
 pub mod AliasFirst
 pub mod AliasMeant
 pub mod AliasUsed
+pub mod TypeSteps
