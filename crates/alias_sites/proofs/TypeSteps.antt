@@ -32,10 +32,17 @@ use Rattle.constant_steps.proofs.MarksFound.{nth_mapped}
 use Rattle.constant_steps.proofs.SimpleUses.{simple_known}
 use Rattle.alias_steps.specs.Retypable.{LiteralKnown}
 use Rattle.alias_steps.specs.AliasUses.{AtTop, NoneLocal, TypeUseThere, NamedUses, FieldUses, AllAliasUses, NamesAlias}
-use Rattle.alias_steps.specs.AliasSteps.{DeclOfFiles, DeclOfPackage, form_put, SpecUses, DeclaredUses, ResolvedUses, DeclaredTypeUses, WholeUses, AliasSwaps}
-use Rattle.alias_steps.specs.PlainAlias.{PlainAliasUse}
+use Rattle.alias_steps.specs.AliasSteps.{members_with_form, DeclOfFiles, DeclOfPackage, form_put, SpecUses, DeclaredUses, ResolvedUses, DeclaredTypeUses, WholeUses, AliasSwaps}
+use Rattle.alias_steps.specs.PlainAlias.{name_form, PlainAliasUse}
 use Rattle.alias_steps.proofs.AliasNamed.{alias-resolved, alias-use}
-use Rattle.alias_steps.proofs.PlainAliasForms.{alias-name-free}
+use Rattle.alias_steps.proofs.PlainAliasForms.{alias-clear, alias-name-free}
+use Rattle.alias_steps.proofs.AliasStepLaw.{alias-step-means-the-same}
+use Rattle.std.specs.List.{list_all}
+use Rattle.go_types.specs.Collect.{collected}
+use Rattle.typed_in_place.specs.ImportRule.{package_imports}
+use Rattle.go_translation.specs.Packages as translated
+use Rattle.go_translation.specs.Packages.{sources}
+use Rattle.go_translation.specs.SameMeaning.{Packages, WellTyped, with_further, SameMeaning}
 use Rattle.alias_sites.specs.FirstAlias.{FirstAlias, AliasEnd, before_types, with_types}
 use Rattle.alias_sites.specs.NamedUse.{NamedUse}
 use Rattle.alias_sites.specs.TypeUse.{name_there, AllTheType, ReceiverStays, TypeUseStands}
@@ -309,3 +316,15 @@ module _ {S : Type 0} (same : S → S → Bool) (commented : ℕ → ℕ → S �
       before = λ w e. there-at (WholeUses same rs z form K x.at.of tree w) k at (whole-use w (used-there whole away_before old-first none_before w (values-end whole w e)));
       after = λ w e. there-at (WholeUses same rs z form K x.at.of tree w) k at (whole-use w (used-there after away_after new-first none-after w (values-end after w e)));
     }
+
+  -- the form that `reduced` gives is the name, in the use's place
+  form-named : u.form ≡ form
+  form-named = (alias-clear same commented rs marks x u).form_is ∙ ap (λ t. name_form z t u.new.name) y.part
+
+  pub form-swaps : (k : ℕ) (ps more : Program S) → PackageAt p k ps → AliasSwaps same rs z u.form K x.at.of tree more k x.at.file_number x.decl ps
+  form-swaps k ps more at = subst (λ f. AliasSwaps same rs z f K x.at.of tree more k x.at.file_number x.decl ps) (sym form-named) (type-swaps k ps more at)
+
+  pub type-step-means-the-same : (k : ℕ) (P : Packages S) → PackageAt p k (sources P.members)
+      → ((Q : List (translated.Package S)) → WellTyped (with_further P Q) → list_all (package_imports (collected (form_put same rs z u.form K x.at.of tree k x.at.file_number x.decl (sources P.members) ++ sources Q)) (headed (form_put same rs z u.form K x.at.of tree k x.at.file_number x.decl (sources P.members) ++ sources Q))) (form_put same rs z u.form K x.at.of tree k x.at.file_number x.decl (sources P.members)) ≡ true)
+      → SameMeaning P (record P { members = members_with_form same rs z u.form K x.at.of tree k x.at.file_number x.decl P.members })
+  type-step-means-the-same k P at right = alias-step-means-the-same same rs z u.form K x.at.of tree k x.at.file_number x.decl P (λ Q w. form-swaps k (sources P.members) (sources Q) at) right

@@ -1,13 +1,13 @@
 -- The laws of uses of aliases among the packages of a run. Each is the contract of a function of this crate (Go
 -- specification, Alias declarations; Declarations and scope).
-use Rattle.std.specs.Prelude.{◌≡◌, ℕ, Bool, false, List, [], Some, None, slice_get}
+use Rattle.std.specs.Prelude.{◌≡◌, ℕ, Bool, true, false, List, [], ◌++◌, Some, None, slice_get}
 use Rattle.go_tree.specs.declared.spans.Span.{Span}
 use Rattle.go_tree.specs.Tree.{NameAt, TypeExpr, named}
 use Rattle.go_tree.specs.File.{Decl}
 use Rattle.scope_names.specs.Means.{Environment, means}
 use Rattle.pkg_graph.specs.Members.{member}
-use Rattle.go_types.specs.Programs.{SourceFile, SourcePackage, Program, block_names, file_block, is_init}
-use Rattle.run_rules.specs.Sites.{MarkRef, Site, an_alias, inlinable_in}
+use Rattle.go_types.specs.Programs.{SourceFile, SourcePackage, Program, headed, block_names, file_block, is_init}
+use Rattle.run_rules.specs.Sites.{MarkRef, Site, part_span, an_alias, inlinable_in}
 use Rattle.pkg_graph.specs.Package.{Package}
 use Rattle.run_rules.specs.Programs.{linked_imports}
 use Rattle.constant_steps.specs.Alone.{block_from, PackageAt}
@@ -15,9 +15,16 @@ use Rattle.constant_steps.specs.PlainUse.{linked_at}
 use Rattle.alias_steps.specs.PlainAlias.{PlainAliasUse}
 use Rattle.alias_sites.specs.NamedUse.{NamedUse}
 use Rattle.go_types.specs.Entities.{Entity, World}
-use Rattle.go_types.specs.Collect.{file_env}
+use Rattle.go_types.specs.Collect.{file_env, collected}
 use Rattle.alias_steps.specs.AliasUses.{NamesAlias}
 use Rattle.alias_sites.specs.FirstAlias.{FirstAlias, AliasEnd}
+use Rattle.alias_sites.specs.TypeUse.{TypeUseStands}
+use Rattle.std.specs.List.{list_all}
+use Rattle.typed_in_place.specs.ImportRule.{package_imports}
+use Rattle.go_translation.specs.Packages as translated
+use Rattle.go_translation.specs.Packages.{sources}
+use Rattle.go_translation.specs.SameMeaning.{Packages, WellTyped, with_further, SameMeaning}
+use Rattle.alias_steps.specs.AliasSteps.{form_put, members_with_form, AliasSwaps}
 
 -- In every program with the package, a name that means a declaration by its numbers, for which a mark can hold as for an
 -- alias, is declared by the first header of the package that has the name, as an alias of the same text. The name isn't
@@ -51,3 +58,30 @@ PlainUsesNameAliases =
     ((w : World) → AliasEnd ps w → (at z : Span) → NamesAlias ps f.header f.spec w (file_env w x.at.number
     (file_block (block_names (linked_at rs x.at s).files) [] (linked_imports rs x.at.source.tree)) None)
     (named at None v.name) (named z None (record { span = z; name = u.new.name }))))
+
+-- At a plain use of an alias as a written type, before the step and after it, what stands at the use's span are uses of
+-- the alias, beside all further packages; the form that `reduced` gives stands there after.
+abbrev pub PlainTypeUsesSwap : Type 0
+PlainTypeUsesSwap =
+    (same : Span → Span → Bool) (commented : ℕ → ℕ → Span → Bool) (rs : List (Package Span)) (marks : List MarkRef)
+    (x : Site Span) (u : PlainAliasUse same commented rs marks x) (v : NamedUse rs marks x)
+    (y : TypeUseStands same rs marks x v u.new.name) (s : Span) (k : ℕ) (ps more : Program Span) →
+    PackageAt (linked_at rs x.at s) k ps →
+    AliasSwaps same rs (part_span x.part) u.form x.at.number x.at.of x.at.source.tree more k x.at.file_number x.decl ps
+
+-- So the packages after the step mean what those before do, beside all further packages, where their imports are right.
+abbrev pub PlainTypeUsesMeanTheSame : Type 0
+PlainTypeUsesMeanTheSame =
+    (same : Span → Span → Bool) (commented : ℕ → ℕ → Span → Bool) (rs : List (Package Span)) (marks : List MarkRef)
+    (x : Site Span) (u : PlainAliasUse same commented rs marks x) (v : NamedUse rs marks x)
+    (y : TypeUseStands same rs marks x v u.new.name) (s : Span) (k : ℕ) (P : Packages Span) →
+    PackageAt (linked_at rs x.at s) k (sources P.members) →
+    ((Q : List (translated.Package Span)) → WellTyped (with_further P Q) → list_all (package_imports
+    (collected (form_put same rs (part_span x.part) u.form x.at.number x.at.of x.at.source.tree k x.at.file_number
+    x.decl (sources P.members) ++ sources Q)) (headed (form_put same rs (part_span x.part) u.form x.at.number x.at.of
+    x.at.source.tree k x.at.file_number x.decl (sources P.members) ++ sources Q))) (form_put same rs (part_span x.part)
+    u.form x.at.number x.at.of x.at.source.tree k x.at.file_number x.decl (sources P.members)) ≡ true) →
+    SameMeaning P (record P {
+      members = members_with_form same rs (part_span x.part) u.form x.at.number x.at.of x.at.source.tree k
+          x.at.file_number x.decl P.members;
+    })

@@ -4,4 +4,4 @@
 
 mod laws;
 
-pub use laws::aliases_are_declared_first;
+pub use laws::{aliases_are_declared_first, plain_type_uses_mean_the_same};
