@@ -283,7 +283,7 @@ module _ {S : Type 0} where
             tree = y.tree;
             nth = y.nth;
             found = λ a r. let s : SpecFirst n a (all_headers xs) = y.found a r in
-            record { at = s.at; named = s.named; first = behind_others n (s.at, a_type_spec a) (headers x) (all_headers xs) (ap (is_among n) (decl_names x) ∙ unbound n y.spelled p f d 0 (block_names x) e) s.first };
+                record { at = s.at; named = s.named; first = behind_others n (s.at, a_type_spec a) (headers x) (all_headers xs) (ap (is_among n) (decl_names x) ∙ unbound n y.spelled p f d 0 (block_names x) e) s.first };
           }
 
   -- ---- among the headers of a program
@@ -377,7 +377,7 @@ module _ {S : Type 0} where
             tree = y.tree;
             nth = y.nth;
             found = λ a r b l rest. let s : SpecFirst n a (all_headers x.decls) = y.found a r in
-            (s.named, subst (SpecHeaded n home (file_block members [] x.imports) a) (sym (in_turn (this_file home main members i x b) (more_files home main members i x fs b) rest)) (headed_first n home main i (file_block members [] x.imports) s.at a b (all_headers x.decls) l s.first (more_files home main members i x fs b ++ rest)));
+                (s.named, subst (SpecHeaded n home (file_block members [] x.imports) a) (sym (in_turn (this_file home main members i x b) (more_files home main members i x fs b) rest)) (headed_first n home main i (file_block members [] x.imports) s.at a b (all_headers x.decls) l s.first (more_files home main members i x fs b ++ rest)));
           }
       go k None e q =
           let y : FilesFound n t home main members p (suc f) (suc i) fs = k q in record {

@@ -96,8 +96,19 @@ module _ (rs : List (run.Package ℕ)) (pk : run.Package ℕ) (tree : File ℕ) 
   called = as_expr (ident 37 (codes "T"))
 
   called_there : (w : World) → meaning (file_env w 0 [] None) (codes "A") ≡ Some (type_name type_t) → meaning (file_env w 0 [] None) (codes "T") ≡ Some (type_name type_t) → AtNth (DeclOfPackage (WholeUses nat_eq rs 37 called 0 pk tree w) 0 2) 0 before
-  called_there w a b = (refl, (tt, (tt, ((tt, (tt, λ e q. as-called q a b refl refl)),
-      ((tt, (tt, λ e q. nothing-put q)), ((tt, (tt, λ e q. nothing-put q)), ((tt, refl), tt)))))))
+  called_there w a b = (
+    refl,
+    (
+      tt,
+      (
+        tt,
+        (
+          (tt, (tt, λ e q. as-called q a b refl refl)),
+          ((tt, (tt, λ e q. nothing-put q)), ((tt, (tt, λ e q. nothing-put q)), ((tt, refl), tt))),
+        ),
+      ),
+    ),
+  )
 
   called_before : (w : World) → ValuesEnd (before ++ []) w → AtNth (DeclOfPackage (WholeUses nat_eq rs 37 called 0 pk tree w) 0 2) 0 before
   called_before _ after_values = called_there _ refl refl
@@ -131,8 +142,13 @@ module _ (rs : List (run.Package ℕ)) (pk : run.Package ℕ) (tree : File ℕ) 
   written = as_type new_type
 
   written_there : (w : World) → type_meant (file_env w 0 [] None) old_type ≡ type_meant (file_env w 0 [] None) new_type → AtNth (DeclOfPackage (WholeUses nat_eq rs 32 written 0 pk tree w) 0 2) 0 before
-  written_there w e = (refl, (λ i. record { meant = e; old_outside = one-name (top_place rs 0 pk tree) (codes "A") refl refl; new_outside = one-name (top_place rs 0 pk tree) (codes "T") refl refl },
-      (λ i. absurd (grind (arith, i)), ((tt, (tt, λ e q. nothing-put q)), ((tt, (tt, λ e q. nothing-put q)), ((tt, (tt, λ e q. nothing-put q)), ((tt, refl), tt)))))))
+  written_there w e = (
+    refl,
+    (
+      λ i. record { meant = e; old_outside = one-name (top_place rs 0 pk tree) (codes "A") refl refl; new_outside = one-name (top_place rs 0 pk tree) (codes "T") refl refl },
+      (λ i. absurd (grind (arith, i)), ((tt, (tt, λ e q. nothing-put q)), ((tt, (tt, λ e q. nothing-put q)), ((tt, (tt, λ e q. nothing-put q)), ((tt, refl), tt))))),
+    ),
+  )
 
   written_before : (w : World) → ValuesEnd (before ++ []) w → AtNth (DeclOfPackage (WholeUses nat_eq rs 32 written 0 pk tree w) 0 2) 0 before
   written_before _ after_values = written_there _ refl

@@ -4,6 +4,4 @@
 
 mod laws;
 
-pub use laws::{
-    alias_steps_mean_the_same, plain_aliases_become_names, uses_of_aliases_stand,
-};
+pub use laws::{alias_steps_mean_the_same, plain_aliases_become_names, uses_of_aliases_stand};

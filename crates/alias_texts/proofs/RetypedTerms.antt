@@ -684,4 +684,3 @@ module _ {S : Type 0} where
         ∙ ap (λ us. let q : Here = declaring (binds_first h.env i) us h in first_term h us i' (If (expr_term q truth_type t') (stmts_term (in_inner q) b') (arms_term (in_inner q) (λ e. mentions_block e last') (λ q. block_term q last') more')))
         (λ ww. mentions-swap Read q r_t ww ++ mentions_stmts-swap (in_inner q) r_b ww ++ mentions_arms-swap (in_inner q) r_more ww)
         ∙ ap (λ bs. let us : List Mention = arm_mentions (extend bs h.env) t' b' last' more' in let q : Here = declaring bs us h in first_term h us i' (If (expr_term q truth_type t') (stmts_term (in_inner q) b') (arms_term (in_inner q) (λ e. mentions_block e last') (λ q. block_term q last') more'))) (binds_first-swap h r_i)
-
