@@ -2,3 +2,4 @@ pub mod AliasFirst
 pub mod AliasMeant
 pub mod AliasUsed
 pub mod TypeSteps
+pub mod Instance
