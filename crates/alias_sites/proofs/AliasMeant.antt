@@ -1,4 +1,5 @@
--- A name that the first header of a package declares as an alias names that alias in each file of the package whose imports don't have it.
+-- A name that the first header of a package declares as an alias names that alias in each file of the package whose
+-- imports don't have it.
 use Rattle.std.specs.Prelude.{◌≡◌, refl, ℕ, List, [], ◌++◌, Some, None}
 use mathlib.Core.Path.{ap, sym, ◌∙◌, subst}
 use Rattle.go_tree.specs.Tree.{NameAt, named}

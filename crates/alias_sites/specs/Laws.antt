@@ -26,9 +26,9 @@ use Rattle.go_translation.specs.Packages.{sources}
 use Rattle.go_translation.specs.SameMeaning.{Packages, WellTyped, with_further, SameMeaning}
 use Rattle.alias_steps.specs.AliasSteps.{form_put, members_with_form, AliasSwaps}
 
--- In every program with the package, a name that means a declaration by its numbers, for which a mark can hold as for an
--- alias, is declared by the first header of the package that has the name, as an alias of the same text. The name isn't
--- `init`.
+-- In every program with the package, a name that means a declaration by its numbers, for which a mark can hold as for
+-- an alias, is declared by the first header of the package that has the name, as an alias of the same text. The name
+-- isn't `init`.
 abbrev pub AliasesAreFirst : Type 0
 AliasesAreFirst =
     (n : List ℕ) (p : SourcePackage Span) (k : ℕ) (ps : Program Span) (f d i : ℕ) (file : SourceFile Span)
@@ -37,8 +37,8 @@ AliasesAreFirst =
     slice_get file.decls d ≡ Some decl → inlinable_in decl i ≡ Some (an_alias c u) → is_init n ≡ false →
     FirstAlias n p.number (file_block (block_names p.files) [] file.imports) u ps
 
--- In a file of the package whose imports have neither name, and where the imports of the alias's file don't have the new
--- one, the name names the alias, and the name that the alias is declared as is its text.
+-- In a file of the package whose imports have neither name, and where the imports of the alias's file don't have the
+-- new one, the name names the alias, and the name that the alias is declared as is its text.
 abbrev pub PlainNamesNameAliases : Type 0
 PlainNamesNameAliases =
     (old new : NameAt Span) (at s z : Span) (home : ℕ) (there here : Environment Entity) (ps : Program Span)
@@ -47,8 +47,8 @@ PlainNamesNameAliases =
     NamesAlias ps f.header f.spec w (file_env w home here None) (named s None old)
     (named z None (record { span = z; name = new.name }))
 
--- So a plain use of an alias by its name names, in each program that holds its package and in each world at an end of the
--- rounds, the alias that the mark holds for, and the name that the alias is declared as is its text there.
+-- So a plain use of an alias by its name names, in each program that holds its package and in each world at an end of
+-- the rounds, the alias that the mark holds for, and the name that the alias is declared as is its text there.
 abbrev pub PlainUsesNameAliases : Type 0
 PlainUsesNameAliases =
     (same : Span → Span → Bool) (commented : ℕ → ℕ → Span → Bool) (rs : List (Package Span)) (marks : List MarkRef)

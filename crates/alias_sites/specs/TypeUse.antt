@@ -37,8 +37,8 @@ ReceiverStays same rs x form (func f) =
     (top_place rs x.at.number x.at.of x.at.source.tree) f.receiver ≡ f.receiver
 ReceiverStays same rs x form d = Unit {0}
 
--- The use is the alias's name as a written type. It stands in a declaration of its file, in which nothing else stands at
--- its span, and which isn't that of the alias; the declaration's parts are simple, and its receiver stays.
+-- The use is the alias's name as a written type. It stands in a declaration of its file, in which nothing else stands
+-- at its span, and which isn't that of the alias; the declaration's parts are simple, and its receiver stays.
 pub record TypeUseStands {S : Type 0} (same : S → S → Bool) (rs : List (Package S)) (marks : List MarkRef) (x : Site S)
     (v : NamedUse rs marks x) (new : List ℕ) : Type 0 where
   pub span : S

@@ -1,5 +1,5 @@
-//! Uses of aliases among the packages of a run: the alias that a name means there is the one that the rules of typing
-//! say it means (Go specification, Alias declarations; Declarations and scope).
+//! Uses of aliases among the packages of a run: the alias that a name means there is the one that
+//! the rules of typing say it means (Go specification, Alias declarations; Declarations and scope).
 #![tactic(auto)]
 
 mod laws;

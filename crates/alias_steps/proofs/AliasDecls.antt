@@ -1,4 +1,5 @@
--- A declaration in which uses of an alias become the text of its type: its headers are the old ones with types written otherwise.
+-- A declaration in which uses of an alias become the text of its type: its headers are the old ones with types written
+-- otherwise.
 use Rattle.std.specs.Prelude.{◌≡◌, refl, ℕ, suc, Bool, true, List, [], ◌∷◌, ◌++◌, map, Option, Some, None}
 use mathlib.Core.Path.{ap, sym, ◌∙◌, subst}
 use Rattle.go_tree.specs.Tree.{NameAt, TypeExpr, Exprs, no_exprs, expr_and, const_decl, var_decl, empty, eval, step, assign, define, return_, break_, continue_, inner, if_, for_, range_, switch, defer, label, ValueSpecs, no_specs, spec}

@@ -1,4 +1,5 @@
--- A use of an alias and the text of its type, at a place where none of their names is declared around: both have the same facts there.
+-- A use of an alias and the text of its type, at a place where none of their names is declared around: both have the
+-- same facts there.
 use Rattle.std.specs.Prelude.{◌≡◌, refl, ℕ, Bool, true, false, ◌||◌, List, [], ◌∷◌, Option, Some, None, if◌then◌else◌}
 use mathlib.Core.Path.{ap, sym, ◌∙◌}
 use Rattle.std.proofs.Common.{arith}

@@ -1,4 +1,5 @@
--- From the declaration of an alias: a name that means it, and the text of its type written for the place, are one type where the rounds of declarations end.
+-- From the declaration of an alias: a name that means it, and the text of its type written for the place, are one type
+-- where the rounds of declarations end.
 use Rattle.std.specs.Prelude.{◌≡◌, refl, ℕ, false, List, [], ◌∷◌, Option, Some, None}
 use mathlib.Core.Path.{ap, sym, ◌∙◌}
 use Rattle.std.proofs.Common.{arith}

@@ -1,4 +1,5 @@
--- Each step of a run over constants and aliases keeps the kernel program beside all further packages; so the run means the same.
+-- Each step of a run over constants and aliases keeps the kernel program beside all further packages; so the run means
+-- the same.
 use Rattle.std.specs.Prelude.{refl, Bool, List, length}
 use mathlib.Core.Path.{ap, ◌∙◌}
 use Rattle.go_translation.specs.Packages.{Package, sources, freely_shown_by_code}

@@ -1,4 +1,5 @@
--- The form of a plain use of an alias: the name that the alias is declared as, in the use's place, where that name means what it means in the file of the alias.
+-- The form of a plain use of an alias: the name that the alias is declared as, in the use's place, where that name
+-- means what it means in the file of the alias.
 use Rattle.std.specs.Prelude.{◌≡◌, refl, ℕ, Bool, true, false, not, ◌&&◌, List, [], ◌∷◌, Option, Some, None, if◌then◌else◌, nat_eq}
 use mathlib.Core.Path.{ap, sym, ◌∙◌, subst}
 use Rattle.std.proofs.Common.{arith}

@@ -1,4 +1,5 @@
--- Packages with types written otherwise are equal programs of the kernel, and mean the same beside all further packages.
+-- Packages with types written otherwise are equal programs of the kernel, and mean the same beside all further
+-- packages.
 use Rattle.std.specs.Prelude.{◌≡◌, refl, ℕ, Bool, true, false, not, ◌&&◌, ◌||◌, List, [], ◌∷◌, ◌++◌, map, length}
 use Rattle.std.specs.List.{list_all, list_any}
 use mathlib.Core.Path.{ap, ap₂, sym, ◌∙◌, subst}

@@ -1,5 +1,5 @@
--- A step over a use of an alias: in the declaration that changes, what stands at the span are uses of the alias, and what
--- is put there is the text of its type (Go specification, Alias declarations; Declarations and scope).
+-- A step over a use of an alias: in the declaration that changes, what stands at the span are uses of the alias, and
+-- what is put there is the text of its type (Go specification, Alias declarations; Declarations and scope).
 use Rattle.std.specs.Prelude.{◌≡◌, ℕ, zero, suc, Bool, List, [], ◌∷◌, ◌++◌, None}
 use Rattle.go_tree.specs.Tree.{TypeExpr}
 use Rattle.go_tree.specs.File.{TypeSpec, Decl, types, func, File}
@@ -17,8 +17,8 @@ use Rattle.run_rules.specs.Steps.{changes_for, new_decl, new_receiver_option, ch
 use Rattle.step_laws.specs.DeclStands.{AtNth, changed, file_changed}
 use Rattle.alias_steps.specs.AliasUses.{TypeUseThere, TypeUses, AllAliasUses}
 
--- of the declaration with these numbers of its file and in its file, in a package with this number and a file with these
--- imports
+-- of the declaration with these numbers of its file and in its file, in a package with this number and a file with
+-- these imports
 module _ {S : Type 0} (D : ℕ → Environment Entity → Decl S → Type 0) where
   -- among the files of a package
   abbrev pub DeclOfFiles : ℕ → List (List ℕ) → ℕ → ℕ → List (SourceFile S) → Type 0

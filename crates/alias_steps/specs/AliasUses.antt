@@ -1,8 +1,9 @@
--- Uses of an alias at the places that the walk lists, and the text of its type in their place: both mean one type at the
--- top of the file, and none of their names is declared around the place (Go specification, Alias declarations;
+-- Uses of an alias at the places that the walk lists, and the text of its type in their place: both mean one type at
+-- the top of the file, and none of their names is declared around the place (Go specification, Alias declarations;
 -- Declarations and scope; Qualified identifiers).
 use Rattle.std.specs.Prelude.{◌≡◌, ℕ, true, false, Bool, List, [], ◌∷◌, Option, Some, None}
-use Rattle.go_tree.specs.Tree.{NameAt, TypeExpr, named, pointer, slice_type, map_type, struct_type, Fields, no_fields, field, Expr, type_operand}
+use Rattle.go_tree.specs.Tree.{NameAt, TypeExpr, named, pointer, slice_type, map_type, struct_type, Fields, no_fields}
+use Rattle.go_tree.specs.Tree.{field, Expr, type_operand}
 use Rattle.go_tree.specs.File.{TypeSpec}
 use Rattle.scope_names.specs.Means.{is_blank, means}
 use Rattle.scope_names.specs.FreeNames.{free_type}
@@ -22,7 +23,8 @@ use Rattle.step_laws.specs.NamesOutside.{NamesOutside}
 use Rattle.alias_steps.specs.Retypable.{LiteralKnown}
 
 -- names outside a declaration mean at this place what they mean at the top of the file, in the same package
-pub record AtTop {S : Type 0} (top : Env) (around : List (List ℕ)) (env a : Env) (bound : List (NameAt S)) : Type 0 where
+pub record AtTop {S : Type 0} (top : Env) (around : List (List ℕ)) (env a : Env) (bound : List (NameAt S)) :
+    Type 0 where
   pub outside : NamesOutside top around env a bound
   pub home : env.home ≡ top.home
 
@@ -91,8 +93,8 @@ module _ {S : Type 0} (same : S → S → Bool) (z : S) where
 
 -- ---- from the declaration
 
--- In a world of a program that declares `type A = t`: a text names what A means there, and the other is the alias's text
--- written for the place.
+-- In a world of a program that declares `type A = t`: a text names what A means there, and the other is the alias's
+-- text written for the place.
 pub record NamesAlias {S : Type 0} (ps : Program S) (h : Headed S) (a : TypeSpec S) (w : World) (top : Env)
     (t u : TypeExpr S) : Type 0 where
   pub declares : DeclaresAlias ps (headed ps) h a

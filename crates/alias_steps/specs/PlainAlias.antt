@@ -5,7 +5,8 @@ use Rattle.go_tree.specs.Tree.{NameAt, named, ident}
 use Rattle.pkg_graph.specs.Package.{Package}
 use Rattle.pkg_graph.specs.Members.{Target}
 use Rattle.run_rules.specs.Obstacles.{is_taken_plainly}
-use Rattle.run_rules.specs.Sites.{MarkRef, Where, Part, an_expr, a_type_part, Site, an_alias, where_is, inlinable, outer_meaning}
+use Rattle.run_rules.specs.Sites.{MarkRef, Where, Part, an_expr, a_type_part, Site, an_alias, where_is, inlinable}
+use Rattle.run_rules.specs.Sites.{outer_meaning}
 use Rattle.run_rules.specs.Naming.{Named}
 use Rattle.run_rules.specs.FormTrees.{FormKind, Form, as_expr, as_type}
 use Rattle.run_rules.specs.Reduced.{becomes, home_place, reduced}

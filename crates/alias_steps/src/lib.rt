@@ -1,5 +1,6 @@
-//! A step over a use of an alias: the packages after, in which the text of its type stands, mean what those before do
-//! (Go specification, Alias declarations; Type identity; Declarations and scope).
+//! A step over a use of an alias: the packages after, in which the text of its type stands, mean
+//! what those before do (Go specification, Alias declarations; Type identity; Declarations and
+//! scope).
 #![tactic(auto)]
 
 mod laws;

@@ -1,4 +1,5 @@
--- Uses of an alias of a struct type in a body, in the place of which the type's name is written: in a literal, a variable, a conversion with `*`, a function literal and a deferred call.
+-- Uses of an alias of a struct type in a body, in the place of which the type's name is written: in a literal, a
+-- variable, a conversion with `*`, a function literal and a deferred call.
 --   type T struct { N int }; type A = T; type P = *T
 --   var x A = A{N: 1}; y := P(&x); defer func(z A) { _ = z }(*y)
 -- after: var x T = T{N: 1}; y := (*T)(&x); defer func(z T) { _ = z }(*y)
@@ -71,7 +72,7 @@ retyped =
 same_terms : stmts_term at_top (body (ty (codes "A")) (v (codes "P"))) ≡ stmts_term at_top (body (ty (codes "T")) (der (v (codes "T"))))
 same_terms = stmts_term-swap at_top retyped
 
--- ---- where the name of the alias's type means something else: in the scope of a variable T, `A(1)` would become `T(1)`
+-- ---- where the alias's type's name means something else: in the scope of a variable T, `A(1)` would become `T(1)`
 
 abbrev under_t : Env
 under_t = record top { names = (codes "T", variable (basic kind.Int)) ∷ (codes "B", type_name (basic kind.Int)) ∷ names }

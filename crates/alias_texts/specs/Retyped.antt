@@ -6,7 +6,13 @@ use Rattle.std.specs.Prelude.{◌≡◌, ℕ, Bool, true, false, List, [], ◌++
 use Rattle.go_tree.specs.declared.exprs.Rest.{Rest}
 use Rattle.go_tree.specs.declared.operators.UnOp.{UnOp}
 use Rattle.go_tree.specs.declared.operators.BinOp.{BinOp}
-use Rattle.go_tree.specs.Tree.{NameAt, Sig, TypeExpr, Expr, composite, selector, index, slice, call, func_lit, type_operand, unary, binary, star, Exprs, expr_and, ExprOption, some_expr, Elems, no_elems, elem, Value, plain, braced, ValueOption, no_value, some_value, Stmt, const_decl, var_decl, eval, step, assign, define, return_, inner, if_, for_, range_, switch, defer, label, Stmts, stmt_and, StmtOption, some_stmt, BlockOption, some_block, RangeLeft, assigns, Arms, no_arms, arm, Cases, no_cases, case, ValueSpecs, no_specs, spec}
+use Rattle.go_tree.specs.Tree.{NameAt, Sig, TypeExpr, Expr, composite, selector, index, slice, call, func_lit}
+use Rattle.go_tree.specs.Tree.{type_operand, unary, binary, star, Exprs, expr_and, ExprOption, some_expr, Elems}
+use Rattle.go_tree.specs.Tree.{no_elems, elem, Value, plain, braced, ValueOption, no_value, some_value, Stmt}
+use Rattle.go_tree.specs.Tree.{const_decl, var_decl, eval, step, assign, define, return_, inner, if_, for_, range_}
+use Rattle.go_tree.specs.Tree.{switch, defer, label, Stmts, stmt_and, StmtOption, some_stmt, BlockOption, some_block}
+use Rattle.go_tree.specs.Tree.{RangeLeft, assigns, Arms, no_arms, arm, Cases, no_cases, case, ValueSpecs, no_specs}
+use Rattle.go_tree.specs.Tree.{spec}
 use Rattle.go_tree.specs.File.{TypeSpec, Func}
 use Rattle.scope_names.specs.Means.{is_blank}
 use Rattle.scope_names.specs.FreeNames.{names_of, sig_names, declared, declared_option, defined}
@@ -22,7 +28,8 @@ use Rattle.go_types.specs.WellTyped.{receiver_names}
 use Rattle.go_translation.specs.Facts.{binds_after, binds_first, spec_binds}
 use Rattle.typed_in_place.specs.SameFacts.{NoneAround}
 use Rattle.typed_in_place.specs.Leaves.{Names, NamesType}
-use Rattle.typed_in_place.specs.Replaced.{TypeReplaced, TypeOptionReplaced, SigReplaced, ExprsReplaced, ConstantsReplaced}
+use Rattle.typed_in_place.specs.Replaced.{TypeReplaced, TypeOptionReplaced, SigReplaced, ExprsReplaced}
+use Rattle.typed_in_place.specs.Replaced.{ConstantsReplaced}
 
 -- an expression that is a type, by its name or as a type's text
 pub data PlainType {S : Type 0} (env : Env) : Expr S → GoType → Type 0 where
