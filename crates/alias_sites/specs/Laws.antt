@@ -69,6 +69,10 @@ PlainTypeUsesSwap =
     PackageAt (linked_at rs x.at s) k ps →
     AliasSwaps same rs (part_span x.part) u.form x.at.number x.at.of x.at.source.tree more k x.at.file_number x.decl ps
 
+-- the imports of packages are right, beside further packages
+abbrev ImportsAreRight : Program Span → Program Span → Type 0
+ImportsAreRight qs more = list_all (package_imports (collected (qs ++ more)) (headed (qs ++ more))) qs ≡ true
+
 -- So the packages after the step mean what those before do, beside all further packages, where their imports are right.
 abbrev pub PlainTypeUsesMeanTheSame : Type 0
 PlainTypeUsesMeanTheSame =
@@ -76,11 +80,9 @@ PlainTypeUsesMeanTheSame =
     (x : Site Span) (u : PlainAliasUse same commented rs marks x) (v : NamedUse rs marks x)
     (y : TypeUseStands same rs marks x v u.new.name) (s : Span) (k : ℕ) (P : Packages Span) →
     PackageAt (linked_at rs x.at s) k (sources P.members) →
-    ((Q : List (translated.Package Span)) → WellTyped (with_further P Q) → list_all (package_imports
-    (collected (form_put same rs (part_span x.part) u.form x.at.number x.at.of x.at.source.tree k x.at.file_number
-    x.decl (sources P.members) ++ sources Q)) (headed (form_put same rs (part_span x.part) u.form x.at.number x.at.of
-    x.at.source.tree k x.at.file_number x.decl (sources P.members) ++ sources Q))) (form_put same rs (part_span x.part)
-    u.form x.at.number x.at.of x.at.source.tree k x.at.file_number x.decl (sources P.members)) ≡ true) →
+    ((Q : List (translated.Package Span)) → WellTyped (with_further P Q) → ImportsAreRight (form_put same rs
+    (part_span x.part) u.form x.at.number x.at.of x.at.source.tree k x.at.file_number x.decl (sources P.members))
+    (sources Q)) →
     SameMeaning P (record P {
       members = members_with_form same rs (part_span x.part) u.form x.at.number x.at.of x.at.source.tree k
           x.at.file_number x.decl P.members;
