@@ -1,0 +1,5 @@
+pub mod AliasFirst
+pub mod AliasMeant
+pub mod AliasUsed
+pub mod TypeSteps
+pub mod Instance

@@ -1,0 +1,4 @@
+pub mod FirstAlias
+pub mod NamedUse
+pub mod TypeUse
+pub mod Laws

@@ -1,0 +1,4 @@
+pub mod RetypedTyping
+pub mod RetypedTerms
+pub mod RetypedHeaders
+mod Instance

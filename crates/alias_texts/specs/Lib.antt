@@ -1,0 +1,2 @@
+pub mod Retyped
+pub mod Laws
