@@ -32,6 +32,7 @@ use Rattle.qualified_steps.specs.NamedUse.{NamedUse, NamedUseStands, PackagesSta
 use Rattle.qualified_steps.specs.ImportsStay.{ImportsStay, still_used, is_stored_name, named_put, IsStillUsed, is_listed, IsListed}
 use Rattle.qualified_steps.proofs.MembersNamed.{ByImport, by_import, OwnName, own_name}
 use Rattle.qualified_steps.proofs.PutIsUsed.{at_use}
+use Rattle.qualified_steps.proofs.Small.{or_right, both_parts}
 use Rattle.qualified_steps.proofs.StillUsed.{decl_used, file_now_used, files_used, program_used}
 use Rattle.qualified_steps.proofs.Targets.{numbered_spelled}
 use Rattle.qualified_steps.proofs.UsesKnown.{put_named, old_before, new_before}
@@ -85,14 +86,6 @@ module _ {S : Type 0} (same : S → S → Bool) (commented : ℕ → ℕ → S �
 
   -- ---- the name of an import before what is put
 
-  or_later : (b d : Bool) → d ≡ true → (b || d) ≡ true
-  or_later true d e = refl
-  or_later false d e = e
-
-  both_parts : (b d : Bool) → (b && d) ≡ true → (b ≡ true) × (d ≡ true)
-  both_parts true d e = (refl, e)
-  both_parts false d e = absurd (grind (arith, e))
-
   module _ (s t : S) (q : List ℕ) (n : NameAt S) (free : is_local x.place q ≡ false) (spelled : is_blank q ≡ false) where
     abbrev put : Expr S
     put = selector s (ident t q) n
@@ -114,7 +107,7 @@ module _ {S : Type 0} (same : S → S → Bool) (commented : ℕ → ℕ → S �
       where
         go : (b : Bool) → is_listed same x y ≡ b → (b || list_any (is_listed same x) ys) ≡ true → (list_any (is_listed same x) ys ≡ true → list_any finds ys ≡ true) → (finds y || list_any finds ys) ≡ true
         go true e g f = ap (λ b. b || list_any finds ys) (found_one y true e (k.0, tt) refl)
-        go false e g f = or_later (finds y) (list_any finds ys) (f g)
+        go false e g f = or_right (finds y) (list_any finds ys) (f g)
 
     file_there : slice_get p.files M ≡ Some (linked_file rs x.at.source)
     file_there = nth_mapped (linked_file rs) x.at.of.files M x.at.source v.file_there

@@ -44,6 +44,7 @@ use Rattle.constant_steps.specs.Alone as alone
 use Rattle.constant_steps.specs.PlainUse.{AllSimple, AllTheUse}
 use Rattle.constant_steps.proofs.OneMore.{WithOne, one_holds, all_answered}
 use Rattle.constant_steps.proofs.SimpleUses.{simple_known, simple_kept, of_use}
+use Rattle.qualified_steps.proofs.Small.{or_right, simple_front, simple_behind}
 
 -- one package's name stands before both
 pub data OnePackage {S : Type 0} : Expr S → Expr S → Type 0 where
@@ -67,14 +68,6 @@ uses_itself D number changed w home in_main file is (a_type_spec t) = (refl, λ 
 uses_itself D number changed w home in_main file is (a_func f) = (refl, λ m d s t b c. refl)
 
 module _ {S : Type 0} where
-  simple_front : (xs ys : List (Seen S)) → AllSimple (xs ++ ys) → AllSimple xs
-  simple_front [] ys a = tt
-  simple_front (x ∷ xs) ys a = (a.0, simple_front xs ys a.1)
-
-  simple_behind : (xs ys : List (Seen S)) → AllSimple (xs ++ ys) → AllSimple ys
-  simple_behind [] ys a = a
-  simple_behind (x ∷ xs) ys a = simple_behind xs ys a.1
-
   module _ (same : S → S → Bool) (x : Site S) (old : Expr S) where
     use_front : (xs ys : List (Seen S)) → AllTheUse same x old (xs ++ ys) → AllTheUse same x old xs
     use_front [] ys a = tt
@@ -86,10 +79,6 @@ module _ {S : Type 0} where
 
 among_itself : (m : List ℕ) → is_among m (m ∷ []) ≡ true
 among_itself m = ap (λ b. b || false) ((bytes_eq-Decides m m).1 refl)
-
-or_last : (a b : Bool) → b ≡ true → (a || b) ≡ true
-or_last true b e = refl
-or_last false b e = e
 
 -- ---- one package's name before both
 
@@ -206,7 +195,7 @@ module _ {S : Type 0} (same : S → S → Bool) (rs : List (Package S)) (x : Sit
           refl,
           λ m d t t' b b'.
               after_all m (free_params [] f.sig.params ++ free_params [] f.sig.results) (without (bound f) (used_stmts (body_env w (headed_there K in_main i is t b (a_func f)) f) f.body)) (without (bound f) (used_stmts (body_env w (headed_there K in_main i is t b (a_func f)) f) (new_body f)))
-              ((without_alike (bound f) (body_uses m (d refl refl) f t b (simple_behind (r ++ g) bs si) (use_behind same x use_ (r ++ g) bs a))).each m (among_append m (bound f) (m ∷ []) ∙ or_last (is_among m (bound f)) (is_among m (m ∷ [])) (among_itself m))),
+              ((without_alike (bound f) (body_uses m (d refl refl) f t b (simple_behind (r ++ g) bs si) (use_behind same x use_ (r ++ g) bs a))).each m (among_append m (bound f) (m ∷ []) ∙ or_right (is_among m (bound f)) (is_among m (m ∷ [])) (among_itself m))),
         )
 
     -- the headers of a plain declaration use what they did, of the names that aren't touched

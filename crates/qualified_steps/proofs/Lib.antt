@@ -1,3 +1,4 @@
+pub mod Small
 pub mod Targets
 pub mod MembersNamed
 pub mod Qualifiers

@@ -1,5 +1,5 @@
 -- The imports are right after a step over a use of a constant that is declared as a name, and the packages mean the same.
-use Rattle.std.specs.Prelude.{◌≡◌, refl, ℕ, zero, suc, ◌+◌, Bool, true, false, ◌&&◌, ◌||◌, List, [], ◌∷◌, ◌++◌, Option, Some, None, bytes_eq, slice_get}
+use Rattle.std.specs.Prelude.{◌≡◌, refl, ℕ, zero, suc, ◌+◌, Bool, true, false, ◌&&◌, List, [], ◌∷◌, ◌++◌, Option, Some, None, bytes_eq, slice_get}
 use Rattle.std.specs.List.{list_all}
 use mathlib.Core.Path.{ap, sym, ◌∙◌, subst}
 use Rattle.std.proofs.Common.{arith}
@@ -51,6 +51,7 @@ use Rattle.qualified_steps.specs.ImportsStay.{ImportsStay, same_before, still_us
 use Rattle.qualified_steps.proofs.HeadersUse.{OnePackage, one_package, Untouched, other_name, any_name, UsesKept, uses_itself, decl_uses}
 use Rattle.qualified_steps.proofs.ImportsRight.{NameStays, as_before, in_use, NamesStay, packages_right, files_stay, packages_stay}
 use Rattle.qualified_steps.proofs.MembersNamed.{OwnName, own_name}
+use Rattle.qualified_steps.proofs.Small.{or_left, or_right}
 use Rattle.qualified_steps.proofs.UsesKnown.{put_named, use_before}
 use Rattle.qualified_steps.proofs.NamedSwaps.{stand_beside, sound, not_init, named_swaps}
 
@@ -178,14 +179,6 @@ module _ {S : Type 0} (same : S → S → Bool) (commented : ℕ → ℕ → S �
   abbrev Listed : List (Import S) → Type 0
   Listed js = (n : List ℕ) → is_among n (import_names js) ≡ true → is_among n (import_names (linked_imports rs tree)) ≡ true
 
-  or_first : (b : Bool) (c : Bool) → b ≡ true → (b || c) ≡ true
-  or_first true c e = refl
-  or_first false c e = absurd (grind (arith, e))
-
-  or_second : (b : Bool) (c : Bool) → c ≡ true → (b || c) ≡ true
-  or_second true c e = refl
-  or_second false c e = e
-
   abbrev StillUsed : List ℕ → Type 0
   StillUsed n = is_among n (import_names (linked_imports rs tree)) ≡ true → is_used_in w K M n ks ≡ true
 
@@ -193,9 +186,9 @@ module _ {S : Type 0} (same : S → S → Bool) (commented : ℕ → ℕ → S �
   listed_stay [] l f g = tt
   listed_stay (j ∷ js) l f g = (
     λ b. one_of_two j.name
-        (λ q. in_use (subst (λ n. is_used_in w K M n ks ≡ true) q (f (ap (λ n. is_among n (import_names (linked_imports rs tree))) q ∙ l j.name (or_first (bytes_eq j.name j.name) (is_among j.name (import_names js)) ((bytes_eq-Decides j.name j.name).1 refl))))))
-        (λ q. in_use (subst (λ n. is_used_in w K M n ks ≡ true) q (g (ap (λ n. is_among n (import_names (linked_imports rs tree))) q ∙ l j.name (or_first (bytes_eq j.name j.name) (is_among j.name (import_names js)) ((bytes_eq-Decides j.name j.name).1 refl)))))),
-    listed_stay js (λ n e. l n (or_second (bytes_eq n j.name) (is_among n (import_names js)) e)) f g,
+        (λ q. in_use (subst (λ n. is_used_in w K M n ks ≡ true) q (f (ap (λ n. is_among n (import_names (linked_imports rs tree))) q ∙ l j.name (or_left (bytes_eq j.name j.name) (is_among j.name (import_names js)) ((bytes_eq-Decides j.name j.name).1 refl))))))
+        (λ q. in_use (subst (λ n. is_used_in w K M n ks ≡ true) q (g (ap (λ n. is_among n (import_names (linked_imports rs tree))) q ∙ l j.name (or_left (bytes_eq j.name j.name) (is_among j.name (import_names js)) ((bytes_eq-Decides j.name j.name).1 refl)))))),
+    listed_stay js (λ n e. l n (or_right (bytes_eq n j.name) (is_among n (import_names js)) e)) f g,
   )
 
   any_stay : OnePackage u.use_ e → (js : List (Import S)) → NamesStay D K M w ks K M js

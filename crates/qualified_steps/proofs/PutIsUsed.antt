@@ -30,19 +30,12 @@ use Rattle.written_literal.specs.Within.{Grows}
 use Rattle.written_literal.proofs.ListedHeads.{listing}
 use Rattle.constant_steps.specs.PlainUse.{AllSimple}
 use Rattle.qualified_steps.specs.ImportsStay.{is_stored_name}
+use Rattle.qualified_steps.proofs.Small.{or_left, or_right, simple_front, simple_behind}
 
 -- an expression that is a name without a package's name before it
 abbrev pub is_plain : {S : Type 0} → Expr S → Bool
 is_plain (ident s n) = true
 is_plain e = false
-
-both_true : (a b : Bool) → (a && b) ≡ true → (a ≡ true) × (b ≡ true)
-both_true true b e = (refl, e)
-both_true false b e = absurd (grind (arith, e))
-
-is_false : (b : Bool) → not b ≡ true → b ≡ false
-is_false true e = absurd (grind (arith, e))
-is_false false e = refl
 
 or_none : (b : Bool) → (b || false) ≡ true → b ≡ true
 or_none true e = refl
@@ -50,15 +43,6 @@ or_none false e = absurd (grind (arith, e))
 
 never : {X : Type 0} → false ≡ true → X
 never e = absurd (grind (arith, e))
-
-module _ {S : Type 0} where
-  simple_front : (xs ys : List (Seen S)) → AllSimple (xs ++ ys) → AllSimple xs
-  simple_front [] ys a = tt
-  simple_front (x ∷ xs) ys a = (a.0, simple_front xs ys a.1)
-
-  simple_behind : (xs ys : List (Seen S)) → AllSimple (xs ++ ys) → AllSimple ys
-  simple_behind [] ys a = a
-  simple_behind (x ∷ xs) ys a = simple_behind xs ys a.1
 
 module _ {S : Type 0} (same : S → S → Bool) (z : S) (e : Expr S) (r : List ℕ) (uses_r : (a : Env) → used a e ≡ r ∷ []) (shape : is_plain e ≡ false) where
   abbrev c : Changes S
@@ -86,14 +70,6 @@ module _ {S : Type 0} (same : S → S → Bool) (z : S) (e : Expr S) (r : List �
 
   of_expr : {bound : List (NameAt S)} {a : Env} {y : Expr S} → HereIn bound a y → Here bound (used a y)
   of_expr h = record { free = h.free; there = h.there }
-
-  or_left : (a b : Bool) → a ≡ true → (a || b) ≡ true
-  or_left true b e = refl
-  or_left false b e = never e
-
-  or_right : (a b : Bool) → b ≡ true → (a || b) ≡ true
-  or_right true b e = refl
-  or_right false b e = e
 
   left : {bound : List (NameAt S)} (us vs : List (List ℕ)) → Here bound us → Here bound (us ++ vs)
   left us vs h = record { free = h.free; there = among_append r us vs ∙ or_left (is_among r us) (is_among r vs) h.there }

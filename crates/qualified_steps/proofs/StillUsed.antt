@@ -32,24 +32,8 @@ use Rattle.constant_steps.specs.Alone.{SingleSpecs, no_constants, and_constant, 
 use Rattle.constant_steps.specs.Alone as alone
 use Rattle.constant_steps.specs.PlainUse.{AllSimple}
 use Rattle.constant_steps.proofs.AfterStep.{same_number}
+use Rattle.qualified_steps.proofs.Small.{or_left, or_right, simple_front, simple_behind}
 use Rattle.qualified_steps.proofs.PutIsUsed.{is_plain, at_use, Any, Here, either, none_there, all_put, stmts_put}
-
-module _ {S : Type 0} where
-  front : (xs ys : List (Seen S)) → AllSimple (xs ++ ys) → AllSimple xs
-  front [] ys a = tt
-  front (x ∷ xs) ys a = (a.0, front xs ys a.1)
-
-  behind : (xs ys : List (Seen S)) → AllSimple (xs ++ ys) → AllSimple ys
-  behind [] ys a = a
-  behind (x ∷ xs) ys a = behind xs ys a.1
-
-or_right : (a b : Bool) → b ≡ true → (a || b) ≡ true
-or_right true b e = refl
-or_right false b e = e
-
-or_left : (a b : Bool) → a ≡ true → (a || b) ≡ true
-or_left true b e = refl
-or_left false b e = absurd (grind (arith, e))
 
 module _ {S : Type 0} (same : S → S → Bool) (rs : List (Package S)) (z : S) (e : Expr S) (r : List ℕ) (uses_r : (a : Env) → used a e ≡ r ∷ []) (shape : is_plain e ≡ false) (spelled : is_blank r ≡ false) (K : ℕ) (pk : Package S) (tree : File S) (w : World) (in_main : Bool) (i : ℕ) (is : Environment Entity) where
   abbrev c : Changes S
@@ -87,8 +71,8 @@ module _ {S : Type 0} (same : S → S → Bool) (rs : List (Package S)) (z : S) 
       let xs : List (Seen S) = all_seen (in_constant j q) us (expr_and v no_exprs) in
       let ys : List (Seen S) = constants_at_top rs q (suc j) ss in
       either same z e r uses_r shape xs ys h
-      (λ k. this_uses (λ s b. (all_put same z e r uses_r shape (in_constant j q) us (expr_and v no_exprs) (env_of w (there (constants (n ∷ []) None (new_all c (in_constant j q) us (expr_and v no_exprs)) j) s b) (Some j)) (front xs ys si) k).there))
-      (λ k. a_later_uses (group_used at' None (new_all c (in_constant j q) us (expr_and v no_exprs)) (suc j) d (behind xs ys si) k))
+      (λ k. this_uses {hs = constant_headers at' None (new_all c (in_constant j q) us (expr_and v no_exprs)) (suc j) (new_constants same rs c q (suc j) ss)} (λ s b. (all_put same z e r uses_r shape (in_constant j q) us (expr_and v no_exprs) (env_of w (there (constants (n ∷ []) None (new_all c (in_constant j q) us (expr_and v no_exprs)) j) s b) (Some j)) (simple_front xs ys si) k).there))
+      (λ k. a_later_uses (group_used at' None (new_all c (in_constant j q) us (expr_and v no_exprs)) (suc j) d (simple_behind xs ys si) k))
 
   params_none : (p : Place S) (xs : List (Param S)) → list_any (at_use same z e r uses_r shape) (params_seen p xs) ≡ false
   params_none p [] = refl
@@ -131,7 +115,7 @@ module _ {S : Type 0} (same : S → S → Bool) (rs : List (Package S)) (z : S) 
       let zs : List (Seen S) = stmts_seen (body_place rs K pk tree f) f.body in
       either same z e r uses_r shape (xs ++ ys) zs h
       (λ k. either same z e r uses_r shape xs ys k (λ k. none_there same z e r uses_r shape xs (receiver_none f.receiver) k) (λ k. none_there same z e r uses_r shape ys (sig_none f.sig) k))
-      (λ k. this_uses (λ s b. ap (λ g. is_among r (header_uses w (there (a_func g) s b))) (sym (func_same f)) ∙ body_used f (behind (xs ++ ys) zs si) k s b))
+      (λ k. this_uses (λ s b. ap (λ g. is_among r (header_uses w (there (a_func g) s b))) (sym (func_same f)) ∙ body_used f (simple_behind (xs ++ ys) zs si) k s b))
 
   -- ---- its file
 

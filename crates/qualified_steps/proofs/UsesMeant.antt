@@ -62,39 +62,63 @@ module _ {S : Type 0} (rs : List (Package S)) (ps : Program S) (w : World) (ende
       (subst (λ k. ConstantOrRefused (block last k c.name)) d.home
       (constant_or_refused ps d.header c text d.constant.number d.constant.is (ap is_blank d.constant.named ∙ d.spelled) first (subst (λ k. HasNumber k ps) (sym d.home) d.in_program)))
 
-  -- The use of a constant that is declared as `text`, in the file `at`, and `new` in its place: `home` and `new_home` are
-  -- the files of the declarations of the constant and of what it is declared as.
-  pub use_known : (at home new_home : Where S) (q : Place S) (m m' : MarkRef) (c c' : NameAt S) (use_ new text text' : Expr S) (members : List (List ℕ)) → imports_sound members [] (linked_imports rs at.source.tree) ≡ true → NamesMember rs at q use_ m → NamesMember rs at q new m' → m.«package» ≡ home.number → m'.«package» ≡ new_home.number
-      → (d : DeclaredIn rs ps home (member_name use_) c text) → imports_sound d.members [] (linked_imports rs home.source.tree) ≡ true → DeclaredIn rs ps new_home (member_name new) c' text' → TextNamed rs home m' (member_name new) text → is_init (member_name use_) ≡ false
+  module _ (home new_home : Where S) (m' : MarkRef) (n n' : List ℕ) (c c' : NameAt S) (text text' : Expr S) (d : DeclaredIn rs ps home n c text) (d' : DeclaredIn rs ps new_home n' c' text') where
+    -- what the constant's text means where it is declared: what the other constant's package block has
+    record TextMeant : Type 0 where
+      meant : Option Entity
+      name : List ℕ
+      names : Names (env_of last d.header (Some d.constant.number)) text meant name
+      is : meant ≡ block last new_home.number n'
+      known : ConstantOrRefused meant
+
+    text_meant : imports_sound d.members [] (linked_imports rs home.source.tree) ≡ true → TextNamed rs home m' n' text → m'.«package» ≡ new_home.number → TextMeant
+    text_meant sound t in_new =
+        let known' : ConstantOrRefused (block last new_home.number n') = declared_known new_home n' c' text' d' in
+        by known'
+        (member_meant rs home d.members sound last (Some d.constant.number) t.place text m' t.names (ap is_blank t.same_name ∙ d'.spelled) (subst ConstantOrRefused (λ j. block last (sym in_new j) (sym t.same_name j)) known'))
+      where
+        here : ◌≡◌ {A = Env} (file_env last home.number (file_block d.members [] (linked_imports rs home.source.tree)) (Some d.constant.number)) (env_of last d.header (Some d.constant.number))
+        here = λ j. file_env last (sym d.home j) (sym d.imports j) (Some d.constant.number)
+
+        by : ConstantOrRefused (block last new_home.number n') → MemberMeant (file_env last home.number (file_block d.members [] (linked_imports rs home.source.tree)) (Some d.constant.number)) t.place text m' → TextMeant
+        by k h =
+            let is : h.meant ≡ block last new_home.number n' = h.is ∙ (λ j. block last (in_new j) (t.same_name j)) in
+            record { meant = h.meant; name = h.name; names = subst (λ a. Names a text h.meant h.name) here h.names; is = is; known = subst ConstantOrRefused (sym is) k }
+
+    -- the constant means that too, in its package block
+    constant_meant : (h : TextMeant) → is_init n ≡ false → means (block_of w.blocks d.header.home) c.name ≡ h.meant
+    constant_meant h init =
+        same-blocks ps w d.header.home c.name ended
+        ∙ constant_means ps (headed ps) d.header c text d.constant.number d.constant.is (d.sound ∙ ap not init) (names-bodiless h.names) (ap is_blank d.constant.named ∙ d.spelled) (same_number d.header.home d.header.home refl) h.names h.known
+        (subst (λ m. FirstWith m d.header (headed ps)) (sym d.constant.named) d.first) (subst (λ k. HasNumber k ps) (sym d.home) d.in_program)
+
+    names_constant : (h : TextMeant) → is_init n ≡ false → NamesConstant ps (headed ps) d.header c text h.meant
+    names_constant h init = record {
+      number = d.constant.number;
+      looked_up = h.name;
+      header = d.constant.is;
+      sound = d.sound ∙ ap not init;
+      bodiless = names-bodiless h.names;
+      named = ap is_blank d.constant.named ∙ d.spelled;
+      home = same_number d.header.home d.header.home refl;
+      names = h.names;
+      known = h.known;
+      first = subst (λ m. FirstWith m d.header (headed ps)) (sym d.constant.named) d.first;
+      in_program = subst (λ k. HasNumber k ps) (sym d.home) d.in_program;
+    }
+
+  use_by : (at home new_home : Where S) (q : Place S) (m m' : MarkRef) (c c' : NameAt S) (use_ new text text' : Expr S) (members : List (List ℕ)) → imports_sound members [] (linked_imports rs at.source.tree) ≡ true → NamesMember rs at q use_ m → NamesMember rs at q new m' → m.«package» ≡ home.number → m'.«package» ≡ new_home.number
+      → (d : DeclaredIn rs ps home (member_name use_) c text) (d' : DeclaredIn rs ps new_home (member_name new) c' text') (h : TextMeant home new_home m' (member_name use_) (member_name new) c c' text text' d d') → is_init (member_name use_) ≡ false
       → UseOfConstant ps d.header c text w (file_env w at.number (file_block members [] (linked_imports rs at.source.tree)) None) q use_ new
-  use_known at home new_home q m m' c c' use_ new text text' members sound names names' in_home in_new d home_sound d' t init =
-      let new_name : List ℕ = member_name new in
-      let known' : ConstantOrRefused (block last new_home.number new_name) = declared_known new_home new_name c' text' d' in
-      let known_text : ConstantOrRefused (block last m'.«package» (member_name text)) = subst ConstantOrRefused (λ j. block last (sym in_new j) (sym t.same_name j)) known' in
-      let spelled_text : is_blank (member_name text) ≡ false = ap is_blank t.same_name ∙ d'.spelled in
-      let at_home : MemberMeant (file_env last home.number (file_block d.members [] (linked_imports rs home.source.tree)) (Some d.constant.number)) t.place text m' =
-      member_meant rs home d.members home_sound last (Some d.constant.number) t.place text m' t.names spelled_text known_text in
-      let here : ◌≡◌ {A = Env} (file_env last home.number (file_block d.members [] (linked_imports rs home.source.tree)) (Some d.constant.number)) (env_of last d.header (Some d.constant.number)) =
-      (λ j. file_env last (sym d.home j) (sym d.imports j) (Some d.constant.number)) in
-      let text_names : Names (env_of last d.header (Some d.constant.number)) text at_home.meant at_home.name = subst (λ a. Names a text at_home.meant at_home.name) here at_home.names in
-      let meant_is : at_home.meant ≡ block last new_home.number new_name = at_home.is ∙ (λ j. block last (in_new j) (t.same_name j)) in
-      let known : ConstantOrRefused at_home.meant = subst ConstantOrRefused (sym meant_is) known' in
-      let first : FirstWith c.name d.header (headed ps) = subst (λ m. FirstWith m d.header (headed ps)) (sym d.constant.named) d.first in
-      let number : HasNumber d.header.home ps = subst (λ k. HasNumber k ps) (sym d.home) d.in_program in
-      let blank : is_blank c.name ≡ false = ap is_blank d.constant.named ∙ d.spelled in
-      let sound' : d.header.sound ≡ true = d.sound ∙ ap not init in
-      let bodiless' = names-bodiless text_names in
-      let means_it : means (block_of last.blocks d.header.home) c.name ≡ at_home.meant =
-      constant_means ps (headed ps) d.header c text d.constant.number d.constant.is sound' bodiless' blank (same_number d.header.home d.header.home refl) text_names known first number in
+  use_by at home new_home q m m' c c' use_ new text text' members sound names names' in_home in_new d d' h init =
       let old_block : block w m.«package» (member_name use_) ≡ means (block_of w.blocks d.header.home) c.name = (λ j. block w ((in_home ∙ sym d.home) j) (sym d.constant.named j)) in
-      let old_is : block w m.«package» (member_name use_) ≡ at_home.meant = old_block ∙ same-blocks ps w d.header.home c.name ended ∙ means_it in
-      let new_is : block w m'.«package» new_name ≡ at_home.meant = same-blocks ps w m'.«package» new_name ended ∙ ap (λ k. block last k new_name) in_new ∙ sym meant_is in
-      let old : MemberMeant (file_env w at.number (file_block members [] (linked_imports rs at.source.tree)) None) q use_ m = member_meant rs at members sound w None q use_ m names d.spelled (subst ConstantOrRefused (sym old_is) known) in
-      let put : MemberMeant (file_env w at.number (file_block members [] (linked_imports rs at.source.tree)) None) q new m' = member_meant rs at members sound w None q new m' names' d'.spelled (subst ConstantOrRefused (sym new_is) known) in
+      let new_is : block w m'.«package» (member_name new) ≡ h.meant = same-blocks ps w m'.«package» (member_name new) ended ∙ ap (λ k. block last k (member_name new)) in_new ∙ sym h.is in
+      let old : MemberMeant (file_env w at.number (file_block members [] (linked_imports rs at.source.tree)) None) q use_ m =
+      member_meant rs at members sound w None q use_ m names d.spelled (subst ConstantOrRefused (sym (old_block ∙ constant_meant home new_home m' (member_name use_) (member_name new) c c' text text' d d' h init)) h.known) in
+      let put : MemberMeant (file_env w at.number (file_block members [] (linked_imports rs at.source.tree)) None) q new m' = member_meant rs at members sound w None q new m' names' d'.spelled (subst ConstantOrRefused (sym new_is) h.known) in
       record {
-        meant = at_home.meant;
-        declares =
-            record { number = d.constant.number; looked_up = at_home.name; header = d.constant.is; sound = sound'; bodiless = bodiless'; named = blank; home = same_number d.header.home d.header.home refl; names = text_names; known = known; first = first; in_program = number };
+        meant = h.meant;
+        declares = names_constant home new_home m' (member_name use_) (member_name new) c c' text text' d d' h init;
         ended = ended;
         old = old.name;
         new = put.name;
@@ -109,3 +133,11 @@ module _ {S : Type 0} (rs : List (Package S)) (ps : Program S) (w : World) (ende
         old_free = old.free;
         new_free = put.free;
       }
+
+  -- The use of a constant that is declared as `text`, in the file `at`, and `new` in its place: `home` and `new_home` are
+  -- the files of the declarations of the constant and of what it is declared as.
+  pub use_known : (at home new_home : Where S) (q : Place S) (m m' : MarkRef) (c c' : NameAt S) (use_ new text text' : Expr S) (members : List (List ℕ)) → imports_sound members [] (linked_imports rs at.source.tree) ≡ true → NamesMember rs at q use_ m → NamesMember rs at q new m' → m.«package» ≡ home.number → m'.«package» ≡ new_home.number
+      → (d : DeclaredIn rs ps home (member_name use_) c text) → imports_sound d.members [] (linked_imports rs home.source.tree) ≡ true → DeclaredIn rs ps new_home (member_name new) c' text' → TextNamed rs home m' (member_name new) text → is_init (member_name use_) ≡ false
+      → UseOfConstant ps d.header c text w (file_env w at.number (file_block members [] (linked_imports rs at.source.tree)) None) q use_ new
+  use_known at home new_home q m m' c c' use_ new text text' members sound names names' in_home in_new d home_sound d' t init =
+      use_by at home new_home q m m' c c' use_ new text text' members sound names names' in_home in_new d d' (text_meant home new_home m' (member_name use_) (member_name new) c c' text text' d d' home_sound t in_new) init
