@@ -14,6 +14,7 @@ pub mod NamedImports
 pub mod NamedLinked
 pub mod NamedRuns
 pub mod MarkedTexts
+pub mod UsesNamed
 pub mod PutIsUsed
 pub mod StillUsed
 pub mod FormStillUsed

@@ -53,6 +53,7 @@ module _ {S : Type 0} (same : S → S → Bool) (commented : ℕ → ℕ → S �
       is_used_in (collected (named_put ps ++ more)) x.at.number x.at.file_number n (headed (named_put ps ++ more)) ≡
       true
 
+  -- the two names have one package's name before them, or none; or the file still uses the imports of both
   pub data ImportsStay (ps more : Program S) : Type 0 where
     same_before : SameQualifier u.use_ u.new → ImportsStay ps more
     still_used :

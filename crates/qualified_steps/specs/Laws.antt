@@ -1,7 +1,7 @@
 -- The laws of steps over constants that are declared as names, in any package. Each is the contract of a function of
 -- this crate (Go specification, Constant declarations; Qualified identifiers; Exported identifiers; Import
 -- declarations).
-use Rattle.std.specs.Prelude.{◌≡◌, ℕ, Bool, true, false, List, [], ◌++◌, Option}
+use Rattle.std.specs.Prelude.{◌≡◌, ℕ, Bool, true, false, List, [], ◌++◌, Option, Some}
 use Rattle.go_tree.specs.declared.spans.Span.{Span}
 use Rattle.go_tree.specs.Tree.{TypeExpr, Expr, ident, Exprs}
 use Rattle.scope_names.specs.declared.names.Entity.{Entity}
@@ -19,13 +19,13 @@ use Rattle.go_translation.specs.Packages.{sources, are_distinct, are_well_typed}
 use Rattle.go_translation.specs.SameMeaning.{Packages, WellTyped, with_further, SameMeaning}
 use Rattle.run_rules.specs.Surroundings.{Place}
 use Rattle.run_rules.specs.Programs.{linked_imports, linked}
-use Rattle.run_rules.specs.Sites.{MarkRef, Where, Site, part_span}
+use Rattle.run_rules.specs.Sites.{MarkRef, Where, Site, part_span, expr_mark}
 use Rattle.run_rules.specs.Steps.{packages_between}
 use Rattle.typed_in_place.specs.Declared.{ConstantOrRefused}
 use Rattle.typed_in_place.specs.ImportRule.{imports_sound}
 use Rattle.step_laws.specs.ConstantSteps.{ImportsRight}
 use Rattle.step_laws.specs.ConstantSwaps.{ConstantSwaps}
-use Rattle.qualified_steps.specs.MemberNames.{member_name, NamesMember, MemberMeant}
+use Rattle.qualified_steps.specs.MemberNames.{member_name, IsMemberName, NamesMember, MemberMeant}
 use Rattle.qualified_steps.specs.NamedUse.{NamedUse, NamedUseStands, PackagesStand, looked_up}
 use Rattle.qualified_steps.specs.ImportsStay.{IsStillUsed, IsListed, ImportsStay}
 use Rattle.qualified_steps.specs.NamedRuns.{found_named, named_members, NamedRun}
@@ -41,6 +41,12 @@ NamedMembersAreMeant =
     NamesMember rs w p e m → is_blank (member_name e) ≡ false →
     ConstantOrRefused (means (block_of v.blocks m.«package») (member_name e)) →
     MemberMeant (file_env v w.number (file_block members [] (linked_imports rs w.source.tree)) i) p e m
+
+-- What a run finds as a use of a marked constant, where it is such a name, names the constant that the mark holds for.
+abbrev pub UsesNameMembers : Type 0
+UsesNameMembers =
+    (rs : List (Package Span)) (marks : List MarkRef) (w : Where Span) (p : Place Span) (e : Expr Span)
+    (m : MarkRef) → IsMemberName e → expr_mark rs marks w p e ≡ Some m → NamesMember rs w p e m
 
 -- A constant for which a mark can hold has no type, and is declared as a name, qualified or not: a literal never takes
 -- the place of a use.

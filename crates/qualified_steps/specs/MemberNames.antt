@@ -16,6 +16,12 @@ member_name (ident s n) = n
 member_name (selector s b n) = n.name
 member_name e = []
 
+-- a name, or an exported name with a name before it
+pub data IsMemberName {S : Type 0} : Expr S → Type 0 where
+  a_plain_name : {s : S} {n : List ℕ} → IsMemberName (ident s n)
+  an_exported_name :
+      {s t : S} {q : List ℕ} {n : NameAt S} → is_exported n.name ≡ true → IsMemberName (selector s (ident t q) n)
+
 -- At a place of a file the expression names the member with these numbers.
 module _ {S : Type 0} (rs : List (Package S)) (w : Where S) (p : Place S) where
   pub data NamesMember : Expr S → MarkRef → Type 0 where

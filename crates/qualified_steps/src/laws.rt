@@ -5,12 +5,14 @@ ghost use Rattle.qualified_steps.specs.Laws.{MarkedConstantsAreNames, NamedMembe
 ghost use Rattle.qualified_steps.specs.Laws.{NamedRunsMeanTheSame, NamedStepsKeepImports};
 ghost use Rattle.qualified_steps.specs.Laws.{NamedStepsLinkThePackages, NamedStepsMeanTheSame};
 ghost use Rattle.qualified_steps.specs.Laws.{NamedUsesMeanConstants, OwnUsesKeepImports};
+ghost use Rattle.qualified_steps.specs.Laws.{UsesNameMembers};
 
 /// What a qualified name, or a name of the package block, means among packages is what the rules
-/// of typing say that it means. A mark holds for no constant but one that is declared as such a
-/// name.
+/// of typing say that it means. What a run finds as a use of a marked constant is such a name of
+/// it, and a mark holds for no constant but one that is declared as such a name.
 pub fn named_members_are_meant()
     ensures members { NamedMembersAreMeant }
+    ensures found { UsesNameMembers }
     ensures marked { MarkedConstantsAreNames }
 {}
 
