@@ -18,6 +18,7 @@ pub mod UsesNamed
 pub mod PutIsUsed
 pub mod StillUsed
 pub mod FormStillUsed
+pub mod UsedElsewhere
 mod ExampleParts
 mod Example
 mod ImportedExample

@@ -83,10 +83,10 @@ module _ {S : Type 0} (same : S → S → Bool) (commented : ℕ → ℕ → S �
   abbrev M : ℕ
   M = x.at.file_number
 
-  abbrev all : Program S
+  abbrev pub all : Program S
   all = sources ms ++ sources Q
 
-  abbrev after : Program S
+  abbrev pub after : Program S
   after = constant_put same rs z e K x.at.of tree a.use_.nth M x.decl (sources ms)
 
   abbrev w : World
@@ -153,7 +153,7 @@ module _ {S : Type 0} (same : S → S → Bool) (commented : ℕ → ℕ → S �
       constant-step same rs z e K x.at.of tree (sources Q) a.use_.nth M x.decl (sources ms) (step-with-uses same rs z e K x.at.of tree (sources Q) a.use_.nth M x.decl (sources ms) (named_swaps same commented rs marks x u v (sources ms) (sources Q) a well).uses)
       (further-apart ms Q (distinct-before ms Q typed))
 
-  moved : collected all ≡ collected (after ++ sources Q)
+  pub moved : collected all ≡ collected (after ++ sources Q)
   moved = declares_the_same_beside (sources Q) (sources ms) after in_place
 
   -- ---- the names of imports

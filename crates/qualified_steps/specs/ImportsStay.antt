@@ -1,21 +1,22 @@
 -- When the imports of a use's file stay used over a step (Go specification, Import declarations; Qualified
 -- identifiers): the name that is put has the same package's name before it as the use, or the file still uses the
 -- imports that the two names are looked up by.
-use Rattle.std.specs.Prelude.{◌≡◌, ℕ, Bool, true, false, not, ◌&&◌, List, ◌++◌}
+use Rattle.std.specs.Prelude.{◌≡◌, ℕ, Bool, true, false, not, ◌&&◌, List, ◌++◌, Some, bytes_eq, codes, nat_eq, slice_get}
 use Rattle.std.specs.List.{list_any}
 use Rattle.go_tree.specs.Tree.{Expr, ident}
 use Rattle.go_tree.specs.File.{Decl}
 use Rattle.pkg_graph.specs.Package.{Package}
 use Rattle.go_types.specs.Answers.{is_among}
-use Rattle.go_types.specs.Programs.{Program, headed}
+use Rattle.go_types.specs.Programs.{Program, headed, headers}
 use Rattle.go_types.specs.Collect.{collected}
-use Rattle.go_types.specs.WellTyped.{is_used_in}
+use Rattle.go_types.specs.WellTyped.{header_uses, is_used_in}
 use Rattle.typed_in_place.specs.ImportRule.{import_names}
 use Rattle.run_rules.specs.Surroundings.{Use, stored, Seen, seen, seen_type, seen_stmt}
-use Rattle.run_rules.specs.Programs.{linked_imports, decl_seen}
+use Rattle.run_rules.specs.Programs.{linked_imports, imports_mean, decl_seen}
 use Rattle.run_rules.specs.Forms.{is_at}
 use Rattle.run_rules.specs.Sites.{MarkRef, Site, part_span}
 use Rattle.step_laws.specs.ConstantSteps.{constant_put}
+use Rattle.step_laws.specs.SwapPrograms.{headed_there}
 use Rattle.qualified_steps.specs.NamedUse.{NamedUse, looked_up, SameQualifier}
 
 -- the use is a whole left side
@@ -52,6 +53,17 @@ module _ {S : Type 0} (same : S → S → Bool) (commented : ℕ → ℕ → S �
       is_among n (import_names (linked_imports rs x.at.source.tree)) ≡ true →
       is_used_in (collected (named_put ps ++ more)) x.at.number x.at.file_number n (headed (named_put ps ++ more)) ≡
       true
+
+  -- Before the step another declaration of the use's file uses the name.
+  pub record IsUsedElsewhere (n : List ℕ) (ps more : Program S) : Type 0 where
+    pub nth : ℕ
+    pub decl : Decl S
+    pub there : slice_get x.at.source.tree.decls nth ≡ Some decl
+    pub apart : nat_eq nth x.decl ≡ false
+    pub uses :
+        list_any (λ h. is_among n (header_uses (collected (ps ++ more)) (headed_there x.at.number
+        (bytes_eq x.at.of.name (codes "main")) x.at.file_number (imports_mean rs x.at.of x.at.source.tree) h.0 true
+        h.1))) (headers decl) ≡ true
 
   -- the two names have one package's name before them, or none; or the file still uses the imports of both
   pub data ImportsStay (ps more : Program S) : Type 0 where

@@ -27,7 +27,7 @@ use Rattle.step_laws.specs.ConstantSteps.{ImportsRight}
 use Rattle.step_laws.specs.ConstantSwaps.{ConstantSwaps}
 use Rattle.qualified_steps.specs.MemberNames.{member_name, IsMemberName, NamesMember, MemberMeant}
 use Rattle.qualified_steps.specs.NamedUse.{NamedUse, NamedUseStands, PackagesStand, looked_up}
-use Rattle.qualified_steps.specs.ImportsStay.{IsStillUsed, IsListed, ImportsStay}
+use Rattle.qualified_steps.specs.ImportsStay.{IsStillUsed, IsUsedElsewhere, IsListed, ImportsStay}
 use Rattle.qualified_steps.specs.NamedRuns.{found_named, named_members, NamedRun}
 use Rattle.qualified_steps.specs.MarkedTexts.{NamesFirst}
 
@@ -91,6 +91,16 @@ FormsAreStillUsed =
     (x : Site Span) (u : NamedUse same commented rs marks x) (v : NamedUseStands same commented rs marks x u)
     (ps more : Program Span) (a : PackagesStand same commented rs marks x u ps) → IsListed same x rs v.decl →
     IsStillUsed same commented rs marks x u a.use_.nth (looked_up u.new) ps more
+
+-- It uses there what another declaration of the file used before, as the import of the use in another package.
+abbrev pub UsedElsewhereStays : Type 0
+UsedElsewhereStays =
+    (same : Span → Span → Bool) (commented : ℕ → ℕ → Span → Bool) (rs : List (Package Span)) (marks : List MarkRef)
+    (x : Site Span) (u : NamedUse same commented rs marks x) (v : NamedUseStands same commented rs marks x u)
+    (ms Q : List (translated.Package Span)) (a : PackagesStand same commented rs marks x u (sources ms))
+    (n : List ℕ) → are_well_typed (ms ++ Q) ≡ true →
+    IsUsedElsewhere same commented rs marks x u a.use_.nth n (sources ms) (sources Q) →
+    IsStillUsed same commented rs marks x u a.use_.nth n (sources ms) (sources Q)
 
 -- So the imports of the use's file stay used where the use stands in the constant's own package.
 abbrev pub OwnUsesKeepImports : Type 0

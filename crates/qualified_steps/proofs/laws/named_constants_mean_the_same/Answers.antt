@@ -4,6 +4,7 @@ use Rattle.qualified_steps.proofs.NamedImports.{named_imports, named_step}
 use Rattle.qualified_steps.proofs.NamedLinked.{named_linked}
 use Rattle.qualified_steps.proofs.NamedRuns.{named_run}
 use Rattle.qualified_steps.proofs.NamedSwaps.{named_swaps}
+use Rattle.qualified_steps.proofs.UsedElsewhere.{used_elsewhere}
 use Rattle.qualified_steps.proofs.laws.named_constants_mean_the_same.Goals as goal
 
 pub returns-clause-form : goal.returns-clause-form
@@ -29,3 +30,6 @@ returns-clause-used c = λ same commented rs marks x u v ps more a listed. form_
 
 pub returns-clause-own : goal.returns-clause-own
 returns-clause-own c = λ same commented rs marks x u v ps more a s n is listed. own_stays same commented rs marks x u v ps more a s n is listed
+
+pub returns-clause-elsewhere : goal.returns-clause-elsewhere
+returns-clause-elsewhere c = λ same commented rs marks x u v ms Q a n typed e. used_elsewhere same commented rs marks x u v ms Q a n typed e
