@@ -1,0 +1,13 @@
+use Rattle.qualified_steps.proofs.MarkedTexts.{marked_names}
+use Rattle.qualified_steps.proofs.MembersNamed.{member_meant}
+use Rattle.qualified_steps.proofs.UsesNamed.{uses_named}
+use Rattle.qualified_steps.proofs.laws.named_members_are_meant.Goals as goal
+
+pub returns-clause-members : goal.returns-clause-members
+returns-clause-members c = λ rs w members v i p e m sound names spelled known. member_meant rs w members sound v i p e m names spelled known
+
+pub returns-clause-marked : goal.returns-clause-marked
+returns-clause-marked c = λ env t es q. marked_names env t es q
+
+pub returns-clause-found : goal.returns-clause-found
+returns-clause-found c = λ rs marks w p e m n q. uses_named rs marks w p e m n q
