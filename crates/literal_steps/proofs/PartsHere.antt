@@ -1,0 +1,283 @@
+-- Within one package each part of a typed body is fine where no obstacle is found at it: so the body is written from itself.
+use Rattle.std.specs.Prelude.{◌≡◌, refl, ℕ, Bool, true, false, ◌&&◌, List, [], ◌∷◌, Option, Some, None, is_some, if◌then◌else◌, nat_eq}
+use mathlib.Core.Path.{ap, sym, ◌∙◌, subst}
+use Rattle.std.proofs.Common.{arith}
+use Rattle.go_tree.specs.Tree.{NameAt, Param, TypeExpr, named, pointer, slice_type, map_type, struct_type, Fields, no_fields, field, Expr, ident, int_lit, rune_lit, str_lit, composite, selector, index, slice, call, func_lit, type_operand, unary, binary, star, Elems, no_elems, elem, Value, plain, braced, ValueOption, no_value, some_value, Stmt, const_decl, eval, defer, Stmts}
+use Rattle.scope_names.specs.Means.{Environment, means, is_blank}
+use Rattle.scope_names.specs.FreeNames.{names_of}
+use Rattle.pkg_graph.specs.Package.{Package}
+use Rattle.pkg_graph.specs.Members.{Target}
+use Rattle.go_types.specs.Answers.{given, both, meets, only_if, is_among}
+use Rattle.go_types.specs.Types.{GoType, pointer_to, slice_of, map_of, struct_of, GoFields, no_go_fields, go_field}
+use Rattle.go_types.specs.Defined.{Defined, under, has_keys}
+use Rattle.go_types.specs.Entities.{variable, constant, stand_in, type_name, function, package_name, builtin, nil_name, iota_name, refused, Entity, World, Env, meaning, package_of, type_of_name, defined_in}
+use Rattle.go_types.specs.TypeNames.{resolved, resolved_fields, field_before, type_meant, params_meant}
+use Rattle.go_types.specs.Operands.{Operand, value}
+use Rattle.go_types.specs.Primary.{fields_in}
+use Rattle.go_types.specs.Literals.{Element, is_struct, field_key, of_field, unkeyed, keyed, built_inside, key_type, inner_type, literal_type}
+use Rattle.go_types.specs.Bodies.{Ctx}
+use Rattle.go_types.specs.Typing.{parts, elements, element, with_key, stmts}
+use Rattle.go_types.proofs.Agreeing.{from_given, from_both}
+use Rattle.form_in_place.specs.Places.{Landing, SeenFields, SeenIn, SelectorAlike, means_function}
+use Rattle.form_in_place.specs.Bound.{inner_under, literal_under}
+use Rattle.form_in_place.specs.Written.{WrittenBody}
+use Rattle.form_in_place.specs.Leaves.{WrittenParams, no_params, param_and}
+use Rattle.run_rules.specs.Surroundings.{Use, Place, Seen, seen, seen_type, seen_stmt, is_local, inner_slot, in_slot}
+use Rattle.run_rules.specs.Places.{params_seen, stmts_seen}
+use Rattle.run_rules.specs.Rewriting.{new_label, new_params, new_stmts}
+use Rattle.run_rules.specs.Sites.{Where, outer, qualifier}
+use Rattle.run_rules.specs.Naming.{Names, type_there}
+use Rattle.run_rules.specs.Obstacles.{hidden_here, shadowed_here, shadowed_in_type, first_answer}
+use Rattle.written_literal.specs.Within.{Within}
+use Rattle.written_literal.specs.Fine.{keeping, same_span, is_package, names_package, FineElems, FineKey, FineValue, FineSelector, Fine, AllFine}
+use Rattle.written_literal.specs.Fine as fine
+use Rattle.written_literal.specs.Meant.{NameTyped}
+use Rattle.written_literal.specs.KnownNames.{landing, KnownNames}
+use Rattle.written_literal.specs.TypesTyped.{Qualifies, TypeTyped, FieldsTyped}
+use Rattle.written_literal.specs.PartsTyped.{selector_there, expr_there, changes_there}
+use Rattle.written_literal.proofs.NamesWritten.{NameClear, name_written}
+use Rattle.written_literal.proofs.TypesWritten.{one_of_none, qualifier_means, type_written}
+use Rattle.written_literal.proofs.LiteralsHere.{literal_here}
+use Rattle.written_literal.proofs.ListedHeads.{listing}
+use Rattle.written_literal.proofs.Induction.{stmts-written}
+use Rattle.literal_steps.specs.TypedParts.{is_value, LocalValues, NameStands, ElementsTyped, TypeStands, PartStands, AllStand, AllWithoutConstants}
+use Rattle.literal_steps.specs.PlainParts.{Unqualified, UnqualifiedFields, IsPlain, AllPlain, NothingElse}
+use Rattle.literal_steps.proofs.TypedWalk.{stmts_stand}
+
+seen_same : (k : ℕ) (n : List ℕ) (fs : GoFields) → SeenFields k k n fs
+seen_same k n no_go_fields = tt
+seen_same k n (go_field m q t fs) = (refl, seen_same k n fs)
+
+seen_in_same : (k : ℕ) (n : List ℕ) (fs : Option GoFields) → SeenIn k k n fs
+seen_in_same k n None = tt
+seen_in_same k n (Some fs) = seen_same k n fs
+
+selector_same : (ds : List Defined) (j k : ℕ) (n : List ℕ) (t : GoType) → j ≡ k → SelectorAlike ds j k n t
+selector_same ds j k n t e = subst (λ z. SelectorAlike ds j z n t) e (record { field = seen_in_same j n (fields_in ds t); method = λ q. refl })
+
+-- ---- what a value is not
+
+value_no_function : (d : Option Entity) → is_value d ≡ true → means_function d ≡ false
+value_no_function (Some (function f)) e = absurd (grind (arith, e))
+value_no_function None e = refl
+value_no_function (Some (variable t)) e = refl
+value_no_function (Some (constant t c)) e = refl
+value_no_function (Some (stand_in q t c)) e = refl
+value_no_function (Some (type_name t)) e = refl
+value_no_function (Some (package_name k)) e = refl
+value_no_function (Some (builtin b)) e = refl
+value_no_function (Some nil_name) e = refl
+value_no_function (Some iota_name) e = refl
+value_no_function (Some refused) e = refl
+
+value_no_package : (d : Option Entity) → is_value d ≡ true → is_package d ≡ false
+value_no_package (Some (package_name k)) e = absurd (grind (arith, e))
+value_no_package None e = refl
+value_no_package (Some (variable t)) e = refl
+value_no_package (Some (constant t c)) e = refl
+value_no_package (Some (stand_in q t c)) e = refl
+value_no_package (Some (type_name t)) e = refl
+value_no_package (Some (function f)) e = refl
+value_no_package (Some (builtin b)) e = refl
+value_no_package (Some nil_name) e = refl
+value_no_package (Some iota_name) e = refl
+value_no_package (Some refused) e = refl
+
+-- what names a type
+data NamesType (d : Option Entity) : Type 0 where
+  names_type : is_some d ≡ true → is_package d ≡ false → is_value d ≡ false → NamesType d
+
+type_named : (d : Option Entity) → is_some (type_of_name d) ≡ true → NamesType d
+type_named (Some (type_name t)) e = names_type refl refl refl
+type_named None e = absurd (grind (arith, e))
+type_named (Some (variable t)) e = absurd (grind (arith, e))
+type_named (Some (constant t c)) e = absurd (grind (arith, e))
+type_named (Some (stand_in q t c)) e = absurd (grind (arith, e))
+type_named (Some (function f)) e = absurd (grind (arith, e))
+type_named (Some (package_name k)) e = absurd (grind (arith, e))
+type_named (Some (builtin b)) e = absurd (grind (arith, e))
+type_named (Some nil_name) e = absurd (grind (arith, e))
+type_named (Some iota_name) e = absurd (grind (arith, e))
+type_named (Some refused) e = absurd (grind (arith, e))
+
+contrary : (b : Bool) → b ≡ true → b ≡ false → false ≡ true
+contrary b e f = sym f ∙ e
+
+unless_true : (b : Bool) → (b ≡ true → false ≡ true) → b ≡ false
+unless_true true k = absurd (grind (arith, k refl))
+unless_true false k = refl
+
+-- a step of an answer that is there
+given_some : {A B : Type 0} (o : Option A) (k : A → Option B) → is_some (given o k) ≡ true → is_some o ≡ true
+given_some None k e = e
+given_some (Some x) k e = refl
+
+both_some : {A B C : Type 0} (o : Option A) (q : Option B) (k : A → B → Option C) → is_some (both o q k) ≡ true → (is_some o ≡ true) × (is_some q ≡ true)
+both_some None q k e = absurd (grind (arith, e))
+both_some (Some x) None k e = absurd (grind (arith, e))
+both_some (Some x) (Some y) k e = (refl, refl)
+
+module _ {S : Type 0} where
+  -- ---- no part that is plain declares constants
+
+  plain_none : (x : Seen S) → IsPlain x → Rattle.literal_steps.specs.TypedParts.NoConstants x
+  plain_none (seen p u x) h = tt
+  plain_none (seen_type p t) h = tt
+  plain_none (seen_stmt p (const_decl s g ss)) h = absurd h
+  plain_none (seen_stmt p s) h = tt
+
+  pub all_plain_none : (xs : List (Seen S)) → AllPlain xs → AllWithoutConstants xs
+  all_plain_none [] a = tt
+  all_plain_none (x ∷ xs) a = (plain_none x a.0, all_plain_none xs a.1)
+
+  -- ---- elements of literals
+
+  module _ (site : Landing) where
+    field_key_same : (v : Value S) (n : List ℕ) → field_key v ≡ Some n → Rattle.run_rules.specs.Respanned.value_with same_span v ≡ v
+    field_key_same (plain (ident s m)) n e = refl
+    field_key_same v n e = absurd (grind (arith, e))
+
+    mutual
+      fine_elems : (a : Env) (u : GoType) (es : Elems S) (xs : List Element) → a.home ≡ site.home → elements a u es ≡ Some xs → FineElems site a (Some u) es
+      fine_elems a u no_elems xs h e = tt
+      fine_elems a u (elem s k v es) xs h e =
+          let r = from_both (given (element a (inner_type (defined_in a) u) v) (λ o. with_key a u k o)) (elements a u es) (λ x xs. Some (x ∷ xs)) xs e in
+          let q = from_given (element a (inner_type (defined_in a) u) v) (λ o. with_key a u k o) r.0 r.2 in
+          (fine_key a u k q.0 r.0 h q.2, fine_value a (inner_type (defined_in a) u) v q.0 h q.1, fine_elems a u es r.1 h r.3)
+
+      fine_key : (a : Env) (u : GoType) (k : ValueOption S) (o : Operand) (x : Element) → a.home ≡ site.home → with_key a u k o ≡ Some x → FineKey site a (Some u) k
+      fine_key a u no_value o x h e = tt
+      fine_key a u (some_value v) o x h e = (
+        λ t. let r = from_given (field_key v) (λ n. Some (of_field n o)) x (sym (ap (λ b. if b then given (field_key v) (λ n. Some (of_field n o)) else given (element a (key_type (defined_in a) u) v) (λ q. Some (keyed q o))) t) ∙ e) in field_key_same v r.0 r.1,
+        λ t. let r = from_given (element a (key_type (defined_in a) u) v) (λ q. Some (keyed q o)) x (sym (ap (λ b. if b then given (field_key v) (λ n. Some (of_field n o)) else given (element a (key_type (defined_in a) u) v) (λ q. Some (keyed q o))) t) ∙ e) in fine_value a (key_type (defined_in a) u) v r.0 h r.1,
+      )
+
+      fine_value : (a : Env) (t : Option GoType) (v : Value S) (o : Operand) → a.home ≡ site.home → element a t v ≡ Some o → FineValue site a t v
+      fine_value a t (plain x) o h e = tt
+      fine_value a t (braced s es) o h e =
+          let r = from_given t (λ t. given (elements a (under (defined_in a) (literal_type (defined_in a) t)) es) (built_inside (defined_in a) a.home t)) o e in
+          let q = from_given (elements a (under (defined_in a) (literal_type (defined_in a) r.0)) es) (built_inside (defined_in a) a.home r.0) o r.2 in
+          (ap is_some r.1, literal_here site a (inner_under a t) es h, subst (λ t. FineElems site a (inner_under a t) es) (sym r.1) (fine_elems a (under (defined_in a) (literal_type (defined_in a) r.0)) es q.0 h q.1))
+
+module _ {S : Type 0} (ps : List (Package S)) (home there : Where S) (at : Place S) (names : Names) (new : S) (all : World) (outside beyond : Environment Entity) (known : KnownNames ps home there at names new all outside beyond) (nothing : NothingElse ps home outside) (same : home.number ≡ there.number) where
+  label_kept : (n : Option (NameAt S)) → new_label (keeping (changes_there ps home there at names new all outside beyond)) n ≡ n
+  label_kept None = refl
+  label_kept (Some n) = refl
+
+  elsewhere : {A : Type 0} → nat_eq home.number there.number ≡ false → A
+  elsewhere e = absurd (grind (arith, e, same))
+
+  module _ (p : Place S) (r : List (List ℕ)) (m : Environment Entity) (w : Within all home.number outside at.env.names r p.env p.bound m) where
+    outer_is : (n : List ℕ) → is_local p n ≡ false → meaning p.env n ≡ means outside n
+    outer_is n l = w.outer n (sym (w.listed n) ∙ l)
+
+    name_typed : (n : List ℕ) → NameStands p n → NameTyped ps home p n
+    name_typed n h =
+        record {
+          no_function = λ l. value_no_function (meaning p.env n) (h.value l);
+          known = λ l b. go l (means (outer ps home) n) refl (h.known l b);
+          before_dot = λ k. dot (is_blank n) refl (is_local p n) refl k;
+        }
+      where
+        go : is_local p n ≡ false → (o : Option Target) → means (outer ps home) n ≡ o → is_some (meaning p.env n) ≡ true → is_some o ≡ true
+        go l None q e = sym (ap is_some (outer_is n l ∙ nothing n q)) ∙ e
+        go l (Some t) q e = refl
+
+        dot : (b : Bool) → is_blank n ≡ b → (l : Bool) → is_local p n ≡ l → is_package (meaning p.env n) ≡ true → p.slot.dotted ≡ true
+        dot false b l q k = h.before_dot b k
+        dot true b true q k = absurd (grind (arith, sym (value_no_package (meaning p.env n) (h.value q)) ∙ k))
+        dot true b false q k = absurd (grind (arith, sym (ap is_package (outer_is n q ∙ known.home_file.blank n b)) ∙ k))
+
+    -- ---- types
+
+    mutual
+      type_typed : (t : TypeExpr S) → Unqualified t → ((n : List ℕ) → is_local p n ≡ true → is_value (meaning p.env n) ≡ true) → is_some (resolved p.env t) ≡ true → TypeTyped ps home there at names new all outside beyond p t
+      type_typed (named s None n) u v e = go (type_named (meaning p.env n.name) e)
+        where
+          go : NamesType (meaning p.env n.name) → TypeTyped ps home there at names new all outside beyond p (named s None n)
+          go (names_type i k x) = (
+            unless_true (is_local p n.name) (λ l. contrary (is_value (meaning p.env n.name)) (v n.name l) x),
+            k,
+            name_typed n.name (record { value = v n.name; known = λ l b. i; before_dot = λ b q. absurd (grind (arith, sym k ∙ q)) }),
+            λ d. elsewhere d,
+          )
+      type_typed (named s (Some q) n) u v e = absurd u
+      type_typed (pointer s t) u v e = type_typed t u v (given_some (resolved p.env t) (λ u. Some (pointer_to u)) e)
+      type_typed (slice_type s t) u v e = type_typed t u v (given_some (resolved p.env t) (λ u. Some (slice_of u)) e)
+      type_typed (map_type s k t) u v e = let q = both_some (resolved p.env k) (resolved p.env t) (λ a b. Some (map_of a b)) e in (type_typed k u.0 v q.0, type_typed t u.1 v q.1)
+      type_typed (struct_type s fs) u v e = fields_typed fs u v (given_some (resolved_fields p.env fs) (λ gs. Some (struct_of gs)) e)
+
+      fields_typed : (fs : Fields S) → UnqualifiedFields fs → ((n : List ℕ) → is_local p n ≡ true → is_value (meaning p.env n) ≡ true) → is_some (resolved_fields p.env fs) ≡ true → FieldsTyped ps home there at names new all outside beyond p fs
+      fields_typed no_fields u v e = tt
+      fields_typed (field s n t fs) u v e = let q = both_some (resolved p.env t) (resolved_fields p.env fs) (field_before n.name p.env.home) e in (type_typed t u.0 v q.0, fields_typed fs u.1 v q.1)
+
+    -- ---- parameters
+
+    pub params_here : (xs : List (Param S)) (ts : List GoType) → LocalValues home.number p.env p.bound → AllPlain (params_seen p xs) → params_meant p.env xs ≡ Some ts → first_answer (shadowed_here ps home there at) (params_seen p xs) ≡ None
+        → WrittenParams (landing ps home there at names new all outside beyond) r p.env m xs (new_params (keeping (changes_there ps home there at names new all outside beyond)) p xs)
+    params_here [] ts v k e h = no_params
+    params_here (x ∷ xs) ts v k e h =
+        let q = from_both (type_meant p.env x.of) (params_meant p.env xs) (λ y ys. Some (y ∷ ys)) ts e in
+        let g = from_given (resolved p.env x.of) (λ u. only_if (has_keys (defined_in p.env) u) (Some u)) q.0 q.2 in
+        let d = one_of_none (shadowed_in_type ps home there at p x.of) (first_answer (shadowed_here ps home there at) (params_seen p xs)) h in
+        subst (λ l. WrittenParams (landing ps home there at names new all outside beyond) r p.env m (x ∷ xs) (record { span = x.span; name = l; rest = x.rest; of = type_there ps home there.number names new p x.of } ∷ new_params (keeping (changes_there ps home there at names new all outside beyond)) p xs)) (sym (label_kept x.name))
+        (param_and (type_written ps home there at names new all outside beyond p known r m w p.env.iota x.of (type_typed x.of k.0 v.each (ap is_some g.1)) (λ e. elsewhere e) d.0) (params_here xs q.1 v k.1 q.3 d.1))
+
+    -- ---- selectors
+
+    no_qualifier : (s : S) (q : List ℕ) → names_package p.env (ident s q) ≡ false → (z : Option ℕ) → qualifier ps home p q ≡ z → z ≡ None
+    no_qualifier s q k None e = refl
+    no_qualifier s q k (Some i) e =
+        let f : Qualifies ps home there at names new all outside beyond p q i = qualifier_means ps home there at names new all outside beyond known p q i e in
+        absurd (grind (arith, sym (ap is_some (ap package_of (outer_is q f.free) ∙ f.of)) ∙ k))
+
+    not_written : (u : Use) (s : S) (b : Expr S) (n : NameAt S) → names_package p.env b ≡ false → expr_there ps home there at names new all outside beyond p u (selector s b n) ≡ None
+    not_written u s (ident s1 q) n k = ap (selector_there ps home there at names new all outside beyond p s q n) (no_qualifier s1 q k (qualifier ps home p q) refl)
+    not_written u s b n k = refl
+
+    selector_fine : (u : Use) (s : S) (b : Expr S) (n : NameAt S) → names_package p.env b ≡ false → FineSelector (landing ps home there at names new all outside beyond) all home.number outside at.env.names (changes_there ps home there at names new all outside beyond) p u r m s b n
+    selector_fine u s b n k = fine.selected (not_written u s b n k) k (λ t c e. selector_same (defined_in p.env) p.env.home there.number n.name t (w.home ∙ same))
+
+  abbrev IsFine : Seen S → Type 0
+  IsFine x = Fine (landing ps home there at names new all outside beyond) all home.number outside at.env.names (changes_there ps home there at names new all outside beyond) x
+
+  literal_fine : (p : Place S) (t : TypeExpr S) (es : Elems S) → ElementsTyped home.number p.env t es
+      → Rattle.form_in_place.specs.Leaves.LiteralAlike (landing ps home there at names new all outside beyond) p.env (literal_under p.env t) es × FineElems (landing ps home there at names new all outside beyond) p.env (literal_under p.env t) es
+  literal_fine p t es h = (
+    literal_here (landing ps home there at names new all outside beyond) p.env (literal_under p.env t) es (h.home_is ∙ same),
+    subst (λ o. FineElems (landing ps home there at names new all outside beyond) p.env (given o (λ u. Some (under (defined_in p.env) u))) es) (sym h.meant) (fine_elems (landing ps home there at names new all outside beyond) p.env (under (defined_in p.env) h.type) es h.each (h.home_is ∙ same) h.typed),
+  )
+
+  part_fine : (x : Seen S) → PartStands home.number x → IsPlain x → shadowed_here ps home there at x ≡ None → IsFine x
+  part_fine (seen p u (ident s n)) h k v = λ r m w f. name_written ps home there at names new all outside beyond known p s n r m w (record { typed = name_typed p r m w n h; accessible = λ e. elsewhere e; unshadowed = v; served = λ e. elsewhere e }) f
+  part_fine (seen p u (selector s b n)) h k v = λ r m w. selector_fine p r m w u s b n k
+  part_fine (seen p u (composite s t es)) h k v = (refl, literal_fine p t es h)
+  part_fine (seen p u (func_lit s g z b)) h k v = (refl, h)
+  part_fine (seen p u (int_lit s n)) h k v = refl
+  part_fine (seen p u (rune_lit s n)) h k v = refl
+  part_fine (seen p u (str_lit s n)) h k v = refl
+  part_fine (seen p u (index s a b)) h k v = refl
+  part_fine (seen p u (slice s a b d)) h k v = refl
+  part_fine (seen p u (call s f xs z)) h k v = refl
+  part_fine (seen p u (type_operand s t)) h k v = refl
+  part_fine (seen p u (unary s o a)) h k v = refl
+  part_fine (seen p u (binary s o a b)) h k v = refl
+  part_fine (seen p u (star s a)) h k v = refl
+  part_fine (seen_type p t) h k v = λ r m w i. type_written ps home there at names new all outside beyond p known r m w i t (type_typed p r m w t k h.value h.known) (λ e. elsewhere e) v
+  part_fine (seen_stmt p (const_decl s g ss)) h k v = absurd k
+  part_fine (seen_stmt p (eval s e)) h k v = (refl, h)
+  part_fine (seen_stmt p (defer s e)) h k v = (refl, h)
+  part_fine (seen_stmt p s) h k v = refl
+
+  parts_fine : (xs : List (Seen S)) → AllStand home.number xs → AllPlain xs → first_answer (shadowed_here ps home there at) xs ≡ None → AllFine (landing ps home there at names new all outside beyond) all home.number outside at.env.names (changes_there ps home there at names new all outside beyond) xs
+  parts_fine [] h k v = tt
+  parts_fine (x ∷ xs) h k v =
+      let q = one_of_none (shadowed_here ps home there at x) (first_answer (shadowed_here ps home there at) xs) v in
+      (part_fine x h.0 k.0 q.0, parts_fine xs h.1 k.1 q.1)
+
+  pub body_here : (c : Ctx) (p : Place S) (before : Bool) (b : Stmts S) (e : Bool) → LocalValues home.number p.env p.bound → stmts c p.env before b ≡ Some e → AllPlain (stmts_seen p b) → first_answer (shadowed_here ps home there at) (stmts_seen p b) ≡ None
+      → (ts : List GoType) (r : List (List ℕ)) (m : Environment Entity) → Within all home.number outside at.env.names r p.env p.bound m
+      → WrittenBody (landing ps home there at names new all outside beyond) ts r p.env m b (new_stmts (keeping (changes_there ps home there at names new all outside beyond)) p b)
+  body_here c p before b e l h k v ts r m w =
+      stmts-written (landing ps home there at names new all outside beyond) all home.number outside at.env.names (changes_there ps home there at names new all outside beyond) refl listing ts p b r m w
+      (parts_fine (stmts_seen p b) (stmts_stand home.number p c before b e l h (all_plain_none (stmts_seen p b) k)) k v)

@@ -1,0 +1,145 @@
+-- The laws of a call that becomes a literal of its function. Each is the contract of a function of this crate (Go
+-- specification, Calls; Function literals; Function declarations; Declarations and scope).
+use Rattle.std.specs.Prelude.{◌≡◌, ℕ, suc, Bool, true, false, List, [], Some, None, slice_get}
+use Rattle.go_tree.specs.declared.spans.Span.{Span}
+use Rattle.go_tree.specs.Tree.{Expr, Stmts}
+use Rattle.go_tree.specs.Bare.{bare_stmts}
+use Rattle.go_tree.specs.File.{Func, func}
+use Rattle.scope_names.specs.Means.{Environment, means, is_blank}
+use Rattle.pkg_graph.specs.Package.{Package}
+use Rattle.pkg_graph.specs.Members.{member}
+use Rattle.go_types.specs.Types.{GoType}
+use Rattle.go_types.specs.Entities.{Entity, World}
+use Rattle.go_types.specs.Bodies.{Ctx}
+use Rattle.go_types.specs.Programs.{SourceFile, SourcePackage, Program, headed, block_names, file_block}
+use Rattle.go_types.specs.Typing.{parts, stmts}
+use Rattle.go_kernel.specs.Kernel.{FuncName}
+use Rattle.go_kernel.specs.Alike.{MeanSame}
+use Rattle.go_kernel.specs.Laws.{Ranked}
+use Rattle.form_in_place.specs.Written.{WrittenBody}
+use Rattle.go_translation.specs.Values.{path_of}
+use Rattle.go_translation.specs.Calls.{function_named}
+use Rattle.go_translation.specs.Here.{Here}
+use Rattle.go_translation.specs.Packages as translated
+use Rattle.go_translation.specs.Packages.{paths_in, codes_of, program_of}
+use Rattle.go_translation.specs.Translation.{expr_term, deferred_term}
+use Rattle.run_rules.specs.Surroundings.{Place}
+use Rattle.run_rules.specs.Programs.{top_env}
+use Rattle.run_rules.specs.Places.{stmts_seen}
+use Rattle.run_rules.specs.Rewriting.{Changes, new_stmts}
+use Rattle.run_rules.specs.Sites.{MarkRef, Where, Site}
+use Rattle.run_rules.specs.Naming.{Names}
+use Rattle.run_rules.specs.FormTrees.{as_expr}
+use Rattle.run_rules.specs.Forms.{literal_tree}
+use Rattle.run_rules.specs.Naming.{names_by}
+use Rattle.run_rules.specs.FormTrees.{LiteralForm}
+use Rattle.run_rules.specs.Obstacles.{shadowed_here, first_answer}
+use Rattle.run_rules.specs.Reduced.{text_taken, names_in_form, call_obstacle}
+use Rattle.written_literal.specs.Within.{Within}
+use Rattle.written_literal.specs.Fine.{keeping}
+use Rattle.written_literal.specs.KnownNames.{landing, KnownNames}
+use Rattle.written_literal.specs.PartsTyped.{changes_there}
+use Rattle.written_literal.specs.LinkedNames.{Standing}
+use Rattle.constant_steps.specs.Alone.{block_from, PackageAt}
+use Rattle.literal_steps.specs.TypedParts.{LocalValues, StandIn}
+use Rattle.literal_steps.specs.PlainParts.{AllPlain, NothingElse}
+use Rattle.literal_steps.specs.AlikeChanges.{AllAlike}
+use Rattle.literal_steps.specs.FirstFunctions.{FirstFunction}
+use Rattle.literal_steps.specs.LiteralUse.{LiteralUse, call_of, chosen_of, OwnCall}
+use Rattle.literal_steps.specs.CalledAt.{CalledAt, Linked}
+
+-- ---- typed bodies
+
+-- Statements that are typed, where the names around them mean variables and constants: each part of them that the walk
+-- lists is typed where it stands, if none of them declares constants.
+abbrev pub TypedPartsStand : Type 0
+TypedPartsStand =
+    (home : ℕ) (p : Place Span) (c : Ctx) (before : Bool) (b : Stmts Span) (ends : Bool) →
+    LocalValues home p.env p.bound → stmts c p.env before b ≡ Some ends → StandIn home (stmts_seen p b)
+
+-- So in the package of a function a typed body that names no package and declares no constants, and none of whose names
+-- is shadowed at a use, is what may be written for itself there.
+abbrev pub OwnBodiesAreWritten : Type 0
+OwnBodiesAreWritten =
+    (ps : List (Package Span)) (home there : Where Span) (at : Place Span) (names : Names) (new : Span) (all : World)
+    (outside beyond : Environment Entity) → KnownNames ps home there at names new all outside beyond →
+    NothingElse ps home outside → home.number ≡ there.number →
+    (c : Ctx) (p : Place Span) (before : Bool) (b : Stmts Span) (ends : Bool) →
+    LocalValues home.number p.env p.bound → stmts c p.env before b ≡ Some ends → AllPlain (stmts_seen p b) →
+    first_answer (shadowed_here ps home there at) (stmts_seen p b) ≡ None →
+    (ts : List GoType) (r : List (List ℕ)) (m : Environment Entity) →
+    Within all home.number outside at.env.names r p.env p.bound m →
+    WrittenBody (landing ps home there at names new all outside beyond) ts r p.env m b
+    (new_stmts (keeping (changes_there ps home there at names new all outside beyond)) p b)
+
+-- What means nothing at the top of a file to a run means nothing to the rules of typing.
+abbrev pub NothingElseIsMeant : Type 0
+NothingElseIsMeant =
+    (ps : List (Package Span)) (w : Where Span) → Standing ps w →
+    NothingElse ps w (top_env ps w.number w.of w.source.tree).names
+
+-- ---- what the run says
+
+-- A use that becomes a literal has no obstacle, and the form is the literal of the function; no name that it takes means
+-- something else at the use.
+abbrev pub LiteralsHaveNoObstacle : Type 0
+LiteralsHaveNoObstacle =
+    (same : Span → Span → Bool) (commented : ℕ → ℕ → Span → Bool) (rs : List (Package Span)) (marks : List MarkRef)
+    (x : Site Span) (u : LiteralUse same commented rs marks x) →
+    (call_obstacle same commented rs marks x (call_of same commented rs marks x u)
+    (chosen_of same commented rs marks x u) LiteralForm ≡ None)
+    × (u.form ≡ literal_tree same rs (call_of same commented rs marks x u)
+    (names_by
+    (names_in_form same commented rs marks x (call_of same commented rs marks x u)
+    (chosen_of same commented rs marks x u) LiteralForm)) (chosen_of same commented rs marks x u))
+    × (first_answer (shadowed_here rs u.home x.at x.place)
+    (text_taken same commented rs marks (call_of same commented rs marks x u) LiteralForm
+    (chosen_of same commented rs marks x u)) ≡ None)
+
+-- Two walks through a body with changes that are equal but for spans make of it what is equal but for spans.
+abbrev pub AlikeChangesAreAlike : Type 0
+AlikeChangesAreAlike =
+    (c d : Changes Span) (p : Place Span) (b : Stmts Span) → AllAlike c d (stmts_seen p b) →
+    bare_stmts (new_stmts c p b) ≡ bare_stmts (new_stmts d p b)
+
+-- A name of a package block that means a function's declaration by its numbers is declared by the function's header, the
+-- first of the package that has the name.
+abbrev pub FunctionsAreFirst : Type 0
+FunctionsAreFirst =
+    (n : List ℕ) → is_blank n ≡ false → (p : SourcePackage Span) (k : ℕ) (ps : Program Span) (a f d i : ℕ)
+    (file : SourceFile Span) (g : Func Span) → PackageAt p k ps →
+    means (block_from p.number 0 p.files) n ≡ Some (member a f d i) → slice_get p.files f ≡ Some file →
+    slice_get file.decls d ≡ Some (func g) →
+    FirstFunction n p.number (file_block (block_names p.files) [] file.imports) g (headed ps)
+
+-- ---- the call
+
+-- In well-typed packages a call in its function's package, in whose way nothing stands, and the literal that the run
+-- writes for it, are the same operand.
+abbrev pub LiteralsAreTypedAlike : Type 0
+LiteralsAreTypedAlike =
+    (same : Span → Span → Bool) (commented : ℕ → ℕ → Span → Bool) (rs : List (Package Span)) (marks : List MarkRef)
+    (x : Site Span) (u : LiteralUse same commented rs marks x) (v : OwnCall same commented rs marks x u)
+    (ms : List (translated.Package Span)) → Linked rs ms x same commented marks u →
+    (c : Here) → CalledAt rs ms x c → (e : Expr Span) → u.form ≡ as_expr e → parts c.env u.tree ≡ parts c.env e
+
+-- And under free prices the call means the literal, where the packages are ranked and the function is free.
+abbrev pub CallsMeanTheirLiterals : Type 0
+CallsMeanTheirLiterals =
+    (same : Span → Span → Bool) (commented : ℕ → ℕ → Span → Bool) (rs : List (Package Span)) (marks : List MarkRef)
+    (x : Site Span) (u : LiteralUse same commented rs marks x) (v : OwnCall same commented rs marks x u)
+    (ms : List (translated.Package Span)) → Linked rs ms x same commented marks u →
+    (c : Here) → CalledAt rs ms x c → (e : Expr Span) → u.form ≡ as_expr e →
+    (free : FuncName → Bool) (A : ℕ) (rank : FuncName → ℕ) → Ranked (program_of (codes_of ms)) free rank →
+    free (function_named (path_of (paths_in ms) u.home.number) v.name) ≡ true → (t : GoType) →
+    MeanSame (program_of (codes_of ms)) free A (suc (rank (function_named (path_of (paths_in ms) u.home.number) v.name)))
+    (expr_term c t u.tree) (expr_term c t e)
+
+-- And a deferred call means the deferred literal.
+abbrev pub DeferredCallsMeanTheirLiterals : Type 0
+DeferredCallsMeanTheirLiterals =
+    (same : Span → Span → Bool) (commented : ℕ → ℕ → Span → Bool) (rs : List (Package Span)) (marks : List MarkRef)
+    (x : Site Span) (u : LiteralUse same commented rs marks x) (v : OwnCall same commented rs marks x u)
+    (ms : List (translated.Package Span)) → Linked rs ms x same commented marks u →
+    (c : Here) → CalledAt rs ms x c → (e : Expr Span) → u.form ≡ as_expr e → (free : FuncName → Bool) (A : ℕ) →
+    MeanSame (program_of (codes_of ms)) free A 0 (deferred_term c u.tree) (deferred_term c e)

@@ -1,0 +1,65 @@
+-- A call that becomes a literal of the function that it names, in the package of the function (Go specification, Calls;
+-- Function literals; Function declarations).
+use Rattle.std.specs.Prelude.{◌≡◌, ℕ, Bool, true, false, List, map, length, Some, None}
+use Rattle.go_tree.specs.declared.exprs.Rest.TheVariants.{Plain}
+use Rattle.go_tree.specs.Tree.{Param, Sig, Expr, ident, call, Exprs}
+use Rattle.go_tree.specs.File.{Func}
+use Rattle.pkg_graph.specs.Package.{Package}
+use Rattle.param_choice.specs.Chosen.{has}
+use Rattle.run_rules.specs.Calls.{Call, param_name, list_of, chosen, spread_call, body_seen}
+use Rattle.run_rules.specs.FormTrees.{LiteralForm, Form, top}
+use Rattle.run_rules.specs.Naming.{Named}
+use Rattle.run_rules.specs.Places.{sig_seen}
+use Rattle.run_rules.specs.Reduced.{becomes, call_at, reduced}
+use Rattle.run_rules.specs.Sites.{MarkRef, Where, Site, a_function, an_expr, where_is, inlinable, expr_mark}
+use Rattle.literal_steps.specs.PlainParts.{AllPlain}
+
+module _ {S : Type 0} where
+  -- a parameter of the literal has the parameter's name, or `_`
+  abbrev pub filled : Param S → Param S
+  filled p = record p { name = Some (record { span = p.span; name = param_name p }) }
+
+  -- so have all of a signature
+  abbrev pub filled_sig : Sig S → Sig S
+  filled_sig g = record g { params = map filled g.params }
+
+module _ {S : Type 0} (same : S → S → Bool) (commented : ℕ → ℕ → S → Bool) (rs : List (Package S))
+    (marks : List MarkRef) (x : Site S) where
+  -- the use is a call of a function, and becomes a literal of it
+  pub record LiteralUse : Type 0 where
+    pub tree : Expr S
+    pub part : x.part ≡ an_expr tree
+    pub home : Where S
+    pub stands : where_is rs x.mark ≡ Some home
+    pub callee : Func S
+    pub declared : inlinable rs x.mark ≡ Some (a_function callee)
+    pub form : Form S
+    pub range : S
+    pub packages : List Named
+    pub reduces : reduced same commented rs marks x ≡ Some (becomes LiteralForm form range packages)
+
+  module _ (u : LiteralUse) where
+    -- the call
+    abbrev pub call_of : Call S
+    call_of = call_at same commented rs marks x u.home u.callee u.tree
+
+    -- its chosen parameters
+    abbrev pub chosen_of : List Bool
+    chosen_of = chosen same rs call_of
+
+    -- The call names the function plainly, in the function's package. All parameters stay bound, and there are as many
+    -- arguments, unless they are one call with several results. The function names no package, and its body declares no
+    -- group of constants.
+    pub record OwnCall : Type 0 where
+      pub span : S
+      pub name_at : S
+      pub name : List ℕ
+      pub args : Exprs S
+      pub tree_is : u.tree ≡ call span (ident name_at name) args Plain
+      pub use_ : expr_mark rs marks x.at x.place u.tree ≡ Some x.mark
+      pub same_package : u.home.number ≡ x.at.number
+      pub free : u.callee.receiver ≡ None
+      pub nothing_chosen : (i : ℕ) → has chosen_of i ≡ false
+      pub counted : spread_call same rs call_of ≡ false → length (list_of args) ≡ length u.callee.sig.params
+      pub plain_types : AllPlain (sig_seen (top rs call_of) u.callee.sig)
+      pub plain_body : AllPlain (body_seen same rs call_of)

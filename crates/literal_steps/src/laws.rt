@@ -1,0 +1,32 @@
+//! Laws of calls that become literals of their functions.
+
+ghost use Rattle.literal_steps.specs.Laws.{AlikeChangesAreAlike, CallsMeanTheirLiterals, FunctionsAreFirst};
+ghost use Rattle.literal_steps.specs.Laws.{DeferredCallsMeanTheirLiterals, LiteralsAreTypedAlike};
+ghost use Rattle.literal_steps.specs.Laws.{LiteralsHaveNoObstacle};
+ghost use Rattle.literal_steps.specs.Laws.{NothingElseIsMeant, OwnBodiesAreWritten, TypedPartsStand};
+
+/// In a typed body each part that the walk lists is typed where it stands; so within the function's
+/// package a body with no name shadowed at a use is what may be written for itself there.
+pub fn typed_bodies_are_written()
+    ensures parts { TypedPartsStand }
+    ensures written { OwnBodiesAreWritten }
+    ensures nothing { NothingElseIsMeant }
+{}
+
+/// A use that becomes a literal has no obstacle; changes that are equal but for spans make of a body
+/// what is equal but for spans; and a name that means a function is declared by its header, the first
+/// of the package with the name.
+pub fn literals_have_no_obstacle()
+    ensures obstacle { LiteralsHaveNoObstacle }
+    ensures spans { AlikeChangesAreAlike }
+    ensures first { FunctionsAreFirst }
+{}
+
+/// In well-typed packages a call in its function's package, in whose way nothing stands, is typed as
+/// the literal that the run writes for it, and means it under free prices; deferred, it means the
+/// deferred literal.
+pub fn calls_mean_their_literals()
+    ensures typed { LiteralsAreTypedAlike }
+    ensures meaning { CallsMeanTheirLiterals }
+    ensures deferred { DeferredCallsMeanTheirLiterals }
+{}
