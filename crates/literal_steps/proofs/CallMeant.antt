@@ -72,11 +72,11 @@ use Rattle.constant_steps.specs.PlainUse.{linked_at}
 use Rattle.constant_steps.proofs.NamesOutside.{MemberThere, member_there, not_local}
 use Rattle.constant_steps.proofs.MarksFound.{member_of_mark, named_member, marked_so, StandsThere, stands_there, DeclaredThere, declared_there, nth_mapped}
 use Rattle.literal_steps.specs.TypedParts.{LocalValues}
-use Rattle.literal_steps.specs.PlainParts.{AllPlain}
+use Rattle.literal_steps.specs.ServedParts.{AllServed}
 use Rattle.literal_steps.specs.FirstFunctions.{FirstFunction}
 use Rattle.literal_steps.specs.LiteralUse.{filled_sig, LiteralUse, OwnCall}
 use Rattle.literal_steps.specs.LiteralUse as use_of
-use Rattle.literal_steps.specs.CalledAt.{CalledAt, Linked}
+use Rattle.literal_steps.specs.CalledAt.{CalledAt, Linked, PackagesServe}
 use Rattle.literal_steps.proofs.LocalValues.{in_blocks, extended, head_values}
 use Rattle.literal_steps.proofs.FilesKnown.{nothing_else}
 use Rattle.literal_steps.proofs.FirstFunctions.{first_function}
@@ -337,7 +337,7 @@ module _ {S : Type 0} (same : S → S → Bool) (commented : ℕ → ℕ → S �
 
   -- ---- at the place of the call
 
-  module _ (c : Here) (h : CalledAt rs ms x c) where
+  module _ (c : Here) (h : CalledAt rs ms x c) (y : PackagesServe rs ms x same commented marks u c) where
     abbrev at : Place S
     at = record x.place { env = c.env }
 
@@ -383,7 +383,7 @@ module _ {S : Type 0} (same : S → S → Bool) (commented : ℕ → ℕ → S �
 
     body_written : WrittenBody site (results_in (func_type top_names u.callee.sig)) (bound_names binds ++ []) start_place.env (binds ++ c.env.names) u.callee.body changed_body
     body_written =
-        body_here rs u.home x.at at ns new (world rs) top_names.names beyond known (nothing_else rs u.home l.home_stands) v.same_package ctx start_place false u.callee.body body_typed.ends start_values body_typed.typed v.plain_body clear_parts.body (results_in (func_type top_names u.callee.sig)) (bound_names binds ++ [])
+        body_here rs u.home x.at at ns new (world rs) top_names.names beyond known (nothing_else rs u.home l.home_stands) v.same_package ctx start_place false u.callee.body body_typed.ends start_values body_typed.typed y.body clear_parts.body (results_in (func_type top_names u.callee.sig)) (bound_names binds ++ [])
         (binds ++ c.env.names) start_within
 
     abbrev topp : Place S
@@ -392,14 +392,17 @@ module _ {S : Type 0} (same : S → S → Bool) (commented : ℕ → ℕ → S �
     top_values : LocalValues K topp.env topp.bound
     top_values = record { each = λ n e. absurd (grind (arith, e)); block = λ n e. absurd (grind (arith, e)); home_is = refl }
 
-    plain_apart : (xs ys : List (Seen S)) → AllPlain (xs ++ ys) → AllPlain xs × AllPlain ys
-    plain_apart [] ys a = (tt, a)
-    plain_apart (y ∷ xs) ys a = let r = plain_apart xs ys a.1 in ((a.0, r.0), r.1)
+    abbrev Served : List (Seen S) → Type 0
+    Served xs = AllServed rs u.home ns c.env.names (names_of x.place.bound) xs
+
+    served_apart : (xs ys : List (Seen S)) → Served (xs ++ ys) → Served xs × Served ys
+    served_apart [] ys a = (tt, a)
+    served_apart (y ∷ xs) ys a = let r = served_apart xs ys a.1 in ((a.0, r.0), r.1)
 
     literal_at_top : (s z : S) → Written site [] top_names c.env.names (func_lit s u.callee.sig z u.callee.body) (func_lit s changed_sig z changed_body)
     literal_at_top s z =
         let t = from_both (params_meant top_names u.callee.sig.params) (params_meant top_names u.callee.sig.results) (λ ts us. Some (record { params = ts; results = us })) meant.type typed_top in
-        let k = plain_apart (params_seen topp u.callee.sig.params) (params_seen topp u.callee.sig.results) v.plain_types in
+        let k = served_apart (params_seen topp u.callee.sig.params) (params_seen topp u.callee.sig.results) y.types in
         w_func_lit {g = u.callee.sig} {g' = changed_sig}
         (params_here rs u.home x.at at ns new (world rs) top_names.names beyond known (nothing_else rs u.home l.home_stands) v.same_package topp [] c.env.names top_within u.callee.sig.params t.0 top_values k.0 t.2 clear_parts.params)
         (params_here rs u.home x.at at ns new (world rs) top_names.names beyond known (nothing_else rs u.home l.home_stands) v.same_package topp [] c.env.names top_within u.callee.sig.results t.1 top_values k.1 t.3 clear_parts.results)
@@ -497,22 +500,22 @@ module _ {S : Type 0} (same : S → S → Bool) (commented : ℕ → ℕ → S �
         ∙ ap (λ r. both r (all_parts c.env v.args) (call_of (defined_in c.env))) (ap (named_operand c.env) name_meant ∙ sym literal_typed ∙ sym (literal_parts c.env v.span v.span changed_sig changed_body))
         ∙ (sym (parts-bare c.env (call v.span (func_lit v.span (filled_sig changed_sig) v.span changed_body) v.args Plain)) ∙ ap (parts c.env) (sym (form_is e q)) ∙ parts-bare c.env e)
 
-module _ (same : Span → Span → Bool) (commented : ℕ → ℕ → Span → Bool) (rs : List (Package Span)) (marks : List MarkRef) (x : Site Span) (u : LiteralUse same commented rs marks x) (v : OwnCall same commented rs marks x u) (ms : List (translated.Package Span)) (l : Linked rs ms x same commented marks u) (c : Here) (h : CalledAt rs ms x c) where
+module _ (same : Span → Span → Bool) (commented : ℕ → ℕ → Span → Bool) (rs : List (Package Span)) (marks : List MarkRef) (x : Site Span) (u : LiteralUse same commented rs marks x) (v : OwnCall same commented rs marks x u) (ms : List (translated.Package Span)) (l : Linked rs ms x same commented marks u) (c : Here) (h : CalledAt rs ms x c) (y : PackagesServe rs ms x same commented marks u c) where
   pub means_it : (e : Expr Span) → u.form ≡ as_expr e → (free : FuncName → Bool) (A : ℕ) (rank : FuncName → ℕ) → Ranked (program_of (codes_of ms)) free rank → free (function_named (path_of (paths_in ms) u.home.number) v.name) ≡ true → (t : GoType)
       → MeanSame (program_of (codes_of ms)) free A (suc (rank (function_named (path_of (paths_in ms) u.home.number) v.name))) (expr_term c t u.tree) (expr_term c t e)
   means_it e q free A rank ranked is_free t =
-      let g : Sig Span = changed_sig same commented rs marks x u v ms l c h in
-      let b : Stmts Span = changed_body same commented rs marks x u v ms l c h in
+      let g : Sig Span = changed_sig same commented rs marks x u v ms l c h y in
+      let b : Stmts Span = changed_body same commented rs marks x u v ms l c h y in
       let F : FuncName = function_named (path_of (paths_in ms) u.home.number) v.name in
       subst (λ y. MeanSame (program_of (codes_of ms)) free A (suc (rank F)) y (expr_term c t e)) (sym (ap (expr_term c t) v.tree_is))
-      (subst (λ y. MeanSame (program_of (codes_of ms)) free A (suc (rank F)) (expr_term c t (call v.span (ident v.name_at v.name) v.args Plain)) y) (term_is same commented rs marks x u v ms l c h e q t)
-      (operand_law (program_of (codes_of ms)) c (names_of x.place.bound) (ident v.name_at v.name) F (meant same commented rs marks x u v ms l).type.params v.span v.span g b (call_of_literal same commented rs marks x u v ms l c h v.span v.span) free A rank ranked (program_scoped ms) is_free v.span t v.args Plain))
+      (subst (λ y. MeanSame (program_of (codes_of ms)) free A (suc (rank F)) (expr_term c t (call v.span (ident v.name_at v.name) v.args Plain)) y) (term_is same commented rs marks x u v ms l c h y e q t)
+      (operand_law (program_of (codes_of ms)) c (names_of x.place.bound) (ident v.name_at v.name) F (meant same commented rs marks x u v ms l).type.params v.span v.span g b (call_of_literal same commented rs marks x u v ms l c h y v.span v.span) free A rank ranked (program_scoped ms) is_free v.span t v.args Plain))
 
   pub deferred_means_it : (e : Expr Span) → u.form ≡ as_expr e → (free : FuncName → Bool) (A : ℕ) → MeanSame (program_of (codes_of ms)) free A 0 (deferred_term c u.tree) (deferred_term c e)
   deferred_means_it e q free A =
-      let g : Sig Span = changed_sig same commented rs marks x u v ms l c h in
-      let b : Stmts Span = changed_body same commented rs marks x u v ms l c h in
+      let g : Sig Span = changed_sig same commented rs marks x u v ms l c h y in
+      let b : Stmts Span = changed_body same commented rs marks x u v ms l c h y in
       let F : FuncName = function_named (path_of (paths_in ms) u.home.number) v.name in
       subst (λ y. MeanSame (program_of (codes_of ms)) free A 0 y (deferred_term c e)) (sym (ap (deferred_term c) v.tree_is))
-      (subst (λ y. MeanSame (program_of (codes_of ms)) free A 0 (deferred_term c (call v.span (ident v.name_at v.name) v.args Plain)) y) (deferred_is same commented rs marks x u v ms l c h e q)
-      (deferred_law (program_of (codes_of ms)) c (names_of x.place.bound) (ident v.name_at v.name) F (meant same commented rs marks x u v ms l).type.params v.span v.span g b (call_of_literal same commented rs marks x u v ms l c h v.span v.span) free A (program_scoped ms F) v.span v.args Plain))
+      (subst (λ y. MeanSame (program_of (codes_of ms)) free A 0 (deferred_term c (call v.span (ident v.name_at v.name) v.args Plain)) y) (deferred_is same commented rs marks x u v ms l c h y e q)
+      (deferred_law (program_of (codes_of ms)) c (names_of x.place.bound) (ident v.name_at v.name) F (meant same commented rs marks x u v ms l).type.params v.span v.span g b (call_of_literal same commented rs marks x u v ms l c h y v.span v.span) free A (program_scoped ms F) v.span v.args Plain))

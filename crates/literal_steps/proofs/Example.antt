@@ -32,7 +32,7 @@ use Rattle.written_literal.specs.LinkedNames.{Standing}
 use Rattle.constant_steps.specs.Alone.{this_package}
 use Rattle.constant_steps.specs.PlainUse.{linked_at}
 use Rattle.literal_steps.specs.LiteralUse.{LiteralUse, OwnCall}
-use Rattle.literal_steps.specs.CalledAt.{CalledAt, Linked}
+use Rattle.literal_steps.specs.CalledAt.{CalledAt, Linked, PackagesServe}
 use Rattle.literal_steps.proofs.CallMeant.{typed_alike, means_it}
 
 abbrev at : ℕ → Span
@@ -137,8 +137,6 @@ is_own_call = record {
   free = refl;
   nothing_chosen = none_chosen;
   counted = λ e. refl;
-  plain_types = (tt, (tt, tt));
-  plain_body = (tt, (tt, (tt, (tt, (tt, (tt, (tt, tt)))))));
 }
 
 abbrev packages : List (translated.Package Span)
@@ -187,10 +185,14 @@ is_called = record {
   locals = λ n e. refl;
 }
 
+no_packages : PackagesServe rs packages use_of_add same_span no_comments marks is_literal_use in_main
+unfolding is_literal_use
+no_packages = record { types = (tt, (tt, tt)); body = (tt, (tt, (tt, (tt, (tt, (tt, (tt, tt))))))) }
+
 -- by the laws alone
 add_is_typed : parts there.env adding ≡ parts there.env literal
 unfolding is_literal_use
-add_is_typed = typed_alike same_span no_comments rs marks use_of_add is_literal_use is_own_call packages is_linked in_main is_called literal refl
+add_is_typed = typed_alike same_span no_comments rs marks use_of_add is_literal_use is_own_call packages is_linked in_main is_called no_packages literal refl
 
 abbrev free : FuncName → Bool
 free f = bytes_eq f.name (codes "add")
@@ -201,7 +203,7 @@ rank f = 0
 add_means : MeanSame (program_of (codes_of packages)) free 1 1 (expr_term in_main (basic kind.Int) adding) (expr_term in_main (basic kind.Int) literal)
 unfolding is_literal_use is_own_call
 add_means =
-    means_it same_span no_comments rs marks use_of_add is_literal_use is_own_call packages is_linked in_main is_called literal refl free 1 rank (program_ranked packages free rank refl) refl (basic kind.Int)
+    means_it same_span no_comments rs marks use_of_add is_literal_use is_own_call packages is_linked in_main is_called no_packages literal refl free 1 rank (program_ranked packages free rank refl) refl (basic kind.Int)
 
 -- ---- where `int` is declared around the use, as in `int := 1; println(add(int))`, it stays: no such use becomes a literal
 

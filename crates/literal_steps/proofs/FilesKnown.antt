@@ -16,7 +16,7 @@ use Rattle.run_rules.specs.Programs.{linked, linked_file, imports_mean, top_env}
 use Rattle.run_rules.specs.Sites.{Where, outer}
 use Rattle.written_literal.specs.LinkedNames.{AllDeclared, Standing}
 use Rattle.written_literal.proofs.NamesMeant.{Matched, Answered, matched_means, means_join, IsImport, all_imports_match, IsItem, binds_in, declared_at, files_match, block_found, block_is}
-use Rattle.literal_steps.specs.PlainParts.{NothingElse}
+use Rattle.literal_steps.specs.ServedParts.{NothingElse}
 
 -- the names of both, one by one
 abbrev same_names : Environment Target → Environment Entity → Bool

@@ -23,7 +23,7 @@ use Rattle.run_rules.specs.Forms.{body_changes, param_number, chosen_arg, litera
 use Rattle.written_literal.specs.Fine.{keeping}
 use Rattle.written_literal.specs.PartsTyped.{selector_there, expr_there, changes_there}
 use Rattle.literal_steps.specs.AlikeChanges.{IsAlike, AllAlike}
-use Rattle.literal_steps.specs.LiteralUse.{filled, filled_sig, LiteralUse, call_of, chosen_of, OwnCall}
+use Rattle.literal_steps.specs.LiteralUse.{filled, filled_sig, LiteralUse, call_of, chosen_of, names_of_form, OwnCall}
 use Rattle.literal_steps.proofs.WalksBare.{params-bare, stmts-bare}
 use Rattle.literal_steps.proofs.NoObstacle.{named_so, AllGiven, one_call, each_given, no_receiver}
 
@@ -47,7 +47,7 @@ module _ {S : Type 0} (same : S → S → Bool) (commented : ℕ → ℕ → S �
 
   -- the names that the literal has for packages
   abbrev pub names : Names
-  names = names_by (named_so same commented rs marks x u)
+  names = names_of_form same commented rs marks x u
 
   home_there : nat_eq u.home.number x.at.number ≡ true
   home_there = same_number u.home.number x.at.number v.same_package

@@ -6,11 +6,11 @@ use Rattle.go_tree.specs.Tree.{NameAt, Param, TypeExpr, named, pointer, slice_ty
 use Rattle.scope_names.specs.Means.{Environment, means, is_blank}
 use Rattle.scope_names.specs.FreeNames.{names_of}
 use Rattle.pkg_graph.specs.Package.{Package}
-use Rattle.pkg_graph.specs.Members.{Target}
+use Rattle.pkg_graph.specs.Members.{Target, local, imported, member, predeclared}
 use Rattle.go_types.specs.Answers.{given, both, meets, only_if, is_among}
 use Rattle.go_types.specs.Types.{GoType, pointer_to, slice_of, map_of, struct_of, GoFields, no_go_fields, go_field}
 use Rattle.go_types.specs.Defined.{Defined, under, has_keys}
-use Rattle.go_types.specs.Entities.{variable, constant, stand_in, type_name, function, package_name, builtin, nil_name, iota_name, refused, Entity, World, Env, meaning, package_of, type_of_name, defined_in}
+use Rattle.go_types.specs.Entities.{variable, constant, stand_in, type_name, function, package_name, builtin, nil_name, iota_name, refused, Entity, World, Env, meaning, universe, block_of, exported, package_of, type_of_name, defined_in}
 use Rattle.go_types.specs.TypeNames.{resolved, resolved_fields, field_before, type_meant, params_meant}
 use Rattle.go_types.specs.Operands.{Operand, value}
 use Rattle.go_types.specs.Primary.{fields_in}
@@ -18,30 +18,31 @@ use Rattle.go_types.specs.Literals.{Element, is_struct, field_key, of_field, unk
 use Rattle.go_types.specs.Bodies.{Ctx}
 use Rattle.go_types.specs.Typing.{parts, elements, element, with_key, stmts}
 use Rattle.go_types.proofs.Agreeing.{from_given, from_both}
-use Rattle.form_in_place.specs.Places.{Landing, SeenFields, SeenIn, SelectorAlike, means_function}
+use Rattle.form_in_place.specs.Places.{Landing, SeenFields, SeenIn, SelectorAlike, is_member, means_function}
 use Rattle.form_in_place.specs.Bound.{inner_under, literal_under}
 use Rattle.form_in_place.specs.Written.{WrittenBody}
+use Rattle.form_in_place.specs.Leaves as rules
 use Rattle.form_in_place.specs.Leaves.{WrittenParams, no_params, param_and}
 use Rattle.run_rules.specs.Surroundings.{Use, Place, Seen, seen, seen_type, seen_stmt, is_local, inner_slot, in_slot}
 use Rattle.run_rules.specs.Places.{params_seen, stmts_seen}
 use Rattle.run_rules.specs.Rewriting.{new_label, new_params, new_stmts}
-use Rattle.run_rules.specs.Sites.{Where, outer, qualifier}
+use Rattle.run_rules.specs.Sites.{Where, outer, imported_by, import_number, qualifier}
 use Rattle.run_rules.specs.Naming.{Names, type_there}
 use Rattle.run_rules.specs.Obstacles.{hidden_here, shadowed_here, shadowed_in_type, first_answer}
 use Rattle.written_literal.specs.Within.{Within}
 use Rattle.written_literal.specs.Fine.{keeping, same_span, is_package, names_package, FineElems, FineKey, FineValue, FineSelector, Fine, AllFine}
 use Rattle.written_literal.specs.Fine as fine
-use Rattle.written_literal.specs.Meant.{NameTyped}
+use Rattle.written_literal.specs.Meant.{NameTyped, Serves}
 use Rattle.written_literal.specs.KnownNames.{landing, KnownNames}
 use Rattle.written_literal.specs.TypesTyped.{Qualifies, TypeTyped, FieldsTyped}
-use Rattle.written_literal.specs.PartsTyped.{selector_there, expr_there, changes_there}
+use Rattle.written_literal.specs.PartsTyped.{selector_there, expr_there, changes_there, qualifier_before}
 use Rattle.written_literal.proofs.NamesWritten.{NameClear, name_written}
 use Rattle.written_literal.proofs.TypesWritten.{one_of_none, qualifier_means, type_written}
 use Rattle.written_literal.proofs.LiteralsHere.{literal_here}
 use Rattle.written_literal.proofs.ListedHeads.{listing}
 use Rattle.written_literal.proofs.Induction.{stmts-written}
-use Rattle.literal_steps.specs.TypedParts.{is_value, LocalValues, NameStands, ElementsTyped, TypeStands, PartStands, AllStand, AllWithoutConstants}
-use Rattle.literal_steps.specs.PlainParts.{Unqualified, UnqualifiedFields, IsPlain, AllPlain, NothingElse}
+use Rattle.literal_steps.specs.TypedParts.{is_value, LocalValues, NameStands, ElementsTyped, TypeStands, PartStands, AllStand, NoConstants, AllWithoutConstants}
+use Rattle.literal_steps.specs.ServedParts.{IsServed, TypeServed, FieldsServed, PartServed, AllServed, NothingElse}
 use Rattle.literal_steps.proofs.TypedWalk.{stmts_stand}
 
 seen_same : (k : ℕ) (n : List ℕ) (fs : GoFields) → SeenFields k k n fs
@@ -112,24 +113,48 @@ given_some : {A B : Type 0} (o : Option A) (k : A → Option B) → is_some (giv
 given_some None k e = e
 given_some (Some x) k e = refl
 
+there_is : {A : Type 0} (o : Option A) → is_some o ≡ true → (x : A) × (o ≡ Some x)
+there_is None e = absurd (grind (arith, e))
+there_is (Some x) e = (x, refl)
+
 both_some : {A B C : Type 0} (o : Option A) (q : Option B) (k : A → B → Option C) → is_some (both o q k) ≡ true → (is_some o ≡ true) × (is_some q ≡ true)
 both_some None q k e = absurd (grind (arith, e))
 both_some (Some x) None k e = absurd (grind (arith, e))
 both_some (Some x) (Some y) k e = (refl, refl)
 
+-- ---- no package is one of the universe, or a member of a package
+
+no_packages : Environment Entity → Bool
+no_packages [] = true
+no_packages (b ∷ bs) = Rattle.std.specs.Prelude.not (is_package (Some b.1)) && no_packages bs
+
+no_package_means : (es : Environment Entity) (n : List ℕ) → no_packages es ≡ true → is_package (means es n) ≡ false
+unfolding no_packages
+no_package_means [] n e = refl
+no_package_means (b ∷ bs) n e = go (Rattle.std.specs.Prelude.bytes_eq b.0 n) (is_package (Some b.1)) refl e (no_package_means bs n)
+  where
+    go : (t k : Bool) → is_package (Some b.1) ≡ k → (Rattle.std.specs.Prelude.not k && no_packages bs) ≡ true → (no_packages bs ≡ true → is_package (means bs n) ≡ false) → is_package (if t then Some b.1 else means bs n) ≡ false
+    go t true q e f = absurd (grind (arith, e))
+    go true false q e f = q
+    go false false q e f = f e
+
+universe_no_package : (n : List ℕ) → is_package (means universe n) ≡ false
+unfolding no_packages
+universe_no_package n = no_package_means universe n refl
+
+member_no_package : (e : Entity) → is_member e ≡ true → is_package (Some e) ≡ false
+member_no_package (package_name k) e = absurd (grind (arith, e))
+member_no_package (variable t) e = refl
+member_no_package (constant t c) e = refl
+member_no_package (stand_in q t c) e = refl
+member_no_package (type_name t) e = refl
+member_no_package (function f) e = refl
+member_no_package (builtin b) e = refl
+member_no_package nil_name e = refl
+member_no_package iota_name e = refl
+member_no_package refused e = refl
+
 module _ {S : Type 0} where
-  -- ---- no part that is plain declares constants
-
-  plain_none : (x : Seen S) → IsPlain x → Rattle.literal_steps.specs.TypedParts.NoConstants x
-  plain_none (seen p u x) h = tt
-  plain_none (seen_type p t) h = tt
-  plain_none (seen_stmt p (const_decl s g ss)) h = absurd h
-  plain_none (seen_stmt p s) h = tt
-
-  pub all_plain_none : (xs : List (Seen S)) → AllPlain xs → AllWithoutConstants xs
-  all_plain_none [] a = tt
-  all_plain_none (x ∷ xs) a = (plain_none x a.0, all_plain_none xs a.1)
-
   -- ---- elements of literals
 
   module _ (site : Landing) where
@@ -188,10 +213,39 @@ module _ {S : Type 0} (ps : List (Package S)) (home there : Where S) (at : Place
         dot true b true q k = absurd (grind (arith, sym (value_no_package (meaning p.env n) (h.value q)) ∙ k))
         dot true b false q k = absurd (grind (arith, sym (ap is_package (outer_is n q ∙ known.home_file.blank n b)) ∙ k))
 
+    -- ---- packages
+
+    -- the name of a package to typing is that of the package to a run
+    qualifier_known : (q : List ℕ) (j : ℕ) → (is_local p q ≡ true → is_value (meaning p.env q) ≡ true) → package_of (meaning p.env q) ≡ Some j → qualifier ps home p q ≡ Some j
+    qualifier_known q j v e = go (means (outer ps home) q) refl
+      where
+        is_one : is_package (meaning p.env q) ≡ true
+        is_one = ap is_some e
+
+        free : is_local p q ≡ false
+        free = unless_true (is_local p q) (λ l. contrary (is_package (meaning p.env q)) is_one (value_no_package (meaning p.env q) (v l)))
+
+        found : means outside q ≡ meaning p.env q
+        found = sym (outer_is q free)
+
+        asked : (o : Option Target) → means (outer ps home) q ≡ o → qualifier ps home p q ≡ given o (λ t. given (imported_by t) (import_number ps home))
+        asked o f = ap (λ b. given (if b then None else means (outer ps home) q) (λ t. given (imported_by t) (import_number ps home))) free ∙ ap (λ o. given o (λ t. given (imported_by t) (import_number ps home))) f
+
+        go : (o : Option Target) → means (outer ps home) q ≡ o → qualifier ps home p q ≡ Some j
+        go None f = absurd (grind (arith, contrary (is_package (meaning p.env q)) is_one (ap is_package (sym found ∙ nothing q f))))
+        go (Some (local z)) f = absurd (grind (arith, known.home_file.no_local q (local z) f))
+        go (Some (predeclared k)) f = absurd (grind (arith, contrary (is_package (meaning p.env q)) is_one (ap is_package (sym found ∙ known.home_file.in_universe q k f) ∙ universe_no_package q)))
+        go (Some (member a b c d)) f =
+            let y : (z : Entity) × (is_member z ≡ true) × (means outside q ≡ Some z) × (means (block_of all.blocks home.number) q ≡ Some z) = known.home_file.in_block q a b c d f in
+            absurd (grind (arith, contrary (is_package (meaning p.env q)) is_one (ap is_package (sym found ∙ y.2) ∙ member_no_package y.0 y.1)))
+        go (Some (imported i)) f =
+            let y : (k : ℕ) × (import_number ps home i ≡ Some k) × (package_of (means outside q) ≡ Some k) = known.home_file.in_imports q i f in
+            asked (Some (imported i)) f ∙ y.1 ∙ sym y.2 ∙ ap package_of found ∙ e
+
     -- ---- types
 
     mutual
-      type_typed : (t : TypeExpr S) → Unqualified t → ((n : List ℕ) → is_local p n ≡ true → is_value (meaning p.env n) ≡ true) → is_some (resolved p.env t) ≡ true → TypeTyped ps home there at names new all outside beyond p t
+      type_typed : (t : TypeExpr S) → TypeServed ps home names at.env.names (names_of at.bound) p t → ((n : List ℕ) → is_local p n ≡ true → is_value (meaning p.env n) ≡ true) → is_some (resolved p.env t) ≡ true → TypeTyped ps home there at names new all outside beyond p t
       type_typed (named s None n) u v e = go (type_named (meaning p.env n.name) e)
         where
           go : NamesType (meaning p.env n.name) → TypeTyped ps home there at names new all outside beyond p (named s None n)
@@ -201,19 +255,22 @@ module _ {S : Type 0} (ps : List (Package S)) (home there : Where S) (at : Place
             name_typed n.name (record { value = v n.name; known = λ l b. i; before_dot = λ b q. absurd (grind (arith, sym k ∙ q)) }),
             λ d. elsewhere d,
           )
-      type_typed (named s (Some q) n) u v e = absurd u
+      type_typed (named s (Some q) n) u v e =
+          let j = there_is (package_of (meaning p.env q.name)) (given_some (package_of (meaning p.env q.name)) (λ k. type_of_name (exported p.env.world k n.name)) e) in
+          let f : qualifier ps home p q.name ≡ Some j.0 = qualifier_known q.name j.0 (v q.name) j.1 in
+          (j.0, f, u j.0 f)
       type_typed (pointer s t) u v e = type_typed t u v (given_some (resolved p.env t) (λ u. Some (pointer_to u)) e)
       type_typed (slice_type s t) u v e = type_typed t u v (given_some (resolved p.env t) (λ u. Some (slice_of u)) e)
       type_typed (map_type s k t) u v e = let q = both_some (resolved p.env k) (resolved p.env t) (λ a b. Some (map_of a b)) e in (type_typed k u.0 v q.0, type_typed t u.1 v q.1)
       type_typed (struct_type s fs) u v e = fields_typed fs u v (given_some (resolved_fields p.env fs) (λ gs. Some (struct_of gs)) e)
 
-      fields_typed : (fs : Fields S) → UnqualifiedFields fs → ((n : List ℕ) → is_local p n ≡ true → is_value (meaning p.env n) ≡ true) → is_some (resolved_fields p.env fs) ≡ true → FieldsTyped ps home there at names new all outside beyond p fs
+      fields_typed : (fs : Fields S) → FieldsServed ps home names at.env.names (names_of at.bound) p fs → ((n : List ℕ) → is_local p n ≡ true → is_value (meaning p.env n) ≡ true) → is_some (resolved_fields p.env fs) ≡ true → FieldsTyped ps home there at names new all outside beyond p fs
       fields_typed no_fields u v e = tt
       fields_typed (field s n t fs) u v e = let q = both_some (resolved p.env t) (resolved_fields p.env fs) (field_before n.name p.env.home) e in (type_typed t u.0 v q.0, fields_typed fs u.1 v q.1)
 
     -- ---- parameters
 
-    pub params_here : (xs : List (Param S)) (ts : List GoType) → LocalValues home.number p.env p.bound → AllPlain (params_seen p xs) → params_meant p.env xs ≡ Some ts → first_answer (shadowed_here ps home there at) (params_seen p xs) ≡ None
+    pub params_here : (xs : List (Param S)) (ts : List GoType) → LocalValues home.number p.env p.bound → AllServed ps home names at.env.names (names_of at.bound) (params_seen p xs) → params_meant p.env xs ≡ Some ts → first_answer (shadowed_here ps home there at) (params_seen p xs) ≡ None
         → WrittenParams (landing ps home there at names new all outside beyond) r p.env m xs (new_params (keeping (changes_there ps home there at names new all outside beyond)) p xs)
     params_here [] ts v k e h = no_params
     params_here (x ∷ xs) ts v k e h =
@@ -225,18 +282,54 @@ module _ {S : Type 0} (ps : List (Package S)) (home there : Where S) (at : Place
 
     -- ---- selectors
 
-    no_qualifier : (s : S) (q : List ℕ) → names_package p.env (ident s q) ≡ false → (z : Option ℕ) → qualifier ps home p q ≡ z → z ≡ None
-    no_qualifier s q k None e = refl
-    no_qualifier s q k (Some i) e =
-        let f : Qualifies ps home there at names new all outside beyond p q i = qualifier_means ps home there at names new all outside beyond known p q i e in
-        absurd (grind (arith, sym (ap is_some (ap package_of (outer_is q f.free) ∙ f.of)) ∙ k))
+    abbrev before : Expr S → Option ℕ
+    before b = qualifier_before ps home there at names new all outside beyond p b
 
-    not_written : (u : Use) (s : S) (b : Expr S) (n : NameAt S) → names_package p.env b ≡ false → expr_there ps home there at names new all outside beyond p u (selector s b n) ≡ None
-    not_written u s (ident s1 q) n k = ap (selector_there ps home there at names new all outside beyond p s q n) (no_qualifier s1 q k (qualifier ps home p q) refl)
+    abbrev SelectorServed : Expr S → Type 0
+    SelectorServed b = (k : ℕ) → before b ≡ Some k → Serves names at.env.names (names_of at.bound) p k
+
+    -- an expression before a dot that names no package to a run names none to typing
+    no_package : (b : Expr S) → ((n : List ℕ) → is_local p n ≡ true → is_value (meaning p.env n) ≡ true) → before b ≡ None → names_package p.env b ≡ false
+    no_package (ident s q) v e = go (package_of (meaning p.env q)) refl
+      where
+        go : (o : Option ℕ) → package_of (meaning p.env q) ≡ o → is_some (package_of (meaning p.env q)) ≡ false
+        go None f = ap is_some f
+        go (Some j) f = absurd (grind (arith, ap is_some (sym e ∙ qualifier_known q j (v q) f)))
+    no_package b v e = refl
+
+    not_written : (u : Use) (s : S) (b : Expr S) (n : NameAt S) → before b ≡ None → expr_there ps home there at names new all outside beyond p u (selector s b n) ≡ None
+    not_written u s (ident s1 q) n k = ap (selector_there ps home there at names new all outside beyond p s q n) k
     not_written u s b n k = refl
 
-    selector_fine : (u : Use) (s : S) (b : Expr S) (n : NameAt S) → names_package p.env b ≡ false → FineSelector (landing ps home there at names new all outside beyond) all home.number outside at.env.names (changes_there ps home there at names new all outside beyond) p u r m s b n
-    selector_fine u s b n k = fine.selected (not_written u s b n k) k (λ t c e. selector_same (defined_in p.env) p.env.home there.number n.name t (w.home ∙ same))
+    selector_fine : (u : Use) (s : S) (b : Expr S) (n : NameAt S) → ((n : List ℕ) → is_local p n ≡ true → is_value (meaning p.env n) ≡ true) → SelectorServed b → (z : Option ℕ) → before b ≡ z
+        → FineSelector (landing ps home there at names new all outside beyond) all home.number outside at.env.names (changes_there ps home there at names new all outside beyond) p u r m s b n
+    selector_fine u s b n v k None e = fine.selected (not_written u s b n e) (no_package b v e) (λ t c f. selector_same (defined_in p.env) p.env.home there.number n.name t (w.home ∙ same))
+    selector_fine u s (ident s2 q) n v k (Some i) e =
+        let f : Qualifies ps home there at names new all outside beyond p q i = qualifier_means ps home there at names new all outside beyond known p q i e in
+        let g : Serves names at.env.names (names_of at.bound) p i = k i e in
+        let nq : is_among (names i) r ≡ false = sym (w.listed (names i)) ∙ g.not_declared in
+        let fq : is_among q r ≡ false = sym (w.listed q) ∙ f.free in
+        fine.qualified (ap (selector_there ps home there at names new all outside beyond p s q n) e) (rules.imported (ap package_of (w.outer q fq) ∙ f.of) (ap package_of (w.landing (names i) nq) ∙ g.of) fq nq g.not_around)
+    selector_fine u s b n v k (Some i) e = absurd (grind (arith, ap is_some e))
+
+    served_before : (u : Use) (s : S) (b : Expr S) (n : NameAt S) → PartServed ps home names at.env.names (names_of at.bound) (seen p u (selector s b n)) → SelectorServed b
+    served_before u s (ident s2 q) n h = h
+    served_before u s b n h = λ k e. absurd (grind (arith, ap is_some e))
+
+  -- ---- no part whose packages are served declares constants
+
+  abbrev Served : List (Seen S) → Type 0
+  Served xs = AllServed ps home names at.env.names (names_of at.bound) xs
+
+  served_none : (x : Seen S) → PartServed ps home names at.env.names (names_of at.bound) x → NoConstants x
+  served_none (seen p u x) h = tt
+  served_none (seen_type p t) h = tt
+  served_none (seen_stmt p (const_decl s g ss)) h = absurd h
+  served_none (seen_stmt p s) h = tt
+
+  all_served_none : (xs : List (Seen S)) → Served xs → AllWithoutConstants xs
+  all_served_none [] a = tt
+  all_served_none (x ∷ xs) a = (served_none x a.0, all_served_none xs a.1)
 
   abbrev IsFine : Seen S → Type 0
   IsFine x = Fine (landing ps home there at names new all outside beyond) all home.number outside at.env.names (changes_there ps home there at names new all outside beyond) x
@@ -248,9 +341,9 @@ module _ {S : Type 0} (ps : List (Package S)) (home there : Where S) (at : Place
     subst (λ o. FineElems (landing ps home there at names new all outside beyond) p.env (given o (λ u. Some (under (defined_in p.env) u))) es) (sym h.meant) (fine_elems (landing ps home there at names new all outside beyond) p.env (under (defined_in p.env) h.type) es h.each (h.home_is ∙ same) h.typed),
   )
 
-  part_fine : (x : Seen S) → PartStands home.number x → IsPlain x → shadowed_here ps home there at x ≡ None → IsFine x
+  part_fine : (x : Seen S) → PartStands home.number x → PartServed ps home names at.env.names (names_of at.bound) x → shadowed_here ps home there at x ≡ None → IsFine x
   part_fine (seen p u (ident s n)) h k v = λ r m w f. name_written ps home there at names new all outside beyond known p s n r m w (record { typed = name_typed p r m w n h; accessible = λ e. elsewhere e; unshadowed = v; served = λ e. elsewhere e }) f
-  part_fine (seen p u (selector s b n)) h k v = λ r m w. selector_fine p r m w u s b n k
+  part_fine (seen p u (selector s b n)) h k v = λ r m w. selector_fine p r m w u s b n h (served_before p r m w u s b n k) (before p r m w b) refl
   part_fine (seen p u (composite s t es)) h k v = (refl, literal_fine p t es h)
   part_fine (seen p u (func_lit s g z b)) h k v = (refl, h)
   part_fine (seen p u (int_lit s n)) h k v = refl
@@ -269,15 +362,15 @@ module _ {S : Type 0} (ps : List (Package S)) (home there : Where S) (at : Place
   part_fine (seen_stmt p (defer s e)) h k v = (refl, h)
   part_fine (seen_stmt p s) h k v = refl
 
-  parts_fine : (xs : List (Seen S)) → AllStand home.number xs → AllPlain xs → first_answer (shadowed_here ps home there at) xs ≡ None → AllFine (landing ps home there at names new all outside beyond) all home.number outside at.env.names (changes_there ps home there at names new all outside beyond) xs
+  parts_fine : (xs : List (Seen S)) → AllStand home.number xs → Served xs → first_answer (shadowed_here ps home there at) xs ≡ None → AllFine (landing ps home there at names new all outside beyond) all home.number outside at.env.names (changes_there ps home there at names new all outside beyond) xs
   parts_fine [] h k v = tt
   parts_fine (x ∷ xs) h k v =
       let q = one_of_none (shadowed_here ps home there at x) (first_answer (shadowed_here ps home there at) xs) v in
       (part_fine x h.0 k.0 q.0, parts_fine xs h.1 k.1 q.1)
 
-  pub body_here : (c : Ctx) (p : Place S) (before : Bool) (b : Stmts S) (e : Bool) → LocalValues home.number p.env p.bound → stmts c p.env before b ≡ Some e → AllPlain (stmts_seen p b) → first_answer (shadowed_here ps home there at) (stmts_seen p b) ≡ None
+  pub body_here : (c : Ctx) (p : Place S) (before : Bool) (b : Stmts S) (e : Bool) → LocalValues home.number p.env p.bound → stmts c p.env before b ≡ Some e → Served (stmts_seen p b) → first_answer (shadowed_here ps home there at) (stmts_seen p b) ≡ None
       → (ts : List GoType) (r : List (List ℕ)) (m : Environment Entity) → Within all home.number outside at.env.names r p.env p.bound m
       → WrittenBody (landing ps home there at names new all outside beyond) ts r p.env m b (new_stmts (keeping (changes_there ps home there at names new all outside beyond)) p b)
   body_here c p before b e l h k v ts r m w =
       stmts-written (landing ps home there at names new all outside beyond) all home.number outside at.env.names (changes_there ps home there at names new all outside beyond) refl listing ts p b r m w
-      (parts_fine (stmts_seen p b) (stmts_stand home.number p c before b e l h (all_plain_none (stmts_seen p b) k)) k v)
+      (parts_fine (stmts_seen p b) (stmts_stand home.number p c before b e l h (all_served_none (stmts_seen p b) k)) k v)

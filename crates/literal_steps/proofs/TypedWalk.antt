@@ -370,7 +370,7 @@ module _ {S : Type 0} (home : ℕ) where
         let q = from_given (elements p.env (under (defined_in p.env) r.0) es) (built (defined_in p.env) p.env.home r.0) o r.2 in
         and_last (type_seen p t ++ elems_seen (in_slot (a_slot 1 false false) p) (given (type_meant p.env t) (λ u. Some (under (defined_in p.env) u))) 0 es) (seen p u (composite s t es)) (join (type_seen p t) (elems_seen (in_slot (a_slot 1 false false) p) (given (type_meant p.env t) (λ u. Some (under (defined_in p.env) u))) 0 es) (type_stands p t r.0 v r.1) (subst (λ o. Stand (elems_seen (in_slot (a_slot 1 false false) p) (given o (λ u. Some (under (defined_in p.env) u))) 0 es)) (sym r.1) (elems_stand (in_slot (a_slot 1 false false) p) (under (defined_in p.env) r.0) 0 es q.0 v q.1))) (record { home_is = v.home_is; type = r.0; meant = r.1; each = q.0; typed = q.1 })
     expr_stands p u (selector s b n) o v e =
-        and_last (expr_seen (in_slot (inner_slot p.slot (selector s b n) 7 false true) p) other b) (seen p u (selector s b n)) (base_stands (in_slot (inner_slot p.slot (selector s b n) 7 false true) p) b n o v refl (package_before p.env b) refl e (λ o q. expr_stands (in_slot (inner_slot p.slot (selector s b n) 7 false true) p) other b o v q)) tt
+        and_last (expr_seen (in_slot (inner_slot p.slot (selector s b n) 7 false true) p) other b) (seen p u (selector s b n)) (base_stands (in_slot (inner_slot p.slot (selector s b n) 7 false true) p) b n o v refl (package_before p.env b) refl e (λ o q. expr_stands (in_slot (inner_slot p.slot (selector s b n) 7 false true) p) other b o v q)) v.each
     expr_stands p u (index s b i) o v e =
         let r = from_both (parts p.env b) (parts p.env i) (λ o j. both (typed o) (typed j) (index_of (defined_in p.env))) o e in
         and_last (expr_seen (in_slot (inner_slot p.slot (index s b i) 7 false false) p) other b ++ expr_seen (in_slot (a_slot 1 false false) p) other i) (seen p u (index s b i)) (join (expr_seen (in_slot (inner_slot p.slot (index s b i) 7 false false) p) other b) (expr_seen (in_slot (a_slot 1 false false) p) other i) (expr_stands (in_slot (inner_slot p.slot (index s b i) 7 false false) p) other b r.0 v r.2) (expr_stands (in_slot (a_slot 1 false false) p) other i r.1 v r.3)) tt

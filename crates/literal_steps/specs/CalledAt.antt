@@ -14,7 +14,12 @@ use Rattle.run_rules.specs.Surroundings.{is_local}
 use Rattle.written_literal.specs.LinkedNames.{Standing}
 use Rattle.constant_steps.specs.Alone.{PackageAt}
 use Rattle.constant_steps.specs.PlainUse.{linked_at}
-use Rattle.literal_steps.specs.LiteralUse.{LiteralUse}
+use Rattle.scope_names.specs.FreeNames.{names_of}
+use Rattle.run_rules.specs.Calls.{body_seen}
+use Rattle.run_rules.specs.FormTrees.{top}
+use Rattle.run_rules.specs.Places.{sig_seen}
+use Rattle.literal_steps.specs.ServedParts.{AllServed}
+use Rattle.literal_steps.specs.LiteralUse.{LiteralUse, call_of, names_of_form}
 
 module _ {S : Type 0} (rs : List (Package S)) (ms : List (translated.Package S)) (x : Site S) where
   -- The use stands outside constant groups, in the world of its packages. Names that aren't declared around it mean what
@@ -43,3 +48,14 @@ module _ {S : Type 0} (rs : List (Package S)) (ms : List (translated.Package S))
     pub stands : PackageAt (linked_at rs u.home named_at) nth (linked rs)
     pub home_stands : Standing rs u.home
     pub there_stands : Standing rs x.at
+
+  -- At the place each package that the function names has a name that serves, and the function's body declares no group
+  -- of constants.
+  pub record PackagesServe (same : S → S → Bool) (commented : ℕ → ℕ → S → Bool) (marks : List MarkRef)
+      (u : LiteralUse same commented rs marks x) (c : Here) : Type 0 where
+    pub types :
+        AllServed rs u.home (names_of_form same commented rs marks x u) c.env.names (names_of x.place.bound)
+        (sig_seen (top rs (call_of same commented rs marks x u)) u.callee.sig)
+    pub body :
+        AllServed rs u.home (names_of_form same commented rs marks x u) c.env.names (names_of x.place.bound)
+        (body_seen same rs (call_of same commented rs marks x u))

@@ -5,6 +5,7 @@ use Rattle.go_tree.specs.declared.spans.Span.{Span}
 use Rattle.go_tree.specs.Tree.{Expr, Stmts}
 use Rattle.go_tree.specs.Bare.{bare_stmts}
 use Rattle.go_tree.specs.File.{Func, func}
+use Rattle.scope_names.specs.FreeNames.{names_of}
 use Rattle.scope_names.specs.Means.{Environment, means, is_blank}
 use Rattle.pkg_graph.specs.Package.{Package}
 use Rattle.pkg_graph.specs.Members.{member}
@@ -42,11 +43,11 @@ use Rattle.written_literal.specs.PartsTyped.{changes_there}
 use Rattle.written_literal.specs.LinkedNames.{Standing}
 use Rattle.constant_steps.specs.Alone.{block_from, PackageAt}
 use Rattle.literal_steps.specs.TypedParts.{LocalValues, StandIn}
-use Rattle.literal_steps.specs.PlainParts.{AllPlain, NothingElse}
+use Rattle.literal_steps.specs.ServedParts.{AllServed, NothingElse}
 use Rattle.literal_steps.specs.AlikeChanges.{AllAlike}
 use Rattle.literal_steps.specs.FirstFunctions.{FirstFunction}
 use Rattle.literal_steps.specs.LiteralUse.{LiteralUse, call_of, chosen_of, OwnCall}
-use Rattle.literal_steps.specs.CalledAt.{CalledAt, Linked}
+use Rattle.literal_steps.specs.CalledAt.{CalledAt, Linked, PackagesServe}
 
 -- ---- typed bodies
 
@@ -57,7 +58,8 @@ TypedPartsStand =
     (home : ℕ) (p : Place Span) (c : Ctx) (before : Bool) (b : Stmts Span) (ends : Bool) →
     LocalValues home p.env p.bound → stmts c p.env before b ≡ Some ends → StandIn home (stmts_seen p b)
 
--- So in the package of a function a typed body that names no package and declares no constants, and none of whose names
+-- So in the package of a function a typed body, whose packages have names that serve at a use, that declares no
+-- constants, and none of whose names
 -- is shadowed at a use, is what may be written for itself there.
 abbrev pub OwnBodiesAreWritten : Type 0
 OwnBodiesAreWritten =
@@ -65,7 +67,7 @@ OwnBodiesAreWritten =
     (outside beyond : Environment Entity) → KnownNames ps home there at names new all outside beyond →
     NothingElse ps home outside → home.number ≡ there.number →
     (c : Ctx) (p : Place Span) (before : Bool) (b : Stmts Span) (ends : Bool) →
-    LocalValues home.number p.env p.bound → stmts c p.env before b ≡ Some ends → AllPlain (stmts_seen p b) →
+    LocalValues home.number p.env p.bound → stmts c p.env before b ≡ Some ends → AllServed ps home names at.env.names (names_of at.bound) (stmts_seen p b) →
     first_answer (shadowed_here ps home there at) (stmts_seen p b) ≡ None →
     (ts : List GoType) (r : List (List ℕ)) (m : Environment Entity) →
     Within all home.number outside at.env.names r p.env p.bound m →
@@ -121,7 +123,7 @@ LiteralsAreTypedAlike =
     (same : Span → Span → Bool) (commented : ℕ → ℕ → Span → Bool) (rs : List (Package Span)) (marks : List MarkRef)
     (x : Site Span) (u : LiteralUse same commented rs marks x) (v : OwnCall same commented rs marks x u)
     (ms : List (translated.Package Span)) → Linked rs ms x same commented marks u →
-    (c : Here) → CalledAt rs ms x c → (e : Expr Span) → u.form ≡ as_expr e → parts c.env u.tree ≡ parts c.env e
+    (c : Here) → CalledAt rs ms x c → PackagesServe rs ms x same commented marks u c → (e : Expr Span) → u.form ≡ as_expr e → parts c.env u.tree ≡ parts c.env e
 
 -- And under free prices the call means the literal, where the packages are ranked and the function is free.
 abbrev pub CallsMeanTheirLiterals : Type 0
@@ -129,7 +131,7 @@ CallsMeanTheirLiterals =
     (same : Span → Span → Bool) (commented : ℕ → ℕ → Span → Bool) (rs : List (Package Span)) (marks : List MarkRef)
     (x : Site Span) (u : LiteralUse same commented rs marks x) (v : OwnCall same commented rs marks x u)
     (ms : List (translated.Package Span)) → Linked rs ms x same commented marks u →
-    (c : Here) → CalledAt rs ms x c → (e : Expr Span) → u.form ≡ as_expr e →
+    (c : Here) → CalledAt rs ms x c → PackagesServe rs ms x same commented marks u c → (e : Expr Span) → u.form ≡ as_expr e →
     (free : FuncName → Bool) (A : ℕ) (rank : FuncName → ℕ) → Ranked (program_of (codes_of ms)) free rank →
     free (function_named (path_of (paths_in ms) u.home.number) v.name) ≡ true → (t : GoType) →
     MeanSame (program_of (codes_of ms)) free A (suc (rank (function_named (path_of (paths_in ms) u.home.number) v.name)))
@@ -141,5 +143,5 @@ DeferredCallsMeanTheirLiterals =
     (same : Span → Span → Bool) (commented : ℕ → ℕ → Span → Bool) (rs : List (Package Span)) (marks : List MarkRef)
     (x : Site Span) (u : LiteralUse same commented rs marks x) (v : OwnCall same commented rs marks x u)
     (ms : List (translated.Package Span)) → Linked rs ms x same commented marks u →
-    (c : Here) → CalledAt rs ms x c → (e : Expr Span) → u.form ≡ as_expr e → (free : FuncName → Bool) (A : ℕ) →
+    (c : Here) → CalledAt rs ms x c → PackagesServe rs ms x same commented marks u c → (e : Expr Span) → u.form ≡ as_expr e → (free : FuncName → Bool) (A : ℕ) →
     MeanSame (program_of (codes_of ms)) free A 0 (deferred_term c u.tree) (deferred_term c e)

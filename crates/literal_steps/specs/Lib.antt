@@ -1,5 +1,5 @@
 pub mod TypedParts
-pub mod PlainParts
+pub mod ServedParts
 pub mod AlikeChanges
 pub mod FirstFunctions
 pub mod LiteralUse

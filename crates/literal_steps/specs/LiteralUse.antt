@@ -8,11 +8,10 @@ use Rattle.pkg_graph.specs.Package.{Package}
 use Rattle.param_choice.specs.Chosen.{has}
 use Rattle.run_rules.specs.Calls.{Call, param_name, list_of, chosen, spread_call, body_seen}
 use Rattle.run_rules.specs.FormTrees.{LiteralForm, Form, top}
-use Rattle.run_rules.specs.Naming.{Named}
+use Rattle.run_rules.specs.Naming.{Named, Names, names_by}
 use Rattle.run_rules.specs.Places.{sig_seen}
-use Rattle.run_rules.specs.Reduced.{becomes, call_at, reduced}
+use Rattle.run_rules.specs.Reduced.{becomes, call_at, names_in_form, reduced}
 use Rattle.run_rules.specs.Sites.{MarkRef, Where, Site, a_function, an_expr, where_is, inlinable, expr_mark}
-use Rattle.literal_steps.specs.PlainParts.{AllPlain}
 
 module _ {S : Type 0} where
   -- a parameter of the literal has the parameter's name, or `_`
@@ -47,9 +46,12 @@ module _ {S : Type 0} (same : S → S → Bool) (commented : ℕ → ℕ → S �
     abbrev pub chosen_of : List Bool
     chosen_of = chosen same rs call_of
 
+    -- the names that the literal has for packages
+    abbrev pub names_of_form : Names
+    names_of_form = names_by (names_in_form same commented rs marks x call_of chosen_of LiteralForm)
+
     -- The call names the function plainly, in the function's package. All parameters stay bound, and there are as many
-    -- arguments, unless they are one call with several results. The function names no package, and its body declares no
-    -- group of constants.
+    -- arguments, unless they are one call with several results.
     pub record OwnCall : Type 0 where
       pub span : S
       pub name_at : S
@@ -61,5 +63,3 @@ module _ {S : Type 0} (same : S → S → Bool) (commented : ℕ → ℕ → S �
       pub free : u.callee.receiver ≡ None
       pub nothing_chosen : (i : ℕ) → has chosen_of i ≡ false
       pub counted : spread_call same rs call_of ≡ false → length (list_of args) ≡ length u.callee.sig.params
-      pub plain_types : AllPlain (sig_seen (top rs call_of) u.callee.sig)
-      pub plain_body : AllPlain (body_seen same rs call_of)

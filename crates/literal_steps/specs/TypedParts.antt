@@ -1,7 +1,7 @@
 -- The parts of a typed body, one by one: what names and types mean where they stand (Go specification, Declarations and
 -- scope; Qualified identifiers; Composite literals; Expression statements; Defer statements).
 use Rattle.std.specs.Prelude.{◌≡◌, ℕ, Bool, true, false, ◌&&◌, List, [], ◌∷◌, Option, Some, None, is_some}
-use Rattle.go_tree.specs.Tree.{NameAt, TypeExpr, Expr, ident, composite, func_lit, Elems, Stmt, const_decl, eval, defer}
+use Rattle.go_tree.specs.Tree.{NameAt, TypeExpr, Expr, ident, composite, selector, func_lit, Elems, Stmt, const_decl, eval, defer}
 use Rattle.scope_names.specs.Means.{is_blank}
 use Rattle.scope_names.specs.FreeNames.{names_of}
 use Rattle.go_types.specs.Answers.{is_among}
@@ -50,15 +50,20 @@ module _ {S : Type 0} where
     pub each : List Element
     pub typed : elements a (under (defined_in a) type) es ≡ Some each
 
+  -- the names that are declared around a place mean variables and constants
+  abbrev pub LocalsMean : Place S → Type 0
+  LocalsMean p = (n : List ℕ) → is_local p n ≡ true → is_value (meaning p.env n) ≡ true
+
   -- a type that is known
   pub record TypeStands (p : Place S) (t : TypeExpr S) : Type 0 where
-    pub value : (n : List ℕ) → is_local p n ≡ true → is_value (meaning p.env n) ≡ true
+    pub value : LocalsMean p
     pub known : is_some (resolved p.env t) ≡ true
 
   module _ (home : ℕ) where
     -- a part of a typed body
     abbrev pub PartStands : Seen S → Type 0
     PartStands (seen p u (ident s n)) = NameStands p n
+    PartStands (seen p u (selector s b n)) = LocalsMean p
     PartStands (seen p u (composite s t es)) = ElementsTyped home p.env t es
     PartStands (seen p u (func_lit s g z b)) = is_some (func_type p.env g) ≡ true
     PartStands (seen p u x) = Unit {0}
