@@ -72,7 +72,7 @@ use Rattle.constant_steps.specs.PlainUse.{linked_at}
 use Rattle.constant_steps.proofs.NamesOutside.{MemberThere, member_there, not_local}
 use Rattle.constant_steps.proofs.MarksFound.{member_of_mark, named_member, marked_so, StandsThere, stands_there, DeclaredThere, declared_there, nth_mapped}
 use Rattle.literal_steps.specs.TypedParts.{LocalValues}
-use Rattle.literal_steps.specs.ServedParts.{AllServed}
+use Rattle.literal_steps.specs.ServedParts.{AllServed, AllAway}
 use Rattle.literal_steps.specs.FirstFunctions.{FirstFunction}
 use Rattle.literal_steps.specs.LiteralUse.{filled_sig, LiteralUse, OwnCall}
 use Rattle.literal_steps.specs.LiteralUse as use_of
@@ -84,7 +84,7 @@ use Rattle.literal_steps.proofs.FunctionCode.{FunctionMeant, function_meant, pro
 use Rattle.literal_steps.proofs.NoObstacle.{Clear, clear, AllGiven, one_call, each_given, no_receiver, Unshadowed, unshadowed_parts}
 use Rattle.literal_steps.proofs.BlankParams.{literal_parts, called_term, deferred_call_term}
 use Rattle.literal_steps.proofs.FormBare.{names, kept, kept_sig, kept_body, written, form_bare}
-use Rattle.literal_steps.proofs.PartsHere.{params_here, body_here}
+use Rattle.literal_steps.proofs.PartsHere.{params_here, body_here, all_here}
 
 same_number : (a : ℕ) → nat_eq a a ≡ true
 same_number a = let e : a ≡ a = refl in grind (arith, e)
@@ -381,9 +381,15 @@ module _ {S : Type 0} (same : S → S → Bool) (commented : ℕ → ℕ → S �
     abbrev changed_body : Stmts S
     changed_body = kept_body same commented rs marks x u v at (world rs) top_names.names beyond
 
+    here_all : (xs : List (Seen S)) → AllAway rs u.home x.at.number ns c.env.names (names_of x.place.bound) xs
+    here_all xs = all_here rs u.home x.at.number ns c.env.names (names_of x.place.bound) v.same_package xs
+
+    here_hidden : {A : Type 0} {a b : A} → nat_eq K x.at.number ≡ false → a ≡ b
+    here_hidden e = absurd (grind (arith, e, v.same_package))
+
     body_written : WrittenBody site (results_in (func_type top_names u.callee.sig)) (bound_names binds ++ []) start_place.env (binds ++ c.env.names) u.callee.body changed_body
     body_written =
-        body_here rs u.home x.at at ns new (world rs) top_names.names beyond known (nothing_else rs u.home l.home_stands) v.same_package ctx start_place false u.callee.body body_typed.ends start_values body_typed.typed y.body clear_parts.body (results_in (func_type top_names u.callee.sig)) (bound_names binds ++ [])
+        body_here rs u.home x.at at ns new (world rs) top_names.names beyond known (nothing_else rs u.home l.home_stands) ctx start_place false u.callee.body body_typed.ends start_values body_typed.typed y.body (here_all (Rattle.run_rules.specs.Calls.body_seen same rs the_call)) (λ e. here_hidden e) clear_parts.body (results_in (func_type top_names u.callee.sig)) (bound_names binds ++ [])
         (binds ++ c.env.names) start_within
 
     abbrev topp : Place S
@@ -404,8 +410,8 @@ module _ {S : Type 0} (same : S → S → Bool) (commented : ℕ → ℕ → S �
         let t = from_both (params_meant top_names u.callee.sig.params) (params_meant top_names u.callee.sig.results) (λ ts us. Some (record { params = ts; results = us })) meant.type typed_top in
         let k = served_apart (params_seen topp u.callee.sig.params) (params_seen topp u.callee.sig.results) y.types in
         w_func_lit {g = u.callee.sig} {g' = changed_sig}
-        (params_here rs u.home x.at at ns new (world rs) top_names.names beyond known (nothing_else rs u.home l.home_stands) v.same_package topp [] c.env.names top_within u.callee.sig.params t.0 top_values k.0 t.2 clear_parts.params)
-        (params_here rs u.home x.at at ns new (world rs) top_names.names beyond known (nothing_else rs u.home l.home_stands) v.same_package topp [] c.env.names top_within u.callee.sig.results t.1 top_values k.1 t.3 clear_parts.results)
+        (params_here rs u.home x.at at ns new (world rs) top_names.names beyond known (nothing_else rs u.home l.home_stands) topp [] c.env.names top_within u.callee.sig.params t.0 top_values k.0 (here_all (params_seen topp u.callee.sig.params)) t.2 (λ e. here_hidden e) clear_parts.params)
+        (params_here rs u.home x.at at ns new (world rs) top_names.names beyond known (nothing_else rs u.home l.home_stands) topp [] c.env.names top_within u.callee.sig.results t.1 top_values k.1 (here_all (params_seen topp u.callee.sig.results)) t.3 (λ e. here_hidden e) clear_parts.results)
         (subst (λ a. WrittenBody site (results_in (func_type top_names u.callee.sig)) (bound_names binds ++ []) a (binds ++ c.env.names) u.callee.body changed_body) start_env body_written)
 
     top_is : top_names ≡ declared_at (in_block c.env) top_names.names K

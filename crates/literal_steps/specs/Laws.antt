@@ -24,7 +24,7 @@ use Rattle.go_translation.specs.Here.{Here}
 use Rattle.go_translation.specs.Packages as translated
 use Rattle.go_translation.specs.Packages.{paths_in, codes_of, program_of}
 use Rattle.go_translation.specs.Translation.{expr_term, deferred_term}
-use Rattle.run_rules.specs.Surroundings.{Place}
+use Rattle.run_rules.specs.Surroundings.{Place, Seen}
 use Rattle.run_rules.specs.Programs.{top_env}
 use Rattle.run_rules.specs.Places.{stmts_seen}
 use Rattle.run_rules.specs.Rewriting.{Changes, new_stmts}
@@ -41,9 +41,10 @@ use Rattle.written_literal.specs.Fine.{keeping}
 use Rattle.written_literal.specs.KnownNames.{landing, KnownNames}
 use Rattle.written_literal.specs.PartsTyped.{changes_there}
 use Rattle.written_literal.specs.LinkedNames.{Standing}
+use Rattle.written_literal.specs.Laws.{NoObstacleIn}
 use Rattle.constant_steps.specs.Alone.{block_from, PackageAt}
 use Rattle.literal_steps.specs.TypedParts.{LocalValues, StandIn}
-use Rattle.literal_steps.specs.ServedParts.{AllServed, NothingElse}
+use Rattle.literal_steps.specs.ServedParts.{AllServed, AllAway, NothingElse}
 use Rattle.literal_steps.specs.AlikeChanges.{AllAlike}
 use Rattle.literal_steps.specs.FirstFunctions.{FirstFunction}
 use Rattle.literal_steps.specs.LiteralUse.{LiteralUse, call_of, chosen_of, OwnCall}
@@ -58,21 +59,28 @@ TypedPartsStand =
     (home : ℕ) (p : Place Span) (c : Ctx) (before : Bool) (b : Stmts Span) (ends : Bool) →
     LocalValues home p.env p.bound → stmts c p.env before b ≡ Some ends → StandIn home (stmts_seen p b)
 
--- So in the package of a function a typed body, whose packages have names that serve at a use, that declares no
--- constants, and none of whose names
--- is shadowed at a use, is what may be written for itself there.
-abbrev pub OwnBodiesAreWritten : Type 0
-OwnBodiesAreWritten =
+-- So a typed body without groups of constants is, where no obstacle is found in it, what a run writes for it at a use may
+-- be: with names for packages that serve there; from another package the function's own package too has a name that
+-- serves, fields that are selected are seen everywhere, where they are exported, and there are no composite literals.
+abbrev pub TypedBodiesAreWritten : Type 0
+TypedBodiesAreWritten =
     (ps : List (Package Span)) (home there : Where Span) (at : Place Span) (names : Names) (new : Span) (all : World)
     (outside beyond : Environment Entity) → KnownNames ps home there at names new all outside beyond →
-    NothingElse ps home outside → home.number ≡ there.number →
-    (c : Ctx) (p : Place Span) (before : Bool) (b : Stmts Span) (ends : Bool) →
-    LocalValues home.number p.env p.bound → stmts c p.env before b ≡ Some ends → AllServed ps home names at.env.names (names_of at.bound) (stmts_seen p b) →
-    first_answer (shadowed_here ps home there at) (stmts_seen p b) ≡ None →
+    NothingElse ps home outside → (c : Ctx) (p : Place Span) (before : Bool) (b : Stmts Span) (ends : Bool) →
+    LocalValues home.number p.env p.bound → stmts c p.env before b ≡ Some ends →
+    AllServed ps home names at.env.names (names_of at.bound) (stmts_seen p b) →
+    AllAway ps home there.number names at.env.names (names_of at.bound) (stmts_seen p b) →
+    NoObstacleIn ps home there at (stmts_seen p b) →
     (ts : List GoType) (r : List (List ℕ)) (m : Environment Entity) →
     Within all home.number outside at.env.names r p.env p.bound m →
     WrittenBody (landing ps home there at names new all outside beyond) ts r p.env m b
     (new_stmts (keeping (changes_there ps home there at names new all outside beyond)) p b)
+
+-- Within one package nothing but the first is asked.
+abbrev pub NothingMoreIsAskedAtHome : Type 0
+NothingMoreIsAskedAtHome =
+    (ps : List (Package Span)) (home : Where Span) (to : ℕ) (names : Names) (there : Environment Entity)
+    (around : List (List ℕ)) → home.number ≡ to → (xs : List (Seen Span)) → AllAway ps home to names there around xs
 
 -- What means nothing at the top of a file to a run means nothing to the rules of typing.
 abbrev pub NothingElseIsMeant : Type 0

@@ -3,13 +3,15 @@
 ghost use Rattle.literal_steps.specs.Laws.{AlikeChangesAreAlike, CallsMeanTheirLiterals, FunctionsAreFirst};
 ghost use Rattle.literal_steps.specs.Laws.{DeferredCallsMeanTheirLiterals, LiteralsAreTypedAlike};
 ghost use Rattle.literal_steps.specs.Laws.{LiteralsHaveNoObstacle};
-ghost use Rattle.literal_steps.specs.Laws.{NothingElseIsMeant, OwnBodiesAreWritten, TypedPartsStand};
+ghost use Rattle.literal_steps.specs.Laws.{NothingElseIsMeant, NothingMoreIsAskedAtHome};
+ghost use Rattle.literal_steps.specs.Laws.{TypedBodiesAreWritten, TypedPartsStand};
 
 /// In a typed body each part that the walk lists is typed where it stands; so within the function's
 /// package a body with no name shadowed at a use is what may be written for itself there.
 pub fn typed_bodies_are_written()
     ensures parts { TypedPartsStand }
-    ensures written { OwnBodiesAreWritten }
+    ensures written { TypedBodiesAreWritten }
+    ensures home { NothingMoreIsAskedAtHome }
     ensures nothing { NothingElseIsMeant }
 {}
 
