@@ -5,28 +5,28 @@ use mathlib.Core.Path.{ap, ap₂, sym, ◌∙◌, subst}
 use Rattle.std.proofs.Common.{arith}
 use Rattle.go_tree.specs.declared.exprs.Rest.TheVariants.{Plain}
 use Rattle.go_tree.specs.declared.spans.Span.{Span}
-use Rattle.go_tree.specs.Tree.{NameAt, Param, Sig, Expr, ident, call, func_lit, Exprs, no_exprs, expr_and, Stmts, const_decl, ValueSpecs, no_specs, spec}
+use Rattle.go_tree.specs.Tree.{NameAt, Param, Sig, Expr, ident, selector, call, func_lit, Exprs, no_exprs, expr_and, Stmts, const_decl, ValueSpecs, no_specs, spec}
 use Rattle.go_tree.specs.File.{Func, Decl, values, types, func, Receiver, TypeSpec}
 use Rattle.go_tree.specs.Bare.{bare_expr}
 use Rattle.scope_names.specs.Means.{Environment, means, is_blank}
 use Rattle.scope_names.specs.FreeNames.{names_of, sig_names}
 use Rattle.scope_names.specs.Scopes.{not_blank, param_names, sig_declares}
 use Rattle.pkg_graph.specs.Package.{Package}
-use Rattle.pkg_graph.specs.Members.{Target, member}
+use Rattle.pkg_graph.specs.Members.{Target, member, package_block}
 use Rattle.go_types.specs.Answers.{given, both, meets, otherwise, is_among}
 use Rattle.go_types.specs.Types.{GoType, FuncType}
-use Rattle.go_types.specs.Entities.{Entity, function, World, Env, Binds, meaning, block_of, defined_in, extend, in_block}
+use Rattle.go_types.specs.Entities.{Entity, function, World, Env, Binds, meaning, package_of, is_exported, exported, block_of, defined_in, extend, in_block}
 use Rattle.go_types.specs.TypeNames.{type_meant, func_type, params_meant}
-use Rattle.go_types.specs.Operands.{Operand, a_function, named_operand}
-use Rattle.go_types.specs.Primary.{call_of}
+use Rattle.go_types.specs.Operands.{Operand, a_function, with_value, named_operand}
+use Rattle.go_types.specs.Primary.{call_of, selected}
 use Rattle.go_types.specs.Declarations.{bound_names, binds_or}
 use Rattle.go_types.specs.Bodies.{Ctx, body_binds, body_ctx, is_body}
-use Rattle.go_types.specs.Typing.{parts, all_parts, stmts}
+use Rattle.go_types.specs.Typing.{package_before, parts, all_parts, place, stmts}
 use Rattle.go_types.specs.Programs as source
 use Rattle.go_types.specs.Programs.{SourceFile, SourcePackage, Program, Headed, headed, file_block, file_env}
 use Rattle.go_types.specs.Collect.{env_of, collected}
 use Rattle.go_types.specs.WellTyped.{body_env, receiver_of, function_ok}
-use Rattle.go_types.proofs.Agreeing.{from_both, some_same}
+use Rattle.go_types.proofs.Agreeing.{from_given, from_both, some_same}
 use Rattle.go_types.proofs.TypingBare.{parts-bare}
 use Rattle.typed_in_place.specs.Declared as declared
 use Rattle.typed_in_place.specs.Declared.{HasNumber}
@@ -42,11 +42,13 @@ use Rattle.go_kernel.specs.Kernel as kernel
 use Rattle.go_kernel.specs.Alike.{MeanSame}
 use Rattle.go_kernel.specs.Laws.{Ranked}
 use Rattle.go_translation.specs.Values.{path_of}
-use Rattle.go_translation.specs.Here.{Here, Location}
-use Rattle.go_translation.specs.Calls.{function_named, named_callee, to_function, to_literal}
+use Rattle.go_translation.specs.Here.{Here, Location, defined_here}
+use Rattle.go_translation.specs.Calls.{function_named, named_callee, method_callee, to_function, to_literal}
+use Rattle.go_translation.specs.Operators as operators
+use Rattle.go_translation.specs.Facts.{typed_at}
 use Rattle.go_translation.specs.Packages as translated
 use Rattle.go_translation.specs.Packages.{sources, paths_in, codes_of, program_of, function_code}
-use Rattle.go_translation.specs.Translation.{callee, expr_term, deferred_term}
+use Rattle.go_translation.specs.Translation.{callee, expr_term, address, deferred_term}
 use Rattle.go_translation.proofs.TranslationBare.{expr_term-bare, deferred_term-bare}
 use Rattle.go_translation.proofs.ProgramScoped.{program_scoped}
 use Rattle.declared_results.proofs.PackagePaths.{numbered}
@@ -56,35 +58,38 @@ use Rattle.form_meaning.proofs.Declared.{declared_code}
 use Rattle.form_meaning.proofs.MeaningLaws.{operand_law, deferred_law}
 use Rattle.run_rules.specs.Surroundings.{Place, Seen, is_local}
 use Rattle.run_rules.specs.Programs.{linked, linked_file, linked_imports, imports_mean, world, top_env, top_place, body_place, params_of, headed_func, with_receiver, param_types, receiver_types, no_type}
-use Rattle.run_rules.specs.Sites.{MarkRef, Site, Where, Inlinable, a_constant, an_alias, a_function, is_free_function, inlinable_in, nth_constant, constant_in_spec, less, aliased, expr_mark, name_mark, outer, outer_meaning}
+use Rattle.run_rules.specs.Sites.{MarkRef, Site, Where, Inlinable, a_constant, an_alias, a_function, is_free_function, inlinable_in, nth_constant, constant_in_spec, less, aliased, expr_mark, name_mark, members_in, member_of, marked_as, qualifier, outer, outer_meaning}
 use Rattle.run_rules.specs.Calls.{Given, Call, list_of, givens, arguments, start, all_params, spread_call, args, given_params}
 use Rattle.run_rules.specs.Naming.{Names}
 use Rattle.run_rules.specs.FormTrees.{Form, as_expr, as_dropped, as_block, as_type, top}
+use Rattle.run_rules.specs.Obstacles.{hidden_here, shadowed_here}
 use Rattle.run_rules.specs.Places.{params_seen}
 use Rattle.written_literal.specs.Within.{Within}
 use Rattle.written_literal.specs.Listing.{Listing}
 use Rattle.written_literal.specs.KnownNames.{landing, KnownNames}
+use Rattle.written_literal.specs.TypesTyped.{Qualifies}
 use Rattle.written_literal.proofs.FilesMeant.{file_meant}
+use Rattle.written_literal.proofs.TypesWritten.{qualifier_means}
 use Rattle.written_literal.proofs.ListedHeads.{listing}
 use Rattle.written_literal.proofs.WithinLaws.{entered}
 use Rattle.constant_steps.specs.Alone.{block_from, PackageAt, this_package, a_later_package}
 use Rattle.constant_steps.specs.PlainUse.{linked_at}
-use Rattle.constant_steps.proofs.NamesOutside.{MemberThere, member_there, not_local}
+use Rattle.constant_steps.proofs.NamesOutside.{MemberThere, member_there, linked_block, not_local}
 use Rattle.constant_steps.proofs.MarksFound.{member_of_mark, named_member, marked_so, StandsThere, stands_there, DeclaredThere, declared_there, nth_mapped}
 use Rattle.literal_steps.specs.TypedParts.{LocalValues}
 use Rattle.literal_steps.specs.ServedParts.{AllServed, AllAway}
 use Rattle.literal_steps.specs.FirstFunctions.{FirstFunction}
-use Rattle.literal_steps.specs.LiteralUse.{filled_sig, LiteralUse, OwnCall}
+use Rattle.literal_steps.specs.LiteralUse.{filled_sig, LiteralUse, NamesCallee, plainly, by_import, PlainCall}
 use Rattle.literal_steps.specs.LiteralUse as use_of
 use Rattle.literal_steps.specs.CalledAt.{CalledAt, Linked, PackagesServe}
 use Rattle.literal_steps.proofs.LocalValues.{in_blocks, extended, head_values}
 use Rattle.literal_steps.proofs.FilesKnown.{nothing_else}
-use Rattle.literal_steps.proofs.FirstFunctions.{first_function}
+use Rattle.literal_steps.proofs.FirstFunctions.{first_function, spelled_found, package_found}
 use Rattle.literal_steps.proofs.FunctionCode.{FunctionMeant, function_meant, program_code}
-use Rattle.literal_steps.proofs.NoObstacle.{Clear, clear, AllGiven, one_call, each_given, no_receiver, Unshadowed, unshadowed_parts}
+use Rattle.literal_steps.proofs.NoObstacle.{Clear, clear, AllGiven, one_call, each_given, no_receiver, TextParts, text_parts, unshadowed, accessible}
 use Rattle.literal_steps.proofs.BlankParams.{literal_parts, called_term, deferred_call_term}
 use Rattle.literal_steps.proofs.FormBare.{names, kept, kept_sig, kept_body, written, form_bare}
-use Rattle.literal_steps.proofs.PartsHere.{params_here, body_here, all_here}
+use Rattle.literal_steps.proofs.PartsHere.{params_here, body_here}
 
 same_number : (a : ℕ) → nat_eq a a ≡ true
 same_number a = let e : a ≡ a = refl in grind (arith, e)
@@ -190,7 +195,7 @@ module _ {S : Type 0} where
   append_none [] = refl
   append_none (x ∷ xs) = ap (λ l. x ∷ l) (append_none xs)
 
-module _ {S : Type 0} (same : S → S → Bool) (commented : ℕ → ℕ → S → Bool) (rs : List (Package S)) (marks : List MarkRef) (x : Site S) (u : LiteralUse same commented rs marks x) (v : OwnCall same commented rs marks x u) (ms : List (translated.Package S)) (l : Linked rs ms x same commented marks u) where
+module _ {S : Type 0} (same : S → S → Bool) (commented : ℕ → ℕ → S → Bool) (rs : List (Package S)) (marks : List MarkRef) (x : Site S) (u : LiteralUse same commented rs marks x) (v : PlainCall same commented rs marks x u) (ms : List (translated.Package S)) (l : Linked rs ms x same commented marks u) where
   abbrev K : ℕ
   K = u.home.number
 
@@ -208,23 +213,50 @@ module _ {S : Type 0} (same : S → S → Bool) (commented : ℕ → ℕ → S �
 
   -- ---- the function that the name means
 
-  name_named : outer_meaning rs x.at x.place v.name ≡ Some target
-  name_named = named_member (outer_meaning rs x.at x.place v.name) x.mark (marked_so rs marks is_free_function (name_mark rs x.at x.place v.name) x.mark (sym (ap (expr_mark rs marks x.at x.place) v.tree_is) ∙ v.use_))
-
-  pub name_outside : (is_local x.place v.name ≡ false) × (means (outer rs x.at) v.name ≡ Some target)
-  name_outside = not_local rs u.home x.at x.place v.name target name_named
-
-  name_there : MemberThere rs x.at v.name target
-  name_there = member_there rs x.at v.name x.mark.«package» x.mark.file x.mark.decl x.mark.item name_outside.1
-
   mark_stands : StandsThere rs x.mark u.home
   mark_stands = stands_there rs x.mark u.home u.stands
 
-  of_is : u.home.of ≡ x.at.of
-  of_is = some_same u.home.of x.at.of (sym mark_stands.package_there ∙ ap (slice_get rs) (sym mark_stands.number ∙ v.same_package) ∙ l.package_there)
+  abbrev home_block : Environment Target
+  home_block = block_from K 0 (map (linked_file rs) u.home.of.files)
 
-  in_block_home : means (block_from K 0 (map (linked_file rs) u.home.of.files)) v.name ≡ Some target
-  in_block_home = (λ i. means (block_from (v.same_package i) 0 (map (linked_file rs) (of_is i).files)) v.name) ∙ name_there.in_block
+  -- the call's name, told by its expression
+  name_called : (e : Expr S) → v.called ≡ e → expr_mark rs marks x.at x.place (call v.span e v.args Plain) ≡ Some x.mark
+  name_called e q = sym (ap (expr_mark rs marks x.at x.place) (v.tree_is ∙ ap (λ f. call v.span f v.args Plain) q)) ∙ v.use_
+
+  plain_outside : (s : S) → v.called ≡ ident s v.name → (is_local x.place v.name ≡ false) × (means (outer rs x.at) v.name ≡ Some target)
+  plain_outside s q =
+      not_local rs u.home x.at x.place v.name target
+      (named_member (outer_meaning rs x.at x.place v.name) x.mark (marked_so rs marks is_free_function (name_mark rs x.at x.place v.name) x.mark (name_called (ident s v.name) q)))
+
+  found_plain : (s : S) → v.called ≡ ident s v.name → K ≡ x.at.number → means home_block v.name ≡ Some target
+  found_plain s q same_package =
+      let m : MemberThere rs x.at v.name target = member_there rs x.at v.name x.mark.«package» x.mark.file x.mark.decl x.mark.item (plain_outside s q).1 in
+      let of_is : u.home.of ≡ x.at.of = some_same u.home.of x.at.of (sym mark_stands.package_there ∙ ap (slice_get rs) (sym mark_stands.number ∙ same_package) ∙ l.package_there) in
+      (λ i. means (block_from (same_package i) 0 (map (linked_file rs) (of_is i).files)) v.name) ∙ m.in_block
+
+  -- the package of a qualified name is the function's
+  record ImportFound (k : ℕ) : Type 0 where
+    number : k ≡ K
+    in_block : means home_block v.name ≡ Some target
+
+  found_import : (s z t : S) (q : List ℕ) (k : ℕ) → v.called ≡ selector s (ident z q) (record { span = t; name = v.name }) → qualifier rs x.at x.place q ≡ Some k → ImportFound k
+  found_import s z t q k e f =
+      let m : marked_as rs marks is_free_function (member_of rs k v.name) ≡ Some x.mark =
+      sym (ap (λ o. elim o [ Some k ↦ marked_as rs marks is_free_function (member_of rs k v.name) | None ↦ Rattle.run_rules.specs.Sites.marked rs marks (Rattle.run_rules.specs.Sites.selected_method rs marks x.place (ident z q) v.name) ]) f)
+      ∙ name_called (selector s (ident z q) (record { span = t; name = v.name })) e in
+      let g = from_given (slice_get rs k) (λ p. members_in k (package_block k p) v.name) x.mark (marked_so rs marks is_free_function (member_of rs k v.name) x.mark m) in
+      let r : means (block_from k 0 (map (linked_file rs) (g.0).files)) v.name ≡ Some target = sym (ap (λ b. means b v.name) (linked_block rs k g.0)) ∙ named_member (means (package_block k g.0) v.name) x.mark g.2 in
+      let is : x.mark.«package» ≡ k = package_found k 0 (map (linked_file rs) (g.0).files) v.name x.mark.«package» x.mark.file x.mark.decl x.mark.item r in
+      let of_is : g.0 ≡ u.home.of = some_same g.0 u.home.of (sym g.1 ∙ ap (slice_get rs) (sym is) ∙ mark_stands.package_there) in
+      let number : k ≡ K = sym is ∙ sym mark_stands.number in
+      record { number = number; in_block = (λ i. means (block_from (sym number i) 0 (map (linked_file rs) (sym of_is i).files)) v.name) ∙ r }
+
+  in_block_home : means home_block v.name ≡ Some target
+  in_block_home = go v.called refl v.named
+    where
+      go : (e : Expr S) → v.called ≡ e → NamesCallee same commented rs marks x u v.name e → means home_block v.name ≡ Some target
+      go _ q (plainly {s = s} same_package) = found_plain s q same_package
+      go _ q (by_import {s = s} {z = z} {t = t} {q = p} {k = k} f is_public) = (found_import s z t p k q f).in_block
 
   marked : DeclaredThere rs x.mark (a_function u.callee)
   marked = declared_there rs x.mark (a_function u.callee) u.declared
@@ -232,15 +264,8 @@ module _ {S : Type 0} (same : S → S → Bool) (commented : ℕ → ℕ → S �
   nth_decl : slice_get u.home.source.tree.decls x.mark.decl ≡ Some (func u.callee)
   nth_decl = sym (ap (λ w. slice_get w.source.tree.decls x.mark.decl) (some_same marked.file u.home (sym marked.stands ∙ u.stands))) ∙ marked.nth ∙ ap (λ d. Some d) (func_of_decl marked.decl x.mark.item u.callee marked.holds)
 
-  meant_there : (e : Entity) × (Rattle.form_in_place.specs.Places.is_member e ≡ true) × (means there_names.names v.name ≡ Some e) × (means (block_of (world rs).blocks x.at.number) v.name ≡ Some e)
-  meant_there = (file_meant rs x.at l.there_stands).in_block v.name x.mark.«package» x.mark.file x.mark.decl x.mark.item name_outside.1
-
   spelled : is_blank v.name ≡ false
-  spelled = go (is_blank v.name) refl
-    where
-      go : (b : Bool) → is_blank v.name ≡ b → b ≡ false
-      go true e = absurd (grind (arith, ap is_some (sym ((file_meant rs x.at l.there_stands).blank v.name e) ∙ meant_there.2)))
-      go false e = refl
+  spelled = spelled_found K 0 (map (linked_file rs) u.home.of.files) v.name target in_block_home
 
   abbrev p : SourcePackage S
   p = linked_at rs u.home l.named_at
@@ -372,8 +397,11 @@ module _ {S : Type 0} (same : S → S → Bool) (commented : ℕ → ℕ → S �
         subst (λ a. Within (world rs) K top_names.names c.env.names (bound_names binds ++ []) a start_place.bound (binds ++ c.env.names)) (sym start_env)
         (record { inner = w.inner; outer = w.outer; landing = w.landing; block = w.block; listed = λ n. bound_alike n ∙ w.listed n; world = w.world; home = w.home })
 
-    clear_parts : Unshadowed same commented rs marks x u
-    clear_parts = unshadowed_parts same commented rs marks x u v.nothing_chosen v.free (list_of v.args) all_given
+    clear_parts : TextParts same commented rs marks x u (shadowed_here rs u.home x.at x.place)
+    clear_parts = text_parts same commented rs marks x u (shadowed_here rs u.home x.at x.place) (unshadowed same commented rs marks x u) v.nothing_chosen v.free (list_of v.args) all_given
+
+    open_parts : nat_eq K x.at.number ≡ false → TextParts same commented rs marks x u (hidden_here rs u.home x.at x.place)
+    open_parts e = text_parts same commented rs marks x u (hidden_here rs u.home x.at x.place) (accessible same commented rs marks x u e) v.nothing_chosen v.free (list_of v.args) all_given
 
     abbrev changed_sig : Sig S
     changed_sig = kept_sig same commented rs marks x u v at (world rs) top_names.names beyond
@@ -381,15 +409,9 @@ module _ {S : Type 0} (same : S → S → Bool) (commented : ℕ → ℕ → S �
     abbrev changed_body : Stmts S
     changed_body = kept_body same commented rs marks x u v at (world rs) top_names.names beyond
 
-    here_all : (xs : List (Seen S)) → AllAway rs u.home x.at.number ns c.env.names (names_of x.place.bound) xs
-    here_all xs = all_here rs u.home x.at.number ns c.env.names (names_of x.place.bound) v.same_package xs
-
-    here_hidden : {A : Type 0} {a b : A} → nat_eq K x.at.number ≡ false → a ≡ b
-    here_hidden e = absurd (grind (arith, e, v.same_package))
-
     body_written : WrittenBody site (results_in (func_type top_names u.callee.sig)) (bound_names binds ++ []) start_place.env (binds ++ c.env.names) u.callee.body changed_body
     body_written =
-        body_here rs u.home x.at at ns new (world rs) top_names.names beyond known (nothing_else rs u.home l.home_stands) ctx start_place false u.callee.body body_typed.ends start_values body_typed.typed y.body (here_all (Rattle.run_rules.specs.Calls.body_seen same rs the_call)) (λ e. here_hidden e) clear_parts.body (results_in (func_type top_names u.callee.sig)) (bound_names binds ++ [])
+        body_here rs u.home x.at at ns new (world rs) top_names.names beyond known (nothing_else rs u.home l.home_stands) ctx start_place false u.callee.body body_typed.ends start_values body_typed.typed y.body y.body_away (λ e. (open_parts e).body) clear_parts.body (results_in (func_type top_names u.callee.sig)) (bound_names binds ++ [])
         (binds ++ c.env.names) start_within
 
     abbrev topp : Place S
@@ -397,6 +419,13 @@ module _ {S : Type 0} (same : S → S → Bool) (commented : ℕ → ℕ → S �
 
     top_values : LocalValues K topp.env topp.bound
     top_values = record { each = λ n e. absurd (grind (arith, e)); block = λ n e. absurd (grind (arith, e)); home_is = refl }
+
+    abbrev Away : List (Seen S) → Type 0
+    Away xs = AllAway rs u.home x.at.number ns c.env.names (names_of x.place.bound) xs
+
+    away_apart : (xs ys : List (Seen S)) → Away (xs ++ ys) → Away xs × Away ys
+    away_apart [] ys a = (tt, a)
+    away_apart (y ∷ xs) ys a = let r = away_apart xs ys a.1 in ((a.0, r.0), r.1)
 
     abbrev Served : List (Seen S) → Type 0
     Served xs = AllServed rs u.home ns c.env.names (names_of x.place.bound) xs
@@ -409,9 +438,10 @@ module _ {S : Type 0} (same : S → S → Bool) (commented : ℕ → ℕ → S �
     literal_at_top s z =
         let t = from_both (params_meant top_names u.callee.sig.params) (params_meant top_names u.callee.sig.results) (λ ts us. Some (record { params = ts; results = us })) meant.type typed_top in
         let k = served_apart (params_seen topp u.callee.sig.params) (params_seen topp u.callee.sig.results) y.types in
+        let o = away_apart (params_seen topp u.callee.sig.params) (params_seen topp u.callee.sig.results) y.types_away in
         w_func_lit {g = u.callee.sig} {g' = changed_sig}
-        (params_here rs u.home x.at at ns new (world rs) top_names.names beyond known (nothing_else rs u.home l.home_stands) topp [] c.env.names top_within u.callee.sig.params t.0 top_values k.0 (here_all (params_seen topp u.callee.sig.params)) t.2 (λ e. here_hidden e) clear_parts.params)
-        (params_here rs u.home x.at at ns new (world rs) top_names.names beyond known (nothing_else rs u.home l.home_stands) topp [] c.env.names top_within u.callee.sig.results t.1 top_values k.1 (here_all (params_seen topp u.callee.sig.results)) t.3 (λ e. here_hidden e) clear_parts.results)
+        (params_here rs u.home x.at at ns new (world rs) top_names.names beyond known (nothing_else rs u.home l.home_stands) topp [] c.env.names top_within u.callee.sig.params t.0 top_values k.0 o.0 t.2 (λ e. (open_parts e).params) clear_parts.params)
+        (params_here rs u.home x.at at ns new (world rs) top_names.names beyond known (nothing_else rs u.home l.home_stands) topp [] c.env.names top_within u.callee.sig.results t.1 top_values k.1 o.1 t.3 (λ e. (open_parts e).results) clear_parts.results)
         (subst (λ a. WrittenBody site (results_in (func_type top_names u.callee.sig)) (bound_names binds ++ []) a (binds ++ c.env.names) u.callee.body changed_body) start_env body_written)
 
     top_is : top_names ≡ declared_at (in_block c.env) top_names.names K
@@ -424,16 +454,52 @@ module _ {S : Type 0} (same : S → S → Bool) (commented : ℕ → ℕ → S �
 
     -- ---- what is called
 
-    name_meant : meaning c.env v.name ≡ Some (function meant.type)
-    name_meant = h.outer v.name name_outside.0 ∙ meant_there.2 ∙ sym meant_there.3 ∙ ap (λ k. means (block_of (world rs).blocks k) v.name) (sym v.same_package ∙ sym first.home_is) ∙ meant.meant
-
     abbrev F : FuncName
     F = function_named (path_of (paths_in ms) K) v.name
 
-    pub calls : callee {S = S} c (ident v.name_at v.name) ≡ to_function F meant.type.params None
-    calls =
-        ap (λ d. named_callee (path_of c.paths c.env.home) v.name (named_operand c.env d)) name_meant
-        ∙ (λ i. to_function (function_named (path_of (h.paths_are i) ((h.home_is ∙ sym v.same_package) i)) v.name) meant.type.params None)
+    -- what the expression before the arguments is, and what it calls
+    record Callee (e : Expr S) : Type 0 where
+      operand : parts c.env e ≡ Some (a_function meant.type)
+      calls : callee {S = S} c e ≡ to_function F meant.type.params None
+
+    callee_plain : (s : S) → v.called ≡ ident s v.name → K ≡ x.at.number → Callee (ident s v.name)
+    callee_plain s q same_package =
+        let o = plain_outside s q in
+        let m : (e : Entity) × (Rattle.form_in_place.specs.Places.is_member e ≡ true) × (means there_names.names v.name ≡ Some e) × (means (block_of (world rs).blocks x.at.number) v.name ≡ Some e) =
+        (file_meant rs x.at l.there_stands).in_block v.name x.mark.«package» x.mark.file x.mark.decl x.mark.item o.1 in
+        let is : meaning c.env v.name ≡ Some (function meant.type) = h.outer v.name o.0 ∙ m.2 ∙ sym m.3 ∙ ap (λ k. means (block_of (world rs).blocks k) v.name) (sym same_package ∙ sym first.home_is) ∙ meant.meant in
+        record {
+          operand = ap (named_operand c.env) is;
+          calls =
+              ap (λ d. named_callee (path_of c.paths c.env.home) v.name (named_operand c.env d)) is
+              ∙ (λ i. to_function (function_named (path_of (h.paths_are i) ((h.home_is ∙ sym same_package) i)) v.name) meant.type.params None);
+        }
+
+    known_there : KnownNames rs x.at x.at at ns new (world rs) beyond beyond
+    known_there = record { home_file = file_meant rs x.at l.there_stands; there_file = file_meant rs x.at l.there_stands; not_around = h.outer; blank = h.blank }
+
+    callee_import : (s z t : S) (q : List ℕ) (k : ℕ) → v.called ≡ selector s (ident z q) (record { span = t; name = v.name }) → qualifier rs x.at x.place q ≡ Some k → is_exported v.name ≡ true → Callee (selector s (ident z q) (record { span = t; name = v.name }))
+    callee_import s z t q k e f is_public =
+        let g : Qualifies rs x.at x.at at ns new (world rs) beyond beyond x.place q k = qualifier_means rs x.at x.at at ns new (world rs) beyond beyond known_there x.place q k f in
+        let of_package : package_before {S = S} c.env (ident z q) ≡ Some K = ap package_of (h.outer q g.free) ∙ g.of ∙ ap (λ k. Some k) (found_import s z t q k e f).number in
+        let is : exported c.env.world K v.name ≡ Some (function meant.type) =
+        ap (λ w. exported w K v.name) h.world_is ∙ ap (λ b. if b then means (block_of (world rs).blocks K) v.name else None) is_public ∙ ap (λ k. means (block_of (world rs).blocks k) v.name) (sym first.home_is) ∙ meant.meant in
+        record {
+          operand =
+              ap (λ o. elim o [ Some p ↦ named_operand c.env (exported c.env.world p v.name) | None ↦ given (parts {S = S} c.env (ident z q)) (λ o. with_value o (selected (defined_in c.env) c.env.home v.name (place {S = S} c.env (ident z q)))) ]) of_package
+              ∙ ap (named_operand c.env) is;
+          calls =
+              ap (λ o. elim o [ Some p ↦ named_callee (path_of c.paths p) v.name (named_operand c.env (exported c.env.world p v.name)) | None ↦ method_callee c.paths (defined_here c) v.name (typed_at {S = S} c.env (ident z q)) (expr_term {S = S} c operators.no_type (ident z q)) (address {S = S} c (ident z q)) ]) of_package
+              ∙ ap (λ d. named_callee (path_of c.paths K) v.name (named_operand c.env d)) is
+              ∙ (λ i. to_function (function_named (path_of (h.paths_are i) K) v.name) meant.type.params None);
+        }
+
+    the_callee : Callee v.called
+    the_callee = go v.called refl v.named
+      where
+        go : (e : Expr S) → v.called ≡ e → NamesCallee same commented rs marks x u v.name e → Callee e
+        go _ q (plainly {s = s} same_package) = callee_plain s q same_package
+        go _ q (by_import {s = s} {z = z} {t = t} {q = p} {k = k} f is_public) = callee_import s z t p k q f is_public
 
     code_is : program_of (codes_of ms) F ≡ function_code (paths_in ms) (world rs) first.header u.callee meant.type
     code_is =
@@ -448,14 +514,14 @@ module _ {S : Type 0} (same : S → S → Bool) (commented : ℕ → ℕ → S �
         ∙ ap (λ r. to_literal (function_code (paths_in ms) (world rs) first.header (record u.callee { receiver = r }) meant.type) meant.type.params) (sym v.free)
         ∙ ap (λ y. to_literal y meant.type.params) (sym code_is)
 
-    pub call_of_literal : (s z : S) → CallOf (program_of (codes_of ms)) c (names_of x.place.bound) (ident v.name_at v.name) F meant.type.params s z changed_sig changed_body
+    pub call_of_literal : (s z : S) → CallOf (program_of (codes_of ms)) c (names_of x.place.bound) v.called F meant.type.params s z changed_sig changed_body
     call_of_literal s z =
         record {
           names = top_names.names;
           home = K;
           g = u.callee.sig;
           b = u.callee.body;
-          calls = calls;
+          calls = the_callee.calls;
           declared = code_there s z;
           written = literal_written s z;
           locals = h.locals;
@@ -503,10 +569,10 @@ module _ {S : Type 0} (same : S → S → Bool) (commented : ℕ → ℕ → S �
     pub typed_alike : (e : Expr S) → u.form ≡ as_expr e → parts c.env u.tree ≡ parts c.env e
     typed_alike e q =
         ap (parts c.env) v.tree_is
-        ∙ ap (λ r. both r (all_parts c.env v.args) (call_of (defined_in c.env))) (ap (named_operand c.env) name_meant ∙ sym literal_typed ∙ sym (literal_parts c.env v.span v.span changed_sig changed_body))
+        ∙ ap (λ r. both r (all_parts c.env v.args) (call_of (defined_in c.env))) (the_callee.operand ∙ sym literal_typed ∙ sym (literal_parts c.env v.span v.span changed_sig changed_body))
         ∙ (sym (parts-bare c.env (call v.span (func_lit v.span (filled_sig changed_sig) v.span changed_body) v.args Plain)) ∙ ap (parts c.env) (sym (form_is e q)) ∙ parts-bare c.env e)
 
-module _ (same : Span → Span → Bool) (commented : ℕ → ℕ → Span → Bool) (rs : List (Package Span)) (marks : List MarkRef) (x : Site Span) (u : LiteralUse same commented rs marks x) (v : OwnCall same commented rs marks x u) (ms : List (translated.Package Span)) (l : Linked rs ms x same commented marks u) (c : Here) (h : CalledAt rs ms x c) (y : PackagesServe rs ms x same commented marks u c) where
+module _ (same : Span → Span → Bool) (commented : ℕ → ℕ → Span → Bool) (rs : List (Package Span)) (marks : List MarkRef) (x : Site Span) (u : LiteralUse same commented rs marks x) (v : PlainCall same commented rs marks x u) (ms : List (translated.Package Span)) (l : Linked rs ms x same commented marks u) (c : Here) (h : CalledAt rs ms x c) (y : PackagesServe rs ms x same commented marks u c) where
   pub means_it : (e : Expr Span) → u.form ≡ as_expr e → (free : FuncName → Bool) (A : ℕ) (rank : FuncName → ℕ) → Ranked (program_of (codes_of ms)) free rank → free (function_named (path_of (paths_in ms) u.home.number) v.name) ≡ true → (t : GoType)
       → MeanSame (program_of (codes_of ms)) free A (suc (rank (function_named (path_of (paths_in ms) u.home.number) v.name))) (expr_term c t u.tree) (expr_term c t e)
   means_it e q free A rank ranked is_free t =
@@ -514,8 +580,8 @@ module _ (same : Span → Span → Bool) (commented : ℕ → ℕ → Span → B
       let b : Stmts Span = changed_body same commented rs marks x u v ms l c h y in
       let F : FuncName = function_named (path_of (paths_in ms) u.home.number) v.name in
       subst (λ y. MeanSame (program_of (codes_of ms)) free A (suc (rank F)) y (expr_term c t e)) (sym (ap (expr_term c t) v.tree_is))
-      (subst (λ y. MeanSame (program_of (codes_of ms)) free A (suc (rank F)) (expr_term c t (call v.span (ident v.name_at v.name) v.args Plain)) y) (term_is same commented rs marks x u v ms l c h y e q t)
-      (operand_law (program_of (codes_of ms)) c (names_of x.place.bound) (ident v.name_at v.name) F (meant same commented rs marks x u v ms l).type.params v.span v.span g b (call_of_literal same commented rs marks x u v ms l c h y v.span v.span) free A rank ranked (program_scoped ms) is_free v.span t v.args Plain))
+      (subst (λ y. MeanSame (program_of (codes_of ms)) free A (suc (rank F)) (expr_term c t (call v.span v.called v.args Plain)) y) (term_is same commented rs marks x u v ms l c h y e q t)
+      (operand_law (program_of (codes_of ms)) c (names_of x.place.bound) v.called F (meant same commented rs marks x u v ms l).type.params v.span v.span g b (call_of_literal same commented rs marks x u v ms l c h y v.span v.span) free A rank ranked (program_scoped ms) is_free v.span t v.args Plain))
 
   pub deferred_means_it : (e : Expr Span) → u.form ≡ as_expr e → (free : FuncName → Bool) (A : ℕ) → MeanSame (program_of (codes_of ms)) free A 0 (deferred_term c u.tree) (deferred_term c e)
   deferred_means_it e q free A =
@@ -523,5 +589,5 @@ module _ (same : Span → Span → Bool) (commented : ℕ → ℕ → Span → B
       let b : Stmts Span = changed_body same commented rs marks x u v ms l c h y in
       let F : FuncName = function_named (path_of (paths_in ms) u.home.number) v.name in
       subst (λ y. MeanSame (program_of (codes_of ms)) free A 0 y (deferred_term c e)) (sym (ap (deferred_term c) v.tree_is))
-      (subst (λ y. MeanSame (program_of (codes_of ms)) free A 0 (deferred_term c (call v.span (ident v.name_at v.name) v.args Plain)) y) (deferred_is same commented rs marks x u v ms l c h y e q)
-      (deferred_law (program_of (codes_of ms)) c (names_of x.place.bound) (ident v.name_at v.name) F (meant same commented rs marks x u v ms l).type.params v.span v.span g b (call_of_literal same commented rs marks x u v ms l c h y v.span v.span) free A (program_scoped ms F) v.span v.args Plain))
+      (subst (λ y. MeanSame (program_of (codes_of ms)) free A 0 (deferred_term c (call v.span v.called v.args Plain)) y) (deferred_is same commented rs marks x u v ms l c h y e q)
+      (deferred_law (program_of (codes_of ms)) c (names_of x.place.bound) v.called F (meant same commented rs marks x u v ms l).type.params v.span v.span g b (call_of_literal same commented rs marks x u v ms l c h y v.span v.span) free A (program_scoped ms F) v.span v.args Plain))

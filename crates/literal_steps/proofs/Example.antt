@@ -25,14 +25,17 @@ use Rattle.go_translation.proofs.Ranks.{program_ranked}
 use Rattle.run_rules.specs.Surroundings.{whole, Place, a_slot, in_slot, at_stmt}
 use Rattle.run_rules.specs.Programs.{linked_file, body_place}
 use Rattle.run_rules.specs.Sites.{MarkRef, Where, Site, an_expr}
-use Rattle.run_rules.specs.FormTrees.{as_expr}
+use Rattle.run_rules.specs.Calls.{body_seen}
+use Rattle.run_rules.specs.FormTrees.{as_expr, top}
+use Rattle.run_rules.specs.Places.{sig_seen}
 use Rattle.run_rules.specs.Obstacles.{Shadowed}
 use Rattle.run_rules.specs.Reduced.{kept, reduced}
 use Rattle.written_literal.specs.LinkedNames.{Standing}
 use Rattle.constant_steps.specs.Alone.{this_package}
 use Rattle.constant_steps.specs.PlainUse.{linked_at}
-use Rattle.literal_steps.specs.LiteralUse.{LiteralUse, OwnCall}
+use Rattle.literal_steps.specs.LiteralUse.{LiteralUse, call_of, names_of_form, plainly, PlainCall}
 use Rattle.literal_steps.specs.CalledAt.{CalledAt, Linked, PackagesServe}
+use Rattle.literal_steps.proofs.PartsHere.{all_here}
 use Rattle.literal_steps.proofs.CallMeant.{typed_alike, means_it}
 
 abbrev at : ℕ → Span
@@ -124,16 +127,16 @@ none_chosen : (i : ℕ) → has (false ∷ []) i ≡ false
 none_chosen zero = refl
 none_chosen (suc i) = refl
 
-is_own_call : OwnCall same_span no_comments rs marks use_of_add is_literal_use
+is_plain_call : PlainCall same_span no_comments rs marks use_of_add is_literal_use
 unfolding is_literal_use
-is_own_call = record {
+is_plain_call = record {
   span = at 43;
-  name_at = at 44;
+  called = ident (at 44) (codes "add");
   name = codes "add";
   args = expr_and (int_lit (at 45) (codes "2")) no_exprs;
   tree_is = refl;
   use_ = refl;
-  same_package = refl;
+  named = plainly refl;
   free = refl;
   nothing_chosen = none_chosen;
   counted = λ e. refl;
@@ -187,12 +190,12 @@ is_called = record {
 
 no_packages : PackagesServe rs packages use_of_add same_span no_comments marks is_literal_use in_main
 unfolding is_literal_use
-no_packages = record { types = (tt, (tt, tt)); body = (tt, (tt, (tt, (tt, (tt, (tt, (tt, tt))))))) }
+no_packages = record { types = (tt, (tt, tt)); body = (tt, (tt, (tt, (tt, (tt, (tt, (tt, tt))))))); types_away = all_here rs here 0 (names_of_form same_span no_comments rs marks use_of_add is_literal_use) there.env.names [] refl (sig_seen (top rs (call_of same_span no_comments rs marks use_of_add is_literal_use)) add.sig); body_away = all_here rs here 0 (names_of_form same_span no_comments rs marks use_of_add is_literal_use) there.env.names [] refl (body_seen same_span rs (call_of same_span no_comments rs marks use_of_add is_literal_use)) }
 
 -- by the laws alone
 add_is_typed : parts there.env adding ≡ parts there.env literal
 unfolding is_literal_use
-add_is_typed = typed_alike same_span no_comments rs marks use_of_add is_literal_use is_own_call packages is_linked in_main is_called no_packages literal refl
+add_is_typed = typed_alike same_span no_comments rs marks use_of_add is_literal_use is_plain_call packages is_linked in_main is_called no_packages literal refl
 
 abbrev free : FuncName → Bool
 free f = bytes_eq f.name (codes "add")
@@ -201,9 +204,9 @@ abbrev rank : FuncName → ℕ
 rank f = 0
 
 add_means : MeanSame (program_of (codes_of packages)) free 1 1 (expr_term in_main (basic kind.Int) adding) (expr_term in_main (basic kind.Int) literal)
-unfolding is_literal_use is_own_call
+unfolding is_literal_use is_plain_call
 add_means =
-    means_it same_span no_comments rs marks use_of_add is_literal_use is_own_call packages is_linked in_main is_called no_packages literal refl free 1 rank (program_ranked packages free rank refl) refl (basic kind.Int)
+    means_it same_span no_comments rs marks use_of_add is_literal_use is_plain_call packages is_linked in_main is_called no_packages literal refl free 1 rank (program_ranked packages free rank refl) refl (basic kind.Int)
 
 -- ---- where `int` is declared around the use, as in `int := 1; println(add(int))`, it stays: no such use becomes a literal
 

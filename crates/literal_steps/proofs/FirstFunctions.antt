@@ -141,6 +141,10 @@ abbrev file_of : Target → ℕ
 file_of (member p f d i) = f
 file_of t = 0
 
+abbrev package_in : Target → ℕ
+package_in (member p f d i) = p
+package_in t = 0
+
 abbrev decl_of : Target → ℕ
 decl_of (member p f d i) = d
 decl_of t = 0
@@ -362,3 +366,43 @@ module _ {S : Type 0} (n : List ℕ) (spelled : is_blank n ≡ false) where
       let same_file : y.source ≡ file = some_same y.source file (sym y.nth_file ∙ ap (slice_get p.files) (sym (ap file_of y.is_item ∙ zero_more)) ∙ nf) in
       let same_decl : y.tree ≡ func g = some_same y.tree (func g) (sym y.nth ∙ (λ j. slice_get (same_file j).decls (sym (ap decl_of y.is_item) j)) ∙ nd) in
       subst (λ s. FirstFunction n p.number (file_block members [] s.imports) g (headed ps)) same_file (program_first (file_block members [] y.source.imports) g p k at (y.found g same_decl []))
+
+-- ---- what a name of the block is
+
+-- `_` is none
+blank_bound : (m : List ℕ) (t : Target) (rest : Environment Target) (n : List ℕ) → is_blank n ≡ true → means (binding m t ++ rest) n ≡ means rest n
+blank_bound m t rest n q = go (is_blank m) refl
+  where
+    here : (b : Bool) → bytes_eq m n ≡ b → is_blank m ≡ false → (if b then Some t else means rest n) ≡ means rest n
+    here true f g = absurd (grind (arith, sym g ∙ ap is_blank ((bytes_eq-Decides m n).0 f) ∙ q))
+    here false f g = refl
+
+    go : (b : Bool) → is_blank m ≡ b → means ((if b then [] else (m, t) ∷ []) ++ rest) n ≡ means rest n
+    go true f = refl
+    go false f = here (bytes_eq m n) refl f
+
+module _ {S : Type 0} where
+  blank_items : (p f d i : ℕ) (ns : List (NameAt S)) (n : List ℕ) → is_blank n ≡ true → means (items_from p f d i ns) n ≡ None
+  blank_items p f d i [] n q = refl
+  blank_items p f d i (x ∷ ns) n q = blank_bound x.name (member p f d i) (items_from p f d (suc i) ns) n q ∙ blank_items p f d (suc i) ns n q
+
+  blank_decls : (p f d : ℕ) (xs : List (Decl S)) (n : List ℕ) → is_blank n ≡ true → means (decls_from p f d xs) n ≡ None
+  blank_decls p f d [] n q = refl
+  blank_decls p f d (x ∷ xs) n q =
+      means_join (items_from p f d 0 (block_names x)) (decls_from p f (suc d) xs) n ∙ ap (λ o. or_else o (means (decls_from p f (suc d) xs) n)) (blank_items p f d 0 (block_names x) n q) ∙ blank_decls p f (suc d) xs n q
+
+  blank_files : (p f : ℕ) (fs : List (SourceFile S)) (n : List ℕ) → is_blank n ≡ true → means (block_from p f fs) n ≡ None
+  blank_files p f [] n q = refl
+  blank_files p f (x ∷ fs) n q = means_join (decls_from p f 0 x.decls) (block_from p (suc f) fs) n ∙ ap (λ o. or_else o (means (block_from p (suc f) fs) n)) (blank_decls p f 0 x.decls n q) ∙ blank_files p (suc f) fs n q
+
+  pub spelled_found : (p f : ℕ) (fs : List (SourceFile S)) (n : List ℕ) (t : Target) → means (block_from p f fs) n ≡ Some t → is_blank n ≡ false
+  spelled_found p f fs n t e = go (is_blank n) refl
+    where
+      go : (b : Bool) → is_blank n ≡ b → b ≡ false
+      go true q = absurd (grind (arith, ap is_some (sym e ∙ blank_files p f fs n q)))
+      go false q = refl
+
+  -- it is one of the package
+  pub package_found : (p f : ℕ) (fs : List (SourceFile S)) (n : List ℕ) (a b d i : ℕ) → means (block_from p f fs) n ≡ Some (member a b d i) → a ≡ p
+  package_found p f fs n a b d i e =
+      ap package_in (file_found n (spelled_found p f fs n (member a b d i) e) p false [] (member a b d i) p f 0 fs e).is_item

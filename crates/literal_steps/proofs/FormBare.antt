@@ -1,5 +1,5 @@
 -- The literal that a call becomes in the function's package is, but for spans, the function's own literal with its names as they are at the call.
-use Rattle.std.specs.Prelude.{◌≡◌, refl, ℕ, suc, Bool, true, false, List, [], ◌∷◌, ◌++◌, map, Option, Some, None, if◌then◌else◌, nat_eq, is_some}
+use Rattle.std.specs.Prelude.{◌≡◌, refl, ℕ, suc, Bool, true, false, ◌||◌, List, [], ◌∷◌, ◌++◌, map, Option, Some, None, if◌then◌else◌, nat_eq, bytes_eq, is_some}
 use Rattle.std.specs.Option.{option_map}
 use mathlib.Core.Path.{ap, sym, ◌∙◌, subst}
 use Rattle.std.proofs.Common.{arith}
@@ -11,24 +11,27 @@ use Rattle.pkg_graph.specs.Package.{Package}
 use Rattle.param_choice.specs.Chosen.{has}
 use Rattle.go_types.specs.Answers.{given}
 use Rattle.go_types.specs.Entities.{Entity, World}
-use Rattle.run_rules.specs.Surroundings.{Use, Place, Seen, seen, seen_type, seen_stmt}
+use Rattle.std.proofs.lemmas.Slice.Eq.{bytes_eq-Decides}
+use Rattle.scope_names.specs.FreeNames.{names_of}
+use Rattle.scope_names.specs.Means.{means}
+use Rattle.go_types.specs.Answers.{is_among}
+use Rattle.go_types.proofs.Agreeing.{from_given}
+use Rattle.run_rules.specs.BodyItems.{number_of}
+use Rattle.run_rules.specs.Surroundings.{Use, Place, local_at, declared_at, is_local, Seen, seen, seen_type, seen_stmt}
 use Rattle.run_rules.specs.Places.{params_seen, stmts_seen}
 use Rattle.run_rules.specs.Programs.{numbered, numbered_from}
 use Rattle.run_rules.specs.Rewriting.{Changes, new_label, new_params, new_stmts}
-use Rattle.run_rules.specs.Sites.{MarkRef, Site, Where, qualifier, outer_meaning, mark_of}
+use Rattle.run_rules.specs.Sites.{MarkRef, Site, Where, qualifier, outer, mark_of}
 use Rattle.run_rules.specs.Naming.{Names, names_by}
-use Rattle.run_rules.specs.Calls.{Given, Call, blank, list_of, exprs_of, start, start_with, chosen_binds, bound_from, bound_params, given_params, param_name, all_params, arguments, args}
+use Rattle.run_rules.specs.Calls.{Given, Call, blank, list_of, exprs_of, start, start_with, chosen_binds, bound_from, bound_params, given_params, param_name, all_params, declared_place, receiver_in, arguments, args}
 use Rattle.run_rules.specs.FormTrees.{LiteralForm, a_name, outside_name, outside_selector, top}
 use Rattle.run_rules.specs.Forms.{body_changes, param_number, chosen_arg, literal_param, literal_params, literal_args, new_body}
 use Rattle.written_literal.specs.Fine.{keeping}
 use Rattle.written_literal.specs.PartsTyped.{selector_there, expr_there, changes_there}
 use Rattle.literal_steps.specs.AlikeChanges.{IsAlike, AllAlike}
-use Rattle.literal_steps.specs.LiteralUse.{filled, filled_sig, LiteralUse, call_of, chosen_of, names_of_form, OwnCall}
+use Rattle.literal_steps.specs.LiteralUse.{filled, filled_sig, LiteralUse, call_of, chosen_of, names_of_form, PlainCall}
 use Rattle.literal_steps.proofs.WalksBare.{params-bare, stmts-bare}
 use Rattle.literal_steps.proofs.NoObstacle.{named_so, AllGiven, one_call, each_given, no_receiver}
-
-same_number : (a b : ℕ) → a ≡ b → nat_eq a b ≡ true
-same_number a b e = grind (arith, e)
 
 map_then : {A B C : Type 0} (f : A → B) (g : B → C) (xs : List A) → map (λ x. g (f x)) xs ≡ map g (map f xs)
 map_then f g [] = refl
@@ -38,7 +41,19 @@ exprs_back : {S : Type 0} (xs : Exprs S) → exprs_of (list_of xs) ≡ xs
 exprs_back no_exprs = refl
 exprs_back (expr_and e es) = ap (λ l. expr_and e l) (exprs_back es)
 
-module _ {S : Type 0} (same : S → S → Bool) (commented : ℕ → ℕ → S → Bool) (rs : List (Package S)) (marks : List MarkRef) (x : Site S) (u : LiteralUse same commented rs marks x) (v : OwnCall same commented rs marks x u) where
+found_among : {S : Type 0} (bs : List (NameAt S)) (n : List ℕ) → is_some (declared_at bs n) ≡ true → is_among n (names_of bs) ≡ true
+found_among [] n e = absurd (grind (arith, e))
+found_among (b ∷ bs) n e = go (bytes_eq b.name n) refl e (found_among bs n)
+  where
+    or_true : (x : Bool) → (x || true) ≡ true
+    or_true true = refl
+    or_true false = refl
+
+    go : (t : Bool) → bytes_eq b.name n ≡ t → is_some (if t then Some b.span else declared_at bs n) ≡ true → (is_some (declared_at bs n) ≡ true → is_among n (names_of bs) ≡ true) → (bytes_eq n b.name || is_among n (names_of bs)) ≡ true
+    go true q e f = ap (λ z. z || is_among n (names_of bs)) ((bytes_eq-Decides n b.name).1 (sym ((bytes_eq-Decides b.name n).0 q)))
+    go false q e f = ap (λ z. bytes_eq n b.name || z) (f e) ∙ or_true (bytes_eq n b.name)
+
+module _ {S : Type 0} (same : S → S → Bool) (commented : ℕ → ℕ → S → Bool) (rs : List (Package S)) (marks : List MarkRef) (x : Site S) (u : LiteralUse same commented rs marks x) (v : PlainCall same commented rs marks x u) where
   abbrev c : Call S
   c = call_of same commented rs marks x u
 
@@ -48,9 +63,6 @@ module _ {S : Type 0} (same : S → S → Bool) (commented : ℕ → ℕ → S �
   -- the names that the literal has for packages
   abbrev pub names : Names
   names = names_of_form same commented rs marks x u
-
-  home_there : nat_eq u.home.number x.at.number ≡ true
-  home_there = same_number u.home.number x.at.number v.same_package
 
   -- ---- nothing is chosen
 
@@ -73,23 +85,32 @@ module _ {S : Type 0} (same : S → S → Bool) (commented : ℕ → ℕ → S �
     abbrev pub kept : Changes S
     kept = keeping (changes_there rs u.home x.at at names c.new all outside beyond)
 
-    outside_none : (p : Place S) (n : List ℕ) → outside_name rs u.home x.at.number names c.new p n ≡ None
-    outside_none p n = ap (λ b. given (if b then None else given (outer_meaning rs u.home p n) (λ t. given (mark_of t) (λ m. Some (names u.home.number)))) (λ q. Some (selector c.new (ident c.new q) (a_name c.new n)))) home_there
+    -- a name that is declared in the function is written as it stands
+    local_none : (p : Place S) (n : List ℕ) → is_local p n ≡ true → outside_name rs u.home x.at.number names c.new p n ≡ None
+    local_none p n e =
+        ap (λ b. given (if nat_eq u.home.number x.at.number then None else given (if b then None else means (outer rs u.home) n) (λ t. given (mark_of t) (λ m. Some (names u.home.number)))) (λ q. Some (selector c.new (ident c.new q) (a_name c.new n)))) e
+        ∙ either (nat_eq u.home.number x.at.number)
+      where
+        either : (b : Bool) → given (if b then None else None) (λ q. Some (selector c.new (ident c.new q) (a_name c.new n))) ≡ None
+        either true = refl
+        either false = refl
 
     not_chosen : (w : Use) (i : ℕ) → chosen_arg same rs c names ch w i ≡ None
     not_chosen w i =
         ap (λ b. if b then given (Rattle.run_rules.specs.Forms.nth_given same rs c names ch i (given_params same rs c)) (λ g. Some (Rattle.run_rules.specs.Forms.written_arg same rs c names ch w g)) else None) (v.nothing_chosen i)
 
-    name_alike : (p : Place S) (w : Use) (n : List ℕ) (o : Option ℕ) → elim o [ Some i ↦ chosen_arg same rs c names ch w i | None ↦ outside_name rs u.home x.at.number names c.new p n ] ≡ outside_name rs u.home x.at.number names c.new p n
-    name_alike p w n None = refl
-    name_alike p w n (Some i) = not_chosen w i ∙ sym (outside_none p n)
+    name_alike : (p : Place S) (w : Use) (n : List ℕ) (o : Option ℕ) → param_number same rs c names ch p n ≡ o → elim o [ Some i ↦ chosen_arg same rs c names ch w i | None ↦ outside_name rs u.home x.at.number names c.new p n ] ≡ outside_name rs u.home x.at.number names c.new p n
+    name_alike p w n None e = refl
+    name_alike p w n (Some i) e =
+        let r = from_given (local_at p n) (number_of same 0 (map declared_place (all_params same rs c))) i e in
+        not_chosen w i ∙ sym (local_none p n (found_among p.bound n (ap is_some r.1)))
 
     selector_alike : (p : Place S) (s : S) (q : List ℕ) (n : NameAt S) (z : Option ℕ) → option_map bare_expr (given (given z (λ k. Some (names k))) (λ x. Some (selector c.new (ident c.new x) (a_name c.new n.name)))) ≡ option_map bare_expr (given (given z (λ k. Some (names k))) (λ x. Some (selector c.new (ident c.new x) n)))
     selector_alike p s q n None = refl
     selector_alike p s q n (Some k) = refl
 
     expr_alike : (p : Place S) (w : Use) (e : Expr S) → option_map bare_expr ((body_changes same rs c names ch).expr p w e) ≡ option_map bare_expr (kept.expr p w e)
-    expr_alike p w (ident s n) = ap (option_map bare_expr) (name_alike p w n (param_number same rs c names ch p n))
+    expr_alike p w (ident s n) = ap (option_map bare_expr) (name_alike p w n (param_number same rs c names ch p n) refl)
     expr_alike p w (selector s (ident z q) n) = selector_alike p s q n (qualifier rs u.home p q)
     expr_alike p w e = refl
 
@@ -125,8 +146,13 @@ module _ {S : Type 0} (same : S → S → Bool) (commented : ℕ → ℕ → S �
     bound_is : bound_params same rs c ch ≡ given_params same rs c
     bound_is = all_bound 0 (given_params same rs c)
 
+    no_receiver_in : (f : Expr S) → receiver_in c.new false c.at.env f ≡ []
+    no_receiver_in (selector s b n) = refl
+    no_receiver_in f = refl
+
     args_alone : args same rs c ≡ list_of v.args
-    args_alone = λ i. arguments c.new (is_some (v.free i)) c.at.env (v.tree_is i)
+    args_alone = (λ i. arguments c.new (is_some (v.free i)) c.at.env (v.tree_is i)) ∙ ap (λ l. l ++ list_of v.args) (no_receiver_in v.called)
+
 
     abbrev params_if : Bool → List (Param S)
     params_if b = if b then map (literal_param same rs c names ch) (all_params same rs c) else map (λ g. literal_param same rs c names ch g.param) (bound_params same rs c ch)

@@ -11,3 +11,4 @@ pub mod BlankParams
 pub mod FormBare
 pub mod CallMeant
 mod Example
+mod AwayExample

@@ -16,7 +16,7 @@ use Rattle.run_rules.specs.Calls.{Given, Call, all_params, given_params, spread_
 use Rattle.run_rules.specs.Cycles.{is_recursive}
 use Rattle.run_rules.specs.FormTrees.{FormKind, ConstForm, TypeForm, ExprForm, BlockForm, TailForm, LiteralForm, Form, top}
 use Rattle.run_rules.specs.Forms.{form_tree, literal_tree}
-use Rattle.run_rules.specs.Obstacles.{Obstacle, Recursive, CommentInside, Spread, Repeated, obstacle_if, not_accessible, internal_package, shadowed, shadowed_here, is_repeated, first_answer}
+use Rattle.run_rules.specs.Obstacles.{Obstacle, Recursive, CommentInside, Spread, Repeated, obstacle_if, not_accessible, internal_package, shadowed, shadowed_here, hidden_here, is_repeated, first_answer}
 use Rattle.run_rules.specs.Reduced.{Reduced, becomes, kept, types_text, param_text, result_types_text, text_taken, converts_somewhere, needed_by, range_of, names_in_form, call_obstacle, is_free_form, first_free, kept_by, reduced_to, reduced_call, reduced_function, reduced_in}
 use Rattle.literal_steps.specs.LiteralUse.{LiteralUse, call_of, chosen_of}
 
@@ -130,6 +130,13 @@ module _ {S : Type 0} (same : S → S → Bool) (commented : ℕ → ℕ → S �
   pub unshadowed : first_answer (shadowed_here rs u.home x.at x.place) text ≡ None
   unshadowed = given_none (first_answer (shadowed_here rs u.home x.at x.place) text) Rattle.run_rules.specs.Obstacles.Shadowed dark
 
+  -- and none is hidden from another package
+  pub accessible : nat_eq u.home.number x.at.number ≡ false → first_answer (hidden_here rs u.home x.at x.place) text ≡ None
+  accessible e =
+      let rest : Option Obstacle = one_of (internal_package rs u.home x.at x.place (needed_by same commented rs marks c ch LiteralForm)) (one_of (shadowed rs u.home x.at x.place text) (one_of (obstacle_if (is_recursive rs marks x.mark) Recursive) (one_of (obstacle_if (commented x.at.number x.at.file_number (range_of same commented rs marks LiteralForm c)) CommentInside) (one_of (obstacle_if (has_receiver same rs c && spread_call same rs c) Spread) (obstacle_if (is_repeated rs u.home x.at x.place text) Repeated))))) in
+      given_none (first_answer (hidden_here rs u.home x.at x.place) text) Rattle.run_rules.specs.Obstacles.NotAccessible
+      (sym (ap (λ b. if not b then given (first_answer (hidden_here rs u.home x.at x.place) text) (λ n. Some (Rattle.run_rules.specs.Obstacles.NotAccessible n)) else None) e) ∙ (both_none (not_accessible rs u.home x.at x.place text) rest clear.free).0)
+
   -- ---- the parts of that text
 
   -- with no parameter chosen the types of all parameters are written
@@ -143,11 +150,11 @@ module _ {S : Type 0} (same : S → S → Bool) (commented : ℕ → ℕ → S �
   results_text [] = refl
   results_text (p ∷ ps) = ap (λ l. seen_type (top rs c) p.of ∷ l) (results_text ps)
 
-  -- no name of the signature's types, and none of the body
-  pub record Unshadowed : Type 0 where
-    pub params : first_answer (shadowed_here rs u.home x.at x.place) (params_seen (top rs c) u.callee.sig.params) ≡ None
-    pub results : first_answer (shadowed_here rs u.home x.at x.place) (params_seen (top rs c) u.callee.sig.results) ≡ None
-    pub body : first_answer (shadowed_here rs u.home x.at x.place) (body_seen same rs c) ≡ None
+  -- nothing is answered at the signature's types, and nothing in the body
+  pub record TextParts (f : Seen S → Option (List ℕ)) : Type 0 where
+    pub params : first_answer f (params_seen (top rs c) u.callee.sig.params) ≡ None
+    pub results : first_answer f (params_seen (top rs c) u.callee.sig.results) ≡ None
+    pub body : first_answer f (body_seen same rs c) ≡ None
 
   -- the arguments are one call with several results, or each parameter is given its argument
   pub data AllGiven (args : List (Expr S)) : Type 0 where
@@ -164,10 +171,9 @@ module _ {S : Type 0} (same : S → S → Bool) (commented : ℕ → ℕ → S �
   params_first none r args (one_call s) = ap types_first s ∙ results_text (all_params same rs c) ∙ ap (params_seen (top rs c)) (no_receiver r)
   params_first none r args (each_given s m a) = ap types_first s ∙ params_text none 0 (given_params same rs c) ∙ ap (params_seen (top rs c)) m
 
-  pub unshadowed_parts : ((i : ℕ) → has ch i ≡ false) → u.callee.receiver ≡ None → (args : List (Expr S)) → AllGiven args → Unshadowed
-  unshadowed_parts none r args g =
-      let f : Seen S → Option (List ℕ) = shadowed_here rs u.home x.at x.place in
-      let a = first_split f (types_first (spread_call same rs c) ++ result_types_text same commented rs marks c LiteralForm ch) (body_seen same rs c) unshadowed in
+  pub text_parts : (f : Seen S → Option (List ℕ)) → first_answer f text ≡ None → ((i : ℕ) → has ch i ≡ false) → u.callee.receiver ≡ None → (args : List (Expr S)) → AllGiven args → TextParts f
+  text_parts f h none r args g =
+      let a = first_split f (types_first (spread_call same rs c) ++ result_types_text same commented rs marks c LiteralForm ch) (body_seen same rs c) h in
       let b = first_split f (types_first (spread_call same rs c)) (result_types_text same commented rs marks c LiteralForm ch) a.0 in
       record {
         params = sym (ap (first_answer f) (params_first none r args g)) ∙ b.0;

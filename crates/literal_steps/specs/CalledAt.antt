@@ -18,7 +18,7 @@ use Rattle.scope_names.specs.FreeNames.{names_of}
 use Rattle.run_rules.specs.Calls.{body_seen}
 use Rattle.run_rules.specs.FormTrees.{top}
 use Rattle.run_rules.specs.Places.{sig_seen}
-use Rattle.literal_steps.specs.ServedParts.{AllServed}
+use Rattle.literal_steps.specs.ServedParts.{AllServed, AllAway}
 use Rattle.literal_steps.specs.LiteralUse.{LiteralUse, call_of, names_of_form}
 
 module _ {S : Type 0} (rs : List (Package S)) (ms : List (translated.Package S)) (x : Site S) where
@@ -49,8 +49,8 @@ module _ {S : Type 0} (rs : List (Package S)) (ms : List (translated.Package S))
     pub home_stands : Standing rs u.home
     pub there_stands : Standing rs x.at
 
-  -- At the place each package that the function names has a name that serves, and the function's body declares no group
-  -- of constants.
+  -- At the place each package that the function names has a name that serves, and what is asked besides of a function
+  -- of another package holds; the function's body declares no group of constants.
   pub record PackagesServe (same : S → S → Bool) (commented : ℕ → ℕ → S → Bool) (marks : List MarkRef)
       (u : LiteralUse same commented rs marks x) (c : Here) : Type 0 where
     pub types :
@@ -58,4 +58,10 @@ module _ {S : Type 0} (rs : List (Package S)) (ms : List (translated.Package S))
         (sig_seen (top rs (call_of same commented rs marks x u)) u.callee.sig)
     pub body :
         AllServed rs u.home (names_of_form same commented rs marks x u) c.env.names (names_of x.place.bound)
+        (body_seen same rs (call_of same commented rs marks x u))
+    pub types_away :
+        AllAway rs u.home x.at.number (names_of_form same commented rs marks x u) c.env.names (names_of x.place.bound)
+        (sig_seen (top rs (call_of same commented rs marks x u)) u.callee.sig)
+    pub body_away :
+        AllAway rs u.home x.at.number (names_of_form same commented rs marks x u) c.env.names (names_of x.place.bound)
         (body_seen same rs (call_of same commented rs marks x u))

@@ -47,7 +47,7 @@ use Rattle.literal_steps.specs.TypedParts.{LocalValues, StandIn}
 use Rattle.literal_steps.specs.ServedParts.{AllServed, AllAway, NothingElse}
 use Rattle.literal_steps.specs.AlikeChanges.{AllAlike}
 use Rattle.literal_steps.specs.FirstFunctions.{FirstFunction}
-use Rattle.literal_steps.specs.LiteralUse.{LiteralUse, call_of, chosen_of, OwnCall}
+use Rattle.literal_steps.specs.LiteralUse.{LiteralUse, call_of, chosen_of, PlainCall}
 use Rattle.literal_steps.specs.CalledAt.{CalledAt, Linked, PackagesServe}
 
 -- ---- typed bodies
@@ -124,12 +124,12 @@ FunctionsAreFirst =
 
 -- ---- the call
 
--- In well-typed packages a call in its function's package, in whose way nothing stands, and the literal that the run
+-- In well-typed packages a call of a function by its name, in whose way nothing stands, and the literal that the run
 -- writes for it, are the same operand.
 abbrev pub LiteralsAreTypedAlike : Type 0
 LiteralsAreTypedAlike =
     (same : Span → Span → Bool) (commented : ℕ → ℕ → Span → Bool) (rs : List (Package Span)) (marks : List MarkRef)
-    (x : Site Span) (u : LiteralUse same commented rs marks x) (v : OwnCall same commented rs marks x u)
+    (x : Site Span) (u : LiteralUse same commented rs marks x) (v : PlainCall same commented rs marks x u)
     (ms : List (translated.Package Span)) → Linked rs ms x same commented marks u →
     (c : Here) → CalledAt rs ms x c → PackagesServe rs ms x same commented marks u c → (e : Expr Span) → u.form ≡ as_expr e → parts c.env u.tree ≡ parts c.env e
 
@@ -137,7 +137,7 @@ LiteralsAreTypedAlike =
 abbrev pub CallsMeanTheirLiterals : Type 0
 CallsMeanTheirLiterals =
     (same : Span → Span → Bool) (commented : ℕ → ℕ → Span → Bool) (rs : List (Package Span)) (marks : List MarkRef)
-    (x : Site Span) (u : LiteralUse same commented rs marks x) (v : OwnCall same commented rs marks x u)
+    (x : Site Span) (u : LiteralUse same commented rs marks x) (v : PlainCall same commented rs marks x u)
     (ms : List (translated.Package Span)) → Linked rs ms x same commented marks u →
     (c : Here) → CalledAt rs ms x c → PackagesServe rs ms x same commented marks u c → (e : Expr Span) → u.form ≡ as_expr e →
     (free : FuncName → Bool) (A : ℕ) (rank : FuncName → ℕ) → Ranked (program_of (codes_of ms)) free rank →
@@ -149,7 +149,7 @@ CallsMeanTheirLiterals =
 abbrev pub DeferredCallsMeanTheirLiterals : Type 0
 DeferredCallsMeanTheirLiterals =
     (same : Span → Span → Bool) (commented : ℕ → ℕ → Span → Bool) (rs : List (Package Span)) (marks : List MarkRef)
-    (x : Site Span) (u : LiteralUse same commented rs marks x) (v : OwnCall same commented rs marks x u)
+    (x : Site Span) (u : LiteralUse same commented rs marks x) (v : PlainCall same commented rs marks x u)
     (ms : List (translated.Package Span)) → Linked rs ms x same commented marks u →
     (c : Here) → CalledAt rs ms x c → PackagesServe rs ms x same commented marks u c → (e : Expr Span) → u.form ≡ as_expr e → (free : FuncName → Bool) (A : ℕ) →
     MeanSame (program_of (codes_of ms)) free A 0 (deferred_term c u.tree) (deferred_term c e)

@@ -24,7 +24,7 @@ pub fn literals_have_no_obstacle()
     ensures first { FunctionsAreFirst }
 {}
 
-/// In well-typed packages a call in its function's package, in whose way nothing stands, is typed as
+/// In well-typed packages a call of a function by its name, in whose way nothing stands, is typed as
 /// the literal that the run writes for it, and means it under free prices; deferred, it means the
 /// deferred literal.
 pub fn calls_mean_their_literals()
