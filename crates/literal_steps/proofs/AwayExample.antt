@@ -10,7 +10,7 @@ use Rattle.go_tree.specs.declared.operators.BinOp.TheVariants.{Add}
 use Rattle.go_tree.specs.Tree.{NameAt, TypeExpr, named, Sig, Expr, ident, int_lit, selector, call, func_lit, binary, no_exprs, expr_and, Stmt, var_decl, eval, assign, return_, Stmts, no_stmts, stmt_and, no_specs, spec}
 use Rattle.go_tree.specs.File.{Func, values, func, File}
 use Rattle.const_eval.specs.declared.kinds.Kind.TheVariants as kind
-use Rattle.pkg_graph.specs.Package.{SourceTree, Package}
+use Rattle.pkg_graph.specs.Package.{Package}
 use Rattle.module_files.specs.Internal.{passes}
 use Rattle.param_choice.specs.Chosen.{has}
 use Rattle.import_rules.specs.Removed.{same_span}
@@ -24,7 +24,7 @@ use Rattle.go_translation.specs.Packages.{paths_in, codes_of, program_of}
 use Rattle.go_translation.specs.Translation.{expr_term}
 use Rattle.go_translation.proofs.Ranks.{program_ranked}
 use Rattle.run_rules.specs.Surroundings.{whole, Place, a_slot, in_slot, at_stmt}
-use Rattle.run_rules.specs.Programs.{linked_file, body_place}
+use Rattle.run_rules.specs.Programs.{body_place}
 use Rattle.run_rules.specs.Sites.{MarkRef, Where, Site, an_expr}
 use Rattle.run_rules.specs.FormTrees.{as_expr}
 use Rattle.written_literal.specs.LinkedNames.{Standing}

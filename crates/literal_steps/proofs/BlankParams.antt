@@ -1,14 +1,14 @@
 -- A literal whose unnamed parameters are named `_` is typed as it was, and does what it did.
 use Rattle.std.specs.Prelude.{◌≡◌, refl, ℕ, suc, Bool, true, false, List, [], ◌∷◌, ◌++◌, map, Option, Some, None, if◌then◌else◌}
-use mathlib.Core.Path.{ap, sym, ◌∙◌}
+use mathlib.Core.Path.{ap}
 use Rattle.go_tree.specs.declared.exprs.Rest.{Rest}
-use Rattle.go_tree.specs.Tree.{NameAt, Param, Sig, Expr, call, func_lit, Exprs, Stmts}
-use Rattle.scope_names.specs.Means.{Environment, is_blank}
+use Rattle.go_tree.specs.Tree.{NameAt, Param, Sig, call, func_lit, Exprs, Stmts}
+use Rattle.scope_names.specs.Means.{Environment}
 use Rattle.go_types.specs.Answers.{given, both, only_if, distinct_by}
 use Rattle.go_types.specs.Types.{GoType, FuncType}
-use Rattle.go_types.specs.Entities.{Env, Binds, defined_in, extend, in_block}
+use Rattle.go_types.specs.Entities.{Env, Binds, extend, in_block}
 use Rattle.go_types.specs.TypeNames.{type_meant, params_meant, func_type}
-use Rattle.go_types.specs.Operands.{Operand, a_function, spread}
+use Rattle.go_types.specs.Operands.{a_function, spread}
 use Rattle.go_types.specs.Declarations.{bound_names}
 use Rattle.go_types.specs.Bodies.{param_binding, param_binds, body_binds, body_ctx, is_body}
 use Rattle.go_types.specs.Typing.{parts, all_parts, stmts}

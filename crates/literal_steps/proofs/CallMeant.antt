@@ -1,31 +1,30 @@
 -- A call in the function's package means the literal that it becomes: all that the law of calls asks is found from the run and from the well-typed program.
 use Rattle.std.specs.Prelude.{◌≡◌, refl, ℕ, zero, suc, Bool, true, false, ◌&&◌, ◌||◌, List, [], ◌∷◌, ◌++◌, map, length, Option, Some, None, if◌then◌else◌, is_some, nat_eq, slice_get}
 use Rattle.std.specs.List.{list_any}
-use mathlib.Core.Path.{ap, ap₂, sym, ◌∙◌, subst}
+use mathlib.Core.Path.{ap, sym, ◌∙◌, subst}
 use Rattle.std.proofs.Common.{arith}
 use Rattle.go_tree.specs.declared.exprs.Rest.TheVariants.{Plain}
 use Rattle.go_tree.specs.declared.spans.Span.{Span}
 use Rattle.go_tree.specs.Tree.{NameAt, Param, Sig, Expr, ident, selector, call, func_lit, Exprs, no_exprs, expr_and, Stmts, const_decl, ValueSpecs, no_specs, spec}
-use Rattle.go_tree.specs.File.{Func, Decl, values, types, func, Receiver, TypeSpec}
+use Rattle.go_tree.specs.File.{Func, Decl, values, types, func, TypeSpec}
 use Rattle.go_tree.specs.Bare.{bare_expr}
 use Rattle.scope_names.specs.Means.{Environment, means, is_blank}
 use Rattle.scope_names.specs.FreeNames.{names_of, sig_names}
 use Rattle.scope_names.specs.Scopes.{not_blank, param_names, sig_declares}
 use Rattle.pkg_graph.specs.Package.{Package}
-use Rattle.pkg_graph.specs.Members.{Target, member, package_block}
+use Rattle.pkg_graph.specs.Members.{Target, package_block}
 use Rattle.go_types.specs.Answers.{given, both, meets, otherwise, is_among}
-use Rattle.go_types.specs.Types.{GoType, FuncType}
-use Rattle.go_types.specs.Entities.{Entity, function, World, Env, Binds, meaning, package_of, is_exported, exported, block_of, defined_in, extend, in_block}
+use Rattle.go_types.specs.Types.{GoType}
+use Rattle.go_types.specs.Entities.{Entity, function, Env, Binds, meaning, package_of, is_exported, exported, block_of, defined_in, extend, in_block}
 use Rattle.go_types.specs.TypeNames.{type_meant, func_type, params_meant}
-use Rattle.go_types.specs.Operands.{Operand, a_function, with_value, named_operand}
+use Rattle.go_types.specs.Operands.{a_function, with_value, named_operand}
 use Rattle.go_types.specs.Primary.{call_of, selected}
 use Rattle.go_types.specs.Declarations.{bound_names, binds_or}
 use Rattle.go_types.specs.Bodies.{Ctx, body_binds, body_ctx, is_body}
 use Rattle.go_types.specs.Typing.{package_before, parts, all_parts, place, stmts}
-use Rattle.go_types.specs.Programs as source
-use Rattle.go_types.specs.Programs.{SourceFile, SourcePackage, Program, Headed, headed, file_block, file_env}
+use Rattle.go_types.specs.Programs.{SourcePackage, Program, Headed, headed, file_env}
 use Rattle.go_types.specs.Collect.{env_of, collected}
-use Rattle.go_types.specs.WellTyped.{body_env, receiver_of, function_ok}
+use Rattle.go_types.specs.WellTyped.{body_env, receiver_of}
 use Rattle.go_types.proofs.Agreeing.{from_given, from_both, some_same}
 use Rattle.go_types.proofs.TypingBare.{parts-bare}
 use Rattle.typed_in_place.specs.Declared as declared
@@ -36,13 +35,11 @@ use Rattle.form_in_place.specs.Places.{Landing, results_in}
 use Rattle.form_in_place.specs.Written.{Written, WrittenBody, w_func_lit}
 use Rattle.form_in_place.proofs.Call.{declared_is_literal, literal_anywhere}
 use Rattle.form_in_place.proofs.InPlace.{parts_there}
-use Rattle.form_in_place.proofs.Uses.{among_append}
-use Rattle.go_kernel.specs.Kernel.{ImportPath, FuncName, Slot}
-use Rattle.go_kernel.specs.Kernel as kernel
+use Rattle.go_kernel.specs.Kernel.{FuncName}
 use Rattle.go_kernel.specs.Alike.{MeanSame}
 use Rattle.go_kernel.specs.Laws.{Ranked}
 use Rattle.go_translation.specs.Values.{path_of}
-use Rattle.go_translation.specs.Here.{Here, Location, defined_here}
+use Rattle.go_translation.specs.Here.{Here, defined_here}
 use Rattle.go_translation.specs.Calls.{function_named, named_callee, method_callee, to_function, to_literal}
 use Rattle.go_translation.specs.Operators as operators
 use Rattle.go_translation.specs.Facts.{typed_at}
@@ -57,11 +54,11 @@ use Rattle.form_meaning.specs.CallMeaning.{CallOf, declaration_here}
 use Rattle.form_meaning.proofs.Declared.{declared_code}
 use Rattle.form_meaning.proofs.MeaningLaws.{operand_law, deferred_law}
 use Rattle.run_rules.specs.Surroundings.{Place, Seen, is_local}
-use Rattle.run_rules.specs.Programs.{linked, linked_file, linked_imports, imports_mean, world, top_env, top_place, body_place, params_of, headed_func, with_receiver, param_types, receiver_types, no_type}
+use Rattle.run_rules.specs.Programs.{linked, linked_file, imports_mean, world, top_env, top_place, headed_func, with_receiver, param_types, receiver_types, no_type}
 use Rattle.run_rules.specs.Sites.{MarkRef, Site, Where, Inlinable, a_constant, an_alias, a_function, is_free_function, inlinable_in, nth_constant, constant_in_spec, less, aliased, expr_mark, name_mark, members_in, member_of, marked_as, qualifier, outer, outer_meaning}
 use Rattle.run_rules.specs.Calls.{Given, Call, list_of, givens, arguments, start, all_params, spread_call, args, given_params}
 use Rattle.run_rules.specs.Naming.{Names}
-use Rattle.run_rules.specs.FormTrees.{Form, as_expr, as_dropped, as_block, as_type, top}
+use Rattle.run_rules.specs.FormTrees.{Form, as_expr, as_dropped, as_block, as_type}
 use Rattle.run_rules.specs.Obstacles.{hidden_here, shadowed_here}
 use Rattle.run_rules.specs.Places.{params_seen}
 use Rattle.written_literal.specs.Within.{Within}
@@ -82,13 +79,13 @@ use Rattle.literal_steps.specs.FirstFunctions.{FirstFunction}
 use Rattle.literal_steps.specs.LiteralUse.{filled_sig, LiteralUse, NamesCallee, plainly, by_import, PlainCall}
 use Rattle.literal_steps.specs.LiteralUse as use_of
 use Rattle.literal_steps.specs.CalledAt.{CalledAt, Linked, PackagesServe}
-use Rattle.literal_steps.proofs.LocalValues.{in_blocks, extended, head_values}
+use Rattle.literal_steps.proofs.LocalValues.{extended, head_values}
 use Rattle.literal_steps.proofs.FilesKnown.{nothing_else}
 use Rattle.literal_steps.proofs.FirstFunctions.{first_function, spelled_found, package_found}
 use Rattle.literal_steps.proofs.FunctionCode.{FunctionMeant, function_meant, program_code}
-use Rattle.literal_steps.proofs.NoObstacle.{Clear, clear, AllGiven, one_call, each_given, no_receiver, TextParts, text_parts, unshadowed, accessible}
+use Rattle.literal_steps.proofs.NoObstacle.{clear, AllGiven, one_call, each_given, no_receiver, TextParts, text_parts, unshadowed, accessible}
 use Rattle.literal_steps.proofs.BlankParams.{literal_parts, called_term, deferred_call_term}
-use Rattle.literal_steps.proofs.FormBare.{names, kept, kept_sig, kept_body, written, form_bare}
+use Rattle.literal_steps.proofs.FormBare.{names, kept_sig, kept_body, written, form_bare}
 use Rattle.literal_steps.proofs.PartsHere.{params_here, body_here}
 
 same_number : (a : ℕ) → nat_eq a a ≡ true

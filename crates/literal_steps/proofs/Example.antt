@@ -7,7 +7,7 @@ use Rattle.std.proofs.Common.{arith}
 use Rattle.go_tree.specs.declared.spans.Span.{Span}
 use Rattle.go_tree.specs.declared.exprs.Rest.TheVariants.{Plain}
 use Rattle.go_tree.specs.declared.operators.BinOp.TheVariants.{Add}
-use Rattle.go_tree.specs.Tree.{NameAt, Param, named, Sig, Expr, ident, int_lit, call, func_lit, binary, no_exprs, expr_and, Stmt, eval, assign, return_, Stmts, no_stmts, stmt_and}
+use Rattle.go_tree.specs.Tree.{NameAt, named, Sig, Expr, ident, int_lit, call, func_lit, binary, no_exprs, expr_and, Stmt, eval, assign, return_, Stmts, no_stmts, stmt_and}
 use Rattle.go_tree.specs.File.{Func, func, File}
 use Rattle.const_eval.specs.declared.kinds.Kind.TheVariants as kind
 use Rattle.pkg_graph.specs.Package.{SourceTree, Package}
@@ -23,7 +23,7 @@ use Rattle.go_translation.specs.Packages.{paths_in, codes_of, program_of}
 use Rattle.go_translation.specs.Translation.{expr_term}
 use Rattle.go_translation.proofs.Ranks.{program_ranked}
 use Rattle.run_rules.specs.Surroundings.{whole, Place, a_slot, in_slot, at_stmt}
-use Rattle.run_rules.specs.Programs.{linked_file, body_place}
+use Rattle.run_rules.specs.Programs.{body_place}
 use Rattle.run_rules.specs.Sites.{MarkRef, Where, Site, an_expr}
 use Rattle.run_rules.specs.Calls.{body_seen}
 use Rattle.run_rules.specs.FormTrees.{as_expr, top}

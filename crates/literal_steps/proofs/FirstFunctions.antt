@@ -1,5 +1,5 @@
 -- A name that means a function's declaration among packages is declared by the function's header, the first of its package with the name.
-use Rattle.std.specs.Prelude.{◌≡◌, refl, ℕ, zero, suc, ◌+◌, Bool, true, false, ◌&&◌, ◌||◌, List, [], ◌∷◌, ◌++◌, map, Option, Some, None, if◌then◌else◌, bytes_eq, nat_eq, is_some, slice_get}
+use Rattle.std.specs.Prelude.{◌≡◌, refl, ℕ, suc, ◌+◌, Bool, true, false, ◌&&◌, ◌||◌, List, [], ◌∷◌, ◌++◌, map, Option, Some, None, if◌then◌else◌, bytes_eq, nat_eq, is_some, slice_get}
 use mathlib.Core.Path.{ap, sym, ◌∙◌, subst}
 use Rattle.std.proofs.Common.{arith}
 use Rattle.std.proofs.lemmas.Slice.Eq.{bytes_eq-Decides}
@@ -7,7 +7,7 @@ use Rattle.go_tree.specs.Tree.{NameAt, TypeExpr, Exprs, no_exprs, const_decl, va
 use Rattle.go_tree.specs.File.{TypeSpec, Receiver, Func, Decl, values, types, func}
 use Rattle.scope_names.specs.FreeNames.{names_of}
 use Rattle.scope_names.specs.Means.{Environment, means, is_blank, binding, or_else}
-use Rattle.pkg_graph.specs.Members.{Target, local, imported, member, predeclared, specs_names, unless_method, block_names, items_from, decls_from}
+use Rattle.pkg_graph.specs.Members.{Target, member, specs_names, unless_method, block_names, items_from, decls_from}
 use Rattle.go_types.specs.Answers.{is_among}
 use Rattle.go_types.specs.Entities.{Entity}
 use Rattle.go_types.specs.Bodies.{no_values}

@@ -1,14 +1,13 @@
 -- The literal that a call becomes in the function's package is, but for spans, the function's own literal with its names as they are at the call.
 use Rattle.std.specs.Prelude.{◌≡◌, refl, ℕ, suc, Bool, true, false, ◌||◌, List, [], ◌∷◌, ◌++◌, map, Option, Some, None, if◌then◌else◌, nat_eq, bytes_eq, is_some}
 use Rattle.std.specs.Option.{option_map}
-use mathlib.Core.Path.{ap, sym, ◌∙◌, subst}
+use mathlib.Core.Path.{ap, sym, ◌∙◌}
 use Rattle.std.proofs.Common.{arith}
 use Rattle.go_tree.specs.declared.exprs.Rest.TheVariants.{Plain}
 use Rattle.go_tree.specs.Tree.{NameAt, Param, Sig, Expr, ident, selector, call, func_lit, Exprs, no_exprs, expr_and, Stmts}
-use Rattle.go_tree.specs.Bare.{bare_name, bare_type, bare_param, bare_expr, bare_exprs, bare_stmts}
+use Rattle.go_tree.specs.Bare.{bare_type, bare_param, bare_expr, bare_exprs, bare_stmts}
 use Rattle.scope_names.specs.Means.{Environment}
 use Rattle.pkg_graph.specs.Package.{Package}
-use Rattle.param_choice.specs.Chosen.{has}
 use Rattle.go_types.specs.Answers.{given}
 use Rattle.go_types.specs.Entities.{Entity, World}
 use Rattle.std.proofs.lemmas.Slice.Eq.{bytes_eq-Decides}
@@ -19,19 +18,19 @@ use Rattle.go_types.proofs.Agreeing.{from_given}
 use Rattle.run_rules.specs.BodyItems.{number_of}
 use Rattle.run_rules.specs.Surroundings.{Use, Place, local_at, declared_at, is_local, Seen, seen, seen_type, seen_stmt}
 use Rattle.run_rules.specs.Places.{params_seen, stmts_seen}
-use Rattle.run_rules.specs.Programs.{numbered, numbered_from}
+use Rattle.run_rules.specs.Programs.{numbered_from}
 use Rattle.run_rules.specs.Rewriting.{Changes, new_label, new_params, new_stmts}
-use Rattle.run_rules.specs.Sites.{MarkRef, Site, Where, qualifier, outer, mark_of}
-use Rattle.run_rules.specs.Naming.{Names, names_by}
+use Rattle.run_rules.specs.Sites.{MarkRef, Site, qualifier, outer, mark_of}
+use Rattle.run_rules.specs.Naming.{Names}
 use Rattle.run_rules.specs.Calls.{Given, Call, blank, list_of, exprs_of, start, start_with, chosen_binds, bound_from, bound_params, given_params, param_name, all_params, declared_place, receiver_in, arguments, args}
-use Rattle.run_rules.specs.FormTrees.{LiteralForm, a_name, outside_name, outside_selector, top}
+use Rattle.run_rules.specs.FormTrees.{a_name, outside_name, top}
 use Rattle.run_rules.specs.Forms.{body_changes, param_number, chosen_arg, literal_param, literal_params, literal_args, new_body}
 use Rattle.written_literal.specs.Fine.{keeping}
-use Rattle.written_literal.specs.PartsTyped.{selector_there, expr_there, changes_there}
-use Rattle.literal_steps.specs.AlikeChanges.{IsAlike, AllAlike}
+use Rattle.written_literal.specs.PartsTyped.{changes_there}
+use Rattle.literal_steps.specs.AlikeChanges.{AllAlike}
 use Rattle.literal_steps.specs.LiteralUse.{filled, filled_sig, LiteralUse, call_of, chosen_of, names_of_form, PlainCall}
 use Rattle.literal_steps.proofs.WalksBare.{params-bare, stmts-bare}
-use Rattle.literal_steps.proofs.NoObstacle.{named_so, AllGiven, one_call, each_given, no_receiver}
+use Rattle.literal_steps.proofs.NoObstacle.{AllGiven, one_call, each_given, no_receiver}
 
 map_then : {A B C : Type 0} (f : A → B) (g : B → C) (xs : List A) → map (λ x. g (f x)) xs ≡ map g (map f xs)
 map_then f g [] = refl
@@ -152,7 +151,6 @@ module _ {S : Type 0} (same : S → S → Bool) (commented : ℕ → ℕ → S �
 
     args_alone : args same rs c ≡ list_of v.args
     args_alone = (λ i. arguments c.new (is_some (v.free i)) c.at.env (v.tree_is i)) ∙ ap (λ l. l ++ list_of v.args) (no_receiver_in v.called)
-
 
     abbrev params_if : Bool → List (Param S)
     params_if b = if b then map (literal_param same rs c names ch) (all_params same rs c) else map (λ g. literal_param same rs c names ch g.param) (bound_params same rs c ch)

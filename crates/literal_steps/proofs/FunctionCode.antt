@@ -1,20 +1,20 @@
 -- The program has a function's code under its name, if its header is the first of its package with the name; and the name means the function.
-use Rattle.std.specs.Prelude.{◌≡◌, refl, ℕ, Bool, true, false, not, ◌&&◌, ◌||◌, List, [], ◌∷◌, ◌++◌, Option, Some, None, if◌then◌else◌, bytes_eq, nat_eq, is_some}
+use Rattle.std.specs.Prelude.{◌≡◌, refl, ℕ, Bool, true, false, ◌&&◌, ◌||◌, List, [], ◌∷◌, ◌++◌, Option, Some, None, if◌then◌else◌, bytes_eq, nat_eq, is_some}
 use mathlib.Core.Path.{ap, ap₂, sym, ◌∙◌, subst}
 use Rattle.std.proofs.Common.{arith}
 use Rattle.std.proofs.lemmas.Slice.Eq.{bytes_eq-Decides}
 use Rattle.go_tree.specs.File.{Receiver, Func as Function}
 use Rattle.scope_names.specs.Means.{Environment, means, is_blank, binding}
-use Rattle.go_types.specs.Answers.{given, meets, only_if, otherwise, unless_missing, is_among}
+use Rattle.go_types.specs.Answers.{given, only_if, otherwise, unless_missing, is_among}
 use Rattle.go_types.specs.Types.{FuncType}
 use Rattle.go_types.specs.Entities.{Entity, function, World, Binds, block_of}
 use Rattle.go_types.specs.TypeNames.{func_type}
 use Rattle.go_types.specs.Declarations.{bind_each}
 use Rattle.go_types.specs.Bodies.{body_binds}
 use Rattle.go_types.specs.Programs.{constants, variables, a_type_spec, a_func, func_of, Header, Headed, header_names, Program, headed}
-use Rattle.go_types.specs.Collect.{env_of, collected, valued_world, types_declared, DeclaredTypes, declared_by, func_declared, function_declared, may_be_main, good_entity, package_constants, package_variables, binds_or_refused}
+use Rattle.go_types.specs.Collect.{env_of, collected, valued_world, types_declared, DeclaredTypes, declared_by, func_declared, function_declared, may_be_main, good_entity, package_constants, package_variables}
 use Rattle.go_types.specs.MethodDeclarations.{DeclaredMethod, MethodName, methods_from, receiver_type}
-use Rattle.go_types.specs.WellTyped.{is_method, header_ok, method_ok, function_ok, body_ok, well_typed}
+use Rattle.go_types.specs.WellTyped.{is_method, header_ok, method_ok, function_ok, well_typed}
 use Rattle.go_types.proofs.Agreeing.{from_given, from_only, some_same}
 use Rattle.typed_in_place.specs.Declared.{FirstWith, this_one, a_later_one, HasNumber}
 use Rattle.typed_in_place.proofs.Headers.{value_phase}

@@ -1,24 +1,24 @@
 -- What a body declares are variables and constants: no type, function or package.
-use Rattle.std.specs.Prelude.{◌≡◌, refl, ℕ, ◌+◌, Bool, true, false, not, ◌&&◌, ◌||◌, List, [], ◌∷◌, ◌++◌, length, Option, Some, None, if◌then◌else◌, bytes_eq, is_some}
+use Rattle.std.specs.Prelude.{◌≡◌, refl, ℕ, ◌+◌, Bool, true, false, not, ◌&&◌, ◌||◌, List, [], ◌∷◌, ◌++◌, length, Option, Some, None, if◌then◌else◌, bytes_eq}
 use mathlib.Core.Path.{ap, sym, ◌∙◌}
 use Rattle.std.proofs.Common.{arith}
 use Rattle.std.proofs.lemmas.Slice.Eq.{bytes_eq-Decides}
 use Rattle.go_tree.specs.Tree.{NameAt, Param, Sig, Expr, Exprs, Stmt, const_decl, var_decl, empty, eval, step, assign, define, return_, break_, continue_, inner, if_, for_, range_, switch, defer, label, StmtOption, no_stmt, some_stmt, RangeLeft, nothing, assigns, defines, ValueSpecs, no_specs, spec, TypeExpr}
 use Rattle.scope_names.specs.Means.{Environment, means, is_blank, binding}
-use Rattle.scope_names.specs.FreeNames.{names_of, sig_names, declared, declared_option, defined}
+use Rattle.scope_names.specs.FreeNames.{names_of, sig_names, declared, defined}
 use Rattle.go_types.specs.Answers.{given, both, only_if, is_among}
 use Rattle.go_types.specs.Types.{GoType, FuncType}
 use Rattle.go_types.specs.Defined.{Defined}
 use Rattle.go_types.specs.Entities.{run, exact, shift, Entity, variable, constant, refused, Env, Binds, meaning, defined_in, extend, in_block, is_declared_here}
-use Rattle.go_types.specs.Operands.{Operand, Typed, typed, with_value, all_typed, settled, fits}
+use Rattle.go_types.specs.Operands.{Operand, Typed, typed, all_typed, settled}
 use Rattle.go_types.specs.Declarations.{Declared, no_names, bound_names, bind_all, bind_each, constant_entity, variable_entity, defined_by, assigns_to, may_declare, names_once, constants_declared, variables_declared, some_declared, new_constants, new_variables, new_by_define, binds_or, binds_of, and_then, unused_after, Repeated, nothing_to_repeat}
 use Rattle.go_types.specs.Bodies.{param_binding, param_binds, body_binds, no_values}
 use Rattle.go_types.specs.Statements.{range_types, range_binds, new_by_range, right_values}
 use Rattle.go_types.specs.TypeNames.{written_type, func_type}
-use Rattle.go_types.specs.Typing.{parts, all_parts, places, used_variables, declares, declares_first, declares_constants, declares_variables, range_declares}
+use Rattle.go_types.specs.Typing.{parts, all_parts, places, used_variables, declares, declares_constants, declares_variables, range_declares}
 use Rattle.go_types.proofs.Agreeing.{from_given, from_both, from_only, some_same}
 use Rattle.form_in_place.specs.Bound.{stmt_binds, first_binds, range_left_binds, literal_binds, variable_binds}
-use Rattle.form_in_place.proofs.Uses.{among_append, among_left}
+use Rattle.form_in_place.proofs.Uses.{among_append}
 use Rattle.written_literal.specs.Within.{Grows}
 use Rattle.written_literal.proofs.WithinLaws.{behind_front}
 use Rattle.literal_steps.specs.TypedParts.{is_value, all_values, LocalValues}

@@ -2,22 +2,22 @@
 use Rattle.std.specs.Prelude.{◌≡◌, refl, ℕ, Bool, true, false, not, ◌&&◌, List, [], ◌∷◌, ◌++◌, map, Option, Some, None, if◌then◌else◌, is_none, is_some, nat_eq}
 use mathlib.Core.Path.{ap, sym, ◌∙◌, subst}
 use Rattle.std.proofs.Common.{arith}
-use Rattle.go_tree.specs.Tree.{Param, TypeExpr, Expr}
+use Rattle.go_tree.specs.Tree.{Param, Expr}
 use Rattle.pkg_graph.specs.Package.{Package}
 use Rattle.param_choice.specs.Chosen.{has}
 use Rattle.go_types.specs.Answers.{given, one_of}
 use Rattle.go_types.proofs.Agreeing.{from_given, some_same}
-use Rattle.run_rules.specs.Surroundings.{Place, Seen, seen_type}
+use Rattle.run_rules.specs.Surroundings.{Seen, seen_type}
 use Rattle.run_rules.specs.Places.{params_seen}
 use Rattle.run_rules.specs.Programs.{numbered, numbered_from, with_receiver}
-use Rattle.run_rules.specs.Sites.{MarkRef, Site, an_expr, Part}
-use Rattle.run_rules.specs.Naming.{Named, Names, names_by}
+use Rattle.run_rules.specs.Sites.{MarkRef, Site}
+use Rattle.run_rules.specs.Naming.{Named, names_by}
 use Rattle.run_rules.specs.Calls.{Given, Call, all_params, given_params, spread_call, body_seen, has_receiver}
 use Rattle.run_rules.specs.Cycles.{is_recursive}
-use Rattle.run_rules.specs.FormTrees.{FormKind, ConstForm, TypeForm, ExprForm, BlockForm, TailForm, LiteralForm, Form, top}
+use Rattle.run_rules.specs.FormTrees.{FormKind, ExprForm, BlockForm, TailForm, LiteralForm, Form, top}
 use Rattle.run_rules.specs.Forms.{form_tree, literal_tree}
 use Rattle.run_rules.specs.Obstacles.{Obstacle, Recursive, CommentInside, Spread, Repeated, obstacle_if, not_accessible, internal_package, shadowed, shadowed_here, hidden_here, is_repeated, first_answer}
-use Rattle.run_rules.specs.Reduced.{Reduced, becomes, kept, types_text, param_text, result_types_text, text_taken, converts_somewhere, needed_by, range_of, names_in_form, call_obstacle, is_free_form, first_free, kept_by, reduced_to, reduced_call, reduced_function, reduced_in}
+use Rattle.run_rules.specs.Reduced.{Reduced, becomes, kept, types_text, param_text, result_types_text, text_taken, converts_somewhere, needed_by, range_of, names_in_form, call_obstacle, is_free_form, first_free, kept_by, reduced_to, reduced_function, reduced_in}
 use Rattle.literal_steps.specs.LiteralUse.{LiteralUse, call_of, chosen_of}
 
 both_none : {A : Type 0} (o rest : Option A) → one_of o rest ≡ None → (o ≡ None) × (rest ≡ None)

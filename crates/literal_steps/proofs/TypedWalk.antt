@@ -3,10 +3,9 @@ use Rattle.std.specs.Prelude.{◌≡◌, refl, ℕ, suc, ◌+◌, Bool, true, fa
 use Rattle.std.specs.List.{list_all}
 use mathlib.Core.Path.{ap, sym, ◌∙◌, subst}
 use Rattle.std.proofs.Common.{arith}
-use Rattle.go_tree.specs.declared.operators.BinOp.{BinOp}
 use Rattle.go_tree.specs.Tree.{NameAt, Param, Sig, TypeExpr, Expr, ident, int_lit, rune_lit, str_lit, composite, selector, index, slice, call, func_lit, type_operand, unary, binary, star, Exprs, no_exprs, expr_and, ExprOption, no_expr, some_expr, Elems, no_elems, elem, Value, plain, braced, ValueOption, no_value, some_value, Stmt, const_decl, var_decl, empty, eval, step, assign, define, return_, break_, continue_, inner, if_, for_, range_, switch, defer, label, Stmts, no_stmts, stmt_and, StmtOption, no_stmt, some_stmt, BlockOption, no_block, some_block, RangeLeft, nothing, assigns, defines, Arms, no_arms, arm, Cases, no_cases, case, ValueSpecs, no_specs, spec}
 use Rattle.go_words.specs.Terminals.{level_of}
-use Rattle.scope_names.specs.Means.{means, is_blank}
+use Rattle.scope_names.specs.Means.{is_blank}
 use Rattle.scope_names.specs.Scopes as scopes
 use Rattle.scope_names.specs.Scopes.{not_blank, sig_declares}
 use Rattle.scope_names.specs.FreeNames.{names_of, sig_names, declared, declared_option, defined}
@@ -18,13 +17,13 @@ use Rattle.go_types.specs.TypeNames.{resolved, type_meant, params_meant, func_ty
 use Rattle.go_types.specs.Operands.{Operand, Typed, typed, with_value, all_typed, named_operand}
 use Rattle.go_types.specs.Operators.{unary_of, binary_of, star_of}
 use Rattle.go_types.specs.Primary.{selected, index_of, sliced, call_of, stands_alone, may_be_deferred}
-use Rattle.go_types.specs.Literals.{Element, is_struct, field_key, built, built_inside, key_type, inner_type, literal_type, unkeyed, of_field, keyed}
+use Rattle.go_types.specs.Literals.{Element, is_struct, field_key, built, built_inside, key_type, inner_type, literal_type, of_field, keyed}
 use Rattle.go_types.specs.Declarations.{Declared, no_names, bind_all, bind_each, variable_entity, may_declare, variables_declared, new_variables, new_by_define, names_once, some_declared, defined_by, binds_or, binds_of, and_then, unused_after, all_used}
 use Rattle.go_types.specs.Bodies.{Ctx, in_loop, in_switch, body_binds, body_ctx, no_values, literal_env, is_body, labelled, returns}
 use Rattle.go_types.specs.Statements.{Target, blank, target_at, stores_all, updates, step_op, one_more, right_values, is_test, is_condition, tag_of, choice, package_before, is_blank_name, is_panic, is_define, is_empty_stmt, range_types, range_assigns, case_value, has_last, Clauses}
 use Rattle.go_types.specs.Typing.{parts, all_parts, bound, elements, element, with_key, place, places, used, used_option, used_stmts, used_first, used_block, used_arms, used_cases, used_variables, declares, declares_first, declares_variables, range_declares, targets, stmt, stmts, first, block, is_call, ranges, arms, clauses}
-use Rattle.go_types.proofs.Agreeing.{from_given, from_both, from_only, some_same}
-use Rattle.typed_in_place.proofs.Rising.{and_first, and_second}
+use Rattle.go_types.proofs.Agreeing.{from_given, from_both, from_only}
+use Rattle.typed_in_place.proofs.Rising.{and_second}
 use Rattle.form_in_place.specs.Bound.{stmt_binds, first_binds, range_left_binds, literal_binds, variable_binds}
 use Rattle.run_rules.specs.Surroundings.{Use, whole, stored, updated, called, deferred_call, alone, other, a_slot, Slot, Place, Seen, seen, seen_type, seen_stmt, alike, into_or, into_type, head_use, later_uses, arg_uses, unary_use, operand_use, first_operand_use, right_uses, every_use, value_use, return_uses, elem_use, key_use, inner_slot, last_slot, in_slot, callee_place, comma_slot, elem_closed, after_stmt, after_first, first_declares, left_declares, looping, switching, in_heading, at_stmt, plain_slot, ranged, in_literal, after_variables, is_local, is_old}
 use Rattle.run_rules.specs.Surroundings as around
@@ -32,10 +31,9 @@ use Rattle.run_rules.specs.Places.{type_seen, written_seen, params_seen, sig_see
 use Rattle.go_types.specs.Declarations.{nothing_to_repeat}
 use Rattle.written_literal.specs.Fine as fine
 use Rattle.written_literal.specs.Fine.{is_package}
-use Rattle.written_literal.specs.Within.{Grows}
 use Rattle.written_literal.specs.Listing.{Listing}
 use Rattle.written_literal.proofs.ListedHeads.{listing}
-use Rattle.literal_steps.specs.TypedParts.{is_value, LocalValues, NameStands, ElementsTyped, TypeStands, PartStands, AllStand, NoConstants, AllWithoutConstants, StandIn}
+use Rattle.literal_steps.specs.TypedParts.{is_value, LocalValues, NameStands, TypeStands, PartStands, AllStand, AllWithoutConstants, StandIn}
 use Rattle.literal_steps.proofs.LocalValues.{in_blocks, extended, stmt_values, first_values, left_values, head_values, variable_values}
 
 -- ---- answers

@@ -1,6 +1,7 @@
--- The place of a call, as the rules of typing and the translation have it, and the packages around it (Go specification,
--- Declarations and scope; Packages).
+-- The place of a call, as the rules of typing and the translation have it, and the packages around it (Go
+-- specification, Declarations and scope; Packages).
 use Rattle.std.specs.Prelude.{◌≡◌, ℕ, Bool, true, false, List, Some, None, slice_get}
+use Rattle.scope_names.specs.FreeNames.{names_of}
 use Rattle.scope_names.specs.Means.{means, is_blank}
 use Rattle.pkg_graph.specs.Package.{Package}
 use Rattle.go_types.specs.Entities.{meaning}
@@ -8,22 +9,21 @@ use Rattle.go_types.specs.WellTyped.{well_typed}
 use Rattle.go_translation.specs.Here.{Here}
 use Rattle.go_translation.specs.Packages as translated
 use Rattle.go_translation.specs.Packages.{sources, paths_in, are_distinct}
+use Rattle.run_rules.specs.Calls.{body_seen}
+use Rattle.run_rules.specs.FormTrees.{top}
+use Rattle.run_rules.specs.Places.{sig_seen}
 use Rattle.run_rules.specs.Programs.{linked, world, top_env}
 use Rattle.run_rules.specs.Sites.{MarkRef, Site}
 use Rattle.run_rules.specs.Surroundings.{is_local}
 use Rattle.written_literal.specs.LinkedNames.{Standing}
 use Rattle.constant_steps.specs.Alone.{PackageAt}
 use Rattle.constant_steps.specs.PlainUse.{linked_at}
-use Rattle.scope_names.specs.FreeNames.{names_of}
-use Rattle.run_rules.specs.Calls.{body_seen}
-use Rattle.run_rules.specs.FormTrees.{top}
-use Rattle.run_rules.specs.Places.{sig_seen}
 use Rattle.literal_steps.specs.ServedParts.{AllServed, AllAway}
 use Rattle.literal_steps.specs.LiteralUse.{LiteralUse, call_of, names_of_form}
 
 module _ {S : Type 0} (rs : List (Package S)) (ms : List (translated.Package S)) (x : Site S) where
-  -- The use stands outside constant groups, in the world of its packages. Names that aren't declared around it mean what
-  -- they do at the top of its file, and are no local variables.
+  -- The use stands outside constant groups, in the world of its packages. Names that aren't declared around it mean
+  -- what they do at the top of its file, and are no local variables.
   pub record CalledAt (c : Here) : Type 0 where
     pub world_is : c.env.world ≡ world rs
     pub home_is : c.env.home ≡ x.at.number
@@ -35,8 +35,8 @@ module _ {S : Type 0} (rs : List (Package S)) (ms : List (translated.Package S))
     pub blank : (n : List ℕ) → is_blank n ≡ true → is_local x.place n ≡ false
     pub locals : (n : List ℕ) → is_local x.place n ≡ false → means c.locals n ≡ None
 
-  -- The packages of the run are linked to these packages of the program, which are distinct and well typed; the files of
-  -- the use and of the function stand in one of them.
+  -- The packages of the run are linked to these packages of the program, which are distinct and well typed; the files
+  -- of the use and of the function stand in them.
   pub record Linked (same : S → S → Bool) (commented : ℕ → ℕ → S → Bool) (marks : List MarkRef)
       (u : LiteralUse same commented rs marks x) : Type 0 where
     pub sources_are : sources ms ≡ linked rs

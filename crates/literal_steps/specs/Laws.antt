@@ -29,11 +29,9 @@ use Rattle.run_rules.specs.Programs.{top_env}
 use Rattle.run_rules.specs.Places.{stmts_seen}
 use Rattle.run_rules.specs.Rewriting.{Changes, new_stmts}
 use Rattle.run_rules.specs.Sites.{MarkRef, Where, Site}
-use Rattle.run_rules.specs.Naming.{Names}
-use Rattle.run_rules.specs.FormTrees.{as_expr}
+use Rattle.run_rules.specs.Naming.{Names, names_by}
+use Rattle.run_rules.specs.FormTrees.{LiteralForm, as_expr}
 use Rattle.run_rules.specs.Forms.{literal_tree}
-use Rattle.run_rules.specs.Naming.{names_by}
-use Rattle.run_rules.specs.FormTrees.{LiteralForm}
 use Rattle.run_rules.specs.Obstacles.{shadowed_here, first_answer}
 use Rattle.run_rules.specs.Reduced.{text_taken, names_in_form, call_obstacle}
 use Rattle.written_literal.specs.Within.{Within}
@@ -52,16 +50,17 @@ use Rattle.literal_steps.specs.CalledAt.{CalledAt, Linked, PackagesServe}
 
 -- ---- typed bodies
 
--- Statements that are typed, where the names around them mean variables and constants: each part of them that the walk
--- lists is typed where it stands, if none of them declares constants.
+-- Statements that are typed, where the names around them mean variables and constants: each part of them that the
+-- walk lists is typed where it stands, if none of them declares constants.
 abbrev pub TypedPartsStand : Type 0
 TypedPartsStand =
     (home : ℕ) (p : Place Span) (c : Ctx) (before : Bool) (b : Stmts Span) (ends : Bool) →
     LocalValues home p.env p.bound → stmts c p.env before b ≡ Some ends → StandIn home (stmts_seen p b)
 
--- So a typed body without groups of constants is, where no obstacle is found in it, what a run writes for it at a use may
--- be: with names for packages that serve there; from another package the function's own package too has a name that
--- serves, fields that are selected are seen everywhere, where they are exported, and there are no composite literals.
+-- So for a typed body without groups of constants, in which no obstacle is found, what a run writes at a use may be
+-- written there, where the packages that it names have names that serve. From another package the function's own
+-- package too has a name that serves, fields that are selected are seen everywhere, where they are exported, and
+-- there are no composite literals.
 abbrev pub TypedBodiesAreWritten : Type 0
 TypedBodiesAreWritten =
     (ps : List (Package Span)) (home there : Where Span) (at : Place Span) (names : Names) (new : Span) (all : World)
@@ -112,8 +111,8 @@ AlikeChangesAreAlike =
     (c d : Changes Span) (p : Place Span) (b : Stmts Span) → AllAlike c d (stmts_seen p b) →
     bare_stmts (new_stmts c p b) ≡ bare_stmts (new_stmts d p b)
 
--- A name of a package block that means a function's declaration by its numbers is declared by the function's header, the
--- first of the package that has the name.
+-- A name of a package block that means a function's declaration by its numbers is declared by the function's header,
+-- the first of the package that has the name.
 abbrev pub FunctionsAreFirst : Type 0
 FunctionsAreFirst =
     (n : List ℕ) → is_blank n ≡ false → (p : SourcePackage Span) (k : ℕ) (ps : Program Span) (a f d i : ℕ)
@@ -131,7 +130,8 @@ LiteralsAreTypedAlike =
     (same : Span → Span → Bool) (commented : ℕ → ℕ → Span → Bool) (rs : List (Package Span)) (marks : List MarkRef)
     (x : Site Span) (u : LiteralUse same commented rs marks x) (v : PlainCall same commented rs marks x u)
     (ms : List (translated.Package Span)) → Linked rs ms x same commented marks u →
-    (c : Here) → CalledAt rs ms x c → PackagesServe rs ms x same commented marks u c → (e : Expr Span) → u.form ≡ as_expr e → parts c.env u.tree ≡ parts c.env e
+    (c : Here) → CalledAt rs ms x c → PackagesServe rs ms x same commented marks u c →
+    (e : Expr Span) → u.form ≡ as_expr e → parts c.env u.tree ≡ parts c.env e
 
 -- And under free prices the call means the literal, where the packages are ranked and the function is free.
 abbrev pub CallsMeanTheirLiterals : Type 0
@@ -139,7 +139,8 @@ CallsMeanTheirLiterals =
     (same : Span → Span → Bool) (commented : ℕ → ℕ → Span → Bool) (rs : List (Package Span)) (marks : List MarkRef)
     (x : Site Span) (u : LiteralUse same commented rs marks x) (v : PlainCall same commented rs marks x u)
     (ms : List (translated.Package Span)) → Linked rs ms x same commented marks u →
-    (c : Here) → CalledAt rs ms x c → PackagesServe rs ms x same commented marks u c → (e : Expr Span) → u.form ≡ as_expr e →
+    (c : Here) → CalledAt rs ms x c → PackagesServe rs ms x same commented marks u c →
+    (e : Expr Span) → u.form ≡ as_expr e →
     (free : FuncName → Bool) (A : ℕ) (rank : FuncName → ℕ) → Ranked (program_of (codes_of ms)) free rank →
     free (function_named (path_of (paths_in ms) u.home.number) v.name) ≡ true → (t : GoType) →
     MeanSame (program_of (codes_of ms)) free A (suc (rank (function_named (path_of (paths_in ms) u.home.number) v.name)))
@@ -151,5 +152,6 @@ DeferredCallsMeanTheirLiterals =
     (same : Span → Span → Bool) (commented : ℕ → ℕ → Span → Bool) (rs : List (Package Span)) (marks : List MarkRef)
     (x : Site Span) (u : LiteralUse same commented rs marks x) (v : PlainCall same commented rs marks x u)
     (ms : List (translated.Package Span)) → Linked rs ms x same commented marks u →
-    (c : Here) → CalledAt rs ms x c → PackagesServe rs ms x same commented marks u c → (e : Expr Span) → u.form ≡ as_expr e → (free : FuncName → Bool) (A : ℕ) →
+    (c : Here) → CalledAt rs ms x c → PackagesServe rs ms x same commented marks u c →
+    (e : Expr Span) → u.form ≡ as_expr e → (free : FuncName → Bool) (A : ℕ) →
     MeanSame (program_of (codes_of ms)) free A 0 (deferred_term c u.tree) (deferred_term c e)

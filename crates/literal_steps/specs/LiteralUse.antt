@@ -7,10 +7,9 @@ use Rattle.go_tree.specs.File.{Func}
 use Rattle.go_types.specs.Entities.{is_exported}
 use Rattle.pkg_graph.specs.Package.{Package}
 use Rattle.param_choice.specs.Chosen.{has}
-use Rattle.run_rules.specs.Calls.{Call, param_name, list_of, chosen, spread_call, body_seen}
-use Rattle.run_rules.specs.FormTrees.{LiteralForm, Form, top}
+use Rattle.run_rules.specs.Calls.{Call, param_name, list_of, chosen, spread_call}
+use Rattle.run_rules.specs.FormTrees.{LiteralForm, Form}
 use Rattle.run_rules.specs.Naming.{Named, Names, names_by}
-use Rattle.run_rules.specs.Places.{sig_seen}
 use Rattle.run_rules.specs.Reduced.{becomes, call_at, names_in_form, reduced}
 use Rattle.run_rules.specs.Sites.{MarkRef, Where, Site, a_function, an_expr, where_is, inlinable, qualifier, expr_mark}
 
@@ -51,8 +50,8 @@ module _ {S : Type 0} (same : S → S → Bool) (commented : ℕ → ℕ → S �
     abbrev pub names_of_form : Names
     names_of_form = names_by (names_in_form same commented rs marks x call_of chosen_of LiteralForm)
 
-    -- the expression before the arguments names the function: plainly, in the function's package, or with the name of an
-    -- import before it
+    -- the expression before the arguments names the function: plainly, in the function's package, or with the name of
+    -- an import before it
     pub data NamesCallee (n : List ℕ) : Expr S → Type 0 where
       plainly : {s : S} → u.home.number ≡ x.at.number → NamesCallee n (ident s n)
       by_import :

@@ -2,7 +2,7 @@
 -- and what means nothing in a file (Go specification, Qualified identifiers; Import declarations; Constant
 -- declarations).
 use Rattle.std.specs.Prelude.{◌≡◌, ℕ, true, false, List, [], ◌∷◌, Some, None, is_some, nat_eq}
-use Rattle.go_tree.specs.Tree.{TypeExpr, named, pointer, slice_type, map_type, struct_type, Fields, no_fields, field, Expr, ident, composite, selector, Stmt, const_decl}
+use Rattle.go_tree.specs.Tree.{TypeExpr, named, pointer, slice_type, map_type, struct_type, Fields, no_fields, field, ident, composite, selector, const_decl}
 use Rattle.scope_names.specs.Means.{Environment, means}
 use Rattle.pkg_graph.specs.Package.{Package}
 use Rattle.go_types.specs.Answers.{given}
@@ -17,8 +17,8 @@ use Rattle.run_rules.specs.Sites.{Where, outer, outer_meaning, mark_of, qualifie
 use Rattle.run_rules.specs.Naming.{Names}
 use Rattle.written_literal.specs.Meant.{Serves}
 
--- Names for packages at a use, where names mean `there` and those of `around` are declared around it; the parts stand in
--- the file `home`.
+-- Names for packages at a use, where names mean `there` and those of `around` are declared around it; the parts stand
+-- in the file `home`.
 module _ {S : Type 0} (ps : List (Package S)) (home : Where S) (names : Names) (there : Environment Entity)
     (around : List (List ℕ)) where
   -- the package that a name before a dot means, if it means one, has a name that serves
@@ -54,8 +54,8 @@ module _ {S : Type 0} (ps : List (Package S)) (home : Where S) (names : Names) (
   AllServed [] = Unit {0}
   AllServed (x ∷ xs) = PartServed x × AllServed xs
 
--- What is asked besides where the use stands in another package, the one with the number `to`: the name of the parts' own
--- package serves where a name of it stands plainly; fields that are selected are seen everywhere, where they are
+-- What is asked besides where the use stands in another package, the one with the number `to`: the name of the parts'
+-- own package serves where a name of it stands plainly; fields that are selected are seen everywhere, where they are
 -- exported; and there are no composite literals.
 module _ {S : Type 0} (ps : List (Package S)) (home : Where S) (to : ℕ) (names : Names) (there : Environment Entity)
     (around : List (List ℕ)) where

@@ -1,7 +1,7 @@
 -- The parts of a typed body, one by one: what names and types mean where they stand (Go specification, Declarations and
 -- scope; Qualified identifiers; Composite literals; Expression statements; Defer statements).
-use Rattle.std.specs.Prelude.{◌≡◌, ℕ, Bool, true, false, ◌&&◌, List, [], ◌∷◌, Option, Some, None, is_some}
-use Rattle.go_tree.specs.Tree.{NameAt, TypeExpr, Expr, ident, composite, selector, func_lit, Elems, Stmt, const_decl, eval, defer}
+use Rattle.std.specs.Prelude.{◌≡◌, ℕ, Bool, true, false, ◌&&◌, List, [], ◌∷◌, Option, Some, is_some}
+use Rattle.go_tree.specs.Tree.{NameAt, TypeExpr, ident, composite, selector, func_lit, Elems, const_decl, eval, defer}
 use Rattle.scope_names.specs.Means.{is_blank}
 use Rattle.scope_names.specs.FreeNames.{names_of}
 use Rattle.go_types.specs.Answers.{is_among}

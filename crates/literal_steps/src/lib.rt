@@ -1,6 +1,6 @@
-//! A call that becomes a literal of its function, from the use and its mark to the meaning of both: what a well-typed
-//! program says of the function is what its literal at the call needs (Go specification, Calls; Function literals;
-//! Declarations and scope).
+//! A call that becomes a literal of its function, from the use and its mark to the meaning of both:
+//! what a well-typed program says of the function is what its literal at the call needs (Go
+//! specification, Calls; Function literals; Declarations and scope).
 #![tactic(auto)]
 
 mod laws;
