@@ -89,8 +89,8 @@ NothingElseIsMeant =
 
 -- ---- what the run says
 
--- A use that becomes a literal has no obstacle, and the form is the literal of the function; no name that it takes means
--- something else at the use.
+-- A use that becomes a literal has no obstacle, and the form is the literal of the function; no name that it takes
+-- means something else at the use.
 abbrev pub LiteralsHaveNoObstacle : Type 0
 LiteralsHaveNoObstacle =
     (same : Span → Span → Bool) (commented : ℕ → ℕ → Span → Bool) (rs : List (Package Span)) (marks : List MarkRef)
