@@ -10,6 +10,7 @@ use Rattle.go_tree.specs.declared.operators.BinOp.TheVariants.{Add}
 use Rattle.go_tree.specs.Tree.{NameAt, TypeExpr, named, Sig, Expr, ident, int_lit, selector, call, func_lit, binary, no_exprs, expr_and, Stmt, var_decl, eval, assign, return_, Stmts, no_stmts, stmt_and, no_specs, spec}
 use Rattle.go_tree.specs.File.{Func, values, func, File}
 use Rattle.const_eval.specs.declared.kinds.Kind.TheVariants as kind
+use Rattle.scope_names.specs.Binders.{func_binders}
 use Rattle.pkg_graph.specs.Package.{Package}
 use Rattle.module_files.specs.Internal.{passes}
 use Rattle.param_choice.specs.Chosen.{has}
@@ -32,6 +33,7 @@ use Rattle.constant_steps.specs.Alone.{this_package}
 use Rattle.constant_steps.specs.PlainUse.{linked_at}
 use Rattle.literal_steps.specs.LiteralUse.{LiteralUse, by_import, PlainCall}
 use Rattle.literal_steps.specs.CalledAt.{CalledAt, Linked, PackagesServe}
+use Rattle.literal_steps.proofs.NamesServe.{serves_there}
 use Rattle.literal_steps.proofs.CallMeant.{typed_alike, means_it}
 
 abbrev at : ℕ → Span
@@ -225,7 +227,7 @@ old_serves = record {
   body = (tt, (tt, (tt, (tt, (tt, (tt, (tt, tt)))))));
   types_away = (λ e m. absurd (grind (arith, m)), (λ e m. absurd (grind (arith, m)), tt));
   body_away =
-      (λ e m. absurd (grind (arith, m)), (λ e m. absurd (grind (arith, m)), (λ e m. record { not_declared = refl; not_around = refl; of = refl }, (tt, (tt, (λ e m. absurd (grind (arith, m)), (tt, tt)))))));
+      (λ e m. absurd (grind (arith, m)), (λ e m. absurd (grind (arith, m)), (λ e m. serves_there rs here main_stands there (func_binders add) (1 ∷ []) refl 1 refl refl there.env.names (λ n e. refl) _ (λ n e. e), (tt, (tt, (λ e m. absurd (grind (arith, m)), (tt, tt)))))));
 }
 
 -- by the laws alone

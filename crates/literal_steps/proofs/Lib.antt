@@ -9,6 +9,7 @@ pub mod NoObstacle
 pub mod FilesKnown
 pub mod BlankParams
 pub mod FormBare
+pub mod NamesServe
 pub mod CallMeant
 mod Example
 mod AwayExample

@@ -1,6 +1,7 @@
 -- The laws of a call that becomes a literal of its function. Each is the contract of a function of this crate (Go
 -- specification, Calls; Function literals; Function declarations; Declarations and scope).
-use Rattle.std.specs.Prelude.{◌≡◌, ℕ, suc, Bool, true, false, List, [], Some, None, slice_get}
+use Rattle.std.specs.Prelude.{◌≡◌, ℕ, suc, Bool, true, false, List, [], Some, None, nat_eq, slice_get}
+use Rattle.std.specs.List.{list_any}
 use Rattle.go_tree.specs.declared.spans.Span.{Span}
 use Rattle.go_tree.specs.Tree.{Expr, Stmts}
 use Rattle.go_tree.specs.Bare.{bare_stmts}
@@ -9,6 +10,7 @@ use Rattle.scope_names.specs.FreeNames.{names_of}
 use Rattle.scope_names.specs.Means.{Environment, means, is_blank}
 use Rattle.pkg_graph.specs.Package.{Package}
 use Rattle.pkg_graph.specs.Members.{member}
+use Rattle.go_types.specs.Answers.{is_among}
 use Rattle.go_types.specs.Types.{GoType}
 use Rattle.go_types.specs.Entities.{Entity, World}
 use Rattle.go_types.specs.Bodies.{Ctx}
@@ -24,12 +26,12 @@ use Rattle.go_translation.specs.Here.{Here}
 use Rattle.go_translation.specs.Packages as translated
 use Rattle.go_translation.specs.Packages.{paths_in, codes_of, program_of}
 use Rattle.go_translation.specs.Translation.{expr_term, deferred_term}
-use Rattle.run_rules.specs.Surroundings.{Place, Seen}
-use Rattle.run_rules.specs.Programs.{top_env}
+use Rattle.run_rules.specs.Surroundings.{Place, is_local, Seen}
+use Rattle.run_rules.specs.Programs.{package_number, top_env}
 use Rattle.run_rules.specs.Places.{stmts_seen}
 use Rattle.run_rules.specs.Rewriting.{Changes, new_stmts}
 use Rattle.run_rules.specs.Sites.{MarkRef, Where, Site}
-use Rattle.run_rules.specs.Naming.{Names, names_by}
+use Rattle.run_rules.specs.Naming.{Names, names_by, imports_added, package_path, named_packages}
 use Rattle.run_rules.specs.FormTrees.{LiteralForm, as_expr}
 use Rattle.run_rules.specs.Forms.{literal_tree}
 use Rattle.run_rules.specs.Obstacles.{shadowed_here, first_answer}
@@ -39,6 +41,7 @@ use Rattle.written_literal.specs.Fine.{keeping}
 use Rattle.written_literal.specs.KnownNames.{landing, KnownNames}
 use Rattle.written_literal.specs.PartsTyped.{changes_there}
 use Rattle.written_literal.specs.LinkedNames.{Standing}
+use Rattle.written_literal.specs.Meant.{Serves}
 use Rattle.written_literal.specs.Laws.{NoObstacleIn}
 use Rattle.constant_steps.specs.Alone.{block_from, PackageAt}
 use Rattle.literal_steps.specs.TypedParts.{LocalValues, StandIn}
@@ -120,6 +123,18 @@ FunctionsAreFirst =
     means (block_from p.number 0 p.files) n ≡ Some (member a f d i) → slice_get p.files f ≡ Some file →
     slice_get file.decls d ≡ Some (func g) →
     FirstFunction n p.number (file_block (block_names p.files) [] file.imports) g (headed ps)
+
+-- Where the packages that a form needs have names in the file of the use and no import is added, the name of each that
+-- is the first with its path serves, at any place of the function whose declared names are among those that are avoided.
+abbrev pub NamesThatAreThereServe : Type 0
+NamesThatAreThereServe =
+    (ps : List (Package Span)) (w : Where Span) (at : Place Span) (bound : List (List ℕ)) (needed : List ℕ) →
+    Standing ps w → imports_added (named_packages ps w at bound needed) ≡ [] →
+    (k : ℕ) → list_any (nat_eq k) needed ≡ true → package_number ps (package_path ps k) ≡ k →
+    (there : Environment Entity) →
+    ((n : List ℕ) → is_local at n ≡ false → means there n ≡ means (top_env ps w.number w.of w.source.tree).names n) →
+    (p : Place Span) → ((n : List ℕ) → is_local p n ≡ true → is_among n bound ≡ true) →
+    Serves (names_by (named_packages ps w at bound needed)) there (names_of at.bound) p k
 
 -- ---- the call
 

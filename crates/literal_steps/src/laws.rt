@@ -3,8 +3,9 @@
 ghost use Rattle.literal_steps.specs.Laws.{AlikeChangesAreAlike, CallsMeanTheirLiterals};
 ghost use Rattle.literal_steps.specs.Laws.{DeferredCallsMeanTheirLiterals, FunctionsAreFirst};
 ghost use Rattle.literal_steps.specs.Laws.{LiteralsAreTypedAlike, LiteralsHaveNoObstacle};
-ghost use Rattle.literal_steps.specs.Laws.{NothingElseIsMeant, NothingMoreIsAskedAtHome};
-ghost use Rattle.literal_steps.specs.Laws.{TypedBodiesAreWritten, TypedPartsStand};
+ghost use Rattle.literal_steps.specs.Laws.{NamesThatAreThereServe, NothingElseIsMeant};
+ghost use Rattle.literal_steps.specs.Laws.{NothingMoreIsAskedAtHome, TypedBodiesAreWritten};
+ghost use Rattle.literal_steps.specs.Laws.{TypedPartsStand};
 
 /// In a typed body each part that the walk lists is typed where it stands; so a body in which
 /// nothing stands in the way of a use, and whose packages have names that serve there, is what may
@@ -24,6 +25,13 @@ pub fn literals_have_no_obstacle()
     ensures obstacle { LiteralsHaveNoObstacle }
     ensures spans { AlikeChangesAreAlike }
     ensures first { FunctionsAreFirst }
+{}
+
+/// Where a literal needs no import that isn't there, the names that a run finds for its packages
+/// serve at the use: nothing in the function declares them, nothing around the use does, and they
+/// mean these packages.
+pub fn names_there_serve()
+    ensures serves { NamesThatAreThereServe }
 {}
 
 /// In well-typed packages a call of a function, plainly or by an import's name, in whose way

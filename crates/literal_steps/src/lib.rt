@@ -5,4 +5,7 @@
 
 mod laws;
 
-pub use laws::{calls_mean_their_literals, literals_have_no_obstacle, typed_bodies_are_written};
+pub use laws::{
+    calls_mean_their_literals, literals_have_no_obstacle, names_there_serve,
+    typed_bodies_are_written,
+};
