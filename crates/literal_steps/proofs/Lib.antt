@@ -1,0 +1,15 @@
+pub mod LocalValues
+pub mod TypedWalk
+pub mod PartsHere
+pub mod BareValues
+pub mod WalksBare
+pub mod FirstFunctions
+pub mod FunctionCode
+pub mod NoObstacle
+pub mod FilesKnown
+pub mod BlankParams
+pub mod FormBare
+pub mod NamesServe
+pub mod CallMeant
+mod Example
+mod AwayExample
