@@ -1,22 +1,22 @@
 -- The first header of a package that has a name is that of the declaration which the name means among packages.
-use Rattle.std.specs.Prelude.{◌≡◌, refl, ℕ, suc, ◌+◌, Bool, true, false, not, ◌&&◌, ◌||◌, List, [], ◌∷◌, ◌++◌, Option, Some, None, if◌then◌else◌, bytes_eq, nat_eq, is_some, slice_get}
+use Rattle.std.specs.Prelude.{◌≡◌, refl, ℕ, suc, ◌+◌, Bool, true, false, not, ◌&&◌, ◌||◌, List, [], ◌∷◌, ◌++◌, map, Option, Some, None, if◌then◌else◌, bytes_eq, nat_eq, is_some, slice_get}
 use Rattle.std.specs.List.{list_all}
 use mathlib.Core.Path.{ap, sym, ◌∙◌, subst}
 use Rattle.std.proofs.Common.{arith}
 use Rattle.std.proofs.lemmas.Slice.Eq.{bytes_eq-Decides}
 use Rattle.go_tree.specs.Tree.{NameAt, TypeExpr, Expr, Exprs, no_exprs, expr_and, ValueSpecs, spec}
-use Rattle.go_tree.specs.File.{Receiver, Func, Decl, func}
+use Rattle.go_tree.specs.File.{TypeSpec, Receiver, Func, Decl, func}
 use Rattle.scope_names.specs.Means.{Environment, means, is_blank, binding, or_else}
 use Rattle.pkg_graph.specs.Members.{Target, member, specs_names, unless_method, block_names, items_from, decls_from}
-use Rattle.go_types.specs.Answers.{is_among}
+use Rattle.go_types.specs.Answers.{given, is_among}
 use Rattle.go_types.specs.Entities.{Entity}
 use Rattle.go_types.specs.Declarations.{names_once}
-use Rattle.go_types.specs.Programs.{Header, constants, a_func, Headed, headers, all_headers, constant_headers, header_names, header_sound, headed_file, at_member, is_init}
-use Rattle.typed_in_place.specs.Declared.{this_one, a_later_one}
+use Rattle.go_types.specs.Programs.{Header, constants, variables, a_type_spec, a_func, Headed, headers, all_headers, constant_headers, variable_headers, header_names, header_sound, headed_file, at_member, is_init}
+use Rattle.typed_in_place.specs.Declared.{FirstWith, this_one, a_later_one}
 use Rattle.form_in_place.proofs.Uses.{among_append}
-use Rattle.run_rules.specs.Sites.{a_constant, an_alias, a_function, nth_constant, inlinable_in}
+use Rattle.run_rules.specs.Sites.{a_constant, an_alias, a_function, nth_constant, aliased, inlinable_in}
 use Rattle.written_literal.proofs.NamesMeant.{means_join}
-use Rattle.constant_steps.specs.Alone.{SingleSpecs, no_constants, and_constant, PlainDecl, constants_alone, PlainDecls, no_decls, and_decl, PlainFiles, no_files, and_file, block_from, PackageAt, this_package, a_later_package, ConstantHeader, FirstIs}
+use Rattle.constant_steps.specs.Alone.{SingleSpecs, no_constants, and_constant, and_repeated, SingleVariables, no_variables, and_variable, PlainDecl, constants_alone, variables_alone, some_types, PlainDecls, no_decls, and_decl, PlainFiles, no_files, and_file, block_from, PackageAt, this_package, a_later_package, ConstantHeader, FirstIs}
 use Rattle.constant_steps.specs.Alone as alone
 
 pub in_turn : {A : Type 0} (xs ys zs : List A) → (xs ++ ys) ++ zs ≡ xs ++ (ys ++ zs)
@@ -94,6 +94,21 @@ module _ {S : Type 0} (n : List ℕ) (spelled : is_blank n ≡ false) (T : List 
       let b : Behind n x.name None (items_from p f d (suc o) (specs_names ss)) = not_bound n x.name (member p f d o) (items_from p f d (suc o) (specs_names ss)) spelled q in
       step (at s, constants (x ∷ []) None (expr_and v no_exprs) i) (constant_headers at None (expr_and v no_exprs) (suc i) ss ++ more) b.other
       (specs_past p f d (suc o) at None (expr_and v no_exprs) (suc i) r b.rest_means more t)
+  specs_past p f d o at w es i (and_repeated {s = s} {n = x} {ss = ss} r) q more t =
+      let b : Behind n x.name None (items_from p f d (suc o) (specs_names ss)) = not_bound n x.name (member p f d o) (items_from p f d (suc o) (specs_names ss)) spelled q in
+      step (at s, constants (x ∷ []) w es i) (constant_headers at w es (suc i) ss ++ more) b.other (specs_past p f d (suc o) at w es (suc i) r b.rest_means more t)
+
+  variables_past : (p f d o : ℕ) (at : S → S) {ss : ValueSpecs S} → SingleVariables ss → means (items_from p f d o (specs_names ss)) n ≡ None → (more : List (S × Header S)) → T more → T (variable_headers at ss ++ more)
+  variables_past p f d o at no_variables q more t = t
+  variables_past p f d o at (and_variable {s = s} {n = x} {t = w} {es = es} {ss = ss} r) q more t =
+      let b : Behind n x.name None (items_from p f d (suc o) (specs_names ss)) = not_bound n x.name (member p f d o) (items_from p f d (suc o) (specs_names ss)) spelled q in
+      step (at s, variables (x ∷ []) w es) (variable_headers at ss ++ more) b.other (variables_past p f d (suc o) at r b.rest_means more t)
+
+  types_past : (p f d o : ℕ) (at : TypeSpec S → S) (ts : List (TypeSpec S)) → means (items_from p f d o (map (λ t. t.name) ts)) n ≡ None → (more : List (S × Header S)) → T more → T (map (λ t. (at t, a_type_spec t)) ts ++ more)
+  types_past p f d o at [] q more t = t
+  types_past p f d o at (x ∷ ts) q more t =
+      let b : Behind n x.name.name None (items_from p f d (suc o) (map (λ t. t.name) ts)) = not_bound n x.name.name (member p f d o) (items_from p f d (suc o) (map (λ t. t.name) ts)) spelled q in
+      step (at x, a_type_spec x) (map (λ t. (at t, a_type_spec t)) ts ++ more) b.other (types_past p f d (suc o) at ts b.rest_means more t)
 
   func_past : (p f d : ℕ) (g : Func S) (r : Option (Receiver S)) → means (items_from p f d 0 (unless_method r (g.name ∷ []))) n ≡ None → is_among n (elim r [ None ↦ g.name.name ∷ [] | Some r ↦ [] ]) ≡ false
   func_past p f d g None q = (not_bound n g.name.name (member p f d 0) [] spelled q).other
@@ -101,6 +116,8 @@ module _ {S : Type 0} (n : List ℕ) (spelled : is_blank n ≡ false) (T : List 
 
   decl_past : (p f d : ℕ) {x : Decl S} → PlainDecl x → means (items_from p f d 0 (block_names x)) n ≡ None → (more : List (S × Header S)) → T more → T (headers x ++ more)
   decl_past p f d (constants_alone {s = s} {g = g} r) q more t = specs_past p f d 0 (at_member g s) None no_exprs 0 r q more t
+  decl_past p f d (variables_alone {s = s} {g = g} r) q more t = variables_past p f d 0 (at_member g s) r q more t
+  decl_past p f d (some_types {s = s} {g = g} {ts = ts}) q more t = types_past p f d 0 (λ x. at_member g s x.span) ts q more t
   decl_past p f d (alone.a_function {f = g}) q more t = step (g.span, a_func g) more (func_past p f d g g.receiver q) t
 
 -- neither of two answers is there
@@ -165,6 +182,20 @@ module _ {S : Type 0} (n : List ℕ) (home : ℕ) (main : Bool) (file : ℕ) (is
   constant_is : (d c x : NameAt S) (e v : Expr S) → Some (a_constant x v) ≡ Some (a_constant c e) → (x ≡ c) × (v ≡ e)
   constant_is d c x e v q = (ap (λ o. elim o [ None ↦ d | Some i ↦ elim i [ a_constant y w ↦ y | an_alias y w ↦ d | a_function g ↦ d ] ]) q, ap (λ o. elim o [ None ↦ v | Some i ↦ elim i [ a_constant y w ↦ w | an_alias y w ↦ v | a_function g ↦ v ] ]) q)
 
+  -- the first header has the name alone
+  one_first : (s : S) (h : Header S) (m : List ℕ) (W : NameAt S → Expr S → Type 0) → ((c : NameAt S) (e : Expr S) → W c e → ⊥) → header_names h ≡ m ∷ [] → is_blank m ≡ false → m ≡ n → (more : List (S × Header S)) → FirstAmong W ((s, h) ∷ more)
+  one_first s h m W never names f1 e more b a = record {
+    header = record { home = home; in_main = main; file = file; imports = is; at = s; sound = header_sound b h; header = h };
+    first = first_so;
+    home_is = refl;
+    imports_are = refl;
+    sound = ap (λ ns. names_once ns && list_all (λ k. is_blank k || not (is_among k b || is_init k)) ns) names ∙ sound_alone n m b f1 e a;
+    declares = λ c w q. absurd (never c w q);
+  }
+    where
+      first_so : FirstWith n (record { home = home; in_main = main; file = file; imports = is; at = s; sound = header_sound b h; header = h }) (these b ((s, h) ∷ more))
+      first_so = this_one
+
   specs_found : (t : Target) (p f d o : ℕ) (at : S → S) (w : Option (TypeExpr S)) (es : Exprs S) (i : ℕ) {ss : ValueSpecs S} → SingleSpecs ss → means (items_from p f d o (specs_names ss)) n ≡ Some t → SpecsFound t p f d o (λ more. constant_headers at w es i ss ++ more) ss
   specs_found t p f d o at w es i no_constants q = absurd (grind (arith, ap is_some q))
   specs_found t p f d o at w es i (and_constant {s = s} {n = x} {e = v} {ss = ss} r) q =
@@ -192,6 +223,82 @@ module _ {S : Type 0} (n : List ℕ) (home : ℕ) (main : Bool) (file : ℕ) (is
             spelled = r.spelled;
             found = λ more. among_behind (λ c e. nth_constant r.item ss ≡ Some (a_constant c e)) (at s, constants (x ∷ []) None (expr_and v no_exprs) i) (constant_headers at None (expr_and v no_exprs) (suc i) ss ++ more) (other r.spelled) (r.found more);
           }
+  specs_found t p f d o at w es i (and_repeated {s = s} {n = x} {ss = ss} r) q =
+      go (specs_found t p f d (suc o) at w es (suc i) r) (bound n x.name (member p f d o) t (items_from p f d (suc o) (specs_names ss)) q)
+    where
+      go : (means (items_from p f d (suc o) (specs_names ss)) n ≡ Some t → SpecsFound t p f d (suc o) (λ more. constant_headers at w es (suc i) ss ++ more) ss) → Bound n x.name (member p f d o) t (items_from p f d (suc o) (specs_names ss))
+          → SpecsFound t p f d o (λ more. (at s, constants (x ∷ []) w es i) ∷ constant_headers at w es (suc i) ss ++ more) (spec s (x ∷ []) None no_exprs ss)
+      go k (this_name f1 e u) = record {
+        item = 0;
+        is_item = sym u ∙ (let z : o ≡ o + 0 = omega arith in ap (member p f d) z);
+        spelled = ap is_blank (sym e) ∙ f1;
+        found = λ more. one_first (at s) (constants (x ∷ []) w es i) x.name (λ c e. None ≡ Some (a_constant c e)) (λ c e q. grind (arith, ap is_some q)) refl f1 e (constant_headers at w es (suc i) ss ++ more);
+      }
+      go k (later_name other q) =
+          let y : SpecsFound t p f d (suc o) (λ more. constant_headers at w es (suc i) ss ++ more) ss = k q in record {
+            item = suc y.item;
+            is_item = y.is_item ∙ (let z : suc o + y.item ≡ o + suc y.item = omega arith in ap (member p f d) z);
+            spelled = y.spelled;
+            found = λ more. among_behind (λ c e. nth_constant y.item ss ≡ Some (a_constant c e)) (at s, constants (x ∷ []) w es i) (constant_headers at w es (suc i) ss ++ more) (other y.spelled) (y.found more);
+          }
+
+  -- a variable or a type: no mark holds for a constant there
+  record OthersFound (t : Target) (p f d o : ℕ) (hs : List (S × Header S) → List (S × Header S)) : Type 1 where
+    item : ℕ
+    is_item : t ≡ member p f d (o + item)
+    spelled : is_blank n ≡ false
+    found : (W : NameAt S → Expr S → Type 0) → ((c : NameAt S) (e : Expr S) → W c e → ⊥) → (more : List (S × Header S)) → FirstAmong W (hs more)
+
+  variables_found : (t : Target) (p f d o : ℕ) (at : S → S) {ss : ValueSpecs S} → SingleVariables ss → means (items_from p f d o (specs_names ss)) n ≡ Some t → OthersFound t p f d o (λ more. variable_headers at ss ++ more)
+  variables_found t p f d o at no_variables q = absurd (grind (arith, ap is_some q))
+  variables_found t p f d o at (and_variable {s = s} {n = x} {t = w} {es = es} {ss = ss} r) q =
+      go (variables_found t p f d (suc o) at r) (bound n x.name (member p f d o) t (items_from p f d (suc o) (specs_names ss)) q)
+    where
+      go : (means (items_from p f d (suc o) (specs_names ss)) n ≡ Some t → OthersFound t p f d (suc o) (λ more. variable_headers at ss ++ more)) → Bound n x.name (member p f d o) t (items_from p f d (suc o) (specs_names ss))
+          → OthersFound t p f d o (λ more. (at s, variables (x ∷ []) w es) ∷ variable_headers at ss ++ more)
+      go k (this_name f1 e u) = record {
+        item = 0;
+        is_item = sym u ∙ (let z : o ≡ o + 0 = omega arith in ap (member p f d) z);
+        spelled = ap is_blank (sym e) ∙ f1;
+        found = λ W never more. one_first (at s) (variables (x ∷ []) w es) x.name W never refl f1 e (variable_headers at ss ++ more);
+      }
+      go k (later_name other q) =
+          let y : OthersFound t p f d (suc o) (λ more. variable_headers at ss ++ more) = k q in record {
+            item = suc y.item;
+            is_item = y.is_item ∙ (let z : suc o + y.item ≡ o + suc y.item = omega arith in ap (member p f d) z);
+            spelled = y.spelled;
+            found = λ W never more. among_behind W (at s, variables (x ∷ []) w es) (variable_headers at ss ++ more) (other y.spelled) (y.found W never more);
+          }
+
+  types_found : (t : Target) (p f d o : ℕ) (at : TypeSpec S → S) (ts : List (TypeSpec S)) → means (items_from p f d o (map (λ t. t.name) ts)) n ≡ Some t → OthersFound t p f d o (λ more. map (λ t. (at t, a_type_spec t)) ts ++ more)
+  types_found t p f d o at [] q = absurd (grind (arith, ap is_some q))
+  types_found t p f d o at (x ∷ ts) q =
+      go (types_found t p f d (suc o) at ts) (bound n x.name.name (member p f d o) t (items_from p f d (suc o) (map (λ t. t.name) ts)) q)
+    where
+      go : (means (items_from p f d (suc o) (map (λ t. t.name) ts)) n ≡ Some t → OthersFound t p f d (suc o) (λ more. map (λ t. (at t, a_type_spec t)) ts ++ more)) → Bound n x.name.name (member p f d o) t (items_from p f d (suc o) (map (λ t. t.name) ts))
+          → OthersFound t p f d o (λ more. (at x, a_type_spec x) ∷ map (λ t. (at t, a_type_spec t)) ts ++ more)
+      go k (this_name f1 e u) = record {
+        item = 0;
+        is_item = sym u ∙ (let z : o ≡ o + 0 = omega arith in ap (member p f d) z);
+        spelled = ap is_blank (sym e) ∙ f1;
+        found = λ W never more. one_first (at x) (a_type_spec x) x.name.name W never refl f1 e (map (λ t. (at t, a_type_spec t)) ts ++ more);
+      }
+      go k (later_name other q) =
+          let y : OthersFound t p f d (suc o) (λ more. map (λ t. (at t, a_type_spec t)) ts ++ more) = k q in record {
+            item = suc y.item;
+            is_item = y.is_item ∙ (let z : suc o + y.item ≡ o + suc y.item = omega arith in ap (member p f d) z);
+            spelled = y.spelled;
+            found = λ W never more. among_behind W (at x, a_type_spec x) (map (λ t. (at t, a_type_spec t)) ts ++ more) (other y.spelled) (y.found W never more);
+          }
+
+  -- no type spec is a constant
+  no_constant : (o : Option (TypeSpec S)) (c : NameAt S) (e : Expr S) → given o aliased ≡ Some (a_constant c e) → ⊥
+  no_constant None c e q = grind (arith, ap is_some q)
+  no_constant (Some t) c e q = by t.alias q
+    where
+      by : (b : Bool) → (if b then Some (an_alias t.name t.of) else None) ≡ Some (a_constant c e) → ⊥
+      by true q = cc
+      by false q = cc
 
   record DeclFound (t : Target) (p f d : ℕ) (x : Decl S) : Type 0 where
     item : ℕ
@@ -203,6 +310,12 @@ module _ {S : Type 0} (n : List ℕ) (home : ℕ) (main : Bool) (file : ℕ) (is
   decl_found t p f d (constants_alone {s = s} {g = g} {ss = ss} r) q =
       let k : SpecsFound t p f d 0 (λ more. constant_headers (at_member g s) None no_exprs 0 ss ++ more) ss = specs_found t p f d 0 (at_member g s) None no_exprs 0 r q in
       record { item = k.item; is_item = k.is_item ∙ (let z : 0 + k.item ≡ k.item = omega arith in ap (member p f d) z); spelled = k.spelled; found = k.found }
+  decl_found t p f d (variables_alone {s = s} {g = g} {ss = ss} r) q =
+      let k : OthersFound t p f d 0 (λ more. variable_headers (at_member g s) ss ++ more) = variables_found t p f d 0 (at_member g s) r q in
+      record { item = k.item; is_item = k.is_item ∙ (let z : 0 + k.item ≡ k.item = omega arith in ap (member p f d) z); spelled = k.spelled; found = k.found (λ c e. None ≡ Some (a_constant c e)) (λ c e q. grind (arith, ap is_some q)) }
+  decl_found t p f d (some_types {s = s} {g = g} {ts = ts}) q =
+      let k : OthersFound t p f d 0 (λ more. map (λ x. (at_member g s x.span, a_type_spec x)) ts ++ more) = types_found t p f d 0 (λ x. at_member g s x.span) ts q in
+      record { item = k.item; is_item = k.is_item ∙ (let z : 0 + k.item ≡ k.item = omega arith in ap (member p f d) z); spelled = k.spelled; found = k.found (λ c e. given (slice_get ts k.item) aliased ≡ Some (a_constant c e)) (λ c e q. no_constant (slice_get ts k.item) c e q) }
   decl_found t p f d (alone.a_function {f = g}) q = go g.receiver refl q
     where
       func_first : (b : Bool) → (x : Option (Receiver S)) → g.receiver ≡ x → means (items_from p f d 0 (unless_method x (g.name ∷ []))) n ≡ Some t → DeclFound t p f d (func g)

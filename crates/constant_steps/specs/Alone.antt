@@ -1,8 +1,9 @@
--- Declarations of constants each of which stands alone in its spec, and where the declaration of a package's name
--- stands (Go specification, Constant declarations; Declarations and scope; Package block).
-use Rattle.std.specs.Prelude.{◌≡◌, ℕ, zero, suc, false, not, List, [], ◌∷◌, ◌++◌, None, nat_eq}
-use Rattle.go_tree.specs.Tree.{NameAt, Expr, no_exprs, expr_and, const_decl, ValueSpecs, no_specs, spec}
-use Rattle.go_tree.specs.File.{Func, Decl, values, func}
+-- Declarations of constants and variables each of which stands alone in its spec, and where the declaration of a
+-- package's name stands (Go specification, Constant declarations; Variable declarations; Type declarations;
+-- Declarations and scope; Package block).
+use Rattle.std.specs.Prelude.{◌≡◌, ℕ, zero, suc, Bool, false, not, List, [], ◌∷◌, ◌++◌, Option, None, nat_eq}
+use Rattle.go_tree.specs.Tree.{NameAt, TypeExpr, Expr, Exprs, no_exprs, expr_and, const_decl, var_decl, ValueSpecs, no_specs, spec}
+use Rattle.go_tree.specs.File.{TypeSpec, Func, Decl, values, types, func}
 use Rattle.scope_names.specs.Means.{Environment}
 use Rattle.pkg_graph.specs.Members.{Target, decls_from}
 use Rattle.go_types.specs.Entities.{Entity}
@@ -10,17 +11,29 @@ use Rattle.go_types.specs.Programs.{Header, constants, Headed, SourceFile, Sourc
 use Rattle.typed_in_place.specs.Declared.{FirstWith}
 
 module _ {S : Type 0} where
-  -- each spec of a group has one name, no type, and one expression of its own
+  -- each spec of a group has one name and no type, and an expression of its own, or it repeats an earlier one
   pub data SingleSpecs : ValueSpecs S → Type 0 where
     no_constants : SingleSpecs no_specs
     and_constant :
         {s : S} {n : NameAt S} {e : Expr S} {ss : ValueSpecs S} → SingleSpecs ss →
         SingleSpecs (spec s (n ∷ []) None (expr_and e no_exprs) ss)
+    and_repeated :
+        {s : S} {n : NameAt S} {ss : ValueSpecs S} → SingleSpecs ss → SingleSpecs (spec s (n ∷ []) None no_exprs ss)
 
-  -- such a group, or a function or method
+  -- each spec of variables has one name
+  pub data SingleVariables : ValueSpecs S → Type 0 where
+    no_variables : SingleVariables no_specs
+    and_variable :
+        {s : S} {n : NameAt S} {t : Option (TypeExpr S)} {es : Exprs S} {ss : ValueSpecs S} → SingleVariables ss →
+        SingleVariables (spec s (n ∷ []) t es ss)
+
+  -- such groups, types, or a function or method
   pub data PlainDecl : Decl S → Type 0 where
     constants_alone :
         {s : S} {g : _} {ss : ValueSpecs S} → SingleSpecs ss → PlainDecl (values (const_decl s g ss))
+    variables_alone :
+        {s : S} {g : Bool} {ss : ValueSpecs S} → SingleVariables ss → PlainDecl (values (var_decl s g ss))
+    some_types : {s : S} {g : Bool} {ts : List (TypeSpec S)} → PlainDecl (types s g ts)
     a_function : {f : Func S} → PlainDecl (func f)
 
   -- all declarations are such

@@ -5,8 +5,8 @@ ghost use Rattle.run_steps.specs.Laws.{PlainNextsKeepTheCode, PlainNextsMeanTheS
 ghost use Rattle.run_steps.specs.Laws.{PlainRunsMeanTheSame, RunPackagesAreLinked};
 ghost use Rattle.run_steps.specs.Laws.{SameCodeMeansTheSame, UsesStandAlone};
 
-/// Packages that are equal but for spans are well typed alike, beside all further packages, and make
-/// the same kernel program; so they mean the same.
+/// Packages that are equal but for spans are well typed alike, beside all further packages, and
+/// make the same kernel program; so they mean the same.
 pub fn packages_need_no_spans()
     ensures typed { TypedWithoutSpans }
     ensures codes { CodesWithoutSpans }
