@@ -59,6 +59,7 @@ use_of_b = record {
   at = 31;
   new = codes "C";
   declared = refl;
+  untyped = refl;
   same_package = refl;
   kind = ConstForm;
   form = as_expr (ident 41 (codes "C"));
@@ -70,6 +71,7 @@ use_of_b = record {
   new_constant = named 20 (codes "C");
   new_expr = ident 21 (codes "D");
   new_declared = refl;
+  new_untyped = refl;
 }
 
 use_of_c : PlainUse nat_eq no_comments (rs (codes "C")) marks (use_in (codes "C") 1)
@@ -84,6 +86,7 @@ use_of_c = record {
   at = 21;
   new = codes "D";
   declared = refl;
+  untyped = refl;
   same_package = refl;
   kind = ConstForm;
   form = as_expr (ident 41 (codes "D"));
@@ -95,6 +98,7 @@ use_of_c = record {
   new_constant = named 10 (codes "D");
   new_expr = int_lit 11 (codes "7");
   new_declared = refl;
+  new_untyped = refl;
 }
 
 abbrev one_constant : {s : ℕ} {n : List ℕ} {e : Expr ℕ} → alone.PlainDecl (declares s n e)

@@ -11,9 +11,9 @@ use Rattle.go_types.specs.Entities.{Entity}
 use Rattle.go_types.specs.Programs.{Header, Headed, SourceFile, SourcePackage, Program, all_headers, header_names, names_in, headed, headed_file, headed_files, headed_package, block_names, file_block, is_main}
 use Rattle.go_types.proofs.Agreeing.{some_same}
 use Rattle.typed_in_place.specs.Declared.{FirstWith, this_one, a_later_one}
-use Rattle.run_rules.specs.Sites.{a_constant, inlinable_in}
+use Rattle.run_rules.specs.Sites.{inlinable_in}
 use Rattle.written_literal.proofs.NamesMeant.{means_join}
-use Rattle.constant_steps.specs.Alone.{PlainDecls, PlainFiles, no_files, and_file, block_from, PackageAt, this_package, a_later_package, FirstIs}
+use Rattle.constant_steps.specs.Alone.{PlainDecls, PlainFiles, no_files, and_file, block_from, PackageAt, this_package, a_later_package, FirstIs, untyped_in, AsConstant}
 use Rattle.constant_steps.proofs.FirstNames.{in_turn, neither_among, first_past, decls_past, DeclsFound, decls_found}
 
 -- the numbers of a member
@@ -69,7 +69,7 @@ module _ {S : Type 0} where
       tree : Decl S
       nth : slice_get source.decls decl ≡ Some tree
       found :
-          (b : List (List ℕ)) → is_among n b ≡ false → FirstIs n home (file_block members [] source.imports) (λ c e. inlinable_in tree item ≡ Some (a_constant c e)) (headed_files home main members i b fs)
+          (b : List (List ℕ)) → is_among n b ≡ false → FirstIs n home (file_block members [] source.imports) (AsConstant tree item) (headed_files home main members i b fs)
 
     names_past : (p f d : ℕ) {xs : List (Decl S)} → PlainDecls xs → is_blank n ≡ false → means (decls_from p f d xs) n ≡ None → is_among n (names_in (all_headers xs)) ≡ false
     names_past p f d r s q = decls_past n s (λ hs. is_among n (names_in hs) ≡ false) (λ h hs e t. neither_among n (header_names h.1) (names_in hs) e t) p f d r q refl
@@ -101,7 +101,7 @@ module _ {S : Type 0} where
               nth_file = refl;
               tree = y.tree;
               nth = y.nth;
-              found = λ b a. first_front n home here (λ c e. inlinable_in y.tree y.item ≡ Some (a_constant c e)) (headed_file home main i here b (all_headers x.decls)) (headed_files home main members (suc i) (names_in (all_headers x.decls) ++ b) fs) (y.found b a);
+              found = λ b a. first_front n home here (AsConstant y.tree y.item) (headed_file home main i here b (all_headers x.decls)) (headed_files home main members (suc i) (names_in (all_headers x.decls) ++ b) fs) (y.found b a);
             }
         go k None e q =
             let y : FilesFound t p (suc f) (suc i) fs = k q in record {
@@ -115,7 +115,7 @@ module _ {S : Type 0} where
               tree = y.tree;
               nth = y.nth;
               found = λ b a.
-                  file_past (file_block members [] y.source.imports) (λ c e. inlinable_in y.tree y.item ≡ Some (a_constant c e)) p f 0 i here (headed_files home main members (suc i) (names_in (all_headers x.decls) ++ b) fs) r y.spelled e
+                  file_past (file_block members [] y.source.imports) (AsConstant y.tree y.item) p f 0 i here (headed_files home main members (suc i) (names_in (all_headers x.decls) ++ b) fs) r y.spelled e
                   (y.found (names_in (all_headers x.decls) ++ b) (neither_among n (names_in (all_headers x.decls)) b (names_past p f 0 r y.spelled e) a)) b;
             }
 
@@ -140,22 +140,22 @@ module _ {S : Type 0} where
   -- ---- by numbers
 
   pub first_declared : (n : List ℕ) (p : SourcePackage S) (k : ℕ) (ps : Program S) (f d i : ℕ) (file : SourceFile S) (decl : Decl S) → PlainFiles p.files → PackageAt p k ps → means (block_from p.number 0 p.files) n ≡ Some (member p.number f d i) → slice_get p.files f ≡ Some file → slice_get file.decls d ≡ Some decl
-      → FirstIs n p.number (file_block (block_names p.files) [] file.imports) (λ c e. inlinable_in decl i ≡ Some (a_constant c e)) (headed ps)
+      → FirstIs n p.number (file_block (block_names p.files) [] file.imports) (AsConstant decl i) (headed ps)
   first_declared n p k ps f d i file decl plain at q nf nd =
       let members : List (List ℕ) = block_names p.files in
       let y : FilesFound n p.number (is_main p) members (member p.number f d i) p.number 0 0 p.files = files_found n p.number (is_main p) members (member p.number f d i) p.number 0 0 plain q in
       let zero_more : 0 + y.file ≡ y.file = omega arith in
       let same_file : y.source ≡ file = some_same y.source file (sym y.nth_file ∙ ap (slice_get p.files) (sym (ap file_of y.is_item ∙ zero_more)) ∙ nf) in
       let same_decl : y.tree ≡ decl = some_same y.tree decl (sym y.nth ∙ (λ j. slice_get (same_file j).decls (sym (ap decl_of y.is_item) j)) ∙ nd) in
-      let r : FirstIs n p.number (file_block members [] y.source.imports) (λ c e. inlinable_in y.tree y.item ≡ Some (a_constant c e)) (headed ps) =
-      program_first n (file_block members [] y.source.imports) (λ c e. inlinable_in y.tree y.item ≡ Some (a_constant c e)) p k at (y.found [] refl) in
+      let r : FirstIs n p.number (file_block members [] y.source.imports) (AsConstant y.tree y.item) (headed ps) =
+      program_first n (file_block members [] y.source.imports) (AsConstant y.tree y.item) p k at (y.found [] refl) in
       record {
         header = r.header;
         first = r.first;
         home_is = r.home_is;
         imports_are = r.imports_are ∙ ap (λ s. file_block members [] s.imports) same_file;
         sound = r.sound;
-        declares = λ c e h. r.declares c e ((λ j. inlinable_in (same_decl j) (sym (ap item_of y.is_item) j)) ∙ h);
+        declares = λ c e h. r.declares c e ((λ j. inlinable_in (same_decl j) (sym (ap item_of y.is_item) j)) ∙ h.0, (λ j. untyped_in (same_decl j) (sym (ap item_of y.is_item) j)) ∙ h.1);
       }
 
   -- it is no `_`

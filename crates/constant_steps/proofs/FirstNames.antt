@@ -14,9 +14,9 @@ use Rattle.go_types.specs.Declarations.{names_once}
 use Rattle.go_types.specs.Programs.{Header, constants, variables, a_type_spec, a_func, Headed, headers, all_headers, constant_headers, variable_headers, header_names, header_sound, headed_file, at_member, is_init}
 use Rattle.typed_in_place.specs.Declared.{FirstWith, this_one, a_later_one}
 use Rattle.form_in_place.proofs.Uses.{among_append}
-use Rattle.run_rules.specs.Sites.{a_constant, an_alias, a_function, nth_constant, aliased, inlinable_in}
+use Rattle.run_rules.specs.Sites.{a_constant, an_alias, a_function, nth_constant, aliased}
 use Rattle.written_literal.proofs.NamesMeant.{means_join}
-use Rattle.constant_steps.specs.Alone.{SingleSpecs, no_constants, and_constant, and_repeated, SingleVariables, no_variables, and_variable, PlainDecl, constants_alone, variables_alone, some_types, PlainDecls, no_decls, and_decl, PlainFiles, no_files, and_file, block_from, PackageAt, this_package, a_later_package, ConstantHeader, FirstIs}
+use Rattle.constant_steps.specs.Alone.{SingleSpecs, no_constants, and_constant, and_typed, and_repeated, spec_untyped, AsConstant, SingleVariables, no_variables, and_variable, PlainDecl, constants_alone, variables_alone, some_types, PlainDecls, no_decls, and_decl, PlainFiles, no_files, and_file, block_from, PackageAt, this_package, a_later_package, ConstantHeader, FirstIs}
 use Rattle.constant_steps.specs.Alone as alone
 
 pub in_turn : {A : Type 0} (xs ys zs : List A) → (xs ++ ys) ++ zs ≡ xs ++ (ys ++ zs)
@@ -94,6 +94,10 @@ module _ {S : Type 0} (n : List ℕ) (spelled : is_blank n ≡ false) (T : List 
       let b : Behind n x.name None (items_from p f d (suc o) (specs_names ss)) = not_bound n x.name (member p f d o) (items_from p f d (suc o) (specs_names ss)) spelled q in
       step (at s, constants (x ∷ []) None (expr_and v no_exprs) i) (constant_headers at None (expr_and v no_exprs) (suc i) ss ++ more) b.other
       (specs_past p f d (suc o) at None (expr_and v no_exprs) (suc i) r b.rest_means more t)
+  specs_past p f d o at w es i (and_typed {s = s} {n = x} {t = y} {e = v} {ss = ss} r) q more t =
+      let b : Behind n x.name None (items_from p f d (suc o) (specs_names ss)) = not_bound n x.name (member p f d o) (items_from p f d (suc o) (specs_names ss)) spelled q in
+      step (at s, constants (x ∷ []) (Some y) (expr_and v no_exprs) i) (constant_headers at (Some y) (expr_and v no_exprs) (suc i) ss ++ more) b.other
+      (specs_past p f d (suc o) at (Some y) (expr_and v no_exprs) (suc i) r b.rest_means more t)
   specs_past p f d o at w es i (and_repeated {s = s} {n = x} {ss = ss} r) q more t =
       let b : Behind n x.name None (items_from p f d (suc o) (specs_names ss)) = not_bound n x.name (member p f d o) (items_from p f d (suc o) (specs_names ss)) spelled q in
       step (at s, constants (x ∷ []) w es i) (constant_headers at w es (suc i) ss ++ more) b.other (specs_past p f d (suc o) at w es (suc i) r b.rest_means more t)
@@ -177,7 +181,7 @@ module _ {S : Type 0} (n : List ℕ) (home : ℕ) (main : Bool) (file : ℕ) (is
     item : ℕ
     is_item : t ≡ member p f d (o + item)
     spelled : is_blank n ≡ false
-    found : (more : List (S × Header S)) → FirstAmong (λ c e. nth_constant item ss ≡ Some (a_constant c e)) (hs more)
+    found : (more : List (S × Header S)) → FirstAmong (λ c e. (nth_constant item ss ≡ Some (a_constant c e)) × (spec_untyped item ss ≡ true)) (hs more)
 
   constant_is : (d c x : NameAt S) (e v : Expr S) → Some (a_constant x v) ≡ Some (a_constant c e) → (x ≡ c) × (v ≡ e)
   constant_is d c x e v q = (ap (λ o. elim o [ None ↦ d | Some i ↦ elim i [ a_constant y w ↦ y | an_alias y w ↦ d | a_function g ↦ d ] ]) q, ap (λ o. elim o [ None ↦ v | Some i ↦ elim i [ a_constant y w ↦ w | an_alias y w ↦ v | a_function g ↦ v ] ]) q)
@@ -213,7 +217,7 @@ module _ {S : Type 0} (n : List ℕ) (home : ℕ) (main : Bool) (file : ℕ) (is
           home_is = refl;
           imports_are = refl;
           sound = sound_alone n x.name b f1 e a;
-          declares = λ c w q. let y : ((x ≡ c) × (v ≡ w)) = constant_is x c x w v q in record { number = i; is = λ j. constants (y.0 j ∷ []) None (expr_and (y.1 j) no_exprs) i; named = ap (λ c. c.name) (sym y.0) ∙ e };
+          declares = λ c w q. let y : ((x ≡ c) × (v ≡ w)) = constant_is x c x w v q.0 in record { number = i; is = λ j. constants (y.0 j ∷ []) None (expr_and (y.1 j) no_exprs) i; named = ap (λ c. c.name) (sym y.0) ∙ e };
         };
       }
       go k (later_name other q) =
@@ -221,7 +225,25 @@ module _ {S : Type 0} (n : List ℕ) (home : ℕ) (main : Bool) (file : ℕ) (is
             item = suc r.item;
             is_item = r.is_item ∙ (let z : suc o + r.item ≡ o + suc r.item = omega arith in ap (member p f d) z);
             spelled = r.spelled;
-            found = λ more. among_behind (λ c e. nth_constant r.item ss ≡ Some (a_constant c e)) (at s, constants (x ∷ []) None (expr_and v no_exprs) i) (constant_headers at None (expr_and v no_exprs) (suc i) ss ++ more) (other r.spelled) (r.found more);
+            found = λ more. among_behind (λ c e. (nth_constant r.item ss ≡ Some (a_constant c e)) × (spec_untyped r.item ss ≡ true)) (at s, constants (x ∷ []) None (expr_and v no_exprs) i) (constant_headers at None (expr_and v no_exprs) (suc i) ss ++ more) (other r.spelled) (r.found more);
+          }
+  specs_found t p f d o at w es i (and_typed {s = s} {n = x} {t = kind} {e = v} {ss = ss} r) q =
+      go (specs_found t p f d (suc o) at (Some kind) (expr_and v no_exprs) (suc i) r) (bound n x.name (member p f d o) t (items_from p f d (suc o) (specs_names ss)) q)
+    where
+      go : (means (items_from p f d (suc o) (specs_names ss)) n ≡ Some t → SpecsFound t p f d (suc o) (λ more. constant_headers at (Some kind) (expr_and v no_exprs) (suc i) ss ++ more) ss) → Bound n x.name (member p f d o) t (items_from p f d (suc o) (specs_names ss))
+          → SpecsFound t p f d o (λ more. (at s, constants (x ∷ []) (Some kind) (expr_and v no_exprs) i) ∷ constant_headers at (Some kind) (expr_and v no_exprs) (suc i) ss ++ more) (spec s (x ∷ []) (Some kind) (expr_and v no_exprs) ss)
+      go k (this_name f1 e u) = record {
+        item = 0;
+        is_item = sym u ∙ (let z : o ≡ o + 0 = omega arith in ap (member p f d) z);
+        spelled = ap is_blank (sym e) ∙ f1;
+        found = λ more. one_first (at s) (constants (x ∷ []) (Some kind) (expr_and v no_exprs) i) x.name (λ c e. (Some (a_constant x v) ≡ Some (a_constant c e)) × (false ≡ true)) (λ c e q. grind (arith, q.1)) refl f1 e (constant_headers at (Some kind) (expr_and v no_exprs) (suc i) ss ++ more);
+      }
+      go k (later_name other q) =
+          let y : SpecsFound t p f d (suc o) (λ more. constant_headers at (Some kind) (expr_and v no_exprs) (suc i) ss ++ more) ss = k q in record {
+            item = suc y.item;
+            is_item = y.is_item ∙ (let z : suc o + y.item ≡ o + suc y.item = omega arith in ap (member p f d) z);
+            spelled = y.spelled;
+            found = λ more. among_behind (λ c e. (nth_constant y.item ss ≡ Some (a_constant c e)) × (spec_untyped y.item ss ≡ true)) (at s, constants (x ∷ []) (Some kind) (expr_and v no_exprs) i) (constant_headers at (Some kind) (expr_and v no_exprs) (suc i) ss ++ more) (other y.spelled) (y.found more);
           }
   specs_found t p f d o at w es i (and_repeated {s = s} {n = x} {ss = ss} r) q =
       go (specs_found t p f d (suc o) at w es (suc i) r) (bound n x.name (member p f d o) t (items_from p f d (suc o) (specs_names ss)) q)
@@ -232,14 +254,14 @@ module _ {S : Type 0} (n : List ℕ) (home : ℕ) (main : Bool) (file : ℕ) (is
         item = 0;
         is_item = sym u ∙ (let z : o ≡ o + 0 = omega arith in ap (member p f d) z);
         spelled = ap is_blank (sym e) ∙ f1;
-        found = λ more. one_first (at s) (constants (x ∷ []) w es i) x.name (λ c e. None ≡ Some (a_constant c e)) (λ c e q. grind (arith, ap is_some q)) refl f1 e (constant_headers at w es (suc i) ss ++ more);
+        found = λ more. one_first (at s) (constants (x ∷ []) w es i) x.name (λ c e. (None ≡ Some (a_constant c e)) × (true ≡ true)) (λ c e q. grind (arith, ap is_some q.0)) refl f1 e (constant_headers at w es (suc i) ss ++ more);
       }
       go k (later_name other q) =
           let y : SpecsFound t p f d (suc o) (λ more. constant_headers at w es (suc i) ss ++ more) ss = k q in record {
             item = suc y.item;
             is_item = y.is_item ∙ (let z : suc o + y.item ≡ o + suc y.item = omega arith in ap (member p f d) z);
             spelled = y.spelled;
-            found = λ more. among_behind (λ c e. nth_constant y.item ss ≡ Some (a_constant c e)) (at s, constants (x ∷ []) w es i) (constant_headers at w es (suc i) ss ++ more) (other y.spelled) (y.found more);
+            found = λ more. among_behind (λ c e. (nth_constant y.item ss ≡ Some (a_constant c e)) × (spec_untyped y.item ss ≡ true)) (at s, constants (x ∷ []) w es i) (constant_headers at w es (suc i) ss ++ more) (other y.spelled) (y.found more);
           }
 
   -- a variable or a type: no mark holds for a constant there
@@ -304,7 +326,7 @@ module _ {S : Type 0} (n : List ℕ) (home : ℕ) (main : Bool) (file : ℕ) (is
     item : ℕ
     is_item : t ≡ member p f d item
     spelled : is_blank n ≡ false
-    found : (more : List (S × Header S)) → FirstAmong (λ c e. inlinable_in x item ≡ Some (a_constant c e)) (headers x ++ more)
+    found : (more : List (S × Header S)) → FirstAmong (AsConstant x item) (headers x ++ more)
 
   decl_found : (t : Target) (p f d : ℕ) {x : Decl S} → PlainDecl x → means (items_from p f d 0 (block_names x)) n ≡ Some t → DeclFound t p f d x
   decl_found t p f d (constants_alone {s = s} {g = g} {ss = ss} r) q =
@@ -312,10 +334,10 @@ module _ {S : Type 0} (n : List ℕ) (home : ℕ) (main : Bool) (file : ℕ) (is
       record { item = k.item; is_item = k.is_item ∙ (let z : 0 + k.item ≡ k.item = omega arith in ap (member p f d) z); spelled = k.spelled; found = k.found }
   decl_found t p f d (variables_alone {s = s} {g = g} {ss = ss} r) q =
       let k : OthersFound t p f d 0 (λ more. variable_headers (at_member g s) ss ++ more) = variables_found t p f d 0 (at_member g s) r q in
-      record { item = k.item; is_item = k.is_item ∙ (let z : 0 + k.item ≡ k.item = omega arith in ap (member p f d) z); spelled = k.spelled; found = k.found (λ c e. None ≡ Some (a_constant c e)) (λ c e q. grind (arith, ap is_some q)) }
+      record { item = k.item; is_item = k.is_item ∙ (let z : 0 + k.item ≡ k.item = omega arith in ap (member p f d) z); spelled = k.spelled; found = k.found (λ c e. (None ≡ Some (a_constant c e)) × (true ≡ true)) (λ c e q. grind (arith, ap is_some q.0)) }
   decl_found t p f d (some_types {s = s} {g = g} {ts = ts}) q =
       let k : OthersFound t p f d 0 (λ more. map (λ x. (at_member g s x.span, a_type_spec x)) ts ++ more) = types_found t p f d 0 (λ x. at_member g s x.span) ts q in
-      record { item = k.item; is_item = k.is_item ∙ (let z : 0 + k.item ≡ k.item = omega arith in ap (member p f d) z); spelled = k.spelled; found = k.found (λ c e. given (slice_get ts k.item) aliased ≡ Some (a_constant c e)) (λ c e q. no_constant (slice_get ts k.item) c e q) }
+      record { item = k.item; is_item = k.is_item ∙ (let z : 0 + k.item ≡ k.item = omega arith in ap (member p f d) z); spelled = k.spelled; found = k.found (λ c e. (given (slice_get ts k.item) aliased ≡ Some (a_constant c e)) × (true ≡ true)) (λ c e q. no_constant (slice_get ts k.item) c e q.0) }
   decl_found t p f d (alone.a_function {f = g}) q = go g.receiver refl q
     where
       func_first : (b : Bool) → (x : Option (Receiver S)) → g.receiver ≡ x → means (items_from p f d 0 (unless_method x (g.name ∷ []))) n ≡ Some t → DeclFound t p f d (func g)
@@ -332,7 +354,7 @@ module _ {S : Type 0} (n : List ℕ) (home : ℕ) (main : Bool) (file : ℕ) (is
               home_is = refl;
               imports_are = refl;
               sound = ap (λ r. let ns : List (List ℕ) = elim r [ None ↦ g.name.name ∷ [] | Some r ↦ [] ] in names_once ns && list_all (λ k. is_blank k || not (is_among k b || is_init k)) ns) e ∙ sound_alone n g.name.name b f1 m a;
-              declares = λ c w q. absurd (grind (arith, q));
+              declares = λ c w q. absurd (grind (arith, q.0));
             };
           }
           by (later_name o r) = absurd (grind (arith, ap is_some r))
@@ -348,7 +370,7 @@ module _ {S : Type 0} (n : List ℕ) (home : ℕ) (main : Bool) (file : ℕ) (is
     pub spelled : is_blank n ≡ false
     pub tree : Decl S
     pub nth : slice_get xs decl ≡ Some tree
-    pub found : FirstAmong (λ c e. inlinable_in tree item ≡ Some (a_constant c e)) (all_headers xs)
+    pub found : FirstAmong (AsConstant tree item) (all_headers xs)
 
   pub decls_found : (t : Target) (p f d : ℕ) {xs : List (Decl S)} → PlainDecls xs → means (decls_from p f d xs) n ≡ Some t → DeclsFound t p f d xs
   decls_found t p f d no_decls q = absurd (grind (arith, ap is_some q))
@@ -374,5 +396,5 @@ module _ {S : Type 0} (n : List ℕ) (home : ℕ) (main : Bool) (file : ℕ) (is
             spelled = y.spelled;
             tree = y.tree;
             nth = y.nth;
-            found = decl_past n y.spelled (FirstAmong (λ c e. inlinable_in y.tree y.item ≡ Some (a_constant c e))) (among_behind (λ c e. inlinable_in y.tree y.item ≡ Some (a_constant c e))) p f d r e (all_headers xs) y.found;
+            found = decl_past n y.spelled (FirstAmong (AsConstant y.tree y.item)) (among_behind (AsConstant y.tree y.item)) p f d r e (all_headers xs) y.found;
           }

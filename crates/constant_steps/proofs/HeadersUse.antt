@@ -33,7 +33,7 @@ use Rattle.step_laws.proofs.DeclUses.{at-top, body-begins}
 use Rattle.step_laws.proofs.Standing.{all-stands, stmts-stands}
 use Rattle.step_laws.proofs.Swapping.{written-same, sig-same}
 use Rattle.step_laws.proofs.Walking.{all-walk, stmts-walk}
-use Rattle.constant_steps.specs.Alone.{SingleSpecs, no_constants, and_constant, and_repeated, SingleVariables, no_variables, and_variable, PlainDecl, constants_alone, variables_alone, some_types}
+use Rattle.constant_steps.specs.Alone.{SingleSpecs, no_constants, and_constant, and_typed, and_repeated, SingleVariables, no_variables, and_variable, PlainDecl, constants_alone, variables_alone, some_types}
 use Rattle.constant_steps.specs.Alone as alone
 use Rattle.constant_steps.specs.HeaderUses.{Differs, UseAlike}
 use Rattle.constant_steps.specs.PlainUse.{AllSimple, AllTheUse}
@@ -110,6 +110,12 @@ module _ {S : Type 0} (same : S → S → Bool) (rs : List (Package S)) (x : Sit
     abbrev Alike : Header S → Header S → Type 0
     Alike h k = UseAlike old new K i w K in_main i is h k
 
+    after_all : (m : List ℕ) (xs us vs : List (List ℕ)) → is_among m us ≡ is_among m vs → is_among m (xs ++ us) ≡ is_among m (xs ++ vs)
+    after_all m xs us vs h = among_append m xs us ∙ ap (λ b. is_among m xs || b) h ∙ sym (among_append m xs vs)
+
+    written_uses : (p : Place S) (t : Option (TypeExpr S)) → new_written c p t ≡ t
+    written_uses p t = written-same same z e p t
+
     -- what a later member repeats uses the same in each member
     abbrev Again : Option (TypeExpr S) → Exprs S → Option (TypeExpr S) → Exprs S → Type 0
     Again t es t' es' = (m : List ℕ) → Differs old new m → (j : ℕ) → is_among m (free_type_option [] t ++ used_all (at (Some j)) es) ≡ is_among m (free_type_option [] t' ++ used_all (at (Some j)) es')
@@ -124,16 +130,22 @@ module _ {S : Type 0} (same : S → S → Bool) (rs : List (Package S)) (x : Sit
         (λ m d i. values_use m d (Some i) (in_constant j q) us (expr_and v no_exprs) refl refl (simple_front vs (constants_at_top rs q (suc j) ss) si) (use_front same x use_ vs (constants_at_top rs q (suc j) ss) a)) in
         and_more (refl, λ m d s t b b'. one m (d refl refl) j)
         (group_uses at' None None (expr_and v no_exprs) (new_all c (in_constant j q) us (expr_and v no_exprs)) one (suc j) r (simple_behind vs (constants_at_top rs q (suc j) ss) si) (use_behind same x use_ vs (constants_at_top rs q (suc j) ss) a))
+    group_uses at' t t' es es' again j (and_typed {n = n} {t = kind} {e = v} {ss = ss} r) si a =
+        let us : List Use = alike (value_use q.env (Some kind)) (n ∷ []) in
+        let ws : List (Seen S) = written_seen (in_constant j q) (Some kind) in
+        let vs : List (Seen S) = all_seen (in_constant j q) us (expr_and v no_exprs) in
+        let rest : List (Seen S) = constants_at_top rs q (suc j) ss in
+        let one : Again (Some kind) (expr_and v no_exprs) (new_written c (in_constant j q) (Some kind)) (new_all c (in_constant j q) us (expr_and v no_exprs)) =
+        (λ m d i.
+        after_all m (free_type_option [] (Some kind)) (used_all (at (Some i)) (expr_and v no_exprs)) (used_all (at (Some i)) (new_all c (in_constant j q) us (expr_and v no_exprs)))
+        (values_use m d (Some i) (in_constant j q) us (expr_and v no_exprs) refl refl (simple_behind ws vs (simple_front (ws ++ vs) rest si)) (use_behind same x use_ ws vs (use_front same x use_ (ws ++ vs) rest a)))
+        ∙ ap (λ w. is_among m (free_type_option [] w ++ used_all (at (Some i)) (new_all c (in_constant j q) us (expr_and v no_exprs)))) (sym (written_uses (in_constant j q) (Some kind)))) in
+        and_more (refl, λ m d s t b b'. one m (d refl refl) j)
+        (group_uses at' (Some kind) (new_written c (in_constant j q) (Some kind)) (expr_and v no_exprs) (new_all c (in_constant j q) us (expr_and v no_exprs)) one (suc j) r (simple_behind (ws ++ vs) rest si) (use_behind same x use_ (ws ++ vs) rest a))
     group_uses at' t t' es es' again j (and_repeated {n = n} {ss = ss} r) si a =
         and_more (refl, λ m d s t b b'. again m (d refl refl) j) (group_uses at' t t' es es' again (suc j) r si a)
 
     -- ---- variables and types
-
-    after_all : (m : List ℕ) (xs us vs : List (List ℕ)) → is_among m us ≡ is_among m vs → is_among m (xs ++ us) ≡ is_among m (xs ++ vs)
-    after_all m xs us vs h = among_append m xs us ∙ ap (λ b. is_among m xs || b) h ∙ sym (among_append m xs vs)
-
-    written_uses : (t : Option (TypeExpr S)) → new_written c q t ≡ t
-    written_uses t = written-same same z e q t
 
     variables_use : (at' : S → S) {ss : ValueSpecs S} → SingleVariables ss → AllSimple (variables_at_top rs q ss) → AllTheUse same x use_ (variables_at_top rs q ss)
         → OneByOne {A = S × Header S} {B = S × Header S} (λ h k. Alike h.1 k.1) (variable_headers at' ss) (variable_headers at' (new_variables same rs c q ss))
@@ -147,7 +159,7 @@ module _ {S : Type 0} (same : S → S → Bool) (rs : List (Package S)) (x : Sit
           refl,
           λ m d s s' b b'.
               after_all m (free_type_option [] t) (used_all (at None) es) (used_all (at None) (new_all c q us es)) (values_use m (d refl refl) None q us es refl refl (simple_behind ws vs (simple_front (ws ++ vs) rest si)) (use_behind same x use_ ws vs (use_front same x use_ (ws ++ vs) rest a)))
-              ∙ ap (λ w. is_among m (free_type_option [] w ++ used_all (at None) (new_all c q us es))) (sym (written_uses t)),
+              ∙ ap (λ w. is_among m (free_type_option [] w ++ used_all (at None) (new_all c q us es))) (sym (written_uses q t)),
         )
         (variables_use at' r (simple_behind (ws ++ vs) rest si) (use_behind same x use_ (ws ++ vs) rest a))
 

@@ -1,22 +1,26 @@
 -- Declarations of constants and variables each of which stands alone in its spec, and where the declaration of a
 -- package's name stands (Go specification, Constant declarations; Variable declarations; Type declarations;
 -- Declarations and scope; Package block).
-use Rattle.std.specs.Prelude.{◌≡◌, ℕ, zero, suc, Bool, false, not, List, [], ◌∷◌, ◌++◌, Option, None, nat_eq}
+use Rattle.std.specs.Prelude.{◌≡◌, ℕ, zero, suc, Bool, true, false, not, List, [], ◌∷◌, ◌++◌, Option, Some, None, nat_eq}
 use Rattle.go_tree.specs.Tree.{NameAt, TypeExpr, Expr, Exprs, no_exprs, expr_and, const_decl, var_decl, ValueSpecs, no_specs, spec}
 use Rattle.go_tree.specs.File.{TypeSpec, Func, Decl, values, types, func}
 use Rattle.scope_names.specs.Means.{Environment}
 use Rattle.pkg_graph.specs.Members.{Target, decls_from}
 use Rattle.go_types.specs.Entities.{Entity}
 use Rattle.go_types.specs.Programs.{Header, constants, Headed, SourceFile, SourcePackage, Program, is_init}
+use Rattle.run_rules.specs.Sites.{a_constant, inlinable_in}
 use Rattle.typed_in_place.specs.Declared.{FirstWith}
 
 module _ {S : Type 0} where
-  -- each spec of a group has one name and no type, and an expression of its own, or it repeats an earlier one
+  -- each spec of a group has one name, and an expression of its own, perhaps with a type, or it repeats an earlier one
   pub data SingleSpecs : ValueSpecs S → Type 0 where
     no_constants : SingleSpecs no_specs
     and_constant :
         {s : S} {n : NameAt S} {e : Expr S} {ss : ValueSpecs S} → SingleSpecs ss →
         SingleSpecs (spec s (n ∷ []) None (expr_and e no_exprs) ss)
+    and_typed :
+        {s : S} {n : NameAt S} {t : TypeExpr S} {e : Expr S} {ss : ValueSpecs S} → SingleSpecs ss →
+        SingleSpecs (spec s (n ∷ []) (Some t) (expr_and e no_exprs) ss)
     and_repeated :
         {s : S} {n : NameAt S} {ss : ValueSpecs S} → SingleSpecs ss → SingleSpecs (spec s (n ∷ []) None no_exprs ss)
 
@@ -57,6 +61,22 @@ module _ {S : Type 0} where
     a_later_package :
         {k : ℕ} {q : SourcePackage S} {ps : Program S} → nat_eq q.number p.number ≡ false → PackageAt p k ps →
         PackageAt p (suc k) (q ∷ ps)
+
+  -- the spec with this number has no type
+  abbrev pub spec_untyped : ℕ → ValueSpecs S → Bool
+  spec_untyped i no_specs = true
+  spec_untyped zero (spec s ns None es ss) = true
+  spec_untyped zero (spec s ns (Some t) es ss) = false
+  spec_untyped (suc i) (spec s ns t es ss) = spec_untyped i ss
+
+  -- so has the constant with this number in a declaration whose constants stand alone in their specs
+  abbrev pub untyped_in : Decl S → ℕ → Bool
+  untyped_in (values (const_decl s g ss)) i = spec_untyped i ss
+  untyped_in d i = true
+
+  -- a mark can hold for what has this number in a declaration as for the constant c, which is e and has no type
+  abbrev pub AsConstant : Decl S → ℕ → NameAt S → Expr S → Type 0
+  AsConstant d i c e = (inlinable_in d i ≡ Some (a_constant c e)) × (untyped_in d i ≡ true)
 
   -- a header that declares the constant c alone, as e
   pub record ConstantHeader (n : List ℕ) (h : Header S) (c : NameAt S) (e : Expr S) : Type 0 where

@@ -94,6 +94,7 @@ module _ (marks : List MarkRef) (st : Standing) (l : Logged) (after : Standing) 
     at = h.at;
     new = h.new;
     declared = h.declared;
+    untyped = h.untyped;
     same_package = h.same_package;
     kind = n.found.kind;
     form = n.found.form;
@@ -105,6 +106,7 @@ module _ (marks : List MarkRef) (st : Standing) (l : Logged) (after : Standing) 
     new_constant = h.new_constant;
     new_expr = h.new_expr;
     new_declared = h.new_declared;
+    new_untyped = h.new_untyped;
   }
 
   stands : UseStands same_here (is_commented st) rs marks x use_
