@@ -85,7 +85,6 @@ is_plain_use = record {
   new_constant = named 10 (codes "D");
   new_expr = int_lit 11 (codes "7");
   new_declared = refl;
-  new_untyped = refl;
 }
 
 use_stands : UseStands nat_eq no_comments rs marks use_of_c is_plain_use

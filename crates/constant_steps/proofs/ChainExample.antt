@@ -71,7 +71,6 @@ use_of_b = record {
   new_constant = named 20 (codes "C");
   new_expr = ident 21 (codes "D");
   new_declared = refl;
-  new_untyped = refl;
 }
 
 use_of_c : PlainUse nat_eq no_comments (rs (codes "C")) marks (use_in (codes "C") 1)
@@ -98,7 +97,6 @@ use_of_c = record {
   new_constant = named 10 (codes "D");
   new_expr = int_lit 11 (codes "7");
   new_declared = refl;
-  new_untyped = refl;
 }
 
 abbrev one_constant : {s : ℕ} {n : List ℕ} {e : Expr ℕ} → alone.PlainDecl (declares s n e)

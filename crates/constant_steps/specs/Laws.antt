@@ -29,8 +29,8 @@ use Rattle.constant_steps.specs.PlainRuns.{PlainRun}
 use Rattle.constant_steps.specs.PlainUse.{linked_at, PlainUse, UseStands}
 
 -- In a program whose k-th package has plain declarations, a name that means a declaration by its numbers is declared by
--- the first header of the package that has the name; where a mark can hold for that declaration as for a constant, and
--- that has no type, the header declares it, as the same expression.
+-- the first header of the package that has the name; where a mark can hold for that declaration as for a constant, the
+-- header declares it, of the same type, or of none, as the same expression.
 abbrev pub DeclarationsAreFirst : Type 0
 DeclarationsAreFirst =
     (n : List ℕ) (p : SourcePackage Span) (k : ℕ) (ps : Program Span) (f d i : ℕ) (file : SourceFile Span)

@@ -1,10 +1,10 @@
 -- A use of a constant in its own package, which is declared as another constant of the package, and in whose way
 -- nothing stands (Go specification, Constant declarations; Declarations and scope).
-use Rattle.std.specs.Prelude.{◌≡◌, ℕ, Bool, true, false, ◌&&◌, List, [], ◌∷◌, map, Some, nat_eq, slice_get}
-use Rattle.go_tree.specs.Tree.{NameAt, Expr, ident, composite, func_lit, const_decl, ValueSpecs, no_specs, spec}
+use Rattle.std.specs.Prelude.{◌≡◌, ℕ, Bool, true, false, ◌&&◌, List, [], ◌∷◌, map, Option, Some, None, nat_eq, slice_get}
+use Rattle.go_tree.specs.Tree.{NameAt, TypeExpr, Expr, ident, composite, func_lit, const_decl, ValueSpecs, no_specs, spec}
 use Rattle.go_tree.specs.File.{Decl}
 use Rattle.pkg_graph.specs.Package.{Package}
-use Rattle.go_types.specs.Answers.{given, meets}
+use Rattle.go_types.specs.Answers.{given}
 use Rattle.go_types.specs.Programs.{SourcePackage}
 use Rattle.go_translation.specs.Swapped.{begins_anew}
 use Rattle.run_rules.specs.Surroundings.{Seen, seen, seen_type, seen_stmt}
@@ -14,7 +14,7 @@ use Rattle.run_rules.specs.Naming.{Named}
 use Rattle.run_rules.specs.FormTrees.{FormKind, Form}
 use Rattle.run_rules.specs.Forms.{is_at}
 use Rattle.run_rules.specs.Reduced.{becomes, home_place, reduced}
-use Rattle.constant_steps.specs.Alone.{PlainFiles, untyped_in}
+use Rattle.constant_steps.specs.Alone.{PlainFiles, type_in}
 
 module _ {S : Type 0} where
   -- no member of a group of constants repeats an earlier one's expression
@@ -53,15 +53,14 @@ module _ {S : Type 0} (same : S → S → Bool) (x : Site S) (use_ : Expr S) whe
   AllTheUse [] = Unit {0}
   AllTheUse (y ∷ ys) = IsTheUse y × AllTheUse ys
 
--- the constant that a mark refers to has no type
-abbrev pub is_untyped : {S : Type 0} → List (Package S) → MarkRef → Bool
-is_untyped ps m =
-    meets (given (where_is ps m) (λ w. slice_get w.source.tree.decls m.decl)) (λ d. untyped_in d m.item)
+-- the type of the constant that a mark refers to
+abbrev pub type_marked : {S : Type 0} → List (Package S) → MarkRef → Option (TypeExpr S)
+type_marked ps m = given (given (where_is ps m) (λ w. slice_get w.source.tree.decls m.decl)) (λ d. type_in d m.item)
 
 module _ {S : Type 0} (same : S → S → Bool) (commented : ℕ → ℕ → S → Bool) (rs : List (Package S))
     (marks : List MarkRef) (x : Site S) where
   -- The use is the constant's name, in the package of the constant, and the constant is declared as the name of
-  -- another constant of the package block. Nothing is in the way: it
+  -- another constant of the package block, without a type. Nothing is in the way: it
   -- becomes a form.
   pub record PlainUse : Type 0 where
     pub span : S
@@ -74,7 +73,7 @@ module _ {S : Type 0} (same : S → S → Bool) (commented : ℕ → ℕ → S �
     pub at : S
     pub new : List ℕ
     pub declared : inlinable rs x.mark ≡ Some (a_constant constant (ident at new))
-    pub untyped : is_untyped rs x.mark ≡ true
+    pub untyped : type_marked rs x.mark ≡ None
     pub same_package : home.number ≡ x.at.number
     pub kind : FormKind
     pub form : Form S
@@ -86,7 +85,6 @@ module _ {S : Type 0} (same : S → S → Bool) (commented : ℕ → ℕ → S �
     pub new_constant : NameAt S
     pub new_expr : Expr S
     pub new_declared : inlinable rs new_mark ≡ Some (a_constant new_constant new_expr)
-    pub new_untyped : is_untyped rs new_mark ≡ true
 
   -- The use stands in a declaration of the file's package, in which nothing else stands at its span, and which isn't
   -- that of the constant. All declarations of the package are plain, and this one's parts are simple.

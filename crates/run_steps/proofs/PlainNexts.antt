@@ -106,7 +106,6 @@ module _ (marks : List MarkRef) (st : Standing) (l : Logged) (after : Standing) 
     new_constant = h.new_constant;
     new_expr = h.new_expr;
     new_declared = h.new_declared;
-    new_untyped = h.new_untyped;
   }
 
   stands : UseStands same_here (is_commented st) rs marks x use_

@@ -88,7 +88,6 @@ is_plain = record {
   new_constant = nmf 20 27 20 27 (codes "Pointer");
   new_expr = int_lit (from 30 31 30 31) (codes "1");
   new_declared = refl;
-  new_untyped = refl;
   imports = refl;
   plain = and_file (and_decl (constants_alone (and_constant no_constants)) (and_decl (constants_alone (and_constant no_constants)) (and_decl alone.a_function no_decls))) no_files;
   simple = λ d h.

@@ -1,6 +1,6 @@
 -- Steps of a run over plain uses of constants (Go specification, Constant declarations; Declarations and scope; Import
 -- declarations).
-use Rattle.std.specs.Prelude.{◌≡◌, ℕ, true, false, ◌&&◌, List, map, Some, nat_eq, slice_get}
+use Rattle.std.specs.Prelude.{◌≡◌, ℕ, false, ◌&&◌, List, map, Some, None, nat_eq, slice_get}
 use Rattle.go_tree.specs.Tree.{NameAt, Expr, ident}
 use Rattle.go_tree.specs.File.{Decl}
 use Rattle.run_rules.specs.Programs.{linked_file, top_place, decl_seen}
@@ -9,11 +9,11 @@ use Rattle.run_rules.specs.Steps.{At}
 use Rattle.run_rules.specs.Run.{Standing, Logged, Next, Run, ends, goes_on}
 use Rattle.step_cycles.specs.Steps.{SameImports}
 use Rattle.constant_steps.specs.Alone.{PlainFiles}
-use Rattle.constant_steps.specs.PlainUse.{is_untyped, AllSimple}
+use Rattle.constant_steps.specs.PlainUse.{type_marked, AllSimple}
 
 -- The use is the constant's name, in the constant's own package, and not in its declaration. The constant is declared
--- as the name of another constant of the package block, both without a type. The file keeps its imports. All declarations of the package
--- are plain, and that of the use has simple parts.
+-- as the name of another constant of the package block, without a type. The file keeps its imports. All declarations
+-- of the package are plain, and that of the use has simple parts.
 pub record IsPlain {marks : List MarkRef} {st : Standing} {l : Logged} {after : Standing} (n : Next marks st l after)
     : Type 0 where
   pub span : At
@@ -29,14 +29,13 @@ pub record IsPlain {marks : List MarkRef} {st : Standing} {l : Logged} {after : 
   pub at : At
   pub new : List ℕ
   pub declared : inlinable st.packages n.found.site.mark ≡ Some (a_constant constant (ident at new))
-  pub untyped : is_untyped st.packages n.found.site.mark ≡ true
+  pub untyped : type_marked st.packages n.found.site.mark ≡ None
   pub new_mark : MarkRef
   pub new_names :
       name_mark st.packages home (top_place st.packages home.number home.of home.source.tree) new ≡ Some new_mark
   pub new_constant : NameAt At
   pub new_expr : Expr At
   pub new_declared : inlinable st.packages new_mark ≡ Some (a_constant new_constant new_expr)
-  pub new_untyped : is_untyped st.packages new_mark ≡ true
   pub imports : SameImports n.found.site.at.source.tree n.tree
   pub plain : PlainFiles (map (linked_file st.packages) n.found.site.at.of.files)
   pub simple :
