@@ -1,20 +1,21 @@
 -- What a step over a constant keeps of the declaration that it changes: its names, and that each constant stands alone.
-use Rattle.std.specs.Prelude.{◌≡◌, refl, ℕ, zero, suc, Bool, true, false, List, [], ◌∷◌, ◌++◌, Option, Some, None, nat_eq, slice_get}
+use Rattle.std.specs.Prelude.{◌≡◌, refl, ℕ, zero, suc, Bool, true, false, List, [], ◌∷◌, ◌++◌, map, Option, Some, None, if◌then◌else◌, is_some, nat_eq, slice_get}
 use mathlib.Core.Path.{ap, sym, ◌∙◌, subst}
 use Rattle.std.proofs.Common.{arith}
 use Rattle.go_tree.specs.Tree.{NameAt, Expr, ValueSpecs}
-use Rattle.go_tree.specs.File.{Receiver, Decl, File}
+use Rattle.go_tree.specs.File.{TypeSpec, Receiver, Decl, File}
 use Rattle.pkg_graph.specs.Package.{Package}
 use Rattle.pkg_graph.specs.Members.{specs_names, unless_method, block_names, items_from, decls_from}
+use Rattle.go_types.specs.Answers.{given}
 use Rattle.go_types.specs.Programs.{SourceFile, SourcePackage, Program}
 use Rattle.run_rules.specs.Surroundings.{Place, head_use, alike, value_use, in_constant}
 use Rattle.run_rules.specs.Rewriting.{Changes, new_expr}
 use Rattle.run_rules.specs.Programs.{top_place}
-use Rattle.run_rules.specs.Sites.{a_constant, nth_constant, inlinable_in}
-use Rattle.run_rules.specs.Steps.{change_nth, new_constants, new_receiver_option, new_decl}
+use Rattle.run_rules.specs.Sites.{a_constant, an_alias, nth_constant, aliased, inlinable_in}
+use Rattle.run_rules.specs.Steps.{change_nth, new_constants, new_variables, new_type_spec, new_receiver_option, new_decl}
 use Rattle.go_types.proofs.Agreeing.{some_same}
 use Rattle.step_laws.specs.DeclStands.{AtNth, decl_changed, file_changed, changed}
-use Rattle.constant_steps.specs.Alone.{SingleSpecs, no_constants, and_constant, PlainDecl, constants_alone, PlainDecls, no_decls, and_decl, PlainFiles, no_files, and_file, block_from, PackageAt, this_package, a_later_package}
+use Rattle.constant_steps.specs.Alone.{SingleSpecs, no_constants, and_constant, and_typed, and_repeated, spec_type, type_in, SingleVariables, no_variables, and_variable, PlainDecl, constants_alone, variables_alone, some_types, PlainDecls, no_decls, and_decl, PlainFiles, no_files, and_file, block_from, PackageAt, this_package, a_later_package}
 use Rattle.constant_steps.specs.Alone as alone
 
 -- ---- an item of a list with one changed
@@ -42,9 +43,10 @@ nth_stays g (suc n) zero (y ∷ ys) e = refl
 nth_stays g (suc n) (suc m) (y ∷ ys) e = nth_stays g n m ys (one_less n m e)
 
 -- a constant stands alone in a group, with some expression
-pub record SomeConstant {S : Type 0} (d : Decl S) (i : ℕ) (c : NameAt S) : Type 0 where
+pub record SomeConstant {S : Type 0} (before d : Decl S) (i : ℕ) (c : NameAt S) : Type 0 where
   pub expr : Expr S
   pub is : inlinable_in d i ≡ Some (a_constant c expr)
+  pub untyped : type_in before i ≡ None → type_in d i ≡ None
 
 module _ {S : Type 0} (same : S → S → Bool) (rs : List (Package S)) (c : Changes S) (number : ℕ) (pk : Package S) (tree : File S) where
   abbrev change : Decl S → Decl S
@@ -59,27 +61,51 @@ module _ {S : Type 0} (same : S → S → Bool) (rs : List (Package S)) (c : Cha
   single_after : (i : ℕ) {ss : ValueSpecs S} → SingleSpecs ss → SingleSpecs (after i ss)
   single_after i no_constants = no_constants
   single_after i (and_constant r) = and_constant (single_after (suc i) r)
+  single_after i (and_typed r) = and_typed (single_after (suc i) r)
+  single_after i (and_repeated r) = and_repeated (single_after (suc i) r)
 
   names_after : (i : ℕ) {ss : ValueSpecs S} → SingleSpecs ss → specs_names (after i ss) ≡ specs_names ss
   names_after i no_constants = refl
   names_after i (and_constant {n = n} r) = ap (λ l. n ∷ l) (names_after (suc i) r)
+  names_after i (and_typed {n = n} r) = ap (λ l. n ∷ l) (names_after (suc i) r)
+  names_after i (and_repeated {n = n} r) = ap (λ l. n ∷ l) (names_after (suc i) r)
 
   -- the constant with a number in a group
-  record NthAlone (j : ℕ) (ss : ValueSpecs S) (x : NameAt S) : Type 0 where
+  record NthAlone (j : ℕ) (before ss : ValueSpecs S) (x : NameAt S) : Type 0 where
     expr : Expr S
     is : nth_constant j ss ≡ Some (a_constant x expr)
+    untyped : spec_type j before ≡ None → spec_type j ss ≡ None
 
   constant_name : (d x y : NameAt S) (v w : Expr S) → Some (a_constant x v) ≡ Some (a_constant y w) → x ≡ y
   constant_name d x y v w q = ap (λ o. elim o [ None ↦ d | Some i ↦ elim i [ a_constant z u ↦ z | Rattle.run_rules.specs.Sites.an_alias z u ↦ d | Rattle.run_rules.specs.Sites.a_function g ↦ d ] ]) q
 
-  nth_after : (i j : ℕ) {ss : ValueSpecs S} → SingleSpecs ss → (x : NameAt S) (v : Expr S) → nth_constant j ss ≡ Some (a_constant x v) → NthAlone j (after i ss) x
+  nth_after : (i j : ℕ) {ss : ValueSpecs S} → SingleSpecs ss → (x : NameAt S) (v : Expr S) → nth_constant j ss ≡ Some (a_constant x v) → NthAlone j ss (after i ss) x
   nth_after i j no_constants x v h = absurd (grind (arith, h))
   nth_after i zero (and_constant {n = n} {e = e} r) x v h =
-      let w : Expr S = new_expr c (in_constant i q) (head_use (alike (value_use {S = S} q.env None) (n ∷ []))) e in record { expr = w; is = ap (λ y. Some (a_constant y w)) (constant_name n n x e v h) }
-  nth_after i (suc j) (and_constant r) x v h = let k : NthAlone j (after (suc i) _) x = nth_after (suc i) j r x v h in record { expr = k.expr; is = k.is }
+      let w : Expr S = new_expr c (in_constant i q) (head_use (alike (value_use {S = S} q.env None) (n ∷ []))) e in record { expr = w; is = ap (λ y. Some (a_constant y w)) (constant_name n n x e v h); untyped = λ u. refl }
+  nth_after i zero (and_typed {n = n} {t = t} {e = e} r) x v h =
+      let w : Expr S = new_expr c (in_constant i q) (head_use (alike (value_use {S = S} q.env (Some t)) (n ∷ []))) e in record { expr = w; is = ap (λ y. Some (a_constant y w)) (constant_name n n x e v h); untyped = λ u. absurd (grind (arith, ap is_some u)) }
+  nth_after i zero (and_repeated r) x v h = absurd (grind (arith, h))
+  nth_after i (suc j) (and_repeated {ss = ss} r) x v h = let k : NthAlone j ss (after (suc i) ss) x = nth_after (suc i) j r x v h in record { expr = k.expr; is = k.is; untyped = k.untyped }
+  nth_after i (suc j) (and_constant {ss = ss} r) x v h = let k : NthAlone j ss (after (suc i) ss) x = nth_after (suc i) j r x v h in record { expr = k.expr; is = k.is; untyped = k.untyped }
+  nth_after i (suc j) (and_typed {ss = ss} r) x v h = let k : NthAlone j ss (after (suc i) ss) x = nth_after (suc i) j r x v h in record { expr = k.expr; is = k.is; untyped = k.untyped }
+
+  variables_after : {ss : ValueSpecs S} → SingleVariables ss → SingleVariables (new_variables same rs c q ss)
+  variables_after no_variables = no_variables
+  variables_after (and_variable r) = and_variable (variables_after r)
+
+  variables_named : {ss : ValueSpecs S} → SingleVariables ss → specs_names (new_variables same rs c q ss) ≡ specs_names ss
+  variables_named no_variables = refl
+  variables_named (and_variable {n = n} r) = ap (λ l. n ∷ l) (variables_named r)
+
+  types_named : (ts : List (TypeSpec S)) → ◌≡◌ {A = List (NameAt S)} (map (λ t. t.name) (map (new_type_spec same rs c q) ts)) (map (λ t. t.name) ts)
+  types_named [] = refl
+  types_named (t ∷ ts) = ap (λ l. t.name ∷ l) (types_named ts)
 
   plain_after : {d : Decl S} → PlainDecl d → PlainDecl (change d)
   plain_after (constants_alone r) = constants_alone (single_after 0 r)
+  plain_after (variables_alone r) = variables_alone (variables_after r)
+  plain_after some_types = some_types
   plain_after alone.a_function = alone.a_function
 
   method_after : (r : Option (Receiver S)) (ns : List (NameAt S)) → unless_method (new_receiver_option same rs c q r) ns ≡ unless_method r ns
@@ -88,11 +114,24 @@ module _ {S : Type 0} (same : S → S → Bool) (rs : List (Package S)) (c : Cha
 
   block_after : {d : Decl S} → PlainDecl d → block_names (change d) ≡ block_names d
   block_after (constants_alone r) = names_after 0 r
+  block_after (variables_alone r) = variables_named r
+  block_after (some_types {ts = ts}) = types_named ts
   block_after (alone.a_function {f = f}) = method_after f.receiver (f.name ∷ [])
 
+  -- no type spec is a constant
+  no_constant : (o : Option (TypeSpec S)) (x : NameAt S) (v : Expr S) → given o aliased ≡ Some (a_constant x v) → ⊥
+  no_constant None x v h = grind (arith, ap is_some h)
+  no_constant (Some t) x v h = by t.alias h
+    where
+      by : (b : Bool) → (if b then Some (an_alias t.name t.of) else None) ≡ Some (a_constant x v) → ⊥
+      by true h = cc
+      by false h = cc
+
   -- a constant of the declaration is one after, with some expression
-  pub constant_after : {d : Decl S} → PlainDecl d → (i : ℕ) (x : NameAt S) (v : Expr S) → inlinable_in d i ≡ Some (a_constant x v) → SomeConstant (change d) i x
-  constant_after (constants_alone r) i x v h = let k : NthAlone i (after 0 _) x = nth_after 0 i r x v h in record { expr = k.expr; is = k.is }
+  pub constant_after : {d : Decl S} → PlainDecl d → (i : ℕ) (x : NameAt S) (v : Expr S) → inlinable_in d i ≡ Some (a_constant x v) → SomeConstant d (change d) i x
+  constant_after (constants_alone {ss = ss} r) i x v h = let k : NthAlone i ss (after 0 ss) x = nth_after 0 i r x v h in record { expr = k.expr; is = k.is; untyped = k.untyped }
+  constant_after (variables_alone r) i x v h = absurd (grind (arith, ap is_some h))
+  constant_after (some_types {ts = ts}) i x v h = absurd (no_constant (slice_get ts i) x v h)
   constant_after alone.a_function i x v h = absurd (grind (arith, h))
 
   -- ---- files

@@ -68,6 +68,7 @@ is_plain_use = record {
   at = 21;
   new = codes "D";
   declared = refl;
+  untyped = refl;
   same_package = refl;
   kind = ConstForm;
   form = as_expr (ident 31 (codes "D"));

@@ -2,7 +2,7 @@
 use Rattle.std.specs.Prelude.{◌≡◌, refl, ℕ, suc, ◌+◌, Bool, false, ◌&&◌, List, [], ◌∷◌, ◌++◌, Option, Some, None, nat_eq, is_some, slice_get}
 use mathlib.Core.Path.{ap, sym, ◌∙◌, subst}
 use Rattle.std.proofs.Common.{arith}
-use Rattle.go_tree.specs.Tree.{NameAt, Expr}
+use Rattle.go_tree.specs.Tree.{NameAt, TypeExpr, Expr}
 use Rattle.go_tree.specs.File.{Decl}
 use Rattle.scope_names.specs.Means.{Environment, means, is_blank, or_else}
 use Rattle.pkg_graph.specs.Members.{Target, member, decls_from}
@@ -11,9 +11,9 @@ use Rattle.go_types.specs.Entities.{Entity}
 use Rattle.go_types.specs.Programs.{Header, Headed, SourceFile, SourcePackage, Program, all_headers, header_names, names_in, headed, headed_file, headed_files, headed_package, block_names, file_block, is_main}
 use Rattle.go_types.proofs.Agreeing.{some_same}
 use Rattle.typed_in_place.specs.Declared.{FirstWith, this_one, a_later_one}
-use Rattle.run_rules.specs.Sites.{a_constant, inlinable_in}
+use Rattle.run_rules.specs.Sites.{inlinable_in}
 use Rattle.written_literal.proofs.NamesMeant.{means_join}
-use Rattle.constant_steps.specs.Alone.{PlainDecls, PlainFiles, no_files, and_file, block_from, PackageAt, this_package, a_later_package, FirstIs}
+use Rattle.constant_steps.specs.Alone.{PlainDecls, PlainFiles, no_files, and_file, block_from, PackageAt, this_package, a_later_package, FirstIs, type_in, AsConstant}
 use Rattle.constant_steps.proofs.FirstNames.{in_turn, neither_among, first_past, decls_past, DeclsFound, decls_found}
 
 -- the numbers of a member
@@ -40,12 +40,12 @@ module _ {S : Type 0} where
   before_others n h (x ∷ xs) ys (a_later_one e d) = a_later_one e (before_others n h xs ys d)
 
   -- before others
-  first_front : (n : List ℕ) (home : ℕ) (is : Environment Entity) (W : NameAt S → Expr S → Type 0) (xs ys : List (Headed S)) → FirstIs n home is W xs → FirstIs n home is W (xs ++ ys)
+  first_front : (n : List ℕ) (home : ℕ) (is : Environment Entity) (W : NameAt S → Option (TypeExpr S) → Expr S → Type 0) (xs ys : List (Headed S)) → FirstIs n home is W xs → FirstIs n home is W (xs ++ ys)
   first_front n home is W xs ys f =
       record { header = f.header; first = before_others n f.header xs ys f.first; home_is = f.home_is; imports_are = f.imports_are; sound = f.sound; declares = f.declares }
 
   -- behind a header of another package
-  first_beyond : (n : List ℕ) (home : ℕ) (is : Environment Entity) (W : NameAt S → Expr S → Type 0) (h : Headed S) (hs : List (Headed S)) → nat_eq h.home home ≡ false → FirstIs n home is W hs → FirstIs n home is W (h ∷ hs)
+  first_beyond : (n : List ℕ) (home : ℕ) (is : Environment Entity) (W : NameAt S → Option (TypeExpr S) → Expr S → Type 0) (h : Headed S) (hs : List (Headed S)) → nat_eq h.home home ≡ false → FirstIs n home is W hs → FirstIs n home is W (h ∷ hs)
   first_beyond n home is W h hs e f = record {
     header = f.header;
     first = a_later_one (ap (λ k. nat_eq h.home k && is_among n (header_names h.header)) f.home_is ∙ ap (λ b. b && is_among n (header_names h.header)) e) f.first;
@@ -69,13 +69,13 @@ module _ {S : Type 0} where
       tree : Decl S
       nth : slice_get source.decls decl ≡ Some tree
       found :
-          (b : List (List ℕ)) → is_among n b ≡ false → FirstIs n home (file_block members [] source.imports) (λ c e. inlinable_in tree item ≡ Some (a_constant c e)) (headed_files home main members i b fs)
+          (b : List (List ℕ)) → is_among n b ≡ false → FirstIs n home (file_block members [] source.imports) (AsConstant tree item) (headed_files home main members i b fs)
 
     names_past : (p f d : ℕ) {xs : List (Decl S)} → PlainDecls xs → is_blank n ≡ false → means (decls_from p f d xs) n ≡ None → is_among n (names_in (all_headers xs)) ≡ false
     names_past p f d r s q = decls_past n s (λ hs. is_among n (names_in hs) ≡ false) (λ h hs e t. neither_among n (header_names h.1) (names_in hs) e t) p f d r q refl
 
     -- behind a file without the name
-    file_past : (is : Environment Entity) (W : NameAt S → Expr S → Type 0) (p f d i : ℕ) (here : Environment Entity) {xs : List (Decl S)} (rest : List (Headed S)) → PlainDecls xs → is_blank n ≡ false → means (decls_from p f d xs) n ≡ None → FirstIs n home is W rest → (b : List (List ℕ))
+    file_past : (is : Environment Entity) (W : NameAt S → Option (TypeExpr S) → Expr S → Type 0) (p f d i : ℕ) (here : Environment Entity) {xs : List (Decl S)} (rest : List (Headed S)) → PlainDecls xs → is_blank n ≡ false → means (decls_from p f d xs) n ≡ None → FirstIs n home is W rest → (b : List (List ℕ))
         → FirstIs n home is W (headed_file home main i here b (all_headers xs) ++ rest)
     file_past is W p f d i here rest r s q k b =
         decls_past n s (λ hs. (b : List (List ℕ)) → FirstIs n home is W (headed_file home main i here b hs ++ rest))
@@ -101,7 +101,7 @@ module _ {S : Type 0} where
               nth_file = refl;
               tree = y.tree;
               nth = y.nth;
-              found = λ b a. first_front n home here (λ c e. inlinable_in y.tree y.item ≡ Some (a_constant c e)) (headed_file home main i here b (all_headers x.decls)) (headed_files home main members (suc i) (names_in (all_headers x.decls) ++ b) fs) (y.found b a);
+              found = λ b a. first_front n home here (AsConstant y.tree y.item) (headed_file home main i here b (all_headers x.decls)) (headed_files home main members (suc i) (names_in (all_headers x.decls) ++ b) fs) (y.found b a);
             }
         go k None e q =
             let y : FilesFound t p (suc f) (suc i) fs = k q in record {
@@ -115,13 +115,13 @@ module _ {S : Type 0} where
               tree = y.tree;
               nth = y.nth;
               found = λ b a.
-                  file_past (file_block members [] y.source.imports) (λ c e. inlinable_in y.tree y.item ≡ Some (a_constant c e)) p f 0 i here (headed_files home main members (suc i) (names_in (all_headers x.decls) ++ b) fs) r y.spelled e
+                  file_past (file_block members [] y.source.imports) (AsConstant y.tree y.item) p f 0 i here (headed_files home main members (suc i) (names_in (all_headers x.decls) ++ b) fs) r y.spelled e
                   (y.found (names_in (all_headers x.decls) ++ b) (neither_among n (names_in (all_headers x.decls)) b (names_past p f 0 r y.spelled e) a)) b;
             }
 
   -- ---- programs
 
-  module _ (n : List ℕ) (home : ℕ) (is : Environment Entity) (W : NameAt S → Expr S → Type 0) where
+  module _ (n : List ℕ) (home : ℕ) (is : Environment Entity) (W : NameAt S → Option (TypeExpr S) → Expr S → Type 0) where
     other_file : (there : ℕ) (main : Bool) (i : ℕ) (here : Environment Entity) (b : List (List ℕ)) (hs : List (S × Header S)) (rest : List (Headed S)) → nat_eq there home ≡ false → FirstIs n home is W rest → FirstIs n home is W (headed_file there main i here b hs ++ rest)
     other_file there main i here b [] rest e f = f
     other_file there main i here b (h ∷ hs) rest e f = first_beyond n home is W _ (headed_file there main i here (header_names h.1 ++ b) hs ++ rest) e (other_file there main i here (header_names h.1 ++ b) hs rest e f)
@@ -133,29 +133,29 @@ module _ {S : Type 0} where
         (other_file there main i (file_block members [] x.imports) b (all_headers x.decls) (headed_files there main members (suc i) (names_in (all_headers x.decls) ++ b) fs ++ rest) e
         (other_files there main members (suc i) (names_in (all_headers x.decls) ++ b) fs rest e f))
 
-  program_first : (n : List ℕ) (is : Environment Entity) (W : NameAt S → Expr S → Type 0) (p : SourcePackage S) (k : ℕ) {ps : Program S} → PackageAt p k ps → FirstIs n p.number is W (headed_package p) → FirstIs n p.number is W (headed ps)
+  program_first : (n : List ℕ) (is : Environment Entity) (W : NameAt S → Option (TypeExpr S) → Expr S → Type 0) (p : SourcePackage S) (k : ℕ) {ps : Program S} → PackageAt p k ps → FirstIs n p.number is W (headed_package p) → FirstIs n p.number is W (headed ps)
   program_first n is W p _ (this_package {ps = ps}) f = first_front n p.number is W (headed_package p) (headed ps) f
   program_first n is W p _ (a_later_package {k = k} {q = q} {ps = ps} e r) f = other_files n p.number is W q.number (is_main q) (block_names q.files) 0 [] q.files (headed ps) e (program_first n is W p k r f)
 
   -- ---- by numbers
 
   pub first_declared : (n : List ℕ) (p : SourcePackage S) (k : ℕ) (ps : Program S) (f d i : ℕ) (file : SourceFile S) (decl : Decl S) → PlainFiles p.files → PackageAt p k ps → means (block_from p.number 0 p.files) n ≡ Some (member p.number f d i) → slice_get p.files f ≡ Some file → slice_get file.decls d ≡ Some decl
-      → FirstIs n p.number (file_block (block_names p.files) [] file.imports) (λ c e. inlinable_in decl i ≡ Some (a_constant c e)) (headed ps)
+      → FirstIs n p.number (file_block (block_names p.files) [] file.imports) (AsConstant decl i) (headed ps)
   first_declared n p k ps f d i file decl plain at q nf nd =
       let members : List (List ℕ) = block_names p.files in
       let y : FilesFound n p.number (is_main p) members (member p.number f d i) p.number 0 0 p.files = files_found n p.number (is_main p) members (member p.number f d i) p.number 0 0 plain q in
       let zero_more : 0 + y.file ≡ y.file = omega arith in
       let same_file : y.source ≡ file = some_same y.source file (sym y.nth_file ∙ ap (slice_get p.files) (sym (ap file_of y.is_item ∙ zero_more)) ∙ nf) in
       let same_decl : y.tree ≡ decl = some_same y.tree decl (sym y.nth ∙ (λ j. slice_get (same_file j).decls (sym (ap decl_of y.is_item) j)) ∙ nd) in
-      let r : FirstIs n p.number (file_block members [] y.source.imports) (λ c e. inlinable_in y.tree y.item ≡ Some (a_constant c e)) (headed ps) =
-      program_first n (file_block members [] y.source.imports) (λ c e. inlinable_in y.tree y.item ≡ Some (a_constant c e)) p k at (y.found [] refl) in
+      let r : FirstIs n p.number (file_block members [] y.source.imports) (AsConstant y.tree y.item) (headed ps) =
+      program_first n (file_block members [] y.source.imports) (AsConstant y.tree y.item) p k at (y.found [] refl) in
       record {
         header = r.header;
         first = r.first;
         home_is = r.home_is;
         imports_are = r.imports_are ∙ ap (λ s. file_block members [] s.imports) same_file;
         sound = r.sound;
-        declares = λ c e h. r.declares c e ((λ j. inlinable_in (same_decl j) (sym (ap item_of y.is_item) j)) ∙ h);
+        declares = λ c t e h. r.declares c t e ((λ j. inlinable_in (same_decl j) (sym (ap item_of y.is_item) j)) ∙ h.0, (λ j. type_in (same_decl j) (sym (ap item_of y.is_item) j)) ∙ h.1);
       }
 
   -- it is no `_`

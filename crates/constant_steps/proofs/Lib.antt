@@ -18,3 +18,4 @@ pub mod PlainLinked
 mod Example
 mod BodyExample
 mod ChainExample
+mod PlainExample

@@ -78,7 +78,7 @@ module _ {S : Type 0} (same : S → S → Bool) (commented : ℕ → ℕ → S �
   not_init ps stands well =
       let f = first_old same commented rs marks x u v s k ps stands in
       let o = old_in same commented rs marks x u v s in
-      let h : ConstantHeader u.name f.header.header u.constant (ident u.at u.new) = f.declares u.constant (ident u.at u.new) o.holds in
+      let h : ConstantHeader u.name f.header.header u.constant None (ident u.at u.new) = f.declares u.constant None (ident u.at u.new) (o.holds, o.typed ∙ u.untyped) in
       let t : HeaderTyped (types_declared ps (headed ps)) (collected ps) f.header = of-first u.name f.header (headed ps) f.first (headers-typed ps well) in
       let d : is_some (declared_by (types_declared ps (headed ps)) (collected ps) f.header) ≡ true =
       declares-it ps f.header (types_declared ps (headed ps)) (collected ps) t.before (constants (u.constant ∷ []) None (expr_and (ident u.at u.new) no_exprs) h.number) h.is refl t.declares in

@@ -1,8 +1,8 @@
 -- A plain use of a constant, in each program that holds its package: what the rules of typing say of it.
-use Rattle.std.specs.Prelude.{◌≡◌, refl, ℕ, Bool, true, false, ◌&&◌, List, [], map, Some, None, nat_eq, slice_get}
+use Rattle.std.specs.Prelude.{◌≡◌, refl, ℕ, Bool, true, false, ◌&&◌, List, [], map, Some, None, nat_eq, slice_get, Option}
 use mathlib.Core.Path.{ap, ap₂, sym, ◌∙◌}
 use Rattle.std.proofs.Common.{arith}
-use Rattle.go_tree.specs.Tree.{NameAt, Expr, ident}
+use Rattle.go_tree.specs.Tree.{NameAt, TypeExpr, Expr, ident}
 use Rattle.go_tree.specs.File.{Decl}
 use Rattle.scope_names.specs.Means.{means, is_blank}
 use Rattle.pkg_graph.specs.Package.{SourceTree, Package}
@@ -21,8 +21,9 @@ use Rattle.run_rules.specs.Reduced.{home_place}
 use Rattle.run_rules.specs.Steps.{change_nth, changes_for, new_decl}
 use Rattle.step_laws.specs.DeclStands.{decl_changed, file_changed}
 use Rattle.step_laws.specs.ConstantUses.{UseOfConstant}
-use Rattle.constant_steps.specs.Alone.{block_from, PackageAt, FirstIs}
-use Rattle.constant_steps.specs.PlainUse.{linked_at, PlainUse, UseStands}
+use Rattle.constant_steps.specs.Alone.{block_from, PackageAt, FirstIs, type_in, AsConstant}
+use Rattle.go_types.specs.Answers.{given}
+use Rattle.constant_steps.specs.PlainUse.{linked_at, type_marked, PlainUse, UseStands}
 use Rattle.constant_steps.proofs.FirstDeclared.{first_declared, spelled_where_declared, package_where_declared}
 use Rattle.constant_steps.proofs.NamesOutside.{equal_numbers, MemberThere, member_there, unshadowed, not_local}
 use Rattle.constant_steps.proofs.PlainForms.{not_shadowed}
@@ -31,12 +32,13 @@ use Rattle.constant_steps.proofs.AfterStep.{same_number, SomeConstant, constant_
 use Rattle.constant_steps.proofs.MarksFound.{member_of_mark, named_member, marked_so, StandsThere, stands_there, DeclaredThere, declared_there, nth_mapped}
 
 -- a constant that a mark holds for, in a package
-pub record MarkedIn {S : Type 0} (pk : Package S) (m : MarkRef) (c : NameAt S) (e : Expr S) : Type 0 where
+pub record MarkedIn {S : Type 0} (pk : Package S) (m : MarkRef) (c : NameAt S) (e : Expr S) (t : Option (TypeExpr S)) : Type 0 where
   pub source : SourceTree S
   pub file_there : slice_get pk.files m.file ≡ Some source
   pub decl : Decl S
   pub decl_there : slice_get source.tree.decls m.decl ≡ Some decl
   pub holds : inlinable_in decl m.item ≡ Some (a_constant c e)
+  pub typed : type_in decl m.item ≡ t
 
 module _ {S : Type 0} (same : S → S → Bool) (commented : ℕ → ℕ → S → Bool) (rs : List (Package S)) (marks : List MarkRef) (x : Site S) (u : PlainUse same commented rs marks x) (v : UseStands same commented rs marks x u) where
   abbrev K : ℕ
@@ -93,17 +95,17 @@ module _ {S : Type 0} (same : S → S → Bool) (commented : ℕ → ℕ → S �
     new_package : u.new_mark.«package» ≡ K
     new_package = package_where_declared u.new p u.new_mark.«package» u.new_mark.file u.new_mark.decl u.new_mark.item v.plain new_there.in_block
 
-    marked_in : (m : MarkRef) (c : NameAt S) (e : Expr S) → m.«package» ≡ K → inlinable rs m ≡ Some (a_constant c e) → MarkedIn pk m c e
+    marked_in : (m : MarkRef) (c : NameAt S) (e : Expr S) → m.«package» ≡ K → inlinable rs m ≡ Some (a_constant c e) → MarkedIn pk m c e (type_marked rs m)
     marked_in m c e q i =
         let d : DeclaredThere rs m (a_constant c e) = declared_there rs m (a_constant c e) i in
         let w : StandsThere rs m d.file = stands_there rs m d.file d.stands in
         let of : d.file.of ≡ pk = some_same d.file.of pk (sym w.package_there ∙ ap (slice_get rs) q ∙ v.package_there) in
-        record { source = d.file.source; file_there = sym (ap (λ k. slice_get k.files m.file) of) ∙ w.file_there; decl = d.decl; decl_there = d.nth; holds = d.holds }
+        record { source = d.file.source; file_there = sym (ap (λ k. slice_get k.files m.file) of) ∙ w.file_there; decl = d.decl; decl_there = d.nth; holds = d.holds; typed = sym (ap (λ o. given o (λ d. type_in d m.item)) (ap (λ o. given o (λ w. slice_get w.source.tree.decls m.decl)) d.stands ∙ d.nth)) }
 
-    pub old_in : MarkedIn pk x.mark u.constant (ident u.at u.new)
+    pub old_in : MarkedIn pk x.mark u.constant (ident u.at u.new) (type_marked rs x.mark)
     old_in = marked_in x.mark u.constant (ident u.at u.new) old_package u.declared
 
-    pub new_in : MarkedIn pk u.new_mark u.new_constant u.new_expr
+    pub new_in : MarkedIn pk u.new_mark u.new_constant u.new_expr (type_marked rs u.new_mark)
     new_in = marked_in u.new_mark u.new_constant u.new_expr new_package u.new_declared
 
     -- the constant's file is that of its mark
@@ -131,11 +133,11 @@ module _ {S : Type 0} (same : S → S → Bool) (commented : ℕ → ℕ → S �
       abbrev members : List (List ℕ)
       members = block_names files
 
-      pub first_old : FirstIs u.name K (file_block members [] (linked_imports rs old_in.source.tree)) (λ c e. inlinable_in old_in.decl x.mark.item ≡ Some (a_constant c e)) (headed ps)
+      pub first_old : FirstIs u.name K (file_block members [] (linked_imports rs old_in.source.tree)) (AsConstant old_in.decl x.mark.item) (headed ps)
       first_old =
           first_declared u.name p k ps x.mark.file x.mark.decl x.mark.item (linked_file rs old_in.source) old_in.decl v.plain stands (in_block u.name x.mark old_package old_there.in_block) (nth_mapped (linked_file rs) pk.files x.mark.file old_in.source old_in.file_there) old_in.decl_there
 
-      first_new : FirstIs u.new K (file_block members [] (linked_imports rs new_in.source.tree)) (λ c e. inlinable_in new_in.decl u.new_mark.item ≡ Some (a_constant c e)) (headed ps)
+      first_new : FirstIs u.new K (file_block members [] (linked_imports rs new_in.source.tree)) (AsConstant new_in.decl u.new_mark.item) (headed ps)
       first_new =
           first_declared u.new p k ps u.new_mark.file u.new_mark.decl u.new_mark.item (linked_file rs new_in.source) new_in.decl v.plain stands (in_block u.new u.new_mark new_package new_there.in_block) (nth_mapped (linked_file rs) pk.files u.new_mark.file new_in.source new_in.file_there)
           new_in.decl_there
@@ -143,8 +145,8 @@ module _ {S : Type 0} (same : S → S → Bool) (commented : ℕ → ℕ → S �
       pub use_before : is_init u.name ≡ false → (w : World) → ValuesEnd ps w → (there : List (List ℕ))
           → UseOfConstant ps first_old.header u.constant (ident u.at u.new) w (file_env w K (file_block there [] (linked_imports rs x.at.source.tree)) None) x.place (ident u.span u.name) (ident (part_span x.part) u.new)
       use_before i w ended there =
-          use_meant ps w ended p k stands u.name u.new u.constant u.new_constant u.new_expr u.span u.at (part_span x.part) (file_block there [] (linked_imports rs x.at.source.tree)) (file_block members [] (linked_imports rs old_in.source.tree))
-          (file_block members [] (linked_imports rs new_in.source.tree)) (λ c e. inlinable_in old_in.decl x.mark.item ≡ Some (a_constant c e)) (λ c e. inlinable_in new_in.decl u.new_mark.item ≡ Some (a_constant c e)) first_old first_new old_in.holds new_in.holds spelled_old spelled_new i
+          use_meant ps w ended p k stands u.name u.new u.constant u.new_constant (type_in new_in.decl u.new_mark.item) u.new_expr u.span u.at (part_span x.part) (file_block there [] (linked_imports rs x.at.source.tree)) (file_block members [] (linked_imports rs old_in.source.tree))
+          (file_block members [] (linked_imports rs new_in.source.tree)) (AsConstant old_in.decl x.mark.item) (AsConstant new_in.decl u.new_mark.item) first_old first_new (old_in.holds, old_in.typed ∙ u.untyped) (new_in.holds, refl) spelled_old spelled_new i
           (old_there.no_import there) (new_there.no_import there) (no_home members) x.place old_outside.0 new_outside.0
 
     -- ---- in a program after the step
@@ -167,9 +169,10 @@ module _ {S : Type 0} (same : S → S → Bool) (commented : ℕ → ℕ → S �
       pub decl_there : slice_get file.decls m.decl ≡ Some decl
       pub expr : Expr S
       pub holds : inlinable_in decl m.item ≡ Some (a_constant c expr)
+      pub untyped : type_marked rs m ≡ None → type_in decl m.item ≡ None
       pub unless : (nat_eq m.file x.at.file_number && nat_eq m.decl x.decl) ≡ false → expr ≡ e
 
-    after_in : (m : MarkRef) (c : NameAt S) (e : Expr S) (r : MarkedIn pk m c e) → AfterIn m c e r.source
+    after_in : (m : MarkRef) (c : NameAt S) (e : Expr S) (r : MarkedIn pk m c e (type_marked rs m)) → AfterIn m c e r.source
     after_in m c e r = by_file (nat_eq m.file x.at.file_number) refl
       where
         there : slice_get files m.file ≡ Some (linked_file rs r.source)
@@ -179,17 +182,17 @@ module _ {S : Type 0} (same : S → S → Bool) (commented : ℕ → ℕ → S �
         by_decl true q h f =
             let d : slice_get (change_nth x.decl change r.source.tree.decls) m.decl ≡ Some (change r.decl) =
             ap (λ n. slice_get (change_nth x.decl change r.source.tree.decls) n) (equal_numbers m.decl x.decl q) ∙ nth_changed change x.decl r.source.tree.decls r.decl (sym (ap (slice_get r.source.tree.decls) (equal_numbers m.decl x.decl q)) ∙ r.decl_there) in
-            let k : SomeConstant (change r.decl) m.item c = constant_after same rs puts K pk x.at.source.tree (plain_decl m.decl r.source.tree.decls r.decl (plain_file m.file files (linked_file rs r.source) v.plain there) r.decl_there) m.item c e r.holds in
-            record { file = decl_changed change x.decl (linked_file rs r.source); file_there = f; imports = refl; decl = change r.decl; decl_there = d; expr = k.expr; holds = k.is; unless = λ y. absurd (grind (arith, sym y ∙ ap₂ (λ a b. a && b) h q)) }
+            let k : SomeConstant r.decl (change r.decl) m.item c = constant_after same rs puts K pk x.at.source.tree (plain_decl m.decl r.source.tree.decls r.decl (plain_file m.file files (linked_file rs r.source) v.plain there) r.decl_there) m.item c e r.holds in
+            record { file = decl_changed change x.decl (linked_file rs r.source); file_there = f; imports = refl; decl = change r.decl; decl_there = d; expr = k.expr; holds = k.is; untyped = λ y. k.untyped (r.typed ∙ y); unless = λ y. absurd (grind (arith, sym y ∙ ap₂ (λ a b. a && b) h q)) }
         by_decl false q h f =
-            record { file = decl_changed change x.decl (linked_file rs r.source); file_there = f; imports = refl; decl = r.decl; decl_there = nth_stays change m.decl x.decl r.source.tree.decls q ∙ r.decl_there; expr = e; holds = r.holds; unless = λ y. refl }
+            record { file = decl_changed change x.decl (linked_file rs r.source); file_there = f; imports = refl; decl = r.decl; decl_there = nth_stays change m.decl x.decl r.source.tree.decls q ∙ r.decl_there; expr = e; holds = r.holds; untyped = λ y. r.typed ∙ y; unless = λ y. refl }
 
         by_file : (b : Bool) → nat_eq m.file x.at.file_number ≡ b → AfterIn m c e r.source
         by_file true q =
             by_decl (nat_eq m.decl x.decl) refl q
             (ap (λ n. slice_get p'.files n) (equal_numbers m.file x.at.file_number q) ∙ nth_changed (decl_changed change x.decl) x.at.file_number files (linked_file rs r.source) (sym (ap (slice_get files) (equal_numbers m.file x.at.file_number q)) ∙ there))
         by_file false q =
-            record { file = linked_file rs r.source; file_there = nth_stays (decl_changed change x.decl) m.file x.at.file_number files q ∙ there; imports = refl; decl = r.decl; decl_there = r.decl_there; expr = e; holds = r.holds; unless = λ y. refl }
+            record { file = linked_file rs r.source; file_there = nth_stays (decl_changed change x.decl) m.file x.at.file_number files q ∙ there; imports = refl; decl = r.decl; decl_there = r.decl_there; expr = e; holds = r.holds; untyped = λ y. r.typed ∙ y; unless = λ y. refl }
 
     pub old_after : AfterIn x.mark u.constant (ident u.at u.new) old_in.source
     old_after = after_in x.mark u.constant (ident u.at u.new) old_in
@@ -204,12 +207,12 @@ module _ {S : Type 0} (same : S → S → Bool) (commented : ℕ → ℕ → S �
       block_stays : (n : List ℕ) (m : MarkRef) → means (block_from K 0 files) n ≡ Some (member K m.file m.decl m.item) → means (block_from K 0 p'.files) n ≡ Some (member K m.file m.decl m.item)
       block_stays n m h = ap (λ l. means l n) (files_named same rs puts K pk x.at.source.tree K 0 x.at.file_number x.decl v.plain) ∙ h
 
-      pub first_old' : FirstIs u.name K (file_block members_after [] old_after.file.imports) (λ c e. inlinable_in old_after.decl x.mark.item ≡ Some (a_constant c e)) (headed ps)
+      pub first_old' : FirstIs u.name K (file_block members_after [] old_after.file.imports) (AsConstant old_after.decl x.mark.item) (headed ps)
       first_old' =
           first_declared u.name p' k ps x.mark.file x.mark.decl x.mark.item old_after.file old_after.decl (files_after same rs puts K pk x.at.source.tree x.at.file_number x.decl v.plain) stands (block_stays u.name x.mark (in_block u.name x.mark old_package old_there.in_block)) old_after.file_there
           old_after.decl_there
 
-      first_new' : FirstIs u.new K (file_block members_after [] new_after.file.imports) (λ c e. inlinable_in new_after.decl u.new_mark.item ≡ Some (a_constant c e)) (headed ps)
+      first_new' : FirstIs u.new K (file_block members_after [] new_after.file.imports) (AsConstant new_after.decl u.new_mark.item) (headed ps)
       first_new' =
           first_declared u.new p' k ps u.new_mark.file u.new_mark.decl u.new_mark.item new_after.file new_after.decl (files_after same rs puts K pk x.at.source.tree x.at.file_number x.decl v.plain) stands (block_stays u.new u.new_mark (in_block u.new u.new_mark new_package new_there.in_block)) new_after.file_there
           new_after.decl_there
@@ -217,6 +220,6 @@ module _ {S : Type 0} (same : S → S → Bool) (commented : ℕ → ℕ → S �
       pub use_after : is_init u.name ≡ false → (w : World) → ValuesEnd ps w → (there : List (List ℕ))
           → UseOfConstant ps first_old'.header u.constant (ident u.at u.new) w (file_env w K (file_block there [] (linked_imports rs x.at.source.tree)) None) x.place (ident u.span u.name) (ident (part_span x.part) u.new)
       use_after i w ended there =
-          use_meant ps w ended p' k stands u.name u.new u.constant u.new_constant new_after.expr u.span u.at (part_span x.part) (file_block there [] (linked_imports rs x.at.source.tree)) (file_block members_after [] old_after.file.imports) (file_block members_after [] new_after.file.imports)
-          (λ c e. inlinable_in old_after.decl x.mark.item ≡ Some (a_constant c e)) (λ c e. inlinable_in new_after.decl u.new_mark.item ≡ Some (a_constant c e)) first_old' first_new' (old_after.holds ∙ ap (λ e. Some (a_constant u.constant e)) (old_after.unless v.elsewhere)) new_after.holds spelled_old spelled_new i
+          use_meant ps w ended p' k stands u.name u.new u.constant u.new_constant (type_in new_after.decl u.new_mark.item) new_after.expr u.span u.at (part_span x.part) (file_block there [] (linked_imports rs x.at.source.tree)) (file_block members_after [] old_after.file.imports) (file_block members_after [] new_after.file.imports)
+          (AsConstant old_after.decl x.mark.item) (AsConstant new_after.decl u.new_mark.item) first_old' first_new' (old_after.holds ∙ ap (λ e. Some (a_constant u.constant e)) (old_after.unless v.elsewhere), old_after.untyped u.untyped) (new_after.holds, refl) spelled_old spelled_new i
           (old_there.no_import there) (new_there.no_import there) (ap (λ is. means (file_block members_after [] is) u.new) old_after.imports ∙ no_home members_after) x.place old_outside.0 new_outside.0

@@ -1,19 +1,21 @@
 -- In a declaration of simple parts what stands at a use's span is a use of the constant, if the use is.
-use Rattle.std.specs.Prelude.{◌≡◌, ℕ, Bool, List, [], ◌∷◌}
-use mathlib.Core.Path.{sym, subst}
-use Rattle.go_tree.specs.Tree.{NameAt, Expr, composite, func_lit, Stmt, const_decl}
+use Rattle.std.specs.Prelude.{◌≡◌, ℕ, suc, Bool, List, [], ◌∷◌}
+use Rattle.std.proofs.Common.{arith}
+use mathlib.Core.Path.{sym, subst, ◌∙◌}
+use Rattle.go_tree.specs.Tree.{NameAt, Expr, composite, func_lit, Stmt, const_decl, ValueSpecs, no_specs, spec}
 use Rattle.go_types.specs.Entities.{Env}
-use Rattle.run_rules.specs.Surroundings.{Place, Use, Seen, seen, seen_type, seen_stmt}
+use Rattle.go_types.specs.Typing.{Repeated, nothing_to_repeat}
+use Rattle.run_rules.specs.Surroundings.{Place, Use, Seen, seen, seen_type, seen_stmt, plain_slot, after_constants, repeated_by}
 use Rattle.run_rules.specs.Rewriting.{Changes}
 use Rattle.run_rules.specs.Sites.{Site, part_span}
 use Rattle.run_rules.specs.FormTrees.{as_expr}
 use Rattle.run_rules.specs.Steps.{changes_for}
 use Rattle.step_laws.specs.Answered.{ExprKnown}
-use Rattle.step_laws.specs.Kept.{GroupKept}
+use Rattle.step_laws.specs.Kept.{RepeatsKept, GroupKept}
 use Rattle.step_laws.specs.NamesOutside.{NamesOutside, UseThere, AllUsesThere}
 use Rattle.step_laws.specs.SwapUses.{SwapThere, ExprSwappable, AllSwapsThere}
 use Rattle.step_laws.specs.Swaps.{put}
-use Rattle.constant_steps.specs.PlainUse.{IsSimple, AllSimple, AllTheUse}
+use Rattle.constant_steps.specs.PlainUse.{NoneRepeats, IsSimple, AllSimple, AllTheUse}
 
 module _ {S : Type 0} where
   pub simple_known : (c : Changes S) (R : List (List ℕ) → Env → Env → List (NameAt S) → Type 0) (p : Place S) (u : Use) (y : Expr S) → IsSimple (seen p u y) → ExprKnown c R p y
@@ -22,8 +24,12 @@ module _ {S : Type 0} where
   simple_known c R p u y h = tt
 
   module _ (same : S → S → Bool) (z : S) where
+    none_repeats : (p : Place S) (r : Repeated) (i : ℕ) (ss : ValueSpecs S) → NoneRepeats ss → RepeatsKept same z p r i ss
+    none_repeats p r i no_specs h = tt
+    none_repeats p r i (spec s ns t es ss) h = ((λ q. absurd (grind (arith, sym h.0 ∙ q))), none_repeats (after_constants p (repeated_by r t es) i ns) (repeated_by r t es) (suc i) ss h.1)
+
     pub simple_kept : (p : Place S) (s : Stmt S) → IsSimple (seen_stmt p s) → GroupKept same z p s
-    simple_kept p (const_decl s g ss) h = absurd h
+    simple_kept p (const_decl s g ss) h = none_repeats (plain_slot p) nothing_to_repeat 0 ss h
     simple_kept p s h = tt
 
     simple_swappable : (e : Expr S) (top : Env) (p : Place S) (u : Use) (y : Expr S) → IsSimple (seen p u y) → ExprSwappable same z e top p y

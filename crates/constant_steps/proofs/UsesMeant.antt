@@ -2,7 +2,7 @@
 use Rattle.std.specs.Prelude.{◌≡◌, refl, ℕ, true, false, not, List, [], ◌∷◌, ◌++◌, Option, Some, None, nat_eq}
 use mathlib.Core.Path.{ap, sym, ◌∙◌, subst}
 use Rattle.std.proofs.Common.{arith}
-use Rattle.go_tree.specs.Tree.{NameAt, Expr, ident, no_exprs, expr_and}
+use Rattle.go_tree.specs.Tree.{NameAt, TypeExpr, Expr, ident, no_exprs, expr_and}
 use Rattle.scope_names.specs.Means.{Environment, means, is_blank, binding, or_else}
 use Rattle.go_types.specs.Answers.{given, both, otherwise}
 use Rattle.go_types.specs.Types.{GoType}
@@ -71,21 +71,21 @@ module _ {S : Type 0} (ps : Program S) where
   fits_all : (k : Headed S) → Fits k (declared_by ds v k)
   fits_all k = (value_phase ds v).fits v.blocks k
 
-  header_binds : (h : Headed S) (c : NameAt S) (e : Expr S) (i : ℕ) → h.header ≡ constants (c ∷ []) None (expr_and e no_exprs) i → is_blank c.name ≡ false → (o : Option Binds) → declared_by ds v h ≡ o → BoundTo c.name o
-  header_binds h c e i q s None r = record { entity = refused; kind = refused_yet; bound = λ ms. binding_means c.name refused ms s }
-  header_binds h c e i q s (Some bs) r =
+  header_binds : (h : Headed S) (c : NameAt S) (kind : Option (TypeExpr S)) (e : Expr S) (i : ℕ) → h.header ≡ constants (c ∷ []) kind (expr_and e no_exprs) i → is_blank c.name ≡ false → (o : Option Binds) → declared_by ds v h ≡ o → BoundTo c.name o
+  header_binds h c kind e i q s None r = record { entity = refused; kind = refused_yet; bound = λ ms. binding_means c.name refused ms s }
+  header_binds h c kind e i q s (Some bs) r =
       let a : Env = env_of v h (Some i) in
       let es = expr_and e no_exprs in
       let k : (Option GoType → List Operand → Option Binds) = (λ t os. given (all_typed os) (bind_all (constant_entity v.defined t) (c.name ∷ []))) in
-      let d : declared_in v h (good_entity ds v h) (constants (c ∷ []) None es i) ≡ Some bs = ap (declared_in v h (good_entity ds v h)) (sym q) ∙ from_only h.sound (declared_in v h (good_entity ds v h) h.header) bs r in
-      let u = from_both (written_type {S = S} a None) (all_parts a es) k bs (from_only (all_bodiless es) (both (written_type {S = S} a None) (all_parts a es) k) bs d) in
+      let d : declared_in v h (good_entity ds v h) (constants (c ∷ []) kind es i) ≡ Some bs = ap (declared_in v h (good_entity ds v h)) (sym q) ∙ from_only h.sound (declared_in v h (good_entity ds v h) h.header) bs r in
+      let u = from_both (written_type {S = S} a kind) (all_parts a es) k bs (from_only (all_bodiless es) (both (written_type {S = S} a kind) (all_parts a es) k) bs d) in
       let t = from_given (all_typed u.1) (bind_all (constant_entity v.defined u.0) (c.name ∷ [])) bs u.4 in
       one_bound v.defined u.0 c.name t.0 bs s t.2
 
   -- a name whose first header declares a constant alone means a constant, or what is refused
-  pub constant_or_refused : (h : Headed S) (c : NameAt S) (e : Expr S) (i : ℕ) → h.header ≡ constants (c ∷ []) None (expr_and e no_exprs) i → is_blank c.name ≡ false → FirstWith c.name h hs → HasNumber h.home ps → ConstantOrRefused (means (block_of v.blocks h.home) c.name)
-  constant_or_refused h c e i q s first number =
-      let b : BoundTo c.name (declared_by ds v h) = header_binds h c e i q s (declared_by ds v h) refl in
+  pub constant_or_refused : (h : Headed S) (c : NameAt S) (kind : Option (TypeExpr S)) (e : Expr S) (i : ℕ) → h.header ≡ constants (c ∷ []) kind (expr_and e no_exprs) i → is_blank c.name ≡ false → FirstWith c.name h hs → HasNumber h.home ps → ConstantOrRefused (means (block_of v.blocks h.home) c.name)
+  constant_or_refused h c kind e i q s first number =
+      let b : BoundTo c.name (declared_by ds v h) = header_binds h c kind e i q s (declared_by ds v h) refl in
       let one : ((ms : Environment Entity) → means (binds_or_refused h (declared_by ds v h) ++ ms) c.name ≡ Some b.entity) = (λ ms. ap (λ y. means (otherwise (declared_by ds v h) (bind_each refused (header_names y)) ++ ms) c.name) q ∙ b.bound ms) in
       subst ConstantOrRefused
       (sym (ap (λ bs. means (block_of bs h.home) c.name) (sym (ap (λ w. w.blocks) (valued_settled ps hs)))
@@ -114,12 +114,12 @@ module _ {S : Type 0} (ps : Program S) (w : World) (ended : ValuesEnd ps w) (p :
 
   -- the use n of a constant c that is declared as d, and d in its place: the use's file has the imports `there`, that
   -- of c's declaration the imports `home`
-  pub use_meant : (n d : List ℕ) (c c' : NameAt S) (e' : Expr S) (s t z : S) (there home home' : Environment Entity) (W W' : NameAt S → Expr S → Type 0) (f : FirstIs n p.number home W (headed ps)) (f' : FirstIs d p.number home' W' (headed ps))
-      → W c (ident t d) → W' c' e' → is_blank n ≡ false → is_blank d ≡ false → is_init n ≡ false → means there n ≡ None → means there d ≡ None → means home d ≡ None → (q : Place S) → is_local q n ≡ false → is_local q d ≡ false
+  pub use_meant : (n d : List ℕ) (c c' : NameAt S) (kind : Option (TypeExpr S)) (e' : Expr S) (s t z : S) (there home home' : Environment Entity) (W W' : NameAt S → Option (TypeExpr S) → Expr S → Type 0) (f : FirstIs n p.number home W (headed ps)) (f' : FirstIs d p.number home' W' (headed ps))
+      → W c None (ident t d) → W' c' kind e' → is_blank n ≡ false → is_blank d ≡ false → is_init n ≡ false → means there n ≡ None → means there d ≡ None → means home d ≡ None → (q : Place S) → is_local q n ≡ false → is_local q d ≡ false
       → UseOfConstant ps f.header c (ident t d) w (file_env w p.number there None) q (ident s n) (ident z d)
-  use_meant n d c c' e' s t z there home home' W W' f f' y y' sn sd si tn td hd q ln ld =
-      let u : ConstantHeader n f.header.header c (ident t d) = f.declares c (ident t d) y in
-      let u' : ConstantHeader d f'.header.header c' e' = f'.declares c' e' y' in
+  use_meant n d c c' kind e' s t z there home home' W W' f f' y y' sn sd si tn td hd q ln ld =
+      let u : ConstantHeader n f.header.header c None (ident t d) = f.declares c None (ident t d) y in
+      let u' : ConstantHeader d f'.header.header c' kind e' = f'.declares c' kind e' y' in
       let blank : is_blank c.name ≡ false = ap is_blank u.named ∙ sn in
       let blank' : is_blank c'.name ≡ false = ap is_blank u'.named ∙ sd in
       let first' : FirstWith c'.name f'.header (headed ps) = subst (λ m. FirstWith m f'.header (headed ps)) (sym u'.named) f'.first in
@@ -127,7 +127,7 @@ module _ {S : Type 0} (ps : Program S) (w : World) (ended : ValuesEnd ps w) (p :
       let number : HasNumber f.header.home ps = subst (λ a. HasNumber a ps) (sym f.home_is) (has_number p k stands) in
       let number' : HasNumber f'.header.home ps = subst (λ a. HasNumber a ps) (sym f'.home_is) (has_number p k stands) in
       let known' : ConstantOrRefused (means block d) =
-      subst (λ m. ConstantOrRefused (means block m)) u'.named (subst (λ a. ConstantOrRefused (means (block_of last.blocks a) c'.name)) f'.home_is (constant_or_refused ps f'.header c' e' u'.number u'.is blank' first' number')) in
+      subst (λ m. ConstantOrRefused (means block m)) u'.named (subst (λ a. ConstantOrRefused (means (block_of last.blocks a) c'.name)) f'.home_is (constant_or_refused ps f'.header c' kind e' u'.number u'.is blank' first' number')) in
       let a : Env = env_of last f.header (Some u.number) in
       let at_home : meaning a d ≡ means block d =
       (λ i. means ((f.imports_are i ++ block_of last.blocks (f.home_is i)) ++ universe) d) ∙ block_meaning home block d hd ∙ found_first (means block d) (means universe d) known' in

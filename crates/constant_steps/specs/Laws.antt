@@ -15,7 +15,7 @@ use Rattle.go_translation.specs.SameMeaning.{Packages, SameMeaning}
 use Rattle.run_rules.specs.Surroundings.{Place, other}
 use Rattle.run_rules.specs.Places.{expr_seen}
 use Rattle.run_rules.specs.Programs.{top_place, linked}
-use Rattle.run_rules.specs.Sites.{MarkRef, Where, Site, a_constant, inlinable_in, part_span, outer_meaning}
+use Rattle.run_rules.specs.Sites.{MarkRef, Where, Site, part_span, outer_meaning}
 use Rattle.run_rules.specs.FormTrees.{as_expr}
 use Rattle.run_rules.specs.Naming.{unnamed_package}
 use Rattle.run_rules.specs.Steps.{packages_between}
@@ -23,14 +23,14 @@ use Rattle.run_rules.specs.Obstacles.{shadowed}
 use Rattle.step_laws.specs.ConstantSteps.{ImportsRight}
 use Rattle.step_laws.specs.ConstantSwaps.{ConstantSwaps}
 use Rattle.step_laws.specs.SwapPrograms.{members_put}
-use Rattle.constant_steps.specs.Alone.{PlainFiles, block_from, PackageAt, FirstIs}
+use Rattle.constant_steps.specs.Alone.{PlainFiles, block_from, PackageAt, AsConstant, FirstIs}
 use Rattle.constant_steps.specs.PlainLinks.{found_by}
 use Rattle.constant_steps.specs.PlainRuns.{PlainRun}
 use Rattle.constant_steps.specs.PlainUse.{linked_at, PlainUse, UseStands}
 
 -- In a program whose k-th package has plain declarations, a name that means a declaration by its numbers is declared by
 -- the first header of the package that has the name; where a mark can hold for that declaration as for a constant, the
--- header declares it, as the same expression.
+-- header declares it, of the same type, or of none, as the same expression.
 abbrev pub DeclarationsAreFirst : Type 0
 DeclarationsAreFirst =
     (n : List ℕ) (p : SourcePackage Span) (k : ℕ) (ps : Program Span) (f d i : ℕ) (file : SourceFile Span)
@@ -38,7 +38,7 @@ DeclarationsAreFirst =
     means (block_from p.number 0 p.files) n ≡ Some (member p.number f d i) → slice_get p.files f ≡ Some file →
     slice_get file.decls d ≡ Some decl →
     FirstIs n p.number (file_block (block_names p.files) [] file.imports)
-    (λ c e. inlinable_in decl i ≡ Some (a_constant c e)) (headed ps)
+    (AsConstant decl i) (headed ps)
 
 -- A name of the package block that isn't shadowed at a use in the same package means there what it means where it is
 -- written.

@@ -1,10 +1,12 @@
 -- A use of a constant in its own package, which is declared as another constant of the package, and in whose way
 -- nothing stands (Go specification, Constant declarations; Declarations and scope).
-use Rattle.std.specs.Prelude.{◌≡◌, ℕ, Bool, true, false, ◌&&◌, List, [], ◌∷◌, map, Some, nat_eq, slice_get}
-use Rattle.go_tree.specs.Tree.{NameAt, Expr, ident, composite, func_lit, const_decl}
+use Rattle.std.specs.Prelude.{◌≡◌, ℕ, Bool, true, false, ◌&&◌, List, [], ◌∷◌, map, Option, Some, None, nat_eq, slice_get}
+use Rattle.go_tree.specs.Tree.{NameAt, TypeExpr, Expr, ident, composite, func_lit, const_decl, ValueSpecs, no_specs, spec}
 use Rattle.go_tree.specs.File.{Decl}
 use Rattle.pkg_graph.specs.Package.{Package}
+use Rattle.go_types.specs.Answers.{given}
 use Rattle.go_types.specs.Programs.{SourcePackage}
+use Rattle.go_translation.specs.Swapped.{begins_anew}
 use Rattle.run_rules.specs.Surroundings.{Seen, seen, seen_type, seen_stmt}
 use Rattle.run_rules.specs.Programs.{linked_file, decl_seen}
 use Rattle.run_rules.specs.Sites.{MarkRef, Where, Site, a_constant, an_expr, part_span, where_is, inlinable, name_mark, expr_mark}
@@ -12,16 +14,22 @@ use Rattle.run_rules.specs.Naming.{Named}
 use Rattle.run_rules.specs.FormTrees.{FormKind, Form}
 use Rattle.run_rules.specs.Forms.{is_at}
 use Rattle.run_rules.specs.Reduced.{becomes, home_place, reduced}
-use Rattle.constant_steps.specs.Alone.{PlainFiles}
+use Rattle.constant_steps.specs.Alone.{PlainFiles, type_in}
 
 module _ {S : Type 0} where
-  -- the part is no literal of a composite type or a function, and no group of constants in a body
+  -- no member of a group of constants repeats an earlier one's expression
+  abbrev pub NoneRepeats : ValueSpecs S → Type 0
+  NoneRepeats no_specs = Unit {0}
+  NoneRepeats (spec s ns t es ss) = (begins_anew ss ≡ true) × NoneRepeats ss
+
+  -- the part is no literal of a composite type or a function, and no group of constants in a body with a member that
+  -- repeats another
   abbrev pub IsSimple : Seen S → Type 0
   IsSimple (seen p u (composite _ _ _)) = ⊥
   IsSimple (seen p u (func_lit _ _ _ _)) = ⊥
   IsSimple (seen p u x) = Unit {0}
   IsSimple (seen_type p t) = Unit {0}
-  IsSimple (seen_stmt p (const_decl _ _ _)) = ⊥
+  IsSimple (seen_stmt p (const_decl s g ss)) = NoneRepeats ss
   IsSimple (seen_stmt p s) = Unit {0}
 
   -- all parts of a list are such
@@ -45,10 +53,14 @@ module _ {S : Type 0} (same : S → S → Bool) (x : Site S) (use_ : Expr S) whe
   AllTheUse [] = Unit {0}
   AllTheUse (y ∷ ys) = IsTheUse y × AllTheUse ys
 
+-- the type of the constant that a mark refers to
+abbrev pub type_marked : {S : Type 0} → List (Package S) → MarkRef → Option (TypeExpr S)
+type_marked ps m = given (given (where_is ps m) (λ w. slice_get w.source.tree.decls m.decl)) (λ d. type_in d m.item)
+
 module _ {S : Type 0} (same : S → S → Bool) (commented : ℕ → ℕ → S → Bool) (rs : List (Package S))
     (marks : List MarkRef) (x : Site S) where
   -- The use is the constant's name, in the package of the constant, and the constant is declared as the name of
-  -- another constant of the package block. Nothing is in the way: it
+  -- another constant of the package block, without a type. Nothing is in the way: it
   -- becomes a form.
   pub record PlainUse : Type 0 where
     pub span : S
@@ -61,6 +73,7 @@ module _ {S : Type 0} (same : S → S → Bool) (commented : ℕ → ℕ → S �
     pub at : S
     pub new : List ℕ
     pub declared : inlinable rs x.mark ≡ Some (a_constant constant (ident at new))
+    pub untyped : type_marked rs x.mark ≡ None
     pub same_package : home.number ≡ x.at.number
     pub kind : FormKind
     pub form : Form S
