@@ -18,15 +18,16 @@ use Rattle.typed_in_place.specs.Aliases.{TypesEnd}
 use Rattle.typed_in_place.specs.Aliases as ends
 use Rattle.typed_in_place.specs.ProgramReplaced.{ValuesEnd, after_values, at_last}
 use Rattle.run_rules.specs.FormTrees.{Form, as_type}
-use Rattle.run_rules.specs.Surroundings.{Place, Use, Seen, seen, seen_type, seen_stmt, is_local}
+use Rattle.run_rules.specs.Surroundings.{Place, Use, Seen, seen, seen_type, seen_stmt, plain_slot, after_constants, repeated_by, is_local}
+use Rattle.go_types.specs.Typing.{Repeated, nothing_to_repeat}
 use Rattle.run_rules.specs.Programs.{linked_file, linked_imports, top_place, types_at_top, decl_seen}
 use Rattle.run_rules.specs.Rewriting.{Changes}
 use Rattle.run_rules.specs.Sites.{MarkRef, Site, part_span}
 use Rattle.run_rules.specs.Steps.{change_nth, changes_for, new_constants, new_variables, new_receiver_option, new_type_spec, new_decl}
 use Rattle.step_laws.specs.DeclStands.{AtNth, decl_changed, file_changed}
-use Rattle.step_laws.specs.Answered.{StmtKnown}
+use Rattle.step_laws.specs.Answered.{RepeatsStay, StmtKnown}
 use Rattle.constant_steps.specs.Alone.{block_from, PackageAt}
-use Rattle.constant_steps.specs.PlainUse.{linked_at, IsSimple, AllSimple}
+use Rattle.constant_steps.specs.PlainUse.{linked_at, NoneRepeats, IsSimple, AllSimple}
 use Rattle.constant_steps.proofs.AfterStep.{nth_changed, nth_stays, package_after, package_beside, at_package, at_nth}
 use Rattle.constant_steps.proofs.MarksFound.{nth_mapped}
 use Rattle.constant_steps.proofs.SimpleUses.{simple_known}
@@ -196,8 +197,12 @@ module _ {S : Type 0} (same : S → S → Bool) (commented : ℕ → ℕ → S �
 
   -- ---- all parts of the declaration
 
+  none-repeats : (p : Place S) (r : Repeated) (i : ℕ) (ss : ValueSpecs S) → NoneRepeats ss → RepeatsStay (changes_for same z form) p r i ss
+  none-repeats p r i no_specs h = tt
+  none-repeats p r i (spec s ns t es ss) h = ((λ q. absurd (grind (arith, sym h.0 ∙ q))), none-repeats (after_constants p (repeated_by r t es) i ns) (repeated_by r t es) (suc i) ss h.1)
+
   simple-stmt : (p : Place S) (r : Stmt S) → IsSimple (seen_stmt p r) → StmtKnown (changes_for same z form) p r
-  simple-stmt p (const_decl s g ss) h = absurd h
+  simple-stmt p (const_decl s g ss) h = none-repeats (plain_slot p) nothing_to_repeat 0 ss h
   simple-stmt p r h = tt
 
   simple-literal : (w : World) (p : Place S) (o : Use) (e : Expr S) → IsSimple (seen p o e) → LiteralKnown (changes_for same z form) (AtTop (top w)) p e
