@@ -1,5 +1,5 @@
 -- A step that makes the name of a type known finds what the rounds find (Go specification, Declarations and scope).
-use Rattle.std.specs.Prelude.{◌≡◌, ◌<◌, refl, ℕ, zero, suc, length, Bool, true, false, ◌&&◌, List, [], ◌∷◌, ◌++◌, Option, Some, None, if◌then◌else◌, is_some, nat_eq, bytes_eq, slice_get}
+use Rattle.std.specs.Prelude.{◌≡◌, ◌<◌, refl, ℕ, zero, suc, length, Bool, true, false, ◌&&◌, List, [], ◌∷◌, ◌++◌, Option, Some, None, if◌then◌else◌, is_some, nat_eq, bytes_eq}
 use mathlib.Core.Path.{ap, ap₂, sym, ◌∙◌, subst}
 use Rattle.std.proofs.Common.{arith}
 use Rattle.std.proofs.lemmas.Slice.Eq.{bytes_eq-Decides}
@@ -9,34 +9,33 @@ use Rattle.go_tree.specs.Tree.{TypeExpr}
 use Rattle.go_tree.specs.File.{TypeSpec}
 use Rattle.go_tree.specs.FileView.{type_spec_of}
 use Rattle.const_eval.specs.declared.consts.Const.{Const}
-use Rattle.scope_names.specs.Means.{Environment, means, or_else, is_blank}
+use Rattle.scope_names.specs.Means.{means, or_else, is_blank}
 use Rattle.go_types.specs.Answers.{given, only_if, is_among}
 use Rattle.go_types.specs.Types.{GoType, named_type}
 use Rattle.go_types.specs.Entities as go
 use Rattle.go_types.specs.Entities.{refused, type_name, World, Env, block_of, universe}
 use Rattle.go_types.specs.Declarations.{bind_each}
 use Rattle.go_types.specs.TypeNames.{resolved}
-use Rattle.go_types.specs.Programs.{a_type_spec, spec_of, Header, Headed, header_names, Program, env_of}
-use Rattle.go_types.specs.Collect.{type_entity, spec_type, alias_entity, entity_binds, refused_world, aliased_world}
+use Rattle.go_types.specs.Programs.{spec_of, Header, Headed, header_names, Program, env_of}
+use Rattle.go_types.specs.Collect.{type_entity, spec_type, alias_entity, refused_world, aliased_world}
 use Rattle.type_relations.specs.Environment as types
 use Rattle.type_relations.specs.Environment.{env_type}
-use Rattle.type_table.specs.declared.nodes.TypeId.{TypeId}
 use Rattle.universe_block.specs.declared.block.PredeclaredEntity.TheVariants as predeclared
 use Rattle.typed_names.specs.declared.entities.Entity.{Entity}
 use Rattle.typed_names.specs.declared.entities.Entity.TheVariants.{Variable, Constant, TypeName, Function, Package, Predeclared, Refused}
 use Rattle.typed_names.specs.declared.scopes.Scope.{Scope}
-use Rattle.typed_names.specs.Known.{AllHaveTypes, KnowsTypes}
-use Rattle.typed_names.specs.Meanings.{Names, block_at, entity_at, entity_option, names_at, world_at}
+use Rattle.typed_names.specs.Known.{AllHaveTypes}
+use Rattle.typed_names.specs.Meanings.{Names, block_at, entity_option, names_at, world_at}
 use Rattle.typed_names.specs.Scopes.{env_at}
 use Rattle.typed_names.proofs.NameLaws.{block_means}
 use Rattle.type_exprs.specs.Grown.{TypesGrown}
 use Rattle.type_exprs.proofs.GrownLaws.{env_same}
-use Rattle.typed_in_place.specs.Known.{Keeps, kept, Clearer, as_before, Knows}
+use Rattle.typed_in_place.specs.Known.{kept, Clearer, as_before, Knows}
 use Rattle.typed_in_place.proofs.Rising.{resolved-keeps, keeps_some, keeps_either}
 use Rattle.typed_in_place.proofs.DeclaredAliases.{as_declared}
 use Rattle.declared_types.specs.declared.headers.TypeHeader.{TypeHeader}
-use Rattle.declared_types.specs.Headers.{AreTypeHeaders, no_headers, a_type, another, IsFileOf, IsTypeAt, IsTypeHeader, declares_type, type_of_spec}
-use Rattle.declared_types.specs.Members.{Below, SameMembers, SameNames, member}
+use Rattle.declared_types.specs.Headers.{AreTypeHeaders, no_headers, a_type, another, IsFileOf, IsTypeAt, declares_type, type_of_spec}
+use Rattle.declared_types.specs.Members.{Below, SameMembers, member}
 use Rattle.declared_types.specs.Steps.{AllClosed, AreFound, IsClosed, IsSet, is_refused}
 use Rattle.declared_types.proofs.NamesClearer.{both_keep, file_knows, means_append, same_clearer}
 use Rattle.declared_types.proofs.Least.{HeaderClosed, HeadersClosed, found_by_rounds, refused_below}
@@ -271,7 +270,8 @@ module _ (ps : Program Span) (all : List (Headed Span)) (cs : List Const) (e : t
       AllClosed e bs files codes → HeadersClosed (world_at e cs bs) hs
   all_closed _ _ no_headers c = tt
   all_closed (x ∷ xs) (h ∷ hs) (a_type is are) c = (
-    closed_type is.scope x.spec.now h is.declares (c.0 is.scope is.there), all_closed xs hs are c.1,
+    closed_type is.scope x.spec.now h is.declares (c.0 is.scope is.there),
+    all_closed xs hs are c.1,
   )
   all_closed codes (h ∷ hs) (another d are) c = (closed_other h d, all_closed codes hs are c)
 

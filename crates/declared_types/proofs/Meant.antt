@@ -1,11 +1,11 @@
 -- What the name of a type means once the rounds of aliases have ended (Go specification, Alias declarations; Type
 -- definitions).
-use Rattle.std.specs.Prelude.{◌≡◌, refl, ℕ, Bool, true, false, ◌&&◌, List, [], ◌∷◌, ◌++◌, Option, Some, None, if◌then◌else◌, is_some, nat_eq, bytes_eq}
-use mathlib.Core.Path.{ap, ap₂, sym, ◌∙◌, subst}
+use Rattle.std.specs.Prelude.{◌≡◌, refl, ℕ, Bool, true, false, List, [], ◌∷◌, ◌++◌, Option, Some, None, if◌then◌else◌, is_some, nat_eq, bytes_eq}
+use mathlib.Core.Path.{ap, ap₂, sym, ◌∙◌}
 use Rattle.std.proofs.Common.{arith}
 use Rattle.std.proofs.lemmas.Slice.Eq.{bytes_eq-Decides}
 use Rattle.go_tree.specs.File.{TypeSpec}
-use Rattle.scope_names.specs.Means.{Environment, means, is_blank, binding}
+use Rattle.scope_names.specs.Means.{Environment, means, is_blank}
 use Rattle.go_types.specs.Answers.{given, only_if, otherwise}
 use Rattle.go_types.specs.Types.{GoType}
 use Rattle.go_types.specs.Entities.{Entity, refused, type_name, World, block_of, Binds}

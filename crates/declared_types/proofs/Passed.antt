@@ -18,7 +18,7 @@ use Rattle.declared_types.specs.declared.headers.TypeHeader.{TypeHeader}
 use Rattle.declared_types.specs.Headers.{AreTypeHeaders, no_headers, a_type, another, IsTypeAt, IsTypeHeader, type_of_spec}
 use Rattle.declared_types.specs.Members.{Below, SameMembers, SameNames, member}
 use Rattle.declared_types.proofs.Found.{found_after, found_all, found_first, nowhere, world_kept}
-use Rattle.declared_types.specs.Steps.{AllClosed, AreFound, ClosedHeader, HeadersPassed, IsClosed, IsSet, KnowsPlaces, StaysFound, StillFound}
+use Rattle.declared_types.specs.Steps.{AllClosed, AreFound, ClosedHeader, HeadersPassed, IsClosed, IsSet, KnowsPlaces, StillFound}
 
 -- ---- places
 

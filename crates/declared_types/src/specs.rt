@@ -20,12 +20,7 @@ use type_table::{TypeId, TypeNode};
 use typed_names::{Blocks, Scope};
 
 /// The defined type of this name in a package.
-pub fn named_type(
-    alloc: Global,
-    types: &mut Env,
-    home: u32,
-    name: &Name,
-) -> Result<TypeId, Refusal>
+pub fn named_type(alloc: Global, types: &mut Env, home: u32, name: &Name) -> Result<TypeId, Refusal>
     ensures grown { TypesGrown types.old types.new }
     ensures gives { GivesType types.new (Some (go.named_type home name.now)) result }
 {

@@ -1,5 +1,5 @@
 -- The types of parameters are read one by one.
-use Rattle.std.proofs.Common.{◌≡◌, ◌∙◌, ◌++◌, ◌<◌, List, [], ◌∷◌, Option, Some, None, Result, Ok, Err, IfOk, ℕ, refl, sym, ap, ap₂, subst, length, map, append_assoc}
+use Rattle.std.proofs.Common.{◌≡◌, ◌∙◌, ◌++◌, ◌<◌, List, [], ◌∷◌, Option, Some, None, Result, Ok, Err, IfOk, ℕ, refl, sym, ap, ap₂, subst, length, map}
 use Rattle.go_tree.specs.declared.spans.Span.{Span}
 use Rattle.go_tree.specs.Tree.{Param}
 use Rattle.const_eval.specs.declared.consts.Const.{Const}

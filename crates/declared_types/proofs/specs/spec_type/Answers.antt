@@ -1,6 +1,5 @@
-use Rattle.std.proofs.Common.{◌≡◌, ap, cond, subst, sym, true, Some}
+use Rattle.std.proofs.Common.{cond, subst, sym, Some}
 use Rattle.go_tree.specs.FileView.{type_spec_of}
-use Rattle.go_tree.specs.View.{type_of}
 use Rattle.go_types.specs.TypeNames.{resolved}
 use Rattle.go_types.specs.Types.{named_type}
 use Rattle.typed_names.specs.Scopes.{env_at}

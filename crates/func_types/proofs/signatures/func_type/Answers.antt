@@ -1,4 +1,4 @@
-use Rattle.std.proofs.Common.{Ok, Err, map, subst}
+use Rattle.std.proofs.Common.{Ok, map, subst}
 use Rattle.go_tree.specs.View.{param_of}
 use Rattle.go_types.specs.TypeNames as go
 use Rattle.typed_names.specs.Scopes.{env_at}

@@ -1,5 +1,4 @@
-use Rattle.std.proofs.Common.{◌∙◌, ◌+◌, Err, List, Ok, ap, drop, map, subst, sym}
-use Rattle.const_eval.specs.declared.consts.Const.{Const}
+use Rattle.std.proofs.Common.{◌∙◌, ◌+◌, Err, ap, drop, map, subst, sym}
 use Rattle.go_tree.specs.View.{param_of, type_of}
 use Rattle.go_types.specs.TypeNames as go
 use Rattle.typed_names.specs.Scopes.{env_at}
