@@ -1,5 +1,5 @@
 -- Names in tables are those in lists.
-use Rattle.std.proofs.Common.{◌≡◌, ◌∙◌, ℕ, zero, suc, ◌+◌, nat_eq, nat_lt, Bool, true, false, cond, List, [], ◌∷◌, ◌++◌, Option, Some, None, refl, sym, ap, subst, IfSome, length, get_or, map, arith, bytes_eq}
+use Rattle.std.proofs.Common.{◌≡◌, ◌∙◌, ℕ, zero, suc, ◌+◌, nat_eq, nat_lt, Bool, true, false, cond, List, [], ◌∷◌, ◌++◌, Option, Some, None, refl, sym, ap, subst, IfSome, length, get_or, map, arith, bytes_eq, Result, Ok, Err, OnOk, ◌<◌, slice_set}
 use Rattle.std.specs.Map.{lookup}
 use Rattle.std.proofs.lemmas.Bool.{true≢false}
 use Rattle.std.proofs.lemmas.Bool.Decides.{nat_tests}
@@ -181,3 +181,26 @@ module _ (e : types.Environment) where
             HaveTypes e (names_of items (cond t ((b.0, x) ∷ bs) (b ∷ set_in items bs k x)))
         by true r = (g, h.1)
         by false r = (h.0, r)
+
+-- ---- a block in which a name is set
+
+module _ (e : types.Environment) where
+  types_at : (bs : List Names) (p : ℕ) (d : Names) → p < length bs → AllHaveTypes e bs → HaveTypes e (get_or bs p d)
+  types_at [] p d l h = absurd (omega (arith, l))
+  types_at (b ∷ bs) zero d l h = h.0
+  types_at (b ∷ bs) (suc p) d l h = types_at bs p d (omega (arith, l)) h.1
+
+  types_put : (bs : List Names) (p : ℕ) (new : Names) → AllHaveTypes e bs → HaveTypes e new → AllHaveTypes e (slice_set bs p new)
+  types_put [] p new h k = tt
+  types_put (b ∷ bs) zero new h k = (k, h.1)
+  types_put (b ∷ bs) (suc p) new h k = (h.0, types_put bs p new h.1 k)
+
+-- its names have their types in the table where those before had
+pub types_set_at :
+    {A E : Type 0} (r : Result A E) (bs : List Names) (p : ℕ) (b new : Names) (x : Entity) → p < length bs →
+    b ≡ get_or bs p b →
+    OnOk r ((e : types.Environment) → HasTypes e x → HaveTypes e b → HaveTypes e new) →
+    OnOk r ((e : types.Environment) → HasTypes e x → AllHaveTypes e bs → AllHaveTypes e (slice_set bs p new))
+types_set_at (Ok v) bs p b new x l f k =
+    λ e h a. types_put e bs p new a (k e h (subst (HaveTypes e) (sym f) (types_at e bs p b l a)))
+types_set_at (Err v) bs p b new x l f k = tt

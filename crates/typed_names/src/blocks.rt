@@ -1,6 +1,6 @@
 //! Package blocks and file blocks (Go specification, Blocks).
 
-ghost use Rattle.std.specs.Prelude.{◌≡◌, ◌<◌, ℕ, List, [], ◌∷◌, ◌++◌, length, IfSome, Some, OnErr, OnOk, bytes_eq, if◌then◌else◌};
+ghost use Rattle.std.specs.Prelude.{◌≡◌, ◌<◌, ◌&&◌, ℕ, List, [], ◌∷◌, ◌++◌, length, IfSome, Some, OnErr, OnOk, bytes_eq, nat_eq, if◌then◌else◌};
 ghost use Rattle.const_eval.specs.declared.consts.Const.{Const};
 ghost use Rattle.go_types.specs.Entities as go;
 ghost use Rattle.scope_names.specs.Means.{means};
@@ -99,6 +99,19 @@ impl Blocks {
     {
         self.items.push(block)?;
         Ok(())
+    }
+
+    /// The name means this in the block of a package from now on.
+    pub fn set(&mut self, number: u32, name: Vec<u8>, entity: Entity) -> Result<(), NoMemory>
+        requires { number < length self.old }
+        ensures set { OnOk result ((p : ℕ) (q : List ℕ) → means (block_at self.new p) q
+            ≡ (if nat_eq p number && bytes_eq name.items q then Some entity else means (block_at self.old p) q)) }
+        ensures typed { OnOk result ((e : Environment)
+            → HasTypes e entity → AllHaveTypes e self.old → AllHaveTypes e self.new) }
+        ensures count { length self.new ≡ length self.old }
+        ensures same { OnErr result (self.new ≡ self.old) }
+    {
+        self.items[number as usize].set(name, entity)
     }
 
     /// What the name means in the block of a package.

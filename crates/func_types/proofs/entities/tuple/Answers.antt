@@ -1,0 +1,7 @@
+use Rattle.func_types.proofs.ParamSteps.{tuple_is}
+use Rattle.func_types.proofs.entities.tuple.Goals as goal
+
+pub returns-clause-is : goal.returns-clause-is
+returns-clause-is c =
+    tuple_is c.args.types.now c.intern.new.self c.intern.ensures.types c.args.items c.requires c.intern.result
+    c.intern.ensures.is

@@ -1,0 +1,30 @@
+-- The types of parameters as they are read one by one (Go specification, Function types).
+use Rattle.std.specs.Prelude.{◌≡◌, List, ◌++◌, length, Some}
+use Rattle.go_tree.specs.declared.spans.Span.{Span}
+use Rattle.go_tree.specs.Tree.{Param}
+use Rattle.const_eval.specs.declared.consts.Const.{Const}
+use Rattle.go_types.specs.Answers.{given}
+use Rattle.go_types.specs.TypeNames.{params_meant}
+use Rattle.type_relations.specs.Environment.{Environment}
+use Rattle.type_table.specs.declared.nodes.TypeId.{TypeId}
+use Rattle.comparable_types.specs.declared.grown.TypeFlags.{TypeFlags}
+use Rattle.comparable_types.specs.Grown.{AreFlagsSoFar, DefinedBelow}
+use Rattle.typed_names.specs.declared.scopes.Scope.{Scope}
+use Rattle.typed_names.specs.Known.{KnowsTypes}
+use Rattle.typed_names.specs.Meanings.{Names}
+use Rattle.typed_names.specs.Scopes.{env_at}
+use Rattle.type_exprs.specs.Grown.{TypesGrown}
+use Rattle.func_types.specs.Answers.{AreTypesOf, types_at}
+
+-- of all parameters some have their types, and the rest is left
+pub record ParamsRead (old new : Environment) (x : TypeFlags) (bs : List Names) (s : Scope)
+    (all rest : List (Param Span)) (meant : List TypeId) : Type 0 where
+  pub grown : TypesGrown old new
+  pub known : KnowsTypes new bs s
+  pub flags : AreFlagsSoFar new x
+  pub defined : DefinedBelow (length x.comparable.items) new.defined
+  pub typed : AreTypesOf new meant
+  pub read :
+      (cs : List Const) →
+      params_meant (env_at old cs bs s) all
+      ≡ given (params_meant (env_at old cs bs s) rest) (λ ts. Some (types_at new meant ++ ts))

@@ -1,0 +1,8 @@
+use Rattle.typed_names.proofs.NameLaws.{types_set_at}
+use Rattle.typed_names.proofs.blocks.Blocks.set.Goals as goal
+
+pub returns-clause-typed : goal.returns-clause-typed
+returns-clause-typed c =
+    rw (← c.self.view_is)
+    (types_set_at c.set.result c.self.inside.items.items c.args.number c.index_mut.result.now c.set.new.self c.args.entity
+    (rw c.self.view_is c.requires) c.index_mut.ensures.value c.set.ensures.typed)

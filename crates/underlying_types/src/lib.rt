@@ -1,0 +1,6 @@
+//! What declared types are defined as, through chains of names (Go specification, Underlying types).
+#![tactic(auto)]
+
+mod laws;
+
+pub use laws::chains_of_names_end;
