@@ -1,3 +1,4 @@
 pub mod PartLemmas
 pub mod MethodLemmas
 pub mod ReadyLemmas
+pub mod TableLemmas

@@ -2,8 +2,8 @@
 use Rattle.std.specs.Prelude.{◌≡◌, ℕ, zero, suc, ◌<◌, List, [], ◌∷◌, map, length, Some, slice_get}
 use Rattle.std.proofs.Common.{arith}
 use Rattle.go_types.specs.Table.{NodeField, TypeNode, basic_node, named_node, pointer_node, slice_node, map_node, struct_node, tuple_node, untyped_node, nil_node, AllBelow, none_above, below_and, node_parts}
-use Rattle.type_relations.specs.Environment.{Environment, IsEnvironment}
-use Rattle.operator_rules.specs.Parts.{AreParts, FieldParts, HasParts, IsPart, RowParts}
+use Rattle.type_relations.specs.Environment.{Environment}
+use Rattle.operator_rules.specs.Parts.{AreParts, FieldParts, IsPart, RowParts}
 use Rattle.value_types.specs.ValueTypes.{HasValueTypes}
 use Rattle.checker_tables.specs.Laws.{PartsFollow}
 

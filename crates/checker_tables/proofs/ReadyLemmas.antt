@@ -1,8 +1,8 @@
 -- Tables that are ready stay so.
-use Rattle.std.specs.Prelude.{◌≡◌, ℕ, ◌<◌, ◌≤◌, List, [], length, refl}
+use Rattle.std.specs.Prelude.{◌≡◌, [], length, refl}
 use Rattle.std.proofs.Common.{arith}
-use mathlib.Core.Path.{ap, sym, ◌∙◌, subst}
-use Rattle.type_relations.specs.Environment.{Environment, defined_types, env_type}
+use mathlib.Core.Path.{sym, ◌∙◌, subst}
+use Rattle.type_relations.specs.Environment.{Environment, defined_types}
 use Rattle.comparable_types.specs.declared.grown.TypeFlags.{TypeFlags}
 use Rattle.comparable_types.specs.Grown.{AreFlags, AreFlagsSoFar, DefinedBelow}
 use Rattle.operator_rules.specs.declared.basics.BasicTypes.{BasicTypes}

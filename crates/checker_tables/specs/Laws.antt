@@ -12,7 +12,9 @@ use Rattle.operator_rules.specs.declared.basics.BasicTypes.{BasicTypes}
 use Rattle.operator_rules.specs.Parts.{HasParts}
 use Rattle.value_types.specs.ValueTypes.{HasValueTypes}
 use Rattle.type_exprs.specs.Grown.{TypesGrown}
-use Rattle.checker_tables.specs.Ready.{HasFuncTypes, IsReady}
+use Rattle.type_table.specs.declared.nodes.TypeId.{TypeId}
+use Rattle.access_rules.specs.Functions.{AreTypes, types_at}
+use Rattle.checker_tables.specs.Ready.{AreValueTypes, HasFuncTypes, IsReady}
 
 -- the parts of types are types of values
 abbrev pub PartsFollow : Type 0
@@ -29,6 +31,10 @@ abbrev pub SelectedHasValueTypes : Type 0
 SelectedHasValueTypes =
     (e : Environment) → IsEnvironment e → HasValueTypes e → (home : ℕ) (n : List ℕ) (p : Place) (v : Typed)
     (f : FuncType) → selected (defined_types e) home n p v ≡ Some (a_function f) → HasFuncTypes f
+
+-- types of values are in the table by their numbers
+abbrev pub ValueTypesAreThere : Type 0
+ValueTypesAreThere = (e : Environment) (ts : List TypeId) → AreValueTypes (types_at e ts) → AreTypes e ts
 
 -- types of values may be added
 abbrev pub ReadyStays : Type 0

@@ -1,9 +1,9 @@
 -- Literals of slices: indices that are read one by one.
-use Rattle.std.specs.Prelude.{◌≡◌, ℕ, ◌+◌, ◌<◌, length, Bool, true, false, not, ◌||◌, List, [], ◌∷◌, Option, Some, None, nat_eq, refl}
+use Rattle.std.specs.Prelude.{◌≡◌, ℕ, ◌+◌, ◌<◌, length, true, false, ◌||◌, List, [], ◌∷◌, Option, Some, None, nat_eq, refl}
 use Rattle.std.specs.List.{list_any}
 use Rattle.std.proofs.Common.{get_or, drop}
 use Rattle.std.proofs.lemmas.Cmp.{nat_eq_equiv}
-use mathlib.Core.Path.{ap, sym, subst, ◌∙◌}
+use mathlib.Core.Path.{ap, subst, ◌∙◌}
 use Rattle.const_eval.specs.declared.consts.Const.{Const}
 use Rattle.type_relations.specs.Environment.{Environment}
 use Rattle.literal_rules.specs.declared.elements.Element.{Element}
@@ -13,7 +13,7 @@ use Rattle.go_types.specs.Answers.{distinct_by, given, meets}
 use Rattle.go_types.specs.Defined.{Defined}
 use Rattle.go_types.specs.Literals as go
 use Rattle.go_types.specs.Literals.{index_or, indices}
-use Rattle.literal_rules.specs.Sets.{new_and_distinct, SeenOnce}
+use Rattle.literal_rules.specs.Sets.{new_and_distinct}
 use Rattle.literal_rules.specs.Indices.{IndicesRead}
 use Rattle.literal_rules.proofs.DistinctLemmas.{new_first, seen_first, seen_none}
 

@@ -1,6 +1,6 @@
 -- Literals of structs.
-use Rattle.std.specs.Prelude.{◌≡◌, ℕ, zero, suc, ◌<◌, Bool, true, false, not, ◌||◌, ◌&&◌, List, [], ◌∷◌, map, length, Option, bytes_eq, refl}
-use Rattle.std.specs.List.{list_all, list_any}
+use Rattle.std.specs.Prelude.{◌≡◌, ℕ, ◌<◌, Bool, true, false, not, ◌&&◌, List, [], ◌∷◌, map, length, Option, bytes_eq, refl}
+use Rattle.std.specs.List.{list_all}
 use Rattle.std.proofs.Common.{◌+◌, get_or, drop, arith}
 use mathlib.Core.Path.{ap, sym, ◌∙◌, subst}
 use Rattle.const_eval.specs.declared.consts.Const.{Const}
@@ -18,12 +18,12 @@ use Rattle.go_types.specs.Literals.{unkeyed, of_field, keyed, fills, sets_field,
 use Rattle.type_table.specs.declared.nodes.Field.{Field}
 use Rattle.type_table.specs.Rows.{field_of}
 use Rattle.type_table.specs.TypesAt.{fields_by}
-use Rattle.type_relations.specs.Environment.{Environment, env_type}
+use Rattle.type_relations.specs.Environment.{Environment}
 use Rattle.typed_names.proofs.NameLaws.{turned}
 use Rattle.literal_rules.specs.declared.elements.Key.{Key}
 use Rattle.literal_rules.specs.declared.elements.Key.TheVariants.{Absent, Field as a_field, Given}
 use Rattle.literal_rules.specs.declared.elements.Element.{Element}
-use Rattle.literal_rules.specs.Elements.{element_at, element_by, elements_at, fills_by, is_absent, name_then, names_in, new_name, starts_unkeyed, with_field}
+use Rattle.literal_rules.specs.Elements.{element_by, elements_at, fills_by, is_absent, name_then, names_in, new_name, starts_unkeyed, with_field}
 use Rattle.literal_rules.specs.Sets.{SeenOnce}
 use Rattle.literal_rules.proofs.DistinctLemmas.{seen_again, seen_more}
 use Rattle.literal_rules.proofs.ElementLemmas.{from_one, no_such}

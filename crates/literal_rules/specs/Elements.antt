@@ -13,7 +13,7 @@ use Rattle.go_types.specs.Primary.{sees}
 use Rattle.type_relations.specs.Environment.{Environment}
 use Rattle.operand_rules.specs.declared.constants.ConstId.{ConstId}
 use Rattle.operand_rules.specs.declared.values.Content.{Content}
-use Rattle.operand_rules.specs.declared.values.Content.TheVariants.{Run, Exact, Shift}
+use Rattle.operand_rules.specs.declared.values.Content.TheVariants.{Exact}
 use Rattle.operand_rules.specs.Constants.{const_at}
 use Rattle.operand_modes.specs.declared.modes.Operand.TheVariants as mode
 use Rattle.operand_modes.specs.Operands.{IsOperand, operand_at}

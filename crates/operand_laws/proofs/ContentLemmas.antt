@@ -1,8 +1,8 @@
 -- Contents that are the same.
-use Rattle.std.specs.Prelude.{◌≡◌, Bool, true, false, ◌&&◌, List, [], ◌∷◌, ◌++◌, Option, Some, None, refl}
+use Rattle.std.specs.Prelude.{◌≡◌, Bool, true, false, ◌&&◌, List, ◌++◌, Option, Some, None, refl}
 use Rattle.std.specs.List.{list_all}
 use Rattle.std.proofs.lemmas.List.Folds.{list_all-append}
-use mathlib.Core.Path.{ap, ap₂, sym, ◌∙◌, subst}
+use mathlib.Core.Path.{ap₂, sym, ◌∙◌, subst}
 use Rattle.const_eval.specs.declared.kinds.Kind.{Kind}
 use Rattle.const_eval.specs.declared.consts.Const.{Const}
 use Rattle.const_eval.specs.Exact.{represents}

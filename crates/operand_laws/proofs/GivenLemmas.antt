@@ -1,5 +1,5 @@
 -- Values that are given of answers that are alike.
-use Rattle.std.specs.Prelude.{◌≡◌, List, Option, Some, None, Ok, Err, refl}
+use Rattle.std.specs.Prelude.{◌≡◌, List, Some, None, Ok, Err}
 use mathlib.Core.Path.{ap, sym, ◌∙◌, subst}
 use Rattle.const_eval.specs.declared.consts.Const.{Const}
 use Rattle.go_types.specs.Operands.{Operand, value, several, a_type, a_function, a_builtin, recovered}
@@ -8,7 +8,6 @@ use Rattle.operand_rules.specs.declared.values.Value.{Value}
 use Rattle.operand_rules.specs.declared.values.Refusal.TheVariants.{NotTyped, NoMemory}
 use Rattle.operand_rules.specs.Values.{IsGiven, SameContent, content_of, type_of}
 use Rattle.operand_modes.specs.Operands.{SameOperand}
-use Rattle.operand_laws.specs.Alike.{SameAnswer}
 use Rattle.operand_laws.specs.Laws.{AnswersGiven}
 use Rattle.operand_laws.proofs.ContentLemmas.{content_on}
 

@@ -1,27 +1,25 @@
 -- Operators that give alike of contents that are the same.
-use Rattle.std.specs.Prelude.{◌≡◌, Bool, true, false, not, ◌&&◌, ◌||◌, List, [], ◌∷◌, ◌++◌, Option, Some, None, if◌then◌else◌, refl}
+use Rattle.std.specs.Prelude.{◌≡◌, Bool, false, not, ◌&&◌, ◌||◌, List, ◌++◌, Option, Some, None, if◌then◌else◌, refl}
 use Rattle.std.specs.List.{list_all}
 use mathlib.Core.Path.{ap, ap₂, sym, ◌∙◌, subst}
 use Rattle.go_tree.specs.declared.operators.BinOp.{BinOp}
 use Rattle.go_tree.specs.declared.operators.BinOp.TheVariants.{Mul, Div, Rem, Shl, Shr, And, AndNot, Add, Sub, Or, Xor, Eq, Ne, Lt, Le, Gt, Ge, LogAnd, LogOr}
-use Rattle.go_tree.specs.declared.operators.UnOp.{UnOp}
 use Rattle.const_eval.specs.declared.kinds.Kind.{Kind}
 use Rattle.const_eval.specs.declared.kinds.Kind.TheVariants as kind
 use Rattle.const_eval.specs.declared.consts.Const.{Const}
 use Rattle.const_eval.specs.Conditions.{unary_applies, binary_applies, is_number_kind}
 use Rattle.const_eval.specs.Exact.{represents}
-use Rattle.const_eval.specs.Operators.{binary_value, unary_value}
 use Rattle.go_types.specs.Answers.{given, only_if}
 use Rattle.go_types.specs.Types.{GoType, basic, named_type, pointer_to, slice_of, map_of, struct_of, tuple_of, untyped, untyped_nil, is_nil, is_untyped}
 use Rattle.go_types.specs.Defined.{Defined}
 use Rattle.go_types.specs.Entities.{Content, run, exact, shift}
-use Rattle.go_types.specs.Operands.{Operand, value, constant_value, default_type, fits, is_shift, kind_of, kind_passes, leaves}
+use Rattle.go_types.specs.Operands.{value, default_type, is_shift, kind_of, kind_passes, leaves}
 use Rattle.go_types.specs.Relations.{assignable}
 use Rattle.go_types.specs.Operators.{arithmetic, binary_value_operand, calculated_operand, changed_operand, common_type, compared_at, comparison, comparison_applies, divides_by_zero, is_count, joins, joins_comparison, logic, not_constant, shifted_operand, shifting, truth_operand}
 use Rattle.operand_rules.specs.Values.{SameContent}
 use Rattle.operand_laws.specs.Alike.{SameAnswer}
 use Rattle.operand_laws.specs.Laws.{BinarySeesAlike, UnarySeesAlike}
-use Rattle.operand_laws.proofs.ContentLemmas.{alike_by, answer_equal, answer_on, answer_same, both_alike, content_same, leaves_alike, only_if_alike, shift_alike}
+use Rattle.operand_laws.proofs.ContentLemmas.{alike_by, answer_equal, answer_on, answer_same, both_alike, content_same, only_if_alike, shift_alike}
 use Rattle.operand_laws.proofs.ValueLemmas.{fitting_sees_alike}
 
 -- a whole that isn't constant

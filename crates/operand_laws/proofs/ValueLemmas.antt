@@ -1,7 +1,7 @@
 -- Rules over values that give the same of contents that are the same.
-use Rattle.std.specs.Prelude.{◌≡◌, ℕ, Bool, true, false, ◌&&◌, List, [], ◌∷◌, Option, Some, None, pos, negsuc, is_some, refl}
+use Rattle.std.specs.Prelude.{◌≡◌, true, ◌&&◌, List, Option, Some, None, pos, negsuc, refl}
 use Rattle.std.specs.List.{list_all}
-use mathlib.Core.Path.{ap, ap₂, sym, ◌∙◌, subst}
+use mathlib.Core.Path.{ap, ap₂, sym, ◌∙◌}
 use Rattle.const_eval.specs.declared.kinds.Kind.{Kind}
 use Rattle.const_eval.specs.declared.kinds.Kind.TheVariants as kind
 use Rattle.const_eval.specs.declared.consts.Const.{Const}
@@ -12,8 +12,8 @@ use Rattle.go_types.specs.Answers.{given, meets, only_if}
 use Rattle.go_types.specs.Types.{GoType, basic, basic_kind, element_of, map_parts}
 use Rattle.go_types.specs.Defined.{Defined, under}
 use Rattle.go_types.specs.Entities.{Content, run, exact, shift}
-use Rattle.go_types.specs.Operands.{Operand, Typed, fits, kind_passes, plain_value, represented}
-use Rattle.go_types.specs.Primary.{converted, index_of, is_bound, is_index, lies_in, rise, sliced, sliced_type, string_element}
+use Rattle.go_types.specs.Operands.{Operand, Typed, fits, kind_passes, plain_value}
+use Rattle.go_types.specs.Primary.{converted, is_bound, is_index, lies_in, rise, sliced_type, string_element}
 use Rattle.operand_rules.specs.Values.{SameContent}
 use Rattle.operand_laws.specs.Alike.{SameBound}
 use Rattle.operand_laws.specs.Laws.{ConversionSeesAlike, FittingSeesAlike, IndexSeesAlike, SliceSeesAlike}
