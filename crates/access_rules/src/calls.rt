@@ -12,7 +12,7 @@ use type_relations::{Env, FuncType, assignable};
 use type_table::TypeId;
 
 /// Whether each argument may stand where one of its parameter's type is wanted, one by one.
-fn takes_all(env: &Env, consts: &ConstTable, params: &[TypeId], args: &[Value]) -> bool
+pub fn takes_all(env: &Env, consts: &ConstTable, params: &[TypeId], args: &[Value]) -> bool
     requires params { AreTypes env.now params.now }
     requires args { AreValues env.now consts.now args.now }
     ensures { result

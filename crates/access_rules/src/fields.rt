@@ -21,14 +21,14 @@ use type_relations::Env;
 use type_table::{Field, TypeId, TypeNode};
 
 /// The blank identifier.
-pub(crate) fn is_blank(name: &[u8]) -> bool
+pub fn is_blank(name: &[u8]) -> bool
     ensures { result ≡ is_blank name.now }
 {
     name == b"_".as_slice()
 }
 
 /// Whether a name that isn't exported is seen in its own package; an exported one has none here.
-fn sees(home: u32, owner: Option<u32>) -> bool
+pub fn sees(home: u32, owner: Option<u32>) -> bool
     ensures { result ≡ go.sees home owner }
 {
     match owner {
@@ -45,7 +45,7 @@ fn is_field(home: u32, name: &[u8], field: &Field) -> bool
 }
 
 /// The type of the field of this name.
-fn find_field(env: &Env, home: u32, name: &[u8], fields: &[Field]) -> Option<TypeId>
+pub fn find_field(env: &Env, home: u32, name: &[u8], fields: &[Field]) -> Option<TypeId>
     requires { FieldParts env.now (map field_of fields.now) }
     ensures is { typed_option env.now result
         ≡ go.find_field home name.now (fields_by (env_type env.now) (map field_of fields.now)) }

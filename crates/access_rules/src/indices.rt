@@ -63,7 +63,7 @@ fn lies_in(env: &Env, consts: &ConstTable, s: Content, i: Content) -> bool
 }
 
 /// Whether values of the type are strings.
-pub(crate) fn is_text(env: &Env, t: ValueType) -> bool
+pub fn is_text(env: &Env, t: ValueType) -> bool
     requires { IsType env.now t }
     ensures { result ≡ kind_passes (defined_types env.now) is_text_kind (type_of env.now t) }
 {

@@ -12,10 +12,11 @@ mod pointers;
 mod selectors;
 mod slices;
 
-pub use calls::{takes_call, takes_values};
+pub use calls::{takes_all, takes_call, takes_values};
+pub use fields::{find_field, is_blank, sees};
 pub use forms::form;
-pub use indices::{index_of, index_place, is_index};
+pub use indices::{index_of, index_place, is_index, is_text};
 pub use places::Place;
 pub use pointers::{address_of, pointed};
 pub use selectors::{Selection, selected, selected_place};
-pub use slices::sliced;
+pub use slices::{contents_rise, sliced};

@@ -10,6 +10,7 @@ ghost use Rattle.operand_rules.specs.declared.values.ValueType.TheVariants.{Type
 ghost use Rattle.operand_rules.specs.Values.{Gives, IsType, type_of};
 ghost use Rattle.operator_rules.specs.Kept.{TypesGrown};
 ghost use Rattle.operator_rules.specs.Parts.{HasParts};
+ghost use Rattle.value_types.specs.ValueTypes.{HasValueTypes};
 ghost use Rattle.access_rules.specs.Places.{place_of};
 
 use crate::forms::form;
@@ -45,7 +46,7 @@ fn has_address(place: Place) -> bool
 }
 
 /// The address of an operand of the type at a place.
-#[tactic(auto, using(operator_rules::proofs::GrowthLemmas::pointer_parts, operator_rules::proofs::GrowthLemmas::parts_same, operator_rules::proofs::KeptLemmas::interned_grown, operator_rules::proofs::KeptLemmas::types_same, operator_rules::proofs::KeptLemmas::types_self))]
+#[tactic(auto, using(operator_rules::proofs::GrowthLemmas::pointer_parts, operator_rules::proofs::GrowthLemmas::parts_same, operator_rules::proofs::KeptLemmas::interned_grown, operator_rules::proofs::KeptLemmas::types_same, operator_rules::proofs::KeptLemmas::types_self, value_types::proofs::ValueLemmas::pointer_added, value_types::proofs::ValueLemmas::values_same))]
 pub fn address_of(env: &mut Env, place: Place, t: TypeId) -> Result<Value, Refusal>
     requires types { HasParts env.old }
     requires of { IsType env.old (Typed t) }
@@ -53,7 +54,9 @@ pub fn address_of(env: &mut Env, place: Place, t: TypeId) -> Result<Value, Refus
         (go.address_of (defined_types env.new) (place_of place) (env_type env.old t.0, c)) result }
     ensures grown { TypesGrown env.old env.new }
     ensures parts { HasParts env.new }
+    ensures values { HasValueTypes env.old → HasValueTypes env.new }
     ensures defined { defined_types env.new ≡ defined_types env.old }
+    ensures definitions { env.new.defined ≡ env.old.defined }
 {
     if !has_address(place) {
         return Err(Refusal::NotTyped);

@@ -47,7 +47,7 @@ fn rise(env: &Env, consts: &ConstTable, i: Option<Value>, j: Option<Value>) -> b
 }
 
 /// Whether two constant bounds don't fall.
-fn contents_rise(env: &Env, consts: &ConstTable, i: Value, j: Value) -> bool
+pub fn contents_rise(env: &Env, consts: &ConstTable, i: Value, j: Value) -> bool
     requires low { IsValue env.now consts.now i }
     requires high { IsValue env.now consts.now j }
     ensures { result ≡ go.rise (defined_types env.now) (Some (typed_of env.now consts.now i))

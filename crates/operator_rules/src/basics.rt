@@ -5,6 +5,7 @@ ghost use Rattle.type_relations.specs.Environment.{defined_types};
 ghost use Rattle.operator_rules.specs.BasicTypes.{AreBasic, IsBasic};
 ghost use Rattle.operator_rules.specs.Kept.{TypesGrown};
 ghost use Rattle.operator_rules.specs.Parts.{HasParts};
+ghost use Rattle.value_types.specs.ValueTypes.{HasValueTypes};
 
 use const_eval::Kind;
 use go_tree::NoMemory;
@@ -22,12 +23,14 @@ pub struct BasicTypes {
 }
 
 /// The number of the predeclared type of this kind.
-#[tactic(auto, using(crate::proofs::KeptLemmas::interned_grown, crate::proofs::KeptLemmas::types_same, crate::proofs::GrowthLemmas::basic_parts, crate::proofs::GrowthLemmas::parts_same))]
+#[tactic(auto, using(crate::proofs::KeptLemmas::interned_grown, crate::proofs::KeptLemmas::types_same, crate::proofs::GrowthLemmas::basic_parts, crate::proofs::GrowthLemmas::parts_same, value_types::proofs::ValueLemmas::basic_added, value_types::proofs::ValueLemmas::values_same))]
 fn basic_type(env: &mut Env, k: Kind) -> Result<TypeId, NoMemory>
     ensures is { IfOk result (λ t. IsBasic env.new t k) }
     ensures grown { TypesGrown env.old env.new }
     ensures parts { HasParts env.old → HasParts env.new }
+    ensures values { HasValueTypes env.old → HasValueTypes env.new }
     ensures defined { defined_types env.new ≡ defined_types env.old }
+    ensures definitions { env.new.defined ≡ env.old.defined }
 {
     let made = env.intern(TypeNode::Basic(k))?;
     Ok(made)
@@ -40,7 +43,9 @@ impl BasicTypes {
         ensures are { IfOk result (AreBasic env.new) }
         ensures grown { TypesGrown env.old env.new }
         ensures parts { HasParts env.old → HasParts env.new }
+        ensures values { HasValueTypes env.old → HasValueTypes env.new }
         ensures defined { defined_types env.new ≡ defined_types env.old }
+        ensures definitions { env.new.defined ≡ env.old.defined }
     {
         let int = basic_type(env, Kind::Int)?;
         let rune = basic_type(env, Kind::Int32)?;

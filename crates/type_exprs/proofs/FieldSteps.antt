@@ -15,6 +15,7 @@ use Rattle.type_relations.specs.Environment.{Environment, env_type}
 use Rattle.type_table.specs.declared.nodes.Field.{Field}
 use Rattle.type_table.specs.Rows.{FieldsBelow, field_of}
 use Rattle.type_table.specs.TypesAt.{fields_by}
+use Rattle.value_types.specs.ValueTypes.{HasValueTypes}
 use Rattle.typed_names.specs.declared.scopes.Scope.{Scope}
 use Rattle.typed_names.specs.Known.{KnowsTypes}
 use Rattle.typed_names.specs.Meanings.{Names}
@@ -69,7 +70,7 @@ given_same (Some a) = refl
 pub fields_start :
     (e : Environment) (bs : List Names) (s : Scope) (all : Fields Span) → KnowsTypes e bs s → FieldsRead e e bs s all all []
 fields_start e bs s all k =
-    record { grown = grown_self e; known = k; within = tt; read = λ cs. given_same (any_fields (env_at e cs bs s) all) }
+    record { grown = grown_self e; values = λ h. h; known = k; within = tt; read = λ cs. given_same (any_fields (env_at e cs bs s) all) }
 
 module _ (old new : Environment) (bs : List Names) (s : Scope) (k : KnowsTypes old bs s) (all rest : Fields Span) where
   -- all are read
@@ -94,14 +95,15 @@ module _ (old new : Environment) (bs : List Names) (s : Scope) (k : KnowsTypes o
 
     -- the next is read
     pub fields_more :
-        (newer : Environment) → TypesGrown new newer → (f : Field) → f.of.0 < length newer.rows →
+        (newer : Environment) → TypesGrown new newer → (HasValueTypes new → HasValueTypes newer) → (f : Field) → f.of.0 < length newer.rows →
         field_of f ≡ record { name = n.name; package_number = field_package n.name s.home; of = f.of.0 } →
         ((cs : List Const) → resolved (env_at new cs bs s) t ≡ Some (env_type newer f.of.0)) →
         FieldsRead old newer bs s all rest (rows ++ f ∷ [])
-    fields_more newer g f l is e =
+    fields_more newer g v f l is e =
         let m = g.more in
         record {
           grown = grown_on old new newer r.grown g;
+          values = λ h. v (r.values h);
           known = known_on new newer g bs s r.known;
           within = below_one (length newer.rows) rows f (below_on (length new.rows) (length newer.rows) rows m r.within) l;
           read = λ cs.
@@ -127,13 +129,13 @@ module _ (old new : Environment) (bs : List Names) (s : Scope) (k : KnowsTypes o
 
     -- so by the row of its name and number
     pub fields_row :
-        (newer : Environment) → TypesGrown new newer → (f : Field) (i : ℕ) → i < length newer.rows →
+        (newer : Environment) → TypesGrown new newer → (HasValueTypes new → HasValueTypes newer) → (f : Field) (i : ℕ) → i < length newer.rows →
         field_of f ≡ record { name = n.name; package_number = field_package n.name s.home; of = i } →
         ((cs : List Const) → resolved (env_at new cs bs s) t ≡ Some (env_type newer i)) →
         FieldsRead old newer bs s all rest (rows ++ f ∷ [])
-    fields_row newer g f i l is e =
+    fields_row newer g v f i l is e =
         let j : f.of.0 ≡ i = ap (λ (x : NodeField). x.of) is in
-        fields_more newer g f (subst (λ m. m < length newer.rows) (sym j) l)
+        fields_more newer g v f (subst (λ m. m < length newer.rows) (sym j) l)
         (is
         ∙ ap (λ m. record { name = n.name; package_number = field_package n.name s.home; of = m }) (sym j))
         (λ cs. e cs ∙ ap (λ m. Some (env_type newer m)) (sym j))

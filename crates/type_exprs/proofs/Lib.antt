@@ -5,3 +5,4 @@ pub mod FieldSteps
 pub mod NewNames
 pub mod TypeSteps
 pub mod FlagsKept
+pub mod ValuesKept

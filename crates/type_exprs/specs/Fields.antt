@@ -12,6 +12,7 @@ use Rattle.go_types.specs.Table.{NodeField}
 use Rattle.type_relations.specs.Environment.{Environment, env_type}
 use Rattle.type_table.specs.declared.nodes.Field.{Field}
 use Rattle.type_table.specs.Rows.{FieldsBelow, field_of}
+use Rattle.value_types.specs.ValueTypes.{HasValueTypes}
 use Rattle.typed_names.specs.declared.scopes.Scope.{Scope}
 use Rattle.typed_names.specs.Known.{KnowsTypes}
 use Rattle.typed_names.specs.Meanings.{Names}
@@ -39,6 +40,7 @@ fields_onto part (f ∷ fs) gs = go_field f.name f.package_number (part f.of) (f
 pub record FieldsRead (old new : Environment) (bs : List Names) (s : Scope) (all rest : Fields Span)
     (rows : List Field) : Type 0 where
   pub grown : TypesGrown old new
+  pub values : HasValueTypes old → HasValueTypes new
   pub known : KnowsTypes new bs s
   pub within : FieldsBelow (length new.rows) rows
   pub read :

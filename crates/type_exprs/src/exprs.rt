@@ -6,6 +6,7 @@ ghost use Rattle.go_tree.specs.View.{type_of, fields_of};
 ghost use Rattle.go_types.specs.TypeNames as go;
 ghost use Rattle.typed_names.specs.Known.{KnowsTypes};
 ghost use Rattle.typed_names.specs.Scopes.{env_at};
+ghost use Rattle.value_types.specs.ValueTypes.{HasValueTypes};
 ghost use Rattle.type_exprs.specs.Answers.{GivesFields, GivesType};
 ghost use Rattle.type_exprs.specs.Fields.{any_fields};
 ghost use Rattle.type_exprs.specs.Grown.{TypesGrown};
@@ -32,6 +33,7 @@ pub fn resolved(
 ) -> Result<TypeId, Refusal>
     requires known { KnowsTypes types.old blocks.now scope.now }
     ensures grown { TypesGrown types.old types.new }
+    ensures values { HasValueTypes types.old → HasValueTypes types.new }
     ensures known { KnowsTypes types.new blocks.now scope.now }
     ensures gives { (cs : List Const)
         → GivesType types.new (go.resolved (env_at types.old cs blocks.now scope.now) (type_of t.now)) result }
@@ -71,6 +73,7 @@ fn resolved_fields(
 ) -> Result<FieldList, Refusal>
     requires known { KnowsTypes types.old blocks.now scope.now }
     ensures grown { TypesGrown types.old types.new }
+    ensures values { HasValueTypes types.old → HasValueTypes types.new }
     ensures gives { (cs : List Const)
         → GivesFields types.new (any_fields (env_at types.old cs blocks.now scope.now) (fields_of fields.now)) result }
 {

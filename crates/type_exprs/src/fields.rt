@@ -8,6 +8,7 @@ ghost use Rattle.scope_names.specs.Means.{is_blank, means};
 ghost use Rattle.type_relations.specs.Environment.{env_type};
 ghost use Rattle.type_table.specs.Rows.{FieldsBelow, field_of};
 ghost use Rattle.type_table.specs.TypesAt.{fields_by};
+ghost use Rattle.value_types.specs.ValueTypes.{HasValueTypes};
 ghost use Rattle.type_exprs.specs.Answers.{GivesFields, GivesType};
 ghost use Rattle.type_exprs.specs.Fields.{are_new};
 ghost use Rattle.type_exprs.specs.Grown.{TypesGrown};
@@ -48,6 +49,7 @@ pub(crate) fn struct_type(
 ) -> Result<TypeId, Refusal>
     requires within { FieldsBelow (length types.old.rows) rows }
     ensures grown { TypesGrown types.old types.new }
+    ensures values { HasValueTypes types.old → HasValueTypes types.new }
     ensures gives { GivesType types.new
         (only_if (are_new [] (map (λ f. f.name) rows))
         (Some (struct_of (fields_by (env_type types.old) (map field_of rows))))) result }
@@ -67,6 +69,7 @@ pub(crate) fn struct_of_fields(
 ) -> Result<TypeId, Refusal>
     requires within { IfOk rows (FieldsBelow (length types.old.rows)) }
     ensures grown { TypesGrown types.old types.new }
+    ensures values { HasValueTypes types.old → HasValueTypes types.new }
     ensures gives { (d : Option GoFields) → GivesFields types.old d rows
         → GivesType types.new
         (given d (λ gs. only_if (are_new [] (field_names gs)) (Some (struct_of gs)))) result }

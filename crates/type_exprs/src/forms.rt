@@ -5,6 +5,7 @@ ghost use Rattle.std.specs.Prelude.{◌≡◌, ◌<◌, length, Option, Some, If
 ghost use Rattle.go_types.specs.Answers.{both, given};
 ghost use Rattle.go_types.specs.Types.{GoType, map_of, pointer_to, slice_of};
 ghost use Rattle.type_relations.specs.Environment.{env_type};
+ghost use Rattle.value_types.specs.ValueTypes.{HasValueTypes};
 ghost use Rattle.type_exprs.specs.Answers.{GivesType};
 ghost use Rattle.type_exprs.specs.Grown.{TypesGrown};
 
@@ -14,13 +15,14 @@ use type_relations::Env;
 use type_table::{TypeId, TypeNode};
 
 /// The pointer to a type.
-#[tactic(auto, using(crate::proofs::GrownLaws::grown_self))]
+#[tactic(auto, using(crate::proofs::GrownLaws::grown_self, crate::proofs::ValuesKept::values_self))]
 pub(crate) fn pointer_type(
     types: &mut Env,
     base: Result<TypeId, Refusal>,
 ) -> Result<TypeId, Refusal>
     requires within { IfOk base (λ t. t.0 < length types.old.rows) }
     ensures grown { TypesGrown types.old types.new }
+    ensures values { HasValueTypes types.old → HasValueTypes types.new }
     ensures gives { (d : Option GoType) → GivesType types.old d base
         → GivesType types.new (given d (λ u. Some (pointer_to u))) result }
 {
@@ -31,13 +33,14 @@ pub(crate) fn pointer_type(
 }
 
 /// The slice of elements of a type.
-#[tactic(auto, using(crate::proofs::GrownLaws::grown_self))]
+#[tactic(auto, using(crate::proofs::GrownLaws::grown_self, crate::proofs::ValuesKept::values_self))]
 pub(crate) fn slice_type(
     types: &mut Env,
     element: Result<TypeId, Refusal>,
 ) -> Result<TypeId, Refusal>
     requires within { IfOk element (λ t. t.0 < length types.old.rows) }
     ensures grown { TypesGrown types.old types.new }
+    ensures values { HasValueTypes types.old → HasValueTypes types.new }
     ensures gives { (d : Option GoType) → GivesType types.old d element
         → GivesType types.new (given d (λ u. Some (slice_of u))) result }
 {
@@ -48,7 +51,7 @@ pub(crate) fn slice_type(
 }
 
 /// The map from keys of a type to elements of a type.
-#[tactic(auto, using(crate::proofs::GrownLaws::grown_self))]
+#[tactic(auto, using(crate::proofs::GrownLaws::grown_self, crate::proofs::ValuesKept::values_self))]
 pub(crate) fn map_type(
     types: &mut Env,
     key: TypeId,
@@ -57,6 +60,7 @@ pub(crate) fn map_type(
     requires key { key.0 < length types.old.rows }
     requires element { IfOk element (λ t. t.0 < length types.old.rows) }
     ensures grown { TypesGrown types.old types.new }
+    ensures values { HasValueTypes types.old → HasValueTypes types.new }
     ensures gives { (k : GoType) (d : Option GoType) → k ≡ env_type types.old key.0 → GivesType types.old d element
         → GivesType types.new (both (Some k) d (λ a b. Some (map_of a b))) result }
 {

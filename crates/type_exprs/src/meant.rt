@@ -13,6 +13,7 @@ ghost use Rattle.comparable_types.specs.Flags.{flag_at};
 ghost use Rattle.comparable_types.specs.Grown.{AreFlagsSoFar, DefinedBelow};
 ghost use Rattle.typed_names.specs.Known.{KnowsTypes};
 ghost use Rattle.typed_names.specs.Scopes.{env_at};
+ghost use Rattle.value_types.specs.ValueTypes.{HasValueTypes};
 ghost use Rattle.type_exprs.specs.Answers.{GivesType};
 ghost use Rattle.type_exprs.specs.Grown.{TypesGrown};
 
@@ -86,6 +87,7 @@ pub fn type_meant(
     requires flags { AreFlagsSoFar types.old flags.old }
     requires defined { DefinedBelow (length flags.old.comparable.items) types.old.defined }
     ensures grown { TypesGrown types.old types.new }
+    ensures values { HasValueTypes types.old → HasValueTypes types.new }
     ensures flags { AreFlagsSoFar types.new flags.new }
     ensures defined { DefinedBelow (length flags.new.comparable.items) types.new.defined }
     ensures gives { (cs : List Const)

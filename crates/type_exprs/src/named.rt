@@ -12,6 +12,7 @@ ghost use Rattle.universe_block.specs.Meanings.{entity_of};
 ghost use Rattle.typed_names.specs.Known.{HasTypes, KnowsTypes};
 ghost use Rattle.typed_names.specs.Meanings.{entity_at, entity_option};
 ghost use Rattle.typed_names.specs.Scopes.{env_at};
+ghost use Rattle.value_types.specs.ValueTypes.{HasValueTypes};
 ghost use Rattle.type_exprs.specs.Answers.{GivesType};
 ghost use Rattle.type_exprs.specs.Grown.{TypesGrown};
 
@@ -24,9 +25,10 @@ use typed_names::{Blocks, Entity, Scope};
 use universe_block::PredeclaredEntity;
 
 /// The type that a predeclared name means.
-#[tactic(auto, using(crate::proofs::GrownLaws::grown_self))]
+#[tactic(auto, using(crate::proofs::GrownLaws::grown_self, crate::proofs::ValuesKept::values_self))]
 fn predeclared_type(types: &mut Env, entity: PredeclaredEntity) -> Result<TypeId, Refusal>
     ensures grown { TypesGrown types.old types.new }
+    ensures values { HasValueTypes types.old → HasValueTypes types.new }
     ensures gives { GivesType types.new (type_of_name (Some (entity_of entity))) result }
 {
     match entity {
@@ -39,10 +41,11 @@ fn predeclared_type(types: &mut Env, entity: PredeclaredEntity) -> Result<TypeId
 }
 
 /// The type that an entity is.
-#[tactic(auto, using(crate::proofs::GrownLaws::grown_self))]
+#[tactic(auto, using(crate::proofs::GrownLaws::grown_self, crate::proofs::ValuesKept::values_self))]
 fn entity_type(types: &mut Env, entity: Entity) -> Result<TypeId, Refusal>
     requires known { HasTypes types.old entity }
     ensures grown { TypesGrown types.old types.new }
+    ensures values { HasValueTypes types.old → HasValueTypes types.new }
     ensures gives { (cs : List Const)
         → GivesType types.new (type_of_name (Some (entity_at types.old cs entity))) result }
 {
@@ -76,7 +79,7 @@ fn named_entity(
 }
 
 /// The type that a name means, or a name of another package.
-#[tactic(auto, using(crate::proofs::GrownLaws::grown_self))]
+#[tactic(auto, using(crate::proofs::GrownLaws::grown_self, crate::proofs::ValuesKept::values_self))]
 pub(crate) fn named_type(
     types: &mut Env,
     scope: &Scope,
@@ -86,6 +89,7 @@ pub(crate) fn named_type(
 ) -> Result<TypeId, Refusal>
     requires known { KnowsTypes types.old blocks.now scope.now }
     ensures grown { TypesGrown types.old types.new }
+    ensures values { HasValueTypes types.old → HasValueTypes types.new }
     ensures gives { (cs : List Const)
         → GivesType types.new
         (named_meaning (env_at types.old cs blocks.now scope.now) (option_map name_at_of qualifier.now)

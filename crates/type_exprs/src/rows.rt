@@ -5,6 +5,7 @@ ghost use Rattle.go_types.specs.Types.{GoType, is_untyped};
 ghost use Rattle.type_relations.specs.Environment.{env_type};
 ghost use Rattle.type_table.specs.Rows.{PartsBelow, row_of};
 ghost use Rattle.type_table.specs.TypesAt.{type_by};
+ghost use Rattle.value_types.specs.ValueTypes.{HasValueTypes};
 ghost use Rattle.type_exprs.specs.Answers.{GivesType};
 ghost use Rattle.type_exprs.specs.Grown.{TypesGrown};
 
@@ -17,6 +18,7 @@ pub(crate) fn interned(types: &mut Env, n: TypeNode) -> Result<TypeId, Refusal>
     requires parts { PartsBelow (length types.old.rows) n }
     requires typed { (part : ℕ → GoType) → is_untyped (type_by part (row_of n)) ≡ false }
     ensures grown { TypesGrown types.old types.new }
+    ensures values { HasValueTypes types.old → HasValueTypes types.new }
     ensures gives { GivesType types.new (Some (type_by (env_type types.new) (row_of n))) result }
 {
     match types.intern(n) {

@@ -163,7 +163,7 @@ resolved_fields-loop-field-preserved t c =
     subst (λ rows. FieldsRead c.args.types.now f c.args.blocks.now c.args.scope.now all (fields_from left) rows)
     (sym c.in_ok-push.ensures.items)
     (fields_row c.args.types.now e c.args.blocks.now c.args.scope.now c.requires.known all (fields_from left) item.span
-    (name_at_of item.name) (type_of item.of) c.loop-field.rows.items r f c.resolved.ensures.grown c.in_ok-field_row.field-0
+    (name_at_of item.name) (type_of item.of) c.loop-field.rows.items r f c.resolved.ensures.grown c.resolved.ensures.values c.in_ok-field_row.field-0
     c.in-Ok.of.0 (h []).0.0 c.in_ok-field_row.ensures (λ cs. (h cs).1))
 
 pub resolved_fields-returns-clause-gives : goal.resolved_fields-returns-clause-gives
@@ -205,3 +205,6 @@ resolved-returns-in-Struct-clause-known t c =
     known_on c.resolved_fields-rows.new.types c.struct_of_fields.new.types c.struct_of_fields.ensures.grown c.args.blocks.now c.args.scope.now
     (known_on c.args.types.now c.resolved_fields-rows.new.types c.resolved_fields-rows.ensures.grown c.args.blocks.now
     c.args.scope.now c.requires.known)
+
+pub resolved_fields-returns-in-Err-clause-values : goal.resolved_fields-returns-in-Err-clause-values
+resolved_fields-returns-in-Err-clause-values t c = λ h. c.resolved.ensures.values (c.loop-field.invariant.values h)

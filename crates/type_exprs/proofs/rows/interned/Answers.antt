@@ -3,6 +3,8 @@ use Rattle.go_types.specs.Types.{is_untyped}
 use Rattle.type_relations.specs.Environment.{env_type}
 use Rattle.type_table.specs.Rows.{row_of}
 use Rattle.type_exprs.proofs.RowLaws.{row_grown, row_kept}
+use Rattle.value_types.proofs.ValueLemmas.{values_same}
+use Rattle.type_exprs.proofs.ValuesKept.{values_added}
 use Rattle.type_exprs.proofs.rows.interned.Goals as goal
 
 pub returns-in-Ok-clause-grown : goal.returns-in-Ok-clause-grown
@@ -18,3 +20,11 @@ returns-in-Ok-clause-gives c = (
 
 pub returns-in-Err-clause-grown : goal.returns-in-Err-clause-grown
 returns-in-Err-clause-grown c = row_kept c.args.types.now c.intern.new.self c.in-Err.ensures.same
+
+pub returns-in-Ok-clause-values : goal.returns-in-Ok-clause-values
+returns-in-Ok-clause-values c =
+    values_added c.args.types.now c.intern.new.self (row_of c.args.n) c.in-Ok.ensures.added c.intern.ensures.types
+    c.requires.typed
+
+pub returns-in-Err-clause-values : goal.returns-in-Err-clause-values
+returns-in-Err-clause-values c = values_same c.args.types.now c.intern.new.self c.in-Err.ensures.same

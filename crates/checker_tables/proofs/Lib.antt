@@ -1,0 +1,4 @@
+pub mod PartLemmas
+pub mod MethodLemmas
+pub mod ReadyLemmas
+pub mod TableLemmas

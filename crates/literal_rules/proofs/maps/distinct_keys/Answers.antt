@@ -1,0 +1,32 @@
+use mathlib.Core.Path.{sym, subst, ◌∙◌}
+use Rattle.go_types.specs.Literals.{same_const}
+use Rattle.literal_rules.specs.Elements.{key_consts}
+use Rattle.literal_rules.specs.Sets.{SeenOnce}
+use Rattle.literal_rules.proofs.DistinctLemmas.{seen_none}
+use Rattle.literal_rules.proofs.MapLemmas.{item_key, keys_end, keys_step, keys_stop}
+use Rattle.literal_rules.proofs.SetLemmas.{const_turned}
+use Rattle.literal_rules.proofs.maps.distinct_keys.Goals as goal
+
+pub loop-x-init : goal.loop-x-init
+loop-x-init c =
+    let cs = key_consts c.args.consts.now c.args.elements.now in
+    subst (SeenOnce same_const cs cs) (sym c.new-seen.ensures) (seen_none same_const const_turned cs)
+
+pub add_key-requires : goal.add_key-requires
+add_key-requires c =
+    item_key c.args.env.now c.args.consts.now c.args.elements.now c.loop-x.x-index c.requires c.loop-x-test.true
+
+pub returns-then-not-is_new : goal.returns-then-not-is_new
+returns-then-not-is_new c =
+    keys_stop c.args.env.now c.args.consts.now c.args.elements.now c.loop-x.x-index c.loop-x.seen c.loop-x-test.true
+    (sym c.in_ok-is_new.ensures.is_new ∙ c.if-not-is_new.true) c.loop-x.invariant
+
+pub loop-x-preserved : goal.loop-x-preserved
+loop-x-preserved c =
+    keys_step c.args.consts.now c.args.elements.now c.loop-x.x-index c.loop-x.seen c.add_key.new.seen c.loop-x-test.true
+    (sym c.in_ok-is_new.ensures.is_new ∙ c.if-not-is_new.false) c.in_ok-is_new.ensures.added c.loop-x.invariant
+
+pub returns : goal.returns
+returns c =
+    keys_end c.args.env.now c.args.consts.now c.args.elements.now c.loop-x.x-index c.loop-x.seen c.loop-x-test.false
+    c.loop-x.invariant

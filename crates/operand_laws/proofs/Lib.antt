@@ -1,0 +1,4 @@
+pub mod ContentLemmas
+pub mod ValueLemmas
+pub mod OperatorLemmas
+pub mod GivenLemmas

@@ -1,0 +1,4 @@
+pub mod TupleLemmas
+pub mod SpreadLemmas
+pub mod AssignedLemmas
+pub mod FitsLemmas

@@ -1,0 +1,2 @@
+pub mod ValueTypes
+pub mod Laws
