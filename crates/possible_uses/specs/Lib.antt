@@ -1,0 +1,5 @@
+pub mod Candidates
+pub mod Views
+pub mod Parts
+pub mod Among
+pub mod Laws
