@@ -10,15 +10,15 @@ use Rattle.go_words.specs.Tokens.{TokensOf}
 use Rattle.go_scan.proofs.Cuts.{tokens_once}
 use Rattle.go_scan.specs.Unsupported.{IsFirst, unsupported_spans}
 use Rattle.go_nesting.specs.declared.counts.TheConstants.{MAX_LIMIT}
-use Rattle.go_nesting.specs.Over.{IsFirstOver, IsOverAt}
+use Rattle.go_nesting.specs.Over.{IsFirstOver}
 use Rattle.go_read.specs.SpellsWeight.{weights_of}
 use Rattle.go_read.specs.SpellsFiles.{SpellsFile}
 use Rattle.go_read.proofs.Whole.{file_one, refused_spells_none}
-use Rattle.module_files.specs.ModuleFile.{ModuleAnswer, is_module, no_module_line, old_go}
+use Rattle.module_files.specs.ModuleFile.{is_module, no_module_line, old_go}
 use Rattle.module_files.specs.declared.faults.GraphError.{GraphError}
 use Rattle.module_files.specs.declared.faults.GraphError.TheVariants.{NoModuleLine, OldGo, MixedPackage, NoPackage, Cycle, Internal, NoMemory}
 use Rattle.pkg_graph.specs.Package.{SourceTree}
-use Rattle.pkg_graph.specs.Graph.{GraphFault, IsFault, Links, mixed_package, no_package, cycle, internal_package}
+use Rattle.pkg_graph.specs.Graph.{GraphFault, IsFault, mixed_package, no_package, cycle, internal_package}
 use Rattle.pkg_graph.specs.GraphFaults.{IsGraphFault}
 use Rattle.pkg_graph.specs.Reads.{Source, AreTrees, none, file}
 use Rattle.pkg_graph.specs.GraphLaws.{LinkedHaveNoFault}
@@ -30,12 +30,12 @@ use Rattle.module_reading.specs.declared.faults.ReadFault.{ReadFault}
 use Rattle.module_reading.specs.declared.faults.ReadFault.TheVariants.{Text, Module}
 use Rattle.module_reading.specs.Files.{sources_of}
 use Rattle.module_reading.specs.Refusals.{Fails, HasSupportedWords, IsSupported, NestsWithin, Passes, FailsFirst, WithTokens}
-use Rattle.module_reading.specs.Modules.{Refuses, RefusesModule, RefusesPackages, go_sources, module_answer}
+use Rattle.module_reading.specs.Modules.{Refuses, RefusesPackages, go_sources}
 use Rattle.module_reading.proofs.RefusedLemmas.{all_at}
 use Rattle.refusals.specs.declared.refusal.Refusal.{Refusal}
 use Rattle.module_refusals.specs.Told.{Tells}
 use Rattle.module_refusals.specs.Laws.{ModulesHaveNoRefusal}
-use Rattle.module_refusals.specs.Refused.{AreModule, IsRefusal}
+use Rattle.module_refusals.specs.Refused.{AreModule}
 
 -- what holds of the tokens of a text holds of any that are its tokens
 pub same_tokens : (text : List ℕ) (P : List Token → List Comment → Type 0) (w : WithTokens text P) (tokens : List Token) (comments : List Comment) → TokensOf text tokens comments → P tokens comments

@@ -1,13 +1,12 @@
 -- The name of the package is the second token of a source file.
-use Rattle.std.proofs.Common.{◌≡◌, ◌∙◌, ◌<◌, ℕ, zero, suc, Bool, true, false, cond, if◌then◌else◌, not, ◌&&◌, List, [], ◌∷◌, length, refl, sym, ap, subst, arith, slice_index_or, bytes_eq}
-use Rattle.std.proofs.lemmas.Slice.Eq.{bytes_eq-Decides}
+use Rattle.std.proofs.Common.{◌≡◌, ◌∙◌, ◌<◌, ℕ, Bool, true, false, if◌then◌else◌, not, ◌&&◌, List, [], ◌∷◌, length, refl, sym, ap, subst, arith, slice_index_or, bytes_eq}
 use Rattle.std.specs.List.{list_all}
 use Rattle.go_tree.specs.declared.spans.Span.{Span}
 use Rattle.go_tree.specs.declared.tokens.Token.{Token}
 use Rattle.go_tree.specs.declared.tokens.TokenKind.{TokenKind}
 use Rattle.go_tree.specs.declared.tokens.TokenKind.TheVariants.{Ident, Keyword, Operator, Integer, Float, Imaginary, Rune, Str, Inserted}
 use Rattle.go_tree.specs.File.{File}
-use Rattle.go_words.specs.Terminals.{Terminal, Lexeme, lex, ident, semicolon, key_package, keywords, operators, found_in, terminal_of, lexemes}
+use Rattle.go_words.specs.Terminals.{Terminal, Lexeme, lex, ident, semicolon, keywords, operators, found_in, terminal_of, lexemes}
 use Rattle.go_tree.specs.declared.tokens.Comment.{Comment}
 use Rattle.go_words.specs.Tokens.{TokensOf}
 use Rattle.go_scan.proofs.Cuts.{tokens_once}

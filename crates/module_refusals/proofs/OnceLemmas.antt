@@ -1,5 +1,5 @@
 -- Files have one refusal at most.
-use Rattle.std.proofs.Common.{◌≡◌, ◌∙◌, ◌<◌, ◌≤◌, ◌+◌, ◌⊎◌, inl, inr, ℕ, zero, suc, List, [], ◌∷◌, ◌++◌, length, take, refl, sym, ap, subst, arith, All, slice_index}
+use Rattle.std.proofs.Common.{◌≡◌, ◌∙◌, ◌<◌, ◌≤◌, ◌⊎◌, inl, inr, ℕ, zero, suc, List, [], ◌∷◌, ◌++◌, length, take, refl, sym, ap, subst, arith, All, slice_index}
 use Rattle.std.specs.Prelude.{Contains, Some, None}
 use Rattle.std.specs.List.{slice_get}
 use Rattle.std.specs.Str.{IsUtf8, IsValidUpTo}
@@ -16,7 +16,7 @@ use Rattle.go_nesting.specs.Over.{IsFirstOver, IsOverAt}
 use Rattle.go_read.specs.SpellsWeight.{weights_of}
 use Rattle.go_read.specs.Fronts.{IsRefusedAt}
 use Rattle.go_read.proofs.Whole.{refused_once, refused_spells_none}
-use Rattle.module_files.specs.ModuleFile.{ModuleAnswer, is_module, no_module_line, old_go}
+use Rattle.module_files.specs.ModuleFile.{is_module, no_module_line, old_go}
 use Rattle.module_files.specs.declared.faults.GraphError.{GraphError}
 use Rattle.module_files.specs.declared.faults.GraphError.TheVariants.{NoModuleLine, OldGo, MixedPackage, NoPackage, Cycle, Internal, NoMemory}
 use Rattle.pkg_graph.specs.Graph.{GraphFault, IsFault, mixed_package, no_package, cycle, internal_package}
@@ -30,15 +30,14 @@ use Rattle.module_reading.specs.declared.faults.TextFault.TheVariants.{NotUtf8, 
 use Rattle.module_reading.specs.declared.faults.ReadFault.{ReadFault}
 use Rattle.module_reading.specs.declared.faults.ReadFault.TheVariants.{Text, Module}
 use Rattle.module_reading.specs.Files.{go_files, sources_of}
-use Rattle.module_reading.specs.Refusals.{Fails, FailsFirst, HasTokens, HasSupportedWords, IsSupported, NestsWithin, Passes, PassesEarlier, RefusesTexts, WithTokens}
-use Rattle.module_reading.specs.Modules.{NamesModule, Refuses, RefusesModule, RefusesPackages, go_sources, module_answer}
+use Rattle.module_reading.specs.Refusals.{Fails, FailsFirst, HasTokens, HasSupportedWords, IsSupported, Passes, PassesEarlier, RefusesTexts}
+use Rattle.module_reading.specs.Modules.{Refuses, RefusesModule, RefusesPackages, go_sources, module_answer}
 use Rattle.module_reading.proofs.RefusedLemmas.{all_at}
 use Rattle.refusals.specs.Refusals.{number_of}
 use Rattle.refusals.specs.declared.refusal.Refusal.{Refusal}
 use Rattle.refusals.specs.declared.refusal.Detail.{Detail}
 use Rattle.refusals.specs.declared.refusal.Detail.TheVariants as detail
 use Rattle.module_refusals.specs.Laws.{AreAlike, RefusalsAreAlike}
-use Rattle.module_refusals.specs.Refused.{IsRefusal}
 use Rattle.module_refusals.specs.Told.{OfFile, Tells, TellsModule, fault_at, fault_detail, told_at, told_whole}
 use Rattle.source_files.specs.Places.{place_of}
 use Rattle.module_refusals.proofs.ModuleLemmas.{contains_none, never_over, same_tokens, texts_never, trees_once}

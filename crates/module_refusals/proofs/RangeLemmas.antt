@@ -1,5 +1,5 @@
 -- Each fault names a file that is there.
-use Rattle.std.proofs.Common.{◌≡◌, ◌∙◌, ◌<◌, ◌+◌, ℕ, zero, suc, Bool, true, false, cond, List, [], ◌∷◌, ◌++◌, find, length, map, refl, sym, ap, subst, arith, length-append, All, Option, Some, None}
+use Rattle.std.proofs.Common.{◌≡◌, ◌∙◌, ◌<◌, ◌+◌, ℕ, suc, Bool, true, false, cond, List, [], ◌∷◌, find, length, map, refl, sym, ap, subst, arith, length-append, All, Some}
 use Rattle.std.proofs.lemmas.List.{length-map}
 use Rattle.std.proofs.lemmas.List.Elements.{All-append, All-cons}
 use Rattle.go_tree.specs.declared.spans.Span.{Span}
@@ -13,7 +13,7 @@ use Rattle.source_files.specs.declared.files.SourceFile.{SourceFile}
 use Rattle.module_reading.specs.declared.faults.TextFault.{TextFault}
 use Rattle.module_reading.specs.declared.faults.ReadFault.TheVariants.{Text}
 use Rattle.module_reading.specs.Files.{go_files, source_of, sources_of}
-use Rattle.module_reading.specs.Modules.{Refuses, RefusesModule, RefusesPackages, go_sources}
+use Rattle.module_reading.specs.Modules.{Refuses, RefusesModule, go_sources}
 use Rattle.module_reading.proofs.RefusedLemmas.{go_alike}
 
 count_alike : (files : List SourceFile) → length (go_sources (sources_of files)) ≡ length (go_files files)
