@@ -1,5 +1,5 @@
 -- Lists of files.
-use Rattle.std.proofs.Common.{◌≡◌, ◌∙◌, ◌<◌, ◌+◌, ℕ, zero, suc, Bool, true, false, cond, List, [], ◌∷◌, ◌++◌, length, find, filter, map, take, drop, refl, sym, ap, Option, Some, None, arith, slice_index_or}
+use Rattle.std.proofs.Common.{◌≡◌, ◌∙◌, ◌<◌, ℕ, zero, suc, Bool, true, false, cond, List, [], ◌∷◌, ◌++◌, length, find, filter, map, take, drop, refl, sym, ap, Some, arith, slice_index_or}
 use Rattle.std.proofs.lemmas.List.Elements.{filter-append, All-map}
 use Rattle.std.specs.Prelude.{All}
 use Rattle.std.proofs.lemmas.List.{length-map, length-take-le, map-append}

@@ -1,32 +1,31 @@
 -- Why a module isn't read.
-use Rattle.std.proofs.Common.{◌≡◌, ◌∙◌, ◌<◌, ◌+◌, ℕ, Bool, true, false, not, cond, List, [], ◌∷◌, ◌++◌, length, filter, map, refl, sym, ap, subst, arith, All}
+use Rattle.std.proofs.Common.{◌≡◌, ◌∙◌, ◌+◌, ℕ, Bool, true, false, cond, List, [], ◌∷◌, ◌++◌, length, map, refl, ap, subst, arith, All}
 use Rattle.std.proofs.lemmas.List.{get_or-append-add, get_or_append_left, length-append}
 use Rattle.std.proofs.lemmas.List.Elements.{All-map}
 use Rattle.go_tree.specs.declared.spans.Span.{Span}
 use Rattle.go_tree.specs.declared.tokens.Token.{Token}
 use Rattle.go_tree.specs.declared.tokens.Comment.{Comment}
-use Rattle.module_files.specs.Selected.{module_file}
 use Rattle.module_files.specs.ModuleFile.{is_module}
 use Rattle.module_files.specs.declared.faults.GraphError.{GraphError}
 use Rattle.module_files.specs.declared.faults.GraphError.TheVariants.{NoModuleLine, OldGo, MixedPackage, NoPackage, Cycle, Internal, NoMemory}
-use Rattle.pkg_graph.specs.Reads.{Source, AreTrees, is_at}
+use Rattle.pkg_graph.specs.Reads.{Source, AreTrees}
 use Rattle.pkg_graph.specs.GraphFaults.{IsGraphFault}
 use Rattle.pkg_graph.specs.Package as pure
 use Rattle.run_rules.specs.Inlining.{IsSourceFile}
 use Rattle.module_reading.specs.declared.faults.TextFault.TheVariants.{NotUtf8, BadToken, Unsupported, TooDeep, NotRead}
 use Rattle.module_reading.specs.declared.faults.ReadFault.{ReadFault}
 use Rattle.module_reading.specs.declared.faults.ReadFault.TheVariants.{Text, Module}
-use Rattle.module_reading.specs.declared.files.SourceFile.{SourceFile}
+use Rattle.source_files.specs.declared.files.SourceFile.{SourceFile}
 use Rattle.module_reading.specs.declared.files.ScannedFile.{ScannedFile}
 use Rattle.module_reading.specs.Files.{AreScanned, IsScanned, go_files, is_go_file, source_of, sources_of}
 use Rattle.module_reading.specs.Refusals.{Fails, FailsFirst, HasSupportedWords, HasTokens, HasWords, IsShallow, NestsWithin, RefusesScan, RefusesTrees, RefusesWords, SpellsAFile, WithTokens}
-use Rattle.module_reading.specs.Modules.{Refuses, RefusesModule, go_sources, module_answer}
+use Rattle.module_reading.specs.Modules.{Refuses, RefusesModule, RefusesPackages, go_sources, module_answer}
 use Rattle.module_reading.proofs.Lemmas.{fails_map, fails_weaker}
 
 all_left : {A : Type 0} (P : A → Type 0) (xs ys : List A) → All P (xs ++ ys) → All P xs
 all_left P xs ys h = λ k d l. subst P (get_or_append_left xs ys d k l) (h k d (let s = length-append xs ys in omega (arith, s, l)))
 
-all_at : {A : Type 0} (P : A → Type 0) (xs : List A) (x : A) (ys : List A) → All P (xs ++ x ∷ ys) → P x
+pub all_at : {A : Type 0} (P : A → Type 0) (xs : List A) (x : A) (ys : List A) → All P (xs ++ x ∷ ys) → P x
 all_at P xs x ys h = subst P (get_or-append-add xs (x ∷ ys) 0 x) (h (length xs + 0) x (let s = length-append xs (x ∷ ys) in omega (arith, s)))
 
 -- what holds of all holds of those up to the first that fails
@@ -50,26 +49,27 @@ filter_by : (x : SourceFile) (xs : List SourceFile) (b : Bool) → map source_of
 filter_by x xs true h = ap (λ r. source_of x ∷ r) h
 filter_by x xs false h = h
 
-go_alike : (files : List SourceFile) → map source_of (go_files files) ≡ go_sources (sources_of files)
+-- the files of Go source by their paths and texts
+pub go_alike : (files : List SourceFile) → map source_of (go_files files) ≡ go_sources (sources_of files)
 go_alike [] = refl
 go_alike (x ∷ xs) = filter_by x xs (is_go_file x) (go_alike xs)
 
-mapped : (list : List ScannedFile) → map (λ s. source_of s.file) list ≡ map source_of (map (λ s. s.file) list)
+mapped : (list : List ScannedFile) → map (λ s. source_of s.file.now) list ≡ map source_of (map (λ s. s.file.now) list)
 mapped [] = refl
-mapped (s ∷ ss) = ap (λ r. source_of s.file ∷ r) (mapped ss)
+mapped (s ∷ ss) = ap (λ r. source_of s.file.now ∷ r) (mapped ss)
 
-pub texts_alike : (files : List SourceFile) (list : List ScannedFile) → AreScanned (go_files files) list → map (λ s. source_of s.file) list ≡ go_sources (sources_of files)
+pub texts_alike : (files : List SourceFile) (list : List ScannedFile) → AreScanned (go_files files) list → map (λ s. source_of s.file.now) list ≡ go_sources (sources_of files)
 texts_alike files list h = mapped list ∙ ap (map source_of) h.files_are ∙ go_alike files
 
 to_sources : (P Q : List ℕ → Type 0) (files : List SourceFile) (list : List ScannedFile) (k : ℕ) → AreScanned (go_files files) list
-    → FailsFirst (λ s. P s.file.bytes) (λ s. Q s.file.bytes) list k → FailsFirst (λ f. P f.text) (λ f. Q f.text) (go_sources (sources_of files)) k
-to_sources P Q files list k h r = subst (λ fs. FailsFirst (λ f. P f.text) (λ f. Q f.text) fs k) (texts_alike files list h) (fails_map (λ s. source_of s.file) (λ f. P f.text) (λ f. Q f.text) list k r)
+    → FailsFirst (λ s. P s.file.now.bytes) (λ s. Q s.file.now.bytes) list k → FailsFirst (λ f. P f.text) (λ f. Q f.text) (go_sources (sources_of files)) k
+to_sources P Q files list k h r = subst (λ fs. FailsFirst (λ f. P f.text) (λ f. Q f.text) fs k) (texts_alike files list h) (fails_map (λ s. source_of s.file.now) (λ f. P f.text) (λ f. Q f.text) list k r)
 
 all_to_sources : (P : List ℕ → Type 0) (files : List SourceFile) (list : List ScannedFile) → AreScanned (go_files files) list
-    → All (λ s. P s.file.bytes) list → All (λ f. P f.text) (go_sources (sources_of files))
-all_to_sources P files list h r = subst (All (λ f. P f.text)) (texts_alike files list h) (All-map (λ f. P f.text) (λ s. source_of s.file) list r)
+    → All (λ s. P s.file.now.bytes) list → All (λ f. P f.text) (go_sources (sources_of files))
+all_to_sources P files list h r = subst (All (λ f. P f.text)) (texts_alike files list h) (All-map (λ f. P f.text) (λ s. source_of s.file.now) list r)
 
-with_tokens : (P : List ℕ → List Token → List Comment → Type 0) (s : ScannedFile) → IsScanned s → P s.file.bytes s.tokens.items s.tokens.comments → WithTokens s.file.bytes (P s.file.bytes)
+with_tokens : (P : List ℕ → List Token → List Comment → Type 0) (s : ScannedFile) → IsScanned s → P s.file.now.bytes s.tokens.items s.tokens.comments → WithTokens s.file.now.bytes (P s.file.now.bytes)
 with_tokens P s h p = record { tokens = s.tokens.items; comments = s.tokens.comments; words = h.words; holds = p }
 
 -- ---- refusals
@@ -93,14 +93,21 @@ module _ (files : List SourceFile) (path : List ℕ) (found : module_answer (sou
   scan_refuses (Module (Internal f a p)) r = absurd r
 
   module _ (list : List ScannedFile) (h : AreScanned (go_files files) list) where
-    have_tokens : All (λ s. HasTokens s.file.bytes) list
+    have_tokens : All (λ s. HasTokens s.file.now.bytes) list
     have_tokens = λ j d l. with_tokens (λ t ts cs. Unit {0}) _ (h.scans j d l) tt
 
-    have_words : All HasWords list → All (λ s. HasSupportedWords s.file.bytes) list
+    have_words : All HasWords list → All (λ s. HasSupportedWords s.file.now.bytes) list
     have_words w = λ j d l. record { tokens = _; comments = _; words = (h.scans j d l).words; holds = w j d l }
 
-    nest_within : All IsShallow list → All (λ s. NestsWithin s.file.bytes) list
+    nest_within : All IsShallow list → All (λ s. NestsWithin s.file.now.bytes) list
     nest_within w = λ j d l. record { tokens = _; comments = _; words = (h.scans j d l).words; holds = w j d l }
+
+    -- the same of the files
+    pub words_are : All HasWords list → All (λ f. HasSupportedWords f.text) (go_sources (sources_of files))
+    words_are w = all_to_sources HasSupportedWords files list h (have_words w)
+
+    pub shallow_are : All IsShallow list → All (λ f. NestsWithin f.text) (go_sources (sources_of files))
+    shallow_are w = all_to_sources NestsWithin files list h (nest_within w)
 
     pub words_refuse : (fault : ReadFault) → RefusesWords list fault → Refuses (sources_of files) fault
     words_refuse (Text k (Unsupported at)) r = (
@@ -149,12 +156,16 @@ module _ (files : List SourceFile) (path : List ℕ) (found : module_answer (sou
     trees_refuse (Module (Internal f a p)) w n r = absurd r
 
 -- what is wrong with the packages of the trees
-pub packages_refuse : (files : List Source) (path : List ℕ) (trees : List (pure.SourceTree Span)) (error : GraphError) → module_answer files ≡ is_module path
-    → AreTrees IsSourceFile (go_sources files) trees → IsGraphFault path trees error → RefusesModule files error
-packages_refuse files path trees NoModuleLine found are fault = absurd fault
-packages_refuse files path trees (OldGo v) found are fault = absurd fault
-packages_refuse files path trees NoMemory found are fault = tt
-packages_refuse files path trees (MixedPackage f a) found are fault = record { path = path; path_is = found; trees = trees; trees_are = are; fault = fault }
-packages_refuse files path trees (NoPackage f a p) found are fault = record { path = path; path_is = found; trees = trees; trees_are = are; fault = fault }
-packages_refuse files path trees (Cycle p) found are fault = record { path = path; path_is = found; trees = trees; trees_are = are; fault = fault }
-packages_refuse files path trees (Internal f a p) found are fault = record { path = path; path_is = found; trees = trees; trees_are = are; fault = fault }
+module _ (files : List Source) (path : List ℕ) (trees : List (pure.SourceTree Span)) (found : module_answer files ≡ is_module path) (are : AreTrees IsSourceFile (go_sources files) trees)
+    (words : All (λ f. HasSupportedWords f.text) (go_sources files)) (shallow : All (λ f. NestsWithin f.text) (go_sources files)) where
+  refuses : (error : GraphError) → IsGraphFault path trees error → RefusesPackages files error
+  refuses error fault = record { path = path; path_is = found; trees = trees; trees_are = are; words = words; shallow = shallow; fault = fault }
+
+  pub packages_refuse : (error : GraphError) → IsGraphFault path trees error → RefusesModule files error
+  packages_refuse NoModuleLine fault = absurd fault
+  packages_refuse (OldGo v) fault = absurd fault
+  packages_refuse NoMemory fault = tt
+  packages_refuse (MixedPackage f a) fault = refuses (MixedPackage f a) fault
+  packages_refuse (NoPackage f a p) fault = refuses (NoPackage f a p) fault
+  packages_refuse (Cycle p) fault = refuses (Cycle p) fault
+  packages_refuse (Internal f a p) fault = refuses (Internal f a p) fault

@@ -1,14 +1,13 @@
 -- The selected files of a folder.
-use Rattle.std.proofs.Common.{◌≡◌, ◌∙◌, ℕ, Bool, true, not, ◌||◌, List, find, filter, map, refl, sym, ap, subst, Option, Some, None}
+use Rattle.std.proofs.Common.{◌≡◌, ◌∙◌, ℕ, true, not, List, find, filter, map, refl, sym, ap, subst, Option, Some, None}
 use Rattle.module_files.specs.Selected.{is_selected, module_file}
-use Rattle.pkg_graph.specs.Reads.{Source, is_at, selected_files, go_files, AreTrees, IsProgram, Reads}
-use Rattle.pkg_graph.specs.Package.{SourceTree}
+use Rattle.pkg_graph.specs.Reads.{Source, is_at, selected_files, AreTrees, Reads}
 use Rattle.pkg_graph.specs.Views.{package_view}
 use Rattle.run_rules.specs.Inlining.{IsSourceFile}
 use Rattle.module_reading.specs.Files.{sources_of}
-use Rattle.module_reading.specs.declared.files.SourceFile.{SourceFile}
+use Rattle.source_files.specs.declared.files.SourceFile.{SourceFile}
 use Rattle.module_reading.specs.declared.reading.ReadModule.{ReadModule}
-use Rattle.module_reading.specs.Modules.{IsReadFrom, SelectedFilesRead, answer_in, go_sources, module_answer}
+use Rattle.module_reading.specs.Modules.{IsReadFrom, SelectedFilesRead, answer_in}
 use Rattle.module_reading.proofs.Lemmas.{find_filter}
 
 -- `go.mod` is selected

@@ -1,5 +1,5 @@
 -- Files and their trees.
-use Rattle.std.proofs.Common.{◌≡◌, ◌∙◌, ◌<◌, ◌+◌, ℕ, zero, suc, List, [], ◌∷◌, ◌++◌, length, map, take, refl, sym, ap, subst, arith, slice_index_or, All}
+use Rattle.std.proofs.Common.{◌≡◌, ◌∙◌, ◌<◌, ◌+◌, ℕ, suc, List, [], ◌∷◌, ◌++◌, length, map, take, refl, sym, ap, subst, arith, slice_index_or, All}
 use Rattle.std.proofs.lemmas.List.{take_more}
 use Rattle.std.proofs.lemmas.List.Elements.{All-cons, All-nil}
 use Rattle.go_tree.specs.FileView.{file_of}
@@ -60,14 +60,14 @@ trees_refused files i x ts n (Module (Cycle p)) l e h same r = absurd r
 trees_refused files i x ts n (Module (Internal f a p)) l e h same r = absurd r
 
 tree_here : (s : ScannedFile) (t : SourceTree) (fs : List Source) (ts : List (pure.SourceTree Span)) → IsTreeOf s t → IsScanned s → AreTrees IsSourceFile fs ts
-    → AreTrees IsSourceFile (source_of s.file ∷ fs) (views.source_of t ∷ ts)
+    → AreTrees IsSourceFile (source_of s.file.now ∷ fs) (views.source_of t ∷ ts)
 tree_here s t fs ts h is rest =
-    subst (λ p. AreTrees IsSourceFile (source_of s.file ∷ fs) (record { path = p; tree = file_of t.tree } ∷ ts)) (sym h.path)
-    (file (source_of s.file) (file_of t.tree) fs ts (record { tokens = s.tokens.items; comments = s.tokens.comments; reads = record { scans = is.words; spells = h.spells } }) rest)
+    subst (λ p. AreTrees IsSourceFile (source_of s.file.now ∷ fs) (record { path = p; tree = file_of t.tree } ∷ ts)) (sym h.path)
+    (file (source_of s.file.now) (file_of t.tree) fs ts (record { tokens = s.tokens.items; comments = s.tokens.comments; reads = record { scans = is.words; spells = h.spells } }) rest)
 
 -- each file's text is a source file with its tree
-pub trees_of : (ss : List ScannedFile) (ts : List SourceTree) → AreTreesOf ss ts → All IsScanned ss → AreTrees IsSourceFile (map (λ s. source_of s.file) ss) (views.sources_of ts)
+pub trees_of : (ss : List ScannedFile) (ts : List SourceTree) → AreTreesOf ss ts → All IsScanned ss → AreTrees IsSourceFile (map (λ s. source_of s.file.now) ss) (views.sources_of ts)
 trees_of [] [] h all = none
 trees_of [] (u ∷ us) h all = absurd h
 trees_of (r ∷ rs) [] h all = absurd h
-trees_of (r ∷ rs) (u ∷ us) h all = tree_here r u (map (λ s. source_of s.file) rs) (views.sources_of us) h.0 (all 0 r (omega arith)) (trees_of rs us h.1 (λ k d l. all (suc k) d (omega (arith, l))))
+trees_of (r ∷ rs) (u ∷ us) h all = tree_here r u (map (λ s. source_of s.file.now) rs) (views.sources_of us) h.0 (all 0 r (omega arith)) (trees_of rs us h.1 (λ k d l. all (suc k) d (omega (arith, l))))

@@ -20,7 +20,7 @@ use Rattle.module_reading.specs.declared.faults.TextFault.{TextFault}
 use Rattle.module_reading.specs.declared.faults.TextFault.TheVariants.{NotUtf8, BadToken, Unsupported, TooDeep, NotRead}
 use Rattle.module_reading.specs.declared.faults.ReadFault.{ReadFault}
 use Rattle.module_reading.specs.declared.faults.ReadFault.TheVariants.{Text, Module}
-use Rattle.module_reading.specs.declared.files.SourceFile.{SourceFile}
+use Rattle.source_files.specs.declared.files.SourceFile.{SourceFile}
 use Rattle.module_reading.specs.declared.files.ScannedFile.{ScannedFile}
 
 -- All before the one of number `k` pass, and that one fails.
@@ -96,11 +96,11 @@ pub record RefusesTexts (files : List Source) (k : ℕ) (fault : TextFault) : Ty
 
 -- each word is supported
 abbrev pub HasWords : ScannedFile → Type 0
-HasWords s = IsSupported s.file.bytes s.tokens.items s.tokens.comments
+HasWords s = IsSupported s.file.now.bytes s.tokens.items s.tokens.comments
 
 -- the first word that isn't supported
 abbrev pub HasFirstWord : Span → ScannedFile → Type 0
-HasFirstWord span s = IsFirst (unsupported_spans s.file.bytes s.tokens.items s.tokens.comments) (Some span)
+HasFirstWord span s = IsFirst (unsupported_spans s.file.now.bytes s.tokens.items s.tokens.comments) (Some span)
 
 -- no token nests too deeply
 abbrev pub IsShallow : ScannedFile → Type 0
@@ -116,7 +116,7 @@ HasTree s = (tree : File Span) × SpellsFile s.tokens.items tree
 
 -- the tokens spell no file, and the part that isn't read starts here
 abbrev pub IsUnreadAt : ℕ → ScannedFile → Type 0
-IsUnreadAt at s = IsRefusedAt (length s.file.bytes) (lexemes s.tokens.items) at
+IsUnreadAt at s = IsRefusedAt (length s.file.now.bytes) (lexemes s.tokens.items) at
 
 -- the fault says that a text has no tokens
 abbrev pub IsOfTokens : TextFault → Type 0

@@ -7,11 +7,9 @@ mod files;
 mod laws;
 mod reading;
 mod scanned;
-#[cfg(test)]
-mod tests;
 mod trees;
 
 pub use faults::{ReadFault, TextFault};
-pub use files::{ScannedFile, SourceFile};
+pub use files::{ScannedFile, is_go_file};
 pub use laws::selected_files_read_alike;
 pub use reading::{ReadModule, read_module_files};

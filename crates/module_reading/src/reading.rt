@@ -8,20 +8,21 @@ ghost use Rattle.module_reading.specs.Refusals.{HasWords, IsShallow, RefusesWord
 
 use crate::checks::{first_too_deep, first_unsupported};
 use crate::faults::{ReadFault, TextFault};
-use crate::files::{ScannedFile, SourceFile};
+use crate::files::{ScannedFile, is_go_file};
 use crate::scanned::scan_files;
 use crate::trees::parse_files;
 use go_tree::MAX_FILE_BYTES;
 use pkg_graph::{Graph, GraphError, Module, build, read_module};
+use source_files::SourceFile;
 use std::alloc::Global;
 
 /// A module that is read: its path, its packages with their trees, and the files of Go source in the order in which
 /// they were given, with their tokens and comments.
 #[derive(Drop)]
-pub struct ReadModule {
+pub struct ReadModule<'a> {
     pub home: Module,
     pub graph: Graph,
-    pub files: Vec<ScannedFile>,
+    pub files: Vec<ScannedFile<'a>>,
 }
 
 /// The module that `go.mod` in the root names.
@@ -30,7 +31,7 @@ fn find_module(alloc: Global, files: &[SourceFile]) -> Result<Module, GraphError
     ensures cause { IfErr result (RefusesModule (sources_of files.now)) }
 {
     for file in files {
-        if !file.is_go_file() {
+        if !is_go_file(file) {
             return read_module(alloc, file.bytes.items());
         }
     }
@@ -65,13 +66,16 @@ fn check_tokens(files: &[ScannedFile]) -> Result<(), ReadFault>
 /// The checks come in this order, each over all files in the order given before the next begins: `go.mod`; UTF-8 and
 /// tokens; words that aren't supported; nesting; grammar; names of packages; paths of imports; cycles of imports;
 /// internal packages. What is answered is the first that fails, and where.
-pub fn read_module_files(alloc: Global, files: Vec<SourceFile>) -> Result<ReadModule, ReadFault>
-    requires count { length files.items < 2 ^ 32 }
-    requires small { All (λ f. length f.bytes ≤ MAX_FILE_BYTES) files.items }
-    ensures read { IfOk result (IsReadFrom files.items) }
-    ensures refused { IfErr result (Refuses (sources_of files.items)) }
+pub fn read_module_files<'a>(
+    alloc: Global,
+    files: &'a [SourceFile],
+) -> Result<ReadModule<'a>, ReadFault>
+    requires count { length files.now < 2 ^ 32 }
+    requires small { All (λ f. length f.bytes ≤ MAX_FILE_BYTES) files.now }
+    ensures read { IfOk result (IsReadFrom files.now) }
+    ensures refused { IfErr result (Refuses (sources_of files.now)) }
 {
-    let home = match find_module(alloc, &files) {
+    let home = match find_module(alloc, files) {
         Ok(home) => home,
         Err(error) => return Err(ReadFault::Module(error)),
     };

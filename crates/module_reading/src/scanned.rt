@@ -8,18 +8,23 @@ ghost use Rattle.module_reading.specs.Refusals.{Fails, IsOfScan, RefusesScan};
 ghost use Rattle.module_reading.specs.declared.faults.ReadFault.TheVariants.{Module};
 
 use crate::faults::{ReadFault, TextFault};
-use crate::files::{ScannedFile, SourceFile};
+use crate::files::{ScannedFile, is_go_file};
 use go_scan::{ScanError, scan};
 use go_tree::MAX_FILE_BYTES;
 use pkg_graph::GraphError;
+use source_files::SourceFile;
 use std::alloc::Global;
 
 /// The tokens of a file, which is the one of this number.
-fn scan_file(alloc: Global, number: u32, file: SourceFile) -> Result<ScannedFile, ReadFault>
-    requires { length file.bytes ≤ MAX_FILE_BYTES }
-    ensures same { IfOk result (λ s. s.file ≡ file) }
+fn scan_file<'a>(
+    alloc: Global,
+    number: u32,
+    file: &'a SourceFile,
+) -> Result<ScannedFile<'a>, ReadFault>
+    requires { length file.now.bytes ≤ MAX_FILE_BYTES }
+    ensures same { IfOk result (λ s. s.file.now ≡ file.now) }
     ensures scanned { IfOk result IsScanned }
-    ensures refused { IfErr result (IsOfScan number file) }
+    ensures refused { IfErr result (IsOfScan number file.now) }
 {
     match scan(alloc, file.bytes.items()) {
         Ok(tokens) => Ok(ScannedFile { file, tokens }),
@@ -36,25 +41,26 @@ fn scan_file(alloc: Global, number: u32, file: SourceFile) -> Result<ScannedFile
 }
 
 /// The files of Go source with their tokens, up to the first that has none.
-pub(crate) fn scan_files(
+pub(crate) fn scan_files<'a>(
     alloc: Global,
-    files: Vec<SourceFile>,
-) -> Result<Vec<ScannedFile>, ReadFault>
-    requires count { length files.items < 2 ^ 32 }
-    requires small { All (λ f. length f.bytes ≤ MAX_FILE_BYTES) files.items }
-    ensures scanned { IfOk result (λ list. AreScanned (go_files files.items) list.items) }
-    ensures refused { IfErr result (RefusesScan (go_files files.items)) }
+    files: &'a [SourceFile],
+) -> Result<Vec<ScannedFile<'a>>, ReadFault>
+    requires count { length files.now < 2 ^ 32 }
+    requires small { All (λ f. length f.bytes ≤ MAX_FILE_BYTES) files.now }
+    ensures scanned { IfOk result (λ list. AreScanned (go_files files.now) list.items) }
+    ensures refused { IfErr result (RefusesScan (go_files files.now)) }
 {
     let mut list = Vec::new(alloc);
     for file in files {
-        if file.is_go_file() {
-            let number = list.len() as u32;
-            let scanned = match scan_file(alloc, number, file) {
-                Ok(scanned) => scanned,
-                Err(fault) => return Err(fault),
-            };
-            list.push(scanned)?;
+        if !is_go_file(file) {
+            continue;
         }
+        let number = list.len() as u32;
+        let scanned = match scan_file(alloc, number, file) {
+            Ok(scanned) => scanned,
+            Err(fault) => return Err(fault),
+        };
+        list.push(scanned)?;
     }
     Ok(list)
 }

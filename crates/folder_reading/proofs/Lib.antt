@@ -1,0 +1,3 @@
+pub mod LimitLemmas
+pub mod ReadLemmas
+pub mod SelectedLemmas

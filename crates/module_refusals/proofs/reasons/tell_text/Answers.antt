@@ -1,0 +1,5 @@
+use Rattle.module_refusals.proofs.ReasonLemmas.{small_file}
+use Rattle.module_refusals.proofs.reasons.tell_text.Goals as goal
+
+pub at_byte-requires : goal.at_byte-requires
+at_byte-requires c = small_file c.args.files.now c.args.number c.go_file-file.result.now c.requires.small c.go_file-file.ensures

@@ -1,0 +1,6 @@
+//! Files of a folder, as they are read.
+#![tactic(auto)]
+
+mod files;
+
+pub use files::SourceFile;
