@@ -1,6 +1,8 @@
-//! Tests of the calls that settle a file's imports, on texts that the parser reads.
+//! Tests of the calls that settle a file's imports, on texts that the parser reads, and of modules that are read.
 #![tactic(auto)]
 
+#[cfg(test)]
+mod modules;
 #[cfg(test)]
 mod needs;
 #[cfg(test)]
