@@ -71,6 +71,7 @@ is_named_use = record {
   constant = named 20 (codes "C");
   text = text;
   declared = refl;
+  untyped = refl;
   new_mark = mark_of_d;
   text_names = imported_member refl refl;
   new_home = there;
