@@ -3,12 +3,12 @@ use Rattle.std.specs.Prelude.{◌≡◌, refl, ℕ, zero, suc, Bool, true, false
 use Rattle.std.specs.List.{list_all}
 use mathlib.Core.Path.{ap, sym, ◌∙◌, subst}
 use Rattle.std.proofs.Common.{arith}
-use Rattle.go_tree.specs.Tree.{NameAt, Expr, no_exprs, expr_and}
+use Rattle.go_tree.specs.Tree.{NameAt, TypeExpr, Expr, no_exprs, expr_and}
 use Rattle.go_tree.specs.File.{Decl, File}
 use Rattle.scope_names.specs.Means.{means}
 use Rattle.pkg_graph.specs.Package.{Package}
 use Rattle.pkg_graph.specs.Members.{member}
-use Rattle.go_types.specs.Answers.{only_if}
+use Rattle.go_types.specs.Answers.{given, only_if}
 use Rattle.go_types.specs.Entities.{World}
 use Rattle.go_types.specs.Programs.{constants, Headed, SourceFile, SourcePackage, Program, headed, file_block, block_names, is_init}
 use Rattle.go_types.specs.Collect.{declared_by, types_declared, collected}
@@ -18,14 +18,15 @@ use Rattle.typed_in_place.specs.Declared.{HasNumber}
 use Rattle.typed_in_place.specs.ImportRule.{imports_sound, imports_used, files_import, package_imports, declarations_ok, imports_ok}
 use Rattle.typed_in_place.proofs.ImportRule.{well_typed_apart, file_imports}
 use Rattle.typed_in_place.proofs.Rising.{and_first, and_second}
-use Rattle.run_rules.specs.Rewriting.{Changes}
+use Rattle.run_rules.specs.Surroundings.{Place}
+use Rattle.run_rules.specs.Rewriting.{Changes, new_written}
 use Rattle.run_rules.specs.Programs.{linked_file, linked_imports}
 use Rattle.run_rules.specs.Sites.{MarkRef, Where, a_constant, where_is, inlinable, inlinable_in}
 use Rattle.step_laws.specs.PartsTyped.{HeaderTyped}
 use Rattle.step_laws.proofs.KnownConstants.{of-first, declares-it}
 use Rattle.step_laws.proofs.PartsTyped.{headers-typed}
-use Rattle.constant_steps.specs.Alone.{PlainFiles, block_from, PackageAt, this_package, a_later_package, FirstIs}
-use Rattle.constant_steps.specs.PlainUse.{linked_at}
+use Rattle.constant_steps.specs.Alone.{PlainFiles, block_from, PackageAt, this_package, a_later_package, type_in, AsConstant, FirstIs}
+use Rattle.constant_steps.specs.PlainUse.{linked_at, type_marked}
 use Rattle.constant_steps.proofs.AfterStep.{files_after, files_named}
 use Rattle.constant_steps.proofs.FirstDeclared.{first_declared, spelled_where_declared}
 use Rattle.constant_steps.proofs.MarksFound.{StandsThere, stands_there, DeclaredThere, declared_there, nth_mapped}
@@ -53,40 +54,47 @@ sound_there ps p k m f well stands q = package_sound (collected ps) (headed ps) 
 
 -- ---- the declaration of a marked constant
 
--- where a mark's constant is declared
-pub record MarkedAt {S : Type 0} (w : Where S) (m : MarkRef) (c : NameAt S) (v : Expr S) : Type 0 where
+-- where a mark's constant is declared, with this type or none
+pub record MarkedAt {S : Type 0} (w : Where S) (m : MarkRef) (c : NameAt S) (t : Option (TypeExpr S)) (v : Expr S) : Type 0 where
   pub file_there : slice_get w.of.files m.file ≡ Some w.source
   pub decl : Decl S
   pub decl_there : slice_get w.source.tree.decls m.decl ≡ Some decl
   pub holds : inlinable_in decl m.item ≡ Some (a_constant c v)
+  pub typed : type_in decl m.item ≡ t
 
 only_some : {A : Type 0} (b : Bool) (r : Option A) → is_some (only_if b r) ≡ true → b ≡ true
 only_some true r q = refl
 only_some false r q = absurd (grind (arith, q))
 
 -- in a well-typed program the constant's name isn't `init`
-pub not_init : {S : Type 0} (rs : List (Package S)) (ps : Program S) (w : Where S) (n : List ℕ) (c : NameAt S) (v : Expr S) → DeclaredIn rs ps w n c v → well_typed ps ≡ true → is_init n ≡ false
+pub not_init : {S : Type 0} (rs : List (Package S)) (ps : Program S) (w : Where S) (n : List ℕ) (c : NameAt S) (v : Expr S) → DeclaredIn rs ps w n c None v → well_typed ps ≡ true → is_init n ≡ false
 not_init rs ps w n c v d well =
     let t : HeaderTyped (types_declared ps (headed ps)) (collected ps) d.header = of-first n d.header (headed ps) d.first (headers-typed ps well) in
     let e : is_some (declared_by (types_declared ps (headed ps)) (collected ps) d.header) ≡ true = declares-it ps d.header (types_declared ps (headed ps)) (collected ps) t.before (constants (c ∷ []) None (expr_and v no_exprs) d.constant.number) d.constant.is refl t.declares in
     not_so (is_init n) (sym d.sound ∙ only_some d.header.sound _ e)
 
 module _ {S : Type 0} (rs : List (Package S)) where
-  pub marked_at : (w : Where S) (m : MarkRef) (c : NameAt S) (v : Expr S) → where_is rs m ≡ Some w → inlinable rs m ≡ Some (a_constant c v) → MarkedAt w m c v
-  marked_at w m c v q i =
+  pub marked_at : (w : Where S) (m : MarkRef) (c : NameAt S) (t : Option (TypeExpr S)) (v : Expr S) → where_is rs m ≡ Some w → inlinable rs m ≡ Some (a_constant c v) → type_marked rs m ≡ t → MarkedAt w m c t v
+  marked_at w m c t v q i k =
       let d : DeclaredThere rs m (a_constant c v) = declared_there rs m (a_constant c v) i in
       let h : StandsThere rs m w = stands_there rs m w q in
       let at : d.file ≡ w = some_same d.file w (sym d.stands ∙ q) in
-      record { file_there = h.file_there; decl = d.decl; decl_there = ap (λ w. slice_get w.source.tree.decls m.decl) (sym at) ∙ d.nth; holds = d.holds }
+      record {
+        file_there = h.file_there;
+        decl = d.decl;
+        decl_there = ap (λ w. slice_get w.source.tree.decls m.decl) (sym at) ∙ d.nth;
+        holds = d.holds;
+        typed = sym (ap (λ o. given o (λ d. type_in d m.item)) (ap (λ o. given o (λ w. slice_get w.source.tree.decls m.decl)) d.stands ∙ d.nth)) ∙ k;
+      }
 
   -- declared in a package of a program
-  pub declared_in : (w : Where S) (p : SourcePackage S) (k : ℕ) (ps : Program S) (m : MarkRef) (n : List ℕ) (c : NameAt S) (v : Expr S) (file : SourceFile S) (decl : Decl S) → p.number ≡ w.number → PackageAt p k ps → PlainFiles p.files → slice_get p.files m.file ≡ Some file → file.imports ≡ linked_imports rs w.source.tree
-      → slice_get file.decls m.decl ≡ Some decl → inlinable_in decl m.item ≡ Some (a_constant c v) → means (block_from p.number 0 p.files) n ≡ Some (member p.number m.file m.decl m.item) → DeclaredIn rs ps w n c v
-  declared_in w p k ps m n c v file decl number stands plain file_there imports decl_there holds block =
-      let f : FirstIs n p.number (file_block (block_names p.files) [] file.imports) (λ c e. inlinable_in decl m.item ≡ Some (a_constant c e)) (headed ps) = first_declared n p k ps m.file m.decl m.item file decl plain stands block file_there decl_there in
+  pub declared_in : (w : Where S) (p : SourcePackage S) (k : ℕ) (ps : Program S) (m : MarkRef) (n : List ℕ) (c : NameAt S) (t : Option (TypeExpr S)) (v : Expr S) (file : SourceFile S) (decl : Decl S) → p.number ≡ w.number → PackageAt p k ps → PlainFiles p.files → slice_get p.files m.file ≡ Some file → file.imports ≡ linked_imports rs w.source.tree
+      → slice_get file.decls m.decl ≡ Some decl → AsConstant decl m.item c t v → means (block_from p.number 0 p.files) n ≡ Some (member p.number m.file m.decl m.item) → DeclaredIn rs ps w n c t v
+  declared_in w p k ps m n c t v file decl number stands plain file_there imports decl_there holds block =
+      let f : FirstIs n p.number (file_block (block_names p.files) [] file.imports) (AsConstant decl m.item) (headed ps) = first_declared n p k ps m.file m.decl m.item file decl plain stands block file_there decl_there in
       record {
         header = f.header;
-        constant = f.declares c v holds;
+        constant = f.declares c t v holds;
         first = f.first;
         home = f.home_is ∙ number;
         members = block_names p.files;
@@ -96,7 +104,7 @@ module _ {S : Type 0} (rs : List (Package S)) where
         spelled = spelled_where_declared n p (member p.number m.file m.decl m.item) plain block;
       }
 
-  module _ (w : Where S) (s : S) (m : MarkRef) (n : List ℕ) (c : NameAt S) (v : Expr S) (r : MarkedAt w m c v) (plain : PlainFiles (map (linked_file rs) w.of.files)) (block : means (block_from w.number 0 (map (linked_file rs) w.of.files)) n ≡ Some (member w.number m.file m.decl m.item)) where
+  module _ (w : Where S) (s : S) (m : MarkRef) (n : List ℕ) (c : NameAt S) (t : Option (TypeExpr S)) (v : Expr S) (r : MarkedAt w m c t v) (plain : PlainFiles (map (linked_file rs) w.of.files)) (block : means (block_from w.number 0 (map (linked_file rs) w.of.files)) n ≡ Some (member w.number m.file m.decl m.item)) where
     abbrev p : SourcePackage S
     p = linked_at rs w s
 
@@ -105,33 +113,33 @@ module _ {S : Type 0} (rs : List (Package S)) where
 
     -- before the step
     pub record DeclaredBefore (ps : Program S) : Type 0 where
-      pub declared : DeclaredIn rs ps w n c v
+      pub declared : DeclaredIn rs ps w n c t v
       pub members_are : declared.members ≡ block_names p.files
 
     pub declared_before : (k : ℕ) (ps : Program S) → PackageAt p k ps → DeclaredBefore ps
     unfolding declared_in
-    declared_before k ps stands = record { declared = declared_in w p k ps m n c v (linked_file rs w.source) r.decl refl stands plain file_mapped refl r.decl_there r.holds block; members_are = refl }
+    declared_before k ps stands = record { declared = declared_in w p k ps m n c t v (linked_file rs w.source) r.decl refl stands plain file_mapped refl r.decl_there (r.holds, r.typed) block; members_are = refl }
 
     module _ (same : S → S → Bool) (changes : Changes S) (number : ℕ) (pk : Package S) (tree : File S) (M N : ℕ) where
-      -- after it
+      -- after it, where no type changes
       pub record DeclaredThen (b : Bool) (ps : Program S) : Type 0 where
         pub text : Expr S
-        pub declared : DeclaredIn rs ps w n c text
+        pub declared : DeclaredIn rs ps w n c t text
         pub members_are : declared.members ≡ block_names p.files
         pub text_then : TextThen same rs changes number pk tree b M N m v text
 
-      pub declared_then : (b : Bool) (k : ℕ) (ps : Program S) → PackageAt (after same rs changes number pk tree b M N p) k ps → DeclaredThen b ps
+      pub declared_then : ((q : Place S) (o : Option (TypeExpr S)) → new_written changes q o ≡ o) → (b : Bool) (k : ℕ) (ps : Program S) → PackageAt (after same rs changes number pk tree b M N p) k ps → DeclaredThen b ps
       unfolding declared_in
-      declared_then true k ps stands =
-          let t : ConstantThen same rs changes number pk tree true M N p (linked_file rs w.source) m c v = constant_then same rs changes number pk tree M N p plain m (linked_file rs w.source) r.decl c v file_mapped r.decl_there r.holds true in
+      declared_then stay true k ps stands =
+          let h : ConstantThen same rs changes number pk tree true M N p (linked_file rs w.source) m r.decl c v = constant_then same rs changes number pk tree M N p plain m (linked_file rs w.source) r.decl c v file_mapped r.decl_there r.holds stay true in
           record {
-            text = t.expr;
+            text = h.expr;
             declared =
-                declared_in w (after same rs changes number pk tree true M N p) k ps m n c t.expr t.file t.decl refl stands (files_after same rs changes number pk tree M N plain) t.file_there t.imports t.decl_there t.holds
+                declared_in w (after same rs changes number pk tree true M N p) k ps m n c t h.expr h.file h.decl refl stands (files_after same rs changes number pk tree M N plain) h.file_there h.imports h.decl_there (h.holds, h.typed ∙ r.typed)
                 (ap (λ l. means l n) (files_named same rs changes number pk tree w.number 0 M N plain) ∙ block);
             members_are = members_stay same rs changes number pk tree M N plain;
-            text_then = t.text;
+            text_then = h.text;
           }
-      declared_then false k ps stands =
-          let t : ConstantThen same rs changes number pk tree false M N p (linked_file rs w.source) m c v = constant_then same rs changes number pk tree M N p plain m (linked_file rs w.source) r.decl c v file_mapped r.decl_there r.holds false in
-          record { text = t.expr; declared = declared_in w p k ps m n c t.expr t.file t.decl refl stands plain t.file_there t.imports t.decl_there t.holds block; members_are = refl; text_then = t.text }
+      declared_then stay false k ps stands =
+          let h : ConstantThen same rs changes number pk tree false M N p (linked_file rs w.source) m r.decl c v = constant_then same rs changes number pk tree M N p plain m (linked_file rs w.source) r.decl c v file_mapped r.decl_there r.holds stay false in
+          record { text = h.expr; declared = declared_in w p k ps m n c t h.expr h.file h.decl refl stands plain h.file_there h.imports h.decl_there (h.holds, h.typed ∙ r.typed) block; members_are = refl; text_then = h.text }

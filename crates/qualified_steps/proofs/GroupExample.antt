@@ -58,6 +58,7 @@ is_named_use = record {
   constant = named 20 (codes "C");
   text = ident 21 (codes "D");
   declared = refl;
+  untyped = refl;
   new_mark = mark_of 0;
   text_names = own_member refl;
   new_home = here;

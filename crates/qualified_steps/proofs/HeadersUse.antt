@@ -1,17 +1,17 @@
 -- The headers of a declaration use what they used before a step over a constant, but for the names that the use and what is put for it are looked up by; with one package's name before both, they use all that they used.
-use Rattle.std.specs.Prelude.{◌≡◌, refl, ℕ, suc, Bool, true, false, ◌||◌, List, [], ◌∷◌, ◌++◌, Option, Some, None, bytes_eq, is_some}
+use Rattle.std.specs.Prelude.{◌≡◌, refl, ℕ, suc, Bool, true, false, ◌||◌, List, [], ◌∷◌, ◌++◌, map, Option, Some, None, bytes_eq, is_some}
 use mathlib.Core.Path.{ap, sym, ◌∙◌, subst}
 use Rattle.std.proofs.Common.{arith}
 use Rattle.std.proofs.lemmas.Slice.Eq.{bytes_eq-Decides}
 use Rattle.go_tree.specs.Tree.{NameAt, TypeExpr, Expr, ident, selector, Exprs, no_exprs, expr_and, Stmts, ValueSpecs}
-use Rattle.go_tree.specs.File.{Receiver, Func, Decl, func, File}
+use Rattle.go_tree.specs.File.{TypeSpec, Receiver, Func, Decl, func, File}
 use Rattle.scope_names.specs.Means.{Environment}
-use Rattle.scope_names.specs.FreeNames.{sig_names, free_params}
+use Rattle.scope_names.specs.FreeNames.{sig_names, free_params, free_type_option}
 use Rattle.pkg_graph.specs.Package.{Package}
 use Rattle.go_types.specs.Answers.{is_among, without}
 use Rattle.go_types.specs.Entities.{Entity, World, Env}
 use Rattle.go_types.specs.Typing.{used_all, used_stmts}
-use Rattle.go_types.specs.Programs.{Header, constants, variables, a_type_spec, a_func, headers, constant_headers, at_member, header_names}
+use Rattle.go_types.specs.Programs.{Header, constants, variables, a_type_spec, a_func, headers, constant_headers, variable_headers, at_member, header_names}
 use Rattle.go_types.specs.Collect.{file_env}
 use Rattle.go_types.specs.WellTyped.{header_uses, receiver_names, body_env}
 use Rattle.typed_in_place.specs.Replaced.{same_type}
@@ -22,13 +22,13 @@ use Rattle.typed_in_place.proofs.SameUses.{same_uses, without_alike}
 use Rattle.typed_in_place.proofs.TypingReplaced.{used_all-in, used_stmts-in}
 use Rattle.form_in_place.proofs.Uses.{among_append}
 use Rattle.run_rules.specs.Surroundings.{Place, Use, Seen, seen, seen_type, seen_stmt, alike, value_use, in_constant}
-use Rattle.run_rules.specs.Places.{all_seen, stmts_seen, sig_seen}
-use Rattle.run_rules.specs.Rewriting.{Changes, new_all, new_sig, new_stmts}
-use Rattle.run_rules.specs.Programs.{top_place, body_place, constants_at_top, receiver_seen, decl_seen, headed_func, world}
+use Rattle.run_rules.specs.Places.{written_seen, all_seen, stmts_seen, sig_seen}
+use Rattle.run_rules.specs.Rewriting.{Changes, new_all, new_written, new_sig, new_stmts}
+use Rattle.run_rules.specs.Programs.{top_place, body_place, constants_at_top, variables_at_top, receiver_seen, decl_seen, headed_func, world}
 use Rattle.run_rules.specs.Sites.{Site, part_span}
 use Rattle.run_rules.specs.FormTrees.{as_expr}
 use Rattle.run_rules.specs.Forms.{is_at}
-use Rattle.run_rules.specs.Steps.{changes_for, new_constants, new_receiver_option, new_decl}
+use Rattle.run_rules.specs.Steps.{changes_for, new_constants, new_variables, new_type_spec, new_receiver_option, new_decl}
 use Rattle.step_laws.specs.Answered.{AllAnswered}
 use Rattle.step_laws.specs.NamesOutside.{NamesOutside, UseThere}
 use Rattle.step_laws.specs.Stands.{SameExpr}
@@ -36,10 +36,10 @@ use Rattle.step_laws.specs.SwapPrograms.{headed_there}
 use Rattle.step_laws.proofs.ConstantLeaves.{names-bodiless}
 use Rattle.step_laws.proofs.DeclUses.{at-top, body-begins}
 use Rattle.step_laws.proofs.Standing.{all-stands, stmts-stands}
-use Rattle.step_laws.proofs.Swapping.{sig-same}
+use Rattle.step_laws.proofs.Swapping.{written-same, sig-same}
 use Rattle.step_laws.proofs.UsesAnswered.{NamedThere, named-there, put-there, stmt-stays, group-stays}
 use Rattle.step_laws.proofs.Walking.{all-walk, stmts-walk}
-use Rattle.constant_steps.specs.Alone.{SingleSpecs, no_constants, and_constant, PlainDecl, constants_alone}
+use Rattle.constant_steps.specs.Alone.{SingleSpecs, no_constants, and_constant, and_typed, and_repeated, SingleVariables, no_variables, and_variable, PlainDecl, constants_alone, variables_alone, some_types}
 use Rattle.constant_steps.specs.Alone as alone
 use Rattle.constant_steps.specs.PlainUse.{AllSimple, AllTheUse}
 use Rattle.constant_steps.proofs.OneMore.{WithOne, one_holds, all_answered}
@@ -153,14 +153,62 @@ module _ {S : Type 0} (same : S → S → Bool) (rs : List (Package S)) (x : Sit
     abbrev Alike : Header S → Header S → Type 0
     Alike h k = UsesKept Kept K i w K in_main i is h k
 
-    group_uses : (at' : S → S) (t t' : Option (TypeExpr S)) (es es' : Exprs S) (j : ℕ) {ss : ValueSpecs S} → SingleSpecs ss → AllSimple (constants_at_top rs q j ss) → AllTheUse same x use_ (constants_at_top rs q j ss)
+    after_all : (m : List ℕ) (xs us vs : List (List ℕ)) → is_among m us ≡ is_among m vs → is_among m (xs ++ us) ≡ is_among m (xs ++ vs)
+    after_all m xs us vs h = among_append m xs us ∙ ap (λ b. is_among m xs || b) h ∙ sym (among_append m xs vs)
+
+    written_uses : (p : Place S) (t : Option (TypeExpr S)) → new_written c p t ≡ t
+    written_uses p t = written-same same z e p t
+
+    -- what a later member repeats uses the same in each member
+    abbrev Again : Option (TypeExpr S) → Exprs S → Option (TypeExpr S) → Exprs S → Type 0
+    Again t es t' es' = (m : List ℕ) → Kept m → (j : ℕ) → is_among m (free_type_option [] t ++ used_all (at (Some j)) es) ≡ is_among m (free_type_option [] t' ++ used_all (at (Some j)) es')
+
+    group_uses : (at' : S → S) (t t' : Option (TypeExpr S)) (es es' : Exprs S) → Again t es t' es' → (j : ℕ) {ss : ValueSpecs S} → SingleSpecs ss → AllSimple (constants_at_top rs q j ss) → AllTheUse same x use_ (constants_at_top rs q j ss)
         → OneByOne {A = S × Header S} {B = S × Header S} (λ h k. Alike h.1 k.1) (constant_headers at' t es j ss) (constant_headers at' t' es' j (new_constants same rs c q j ss))
-    group_uses at' t t' es es' j no_constants si a = no_more
-    group_uses at' t t' es es' j (and_constant {n = n} {e = v} {ss = ss} r) si a =
+    group_uses at' t t' es es' again j no_constants si a = no_more
+    group_uses at' t t' es es' again j (and_constant {n = n} {e = v} {ss = ss} r) si a =
         let us : List Use = alike (value_use {S = S} q.env None) (n ∷ []) in
         let vs : List (Seen S) = all_seen (in_constant j q) us (expr_and v no_exprs) in
-        and_more (refl, λ m d s t b b'. values_use m (d refl refl) (Some j) (in_constant j q) us (expr_and v no_exprs) refl refl (simple_front vs (constants_at_top rs q (suc j) ss) si) (use_front same x use_ vs (constants_at_top rs q (suc j) ss) a))
-        (group_uses at' None None (expr_and v no_exprs) (new_all c (in_constant j q) us (expr_and v no_exprs)) (suc j) r (simple_behind vs (constants_at_top rs q (suc j) ss) si) (use_behind same x use_ vs (constants_at_top rs q (suc j) ss) a))
+        let one : Again None (expr_and v no_exprs) None (new_all c (in_constant j q) us (expr_and v no_exprs)) =
+        (λ m d i. values_use m d (Some i) (in_constant j q) us (expr_and v no_exprs) refl refl (simple_front vs (constants_at_top rs q (suc j) ss) si) (use_front same x use_ vs (constants_at_top rs q (suc j) ss) a)) in
+        and_more (refl, λ m d s t b b'. one m (d refl refl) j)
+        (group_uses at' None None (expr_and v no_exprs) (new_all c (in_constant j q) us (expr_and v no_exprs)) one (suc j) r (simple_behind vs (constants_at_top rs q (suc j) ss) si) (use_behind same x use_ vs (constants_at_top rs q (suc j) ss) a))
+    group_uses at' t t' es es' again j (and_typed {n = n} {t = kind} {e = v} {ss = ss} r) si a =
+        let us : List Use = alike (value_use q.env (Some kind)) (n ∷ []) in
+        let ws : List (Seen S) = written_seen (in_constant j q) (Some kind) in
+        let vs : List (Seen S) = all_seen (in_constant j q) us (expr_and v no_exprs) in
+        let rest : List (Seen S) = constants_at_top rs q (suc j) ss in
+        let one : Again (Some kind) (expr_and v no_exprs) (new_written c (in_constant j q) (Some kind)) (new_all c (in_constant j q) us (expr_and v no_exprs)) =
+        (λ m d i.
+        after_all m (free_type_option [] (Some kind)) (used_all (at (Some i)) (expr_and v no_exprs)) (used_all (at (Some i)) (new_all c (in_constant j q) us (expr_and v no_exprs)))
+        (values_use m d (Some i) (in_constant j q) us (expr_and v no_exprs) refl refl (simple_behind ws vs (simple_front (ws ++ vs) rest si)) (use_behind same x use_ ws vs (use_front same x use_ (ws ++ vs) rest a)))
+        ∙ ap (λ w. is_among m (free_type_option [] w ++ used_all (at (Some i)) (new_all c (in_constant j q) us (expr_and v no_exprs)))) (sym (written_uses (in_constant j q) (Some kind)))) in
+        and_more (refl, λ m d s t b b'. one m (d refl refl) j)
+        (group_uses at' (Some kind) (new_written c (in_constant j q) (Some kind)) (expr_and v no_exprs) (new_all c (in_constant j q) us (expr_and v no_exprs)) one (suc j) r (simple_behind (ws ++ vs) rest si) (use_behind same x use_ (ws ++ vs) rest a))
+    group_uses at' t t' es es' again j (and_repeated {n = n} {ss = ss} r) si a =
+        and_more (refl, λ m d s t b b'. again m (d refl refl) j) (group_uses at' t t' es es' again (suc j) r si a)
+
+    -- ---- variables and types
+
+    variables_use : (at' : S → S) {ss : ValueSpecs S} → SingleVariables ss → AllSimple (variables_at_top rs q ss) → AllTheUse same x use_ (variables_at_top rs q ss)
+        → OneByOne {A = S × Header S} {B = S × Header S} (λ h k. Alike h.1 k.1) (variable_headers at' ss) (variable_headers at' (new_variables same rs c q ss))
+    variables_use at' no_variables si a = no_more
+    variables_use at' (and_variable {n = n} {t = t} {es = es} {ss = ss} r) si a =
+        let us : List Use = alike (value_use q.env t) (n ∷ []) in
+        let ws : List (Seen S) = written_seen q t in
+        let vs : List (Seen S) = all_seen q us es in
+        let rest : List (Seen S) = variables_at_top rs q ss in
+        and_more (
+          refl,
+          λ m d s s' b b'.
+              after_all m (free_type_option [] t) (used_all (at None) es) (used_all (at None) (new_all c q us es)) (values_use m (d refl refl) None q us es refl refl (simple_behind ws vs (simple_front (ws ++ vs) rest si)) (use_behind same x use_ ws vs (use_front same x use_ (ws ++ vs) rest a)))
+              ∙ ap (λ w. is_among m (free_type_option [] w ++ used_all (at None) (new_all c q us es))) (sym (written_uses q t)),
+        )
+        (variables_use at' r (simple_behind (ws ++ vs) rest si) (use_behind same x use_ (ws ++ vs) rest a))
+
+    types_use : (at' : TypeSpec S → S) (ts : List (TypeSpec S)) → OneByOne {A = S × Header S} {B = S × Header S} (λ h k. Alike h.1 k.1) (map (λ t. (at' t, a_type_spec t)) ts) (map (λ t. (at' t, a_type_spec t)) (map (new_type_spec same rs c q) ts))
+    types_use at' [] = no_more
+    types_use at' (t ∷ ts) = and_more (uses_itself Kept K i w K in_main i is (a_type_spec t)) (types_use at' ts)
 
     -- ---- a function
 
@@ -184,9 +232,6 @@ module _ {S : Type 0} (same : S → S → Bool) (rs : List (Package S)) (x : Sit
         (stmts-walk c (WithOne top m) (one_holds top m) (bound f ++ (m ∷ [])) (body_env w (headed_there K in_main i is t b (a_func f)) f) (body_place rs K pk tree f) f.body
         (bound f, refl, body-begins rs w (world rs) (headed_there K in_main i is t b (a_func f)) (headed_func rs K pk tree f) f) (answered m d (stmts_seen (body_place rs K pk tree f) f.body) si a)))
 
-    after_all : (m : List ℕ) (xs us vs : List (List ℕ)) → is_among m us ≡ is_among m vs → is_among m (xs ++ us) ≡ is_among m (xs ++ vs)
-    after_all m xs us vs h = among_append m xs us ∙ ap (λ b. is_among m xs || b) h ∙ sym (among_append m xs vs)
-
     func_uses : (f : Func S) → AllSimple (decl_seen rs K pk tree (func f)) → AllTheUse same x use_ (decl_seen rs K pk tree (func f)) → Alike (a_func f) (a_func (record f { body = new_body f }))
     func_uses f si a =
         let r : List (Seen S) = receiver_seen rs q f.receiver in
@@ -200,5 +245,7 @@ module _ {S : Type 0} (same : S → S → Bool) (rs : List (Package S)) (x : Sit
 
     -- the headers of a plain declaration use what they did, of the names that aren't touched
     pub decl_uses : {d : Decl S} → PlainDecl d → AllSimple (decl_seen rs K pk tree d) → AllTheUse same x use_ (decl_seen rs K pk tree d) → OneByOne {A = S × Header S} {B = S × Header S} (λ h k. Alike h.1 k.1) (headers d) (headers (new_decl same rs c K pk tree d))
-    decl_uses (constants_alone {s = at'} {g = g} r) si a = group_uses (at_member g at') None None no_exprs no_exprs 0 r si a
+    decl_uses (constants_alone {s = at'} {g = g} r) si a = group_uses (at_member g at') None None no_exprs no_exprs (λ m d j. refl) 0 r si a
+    decl_uses (variables_alone {s = at'} {g = g} r) si a = variables_use (at_member g at') r si a
+    decl_uses (some_types {s = at'} {g = g} {ts = ts}) si a = types_use (λ t. at_member g at' t.span) ts
     decl_uses (alone.a_function {f = f}) si a = let y : Alike (a_func f) (a_func (record f { body = new_body f })) = func_uses f si a in and_more (subst (λ g. Alike (a_func f) (a_func g)) (func_same f) y) no_more

@@ -1,9 +1,12 @@
--- A constant that is declared as a name of another package, by the law alone.
---   package p: const D = 7      package q: import "m/p"; const C = p.D; const E = C
+-- A constant that is declared as a name of another package, by the law alone. What it is declared as has a type, and
+-- another constant of its group repeats its expression.
+--   package p: const ( D Number = 7; F ); type Number int; var Total Number = 1
+--   package q: import "m/p"; const C = p.D; const E = C
 -- C is marked; after the step: const E = p.D
-use Rattle.std.specs.Prelude.{refl, ℕ, List, [], ◌∷◌, None, codes, nat_eq}
-use Rattle.go_tree.specs.Tree.{Expr, ident, int_lit, selector}
-use Rattle.go_tree.specs.File.{File}
+use Rattle.std.specs.Prelude.{refl, ℕ, true, false, List, [], ◌∷◌, Some, None, codes, nat_eq}
+use Rattle.go_tree.specs.Tree as tree
+use Rattle.go_tree.specs.Tree.{TypeExpr, Expr, ident, int_lit, selector, no_exprs, expr_and, const_decl, var_decl, no_specs, spec}
+use Rattle.go_tree.specs.File.{Decl, values, types, File}
 use Rattle.module_files.specs.Internal.{passes}
 use Rattle.pkg_graph.specs.Package.{SourceTree, Package}
 use Rattle.go_translation.specs.Packages.{sources}
@@ -12,7 +15,7 @@ use Rattle.run_rules.specs.Surroundings.{whole, in_constant}
 use Rattle.run_rules.specs.Programs.{top_place}
 use Rattle.run_rules.specs.Sites.{MarkRef, Where, Site, an_expr}
 use Rattle.run_rules.specs.FormTrees.{ConstForm}
-use Rattle.constant_steps.specs.Alone.{no_constants, and_constant, constants_alone, no_decls, and_decl, this_package, a_later_package}
+use Rattle.constant_steps.specs.Alone.{no_constants, and_constant, and_typed, and_repeated, no_variables, and_variable, constants_alone, variables_alone, some_types, no_decls, and_decl, this_package, a_later_package}
 use Rattle.constant_steps.specs.Alone as alone
 use Rattle.constant_steps.specs.PlainUse.{linked_at}
 use Rattle.qualified_steps.specs.MemberNames.{own_member, imported_member}
@@ -21,8 +24,18 @@ use Rattle.qualified_steps.proofs.ExampleParts.{named, declares, of_p, no_commen
 use Rattle.qualified_steps.proofs.FormStillUsed.{own_stays}
 use Rattle.qualified_steps.proofs.NamedImports.{named_step}
 
+abbrev type_at : ℕ → List ℕ → TypeExpr ℕ
+type_at s n = tree.named s None (named s n)
+
+abbrev decls_of_p : List (Decl ℕ)
+decls_of_p =
+    values (const_decl 9 true (spec 10 (named 10 (codes "D") ∷ []) (Some (type_at 12 (codes "Number"))) (expr_and (int_lit 11 (codes "7")) no_exprs) (spec 13 (named 13 (codes "F") ∷ []) None no_exprs no_specs)))
+    ∷ types 14 false (record { span = 15; name = named 15 (codes "Number"); alias = false; of = type_at 16 (codes "int") } ∷ [])
+    ∷ values (var_decl 17 false (spec 18 (named 18 (codes "Total") ∷ []) (Some (type_at 19 (codes "Number"))) (expr_and (int_lit 41 (codes "1")) no_exprs) no_specs))
+    ∷ []
+
 abbrev source_of_p : SourceTree ℕ
-source_of_p = record { path = codes "p.go"; tree = record { package_name = named 1 (codes "p"); imports = []; decls = declares 10 (codes "D") (int_lit 11 (codes "7")) ∷ [] } }
+source_of_p = record { path = codes "p.go"; tree = record { package_name = named 1 (codes "p"); imports = []; decls = decls_of_p } }
 
 abbrev text : Expr ℕ
 text = selector 21 (ident 22 (codes "p")) (named 23 (codes "D"))
@@ -71,6 +84,7 @@ is_named_use = record {
   constant = named 20 (codes "C");
   text = text;
   declared = refl;
+  untyped = refl;
   new_mark = mark_of_d;
   text_names = imported_member refl refl;
   new_home = there;
@@ -95,7 +109,7 @@ use_stands = record {
   decl_there = refl;
   plain = alone.and_file (and_decl (constants_alone (and_constant no_constants)) (and_decl (constants_alone (and_constant no_constants)) no_decls)) alone.no_files;
   home_plain = alone.and_file (and_decl (constants_alone (and_constant no_constants)) (and_decl (constants_alone (and_constant no_constants)) no_decls)) alone.no_files;
-  new_plain = alone.and_file (and_decl (constants_alone (and_constant no_constants)) no_decls) alone.no_files;
+  new_plain = alone.and_file (and_decl (constants_alone (and_typed (and_repeated no_constants))) (and_decl some_types (and_decl (variables_alone (and_variable no_variables)) no_decls))) alone.no_files;
   simple = (tt, tt);
   alone = (λ i. (refl, refl), tt);
 }

@@ -72,6 +72,7 @@ is_named_use = record {
   constant = named 20 (codes "C");
   text = of_package 21 (codes "a") (codes "D");
   declared = refl;
+  untyped = refl;
   new_mark = mark_of 0;
   text_names = imported_member refl refl;
   new_home = where_at 0 a source_of_a;

@@ -1,4 +1,4 @@
--- A name by which what is put for a use is looked up is used in what the walk makes: in a part without literals and without groups of constants in bodies, in which the use stands.
+-- A name by which what is put for a use is looked up is used in what the walk makes: in a part without literals of composite types or functions, in which the use stands.
 use Rattle.std.specs.Prelude.{◌≡◌, refl, ℕ, suc, ◌+◌, Bool, true, false, not, ◌&&◌, ◌||◌, List, [], ◌∷◌, ◌++◌, Option, Some, None, if◌then◌else◌, ◌⊎◌}
 use Rattle.std.specs.List.{list_any}
 use mathlib.Core.Path.{ap, ap₂, sym, ◌∙◌}
@@ -12,14 +12,15 @@ use Rattle.scope_names.specs.Scopes as scopes
 use Rattle.scope_names.specs.Scopes.{not_blank}
 use Rattle.go_types.specs.Answers.{given, is_among, otherwise}
 use Rattle.go_types.specs.Defined.{under}
-use Rattle.go_types.specs.Entities.{Env, Binds, extend, in_block, defined_in}
+use Rattle.go_types.specs.Entities.{refused, Env, Binds, extend, in_block, defined_in}
 use Rattle.go_types.specs.TypeNames.{type_meant}
 use Rattle.go_types.specs.Statements.{bound_names}
-use Rattle.go_types.specs.Typing.{parts, all_parts, beyond, used, used_all, used_option, used_left, used_stmt, used_stmts, used_first, used_block, used_range, used_arms, used_cases, used_variables, labelled}
-use Rattle.go_types.specs.Declarations.{Repeated, nothing_to_repeat}
+use Rattle.go_types.specs.Typing.{parts, all_parts, beyond, used, used_all, used_option, used_left, used_stmt, used_stmts, used_first, used_block, used_range, used_arms, used_cases, used_constants, used_variables, labelled}
+use Rattle.go_types.specs.Declarations as declarations
+use Rattle.go_types.specs.Declarations.{Repeated, nothing_to_repeat, bind_each, binds_of}
 use Rattle.form_in_place.specs.Bound.{stmt_binds, first_binds, range_left_binds, variable_binds}
 use Rattle.form_in_place.proofs.Uses.{among_append, among_without}
-use Rattle.run_rules.specs.Surroundings.{Use, whole, stored, updated, called, deferred_call, alone, other, Slot, a_slot, Place, Seen, seen, seen_type, seen_stmt, is_local, is_old, alike, head_use, later_uses, arg_uses, unary_use, operand_use, first_operand_use, right_uses, every_use, value_use, return_uses, inner_slot, last_slot, in_slot, callee_place, comma_slot, after_stmt, after_first, block, looping, switching, in_heading, at_stmt, plain_slot, ranged, in_literal, after_variables, after_constants, repeated_by, first_declares, left_declares}
+use Rattle.run_rules.specs.Surroundings.{Use, whole, stored, updated, called, deferred_call, alone, other, Slot, a_slot, Place, Seen, seen, seen_type, seen_stmt, is_local, is_old, alike, head_use, later_uses, arg_uses, unary_use, operand_use, first_operand_use, right_uses, every_use, value_use, return_uses, inner_slot, last_slot, in_slot, callee_place, comma_slot, after_stmt, after_first, block, looping, switching, in_heading, at_stmt, plain_slot, ranged, in_literal, after_variables, in_constant, after_constants, before_repeats, repeated_by, first_declares, left_declares}
 use Rattle.run_rules.specs.Places.{type_seen, sig_seen, elems_seen, constants_seen, written_seen, old_seen, after_arms, expr_seen, all_seen, option_seen, stmt_seen, stmts_seen, first_seen, block_seen, left_seen, arms_seen, cases_seen, variables_seen}
 use Rattle.run_rules.specs.FormTrees.{as_expr}
 use Rattle.run_rules.specs.Forms.{is_at}
@@ -27,6 +28,7 @@ use Rattle.run_rules.specs.Rewriting.{Changes, new_names, new_written, new_expr,
 use Rattle.run_rules.specs.Steps.{changes_for}
 use Rattle.written_literal.specs.Listing.{Listing}
 use Rattle.written_literal.specs.Within.{Grows}
+use Rattle.written_literal.proofs.Listed.{each_lists, grows, members_grow}
 use Rattle.written_literal.proofs.ListedHeads.{listing}
 use Rattle.constant_steps.specs.PlainUse.{AllSimple}
 use Rattle.qualified_steps.specs.ImportsStay.{is_stored_name}
@@ -374,6 +376,19 @@ module _ {S : Type 0} (same : S → S → Bool) (z : S) (e : Expr S) (r : List �
   blocks_spec : (a : Env) (p : Place S) (ns : List (NameAt S)) (t' t : Option (TypeExpr S)) (es' es : Exprs S) → Blocks a p → Blocks (extend (variable_binds a (new_names c ns) t' es') a) (after_variables p ns t es)
   blocks_spec a p ns t' t es' es w = record { typed = (past_spec a p ns t' t es' es w).typed; walked = walked_there (variable_binds p.env ns t es) p.bound (not_blank ns) p.env.here w.walked (grown (lists.after_variables p.env ns t es) p.bound w.walked) }
 
+  -- a member of a group of constants
+  past_member : (a : Env) (p : Place S) (ns : List (NameAt S)) → Blocks a p → Past a (bind_each refused (names_of (new_names c ns))) p.bound (not_blank ns ++ p.bound)
+  past_member a p ns w =
+      let ms : List (NameAt S) = new_names c ns in
+      let bs : Binds = bind_each refused (names_of ms) in
+      past a bs p.bound (not_blank ms) (not_blank ns) w.typed (grown (grows a.here (not_blank ms) bs (each_lists refused ms)) p.bound w.typed) (λ n. ap (λ ms. is_among n (names_of (not_blank ms ++ p.bound))) (same_names ns))
+
+  blocks_member : (a : Env) (p : Place S) (again : Repeated) (i : ℕ) (ns : List (NameAt S)) → Blocks a p → Blocks (extend (bind_each refused (names_of (new_names c ns))) a) (after_constants p again i ns)
+  blocks_member a p again i ns w =
+      let k : Env = record p.env { iota = Some i } in
+      let bs : Binds = binds_of (names_of ns) (declarations.new_constants k (names_of ns) (again.0 p.env) (again.1 k)) in
+      record { typed = (past_member a p ns w).typed; walked = walked_there bs p.bound (not_blank ns) p.env.here w.walked (grown (members_grow p.env.here k ns (again.0 p.env) (again.1 k)) p.bound w.walked) }
+
   written_none : (p : Place S) (t : Option (TypeExpr S)) → list_any at_use (written_seen p t) ≡ false
   written_none p None = refl
   written_none p (Some t) = refl
@@ -397,6 +412,27 @@ module _ {S : Type 0} (same : S → S → Bool) (z : S) (e : Expr S) (r : List �
       (λ k. either xs ys k (λ k. none_there xs (written_none p t) k) (λ k. left (free_type_option [] t' ++ used_all a es') (beyond bs rest) (right (free_type_option [] t') (used_all a es') (all_put p us es a (simple_behind xs ys s2) k))))
       (λ k. right (free_type_option [] t' ++ used_all a es') (beyond bs rest) (behind a bs p.bound (after_variables p ns t es).bound rest (past_spec a p ns t' t es' es w) (variables_put (after_variables p ns t es) ss (extend bs a) (blocks_spec a p ns t' t es' es w) (simple_behind (xs ++ ys) zs si) k)))
 
+  -- a group of constants
+  constants_put : (p : Place S) (f : Repeated) (i : ℕ) (ss : ValueSpecs S) (a : Env) → Blocks a p → AllSimple (constants_seen p f i ss) → Any (constants_seen p f i ss) → Here p.bound (used_constants a (new_constants c p f i ss))
+  constants_put p f i no_specs a w si h = never h
+  constants_put p f i (spec s ns t es ss) a w si h =
+      let o : Place S = before_repeats (in_constant i p) ns ss in
+      let us : List Use = alike (value_use p.env t) ns in
+      let again : Repeated = repeated_by f t es in
+      let next : Place S = after_constants p again i ns in
+      let xs : List (Seen S) = written_seen o t in
+      let ys : List (Seen S) = all_seen o us es in
+      let zs : List (Seen S) = constants_seen next again (suc i) ss in
+      let s2 : AllSimple (xs ++ ys) = simple_front (xs ++ ys) zs si in
+      let t' : Option (TypeExpr S) = new_written c o t in
+      let es' : Exprs S = new_all c o us es in
+      let bs : Binds = bind_each refused (names_of (new_names c ns)) in
+      let rest : List (List ℕ) = used_constants (extend bs a) (new_constants c next again (suc i) ss) in
+      let heads : List (List ℕ) = free_type_option [] t' ++ used_all a es' in
+      either (xs ++ ys) zs h
+      (λ k. either xs ys k (λ k. none_there xs (written_none o t) k) (λ k. left heads (beyond bs rest) (right (free_type_option [] t') (used_all a es') (all_put o us es a (simple_behind xs ys s2) k))))
+      (λ k. right heads (beyond bs rest) (behind a bs p.bound next.bound rest (past_member a p ns w) (constants_put next again (suc i) ss (extend bs a) (blocks_member a p again i ns w) (simple_behind (xs ++ ys) zs si) k)))
+
   -- a header, a loop's body, and a switch
   in_header : (a : Env) (p : Place S) → Blocks a p → Blocks a (in_heading true p)
   in_header a p w = record { typed = w.typed; walked = w.walked }
@@ -416,7 +452,10 @@ module _ {S : Type 0} (same : S → S → Bool) (z : S) (e : Expr S) (r : List �
 
   mutual
     stmt_put : (p : Place S) (l : Bool) (s : Stmt S) (a : Env) → Blocks a p → AllSimple (stmt_seen p l s) → Any (stmt_seen p l s) → Here p.bound (used_stmt a (new_stmt c p l s))
-    stmt_put p l (const_decl s g ss) a w si h = absurd (simple_behind (constants_seen (plain_slot p) nothing_to_repeat 0 ss) (seen_stmt p (const_decl s g ss) ∷ []) si).0
+    stmt_put p l (const_decl s g ss) a w si h =
+        let xs : List (Seen S) = constants_seen (plain_slot p) nothing_to_repeat 0 ss in
+        either xs (seen_stmt p (const_decl s g ss) ∷ []) h
+        (λ k. constants_put (plain_slot p) nothing_to_repeat 0 ss a (record { typed = w.typed; walked = w.walked }) (simple_front xs (seen_stmt p (const_decl s g ss) ∷ []) si) k) (λ k. never k)
     stmt_put p l (var_decl s g ss) a w si h =
         let xs : List (Seen S) = variables_seen (plain_slot p) ss in
         either xs (seen_stmt p (var_decl s g ss) ∷ []) h (λ k. variables_put (plain_slot p) ss a (record { typed = w.typed; walked = w.walked }) (simple_front xs (seen_stmt p (var_decl s g ss) ∷ []) si) k) (λ k. never k)

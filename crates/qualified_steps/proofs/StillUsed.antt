@@ -5,30 +5,30 @@ use mathlib.Core.Path.{ap, ap₂, sym, ◌∙◌, subst}
 use Rattle.std.proofs.Common.{arith}
 use Rattle.std.proofs.lemmas.List.Folds.{list_any-append}
 use Rattle.go_tree.specs.Tree.{Param, TypeExpr, Expr, Exprs, no_exprs, expr_and, Stmts, ValueSpecs}
-use Rattle.go_tree.specs.File.{Receiver, Func, Decl, File}
+use Rattle.go_tree.specs.File.{TypeSpec, Receiver, Func, Decl, File}
 use Rattle.scope_names.specs.Means.{Environment, is_blank}
-use Rattle.scope_names.specs.FreeNames.{sig_names, free_params}
+use Rattle.scope_names.specs.FreeNames.{sig_names, free_params, free_type_option}
 use Rattle.pkg_graph.specs.Package.{Package}
 use Rattle.go_types.specs.Answers.{is_among, without}
 use Rattle.go_types.specs.Entities.{Entity, World, Env}
-use Rattle.go_types.specs.Typing.{used, used_stmts}
-use Rattle.go_types.specs.Programs.{Header, constants, a_func, Headed, SourceFile, SourcePackage, Program, headers, all_headers, header_sound, constant_headers, at_member, header_names, names_in, headed, headed_file, headed_files, headed_package, file_block}
+use Rattle.go_types.specs.Typing.{used, used_all, used_stmts}
+use Rattle.go_types.specs.Programs.{Header, constants, variables, a_func, Headed, SourceFile, SourcePackage, Program, headers, all_headers, header_sound, constant_headers, variable_headers, at_member, header_names, names_in, headed, headed_file, headed_files, headed_package, file_block}
 use Rattle.go_types.specs.Collect.{env_of}
 use Rattle.go_types.specs.WellTyped.{header_uses, is_used_in, receiver_names, body_env}
 use Rattle.go_types.proofs.Agreeing.{some_same}
 use Rattle.form_in_place.proofs.Uses.{among_append, among_without}
 use Rattle.run_rules.specs.Surroundings.{Place, Use, Seen, alike, value_use, in_constant}
-use Rattle.run_rules.specs.Places.{all_seen, stmts_seen, params_seen, sig_seen}
-use Rattle.run_rules.specs.Rewriting.{Changes, new_all, new_sig, new_stmts}
-use Rattle.run_rules.specs.Programs.{top_place, body_place, constants_at_top, receiver_seen, decl_seen, headed_func, world}
+use Rattle.run_rules.specs.Places.{written_seen, all_seen, stmts_seen, params_seen, sig_seen}
+use Rattle.run_rules.specs.Rewriting.{Changes, new_all, new_written, new_sig, new_stmts}
+use Rattle.run_rules.specs.Programs.{top_place, body_place, constants_at_top, variables_at_top, types_at_top, receiver_seen, decl_seen, headed_func, world}
 use Rattle.run_rules.specs.FormTrees.{as_expr}
-use Rattle.run_rules.specs.Steps.{change_nth, changes_for, new_constants, new_receiver_option, new_decl}
+use Rattle.run_rules.specs.Steps.{change_nth, changes_for, new_constants, new_variables, new_receiver_option, new_decl}
 use Rattle.step_laws.specs.NamesOutside.{NamesOutside}
 use Rattle.step_laws.specs.SwapPrograms.{headed_there}
 use Rattle.step_laws.proofs.DeclUses.{body-begins}
 use Rattle.step_laws.proofs.Swapping.{sig-same}
 use Rattle.step_laws.proofs.UsesAnswered.{not-around}
-use Rattle.constant_steps.specs.Alone.{SingleSpecs, no_constants, and_constant, PlainDecl, constants_alone, PackageAt, this_package, a_later_package}
+use Rattle.constant_steps.specs.Alone.{SingleSpecs, no_constants, and_constant, and_typed, and_repeated, SingleVariables, no_variables, and_variable, PlainDecl, constants_alone, variables_alone, some_types, PackageAt, this_package, a_later_package}
 use Rattle.constant_steps.specs.Alone as alone
 use Rattle.constant_steps.specs.PlainUse.{AllSimple}
 use Rattle.constant_steps.proofs.AfterStep.{same_number}
@@ -64,6 +64,17 @@ module _ {S : Type 0} (same : S → S → Bool) (rs : List (Package S)) (z : S) 
 
   -- ---- the declaration
 
+  -- what is put is no part of a written type
+  past_written : (p : Place S) (t : Option (TypeExpr S)) (xs : List (Seen S)) → Found (written_seen p t ++ xs) → Found xs
+  past_written p None xs h = h
+  past_written p (Some t) xs h = h
+
+  -- the values of a spec, behind its type
+  values_used : (t : Option (TypeExpr S)) (a : Env) (p : Place S) (us : List Use) (vs : Exprs S) → AllSimple (all_seen p us vs) → Found (all_seen p us vs) → is_among r (free_type_option [] t ++ used_all a (new_all c p us vs)) ≡ true
+  values_used t a p us vs si h =
+      let vs' : Exprs S = new_all c p us vs in
+      among_append r (free_type_option [] t) (used_all a vs') ∙ or_right (is_among r (free_type_option [] t)) (is_among r (used_all a vs')) (all_put same z e r uses_r shape p us vs a si h).there
+
   group_used : (at' : S → S) (t : Option (TypeExpr S)) (es : Exprs S) (j : ℕ) {ss : ValueSpecs S} → SingleSpecs ss → AllSimple (constants_at_top rs q j ss) → Found (constants_at_top rs q j ss) → SomeUses (constant_headers at' t es j (new_constants same rs c q j ss))
   group_used at' t es j no_constants si h = absurd (grind (arith, h))
   group_used at' t es j (and_constant {s = s} {n = n} {e = v} {ss = ss} d) si h =
@@ -73,6 +84,35 @@ module _ {S : Type 0} (same : S → S → Bool) (rs : List (Package S)) (z : S) 
       either same z e r uses_r shape xs ys h
       (λ k. this_uses {hs = constant_headers at' None (new_all c (in_constant j q) us (expr_and v no_exprs)) (suc j) (new_constants same rs c q (suc j) ss)} (λ s b. (all_put same z e r uses_r shape (in_constant j q) us (expr_and v no_exprs) (env_of w (there (constants (n ∷ []) None (new_all c (in_constant j q) us (expr_and v no_exprs)) j) s b) (Some j)) (simple_front xs ys si) k).there))
       (λ k. a_later_uses (group_used at' None (new_all c (in_constant j q) us (expr_and v no_exprs)) (suc j) d (simple_behind xs ys si) k))
+  group_used at' t es j (and_typed {n = n} {t = kind} {e = v} {ss = ss} d) si h =
+      let us : List Use = alike (value_use {S = S} q.env (Some kind)) (n ∷ []) in
+      let o : Place S = in_constant j q in
+      let ws : List (Seen S) = written_seen o (Some kind) in
+      let xs : List (Seen S) = all_seen o us (expr_and v no_exprs) in
+      let ys : List (Seen S) = constants_at_top rs q (suc j) ss in
+      let kind' : Option (TypeExpr S) = new_written c o (Some kind) in
+      let vs : Exprs S = new_all c o us (expr_and v no_exprs) in
+      either same z e r uses_r shape (ws ++ xs) ys h
+      (λ k. this_uses {hs = constant_headers at' kind' vs (suc j) (new_constants same rs c q (suc j) ss)} (λ s b. values_used kind' (env_of w (there (constants (n ∷ []) kind' vs j) s b) (Some j)) o us (expr_and v no_exprs) (simple_behind ws xs (simple_front (ws ++ xs) ys si)) (past_written o (Some kind) xs k)))
+      (λ k. a_later_uses (group_used at' kind' vs (suc j) d (simple_behind (ws ++ xs) ys si) k))
+  group_used at' t es j (and_repeated d) si h = a_later_uses (group_used at' t es (suc j) d si h)
+
+  variables_used : (at' : S → S) {ss : ValueSpecs S} → SingleVariables ss → AllSimple (variables_at_top rs q ss) → Found (variables_at_top rs q ss) → SomeUses (variable_headers at' (new_variables same rs c q ss))
+  variables_used at' no_variables si h = absurd (grind (arith, h))
+  variables_used at' (and_variable {n = n} {t = t} {es = vs} {ss = ss} d) si h =
+      let us : List Use = alike (value_use q.env t) (n ∷ []) in
+      let ws : List (Seen S) = written_seen q t in
+      let xs : List (Seen S) = all_seen q us vs in
+      let ys : List (Seen S) = variables_at_top rs q ss in
+      let t' : Option (TypeExpr S) = new_written c q t in
+      let vs' : Exprs S = new_all c q us vs in
+      either same z e r uses_r shape (ws ++ xs) ys h
+      (λ k. this_uses {hs = variable_headers at' (new_variables same rs c q ss)} (λ s b. values_used t' (env_of w (there (variables (n ∷ []) t' vs') s b) None) q us vs (simple_behind ws xs (simple_front (ws ++ xs) ys si)) (past_written q t xs k)))
+      (λ k. a_later_uses (variables_used at' d (simple_behind (ws ++ xs) ys si) k))
+
+  types_none : (p : Place S) (ts : List (TypeSpec S)) → list_any (at_use same z e r uses_r shape) (types_at_top rs p ts) ≡ false
+  types_none p [] = refl
+  types_none p (t ∷ ts) = types_none p ts
 
   params_none : (p : Place S) (xs : List (Param S)) → list_any (at_use same z e r uses_r shape) (params_seen p xs) ≡ false
   params_none p [] = refl
@@ -109,6 +149,8 @@ module _ {S : Type 0} (same : S → S → Bool) (rs : List (Package S)) (z : S) 
 
   pub decl_used : {d : Decl S} → PlainDecl d → AllSimple (decl_seen rs K pk tree d) → Found (decl_seen rs K pk tree d) → SomeUses (headers (new_decl same rs c K pk tree d))
   decl_used (constants_alone {s = s} {g = g} d) si h = group_used (at_member g s) None no_exprs 0 d si h
+  decl_used (variables_alone {s = s} {g = g} d) si h = variables_used (at_member g s) d si h
+  decl_used (some_types {ts = ts}) si h = none_there same z e r uses_r shape (types_at_top rs q ts) (types_none q ts) h
   decl_used (alone.a_function {f = f}) si h =
       let xs : List (Seen S) = receiver_seen rs q f.receiver in
       let ys : List (Seen S) = sig_seen q f.sig in

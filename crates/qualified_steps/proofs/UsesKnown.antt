@@ -2,7 +2,7 @@
 use Rattle.std.specs.Prelude.{◌≡◌, refl, ℕ, Bool, true, false, List, [], ◌++◌, map, Option, Some, None, if◌then◌else◌, nat_eq, slice_get}
 use mathlib.Core.Path.{ap, sym, ◌∙◌, subst}
 use Rattle.std.proofs.Common.{arith}
-use Rattle.go_tree.specs.Tree.{NameAt, Expr, ident, selector}
+use Rattle.go_tree.specs.Tree.{NameAt, TypeExpr, Expr, ident, selector}
 use Rattle.go_tree.specs.File.{File}
 use Rattle.scope_names.specs.Means.{means}
 use Rattle.pkg_graph.specs.Package.{Package, import_specs}
@@ -24,7 +24,8 @@ use Rattle.run_rules.specs.Steps.{changes_for}
 use Rattle.step_laws.specs.ConstantSteps.{constant_put}
 use Rattle.step_laws.specs.ConstantUses.{UseOfConstant}
 use Rattle.constant_steps.specs.Alone.{block_from, PackageAt}
-use Rattle.constant_steps.specs.PlainUse.{linked_at}
+use Rattle.step_laws.proofs.Swapping.{written-same}
+use Rattle.constant_steps.specs.PlainUse.{linked_at, type_marked}
 use Rattle.constant_steps.proofs.AfterStep.{package_beside, plain_file, plain_decl}
 use Rattle.constant_steps.proofs.MarksFound.{StandsThere, stands_there, nth_mapped}
 use Rattle.constant_steps.proofs.NamesOutside.{equal_numbers}
@@ -90,11 +91,14 @@ module _ {S : Type 0} (same : S → S → Bool) (commented : ℕ → ℕ → S �
   pub new_block : means (block_from u.new_home.number 0 (map (linked_file rs) u.new_home.of.files)) new_name ≡ Some (member u.new_home.number u.new_mark.file u.new_mark.decl u.new_mark.item)
   new_block = named_in_home rs x.at x.place u.new u.new_mark u.new_home v.package_there put_named.names u.new_home_is
 
-  pub old_marked : MarkedAt u.home x.mark u.constant u.text
-  old_marked = marked_at rs u.home x.mark u.constant u.text u.home_is u.declared
+  pub old_marked : MarkedAt u.home x.mark u.constant None u.text
+  old_marked = marked_at rs u.home x.mark u.constant None u.text u.home_is u.declared u.untyped
 
-  pub new_marked : MarkedAt u.new_home u.new_mark u.new_constant u.new_text
-  new_marked = marked_at rs u.new_home u.new_mark u.new_constant u.new_text u.new_home_is u.new_declared
+  abbrev pub new_type : Option (TypeExpr S)
+  new_type = type_marked rs u.new_mark
+
+  pub new_marked : MarkedAt u.new_home u.new_mark u.new_constant new_type u.new_text
+  new_marked = marked_at rs u.new_home u.new_mark u.new_constant new_type u.new_text u.new_home_is u.new_declared refl
 
   abbrev pub use_imports : List (List ℕ)
   use_imports = block_names (map (linked_file rs) x.at.of.files)
@@ -116,11 +120,11 @@ module _ {S : Type 0} (same : S → S → Bool) (commented : ℕ → ℕ → S �
   -- ---- before the step
 
   module _ (ps : Program S) (a : PackagesStand same commented rs marks x u ps) where
-    pub old_before : DeclaredBefore rs u.home a.home.at x.mark old_name u.constant u.text old_marked v.home_plain old_block ps
-    old_before = declared_before rs u.home a.home.at x.mark old_name u.constant u.text old_marked v.home_plain old_block a.home.nth ps a.home.there
+    pub old_before : DeclaredBefore rs u.home a.home.at x.mark old_name u.constant None u.text old_marked v.home_plain old_block ps
+    old_before = declared_before rs u.home a.home.at x.mark old_name u.constant None u.text old_marked v.home_plain old_block a.home.nth ps a.home.there
 
-    pub new_before : DeclaredBefore rs u.new_home a.new_home.at u.new_mark new_name u.new_constant u.new_text new_marked v.new_plain new_block ps
-    new_before = declared_before rs u.new_home a.new_home.at u.new_mark new_name u.new_constant u.new_text new_marked v.new_plain new_block a.new_home.nth ps a.new_home.there
+    pub new_before : DeclaredBefore rs u.new_home a.new_home.at u.new_mark new_name u.new_constant new_type u.new_text new_marked v.new_plain new_block ps
+    new_before = declared_before rs u.new_home a.new_home.at u.new_mark new_name u.new_constant new_type u.new_text new_marked v.new_plain new_block a.new_home.nth ps a.new_home.there
 
     pub plainly : well_typed ps ≡ true → is_init old_name ≡ false
     plainly well = not_init rs ps u.home old_name u.constant u.text old_before.declared well
@@ -130,7 +134,7 @@ module _ {S : Type 0} (same : S → S → Bool) (commented : ℕ → ℕ → S �
 
     pub use_before : ImportsSound → is_init old_name ≡ false → (w : World) → ValuesEnd ps w → UseOfConstant ps old_before.declared.header u.constant u.text w (file_env w x.at.number (file_block use_imports [] (linked_imports rs x.at.source.tree)) None) x.place u.use_ u.new
     use_before sound init w ended =
-        use_known rs ps w ended x.at u.home u.new_home x.place x.mark u.new_mark u.constant u.new_constant u.use_ u.new u.text u.new_text use_imports sound.use_ u.names put_named.names (sym home_stands.number) (sym new_home_stands.number) old_before.declared (ap (λ ms. imports_sound ms [] (linked_imports rs u.home.source.tree)) old_before.members_are ∙ sound.home) new_before.declared text_named init
+        use_known rs ps w ended x.at u.home u.new_home x.place x.mark u.new_mark u.constant u.new_constant new_type u.use_ u.new u.text u.new_text use_imports sound.use_ u.names put_named.names (sym home_stands.number) (sym new_home_stands.number) old_before.declared (ap (λ ms. imports_sound ms [] (linked_imports rs u.home.source.tree)) old_before.members_are ∙ sound.home) new_before.declared text_named init
 
   -- ---- after it
 
@@ -207,17 +211,17 @@ module _ {S : Type 0} (same : S → S → Bool) (commented : ℕ → ℕ → S �
     in_use : here a.home ≡ true → u.home.number ≡ x.at.number
     in_use e = ap (λ (p : SourcePackage S). p.number) (one_place (linked_at rs u.home a.home.at) (linked_at rs x.at a.use_.at) a.use_.nth (subst (λ j. PackageAt (linked_at rs u.home a.home.at) j ps) (equal_numbers a.home.nth a.use_.nth e) a.home.there) a.use_.there)
 
-    pub old_after : DeclaredThen rs u.home a.home.at x.mark old_name u.constant u.text old_marked v.home_plain old_block same puts x.at.number x.at.of tree M N (here a.home) qs
+    pub old_after : DeclaredThen rs u.home a.home.at x.mark old_name u.constant None u.text old_marked v.home_plain old_block same puts x.at.number x.at.of tree M N (here a.home) qs
     old_after =
-        declared_then rs u.home a.home.at x.mark old_name u.constant u.text old_marked v.home_plain old_block same puts x.at.number x.at.of tree M N (here a.home) a.home.nth qs
+        declared_then rs u.home a.home.at x.mark old_name u.constant None u.text old_marked v.home_plain old_block same puts x.at.number x.at.of tree M N (written-same same z u.new) (here a.home) a.home.nth qs
         (package_beside (after same rs puts x.at.number x.at.of tree (here a.home) M N (linked_at rs u.home a.home.at)) a.home.nth more (package_then same rs puts x.at.number x.at.of tree (linked_at rs u.home a.home.at) a.home.nth a.use_.nth M N a.home.there (here a.home) refl))
 
-    new_after : DeclaredThen rs u.new_home a.new_home.at u.new_mark new_name u.new_constant u.new_text new_marked v.new_plain new_block same puts x.at.number x.at.of tree M N (nat_eq a.new_home.nth a.use_.nth) qs
+    new_after : DeclaredThen rs u.new_home a.new_home.at u.new_mark new_name u.new_constant new_type u.new_text new_marked v.new_plain new_block same puts x.at.number x.at.of tree M N (nat_eq a.new_home.nth a.use_.nth) qs
     new_after =
-        declared_then rs u.new_home a.new_home.at u.new_mark new_name u.new_constant u.new_text new_marked v.new_plain new_block same puts x.at.number x.at.of tree M N (nat_eq a.new_home.nth a.use_.nth) a.new_home.nth qs
+        declared_then rs u.new_home a.new_home.at u.new_mark new_name u.new_constant new_type u.new_text new_marked v.new_plain new_block same puts x.at.number x.at.of tree M N (written-same same z u.new) (nat_eq a.new_home.nth a.use_.nth) a.new_home.nth qs
         (package_beside (after same rs puts x.at.number x.at.of tree (nat_eq a.new_home.nth a.use_.nth) M N (linked_at rs u.new_home a.new_home.at)) a.new_home.nth more (package_then same rs puts x.at.number x.at.of tree (linked_at rs u.new_home a.new_home.at) a.new_home.nth a.use_.nth M N a.new_home.there (nat_eq a.new_home.nth a.use_.nth) refl))
 
     pub use_after : ImportsSound → is_init old_name ≡ false → (w : World) → ValuesEnd qs w → UseOfConstant qs old_after.declared.header u.constant old_after.text w (file_env w x.at.number (file_block use_imports [] (linked_imports rs x.at.source.tree)) None) x.place u.use_ u.new
     use_after sound init w ended =
-        use_known rs qs w ended x.at u.home u.new_home x.place x.mark u.new_mark u.constant u.new_constant u.use_ u.new old_after.text new_after.text use_imports sound.use_ u.names put_named.names (sym home_stands.number) (sym new_home_stands.number) old_after.declared
+        use_known rs qs w ended x.at u.home u.new_home x.place x.mark u.new_mark u.constant u.new_constant new_type u.use_ u.new old_after.text new_after.text use_imports sound.use_ u.names put_named.names (sym home_stands.number) (sym new_home_stands.number) old_after.declared
         (ap (λ ms. imports_sound ms [] (linked_imports rs u.home.source.tree)) old_after.members_are ∙ sound.home) new_after.declared (text_then (here a.home) old_after.text in_use old_after.text_then) init

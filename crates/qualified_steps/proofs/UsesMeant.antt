@@ -1,7 +1,7 @@
 -- A name of a constant that is declared as a name, and a name of what it is declared as: both mean what the rules of typing say of the declaration.
 use Rattle.std.specs.Prelude.{◌≡◌, refl, ℕ, true, false, not, List, [], Option, Some, None}
 use mathlib.Core.Path.{ap, sym, ◌∙◌, subst}
-use Rattle.go_tree.specs.Tree.{NameAt, Expr}
+use Rattle.go_tree.specs.Tree.{NameAt, TypeExpr, Expr}
 use Rattle.scope_names.specs.Means.{means, is_blank}
 use Rattle.pkg_graph.specs.Package.{Package}
 use Rattle.go_types.specs.Entities.{Entity, World, Env, block_of}
@@ -29,10 +29,10 @@ pub has_number : {S : Type 0} (p : SourcePackage S) (k : ℕ) {ps : Program S} �
 has_number p _ (this_package {ps = ps}) = declared.this_package (same_number p.number p.number refl) refl
 has_number p _ (a_later_package e r) = declared.a_later_package e (has_number p _ r)
 
--- The constant c of a package block is declared, as this text, by the first header with its name, in a file of this package.
-pub record DeclaredIn {S : Type 0} (rs : List (Package S)) (ps : Program S) (w : Where S) (n : List ℕ) (c : NameAt S) (text : Expr S) : Type 0 where
+-- The constant c of a package block is declared, with this type or none, as this text, by the first header with its name, in a file of this package.
+pub record DeclaredIn {S : Type 0} (rs : List (Package S)) (ps : Program S) (w : Where S) (n : List ℕ) (c : NameAt S) (kind : Option (TypeExpr S)) (text : Expr S) : Type 0 where
   pub header : Headed S
-  pub constant : ConstantHeader n header.header c text
+  pub constant : ConstantHeader n header.header c kind text
   pub first : FirstWith n header (headed ps)
   pub home : header.home ≡ w.number
   pub members : List (List ℕ)
@@ -55,14 +55,14 @@ module _ {S : Type 0} (rs : List (Package S)) (ps : Program S) (w : World) (ende
   abbrev block : World → ℕ → List ℕ → Option Entity
   block v k n = means (block_of v.blocks k) n
 
-  declared_known : (at : Where S) (n : List ℕ) (c : NameAt S) (text : Expr S) (d : DeclaredIn rs ps at n c text) → ConstantOrRefused (block last at.number n)
-  declared_known at n c text d =
+  declared_known : (at : Where S) (n : List ℕ) (c : NameAt S) (kind : Option (TypeExpr S)) (text : Expr S) (d : DeclaredIn rs ps at n c kind text) → ConstantOrRefused (block last at.number n)
+  declared_known at n c kind text d =
       let first : FirstWith c.name d.header (headed ps) = subst (λ m. FirstWith m d.header (headed ps)) (sym d.constant.named) d.first in
       subst (λ m. ConstantOrRefused (block last at.number m)) d.constant.named
       (subst (λ k. ConstantOrRefused (block last k c.name)) d.home
-      (constant_or_refused ps d.header c text d.constant.number d.constant.is (ap is_blank d.constant.named ∙ d.spelled) first (subst (λ k. HasNumber k ps) (sym d.home) d.in_program)))
+      (constant_or_refused ps d.header c kind text d.constant.number d.constant.is (ap is_blank d.constant.named ∙ d.spelled) first (subst (λ k. HasNumber k ps) (sym d.home) d.in_program)))
 
-  module _ (home new_home : Where S) (m' : MarkRef) (n n' : List ℕ) (c c' : NameAt S) (text text' : Expr S) (d : DeclaredIn rs ps home n c text) (d' : DeclaredIn rs ps new_home n' c' text') where
+  module _ (home new_home : Where S) (m' : MarkRef) (n n' : List ℕ) (c c' : NameAt S) (kind : Option (TypeExpr S)) (text text' : Expr S) (d : DeclaredIn rs ps home n c None text) (d' : DeclaredIn rs ps new_home n' c' kind text') where
     -- what the constant's text means where it is declared: what the other constant's package block has
     record TextMeant : Type 0 where
       meant : Option Entity
@@ -73,7 +73,7 @@ module _ {S : Type 0} (rs : List (Package S)) (ps : Program S) (w : World) (ende
 
     text_meant : imports_sound d.members [] (linked_imports rs home.source.tree) ≡ true → TextNamed rs home m' n' text → m'.«package» ≡ new_home.number → TextMeant
     text_meant sound t in_new =
-        let known' : ConstantOrRefused (block last new_home.number n') = declared_known new_home n' c' text' d' in
+        let known' : ConstantOrRefused (block last new_home.number n') = declared_known new_home n' c' kind text' d' in
         by known'
         (member_meant rs home d.members sound last (Some d.constant.number) t.place text m' t.names (ap is_blank t.same_name ∙ d'.spelled) (subst ConstantOrRefused (λ j. block last (sym in_new j) (sym t.same_name j)) known'))
       where
@@ -107,18 +107,18 @@ module _ {S : Type 0} (rs : List (Package S)) (ps : Program S) (w : World) (ende
       in_program = subst (λ k. HasNumber k ps) (sym d.home) d.in_program;
     }
 
-  use_by : (at home new_home : Where S) (q : Place S) (m m' : MarkRef) (c c' : NameAt S) (use_ new text text' : Expr S) (members : List (List ℕ)) → imports_sound members [] (linked_imports rs at.source.tree) ≡ true → NamesMember rs at q use_ m → NamesMember rs at q new m' → m.«package» ≡ home.number → m'.«package» ≡ new_home.number
-      → (d : DeclaredIn rs ps home (member_name use_) c text) (d' : DeclaredIn rs ps new_home (member_name new) c' text') (h : TextMeant home new_home m' (member_name use_) (member_name new) c c' text text' d d') → is_init (member_name use_) ≡ false
+  use_by : (at home new_home : Where S) (q : Place S) (m m' : MarkRef) (c c' : NameAt S) (kind : Option (TypeExpr S)) (use_ new text text' : Expr S) (members : List (List ℕ)) → imports_sound members [] (linked_imports rs at.source.tree) ≡ true → NamesMember rs at q use_ m → NamesMember rs at q new m' → m.«package» ≡ home.number → m'.«package» ≡ new_home.number
+      → (d : DeclaredIn rs ps home (member_name use_) c None text) (d' : DeclaredIn rs ps new_home (member_name new) c' kind text') (h : TextMeant home new_home m' (member_name use_) (member_name new) c c' kind text text' d d') → is_init (member_name use_) ≡ false
       → UseOfConstant ps d.header c text w (file_env w at.number (file_block members [] (linked_imports rs at.source.tree)) None) q use_ new
-  use_by at home new_home q m m' c c' use_ new text text' members sound names names' in_home in_new d d' h init =
+  use_by at home new_home q m m' c c' kind use_ new text text' members sound names names' in_home in_new d d' h init =
       let old_block : block w m.«package» (member_name use_) ≡ means (block_of w.blocks d.header.home) c.name = (λ j. block w ((in_home ∙ sym d.home) j) (sym d.constant.named j)) in
       let new_is : block w m'.«package» (member_name new) ≡ h.meant = same-blocks ps w m'.«package» (member_name new) ended ∙ ap (λ k. block last k (member_name new)) in_new ∙ sym h.is in
       let old : MemberMeant (file_env w at.number (file_block members [] (linked_imports rs at.source.tree)) None) q use_ m =
-      member_meant rs at members sound w None q use_ m names d.spelled (subst ConstantOrRefused (sym (old_block ∙ constant_meant home new_home m' (member_name use_) (member_name new) c c' text text' d d' h init)) h.known) in
+      member_meant rs at members sound w None q use_ m names d.spelled (subst ConstantOrRefused (sym (old_block ∙ constant_meant home new_home m' (member_name use_) (member_name new) c c' kind text text' d d' h init)) h.known) in
       let put : MemberMeant (file_env w at.number (file_block members [] (linked_imports rs at.source.tree)) None) q new m' = member_meant rs at members sound w None q new m' names' d'.spelled (subst ConstantOrRefused (sym new_is) h.known) in
       record {
         meant = h.meant;
-        declares = names_constant home new_home m' (member_name use_) (member_name new) c c' text text' d d' h init;
+        declares = names_constant home new_home m' (member_name use_) (member_name new) c c' kind text text' d d' h init;
         ended = ended;
         old = old.name;
         new = put.name;
@@ -136,8 +136,8 @@ module _ {S : Type 0} (rs : List (Package S)) (ps : Program S) (w : World) (ende
 
   -- The use of a constant that is declared as `text`, in the file `at`, and `new` in its place: `home` and `new_home` are
   -- the files of the declarations of the constant and of what it is declared as.
-  pub use_known : (at home new_home : Where S) (q : Place S) (m m' : MarkRef) (c c' : NameAt S) (use_ new text text' : Expr S) (members : List (List ℕ)) → imports_sound members [] (linked_imports rs at.source.tree) ≡ true → NamesMember rs at q use_ m → NamesMember rs at q new m' → m.«package» ≡ home.number → m'.«package» ≡ new_home.number
-      → (d : DeclaredIn rs ps home (member_name use_) c text) → imports_sound d.members [] (linked_imports rs home.source.tree) ≡ true → DeclaredIn rs ps new_home (member_name new) c' text' → TextNamed rs home m' (member_name new) text → is_init (member_name use_) ≡ false
+  pub use_known : (at home new_home : Where S) (q : Place S) (m m' : MarkRef) (c c' : NameAt S) (kind : Option (TypeExpr S)) (use_ new text text' : Expr S) (members : List (List ℕ)) → imports_sound members [] (linked_imports rs at.source.tree) ≡ true → NamesMember rs at q use_ m → NamesMember rs at q new m' → m.«package» ≡ home.number → m'.«package» ≡ new_home.number
+      → (d : DeclaredIn rs ps home (member_name use_) c None text) → imports_sound d.members [] (linked_imports rs home.source.tree) ≡ true → DeclaredIn rs ps new_home (member_name new) c' kind text' → TextNamed rs home m' (member_name new) text → is_init (member_name use_) ≡ false
       → UseOfConstant ps d.header c text w (file_env w at.number (file_block members [] (linked_imports rs at.source.tree)) None) q use_ new
-  use_known at home new_home q m m' c c' use_ new text text' members sound names names' in_home in_new d home_sound d' t init =
-      use_by at home new_home q m m' c c' use_ new text text' members sound names names' in_home in_new d d' (text_meant home new_home m' (member_name use_) (member_name new) c c' text text' d d' home_sound t in_new) init
+  use_known at home new_home q m m' c c' kind use_ new text text' members sound names names' in_home in_new d home_sound d' t init =
+      use_by at home new_home q m m' c c' kind use_ new text text' members sound names names' in_home in_new d d' (text_meant home new_home m' (member_name use_) (member_name new) c c' kind text text' d d' home_sound t in_new) init

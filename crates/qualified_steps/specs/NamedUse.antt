@@ -1,7 +1,7 @@
 -- A use of a constant that is declared as the name of another constant, each in any package, in whose way nothing
 -- stands and whose form needs no new import (Go specification, Constant declarations; Qualified identifiers; Import
 -- declarations).
-use Rattle.std.specs.Prelude.{◌≡◌, ℕ, Bool, List, [], Some, map, slice_get}
+use Rattle.std.specs.Prelude.{◌≡◌, ℕ, Bool, List, [], Some, None, map, slice_get}
 use Rattle.go_tree.specs.Tree.{NameAt, Expr, ident, selector}
 use Rattle.go_tree.specs.File.{Decl}
 use Rattle.pkg_graph.specs.Package.{Package}
@@ -12,13 +12,13 @@ use Rattle.run_rules.specs.Naming.{Named, imports_added}
 use Rattle.run_rules.specs.FormTrees.{FormKind, as_expr}
 use Rattle.run_rules.specs.Reduced.{becomes, home_place, reduced}
 use Rattle.constant_steps.specs.Alone.{PlainFiles, PackageAt}
-use Rattle.constant_steps.specs.PlainUse.{linked_at, AllSimple, AllTheUse}
+use Rattle.constant_steps.specs.PlainUse.{linked_at, AllSimple, AllTheUse, type_marked}
 use Rattle.qualified_steps.specs.MemberNames.{NamesMember}
 
 module _ {S : Type 0} (same : S → S → Bool) (commented : ℕ → ℕ → S → Bool) (rs : List (Package S))
     (marks : List MarkRef) (x : Site S) where
-  -- The use is a name of the constant, and the constant is declared as a name of another constant. Nothing is in the
-  -- way: it becomes an expression, for which the file of the use has the imports.
+  -- The use is a name of the constant, and the constant is declared as a name of another constant, without a type.
+  -- Nothing is in the way: it becomes an expression, for which the file of the use has the imports.
   pub record NamedUse : Type 0 where
     pub use_ : Expr S
     pub part : x.part ≡ an_expr use_
@@ -28,6 +28,7 @@ module _ {S : Type 0} (same : S → S → Bool) (commented : ℕ → ℕ → S �
     pub constant : NameAt S
     pub text : Expr S
     pub declared : inlinable rs x.mark ≡ Some (a_constant constant text)
+    pub untyped : type_marked rs x.mark ≡ None
     pub new_mark : MarkRef
     pub text_names : NamesMember rs home (home_place same commented rs marks home) text new_mark
     pub new_home : Where S

@@ -16,9 +16,9 @@ pub fn named_members_are_meant()
     ensures marked { MarkedConstantsAreNames }
 {}
 
-/// A use of a constant that is declared as the name of another constant, in whose way nothing
-/// stands, becomes that name as it is written at the use (`form`), and means it, before the step
-/// and after it. The form's import is in use after the step (`used`), and so is what other
+/// A use of a constant that is declared, without a type, as the name of another constant, in whose
+/// way nothing stands, becomes that name as it is written at the use (`form`), and means it, before
+/// the step and after it. The form's import is in use after the step (`used`), and so is what other
 /// declarations use (`elsewhere`). So the packages after the step mean what those before do, if
 /// the imports stay used, and so do those after any number of such steps.
 pub fn named_constants_mean_the_same()
