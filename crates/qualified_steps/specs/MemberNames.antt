@@ -22,8 +22,8 @@ pub data IsMemberName {S : Type 0} : Expr S → Type 0 where
   an_exported_name :
       {s t : S} {q : List ℕ} {n : NameAt S} → is_exported n.name ≡ true → IsMemberName (selector s (ident t q) n)
 
--- At a place of a file the expression names the member with these numbers.
 module _ {S : Type 0} (rs : List (Package S)) (w : Where S) (p : Place S) where
+  -- At a place of a file the expression names the member with these numbers.
   pub data NamesMember : Expr S → MarkRef → Type 0 where
     own_member : {s : S} {n : List ℕ} {m : MarkRef} → name_mark rs w p n ≡ Some m → NamesMember (ident s n) m
     imported_member :
