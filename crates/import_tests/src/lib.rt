@@ -7,3 +7,5 @@ mod modules;
 mod needs;
 #[cfg(test)]
 mod settling;
+#[cfg(test)]
+mod uses;

@@ -1,0 +1,82 @@
+//! The parts of declarations that may be uses of a marked declaration.
+
+ghost use Rattle.std.specs.Prelude.{◌≤◌, length};
+
+use go_parse::read_file;
+use go_tree::{Expr, FileTree, MAX_FILE_BYTES, Span, TypeExpr};
+use possible_uses::{PartRef, decl_parts};
+use std::alloc::Global;
+use std::test::Fail;
+
+/// Where a part stands, with a mark before a key that is a name.
+fn span_of(part: &PartRef) -> Option<(Span, bool)> {
+    match part {
+        PartRef::Expr(Expr::Ident { span, .. })
+        | PartRef::Expr(Expr::Selector { span, .. })
+        | PartRef::Expr(Expr::Call { span, .. }) => Some((*span, false)),
+        PartRef::Key(Expr::Ident { span, .. }) => Some((*span, true)),
+        PartRef::Type(TypeExpr::Named { span, .. }) => Some((*span, false)),
+        PartRef::Receiver(name) => Some((name.span, false)),
+        _ => None,
+    }
+}
+
+/// The parts of a file's declarations, each with a blank behind it and a key with a colon.
+fn words_of(alloc: Global, text: &[u8], file: &FileTree) -> Result<Vec<u8>, Fail> {
+    let mut words = Vec::new(alloc);
+    for decl in file.decls.items() {
+        let parts = decl_parts(alloc, decl)?;
+        for part in &parts {
+            let Some((span, key)) = span_of(part) else {
+                return Err(Fail::new("another part"));
+            };
+            let Some(word) = text.get(span.start as usize..span.end as usize) else {
+                return Err(Fail::new("a span past the end"));
+            };
+            words.extend_from_slice(word)?;
+            words.extend_from_slice(if key {
+                b": ".as_slice()
+            } else {
+                b" ".as_slice()
+            })?;
+        }
+    }
+    Ok(words)
+}
+
+fn lists(alloc: Global, text: &str, words: &str) -> Result<bool, Fail> {
+    let text = text.as_bytes();
+    if text.len() > MAX_FILE_BYTES as usize {
+        return Err(Fail::new("a text that is too long"));
+    }
+    match read_file(alloc, text) {
+        Ok(source) => {
+            let found = words_of(alloc, text, &source.tree)?;
+            drop(source);
+            Ok(found.as_slice() == words.as_bytes())
+        }
+        Err(_) => Err(Fail::new("a text without a tree")),
+    }
+}
+
+// In the order of their ends: names before what they stand in, calls behind their arguments, types where they are
+// written; no field behind a call, no declared name, no label.
+#[test]
+fn parts_of_declarations(rt: HostRuntime) -> Result<(), Fail> {
+    let alloc = rt.alloc();
+    assert!(rt;
+        lists(
+            alloc,
+            "package p\n\nconst C, D = A, b.B\n\ntype E map[K][]V\n",
+            "A b b.B K V "
+        )?
+    );
+    assert!(rt;
+        lists(
+            alloc,
+            "package p\n\nfunc (r *R) f(a q.T) M {\n\tx := T{k: a.b, c()[0]: d}\n\treturn g(x.y).z + w\n}\n",
+            "R q.T M T k: a a.b c c() d g x x.y g(x.y) w "
+        )?
+    );
+    Ok(())
+}
