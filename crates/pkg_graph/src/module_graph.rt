@@ -119,6 +119,21 @@ impl Graph {
         &self.order
     }
 
+    /// The packages by their numbers.
+    pub fn packages(&self) -> &[Package]
+        ensures { result.now ≡ self.now.packages.items }
+    {
+        &self.packages
+    }
+
+    /// The packages by their numbers, of which the graph is made.
+    pub fn into_packages(self) -> Vec<Package>
+        ensures { result.items ≡ self.packages.items }
+    {
+        let Graph { packages, .. } = self;
+        packages
+    }
+
     /// The package with this number.
     pub fn package(&self, i: u32) -> &Package
         requires { i < length self.now.packages.items }
