@@ -25,6 +25,6 @@ module _ {S : Type 0} where
 
   -- At the byte the table answers for each name what the name means at the place: that it is declared in the function
   -- around, or else what the file, its package or the universe declares.
-  pub record AgreesAt (ps : List (packages.Package S)) (w : Where S) (p : Place S) (t : Table) (at : ℕ) : Type 0 where
+  pub record AgreesAt (ps : List (packages.Package S)) (w : Where S) (t : Table) (p : Place S) (at : ℕ) : Type 0 where
     pub local : (n : List ℕ) → is_local p n ≡ means_local (meaning_in t n at)
     pub outer : (n : List ℕ) → outer_meaning ps w p n ≡ given (meaning_in t n at) (target_of w)
