@@ -1,7 +1,7 @@
 -- Where the scopes that hold at a byte are those of the names that are bound at a place, the table answers there what
 -- names mean.
-use Rattle.std.proofs.Common.{◌≡◌, ◌∙◌, ◌+◌, ℕ, zero, suc, Bool, true, false, ◌&&◌, ◌||◌, List, [], ◌∷◌, ◌++◌, Option, Some, None, refl, sym, ap, subst, map, filter, reverse, bytes_eq, arith}
-use Rattle.std.specs.Prelude.{slice_get, if◌then◌else◌, nat_le, nat_lt}
+use Rattle.std.proofs.Common.{◌≡◌, ◌∙◌, ◌+◌, ℕ, suc, Bool, true, false, ◌&&◌, ◌||◌, List, [], ◌∷◌, ◌++◌, Option, Some, None, refl, sym, ap, subst, map, filter, reverse, bytes_eq, arith}
+use Rattle.std.specs.Prelude.{slice_get, if◌then◌else◌}
 use Rattle.std.proofs.lemmas.List.{map-append, reverse-append}
 use Rattle.go_tree.specs.declared.spans.Span.{Span}
 use Rattle.go_tree.specs.Tree.{NameAt}
@@ -11,7 +11,7 @@ use Rattle.scope_names.specs.declared.names.Entity.TheVariants.{Local, Import, P
 use Rattle.scope_names.specs.declared.names.FileNames.{FileNames}
 use Rattle.scope_names.specs.Means.{Environment, is_blank, or_else, means, binding, numbered, outermost}
 use Rattle.scope_names.specs.Means as universe
-use Rattle.scope_names.specs.Scopes.{Scope, decls_scopes, holds_at, locals_at, meaning_at}
+use Rattle.scope_names.specs.Scopes.{Scope, decls_scopes, holds_at, locals_at}
 use Rattle.scope_tables.specs.Table.{Table, meaning_in, IsTableOf}
 use Rattle.scope_tables.proofs.TableLaws.{turned, first_of, grouped}
 use Rattle.pkg_graph.specs.Package.{SourceTree, import_specs}
@@ -19,7 +19,7 @@ use Rattle.pkg_graph.specs.Package as packages
 use Rattle.pkg_graph.specs.Members.{Target, imported, member, predeclared, import_name, block_names, items_from, decls_from, files_from, package_block}
 use Rattle.go_types.specs.Answers.{given}
 use Rattle.run_rules.specs.Surroundings.{Place, is_local}
-use Rattle.run_rules.specs.Sites.{Where, outer, outer_meaning}
+use Rattle.run_rules.specs.Sites.{Where, outer}
 use Rattle.place_meanings.specs.Agreement.{means_local, target_of, AgreesAt}
 use Rattle.place_meanings.specs.Laws.{AreNamesOf}
 use Rattle.place_meanings.proofs.Scoped.{holds}

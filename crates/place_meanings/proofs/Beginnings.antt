@@ -1,14 +1,14 @@
 -- Parts that begin with a token that is no semicolon.
 use Rattle.std.proofs.Common.{◌≡◌, ℕ, Bool, List, Option}
 use Rattle.go_tree.specs.declared.spans.Span.{Span}
-use Rattle.go_tree.specs.Tree.{NameAt, TypeExpr, Fields, Param, Sig, Expr, Exprs, ExprOption, Elems, Value, ValueOption, Stmt, Stmts, StmtOption, BlockOption, RangeLeft, Arms, Cases, ValueSpecs}
+use Rattle.go_tree.specs.Tree.{NameAt, TypeExpr, Expr, Exprs, Stmts, StmtOption, BlockOption, Arms}
 use Rattle.go_tree.specs.declared.operators.UnOp.{UnOp}
 use Rattle.go_tree.specs.declared.operators.UnOp.TheVariants.{Plus, Minus, Not, Flip, Address}
 use Rattle.go_words.specs.Terminals.{unary_sign, semicolon}
 use Rattle.go_read.specs.SpellsTypes.{Lexemes, SpellsType, SpellsNames, named_rule, qualified_rule, pointer_rule, slice_type_rule, map_type_rule, struct_type_rule, type_parens_rule, last_name_rule, more_names_rule}
 use Rattle.go_read.specs.SpellsSpans.{span_to}
 use Rattle.go_read.specs.Spells.{SpellsLiteralType, SpellsBare, SpellsExpr, SpellsOperand, SpellsExprs, SpellsIf, SpellsArm, SpellsSpec, named_literal_rule, qualified_literal_rule, type_literal_rule, ident_rule, int_rule, rune_rule, text_rule, composite_rule, func_rule, type_rule, selector_rule, index_rule, slice_rule, call_rule, unary_rule, star_rule, binary_rule, bare_rule, parens_rule, operand_rule, last_expr_rule, more_exprs_rule, only_arm_rule, else_rule, else_if_rule, arm_rule, repeated_rule, typed_var_rule, values_rule, typed_values_rule}
-use Rattle.splice_laws.proofs.Grafts.{here, later, drop}
+use Rattle.splice_laws.proofs.Grafts.{here, drop}
 use Rattle.place_meanings.proofs.Behinds.{type_by, fields_by, sig_by, names_by, expr_by, operand_by, option_by, exprs_by, args_by, elems_by, first_by, block_by, if_by}
 use Rattle.place_meanings.proofs.Rooms.{Begins, begins, begins_past}
 

@@ -1,7 +1,6 @@
 -- Typing binds no name but those that a declaration writes.
 use Rattle.std.specs.Prelude.{◌≡◌, ℕ, ◌+◌, Bool, true, false, ◌||◌, List, [], ◌∷◌, ◌++◌, length, Option, Some, None, if◌then◌else◌, bytes_eq, refl}
 use Rattle.std.proofs.Common.{sym, ap, ◌∙◌, subst}
-use Rattle.std.specs.List.{list_any}
 use Rattle.go_tree.specs.Tree.{NameAt, Param, Sig, Stmt, const_decl, var_decl, define, label, ValueSpecs, no_specs, spec}
 use Rattle.go_tree.specs.File.{Receiver, Func}
 use Rattle.scope_names.specs.Means.{binding, is_blank}
@@ -9,7 +8,6 @@ use Rattle.scope_names.specs.FreeNames.{names_of, name_then, specs_names, declar
 use Rattle.scope_names.specs.Scopes.{with_name, param_names, receiver_declares}
 use Rattle.go_types.specs.Answers.{given, both, only_if, otherwise, distinct_by, is_among}
 use Rattle.go_types.specs.Types.{GoType, FuncType, named_type, pointer_to}
-use Rattle.go_types.specs.Defined.{Defined}
 use Rattle.go_types.specs.Entities.{Entity, World, variable, refused, Env, meaning, Binds, extend, in_block, is_declared_here, defined_in}
 use Rattle.go_types.specs.TypeNames.{func_type, written_type}
 use Rattle.go_types.specs.Operands.{Operand, Typed, all_typed}

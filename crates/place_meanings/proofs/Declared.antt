@@ -1,12 +1,11 @@
 -- The parts of a file's declarations, where their places say, and the scopes of the file.
-use Rattle.std.specs.Prelude.{◌≡◌, ◌≤◌, ◌<◌, ℕ, zero, suc, Bool, true, false, ◌||◌, List, [], ◌∷◌, ◌++◌, Option, Some, None, refl, map, slice_get}
+use Rattle.std.specs.Prelude.{◌≡◌, ◌≤◌, ◌<◌, ℕ, zero, suc, Bool, false, ◌||◌, List, [], ◌∷◌, ◌++◌, Option, Some, None, refl, map, slice_get}
 use Rattle.std.proofs.Common.{sym, ap, ◌∙◌, subst, arith}
 use Rattle.std.proofs.lemmas.Option.{same_Some}
 use Rattle.std.specs.Option.{option_map}
 use Rattle.go_tree.specs.declared.spans.Span.{Span}
-use Rattle.go_tree.specs.Tree.{NameAt, Stmt, const_decl, var_decl, empty, eval, step, assign, define, return_, break_, continue_, inner, if_, for_, range_, switch, defer, label, ValueSpecs, no_specs, spec}
+use Rattle.go_tree.specs.Tree.{NameAt, const_decl, var_decl, ValueSpecs, no_specs, spec}
 use Rattle.go_tree.specs.File.{TypeSpec, Receiver, Func, Decl, values, types, func, File}
-use Rattle.scope_names.specs.Means.{is_blank}
 use Rattle.scope_names.specs.FreeNames.{names_of}
 use Rattle.scope_names.specs.Scopes.{Scope, not_blank, param_names, func_declares, scopes_of, exprs_scopes, stmts_scopes, func_scopes, values_scopes, decl_scopes, decls_scopes}
 use Rattle.pkg_graph.specs.Package.{Package}
@@ -14,7 +13,7 @@ use Rattle.go_types.specs.Answers.{is_among}
 use Rattle.run_rules.specs.Surroundings.{Place, Seen, alike, value_use, in_constant, is_local}
 use Rattle.run_rules.specs.Places.{written_seen, sig_seen, all_seen, stmts_seen}
 use Rattle.run_rules.specs.Programs.{world, headed_func, params_of, top_place, body_place, constants_at_top, variables_at_top, types_at_top, receiver_seen, func_seen, decl_seen}
-use Rattle.run_rules.specs.Respanned.{type_with, stmts_with, exprs_with, specs_with, type_spec_with, receiver_with, func_with, decl_with}
+use Rattle.run_rules.specs.Respanned.{stmts_with, exprs_with, specs_with, type_spec_with, receiver_with, func_with, decl_with}
 use Rattle.run_laws.proofs.NodeSpans.{AllTypeSpecs, AllReceiver}
 use Rattle.place_meanings.specs.Parts.{AllScoped, AtParts}
 use Rattle.place_meanings.proofs.Nested.{Lies, NestSpecs, NestDecl, NestDecls}
@@ -179,8 +178,8 @@ module _ {S : Type 0} (to : S → Span) (all : List Scope) (At : Place S → ℕ
         let bi = stmts_inside (stmts_with to f.body) (names_of (func_declares (func_with to f))) z.end z.start z.end w.within (omega arith) in
         let head = first_shows to all At holds_there [] (ns ++ bs) n.mid h n.to (from_lower (ns ++ bs) n.mid z.start w.lies.from (from_both ns bs z.start (names_from z.start z.end (func_declares (func_with to f))) (inside_from bs z.start z.end bi))) in
         let body =
-            enter to all At holds_there ns bs (body_place ps k p file f).env.here (not_blank (param_names f.sig.results ++ param_names (params_of ps f))) z.start (body_fits k p file f).here_in (narrow to all At holds_there z.start z.end h (omega (arith, n.from, w.lies.from)) w.lies.to) (omega arith)
-            (λ at m a c. names_hold m at z.start z.end (func_declares (func_with to f)) a c ∙ ap (is_among m) (func_names to f) ∙ sym (body_among ps m f))
+        enter to all At holds_there ns bs (body_place ps k p file f).env.here (not_blank (param_names f.sig.results ++ param_names (params_of ps f))) z.start (body_fits k p file f).here_in (narrow to all At holds_there z.start z.end h (omega (arith, n.from, w.lies.from)) w.lies.to) (omega arith)
+        (λ at m a c. names_hold m at z.start z.end (func_declares (func_with to f)) a c ∙ ap (is_among m) (func_names to f) ∙ sym (body_among ps m f))
         in
         both to all At holds_there (receiver_seen ps (top_place ps k p file) f.receiver ++ sig_seen (top_place ps k p file) f.sig) (stmts_seen (body_place ps k p file f) f.body)
         (both to all At holds_there (receiver_seen ps (top_place ps k p file) f.receiver) (sig_seen (top_place ps k p file) f.sig)

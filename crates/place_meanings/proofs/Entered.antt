@@ -1,7 +1,7 @@
 -- Behind what declares names, its scopes hold these names alone.
-use Rattle.std.proofs.Common.{◌≡◌, ◌≤◌, ◌<◌, ℕ, Bool, true, false, ◌||◌, List, [], ◌∷◌, ◌++◌, map, length, Option, Some, refl, sym, ap, ◌∙◌, arith}
+use Rattle.std.proofs.Common.{◌≡◌, ◌≤◌, ◌<◌, ℕ, Bool, true, false, ◌||◌, List, [], ◌++◌, map, length, Option, Some, refl, sym, ap, ◌∙◌, arith}
 use Rattle.go_tree.specs.declared.spans.Span.{Span}
-use Rattle.go_tree.specs.Tree.{NameAt, TypeExpr, Exprs, Stmt, Stmts, StmtOption, RangeLeft, Arms, Cases, ValueSpecs, const_decl, var_decl, empty, eval, step, assign, define, return_, break_, continue_, inner, if_, for_, range_, switch, defer, label, no_stmt, some_stmt, no_arms, arm, no_specs, spec}
+use Rattle.go_tree.specs.Tree.{NameAt, TypeExpr, Exprs, Stmt, StmtOption, RangeLeft, Arms, ValueSpecs, const_decl, var_decl, empty, eval, step, assign, define, return_, break_, continue_, inner, if_, for_, range_, switch, defer, label, no_stmt, some_stmt, no_arms, arm, no_specs, spec}
 use Rattle.scope_names.specs.Means.{is_blank}
 use Rattle.scope_names.specs.FreeNames.{names_of, declared}
 use Rattle.scope_names.specs.Scopes.{Scope, not_blank, new_names, specs_declare, declares, known_after, range_declares, scopes_of, expr_scopes, exprs_scopes, stmt_scopes, stmts_scopes, stmt_option_scopes, arms_scopes, specs_scopes}
@@ -16,9 +16,9 @@ use Rattle.go_types.specs.Typing.{binds_of, right_values}
 use Rattle.go_types.specs.Typing as typing
 use Rattle.run_rules.specs.Surroundings.{Place, first_declares, left_declares, after_stmt, after_first, after_constants, after_variables, block}
 use Rattle.run_rules.specs.Places.{after_arms}
-use Rattle.run_rules.specs.Respanned.{name_with, expr_with, exprs_with, stmt_with, stmts_with, stmt_option_with, left_with, arms_with, specs_with}
+use Rattle.run_rules.specs.Respanned.{name_with, expr_with, stmt_with, stmts_with, stmt_option_with, left_with, arms_with}
 use Rattle.place_meanings.proofs.Nested.{NestStmt, NestStmtOption, NestArms, NestSpecs}
-use Rattle.place_meanings.proofs.Scoped.{holds, Inside, wider, holds-append, behind_none, names_hold, or_false}
+use Rattle.place_meanings.proofs.Scoped.{holds, Inside, holds-append, behind_none, names_hold, or_false}
 use Rattle.place_meanings.proofs.ScopesInside.{expr_inside, exprs_inside, stmt_inside, stmts_inside}
 use Rattle.place_meanings.proofs.BindsNamed.{or_comm, or_each, among-append, stmt_named, constants_bound, variables_bound}
 use Rattle.place_meanings.proofs.SetsOfNames.{not_blank_among, among_both, declares_among, declared_among, blank_names, declares_names, first_names, left_names}
@@ -192,8 +192,8 @@ module _ {S : Type 0} where
         let rs : List Scope = arms_scopes end (arms_with to r) in
         let none : holds n at zs ≡ false = behind_none n at zs (to z).start (to z).end (stmts_inside (stmts_with to b) [] (to z).end (to z).start (to z).end l.first.within (omega arith)) (omega (arith, l.first.lies.to, l.to, a)) in
         let front : holds n at (is ++ ts ++ zs) ≡ holds n at is =
-            holds-append n at (is ++ ts) zs ∙ ap (λ (x : Bool). holds n at (is ++ ts) || x) none ∙ or_false (holds n at (is ++ ts))
-            ∙ holds-append n at is ts ∙ ap (λ (x : Bool). holds n at is || x) (behind_none n at ts h.mid k.mid (expr_inside (expr_with to t) h.mid k.mid k.first) (omega (arith, k.to, a))) ∙ or_false (holds n at is)
+        holds-append n at (is ++ ts) zs ∙ ap (λ (x : Bool). holds n at (is ++ ts) || x) none ∙ or_false (holds n at (is ++ ts))
+        ∙ holds-append n at is ts ∙ ap (λ (x : Bool). holds n at is || x) (behind_none n at ts h.mid k.mid (expr_inside (expr_with to t) h.mid k.mid k.first) (omega (arith, k.to, a))) ∙ or_false (holds n at is)
         in
         ap (λ (x : Bool). is_among n (names_of p.bound) || x) (holds-append n at (is ++ ts ++ zs) rs ∙ ap (λ (x : Bool). x || holds n at rs) front)
         ∙ or_assoc (is_among n (names_of p.bound)) (holds n at is) (holds n at rs)

@@ -1,13 +1,12 @@
 -- The declarations of a file that reads from its text lie in their order.
-use Rattle.std.proofs.Common.{◌≤◌, ℕ, List, [], ◌∷◌, arith}
+use Rattle.std.proofs.Common.{ℕ, List, arith}
 use Rattle.go_tree.specs.declared.spans.Span.{Span}
-use Rattle.go_tree.specs.Tree.{NameAt}
 use Rattle.go_tree.specs.File.{TypeSpec, Receiver, Decl, File}
 use Rattle.go_words.specs.Terminals.{lexemes}
 use Rattle.go_read.specs.SpellsTypes.{Lexemes}
 use Rattle.go_read.specs.SpellsSpans.{span_to}
 use Rattle.go_read.specs.SpellsFiles.{SpellsTypeSpec, SpellsTypeSpecs, SpellsReceiver, SpellsTop, type_spec_rule, alias_spec_rule, no_type_specs_rule, last_type_spec_rule, more_type_specs_rule, receiver_rule, pointer_receiver_rule, named_receiver_rule, named_pointer_receiver_rule, top_const_rule, top_var_rule, top_type_rule, top_type_group_rule, top_func_rule, top_method_rule, SpellsTops, SpellsFront, no_tops_rule, more_tops_rule, front_rule}
-use Rattle.splice_laws.proofs.Grafts.{Within, here, later, drop}
+use Rattle.splice_laws.proofs.Grafts.{Within, here, drop}
 use Rattle.splice_laws.proofs.Pasts.{imports_past}
 use Rattle.import_places.proofs.TokensStand.{tokens_stand}
 use Rattle.import_places.proofs.ImportsStand.{all_lie}

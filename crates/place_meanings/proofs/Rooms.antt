@@ -1,11 +1,11 @@
 -- Tokens before others, and two bytes between which they stand.
-use Rattle.std.proofs.Common.{◌≡◌, ◌≤◌, ◌<◌, ℕ, List, [], ◌∷◌, refl, sym, ap, subst, ◌∙◌, arith}
+use Rattle.std.proofs.Common.{◌≡◌, ◌≤◌, ◌<◌, ℕ, List, [], ◌∷◌, refl, sym, subst, ◌∙◌, arith}
 use Rattle.go_tree.specs.declared.spans.Span.{Span}
 use Rattle.go_tree.specs.declared.tokens.Token.{Token}
-use Rattle.go_words.specs.Terminals.{Terminal, Lexeme, lex, semicolon}
+use Rattle.go_words.specs.Terminals.{Terminal, lex, semicolon}
 use Rattle.go_read.specs.SpellsTypes.{Lexemes}
-use Rattle.go_read.specs.SpellsSpans.{start_of, span_to}
-use Rattle.splice_laws.proofs.Grafts.{Within, here, later, drop, both_within}
+use Rattle.go_read.specs.SpellsSpans.{span_to}
+use Rattle.splice_laws.proofs.Grafts.{Within, here, later, both_within}
 use Rattle.import_places.proofs.ImportsStand.{IsWord, Lie, end_before, end_is}
 use Rattle.place_meanings.proofs.Nested.{Lies}
 

@@ -11,7 +11,6 @@ abbrev pub keep : {S : Type 0} → S → S
 keep s = s
 
 module _ {S : Type 0} where
-
   names-same : (xs : List (NameAt S)) → map (name_with keep) xs ≡ xs
   names-same [] = refl
   names-same (x ∷ xs) = λ w. x ∷ names-same xs w

@@ -1,13 +1,11 @@
 -- The scopes in an expression or a statement hold where it stands; what a statement declares holds behind it.
-use Rattle.std.proofs.Common.{◌≡◌, ◌≤◌, ◌<◌, ℕ, Bool, false, ◌||◌, List, [], ◌∷◌, ◌++◌, refl, sym, ap, ◌∙◌, arith}
+use Rattle.std.proofs.Common.{◌≤◌, ℕ, List, [], ◌++◌, arith}
 use Rattle.go_tree.specs.declared.spans.Span.{Span}
-use Rattle.go_tree.specs.Tree.{NameAt, TypeExpr, Expr, Exprs, ExprOption, Elems, Value, ValueOption, Stmt, Stmts, StmtOption, BlockOption, RangeLeft, Arms, Cases, ValueSpecs, ident, int_lit, rune_lit, str_lit, composite, selector, index, slice, call, func_lit, type_operand, unary, binary, star, no_exprs, expr_and, no_expr, some_expr, no_elems, elem, plain, braced, no_value, some_value, const_decl, var_decl, empty, eval, step, assign, define, return_, break_, continue_, inner, if_, for_, range_, switch, defer, label, no_stmts, stmt_and, no_stmt, some_stmt, no_block, some_block, nothing, assigns, defines, no_arms, arm, no_cases, case, no_specs, spec}
-use Rattle.go_tree.specs.File.{Decl, values, types, func}
+use Rattle.go_tree.specs.Tree.{Expr, Exprs, ExprOption, Elems, Value, ValueOption, Stmt, Stmts, StmtOption, BlockOption, RangeLeft, Arms, Cases, ValueSpecs, ident, int_lit, rune_lit, str_lit, composite, selector, index, slice, call, func_lit, type_operand, unary, binary, star, no_exprs, expr_and, no_expr, some_expr, no_elems, elem, plain, braced, no_value, some_value, const_decl, var_decl, empty, eval, step, assign, define, return_, break_, continue_, inner, if_, for_, range_, switch, defer, label, no_stmts, stmt_and, no_stmt, some_stmt, no_block, some_block, nothing, assigns, defines, no_arms, arm, no_cases, case, no_specs, spec}
 use Rattle.scope_names.specs.FreeNames.{names_of}
-use Rattle.scope_names.specs.Scopes.{Scope, expr_span, not_blank, new_names, specs_declare, declares, known_after, range_declares, sig_declares, scopes_of, expr_scopes, exprs_scopes, expr_option_scopes, elems_scopes, value_scopes, value_option_scopes, stmt_scopes, stmts_scopes, stmt_option_scopes, block_option_scopes, left_scopes, arms_scopes, cases_scopes, specs_scopes, func_declares, values_scopes, decl_scopes, decls_scopes}
-use Rattle.go_types.specs.Answers.{is_among}
-use Rattle.place_meanings.proofs.Nested.{Lies, NestExpr, NestExprs, NestExprOption, NestElems, NestValue, NestValueOption, NestStmt, NestStmts, NestStmtOption, NestBlockOption, NestLeft, NestArms, NestCases, NestSpecs, NestDecl, NestDecls, expr_lies}
-use Rattle.place_meanings.proofs.Scoped.{holds, Inside, wider, joined, paired, names_inside, holds-append, behind_none, names_hold}
+use Rattle.scope_names.specs.Scopes.{expr_span, not_blank, new_names, known_after, range_declares, sig_declares, scopes_of, expr_scopes, exprs_scopes, expr_option_scopes, elems_scopes, value_scopes, value_option_scopes, stmt_scopes, stmts_scopes, stmt_option_scopes, block_option_scopes, left_scopes, arms_scopes, cases_scopes, specs_scopes}
+use Rattle.place_meanings.proofs.Nested.{NestExpr, NestExprs, NestExprOption, NestElems, NestValue, NestValueOption, NestStmt, NestStmts, NestStmtOption, NestBlockOption, NestLeft, NestArms, NestCases, NestSpecs, expr_lies}
+use Rattle.place_meanings.proofs.Scoped.{Inside, wider, joined, paired, names_inside}
 
 mutual
   pub expr_inside : (e : Expr Span) (lo hi : ℕ) → NestExpr e lo hi → Inside lo hi (expr_scopes e)

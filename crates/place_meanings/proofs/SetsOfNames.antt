@@ -1,5 +1,5 @@
 -- What a block declares, as a set of names: the same for a tree with other spans, and whichever names were known before.
-use Rattle.std.proofs.Common.{◌≡◌, ℕ, Bool, true, false, not, ◌||◌, List, [], ◌∷◌, ◌++◌, map, Option, Some, None, if◌then◌else◌, refl, sym, ap, ◌∙◌, bytes_eq, subst}
+use Rattle.std.proofs.Common.{◌≡◌, ℕ, Bool, true, false, not, ◌||◌, List, [], ◌∷◌, ◌++◌, map, Option, Some, None, if◌then◌else◌, refl, sym, ap, ◌∙◌, bytes_eq}
 use Rattle.std.specs.Option.{option_map}
 use Rattle.std.proofs.lemmas.List.{map-append}
 use Rattle.go_tree.specs.Tree.{NameAt, Param, Sig, Stmt, const_decl, var_decl, empty, eval, step, assign, define, return_, break_, continue_, inner, if_, for_, range_, switch, defer, label, StmtOption, no_stmt, some_stmt, RangeLeft, nothing, assigns, defines, ValueSpecs, no_specs, spec}
@@ -12,9 +12,9 @@ use Rattle.scope_tables.proofs.RowLaws.{same_name}
 use Rattle.pkg_graph.specs.Package.{Package}
 use Rattle.go_types.specs.Answers.{is_among}
 use Rattle.run_rules.specs.Surroundings.{first_declares, left_declares}
-use Rattle.run_rules.specs.Programs.{receiver_param, with_receiver, params_of}
+use Rattle.run_rules.specs.Programs.{with_receiver, params_of}
 use Rattle.run_rules.specs.Respanned.{name_with, param_with, sig_with, stmt_with, stmt_option_with, left_with, specs_with, receiver_with, func_with}
-use Rattle.place_meanings.proofs.BindsNamed.{or_left, or_right, or_comm, or_each, among-append}
+use Rattle.place_meanings.proofs.BindsNamed.{or_left, or_right, or_each, among-append}
 
 or_same : (b c x y : Bool) → (b || x) ≡ (b || y) → (b || (c || x)) ≡ (b || (c || y))
 or_same true c x y e = refl
@@ -161,6 +161,7 @@ module _ {S : Type 0} where
       ∙ ap (λ (b : Bool). is_among n (names_of (not_blank (receiver_declares f.receiver))) || b) (sym (among_both n (not_blank (param_names f.sig.params)) (not_blank (param_names f.sig.results))))
       ∙ ap (λ (xs : List (NameAt S)). is_among n (names_of (not_blank (receiver_declares f.receiver))) || is_among n (names_of xs)) (sym (not_blank-append (param_names f.sig.params) (param_names f.sig.results)))
       ∙ sym (among_both n (not_blank (receiver_declares f.receiver)) (sig_declares f.sig))
+
   pub func_among : (n : List ℕ) (f : Func S) → is_blank n ≡ false → is_among n (names_of (receiver_declares f.receiver) ++ names_of (param_names f.sig.params) ++ names_of (param_names f.sig.results)) ≡ true
       → is_among n (names_of (func_declares f)) ≡ true
   func_among n f q e =

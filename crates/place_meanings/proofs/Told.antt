@@ -1,16 +1,16 @@
 -- What `names_of_file` tells of a file with other spans.
-use Rattle.std.proofs.Common.{◌≡◌, ◌∙◌, ℕ, suc, Bool, true, false, List, [], ◌∷◌, ◌++◌, Option, Some, None, refl, sym, ap, map, bytes_eq, cond}
+use Rattle.std.proofs.Common.{◌≡◌, ◌∙◌, ℕ, suc, Bool, true, false, List, [], ◌∷◌, ◌++◌, Option, Some, None, refl, sym, ap, map, bytes_eq}
 use Rattle.std.specs.Prelude.{if◌then◌else◌}
 use Rattle.std.specs.Option.{option_map}
 use Rattle.go_tree.specs.declared.spans.Span.{Span}
-use Rattle.go_tree.specs.Tree.{NameAt, Stmt, const_decl, var_decl, empty, eval, step, assign, define, return_, break_, continue_, inner, if_, for_, range_, switch, defer, label, ValueSpecs, no_specs, spec}
-use Rattle.go_tree.specs.File.{ImportSpec, ImportDecl, TypeSpec, Receiver, Func, Decl, values, types, func, File}
+use Rattle.go_tree.specs.Tree.{NameAt, const_decl, var_decl, empty, eval, step, assign, define, return_, break_, continue_, inner, if_, for_, range_, switch, defer, label, ValueSpecs, no_specs, spec}
+use Rattle.go_tree.specs.File.{ImportSpec, ImportDecl, TypeSpec, Receiver, Decl, values, types, func}
 use Rattle.scope_names.specs.Means.{Environment, is_blank, binding}
 use Rattle.scope_names.specs.declared.names.ImportName.{ImportName}
 use Rattle.pkg_graph.specs.Package.{SourceTree, Package, specs_in, import_specs}
-use Rattle.pkg_graph.specs.Members.{Target, member, specs_names, decl_names, unless_method, block_names, items_from, decls_from, files_from, package_block, package_name, name_or, import_name, names_of_file}
+use Rattle.pkg_graph.specs.Members.{Target, member, specs_names, unless_method, block_names, items_from, decls_from, files_from, package_name, name_or, import_name, names_of_file}
 use Rattle.run_rules.specs.Sites.{Where}
-use Rattle.run_rules.specs.Respanned.{name_with, import_spec_with, import_decl_with, type_spec_with, receiver_with, func_with, decl_with, stmt_with, specs_with, source_with, file_with, package_with, packages_with}
+use Rattle.run_rules.specs.Respanned.{name_with, import_spec_with, import_decl_with, type_spec_with, receiver_with, decl_with, specs_with, source_with, file_with, package_with, packages_with}
 use Rattle.place_meanings.specs.Laws.{AreNamesOf}
 
 abbrev names_in : Environment Target → List (List ℕ)

@@ -1,7 +1,6 @@
 -- At each part of a declaration the scopes that hold where it starts are those of the names that are bound at its place.
 use Rattle.std.specs.Prelude.{◌≡◌, ◌≤◌, ◌<◌, ℕ, suc, ◌+◌, Bool, true, false, ◌||◌, List, [], ◌∷◌, ◌++◌, Option, Some, None, is_some, refl, map, if◌then◌else◌}
 use Rattle.std.proofs.Common.{sym, ap, ◌∙◌, subst, arith, append_assoc}
-use Rattle.std.specs.Option.{option_map}
 use Rattle.go_tree.specs.declared.spans.Span.{Span}
 use Rattle.go_tree.specs.Tree.{Fields, named, pointer, slice_type, map_type, struct_type, no_fields, field}
 use Rattle.go_tree.specs.Tree.{NameAt, Param, Sig, TypeExpr, Expr, ident, int_lit, rune_lit, str_lit, composite, selector, index, slice, call, func_lit, type_operand, unary, binary, star, Exprs, no_exprs, expr_and, ExprOption, no_expr, some_expr, Elems, no_elems, elem, Value, plain, braced, ValueOption, no_value, some_value, Stmt, const_decl, var_decl, empty, eval, step, assign, define, return_, break_, continue_, inner, if_, for_, range_, switch, defer, label, Stmts, no_stmts, stmt_and, StmtOption, no_stmt, some_stmt, BlockOption, no_block, some_block, RangeLeft, nothing, assigns, defines, Arms, no_arms, arm, Cases, no_cases, case, ValueSpecs, no_specs, spec}
@@ -13,24 +12,25 @@ use Rattle.go_types.specs.Entities.{defined_in}
 use Rattle.go_types.specs.TypeNames.{type_meant, func_type}
 use Rattle.go_types.specs.Literals.{is_struct, literal_type}
 use Rattle.go_types.specs.Typing.{parts, all_parts}
-use Rattle.run_rules.specs.Surroundings.{Use, whole, stored, updated, called, deferred_call, alone, other, a_slot, Place, Seen, seen, seen_type, seen_stmt, alike, into_type, head_use, later_uses, arg_uses, unary_use, operand_use, first_operand_use, right_uses, every_use, value_use, return_uses, elem_use, key_use, inner_slot, last_slot, in_slot, callee_place, comma_slot, elem_closed, after_stmt, after_first, block, looping, switching, in_heading, at_stmt, plain_slot, ranged, in_literal, first_declares, left_declares, repeated_by, in_constant, after_constants, before_repeats, after_variables, is_old}
-use Rattle.go_types.specs.Bodies.{Ctx, labelled, body_ctx, body_binds, literal_env}
-use Rattle.go_types.specs.Declarations.{Repeated, nothing_to_repeat, binds_or}
+use Rattle.run_rules.specs.Surroundings.{Use, whole, stored, updated, called, deferred_call, alone, other, a_slot, Place, Seen, seen, seen_stmt, alike, into_type, head_use, later_uses, arg_uses, unary_use, operand_use, first_operand_use, right_uses, every_use, value_use, return_uses, elem_use, key_use, inner_slot, last_slot, in_slot, callee_place, comma_slot, elem_closed, after_stmt, after_first, block, looping, switching, in_heading, at_stmt, plain_slot, ranged, in_literal, first_declares, left_declares, repeated_by, in_constant, after_constants, before_repeats, after_variables, is_old}
+use Rattle.go_types.specs.Bodies.{labelled, body_ctx, literal_env}
+use Rattle.go_types.specs.Declarations.{Repeated, nothing_to_repeat}
 use Rattle.std.proofs.lemmas.Bool.{cond_both}
 use Rattle.run_rules.specs.Places.{type_seen, written_seen, params_seen, sig_seen, old_seen, after_arms, expr_seen, all_seen, option_seen, elems_seen, key_seen, value_seen, stmt_seen, stmts_seen, first_seen, block_seen, left_seen, arms_seen, cases_seen, constants_seen, variables_seen}
-use Rattle.scope_names.specs.FreeNames.{names_of, sig_names}
+use Rattle.scope_names.specs.FreeNames.{names_of}
 use Rattle.scope_names.specs.Scopes.{Scope, expr_span, not_blank, new_names, declares, known_after, range_declares, sig_declares, scopes_of, expr_scopes, exprs_scopes, expr_option_scopes, elems_scopes, value_scopes, value_option_scopes, stmt_scopes, stmts_scopes, stmt_option_scopes, block_option_scopes, left_scopes, arms_scopes, cases_scopes, specs_scopes}
 use Rattle.run_rules.specs.Surroundings.{Slot, is_local}
-use Rattle.run_rules.specs.Sites.{type_span, named_in, named_in_fields}
+use Rattle.run_rules.specs.Sites.{named_in, named_in_fields}
 use Rattle.run_rules.specs.Respanned.{name_with, type_with, fields_with, type_option_with, param_with, sig_with, expr_with, exprs_with, expr_option_with, elems_with, value_option_with, value_with, stmt_with, stmts_with, stmt_option_with, block_option_with, left_with, arms_with, cases_with, specs_with}
 use Rattle.run_laws.proofs.NodeSpans.{AllType, AllFields, AllTypeOption, AllParams, AllSig, AllNames}
-use Rattle.place_meanings.specs.Parts.{IsScoped, AllScoped, AtTypes, AtPart, AtParts}
+use Rattle.place_meanings.specs.Parts.{AllScoped, AtTypes, AtParts}
 use Rattle.place_meanings.proofs.Nested.{Lies, NestExpr, NestExprs, NestExprOption, NestElems, NestValue, NestValueOption, NestStmt, NestStmts, NestStmtOption, NestBlockOption, NestLeft, NestArms, NestCases, NestSpecs, expr_lies, expr_at}
 use Rattle.place_meanings.proofs.Scoped.{holds, Inside, wider, paired, holds-append, before_none, behind_none, names_hold, or_false, From, names_from, inside_from, from_lower, from_both, none_from}
-use Rattle.place_meanings.proofs.ScopesInside.{expr_inside, exprs_inside, expr_option_inside, elems_inside, value_inside, value_option_inside, stmt_inside, stmts_inside, stmt_option_inside, block_option_inside, left_inside, arms_inside, cases_inside, specs_inside}
+use Rattle.place_meanings.proofs.ScopesInside.{expr_inside, exprs_inside, expr_option_inside, elems_inside, value_inside, value_option_inside, stmts_inside, stmt_option_inside, block_option_inside, left_inside, arms_inside, cases_inside, specs_inside}
 use Rattle.place_meanings.proofs.BindsNamed.{literal_here}
 use Rattle.place_meanings.proofs.SetsOfNames.{signature_among, signature_names}
 use Rattle.place_meanings.proofs.Entered.{Bound, none_bound, Fits, no_fits, first_bound, constants_here, variables_here, put_before, names_entered, left_entered, first_entered, post_entered, stmt_entered, fits_after, arms_behind}
+
 -- at the start of a literal's body
 abbrev pub literal_place : {S : Type 0} → Place S → Sig S → Option FuncType → Place S
 literal_place p g o =
@@ -168,9 +168,9 @@ module _ {S : Type 0} (to : S → Span) (all : List Scope) (At : Place S → ℕ
       let l = expr_lies (expr_with to e) lo hi k in
       let own = expr_inside (expr_with to e) s.start s.end (expr_at (expr_with to e) lo hi s.start s.end k (omega arith) (omega arith)) in
       let there : At p s.start =
-          holds_there p s.start h.here_in
-          (λ n. h.said s.start n l.from (omega (arith, l.filled, l.to))
-          ∙ ap (λ (t : Bool). is_among n (names_of p.bound) || t) (before_none n s.start (expr_scopes (expr_with to e)) s.start s.end own (omega arith)) ∙ or_false (is_among n (names_of p.bound)))
+      holds_there p s.start h.here_in
+      (λ n. h.said s.start n l.from (omega (arith, l.filled, l.to))
+      ∙ ap (λ (t : Bool). is_among n (names_of p.bound) || t) (before_none n s.start (expr_scopes (expr_with to e)) s.start s.end own (omega arith)) ∙ or_false (is_among n (names_of p.bound)))
       in
       record { shown = λ q. (subst (λ (s : Span). At p s.start) (span_with to e) there, tt) }
 

@@ -1,6 +1,6 @@
 use Rattle.run_rules.specs.Run.{here_of}
 use Rattle.run_rules.specs.Steps.{At}
-use Rattle.place_meanings.proofs.PlacesMean.{places_mean, read_places_mean, files_named, read_files_named}
+use Rattle.place_meanings.proofs.PlacesMean.{places_mean, read_places_mean}
 use Rattle.place_meanings.proofs.laws.places_mean_as_tables_say.Goals as goal
 
 pub returns-clause-read : goal.returns-clause-read
