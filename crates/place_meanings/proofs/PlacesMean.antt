@@ -8,8 +8,8 @@ use Rattle.pkg_graph.specs.Members.{names_of_file}
 use Rattle.run_rules.specs.Run.{here_of}
 use Rattle.run_rules.specs.Inlining.{ReadsAs}
 use Rattle.run_rules.specs.Respanned.{file_with, package_with, packages_with}
-use Rattle.place_meanings.specs.Agreement.{AgreesAt}
-use Rattle.place_meanings.specs.Laws.{AreNamesOf, PlacesMeanAsTablesSay, ReadFilesHaveTheirNames, StandingFilesHaveTheirNames}
+use Rattle.place_meanings.specs.Agreement.{BlockIsLocal, AgreesAt}
+use Rattle.place_meanings.specs.Laws.{AreNamesOf, BlocksAreLocal, PlacesMeanAsTablesSay, ReadFilesHaveTheirNames, StandingFilesHaveTheirNames}
 use Rattle.place_meanings.proofs.FilesNest.{FileNests, file_nests}
 use Rattle.place_meanings.proofs.Declared.{decl_parts}
 use Rattle.place_meanings.proofs.Agreed.{agrees}
@@ -27,6 +27,15 @@ pub read_places_mean : PlacesMeanAsTablesSay Span keep (λ f. f)
 read_places_mean ps w text names t i d reads tells table there scoped =
     places_mean Span keep ps w text names t i d (subst (λ (f : File Span). ReadsAs text f) (sym (file-same w.source.tree)) reads) tells
     (subst (λ (f : File Span). IsTableOf names f t) (sym (file-same w.source.tree)) table) there scoped
+
+pub blocks_local : (S : Type 0) (to : S → Span) → BlocksAreLocal S to (file_with to)
+blocks_local S to ps w text i d reads there scoped =
+    let n : FileNests (file_with to w.source.tree) = file_nests text (file_with to w.source.tree) reads in
+    decl_parts to (λ p at. BlockIsLocal p) ps w.number w.of w.source.tree i d 0 n.end n.nests there (λ q at i h. i) scoped
+
+pub read_blocks_local : BlocksAreLocal Span keep (λ f. f)
+read_blocks_local ps w text i d reads there scoped =
+    blocks_local Span keep ps w text i d (subst (λ (f : File Span). ReadsAs text f) (sym (file-same w.source.tree)) reads) there scoped
 
 pub files_named : StandingFilesHaveTheirNames
 files_named ps w = told here_of ps w

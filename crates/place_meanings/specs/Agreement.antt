@@ -3,10 +3,12 @@
 use Rattle.std.specs.Prelude.{◌≡◌, ℕ, Bool, true, false, List, Option, Some, None, slice_get}
 use Rattle.scope_names.specs.declared.names.Entity.{Entity}
 use Rattle.scope_names.specs.declared.names.Entity.TheVariants.{Local, Import, Package, Universe}
+use Rattle.scope_names.specs.Means.{is_blank}
 use Rattle.scope_tables.specs.Table.{Table, meaning_in}
 use Rattle.pkg_graph.specs.Package as packages
 use Rattle.pkg_graph.specs.Members.{Target, imported, predeclared, package_block}
 use Rattle.go_types.specs.Answers.{given}
+use Rattle.go_types.specs.Entities.{is_declared_here}
 use Rattle.run_rules.specs.Surroundings.{Place, is_local}
 use Rattle.run_rules.specs.Sites.{Where, outer_meaning}
 
@@ -14,6 +16,10 @@ use Rattle.run_rules.specs.Sites.{Where, outer_meaning}
 abbrev pub means_local : Option Entity → Bool
 means_local (Some (Local s)) = true
 means_local m = false
+
+-- What the innermost block around a place has declared before it, but for `_`, is local there.
+abbrev pub BlockIsLocal : {S : Type 0} → Place S → Type 0
+BlockIsLocal p = (n : List ℕ) → is_declared_here p.env n ≡ true → is_blank n ≡ false → is_local p n ≡ true
 
 module _ {S : Type 0} where
   -- what an entity of a file is among the packages; a declaration in a function is nothing of theirs

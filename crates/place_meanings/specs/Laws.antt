@@ -14,7 +14,7 @@ use Rattle.run_rules.specs.Steps.{At}
 use Rattle.run_rules.specs.Run.{here_of}
 use Rattle.run_rules.specs.Inlining.{ReadsAs}
 use Rattle.run_rules.specs.Respanned.{file_with, package_with, packages_with}
-use Rattle.place_meanings.specs.Agreement.{AgreesAt}
+use Rattle.place_meanings.specs.Agreement.{BlockIsLocal, AgreesAt}
 use Rattle.place_meanings.specs.Parts.{AllScoped, AtParts}
 
 -- What is told of a file's names: its imports and the names of its package's block.
@@ -31,6 +31,14 @@ PlacesMeanAsTablesSay S to as_it_stands =
     → ReadsAs text (as_it_stands w.source.tree) → AreNamesOf ps w names → IsTableOf names (as_it_stands w.source.tree) t
     → slice_get w.source.tree.decls i ≡ Some d → AllScoped (decl_seen ps w.number w.of w.source.tree d)
     → AtParts to (AgreesAt ps w t) (decl_seen ps w.number w.of w.source.tree d)
+
+-- At each part of such a declaration the names of the innermost block are local.
+abbrev pub BlocksAreLocal : (S : Type 0) → (S → Span) → (File S → File Span) → Type 0
+BlocksAreLocal S to as_it_stands =
+    (ps : List (Package S)) (w : Where S) (text : FileText) (i : ℕ) (d : Decl S)
+    → ReadsAs text (as_it_stands w.source.tree) → slice_get w.source.tree.decls i ≡ Some d
+    → AllScoped (decl_seen ps w.number w.of w.source.tree d)
+    → AtParts to (λ p at. BlockIsLocal p) (decl_seen ps w.number w.of w.source.tree d)
 
 -- What `names_of_file` tells of a file as read are its names, and of a file as it stands too.
 abbrev pub ReadFilesHaveTheirNames : Type 0

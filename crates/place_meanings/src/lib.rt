@@ -4,4 +4,4 @@
 
 mod laws;
 
-pub use laws::{files_have_their_names, places_mean_as_tables_say};
+pub use laws::{blocks_are_local, files_have_their_names, places_mean_as_tables_say};
