@@ -1,0 +1,3 @@
+pub mod MembersMeant
+pub mod ConstantsAlone
+pub mod Sited

@@ -1,0 +1,12 @@
+//! The members of package blocks that parts of a declaration name.
+#![tactic(auto)]
+
+mod laws;
+mod names;
+mod parts;
+mod uses;
+
+pub use laws::marked_members_are_sites;
+pub use names::FileScopes;
+pub use parts::member_uses;
+pub use uses::MemberUse;
