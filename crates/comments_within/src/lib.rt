@@ -1,0 +1,6 @@
+//! Comments that lie in a span of a text.
+#![tactic(auto)]
+
+mod within;
+
+pub use within::comment_lies_in;
