@@ -1,0 +1,4 @@
+pub mod Walks
+pub mod PlaceLaws
+pub mod MemberLaws
+pub mod ImportLaws

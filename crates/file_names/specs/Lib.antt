@@ -1,0 +1,4 @@
+pub mod Places
+pub mod DeclaredNames
+pub mod Members
+pub mod Imports
