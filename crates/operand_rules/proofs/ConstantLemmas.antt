@@ -1,12 +1,12 @@
 -- A table of constants, with one more.
-use Rattle.std.specs.Prelude.{◌≡◌, ℕ, ◌<◌, false, List, [], ◌∷◌, ◌++◌, length, get_or, refl}
+use Rattle.std.specs.Prelude.{◌≡◌, ℕ, ◌+◌, ◌-◌, ◌<◌, ◌≤◌, false, List, [], ◌∷◌, ◌++◌, length, get_or, refl}
 use Rattle.std.proofs.Common.{arith, length-append}
 use Rattle.std.proofs.Math.ListN.{get_or-append}
 use Rattle.std.proofs.Math.Seq.{get_or-append_seam}
 use mathlib.Core.Path.{ap, ◌∙◌}
 use Rattle.const_eval.specs.declared.consts.Const.{Const}
 use Rattle.const_eval.specs.declared.consts.Const.TheVariants.{Truth}
-use Rattle.operand_rules.specs.Constants.{Grown, const_at}
+use Rattle.operand_rules.specs.Constants.{Grown, bytes_in, bytes_of, const_at}
 
 -- the constants that were there stay
 pub grown_by_one : (old new : List Const) (v : Const) → new ≡ old ++ v ∷ [] → Grown old new
@@ -35,3 +35,22 @@ added_at old new v i e d =
 pub added_within :
     (old new : List Const) (v : Const) (i : ℕ) → new ≡ old ++ v ∷ [] → i ≡ length old → i < length new
 added_within old new v i e d = omega (arith, d, ap length e, length-append old (v ∷ []))
+
+-- the bytes of constants with one more
+pub bytes_with : (cs : List Const) (v : Const) → bytes_in (cs ++ v ∷ []) ≡ bytes_in cs + bytes_of v
+bytes_with [] v = omega arith
+bytes_with (c ∷ cs) v = omega (arith, bytes_with cs v)
+
+-- the room that is left with one more
+pub room_left :
+    (old new : List Const) (v : Const) (all room size : ℕ) → new ≡ old ++ v ∷ [] → size ≡ bytes_of v → size ≤ room →
+    bytes_in old + room ≡ all → bytes_in new + (room - size) ≡ all
+room_left old new v all room size e d h i =
+    omega (arith, ap bytes_in e ∙ bytes_with old v, d, h, i)
+
+-- the bytes stay within the bound
+pub bytes_within :
+    (old new : List Const) (v : Const) (all room size : ℕ) → new ≡ old ++ v ∷ [] → size ≡ bytes_of v → size ≤ room →
+    bytes_in old + room ≡ all → bytes_in new ≤ all
+bytes_within old new v all room size e d h i =
+    omega (arith, ap bytes_in e ∙ bytes_with old v, d, h, i)

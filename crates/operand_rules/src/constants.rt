@@ -1,30 +1,47 @@
 //! The values of constants, by numbers (Go specification, Constants).
 
-ghost use Rattle.std.specs.Prelude.{◌≡◌, ◌<◌, [], ◌∷◌, ◌++◌, length, IfOk, OnErr, OnOk};
-ghost use Rattle.operand_rules.specs.Constants.{const_at};
+ghost use Rattle.std.specs.Prelude.{◌≡◌, ◌<◌, ◌≤◌, [], ◌∷◌, ◌++◌, length, IfOk, OnErr, OnOk};
+ghost use Rattle.operand_rules.specs.Constants.{bytes_of, bytes_in, const_at};
 
 use const_eval::Const;
 use go_tree::NoMemory;
-use std::alloc::Global;
+use std::alloc::{AllocError, Global};
 use std::marker::Model;
 
 /// The number of a constant.
 #[derive(Clone, Copy, Debug, PartialEq, Eq)]
 pub struct ConstId(pub usize);
 
-/// Constants by their numbers.
+/// The most bytes that the strings of all constants have together.
+pub const MAX_CONST_BYTES: usize = 67_108_864;
+
+/// How many bytes a constant has, where it is a string.
+fn bytes_of(value: &Const) -> usize
+    ensures { result ≡ bytes_of value.now }
+{
+    match value {
+        Const::Bytes(text) => text.items().len(),
+        Const::Whole(_) | Const::Truth(_) => 0,
+    }
+}
+
+/// Constants by their numbers, with the bytes that their strings may have besides.
 #[derive(Drop)]
 pub struct ConstTable {
     values: Vec<Const>,
+    room: usize,
 }
 
 impl Model for ConstTable {
-    ghost use Rattle.std.specs.Prelude.{List};
+    ghost use Rattle.std.specs.Prelude.{◌≡◌, ◌+◌, List};
     ghost use Rattle.const_eval.specs.declared.consts.Const.{Const};
+    ghost use Rattle.operand_rules.specs.Constants.{bytes_in};
 
     ghost Value = { List Const };
 
     ghost view = { λ a. a.values.items };
+
+    ghost invariant = { λ a. bytes_in a.values.items + a.room ≡ 67108864 };
 }
 
 impl ConstTable {
@@ -34,6 +51,7 @@ impl ConstTable {
     {
         ConstTable {
             values: Vec::new(alloc),
+            room: MAX_CONST_BYTES,
         }
     }
 
@@ -45,14 +63,21 @@ impl ConstTable {
         &self.values[c.0]
     }
 
-    /// Adds a constant behind the others.
+    /// Adds a constant behind the others. Where their strings would have more than `MAX_CONST_BYTES` bytes together, the
+    /// answer is want of memory.
     pub fn keep(&mut self, value: Const) -> Result<ConstId, NoMemory>
         ensures added { OnOk result (self.new ≡ self.old ++ value ∷ []) }
         ensures number { IfOk result (λ c. c.0 ≡ length self.old) }
         ensures same { OnErr result (self.new ≡ self.old) }
+        ensures bounded { bytes_in self.new ≤ MAX_CONST_BYTES }
     {
+        let bytes = bytes_of(&value);
+        if bytes > self.room {
+            return Err(AllocError);
+        }
         let number = self.values.len();
         self.values.push(value)?;
+        self.room -= bytes;
         Ok(ConstId(number))
     }
 }

@@ -18,7 +18,7 @@ mod values;
 pub use bounds::both_exact;
 pub use calculations::{arithmetic, binary_applies};
 pub use common::{common_type, joins};
-pub use constants::{ConstId, ConstTable};
+pub use constants::{ConstId, ConstTable, MAX_CONST_BYTES};
 pub use conversions::conversion;
 pub use fitting::{fits, has_nil};
 pub use folding::folded;

@@ -6,5 +6,5 @@ pub mod FindLaws
 pub mod PlanLaws
 pub mod FaultLaws
 pub mod AssemblyLaws
-mod OrderLaws
+pub mod OrderLaws
 mod FaultsUnique
