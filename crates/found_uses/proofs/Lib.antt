@@ -1,0 +1,2 @@
+pub mod NoRecursive
+mod Example
