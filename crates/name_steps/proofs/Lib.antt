@@ -1,0 +1,3 @@
+pub mod EntityLemmas
+pub mod ConstantLemmas
+pub mod LocatedLemmas

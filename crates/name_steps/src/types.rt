@@ -1,0 +1,45 @@
+//! Types as operands (Go specification, Conversions; Built-in functions).
+
+ghost use Rattle.std.specs.Prelude.{Some};
+ghost use Rattle.go_tree.specs.View.{type_of};
+ghost use Rattle.go_types.specs.Answers.{given};
+ghost use Rattle.go_types.specs.Entities as go_entity;
+ghost use Rattle.go_types.specs.Operands.{a_type};
+ghost use Rattle.go_types.specs.TypeNames.{type_meant};
+ghost use Rattle.typed_names.specs.Scopes.{env_at};
+ghost use Rattle.checker_tables.specs.Ready.{AreReady, Keeps};
+ghost use Rattle.operand_answers.specs.Known.{Stands};
+ghost use Rattle.operand_answers.specs.Located.{GivesAt};
+
+use access_rules::Place;
+use checker_tables::{Tables, meant};
+use go_tree::TypeExpr;
+use operand_answers::Located;
+use operand_modes::Operand;
+use operand_rules::Refusal;
+use std::alloc::Global;
+use typed_names::{Blocks, Scope};
+
+/// What a type in the source is as an operand.
+pub fn type_operand(
+    alloc: Global,
+    tables: &mut Tables,
+    scope: &Scope,
+    blocks: &Blocks,
+    t: &TypeExpr,
+) -> Result<Located, Refusal>
+    requires stands { Stands tables.old blocks.now scope.now }
+    ensures ready { AreReady tables.new }
+    ensures keeps { Keeps tables.old tables.new }
+    ensures gives { GivesAt tables.new.env tables.new.consts
+        (given (type_meant (env_at tables.old.env tables.old.consts blocks.now scope.now) (type_of t.now))
+        (λ u. Some (a_type u))) go_entity.elsewhere result }
+{
+    match meant(alloc, tables, scope, blocks, t) {
+        Ok(t) => Ok(Located {
+            operand: Operand::TypeOperand(t),
+            place: Place::Elsewhere,
+        }),
+        Err(refusal) => Err(refusal),
+    }
+}

@@ -1,0 +1,4 @@
+pub mod KeptLemmas
+pub mod AnswerLemmas
+pub mod StoredLemmas
+pub mod AddedLemmas

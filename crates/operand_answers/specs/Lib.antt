@@ -1,0 +1,3 @@
+pub mod Located
+pub mod Lists
+pub mod Known
