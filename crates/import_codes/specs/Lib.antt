@@ -1,0 +1,2 @@
+pub mod PackagesMoved
+pub mod Laws
