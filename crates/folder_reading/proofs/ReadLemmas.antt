@@ -5,6 +5,7 @@ use Rattle.std.proofs.lemmas.List.{map-append, take_all, take_more, at_drop_more
 use Rattle.std.proofs.lemmas.List.Elements.{All-push}
 use Rattle.go_tree.specs.declared.limits.TheConstants.{MAX_FILE_BYTES}
 use Rattle.fix_io.specs.Files.{HeldFile, bytes_at, no_file, paths}
+use Rattle.module_files.specs.PathLists.{path_at}
 use Rattle.source_files.specs.declared.files.SourceFile.{SourceFile}
 use Rattle.folder_reading.specs.declared.limits.TheConstants.{MAX_MODULE_BYTES}
 use Rattle.folder_reading.specs.Sources.{IsSource, Told, front_of, source_at}
@@ -22,6 +23,7 @@ pub record IsUpTo (files : List HeldFile) (numbers : List ℕ) (sources : List S
 
 pub record AreFirst (held : Option (List HeldFile)) (listed : List (List ℕ)) (numbers : List ℕ) (sources : List SourceFile) (i total : ℕ) : Type 0 where
   pub count : length sources ≡ i
+  pub paths_are : map (λ f. f.path) sources ≡ map (path_at listed) (take i numbers)
   pub small : All (λ f. length f.bytes ≤ MAX_FILE_BYTES) sources
   pub listed_are : All (λ f. f.index < length listed) sources
   pub within : total ≤ MAX_MODULE_BYTES
@@ -34,6 +36,7 @@ told_none (Some files) listed numbers = λ exact. record { whole = refl; rest = 
 pub none_first : (held : Option (List HeldFile)) (listed : List (List ℕ)) (numbers : List ℕ) → AreFirst held listed numbers [] 0 0
 none_first held listed numbers = record {
   count = refl;
+  paths_are = refl;
   small = λ k d l. absurd (omega (arith, l));
   listed_are = λ k d l. absurd (omega (arith, l));
   within = omega arith;
@@ -78,6 +81,13 @@ told_more (Some files) listed numbers sources f i n total sum l e inside is shor
           ∙ ap (λ t. first_too_long t (map (source_at files) (drop (i + 1) numbers))) (ap (λ bs. total + length bs) (sym whole) ∙ sym add);
     }
 
+paths_more : (listed : List (List ℕ)) (numbers : List ℕ) (sources : List SourceFile) (f : SourceFile) (i n : ℕ) → i < length numbers → n ≡ slice_index_or numbers i n → f.path ≡ path_at listed n
+    → map (λ g. g.path) sources ≡ map (path_at listed) (take i numbers) → map (λ g. g.path) (sources ++ f ∷ []) ≡ map (path_at listed) (take (i + 1) numbers)
+paths_more listed numbers sources f i n l e path so_far =
+    let fronts : take i numbers ++ n ∷ [] ≡ take (i + 1) numbers = ap (λ m. take i numbers ++ m ∷ []) e ∙ sym (take_more numbers i n l) in
+    map-append (λ (g : SourceFile). g.path) sources (f ∷ []) ∙ ap (λ ps. ps ++ f.path ∷ []) so_far ∙ ap (λ p. map (path_at listed) (take i numbers) ++ p ∷ []) path
+    ∙ sym (map-append (path_at listed) (take i numbers) (n ∷ [])) ∙ ap (map (path_at listed)) fronts
+
 -- one more file is read
 pub one_more : (held : Option (List HeldFile)) (listed : List (List ℕ)) (numbers : List ℕ) (sources : List SourceFile) (f : SourceFile) (i n total sum : ℕ)
     → AreFirst held listed numbers sources i total → i < length numbers → n ≡ slice_index_or numbers i n → n < length listed → IsSource held listed n f → is_too_long total f.bytes ≡ false
@@ -86,6 +96,7 @@ one_more held listed numbers sources f i n total sum first l e inside is short a
     let fit = fits total f.bytes short in
     record {
       count = omega (arith, length-append sources (f ∷ []), first.count);
+      paths_are = paths_more listed numbers sources f i n l e is.path first.paths_are;
       small = All-push (λ (g : SourceFile). length g.bytes ≤ MAX_FILE_BYTES) sources f first.small fit.0;
       listed_are = All-push (λ (g : SourceFile). g.index < length listed) sources f first.listed_are (omega (arith, is.index, inside));
       within = omega (arith, add, fit.1);
@@ -120,6 +131,7 @@ pub all_read : (held : Option (List HeldFile)) (listed : List (List ℕ)) (numbe
     → AreFirst held listed numbers sources i total → AreRead held listed numbers sources
 all_read held listed numbers sources i total over under first = record {
   count = omega (arith, first.count, over, under);
+  paths_are = first.paths_are ∙ ap (λ ns. map (path_at listed) ns) (take_all i numbers over);
   small = first.small;
   listed_are = first.listed_are;
   told = told_all held listed numbers sources i total over first.told;

@@ -2,6 +2,7 @@
 use Rattle.std.specs.Prelude.{◌≡◌, ◌<◌, ◌≤◌, ℕ, ◌+◌, Bool, ◌||◌, nat_lt, if◌then◌else◌, List, [], ◌∷◌, map, length, All, Option, Some, None}
 use Rattle.go_tree.specs.declared.limits.TheConstants.{MAX_FILE_BYTES}
 use Rattle.fix_io.specs.Files.{HeldFile, paths}
+use Rattle.module_files.specs.PathLists.{path_at}
 use Rattle.module_files.specs.Selected.{selected}
 use Rattle.source_files.specs.declared.files.SourceFile.{SourceFile}
 use Rattle.folder_reading.specs.declared.limits.TheConstants.{MAX_FILES, MAX_MODULE_BYTES}
@@ -26,11 +27,12 @@ pub record AreWithin (files : List HeldFile) : Type 0 where
   pub few : AreFew (paths files)
   pub short : first_too_long 0 (sources_in files) ≡ None
 
--- The source files are the files of these numbers, whole, and within the limits.
+-- The source files are the files of these numbers, each with its path, whole, and within the limits.
 pub record AreRead
     (held : Option (List HeldFile)) (listed : List (List ℕ)) (numbers : List ℕ) (sources : List SourceFile)
     : Type 0 where
   pub count : length sources ≡ length numbers
+  pub paths_are : map (λ f. f.path) sources ≡ map (path_at listed) numbers
   pub small : All (λ f. length f.bytes ≤ MAX_FILE_BYTES) sources
   pub listed_are : All (λ f. f.index < length listed) sources
   pub told : Told held listed
