@@ -1,3 +1,4 @@
 pub mod MembersMeant
 pub mod ConstantsAlone
 pub mod Sited
+pub mod Stays

@@ -1,7 +1,6 @@
 -- Where a table agrees with a place, it tells which member of which package a name is there.
-use Rattle.std.proofs.Common.{◌≡◌, ◌∙◌, ℕ, zero, suc, Bool, true, false, List, [], ◌∷◌, ◌++◌, Option, Some, None, refl, sym, ap, subst, map, bytes_eq}
+use Rattle.std.proofs.Common.{◌≡◌, ◌∙◌, ℕ, zero, suc, Bool, true, false, List, [], ◌∷◌, ◌++◌, Option, Some, None, refl, sym, ap, map, bytes_eq}
 use Rattle.std.specs.Prelude.{slice_get, if◌then◌else◌}
-use Rattle.go_tree.specs.declared.spans.Span.{Span}
 use Rattle.go_tree.specs.Tree.{NameAt}
 use Rattle.go_tree.specs.File.{Decl}
 use Rattle.scope_names.specs.declared.names.Entity.{Entity}
@@ -16,7 +15,7 @@ use Rattle.pkg_graph.specs.Members.{Target, imported, member, predeclared, impor
 use Rattle.go_types.specs.Answers.{given}
 use Rattle.run_rules.specs.Surroundings.{Place, is_local}
 use Rattle.run_rules.specs.Programs.{package_number}
-use Rattle.run_rules.specs.Sites.{Where, mark_of, imported_by, members_in, MarkRef, outer, outer_meaning, import_number, qualifier, member_of, name_mark, qualified_mark}
+use Rattle.run_rules.specs.Sites.{Where, mark_of, imported_by, members_in, outer, outer_meaning, import_number, qualifier, member_of, name_mark, qualified_mark}
 use Rattle.place_meanings.specs.Agreement.{means_local, target_of, AgreesAt}
 use Rattle.member_uses.specs.Uses.{Names, own_package, imported_package, package_at, import_at}
 

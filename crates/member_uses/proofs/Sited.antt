@@ -1,27 +1,26 @@
 -- The uses of marked members are the sites of a declaration, but for keys that name fields.
 use Rattle.std.proofs.Common.{◌≡◌, ◌∙◌, ℕ, Bool, true, false, ◌&&◌, not, List, [], ◌∷◌, ◌++◌, map, Option, Some, None, refl, sym, ap, subst}
-use Rattle.std.specs.Prelude.{if◌then◌else◌, slice_get}
+use Rattle.std.specs.Prelude.{if◌then◌else◌}
 use Rattle.std.proofs.lemmas.List.{append_assoc, append-nil, map-append}
 use Rattle.go_tree.specs.declared.spans.Span.{Span}
 use Rattle.go_tree.specs.Tree.{NameAt, TypeExpr, named, pointer, slice_type, map_type, struct_type, Expr, ident, int_lit, rune_lit, str_lit, composite, selector, index, slice, call, func_lit, type_operand, unary, binary, star}
-use Rattle.go_tree.specs.File.{Decl, File}
+use Rattle.go_tree.specs.File.{File}
 use Rattle.scope_names.specs.Means.{means, is_blank}
 use Rattle.scope_names.specs.Scopes.{expr_span}
 use Rattle.pkg_graph.specs.Package.{Package}
 use Rattle.pkg_graph.specs.Members.{Target}
 use Rattle.go_types.specs.Answers.{given}
 use Rattle.go_types.specs.Entities.{is_declared_here}
-use Rattle.run_rules.specs.Surroundings.{Use, other, stored, Place, Seen, seen, seen_type, seen_stmt, is_old, is_local}
-use Rattle.run_rules.specs.Programs.{decl_seen}
-use Rattle.run_rules.specs.Sites.{MarkRef, Where, Part, an_expr, a_type_part, Site, mark_of, not_function, type_span, part_span, named_in, outer, outer_meaning, member_of, name_mark, qualified_mark, marked, marked_as, expr_mark, type_mark, site_by, type_sites, site_here, sites_among}
+use Rattle.run_rules.specs.Surroundings.{Use, other, stored, Place, Seen, seen, seen_type, seen_stmt, is_old}
+use Rattle.run_rules.specs.Sites.{MarkRef, Where, Part, an_expr, a_type_part, Site, mark_of, not_function, type_span, part_span, named_in, outer, member_of, name_mark, qualified_mark, marked, marked_as, expr_mark, type_mark, site_by, type_sites, site_here, sites_among}
 use Rattle.possible_uses.specs.Candidates.{Candidate, plain_part, key_part}
-use Rattle.possible_uses.specs.Parts.{put, parts_of}
+use Rattle.possible_uses.specs.Parts.{put}
 use Rattle.possible_uses.specs.Among.{may_be_use, Follows, at_the_end, past_a_use, past_no_use, past_a_key, past_a_field, past_an_old_name, past_a_type, past_a_statement}
 use Rattle.possible_uses.specs.Laws.{PartsAreAmongAll}
 use Rattle.place_meanings.specs.Agreement.{BlockIsLocal, AgreesAt}
 use Rattle.place_meanings.specs.Parts.{AtTypes, AtParts}
 use Rattle.place_meanings.specs.Laws.{PlacesMeanAsTablesSay, BlocksAreLocal}
-use Rattle.member_uses.specs.Uses.{Used, Names, used, name_alone, package_at, import_at, type_package, part_uses, member_uses}
+use Rattle.member_uses.specs.Uses.{Used, Names, used, package_at, import_at, part_uses, member_uses}
 use Rattle.member_uses.specs.Laws.{AllConstants, mark_used, marked_uses, LeavesFieldsOut, unmarked, with_mark, a_field, NoKeyIsMarked, site_marks, Knows, MarkedMembersAreSites}
 use Rattle.member_uses.specs.Laws as left
 use Rattle.member_uses.proofs.MembersMeant.{own_meant, qualified_meant}
@@ -265,7 +264,7 @@ module _ {S : Type 0} (ps : List (Package S)) (marks : List MarkRef) where
 pub sites_left : (S : Type 0) (to : S → Span) (stands : File S → File Span) → PartsAreAmongAll S → PlacesMeanAsTablesSay S to stands → BlocksAreLocal S to stands → MarkedMembersAreSites S to stands
 sites_left S to stands follow mean local ps marks w f i d k c there scoped keyed =
     let l =
-        follows_left ps marks to w f i c (own_meant ps w f k.home_is k.home_there k.imports_are) (qualified_meant ps w f k.home_is k.home_there k.imports_are)
-        (follow ps w.number w.of w.source.tree d keyed) (mean ps w k.text k.names f.table i d k.reads k.told k.table there scoped) (local ps w k.text i d k.reads there scoped) [] left.at_the_end
+    follows_left ps marks to w f i c (own_meant ps w f k.home_is k.home_there k.imports_are) (qualified_meant ps w f k.home_is k.home_there k.imports_are)
+    (follow ps w.number w.of w.source.tree d keyed) (mean ps w k.text k.names f.table i d k.reads k.told k.table there scoped) (local ps w k.text i d k.reads there scoped) [] left.at_the_end
     in
     (l, λ none. none_left ps marks l none)

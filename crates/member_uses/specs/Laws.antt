@@ -9,6 +9,7 @@ use Rattle.pkg_graph.specs.Package.{Package, import_specs}
 use Rattle.go_types.specs.Answers.{meets}
 use Rattle.run_rules.specs.Programs.{package_number, decl_seen}
 use Rattle.run_rules.specs.Sites.{MarkRef, Where, Inlinable, a_constant, Site, part_span, inlinable, member_of, marked, sites_among}
+use Rattle.run_rules.specs.Respanned.{decl_with}
 use Rattle.run_rules.specs.Texts.{FileText}
 use Rattle.run_rules.specs.Inlining.{ReadsAs}
 use Rattle.possible_uses.specs.Among.{Keyed}
@@ -82,3 +83,8 @@ MarkedMembersAreSites S to as_it_stands =
     × (NoKeyIsMarked ps marks (member_uses to f (parts_of d))
     → site_marks to (sites_among ps marks w i (decl_seen ps w.number w.of w.source.tree d))
     ≡ marked_uses ps marks (member_uses to f (parts_of d)))
+
+-- A tree whose nodes stand where another has them names the same members: `to` says where.
+abbrev pub MembersStay : (S : Type 0) → (S → Span) → Type 0
+MembersStay S to =
+    (f : Names) (d : Decl S) → member_uses (λ s. s) f (parts_of (decl_with to d)) ≡ member_uses to f (parts_of d)

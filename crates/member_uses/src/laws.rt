@@ -4,7 +4,7 @@ ghost use Rattle.go_tree.specs.declared.spans.Span.{Span};
 ghost use Rattle.run_rules.specs.Respanned.{file_with};
 ghost use Rattle.run_rules.specs.Run.{here_of};
 ghost use Rattle.run_rules.specs.Steps.{At};
-ghost use Rattle.member_uses.specs.Laws.{MarkedMembersAreSites};
+ghost use Rattle.member_uses.specs.Laws.{MarkedMembersAreSites, MembersStay};
 
 use possible_uses::parts_are_among_all;
 
@@ -18,3 +18,8 @@ pub fn marked_members_are_sites()
 {
     parts_are_among_all();
 }
+
+/// A declaration as a run leaves it names the same members as the one that the text has, whose nodes are plain spans.
+pub fn members_stay()
+    ensures { MembersStay At here_of }
+{}

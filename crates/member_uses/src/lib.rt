@@ -6,7 +6,7 @@ mod names;
 mod parts;
 mod uses;
 
-pub use laws::marked_members_are_sites;
+pub use laws::{marked_members_are_sites, members_stay};
 pub use names::FileScopes;
 pub use parts::member_uses;
 pub use uses::MemberUse;

@@ -34,7 +34,8 @@ pub(crate) fn import_at(file: &FileScopes, name: &Name, at: u32) -> Option<usize
 {
     match file.scopes.lookup(name, at) {
         Some(Entity::Import(number)) => file.imports.get(number as usize).copied(),
-        Some(Entity::Local(_)) | Some(Entity::Package(_)) | Some(Entity::Universe(_)) | None => None,
+        Some(Entity::Local(_)) | Some(Entity::Package(_)) | Some(Entity::Universe(_)) | None =>
+            None,
     }
 }
 

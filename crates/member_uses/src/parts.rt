@@ -37,7 +37,13 @@ fn expr_use<'a>(
 {
     match e {
         Expr::Ident { span, name } => {
-            put(*span, is_key, package_at(file, name, span.start), name, list)
+            put(
+                *span,
+                is_key,
+                package_at(file, name, span.start),
+                name,
+                list,
+            )
         }
         Expr::Selector { span, base, name } => {
             let package = base_package(file, base, span.start);
