@@ -1,0 +1,2 @@
+pub mod ExprArms
+pub mod ListArms

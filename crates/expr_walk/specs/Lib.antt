@@ -1,0 +1,3 @@
+pub mod Walked
+pub mod Answers
+pub mod Lists
