@@ -1,0 +1,4 @@
+pub mod SpanLaws
+pub mod FileLaws
+pub mod SetLaws
+pub mod TableLaws
