@@ -1,3 +1,4 @@
 pub mod Paths
 pub mod Leads
 pub mod Runs
+mod Example

@@ -1,1 +1,2 @@
 pub mod Through
+mod Example
