@@ -1,0 +1,9 @@
+pub mod NameLemmas
+pub mod FollowLemmas
+pub mod HeaderLemmas
+pub mod DeclLemmas
+pub mod NumberLemmas
+pub mod ImportLemmas
+pub mod FirstLemmas
+pub mod CollectedLemmas
+pub mod TypeLemmas

@@ -1,0 +1,5 @@
+pub mod Names
+pub mod Headers
+pub mod Imports
+pub mod Collected
+pub mod Types
