@@ -1,0 +1,2 @@
+pub mod PutInText
+pub mod Laws

@@ -1,0 +1,10 @@
+//! Laws of the imports of a file that is read again.
+
+ghost use Rattle.kept_imports.specs.Laws.{ImportsAreKept, OtherImportsStay};
+
+/// A step that adds no imports leaves those that it doesn't remove, in their order, with the same
+/// names and paths; where it removes none either, its file keeps its imports.
+pub fn imports_are_read_again()
+    ensures stay { OtherImportsStay }
+    ensures kept { ImportsAreKept }
+{}
