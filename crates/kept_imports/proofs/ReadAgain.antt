@@ -5,7 +5,6 @@ use Rattle.go_tree.specs.declared.spans.Span.{Span}
 use Rattle.go_tree.specs.declared.tokens.Token.{Token}
 use Rattle.go_tree.specs.File.{File, ImportDecl}
 use Rattle.go_tree.specs.FileBare.{bare_import_decl, bare_file}
-use Rattle.go_words.specs.Tokens.{TokensOf}
 use Rattle.go_scan.proofs.Cuts.{tokens_once}
 use Rattle.go_read.specs.SpellsFiles.{SpellsFile}
 use Rattle.go_read.proofs.Whole.{file_one}

@@ -30,7 +30,7 @@ nothing-filtered : {A : Type 0} (xs : List A) → filter (λ x. true) xs ≡ xs
 nothing-filtered [] = refl
 nothing-filtered (x ∷ xs) = ap (λ l. x ∷ l) (nothing-filtered xs)
 
-nothing-behind : {A : Type 0} (xs : List A) → xs ++ [] ≡ xs
+pub nothing-behind : {A : Type 0} (xs : List A) → xs ++ [] ≡ xs
 nothing-behind [] = refl
 nothing-behind (x ∷ xs) = ap (λ l. x ∷ l) (nothing-behind xs)
 
@@ -76,7 +76,7 @@ module _ {S T : Type 0} (to : S → T) where
   with-keys [] = refl
   with-keys (s ∷ ss) = λ v. with-key s v ∷ with-keys ss v
 
-  with-specs : (ds : List (ImportDecl S)) → specs_in (map (import_decl_with to) ds) ≡ map (import_spec_with to) (specs_in ds)
+  pub with-specs : (ds : List (ImportDecl S)) → specs_in (map (import_decl_with to) ds) ≡ map (import_spec_with to) (specs_in ds)
   with-specs [] = refl
   with-specs (d ∷ ds) = ap (λ l. map (import_spec_with to) d.specs ++ l) (with-specs ds) ∙ sym (map-append (import_spec_with to) d.specs (specs_in ds))
 

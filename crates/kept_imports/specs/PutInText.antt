@@ -5,7 +5,7 @@ use Rattle.go_tree.specs.File.{File}
 use Rattle.run_rules.specs.Sites.{MarkRef}
 use Rattle.run_rules.specs.Texts.{form_edit}
 use Rattle.run_rules.specs.Respanned.{file_with}
-use Rattle.run_rules.specs.Steps.{At, same_here, unused_specs}
+use Rattle.run_rules.specs.Steps.{same_here, unused_specs}
 use Rattle.run_rules.specs.Run.{Standing, Logged, Next, here_of, is_commented}
 use Rattle.splice_laws.specs.Swaps.{Swap}
 use Rattle.splice_laws.specs.Fits.{swap_mark}
