@@ -1,13 +1,11 @@
 -- Identifiers keep their imports, where none is the name of an import that goes.
-use Rattle.std.proofs.Common.{◌≡◌, refl, sym, ◌∙◌, ap, ℕ, Bool, true, false, not, List, [], ◌∷◌, ◌++◌, map, Some, None, Option, if◌then◌else◌, bytes_eq}
-use Rattle.std.specs.Prelude.{filter, slice_get}
+use Rattle.std.proofs.Common.{◌≡◌, refl, sym, ◌∙◌, ℕ, Bool, true, false, not, List, [], ◌∷◌, ◌++◌, map, Some, None, Option, if◌then◌else◌, bytes_eq}
+use Rattle.std.specs.Prelude.{filter}
 use Rattle.go_tree.specs.declared.spans.Span.{Span}
 use Rattle.go_tree.specs.Tree.{NameAt}
-use Rattle.go_tree.specs.File.{ImportSpec, ImportDecl, Decl}
-use Rattle.scope_names.specs.Identifiers.{decl_identifiers}
+use Rattle.go_tree.specs.File.{ImportSpec}
 use Rattle.pkg_graph.specs.Package.{Package, specs_in, import_specs}
 use Rattle.pkg_graph.specs.Members.{name_or, package_name, import_name}
-use Rattle.go_types.specs.Agreement.{In}
 use Rattle.import_rules.specs.Removed.{goes}
 use Rattle.run_rules.specs.Sites.{MarkRef}
 use Rattle.run_rules.specs.Naming.{imports_added}
@@ -16,9 +14,9 @@ use Rattle.run_rules.specs.Steps.{At, added_decls}
 use Rattle.run_rules.specs.Run.{Standing, Logged, Next, here_of}
 use Rattle.step_cycles.specs.PackagesAlike.{import_key}
 use Rattle.import_cycles.specs.OtherImports.{import_path}
-use Rattle.import_cycles.specs.ImportSteps.{file_added, packages_added, KeepsNames}
+use Rattle.import_cycles.specs.ImportSteps.{packages_added, KeepsNames}
 use Rattle.kept_imports.specs.PutInText.{unused_spans, PutInText}
-use Rattle.kept_imports.specs.RemovedNames.{removed_specs, RemovesNoNames}
+use Rattle.kept_imports.specs.RemovedNames.{RemovesNoNames}
 use Rattle.kept_imports.proofs.Specs.{nothing-behind, with-specs}
 use Rattle.kept_imports.proofs.ReadAgain.{others-stay}
 
