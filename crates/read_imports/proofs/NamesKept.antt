@@ -15,10 +15,10 @@ use Rattle.run_rules.specs.Run.{Standing, Logged, Next, here_of}
 use Rattle.step_cycles.specs.PackagesAlike.{import_key}
 use Rattle.import_cycles.specs.OtherImports.{import_path}
 use Rattle.import_cycles.specs.ImportSteps.{packages_added, KeepsNames}
-use Rattle.kept_imports.specs.PutInText.{unused_spans, PutInText}
-use Rattle.kept_imports.specs.RemovedNames.{RemovesNoNames}
-use Rattle.kept_imports.proofs.Specs.{nothing-behind, with-specs}
-use Rattle.kept_imports.proofs.ReadAgain.{others-stay}
+use Rattle.read_imports.specs.PutInText.{unused_spans, PutInText}
+use Rattle.read_imports.specs.RemovedNames.{RemovesNoNames}
+use Rattle.read_imports.proofs.Specs.{nothing-behind, with-specs}
+use Rattle.read_imports.proofs.ReadAgain.{others-stay}
 
 abbrev or_own : Option (List ℕ) → List ℕ → List ℕ
 or_own None own = own

@@ -1,6 +1,6 @@
-use Rattle.kept_imports.proofs.ReadAgain.{others-stay, kept}
-use Rattle.kept_imports.proofs.NamesKept.{names-kept}
-use Rattle.kept_imports.proofs.laws.imports_are_read_again.Goals as goal
+use Rattle.read_imports.proofs.ReadAgain.{others-stay, kept}
+use Rattle.read_imports.proofs.NamesKept.{names-kept}
+use Rattle.read_imports.proofs.laws.imports_are_read_again.Goals as goal
 
 pub returns-clause-stay : goal.returns-clause-stay
 returns-clause-stay c = λ marks st l after n h e. others-stay marks st l after n h e

@@ -11,7 +11,7 @@ use Rattle.run_rules.specs.Steps.{At}
 use Rattle.run_rules.specs.Run.{Standing, Logged, Next, here_of}
 use Rattle.import_cycles.specs.OtherImports.{import_path}
 use Rattle.import_cycles.specs.ImportSteps.{packages_added}
-use Rattle.kept_imports.specs.PutInText.{unused_spans}
+use Rattle.read_imports.specs.PutInText.{unused_spans}
 
 module _ {marks : List MarkRef} {st : Standing} {l : Logged} {after : Standing} (n : Next marks st l after) where
   -- the imports that the step removes

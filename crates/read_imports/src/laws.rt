@@ -1,6 +1,6 @@
 //! Laws of the imports of a file that is read again.
 
-ghost use Rattle.kept_imports.specs.Laws.{ImportsAreKept, NamesAreKept, OtherImportsStay};
+ghost use Rattle.read_imports.specs.Laws.{ImportsAreKept, NamesAreKept, OtherImportsStay};
 
 /// A step that adds no imports leaves those that it doesn't remove, in their order, with the same
 /// names and paths; where it removes none either, its file keeps its imports. Where none that it

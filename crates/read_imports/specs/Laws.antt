@@ -9,8 +9,8 @@ use Rattle.run_rules.specs.Run.{Standing, Logged, Next}
 use Rattle.step_cycles.specs.PackagesAlike.{import_key}
 use Rattle.step_cycles.specs.Steps.{SameImports}
 use Rattle.import_cycles.specs.ImportSteps.{KeepsNames}
-use Rattle.kept_imports.specs.PutInText.{file_before, unused_spans, PutInText}
-use Rattle.kept_imports.specs.RemovedNames.{RemovesNoNames}
+use Rattle.read_imports.specs.PutInText.{file_before, unused_spans, PutInText}
+use Rattle.read_imports.specs.RemovedNames.{RemovesNoNames}
 
 -- A step that adds no imports leaves those that it doesn't remove, with the same names and paths.
 abbrev pub OtherImportsStay : Type 0

@@ -24,8 +24,8 @@ use Rattle.run_rules.specs.Respanned.{file_with}
 use Rattle.run_rules.specs.Run.{Standing, Logged, Next, here_of}
 use Rattle.step_cycles.specs.PackagesAlike.{import_key}
 use Rattle.step_cycles.specs.Steps.{SameImports}
-use Rattle.kept_imports.specs.PutInText.{file_before, unused_spans, PutInText}
-use Rattle.kept_imports.proofs.Specs.{keys-bare, keys-with, bare-keys, specs-left, all-stay}
+use Rattle.read_imports.specs.PutInText.{file_before, unused_spans, PutInText}
+use Rattle.read_imports.proofs.Specs.{keys-bare, keys-with, bare-keys, specs-left, all-stay}
 
 imports-stand : (w : Swap Span) (f g : File Span) → FileIn w f g → g.imports ≡ f.imports
 imports-stand w f g (in_decls d) = refl
