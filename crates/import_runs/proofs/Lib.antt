@@ -1,0 +1,4 @@
+pub mod Listed
+pub mod PathsAlike
+pub mod MembersMoved
+pub mod ImportingNexts

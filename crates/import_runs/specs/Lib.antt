@@ -1,0 +1,3 @@
+pub mod PathsUnder
+pub mod ImportingNext
+pub mod Laws

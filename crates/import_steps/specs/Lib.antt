@@ -1,0 +1,2 @@
+pub mod ImportingSteps
+pub mod Laws

@@ -1,0 +1,4 @@
+pub mod Likened
+pub mod RunOrders
+pub mod OrderedSteps
+pub mod OrderedRuns

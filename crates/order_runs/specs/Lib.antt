@@ -1,0 +1,3 @@
+pub mod SameProgram
+pub mod ImportingRun
+pub mod Laws

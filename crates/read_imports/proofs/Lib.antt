@@ -1,0 +1,3 @@
+pub mod Specs
+pub mod ReadAgain
+pub mod NamesKept

@@ -1,0 +1,3 @@
+pub mod PutInText
+pub mod RemovedNames
+pub mod Laws

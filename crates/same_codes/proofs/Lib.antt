@@ -1,0 +1,14 @@
+pub mod ValuesSame
+pub mod OperatorsSame
+pub mod CallsSame
+pub mod NamesSame
+pub mod StatementsSame
+pub mod MentionsSame
+pub mod FactsSame
+pub mod TranslationSame
+pub mod ReceiversSame
+pub mod HeadersSame
+pub mod PathOrder
+pub mod FunctionsByHome
+pub mod OrdersAlike
+pub mod OrdersTyped

@@ -1,0 +1,3 @@
+pub mod SamePaths
+pub mod Orders
+pub mod Laws
