@@ -3,3 +3,4 @@ pub mod Homes
 pub mod Names
 pub mod Forms
 pub mod Steps
+mod Example
