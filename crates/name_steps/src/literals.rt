@@ -29,10 +29,5 @@ pub fn literal(
     ensures gives { GivesAt tables.new.env tables.new.consts (literal_operand kind (literal_value spelling.now))
         go_entity.elsewhere result }
 {
-    elsewhere(single(literal_token(
-        alloc,
-        &mut tables.consts,
-        spelling,
-        kind,
-    )))
+    elsewhere(single(literal_token(alloc, &mut tables.consts, spelling, kind)))
 }

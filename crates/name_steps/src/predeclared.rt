@@ -35,11 +35,7 @@ fn basic_operand(tables: &mut Tables, kind: Kind) -> Result<Operand, Refusal>
 
 /// An untyped constant of a kind that represents it.
 #[tactic(auto, using(checker_tables::proofs::ReadyLemmas::types_kept))]
-fn constant_operand(
-    tables: &mut Tables,
-    kind: Kind,
-    constant: Const,
-) -> Result<Operand, Refusal>
+fn constant_operand(tables: &mut Tables, kind: Kind, constant: Const) -> Result<Operand, Refusal>
     requires ready { AreReady tables.old }
     requires kind { is_untyped_kind kind ≡ true }
     requires represented { represents kind constant ≡ true }
@@ -48,11 +44,7 @@ fn constant_operand(
     ensures gives { GivesOperand tables.new.env tables.new.consts (Some (value (untyped kind) (exact constant)))
         result }
 {
-    single(folded(
-        &mut tables.consts,
-        ValueType::Untyped(kind),
-        Ok(constant),
-    ))
+    single(folded(&mut tables.consts, ValueType::Untyped(kind), Ok(constant)))
 }
 
 /// A number of a constant spec as a whole number.

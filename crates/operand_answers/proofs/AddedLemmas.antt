@@ -16,7 +16,6 @@ use Rattle.checker_tables.proofs.ReadyLemmas.{ready_stays}
 use Rattle.operand_answers.proofs.KeptLemmas.{constants_self}
 
 module _ (k : Tables) (f : Environment) where
-
   -- types grew
   pub env_keeps : TypesGrown k.env f → Keeps k (record k { env = f })
   env_keeps g = record { types = g; constants = constants_self k.consts; basics = refl }

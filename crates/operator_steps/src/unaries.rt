@@ -42,12 +42,7 @@ fn address_value(tables: &mut Tables, place: Place, x: Value) -> Result<Value, R
 
 /// What `+`, `-`, `!` or `^` of a value gives.
 #[tactic(auto, using(checker_tables::proofs::ReadyLemmas::types_kept))]
-fn changed_value(
-    alloc: Global,
-    tables: &mut Tables,
-    op: UnOp,
-    x: Value,
-) -> Result<Value, Refusal>
+fn changed_value(alloc: Global, tables: &mut Tables, op: UnOp, x: Value) -> Result<Value, Refusal>
     requires ready { AreReady tables.old }
     requires value { IsValue tables.old.env tables.old.consts x }
     ensures ready { AreReady tables.new }
