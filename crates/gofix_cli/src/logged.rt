@@ -96,6 +96,7 @@ fn file(alloc: Global, path: &str, text: &str) -> Result<MemFile, Fail> {
 }
 
 /// The number with which a run ended, its calls, the bytes of `main.go` after it, and what was written.
+#[derive(Drop)]
 struct Ending {
     number: u8,
     digits: u64,
