@@ -44,8 +44,9 @@ add() {
     fi
 }
 
-# modules, tokens and trees of files, files printed, and what documents name
+# modules, those that are too large, tokens and trees of files, files printed, and what documents name
 add runs.sh
+add limits.sh
 add tokens.sh
 add trees.sh
 add print.sh

@@ -1,7 +1,7 @@
 pub mod ApplyLemmas
-pub mod FrontLemmas
-pub mod PlanLemmas
 pub mod ReadLemmas
+pub mod PlanLemmas
+pub mod FolderLemmas
 pub mod DoneLemmas
-pub mod JudgedLemmas
+pub mod VerdictLemmas
 pub mod TopLemmas

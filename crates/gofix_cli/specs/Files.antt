@@ -1,32 +1,37 @@
 -- The files of a tree, as they are read and planned.
-use Rattle.std.specs.Prelude.{◌≡◌, ℕ, suc, ◌+◌, List, [], ◌∷◌, map, length, take, slice_index_or, Option, IfSome}
-use Rattle.fix_engine.specs.declared.SourceFile.{SourceFile}
+use Rattle.std.specs.Prelude.{◌≡◌, ℕ, false, if◌then◌else◌, List, [], ◌∷◌, map}
 use Rattle.fix_engine.specs.declared.PlannedFile.{PlannedFile}
 use Rattle.fix_engine.specs.declared.Plan.{Plan}
-use Rattle.fix_engine.specs.Plan.{planned, contents, plan_of}
 use Rattle.fix_io.specs.Files.{HeldFile, paths, bytes_at}
 use Rattle.fix_io.specs.Writes.{writes_from}
-use Rattle.go_tree.specs.declared.limits.TheConstants.{MAX_FILE_BYTES}
+use Rattle.module_files.specs.PathLists.{path_at}
+use Rattle.module_files.specs.Selected.{is_selected}
+use Rattle.folder_reading.specs.Limits.{AreWithin}
+use Rattle.folder_reading.specs.Sources.{sources_in}
+use Rattle.module_plans.specs.Files.{contents_of}
+use Rattle.module_plans.specs.Planned.{IsPlanned}
 
--- the path and the bytes of a file
-abbrev pub content_of : HeldFile → List ℕ × List ℕ
-content_of f = (f.path, f.bytes)
-
--- the paths and the bytes of files
-abbrev pub contents_of : List HeldFile → List (List ℕ × List ℕ)
-contents_of files = map content_of files
+-- the paths and the bytes of the files that are read
+abbrev pub read_contents : List HeldFile → List (List ℕ × List ℕ)
+read_contents files = contents_of (sources_in files)
 
 -- the bytes of files
 abbrev pub texts_of : List HeldFile → List (List ℕ)
 texts_of files = map (λ f. f.bytes) files
 
--- the bytes that are read of a file: one more than the limit, or all
-abbrev pub front_of : List ℕ → List ℕ
-front_of bytes = take (MAX_FILE_BYTES + 1) bytes
+-- the bytes of files afterwards, where those that are read among all paths have these, one after another, and the others
+-- their own
+abbrev pub texts_after : List (List ℕ) → List HeldFile → List (List ℕ × List ℕ) → List (List ℕ)
+texts_after all [] after = []
+texts_after all (f ∷ fs) [] = f.bytes ∷ texts_after all fs []
+texts_after all (f ∷ fs) (a ∷ as') =
+    if is_selected all f.path then a.1 ∷ texts_after all fs as' else f.bytes ∷ texts_after all fs (a ∷ as')
 
--- the path and what is read of a file
-abbrev pub front_content : HeldFile → List ℕ × List ℕ
-front_content f = (f.path, front_of f.bytes)
+-- The files have the same paths as before, and those that aren't read the same bytes.
+pub record OthersStay (files after : List HeldFile) : Type 0 where
+  pub same_paths : paths after ≡ paths files
+  pub same_bytes : (i : ℕ) → is_selected (paths files) (path_at (paths files) i) ≡ false →
+      bytes_at after i ≡ bytes_at files i
 
 -- the write of a planned file: an index and bytes
 abbrev pub write_of : PlannedFile → ℕ × List ℕ
@@ -36,26 +41,9 @@ write_of f = (f.index, f.bytes)
 abbrev pub writes_of : List PlannedFile → List (ℕ × List ℕ)
 writes_of files = map write_of files
 
--- The source file is the listed file of this index, with what is read of its bytes where they are told.
-pub record IsSource (held : Option (List HeldFile)) (listed : List (List ℕ)) (i : ℕ) (f : SourceFile) : Type 0 where
-  pub index : f.index ≡ i
-  pub path : f.path ≡ slice_index_or listed i []
-  pub bytes : IfSome held (λ files. f.bytes ≡ front_of (bytes_at files i))
-
--- Source files are numbered upwards from a number.
-abbrev pub AreNumbered : ℕ → List SourceFile → Type 0
-AreNumbered n [] = Unit {0}
-AreNumbered n (f ∷ fs) = (f.index ≡ n) × AreNumbered (suc n) fs
-
--- The source files are the listed files, with what is read of their bytes where they are told.
-pub record AreSources (held : Option (List HeldFile)) (listed : List (List ℕ))
-    (sources : List SourceFile) : Type 0 where
-  pub count : length sources ≡ length listed
-  pub numbered : AreNumbered 0 sources
-  pub read : IfSome held (λ files. listed ≡ paths files → contents sources ≡ map front_content files)
-
 -- The plan is that for the files, of constants whose full names begin with `only`, and writes those that change.
 pub record AreWritesOf (only : List ℕ) (files : List HeldFile) (p : Plan) : Type 0 where
+  pub within : AreWithin files
   pub after : List (List ℕ × List ℕ)
-  pub outcome : plan_of (contents_of files) only ≡ planned after p.report p.inlined
-  pub writes : writes_of p.writes.items ≡ writes_from 0 (texts_of files) (map (λ a. a.1) after)
+  pub planned : IsPlanned (sources_in files) only after p.report p.inlined
+  pub writes : writes_of p.writes.items ≡ writes_from 0 (texts_of files) (texts_after (paths files) files after)

@@ -2,6 +2,7 @@
 use Rattle.std.specs.Prelude.{ℕ, ◌<◌, List, [], ◌++◌, slice_index_or, codes, Option, Some, None}
 use Rattle.refusals.specs.declared.refusal.Refusal.{Refusal}
 use Rattle.refusals.specs.Line as refusal
+use Rattle.module_refusals.specs.Refused.{IsBelow}
 use Rattle.gofix_cli.specs.declared.status.Status.{Status}
 use Rattle.gofix_cli.specs.declared.status.Status.TheVariants.{Done, Found, Usage, NoMemory, ListFault, ReadFault, Refused, WriteFault, ReportFault}
 
@@ -24,16 +25,11 @@ line_of (Refused r) paths = refusal_line r paths
 line_of (WriteFault i) paths = codes "gofix: can't replace " ++ slice_index_or paths i [] ++ codes "\n"
 line_of _ paths = []
 
--- The file that a refusal names, if it names one, is one of so many.
-abbrev pub IsIn : Option ℕ → ℕ → Type 0
-IsIn None n = Unit {0}
-IsIn (Some i) n = i < n
-
 -- The file that a status names is one of so many.
 abbrev pub IsOfFile : Status → ℕ → Type 0
 IsOfFile (ReadFault i) n = i < n
 IsOfFile (WriteFault i) n = i < n
-IsOfFile (Refused r) n = IsIn r.file n
+IsOfFile (Refused r) n = IsBelow n r.file
 IsOfFile _ n = Unit {0}
 
 -- A fact for each status that has a line.

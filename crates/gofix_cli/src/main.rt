@@ -1,7 +1,9 @@
-//! `gofix`: replaces the uses of constants that are marked `//go:fix inline`.
+//! `gofix`: reads the module in the working directory, and replaces the uses of constants that are marked
+//! `//go:fix inline`, or tells why it doesn't.
 #![tactic(auto)]
 
 mod apply;
+mod laws;
 #[cfg(test)]
 mod logged;
 mod prepare;
@@ -9,8 +11,6 @@ mod report;
 mod requests;
 mod status;
 mod tell;
-#[cfg(test)]
-mod tests;
 mod top;
 
 use crate::status::Status;

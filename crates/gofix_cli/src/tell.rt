@@ -3,7 +3,8 @@
 ghost use Rattle.std.specs.Prelude.{◌≡◌, ◌<◌, ◌≤◌, [], ◌∷◌, ◌++◌, length, OnOk, OnErr};
 ghost use Rattle.fix_io.specs.Causes.{Rose, HasPlainCause};
 ghost use Rattle.fix_io.specs.Contents.{appended, IsPartOut};
-ghost use Rattle.gofix_cli.specs.Lines.{line_of, refusal_line, IsIn, IsOfFile};
+ghost use Rattle.module_refusals.specs.Refused.{IsBelow};
+ghost use Rattle.gofix_cli.specs.Lines.{line_of, refusal_line, IsOfFile};
 
 use crate::status::Status;
 use fix_io::{Failed, Sink, Tree, write_all};
@@ -30,7 +31,7 @@ fn tell_file<S: Sink>(out: &mut S, front: &str, path: &str) -> Result<(), Failed
 }
 
 fn tell_refusal<T: Tree, S: Sink>(out: &mut S, tree: &T, refusal: &Refusal) -> Result<(), Failed>
-    requires { IsIn refusal.now.file (length (T.listed tree.now)) }
+    requires { IsBelow (length (T.listed tree.now)) refusal.now.file }
     ensures ok { OnOk result
         (S.contents out.new ≡ appended (S.contents out.old) (refusal_line refusal.now (T.listed tree.now))) }
     ensures err { OnErr result

@@ -6,7 +6,7 @@ ghost use Rattle.fix_io.specs.Contents.{appended, IsPartOut};
 ghost use Rattle.command_words.specs.Words.{are_accepted, has_fix, only_of};
 ghost use Rattle.gofix_cli.specs.Lines.{line_of, IfTold, IfOut};
 ghost use Rattle.gofix_cli.specs.Causes.{HasCause, PassedChecks, IfNoFault, IfUnwritten, IsQuiet};
-ghost use Rattle.gofix_cli.specs.Verdict.{verdict, IsEnd, IsRefused, IsAnswer, IsUpTo};
+ghost use Rattle.gofix_cli.specs.Verdict.{Verdict, HasEnded, IsVerdict, IsEnd, IsRefused, IsAnswer, IsUpTo};
 ghost use Rattle.gofix_cli.specs.Headline.{IsInlined};
 
 use crate::apply::apply;
@@ -30,8 +30,7 @@ pub fn gofix<T: Tree, S: Sink>(alloc: Global, words: &[String], tree: &mut T, ou
     ensures unwritten { IfUnwritten result (T.held tree.new ≡ T.held tree.old) }
     ensures unfixed { has_fix (map string_bytes words.now) ≡ false → T.held tree.new ≡ T.held tree.old }
     ensures done { IfOut result (IfSome (T.held tree.old)
-        (λ files. let v = verdict (map string_bytes words.now) files in IsEnd (map string_bytes words.now) files v
-        × (result ≡ v.status) × (T.held tree.new ≡ Some v.files))) }
+        (λ files. HasEnded (map string_bytes words.now) files result (T.held tree.new))) }
     ensures headline { result ≡ Status.Done → has_fix (map string_bytes words.now) ≡ true →
         IfSome (T.held tree.old)
         (λ files. IsInlined (only_of (map string_bytes words.now)) files (T.held tree.new)
@@ -42,13 +41,14 @@ pub fn gofix<T: Tree, S: Sink>(alloc: Global, words: &[String], tree: &mut T, ou
         IfSome (T.held tree.old) (λ files. IsUpTo i (map string_bytes words.now) files (T.held tree.new)) }
     ensures report_fault { result ≡ Status.ReportFault →
         IfSome (T.held tree.old)
-        (λ files. let v = verdict (map string_bytes words.now) files in IsEnd (map string_bytes words.now) files v
+        (λ files. (v : Verdict) × IsVerdict (map string_bytes words.now) files v
+        × IsEnd (map string_bytes words.now) files v
         × (T.held tree.new ≡ Some v.files) × IsPartOut (S.contents out.old) (S.contents out.new) v.bytes) }
 
     // What is written.
     ensures report { IfOut result (IfSome (T.held tree.old)
-        (λ files. S.contents out.new
-        ≡ appended (S.contents out.old) (verdict (map string_bytes words.now) files).bytes)) }
+        (λ files. (v : Verdict) × IsVerdict (map string_bytes words.now) files v
+        × (S.contents out.new ≡ appended (S.contents out.old) v.bytes))) }
     ensures line { IfTold result
         (IsPartOut (S.contents out.old) (S.contents out.new) (line_of result (T.listed tree.new))) }
     ensures whole_line { IfTold result

@@ -17,11 +17,7 @@ use std::alloc::Global;
 ///
 /// The checks come in this order: `first_refusal`'s, so any module is read; then 100 where the files aren't `go.mod`
 /// and `main.go` of the form that is built, and 401 where such a module isn't well typed.
-pub fn plan_module(
-    alloc: Global,
-    files: Vec<SourceFile>,
-    only: &str,
-) -> Result<Plan, ModuleFault>
+pub fn plan_module(alloc: Global, files: Vec<SourceFile>, only: &str) -> Result<Plan, ModuleFault>
     requires count { length files.items < 2 ^ 32 }
     requires small { All (λ f. length f.bytes ≤ MAX_FILE_BYTES) files.items }
     ensures planned { IfOk result (IsModulePlan files.items only.now) }

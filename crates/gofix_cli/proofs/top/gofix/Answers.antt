@@ -2,23 +2,23 @@ use Rattle.std.proofs.Common.{◌≡◌, ◌∙◌, map, sym}
 use Rattle.std.specs.Prelude.{string_bytes}
 use Rattle.fix_io.specs.Causes.{Rose}
 use Rattle.gofix_cli.specs.declared.status.Status.TheVariants.{Done}
-use Rattle.gofix_cli.proofs.TopLemmas.{stopped, accepted_refused, accepted_complete, planned_done, planned_report, planned_part, planned_fault, reported}
-use Rattle.gofix_cli.proofs.DoneLemmas.{told_inlined}
+use Rattle.gofix_cli.proofs.TopLemmas.{words_complete, stopped, fixed, fixed_part, planned_complete, planned_done, planned_fault, planned_inlined, planned_out, reported}
 use Rattle.gofix_cli.proofs.top.gofix.Goals as goal
+
+pub returns-in-Err-clause-complete : goal.returns-in-Err-clause-complete
+returns-in-Err-clause-complete g c = λ tree out. words_complete (map string_bytes c.args.words.now) (g.T.Tree.held c.args.tree.now) c.in-Err.status c.in-Err.ensures.stop
 
 pub returns-in-Err-prepare-clause-refused : goal.returns-in-Err-prepare-clause-refused
 returns-in-Err-prepare-clause-refused g c = λ r e.
     let asked = c.in-Ok.ensures.read in
-    let stop = rw asked.only at c.in-Err-prepare.ensures.stop in
-    let why = stopped (map string_bytes c.args.words.now) c.in-Err-prepare.status (Rose (g.T.Tree.faults c.args.tree.now) (g.T.Tree.faults c.prepare.new.tree)) (g.T.Tree.failed c.prepare.new.tree) (g.T.Tree.listed c.prepare.new.tree) (g.T.Tree.held c.args.tree.now) stop in
-    accepted_refused (map string_bytes c.args.words.now) (g.T.Tree.held c.args.tree.now) r asked.accepted (why.refused_for r e)
+    let why = stopped (map string_bytes c.args.words.now) c.in-Err-prepare.status (Rose (g.T.Tree.faults c.args.tree.now) (g.T.Tree.faults c.prepare.new.tree)) (g.T.Tree.failed c.prepare.new.tree) (g.T.Tree.listed c.prepare.new.tree) (g.T.Tree.held c.args.tree.now) asked.accepted c.in-Err-prepare.ensures.stop in
+    why.refused_for r e
 
 pub returns-in-Err-prepare-clause-complete : goal.returns-in-Err-prepare-clause-complete
 returns-in-Err-prepare-clause-complete g c = λ tree out.
     let asked = c.in-Ok.ensures.read in
-    let stop = rw asked.only at c.in-Err-prepare.ensures.stop in
-    let why = stopped (map string_bytes c.args.words.now) c.in-Err-prepare.status (Rose (g.T.Tree.faults c.args.tree.now) (g.T.Tree.faults c.prepare.new.tree)) (g.T.Tree.failed c.prepare.new.tree) (g.T.Tree.listed c.prepare.new.tree) (g.T.Tree.held c.args.tree.now) stop in
-    accepted_complete (map string_bytes c.args.words.now) (g.T.Tree.held c.args.tree.now) c.in-Err-prepare.status asked.accepted (why.complete tree)
+    let why = stopped (map string_bytes c.args.words.now) c.in-Err-prepare.status (Rose (g.T.Tree.faults c.args.tree.now) (g.T.Tree.faults c.prepare.new.tree)) (g.T.Tree.failed c.prepare.new.tree) (g.T.Tree.listed c.prepare.new.tree) (g.T.Tree.held c.args.tree.now) asked.accepted c.in-Err-prepare.ensures.stop in
+    why.complete tree
 
 pub returns-then-not-request-clause-done : goal.returns-then-not-request-clause-done
 returns-then-not-request-clause-done g c =
@@ -62,14 +62,18 @@ returns-in-Ok-write_all-clause-done g c =
     let asked = c.in-Ok.ensures.read in
     let plan = rw asked.only at c.in-Ok-prepare.ensures.plan in
     let all = rw c.writes.ensures at c.in-Ok-apply.ensures.ok in
-    planned_done (map string_bytes c.args.words.now) _ _ c.in-Ok-prepare.plan asked.accepted (sym asked.fix ∙ c.if-not-request.false) plan (rw c.prepare.ensures.same at all)
+    let out = rw c.report.ensures at c.in-Ok-write_all.ensures.ok in
+    let words = map string_bytes c.args.words.now in
+    planned_done words _ _ Done _ _ (fixed words _ _ c.in-Ok-prepare.plan _ _ asked.accepted (sym asked.fix ∙ c.if-not-request.false) plan (rw c.prepare.ensures.same at all) out)
 
 pub returns-in-Ok-write_all-clause-report : goal.returns-in-Ok-write_all-clause-report
 returns-in-Ok-write_all-clause-report g c =
     let asked = c.in-Ok.ensures.read in
     let plan = rw asked.only at c.in-Ok-prepare.ensures.plan in
+    let all = rw c.writes.ensures at c.in-Ok-apply.ensures.ok in
     let out = rw c.report.ensures at c.in-Ok-write_all.ensures.ok in
-    planned_report (map string_bytes c.args.words.now) _ c.in-Ok-prepare.plan _ _ asked.accepted plan out
+    let words = map string_bytes c.args.words.now in
+    planned_out words _ _ Done _ _ (fixed words _ _ c.in-Ok-prepare.plan _ _ asked.accepted (sym asked.fix ∙ c.if-not-request.false) plan (rw c.prepare.ensures.same at all) out)
 
 pub returns-in-Ok-write_all-clause-headline : goal.returns-in-Ok-write_all-clause-headline
 returns-in-Ok-write_all-clause-headline g c = λ e fix.
@@ -77,8 +81,17 @@ returns-in-Ok-write_all-clause-headline g c = λ e fix.
     let plan = rw asked.only at c.in-Ok-prepare.ensures.plan in
     let all = rw c.writes.ensures at c.in-Ok-apply.ensures.ok in
     let out = rw c.report.ensures at c.in-Ok-write_all.ensures.ok in
-    told_inlined (map string_bytes c.args.words.now) _ _ Done _ _ fix (planned_done (map string_bytes c.args.words.now) _ _ c.in-Ok-prepare.plan asked.accepted fix plan (rw c.prepare.ensures.same at all))
-    (planned_report (map string_bytes c.args.words.now) _ c.in-Ok-prepare.plan _ _ asked.accepted plan out)
+    let words = map string_bytes c.args.words.now in
+    planned_inlined words _ _ Done _ _ fix (fixed words _ _ c.in-Ok-prepare.plan _ _ asked.accepted fix plan (rw c.prepare.ensures.same at all) out)
+
+pub returns-in-Ok-write_all-clause-complete : goal.returns-in-Ok-write_all-clause-complete
+returns-in-Ok-write_all-clause-complete g c = λ tree_quiet out_quiet.
+    let asked = c.in-Ok.ensures.read in
+    let plan = rw asked.only at c.in-Ok-prepare.ensures.plan in
+    let all = rw c.writes.ensures at c.in-Ok-apply.ensures.ok in
+    let out = rw c.report.ensures at c.in-Ok-write_all.ensures.ok in
+    let words = map string_bytes c.args.words.now in
+    planned_complete words _ _ Done _ _ (fixed words _ _ c.in-Ok-prepare.plan _ _ asked.accepted (sym asked.fix ∙ c.if-not-request.false) plan (rw c.prepare.ensures.same at all) out)
 
 pub returns-clause-report_fault : goal.returns-clause-report_fault
 returns-clause-report_fault g c = λ e.
@@ -86,4 +99,4 @@ returns-clause-report_fault g c = λ e.
     let plan = rw asked.only at c.in-Ok-prepare.ensures.plan in
     let all = rw c.writes.ensures at c.in-Ok-apply.ensures.ok in
     let part = rw c.report.ensures at c.in-Err-write_all.ensures.err in
-    planned_part (map string_bytes c.args.words.now) _ _ c.in-Ok-prepare.plan _ _ asked.accepted (sym asked.fix ∙ c.if-not-request.false) plan (rw c.prepare.ensures.same at all) part
+    fixed_part (map string_bytes c.args.words.now) _ _ c.in-Ok-prepare.plan _ _ asked.accepted (sym asked.fix ∙ c.if-not-request.false) plan (rw c.prepare.ensures.same at all) part
