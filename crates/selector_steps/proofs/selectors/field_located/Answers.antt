@@ -1,0 +1,19 @@
+use Rattle.go_types.specs.Primary.{selected_place}
+use Rattle.type_relations.specs.Environment.{defined_types}
+use Rattle.operand_rules.specs.Values.{type_of}
+use Rattle.access_rules.specs.Places.{place_of}
+use Rattle.checker_tables.proofs.PartLemmas.{parts_follow}
+use Rattle.selector_steps.proofs.SelectorLemmas.{field_is}
+use Rattle.selector_steps.proofs.selectors.field_located.Goals as goal
+
+pub selected_place-requires-clause-types : goal.selected_place-requires-clause-types
+selected_place-requires-clause-types c =
+    parts_follow c.args.tables.now.env c.len-types.ensures.good c.requires.ready.values
+
+pub returns : goal.returns
+returns c =
+    λ o k h.
+    let n = c.args.tables.now in
+    field_is n.env n.consts c.args.t c.selected_place.result o
+    (selected_place (defined_types n.env) c.args.home c.args.name.now (place_of c.args.place) (type_of n.env c.args.x.of, k))
+    c.requires.field h (c.selected_place.ensures k)
