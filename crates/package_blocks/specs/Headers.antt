@@ -27,6 +27,7 @@ abbrev pub repeated_type : Option (Bor ConstSpec) → Option (TypeExpr Span)
 repeated_type None = None
 repeated_type (Some s) = (const_spec_of s.now).2
 
+-- the values that a spec repeats
 abbrev pub repeated_values : Option (Bor ConstSpec) → Exprs Span
 repeated_values None = no_exprs
 repeated_values (Some s) = (const_spec_of s.now).3
@@ -66,12 +67,14 @@ constants_of grouped whole s i specs =
 
 -- ---- the headers of a file, and of files that are numbered on; `before` are the names before them in the package
 
+-- the headers of a file with this number
 abbrev pub listed : ℕ → List (List ℕ) → List (Span × Header Span) → List Listed
 listed file before [] = []
 listed file before (h ∷ hs) =
     record { file = file; at = h.0; sound = header_sound before h.1; header = h.1 }
     ∷ listed file (header_names h.1 ++ before) hs
 
+-- the headers of files that are numbered from this one on
 abbrev pub listed_files : ℕ → List (List ℕ) → List (List (Decl Span)) → List Listed
 listed_files file before [] = []
 listed_files file before (ds ∷ dss) =

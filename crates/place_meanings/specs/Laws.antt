@@ -44,6 +44,7 @@ BlocksAreLocal S to as_it_stands =
 abbrev pub ReadFilesHaveTheirNames : Type 0
 ReadFilesHaveTheirNames = (ps : List (Package Span)) (w : Where Span) → AreNamesOf ps w (names_of_file ps w.of w.source.tree)
 
+-- So it is of a file as a run leaves it.
 abbrev pub StandingFilesHaveTheirNames : Type 0
 StandingFilesHaveTheirNames =
     (ps : List (Package At)) (w : Where At)
