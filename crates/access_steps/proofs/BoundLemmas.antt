@@ -2,31 +2,27 @@
 use Rattle.std.proofs.Common.{◌≡◌, ◌∙◌, List, Option, Some, None, Result, Ok, Err, refl, sym, ap, subst}
 use Rattle.const_eval.specs.declared.consts.Const.{Const}
 use Rattle.go_types.specs.Answers.{both, given}
-use Rattle.go_types.specs.Types.{GoType}
 use Rattle.go_types.specs.Defined.{Defined}
 use Rattle.go_types.specs.Entities as go_entity
 use Rattle.go_types.specs.Operands as go
 use Rattle.go_types.specs.Operands.{value, several, a_type, a_function, a_builtin, recovered, Typed, with_value}
 use Rattle.go_types.specs.Primary.{sliced}
-use Rattle.type_relations.specs.Environment.{Environment, defined_types}
+use Rattle.type_relations.specs.Environment.{Environment}
 use Rattle.operand_rules.specs.declared.values.Value.{Value}
 use Rattle.operand_rules.specs.declared.values.Refusal.{Refusal}
 use Rattle.operand_rules.specs.declared.values.Refusal.TheVariants.{NotTyped, NoMemory}
-use Rattle.operand_rules.specs.Constants.{Grown}
-use Rattle.operand_rules.specs.Values.{SameContent, IsValue, content_of, type_of}
-use Rattle.type_exprs.specs.Grown.{TypesGrown}
+use Rattle.operand_rules.specs.Values.{IsValue, content_of, type_of}
 use Rattle.operand_modes.specs.declared.modes.Operand.{Operand}
-use Rattle.operand_modes.specs.declared.modes.Operand.TheVariants as mode
 use Rattle.operand_modes.specs.Operands.{GivesOperand, IsOperand, SameOperand, operand_at, single_of}
-use Rattle.operand_laws.specs.Alike.{SameAnswer, SameBound}
+use Rattle.operand_laws.specs.Alike.{SameBound}
 use Rattle.operand_laws.proofs.ContentLemmas.{operand_same}
 use Rattle.operand_laws.proofs.ValueLemmas.{slice_sees_alike}
 use Rattle.access_rules.specs.Slices.{IsBoundValue, bound_of}
 use Rattle.checker_tables.specs.declared.tables.Tables.{Tables}
 use Rattle.checker_tables.specs.Ready.{Keeps}
 use Rattle.operand_answers.specs.declared.located.Located.{Located}
-use Rattle.operand_answers.specs.Located.{GivesAt, IsLocated}
-use Rattle.operand_answers.proofs.AnswerLemmas.{no_value, operand_given, single_is}
+use Rattle.operand_answers.specs.Located.{GivesAt}
+use Rattle.operand_answers.proofs.AnswerLemmas.{no_value, single_is}
 use Rattle.operand_answers.proofs.KeptLemmas.{value_on, value_same}
 use Rattle.access_steps.specs.Bounds.{GivesBound, IsBoundGiven, IsBoundIfOk}
 

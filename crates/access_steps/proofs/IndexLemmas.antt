@@ -1,7 +1,7 @@
 -- Elements of maps, slices and strings.
-use Rattle.std.proofs.Common.{◌≡◌, ◌∙◌, Bool, true, false, cond, List, Option, Some, None, is_some, Result, Ok, Err, refl, sym, ap, subst}
+use Rattle.std.proofs.Common.{◌≡◌, ◌∙◌, Bool, true, false, cond, List, Option, Some, None, is_some, Result, Ok, refl, sym, ap, subst}
 use Rattle.const_eval.specs.declared.consts.Const.{Const}
-use Rattle.go_types.specs.Answers.{both, given, only_if}
+use Rattle.go_types.specs.Answers.{both, only_if}
 use Rattle.go_types.specs.Types.{GoType, element_of, is_untyped, map_parts}
 use Rattle.go_types.specs.Defined.{Defined, under}
 use Rattle.go_types.specs.Entities as go_entity
@@ -21,7 +21,6 @@ use Rattle.operand_modes.specs.declared.modes.Operand.{Operand}
 use Rattle.operand_modes.specs.declared.modes.Operand.TheVariants as mode
 use Rattle.operand_modes.specs.declared.modes.Operand.TheVariants.{Single}
 use Rattle.operand_modes.specs.Operands.{SameOperand, operand_at, single_of}
-use Rattle.operand_laws.specs.Alike.{SameAnswer}
 use Rattle.operand_laws.proofs.ContentLemmas.{answer_equal, content_same}
 use Rattle.operand_laws.proofs.ValueLemmas.{index_sees_alike}
 use Rattle.operand_answers.specs.declared.located.Located.{Located}

@@ -1,17 +1,15 @@
 -- The arms of the walk over expressions: what is known of the parts, in the tables in which they were walked, and what
 -- the rule gives.
-use Rattle.std.proofs.Common.{◌≡◌, ◌∙◌, ℕ, List, Option, Some, None, Result, Ok, refl, sym, ap, subst}
+use Rattle.std.proofs.Common.{◌≡◌, ◌∙◌, ℕ, List, Option, Some, None, Result, subst}
 use Rattle.go_tree.specs.declared.spans.Span.{Span}
 use Rattle.go_tree.specs.declared.operators.BinOp.{BinOp}
 use Rattle.go_tree.specs.declared.operators.UnOp.{UnOp}
 use Rattle.go_tree.specs.declared.exprs.Rest.{Rest}
 use Rattle.go_tree.specs.Tree.{NameAt, Expr, selector, index, slice, call, unary, binary, star, Exprs, ExprOption, some_expr}
-use Rattle.const_eval.specs.declared.consts.Const.{Const}
 use Rattle.const_eval.specs.declared.kinds.Kind.{Kind}
 use Rattle.const_eval.specs.Exact.{Exact}
 use Rattle.const_eval.specs.Literals.{literal_value}
 use Rattle.go_types.specs.Answers.{both, given}
-use Rattle.go_types.specs.Defined.{Defined}
 use Rattle.go_types.specs.Entities as go_entity
 use Rattle.go_types.specs.Entities.{Env, defined_in, exported}
 use Rattle.go_types.specs.Operands as go
@@ -26,7 +24,7 @@ use Rattle.typed_names.specs.declared.scopes.Scope.{Scope}
 use Rattle.typed_names.specs.Meanings.{Names}
 use Rattle.typed_names.specs.Scopes.{env_at}
 use Rattle.checker_tables.specs.declared.tables.Tables.{Tables}
-use Rattle.checker_tables.specs.Ready.{AreReady, Keeps}
+use Rattle.checker_tables.specs.Ready.{Keeps}
 use Rattle.operand_answers.specs.declared.located.Located.{Located}
 use Rattle.operand_answers.specs.declared.lists.OperandList.{OperandList}
 use Rattle.operand_answers.specs.Known.{Stands}
@@ -34,8 +32,8 @@ use Rattle.operand_answers.specs.Lists.{GivesAll}
 use Rattle.operand_answers.specs.Located.{GivesAt, IsThereIfOk}
 use Rattle.operand_answers.proofs.AnswerLemmas.{there_of}
 use Rattle.operand_answers.proofs.KeptLemmas.{env_kept, gives_kept, keeps_on}
-use Rattle.access_steps.specs.Bounds.{GivesBound, IsBoundIfOk}
-use Rattle.access_steps.proofs.BoundLemmas.{bound_absent, bound_kept, bound_there}
+use Rattle.access_steps.specs.Bounds.{GivesBound}
+use Rattle.access_steps.proofs.BoundLemmas.{bound_kept}
 use Rattle.expr_walk.specs.Answers.{GivesExpr}
 
 -- the place in the tables

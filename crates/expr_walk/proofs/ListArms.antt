@@ -1,10 +1,9 @@
 -- Expressions that are walked one by one.
-use Rattle.std.proofs.Common.{◌≡◌, ◌∙◌, ◌+◌, ◌<◌, ◌≤◌, ◌++◌, ℕ, zero, suc, List, [], ◌∷◌, Option, Some, None, Result, Ok, Err, refl, sym, ap, ap₂, subst, length, map, drop, arith, get_or, length-append}
+use Rattle.std.proofs.Common.{◌≡◌, ◌∙◌, ◌++◌, List, [], ◌∷◌, Option, Some, None, Ok, Err, refl, sym, ap, subst, length, map, arith, length-append}
 use Rattle.go_tree.specs.declared.spans.Span.{Span}
 use Rattle.go_tree.specs.Tree.{Expr, Exprs, no_exprs, expr_and}
 use Rattle.const_eval.specs.declared.consts.Const.{Const}
 use Rattle.go_types.specs.Answers.{both, given}
-use Rattle.go_types.specs.Entities as go_entity
 use Rattle.go_types.specs.Entities.{Env}
 use Rattle.go_types.specs.Operands as go
 use Rattle.go_types.specs.Typing.{all_parts, parts, place, places}
@@ -15,7 +14,6 @@ use Rattle.access_rules.specs.declared.places.Place.{Place}
 use Rattle.access_rules.specs.Places.{place_of}
 use Rattle.typed_names.specs.declared.scopes.Scope.{Scope}
 use Rattle.typed_names.specs.Meanings.{Names}
-use Rattle.typed_names.specs.Scopes.{env_at}
 use Rattle.operand_modes.specs.declared.modes.Operand.{Operand}
 use Rattle.operand_modes.specs.Operands.{AreOperands, IsOperand, SameOperand, operand_at, operands_at}
 use Rattle.operand_laws.specs.Alike.{AllSame}
@@ -24,8 +22,8 @@ use Rattle.checker_tables.specs.Ready.{Keeps}
 use Rattle.operand_answers.specs.declared.located.Located.{Located}
 use Rattle.operand_answers.specs.declared.lists.OperandList.{OperandList}
 use Rattle.operand_answers.specs.Known.{Stands}
-use Rattle.operand_answers.specs.Lists.{AllStandAt, AreLocated, GivesAll}
-use Rattle.operand_answers.specs.Located.{GivesAt, IsLocated, StandsAt}
+use Rattle.operand_answers.specs.Lists.{AllStandAt, GivesAll}
+use Rattle.operand_answers.specs.Located.{IsLocated, StandsAt}
 use Rattle.operand_answers.proofs.KeptLemmas.{keeps_on, keeps_self, operands_on, operands_same}
 use Rattle.expr_walk.specs.Answers.{GivesExpr}
 use Rattle.expr_walk.specs.Lists.{AreWalked}

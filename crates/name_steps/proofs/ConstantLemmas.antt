@@ -1,5 +1,5 @@
 -- Untyped constants that are kept.
-use Rattle.std.proofs.Common.{◌≡◌, ◌∙◌, ◌<◌, ◌^◌, ℕ, true, List, Some, None, Result, Ok, Err, refl, sym, ap, subst, arith, pos}
+use Rattle.std.proofs.Common.{◌≡◌, ◌<◌, ◌^◌, ℕ, true, List, Some, Result, Ok, Err, refl, sym, subst, arith, pos}
 use Rattle.std.proofs.lemmas.Bool.Decides.{nat_tests}
 use Rattle.const_eval.specs.declared.kinds.Kind.{Kind}
 use Rattle.const_eval.specs.declared.kinds.Kind.TheVariants as kind
@@ -17,9 +17,8 @@ use Rattle.operand_rules.specs.declared.values.Content.TheVariants.{Run, Exact, 
 use Rattle.operand_rules.specs.declared.values.Value.{Value}
 use Rattle.operand_rules.specs.declared.values.Refusal.{Refusal}
 use Rattle.operand_rules.specs.declared.values.Refusal.TheVariants.{NotTyped, NoMemory}
-use Rattle.operand_rules.specs.Constants.{const_at}
-use Rattle.operand_rules.specs.Folding.{Folds, Holds, HoldsOr}
-use Rattle.operand_rules.specs.Values.{Gives, IsContent, IsGiven, IsType, IsValue, content_of, is_untyped_kind, type_of}
+use Rattle.operand_rules.specs.Folding.{Holds, HoldsOr}
+use Rattle.operand_rules.specs.Values.{Gives, IsGiven, is_untyped_kind}
 
 held_given :
     (e : Environment) (cs : List Const) (k : Kind) (v : Const) (t : ValueType) (c : Content) →

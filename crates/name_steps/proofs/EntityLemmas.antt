@@ -2,7 +2,7 @@
 use Rattle.std.proofs.Common.{◌≡◌, ◌∙◌, ◌<◌, ◌++◌, ℕ, zero, suc, Bool, true, false, List, [], ◌∷◌, Option, Some, None, refl, sym, ap, subst, IfSome, length, bytes_eq, cond}
 use Rattle.const_eval.specs.declared.consts.Const.{Const}
 use Rattle.const_eval.specs.declared.consts.Const.TheVariants.{Truth}
-use Rattle.scope_names.specs.Means.{means, or_else}
+use Rattle.scope_names.specs.Means.{means}
 use Rattle.go_types.specs.Types.{GoType}
 use Rattle.go_types.specs.Entities as go
 use Rattle.go_types.specs.Entities.{block_of, exported, is_exported, meaning, universe}
@@ -14,8 +14,6 @@ use Rattle.operand_rules.specs.declared.values.Content.TheVariants.{Exact}
 use Rattle.operand_rules.specs.Constants.{const_at}
 use Rattle.operand_rules.specs.Values.{IsContent, type_of}
 use Rattle.operand_rules.specs.declared.constants.ConstId.{ConstId}
-use Rattle.universe_block.specs.declared.block.PredeclaredEntity.{PredeclaredEntity}
-use Rattle.universe_block.specs.declared.block.PredeclaredEntity.TheVariants.{TypeName as a_type, Truth as a_truth, Iota as an_iota, Nil as a_nil, Function as a_function}
 use Rattle.universe_block.specs.Meanings.{entity_of}
 use Rattle.typed_names.specs.declared.entities.Entity.{Entity}
 use Rattle.typed_names.specs.declared.entities.Entity.TheVariants.{Variable, Constant, TypeName, Function, Package, Predeclared, Refused}

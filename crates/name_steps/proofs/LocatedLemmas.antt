@@ -1,5 +1,5 @@
 -- Names as operands.
-use Rattle.std.proofs.Common.{◌≡◌, ◌<◌, true, List, Option, Some, refl, length}
+use Rattle.std.proofs.Common.{◌≡◌, List, Option, Some, refl}
 use Rattle.const_eval.specs.declared.consts.Const.{Const}
 use Rattle.go_types.specs.Entities as go_entity
 use Rattle.go_types.specs.Entities.{run}
@@ -11,8 +11,6 @@ use Rattle.operand_rules.specs.declared.constants.ConstId.{ConstId}
 use Rattle.operand_rules.specs.declared.values.ValueType.{ValueType}
 use Rattle.operand_rules.specs.declared.values.ValueType.TheVariants.{Typed, Nil}
 use Rattle.operand_rules.specs.declared.values.Content.TheVariants.{Run, Exact}
-use Rattle.operand_rules.specs.declared.values.Value.{Value}
-use Rattle.operand_rules.specs.Values.{IsType}
 use Rattle.access_rules.specs.declared.places.Place.TheVariants.{Addressable, Elsewhere}
 use Rattle.typed_names.specs.declared.entities.Entity.TheVariants.{Variable, Constant, TypeName, Function}
 use Rattle.typed_names.specs.Meanings.{entity_at}
@@ -22,8 +20,6 @@ use Rattle.universe_block.specs.Meanings.{entity_of}
 use Rattle.operand_modes.specs.declared.modes.Operand.{Operand}
 use Rattle.operand_modes.specs.declared.modes.Operand.TheVariants as mode
 use Rattle.operand_modes.specs.Operands.{IsOperand, IsOperandGiven, operand_at}
-use Rattle.operand_laws.proofs.ContentLemmas.{operand_same}
-use Rattle.operand_answers.specs.declared.located.Located.{Located}
 use Rattle.operand_answers.specs.Known.{IsEntity}
 use Rattle.operand_answers.specs.Located.{IsLocated}
 use Rattle.operand_answers.proofs.AnswerLemmas.{exact_given, stands_nowhere}

@@ -1,6 +1,5 @@
 -- Tables to which a type is added.
-use Rattle.std.proofs.Common.{◌≡◌, ◌<◌, ℕ, false, List, Some, refl, length}
-use Rattle.const_eval.specs.declared.consts.Const.{Const}
+use Rattle.std.proofs.Common.{◌≡◌, ◌<◌, ℕ, false, refl, length}
 use Rattle.go_types.specs.Types.{GoType, is_untyped}
 use Rattle.go_types.specs.Table.{TypeNode}
 use Rattle.type_table.specs.TypesAt.{type_by}

@@ -1,5 +1,5 @@
 -- What follows from answers for parts.
-use Rattle.std.proofs.Common.{◌≡◌, ◌∙◌, List, [], ◌∷◌, Option, Some, None, Result, Ok, Err, refl, sym, ap, subst}
+use Rattle.std.proofs.Common.{◌≡◌, ◌∙◌, List, Option, Some, None, Result, Ok, Err, refl, sym, ap, subst}
 use Rattle.const_eval.specs.declared.consts.Const.{Const}
 use Rattle.go_types.specs.Answers.{both, given}
 use Rattle.go_types.specs.Types.{GoType}
@@ -24,7 +24,7 @@ use Rattle.operand_laws.proofs.ContentLemmas.{answer_on, operand_same}
 use Rattle.operand_answers.specs.declared.located.Located.{Located}
 use Rattle.operand_answers.specs.declared.lists.OperandList.{OperandList}
 use Rattle.operand_answers.specs.Located.{GivesAt, IsLocated, IsThereIfOk}
-use Rattle.operand_answers.specs.Lists.{AreLocated, GivesAll}
+use Rattle.operand_answers.specs.Lists.{GivesAll}
 
 -- what is answered is there
 pub there_of :

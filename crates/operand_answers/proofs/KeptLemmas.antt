@@ -1,16 +1,14 @@
 -- What is known of operands and of names stays known while types and constants are added.
-use Rattle.std.proofs.Common.{◌≡◌, ◌∙◌, ◌<◌, ◌≤◌, ℕ, suc, true, List, [], ◌∷◌, ◌++◌, Option, Result, Ok, Err, refl, sym, ap, ap₂, subst, length, map, arith}
+use Rattle.std.proofs.Common.{◌≡◌, ◌∙◌, ◌<◌, ℕ, suc, List, [], ◌∷◌, Option, Result, Ok, Err, refl, sym, ap, ap₂, subst, length, arith}
 use Rattle.const_eval.specs.declared.consts.Const.{Const}
 use Rattle.const_eval.specs.Exact.{represents}
-use Rattle.go_types.specs.Types as type
 use Rattle.go_types.specs.Types.{GoType, is_untyped}
-use Rattle.go_types.specs.Defined.{Defined}
 use Rattle.go_types.specs.Entities as go_entity
 use Rattle.go_types.specs.Entities.{exact, extend}
 use Rattle.go_types.specs.Operands as go
 use Rattle.go_types.specs.Operands.{Typed, kind_passes, value, several, a_type, a_function}
 use Rattle.go_types.specs.Programs.{file_env}
-use Rattle.type_relations.specs.Environment.{Environment, defined_types, env_type}
+use Rattle.type_relations.specs.Environment.{Environment, defined_types}
 use Rattle.operand_rules.specs.declared.values.ValueType.{ValueType}
 use Rattle.operand_rules.specs.declared.values.ValueType.TheVariants as variant
 use Rattle.operand_rules.specs.declared.values.Content.{Content}
@@ -25,7 +23,7 @@ use Rattle.typed_names.specs.declared.entities.Entity.{Entity}
 use Rattle.typed_names.specs.declared.entities.Entity.TheVariants.{Variable, Constant, TypeName, Function, Package, Predeclared, Refused}
 use Rattle.typed_names.specs.declared.scopes.Scope.{Scope}
 use Rattle.typed_names.specs.Known.{AllHaveTypes, HasTypes, HaveTypes, KnowsTypes}
-use Rattle.typed_names.specs.Meanings.{Names, blocks_from, entity_at, names_at, signature_at, tuple_list, world_at}
+use Rattle.typed_names.specs.Meanings.{Names, blocks_from, entity_at, names_at, tuple_list, world_at}
 use Rattle.typed_names.specs.Scopes.{env_at}
 use Rattle.type_exprs.specs.Grown.{TypesGrown}
 use Rattle.type_exprs.proofs.GrownLaws.{env_same, grown_on, grown_self, known_on}
@@ -37,8 +35,8 @@ use Rattle.checker_tables.specs.declared.tables.Tables.{Tables}
 use Rattle.checker_tables.specs.Ready.{AreReady, Keeps}
 use Rattle.operand_answers.specs.declared.located.Located.{Located}
 use Rattle.operand_answers.specs.declared.lists.OperandList.{OperandList}
-use Rattle.operand_answers.specs.Located.{GivesAt, IsLocated, IsThere, IsThereIfOk}
-use Rattle.operand_answers.specs.Lists.{AreLocated, GivesAll}
+use Rattle.operand_answers.specs.Located.{GivesAt, IsThere, IsThereIfOk}
+use Rattle.operand_answers.specs.Lists.{GivesAll}
 use Rattle.operand_answers.specs.Known.{AllHaveValues, HasValue, HaveValues, KnowsValues, Stands}
 
 abbrev pair : GoType → go_entity.Content → Typed

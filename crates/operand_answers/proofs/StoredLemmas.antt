@@ -2,8 +2,7 @@
 use Rattle.std.proofs.Common.{◌≡◌, ◌∙◌, ◌<◌, ℕ, true, false, List, Option, Some, None, refl, sym, ap, subst, length}
 use Rattle.const_eval.specs.declared.consts.Const.{Const}
 use Rattle.go_types.specs.Types.{GoType, base_of, element_of, is_untyped, map_parts}
-use Rattle.go_types.specs.Defined.{Defined, under}
-use Rattle.go_types.specs.Entities as go_entity
+use Rattle.go_types.specs.Defined.{under}
 use Rattle.go_types.specs.Entities.{run}
 use Rattle.go_types.specs.Operands.{value}
 use Rattle.go_types.specs.Table.{TypeNode, basic_node, named_node, pointer_node, slice_node, map_node, struct_node, tuple_node, untyped_node, nil_node}

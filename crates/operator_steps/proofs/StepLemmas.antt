@@ -17,7 +17,7 @@ use Rattle.type_relations.specs.Environment.{Environment, IsEnvironment, defined
 use Rattle.operand_rules.specs.declared.values.ValueType.TheVariants as variant
 use Rattle.operand_rules.specs.declared.values.Value.{Value}
 use Rattle.operand_rules.specs.declared.values.Refusal.{Refusal}
-use Rattle.operand_rules.specs.Values.{Gives, IsGiven, IsType, content_of, type_of, typed_of}
+use Rattle.operand_rules.specs.Values.{IsGiven, IsType, type_of, typed_of}
 use Rattle.value_types.specs.ValueTypes.{HasValueTypes}
 use Rattle.access_rules.specs.declared.places.Place as place
 use Rattle.access_rules.specs.declared.places.Place.TheVariants.{Addressable, MapElement, Literal, Elsewhere}

@@ -1,4 +1,3 @@
-use Rattle.std.proofs.Common.{subst}
 use Rattle.go_types.specs.Primary.{index_of, index_place}
 use Rattle.type_relations.specs.Environment.{defined_types}
 use Rattle.operand_rules.specs.Values.{content_of, typed_of}

@@ -1,4 +1,4 @@
-use Rattle.std.proofs.Common.{◌∙◌, Some, ap₂, sym, subst}
+use Rattle.std.proofs.Common.{◌∙◌, Some, sym, subst}
 use Rattle.go_types.specs.Answers.{both}
 use Rattle.go_types.specs.Operands.{place_by, typed}
 use Rattle.go_types.specs.Primary.{index_of, index_place}

@@ -1,5 +1,4 @@
-use Rattle.std.proofs.Common.{◌∙◌, Some, subst, sym}
-use Rattle.go_types.specs.Operands.{with_value}
+use Rattle.std.proofs.Common.{◌∙◌, subst, sym}
 use Rattle.operand_answers.specs.Located.{GivesAt}
 use Rattle.access_steps.proofs.BoundLemmas.{bound_refused, none_bound, some_bound}
 use Rattle.access_steps.proofs.slices.bound.Goals as goal

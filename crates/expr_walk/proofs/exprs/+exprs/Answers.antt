@@ -1,6 +1,6 @@
-use Rattle.std.proofs.Common.{◌∙◌, Some, None, pos, ap, ap₂, arith, refl, subst, sym}
+use Rattle.std.proofs.Common.{pos, ap₂, subst, sym}
 use Rattle.go_tree.specs.Tree as tree
-use Rattle.go_tree.specs.View.{boxed_expr_option_of, expr_of, type_of}
+use Rattle.go_tree.specs.View.{boxed_expr_option_of, expr_of}
 use Rattle.const_eval.specs.declared.kinds.Kind.TheVariants as kind
 use Rattle.const_eval.specs.Exact.{number, text}
 use Rattle.const_eval.specs.Literals.{integer_value, literal_value}
@@ -10,13 +10,12 @@ use Rattle.go_types.specs.Entities.{meaning}
 use Rattle.go_types.specs.Operands.{literal_operand, named_operand, named_place}
 use Rattle.go_types.specs.Typing.{bound}
 use Rattle.operand_answers.specs.Located.{GivesAt}
-use Rattle.operand_answers.proofs.KeptLemmas.{keeps_on, keeps_self, stands_kept, there_kept}
+use Rattle.operand_answers.proofs.KeptLemmas.{stands_kept, there_kept}
 use Rattle.access_steps.specs.Bounds.{GivesBound}
-use Rattle.access_steps.proofs.BoundLemmas.{bound_absent, bound_kept, bound_there}
 use Rattle.name_steps.specs.Spelled.{IsSpelled}
 use Rattle.expr_walk.specs.Answers.{GivesExpr}
-use Rattle.expr_walk.specs.Walked.{IsWalked, IsWalkedOption, size, size_option}
-use Rattle.expr_walk.proofs.ExprArms.{at, binary_arm, bound_arm, expr_kept, expr_there, index_arm, literal_arm, no_span, slice_arm, star_arm, unary_arm}
+use Rattle.expr_walk.specs.Walked.{IsWalked}
+use Rattle.expr_walk.proofs.ExprArms.{at, binary_arm, bound_arm, expr_there, index_arm, literal_arm, no_span, slice_arm, star_arm, unary_arm}
 use Rattle.expr_walk.proofs.exprs.+exprs.Goals as goal
 
 pub expr-returns-in-Ident-clause-stands : goal.expr-returns-in-Ident-clause-stands

@@ -1,4 +1,3 @@
-use Rattle.std.proofs.Common.{◌*◌}
 use Rattle.go_tree.specs.View.{boxed_expr_option_of, expr_of}
 use Rattle.expr_walk.specs.Walked.{size, size_option}
 use Rattle.expr_walk.proofs.exprs.+exprs.Given as goal

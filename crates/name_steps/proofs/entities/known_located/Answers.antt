@@ -1,5 +1,4 @@
 use Rattle.std.proofs.Common.{Some, ap, subst, sym}
-use Rattle.go_types.specs.Entities as go_entity
 use Rattle.go_types.specs.Operands.{named_operand, named_place}
 use Rattle.operand_rules.specs.declared.values.ValueType.TheVariants.{Typed}
 use Rattle.operand_rules.specs.declared.values.Content.TheVariants.{Run, Exact}

@@ -1,10 +1,7 @@
-use Rattle.std.proofs.Common.{Some, refl, subst, sym}
+use Rattle.std.proofs.Common.{Some, subst, sym}
 use Rattle.go_types.specs.Operands.{named_operand}
 use Rattle.universe_block.specs.Meanings.{entity_of}
-use Rattle.operand_modes.specs.declared.modes.Operand.TheVariants as mode
 use Rattle.operand_modes.specs.Operands.{GivesOperand}
-use Rattle.operand_answers.proofs.AnswerLemmas.{exact_given}
-use Rattle.name_steps.proofs.LocatedLemmas.{nil_given}
 use Rattle.name_steps.proofs.predeclared.predeclared_operand.Goals as goal
 
 pub returns-in-TypeName-clause-gives : goal.returns-in-TypeName-clause-gives

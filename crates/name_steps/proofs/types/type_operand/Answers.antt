@@ -1,4 +1,4 @@
-use Rattle.std.proofs.Common.{Ok, Err, Some, ap, refl, subst, sym}
+use Rattle.std.proofs.Common.{Some, refl, subst, sym}
 use Rattle.go_tree.specs.View.{type_of}
 use Rattle.go_types.specs.Answers.{given}
 use Rattle.go_types.specs.Operands.{a_type}

@@ -1,4 +1,4 @@
-use Rattle.std.proofs.Common.{◌∙◌, Some, ap, refl, sym}
+use Rattle.std.proofs.Common.{◌∙◌, Some, ap, sym}
 use Rattle.go_types.specs.Operands.{a_type}
 use Rattle.go_types.specs.Types.{pointer_to}
 use Rattle.type_relations.specs.Environment.{env_type}
