@@ -14,7 +14,8 @@ ghost use Rattle.run_rules.specs.Sites.{MarkRef};
 ghost use Rattle.run_rules.specs.Steps.{At, Found};
 ghost use Rattle.run_rules.specs.Surroundings.{Slot};
 ghost use Rattle.run_rules.specs.Texts.{FileText};
-ghost use Rattle.constant_edits.specs.Edits.{added_by, blank_told, edit_told, first_word, IsFormEdit, IsStep, name_text};
+ghost use Rattle.constant_edits.specs.Edits.{added_by, blank_told, edit_told, first_word, name_text};
+ghost use Rattle.constant_edits.specs.Edits.{IsFormEdit, IsStep};
 
 use constant_forms::{ConstantForm, NamedPackage};
 use go_tree::{Comment, FileTree, MAX_FILE_BYTES, Name, NoMemory, Span, Text, Token};
@@ -134,8 +135,8 @@ fn added_by(alloc: Global, form: &ConstantForm) -> Result<Vec<NewImport>, NoMemo
     }
 }
 
-/// The edits of a step in which a use of a marked constant becomes the constant's name: those that settle the imports of
-/// its file, the one that the form adds and those whose specs `unused` names, and behind them that of the form (Go
+/// The edits of a step in which a use of a marked constant becomes the constant's name: those that settle the imports
+/// of its file, the one that the form adds and those whose specs `unused` names, and behind them that of the form (Go
 /// specification, Import declarations; Constant declarations).
 ///
 /// The file has this text, with these tokens and comments; its imports lie in the text as their spans say, and the use

@@ -1,6 +1,5 @@
 -- The code's answer on a use of a constant is what the rules say that it becomes.
 use Rattle.std.proofs.Common.{◌≡◌, ◌∙◌, refl, sym, ap, ℕ, Bool, false, not, cond, nat_eq, subst, List, [], ◌∷◌, map, Option, Some, None, slice_get, eq-eqb}
-use Rattle.std.specs.List.{list_any}
 use Rattle.std.specs.Option.{option_map, option_to_list}
 use Rattle.std.proofs.lemmas.Option.{same_Some, slice_get-map}
 use Rattle.go_tree.specs.declared.spans.Span.{Span}
@@ -16,19 +15,18 @@ use Rattle.go_types.specs.Answers.{given, one_of}
 use Rattle.run_rules.specs.Surroundings.{Seen, other}
 use Rattle.run_rules.specs.Places.{expr_seen}
 use Rattle.run_rules.specs.Sites.{MarkRef, Where, Site, inlinable, part_span}
-use Rattle.run_rules.specs.Naming.{Names, Named, unnamed, unnamed_in, names_by, package_path, own_name, named_package, named_packages}
+use Rattle.run_rules.specs.Naming.{Names, Named, unnamed, unnamed_in, names_by, package_path, own_name, named_packages}
 use Rattle.run_rules.specs.FormTrees.{ConstForm, Form, as_expr, form_identifiers}
 use Rattle.run_rules.specs.Obstacles.{Obstacle, NotAccessible, CommentInside, Repeated, Internal, Shadowed, obstacle_if, not_accessible, internal_package, shadowed, is_repeated}
-use Rattle.run_rules.specs.Reduced.{Reduced, becomes, kept, name_obstacle, named_form, reduced_name, constant_form, reduced_in, reduced}
+use Rattle.run_rules.specs.Reduced.{Reduced, becomes, kept, name_obstacle, named_form, constant_form, reduced_in, reduced}
 use Rattle.run_rules.specs.Respanned.{package_with, packages_with}
-use Rattle.run_rules.specs.Steps.{At, same_here, lies_in}
+use Rattle.run_rules.specs.Steps.{At, same_here}
 use Rattle.run_rules.specs.Run.{here_of}
 use Rattle.constant_forms.specs.declared.obstacles.Obstacle as code_obstacle
 use Rattle.constant_forms.specs.declared.packages.NamedPackage.{NamedPackage}
 use Rattle.constant_forms.specs.declared.reduced.ConstantForm.{ConstantForm}
 use Rattle.constant_forms.specs.declared.reduced.ReducedConstant.TheVariants.{Becomes, Kept}
 use Rattle.constant_forms.specs.declared.uses.ConstantUse.{ConstantUse}
-use Rattle.constant_forms.specs.declared.uses.ConstantValue.{ConstantValue}
 use Rattle.constant_forms.specs.declared.uses.ConstantValue.TheVariants.{Plain, Qualified}
 use Rattle.constant_forms.specs.Views.{obstacle_of, named_of, name_expr}
 use Rattle.constant_forms.specs.Told.{value_name, needed_package, is_hidden, is_another, path_at, own_at, named_by, is_elsewhere, needed, hidden, refused, refused_path, shadowed_told, obstacle_told, IsPackage, IsFormOf}

@@ -10,13 +10,13 @@ use Rattle.pkg_graph.specs.Members.{Target}
 use Rattle.go_types.specs.Answers.{given, otherwise}
 use Rattle.run_rules.specs.Surroundings.{Place, other, in_slot, inner_slot}
 use Rattle.run_rules.specs.Rewriting.{Changes, new_expr, new_name}
-use Rattle.run_rules.specs.Sites.{Where, mark_of, outer_meaning}
+use Rattle.run_rules.specs.Sites.{Where, mark_of}
 use Rattle.run_rules.specs.Naming.{Names, unnamed, unnamed_package, unnamed_in, new_first}
-use Rattle.run_rules.specs.FormTrees.{Form, as_expr, a_name, form_identifiers, outside_changes}
+use Rattle.run_rules.specs.FormTrees.{as_expr, a_name, form_identifiers, outside_changes}
 use Rattle.run_rules.specs.Steps.{At}
 use Rattle.place_meanings.specs.Agreement.{target_of}
 use Rattle.constant_forms.specs.declared.uses.ConstantValue.{ConstantValue}
-use Rattle.constant_forms.specs.declared.uses.ConstantValue.TheVariants.{Plain, Qualified}
+use Rattle.constant_forms.specs.declared.uses.ConstantValue.TheVariants.{Plain}
 use Rattle.constant_forms.specs.Views.{name_expr}
 use Rattle.constant_forms.specs.Told.{value_name, needed_package}
 use Rattle.constant_forms.specs.Uses.{home_place, IsMember, IsValue}

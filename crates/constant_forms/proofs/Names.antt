@@ -1,5 +1,5 @@
 -- The name that is needed for a package at a use is the one that the rules find.
-use Rattle.std.proofs.Common.{◌≡◌, ◌∙◌, refl, sym, ap, subst, ℕ, suc, ◌+◌, ◌<◌, ◌^◌, Bool, true, false, not, ◌&&◌, ◌||◌, cond, bytes_eq, codes, List, [], ◌∷◌, ◌++◌, map, filter, reverse, Option, Some, None, is_some}
+use Rattle.std.proofs.Common.{◌≡◌, ◌∙◌, refl, sym, ap, subst, ℕ, suc, ◌<◌, ◌^◌, Bool, true, false, not, ◌&&◌, ◌||◌, cond, bytes_eq, codes, List, [], ◌∷◌, ◌++◌, map, filter, reverse, Option, Some, None, is_some}
 use Rattle.std.specs.List.{list_any}
 use Rattle.std.proofs.lemmas.Bool.{both_ways}
 use Rattle.go_tree.specs.declared.spans.Span.{Span}
@@ -15,9 +15,9 @@ use Rattle.scope_names.specs.Means.{Environment, means, or_else, file_environmen
 use Rattle.scope_names.specs.Occurrences.{means_import}
 use Rattle.scope_names.specs.Fresh.{candidate, is_new, IsFresh}
 use Rattle.scope_names.specs.Scopes.{Scope, holds_at, locals_at, decls_scopes, environment_at}
-use Rattle.scope_tables.specs.Table.{Table, IsTableOf, meaning_in}
+use Rattle.scope_tables.specs.Table.{Table, IsTableOf}
 use Rattle.import_rules.specs.declared.new_import.Needed.{Needed}
-use Rattle.import_rules.specs.Needs.{serves, serving_from, serving, avoided, IsNeeded, IsNeededAt, there, new}
+use Rattle.import_rules.specs.Needs.{serving_from, serving, avoided, IsNeeded, IsNeededAt, there, new}
 use Rattle.import_rules.proofs.MeaningLaws.{means_append}
 use Rattle.import_rules.proofs.NeedLaws.{one_is_needed}
 use Rattle.import_rules.proofs.NeededMeans.{eq_turn}

@@ -1,6 +1,7 @@
 -- What follows from what the code is told of a use of a marked constant (Go specification, Exported identifiers;
 -- Qualified identifiers; Declarations and scope; Import declarations).
-use Rattle.std.specs.Prelude.{◌≡◌, ℕ, ◌<◌, Bool, true, false, not, ◌&&◌, List, [], Option, Some, None, if◌then◌else◌, bytes_eq, nat_eq, length, slice_get}
+use Rattle.std.specs.Prelude.{◌≡◌, ℕ, ◌<◌, Bool, true, false, not, ◌&&◌, List, [], Option, Some, None, if◌then◌else◌}
+use Rattle.std.specs.Prelude.{bytes_eq, nat_eq, length, slice_get}
 use Rattle.std.specs.List.{list_any}
 use Rattle.go_tree.specs.FileView.{file_of}
 use Rattle.scope_names.specs.declared.names.Entity.{Entity}

@@ -14,7 +14,8 @@ use Rattle.pkg_graph.specs.Views.{package_view}
 use Rattle.go_types.specs.Answers.{given, is_empty}
 use Rattle.run_rules.specs.Surroundings.{Place}
 use Rattle.run_rules.specs.Programs.{top_place}
-use Rattle.run_rules.specs.Sites.{MarkRef, Where, Site, a_constant, part_span, where_is, inlinable, mark_of, outer_meaning, qualifier}
+use Rattle.run_rules.specs.Sites.{MarkRef, Where, Site, a_constant, part_span, where_is, inlinable, mark_of}
+use Rattle.run_rules.specs.Sites.{outer_meaning, qualifier}
 use Rattle.run_rules.specs.Naming.{unnamed_package, fuel_for}
 use Rattle.run_rules.specs.Reduced.{reduced}
 use Rattle.run_rules.specs.Respanned.{packages_with}

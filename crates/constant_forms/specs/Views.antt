@@ -9,7 +9,8 @@ use Rattle.run_rules.specs.Obstacles as rules
 use Rattle.run_rules.specs.Obstacles.{Obstacle}
 use Rattle.run_rules.specs.Reduced.{Reduced, becomes, kept}
 use Rattle.constant_forms.specs.declared.obstacles.Obstacle as code
-use Rattle.constant_forms.specs.declared.obstacles.Obstacle.TheVariants.{NotAccessible, Internal, Shadowed, Recursive, CommentInside, Spread, Repeated}
+use Rattle.constant_forms.specs.declared.obstacles.Obstacle.TheVariants.{NotAccessible, Internal, Shadowed, Recursive}
+use Rattle.constant_forms.specs.declared.obstacles.Obstacle.TheVariants.{CommentInside, Spread, Repeated}
 use Rattle.constant_forms.specs.declared.packages.NamedPackage.{NamedPackage}
 use Rattle.constant_forms.specs.declared.reduced.ConstantForm.{ConstantForm}
 use Rattle.constant_forms.specs.declared.reduced.ReducedConstant.{ReducedConstant}

@@ -4,7 +4,9 @@ ghost use Rattle.std.specs.Prelude.{◌≡◌, ◌<◌, IfOk, length, MatchOptio
 ghost use Rattle.std.specs.Option.{option_map};
 ghost use Rattle.import_rules.specs.Laid.{CommentsAscend};
 ghost use Rattle.constant_forms.specs.Views.{obstacle_of};
-ghost use Rattle.constant_forms.specs.Told.{AreInPackages, hidden, is_another, is_hidden, is_shadowed, means_member, means_universe, obstacle_told, refused, refused_path, shadowed_told, spoiled};
+ghost use Rattle.constant_forms.specs.Told.{AreInPackages, hidden, is_another, is_hidden, is_shadowed};
+ghost use Rattle.constant_forms.specs.Told.{means_member, means_universe, obstacle_told};
+ghost use Rattle.constant_forms.specs.Told.{refused, refused_path, shadowed_told, spoiled};
 
 use crate::uses::{ConstantUse, ConstantValue, value_name};
 use comments_within::comment_lies_in;

@@ -24,7 +24,11 @@ pub struct NamedPackage {
 
 /// The import of a package by a name, which is written where it isn't the package's own.
 fn new_import(alloc: Global, name: &Name, wanted: &Package) -> Result<NewImport, NoMemory>
-    ensures { IfOk result (λ i. i ≡ record { name = name.now; path = wanted.now.path; spelled = not (bytes_eq name.now wanted.now.name) }) }
+    ensures { IfOk result (λ i. i ≡ record {
+      name = name.now;
+      path = wanted.now.path;
+      spelled = not (bytes_eq name.now wanted.now.name);
+    }) }
 {
     Ok(NewImport {
         name: Name::copied(alloc, name.items())?,
