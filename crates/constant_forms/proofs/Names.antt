@@ -83,7 +83,7 @@ import_of_local k (Some (Package j)) e = cc
 import_of_local k (Some (Universe j)) e = cc
 
 module _ (ps : List (packages.Package At)) (w : Where At) (p : Place At) (names : FileNames) (file : File Span) (t : Table) (at : ℕ)
-    (words : identifiers file ≡ identifiers w.source.tree) (named : names ≡ names_standing ps w) (table : IsTableOf names file t) (agrees : AgreesAt ps w p t at) where
+    (words : identifiers file ≡ identifiers w.source.tree) (named : names ≡ names_standing ps w) (table : IsTableOf names file t) (agrees : AgreesAt ps w t p at) where
   abbrev here : Environment Entity
   here = environment_at names file at
 

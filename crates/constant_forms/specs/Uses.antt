@@ -73,7 +73,7 @@ module _ (ps : List (Package At)) where
       pub few_words : fuel_for x.at.source.tree (avoided (names_standing ps x.at) []) < 2 ^ 64
       pub names_are : u.names.now ≡ names_standing ps x.at
       pub is_table : IsTableOf u.names.now (file_of u.file.now) (table_of u.scopes.now)
-      pub agrees : AgreesAt ps x.at x.place (table_of u.scopes.now) u.at
+      pub agrees : AgreesAt ps x.at (table_of u.scopes.now) x.place u.at
       pub stands : here_of (part_span x.part) ≡ u.span
       pub comments_are :
           commented x.at.number x.at.file_number (part_span x.part) ≡ list_any (lies_in u.span) u.comments.now
