@@ -1,0 +1,5 @@
+//! Tests of the members that parts of declarations name.
+#![tactic(auto)]
+
+#[cfg(test)]
+mod members;
