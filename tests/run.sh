@@ -44,8 +44,9 @@ add() {
     fi
 }
 
-# modules, those that are too large, tokens and trees of files, files printed, and what documents name
+# modules, what is refused of them, those that are too large, tokens and trees of files, files printed, and what documents name
 add runs.sh
+add modules.sh
 add limits.sh
 add tokens.sh
 add trees.sh

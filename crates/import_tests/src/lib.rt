@@ -1,8 +1,6 @@
-//! Tests of the calls that settle a file's imports, on texts that the parser reads, and of modules that are read.
+//! Tests of the calls that settle a file's imports and find a declaration's parts, on texts that the parser reads.
 #![tactic(auto)]
 
-#[cfg(test)]
-mod modules;
 #[cfg(test)]
 mod needs;
 #[cfg(test)]
