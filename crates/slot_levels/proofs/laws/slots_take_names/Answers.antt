@@ -1,0 +1,8 @@
+use Rattle.slot_levels.proofs.Walk.{uses_fit, found_fits}
+use Rattle.slot_levels.proofs.laws.slots_take_names.Goals as goal
+
+pub returns-clause-uses : goal.returns-clause-uses
+returns-clause-uses c = λ ps marks i x e. uses_fit ps marks i x e
+
+pub returns-clause-found : goal.returns-clause-found
+returns-clause-found c = λ same commented ps marks f e. found_fits ps marks same commented f e
