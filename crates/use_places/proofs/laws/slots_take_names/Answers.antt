@@ -1,5 +1,5 @@
-use Rattle.slot_levels.proofs.Walk.{uses_fit, found_fits}
-use Rattle.slot_levels.proofs.laws.slots_take_names.Goals as goal
+use Rattle.use_places.proofs.Walk.{uses_fit, found_fits}
+use Rattle.use_places.proofs.laws.slots_take_names.Goals as goal
 
 pub returns-clause-uses : goal.returns-clause-uses
 returns-clause-uses c = λ ps marks i x e. uses_fit ps marks i x e
