@@ -1,6 +1,6 @@
 -- Each place that the walk over a declaration lists asks for no level above 7, the level of a name; so does the place of
 -- each use.
-use Rattle.std.proofs.Common.{◌≡◌, ◌+◌, ℕ, suc, Bool, true, false, ◌||◌, if◌then◌else◌, nat_le, ◌≤◌, zero, List, [], ◌∷◌, ◌++◌, Option, Some, None, refl, subst, sym}
+use Rattle.std.proofs.Common.{◌≡◌, ◌+◌, ℕ, suc, Bool, true, false, ◌||◌, if◌then◌else◌, nat_le, ◌≤◌, zero, List, [], ◌∷◌, ◌++◌, Option, Some, None, refl, subst}
 use Rattle.std.specs.Prelude.{slice_get}
 use Rattle.std.proofs.lemmas.Bool.{cond_both, leb-true}
 use Rattle.go_types.proofs.Agreeing.{some_same}
@@ -27,6 +27,50 @@ use Rattle.run_rules.specs.Sites.{MarkRef, Where, Part, an_expr, a_type_part, Si
 use Rattle.run_rules.specs.Reduced.{Reduced, becomes, kept, reduced}
 use Rattle.run_rules.specs.Steps.{Found, found_by, first_found, first_step}
 
+-- that of an operator
+level_fits : (o : BinOp) → nat_le (level_of o) 7 ≡ true
+level_fits Mul = refl
+level_fits Div = refl
+level_fits Rem = refl
+level_fits Shl = refl
+level_fits Shr = refl
+level_fits And = refl
+level_fits AndNot = refl
+level_fits Add = refl
+level_fits Sub = refl
+level_fits Or = refl
+level_fits Xor = refl
+level_fits Eq = refl
+level_fits Ne = refl
+level_fits Lt = refl
+level_fits Le = refl
+level_fits Gt = refl
+level_fits Ge = refl
+level_fits LogAnd = refl
+level_fits LogOr = refl
+
+-- and one more
+next_fits : (o : BinOp) → nat_le (level_of o + 1) 7 ≡ true
+next_fits Mul = refl
+next_fits Div = refl
+next_fits Rem = refl
+next_fits Shl = refl
+next_fits Shr = refl
+next_fits And = refl
+next_fits AndNot = refl
+next_fits Add = refl
+next_fits Sub = refl
+next_fits Or = refl
+next_fits Xor = refl
+next_fits Eq = refl
+next_fits Ne = refl
+next_fits Lt = refl
+next_fits Le = refl
+next_fits Gt = refl
+next_fits Ge = refl
+next_fits LogAnd = refl
+next_fits LogOr = refl
+
 module _ {A : Type 0} where
   -- a name needs no parentheses there
   abbrev pub Fits : Place A → Type 0
@@ -47,50 +91,6 @@ module _ {A : Type 0} where
   both (x ∷ xs) ys h k = (h.0, both xs ys h.1 k)
 
   -- ---- levels
-
-  -- that of an operator
-  level_fits : (o : BinOp) → nat_le (level_of o) 7 ≡ true
-  level_fits Mul = refl
-  level_fits Div = refl
-  level_fits Rem = refl
-  level_fits Shl = refl
-  level_fits Shr = refl
-  level_fits And = refl
-  level_fits AndNot = refl
-  level_fits Add = refl
-  level_fits Sub = refl
-  level_fits Or = refl
-  level_fits Xor = refl
-  level_fits Eq = refl
-  level_fits Ne = refl
-  level_fits Lt = refl
-  level_fits Le = refl
-  level_fits Gt = refl
-  level_fits Ge = refl
-  level_fits LogAnd = refl
-  level_fits LogOr = refl
-
-  -- and one more
-  next_fits : (o : BinOp) → nat_le (level_of o + 1) 7 ≡ true
-  next_fits Mul = refl
-  next_fits Div = refl
-  next_fits Rem = refl
-  next_fits Shl = refl
-  next_fits Shr = refl
-  next_fits And = refl
-  next_fits AndNot = refl
-  next_fits Add = refl
-  next_fits Sub = refl
-  next_fits Or = refl
-  next_fits Xor = refl
-  next_fits Eq = refl
-  next_fits Ne = refl
-  next_fits Lt = refl
-  next_fits Le = refl
-  next_fits Gt = refl
-  next_fits Ge = refl
-  next_fits LogAnd = refl
-  next_fits LogOr = refl
 
   callee_fits : (l : Slot) (f : Expr A) (p : Place A) → nat_le l.level 7 ≡ true → Fits (callee_place l f p)
   callee_fits l (ident s n) p w = w
@@ -116,26 +116,26 @@ module _ {A : Type 0} where
   arms_fit_after p no_arms w = w
   arms_fit_after p (arm s i t z b r) w = arms_fit_after (block (after_first p i)) r w
 
+  -- the start of a literal's body, by the type of its signature
+  abbrev started : Place A → Sig A → Option FuncType → Place A
+  started p g o =
+      elim o [
+        | None ↦ p
+        | Some f ↦ record p {
+          env = literal_env p.env g;
+          bound = sig_declares g ++ p.bound;
+          ctx = body_ctx g f;
+          deferred = p.deferred || p.deferring;
+          deferring = false;
+          since = sig_declares g ++ (if p.deferring then [] else p.since);
+          literals = suc p.literals;
+        }
+      ]
+
   literal_fits : (p : Place A) (g : Sig A) → Fits p → Fits (in_literal p g)
   literal_fits p g w = by (func_type p.env g)
     where
-      -- the start of a literal's body, by the type of its signature
-      abbrev started : Option FuncType → Place A
-      started o =
-          elim o [
-            | None ↦ p
-            | Some f ↦ record p {
-              env = literal_env p.env g;
-              bound = sig_declares g ++ p.bound;
-              ctx = body_ctx g f;
-              deferred = p.deferred || p.deferring;
-              deferring = false;
-              since = sig_declares g ++ (if p.deferring then [] else p.since);
-              literals = suc p.literals;
-            }
-          ]
-
-      by : (o : Option FuncType) → Fits (started o)
+      by : (o : Option FuncType) → Fits (started p g o)
       by None = w
       by (Some f) = w
 
@@ -200,12 +200,12 @@ module _ {A : Type 0} where
     stmt_fit p l (const_decl s g ss) w = both (constants_seen (plain_slot p) nothing_to_repeat 0 ss) (seen_stmt p (const_decl s g ss) ∷ []) (constants_fit (plain_slot p) nothing_to_repeat 0 ss refl) (tt, tt)
     stmt_fit p l (var_decl s g ss) w = both (variables_seen (plain_slot p) ss) (seen_stmt p (var_decl s g ss) ∷ []) (variables_fit (plain_slot p) ss refl) (tt, tt)
     stmt_fit p l (empty s) w = (tt, tt)
-    stmt_fit p l (eval s e) w = both (expr_seen p (alone l) e) (seen_stmt p (eval s e) ∷ []) (expr_fit p (alone l) e w) (w, tt)
+    stmt_fit p l (eval s e) w = both (expr_seen p (alone l) e) (seen_stmt p (eval s e) ∷ []) (expr_fit p (alone l) e w) (tt, tt)
     stmt_fit p l (step s e b) w = both (expr_seen p updated e) (seen_stmt p (step s e b) ∷ []) (expr_fit p updated e w) (tt, tt)
     stmt_fit p l (assign s xs None ys) w = both (all_seen p (every_use stored xs) xs ++ all_seen p (right_uses p.env xs) ys) (seen_stmt p (assign s xs None ys) ∷ []) (both (all_seen p (every_use stored xs) xs) (all_seen p (right_uses p.env xs) ys) (all_fit p (every_use stored xs) xs w) (all_fit p (right_uses p.env xs) ys w)) (tt, tt)
     stmt_fit p l (assign s xs (Some o) ys) w = both (all_seen p (every_use updated xs) xs ++ all_seen p (first_operand_use p.env o xs ∷ []) ys) (seen_stmt p (assign s xs (Some o) ys) ∷ []) (both (all_seen p (every_use updated xs) xs) (all_seen p (first_operand_use p.env o xs ∷ []) ys) (all_fit p (every_use updated xs) xs w) (all_fit p (first_operand_use p.env o xs ∷ []) ys w)) (tt, tt)
     stmt_fit p l (define s ns ys) w = both (old_seen p ns ++ all_seen p (alike whole ns) ys) (seen_stmt p (define s ns ys) ∷ []) (both (old_seen p ns) (all_seen p (alike whole ns) ys) (old_fit p ns w) (all_fit p (alike whole ns) ys w)) (tt, tt)
-    stmt_fit p l (return_ s xs) w = both (all_seen p (return_uses p.ctx.results xs) xs) (seen_stmt p (return_ s xs) ∷ []) (all_fit p (return_uses p.ctx.results xs) xs w) (w, tt)
+    stmt_fit p l (return_ s xs) w = both (all_seen p (return_uses p.ctx.results xs) xs) (seen_stmt p (return_ s xs) ∷ []) (all_fit p (return_uses p.ctx.results xs) xs w) (tt, tt)
     stmt_fit p l (break_ s n) w = (tt, tt)
     stmt_fit p l (continue_ s n) w = (tt, tt)
     stmt_fit p l (inner s b) w = both (stmts_seen (block p) b) (seen_stmt p (inner s b) ∷ []) (stmts_fit (block p) b w) (tt, tt)

@@ -2,4 +2,4 @@ use Rattle.use_places.proofs.Behind.{uses_behind}
 use Rattle.use_places.proofs.laws.uses_lie_behind_imports.Goals as goal
 
 pub returns : goal.returns
-returns c = uses_behind
+returns c = record { behind = uses_behind }
