@@ -36,7 +36,7 @@ passed : {A : Type 0} (b : Bool) (r : Option A) (x : A) → only_if b r ≡ Some
 passed true r x e = refl
 passed false r x e = absurd (grind (arith, e))
 
-met : {A : Type 0} (r : Option A) (p : A → Bool) → meets r p ≡ true → (x : A) × (r ≡ Some x) × (p x ≡ true)
+pub met : {A : Type 0} (r : Option A) (p : A → Bool) → meets r p ≡ true → (x : A) × (r ≡ Some x) × (p x ≡ true)
 met None p e = absurd (grind (arith, e))
 met (Some x) p e = (x, refl, e)
 
@@ -68,7 +68,7 @@ known_values : {A B : Type 0} (o : Option A) (k : A → Option B) → is_some (g
 known_values None k e = absurd (grind (arith, e))
 known_values (Some x) k e = (x, refl)
 
-there_is : {A : Type 0} (o : Option A) → is_some o ≡ true → (x : A) × (o ≡ Some x)
+pub there_is : {A : Type 0} (o : Option A) → is_some o ≡ true → (x : A) × (o ≡ Some x)
 there_is None e = absurd (grind (arith, e))
 there_is (Some x) e = (x, refl)
 
@@ -93,7 +93,7 @@ module _ {S : Type 0} where
 
   -- ---- lists
 
-  join : (xs ys : List (Seen S)) → Stand xs → Stand ys → Stand (xs ++ ys)
+  pub join : (xs ys : List (Seen S)) → Stand xs → Stand ys → Stand (xs ++ ys)
   join [] ys a b = b
   join (x ∷ xs) ys a b = (a.0, join xs ys a.1 b)
 
@@ -128,7 +128,7 @@ module _ {S : Type 0} where
   type_stands : (p : Place S) (t : TypeExpr S) → Stand (type_seen p t)
   type_stands p t = (tt, tt)
 
-  written_stands : (p : Place S) (t : Option (TypeExpr S)) → Stand (written_seen p t)
+  pub written_stands : (p : Place S) (t : Option (TypeExpr S)) → Stand (written_seen p t)
   written_stands p None = tt
   written_stands p (Some t) = (tt, tt)
 

@@ -3,4 +3,4 @@
 
 mod laws;
 
-pub use laws::typed_bodies_have_typed_parts;
+pub use laws::{typed_bodies_have_typed_parts, well_typed_programs_have_typed_parts};
