@@ -1,2 +1,2 @@
-mod Walk
-mod Decls
+pub mod Walk
+pub mod Decls

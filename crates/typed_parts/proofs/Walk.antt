@@ -43,7 +43,7 @@ met (Some x) p e = (x, refl, e)
 there : {A : Type 0} (o : Option A) (x : A) → o ≡ Some x → is_some o ≡ true
 there o x e = ap is_some e
 
-into_back : (o : Option GoType) → into_type (into_or o) ≡ o
+pub into_back : (o : Option GoType) → into_type (into_or o) ≡ o
 into_back None = refl
 into_back (Some t) = refl
 
@@ -156,7 +156,7 @@ module _ {S : Type 0} where
   base_stands p b n o (Some k) e h f = absurd (grind (arith, ap is_some e))
 
   -- an element in braces alone stands in no struct
-  elem_into : (a : Env) (u : GoType) (i : ℕ) (k : ValueOption S) → is_some (inner_type (defined_in a) u) ≡ true → into_type (elem_use a (Some u) i k) ≡ inner_type (defined_in a) u
+  pub elem_into : (a : Env) (u : GoType) (i : ℕ) (k : ValueOption S) → is_some (inner_type (defined_in a) u) ≡ true → into_type (elem_use a (Some u) i k) ≡ inner_type (defined_in a) u
   elem_into a (basic b) i k e = into_back (inner_type (defined_in a) (basic b))
   elem_into a (named_type b n) i k e = into_back (inner_type (defined_in a) (named_type b n))
   elem_into a (pointer_to t) i k e = into_back (inner_type (defined_in a) (pointer_to t))
