@@ -1,1 +1,4 @@
 mod Keys
+mod SpelledPosts
+mod SeenPosts
+mod Scoped

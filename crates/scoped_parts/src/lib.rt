@@ -4,4 +4,4 @@
 
 mod laws;
 
-pub use laws::typed_parts_are_keyed;
+pub use laws::{typed_parts_are_keyed, well_typed_files_are_scoped};
