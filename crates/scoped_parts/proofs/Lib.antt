@@ -1,0 +1,4 @@
+mod Keys
+mod SpelledPosts
+mod SeenPosts
+mod Scoped
