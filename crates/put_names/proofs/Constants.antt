@@ -1,0 +1,117 @@
+-- A constant that is declared as a name becomes a name.
+use Rattle.std.proofs.Common.{◌≡◌, ℕ, zero, suc, Bool, true, false, nat_eq, List, [], ◌∷◌, Option, Some, None, refl, sym, ap, subst, ◌∙◌}
+use Rattle.std.specs.Prelude.{slice_get, if◌then◌else◌}
+use Rattle.std.proofs.lemmas.Option.{same_Some}
+use Rattle.go_tree.specs.Tree.{NameAt, Expr, ident, selector, Exprs, no_exprs, expr_and, const_decl, ValueSpecs, no_specs, spec}
+use Rattle.go_tree.specs.File.{TypeSpec, Decl, values, types, func}
+use Rattle.layout_laws.specs.Formed.{FormedExpr, FormedExprs, FormedSpecs}
+use Rattle.go_types.specs.Answers.{given, otherwise}
+use Rattle.run_rules.specs.FormTrees.{ConstForm, Form, as_expr, outside_changes}
+use Rattle.run_rules.specs.Naming.{Names, unnamed, names_by, member_qualifier}
+use Rattle.run_rules.specs.Places.{expr_seen}
+use Rattle.run_rules.specs.Programs.{top_place}
+use Rattle.run_rules.specs.Reduced.{name_obstacle, home_place, constant_form}
+use Rattle.run_rules.specs.Respanned.{expr_with, exprs_with, specs_with, decl_with}
+use Rattle.run_rules.specs.Rewriting.{new_expr}
+use Rattle.run_rules.specs.Run.{Standing, Logged, Next, here_of, is_commented}
+use Rattle.run_rules.specs.Sites.{MarkRef, Where, Inlinable, a_constant, an_alias, aliased, part_span, constant_in_spec, less, nth_constant, inlinable_in, where_is, inlinable, outer_meaning}
+use Rattle.run_rules.specs.Steps.{At, same_here}
+use Rattle.run_rules.specs.Surroundings.{other, Place, inner_slot, in_slot}
+use Rattle.run_laws.specs.Reading.{FileReads, ProgramReads}
+use Rattle.put_nodes.specs.SpelledNames.{a_name_alone, AreNames}
+use Rattle.put_nodes.specs.Swapped.{FormedDecl}
+use Rattle.put_nodes.proofs.ReadFiles.{decl_formed}
+use Rattle.put_names.specs.Uses.{IsDeclaredAsName, as_name, as_member, BecomesName, UsesConstant}
+use Rattle.put_names.proofs.Forms.{stands, Qualifies, nothing, its_name, member_view, IsFormBy, by_obstacle, reduced_is, with_package}
+
+-- ---- what a constant is declared as is well formed
+
+module _ {A B : Type 0} (to : A → B) where
+  spec_formed : (i : ℕ) (ns : List (NameAt A)) (es : Exprs A) (rest : Option (Inlinable A)) (c : NameAt A) (e : Expr A) → FormedExprs (exprs_with to es) → (rest ≡ Some (a_constant c e) → FormedExpr (expr_with to e)) → constant_in_spec i ns es rest ≡ Some (a_constant c e) → FormedExpr (expr_with to e)
+  spec_formed i [] es rest c e f k h = k h
+  spec_formed zero (n ∷ ns) no_exprs rest c e f k h = absurd cc
+  spec_formed zero (n ∷ ns) (expr_and y ys) rest c e f k h = subst (λ (x : Expr A). FormedExpr (expr_with to x)) (value_of (same_Some (a_constant n y) (a_constant c e) h)) f.1
+    where
+      value_of : a_constant n y ≡ a_constant c e → y ≡ e
+      value_of q = cc
+  spec_formed (suc i) (n ∷ ns) no_exprs rest c e f k h = spec_formed i ns no_exprs rest c e f k h
+  spec_formed (suc i) (n ∷ ns) (expr_and y ys) rest c e f k h = spec_formed i ns ys rest c e f.2 k h
+
+  specs_formed : (i : ℕ) (ss : ValueSpecs A) (c : NameAt A) (e : Expr A) → FormedSpecs true (specs_with to ss) → nth_constant i ss ≡ Some (a_constant c e) → FormedExpr (expr_with to e)
+  specs_formed i no_specs c e f h = absurd cc
+  specs_formed i (spec s ns t es ss) c e f h = spec_formed i ns es (nth_constant (less i ns) ss) c e f.3 (λ q. specs_formed (less i ns) ss c e f.5 q) h
+
+  constant_formed : (d : Decl A) (i : ℕ) (c : NameAt A) (e : Expr A) → FormedDecl (decl_with to d) → inlinable_in d i ≡ Some (a_constant c e) → FormedExpr (expr_with to e)
+  constant_formed (values (const_decl s g ss)) i c e f h = specs_formed i ss c e f.1 h
+  constant_formed (values s) i c e f h = absurd cc
+  constant_formed (types s g ts) i c e f h = absurd (none_in (slice_get ts i) h)
+    where
+      none_in : (o : Option (TypeSpec A)) → given o aliased ≡ Some (a_constant c e) → ⊥
+      none_in None q = cc
+      none_in (Some t) q = by (t.alias) q
+        where
+          by : (b : Bool) → (if b then Some (an_alias t.name t.of) else None) ≡ Some (a_constant c e) → ⊥
+          by true q = cc
+          by false q = cc
+  constant_formed (func g) i c e f h = absurd cc
+
+-- ---- in its file
+
+module _ (st : Standing) (m : MarkRef) (home : Where At) where
+  module _ (reads : ProgramReads st) (home_is : where_is st.packages m ≡ Some home) (c : NameAt At) (e : Expr At) (declared : inlinable st.packages m ≡ Some (a_constant c e)) where
+    by_decl : (o : Option (Decl At)) → slice_get home.source.tree.decls m.decl ≡ o → given o (λ d. inlinable_in d m.item) ≡ Some (a_constant c e) → FormedExpr (expr_with here_of e)
+    by_decl None q h = absurd cc
+    by_decl (Some d) q h =
+        let r : FileReads st.texts home.source = reads home.number home.file_number home.source (stands st m home home_is) in
+        constant_formed here_of d m.item c e (decl_formed here_of r.text home.source.tree r.reads m.decl d q) h
+
+    value_formed : FormedExpr (expr_with here_of e)
+    value_formed =
+        by_decl (slice_get home.source.tree.decls m.decl) refl
+        (sym (ap (λ (o : Option (Where At)). given o (λ w. given (slice_get w.source.tree.decls m.decl) (λ d. inlinable_in d m.item))) home_is) ∙ declared)
+
+module _ (marks : List MarkRef) (st : Standing) (l : Logged) (after : Standing) (n : Next marks st l after) where
+  -- the text of the declaration at the use, by names for packages
+  abbrev text_by : Where At → Expr At → Names → Form At
+  text_by home e names = constant_form same_here (is_commented st) st.packages marks n.found.site home e names
+
+  abbrev top_of : Where At → Place At
+  top_of home = top_place st.packages home.number home.of home.source.tree
+
+  by_value : (home : Where At) {e : Expr At} → IsDeclaredAsName st.packages home e → IsFormBy marks st l after n (text_by home e) → AreNames n.found.named → FormedExpr (expr_with here_of e) → BecomesName n
+  by_value home (as_name {s = s} {n = m}) made are formed =
+      by_view (member_view home.number (nat_eq home.number n.found.site.at.number) (outer_meaning st.packages home (top_of home) m))
+    where
+      z : At
+      z = part_span n.found.site.part
+
+      by_view : Qualifies home.number (λ names. member_qualifier st.packages home n.found.site.at.number names (top_of home) m) → BecomesName n
+      by_view (nothing g) =
+          record {
+            new = ident z m;
+            form_is =
+                made.form_is
+                ∙ ap (λ (o : Option (List ℕ)). as_expr (otherwise (given o (λ q. Some (selector z (ident z q) (record { span = z; name = m })))) (ident z m))) (g (names_by n.found.named));
+            range_is = made.range_is;
+            is_name = a_name_alone formed;
+          }
+      by_view (its_name g) =
+          with_package marks st l after n (text_by home (ident s m)) home.number m made are formed
+          (λ names. ap (λ (o : Option (List ℕ)). as_expr (otherwise (given o (λ q. Some (selector z (ident z q) (record { span = z; name = m })))) (ident z m))) (g names))
+  by_value home (as_member {s = s} {z = y} {q = q} {n = m} k h) made are formed =
+      with_package marks st l after n (text_by home (selector s (ident y q) m)) k m.name made are formed.2
+      (λ names. ap (λ (o : Option ℕ). as_expr (otherwise (given (given o (λ j. Some (names j))) (λ v. Some (selector (part_span n.found.site.part) (ident (part_span n.found.site.part) v) (record { span = part_span n.found.site.part; name = m.name }))))
+      (selector (part_span n.found.site.part) (new_expr (outside_changes st.packages home n.found.site.at.number names (part_span n.found.site.part)) (in_slot (inner_slot (top_of home).slot (selector s (ident y q) m) 7 false true) (top_of home)) other (ident y q))
+      (record { span = part_span n.found.site.part; name = m.name })))) h)
+
+  made_so : (home : Where At) (c : NameAt At) (e : Expr At) → where_is st.packages n.found.site.mark ≡ Some home → inlinable st.packages n.found.site.mark ≡ Some (a_constant c e) → IsFormBy marks st l after n (text_by home e)
+  made_so home c e home_is declared =
+      by_obstacle marks st l after n ConstForm (text_by home e)
+      (name_obstacle same_here (is_commented st) st.packages marks n.found.site home (expr_seen (home_place same_here (is_commented st) st.packages marks home) other e) (text_by home e unnamed))
+      (reduced_is marks st l after n home (a_constant c e) home_is declared)
+
+  module _ (reads : ProgramReads st) (uses : UsesConstant n) (are : AreNames n.found.named) where
+    pub constant_becomes : BecomesName n
+    constant_becomes =
+        by_value uses.home uses.as_name (made_so uses.home uses.name uses.value uses.home_is uses.declared) are
+        (value_formed st n.found.site.mark uses.home reads uses.home_is uses.name uses.value uses.declared)

@@ -1,0 +1,4 @@
+pub mod StepsPut
+pub mod Forms
+pub mod Constants
+pub mod Aliases

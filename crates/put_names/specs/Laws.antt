@@ -1,0 +1,48 @@
+-- The laws of steps over names. Each is the contract of a function of this crate (Go specification, Constant
+-- declarations; Source file organization).
+use Rattle.std.specs.Prelude.{List}
+use Rattle.go_tree.specs.FileBare.{bare_file}
+use Rattle.run_rules.specs.Laws.{file_found}
+use Rattle.run_rules.specs.Run.{Standing, Logged, Next}
+use Rattle.run_rules.specs.Sites.{MarkRef}
+use Rattle.run_laws.specs.Reading.{ProgramReads}
+use Rattle.splice_laws.specs.Dots.{UndottedFile}
+use Rattle.cycle_runs.specs.Linked.{SettlesFile}
+use Rattle.import_splices.specs.AddedFile.{AreWritable}
+use Rattle.kept_imports.specs.Files.{PutsNode, RemovesNoNames}
+use Rattle.order_cycles.specs.NewNames.{FewNames}
+use Rattle.ordered_steps.specs.Ranks.{AddsLedTo}
+use Rattle.run_rules.specs.Naming.{imports_added}
+use Rattle.read_imports.specs.PutInText.{PutInText}
+use Rattle.put_nodes.specs.SpelledNames.{AreNames}
+use Rattle.put_names.specs.Uses.{IsScopedAround, IsUsedByName, BecomesName, UsesConstant, UsesAlias}
+
+-- Where the files of a program read from their texts, a step over a name that becomes a name lays it out in the place
+-- of a node of the file. Asked of the file: that no selector stands on an integer literal; and what typing asks of the
+-- declaration around the use.
+abbrev pub NamesArePutBySteps : Type 0
+NamesArePutBySteps =
+    (marks : List MarkRef) (st : Standing) (l : Logged) (after : Standing) (n : Next marks st l after) → ProgramReads st
+    → UndottedFile (bare_file (file_found n.found)) → IsScopedAround n → IsUsedByName n → BecomesName n
+    → PutsNode n × PutInText n
+
+-- So it settles its file, as cycle_runs asks of a step, where its added imports can be written, and are of packages that
+-- are led to; the names to avoid are fewer than 2^64; and no import that goes has the name of an identifier.
+abbrev pub NamesSettleFiles : Type 0
+NamesSettleFiles =
+    (marks : List MarkRef) (st : Standing) (l : Logged) (after : Standing) (n : Next marks st l after) → ProgramReads st
+    → UndottedFile (bare_file (file_found n.found)) → IsScopedAround n → IsUsedByName n → BecomesName n
+    → AreWritable (imports_added n.found.named) → AddsLedTo st.packages n.found → FewNames st.packages n.found
+    → RemovesNoNames n → SettlesFile n
+
+-- A constant that is declared as a name becomes a name, if the names that the form has for packages are identifiers.
+abbrev pub ConstantsBecomeNames : Type 0
+ConstantsBecomeNames =
+    (marks : List MarkRef) (st : Standing) (l : Logged) (after : Standing) (n : Next marks st l after) → ProgramReads st
+    → UsesConstant n → AreNames n.found.named → BecomesName n
+
+-- So does an alias of a type's name where the use is an expression, as in a conversion.
+abbrev pub AliasesBecomeNames : Type 0
+AliasesBecomeNames =
+    (marks : List MarkRef) (st : Standing) (l : Logged) (after : Standing) (n : Next marks st l after) → ProgramReads st
+    → IsUsedByName n → UsesAlias n → AreNames n.found.named → BecomesName n

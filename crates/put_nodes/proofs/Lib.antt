@@ -1,0 +1,7 @@
+pub mod Walk
+pub mod NamesApart
+pub mod ReadFiles
+pub mod NamesLaid
+pub mod NoDots
+pub mod NamesPut
+mod Examples

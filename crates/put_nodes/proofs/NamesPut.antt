@@ -1,0 +1,142 @@
+-- A name is put in the place of a name.
+use Rattle.std.proofs.Common.{◌≡◌, ◌≤◌, ℕ, Bool, true, false, inr, List, ◌∷◌, ◌++◌, drop, refl, sym, ap, subst, ◌∙◌, arith}
+use Rattle.std.specs.Str.{chars}
+use Rattle.go_tree.specs.declared.spans.Span.{Span}
+use Rattle.go_tree.specs.declared.tokens.Token.{Token}
+use Rattle.go_tree.specs.Tree.{Expr, ident, int_lit, rune_lit, str_lit, composite, selector, index, slice, call, func_lit, type_operand, unary, binary, star}
+use Rattle.go_tree.specs.Bare.{bare_expr}
+use Rattle.go_tree.specs.File.{File}
+use Rattle.go_tree.specs.FileBare.{bare_file}
+use Rattle.go_words.specs.Terminals as terminal
+use Rattle.go_words.specs.Terminals.{lex, lexemes}
+use Rattle.go_read.specs.SpellsTypes.{Lexemes}
+use Rattle.go_read.specs.SpellsSpans.{start_of, span_to}
+use Rattle.go_read.specs.Spells.{SpellsBare, ident_rule}
+use Rattle.go_layout.specs.Layouts.{Layout}
+use Rattle.go_layout.specs.Parens.{ends_in_integer}
+use Rattle.layout_laws.specs.Formed.{is_call}
+use Rattle.scope_names.specs.Scopes.{expr_span}
+use Rattle.run_rules.specs.Surroundings.{Use, Slot, Place}
+use Rattle.run_rules.specs.FormTrees.{as_expr}
+use Rattle.run_rules.specs.Inlining.{ReadsAs}
+use Rattle.run_rules.specs.Respanned.{expr_with}
+use Rattle.run_rules.specs.Texts.{FileText, indent_at}
+use Rattle.splice_laws.specs.Dots.{UndottedFile}
+use Rattle.splice_laws.specs.Fits.{expr_mark, swap_mark}
+use Rattle.splice_laws.specs.Forms.{new_layout, AsksOld, FormedNew}
+use Rattle.splice_laws.specs.Joints.{begins_with_dot}
+use Rattle.splice_laws.specs.Replaced.{Replaced}
+use Rattle.splice_laws.specs.Splice.{are_apart, first_word, splice}
+use Rattle.splice_laws.specs.Swaps.{Swap, an_operand, a_callee, FileIn}
+use Rattle.splice_laws.proofs.Files.{replaced}
+use Rattle.splice_laws.proofs.Rises.{tokens_rise}
+use Rattle.put_nodes.specs.SpelledNames.{StartsName, IsNameExpr, a_name_alone, a_qualified_name}
+use Rattle.put_nodes.specs.Put.{FormIsPut, BeginsWithName, alone, qualified}
+use Rattle.put_nodes.specs.Swapped.{StandsAs, as_operand, as_callee, as_deferred, IsOldName, MayBeSwapped, is_old, is_node}
+use Rattle.put_nodes.proofs.NamesApart.{names_apart, starts_name}
+use Rattle.put_nodes.proofs.NoDots.{callee_undotted}
+use Rattle.put_nodes.proofs.NamesLaid.{layout_of, first_name, first_is_name, first_laid, form_is, formed_name, new_is, callee_is, parted, edit_of, indent_spaces}
+
+-- the token of a name
+ident_first : {m : ℕ} {j : Bool} {z : Span} {n : List ℕ} {ts r : Lexemes} → SpellsBare span_to m j (ident z n) ts r → (s : Span) × (more : Lexemes) × (ts ≡ lex s (terminal.ident n) ∷ more)
+ident_first (ident_rule {s = s} {r = r}) = (s, r, refl)
+
+module _ {A : Type 0} (to : A → Span) where
+  span_with : (e : Expr A) → expr_mark (expr_with to e) ≡ to (expr_span e)
+  span_with (ident _ _) = refl
+  span_with (int_lit _ _) = refl
+  span_with (rune_lit _ _) = refl
+  span_with (str_lit _ _) = refl
+  span_with (composite _ _ _) = refl
+  span_with (selector _ _ _) = refl
+  span_with (index _ _ _) = refl
+  span_with (slice _ _ _ _) = refl
+  span_with (call _ _ _ _) = refl
+  span_with (func_lit _ _ _ _) = refl
+  span_with (type_operand _ _) = refl
+  span_with (unary _ _ _) = refl
+  span_with (binary _ _ _ _) = refl
+  span_with (star _ _) = refl
+
+  never_integer : {e : Expr A} → IsNameExpr e → (h : Bool) → ends_in_integer h false (bare_expr (expr_with to e)) ≡ false
+  never_integer (a_name_alone x) h = refl
+  never_integer (a_qualified_name x y) h = refl
+
+  no_call : {tokens : List Token} {e : Expr A} → BeginsWithName to tokens e → is_call (expr_with to e) ≡ true → ⊥
+  no_call alone q = cc
+  no_call (qualified x) q = cc
+
+module _ {A : Type 0} (to : A → Span) (t : FileText) (file : File Span) (reads : ReadsAs t file) (undotted : UndottedFile (bare_file file)) where
+  by_first : {w : Swap Span} {are : Lexemes → Type 0} {m : ℕ} {j : Bool} {z : Span} {n : List ℕ} → (r : Replaced span_to w (lexemes t.tokens) are) → SpellsBare span_to m j (ident z n) (r.node ++ r.rest) r.rest → StartsName (swap_mark w).start t.tokens
+  by_first {n = n} r d =
+      let x = ident_first d in
+      subst (λ (at : ℕ). StartsName at t.tokens) (sym (ap (λ (y : Span). y.start) r.marked ∙ ap start_of x.2))
+      (starts_name t.tokens r.front x.1 x.0 n (r.tokens ∙ ap (λ (ts : Lexemes). r.front ++ ts) x.2))
+
+  -- the text of the old name begins with an identifier
+  operand_starts : {old : Expr A} (l : ℕ) (h : Bool) (f : Expr Span) (g : File Span) → BeginsWithName to t.tokens old → FileIn (an_operand l h (expr_with to old) f) file g → StartsName (to (expr_span old)).start t.tokens
+  operand_starts l h f g (qualified there) into = there
+  operand_starts l h f g (alone {s = s} {n = n}) into =
+      let r = replaced (an_operand l h (ident (to s) n) f) file g (lexemes t.tokens) reads.spells (tokens_rise t.text t.tokens t.comments reads.scans) into in by_first r r.old.4
+
+  callee_starts : {old : Expr A} (h : Bool) (f : Expr Span) (g : File Span) → BeginsWithName to t.tokens old → FileIn (a_callee h (expr_with to old) f) file g → StartsName (to (expr_span old)).start t.tokens
+  callee_starts h f g (qualified there) into = there
+  callee_starts h f g (alone {s = s} {n = n}) into =
+      let r = replaced (a_callee h (ident (to s) n) f) file g (lexemes t.tokens) reads.spells (tokens_rise t.text t.tokens t.comments reads.scans) into in by_first r r.old.4
+
+  module _ (z : A) (s : Slot) (old new : Expr A) (is : IsNameExpr new) where
+    abbrev range : Span
+    range = to (expr_span old)
+
+    abbrev indent : List ℕ
+    indent = indent_at t.text range.start
+
+    placed_put : (w : Swap Span) (g : File Span) (dotted : Bool) → s.level ≤ 7 → swap_mark w ≡ range → new_layout indent dotted false w ≡ layout_of new → FileIn w file g → AsksOld w → FormedNew dotted w
+        → (dotted ≡ false → begins_with_dot (drop (swap_mark w).end t.text) ≡ false) → StartsName range.start t.tokens → FormIsPut t file z range s (as_expr new)
+    placed_put w g dotted most mark laid into asks formed off starts =
+        record {
+          new = g;
+          swap = w;
+          indent = indent;
+          dotted = dotted;
+          wrapped = false;
+          blank = parted t z range s (as_expr new);
+          edit_is =
+              edit_of t z range s (as_expr new) (new_layout indent dotted false w) (form_is is z indent s most ∙ sym laid)
+              ∙ ap (λ (y : Span). splice y (parted t z range s (as_expr new)) (new_layout indent dotted false w)) (sym mark);
+          put = record {
+            of_text = reads.scans;
+            spelled = reads.spells;
+            undotted_file = undotted;
+            swapped = into;
+            asks = asks;
+            formed = formed;
+            spaces = indent_spaces t.text range.start;
+            undotted = off;
+            apart = λ e.
+                subst (λ (a : Layout). are_apart t.tokens (swap_mark w).start (first_word a) ≡ true) (sym laid)
+                (subst (λ (v : List ℕ). are_apart t.tokens (swap_mark w).start v ≡ true) (sym (first_laid is))
+                (subst (λ (y : Span). are_apart t.tokens y.start (chars (first_name new)) ≡ true) (sym mark)
+                (names_apart t.text t.tokens t.comments reads.scans range.start starts (first_name new) (first_is_name is))));
+          };
+        }
+
+  pub name_put : (z : A) (p : Place A) (u : Use) (old new : Expr A) → MayBeSwapped to (λ w. (g : File Span) × FileIn w file g) p u old → (IsOldName p old → ⊥) → BeginsWithName to t.tokens old → IsNameExpr new
+      → FormIsPut t file z (to (expr_span old)) p.slot (as_expr new)
+  name_put z p u old new (is_old x) none begins is = absurd (none x)
+  name_put z p u old new (is_node x) none begins is = let y = x (expr_with to new) in by y.stands y.whole
+    where
+      by : {w : Swap Span} → StandsAs p.slot u (expr_with to old) (expr_with to new) w → (g : File Span) × FileIn w file g → FormIsPut t file z (to (expr_span old)) p.slot (as_expr new)
+      by (as_operand {l = l} {h = h} level most header) v =
+          let dotted : Bool = begins_with_dot (drop (expr_mark (expr_with to old)).end t.text) in
+          placed_put z p.slot old new is (an_operand l h (expr_with to old) (expr_with to new)) v.0 dotted (subst (λ (n : ℕ). n ≤ 7) (sym level) most) (span_with to old)
+          (new_is to is (expr_with to old) (indent_at t.text (to (expr_span old)).start) l h dotted most) v.1 tt (formed_name to is, λ q. inr (never_integer to is h)) (λ e. e)
+          (operand_starts l h (expr_with to new) v.0 begins v.1)
+      by (as_callee {h = h} e slot header) v =
+          placed_put z p.slot old new is (a_callee h (expr_with to old) (expr_with to new)) v.0 false (subst (λ (n : ℕ). n ≤ 7) (sym (ap (λ (y : Slot). y.level) slot)) seven) (span_with to old)
+          (callee_is to is (expr_with to old) (indent_at t.text (to (expr_span old)).start) h false) v.1 tt ((formed_name to is).1, refl) (λ e. callee_undotted t file v.0 h (expr_with to old) (expr_with to new) reads undotted v.1)
+          (callee_starts h (expr_with to new) v.0 begins v.1)
+        where
+          seven : 7 ≤ 7
+          seven = omega arith
+      by (as_deferred e slot deferred) v = absurd (no_call to begins deferred)

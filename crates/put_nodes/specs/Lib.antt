@@ -1,0 +1,4 @@
+pub mod Swapped
+pub mod SpelledNames
+pub mod Put
+pub mod Laws

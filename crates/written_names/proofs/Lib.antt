@@ -1,0 +1,4 @@
+pub mod Candidates
+pub mod ImportNames
+pub mod StepNames
+pub mod Kept

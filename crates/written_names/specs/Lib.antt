@@ -1,0 +1,2 @@
+pub mod NamedPackages
+pub mod Laws

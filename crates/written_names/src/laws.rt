@@ -1,0 +1,15 @@
+//! Laws of the names of packages.
+
+ghost use Rattle.written_names.specs.Laws.{AddedImportsAreWritable, NamesAreIdentifiers, StepsKeepNames};
+
+/// Where the packages of a program have identifiers for their names, so have all that a step's form names; and the
+/// imports that it adds can be written.
+pub fn names_are_identifiers()
+    ensures names { NamesAreIdentifiers }
+    ensures imports { AddedImportsAreWritable }
+{}
+
+/// A step keeps the names and the paths of packages.
+pub fn packages_stay_named()
+    ensures { StepsKeepNames }
+{}
