@@ -60,11 +60,6 @@ module _ (e : Environment) (cs : List Const) where
   nothing_given b h =
       record { good = tt; known = several []; is = ap (λ b. only_if b (Some (several []))) h; same = refl }
 
--- ---- `recover`
-
-pub some_argument : (ds : List Defined) (v : Typed) (vs : List Typed) → recover_call ds (v ∷ vs) ≡ None
-some_argument ds v vs = refl
-
 -- ---- operands that are values, each its own or all of one call
 
 module _ (ds : List Defined) where

@@ -41,20 +41,20 @@ call_alike ds f g os ps h k = answer_equal (call_of ds f os) (call_of ds g ps) (
 
 -- ---- conversions
 
-module _ (e : Environment) (cs : List Const) where
-  -- a value alone
-  pub only_value_is :
-      (os : List Operand) (x : Value) → only_value os ≡ Some x → os ≡ mode.Single x ∷ []
-  only_value_is [] x h = absurd (cc)
-  only_value_is (mode.Single y ∷ []) x h = let a : y ≡ x = cc in ap (λ y. mode.Single y ∷ []) a
-  only_value_is (mode.Nothing ∷ []) x h = absurd (cc)
-  only_value_is (mode.Several ts ∷ []) x h = absurd (cc)
-  only_value_is (mode.TypeOperand t ∷ []) x h = absurd (cc)
-  only_value_is (mode.Function ps rs ∷ []) x h = absurd (cc)
-  only_value_is (mode.Builtin b ∷ []) x h = absurd (cc)
-  only_value_is (mode.Recovered ∷ []) x h = absurd (cc)
-  only_value_is (o ∷ p ∷ os) x h = absurd (cc)
+-- a value alone
+pub only_value_is :
+    (os : List Operand) (x : Value) → only_value os ≡ Some x → os ≡ mode.Single x ∷ []
+only_value_is [] x h = absurd (cc)
+only_value_is (mode.Single y ∷ []) x h = let a : y ≡ x = cc in ap (λ y. mode.Single y ∷ []) a
+only_value_is (mode.Nothing ∷ []) x h = absurd (cc)
+only_value_is (mode.Several ts ∷ []) x h = absurd (cc)
+only_value_is (mode.TypeOperand t ∷ []) x h = absurd (cc)
+only_value_is (mode.Function ps rs ∷ []) x h = absurd (cc)
+only_value_is (mode.Builtin b ∷ []) x h = absurd (cc)
+only_value_is (mode.Recovered ∷ []) x h = absurd (cc)
+only_value_is (o ∷ p ∷ os) x h = absurd (cc)
 
+module _ (e : Environment) (cs : List Const) where
   -- anything else isn't converted
   pub not_converted :
       (ds : List Defined) (to : GoType) (os : List Operand) → only_value os ≡ None →
@@ -90,7 +90,7 @@ module _ (e : Environment) (cs : List Const) where
       ap₂ (λ (v : Typed) (ps : List go.Operand). value v.0 v.1 ∷ ps) (heads h) (f xs (a ∙ ap Some (tails h)))
 
   -- operands that are these values
-  pub values_are :
+  values_are :
       (os : List go.Operand) (xs : List Value) → all_typed os ≡ Some (map (typed_of e cs) xs) →
       os ≡ operands_of e cs xs
   values_are [] [] h = refl
@@ -115,7 +115,7 @@ module _ (ds : List Defined) where
   none_taken t ts v o os f None a h = ap (λ b. takes ds t o && b) (f a) ∙ and_false (takes ds t o)
   none_taken t ts v o os f (Some vs) a h = absurd (cc)
 
-  pub no_values_taken : (ts : List GoType) (os : List go.Operand) → all_typed os ≡ None → takes_all ds ts os ≡ false
+  no_values_taken : (ts : List GoType) (os : List go.Operand) → all_typed os ≡ None → takes_all ds ts os ≡ false
   no_values_taken [] [] h = absurd (cc)
   no_values_taken [] (o ∷ os) h = refl
   no_values_taken (t ∷ ts) [] h = refl
@@ -131,7 +131,7 @@ module _ (ds : List Defined) where
 abbrev pub called_by : List GoType → Bool → Option go.Operand
 called_by us b = only_if b (Some (results_operand us))
 
-module _ (e : Environment) (cs : List Const) (ds : List Defined) (ts us : List GoType) where
+module _ (e : Environment) (cs : List Const) (us : List GoType) where
   -- values that fit
   pub values_called :
       (b : Bool) (r : Operand) → b ≡ true → operand_at e cs r ≡ results_operand us → IsOperand e cs r →
@@ -144,7 +144,7 @@ module _ (e : Environment) (cs : List Const) (ds : List Defined) (ts us : List G
         same = operand_same (operand_at e cs r);
       }
 
-  module _ (os : List go.Operand) where
+  module _ (ds : List Defined) (ts : List GoType) (os : List go.Operand) where
     -- operands that are these values
     pub function_called :
         (xs : List Value) → all_typed (spread os) ≡ Some (map (typed_of e cs) xs) → (r : Result Operand Refusal) →

@@ -10,7 +10,7 @@ pub conversion-requires-clause-value : goal.conversion-requires-clause-value
 conversion-requires-clause-value c =
     let k = c.args.tables.now in
     (subst (AreOperands k.env k.consts)
-    (only_value_is k.env k.consts c.args.operands.now c.in-Some.x (sym c.only_value.ensures ∙ c.in-Some.is)) c.requires.operands).0
+    (only_value_is c.args.operands.now c.in-Some.x (sym c.only_value.ensures ∙ c.in-Some.is)) c.requires.operands).0
 
 pub returns-in-Some : goal.returns-in-Some
 returns-in-Some c =
@@ -18,7 +18,7 @@ returns-in-Some c =
     let ds = defined_types k.env in
     let t = env_type k.env c.args.to.0 in
     subst (λ os. GivesOperand k.env k.consts (conversion ds t (operands_at k.env k.consts os)) c.single.result)
-    (sym (only_value_is k.env k.consts c.args.operands.now c.in-Some.x (sym c.only_value.ensures ∙ c.in-Some.is)))
+    (sym (only_value_is c.args.operands.now c.in-Some.x (sym c.only_value.ensures ∙ c.in-Some.is)))
     (c.single.ensures k.env k.consts (converted ds t (typed_of k.env k.consts c.in-Some.x)) c.conversion.ensures)
 
 pub returns-in-None : goal.returns-in-None

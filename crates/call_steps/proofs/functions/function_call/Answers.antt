@@ -22,7 +22,7 @@ returns-in-Ok c =
     let ds = defined_types k.env in
     let ts = tuple_at k.env c.args.params in
     let us = tuple_at k.env c.args.results in
-    function_called k.env k.consts ds ts us (operands_at k.env k.consts c.args.operands.now) c.in-Ok.xs c.in-Ok.ensures.1
+    function_called k.env k.consts us ds ts (operands_at k.env k.consts c.args.operands.now) c.in-Ok.xs c.in-Ok.ensures.1
     c.value_call.result
     (subst
     (λ xs. GivesOperand k.env k.consts (called_by us (takes_all ds ts (operands_of k.env k.consts xs))) c.value_call.result)
@@ -31,5 +31,5 @@ returns-in-Ok c =
 pub returns-in-Err : goal.returns-in-Err
 returns-in-Err c =
     let k = c.args.tables.now in
-    function_refused k.env k.consts (defined_types k.env) (tuple_at k.env c.args.params) (tuple_at k.env c.args.results)
+    function_refused k.env k.consts (tuple_at k.env c.args.results) (defined_types k.env) (tuple_at k.env c.args.params)
     (operands_at k.env k.consts c.args.operands.now) c.in-Err.refusal c.in-Err.ensures

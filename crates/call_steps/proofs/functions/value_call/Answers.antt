@@ -15,7 +15,7 @@ pub returns-then-takes_values : goal.returns-then-takes_values
 returns-then-takes_values c =
     let k = c.args.tables.now in
     let ts = tuple_at k.env c.args.params in
-    values_called k.env k.consts (defined_types k.env) ts (tuple_at k.env c.args.results)
+    values_called k.env k.consts (tuple_at k.env c.args.results)
     (takes_all (defined_types k.env) ts (operands_of k.env k.consts c.args.xs.now)) c.results_operand.result
     (sym c.takes_values.ensures ∙ c.if-takes_values.true) (c.results_operand.ensures.is k.consts)
     (c.results_operand.ensures.good k.consts)
