@@ -15,14 +15,14 @@ pub record IsLiteralOf (k : Kind) (x : Exact) (spelling : List ℕ) : Type 0 whe
   pub value : literal_value spelling ≡ x
 
 abbrev mutual
-  -- literals are well spelled; no composite literal, selector, call or function literal stands in it
+  -- literals are well spelled; no composite literal, call or function literal stands in it
   pub IsWalked : Expr Span → Type 0
   IsWalked (ident _ n) = Unit {0}
   IsWalked (int_lit _ s) = IsLiteralOf kind.UntypedInt (number (pos (integer_value s))) s
   IsWalked (rune_lit _ s) = IsLiteralOf kind.UntypedRune (literal_value s) s
   IsWalked (str_lit _ s) = IsLiteralOf kind.UntypedStr (text (text_value s)) s
   IsWalked (composite _ t es) = ⊥
-  IsWalked (selector _ b n) = ⊥
+  IsWalked (selector _ b n) = IsWalked b
   IsWalked (index _ b i) = IsWalked b × IsWalked i
   IsWalked (slice _ b i j) = IsWalked b × IsWalkedOption i × IsWalkedOption j
   IsWalked (call _ f xs _) = ⊥
@@ -38,8 +38,9 @@ abbrev mutual
   IsWalkedOption (some_expr e) = IsWalked e
 
 abbrev mutual
-  -- how many nodes are walked
+  -- how deep the walk over an expression can go: more than over each of its parts
   pub size : Expr Span → ℕ
+  size (selector _ b n) = 2 + size b
   size (index _ b i) = 1 + (size b + size i)
   size (slice _ b i j) = 1 + (size b + (size_option i + size_option j))
   size (unary _ op e) = 1 + size e

@@ -1,6 +1,8 @@
 //! What each expression is, and where it stands (Go specification, Expressions).
 
-ghost use Rattle.go_tree.specs.View.{boxed_expr_option_of, expr_of};
+ghost use Rattle.go_tree.specs.declared.spans.Span.{Span};
+ghost use Rattle.go_tree.specs.Tree as tree;
+ghost use Rattle.go_tree.specs.View.{boxed_expr_option_of, expr_of, name_at_of};
 ghost use Rattle.go_types.specs.Typing as go;
 ghost use Rattle.typed_names.specs.Scopes.{env_at};
 ghost use Rattle.checker_tables.specs.Ready.{Keeps};
@@ -9,14 +11,16 @@ ghost use Rattle.access_steps.specs.Bounds.{GivesBound};
 ghost use Rattle.expr_walk.specs.Walked.{IsWalked, IsWalkedOption};
 ghost use Rattle.expr_walk.specs.Answers.{GivesExpr};
 
+use crate::qualifiers::package_before;
 use access_steps::{bound, index, slice};
 use checker_tables::Tables;
 use const_eval::Kind;
-use go_tree::Expr;
-use name_steps::{literal, named, type_operand};
+use go_tree::{Expr, NameAt};
+use name_steps::{literal, named, qualified, type_operand};
 use operand_answers::Located;
 use operand_rules::{Refusal, Value};
 use operator_steps::{binary, star, unary};
+use selector_steps::selector;
 use std::alloc::Global;
 use typed_names::{Blocks, Scope};
 
@@ -44,6 +48,8 @@ pub fn expr(
             literal(alloc, tables, spelling.items(), Kind::UntypedRune)
         }
         Expr::StrLit { spelling, .. } => literal(alloc, tables, spelling.items(), Kind::UntypedStr),
+        Expr::Composite { .. } => unreachable!("no composite literal is walked"),
+        Expr::Selector { base, name, .. } => selected(alloc, tables, scope, blocks, base, name),
         Expr::Index { base, at, .. } => {
             let indexed = expr(alloc, tables, scope, blocks, base);
             let position = expr(alloc, tables, scope, blocks, at);
@@ -74,8 +80,6 @@ pub fn expr(
             let pointer = expr(alloc, tables, scope, blocks, e);
             star(tables, pointer)
         }
-        Expr::Composite { .. } => unreachable!("no composite literal is walked"),
-        Expr::Selector { .. } => unreachable!("no selector is walked"),
         Expr::Call { .. } => unreachable!("no call is walked"),
         Expr::FuncLit { .. } => unreachable!("no function literal is walked"),
     }
@@ -102,6 +106,33 @@ fn bound_of(
         Some(e) => {
             let value = expr(alloc, tables, scope, blocks, e);
             bound(tables, value)
+        }
+    }
+}
+
+/// What a selector is: what a package exports, or a field or method of an operand.
+#[cycle(exprs)]
+fn selected(
+    alloc: Global,
+    tables: &mut Tables,
+    scope: &Scope,
+    blocks: &Blocks,
+    base: &Expr,
+    name: &NameAt,
+) -> Result<Located, Refusal>
+    requires stands { Stands tables.old blocks.now scope.now }
+    requires walked { IsWalked (expr_of base.now) }
+    ensures stands { Stands tables.new blocks.now scope.now }
+    ensures keeps { Keeps tables.old tables.new }
+    ensures gives { (s : Span) → GivesExpr tables.new
+        (env_at tables.old.env tables.old.consts blocks.now scope.now)
+        (tree.selector s (expr_of base.now) (name_at_of name.now)) result }
+{
+    match package_before(scope, blocks, base) {
+        Some(number) => qualified(tables, scope, blocks, number, name.name.items()),
+        None => {
+            let operand = expr(alloc, tables, scope, blocks, base);
+            selector(alloc, tables, scope.home, name.name.items(), operand)
         }
     }
 }

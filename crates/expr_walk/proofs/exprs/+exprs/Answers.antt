@@ -1,21 +1,24 @@
-use Rattle.std.proofs.Common.{pos, ap₂, subst, sym}
+use Rattle.std.proofs.Common.{◌∙◌, pos, ap₂, subst, sym}
 use Rattle.go_tree.specs.Tree as tree
-use Rattle.go_tree.specs.View.{boxed_expr_option_of, expr_of}
+use Rattle.go_tree.specs.View.{boxed_expr_option_of, expr_of, name_at_of}
 use Rattle.const_eval.specs.declared.kinds.Kind.TheVariants as kind
 use Rattle.const_eval.specs.Exact.{number, text}
 use Rattle.const_eval.specs.Literals.{integer_value, literal_value}
 use Rattle.go_words.specs.Texts.{text_value}
+use Rattle.go_types.specs.Answers.{given}
 use Rattle.go_types.specs.Entities as go_entity
-use Rattle.go_types.specs.Entities.{meaning}
-use Rattle.go_types.specs.Operands.{literal_operand, named_operand, named_place}
+use Rattle.go_types.specs.Entities.{exported, meaning}
+use Rattle.go_types.specs.Operands.{literal_operand, named_operand, named_place, place_by, with_value}
+use Rattle.go_types.specs.Primary as go
 use Rattle.go_types.specs.Typing.{bound}
+use Rattle.type_relations.specs.Environment.{defined_types}
 use Rattle.operand_answers.specs.Located.{GivesAt}
 use Rattle.operand_answers.proofs.KeptLemmas.{stands_kept, there_kept}
 use Rattle.access_steps.specs.Bounds.{GivesBound}
 use Rattle.name_steps.specs.Spelled.{IsSpelled}
 use Rattle.expr_walk.specs.Answers.{GivesExpr}
 use Rattle.expr_walk.specs.Walked.{IsWalked}
-use Rattle.expr_walk.proofs.ExprArms.{at, binary_arm, bound_arm, expr_there, index_arm, literal_arm, no_span, slice_arm, star_arm, unary_arm}
+use Rattle.expr_walk.proofs.ExprArms.{at, binary_arm, bound_arm, expr_there, index_arm, literal_arm, no_span, package_arm, selector_arm, slice_arm, star_arm, unary_arm}
 use Rattle.expr_walk.proofs.exprs.+exprs.Goals as goal
 
 pub expr-returns-in-Ident-clause-stands : goal.expr-returns-in-Ident-clause-stands
@@ -162,15 +165,15 @@ expr-returns-in-Index-clause-gives t c =
     let a = at c.args.tables.now c.args.blocks.now c.args.scope.now in
     subst (λ x. GivesExpr n a (expr_of x) c.index.result) (sym c.in-Index.is)
     (subst (λ t. GivesExpr n a t c.index.result)
-    (ap₂ (λ x y. tree.index no_span (expr_of x) (expr_of y)) c.deref.ensures c.deref-in-Index.ensures)
+    (ap₂ (λ x y. tree.index no_span (expr_of x) (expr_of y)) c.deref-in-Index.ensures c.deref-in-Index-2.ensures)
     (index_arm c.args.tables.now c.args.blocks.now c.args.scope.now c.expr-indexed.new.tables n c.expr-indexed.ensures.keeps c.expr-position.ensures.keeps c.requires.stands no_span
-    (expr_of c.deref.result.now) (expr_of c.deref-in-Index.result.now) c.expr-indexed.result c.expr-position.result
+    (expr_of c.deref-in-Index.result.now) (expr_of c.deref-in-Index-2.result.now) c.expr-indexed.result c.expr-position.result
     c.index.result c.expr-indexed.ensures.gives c.expr-position.ensures.gives c.index.ensures))
 
 pub expr-index-requires-clause-operand : goal.expr-index-requires-clause-operand
 expr-index-requires-clause-operand t c =
     there_kept c.expr-indexed.new.tables c.expr-position.new.tables c.expr-position.ensures.keeps c.expr-indexed.result
-    (expr_there c.expr-indexed.new.tables (at c.args.tables.now c.args.blocks.now c.args.scope.now) (expr_of c.deref.result.now) c.expr-indexed.result
+    (expr_there c.expr-indexed.new.tables (at c.args.tables.now c.args.blocks.now c.args.scope.now) (expr_of c.deref-in-Index.result.now) c.expr-indexed.result
     c.expr-indexed.ensures.gives)
 
 pub expr-returns-in-Slice-clause-gives : goal.expr-returns-in-Slice-clause-gives
@@ -192,3 +195,55 @@ bound_of-returns-in-Some-clause-gives t c =
     (subst (λ x. GivesBound n.env n.consts (bound a (tree.some_expr (expr_of x))) c.bound.result) c.deref.ensures
     (bound_arm c.args.tables.now c.args.blocks.now c.args.scope.now n (expr_of c.deref.result.now) c.expr-value.result c.bound.result c.expr-value.ensures.gives
     c.bound.ensures))
+
+-- ---- selectors
+
+pub expr-returns-in-Selector-clause-gives : goal.expr-returns-in-Selector-clause-gives
+expr-returns-in-Selector-clause-gives t c =
+    let n = c.selected.new.tables in
+    let a = at c.args.tables.now c.args.blocks.now c.args.scope.now in
+    subst (λ x. GivesExpr n a (expr_of x) c.selected.result) (sym c.in-Selector.is)
+    (subst (λ x. GivesExpr n a (tree.selector no_span (expr_of x) (name_at_of c.in-Selector.name)) c.selected.result) c.deref.ensures
+    (c.selected.ensures.gives no_span))
+
+pub selected-returns-in-Some-clause-gives : goal.selected-returns-in-Some-clause-gives
+selected-returns-in-Some-clause-gives t c =
+    λ sp.
+    let k = c.args.tables.now in
+    let n = c.qualified.new.tables in
+    let a = at k c.args.blocks.now c.args.scope.now in
+    let p = c.in-Some.number in
+    package_arm k c.args.blocks.now c.args.scope.now n sp (expr_of c.args.base.now) (name_at_of c.args.name.now) p c.qualified.result
+    (sym c.in-Some.is ∙ c.package_before.ensures k.env k.consts)
+    (subst
+    (λ x. GivesAt n.env n.consts (named_operand a (exported a.world p x)) (named_place (exported a.world p x)) c.qualified.result)
+    c.items.ensures c.qualified.ensures.gives)
+
+pub selected-returns-in-None-clause-gives : goal.selected-returns-in-None-clause-gives
+selected-returns-in-None-clause-gives t c =
+    λ sp.
+    let k = c.args.tables.now in
+    let m = c.expr-operand.new.tables in
+    let n = c.selector.new.tables in
+    let ds = defined_types m.env in
+    let home = c.args.scope.now.home in
+    selector_arm k c.args.blocks.now c.args.scope.now m n c.expr-operand.ensures.keeps sp (expr_of c.args.base.now) (name_at_of c.args.name.now)
+    c.expr-operand.result c.selector.result (sym c.in-None.is ∙ c.package_before.ensures k.env k.consts)
+    c.expr-operand.ensures.gives
+    (λ o p h.
+    subst
+    (λ x. GivesAt n.env n.consts (given o (λ y. with_value y (go.selected ds home x p))) (place_by o (go.selected_place ds home x p)) c.selector.result)
+    c.items-in-None.ensures (c.selector.ensures.gives o p h))
+
+pub selected-selector-requires-clause-there : goal.selected-selector-requires-clause-there
+selected-selector-requires-clause-there t c =
+    expr_there c.expr-operand.new.tables (at c.args.tables.now c.args.blocks.now c.args.scope.now) (expr_of c.args.base.now) c.expr-operand.result
+    c.expr-operand.ensures.gives
+
+pub selected-returns-in-Some-clause-stands : goal.selected-returns-in-Some-clause-stands
+selected-returns-in-Some-clause-stands t c =
+    stands_kept c.args.tables.now c.qualified.new.tables c.qualified.ensures.keeps c.args.blocks.now c.args.scope.now c.requires.stands c.qualified.ensures.ready
+
+pub selected-returns-in-None-clause-stands : goal.selected-returns-in-None-clause-stands
+selected-returns-in-None-clause-stands t c =
+    stands_kept c.expr-operand.new.tables c.selector.new.tables c.selector.ensures.keeps c.args.blocks.now c.args.scope.now c.expr-operand.ensures.stands c.selector.ensures.ready
