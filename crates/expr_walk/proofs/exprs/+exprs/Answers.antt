@@ -1,24 +1,42 @@
-use Rattle.std.proofs.Common.{◌∙◌, pos, ap₂, subst, sym}
+use Rattle.std.proofs.Common.{◌∙◌, ◌+◌, List, IfSome, Ok, Err, Some, arith, drop, map, pos, ap₂, subst, sym}
 use Rattle.go_tree.specs.Tree as tree
-use Rattle.go_tree.specs.View.{boxed_expr_option_of, expr_of, name_at_of}
+use Rattle.go_tree.specs.Lists.{elems_from}
+use Rattle.go_tree.specs.View.{boxed_expr_option_of, elem_of, elems_of, expr_of, held_value_option_of, name_at_of, type_of, value_of}
 use Rattle.const_eval.specs.declared.kinds.Kind.TheVariants as kind
 use Rattle.const_eval.specs.Exact.{number, text}
 use Rattle.const_eval.specs.Literals.{integer_value, literal_value}
 use Rattle.go_words.specs.Texts.{text_value}
 use Rattle.go_types.specs.Answers.{given}
+use Rattle.go_types.specs.Defined.{under}
 use Rattle.go_types.specs.Entities as go_entity
-use Rattle.go_types.specs.Entities.{exported, meaning}
+use Rattle.go_types.specs.Entities.{defined_in, exported, meaning}
+use Rattle.go_types.specs.Literals.{built, field_key, is_struct, key_type, keyed, of_field}
 use Rattle.go_types.specs.Operands.{literal_operand, named_operand, named_place, place_by, with_value}
 use Rattle.go_types.specs.Primary as go
+use Rattle.go_types.specs.TypeNames.{type_meant}
+use Rattle.go_types.specs.Typing as go_typing
 use Rattle.go_types.specs.Typing.{bound}
-use Rattle.type_relations.specs.Environment.{defined_types}
+use Rattle.type_relations.specs.Environment.{defined_types, env_type}
+use Rattle.type_exprs.proofs.NewNames.{drop_all, drop_item}
+use Rattle.operand_rules.specs.declared.values.ValueType.TheVariants.{Typed}
+use Rattle.operand_rules.specs.Values.{IsType}
+use Rattle.operator_rules.specs.Settling.{typed_option}
+use Rattle.operand_modes.specs.Operands.{GivesOperand}
 use Rattle.operand_answers.specs.Located.{GivesAt}
+use Rattle.operand_answers.proofs.AnswerLemmas.{type_refused_at}
 use Rattle.operand_answers.proofs.KeptLemmas.{stands_kept, there_kept}
 use Rattle.access_steps.specs.Bounds.{GivesBound}
 use Rattle.name_steps.specs.Spelled.{IsSpelled}
+use Rattle.literal_rules.specs.declared.elements.Element.{Element}
+use Rattle.composite_steps.specs.declared.elements.ElementList.{ElementList}
+use Rattle.composite_steps.specs.Elements.{GivesElement, GivesElements}
+use Rattle.composite_steps.proofs.ElementLemmas.{elements_there, operand_kept}
 use Rattle.expr_walk.specs.Answers.{GivesExpr}
-use Rattle.expr_walk.specs.Walked.{IsWalked}
+use Rattle.expr_walk.specs.Elements.{AreElementsWalked}
+use Rattle.expr_walk.specs.Walked.{AreWalkedElems, IsWalked}
+use Rattle.expr_walk.proofs.ElementArms.{braced_arm, composite_arm, element_arm, elements_end, elements_fails, elements_more, elements_start, key_else, key_then, one, type_kept}
 use Rattle.expr_walk.proofs.ExprArms.{at, binary_arm, bound_arm, expr_there, index_arm, literal_arm, no_span, package_arm, selector_arm, slice_arm, star_arm, unary_arm}
+use Rattle.expr_walk.proofs.Parts.{elem_smaller, elem_walked}
 use Rattle.expr_walk.proofs.exprs.+exprs.Goals as goal
 
 pub expr-returns-in-Ident-clause-stands : goal.expr-returns-in-Ident-clause-stands
@@ -247,3 +265,247 @@ selected-returns-in-Some-clause-stands t c =
 pub selected-returns-in-None-clause-stands : goal.selected-returns-in-None-clause-stands
 selected-returns-in-None-clause-stands t c =
     stands_kept c.expr-operand.new.tables c.selector.new.tables c.selector.ensures.keeps c.args.blocks.now c.args.scope.now c.expr-operand.ensures.stands c.selector.ensures.ready
+
+-- ---- composite literals
+
+pub expr-returns-in-Composite-clause-gives : goal.expr-returns-in-Composite-clause-gives
+expr-returns-in-Composite-clause-gives t c =
+    let n = c.composite.new.tables in
+    let a = at c.args.tables.now c.args.blocks.now c.args.scope.now in
+    subst (λ x. GivesExpr n a (expr_of x) c.composite.result) (sym c.in-Composite.is) (c.composite.ensures.gives no_span)
+
+pub composite-returns-in-Ok-clause-gives : goal.composite-returns-in-Ok-clause-gives
+composite-returns-in-Ok-clause-gives t c =
+    λ sp.
+    let k = c.args.tables.now in
+    let m = c.meant.new.tables in
+    let n = c.elements-list.new.tables in
+    composite_arm k m n c.meant.ensures.keeps c.elements-list.ensures.keeps c.args.blocks.now c.args.scope.now c.requires.stands sp
+    (type_of c.args.of.now) (elems_of c.args.elems.now) c.in-Ok.t (c.in-Ok.ensures.gives k.consts) c.elements-list.result
+    c.elements-list.ensures.gives c.literal.result c.literal.ensures
+
+pub composite-returns-in-Err-clause-gives : goal.composite-returns-in-Err-clause-gives
+composite-returns-in-Err-clause-gives t c =
+    λ sp.
+    let k = c.args.tables.now in
+    let n = c.meant.new.tables in
+    let a = at k c.args.blocks.now c.args.scope.now in
+    type_refused_at n.env n.consts (type_meant a (type_of c.args.of.now))
+    (λ u. given (go_typing.elements a (under (defined_in a) u) (elems_of c.args.elems.now)) (built (defined_in a) a.home u))
+    go_entity.literal c.in-Err.refusal (c.in-Err.ensures.gives k.consts)
+
+pub composite-returns-in-Err-clause-stands : goal.composite-returns-in-Err-clause-stands
+composite-returns-in-Err-clause-stands t c =
+    stands_kept c.args.tables.now c.meant.new.tables c.meant.ensures.keeps c.args.blocks.now c.args.scope.now c.requires.stands c.meant.ensures.ready
+
+pub elements-loop-x-init : goal.elements-loop-x-init
+elements-loop-x-init t c =
+    let k = c.args.tables.now in
+    let all = elems_from (map elem_of c.items-x-items.result.now) in
+    let u = under (defined_types k.env) (env_type k.env c.args.t.0) in
+    subst (AreElementsWalked k k c.args.blocks.now c.args.scope.now u all all) (sym c.new-items.ensures.items)
+    (elements_start k c.args.blocks.now c.args.scope.now u all c.requires.stands)
+
+pub elements-loop-x-preserved : goal.elements-loop-x-preserved
+elements-loop-x-preserved t c =
+    let k = c.args.tables.now in
+    let m = c.loop-x.tables in
+    let n = c.one_element.new.tables in
+    let bs = c.args.blocks.now in
+    let s = c.args.scope.now in
+    let items = c.items-x-items.result.now in
+    let item = c.x-item.result in
+    let all = elems_from (map elem_of items) in
+    let left = elems_from (map elem_of (drop (c.loop-x.x-index + 1) items)) in
+    let u = under (defined_types k.env) (env_type k.env c.args.t.0) in
+    let w = subst (λ xs. AreElementsWalked k m bs s u all (elems_from (map elem_of xs)) c.loop-x.items.items)
+    (drop_item items c.loop-x.x-index item c.loop-x-test.true c.x-item.is) c.loop-x.invariant in
+    subst (AreElementsWalked k n bs s u all left) (sym {A = List Element} c.in_ok-push.ensures.items)
+    (elements_more k m bs s c.requires.stands c.args.t.0 c.requires.of.0 all left item.span (held_value_option_of item.key)
+    (value_of item.value) c.loop-x.items.items w n c.one_element.ensures.keeps c.one_element.ensures.stands c.in-Ok.one
+    (subst
+    (GivesElement n.env n.consts (one (at m bs s) (under (defined_types m.env) (env_type m.env c.args.t.0)) (held_value_option_of item.key) (value_of item.value)))
+    c.in-Ok.is c.one_element.ensures.gives))
+
+pub elements-returns-in-Err-clause-gives : goal.elements-returns-in-Err-clause-gives
+elements-returns-in-Err-clause-gives t c =
+    let k = c.args.tables.now in
+    let m = c.loop-x.tables in
+    let n = c.one_element.new.tables in
+    let bs = c.args.blocks.now in
+    let s = c.args.scope.now in
+    let items = c.items-x-items.result.now in
+    let item = c.x-item.result in
+    let all = elems_from (map elem_of items) in
+    let left = elems_from (map elem_of (drop (c.loop-x.x-index + 1) items)) in
+    let u = under (defined_types k.env) (env_type k.env c.args.t.0) in
+    let w = subst (λ xs. AreElementsWalked k m bs s u all (elems_from (map elem_of xs)) c.loop-x.items.items)
+    (drop_item items c.loop-x.x-index item c.loop-x-test.true c.x-item.is) c.loop-x.invariant in
+    subst (λ es. GivesElements n.env n.consts (go_typing.elements (at k bs s) u es) (Err c.in-Err.refusal))
+    (sym c.items-x-items.ensures.seen)
+    (elements_fails k m bs s c.requires.stands c.args.t.0 c.requires.of.0 all left item.span (held_value_option_of item.key)
+    (value_of item.value) c.loop-x.items.items w n c.in-Err.refusal
+    (subst
+    (GivesElement n.env n.consts (one (at m bs s) (under (defined_types m.env) (env_type m.env c.args.t.0)) (held_value_option_of item.key) (value_of item.value)))
+    c.in-Err.is c.one_element.ensures.gives))
+
+pub elements-returns-clause-gives : goal.elements-returns-clause-gives
+elements-returns-clause-gives t c =
+    let k = c.args.tables.now in
+    let n = c.loop-x.tables in
+    let bs = c.args.blocks.now in
+    let s = c.args.scope.now in
+    let items = c.items-x-items.result.now in
+    let all = elems_from (map elem_of items) in
+    let u = under (defined_types k.env) (env_type k.env c.args.t.0) in
+    let list = let l : ElementList = record { items = c.loop-x.items } in l in
+    subst (λ es. GivesElements n.env n.consts (go_typing.elements (at k bs s) u es) (Ok list)) (sym c.items-x-items.ensures.seen)
+    (elements_end k n bs s u all list
+    (subst (λ xs. AreElementsWalked k n bs s u all (elems_from (map elem_of xs)) c.loop-x.items.items)
+    (drop_all items c.loop-x.x-index c.loop-x-test.false) c.loop-x.invariant))
+
+pub one_element-returns-clause-gives : goal.one_element-returns-clause-gives
+one_element-returns-clause-gives t c =
+    let k = c.args.tables.now in
+    let m = c.part-value.new.tables in
+    let n = c.with_key.new.tables in
+    element_arm k m n c.part-value.ensures.keeps c.args.blocks.now c.args.scope.now c.requires.stands c.args.t.0 c.requires.of.0
+    (held_value_option_of c.args.x.now.key) (value_of c.args.x.now.value) (typed_option k.env c.inner_type-of.result)
+    c.part-value.result c.with_key.result c.inner_type-of.ensures.is c.part-value.ensures.gives c.with_key.ensures.gives
+
+pub with_key-returns-in-None-clause-gives : goal.with_key-returns-in-None-clause-gives
+with_key-returns-in-None-clause-gives t c =
+    λ o h.
+    let k = c.args.tables.now in
+    let a = at k c.args.blocks.now c.args.scope.now in
+    let u = under (defined_types k.env) (env_type k.env c.args.t.0) in
+    subst
+    (λ x. GivesElement k.env k.consts (given o (λ v. go_typing.with_key a u (held_value_option_of x) v)) c.unkeyed.result)
+    (sym c.in-None.is) (c.unkeyed.ensures k.env k.consts o h)
+
+pub with_key-returns-then-is_struct-clause-gives : goal.with_key-returns-then-is_struct-clause-gives
+with_key-returns-then-is_struct-clause-gives t c =
+    λ o h.
+    let k = c.args.tables.now in
+    let a = at k c.args.blocks.now c.args.scope.now in
+    let u = under (defined_types k.env) (env_type k.env c.args.t.0) in
+    let x = value_of c.in-Some.key in
+    subst
+    (λ x. GivesElement k.env k.consts (given o (λ v. go_typing.with_key a u (held_value_option_of x) v)) c.of_field.result)
+    (sym c.in-Some.is)
+    (key_then k.env k.consts c.of_field.result o (λ v. given (field_key x) (λ n. Some (of_field n v)))
+    (λ v. given (go_typing.element a (key_type (defined_types k.env) u) x) (λ q. Some (keyed q v))) (is_struct u)
+    (sym c.is_struct.ensures ∙ c.if-is_struct.true) (c.of_field.ensures k.env k.consts o h))
+
+pub with_key-returns-else-is_struct-clause-gives : goal.with_key-returns-else-is_struct-clause-gives
+with_key-returns-else-is_struct-clause-gives t c =
+    λ o h.
+    let k = c.args.tables.now in
+    let n = c.part-operand.new.tables in
+    let a = at k c.args.blocks.now c.args.scope.now in
+    let u = under (defined_types k.env) (env_type k.env c.args.t.0) in
+    let x = value_of c.in-Some.key in
+    subst
+    (λ x. GivesElement n.env n.consts (given o (λ v. go_typing.with_key a u (held_value_option_of x) v)) c.keyed.result)
+    (sym c.in-Some.is)
+    (key_else n.env n.consts c.keyed.result o (λ v. given (field_key x) (λ n. Some (of_field n v)))
+    (λ v. given (go_typing.element a (key_type (defined_types k.env) u) x) (λ q. Some (keyed q v))) (is_struct u)
+    (sym c.is_struct.ensures ∙ c.if-is_struct.false)
+    (c.keyed.ensures n.env n.consts o (go_typing.element a (key_type (defined_types k.env) u) x)
+    (operand_kept k n c.part-operand.ensures.keeps o c.args.value h)
+    (subst (λ q. GivesOperand n.env n.consts (go_typing.element a q x) c.part-operand.result) c.key_type-of.ensures.is
+    c.part-operand.ensures.gives)))
+
+pub part-returns-in-Plain-clause-gives : goal.part-returns-in-Plain-clause-gives
+part-returns-in-Plain-clause-gives t c =
+    let k = c.args.tables.now in
+    let n = c.expr.new.tables in
+    let a = at k c.args.blocks.now c.args.scope.now in
+    subst
+    (λ x. GivesOperand n.env n.consts (go_typing.element a (typed_option k.env c.args.to) (value_of x)) c.operand_of.result)
+    (sym c.in-Plain.is)
+    (c.operand_of.ensures n.env n.consts (go_typing.parts a (expr_of c.in-Plain.e)) (go_typing.place a (expr_of c.in-Plain.e))
+    c.expr.ensures.gives)
+
+pub part-returns-in-Braced-clause-gives : goal.part-returns-in-Braced-clause-gives
+part-returns-in-Braced-clause-gives t c =
+    let k = c.args.tables.now in
+    let n = c.braced.new.tables in
+    let a = at k c.args.blocks.now c.args.scope.now in
+    subst
+    (λ x. GivesOperand n.env n.consts (go_typing.element a (typed_option k.env c.args.to) (value_of x)) c.braced.result)
+    (sym c.in-Braced.is) (c.braced.ensures.gives no_span)
+
+pub braced-returns-in-Some-clause-gives : goal.braced-returns-in-Some-clause-gives
+braced-returns-in-Some-clause-gives t c =
+    λ sp.
+    let k = c.args.tables.now in
+    let n = c.elements-list.new.tables in
+    let a = at k c.args.blocks.now c.args.scope.now in
+    let es = elems_of c.args.elems.now in
+    let there = subst (λ o. IfSome o (λ t. IsType k.env (Typed t))) c.in-Some.is c.requires.to in
+    subst (λ o. GivesOperand n.env n.consts (go_typing.element a (typed_option k.env o) (tree.braced sp es)) c.literal_inside.result)
+    (sym c.in-Some.is)
+    (braced_arm k n c.elements-list.ensures.keeps c.args.blocks.now c.args.scope.now sp es c.in-Some.t c.literal_type-of.result
+    there.0 c.literal_type-of.ensures.is c.elements-list.result c.elements-list.ensures.gives c.literal_inside.result
+    c.literal_inside.ensures)
+
+pub composite-literal-requires-clause-of : goal.composite-literal-requires-clause-of
+composite-literal-requires-clause-of t c =
+    type_kept c.meant.new.tables c.elements-list.new.tables c.elements-list.ensures.keeps c.in-Ok.t
+    (c.in-Ok.ensures.gives c.args.tables.now.consts).0
+
+pub composite-literal-requires-clause-elements : goal.composite-literal-requires-clause-elements
+composite-literal-requires-clause-elements t c =
+    let m = c.meant.new.tables in
+    let n = c.elements-list.new.tables in
+    elements_there n.env n.consts
+    (go_typing.elements (at m c.args.blocks.now c.args.scope.now) (under (defined_types m.env) (env_type m.env c.in-Ok.t.0)) (elems_of c.args.elems.now))
+    c.elements-list.result c.elements-list.ensures.gives
+
+pub braced-literal_inside-requires-clause-of : goal.braced-literal_inside-requires-clause-of
+braced-literal_inside-requires-clause-of t c =
+    let k = c.args.tables.now in
+    type_kept k c.elements-list.new.tables c.elements-list.ensures.keeps c.in-Some.t
+    (subst (λ o. IfSome o (λ t. IsType k.env (Typed t))) c.in-Some.is c.requires.to)
+
+pub braced-literal_inside-requires-clause-elements : goal.braced-literal_inside-requires-clause-elements
+braced-literal_inside-requires-clause-elements t c =
+    let k = c.args.tables.now in
+    let n = c.elements-list.new.tables in
+    elements_there n.env n.consts
+    (go_typing.elements (at k c.args.blocks.now c.args.scope.now) (under (defined_types k.env) (env_type k.env c.literal_type-of.result.0)) (elems_of c.args.elems.now))
+    c.elements-list.result c.elements-list.ensures.gives
+
+pub composite-elements-list-requires : goal.composite-elements-list-requires
+composite-elements-list-requires t c =
+    let k = c.args.tables.now in (
+      omega (arith, c.decreases),
+      (
+        stands_kept k c.meant.new.tables c.meant.ensures.keeps c.args.blocks.now c.args.scope.now c.requires.stands c.meant.ensures.ready,
+        ((c.in-Ok.ensures.gives k.consts).0, c.requires.walked),
+      ),
+    )
+
+pub elements-one_element-requires : goal.elements-one_element-requires
+elements-one_element-requires t c =
+    let items = c.items-x-items.result.now in
+    let item = c.x-item.result in
+    let d = rw c.items-x-items.ensures.seen at c.decreases in
+    let w = elem_walked items c.loop-x.x-index item c.loop-x-test.true c.x-item.is
+    (subst AreWalkedElems c.items-x-items.ensures.seen c.requires.walked) in (
+      omega (arith, d, elem_smaller items c.loop-x.x-index item c.loop-x-test.true c.x-item.is),
+      (
+        c.loop-x.invariant.stands,
+        (type_kept c.args.tables.now c.loop-x.tables c.loop-x.invariant.keeps c.args.t c.requires.of, (w.key, w.value)),
+      ),
+    )
+
+pub one_element-with_key-requires : goal.one_element-with_key-requires
+one_element-with_key-requires t c = (
+  omega (arith, c.decreases),
+  (
+    c.part-value.ensures.stands,
+    (type_kept c.args.tables.now c.part-value.new.tables c.part-value.ensures.keeps c.args.t c.requires.of, c.requires.key),
+  ),
+)
