@@ -1,0 +1,3 @@
+pub mod ArgumentLemmas
+pub mod ValueLemmas
+pub mod MakeLemmas
