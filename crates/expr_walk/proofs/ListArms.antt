@@ -153,3 +153,12 @@ walk_ends a b bs s all xs w =
       same = w.same;
       places = sym (w.places ∙ append_none (map place_of xs.places.items));
     }
+
+-- one more was put behind the others
+pub walk_pushed :
+    (a b : Tables) (bs : List Names) (s : Scope) (all rest : Exprs Span) (os qs : List Operand) (ps rs : List Place)
+    (x : Located) → AreWalked a b bs s all rest (os ++ x.operand ∷ []) (ps ++ x.place ∷ []) →
+    qs ≡ os ++ x.operand ∷ [] → rs ≡ ps ++ x.place ∷ [] → AreWalked a b bs s all rest qs rs
+walk_pushed a b bs s all rest os qs ps rs x w h g =
+    subst (λ qs. AreWalked a b bs s all rest qs rs) (sym h)
+    (subst (λ rs. AreWalked a b bs s all rest (os ++ x.operand ∷ []) rs) (sym g) w)

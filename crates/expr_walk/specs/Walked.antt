@@ -25,7 +25,7 @@ abbrev mutual
   IsWalked (selector _ b n) = IsWalked b
   IsWalked (index _ b i) = IsWalked b × IsWalked i
   IsWalked (slice _ b i j) = IsWalked b × IsWalkedOption i × IsWalkedOption j
-  IsWalked (call _ f xs _) = ⊥
+  IsWalked (call _ f xs _) = IsWalked f × AreAllWalked xs
   IsWalked (func_lit _ g _ b) = ⊥
   IsWalked (type_operand _ t) = Unit {0}
   IsWalked (unary _ op e) = IsWalked e

@@ -3,7 +3,7 @@
 ghost use Rattle.std.specs.Prelude.{IfSome, Option};
 ghost use Rattle.go_tree.specs.declared.spans.Span.{Span};
 ghost use Rattle.go_tree.specs.Tree as tree;
-ghost use Rattle.go_tree.specs.View.{boxed_expr_option_of, elems_of, expr_of, held_value_option_of, name_at_of, type_of, value_of};
+ghost use Rattle.go_tree.specs.View.{boxed_expr_option_of, elems_of, expr_of, exprs_of, held_value_option_of, name_at_of, type_of, value_of};
 ghost use Rattle.go_types.specs.Answers.{given};
 ghost use Rattle.go_types.specs.Defined.{under};
 ghost use Rattle.go_types.specs.Literals as go_literal;
@@ -17,23 +17,25 @@ ghost use Rattle.typed_names.specs.Scopes.{env_at};
 ghost use Rattle.operand_modes.specs.Operands.{GivesOperand};
 ghost use Rattle.checker_tables.specs.Ready.{Keeps};
 ghost use Rattle.operand_answers.specs.Known.{Stands};
+ghost use Rattle.operand_answers.specs.Lists.{GivesAll};
 ghost use Rattle.access_steps.specs.Bounds.{GivesBound};
 ghost use Rattle.composite_steps.specs.Elements.{GivesElement, GivesElements};
-ghost use Rattle.expr_walk.specs.Walked.{AreWalkedElems, IsWalked, IsWalkedKey, IsWalkedOption, IsWalkedValue};
+ghost use Rattle.expr_walk.specs.Walked.{AreAllWalked, AreWalkedElems, IsWalked, IsWalkedKey, IsWalkedOption, IsWalkedValue};
 ghost use Rattle.expr_walk.specs.Answers.{GivesExpr};
 
 use crate::qualifiers::package_before;
 use access_steps::{bound, index, slice};
+use call_steps::call;
 use checker_tables::{Tables, meant};
 use composite_steps::{
     ElementList, inner_type, is_struct, key_type, keyed, literal as composite_literal,
     literal_inside, literal_type, of_field, operand_of, unkeyed,
 };
 use const_eval::Kind;
-use go_tree::{Elem, ElemList, Expr, NameAt, TypeExpr, Value as ElemValue};
+use go_tree::{Elem, ElemList, Expr, ExprList, NameAt, TypeExpr, Value as ElemValue};
 use literal_rules::Element;
 use name_steps::{literal, named, qualified, type_operand};
-use operand_answers::Located;
+use operand_answers::{Located, OperandList};
 use operand_modes::Operand;
 use operand_rules::{Refusal, Value};
 use operator_steps::{binary, star, unary};
@@ -98,7 +100,11 @@ pub fn expr(
             let pointer = expr(alloc, tables, scope, blocks, e);
             star(tables, pointer)
         }
-        Expr::Call { .. } => unreachable!("no call is walked"),
+        Expr::Call { callee, args, .. } => {
+            let function = expr(alloc, tables, scope, blocks, callee);
+            let arguments = all_exprs(alloc, tables, scope, blocks, args);
+            call(alloc, tables, function, arguments)
+        }
         Expr::FuncLit { .. } => unreachable!("no function literal is walked"),
     }
 }
@@ -126,6 +132,34 @@ fn bound_of(
             bound(tables, value)
         }
     }
+}
+
+/// What expressions in order are, and where they stand, or that one isn't typed. The tables only grow.
+#[cycle(exprs)]
+pub fn all_exprs(
+    alloc: Global,
+    tables: &mut Tables,
+    scope: &Scope,
+    blocks: &Blocks,
+    es: &ExprList,
+) -> Result<OperandList, Refusal>
+    requires stands { Stands tables.old blocks.now scope.now }
+    requires walked { AreAllWalked (exprs_of es.now) }
+    ensures stands { Stands tables.new blocks.now scope.now }
+    ensures keeps { Keeps tables.old tables.new }
+    ensures gives { GivesAll tables.new.env tables.new.consts
+        (go.all_parts (env_at tables.old.env tables.old.consts blocks.now scope.now) (exprs_of es.now))
+        (go.places (env_at tables.old.env tables.old.consts blocks.now scope.now) (exprs_of es.now)) result }
+{
+    let mut list = OperandList::new(alloc);
+    for e in es.items() {
+        let one = match expr(alloc, tables, scope, blocks, e) {
+            Ok(one) => one,
+            Err(refusal) => return Err(refusal),
+        };
+        list.push(one)?;
+    }
+    Ok(list)
 }
 
 /// What a selector is: what a package exports, or a field or method of an operand.

@@ -5,4 +5,4 @@
 mod exprs;
 mod qualifiers;
 
-pub use exprs::expr;
+pub use exprs::{all_exprs, expr};

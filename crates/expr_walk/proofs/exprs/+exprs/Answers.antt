@@ -1,7 +1,7 @@
-use Rattle.std.proofs.Common.{◌∙◌, ◌+◌, List, IfSome, Ok, Err, Some, arith, drop, map, pos, ap₂, subst, sym}
+use Rattle.std.proofs.Common.{◌∙◌, ◌+◌, [], List, IfSome, Ok, Err, Some, arith, drop, map, pos, ap₂, subst, sym}
 use Rattle.go_tree.specs.Tree as tree
-use Rattle.go_tree.specs.Lists.{elems_from}
-use Rattle.go_tree.specs.View.{boxed_expr_option_of, elem_of, elems_of, expr_of, held_value_option_of, name_at_of, type_of, value_of}
+use Rattle.go_tree.specs.Lists.{elems_from, exprs_from}
+use Rattle.go_tree.specs.View.{boxed_expr_option_of, elem_of, elems_of, expr_of, exprs_of, held_value_option_of, name_at_of, type_of, value_of}
 use Rattle.const_eval.specs.declared.kinds.Kind.TheVariants as kind
 use Rattle.const_eval.specs.Exact.{number, text}
 use Rattle.const_eval.specs.Literals.{integer_value, literal_value}
@@ -22,10 +22,12 @@ use Rattle.operand_rules.specs.declared.values.ValueType.TheVariants.{Typed}
 use Rattle.operand_rules.specs.Values.{IsType}
 use Rattle.operator_rules.specs.Settling.{typed_option}
 use Rattle.operand_modes.specs.Operands.{GivesOperand}
+use Rattle.operand_answers.specs.Lists.{GivesAll}
 use Rattle.operand_answers.specs.Located.{GivesAt}
 use Rattle.operand_answers.proofs.AnswerLemmas.{type_refused_at}
 use Rattle.operand_answers.proofs.KeptLemmas.{stands_kept, there_kept}
 use Rattle.access_steps.specs.Bounds.{GivesBound}
+use Rattle.call_steps.proofs.CallSteps.{arguments_there}
 use Rattle.name_steps.specs.Spelled.{IsSpelled}
 use Rattle.literal_rules.specs.declared.elements.Element.{Element}
 use Rattle.composite_steps.specs.declared.elements.ElementList.{ElementList}
@@ -33,10 +35,12 @@ use Rattle.composite_steps.specs.Elements.{GivesElement, GivesElements}
 use Rattle.composite_steps.proofs.ElementLemmas.{elements_there, operand_kept}
 use Rattle.expr_walk.specs.Answers.{GivesExpr}
 use Rattle.expr_walk.specs.Elements.{AreElementsWalked}
-use Rattle.expr_walk.specs.Walked.{AreWalkedElems, IsWalked}
+use Rattle.expr_walk.specs.Lists.{AreWalked}
+use Rattle.expr_walk.specs.Walked.{AreAllWalked, AreWalkedElems, IsWalked}
 use Rattle.expr_walk.proofs.ElementArms.{braced_arm, composite_arm, element_arm, elements_end, elements_fails, elements_more, elements_start, key_else, key_then, one, type_kept}
-use Rattle.expr_walk.proofs.ExprArms.{at, binary_arm, bound_arm, expr_there, index_arm, literal_arm, no_span, package_arm, selector_arm, slice_arm, star_arm, unary_arm}
-use Rattle.expr_walk.proofs.Parts.{elem_smaller, elem_walked}
+use Rattle.expr_walk.proofs.ExprArms.{at, binary_arm, bound_arm, call_arm, expr_there, index_arm, literal_arm, no_span, package_arm, selector_arm, slice_arm, star_arm, unary_arm}
+use Rattle.expr_walk.proofs.Parts.{elem_smaller, elem_walked, expr_smaller, expr_walked}
+use Rattle.expr_walk.proofs.ListArms.{walk_ends, walk_fails, walk_more, walk_pushed, walk_start}
 use Rattle.expr_walk.proofs.exprs.+exprs.Goals as goal
 
 pub expr-returns-in-Ident-clause-stands : goal.expr-returns-in-Ident-clause-stands
@@ -509,3 +513,112 @@ one_element-with_key-requires t c = (
     (type_kept c.args.tables.now c.part-value.new.tables c.part-value.ensures.keeps c.args.t c.requires.of, c.requires.key),
   ),
 )
+
+-- ---- calls
+
+pub expr-returns-in-Call-clause-gives : goal.expr-returns-in-Call-clause-gives
+expr-returns-in-Call-clause-gives t c =
+    let k = c.args.tables.now in
+    let m = c.expr-function.new.tables in
+    let n = c.call.new.tables in
+    let a = at k c.args.blocks.now c.args.scope.now in
+    subst (λ x. GivesExpr n a (expr_of x) c.call.result) (sym c.in-Call.is)
+    (subst (λ x. GivesExpr n a (tree.call no_span (expr_of x) (exprs_of c.in-Call.args) c.in-Call.rest) c.call.result) c.deref-in-Call.ensures
+    (call_arm k c.args.blocks.now c.args.scope.now m c.all_exprs-arguments.new.tables n c.expr-function.ensures.keeps
+    c.all_exprs-arguments.ensures.keeps c.requires.stands no_span (expr_of c.deref-in-Call.result.now)
+    (exprs_of c.in-Call.args) c.in-Call.rest c.expr-function.result c.all_exprs-arguments.result c.call.result
+    c.expr-function.ensures.gives c.all_exprs-arguments.ensures.gives c.call.ensures.gives))
+
+pub expr-returns-in-Call-clause-stands : goal.expr-returns-in-Call-clause-stands
+expr-returns-in-Call-clause-stands t c =
+    stands_kept c.all_exprs-arguments.new.tables c.call.new.tables c.call.ensures.keeps c.args.blocks.now c.args.scope.now c.all_exprs-arguments.ensures.stands c.call.ensures.ready
+
+pub expr-call-requires-clause-callee : goal.expr-call-requires-clause-callee
+expr-call-requires-clause-callee t c =
+    there_kept c.expr-function.new.tables c.all_exprs-arguments.new.tables c.all_exprs-arguments.ensures.keeps c.expr-function.result
+    (expr_there c.expr-function.new.tables (at c.args.tables.now c.args.blocks.now c.args.scope.now) (expr_of c.deref-in-Call.result.now) c.expr-function.result
+    c.expr-function.ensures.gives)
+
+pub expr-call-requires-clause-arguments : goal.expr-call-requires-clause-arguments
+expr-call-requires-clause-arguments t c =
+    let n = c.all_exprs-arguments.new.tables in
+    let a = at c.expr-function.new.tables c.args.blocks.now c.args.scope.now in
+    arguments_there n.env n.consts (go_typing.all_parts a (exprs_of c.in-Call.args)) (go_typing.places a (exprs_of c.in-Call.args)) c.all_exprs-arguments.result
+    c.all_exprs-arguments.ensures.gives
+
+pub all_exprs-expr-requires : goal.all_exprs-expr-requires
+all_exprs-expr-requires t c =
+    let items = c.items-e-items.result.now in
+    let item = c.e-item.result in
+    let d = rw c.items-e-items.ensures.seen at c.decreases in (
+      omega (arith, d, expr_smaller items c.loop-e.e-index item c.loop-e-test.true c.e-item.is),
+      (
+        c.loop-e.invariant.stands,
+        expr_walked items c.loop-e.e-index item c.loop-e-test.true c.e-item.is
+            (subst AreAllWalked c.items-e-items.ensures.seen c.requires.walked),
+      ),
+    )
+
+pub all_exprs-loop-e-init : goal.all_exprs-loop-e-init
+all_exprs-loop-e-init t c =
+    let k = c.args.tables.now in
+    let all = exprs_from (map expr_of c.items-e-items.result.now) in
+    let bs = c.args.blocks.now in
+    let s = c.args.scope.now in
+    subst (λ os. AreWalked k k bs s all all os c.new-list.result.places.items) (sym c.new-list.ensures.operands)
+    (subst (AreWalked k k bs s all all []) (sym c.new-list.ensures.places) (walk_start k bs s all c.requires.stands))
+
+pub all_exprs-loop-e-preserved : goal.all_exprs-loop-e-preserved
+all_exprs-loop-e-preserved t c =
+    let k = c.args.tables.now in
+    let m = c.loop-e.tables in
+    let n = c.expr.new.tables in
+    let bs = c.args.blocks.now in
+    let s = c.args.scope.now in
+    let items = c.items-e-items.result.now in
+    let item = c.e-item.result in
+    let all = exprs_from (map expr_of items) in
+    let left = exprs_from (map expr_of (drop (c.loop-e.e-index + 1) items)) in
+    let os = c.loop-e.list.operands.items in
+    let ps = c.loop-e.list.places.items in
+    let w = subst (λ xs. AreWalked k m bs s all (exprs_from (map expr_of xs)) os ps)
+    (drop_item items c.loop-e.e-index item c.loop-e-test.true c.e-item.is) c.loop-e.invariant in
+    walk_pushed k n bs s all left os _ ps _ c.in-Ok.one
+    (walk_more k m bs s c.requires.stands all left (expr_of item) os ps w n c.expr.ensures.keeps c.expr.ensures.stands c.in-Ok.one
+    (subst (GivesExpr n (at m bs s) (expr_of item)) c.in-Ok.is c.expr.ensures.gives))
+    c.in_ok-push.ensures.operands c.in_ok-push.ensures.places
+
+pub all_exprs-returns-in-Err-clause-gives : goal.all_exprs-returns-in-Err-clause-gives
+all_exprs-returns-in-Err-clause-gives t c =
+    let k = c.args.tables.now in
+    let m = c.loop-e.tables in
+    let n = c.expr.new.tables in
+    let bs = c.args.blocks.now in
+    let s = c.args.scope.now in
+    let items = c.items-e-items.result.now in
+    let item = c.e-item.result in
+    let all = exprs_from (map expr_of items) in
+    let left = exprs_from (map expr_of (drop (c.loop-e.e-index + 1) items)) in
+    let os = c.loop-e.list.operands.items in
+    let ps = c.loop-e.list.places.items in
+    let w = subst (λ xs. AreWalked k m bs s all (exprs_from (map expr_of xs)) os ps)
+    (drop_item items c.loop-e.e-index item c.loop-e-test.true c.e-item.is) c.loop-e.invariant in
+    subst (λ es. GivesAll n.env n.consts (go_typing.all_parts (at k bs s) es) (go_typing.places (at k bs s) es) (Err c.in-Err.refusal))
+    (sym c.items-e-items.ensures.seen)
+    (walk_fails k m bs s c.requires.stands all left (expr_of item) os ps w n c.in-Err.refusal
+    (subst (GivesExpr n (at m bs s) (expr_of item)) c.in-Err.is c.expr.ensures.gives))
+
+pub all_exprs-returns-clause-gives : goal.all_exprs-returns-clause-gives
+all_exprs-returns-clause-gives t c =
+    let k = c.args.tables.now in
+    let n = c.loop-e.tables in
+    let bs = c.args.blocks.now in
+    let s = c.args.scope.now in
+    let items = c.items-e-items.result.now in
+    let all = exprs_from (map expr_of items) in
+    let list = c.loop-e.list in
+    subst (λ es. GivesAll n.env n.consts (go_typing.all_parts (at k bs s) es) (go_typing.places (at k bs s) es) (Ok list))
+    (sym c.items-e-items.ensures.seen)
+    (walk_ends k n bs s all list
+    (subst (λ xs. AreWalked k n bs s all (exprs_from (map expr_of xs)) list.operands.items list.places.items)
+    (drop_all items c.loop-e.e-index c.loop-e-test.false) c.loop-e.invariant))

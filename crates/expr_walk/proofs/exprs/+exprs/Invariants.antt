@@ -1,10 +1,11 @@
 use Rattle.std.proofs.Common.{◌+◌, drop, map}
-use Rattle.go_tree.specs.Lists.{elems_from}
-use Rattle.go_tree.specs.View.{boxed_expr_option_of, elem_of, elems_of, expr_of, held_value_option_of, value_of}
+use Rattle.go_tree.specs.Lists.{elems_from, exprs_from}
+use Rattle.go_tree.specs.View.{boxed_expr_option_of, elem_of, elems_of, expr_of, exprs_of, held_value_option_of, value_of}
 use Rattle.go_types.specs.Defined.{under}
 use Rattle.type_relations.specs.Environment.{defined_types, env_type}
 use Rattle.expr_walk.specs.Elements.{AreElementsWalked}
-use Rattle.expr_walk.specs.Walked.{size, size_elems, size_key, size_option, size_value}
+use Rattle.expr_walk.specs.Lists.{AreWalked}
+use Rattle.expr_walk.specs.Walked.{size, size_all, size_elems, size_key, size_option, size_value}
 use Rattle.expr_walk.proofs.exprs.+exprs.Given as goal
 
 abbrev pub decreases-expr : goal.decreases-expr
@@ -39,3 +40,11 @@ invariant-elements-loop-x l =
     AreElementsWalked l.initial.tables l.tables l.blocks l.scope
     (under (defined_types l.initial.tables.env) (env_type l.initial.tables.env l.t.0)) (elems_from (map elem_of l.x-items))
     (elems_from (map elem_of (drop l.x-index l.x-items))) l.items.items
+
+abbrev pub decreases-all_exprs : goal.decreases-all_exprs
+decreases-all_exprs l = size_all (exprs_of l.es.now)
+
+abbrev pub invariant-all_exprs-loop-e : goal.invariant-all_exprs-loop-e
+invariant-all_exprs-loop-e l =
+    AreWalked l.initial.tables l.tables l.blocks l.scope (exprs_from (map expr_of l.e-items))
+    (exprs_from (map expr_of (drop l.e-index l.e-items))) l.list.operands.items l.list.places.items
