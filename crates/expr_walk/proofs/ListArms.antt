@@ -29,11 +29,11 @@ use Rattle.expr_walk.specs.Answers.{GivesExpr}
 use Rattle.expr_walk.specs.Lists.{AreWalked}
 use Rattle.expr_walk.proofs.ExprArms.{at, read_before}
 
-given_same : {A : Type 0} (o : Option (List A)) → o ≡ given o (λ vs. Some ([] ++ vs))
+pub given_same : {A : Type 0} (o : Option (List A)) → o ≡ given o (λ vs. Some ([] ++ vs))
 given_same None = refl
 given_same (Some a) = refl
 
-append_none : {A : Type 0} (xs : List A) → xs ++ [] ≡ xs
+pub append_none : {A : Type 0} (xs : List A) → xs ++ [] ≡ xs
 append_none [] = refl
 append_none (x ∷ xs) = ap (λ ys. x ∷ ys) (append_none xs)
 
@@ -41,7 +41,7 @@ append_on : {A : Type 0} (xs : List A) (x : A) (ys : List A) → xs ++ x ∷ ys 
 append_on [] x ys = refl
 append_on (z ∷ zs) x ys = ap (λ l. z ∷ l) (append_on zs x ys)
 
-map_on : {A B : Type 0} (f : A → B) (xs : List A) (x : A) → map f (xs ++ x ∷ []) ≡ map f xs ++ f x ∷ []
+pub map_on : {A B : Type 0} (f : A → B) (xs : List A) (x : A) → map f (xs ++ x ∷ []) ≡ map f xs ++ f x ∷ []
 map_on f [] x = refl
 map_on f (y ∷ ys) x = ap (λ l. f y ∷ l) (map_on f ys x)
 
@@ -87,8 +87,8 @@ same_one [] (y ∷ ys) k l h g = absurd h
 same_one (x ∷ xs) [] k l h g = absurd h
 same_one (x ∷ xs) (y ∷ ys) k l h g = (h.0, same_one xs ys k l h.1 g)
 
-read_on :
-    (a : go.Operand) (o : Option (List go.Operand)) (ks : List go.Operand) →
+pub read_on :
+    {A : Type 0} (a : A) (o : Option (List A)) (ks : List A) →
     given (both (Some a) o (λ x xs. Some (x ∷ xs))) (λ vs. Some (ks ++ vs)) ≡ given o (λ vs. Some ((ks ++ a ∷ []) ++ vs))
 read_on a None ks = refl
 read_on a (Some vs) ks = ap Some (append_on ks a vs)
@@ -153,3 +153,12 @@ walk_ends a b bs s all xs w =
       same = w.same;
       places = sym (w.places ∙ append_none (map place_of xs.places.items));
     }
+
+-- one more was put behind the others
+pub walk_pushed :
+    (a b : Tables) (bs : List Names) (s : Scope) (all rest : Exprs Span) (os qs : List Operand) (ps rs : List Place)
+    (x : Located) → AreWalked a b bs s all rest (os ++ x.operand ∷ []) (ps ++ x.place ∷ []) →
+    qs ≡ os ++ x.operand ∷ [] → rs ≡ ps ++ x.place ∷ [] → AreWalked a b bs s all rest qs rs
+walk_pushed a b bs s all rest os qs ps rs x w h g =
+    subst (λ qs. AreWalked a b bs s all rest qs rs) (sym h)
+    (subst (λ rs. AreWalked a b bs s all rest (os ++ x.operand ∷ []) rs) (sym g) w)

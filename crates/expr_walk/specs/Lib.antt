@@ -1,3 +1,4 @@
 pub mod Walked
 pub mod Answers
 pub mod Lists
+pub mod Elements

@@ -3,5 +3,6 @@
 #![tactic(auto)]
 
 mod exprs;
+mod qualifiers;
 
-pub use exprs::expr;
+pub use exprs::{all_exprs, expr};

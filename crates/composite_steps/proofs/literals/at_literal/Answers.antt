@@ -1,0 +1,18 @@
+use Rattle.std.proofs.Common.{subst}
+use Rattle.go_types.specs.Answers.{only_if}
+use Rattle.go_types.specs.Entities as go_entity
+use Rattle.go_types.specs.Operands.{plain_value}
+use Rattle.operand_rules.specs.Values.{Gives}
+use Rattle.composite_steps.proofs.ElementLemmas.{literal_located, literal_refused}
+use Rattle.composite_steps.proofs.literals.at_literal.Goals as goal
+
+pub returns-in-Ok : goal.returns-in-Ok
+returns-in-Ok c =
+    λ e cs b t u h.
+    literal_located e cs b t c.in-Ok.value u (subst (Gives e cs (only_if b (plain_value t))) c.in-Ok.is h)
+
+pub returns-in-Err : goal.returns-in-Err
+returns-in-Err c =
+    λ e cs b t u h.
+    literal_refused e cs (only_if b (plain_value t)) go_entity.literal c.in-Err.refusal
+    (subst (Gives e cs (only_if b (plain_value t))) c.in-Err.is h)

@@ -1,0 +1,6 @@
+use Rattle.checker_tables.proofs.PartLemmas.{parts_follow}
+use Rattle.composite_steps.proofs.types.is_struct.Goals as goal
+
+pub form-requires-clause-types : goal.form-requires-clause-types
+form-requires-clause-types c =
+    parts_follow c.args.tables.now.env c.len-types.ensures.good c.requires.ready.values
