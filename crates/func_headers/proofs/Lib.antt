@@ -1,0 +1,9 @@
+pub mod SameTypeLaws
+pub mod StayLaws
+pub mod DistinctNames
+pub mod Signatures
+pub mod FirstFunctions
+pub mod MethodsAside
+pub mod SoFar
+pub mod HeaderSteps
+pub mod Passed

@@ -1,0 +1,4 @@
+pub mod NameRoles
+pub mod Functions
+pub mod Names
+pub mod Steps

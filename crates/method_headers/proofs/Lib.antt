@@ -1,0 +1,3 @@
+pub mod MethodParts
+pub mod MethodLaws
+pub mod ReceiverLemmas
