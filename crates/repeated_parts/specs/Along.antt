@@ -1,0 +1,42 @@
+-- The parts of a declaration that may be uses, each with a flag, beside all its parts with their places (Go
+-- specification, Constant declarations; Operands; Calls; Types; Composite literals; Short variable declarations).
+use Rattle.std.specs.Prelude.{◌≡◌, ℕ, Bool, true, false, not, List, [], ◌∷◌, ◌++◌, map, Option}
+use Rattle.go_tree.specs.Tree.{NameAt, TypeExpr, Expr, ident, Stmt}
+use Rattle.go_types.specs.Answers.{meets, is_empty}
+use Rattle.go_types.specs.Types.{GoType}
+use Rattle.go_types.specs.Literals.{is_struct}
+use Rattle.run_rules.specs.Surroundings.{Use, stored, Place, Seen, seen, seen_type, seen_stmt, is_old}
+use Rattle.run_rules.specs.Sites.{an_expr, named_in}
+use Rattle.possible_uses.specs.Candidates.{Candidate, plain_part, key_part}
+use Rattle.possible_uses.specs.Parts.{put}
+use Rattle.possible_uses.specs.Among.{may_be_use, names_in}
+use Rattle.repeated_parts.specs.Flags.{put_flag}
+
+module _ {S : Type 0} where
+  -- a later member of a group in a function repeats the expression in which the place stands
+  abbrev pub is_again : Place S → Bool
+  is_again p = not (is_empty p.again)
+
+  -- From some parts with their flags to more of them, past parts with their places, as possible_uses' `Follows` goes: one
+  -- more for each that may be a use, with the flag of its place, and one for each name in a type. A key that names a field
+  -- is no part with a place, and so has any flag.
+  pub data FlagsAlong : List (Candidate S) → List Bool → List (Seen S) → List (Candidate S) → List Bool → Type 0 where
+    at_the_end : {xs : List (Candidate S)} {ms : List Bool} → FlagsAlong xs ms [] xs ms
+    past_a_use : {xs zs : List (Candidate S)} {ms ns : List Bool} {ys : List (Seen S)} {p : Place S} {u : Use} {e : Expr S} →
+        may_be_use e ≡ true → FlagsAlong (put (plain_part (an_expr e)) xs) (put_flag (is_again p) ms) ys zs ns →
+        FlagsAlong xs ms (seen p u e ∷ ys) zs ns
+    past_no_use : {xs zs : List (Candidate S)} {ms ns : List Bool} {ys : List (Seen S)} {p : Place S} {u : Use} {e : Expr S} →
+        may_be_use e ≡ false → FlagsAlong xs ms ys zs ns → FlagsAlong xs ms (seen p u e ∷ ys) zs ns
+    past_a_key : {xs zs : List (Candidate S)} {ms ns : List Bool} {ys : List (Seen S)} {p : Place S} {u : Use} {s : S} {n : List ℕ} →
+        FlagsAlong (put (key_part (ident s n)) xs) (put_flag (is_again p) ms) ys zs ns →
+        FlagsAlong xs ms (seen p u (ident s n) ∷ ys) zs ns
+    past_a_field : {xs zs : List (Candidate S)} {ms ns : List Bool} {ys : List (Seen S)} (u : Option GoType) (s : S) (n : List ℕ) (m : Bool) →
+        meets u is_struct ≡ true → FlagsAlong (put (key_part (ident s n)) xs) (put_flag m ms) ys zs ns →
+        FlagsAlong xs ms ys zs ns
+    past_an_old_name : {xs zs : List (Candidate S)} {ms ns : List Bool} {ys : List (Seen S)} {p : Place S} {n : NameAt S} →
+        is_old p n ≡ true → FlagsAlong xs ms ys zs ns → FlagsAlong xs ms (seen p stored (ident n.span n.name) ∷ ys) zs ns
+    past_a_type : {xs zs : List (Candidate S)} {ms ns : List Bool} {ys : List (Seen S)} {p : Place S} {t : TypeExpr S} →
+        FlagsAlong (xs ++ names_in t) (ms ++ map (λ x. is_again p) (named_in t)) ys zs ns →
+        FlagsAlong xs ms (seen_type p t ∷ ys) zs ns
+    past_a_statement : {xs zs : List (Candidate S)} {ms ns : List Bool} {ys : List (Seen S)} {p : Place S} {s : Stmt S} →
+        FlagsAlong xs ms ys zs ns → FlagsAlong xs ms (seen_stmt p s ∷ ys) zs ns

@@ -1,0 +1,15 @@
+-- The law of parts in members of groups that are repeated (Go specification, Constant declarations).
+use Rattle.std.specs.Prelude.{ℕ, List, []}
+use Rattle.go_tree.specs.File.{Decl, File}
+use Rattle.pkg_graph.specs.Package.{Package}
+use Rattle.run_rules.specs.Programs.{decl_seen}
+use Rattle.possible_uses.specs.Parts.{parts_of}
+use Rattle.possible_uses.specs.Among.{Keyed}
+use Rattle.repeated_parts.specs.Flags.{flags_of}
+use Rattle.repeated_parts.specs.Along.{FlagsAlong}
+
+-- The flags of a declaration's parts are those of their places, where keys of struct literals are names.
+abbrev pub FlagsAreThoseOfPlaces : Type 0 → Type 0
+FlagsAreThoseOfPlaces S =
+    (ps : List (Package S)) (k : ℕ) (p : Package S) (file : File S) (d : Decl S) → Keyed (decl_seen ps k p file d) →
+    FlagsAlong [] [] (decl_seen ps k p file d) (parts_of d) (flags_of d)
