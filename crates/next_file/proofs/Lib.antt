@@ -1,0 +1,4 @@
+pub mod Weights
+pub mod Tried
+pub mod Unread
+pub mod Made

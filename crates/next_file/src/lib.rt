@@ -1,0 +1,8 @@
+//! The file of a step: the text that its edits make, and what that reads as, or the limit that the step passes.
+#![tactic(auto)]
+
+mod file;
+mod limits;
+
+pub use file::{FileFault, NewFile, new_file};
+pub use limits::{Passed, Progress};

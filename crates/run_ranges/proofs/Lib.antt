@@ -1,0 +1,4 @@
+pub mod Walked
+pub mod Logs
+pub mod Room
+pub mod Stepped

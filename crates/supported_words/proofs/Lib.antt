@@ -1,0 +1,4 @@
+pub mod Spelled
+pub mod Words
+pub mod Fronts
+pub mod Constraints
