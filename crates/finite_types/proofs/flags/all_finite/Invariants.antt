@@ -1,0 +1,9 @@
+use Rattle.std.proofs.Common.{◌≡◌, drop}
+use Rattle.std.specs.List.{list_all}
+use Rattle.comparable_types.specs.Flags.{flag_at}
+use Rattle.finite_types.proofs.flags.all_finite.Given as goal
+
+abbrev pub invariant-loop-field : goal.invariant-loop-field
+invariant-loop-field l =
+    list_all (λ f. flag_at l.flags f.of.0) (drop l.field-index l.fields)
+    ≡ list_all (λ f. flag_at l.flags f.of.0) l.fields

@@ -1,0 +1,10 @@
+//! Which types are finite: a defined type reaches itself neither by names nor by fields alone (Go
+//! specification, Struct types; Underlying types).
+#![tactic(auto)]
+
+mod flags;
+mod grown;
+mod order;
+
+pub use flags::{finite_types, is_finite};
+pub use grown::{extend_finite, first_finite};

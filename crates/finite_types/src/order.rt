@@ -1,0 +1,99 @@
+//! The order in which flags follow from one another: each type after those that it holds by value
+//! (Go specification, Struct types; Underlying types).
+
+ghost use Rattle.std.specs.Prelude.{◌≡◌, ◌<◌, List, length};
+ghost use Rattle.type_relations.specs.Environment.{IsEnvironment};
+ghost use Rattle.defined_types.specs.declared.declared.DeclaredType.{DeclaredType};
+ghost use Rattle.finite_types.specs.Flags.{IsNext, SoundFlags};
+
+use crate::flags::set_flag;
+use go_tree::NoMemory;
+use named_types::number_at;
+use std::alloc::Global;
+use type_relations::Env;
+use type_table::{TypeId, TypeNode};
+
+/// A step of the walk: into a type, or out of it after those that it holds.
+#[derive(Clone, Copy, Drop)]
+enum Step {
+    Into(usize),
+    OutOf(usize),
+}
+
+/// Sets flags, those of the types that a type holds before its own.
+pub(crate) fn set_in_order(
+    alloc: Global,
+    types: &Env,
+    next: &[usize],
+    flags: &mut [bool],
+) -> Result<(), NoMemory>
+    requires good { IsEnvironment types.now }
+    requires count { length flags.old ≡ length types.now.rows }
+    ensures count { length flags.new ≡ length flags.old }
+    ensures sound { (ds : List DeclaredType) → IsNext types.now ds next.now
+        → SoundFlags types.now ds flags.old → SoundFlags types.now ds flags.new }
+{
+    let mut seen = vec![in alloc; false; flags.len()]?;
+    let mut steps = Vec::new(alloc);
+    for t in 0..flags.len() {
+        steps.push(Step::Into(t))?;
+        walk(types, next, flags, &mut seen, &mut steps)?;
+    }
+    Ok(())
+}
+
+/// Walks until no step is left.
+fn walk(
+    types: &Env,
+    next: &[usize],
+    flags: &mut [bool],
+    seen: &mut [bool],
+    steps: &mut Vec<Step>,
+) -> Result<(), NoMemory>
+    requires good { IsEnvironment types.now }
+    requires count { length flags.old ≡ length types.now.rows }
+    ensures count { length flags.new ≡ length flags.old }
+    ensures sound { (ds : List DeclaredType) → IsNext types.now ds next.now
+        → SoundFlags types.now ds flags.old → SoundFlags types.now ds flags.new }
+{
+    for _ in 0..u64::MAX {
+        match steps.pop() {
+            Some(Step::Into(t)) => {
+                if t < seen.len() && !seen[t] {
+                    seen[t] = true;
+                    steps.push(Step::OutOf(t))?;
+                    push_held(types, next, TypeId(t), steps)?;
+                }
+            }
+            Some(Step::OutOf(t)) => {
+                if t < flags.len() {
+                    set_flag(types, next, flags, t);
+                }
+            }
+            None => return Ok(()),
+        }
+    }
+    Ok(())
+}
+
+/// Adds steps into the types that a type holds by value.
+fn push_held(
+    types: &Env,
+    next: &[usize],
+    t: TypeId,
+    steps: &mut Vec<Step>,
+) -> Result<(), NoMemory> {
+    if !types.has(t) {
+        return Ok(());
+    }
+    match types.node(t) {
+        TypeNode::Named { .. } => steps.push(Step::Into(number_at(next, t.0)))?,
+        TypeNode::Struct(fields) => {
+            for field in &fields.items {
+                steps.push(Step::Into(field.of.0))?;
+            }
+        }
+        _ => {}
+    }
+    Ok(())
+}

@@ -1,0 +1,3 @@
+pub mod ChainSteps
+pub mod DefineLaws
+pub mod StepLaws

@@ -1,0 +1,4 @@
+use Rattle.named_types.proofs.steps.+after_steps.Given as goal
+
+abbrev pub decreases-after_steps : goal.decreases-after_steps
+decreases-after_steps l = l.count
