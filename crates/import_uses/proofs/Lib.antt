@@ -1,0 +1,12 @@
+pub mod Around
+pub mod Stays
+pub mod Totals
+pub mod Walk
+pub mod DeclWalk
+pub mod Outer
+pub mod Unhit
+pub mod Counted
+pub mod Sums
+pub mod Standing
+pub mod Once
+pub mod StepUses

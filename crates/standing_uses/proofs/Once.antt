@@ -1,0 +1,136 @@
+-- A use that a step finds is seated among the parts of its declaration, and no other part has its span.
+use Rattle.std.proofs.Common.{◌≡◌, ◌∙◌, refl, sym, subst, ℕ, zero, suc, Bool, true, false, List, [], ◌∷◌, Some, arith}
+use Rattle.std.specs.Prelude.{slice_get, nat_eq}
+use Rattle.std.proofs.lemmas.Option.{same_Some}
+use Rattle.go_tree.specs.declared.spans.Span.{Span}
+use Rattle.go_tree.specs.Tree.{NameAt, Expr, ident, int_lit, rune_lit, str_lit, composite, selector, index, slice, call, func_lit, type_operand, unary, binary, star}
+use Rattle.go_tree.specs.File.{Decl}
+use Rattle.scope_names.specs.Scopes.{expr_span}
+use Rattle.import_rules.specs.Removed.{same_span}
+use Rattle.typed_in_place.proofs.Rising.{and_first, and_second}
+use Rattle.run_rules.specs.Surroundings.{Place, Seen, seen, seen_type, seen_stmt}
+use Rattle.run_rules.specs.Programs.{decl_seen}
+use Rattle.run_rules.specs.Respanned.{decl_with, decls_with}
+use Rattle.run_rules.specs.Sites.{MarkRef, an_expr, a_constant, Site, inlinable, part_span}
+use Rattle.run_rules.specs.Forms.{is_at}
+use Rattle.run_rules.specs.Steps.{At, same_here}
+use Rattle.run_rules.specs.Run.{Standing, Logged, Next, here_of}
+use Rattle.run_laws.specs.Reading.{FileReads, FileAt, ProgramReads}
+use Rattle.run_laws.proofs.FoundSpans.{Placed}
+use Rattle.form_splices.specs.Laws.{MakesForm}
+use Rattle.form_splices.proofs.FormsFound.{step-makes-form}
+use Rattle.step_cycles.proofs.StepAlike.{found-placed}
+use Rattle.constant_steps.proofs.NamesOutside.{equal_numbers}
+use Rattle.run_steps.proofs.SeatedUses.{Among, first, later, Seated, sites-seated}
+use Rattle.run_steps.proofs.TokenPlaces.{tokens-rise}
+use Rattle.run_steps.proofs.SpanPlaces.{DeclIn, DeclsIn}
+use Rattle.run_steps.proofs.SpelledPlaces.{front_in}
+use Rattle.run_steps.proofs.SpreadParts.{AllOther, Apart}
+use Rattle.run_steps.proofs.SeenSpread.{decl-apart}
+use Rattle.import_uses.specs.Parts.{EachSeen, IsName, IsElsewhere, StandsOnce}
+use Rattle.import_uses.specs.Parts as stands
+use Rattle.standing_uses.specs.Laws.{IsNamedOnce, ConstantUsesStandOnce}
+use Rattle.standing_uses.proofs.Named.{constant_named}
+
+same_so : (a b : Span) → same_span a b ≡ true → a ≡ b
+same_so a b h =
+    let s : a.start ≡ b.start = equal_numbers a.start b.start (and_first (nat_eq a.start b.start) (nat_eq a.end b.end) h) in
+    let e : a.end ≡ b.end = equal_numbers a.end b.end (and_second (nat_eq a.start b.start) (nat_eq a.end b.end) h) in
+    λ v. record { start = s v; end = e v }
+
+same_self : (s : Span) → same_span s s ≡ true
+same_self s = grind (arith)
+
+-- what stands at a span has it
+at_span : (z : At) (y : Expr At) → is_at same_here z y ≡ true → same_here z (expr_span y) ≡ true
+at_span z (call _ _ _ _) h = h
+at_span z (ident _ _) h = h
+at_span z (selector _ _ _) h = h
+at_span z (int_lit _ _) h = cc
+at_span z (rune_lit _ _) h = cc
+at_span z (str_lit _ _) h = cc
+at_span z (composite _ _ _) h = cc
+at_span z (index _ _ _) h = cc
+at_span z (slice _ _ _ _) h = cc
+at_span z (func_lit _ _ _ _) h = cc
+at_span z (type_operand _ _) h = cc
+at_span z (unary _ _ _) h = cc
+at_span z (binary _ _ _ _) h = cc
+at_span z (star _ _) h = cc
+
+name_there : {p : Place At} {e : Expr At} → IsName p e → is_at same_here (expr_span e) e ≡ true
+name_there (stands.alone s n h) = same_self s.here
+name_there (stands.behind s z q n) = same_self s.here
+
+module _ (x : Site At) (e : Expr At) (part : x.part ≡ an_expr e) where
+  abbrev hits : Expr At → Bool
+  hits = is_at same_here (part_span x.part)
+
+  at_use : (y : Expr At) → hits y ≡ true → (expr_span e).here ≡ (expr_span y).here
+  at_use y h = (λ v. (part_span (sym part v)).here) ∙ same_so (part_span x.part).here (expr_span y).here (at_span (part_span x.part) y h)
+
+  other_place : (y : Expr At) → ((expr_span e).here ≡ (expr_span y).here → ⊥) → hits y ≡ false
+  other_place y k = by (hits y) refl
+    where
+      by : (b : Bool) → hits y ≡ b → b ≡ false
+      by true h = absurd (k (at_use y h))
+      by false h = refl
+
+  others : (ys : List (Seen At)) → AllOther here_of (expr_span e).here ys → EachSeen (IsElsewhere hits) ys
+  others [] k = tt
+  others (seen p u y ∷ ys) k = (other_place y k.0, others ys k.1)
+  others (seen_type p t ∷ ys) k = (tt, others ys k.1)
+  others (seen_stmt p s ∷ ys) k = (tt, others ys k.1)
+
+  not_there : (z : Span) (ys : List (Seen At)) → Among (seen x.place x.use_ e) ys → AllOther here_of z ys → z ≡ (expr_span e).here → ⊥
+  not_there z _ first k = k.0
+  not_there z _ (later m) k = not_there z _ m k.1
+
+  once : hits e ≡ true → (ys : List (Seen At)) → Among (seen x.place x.use_ e) ys → Apart here_of ys → StandsOnce hits x.place e ys
+  once i _ (first {xs = ys}) a = stands.here x.use_ ys i (others ys a.0)
+  once i (seen p u y ∷ ys) (later m) a = stands.later (seen p u y) ys (other_place y (λ q. not_there (expr_span y).here ys m a.0 (sym q))) (once i ys m a.1)
+  once i (seen_type p t ∷ ys) (later m) a = stands.later (seen_type p t) ys tt (once i ys m a.1)
+  once i (seen_stmt p s ∷ ys) (later m) a = stands.later (seen_stmt p s) ys tt (once i ys m a.1)
+
+-- ---- the declaration of a use
+
+nth_in : (ds : List (Decl At)) (n : ℕ) (d : Decl At) → slice_get ds n ≡ Some d → DeclsIn (decls_with here_of ds) → (lo : ℕ) × (hi : ℕ) × DeclIn lo hi (decl_with here_of d)
+nth_in [] n d h k = cc
+nth_in (c ∷ ds) zero d h k = subst (λ (z : Decl At). (lo : ℕ) × (hi : ℕ) × DeclIn lo hi (decl_with here_of z)) (same_Some c d h) k.0
+nth_in (c ∷ ds) (suc n) d h k = nth_in ds n d h k.1
+
+module _ (marks : List MarkRef) (st : Standing) (l : Logged) (after : Standing) (n : Next marks st l after) (reads : ProgramReads st) where
+  abbrev x : Site At
+  x = n.found.site
+
+  placed : Placed here_of (λ (s : Span). Unit {0}) st.packages marks x
+  placed = found-placed marks st l after n
+
+  made : MakesForm marks st n.found
+  made = step-makes-form marks st l after n
+
+  seated : Seated st.packages marks x
+  seated = sites-seated st.packages marks x made.is_use
+
+  its_file : FileAt st.packages x.at.number x.at.file_number x.at.source
+  its_file = record { of = x.at.of; package_is = placed.package_is; file_is = placed.file_is }
+
+  read : FileReads st.texts x.at.source
+  read = reads x.at.number x.at.file_number x.at.source its_file
+
+  decls : DeclsIn (decls_with here_of x.at.source.tree.decls)
+  decls = front_in read.reads.spells (tokens-rise read.text.text read.text.tokens read.text.comments read.reads.scans)
+
+  pub named_once : (c : NameAt At) (v e : Expr At) → inlinable st.packages x.mark ≡ Some (a_constant c v) → x.part ≡ an_expr e → (d : Decl At) → slice_get x.at.source.tree.decls x.decl ≡ Some d → IsNamedOnce st n.found e d
+  named_once c v e constant part d h =
+      let k = nth_in x.at.source.tree.decls x.decl d h decls in
+      let named = constant_named st.packages marks x.at c v x.place e x.mark constant (seated.is_use e part) in
+      record {
+        is_name = named.0;
+        use_no_import = named.1;
+        once = once x e part ((λ v. is_at same_here (part_span (part v)) e) ∙ name_there named.0) (decl_seen st.packages x.at.number x.at.of x.at.source.tree d) (seated.is_seen e part d h)
+            (decl-apart here_of st.packages k.0 k.1 x.at.number x.at.of x.at.source.tree d k.2);
+      }
+
+pub stand_once : ConstantUsesStandOnce
+stand_once marks st l after n reads c v e constant part d h = named_once marks st l after n reads c v e constant part d h

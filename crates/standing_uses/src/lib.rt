@@ -1,0 +1,6 @@
+//! Uses of constants that steps find stand once in their declarations: definitions and a law alone, without code.
+#![tactic(auto)]
+
+mod laws;
+
+pub use laws::constant_uses_stand_once;

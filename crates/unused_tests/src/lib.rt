@@ -1,0 +1,5 @@
+//! Tests of the imports that steps leave unused.
+#![tactic(auto)]
+
+#[cfg(test)]
+mod left;
