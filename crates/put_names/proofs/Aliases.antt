@@ -5,9 +5,10 @@ use Rattle.std.proofs.lemmas.Option.{same_Some}
 use Rattle.go_tree.specs.Tree.{NameAt, TypeExpr, named, Expr, ident, selector, Exprs, no_exprs, expr_and, const_decl, ValueSpecs, no_specs, spec}
 use Rattle.go_tree.specs.File.{TypeSpec, Decl, values, types, func}
 use Rattle.layout_laws.specs.Formed.{FormedType}
+use Rattle.pkg_graph.specs.Package.{Package}
 use Rattle.go_types.specs.Answers.{given}
 use Rattle.run_rules.specs.FormTrees.{TypeForm, Form, as_expr, type_expr}
-use Rattle.run_rules.specs.Naming.{Names, unnamed, names_by, member_qualifier, qualified, qualified_or}
+use Rattle.run_rules.specs.Naming.{Names, unnamed, member_qualifier, qualified, qualified_or}
 use Rattle.run_rules.specs.Programs.{top_place}
 use Rattle.run_rules.specs.Reduced.{name_obstacle, home_place, alias_form}
 use Rattle.run_rules.specs.Respanned.{type_with, decl_with, type_spec_with}
@@ -16,11 +17,12 @@ use Rattle.run_rules.specs.Sites.{MarkRef, Where, Inlinable, an_alias, aliased, 
 use Rattle.run_rules.specs.Steps.{At, same_here}
 use Rattle.run_rules.specs.Surroundings.{Place, seen_type}
 use Rattle.run_laws.specs.Reading.{FileReads, ProgramReads}
-use Rattle.put_nodes.specs.SpelledNames.{a_name_alone, a_qualified_name, AreNames}
+use Rattle.put_nodes.specs.SpelledNames.{AreNames}
+use Rattle.written_names.specs.NamedPackages.{AreOfPackages}
 use Rattle.put_nodes.specs.Swapped.{FormedTypeSpecs, FormedDecl}
 use Rattle.put_nodes.proofs.ReadFiles.{decl_formed}
 use Rattle.put_names.specs.Uses.{IsUsedByName, BecomesName, UsesAlias}
-use Rattle.put_names.proofs.Forms.{stands, Qualifies, nothing, its_name, member_view, IsFormBy, by_obstacle, reduced_is, with_package}
+use Rattle.put_names.proofs.Forms.{stands, Qualifies, nothing, its_name, member_view, home_of, IsFormBy, by_obstacle, reduced_is, NameBy, is_plain, is_member, is_by_package, becomes_name, of_packages}
 
 -- ---- what an alias is declared as is well formed
 
@@ -86,49 +88,45 @@ module _ (marks : List MarkRef) (st : Standing) (l : Logged) (after : Standing) 
       (name_obstacle same_here (is_commented st) st.packages marks n.found.site home (seen_type (home_place same_here (is_commented st) st.packages marks home) t ∷ []) (text_by home t n.found.site.part unnamed))
       (reduced_is marks st l after n home (an_alias c t) home_is declared)
 
-  module _ (old : Expr At) (part : n.found.site.part ≡ an_expr old) (home : Where At) (are : AreNames n.found.named) where
+  module _ (old : Expr At) (part : n.found.site.part ≡ an_expr old) (home : Where At) (there : slice_get st.packages home.number ≡ Some home.of) where
     as_told : (t : TypeExpr At) (f : Names → Form At) → ((names : Names) → text_by home t (an_expr old) names ≡ f names) → (names : Names) → text_by home t n.found.site.part names ≡ f names
     as_told t f h names = ap (λ (y : Part At). text_by home t y names) part ∙ h names
 
-    by_type : (s : At) (before : Option (NameAt At)) (m : NameAt At) → IsFormBy marks st l after n (text_by home (named s before m) n.found.site.part) → FormedType (type_with here_of (named s before m)) → BecomesName n
-    by_type s None m made formed = by_view (member_view home.number (nat_eq home.number n.found.site.at.number) (outer_meaning st.packages home (top_of home) m.name))
+    by_type : (s : At) (before : Option (NameAt At)) (m : NameAt At)
+        → ((q : NameAt At) (k : ℕ) → before ≡ Some q → qualifier st.packages home (top_of home) q.name ≡ Some k → (p : Package At) × (slice_get st.packages k ≡ Some p))
+        → FormedType (type_with here_of (named s before m)) → NameBy marks st l after n (text_by home (named s before m) n.found.site.part)
+    by_type s None m leads formed = by_view (member_view home.number (nat_eq home.number n.found.site.at.number) (outer_meaning st.packages home (top_of home) m.name))
       where
-        by_view : Qualifies home.number (λ names. member_qualifier st.packages home n.found.site.at.number names (top_of home) m.name) → BecomesName n
+        by_view : Qualifies home.number (λ names. member_qualifier st.packages home n.found.site.at.number names (top_of home) m.name) → NameBy marks st l after n (text_by home (named s None m) n.found.site.part)
         by_view (nothing g) =
-            record {
-              new = ident z m.name;
-              form_is =
-                  made.form_is
-                  ∙ as_told (named s None m) (λ names. as_expr (ident z m.name))
-                  (λ names. ap (λ (o : Option (List ℕ)). as_expr (type_expr z (named z (qualified st.packages home n.found.site.at.number names z o) (record { span = z; name = m.name })))) (g names)) (names_by n.found.named);
-              range_is = made.range_is;
-              is_name = a_name_alone formed.1;
-            }
+            is_plain m.name formed.1
+            (as_told (named s None m) (λ names. as_expr (ident z m.name))
+            (λ names. ap (λ (o : Option (List ℕ)). as_expr (type_expr z (named z (qualified st.packages home n.found.site.at.number names z o) (record { span = z; name = m.name })))) (g names)))
         by_view (its_name g) =
-            with_package marks st l after n (text_by home (named s None m) n.found.site.part) home.number m.name made are formed.1
+            is_by_package home.number home.of m.name there formed.1
             (as_told (named s None m) (λ names. as_expr (selector z (ident z (names home.number)) (record { span = z; name = m.name })))
             (λ names. ap (λ (o : Option (List ℕ)). as_expr (type_expr z (named z (qualified st.packages home n.found.site.at.number names z o) (record { span = z; name = m.name })))) (g names)))
-    by_type s (Some q) m made formed = by_package (qualifier st.packages home (top_of home) q.name) refl
+    by_type s (Some q) m leads formed = by_package (qualifier st.packages home (top_of home) q.name) refl
       where
-        abbrev_of : Names → Option ℕ → Form At
-        abbrev_of names o = as_expr (type_expr z (named z (qualified_or st.packages home n.found.site.at.number names z q (given o (λ k. Some (names k)))) (record { span = z; name = m.name })))
+        form_of : Names → Option ℕ → Form At
+        form_of names o = as_expr (type_expr z (named z (qualified_or st.packages home n.found.site.at.number names z q (given o (λ k. Some (names k)))) (record { span = z; name = m.name })))
 
-        by_package : (o : Option ℕ) → qualifier st.packages home (top_of home) q.name ≡ o → BecomesName n
+        by_package : (o : Option ℕ) → qualifier st.packages home (top_of home) q.name ≡ o → NameBy marks st l after n (text_by home (named s (Some q) m) n.found.site.part)
         by_package None e =
-            record {
-              new = selector z (ident z q.name) (record { span = z; name = m.name });
-              form_is =
-                  made.form_is
-                  ∙ as_told (named s (Some q) m) (λ names. as_expr (selector z (ident z q.name) (record { span = z; name = m.name }))) (λ names. ap (λ (o : Option ℕ). abbrev_of names o) e) (names_by n.found.named);
-              range_is = made.range_is;
-              is_name = a_qualified_name formed.0 formed.1;
-            }
+            is_member q.name m.name formed.0 formed.1
+            (as_told (named s (Some q) m) (λ names. as_expr (selector z (ident z q.name) (record { span = z; name = m.name }))) (λ names. ap (λ (o : Option ℕ). form_of names o) e))
         by_package (Some k) e =
-            with_package marks st l after n (text_by home (named s (Some q) m) n.found.site.part) k m.name made are formed.1
-            (as_told (named s (Some q) m) (λ names. as_expr (selector z (ident z (names k)) (record { span = z; name = m.name }))) (λ names. ap (λ (o : Option ℕ). abbrev_of names o) e))
+            let p = leads q k refl e in
+            is_by_package k p.0 m.name p.1 formed.1
+            (as_told (named s (Some q) m) (λ names. as_expr (selector z (ident z (names k)) (record { span = z; name = m.name }))) (λ names. ap (λ (o : Option ℕ). form_of names o) e))
 
-  module _ (reads : ProgramReads st) (used : IsUsedByName n) (uses : UsesAlias n) (are : AreNames n.found.named) where
-    pub alias_becomes : BecomesName n
-    alias_becomes =
-        by_type used.old used.part uses.home are uses.span uses.before uses.type (made_so uses.home uses.name (named uses.span uses.before uses.type) uses.home_is uses.declared)
+  module _ (reads : ProgramReads st) (used : IsUsedByName n) (uses : UsesAlias n) where
+    its_name_by : NameBy marks st l after n (text_by uses.home (named uses.span uses.before uses.type) n.found.site.part)
+    its_name_by =
+        by_type used.old used.part uses.home (home_of st n.found.site.mark uses.home uses.home_is) uses.span uses.before uses.type uses.leads
         (type_formed st n.found.site.mark uses.home reads uses.home_is uses.name (named uses.span uses.before uses.type) uses.declared)
+
+    pub alias_becomes : AreOfPackages st.packages n.found.named × (AreNames n.found.named → BecomesName n)
+    alias_becomes =
+        let made = made_so uses.home uses.name (named uses.span uses.before uses.type) uses.home_is uses.declared in
+        (of_packages marks st l after n (text_by uses.home (named uses.span uses.before uses.type) n.found.site.part) its_name_by made, λ are. becomes_name marks st l after n (text_by uses.home (named uses.span uses.before uses.type) n.found.site.part) its_name_by made are)

@@ -7,7 +7,7 @@ use Rattle.go_tree.specs.File.{TypeSpec, Decl, values, types, func}
 use Rattle.layout_laws.specs.Formed.{FormedExpr, FormedExprs, FormedSpecs}
 use Rattle.go_types.specs.Answers.{given, otherwise}
 use Rattle.run_rules.specs.FormTrees.{ConstForm, Form, as_expr, outside_changes}
-use Rattle.run_rules.specs.Naming.{Names, unnamed, names_by, member_qualifier}
+use Rattle.run_rules.specs.Naming.{Names, unnamed, member_qualifier}
 use Rattle.run_rules.specs.Places.{expr_seen}
 use Rattle.run_rules.specs.Programs.{top_place}
 use Rattle.run_rules.specs.Reduced.{name_obstacle, home_place, constant_form}
@@ -18,11 +18,12 @@ use Rattle.run_rules.specs.Sites.{MarkRef, Where, Inlinable, a_constant, an_alia
 use Rattle.run_rules.specs.Steps.{At, same_here}
 use Rattle.run_rules.specs.Surroundings.{other, Place, inner_slot, in_slot}
 use Rattle.run_laws.specs.Reading.{FileReads, ProgramReads}
-use Rattle.put_nodes.specs.SpelledNames.{a_name_alone, AreNames}
+use Rattle.put_nodes.specs.SpelledNames.{AreNames}
+use Rattle.written_names.specs.NamedPackages.{AreOfPackages}
 use Rattle.put_nodes.specs.Swapped.{FormedDecl}
 use Rattle.put_nodes.proofs.ReadFiles.{decl_formed}
 use Rattle.put_names.specs.Uses.{IsDeclaredAsName, as_name, as_member, BecomesName, UsesConstant}
-use Rattle.put_names.proofs.Forms.{stands, Qualifies, nothing, its_name, member_view, IsFormBy, by_obstacle, reduced_is, with_package}
+use Rattle.put_names.proofs.Forms.{stands, Qualifies, nothing, its_name, member_view, home_of, IsFormBy, by_obstacle, reduced_is, NameBy, is_plain, is_by_package, becomes_name, of_packages}
 
 -- ---- what a constant is declared as is well formed
 
@@ -78,28 +79,20 @@ module _ (marks : List MarkRef) (st : Standing) (l : Logged) (after : Standing) 
   abbrev top_of : Where At → Place At
   top_of home = top_place st.packages home.number home.of home.source.tree
 
-  by_value : (home : Where At) {e : Expr At} → IsDeclaredAsName st.packages home e → IsFormBy marks st l after n (text_by home e) → AreNames n.found.named → FormedExpr (expr_with here_of e) → BecomesName n
-  by_value home (as_name {s = s} {n = m}) made are formed =
+  -- the declaration's own text at the use is a name
+  by_value : (home : Where At) {e : Expr At} → slice_get st.packages home.number ≡ Some home.of → IsDeclaredAsName st.packages home e → FormedExpr (expr_with here_of e) → NameBy marks st l after n (text_by home e)
+  by_value home there (as_name {s = s} {n = m}) formed =
       by_view (member_view home.number (nat_eq home.number n.found.site.at.number) (outer_meaning st.packages home (top_of home) m))
     where
       z : At
       z = part_span n.found.site.part
 
-      by_view : Qualifies home.number (λ names. member_qualifier st.packages home n.found.site.at.number names (top_of home) m) → BecomesName n
-      by_view (nothing g) =
-          record {
-            new = ident z m;
-            form_is =
-                made.form_is
-                ∙ ap (λ (o : Option (List ℕ)). as_expr (otherwise (given o (λ q. Some (selector z (ident z q) (record { span = z; name = m })))) (ident z m))) (g (names_by n.found.named));
-            range_is = made.range_is;
-            is_name = a_name_alone formed;
-          }
+      by_view : Qualifies home.number (λ names. member_qualifier st.packages home n.found.site.at.number names (top_of home) m) → NameBy marks st l after n (text_by home (ident s m))
+      by_view (nothing g) = is_plain m formed (λ names. ap (λ (o : Option (List ℕ)). as_expr (otherwise (given o (λ q. Some (selector z (ident z q) (record { span = z; name = m })))) (ident z m))) (g names))
       by_view (its_name g) =
-          with_package marks st l after n (text_by home (ident s m)) home.number m made are formed
-          (λ names. ap (λ (o : Option (List ℕ)). as_expr (otherwise (given o (λ q. Some (selector z (ident z q) (record { span = z; name = m })))) (ident z m))) (g names))
-  by_value home (as_member {s = s} {z = y} {q = q} {n = m} k h) made are formed =
-      with_package marks st l after n (text_by home (selector s (ident y q) m)) k m.name made are formed.2
+          is_by_package home.number home.of m there formed (λ names. ap (λ (o : Option (List ℕ)). as_expr (otherwise (given o (λ q. Some (selector z (ident z q) (record { span = z; name = m })))) (ident z m))) (g names))
+  by_value home there (as_member {s = s} {z = y} {q = q} {n = m} k p h stands_there) formed =
+      is_by_package k p m.name stands_there formed.2
       (λ names. ap (λ (o : Option ℕ). as_expr (otherwise (given (given o (λ j. Some (names j))) (λ v. Some (selector (part_span n.found.site.part) (ident (part_span n.found.site.part) v) (record { span = part_span n.found.site.part; name = m.name }))))
       (selector (part_span n.found.site.part) (new_expr (outside_changes st.packages home n.found.site.at.number names (part_span n.found.site.part)) (in_slot (inner_slot (top_of home).slot (selector s (ident y q) m) 7 false true) (top_of home)) other (ident y q))
       (record { span = part_span n.found.site.part; name = m.name })))) h)
@@ -110,8 +103,12 @@ module _ (marks : List MarkRef) (st : Standing) (l : Logged) (after : Standing) 
       (name_obstacle same_here (is_commented st) st.packages marks n.found.site home (expr_seen (home_place same_here (is_commented st) st.packages marks home) other e) (text_by home e unnamed))
       (reduced_is marks st l after n home (a_constant c e) home_is declared)
 
-  module _ (reads : ProgramReads st) (uses : UsesConstant n) (are : AreNames n.found.named) where
-    pub constant_becomes : BecomesName n
+  module _ (reads : ProgramReads st) (uses : UsesConstant n) where
+    its_name_by : NameBy marks st l after n (text_by uses.home uses.value)
+    its_name_by =
+        by_value uses.home (home_of st n.found.site.mark uses.home uses.home_is) uses.as_name (value_formed st n.found.site.mark uses.home reads uses.home_is uses.name uses.value uses.declared)
+
+    pub constant_becomes : AreOfPackages st.packages n.found.named × (AreNames n.found.named → BecomesName n)
     constant_becomes =
-        by_value uses.home uses.as_name (made_so uses.home uses.name uses.value uses.home_is uses.declared) are
-        (value_formed st n.found.site.mark uses.home reads uses.home_is uses.name uses.value uses.declared)
+        let made = made_so uses.home uses.name uses.value uses.home_is uses.declared in
+        (of_packages marks st l after n (text_by uses.home uses.value) its_name_by made, λ are. becomes_name marks st l after n (text_by uses.home uses.value) its_name_by made are)

@@ -20,7 +20,9 @@ use Rattle.run_rules.specs.Surroundings.{Place}
 use Rattle.run_laws.specs.Reading.{FileAt}
 use Rattle.form_splices.specs.Laws.{MakesForm}
 use Rattle.form_splices.proofs.FormsFound.{step-makes-form}
-use Rattle.put_nodes.specs.SpelledNames.{a_qualified_name, AreNames}
+use Rattle.written_names.specs.NamedPackages.{AreOfPackages}
+use Rattle.put_names.proofs.Unnamed.{none_unnamed, none_unnamed_two}
+use Rattle.put_nodes.specs.SpelledNames.{a_name_alone, a_qualified_name, AreNames}
 use Rattle.put_names.specs.Uses.{BecomesName}
 
 -- ---- where a mark's declaration stands
@@ -41,6 +43,20 @@ module _ (st : Standing) (m : MarkRef) (home : Where At) where
 
   pub stands : where_is st.packages m ≡ Some home → StandsAt home
   stands h = by_package (slice_get st.packages m.«package») refl h
+
+  -- its package
+  pub home_of : where_is st.packages m ≡ Some home → slice_get st.packages home.number ≡ Some home.of
+  home_of h = of_package (slice_get st.packages m.«package») refl h
+    where
+      of_file : (p : Package At) → slice_get st.packages m.«package» ≡ Some p → (o : Option (SourceTree At)) → given o (λ f. Some (record { number = m.«package»; of = p; file_number = m.file; source = f })) ≡ Some home → slice_get st.packages home.number ≡ Some home.of
+      of_file p e None h = absurd cc
+      of_file p e (Some f) h =
+          subst (λ (w : Where At). slice_get st.packages w.number ≡ Some w.of) (same_Some (record { number = m.«package»; of = p; file_number = m.file; source = f }) home h) e
+
+      of_package : (o : Option (Package At)) → slice_get st.packages m.«package» ≡ o
+          → given o (λ p. given (slice_get p.files m.file) (λ f. Some (record { number = m.«package»; of = p; file_number = m.file; source = f }))) ≡ Some home → slice_get st.packages home.number ≡ Some home.of
+      of_package None e h = absurd cc
+      of_package (Some p) e h = of_file p e (slice_get p.files m.file) h
 
 -- ---- names of packages
 
@@ -134,10 +150,20 @@ module _ (marks : List MarkRef) (st : Standing) (l : Logged) (after : Standing) 
       sym (ap (λ (o : Option (Where At)). given o (λ w. given (inlinable st.packages x.mark) (reduced_in same_here (is_commented st) st.packages marks x w))) home_is
       ∙ ap (λ (o : Option (Inlinable At)). given o (reduced_in same_here (is_commented st) st.packages marks x home)) declared) ∙ m.form_is
 
-  -- a name with a package before it
-  pub with_package : (form : Names → Form At) (k : ℕ) (m : List ℕ) → IsFormBy form → AreNames n.found.named → IsName m
-      → ((names : Names) → form names ≡ as_expr (selector z (ident z (names k)) (record { span = z; name = m }))) → BecomesName n
-  with_package form k m made are name is =
+  abbrev pub a_member : List ℕ → List ℕ → Form At
+  a_member q m = as_expr (selector z (ident z q) (record { span = z; name = m }))
+
+  -- the form is a name, with the name of a package before it or without
+  pub data NameBy (form : Names → Form At) : Type 0 where
+    is_plain : (m : List ℕ) → IsName m → ((names : Names) → form names ≡ as_expr (ident z m)) → NameBy form
+    is_member : (q m : List ℕ) → IsName q → IsName m → ((names : Names) → form names ≡ a_member q m) → NameBy form
+    is_by_package : (k : ℕ) (p : Package At) (m : List ℕ) → slice_get st.packages k ≡ Some p → IsName m → ((names : Names) → form names ≡ a_member (names k) m) → NameBy form
+
+  pub becomes_name : (form : Names → Form At) → NameBy form → IsFormBy form → AreNames n.found.named → BecomesName n
+  becomes_name form (is_plain m name is) made are = record { new = ident z m; form_is = made.form_is ∙ is (names_by n.found.named); range_is = made.range_is; is_name = a_name_alone name }
+  becomes_name form (is_member q m first name is) made are =
+      record { new = selector z (ident z q) (record { span = z; name = m }); form_is = made.form_is ∙ is (names_by n.found.named); range_is = made.range_is; is_name = a_qualified_name first name }
+  becomes_name form (is_by_package k p m there name is) made are =
       record {
         new = selector z (ident z (names_by n.found.named k)) (record { span = z; name = m });
         form_is = made.form_is ∙ is (names_by n.found.named);
@@ -148,3 +174,19 @@ module _ (marks : List MarkRef) (st : Standing) (l : Logged) (after : Standing) 
             (made.named_is ∙ ap (λ (f : Form At). named_packages st.packages x.at x.place [] (unnamed_in (form_identifiers f))) (is unnamed)) are)
             name;
       }
+
+  abbrev told : Form At → List Named
+  told f = named_packages st.packages x.at x.place [] (unnamed_in (form_identifiers f))
+
+  -- the packages that it names are packages of the program
+  pub of_packages : (form : Names → Form At) → NameBy form → IsFormBy form → AreOfPackages st.packages n.found.named
+  of_packages form (is_plain m name is) made =
+      subst (λ (ns : List Named). AreOfPackages st.packages ns)
+      (sym (made.named_is ∙ ap told (is unnamed) ∙ ap (λ (qs : List ℕ). named_packages st.packages x.at x.place [] qs) (none_unnamed m name))) tt
+  of_packages form (is_member q m first name is) made =
+      subst (λ (ns : List Named). AreOfPackages st.packages ns)
+      (sym (made.named_is ∙ ap told (is unnamed) ∙ ap (λ (qs : List ℕ). named_packages st.packages x.at x.place [] qs) (none_unnamed_two q m first name))) tt
+  of_packages form (is_by_package k p m there name is) made =
+      subst (λ (ns : List Named). AreOfPackages st.packages ns)
+      (sym (made.named_is ∙ ap told (is unnamed) ∙ ap (λ (qs : List ℕ). named_packages st.packages x.at x.place [] (k ∷ new_first k qs)) (none_unnamed m name)))
+      ((p, subst (λ (i : ℕ). slice_get st.packages i ≡ Some p) (sym (of_is st.packages x.at x.place [] k)) there), tt)

@@ -10,11 +10,14 @@ use Rattle.splice_laws.specs.Dots.{UndottedFile}
 use Rattle.cycle_runs.specs.Linked.{SettlesFile}
 use Rattle.import_splices.specs.AddedFile.{AreWritable}
 use Rattle.kept_imports.specs.Files.{PutsNode, RemovesNoNames}
-use Rattle.order_cycles.specs.NewNames.{FewNames}
+use Rattle.order_cycles.specs.NewNames.{NamesByPath, FewNames}
 use Rattle.ordered_steps.specs.Ranks.{AddsLedTo}
 use Rattle.run_rules.specs.Naming.{imports_added}
 use Rattle.read_imports.specs.PutInText.{PutInText}
 use Rattle.put_nodes.specs.SpelledNames.{AreNames}
+use Rattle.written_names.specs.NamedPackages.{PackagesAreNamed, PathsAreOctets, AreOfPackages}
+use Rattle.pkg_graph.specs.Package.{Package}
+use Rattle.run_rules.specs.Steps.{At}
 use Rattle.put_names.specs.Uses.{IsScopedAround, IsUsedByName, BecomesName, UsesConstant, UsesAlias}
 
 -- Where the files of a program read from their texts, a step over a name that becomes a name lays it out in the place
@@ -35,14 +38,41 @@ NamesSettleFiles =
     → AreWritable (imports_added n.found.named) → AddsLedTo st.packages n.found → FewNames st.packages n.found
     → RemovesNoNames n → SettlesFile n
 
--- A constant that is declared as a name becomes a name, if the names that the form has for packages are identifiers.
+-- A constant that is declared as a name becomes a name, if the names that the form has for packages are identifiers; and
+-- these are names of packages of the program.
 abbrev pub ConstantsBecomeNames : Type 0
 ConstantsBecomeNames =
     (marks : List MarkRef) (st : Standing) (l : Logged) (after : Standing) (n : Next marks st l after) → ProgramReads st
-    → UsesConstant n → AreNames n.found.named → BecomesName n
+    → UsesConstant n → AreOfPackages st.packages n.found.named × (AreNames n.found.named → BecomesName n)
 
 -- So does an alias of a type's name where the use is an expression, as in a conversion.
 abbrev pub AliasesBecomeNames : Type 0
 AliasesBecomeNames =
     (marks : List MarkRef) (st : Standing) (l : Logged) (after : Standing) (n : Next marks st l after) → ProgramReads st
-    → IsUsedByName n → UsesAlias n → AreNames n.found.named → BecomesName n
+    → IsUsedByName n → UsesAlias n
+    → AreOfPackages st.packages n.found.named × (AreNames n.found.named → BecomesName n)
+
+-- What is asked of a program besides: each package has an identifier for its name, the one that its path has, and octets
+-- for its path.
+pub record PackagesAreWritable (ps : List (Package At)) : Type 0 where
+  pub named : PackagesAreNamed ps
+  pub octets : PathsAreOctets ps
+  pub by_path : NamesByPath ps
+
+-- So in such a program a step over a constant that is declared as a name settles its file, where its added imports are
+-- of packages that are led to, the names to avoid are fewer than 2^64, and no import that goes has the name of an
+-- identifier.
+abbrev pub ConstantsSettleFiles : Type 0
+ConstantsSettleFiles =
+    (marks : List MarkRef) (st : Standing) (l : Logged) (after : Standing) (n : Next marks st l after) → ProgramReads st
+    → PackagesAreWritable st.packages → UndottedFile (bare_file (file_found n.found)) → IsScopedAround n
+    → IsUsedByName n → UsesConstant n → AddsLedTo st.packages n.found → FewNames st.packages n.found
+    → RemovesNoNames n → SettlesFile n
+
+-- The same of an alias of a type's name, used as an expression.
+abbrev pub AliasesSettleFiles : Type 0
+AliasesSettleFiles =
+    (marks : List MarkRef) (st : Standing) (l : Logged) (after : Standing) (n : Next marks st l after) → ProgramReads st
+    → PackagesAreWritable st.packages → UndottedFile (bare_file (file_found n.found)) → IsScopedAround n
+    → IsUsedByName n → UsesAlias n → AddsLedTo st.packages n.found → FewNames st.packages n.found
+    → RemovesNoNames n → SettlesFile n

@@ -13,11 +13,11 @@ use Rattle.place_meanings.specs.Parts.{AllScoped}
 use Rattle.put_nodes.specs.SpelledNames.{IsNameExpr}
 use Rattle.put_nodes.specs.Put.{BeginsWithName}
 
--- the constant is declared as a name, or as one with the name of an imported package before it
+-- the constant is declared as a name, or as one with the name of a package before it that the file imports
 pub data IsDeclaredAsName (ps : List (Package At)) (home : Where At) : Expr At → Type 0 where
   as_name : {s : At} {n : List ℕ} → IsDeclaredAsName ps home (ident s n)
-  as_member : {s z : At} {q : List ℕ} {n : NameAt At} (k : ℕ)
-      → qualifier ps home (top_place ps home.number home.of home.source.tree) q ≡ Some k
+  as_member : {s z : At} {q : List ℕ} {n : NameAt At} (k : ℕ) (p : Package At)
+      → qualifier ps home (top_place ps home.number home.of home.source.tree) q ≡ Some k → slice_get ps k ≡ Some p
       → IsDeclaredAsName ps home (selector s (ident z q) n)
 
 module _ {marks : List MarkRef} {st : Standing} {l : Logged} {after : Standing} (n : Next marks st l after) where
@@ -49,7 +49,7 @@ module _ {marks : List MarkRef} {st : Standing} {l : Logged} {after : Standing} 
     pub declared : inlinable st.packages n.found.site.mark ≡ Some (a_constant name value)
     pub as_name : IsDeclaredAsName st.packages home value
 
-  -- What is used is an alias of a type's name, with the name of a package before it or without.
+  -- What is used is an alias of a type's name. Where the name of an import stands before it, that leads to a package.
   pub record UsesAlias : Type 0 where
     pub home : Where At
     pub home_is : where_is st.packages n.found.site.mark ≡ Some home
@@ -58,3 +58,7 @@ module _ {marks : List MarkRef} {st : Standing} {l : Logged} {after : Standing} 
     pub before : Option (NameAt At)
     pub type : NameAt At
     pub declared : inlinable st.packages n.found.site.mark ≡ Some (an_alias name (named span before type))
+    pub leads :
+        (q : NameAt At) (k : ℕ) → before ≡ Some q
+        → qualifier st.packages home (top_place st.packages home.number home.of home.source.tree) q.name ≡ Some k
+        → (p : Package At) × (slice_get st.packages k ≡ Some p)

@@ -30,11 +30,12 @@ use Rattle.splice_laws.specs.Splice.{are_apart, first_word, splice}
 use Rattle.splice_laws.specs.Swaps.{Swap, an_operand, a_callee, FileIn}
 use Rattle.splice_laws.proofs.Files.{replaced}
 use Rattle.splice_laws.proofs.Rises.{tokens_rise}
-use Rattle.put_nodes.specs.SpelledNames.{StartsName, IsNameExpr, a_name_alone, a_qualified_name}
+use Rattle.names_apart.specs.Starts.{StartsName}
+use Rattle.put_nodes.specs.SpelledNames.{IsNameExpr, a_name_alone, a_qualified_name}
 use Rattle.put_nodes.specs.Put.{FormIsPut, BeginsWithName, alone, qualified}
 use Rattle.put_nodes.specs.Swapped.{StandsAs, as_operand, as_callee, as_deferred, IsOldName, MayBeSwapped, is_old, is_node}
-use Rattle.put_nodes.proofs.NamesApart.{names_apart, starts_name}
-use Rattle.put_nodes.proofs.NoDots.{callee_undotted}
+use Rattle.names_apart.proofs.NamesApart.{names_apart, starts_name}
+use Rattle.names_apart.proofs.NoDots.{callee_undotted}
 use Rattle.put_nodes.proofs.NamesLaid.{layout_of, first_name, first_is_name, first_laid, form_is, formed_name, new_is, callee_is, parted, edit_of, indent_spaces}
 
 -- the token of a name
@@ -134,7 +135,7 @@ module _ {A : Type 0} (to : A → Span) (t : FileText) (file : File Span) (reads
           (operand_starts l h (expr_with to new) v.0 begins v.1)
       by (as_callee {h = h} e slot header) v =
           placed_put z p.slot old new is (a_callee h (expr_with to old) (expr_with to new)) v.0 false (subst (λ (n : ℕ). n ≤ 7) (sym (ap (λ (y : Slot). y.level) slot)) seven) (span_with to old)
-          (callee_is to is (expr_with to old) (indent_at t.text (to (expr_span old)).start) h false) v.1 tt ((formed_name to is).1, refl) (λ e. callee_undotted t file v.0 h (expr_with to old) (expr_with to new) reads undotted v.1)
+          (callee_is to is (expr_with to old) (indent_at t.text (to (expr_span old)).start) h false) v.1 tt ((formed_name to is).1, refl) (λ e. callee_undotted t.text t.tokens t.comments file v.0 h (expr_with to old) (expr_with to new) reads.scans reads.spells undotted v.1)
           (callee_starts h (expr_with to new) v.0 begins v.1)
         where
           seven : 7 ≤ 7

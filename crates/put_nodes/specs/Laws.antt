@@ -1,15 +1,10 @@
 -- The laws of the nodes of files. Each is the contract of a function of this crate (Go specification, Source file
--- organization; Tokens).
-use Rattle.std.specs.Prelude.{◌≡◌, ℕ, true, List, Some, slice_get}
-use Rattle.std.specs.Str.{chars}
+-- organization).
+use Rattle.std.specs.Prelude.{◌≡◌, ℕ, List, Some, slice_get}
 use Rattle.go_tree.specs.declared.spans.Span.{Span}
-use Rattle.go_tree.specs.declared.tokens.Token.{Token}
-use Rattle.go_tree.specs.declared.tokens.Comment.{Comment}
 use Rattle.go_tree.specs.Tree.{Expr}
 use Rattle.go_tree.specs.File.{Decl, File}
 use Rattle.go_tree.specs.FileBare.{bare_file}
-use Rattle.go_words.specs.Tokens.{TokensOf}
-use Rattle.layout_laws.specs.Formed.{IsName}
 use Rattle.pkg_graph.specs.Package.{Package}
 use Rattle.scope_names.specs.Scopes.{expr_span}
 use Rattle.run_rules.specs.FormTrees.{as_expr}
@@ -19,9 +14,8 @@ use Rattle.run_rules.specs.Respanned.{file_with}
 use Rattle.run_rules.specs.Surroundings.{Use, Place}
 use Rattle.run_rules.specs.Texts.{FileText}
 use Rattle.splice_laws.specs.Dots.{UndottedFile}
-use Rattle.splice_laws.specs.Splice.{are_apart}
 use Rattle.splice_laws.specs.Swaps.{FileIn}
-use Rattle.put_nodes.specs.SpelledNames.{StartsName, IsNameExpr}
+use Rattle.put_nodes.specs.SpelledNames.{IsNameExpr}
 use Rattle.put_nodes.specs.Put.{FormIsPut, BeginsWithName}
 use Rattle.put_nodes.specs.Swapped.{IsOldName, MayBeSwapped, AllSwapped}
 
@@ -33,12 +27,6 @@ PartsAreNodes S to =
     → (ps : List (Package S)) (k : ℕ) (p : Package S) (file : File S) (i : ℕ) (d : Decl S)
     → slice_get tree.decls i ≡ Some d
     → AllSwapped to (λ w. (g : File Span) × FileIn w (file_with to tree) g) (decl_seen ps k p file d)
-
--- Where an identifier of a text starts, another one may start: no token that ends there is read on into it.
-abbrev pub NamesStandApart : Type 0
-NamesStandApart =
-    (text : List ℕ) (tokens : List Token) (comments : List Comment) → TokensOf text tokens comments
-    → (at : ℕ) → StartsName at tokens → (name : List ℕ) → IsName name → are_apart tokens at (chars name) ≡ true
 
 -- A name is put in the place of a name that is a node of such a file: the edit that writes it there lays it out in
 -- the place of the old name's node. Asked of the file: that no selector stands on an integer literal.

@@ -11,7 +11,7 @@ use Rattle.splice_laws.specs.Swaps.{Swap}
 use Rattle.splice_laws.specs.Fits.{swap_mark}
 use Rattle.splice_laws.specs.Forms.{new_layout}
 use Rattle.splice_laws.specs.Splice.{splice, IsPut}
-use Rattle.put_nodes.specs.SpelledNames.{StartsName}
+use Rattle.names_apart.specs.Starts.{StartsName}
 
 -- The form's edit lays out another node in the place of a node of the file.
 pub record FormIsPut {S : Type 0} (t : FileText) (file : File Span) (z : S) (range : Span) (s : Slot) (form : Form S)

@@ -1,16 +1,8 @@
--- Names among the tokens of a text, and expressions that are names (Go specification, Identifiers; Qualified
--- identifiers).
-use Rattle.std.specs.Prelude.{◌≡◌, ℕ, List, [], ◌∷◌}
-use Rattle.go_tree.specs.declared.tokens.Token.{Token}
-use Rattle.go_tree.specs.declared.tokens.TokenKind.TheVariants.{Ident}
+-- Expressions that are names (Go specification, Identifiers; Qualified identifiers).
+use Rattle.std.specs.Prelude.{ℕ, List, [], ◌∷◌}
 use Rattle.go_tree.specs.Tree.{NameAt, Expr, ident, selector}
 use Rattle.layout_laws.specs.Formed.{IsName}
 use Rattle.run_rules.specs.Naming.{Named}
-
--- an identifier among the tokens starts at this byte
-pub data StartsName (at : ℕ) : List Token → Type 0 where
-  this_token : {t : Token} {ts : List Token} → t.kind ≡ Ident → t.span.start ≡ at → StartsName at (t ∷ ts)
-  later_token : {t : Token} {ts : List Token} → StartsName at ts → StartsName at (t ∷ ts)
 
 -- a name, with the name of a package before it or without
 pub data IsNameExpr {S : Type 0} : Expr S → Type 0 where

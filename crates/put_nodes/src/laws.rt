@@ -1,6 +1,6 @@
 //! Laws of the nodes of files.
 
-ghost use Rattle.put_nodes.specs.Laws.{NamesArePut, NamesStandApart, PartsAreNodes};
+ghost use Rattle.put_nodes.specs.Laws.{NamesArePut, PartsAreNodes};
 ghost use Rattle.run_rules.specs.Run.{here_of};
 ghost use Rattle.run_rules.specs.Steps.{At};
 
@@ -9,12 +9,6 @@ ghost use Rattle.run_rules.specs.Steps.{At};
 /// of `:=` that its block has declared already is none.
 pub fn parts_are_nodes()
     ensures { PartsAreNodes At here_of }
-{}
-
-/// Where an identifier of a text starts, another one may start without a blank: no token that ends there is read on
-/// into it.
-pub fn names_stand_apart()
-    ensures { NamesStandApart }
 {}
 
 /// A name is put in the place of a name by the edit that writes it there, as splice_laws asks. Where the old name has

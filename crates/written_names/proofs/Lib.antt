@@ -2,3 +2,4 @@ pub mod Candidates
 pub mod ImportNames
 pub mod StepNames
 pub mod Kept
+pub mod ReadNames

@@ -1,6 +1,11 @@
 -- The laws of the names that a step writes for packages. Each is the contract of a function of this crate (Go
 -- specification, Import declarations; Identifiers).
-use Rattle.std.specs.Prelude.{List}
+use Rattle.std.specs.Prelude.{ℕ, List}
+use Rattle.go_tree.specs.declared.spans.Span.{Span}
+use Rattle.pkg_graph.specs.Package.{Package}
+use Rattle.pkg_graph.specs.Reads.{Source}
+use Rattle.run_rules.specs.Inlining.{ModuleReads, standing_as_read}
+use Rattle.run_rules.specs.Texts.{FileText}
 use Rattle.import_splices.specs.AddedFile.{AreWritable}
 use Rattle.order_cycles.specs.NewNames.{NamesByPath, FewNames}
 use Rattle.run_laws.specs.Reading.{ProgramReads}
@@ -32,3 +37,9 @@ StepsKeepNames =
     (marks : List MarkRef) (st : Standing) (l : Logged) (after : Standing) → Next marks st l after
     → PackagesAreNamed st.packages → PathsAreOctets st.packages
     → PackagesAreNamed after.packages × PathsAreOctets after.packages
+
+-- The packages of a module that reads have identifiers for their names.
+abbrev pub ReadModulesAreNamed : Type 0
+ReadModulesAreNamed =
+    (files : List Source) (ps : List (Package Span)) (texts : List (List ℕ × FileText)) → ModuleReads files ps texts
+    → PackagesAreNamed (standing_as_read ps texts).packages

@@ -1,6 +1,6 @@
 //! Laws of the names of packages.
 
-ghost use Rattle.written_names.specs.Laws.{AddedImportsAreWritable, NamesAreIdentifiers, StepsKeepNames};
+ghost use Rattle.written_names.specs.Laws.{AddedImportsAreWritable, NamesAreIdentifiers, ReadModulesAreNamed, StepsKeepNames};
 
 /// Where the packages of a program have identifiers for their names, so have all that a step's form names; and the
 /// imports that it adds can be written.
@@ -9,7 +9,9 @@ pub fn names_are_identifiers()
     ensures imports { AddedImportsAreWritable }
 {}
 
-/// A step keeps the names and the paths of packages.
+/// The packages of a module that reads have identifiers for their names, and a step keeps the names and the paths of
+/// packages.
 pub fn packages_stay_named()
-    ensures { StepsKeepNames }
+    ensures read { ReadModulesAreNamed }
+    ensures stay { StepsKeepNames }
 {}

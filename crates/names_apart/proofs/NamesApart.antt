@@ -34,7 +34,7 @@ use Rattle.splice_laws.specs.Joints.{begins_with_dot, is_open}
 use Rattle.splice_laws.specs.Splice.{has_length, are_two, is_inserted, stays_apart, are_apart}
 use Rattle.splice_laws.proofs.Ends.{or_cases}
 use Rattle.splice_laws.proofs.Joins.{is_remark_kind, whole_state}
-use Rattle.put_nodes.specs.SpelledNames.{StartsName, this_token, later_token}
+use Rattle.names_apart.specs.Starts.{StartsName, this_token, later_token}
 
 -- ---- small things
 

@@ -6,6 +6,7 @@ use Rattle.std.proofs.lemmas.Bool.Decides.{nat_tests}
 use Rattle.std.proofs.lemmas.Str.{inside_one, length-encode, len_utf8_bounds}
 use Rattle.go_tree.specs.declared.spans.Span.{Span}
 use Rattle.go_tree.specs.declared.tokens.Token.{Token}
+use Rattle.go_tree.specs.declared.tokens.Comment.{Comment}
 use Rattle.go_tree.specs.declared.tokens.TokenKind.{TokenKind}
 use Rattle.go_tree.specs.declared.tokens.TokenKind.TheVariants.{Ident, Keyword, Operator, Integer, Float, Imaginary, Rune, Str, Inserted}
 use Rattle.go_tree.specs.Tree.{Expr}
@@ -16,13 +17,12 @@ use Rattle.go_words.specs.Tokens.Characters.{is_blank, each}
 use Rattle.go_words.specs.Tokens.Forms.{HasForm}
 use Rattle.go_words.specs.Tokens.Literals.{comment}
 use Rattle.go_words.specs.Tokens.Pieces.{PieceKind, blanks, remark, token, Piece, operator_spellings, operator, IsPiece}
-use Rattle.go_words.specs.Tokens.{span_of, size_of, due_after, tokens_from, pieces_size}
+use Rattle.go_words.specs.Tokens.{TokensOf, span_of, size_of, due_after, tokens_from, pieces_size}
 use Rattle.go_read.specs.Spells.{follows_type}
+use Rattle.go_read.specs.SpellsFiles.{SpellsFile}
 use Rattle.go_read.specs.SpellsTypes.{Lexemes}
 use Rattle.go_scan.proofs.Derivatives.{and_parts}
 use Rattle.go_scan.proofs.PieceKinds.{never_empty}
-use Rattle.run_rules.specs.Inlining.{ReadsAs}
-use Rattle.run_rules.specs.Texts.{FileText}
 use Rattle.splice_laws.specs.Dots.{UndottedFile}
 use Rattle.splice_laws.specs.Fits.{expr_mark}
 use Rattle.splice_laws.specs.Joints.{begin_of, begins_with_dot, PartsTo}
@@ -136,17 +136,17 @@ no_dot tail none = by_test (begins_with_dot (encode_utf8_all tail)) refl
 
 -- ---- what is called
 
-pub callee_undotted : (t : FileText) (file g : File Span) (h : Bool) (e f : Expr Span) → ReadsAs t file → UndottedFile (bare_file file) → FileIn (a_callee h e f) file g → begins_with_dot (drop (expr_mark e).end t.text) ≡ false
-callee_undotted t file g h e f reads undotted into =
-    let r = replaced (a_callee h e f) file g (lexemes t.tokens) reads.spells (tokens_rise t.text t.tokens t.comments reads.scans) into in
-    let here = stands_where t.text t.tokens t.comments reads.scans (tokens_apart t.text t.tokens t.comments file reads.scans reads.spells undotted) (a_callee h e f) tt r.front r.node r.rest r.tokens r.marked r.old in
-    by_spot r.rest r.front here r.old.3
+pub callee_undotted : (text : List ℕ) (tokens : List Token) (comments : List Comment) (file g : File Span) (h : Bool) (e f : Expr Span) → TokensOf text tokens comments → SpellsFile tokens file → UndottedFile (bare_file file) → FileIn (a_callee h e f) file g
+    → begins_with_dot (drop (expr_mark e).end text) ≡ false
+callee_undotted text tokens comments file g h e f scans spells undotted into =
+    let r = replaced (a_callee h e f) file g (lexemes tokens) spells (tokens_rise text tokens comments scans) into in
+    let here = stands_where text tokens comments scans (tokens_apart text tokens comments file scans spells undotted) (a_callee h e f) tt r.front r.node r.rest r.tokens r.marked r.old in by_spot r.rest r.front here r.old.3
   where
-    by_spot : (rest front : Lexemes) → Where t.text t.tokens t.comments (a_callee h e f) front rest → follows_type rest ≡ true → begins_with_dot (drop (expr_mark e).end t.text) ≡ false
+    by_spot : (rest front : Lexemes) → Where text tokens comments (a_callee h e f) front rest → follows_type rest ≡ true → begins_with_dot (drop (expr_mark e).end text) ≡ false
     by_spot rest front here follows =
         let s = here.spot in
         let end_is : (expr_mark e).end ≡ begin_of s.mark s.before + pieces_size s.inside = ap (λ (z : Span). z.end) s.span_is in
-        let bytes : encode_utf8_all s.tail ≡ drop (expr_mark e).end t.text = tail_bytes t.text s.mark s.before s.inside s.behind s.tail s.parted ∙ ap (λ (n : ℕ). drop n t.text) (sym end_is) in
+        let bytes : encode_utf8_all s.tail ≡ drop (expr_mark e).end text = tail_bytes text s.mark s.before s.inside s.behind s.tail s.parted ∙ ap (λ (n : ℕ). drop n text) (sym end_is) in
         let behind : follows_type (lexemes here.behind) ≡ true = ap follows_type here.behind_is ∙ follows in
         subst (λ (v : List ℕ). begins_with_dot v ≡ false) bytes
         (no_dot s.tail (λ d. behind_undotted s.behind s.tail (expr_mark e).end _ s.parted.parts_behind (subst (λ (ts : List Token). follows_type (lexemes ts) ≡ true) s.back_is behind) d))

@@ -1,0 +1,3 @@
+pub mod NamesApart
+pub mod NoDots
+mod Examples

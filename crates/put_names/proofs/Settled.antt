@@ -1,0 +1,39 @@
+-- Steps over constants and aliases settle their files.
+use Rattle.std.proofs.Common.{List}
+use Rattle.go_tree.specs.FileBare.{bare_file}
+use Rattle.cycle_runs.specs.Linked.{SettlesFile}
+use Rattle.import_splices.specs.AddedFile.{AreWritable}
+use Rattle.kept_imports.specs.Files.{RemovesNoNames}
+use Rattle.order_cycles.specs.NewNames.{FewNames}
+use Rattle.ordered_steps.specs.Ranks.{AddsLedTo}
+use Rattle.run_rules.specs.Laws.{file_found}
+use Rattle.run_rules.specs.Naming.{imports_added}
+use Rattle.run_rules.specs.Run.{Standing, Logged, Next}
+use Rattle.run_rules.specs.Sites.{MarkRef}
+use Rattle.run_laws.specs.Reading.{ProgramReads}
+use Rattle.splice_laws.specs.Dots.{UndottedFile}
+use Rattle.put_nodes.specs.SpelledNames.{AreNames}
+use Rattle.written_names.specs.NamedPackages.{AreOfPackages}
+use Rattle.written_names.proofs.StepNames.{step_names, step_imports}
+use Rattle.put_names.specs.Laws.{PackagesAreWritable}
+use Rattle.put_names.specs.Uses.{IsScopedAround, IsUsedByName, BecomesName, UsesConstant, UsesAlias}
+use Rattle.put_names.proofs.StepsPut.{steps_put}
+use Rattle.put_names.proofs.Constants.{constant_becomes}
+use Rattle.put_names.proofs.Aliases.{alias_becomes}
+
+module _ (marks : List MarkRef) (st : Standing) (l : Logged) (after : Standing) (n : Next marks st l after) (reads : ProgramReads st) where
+  pub names_settle : UndottedFile (bare_file (file_found n.found)) → IsScopedAround n → IsUsedByName n → BecomesName n → AreWritable (imports_added n.found.named) → AddsLedTo st.packages n.found → FewNames st.packages n.found → RemovesNoNames n → SettlesFile n
+  names_settle undotted scoped used becomes writable led few removes =
+      record { puts = (steps_put marks st l after n reads undotted scoped used becomes).0; writable = writable; led = led; few = few; removes = removes }
+
+  module _ (writable : PackagesAreWritable st.packages) (undotted : UndottedFile (bare_file (file_found n.found))) (scoped : IsScopedAround n) (used : IsUsedByName n) (led : AddsLedTo st.packages n.found) (few : FewNames st.packages n.found) (removes : RemovesNoNames n) where
+    settle_by : AreOfPackages st.packages n.found.named × (AreNames n.found.named → BecomesName n) → SettlesFile n
+    settle_by h =
+        let are : AreNames n.found.named = step_names marks st l after n reads writable.named writable.by_path few h.0 in
+        names_settle undotted scoped used (h.1 are) (step_imports marks st l after n writable.octets h.0 are) led few removes
+
+    pub constants_settle : UsesConstant n → SettlesFile n
+    constants_settle uses = settle_by (constant_becomes marks st l after n reads uses)
+
+    pub aliases_settle : UsesAlias n → SettlesFile n
+    aliases_settle uses = settle_by (alias_becomes marks st l after n reads used uses)
