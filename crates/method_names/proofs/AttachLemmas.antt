@@ -30,10 +30,10 @@ use Rattle.method_names.proofs.KnownLemmas.{methods_more, type_given}
 -- ---- the method of a header
 
 module _ (w : World) (h : Headed Span) where
-  abbrev named_on : Func Span × Receiver Span → Option MethodName
+  abbrev pub named_on : Func Span × Receiver Span → Option MethodName
   named_on m = given (receiver_type w h m.1) (λ n. Some (record { home = h.home; on = n; name = m.0.name.name }))
 
-  on_by_method : declared_on w h ≡ given (method_in h.header) named_on
+  pub on_by_method : declared_on w h ≡ given (method_in h.header) named_on
   on_by_method = by_function (go.func_of h.header)
     where
       by_receiver : (f : Func Span) (r : Option (Receiver Span)) →
@@ -48,7 +48,7 @@ module _ (w : World) (h : Headed Span) where
       by_function (Some f) = by_receiver f f.receiver
 
 -- a receiver names the same type in its file
-placed :
+pub placed :
     (e : Environment) (cs : List Const) (bs : List Names) (s : Scope) (h : Headed Span) → IsFileOf s h → (r : Receiver Span) →
     receiver_at (env_at e cs bs s) r ≡ receiver_type (world_at e cs bs) h r
 placed e cs bs s h f r =
@@ -183,7 +183,7 @@ module _ (e : Environment) (bs : List Names) (files : List Scope) (all : List Pa
   pub attached_none : (methods : List Names) → AreMethods e methods [] → HeadersAttached e bs files all 0 methods []
   attached_none methods known cs hs are = record { before = []; known = known; so_far = λ more a. a }
 
-  header_at :
+  pub header_at :
       (ls : List Listed) (hs : List (Headed Span)) → AreHeaders files ls hs → (cs : List PackageHeader) → ls ≡ map listed_of cs →
       (i : ℕ) (c : PackageHeader) (rest : List PackageHeader) → drop i cs ≡ c ∷ rest →
       (h : Headed Span) × (drop i hs ≡ h ∷ drop (suc i) hs) × IsHeader files (listed_of c) h
@@ -199,7 +199,7 @@ module _ (e : Environment) (bs : List Names) (files : List Scope) (all : List Pa
       let ls_are : ls ≡ map listed_of xs = cc in
       header_at ls hs are xs ls_are i c rest d
 
-  headers_end :
+  pub headers_end :
       (ls : List Listed) (hs : List (Headed Span)) → AreHeaders files ls hs → (cs : List PackageHeader) → ls ≡ map listed_of cs →
       (i : ℕ) → drop i cs ≡ [] → drop i hs ≡ []
   headers_end _ _ no_headers cs q zero d = refl

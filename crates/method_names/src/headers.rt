@@ -25,13 +25,13 @@ use typed_names::{Blocks, Scope};
 
 /// A method with its receiver.
 #[derive(Clone, Copy, Drop)]
-pub(crate) struct MethodAt<'a> {
-    pub(crate) function: &'a FuncDecl,
-    pub(crate) receiver: &'a Receiver,
+pub struct MethodAt<'a> {
+    pub function: &'a FuncDecl,
+    pub receiver: &'a Receiver,
 }
 
 /// The method that a header declares, if it is the header of one.
-fn method_in<'a>(header: &PackageHeader<'a>) -> Option<MethodAt<'a>>
+pub fn method_in<'a>(header: &PackageHeader<'a>) -> Option<MethodAt<'a>>
     ensures { seen_method result ≡ method_in (header_of header.now.kind) }
 {
     match header.kind {

@@ -5,4 +5,4 @@
 mod headers;
 mod tables;
 
-pub use headers::attached_types;
+pub use headers::{MethodAt, attached_types, method_in};
