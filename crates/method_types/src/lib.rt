@@ -1,0 +1,7 @@
+//! The methods that headers declare, by the numbers of their types, and which headers of methods are refused
+//! (Go specification, Method declarations).
+#![tactic(auto)]
+
+mod headers;
+
+pub use headers::{MethodTypes, method_types};
