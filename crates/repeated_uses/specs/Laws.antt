@@ -26,8 +26,8 @@ module _ {S : Type 0} (ps : List (Package S)) (marks : List MarkRef) where
   flagged_marks (u ∷ us) =
       elim (mark_used ps marks u.0) [ None ↦ flagged_marks us | Some m ↦ ((u.0.span, m), u.1) ∷ flagged_marks us ]
 
-  -- From uses of members to uses of marked ones with the same flags: a key may be left out, as one that names a field must
-  -- be.
+  -- From uses of members to uses of marked ones with the same flags: a key may be left out, as one that names a field
+  -- must be.
   pub data KeepsFlags : List (Used × Bool) → List FlaggedMark → Type 0 where
     at_the_end : KeepsFlags [] []
     unmarked : {u : Used} {b : Bool} {us : List (Used × Bool)} {xs : List FlaggedMark} →
@@ -41,8 +41,8 @@ module _ {S : Type 0} (ps : List (Package S)) (marks : List MarkRef) where
 abbrev pub site_flags : {S : Type 0} → (S → Span) → List (Site S) → List FlaggedMark
 site_flags to xs = map (λ x. ((to (part_span x.part), x.mark), is_again x.place)) xs
 
--- In a program whose marks are all of constants the uses of marked members are the sites of a declaration, each with its
--- flag, but that a key that names a field is none; so they are just the sites, where no key is the name of a marked
+-- In a program whose marks are all of constants the uses of marked members are the sites of a declaration, each with
+-- its flag, but that a key that names a field is none; so they are just the sites, where no key is the name of a marked
 -- member.
 abbrev pub RepeatedUsesAreSites : (S : Type 0) → (S → Span) → (File S → File Span) → Type 0
 RepeatedUsesAreSites S to as_it_stands =
