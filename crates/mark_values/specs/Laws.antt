@@ -28,8 +28,8 @@ module _ (ps : List (Package At)) (home : Where At) where
   Tells e None = (v : ConstantValue) → IsValue ps home v e → ⊥
   Tells e (Some x) = (v : ConstantValue) → value_of v ≡ x → IsValue ps home v e
 
--- The mark is that of a constant of a program as it stands, which is declared there by this name and as this expression;
--- of the names of its file the code is told.
+-- The mark is that of a constant of a program as it stands, which is declared there by this name and as this
+-- expression; of the names of its file the code is told.
 pub record IsDeclared (ps : List (Package At)) (fs : List PackageScopes) (m : MarkRef) (home : Where At) (n : NameAt At)
     (e : Expr At) : Type 0 where
   pub declared_there : where_is ps m ≡ Some home

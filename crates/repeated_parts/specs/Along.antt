@@ -17,26 +17,28 @@ module _ {S : Type 0} where
   abbrev pub is_again : Place S → Bool
   is_again p = not (is_empty p.again)
 
-  -- From some parts with their flags to more of them, past parts with their places, as possible_uses' `Follows` goes: one
-  -- more for each that may be a use, with the flag of its place, and one for each name in a type. A key that names a field
-  -- is no part with a place, and so has any flag.
+  -- From some parts with their flags to more of them, past parts with their places, as possible_uses' `Follows` goes:
+  -- one more for each that may be a use, with the flag of its place, and one for each name in a type. A key that names a
+  -- field is no part with a place, and so has any flag.
   pub data FlagsAlong : List (Candidate S) → List Bool → List (Seen S) → List (Candidate S) → List Bool → Type 0 where
     at_the_end : {xs : List (Candidate S)} {ms : List Bool} → FlagsAlong xs ms [] xs ms
-    past_a_use : {xs zs : List (Candidate S)} {ms ns : List Bool} {ys : List (Seen S)} {p : Place S} {u : Use} {e : Expr S} →
-        may_be_use e ≡ true → FlagsAlong (put (plain_part (an_expr e)) xs) (put_flag (is_again p) ms) ys zs ns →
+    past_a_use : {xs zs : List (Candidate S)} {ms ns : List Bool} {ys : List (Seen S)} {p : Place S} {u : Use}
+        {e : Expr S} → may_be_use e ≡ true →
+        FlagsAlong (put (plain_part (an_expr e)) xs) (put_flag (is_again p) ms) ys zs ns →
         FlagsAlong xs ms (seen p u e ∷ ys) zs ns
-    past_no_use : {xs zs : List (Candidate S)} {ms ns : List Bool} {ys : List (Seen S)} {p : Place S} {u : Use} {e : Expr S} →
-        may_be_use e ≡ false → FlagsAlong xs ms ys zs ns → FlagsAlong xs ms (seen p u e ∷ ys) zs ns
-    past_a_key : {xs zs : List (Candidate S)} {ms ns : List Bool} {ys : List (Seen S)} {p : Place S} {u : Use} {s : S} {n : List ℕ} →
-        FlagsAlong (put (key_part (ident s n)) xs) (put_flag (is_again p) ms) ys zs ns →
+    past_no_use : {xs zs : List (Candidate S)} {ms ns : List Bool} {ys : List (Seen S)} {p : Place S} {u : Use}
+        {e : Expr S} → may_be_use e ≡ false → FlagsAlong xs ms ys zs ns → FlagsAlong xs ms (seen p u e ∷ ys) zs ns
+    past_a_key : {xs zs : List (Candidate S)} {ms ns : List Bool} {ys : List (Seen S)} {p : Place S} {u : Use} {s : S}
+        {n : List ℕ} → FlagsAlong (put (key_part (ident s n)) xs) (put_flag (is_again p) ms) ys zs ns →
         FlagsAlong xs ms (seen p u (ident s n) ∷ ys) zs ns
-    past_a_field : {xs zs : List (Candidate S)} {ms ns : List Bool} {ys : List (Seen S)} (u : Option GoType) (s : S) (n : List ℕ) (m : Bool) →
-        meets u is_struct ≡ true → FlagsAlong (put (key_part (ident s n)) xs) (put_flag m ms) ys zs ns →
-        FlagsAlong xs ms ys zs ns
-    past_an_old_name : {xs zs : List (Candidate S)} {ms ns : List Bool} {ys : List (Seen S)} {p : Place S} {n : NameAt S} →
-        is_old p n ≡ true → FlagsAlong xs ms ys zs ns → FlagsAlong xs ms (seen p stored (ident n.span n.name) ∷ ys) zs ns
+    past_a_field : {xs zs : List (Candidate S)} {ms ns : List Bool} {ys : List (Seen S)} (u : Option GoType) (s : S)
+        (n : List ℕ) (m : Bool) → meets u is_struct ≡ true →
+        FlagsAlong (put (key_part (ident s n)) xs) (put_flag m ms) ys zs ns → FlagsAlong xs ms ys zs ns
+    past_an_old_name : {xs zs : List (Candidate S)} {ms ns : List Bool} {ys : List (Seen S)} {p : Place S}
+        {n : NameAt S} → is_old p n ≡ true → FlagsAlong xs ms ys zs ns →
+        FlagsAlong xs ms (seen p stored (ident n.span n.name) ∷ ys) zs ns
     past_a_type : {xs zs : List (Candidate S)} {ms ns : List Bool} {ys : List (Seen S)} {p : Place S} {t : TypeExpr S} →
         FlagsAlong (xs ++ names_in t) (ms ++ map (λ x. is_again p) (named_in t)) ys zs ns →
         FlagsAlong xs ms (seen_type p t ∷ ys) zs ns
-    past_a_statement : {xs zs : List (Candidate S)} {ms ns : List Bool} {ys : List (Seen S)} {p : Place S} {s : Stmt S} →
-        FlagsAlong xs ms ys zs ns → FlagsAlong xs ms (seen_stmt p s ∷ ys) zs ns
+    past_a_statement : {xs zs : List (Candidate S)} {ms ns : List Bool} {ys : List (Seen S)} {p : Place S}
+        {s : Stmt S} → FlagsAlong xs ms ys zs ns → FlagsAlong xs ms (seen_stmt p s ∷ ys) zs ns

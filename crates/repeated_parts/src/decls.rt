@@ -53,9 +53,9 @@ fn func_flags(func: &FuncDecl, flags: &mut Vec<bool>) -> Result<(), NoMemory>
     stmts_flags(&func.body.stmts, false, flags)
 }
 
-/// Of each part of a declaration that may be a use of a marked declaration, as `decl_parts` lists them: whether it stands
-/// in a member of a group of constants in a function whose expressions the next member repeats (Go specification,
-/// Constant declarations). An error where memory is refused. Linear in the declaration.
+/// Of each part of a declaration that may be a use of a marked declaration, as `decl_parts` lists them: whether it
+/// stands in a member of a group of constants in a function whose expressions the next member repeats (Go
+/// specification, Constant declarations). An error where memory is refused. Linear in the declaration.
 pub fn repeated_parts(alloc: Global, decl: &Decl) -> Result<Vec<bool>, NoMemory>
     ensures { IfOk result (λ flags. flags.items ≡ flags_of (decl_of decl.now)) }
 {

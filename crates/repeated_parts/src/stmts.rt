@@ -89,7 +89,8 @@ fn block_option_flags(
     repeated: bool,
     flags: &mut Vec<bool>,
 ) -> Result<(), NoMemory>
-    ensures { OnOk result (flags.new.items ≡ flags_block_option repeated (held_block_option_of block.now) flags.old.items) }
+    ensures { OnOk result (flags.new.items
+        ≡ flags_block_option repeated (held_block_option_of block.now) flags.old.items) }
 {
     match block {
         None => Ok(()),
@@ -103,7 +104,8 @@ fn stmt_option_flags(
     repeated: bool,
     flags: &mut Vec<bool>,
 ) -> Result<(), NoMemory>
-    ensures { OnOk result (flags.new.items ≡ flags_stmt_option repeated (boxed_stmt_option_of stmt.now) flags.old.items) }
+    ensures { OnOk result (flags.new.items
+        ≡ flags_stmt_option repeated (boxed_stmt_option_of stmt.now) flags.old.items) }
 {
     match stmt {
         None => Ok(()),

@@ -1,0 +1,144 @@
+//! What constants are declared as, and which uses a later member of a group repeats.
+
+ghost use Rattle.std.specs.Prelude.{◌<◌, ◌^◌, All, length};
+
+use constant_forms::ConstantValue;
+use go_parse::read_file;
+use go_tree::{FileTree, MAX_FILE_BYTES, Name, Span, Text};
+use mark_values::DeclaredValues;
+use member_uses::FileScopes;
+use possible_uses::decl_parts;
+use repeated_parts::repeated_parts;
+use repeated_uses::{FlaggedUse, repeated_uses};
+use scope_names::{Entity, FileNames, ImportList, ImportName, NameList};
+use scope_tables::{Scopes, scopes};
+use std::alloc::Global;
+use std::test::Fail;
+
+/// More names than any file here has, and more constants than any declaration.
+const MANY: usize = 100;
+
+fn name_list(alloc: Global, words: &str) -> Result<NameList, Fail> {
+    let mut names = Vec::new(alloc);
+    for word in words.split(' ') {
+        names.push(Name::of(word.as_bytes().to_vec(alloc)?))?;
+    }
+    Ok(NameList::of(names))
+}
+
+fn one_import(alloc: Global, name: &str, path: &str) -> Result<ImportList, Fail> {
+    let mut list = Vec::new(alloc);
+    list.push(ImportName {
+        name: Name::of(name.as_bytes().to_vec(alloc)?),
+        path: Text::of(path.as_bytes().to_vec(alloc)?),
+        spec: Span { start: 0, end: 0 },
+    })?;
+    Ok(ImportList::of(list))
+}
+
+/// What a name means: a member of the package, a predeclared name, or anything else.
+fn meaning_word(meaning: Option<Entity>) -> &'static [u8] {
+    match meaning {
+        Some(Entity::Package(_)) => b"p.".as_slice(),
+        Some(Entity::Universe(_)) => b"u.".as_slice(),
+        _ => b"?.".as_slice(),
+    }
+}
+
+/// What a constant is declared as, and a blank; a dash alone where it is neither.
+fn put_value(value: Option<ConstantValue>, words: &mut Vec<u8>) -> Result<(), Fail> {
+    match value {
+        None => words.extend_from_slice(b"-".as_slice())?,
+        Some(ConstantValue::Plain(name, meaning)) => {
+            words.extend_from_slice(meaning_word(meaning))?;
+            words.extend_from_slice(name.items())?;
+        }
+        Some(ConstantValue::Qualified(package, name)) => {
+            words.extend_from_slice(if package == 3 {
+                b"3.".as_slice()
+            } else {
+                b"?.".as_slice()
+            })?;
+            words.extend_from_slice(name.items())?;
+        }
+    }
+    Ok(words.push(b' ')?)
+}
+
+/// The member that is used, with a blank behind it, or a mark where a later member repeats it.
+fn put_uses(uses: &[FlaggedUse], words: &mut Vec<u8>) -> Result<(), Fail> {
+    for one in uses {
+        words.extend_from_slice(one.of.name.items())?;
+        words.push(if one.repeated { b'!' } else { b' ' })?;
+    }
+    Ok(())
+}
+
+/// The first two constants of each declaration, and then the uses in all of them.
+fn words_of(alloc: Global, file: &FileTree, table: &Scopes) -> Result<Vec<u8>, Fail> {
+    let imports = [3];
+    let names = FileScopes {
+        scopes: table,
+        home: 7,
+        imports: &imports,
+    };
+    let mut words = Vec::new(alloc);
+    for decl in file.decls.items() {
+        let values = DeclaredValues::of(alloc, &names, decl)?;
+        put_value(values.get(0), &mut words)?;
+        put_value(values.get(1), &mut words)?;
+    }
+    for decl in file.decls.items() {
+        let parts = decl_parts(alloc, decl)?;
+        let flags = repeated_parts(alloc, decl)?;
+        let uses = repeated_uses(alloc, &names, &parts, &flags)?;
+        put_uses(&uses, &mut words)?;
+    }
+    Ok(words)
+}
+
+fn found_in(alloc: Global, file: &FileTree, names: &FileNames) -> Result<Vec<u8>, Fail>
+    requires imports { length names.now.imports < 2 ^ 32 }
+    requires members { length names.now.package < 2 ^ 32 }
+{
+    let table = scopes(alloc, file, names)?;
+    words_of(alloc, file, &table)
+}
+
+fn tells(alloc: Global, text: &str, members: &str, words: &str) -> Result<bool, Fail> {
+    let names = FileNames {
+        imports: one_import(alloc, "q", "m/q")?,
+        package: name_list(alloc, members)?,
+    };
+    if names.imports.items().len() > MANY || names.package.items().len() > MANY {
+        return Err(Fail::new("too many names"));
+    }
+    let text = text.as_bytes();
+    if text.len() > MAX_FILE_BYTES as usize {
+        return Err(Fail::new("a text that is too long"));
+    }
+    match read_file(alloc, text) {
+        Ok(source) => {
+            let found = found_in(alloc, &source.tree, &names)?;
+            drop(source);
+            Ok(found.as_slice() == words.as_bytes())
+        }
+        Err(_) => Err(Fail::new("a text without a tree")),
+    }
+}
+
+// A constant is declared as a name of an import, of its package, or a predeclared one; one without an expression of its
+// own, and one with another expression, as neither. Of a group in a function a member is repeated by the next one.
+#[test]
+fn constants_of_a_file(rt: HostRuntime) -> Result<(), Fail> {
+    let alloc = rt.alloc();
+    assert!(rt;
+        tells(
+            alloc,
+            "package p\n\nimport \"m/q\"\n\nconst (\n\tA = q.X\n\tB\n)\n\nconst C, D = A, 1\n\nconst E, F = true, f.X\n\nfunc f() {\n\tconst (\n\t\tc = A\n\t\td\n\t\te\n\t\tg = q.Y\n\t)\n\tconst h, i = B, C\n}\n",
+            "A B C D E F f",
+            "3.X - p.A - u.true - - - X A f A!Y B C "
+        )?
+    );
+    Ok(())
+}
