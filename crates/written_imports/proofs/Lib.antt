@@ -1,0 +1,4 @@
+mod Candidates
+mod StepImports
+mod Octets
+mod ReadNames
