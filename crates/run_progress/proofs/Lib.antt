@@ -1,2 +1,2 @@
-mod Apart
-mod Counts
+pub mod Apart
+pub mod Counts

@@ -1,4 +1,4 @@
-mod Candidates
-mod StepImports
-mod Octets
-mod ReadNames
+pub mod Candidates
+pub mod StepImports
+pub mod Octets
+pub mod ReadNames

@@ -226,7 +226,7 @@ read_packages_are_named files ps texts m e =
 
 -- ---- steps
 
-changed_named : {S : Type 0} (F : Package S → Package S) → ((p : Package S) → IsName p.name → IsName (F p).name) → ((p : Package S) → each is_byte p.path ≡ true → each is_byte (F p).path ≡ true) → (k : ℕ) (ps : List (Package S)) → AreNamed ps → AreNamed (change_nth k F ps)
+pub changed_named : {S : Type 0} (F : Package S → Package S) → ((p : Package S) → IsName p.name → IsName (F p).name) → ((p : Package S) → each is_byte p.path ≡ true → each is_byte (F p).path ≡ true) → (k : ℕ) (ps : List (Package S)) → AreNamed ps → AreNamed (change_nth k F ps)
 changed_named F f g k [] h = tt
 changed_named F f g zero (p ∷ ps) h = (f p h.0, g p h.1, h.2)
 changed_named F f g (suc k) (p ∷ ps) h = (h.0, h.1, changed_named F f g k ps h.2)
