@@ -1,0 +1,4 @@
+pub mod Candidates
+pub mod StepImports
+pub mod Octets
+pub mod ReadNames
