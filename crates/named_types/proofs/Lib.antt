@@ -1,3 +1,4 @@
 pub mod ChainSteps
 pub mod DefineLaws
+pub mod RowsKept
 pub mod StepLaws

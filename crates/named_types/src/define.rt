@@ -7,6 +7,9 @@ ghost use Rattle.go_types.specs.Collect as go;
 ghost use Rattle.go_types.specs.Collect.{typed_world};
 ghost use Rattle.type_relations.specs.Environment.{defined_types, env_type, has_methods, is_named_type};
 ghost use Rattle.type_relations.specs.Environment.{with_definition};
+ghost use Rattle.typed_names.specs.declared.scopes.Scope.{Scope};
+ghost use Rattle.typed_names.specs.Meanings.{Names};
+ghost use Rattle.declared_types.specs.Steps.{KnowsPlaces};
 ghost use Rattle.defined_types.specs.DeclaredTypes.{AreDeclared, declared_of};
 ghost use Rattle.named_types.specs.Defining.{all_defined};
 
@@ -46,6 +49,9 @@ pub fn define_types(
     requires are { AreDeclared types.old declared.now }
     ensures rows { types.new.rows ≡ types.old.rows }
     ensures methods { types.new.methods ≡ types.old.methods }
+    ensures are { AreDeclared types.new declared.now }
+    ensures known { (bs : List Names) (files : List Scope)
+        → KnowsPlaces types.old bs files → KnowsPlaces types.new bs files }
     ensures defined { OnOk result (defined_types types.new ≡ all_defined types.old declared.now) }
     ensures of_programs { OnOk result ((ps : Program Span) (hs : List (Headed Span))
         → map (declared_of types.old) declared.now ≡ go.types_declared ps hs

@@ -6,6 +6,7 @@ use Rattle.named_types.specs.Defining.{TypesDefined}
 use Rattle.named_types.specs.Steps.{number_at}
 use Rattle.named_types.proofs.ChainSteps.{are_item, no_item}
 use Rattle.named_types.proofs.DefineLaws.{define_all, define_more, defined_there, named_now, under_there, within_now}
+use Rattle.named_types.proofs.RowsKept.{declared_rows, places_rows}
 use Rattle.named_types.proofs.define.define_types.Goals as goal
 
 pub define_type-requires-clause-known : goal.define_type-requires-clause-known
@@ -56,3 +57,21 @@ returns-clause-of_programs c =
     (define_all c.args.types.now c.loop-link.types c.args.declared.now
     (subst (TypesDefined c.args.types.now c.loop-link.types c.args.declared.now)
     (drop_all c.args.declared.now c.loop-link.link-index c.loop-link-test.false) c.loop-link.invariant))
+
+pub returns-in_err-define_type-clause-are : goal.returns-in_err-define_type-clause-are
+returns-in_err-define_type-clause-are c =
+    declared_rows c.args.types.now c.define_type.new.types
+    (ap (λ e. e.rows) c.in_err-define_type.ensures.same ∙ c.loop-link.invariant.rows) c.args.declared.now
+    c.requires.are
+
+pub returns-in_err-define_type-clause-known : goal.returns-in_err-define_type-clause-known
+returns-in_err-define_type-clause-known c =
+    places_rows c.args.types.now c.define_type.new.types
+    (ap (λ e. e.rows) c.in_err-define_type.ensures.same ∙ c.loop-link.invariant.rows)
+
+pub returns-clause-are : goal.returns-clause-are
+returns-clause-are c =
+    declared_rows c.args.types.now c.loop-link.types c.loop-link.invariant.rows c.args.declared.now c.requires.are
+
+pub returns-clause-known : goal.returns-clause-known
+returns-clause-known c = places_rows c.args.types.now c.loop-link.types c.loop-link.invariant.rows

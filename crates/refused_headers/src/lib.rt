@@ -1,0 +1,7 @@
+//! Which headers of types are refused, and the first of them (Go specification, Type declarations;
+//! Uniqueness of identifiers).
+#![tactic(auto)]
+
+mod first;
+
+pub use first::first_refused_type;
