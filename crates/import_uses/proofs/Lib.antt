@@ -10,3 +10,4 @@ pub mod Sums
 pub mod Standing
 pub mod Once
 pub mod StepUses
+mod Example

@@ -1,20 +1,20 @@
 -- A use that a step finds is seated among the parts of its declaration, and no other part has its span.
-use Rattle.std.proofs.Common.{◌≡◌, ◌∙◌, refl, sym, subst, ℕ, zero, suc, Bool, true, false, List, [], ◌∷◌, Some, arith}
+use Rattle.std.proofs.Common.{◌≡◌, ◌∙◌, refl, sym, ap, subst, ℕ, zero, suc, Bool, true, false, List, [], ◌∷◌, Option, Some, arith}
 use Rattle.std.specs.Prelude.{slice_get, nat_eq}
 use Rattle.std.proofs.lemmas.Option.{same_Some}
 use Rattle.go_tree.specs.declared.spans.Span.{Span}
 use Rattle.go_tree.specs.Tree.{NameAt, Expr, ident, int_lit, rune_lit, str_lit, composite, selector, index, slice, call, func_lit, type_operand, unary, binary, star}
-use Rattle.go_tree.specs.File.{Decl}
+use Rattle.go_tree.specs.File.{Decl, File}
 use Rattle.scope_names.specs.Scopes.{expr_span}
 use Rattle.import_rules.specs.Removed.{same_span}
 use Rattle.typed_in_place.proofs.Rising.{and_first, and_second}
 use Rattle.run_rules.specs.Surroundings.{Place, Seen, seen, seen_type, seen_stmt}
 use Rattle.run_rules.specs.Programs.{decl_seen}
-use Rattle.run_rules.specs.Respanned.{decl_with, decls_with}
-use Rattle.run_rules.specs.Sites.{MarkRef, an_expr, a_constant, Site, inlinable, part_span}
+use Rattle.run_rules.specs.Respanned.{expr_with, decl_with, decls_with}
+use Rattle.run_rules.specs.Sites.{MarkRef, Where, an_expr, a_constant, Site, inlinable, part_span}
 use Rattle.run_rules.specs.Forms.{is_at}
 use Rattle.run_rules.specs.Steps.{At, same_here}
-use Rattle.run_rules.specs.Run.{Standing, Logged, Next, here_of}
+use Rattle.run_rules.specs.Run.{Standing, Logged, Next, here_of, is_commented}
 use Rattle.run_laws.specs.Reading.{FileReads, FileAt, ProgramReads}
 use Rattle.run_laws.proofs.FoundSpans.{Placed}
 use Rattle.form_splices.specs.Laws.{MakesForm}
@@ -29,7 +29,26 @@ use Rattle.run_steps.proofs.SpreadParts.{AllOther, Apart}
 use Rattle.run_steps.proofs.SeenSpread.{decl-apart}
 use Rattle.import_uses.specs.Parts.{EachSeen, IsName, IsElsewhere, StandsOnce}
 use Rattle.import_uses.specs.Parts as stands
-use Rattle.standing_uses.specs.Laws.{IsNamedOnce, ConstantUsesStandOnce}
+use Rattle.standing_uses.specs.Laws.{IsNamedOnce, ConstantUsesStandOnce, AreTyped, ConstantStepsAreTold}
+use Rattle.go_tree.specs.FileView.{file_of}
+use Rattle.scope_names.specs.declared.names.ImportName.{ImportName}
+use Rattle.scope_tables.specs.Table.{IsTableOf, table_of}
+use Rattle.pkg_graph.specs.Package.{Package, import_specs}
+use Rattle.import_laws.specs.Steps.{names_standing}
+use Rattle.import_laws.proofs.GraphImports.{map_twice}
+use Rattle.place_meanings.specs.Laws.{AreNamesOf}
+use Rattle.place_meanings.proofs.PlacesMean.{files_named}
+use Rattle.constant_forms.specs.declared.uses.ConstantUse.{ConstantUse}
+use Rattle.constant_forms.specs.declared.reduced.ConstantForm.{ConstantForm}
+use Rattle.constant_forms.specs.declared.reduced.ReducedConstant.TheVariants.{Becomes}
+use Rattle.constant_forms.specs.Views.{form_of, reduced_of}
+use Rattle.constant_forms.specs.Uses.{IsUse, IsReducedTo}
+use Rattle.unused_imports.specs.Uses.{all_parts}
+use Rattle.unused_imports.specs.Told.{IsTold}
+use Rattle.import_uses.specs.Steps.{StepsSwapUses}
+use Rattle.run_rules.specs.FormTrees.{Form}
+use Rattle.run_rules.specs.Reduced.{Reduced, becomes}
+use Rattle.run_rules.specs.Laws.{file_found}
 use Rattle.standing_uses.proofs.Named.{constant_named}
 
 same_so : (a b : Span) → same_span a b ≡ true → a ≡ b
@@ -92,6 +111,15 @@ module _ (x : Site At) (e : Expr At) (part : x.part ≡ an_expr e) where
   once i (seen_type p t ∷ ys) (later m) a = stands.later (seen_type p t) ys tt (once i ys m a.1)
   once i (seen_stmt p s ∷ ys) (later m) a = stands.later (seen_stmt p s) ys tt (once i ys m a.1)
 
+-- ---- the names of a file
+
+standing_named : (ps : List (Package At)) (w : Where At) → AreNamesOf ps w (names_standing ps w)
+standing_named ps w =
+    record {
+      imports = map_twice _ (λ (i : ImportName). i.name) (import_specs w.source.tree);
+      members = sym (files_named ps (record w { number = 0 })).members ∙ (files_named ps w).members;
+    }
+
 -- ---- the declaration of a use
 
 nth_in : (ds : List (Decl At)) (n : ℕ) (d : Decl At) → slice_get ds n ≡ Some d → DeclsIn (decls_with here_of ds) → (lo : ℕ) × (hi : ℕ) × DeclIn lo hi (decl_with here_of d)
@@ -132,5 +160,47 @@ module _ (marks : List MarkRef) (st : Standing) (l : Logged) (after : Standing) 
             (decl-apart here_of st.packages k.0 k.1 x.at.number x.at.of x.at.source.tree d k.2);
       }
 
+  -- ---- the form
+
+  abbrev form_or : Form At → Option (Reduced At) → Form At
+  form_or d (Some (becomes k y z ns)) = y
+  form_or d o = d
+
+  abbrev range_or : At → Option (Reduced At) → At
+  range_or d (Some (becomes k y z ns)) = z
+  range_or d o = d
+
+  pub told_step : StepsSwapUses → (home : Where At) (c : NameAt At) (v e : Expr At) (u : ConstantUse) (form : ConstantForm) → IsUse st.packages (is_commented st) x home c v u
+      → IsReducedTo st.packages (is_commented st) marks x (Becomes form) → x.part ≡ an_expr e → file_of u.file.now ≡ file_found n.found → AreTyped marks st n.found form
+      → IsTold marks st n.found u.names.now (table_of u.scopes.now) (all_parts (decls_with here_of x.at.source.tree.decls)) (expr_with here_of e) form
+  told_step law home c v e u form use_ red part file typed =
+      let d = placed.decl in
+      let named = named_once c v e use_.declared_as part d placed.decl_is in
+      let z = part_span x.part in
+      let same : Some (becomes n.found.kind n.found.form n.found.range n.found.named) ≡ Some (reduced_of z (Becomes form)) = sym made.form_is ∙ red.is in
+      let form_so : n.found.form ≡ form_of z form = ap (form_or n.found.form) same in
+      let range_so : n.found.range ≡ z = ap (range_or n.found.range) same in
+      law marks st n.found read.text u.names.now (table_of u.scopes.now) e form
+      (record {
+        part_is = part;
+        is_name = named.is_name;
+        form_is = form_so ∙ ap (λ (y : At). form_of y form) (sym range_so);
+        stands = red.stands_there ∙ (λ v. here_of (part_span (part v)));
+        use_no_import = named.use_no_import;
+        form_no_import = typed.form_no_import;
+        reads = read.reads;
+        names_are = use_.names_are;
+        told = subst (AreNamesOf st.packages x.at) (sym use_.names_are) (standing_named st.packages x.at);
+        table = subst (λ (y : File Span). IsTableOf u.names.now y (table_of u.scopes.now)) file use_.is_table;
+        decl = d;
+        is_there = placed.decl_is;
+        once = named.once;
+        before = typed.before;
+        after = typed.after;
+      })
+
 pub stand_once : ConstantUsesStandOnce
 stand_once marks st l after n reads c v e constant part d h = named_once marks st l after n reads c v e constant part d h
+
+pub steps_told : StepsSwapUses → ConstantStepsAreTold
+steps_told law marks st l after n reads home c v e u form use_ red part file typed = told_step marks st l after n reads law home c v e u form use_ red part file typed

@@ -3,4 +3,4 @@
 
 mod laws;
 
-pub use laws::constant_uses_stand_once;
+pub use laws::{constant_steps_are_told, constant_uses_stand_once};
