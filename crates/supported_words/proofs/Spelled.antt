@@ -16,11 +16,11 @@ pub data Passed (us : Lexemes) : Lexemes → Type 0 where
   here : Passed us us
   later : {s : Span} {t : Terminal} {ts : Lexemes} → is_foreign t ≡ false → Passed us ts → Passed us (lex s t ∷ ts)
 
-drop : {s : Span} {t : Terminal} {us ts : Lexemes} → Passed (lex s t ∷ us) ts → is_foreign t ≡ false → Passed us ts
+pub drop : {s : Span} {t : Terminal} {us ts : Lexemes} → Passed (lex s t ∷ us) ts → is_foreign t ≡ false → Passed us ts
 drop here e = later e here
 drop (later f x) e = later f (drop x e)
 
-sign_known : (op : UnOp) → is_foreign (unary_sign op) ≡ false
+pub sign_known : (op : UnOp) → is_foreign (unary_sign op) ≡ false
 sign_known Plus = refl
 sign_known Minus = refl
 sign_known Not = refl

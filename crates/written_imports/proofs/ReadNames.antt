@@ -60,10 +60,10 @@ no_operators : list_all (λ r. not (is_ident r.1)) operators ≡ true
 no_operators = refl
 
 -- where it stands for a name, that is an identifier
-abbrev NamesWell : Token → Type 0
+abbrev pub NamesWell : Token → Type 0
 NamesWell t = (n : List ℕ) → terminal_of t.kind t.spelling ≡ ident n → IsName n
 
-abbrev AllNameWell : List Token → Type 0
+abbrev pub AllNameWell : List Token → Type 0
 AllNameWell [] = Unit {0}
 AllNameWell (t ∷ ts) = NamesWell t × AllNameWell ts
 
@@ -112,7 +112,7 @@ mark_scalars (c ∷ cs) h = by (c == byte_order_mark) (scalars_parts (c ∷ []) 
     by true r = r
     by false r = h
 
-text_names : (text : List ℕ) (tokens : List Token) (comments : List Comment) → TokensOf text tokens comments → AllNameWell tokens
+pub text_names : (text : List ℕ) (tokens : List Token) (comments : List Comment) → TokensOf text tokens comments → AllNameWell tokens
 text_names text tokens comments t =
     subst AllNameWell (sym t.tokens_are) (pieces_name (mark_size t.characters) None (after_mark t.characters) t.pieces (mark_scalars t.characters t.scalars) t.cut)
 
