@@ -1,1 +1,2 @@
 pub mod TypeSteps
+pub mod RefusedLaws

@@ -41,7 +41,7 @@ use Rattle.method_names.specs.Attached.{AreAttached, attached}
 use Rattle.method_names.specs.Known.{method_in}
 use Rattle.method_names.proofs.AttachLemmas.{header_at, headers_end, named_on, on_by_method}
 use Rattle.method_types.specs.Methods as declared
-use Rattle.method_types.specs.Methods.{AreDeclared, GivesMethod, IsMethod, MethodOn, declared_at, refused_methods}
+use Rattle.method_types.specs.Methods.{AreDeclared, AreTypedMethods, IsTypedMethod, GivesMethod, IsMethod, MethodOn, declared_at, refused_methods}
 use Rattle.method_types.specs.Steps.{GivesTyped, MethodsSoFar, TypesHeader, TypesPassed, attached_at, names_after}
 
 -- ---- the method of a header
@@ -200,6 +200,21 @@ gives_kept e f g d (Some m) h =
           ∙ ap₂ (λ ts us. method_made h.on h.name m.pointer ts us) (sym (types_same e f g m.of.params h.params))
           (sym (types_same e f g m.of.results h.results));
     }
+
+-- so do those of all methods
+typed_kept : (e f : Environment) → TypesGrown e f → (ms : List (Option Method)) → AreTypedMethods e ms → AreTypedMethods f ms
+typed_kept e f g [] h = tt
+typed_kept e f g (None ∷ ms) h = (tt, typed_kept e f g ms h.1)
+typed_kept e f g (Some m ∷ ms) h = (
+  (types_kept e f g m.of.params (h.0).0, types_kept e f g m.of.results (h.0).1),
+  typed_kept e f g ms h.1,
+)
+
+typed_last :
+    (f : Environment) (ms : List (Option Method)) (o : Option Method) → AreTypedMethods f ms → IsTypedMethod f o →
+    AreTypedMethods f (ms ++ o ∷ [])
+typed_last f [] o h t = (t, tt)
+typed_last f (m ∷ ms) o h t = (h.0, typed_last f ms o h.1 t)
 
 all_kept :
     (e f : Environment) → TypesGrown e f → (w : World) {before : List MethodName} {hs : List (Headed Span)} {ms : List (Option Method)} →
@@ -385,6 +400,7 @@ module _ (e : Environment) (bs : List Names) (files : List Scope) (all : List Pa
         known = start;
         flags = f;
         defined = d;
+        typed = tt;
         found = λ cs hs are at.
             record { done = []; whole = refl; declared = declared.no_headers; rest = at; numbers = refl };
       }
@@ -394,15 +410,16 @@ module _ (e : Environment) (bs : List Names) (files : List Scope) (all : List Pa
       TypesPassed e f bs files all types i x ms refused → (c : PackageHeader) (rest : List PackageHeader) →
       drop i all ≡ c ∷ rest → TypesGrown f g → KnowsPlaces g bs files → AreFlagsSoFar g y →
       DefinedBelow (length y.comparable.items) g.defined → (o : Option Method) (b : Bool) →
-      TypesHeader f g bs files c (is_some (attached_at types i)) o →
+      IsTypedMethod g o → TypesHeader f g bs files c (is_some (attached_at types i)) o →
       b ≡ (is_some (method_in (header_of c.kind)) && is_none o) →
       TypesPassed e g bs files all types (i + 1) y (ms ++ o ∷ []) (cond b (refused ++ i ∷ []) refused)
-  passed_more i f g x y ms refused r c rest here grown known flags defined o b step is =
+  passed_more i f g x y ms refused r c rest here grown known flags defined o b typed step is =
       record {
         grown = grown_on e f g r.grown grown;
         known = known;
         flags = flags;
         defined = defined;
+        typed = typed_last g ms o (typed_kept f g grown ms r.typed) typed;
         found = λ cs hs are at.
             let h = header_at e bs files all (map listed_of all) hs are all refl i c rest here in
             subst

@@ -28,6 +28,16 @@ refused_methods w before i (h ∷ hs) =
     then i ∷ refused_methods w (and_also (declared_on w h) before) (suc i) hs
     else refused_methods w (and_also (declared_on w h) before) (suc i) hs
 
+-- the types of a method that is answered are in the table
+abbrev pub IsTypedMethod : Environment → Option Method → Type 0
+IsTypedMethod e None = Unit {0}
+IsTypedMethod e (Some m) = AreTypesOf e m.of.params × AreTypesOf e m.of.results
+
+-- so are those of all
+abbrev pub AreTypedMethods : Environment → List (Option Method) → Type 0
+AreTypedMethods e [] = Unit {0}
+AreTypedMethods e (m ∷ ms) = IsTypedMethod e m × AreTypedMethods e ms
+
 -- a method by the numbers of its types
 pub record IsMethod (e : Environment) (d : Option MethodOn) (m : Method) : Type 0 where
   pub on : List ℕ

@@ -20,7 +20,7 @@ use Rattle.declared_types.specs.Steps.{KnowsPlaces}
 use Rattle.package_blocks.specs.declared.headers.PackageHeader.{PackageHeader}
 use Rattle.package_blocks.specs.Headers.{AreHeaders, IsHeader, listed_of}
 use Rattle.method_names.specs.Attached.{AreAttached, attached}
-use Rattle.method_types.specs.Methods.{AreDeclared, GivesMethod, declared_at, refused_methods}
+use Rattle.method_types.specs.Methods.{AreDeclared, AreTypedMethods, GivesMethod, declared_at, refused_methods}
 
 -- what is answered for a header
 abbrev pub attached_at : List (Option TypeId) → ℕ → Option TypeId
@@ -70,6 +70,7 @@ pub record TypesPassed (e f : Environment) (bs : List Names) (files : List Scope
   pub known : KnowsPlaces f bs files
   pub flags : AreFlagsSoFar f x
   pub defined : DefinedBelow (length x.comparable.items) f.defined
+  pub typed : AreTypedMethods f methods
   pub found :
       (cs : List Const) (hs : List (Headed Span)) → AreHeaders files (map listed_of all) hs →
       AreAttached e (world_at e cs bs) [] hs types →

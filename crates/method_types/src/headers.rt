@@ -15,7 +15,7 @@ ghost use Rattle.package_blocks.specs.Headers.{AreHeaders, header_of, listed_of}
 ghost use Rattle.method_headers.specs.Methods.{method_type_at};
 ghost use Rattle.method_names.specs.Attached.{AreAttached};
 ghost use Rattle.method_names.specs.Known.{method_in};
-ghost use Rattle.method_types.specs.Methods.{AreDeclared, refused_methods};
+ghost use Rattle.method_types.specs.Methods.{AreDeclared, AreTypedMethods, IsTypedMethod, refused_methods};
 ghost use Rattle.method_types.specs.Steps.{GivesTyped, TypesHeader, attached_at};
 
 use comparable_types::TypeFlags;
@@ -70,6 +70,7 @@ fn typed_method(
     ensures known { KnowsTypes types.new blocks.now scope.now }
     ensures flags { AreFlagsSoFar types.new flags.new }
     ensures defined { DefinedBelow (length flags.new.comparable.items) types.new.defined }
+    ensures typed { IfOk result (IsTypedMethod types.new) }
     ensures gives { IfOk result (λ o. (cs : List Const) → GivesTyped types.new
         (method_type_at (env_at types.old cs blocks.now scope.now) (receiver_of method.entry.receiver.now)
         (func_of method.entry.function.now)) method.entry.receiver.now.pointer o) }
@@ -109,6 +110,7 @@ fn declared_method(
     ensures known { KnowsPlaces types.new blocks.now files.now }
     ensures flags { AreFlagsSoFar types.new flags.new }
     ensures defined { DefinedBelow (length flags.new.comparable.items) types.new.defined }
+    ensures typed { IfOk result (IsTypedMethod types.new) }
     ensures gives { IfOk result
         (TypesHeader types.old types.new blocks.now files.now header.now new) }
 {
@@ -142,6 +144,7 @@ pub fn method_types(
     ensures known { KnowsPlaces types.new blocks.now files.now }
     ensures flags { AreFlagsSoFar types.new flags.new }
     ensures defined { DefinedBelow (length flags.new.comparable.items) types.new.defined }
+    ensures typed { IfOk result (λ found. AreTypedMethods types.new found.methods.items) }
     ensures found { IfOk result (λ found. (cs : List Const) (hs : List (Headed Span))
         → AreHeaders files.now (map listed_of headers.now) hs
         → AreAttached types.old (world_at types.old cs blocks.now) [] hs attached.now

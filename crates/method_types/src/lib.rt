@@ -3,5 +3,7 @@
 #![tactic(auto)]
 
 mod headers;
+mod laws;
 
 pub use headers::{MethodTypes, method_types};
+pub use laws::refused_by_types;

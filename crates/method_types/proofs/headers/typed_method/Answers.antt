@@ -1,9 +1,12 @@
-use Rattle.std.proofs.Common.{Err, refl, subst}
+use Rattle.std.proofs.Common.{[], Err, refl, subst}
 use Rattle.go_tree.specs.FileView as tree
 use Rattle.typed_names.specs.Scopes.{env_at}
 use Rattle.func_types.specs.Answers.{GivesFunc}
 use Rattle.method_headers.specs.Methods.{method_type_at}
 use Rattle.method_types.proofs.headers.typed_method.Goals as goal
+
+pub returns-in-Ok-clause-typed : goal.returns-in-Ok-clause-typed
+returns-in-Ok-clause-typed c = (c.in-Ok.ensures.gives []).0
 
 pub returns-in-Ok-clause-gives : goal.returns-in-Ok-clause-gives
 returns-in-Ok-clause-gives c =
