@@ -1,4 +1,1 @@
 pub mod Walked
-pub mod Answers
-pub mod Lists
-pub mod Elements

@@ -21,9 +21,8 @@ ghost use Rattle.operand_answers.specs.Lists.{GivesAll};
 ghost use Rattle.access_steps.specs.Bounds.{GivesBound};
 ghost use Rattle.composite_steps.specs.Elements.{GivesElement, GivesElements};
 ghost use Rattle.expr_walk.specs.Walked.{AreAllWalked, AreWalkedElems, IsWalked, IsWalkedKey, IsWalkedOption, IsWalkedValue};
-ghost use Rattle.expr_walk.specs.Answers.{GivesExpr};
+ghost use Rattle.walk_arms.specs.Answers.{GivesExpr};
 
-use crate::qualifiers::package_before;
 use access_steps::{bound, index, slice};
 use call_steps::call;
 use checker_tables::{Tables, meant};
@@ -43,6 +42,7 @@ use selector_steps::selector;
 use std::alloc::Global;
 use type_table::TypeId;
 use typed_names::{Blocks, Scope};
+use walk_arms::package_before;
 
 /// What an expression is, and where it stands: the operand that it is by its parts, or that it isn't
 /// typed. The tables only grow.

@@ -3,6 +3,5 @@
 #![tactic(auto)]
 
 mod exprs;
-mod qualifiers;
 
 pub use exprs::{all_exprs, expr};

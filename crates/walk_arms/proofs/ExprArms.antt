@@ -34,7 +34,7 @@ use Rattle.operand_answers.proofs.AnswerLemmas.{there_of}
 use Rattle.operand_answers.proofs.KeptLemmas.{env_kept, gives_kept, keeps_on}
 use Rattle.access_steps.specs.Bounds.{GivesBound}
 use Rattle.access_steps.proofs.BoundLemmas.{bound_kept}
-use Rattle.expr_walk.specs.Answers.{GivesExpr}
+use Rattle.walk_arms.specs.Answers.{GivesExpr}
 
 -- the place in the tables
 abbrev pub at : Tables → List Names → Scope → Env

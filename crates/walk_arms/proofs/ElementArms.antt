@@ -35,10 +35,10 @@ use Rattle.operand_answers.proofs.KeptLemmas.{env_kept, keeps_on, keeps_self}
 use Rattle.composite_steps.specs.declared.elements.ElementList.{ElementList}
 use Rattle.composite_steps.specs.Elements.{AllSameElements, GivesElement, GivesElements, SameElement}
 use Rattle.composite_steps.proofs.ElementLemmas.{elements_on, elements_same}
-use Rattle.expr_walk.specs.Answers.{GivesExpr}
-use Rattle.expr_walk.specs.Elements.{AreElementsWalked}
-use Rattle.expr_walk.proofs.ExprArms.{at}
-use Rattle.expr_walk.proofs.ListArms.{append_none, given_same, map_on, read_on}
+use Rattle.walk_arms.specs.Answers.{GivesExpr}
+use Rattle.walk_arms.specs.Elements.{AreElementsWalked}
+use Rattle.walk_arms.proofs.ExprArms.{at}
+use Rattle.walk_arms.proofs.ListArms.{append_none, given_same, map_on, read_on}
 
 -- an element of a literal whose type has this underlying type
 abbrev pub one : Env → GoType → ValueOption Span → Value Span → Option go.Element

@@ -3,7 +3,7 @@ use Rattle.go_tree.specs.View.{expr_of}
 use Rattle.go_types.specs.Entities.{meaning, package_of}
 use Rattle.go_types.specs.Statements.{package_before}
 use Rattle.typed_names.specs.Scopes.{env_at}
-use Rattle.expr_walk.proofs.qualifiers.package_before.Goals as goal
+use Rattle.walk_arms.proofs.qualifiers.package_before.Goals as goal
 
 pub returns-in-Ident : goal.returns-in-Ident
 returns-in-Ident c =

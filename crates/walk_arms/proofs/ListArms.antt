@@ -25,9 +25,9 @@ use Rattle.operand_answers.specs.Known.{Stands}
 use Rattle.operand_answers.specs.Lists.{AllStandAt, GivesAll}
 use Rattle.operand_answers.specs.Located.{IsLocated, StandsAt}
 use Rattle.operand_answers.proofs.KeptLemmas.{keeps_on, keeps_self, operands_on, operands_same}
-use Rattle.expr_walk.specs.Answers.{GivesExpr}
-use Rattle.expr_walk.specs.Lists.{AreWalked}
-use Rattle.expr_walk.proofs.ExprArms.{at, read_before}
+use Rattle.walk_arms.specs.Answers.{GivesExpr}
+use Rattle.walk_arms.specs.Lists.{AreWalked}
+use Rattle.walk_arms.proofs.ExprArms.{at, read_before}
 
 pub given_same : {A : Type 0} (o : Option (List A)) → o ≡ given o (λ vs. Some ([] ++ vs))
 given_same None = refl

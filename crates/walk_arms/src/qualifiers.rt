@@ -11,7 +11,7 @@ use go_tree::Expr;
 use typed_names::{Blocks, Scope};
 
 /// The number of the package that an expression before a dot names.
-pub(crate) fn package_before(scope: &Scope, blocks: &Blocks, e: &Expr) -> Option<u32>
+pub fn package_before(scope: &Scope, blocks: &Blocks, e: &Expr) -> Option<u32>
     ensures { (types : Environment) (cs : List Const)
         → result ≡ go.package_before (env_at types cs blocks.now scope.now) (expr_of e.now) }
 {

@@ -1,0 +1,3 @@
+pub mod ExprArms
+pub mod ListArms
+pub mod ElementArms
