@@ -1,0 +1,5 @@
+mod SetLemmas
+mod DeclareLemmas
+mod PutLemmas
+mod TableLemmas
+mod Kept
