@@ -1,0 +1,3 @@
+pub mod BareDots
+pub mod Ready
+pub mod Settled

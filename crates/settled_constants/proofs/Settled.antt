@@ -1,0 +1,83 @@
+-- A step over a constant settles its file in a program that is ready, and leaves one that is; so it keeps cycles.
+use Rattle.std.proofs.Common.{◌≡◌, refl, ap, ◌∙◌, inl, true, false, List, Option}
+use Rattle.go_tree.specs.Tree.{Expr}
+use Rattle.go_types.specs.Answers.{meets}
+use Rattle.go_types.specs.WellTyped.{well_typed}
+use Rattle.run_rules.specs.Cycles.{is_recursive}
+use Rattle.run_rules.specs.Programs.{linked}
+use Rattle.run_rules.specs.Run.{Standing, Logged, Next, Run, ends, goes_on, here_of}
+use Rattle.run_rules.specs.Sites.{MarkRef, Inlinable, an_expr, inlinable, is_function, not_function}
+use Rattle.run_rules.specs.Steps.{At}
+use Rattle.run_laws.specs.Reading.{ProgramReads, OnePathEach}
+use Rattle.run_laws.proofs.RunsRead.{steps_keep_reading}
+use Rattle.run_steps.proofs.SeatedUses.{Seated}
+use Rattle.import_uses.specs.Parts as parts
+use Rattle.import_uses.specs.Parts.{IsName}
+use Rattle.standing_uses.proofs.Named.{constant_named}
+use Rattle.ordered_steps.specs.Ranks.{AddsLedTo}
+use Rattle.cycle_runs.specs.Linked.{Linked, SettlesFile}
+use Rattle.cycle_runs.proofs.Runs.{step-linked, one-constant}
+use Rattle.led_imports.specs.Led.{IsSpelled}
+use Rattle.led_imports.proofs.Homes.{home-led}
+use Rattle.led_imports.proofs.Steps.{added-led}
+use Rattle.put_nodes.specs.Put as put
+use Rattle.put_nodes.specs.Put.{BeginsWithName}
+use Rattle.put_names.specs.Uses.{IsUsedByName, UsesConstant}
+use Rattle.put_names.proofs.Settled.{constants_settle}
+use Rattle.scoped_parts.specs.Laws.{WellTypedFilesAreScoped}
+use Rattle.unspread_forms.proofs.StepsUnspread.{step-unspread}
+use Rattle.written_names.specs.NamedPackages.{PackagesAreNamed, PathsAreOctets}
+use Rattle.written_names.proofs.Kept as names
+use Rattle.settled_constants.specs.Programs.{IsReady, StartsWithPackage, IsOverConstant, PutsOtherName, AllOverConstants}
+use Rattle.settled_constants.proofs.Ready.{seated, uses_scoped, uses_undotted, linked_writable}
+
+module _ (marks : List MarkRef) (st : Standing) (l : Logged) (after : Standing) (n : Next marks st l after) where
+  begins : (e : Expr At) → n.found.site.part ≡ an_expr e → IsName n.found.site.place e → StartsWithPackage n → BeginsWithName here_of n.old.tokens e
+  begins _ part (parts.alone s m h) starts = put.alone
+  begins _ part (parts.behind s z q m) starts = put.qualified (starts s z q m part)
+
+  pub uses_named : UsesConstant n → (e : Expr At) → n.found.site.part ≡ an_expr e → StartsWithPackage n → IsUsedByName n
+  uses_named uses e part starts =
+      let its = constant_named st.packages marks n.found.site.at uses.name uses.value n.found.site.place e n.found.site.mark uses.declared ((seated marks st l after n).is_use e part) in
+      record { old = e; part = part; begins = begins e part its.0 starts }
+
+  pub adds_led : Linked st.packages → UsesConstant n → IsSpelled st.packages n.found.site → AddsLedTo st.packages n.found
+  adds_led links uses spelled =
+      added-led marks st l after n links.own links.ordered (home-led marks st l after n (inl (ap (λ (o : Option (Inlinable At)). meets o not_function) uses.declared))) spelled
+
+  no_function : UsesConstant n → meets (inlinable st.packages n.found.site.mark) is_function ≡ false
+  no_function uses = ap (λ (o : Option (Inlinable At)). meets o is_function) uses.declared
+
+  pub constant_settles : WellTypedFilesAreScoped → IsReady st → IsOverConstant n → SettlesFile n
+  constant_settles scoped ready over =
+      constants_settle marks st l after n ready.reads (linked_writable st.packages ready.links ready.named ready.octets)
+      (uses_undotted marks st l after n ready.typed ready.unspread)
+      (uses_scoped marks st l after n scoped ready.reads ready.links.ordered ready.typed)
+      (uses_named over.uses over.old over.part over.starts)
+      (adds_led ready.links over.uses over.spelled)
+      over.few over.removes over.uses
+
+  pub stays_ready : IsReady st → SettlesFile n → well_typed (linked after.packages) ≡ true → IsReady after
+  stays_ready ready settles typed =
+      let read : ProgramReads after × OnePathEach after.packages = steps_keep_reading marks st l after n ready.reads ready.paths in
+      let kept : PackagesAreNamed after.packages × PathsAreOctets after.packages = names.step_keeps marks st l after n ready.named ready.octets in
+      record {
+        reads = read.0;
+        paths = read.1;
+        links = step-linked marks st l after n ready.links settles;
+        named = kept.0;
+        octets = kept.1;
+        typed = typed;
+        unspread = step-unspread marks st l after n ready.unspread;
+      }
+
+  pub step_keeps : WellTypedFilesAreScoped → IsReady st → IsOverConstant n → PutsOtherName n → (m : MarkRef) → is_recursive st.packages marks m ≡ is_recursive after.packages marks m
+  step_keeps scoped ready over puts m =
+      one-constant marks st l after n ready.links (constant_settles scoped ready over) puts.new puts.form_is (no_function over.uses) puts.uses puts.names m
+
+pub run_keeps : WellTypedFilesAreScoped → (marks : List MarkRef) (st last : Standing) (log : List Logged) → IsReady st → (run : Run marks st log last) → AllOverConstants run → (m : MarkRef)
+    → is_recursive st.packages marks m ≡ is_recursive last.packages marks m
+run_keeps scoped marks _ _ _ ready (ends st over) h m = refl
+run_keeps scoped marks _ _ _ ready (goes_on st next last l log n run) h m =
+    step_keeps marks st l next n scoped ready h.0 h.1.0 m
+    ∙ run_keeps scoped marks next last log (stays_ready marks st l next n ready (constant_settles marks st l next n scoped ready h.0) h.1.1.0) run h.1.1.1 m
