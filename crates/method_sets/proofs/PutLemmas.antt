@@ -1,10 +1,10 @@
 -- Sets of methods are put into a table.
-use Rattle.std.proofs.Common.{◌≡◌, ◌∙◌, ◌+◌, ◌++◌, ◌||◌, ℕ, zero, suc, nat_eq, Bool, true, false, List, [], ◌∷◌, Option, Some, None, refl, sym, subst, ap, ap₂, map, length, replicate, is_some, arith, if◌then◌else◌}
+use Rattle.std.proofs.Common.{◌≡◌, ◌∙◌, ◌+◌, ◌++◌, ◌||◌, ◌&&◌, not, ℕ, zero, suc, nat_eq, Bool, true, false, List, [], ◌∷◌, Option, Some, None, Result, Ok, Err, OnOk, OnErr, refl, sym, subst, ap, ap₂, map, length, replicate, is_some, arith, if◌then◌else◌}
 use Rattle.go_types.specs.Table.{TypeNode}
 use Rattle.type_table.specs.declared.nodes.TypeId.{TypeId}
 use Rattle.go_tree.specs.declared.spans.Span.{Span}
 use Rattle.go_tree.specs.File.{Receiver, Func}
-use Rattle.type_relations.specs.Environment.{Environment, IsEnvironment, MethodRow, MethodsWithin, NumbersBelow, has_methods, methods_in, with_methods}
+use Rattle.type_relations.specs.Environment.{Environment, IsEnvironment, MethodRow, MethodsWithin, NumbersBelow, has_methods, is_defined, methods_in, with_methods}
 use Rattle.type_relations.specs.Methods.{found_row, method_row}
 use Rattle.type_relations.specs.declared.methods.Method.{Method}
 use Rattle.type_relations.proofs.GrownLaws.{one_more_set}
@@ -14,6 +14,7 @@ use Rattle.package_blocks.specs.Headers.{header_of}
 use Rattle.method_names.specs.Known.{method_in}
 use Rattle.method_types.specs.Methods.{AreTypedMethods, IsTypedMethod}
 use Rattle.method_types.specs.Steps.{attached_at}
+use Rattle.method_sets.specs.Methods.{OnlyMethods}
 use Rattle.method_sets.specs.Steps.{AllWithin, Sets, put_header, put_headers, put_method, put_row, put_set, put_sets, set_at}
 
 -- ---- methods that are found
@@ -67,54 +68,75 @@ in_none (m ∷ ms) t h = go (nat_eq t m.0) h (in_none ms t)
 sets_kept : (ss : Sets) (t : ℕ) (e : Environment) (k : ℕ) → has_methods e.methods k ≡ true → methods_in (put_sets t ss e).methods k ≡ methods_in e.methods k
 sets_kept [] t e k h = refl
 sets_kept (s ∷ ss) t e k h =
-    go (has_methods e.methods t) (sets_kept ss (suc t) e k h)
+    go (is_defined e.defined t && not (has_methods e.methods t)) (sets_kept ss (suc t) e k h)
     (sets_kept ss (suc t) (with_methods e t s) k (has_last e.methods t s k ∙ ap (λ b. b || nat_eq k t) h)
     ∙ in_first e.methods t s k h)
   where
     go : (b : Bool) → methods_in (put_sets (suc t) ss e).methods k ≡ methods_in e.methods k →
         methods_in (put_sets (suc t) ss (with_methods e t s)).methods k ≡ methods_in e.methods k →
-        methods_in (put_sets (suc t) ss (if b then e else with_methods e t s)).methods k ≡ methods_in e.methods k
-    go true x y = x
-    go false x y = y
+        methods_in (put_sets (suc t) ss (if b then with_methods e t s else e)).methods k ≡ methods_in e.methods k
+    go true x y = y
+    go false x y = x
 
 -- one that had none gets those of its number
 pub sets_put :
-    (ss : Sets) (t : ℕ) (e : Environment) (i k : ℕ) → k ≡ t + i → has_methods e.methods k ≡ false →
+    (ss : Sets) (t : ℕ) (e : Environment) (i k : ℕ) → k ≡ t + i → is_defined e.defined k ≡ true →
+    has_methods e.methods k ≡ false →
     methods_in (put_sets t ss e).methods k ≡ set_at ss i
-sets_put [] t e i k q h = in_none e.methods k h
-sets_put (s ∷ ss) t e zero k q h =
+sets_put [] t e i k q d h = in_none e.methods k h
+sets_put (s ∷ ss) t e zero k q d h =
     let k_t : k ≡ t = omega (arith, q) in
     let no : has_methods e.methods t ≡ false = ap (has_methods e.methods) (sym k_t) ∙ h in
+    let yes : is_defined e.defined t ≡ true = ap (is_defined e.defined) (sym k_t) ∙ d in
     let self : nat_eq t t ≡ true = grind arith in
     ap (λ j. methods_in (put_sets t (s ∷ ss) e).methods j) k_t
-    ∙ ap (λ b. methods_in (put_sets (suc t) ss (if b then e else with_methods e t s)).methods t) no
+    ∙ ap (λ b. methods_in (put_sets (suc t) ss (if b then with_methods e t s else e)).methods t) (ap₂ (λ a b. a && not b) yes no)
     ∙ sets_kept ss (suc t) (with_methods e t s) t (has_last e.methods t s t ∙ ap₂ (λ a b. a || b) no self)
     ∙ in_last e.methods t s no
-sets_put (s ∷ ss) t e (suc i) k q h =
+sets_put (s ∷ ss) t e (suc i) k q d h =
     let next : k ≡ suc t + i = omega (arith, q) in
     let no : nat_eq k t ≡ false = grind (arith, q) in
-    go (has_methods e.methods t) (sets_put ss (suc t) e i k next h)
-    (sets_put ss (suc t) (with_methods e t s) i k next (has_last e.methods t s k ∙ ap₂ (λ a b. a || b) h no))
+    go (is_defined e.defined t && not (has_methods e.methods t)) (sets_put ss (suc t) e i k next d h)
+    (sets_put ss (suc t) (with_methods e t s) i k next d (has_last e.methods t s k ∙ ap₂ (λ a b. a || b) h no))
   where
     go : (b : Bool) → methods_in (put_sets (suc t) ss e).methods k ≡ set_at ss i →
         methods_in (put_sets (suc t) ss (with_methods e t s)).methods k ≡ set_at ss i →
-        methods_in (put_sets (suc t) ss (if b then e else with_methods e t s)).methods k ≡ set_at ss i
-    go true x y = x
-    go false x y = y
+        methods_in (put_sets (suc t) ss (if b then with_methods e t s else e)).methods k ≡ set_at ss i
+    go true x y = y
+    go false x y = x
+
+-- ---- nothing else changes
+
+only_self : (e : Environment) → OnlyMethods e e
+only_self e = record { rows = refl; defined = refl; kept = λ k h. (h, refl) }
+
+only_with : (e : Environment) (t : ℕ) (s : List MethodRow) → OnlyMethods e (with_methods e t s)
+only_with e t s =
+    record {
+      rows = refl;
+      defined = refl;
+      kept = λ k h. (has_last e.methods t s k ∙ ap (λ b. b || nat_eq k t) h, in_first e.methods t s k h);
+    }
+
+pub only_put :
+    {A B : Type 0} (e f : Environment) (t : ℕ) (s : List MethodRow) (r : Result A B) → OnOk r (f ≡ with_methods e t s) →
+    OnErr r (f ≡ e) → OnlyMethods e f
+only_put e f t s (Ok x) a b = subst (OnlyMethods e) (sym a) (only_with e t s)
+only_put e f t s (Err x) a b = subst (OnlyMethods e) (sym b) (only_self e)
 
 -- what is put is well formed
 set_good : (t : ℕ) (s : List MethodRow) (e : Environment) → IsEnvironment e → MethodsWithin e.rows s → IsEnvironment (put_set t s e)
-set_good t s e good h = go (has_methods e.methods t)
+set_good t s e good h = go (is_defined e.defined t && not (has_methods e.methods t))
   where
-    go : (b : Bool) → IsEnvironment (if b then e else with_methods e t s)
-    go true = good
-    go false =
+    go : (b : Bool) → IsEnvironment (if b then with_methods e t s else e)
+    go false = good
+    go true =
         record { table = good.table; defined = good.defined; methods = one_more_set e.rows e.methods t s good.methods h }
 
 set_rows : (t : ℕ) (s : List MethodRow) (e : Environment) → (put_set t s e).rows ≡ e.rows
-set_rows t s e = go (has_methods e.methods t)
+set_rows t s e = go (is_defined e.defined t && not (has_methods e.methods t))
   where
-    go : (b : Bool) → (if b then e else with_methods e t s).rows ≡ e.rows
+    go : (b : Bool) → (if b then with_methods e t s else e).rows ≡ e.rows
     go true = refl
     go false = refl
 

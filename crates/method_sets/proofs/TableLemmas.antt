@@ -52,7 +52,7 @@ module _ (e : Environment) (good : IsEnvironment e) (cs : List PackageHeader) (t
         let from_zero : t ≡ 0 + t = omega arith in
         let in_f : methods_by f.methods t (definition_in f.defined t) ≡ set_at put t =
         by_definition f t (definition_in f.defined t) (ap (λ ds. is_some (definition_in ds t)) only.defined ∙ defined)
-        ∙ ap (λ x. methods_in x.methods t) is ∙ sets_put put 0 e t t from_zero none in
+        ∙ ap (λ x. methods_in x.methods t) is ∙ sets_put put 0 e t t from_zero defined none in
         sym (method_shown f f_good t within m (found_row m (set_at put t)) (ap (found_row m) (sym in_f)))
         ∙ ap (λ rows. shown_method rows (found_row m (set_at put t))) only.rows
         ∙ all_found g e good grown w files ts (map listed_of cs) hs are cs refl 0 ts a refl ms d empty (none_count (length e.rows)) t p n m t_in t_is

@@ -5,14 +5,18 @@ use Rattle.go_types.specs.Types.{named_type}
 use Rattle.go_types.specs.Entities.{World}
 use Rattle.go_types.specs.Programs.{Headed}
 use Rattle.go_types.specs.MethodDeclarations.{methods_from}
-use Rattle.type_relations.specs.Environment.{Environment, env_type, has_methods, is_defined}
+use Rattle.type_relations.specs.Environment.{Environment, env_type, has_methods, is_defined, methods_in}
 use Rattle.type_relations.specs.Methods.{declared_method}
 use Rattle.method_headers.specs.Laws.{find_declared}
 
--- nothing but methods is declared: the types and what they are defined as stay
+-- nothing but methods is declared: the types and what they are defined as stay, and so do the methods of types that
+-- have some
 pub record OnlyMethods (old new : Environment) : Type 0 where
   pub rows : new.rows ≡ old.rows
   pub defined : new.defined ≡ old.defined
+  pub kept :
+      (t : ℕ) → has_methods old.methods t ≡ true →
+      (has_methods new.methods t ≡ true) × (methods_in new.methods t ≡ methods_in old.methods t)
 
 -- a defined type that had no methods has by each name the method that is declared on it
 abbrev pub HasDeclared : Environment → Environment → World → List (Headed Span) → Type 0

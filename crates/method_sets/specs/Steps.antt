@@ -1,9 +1,9 @@
 -- The steps in which the methods that headers declare come into the table (Go specification, Method declarations).
-use Rattle.std.specs.Prelude.{ℕ, zero, suc, List, [], ◌∷◌, ◌++◌, Option, Some, is_some, if◌then◌else◌}
+use Rattle.std.specs.Prelude.{ℕ, zero, suc, not, ◌&&◌, List, [], ◌∷◌, ◌++◌, Option, Some, is_some, if◌then◌else◌}
 use Rattle.go_tree.specs.declared.spans.Span.{Span}
 use Rattle.go_tree.specs.File.{Receiver, Func}
 use Rattle.go_types.specs.Table.{TypeNode}
-use Rattle.type_relations.specs.Environment.{Environment, MethodRow, MethodsWithin, has_methods, with_methods}
+use Rattle.type_relations.specs.Environment.{Environment, MethodRow, MethodsWithin, has_methods, is_defined, with_methods}
 use Rattle.type_relations.specs.Methods.{found_row, method_row}
 use Rattle.type_relations.specs.declared.methods.Method.{Method}
 use Rattle.type_table.specs.declared.nodes.TypeId.{TypeId}
@@ -48,9 +48,9 @@ abbrev pub AllWithin : List TypeNode → Sets → Type 0
 AllWithin rows [] = Unit {0}
 AllWithin rows (s ∷ ss) = MethodsWithin rows s × AllWithin rows ss
 
--- the methods of a type are put into the table, unless it has some there
+-- the methods of a defined type are put into the table, unless it has some there
 abbrev pub put_set : ℕ → List MethodRow → Environment → Environment
-put_set t s e = if has_methods e.methods t then e else with_methods e t s
+put_set t s e = if is_defined e.defined t && not (has_methods e.methods t) then with_methods e t s else e
 
 -- so are those of types, counted on
 abbrev pub put_sets : ℕ → Sets → Environment → Environment

@@ -24,21 +24,21 @@ use std::alloc::Global;
 use type_relations::{Env, Method, MethodSet};
 use type_table::TypeId;
 
-/// Puts the methods of a type into the table, unless it has methods there.
+/// Puts the methods of a defined type into the table, unless it has methods there.
 fn put_set(types: &mut Env, t: TypeId, set: MethodSet) -> Result<(), NoMemory>
     requires within { MethodsWithin types.old.rows set }
     ensures only { OnlyMethods types.old types.new }
     ensures put { OnOk result (types.new ≡ put_set t.0 set types.old) }
 {
-    if types.has_methods(t) {
+    if types.is_defined(t) && !types.has_methods(t) {
+        types.add_methods(t, set)
+    } else {
         drop(set);
         Ok(())
-    } else {
-        types.add_methods(t, set)
     }
 }
 
-/// Puts the methods of all types into the table.
+/// Puts the methods of all defined types into the table.
 fn put_sets(types: &mut Env, sets: Vec<MethodSet>) -> Result<(), NoMemory>
     requires within { AllWithin types.old.rows sets.items }
     requires count { length sets.items ≡ length types.old.rows }
@@ -55,10 +55,11 @@ fn put_sets(types: &mut Env, sets: Vec<MethodSet>) -> Result<(), NoMemory>
     Ok(())
 }
 
-/// Puts the methods that headers declare into the table of types, which has none of these types yet:
-/// `methods` are what `method_types` answers, `attached` what `attached_types` does. Of a defined type the
-/// table then finds by each name exactly the first method that is declared on it with this name. All else
-/// in the table stays. The error is want of memory.
+/// Puts the methods that headers declare into the table of types: `methods` are what `method_types`
+/// answers, `attached` what `attached_types` does. Of a defined type that had no methods the table then
+/// finds by each name exactly the first method that is declared on it with this name; a type that has
+/// methods keeps them, and all else in the table stays. The error is want of memory (Go specification,
+/// Method declarations; Method sets).
 pub fn declare_methods(
     alloc: Global,
     types: &mut Env,
