@@ -10,7 +10,6 @@ use Rattle.run_rules.specs.Sites.{MarkRef, Inlinable, an_expr, inlinable, is_fun
 use Rattle.run_rules.specs.Steps.{At}
 use Rattle.run_laws.specs.Reading.{ProgramReads, OnePathEach}
 use Rattle.run_laws.proofs.RunsRead.{steps_keep_reading}
-use Rattle.run_steps.proofs.SeatedUses.{Seated}
 use Rattle.import_uses.specs.Parts as parts
 use Rattle.import_uses.specs.Parts.{IsName}
 use Rattle.standing_uses.proofs.Named.{constant_named}

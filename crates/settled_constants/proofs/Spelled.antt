@@ -3,7 +3,7 @@ use Rattle.std.proofs.Common.{◌≡◌, refl, sym, ap, subst, ◌∙◌, ℕ, z
 use Rattle.std.specs.Prelude.{bytes_eq, slice_get, if◌then◌else◌}
 use Rattle.std.proofs.lemmas.Option.{same_Some}
 use Rattle.std.proofs.lemmas.Slice.Eq.{bytes_eq-Decides}
-use Rattle.go_tree.specs.Tree.{NameAt, TypeExpr, Expr, ident, selector, Exprs, no_exprs, expr_and, const_decl, var_decl, empty, eval, step, assign, define, return_, break_, continue_, inner, if_, for_, range_, switch, defer, label, ValueSpecs, no_specs, spec}
+use Rattle.go_tree.specs.Tree.{NameAt, TypeExpr, Expr, Exprs, no_exprs, expr_and, const_decl, var_decl, empty, eval, step, assign, define, return_, break_, continue_, inner, if_, for_, range_, switch, defer, label, ValueSpecs, no_specs, spec}
 use Rattle.go_tree.specs.File.{ImportSpec, TypeSpec, Receiver, Decl, values, types, func}
 use Rattle.scope_names.specs.FreeNames.{names_of}
 use Rattle.scope_names.specs.Identifiers.{identifiers, imports_identifiers, expr_identifiers, exprs_identifiers, specs_identifiers, type_identifiers, type_option_identifiers, type_specs_identifiers, receiver_identifiers, sig_identifiers, stmts_identifiers, decl_identifiers, decls_identifiers}
@@ -18,7 +18,7 @@ use Rattle.form_imports.specs.Written.{NoneUnnamed}
 use Rattle.run_rules.specs.Naming.{unnamed_package}
 use Rattle.run_rules.specs.Respanned.{expr_with, exprs_with, specs_with, name_with, type_spec_with, type_option_with, decl_with, decls_with, file_with, func_with}
 use Rattle.run_rules.specs.Run.{Standing, Logged, Next, here_of}
-use Rattle.run_rules.specs.Sites.{MarkRef, Where, Inlinable, a_constant, an_alias, aliased, Part, an_expr, constant_in_spec, less, nth_constant, inlinable_in, where_is, inlinable, mark_of, imported_by, not_function, outer, import_number, qualifier, member_of, marked_as, expr_mark}
+use Rattle.run_rules.specs.Sites.{MarkRef, Where, Inlinable, a_constant, an_alias, aliased, an_expr, constant_in_spec, less, nth_constant, inlinable_in, where_is, inlinable, mark_of, imported_by, not_function, outer, import_number, qualifier, member_of, marked_as, expr_mark}
 use Rattle.run_rules.specs.Steps.{At}
 use Rattle.run_rules.specs.Surroundings.{Place, is_local}
 use Rattle.run_laws.specs.Reading.{FileReads, FileAt, ProgramReads}

@@ -21,8 +21,8 @@ use Rattle.run_rules.specs.FormTrees.{as_expr}
 use Rattle.unspread_forms.specs.UnspreadForms.{UnspreadPackages}
 use Rattle.written_names.specs.NamedPackages.{PackagesAreNamed, PathsAreOctets}
 
--- Its files read from their texts, each under a path of its own; its packages are linked, with identifiers for their names and octets for their paths;
--- it is well typed; and no call hands on a slice for its last arguments.
+-- Its files read from their texts, each under a path of its own; its packages are linked, with identifiers for their
+-- names and octets for their paths; it is well typed; and no call hands on a slice for its last arguments.
 pub record IsReady (st : Standing) : Type 0 where
   pub reads : ProgramReads st
   pub paths : OnePathEach st.packages
