@@ -1,3 +1,4 @@
 pub mod BareDots
 pub mod Ready
 pub mod Settled
+pub mod Spelled

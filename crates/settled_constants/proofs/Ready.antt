@@ -1,13 +1,12 @@
 -- What a well-typed program gives of the file of a use, and of its packages.
-use Rattle.std.proofs.Common.{◌≡◌, refl, sym, ap, subst, ℕ, zero, suc, true, List, [], ◌∷◌, ◌++◌, map, Option, Some, None}
+use Rattle.std.proofs.Common.{◌≡◌, refl, sym, subst, ℕ, zero, suc, true, List, [], ◌∷◌, ◌++◌, map, Some}
 use Rattle.std.specs.Prelude.{slice_get}
 use Rattle.std.proofs.lemmas.Option.{same_Some}
-use Rattle.go_tree.specs.declared.spans.Span.{Span}
 use Rattle.go_tree.specs.File.{Decl}
 use Rattle.go_tree.specs.FileBare.{bare_decl, bare_file}
 use Rattle.cycle_laws.proofs.BareWith as spans
 use Rattle.pkg_graph.specs.Package.{SourceTree, Package}
-use Rattle.go_types.specs.Programs.{SourceFile, Program}
+use Rattle.go_types.specs.Programs.{Program}
 use Rattle.go_types.specs.WellTyped.{well_typed}
 use Rattle.run_rules.specs.Laws.{file_found}
 use Rattle.run_rules.specs.Programs.{in_dependency_order, linked_file, linked_package, linked_packages, linked}

@@ -10,14 +10,12 @@ use Rattle.run_rules.specs.Sites.{MarkRef, Inlinable, an_expr, inlinable, is_fun
 use Rattle.run_rules.specs.Steps.{At}
 use Rattle.run_laws.specs.Reading.{ProgramReads, OnePathEach}
 use Rattle.run_laws.proofs.RunsRead.{steps_keep_reading}
-use Rattle.run_steps.proofs.SeatedUses.{Seated}
 use Rattle.import_uses.specs.Parts as parts
 use Rattle.import_uses.specs.Parts.{IsName}
 use Rattle.standing_uses.proofs.Named.{constant_named}
 use Rattle.ordered_steps.specs.Ranks.{AddsLedTo}
 use Rattle.cycle_runs.specs.Linked.{Linked, SettlesFile}
 use Rattle.cycle_runs.proofs.Runs.{step-linked, one-constant}
-use Rattle.led_imports.specs.Led.{IsSpelled}
 use Rattle.led_imports.proofs.Homes.{home-led}
 use Rattle.led_imports.proofs.Steps.{added-led}
 use Rattle.put_nodes.specs.Put as put
@@ -30,6 +28,7 @@ use Rattle.written_names.specs.NamedPackages.{PackagesAreNamed, PathsAreOctets}
 use Rattle.written_names.proofs.Kept as names
 use Rattle.settled_constants.specs.Programs.{IsReady, StartsWithPackage, IsOverConstant, PutsOtherName, AllOverConstants}
 use Rattle.settled_constants.proofs.Ready.{seated, uses_scoped, uses_undotted, linked_writable}
+use Rattle.settled_constants.proofs.Spelled.{uses_spelled}
 
 module _ (marks : List MarkRef) (st : Standing) (l : Logged) (after : Standing) (n : Next marks st l after) where
   begins : (e : Expr At) → n.found.site.part ≡ an_expr e → IsName n.found.site.place e → StartsWithPackage n → BeginsWithName here_of n.old.tokens e
@@ -41,9 +40,9 @@ module _ (marks : List MarkRef) (st : Standing) (l : Logged) (after : Standing) 
       let its = constant_named st.packages marks n.found.site.at uses.name uses.value n.found.site.place e n.found.site.mark uses.declared ((seated marks st l after n).is_use e part) in
       record { old = e; part = part; begins = begins e part its.0 starts }
 
-  pub adds_led : Linked st.packages → UsesConstant n → IsSpelled st.packages n.found.site → AddsLedTo st.packages n.found
-  adds_led links uses spelled =
-      added-led marks st l after n links.own links.ordered (home-led marks st l after n (inl (ap (λ (o : Option (Inlinable At)). meets o not_function) uses.declared))) spelled
+  pub adds_led : ProgramReads st → PackagesAreNamed st.packages → Linked st.packages → UsesConstant n → (e : Expr At) → n.found.site.part ≡ an_expr e → AddsLedTo st.packages n.found
+  adds_led reads named links uses e part =
+      added-led marks st l after n links.own links.ordered (home-led marks st l after n (inl (ap (λ (o : Option (Inlinable At)). meets o not_function) uses.declared))) (uses_spelled marks st l after n reads named uses e part)
 
   no_function : UsesConstant n → meets (inlinable st.packages n.found.site.mark) is_function ≡ false
   no_function uses = ap (λ (o : Option (Inlinable At)). meets o is_function) uses.declared
@@ -54,7 +53,7 @@ module _ (marks : List MarkRef) (st : Standing) (l : Logged) (after : Standing) 
       (uses_undotted marks st l after n ready.typed ready.unspread)
       (uses_scoped marks st l after n scoped ready.reads ready.links.ordered ready.typed)
       (uses_named over.uses over.old over.part over.starts)
-      (adds_led ready.links over.uses over.spelled)
+      (adds_led ready.reads ready.named ready.links over.uses over.old over.part)
       over.few over.removes over.uses
 
   pub stays_ready : IsReady st → SettlesFile n → well_typed (linked after.packages) ≡ true → IsReady after

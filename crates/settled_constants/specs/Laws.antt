@@ -49,11 +49,19 @@ ConstantUsesAreNames =
     (marks : List MarkRef) (st : Standing) (l : Logged) (after : Standing) (n : Next marks st l after) → UsesConstant n
     → (e : Expr At) → n.found.site.part ≡ an_expr e → StartsWithPackage n → IsUsedByName n
 
--- The imports that a step over a constant adds are of packages that are led to.
+-- No identifier of it, or of the constant, holds the byte 0, where files read from their texts.
+abbrev pub ConstantUsesAreSpelled : Type 0
+ConstantUsesAreSpelled =
+    (marks : List MarkRef) (st : Standing) (l : Logged) (after : Standing) (n : Next marks st l after) → ProgramReads st
+    → PackagesAreNamed st.packages → UsesConstant n → (e : Expr At) → n.found.site.part ≡ an_expr e
+    → IsSpelled st.packages n.found.site
+
+-- So the imports that the step adds are of packages that are led to.
 abbrev pub ConstantsAddLed : Type 0
 ConstantsAddLed =
-    (marks : List MarkRef) (st : Standing) (l : Logged) (after : Standing) (n : Next marks st l after)
-    → Linked st.packages → UsesConstant n → IsSpelled st.packages n.found.site → AddsLedTo st.packages n.found
+    (marks : List MarkRef) (st : Standing) (l : Logged) (after : Standing) (n : Next marks st l after) → ProgramReads st
+    → PackagesAreNamed st.packages → Linked st.packages → UsesConstant n → (e : Expr At)
+    → n.found.site.part ≡ an_expr e → AddsLedTo st.packages n.found
 
 -- So a step over a constant settles its file in a program that is ready.
 abbrev pub ConstantsSettle : Type 0

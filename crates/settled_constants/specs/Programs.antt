@@ -16,14 +16,13 @@ use Rattle.import_cycles.specs.ImportSteps.{packages_added}
 use Rattle.step_cycles.specs.Steps.{UsesAtEnds}
 use Rattle.constant_cycles.specs.Laws.{NamesFor}
 use Rattle.kept_imports.specs.Files.{RemovesNoNames}
-use Rattle.led_imports.specs.Led.{IsSpelled}
 use Rattle.put_names.specs.Uses.{UsesConstant}
 use Rattle.run_rules.specs.FormTrees.{as_expr}
 use Rattle.unspread_forms.specs.UnspreadForms.{UnspreadPackages}
 use Rattle.written_names.specs.NamedPackages.{PackagesAreNamed, PathsAreOctets}
 
--- Its files read from their texts, each under a path of its own; its packages are linked, with identifiers for their names and octets for their paths;
--- it is well typed; and no call hands on a slice for its last arguments.
+-- Its files read from their texts, each under a path of its own; its packages are linked, with identifiers for their
+-- names and octets for their paths; it is well typed; and no call hands on a slice for its last arguments.
 pub record IsReady (st : Standing) : Type 0 where
   pub reads : ProgramReads st
   pub paths : OnePathEach st.packages
@@ -41,14 +40,13 @@ StartsWithPackage n =
     → StartsName (here_of s).start n.old.tokens
 
 -- The step is over an expression that uses a constant which is declared as a name. The names to avoid are fewer than
--- 2^64, no import that goes has the name of an identifier, and no identifier of the use or of the constant holds the byte 0.
+-- 2^64, and no import that goes has the name of an identifier.
 pub record IsOverConstant {marks : List MarkRef} {st : Standing} {l : Logged} {after : Standing}
     (n : Next marks st l after) : Type 0 where
   pub uses : UsesConstant n
   pub old : Expr At
   pub part : n.found.site.part ≡ an_expr old
   pub starts : StartsWithPackage n
-  pub spelled : IsSpelled st.packages n.found.site
   pub few : FewNames st.packages n.found
   pub removes : RemovesNoNames n
 

@@ -1,8 +1,8 @@
 //! Laws of steps over constants.
 
-ghost use Rattle.settled_constants.specs.Laws.{ConstantRunsKeepCycles, ConstantUsesAreNames, ConstantsAddLed};
-ghost use Rattle.settled_constants.specs.Laws.{ConstantsKeepCycles, ConstantsSettle, FilesOfUsesAreUndotted};
-ghost use Rattle.settled_constants.specs.Laws.{LinkedPackagesAreWritable, StepsStayReady, UsesAreScoped};
+ghost use Rattle.settled_constants.specs.Laws.{ConstantRunsKeepCycles, ConstantUsesAreNames};
+ghost use Rattle.settled_constants.specs.Laws.{ConstantUsesAreSpelled, ConstantsAddLed, ConstantsKeepCycles, ConstantsSettle};
+ghost use Rattle.settled_constants.specs.Laws.{FilesOfUsesAreUndotted, LinkedPackagesAreWritable, StepsStayReady, UsesAreScoped};
 
 use scoped_parts::well_typed_files_are_scoped;
 
@@ -17,10 +17,11 @@ pub fn programs_are_ready()
     well_typed_files_are_scoped();
 }
 
-/// A use of a constant is a name, and the imports that its form adds are of packages that are led to; so in such a
-/// program a step over a constant that is declared as a name settles its file.
+/// A use of a constant is a name, none of whose identifiers holds the byte 0, so the imports that its form adds are of
+/// packages that are led to; so in such a program a step over a constant that is declared as a name settles its file.
 pub fn constants_settle()
     ensures names { ConstantUsesAreNames }
+    ensures spelled { ConstantUsesAreSpelled }
     ensures led { ConstantsAddLed }
     ensures settle { ConstantsSettle }
 {
