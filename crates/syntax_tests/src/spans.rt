@@ -1,7 +1,9 @@
 //! Spans of declarations, types and fields, counted by hand.
 
 use crate::files::read;
-use go_syntax::{Decl, FileTree, ImportDecl, Span, TypeExpr};
+use go_syntax::{
+    Decl, Expr, FileTree, FuncDecl, ImportDecl, Rest, Span, Stmt, TypeExpr, copy_stmt,
+};
 use std::process::Abort;
 use std::test::Fail;
 
@@ -59,4 +61,55 @@ fn file_is_right<R: Abort + AllocGlobal>(rt: &R, file: &FileTree) -> Result<(), 
 fn imports_and_types(rt: HostRuntime) -> Result<(), Fail> {
     let file = read(rt.alloc(), FILE)?;
     file_is_right(&rt, &file)
+}
+
+// Its lines begin at the bytes 0, 10, 11, 46 and 47.
+const VARIADIC: &[u8] = b"package p\n\nfunc f(a int, xs ...T) { g(a...) }\n\nfunc g(...T) {}\n";
+
+fn parameters_are_right<R: Abort + AllocGlobal>(
+    rt: &R,
+    f: &FuncDecl,
+    g: &FuncDecl,
+) -> Result<(), Fail> {
+    let [a, xs] = f.sig.params.items() else {
+        return Err(Fail::new("other than two parameters"));
+    };
+    assert!(rt; !a.rest && xs.rest);
+    assert_eq!(rt; xs.span, span(25, 32));
+    let [unnamed] = g.sig.params.items() else {
+        return Err(Fail::new("other than one parameter"));
+    };
+    assert!(rt; unnamed.rest);
+    assert_eq!(rt; unnamed.span, span(54, 58));
+    Ok(())
+}
+
+fn call_is_right<R: Abort + AllocGlobal>(rt: &R, stmt: &Stmt) -> Result<(), Fail> {
+    let Stmt::Eval { e, .. } = stmt else {
+        return Err(Fail::new("no expression"));
+    };
+    let Expr::Call { span: at, rest, .. } = e else {
+        return Err(Fail::new("no call"));
+    };
+    assert_eq!(rt; *at, span(36, 43));
+    assert_eq!(rt; *rest, Rest::Whole);
+    Ok(())
+}
+
+fn variadic_is_right<R: Abort + AllocGlobal>(rt: &R, decls: &[Decl]) -> Result<(), Fail> {
+    let [Decl::Func(f), Decl::Func(g)] = decls else {
+        return Err(Fail::new("other than two functions"));
+    };
+    parameters_are_right(rt, f, g)?;
+    let [stmt] = f.body.stmts.items() else {
+        return Err(Fail::new("other than one statement"));
+    };
+    let copy = Box::new(rt.alloc(), copy_stmt(rt.alloc(), stmt)?)?;
+    call_is_right(rt, &copy)
+}
+
+#[test]
+fn variadic_parameters_and_calls(rt: HostRuntime) -> Result<(), Fail> {
+    let file = read(rt.alloc(), VARIADIC)?;
+    variadic_is_right(&rt, file.decls.items())
 }

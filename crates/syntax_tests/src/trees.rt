@@ -41,6 +41,15 @@ fn is_deep<R: Abort + AllocGlobal>(rt: &R, text: &[u8], want: u32) -> Result<(),
     only_value(rt, &file, want)
 }
 
+/// The literal of a function with this statement, called, is so much deeper than the statement: call, literal and
+/// block.
+const AROUND: u32 = 3;
+
+fn holds<R: Abort + AllocGlobal>(rt: &R, stmt: &[u8], want: u32) -> Result<(), Fail> {
+    let text = joined(rt.alloc(), b"func() { ", stmt, b" }()")?;
+    is_deep(rt, &text, AROUND.saturating_add(want))
+}
+
 #[test]
 fn types_and_expressions(rt: HostRuntime) -> Result<(), Fail> {
     let texts: [(&[u8], u32); 13] = [
@@ -60,6 +69,34 @@ fn types_and_expressions(rt: HostRuntime) -> Result<(), Fail> {
     ];
     for (text, want) in texts {
         is_deep(&rt, text, want)?;
+    }
+    Ok(())
+}
+
+#[test]
+fn statements(rt: HostRuntime) -> Result<(), Fail> {
+    let texts: [(&[u8], u32); 18] = [
+        (b"const a p.T = 1", 4),
+        (b"var a p.T = 1", 4),
+        (b";", 1),
+        (b"x", 2),
+        (b"x.n++", 3),
+        (b"x = f()", 3),
+        (b"i := 0", 2),
+        (b"return f()", 3),
+        (b"break L", 2),
+        (b"{ x }", 3),
+        (b"if i := 0; x { { x } } else { continue }", 6),
+        (b"for i := 0; x; x.n++ { break L }", 4),
+        (b"for range x { continue }", 3),
+        (b"for i := range x { continue }", 3),
+        (b"for f().n = range x { continue }", 4),
+        (b"switch i := 0; x { case 1: { x } }", 5),
+        (b"defer f()", 3),
+        (b"L: { x }", 4),
+    ];
+    for (text, want) in texts {
+        holds(&rt, text, want)?;
     }
     Ok(())
 }
