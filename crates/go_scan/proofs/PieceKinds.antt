@@ -99,7 +99,7 @@ among_first : (b : Bool) (test : List ℕ → Bool) (x w : List ℕ) (others : B
 among_first true test x w others e t rest h = subst (λ (ys : List ℕ). test ys ≡ true) (sym (bytes_same w x e)) t
 among_first false test x w others e t rest h = rest h
 
-among_passes : (test : List ℕ → Bool) (list : List (List ℕ)) (w : List ℕ) → list_all test list ≡ true → is_among list w ≡ true → test w ≡ true
+pub among_passes : (test : List ℕ → Bool) (list : List (List ℕ)) (w : List ℕ) → list_all test list ≡ true → is_among list w ≡ true → test w ≡ true
 among_passes test [] w all h = absurd cc
 among_passes test (x ∷ xs) w all h =
     let p = and_parts (test x) (list_all test xs) all in

@@ -20,7 +20,7 @@ contrary b p q = absurd cc
 
 -- ---- runs of characters that pass
 
-run_each : (p : ℕ → Bool) (text : List ℕ) → each p (take (prefix_len p text) text) ≡ true
+pub run_each : (p : ℕ → Bool) (text : List ℕ) → each p (take (prefix_len p text) text) ≡ true
 run_each p [] = refl
 run_each p (c ∷ cs) = by_first (p c) refl (run_each p cs)
   where

@@ -71,10 +71,10 @@ module _ (ps : List (Package At)) (w : Where At) where
 
 -- ---- needed names
 
-new_alike : {S T : Type 0} (f : File S) (g : File T) (avoid other : List (List ℕ)) → identifiers f ≡ identifiers g → avoid ≡ other → (name : List ℕ) → is_new f avoid name ≡ is_new g other name
+pub new_alike : {S T : Type 0} (f : File S) (g : File T) (avoid other : List (List ℕ)) → identifiers f ≡ identifiers g → avoid ≡ other → (name : List ℕ) → is_new f avoid name ≡ is_new g other name
 new_alike f g avoid other e d name = λ v. not (is_among (e v) name) && (not (is_among (d v) name) && (not (is_among keyword_spellings name) && (not (is_among predeclared name) && not (bytes_eq name (codes "init")))))
 
-fresh_alike : {S T : Type 0} (base : List ℕ) (f : File S) (g : File T) (avoid other name : List (List ℕ)) (n : List ℕ) → identifiers f ≡ identifiers g → avoid ≡ other → IsFresh base f avoid n → IsFresh base g other n
+pub fresh_alike : {S T : Type 0} (base : List ℕ) (f : File S) (g : File T) (avoid other name : List (List ℕ)) (n : List ℕ) → identifiers f ≡ identifiers g → avoid ≡ other → IsFresh base f avoid n → IsFresh base g other n
 fresh_alike base f g avoid other name n e d h =
     record {
       number = h.number;

@@ -84,7 +84,7 @@ pieces_real (p ∷ ps) text at due cut h =
     kind_real p.kind p.word at due (tokens_from (at + size_of p.word) (due_after at due p.kind p.word) ps) parts.0 cut.1.spelled
     (pieces_real ps cut.0 (at + size_of p.word) (due_after at due p.kind p.word) cut.2 parts.1)
 
-unmarked_scalars : (cs : List ℕ) → all_scalars cs ≡ true → all_scalars (after_mark cs) ≡ true
+pub unmarked_scalars : (cs : List ℕ) → all_scalars cs ≡ true → all_scalars (after_mark cs) ≡ true
 unmarked_scalars [] h = h
 unmarked_scalars (c ∷ cs) h = by_mark (c == byte_order_mark)
   where

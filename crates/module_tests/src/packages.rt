@@ -59,21 +59,92 @@ fn paths_in_order(alloc: Global, home: &Module, files: Vec<SourceTree>) -> Resul
     Ok(paths)
 }
 
-#[test]
-fn packages_in_order(rt: HostRuntime) -> Result<(), Fail> {
-    let alloc = rt.alloc();
+/// A file by its path, the name of its package and the paths that it imports.
+type Row<'a> = (&'a str, &'a str, &'a [&'a str]);
+
+/// The paths of the packages of the module `m` in their order, each with a blank behind it.
+fn order_of(alloc: Global, rows: &[Row]) -> Result<Vec<u8>, Fail> {
     let home = Module {
-        path: text(alloc, "example.com/m")?,
+        path: text(alloc, "m")?,
     };
     let mut files = Vec::new(alloc);
-    files.push(file(alloc, "cmd/main.go", "main", &["example.com/m/a"])?)?;
-    files.push(file(alloc, "lib.go", "lib", &[])?)?;
-    files.push(file(alloc, "a/x.go", "a", &["example.com/m"])?)?;
-    let want = ["example.com/m", "example.com/m/a", "example.com/m/cmd"];
-    let paths = paths_in_order(alloc, &home, files)?;
-    assert!(rt; paths.len() == want.len());
-    for (path, name) in paths.iter().zip(want.iter()) {
-        assert!(rt; path.items() == name.as_bytes(), "at {name}");
+    for (path, name, imports) in rows {
+        files.push(file(alloc, *path, *name, *imports)?)?;
+    }
+    let mut words = Vec::new(alloc);
+    for path in paths_in_order(alloc, &home, files)? {
+        words.extend_from_slice(path.items())?;
+        words.push(b' ')?;
+    }
+    Ok(words)
+}
+
+#[test]
+fn packages_in_order(rt: HostRuntime) -> Result<(), Fail> {
+    let cases: &[(&str, &[Row], &str)] = &[
+        (
+            "a package behind those that it imports",
+            &[
+                ("cmd/main.go", "main", &["m/a"]),
+                ("lib.go", "lib", &[]),
+                ("a/x.go", "a", &["m"]),
+            ],
+            "m m/a m/cmd ",
+        ),
+        (
+            "a package before its importers",
+            &[
+                ("a/x.go", "a", &["m/b"]),
+                ("b/x.go", "b", &[]),
+                ("main.go", "main", &["m/a"]),
+            ],
+            "m/b m/a m ",
+        ),
+        (
+            "the least path and not the first seen",
+            &[
+                ("z.go", "main", &[]),
+                ("c/x.go", "c", &[]),
+                ("b/x.go", "b", &[]),
+                ("b/y.go", "b", &[]),
+            ],
+            "m m/b m/c ",
+        ),
+        (
+            "one import twice",
+            &[
+                ("a/x.go", "a", &[]),
+                ("b/x.go", "b", &["m/a", "m/a"]),
+                ("b/y.go", "b", &["m/a"]),
+            ],
+            "m/a m/b ",
+        ),
+        (
+            "one path twice",
+            &[("a/x.go", "a", &[]), ("a/x.go", "a", &[])],
+            "m/a ",
+        ),
+        ("no files", &[], ""),
+        (
+            "an internal element at the root",
+            &[
+                ("internal/a/x.go", "a", &[]),
+                ("b/x.go", "b", &["m/internal/a"]),
+            ],
+            "m/internal/a m/b ",
+        ),
+        (
+            "internal twice from below both",
+            &[
+                ("a/internal/b/internal/c/x.go", "c", &[]),
+                ("a/internal/b/d/x.go", "d", &["m/a/internal/b/internal/c"]),
+            ],
+            "m/a/internal/b/internal/c m/a/internal/b/d ",
+        ),
+    ];
+    for (name, rows, want) in cases {
+        let words = order_of(rt.alloc(), *rows)?;
+        assert!(rt; words.as_slice() == want.as_bytes(), "at {name}");
     }
     Ok(())
 }

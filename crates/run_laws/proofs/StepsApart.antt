@@ -15,7 +15,7 @@ use Rattle.run_laws.proofs.SeenSpans.{decl_in}
 use Rattle.run_laws.proofs.FilesStand.{AllDecls, file_laid, decls_behind}
 use Rattle.run_laws.proofs.FoundSpans.{Placed, FoundIn, found_in}
 
-one_decl : {A : Type 0} (to : A → Span) (P : Span → Type 0) (ds : List (Decl A)) (i : ℕ) (d : Decl A) → AllDecls P (map (decl_with to) ds) → slice_get ds i ≡ Some d → AllDecl P (decl_with to d)
+pub one_decl : {A : Type 0} (to : A → Span) (P : Span → Type 0) (ds : List (Decl A)) (i : ℕ) (d : Decl A) → AllDecls P (map (decl_with to) ds) → slice_get ds i ≡ Some d → AllDecl P (decl_with to d)
 one_decl to P [] i d h e = absurd cc
 one_decl to P (x ∷ ds) zero d h e = subst (λ y. AllDecl P (decl_with to y)) (same_Some x d e) h.0
 one_decl to P (x ∷ ds) (suc i) d h e = one_decl to P ds i d h.1 e

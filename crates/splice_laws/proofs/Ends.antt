@@ -60,7 +60,7 @@ follows_same (token Rune) w c more others h = h
 follows_same (token Str) w c more others h = h
 follows_same (token Inserted) w c more others h = h
 
-each_on : (p : ℕ → Bool) (cs : List ℕ) (d : ℕ) → each p cs ≡ true → p d ≡ true → each p (cs ++ d ∷ []) ≡ true
+pub each_on : (p : ℕ → Bool) (cs : List ℕ) (d : ℕ) → each p cs ≡ true → p d ≡ true → each p (cs ++ d ∷ []) ≡ true
 each_on p [] d h q = and_true (p d) true q refl
 each_on p (c ∷ cs) d h q = let x = and_parts (p c) (each p cs) h in and_true (p c) (each p (cs ++ d ∷ [])) x.0 (each_on p cs d x.1 q)
 

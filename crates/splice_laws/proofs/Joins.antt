@@ -321,7 +321,7 @@ one_apart k w at place next piece scalars e h = by_kind (is_inserted k) refl h
     by_kind true q x = absurd (no_inserted k q piece)
     by_kind false q x = by_end (nat_eq (at + size_of w) place) (same_place (at + size_of w) place e) x
 
-scalars_parts : (xs ys : List ℕ) → all_scalars (xs ++ ys) ≡ true → (all_scalars xs ≡ true) × (all_scalars ys ≡ true)
+pub scalars_parts : (xs ys : List ℕ) → all_scalars (xs ++ ys) ≡ true → (all_scalars xs ≡ true) × (all_scalars ys ≡ true)
 scalars_parts [] ys h = (refl, h)
 scalars_parts (c ∷ xs) ys h =
     let p = and_parts (lib.Utf8.scalar c) (all_scalars (xs ++ ys)) h in

@@ -111,7 +111,7 @@ dot_is : (w : List ℕ) → begins_with_dot w ≡ true → (more : List ℕ) × 
 dot_is [] d = absurd cc
 dot_is (c ∷ cs) d = (cs, ap (λ (n : ℕ). n ∷ cs) (same_number c 46 d))
 
-dot_letter : (cs : List ℕ) → begins_with_dot (encode_utf8_all cs) ≡ true → begins_with_dot cs ≡ true
+pub dot_letter : (cs : List ℕ) → begins_with_dot (encode_utf8_all cs) ≡ true → begins_with_dot cs ≡ true
 dot_letter [] d = d
 dot_letter (c ∷ cs) d =
     let x = dot_is (encode_utf8_all (c ∷ cs)) d in

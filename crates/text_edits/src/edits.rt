@@ -73,6 +73,13 @@ impl Edits {
         self.items.push(e)?;
         Ok(())
     }
+
+    /// The edits in the order of their places.
+    pub fn items(&self) -> &[Edit]
+        ensures { result.now ≡ self.now }
+    {
+        &self.items
+    }
 }
 
 /// The text with each span replaced. Linear in the text and the edits.
