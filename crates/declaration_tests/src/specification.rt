@@ -1,8 +1,10 @@
 //! Examples of the Go specification's sections Underlying types, Struct types and Map types.
 
 use crate::headers::{Settled, settle};
-use crate::written::{Shape, spec};
+use crate::written::{Row, Shape, specs_of};
 use const_eval::Kind;
+use go_tree::NoMemory;
+use std::alloc::Global;
 use std::test::Fail;
 use type_table::{TypeId, TypeNode};
 use typed_names::Entity;
@@ -54,61 +56,87 @@ fn meaning_of(of: &Settled, name: &[u8]) -> Meant {
     }
 }
 
+fn word_of(meant: Meant) -> &'static [u8] {
+    match meant {
+        Meant::Text => b"string ".as_slice(),
+        Meant::Texts => b"[]string ".as_slice(),
+        Meant::AnotherType => b"another ".as_slice(),
+        Meant::Refused => b"refused ".as_slice(),
+        Meant::Nothing => b"nothing ".as_slice(),
+    }
+}
+
+fn digit(number: usize) -> u8 {
+    b'0' + (number % 10) as u8
+}
+
+/// What each row declares, in a word, and behind them the number of the first header that is refused.
+fn words_of(alloc: Global, all: &Settled, rows: &[Row]) -> Result<Vec<u8>, NoMemory> {
+    let mut words = Vec::new(alloc);
+    for row in rows {
+        words.extend_from_slice(word_of(meaning_of(all, row.name)))?;
+    }
+    if let Some(number) = all.first {
+        words.push(digit(number))?;
+    }
+    Ok(words)
+}
+
+/// The same of the specs that are written.
+fn declared(alloc: Global, rows: &[Row]) -> Result<Vec<u8>, NoMemory> {
+    let specs = specs_of(alloc, rows)?;
+    let all = Box::new(alloc, settle(alloc, &specs)?)?;
+    words_of(alloc, &all, rows)
+}
+
+// `A2`, `A1`, `B1` and `B2` have the underlying type `string`; `B3` and `B4` have `[]B1`.
 #[test]
 fn underlying_types_as_the_specification_says(rt: HostRuntime) -> Result<(), Fail> {
-    let alloc = rt.alloc();
-    let mut specs = Vec::new(alloc);
-    specs.push(spec(alloc, b"B4", false, Shape::Itself, b"B3")?)?;
-    specs.push(spec(alloc, b"B3", false, Shape::Slice, b"B1")?)?;
-    specs.push(spec(alloc, b"B2", false, Shape::Itself, b"B1")?)?;
-    specs.push(spec(alloc, b"B1", false, Shape::Itself, b"string")?)?;
-    specs.push(spec(alloc, b"A2", true, Shape::Itself, b"A1")?)?;
-    specs.push(spec(alloc, b"A1", true, Shape::Itself, b"string")?)?;
-    let all = settle(alloc, &specs)?;
-    assert!(rt; meaning_of(&all, b"A1") == Meant::Text);
-    assert!(rt; meaning_of(&all, b"A2") == Meant::Text);
-    assert!(rt; meaning_of(&all, b"B1") == Meant::Text);
-    assert!(rt; meaning_of(&all, b"B2") == Meant::Text);
-    assert!(rt; meaning_of(&all, b"B3") == Meant::Texts);
-    assert!(rt; meaning_of(&all, b"B4") == Meant::Texts);
-    assert!(rt; all.first.is_none());
+    let words = declared(
+        rt.alloc(),
+        &[
+            Row::of(b"B4", Shape::Itself, b"B3"),
+            Row::of(b"B3", Shape::Slice, b"B1"),
+            Row::of(b"B2", Shape::Itself, b"B1"),
+            Row::of(b"B1", Shape::Itself, b"string"),
+            Row::alias(b"A2", Shape::Itself, b"A1"),
+            Row::alias(b"A1", Shape::Itself, b"string"),
+        ],
+    )?;
+    assert!(rt; words.as_slice() == b"[]string []string string string string string ".as_slice());
     Ok(())
 }
 
+// A struct that holds itself, or another one that holds it; through a pointer it may.
 #[test]
 fn types_that_hold_themselves_are_refused(rt: HostRuntime) -> Result<(), Fail> {
-    let alloc = rt.alloc();
-    let mut specs = Vec::new(alloc);
-    specs.push(spec(alloc, b"T5", false, Shape::PointerField, b"T5")?)?;
-    specs.push(spec(alloc, b"T3", false, Shape::Field, b"T4")?)?;
-    specs.push(spec(alloc, b"T4", false, Shape::Field, b"T3")?)?;
-    specs.push(spec(alloc, b"T1", false, Shape::Field, b"T1")?)?;
-    specs.push(spec(alloc, b"P", true, Shape::PointerField, b"T1")?)?;
-    let all = settle(alloc, &specs)?;
-    assert!(rt; meaning_of(&all, b"T5") == Meant::AnotherType);
-    assert!(rt; meaning_of(&all, b"T3") == Meant::Refused);
-    assert!(rt; meaning_of(&all, b"T4") == Meant::Refused);
-    assert!(rt; meaning_of(&all, b"T1") == Meant::Refused);
-    assert!(rt; meaning_of(&all, b"P") == Meant::Refused);
-    assert!(rt; all.first == Some(1));
+    let words = declared(
+        rt.alloc(),
+        &[
+            Row::of(b"List", Shape::PointerField, b"List"),
+            Row::of(b"Left", Shape::Field, b"Right"),
+            Row::of(b"Right", Shape::Field, b"Left"),
+            Row::of(b"Endless", Shape::Field, b"Endless"),
+            Row::alias(b"P", Shape::PointerField, b"Endless"),
+        ],
+    )?;
+    assert!(rt; words.as_slice() == b"another refused refused refused refused 1".as_slice());
     Ok(())
 }
 
+// A slice is no key, `float64` isn't declared, and an alias doesn't lead back to itself.
 #[test]
 fn keys_are_comparable_and_names_are_declared(rt: HostRuntime) -> Result<(), Fail> {
-    let alloc = rt.alloc();
-    let mut specs = Vec::new(alloc);
-    specs.push(spec(alloc, b"K", false, Shape::Map, b"string")?)?;
-    specs.push(spec(alloc, b"S", false, Shape::Slice, b"string")?)?;
-    specs.push(spec(alloc, b"M", false, Shape::Map, b"S")?)?;
-    specs.push(spec(alloc, b"V", false, Shape::Slice, b"float64")?)?;
-    specs.push(spec(alloc, b"C", true, Shape::Itself, b"C")?)?;
-    let all = settle(alloc, &specs)?;
-    assert!(rt; meaning_of(&all, b"K") == Meant::AnotherType);
-    assert!(rt; meaning_of(&all, b"S") == Meant::Texts);
-    assert!(rt; meaning_of(&all, b"M") == Meant::Refused);
-    assert!(rt; meaning_of(&all, b"V") == Meant::Refused);
-    assert!(rt; meaning_of(&all, b"C") == Meant::Refused);
-    assert!(rt; all.first == Some(2));
+    let words = declared(
+        rt.alloc(),
+        &[
+            Row::of(b"K", Shape::Map, b"string"),
+            Row::of(b"S", Shape::Slice, b"string"),
+            Row::of(b"M", Shape::Map, b"S"),
+            Row::of(b"V", Shape::Slice, b"float64"),
+            Row::alias(b"C", Shape::Itself, b"C"),
+        ],
+    )?;
+    assert!(rt; words.as_slice() == b"another []string refused refused refused 2".as_slice());
     Ok(())
 }

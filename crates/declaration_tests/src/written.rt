@@ -21,6 +21,37 @@ pub(crate) enum Shape {
     PointerField,
 }
 
+/// A spec `name of`, or `name = of` for an alias, where the type is made of the type that `text` names.
+#[derive(Clone, Copy)]
+pub(crate) struct Row<'a> {
+    pub(crate) name: &'a [u8],
+    alias: bool,
+    shape: Shape,
+    text: &'a [u8],
+}
+
+impl<'a> Row<'a> {
+    /// A defined type.
+    pub(crate) fn of(name: &'a [u8], shape: Shape, text: &'a [u8]) -> Row<'a> {
+        Row {
+            name,
+            alias: false,
+            shape,
+            text,
+        }
+    }
+
+    /// An alias.
+    pub(crate) fn alias(name: &'a [u8], shape: Shape, text: &'a [u8]) -> Row<'a> {
+        Row {
+            name,
+            alias: true,
+            shape,
+            text,
+        }
+    }
+}
+
 fn name_at(alloc: Global, text: &[u8]) -> Result<NameAt, NoMemory> {
     Ok(NameAt {
         span: NOWHERE,
@@ -41,62 +72,65 @@ fn boxed(alloc: Global, text: &[u8]) -> Result<Box<TypeExpr>, NoMemory> {
     Ok(Box::new(alloc, named(alloc, text)?)?)
 }
 
-fn struct_of(alloc: Global, name: NameAt, of: TypeExpr) -> Result<TypeExpr, NoMemory> {
-    let mut items = Vec::new(alloc);
+fn struct_of(alloc: Global, of: Box<TypeExpr>) -> Result<Box<TypeExpr>, NoMemory> {
+    let name = name_at(alloc, b"f")?;
+    let mut items = Vec::with_capacity(alloc, 1)?;
     items.push(FieldSpec {
         span: NOWHERE,
         name,
-        of,
+        of: Box::into_inner(of),
     })?;
-    Ok(TypeExpr::Struct {
-        span: NOWHERE,
-        fields: FieldSpecList::of(items),
-    })
+    Ok(Box::new(
+        alloc,
+        TypeExpr::Struct {
+            span: NOWHERE,
+            fields: FieldSpecList::of(items),
+        },
+    )?)
 }
 
-fn written(alloc: Global, shape: Shape, text: &[u8]) -> Result<TypeExpr, NoMemory> {
+fn written(alloc: Global, shape: Shape, text: &[u8]) -> Result<Box<TypeExpr>, NoMemory> {
+    let of = boxed(alloc, text)?;
     match shape {
-        Shape::Itself => named(alloc, text),
-        Shape::Slice => {
-            let of = boxed(alloc, text)?;
-            Ok(TypeExpr::Slice { span: NOWHERE, of })
-        }
+        Shape::Itself => Ok(of),
+        Shape::Slice => Ok(Box::new(alloc, TypeExpr::Slice { span: NOWHERE, of })?),
         Shape::Map => {
             let key = boxed(alloc, text)?;
-            let of = boxed(alloc, text)?;
-            Ok(TypeExpr::Map {
-                span: NOWHERE,
-                key,
-                of,
-            })
+            Ok(Box::new(
+                alloc,
+                TypeExpr::Map {
+                    span: NOWHERE,
+                    key,
+                    of,
+                },
+            )?)
         }
-        Shape::Field => {
-            let name = name_at(alloc, b"f")?;
-            let of = named(alloc, text)?;
-            struct_of(alloc, name, of)
-        }
+        Shape::Field => struct_of(alloc, of),
         Shape::PointerField => {
-            let name = name_at(alloc, b"f")?;
-            let to = boxed(alloc, text)?;
-            struct_of(alloc, name, TypeExpr::Pointer { span: NOWHERE, to })
+            let pointer = Box::new(
+                alloc,
+                TypeExpr::Pointer {
+                    span: NOWHERE,
+                    to: of,
+                },
+            )?;
+            struct_of(alloc, pointer)
         }
     }
 }
 
-/// `name of`, or `name = of` for an alias.
-pub(crate) fn spec(
-    alloc: Global,
-    name: &[u8],
-    alias: bool,
-    shape: Shape,
-    text: &[u8],
-) -> Result<TypeSpec, NoMemory> {
-    let name = name_at(alloc, name)?;
-    let of = written(alloc, shape, text)?;
-    Ok(TypeSpec {
-        span: NOWHERE,
-        name,
-        alias,
-        of,
-    })
+/// The specs of rows.
+pub(crate) fn specs_of(alloc: Global, rows: &[Row]) -> Result<Vec<TypeSpec>, NoMemory> {
+    let mut specs = Vec::with_capacity(alloc, rows.len())?;
+    for row in rows {
+        let name = name_at(alloc, row.name)?;
+        let of = written(alloc, row.shape, row.text)?;
+        specs.push(TypeSpec {
+            span: NOWHERE,
+            name,
+            alias: row.alias,
+            of: Box::into_inner(of),
+        })?;
+    }
+    Ok(specs)
 }

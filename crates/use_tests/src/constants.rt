@@ -1,40 +1,17 @@
 //! What constants are declared as, and which uses a later member of a group repeats.
 
-ghost use Rattle.std.specs.Prelude.{◌<◌, ◌^◌, All, length};
+ghost use Rattle.std.specs.Prelude.{All};
 
+use crate::files::{Tabled, tabled};
 use constant_forms::ConstantValue;
-use go_parse::read_file;
-use go_tree::{FileTree, MAX_FILE_BYTES, Name, Span, Text};
 use mark_values::DeclaredValues;
 use member_uses::FileScopes;
 use possible_uses::decl_parts;
 use repeated_parts::repeated_parts;
 use repeated_uses::{FlaggedUse, repeated_uses};
-use scope_names::{Entity, FileNames, ImportList, ImportName, NameList};
-use scope_tables::{Scopes, scopes};
+use scope_names::Entity;
 use std::alloc::Global;
 use std::test::Fail;
-
-/// More names than any file here has, and more constants than any declaration.
-const MANY: usize = 100;
-
-fn name_list(alloc: Global, words: &str) -> Result<NameList, Fail> {
-    let mut names = Vec::new(alloc);
-    for word in words.split(' ') {
-        names.push(Name::of(word.as_bytes().to_vec(alloc)?))?;
-    }
-    Ok(NameList::of(names))
-}
-
-fn one_import(alloc: Global, name: &str, path: &str) -> Result<ImportList, Fail> {
-    let mut list = Vec::new(alloc);
-    list.push(ImportName {
-        name: Name::of(name.as_bytes().to_vec(alloc)?),
-        path: Text::of(path.as_bytes().to_vec(alloc)?),
-        spec: Span { start: 0, end: 0 },
-    })?;
-    Ok(ImportList::of(list))
-}
 
 /// What a name means: a member of the package, a predeclared name, or anything else.
 fn meaning_word(meaning: Option<Entity>) -> &'static [u8] {
@@ -75,20 +52,20 @@ fn put_uses(uses: &[FlaggedUse], words: &mut Vec<u8>) -> Result<(), Fail> {
 }
 
 /// The first two constants of each declaration, and then the uses in all of them.
-fn words_of(alloc: Global, file: &FileTree, table: &Scopes) -> Result<Vec<u8>, Fail> {
+fn words_of(alloc: Global, file: &Tabled) -> Result<Vec<u8>, Fail> {
     let imports = [3];
     let names = FileScopes {
-        scopes: table,
+        scopes: &file.scopes,
         home: 7,
         imports: &imports,
     };
     let mut words = Vec::new(alloc);
-    for decl in file.decls.items() {
+    for decl in file.source.tree.decls.items() {
         let values = DeclaredValues::of(alloc, &names, decl)?;
         put_value(values.get(0), &mut words)?;
         put_value(values.get(1), &mut words)?;
     }
-    for decl in file.decls.items() {
+    for decl in file.source.tree.decls.items() {
         let parts = decl_parts(alloc, decl)?;
         let flags = repeated_parts(alloc, decl)?;
         let uses = repeated_uses(alloc, &names, &parts, &flags)?;
@@ -97,34 +74,11 @@ fn words_of(alloc: Global, file: &FileTree, table: &Scopes) -> Result<Vec<u8>, F
     Ok(words)
 }
 
-fn found_in(alloc: Global, file: &FileTree, names: &FileNames) -> Result<Vec<u8>, Fail>
-    requires imports { length names.now.imports < 2 ^ 32 }
-    requires members { length names.now.package < 2 ^ 32 }
-{
-    let table = scopes(alloc, file, names)?;
-    words_of(alloc, file, &table)
-}
-
 fn tells(alloc: Global, text: &str, members: &str, words: &str) -> Result<bool, Fail> {
-    let names = FileNames {
-        imports: one_import(alloc, "q", "m/q")?,
-        package: name_list(alloc, members)?,
-    };
-    if names.imports.items().len() > MANY || names.package.items().len() > MANY {
-        return Err(Fail::new("too many names"));
-    }
-    let text = text.as_bytes();
-    if text.len() > MAX_FILE_BYTES as usize {
-        return Err(Fail::new("a text that is too long"));
-    }
-    match read_file(alloc, text) {
-        Ok(source) => {
-            let found = found_in(alloc, &source.tree, &names)?;
-            drop(source);
-            Ok(found.as_slice() == words.as_bytes())
-        }
-        Err(_) => Err(Fail::new("a text without a tree")),
-    }
+    let file = tabled(alloc, text, members)?;
+    let found = words_of(alloc, &file);
+    drop(file);
+    Ok(found?.as_slice() == words.as_bytes())
 }
 
 // A constant is declared as a name of an import, of its package, or a predeclared one; one without an expression of its

@@ -1,9 +1,7 @@
 //! The parts of declarations that may be uses of a marked declaration.
 
-ghost use Rattle.std.specs.Prelude.{◌≤◌, length};
-
-use go_parse::read_file;
-use go_tree::{Expr, FileTree, MAX_FILE_BYTES, Span, TypeExpr};
+use crate::files::source;
+use go_tree::{Expr, FileTree, Span, TypeExpr};
 use possible_uses::{PartRef, decl_parts};
 use std::alloc::Global;
 use std::test::Fail;
@@ -45,18 +43,10 @@ fn words_of(alloc: Global, text: &[u8], file: &FileTree) -> Result<Vec<u8>, Fail
 }
 
 fn lists(alloc: Global, text: &str, words: &str) -> Result<bool, Fail> {
-    let text = text.as_bytes();
-    if text.len() > MAX_FILE_BYTES as usize {
-        return Err(Fail::new("a text that is too long"));
-    }
-    match read_file(alloc, text) {
-        Ok(source) => {
-            let found = words_of(alloc, text, &source.tree)?;
-            drop(source);
-            Ok(found.as_slice() == words.as_bytes())
-        }
-        Err(_) => Err(Fail::new("a text without a tree")),
-    }
+    let source = source(alloc, text)?;
+    let found = words_of(alloc, text.as_bytes(), &source.tree);
+    drop(source);
+    Ok(found?.as_slice() == words.as_bytes())
 }
 
 // In the order of their ends: names before what they stand in, calls behind their arguments, types where they are

@@ -1,5 +1,0 @@
-//! Tests of the imports that steps leave unused.
-#![tactic(auto)]
-
-#[cfg(test)]
-mod left;
