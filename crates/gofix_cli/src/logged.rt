@@ -104,6 +104,37 @@ struct Ending {
     out: Vec<u8>,
 }
 
+impl Ending {
+    fn is(&self, number: u8, digits: u64, main: &str, out: &str) -> bool {
+        self.number == number
+            && self.digits == digits
+            && self.main.as_slice() == main.as_bytes()
+            && self.out.as_slice() == out.as_bytes()
+    }
+}
+
+/// The files of a module and one that isn't read, in a tree whose calls with these numbers fail.
+fn module(alloc: Global, main: &str, fails: Vec<u64>) -> Result<Box<MemTree>, Fail> {
+    let files = vec![in alloc;
+        file(alloc, "go.mod", "module example.com/m\n\ngo 1.22\n")?,
+        file(alloc, "main.go", main)?,
+        file(alloc, "main_test.go", "no Go")?,
+    ]?;
+    if !MemTree::distinct(&files) || files.len() > 3 {
+        return Err(Fail::new("three paths"));
+    }
+    Ok(Box::new(alloc, MemTree::new(alloc, files, 4096, fails)?)?)
+}
+
+/// The bytes of `main.go`.
+fn main_in(alloc: Global, tree: &mut MemTree) -> Result<Vec<u8>, Fail> {
+    tree.list(alloc)?;
+    if tree.count() != 3 {
+        return Err(Fail::new("three files"));
+    }
+    Ok(tree.bytes(1).to_vec(alloc)?)
+}
+
 /// How a run with `--fix` over `go.mod`, this `main.go` and a file that isn't read ends, where the calls of the tree and of
 /// the sink with these numbers fail.
 fn run(
@@ -113,36 +144,30 @@ fn run(
     sink_fails: Vec<u64>,
 ) -> Result<Ending, Fail> {
     let words = vec![in alloc; String::from_str(alloc, "--fix")?]?;
-    let files = vec![in alloc;
-        file(alloc, "go.mod", "module example.com/m\n\ngo 1.22\n")?,
-        file(alloc, "main.go", main)?,
-        file(alloc, "main_test.go", "no Go")?,
-    ]?;
-    if !MemTree::distinct(&files) || files.len() > 3 {
-        return Err(Fail::new("three paths"));
-    }
+    let tree = module(alloc, main, tree_fails)?;
+    let sink = Box::new(alloc, MemSink::new(alloc, 4096, 4096, sink_fails)?)?;
     let log = Log {
         digits: Cell::new(0),
     };
     let mut tree = LoggedTree {
-        tree: MemTree::new(alloc, files, 4096, tree_fails)?,
+        tree: Box::into_inner(tree),
         log: &log,
     };
     let mut out = LoggedSink {
-        sink: MemSink::new(alloc, 4096, 4096, sink_fails)?,
+        sink: Box::into_inner(sink),
         log: &log,
     };
     let number = gofix(alloc, &words, &mut tree, &mut out).number();
     let digits = log.digits.get();
-    tree.tree.list(alloc)?;
-    if tree.tree.count() != 3 {
-        return Err(Fail::new("three files"));
-    }
+    let main = main_in(alloc, &mut tree.tree);
+    drop(tree);
+    let written = out.sink.bytes().to_vec(alloc);
+    drop(out);
     Ok(Ending {
         number,
         digits,
-        main: tree.tree.bytes(1).to_vec(alloc)?,
-        out: out.sink.bytes().to_vec(alloc)?,
+        main: main?,
+        out: written?,
     })
 }
 
@@ -156,14 +181,31 @@ const INLINED: &str =
 fn lists_once_reads_each_file_once_and_writes_last(rt: HostRuntime) -> Result<(), Fail> {
     let alloc = rt.alloc();
     let done = run(alloc, MARKED, Vec::new(alloc), Vec::new(alloc))?;
-    assert_eq!(rt; done.number, 0);
-    assert_eq!(rt; done.digits, 12359);
-    assert_eq!(rt; done.main.as_slice(), INLINED.as_bytes());
-    assert_eq!(rt;
-        done.out.as_slice(),
-        b"main.go:9:10: inlined example.com/m.A as const\n".as_slice()
-    );
+    let line = "main.go:9:10: inlined example.com/m.A as const\n";
+    assert!(rt; done.is(0, 12359, INLINED, line));
     Ok(())
+}
+
+/// The calls before the last of the sink, which writes a line in some pieces; none where something else was last.
+fn before_writes(digits: u64) -> Option<u64> {
+    if digits % 10 != 9 {
+        return None;
+    }
+    let mut rest = digits;
+    for _ in 0..8 {
+        if rest % 10 == 9 {
+            rest /= 10;
+        }
+    }
+    Some(rest)
+}
+
+/// Whether a run ends with this line, the file as it was, and these calls before the line is written, where the call of
+/// the tree with this number fails.
+fn fails_at(alloc: Global, call: u64, calls: u64, line: &str) -> Result<bool, Fail> {
+    let fails = vec![in alloc; call]?;
+    let ending = run(alloc, MARKED, fails, Vec::new(alloc))?;
+    Ok(before_writes(ending.digits) == Some(calls) && ending.is(1, ending.digits, MARKED, line))
 }
 
 #[test]
@@ -175,21 +217,10 @@ fn calls_nothing_of_the_tree_after_a_fault(rt: HostRuntime) -> Result<(), Fail> 
         (2, 123, "gofix: can't read main.go\n"),
         (3, 1235, "gofix: can't replace main.go\n"),
     ];
-    for (call, wanted, line) in answers {
-        let fails = vec![in alloc; call]?;
-        let ending = run(alloc, MARKED, fails, Vec::new(alloc))?;
-        assert_eq!(rt; ending.number, 1);
-        assert_eq!(rt; ending.main.as_slice(), MARKED.as_bytes());
-        assert_eq!(rt; ending.out.as_slice(), line.as_bytes());
-        let mut digits = ending.digits;
-        assert_eq!(rt; digits % 10, 9);
-        // The line is written in some pieces.
-        for _ in 0..8 {
-            if digits % 10 == 9 {
-                digits /= 10;
-            }
+    for (call, calls, line) in answers {
+        if !fails_at(alloc, call, calls, line)? {
+            return Err(Fail::new(line));
         }
-        assert_eq!(rt; digits, wanted);
     }
     Ok(())
 }
@@ -199,9 +230,6 @@ fn replaces_files_though_the_report_fails(rt: HostRuntime) -> Result<(), Fail> {
     let alloc = rt.alloc();
     let fails = vec![in alloc; 0u64]?;
     let ending = run(alloc, MARKED, Vec::new(alloc), fails)?;
-    assert_eq!(rt; ending.number, 1);
-    assert_eq!(rt; ending.digits, 12359);
-    assert_eq!(rt; ending.main.as_slice(), INLINED.as_bytes());
-    assert_eq!(rt; ending.out.as_slice(), b"".as_slice());
+    assert!(rt; ending.is(1, 12359, INLINED, ""));
     Ok(())
 }

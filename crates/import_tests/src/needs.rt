@@ -2,13 +2,12 @@
 
 ghost use Rattle.std.specs.Prelude.{◌<◌, ◌^◌, length};
 
-use go_parse::read_file;
+use crate::files::source;
 use go_tree::{FileTree, MAX_FILE_BYTES, Name, Span, Text};
 use import_edit::{Needed, need};
 use scope_names::{FileNames, ImportList, ImportName, NameList};
 use scope_tables::scopes;
 use std::alloc::Global;
-use std::process::Abort;
 use std::test::Fail;
 
 /// More imports, or names of a package block, than any file here has.
@@ -81,37 +80,42 @@ fn needed_in(
 }
 
 fn needed(alloc: Global, case: &Case) -> Result<Needed, Fail> {
-    let names = FileNames {
-        imports: import_list(alloc, case.imports)?,
-        package: name_list(alloc, case.members)?,
-    };
+    let names = Box::new(
+        alloc,
+        FileNames {
+            imports: import_list(alloc, case.imports)?,
+            package: name_list(alloc, case.members)?,
+        },
+    )?;
     if names.imports.items().len() > MANY || names.package.items().len() > MANY {
         return Err(Fail::new("too many names"));
     }
     let text = format!(in alloc; "{}{}", case.before, case.behind)?;
     let at = case.before.len();
-    if text.as_bytes().len() > MAX_FILE_BYTES as usize || at > MAX_FILE_BYTES as usize {
+    if at > MAX_FILE_BYTES as usize {
         return Err(Fail::new("a text that is too long"));
     }
-    match read_file(alloc, text.as_bytes()) {
-        Ok(source) => {
-            let needed = needed_in(alloc, &source.tree, &names, at as u32, case);
-            drop(source);
-            needed
-        }
-        Err(_) => Err(Fail::new("a text without a tree")),
-    }
+    let source = source(alloc, text.as_bytes())?;
+    let needed = needed_in(alloc, &source.tree, &names, at as u32, case);
+    drop(source);
+    needed
 }
 
-fn compare<R: Abort + AllocGlobal>(rt: &R, cases: &[Case]) -> Result<(), Fail> {
+/// Whether the name of the package at the place is the one of the case.
+fn is_named(alloc: Global, case: &Case) -> Result<bool, Fail> {
+    let mut words = case.name.split(' ');
+    let (Some(name), added) = (words.next(), words.next().is_some()) else {
+        return Err(Fail::new("a case without a name"));
+    };
+    let needed = needed(alloc, case)?;
+    Ok(needed.name.items() == name.as_bytes() && needed.added == added)
+}
+
+fn compare(alloc: Global, cases: &[Case]) -> Result<(), Fail> {
     for case in cases {
-        let needed = needed(rt.alloc(), case)?;
-        let mut words = case.name.split(' ');
-        let (Some(name), added) = (words.next(), words.next().is_some()) else {
-            return Err(Fail::new("a case without a name"));
-        };
-        let same = needed.name.items() == name.as_bytes() && needed.added == added;
-        assert!(rt; same, "{} in {}", case.name, case.before);
+        if !is_named(alloc, case)? {
+            return Err(Fail::new(case.before));
+        }
     }
     Ok(())
 }
@@ -120,7 +124,7 @@ fn compare<R: Abort + AllocGlobal>(rt: &R, cases: &[Case]) -> Result<(), Fail> {
 #[test]
 fn names_of_wrappers(rt: HostRuntime) -> Result<(), Fail> {
     compare(
-        &rt,
+        rt.alloc(),
         &[
             Case {
                 before: "package main\n\nimport \"example.com/m/old\"\n\nfunc main() {\n\tx := 3\n\tprintln(",
@@ -148,7 +152,7 @@ fn names_of_wrappers(rt: HostRuntime) -> Result<(), Fail> {
 #[test]
 fn names_of_imports(rt: HostRuntime) -> Result<(), Fail> {
     compare(
-        &rt,
+        rt.alloc(),
         &[
             Case {
                 before: "package p\n\nimport \"m/pow\"\n\nfunc h() {\n\tpow := 1\n\t_ = pow\n}\n\nfunc f() {\n\t",
@@ -212,7 +216,7 @@ fn names_of_imports(rt: HostRuntime) -> Result<(), Fail> {
 #[test]
 fn names_that_are_new(rt: HostRuntime) -> Result<(), Fail> {
     compare(
-        &rt,
+        rt.alloc(),
         &[
             Case {
                 before: "package pow\n\nfunc f() {\n\t",

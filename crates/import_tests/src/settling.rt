@@ -4,11 +4,11 @@ ghost use Rattle.std.specs.Prelude.{◌≤◌, length};
 ghost use Rattle.go_tree.specs.FileView.{file_of};
 ghost use Rattle.go_parse.specs.Sources.{IsSource};
 
-use go_parse::{Source, read_file};
+use crate::files::source;
+use go_parse::Source;
 use go_tree::{FileTree, MAX_FILE_BYTES, Name, Span, Text};
 use import_edit::{NewImport, settle, settle_scanned};
 use std::alloc::Global;
-use std::process::Abort;
 use std::test::Fail;
 use text_edits::apply;
 
@@ -107,20 +107,17 @@ fn settles(alloc: Global, before: &str, come: &str, go: &str, after: &str) -> Re
     if text.len() > MAX_FILE_BYTES as usize {
         return Err(Fail::new("a text that is too long"));
     }
-    match read_file(alloc, text) {
-        Ok(source) => {
-            let same = settles_both(alloc, text, &source, come, go, after.as_bytes());
-            drop(source);
-            same
-        }
-        Err(_) => Err(Fail::new("a text without a tree")),
-    }
+    let source = source(alloc, text)?;
+    let same = settles_both(alloc, text, &source, come, go, after.as_bytes());
+    drop(source);
+    same
 }
 
-fn compare<R: Abort + AllocGlobal>(rt: &R, cases: &[Case]) -> Result<(), Fail> {
+fn compare(alloc: Global, cases: &[Case]) -> Result<(), Fail> {
     for (before, come, go, after) in cases {
-        let same = settles(rt.alloc(), *before, *come, *go, *after)?;
-        assert!(rt; same, "after {before}");
+        if !settles(alloc, *before, *come, *go, *after)? {
+            return Err(Fail::new(*before));
+        }
     }
     Ok(())
 }
@@ -129,7 +126,7 @@ fn compare<R: Abort + AllocGlobal>(rt: &R, cases: &[Case]) -> Result<(), Fail> {
 #[test]
 fn imports_of_wrappers(rt: HostRuntime) -> Result<(), Fail> {
     compare(
-        &rt,
+        rt.alloc(),
         &[
             (
                 "package main\n\nimport \"example.com/m/old\"\n\nfunc main() {\n\tx := 3\n\tprintln(old.Square(x))\n}\n",
@@ -156,7 +153,7 @@ fn imports_of_wrappers(rt: HostRuntime) -> Result<(), Fail> {
 #[test]
 fn imports_that_come(rt: HostRuntime) -> Result<(), Fail> {
     compare(
-        &rt,
+        rt.alloc(),
         &[
             // Before the first of several declarations.
             (
@@ -211,7 +208,7 @@ fn imports_that_come(rt: HostRuntime) -> Result<(), Fail> {
 #[test]
 fn imports_that_go(rt: HostRuntime) -> Result<(), Fail> {
     compare(
-        &rt,
+        rt.alloc(),
         &[
             // A group as a whole, one with a comment, and one that isn't empty afterwards.
             (
@@ -271,7 +268,7 @@ fn imports_that_go(rt: HostRuntime) -> Result<(), Fail> {
 #[test]
 fn imports_that_come_and_go(rt: HostRuntime) -> Result<(), Fail> {
     compare(
-        &rt,
+        rt.alloc(),
         &[
             // A group that takes one stays.
             (
