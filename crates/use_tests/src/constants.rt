@@ -2,7 +2,7 @@
 
 ghost use Rattle.std.specs.Prelude.{All};
 
-use crate::files::{Tabled, tabled};
+use crate::files::{Tabled, read_tabled};
 use constant_forms::ConstantValue;
 use mark_values::DeclaredValues;
 use member_uses::FileScopes;
@@ -75,7 +75,7 @@ fn words_of(alloc: Global, file: &Tabled) -> Result<Vec<u8>, Fail> {
 }
 
 fn tells(alloc: Global, text: &str, members: &str, words: &str) -> Result<bool, Fail> {
-    let file = tabled(alloc, text, members)?;
+    let file = read_tabled(alloc, text, members)?;
     let found = words_of(alloc, &file);
     drop(file);
     Ok(found?.as_slice() == words.as_bytes())

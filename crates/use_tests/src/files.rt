@@ -58,7 +58,7 @@ pub(crate) fn source(alloc: Global, text: &str) -> Result<Box<Source>, Fail> {
 }
 
 /// A file that begins with `package p`, an empty line and `import "m/q"`.
-pub(crate) fn tabled(alloc: Global, text: &str, members: &str) -> Result<Tabled, Fail> {
+pub(crate) fn read_tabled(alloc: Global, text: &str, members: &str) -> Result<Tabled, Fail> {
     let names = Box::new(
         alloc,
         FileNames {

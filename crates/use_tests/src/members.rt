@@ -1,6 +1,6 @@
 //! The members of package blocks that parts of declarations name.
 
-use crate::files::{Tabled, tabled};
+use crate::files::{Tabled, read_tabled};
 use member_uses::{FileScopes, MemberUse, member_uses};
 use possible_uses::decl_parts;
 use std::alloc::Global;
@@ -42,7 +42,7 @@ fn words_of(alloc: Global, file: &Tabled) -> Result<Vec<u8>, Fail> {
 }
 
 fn names_members(alloc: Global, text: &str, members: &str, words: &str) -> Result<bool, Fail> {
-    let file = tabled(alloc, text, members)?;
+    let file = read_tabled(alloc, text, members)?;
     let found = words_of(alloc, &file);
     drop(file);
     Ok(found?.as_slice() == words.as_bytes())

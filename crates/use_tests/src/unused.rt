@@ -1,6 +1,6 @@
 //! The imports that steps leave unused.
 
-use crate::files::{Tabled, name_of, tabled};
+use crate::files::{Tabled, name_of, read_tabled};
 use constant_forms::{ConstantForm, NamedPackage};
 use go_tree::{Expr, Span};
 use possible_uses::PartRef;
@@ -55,7 +55,7 @@ fn left_in(alloc: Global, file: &Tabled, word: &str) -> Result<usize, Fail> {
 }
 
 fn left(alloc: Global, text: &str, word: &str) -> Result<usize, Fail> {
-    let file = tabled(alloc, text, "")?;
+    let file = read_tabled(alloc, text, "")?;
     let found = left_in(alloc, &file, word);
     drop(file);
     found
