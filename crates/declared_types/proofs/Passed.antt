@@ -1,5 +1,5 @@
 -- Headers are looked at one after the other.
-use Rattle.std.specs.Prelude.{◌≡◌, refl, ℕ, zero, suc, Bool, true, false, List, [], ◌∷◌, Option, Some, None, drop, length, slice_get, Result, Ok, Err, IfOk, OnErr}
+use Rattle.std.specs.Prelude.{◌≡◌, ◌<◌, refl, ℕ, zero, suc, Bool, true, false, List, [], ◌∷◌, Option, Some, None, drop, length, slice_get, Result, Ok, Err, IfOk, OnErr}
 use mathlib.Core.Path.{ap, sym, ◌∙◌, subst}
 use Rattle.std.proofs.Common.{arith, get_or, nat_lt}
 use Rattle.std.proofs.lemmas.Bool.Decides.{nat_tests}
@@ -8,7 +8,10 @@ use Rattle.go_tree.specs.FileView.{type_spec_of}
 use Rattle.go_types.specs.Programs.{Headed, Program}
 use Rattle.go_types.specs.Collect.{aliased_world, refused_world}
 use Rattle.const_eval.specs.declared.consts.Const.{Const}
-use Rattle.type_relations.specs.Environment.{Environment}
+use Rattle.go_types.specs.Table.{named_node}
+use Rattle.type_relations.specs.Environment.{Environment, env_type, with_type}
+use Rattle.value_types.specs.ValueTypes.{HasValueTypes}
+use Rattle.value_types.proofs.ValueLemmas.{value_types_stay}
 use Rattle.typed_names.specs.declared.scopes.Scope.{Scope}
 use Rattle.typed_names.specs.Known.{AllHaveTypes, KnowsTypes}
 use Rattle.typed_names.specs.Meanings.{Names, world_at}
@@ -19,6 +22,14 @@ use Rattle.declared_types.specs.Headers.{AreTypeHeaders, no_headers, a_type, ano
 use Rattle.declared_types.specs.Members.{Below, SameMembers, SameNames, member}
 use Rattle.declared_types.proofs.Found.{found_after, found_all, found_first, nowhere, world_kept}
 use Rattle.declared_types.specs.Steps.{AllClosed, AreFound, ClosedHeader, HeadersPassed, IsClosed, IsSet, KnowsPlaces, StillFound}
+
+-- ---- types
+
+-- a named type is added
+pub name_added :
+    (old new : Environment) (p : ℕ) (n : List ℕ) → new ≡ with_type old (named_node p n) →
+    ((i : ℕ) → i < length old.rows → env_type new i ≡ env_type old i) → HasValueTypes old → HasValueTypes new
+name_added old new p n e s h = value_types_stay old new (named_node p n) e s refl h
 
 -- ---- places
 
@@ -72,7 +83,8 @@ header_at ps all files codes (h ∷ hs) (another d are) k c rest q = header_at p
 pub still_self :
     (files : List Scope) (codes : List TypeHeader) (e : Environment) (bs : List Names) → KnowsPlaces e bs files →
     StillFound files codes e bs e bs
-still_self files codes e bs k = record { grown = grown_self e; known = k; count = refl; found = λ ps hs cs are f. f }
+still_self files codes e bs k =
+    record { grown = grown_self e; values = λ h. h; known = k; count = refl; found = λ ps hs cs are f. f }
 
 -- and after two steps
 pub still_on :
@@ -81,6 +93,7 @@ pub still_on :
 still_on files codes e f g bs ds es a b =
     record {
       grown = grown_on e f g a.grown b.grown;
+      values = λ h. b.values (a.values h);
       known = b.known;
       count = b.count ∙ a.count;
       found = λ ps hs cs are found. b.found ps hs cs are (a.found ps hs cs are found);
@@ -89,14 +102,15 @@ still_on files codes e f g bs ds es a b =
 -- what one header's step tells of all headers
 pub still_header :
     (files : List Scope) (codes : List TypeHeader) (e f : Environment) (bs ds : List Names) → TypesGrown e f →
-    KnowsPlaces f ds files → length ds ≡ length bs → (k : ℕ) (c : TypeHeader) (rest : List TypeHeader) →
+    (HasValueTypes e → HasValueTypes f) → KnowsPlaces f ds files → length ds ≡ length bs → (k : ℕ) (c : TypeHeader) (rest : List TypeHeader) →
     drop k codes ≡ c ∷ rest →
     ((ps : Program Span) (hs : List (Headed Span)) (cs : List Const) (h : Headed Span) → IsTypeHeader ps hs files c h →
     AreFound ps hs cs e bs → AreFound ps hs cs f ds) →
     StillFound files codes e bs f ds
-still_header files codes e f bs ds g n l k c rest q found =
+still_header files codes e f bs ds g v n l k c rest q found =
     record {
       grown = g;
+      values = v;
       known = n;
       count = l;
       found = λ ps hs cs are. let at = header_at ps hs files codes hs are k c rest q in found ps hs cs at.0 at.1;

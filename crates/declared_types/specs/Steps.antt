@@ -16,6 +16,7 @@ use Rattle.typed_names.specs.declared.scopes.Scope.{Scope}
 use Rattle.typed_names.specs.Known.{AllHaveTypes, HaveTypes}
 use Rattle.typed_names.specs.Meanings.{Names, block_at, world_at}
 use Rattle.typed_names.specs.Scopes.{env_at}
+use Rattle.value_types.specs.ValueTypes.{HasValueTypes}
 use Rattle.type_exprs.specs.Grown.{TypesGrown}
 use Rattle.declared_types.specs.declared.headers.TypeHeader.{TypeHeader}
 use Rattle.declared_types.specs.Headers.{AreTypeHeaders, type_of_spec}
@@ -83,6 +84,7 @@ StaysFound files codes e bs f ds =
 pub record StillFound (files : List Scope) (codes : List TypeHeader) (e : Environment) (bs : List Names)
     (f : Environment) (ds : List Names) : Type 0 where
   pub grown : TypesGrown e f
+  pub values : HasValueTypes e → HasValueTypes f
   pub known : KnowsPlaces f ds files
   pub count : length ds ≡ length bs
   pub found : StaysFound files codes e bs f ds

@@ -6,6 +6,7 @@ ghost use Rattle.const_eval.specs.declared.consts.Const.{Const};
 ghost use Rattle.go_tree.specs.declared.spans.Span.{Span};
 ghost use Rattle.go_types.specs.Programs.{Headed, Program};
 ghost use Rattle.go_types.specs.Collect.{aliased_world, refused_world};
+ghost use Rattle.value_types.specs.ValueTypes.{HasValueTypes};
 ghost use Rattle.typed_names.specs.Known.{KnowsTypes};
 ghost use Rattle.typed_names.specs.Meanings.{world_at};
 ghost use Rattle.type_exprs.specs.Grown.{TypesGrown};
@@ -39,6 +40,7 @@ fn set_type(
 ) -> Result<bool, NoMemory>
     requires known { KnowsTypes types.old blocks.old scope.now }
     ensures grown { TypesGrown types.old types.new }
+    ensures values { HasValueTypes types.old → HasValueTypes types.new }
     ensures known { KnowsTypes types.new blocks.new scope.now }
     ensures count { length blocks.new ≡ length blocks.old }
     ensures same { OnErr result (blocks.new ≡ blocks.old) }
@@ -71,6 +73,7 @@ fn set_header(
 ) -> Result<bool, NoMemory>
     requires known { KnowsPlaces types.old blocks.old files.now }
     ensures grown { TypesGrown types.old types.new }
+    ensures values { HasValueTypes types.old → HasValueTypes types.new }
     ensures known { KnowsPlaces types.new blocks.new files.now }
     ensures count { length blocks.new ≡ length blocks.old }
     ensures found { (ps : Program Span) (hs : List (Headed Span)) (cs : List Const) (h : Headed Span)
@@ -96,6 +99,7 @@ fn set_missing(
 ) -> Result<bool, NoMemory>
     requires known { KnowsPlaces types.old blocks.old files.now }
     ensures grown { TypesGrown types.old types.new }
+    ensures values { HasValueTypes types.old → HasValueTypes types.new }
     ensures known { KnowsPlaces types.new blocks.new files.now }
     ensures count { length blocks.new ≡ length blocks.old }
     ensures found { StaysFound files.now headers.now types.old blocks.old types.new blocks.new }
@@ -125,6 +129,7 @@ pub fn find_aliases(
 ) -> Result<(), NoMemory>
     requires known { KnowsPlaces types.old blocks.old files.now }
     ensures grown { TypesGrown types.old types.new }
+    ensures values { HasValueTypes types.old → HasValueTypes types.new }
     ensures known { KnowsPlaces types.new blocks.new files.now }
     ensures count { length blocks.new ≡ length blocks.old }
     ensures found { OnOk result ((ps : Program Span) (hs : List (Headed Span)) (cs : List Const)

@@ -5,6 +5,7 @@ ghost use Rattle.std.specs.Prelude.{◌≡◌, List, Some};
 ghost use Rattle.const_eval.specs.declared.consts.Const.{Const};
 ghost use Rattle.go_tree.specs.FileView.{type_spec_of};
 ghost use Rattle.go_types.specs.Types as go;
+ghost use Rattle.value_types.specs.ValueTypes.{HasValueTypes};
 ghost use Rattle.typed_names.specs.Known.{KnowsTypes};
 ghost use Rattle.typed_names.specs.Scopes.{env_at};
 ghost use Rattle.type_exprs.specs.Answers.{GivesType};
@@ -20,8 +21,10 @@ use type_table::{TypeId, TypeNode};
 use typed_names::{Blocks, Scope};
 
 /// The defined type of this name in a package.
+#[tactic(auto, using(crate::proofs::Passed::name_added, type_exprs::proofs::ValuesKept::values_self, value_types::proofs::ValueLemmas::values_same))]
 pub fn named_type(alloc: Global, types: &mut Env, home: u32, name: &Name) -> Result<TypeId, Refusal>
     ensures grown { TypesGrown types.old types.new }
+    ensures values { HasValueTypes types.old → HasValueTypes types.new }
     ensures gives { GivesType types.new (Some (go.named_type home name.now)) result }
 {
     let name = Name::copied(alloc, name.items())?;
@@ -44,6 +47,7 @@ pub(crate) fn spec_type(
 ) -> Result<TypeId, Refusal>
     requires known { KnowsTypes types.old blocks.now scope.now }
     ensures grown { TypesGrown types.old types.new }
+    ensures values { HasValueTypes types.old → HasValueTypes types.new }
     ensures gives { (cs : List Const)
         → GivesType types.new
         (type_of_spec (env_at types.old cs blocks.now scope.now) (type_spec_of spec.now)) result }

@@ -22,6 +22,7 @@ use Rattle.typed_names.specs.declared.scopes.Scope.{Scope}
 use Rattle.typed_names.specs.Meanings.{Names}
 use Rattle.typed_names.specs.Scopes.{env_at}
 use Rattle.type_exprs.specs.Answers.{GivesType}
+use Rattle.value_types.specs.ValueTypes.{HasValueTypes}
 use Rattle.type_exprs.specs.Grown.{TypesGrown}
 use Rattle.type_exprs.proofs.GrownLaws.{env_same, grown_on, grown_self, type_on}
 use Rattle.declared_types.specs.declared.headers.TypeHeader.{TypeHeader}
@@ -132,7 +133,8 @@ module _ (e : Environment) (bs : List Names) (files : List Scope) (c : TypeHeade
 pub read_none :
     (e : Environment) (bs : List Names) (files : List Scope) (all : List TypeHeader) → KnowsPlaces e bs files →
     TypesRead e e bs files all all []
-read_none e bs files all k = record { grown = grown_self e; known = k; are = tt; read = λ cs. refl }
+read_none e bs files all k =
+    record { grown = grown_self e; values = λ h. h; known = k; are = tt; read = λ cs. refl }
 
 also_more :
     {A : Type 0} (xs ys : List A) (o : Option A) (rest : List A) →
@@ -158,13 +160,14 @@ module _ (e : Environment) (bs : List Names) (files : List Scope) (known : Knows
   -- one more is read
   pub read_one :
       (f g : Environment) (old new : List DeclaredType) → TypesRead e f bs files all (c ∷ rest) old → TypesGrown f g →
-      AreDeclared g new →
+      (HasValueTypes f → HasValueTypes g) → AreDeclared g new →
       ((cs : List Const) →
       map (declared_of g) new ≡ map (declared_of f) old ++ and_also (declared_at f cs bs files c) []) →
       TypesRead e g bs files all rest new
-  read_one f g old new r grown are added =
+  read_one f g old new r grown v are added =
       record {
         grown = grown_on e f g r.grown grown;
+        values = λ h. v (r.values h);
         known = places_on f g bs bs files r.known grown (members_on f g grown bs r.known.members);
         are = are;
         read = λ cs.

@@ -18,6 +18,7 @@ use Rattle.operand_rules.specs.Values.{IsType}
 use Rattle.typed_names.specs.declared.scopes.Scope.{Scope}
 use Rattle.typed_names.specs.Meanings.{Names}
 use Rattle.typed_names.specs.Scopes.{env_at}
+use Rattle.value_types.specs.ValueTypes.{HasValueTypes}
 use Rattle.type_exprs.specs.Grown.{TypesGrown}
 use Rattle.declared_types.specs.declared.headers.TypeHeader.{TypeHeader}
 use Rattle.declared_types.specs.Steps.{KnowsPlaces}
@@ -81,6 +82,7 @@ module _ (e : Environment) (cs : List Const) (bs : List Names) (files : List Sco
 pub record TypesRead (e f : Environment) (bs : List Names) (files : List Scope) (all rest : List TypeHeader)
     (declared : List DeclaredType) : Type 0 where
   pub grown : TypesGrown e f
+  pub values : HasValueTypes e → HasValueTypes f
   pub known : KnowsPlaces f bs files
   pub are : AreDeclared f declared
   pub read :

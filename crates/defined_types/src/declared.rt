@@ -15,6 +15,7 @@ ghost use Rattle.type_relations.specs.Environment.{env_type};
 ghost use Rattle.typed_names.specs.Known.{KnowsTypes};
 ghost use Rattle.typed_names.specs.Meanings.{world_at};
 ghost use Rattle.typed_names.specs.Scopes.{env_at};
+ghost use Rattle.value_types.specs.ValueTypes.{HasValueTypes};
 ghost use Rattle.type_exprs.specs.Grown.{TypesGrown};
 ghost use Rattle.declared_types.specs.Headers.{AreTypeHeaders};
 ghost use Rattle.declared_types.specs.Members.{SameMembers};
@@ -55,6 +56,7 @@ fn with_name(
 ) -> Result<DeclaredType, Refusal>
     requires { IsType types.old (Typed of) }
     ensures grown { TypesGrown types.old types.new }
+    ensures values { HasValueTypes types.old → HasValueTypes types.new }
     ensures gives { GivesDeclared types.new (Some (named_as home name.now (env_type types.old of.0))) result }
 {
     match named_type(alloc, types, home, name) {
@@ -73,6 +75,7 @@ fn declared_type(
 ) -> Result<DeclaredType, Refusal>
     requires { KnowsTypes types.old blocks.now scope.now }
     ensures grown { TypesGrown types.old types.new }
+    ensures values { HasValueTypes types.old → HasValueTypes types.new }
     ensures gives { (cs : List Const)
         → GivesDeclared types.new
         (declared_by_spec (env_at types.old cs blocks.now scope.now) (type_spec_of spec.now)) result }
@@ -98,6 +101,7 @@ fn add_type(
     requires known { KnowsPlaces types.old blocks.now files.now }
     requires are { AreDeclared types.old declared.old.items }
     ensures grown { TypesGrown types.old types.new }
+    ensures values { HasValueTypes types.old → HasValueTypes types.new }
     ensures are { AreDeclared types.new declared.new.items }
     ensures added { OnOk result ((cs : List Const)
         → map (declared_of types.new) declared.new.items
@@ -125,6 +129,7 @@ pub fn types_declared(
 ) -> Result<Vec<DeclaredType>, NoMemory>
     requires { KnowsPlaces types.old blocks.now files.now }
     ensures grown { TypesGrown types.old types.new }
+    ensures values { HasValueTypes types.old → HasValueTypes types.new }
     ensures good { IfOk result (λ ds. AreDeclared types.new ds.items) }
     ensures are { IfOk result (λ ds. (ps : Program Span) (hs : List (Headed Span)) (cs : List Const)
         → AreTypeHeaders ps hs files.now headers.now hs

@@ -29,7 +29,7 @@ module _ (ms : List DeclaredMethod) where
     within_kept (suc k) t =
         λ i. comparable_by (λ u. (within_kept k (under (with_methods ms ds) u) ∙ ap (comparable_within k ds) (under_methods ms ds u)) i) t
 
-    comparable_kept : (t : GoType) → comparable (with_methods ms ds) t ≡ comparable ds t
+    pub comparable_kept : (t : GoType) → comparable (with_methods ms ds) t ≡ comparable ds t
     comparable_kept t =
         within_kept (suc (length (with_methods ms ds))) t ∙ ap (λ n. comparable_within (suc n) ds t) (length_kept ds)
 

@@ -15,6 +15,7 @@ use Rattle.comparable_types.specs.declared.grown.TypeFlags.{TypeFlags}
 use Rattle.comparable_types.specs.Grown.{AreFlagsSoFar, DefinedBelow}
 use Rattle.typed_names.specs.declared.scopes.Scope.{Scope}
 use Rattle.typed_names.specs.Meanings.{Names, world_at}
+use Rattle.value_types.specs.ValueTypes.{HasValueTypes}
 use Rattle.type_exprs.specs.Grown.{TypesGrown}
 use Rattle.type_exprs.proofs.GrownLaws.{grown_on, grown_self}
 use Rattle.typed_in_place.specs.Declared.{HasNumber}
@@ -140,6 +141,7 @@ module _ (packages : List Package) (files : List Scope) (all : List PackageHeade
   passed_none x k f d =
       record {
         grown = grown_self e;
+        values = λ h. h;
         known = k;
         flags = f;
         defined = d;
@@ -149,7 +151,8 @@ module _ (packages : List Package) (files : List Scope) (all : List PackageHeade
 
   module _ (i : ℕ) (f g : types.Environment) (ds es : List Names) (x y : TypeFlags) (refused : List ℕ)
       (r : FunctionsPassed packages files all i e f bs ds x refused) (c : PackageHeader) (rest : List PackageHeader)
-      (here : drop i all ≡ c ∷ rest) (grown : TypesGrown f g) (known : KnowsPlaces g es files)
+      (here : drop i all ≡ c ∷ rest) (grown : TypesGrown f g) (values : HasValueTypes f → HasValueTypes g)
+      (known : KnowsPlaces g es files)
       (flags : AreFlagsSoFar g y) (defined : DefinedBelow (length y.comparable.items) g.defined)
       (count : length es ≡ length ds) (well : Bool) (set : SetsHeader packages files c f ds g es well) where
     -- one more is
@@ -158,6 +161,7 @@ module _ (packages : List Package) (files : List Scope) (all : List PackageHeade
     passed_more =
         record {
           grown = grown_on e f g r.grown grown;
+          values = λ h. values (r.values h);
           known = known;
           flags = flags;
           defined = defined;

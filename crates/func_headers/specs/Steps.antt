@@ -20,6 +20,7 @@ use Rattle.comparable_types.specs.Grown.{AreFlagsSoFar, DefinedBelow}
 use Rattle.typed_names.specs.declared.scopes.Scope.{Scope}
 use Rattle.typed_names.specs.Meanings.{Names, world_at}
 use Rattle.typed_names.specs.Scopes.{env_at}
+use Rattle.value_types.specs.ValueTypes.{HasValueTypes}
 use Rattle.type_exprs.specs.Grown.{TypesGrown}
 use Rattle.declared_types.specs.Members.{member}
 use Rattle.declared_types.specs.Steps.{KnowsPlaces}
@@ -106,6 +107,7 @@ SetsHeader packages files c e bs f ds well =
 pub record FunctionsPassed (packages : List Package) (files : List Scope) (all : List PackageHeader) (number : ℕ)
     (e f : Environment) (bs ds : List Names) (x : TypeFlags) (refused : List ℕ) : Type 0 where
   pub grown : TypesGrown e f
+  pub values : HasValueTypes e → HasValueTypes f
   pub known : KnowsPlaces f ds files
   pub flags : AreFlagsSoFar f x
   pub defined : DefinedBelow (length x.comparable.items) f.defined

@@ -7,6 +7,7 @@ ghost use Rattle.go_types.specs.Programs.{headed};
 ghost use Rattle.scope_names.specs.Means.{means};
 ghost use Rattle.type_relations.specs.Environment.{Environment};
 ghost use Rattle.comparable_types.specs.Grown.{AreFlagsSoFar, DefinedBelow};
+ghost use Rattle.value_types.specs.ValueTypes.{HasValueTypes};
 ghost use Rattle.typed_names.specs.Known.{AllHaveTypes, HasTypes, KnowsTypes};
 ghost use Rattle.typed_names.specs.Meanings.{block_at, world_at};
 ghost use Rattle.type_exprs.specs.Grown.{TypesGrown};
@@ -92,6 +93,7 @@ fn declare_function(
     requires flags { AreFlagsSoFar types.old flags.old }
     requires defined { DefinedBelow (length flags.old.comparable.items) types.old.defined }
     ensures grown { TypesGrown types.old types.new }
+    ensures values { HasValueTypes types.old → HasValueTypes types.new }
     ensures known { KnowsTypes types.new blocks.new scope.now }
     ensures flags { AreFlagsSoFar types.new flags.new }
     ensures defined { DefinedBelow (length flags.new.comparable.items) types.new.defined }
@@ -125,6 +127,7 @@ fn declare_in_file(
     requires flags { AreFlagsSoFar types.old flags.old }
     requires defined { DefinedBelow (length flags.old.comparable.items) types.old.defined }
     ensures grown { TypesGrown types.old types.new }
+    ensures values { HasValueTypes types.old → HasValueTypes types.new }
     ensures known { KnowsPlaces types.new blocks.new files.now }
     ensures flags { AreFlagsSoFar types.new flags.new }
     ensures defined { DefinedBelow (length flags.new.comparable.items) types.new.defined }
@@ -156,6 +159,7 @@ fn declare_header(
     requires flags { AreFlagsSoFar types.old flags.old }
     requires defined { DefinedBelow (length flags.old.comparable.items) types.old.defined }
     ensures grown { TypesGrown types.old types.new }
+    ensures values { HasValueTypes types.old → HasValueTypes types.new }
     ensures known { KnowsPlaces types.new blocks.new files.now }
     ensures flags { AreFlagsSoFar types.new flags.new }
     ensures defined { DefinedBelow (length flags.new.comparable.items) types.new.defined }
@@ -199,6 +203,7 @@ pub fn declare_functions(
     requires flags { AreFlagsSoFar types.old flags.old }
     requires defined { DefinedBelow (length flags.old.comparable.items) types.old.defined }
     ensures grown { TypesGrown types.old types.new }
+    ensures values { HasValueTypes types.old → HasValueTypes types.new }
     ensures known { KnowsPlaces types.new blocks.new files.now }
     ensures flags { AreFlagsSoFar types.new flags.new }
     ensures defined { DefinedBelow (length flags.new.comparable.items) types.new.defined }

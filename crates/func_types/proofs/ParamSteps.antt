@@ -1,5 +1,5 @@
 -- The types of parameters are read one by one.
-use Rattle.std.proofs.Common.{◌≡◌, ◌∙◌, ◌++◌, ◌<◌, List, [], ◌∷◌, Option, Some, None, Result, Ok, Err, IfOk, ℕ, refl, sym, ap, ap₂, subst, length, map}
+use Rattle.std.proofs.Common.{◌≡◌, ◌∙◌, ◌++◌, ◌<◌, List, [], ◌∷◌, Option, Some, None, Result, Ok, Err, IfOk, OnOk, OnErr, ℕ, refl, sym, ap, ap₂, subst, length, map}
 use Rattle.go_tree.specs.declared.spans.Span.{Span}
 use Rattle.go_tree.specs.Tree.{Param}
 use Rattle.const_eval.specs.declared.consts.Const.{Const}
@@ -8,7 +8,9 @@ use Rattle.go_types.specs.Types as go
 use Rattle.go_types.specs.Types.{GoType, GoTypes}
 use Rattle.go_types.specs.Table.{tuple_node}
 use Rattle.go_types.specs.TypeNames.{params_meant, type_meant}
-use Rattle.type_relations.specs.Environment.{Environment, env_type}
+use Rattle.type_relations.specs.Environment.{Environment, env_type, with_type}
+use Rattle.value_types.specs.ValueTypes.{HasValueTypes}
+use Rattle.value_types.proofs.ValueLemmas.{value_types_stay, values_same}
 use Rattle.type_relations.specs.declared.methods.FuncType.{FuncType}
 use Rattle.type_table.specs.declared.nodes.TypeId.{TypeId}
 use Rattle.type_table.specs.Rows.{IdsBelow}
@@ -77,6 +79,7 @@ pub params_start :
 params_start e x bs s all k f d =
     record {
       grown = grown_self e;
+      values = λ h. h;
       known = k;
       flags = f;
       defined = d;
@@ -115,13 +118,15 @@ module _ (old new : Environment) (x : TypeFlags) (bs : List Names) (s : Scope) (
 
     -- the next is read
     pub params_more :
-        (newer : Environment) (y : TypeFlags) → TypesGrown new newer → AreFlagsSoFar newer y →
+        (newer : Environment) (y : TypeFlags) → TypesGrown new newer → (HasValueTypes new → HasValueTypes newer) →
+        AreFlagsSoFar newer y →
         DefinedBelow (length y.comparable.items) newer.defined → (t : TypeId) →
         ((cs : List Const) → GivesType newer (type_meant (env_at new cs bs s) p.of) (Ok t)) →
         ParamsRead old newer y bs s all rest (meant ++ t ∷ [])
-    params_more newer y g f d t e =
+    params_more newer y g v f d t e =
         record {
           grown = grown_on old new newer r.grown g;
+          values = λ h. v (r.values h);
           known = known_on new newer g bs s r.known;
           flags = f;
           defined = d;
@@ -182,3 +187,11 @@ pub tuple_is :
     IfOk r (λ t. tuple_list (env_type f t.0) ≡ types_at e ts)
 tuple_is e f k ts h (Ok t) x = ap tuple_list x ∙ listed_is e f k ts h
 tuple_is e f k ts h (Err q) x = tt
+
+-- a tuple is a type of values
+pub tuple_values :
+    {A : Type 0} (e f : Environment) (ts : List TypeId) (r : Result TypeId A) →
+    OnOk r (f ≡ with_type e (tuple_node (map (λ t. t.0) ts))) → OnErr r (f ≡ e) →
+    ((i : ℕ) → i < length e.rows → env_type f i ≡ env_type e i) → HasValueTypes e → HasValueTypes f
+tuple_values e f ts (Ok t) added same k h = value_types_stay e f (tuple_node (map (λ t. t.0) ts)) added k refl h
+tuple_values e f ts (Err q) added same k h = values_same e f same h

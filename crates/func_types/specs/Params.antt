@@ -9,6 +9,7 @@ use Rattle.type_relations.specs.Environment.{Environment}
 use Rattle.type_table.specs.declared.nodes.TypeId.{TypeId}
 use Rattle.comparable_types.specs.declared.grown.TypeFlags.{TypeFlags}
 use Rattle.comparable_types.specs.Grown.{AreFlagsSoFar, DefinedBelow}
+use Rattle.value_types.specs.ValueTypes.{HasValueTypes}
 use Rattle.typed_names.specs.declared.scopes.Scope.{Scope}
 use Rattle.typed_names.specs.Known.{KnowsTypes}
 use Rattle.typed_names.specs.Meanings.{Names}
@@ -20,6 +21,7 @@ use Rattle.func_types.specs.Answers.{AreTypesOf, types_at}
 pub record ParamsRead (old new : Environment) (x : TypeFlags) (bs : List Names) (s : Scope)
     (all rest : List (Param Span)) (meant : List TypeId) : Type 0 where
   pub grown : TypesGrown old new
+  pub values : HasValueTypes old → HasValueTypes new
   pub known : KnowsTypes new bs s
   pub flags : AreFlagsSoFar new x
   pub defined : DefinedBelow (length x.comparable.items) new.defined

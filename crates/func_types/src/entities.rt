@@ -7,6 +7,7 @@ ghost use Rattle.type_relations.specs.Environment.{env_type};
 ghost use Rattle.type_table.specs.Rows.{IdsBelow};
 ghost use Rattle.typed_names.specs.Known.{HasTypes};
 ghost use Rattle.typed_names.specs.Meanings.{entity_at, tuple_list};
+ghost use Rattle.value_types.specs.ValueTypes.{HasValueTypes};
 ghost use Rattle.type_exprs.specs.Grown.{TypesGrown};
 ghost use Rattle.func_types.specs.Answers.{AreTypesOf, func_of, types_at};
 
@@ -19,6 +20,7 @@ use typed_names::Entity;
 fn tuple(types: &mut Env, items: TypeIdList) -> Result<TypeId, NoMemory>
     requires { IdsBelow (length types.old.rows) items }
     ensures grown { TypesGrown types.old types.new }
+    ensures values { HasValueTypes types.old → HasValueTypes types.new }
     ensures within { IfOk result (λ t. t.0 < length types.new.rows) }
     ensures is { IfOk result (λ t. tuple_list (env_type types.new t.0) ≡ types_at types.old items) }
 {
@@ -30,6 +32,7 @@ pub fn function_entity(types: &mut Env, of: FuncType) -> Result<Entity, NoMemory
     requires params { AreTypesOf types.old of.params }
     requires results { AreTypesOf types.old of.results }
     ensures grown { TypesGrown types.old types.new }
+    ensures values { HasValueTypes types.old → HasValueTypes types.new }
     ensures typed { IfOk result (HasTypes types.new) }
     ensures is { IfOk result (λ x. (cs : List Const)
         → entity_at types.new cs x ≡ go.function (func_of types.old of)) }

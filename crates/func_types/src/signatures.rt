@@ -10,6 +10,7 @@ ghost use Rattle.type_relations.specs.Environment.{Environment};
 ghost use Rattle.comparable_types.specs.Grown.{AreFlagsSoFar, DefinedBelow};
 ghost use Rattle.typed_names.specs.Known.{KnowsTypes};
 ghost use Rattle.typed_names.specs.Scopes.{env_at};
+ghost use Rattle.value_types.specs.ValueTypes.{HasValueTypes};
 ghost use Rattle.type_exprs.specs.Grown.{TypesGrown};
 ghost use Rattle.func_types.specs.Answers.{AreTypesOf, GivesFunc, GivesTypes, with_results};
 
@@ -35,6 +36,7 @@ pub fn params_meant(
     requires flags { AreFlagsSoFar types.old flags.old }
     requires defined { DefinedBelow (length flags.old.comparable.items) types.old.defined }
     ensures grown { TypesGrown types.old types.new }
+    ensures values { HasValueTypes types.old → HasValueTypes types.new }
     ensures known { KnowsTypes types.new blocks.now scope.now }
     ensures flags { AreFlagsSoFar types.new flags.new }
     ensures defined { DefinedBelow (length flags.new.comparable.items) types.new.defined }
@@ -80,6 +82,7 @@ pub fn func_type(
     requires flags { AreFlagsSoFar types.old flags.old }
     requires defined { DefinedBelow (length flags.old.comparable.items) types.old.defined }
     ensures grown { TypesGrown types.old types.new }
+    ensures values { HasValueTypes types.old → HasValueTypes types.new }
     ensures known { KnowsTypes types.new blocks.now scope.now }
     ensures flags { AreFlagsSoFar types.new flags.new }
     ensures defined { DefinedBelow (length flags.new.comparable.items) types.new.defined }

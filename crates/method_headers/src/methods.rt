@@ -4,6 +4,7 @@ ghost use Rattle.std.specs.Prelude.{List, length};
 ghost use Rattle.const_eval.specs.declared.consts.Const.{Const};
 ghost use Rattle.go_tree.specs.FileView.{func_of, receiver_of};
 ghost use Rattle.comparable_types.specs.Grown.{AreFlagsSoFar, DefinedBelow};
+ghost use Rattle.value_types.specs.ValueTypes.{HasValueTypes};
 ghost use Rattle.typed_names.specs.Known.{KnowsTypes};
 ghost use Rattle.typed_names.specs.Scopes.{env_at};
 ghost use Rattle.type_exprs.specs.Grown.{TypesGrown};
@@ -34,6 +35,7 @@ pub fn method_type(
     requires flags { AreFlagsSoFar types.old flags.old }
     requires defined { DefinedBelow (length flags.old.comparable.items) types.old.defined }
     ensures grown { TypesGrown types.old types.new }
+    ensures values { HasValueTypes types.old → HasValueTypes types.new }
     ensures known { KnowsTypes types.new blocks.now scope.now }
     ensures flags { AreFlagsSoFar types.new flags.new }
     ensures defined { DefinedBelow (length flags.new.comparable.items) types.new.defined }

@@ -118,6 +118,16 @@ module _ (e f : Environment) (only : OnlyMethods e f) where
   count_same [] = refl
   count_same (d ∷ ds) = ap suc (count_same ds)
 
+  -- underlying types stay
+  pub under_kept : (t : GoType) → under (defined_types f) t ≡ under (defined_types e) t
+  under_kept t = ap (λ ds. under ds t) new_is ∙ under_same t
+
+  -- so do comparable keys
+  pub keys_kept : (t : GoType) → has_keys (defined_types f) t ≡ has_keys (defined_types e) t
+  keys_kept t =
+      ap (λ ds. has_keys ds t) new_is
+      ∙ keys_same (new_types e.defined) (old_types e.defined) under_same (count_same e.defined) t
+
   comparable_kept : (i : ℕ) → comparable (defined_types e) (env_type e i) ≡ comparable (defined_types f) (env_type f i)
   comparable_kept i =
       sym (ap₂ (λ ds rows. comparable ds (type_at rows i)) new_is only.rows

@@ -23,6 +23,7 @@ use Rattle.comparable_types.specs.Grown.{AreFlagsSoFar, DefinedBelow}
 use Rattle.typed_names.specs.declared.scopes.Scope.{Scope}
 use Rattle.typed_names.specs.Meanings.{Names, world_at}
 use Rattle.typed_names.specs.Scopes.{env_at}
+use Rattle.value_types.specs.ValueTypes.{HasValueTypes}
 use Rattle.type_exprs.specs.Grown.{TypesGrown}
 use Rattle.type_exprs.proofs.GrownLaws.{grown_on, grown_self}
 use Rattle.func_types.specs.Answers.{func_of}
@@ -397,6 +398,7 @@ module _ (e : Environment) (bs : List Names) (files : List Scope) (all : List Pa
   passed_none x f d =
       record {
         grown = grown_self e;
+        values = λ h. h;
         known = start;
         flags = f;
         defined = d;
@@ -408,14 +410,16 @@ module _ (e : Environment) (bs : List Names) (files : List Scope) (all : List Pa
   pub passed_more :
       (i : ℕ) (f g : Environment) (x y : TypeFlags) (ms : List (Option Method)) (refused : List ℕ) →
       TypesPassed e f bs files all types i x ms refused → (c : PackageHeader) (rest : List PackageHeader) →
-      drop i all ≡ c ∷ rest → TypesGrown f g → KnowsPlaces g bs files → AreFlagsSoFar g y →
+      drop i all ≡ c ∷ rest → TypesGrown f g → (HasValueTypes f → HasValueTypes g) → KnowsPlaces g bs files →
+      AreFlagsSoFar g y →
       DefinedBelow (length y.comparable.items) g.defined → (o : Option Method) (b : Bool) →
       IsTypedMethod g o → TypesHeader f g bs files c (is_some (attached_at types i)) o →
       b ≡ (is_some (method_in (header_of c.kind)) && is_none o) →
       TypesPassed e g bs files all types (i + 1) y (ms ++ o ∷ []) (cond b (refused ++ i ∷ []) refused)
-  passed_more i f g x y ms refused r c rest here grown known flags defined o b typed step is =
+  passed_more i f g x y ms refused r c rest here grown values known flags defined o b typed step is =
       record {
         grown = grown_on e f g r.grown grown;
+        values = λ h. values (r.values h);
         known = known;
         flags = flags;
         defined = defined;

@@ -14,6 +14,7 @@ use Rattle.comparable_types.specs.declared.grown.TypeFlags.{TypeFlags}
 use Rattle.comparable_types.specs.Grown.{AreFlagsSoFar, DefinedBelow}
 use Rattle.typed_names.specs.declared.scopes.Scope.{Scope}
 use Rattle.typed_names.specs.Meanings.{Names, world_at}
+use Rattle.value_types.specs.ValueTypes.{HasValueTypes}
 use Rattle.type_exprs.specs.Grown.{TypesGrown}
 use Rattle.func_types.specs.Answers.{AreTypesOf, func_of}
 use Rattle.declared_types.specs.Steps.{KnowsPlaces}
@@ -67,6 +68,7 @@ pub record TypesPassed (e f : Environment) (bs : List Names) (files : List Scope
     (types : List (Option TypeId)) (number : ℕ) (x : TypeFlags) (methods : List (Option Method)) (refused : List ℕ)
     : Type 0 where
   pub grown : TypesGrown e f
+  pub values : HasValueTypes e → HasValueTypes f
   pub known : KnowsPlaces f bs files
   pub flags : AreFlagsSoFar f x
   pub defined : DefinedBelow (length x.comparable.items) f.defined

@@ -6,6 +6,7 @@ ghost use Rattle.go_tree.specs.FileView.{func_of, receiver_of};
 ghost use Rattle.const_eval.specs.declared.consts.Const.{Const};
 ghost use Rattle.go_types.specs.Programs.{Headed};
 ghost use Rattle.comparable_types.specs.Grown.{AreFlagsSoFar, DefinedBelow};
+ghost use Rattle.value_types.specs.ValueTypes.{HasValueTypes};
 ghost use Rattle.typed_names.specs.Known.{KnowsTypes};
 ghost use Rattle.typed_names.specs.Meanings.{world_at};
 ghost use Rattle.typed_names.specs.Scopes.{env_at};
@@ -67,6 +68,7 @@ fn typed_method(
     requires flags { AreFlagsSoFar types.old flags.old }
     requires defined { DefinedBelow (length flags.old.comparable.items) types.old.defined }
     ensures grown { TypesGrown types.old types.new }
+    ensures values { HasValueTypes types.old → HasValueTypes types.new }
     ensures known { KnowsTypes types.new blocks.now scope.now }
     ensures flags { AreFlagsSoFar types.new flags.new }
     ensures defined { DefinedBelow (length flags.new.comparable.items) types.new.defined }
@@ -107,6 +109,7 @@ fn declared_method(
     requires flags { AreFlagsSoFar types.old flags.old }
     requires defined { DefinedBelow (length flags.old.comparable.items) types.old.defined }
     ensures grown { TypesGrown types.old types.new }
+    ensures values { HasValueTypes types.old → HasValueTypes types.new }
     ensures known { KnowsPlaces types.new blocks.now files.now }
     ensures flags { AreFlagsSoFar types.new flags.new }
     ensures defined { DefinedBelow (length flags.new.comparable.items) types.new.defined }
@@ -141,6 +144,7 @@ pub fn method_types(
     requires flags { AreFlagsSoFar types.old flags.old }
     requires defined { DefinedBelow (length flags.old.comparable.items) types.old.defined }
     ensures grown { TypesGrown types.old types.new }
+    ensures values { HasValueTypes types.old → HasValueTypes types.new }
     ensures known { KnowsPlaces types.new blocks.now files.now }
     ensures flags { AreFlagsSoFar types.new flags.new }
     ensures defined { DefinedBelow (length flags.new.comparable.items) types.new.defined }

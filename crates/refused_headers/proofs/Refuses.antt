@@ -21,6 +21,7 @@ use Rattle.typed_names.specs.Known.{AllHaveTypes}
 use Rattle.typed_names.specs.Meanings.{Names, world_at}
 use Rattle.typed_names.specs.Scopes.{env_at}
 use Rattle.type_exprs.specs.Grown.{TypesGrown}
+use Rattle.value_types.specs.ValueTypes.{HasValueTypes}
 use Rattle.type_exprs.proofs.GrownLaws.{grown_on, grown_self}
 use Rattle.typed_in_place.proofs.Headers.{declared_in, good_in}
 use Rattle.declared_types.specs.Members.{SameMembers}
@@ -129,7 +130,7 @@ module _ (e : Environment) (types : List DeclaredType) (bs : List Names) (files 
 
   -- none is looked at
   pub passed_none : KnowsPlaces e bs files → HeadersPassed e e types bs files all all 0
-  passed_none k = record { grown = grown_self e; known = k; passed = λ hs cs are. (hs, are, refl) }
+  passed_none k = record { grown = grown_self e; values = λ h. h; known = k; passed = λ hs cs are. (hs, are, refl) }
 
   module _ (known : AllHaveTypes e bs) (are : AreDeclared e types) (f : Environment) (c : PackageHeader)
       (rest : List PackageHeader) (i : ℕ) (r : HeadersPassed e f types bs files all (c ∷ rest) i) where
@@ -140,12 +141,13 @@ module _ (e : Environment) (types : List DeclaredType) (bs : List Names) (files 
 
     -- a header that isn't refused
     pub passed_one :
-        (g : Environment) → TypesGrown f g → KnowsPlaces g bs files →
+        (g : Environment) → TypesGrown f g → (HasValueTypes f → HasValueTypes g) → KnowsPlaces g bs files →
         ((cs : List Const) (h : Headed Span) → IsHeader files (listed_of c) h → false ≡ Test f cs h) →
         HeadersPassed e g types bs files all rest (i + 1)
-    passed_one g grown more test =
+    passed_one g grown values more test =
         record {
           grown = grown_on e f g r.grown grown;
+          values = λ h. values (r.values h);
           known = more;
           passed = λ hs cs there.
               let x = r.passed hs cs there in
@@ -195,7 +197,7 @@ module _ (e : Environment) (types : List DeclaredType) (bs : List Names) (files 
 -- ---- headers of a program
 
 -- a header is refused alike where names mean the same
-refuses_same :
+pub refuses_same :
     (ds : DeclaredTypes) (w v : World) → w.defined ≡ v.defined → SameMembers w v → (h : Headed Span) →
     refuses_type ds w h ≡ refuses_type ds v h
 refuses_same ds w v defined same h = go h.header

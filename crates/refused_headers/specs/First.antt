@@ -11,6 +11,7 @@ use Rattle.type_relations.specs.Environment.{Environment}
 use Rattle.typed_names.specs.declared.scopes.Scope.{Scope}
 use Rattle.typed_names.specs.Meanings.{Names, world_at}
 use Rattle.typed_names.specs.Scopes.{env_at}
+use Rattle.value_types.specs.ValueTypes.{HasValueTypes}
 use Rattle.type_exprs.specs.Grown.{TypesGrown}
 use Rattle.declared_types.specs.Steps.{KnowsPlaces}
 use Rattle.defined_types.specs.declared.declared.DeclaredType.{DeclaredType}
@@ -45,6 +46,7 @@ spec_refused e ds cs bs files i sound t =
 pub record HeadersPassed (e f : Environment) (types : List DeclaredType) (bs : List Names) (files : List Scope)
     (all rest : List PackageHeader) (place : ℕ) : Type 0 where
   pub grown : TypesGrown e f
+  pub values : HasValueTypes e → HasValueTypes f
   pub known : KnowsPlaces f bs files
   pub passed :
       (hs : List (Headed Span)) (cs : List Const) → AreHeaders files (map listed_of all) hs →

@@ -8,6 +8,7 @@ ghost use Rattle.go_tree.specs.FileView.{type_spec_of};
 ghost use Rattle.go_types.specs.Programs.{Headed, Program};
 ghost use Rattle.go_types.specs.Collect.{typed_world, types_declared};
 ghost use Rattle.typed_names.specs.Meanings.{world_at};
+ghost use Rattle.value_types.specs.ValueTypes.{HasValueTypes};
 ghost use Rattle.type_exprs.specs.Grown.{TypesGrown};
 ghost use Rattle.declared_types.specs.Steps.{KnowsPlaces};
 ghost use Rattle.defined_types.specs.DeclaredTypes.{declared_of};
@@ -35,6 +36,7 @@ fn refuses_spec(
     requires known { KnowsPlaces types.old blocks.now files.now }
     requires tested { AreTested types.old tests.old }
     ensures grown { TypesGrown types.old types.new }
+    ensures values { HasValueTypes types.old → HasValueTypes types.new }
     ensures tested { AreTested types.new tests.new }
     ensures declared { tests.new.declared ≡ tests.old.declared }
     ensures refuses { IfOk result (λ b. (cs : List Const)
@@ -53,8 +55,9 @@ fn refuses_spec(
     }
 }
 
-/// Whether a header is that of a type and is refused.
-fn is_refused_type(
+/// Whether a header is that of a type and is refused: its name may not be declared beside those before it,
+/// or its type is refused by what names mean. The error is want of memory.
+pub fn is_refused_type(
     alloc: Global,
     types: &mut Env,
     tests: &mut TypeTests,
@@ -65,6 +68,7 @@ fn is_refused_type(
     requires known { KnowsPlaces types.old blocks.now files.now }
     requires tested { AreTested types.old tests.old }
     ensures grown { TypesGrown types.old types.new }
+    ensures values { HasValueTypes types.old → HasValueTypes types.new }
     ensures tested { AreTested types.new tests.new }
     ensures declared { tests.new.declared ≡ tests.old.declared }
     ensures refuses { IfOk result (λ b. (cs : List Const) (h : Headed Span)
@@ -94,6 +98,7 @@ pub fn first_refused_type(
     requires known { KnowsPlaces types.old blocks.now files.now }
     requires tested { AreTested types.old tests.old }
     ensures grown { TypesGrown types.old types.new }
+    ensures values { HasValueTypes types.old → HasValueTypes types.new }
     ensures tested { AreTested types.new tests.new }
     ensures declared { tests.new.declared ≡ tests.old.declared }
     ensures first { IfOk result (λ place. (hs : List (Headed Span)) (cs : List Const)

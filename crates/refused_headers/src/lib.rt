@@ -4,4 +4,4 @@
 
 mod first;
 
-pub use first::first_refused_type;
+pub use first::{first_refused_type, is_refused_type};

@@ -11,6 +11,7 @@ use Rattle.type_relations.specs.Environment.{Environment, defined_types}
 use Rattle.typed_names.specs.declared.scopes.Scope.{Scope}
 use Rattle.typed_names.specs.Known.{AllHaveTypes}
 use Rattle.typed_names.specs.Meanings.{Names, world_at}
+use Rattle.value_types.specs.ValueTypes.{HasValueTypes}
 use Rattle.type_exprs.specs.Grown.{TypesGrown}
 use Rattle.type_exprs.proofs.GrownLaws.{env_same, grown_on, grown_self}
 use Rattle.declared_types.specs.declared.headers.TypeHeader.{TypeHeader}
@@ -42,7 +43,7 @@ pub still_self :
     (files : List Scope) (codes : List TypeHeader) (listed : List DeclaredType) (e : Environment) (bs : List Names) →
     KnowsPlaces e bs files → StillTyped files codes listed e bs e bs
 still_self files codes listed e bs k =
-    record { grown = grown_self e; known = k; count = refl; typed = λ ps hs cs are f. f }
+    record { grown = grown_self e; values = λ h. h; known = k; count = refl; typed = λ ps hs cs are f. f }
 
 -- and after two steps
 pub still_on :
@@ -52,6 +53,7 @@ pub still_on :
 still_on files codes listed e f g bs ds es a b =
     record {
       grown = grown_on e f g a.grown b.grown;
+      values = λ h. b.values (a.values h);
       known = b.known;
       count = b.count ∙ a.count;
       typed = λ ps hs cs are typed. b.typed ps hs cs are (a.typed ps hs cs are typed);
@@ -60,14 +62,16 @@ still_on files codes listed e f g bs ds es a b =
 -- what one header's step tells of all headers
 pub still_header :
     (files : List Scope) (codes : List TypeHeader) (listed : List DeclaredType) (e f : Environment)
-    (bs ds : List Names) → TypesGrown e f → KnowsPlaces f ds files → length ds ≡ length bs → (k : ℕ) (c : TypeHeader)
+    (bs ds : List Names) → TypesGrown e f → (HasValueTypes e → HasValueTypes f) → KnowsPlaces f ds files →
+    length ds ≡ length bs → (k : ℕ) (c : TypeHeader)
     (rest : List TypeHeader) → drop k codes ≡ c ∷ rest →
     ((ps : Program Span) (hs : List (Headed Span)) (cs : List Const) (h : Headed Span) → IsTypeHeader ps hs files c h →
     AreTyped ps hs cs listed e bs → AreTyped ps hs cs listed f ds) →
     StillTyped files codes listed e bs f ds
-still_header files codes listed e f bs ds g n l k c rest q typed =
+still_header files codes listed e f bs ds g v n l k c rest q typed =
     record {
       grown = g;
+      values = v;
       known = n;
       count = l;
       typed = λ ps hs cs are. let at = header_at ps hs files codes hs are k c rest q in typed ps hs cs at.0 at.1;

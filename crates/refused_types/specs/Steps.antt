@@ -13,6 +13,7 @@ use Rattle.typed_names.specs.declared.entities.Entity.TheVariants.{Refused}
 use Rattle.typed_names.specs.declared.scopes.Scope.{Scope}
 use Rattle.typed_names.specs.Meanings.{Names, block_at, world_at}
 use Rattle.typed_names.specs.Scopes.{env_at}
+use Rattle.value_types.specs.ValueTypes.{HasValueTypes}
 use Rattle.type_exprs.specs.Grown.{TypesGrown}
 use Rattle.declared_types.specs.declared.headers.TypeHeader.{TypeHeader}
 use Rattle.declared_types.specs.Headers.{AreTypeHeaders}
@@ -70,6 +71,7 @@ StaysTyped files codes types e bs f ds =
 pub record StillTyped (files : List Scope) (codes : List TypeHeader) (types : List DeclaredType) (e : Environment)
     (bs : List Names) (f : Environment) (ds : List Names) : Type 0 where
   pub grown : TypesGrown e f
+  pub values : HasValueTypes e → HasValueTypes f
   pub known : KnowsPlaces f ds files
   pub count : length ds ≡ length bs
   pub typed : StaysTyped files codes types e bs f ds

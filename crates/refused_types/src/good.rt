@@ -3,6 +3,7 @@
 ghost use Rattle.std.specs.Prelude.{◌≡◌, List, map, IfOk};
 ghost use Rattle.const_eval.specs.declared.consts.Const.{Const};
 ghost use Rattle.go_tree.specs.FileView.{type_spec_of};
+ghost use Rattle.value_types.specs.ValueTypes.{HasValueTypes};
 ghost use Rattle.typed_names.specs.Known.{KnowsTypes};
 ghost use Rattle.typed_names.specs.Scopes.{env_at};
 ghost use Rattle.type_exprs.specs.Grown.{TypesGrown};
@@ -31,6 +32,7 @@ pub fn is_good_type(
     requires known { KnowsTypes types.old blocks.now scope.now }
     requires tested { AreTested types.old tests.old }
     ensures grown { TypesGrown types.old types.new }
+    ensures values { HasValueTypes types.old → HasValueTypes types.new }
     ensures tested { AreTested types.new tests.new }
     ensures declared { tests.new.declared ≡ tests.old.declared }
     ensures good { IfOk result (λ b. (cs : List Const)

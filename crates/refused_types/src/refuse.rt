@@ -7,6 +7,7 @@ ghost use Rattle.go_types.specs.Programs.{Headed, Program};
 ghost use Rattle.go_types.specs.Collect.{aliased_world, typed_world};
 ghost use Rattle.go_types.specs.Collect as go;
 ghost use Rattle.type_relations.specs.Environment.{defined_types};
+ghost use Rattle.value_types.specs.ValueTypes.{HasValueTypes};
 ghost use Rattle.typed_names.specs.Known.{KnowsTypes};
 ghost use Rattle.typed_names.specs.Meanings.{world_at};
 ghost use Rattle.type_exprs.specs.Grown.{TypesGrown};
@@ -51,6 +52,7 @@ fn refuse_type(
     requires known { KnowsTypes types.old blocks.old scope.now }
     requires tested { AreTested types.old tests.old }
     ensures grown { TypesGrown types.old types.new }
+    ensures values { HasValueTypes types.old → HasValueTypes types.new }
     ensures known { KnowsTypes types.new blocks.new scope.now }
     ensures tested { AreTested types.new tests.new }
     ensures declared { tests.new.declared ≡ tests.old.declared }
@@ -85,6 +87,7 @@ fn refuse_header(
     requires known { KnowsPlaces types.old blocks.old files.now }
     requires tested { AreTested types.old tests.old }
     ensures grown { TypesGrown types.old types.new }
+    ensures values { HasValueTypes types.old → HasValueTypes types.new }
     ensures known { KnowsPlaces types.new blocks.new files.now }
     ensures tested { AreTested types.new tests.new }
     ensures declared { tests.new.declared ≡ tests.old.declared }
@@ -116,6 +119,7 @@ fn refuse_more(
     requires known { KnowsPlaces types.old blocks.old files.now }
     requires tested { AreTested types.old tests.old }
     ensures grown { TypesGrown types.old types.new }
+    ensures values { HasValueTypes types.old → HasValueTypes types.new }
     ensures known { KnowsPlaces types.new blocks.new files.now }
     ensures tested { AreTested types.new tests.new }
     ensures declared { tests.new.declared ≡ tests.old.declared }
@@ -149,6 +153,7 @@ pub fn refuse_types(
     requires known { KnowsPlaces types.old blocks.old files.now }
     requires tested { AreTested types.old tests.old }
     ensures grown { TypesGrown types.old types.new }
+    ensures values { HasValueTypes types.old → HasValueTypes types.new }
     ensures known { KnowsPlaces types.new blocks.new files.now }
     ensures tested { AreTested types.new tests.new }
     ensures declared { tests.new.declared ≡ tests.old.declared }

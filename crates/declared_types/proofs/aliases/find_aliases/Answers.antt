@@ -15,6 +15,7 @@ loop-preserved c =
     c.set_missing.new.blocks =
     record {
       grown = c.set_missing.ensures.grown;
+      values = c.set_missing.ensures.values;
       known = c.set_missing.ensures.known;
       count = c.set_missing.ensures.count;
       found = c.set_missing.ensures.found;

@@ -13,7 +13,8 @@ returns-in_err-set_header-clause-found c =
     let item = c.header-item.result in
     let rest = drop (i + 1) headers in
     let step = still_header files headers c.loop-header.types c.set_header.new.types c.loop-header.blocks
-    c.set_header.new.blocks c.set_header.ensures.grown c.set_header.ensures.known c.set_header.ensures.count i item rest
+    c.set_header.new.blocks c.set_header.ensures.grown c.set_header.ensures.values c.set_header.ensures.known
+    c.set_header.ensures.count i item rest
     (drop_item headers i item c.loop-header-test.true c.header-item.is) c.set_header.ensures.found in
     (still_on files headers c.args.types.now c.loop-header.types c.set_header.new.types c.args.blocks.now
     c.loop-header.blocks c.set_header.new.blocks c.loop-header.invariant.still step).found
@@ -32,7 +33,8 @@ loop-header-preserved c =
     let g = c.set_header.new.types in
     let es = c.set_header.new.blocks in
     let here = drop_item headers i item c.loop-header-test.true c.header-item.is in
-    let step = still_header files headers f g ds es c.set_header.ensures.grown c.set_header.ensures.known
+    let step = still_header files headers f g ds es c.set_header.ensures.grown c.set_header.ensures.values
+    c.set_header.ensures.known
     c.set_header.ensures.count i item rest here c.set_header.ensures.found in
     let r = subst (λ left. HeadersPassed files headers left e bs f ds c.loop-header.changed) here c.loop-header.invariant in
     elim c.if-branch.branch [

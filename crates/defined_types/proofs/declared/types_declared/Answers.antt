@@ -19,7 +19,7 @@ loop-header-preserved c =
     let r = subst (λ left. TypesRead e f bs files headers left old)
     (drop_item headers i item c.loop-header-test.true c.header-item.is) c.loop-header.invariant in
     read_one e bs files c.requires headers (drop (i + 1) headers) item f c.add_type.new.types old
-    c.add_type.new.declared.items r c.add_type.ensures.grown c.add_type.ensures.are c.in_ok-add_type.ensures.added
+    c.add_type.new.declared.items r c.add_type.ensures.grown c.add_type.ensures.values c.add_type.ensures.are c.in_ok-add_type.ensures.added
 
 pub returns-clause-are : goal.returns-clause-are
 returns-clause-are c =

@@ -25,7 +25,7 @@ loop-number-preserved c =
     c.loop-number.types c.declare_header.new.types c.loop-number.blocks c.declare_header.new.blocks c.loop-number.flags
     c.declare_header.new.flags refused c.loop-number.invariant item (drop (i + 1) headers)
     (drop_item headers i item c.loop-number-test.true c.index-headers-number.is) c.declare_header.ensures.grown
-    c.declare_header.ensures.known c.declare_header.ensures.flags c.declare_header.ensures.defined
+    c.declare_header.ensures.values c.declare_header.ensures.known c.declare_header.ensures.flags c.declare_header.ensures.defined
     c.declare_header.ensures.count well c.in_ok-well.ensures.set in
     subst
     (FunctionsPassed c.args.packages.now c.args.files.now headers (i + 1) c.args.types.now c.declare_header.new.types

@@ -33,8 +33,8 @@ loop-param-preserved c =
     subst (λ meant. ParamsRead c.args.types.now f c.type_meant.new.flags c.args.blocks.now c.args.scope.now all left meant)
     (sym c.in_ok-push-in-Ok.ensures.items)
     (params_more c.args.types.now e c.loop-param.flags c.args.blocks.now c.args.scope.now c.requires.known all (param_of item)
-    left c.loop-param.meant.items r f c.type_meant.new.flags c.type_meant.ensures.grown c.type_meant.ensures.flags
-    c.type_meant.ensures.defined c.in-Ok.t
+    left c.loop-param.meant.items r f c.type_meant.new.flags c.type_meant.ensures.grown c.type_meant.ensures.values
+    c.type_meant.ensures.flags c.type_meant.ensures.defined c.in-Ok.t
     (λ cs.
     subst (λ r. GivesType f (go.type_meant (env_at e cs c.args.blocks.now c.args.scope.now) (type_of item.of)) r) c.in-Ok.is
     (c.type_meant.ensures.gives cs)))
@@ -85,3 +85,9 @@ pub returns-in-Err-clause-known : goal.returns-in-Err-clause-known
 returns-in-Err-clause-known c =
     known_on c.loop-param.types c.type_meant.new.types c.type_meant.ensures.grown c.args.blocks.now c.args.scope.now
     c.loop-param.invariant.known
+
+pub returns-in_err-push-in-Ok-clause-values : goal.returns-in_err-push-in-Ok-clause-values
+returns-in_err-push-in-Ok-clause-values c = λ h. c.type_meant.ensures.values (c.loop-param.invariant.values h)
+
+pub returns-in-Err-clause-values : goal.returns-in-Err-clause-values
+returns-in-Err-clause-values c = λ h. c.type_meant.ensures.values (c.loop-param.invariant.values h)

@@ -36,7 +36,7 @@ loop-number-preserved c =
     let more = passed_more e bs files headers types c.requires.known i f g c.loop-number.flags y ms refused
     c.loop-number.invariant item (drop (i + 1) headers)
     (drop_item headers i item c.loop-number-test.true c.index-headers-number.is) c.declared_method.ensures.grown
-    c.declared_method.ensures.known c.declared_method.ensures.flags c.declared_method.ensures.defined o b
+    c.declared_method.ensures.values c.declared_method.ensures.known c.declared_method.ensures.flags c.declared_method.ensures.defined o b
     c.in_ok-method.ensures.typed
     (subst (λ n. TypesHeader f g bs files item n o) c.is_attached-new.ensures c.in_ok-method.ensures.gives)
     c.is_refused-wrong.ensures in

@@ -45,7 +45,7 @@ loop-i-preserved c =
           (drop (i + 1) headers) i
           (subst (λ left. HeadersPassed e f listed bs files headers left i)
           (drop_item headers i item c.loop-i-test.true c.index-headers-i.is) c.loop-i.invariant.passed)
-          g c.is_refused_type.ensures.grown
+          g c.is_refused_type.ensures.grown c.is_refused_type.ensures.values
           (places_on f g bs bs files known c.is_refused_type.ensures.grown
           (members_on f g c.is_refused_type.ensures.grown bs known.members))
           (λ cs h is.

@@ -25,7 +25,8 @@ returns-in_err-refuse_header-clause-typed c =
     (λ ts. (ps : Program Span) (hs : List (Headed Span)) (cs : List Const) (h : Headed Span) →
     IsTypeHeader ps hs files item h → AreTyped ps hs cs ts f ds → AreTyped ps hs cs ts g es)
     (ap (λ d. d.items) c.loop-header.invariant.tested.declared) c.refuse_header.ensures.typed in
-    let step = still_header files headers listed f g ds es c.refuse_header.ensures.grown c.refuse_header.ensures.known
+    let step = still_header files headers listed f g ds es c.refuse_header.ensures.grown c.refuse_header.ensures.values
+    c.refuse_header.ensures.known
     c.refuse_header.ensures.count i item rest (drop_item headers i item c.loop-header-test.true c.header-item.is) stays in
     (still_on files headers listed c.args.types.now f g c.args.blocks.now ds es c.loop-header.invariant.passed.still
     step).typed
@@ -50,7 +51,8 @@ loop-header-preserved c =
     (λ ts. (ps : Program Span) (hs : List (Headed Span)) (cs : List Const) (h : Headed Span) →
     IsTypeHeader ps hs files item h → AreTyped ps hs cs ts f ds → AreTyped ps hs cs ts g es)
     same c.refuse_header.ensures.typed in
-    let step = still_header files headers listed f g ds es c.refuse_header.ensures.grown c.refuse_header.ensures.known
+    let step = still_header files headers listed f g ds es c.refuse_header.ensures.grown c.refuse_header.ensures.values
+    c.refuse_header.ensures.known
     c.refuse_header.ensures.count i item rest here stays in
     let r = subst (λ left. HeadersPassed files headers left listed e bs f ds c.loop-header.changed) here
     c.loop-header.invariant.passed in

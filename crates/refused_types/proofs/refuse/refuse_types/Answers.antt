@@ -29,6 +29,7 @@ loop-preserved c =
     let step : StillTyped files headers listed f ds g es =
     record {
       grown = c.refuse_more.ensures.grown;
+      values = c.refuse_more.ensures.values;
       known = c.refuse_more.ensures.known;
       count = c.refuse_more.ensures.count;
       typed =
