@@ -14,9 +14,11 @@ use Rattle.run_rules.specs.Reduced.{name_obstacle, home_place, alias_form}
 use Rattle.run_rules.specs.Respanned.{type_with, decl_with, type_spec_with}
 use Rattle.run_rules.specs.Run.{Standing, Logged, Next, here_of, is_commented}
 use Rattle.run_rules.specs.Sites.{MarkRef, Where, Inlinable, an_alias, aliased, Part, an_expr, part_span, constant_in_spec, nth_constant, less, inlinable_in, where_is, inlinable, outer_meaning, qualifier}
-use Rattle.run_rules.specs.Steps.{At, same_here}
+use Rattle.run_rules.specs.Steps.{At, same_here, Found}
 use Rattle.run_rules.specs.Surroundings.{Place, seen_type}
 use Rattle.run_laws.specs.Reading.{FileReads, ProgramReads}
+use Rattle.form_splices.specs.Laws.{MakesForm}
+use Rattle.form_splices.proofs.FormsFound.{step-makes-form}
 use Rattle.put_nodes.specs.SpelledNames.{AreNames}
 use Rattle.written_names.specs.NamedPackages.{AreOfPackages}
 use Rattle.put_nodes.specs.Swapped.{FormedTypeSpecs, FormedDecl}
@@ -70,48 +72,49 @@ module _ (st : Standing) (m : MarkRef) (home : Where At) (reads : ProgramReads s
       by_decl (slice_get home.source.tree.decls m.decl) refl
       (sym (ap (λ (o : Option (Where At)). given o (λ w. given (slice_get w.source.tree.decls m.decl) (λ d. inlinable_in d m.item))) home_is) ∙ declared)
 
-module _ (marks : List MarkRef) (st : Standing) (l : Logged) (after : Standing) (n : Next marks st l after) where
+-- of a use that is found and makes its form
+module _ (marks : List MarkRef) (st : Standing) (u : Found At) (makes : MakesForm marks st u) where
   abbrev z : At
-  z = part_span n.found.site.part
+  z = part_span u.site.part
 
   abbrev top_of : Where At → Place At
   top_of home = top_place st.packages home.number home.of home.source.tree
 
   -- what the step writes for an alias, in the place of a part
   abbrev text_by : Where At → TypeExpr At → Part At → Names → Form At
-  text_by home t part names = alias_form same_here (is_commented st) st.packages marks n.found.site home t part names
+  text_by home t part names = alias_form same_here (is_commented st) st.packages marks u.site home t part names
 
-  made_so : (home : Where At) (c : NameAt At) (t : TypeExpr At) → where_is st.packages n.found.site.mark ≡ Some home → inlinable st.packages n.found.site.mark ≡ Some (an_alias c t)
-      → IsFormBy marks st l after n (text_by home t n.found.site.part)
+  made_so : (home : Where At) (c : NameAt At) (t : TypeExpr At) → where_is st.packages u.site.mark ≡ Some home → inlinable st.packages u.site.mark ≡ Some (an_alias c t)
+      → IsFormBy marks st u makes (text_by home t u.site.part)
   made_so home c t home_is declared =
-      by_obstacle marks st l after n TypeForm (text_by home t n.found.site.part)
-      (name_obstacle same_here (is_commented st) st.packages marks n.found.site home (seen_type (home_place same_here (is_commented st) st.packages marks home) t ∷ []) (text_by home t n.found.site.part unnamed))
-      (reduced_is marks st l after n home (an_alias c t) home_is declared)
+      by_obstacle marks st u makes TypeForm (text_by home t u.site.part)
+      (name_obstacle same_here (is_commented st) st.packages marks u.site home (seen_type (home_place same_here (is_commented st) st.packages marks home) t ∷ []) (text_by home t u.site.part unnamed))
+      (reduced_is marks st u makes home (an_alias c t) home_is declared)
 
-  module _ (old : Expr At) (part : n.found.site.part ≡ an_expr old) (home : Where At) (there : slice_get st.packages home.number ≡ Some home.of) where
-    as_told : (t : TypeExpr At) (f : Names → Form At) → ((names : Names) → text_by home t (an_expr old) names ≡ f names) → (names : Names) → text_by home t n.found.site.part names ≡ f names
+  module _ (old : Expr At) (part : u.site.part ≡ an_expr old) (home : Where At) (there : slice_get st.packages home.number ≡ Some home.of) where
+    as_told : (t : TypeExpr At) (f : Names → Form At) → ((names : Names) → text_by home t (an_expr old) names ≡ f names) → (names : Names) → text_by home t u.site.part names ≡ f names
     as_told t f h names = ap (λ (y : Part At). text_by home t y names) part ∙ h names
 
     by_type : (s : At) (before : Option (NameAt At)) (m : NameAt At)
         → ((q : NameAt At) (k : ℕ) → before ≡ Some q → qualifier st.packages home (top_of home) q.name ≡ Some k → (p : Package At) × (slice_get st.packages k ≡ Some p))
-        → FormedType (type_with here_of (named s before m)) → NameBy marks st l after n (text_by home (named s before m) n.found.site.part)
-    by_type s None m leads formed = by_view (member_view home.number (nat_eq home.number n.found.site.at.number) (outer_meaning st.packages home (top_of home) m.name))
+        → FormedType (type_with here_of (named s before m)) → NameBy marks st u makes (text_by home (named s before m) u.site.part)
+    by_type s None m leads formed = by_view (member_view home.number (nat_eq home.number u.site.at.number) (outer_meaning st.packages home (top_of home) m.name))
       where
-        by_view : Qualifies home.number (λ names. member_qualifier st.packages home n.found.site.at.number names (top_of home) m.name) → NameBy marks st l after n (text_by home (named s None m) n.found.site.part)
+        by_view : Qualifies home.number (λ names. member_qualifier st.packages home u.site.at.number names (top_of home) m.name) → NameBy marks st u makes (text_by home (named s None m) u.site.part)
         by_view (nothing g) =
             is_plain m.name formed.1
             (as_told (named s None m) (λ names. as_expr (ident z m.name))
-            (λ names. ap (λ (o : Option (List ℕ)). as_expr (type_expr z (named z (qualified st.packages home n.found.site.at.number names z o) (record { span = z; name = m.name })))) (g names)))
+            (λ names. ap (λ (o : Option (List ℕ)). as_expr (type_expr z (named z (qualified st.packages home u.site.at.number names z o) (record { span = z; name = m.name })))) (g names)))
         by_view (its_name g) =
             is_by_package home.number home.of m.name there formed.1
             (as_told (named s None m) (λ names. as_expr (selector z (ident z (names home.number)) (record { span = z; name = m.name })))
-            (λ names. ap (λ (o : Option (List ℕ)). as_expr (type_expr z (named z (qualified st.packages home n.found.site.at.number names z o) (record { span = z; name = m.name })))) (g names)))
+            (λ names. ap (λ (o : Option (List ℕ)). as_expr (type_expr z (named z (qualified st.packages home u.site.at.number names z o) (record { span = z; name = m.name })))) (g names)))
     by_type s (Some q) m leads formed = by_package (qualifier st.packages home (top_of home) q.name) refl
       where
         form_of : Names → Option ℕ → Form At
-        form_of names o = as_expr (type_expr z (named z (qualified_or st.packages home n.found.site.at.number names z q (given o (λ k. Some (names k)))) (record { span = z; name = m.name })))
+        form_of names o = as_expr (type_expr z (named z (qualified_or st.packages home u.site.at.number names z q (given o (λ k. Some (names k)))) (record { span = z; name = m.name })))
 
-        by_package : (o : Option ℕ) → qualifier st.packages home (top_of home) q.name ≡ o → NameBy marks st l after n (text_by home (named s (Some q) m) n.found.site.part)
+        by_package : (o : Option ℕ) → qualifier st.packages home (top_of home) q.name ≡ o → NameBy marks st u makes (text_by home (named s (Some q) m) u.site.part)
         by_package None e =
             is_member q.name m.name formed.0 formed.1
             (as_told (named s (Some q) m) (λ names. as_expr (selector z (ident z q.name) (record { span = z; name = m.name }))) (λ names. ap (λ (o : Option ℕ). form_of names o) e))
@@ -120,13 +123,22 @@ module _ (marks : List MarkRef) (st : Standing) (l : Logged) (after : Standing) 
             is_by_package k p.0 m.name p.1 formed.1
             (as_told (named s (Some q) m) (λ names. as_expr (selector z (ident z (names k)) (record { span = z; name = m.name }))) (λ names. ap (λ (o : Option ℕ). form_of names o) e))
 
-  module _ (reads : ProgramReads st) (used : IsUsedByName n) (uses : UsesAlias n) where
-    its_name_by : NameBy marks st l after n (text_by uses.home (named uses.span uses.before uses.type) n.found.site.part)
-    its_name_by =
-        by_type used.old used.part uses.home (home_of st n.found.site.mark uses.home uses.home_is) uses.span uses.before uses.type uses.leads
-        (type_formed st n.found.site.mark uses.home reads uses.home_is uses.name (named uses.span uses.before uses.type) uses.declared)
+module _ (marks : List MarkRef) (st : Standing) (l : Logged) (after : Standing) (n : Next marks st l after) (reads : ProgramReads st) (used : IsUsedByName n) (uses : UsesAlias n) where
+  abbrev makes : MakesForm marks st n.found
+  makes = step-makes-form marks st l after n
 
-    pub alias_becomes : AreOfPackages st.packages n.found.named × (AreNames n.found.named → BecomesName n)
-    alias_becomes =
-        let made = made_so uses.home uses.name (named uses.span uses.before uses.type) uses.home_is uses.declared in
-        (of_packages marks st l after n (text_by uses.home (named uses.span uses.before uses.type) n.found.site.part) its_name_by made, λ are. becomes_name marks st l after n (text_by uses.home (named uses.span uses.before uses.type) n.found.site.part) its_name_by made are)
+  abbrev text : Names → Form At
+  text names = text_by marks st n.found makes uses.home (named uses.span uses.before uses.type) n.found.site.part names
+
+  its_name_by : NameBy marks st n.found makes (λ names. text names)
+  its_name_by =
+      by_type marks st n.found makes used.old used.part uses.home (home_of st n.found.site.mark uses.home uses.home_is) uses.span uses.before uses.type uses.leads
+      (type_formed st n.found.site.mark uses.home reads uses.home_is uses.name (named uses.span uses.before uses.type) uses.declared)
+
+  pub alias_becomes : AreOfPackages st.packages n.found.named × (AreNames n.found.named → BecomesName n)
+  alias_becomes =
+      let made = made_so marks st n.found makes uses.home uses.name (named uses.span uses.before uses.type) uses.home_is uses.declared in (
+        of_packages marks st n.found makes (λ names. text names) its_name_by made,
+        λ are. let r = becomes_name marks st n.found makes (λ names. text names) its_name_by made are in
+            record { new = r.new; form_is = r.form_is; range_is = r.range_is; is_name = r.is_name },
+      )

@@ -15,15 +15,17 @@ use Rattle.run_rules.specs.Respanned.{expr_with, exprs_with, specs_with, decl_wi
 use Rattle.run_rules.specs.Rewriting.{new_expr}
 use Rattle.run_rules.specs.Run.{Standing, Logged, Next, here_of, is_commented}
 use Rattle.run_rules.specs.Sites.{MarkRef, Where, Inlinable, a_constant, an_alias, aliased, part_span, constant_in_spec, less, nth_constant, inlinable_in, where_is, inlinable, outer_meaning}
-use Rattle.run_rules.specs.Steps.{At, same_here}
+use Rattle.run_rules.specs.Steps.{At, same_here, Found}
 use Rattle.run_rules.specs.Surroundings.{other, Place, inner_slot, in_slot}
 use Rattle.run_laws.specs.Reading.{FileReads, ProgramReads}
+use Rattle.form_splices.specs.Laws.{MakesForm}
+use Rattle.form_splices.proofs.FormsFound.{step-makes-form}
 use Rattle.put_nodes.specs.SpelledNames.{AreNames}
 use Rattle.written_names.specs.NamedPackages.{AreOfPackages}
 use Rattle.put_nodes.specs.Swapped.{FormedDecl}
 use Rattle.put_nodes.proofs.ReadFiles.{decl_formed}
 use Rattle.put_names.specs.Uses.{IsDeclaredAsName, as_name, as_member, BecomesName, UsesConstant}
-use Rattle.put_names.proofs.Forms.{stands, Qualifies, nothing, its_name, member_view, home_of, IsFormBy, by_obstacle, reduced_is, NameBy, is_plain, is_by_package, becomes_name, of_packages}
+use Rattle.put_names.proofs.Forms.{stands, Qualifies, nothing, its_name, member_view, home_of, IsFormBy, by_obstacle, reduced_is, NameBy, is_plain, is_by_package, NameMade, becomes_name, of_packages}
 
 -- ---- what a constant is declared as is well formed
 
@@ -71,44 +73,49 @@ module _ (st : Standing) (m : MarkRef) (home : Where At) where
         by_decl (slice_get home.source.tree.decls m.decl) refl
         (sym (ap (λ (o : Option (Where At)). given o (λ w. given (slice_get w.source.tree.decls m.decl) (λ d. inlinable_in d m.item))) home_is) ∙ declared)
 
-module _ (marks : List MarkRef) (st : Standing) (l : Logged) (after : Standing) (n : Next marks st l after) where
+-- of a use that is found and makes its form
+module _ (marks : List MarkRef) (st : Standing) (u : Found At) (makes : MakesForm marks st u) where
   -- the text of the declaration at the use, by names for packages
   abbrev text_by : Where At → Expr At → Names → Form At
-  text_by home e names = constant_form same_here (is_commented st) st.packages marks n.found.site home e names
+  text_by home e names = constant_form same_here (is_commented st) st.packages marks u.site home e names
 
   abbrev top_of : Where At → Place At
   top_of home = top_place st.packages home.number home.of home.source.tree
 
   -- the declaration's own text at the use is a name
-  by_value : (home : Where At) {e : Expr At} → slice_get st.packages home.number ≡ Some home.of → IsDeclaredAsName st.packages home e → FormedExpr (expr_with here_of e) → NameBy marks st l after n (text_by home e)
+  by_value : (home : Where At) {e : Expr At} → slice_get st.packages home.number ≡ Some home.of → IsDeclaredAsName st.packages home e → FormedExpr (expr_with here_of e) → NameBy marks st u makes (text_by home e)
   by_value home there (as_name {s = s} {n = m}) formed =
-      by_view (member_view home.number (nat_eq home.number n.found.site.at.number) (outer_meaning st.packages home (top_of home) m))
+      by_view (member_view home.number (nat_eq home.number u.site.at.number) (outer_meaning st.packages home (top_of home) m))
     where
       z : At
-      z = part_span n.found.site.part
+      z = part_span u.site.part
 
-      by_view : Qualifies home.number (λ names. member_qualifier st.packages home n.found.site.at.number names (top_of home) m) → NameBy marks st l after n (text_by home (ident s m))
+      by_view : Qualifies home.number (λ names. member_qualifier st.packages home u.site.at.number names (top_of home) m) → NameBy marks st u makes (text_by home (ident s m))
       by_view (nothing g) = is_plain m formed (λ names. ap (λ (o : Option (List ℕ)). as_expr (otherwise (given o (λ q. Some (selector z (ident z q) (record { span = z; name = m })))) (ident z m))) (g names))
       by_view (its_name g) =
           is_by_package home.number home.of m there formed (λ names. ap (λ (o : Option (List ℕ)). as_expr (otherwise (given o (λ q. Some (selector z (ident z q) (record { span = z; name = m })))) (ident z m))) (g names))
   by_value home there (as_member {s = s} {z = y} {q = q} {n = m} k p h stands_there) formed =
       is_by_package k p m.name stands_there formed.2
-      (λ names. ap (λ (o : Option ℕ). as_expr (otherwise (given (given o (λ j. Some (names j))) (λ v. Some (selector (part_span n.found.site.part) (ident (part_span n.found.site.part) v) (record { span = part_span n.found.site.part; name = m.name }))))
-      (selector (part_span n.found.site.part) (new_expr (outside_changes st.packages home n.found.site.at.number names (part_span n.found.site.part)) (in_slot (inner_slot (top_of home).slot (selector s (ident y q) m) 7 false true) (top_of home)) other (ident y q))
-      (record { span = part_span n.found.site.part; name = m.name })))) h)
+      (λ names. ap (λ (o : Option ℕ). as_expr (otherwise (given (given o (λ j. Some (names j))) (λ v. Some (selector (part_span u.site.part) (ident (part_span u.site.part) v) (record { span = part_span u.site.part; name = m.name }))))
+      (selector (part_span u.site.part) (new_expr (outside_changes st.packages home u.site.at.number names (part_span u.site.part)) (in_slot (inner_slot (top_of home).slot (selector s (ident y q) m) 7 false true) (top_of home)) other (ident y q))
+      (record { span = part_span u.site.part; name = m.name })))) h)
 
-  made_so : (home : Where At) (c : NameAt At) (e : Expr At) → where_is st.packages n.found.site.mark ≡ Some home → inlinable st.packages n.found.site.mark ≡ Some (a_constant c e) → IsFormBy marks st l after n (text_by home e)
+  made_so : (home : Where At) (c : NameAt At) (e : Expr At) → where_is st.packages u.site.mark ≡ Some home → inlinable st.packages u.site.mark ≡ Some (a_constant c e) → IsFormBy marks st u makes (text_by home e)
   made_so home c e home_is declared =
-      by_obstacle marks st l after n ConstForm (text_by home e)
-      (name_obstacle same_here (is_commented st) st.packages marks n.found.site home (expr_seen (home_place same_here (is_commented st) st.packages marks home) other e) (text_by home e unnamed))
-      (reduced_is marks st l after n home (a_constant c e) home_is declared)
+      by_obstacle marks st u makes ConstForm (text_by home e)
+      (name_obstacle same_here (is_commented st) st.packages marks u.site home (expr_seen (home_place same_here (is_commented st) st.packages marks home) other e) (text_by home e unnamed))
+      (reduced_is marks st u makes home (a_constant c e) home_is declared)
 
-  module _ (reads : ProgramReads st) (uses : UsesConstant n) where
-    its_name_by : NameBy marks st l after n (text_by uses.home uses.value)
-    its_name_by =
-        by_value uses.home (home_of st n.found.site.mark uses.home uses.home_is) uses.as_name (value_formed st n.found.site.mark uses.home reads uses.home_is uses.name uses.value uses.declared)
+  -- what the use of such a constant becomes
+  pub constant_made : ProgramReads st → (home : Where At) (c : NameAt At) (e : Expr At) → where_is st.packages u.site.mark ≡ Some home → inlinable st.packages u.site.mark ≡ Some (a_constant c e) → IsDeclaredAsName st.packages home e
+      → AreOfPackages st.packages u.named × (AreNames u.named → NameMade marks st u makes)
+  constant_made reads home c e home_is declared names_it =
+      let by : NameBy marks st u makes (text_by home e) = by_value home (home_of st u.site.mark home home_is) names_it (value_formed st u.site.mark home reads home_is c e declared) in
+      let made = made_so home c e home_is declared in
+      (of_packages marks st u makes (text_by home e) by made, λ are. becomes_name marks st u makes (text_by home e) by made are)
 
-    pub constant_becomes : AreOfPackages st.packages n.found.named × (AreNames n.found.named → BecomesName n)
-    constant_becomes =
-        let made = made_so uses.home uses.name uses.value uses.home_is uses.declared in
-        (of_packages marks st l after n (text_by uses.home uses.value) its_name_by made, λ are. becomes_name marks st l after n (text_by uses.home uses.value) its_name_by made are)
+module _ (marks : List MarkRef) (st : Standing) (l : Logged) (after : Standing) (n : Next marks st l after) where
+  pub constant_becomes : ProgramReads st → UsesConstant n → AreOfPackages st.packages n.found.named × (AreNames n.found.named → BecomesName n)
+  constant_becomes reads uses =
+      let made = constant_made marks st n.found (step-makes-form marks st l after n) reads uses.home uses.name uses.value uses.home_is uses.declared uses.as_name in
+      (made.0, λ are. let r = made.1 are in record { new = r.new; form_is = r.form_is; range_is = r.range_is; is_name = r.is_name })

@@ -3,7 +3,7 @@ use Rattle.std.proofs.Common.{◌≡◌, ℕ, Bool, true, false, nat_eq, List, [
 use Rattle.std.specs.Prelude.{slice_get, if◌then◌else◌}
 use Rattle.std.proofs.lemmas.Bool.Decides.{nat_tests}
 use Rattle.std.proofs.lemmas.Option.{same_Some}
-use Rattle.go_tree.specs.Tree.{ident, selector}
+use Rattle.go_tree.specs.Tree.{Expr, ident, selector}
 use Rattle.layout_laws.specs.Formed.{IsName}
 use Rattle.import_rules.specs.Needs.{serving, avoided}
 use Rattle.pkg_graph.specs.Package.{SourceTree, Package}
@@ -13,17 +13,15 @@ use Rattle.run_rules.specs.FormTrees.{FormKind, Form, as_expr, form_identifiers}
 use Rattle.run_rules.specs.Naming.{Names, unnamed, new_first, unnamed_in, Named, name_added, names_by, fresh_name, package_path, own_name, names_here, environment_here, added_import, named_package, named_packages}
 use Rattle.run_rules.specs.Obstacles.{Obstacle}
 use Rattle.run_rules.specs.Reduced.{becomes, kept, named_form, reduced_in}
-use Rattle.run_rules.specs.Run.{Standing, Logged, Next, is_commented}
+use Rattle.run_rules.specs.Run.{Standing, is_commented}
 use Rattle.run_rules.specs.Sites.{MarkRef, Where, Inlinable, Site, part_span, mark_of, where_is, inlinable}
-use Rattle.run_rules.specs.Steps.{At, same_here}
+use Rattle.run_rules.specs.Steps.{At, same_here, Found}
 use Rattle.run_rules.specs.Surroundings.{Place}
 use Rattle.run_laws.specs.Reading.{FileAt}
 use Rattle.form_splices.specs.Laws.{MakesForm}
-use Rattle.form_splices.proofs.FormsFound.{step-makes-form}
 use Rattle.written_names.specs.NamedPackages.{AreOfPackages}
 use Rattle.put_names.proofs.Unnamed.{none_unnamed, none_unnamed_two}
-use Rattle.put_nodes.specs.SpelledNames.{a_name_alone, a_qualified_name, AreNames}
-use Rattle.put_names.specs.Uses.{BecomesName}
+use Rattle.put_nodes.specs.SpelledNames.{IsNameExpr, a_name_alone, a_qualified_name, AreNames}
 
 -- ---- where a mark's declaration stands
 
@@ -105,28 +103,29 @@ member_view k false (Some t) = by (mark_of t)
     by None = nothing (λ names. refl)
     by (Some m) = its_name (λ names. refl)
 
-module _ (marks : List MarkRef) (st : Standing) (l : Logged) (after : Standing) (n : Next marks st l after) where
+-- of a use that is found and makes its form
+module _ (marks : List MarkRef) (st : Standing) (u : Found At) (makes : MakesForm marks st u) where
   abbrev pub x : Site At
-  x = n.found.site
+  x = u.site
 
   abbrev pub z : At
-  z = part_span n.found.site.part
+  z = part_span u.site.part
 
   -- the step makes this form, by the names that its packages have
   pub record IsFormBy (form : Names → Form At) : Type 0 where
-    pub form_is : n.found.form ≡ form (names_by n.found.named)
-    pub range_is : n.found.range ≡ z
-    pub named_is : n.found.named ≡ named_packages st.packages x.at x.place [] (unnamed_in (form_identifiers (form unnamed)))
+    pub form_is : u.form ≡ form (names_by u.named)
+    pub range_is : u.range ≡ z
+    pub named_is : u.named ≡ named_packages st.packages x.at x.place [] (unnamed_in (form_identifiers (form unnamed)))
 
   pub by_obstacle : (k : FormKind) (form : Names → Form At) (o : Option Obstacle)
       → elim o [ Some o ↦ Some (kept o) | None ↦ named_form same_here (is_commented st) st.packages marks x k form ]
-      ≡ Some (becomes n.found.kind n.found.form n.found.range n.found.named) → IsFormBy form
+      ≡ Some (becomes u.kind u.form u.range u.named) → IsFormBy form
   by_obstacle k form (Some o) h = absurd cc
   by_obstacle k form None h =
       let ns : List Named = named_packages st.packages x.at x.place [] (unnamed_in (form_identifiers (form unnamed))) in
-      let q : becomes k (form (names_by ns)) z ns ≡ becomes n.found.kind n.found.form n.found.range n.found.named =
-      same_Some (becomes k (form (names_by ns)) z ns) (becomes n.found.kind n.found.form n.found.range n.found.named) h in
-      let named_is : ns ≡ n.found.named = named_of q in
+      let q : becomes k (form (names_by ns)) z ns ≡ becomes u.kind u.form u.range u.named =
+      same_Some (becomes k (form (names_by ns)) z ns) (becomes u.kind u.form u.range u.named) h in
+      let named_is : ns ≡ u.named = named_of q in
       record {
         form_is = sym (form_of q) ∙ ap (λ (ms : List Named). form (names_by ms)) named_is;
         range_is = sym (range_of q);
@@ -143,12 +142,11 @@ module _ (marks : List MarkRef) (st : Standing) (l : Logged) (after : Standing) 
       named_of q = cc
 
   -- what the use of this declaration becomes
-  pub reduced_is : (home : Where At) (d : Inlinable At) → where_is st.packages n.found.site.mark ≡ Some home → inlinable st.packages n.found.site.mark ≡ Some d
-      → reduced_in same_here (is_commented st) st.packages marks x home d ≡ Some (becomes n.found.kind n.found.form n.found.range n.found.named)
+  pub reduced_is : (home : Where At) (d : Inlinable At) → where_is st.packages u.site.mark ≡ Some home → inlinable st.packages u.site.mark ≡ Some d
+      → reduced_in same_here (is_commented st) st.packages marks x home d ≡ Some (becomes u.kind u.form u.range u.named)
   reduced_is home d home_is declared =
-      let m : MakesForm marks st n.found = step-makes-form marks st l after n in
       sym (ap (λ (o : Option (Where At)). given o (λ w. given (inlinable st.packages x.mark) (reduced_in same_here (is_commented st) st.packages marks x w))) home_is
-      ∙ ap (λ (o : Option (Inlinable At)). given o (reduced_in same_here (is_commented st) st.packages marks x home)) declared) ∙ m.form_is
+      ∙ ap (λ (o : Option (Inlinable At)). given o (reduced_in same_here (is_commented st) st.packages marks x home)) declared) ∙ makes.form_is
 
   abbrev pub a_member : List ℕ → List ℕ → Form At
   a_member q m = as_expr (selector z (ident z q) (record { span = z; name = m }))
@@ -159,18 +157,25 @@ module _ (marks : List MarkRef) (st : Standing) (l : Logged) (after : Standing) 
     is_member : (q m : List ℕ) → IsName q → IsName m → ((names : Names) → form names ≡ a_member q m) → NameBy form
     is_by_package : (k : ℕ) (p : Package At) (m : List ℕ) → slice_get st.packages k ≡ Some p → IsName m → ((names : Names) → form names ≡ a_member (names k) m) → NameBy form
 
-  pub becomes_name : (form : Names → Form At) → NameBy form → IsFormBy form → AreNames n.found.named → BecomesName n
-  becomes_name form (is_plain m name is) made are = record { new = ident z m; form_is = made.form_is ∙ is (names_by n.found.named); range_is = made.range_is; is_name = a_name_alone name }
+  -- it becomes a name in its place
+  pub record NameMade : Type 0 where
+    pub new : Expr At
+    pub form_is : u.form ≡ as_expr new
+    pub range_is : u.range ≡ z
+    pub is_name : IsNameExpr new
+
+  pub becomes_name : (form : Names → Form At) → NameBy form → IsFormBy form → AreNames u.named → NameMade
+  becomes_name form (is_plain m name is) made are = record { new = ident z m; form_is = made.form_is ∙ is (names_by u.named); range_is = made.range_is; is_name = a_name_alone name }
   becomes_name form (is_member q m first name is) made are =
-      record { new = selector z (ident z q) (record { span = z; name = m }); form_is = made.form_is ∙ is (names_by n.found.named); range_is = made.range_is; is_name = a_qualified_name first name }
+      record { new = selector z (ident z q) (record { span = z; name = m }); form_is = made.form_is ∙ is (names_by u.named); range_is = made.range_is; is_name = a_qualified_name first name }
   becomes_name form (is_by_package k p m there name is) made are =
       record {
-        new = selector z (ident z (names_by n.found.named k)) (record { span = z; name = m });
-        form_is = made.form_is ∙ is (names_by n.found.named);
+        new = selector z (ident z (names_by u.named k)) (record { span = z; name = m });
+        form_is = made.form_is ∙ is (names_by u.named);
         range_is = made.range_is;
         is_name =
             a_qualified_name
-            (first_named st.packages x.at x.place [] k (new_first k (unnamed_in (m ∷ []))) n.found.named
+            (first_named st.packages x.at x.place [] k (new_first k (unnamed_in (m ∷ []))) u.named
             (made.named_is ∙ ap (λ (f : Form At). named_packages st.packages x.at x.place [] (unnamed_in (form_identifiers f))) (is unnamed)) are)
             name;
       }
@@ -179,7 +184,7 @@ module _ (marks : List MarkRef) (st : Standing) (l : Logged) (after : Standing) 
   told f = named_packages st.packages x.at x.place [] (unnamed_in (form_identifiers f))
 
   -- the packages that it names are packages of the program
-  pub of_packages : (form : Names → Form At) → NameBy form → IsFormBy form → AreOfPackages st.packages n.found.named
+  pub of_packages : (form : Names → Form At) → NameBy form → IsFormBy form → AreOfPackages st.packages u.named
   of_packages form (is_plain m name is) made =
       subst (λ (ns : List Named). AreOfPackages st.packages ns)
       (sym (made.named_is ∙ ap told (is unnamed) ∙ ap (λ (qs : List ℕ). named_packages st.packages x.at x.place [] qs) (none_unnamed m name))) tt

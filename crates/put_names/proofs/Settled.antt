@@ -29,8 +29,8 @@ module _ (marks : List MarkRef) (st : Standing) (l : Logged) (after : Standing) 
   module _ (writable : PackagesAreWritable st.packages) (undotted : UndottedFile (bare_file (file_found n.found))) (scoped : IsScopedAround n) (used : IsUsedByName n) (led : AddsLedTo st.packages n.found) (few : FewNames st.packages n.found) (removes : RemovesNoNames n) where
     settle_by : AreOfPackages st.packages n.found.named × (AreNames n.found.named → BecomesName n) → SettlesFile n
     settle_by h =
-        let are : AreNames n.found.named = step_names marks st l after n reads writable.named writable.by_path few h.0 in
-        names_settle undotted scoped used (h.1 are) (step_imports marks st l after n writable.octets h.0 are) led few removes
+        let are : AreNames n.found.named = step_names marks st n.found n.is_first n.old n.stands reads writable.named writable.by_path few h.0 in
+        names_settle undotted scoped used (h.1 are) (step_imports marks st n.found n.is_first n.old n.stands writable.octets h.0 are) led few removes
 
     pub constants_settle : UsesConstant n → SettlesFile n
     constants_settle uses = settle_by (constant_becomes marks st l after n reads uses)

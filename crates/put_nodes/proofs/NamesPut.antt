@@ -33,7 +33,7 @@ use Rattle.splice_laws.proofs.Rises.{tokens_rise}
 use Rattle.names_apart.specs.Starts.{StartsName}
 use Rattle.put_nodes.specs.SpelledNames.{IsNameExpr, a_name_alone, a_qualified_name}
 use Rattle.put_nodes.specs.Put.{FormIsPut, BeginsWithName, alone, qualified}
-use Rattle.put_nodes.specs.Swapped.{StandsAs, as_operand, as_callee, as_deferred, IsOldName, MayBeSwapped, is_old, is_node}
+use Rattle.put_nodes.specs.Swapped.{StandsAs, as_operand, as_callee, as_deferred, IsOldName, IsSwapped, MayBeSwapped, is_old, is_node}
 use Rattle.names_apart.proofs.NamesApart.{names_apart, starts_name}
 use Rattle.names_apart.proofs.NoDots.{callee_undotted}
 use Rattle.put_nodes.proofs.NamesLaid.{layout_of, first_name, first_is_name, first_laid, form_is, formed_name, new_is, callee_is, parted, edit_of, indent_spaces}
@@ -85,59 +85,72 @@ module _ {A : Type 0} (to : A → Span) (t : FileText) (file : File Span) (reads
   callee_starts h f g (alone {s = s} {n = n}) into =
       let r = replaced (a_callee h (ident (to s) n) f) file g (lexemes t.tokens) reads.spells (tokens_rise t.text t.tokens t.comments reads.scans) into in by_first r r.old.4
 
-  module _ (z : A) (s : Slot) (old new : Expr A) (is : IsNameExpr new) where
+  -- `Whole` is what is known of the file with the new name in it
+  module _ (Whole : File Span → Type 0) (z : A) (s : Slot) (old new : Expr A) (is : IsNameExpr new) where
     abbrev range : Span
     range = to (expr_span old)
 
     abbrev indent : List ℕ
     indent = indent_at t.text range.start
 
-    placed_put : (w : Swap Span) (g : File Span) (dotted : Bool) → s.level ≤ 7 → swap_mark w ≡ range → new_layout indent dotted false w ≡ layout_of new → FileIn w file g → AsksOld w → FormedNew dotted w
-        → (dotted ≡ false → begins_with_dot (drop (swap_mark w).end t.text) ≡ false) → StartsName range.start t.tokens → FormIsPut t file z range s (as_expr new)
-    placed_put w g dotted most mark laid into asks formed off starts =
-        record {
-          new = g;
-          swap = w;
-          indent = indent;
-          dotted = dotted;
-          wrapped = false;
-          blank = parted t z range s (as_expr new);
-          edit_is =
-              edit_of t z range s (as_expr new) (new_layout indent dotted false w) (form_is is z indent s most ∙ sym laid)
-              ∙ ap (λ (y : Span). splice y (parted t z range s (as_expr new)) (new_layout indent dotted false w)) (sym mark);
-          put = record {
-            of_text = reads.scans;
-            spelled = reads.spells;
-            undotted_file = undotted;
-            swapped = into;
-            asks = asks;
-            formed = formed;
-            spaces = indent_spaces t.text range.start;
-            undotted = off;
-            apart = λ e.
-                subst (λ (a : Layout). are_apart t.tokens (swap_mark w).start (first_word a) ≡ true) (sym laid)
-                (subst (λ (v : List ℕ). are_apart t.tokens (swap_mark w).start v ≡ true) (sym (first_laid is))
-                (subst (λ (y : Span). are_apart t.tokens y.start (chars (first_name new)) ≡ true) (sym mark)
-                (names_apart t.text t.tokens t.comments reads.scans range.start starts (first_name new) (first_is_name is))));
-          };
-        }
+    placed_put : (w : Swap Span) (g : File Span) → Whole g → (dotted : Bool) → s.level ≤ 7 → swap_mark w ≡ range → new_layout indent dotted false w ≡ layout_of new → FileIn w file g → AsksOld w → FormedNew dotted w
+        → (dotted ≡ false → begins_with_dot (drop (swap_mark w).end t.text) ≡ false) → StartsName range.start t.tokens → (r : FormIsPut t file z range s (as_expr new)) × Whole r.new
+    placed_put w g whole dotted most mark laid into asks formed off starts = (
+      record {
+        new = g;
+        swap = w;
+        indent = indent;
+        dotted = dotted;
+        wrapped = false;
+        blank = parted t z range s (as_expr new);
+        edit_is =
+            edit_of t z range s (as_expr new) (new_layout indent dotted false w) (form_is is z indent s most ∙ sym laid)
+            ∙ ap (λ (y : Span). splice y (parted t z range s (as_expr new)) (new_layout indent dotted false w)) (sym mark);
+        put = record {
+          of_text = reads.scans;
+          spelled = reads.spells;
+          undotted_file = undotted;
+          swapped = into;
+          asks = asks;
+          formed = formed;
+          spaces = indent_spaces t.text range.start;
+          undotted = off;
+          apart = λ e.
+              subst (λ (a : Layout). are_apart t.tokens (swap_mark w).start (first_word a) ≡ true) (sym laid)
+              (subst (λ (v : List ℕ). are_apart t.tokens (swap_mark w).start v ≡ true) (sym (first_laid is))
+              (subst (λ (y : Span). are_apart t.tokens y.start (chars (first_name new)) ≡ true) (sym mark)
+              (names_apart t.text t.tokens t.comments reads.scans range.start starts (first_name new) (first_is_name is))));
+        };
+      },
+      whole,
+    )
 
-  pub name_put : (z : A) (p : Place A) (u : Use) (old new : Expr A) → MayBeSwapped to (λ w. (g : File Span) × FileIn w file g) p u old → (IsOldName p old → ⊥) → BeginsWithName to t.tokens old → IsNameExpr new
-      → FormIsPut t file z (to (expr_span old)) p.slot (as_expr new)
-  name_put z p u old new (is_old x) none begins is = absurd (none x)
-  name_put z p u old new (is_node x) none begins is = let y = x (expr_with to new) in by y.stands y.whole
+  abbrev Holds : (File Span → Type 0) → Swap Span → Type 0
+  Holds Whole w = (g : File Span) × FileIn w file g × Whole g
+
+  -- it is put so where the old name is swapped for it
+  pub swapped_put : (Whole : File Span → Type 0) (z : A) (p : Place A) (u : Use) (old new : Expr A) → IsSwapped to (Holds Whole) p u old (expr_with to new) → BeginsWithName to t.tokens old → IsNameExpr new
+      → (r : FormIsPut t file z (to (expr_span old)) p.slot (as_expr new)) × Whole r.new
+  swapped_put Whole z p u old new y begins is = by y.stands y.whole
     where
-      by : {w : Swap Span} → StandsAs p.slot u (expr_with to old) (expr_with to new) w → (g : File Span) × FileIn w file g → FormIsPut t file z (to (expr_span old)) p.slot (as_expr new)
+      by : {w : Swap Span} → StandsAs p.slot u (expr_with to old) (expr_with to new) w → Holds Whole w → (r : FormIsPut t file z (to (expr_span old)) p.slot (as_expr new)) × Whole r.new
       by (as_operand {l = l} {h = h} level most header) v =
           let dotted : Bool = begins_with_dot (drop (expr_mark (expr_with to old)).end t.text) in
-          placed_put z p.slot old new is (an_operand l h (expr_with to old) (expr_with to new)) v.0 dotted (subst (λ (n : ℕ). n ≤ 7) (sym level) most) (span_with to old)
+          placed_put Whole z p.slot old new is (an_operand l h (expr_with to old) (expr_with to new)) v.0 v.2 dotted (subst (λ (n : ℕ). n ≤ 7) (sym level) most) (span_with to old)
           (new_is to is (expr_with to old) (indent_at t.text (to (expr_span old)).start) l h dotted most) v.1 tt (formed_name to is, λ q. inr (never_integer to is h)) (λ e. e)
           (operand_starts l h (expr_with to new) v.0 begins v.1)
       by (as_callee {h = h} e slot header) v =
-          placed_put z p.slot old new is (a_callee h (expr_with to old) (expr_with to new)) v.0 false (subst (λ (n : ℕ). n ≤ 7) (sym (ap (λ (y : Slot). y.level) slot)) seven) (span_with to old)
+          placed_put Whole z p.slot old new is (a_callee h (expr_with to old) (expr_with to new)) v.0 v.2 false (subst (λ (n : ℕ). n ≤ 7) (sym (ap (λ (y : Slot). y.level) slot)) seven) (span_with to old)
           (callee_is to is (expr_with to old) (indent_at t.text (to (expr_span old)).start) h false) v.1 tt ((formed_name to is).1, refl) (λ e. callee_undotted t.text t.tokens t.comments file v.0 h (expr_with to old) (expr_with to new) reads.scans reads.spells undotted v.1)
           (callee_starts h (expr_with to new) v.0 begins v.1)
         where
           seven : 7 ≤ 7
           seven = omega arith
       by (as_deferred e slot deferred) v = absurd (no_call to begins deferred)
+
+  pub name_put : (z : A) (p : Place A) (u : Use) (old new : Expr A) → MayBeSwapped to (λ w. (g : File Span) × FileIn w file g) p u old → (IsOldName p old → ⊥) → BeginsWithName to t.tokens old → IsNameExpr new
+      → FormIsPut t file z (to (expr_span old)) p.slot (as_expr new)
+  name_put z p u old new (is_old x) none begins is = absurd (none x)
+  name_put z p u old new (is_node x) none begins is =
+      let y = x (expr_with to new) in
+      (swapped_put (λ g. Unit {0}) z p u old new (record { swap = y.swap; stands = y.stands; whole = (y.whole.0, y.whole.1, tt) }) begins is).0

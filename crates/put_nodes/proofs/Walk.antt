@@ -34,23 +34,23 @@ use Rattle.put_nodes.specs.Swapped as swapped
 pub off : false ≡ true → false ≡ true
 off q = q
 
-in_header : (b g h : Bool) → (g ≡ true → h ≡ true) → header_within b g ≡ true → h ≡ true
+pub in_header : (b g h : Bool) → (g ≡ true → h ≡ true) → header_within b g ≡ true → h ≡ true
 in_header true g h f q = absurd cc
 in_header false g h f q = f q
 
-clash : {X : Type 0} → (b : Bool) → b ≡ true → b ≡ false → X
+pub clash : {X : Type 0} → (b : Bool) → b ≡ true → b ≡ false → X
 clash b p q = absurd cc
 
-seven : 7 ≤ 7
+pub seven : 7 ≤ 7
 seven = omega arith
 
-six : 6 ≤ 7
+pub six : 6 ≤ 7
 six = omega arith
 
-one : 1 ≤ 7
+pub one : 1 ≤ 7
 one = omega arith
 
-next_most : (o : BinOp) → level_of o + 1 ≤ 7
+pub next_most : (o : BinOp) → level_of o + 1 ≤ 7
 next_most Mul = omega arith
 next_most Div = omega arith
 next_most Rem = omega arith
@@ -71,26 +71,26 @@ next_most Ge = omega arith
 next_most LogAnd = omega arith
 next_most LogOr = omega arith
 
-level_most : (o : BinOp) → level_of o ≤ 7
+pub level_most : (o : BinOp) → level_of o ≤ 7
 level_most o = let n = next_most o in omega (arith, n)
 
 module _ {A : Type 0} where
-  comma_level : (s : Slot) (es : Exprs A) → (comma_slot s es).level ≡ s.level
+  pub comma_level : (s : Slot) (es : Exprs A) → (comma_slot s es).level ≡ s.level
   comma_level s no_exprs = refl
   comma_level s (expr_and e es) = refl
 
-  comma_header : (s : Slot) (es : Exprs A) → (comma_slot s es).header ≡ s.header
+  pub comma_header : (s : Slot) (es : Exprs A) → (comma_slot s es).header ≡ s.header
   comma_header s no_exprs = refl
   comma_header s (expr_and e es) = refl
 
-  callee_slot : (s : Slot) (f : Expr A) (p : Place A) → (callee_place s f p).slot ≡ s
+  pub callee_slot : (s : Slot) (f : Expr A) (p : Place A) → (callee_place s f p).slot ≡ s
   callee_slot s (func_lit z g y b) p = refl
   callee_slot s e p = refl
 
 -- ---- deferred calls
 
 module _ {B : Type 0} where
-  deferred_this : (s : B) (e v : Expr B) → is_call e ≡ true → PartOfStmt (a_deferred e v) (defer s e) (defer s v)
+  pub deferred_this : (s : B) (e v : Expr B) → is_call e ≡ true → PartOfStmt (a_deferred e v) (defer s e) (defer s v)
   deferred_this s (call c g xs r) v q = this_deferred refl
   deferred_this s (ident _ _) v q = absurd cc
   deferred_this s (int_lit _ _) v q = absurd cc
@@ -106,7 +106,7 @@ module _ {B : Type 0} where
   deferred_this s (binary _ _ _ _) v q = absurd cc
   deferred_this s (star _ _) v q = absurd cc
 
-  deferred_part : {w : Swap B} {e v : Expr B} (s : B) → is_call e ≡ true → PartOfExpr w false e v → PartOfStmt w (defer s e) (defer s v)
+  pub deferred_part : {w : Swap B} {e v : Expr B} (s : B) → is_call e ≡ true → PartOfExpr w false e v → PartOfStmt w (defer s e) (defer s v)
   deferred_part s q (in_called x) = in_deferred x
   deferred_part s q (in_args x) = in_deferred_args x
   deferred_part s q (in_literal_type x) = absurd cc

@@ -37,12 +37,12 @@ use Rattle.settled_constants.proofs.BareDots.{decls_bare}
 -- ---- dots
 
 module _ {S : Type 0} where
-  unspread_file : (fs : List (SourceTree S)) (i : ℕ) (f : SourceTree S) → slice_get fs i ≡ Some f → UnspreadFiles fs → UnspreadDecls f.tree.decls
+  pub unspread_file : (fs : List (SourceTree S)) (i : ℕ) (f : SourceTree S) → slice_get fs i ≡ Some f → UnspreadFiles fs → UnspreadDecls f.tree.decls
   unspread_file [] i f e h = absurd cc
   unspread_file (x ∷ fs) zero f e h = subst (λ (y : SourceTree S). UnspreadDecls y.tree.decls) (same_Some x f e) h.0
   unspread_file (x ∷ fs) (suc i) f e h = unspread_file fs i f e h.1
 
-  unspread_package : (ps : List (Package S)) (k : ℕ) (p : Package S) → slice_get ps k ≡ Some p → UnspreadPackages ps → UnspreadFiles p.files
+  pub unspread_package : (ps : List (Package S)) (k : ℕ) (p : Package S) → slice_get ps k ≡ Some p → UnspreadPackages ps → UnspreadFiles p.files
   unspread_package [] k p e h = absurd cc
   unspread_package (x ∷ ps) zero p e h = subst (λ (y : Package S). UnspreadFiles y.files) (same_Some x p e) h.0
   unspread_package (x ∷ ps) (suc k) p e h = unspread_package ps k p e h.1
@@ -65,14 +65,14 @@ module _ {S : Type 0} where
     undotted_package q [] i f e h = absurd cc
     undotted_package q (x ∷ fs) i f e h = h.0
 
-    undotted_among : (qs : List (ℕ × Package S)) (q : ℕ × Package S) (i : ℕ) (f : SourceTree S) → Among q qs → slice_get q.1.files i ≡ Some f → UnspreadAreUndotted (linked_packages ps qs) → UnspreadDecls f.tree.decls
+    pub undotted_among : (qs : List (ℕ × Package S)) (q : ℕ × Package S) (i : ℕ) (f : SourceTree S) → Among q qs → slice_get q.1.files i ≡ Some f → UnspreadAreUndotted (linked_packages ps qs) → UnspreadDecls f.tree.decls
         → UndottedDecls f.tree.decls
     undotted_among [] q i f a e h = elim a [ ]
     undotted_among (x ∷ qs) _ i f first e h =
         undotted_file x.1.files i f e (undotted_package x x.1.files i f e (of_front (linked_package ps x x.1.files) (linked_packages ps qs) h))
     undotted_among (x ∷ qs) q i f (later a) e h = undotted_among qs q i f a e (of_back (linked_package ps x x.1.files) (linked_packages ps qs) h)
 
-bare_with : (ds : List (Decl At)) → map bare_decl (decls_with here_of ds) ≡ map bare_decl ds
+pub bare_with : (ds : List (Decl At)) → map bare_decl (decls_with here_of ds) ≡ map bare_decl ds
 bare_with [] = refl
 bare_with (d ∷ ds) = λ v. spans.decl-with here_of d v ∷ bare_with ds v
 

@@ -11,15 +11,14 @@ use Rattle.typed_in_place.proofs.Rising.{and_first, and_second}
 use Rattle.run_rules.specs.Surroundings.{Place, Seen, seen, seen_type, seen_stmt}
 use Rattle.run_rules.specs.Programs.{decl_seen}
 use Rattle.run_rules.specs.Respanned.{expr_with, decl_with, decls_with}
-use Rattle.run_rules.specs.Sites.{MarkRef, Where, an_expr, a_constant, Site, inlinable, part_span}
+use Rattle.run_rules.specs.Sites.{MarkRef, Where, an_expr, a_constant, Site, inlinable, part_span, sites}
 use Rattle.run_rules.specs.Forms.{is_at}
-use Rattle.run_rules.specs.Steps.{At, same_here}
-use Rattle.run_rules.specs.Run.{Standing, Logged, Next, here_of, is_commented}
+use Rattle.run_rules.specs.Steps.{At, same_here, Found}
+use Rattle.run_rules.specs.Run.{Standing, here_of, is_commented, step_in}
 use Rattle.run_laws.specs.Reading.{FileReads, FileAt, ProgramReads}
-use Rattle.run_laws.proofs.FoundSpans.{Placed}
+use Rattle.run_laws.proofs.FoundSpans.{Placed, FoundIn, found_in}
 use Rattle.form_splices.specs.Laws.{MakesForm}
-use Rattle.form_splices.proofs.FormsFound.{step-makes-form}
-use Rattle.step_cycles.proofs.StepAlike.{found-placed}
+use Rattle.form_splices.proofs.FormsFound.{IsForm, first-form}
 use Rattle.constant_steps.proofs.NamesOutside.{equal_numbers}
 use Rattle.run_steps.proofs.SeatedUses.{Among, first, later, Seated, sites-seated}
 use Rattle.run_steps.proofs.TokenPlaces.{tokens-rise}
@@ -51,17 +50,17 @@ use Rattle.run_rules.specs.Reduced.{Reduced, becomes}
 use Rattle.run_rules.specs.Laws.{file_found}
 use Rattle.standing_uses.proofs.Named.{constant_named}
 
-same_so : (a b : Span) → same_span a b ≡ true → a ≡ b
+pub same_so : (a b : Span) → same_span a b ≡ true → a ≡ b
 same_so a b h =
     let s : a.start ≡ b.start = equal_numbers a.start b.start (and_first (nat_eq a.start b.start) (nat_eq a.end b.end) h) in
     let e : a.end ≡ b.end = equal_numbers a.end b.end (and_second (nat_eq a.start b.start) (nat_eq a.end b.end) h) in
     λ v. record { start = s v; end = e v }
 
-same_self : (s : Span) → same_span s s ≡ true
+pub same_self : (s : Span) → same_span s s ≡ true
 same_self s = grind (arith)
 
 -- what stands at a span has it
-at_span : (z : At) (y : Expr At) → is_at same_here z y ≡ true → same_here z (expr_span y) ≡ true
+pub at_span : (z : At) (y : Expr At) → is_at same_here z y ≡ true → same_here z (expr_span y) ≡ true
 at_span z (call _ _ _ _) h = h
 at_span z (ident _ _) h = h
 at_span z (selector _ _ _) h = h
@@ -77,7 +76,7 @@ at_span z (unary _ _ _) h = cc
 at_span z (binary _ _ _ _) h = cc
 at_span z (star _ _) h = cc
 
-name_there : {p : Place At} {e : Expr At} → IsName p e → is_at same_here (expr_span e) e ≡ true
+pub name_there : {p : Place At} {e : Expr At} → IsName p e → is_at same_here (expr_span e) e ≡ true
 name_there (stands.alone s n h) = same_self s.here
 name_there (stands.behind s z q n) = same_self s.here
 
@@ -85,10 +84,10 @@ module _ (x : Site At) (e : Expr At) (part : x.part ≡ an_expr e) where
   abbrev hits : Expr At → Bool
   hits = is_at same_here (part_span x.part)
 
-  at_use : (y : Expr At) → hits y ≡ true → (expr_span e).here ≡ (expr_span y).here
+  pub at_use : (y : Expr At) → hits y ≡ true → (expr_span e).here ≡ (expr_span y).here
   at_use y h = (λ v. (part_span (sym part v)).here) ∙ same_so (part_span x.part).here (expr_span y).here (at_span (part_span x.part) y h)
 
-  other_place : (y : Expr At) → ((expr_span e).here ≡ (expr_span y).here → ⊥) → hits y ≡ false
+  pub other_place : (y : Expr At) → ((expr_span e).here ≡ (expr_span y).here → ⊥) → hits y ≡ false
   other_place y k = by (hits y) refl
     where
       by : (b : Bool) → hits y ≡ b → b ≡ false
@@ -101,7 +100,7 @@ module _ (x : Site At) (e : Expr At) (part : x.part ≡ an_expr e) where
   others (seen_type p t ∷ ys) k = (tt, others ys k.1)
   others (seen_stmt p s ∷ ys) k = (tt, others ys k.1)
 
-  not_there : (z : Span) (ys : List (Seen At)) → Among (seen x.place x.use_ e) ys → AllOther here_of z ys → z ≡ (expr_span e).here → ⊥
+  pub not_there : (z : Span) (ys : List (Seen At)) → Among (seen x.place x.use_ e) ys → AllOther here_of z ys → z ≡ (expr_span e).here → ⊥
   not_there z _ first k = k.0
   not_there z _ (later m) k = not_there z _ m k.1
 
@@ -122,20 +121,23 @@ standing_named ps w =
 
 -- ---- the declaration of a use
 
-nth_in : (ds : List (Decl At)) (n : ℕ) (d : Decl At) → slice_get ds n ≡ Some d → DeclsIn (decls_with here_of ds) → (lo : ℕ) × (hi : ℕ) × DeclIn lo hi (decl_with here_of d)
+pub nth_in : (ds : List (Decl At)) (n : ℕ) (d : Decl At) → slice_get ds n ≡ Some d → DeclsIn (decls_with here_of ds) → (lo : ℕ) × (hi : ℕ) × DeclIn lo hi (decl_with here_of d)
 nth_in [] n d h k = cc
 nth_in (c ∷ ds) zero d h k = subst (λ (z : Decl At). (lo : ℕ) × (hi : ℕ) × DeclIn lo hi (decl_with here_of z)) (same_Some c d h) k.0
 nth_in (c ∷ ds) (suc n) d h k = nth_in ds n d h k.1
 
-module _ (marks : List MarkRef) (st : Standing) (l : Logged) (after : Standing) (n : Next marks st l after) (reads : ProgramReads st) where
+-- of the first use of a program that becomes a form
+module _ (marks : List MarkRef) (st : Standing) (f : Found At) (first_is : step_in marks st ≡ Some f) (reads : ProgramReads st) where
   abbrev x : Site At
-  x = n.found.site
+  x = f.site
 
   placed : Placed here_of (λ (s : Span). Unit {0}) st.packages marks x
-  placed = found-placed marks st l after n
+  placed = let g : FoundIn here_of (λ (s : Span). Unit {0}) st.packages marks same_here (is_commented st) f = found_in here_of (λ (s : Span). Unit {0}) st.packages marks same_here (is_commented st) f first_is in g.placed
 
-  made : MakesForm marks st n.found
-  made = step-makes-form marks st l after n
+  made : MakesForm marks st f
+  made =
+      let i : IsForm same_here (is_commented st) st.packages marks (sites st.packages marks) f = first-form same_here (is_commented st) st.packages marks f first_is in
+      record { is_use = i.among; form_is = i.form_is }
 
   seated : Seated st.packages marks x
   seated = sites-seated st.packages marks x made.is_use
@@ -149,7 +151,7 @@ module _ (marks : List MarkRef) (st : Standing) (l : Logged) (after : Standing) 
   decls : DeclsIn (decls_with here_of x.at.source.tree.decls)
   decls = front_in read.reads.spells (tokens-rise read.text.text read.text.tokens read.text.comments read.reads.scans)
 
-  pub named_once : (c : NameAt At) (v e : Expr At) → inlinable st.packages x.mark ≡ Some (a_constant c v) → x.part ≡ an_expr e → (d : Decl At) → slice_get x.at.source.tree.decls x.decl ≡ Some d → IsNamedOnce st n.found e d
+  pub named_once : (c : NameAt At) (v e : Expr At) → inlinable st.packages x.mark ≡ Some (a_constant c v) → x.part ≡ an_expr e → (d : Decl At) → slice_get x.at.source.tree.decls x.decl ≡ Some d → IsNamedOnce st f e d
   named_once c v e constant part d h =
       let k = nth_in x.at.source.tree.decls x.decl d h decls in
       let named = constant_named st.packages marks x.at c v x.place e x.mark constant (seated.is_use e part) in
@@ -171,16 +173,16 @@ module _ (marks : List MarkRef) (st : Standing) (l : Logged) (after : Standing) 
   range_or d o = d
 
   pub told_step : StepsSwapUses → (home : Where At) (c : NameAt At) (v e : Expr At) (u : ConstantUse) (form : ConstantForm) → IsUse st.packages (is_commented st) x home c v u
-      → IsReducedTo st.packages (is_commented st) marks x (Becomes form) → x.part ≡ an_expr e → file_of u.file.now ≡ file_found n.found → AreTyped marks st n.found form
-      → IsTold marks st n.found u.names.now (table_of u.scopes.now) (all_parts (decls_with here_of x.at.source.tree.decls)) (expr_with here_of e) form
+      → IsReducedTo st.packages (is_commented st) marks x (Becomes form) → x.part ≡ an_expr e → file_of u.file.now ≡ file_found f → AreTyped marks st f form
+      → IsTold marks st f u.names.now (table_of u.scopes.now) (all_parts (decls_with here_of x.at.source.tree.decls)) (expr_with here_of e) form
   told_step law home c v e u form use_ red part file typed =
       let d = placed.decl in
       let named = named_once c v e use_.declared_as part d placed.decl_is in
       let z = part_span x.part in
-      let same : Some (becomes n.found.kind n.found.form n.found.range n.found.named) ≡ Some (reduced_of z (Becomes form)) = sym made.form_is ∙ red.is in
-      let form_so : n.found.form ≡ form_of z form = ap (form_or n.found.form) same in
-      let range_so : n.found.range ≡ z = ap (range_or n.found.range) same in
-      law marks st n.found read.text u.names.now (table_of u.scopes.now) e form
+      let same : Some (becomes f.kind f.form f.range f.named) ≡ Some (reduced_of z (Becomes form)) = sym made.form_is ∙ red.is in
+      let form_so : f.form ≡ form_of z form = ap (form_or f.form) same in
+      let range_so : f.range ≡ z = ap (range_or f.range) same in
+      law marks st f read.text u.names.now (table_of u.scopes.now) e form
       (record {
         part_is = part;
         is_name = named.is_name;
@@ -200,7 +202,7 @@ module _ (marks : List MarkRef) (st : Standing) (l : Logged) (after : Standing) 
       })
 
 pub stand_once : ConstantUsesStandOnce
-stand_once marks st l after n reads c v e constant part d h = named_once marks st l after n reads c v e constant part d h
+stand_once marks st l after n reads c v e constant part d h = named_once marks st n.found n.is_first reads c v e constant part d h
 
 pub steps_told : StepsSwapUses → ConstantStepsAreTold
-steps_told law marks st l after n reads home c v e u form use_ red part file typed = told_step marks st l after n reads law home c v e u form use_ red part file typed
+steps_told law marks st l after n reads home c v e u form use_ red part file typed = told_step marks st n.found n.is_first reads law home c v e u form use_ red part file typed

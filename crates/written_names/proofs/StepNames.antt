@@ -29,8 +29,9 @@ use Rattle.order_cycles.specs.NewNames.{NamesByPath, FewNames}
 use Rattle.run_rules.specs.Surroundings.{Place}
 use Rattle.run_rules.specs.Sites.{MarkRef, Where}
 use Rattle.run_rules.specs.Naming.{Named, no_span, fuel_for, fresh_name, package_path, own_name, names_here, environment_here, added_import, named_packages, name_added, imports_added}
-use Rattle.run_rules.specs.Steps.{At, same_here}
-use Rattle.run_rules.specs.Run.{Standing, Logged, Next, here_of, is_commented}
+use Rattle.run_rules.specs.Steps.{At, same_here, Found}
+use Rattle.run_rules.specs.Run.{Standing, here_of, is_commented, step_in}
+use Rattle.run_rules.specs.Marks.{text_at}
 use Rattle.run_rules.specs.Inlining.{ReadsAs}
 use Rattle.run_rules.specs.Laws.{file_found}
 use Rattle.run_rules.specs.Texts.{FileText}
@@ -130,30 +131,31 @@ module _ (ps : List (Package At)) (w : Where At) (p : Place At) (named : Package
           let m : List ℕ = fresh_name w.source.tree (avoided (names_here ps w) bound) (own_name ps q) in
           (fresh_is_name bound q of.0 (omega (arith, few)), later (m ∷ bound) (fuel_grows bound m (length (named_packages ps w p (m ∷ bound) qs)) few) of.1)
 
-module _ (marks : List MarkRef) (st : Standing) (l : Logged) (after : Standing) (n : Next marks st l after) where
+-- of the first use of a program that becomes a form, in the file with this text
+module _ (marks : List MarkRef) (st : Standing) (u : Found At) (first : step_in marks st ≡ Some u) (old : FileText) (stands : text_at u.site.at.source.path st.texts ≡ Some old) where
   abbrev pub Any : Span → Type 0
   Any s = Unit {0}
 
-  placed : Placed here_of Any st.packages marks n.found.site
-  placed = let f : FoundIn here_of Any st.packages marks same_here (is_commented st) n.found = found_in here_of Any st.packages marks same_here (is_commented st) n.found n.is_first in f.placed
+  placed : Placed here_of Any st.packages marks u.site
+  placed = let f : FoundIn here_of Any st.packages marks same_here (is_commented st) u = found_in here_of Any st.packages marks same_here (is_commented st) u first in f.placed
 
-  file_reads : ProgramReads st → ReadsAs n.old (file_found n.found)
+  file_reads : ProgramReads st → ReadsAs old (file_found u)
   file_reads reads =
-      let at : FileAt st.packages n.found.site.at.number n.found.site.at.file_number n.found.site.at.source = record { of = n.found.site.at.of; package_is = placed.package_is; file_is = placed.file_is } in
-      let r : FileReads st.texts n.found.site.at.source = reads n.found.site.at.number n.found.site.at.file_number n.found.site.at.source at in
-      subst (λ (t : FileText). ReadsAs t (file_found n.found)) (same_Some r.text n.old (sym r.there ∙ n.stands)) r.reads
+      let at : FileAt st.packages u.site.at.number u.site.at.file_number u.site.at.source = record { of = u.site.at.of; package_is = placed.package_is; file_is = placed.file_is } in
+      let r : FileReads st.texts u.site.at.source = reads u.site.at.number u.site.at.file_number u.site.at.source at in
+      subst (λ (t : FileText). ReadsAs t (file_found u)) (same_Some r.text old (sym r.there ∙ stands)) r.reads
 
-  well : FoundWell st.packages marks (is_commented st) n.found
-  well = found_well st.packages marks (is_commented st) n.found n.is_first
+  well : FoundWell st.packages marks (is_commented st) u
+  well = found_well st.packages marks (is_commented st) u first
 
   abbrev listed_names : List Named
-  listed_names = named_packages st.packages n.found.site.at n.found.site.place (binders_of st.packages n.found.site.mark) well.packages
+  listed_names = named_packages st.packages u.site.at u.site.place (binders_of st.packages u.site.mark) well.packages
 
-  pub step_names : ProgramReads st → PackagesAreNamed st.packages → NamesByPath st.packages → FewNames st.packages n.found → AreOfPackages st.packages n.found.named → AreNames n.found.named
+  pub step_names : ProgramReads st → PackagesAreNamed st.packages → NamesByPath st.packages → FewNames st.packages u → AreOfPackages st.packages u.named → AreNames u.named
   step_names reads named paths few of =
       subst AreNames (sym well.names)
-      (all_are_names st.packages n.found.site.at n.found.site.place named paths (names_of_imports here_of n.old n.found.site.at.source.tree (file_reads reads)) (binders_of st.packages n.found.site.mark) well.packages
-      (subst (λ (ns : List Named). fuel_for n.found.site.at.source.tree (avoided (names_here st.packages n.found.site.at) (binders_of st.packages n.found.site.mark)) + length ns < 2 ^ 64) well.names few)
+      (all_are_names st.packages u.site.at u.site.place named paths (names_of_imports here_of old u.site.at.source.tree (file_reads reads)) (binders_of st.packages u.site.mark) well.packages
+      (subst (λ (ns : List Named). fuel_for u.site.at.source.tree (avoided (names_here st.packages u.site.at) (binders_of st.packages u.site.mark)) + length ns < 2 ^ 64) well.names few)
       (subst (λ (ns : List Named). AreOfPackages st.packages ns) well.names of))
 
   -- ---- imports that can be written
@@ -200,6 +202,6 @@ module _ (marks : List MarkRef) (st : Standing) (l : Logged) (after : Standing) 
         h,
       )
 
-  pub step_imports : PathsAreOctets st.packages → AreOfPackages st.packages n.found.named → AreNames n.found.named → AreWritable (imports_added n.found.named)
+  pub step_imports : PathsAreOctets st.packages → AreOfPackages st.packages u.named → AreNames u.named → AreWritable (imports_added u.named)
   step_imports octets of are =
-      all_writable octets n.found.named of are (subst EachAdds (sym well.names) (each_adds n.found.site.at n.found.site.place (binders_of st.packages n.found.site.mark) well.packages))
+      all_writable octets u.named of are (subst EachAdds (sym well.names) (each_adds u.site.at u.site.place (binders_of st.packages u.site.mark) well.packages))

@@ -1,0 +1,4 @@
+pub mod Imports
+pub mod Walk
+pub mod Decls
+pub mod Stand
