@@ -1,0 +1,5 @@
+pub mod Order
+pub mod Entries
+pub mod ReadMarks
+pub mod Declared
+pub mod Used

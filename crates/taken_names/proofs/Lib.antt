@@ -1,0 +1,4 @@
+pub mod Nexts
+pub mod Steps
+pub mod Runs
+pub mod Kept
