@@ -73,11 +73,11 @@ neither : {A : Type 0} (a b : Option A) → or_else a b ≡ None → (a ≡ None
 neither None b q = (refl, q)
 neither (Some x) b q = absurd (grind (arith, ap is_some q))
 
-or_second : (a b : Bool) → (a || b) ≡ false → (a ≡ false) × (b ≡ false)
+pub or_second : (a b : Bool) → (a || b) ≡ false → (a ≡ false) × (b ≡ false)
 or_second true b e = absurd (grind (arith, e))
 or_second false b e = (refl, e)
 
-lacking : (b c : Bool) → c ≡ false → (b && c) ≡ false
+pub lacking : (b c : Bool) → c ≡ false → (b && c) ≡ false
 lacking b c e = ap (λ c. b && c) e ∙ and_false b
 
 -- a single name may be declared unless it is `init`
@@ -110,7 +110,7 @@ item_of t = 0
 module _ {S : Type 0} where
   -- ---- the headers of a declaration have the names that it adds to the block
 
-  names_append : (xs ys : List (S × Header S)) → names_in (xs ++ ys) ≡ names_in xs ++ names_in ys
+  pub names_append : (xs ys : List (S × Header S)) → names_in (xs ++ ys) ≡ names_in xs ++ names_in ys
   names_append [] ys = refl
   names_append (x ∷ xs) ys = ap (λ l. header_names x.1 ++ l) (names_append xs ys) ∙ sym (in_turn (header_names x.1) (names_in xs) (names_in ys))
     where
@@ -135,7 +135,7 @@ module _ {S : Type 0} where
   func_names f None = refl
   func_names f (Some r) = refl
 
-  decl_names : (x : Decl S) → names_in (headers x) ≡ names_of (block_names x)
+  pub decl_names : (x : Decl S) → names_in (headers x) ≡ names_of (block_names x)
   decl_names (values (const_decl s g ss)) = constant_names (at_member g s) None no_exprs 0 ss
   decl_names (values (var_decl s g ss)) = variable_names (at_member g s) ss
   decl_names (values (empty _)) = refl
@@ -165,7 +165,7 @@ module _ {S : Type 0} where
       go k (this_name b e h) = absurd (grind (arith, ap is_some h))
       go k (later_name e h) = ap (λ b. b || is_among n (names_of ms)) (e s) ∙ k h
 
-  decls_unbound : (n : List ℕ) → is_blank n ≡ false → (p f d : ℕ) (xs : List (Decl S)) → means (decls_from p f d xs) n ≡ None → is_among n (names_in (all_headers xs)) ≡ false
+  pub decls_unbound : (n : List ℕ) → is_blank n ≡ false → (p f d : ℕ) (xs : List (Decl S)) → means (decls_from p f d xs) n ≡ None → is_among n (names_in (all_headers xs)) ≡ false
   decls_unbound n s p f d [] q = refl
   decls_unbound n s p f d (x ∷ xs) q =
       let a : ((means (items_from p f d 0 (block_names x)) n ≡ None) × (means (decls_from p f (suc d) xs) n ≡ None)) =
@@ -484,3 +484,7 @@ module _ {S : Type 0} where
   -- a member that a name of the block means is one of this package
   pub member-here : (n : List ℕ) (p : SourcePackage S) (a f d i : ℕ) → means (block_from p.number 0 p.files) n ≡ Some (member a f d i) → a ≡ p.number
   member-here n p a f d i q = ap package_of (files_found n (member a f d i) p.number (is_main p) (typed.block_names p.files) p.number 0 0 p.files q).is_item
+
+  -- a name that the block has isn't `_`
+  pub spelled-here : (n : List ℕ) (p : SourcePackage S) (t : Target) → means (block_from p.number 0 p.files) n ≡ Some t → is_blank n ≡ false
+  spelled-here n p t q = (files_found n t p.number (is_main p) (typed.block_names p.files) p.number 0 0 p.files q).spelled

@@ -16,12 +16,12 @@ use Rattle.alias_steps.proofs.AliasNamed.{alias-entity}
 use Rattle.alias_sites.specs.FirstAlias.{FirstAlias, AliasEnd, before_types, with_types}
 
 -- a name that no import has means what it means in the package block, or around it
-behind-imports : (is block : Environment Entity) (n : List ℕ) → means is n ≡ None → means (is ++ block ++ universe) n ≡ or_else (means block n) (means universe n)
+pub behind-imports : (is block : Environment Entity) (n : List ℕ) → means is n ≡ None → means (is ++ block ++ universe) n ≡ or_else (means block n) (means universe n)
 behind-imports is block n e = means_join (is ++ block) universe n ∙ ap (λ o. or_else o (means universe n)) (means_join is block n ∙ ap (λ o. or_else o (means block n)) e)
 
 module _ {S : Type 0} (ps : Program S) where
   -- the package block has the alias
-  in-block : (h : Headed S) (a : TypeSpec S) → DeclaresAlias ps (headed ps) h a → {w : World} → AliasEnd ps w → (e : Entity) × (means (block_of w.blocks h.home) a.name.name ≡ Some e)
+  pub in-block : (h : Headed S) (a : TypeSpec S) → DeclaresAlias ps (headed ps) h a → {w : World} → AliasEnd ps w → (e : Entity) × (means (block_of w.blocks h.home) a.name.name ≡ Some e)
   in-block h a d before_types = (_, alias_means ps (headed ps) h a d.header d.alias d.sound d.named d.home d.first d.in_program)
   in-block h a d {w = w} (with_types end) = (_, alias-entity ps h a (file_env w h.home [] None) d end)
 

@@ -52,7 +52,7 @@ use Rattle.alias_sites.proofs.AliasMeant.{names-alias}
 use Rattle.alias_sites.proofs.AliasUsed.{old-free, old-there, number-is, declared, file-there, there, new-here, new-at-home}
 
 -- the only name of a list
-one-name : {S : Type 0} (p : Place S) (m : List ℕ) → is_blank m ≡ false → is_local p m ≡ false → NoneLocal p (m ∷ [])
+pub one-name : {S : Type 0} (p : Place S) (m : List ℕ) → is_blank m ≡ false → is_local p m ≡ false → NoneLocal p (m ∷ [])
 one-name p m b l n i = go (bytes_eq n m) refl i
   where
     go : (c : Bool) → bytes_eq n m ≡ c → (c || false) ≡ true → (is_blank n ≡ false) × (is_local p n ≡ false)
@@ -67,7 +67,7 @@ equal-numbers a b e = grind (arith, e)
 
 module _ {S : Type 0} (same : S → S → Bool) (z : S) (new : TypeExpr S) (U V : TypeExpr S → TypeExpr S → Type 0) (f : (t : TypeExpr S) → U t new → V t new) where
   mutual
-    named-then : (t : TypeExpr S) → NamedUses same z new U t → NamedUses same z new V t
+    pub named-then : (t : TypeExpr S) → NamedUses same z new U t → NamedUses same z new V t
     named-then (named s q n) h = λ e. f (named s q n) (h e)
     named-then (pointer s t) h = named-then t h
     named-then (slice_type s t) h = named-then t h
@@ -100,7 +100,7 @@ module _ {S : Type 0} (same : S → S → Bool) (rs : List (Package S)) (c : Cha
   method-named None ns = refl
   method-named (Some r) ns = refl
 
-  decl-named : (d : Decl S) → block_names (new_decl same rs c number pk tree d) ≡ block_names d
+  pub decl-named : (d : Decl S) → block_names (new_decl same rs c number pk tree d) ≡ block_names d
   decl-named (values (const_decl s g ss)) = constants-named 0 ss
   decl-named (values (var_decl s g ss)) = variables-named ss
   decl-named (values (empty _)) = refl
@@ -129,7 +129,7 @@ module _ {S : Type 0} (same : S → S → Bool) (rs : List (Package S)) (c : Cha
   decls-named p f d zero (x ∷ ds) = ap (λ ns. items_from p f d 0 ns ++ decls_from p f (suc d) ds) (decl-named x)
   decls-named p f d (suc n) (x ∷ ds) = ap (λ l. items_from p f d 0 (block_names x) ++ l) (decls-named p f (suc d) n ds)
 
-  files-named : (p f m n : ℕ) (fs : List (SourceFile S)) → block_from p f (change_nth m (decl_changed changed_decl n) fs) ≡ block_from p f fs
+  pub files-named : (p f m n : ℕ) (fs : List (SourceFile S)) → block_from p f (change_nth m (decl_changed changed_decl n) fs) ≡ block_from p f fs
   files-named p f m n [] = refl
   files-named p f zero n (x ∷ fs) = ap (λ l. l ++ block_from p (suc f) fs) (decls-named p f 0 n x.decls)
   files-named p f (suc m) n (x ∷ fs) = ap (λ l. decls_from p f 0 x.decls ++ l) (files-named p (suc f) m n fs)
@@ -137,7 +137,7 @@ module _ {S : Type 0} (same : S → S → Bool) (rs : List (Package S)) (c : Cha
 -- ---- the declaration with these numbers
 
 module _ {S : Type 0} (D : ℕ → Environment Entity → Decl S → Type 0) (home : ℕ) (members : List (List ℕ)) where
-  files-at : (m n : ℕ) (fs : List (SourceFile S)) (f : SourceFile S) (d : Decl S) → slice_get fs m ≡ Some f → slice_get f.decls n ≡ Some d → D home (file_block members [] f.imports) d → DeclOfFiles D home members m n fs
+  pub files-at : (m n : ℕ) (fs : List (SourceFile S)) (f : SourceFile S) (d : Decl S) → slice_get fs m ≡ Some f → slice_get f.decls n ≡ Some d → D home (file_block members [] f.imports) d → DeclOfFiles D home members m n fs
   files-at m n [] f d q r h = tt
   files-at zero n (g ∷ gs) f d q r h =
       at_nth (D home (file_block members [] g.imports)) n g.decls d (ap (λ f. slice_get f.decls n) (some_same g f q) ∙ r) (subst (λ f. D home (file_block members [] f.imports) d) (sym (some_same g f q)) h)

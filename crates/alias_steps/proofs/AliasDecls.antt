@@ -25,14 +25,14 @@ use Rattle.run_rules.specs.Steps.{changes_for, new_receiver_option, new_type_spe
 use Rattle.run_rules.specs.Steps as steps
 use Rattle.step_laws.specs.Stands.{WrittenStands, ExprsStands}
 use Rattle.step_laws.specs.Answered.{HoldsWithin}
-use Rattle.step_laws.specs.DeclStands.{Written, nothing_written, own_or_before, body_there, DeclTypesStand, DeclaredTypesStand, ResolvedAlike, TypesAlike}
+use Rattle.step_laws.specs.DeclStands.{Written, nothing_written, own_or_before, body_there, DeclTypesStand, DeclaredTypesStand, GroupStands, VariableGroupStands, TypeSpecsStand, FuncStands, DeclStands, ResolvedAlike, TypesAlike}
 use Rattle.step_laws.proofs.BodilessStands.{all-bodiless}
 use Rattle.step_laws.proofs.DeclUses.{body-begins}
 use Rattle.step_laws.proofs.DeclarationsStand.{decl-types-stand}
 use Rattle.step_laws.proofs.DeclChanged.{receiver_itself, resolved_itself, types_itself, DeclBy}
 use Rattle.step_laws.proofs.OutsideHolds.{no_name}
 use Rattle.step_laws.proofs.Standing.{written-stands, sig-stands, all-stands}
-use Rattle.step_laws.proofs.Walking.{written-walks, sig-walks, all-walk}
+use Rattle.step_laws.proofs.Walking.{written-walks, sig-walks, all-walk, stmts-walk}
 use Rattle.alias_texts.specs.Retyped.{HeaderRetyped, of_constants, of_variables, of_type_spec, of_function}
 use Rattle.alias_steps.specs.Retypable.{AllRetypable}
 use Rattle.alias_steps.specs.AliasUses.{AtTop, TypeUseThere, TypeUses}
@@ -180,6 +180,76 @@ module _ {S : Type 0} (same : S → S → Bool) (rs : List (Package S)) (z : S) 
     decl-types (values s) u = tt
     decl-types (types s g ts) u = specs-put ts u
     decl-types (func f) u = subst (λ r. SameReceiver f.receiver r) (sym u) (receiver_itself f.receiver)
+
+  pub decl-resolved-stands : (d : Decl S) → ResolvedUses same rs z form number pk tree w home is d → DeclTypesStand same rs c (λ t u. resolved top t ≡ resolved top u) at inside q (λ f. body_place rs number pk tree f) d
+  decl-resolved-stands d u = decl-types (λ t u. resolved top t ≡ resolved top u) (λ t u. resolved top t ≡ resolved top u) (λ t x. resolved-stands same z form top q t x) d u
+
+  pub decl-typed-stands : (d : Decl S) → DeclaredTypeUses same rs z form number pk tree w home is d → DeclTypesStand same rs c (TypeReplaced [] top) at inside q (λ f. body_place rs number pk tree f) d
+  decl-typed-stands d u = decl-types (TypeReplaced [] top) (TypeUseThere top q) (λ t x. type-uses-stand same z top form [] top q t (at-top None q refl refl) x) d u
+
+  -- ---- all that stands in the declaration, with the form put
+
+  member-stands : (a : Written S) (n : ℕ) → MemberPut a → WrittenStands c [] (at (Some n)) (in_constant a.number q) a.type × ExprsStands c [] (at (Some n)) (in_constant a.number q) a.uses a.values
+  member-stands a n h = (types-put (Some n) (in_constant a.number q) a.type refl refl h.0, values-put (Some n) (in_constant a.number q) a.uses a.values refl refl h.1)
+
+  group-stands : (a : Written S) (n : ℕ) (ss : ValueSpecs S) → MemberPut a → Put (constants_at_top rs q n ss) → GroupStands same rs c (λ t u. Unit {0}) at inside q (λ f. body_place rs number pk tree f) a n ss
+  group-stands a n no_specs h x = tt
+  group-stands a n (spec s ns t es ss) h x =
+      let ts : List (Seen S) = written_seen (in_constant n q) t in
+      let vs : List (Seen S) = all_seen (in_constant n q) (alike (value_use q.env t) ns) es in
+      let own : Written S = own_or_before q a n ns t es in
+      let there : Put (ts ++ vs) = front (ts ++ vs) (constants_at_top rs q (suc n) ss) x in
+      let m : MemberPut own = own-put a n ns t es h (front ts vs there) (behind ts vs there) in
+      (member-stands own n m, group-stands own (suc n) ss m (behind (ts ++ vs) (constants_at_top rs q (suc n) ss) x))
+
+  variables-stand : (ss : ValueSpecs S) → Put (variables_at_top rs q ss) → VariableGroupStands same rs c (λ t u. Unit {0}) at inside q (λ f. body_place rs number pk tree f) ss
+  variables-stand no_specs x = tt
+  variables-stand (spec s ns t es ss) x =
+      let ts : List (Seen S) = written_seen q t in
+      let us : List Use = alike (value_use q.env t) ns in
+      let vs : List (Seen S) = all_seen q us es in
+      let there : Put (ts ++ vs) = front (ts ++ vs) (variables_at_top rs q ss) x in
+      ((types-put None q t refl refl (front ts vs there), values-put None q us es refl refl (behind ts vs there)), variables-stand ss (behind (ts ++ vs) (variables_at_top rs q ss) x))
+
+  type-specs-stand : (ts : List (TypeSpec S)) → Put (types_at_top rs q ts) → TypeSpecsStand same rs c (λ t u. Unit {0}) at inside q (λ f. body_place rs number pk tree f) ts
+  type-specs-stand [] x = tt
+  type-specs-stand (t ∷ ts) x = (x.0 [] (at None) (at-top None q refl refl), type-specs-stand ts x.1)
+
+  func-stands : (f : Func S) → new_receiver_option same rs c q f.receiver ≡ f.receiver → Put (decl_seen rs number pk tree (func f)) → FuncStands same rs c (λ t u. Unit {0}) at inside q (λ f. body_place rs number pk tree f) f
+  func-stands f e x =
+      let r : List (Seen S) = receiver_seen rs q f.receiver in
+      let g : List (Seen S) = sig_seen q f.sig in
+      let b : List (Seen S) = stmts_seen (body_place rs number pk tree f) f.body in
+      record {
+        receiver = subst (λ r. SameReceiver f.receiver r) (sym e) (receiver_itself f.receiver);
+        sig = sig-walks c R k [] (at None) q f.sig (at-top None q refl refl) (all-answered same z form R k g (behind r g (front (r ++ g) b x)));
+        body = stmts-walk c R k (receiver_names f.receiver ++ sig_names f.sig) (inside f) (body_place rs number pk tree f) f.body
+            (record { outside = body-begins rs w (world rs) (headed_here f) (headed_func rs number pk tree f) f; home = refl }) (all-answered same z form R k b (behind (r ++ g) b x));
+      }
+
+  decl-all-stands : (d : Decl S) → WholeUses same rs z form number pk tree w home is d → Put (decl_seen rs number pk tree d) → DeclStands same rs c (λ t u. Unit {0}) at inside q (λ f. body_place rs number pk tree f) d
+  decl-all-stands (values (const_decl s g ss)) u x = group-stands nothing_written 0 ss (tt, tt) x
+  decl-all-stands (values (var_decl s g ss)) u x = variables-stand ss x
+  decl-all-stands (values (empty _)) u x = tt
+  decl-all-stands (values (eval _ _)) u x = tt
+  decl-all-stands (values (step _ _ _)) u x = tt
+  decl-all-stands (values (assign _ _ _ _)) u x = tt
+  decl-all-stands (values (define _ _ _)) u x = tt
+  decl-all-stands (values (return_ _ _)) u x = tt
+  decl-all-stands (values (break_ _ _)) u x = tt
+  decl-all-stands (values (continue_ _ _)) u x = tt
+  decl-all-stands (values (inner _ _)) u x = tt
+  decl-all-stands (values (if_ _ _ _)) u x = tt
+  decl-all-stands (values (for_ _ _ _ _ _ _)) u x = tt
+  decl-all-stands (values (range_ _ _ _ _ _)) u x = tt
+  decl-all-stands (values (switch _ _ _ _)) u x = tt
+  decl-all-stands (values (defer _ _)) u x = tt
+  decl-all-stands (values (label _ _ _)) u x = tt
+  decl-all-stands (types s g ts) u x = type-specs-stand ts x
+  decl-all-stands (func f) u x = func-stands f u.0 x
+
+  pub decl-with-form : (d : Decl S) → WholeUses same rs z form number pk tree w home is d → DeclStands same rs c (λ t u. Unit {0}) at inside q (λ f. body_place rs number pk tree f) d
+  decl-with-form d u = decl-all-stands d u (uses-retypable same z top form (decl_seen rs number pk tree d) u.1)
 
   pub decl-resolved : (d : Decl S) → ResolvedUses same rs z form number pk tree w home is d → DeclBy (ResolvedAlike w) (resolved_itself w) (alias_put same rs z form number pk tree) home in_main i is d
   decl-resolved d u =

@@ -36,7 +36,7 @@ module _ {S : Type 0} (same : S → S → Bool) (rs : List (run.Package S)) (z :
         then-nth (D home (file_block members [] x.imports)) (DeclBy H itself change home in_main i (file_block members [] x.imports)) (λ d y. f home in_main i (file_block members [] x.imports) d y) n x.decls h
     files-put home in_main members i (suc m) n (x ∷ fs) h = files-put home in_main members (suc i) m n fs h
 
-    program-put : (k m n : ℕ) (ps : Program S) → AtNth (DeclOfPackage D m n) k ps → ProgramBy H ps (form_put same rs z form number pk tree k m n ps)
+    pub program-put : (k m n : ℕ) (ps : Program S) → AtNth (DeclOfPackage D m n) k ps → ProgramBy H ps (form_put same rs z form number pk tree k m n ps)
     program-put k m n ps h = changed_by H itself change k m n ps
         (then-nth (DeclOfPackage D m n) (DeclOfPackageBy H itself change m n) (λ p y. files-put p.number (is_main p) (block_names p.files) 0 m n p.files y) k ps h)
 
@@ -60,12 +60,12 @@ module _ {S : Type 0} (same : S → S → Bool) (rs : List (run.Package S)) (z :
   abbrev put : ℕ → ℕ → ℕ → List (Package S) → List (Package S)
   put k m n ps = members_with_form same rs z form number pk tree k m n ps
 
-  sources-put : (k m n : ℕ) (ps : List (Package S)) → sources (put k m n ps) ≡ form_put same rs z form number pk tree k m n (sources ps)
+  pub sources-put : (k m n : ℕ) (ps : List (Package S)) → sources (put k m n ps) ≡ form_put same rs z form number pk tree k m n (sources ps)
   sources-put k m n [] = refl
   sources-put zero m n (p ∷ ps) = refl
   sources-put (suc k) m n (p ∷ ps) = λ y. p.source ∷ sources-put k m n ps y
 
-  paths-put : (k m n : ℕ) (ps : List (Package S)) → OneByOne (λ p q. p.path ≡ q.path) ps (put k m n ps)
+  pub paths-put : (k m n : ℕ) (ps : List (Package S)) → OneByOne (λ p q. p.path ≡ q.path) ps (put k m n ps)
   paths-put k m n [] = no_more
   paths-put zero m n (p ∷ ps) = and_more refl (each_one (λ p. refl) ps)
   paths-put (suc k) m n (p ∷ ps) = and_more refl (paths-put k m n ps)

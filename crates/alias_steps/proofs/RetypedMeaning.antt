@@ -129,6 +129,10 @@ module _ {S : Type 0} where
     declared-same d =
         ap collected (sources-append ps more) ∙ declares_the_same_beside (sources more) (sources ps) (sources qs) (retyped-in-place (sources more) (sources ps) (sources qs) s (further-apart ps more d)) ∙ sym (ap collected (sources-append qs more))
 
+    -- as distinct as before
+    pub distinct-too : are_distinct (ps ++ more) ≡ are_distinct (qs ++ more)
+    distinct-too = distinct-same (append_one (alike-packages e program) (each_one itself more))
+
     -- equal kernel programs
     pub codes-same : are_distinct (ps ++ more) ≡ true → codes_of (ps ++ more) ≡ codes_of (qs ++ more)
     codes-same d =

@@ -1,0 +1,2 @@
+pub mod TypesStand
+pub mod AliasCycles

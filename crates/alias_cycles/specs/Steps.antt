@@ -1,0 +1,48 @@
+-- Steps of a run that keep the cycles of marked functions, over aliases and others (Go specification, Alias
+-- declarations; Calls).
+use Rattle.std.specs.Prelude.{◌≡◌, true, List}
+use Rattle.go_tree.specs.Tree.{TypeExpr}
+use Rattle.go_translation.specs.Packages.{are_well_typed}
+use Rattle.run_rules.specs.Run.{Standing, Logged, Next, Run, ends, goes_on, is_commented}
+use Rattle.run_rules.specs.Sites.{MarkRef}
+use Rattle.run_rules.specs.Steps.{At, same_here}
+use Rattle.run_steps.specs.RunPackages.{members_of}
+use Rattle.constant_cycles.specs.Laws.{TypesFor}
+use Rattle.import_cycles.specs.ImportSteps.{packages_added}
+use Rattle.order_cycles.specs.Steps.{site_added, GivesWayAdded}
+use Rattle.qualified_aliases.specs.AliasUse.{IsTypeUse, text_there}
+use Rattle.alias_runs.specs.AliasNext.{IsImportingAlias}
+
+-- the type that a step over an alias puts
+abbrev pub alias_text : {marks : List MarkRef} {st : Standing} {l : Logged} {after : Standing}
+    → (n : Next marks st l after) → IsImportingAlias n → TypeExpr At
+alias_text {marks = marks} {st = st} n h =
+    text_there same_here (is_commented st) (packages_added st.packages n.found) marks (site_added n.found) h.use_
+
+-- The constants that statements of the declaration of the use declare call nothing, before the type is put and after;
+-- and literals of functions there have types.
+abbrev pub AliasCallsNothing : {marks : List MarkRef} {st : Standing} {l : Logged} {after : Standing}
+    → (n : Next marks st l after) → IsImportingAlias n → Type 0
+AliasCallsNothing {marks = marks} {st = st} n h =
+    TypesFor (packages_added st.packages n.found) marks (site_added n.found) (alias_text n h)
+
+-- the use is a written type
+abbrev pub OverAType : {marks : List MarkRef} {st : Standing} {l : Logged} {after : Standing}
+    → (n : Next marks st l after) → IsImportingAlias n → Type 0
+OverAType {marks = marks} {st = st} n h =
+    IsTypeUse same_here (is_commented st) (packages_added st.packages n.found) marks (site_added n.found) h.use_
+    h.stands
+
+-- a step over an alias as a written type in well-typed packages, or one that gives way
+pub data KeepsCycles {marks : List MarkRef} {st : Standing} {l : Logged} {after : Standing} (n : Next marks st l after)
+    : Type 0 where
+  over_an_alias :
+      (h : IsImportingAlias n) → OverAType n h → are_well_typed (members_of st.packages) ≡ true →
+      AliasCallsNothing n h → KeepsCycles n
+  gives_way : GivesWayAdded n → KeepsCycles n
+
+-- so is each step of a run
+abbrev pub EachKeepsCycles : {marks : List MarkRef} {st last : Standing} {log : List Logged}
+    → Run marks st log last → Type 0
+EachKeepsCycles (ends st over) = Unit {0}
+EachKeepsCycles (goes_on st next last l log n run) = KeepsCycles n × EachKeepsCycles run

@@ -1,0 +1,8 @@
+//! A step of a run over an alias as a written type keeps which marked functions lie on a cycle: the
+//! type that it puts calls nothing (Go specification, Alias declarations; Calls). Definitions and
+//! laws alone, without code.
+#![tactic(auto)]
+
+mod laws;
+
+pub use laws::alias_steps_keep_cycles;

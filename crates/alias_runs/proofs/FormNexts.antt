@@ -1,0 +1,231 @@
+-- A step of a run, whatever its form: the packages with its imports added, with the form in the use's place, as its file is read again, and with the imports gone that nothing needs.
+use Rattle.std.proofs.Common.{◌≡◌, refl, sym, subst, ◌∙◌, ℕ, zero, suc, Bool, true, List, [], ◌∷◌, ◌++◌, map, Some}
+use Rattle.std.specs.Prelude.{slice_get}
+use Rattle.go_tree.specs.declared.spans.Span.{Span}
+use Rattle.go_tree.specs.File.{Decl, File}
+use Rattle.go_tree.specs.FileBare.{bare_decl}
+use Rattle.pkg_graph.specs.Package as run
+use Rattle.pkg_graph.specs.Package.{SourceTree, import_specs}
+use Rattle.typed_in_place.specs.ProgramsAlike.{OneByOne}
+use Rattle.typed_in_place.proofs.ProgramsReplaced.{each_one, one_by_one}
+use Rattle.go_translation.specs.Packages.{Package, sources, are_distinct}
+use Rattle.run_rules.specs.Programs.{in_dependency_order, linked}
+use Rattle.run_rules.specs.FormTrees.{Form}
+use Rattle.run_rules.specs.Respanned.{decls_with}
+use Rattle.run_rules.specs.Sites.{MarkRef, Where, Site, part_span, where_is}
+use Rattle.run_rules.specs.Steps.{At, same_here, change_nth}
+use Rattle.run_rules.specs.Run.{Standing, Logged, Next, here_of, origin_of}
+use Rattle.run_laws.proofs.FoundSpans.{Placed}
+use Rattle.step_laws.specs.DeclStands.{changed}
+use Rattle.step_cycles.specs.PackagesAlike.{import_key}
+use Rattle.step_cycles.proofs.StepAlike.{one-changed, both-changed}
+use Rattle.cycle_laws.proofs.BareWith as spans
+use Rattle.cycle_laws.proofs.StepsLead.{change-at}
+use Rattle.constant_steps.specs.Alone.{PackageAt}
+use Rattle.constant_steps.specs.PlainUse.{linked_at}
+use Rattle.constant_steps.proofs.LinkedAfter.{package_with, rs_after, linked_after}
+use Rattle.constant_steps.proofs.MarksFound.{StandsThere, stands_there}
+use Rattle.constant_steps.proofs.PlainImports.{Distinct, distinct_sources}
+use Rattle.qualified_steps.specs.NamedUse.{PackageStands}
+use Rattle.import_cycles.specs.OtherImports.{PackagesBeside, FileUnder}
+use Rattle.import_cycles.specs.ImportSteps.{file_added, packages_added, where_added, decl_put}
+use Rattle.import_cycles.proofs.ImportStep.{placed, twice, added-same}
+use Rattle.import_cycles.proofs.ImportsAdded.{path-stays, reads-added}
+use Rattle.import_cycles.proofs.LeadAlike.{same-beside}
+use Rattle.order_cycles.specs.Steps.{site_added, KeepsImportNames, PutsTheSame}
+use Rattle.order_cycles.proofs.StepAdded.{puts-the-same}
+use Rattle.run_steps.specs.Bared.{bare_package, bare_members}
+use Rattle.run_steps.specs.RunPackages.{members_of}
+use Rattle.run_steps.proofs.MembersViewed.{sources-linked, FileView, PackageView, file-view-itself, view-itself, path-itself, PackagePath, import-by-keys, paths-viewed, linked-viewed, zipped}
+use Rattle.run_steps.proofs.PackageStands.{StandsAt, package-stands}
+use Rattle.import_runs.specs.PathsUnder.{PathUnder, PathsUnder}
+use Rattle.import_runs.proofs.Listed.{among-order}
+use Rattle.import_runs.proofs.PathsAlike.{SamePath, files-change, paths-alike}
+use Rattle.alias_steps.specs.AliasSteps.{alias_put, members_with_form}
+use Rattle.alias_steps.proofs.AliasStepLaw.{sources-put}
+
+pub nothing-behind : {A : Type 0} (xs : List A) → xs ++ [] ≡ xs
+nothing-behind [] = refl
+nothing-behind (x ∷ xs) = λ v. x ∷ nothing-behind xs v
+
+bare-decls : (ds : List (Decl At)) → map bare_decl (decls_with origin_of ds) ≡ map bare_decl ds
+bare-decls [] = refl
+bare-decls (d ∷ ds) = λ v. spans.decl-with origin_of d v ∷ bare-decls ds v
+
+-- the import paths stay
+form-paths : {S : Type 0} (same : S → S → Bool) (rs : List (run.Package S)) (z : S) (form : Form S) (number : ℕ) (pk : run.Package S) (tree : File S) (k m n : ℕ) (ms : List (Package S)) → map (λ p. p.path) (members_with_form same rs z form number pk tree k m n ms) ≡ map (λ p. p.path) ms
+form-paths same rs z form number pk tree k m n [] = refl
+form-paths same rs z form number pk tree zero m n (p ∷ ms) = refl
+form-paths same rs z form number pk tree (suc k) m n (p ∷ ms) = λ v. p.path ∷ form-paths same rs z form number pk tree k m n ms v
+
+-- a change of one item, by what it makes of that item
+pub change-same : {A : Type 0} (f g : A → A) (n : ℕ) (xs : List A) → ((x : A) → slice_get xs n ≡ Some x → f x ≡ g x) → change_nth n f xs ≡ change_nth n g xs
+change-same f g n [] h = refl
+change-same f g zero (x ∷ xs) h = λ z. h x refl z ∷ xs
+change-same f g (suc n) (x ∷ xs) h = λ z. x ∷ change-same f g n xs h z
+
+module _ (marks : List MarkRef) (st : Standing) (l : Logged) (after : Standing) (n : Next marks st l after) (names : KeepsImportNames n) where
+  abbrev x : Site At
+  x = n.found.site
+
+  abbrev rs : List (run.Package At)
+  rs = st.packages
+
+  abbrev pub mid : List (run.Package At)
+  mid = packages_added rs n.found
+
+  abbrev pub there : Site At
+  there = site_added n.found
+
+  here : Placed here_of (λ (z : Span). Unit {0}) rs marks x
+  here = placed marks st l after n
+
+  abbrev with_tree : File At → SourceTree At → SourceTree At
+  with_tree t g = record g { tree = t }
+
+  abbrev in_package : File At → run.Package At → run.Package At
+  in_package t p = record p { files = change_nth x.at.file_number (with_tree t) p.files }
+
+  abbrev pub changed_to : File At → List (run.Package At)
+  changed_to t = change_nth x.at.number (in_package t) rs
+
+  -- the packages with one tree or another in the file have the same paths and names
+  trees-alike : (t v : File At) → OneByOne SamePath (changed_to t) (changed_to v)
+  trees-alike t v = files-change (change_nth x.at.file_number (with_tree t)) (change_nth x.at.file_number (with_tree v)) x.at.number rs
+
+  -- ---- the imports are added
+
+  beside-added : PackagesBeside rs mid
+  beside-added = same-beside (added-same marks st l after n)
+
+  added-itself : (f : SourceTree At) → FileUnder rs mid f f
+  added-itself f = record { decls = refl; imports = λ k d e m i. path-stays rs m mid beside-added (import_specs f.tree) }
+
+  pub under-added : PathsUnder rs mid
+  under-added = one-changed (PathUnder rs mid) (λ p. record { path = refl; name = refl; files = each_one added-itself p.files }) (in_package (file_added n.found)) x.at.number rs x.at.of here.package_is
+      (record {
+        path = refl;
+        name = refl;
+        files = one-changed (FileUnder rs mid) added-itself (with_tree (file_added n.found)) x.at.file_number x.at.of.files x.at.source here.file_is
+            (record { decls = refl; imports = λ k d e m i. reads-added marks st l after n names.new_names k d e m i });
+      })
+
+  -- ---- the file is read again, with these imports
+
+  abbrev pub tree_read : File At
+  tree_read = record (file_added n.found) { decls = n.tree.decls }
+
+  abbrev pub back : List (run.Package At)
+  back = changed_to tree_read
+
+  last-itself : (f : SourceTree At) → FileUnder back (changed_to n.tree) f f
+  last-itself f = record { decls = refl; imports = λ k d e m i. paths-alike (trees-alike tree_read n.tree) (import_specs f.tree) m }
+
+  pub under-last : PathsUnder back (changed_to n.tree)
+  under-last = both-changed (PathUnder back (changed_to n.tree)) (λ p. record { path = refl; name = refl; files = each_one last-itself p.files }) (in_package tree_read) (in_package n.tree) x.at.number rs x.at.of here.package_is
+      (record {
+        path = refl;
+        name = refl;
+        files = both-changed (FileUnder back (changed_to n.tree)) last-itself (with_tree tree_read) (with_tree n.tree) x.at.file_number x.at.of.files x.at.source here.file_is
+            (record {
+              decls = refl;
+              imports = λ k d e m i.
+                  paths-alike (trees-alike (file_added n.found) n.tree) (import_specs n.tree) m
+                  ∙ names.kept_names k d e m i
+                  ∙ sym (paths-alike (trees-alike (file_added n.found) tree_read) (import_specs (file_added n.found)) m);
+            });
+      })
+
+  -- ---- the form is put
+
+  puts : PutsTheSame rs n.found
+  puts = puts-the-same marks st l after n names.new_names names.ordered names.ordered_added
+
+  pub package-there : slice_get mid x.at.number ≡ Some (where_added n.found).of
+  package-there = change-at (in_package (file_added n.found)) rs x.at.number x.at.of here.package_is
+
+  pub file-there : slice_get (where_added n.found).of.files x.at.file_number ≡ Some (where_added n.found).source
+  file-there = change-at (with_tree (file_added n.found)) x.at.of.files x.at.file_number x.at.source here.file_is
+
+  abbrev put_mid : Decl At → Decl At
+  put_mid d = alias_put same_here mid (part_span x.part) n.found.form x.at.number (where_added n.found).of (file_added n.found) d
+
+  abbrev put_here : Decl At → Decl At
+  put_here d = decl_put rs n.found d
+
+  abbrev tree_mid : File At
+  tree_mid = record (file_added n.found) { decls = change_nth x.decl put_mid x.at.source.tree.decls }
+
+  abbrev tree_put : File At
+  tree_put = record (file_added n.found) { decls = change_nth x.decl put_here x.at.source.tree.decls }
+
+  tree-is : tree_mid ≡ tree_put
+  tree-is = λ v. record (file_added n.found) { decls = change-same put_mid put_here x.decl x.at.source.tree.decls puts v }
+
+  abbrev with_decl : SourceTree At → SourceTree At
+  with_decl s = record s { tree = record s.tree { decls = change_nth x.decl put_mid s.tree.decls } }
+
+  -- what the packages with the form in the use's place are
+  between-is : rs_after x.at.file_number x.decl put_mid x.at.number mid ≡ changed_to tree_put
+  between-is =
+      twice (package_with x.at.file_number x.decl put_mid) (in_package (file_added n.found)) x.at.number rs
+      ∙ (λ v. change_nth x.at.number (λ p. record p { files = twice with_decl (with_tree (file_added n.found)) x.at.file_number p.files v }) rs)
+      ∙ (λ v. changed_to (tree-is v))
+
+  decls-are : decls_with origin_of n.tree.decls ≡ decls_with origin_of (change_nth x.decl put_here x.at.source.tree.decls)
+  decls-are = λ v. (n.origins_are v).decls
+
+  file-viewed : FileView (with_tree tree_put x.at.source) (with_tree tree_read x.at.source)
+  file-viewed = record {
+    keys = refl;
+    decls = sym (bare-decls n.tree.decls) ∙ (λ v. map bare_decl (decls-are v)) ∙ bare-decls (change_nth x.decl put_here x.at.source.tree.decls);
+  }
+
+  viewed : OneByOne PackageView (changed_to tree_put) back
+  viewed =
+      both-changed PackageView view-itself (in_package tree_put) (in_package tree_read) x.at.number rs x.at.of here.package_is
+      (record { path = refl; name = refl; files = both-changed FileView file-view-itself (with_tree tree_put) (with_tree tree_read) x.at.file_number x.at.of.files x.at.source here.file_is file-viewed })
+
+  abbrev SameKeys : SourceTree At → SourceTree At → Type 0
+  SameKeys f g = map import_key (import_specs g.tree) ≡ map import_key (import_specs f.tree)
+
+  files-kept : OneByOne SameKeys (change_nth x.at.file_number (with_tree (file_added n.found)) x.at.of.files) (change_nth x.at.file_number (with_tree tree_read) x.at.of.files)
+  files-kept = both-changed SameKeys (λ f. refl) (with_tree (file_added n.found)) (with_tree tree_read) x.at.file_number x.at.of.files x.at.source here.file_is refl
+
+  pub pathed : OneByOne PackagePath mid back
+  pathed = both-changed PackagePath path-itself (in_package (file_added n.found)) (in_package tree_read) x.at.number rs x.at.of here.package_is
+      (record { path = refl; imports = import-by-keys files-kept; files = one_by_one (λ f g y. tt) files-kept })
+
+  -- ---- the packages as they are linked
+
+  module _ (distinct : are_distinct (members_of mid) ≡ true) where
+    linked-distinct : Distinct (linked mid)
+    linked-distinct = subst Distinct (sources-linked mid) (distinct_sources (members_of mid) [] ((λ v. are_distinct (nothing-behind (members_of mid) v)) ∙ distinct))
+
+    -- the package of a file stands among the linked ones
+    stands : (at : Where At) → slice_get mid at.number ≡ Some at.of → (m : ℕ) → slice_get at.of.files m ≡ Some at.source → PackageStands mid at (sources (members_of mid))
+    stands at p m f =
+        let s : StandsAt mid at (linked mid) = package-stands mid at m at.source f (in_dependency_order mid) (among-order mid at.number at.of p (names.ordered_added at.number at.of p)) linked-distinct in
+        subst (PackageStands mid at) (sym (sources-linked mid)) (record { at = s.at; nth = s.nth; there = s.there })
+
+    pub mark-stands : (at : Where At) (m : MarkRef) → where_is mid m ≡ Some at → PackageStands mid at (sources (members_of mid))
+    mark-stands at m e = let s : StandsThere mid m at = stands_there mid m at e in stands at ((λ v. slice_get mid (s.number v)) ∙ s.package_there) m.file s.file_there
+
+    pub use-stands : PackageStands mid there.at (sources (members_of mid))
+    use-stands = stands there.at package-there x.at.file_number file-there
+
+    abbrev pub put : List (Package At)
+    put = members_with_form same_here mid (part_span x.part) n.found.form x.at.number (where_added n.found).of (file_added n.found) use-stands.nth x.at.file_number x.decl (members_of mid)
+
+    put-linked : sources put ≡ linked (changed_to tree_put)
+    put-linked =
+        sources-put same_here mid (part_span x.part) n.found.form x.at.number (where_added n.found).of (file_added n.found) use-stands.nth x.at.file_number x.decl (members_of mid)
+        ∙ (λ v. changed put_mid use-stands.nth x.at.file_number x.decl (sources-linked mid v))
+        ∙ sym (linked_after x.at.file_number x.decl put_mid x.at.number mid (linked_at mid there.at use-stands.at) use-stands.nth (subst (PackageAt (linked_at mid there.at use-stands.at) use-stands.nth) (sources-linked mid) use-stands.there) refl linked-distinct)
+        ∙ (λ v. linked (between-is v))
+
+    pub read-again : bare_members put ≡ bare_members (members_of back)
+    read-again =
+        zipped put (members_of back)
+        (form-paths same_here mid (part_span x.part) n.found.form x.at.number (where_added n.found).of (file_added n.found) use-stands.nth x.at.file_number x.decl (members_of mid) ∙ sym (paths-viewed pathed))
+        ((λ v. map bare_package (put-linked v)) ∙ sym (linked-viewed viewed) ∙ (λ v. map bare_package (sym (sources-linked back) v)))

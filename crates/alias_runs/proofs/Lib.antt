@@ -1,0 +1,5 @@
+pub mod AliasLinks
+pub mod AliasImports
+pub mod FormNexts
+pub mod OrderedAliases
+pub mod NamesRuns

@@ -1,0 +1,3 @@
+pub mod ImportingAliases
+pub mod AliasNext
+pub mod Laws

@@ -1,0 +1,4 @@
+pub mod KnownAlias
+pub mod TypesKept
+pub mod CalledSwaps
+pub mod PlacedSteps

@@ -1,0 +1,2 @@
+pub mod CalledUse
+pub mod Laws

@@ -1,0 +1,3 @@
+pub mod NamedTexts
+pub mod AliasUse
+pub mod Laws

@@ -1,0 +1,3 @@
+pub mod SameKinds
+pub mod ValuesFound
+pub mod Rounds

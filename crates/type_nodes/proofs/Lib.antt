@@ -1,0 +1,3 @@
+pub mod TypeWalk
+pub mod TopWalk
+pub mod TypesPut

@@ -1,0 +1,128 @@
+-- A name of a type is put in the place of a name of a type.
+use Rattle.std.proofs.Common.{◌≡◌, ℕ, true, false, List, [], ◌∷◌, ◌++◌, drop, Option, Some, None, refl, sym, ap, subst, ◌∙◌}
+use Rattle.std.specs.Str.{chars}
+use Rattle.go_tree.specs.declared.spans.Span.{Span}
+use Rattle.go_tree.specs.Tree.{NameAt, TypeExpr, named}
+use Rattle.go_tree.specs.Bare.{bare_type}
+use Rattle.go_tree.specs.File.{File}
+use Rattle.go_tree.specs.FileBare.{bare_file}
+use Rattle.go_words.specs.Terminals as terminal
+use Rattle.go_words.specs.Terminals.{lex, lexemes, paren}
+use Rattle.go_read.specs.SpellsTypes.{Lexemes, SpellsType, named_rule, qualified_rule, type_parens_rule}
+use Rattle.go_read.specs.SpellsSpans.{span_to}
+use Rattle.go_layout.specs.TypeLayout.{type_layout}
+use Rattle.layout_laws.specs.Formed.{IsName, FormedType}
+use Rattle.run_rules.specs.FormTrees.{as_type}
+use Rattle.run_rules.specs.Inlining.{ReadsAs}
+use Rattle.run_rules.specs.Respanned.{type_with, file_with}
+use Rattle.run_rules.specs.Steps.{At}
+use Rattle.run_rules.specs.Surroundings.{Slot}
+use Rattle.run_rules.specs.Texts.{FileText, indent_at}
+use Rattle.splice_laws.specs.Dots.{UndottedFile}
+use Rattle.splice_laws.specs.Joints.{begins_with_dot}
+use Rattle.splice_laws.specs.Replaced.{Replaced}
+use Rattle.splice_laws.specs.Splice.{are_apart, first_word}
+use Rattle.splice_laws.specs.Swaps.{Swap, a_type, FileIn}
+use Rattle.splice_laws.proofs.Files.{replaced}
+use Rattle.splice_laws.proofs.Rises.{tokens_rise}
+use Rattle.form_splices.specs.Laws.{is_parted}
+use Rattle.form_splices.proofs.FormLayouts.{type-spliced}
+use Rattle.names_apart.specs.Starts.{StartsName}
+use Rattle.names_apart.proofs.NamesApart.{names_apart, starts_name}
+use Rattle.put_nodes.specs.Put.{FormIsPut}
+use Rattle.put_nodes.proofs.NamesLaid.{indent_spaces}
+use Rattle.type_nodes.specs.Names.{IsTypeName, a_type_alone, a_qualified_type}
+
+-- ---- where a name of a type begins
+
+-- the first identifier of a type that is a name, which may stand in parentheses
+record FirstName (at : ℕ) (ts : Lexemes) : Type 0 where
+  front : Lexemes
+  span : Span
+  name : List ℕ
+  more : Lexemes
+  tokens : ts ≡ front ++ lex span (terminal.ident name) ∷ more
+  starts : at ≡ span.start
+
+first-name : {z : Span} {q : Option (NameAt Span)} {n : NameAt Span} {ts r : Lexemes} → SpellsType span_to (named z q n) ts r → FirstName z.start ts
+first-name (named_rule {s = s} {n = n} {r = r}) = record { front = []; span = s; name = n; more = r; tokens = refl; starts = refl }
+first-name (qualified_rule {s = s} {p = p}) = record { front = []; span = s; name = p; more = _; tokens = refl; starts = refl }
+first-name (type_parens_rule {s = s} d) =
+    let x : FirstName _ _ = first-name d in
+    record { front = lex s paren ∷ x.front; span = x.span; name = x.name; more = x.more; tokens = ap (λ (ts : Lexemes). lex s paren ∷ ts) x.tokens; starts = x.starts }
+
+more-front : (xs ys zs : Lexemes) → xs ++ (ys ++ zs) ≡ (xs ++ ys) ++ zs
+more-front [] ys zs = refl
+more-front (x ∷ xs) ys zs = ap (λ (ts : Lexemes). x ∷ ts) (more-front xs ys zs)
+
+-- ---- the new name
+
+-- the name that comes first
+abbrev first-of : {S : Type 0} → TypeExpr S → List ℕ
+first-of (named s None n) = n.name
+first-of (named s (Some q) n) = q.name
+first-of t = []
+
+module _ {A B : Type 0} (to : A → B) where
+  first-is-name : {t : TypeExpr A} → IsTypeName t → IsName (first-of t)
+  first-is-name (a_type_alone x) = x
+  first-is-name (a_qualified_type x y) = x
+
+  first-laid : {t : TypeExpr A} → IsTypeName t → first_word (type_layout (bare_type (type_with to t))) ≡ chars (first-of t)
+  first-laid (a_type_alone x) = refl
+  first-laid (a_qualified_type x y) = refl
+
+  bare-name : {t : TypeExpr A} → IsTypeName t → bare_type (type_with to t) ≡ bare_type t
+  bare-name (a_type_alone x) = refl
+  bare-name (a_qualified_type x y) = refl
+
+  formed-name : {t : TypeExpr A} → IsTypeName t → FormedType (bare_type (type_with to t))
+  formed-name (a_type_alone x) = (tt, x)
+  formed-name (a_qualified_type x y) = (x, y)
+
+module _ (to : At → Span) (t : FileText) (tree : File At) (reads : ReadsAs t (file_with to tree)) (undotted : UndottedFile (bare_file (file_with to tree))) (z s : At) (p : Slot) (q : Option (NameAt At)) (n : NameAt At) (new : TypeExpr At)
+    (swapped : (u : TypeExpr Span) → (g : File Span) × FileIn (a_type (type_with to (named s q n)) u) (file_with to tree) g) (is : IsTypeName new) where
+  abbrev range : Span
+  range = to s
+
+  abbrev old : TypeExpr Span
+  old = type_with to (named s q n)
+
+  abbrev swap : Swap Span
+  swap = a_type old (type_with to new)
+
+  put : (g : File Span) × FileIn swap (file_with to tree) g
+  put = swapped (type_with to new)
+
+  by-first : {are : Lexemes → Type 0} → Replaced span_to swap (lexemes t.tokens) are → StartsName range.start t.tokens
+  by-first r =
+      let x : FirstName range.start (r.node ++ r.rest) = first-name r.old in
+      subst (λ (at : ℕ). StartsName at t.tokens) (sym x.starts)
+      (starts_name t.tokens (r.front ++ x.front) x.more x.span x.name (r.tokens ∙ ap (λ (ts : Lexemes). r.front ++ ts) x.tokens ∙ more-front r.front x.front (lex x.span (terminal.ident x.name) ∷ x.more)))
+
+  starts : StartsName range.start t.tokens
+  starts = by-first (replaced swap (file_with to tree) put.0 (lexemes t.tokens) reads.spells (tokens_rise t.text t.tokens t.comments reads.scans) put.1)
+
+  pub type-name-put : FormIsPut t (file_with to tree) z range p (as_type new)
+  type-name-put = record {
+    new = put.0;
+    swap = swap;
+    indent = indent_at t.text range.start;
+    dotted = begins_with_dot (drop range.end t.text);
+    wrapped = false;
+    blank = is_parted t z range p (as_type new);
+    edit_is = type-spliced t z range p new old (type_with to new) (bare-name to is);
+    put = record {
+      of_text = reads.scans;
+      spelled = reads.spells;
+      undotted_file = undotted;
+      swapped = put.1;
+      asks = tt;
+      formed = formed-name to is;
+      spaces = indent_spaces t.text range.start;
+      undotted = λ e. e;
+      apart = λ e.
+          subst (λ (v : List ℕ). are_apart t.tokens range.start v ≡ true) (sym (first-laid to is))
+          (names_apart t.text t.tokens t.comments reads.scans range.start starts (first-of new) (first-is-name to is));
+    };
+  }
