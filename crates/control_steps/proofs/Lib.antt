@@ -1,0 +1,2 @@
+pub mod OperandTests
+pub mod TakenLemmas

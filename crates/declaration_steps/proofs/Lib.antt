@@ -1,0 +1,2 @@
+pub mod EntityLemmas
+pub mod BindLemmas
