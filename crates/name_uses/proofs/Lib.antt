@@ -1,0 +1,3 @@
+pub mod LocalLemmas
+pub mod StateLemmas
+pub mod StateSteps

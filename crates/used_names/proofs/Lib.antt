@@ -1,0 +1,5 @@
+pub mod Truths
+pub mod Written
+pub mod Standing
+pub mod Steps
+pub mod UsedFound
