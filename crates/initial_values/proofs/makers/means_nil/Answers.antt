@@ -1,0 +1,9 @@
+use Rattle.std.proofs.Common.{◌∙◌, ap, sym}
+use Rattle.go_types.specs.Initial as go
+use Rattle.typed_names.specs.Meanings.{entity_option}
+use Rattle.initial_values.proofs.makers.means_nil.Goals as goal
+
+pub returns-in-Some : goal.returns-in-Some
+returns-in-Some c =
+    λ types cs.
+    c.is_nil_entity.ensures types cs ∙ ap (λ o. go.means_nil (entity_option types cs o)) (sym c.in-Some.is)

@@ -1,0 +1,5 @@
+pub mod Firsts
+pub mod Kept
+pub mod Others
+pub mod Rounds
+pub mod SoFar
