@@ -1,0 +1,4 @@
+pub mod IdentifiersStay
+pub mod Uses
+pub mod Found
+pub mod Steps

@@ -1,0 +1,21 @@
+use Rattle.std.proofs.Common.{◌∙◌, ap, map, subst, List}
+use Rattle.go_tree.specs.declared.files.Decl.{Decl}
+use Rattle.go_tree.specs.FileView.{decl_of}
+use Rattle.run_rules.specs.Programs.{numbered}
+use Rattle.marked_uses.specs.declared.uses.MarkedUse.{MarkedUse}
+use Rattle.marked_uses.specs.Uses.{decls_uses}
+use Rattle.use_search.specs.Answers.{names_of}
+use Rattle.use_search.specs.Search.{IsSearched}
+use Rattle.use_search.proofs.search.search_file.Goals as goal
+
+pub returns : goal.returns
+returns c = λ ps ms h.
+    record {
+      uses = c.in_ok-uses.uses.items;
+      are_all =
+          c.in_ok-uses.ensures ps ms h
+          ∙ ap (λ (ds : List Decl). decls_uses (λ s. s) ps ms (names_of c.args.file.now) (numbered (map decl_of ds))) c.items.ensures;
+      searched =
+          subst (λ (us : List MarkedUse). IsSearched c.args.program.now c.args.file.now us c.in_ok-found.found.kept.items c.in_ok-found.found.free)
+          c.deref.ensures.value c.in_ok-found.ensures;
+    }
