@@ -2,4 +2,4 @@ mod SetLemmas
 mod DeclareLemmas
 mod PutLemmas
 mod TableLemmas
-mod Kept
+pub mod Kept

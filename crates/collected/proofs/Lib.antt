@@ -1,0 +1,4 @@
+pub mod RowsSame
+pub mod TypeLemmas
+pub mod MethodLemmas
+pub mod CollectLemmas

@@ -1,0 +1,52 @@
+use Rattle.std.proofs.Common.{[], ◌∙◌, List, map, subst, sym}
+use Rattle.const_eval.specs.declared.consts.Const.{Const}
+use Rattle.go_types.specs.Programs.{headed}
+use Rattle.declared_types.specs.Steps.{KnowsPlaces}
+use Rattle.package_blocks.specs.Headers.{AreHeaders, listed_of}
+use Rattle.package_blocks.specs.Imports.{views}
+use Rattle.func_headers.specs.Functions.{program_of}
+use Rattle.collected.proofs.CollectLemmas.{methods_declared, methods_refused_are, names_declared}
+use Rattle.collected.proofs.declarations.collect.Goals as goal
+
+pub known_types-requires : goal.known_types-requires
+known_types-requires c =
+    record {
+      known = λ e.
+          subst (KnowsPlaces e _) (sym c.deref.ensures.value) (c.in_ok-blocks.ensures.known e);
+    }
+
+pub returns : goal.returns
+returns c =
+    let packages = c.args.packages.now in
+    let ps = program_of packages in
+    let hs = headed ps in
+    let e = c.declare_functions.new.types in
+    let f = c.add_methods.new.tables.env in
+    let bs = c.declare_functions.new.blocks in
+    let files = c.in_ok-blocks.field-0.files.items in
+    let functions = c.in_ok-refused_functions.refused_functions.items in
+    let refused = c.in_ok-refused_methods.refused_methods.items in
+    let are = c.in_ok-blocks.ensures.headers in
+    let types = (λ (cs : List Const).
+    c.in_ok-tables.ensures.declared (views packages) cs
+    (subst (λ fs. AreHeaders fs (map listed_of c.deref-2.result.now) hs) (sym c.deref.ensures.value)
+    (subst (λ xs. AreHeaders files (map listed_of xs) hs) (sym c.deref-2.ensures.value) are)) c.in_ok-blocks.ensures.members) in
+    let known = (λ (cs : List Const).
+    c.in_ok-refused_functions.ensures.found cs
+    (subst (λ fs. AreHeaders fs (map listed_of c.deref-4.result.now) hs) (sym c.deref-3.ensures.value)
+    (subst (λ xs. AreHeaders files (map listed_of xs) hs) (sym c.deref-4.ensures.value) are)) (types cs).declared) in
+    let added = (λ (cs : List Const).
+    c.in_ok-refused_methods.ensures.added cs hs
+    (subst (λ fs. AreHeaders fs (map listed_of c.deref-6.result.now) hs) (sym c.deref-5.ensures.value)
+    (subst (λ xs. AreHeaders files (map listed_of xs) hs) (sym c.deref-6.ensures.value) are))) in
+    let defined = c.declare_functions.ensures.grown.defined ∙ (types []).defined in
+    record {
+      ready = c.in_ok-refused_methods.ensures.ready;
+      known = subst (KnowsPlaces f bs) c.deref-5.ensures.value c.in_ok-refused_methods.ensures.known;
+      headers = are;
+      names = λ cs. names_declared ps e f cs bs refused functions (known cs) defined (added cs);
+      methods = methods_declared ps e f [] bs refused functions (known []) defined (added []);
+      types_refused = (types []).refused_are;
+      functions_refused = (known []).refused_are;
+      methods_refused = methods_refused_are ps e f [] bs refused functions (known []) defined (added []);
+    }

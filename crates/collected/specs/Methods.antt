@@ -1,0 +1,31 @@
+-- Methods in the tables (Go specification, Method declarations; Method sets; Selectors).
+use Rattle.std.specs.Prelude.{◌≡◌, ℕ, ◌<◌, true, List, [], length}
+use Rattle.go_tree.specs.declared.spans.Span.{Span}
+use Rattle.const_eval.specs.declared.consts.Const.{Const}
+use Rattle.go_types.specs.Types.{named_type}
+use Rattle.go_types.specs.Defined.{methods}
+use Rattle.go_types.specs.Entities.{World}
+use Rattle.go_types.specs.Primary.{find_method}
+use Rattle.go_types.specs.Programs.{Headed}
+use Rattle.go_types.specs.Collect.{world_of}
+use Rattle.type_relations.specs.Environment.{Environment, env_type, is_defined}
+use Rattle.type_relations.specs.Methods.{declared_method}
+use Rattle.typed_names.specs.Meanings.{Names, world_at}
+use Rattle.declared_types.specs.Members.{SameMembers}
+use Rattle.func_headers.specs.NameRoles.{SameTypes}
+use Rattle.method_types.specs.Methods.{refused_methods}
+
+-- each defined type of the tables has by each name the method that it has in a world
+abbrev pub HaveMethods : Environment → World → Type 0
+HaveMethods e w =
+    (t p : ℕ) (n m : List ℕ) → t < length e.rows → env_type e t ≡ named_type p n → is_defined e.defined t ≡ true →
+    declared_method e t m ≡ find_method m (methods w.defined (named_type p n))
+
+-- The methods of headers are added to what is known, which stays: names mean what they meant, types mean the same,
+-- each defined type has the methods that are declared on it, and these headers of methods are refused.
+pub record MethodsAreAdded (e : Environment) (cs : List Const) (bs : List Names) (w : World) (hs : List (Headed Span))
+    (refused : List ℕ) : Type 0 where
+  pub members : SameMembers (world_at e cs bs) w
+  pub types : SameTypes (world_at e cs bs) w
+  pub methods : HaveMethods e (world_of hs w)
+  pub refused_are : refused ≡ refused_methods w [] 0 hs

@@ -1,0 +1,68 @@
+-- Which headers of a program are refused, by kinds and all together (Go specification, Declarations and scope;
+-- Uniqueness of identifiers).
+use Rattle.std.specs.Prelude.{◌≡◌, ℕ, zero, suc, Bool, true, false, not, ◌&&◌, List, [], ◌∷◌, replicate, is_none}
+use Rattle.go_tree.specs.declared.spans.Span.{Span}
+use Rattle.go_types.specs.Answers.{and_also}
+use Rattle.go_types.specs.Entities.{World}
+use Rattle.go_types.specs.Programs.{Header, constants, variables, Headed, Program, headed}
+use Rattle.go_types.specs.MethodDeclarations.{MethodName, declared_on}
+use Rattle.go_types.specs.Collect.{DeclaredTypes, collected, declared_by, types_declared, valued_world}
+use Rattle.go_types.specs.WellTyped.{header_ok}
+use Rattle.func_headers.specs.Functions.{numbers_where, refused_functions}
+use Rattle.method_types.specs.Methods.{refused_methods}
+use Rattle.header_order.specs.declared.kinds.RefusedHeaders.{RefusedHeaders}
+use Rattle.header_order.specs.Types.{refused_types}
+
+-- the header of constants or of variables
+abbrev pub is_value : Header Span → Bool
+is_value (constants ns t es i) = true
+is_value (variables ns t es) = true
+is_value h = false
+
+-- one that is refused
+abbrev pub is_refused_value : DeclaredTypes → World → Headed Span → Bool
+is_refused_value ds w h = is_value h.header && is_none (declared_by ds w h)
+
+module _ (ps : Program Span) where
+  -- the numbers of such headers in a program, in their order
+  abbrev pub refused_values : List ℕ
+  refused_values =
+      numbers_where (is_refused_value (types_declared ps (headed ps)) (valued_world ps (headed ps))) 0 (headed ps)
+
+  -- these are the headers that are refused, by kinds
+  pub record AreRefused (r : RefusedHeaders) : Type 0 where
+    pub types : r.types.items ≡ refused_types ps
+    pub values : r.values.items ≡ refused_values
+    pub functions : r.functions.items ≡ refused_functions ps
+    pub methods : r.methods.items ≡ refused_methods (collected ps) [] 0 (headed ps)
+
+-- ---- all kinds
+
+-- for each header whether it is refused; `before` are the names of the methods before
+abbrev pub wrongs : DeclaredTypes → World → List MethodName → List (Headed Span) → List Bool
+wrongs ds w before [] = []
+wrongs ds w before (h ∷ hs) =
+    not (header_ok ds w before h) ∷ wrongs ds w (and_also (declared_on w h) before) hs
+
+-- so of a program
+abbrev pub program_wrongs : Program Span → List Bool
+program_wrongs ps = wrongs (types_declared ps (headed ps)) (collected ps) [] (headed ps)
+
+-- ---- marks
+
+-- the mark at a place is set
+abbrev pub mark : ℕ → List Bool → List Bool
+mark i [] = []
+mark zero (b ∷ bs) = true ∷ bs
+mark (suc i) (b ∷ bs) = b ∷ mark i bs
+
+-- so are those at several places
+abbrev pub mark_all : List ℕ → List Bool → List Bool
+mark_all [] bs = bs
+mark_all (i ∷ is) bs = mark_all is (mark i bs)
+
+-- of so many headers those are marked that are refused
+abbrev pub marks_of : ℕ → RefusedHeaders → List Bool
+marks_of count r =
+    mark_all r.methods.items
+    (mark_all r.functions.items (mark_all r.values.items (mark_all r.types.items (replicate count false))))

@@ -1,0 +1,4 @@
+pub mod Types
+pub mod Kinds
+pub mod Files
+pub mod Laws

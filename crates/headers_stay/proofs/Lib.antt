@@ -1,0 +1,12 @@
+pub mod DefinedSame
+pub mod RelationsSame
+pub mod OperandsSame
+pub mod OperatorsSame
+pub mod PrimarySame
+pub mod LiteralsSame
+pub mod TypeNamesSame
+pub mod EntitiesSame
+pub mod Unfixed
+pub mod Later
+pub mod Initials
+pub mod Stay

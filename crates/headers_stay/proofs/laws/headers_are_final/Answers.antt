@@ -1,0 +1,11 @@
+use Rattle.headers_stay.proofs.Stay.{headers_are_alike, headers_are_final, none_before}
+use Rattle.headers_stay.proofs.laws.headers_are_final.Goals as goal
+
+pub returns-clause-stay : goal.returns-clause-stay
+returns-clause-stay c = headers_are_alike
+
+pub returns-clause-programs : goal.returns-clause-programs
+returns-clause-programs c = headers_are_final
+
+pub returns-clause-none : goal.returns-clause-none
+returns-clause-none c = none_before

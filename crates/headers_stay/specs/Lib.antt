@@ -1,0 +1,2 @@
+pub mod SameRules
+pub mod Laws
