@@ -6,6 +6,7 @@ pub mod TopPuts
 pub mod PutWalk
 pub mod FirstUses
 pub mod OneUse
+pub mod Wide
 pub mod Forms
 pub mod Reached
 pub mod Values

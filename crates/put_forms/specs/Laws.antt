@@ -1,6 +1,6 @@
 -- The laws of forms that a run puts next. Each is the contract of a function of this crate (Go specification, Constant
 -- declarations; Source file organization; Import declarations).
-use Rattle.std.specs.Prelude.{◌≡◌, ℕ, true, List}
+use Rattle.std.specs.Prelude.{◌≡◌, ◌<◌, ℕ, true, List}
 use Rattle.go_tree.specs.declared.spans.Span.{Span}
 use Rattle.go_tree.specs.File.{File}
 use Rattle.go_tree.specs.Tree.{Expr}
@@ -17,7 +17,7 @@ use Rattle.next_programs.specs.Made.{PutsForm, MakesFile, NextWith}
 use Rattle.run_by_steps.specs.Reached.{HasReached, IsNextUse}
 use Rattle.run_rules.specs.Naming.{imports_added}
 use Rattle.run_rules.specs.Programs.{linked}
-use Rattle.run_rules.specs.Run.{Standing, Logged}
+use Rattle.run_rules.specs.Run.{Standing, Logged, here_of}
 use Rattle.put_names.specs.Uses.{IsDeclaredAsName}
 use Rattle.run_rules.specs.Sites.{MarkRef, Where}
 use Rattle.run_rules.specs.Steps.{At, Found}
@@ -32,6 +32,12 @@ abbrev pub ConstantFormsArePut : Type 0
 ConstantFormsArePut =
     (marks : List MarkRef) (st : Standing) (f : Found At) (old : FileText) → IsReady st → IsFirstUse marks st f old
     → UsesNamedConstant st f old → PutsForm st f old
+
+-- What it replaces has a byte at least.
+abbrev pub ConstantUsesHaveBytes : Type 0
+ConstantUsesHaveBytes =
+    (marks : List MarkRef) (st : Standing) (f : Found At) (old : FileText) → IsReady st → IsFirstUse marks st f old
+    → UsesNamedConstant st f old → (here_of f.range).start < (here_of f.range).end
 
 -- The names that it has for packages stand for packages of the program, and the imports that it adds can be written.
 abbrev pub ConstantNamesAreInProgram : Type 0

@@ -1,16 +1,18 @@
 //! Laws of forms that a run puts next.
 
-ghost use Rattle.put_forms.specs.Laws.{ConstantFormsArePut, ConstantNamesAreInProgram};
+ghost use Rattle.put_forms.specs.Laws.{ConstantFormsArePut, ConstantNamesAreInProgram, ConstantUsesHaveBytes};
 ghost use Rattle.put_forms.specs.Laws.{ConstantsComeNext, MadeConstantsAreNext, MadeConstantsStayReady};
 ghost use Rattle.put_forms.specs.Laws.{ReachedProgramsAreReady, ValuesAreNames};
 
 use scoped_parts::well_typed_files_are_scoped;
 
 /// In a program that is ready, the form of the first use of a constant that is declared as a name is laid out in the
-/// place of a node of its file; that node replaced is the form in the use's place. Its names for packages are those of
+/// place of a node of its file; that node replaced is the form in the use's place. What it
+/// replaces has a byte at least. Its names for packages are those of
 /// packages of the program, and the imports that it adds can be written.
 pub fn forms_of_constants_are_put()
     ensures put { ConstantFormsArePut }
+    ensures some { ConstantUsesHaveBytes }
     ensures named { ConstantNamesAreInProgram }
 {
     well_typed_files_are_scoped();
