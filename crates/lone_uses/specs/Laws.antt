@@ -13,8 +13,8 @@ use Rattle.run_rules.specs.Texts.{FileText}
 use Rattle.unused_imports.specs.Uses.{all_parts}
 use Rattle.lone_uses.specs.Alone.{StandsAlone}
 
--- Of the parts of a file that reads, just the first use of a constant that becomes a form is a name at its span, where the
--- declarations are as typing asks and the span has a byte.
+-- Of the parts of a file that reads, just the first use of a constant that becomes a form is a name at its span, where
+-- the declarations are as typing asks and the span has a byte.
 abbrev pub ConstantUsesStandAlone : Type 0
 ConstantUsesStandAlone =
     (marks : List MarkRef) (st : Standing) (f : Found At) (old : FileText) → step_in marks st ≡ Some f

@@ -26,8 +26,8 @@ use Rattle.settled_constants.specs.Programs.{IsReady}
 use Rattle.unspread_forms.specs.UnspreadForms.{UnspreadPackages}
 use Rattle.put_forms.specs.Uses.{IsFirstUse, UsesNamedConstant, IsOfPackages}
 
--- In a program that is ready the form of a constant's first use is laid out in the place of a node of the file, and with
--- that node replaced the file has the declarations with the form in the use's place, spans aside.
+-- In a program that is ready the form of a constant's first use is laid out in the place of a node of the file, and
+-- with that node replaced the file has the declarations with the form in the use's place, spans aside.
 abbrev pub ConstantFormsArePut : Type 0
 ConstantFormsArePut =
     (marks : List MarkRef) (st : Standing) (f : Found At) (old : FileText) → IsReady st → IsFirstUse marks st f old
@@ -67,8 +67,8 @@ MadeConstantsStayReady =
     → IsFirstUse marks st f old → UsesNamedConstant st f old → (n : NextWith marks st f old new tree)
     → RemovesNoNames n.next → well_typed (linked n.after.packages) ≡ true → SettlesFile n.next × IsReady n.after
 
--- A program that a run has reached is ready, where its packages are linked, it is well typed, and no call in it hands on
--- a slice for its last arguments.
+-- A program that a run has reached is ready, where its packages are linked, it is well typed, and no call in it hands
+-- on a slice for its last arguments.
 abbrev pub ReachedProgramsAreReady : Type 0
 ReachedProgramsAreReady =
     (files : List Source) (ps : List (Package Span)) (texts : List (List ℕ × FileText)) (only : List ℕ)

@@ -18,8 +18,8 @@ pub record IsFirstUse (marks : List MarkRef) (st : Standing) (f : Found At) (old
   pub is_first : step_in marks st ≡ Some f
   pub there : text_at f.site.at.source.path st.texts ≡ Some old
 
--- It is an expression that uses a constant which is declared as a name. Where it has the name of a package before it, its
--- text begins with that: no parenthesis stands around it. The names to avoid are fewer than 2^64.
+-- It is an expression that uses a constant which is declared as a name. Where it has the name of a package before it,
+-- its text begins with that: no parenthesis stands around it. The names to avoid are fewer than 2^64.
 pub record UsesNamedConstant (st : Standing) (f : Found At) (old : FileText) : Type 0 where
   pub home : Where At
   pub home_is : where_is st.packages f.site.mark ≡ Some home
