@@ -13,8 +13,8 @@ use Rattle.report_lines.specs.Lines.{StandInOrder}
 use Rattle.report_lines.specs.Laws.{item_of}
 use Rattle.report_files.specs.Files.{PathsAscend, IsPathIn, EachEntry, entries_in, by_files, lines_by_file, LiesWithin}
 
--- Where the paths of files ascend, the entries of a report by path and offset are those of one file after the other, each
--- file's by their offsets.
+-- Where the paths of files ascend, the entries of a report by path and offset are those of one file after the other,
+-- each file's by their offsets.
 abbrev pub EntriesAreByFile : Type 0
 EntriesAreByFile =
     (paths : List (List ℕ)) (es : List Entry) → PathsAscend paths → EachEntry (λ e. IsPathIn paths (file_of e)) es

@@ -1,6 +1,7 @@
 //! Laws of reports over several files.
 
-ghost use Rattle.report_files.specs.Laws.{EntriesAreByFile, FilesHaveTheirItems, ReadPathsAscend, ReportsAreByFile, StepsLieInFiles};
+ghost use Rattle.report_files.specs.Laws.{EntriesAreByFile, FilesHaveTheirItems, ReportsAreByFile};
+ghost use Rattle.report_files.specs.Laws.{ReadPathsAscend, StepsLieInFiles};
 
 /// What a report says are the lines of one file after the other, each those of its own entries by their offsets. The
 /// files stand in the order of their paths, as a module's do. The items of a file stand in order, so report_lines may be

@@ -25,8 +25,8 @@ use Rattle.standing_uses.specs.Laws.{AreTyped}
 use Rattle.unused_imports.specs.Told.{IsTold}
 use Rattle.unused_imports.specs.Uses.{all_parts}
 
--- The first use of a constant that becomes a form, of which the code is told (constant_forms' `IsUse`) and which becomes
--- this form, is told to `unused_imports`, by the file of the use as it stands, if that is typed.
+-- The first use of a constant that becomes a form, of which the code is told (constant_forms' `IsUse`) and which
+-- becomes this form, is told to `unused_imports`, by the file of the use as it stands, if that is typed.
 abbrev pub FirstUsesAreTold : Type 0
 FirstUsesAreTold =
     (marks : List MarkRef) (st : Standing) (f : Found At) → step_in marks st ≡ Some f → ProgramReads st
@@ -43,8 +43,8 @@ pub record BecomesForm (f : Found At) (form : ConstantForm) : Type 0 where
   pub form_is : f.form ≡ form_of f.range form
   pub named_is : f.named ≡ option_to_list (option_map named_of form.package)
 
--- The file's imports lie in its text as their spans say, its comments start in their order, and the use stands behind the
--- imports; so constant_edits is told of the step.
+-- The file's imports lie in its text as their spans say, its comments start in their order, and the use stands behind
+-- the imports; so constant_edits is told of the step.
 pub record MayBeEdited
     (marks : List MarkRef) (st : Standing) (f : Found At) (old : FileText) (form : ConstantForm) (unused : List Span)
     : Type 0 where

@@ -1,0 +1,5 @@
+pub mod Grown
+pub mod Walk
+pub mod Held
+pub mod Files
+pub mod Uses

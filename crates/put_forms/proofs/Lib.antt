@@ -1,0 +1,12 @@
+pub mod Puts
+pub mod Silent
+pub mod ExprPuts
+pub mod StmtPuts
+pub mod TopPuts
+pub mod PutWalk
+pub mod FirstUses
+pub mod OneUse
+pub mod Wide
+pub mod Forms
+pub mod Reached
+pub mod Values
