@@ -25,11 +25,11 @@ use Rattle.run_laws.proofs.FoundSpans.{Placed, FoundIn, found_in}
 use Rattle.splice_laws.specs.Dots.{UndottedFile}
 use Rattle.splice_laws.specs.Swaps.{Swap, FileIn}
 use Rattle.put_nodes.specs.Put.{FormIsPut}
-use Rattle.type_nodes.specs.Names.{own_names}
+use Rattle.type_nodes.specs.Names.{type_names}
 use Rattle.type_nodes.specs.Swapped.{TypeSwapped, AllTypesSwapped}
-use Rattle.type_nodes.proofs.TopWalk.{own-swapped}
+use Rattle.type_nodes.proofs.TopWalk.{types-swapped}
 use Rattle.type_nodes.proofs.TypesPut.{type-name-put}
-use Rattle.put_types.specs.Uses.{UsesOwnType, BecomesTypeName}
+use Rattle.put_types.specs.Uses.{UsesTypeName, BecomesTypeName}
 
 -- what holds of all types of a list holds of one
 one-swapped : {A B : Type 0} (to : A → B) (Whole : Swap B → Type 0) (ts : List (TypeExpr A)) (t : TypeExpr A) → Contains ts t → AllTypesSwapped to Whole ts → TypeSwapped to Whole t
@@ -50,11 +50,11 @@ module _ (marks : List MarkRef) (st : Standing) (l : Logged) (after : Standing) 
       let r : FileReads st.texts n.found.site.at.source = reads n.found.site.at.number n.found.site.at.file_number n.found.site.at.source at in
       subst (λ (t : FileText). ReadsAs t (file_found n.found)) (same_Some r.text n.old (sym r.there ∙ n.stands)) r.reads
 
-  module _ (undotted : UndottedFile (bare_file (file_found n.found))) (used : UsesOwnType n) (becomes : BecomesTypeName n) where
+  module _ (undotted : UndottedFile (bare_file (file_found n.found))) (used : UsesTypeName n) (becomes : BecomesTypeName n) where
     swapped : TypeSwapped here_of (λ w. (g : File Span) × FileIn w (file_found n.found) g) (named used.span used.before used.name)
     swapped =
-        one-swapped here_of (λ w. (g : File Span) × FileIn w (file_found n.found) g) (own_names placed.decl) (named used.span used.before used.name) (used.own placed.decl placed.decl_is)
-        (own-swapped here_of n.old n.found.site.at.source.tree file-reads n.found.site.decl placed.decl placed.decl_is)
+        one-swapped here_of (λ w. (g : File Span) × FileIn w (file_found n.found) g) (type_names placed.decl) (named used.span used.before used.name) (used.written placed.decl placed.decl_is)
+        (types-swapped here_of n.old n.found.site.at.source.tree file-reads n.found.site.decl placed.decl placed.decl_is)
 
     span-is : here_of used.span ≡ here_of n.found.range
     span-is = sym (ap here_of becomes.range_is ∙ ap (λ (x : Part At). here_of (part_span x)) used.part)

@@ -1,4 +1,4 @@
--- Steps over a use that is a name of a type, in what its declaration writes itself, and becomes a name of a type (Go
+-- Steps over a use that is a name of a type, which its declaration writes, and becomes a name of a type (Go
 -- specification, Alias declarations; Qualified identifiers; Types).
 use Rattle.std.specs.Prelude.{◌≡◌, List, Contains, Option, Some, slice_get}
 use Rattle.go_tree.specs.Tree.{NameAt, TypeExpr, named}
@@ -7,18 +7,18 @@ use Rattle.run_rules.specs.FormTrees.{as_type}
 use Rattle.run_rules.specs.Run.{Standing, Logged, Next}
 use Rattle.run_rules.specs.Sites.{MarkRef, a_type_part, part_span}
 use Rattle.run_rules.specs.Steps.{At}
-use Rattle.type_nodes.specs.Names.{own_names, IsTypeName}
+use Rattle.type_nodes.specs.Names.{type_names, IsTypeName}
 
 module _ {marks : List MarkRef} {st : Standing} {l : Logged} {after : Standing} (n : Next marks st l after) where
-  -- The use is a name of a type in a signature, in a declared type or in the type of a spec of the package block.
-  pub record UsesOwnType : Type 0 where
+  -- The use is a name of a type that its declaration writes, not the type of a receiver or of a composite literal.
+  pub record UsesTypeName : Type 0 where
     pub span : At
     pub before : Option (NameAt At)
     pub name : NameAt At
     pub part : n.found.site.part ≡ a_type_part (named span before name)
-    pub own :
+    pub written :
         (d : Decl At) → slice_get n.found.site.at.source.tree.decls n.found.site.decl ≡ Some d →
-        Contains (own_names d) (named span before name)
+        Contains (type_names d) (named span before name)
 
   -- It becomes a name of a type.
   pub record BecomesTypeName : Type 0 where
