@@ -14,6 +14,8 @@ use Rattle.run_rules.specs.Run.{Standing, Logged, Next}
 use Rattle.run_rules.specs.Sites.{MarkRef}
 use Rattle.read_imports.specs.PutInText.{PutInText}
 use Rattle.splice_laws.specs.Dots.{UndottedFile}
+use Rattle.put_names.specs.Uses.{UsesAlias}
+use Rattle.put_nodes.specs.SpelledNames.{AreNames}
 use Rattle.put_types.specs.Uses.{UsesTypeName, BecomesTypeName}
 
 -- Where the files of a program read from their texts, a step over a name of a type that becomes a name of a type lays
@@ -31,3 +33,10 @@ TypeNamesSettleFiles =
     → UndottedFile (bare_file (file_found n.found)) → UsesTypeName n → BecomesTypeName n
     → AreWritable (imports_added n.found.named) → AddsLedTo st.packages n.found → FewNames st.packages n.found
     → RemovesNoNames n → SettlesFile n
+
+-- An alias of a type's name becomes a name of a type there, if the names that the form has for packages are
+-- identifiers.
+abbrev pub AliasesBecomeTypeNames : Type 0
+AliasesBecomeTypeNames =
+    (marks : List MarkRef) (st : Standing) (l : Logged) (after : Standing) (n : Next marks st l after) → ProgramReads st
+    → UsesTypeName n → UsesAlias n → AreNames n.found.named → BecomesTypeName n

@@ -1,6 +1,6 @@
 //! Laws of steps over names of types.
 
-ghost use Rattle.put_types.specs.Laws.{TypeNamesArePutBySteps, TypeNamesSettleFiles};
+ghost use Rattle.put_types.specs.Laws.{AliasesBecomeTypeNames, TypeNamesArePutBySteps, TypeNamesSettleFiles};
 
 /// A step over a name of a type that its declaration writes, not the type of a receiver or of a
 /// composite literal, which becomes a name of a type, lays the new name out in the place of a node of
@@ -9,4 +9,10 @@ ghost use Rattle.put_types.specs.Laws.{TypeNamesArePutBySteps, TypeNamesSettleFi
 pub fn type_names_are_put_by_steps()
     ensures put { TypeNamesArePutBySteps }
     ensures settle { TypeNamesSettleFiles }
+{}
+
+/// An alias that is declared as a type's name, with the name of a package before it or without,
+/// becomes a name of a type at such a use.
+pub fn aliases_become_type_names()
+    ensures { AliasesBecomeTypeNames }
 {}

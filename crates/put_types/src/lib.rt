@@ -5,4 +5,4 @@
 
 mod laws;
 
-pub use laws::type_names_are_put_by_steps;
+pub use laws::{aliases_become_type_names, type_names_are_put_by_steps};
