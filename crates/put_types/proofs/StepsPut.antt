@@ -1,5 +1,5 @@
 -- A step over a name of a type that becomes a name of a type puts it in the place of a node.
-use Rattle.std.proofs.Common.{◌≡◌, ◌<◌, zero, suc, List, [], ◌∷◌, sym, ap, subst, ◌∙◌, arith}
+use Rattle.std.proofs.Common.{◌≡◌, ◌<◌, Bool, zero, suc, List, [], ◌∷◌, sym, ap, subst, ◌∙◌, arith}
 use Rattle.std.specs.Prelude.{Contains}
 use Rattle.std.proofs.lemmas.Option.{same_Some}
 use Rattle.go_tree.specs.declared.spans.Span.{Span}
@@ -25,17 +25,17 @@ use Rattle.run_laws.proofs.FoundSpans.{Placed, FoundIn, found_in}
 use Rattle.splice_laws.specs.Dots.{UndottedFile}
 use Rattle.splice_laws.specs.Swaps.{Swap, FileIn}
 use Rattle.put_nodes.specs.Put.{FormIsPut}
-use Rattle.type_nodes.specs.Names.{type_names}
+use Rattle.type_nodes.specs.Names.{Written, type_names}
 use Rattle.type_nodes.specs.Swapped.{TypeSwapped, AllTypesSwapped}
 use Rattle.type_nodes.proofs.TopWalk.{types-swapped}
 use Rattle.type_nodes.proofs.TypesPut.{type-name-put}
 use Rattle.put_types.specs.Uses.{UsesTypeName, BecomesTypeName}
 
 -- what holds of all types of a list holds of one
-one-swapped : {A B : Type 0} (to : A → B) (Whole : Swap B → Type 0) (ts : List (TypeExpr A)) (t : TypeExpr A) → Contains ts t → AllTypesSwapped to Whole ts → TypeSwapped to Whole t
-one-swapped to Whole [] t c h = let lt : c.0 < 0 = c.1 in absurd (omega arith)
-one-swapped to Whole (x ∷ ts) t (zero, lt, e) h = subst (TypeSwapped to Whole) e h.0
-one-swapped to Whole (x ∷ ts) t (suc k, lt, e) h = one-swapped to Whole ts t (k, omega (arith, lt), e) h.1
+one-swapped : {A B : Type 0} (to : A → B) (Whole : Swap B → Type 0) (xs : Written A) (x : Bool × TypeExpr A) → Contains xs x → AllTypesSwapped to Whole xs → TypeSwapped to Whole x.0 x.1
+one-swapped to Whole [] x c h = let lt : c.0 < 0 = c.1 in absurd (omega arith)
+one-swapped {A = A} to Whole (y ∷ xs) x (zero, lt, e) h = subst (λ (y : Bool × TypeExpr A). TypeSwapped to Whole y.0 y.1) e h.0
+one-swapped to Whole (y ∷ xs) x (suc k, lt, e) h = one-swapped to Whole xs x (k, omega (arith, lt), e) h.1
 
 module _ (marks : List MarkRef) (st : Standing) (l : Logged) (after : Standing) (n : Next marks st l after) (reads : ProgramReads st) where
   abbrev Any : Span → Type 0
@@ -51,9 +51,9 @@ module _ (marks : List MarkRef) (st : Standing) (l : Logged) (after : Standing) 
       subst (λ (t : FileText). ReadsAs t (file_found n.found)) (same_Some r.text n.old (sym r.there ∙ n.stands)) r.reads
 
   module _ (undotted : UndottedFile (bare_file (file_found n.found))) (used : UsesTypeName n) (becomes : BecomesTypeName n) where
-    swapped : TypeSwapped here_of (λ w. (g : File Span) × FileIn w (file_found n.found) g) (named used.span used.before used.name)
+    swapped : TypeSwapped here_of (λ w. (g : File Span) × FileIn w (file_found n.found) g) used.literal (named used.span used.before used.name)
     swapped =
-        one-swapped here_of (λ w. (g : File Span) × FileIn w (file_found n.found) g) (type_names placed.decl) (named used.span used.before used.name) (used.written placed.decl placed.decl_is)
+        one-swapped here_of (λ w. (g : File Span) × FileIn w (file_found n.found) g) (type_names placed.decl) (used.literal, named used.span used.before used.name) (used.written placed.decl placed.decl_is)
         (types-swapped here_of n.old n.found.site.at.source.tree file-reads n.found.site.decl placed.decl placed.decl_is)
 
     span-is : here_of used.span ≡ here_of n.found.range
@@ -63,7 +63,7 @@ module _ (marks : List MarkRef) (st : Standing) (l : Logged) (after : Standing) 
     form-put =
         subst (λ (f : Form At). FormIsPut n.old (file_found n.found) n.found.range (here_of n.found.range) n.found.site.place.slot f) (sym becomes.form_is)
         (subst (λ (s : Span). FormIsPut n.old (file_found n.found) n.found.range s n.found.site.place.slot (as_type becomes.new)) span-is
-        (type-name-put here_of n.old n.found.site.at.source.tree file-reads undotted n.found.range used.span n.found.site.place.slot used.before used.name becomes.new swapped becomes.is_name))
+        (type-name-put here_of n.old n.found.site.at.source.tree file-reads undotted n.found.range used.span n.found.site.place.slot used.before used.name becomes.new becomes.is_name used.literal swapped))
 
     puts-node : PutsNode n
     puts-node = let f = form-put in record { swap = f.swap; new = f.new; indent = f.indent; dotted = f.dotted; wrapped = f.wrapped; blank = f.blank; edit_is = f.edit_is; put = f.put }

@@ -1,5 +1,5 @@
 -- Each name of a type that the declarations of a file write, which reads from its text, is a node of the file.
-use Rattle.std.proofs.Common.{◌≡◌, ℕ, zero, suc, List, [], ◌∷◌, map, Some, subst}
+use Rattle.std.proofs.Common.{◌≡◌, ℕ, zero, suc, Bool, true, false, List, [], ◌∷◌, map, Some, subst}
 use Rattle.std.specs.Prelude.{slice_get}
 use Rattle.std.proofs.lemmas.Option.{same_Some}
 use Rattle.go_tree.specs.declared.spans.Span.{Span}
@@ -18,29 +18,29 @@ use Rattle.splice_laws.proofs.Apart.{Differ}
 use Rattle.splice_laws.proofs.Grafts.{Within, here, drop}
 use Rattle.splice_laws.proofs.Pasts.{sig_past, type_spec_past, receiver_past, imports_past, top_past}
 use Rattle.splice_laws.proofs.Rises.{spans_differ, tokens_rise}
-use Rattle.type_nodes.specs.Names.{names_of_sig, names_of_stmts, names_of_types, type_names}
-use Rattle.type_nodes.specs.Swapped.{AllTypesSwapped}
+use Rattle.type_nodes.specs.Names.{Written, as_types, names_of_sig, names_of_stmts, names_of_types, type_names}
+use Rattle.type_nodes.specs.Swapped.{TypeSwapped, AllTypesSwapped}
 use Rattle.type_nodes.proofs.BodyWalk.{block-names, decl-names}
-use Rattle.type_nodes.proofs.Listed.{decl-listed}
-use Rattle.type_nodes.proofs.TypeWalk.{type-nodes, sig-nodes, Good, both, type-good, sig-good}
+use Rattle.type_nodes.proofs.Listed.{moved, decl-listed}
+use Rattle.type_nodes.proofs.TypeWalk.{type-nodes, sig-nodes, PlaceGood, Good, both, type-good, sig-good}
 
 -- ---- the walk
 
 module _ {S : Type 0} (mark : Lexemes → Lexemes → S) (whole : Lexemes) (differ : Differ mark whole) (W : Swap S → Type 0) where
-  type-spec-names : {x : TypeSpec S} {ts r : Lexemes} → SpellsTypeSpec mark x ts r → Within ts whole → ((w : Swap S) (y : TypeSpec S) → TypeSpecIn w x y → W w) → Good W (named_in x.of)
+  type-spec-names : {x : TypeSpec S} {ts r : Lexemes} → SpellsTypeSpec mark x ts r → Within ts whole → ((w : Swap S) (y : TypeSpec S) → TypeSpecIn w x y → W w) → Good W (as_types (named_in x.of))
   type-spec-names (type_spec_rule {t = t} d) a k = type-good W t (type-nodes mark whole differ W d (drop a) (λ w u x. k w _ (in_type_spec x)))
   type-spec-names (alias_spec_rule {t = t} d) a k = type-good W t (type-nodes mark whole differ W d (drop (drop a)) (λ w u x. k w _ (in_type_spec x)))
 
   type-specs-names : {xs : List (TypeSpec S)} {ts r : Lexemes} → SpellsTypeSpecs mark xs ts r → Within ts whole → ((w : Swap S) (ys : List (TypeSpec S)) → TypeSpecsIn w xs ys → W w) → Good W (names_of_types xs)
   type-specs-names no_type_specs_rule a k = tt
-  type-specs-names (last_type_spec_rule {x = x} d) a k = both W (named_in x.of) [] (type-spec-names d a (λ w y x. k w _ (in_this_spec x))) tt
+  type-specs-names (last_type_spec_rule {x = x} d) a k = both W (as_types (named_in x.of)) [] (type-spec-names d a (λ w y x. k w _ (in_this_spec x))) tt
   type-specs-names (more_type_specs_rule {x = x} {xs = xs} d1 d2) a k =
-      both W (named_in x.of) (names_of_types xs) (type-spec-names d1 a (λ w y x. k w _ (in_this_spec x))) (type-specs-names d2 (drop (type_spec_past mark whole d1 a)) (λ w ys x. k w _ (in_further_specs x)))
+      both W (as_types (named_in x.of)) (names_of_types xs) (type-spec-names d1 a (λ w y x. k w _ (in_this_spec x))) (type-specs-names d2 (drop (type_spec_past mark whole d1 a)) (λ w ys x. k w _ (in_further_specs x)))
 
   top-names : {d : Decl S} {ts r : Lexemes} → SpellsTop mark d ts r → Within ts whole → ((w : Swap S) (c : Decl S) → DeclIn w d c → W w) → Good W (type_names d)
   top-names (top_const_rule d) a k = decl-names mark whole differ W d (drop a) (λ w us x. k w _ (in_constants x))
   top-names (top_var_rule d) a k = decl-names mark whole differ W d (drop a) (λ w us x. k w _ (in_variables x))
-  top-names (top_type_rule {x = x} d) a k = both W (named_in x.of) [] (type-spec-names d (drop a) (λ w y x. k w _ (in_types (in_this_spec x)))) tt
+  top-names (top_type_rule {x = x} d) a k = both W (as_types (named_in x.of)) [] (type-spec-names d (drop a) (λ w y x. k w _ (in_types (in_this_spec x)))) tt
   top-names (top_type_group_rule d) a k = type-specs-names d (drop (drop a)) (λ w ys x. k w _ (in_types x))
   top-names (top_func_rule {g = g} {body = body} d1 d2) a k =
       both W (names_of_sig g) (names_of_stmts body) (sig-good W g (sig-nodes mark whole differ W d1 (drop (drop a)) (λ w h x. k w _ (in_func_signature x))))
@@ -58,9 +58,13 @@ module _ {S : Type 0} (mark : Lexemes → Lexemes → S) (whole : Lexemes) (diff
   front-names i d (front_rule d1 d2 d3) a e k = tops-names i d d3 (imports_past mark whole d2 (drop (drop (drop a)))) e (λ w cs y. k w _ (in_decls y))
 
 module _ {A B : Type 0} (to : A → B) where
-  swapped-good : (W : Swap B → Type 0) (ts : List (TypeExpr A)) → Good W (map (type_with to) ts) → AllTypesSwapped to W ts
+  place-swapped : (W : Swap B → Type 0) (b : Bool) (t : TypeExpr A) → PlaceGood W b (type_with to t) → TypeSwapped to W b t
+  place-swapped W false t h = h
+  place-swapped W true t h = h
+
+  swapped-good : (W : Swap B → Type 0) (xs : Written A) → Good W (map (moved to) xs) → AllTypesSwapped to W xs
   swapped-good W [] h = tt
-  swapped-good W (t ∷ ts) h = (h.0, swapped-good W ts h.1)
+  swapped-good W (x ∷ xs) h = (place-swapped W x.0 x.1 h.0, swapped-good W xs h.1)
 
   decl-at : (ds : List (Decl A)) (i : ℕ) (d : Decl A) → slice_get ds i ≡ Some d → slice_get (map (decl_with to) ds) i ≡ Some (decl_with to d)
   decl-at [] i d e = absurd cc

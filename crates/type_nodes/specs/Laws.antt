@@ -1,6 +1,6 @@
 -- The laws of written types as nodes of files. Each is the contract of a function of this crate (Go specification,
 -- Types; Source file organization).
-use Rattle.std.specs.Prelude.{◌≡◌, ℕ, Option, Some, slice_get}
+use Rattle.std.specs.Prelude.{◌≡◌, ℕ, Bool, Option, Some, slice_get}
 use Rattle.go_tree.specs.declared.spans.Span.{Span}
 use Rattle.go_tree.specs.Tree.{NameAt, TypeExpr, named}
 use Rattle.go_tree.specs.File.{Decl, File}
@@ -19,7 +19,7 @@ use Rattle.type_nodes.specs.Swapped.{TypeSwapped, AllTypesSwapped}
 
 -- Where a file reads from its text as its nodes stand, each name of a type that a declaration of it writes is a node of
 -- the file, which may be swapped for each type: once for all names that share it. Of the types of receivers, and of
--- names that are the whole type of a composite literal, nothing is said.
+-- names that are the whole type of a composite literal in a header, nothing is said.
 abbrev pub TypeNamesAreNodes : (At → Span) → Type 0
 TypeNamesAreNodes to =
     (text : FileText) (tree : File At) → ReadsAs text (file_with to tree) → (i : ℕ) (d : Decl At)
@@ -31,6 +31,7 @@ TypeNamesAreNodes to =
 abbrev pub TypeNamesArePut : (At → Span) → Type 0
 TypeNamesArePut to =
     (text : FileText) (tree : File At) → ReadsAs text (file_with to tree) → UndottedFile (bare_file (file_with to tree))
-    → (z s : At) (p : Slot) (q : Option (NameAt At)) (n : NameAt At) (new : TypeExpr At)
-    → TypeSwapped to (λ w. (g : File Span) × FileIn w (file_with to tree) g) (named s q n) → IsTypeName new
+    → (z s : At) (p : Slot) (literal : Bool) (q : Option (NameAt At)) (n : NameAt At) (new : TypeExpr At)
+    → TypeSwapped to (λ w. (g : File Span) × FileIn w (file_with to tree) g) literal (named s q n)
+    → IsTypeName new
     → FormIsPut text (file_with to tree) z (to s) p (as_type new)

@@ -7,4 +7,4 @@ pub returns-clause-nodes : goal.returns-clause-nodes
 returns-clause-nodes c = λ text tree reads i d e. types-swapped here_of text tree reads i d e
 
 pub returns-clause-put : goal.returns-clause-put
-returns-clause-put c = λ text tree reads undotted z s p q n new h is. type-name-put here_of text tree reads undotted z s p q n new h is
+returns-clause-put c = λ text tree reads undotted z s p literal q n new h is. type-name-put here_of text tree reads undotted z s p q n new is literal h
