@@ -4,7 +4,7 @@ ghost use Rattle.type_nodes.specs.Laws.{TypeNamesAreNodes, TypeNamesArePut};
 ghost use Rattle.run_rules.specs.Run.{here_of};
 
 /// In a file that reads from its text each name of a type that a declaration writes, in signatures,
-/// declared types, specs, types that are expressions and types within those of literals, is a node,
+/// declared types, specs, types that are expressions and the types of composite literals, is a node,
 /// which may be swapped for each type, once for all names that share it (`nodes`). Where such a name
 /// is to become another name of a type, the edit that writes it lays it out in the place of that
 /// node, as splice_laws asks (`put`).
