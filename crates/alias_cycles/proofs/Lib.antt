@@ -1,2 +1,2 @@
-pub mod TypesStand
+pub mod FormsStand
 pub mod AliasCycles

@@ -3,7 +3,6 @@
 use Rattle.std.specs.Prelude.{◌≡◌, true, List}
 use Rattle.go_translation.specs.Packages.{are_well_typed}
 use Rattle.run_rules.specs.Cycles.{is_recursive}
-use Rattle.run_rules.specs.FormTrees.{as_type}
 use Rattle.run_rules.specs.Run.{Standing, Logged, Next, Run}
 use Rattle.run_rules.specs.Sites.{MarkRef}
 use Rattle.run_steps.specs.RunPackages.{members_of}
@@ -11,28 +10,28 @@ use Rattle.step_cycles.specs.Steps.{StandsAtEnds}
 use Rattle.import_cycles.specs.ImportSteps.{packages_added}
 use Rattle.order_cycles.specs.Steps.{site_added, GivesWayAdded}
 use Rattle.alias_runs.specs.AliasNext.{IsImportingAlias}
-use Rattle.alias_cycles.specs.Steps.{alias_text, AliasCallsNothing, OverAType, EachKeepsCycles}
+use Rattle.alias_cycles.specs.Steps.{AliasCallsNothing, EachKeepsCycles}
 
--- In packages that are well typed, with the imports of its form added, the type that such a step puts has the facts of
--- the alias, wherever the rounds of declarations end, before the step and with the type in the use's place.
-abbrev pub AliasTypesStand : Type 0
-AliasTypesStand =
+-- In packages that are well typed, with the imports of its form added, what such a step puts has the facts of the
+-- alias, wherever the rounds of declarations end, before the step and with the form in the use's place.
+abbrev pub AliasFormsStand : Type 0
+AliasFormsStand =
     (marks : List MarkRef) (st : Standing) (l : Logged) (after : Standing) (n : Next marks st l after)
-    (h : IsImportingAlias n) → OverAType n h → are_well_typed (members_of st.packages) ≡ true →
-    StandsAtEnds (packages_added st.packages n.found) (site_added n.found) (as_type (alias_text n h))
+    (h : IsImportingAlias n) → are_well_typed (members_of st.packages) ≡ true →
+    StandsAtEnds (packages_added st.packages n.found) (site_added n.found) n.found.form
 
 -- So the step gives way: what it puts calls nothing, as what stood there.
 abbrev pub AliasStepsGiveWay : Type 0
 AliasStepsGiveWay =
     (marks : List MarkRef) (st : Standing) (l : Logged) (after : Standing) (n : Next marks st l after)
-    (h : IsImportingAlias n) → OverAType n h → are_well_typed (members_of st.packages) ≡ true → AliasCallsNothing n h →
+    (h : IsImportingAlias n) → are_well_typed (members_of st.packages) ≡ true → AliasCallsNothing n h →
     GivesWayAdded n
 
 -- So it keeps which marked functions lie on a cycle.
 abbrev pub AliasStepsKeepCycles : Type 0
 AliasStepsKeepCycles =
     (marks : List MarkRef) (st : Standing) (l : Logged) (after : Standing) (n : Next marks st l after)
-    (h : IsImportingAlias n) → OverAType n h → are_well_typed (members_of st.packages) ≡ true → AliasCallsNothing n h →
+    (h : IsImportingAlias n) → are_well_typed (members_of st.packages) ≡ true → AliasCallsNothing n h →
     (m : MarkRef) → is_recursive st.packages marks m ≡ is_recursive after.packages marks m
 
 -- So does a run of such steps and of others that give way.

@@ -1,16 +1,18 @@
 -- Steps of a run that keep the cycles of marked functions, over aliases and others (Go specification, Alias
 -- declarations; Calls).
 use Rattle.std.specs.Prelude.{◌≡◌, true, List}
-use Rattle.go_tree.specs.Tree.{TypeExpr}
+use Rattle.go_tree.specs.Tree.{TypeExpr, Expr}
 use Rattle.go_translation.specs.Packages.{are_well_typed}
+use Rattle.run_rules.specs.FormTrees.{type_expr}
 use Rattle.run_rules.specs.Run.{Standing, Logged, Next, Run, ends, goes_on, is_commented}
-use Rattle.run_rules.specs.Sites.{MarkRef}
+use Rattle.run_rules.specs.Sites.{MarkRef, part_span}
 use Rattle.run_rules.specs.Steps.{At, same_here}
 use Rattle.run_steps.specs.RunPackages.{members_of}
-use Rattle.constant_cycles.specs.Laws.{TypesFor}
+use Rattle.constant_cycles.specs.Laws.{NamesFor, TypesFor}
 use Rattle.import_cycles.specs.ImportSteps.{packages_added}
 use Rattle.order_cycles.specs.Steps.{site_added, GivesWayAdded}
-use Rattle.qualified_aliases.specs.AliasUse.{IsTypeUse, text_there}
+use Rattle.qualified_aliases.specs.AliasUse.{text_there}
+use Rattle.called_aliases.specs.CalledUse.{IsPlaced, as_written, as_called}
 use Rattle.alias_runs.specs.AliasNext.{IsImportingAlias}
 
 -- the type that a step over an alias puts
@@ -19,26 +21,31 @@ abbrev pub alias_text : {marks : List MarkRef} {st : Standing} {l : Logged} {aft
 alias_text {marks = marks} {st = st} n h =
     text_there same_here (is_commented st) (packages_added st.packages n.found) marks (site_added n.found) h.use_
 
--- The constants that statements of the declaration of the use declare call nothing, before the type is put and after;
--- and literals of functions there have types.
+-- the same as an expression
+abbrev pub alias_expr : {marks : List MarkRef} {st : Standing} {l : Logged} {after : Standing}
+    → (n : Next marks st l after) → IsImportingAlias n → Expr At
+alias_expr n h = type_expr (part_span (site_added n.found).part) (alias_text n h)
+
+-- The constants that statements of the declaration of the use declare call nothing, before the form is put and after.
+-- Where the use is a written type, literals of functions there have types; where it is an expression, it names no
+-- function, nor does what is put.
+abbrev pub CallsNothingBy : {marks : List MarkRef} {st : Standing} {l : Logged} {after : Standing}
+    → (n : Next marks st l after) → (h : IsImportingAlias n) → IsPlaced same_here (is_commented st)
+    (packages_added st.packages n.found) marks (site_added n.found) h.use_ h.stands → Type 0
+CallsNothingBy {marks = marks} {st = st} n h (as_written t) =
+    TypesFor (packages_added st.packages n.found) marks (site_added n.found) (alias_text n h)
+CallsNothingBy {marks = marks} {st = st} n h (as_called t) =
+    NamesFor (packages_added st.packages n.found) marks (site_added n.found) (alias_expr n h)
+
 abbrev pub AliasCallsNothing : {marks : List MarkRef} {st : Standing} {l : Logged} {after : Standing}
     → (n : Next marks st l after) → IsImportingAlias n → Type 0
-AliasCallsNothing {marks = marks} {st = st} n h =
-    TypesFor (packages_added st.packages n.found) marks (site_added n.found) (alias_text n h)
+AliasCallsNothing n h = CallsNothingBy n h h.placed
 
--- the use is a written type
-abbrev pub OverAType : {marks : List MarkRef} {st : Standing} {l : Logged} {after : Standing}
-    → (n : Next marks st l after) → IsImportingAlias n → Type 0
-OverAType {marks = marks} {st = st} n h =
-    IsTypeUse same_here (is_commented st) (packages_added st.packages n.found) marks (site_added n.found) h.use_
-    h.stands
-
--- a step over an alias as a written type in well-typed packages, or one that gives way
+-- a step over an alias in well-typed packages, or one that gives way
 pub data KeepsCycles {marks : List MarkRef} {st : Standing} {l : Logged} {after : Standing} (n : Next marks st l after)
     : Type 0 where
   over_an_alias :
-      (h : IsImportingAlias n) → OverAType n h → are_well_typed (members_of st.packages) ≡ true →
-      AliasCallsNothing n h → KeepsCycles n
+      (h : IsImportingAlias n) → are_well_typed (members_of st.packages) ≡ true → AliasCallsNothing n h → KeepsCycles n
   gives_way : GivesWayAdded n → KeepsCycles n
 
 -- so is each step of a run

@@ -1,6 +1,6 @@
-//! A step of a run over an alias as a written type keeps which marked functions lie on a cycle: the
-//! type that it puts calls nothing (Go specification, Alias declarations; Calls). Definitions and
-//! laws alone, without code.
+//! A step of a run over an alias keeps which marked functions lie on a cycle: the type that it puts
+//! calls nothing (Go specification, Alias declarations; Calls). Definitions and laws alone, without
+//! code.
 #![tactic(auto)]
 
 mod laws;

@@ -131,7 +131,7 @@ module _ (marks : List MarkRef) (st : Standing) (l : Logged) (after : Standing) 
     abbrev k : ℕ
     k = (next.use-stands marks st l after n h.names own-distinct).nth
 
-    swaps : AliasSwaps same_here mid (part_span there.part) n.found.form there.at.number there.at.of there.at.source.tree (sources Q) k there.at.file_number there.decl (sources (members_of mid))
+    pub swaps : AliasSwaps same_here mid (part_span there.part) n.found.form there.at.number there.at.of there.at.source.tree (sources Q) k there.at.file_number there.decl (sources (members_of mid))
     unfolding all-stand
     swaps =
         subst (λ (g : Form At). AliasSwaps same_here mid (part_span there.part) g there.at.number there.at.of there.at.source.tree (sources Q) k there.at.file_number there.decl (sources (members_of mid))) (sym h.form)

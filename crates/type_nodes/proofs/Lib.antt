@@ -1,3 +1,5 @@
 pub mod TypeWalk
+pub mod BodyWalk
+pub mod Listed
 pub mod TopWalk
 pub mod TypesPut

@@ -1,11 +1,14 @@
 -- Each name of a type in a type or a signature that tokens spell may be swapped where that may.
-use Rattle.std.proofs.Common.{refl, sym, Bool, true, false, List, [], ◌∷◌, Option, Some, None}
+use Rattle.std.proofs.Common.{◌≡◌, refl, sym, Bool, true, false, List, [], ◌∷◌, ◌++◌, Option, Some, None}
 use Rattle.go_tree.specs.Tree.{NameAt, Param, Sig, TypeExpr, named, pointer, slice_type, map_type, struct_type, Fields, no_fields, field}
+use Rattle.go_read.specs.Spells.{starts_type}
 use Rattle.go_read.specs.SpellsTypes.{Lexemes, fields_of, params_of, SpellsType, SpellsFields, SpellsEntries, SpellsRest, SpellsNamed, SpellsUnnamed, SpellsParams, SpellsResults, SpellsSig, named_rule, qualified_rule, pointer_rule, slice_type_rule, map_type_rule, struct_type_rule, type_parens_rule, no_fields_rule, last_field_rule, more_fields_rule, last_entry_rule, more_entries_rule, rest_rule, named_rest_rule, last_named_rule, comma_named_rule, more_named_rule, rest_named_rule, comma_rest_named_rule, last_unnamed_rule, comma_unnamed_rule, more_unnamed_rule, rest_unnamed_rule, comma_rest_unnamed_rule, no_params_rule, named_params_rule, unnamed_params_rule, no_results_rule, params_results_rule, type_result_rule, sig_rule}
-use Rattle.splice_laws.specs.Swaps.{Swap, a_type, OtherFirst, OtherField, OtherBefore, FieldsAlike, no_more_alike, one_more_alike, ParamsAlike, no_more_params, one_more_param, TypeIn, this_type, inside_type, in_pointer, in_slice_type, in_map_key, in_map_value, in_struct, FieldsIn, in_field, in_later_fields, ParamsIn, in_unnamed, in_later_params, NamedIn, in_named, in_named_rest, in_later_named, SigIn, in_named_params, in_named_results, in_params, in_results}
+use Rattle.run_rules.specs.Sites.{named_in, named_in_fields}
+use Rattle.splice_laws.specs.Swaps.{Swap, a_type, a_literal_type, OtherFirst, OtherField, OtherBefore, FieldsAlike, no_more_alike, one_more_alike, ParamsAlike, no_more_params, one_more_param, TypeIn, this_type, inside_type, PartOfType, in_pointer, in_slice_type, in_map_key, in_map_value, in_struct, FieldsIn, in_field, in_later_fields, ParamsIn, in_unnamed, in_later_params, NamedIn, in_named, in_named_rest, in_later_named, SigIn, in_named_params, in_named_results, in_params, in_results}
 use Rattle.splice_laws.proofs.Apart.{Differ, fields_other, params_other}
 use Rattle.splice_laws.proofs.Grafts.{Within, drop}
 use Rattle.splice_laws.proofs.Pasts.{type_past, entries_past, params_past}
+use Rattle.type_nodes.specs.Names.{Written, as_types, names_of_params, names_of_sig, names_of_literal}
 
 -- ---- what is shown
 
@@ -152,3 +155,80 @@ module _ {S : Type 0} (mark : Lexemes → Lexemes → S) (whole : Lexemes) (diff
     params-nodes d1 a (λ w qs x. k w _ (in_named_params x)) (λ w qs x. k w _ (in_params x)),
     results-nodes d2 (params_past mark whole d1 a) (λ w qs x. k w _ (in_named_results x)) (λ w qs x. k w _ (in_results x)),
   )
+
+  -- the parts of a type that begins with `[`, `map` or `struct`
+  pub part-nodes : {t : TypeExpr S} {ts r : Lexemes} → SpellsType mark t ts r → starts_type ts ≡ true → Within ts whole → ((w : Swap S) (u : TypeExpr S) → PartOfType w t u → W w) → NamesSwapped W t
+  part-nodes named_rule b a k = absurd cc
+  part-nodes qualified_rule b a k = absurd cc
+  part-nodes (pointer_rule d) b a k = absurd cc
+  part-nodes (slice_type_rule d) b a k = type-nodes d (drop (drop a)) (λ w u x. k w _ (in_slice_type x))
+  part-nodes (map_type_rule d1 d2) b a k = (
+    type-nodes d1 (drop (drop a)) (λ w u x. k w _ (in_map_key x)),
+    type-nodes d2 (drop (type_past mark whole d1 (drop (drop a)))) (λ w u x. k w _ (in_map_value x)),
+  )
+  part-nodes (struct_type_rule d) b a k = fields-nodes d (drop (drop a)) None tt (λ w gs x. k w _ (in_struct x))
+  part-nodes (type_parens_rule d) b a k = absurd cc
+
+-- ---- as they are listed
+
+module _ {S : Type 0} (W : Swap S → Type 0) where
+  -- each of these types may be swapped for each type
+  abbrev TypesGood : List (TypeExpr S) → Type 0
+  TypesGood [] = Unit {0}
+  TypesGood (t ∷ ts) = ((u : TypeExpr S) → W (a_type t u)) × TypesGood ts
+
+  both-types : (xs ys : List (TypeExpr S)) → TypesGood xs → TypesGood ys → TypesGood (xs ++ ys)
+  both-types [] ys h k = k
+  both-types (x ∷ xs) ys h k = (h.0, both-types xs ys h.1 k)
+
+  mutual
+    types-good : (t : TypeExpr S) → NamesSwapped W t → TypesGood (named_in t)
+    types-good (named s q n) h = (h, tt)
+    types-good (pointer s t) h = types-good t h
+    types-good (slice_type s t) h = types-good t h
+    types-good (map_type s k t) h = both-types (named_in k) (named_in t) (types-good k h.0) (types-good t h.1)
+    types-good (struct_type s fs) h = fields-good fs h
+
+    fields-good : (fs : Fields S) → FieldsSwapped W fs → TypesGood (named_in_fields fs)
+    fields-good no_fields h = tt
+    fields-good (field s n t fs) h = both-types (named_in t) (named_in_fields fs) (types-good t h.0) (fields-good fs h.1)
+
+  -- so with what says whether it is the type of a literal
+  abbrev pub PlaceGood : Bool → TypeExpr S → Type 0
+  PlaceGood false t = (u : TypeExpr S) → W (a_type t u)
+  PlaceGood true t = (u : TypeExpr S) → W (a_literal_type false t u)
+
+  abbrev pub Good : Written S → Type 0
+  Good [] = Unit {0}
+  Good (x ∷ xs) = PlaceGood x.0 x.1 × Good xs
+
+  pub both : (xs ys : Written S) → Good xs → Good ys → Good (xs ++ ys)
+  both [] ys h k = k
+  both (x ∷ xs) ys h k = (h.0, both xs ys h.1 k)
+
+  as-good : (ts : List (TypeExpr S)) → TypesGood ts → Good (as_types ts)
+  as-good [] h = tt
+  as-good (t ∷ ts) h = (h.0, as-good ts h.1)
+
+  pub type-good : (t : TypeExpr S) → NamesSwapped W t → Good (as_types (named_in t))
+  type-good t h = as-good (named_in t) (types-good t h)
+
+  params-good : (ps : List (Param S)) → ParamsSwapped W ps → Good (names_of_params ps)
+  params-good [] h = tt
+  params-good (p ∷ ps) h = both (as_types (named_in p.of)) (names_of_params ps) (type-good p.of h.0) (params-good ps h.1)
+
+  pub sig-good : (g : Sig S) → ParamsSwapped W g.params × ParamsSwapped W g.results → Good (names_of_sig g)
+  sig-good g h = both (names_of_params g.params) (names_of_params g.results) (params-good g.params h.0) (params-good g.results h.1)
+
+  -- where the type of a literal may be swapped, and the parts of it
+  pub literal-good : (h : Bool) (t : TypeExpr S) → ((u : TypeExpr S) → h ≡ false → W (a_literal_type false t u)) → NamesSwapped W t → Good (names_of_literal h t)
+  literal-good true (named s q n) f k = tt
+  literal-good false (named s q n) f k = ((λ u. f u refl), tt)
+  literal-good h (pointer s t) f k = type-good (pointer s t) k
+  literal-good h (slice_type s t) f k = type-good (slice_type s t) k
+  literal-good h (map_type s a t) f k = type-good (map_type s a t) k
+  literal-good h (struct_type s fs) f k = type-good (struct_type s fs) k
+
+  pub name-good : (h : Bool) (s : S) (q : Option (NameAt S)) (n : NameAt S) → ((u : TypeExpr S) → h ≡ false → W (a_literal_type false (named s q n) u)) → Good (names_of_literal h (named s q n))
+  name-good true s q n f = tt
+  name-good false s q n f = ((λ u. f u refl), tt)

@@ -1,17 +1,19 @@
 -- Names of types that may be swapped for any type where they stand (Go specification, Types). Names that share a type,
 -- as in `a, b T`, have one node, which is swapped for each of them.
-use Rattle.std.specs.Prelude.{List, [], ◌∷◌}
+use Rattle.std.specs.Prelude.{Bool, true, false, [], ◌∷◌}
 use Rattle.go_tree.specs.Tree.{TypeExpr}
 use Rattle.run_rules.specs.Respanned.{type_with}
-use Rattle.splice_laws.specs.Swaps.{Swap, a_type}
+use Rattle.splice_laws.specs.Swaps.{Swap, a_type, a_literal_type}
+use Rattle.type_nodes.specs.Names.{Written}
 
 -- `to` gives a node its span, and `Whole` says what it is that a swap is made in.
 module _ {A B : Type 0} (to : A → B) (Whole : Swap B → Type 0) where
-  -- a type may be swapped for each type
-  abbrev pub TypeSwapped : TypeExpr A → Type 0
-  TypeSwapped t = (u : TypeExpr B) → Whole (a_type (type_with to t) u)
+  -- a type may be swapped for each type: a written type, or that of a composite literal in no header
+  abbrev pub TypeSwapped : Bool → TypeExpr A → Type 0
+  TypeSwapped false t = (u : TypeExpr B) → Whole (a_type (type_with to t) u)
+  TypeSwapped true t = (u : TypeExpr B) → Whole (a_literal_type false (type_with to t) u)
 
   -- so may each of a list
-  abbrev pub AllTypesSwapped : List (TypeExpr A) → Type 0
+  abbrev pub AllTypesSwapped : Written A → Type 0
   AllTypesSwapped [] = Unit {0}
-  AllTypesSwapped (t ∷ ts) = TypeSwapped t × AllTypesSwapped ts
+  AllTypesSwapped (x ∷ xs) = TypeSwapped x.0 x.1 × AllTypesSwapped xs

@@ -1,15 +1,15 @@
-use Rattle.alias_cycles.proofs.TypesStand.{types-stand}
+use Rattle.alias_cycles.proofs.FormsStand.{forms-stand}
 use Rattle.alias_cycles.proofs.AliasCycles.{alias-gives-way, alias-keeps, run-keeps}
 use Rattle.alias_cycles.proofs.laws.alias_steps_keep_cycles.Goals as goal
 
 pub returns-clause-stands : goal.returns-clause-stands
-returns-clause-stands c = λ marks st l after n h t typed. types-stand marks st l after n h t typed
+returns-clause-stands c = λ marks st l after n h typed. forms-stand marks st l after n h typed
 
 pub returns-clause-gives_way : goal.returns-clause-gives_way
-returns-clause-gives_way c = λ marks st l after n h t typed quiet. alias-gives-way marks st l after n h t typed quiet
+returns-clause-gives_way c = λ marks st l after n h typed quiet. alias-gives-way marks st l after n h typed quiet
 
 pub returns-clause-kept : goal.returns-clause-kept
-returns-clause-kept c = λ marks st l after n h t typed quiet m. alias-keeps marks st l after n h t typed quiet m
+returns-clause-kept c = λ marks st l after n h typed quiet m. alias-keeps marks st l after n h typed quiet m
 
 pub returns-clause-runs : goal.returns-clause-runs
 returns-clause-runs c = λ marks st last log run h m. run-keeps marks st last log run h m

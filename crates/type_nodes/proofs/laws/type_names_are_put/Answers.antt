@@ -1,10 +1,10 @@
 use Rattle.run_rules.specs.Run.{here_of}
-use Rattle.type_nodes.proofs.TopWalk.{own-swapped}
+use Rattle.type_nodes.proofs.TopWalk.{types-swapped}
 use Rattle.type_nodes.proofs.TypesPut.{type-name-put}
 use Rattle.type_nodes.proofs.laws.type_names_are_put.Goals as goal
 
 pub returns-clause-nodes : goal.returns-clause-nodes
-returns-clause-nodes c = λ text tree reads i d e. own-swapped here_of text tree reads i d e
+returns-clause-nodes c = λ text tree reads i d e. types-swapped here_of text tree reads i d e
 
 pub returns-clause-put : goal.returns-clause-put
-returns-clause-put c = λ text tree reads undotted z s p q n new h is. type-name-put here_of text tree reads undotted z s p q n new h is
+returns-clause-put c = λ text tree reads undotted z s p literal q n new h is. type-name-put here_of text tree reads undotted z s p q n new is literal h

@@ -1,0 +1,2 @@
+pub mod StepsPut
+pub mod AliasNames
