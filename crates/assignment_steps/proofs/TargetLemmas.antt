@@ -104,7 +104,7 @@ some_type e (Some t) = refl
 -- ---- values one by one
 
 module _ (ds : List Defined) where
-  stores_alike : (t : statement.Target) (v w : Typed) → SameValue v w → stores ds t v ≡ stores ds t w
+  pub stores_alike : (t : statement.Target) (v w : Typed) → SameValue v w → stores ds t v ≡ stores ds t w
   stores_alike blank v w h = ap is_some (settled_alike ds v w h)
   stores_alike (store t) v w h = fits_alike ds t v w h
 
