@@ -65,7 +65,7 @@ module _ (e : Environment) (cs : List Const) where
   target_sees literal t u c d h = refl
   target_sees elsewhere t u c d h = refl
 
-  target_alike :
+  pub target_alike :
       (p : go_entity.Place) (a b : go.Operand) → SameOperand a b → with_value a (target_at p) ≡ with_value b (target_at p)
   target_alike p (value t c) (value u d) h = target_sees p t u c d h.0
   target_alike p (value t c) (several ts) h = absurd (cc)
