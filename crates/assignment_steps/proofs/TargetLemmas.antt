@@ -65,7 +65,7 @@ module _ (e : Environment) (cs : List Const) where
   target_sees literal t u c d h = refl
   target_sees elsewhere t u c d h = refl
 
-  target_alike :
+  pub target_alike :
       (p : go_entity.Place) (a b : go.Operand) → SameOperand a b → with_value a (target_at p) ≡ with_value b (target_at p)
   target_alike p (value t c) (value u d) h = target_sees p t u c d h.0
   target_alike p (value t c) (several ts) h = absurd (cc)
@@ -104,7 +104,7 @@ some_type e (Some t) = refl
 -- ---- values one by one
 
 module _ (ds : List Defined) where
-  stores_alike : (t : statement.Target) (v w : Typed) → SameValue v w → stores ds t v ≡ stores ds t w
+  pub stores_alike : (t : statement.Target) (v w : Typed) → SameValue v w → stores ds t v ≡ stores ds t w
   stores_alike blank v w h = ap is_some (settled_alike ds v w h)
   stores_alike (store t) v w h = fits_alike ds t v w h
 

@@ -37,6 +37,11 @@ module _ (e : Environment) where
   GivesTarget o (Err NotTyped) = o ≡ None
   GivesTarget o (Err NoMemory) = Unit {0}
 
+  -- its type is there
+  abbrev pub IsTargetIfOk : Result Target Refusal → Type 0
+  IsTargetIfOk (Ok x) = IsTarget x
+  IsTargetIfOk (Err r) = Unit {0}
+
   -- the targets that are answered, or none
   abbrev pub GivesTargets : Option (List go.Target) → Result TargetList Refusal → Type 0
   GivesTargets o (Ok xs) = AreTargets xs.items.items × (o ≡ Some (targets_of xs.items.items))

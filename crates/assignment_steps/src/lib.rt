@@ -5,4 +5,4 @@ mod assignments;
 mod targets;
 
 pub use assignments::assignment;
-pub use targets::{Target, TargetList, is_blank_name, stored_at};
+pub use targets::{Target, TargetList, is_blank_name, stored_at, stores};

@@ -1,0 +1,19 @@
+-- The values of a case as they are compared one by one (Go specification, Expression switches).
+use Rattle.std.specs.Prelude.{◌≡◌, List, map}
+use Rattle.std.specs.List.{list_all}
+use Rattle.go_types.specs.Statements.{case_value}
+use Rattle.type_relations.specs.Environment.{defined_types}
+use Rattle.operand_rules.specs.declared.values.Value.{Value}
+use Rattle.operand_rules.specs.Values.{typed_of}
+use Rattle.checker_tables.specs.declared.tables.Tables.{Tables}
+use Rattle.checker_tables.specs.Ready.{AreReady, Keeps}
+
+-- of all values some are compared with the tag, and the rest is left
+pub record AreCompared (old new : Tables) (tag : Value) (all rest : List Value) : Type 0 where
+  pub ready : AreReady new
+  pub keeps : Keeps old new
+  pub left :
+      list_all (case_value (defined_types old.env) (typed_of old.env old.consts tag))
+      (map (typed_of old.env old.consts) rest)
+      ≡ list_all (case_value (defined_types old.env) (typed_of old.env old.consts tag))
+      (map (typed_of old.env old.consts) all)
