@@ -1,0 +1,4 @@
+pub mod Values
+pub mod Seen
+pub mod Tops
+pub mod HeadersFound
