@@ -6,8 +6,15 @@ use Rattle.go_tree.specs.File.{Decl}
 use Rattle.scope_names.specs.Means.{is_blank}
 use Rattle.go_types.specs.Answers.{is_among}
 use Rattle.go_types.specs.Entities.{World, Env}
-use Rattle.go_types.specs.Programs.{Header, Headed, all_headers, env_of}
+use Rattle.go_types.specs.Programs.{Header, Headed, Program, all_headers, headed, env_of}
+use Rattle.go_types.specs.Collect.{valued_world, world_of}
 use Rattle.go_types.specs.WellTyped.{header_uses}
+use Rattle.type_relations.specs.Environment.{Environment}
+use Rattle.typed_names.specs.declared.scopes.Scope.{Scope}
+use Rattle.typed_names.specs.Meanings.{Names, world_at}
+use Rattle.typed_names.specs.Scopes.{env_at}
+use Rattle.declared_types.specs.Headers.{IsFileOf}
+use Rattle.func_headers.specs.NameRoles.{SameTypes}
 use Rattle.used_names.specs.Uses.{start}
 use Rattle.used_names.specs.Stands.{Stands}
 use Rattle.header_uses.specs.Headers.{after_decls}
@@ -27,3 +34,11 @@ WalksFindUsesOfHeaders =
     (w : World) (h : Headed Span) (outer : Env) (ds : List (Decl Span)) (n : List ℕ) → is_blank n ≡ false →
     Stands (env_of w h None) outer [] →
     is_among n (after_decls ds (start outer)).found ≡ is_used_by w h n (all_headers ds)
+
+-- Where the tables' names mean the types and packages that they mean once all headers are known, the place of a file
+-- means the same of them as that of its headers in the final world.
+abbrev pub PlacesKnowFinalTypes : Type 0
+PlacesKnowFinalTypes =
+    (ps : Program Span) (e : Environment) (bs : List Names) (s : Scope) (h : Headed Span) → IsFileOf s h →
+    SameTypes (world_at e [] bs) (valued_world ps (headed ps)) →
+    Stands (env_of (world_of (headed ps) (valued_world ps (headed ps))) h None) (env_at e [] bs s) []

@@ -6,4 +6,4 @@ mod decls;
 mod laws;
 
 pub use decls::decls_uses;
-pub use laws::walks_find_uses_of_headers;
+pub use laws::{places_know_final_types, walks_find_uses_of_headers};
