@@ -1,4 +1,5 @@
--- Local names and types of literals as the code has them (Go specification, Declarations and scope; Composite literals).
+-- Local names and types of literals as the code has them (Go specification, Declarations and scope; Composite
+-- literals).
 use Rattle.std.specs.Prelude.{ℕ, List, [], ◌∷◌, map, Option, Some, None}
 use Rattle.go_types.specs.Types.{GoType}
 use Rattle.go_types.specs.Defined.{under}

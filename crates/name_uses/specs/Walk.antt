@@ -1,4 +1,5 @@
--- A walk beside the places of all files, which it leaves as they are (Go specification, Blocks; Declarations and scope).
+-- A walk beside the places of all files, which it leaves as they are (Go specification, Blocks; Declarations and
+-- scope).
 use Rattle.std.specs.Prelude.{[], List, map}
 use Rattle.go_types.specs.Entities.{Env}
 use Rattle.const_eval.specs.declared.consts.Const.{Const}

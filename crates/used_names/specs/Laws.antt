@@ -10,7 +10,8 @@ use Rattle.used_names.specs.Uses.{Uses, hides}
 use Rattle.used_names.specs.Walks.{after_expr, after_exprs, after_stmts}
 use Rattle.used_names.specs.Stands.{Stands}
 
--- After part of a walk each name other than `_` is found that was, or that is among these names and not declared around.
+-- After part of a walk each name other than `_` is found that was, or that is among these names and not declared
+-- around.
 abbrev pub Finds : Uses → Uses → List (List ℕ) → Type 0
 Finds s t names =
     (n : List ℕ) → is_blank n ≡ false

@@ -1,5 +1,5 @@
--- Where a walk stands: what a place in a function means as types and packages is told by the place outside all functions
--- and by which names are local (Go specification, Declarations and scope; Types; Qualified identifiers).
+-- Where a walk stands: what a place in a function means as types and packages is told by the place outside all
+-- functions and by which names are local (Go specification, Declarations and scope; Types; Qualified identifiers).
 use Rattle.std.specs.Prelude.{◌≡◌, ℕ, true, List, Option, None, if◌then◌else◌}
 use Rattle.go_types.specs.Types.{GoType}
 use Rattle.go_types.specs.Defined.{under, has_keys}
