@@ -1,5 +1,9 @@
 //! Searches in a file.
 
+ghost use Rattle.std.specs.Prelude.{IfOk};
+ghost use Rattle.go_tree.specs.FileView.{file_of};
+ghost use Rattle.scope_tables.specs.Table.{IsTableOf, table_of};
+
 use constant_forms::{ConstantForm, Obstacle};
 use file_names::{MarkRef, block_members, find_packages, member_names};
 use file_tables::{FileTables, file_tables};
@@ -112,20 +116,32 @@ fn words_of(alloc: Global, found: &Searched) -> Result<Vec<u8>, Fail> {
     Ok(words)
 }
 
-fn searched(
+/// The tables of a file of the package 0.
+fn tables_of(
     alloc: Global,
     packages: &[Package],
-    tree: &FileTree,
     home: &Package,
-    decls: &[usize],
-) -> Result<Vec<u8>, Fail> {
+    tree: &FileTree,
+) -> Result<FileTables, Fail>
+    ensures { IfOk result (λ t. IsTableOf t.names (file_of tree.now) (table_of t.scopes)) }
+{
     let places = find_packages(alloc, packages)?;
     let members = block_members(alloc, 0, home)?;
     let block = member_names(alloc, &members)?;
     let tables = file_tables(alloc, packages, &places, block, tree)?;
-    let marks = marks_of(alloc, decls)?;
-    let values = values_of(alloc, &tables, tree, &marks)?;
-    let table = MarkTable::of(alloc, packages, &marks)?;
+    Ok(tables)
+}
+
+/// What a search in the file finds.
+fn found_in(
+    alloc: Global,
+    program: &ProgramView,
+    table: &MarkTable,
+    tables: &FileTables,
+    tree: &FileTree,
+) -> Result<Vec<u8>, Fail>
+    requires { IsTableOf tables.now.names (file_of tree.now) (table_of tables.now.scopes) }
+{
     let imports = [1];
     let view = FileView {
         home: 0,
@@ -135,12 +151,27 @@ fn searched(
         scopes: &tables.scopes,
         imports: &imports,
     };
+    let found = search_file(alloc, program, table, &view)?;
+    words_of(alloc, &found)
+}
+
+fn searched(
+    alloc: Global,
+    packages: &[Package],
+    tree: &FileTree,
+    tables: &FileTables,
+    decls: &[usize],
+) -> Result<Vec<u8>, Fail>
+    requires { IsTableOf tables.now.names (file_of tree.now) (table_of tables.now.scopes) }
+{
+    let marks = marks_of(alloc, decls)?;
+    let values = values_of(alloc, tables, tree, &marks)?;
+    let table = MarkTable::of(alloc, packages, &marks)?;
     let program = ProgramView {
         packages,
         values: &values,
     };
-    let found = search_file(alloc, &program, &table, &view)?;
-    words_of(alloc, &found)
+    found_in(alloc, &program, &table, tables, tree)
 }
 
 fn finds(alloc: Global, text: &str, decls: &[usize], words: &str) -> Result<bool, Fail> {
@@ -158,7 +189,8 @@ fn finds(alloc: Global, text: &str, decls: &[usize], words: &str) -> Result<bool
     let Some(source) = home.files.items().get(0) else {
         return Err(Fail::new("no file"));
     };
-    let found = searched(alloc, &packages, &source.tree, home, decls)?;
+    let tables = tables_of(alloc, &packages, home, &source.tree)?;
+    let found = searched(alloc, &packages, &source.tree, &tables, decls)?;
     Ok(found.as_slice() == words.as_bytes())
 }
 
