@@ -1,0 +1,2 @@
+pub mod NamesStand
+pub mod Files

@@ -1,0 +1,8 @@
+//! The order of the packages of a program as it stands.
+#![tactic(auto)]
+
+mod links;
+mod numbers;
+mod order;
+
+pub use order::package_order;
