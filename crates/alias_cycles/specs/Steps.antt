@@ -37,6 +37,7 @@ CallsNothingBy {marks = marks} {st = st} n h (as_written t) =
 CallsNothingBy {marks = marks} {st = st} n h (as_called t) =
     NamesFor (packages_added st.packages n.found) marks (site_added n.found) (alias_expr n h)
 
+-- of the use that the step is over
 abbrev pub AliasCallsNothing : {marks : List MarkRef} {st : Standing} {l : Logged} {after : Standing}
     → (n : Next marks st l after) → IsImportingAlias n → Type 0
 AliasCallsNothing n h = CallsNothingBy n h h.placed

@@ -72,10 +72,12 @@ module _ {S : Type 0} where
     names_of_elems no_elems = []
     names_of_elems (elem s k v es) = names_of_key k ++ (names_of_value v ++ names_of_elems es)
 
+    -- in a key that may be left out
     pub names_of_key : ValueOption S → Written S
     names_of_key no_value = []
     names_of_key (some_value v) = names_of_value v
 
+    -- in a key or a value
     pub names_of_value : Value S → Written S
     names_of_value (plain e) = names_of_expr false e
     names_of_value (braced s es) = names_of_elems es
