@@ -1,6 +1,7 @@
 -- The full names of declarations that are no methods.
-use Rattle.std.proofs.Common.{◌≡◌, ◌∙◌, List, [], Option, Some, None, refl, ap, sym}
-use Rattle.std.specs.Prelude.{ℕ, slice_get}
+use Rattle.std.proofs.Common.{◌≡◌, ◌∙◌, ◌++◌, ◌∷◌, Bool, true, false, cond, List, [], Option, Some, None, filter, map, append_assoc, refl, ap, sym}
+use Rattle.std.proofs.lemmas.List.{map-append}
+use Rattle.std.specs.Prelude.{slice_get}
 use Rattle.std.specs.Option.{option_map}
 use Rattle.go_tree.specs.declared.spans.Span.{Span}
 use Rattle.go_tree.specs.File.{Func}
@@ -17,7 +18,7 @@ module _ (ps : List (Package Span)) where
   no_type w (a_constant n e) h = refl
   no_type w (an_alias n t) h = refl
   no_type w (a_function f) h =
-      ap (λ r. with_type (given r (λ r. receiver_type (world ps) (headed_func ps w.number w.of w.source.tree f) r)) f.name.name) (h f refl)
+      ap (λ r. with_type ps (given r (λ r. receiver_type (world ps) (headed_func ps w.number w.of w.source.tree f) r)) f.name.name) (h f refl)
 
   module _ (m : MarkRef) (h : HasNoReceiver ps m) where
     with_decl : (w : Where Span) (i : Option (Inlinable Span)) → inlinable ps m ≡ i → otherwise (given i (λ d. Some (own_name ps w d))) [] ≡ otherwise (option_map name_of i) []
@@ -32,3 +33,24 @@ module _ (ps : List (Package Span)) where
     -- a declaration that is no method has its name alone
     pub own_name_alone : marked_name ps m ≡ otherwise (option_map name_of (inlinable ps m)) []
     own_name_alone = with_file (where_is ps m) refl
+
+-- ---- marks kept one by one
+
+module _ {A B : Type 0} (f : B → Bool) (g : A → B) where
+  at_first : (b : Bool) (x : B) (ys : List B) → b ≡ true → x ∷ ys ≡ cond b (x ∷ ys) ys
+  at_first true x ys e = refl
+  at_first false x ys e = absurd cc
+
+  not_first : (b : Bool) (x : B) (ys : List B) → b ≡ false → ys ≡ cond b (x ∷ ys) ys
+  not_first true x ys e = absurd cc
+  not_first false x ys e = refl
+
+  pub kept_on : (was now : List A) (m : A) (rest : List A) → now ≡ was ++ m ∷ [] → f (g m) ≡ true → map g now ++ filter f (map g rest) ≡ map g was ++ filter f (map g (m ∷ rest))
+  kept_on was now m rest e t =
+      ap (λ (xs : List A). map g xs ++ filter f (map g rest)) e
+      ∙ ap (λ (xs : List B). xs ++ filter f (map g rest)) (map-append g was (m ∷ []))
+      ∙ append_assoc (map g was) (g m ∷ []) (filter f (map g rest))
+      ∙ ap (λ (xs : List B). map g was ++ xs) (at_first (f (g m)) (g m) (filter f (map g rest)) t)
+
+  pub left_out : (was : List A) (m : A) (rest : List A) → f (g m) ≡ false → map g was ++ filter f (map g rest) ≡ map g was ++ filter f (map g (m ∷ rest))
+  left_out was m rest t = ap (λ (xs : List B). map g was ++ xs) (not_first (f (g m)) (g m) (filter f (map g rest)) t)

@@ -1,6 +1,6 @@
 -- Marks of declarations whose full names begin with a prefix (Go specification, Qualified identifiers; Method
 -- declarations).
-use Rattle.std.specs.Prelude.{◌≡◌, ℕ, Bool, List, Option, Some, None, nat_eq}
+use Rattle.std.specs.Prelude.{◌≡◌, ℕ, Bool, List, Some, None, nat_eq}
 use Rattle.std.specs.List.{starts_with}
 use Rattle.go_tree.specs.declared.spans.Span.{Span}
 use Rattle.go_tree.specs.File.{Func}

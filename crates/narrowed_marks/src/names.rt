@@ -1,27 +1,37 @@
 //! The names of declarations that marks hold for.
 
-ghost use Rattle.std.specs.Prelude.{◌≡◌, map, slice_get};
+ghost use Rattle.std.specs.Prelude.{◌≡◌, ◌<◌, Option, length, map, option_copied, slice_get};
 ghost use Rattle.std.specs.Option.{option_map};
+ghost use Rattle.go_tree.specs.declared.spans.Span.{Span};
 ghost use Rattle.go_tree.specs.Lists.{specs_from};
-ghost use Rattle.go_tree.specs.View.{const_spec_of};
+ghost use Rattle.go_tree.specs.View.{const_spec_of, exprs_of, name_at_of};
 ghost use Rattle.go_tree.specs.FileView.{decl_of, type_spec_of};
-ghost use Rattle.go_types.specs.Answers.{given, meets};
-ghost use Rattle.run_rules.specs.Sites.{aliased, inlinable_in, name_of, nth_constant};
-ghost use Rattle.member_uses.specs.Laws.{is_constant as spec_is_constant};
+ghost use Rattle.go_types.specs.Answers.{given};
+ghost use Rattle.run_rules.specs.Sites.{Inlinable, aliased, constant_in_spec, inlinable_in, name_of, nth_constant};
 
-use go_tree::{ConstSpec, Decl, Name, TypeSpec};
+use go_tree::{ConstSpec, Decl, Name, NameAt, TypeSpec};
+
+/// The name with this number of a spec.
+fn nth_name<'a>(spec: &'a ConstSpec, item: usize) -> Option<&'a NameAt>
+    ensures { option_copied result ≡ slice_get spec.now.names item }
+{
+    spec.names.items().get(item)
+}
 
 /// The name with this number of a spec, where the spec has an expression for it.
 fn name_in<'a>(spec: &'a ConstSpec, item: usize) -> Option<&'a Name>
-    ensures { option_map (λ n. n.now) result
-        ≡ given (slice_get spec.now.values item) (λ e. option_map (λ n. n.name.now) (slice_get spec.now.names item)) }
+    requires { item < length spec.now.names }
+    ensures { (rest : Option (Inlinable Span)) → option_map (λ n. n.now) result
+        ≡ option_map name_of (constant_in_spec item (map name_at_of spec.now.names) (exprs_of spec.now.values) rest) }
 {
-    match spec.values.items().get(item) {
-        Some(_) => match spec.names.items().get(item) {
+    let values = spec.values.items();
+    if item < values.len() {
+        match nth_name(spec, item) {
             Some(name) => Some(&name.name),
             None => None,
-        },
-        None => None,
+        }
+    } else {
+        None
     }
 }
 
@@ -68,17 +78,5 @@ pub(crate) fn own_name<'a>(decl: &'a Decl, item: usize) -> Option<&'a Name>
         Decl::Var(_) => None,
         Decl::Types(decl) => alias_name(decl.specs.items(), item),
         Decl::Func(func) => Some(&func.name.name),
-    }
-}
-
-/// Whether the name with this number of a declaration is that of a constant for which a mark can hold.
-pub(crate) fn is_constant(decl: &Decl, item: usize) -> bool
-    ensures { result ≡ meets (inlinable_in (decl_of decl.now) item) spec_is_constant }
-{
-    match decl {
-        Decl::Const(decl) => constant_name(decl.specs.items(), item).is_some(),
-        Decl::Var(_) => false,
-        Decl::Types(_) => false,
-        Decl::Func(_) => false,
     }
 }

@@ -1,17 +1,16 @@
 //! The marks whose declarations have full names that begin with a prefix.
 
-ghost use Rattle.std.specs.Prelude.{◌≡◌, All, IfOk, IsTrue, ◌↔◌, filter, map, option_copied, slice_get};
+ghost use Rattle.std.specs.Prelude.{◌≡◌, [], All, IfOk, filter, map, option_copied, slice_get};
 ghost use Rattle.std.specs.Option.{option_map};
 ghost use Rattle.go_tree.specs.FileView.{decl_of};
-ghost use Rattle.go_types.specs.Answers.{given, meets, otherwise};
+ghost use Rattle.go_types.specs.Answers.{given, otherwise};
 ghost use Rattle.pkg_graph.specs.Views.{package_view};
 ghost use Rattle.run_rules.specs.Marks.{full_name, home_path};
 ghost use Rattle.run_rules.specs.Sites.{inlinable, name_of};
-ghost use Rattle.member_uses.specs.Laws.{AllConstants, is_constant as spec_is_constant};
 ghost use Rattle.module_marks.specs.Views.{mark_ref_of};
 ghost use Rattle.narrowed_marks.specs.Narrowed.{HasNoReceiver, begins_with};
 
-use crate::names::{is_constant, own_name};
+use crate::names::own_name;
 use file_names::MarkRef;
 use go_tree::{Decl, Name, NoMemory};
 use pkg_graph::{Package, SourceTree};
@@ -85,29 +84,4 @@ pub fn narrowed(
         }
     }
     Ok(kept)
-}
-
-/// Whether a declaration is a constant for which a mark can hold.
-fn is_constant_mark(packages: &[Package], mark: MarkRef) -> bool
-    ensures { result ≡ meets (inlinable (map package_view packages.now) (mark_ref_of mark)) spec_is_constant }
-{
-    let Some(source) = file_of(packages, mark) else {
-        return false;
-    };
-    match source.tree.decls.items().get(mark.decl) {
-        Some(decl) => is_constant(decl, mark.item),
-        None => false,
-    }
-}
-
-/// Whether all marks are of constants.
-pub fn are_constants(packages: &[Package], marks: &[MarkRef]) -> bool
-    ensures { IsTrue result ↔ AllConstants (map package_view packages.now) (map mark_ref_of marks.now) }
-{
-    for mark in marks {
-        if !is_constant_mark(packages, *mark) {
-            return false;
-        }
-    }
-    true
 }

@@ -1,2 +1,2 @@
-mod Words
+mod Terminals
 mod Unspread

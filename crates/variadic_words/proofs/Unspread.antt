@@ -1,12 +1,11 @@
 -- Where no token is `...`, no call hands on a slice for its last arguments.
-use Rattle.std.proofs.Common.{refl, absurd, ℕ, Bool, List, [], ◌∷◌, Option}
-use Rattle.go_tree.specs.Tree.{NameAt, TypeExpr, Fields, no_fields, Param, Sig, Expr, Exprs, ExprOption, Elems, Value, ValueOption, Stmt, Stmts, StmtOption, BlockOption, RangeLeft, Arms, Cases, ValueSpecs}
-use Rattle.go_tree.specs.File.{ImportSpec, ImportDecl, TypeSpec, Receiver, Decl, File}
+use Rattle.std.proofs.Common.{refl, ℕ, Bool, List, ◌∷◌, Option}
+use Rattle.go_tree.specs.Tree.{NameAt, TypeExpr, Expr, Exprs, ExprOption, Elems, Value, ValueOption, Stmt, Stmts, StmtOption, BlockOption, RangeLeft, Arms, Cases, ValueSpecs}
+use Rattle.go_tree.specs.File.{Decl, File}
 use Rattle.go_tree.specs.declared.exprs.Rest.{Rest}
-use Rattle.go_read.specs.SpellsTypes.{Lexemes, SpellsType, SpellsFields, SpellsEntries, SpellsRest, SpellsNamed, SpellsUnnamed, SpellsParams, SpellsResults, SpellsSig, SpellsNames, named_rule, qualified_rule, pointer_rule, slice_type_rule, map_type_rule, struct_type_rule, type_parens_rule, no_fields_rule, last_field_rule, more_fields_rule, last_entry_rule, more_entries_rule, rest_rule, named_rest_rule, last_named_rule, comma_named_rule, more_named_rule, rest_named_rule, comma_rest_named_rule, last_unnamed_rule, comma_unnamed_rule, more_unnamed_rule, rest_unnamed_rule, comma_rest_unnamed_rule, no_params_rule, named_params_rule, unnamed_params_rule, no_results_rule, params_results_rule, type_result_rule, sig_rule, last_name_rule, more_names_rule}
-use Rattle.go_read.specs.Spells.{SpellsLiteralType, SpellsBare, SpellsExpr, SpellsOperand, SpellsOption, SpellsExprs, SpellsArgs, SpellsElems, SpellsElem, SpellsValue, SpellsSimple, SpellsPart, SpellsFirst, SpellsStmt, SpellsBlock, SpellsStmts, SpellsIf, SpellsArm, SpellsLeft, SpellsCases, SpellsDecl, SpellsSpecs, SpellsSpec, named_literal_rule, qualified_literal_rule, type_literal_rule, ident_rule, int_rule, rune_rule, text_rule, composite_rule, func_rule, type_rule, selector_rule, index_rule, slice_rule, call_rule, unary_rule, star_rule, binary_rule, bare_rule, parens_rule, operand_rule, no_expr_rule, some_expr_rule, last_expr_rule, more_exprs_rule, no_args_rule, args_rule, comma_args_rule, rest_args_rule, comma_rest_args_rule, no_elems_rule, last_elem_rule, more_elems_rule, value_rule, keyed_rule, plain_rule, braced_rule, eval_rule, increment_rule, decrement_rule, assign_rule, define_rule, no_part_rule, part_rule, no_first_rule, first_rule, empty_rule, simple_rule, const_rule, var_rule, return_rule, return_values_rule, break_rule, break_label_rule, continue_rule, continue_label_rule, block_rule, if_rule, while_rule, for_rule, range_rule, switch_rule, defer_rule, label_rule, braces_rule, no_stmts_rule, last_stmt_rule, more_stmts_rule, only_arm_rule, else_rule, else_if_rule, arm_rule, no_left_rule, assigns_rule, defines_rule, no_cases_rule, case_rule, default_rule, single_rule, group_rule, no_specs_rule, last_spec_rule, more_specs_rule, repeated_rule, typed_var_rule, values_rule, typed_values_rule}
-use Rattle.go_read.specs.SpellsFiles.{SpellsImportSpec, SpellsImportSpecs, SpellsImport, SpellsTypeSpec, SpellsTypeSpecs, SpellsReceiver, SpellsTop, SpellsImports, SpellsTops, SpellsFront, path_rule, named_path_rule, no_import_specs_rule, last_import_spec_rule, more_import_specs_rule, import_rule, import_group_rule, type_spec_rule, alias_spec_rule, no_type_specs_rule, last_type_spec_rule, more_type_specs_rule, receiver_rule, pointer_receiver_rule, named_receiver_rule, named_pointer_receiver_rule, top_const_rule, top_var_rule, top_type_rule, top_type_group_rule, top_func_rule, top_method_rule, no_imports_rule, more_imports_rule, no_tops_rule, more_tops_rule, front_rule}
-use Rattle.go_read.specs.SpellsTypes.{fields_of, params_of}
+use Rattle.go_read.specs.SpellsTypes.{Lexemes}
+use Rattle.go_read.specs.Spells.{SpellsBare, SpellsExpr, SpellsOperand, SpellsOption, SpellsExprs, SpellsArgs, SpellsElems, SpellsElem, SpellsValue, SpellsSimple, SpellsPart, SpellsFirst, SpellsStmt, SpellsBlock, SpellsStmts, SpellsIf, SpellsArm, SpellsLeft, SpellsCases, SpellsDecl, SpellsSpecs, SpellsSpec, ident_rule, int_rule, rune_rule, text_rule, composite_rule, func_rule, type_rule, selector_rule, index_rule, slice_rule, call_rule, unary_rule, star_rule, binary_rule, bare_rule, parens_rule, operand_rule, no_expr_rule, some_expr_rule, last_expr_rule, more_exprs_rule, no_args_rule, args_rule, comma_args_rule, rest_args_rule, comma_rest_args_rule, no_elems_rule, last_elem_rule, more_elems_rule, value_rule, keyed_rule, plain_rule, braced_rule, eval_rule, increment_rule, decrement_rule, assign_rule, define_rule, no_part_rule, part_rule, no_first_rule, first_rule, empty_rule, simple_rule, const_rule, var_rule, return_rule, return_values_rule, break_rule, break_label_rule, continue_rule, continue_label_rule, block_rule, if_rule, while_rule, for_rule, range_rule, switch_rule, defer_rule, label_rule, braces_rule, no_stmts_rule, last_stmt_rule, more_stmts_rule, only_arm_rule, else_rule, else_if_rule, arm_rule, no_left_rule, assigns_rule, defines_rule, no_cases_rule, case_rule, default_rule, single_rule, group_rule, no_specs_rule, last_spec_rule, more_specs_rule, repeated_rule, typed_var_rule, values_rule, typed_values_rule}
+use Rattle.go_read.specs.SpellsFiles.{SpellsTop, SpellsTops, SpellsFront, top_const_rule, top_var_rule, top_type_rule, top_type_group_rule, top_func_rule, top_method_rule, no_tops_rule, more_tops_rule, front_rule}
 use Rattle.go_tree.specs.declared.spans.Span.{Span}
 use Rattle.go_words.specs.Terminals.{lex, ellipsis}
 use Rattle.splice_laws.specs.Dots.{ExprDots, ExprsDots, OptionDots, ElemsDots, ValueDots, KeyDots, StmtDots, StmtsDots, PartDots, BlockDots, LeftDots, ArmsDots, CasesDots, SpecsDots, DeclDots, DeclsDots}
@@ -28,8 +27,10 @@ module _ {S : Type 0} (mark : Lexemes → Lexemes → S) (whole : Lexemes) (none
     bare_plain (type_rule d1 d2 d3) a = tt
     bare_plain (selector_rule d1) a = (tt, operand_plain d1 a)
     bare_plain (index_rule d1 d2) a = (operand_plain d1 a, operand_plain d2 (drop (words.operand_passed mark whole d1 a) refl))
-    bare_plain (slice_rule d1 d2 d3) a = (operand_plain d1 a, (option_plain d2 (drop (words.operand_passed mark whole d1 a) refl), option_plain d3 (drop (words.option_passed mark whole d2 (drop (words.operand_passed mark whole d1 a) refl)) refl)))
-    bare_plain (call_rule d1 d2) a = (expr_plain d1 a, args_plain d2 (drop (words.expr_passed mark whole d1 a) refl))
+    bare_plain (slice_rule d1 d2 d3) a = (operand_plain d1 a, option_plain d2 (drop (words.operand_passed mark whole d1 a) refl), option_plain d3 (drop (words.option_passed mark whole d2 (drop (words.operand_passed mark whole d1 a) refl)) refl))
+    bare_plain (call_rule d1 d2) a =
+        let handed = args_plain d2 (drop (words.expr_passed mark whole d1 a) refl) in
+        (expr_plain d1 a, handed.0, handed.1)
     bare_plain (unary_rule {op = op} d1 d2) a = operand_plain d2 (drop a (sign_known op))
     bare_plain (star_rule d1 d2) a = operand_plain d2 (drop a refl)
     bare_plain (binary_rule d1 d2 d3) a = (operand_plain d2 a, operand_plain d3 (drop (words.operand_passed mark whole d2 a) refl))
@@ -58,8 +59,8 @@ module _ {S : Type 0} (mark : Lexemes → Lexemes → S) (whole : Lexemes) (none
 
     pub elems_plain : {a0 : Elems S} {ts r : Lexemes} → SpellsElems mark a0 ts r → Passed ts whole → ElemsDots AnyExpr UnspreadRest a0
     elems_plain no_elems_rule a = tt
-    elems_plain (last_elem_rule d1) a = (elem_key_plain d1 a, (elem_value_plain d1 a, tt))
-    elems_plain (more_elems_rule d1 d2) a = (elem_key_plain d1 a, (elem_value_plain d1 a, elems_plain d2 (drop (words.elem_passed mark whole d1 a) refl)))
+    elems_plain (last_elem_rule d1) a = (elem_key_plain d1 a, elem_value_plain d1 a, tt)
+    elems_plain (more_elems_rule d1 d2) a = (elem_key_plain d1 a, elem_value_plain d1 a, elems_plain d2 (drop (words.elem_passed mark whole d1 a) refl))
 
     pub elem_key_plain : {a0 : ValueOption S} {a1 : Value S} {ts r : Lexemes} → SpellsElem mark a0 a1 ts r → Passed ts whole → KeyDots AnyExpr UnspreadRest a0
     elem_key_plain (value_rule d1) a = tt
@@ -101,10 +102,10 @@ module _ {S : Type 0} (mark : Lexemes → Lexemes → S) (whole : Lexemes) (none
     stmt_plain continue_label_rule a = tt
     stmt_plain (block_rule d1) a = block_plain d1 a
     stmt_plain (if_rule d1) a = (if_arms_plain d1 a, if_last_plain d1 a)
-    stmt_plain (while_rule d1 d2) a = (tt, (option_plain d1 (drop a refl), (tt, block_plain d2 (words.option_passed mark whole d1 (drop a refl)))))
-    stmt_plain (for_rule d1 d2 d3 d4) a = (part_plain d1 (drop a refl), (option_plain d2 (drop (words.part_passed mark whole d1 (drop a refl)) refl), (part_plain d3 (drop (words.option_passed mark whole d2 (drop (words.part_passed mark whole d1 (drop a refl)) refl)) refl), block_plain d4 (words.part_passed mark whole d3 (drop (words.option_passed mark whole d2 (drop (words.part_passed mark whole d1 (drop a refl)) refl)) refl)))))
-    stmt_plain (range_rule d1 d2 d3) a = (left_plain d1 (drop a refl), (operand_plain d2 (drop (words.left_passed mark whole d1 (drop a refl)) refl), block_plain d3 (words.operand_passed mark whole d2 (drop (words.left_passed mark whole d1 (drop a refl)) refl))))
-    stmt_plain (switch_rule d1 d2 d3) a = (first_plain d1 (drop a refl), (option_plain d2 (words.first_passed mark whole d1 (drop a refl)), cases_plain d3 (drop (words.option_passed mark whole d2 (words.first_passed mark whole d1 (drop a refl))) refl)))
+    stmt_plain (while_rule d1 d2) a = (tt, option_plain d1 (drop a refl), tt, block_plain d2 (words.option_passed mark whole d1 (drop a refl)))
+    stmt_plain (for_rule d1 d2 d3 d4) a = (part_plain d1 (drop a refl), option_plain d2 (drop (words.part_passed mark whole d1 (drop a refl)) refl), part_plain d3 (drop (words.option_passed mark whole d2 (drop (words.part_passed mark whole d1 (drop a refl)) refl)) refl), block_plain d4 (words.part_passed mark whole d3 (drop (words.option_passed mark whole d2 (drop (words.part_passed mark whole d1 (drop a refl)) refl)) refl)))
+    stmt_plain (range_rule d1 d2 d3) a = (left_plain d1 (drop a refl), operand_plain d2 (drop (words.left_passed mark whole d1 (drop a refl)) refl), block_plain d3 (words.operand_passed mark whole d2 (drop (words.left_passed mark whole d1 (drop a refl)) refl)))
+    stmt_plain (switch_rule d1 d2 d3) a = (first_plain d1 (drop a refl), option_plain d2 (words.first_passed mark whole d1 (drop a refl)), cases_plain d3 (drop (words.option_passed mark whole d2 (words.first_passed mark whole d1 (drop a refl))) refl))
     stmt_plain (defer_rule d1) a = bare_plain d1 (drop a refl)
     stmt_plain (label_rule d1) a = stmt_plain d1 (drop (drop a refl) refl)
 
@@ -117,9 +118,9 @@ module _ {S : Type 0} (mark : Lexemes → Lexemes → S) (whole : Lexemes) (none
     stmts_plain (more_stmts_rule d1 d2) a = (stmt_plain d1 a, stmts_plain d2 (drop (words.stmt_passed mark whole d1 a) refl))
 
     pub if_arms_plain : {a0 : Arms S} {a1 : BlockOption S} {ts r : Lexemes} → SpellsIf mark a0 a1 ts r → Passed ts whole → ArmsDots AnyExpr UnspreadRest a0
-    if_arms_plain (only_arm_rule d1) a = (arm_init_plain d1 a, (arm_test_plain d1 a, (arm_body_plain d1 a, tt)))
-    if_arms_plain (else_rule d1 d2) a = (arm_init_plain d1 a, (arm_test_plain d1 a, (arm_body_plain d1 a, tt)))
-    if_arms_plain (else_if_rule d1 d2) a = (arm_init_plain d1 a, (arm_test_plain d1 a, (arm_body_plain d1 a, if_arms_plain d2 (drop (words.arm_passed mark whole d1 a) refl))))
+    if_arms_plain (only_arm_rule d1) a = (arm_init_plain d1 a, arm_test_plain d1 a, arm_body_plain d1 a, tt)
+    if_arms_plain (else_rule d1 d2) a = (arm_init_plain d1 a, arm_test_plain d1 a, arm_body_plain d1 a, tt)
+    if_arms_plain (else_if_rule d1 d2) a = (arm_init_plain d1 a, arm_test_plain d1 a, arm_body_plain d1 a, if_arms_plain d2 (drop (words.arm_passed mark whole d1 a) refl))
 
     pub if_last_plain : {a0 : Arms S} {a1 : BlockOption S} {ts r : Lexemes} → SpellsIf mark a0 a1 ts r → Passed ts whole → BlockDots AnyExpr UnspreadRest a1
     if_last_plain (only_arm_rule d1) a = tt
@@ -142,8 +143,8 @@ module _ {S : Type 0} (mark : Lexemes → Lexemes → S) (whole : Lexemes) (none
 
     pub cases_plain : {a0 : Cases S} {ts r : Lexemes} → SpellsCases mark a0 ts r → Passed ts whole → CasesDots AnyExpr UnspreadRest a0
     cases_plain no_cases_rule a = tt
-    cases_plain (case_rule d1 d2 d3) a = (exprs_plain d1 (drop a refl), (stmts_plain d2 (drop (words.exprs_passed mark whole d1 (drop a refl)) refl), cases_plain d3 (words.stmts_passed mark whole d2 (drop (words.exprs_passed mark whole d1 (drop a refl)) refl))))
-    cases_plain (default_rule d1 d2) a = (tt, (stmts_plain d1 (drop (drop a refl) refl), cases_plain d2 (words.stmts_passed mark whole d1 (drop (drop a refl) refl))))
+    cases_plain (case_rule d1 d2 d3) a = (exprs_plain d1 (drop a refl), stmts_plain d2 (drop (words.exprs_passed mark whole d1 (drop a refl)) refl), cases_plain d3 (words.stmts_passed mark whole d2 (drop (words.exprs_passed mark whole d1 (drop a refl)) refl)))
+    cases_plain (default_rule d1 d2) a = (tt, stmts_plain d1 (drop (drop a refl) refl), cases_plain d2 (words.stmts_passed mark whole d1 (drop (drop a refl) refl)))
 
     pub decl_plain : {a0 : Bool} {a1 : Bool} {a2 : ValueSpecs S} {ts r : Lexemes} → SpellsDecl mark a0 a1 a2 ts r → Passed ts whole → SpecsDots AnyExpr UnspreadRest a2
     decl_plain (single_rule d1) a = (spec_values_plain d1 a, tt)
