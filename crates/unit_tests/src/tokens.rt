@@ -1,4 +1,4 @@
-//! Comments of texts, and where the first word stands that is not supported.
+//! Comments of texts, where the first word stands that is not supported, and whether `...` does.
 
 ghost use Rattle.std.specs.Prelude.{◌≤◌, length};
 
@@ -6,6 +6,7 @@ use go_scan::{scan, unsupported};
 use go_tree::MAX_FILE_BYTES;
 use std::alloc::Global;
 use std::test::Fail;
+use variadic_words::has_dots;
 
 const NONE: (u32, u32) = (0, 0);
 
@@ -47,6 +48,13 @@ static WORDS: [(&[u8], (u32, u32)); 18] = [
     (b"//go:build linux\nx", NONE),
 ];
 
+static DOTS: [(&[u8], bool); 4] = [
+    (b"package p; func f(x ...int) {}", true),
+    (b"package p; var x = f(y...)", true),
+    (b"package p; var x = a.b.c", false),
+    (b"package p; var x = \"...\" // ...", false),
+];
+
 // A failure names the byte at which the comment, or the word, should stand.
 
 /// Where the only comment of a text stands.
@@ -71,6 +79,14 @@ fn word_of(alloc: Global, text: &[u8]) -> Result<(u32, u32), Fail>
     })
 }
 
+/// Whether a text has the word `...`.
+fn dots_of(alloc: Global, text: &[u8]) -> Result<bool, Fail>
+    requires { length text.now ≤ MAX_FILE_BYTES }
+{
+    let tokens = scan(alloc, text)?;
+    Ok(has_dots(tokens.items()))
+}
+
 #[test]
 fn the_comment_is_found(rt: HostRuntime) -> Result<(), Fail> {
     for (text, want) in &COMMENTS {
@@ -86,6 +102,17 @@ fn the_first_word_is_found(rt: HostRuntime) -> Result<(), Fail> {
     for (text, want) in &WORDS {
         if text.len() > MAX_FILE_BYTES as usize || word_of(rt.alloc(), text)? != *want {
             return Err(Fail::new(want.0));
+        }
+    }
+    Ok(())
+}
+
+// A failure names the length of the text.
+#[test]
+fn dots_are_found(rt: HostRuntime) -> Result<(), Fail> {
+    for (text, want) in &DOTS {
+        if text.len() > MAX_FILE_BYTES as usize || dots_of(rt.alloc(), text)? != *want {
+            return Err(Fail::new(text.len()));
         }
     }
     Ok(())
