@@ -1,31 +1,34 @@
 //! Marks of small files. `p` is an import of each file, and `X` and `Y` are constants of its package.
 
 use crate::sources::source;
-use directive_scan::{BadReason, MarkKind, Marks, marks};
+use directive_scan::{BadReason, MarkKind, marks};
 use go_tree::{MAX_FILE_BYTES, Name, Span, Text};
 use scope_names::{FileNames, ImportList, ImportName, NameList};
 use std::alloc::Global;
+use std::process::Abort;
 use std::test::Fail;
 use text_places::place;
 
-/// What a good mark marks.
-fn kind_word(kind: MarkKind) -> &'static str {
-    match kind {
-        MarkKind::Constant => "constant",
-        MarkKind::Alias => "alias",
-        MarkKind::Function => "function",
-        MarkKind::Method => "method",
-    }
+/// What is found at a line and a column.
+#[derive(Clone, Copy, Debug, PartialEq, Eq)]
+enum Found {
+    Good(u32, u32, MarkKind),
+    Bad(u32, u32, BadReason),
 }
 
-/// Why a mark is a bad one.
-fn reason_word(reason: BadReason) -> &'static str {
-    match reason {
-        BadReason::NotNamedConstant => "no named constant",
-        BadReason::NotAlias => "no alias",
-        BadReason::NothingMarked => "nothing",
-    }
-}
+const ALIAS: MarkKind = MarkKind::Alias;
+
+const CONSTANT: MarkKind = MarkKind::Constant;
+
+const FUNCTION: MarkKind = MarkKind::Function;
+
+const METHOD: MarkKind = MarkKind::Method;
+
+const NOT_ALIAS: BadReason = BadReason::NotAlias;
+
+const NOT_NAMED: BadReason = BadReason::NotNamedConstant;
+
+const NOTHING: BadReason = BadReason::NothingMarked;
 
 fn name(alloc: Global, text: &str) -> Result<Name, Fail> {
     Ok(Name::of(text.as_bytes().to_vec(alloc)?))
@@ -48,72 +51,39 @@ fn names(alloc: Global) -> Result<FileNames, Fail> {
     })
 }
 
-/// Adds what is found at a place of a text, by line and column, with a semicolon.
-fn put(
-    alloc: Global,
-    text: &[u8],
-    at: u32,
-    word: &'static str,
-    words: &mut Vec<u8>,
-) -> Result<(), Fail> {
-    if at as usize > text.len() {
-        return Err(Fail::new("a place behind the text"));
-    }
-    let at = place(text, at);
-    let found = format!(in alloc; "{}:{} {};", at.line, at.col, word)?;
-    Ok(words.extend_from_slice(found.as_bytes())?)
-}
-
-/// Whether a name stands at a span.
-fn stands(text: &[u8], name: &[u8], span: Span) -> bool {
-    match text.get(span.start as usize..span.end as usize) {
-        Some(word) => word == name,
-        None => false,
-    }
-}
-
 /// The marks of a file: the good ones, then the bad ones. A good one has the name that stands there.
-fn words_of(alloc: Global, text: &[u8], marks: &Marks) -> Result<Vec<u8>, Fail> {
-    let mut words = Vec::new(alloc);
-    for mark in marks.good() {
-        if !stands(text, mark.name.items(), mark.decl) {
-            return Err(Fail::new("a name that stands elsewhere"));
-        }
-        put(
-            alloc,
-            text,
-            mark.decl.start,
-            kind_word(mark.kind),
-            &mut words,
-        )?;
-    }
-    for mark in marks.bad() {
-        put(alloc, text, mark.at, reason_word(mark.reason), &mut words)?;
-    }
-    Ok(words)
-}
-
-fn marks_of_file(alloc: Global, text: &[u8], names: &FileNames) -> Result<Box<Marks>, Fail> {
+fn marks_of_file(alloc: Global, text: &[u8]) -> Result<Vec<Found>, Fail> {
     if text.len() > MAX_FILE_BYTES as usize {
         return Err(Fail::new("a text that is too long"));
     }
     let source = source(alloc, text)?;
-    let marks = marks(alloc, text, &source.tokens, &source.tree, names);
-    drop(source);
-    Ok(Box::new(alloc, marks?)?)
+    let marks = marks(alloc, text, &source.tokens, &source.tree, &names(alloc)?)?;
+    let mut list = Vec::new(alloc);
+    for mark in marks.good() {
+        let (start, end) = (mark.decl.start as usize, mark.decl.end as usize);
+        if start > end || end > text.len() || &text[start..end] != mark.name.items() {
+            return Err(Fail::new("a name that stands elsewhere"));
+        }
+        let at = place(text, mark.decl.start);
+        list.push(Found::Good(at.line, at.col, mark.kind))?;
+    }
+    for mark in marks.bad() {
+        if mark.at as usize > text.len() {
+            return Err(Fail::new("a place behind the text"));
+        }
+        let at = place(text, mark.at);
+        list.push(Found::Bad(at.line, at.col, mark.reason))?;
+    }
+    Ok(list)
 }
 
 /// Files with what is found in them.
-type Cases<'a> = &'a [(&'a str, &'a str)];
+type Cases<'a> = &'a [(&'a str, &'a [Found])];
 
-fn compare(alloc: Global, cases: Cases) -> Result<(), Fail> {
-    let names = Box::new(alloc, names(alloc)?)?;
+fn compare<R: Abort + AllocGlobal>(rt: &R, cases: Cases) -> Result<(), Fail> {
     for (text, want) in cases {
-        let marks = marks_of_file(alloc, text.as_bytes(), &names)?;
-        let words = words_of(alloc, text.as_bytes(), &marks)?;
-        if words.as_slice() != want.as_bytes() {
-            return Err(Fail::new(*text));
-        }
+        let list = marks_of_file(rt.alloc(), text.as_bytes())?;
+        assert!(rt; list.as_slice() == *want, "at {text}");
     }
     Ok(())
 }
@@ -122,33 +92,36 @@ fn compare(alloc: Global, cases: Cases) -> Result<(), Fail> {
 #[test]
 fn marks_by_the_documentation(rt: HostRuntime) -> Result<(), Fail> {
     compare(
-        rt.alloc(),
+        &rt,
         &[
             (
                 "package main\n\nconst Pointer = 1\n\n//go:fix inline\nconst Ptr = Pointer\n\nfunc main() {\n\tprintln(Ptr)\n}\n",
-                "6:7 constant;",
+                &[Found::Good(6, 7, CONSTANT)],
             ),
             (
                 "package main\n\n//go:fix inline\nconst X = 3\n",
-                "4:7 no named constant;",
+                &[Found::Bad(4, 7, NOT_NAMED)],
             ),
             (
                 "package q\n\n// Deprecated: prefer Pow(x, 2).\n//go:fix inline\nfunc Square(x int) int { return Pow(x, 2) }\n",
-                "5:6 function;",
+                &[Found::Good(5, 6, FUNCTION)],
             ),
             (
                 "package pkg\n\nimport pkg2 \"pkg/v2\"\n\n//go:fix inline\nfunc F() {\n\tpkg2.F(nil)\n}\n",
-                "6:6 function;",
+                &[Found::Good(6, 6, FUNCTION)],
             ),
             (
                 "package q\n\nconst (\n\tC = 1\n\t//go:fix inline\n\tPtr = Pointer\n)\n",
-                "6:2 constant;",
+                &[Found::Good(6, 2, CONSTANT)],
             ),
             (
                 "package q\n\n//go:fix inline\nconst (\n\tPtr = Pointer\n\tVal = Value\n)\n",
-                "5:2 constant;6:2 constant;",
+                &[Found::Good(5, 2, CONSTANT), Found::Good(6, 2, CONSTANT)],
             ),
-            ("package q\n\n//go:fix inline\ntype A = T\n", "4:6 alias;"),
+            (
+                "package q\n\n//go:fix inline\ntype A = T\n",
+                &[Found::Good(4, 6, ALIAS)],
+            ),
         ],
     )
 }
@@ -156,88 +129,104 @@ fn marks_by_the_documentation(rt: HostRuntime) -> Result<(), Fail> {
 #[test]
 fn what_can_be_marked(rt: HostRuntime) -> Result<(), Fail> {
     compare(
-        rt.alloc(),
+        &rt,
         &[
             // names, with and without an expression and a type of their own
             (
                 "package q\n//go:fix inline\nconst A, B = X, Y\n",
-                "3:7 constant;3:10 constant;",
+                &[Found::Good(3, 7, CONSTANT), Found::Good(3, 10, CONSTANT)],
             ),
             (
                 "package q\n//go:fix inline\nconst A, B = X, 1\n",
-                "3:7 constant;3:10 no named constant;",
+                &[Found::Good(3, 7, CONSTANT), Found::Bad(3, 10, NOT_NAMED)],
             ),
             (
                 "package q\n//go:fix inline\nconst A int = X\n",
-                "3:7 no named constant;",
+                &[Found::Bad(3, 7, NOT_NAMED)],
             ),
             (
                 "package q\n//go:fix inline\nconst A = p.X\n",
-                "3:7 constant;",
+                &[Found::Good(3, 7, CONSTANT)],
             ),
             (
                 "package q\n//go:fix inline\nconst A = X.Y\n",
-                "3:7 no named constant;",
+                &[Found::Bad(3, 7, NOT_NAMED)],
             ),
             (
                 "package q\n//go:fix inline\nconst A = iota\n",
-                "3:7 no named constant;",
+                &[Found::Bad(3, 7, NOT_NAMED)],
             ),
             (
                 "package q\n//go:fix inline\nconst A = len\n",
-                "3:7 constant;",
+                &[Found::Good(3, 7, CONSTANT)],
             ),
             (
                 "package q\n//go:fix inline\nconst A = -X\n",
-                "3:7 no named constant;",
+                &[Found::Bad(3, 7, NOT_NAMED)],
             ),
             (
                 "package q\n//go:fix inline\nconst (\n\tA = X\n\tB\n)\n",
-                "4:2 constant;5:2 no named constant;",
+                &[Found::Good(4, 2, CONSTANT), Found::Bad(5, 2, NOT_NAMED)],
             ),
             // types and methods
             (
                 "package q\n//go:fix inline\ntype A = struct{ a int }\n",
-                "3:6 alias;",
+                &[Found::Good(3, 6, ALIAS)],
             ),
             (
                 "package q\n//go:fix inline\ntype A struct{ a int }\n",
-                "3:6 no alias;",
+                &[Found::Bad(3, 6, NOT_ALIAS)],
             ),
             (
                 "package q\n//go:fix inline\ntype (\n\tA = X\n\tB X\n)\n",
-                "4:2 alias;5:2 no alias;",
+                &[Found::Good(4, 2, ALIAS), Found::Bad(5, 2, NOT_ALIAS)],
             ),
             (
                 "package q\n//go:fix inline\nfunc (t T) M() {}\n",
-                "3:12 method;",
+                &[Found::Good(3, 12, METHOD)],
             ),
             // what can't be marked at all
-            ("package q\n//go:fix inline\nvar V = X\n", "2:1 nothing;"),
+            (
+                "package q\n//go:fix inline\nvar V = X\n",
+                &[Found::Bad(2, 1, NOTHING)],
+            ),
             (
                 "package q\n//go:fix inline\nimport \"m/p\"\n",
-                "2:1 nothing;",
+                &[Found::Bad(2, 1, NOTHING)],
             ),
-            ("package q\n//go:fix inline\nconst ()\n", "2:1 nothing;"),
-            ("package q\n//go:fix inline\ntype ()\n", "2:1 nothing;"),
+            (
+                "package q\n//go:fix inline\nconst ()\n",
+                &[Found::Bad(2, 1, NOTHING)],
+            ),
+            (
+                "package q\n//go:fix inline\ntype ()\n",
+                &[Found::Bad(2, 1, NOTHING)],
+            ),
             (
                 "package q\nconst\n//go:fix inline\n(\n\tA = X\n)\n",
-                "3:1 nothing;",
+                &[Found::Bad(3, 1, NOTHING)],
             ),
             (
                 "package q\nfunc f() {\n\t//go:fix inline\n\tconst A = X\n}\n",
-                "3:2 nothing;",
+                &[Found::Bad(3, 2, NOTHING)],
             ),
-            ("package q\nconst A = X\n//go:fix inline", "3:1 nothing;"),
+            (
+                "package q\nconst A = X\n//go:fix inline",
+                &[Found::Bad(3, 1, NOTHING)],
+            ),
             // a group and its member, one reported once
             (
                 "package q\n//go:fix inline\nconst (\n\t//go:fix inline\n\tA = X\n\t//go:fix inline\n\tB = 1\n)\n",
-                "5:2 constant;7:2 no named constant;",
+                &[Found::Good(5, 2, CONSTANT), Found::Bad(7, 2, NOT_NAMED)],
             ),
             // several declarations on a line
             (
                 "package q\n//go:fix inline\nconst A = X; var V = Y; const B = 1; func f() {}\n",
-                "3:7 constant;3:43 function;3:31 no named constant;",
+                &[
+                    Found::Good(3, 7, CONSTANT),
+                    Found::Good(3, 43, FUNCTION),
+                    Found::Bad(3, 31, NOT_NAMED),
+                ],
             ),
         ],
     )
@@ -246,52 +235,55 @@ fn what_can_be_marked(rt: HostRuntime) -> Result<(), Fail> {
 #[test]
 fn mark_lines(rt: HostRuntime) -> Result<(), Fail> {
     compare(
-        rt.alloc(),
+        &rt,
         &[
             (
                 "package q\n \t//go:fix inline \t\nconst A = X\n",
-                "3:7 constant;",
+                &[Found::Good(3, 7, CONSTANT)],
             ),
             (
                 "package q\n//go:fix inline // more\nconst A = X\n",
-                "3:7 constant;",
+                &[Found::Good(3, 7, CONSTANT)],
             ),
             (
                 "package q\n//go:fix inline\t//\nconst A = X\n",
-                "3:7 constant;",
+                &[Found::Good(3, 7, CONSTANT)],
             ),
-            ("package q\n//go:fix inline more\nconst A = X\n", ""),
-            ("package q\n//go:fix inline//\nconst A = X\n", ""),
-            ("package q\n// go:fix inline\nconst A = X\n", ""),
-            ("package q\n/*go:fix inline*/\nconst A = X\n", ""),
-            ("package q\n/*\n//go:fix inline\n*/\nconst A = X\n", ""),
-            ("package q\nconst A = X //go:fix inline\nconst B = X\n", ""),
-            ("package q\n/* a\nb */ //go:fix inline\nconst A = X\n", ""),
+            ("package q\n//go:fix inline more\nconst A = X\n", &[]),
+            ("package q\n//go:fix inline//\nconst A = X\n", &[]),
+            ("package q\n// go:fix inline\nconst A = X\n", &[]),
+            ("package q\n/*go:fix inline*/\nconst A = X\n", &[]),
+            ("package q\n/*\n//go:fix inline\n*/\nconst A = X\n", &[]),
+            ("package q\nconst A = X //go:fix inline\nconst B = X\n", &[]),
+            ("package q\n/* a\nb */ //go:fix inline\nconst A = X\n", &[]),
             (
                 "package q\n//go:fix inline\n/* a\n\nb */ const A = X\n",
-                "5:12 constant;",
+                &[Found::Good(5, 12, CONSTANT)],
             ),
             (
                 "package q\n//go:fix inline\n// a\n/* b */\nconst A = X\n",
-                "5:7 constant;",
+                &[Found::Good(5, 7, CONSTANT)],
             ),
             (
                 "package q\n//go:fix inline\n\nconst A = X\n",
-                "2:1 nothing;",
+                &[Found::Bad(2, 1, NOTHING)],
             ),
             (
                 "package q\n//go:fix inline\n\n//go:fix inline\nconst A = X\n",
-                "5:7 constant;2:1 nothing;",
+                &[Found::Good(5, 7, CONSTANT), Found::Bad(2, 1, NOTHING)],
             ),
             (
                 "package q\n//go:fix inline\n//go:fix inline\nconst A = 1\n",
-                "4:7 no named constant;",
+                &[Found::Bad(4, 7, NOT_NAMED)],
             ),
             (
                 "package q\r\n//go:fix inline\r\nconst A = X\r\n",
-                "3:7 constant;",
+                &[Found::Good(3, 7, CONSTANT)],
             ),
-            ("\u{feff}//go:fix inline\npackage q\n", "1:4 nothing;"),
+            (
+                "\u{feff}//go:fix inline\npackage q\n",
+                &[Found::Bad(1, 4, NOTHING)],
+            ),
         ],
     )
 }

@@ -7,6 +7,7 @@ use names_within::{binders, free_names, fresh};
 use scope_names::{Entity, FileNames, ImportList, ImportName, NameList};
 use scope_tables::{Scopes, scopes};
 use std::alloc::Global;
+use std::process::Abort;
 use std::test::Fail;
 
 /// More imports, or names of a package block, than any text here has.
@@ -40,26 +41,18 @@ fn imports(alloc: Global, words: &str) -> Result<ImportList, Fail> {
 }
 
 /// The scopes of a text that declares these names outside of its functions.
-fn table(
-    alloc: Global,
-    text: &str,
-    import_names: &str,
-    members: &str,
-) -> Result<Box<Scopes>, Fail> {
-    let names = Box::new(
-        alloc,
-        FileNames {
-            imports: imports(alloc, import_names)?,
-            package: list(alloc, members)?,
-        },
-    )?;
+fn table(alloc: Global, text: &str, import_names: &str, members: &str) -> Result<Scopes, Fail> {
+    let names = FileNames {
+        imports: imports(alloc, import_names)?,
+        package: list(alloc, members)?,
+    };
     if names.imports.items().len() > MANY || names.package.items().len() > MANY {
         return Err(Fail::new("too many names"));
     }
     let source = source(alloc, text.as_bytes())?;
     let table = scopes(alloc, &source.tree, &names);
     drop(source);
-    Ok(Box::new(alloc, table?)?)
+    Ok(table?)
 }
 
 fn kind(entity: Option<Entity>) -> (&'static str, u32) {
@@ -81,22 +74,8 @@ fn declaration(entity: Option<Entity>) -> Option<u32> {
     }
 }
 
-/// What a name means at a place, as a row says it, where the table tells the same of what is captured.
-fn row_of(alloc: Global, table: &Scopes, word: &str, at: u32) -> Result<String, Fail> {
-    let name = name(alloc, word)?;
-    let entity = table.lookup(&name, at);
-    let captured = table
-        .captured(&name, at)
-        .map(|span: Span| -> u32 { span.start });
-    if captured != declaration(entity) {
-        return Err(Fail::new("another declaration is captured"));
-    }
-    let (kind, number) = kind(entity);
-    Ok(format!(in alloc; "{at} {word} {kind} {number}")?)
-}
-
 /// Each row says where a use stands, its name, and what it means.
-fn compare(alloc: Global, table: &Scopes, rows: &str) -> Result<(), Fail> {
+fn compare<R: Abort + AllocGlobal>(rt: &R, table: &Scopes, rows: &str) -> Result<(), Fail> {
     for row in rows.split(';') {
         let mut words = row.split(' ');
         let (Some(place), Some(word)) = (words.next(), words.next()) else {
@@ -105,9 +84,15 @@ fn compare(alloc: Global, table: &Scopes, rows: &str) -> Result<(), Fail> {
         let Ok(at) = place.parse::<u32>() else {
             return Err(Fail::new("a row without a place"));
         };
-        if row_of(alloc, table, word, at)?.as_str() != row {
-            return Err(Fail::new(row));
-        }
+        let name = name(rt.alloc(), word)?;
+        let entity = table.lookup(&name, at);
+        let (kind, number) = kind(entity);
+        let found = format!(in rt.alloc(); "{at} {word} {kind} {number}")?;
+        assert!(rt; found.as_str() == row, "found {found}");
+        let captured = table
+            .captured(&name, at)
+            .map(|span: Span| -> u32 { span.start });
+        assert!(rt; captured == declaration(entity), "captured at {at}");
     }
     Ok(())
 }
@@ -121,7 +106,7 @@ fn uses_as_go_types_resolves_them(rt: HostRuntime) -> Result<(), Fail> {
         name_rows::IMPORTS,
         name_rows::MEMBERS,
     )?;
-    compare(rt.alloc(), &table, name_rows::ROWS)
+    compare(&rt, &table, name_rows::ROWS)
 }
 
 // The examples of the Go specification, Declarations and scope, by go/types too.
@@ -133,7 +118,7 @@ fn uses_by_the_specification(rt: HostRuntime) -> Result<(), Fail> {
         specification_rows::IMPORTS,
         specification_rows::MEMBERS,
     )?;
-    compare(rt.alloc(), &table, specification_rows::ROWS)
+    compare(&rt, &table, specification_rows::ROWS)
 }
 
 fn joined(alloc: Global, names: &NameList) -> Result<Vec<u8>, Fail> {
@@ -177,24 +162,6 @@ fn binders_in(alloc: Global, file: &FileTree) -> Result<Vec<u8>, Fail> {
     }
 }
 
-/// The free names of an expression.
-fn free_names_in(alloc: Global, expr: &str) -> Result<Vec<u8>, Fail> {
-    let text = format!(in alloc; "package p\n\nvar v = {expr}\n")?;
-    let source = source(alloc, text.as_bytes())?;
-    let found = free_in(alloc, &source.tree);
-    drop(source);
-    found
-}
-
-/// A new name for a file that isn't among some others.
-fn fresh_in(alloc: Global, text: &str, base: &str, avoid: &NameList) -> Result<Name, Fail> {
-    let base = name(alloc, base)?;
-    let source = source(alloc, text.as_bytes())?;
-    let found = fresh(alloc, &base, &source.tree, avoid);
-    drop(source);
-    Ok(found?)
-}
-
 // Go specification, Declarations and scope; Composite literals; Selectors; Labeled statements.
 #[test]
 fn free_names_of_expressions(rt: HostRuntime) -> Result<(), Fail> {
@@ -209,9 +176,12 @@ fn free_names_of_expressions(rt: HostRuntime) -> Result<(), Fail> {
         ("func() { L: for { break L } }()", ""),
     ];
     for (expr, want) in cases {
-        if free_names_in(rt.alloc(), expr)?.as_slice() != want.as_bytes() {
-            return Err(Fail::new(expr));
-        }
+        let text = format!(in rt.alloc(); "package p\n\nvar v = {expr}\n")?;
+        let source = source(rt.alloc(), text.as_bytes())?;
+        let found = free_in(rt.alloc(), &source.tree);
+        drop(source);
+        let found = found?;
+        assert!(rt; found.as_slice() == want.as_bytes(), "free names of {expr}");
     }
     Ok(())
 }
@@ -258,9 +228,12 @@ fn new_names(rt: HostRuntime) -> Result<(), Fail> {
     ];
     let avoid = list(rt.alloc(), "x x0")?;
     for (base, want) in cases {
-        if fresh_in(rt.alloc(), text, base, &avoid)?.items() != want.as_bytes() {
-            return Err(Fail::new(base));
-        }
+        let base_name = name(rt.alloc(), base)?;
+        let source = source(rt.alloc(), text.as_bytes())?;
+        let found = fresh(rt.alloc(), &base_name, &source.tree, &avoid);
+        drop(source);
+        let found = found?;
+        assert!(rt; found.items() == want.as_bytes(), "a new name for {base}");
     }
     Ok(())
 }

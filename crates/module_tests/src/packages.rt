@@ -143,15 +143,14 @@ fn packages_in_order(rt: HostRuntime) -> Result<(), Fail> {
         ),
     ];
     for (name, rows, want) in cases {
-        if order_of(rt.alloc(), *rows)?.as_slice() != want.as_bytes() {
-            return Err(Fail::new(*name));
-        }
+        let words = order_of(rt.alloc(), *rows)?;
+        assert!(rt; words.as_slice() == want.as_bytes(), "at {name}");
     }
     Ok(())
 }
 
 #[test]
-fn internal_packages(_rt: HostRuntime) -> Result<(), Fail> {
+fn internal_packages(rt: HostRuntime) -> Result<(), Fail> {
     let cases = [
         ("m/a/b", "m/a/internal/x", true),
         ("m/a", "m/a/internal/x", true),
@@ -164,9 +163,10 @@ fn internal_packages(_rt: HostRuntime) -> Result<(), Fail> {
         ("m/d/internal/b", "m/a/internal/b", false),
     ];
     for (from, path, want) in cases.iter() {
-        if may_import(from.as_bytes(), path.as_bytes()) != *want {
-            return Err(Fail::new(*path));
-        }
+        assert!(rt;
+            may_import(from.as_bytes(), path.as_bytes()) == *want,
+            "at {from} of {path}"
+        );
     }
     Ok(())
 }

@@ -36,8 +36,7 @@ elems_initial-elem_initial-requires t c =
     let x = c.x-item.result in
     let d = rw c.items-x-items.ensures.seen at c.decreases in
     let w = elem_walked items i x c.loop-x-test.true c.x-item.is
-    (subst AreWalkedElems c.items-x-items.ensures.seen c.requires.walked) in
-    (
+    (subst AreWalkedElems c.items-x-items.ensures.seen c.requires.walked) in (
       omega (arith, d, elem_smaller items i x c.loop-x-test.true c.x-item.is),
       (
         c.loop-x.invariant.stands,
