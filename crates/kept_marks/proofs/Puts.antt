@@ -15,6 +15,7 @@ use Rattle.run_rules.specs.Sites.{MarkRef, Where, a_constant, part_span, outer_m
 use Rattle.run_rules.specs.Steps.{At, same_here}
 use Rattle.run_rules.specs.Surroundings.{other, Place, inner_slot, in_slot}
 use Rattle.put_names.specs.Uses.{IsDeclaredAsName, as_name, as_member, UsesConstant}
+use Rattle.form_splices.proofs.FormsFound.{step-makes-form}
 use Rattle.put_names.proofs.Forms.{Qualifies, nothing, its_name, member_view, home_of, IsFormBy, by_obstacle, reduced_is}
 
 module _ (marks : List MarkRef) (st : Standing) (l : Logged) (after : Standing) (n : Next marks st l after) where
@@ -36,7 +37,7 @@ module _ (marks : List MarkRef) (st : Standing) (l : Logged) (after : Standing) 
   top_of home = top_place st.packages home.number home.of home.source.tree
 
   -- the package's name comes first
-  by-package : (form : Names → Form At) → IsFormBy marks st l after n form → (k : ℕ) (p : Package At) (m : List ℕ) → slice_get st.packages k ≡ Some p → ((names : Names) → form names ≡ member_at (names k) m) → Puts
+  by-package : (form : Names → Form At) → IsFormBy marks st n.found (step-makes-form marks st l after n) form → (k : ℕ) (p : Package At) (m : List ℕ) → slice_get st.packages k ≡ Some p → ((names : Names) → form names ≡ member_at (names k) m) → Puts
   by-package form made k p m there is =
       puts_member k p m
       (named_packages st.packages n.found.site.at n.found.site.place (name_added (named_package st.packages n.found.site.at n.found.site.place [] k) ++ []) (new_first k (unnamed_in (m ∷ []))))
@@ -44,7 +45,7 @@ module _ (marks : List MarkRef) (st : Standing) (l : Logged) (after : Standing) 
       (made.named_is ∙ ap (λ (f : Form At). named_packages st.packages n.found.site.at n.found.site.place [] (unnamed_in (form_identifiers f))) (is unnamed))
       (made.form_is ∙ is (names_by n.found.named))
 
-  by-value : (home : Where At) (e : Expr At) → slice_get st.packages home.number ≡ Some home.of → IsFormBy marks st l after n (text_by home e) → IsDeclaredAsName st.packages home e → Puts
+  by-value : (home : Where At) (e : Expr At) → slice_get st.packages home.number ≡ Some home.of → IsFormBy marks st n.found (step-makes-form marks st l after n) (text_by home e) → IsDeclaredAsName st.packages home e → Puts
   by-value home _ there made (as_name {s = s} {n = m}) =
       by_view (member_view home.number (nat_eq home.number n.found.site.at.number) (outer_meaning st.packages home (top_of home) m))
     where
@@ -63,7 +64,7 @@ module _ (marks : List MarkRef) (st : Standing) (l : Logged) (after : Standing) 
   pub step-puts : UsesConstant n → Puts
   step-puts uses =
       by-value uses.home uses.value (home_of st n.found.site.mark uses.home uses.home_is)
-      (by_obstacle marks st l after n ConstForm (text_by uses.home uses.value)
+      (by_obstacle marks st n.found (step-makes-form marks st l after n) ConstForm (text_by uses.home uses.value)
       (name_obstacle same_here (is_commented st) st.packages marks n.found.site uses.home (expr_seen (home_place same_here (is_commented st) st.packages marks uses.home) other uses.value) (text_by uses.home uses.value unnamed))
-      (reduced_is marks st l after n uses.home (a_constant uses.name uses.value) uses.home_is uses.declared))
+      (reduced_is marks st n.found (step-makes-form marks st l after n) uses.home (a_constant uses.name uses.value) uses.home_is uses.declared))
       uses.as_name
