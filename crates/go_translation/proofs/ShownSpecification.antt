@@ -177,12 +177,12 @@ appended_within = refl
 
 -- ---- Struct types, selectors, methods
 
---   type T0 struct { x int }
---   type T1 struct { y int; t *T0 }
---   func (t *T0) M0() { t.x += 10 }
---   func (t T1) M1() int { t.y = 7; return t.y + t.t.x }
---   func main() { var z T0; q := &T1{1, &z}; q.t.x = 2; q.t.M0(); println(q.M1(), q.y, z.x) }
-selected : run ((type_at 1 (codes "T0") false (st (((codes "x"), (ty (codes "int"))) ∷ []))) ∷ (type_at 2 (codes "T1") false (st (((codes "y"), (ty (codes "int"))) ∷ ((codes "t"), (ptr (ty (codes "T0")))) ∷ []))) ∷ (method_at 3 (Some (codes "t")) true (codes "T0") (codes "M0") (sig [] []) ((asg ((sel (v (codes "t")) (codes "x")) ∷ []) (Some Add) ((int (codes "10")) ∷ [])) ∷ [])) ∷ (method_at 4 (Some (codes "t")) false (codes "T1") (codes "M1") (sig [] ((par None (ty (codes "int"))) ∷ [])) ((asg ((sel (v (codes "t")) (codes "y")) ∷ []) None ((int (codes "7")) ∷ [])) ∷ (ret ((bin Add (sel (v (codes "t")) (codes "y")) (sel (sel (v (codes "t")) (codes "t")) (codes "x"))) ∷ [])) ∷ [])) ∷ (func_at 5 (codes "main") (sig [] []) ((vr ((((codes "z") ∷ []), ((Some (ty (codes "T0"))), [])) ∷ [])) ∷ (def ((codes "q") ∷ []) ((un Address (comp (ty (codes "T1")) ((no_value, (plain (int (codes "1")))) ∷ (no_value, (plain (un Address (v (codes "z"))))) ∷ []))) ∷ [])) ∷ (asg ((sel (sel (v (codes "q")) (codes "t")) (codes "x")) ∷ []) None ((int (codes "2")) ∷ [])) ∷ (ev (app (sel (sel (v (codes "q")) (codes "t")) (codes "M0")) [])) ∷ (ev (app (v (codes "println")) ((app (sel (v (codes "q")) (codes "M1")) []) ∷ (sel (v (codes "q")) (codes "y")) ∷ (sel (v (codes "z")) (codes "x")) ∷ []))) ∷ [])) ∷ []) ≡ Some (Ended (line (Number Int (pos 19) ∷ Number Int (pos 1) ∷ Number Int (pos 12) ∷ []) ∷ []))
+--   type Inner struct { x int }
+--   type Outer struct { y int; t *Inner }
+--   func (t *Inner) Grow() { t.x += 10 }
+--   func (t Outer) Total() int { t.y = 7; return t.y + t.t.x }
+--   func main() { var z Inner; q := &Outer{1, &z}; q.t.x = 2; q.t.Grow(); println(q.Total(), q.y, z.x) }
+selected : run ((type_at 1 (codes "Inner") false (st (((codes "x"), (ty (codes "int"))) ∷ []))) ∷ (type_at 2 (codes "Outer") false (st (((codes "y"), (ty (codes "int"))) ∷ ((codes "t"), (ptr (ty (codes "Inner")))) ∷ []))) ∷ (method_at 3 (Some (codes "t")) true (codes "Inner") (codes "Grow") (sig [] []) ((asg ((sel (v (codes "t")) (codes "x")) ∷ []) (Some Add) ((int (codes "10")) ∷ [])) ∷ [])) ∷ (method_at 4 (Some (codes "t")) false (codes "Outer") (codes "Total") (sig [] ((par None (ty (codes "int"))) ∷ [])) ((asg ((sel (v (codes "t")) (codes "y")) ∷ []) None ((int (codes "7")) ∷ [])) ∷ (ret ((bin Add (sel (v (codes "t")) (codes "y")) (sel (sel (v (codes "t")) (codes "t")) (codes "x"))) ∷ [])) ∷ [])) ∷ (func_at 5 (codes "main") (sig [] []) ((vr ((((codes "z") ∷ []), ((Some (ty (codes "Inner"))), [])) ∷ [])) ∷ (def ((codes "q") ∷ []) ((un Address (comp (ty (codes "Outer")) ((no_value, (plain (int (codes "1")))) ∷ (no_value, (plain (un Address (v (codes "z"))))) ∷ []))) ∷ [])) ∷ (asg ((sel (sel (v (codes "q")) (codes "t")) (codes "x")) ∷ []) None ((int (codes "2")) ∷ [])) ∷ (ev (app (sel (sel (v (codes "q")) (codes "t")) (codes "Grow")) [])) ∷ (ev (app (v (codes "println")) ((app (sel (v (codes "q")) (codes "Total")) []) ∷ (sel (v (codes "q")) (codes "y")) ∷ (sel (v (codes "z")) (codes "x")) ∷ []))) ∷ [])) ∷ []) ≡ Some (Ended (line (Number Int (pos 19) ∷ Number Int (pos 1) ∷ Number Int (pos 12) ∷ []) ∷ []))
 unfolding prim
 selected = refl
 
