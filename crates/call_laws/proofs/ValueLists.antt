@@ -112,7 +112,7 @@ spread_same (o ∷ r ∷ os) (p ∷ q ∷ ps) h =
 -- ---- where operands may stand
 
 module _ (ds : List Defined) where
-  takes_same : (t : GoType) (o p : Operand) → SameOperand o p → takes ds t o ≡ takes ds t p
+  pub takes_same : (t : GoType) (o p : Operand) → SameOperand o p → takes ds t o ≡ takes ds t p
   takes_same t (value w c) (value u d) h = fitting_sees_alike ds t w c d h.1 ∙ ap (λ w. fits ds t (w, d)) h.0
   takes_same t (value w c) (several xs) h = absurd (cc)
   takes_same t (value w c) (a_type u) h = absurd (cc)

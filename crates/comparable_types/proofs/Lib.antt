@@ -1,4 +1,4 @@
 pub mod NamesEnd
 pub mod FlagLaws
 pub mod KeyLaws
-mod GrownFlags
+pub mod GrownFlags

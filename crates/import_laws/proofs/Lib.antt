@@ -1,6 +1,6 @@
 pub mod GraphImports
-mod StepImports
+pub mod StepImports
 mod PlacesBound
-mod IdentifiersWith
+pub mod IdentifiersWith
 pub mod StepNames
 pub mod NamesNeeded

@@ -80,7 +80,7 @@ module _ (ps : List (Package At)) (w : Where At) (p : Place At) where
   abbrev listed : List (List ℕ) → ℕ → List ℕ → Option (List ℕ) → List Named
   listed bound q qs s = by_option bound q s ∷ named_packages ps w p (name_added (by_option bound q s) ++ bound) qs
 
-  fuel-grows : (bound : List (List ℕ)) (n : List ℕ) (k : ℕ) → fuel bound + suc k < 2 ^ 64 → fuel (n ∷ bound) + k < 2 ^ 64
+  pub fuel-grows : (bound : List (List ℕ)) (n : List ℕ) (k : ℕ) → fuel bound + suc k < 2 ^ 64 → fuel (n ∷ bound) + k < 2 ^ 64
   fuel-grows bound n k h =
       let ids : List (List ℕ) = identifiers w.source.tree in
       let blocks : List (List ℕ) = map (λ i. i.name) (names_here ps w).imports ++ (names_here ps w).«package» in

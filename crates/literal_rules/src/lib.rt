@@ -12,3 +12,4 @@ mod structs;
 
 pub use elements::{Element, Key};
 pub use literals::{built, built_inside, inner_type, key_type, literal_type};
+pub use sets::ConstSet;

@@ -87,7 +87,7 @@ impl IndexNumbers {
 
 /// Constants, each once.
 #[derive(Drop)]
-pub(crate) struct ConstSet {
+pub struct ConstSet {
     numbers: NumberSet,
     has_true: bool,
     has_false: bool,
@@ -107,7 +107,7 @@ impl Model for ConstSet {
 
 impl ConstSet {
     /// No constants.
-    pub(crate) fn new(alloc: Global) -> Self
+    pub fn new(alloc: Global) -> Self
         ensures { result ≡ [] }
     {
         ConstSet {
@@ -137,7 +137,7 @@ impl ConstSet {
     }
 
     /// Adds the constant, and says whether it is new.
-    pub(crate) fn add(&mut self, alloc: Global, constant: &Const) -> Result<bool, NoMemory>
+    pub fn add(&mut self, alloc: Global, constant: &Const) -> Result<bool, NoMemory>
         ensures is_new { IfOk result (λ b. b ≡ not (list_any (same_const constant.now) self.old)) }
         ensures added { OnOk result ((q : Const) → list_any (same_const q) self.new
             ≡ (same_const q constant.now || list_any (same_const q) self.old)) }

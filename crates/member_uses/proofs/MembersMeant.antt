@@ -139,7 +139,7 @@ module _ {S : Type 0} (ps : List (packages.Package S)) (w : Where S) (f : Names)
   no_import_by no_member = refl
   no_import_by (a_member q g d i) = refl
 
-  before_dot : (p : Place S) (q : List ℕ) (m : Option Entity) → outer_meaning ps w p q ≡ given m (target_of w) → qualifier ps w p q ≡ imported_package f.imports m
+  pub before_dot : (p : Place S) (q : List ℕ) (m : Option Entity) → outer_meaning ps w p q ≡ given m (target_of w) → qualifier ps w p q ≡ imported_package f.imports m
   before_dot p q None o = ap (λ (t : Option Target). given t (λ t. given (imported_by t) (import_number ps w))) o
   before_dot p q (Some (Local s)) o = ap (λ (t : Option Target). given t (λ t. given (imported_by t) (import_number ps w))) o
   before_dot p q (Some (Universe k)) o = ap (λ (t : Option Target). given t (λ t. given (imported_by t) (import_number ps w))) o

@@ -360,7 +360,7 @@ before_name k w text more next q rest e at_name d ds m =
     let here : IsNext (w ++ more) (token k) w more = subst (λ (v : List ℕ). IsNext v (token k) w more) next.parts next in
     next_two w (d ∷ ds) (token k) (letter_ends k w f.0 (f.1 ++ rest) (subst (λ (v : List ℕ). IsNext (w ++ v) (token k) w v) on here) f.3 d ds m)
 
-around : (ps : List Piece) (text : List ℕ) (at : ℕ) (due : Option ℕ) (place : ℕ) → CutsTo text ps [] → all_scalars text ≡ true → StartsName place (tokens_from at due ps) → (d : ℕ) (ds : List ℕ) → is_letter d ≡ true → are_apart (tokens_from at due ps) place (d ∷ ds) ≡ true
+pub around : (ps : List Piece) (text : List ℕ) (at : ℕ) (due : Option ℕ) (place : ℕ) → CutsTo text ps [] → all_scalars text ≡ true → StartsName place (tokens_from at due ps) → (d : ℕ) (ds : List ℕ) → is_letter d ≡ true → are_apart (tokens_from at due ps) place (d ∷ ds) ≡ true
 unfolding tokens_from
 around [] text at due place cut scalars h d ds m = at_the_end due place (d ∷ ds)
 around (p ∷ ps) text at due place cut scalars h d ds m =

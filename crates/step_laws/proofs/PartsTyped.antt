@@ -48,7 +48,7 @@ all-front : {A : Type 0} {P : A → Type 0} (xs ys : List A) → All P (xs ++ ys
 all-front [] ys a = all_of_none
 all-front (x ∷ xs) ys (all_and r rs) = all_and r (all-front xs ys rs)
 
-all-behind : {A : Type 0} {P : A → Type 0} (xs ys : List A) → All P (xs ++ ys) → All P ys
+pub all-behind : {A : Type 0} {P : A → Type 0} (xs ys : List A) → All P (xs ++ ys) → All P ys
 all-behind [] ys a = a
 all-behind (x ∷ xs) ys (all_and r rs) = all-behind xs ys rs
 

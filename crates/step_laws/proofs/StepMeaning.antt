@@ -42,7 +42,7 @@ module _ {S : Type 0} (same : S → S → Bool) (rs : List (run.Package S)) (z :
   number-among x zero m n (p ∷ ps) more = refl
   number-among x (suc k) m n (p ∷ ps) more = λ i. has_number x p || number-among x k m n ps more i
 
-  distinct-same : (k m n : ℕ) (ps more : List (Package S)) → are_distinct (ps ++ more) ≡ are_distinct (after k m n ps ++ more)
+  pub distinct-same : (k m n : ℕ) (ps more : List (Package S)) → are_distinct (ps ++ more) ≡ are_distinct (after k m n ps ++ more)
   distinct-same k m n [] more = refl
   distinct-same zero m n (p ∷ ps) more = refl
   distinct-same (suc k) m n (p ∷ ps) more = λ i. not (path-among p.path k m n ps more i || number-among p.source.number k m n ps more i) && distinct-same k m n ps more i

@@ -48,7 +48,7 @@ module _ (ms : List DeclaredMethod) where
     comparable_methods t = within_methods (suc (length (with_methods ms ds))) t ∙ ap (λ n. comparable_within (suc n) ds t) (length_methods ds)
 
     mutual
-      keys_methods : (t : GoType) → has_keys (with_methods ms ds) t ≡ has_keys ds t
+      pub keys_methods : (t : GoType) → has_keys (with_methods ms ds) t ≡ has_keys ds t
       keys_methods (basic k) = refl
       keys_methods (named_type p n) = refl
       keys_methods (pointer_to t) = keys_methods t
@@ -59,7 +59,7 @@ module _ (ms : List DeclaredMethod) where
       keys_methods (untyped k) = refl
       keys_methods untyped_nil = refl
 
-      fields_methods : (fs : GoFields) → fields_have_keys (with_methods ms ds) fs ≡ fields_have_keys ds fs
+      pub fields_methods : (fs : GoFields) → fields_have_keys (with_methods ms ds) fs ≡ fields_have_keys ds fs
       fields_methods no_go_fields = refl
       fields_methods (go_field _ _ t fs) = λ i. keys_methods t i && fields_methods fs i
 

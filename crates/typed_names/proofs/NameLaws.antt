@@ -15,7 +15,7 @@ use Rattle.universe_block.specs.Meanings.{entity_of}
 use Rattle.type_relations.specs.Environment as types
 use Rattle.typed_names.specs.declared.entities.Entity.{Entity}
 use Rattle.typed_names.specs.Known.{HasTypes, HaveTypes, AllHaveTypes}
-use Rattle.typed_names.specs.Meanings.{Names, block_at, entity_at, entity_option, names_at, blocks_from}
+use Rattle.typed_names.specs.Meanings.{Names, block_at, entity_at, entity_option, names_at, blocks_from, with_name, with_member}
 
 same_name : (a b : List ℕ) → bytes_eq a b ≡ true → a ≡ b
 same_name a b e = (bytes_eq-Decides a b).0 e
@@ -84,6 +84,20 @@ module _ {K E : Type 0} (items : K → List ℕ) where
       by false f false g true h r = ap (λ t. cond t (Some e.1) (means (names_of (set_in es k x)) q)) h
       by false f false g false h r =
           ap (λ t. cond t (Some e.1) (means (names_of (set_in es k x)) q)) h ∙ r ∙ ap (λ t. cond t (Some x) (means (names_of es) q)) g
+
+-- names after one is set
+pub named_anew :
+    {K : Type 0} (items : K → List ℕ) (k : K) (x : Entity) (es : List (K × Entity)) →
+    names_of items (set_in items es k x) ≡ with_name (names_of items es) (items k) x
+named_anew items k x [] = refl
+named_anew items k x (e ∷ es) = by (bytes_eq (items k) (items e.0)) (named_anew items k x es)
+  where
+    by :
+        (t : Bool) → names_of items (set_in items es k x) ≡ with_name (names_of items es) (items k) x →
+        names_of items (cond t ((e.0, x) ∷ es) (e ∷ set_in items es k x))
+        ≡ cond t ((items e.0, x) ∷ names_of items es) ((items e.0, e.1) ∷ with_name (names_of items es) (items k) x)
+    by true r = refl
+    by false r = ap (λ ns. (items e.0, e.1) ∷ ns) r
 
 -- ---- names read through the tables
 
@@ -204,3 +218,19 @@ pub types_set_at :
 types_set_at (Ok v) bs p b new x l f k =
     λ e h a. types_put e bs p new a (k e h (subst (HaveTypes e) (sym f) (types_at e bs p b l a)))
 types_set_at (Err v) bs p b new x l f k = tt
+
+-- a block is that of a place in the list
+block_of_place : (bs : List Names) (p : ℕ) (b : Names) → p < length bs → b ≡ get_or bs p b → b ≡ block_at bs p
+block_of_place [] p b l f = absurd (omega (arith, l))
+block_of_place (x ∷ xs) zero b l f = f
+block_of_place (x ∷ xs) (suc p) b l f = block_of_place xs p b (omega (arith, l)) f
+
+-- the package blocks are those with the member
+pub members_set_at :
+    {A E : Type 0} (r : Result A E) (bs : List Names) (p : ℕ) (b new : Names) (q : List ℕ) (x : Entity) → p < length bs →
+    b ≡ get_or bs p b →
+    OnOk r (new ≡ with_name b q x) →
+    OnOk r (slice_set bs p new ≡ with_member bs p q x)
+members_set_at (Ok v) bs p b new q x l f k =
+    ap (slice_set bs p) (k ∙ ap (λ b. with_name b q x) (block_of_place bs p b l f))
+members_set_at (Err v) bs p b new q x l f k = tt

@@ -1,6 +1,6 @@
 -- What names mean, read through the tables of types and constants (Go specification, Declarations and scope; Package
 -- block; Predeclared identifiers).
-use Rattle.std.specs.Prelude.{ℕ, suc, List, [], ◌∷◌, map, Option, Some, None, slice_index_or}
+use Rattle.std.specs.Prelude.{ℕ, suc, List, [], ◌∷◌, map, Option, Some, None, slice_index_or, slice_set, bytes_eq, if◌then◌else◌}
 use Rattle.const_eval.specs.declared.consts.Const.{Const}
 use Rattle.scope_names.specs.Means as scope
 use Rattle.go_types.specs.Types.{GoType, tuple_of, GoTypes, no_go_types, go_type, FuncType}
@@ -29,6 +29,15 @@ Names = scope.Environment Entity
 -- the names of a package block
 abbrev pub block_at : List Names → ℕ → Names
 block_at bs p = slice_index_or bs p []
+
+-- names of which one means something else, in its place or behind all others
+abbrev pub with_name : Names → List ℕ → Entity → Names
+with_name [] q x = (q, x) ∷ []
+with_name (b ∷ bs) q x = if bytes_eq q b.0 then (b.0, x) ∷ bs else b ∷ with_name bs q x
+
+-- package blocks, in one of which a name means something else
+abbrev pub with_member : List Names → ℕ → List ℕ → Entity → List Names
+with_member bs p q x = slice_set bs p (with_name (block_at bs p) q x)
 
 -- types are read in an environment, constants in a list
 module _ (e : Environment) (cs : List Const) where

@@ -6,7 +6,7 @@ ghost use Rattle.go_types.specs.Entities as go;
 ghost use Rattle.scope_names.specs.Means.{means};
 ghost use Rattle.type_relations.specs.Environment.{Environment};
 ghost use Rattle.typed_names.specs.Known.{AllHaveTypes, HasTypes, HaveTypes};
-ghost use Rattle.typed_names.specs.Meanings.{block_at, entity_option, world_at};
+ghost use Rattle.typed_names.specs.Meanings.{block_at, entity_option, with_member, with_name, world_at};
 
 use crate::entities::Entity;
 use exported_names::is_exported;
@@ -51,6 +51,7 @@ impl Block {
     pub fn set(&mut self, name: Vec<u8>, entity: Entity) -> Result<(), NoMemory>
         ensures set { OnOk result ((q : List ℕ)
             → means self.new q ≡ (if bytes_eq name.items q then Some entity else means self.old q)) }
+        ensures names { OnOk result (self.new ≡ with_name self.old name.items entity) }
         ensures typed { OnOk result ((e : Environment)
             → HasTypes e entity → HaveTypes e self.old → HaveTypes e self.new) }
         ensures same { OnErr result (self.new ≡ self.old) }
@@ -106,6 +107,7 @@ impl Blocks {
         requires { number < length self.old }
         ensures set { OnOk result ((p : ℕ) (q : List ℕ) → means (block_at self.new p) q
             ≡ (if nat_eq p number && bytes_eq name.items q then Some entity else means (block_at self.old p) q)) }
+        ensures names { OnOk result (self.new ≡ with_member self.old number name.items entity) }
         ensures typed { OnOk result ((e : Environment)
             → HasTypes e entity → AllHaveTypes e self.old → AllHaveTypes e self.new) }
         ensures count { length self.new ≡ length self.old }

@@ -1,7 +1,7 @@
 use Rattle.std.proofs.Common.{◌∙◌, ap, subst, sym}
 use Rattle.scope_names.specs.Means.{means}
 use Rattle.typed_names.specs.Known.{HaveTypes}
-use Rattle.typed_names.proofs.NameLaws.{names_of, name_set, types_set}
+use Rattle.typed_names.proofs.NameLaws.{names_of, name_set, named_anew, types_set}
 use Rattle.typed_names.proofs.blocks.Block.set.Goals as goal
 
 pub returns-clause-set : goal.returns-clause-set
@@ -17,3 +17,9 @@ returns-clause-typed c =
     (λ e g h.
     subst (λ es. HaveTypes e (names_of (λ k. k.items) es)) (sym c.in_ok-insert.ensures.entries)
     (types_set e (λ k. k.items) c.args.name c.args.entity c.self.inside.entries.entries g h))
+
+pub returns-clause-names : goal.returns-clause-names
+returns-clause-names c =
+    rw (← c.self.view_is)
+    (ap (names_of (λ k. k.items)) c.in_ok-insert.ensures.entries
+    ∙ named_anew (λ k. k.items) c.args.name c.args.entity c.self.inside.entries.entries)
