@@ -109,7 +109,6 @@ module _ (marks : List MarkRef) (st : Standing) (l : Logged) (after : Standing) 
     uses = named-used marks st l after n over.old over.part all;
     old = over.old;
     part = over.part;
-    starts = over.starts;
     few = over.few;
     removes = over.removes;
   }

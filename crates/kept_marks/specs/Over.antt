@@ -9,15 +9,13 @@ use Rattle.run_rules.specs.Steps.{At}
 use Rattle.run_rules.specs.Run.{Standing, Logged, Next}
 use Rattle.kept_imports.specs.Files.{RemovesNoNames}
 use Rattle.order_cycles.specs.NewNames.{FewNames}
-use Rattle.settled_constants.specs.Programs.{StartsWithPackage}
 
--- The use is an expression; no parenthesis stands around the name of a package in it. The names to avoid are fewer than
--- 2^64, no import that goes has the name of an identifier, and no package is named `_` in the form.
+-- The use is an expression. The names to avoid are fewer than 2^64, no import that goes has the name of an identifier,
+-- and no package is named `_` in the form.
 pub record IsOverName {marks : List MarkRef} {st : Standing} {l : Logged} {after : Standing} (n : Next marks st l after)
     : Type 0 where
   pub old : Expr At
   pub part : n.found.site.part ≡ an_expr old
-  pub starts : StartsWithPackage n
   pub few : FewNames st.packages n.found
   pub removes : RemovesNoNames n
   pub spelled : (k : ℕ) → is_blank (names_by n.found.named k) ≡ false

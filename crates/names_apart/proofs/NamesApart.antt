@@ -65,7 +65,7 @@ too_long : (w : List ℕ) (c : ℕ) → length (w ++ c ∷ []) ≤ length w → 
 too_long [] c h = absurd (omega (arith, h))
 too_long (d ∷ w) c h = too_long w c (omega (arith, h))
 
-scalars_parts : (xs ys : List ℕ) → all_scalars (xs ++ ys) ≡ true → (all_scalars xs ≡ true) × (all_scalars ys ≡ true)
+pub scalars_parts : (xs ys : List ℕ) → all_scalars (xs ++ ys) ≡ true → (all_scalars xs ≡ true) × (all_scalars ys ≡ true)
 scalars_parts [] ys h = (refl, h)
 scalars_parts (c ∷ xs) ys h =
     let p = and_parts (lib.Utf8.scalar c) (all_scalars (xs ++ ys)) h in
@@ -85,32 +85,32 @@ star_letter : is_letter 42 ≡ false
 unfolding is_letter general_category general_category_rows value_in
 star_letter = refl
 
-dot_letter : is_letter 46 ≡ false
+pub dot_letter : is_letter 46 ≡ false
 unfolding is_letter general_category general_category_rows value_in
 dot_letter = refl
 
 -- a letter is none of these
-no_letter : (c n : ℕ) → is_letter n ≡ false → is_letter c ≡ true → c == n ≡ false
+pub no_letter : (c n : ℕ) → is_letter n ≡ false → is_letter c ≡ true → c == n ≡ false
 no_letter c n off l = by_test (c == n) refl
   where
     by_test : (b : Bool) → c == n ≡ b → c == n ≡ false
     by_test true e = clash (is_letter n) (subst (λ (m : ℕ). is_letter m ≡ true) (same_number c n e) l) off
     by_test false e = e
 
-abbrev is_number : PieceKind → Bool
+abbrev pub is_number : PieceKind → Bool
 is_number (token Integer) = true
 is_number (token Float) = true
 is_number (token Imaginary) = true
 is_number _ = false
 
 -- the automaton reads no letter behind a whole operator, rune or string
-abbrev letters_dead : ℕ → Bool
+abbrev pub letters_dead : ℕ → Bool
 letters_dead s = below 128 (λ c. not (ascii_letter c) || nat_eq (next_of s c) DEAD) && nat_eq (next_of s 128) DEAD
 
-abbrev letter_stops : ℕ → Bool
+abbrev pub letter_stops : ℕ → Bool
 letter_stops s = is_number (kind_in s) || (is_remark_kind (kind_in s) || letters_dead s)
 
-letters_checked : below 28 (λ s. nat_lt s 2 || letter_stops s) ≡ true
+pub letters_checked : below 28 (λ s. nat_lt s 2 || letter_stops s) ≡ true
 unfolding below next_of
 letters_checked = refl
 
@@ -119,7 +119,7 @@ unfolding next_of
 past_ascii s c true far mark = rw (far, mark) refl
 past_ascii s c false far mark = rw (far, mark) refl
 
-dead_letter : (s c : ℕ) → letters_dead s ≡ true → is_letter c ≡ true → nat_eq (next_of s c) DEAD ≡ true
+pub dead_letter : (s c : ℕ) → letters_dead s ≡ true → is_letter c ≡ true → nat_eq (next_of s c) DEAD ≡ true
 dead_letter s c h l = by_ascii (nat_lt c 128) refl
   where
     p : (below 128 (λ c. not (ascii_letter c) || nat_eq (next_of s c) DEAD) ≡ true) × (nat_eq (next_of s 128) DEAD ≡ true)
@@ -156,7 +156,7 @@ number_alone Str w c more q h e = absurd cc
 number_alone Inserted w c more q h e = absurd cc
 
 -- a letter may follow any other
-letter_follows : (k : TokenKind) (w : List ℕ) (d : ℕ) (others : List ℕ) → (is_number (token k) ≡ true → ⊥) → is_letter d ≡ true → may_precede (token k) w (d ∷ others) ≡ true
+pub letter_follows : (k : TokenKind) (w : List ℕ) (d : ℕ) (others : List ℕ) → (is_number (token k) ≡ true → ⊥) → is_letter d ≡ true → may_precede (token k) w (d ∷ others) ≡ true
 letter_follows Ident w d others off l = refl
 letter_follows Keyword w d others off l = refl
 letter_follows Integer w d others off l = absurd (off refl)
@@ -216,7 +216,7 @@ letter_ends k (x ∷ xs) c more next l d others m = by_sort (sort_of (token k) x
         next_lexeme (token k) x xs (d ∷ others) b y next.spelled dead (letter_follows k (x ∷ xs) d others no_number m)
 
 -- it is the first piece where the two stand side by side
-next_two : (w rest : List ℕ) (k : PieceKind) → IsNext (w ++ rest) k w rest → are_two w rest ≡ true
+pub next_two : (w rest : List ℕ) (k : PieceKind) → IsNext (w ++ rest) k w rest → are_two w rest ≡ true
 unfolding are_two
 next_two w rest k next = by_answer (piece_of (w ++ rest)) (piece_exact (w ++ rest))
   where
@@ -238,7 +238,7 @@ elsewhere true b c e = refl
 elsewhere false true c e = absurd cc
 elsewhere false false c e = refl
 
-here_apart : (a b c e f : Bool) → c ≡ true → f ≡ false → a || (not b || (c && not (e && f))) ≡ true
+pub here_apart : (a b c e f : Bool) → c ≡ true → f ≡ false → a || (not b || (c && not (e && f))) ≡ true
 here_apart true b c e f x y = refl
 here_apart false false c e f x y = refl
 here_apart false true true true true x y = absurd cc
@@ -246,7 +246,7 @@ here_apart false true true true false x y = refl
 here_apart false true true false f x y = refl
 here_apart false true false e f x y = absurd cc
 
-token_elsewhere : (k : TokenKind) (w : List ℕ) (at place : ℕ) (next : List ℕ) → nat_eq (at + size_of w) place ≡ false → stays_apart place next (record { span = span_of at w; kind = k; spelling = encode_utf8_all w }) ≡ true
+pub token_elsewhere : (k : TokenKind) (w : List ℕ) (at place : ℕ) (next : List ℕ) → nat_eq (at + size_of w) place ≡ false → stays_apart place next (record { span = span_of at w; kind = k; spelling = encode_utf8_all w }) ≡ true
 unfolding stays_apart
 token_elsewhere k w at place next e =
     elsewhere (is_inserted k) (nat_eq (at + size_of w) place) (are_two (chars (encode_utf8_all w)) next && not (is_open k (encode_utf8_all w) && begins_with_dot next)) e
@@ -263,17 +263,17 @@ unfolding stays_apart
 with_inserted None ts place next h = h
 with_inserted (Some n) ts place next h = h
 
-with_line : (b : Bool) (due : Option ℕ) (ts : List Token) (place : ℕ) (next : List ℕ) → are_apart ts place next ≡ true → are_apart ((if b then inserted due else []) ++ ts) place next ≡ true
+pub with_line : (b : Bool) (due : Option ℕ) (ts : List Token) (place : ℕ) (next : List ℕ) → are_apart ts place next ≡ true → are_apart ((if b then inserted due else []) ++ ts) place next ≡ true
 with_line true due ts place next h = with_inserted due ts place next h
 with_line false due ts place next h = h
 
-at_the_end : (due : Option ℕ) (place : ℕ) (next : List ℕ) → are_apart (inserted due) place next ≡ true
+pub at_the_end : (due : Option ℕ) (place : ℕ) (next : List ℕ) → are_apart (inserted due) place next ≡ true
 unfolding stays_apart
 at_the_end None place next = refl
 at_the_end (Some n) place next = refl
 
 -- pieces behind a place
-behind : (ps : List Piece) (at : ℕ) (due : Option ℕ) (place : ℕ) (next : List ℕ) → place < at → are_apart (tokens_from at due ps) place next ≡ true
+pub behind : (ps : List Piece) (at : ℕ) (due : Option ℕ) (place : ℕ) (next : List ℕ) → place < at → are_apart (tokens_from at due ps) place next ≡ true
 unfolding tokens_from
 behind [] at due place next lt = at_the_end due place next
 behind (p ∷ ps) at due place next lt = by_kind p.kind p.word (behind ps (at + size_of p.word) (due_after at due p.kind p.word) place next (omega (arith, lt)))
@@ -289,7 +289,7 @@ behind (p ∷ ps) at due place next lt = by_kind p.kind p.word (behind ps (at + 
 -- ---- where the identifier stands
 
 -- a piece has a byte at least
-has_bytes : (k : PieceKind) (w : List ℕ) → IsPiece k w → 0 < size_of w
+pub has_bytes : (k : PieceKind) (w : List ℕ) → IsPiece k w → 0 < size_of w
 has_bytes k [] piece = absurd (never_empty k piece)
 has_bytes k (c ∷ cs) piece = let sizes = length-append (encode_utf8 c) (encode_utf8_all cs) in let first = length-encode c in let some = width c in omega (arith, sizes, first, some)
   where
@@ -348,7 +348,7 @@ ahead (p ∷ ps) text at due place cut h = by_kind p.kind refl (λ k. ahead ps c
     by_kind (token k) e on (later_token h) = inr (by_view (on h))
 
 -- the first letter of an identifier
-first_letter : (w : List ℕ) → IsPiece (token Ident) w → (c : ℕ) × (cs : List ℕ) × (w ≡ c ∷ cs) × (is_letter c ≡ true)
+pub first_letter : (w : List ℕ) → IsPiece (token Ident) w → (c : ℕ) × (cs : List ℕ) × (w ≡ c ∷ cs) × (is_letter c ≡ true)
 first_letter [] piece = absurd (never_empty (token Ident) piece)
 first_letter (c ∷ cs) piece = (c, cs, refl, (and_parts (is_letter c) (each is_word cs) piece.0).0)
 
@@ -400,7 +400,7 @@ around (p ∷ ps) text at due place cut scalars h d ds m =
 
 -- ---- texts
 
-unmarked_scalars : (cs : List ℕ) → all_scalars cs ≡ true → all_scalars (after_mark cs) ≡ true
+pub unmarked_scalars : (cs : List ℕ) → all_scalars cs ≡ true → all_scalars (after_mark cs) ≡ true
 unmarked_scalars [] h = h
 unmarked_scalars (c ∷ cs) h = by_mark (c == byte_order_mark)
   where

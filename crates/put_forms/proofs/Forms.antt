@@ -40,7 +40,7 @@ use Rattle.standing_uses.proofs.Named.{constant_named}
 use Rattle.standing_uses.proofs.Once.{name_there}
 use Rattle.next_programs.specs.Made.{PutsForm}
 use Rattle.put_nodes.specs.Put as put
-use Rattle.put_nodes.specs.Put.{FormIsPut, BeginsWithName}
+use Rattle.put_nodes.specs.Put.{FormIsPut, IsSomeName}
 use Rattle.put_nodes.specs.SpelledNames.{AreNames}
 use Rattle.put_nodes.specs.Swapped.{IsOldName, old_name, IsSwapped}
 use Rattle.put_nodes.proofs.NamesPut.{swapped_put}
@@ -98,9 +98,9 @@ module _ (scoped : WellTypedFilesAreScoped) (marks : List MarkRef) (st : Standin
   is_name : IsName x.place c.expr
   is_name = (constant_named st.packages marks x.at c.name c.value x.place c.expr x.mark c.declared (its_seat.is_use c.expr c.part)).0
 
-  begins_with : (e : Expr At) → x.part ≡ an_expr e → IsName x.place e → BeginsWithName here_of old.tokens e
-  begins_with _ part (parts.alone s m h) = put.alone
-  begins_with _ part (parts.behind s z q m) = put.qualified (c.starts s z q m part)
+  some_name : (e : Expr At) → IsName x.place e → IsSomeName e
+  some_name _ (parts.alone s m h) = put.alone
+  some_name _ (parts.behind s z q m) = put.qualified
 
   is_seen : Among (seen x.place x.use_ c.expr) (decl_seen st.packages x.at.number x.at.of x.at.source.tree its_place.decl)
   is_seen = its_seat.is_seen c.expr c.part its_place.decl its_place.decl_is
@@ -180,7 +180,7 @@ module _ (scoped : WellTypedFilesAreScoped) (marks : List MarkRef) (st : Standin
   is_put =
       subst (λ (f : Form At). IsPutIn (here_of u.range) f) (sym becomes.form_is)
       (subst (λ (s : Span). IsPutIn s (as_expr becomes.new)) span_is
-      (swapped_put here_of old (file_found u) reads undotted (HasDecls (as_expr becomes.new)) u.range x.place x.use_ c.expr becomes.new swapped (begins_with c.expr c.part is_name) becomes.is_name))
+      (swapped_put here_of old (file_found u) reads undotted (HasDecls (as_expr becomes.new)) u.range x.place x.use_ c.expr becomes.new swapped (some_name c.expr is_name) becomes.is_name))
 
   pub puts_form : PutsForm st u old
   puts_form = record {

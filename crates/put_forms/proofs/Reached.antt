@@ -69,7 +69,6 @@ made_stay scoped marks st f old new tree ready is c n removes typed =
       };
       old = its_use.expr;
       part = its_use.part;
-      starts = its_use.starts;
       few = its_use.few;
       removes = removes;
     }

@@ -1,14 +1,13 @@
 -- A use that a run takes next (Go specification, Constant declarations; Qualified identifiers; Declarations and scope).
 use Rattle.std.specs.Prelude.{◌≡◌, ◌<◌, ℕ, List, Some, length}
-use Rattle.go_tree.specs.Tree.{NameAt, Expr, ident, selector}
+use Rattle.go_tree.specs.Tree.{NameAt, Expr}
 use Rattle.constant_forms.specs.declared.uses.ConstantValue.{ConstantValue}
 use Rattle.constant_forms.specs.declared.uses.ConstantValue.TheVariants.{Plain, Qualified}
-use Rattle.names_apart.specs.Starts.{StartsName}
 use Rattle.pkg_graph.specs.Package.{Package}
 use Rattle.order_cycles.specs.NewNames.{FewNames}
 use Rattle.put_names.specs.Uses.{IsDeclaredAsName}
 use Rattle.run_rules.specs.Marks.{text_at}
-use Rattle.run_rules.specs.Run.{Standing, here_of, step_in}
+use Rattle.run_rules.specs.Run.{Standing, step_in}
 use Rattle.run_rules.specs.Sites.{MarkRef, Where, a_constant, an_expr, where_is, inlinable}
 use Rattle.run_rules.specs.Steps.{At, Found}
 use Rattle.run_rules.specs.Texts.{FileText}
@@ -18,8 +17,7 @@ pub record IsFirstUse (marks : List MarkRef) (st : Standing) (f : Found At) (old
   pub is_first : step_in marks st ≡ Some f
   pub there : text_at f.site.at.source.path st.texts ≡ Some old
 
--- It is an expression that uses a constant which is declared as a name. Where it has the name of a package before it,
--- its text begins with that: no parenthesis stands around it. The names to avoid are fewer than 2^64.
+-- It is an expression that uses a constant which is declared as a name. The names to avoid are fewer than 2^64.
 pub record UsesNamedConstant (st : Standing) (f : Found At) (old : FileText) : Type 0 where
   pub home : Where At
   pub home_is : where_is st.packages f.site.mark ≡ Some home
@@ -29,9 +27,6 @@ pub record UsesNamedConstant (st : Standing) (f : Found At) (old : FileText) : T
   pub as_name : IsDeclaredAsName st.packages home value
   pub expr : Expr At
   pub part : f.site.part ≡ an_expr expr
-  pub starts :
-      (s z : At) (q : List ℕ) (m : NameAt At) → f.site.part ≡ an_expr (selector s (ident z q) m)
-      → StartsName (here_of s).start old.tokens
   pub few : FewNames st.packages f
 
 -- where a constant is declared as a name of another package, that is one of these

@@ -101,7 +101,7 @@ module _ (marks : List MarkRef) (st : Standing) (l : Logged) (after : Standing) 
         subst (λ (f : Form At). FormIsPut n.old (file_found n.found) n.found.range (here_of n.found.range) n.found.site.place.slot f) (sym becomes.form_is)
         (subst (λ (s : Span). FormIsPut n.old (file_found n.found) n.found.range s n.found.site.place.slot (as_expr becomes.new)) span_is
         (name_put here_of n.old (file_found n.found) file_reads undotted n.found.range n.found.site.place n.found.site.use_ used.old becomes.new swapped
-        (no_old_name local (use_seated.is_use used.old used.part)) used.begins becomes.is_name))
+        (no_old_name local (use_seated.is_use used.old used.part)) used.is_name becomes.is_name))
 
     puts_node : FormIsPut n.old (file_found n.found) n.found.range (here_of n.found.range) n.found.site.place.slot n.found.form → PutsNode n
     puts_node f = record { swap = f.swap; new = f.new; indent = f.indent; dotted = f.dotted; wrapped = f.wrapped; blank = f.blank; edit_is = f.edit_is; put = f.put }

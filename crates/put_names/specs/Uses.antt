@@ -6,12 +6,12 @@ use Rattle.go_tree.specs.File.{Decl}
 use Rattle.pkg_graph.specs.Package.{Package}
 use Rattle.run_rules.specs.FormTrees.{as_expr}
 use Rattle.run_rules.specs.Programs.{top_place, decl_seen}
-use Rattle.run_rules.specs.Run.{Standing, Logged, Next, here_of}
+use Rattle.run_rules.specs.Run.{Standing, Logged, Next}
 use Rattle.run_rules.specs.Sites.{MarkRef, Where, an_expr, a_constant, an_alias, part_span, where_is, inlinable, qualifier}
 use Rattle.run_rules.specs.Steps.{At}
 use Rattle.place_meanings.specs.Parts.{AllScoped}
 use Rattle.put_nodes.specs.SpelledNames.{IsNameExpr}
-use Rattle.put_nodes.specs.Put.{BeginsWithName}
+use Rattle.put_nodes.specs.Put.{IsSomeName}
 
 -- the constant is declared as a name, or as one with the name of a package before it that the file imports
 pub data IsDeclaredAsName (ps : List (Package At)) (home : Where At) : Expr At → Type 0 where
@@ -27,11 +27,11 @@ module _ {marks : List MarkRef} {st : Standing} {l : Logged} {after : Standing} 
       (d : Decl At) → slice_get n.found.site.at.source.tree.decls n.found.site.decl ≡ Some d
       → AllScoped (decl_seen st.packages n.found.site.at.number n.found.site.at.of n.found.site.at.source.tree d)
 
-  -- The use is a name, whose text begins with it.
+  -- The use is a name.
   pub record IsUsedByName : Type 0 where
     pub old : Expr At
     pub part : n.found.site.part ≡ an_expr old
-    pub begins : BeginsWithName here_of n.old.tokens old
+    pub is_name : IsSomeName old
 
   -- It becomes a name.
   pub record BecomesName : Type 0 where

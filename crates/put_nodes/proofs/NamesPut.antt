@@ -1,5 +1,5 @@
 -- A name is put in the place of a name.
-use Rattle.std.proofs.Common.{◌≡◌, ◌≤◌, ℕ, Bool, true, false, inr, List, ◌∷◌, ◌++◌, drop, refl, sym, ap, subst, ◌∙◌, arith}
+use Rattle.std.proofs.Common.{◌≡◌, ◌≤◌, ℕ, Bool, true, false, inr, List, ◌∷◌, ◌++◌, drop, Option, Some, refl, sym, ap, subst, ◌∙◌, arith}
 use Rattle.std.specs.Str.{chars}
 use Rattle.go_tree.specs.declared.spans.Span.{Span}
 use Rattle.go_tree.specs.declared.tokens.Token.{Token}
@@ -20,7 +20,7 @@ use Rattle.run_rules.specs.Surroundings.{Use, Slot, Place}
 use Rattle.run_rules.specs.FormTrees.{as_expr}
 use Rattle.run_rules.specs.Inlining.{ReadsAs}
 use Rattle.run_rules.specs.Respanned.{expr_with}
-use Rattle.run_rules.specs.Texts.{FileText, indent_at}
+use Rattle.run_rules.specs.Texts.{FileText, indent_at, spelling_before, first_spelling, needs_blank}
 use Rattle.splice_laws.specs.Dots.{UndottedFile}
 use Rattle.splice_laws.specs.Fits.{expr_mark, swap_mark}
 use Rattle.splice_laws.specs.Forms.{new_layout, AsksOld, FormedNew}
@@ -30,17 +30,12 @@ use Rattle.splice_laws.specs.Splice.{are_apart, first_word, splice}
 use Rattle.splice_laws.specs.Swaps.{Swap, an_operand, a_callee, FileIn}
 use Rattle.splice_laws.proofs.Files.{replaced}
 use Rattle.splice_laws.proofs.Rises.{tokens_rise}
-use Rattle.names_apart.specs.Starts.{StartsName}
 use Rattle.put_nodes.specs.SpelledNames.{IsNameExpr, a_name_alone, a_qualified_name}
-use Rattle.put_nodes.specs.Put.{FormIsPut, BeginsWithName, alone, qualified}
+use Rattle.put_nodes.specs.Put.{FormIsPut, IsSomeName, alone, qualified}
 use Rattle.put_nodes.specs.Swapped.{StandsAs, as_operand, as_callee, as_deferred, IsOldName, IsSwapped, MayBeSwapped, is_old, is_node}
-use Rattle.names_apart.proofs.NamesApart.{names_apart, starts_name}
+use Rattle.forms_apart.proofs.Apart.{name_apart}
 use Rattle.names_apart.proofs.NoDots.{callee_undotted}
 use Rattle.put_nodes.proofs.NamesLaid.{layout_of, first_name, first_is_name, first_laid, form_is, formed_name, new_is, callee_is, parted, edit_of, indent_spaces}
-
--- the token of a name
-ident_first : {m : ℕ} {j : Bool} {z : Span} {n : List ℕ} {ts r : Lexemes} → SpellsBare span_to m j (ident z n) ts r → (s : Span) × (more : Lexemes) × (ts ≡ lex s (terminal.ident n) ∷ more)
-ident_first (ident_rule {s = s} {r = r}) = (s, r, refl)
 
 module _ {A : Type 0} (to : A → Span) where
   span_with : (e : Expr A) → expr_mark (expr_with to e) ≡ to (expr_span e)
@@ -63,28 +58,16 @@ module _ {A : Type 0} (to : A → Span) where
   never_integer (a_name_alone x) h = refl
   never_integer (a_qualified_name x y) h = refl
 
-  no_call : {tokens : List Token} {e : Expr A} → BeginsWithName to tokens e → is_call (expr_with to e) ≡ true → ⊥
+  no_call : {e : Expr A} → IsSomeName e → is_call (expr_with to e) ≡ true → ⊥
   no_call alone q = cc
-  no_call (qualified x) q = cc
+  no_call qualified q = cc
+
+  -- the first token that is written
+  first_spelled : {e : Expr A} → IsNameExpr e → first_spelling (layout_of e) ≡ Some (first_name e)
+  first_spelled (a_name_alone x) = refl
+  first_spelled (a_qualified_name x y) = refl
 
 module _ {A : Type 0} (to : A → Span) (t : FileText) (file : File Span) (reads : ReadsAs t file) (undotted : UndottedFile (bare_file file)) where
-  by_first : {w : Swap Span} {are : Lexemes → Type 0} {m : ℕ} {j : Bool} {z : Span} {n : List ℕ} → (r : Replaced span_to w (lexemes t.tokens) are) → SpellsBare span_to m j (ident z n) (r.node ++ r.rest) r.rest → StartsName (swap_mark w).start t.tokens
-  by_first {n = n} r d =
-      let x = ident_first d in
-      subst (λ (at : ℕ). StartsName at t.tokens) (sym (ap (λ (y : Span). y.start) r.marked ∙ ap start_of x.2))
-      (starts_name t.tokens r.front x.1 x.0 n (r.tokens ∙ ap (λ (ts : Lexemes). r.front ++ ts) x.2))
-
-  -- the text of the old name begins with an identifier
-  operand_starts : {old : Expr A} (l : ℕ) (h : Bool) (f : Expr Span) (g : File Span) → BeginsWithName to t.tokens old → FileIn (an_operand l h (expr_with to old) f) file g → StartsName (to (expr_span old)).start t.tokens
-  operand_starts l h f g (qualified there) into = there
-  operand_starts l h f g (alone {s = s} {n = n}) into =
-      let r = replaced (an_operand l h (ident (to s) n) f) file g (lexemes t.tokens) reads.spells (tokens_rise t.text t.tokens t.comments reads.scans) into in by_first r r.old.4
-
-  callee_starts : {old : Expr A} (h : Bool) (f : Expr Span) (g : File Span) → BeginsWithName to t.tokens old → FileIn (a_callee h (expr_with to old) f) file g → StartsName (to (expr_span old)).start t.tokens
-  callee_starts h f g (qualified there) into = there
-  callee_starts h f g (alone {s = s} {n = n}) into =
-      let r = replaced (a_callee h (ident (to s) n) f) file g (lexemes t.tokens) reads.spells (tokens_rise t.text t.tokens t.comments reads.scans) into in by_first r r.old.4
-
   -- `Whole` is what is known of the file with the new name in it
   module _ (Whole : File Span → Type 0) (z : A) (s : Slot) (old new : Expr A) (is : IsNameExpr new) where
     abbrev range : Span
@@ -94,8 +77,8 @@ module _ {A : Type 0} (to : A → Span) (t : FileText) (file : File Span) (reads
     indent = indent_at t.text range.start
 
     placed_put : (w : Swap Span) (g : File Span) → Whole g → (dotted : Bool) → s.level ≤ 7 → swap_mark w ≡ range → new_layout indent dotted false w ≡ layout_of new → FileIn w file g → AsksOld w → FormedNew dotted w
-        → (dotted ≡ false → begins_with_dot (drop (swap_mark w).end t.text) ≡ false) → StartsName range.start t.tokens → (r : FormIsPut t file z range s (as_expr new)) × Whole r.new
-    placed_put w g whole dotted most mark laid into asks formed off starts = (
+        → (dotted ≡ false → begins_with_dot (drop (swap_mark w).end t.text) ≡ false) → (r : FormIsPut t file z range s (as_expr new)) × Whole r.new
+    placed_put w g whole dotted most mark laid into asks formed off = (
       record {
         new = g;
         swap = w;
@@ -119,7 +102,8 @@ module _ {A : Type 0} (to : A → Span) (t : FileText) (file : File Span) (reads
               subst (λ (a : Layout). are_apart t.tokens (swap_mark w).start (first_word a) ≡ true) (sym laid)
               (subst (λ (v : List ℕ). are_apart t.tokens (swap_mark w).start v ≡ true) (sym (first_laid is))
               (subst (λ (y : Span). are_apart t.tokens y.start (chars (first_name new)) ≡ true) (sym mark)
-              (names_apart t.text t.tokens t.comments reads.scans range.start starts (first_name new) (first_is_name is))));
+              (name_apart t.text t.tokens t.comments file reads.scans reads.spells range.start (first_name new) (first_is_name is)
+              (subst (λ (o : Option (List ℕ)). needs_blank (spelling_before range.start t.tokens) o ≡ false) (ap first_spelling (form_is is z indent s most) ∙ first_spelled to is) e))));
         };
       },
       whole,
@@ -129,7 +113,7 @@ module _ {A : Type 0} (to : A → Span) (t : FileText) (file : File Span) (reads
   Holds Whole w = (g : File Span) × FileIn w file g × Whole g
 
   -- it is put so where the old name is swapped for it
-  pub swapped_put : (Whole : File Span → Type 0) (z : A) (p : Place A) (u : Use) (old new : Expr A) → IsSwapped to (Holds Whole) p u old (expr_with to new) → BeginsWithName to t.tokens old → IsNameExpr new
+  pub swapped_put : (Whole : File Span → Type 0) (z : A) (p : Place A) (u : Use) (old new : Expr A) → IsSwapped to (Holds Whole) p u old (expr_with to new) → IsSomeName old → IsNameExpr new
       → (r : FormIsPut t file z (to (expr_span old)) p.slot (as_expr new)) × Whole r.new
   swapped_put Whole z p u old new y begins is = by y.stands y.whole
     where
@@ -138,17 +122,15 @@ module _ {A : Type 0} (to : A → Span) (t : FileText) (file : File Span) (reads
           let dotted : Bool = begins_with_dot (drop (expr_mark (expr_with to old)).end t.text) in
           placed_put Whole z p.slot old new is (an_operand l h (expr_with to old) (expr_with to new)) v.0 v.2 dotted (subst (λ (n : ℕ). n ≤ 7) (sym level) most) (span_with to old)
           (new_is to is (expr_with to old) (indent_at t.text (to (expr_span old)).start) l h dotted most) v.1 tt (formed_name to is, λ q. inr (never_integer to is h)) (λ e. e)
-          (operand_starts l h (expr_with to new) v.0 begins v.1)
       by (as_callee {h = h} e slot header) v =
           placed_put Whole z p.slot old new is (a_callee h (expr_with to old) (expr_with to new)) v.0 v.2 false (subst (λ (n : ℕ). n ≤ 7) (sym (ap (λ (y : Slot). y.level) slot)) seven) (span_with to old)
           (callee_is to is (expr_with to old) (indent_at t.text (to (expr_span old)).start) h false) v.1 tt ((formed_name to is).1, refl) (λ e. callee_undotted t.text t.tokens t.comments file v.0 h (expr_with to old) (expr_with to new) reads.scans reads.spells undotted v.1)
-          (callee_starts h (expr_with to new) v.0 begins v.1)
         where
           seven : 7 ≤ 7
           seven = omega arith
       by (as_deferred e slot deferred) v = absurd (no_call to begins deferred)
 
-  pub name_put : (z : A) (p : Place A) (u : Use) (old new : Expr A) → MayBeSwapped to (λ w. (g : File Span) × FileIn w file g) p u old → (IsOldName p old → ⊥) → BeginsWithName to t.tokens old → IsNameExpr new
+  pub name_put : (z : A) (p : Place A) (u : Use) (old new : Expr A) → MayBeSwapped to (λ w. (g : File Span) × FileIn w file g) p u old → (IsOldName p old → ⊥) → IsSomeName old → IsNameExpr new
       → FormIsPut t file z (to (expr_span old)) p.slot (as_expr new)
   name_put z p u old new (is_old x) none begins is = absurd (none x)
   name_put z p u old new (is_node x) none begins is =

@@ -16,7 +16,7 @@ use Rattle.run_rules.specs.Texts.{FileText}
 use Rattle.splice_laws.specs.Dots.{UndottedFile}
 use Rattle.splice_laws.specs.Swaps.{FileIn}
 use Rattle.put_nodes.specs.SpelledNames.{IsNameExpr}
-use Rattle.put_nodes.specs.Put.{FormIsPut, BeginsWithName}
+use Rattle.put_nodes.specs.Put.{FormIsPut, IsSomeName}
 use Rattle.put_nodes.specs.Swapped.{IsOldName, MayBeSwapped, AllSwapped}
 
 -- Where a file reads from its text as its nodes stand, each expression that the walk over a declaration of it lists is
@@ -35,5 +35,5 @@ NamesArePut S to =
     (text : FileText) (tree : File S) → ReadsAs text (file_with to tree) → UndottedFile (bare_file (file_with to tree))
     → (z : S) (p : Place S) (u : Use) (old new : Expr S)
     → MayBeSwapped to (λ w. (g : File Span) × FileIn w (file_with to tree) g) p u old → (IsOldName p old → ⊥)
-    → BeginsWithName to text.tokens old → IsNameExpr new
+    → IsSomeName old → IsNameExpr new
     → FormIsPut text (file_with to tree) z (to (expr_span old)) p.slot (as_expr new)

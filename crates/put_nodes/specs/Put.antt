@@ -1,7 +1,6 @@
 -- A form that is put in the place of a node of a file (Go specification, Source file organization; Operators).
 use Rattle.std.specs.Prelude.{◌≡◌, ℕ, Bool, List}
 use Rattle.go_tree.specs.declared.spans.Span.{Span}
-use Rattle.go_tree.specs.declared.tokens.Token.{Token}
 use Rattle.go_tree.specs.Tree.{NameAt, Expr, ident, selector}
 use Rattle.go_tree.specs.File.{File}
 use Rattle.run_rules.specs.Surroundings.{Slot}
@@ -11,7 +10,6 @@ use Rattle.splice_laws.specs.Swaps.{Swap}
 use Rattle.splice_laws.specs.Fits.{swap_mark}
 use Rattle.splice_laws.specs.Forms.{new_layout}
 use Rattle.splice_laws.specs.Splice.{splice, IsPut}
-use Rattle.names_apart.specs.Starts.{StartsName}
 
 -- The form's edit lays out another node in the place of a node of the file.
 pub record FormIsPut {S : Type 0} (t : FileText) (file : File Span) (z : S) (range : Span) (s : Slot) (form : Form S)
@@ -25,8 +23,7 @@ pub record FormIsPut {S : Type 0} (t : FileText) (file : File Span) (z : S) (ran
   pub edit_is : form_edit t z range s form ≡ splice (swap_mark swap) blank (new_layout indent dotted wrapped swap)
   pub put : IsPut t.text t.tokens t.comments file new swap indent dotted wrapped blank
 
--- A name whose text begins with it: where it has the name of a package before it, no parenthesis stands around that.
-pub data BeginsWithName {S : Type 0} (to : S → Span) (tokens : List Token) : Expr S → Type 0 where
-  alone : {s : S} {n : List ℕ} → BeginsWithName to tokens (ident s n)
-  qualified : {s z : S} {q : List ℕ} {n : NameAt S} → StartsName (to s).start tokens →
-      BeginsWithName to tokens (selector s (ident z q) n)
+-- A name, with the name of a package before it or without.
+pub data IsSomeName {S : Type 0} : Expr S → Type 0 where
+  alone : {s : S} {n : List ℕ} → IsSomeName (ident s n)
+  qualified : {s z : S} {q : List ℕ} {n : NameAt S} → IsSomeName (selector s (ident z q) n)

@@ -5,7 +5,7 @@ use Rattle.go_types.specs.Answers.{meets}
 use Rattle.go_types.specs.WellTyped.{well_typed}
 use Rattle.run_rules.specs.Cycles.{is_recursive}
 use Rattle.run_rules.specs.Programs.{linked}
-use Rattle.run_rules.specs.Run.{Standing, Logged, Next, Run, ends, goes_on, here_of}
+use Rattle.run_rules.specs.Run.{Standing, Logged, Next, Run, ends, goes_on}
 use Rattle.run_rules.specs.Sites.{MarkRef, Inlinable, an_expr, inlinable, is_function, not_function}
 use Rattle.run_rules.specs.Steps.{At}
 use Rattle.run_laws.specs.Reading.{ProgramReads, OnePathEach}
@@ -19,26 +19,26 @@ use Rattle.cycle_runs.proofs.Runs.{step-linked, one-constant}
 use Rattle.led_imports.proofs.Homes.{home-led}
 use Rattle.led_imports.proofs.Steps.{added-led}
 use Rattle.put_nodes.specs.Put as put
-use Rattle.put_nodes.specs.Put.{BeginsWithName}
+use Rattle.put_nodes.specs.Put.{IsSomeName}
 use Rattle.put_names.specs.Uses.{IsUsedByName, UsesConstant}
 use Rattle.put_names.proofs.Settled.{constants_settle}
 use Rattle.scoped_parts.specs.Laws.{WellTypedFilesAreScoped}
 use Rattle.unspread_forms.proofs.StepsUnspread.{step-unspread}
 use Rattle.written_names.specs.NamedPackages.{PackagesAreNamed, PathsAreOctets}
 use Rattle.written_names.proofs.Kept as names
-use Rattle.settled_constants.specs.Programs.{IsReady, StartsWithPackage, IsOverConstant, PutsOtherName, AllOverConstants}
+use Rattle.settled_constants.specs.Programs.{IsReady, IsOverConstant, PutsOtherName, AllOverConstants}
 use Rattle.settled_constants.proofs.Ready.{seated, uses_scoped, uses_undotted, linked_writable}
 use Rattle.settled_constants.proofs.Spelled.{uses_spelled}
 
 module _ (marks : List MarkRef) (st : Standing) (l : Logged) (after : Standing) (n : Next marks st l after) where
-  begins : (e : Expr At) → n.found.site.part ≡ an_expr e → IsName n.found.site.place e → StartsWithPackage n → BeginsWithName here_of n.old.tokens e
-  begins _ part (parts.alone s m h) starts = put.alone
-  begins _ part (parts.behind s z q m) starts = put.qualified (starts s z q m part)
+  some_name : (e : Expr At) → IsName n.found.site.place e → IsSomeName e
+  some_name _ (parts.alone s m h) = put.alone
+  some_name _ (parts.behind s z q m) = put.qualified
 
-  pub uses_named : UsesConstant n → (e : Expr At) → n.found.site.part ≡ an_expr e → StartsWithPackage n → IsUsedByName n
-  uses_named uses e part starts =
+  pub uses_named : UsesConstant n → (e : Expr At) → n.found.site.part ≡ an_expr e → IsUsedByName n
+  uses_named uses e part =
       let its = constant_named st.packages marks n.found.site.at uses.name uses.value n.found.site.place e n.found.site.mark uses.declared ((seated marks st l after n).is_use e part) in
-      record { old = e; part = part; begins = begins e part its.0 starts }
+      record { old = e; part = part; is_name = some_name e its.0 }
 
   pub adds_led : ProgramReads st → PackagesAreNamed st.packages → Linked st.packages → UsesConstant n → (e : Expr At) → n.found.site.part ≡ an_expr e → AddsLedTo st.packages n.found
   adds_led reads named links uses e part =
@@ -52,7 +52,7 @@ module _ (marks : List MarkRef) (st : Standing) (l : Logged) (after : Standing) 
       constants_settle marks st l after n ready.reads (linked_writable st.packages ready.links ready.named ready.octets)
       (uses_undotted marks st l after n ready.typed ready.unspread)
       (uses_scoped marks st l after n scoped ready.reads ready.links.ordered ready.typed)
-      (uses_named over.uses over.old over.part over.starts)
+      (uses_named over.uses over.old over.part)
       (adds_led ready.reads ready.named ready.links over.uses over.old over.part)
       over.few over.removes over.uses
 

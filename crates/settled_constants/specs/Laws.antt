@@ -21,7 +21,7 @@ use Rattle.written_names.specs.NamedPackages.{PackagesAreNamed, PathsAreOctets}
 use Rattle.put_names.specs.Laws.{PackagesAreWritable}
 use Rattle.put_names.specs.Uses.{IsScopedAround, IsUsedByName, UsesConstant}
 use Rattle.unspread_forms.specs.UnspreadForms.{UnspreadPackages}
-use Rattle.settled_constants.specs.Programs.{IsReady, StartsWithPackage, IsOverConstant, PutsOtherName, AllOverConstants}
+use Rattle.settled_constants.specs.Programs.{IsReady, IsOverConstant, PutsOtherName, AllOverConstants}
 
 -- In a well-typed program the declaration around each use is scoped, as put_names asks.
 abbrev pub UsesAreScoped : Type 0
@@ -47,7 +47,7 @@ LinkedPackagesAreWritable =
 abbrev pub ConstantUsesAreNames : Type 0
 ConstantUsesAreNames =
     (marks : List MarkRef) (st : Standing) (l : Logged) (after : Standing) (n : Next marks st l after) → UsesConstant n
-    → (e : Expr At) → n.found.site.part ≡ an_expr e → StartsWithPackage n → IsUsedByName n
+    → (e : Expr At) → n.found.site.part ≡ an_expr e → IsUsedByName n
 
 -- No identifier of it, or of the constant, holds the byte 0, where files read from their texts.
 abbrev pub ConstantUsesAreSpelled : Type 0

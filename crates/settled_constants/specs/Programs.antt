@@ -1,15 +1,14 @@
 -- Programs as they stand, in which steps over constants settle their files (Go specification, Packages; Import
 -- declarations; Passing arguments to ... parameters; Qualified identifiers).
-use Rattle.std.specs.Prelude.{◌≡◌, true, ℕ, List}
-use Rattle.go_tree.specs.Tree.{NameAt, Expr, ident, selector}
+use Rattle.std.specs.Prelude.{◌≡◌, true, List}
+use Rattle.go_tree.specs.Tree.{Expr}
 use Rattle.go_types.specs.WellTyped.{well_typed}
 use Rattle.run_rules.specs.Programs.{linked}
-use Rattle.run_rules.specs.Run.{Standing, Logged, Next, Run, ends, goes_on, here_of}
+use Rattle.run_rules.specs.Run.{Standing, Logged, Next, Run, ends, goes_on}
 use Rattle.run_rules.specs.Sites.{MarkRef, an_expr}
 use Rattle.run_rules.specs.Steps.{At}
 use Rattle.run_laws.specs.Reading.{ProgramReads, OnePathEach}
 use Rattle.cycle_runs.specs.Linked.{Linked}
-use Rattle.names_apart.specs.Starts.{StartsName}
 use Rattle.order_cycles.specs.NewNames.{FewNames}
 use Rattle.order_cycles.specs.Steps.{site_added}
 use Rattle.import_cycles.specs.ImportSteps.{packages_added}
@@ -32,13 +31,6 @@ pub record IsReady (st : Standing) : Type 0 where
   pub typed : well_typed (linked st.packages) ≡ true
   pub unspread : UnspreadPackages st.packages
 
--- Where the use has the name of a package before it, its text begins with that: no parenthesis stands around it.
-abbrev pub StartsWithPackage : {marks : List MarkRef} {st : Standing} {l : Logged} {after : Standing}
-    → Next marks st l after → Type 0
-StartsWithPackage n =
-    (s z : At) (q : List ℕ) (m : NameAt At) → n.found.site.part ≡ an_expr (selector s (ident z q) m)
-    → StartsName (here_of s).start n.old.tokens
-
 -- The step is over an expression that uses a constant which is declared as a name. The names to avoid are fewer than
 -- 2^64, and no import that goes has the name of an identifier.
 pub record IsOverConstant {marks : List MarkRef} {st : Standing} {l : Logged} {after : Standing}
@@ -46,7 +38,6 @@ pub record IsOverConstant {marks : List MarkRef} {st : Standing} {l : Logged} {a
   pub uses : UsesConstant n
   pub old : Expr At
   pub part : n.found.site.part ≡ an_expr old
-  pub starts : StartsWithPackage n
   pub few : FewNames st.packages n.found
   pub removes : RemovesNoNames n
 

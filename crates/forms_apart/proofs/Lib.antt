@@ -1,0 +1,4 @@
+pub mod Beginnings
+pub mod Behind
+pub mod Apart
+mod Examples
