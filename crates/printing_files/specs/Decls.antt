@@ -1,0 +1,51 @@
+-- Declarations of constants, and of functions that print them (Go specification, Constant declarations; Function
+-- declarations; Expression statements).
+use Rattle.std.specs.Prelude.{ℕ, Bool, true, false, not, ◌&&◌, List, [], ◌∷◌, Option, Some, None, bytes_eq, codes}
+use Rattle.go_tree.specs.Tree.{NameAt, TypeExpr, Exprs, no_exprs, expr_and, Stmt, const_decl, eval, Stmts, no_stmts, stmt_and, ValueSpecs, no_specs, spec}
+use Rattle.go_tree.specs.File.{Func, Decl, values, func}
+use Rattle.printing_files.specs.Operands.{is_operand, is_print}
+
+-- the blank identifier
+abbrev pub is_blank : List ℕ → Bool
+is_blank n = bytes_eq n (codes "_")
+
+-- nothing is listed
+abbrev pub is_nothing : {A : Type 0} → List A → Bool
+is_nothing [] = true
+is_nothing (x ∷ xs) = false
+
+module _ {S : Type 0} where
+  -- one name other than `_`, no type, and an operand
+  abbrev pub is_constant : (S × List (NameAt S) × Option (TypeExpr S) × Exprs S) → Bool
+  is_constant (s, n ∷ [], None, expr_and e no_exprs) = not (is_blank n.name) && is_operand e
+  is_constant _ = false
+
+  -- each spec is such
+  abbrev pub are_constants : ValueSpecs S → Bool
+  are_constants no_specs = true
+  are_constants (spec s ns t es ss) = is_constant (s, ns, t, es) && are_constants ss
+
+  -- a statement that prints
+  abbrev pub is_printing : Stmt S → Bool
+  is_printing (eval _ e) = is_print e
+  is_printing _ = false
+
+  -- each statement does
+  abbrev pub are_printing : Stmts S → Bool
+  are_printing no_stmts = true
+  are_printing (stmt_and s ss) = is_printing s && are_printing ss
+
+  -- no receiver
+  abbrev pub is_function : Func S → Bool
+  is_function f = elim f.receiver [ None ↦ true | Some r ↦ false ]
+
+  -- a function without receiver, parameters and results that prints
+  abbrev pub is_printer : Func S → Bool
+  is_printer f =
+      is_function f && (is_nothing f.sig.params && (is_nothing f.sig.results && are_printing f.body))
+
+  -- constants, or such a function
+  abbrev pub is_plain : Decl S → Bool
+  is_plain (values (const_decl _ _ ss)) = are_constants ss
+  is_plain (func f) = is_printer f
+  is_plain _ = false
