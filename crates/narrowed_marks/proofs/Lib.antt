@@ -1,2 +1,3 @@
-mod NameLemmas
-mod NarrowLemmas
+pub mod ConstantLemmas
+pub mod NameLemmas
+pub mod NarrowLemmas

@@ -6,7 +6,8 @@ ghost use Rattle.go_tree.specs.declared.spans.Span.{Span};
 ghost use Rattle.go_tree.specs.Lists.{specs_from};
 ghost use Rattle.go_tree.specs.View.{const_spec_of, exprs_of, name_at_of};
 ghost use Rattle.go_tree.specs.FileView.{decl_of, type_spec_of};
-ghost use Rattle.go_types.specs.Answers.{given};
+ghost use Rattle.go_types.specs.Answers.{given, meets};
+ghost use Rattle.member_uses.specs.Laws.{is_constant};
 ghost use Rattle.run_rules.specs.Sites.{Inlinable, aliased, constant_in_spec, inlinable_in, name_of, nth_constant};
 
 use go_tree::{ConstSpec, Decl, Name, NameAt, TypeSpec};
@@ -78,5 +79,15 @@ pub(crate) fn own_name<'a>(decl: &'a Decl, item: usize) -> Option<&'a Name>
         Decl::Var(_) => None,
         Decl::Types(decl) => alias_name(decl.specs.items(), item),
         Decl::Func(func) => Some(&func.name.name),
+    }
+}
+
+/// Whether what a mark holds for is a constant.
+pub(crate) fn is_of_constant(decl: &Decl, item: usize) -> bool
+    ensures { result ≡ meets (inlinable_in (decl_of decl.now) item) is_constant }
+{
+    match decl {
+        Decl::Const(decl) => constant_name(decl.specs.items(), item).is_some(),
+        _ => false,
     }
 }

@@ -1,16 +1,18 @@
 //! The marks whose declarations have full names that begin with a prefix.
 
 ghost use Rattle.std.specs.Prelude.{◌≡◌, [], All, IfOk, filter, map, option_copied, slice_get};
+ghost use Rattle.std.specs.List.{list_all};
 ghost use Rattle.std.specs.Option.{option_map};
 ghost use Rattle.go_tree.specs.FileView.{decl_of};
-ghost use Rattle.go_types.specs.Answers.{given, otherwise};
+ghost use Rattle.go_types.specs.Answers.{given, meets, otherwise};
+ghost use Rattle.member_uses.specs.Laws.{is_constant};
 ghost use Rattle.pkg_graph.specs.Views.{package_view};
 ghost use Rattle.run_rules.specs.Marks.{full_name, home_path};
 ghost use Rattle.run_rules.specs.Sites.{inlinable, name_of};
 ghost use Rattle.module_marks.specs.Views.{mark_ref_of};
 ghost use Rattle.narrowed_marks.specs.Narrowed.{HasNoReceiver, begins_with};
 
-use crate::names::own_name;
+use crate::names::{is_of_constant, own_name};
 use file_names::MarkRef;
 use go_tree::{Decl, Name, NoMemory};
 use pkg_graph::{Package, SourceTree};
@@ -84,4 +86,29 @@ pub fn narrowed(
         }
     }
     Ok(kept)
+}
+
+fn is_constant_at(packages: &[Package], mark: MarkRef) -> bool
+    ensures { result ≡ meets (inlinable (map package_view packages.now) (mark_ref_of mark)) is_constant }
+{
+    let Some(source) = file_of(packages, mark) else {
+        return false;
+    };
+    match source.tree.decls.items().get(mark.decl) {
+        Some(decl) => is_of_constant(decl, mark.item),
+        None => false,
+    }
+}
+
+/// Whether all marks are of constants (Go specification, Constant declarations).
+pub fn are_of_constants(packages: &[Package], marks: &[MarkRef]) -> bool
+    ensures { result ≡ list_all (λ m. meets (inlinable (map package_view packages.now) m) is_constant)
+        (map mark_ref_of marks.now) }
+{
+    for mark in marks {
+        if !is_constant_at(packages, *mark) {
+            return false;
+        }
+    }
+    true
 }
