@@ -1,5 +1,5 @@
 -- What marks of constants and of types hold for.
-use Rattle.std.proofs.Common.{◌≡◌, ◌∙◌, ℕ, zero, suc, Bool, true, false, List, [], ◌∷◌, Option, Some, None, is_some, if◌then◌else◌, map, refl, ap, sym}
+use Rattle.std.proofs.Common.{◌≡◌, ◌∙◌, ℕ, zero, suc, Bool, true, false, ◌&&◌, List, [], ◌∷◌, Option, Some, None, is_some, if◌then◌else◌, map, refl, ap, sym}
 use Rattle.std.specs.List.{list_all}
 use Rattle.std.specs.Option.{option_map}
 use Rattle.go_tree.specs.declared.spans.Span.{Span}
@@ -36,7 +36,7 @@ no_type (Some t) = by t.alias
 
 -- ---- all marks
 
-both_parts : (p q : Bool) → (if p then q else false) ≡ true → (p ≡ true) × (q ≡ true)
+both_parts : (p q : Bool) → (p && q) ≡ true → (p ≡ true) × (q ≡ true)
 both_parts true q e = (refl, e)
 both_parts false q e = absurd cc
 

@@ -1,3 +1,3 @@
 pub mod ConstantLemmas
-pub mod NameLemmas
-pub mod NarrowLemmas
+mod NameLemmas
+mod NarrowLemmas
