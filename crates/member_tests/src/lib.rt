@@ -1,5 +1,5 @@
-//! Tests of the calls that find uses of members in a file, what marked constants are declared as, and which imports
-//! steps leave unused.
+//! Tests of the calls that find uses of members in a file, what marked constants are declared as, which imports steps
+//! leave unused, and which files hold only constants and functions that print them.
 #![tactic(auto)]
 
 #[cfg(test)]
@@ -10,5 +10,7 @@ mod files;
 mod members;
 #[cfg(test)]
 mod parts;
+#[cfg(test)]
+mod printed;
 #[cfg(test)]
 mod unused;
