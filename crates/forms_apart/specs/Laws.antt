@@ -23,8 +23,8 @@ FormsStandApart =
     → are_apart tokens at (c ∷ cs) ≡ true
 
 -- So an identifier that needs no blank stands apart.
-abbrev pub NamesStandApart : Type 0
-NamesStandApart =
+abbrev pub IdentifiersStandApart : Type 0
+IdentifiersStandApart =
     (text : List ℕ) (tokens : List Token) (comments : List Comment) (file : File Span) → TokensOf text tokens comments
     → SpellsFile tokens file → (at : ℕ) (name : List ℕ) → IsName name
     → needs_blank (spelling_before at tokens) (Some name) ≡ false → are_apart tokens at (chars name) ≡ true

@@ -1,6 +1,6 @@
 //! Laws of what is written behind a token.
 
-ghost use Rattle.forms_apart.specs.Laws.{FormsStandApart, NamesStandApart};
+ghost use Rattle.forms_apart.specs.Laws.{FormsStandApart, IdentifiersStandApart};
 
 /// Where no blank is needed before a form, the token that ends there and the form's first word are read as these two.
 pub fn forms_stand_apart()
@@ -8,6 +8,6 @@ pub fn forms_stand_apart()
 {}
 
 /// So an identifier that needs no blank is read as itself behind the token that ends there.
-pub fn names_stand_apart()
-    ensures { NamesStandApart }
+pub fn identifiers_stand_apart()
+    ensures { IdentifiersStandApart }
 {}

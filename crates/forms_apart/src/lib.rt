@@ -4,4 +4,4 @@
 
 mod laws;
 
-pub use laws::{forms_stand_apart, names_stand_apart};
+pub use laws::{forms_stand_apart, identifiers_stand_apart};
