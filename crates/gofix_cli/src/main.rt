@@ -2,20 +2,8 @@
 //! `//go:fix inline`, or tells why it doesn't.
 #![tactic(auto)]
 
-mod apply;
-mod laws;
-#[cfg(test)]
-mod logged;
-mod prepare;
-mod report;
-mod requests;
-mod status;
-mod tell;
-mod top;
-
-use crate::status::Status;
-use crate::top::gofix;
 use fix_io::{RealSink, RealTree};
+use fix_run::{Status, gofix};
 use std::env;
 use std::io::ErrorKind;
 use std::process::ExitCode;
