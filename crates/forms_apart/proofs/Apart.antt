@@ -74,6 +74,10 @@ spelled_line : (place : ℕ) (b : Bool) (due : Option ℕ) (ts : List Token) →
 spelled_line place true due ts = spelled_behind place due ts
 spelled_line place false due ts = refl
 
+or_true : (a b : Bool) → a ≡ true → a || b ≡ true
+or_true true b e = refl
+or_true false b e = absurd cc
+
 -- ---- a form at a place
 
 module _ (c : ℕ) (cs : List ℕ) (begins : may_begin c ≡ true) where
@@ -169,8 +173,4 @@ name_apart text tokens comments file of_text spells at name is none =
     let f = first_letter (chars name) is.1 in
     let bytes : name ≡ encode_utf8_all (f.0 ∷ f.1) = sym (encodes-chars name is.0) ∙ ap encode_utf8_all f.2 in
     subst (λ (v : List ℕ). are_apart tokens at v ≡ true) (sym f.2)
-    (forms_apart text tokens comments file of_text spells at f.0 f.1 (by_letter (is_letter f.0) f.3) (subst (λ (v : List ℕ). needs_blank (spelling_before at tokens) (Some v) ≡ false) bytes none))
-  where
-    by_letter : {more : Bool} → (b : Bool) → b ≡ true → b || more ≡ true
-    by_letter true e = refl
-    by_letter false e = absurd cc
+    (forms_apart text tokens comments file of_text spells at f.0 f.1 (or_true (is_letter f.0) (is_listed first_signs f.0) f.3) (subst (λ (v : List ℕ). needs_blank (spelling_before at tokens) (Some v) ≡ false) bytes none))
