@@ -15,10 +15,29 @@ is_nothing [] = true
 is_nothing (x ∷ xs) = false
 
 module _ {S : Type 0} where
+  -- one name, other than `_`
+  abbrev pub is_one_name : List (NameAt S) → Bool
+  is_one_name [] = false
+  is_one_name (n ∷ ns) = is_nothing ns && not (is_blank n.name)
+
+  -- no expressions
+  abbrev pub are_none : Exprs S → Bool
+  are_none no_exprs = true
+  are_none (expr_and e es) = false
+
+  -- one operand
+  abbrev pub is_one_operand : Exprs S → Bool
+  is_one_operand no_exprs = false
+  is_one_operand (expr_and e es) = are_none es && is_operand e
+
+  -- no type is written
+  abbrev pub is_untyped : Option (TypeExpr S) → Bool
+  is_untyped None = true
+  is_untyped (Some t) = false
+
   -- one name other than `_`, no type, and an operand
   abbrev pub is_constant : (S × List (NameAt S) × Option (TypeExpr S) × Exprs S) → Bool
-  is_constant (s, n ∷ [], None, expr_and e no_exprs) = not (is_blank n.name) && is_operand e
-  is_constant _ = false
+  is_constant (s, ns, t, es) = is_untyped t && (is_one_name ns && is_one_operand es)
 
   -- each spec is such
   abbrev pub are_constants : ValueSpecs S → Bool

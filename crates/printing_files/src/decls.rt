@@ -1,13 +1,13 @@
 //! Declarations of constants and of functions that print them.
 
 ghost use Rattle.std.specs.Prelude.{◌≡◌, map};
-ghost use Rattle.go_tree.specs.Lists.{specs_from, stmts_from};
-ghost use Rattle.go_tree.specs.View.{const_spec_of, stmt_of};
+ghost use Rattle.go_tree.specs.Lists.{exprs_from, specs_from, stmts_from};
+ghost use Rattle.go_tree.specs.View.{const_spec_of, expr_of, name_at_of, stmt_of};
 ghost use Rattle.go_tree.specs.FileView.{decl_of, func_of};
 ghost use Rattle.printing_files.specs.Decls as decls;
 
 use crate::operands::{is_operand, is_print};
-use go_tree::{ConstSpec, Decl, FuncDecl, NameAt, Stmt};
+use go_tree::{ConstSpec, Decl, Expr, FuncDecl, NameAt, Stmt};
 
 fn is_blank(name: &NameAt) -> bool
     ensures { result ≡ decls.is_blank name.now.name }
@@ -15,16 +15,42 @@ fn is_blank(name: &NameAt) -> bool
     name.name.items() == b"_".as_slice()
 }
 
+/// Whether there is one name, and that isn't `_`.
+fn is_one_name(names: &[NameAt]) -> bool
+    ensures { result ≡ decls.is_one_name (map name_at_of names.now) }
+{
+    match names.split_first() {
+        None => false,
+        Some((name, rest)) => rest.is_empty() && !is_blank(name),
+    }
+}
+
+fn are_none(values: &[Expr]) -> bool
+    ensures { result ≡ decls.are_none (exprs_from (map expr_of values.now)) }
+{
+    match values.split_first() {
+        None => true,
+        Some(_) => false,
+    }
+}
+
+/// Whether there is one expression, and that is an operand.
+fn is_one_operand(values: &[Expr]) -> bool
+    ensures { result ≡ decls.is_one_operand (exprs_from (map expr_of values.now)) }
+{
+    match values.split_first() {
+        None => false,
+        Some((value, rest)) => are_none(rest) && is_operand(value),
+    }
+}
+
 fn is_constant(spec: &ConstSpec) -> bool
     ensures { result ≡ decls.is_constant (const_spec_of spec.now) }
 {
-    if spec.of.is_some() {
-        return false;
+    match spec.of {
+        Some(_) => false,
+        None => is_one_name(spec.names.items()) && is_one_operand(spec.values.items()),
     }
-    let ([name], [value]) = (spec.names.items(), spec.values.items()) else {
-        return false;
-    };
-    !is_blank(name) && is_operand(value)
 }
 
 fn are_constants(specs: &[ConstSpec]) -> bool
