@@ -87,7 +87,7 @@ pub(crate) fn is_of_constant(decl: &Decl, item: usize) -> bool
     ensures { result ≡ meets (inlinable_in (decl_of decl.now) item) is_constant }
 {
     match decl {
-        Decl::Const(decl) => constant_name(decl.specs.items(), item).is_some(),
+        Decl::Const(_constants) => own_name(decl, item).is_some(),
         _ => false,
     }
 }
