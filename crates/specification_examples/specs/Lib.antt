@@ -1,0 +1,4 @@
+pub mod Sources
+pub mod Setting
+pub mod Constants
+pub mod Identity
