@@ -1,0 +1,3 @@
+pub mod MarksApart
+pub mod TypesApart
+pub mod Examples
