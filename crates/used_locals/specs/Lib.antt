@@ -1,0 +1,4 @@
+pub mod Used
+pub mod Pending
+pub mod Laws
+pub mod Walked
