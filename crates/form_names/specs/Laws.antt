@@ -1,0 +1,18 @@
+-- The law of the names that forms have for packages. It is the contract of a function of this crate (Go specification,
+-- Import declarations; Blank identifier).
+use Rattle.std.specs.Prelude.{◌≡◌, ℕ, false, List}
+use Rattle.form_imports.specs.OwnNames.{AllOwn}
+use Rattle.order_cycles.specs.NewNames.{FewNames}
+use Rattle.run_rules.specs.Naming.{names_by}
+use Rattle.run_rules.specs.Run.{Standing, Logged, Next}
+use Rattle.run_rules.specs.Sites.{MarkRef}
+use Rattle.scope_names.specs.Means.{is_blank}
+use Rattle.written_names.specs.NamedPackages.{AreOfPackages}
+
+-- No package has the name `_` in a step's form, where its names are those of packages of the program, which have names
+-- of their own, and the names to avoid are fewer than 2^64.
+abbrev pub FormNamesAreNotBlank : Type 0
+FormNamesAreNotBlank =
+    (marks : List MarkRef) (st : Standing) (l : Logged) (after : Standing) (n : Next marks st l after)
+    → AllOwn st.packages → FewNames st.packages n.found → AreOfPackages st.packages n.found.named → (k : ℕ)
+    → is_blank (names_by n.found.named k) ≡ false
