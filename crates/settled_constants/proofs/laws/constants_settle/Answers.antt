@@ -3,7 +3,7 @@ use Rattle.settled_constants.proofs.Spelled.{uses_spelled}
 use Rattle.settled_constants.proofs.laws.constants_settle.Goals as goal
 
 pub returns-clause-names : goal.returns-clause-names
-returns-clause-names c = λ marks st l after n uses e part starts. uses_named marks st l after n uses e part starts
+returns-clause-names c = λ marks st l after n uses e part. uses_named marks st l after n uses e part
 
 pub returns-clause-spelled : goal.returns-clause-spelled
 returns-clause-spelled c = λ marks st l after n reads named uses e part. uses_spelled marks st l after n reads named uses e part
