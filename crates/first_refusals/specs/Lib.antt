@@ -1,0 +1,3 @@
+pub mod Files
+pub mod Declarations
+pub mod Laws
