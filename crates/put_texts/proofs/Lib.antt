@@ -1,0 +1,5 @@
+pub mod Texts
+pub mod Packages
+pub mod Written
+pub mod TypesPut
+pub mod Steps
