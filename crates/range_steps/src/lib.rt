@@ -1,0 +1,11 @@
+//! What `range` gives of the answer for its operand: the values of each turn, where they are stored, and
+//! the variables that it declares (Go specification, For statements with range clause).
+#![tactic(auto)]
+
+mod assigned;
+mod types;
+mod variables;
+
+pub use assigned::{assigns, ranges_over};
+pub use types::{RangeTypes, range_types};
+pub use variables::range_variables;
