@@ -1,0 +1,4 @@
+pub mod SitesAt
+pub mod Order
+pub mod Once
+pub mod Told

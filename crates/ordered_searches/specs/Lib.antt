@@ -1,0 +1,4 @@
+pub mod Held
+pub mod Search
+pub mod Found
+pub mod Laws

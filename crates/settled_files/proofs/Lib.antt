@@ -1,0 +1,5 @@
+pub mod Named
+pub mod Packages
+pub mod Left
+pub mod Sites
+pub mod Stay
