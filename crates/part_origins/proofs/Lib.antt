@@ -1,0 +1,2 @@
+pub mod Themselves
+pub mod Gathered

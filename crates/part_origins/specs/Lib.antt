@@ -1,0 +1,3 @@
+pub mod Spans
+pub mod Views
+pub mod Laws

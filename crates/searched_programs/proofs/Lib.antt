@@ -1,0 +1,3 @@
+pub mod Users
+pub mod Settling
+pub mod Packages
