@@ -1,0 +1,4 @@
+pub mod Lists
+pub mod Walk
+pub mod Decls
+pub mod Keeps
