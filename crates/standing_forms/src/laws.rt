@@ -18,9 +18,9 @@ pub fn first_uses_have_next()
     constants_come_next();
 }
 
-/// In a well-typed program the form of a use of a constant, where it is written without the name of a package, is at the
-/// use the name of no import: it is that of a member or a predeclared name, and nothing shadows it (Go specification,
-/// Declarations and scope).
+/// In a well-typed program the form of a use of a constant, where it is written without the name of a package, is at
+/// the use the name of no import: it is that of a member or a predeclared name, and nothing shadows it (Go
+/// specification, Declarations and scope).
 pub fn forms_name_no_import()
     ensures { FormsNameNoImport }
 {

@@ -1,0 +1,4 @@
+pub mod Expressions
+pub mod Over
+pub mod Added
+mod Example
