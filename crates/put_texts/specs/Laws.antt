@@ -84,8 +84,8 @@ AliasTextsAddLed =
     (marks : List MarkRef) (st : Standing) (l : Logged) (after : Standing) (n : Next marks st l after) → ProgramReads st
     → Linked st.packages → UsesAliasText n → AddsLedTo st.packages n.found
 
--- So in a program whose packages can be written such a step settles its file, if the names to avoid are fewer than 2^64,
--- and no import that goes has the name of an identifier.
+-- So in a program whose packages can be written such a step settles its file, if the names to avoid are fewer than
+-- 2^64, and no import that goes has the name of an identifier.
 abbrev pub AliasesSettleFiles : Type 0
 AliasesSettleFiles =
     (marks : List MarkRef) (st : Standing) (l : Logged) (after : Standing) (n : Next marks st l after) → ProgramReads st

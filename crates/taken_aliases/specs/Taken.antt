@@ -17,8 +17,8 @@ use Rattle.qualified_aliases.specs.AliasUse.{AliasUse, AliasUseStands, ImportsHo
 use Rattle.called_aliases.specs.CalledUse.{IsPlaced}
 use Rattle.taken_names.specs.Taken.{site_there, TakesName}
 
--- With the imports of the form added, the use stands at this place. It is a name of an alias, as a written type or as an
--- expression, and becomes the type that the alias is declared as, for which the file has all imports then. These have
+-- With the imports of the form added, the use stands at this place. It is a name of an alias, as a written type or as
+-- an expression, and becomes the type that the alias is declared as, for which the file has all imports then. These have
 -- new names, and each identifier is last the name of the same import, or of none; the imports of the packages are right
 -- at last.
 pub record TakesAlias {marks : List MarkRef} {st : Standing} {l : Logged} {after : Standing} (n : Next marks st l after)
