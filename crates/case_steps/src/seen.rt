@@ -69,7 +69,8 @@ impl CasesSeen {
     ) -> Result<bool, NoMemory>
         requires { AreValues tables.now.env tables.now.consts xs.now }
         ensures { IfOk result (λ b. (r : go.Clauses) → choice_after self.old
-            (with_case (map (typed_of tables.now.env tables.now.consts) xs.now) (go.is_default (exprs_of es.now)) ends r)
+            (with_case (map (typed_of tables.now.env tables.now.consts) xs.now) (go.is_default (exprs_of es.now))
+            ends r)
             ≡ (if b then choice_after self.new r else None)) }
     {
         let is_new = add_values(alloc, tables, &mut self.constants, xs)?;

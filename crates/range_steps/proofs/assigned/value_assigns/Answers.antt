@@ -3,7 +3,6 @@ use Rattle.go_types.specs.Operands.{fits}
 use Rattle.go_types.specs.Relations.{is_whole_number}
 use Rattle.go_types.specs.Statements.{range_assigns}
 use Rattle.type_relations.specs.Environment.{defined_types, env_type}
-use Rattle.operand_rules.specs.declared.values.ValueType.TheVariants.{Nil, Typed, Untyped}
 use Rattle.operand_rules.specs.Values.{IsType, content_of, type_of}
 use Rattle.assignment_steps.specs.Targets.{targets_of}
 use Rattle.range_steps.proofs.StoreLemmas.{by_types, number_stores, others_store, typed_stores}

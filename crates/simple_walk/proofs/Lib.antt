@@ -1,0 +1,3 @@
+pub mod SimpleLemmas
+pub mod TargetWalks
+pub mod SeenStatements

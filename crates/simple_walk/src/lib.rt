@@ -1,0 +1,12 @@
+//! The walk over statements in which no others stand: calls, assignments, `++` and `--`, `return` and
+//! jumps. It calls the rule of each on the answers for its expressions (Go specification, Statements).
+#![tactic(auto)]
+
+mod assigns;
+mod calls;
+mod left_sides;
+mod returns;
+mod simple;
+
+pub use left_sides::targets;
+pub use simple::simple_statement;

@@ -1,0 +1,63 @@
+//! `return`, and jumps (Go specification, Return statements; Break statements; Continue statements).
+
+ghost use Rattle.std.specs.Option.{option_map};
+ghost use Rattle.go_tree.specs.declared.spans.Span.{Span};
+ghost use Rattle.go_tree.specs.Tree as tree;
+ghost use Rattle.go_tree.specs.View.{exprs_of, name_at_of};
+ghost use Rattle.go_types.specs.Bodies.{Ctx};
+ghost use Rattle.go_types.specs.Entities.{Env};
+ghost use Rattle.go_types.specs.Typing as go;
+ghost use Rattle.access_rules.specs.Functions.{AreTypes};
+ghost use Rattle.typed_names.specs.Scopes.{env_at};
+ghost use Rattle.checker_tables.specs.Ready.{Keeps};
+ghost use Rattle.operand_answers.specs.Known.{Stands};
+ghost use Rattle.control_steps.specs.Ends.{EndsAs};
+ghost use Rattle.control_steps.specs.Returns.{IsBodyOf};
+ghost use Rattle.jump_rules.specs.Labels.{IsAround};
+ghost use Rattle.expr_walk.specs.Walked.{AreAllWalked};
+
+use checker_tables::Tables;
+use control_steps::{Body, ends_if, return_statement};
+use expr_walk::all_exprs;
+use go_tree::{ExprList, NameAt};
+use jump_rules::Around;
+use operand_rules::Refusal;
+use std::alloc::Global;
+use typed_names::{Blocks, Scope};
+
+/// `return`.
+pub(crate) fn give_back(
+    alloc: Global,
+    tables: &mut Tables,
+    scope: &Scope,
+    blocks: &Blocks,
+    body: &Body,
+    es: &ExprList,
+) -> Result<bool, Refusal>
+    requires stands { Stands tables.old blocks.now scope.now }
+    requires results { AreTypes tables.old.env body.now.results.items }
+    requires walked { AreAllWalked (exprs_of es.now) }
+    ensures stands { Stands tables.new blocks.now scope.now }
+    ensures keeps { Keeps tables.old tables.new }
+    ensures gives { (c : Ctx) (s : Span) → IsBodyOf tables.old.env body.now c → EndsAs (go.stmt c
+        (env_at tables.old.env tables.old.consts blocks.now scope.now) (tree.return_ s (exprs_of es.now))) result }
+{
+    let values = all_exprs(alloc, tables, scope, blocks, es);
+    return_statement(alloc, tables, body, es, values)
+}
+
+/// `break`.
+pub(crate) fn break_out(around: &Around, label: &Option<NameAt>) -> Result<bool, Refusal>
+    ensures { (c : Ctx) (env : Env) (s : Span) → IsAround around.now c
+        → EndsAs (go.stmt c env (tree.break_ s (option_map name_at_of label.now))) result }
+{
+    ends_if(Ok(around.may_break(label)), false)
+}
+
+/// `continue`.
+pub(crate) fn go_on(around: &Around, label: &Option<NameAt>) -> Result<bool, Refusal>
+    ensures { (c : Ctx) (env : Env) (s : Span) → IsAround around.now c
+        → EndsAs (go.stmt c env (tree.continue_ s (option_map name_at_of label.now))) result }
+{
+    ends_if(Ok(around.may_continue(label)), false)
+}
