@@ -9,7 +9,8 @@ ghost use Rattle.package_blocks.specs.Headers.{AreHeaders, listed_of};
 ghost use Rattle.func_headers.specs.Functions.{program_of};
 ghost use Rattle.header_order.specs.Kinds.{AreRefused};
 ghost use Rattle.refused_imports.specs.First.{refused_at};
-ghost use Rattle.first_refusals.specs.Files.{files_of, first_there, header_place, number_in, package_files, place_in, told};
+ghost use Rattle.first_refusals.specs.Files.{files_of, first_there, header_place, number_in};
+ghost use Rattle.first_refusals.specs.Files.{package_files, place_in, told};
 ghost use Rattle.first_refusals.specs.Declarations.{AreFirstImports, refusal_of, refused_declaration};
 
 use go_tree::{NoMemory, Span};

@@ -77,7 +77,6 @@ module _ (marks : List MarkRef) (st : Standing) (s : ProgramSources) (k : ℕ) (
           as_name = names st.packages a.home a.told.value a.value a.is_use.value_is (of_packages st.packages a.told.value a.within);
           expr = right.expr;
           part = right.part;
-          starts = right.starts;
           few = right.few;
         }
 

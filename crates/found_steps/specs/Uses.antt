@@ -1,11 +1,10 @@
 -- What is asked of the first free use that is found, and what the code has of its file (Go specification, Constant
 -- declarations; Qualified identifiers; Declarations and scope).
 use Rattle.std.specs.Prelude.{◌≡◌, ℕ, ◌<◌, List, Some}
-use Rattle.go_tree.specs.Tree.{NameAt, Expr, ident, selector}
+use Rattle.go_tree.specs.Tree.{Expr}
 use Rattle.go_tree.specs.FileView.{file_of}
 use Rattle.go_scan.specs.TokenLists.{TokenLists}
 use Rattle.import_rules.specs.Laid.{CommentsAscend, Laid}
-use Rattle.names_apart.specs.Starts.{StartsName}
 use Rattle.order_cycles.specs.NewNames.{FewNames}
 use Rattle.run_rules.specs.Laws.{LiesBehindImports}
 use Rattle.run_rules.specs.Marks.{text_at}
@@ -20,16 +19,12 @@ use Rattle.standing_uses.specs.Laws.{AreTyped}
 use Rattle.use_search.specs.declared.views.FileView.{FileView}
 use Rattle.ordered_searches.specs.Found.{HasTables}
 
--- The use that becomes this form, in a file with this text: it is an expression; where it has the name of a package
--- before it, its text begins with that, so no parenthesis stands around it; the names to avoid are fewer than 2^64; and
--- its file is typed before the step and with the form in its place.
+-- The use that becomes this form, in a file with this text: it is an expression; the names to avoid are fewer than 2^64;
+-- and its file is typed before the step and with the form in its place.
 pub record IsRightUse
     (marks : List MarkRef) (st : Standing) (f : Found At) (old : FileText) (form : ConstantForm) : Type 0 where
   pub expr : Expr At
   pub part : f.site.part ≡ an_expr expr
-  pub starts :
-      (s z : At) (q : List ℕ) (m : NameAt At) → f.site.part ≡ an_expr (selector s (ident z q) m)
-      → StartsName (here_of s).start old.tokens
   pub few : FewNames st.packages f
   pub typed : AreTyped marks st f form
 

@@ -9,14 +9,13 @@ use Rattle.printed_uses.specs.Laws.{PrintedStepsAreOver}
 use Rattle.printed_uses.proofs.Expressions.{site_expression}
 
 pub steps_over : PrintedStepsAreOver
-steps_over marks st l after n ready printed own named few starts removes =
+steps_over marks st l after n ready printed own named few removes =
     let m : MakesForm marks st n.found = step-makes-form marks st l after n in
     let e = site_expression st.packages marks printed n.found.site m.is_use in
     let uses : UsesConstant n = named-used marks st l after n e.0 e.1 named in
     record {
       old = e.0;
       part = e.1;
-      starts = starts;
       few = few;
       removes = removes;
       spelled = form_not_blank marks st l after n own few (constant_becomes marks st l after n ready.reads uses).0;

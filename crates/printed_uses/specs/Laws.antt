@@ -14,7 +14,7 @@ use Rattle.run_rules.specs.Run.{Standing, Logged, Next}
 use Rattle.run_rules.specs.Sites.{MarkRef, Site, an_expr, sites}
 use Rattle.run_rules.specs.Steps.{At}
 use Rattle.printed_uses.specs.Added.{IsNamedThere}
-use Rattle.settled_constants.specs.Programs.{IsReady, StartsWithPackage}
+use Rattle.settled_constants.specs.Programs.{IsReady}
 
 -- Each use of such a program is an expression.
 abbrev pub PrintedUsesAreExpressions : Type 0
@@ -27,7 +27,7 @@ abbrev pub PrintedStepsAreOver : Type 0
 PrintedStepsAreOver =
     (marks : List MarkRef) (st : Standing) (l : Logged) (after : Standing) (n : Next marks st l after) → IsReady st
     → ArePrinted st.packages → AllOwn st.packages → AllNamed st.packages marks → FewNames st.packages n.found
-    → StartsWithPackage n → RemovesNoNames n → IsOverName n
+    → RemovesNoNames n → IsOverName n
 
 -- Where with the imports of its form added the use is a name of a constant that is declared as another's name, and the
 -- imports are right at last, it stands as marked_runs asks (`StandsAdded`).
