@@ -6,15 +6,15 @@ use Rattle.go_types.specs.WellTyped.{well_typed}
 use Rattle.typed_in_place.proofs.Rising.{and_first, and_second}
 use Rattle.go_translation.specs.Packages.{Package, sources, has_number, are_distinct, are_linked, are_well_typed}
 use Rattle.go_translation.specs.SameMeaning.{Packages}
-use Rattle.run_steps.specs.SameCode.{SameCode}
-use Rattle.run_steps.proofs.SameMeant.{same-then, same-itself}
-use Rattle.run_steps.proofs.SpansForgotten.{beside-alike}
-use Rattle.import_codes.specs.PackagesMoved.{ImportsStand}
-use Rattle.import_codes.proofs.PackagesCode.{beside, number-among}
-use Rattle.import_codes.proofs.LinkedBeside.{linked-beside}
-use Rattle.import_steps.proofs.ImportingSteps.{importing-step}
-use Rattle.import_steps.proofs.Links.{Link, link-then, moved-link, any-number, bare-link, link-typed}
-use Rattle.alias_steps.specs.AliasSteps.{members_with_form}
+use Rattle.order_runs.specs.RunSteps.SameCode.{SameCode}
+use Rattle.order_runs.proofs.RunSteps.SameMeant.{same-then, same-itself}
+use Rattle.order_runs.proofs.RunSteps.SpansForgotten.{beside-alike}
+use Rattle.order_runs.specs.ImportCodes.PackagesMoved.{ImportsStand}
+use Rattle.order_runs.proofs.ImportCodes.PackagesCode.{beside, number-among}
+use Rattle.order_runs.proofs.ImportCodes.LinkedBeside.{linked-beside}
+use Rattle.order_runs.proofs.ImportSteps.ImportingSteps.{importing-step}
+use Rattle.order_runs.proofs.ImportSteps.Links.{Link, link-then, moved-link, any-number, bare-link, link-typed}
+use Rattle.alias_runs.specs.AliasSteps.AliasSteps.{members_with_form}
 use Rattle.alias_runs.specs.ImportingAliases.{ImportingAliasStep, ImportingNamesRun, no_step, over_constant, over_alias}
 use Rattle.alias_runs.proofs.AliasLinks.{form-link, form-numbers}
 

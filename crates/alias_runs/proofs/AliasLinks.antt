@@ -10,13 +10,13 @@ use Rattle.typed_in_place.specs.ProgramsAlike.{OneByOne}
 use Rattle.typed_in_place.proofs.ProgramsReplaced.{declarations_as_before_beside}
 use Rattle.go_translation.specs.Packages.{Package, sources, has_number, are_distinct}
 use Rattle.run_rules.specs.FormTrees.{Form}
-use Rattle.step_laws.proofs.FurtherApart.{further-apart}
-use Rattle.import_steps.proofs.Links.{Link}
-use Rattle.alias_steps.specs.AliasSteps.{members_with_form, AliasSwaps}
-use Rattle.alias_steps.specs.RetypedPrograms.{RetypedProgram}
-use Rattle.alias_steps.proofs.AliasStepLaw.{sources-put, paths-put, alias-program}
-use Rattle.alias_steps.proofs.RetypedInPlace.{retyped-in-place}
-use Rattle.alias_steps.proofs.RetypedMeaning.{sources-append, distinct-too, declared-same, codes-same}
+use Rattle.constant_steps.proofs.StepLaws.FurtherApart.{further-apart}
+use Rattle.order_runs.proofs.ImportSteps.Links.{Link}
+use Rattle.alias_runs.specs.AliasSteps.AliasSteps.{members_with_form, AliasSwaps}
+use Rattle.alias_runs.specs.AliasSteps.RetypedPrograms.{RetypedProgram}
+use Rattle.alias_runs.proofs.AliasSteps.AliasStepLaw.{sources-put, paths-put, alias-program}
+use Rattle.alias_runs.proofs.AliasSteps.RetypedInPlace.{retyped-in-place}
+use Rattle.alias_runs.proofs.AliasSteps.RetypedMeaning.{sources-append, distinct-too, declared-same, codes-same}
 
 module _ {S : Type 0} where
   -- with types written otherwise

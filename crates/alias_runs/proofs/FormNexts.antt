@@ -16,9 +16,9 @@ use Rattle.run_rules.specs.Sites.{MarkRef, Where, Site, part_span, where_is}
 use Rattle.run_rules.specs.Steps.{At, same_here, change_nth}
 use Rattle.run_rules.specs.Run.{Standing, Logged, Next, here_of, origin_of}
 use Rattle.run_laws.proofs.FoundSpans.{Placed}
-use Rattle.step_laws.specs.DeclStands.{changed}
-use Rattle.step_cycles.specs.PackagesAlike.{import_key}
-use Rattle.step_cycles.proofs.StepAlike.{one-changed, both-changed}
+use Rattle.constant_steps.specs.StepLaws.DeclStands.{changed}
+use Rattle.cycle_runs.specs.StepCycles.PackagesAlike.{import_key}
+use Rattle.cycle_runs.proofs.StepCycles.StepAlike.{one-changed, both-changed}
 use Rattle.cycle_laws.proofs.BareWith as spans
 use Rattle.cycle_laws.proofs.StepsLead.{change-at}
 use Rattle.constant_steps.specs.Alone.{PackageAt}
@@ -26,23 +26,23 @@ use Rattle.constant_steps.specs.PlainUse.{linked_at}
 use Rattle.constant_steps.proofs.LinkedAfter.{package_with, rs_after, linked_after}
 use Rattle.constant_steps.proofs.MarksFound.{StandsThere, stands_there}
 use Rattle.constant_steps.proofs.PlainImports.{Distinct, distinct_sources}
-use Rattle.qualified_steps.specs.NamedUse.{PackageStands}
-use Rattle.import_cycles.specs.OtherImports.{PackagesBeside, FileUnder}
-use Rattle.import_cycles.specs.ImportSteps.{file_added, packages_added, where_added, decl_put}
-use Rattle.import_cycles.proofs.ImportStep.{placed, twice, added-same}
-use Rattle.import_cycles.proofs.ImportsAdded.{path-stays, reads-added}
-use Rattle.import_cycles.proofs.LeadAlike.{same-beside}
-use Rattle.order_cycles.specs.Steps.{site_added, KeepsImportNames, PutsTheSame}
-use Rattle.order_cycles.proofs.StepAdded.{puts-the-same}
-use Rattle.run_steps.specs.Bared.{bare_package, bare_members}
-use Rattle.run_steps.specs.RunPackages.{members_of}
-use Rattle.run_steps.proofs.MembersViewed.{sources-linked, FileView, PackageView, file-view-itself, view-itself, path-itself, PackagePath, import-by-keys, paths-viewed, linked-viewed, zipped}
-use Rattle.run_steps.proofs.PackageStands.{StandsAt, package-stands}
-use Rattle.import_runs.specs.PathsUnder.{PathUnder, PathsUnder}
-use Rattle.import_runs.proofs.Listed.{among-order}
-use Rattle.import_runs.proofs.PathsAlike.{SamePath, files-change, paths-alike}
-use Rattle.alias_steps.specs.AliasSteps.{alias_put, members_with_form}
-use Rattle.alias_steps.proofs.AliasStepLaw.{sources-put}
+use Rattle.constant_steps.specs.QualifiedSteps.NamedUse.{PackageStands}
+use Rattle.cycle_runs.specs.ImportCycles.OtherImports.{PackagesBeside, FileUnder}
+use Rattle.cycle_runs.specs.ImportCycles.ImportSteps.{file_added, packages_added, where_added, decl_put}
+use Rattle.cycle_runs.proofs.ImportCycles.ImportStep.{placed, twice, added-same}
+use Rattle.cycle_runs.proofs.ImportCycles.ImportsAdded.{path-stays, reads-added}
+use Rattle.cycle_runs.proofs.ImportCycles.LeadAlike.{same-beside}
+use Rattle.cycle_runs.specs.OrderCycles.Steps.{site_added, KeepsImportNames, PutsTheSame}
+use Rattle.cycle_runs.proofs.OrderCycles.StepAdded.{puts-the-same}
+use Rattle.order_runs.specs.RunSteps.Bared.{bare_package, bare_members}
+use Rattle.order_runs.specs.RunSteps.RunPackages.{members_of}
+use Rattle.order_runs.proofs.RunSteps.MembersViewed.{sources-linked, FileView, PackageView, file-view-itself, view-itself, path-itself, PackagePath, import-by-keys, paths-viewed, linked-viewed, zipped}
+use Rattle.order_runs.proofs.RunSteps.PackageStands.{StandsAt, package-stands}
+use Rattle.order_runs.specs.ImportRuns.PathsUnder.{PathUnder, PathsUnder}
+use Rattle.order_runs.proofs.ImportRuns.Listed.{among-order}
+use Rattle.order_runs.proofs.ImportRuns.PathsAlike.{SamePath, files-change, paths-alike}
+use Rattle.alias_runs.specs.AliasSteps.AliasSteps.{alias_put, members_with_form}
+use Rattle.alias_runs.proofs.AliasSteps.AliasStepLaw.{sources-put}
 
 pub nothing-behind : {A : Type 0} (xs : List A) → xs ++ [] ≡ xs
 nothing-behind [] = refl

@@ -3,3 +3,11 @@ pub mod AliasImports
 pub mod FormNexts
 pub mod OrderedAliases
 pub mod NamesRuns
+pub mod AliasTexts
+pub mod AliasSteps
+pub mod AliasSites
+pub mod SettledTypes
+pub mod QualifiedAliases
+pub mod CalledAliases
+pub mod AliasImportsLaws
+pub mod AliasCycles

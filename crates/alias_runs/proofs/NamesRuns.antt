@@ -8,8 +8,8 @@ use Rattle.run_rules.specs.Texts.{FileText}
 use Rattle.run_rules.specs.Respanned.{packages_with}
 use Rattle.run_rules.specs.Run.{Standing, Logged, Next, Run, ends, goes_on, as_read, here_of}
 use Rattle.run_rules.specs.Inlining.{standing_as_read}
-use Rattle.run_steps.specs.RunPackages.{packages_of}
-use Rattle.run_steps.proofs.OtherSpans.{members-with}
+use Rattle.order_runs.specs.RunSteps.RunPackages.{packages_of}
+use Rattle.order_runs.proofs.RunSteps.OtherSpans.{members-with}
 use Rattle.order_runs.specs.SameProgram.{SameProgram}
 use Rattle.order_runs.proofs.OrderedSteps as constants
 use Rattle.order_runs.proofs.OrderedSteps.{program-then, program-itself}

@@ -12,28 +12,28 @@ use Rattle.run_rules.specs.FormTrees.{Form}
 use Rattle.run_rules.specs.Sites.{MarkRef, Site, part_span}
 use Rattle.run_rules.specs.Steps.{At, same_here}
 use Rattle.run_rules.specs.Run.{Standing, Logged, Next, is_commented}
-use Rattle.step_cycles.proofs.Orders.{rows-by}
-use Rattle.order_cycles.specs.Orders.{AllOrdered}
-use Rattle.order_cycles.proofs.StepSettled.{ordered-alike}
-use Rattle.run_steps.specs.RunPackages.{members_among, members_of, packages_of}
-use Rattle.run_steps.proofs.PackageStands.{distinct-front}
-use Rattle.run_steps.proofs.SpansForgotten.{beside-alike}
-use Rattle.import_codes.specs.PackagesMoved.{PackagesMoved, ImportsStand}
-use Rattle.import_codes.proofs.PackagesCode.{beside, number-among, sources-append}
-use Rattle.import_codes.proofs.LinkedBeside.{linked-beside}
-use Rattle.import_steps.proofs.Links.{moved-link, bare-link, any-number}
-use Rattle.import_runs.specs.PathsUnder.{PathsUnder}
-use Rattle.import_runs.proofs.MembersMoved.{among-moved, same-paths}
-use Rattle.same_codes.specs.Orders.{PackagesReordered}
-use Rattle.same_codes.proofs.OrdersTyped.{orders-typed}
-use Rattle.same_codes.proofs.OrdersAlike.{sources-reordered}
-use Rattle.import_steps.proofs.TypedUnder.{AllTyped, typed-under}
+use Rattle.cycle_runs.proofs.StepCycles.Orders.{rows-by}
+use Rattle.cycle_runs.specs.OrderCycles.Orders.{AllOrdered}
+use Rattle.cycle_runs.proofs.OrderCycles.StepSettled.{ordered-alike}
+use Rattle.order_runs.specs.RunSteps.RunPackages.{members_among, members_of, packages_of}
+use Rattle.order_runs.proofs.RunSteps.PackageStands.{distinct-front}
+use Rattle.order_runs.proofs.RunSteps.SpansForgotten.{beside-alike}
+use Rattle.order_runs.specs.ImportCodes.PackagesMoved.{PackagesMoved, ImportsStand}
+use Rattle.order_runs.proofs.ImportCodes.PackagesCode.{beside, number-among, sources-append}
+use Rattle.order_runs.proofs.ImportCodes.LinkedBeside.{linked-beside}
+use Rattle.order_runs.proofs.ImportSteps.Links.{moved-link, bare-link, any-number}
+use Rattle.order_runs.specs.ImportRuns.PathsUnder.{PathsUnder}
+use Rattle.order_runs.proofs.ImportRuns.MembersMoved.{among-moved, same-paths}
+use Rattle.order_runs.specs.SameCodes.Orders.{PackagesReordered}
+use Rattle.order_runs.proofs.SameCodes.OrdersTyped.{orders-typed}
+use Rattle.order_runs.proofs.SameCodes.OrdersAlike.{sources-reordered}
+use Rattle.order_runs.proofs.ImportSteps.TypedUnder.{AllTyped, typed-under}
 use Rattle.order_runs.specs.SameProgram.{SameProgram}
 use Rattle.order_runs.proofs.Likened.{Likened, likened-then, likened-link, likened-reordered, any-reordered, typed-reordered, likened-typed}
 use Rattle.order_runs.proofs.RunOrders.{to-numbers, from-numbers}
-use Rattle.alias_steps.specs.AliasSteps.{AliasSwaps}
-use Rattle.qualified_aliases.specs.AliasUse.{AliasUse, PackagesHold}
-use Rattle.called_aliases.proofs.PlacedSteps.{HeadersTyped, placed-beside}
+use Rattle.alias_runs.specs.AliasSteps.AliasSteps.{AliasSwaps}
+use Rattle.alias_runs.specs.QualifiedAliases.AliasUse.{AliasUse, PackagesHold}
+use Rattle.alias_runs.proofs.CalledAliases.PlacedSteps.{HeadersTyped, placed-beside}
 use Rattle.alias_runs.specs.AliasNext.{IsImportingAlias}
 use Rattle.alias_runs.proofs.AliasLinks.{form-link, form-numbers}
 use Rattle.alias_runs.proofs.FormNexts as next

@@ -8,13 +8,13 @@ use Rattle.go_translation.specs.SameMeaning.{WellTyped, with_further}
 use Rattle.run_rules.specs.Sites.{MarkRef}
 use Rattle.run_rules.specs.Steps.{At, same_here}
 use Rattle.run_rules.specs.Run.{Standing, Logged, Next, Run, ends, goes_on, is_commented}
-use Rattle.import_cycles.specs.ImportSteps.{packages_added}
-use Rattle.order_cycles.specs.Steps.{site_added, KeepsImportNames}
-use Rattle.run_steps.specs.RunPackages.{members_of, packages_of}
-use Rattle.import_codes.specs.PackagesMoved.{ImportsStand}
-use Rattle.import_runs.specs.ImportingNext.{IsImporting}
-use Rattle.qualified_aliases.specs.AliasUse.{AliasUse, AliasUseStands, ImportsHold}
-use Rattle.called_aliases.specs.CalledUse.{IsPlaced}
+use Rattle.cycle_runs.specs.ImportCycles.ImportSteps.{packages_added}
+use Rattle.cycle_runs.specs.OrderCycles.Steps.{site_added, KeepsImportNames}
+use Rattle.order_runs.specs.RunSteps.RunPackages.{members_of, packages_of}
+use Rattle.order_runs.specs.ImportCodes.PackagesMoved.{ImportsStand}
+use Rattle.order_runs.specs.ImportRuns.ImportingNext.{IsImporting}
+use Rattle.alias_runs.specs.QualifiedAliases.AliasUse.{AliasUse, AliasUseStands, ImportsHold}
+use Rattle.alias_runs.specs.CalledAliases.CalledUse.{IsPlaced}
 
 -- The use is a name of an alias, as a written type or as an expression, and becomes the type that the alias is declared
 -- as, for which the file has all imports once those of the form are added. These have new names, and each identifier is

@@ -7,10 +7,10 @@ use Rattle.pkg_graph.specs.Package as run
 use Rattle.go_translation.specs.Packages.{Package, sources}
 use Rattle.go_translation.specs.SameMeaning.{Packages, WellTyped, with_further}
 use Rattle.run_rules.specs.FormTrees.{Form}
-use Rattle.run_steps.specs.Bared.{bare_members}
-use Rattle.import_codes.specs.PackagesMoved.{PackagesMoved, ImportsStand}
-use Rattle.import_steps.specs.ImportingSteps.{ImportingStep}
-use Rattle.alias_steps.specs.AliasSteps.{members_with_form, AliasSwaps}
+use Rattle.order_runs.specs.RunSteps.Bared.{bare_members}
+use Rattle.order_runs.specs.ImportCodes.PackagesMoved.{PackagesMoved, ImportsStand}
+use Rattle.order_runs.specs.ImportSteps.ImportingSteps.{ImportingStep}
+use Rattle.alias_runs.specs.AliasSteps.AliasSteps.{members_with_form, AliasSwaps}
 
 module _ {S : Type 0} (same : S → S → Bool) where
   -- A step of a run between these packages. In `added` the file of the use has the imports that the form needs; there

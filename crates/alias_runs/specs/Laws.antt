@@ -12,8 +12,8 @@ use Rattle.run_rules.specs.Texts.{FileText}
 use Rattle.run_rules.specs.Respanned.{packages_with}
 use Rattle.run_rules.specs.Run.{Standing, Logged, here_of, Next, Run}
 use Rattle.run_rules.specs.Inlining.{ModuleReads, standing_as_read}
-use Rattle.run_steps.specs.RunPackages.{packages_of}
-use Rattle.run_steps.specs.SameCode.{SameCode}
+use Rattle.order_runs.specs.RunSteps.RunPackages.{packages_of}
+use Rattle.order_runs.specs.RunSteps.SameCode.{SameCode}
 use Rattle.order_runs.specs.SameProgram.{SameProgram}
 use Rattle.alias_runs.specs.ImportingAliases.{ImportingAliasStep, ImportingNamesRun}
 use Rattle.alias_runs.specs.AliasNext.{IsImportingAlias, EachIsName}

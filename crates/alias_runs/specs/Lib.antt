@@ -1,3 +1,11 @@
 pub mod ImportingAliases
 pub mod AliasNext
 pub mod Laws
+pub mod AliasTexts
+pub mod AliasSteps
+pub mod AliasSites
+pub mod SettledTypes
+pub mod QualifiedAliases
+pub mod CalledAliases
+pub mod AliasImportsLaws
+pub mod AliasCycles

@@ -14,9 +14,9 @@ use Rattle.run_rules.specs.Forms.{is_at}
 use Rattle.run_rules.specs.Steps.{At, same_here, changes_for}
 use Rattle.run_rules.specs.Cycles.{is_recursive}
 use Rattle.run_rules.specs.Run.{Standing, Logged, Next}
-use Rattle.step_laws.specs.Answered.{ExprKnown}
-use Rattle.step_laws.specs.NamesOutside.{NamesOutside, AllUsesThere}
-use Rattle.step_laws.proofs.DeclUses.{decl-with-use}
+use Rattle.constant_steps.specs.StepLaws.Answered.{ExprKnown}
+use Rattle.constant_steps.specs.StepLaws.NamesOutside.{NamesOutside, AllUsesThere}
+use Rattle.constant_steps.proofs.StepLaws.DeclUses.{decl-with-use}
 use Rattle.cycle_laws.specs.PutCalls.{CallsAlike, LiteralTyped, AllPutCallAlike}
 use Rattle.cycle_laws.specs.PutSteps.{ReadCallsAlike, PutsAlike}
 use Rattle.cycle_laws.proofs.NoCallees.{names-alike}

@@ -15,8 +15,8 @@ use Rattle.run_rules.specs.FormTrees.{FormKind, Form, as_expr, as_type}
 use Rattle.run_rules.specs.Steps.{At, same_here, changes_for}
 use Rattle.run_rules.specs.Cycles.{is_recursive}
 use Rattle.run_rules.specs.Run.{Standing, Logged, FormOf, Next}
-use Rattle.step_laws.specs.DeclStands.{DeclStands}
-use Rattle.step_laws.specs.NamesOutside.{AllUsesThere}
+use Rattle.constant_steps.specs.StepLaws.DeclStands.{DeclStands}
+use Rattle.constant_steps.specs.StepLaws.NamesOutside.{AllUsesThere}
 use Rattle.cycle_laws.specs.NamesNoFunction.{NamesNoFunction}
 use Rattle.cycle_laws.specs.PutSteps.{ReadCallsAlike, PutsAlike}
 use Rattle.constant_cycles.specs.NamesPut.{AllNamesPut, AllTypesPut}

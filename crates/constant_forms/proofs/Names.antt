@@ -31,8 +31,8 @@ use Rattle.run_rules.specs.Laws.{needed_of}
 use Rattle.run_rules.specs.Steps.{At}
 use Rattle.run_rules.specs.Run.{here_of}
 use Rattle.run_rules.proofs.NamesFound.{named_is_needed}
-use Rattle.import_laws.specs.Steps.{names_standing}
-use Rattle.import_laws.proofs.GraphImports.{map_twice}
+use Rattle.form_imports.specs.ImportLaws.Steps.{names_standing}
+use Rattle.form_imports.proofs.ImportLaws.GraphImports.{map_twice}
 use Rattle.place_meanings.specs.Agreement.{means_local, AgreesAt}
 use Rattle.constant_forms.specs.Told.{named_by}
 

@@ -21,7 +21,7 @@ use Rattle.run_rules.specs.Reduced.{reduced}
 use Rattle.run_rules.specs.Respanned.{packages_with}
 use Rattle.run_rules.specs.Steps.{At, same_here, lies_in}
 use Rattle.run_rules.specs.Run.{here_of}
-use Rattle.import_laws.specs.Steps.{names_standing}
+use Rattle.form_imports.specs.ImportLaws.Steps.{names_standing}
 use Rattle.place_meanings.specs.Agreement.{target_of, AgreesAt}
 use Rattle.constant_forms.specs.declared.uses.ConstantValue.{ConstantValue}
 use Rattle.constant_forms.specs.declared.uses.ConstantValue.TheVariants.{Plain, Qualified}

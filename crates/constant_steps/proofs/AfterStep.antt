@@ -14,7 +14,7 @@ use Rattle.run_rules.specs.Programs.{top_place}
 use Rattle.run_rules.specs.Sites.{a_constant, an_alias, nth_constant, aliased, inlinable_in}
 use Rattle.run_rules.specs.Steps.{change_nth, new_constants, new_variables, new_type_spec, new_receiver_option, new_decl}
 use Rattle.go_types.proofs.Agreeing.{some_same}
-use Rattle.step_laws.specs.DeclStands.{AtNth, decl_changed, file_changed, changed}
+use Rattle.constant_steps.specs.StepLaws.DeclStands.{AtNth, decl_changed, file_changed, changed}
 use Rattle.constant_steps.specs.Alone.{SingleSpecs, no_constants, and_constant, and_typed, and_repeated, spec_type, type_in, SingleVariables, no_variables, and_variable, PlainDecl, constants_alone, variables_alone, some_types, PlainDecls, no_decls, and_decl, PlainFiles, no_files, and_file, block_from, PackageAt, this_package, a_later_package}
 use Rattle.constant_steps.specs.Alone as alone
 

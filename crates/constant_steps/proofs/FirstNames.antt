@@ -13,7 +13,7 @@ use Rattle.go_types.specs.Entities.{Entity}
 use Rattle.go_types.specs.Declarations.{names_once}
 use Rattle.go_types.specs.Programs.{Header, constants, variables, a_type_spec, a_func, Headed, headers, all_headers, constant_headers, variable_headers, header_names, header_sound, headed_file, at_member, is_init}
 use Rattle.typed_in_place.specs.Declared.{FirstWith, this_one, a_later_one}
-use Rattle.form_in_place.proofs.Uses.{among_append}
+use Rattle.form_meaning.proofs.FormInPlace.Uses.{among_append}
 use Rattle.run_rules.specs.Sites.{a_constant, an_alias, a_function, nth_constant, aliased}
 use Rattle.written_literal.proofs.NamesMeant.{means_join}
 use Rattle.constant_steps.specs.Alone.{SingleSpecs, no_constants, and_constant, and_typed, and_repeated, spec_type, AsConstant, SingleVariables, no_variables, and_variable, PlainDecl, constants_alone, variables_alone, some_types, PlainDecls, no_decls, and_decl, PlainFiles, no_files, and_file, block_from, PackageAt, this_package, a_later_package, ConstantHeader, FirstIs}

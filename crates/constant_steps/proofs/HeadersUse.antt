@@ -19,7 +19,7 @@ use Rattle.typed_in_place.specs.Leaves.{Names, plain_name}
 use Rattle.typed_in_place.specs.ProgramsAlike.{OneByOne, no_more, and_more}
 use Rattle.typed_in_place.proofs.SameUses.{without_alike}
 use Rattle.typed_in_place.proofs.TypingReplaced.{used_all-in, used_stmts-in}
-use Rattle.form_in_place.proofs.Uses.{among_append}
+use Rattle.form_meaning.proofs.FormInPlace.Uses.{among_append}
 use Rattle.run_rules.specs.Surroundings.{Place, Use, Seen, alike, value_use, in_constant}
 use Rattle.run_rules.specs.Places.{written_seen, all_seen, stmts_seen, sig_seen}
 use Rattle.run_rules.specs.Rewriting.{Changes, new_all, new_written, new_sig, new_stmts}
@@ -27,12 +27,12 @@ use Rattle.run_rules.specs.Programs.{top_place, body_place, constants_at_top, va
 use Rattle.run_rules.specs.Sites.{Site, part_span}
 use Rattle.run_rules.specs.FormTrees.{as_expr}
 use Rattle.run_rules.specs.Steps.{changes_for, new_constants, new_variables, new_type_spec, new_receiver_option, new_decl}
-use Rattle.step_laws.specs.NamesOutside.{UseThere}
-use Rattle.step_laws.specs.SwapPrograms.{headed_there}
-use Rattle.step_laws.proofs.DeclUses.{at-top, body-begins}
-use Rattle.step_laws.proofs.Standing.{all-stands, stmts-stands}
-use Rattle.step_laws.proofs.Swapping.{written-same, sig-same}
-use Rattle.step_laws.proofs.Walking.{all-walk, stmts-walk}
+use Rattle.constant_steps.specs.StepLaws.NamesOutside.{UseThere}
+use Rattle.constant_steps.specs.StepLaws.SwapPrograms.{headed_there}
+use Rattle.constant_steps.proofs.StepLaws.DeclUses.{at-top, body-begins}
+use Rattle.constant_steps.proofs.StepLaws.Standing.{all-stands, stmts-stands}
+use Rattle.constant_steps.proofs.StepLaws.Swapping.{written-same, sig-same}
+use Rattle.constant_steps.proofs.StepLaws.Walking.{all-walk, stmts-walk}
 use Rattle.constant_steps.specs.Alone.{SingleSpecs, no_constants, and_constant, and_typed, and_repeated, SingleVariables, no_variables, and_variable, PlainDecl, constants_alone, variables_alone, some_types}
 use Rattle.constant_steps.specs.Alone as alone
 use Rattle.constant_steps.specs.HeaderUses.{Differs, UseAlike}

@@ -12,9 +12,9 @@ use Rattle.go_types.proofs.Agreeing.{some_same}
 use Rattle.typed_in_place.specs.ImportRule.{imports_sound, imports_used, files_import, package_imports}
 use Rattle.typed_in_place.specs.ProgramsAlike.{OneByOne, no_more, and_more}
 use Rattle.typed_in_place.proofs.ImportRule.{file_imports}
-use Rattle.step_laws.specs.DeclStands.{FilesBy, no_files, and_file, ProgramBy, HeadedBy}
-use Rattle.step_laws.specs.SwapPrograms.{headed_there}
-use Rattle.step_laws.proofs.StepInPlace.{members-by}
+use Rattle.constant_steps.specs.StepLaws.DeclStands.{FilesBy, no_files, and_file, ProgramBy, HeadedBy}
+use Rattle.constant_steps.specs.StepLaws.SwapPrograms.{headed_there}
+use Rattle.constant_steps.proofs.StepLaws.StepInPlace.{members-by}
 use Rattle.constant_steps.specs.HeaderUses.{Differs, UseAlike}
 use Rattle.constant_steps.proofs.FirstNames.{other_name}
 use Rattle.constant_steps.proofs.NamesOutside.{equal_numbers}

@@ -19,3 +19,5 @@ mod Example
 mod BodyExample
 mod ChainExample
 mod PlainExample
+pub mod StepLaws
+pub mod QualifiedSteps

@@ -13,7 +13,7 @@ use Rattle.go_types.specs.Programs.{SourcePackage, Program}
 use Rattle.typed_in_place.specs.ProgramsAlike.{OneByOne, no_more, and_more}
 use Rattle.run_rules.specs.Programs.{numbered_from, number_from, is_ready, lesser, least_ready, ordered_after, in_dependency_order, linked_import, linked_file, linked_package, linked_packages, linked}
 use Rattle.run_rules.specs.Steps.{change_nth}
-use Rattle.step_laws.specs.DeclStands.{decl_changed, file_changed, changed}
+use Rattle.constant_steps.specs.StepLaws.DeclStands.{decl_changed, file_changed, changed}
 use Rattle.written_literal.specs.LinkedNames.{NoneNumbered}
 use Rattle.constant_steps.specs.Alone.{PackageAt, this_package, a_later_package}
 use Rattle.constant_steps.proofs.AfterStep.{same_number}

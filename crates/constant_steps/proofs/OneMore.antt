@@ -8,18 +8,18 @@ use Rattle.go_types.specs.Answers.{is_among}
 use Rattle.go_types.specs.Entities.{Env}
 use Rattle.typed_in_place.specs.Replaced.{same_type}
 use Rattle.typed_in_place.proofs.Leaves.{same_constant_name, type_itself}
-use Rattle.form_in_place.proofs.Uses.{among_append}
+use Rattle.form_meaning.proofs.FormInPlace.Uses.{among_append}
 use Rattle.run_rules.specs.Surroundings.{Place, Seen, seen, seen_type, seen_stmt}
 use Rattle.run_rules.specs.Sites.{Site, part_span}
 use Rattle.run_rules.specs.FormTrees.{as_expr}
 use Rattle.run_rules.specs.Forms.{is_at}
 use Rattle.run_rules.specs.Steps.{changes_for}
-use Rattle.step_laws.specs.Stands.{SameExpr}
-use Rattle.step_laws.specs.Answered.{HoldsWithin, AllAnswered}
-use Rattle.step_laws.specs.NamesOutside.{NamesOutside, UseThere}
-use Rattle.step_laws.proofs.ConstantLeaves.{names-bodiless}
-use Rattle.step_laws.proofs.OutsideHolds.{outside_holds}
-use Rattle.step_laws.proofs.UsesAnswered.{NamedThere, named-there, not-around, put-there, stmt-stays, group-stays}
+use Rattle.constant_steps.specs.StepLaws.Stands.{SameExpr}
+use Rattle.constant_steps.specs.StepLaws.Answered.{HoldsWithin, AllAnswered}
+use Rattle.constant_steps.specs.StepLaws.NamesOutside.{NamesOutside, UseThere}
+use Rattle.constant_steps.proofs.StepLaws.ConstantLeaves.{names-bodiless}
+use Rattle.constant_steps.proofs.StepLaws.OutsideHolds.{outside_holds}
+use Rattle.constant_steps.proofs.StepLaws.UsesAnswered.{NamedThere, named-there, not-around, put-there, stmt-stays, group-stays}
 use Rattle.constant_steps.specs.PlainUse.{AllSimple, AllTheUse}
 use Rattle.constant_steps.proofs.FirstNames.{in_turn}
 use Rattle.constant_steps.proofs.SimpleUses.{simple_known, simple_kept, of_use}

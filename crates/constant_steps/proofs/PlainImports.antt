@@ -25,17 +25,17 @@ use Rattle.run_rules.specs.Programs.{linked_file, linked_imports}
 use Rattle.run_rules.specs.Sites.{MarkRef, Site, part_span}
 use Rattle.run_rules.specs.FormTrees.{as_expr}
 use Rattle.run_rules.specs.Steps.{changes_for, new_decl}
-use Rattle.step_laws.specs.DeclStands.{ProgramBy, HeadedBy, AtNth}
-use Rattle.step_laws.specs.ConstantSteps.{ImportsRight, constant_put}
-use Rattle.step_laws.specs.SwapPrograms.{members_put}
-use Rattle.step_laws.proofs.ConstantStepLaw.{constant-step}
-use Rattle.step_laws.proofs.DeclChanged.{DeclBy, DeclOfFilesBy, DeclOfPackageBy, same_package, changed_by}
-use Rattle.step_laws.proofs.FurtherApart.{further-apart}
-use Rattle.step_laws.proofs.StepInPlace.{program-by}
-use Rattle.step_laws.proofs.StepMeaning.{distinct-before}
-use Rattle.step_laws.proofs.StepSwaps.{known-constant-means-the-same}
-use Rattle.step_laws.proofs.StepUses.{step-with-uses, use-of-constant}
-use Rattle.step_laws.proofs.SwapProgram.{sources-before}
+use Rattle.constant_steps.specs.StepLaws.DeclStands.{ProgramBy, HeadedBy, AtNth}
+use Rattle.constant_steps.specs.StepLaws.ConstantSteps.{ImportsRight, constant_put}
+use Rattle.constant_steps.specs.StepLaws.SwapPrograms.{members_put}
+use Rattle.constant_steps.proofs.StepLaws.ConstantStepLaw.{constant-step}
+use Rattle.constant_steps.proofs.StepLaws.DeclChanged.{DeclBy, DeclOfFilesBy, DeclOfPackageBy, same_package, changed_by}
+use Rattle.constant_steps.proofs.StepLaws.FurtherApart.{further-apart}
+use Rattle.constant_steps.proofs.StepLaws.StepInPlace.{program-by}
+use Rattle.constant_steps.proofs.StepLaws.StepMeaning.{distinct-before}
+use Rattle.constant_steps.proofs.StepLaws.StepSwaps.{known-constant-means-the-same}
+use Rattle.constant_steps.proofs.StepLaws.StepUses.{step-with-uses, use-of-constant}
+use Rattle.constant_steps.proofs.StepLaws.SwapProgram.{sources-before}
 use Rattle.written_literal.specs.LinkedNames.{NoneNumbered}
 use Rattle.constant_steps.specs.Alone.{PackageAt, this_package, a_later_package}
 use Rattle.constant_steps.specs.HeaderUses.{UseAlike}

@@ -13,8 +13,8 @@ use Rattle.run_rules.specs.Sites.{MarkRef, Site, part_span}
 use Rattle.run_rules.specs.Naming.{imports_added, unnamed_package}
 use Rattle.run_rules.specs.FormTrees.{Form, as_expr}
 use Rattle.run_rules.specs.Steps.{change_nth, changes_for, new_decl, added_decls, packages_between}
-use Rattle.step_laws.specs.DeclStands.{changed}
-use Rattle.step_laws.specs.SwapPrograms.{put_decl, members_put}
+use Rattle.constant_steps.specs.StepLaws.DeclStands.{changed}
+use Rattle.constant_steps.specs.StepLaws.SwapPrograms.{put_decl, members_put}
 use Rattle.constant_steps.specs.Alone.{PackageAt}
 use Rattle.constant_steps.specs.PlainUse.{linked_at, PlainUse, UseStands}
 use Rattle.constant_steps.specs.PlainLinks.{found_by}

@@ -4,9 +4,9 @@ use Rattle.go_tree.specs.Tree.{ident}
 use Rattle.go_translation.specs.Packages.{sources}
 use Rattle.go_translation.specs.SameMeaning.{Packages, SameMeaning}
 use Rattle.run_rules.specs.Sites.{part_span}
-use Rattle.step_laws.specs.ConstantRuns as run
-use Rattle.step_laws.specs.ConstantRuns.{StepOverConstant, ConstantRun}
-use Rattle.step_laws.proofs.ConstantRuns.{run-means-the-same}
+use Rattle.constant_steps.specs.StepLaws.ConstantRuns as run
+use Rattle.constant_steps.specs.StepLaws.ConstantRuns.{StepOverConstant, ConstantRun}
+use Rattle.constant_steps.proofs.StepLaws.ConstantRuns.{run-means-the-same}
 use Rattle.constant_steps.specs.PlainRuns.{PlainStep, after_plain, PlainRun, no_step, and_step}
 use Rattle.constant_steps.proofs.PlainImports.{well, plain_imports}
 use Rattle.constant_steps.proofs.PlainSteps.{plain_swaps}

@@ -16,15 +16,15 @@ use Rattle.run_rules.specs.Programs.{linked_file, linked_imports, decl_seen}
 use Rattle.run_rules.specs.Sites.{MarkRef, Site, part_span}
 use Rattle.run_rules.specs.FormTrees.{as_expr}
 use Rattle.run_rules.specs.Steps.{changes_for}
-use Rattle.step_laws.specs.PartsTyped.{HeaderTyped}
-use Rattle.step_laws.specs.NamesOutside.{AllUsesThere}
-use Rattle.step_laws.specs.SwapUses.{AllSwapsThere}
-use Rattle.step_laws.specs.ConstantSteps.{constant_put}
-use Rattle.step_laws.specs.ConstantUses.{FilesUse, PackageUses}
-use Rattle.step_laws.specs.ConstantSwaps.{FilesSwapThere, PackageSwapsThere, ConstantSwaps}
-use Rattle.step_laws.proofs.PartsTyped.{headers-typed}
-use Rattle.step_laws.proofs.KnownConstants.{of-first, declares-it, known-use}
-use Rattle.step_laws.proofs.StepUses.{use-of-constant}
+use Rattle.constant_steps.specs.StepLaws.PartsTyped.{HeaderTyped}
+use Rattle.constant_steps.specs.StepLaws.NamesOutside.{AllUsesThere}
+use Rattle.constant_steps.specs.StepLaws.SwapUses.{AllSwapsThere}
+use Rattle.constant_steps.specs.StepLaws.ConstantSteps.{constant_put}
+use Rattle.constant_steps.specs.StepLaws.ConstantUses.{FilesUse, PackageUses}
+use Rattle.constant_steps.specs.StepLaws.ConstantSwaps.{FilesSwapThere, PackageSwapsThere, ConstantSwaps}
+use Rattle.constant_steps.proofs.StepLaws.PartsTyped.{headers-typed}
+use Rattle.constant_steps.proofs.StepLaws.KnownConstants.{of-first, declares-it, known-use}
+use Rattle.constant_steps.proofs.StepLaws.StepUses.{use-of-constant}
 use Rattle.constant_steps.specs.Alone.{PackageAt, ConstantHeader}
 use Rattle.constant_steps.specs.PlainUse.{linked_at, PlainUse, UseStands}
 use Rattle.constant_steps.proofs.AfterStep.{package_after, package_beside, at_package, at_nth}

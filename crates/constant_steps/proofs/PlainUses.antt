@@ -19,8 +19,8 @@ use Rattle.run_rules.specs.Sites.{MarkRef, Site, a_constant, part_span, not_func
 use Rattle.run_rules.specs.FormTrees.{as_expr}
 use Rattle.run_rules.specs.Reduced.{home_place}
 use Rattle.run_rules.specs.Steps.{change_nth, changes_for, new_decl}
-use Rattle.step_laws.specs.DeclStands.{decl_changed, file_changed}
-use Rattle.step_laws.specs.ConstantUses.{UseOfConstant}
+use Rattle.constant_steps.specs.StepLaws.DeclStands.{decl_changed, file_changed}
+use Rattle.constant_steps.specs.StepLaws.ConstantUses.{UseOfConstant}
 use Rattle.constant_steps.specs.Alone.{block_from, PackageAt, FirstIs, type_in, AsConstant}
 use Rattle.go_types.specs.Answers.{given}
 use Rattle.constant_steps.specs.PlainUse.{linked_at, type_marked, PlainUse, UseStands}

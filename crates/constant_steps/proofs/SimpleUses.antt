@@ -10,11 +10,11 @@ use Rattle.run_rules.specs.Rewriting.{Changes}
 use Rattle.run_rules.specs.Sites.{Site, part_span}
 use Rattle.run_rules.specs.FormTrees.{as_expr}
 use Rattle.run_rules.specs.Steps.{changes_for}
-use Rattle.step_laws.specs.Answered.{ExprKnown}
-use Rattle.step_laws.specs.Kept.{RepeatsKept, GroupKept}
-use Rattle.step_laws.specs.NamesOutside.{NamesOutside, UseThere, AllUsesThere}
-use Rattle.step_laws.specs.SwapUses.{SwapThere, ExprSwappable, AllSwapsThere}
-use Rattle.step_laws.specs.Swaps.{put}
+use Rattle.constant_steps.specs.StepLaws.Answered.{ExprKnown}
+use Rattle.constant_steps.specs.StepLaws.Kept.{RepeatsKept, GroupKept}
+use Rattle.constant_steps.specs.StepLaws.NamesOutside.{NamesOutside, UseThere, AllUsesThere}
+use Rattle.constant_steps.specs.StepLaws.SwapUses.{SwapThere, ExprSwappable, AllSwapsThere}
+use Rattle.constant_steps.specs.StepLaws.Swaps.{put}
 use Rattle.constant_steps.specs.PlainUse.{NoneRepeats, IsSimple, AllSimple, AllTheUse}
 
 module _ {S : Type 0} where

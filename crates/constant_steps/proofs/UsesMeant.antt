@@ -26,8 +26,8 @@ use Rattle.typed_in_place.proofs.Collected.{valued_settled}
 use Rattle.typed_in_place.proofs.SettledNames.{first_means, block_of_package, binding_means, constant_means}
 use Rattle.run_rules.specs.Surroundings.{Place, is_local}
 use Rattle.written_literal.proofs.NamesMeant.{means_join}
-use Rattle.step_laws.specs.ConstantUses.{UseOfConstant}
-use Rattle.step_laws.proofs.StepUses.{same-blocks}
+use Rattle.constant_steps.specs.StepLaws.ConstantUses.{UseOfConstant}
+use Rattle.constant_steps.proofs.StepLaws.StepUses.{same-blocks}
 use Rattle.constant_steps.specs.Alone.{PackageAt, this_package, a_later_package, ConstantHeader, FirstIs}
 
 same_number : (a : ℕ) → nat_eq a a ≡ true

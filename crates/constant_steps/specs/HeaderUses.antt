@@ -6,7 +6,7 @@ use Rattle.go_types.specs.Answers.{is_among}
 use Rattle.go_types.specs.Entities.{Entity, World}
 use Rattle.go_types.specs.Programs.{Header, header_names}
 use Rattle.go_types.specs.WellTyped.{header_uses}
-use Rattle.step_laws.specs.SwapPrograms.{headed_there}
+use Rattle.constant_steps.specs.StepLaws.SwapPrograms.{headed_there}
 
 -- the name is neither of two
 abbrev pub Differs : List ℕ → List ℕ → List ℕ → Type 0

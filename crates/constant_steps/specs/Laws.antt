@@ -20,9 +20,9 @@ use Rattle.run_rules.specs.FormTrees.{as_expr}
 use Rattle.run_rules.specs.Naming.{unnamed_package}
 use Rattle.run_rules.specs.Steps.{packages_between}
 use Rattle.run_rules.specs.Obstacles.{shadowed}
-use Rattle.step_laws.specs.ConstantSteps.{ImportsRight}
-use Rattle.step_laws.specs.ConstantSwaps.{ConstantSwaps}
-use Rattle.step_laws.specs.SwapPrograms.{members_put}
+use Rattle.constant_steps.specs.StepLaws.ConstantSteps.{ImportsRight}
+use Rattle.constant_steps.specs.StepLaws.ConstantSwaps.{ConstantSwaps}
+use Rattle.constant_steps.specs.StepLaws.SwapPrograms.{members_put}
 use Rattle.constant_steps.specs.Alone.{PlainFiles, block_from, PackageAt, AsConstant, FirstIs}
 use Rattle.constant_steps.specs.PlainLinks.{found_by}
 use Rattle.constant_steps.specs.PlainRuns.{PlainRun}

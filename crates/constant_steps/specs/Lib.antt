@@ -4,3 +4,5 @@ pub mod HeaderUses
 pub mod PlainRuns
 pub mod PlainLinks
 pub mod Laws
+pub mod StepLaws
+pub mod QualifiedSteps

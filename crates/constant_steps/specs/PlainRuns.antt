@@ -6,7 +6,7 @@ use Rattle.pkg_graph.specs.Package as run
 use Rattle.go_translation.specs.Packages.{sources}
 use Rattle.go_translation.specs.SameMeaning.{Packages}
 use Rattle.run_rules.specs.Sites.{MarkRef, Site, part_span}
-use Rattle.step_laws.specs.SwapPrograms.{members_put}
+use Rattle.constant_steps.specs.StepLaws.SwapPrograms.{members_put}
 use Rattle.constant_steps.specs.Alone.{PackageAt}
 use Rattle.constant_steps.specs.PlainUse.{linked_at, PlainUse, UseStands}
 

@@ -6,8 +6,8 @@ use Rattle.std.proofs.lemmas.Slice.Eq.{bytes_eq-Decides}
 use Rattle.go_tree.specs.File.{ImportDecl}
 use Rattle.pkg_graph.specs.Package.{Package}
 use Rattle.run_rules.specs.Steps.{At}
-use Rattle.order_cycles.specs.Orders.{AllOrdered}
-use Rattle.ordered_steps.specs.Ranks.{OwnPaths}
+use Rattle.cycle_runs.specs.OrderCycles.Orders.{AllOrdered}
+use Rattle.cycle_runs.specs.OrderedSteps.Ranks.{OwnPaths}
 use Rattle.cycle_runs.specs.Linked.{Linked}
 
 abbrev z : At

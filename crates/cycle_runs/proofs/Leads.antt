@@ -18,10 +18,10 @@ use Rattle.run_rules.specs.Steps.{At}
 use Rattle.run_rules.specs.Run.{origin_of}
 use Rattle.cycle_laws.specs.PutCalls.{mark_there, called_among, CallsAlike, AllPutCallAlike}
 use Rattle.cycle_laws.specs.PutSteps.{ReadCallsAlikeIn}
-use Rattle.step_cycles.specs.Calls.{CallsThrough, AllPutCallThrough}
-use Rattle.step_cycles.proofs.AlikeStay.{OptionBy, neither, each, get-by}
-use Rattle.import_cycles.specs.OtherImports.{PackageSame, PackagesSame}
-use Rattle.import_cycles.proofs.BesideStay.{get-map}
+use Rattle.cycle_runs.specs.StepCycles.Calls.{CallsThrough, AllPutCallThrough}
+use Rattle.cycle_runs.proofs.StepCycles.AlikeStay.{OptionBy, neither, each, get-by}
+use Rattle.cycle_runs.specs.ImportCycles.OtherImports.{PackageSame, PackagesSame}
+use Rattle.cycle_runs.proofs.ImportCycles.BesideStay.{get-map}
 
 module _ (marks : List MarkRef) (ps qs : List (Package At)) (h : PackagesSame ps qs) (reads : ReadCallsAlikeIn marks ps qs) where
   abbrev SameThere : Where At → Where At → Type 0

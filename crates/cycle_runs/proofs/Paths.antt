@@ -13,10 +13,10 @@ use Rattle.run_rules.specs.Steps.{At, change_nth}
 use Rattle.run_rules.specs.Texts.{FileText}
 use Rattle.run_rules.specs.Run.{as_read}
 use Rattle.run_rules.specs.Inlining.{ModuleReads, standing_as_read}
-use Rattle.order_cycles.specs.NewNames.{NamesByPath}
-use Rattle.ordered_steps.specs.Ranks.{OwnPaths}
-use Rattle.ordered_steps.proofs.Members.{changed-one}
-use Rattle.ordered_steps.proofs.Modules.{package-at}
+use Rattle.cycle_runs.specs.OrderCycles.NewNames.{NamesByPath}
+use Rattle.cycle_runs.specs.OrderedSteps.Ranks.{OwnPaths}
+use Rattle.cycle_runs.proofs.OrderedSteps.Members.{changed-one}
+use Rattle.cycle_runs.proofs.OrderedSteps.Modules.{package-at}
 
 -- no package has the empty path
 abbrev pub NoneEmpty : {S : Type 0} → List (Package S) → Type 0

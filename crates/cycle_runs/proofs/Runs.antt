@@ -16,28 +16,28 @@ use Rattle.run_rules.specs.Cycles.{LeadsTo, is_recursive}
 use Rattle.run_rules.specs.Run.{Standing, Logged, Next, Run, ends, goes_on}
 use Rattle.run_rules.specs.Inlining.{ModuleReads, standing_as_read}
 use Rattle.constant_cycles.specs.Laws.{NamesFor, TypesFor}
-use Rattle.step_cycles.specs.Steps.{StandsAtEnds, UsesAtEnds}
-use Rattle.step_cycles.proofs.CallsKept.{step-led}
+use Rattle.cycle_runs.specs.StepCycles.Steps.{StandsAtEnds, UsesAtEnds}
+use Rattle.cycle_runs.proofs.StepCycles.CallsKept.{step-led}
 use Rattle.cycle_laws.specs.PutCalls.{mark_there}
 use Rattle.cycle_laws.specs.PutSteps.{KeepsStatements, ReadCallsAlikeIn}
-use Rattle.import_cycles.specs.ImportSteps.{file_added, packages_added, where_added}
-use Rattle.import_cycles.proofs.ImportStep.{added-same}
-use Rattle.import_cycles.proofs.ImportsAdded.{new-names-read}
-use Rattle.import_cycles.proofs.LeadAlike.{same-beside}
-use Rattle.import_cycles.proofs.NamesReadAlike.{identifiers-read-alike}
-use Rattle.order_cycles.proofs.StepAdded.{added-declare}
-use Rattle.order_cycles.specs.Orders.{AllOrdered}
-use Rattle.order_cycles.specs.NewNames.{NamesByPath}
-use Rattle.order_cycles.specs.Steps.{site_added, KeepsImportNames}
-use Rattle.order_cycles.proofs.NamesAdded.{adds-new-names}
-use Rattle.order_cycles.proofs.StepSettled.{step-keeps}
-use Rattle.order_cycles.proofs.ConstantSteps.{constants-kept, aliases-kept}
-use Rattle.ordered_steps.specs.Laws.{ReadModulesAreOrdered}
-use Rattle.ordered_steps.proofs.Modules.{module-paths}
-use Rattle.ordered_steps.proofs.Steps.{steps-ordered, steps-own}
-use Rattle.kept_imports.specs.Files.{IsSettled}
-use Rattle.kept_imports.proofs.Kept.{is-settled, no-more, keeps-names}
-use Rattle.found_uses.proofs.NoRecursive.{step-off}
+use Rattle.cycle_runs.specs.ImportCycles.ImportSteps.{file_added, packages_added, where_added}
+use Rattle.cycle_runs.proofs.ImportCycles.ImportStep.{added-same}
+use Rattle.cycle_runs.proofs.ImportCycles.ImportsAdded.{new-names-read}
+use Rattle.cycle_runs.proofs.ImportCycles.LeadAlike.{same-beside}
+use Rattle.cycle_runs.proofs.ImportCycles.NamesReadAlike.{identifiers-read-alike}
+use Rattle.cycle_runs.proofs.OrderCycles.StepAdded.{added-declare}
+use Rattle.cycle_runs.specs.OrderCycles.Orders.{AllOrdered}
+use Rattle.cycle_runs.specs.OrderCycles.NewNames.{NamesByPath}
+use Rattle.cycle_runs.specs.OrderCycles.Steps.{site_added, KeepsImportNames}
+use Rattle.cycle_runs.proofs.OrderCycles.NamesAdded.{adds-new-names}
+use Rattle.cycle_runs.proofs.OrderCycles.StepSettled.{step-keeps}
+use Rattle.cycle_runs.proofs.OrderCycles.ConstantSteps.{constants-kept, aliases-kept}
+use Rattle.cycle_runs.specs.OrderedSteps.Laws.{ReadModulesAreOrdered}
+use Rattle.cycle_runs.proofs.OrderedSteps.Modules.{module-paths}
+use Rattle.cycle_runs.proofs.OrderedSteps.Steps.{steps-ordered, steps-own}
+use Rattle.cycle_runs.specs.KeptImports.Files.{IsSettled}
+use Rattle.cycle_runs.proofs.KeptImports.Kept.{is-settled, no-more, keeps-names}
+use Rattle.cycle_runs.proofs.FoundUses.NoRecursive.{step-off}
 use Rattle.cycle_runs.specs.Linked.{Linked, SettlesFile, PutsWhatStood, CallsWhatStood, AllPut}
 use Rattle.cycle_runs.proofs.Leads.{still-leads, through-alike}
 use Rattle.cycle_runs.proofs.Paths.{names-by-path, module-some, changed-some}

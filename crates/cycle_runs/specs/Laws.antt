@@ -14,10 +14,10 @@ use Rattle.run_rules.specs.Cycles.{is_recursive}
 use Rattle.run_rules.specs.Run.{Standing, Logged, Next, Run}
 use Rattle.run_rules.specs.Inlining.{ModuleReads, standing_as_read}
 use Rattle.constant_cycles.specs.Laws.{NamesFor, TypesFor}
-use Rattle.step_cycles.specs.Steps.{StandsAtEnds, UsesAtEnds}
-use Rattle.import_cycles.specs.ImportSteps.{packages_added}
-use Rattle.order_cycles.specs.NewNames.{NamesByPath}
-use Rattle.order_cycles.specs.Steps.{site_added, KeepsImportNames}
+use Rattle.cycle_runs.specs.StepCycles.Steps.{StandsAtEnds, UsesAtEnds}
+use Rattle.cycle_runs.specs.ImportCycles.ImportSteps.{packages_added}
+use Rattle.cycle_runs.specs.OrderCycles.NewNames.{NamesByPath}
+use Rattle.cycle_runs.specs.OrderCycles.Steps.{site_added, KeepsImportNames}
 use Rattle.cycle_runs.specs.Linked.{Linked, SettlesFile, PutsWhatStood, CallsWhatStood, AllPut}
 
 -- The packages of a module that reads are linked.

@@ -1,2 +1,10 @@
 pub mod Linked
 pub mod Laws
+pub mod StepCycles
+pub mod ImportCycles
+pub mod OrderCycles
+pub mod OrderedSteps
+pub mod FoundUses
+pub mod BodiesThere
+pub mod KeptImports
+pub mod LedImports

@@ -11,14 +11,14 @@ use Rattle.run_rules.specs.Steps.{At, same_here, changes_for}
 use Rattle.run_rules.specs.Run.{Standing, Logged, Next, Run, ends, goes_on}
 use Rattle.cycle_laws.specs.PutCalls.{AllPutCallAlike}
 use Rattle.cycle_laws.specs.PutSteps.{KeepsStatements}
-use Rattle.step_cycles.specs.Steps.{StandsAtEnds}
-use Rattle.step_cycles.specs.Calls.{AllPutCallThrough}
-use Rattle.import_cycles.specs.ImportSteps.{file_added, packages_added, where_added}
-use Rattle.order_cycles.specs.Orders.{AllOrdered}
-use Rattle.order_cycles.specs.NewNames.{FewNames}
-use Rattle.order_cycles.specs.Steps.{site_added}
-use Rattle.ordered_steps.specs.Ranks.{OwnPaths, AddsLedTo}
-use Rattle.kept_imports.specs.Files.{PutsNode, RemovesNoNames}
+use Rattle.cycle_runs.specs.StepCycles.Steps.{StandsAtEnds}
+use Rattle.cycle_runs.specs.StepCycles.Calls.{AllPutCallThrough}
+use Rattle.cycle_runs.specs.ImportCycles.ImportSteps.{file_added, packages_added, where_added}
+use Rattle.cycle_runs.specs.OrderCycles.Orders.{AllOrdered}
+use Rattle.cycle_runs.specs.OrderCycles.NewNames.{FewNames}
+use Rattle.cycle_runs.specs.OrderCycles.Steps.{site_added}
+use Rattle.cycle_runs.specs.OrderedSteps.Ranks.{OwnPaths, AddsLedTo}
+use Rattle.cycle_runs.specs.KeptImports.Files.{PutsNode, RemovesNoNames}
 
 -- Each package has a path of its own, which isn't empty, and stands in the dependency order.
 pub record Linked (ps : List (Package At)) : Type 0 where

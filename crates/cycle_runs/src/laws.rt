@@ -4,7 +4,7 @@ ghost use Rattle.cycle_runs.specs.Laws.{ReadModulesAreLinked, StepsStayLinked, L
 ghost use Rattle.cycle_runs.specs.Laws.{StepsKeepCycles, RunsKeepCycles, ConstantStepsKeepCycles};
 ghost use Rattle.cycle_runs.specs.Laws.{AliasStepsKeepCycles, CallStepsKeepCycles};
 
-use ordered_steps::read_modules_are_ordered;
+use crate::ordered_steps::read_modules_are_ordered;
 
 /// The packages of a module that reads stand in dependency order, each under a path of its own; a step
 /// whose added imports are led to, and whose file is settled as its text says, keeps that, and each

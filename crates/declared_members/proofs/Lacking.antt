@@ -30,9 +30,9 @@ use Rattle.constant_steps.specs.PlainUse.{linked_at}
 use Rattle.constant_steps.proofs.FirstNames.{other_name}
 use Rattle.constant_steps.proofs.NamesOutside.{linked_block}
 use Rattle.constant_steps.proofs.PlainImports.{Distinct}
-use Rattle.qualified_steps.proofs.UsesMeant.{has_number}
-use Rattle.alias_sites.specs.FirstAlias.{with_types}
-use Rattle.qualified_aliases.proofs.Lacking.{world-lacks, program-lacks}
+use Rattle.constant_steps.proofs.QualifiedSteps.UsesMeant.{has_number}
+use Rattle.alias_runs.specs.AliasSites.FirstAlias.{with_types}
+use Rattle.alias_runs.proofs.QualifiedAliases.Lacking.{world-lacks, program-lacks}
 use Rattle.run_rules.specs.Programs.{linked_file, linked_import, linked, world, imports_mean, top_env, package_number}
 use Rattle.run_rules.specs.Sites.{Where, outer}
 

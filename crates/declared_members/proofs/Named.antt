@@ -14,14 +14,14 @@ use Rattle.go_translation.specs.Packages.{sources, are_distinct, are_linked, are
 use Rattle.constant_steps.proofs.MarksFound.{StandsThere, stands_there, DeclaredThere, declared_there}
 use Rattle.constant_steps.proofs.PlainImports.{Distinct, distinct_sources}
 use Rattle.dotted_imports.proofs.Imports.{no_operand}
-use Rattle.import_runs.proofs.Listed.{among-order}
-use Rattle.order_cycles.specs.Orders.{AllOrdered}
+use Rattle.order_runs.proofs.ImportRuns.Listed.{among-order}
+use Rattle.cycle_runs.specs.OrderCycles.Orders.{AllOrdered}
 use Rattle.run_rules.specs.Programs.{in_dependency_order, linked, top_env}
 use Rattle.run_rules.specs.Sites.{MarkRef, Where, a_constant, where_is, inlinable, outer}
 use Rattle.run_rules.specs.Steps.{At}
-use Rattle.run_steps.specs.RunPackages.{members_of}
-use Rattle.run_steps.proofs.MembersViewed.{sources-linked}
-use Rattle.run_steps.proofs.PackageStands.{StandsAt, package-stands}
+use Rattle.order_runs.specs.RunSteps.RunPackages.{members_of}
+use Rattle.order_runs.proofs.RunSteps.MembersViewed.{sources-linked}
+use Rattle.order_runs.proofs.RunSteps.PackageStands.{StandsAt, package-stands}
 use Rattle.declared_members.specs.Members.{IsOwn}
 use Rattle.declared_members.specs.Laws.{ConstantsNameMembers}
 use Rattle.declared_members.proofs.Values.{env_at, decl_typed, typed_value}

@@ -22,9 +22,9 @@ use Rattle.go_types.specs.WellTyped.{well_typed}
 use Rattle.go_types.proofs.Agreeing.{from_both, from_only}
 use Rattle.typed_in_place.specs.ProgramReplaced.{All, all_and}
 use Rattle.typed_parts.proofs.Walk.{there_is}
-use Rattle.step_laws.specs.DeclStands.{AtNth}
-use Rattle.step_laws.specs.PartsTyped.{HeaderTyped}
-use Rattle.step_laws.proofs.PartsTyped.{headers-typed, TypedThere, DeclIsTyped, FilesTyped, PackageIsTyped, of-packages}
+use Rattle.constant_steps.specs.StepLaws.DeclStands.{AtNth}
+use Rattle.constant_steps.specs.StepLaws.PartsTyped.{HeaderTyped}
+use Rattle.constant_steps.proofs.StepLaws.PartsTyped.{headers-typed, TypedThere, DeclIsTyped, FilesTyped, PackageIsTyped, of-packages}
 use Rattle.constant_steps.specs.Alone.{PackageAt, this_package, a_later_package}
 use Rattle.constant_steps.specs.PlainUse.{linked_at}
 use Rattle.run_rules.specs.Programs.{linked_file, linked, world, imports_mean}

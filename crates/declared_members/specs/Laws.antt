@@ -3,11 +3,11 @@
 use Rattle.std.specs.Prelude.{◌≡◌, List, [], Some}
 use Rattle.go_translation.specs.SameMeaning.{WellTyped}
 use Rattle.go_tree.specs.Tree.{NameAt, Expr}
-use Rattle.order_cycles.specs.Orders.{AllOrdered}
+use Rattle.cycle_runs.specs.OrderCycles.Orders.{AllOrdered}
 use Rattle.pkg_graph.specs.Package.{Package}
 use Rattle.run_rules.specs.Sites.{MarkRef, Where, a_constant, where_is, inlinable}
 use Rattle.run_rules.specs.Steps.{At}
-use Rattle.run_steps.specs.RunPackages.{packages_of}
+use Rattle.order_runs.specs.RunSteps.RunPackages.{packages_of}
 use Rattle.declared_members.specs.Members.{IsMember}
 
 -- In a well-typed program each of whose packages stands in the dependency order, what a constant is declared as, where

@@ -26,10 +26,10 @@ use Rattle.go_types.specs.Initial.{all_initial}
 use Rattle.go_types.specs.WellTyped.{receiver_names, well_typed}
 use Rattle.go_types.proofs.Agreeing.{from_given, from_both, from_only}
 use Rattle.typed_in_place.specs.ProgramReplaced.{All, all_and}
-use Rattle.step_laws.specs.DeclStands.{AtNth}
-use Rattle.step_laws.specs.PartsTyped.{HeaderTyped}
-use Rattle.step_laws.proofs.PartsTyped.{headers-typed, TypedThere, DeclIsTyped, FilesTyped, of-packages}
-use Rattle.order_cycles.specs.Orders.{AllOrdered}
+use Rattle.constant_steps.specs.StepLaws.DeclStands.{AtNth}
+use Rattle.constant_steps.specs.StepLaws.PartsTyped.{HeaderTyped}
+use Rattle.constant_steps.proofs.StepLaws.PartsTyped.{headers-typed, TypedThere, DeclIsTyped, FilesTyped, of-packages}
+use Rattle.cycle_runs.specs.OrderCycles.Orders.{AllOrdered}
 use Rattle.run_rules.specs.Surroundings.{Place, Seen, seen_type, alike, value_use, in_constant}
 use Rattle.run_rules.specs.Places.{written_seen, all_seen, sig_seen, stmts_seen}
 use Rattle.run_rules.specs.Programs.{numbered_from, numbered, is_ready, lesser, least_ready, ordered_after, in_dependency_order, numbers_of, linked_file, linked_package, linked_packages, linked, world, imports_mean, top_place, body_place, headed_func, constants_at_top, variables_at_top, types_at_top, receiver_seen, func_seen, decl_seen}
@@ -40,9 +40,9 @@ use Rattle.pkg_graph.specs.Members.{imported}
 use Rattle.scope_names.specs.Means.{is_blank, means}
 use Rattle.run_rules.specs.Programs.{top_env}
 use Rattle.run_rules.specs.Sites.{outer}
-use Rattle.step_laws.proofs.DeclUses.{body-begins}
-use Rattle.step_laws.proofs.OutsideHolds.{no_name}
-use Rattle.import_uses.specs.Parts.{DottedImports, at_the_end, past_another}
+use Rattle.constant_steps.proofs.StepLaws.DeclUses.{body-begins}
+use Rattle.constant_steps.proofs.StepLaws.OutsideHolds.{no_name}
+use Rattle.standing_uses.specs.ImportUses.Parts.{DottedImports, at_the_end, past_another}
 use Rattle.typed_parts.proofs.Walk.{met, there_is}
 use Rattle.dotted_imports.proofs.Walk.{N, join, written_stands, sig_stands, all_stand, stmts_stand, member_known}
 use Rattle.dotted_imports.proofs.Imports.{no_operand, no_blank}

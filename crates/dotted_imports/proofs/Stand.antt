@@ -3,7 +3,7 @@ use Rattle.std.proofs.Common.{◌≡◌, refl, ℕ, zero, suc, List, [], ◌∷�
 use Rattle.std.specs.Prelude.{slice_get}
 use Rattle.go_tree.specs.File.{Decl}
 use Rattle.scoped_parts.specs.Laws.{WellTypedFilesAreScoped}
-use Rattle.import_uses.specs.Steps.{EachDecl, IsStanding}
+use Rattle.standing_uses.specs.ImportUses.Steps.{EachDecl, IsStanding}
 use Rattle.dotted_imports.specs.Laws.{WellTypedFilesAreDotted, WellTypedFilesStand}
 use Rattle.dotted_imports.proofs.Decls.{programs_dotted}
 

@@ -34,10 +34,10 @@ use Rattle.pkg_graph.specs.Members.{local, imported, member, predeclared}
 use Rattle.scope_names.specs.Means.{means}
 use Rattle.run_rules.specs.Sites.{Where, outer, imported_by}
 use Rattle.run_rules.specs.Steps.{means_import, named_by_import}
-use Rattle.step_laws.specs.Answered.{HoldsWithin}
-use Rattle.step_laws.specs.NamesOutside.{NamesOutside}
-use Rattle.step_laws.proofs.OutsideHolds.{outside_holds}
-use Rattle.import_uses.specs.Parts.{IsPlain, DottedImports, at_the_end, before_a_dot, past_another}
+use Rattle.constant_steps.specs.StepLaws.Answered.{HoldsWithin}
+use Rattle.constant_steps.specs.StepLaws.NamesOutside.{NamesOutside}
+use Rattle.constant_steps.proofs.StepLaws.OutsideHolds.{outside_holds}
+use Rattle.standing_uses.specs.ImportUses.Parts.{IsPlain, DottedImports, at_the_end, before_a_dot, past_another}
 use Rattle.typed_parts.proofs.Walk.{met, there_is, into_back, elem_into}
 
 -- ---- answers

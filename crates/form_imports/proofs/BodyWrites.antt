@@ -15,7 +15,7 @@ use Rattle.go_types.specs.TypeNames.{func_type}
 use Rattle.go_types.specs.Literals.{is_struct, field_key}
 use Rattle.go_types.specs.Bodies.{labelled}
 use Rattle.go_types.specs.Declarations.{Repeated, nothing_to_repeat}
-use Rattle.form_in_place.proofs.Uses.{among_append}
+use Rattle.form_meaning.proofs.FormInPlace.Uses.{among_append}
 use Rattle.run_rules.specs.Surroundings.{Use, updated, deferred_call, alone, other, a_slot, Place, Seen, seen, seen_type, seen_stmt, block, looping, switching, in_heading, at_stmt, plain_slot, ranged, in_literal, repeated_by, in_constant, after_stmt, after_first, after_constants, before_repeats, after_variables, first_declares, left_declares}
 use Rattle.run_rules.specs.Places.{written_seen, params_seen, sig_seen, after_arms, expr_seen, all_seen, option_seen, elems_seen, key_seen, value_seen, stmt_seen, stmts_seen, first_seen, block_seen, left_seen, arms_seen, cases_seen, constants_seen, variables_seen}
 use Rattle.run_rules.specs.Rewriting.{Changes, new_names, new_label, new_written, new_params, new_sig, new_expr, new_all, new_option, new_elems, new_key, new_value, new_stmt, new_stmts, new_first, new_block, new_left, new_arms, new_cases, new_constants, new_variables}

@@ -13,7 +13,7 @@ use Rattle.run_rules.specs.Calls.{Given, Call, start_with, all_params, args, giv
 use Rattle.run_rules.specs.Naming.{Names}
 use Rattle.run_rules.specs.Forms.{nth_given}
 use Rattle.run_rules.specs.Steps.{At, same_here}
-use Rattle.step_laws.proofs.DeclUses.{body-begins}
+use Rattle.constant_steps.proofs.StepLaws.DeclUses.{body-begins}
 use Rattle.form_imports.specs.Written.{NoneUnnamed}
 use Rattle.form_imports.proofs.Kept.{neither, both_false, Free, Kept, free_both}
 use Rattle.form_imports.proofs.FormWrites.{front_spelled, back_spelled}

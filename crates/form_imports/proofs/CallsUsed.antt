@@ -20,9 +20,9 @@ use Rattle.run_rules.specs.Forms.{applies, form_tree, literal_tree, block_tree, 
 use Rattle.run_rules.specs.Reduced.{needed_by, identifiers_in, call_at}
 use Rattle.run_rules.specs.Steps.{At, same_here, Found, named_by_import, uses_import, packages_between, where_between}
 use Rattle.run_rules.specs.Run.{Standing, is_commented, here_of}
-use Rattle.import_laws.specs.Steps.{names_standing, binders_in, AreFewNames}
-use Rattle.import_laws.proofs.GraphImports.{map_twice}
-use Rattle.import_laws.proofs.NamesNeeded.{step_names_mean}
+use Rattle.form_imports.specs.ImportLaws.Steps.{names_standing, binders_in, AreFewNames}
+use Rattle.form_imports.proofs.ImportLaws.GraphImports.{map_twice}
+use Rattle.form_imports.proofs.ImportLaws.NamesNeeded.{step_names_mean}
 use Rattle.form_imports.specs.CallLaws.{CallStands, BecomesLiteral, BecomesExpression, BecomesBlock, ExpressionFormsAreUsed, NamesOfExpressionsMean, BlockFormsAreUsed, NamesOfBlocksMean, LiteralFormsAreUsed, NamesOfLiteralsMean}
 use Rattle.form_imports.proofs.SitesListed.{FoundListed, found_listed}
 use Rattle.form_imports.proofs.StatementsListed.{wanted_use}

@@ -11,7 +11,7 @@ use Rattle.run_rules.specs.Surroundings.{Place, Seen, in_constant}
 use Rattle.run_rules.specs.Programs.{world, headed_func, top_place, body_place, with_receiver, params_of, constants_at_top, variables_at_top, types_at_top, receiver_seen, func_seen, decl_seen}
 use Rattle.run_rules.specs.Rewriting.{Changes, new_params, new_sig, new_stmts}
 use Rattle.run_rules.specs.Steps.{change_nth, new_constants, new_variables, new_receiver_option, new_type_spec, new_decl}
-use Rattle.step_laws.proofs.DeclUses.{body-begins}
+use Rattle.constant_steps.proofs.StepLaws.DeclUses.{body-begins}
 use Rattle.form_imports.proofs.Kept.{Free, Kept, params_kept, blank_alike, two_kept}
 use Rattle.form_imports.proofs.Walk.{Puts, Below, both, absent, within, written_below, all_below, type_below, sig_below, stmts_below}
 

@@ -25,7 +25,7 @@ use Rattle.run_rules.specs.Rewriting.{Changes}
 use Rattle.run_rules.specs.Steps.{At, same_here, Found, type_replaced, fields_replaced, changes_for, new_decl, named_by_import, qualified_by, uses_import, file_between, packages_between, where_between, added_decls, added_by}
 use Rattle.run_rules.specs.Run.{Standing, is_commented}
 use Rattle.run_rules.specs.Laws.{needed_of}
-use Rattle.import_laws.specs.Steps.{names_standing, used_after, locals_of, FormIsUsed}
+use Rattle.form_imports.specs.ImportLaws.Steps.{names_standing, used_after, locals_of, FormIsUsed}
 use Rattle.form_imports.specs.Literals.{EachSeen, FieldsNamed}
 use Rattle.form_imports.specs.Laws.{LiteralsStand, NoReceiverAt}
 use Rattle.form_imports.proofs.Walk.{Puts}

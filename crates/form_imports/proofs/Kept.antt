@@ -13,8 +13,8 @@ use Rattle.go_types.specs.TypeNames.{func_type}
 use Rattle.go_types.specs.Bodies.{body_ctx, labelled, literal_env}
 use Rattle.go_types.specs.Statements.{bound_names}
 use Rattle.go_types.specs.Declarations.{Repeated}
-use Rattle.form_in_place.specs.Bound.{stmt_binds, first_binds, range_left_binds, literal_binds, variable_binds}
-use Rattle.form_in_place.proofs.Uses.{among_append, among_left}
+use Rattle.form_meaning.specs.FormInPlace.Bound.{stmt_binds, first_binds, range_left_binds, literal_binds, variable_binds}
+use Rattle.form_meaning.proofs.FormInPlace.Uses.{among_append, among_left}
 use Rattle.run_rules.specs.Surroundings.{Slot, callee_place, Place, after_stmt, after_first, block, ranged, in_literal, repeated_by, in_heading, after_constants, after_variables, first_declares, left_declares}
 use Rattle.run_rules.specs.Places.{after_arms}
 use Rattle.run_rules.specs.Rewriting.{Changes, new_name, new_names, new_label, new_params, new_sig, new_stmt, new_first, new_left, new_arms, new_constants, new_variables}
@@ -23,7 +23,7 @@ use Rattle.written_literal.specs.Within.{Grows}
 use Rattle.written_literal.specs.Listing.{Listing}
 use Rattle.written_literal.proofs.ListedHeads.{listing, names_both}
 use Rattle.written_literal.proofs.Listed.{members_grow}
-use Rattle.step_laws.proofs.OutsideHolds.{of_either, among_right, no_name}
+use Rattle.constant_steps.proofs.StepLaws.OutsideHolds.{of_either, among_right, no_name}
 
 pub neither : (a b : Bool) → (a || b) ≡ false → (a ≡ false) × (b ≡ false)
 neither true b e = absurd (grind (arith, e))

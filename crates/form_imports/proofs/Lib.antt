@@ -21,3 +21,4 @@ mod FormsUsed
 mod NamesMean
 mod CallsUsed
 mod OwnNames
+pub mod ImportLaws

@@ -12,7 +12,7 @@ use Rattle.run_rules.specs.FormTrees.{form_identifiers}
 use Rattle.run_rules.specs.Reduced.{home_place, constant_form, alias_type, alias_form}
 use Rattle.run_rules.specs.Steps.{At, same_here, Found, named_by_import, uses_import, packages_between, where_between}
 use Rattle.run_rules.specs.Run.{Standing, is_commented}
-use Rattle.import_laws.proofs.NamesNeeded.{step_names_mean}
+use Rattle.form_imports.proofs.ImportLaws.NamesNeeded.{step_names_mean}
 use Rattle.form_imports.specs.Written.{NoneUnnamed, IsFlat}
 use Rattle.form_imports.specs.Laws.{NoReceiverAt, ConstantFormsAreUsed, AliasFormsAreUsed, NamesOfConstantsMean, NamesOfAliasesMean}
 use Rattle.form_imports.proofs.SitesListed.{FoundListed, found_listed}

@@ -15,8 +15,8 @@ use Rattle.run_rules.specs.Surroundings.{Place, is_local}
 use Rattle.run_rules.specs.Naming.{no_span}
 use Rattle.run_rules.specs.Sites.{Where, imported_by, outer}
 use Rattle.run_rules.specs.Steps.{At, change_nth, means_import, with_file, named_by_import}
-use Rattle.import_laws.specs.Steps.{names_standing}
-use Rattle.import_laws.proofs.GraphImports.{map_append, map_twice}
+use Rattle.form_imports.specs.ImportLaws.Steps.{names_standing}
+use Rattle.form_imports.proofs.ImportLaws.GraphImports.{map_append, map_twice}
 
 none_is : {A : Type 0} {P : Type 0} (a : A) → None ≡ Some a → P
 none_is a e = absurd (grind (arith, ap is_some e))

@@ -12,7 +12,7 @@ use Rattle.run_rules.specs.Steps.{At, same_here, Found}
 use Rattle.run_rules.specs.Run.{Standing, Logged, is_commented, Next}
 use Rattle.run_rules.specs.Laws.{file_found}
 use Rattle.run_rules.specs.Inlining.{ReadsAs}
-use Rattle.import_laws.specs.Steps.{HaveOwnNames, AreFewNames, FormIsUsed}
+use Rattle.form_imports.specs.ImportLaws.Steps.{HaveOwnNames, AreFewNames, FormIsUsed}
 use Rattle.form_imports.specs.Bodies.{BodyStands, ValueStands}
 use Rattle.form_imports.specs.Laws.{LiteralsStand, NamesMeanAfter}
 use Rattle.form_imports.specs.Written.{NoneUnnamed}

@@ -15,7 +15,7 @@ use Rattle.run_rules.specs.Steps.{At, same_here, Found, changes_for, new_decl, p
 use Rattle.run_rules.specs.Run.{Standing, Logged, is_commented, Next}
 use Rattle.run_rules.specs.Laws.{needed_of, file_found}
 use Rattle.run_rules.specs.Inlining.{ReadsAs}
-use Rattle.import_laws.specs.Steps.{names_standing, removed_specs, wanted_of, locals_of, HaveOwnNames, AreFewNames, FormIsUsed}
+use Rattle.form_imports.specs.ImportLaws.Steps.{names_standing, removed_specs, wanted_of, locals_of, HaveOwnNames, AreFewNames, FormIsUsed}
 use Rattle.form_imports.specs.Literals.{EachSeen, LiteralTyped, FieldsNamed}
 use Rattle.form_imports.specs.Written.{NoneUnnamed, IsFlat}
 

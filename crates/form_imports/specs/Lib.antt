@@ -4,3 +4,4 @@ pub mod OwnNames
 pub mod Laws
 pub mod Bodies
 pub mod CallLaws
+pub mod ImportLaws

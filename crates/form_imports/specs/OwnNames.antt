@@ -10,7 +10,7 @@ use Rattle.run_rules.specs.Steps.{At}
 use Rattle.run_rules.specs.Texts.{FileText}
 use Rattle.run_rules.specs.Run.{Standing, Logged, Run}
 use Rattle.run_rules.specs.Inlining.{ModuleReads, standing_as_read}
-use Rattle.import_laws.specs.Steps.{HaveOwnNames}
+use Rattle.form_imports.specs.ImportLaws.Steps.{HaveOwnNames}
 
 -- each of the packages has a name that may be written
 abbrev pub AllOwn : {S : Type 0} → List (Package S) → Type 0

@@ -16,8 +16,8 @@ use Rattle.go_kernel.specs.Alike.{MeanSame}
 use Rattle.go_kernel.specs.Laws.{Ranked, AllScoped}
 use Rattle.go_kernel.proofs.Literal.{call_is_literal}
 use Rattle.go_kernel.proofs.DeferredCall.{deferred_is_literal}
-use Rattle.form_in_place.specs.CalledLiteral.{landing_at}
-use Rattle.form_in_place.proofs.Call.{params_anywhere}
+use Rattle.form_meaning.specs.FormInPlace.CalledLiteral.{landing_at}
+use Rattle.form_meaning.proofs.FormInPlace.Call.{params_anywhere}
 use Rattle.go_translation.specs.Here.{Here, defined_here, function_of, at_body}
 use Rattle.go_translation.specs.Mentions.{Mention, mentions_stmts}
 use Rattle.go_translation.specs.Operators.{answer_or, operand_list}

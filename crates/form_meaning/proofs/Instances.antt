@@ -19,9 +19,9 @@ use Rattle.go_translation.specs.Here.{in_frame, Here}
 use Rattle.go_translation.specs.Packages.{Package, sources, paths_in, codes_of, program_of}
 use Rattle.go_translation.specs.Calls.{function_named}
 use Rattle.go_translation.specs.Translation.{expr_term}
-use Rattle.form_in_place.specs.Written.{Written, w_leaf, w_local, w_func_lit, s_assign, s_return, w_binary, all_and, all_none, body_and, body_none}
-use Rattle.form_in_place.specs.Leaves.{member, param_and, no_params}
-use Rattle.form_in_place.proofs.TypesInPlace.{type_kept}
+use Rattle.form_meaning.specs.FormInPlace.Written.{Written, w_leaf, w_local, w_func_lit, s_assign, s_return, w_binary, all_and, all_none, body_and, body_none}
+use Rattle.form_meaning.specs.FormInPlace.Leaves.{member, param_and, no_params}
+use Rattle.form_meaning.proofs.FormInPlace.TypesInPlace.{type_kept}
 use Rattle.form_meaning.specs.CallMeaning.{CallOf}
 use Rattle.form_meaning.proofs.Located.{same_name}
 use Rattle.form_meaning.proofs.CallTerms.{call_term_is, literal_term_is}

@@ -10,3 +10,4 @@ pub mod Declared
 pub mod MeaningLaws
 mod Instances
 mod MethodInstance
+pub mod FormInPlace

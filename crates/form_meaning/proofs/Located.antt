@@ -10,7 +10,7 @@ use Rattle.go_types.specs.Statements.{bound_names}
 use Rattle.go_types.proofs.Agreeing.{among_right, Bound, binds, later, Covers}
 use Rattle.go_translation.specs.Mentions.{Mention, is_addressed, is_stored, is_held, is_held_param}
 use Rattle.go_translation.specs.Here.{Location, location_at, entity_location, located}
-use Rattle.form_in_place.proofs.Uses.{among_append, among_left}
+use Rattle.form_meaning.proofs.FormInPlace.Uses.{among_append, among_left}
 use Rattle.form_meaning.specs.Landed.{LocalsAlike}
 use Rattle.form_meaning.proofs.Mentioned.{MentionsAlike}
 

@@ -16,14 +16,14 @@ use Rattle.go_types.specs.Operands.{Operand, value}
 use Rattle.go_types.specs.Literals.{is_struct, key_type, inner_type}
 use Rattle.go_types.specs.Statements.{bound_names}
 use Rattle.go_types.specs.Typing.{parts, binds_of, new_variables, right_values}
-use Rattle.form_in_place.specs.Places.{at_place, Landing, SelectorAlike, results_in}
-use Rattle.form_in_place.specs.Bound.{inner_under, stmt_binds, first_binds, range_left_binds, literal_binds, variable_binds, literal_under}
-use Rattle.form_in_place.specs.Leaves.{Leaf, member, imported, own, argument, WrittenParams}
-use Rattle.form_in_place.specs.Written.{Written, w_leaf, w_local, w_outer, w_composite, w_selector, w_index, w_slice, w_call, w_func_lit, w_type, w_unary, w_binary, w_star, WrittenAll, all_none, all_and, w_into, w_left, w_right, s_eval_whole, s_defer_whole, s_eval_into, s_return_into, WrittenOption, option_none, option_some, WrittenElems, elems_none, elems_and, WrittenKey, key_none, key_field, key_some, WrittenValue, value_plain, value_braced, WrittenBody, body_none, body_and, WrittenStmt, s_var, s_eval, s_step, s_assign, s_define, s_return, s_inner, s_if, s_for, s_range, s_switch, s_defer, s_label, WrittenFirst, first_none, first_some, WrittenBlock, block_none, block_some, WrittenLeft, left_none, left_assigns, left_defines, WrittenArms, arms_none, arms_and, WrittenCases, cases_none, cases_and, WrittenVariables, variables_none, variables_and}
-use Rattle.form_in_place.proofs.Fields.{field_seen}
-use Rattle.form_in_place.proofs.Conversions.{bare_puts}
-use Rattle.form_in_place.proofs.Shapes.{declared_alike, first_declared_alike, defined_alike, values_alike}
-use Rattle.form_in_place.proofs.InPlace.{type_there, type_option_there, literal_binds_there, sig_names_there, parts_there, all_there, places_there, declares_there, declares_first_there, range_declares_there}
+use Rattle.form_meaning.specs.FormInPlace.Places.{at_place, Landing, SelectorAlike, results_in}
+use Rattle.form_meaning.specs.FormInPlace.Bound.{inner_under, stmt_binds, first_binds, range_left_binds, literal_binds, variable_binds, literal_under}
+use Rattle.form_meaning.specs.FormInPlace.Leaves.{Leaf, member, imported, own, argument, WrittenParams}
+use Rattle.form_meaning.specs.FormInPlace.Written.{Written, w_leaf, w_local, w_outer, w_composite, w_selector, w_index, w_slice, w_call, w_func_lit, w_type, w_unary, w_binary, w_star, WrittenAll, all_none, all_and, w_into, w_left, w_right, s_eval_whole, s_defer_whole, s_eval_into, s_return_into, WrittenOption, option_none, option_some, WrittenElems, elems_none, elems_and, WrittenKey, key_none, key_field, key_some, WrittenValue, value_plain, value_braced, WrittenBody, body_none, body_and, WrittenStmt, s_var, s_eval, s_step, s_assign, s_define, s_return, s_inner, s_if, s_for, s_range, s_switch, s_defer, s_label, WrittenFirst, first_none, first_some, WrittenBlock, block_none, block_some, WrittenLeft, left_none, left_assigns, left_defines, WrittenArms, arms_none, arms_and, WrittenCases, cases_none, cases_and, WrittenVariables, variables_none, variables_and}
+use Rattle.form_meaning.proofs.FormInPlace.Fields.{field_seen}
+use Rattle.form_meaning.proofs.FormInPlace.Conversions.{bare_puts}
+use Rattle.form_meaning.proofs.FormInPlace.Shapes.{declared_alike, first_declared_alike, defined_alike, values_alike}
+use Rattle.form_meaning.proofs.FormInPlace.InPlace.{type_there, type_option_there, literal_binds_there, sig_names_there, parts_there, all_there, places_there, declares_there, declares_first_there, range_declares_there}
 use Rattle.go_translation.specs.Values.{typed_of}
 use Rattle.go_translation.specs.Mentions.{Way, Read, Stored, Addressed, Deferred, Mention, mention, callee_way, variable_mention, in_deferred, literal_mentions, is_pointer, operand_way, unary_way, beyond_names, beyond, within_names, group_mentions, own_mentions, stored_again, mentions, mentions_all, mentions_option, mentions_left, mentions_elems, mentions_key, mentions_value, mentions_stmt, mentions_stmts, mentions_first, mentions_block, mentions_range, mentions_arms, mentions_cases, mentions_specs, any_mention}
 use Rattle.go_types.proofs.Agreeing.{among_right}

@@ -17,9 +17,9 @@ use Rattle.go_translation.specs.Here.{Here, in_frame}
 use Rattle.go_translation.specs.Packages.{Package, sources, paths_in, codes_of, program_of}
 use Rattle.go_translation.specs.Calls.{method_named}
 use Rattle.go_translation.specs.Translation.{expr_term, args_term}
-use Rattle.form_in_place.specs.Written.{Written, w_local, w_func_lit, s_return, w_binary, all_and, all_none, body_and, body_none}
-use Rattle.form_in_place.specs.Leaves.{param_and, no_params}
-use Rattle.form_in_place.proofs.TypesInPlace.{type_kept}
+use Rattle.form_meaning.specs.FormInPlace.Written.{Written, w_local, w_func_lit, s_return, w_binary, all_and, all_none, body_and, body_none}
+use Rattle.form_meaning.specs.FormInPlace.Leaves.{param_and, no_params}
+use Rattle.form_meaning.proofs.FormInPlace.TypesInPlace.{type_kept}
 use Rattle.form_meaning.specs.CallMeaning.{MethodCallOf}
 use Rattle.form_meaning.proofs.Located.{same_name}
 use Rattle.form_meaning.proofs.CallTerms.{method_term_is}

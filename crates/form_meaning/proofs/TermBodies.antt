@@ -13,9 +13,9 @@ use Rattle.go_types.specs.TypeNames.{func_type, params_meant, type_meant}
 use Rattle.go_types.specs.Statements.{bound_names, body_binds, param_binding, param_binds}
 use Rattle.go_types.proofs.Agreeing.{Bound, binds, later, literal_cover}
 use Rattle.go_kernel.specs.Kernel.{Name, named_result}
-use Rattle.form_in_place.specs.Places.{Landing}
-use Rattle.form_in_place.specs.Leaves.{WrittenParams, no_params, param_and}
-use Rattle.form_in_place.proofs.Uses.{among_append, among_left}
+use Rattle.form_meaning.specs.FormInPlace.Places.{Landing}
+use Rattle.form_meaning.specs.FormInPlace.Leaves.{WrittenParams, no_params, param_and}
+use Rattle.form_meaning.proofs.FormInPlace.Uses.{among_append, among_left}
 use Rattle.go_translation.specs.Mentions.{Mention, is_held, is_held_param}
 use Rattle.go_translation.specs.Here.{Location, location_at, located_name, located_names, slot_at, slots_at, frame_name, name_option, name_options, param_locals, result_locals}
 use Rattle.go_translation.specs.Facts.{literal_names}

@@ -9,9 +9,9 @@ use Rattle.go_types.specs.Types.{GoType}
 use Rattle.go_types.specs.Entities.{Entity, variable, stand_in, function, iota_name, Env, meaning, exported}
 use Rattle.go_types.specs.Operands.{a_function, named_operand}
 use Rattle.go_kernel.specs.Kernel.{ImportPath, Term}
-use Rattle.form_in_place.specs.Places.{at_place, Landing, SameName, has_home, means_function}
-use Rattle.form_in_place.specs.Leaves.{Leaf, member, imported, own, argument}
-use Rattle.form_in_place.proofs.Leaves.{only_exported, exported_no_blank}
+use Rattle.form_meaning.specs.FormInPlace.Places.{at_place, Landing, SameName, has_home, means_function}
+use Rattle.form_meaning.specs.FormInPlace.Leaves.{Leaf, member, imported, own, argument}
+use Rattle.form_meaning.proofs.FormInPlace.Leaves.{only_exported, exported_no_blank}
 use Rattle.go_translation.specs.Values.{path_of}
 use Rattle.go_translation.specs.Here.{Location, in_frame, in_cell, no_location, Here, defined_here, location}
 use Rattle.go_translation.specs.Places.{Root, nowhere, Place, from, field_at, pointed, address_term}

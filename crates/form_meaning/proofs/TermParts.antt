@@ -13,10 +13,10 @@ use Rattle.go_types.specs.Primary.{fields_in}
 use Rattle.go_types.specs.Literals.{is_struct, field_key, key_type}
 use Rattle.go_types.specs.Typing.{right_values}
 use Rattle.go_kernel.specs.Kernel.{Term, Local, temporary, Let}
-use Rattle.form_in_place.specs.Places.{at_place, Landing, AllSame, SeenFields, SeenIn, SelectorAlike}
-use Rattle.form_in_place.specs.Written.{Written, WrittenAll, all_none, all_and, WrittenOption, option_none, option_some, WrittenKey, key_none, key_field, key_some, WrittenValue, value_plain, value_braced, WrittenLeft, left_none, left_assigns, left_defines}
-use Rattle.form_in_place.proofs.Shapes.{blank_there}
-use Rattle.form_in_place.proofs.InPlace.{parts_there, all_there, places_there, here_same}
+use Rattle.form_meaning.specs.FormInPlace.Places.{at_place, Landing, AllSame, SeenFields, SeenIn, SelectorAlike}
+use Rattle.form_meaning.specs.FormInPlace.Written.{Written, WrittenAll, all_none, all_and, WrittenOption, option_none, option_some, WrittenKey, key_none, key_field, key_some, WrittenValue, value_plain, value_braced, WrittenLeft, left_none, left_assigns, left_defines}
+use Rattle.form_meaning.proofs.FormInPlace.Shapes.{blank_there}
+use Rattle.form_meaning.proofs.FormInPlace.InPlace.{parts_there, all_there, places_there, here_same}
 use Rattle.go_translation.specs.Values.{path_of, typed_of, nothing}
 use Rattle.go_translation.specs.Here.{Location, Here}
 use Rattle.go_translation.specs.Places.{store_at}
@@ -52,7 +52,7 @@ no_fields_of : (fs : Option GoFields) → is_some fs ≡ false → fs ≡ None
 no_fields_of None e = refl
 no_fields_of (Some fs) e = absurd (grind (arith, e))
 
-same_key_name : (n : Option (List ℕ)) → Rattle.form_in_place.specs.Places.key_name n ≡ Rattle.go_translation.specs.Statements.key_name n
+same_key_name : (n : Option (List ℕ)) → Rattle.form_meaning.specs.FormInPlace.Places.key_name n ≡ Rattle.go_translation.specs.Statements.key_name n
 same_key_name None = refl
 same_key_name (Some n) = refl
 
@@ -98,7 +98,7 @@ module _ {S : Type 0} (site : Landing) where
   abbrev pub KeySeen : ℕ → Option GoFields → ValueOption S → Type 0
   KeySeen home None k = Unit {0}
   KeySeen home (Some fs) no_value = Unit {0}
-  KeySeen home (Some fs) (some_value k) = SeenFields home site.home (Rattle.form_in_place.specs.Places.key_name (field_key k)) fs
+  KeySeen home (Some fs) (some_value k) = SeenFields home site.home (Rattle.form_meaning.specs.FormInPlace.Places.key_name (field_key k)) fs
 
   pub key_place_there : (r : List (List ℕ)) (a : Env) (m : Environment Entity) (t : GoType) (i : ℕ) {u : Option GoType} {k k' : ValueOption S} → u ≡ Some t → WrittenKey site r a m u k k' → KeySeen a.home (fields_of t) k → element_place a t i k ≡ element_place (at_place a m site.home) t i k'
   key_place_there r a m t i {u = u} q key_none s = refl

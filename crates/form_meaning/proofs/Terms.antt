@@ -19,14 +19,14 @@ use Rattle.go_types.specs.Statements.{body_binds, bound_names, no_values}
 use Rattle.go_types.specs.Typing.{parts, all_parts, places, declares, binds_of, new_variables, right_values, step_op}
 use Rattle.go_types.proofs.Agreeing.{declares_cover, of_covers}
 use Rattle.go_kernel.specs.Kernel.{Name, Truth, Checked, Load, MapGet, MapTry, Slicing, Alloc, Compare, Equal, in_cells, temporary, break_label, Term, Vals, Local, Both, Prim, If, Let, Leave, Catch, Field}
-use Rattle.form_in_place.specs.Places.{at_place, Landing, KeysIn, results_in}
-use Rattle.form_in_place.specs.Leaves.{member, imported, own, argument, WrittenType, WrittenParams}
-use Rattle.form_in_place.specs.Bound.{inner_under, stmt_binds, first_binds, range_left_binds, literal_binds, variable_binds, literal_under}
-use Rattle.form_in_place.specs.Written.{Written, w_leaf, w_local, w_outer, w_composite, w_selector, w_index, w_slice, w_call, w_func_lit, w_type, w_unary, w_binary, w_star, WrittenAll, all_none, all_and, w_into, w_left, w_right, s_eval_whole, s_defer_whole, s_eval_into, s_return_into, WrittenOption, option_none, option_some, WrittenElems, elems_none, elems_and, WrittenKey, key_none, key_field, key_some, WrittenValue, value_plain, value_braced, WrittenBody, body_none, body_and, WrittenStmt, s_const, s_var, s_empty, s_eval, s_step, s_assign, s_define, s_return, s_break, s_continue, s_inner, s_if, s_for, s_range, s_switch, s_defer, s_label, WrittenFirst, first_none, first_some, WrittenBlock, block_none, block_some, WrittenLeft, left_none, left_assigns, left_defines, WrittenArms, arms_none, arms_and, WrittenCases, cases_none, cases_and, WrittenVariables, variables_none, variables_and}
-use Rattle.form_in_place.proofs.Uses.{among_left, among_append}
-use Rattle.form_in_place.proofs.Conversions.{bare_puts}
-use Rattle.form_in_place.proofs.Shapes.{package_there, declared_alike, first_declared_alike, defined_alike, values_alike, breakable_alike}
-use Rattle.form_in_place.proofs.InPlace.{type_there, type_option_there, literal_binds_are, func_type_there, body_binds_there, parts_there, all_there, place_there, places_there, declares_there, declares_first_there, range_declares_there}
+use Rattle.form_meaning.specs.FormInPlace.Places.{at_place, Landing, KeysIn, results_in}
+use Rattle.form_meaning.specs.FormInPlace.Leaves.{member, imported, own, argument, WrittenType, WrittenParams}
+use Rattle.form_meaning.specs.FormInPlace.Bound.{inner_under, stmt_binds, first_binds, range_left_binds, literal_binds, variable_binds, literal_under}
+use Rattle.form_meaning.specs.FormInPlace.Written.{Written, w_leaf, w_local, w_outer, w_composite, w_selector, w_index, w_slice, w_call, w_func_lit, w_type, w_unary, w_binary, w_star, WrittenAll, all_none, all_and, w_into, w_left, w_right, s_eval_whole, s_defer_whole, s_eval_into, s_return_into, WrittenOption, option_none, option_some, WrittenElems, elems_none, elems_and, WrittenKey, key_none, key_field, key_some, WrittenValue, value_plain, value_braced, WrittenBody, body_none, body_and, WrittenStmt, s_const, s_var, s_empty, s_eval, s_step, s_assign, s_define, s_return, s_break, s_continue, s_inner, s_if, s_for, s_range, s_switch, s_defer, s_label, WrittenFirst, first_none, first_some, WrittenBlock, block_none, block_some, WrittenLeft, left_none, left_assigns, left_defines, WrittenArms, arms_none, arms_and, WrittenCases, cases_none, cases_and, WrittenVariables, variables_none, variables_and}
+use Rattle.form_meaning.proofs.FormInPlace.Uses.{among_left, among_append}
+use Rattle.form_meaning.proofs.FormInPlace.Conversions.{bare_puts}
+use Rattle.form_meaning.proofs.FormInPlace.Shapes.{package_there, declared_alike, first_declared_alike, defined_alike, values_alike, breakable_alike}
+use Rattle.form_meaning.proofs.FormInPlace.InPlace.{type_there, type_option_there, literal_binds_are, func_type_there, body_binds_there, parts_there, all_there, place_there, places_there, declares_there, declares_first_there, range_declares_there}
 use Rattle.go_translation.specs.Values.{path_of, zero_of, one_value, as_value}
 use Rattle.go_translation.specs.Values as v
 use Rattle.go_translation.specs.Mentions.{Mention, Read, mentions, mentions_option, mentions_first, mentions_stmts, mentions_block, mentions_arms, mentions_cases, mentions_specs, own_mentions, any_mention, is_held}

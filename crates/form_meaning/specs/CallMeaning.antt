@@ -7,8 +7,8 @@ use Rattle.go_types.specs.Answers.{is_among}
 use Rattle.go_types.specs.Types.{GoType}
 use Rattle.go_types.specs.Entities.{Entity, in_block}
 use Rattle.go_kernel.specs.Kernel.{FuncName, Program}
-use Rattle.form_in_place.specs.CalledLiteral.{declared_at, landing_at}
-use Rattle.form_in_place.specs.Written.{Written}
+use Rattle.form_meaning.specs.FormInPlace.CalledLiteral.{declared_at, landing_at}
+use Rattle.form_meaning.specs.FormInPlace.Written.{Written}
 use Rattle.go_translation.specs.Here.{Here}
 use Rattle.go_translation.specs.Calls.{to_function, to_literal}
 use Rattle.go_translation.specs.Translation.{callee, expr_term}

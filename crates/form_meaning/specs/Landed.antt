@@ -4,7 +4,7 @@ use Rattle.std.specs.Prelude.{◌≡◌, ℕ, true, false, List, Some, None}
 use Rattle.scope_names.specs.Means.{Environment, means, is_blank}
 use Rattle.go_types.specs.Answers.{is_among}
 use Rattle.go_types.specs.Entities.{Entity}
-use Rattle.form_in_place.specs.Places.{at_place}
+use Rattle.form_meaning.specs.FormInPlace.Places.{at_place}
 use Rattle.go_translation.specs.Here.{Location, Here}
 
 -- the place of `h` where the form lands: other names, maybe another package, and other variables around

@@ -11,8 +11,8 @@ use Rattle.go_kernel.specs.Kernel.{FuncName, Program, code}
 use Rattle.go_kernel.specs.Scope.{Scoped}
 use Rattle.go_kernel.specs.Alike.{MeanSame}
 use Rattle.go_kernel.specs.Laws.{Ranked, AllScoped}
-use Rattle.form_in_place.specs.Places.{Landing}
-use Rattle.form_in_place.specs.Written.{Written, WrittenBody}
+use Rattle.form_meaning.specs.FormInPlace.Places.{Landing}
+use Rattle.form_meaning.specs.FormInPlace.Written.{Written, WrittenBody}
 use Rattle.go_translation.specs.Here.{Location, Here}
 use Rattle.go_translation.specs.Translation.{expr_term, stmts_term, deferred_term}
 use Rattle.form_meaning.specs.Landed.{landed, LocalsAlike}

@@ -1,3 +1,4 @@
 pub mod Landed
 pub mod CallMeaning
 pub mod Laws
+pub mod FormInPlace

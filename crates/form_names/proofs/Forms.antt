@@ -24,10 +24,10 @@ use Rattle.run_rules.specs.Naming.{Named, no_span, fuel_for, fresh_name, names_b
 use Rattle.run_rules.specs.Steps.{At}
 use Rattle.run_rules.specs.Run.{Standing, Logged, Next, is_commented}
 use Rattle.run_rules.proofs.NamesFound.{found_is_fresh}
-use Rattle.import_laws.specs.Steps.{binders_of}
-use Rattle.import_laws.proofs.StepNames.{FoundWell, found_well}
-use Rattle.order_cycles.specs.NewNames.{FewNames}
-use Rattle.written_names.specs.NamedPackages.{AreOfPackages}
+use Rattle.form_imports.specs.ImportLaws.Steps.{binders_of}
+use Rattle.form_imports.proofs.ImportLaws.StepNames.{FoundWell, found_well}
+use Rattle.cycle_runs.specs.OrderCycles.NewNames.{FewNames}
+use Rattle.put_names.specs.WrittenNames.NamedPackages.{AreOfPackages}
 
 -- ---- `_` is the name of no import
 

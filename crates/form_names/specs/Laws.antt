@@ -2,12 +2,12 @@
 -- Import declarations; Blank identifier).
 use Rattle.std.specs.Prelude.{◌≡◌, ℕ, false, List}
 use Rattle.form_imports.specs.OwnNames.{AllOwn}
-use Rattle.order_cycles.specs.NewNames.{FewNames}
+use Rattle.cycle_runs.specs.OrderCycles.NewNames.{FewNames}
 use Rattle.run_rules.specs.Naming.{names_by}
 use Rattle.run_rules.specs.Run.{Standing, Logged, Next}
 use Rattle.run_rules.specs.Sites.{MarkRef}
 use Rattle.scope_names.specs.Means.{is_blank}
-use Rattle.written_names.specs.NamedPackages.{AreOfPackages}
+use Rattle.put_names.specs.WrittenNames.NamedPackages.{AreOfPackages}
 
 -- No package has the name `_` in a step's form, where its names are those of packages of the program, which have names
 -- of their own, and the names to avoid are fewer than 2^64.

@@ -8,7 +8,7 @@ use Rattle.import_rules.specs.Removed.{same_span}
 use Rattle.go_types.specs.Answers.{one_of}
 use Rattle.run_rules.specs.Sites.{Part, an_expr, a_type_part}
 use Rattle.possible_uses.specs.Candidates.{Candidate}
-use Rattle.lone_uses.specs.Alone.{span_named, IsElsewhere, StandsAlone, here, later}
+use Rattle.standing_uses.specs.LoneUses.Alone.{span_named, IsElsewhere, StandsAlone, here, later}
 use Rattle.file_steps.specs.Used.{is_named_at, expr_at, first_at}
 
 same_so : (a b : Span) → same_span a b ≡ true → a ≡ b

@@ -22,8 +22,8 @@ use Rattle.constant_forms.specs.declared.uses.ConstantValue.TheVariants.{Plain, 
 use Rattle.constant_forms.specs.Uses.{IsReducedTo}
 use Rattle.file_steps.specs.Steps.{IsStepOf}
 use Rattle.file_steps.specs.Used.{first_at}
-use Rattle.lone_uses.specs.Laws.{ConstantUsesStandAlone}
-use Rattle.lone_uses.specs.Alone.{StandsAlone}
+use Rattle.standing_uses.specs.LoneUses.Laws.{ConstantUsesStandAlone}
+use Rattle.standing_uses.specs.LoneUses.Alone.{StandsAlone}
 use Rattle.mark_values.specs.Values.{value_of}
 use Rattle.package_search.specs.declared.looks.ProgramSources.{ProgramSources}
 use Rattle.package_search.specs.declared.search.FoundInPackage.{FoundInPackage}
@@ -33,11 +33,11 @@ use Rattle.put_forms.specs.Laws.{ConstantUsesHaveBytes, ConstantsComeNext, Value
 use Rattle.put_forms.proofs.FirstUses.{file_reads}
 use Rattle.run_by_steps.specs.Reached.{IsNextUse}
 use Rattle.searched_sites.specs.Told.{IsWithin}
-use Rattle.settled_constants.specs.Programs.{IsReady}
-use Rattle.told_steps.specs.Laws.{MayBeEdited, FirstUsesAreTold, StepsMayBeEdited}
+use Rattle.marked_runs.specs.SettledConstants.Programs.{IsReady}
+use Rattle.standing_uses.specs.ToldSteps.Laws.{MayBeEdited, FirstUsesAreTold, StepsMayBeEdited}
 use Rattle.unused_imports.specs.Uses.{all_parts}
 use Rattle.unused_imports.specs.Told.{IsTold}
-use Rattle.use_places.specs.Laws.{FoundUsesTakeNames}
+use Rattle.standing_uses.specs.UsePlaces.Laws.{FoundUsesTakeNames}
 use Rattle.use_search.specs.declared.views.FileView.{FileView}
 use Rattle.ordered_searches.specs.Found.{IsFoundFirst}
 use Rattle.found_steps.specs.Uses.{IsRightUse, HasFile, MayBeMade}

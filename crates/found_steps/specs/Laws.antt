@@ -23,13 +23,13 @@ use Rattle.next_file.specs.declared.file.NewFile.{NewFile}
 use Rattle.next_file.specs.declared.file.FileFault.TheVariants.{TooLarge, NotRead}
 use Rattle.next_file.specs.Limits.{told, Passes}
 use Rattle.next_file.specs.Files.{IsNewFile, text_of}
-use Rattle.next_programs.specs.Made.{NextWith}
+use Rattle.run_by_steps.specs.NextPrograms.Made.{NextWith}
 use Rattle.package_search.specs.declared.looks.ProgramSources.{ProgramSources}
 use Rattle.package_search.specs.declared.search.FoundInPackage.{FoundInPackage}
 use Rattle.run_by_steps.specs.Reached.{HasReached, IsNextUse, row_of}
-use Rattle.run_progress.specs.Laws.{HasCome}
+use Rattle.run_by_steps.specs.RunProgress.Laws.{HasCome}
 use Rattle.searched_sites.specs.Searched.{found_of}
-use Rattle.settled_constants.specs.Programs.{IsReady}
+use Rattle.marked_runs.specs.SettledConstants.Programs.{IsReady}
 use Rattle.use_search.specs.declared.views.FileView.{FileView}
 use Rattle.ordered_searches.specs.Found.{IsFoundFirst, IsStepFound}
 use Rattle.found_steps.specs.Uses.{IsRightUse, HasFile, MayBeMade}

@@ -5,7 +5,7 @@ use Rattle.go_tree.specs.Tree.{Expr}
 use Rattle.go_tree.specs.FileView.{file_of}
 use Rattle.go_scan.specs.TokenLists.{TokenLists}
 use Rattle.import_rules.specs.Laid.{CommentsAscend, Laid}
-use Rattle.order_cycles.specs.NewNames.{FewNames}
+use Rattle.cycle_runs.specs.OrderCycles.NewNames.{FewNames}
 use Rattle.run_rules.specs.Laws.{LiesBehindImports}
 use Rattle.run_rules.specs.Marks.{text_at}
 use Rattle.run_rules.specs.Respanned.{file_with}

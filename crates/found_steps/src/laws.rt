@@ -3,11 +3,11 @@
 ghost use Rattle.found_steps.specs.Laws.{FileStepsAreRead, FileStepsGoOn, FileStepsPassLimits, FoundUsesAreSteps};
 ghost use Rattle.found_steps.specs.Laws.{FoundUsesComeNext, SearchesEndRuns, StepsMayBeMade};
 
-use lone_uses::constant_uses_stand_alone;
 use put_forms::{constants_come_next, forms_of_constants_are_put, values_are_names};
 use run_by_steps::{run_ends, run_goes_on};
-use told_steps::{first_uses_are_told, steps_may_be_edited};
-use use_places::slots_take_names;
+use standing_uses::{
+    constant_uses_stand_alone, first_uses_are_told, slots_take_names, steps_may_be_edited,
+};
 
 /// The first free use that a search finds is the next of the run (`next`). Of it and its form file_steps is told,
 /// where the code has the text of the file, its tokens and a view of it with the tables of the search (`step`); and

@@ -19,9 +19,9 @@ use Rattle.run_rules.specs.Cycles.{function_marks, LeadsTo, leads_to, is_recursi
 use Rattle.run_rules.specs.FormTrees.{as_expr}
 use Rattle.run_rules.specs.Steps.{At, same_here, changes_for}
 use Rattle.run_rules.specs.Run.{Standing, Logged, Next}
-use Rattle.step_cycles.specs.Steps.{StandsAtEnds}
-use Rattle.import_cycles.specs.ImportSteps.{file_added, packages_added, where_added}
-use Rattle.order_cycles.specs.Steps.{site_added}
+use Rattle.cycle_runs.specs.StepCycles.Steps.{StandsAtEnds}
+use Rattle.cycle_runs.specs.ImportCycles.ImportSteps.{file_added, packages_added, where_added}
+use Rattle.cycle_runs.specs.OrderCycles.Steps.{site_added}
 use Rattle.cycle_runs.specs.Linked.{Linked, SettlesFile}
 use Rattle.cycle_runs.proofs.Runs.{one-call}
 use Rattle.constant_cycles.proofs.OffCycles.{one_mark}
@@ -29,8 +29,8 @@ use Rattle.cycle_laws.specs.PutCalls.{called_among}
 use Rattle.cycle_laws.proofs.Called.{Callees, env_lit, bound_lit, called_by, callee, calls_expr, calls_all, calls_stmts}
 use Rattle.cycle_laws.proofs.CallsBare.{stmts-calls-bare}
 use Rattle.cycle_laws.proofs.Walked.{callees, callee-is, led, app, type-led, sig-led, expr-led, all-led}
-use Rattle.step_cycles.specs.Calls.{CallsThrough, AllPutCallThrough}
-use Rattle.bodies_there.proofs.Bodies.{literals-there}
+use Rattle.cycle_runs.specs.StepCycles.Calls.{CallsThrough, AllPutCallThrough}
+use Rattle.cycle_runs.proofs.BodiesThere.Bodies.{literals-there}
 use Rattle.literal_calls.specs.Literals.{IsName, IsLiteralOf, AllPutLiterals, PutsLiterals}
 
 -- ---- lists of marks

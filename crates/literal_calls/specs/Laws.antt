@@ -11,11 +11,11 @@ use Rattle.run_rules.specs.FormTrees.{as_expr}
 use Rattle.run_rules.specs.Steps.{At}
 use Rattle.run_rules.specs.Cycles.{is_recursive}
 use Rattle.run_rules.specs.Run.{Standing, Logged, Next}
-use Rattle.step_cycles.specs.Steps.{StandsAtEnds}
-use Rattle.import_cycles.specs.ImportSteps.{packages_added}
-use Rattle.order_cycles.specs.Steps.{site_added}
+use Rattle.cycle_runs.specs.StepCycles.Steps.{StandsAtEnds}
+use Rattle.cycle_runs.specs.ImportCycles.ImportSteps.{packages_added}
+use Rattle.cycle_runs.specs.OrderCycles.Steps.{site_added}
 use Rattle.cycle_runs.specs.Linked.{Linked, SettlesFile}
-use Rattle.step_cycles.specs.Calls.{CallsThrough, AllPutCallThrough}
+use Rattle.cycle_runs.specs.StepCycles.Calls.{CallsThrough, AllPutCallThrough}
 use Rattle.literal_calls.specs.Literals.{IsLiteralOf, AllPutLiterals, PutsLiterals}
 
 -- A literal of a function calls through to what the function calls, for a call that names it.

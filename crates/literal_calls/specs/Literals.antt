@@ -17,8 +17,8 @@ use Rattle.run_rules.specs.Sites.{MarkRef, Where, part_span, where_is, inlinable
 use Rattle.run_rules.specs.Steps.{At, same_here, changes_for}
 use Rattle.run_rules.specs.Run.{Standing, Logged, Next}
 use Rattle.cycle_laws.specs.PutCalls.{LiteralTyped, ConstantsCallNothing}
-use Rattle.import_cycles.specs.ImportSteps.{file_added, packages_added, where_added}
-use Rattle.bodies_there.specs.There.{AllCalledSo, PlaceThere}
+use Rattle.cycle_runs.specs.ImportCycles.ImportSteps.{file_added, packages_added, where_added}
+use Rattle.cycle_runs.specs.BodiesThere.There.{AllCalledSo, PlaceThere}
 
 -- a name, perhaps with a package before it
 abbrev pub IsName : Expr At → Type 0

@@ -29,12 +29,12 @@ use Rattle.go_types.proofs.Agreeing.{from_given, from_both, some_same}
 use Rattle.go_types.proofs.TypingBare.{parts-bare}
 use Rattle.typed_in_place.specs.Declared as declared
 use Rattle.typed_in_place.specs.Declared.{HasNumber}
-use Rattle.form_in_place.specs.CalledLiteral.{declared_at}
-use Rattle.form_in_place.specs.Bound.{literal_binds}
-use Rattle.form_in_place.specs.Places.{Landing, results_in}
-use Rattle.form_in_place.specs.Written.{Written, WrittenBody, w_func_lit}
-use Rattle.form_in_place.proofs.Call.{declared_is_literal, literal_anywhere}
-use Rattle.form_in_place.proofs.InPlace.{parts_there}
+use Rattle.form_meaning.specs.FormInPlace.CalledLiteral.{declared_at}
+use Rattle.form_meaning.specs.FormInPlace.Bound.{literal_binds}
+use Rattle.form_meaning.specs.FormInPlace.Places.{Landing, results_in}
+use Rattle.form_meaning.specs.FormInPlace.Written.{Written, WrittenBody, w_func_lit}
+use Rattle.form_meaning.proofs.FormInPlace.Call.{declared_is_literal, literal_anywhere}
+use Rattle.form_meaning.proofs.FormInPlace.InPlace.{parts_there}
 use Rattle.go_kernel.specs.Kernel.{FuncName}
 use Rattle.go_kernel.specs.Alike.{MeanSame}
 use Rattle.go_kernel.specs.Laws.{Ranked}
@@ -48,8 +48,8 @@ use Rattle.go_translation.specs.Packages.{sources, paths_in, codes_of, program_o
 use Rattle.go_translation.specs.Translation.{callee, expr_term, address, deferred_term}
 use Rattle.go_translation.proofs.TranslationBare.{expr_term-bare, deferred_term-bare}
 use Rattle.go_translation.proofs.ProgramScoped.{program_scoped}
-use Rattle.declared_results.proofs.PackagePaths.{numbered}
-use Rattle.declared_results.proofs.FirstDeclared.{answers_length}
+use Rattle.translation_rules.proofs.DeclaredResults.PackagePaths.{numbered}
+use Rattle.translation_rules.proofs.DeclaredResults.FirstDeclared.{answers_length}
 use Rattle.form_meaning.specs.CallMeaning.{CallOf, declaration_here}
 use Rattle.form_meaning.proofs.Declared.{declared_code}
 use Rattle.form_meaning.proofs.MeaningLaws.{operand_law, deferred_law}
@@ -462,7 +462,7 @@ module _ {S : Type 0} (same : S → S → Bool) (commented : ℕ → ℕ → S �
     callee_plain : (s : S) → v.called ≡ ident s v.name → K ≡ x.at.number → Callee (ident s v.name)
     callee_plain s q same_package =
         let o = plain_outside s q in
-        let m : (e : Entity) × (Rattle.form_in_place.specs.Places.is_member e ≡ true) × (means there_names.names v.name ≡ Some e) × (means (block_of (world rs).blocks x.at.number) v.name ≡ Some e) =
+        let m : (e : Entity) × (Rattle.form_meaning.specs.FormInPlace.Places.is_member e ≡ true) × (means there_names.names v.name ≡ Some e) × (means (block_of (world rs).blocks x.at.number) v.name ≡ Some e) =
         (file_meant rs x.at l.there_stands).in_block v.name x.mark.«package» x.mark.file x.mark.decl x.mark.item o.1 in
         let is : meaning c.env v.name ≡ Some (function meant.type) = h.outer v.name o.0 ∙ m.2 ∙ sym m.3 ∙ ap (λ k. means (block_of (world rs).blocks k) v.name) (sym same_package ∙ sym first.home_is) ∙ meant.meant in
         record {

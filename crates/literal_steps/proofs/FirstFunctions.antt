@@ -15,7 +15,7 @@ use Rattle.go_types.specs.Programs as source
 use Rattle.go_types.specs.Programs.{Header, constants, variables, a_type_spec, a_func, Headed, SourceFile, SourcePackage, Program, headers, all_headers, constant_headers, variable_headers, header_names, header_sound, names_in, headed, headed_file, headed_files, headed_package, file_block, at_member, is_main}
 use Rattle.go_types.proofs.Agreeing.{some_same}
 use Rattle.typed_in_place.specs.Declared.{FirstWith, this_one, a_later_one}
-use Rattle.form_in_place.proofs.Uses.{among_append}
+use Rattle.form_meaning.proofs.FormInPlace.Uses.{among_append}
 use Rattle.written_literal.proofs.NamesMeant.{means_join}
 use Rattle.constant_steps.specs.Alone.{block_from, PackageAt, this_package, a_later_package}
 use Rattle.literal_steps.specs.FirstFunctions.{FirstFunction}

@@ -26,11 +26,11 @@ use Rattle.go_translation.specs.Values.{path_of}
 use Rattle.go_translation.specs.Calls.{function_named, method_named}
 use Rattle.go_translation.specs.Packages.{Package, sources, paths_in, are_distinct, function_code, named_code, func_code, called_name, header_functions, headers_functions, codes_of, program_of}
 use Rattle.go_translation.proofs.AskedFor.{Each}
-use Rattle.declared_results.proofs.PackagePaths.{numbered, one_number}
-use Rattle.declared_results.proofs.FunctionsFound.{HomeIn, OwnPath, each_weaker, homes, packages_flat, func_alike, self}
-use Rattle.step_laws.specs.PartsTyped.{HeaderTyped}
-use Rattle.step_laws.proofs.PartsTyped.{headers-typed}
-use Rattle.step_laws.proofs.KnownConstants.{of-first}
+use Rattle.translation_rules.proofs.DeclaredResults.PackagePaths.{numbered, one_number}
+use Rattle.translation_rules.proofs.DeclaredResults.FunctionsFound.{HomeIn, OwnPath, each_weaker, homes, packages_flat, func_alike, self}
+use Rattle.constant_steps.specs.StepLaws.PartsTyped.{HeaderTyped}
+use Rattle.constant_steps.proofs.StepLaws.PartsTyped.{headers-typed}
+use Rattle.constant_steps.proofs.StepLaws.KnownConstants.{of-first}
 
 same_self : (x : List ℕ) → bytes_eq x x ≡ true
 same_self x = (bytes_eq-Decides x x).1 refl

@@ -17,8 +17,8 @@ use Rattle.go_types.specs.Statements.{range_types, range_binds, new_by_range, ri
 use Rattle.go_types.specs.TypeNames.{written_type, func_type}
 use Rattle.go_types.specs.Typing.{parts, all_parts, places, used_variables, declares, declares_constants, declares_variables, range_declares}
 use Rattle.go_types.proofs.Agreeing.{from_given, from_both, from_only, some_same}
-use Rattle.form_in_place.specs.Bound.{stmt_binds, first_binds, range_left_binds, literal_binds, variable_binds}
-use Rattle.form_in_place.proofs.Uses.{among_append}
+use Rattle.form_meaning.specs.FormInPlace.Bound.{stmt_binds, first_binds, range_left_binds, literal_binds, variable_binds}
+use Rattle.form_meaning.proofs.FormInPlace.Uses.{among_append}
 use Rattle.written_literal.specs.Within.{Grows}
 use Rattle.written_literal.proofs.WithinLaws.{behind_front}
 use Rattle.literal_steps.specs.TypedParts.{is_value, all_values, LocalValues}

@@ -18,12 +18,12 @@ use Rattle.go_types.specs.Literals.{Element, field_key, of_field, keyed, built_i
 use Rattle.go_types.specs.Bodies.{Ctx}
 use Rattle.go_types.specs.Typing.{parts, elements, element, with_key, stmts}
 use Rattle.go_types.proofs.Agreeing.{from_given, from_both}
-use Rattle.form_in_place.specs.Places.{Landing, SeenFields, SeenIn, SelectorAlike, is_member, means_function}
-use Rattle.form_in_place.specs.Bound.{inner_under, literal_under}
-use Rattle.form_in_place.specs.Written.{WrittenBody}
-use Rattle.form_in_place.specs.Leaves as rules
-use Rattle.form_in_place.specs.Leaves.{WrittenParams, no_params, param_and}
-use Rattle.form_in_place.proofs.Seen.{exported_selector}
+use Rattle.form_meaning.specs.FormInPlace.Places.{Landing, SeenFields, SeenIn, SelectorAlike, is_member, means_function}
+use Rattle.form_meaning.specs.FormInPlace.Bound.{inner_under, literal_under}
+use Rattle.form_meaning.specs.FormInPlace.Written.{WrittenBody}
+use Rattle.form_meaning.specs.FormInPlace.Leaves as rules
+use Rattle.form_meaning.specs.FormInPlace.Leaves.{WrittenParams, no_params, param_and}
+use Rattle.form_meaning.proofs.FormInPlace.Seen.{exported_selector}
 use Rattle.run_rules.specs.Surroundings.{Use, Place, Seen, seen, seen_type, seen_stmt, is_local}
 use Rattle.run_rules.specs.Places.{params_seen, stmts_seen}
 use Rattle.run_rules.specs.Rewriting.{new_label, new_params, new_stmts}
@@ -359,7 +359,7 @@ module _ {S : Type 0} (ps : List (Package S)) (home there : Where S) (at : Place
   IsFine x = Fine (landing ps home there at names new all outside beyond) all home.number outside at.env.names (changes_there ps home there at names new all outside beyond) x
 
   literal_fine : home.number ≡ there.number → (p : Place S) (t : TypeExpr S) (es : Elems S) → ElementsTyped home.number p.env t es
-      → Rattle.form_in_place.specs.Leaves.LiteralAlike (landing ps home there at names new all outside beyond) p.env (literal_under p.env t) es × FineElems (landing ps home there at names new all outside beyond) p.env (literal_under p.env t) es
+      → Rattle.form_meaning.specs.FormInPlace.Leaves.LiteralAlike (landing ps home there at names new all outside beyond) p.env (literal_under p.env t) es × FineElems (landing ps home there at names new all outside beyond) p.env (literal_under p.env t) es
   literal_fine same p t es h = (
     literal_here (landing ps home there at names new all outside beyond) p.env (literal_under p.env t) es (h.home_is ∙ same),
     subst (λ o. FineElems (landing ps home there at names new all outside beyond) p.env (given o (λ u. Some (under (defined_in p.env) u))) es) (sym h.meant) (fine_elems (landing ps home there at names new all outside beyond) p.env (under (defined_in p.env) h.type) es h.each (h.home_is ∙ same) h.typed),

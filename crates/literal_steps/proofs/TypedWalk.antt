@@ -24,7 +24,7 @@ use Rattle.go_types.specs.Statements.{Target, blank, target_at, stores_all, upda
 use Rattle.go_types.specs.Typing.{parts, all_parts, bound, elements, element, with_key, place, places, used, used_option, used_stmts, used_first, used_block, used_arms, used_cases, used_variables, declares, declares_first, declares_variables, range_declares, targets, stmt, stmts, first, block, is_call, ranges, arms, clauses}
 use Rattle.go_types.proofs.Agreeing.{from_given, from_both, from_only}
 use Rattle.typed_in_place.proofs.Rising.{and_second}
-use Rattle.form_in_place.specs.Bound.{stmt_binds, first_binds, range_left_binds, literal_binds, variable_binds}
+use Rattle.form_meaning.specs.FormInPlace.Bound.{stmt_binds, first_binds, range_left_binds, literal_binds, variable_binds}
 use Rattle.run_rules.specs.Surroundings.{Use, whole, stored, updated, called, deferred_call, alone, other, a_slot, Slot, Place, Seen, seen, seen_type, seen_stmt, alike, into_or, into_type, head_use, later_uses, arg_uses, unary_use, operand_use, first_operand_use, right_uses, every_use, value_use, return_uses, elem_use, key_use, inner_slot, last_slot, in_slot, callee_place, comma_slot, elem_closed, after_stmt, after_first, first_declares, left_declares, looping, switching, in_heading, at_stmt, plain_slot, ranged, in_literal, after_variables, is_local, is_old}
 use Rattle.run_rules.specs.Surroundings as around
 use Rattle.run_rules.specs.Places.{type_seen, written_seen, params_seen, sig_seen, old_seen, after_arms, expr_seen, all_seen, option_seen, elems_seen, key_seen, value_seen, stmt_seen, stmts_seen, first_seen, block_seen, left_seen, arms_seen, cases_seen, constants_seen, variables_seen}

@@ -19,7 +19,7 @@ use Rattle.go_types.specs.Typing.{parts, stmts}
 use Rattle.go_kernel.specs.Kernel.{FuncName}
 use Rattle.go_kernel.specs.Alike.{MeanSame}
 use Rattle.go_kernel.specs.Laws.{Ranked}
-use Rattle.form_in_place.specs.Written.{WrittenBody}
+use Rattle.form_meaning.specs.FormInPlace.Written.{WrittenBody}
 use Rattle.go_translation.specs.Values.{path_of}
 use Rattle.go_translation.specs.Calls.{function_named}
 use Rattle.go_translation.specs.Here.{Here}

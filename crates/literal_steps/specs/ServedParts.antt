@@ -11,7 +11,7 @@ use Rattle.go_types.specs.Entities.{Content, Entity, is_exported, defined_in}
 use Rattle.go_types.specs.Operands.{value}
 use Rattle.go_types.specs.Primary.{fields_in}
 use Rattle.go_types.specs.Typing.{parts}
-use Rattle.form_in_place.specs.Places.{open_in}
+use Rattle.form_meaning.specs.FormInPlace.Places.{open_in}
 use Rattle.run_rules.specs.Surroundings.{Place, Seen, seen, seen_type, seen_stmt}
 use Rattle.run_rules.specs.Sites.{Where, outer, outer_meaning, mark_of, qualifier}
 use Rattle.run_rules.specs.Naming.{Names}

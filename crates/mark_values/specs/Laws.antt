@@ -10,7 +10,7 @@ use Rattle.run_rules.specs.Sites.{MarkRef, Where, a_constant, is_among_marks, wh
 use Rattle.run_rules.specs.Respanned.{file_with, packages_with}
 use Rattle.run_rules.specs.Steps.{At}
 use Rattle.run_rules.specs.Run.{here_of}
-use Rattle.import_laws.specs.Steps.{names_standing}
+use Rattle.form_imports.specs.ImportLaws.Steps.{names_standing}
 use Rattle.place_meanings.specs.Parts.{AllScoped}
 use Rattle.member_uses.specs.declared.names.FileScopes.{FileScopes}
 use Rattle.member_uses.specs.Laws.{Knows}

@@ -17,20 +17,20 @@ use Rattle.run_rules.specs.Steps.{At, same_here}
 use Rattle.run_rules.specs.Run.{Standing, Logged, Next, here_of}
 use Rattle.run_laws.specs.Reading.{FileReads, FileAt, ProgramReads}
 use Rattle.run_laws.proofs.FoundSpans.{Placed}
-use Rattle.step_cycles.proofs.StepAlike.{found-placed}
+use Rattle.cycle_runs.proofs.StepCycles.StepAlike.{found-placed}
 use Rattle.constant_steps.specs.PlainUse.{AllTheUse}
 use Rattle.constant_steps.proofs.NamesOutside.{equal_numbers}
-use Rattle.run_steps.proofs.SeatedUses.{Among, first, later}
-use Rattle.run_steps.proofs.TokenPlaces.{tokens-rise}
-use Rattle.run_steps.proofs.SpanPlaces.{DeclIn, DeclsIn}
-use Rattle.run_steps.proofs.SpelledPlaces.{front_in}
-use Rattle.run_steps.proofs.SpreadParts.{AllOther, Apart}
-use Rattle.run_steps.proofs.SeenSpread.{decl-apart}
+use Rattle.order_runs.proofs.RunSteps.SeatedUses.{Among, first, later}
+use Rattle.order_runs.proofs.RunSteps.TokenPlaces.{tokens-rise}
+use Rattle.order_runs.proofs.RunSteps.SpanPlaces.{DeclIn, DeclsIn}
+use Rattle.order_runs.proofs.RunSteps.SpelledPlaces.{front_in}
+use Rattle.order_runs.proofs.RunSteps.SpreadParts.{AllOther, Apart}
+use Rattle.order_runs.proofs.RunSteps.SeenSpread.{decl-apart}
 use Rattle.std.specs.Prelude.{Contains}
 use Rattle.run_rules.specs.Surroundings.{Use, Place}
 use Rattle.run_rules.specs.Steps.{Found}
-use Rattle.import_cycles.specs.ImportSteps.{file_added, packages_added, where_added}
-use Rattle.taken_names.specs.Taken.{site_there}
+use Rattle.cycle_runs.specs.ImportCycles.ImportSteps.{file_added, packages_added, where_added}
+use Rattle.marked_runs.specs.TakenNames.Taken.{site_there}
 
 same-so : (a b : Span) → same_span a b ≡ true → a ≡ b
 same-so a b h =

@@ -1,3 +1,9 @@
 pub mod Alone
 pub mod NoCycles
 pub mod Runs
+pub mod SettledConstants
+pub mod NamedMarks
+pub mod ReadyModules
+pub mod KeptMarks
+pub mod TakenNames
+pub mod SoundImports

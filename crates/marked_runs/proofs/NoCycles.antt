@@ -7,8 +7,8 @@ use Rattle.run_rules.specs.Surroundings.{Use, other, Place, Seen, seen, seen_typ
 use Rattle.run_rules.specs.Sites.{MarkRef, is_among_marks, Where, Inlinable, Part, an_expr, a_type_part, Site, is_function, not_function, where_is, inlinable, parts_of, named_in, name_mark, qualified_mark, expr_mark, type_mark, site_by, type_sites, site_here, sites_among}
 use Rattle.run_rules.specs.Cycles.{without_marks, function_marks, leads_to, all_lead_to, reached, is_recursive}
 use Rattle.run_rules.specs.Steps.{At}
-use Rattle.named_marks.specs.Named.{IsNamedConstant, AllNamed}
-use Rattle.named_marks.proofs.Used.{of-kind, of-expr}
+use Rattle.marked_runs.specs.NamedMarks.Named.{IsNamedConstant, AllNamed}
+use Rattle.marked_runs.proofs.NamedMarks.Used.{of-kind, of-expr}
 
 module _ (ps : List (Package At)) (marks : List MarkRef) (all : AllNamed ps marks) where
   no-function : (m : MarkRef) → is_among_marks marks m ≡ true → meets (inlinable ps m) is_function ≡ false

@@ -9,20 +9,20 @@ use Rattle.run_rules.specs.Marks.{marks_of}
 use Rattle.run_rules.specs.Texts.{FileText}
 use Rattle.run_rules.specs.Inlining.{ModuleReads, standing_as_read}
 use Rattle.unspread_forms.specs.UnspreadForms.{UnspreadPackages}
-use Rattle.named_marks.specs.Laws.{ReadMarksAreNamed}
-use Rattle.ready_modules.specs.Laws.{ReadModulesAreReady}
-use Rattle.ready_modules.proofs.Typed.{typed_as_read}
+use Rattle.marked_runs.specs.NamedMarks.Laws.{ReadMarksAreNamed}
+use Rattle.marked_runs.specs.ReadyModules.Laws.{ReadModulesAreReady}
+use Rattle.marked_runs.proofs.ReadyModules.Typed.{typed_as_read}
 use Rattle.marked_runs.proofs.Alone.{alone-there}
 use Rattle.marked_runs.proofs.NoCycles.{no-cycle}
 use Rattle.std.specs.Prelude.{ℕ}
 use Rattle.go_translation.specs.Packages.{are_well_typed}
 use Rattle.run_rules.specs.Sites.{MarkRef}
 use Rattle.run_rules.specs.Run.{Standing, Logged, Next, Run, ends, goes_on, here_of}
-use Rattle.run_steps.specs.RunPackages.{members_of}
-use Rattle.named_marks.specs.Named.{AllNamed}
-use Rattle.settled_constants.specs.Programs.{IsReady, IsOverConstant}
-use Rattle.order_cycles.specs.Steps.{KeepsImportNames}
-use Rattle.order_cycles.specs.NewNames.{NamesByPath, FewNames}
+use Rattle.order_runs.specs.RunSteps.RunPackages.{members_of}
+use Rattle.marked_runs.specs.NamedMarks.Named.{AllNamed}
+use Rattle.marked_runs.specs.SettledConstants.Programs.{IsReady, IsOverConstant}
+use Rattle.cycle_runs.specs.OrderCycles.Steps.{KeepsImportNames}
+use Rattle.cycle_runs.specs.OrderCycles.NewNames.{NamesByPath, FewNames}
 use Rattle.cycle_runs.proofs.Runs.{linked-names, step-names}
 use Rattle.go_tree.specs.declared.spans.Span.{Span}
 use Rattle.pkg_graph.specs.Package.{SourceTree, Package}
@@ -32,13 +32,13 @@ use Rattle.run_laws.specs.Reading.{ProgramReads}
 use Rattle.run_laws.proofs.FoundSpans.{Placed}
 use Rattle.cycle_laws.proofs.StepsLead.{change-at}
 use Rattle.constant_steps.proofs.MarksFound.{StandsThere, stands_there}
-use Rattle.import_cycles.specs.ImportSteps.{file_added, packages_added, where_added}
-use Rattle.import_cycles.proofs.ImportStep.{placed}
-use Rattle.sound_imports.specs.Laws.{AddedImportsMayBeDeclared}
-use Rattle.settled_constants.specs.Laws.{ConstantsSettle}
-use Rattle.taken_names.specs.Taken.{TakesName, EachTakes}
-use Rattle.taken_names.specs.Laws.{StepsStayReady, RunsMeanTheSame, KeptByRun}
-use Rattle.kept_marks.specs.Laws.{NamedStepsAreOver, StepsKeepNamed}
+use Rattle.cycle_runs.specs.ImportCycles.ImportSteps.{file_added, packages_added, where_added}
+use Rattle.cycle_runs.proofs.ImportCycles.ImportStep.{placed}
+use Rattle.marked_runs.specs.SoundImports.Laws.{AddedImportsMayBeDeclared}
+use Rattle.marked_runs.specs.SettledConstants.Laws.{ConstantsSettle}
+use Rattle.marked_runs.specs.TakenNames.Taken.{TakesName, EachTakes}
+use Rattle.marked_runs.specs.TakenNames.Laws.{StepsStayReady, RunsMeanTheSame, KeptByRun}
+use Rattle.marked_runs.specs.KeptMarks.Laws.{NamedStepsAreOver, StepsKeepNamed}
 use Rattle.marked_runs.specs.Marked.{StandsAdded, AllOverNames}
 
 module _ (sound : AddedImportsMayBeDeclared) (marks : List MarkRef) (st : Standing) (l : Logged) (after : Standing) (n : Next marks st l after) (reads : ProgramReads st) (h : StandsAdded n) (names : KeepsImportNames n) (by_path : NamesByPath st.packages) (typed : are_well_typed (members_of st.packages) ≡ true) (few : FewNames st.packages n.found) where

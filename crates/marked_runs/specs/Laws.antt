@@ -16,9 +16,9 @@ use Rattle.run_rules.specs.Steps.{At}
 use Rattle.run_rules.specs.Texts.{FileText}
 use Rattle.run_rules.specs.Run.{Standing, Logged, Run}
 use Rattle.run_rules.specs.Inlining.{ModuleReads, standing_as_read}
-use Rattle.run_steps.specs.RunPackages.{packages_of}
-use Rattle.named_marks.specs.Named.{AllNamed}
-use Rattle.taken_names.specs.Laws.{KeptByRun}
+use Rattle.order_runs.specs.RunSteps.RunPackages.{packages_of}
+use Rattle.marked_runs.specs.NamedMarks.Named.{AllNamed}
+use Rattle.marked_runs.specs.TakenNames.Laws.{KeptByRun}
 use Rattle.unspread_forms.specs.UnspreadForms.{UnspreadPackages}
 use Rattle.marked_runs.specs.Marked.{AllOverNames}
 

@@ -13,12 +13,12 @@ use Rattle.run_rules.specs.Steps.{At, same_here}
 use Rattle.run_rules.specs.Run.{Standing, Logged, Next, Run, ends, goes_on, is_commented}
 use Rattle.constant_steps.specs.Alone.{PlainFiles}
 use Rattle.constant_steps.specs.PlainUse.{AllSimple}
-use Rattle.import_cycles.specs.ImportSteps.{file_added, packages_added, where_added}
-use Rattle.import_codes.specs.PackagesMoved.{ImportsStand}
-use Rattle.qualified_steps.specs.NamedUse.{NamedUse}
-use Rattle.run_steps.specs.RunPackages.{members_of, packages_of}
-use Rattle.taken_names.specs.Taken.{site_there}
-use Rattle.kept_marks.specs.Over.{IsOverName}
+use Rattle.cycle_runs.specs.ImportCycles.ImportSteps.{file_added, packages_added, where_added}
+use Rattle.order_runs.specs.ImportCodes.PackagesMoved.{ImportsStand}
+use Rattle.constant_steps.specs.QualifiedSteps.NamedUse.{NamedUse}
+use Rattle.order_runs.specs.RunSteps.RunPackages.{members_of, packages_of}
+use Rattle.marked_runs.specs.TakenNames.Taken.{site_there}
+use Rattle.marked_runs.specs.KeptMarks.Over.{IsOverName}
 
 -- the parts of a declaration of the use's file with the imports of the form added
 abbrev pub decl_there : {marks : List MarkRef} {st : Standing} {l : Logged} {after : Standing}

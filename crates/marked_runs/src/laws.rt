@@ -2,12 +2,12 @@
 
 ghost use Rattle.marked_runs.specs.Laws.{NamedMarksLieOnNoCycle, RunsOverMarksKeep};
 
-use kept_marks::marks_stay_named;
-use named_marks::read_marks_are_named;
-use ready_modules::read_modules_are_ready;
-use settled_constants::constants_settle;
-use sound_imports::added_imports_may_be_declared;
-use taken_names::{names_are_taken, runs_over_constants_keep};
+use crate::kept_marks::marks_stay_named;
+use crate::named_marks::read_marks_are_named;
+use crate::ready_modules::read_modules_are_ready;
+use crate::settled_constants::constants_settle;
+use crate::sound_imports::added_imports_may_be_declared;
+use crate::taken_names::{names_are_taken, runs_over_constants_keep};
 
 /// Where all marks are of constants, no marked function lies on a cycle. A run over marked constants, from a module that
 /// reads and is well typed and whose marks are all of constants, keeps typing, which marked functions lie on a cycle,

@@ -2,6 +2,18 @@
 //! Constant declarations; Import declarations; Program initialization and execution).
 #![tactic(auto)]
 
+mod kept_marks;
 mod laws;
+mod named_marks;
+mod ready_modules;
+mod settled_constants;
+mod sound_imports;
+mod taken_names;
 
+pub use kept_marks::marks_stay_named;
 pub use laws::runs_over_marks_keep;
+pub use named_marks::{read_marks_are_named, uses_are_marked};
+pub use ready_modules::read_modules_are_ready;
+pub use settled_constants::{constants_keep_cycles, constants_settle, programs_are_ready};
+pub use sound_imports::added_imports_may_be_declared;
+pub use taken_names::{names_are_taken, runs_over_constants_keep};

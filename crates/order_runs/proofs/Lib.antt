@@ -2,3 +2,8 @@ pub mod Likened
 pub mod RunOrders
 pub mod OrderedSteps
 pub mod OrderedRuns
+pub mod RunSteps
+pub mod ImportCodes
+pub mod ImportSteps
+pub mod ImportRuns
+pub mod SameCodes

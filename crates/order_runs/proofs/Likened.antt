@@ -16,17 +16,17 @@ use Rattle.typed_in_place.proofs.Rising.{and_first, and_second, both_true}
 use Rattle.typed_in_place.proofs.ImportRule.{well_typed_apart}
 use Rattle.go_kernel.specs.Kernel.{same_text}
 use Rattle.go_translation.specs.Packages.{Package, sources, codes_of, program_of, initial_of, has_path, has_number, are_distinct, are_linked, are_well_typed}
-use Rattle.step_laws.specs.PartsTyped.{HeaderTyped}
+use Rattle.constant_steps.specs.StepLaws.PartsTyped.{HeaderTyped}
 use Rattle.same_worlds.specs.SameWorlds.{SameWorld}
 use Rattle.same_worlds.proofs.HeadersMoved.{HeadersMoved, nothing_moved, after_first, places_changed, moved_again}
 use Rattle.same_worlds.proofs.OrdersSame.{collected-same}
-use Rattle.order_cycles.proofs.Orders.{worlds-then, equal-worlds}
-use Rattle.same_codes.specs.Orders.{PackagesReordered, no_packages, same_first, swapped, one_after_another}
-use Rattle.same_codes.proofs.OrdersTyped as orders
-use Rattle.same_codes.proofs.OrdersTyped.{declarations-ordered, header_ok-same, body_ok-same, used-same, types-same}
-use Rattle.same_codes.proofs.OrdersAlike.{sources-reordered, programs-alike, initial-alike}
-use Rattle.import_steps.proofs.Links.{Link, further-right, all-right}
-use Rattle.import_steps.proofs.TypedUnder.{AllTyped}
+use Rattle.cycle_runs.proofs.OrderCycles.Orders.{worlds-then, equal-worlds}
+use Rattle.order_runs.specs.SameCodes.Orders.{PackagesReordered, no_packages, same_first, swapped, one_after_another}
+use Rattle.order_runs.proofs.SameCodes.OrdersTyped as orders
+use Rattle.order_runs.proofs.SameCodes.OrdersTyped.{declarations-ordered, header_ok-same, body_ok-same, used-same, types-same}
+use Rattle.order_runs.proofs.SameCodes.OrdersAlike.{sources-reordered, programs-alike, initial-alike}
+use Rattle.order_runs.proofs.ImportSteps.Links.{Link, further-right, all-right}
+use Rattle.order_runs.proofs.ImportSteps.TypedUnder.{AllTyped}
 
 -- what is the same of two lists of packages
 pub record Likened {S : Type 0} (ps qs : List (Package S)) : Type 0 where

@@ -10,11 +10,11 @@ use Rattle.run_rules.specs.Texts.{FileText}
 use Rattle.run_rules.specs.Respanned.{packages_with}
 use Rattle.run_rules.specs.Run.{Standing, Logged, Run, ends, goes_on, as_read, here_of}
 use Rattle.run_rules.specs.Inlining.{standing_as_read}
-use Rattle.run_steps.specs.Bared.{bare_member, bare_members}
-use Rattle.run_steps.specs.RunPackages.{members_of, packages_of}
-use Rattle.run_steps.proofs.HeadersBared.{map-both}
-use Rattle.run_steps.proofs.OtherSpans.{members-with, members_to, members-to}
-use Rattle.run_steps.proofs.SpansForgotten.{codes-alike, typed-alike}
+use Rattle.order_runs.specs.RunSteps.Bared.{bare_member, bare_members}
+use Rattle.order_runs.specs.RunSteps.RunPackages.{members_of, packages_of}
+use Rattle.order_runs.proofs.RunSteps.HeadersBared.{map-both}
+use Rattle.order_runs.proofs.RunSteps.OtherSpans.{members-with, members_to, members-to}
+use Rattle.order_runs.proofs.RunSteps.SpansForgotten.{codes-alike, typed-alike}
 use Rattle.order_runs.specs.SameProgram.{SameProgram}
 use Rattle.order_runs.specs.ImportingRun.{EachImports}
 use Rattle.order_runs.proofs.OrderedSteps.{same-program, program-then, program-itself}

@@ -3,7 +3,7 @@
 use Rattle.std.specs.Prelude.{List}
 use Rattle.run_rules.specs.Sites.{MarkRef}
 use Rattle.run_rules.specs.Run.{Standing, Logged, Run, ends, goes_on}
-use Rattle.import_runs.specs.ImportingNext.{IsImporting}
+use Rattle.order_runs.specs.ImportRuns.ImportingNext.{IsImporting}
 
 -- each step of a run is over a constant that is declared as a name, with the imports that its form needs
 abbrev pub EachImports : {marks : List MarkRef} {st last : Standing} {log : List Logged} → Run marks st log last

@@ -11,8 +11,8 @@ use Rattle.run_rules.specs.Texts.{FileText}
 use Rattle.run_rules.specs.Respanned.{packages_with}
 use Rattle.run_rules.specs.Run.{Standing, Logged, here_of, Next, Run}
 use Rattle.run_rules.specs.Inlining.{ModuleReads, standing_as_read}
-use Rattle.run_steps.specs.RunPackages.{packages_of}
-use Rattle.import_runs.specs.ImportingNext.{IsImporting}
+use Rattle.order_runs.specs.RunSteps.RunPackages.{packages_of}
+use Rattle.order_runs.specs.ImportRuns.ImportingNext.{IsImporting}
 use Rattle.order_runs.specs.SameProgram.{SameProgram}
 use Rattle.order_runs.specs.ImportingRun.{EachImports}
 

@@ -8,7 +8,7 @@ use Rattle.run_rules.specs.Sites.{MarkRef, Where, Site}
 use Rattle.run_rules.specs.Steps.{At, same_here, first_found}
 use Rattle.run_rules.specs.Run.{Standing, here_of, is_commented}
 use Rattle.constant_forms.specs.declared.uses.ConstantUse.{ConstantUse}
-use Rattle.looked_files.specs.Laws.{LooksTellFiles}
+use Rattle.searched_sites.specs.LookedFiles.Laws.{LooksTellFiles}
 use Rattle.mark_values.specs.Values.{value_of}
 use Rattle.marked_uses.specs.Laws.{UsesArePlaced}
 use Rattle.package_search.specs.declared.looks.ProgramSources.{ProgramSources}

@@ -14,7 +14,7 @@ use Rattle.run_rules.specs.Steps.{At}
 use Rattle.run_rules.specs.Run.{Standing, here_of}
 use Rattle.mark_values.specs.Tables.{Known, key_of, value_in}
 use Rattle.module_marks.specs.Views.{mark_ref_of}
-use Rattle.looked_files.specs.Laws.{StandsAs, LooksTellFiles}
+use Rattle.searched_sites.specs.LookedFiles.Laws.{StandsAs, LooksTellFiles}
 use Rattle.package_search.specs.declared.looks.FileLook.{FileLook}
 use Rattle.package_search.specs.declared.looks.ProgramSources.{ProgramSources}
 use Rattle.package_search.specs.Search.{is_settled, block_of, LookAt}

@@ -17,7 +17,7 @@ use Rattle.run_rules.specs.Steps.{At}
 use Rattle.run_rules.specs.Run.{Standing, here_of}
 use Rattle.constant_forms.specs.declared.reduced.ReducedConstant.TheVariants.{Becomes}
 use Rattle.file_tables.specs.declared.tables.FileTables.{FileTables}
-use Rattle.looked_files.specs.Laws.{LooksTellFiles}
+use Rattle.searched_sites.specs.LookedFiles.Laws.{LooksTellFiles}
 use Rattle.marked_uses.specs.declared.uses.MarkedUse.{MarkedUse}
 use Rattle.package_search.specs.declared.looks.ProgramSources.{ProgramSources}
 use Rattle.package_search.specs.declared.search.FoundInPackage.{FoundInPackage}

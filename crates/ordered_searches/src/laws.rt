@@ -2,9 +2,8 @@
 
 ghost use Rattle.ordered_searches.specs.Laws.{FilesAreSearched, LooksFindSites, SearchesFindSteps, SearchesSettleFiles};
 
-use looked_files::looks_tell_files;
 use marked_uses::uses_are_placed;
-use searched_sites::searches_find_sites;
+use searched_sites::{looks_tell_files, searches_find_sites};
 
 /// In a program that the code has (`IsHeld`) a look at a file finds its sites, and tells of it what searches ask. So
 /// files that come to those that are settled, as looks at them show, are settled: none of their uses is free, and they

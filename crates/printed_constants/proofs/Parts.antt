@@ -12,7 +12,7 @@ use Rattle.run_rules.specs.Programs.{top_place, body_place, with_receiver, const
 use Rattle.place_meanings.specs.Parts.{IsScoped, AllScoped}
 use Rattle.possible_uses.specs.Among.{Keyed}
 use Rattle.constant_steps.specs.PlainUse.{IsSimple, AllSimple}
-use Rattle.import_uses.specs.Parts.{EachSeen}
+use Rattle.standing_uses.specs.ImportUses.Parts.{EachSeen}
 use Rattle.printed_constants.specs.Printed.{IsFlat, a_name, a_number, a_selection, AllFlat, no_operands, and_operand, IsPrint, an_operand, a_call, PrintStmts, no_prints, and_print, FlatConstants, no_constants, and_constant, IsPrinted, some_constants, a_function}
 
 module _ {S : Type 0} where

@@ -20,9 +20,9 @@ use Rattle.run_rules.specs.Steps.{At, same_here, change_nth, changes_for, new_co
 use Rattle.run_rules.specs.Run.{Standing, Logged, Next, origin_of, as_read}
 use Rattle.run_rules.specs.Inlining.{standing_as_read}
 use Rattle.run_rules.specs.Texts.{FileText}
-use Rattle.import_uses.proofs.Stays.{change}
-use Rattle.import_cycles.specs.ImportSteps.{file_added, packages_added}
-use Rattle.import_cycles.proofs.ImportStep.{placed}
+use Rattle.standing_uses.proofs.ImportUses.Stays.{change}
+use Rattle.cycle_runs.specs.ImportCycles.ImportSteps.{file_added, packages_added}
+use Rattle.cycle_runs.proofs.ImportCycles.ImportStep.{placed}
 use Rattle.run_laws.proofs.FoundSpans.{Placed}
 use Rattle.run_rules.specs.Run.{here_of}
 use Rattle.printed_constants.specs.Printed.{IsFlat, a_name, a_number, a_selection, AllFlat, no_operands, and_operand, IsPrint, an_operand, a_call, PrintStmts, no_prints, and_print, FlatConstants, no_constants, and_constant, IsPrinted, some_constants, a_function, ArePrinted}

@@ -9,7 +9,7 @@ use Rattle.place_meanings.specs.Parts.{AllScoped}
 use Rattle.possible_uses.specs.Among.{Keyed}
 use Rattle.constant_steps.specs.Alone.{PlainFiles}
 use Rattle.constant_steps.specs.PlainUse.{AllSimple}
-use Rattle.import_cycles.specs.ImportSteps.{packages_added}
+use Rattle.cycle_runs.specs.ImportCycles.ImportSteps.{packages_added}
 use Rattle.run_rules.specs.FormTrees.{as_expr}
 use Rattle.run_rules.specs.Programs.{linked_file, decl_seen}
 use Rattle.run_rules.specs.Run.{Standing, Logged, Next}

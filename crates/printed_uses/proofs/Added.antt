@@ -8,8 +8,8 @@ use Rattle.constant_steps.proofs.AfterStep.{nth_changed}
 use Rattle.constant_steps.proofs.MarksFound.{StandsThere, stands_there}
 use Rattle.constant_steps.specs.Alone.{PlainFiles}
 use Rattle.constant_steps.specs.PlainUse.{AllSimple}
-use Rattle.import_cycles.specs.ImportSteps.{file_added, packages_added, where_added}
-use Rattle.import_cycles.proofs.ImportStep.{placed}
+use Rattle.cycle_runs.specs.ImportCycles.ImportSteps.{file_added, packages_added, where_added}
+use Rattle.cycle_runs.proofs.ImportCycles.ImportStep.{placed}
 use Rattle.marked_runs.specs.Marked.{StandsAdded, decl_there}
 use Rattle.run_laws.proofs.FoundSpans.{Placed}
 use Rattle.run_rules.specs.Programs.{linked_file}

@@ -10,7 +10,7 @@ use Rattle.go_tree.specs.File.{ImportSpec, Decl, func}
 use Rattle.scope_names.specs.Identifiers.{decl_identifiers}
 use Rattle.pkg_graph.specs.Package.{Package}
 use Rattle.go_types.specs.Agreement.{In, head, tail}
-use Rattle.import_cycles.specs.OtherImports.{import_path}
+use Rattle.cycle_runs.specs.ImportCycles.OtherImports.{import_path}
 use Rattle.printed_constants.specs.Printed.{a_name, a_selection, no_operands, and_operand, a_call, no_prints, and_print, IsPrinted, a_function}
 
 abbrev at : ℕ → Span

@@ -4,8 +4,8 @@ use Rattle.std.specs.Prelude.{slice_get, Contains}
 use Rattle.go_tree.specs.Tree.{TypeExpr, Expr}
 use Rattle.go_tree.specs.File.{Decl}
 use Rattle.pkg_graph.specs.Package.{SourceTree, Package}
-use Rattle.import_uses.specs.Parts.{EachSeen}
-use Rattle.import_runs.proofs.Listed.{AllListed, order-listed}
+use Rattle.standing_uses.specs.ImportUses.Parts.{EachSeen}
+use Rattle.order_runs.proofs.ImportRuns.Listed.{AllListed, order-listed}
 use Rattle.run_rules.specs.Surroundings.{Use, Place, Seen, seen, seen_type, seen_stmt}
 use Rattle.run_rules.specs.Programs.{numbered_from, numbered, in_dependency_order, decl_seen}
 use Rattle.run_rules.specs.Sites.{MarkRef, Where, Site, an_expr, expr_mark, site_by, sites_among, decls_sites, files_sites, packages_sites, sites}

@@ -1,7 +1,7 @@
 -- A step among constants and functions that print them is over a marked constant, as kept_marks asks.
 use Rattle.form_splices.specs.Laws.{MakesForm}
 use Rattle.form_splices.proofs.FormsFound.{step-makes-form}
-use Rattle.named_marks.proofs.Used.{named-used}
+use Rattle.marked_runs.proofs.NamedMarks.Used.{named-used}
 use Rattle.form_names.proofs.Forms.{form_not_blank}
 use Rattle.put_names.specs.Uses.{UsesConstant}
 use Rattle.put_names.proofs.Constants.{constant_becomes}

@@ -5,17 +5,17 @@ use Rattle.go_tree.specs.File.{Decl}
 use Rattle.go_kernel.specs.Kernel.{FuncName}
 use Rattle.go_translation.specs.Packages.{Package}
 use Rattle.go_translation.specs.SameMeaning.{WellTyped, with_further}
-use Rattle.import_codes.specs.PackagesMoved.{ImportsStand}
-use Rattle.import_cycles.specs.ImportSteps.{packages_added}
+use Rattle.order_runs.specs.ImportCodes.PackagesMoved.{ImportsStand}
+use Rattle.cycle_runs.specs.ImportCycles.ImportSteps.{packages_added}
 use Rattle.marked_runs.specs.Marked.{decl_there}
-use Rattle.qualified_steps.specs.NamedUse.{NamedUse}
+use Rattle.constant_steps.specs.QualifiedSteps.NamedUse.{NamedUse}
 use Rattle.run_rules.specs.FormTrees.{as_expr}
 use Rattle.run_rules.specs.Run.{Standing, Logged, Next, is_commented}
 use Rattle.run_rules.specs.Sites.{MarkRef}
 use Rattle.run_rules.specs.Steps.{At, same_here}
 use Rattle.run_rules.specs.Surroundings.{Use, Place, seen}
-use Rattle.run_steps.specs.RunPackages.{members_of, packages_of}
-use Rattle.taken_names.specs.Taken.{site_there}
+use Rattle.order_runs.specs.RunSteps.RunPackages.{members_of, packages_of}
+use Rattle.marked_runs.specs.TakenNames.Taken.{site_there}
 
 -- With the imports of the form added the use stands at this place, is a name of a constant that is declared as
 -- another's name, and becomes that name; the imports are right at last.

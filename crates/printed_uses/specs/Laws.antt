@@ -3,18 +3,18 @@
 use Rattle.std.specs.Prelude.{◌≡◌, List, Contains}
 use Rattle.form_imports.specs.OwnNames.{AllOwn}
 use Rattle.go_tree.specs.Tree.{Expr}
-use Rattle.kept_imports.specs.Files.{RemovesNoNames}
-use Rattle.kept_marks.specs.Over.{IsOverName}
+use Rattle.cycle_runs.specs.KeptImports.Files.{RemovesNoNames}
+use Rattle.marked_runs.specs.KeptMarks.Over.{IsOverName}
 use Rattle.marked_runs.specs.Marked.{StandsAdded}
-use Rattle.named_marks.specs.Named.{AllNamed}
-use Rattle.order_cycles.specs.NewNames.{FewNames}
+use Rattle.marked_runs.specs.NamedMarks.Named.{AllNamed}
+use Rattle.cycle_runs.specs.OrderCycles.NewNames.{FewNames}
 use Rattle.pkg_graph.specs.Package.{Package}
 use Rattle.printed_constants.specs.Printed.{ArePrinted}
 use Rattle.run_rules.specs.Run.{Standing, Logged, Next}
 use Rattle.run_rules.specs.Sites.{MarkRef, Site, an_expr, sites}
 use Rattle.run_rules.specs.Steps.{At}
 use Rattle.printed_uses.specs.Added.{IsNamedThere}
-use Rattle.settled_constants.specs.Programs.{IsReady}
+use Rattle.marked_runs.specs.SettledConstants.Programs.{IsReady}
 
 -- Each use of such a program is an expression.
 abbrev pub PrintedUsesAreExpressions : Type 0

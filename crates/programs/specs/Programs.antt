@@ -11,7 +11,7 @@ use Rattle.run_rules.specs.Respanned.{decl_with, file_with, packages_with}
 use Rattle.run_rules.specs.Steps.{At}
 use Rattle.run_rules.specs.Run.{Standing, here_of, module_file_size, texts_size}
 use Rattle.run_laws.specs.Reading.{OnePathEach}
-use Rattle.import_laws.specs.Steps.{names_standing}
+use Rattle.form_imports.specs.ImportLaws.Steps.{names_standing}
 use Rattle.member_uses.specs.Uses.{Names}
 use Rattle.member_uses.specs.Laws.{AllConstants, Knows}
 use Rattle.file_names.specs.Imports.{FindsPackages}

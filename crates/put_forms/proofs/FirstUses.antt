@@ -17,12 +17,12 @@ use Rattle.run_laws.specs.Reading.{FileReads, FileAt, ProgramReads}
 use Rattle.run_laws.proofs.FoundSpans.{Placed, FoundIn, found_in}
 use Rattle.form_splices.specs.Laws.{MakesForm}
 use Rattle.form_splices.proofs.FormsFound.{IsForm, first-form}
-use Rattle.run_steps.proofs.SeatedUses.{Seated, sites-seated}
-use Rattle.run_steps.proofs.TokenPlaces.{tokens-rise}
-use Rattle.run_steps.proofs.SpanPlaces.{DeclsIn}
-use Rattle.run_steps.proofs.SpelledPlaces.{front_in}
-use Rattle.run_steps.proofs.SpreadParts.{Apart}
-use Rattle.run_steps.proofs.SeenSpread.{decl-apart}
+use Rattle.order_runs.proofs.RunSteps.SeatedUses.{Seated, sites-seated}
+use Rattle.order_runs.proofs.RunSteps.TokenPlaces.{tokens-rise}
+use Rattle.order_runs.proofs.RunSteps.SpanPlaces.{DeclsIn}
+use Rattle.order_runs.proofs.RunSteps.SpelledPlaces.{front_in}
+use Rattle.order_runs.proofs.RunSteps.SpreadParts.{Apart}
+use Rattle.order_runs.proofs.RunSteps.SeenSpread.{decl-apart}
 use Rattle.standing_uses.proofs.Once.{nth_in}
 
 module _ (marks : List MarkRef) (st : Standing) (u : Found At) (old : FileText) (first : step_in marks st ≡ Some u) (there : text_at u.site.at.source.path st.texts ≡ Some old) where

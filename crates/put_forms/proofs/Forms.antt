@@ -28,17 +28,17 @@ use Rattle.typed_dots.proofs.UndottedFiles.{files_are_undotted}
 use Rattle.typed_dots.proofs.UnspreadDots.{packages_dots}
 use Rattle.form_imports.specs.OwnNames.{AreInProgram}
 use Rattle.form_splices.specs.Laws.{MakesForm}
-use Rattle.import_uses.specs.Parts as parts
-use Rattle.import_uses.specs.Parts.{IsName, IsNoImport}
+use Rattle.standing_uses.specs.ImportUses.Parts as parts
+use Rattle.standing_uses.specs.ImportUses.Parts.{IsName, IsNoImport}
 use Rattle.place_meanings.specs.Agreement.{BlockIsLocal}
 use Rattle.place_meanings.specs.Parts.{AllScoped, AtPart, AtParts}
 use Rattle.place_meanings.proofs.PlacesMean.{blocks_local}
 use Rattle.run_laws.proofs.FoundSpans.{Placed}
-use Rattle.run_steps.proofs.SeatedUses.{Among, first, later, Seated}
+use Rattle.order_runs.proofs.RunSteps.SeatedUses.{Among, first, later, Seated}
 use Rattle.scoped_parts.specs.Laws.{WellTypedFilesAreScoped}
 use Rattle.standing_uses.proofs.Named.{constant_named}
 use Rattle.standing_uses.proofs.Once.{name_there}
-use Rattle.next_programs.specs.Made.{PutsForm}
+use Rattle.run_by_steps.specs.NextPrograms.Made.{PutsForm}
 use Rattle.put_nodes.specs.Put as put
 use Rattle.put_nodes.specs.Put.{FormIsPut, IsSomeName}
 use Rattle.put_nodes.specs.SpelledNames.{AreNames}
@@ -48,11 +48,11 @@ use Rattle.put_nodes.proofs.ReadFiles.{decl_formed}
 use Rattle.put_names.specs.Laws.{PackagesAreWritable}
 use Rattle.put_names.proofs.Constants.{constant_made}
 use Rattle.put_names.proofs.Forms.{NameMade}
-use Rattle.settled_constants.specs.Programs.{IsReady}
-use Rattle.settled_constants.proofs.BareDots.{decls_bare}
-use Rattle.settled_constants.proofs.Ready.{unspread_file, unspread_package, undotted_among, bare_with, linked_writable}
-use Rattle.written_names.specs.NamedPackages.{AreOfPackages}
-use Rattle.written_names.proofs.StepNames.{step_names, step_imports}
+use Rattle.marked_runs.specs.SettledConstants.Programs.{IsReady}
+use Rattle.marked_runs.proofs.SettledConstants.BareDots.{decls_bare}
+use Rattle.marked_runs.proofs.SettledConstants.Ready.{unspread_file, unspread_package, undotted_among, bare_with, linked_writable}
+use Rattle.put_names.specs.WrittenNames.NamedPackages.{AreOfPackages}
+use Rattle.put_names.proofs.WrittenNames.StepNames.{step_names, step_imports}
 use Rattle.put_forms.specs.Uses.{IsFirstUse, UsesNamedConstant}
 use Rattle.put_forms.proofs.FirstUses.{placed, makes, seated, file_reads, apart}
 use Rattle.put_forms.proofs.OneUse.{ask, only, DeclsPut, decls_put}

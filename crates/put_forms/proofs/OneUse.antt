@@ -19,10 +19,10 @@ use Rattle.run_rules.specs.Run.{here_of}
 use Rattle.run_rules.specs.Sites.{an_expr, Site, part_span}
 use Rattle.run_rules.specs.Steps.{At, same_here, change_nth, changes_for}
 use Rattle.run_rules.specs.Surroundings.{Use, Place, Seen, seen, seen_type, seen_stmt}
-use Rattle.run_steps.proofs.SeatedUses.{Among, first, later}
-use Rattle.run_steps.proofs.SpreadParts.{AllOther, Apart}
+use Rattle.order_runs.proofs.RunSteps.SeatedUses.{Among, first, later}
+use Rattle.order_runs.proofs.RunSteps.SpreadParts.{AllOther, Apart}
 use Rattle.put_nodes.specs.Swapped.{IsOldName}
-use Rattle.settled_constants.proofs.Ready.{bare_with}
+use Rattle.marked_runs.proofs.SettledConstants.Ready.{bare_with}
 use Rattle.standing_uses.proofs.Once.{other_place, not_there}
 use Rattle.put_forms.proofs.Puts.{Ask, Only}
 use Rattle.put_forms.proofs.Silent.{expr_bare}

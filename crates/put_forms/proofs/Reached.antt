@@ -13,15 +13,15 @@ use Rattle.run_rules.specs.Steps.{At, Found}
 use Rattle.run_rules.specs.Texts.{FileText}
 use Rattle.cycle_runs.specs.Linked.{SettlesFile}
 use Rattle.scoped_parts.specs.Laws.{WellTypedFilesAreScoped}
-use Rattle.next_programs.proofs.NextMade.{made_are_next}
-use Rattle.written_imports.specs.Laws.{AreNamed}
-use Rattle.written_imports.proofs.ReadNames.{read_packages_are_named}
-use Rattle.written_names.specs.NamedPackages.{PackagesAreNamed, PathsAreOctets}
-use Rattle.written_names.proofs.Kept as names
-use Rattle.written_names.proofs.ReadNames.{modules_named}
+use Rattle.run_by_steps.proofs.NextPrograms.NextMade.{made_are_next}
+use Rattle.run_by_steps.specs.WrittenImports.Laws.{AreNamed}
+use Rattle.run_by_steps.proofs.WrittenImports.ReadNames.{read_packages_are_named}
+use Rattle.put_names.specs.WrittenNames.NamedPackages.{PackagesAreNamed, PathsAreOctets}
+use Rattle.put_names.proofs.WrittenNames.Kept as names
+use Rattle.put_names.proofs.WrittenNames.ReadNames.{modules_named}
 use Rattle.run_by_steps.proofs.Kept as keep
-use Rattle.settled_constants.specs.Programs.{IsOverConstant}
-use Rattle.settled_constants.proofs.Settled.{constant_settles, stays_ready}
+use Rattle.marked_runs.specs.SettledConstants.Programs.{IsOverConstant}
+use Rattle.marked_runs.proofs.SettledConstants.Settled.{constant_settles, stays_ready}
 use Rattle.put_forms.specs.Uses.{UsesNamedConstant}
 use Rattle.put_forms.specs.Laws.{MadeConstantsAreNext, MadeConstantsStayReady, ConstantsComeNext, ReachedProgramsAreReady}
 use Rattle.put_forms.proofs.Forms.{puts_form, named_in_program}

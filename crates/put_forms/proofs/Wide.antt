@@ -18,7 +18,7 @@ use Rattle.splice_laws.specs.Swaps.{Swap}
 use Rattle.splice_laws.proofs.Files.{replaced}
 use Rattle.splice_laws.proofs.Rises.{tokens_rise}
 use Rattle.splice_laws.proofs.Wholes.{stands_among}
-use Rattle.next_programs.specs.Made.{PutsForm}
+use Rattle.run_by_steps.specs.NextPrograms.Made.{PutsForm}
 
 module _ (text : List ℕ) where
   -- tokens behind others stand there

@@ -12,8 +12,8 @@ use Rattle.constant_forms.specs.declared.uses.ConstantValue.{ConstantValue}
 use Rattle.constant_forms.specs.Uses.{IsValue}
 use Rattle.cycle_runs.specs.Linked.{Linked, SettlesFile}
 use Rattle.form_imports.specs.OwnNames.{AreInProgram}
-use Rattle.kept_imports.specs.Files.{RemovesNoNames}
-use Rattle.next_programs.specs.Made.{PutsForm, MakesFile, NextWith}
+use Rattle.cycle_runs.specs.KeptImports.Files.{RemovesNoNames}
+use Rattle.run_by_steps.specs.NextPrograms.Made.{PutsForm, MakesFile, NextWith}
 use Rattle.run_by_steps.specs.Reached.{HasReached, IsNextUse}
 use Rattle.run_rules.specs.Naming.{imports_added}
 use Rattle.run_rules.specs.Programs.{linked}
@@ -22,7 +22,7 @@ use Rattle.put_names.specs.Uses.{IsDeclaredAsName}
 use Rattle.run_rules.specs.Sites.{MarkRef, Where}
 use Rattle.run_rules.specs.Steps.{At, Found}
 use Rattle.run_rules.specs.Texts.{FileText}
-use Rattle.settled_constants.specs.Programs.{IsReady}
+use Rattle.marked_runs.specs.SettledConstants.Programs.{IsReady}
 use Rattle.unspread_forms.specs.UnspreadForms.{UnspreadPackages}
 use Rattle.put_forms.specs.Uses.{IsFirstUse, UsesNamedConstant, IsOfPackages}
 

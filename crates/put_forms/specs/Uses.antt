@@ -4,7 +4,7 @@ use Rattle.go_tree.specs.Tree.{NameAt, Expr}
 use Rattle.constant_forms.specs.declared.uses.ConstantValue.{ConstantValue}
 use Rattle.constant_forms.specs.declared.uses.ConstantValue.TheVariants.{Plain, Qualified}
 use Rattle.pkg_graph.specs.Package.{Package}
-use Rattle.order_cycles.specs.NewNames.{FewNames}
+use Rattle.cycle_runs.specs.OrderCycles.NewNames.{FewNames}
 use Rattle.put_names.specs.Uses.{IsDeclaredAsName}
 use Rattle.run_rules.specs.Marks.{text_at}
 use Rattle.run_rules.specs.Run.{Standing, step_in}

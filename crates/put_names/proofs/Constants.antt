@@ -21,7 +21,7 @@ use Rattle.run_laws.specs.Reading.{FileReads, ProgramReads}
 use Rattle.form_splices.specs.Laws.{MakesForm}
 use Rattle.form_splices.proofs.FormsFound.{step-makes-form}
 use Rattle.put_nodes.specs.SpelledNames.{AreNames}
-use Rattle.written_names.specs.NamedPackages.{AreOfPackages}
+use Rattle.put_names.specs.WrittenNames.NamedPackages.{AreOfPackages}
 use Rattle.put_nodes.specs.Swapped.{FormedDecl}
 use Rattle.put_nodes.proofs.ReadFiles.{decl_formed}
 use Rattle.put_names.specs.Uses.{IsDeclaredAsName, as_name, as_member, BecomesName, UsesConstant}

@@ -4,3 +4,6 @@ pub mod Forms
 pub mod Constants
 pub mod Aliases
 pub mod Settled
+pub mod PutTypes
+pub mod ReadImports
+pub mod WrittenNames

@@ -3,9 +3,9 @@ use Rattle.std.proofs.Common.{List}
 use Rattle.go_tree.specs.FileBare.{bare_file}
 use Rattle.cycle_runs.specs.Linked.{SettlesFile}
 use Rattle.import_splices.specs.AddedFile.{AreWritable}
-use Rattle.kept_imports.specs.Files.{RemovesNoNames}
-use Rattle.order_cycles.specs.NewNames.{FewNames}
-use Rattle.ordered_steps.specs.Ranks.{AddsLedTo}
+use Rattle.cycle_runs.specs.KeptImports.Files.{RemovesNoNames}
+use Rattle.cycle_runs.specs.OrderCycles.NewNames.{FewNames}
+use Rattle.cycle_runs.specs.OrderedSteps.Ranks.{AddsLedTo}
 use Rattle.run_rules.specs.Laws.{file_found}
 use Rattle.run_rules.specs.Naming.{imports_added}
 use Rattle.run_rules.specs.Run.{Standing, Logged, Next}
@@ -13,8 +13,8 @@ use Rattle.run_rules.specs.Sites.{MarkRef}
 use Rattle.run_laws.specs.Reading.{ProgramReads}
 use Rattle.splice_laws.specs.Dots.{UndottedFile}
 use Rattle.put_nodes.specs.SpelledNames.{AreNames}
-use Rattle.written_names.specs.NamedPackages.{AreOfPackages}
-use Rattle.written_names.proofs.StepNames.{step_names, step_imports}
+use Rattle.put_names.specs.WrittenNames.NamedPackages.{AreOfPackages}
+use Rattle.put_names.proofs.WrittenNames.StepNames.{step_names, step_imports}
 use Rattle.put_names.specs.Laws.{PackagesAreWritable}
 use Rattle.put_names.specs.Uses.{IsScopedAround, IsUsedByName, BecomesName, UsesConstant, UsesAlias}
 use Rattle.put_names.proofs.StepsPut.{steps_put}

@@ -28,9 +28,9 @@ use Rattle.form_splices.proofs.FormsFound.{step-makes-form}
 use Rattle.place_meanings.specs.Agreement.{BlockIsLocal}
 use Rattle.place_meanings.specs.Parts.{AtPart, AtParts}
 use Rattle.place_meanings.proofs.PlacesMean.{blocks_local}
-use Rattle.run_steps.proofs.SeatedUses.{Among, first, later, Seated, sites-seated}
-use Rattle.kept_imports.specs.Files.{PutsNode}
-use Rattle.read_imports.specs.PutInText.{PutInText}
+use Rattle.order_runs.proofs.RunSteps.SeatedUses.{Among, first, later, Seated, sites-seated}
+use Rattle.cycle_runs.specs.KeptImports.Files.{PutsNode}
+use Rattle.put_names.specs.ReadImports.PutInText.{PutInText}
 use Rattle.put_nodes.specs.Put.{FormIsPut}
 use Rattle.put_nodes.specs.Swapped.{IsOldName, old_name, MayBeSwapped, SeenSwapped, AllSwapped}
 use Rattle.put_nodes.proofs.NamesPut.{name_put}

@@ -9,13 +9,13 @@ use Rattle.run_laws.specs.Reading.{ProgramReads}
 use Rattle.splice_laws.specs.Dots.{UndottedFile}
 use Rattle.cycle_runs.specs.Linked.{SettlesFile}
 use Rattle.import_splices.specs.AddedFile.{AreWritable}
-use Rattle.kept_imports.specs.Files.{PutsNode, RemovesNoNames}
-use Rattle.order_cycles.specs.NewNames.{NamesByPath, FewNames}
-use Rattle.ordered_steps.specs.Ranks.{AddsLedTo}
+use Rattle.cycle_runs.specs.KeptImports.Files.{PutsNode, RemovesNoNames}
+use Rattle.cycle_runs.specs.OrderCycles.NewNames.{NamesByPath, FewNames}
+use Rattle.cycle_runs.specs.OrderedSteps.Ranks.{AddsLedTo}
 use Rattle.run_rules.specs.Naming.{imports_added}
-use Rattle.read_imports.specs.PutInText.{PutInText}
+use Rattle.put_names.specs.ReadImports.PutInText.{PutInText}
 use Rattle.put_nodes.specs.SpelledNames.{AreNames}
-use Rattle.written_names.specs.NamedPackages.{PackagesAreNamed, PathsAreOctets, AreOfPackages}
+use Rattle.put_names.specs.WrittenNames.NamedPackages.{PackagesAreNamed, PathsAreOctets, AreOfPackages}
 use Rattle.pkg_graph.specs.Package.{Package}
 use Rattle.run_rules.specs.Steps.{At}
 use Rattle.put_names.specs.Uses.{IsScopedAround, IsUsedByName, BecomesName, UsesConstant, UsesAlias}

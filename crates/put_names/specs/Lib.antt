@@ -1,2 +1,5 @@
 pub mod Uses
 pub mod Laws
+pub mod PutTypes
+pub mod ReadImports
+pub mod WrittenNames

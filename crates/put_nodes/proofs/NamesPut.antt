@@ -33,8 +33,8 @@ use Rattle.splice_laws.proofs.Rises.{tokens_rise}
 use Rattle.put_nodes.specs.SpelledNames.{IsNameExpr, a_name_alone, a_qualified_name}
 use Rattle.put_nodes.specs.Put.{FormIsPut, IsSomeName, alone, qualified}
 use Rattle.put_nodes.specs.Swapped.{StandsAs, as_operand, as_callee, as_deferred, IsOldName, IsSwapped, MayBeSwapped, is_old, is_node}
-use Rattle.forms_apart.proofs.Apart.{name_apart}
-use Rattle.names_apart.proofs.NoDots.{callee_undotted}
+use Rattle.put_nodes.proofs.FormsApart.Apart.{name_apart}
+use Rattle.put_nodes.proofs.NamesApart.NoDots.{callee_undotted}
 use Rattle.put_nodes.proofs.NamesLaid.{layout_of, first_name, first_is_name, first_laid, form_is, formed_name, new_is, callee_is, parted, edit_of, indent_spaces}
 
 module _ {A : Type 0} (to : A → Span) where

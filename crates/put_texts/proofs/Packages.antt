@@ -22,13 +22,13 @@ use Rattle.run_rules.specs.Steps.{At, same_here}
 use Rattle.run_rules.specs.Surroundings.{Place, seen_type}
 use Rattle.run_laws.specs.Reading.{ProgramReads}
 use Rattle.cycle_runs.specs.Linked.{Linked}
-use Rattle.order_cycles.specs.Orders.{AllOrdered}
-use Rattle.ordered_steps.specs.Ranks.{IsRanked, AddsLedTo}
-use Rattle.ordered_steps.proofs.Ranked.{orders-ranked}
-use Rattle.led_imports.proofs.Walk.{All}
-use Rattle.led_imports.proofs.Names.{EachN, Good, Fine, plain-fine, unnamed-good, type-kept, type-expr-same}
-use Rattle.led_imports.proofs.Homes.{package-path, package-there, file-imports, imports-one, Stands, mark-stands, here, home-led}
-use Rattle.written_names.specs.NamedPackages.{AreOfPackages}
+use Rattle.cycle_runs.specs.OrderCycles.Orders.{AllOrdered}
+use Rattle.cycle_runs.specs.OrderedSteps.Ranks.{IsRanked, AddsLedTo}
+use Rattle.cycle_runs.proofs.OrderedSteps.Ranked.{orders-ranked}
+use Rattle.cycle_runs.proofs.LedImports.Walk.{All}
+use Rattle.cycle_runs.proofs.LedImports.Names.{EachN, Good, Fine, plain-fine, unnamed-good, type-kept, type-expr-same}
+use Rattle.cycle_runs.proofs.LedImports.Homes.{package-path, package-there, file-imports, imports-one, Stands, mark-stands, here, home-led}
+use Rattle.put_names.specs.WrittenNames.NamedPackages.{AreOfPackages}
 use Rattle.put_names.proofs.Forms.{IsFormBy, by_obstacle, reduced_is}
 use Rattle.put_texts.specs.Uses.{UsesAliasText}
 use Rattle.put_texts.proofs.Texts.{text-formed, type-spelled}

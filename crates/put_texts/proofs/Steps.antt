@@ -8,11 +8,11 @@ use Rattle.go_tree.specs.FileBare.{bare_file}
 use Rattle.scope_names.specs.Identifiers.{type_identifiers}
 use Rattle.cycle_runs.specs.Linked.{Linked, SettlesFile}
 use Rattle.import_splices.specs.AddedFile.{AreWritable}
-use Rattle.kept_imports.specs.Files.{PutsNode, RemovesNoNames}
+use Rattle.cycle_runs.specs.KeptImports.Files.{PutsNode, RemovesNoNames}
 use Rattle.layout_laws.specs.Formed.{IsName, FormedType}
-use Rattle.order_cycles.specs.NewNames.{FewNames}
-use Rattle.ordered_steps.specs.Ranks.{AddsLedTo}
-use Rattle.read_imports.specs.PutInText.{PutInText}
+use Rattle.cycle_runs.specs.OrderCycles.NewNames.{FewNames}
+use Rattle.cycle_runs.specs.OrderedSteps.Ranks.{AddsLedTo}
+use Rattle.put_names.specs.ReadImports.PutInText.{PutInText}
 use Rattle.run_rules.specs.FormTrees.{Form, as_type, form_identifiers}
 use Rattle.run_rules.specs.Laws.{file_found}
 use Rattle.run_rules.specs.Naming.{Names, Named, unnamed, unnamed_in, names_by, named_packages, imports_added}
@@ -26,14 +26,14 @@ use Rattle.splice_laws.specs.Dots.{UndottedFile}
 use Rattle.splice_laws.specs.Swaps.{Swap, FileIn}
 use Rattle.put_nodes.specs.Put.{FormIsPut}
 use Rattle.put_nodes.specs.SpelledNames.{AreNames}
-use Rattle.type_nodes.specs.Names.{Written, type_names}
-use Rattle.type_nodes.specs.Swapped.{TypeSwapped, AllTypesSwapped}
-use Rattle.type_nodes.proofs.TopWalk.{types-swapped}
+use Rattle.put_nodes.specs.TypeNodes.Names.{Written, type_names}
+use Rattle.put_nodes.specs.TypeNodes.Swapped.{TypeSwapped, AllTypesSwapped}
+use Rattle.put_nodes.proofs.TypeNodes.TopWalk.{types-swapped}
 use Rattle.put_names.specs.Laws.{PackagesAreWritable}
 use Rattle.put_names.proofs.Forms.{IsFormBy}
 use Rattle.put_names.proofs.StepsPut.{placed, file_reads}
-use Rattle.written_names.proofs.StepNames.{step_names, step_imports}
-use Rattle.put_types.specs.Uses.{UsesTypeName}
+use Rattle.put_names.proofs.WrittenNames.StepNames.{step_names, step_imports}
+use Rattle.put_names.specs.PutTypes.Uses.{UsesTypeName}
 use Rattle.put_texts.specs.Uses.{BecomesType, UsesAliasText, FitsLiteral}
 use Rattle.put_texts.proofs.Texts.{text-formed}
 use Rattle.put_texts.proofs.Written.{Told, names-told, unnamed-holds, formed-there, literal-there}

@@ -29,12 +29,12 @@ use Rattle.splice_laws.proofs.Files.{replaced}
 use Rattle.splice_laws.proofs.Rises.{tokens_rise}
 use Rattle.form_splices.specs.Laws.{is_parted}
 use Rattle.form_splices.proofs.FormLayouts.{type-spliced}
-use Rattle.names_apart.specs.Starts.{StartsName}
-use Rattle.names_apart.proofs.NamesApart.{starts_name}
+use Rattle.put_nodes.specs.NamesApart.Starts.{StartsName}
+use Rattle.put_nodes.proofs.NamesApart.NamesApart.{starts_name}
 use Rattle.types_apart.proofs.TypesApart.{types-apart}
 use Rattle.put_nodes.specs.Put.{FormIsPut}
 use Rattle.put_nodes.proofs.NamesLaid.{indent_spaces}
-use Rattle.type_nodes.specs.Swapped.{TypeSwapped}
+use Rattle.put_nodes.specs.TypeNodes.Swapped.{TypeSwapped}
 use Rattle.put_texts.proofs.Texts.{formed-bare, literal-bare, bare-stays}
 
 -- ---- where a name of a type begins

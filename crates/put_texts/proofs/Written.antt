@@ -13,7 +13,7 @@ use Rattle.run_rules.specs.Naming.{Names, Named, unnamed, unnamed_package, new_f
 use Rattle.run_rules.specs.Sites.{Where, outer_meaning, qualifier}
 use Rattle.run_rules.specs.Steps.{At}
 use Rattle.run_rules.specs.Surroundings.{Place}
-use Rattle.ordered_steps.proofs.Members.{in-front, in-back}
+use Rattle.cycle_runs.proofs.OrderedSteps.Members.{in-front, in-back}
 use Rattle.put_nodes.specs.SpelledNames.{AreNames}
 use Rattle.put_names.proofs.Forms.{Qualifies, nothing, its_name, member_view}
 

@@ -7,11 +7,11 @@ use Rattle.go_tree.specs.File.{File}
 use Rattle.go_tree.specs.Tree.{NameAt, TypeExpr, named}
 use Rattle.cycle_runs.specs.Linked.{Linked, SettlesFile}
 use Rattle.import_splices.specs.AddedFile.{AreWritable}
-use Rattle.kept_imports.specs.Files.{PutsNode, RemovesNoNames}
+use Rattle.cycle_runs.specs.KeptImports.Files.{PutsNode, RemovesNoNames}
 use Rattle.layout_laws.specs.Formed.{FormedType, FormedLiteralType}
-use Rattle.order_cycles.specs.NewNames.{FewNames}
-use Rattle.order_cycles.specs.Orders.{AllOrdered}
-use Rattle.ordered_steps.specs.Ranks.{AddsLedTo}
+use Rattle.cycle_runs.specs.OrderCycles.NewNames.{FewNames}
+use Rattle.cycle_runs.specs.OrderCycles.Orders.{AllOrdered}
+use Rattle.cycle_runs.specs.OrderedSteps.Ranks.{AddsLedTo}
 use Rattle.run_laws.specs.Reading.{ProgramReads}
 use Rattle.run_rules.specs.FormTrees.{as_type}
 use Rattle.run_rules.specs.Inlining.{ReadsAs}
@@ -23,15 +23,15 @@ use Rattle.run_rules.specs.Sites.{MarkRef}
 use Rattle.run_rules.specs.Steps.{At}
 use Rattle.run_rules.specs.Surroundings.{Slot}
 use Rattle.run_rules.specs.Texts.{FileText}
-use Rattle.read_imports.specs.PutInText.{PutInText}
+use Rattle.put_names.specs.ReadImports.PutInText.{PutInText}
 use Rattle.splice_laws.specs.Dots.{UndottedFile}
 use Rattle.splice_laws.specs.Swaps.{FileIn}
 use Rattle.put_names.specs.Laws.{PackagesAreWritable}
 use Rattle.put_nodes.specs.Put.{FormIsPut}
 use Rattle.put_nodes.specs.SpelledNames.{AreNames}
-use Rattle.put_types.specs.Uses.{UsesTypeName}
-use Rattle.type_nodes.specs.Swapped.{TypeSwapped}
-use Rattle.written_names.specs.NamedPackages.{AreOfPackages}
+use Rattle.put_names.specs.PutTypes.Uses.{UsesTypeName}
+use Rattle.put_nodes.specs.TypeNodes.Swapped.{TypeSwapped}
+use Rattle.put_names.specs.WrittenNames.NamedPackages.{AreOfPackages}
 use Rattle.put_texts.specs.Uses.{BecomesType, UsesAliasText, FitsLiteral}
 
 -- A type is put in the place of a name of a type that is a node of a file which reads from its text: the edit that

@@ -7,7 +7,7 @@ use Rattle.run_rules.specs.FormTrees.{as_type}
 use Rattle.run_rules.specs.Run.{Standing, Logged, Next}
 use Rattle.run_rules.specs.Sites.{MarkRef, Where, an_alias, part_span, where_is, inlinable}
 use Rattle.run_rules.specs.Steps.{At}
-use Rattle.put_types.specs.Uses.{UsesTypeName}
+use Rattle.put_names.specs.PutTypes.Uses.{UsesTypeName}
 
 module _ {marks : List MarkRef} {st : Standing} {l : Logged} {after : Standing} (n : Next marks st l after) where
   -- The use becomes a type, which isn't `*` before another where it is the type of a composite literal.

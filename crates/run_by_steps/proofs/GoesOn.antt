@@ -19,13 +19,13 @@ use Rattle.run_laws.proofs.FilesKept.{runs_are_inlinings}
 use Rattle.next_file.specs.declared.limits.Progress.{Progress}
 use Rattle.next_file.specs.Limits.{ComesNext, told}
 use Rattle.next_file.specs.Files.{text_of}
-use Rattle.next_programs.specs.Made.{MakesFile, NextWith}
-use Rattle.next_programs.proofs.TextsRead.{texts_read}
-use Rattle.next_programs.proofs.NextMade.{made_are_next}
-use Rattle.next_programs.proofs.Reached.{reached_on, reached_runs}
-use Rattle.written_imports.proofs.StepImports.{imports_are_written}
-use Rattle.run_progress.specs.Laws.{HasCome}
-use Rattle.run_progress.proofs.Counts.{steps_come_next}
+use Rattle.run_by_steps.specs.NextPrograms.Made.{MakesFile, NextWith}
+use Rattle.run_by_steps.proofs.NextPrograms.TextsRead.{texts_read}
+use Rattle.run_by_steps.proofs.NextPrograms.NextMade.{made_are_next}
+use Rattle.run_by_steps.proofs.NextPrograms.Reached.{reached_on, reached_runs}
+use Rattle.run_by_steps.proofs.WrittenImports.StepImports.{imports_are_written}
+use Rattle.run_by_steps.specs.RunProgress.Laws.{HasCome}
+use Rattle.run_by_steps.proofs.RunProgress.Counts.{steps_come_next}
 use Rattle.run_by_steps.specs.Reached.{IsNextUse, row_of}
 use Rattle.run_by_steps.specs.Laws.{StepGoesOn, StepPassesLimit, StepIsRead, RunEnds}
 use Rattle.run_by_steps.proofs.Kept.{Kept, new_supported}

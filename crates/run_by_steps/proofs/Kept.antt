@@ -18,11 +18,11 @@ use Rattle.run_laws.specs.Laws.{OneTextEach}
 use Rattle.run_laws.specs.Reading.{ProgramReads, FileAt, OnePathEach}
 use Rattle.run_laws.proofs.PathsOwn.{paths_own}
 use Rattle.run_laws.proofs.RunsRead.{found_reads, next_reads, next_paths, modules_read}
-use Rattle.next_programs.proofs.Supported.{steps_keep_words}
-use Rattle.written_imports.specs.Laws.{AreNamed}
-use Rattle.written_imports.proofs.ReadNames.{read_packages_are_named, changed_named}
-use Rattle.run_progress.specs.Laws.{are_paths_apart}
-use Rattle.run_progress.proofs.Apart.{read_paths_are_apart, steps_keep_paths_apart}
+use Rattle.run_by_steps.proofs.NextPrograms.Supported.{steps_keep_words}
+use Rattle.run_by_steps.specs.WrittenImports.Laws.{AreNamed}
+use Rattle.run_by_steps.proofs.WrittenImports.ReadNames.{read_packages_are_named, changed_named}
+use Rattle.run_by_steps.specs.RunProgress.Laws.{are_paths_apart}
+use Rattle.run_by_steps.proofs.RunProgress.Apart.{read_paths_are_apart, steps_keep_paths_apart}
 use Rattle.run_by_steps.specs.Reached.{AllSupported, HasReached}
 
 pub record Kept (st : Standing) : Type 0 where

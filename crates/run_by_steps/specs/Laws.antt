@@ -17,8 +17,8 @@ use Rattle.next_file.specs.declared.file.NewFile.{NewFile}
 use Rattle.next_file.specs.declared.file.FileFault.TheVariants.{TooLarge, NotRead}
 use Rattle.next_file.specs.Limits.{told, Passes}
 use Rattle.next_file.specs.Files.{IsNewFile, IsFault, text_of}
-use Rattle.next_programs.specs.Made.{NextWith}
-use Rattle.run_progress.specs.Laws.{HasCome}
+use Rattle.run_by_steps.specs.NextPrograms.Made.{NextWith}
+use Rattle.run_by_steps.specs.RunProgress.Laws.{HasCome}
 use Rattle.run_by_steps.specs.Reached.{HasReached, IsNextUse, text_made, row_of}
 
 -- With the file that is answered of the next step the run has reached the next program.

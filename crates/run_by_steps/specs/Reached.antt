@@ -15,7 +15,7 @@ use Rattle.run_rules.specs.Steps.{At, Found}
 use Rattle.run_rules.specs.Run.{Standing, Logged, step_in, edits_in, logged, the_limits}
 use Rattle.run_rules.specs.Inlining.{ModuleReads, standing_as_read, Reaches}
 use Rattle.form_imports.specs.OwnNames.{AreInProgram}
-use Rattle.next_programs.specs.Made.{PutsForm}
+use Rattle.run_by_steps.specs.NextPrograms.Made.{PutsForm}
 
 -- each text has supported words alone
 abbrev pub AllSupported : List (List ℕ × FileText) → Type 0

@@ -3,7 +3,7 @@
 use Rattle.std.specs.Prelude.{◌≡◌, ℕ, true, List, Some, slice_get}
 use Rattle.go_tree.specs.File.{Decl}
 use Rattle.go_types.specs.WellTyped.{well_typed}
-use Rattle.order_cycles.specs.Orders.{AllOrdered}
+use Rattle.cycle_runs.specs.OrderCycles.Orders.{AllOrdered}
 use Rattle.pkg_graph.specs.Package.{Package}
 use Rattle.place_meanings.specs.Parts.{AllScoped}
 use Rattle.run_rules.specs.Surroundings.{Seen}

@@ -24,8 +24,8 @@ use Rattle.run_rules.specs.Texts.{FileText}
 use Rattle.run_rules.specs.Respanned.{file_with, package_with}
 use Rattle.run_rules.specs.Steps.{At, lies_in}
 use Rattle.run_rules.specs.Run.{Standing, here_of, is_commented}
-use Rattle.import_laws.specs.Steps.{names_standing}
-use Rattle.import_laws.proofs.GraphImports.{map_twice}
+use Rattle.form_imports.specs.ImportLaws.Steps.{names_standing}
+use Rattle.form_imports.proofs.ImportLaws.GraphImports.{map_twice}
 use Rattle.place_meanings.specs.Agreement.{AgreesAt}
 use Rattle.place_meanings.specs.Laws.{AreNamesOf}
 use Rattle.place_meanings.proofs.PlacesMean.{files_named}

@@ -1,3 +1,5 @@
 pub mod Told
 pub mod Searched
 pub mod Laws
+pub mod KeptUses
+pub mod LookedFiles

@@ -7,7 +7,7 @@ use Rattle.scope_names.specs.declared.names.ImportName.{ImportName}
 use Rattle.scope_tables.specs.Table.{IsTableOf}
 use Rattle.pkg_graph.specs.Package.{SourceTree, Package, import_specs}
 use Rattle.pkg_graph.specs.Members.{Target, package_block, import_name}
-use Rattle.import_laws.specs.Steps.{names_standing}
+use Rattle.form_imports.specs.ImportLaws.Steps.{names_standing}
 use Rattle.member_uses.specs.Uses.{Names}
 use Rattle.member_uses.specs.Laws.{Knows}
 use Rattle.run_laws.specs.Reading.{FileAt, OnePathEach}

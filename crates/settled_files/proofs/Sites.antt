@@ -7,7 +7,7 @@ use Rattle.constant_forms.specs.declared.uses.ConstantUse.{ConstantUse}
 use Rattle.constant_forms.specs.declared.uses.ConstantValue.{ConstantValue}
 use Rattle.constant_forms.specs.declared.uses.ConstantValue.TheVariants as lent
 use Rattle.constant_forms.specs.Views.{obstacle_of}
-use Rattle.kept_uses.specs.Laws.{AreToldAlike, KeptUsesStay}
+use Rattle.searched_sites.specs.KeptUses.Laws.{AreToldAlike, KeptUsesStay}
 use Rattle.mark_values.specs.declared.values.DeclaredValue.{DeclaredValue}
 use Rattle.mark_values.specs.declared.values.DeclaredValue.TheVariants.{Plain, Qualified}
 use Rattle.mark_values.specs.Tables.{value_in}

@@ -4,7 +4,7 @@ use Rattle.std.specs.Prelude.{slice_get}
 use Rattle.std.proofs.lemmas.Option.{none-some}
 use Rattle.go_tree.specs.declared.spans.Span.{Span}
 use Rattle.go_types.specs.Answers.{given}
-use Rattle.kept_uses.specs.Laws.{KeptUsesStay}
+use Rattle.searched_sites.specs.KeptUses.Laws.{KeptUsesStay}
 use Rattle.mark_values.specs.declared.values.DeclaredValue.{DeclaredValue}
 use Rattle.mark_values.specs.Tables.{Known, DeclKey, key_of, values_at}
 use Rattle.marked_uses.specs.Laws.{placed_sites, MarkedUsesAreSites, UsesArePlaced}

@@ -4,7 +4,7 @@ use Rattle.std.specs.Prelude.{◌≡◌, ℕ, Bool, true, List, Option, Some, No
 use Rattle.go_scan.specs.TokenLists.{TokenLists}
 use Rattle.pkg_graph.specs.Package.{Package}
 use Rattle.pkg_graph.specs.Members.{package_block}
-use Rattle.import_laws.specs.Steps.{names_standing}
+use Rattle.form_imports.specs.ImportLaws.Steps.{names_standing}
 use Rattle.mark_values.specs.declared.values.DeclaredValue.{DeclaredValue}
 use Rattle.mark_values.specs.Tables.{Known, DeclKey, same_key, IsPut}
 use Rattle.member_uses.specs.Uses.{Names}

@@ -3,8 +3,8 @@
 ghost use Rattle.settled_files.specs.Laws.{BlocksStay, FlagsMayStay, FoundUsesTell, KeptFilesStay, NamesStay};
 ghost use Rattle.settled_files.specs.Laws.{OtherValuesStay, PutsChangeOne, TablesStay};
 
-use kept_uses::kept_uses_stay;
 use marked_uses::{marked_uses_are_sites, uses_are_placed};
+use searched_sites::kept_uses_stay;
 
 /// A step changes no package block (`blocks`), so a table of marks stays right (`tables`), and in a file that isn't
 /// that of the step all names mean what they meant (`names`).

@@ -11,9 +11,9 @@ use Rattle.pkg_graph.specs.Package.{Package}
 use Rattle.go_types.specs.Agreement.{In, head}
 use Rattle.go_types.specs.Answers.{given, otherwise, is_among}
 use Rattle.go_types.specs.Typing.{parts, all_parts}
-use Rattle.import_cycles.proofs.FreeIdentifiers.{in-left, in-right}
-use Rattle.import_uses.proofs.Stays.{change}
-use Rattle.import_uses.specs.Parts.{DottedImports, at_the_end, before_a_dot, past_another}
+use Rattle.cycle_runs.proofs.ImportCycles.FreeIdentifiers.{in-left, in-right}
+use Rattle.standing_uses.proofs.ImportUses.Stays.{change}
+use Rattle.standing_uses.specs.ImportUses.Parts.{DottedImports, at_the_end, before_a_dot, past_another}
 use Rattle.run_rules.specs.Surroundings.{Use, other, called, alone, a_slot, Place, Seen, seen, seen_stmt, alike, head_use, later_uses, arg_uses, value_use, inner_slot, in_slot, callee_place, comma_slot, after_stmt, at_stmt, in_constant}
 use Rattle.run_rules.specs.Places.{expr_seen, all_seen, stmts_seen, params_seen, sig_seen}
 use Rattle.run_rules.specs.Programs.{top_place, body_place, constants_at_top, receiver_seen, decl_seen}

@@ -1,5 +1,5 @@
 -- A first use has a next program.
-use Rattle.next_programs.specs.Laws.{StepTextsAreRead}
+use Rattle.run_by_steps.specs.NextPrograms.Laws.{StepTextsAreRead}
 use Rattle.put_forms.specs.Laws.{ConstantFormsArePut, ConstantNamesAreInProgram, MadeConstantsAreNext}
 use Rattle.standing_forms.specs.Laws.{FirstUsesHaveNext}
 

@@ -18,7 +18,7 @@ use Rattle.run_rules.specs.Run.{Standing, is_commented}
 use Rattle.run_rules.specs.Steps.{At, same_here, Found, means_import, named_by_import}
 use Rattle.constant_steps.proofs.MarksFound.{both_none}
 use Rattle.constant_steps.proofs.NamesOutside.{unshadowed}
-use Rattle.import_uses.specs.Parts.{IsNoImport}
+use Rattle.standing_uses.specs.ImportUses.Parts.{IsNoImport}
 use Rattle.form_splices.specs.Laws.{MakesForm}
 use Rattle.put_names.specs.Uses.{IsDeclaredAsName, as_name, as_member}
 use Rattle.put_names.proofs.Forms.{IsFormBy, by_obstacle, reduced_is}

@@ -9,7 +9,7 @@ use Rattle.scope_tables.proofs.TableLaws.{first_of}
 use Rattle.pkg_graph.specs.Package.{SourceTree, Package, import_specs}
 use Rattle.pkg_graph.specs.Members.{Target, imported, member, predeclared, import_name, block_names, items_from, decls_from, files_from, package_block}
 use Rattle.go_types.specs.Answers.{given}
-use Rattle.import_cycles.specs.OtherImports.{import_path}
+use Rattle.cycle_runs.specs.ImportCycles.OtherImports.{import_path}
 use Rattle.run_rules.specs.Sites.{Where, imported_by, outer}
 use Rattle.run_rules.specs.Steps.{means_import}
 

@@ -5,8 +5,8 @@ use Rattle.go_tree.specs.declared.spans.Span.{Span}
 use Rattle.go_tree.specs.File.{File}
 use Rattle.go_tree.specs.Tree.{Expr}
 use Rattle.constant_forms.specs.declared.reduced.ConstantForm.{ConstantForm}
-use Rattle.import_uses.specs.Parts.{IsNoImport}
-use Rattle.next_programs.specs.Made.{NextWith}
+use Rattle.standing_uses.specs.ImportUses.Parts.{IsNoImport}
+use Rattle.run_by_steps.specs.NextPrograms.Made.{NextWith}
 use Rattle.printed_constants.specs.Printed.{ArePrinted}
 use Rattle.put_forms.specs.Uses.{IsFirstUse, UsesNamedConstant}
 use Rattle.run_rules.specs.FormTrees.{as_expr}
@@ -14,11 +14,11 @@ use Rattle.run_rules.specs.Run.{Standing}
 use Rattle.run_rules.specs.Sites.{MarkRef}
 use Rattle.run_rules.specs.Steps.{At, Found}
 use Rattle.run_rules.specs.Texts.{FileText}
-use Rattle.settled_constants.specs.Programs.{IsReady}
+use Rattle.marked_runs.specs.SettledConstants.Programs.{IsReady}
 use Rattle.standing_uses.specs.Laws.{AreTyped}
-use Rattle.told_steps.specs.Laws.{BecomesForm}
+use Rattle.standing_uses.specs.ToldSteps.Laws.{BecomesForm}
 use Rattle.go_translation.specs.SameMeaning.{WellTyped}
-use Rattle.run_steps.specs.RunPackages.{packages_of}
+use Rattle.order_runs.specs.RunSteps.RunPackages.{packages_of}
 
 -- In a program that is ready the first use of a constant that is declared as a name has a next program.
 abbrev pub FirstUsesHaveNext : Type 0

@@ -4,8 +4,8 @@ ghost use Rattle.standing_forms.specs.Laws.{FirstUsesAreTyped, FirstUsesHaveNext
 
 use declared_members::constants_name_members;
 use dotted_imports::well_typed_files_are_dotted;
-use next_programs::step_texts_are_read;
 use put_forms::{constants_come_next, forms_of_constants_are_put};
+use run_by_steps::step_texts_are_read;
 
 /// In a program that is ready there is a next program of the first use of a constant that is declared as a name: its
 /// new text is read. So what is proved of steps is known of the use before its new text is read (Go specification,

@@ -1,2 +1,6 @@
 pub mod Named
 pub mod Once
+pub mod ImportUses
+pub mod LoneUses
+pub mod ToldSteps
+pub mod UsePlaces

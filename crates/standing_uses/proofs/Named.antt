@@ -9,7 +9,7 @@ use Rattle.go_types.specs.Answers.{given, meets}
 use Rattle.run_rules.specs.Surroundings.{Place, is_local}
 use Rattle.run_rules.specs.Sites.{MarkRef, Where, Inlinable, a_constant, imported_by, mark_of, is_among_marks, is_free_function, not_function, inlinable, outer, name_mark, qualifier, member_of, is_this_method, find_marked_method, method_home, selected_method, marked, marked_as, called_mark, expr_mark}
 use Rattle.run_rules.specs.Steps.{means_import, named_by_import}
-use Rattle.import_uses.specs.Parts.{IsName, IsNoImport, alone, behind}
+use Rattle.standing_uses.specs.ImportUses.Parts.{IsName, IsNoImport, alone, behind}
 
 none_is : {A P : Type 0} (a : A) → None ≡ Some a → P
 none_is a e = absurd (grind (arith, ap is_some e))

@@ -20,21 +20,21 @@ use Rattle.run_laws.proofs.FoundSpans.{Placed, FoundIn, found_in}
 use Rattle.form_splices.specs.Laws.{MakesForm}
 use Rattle.form_splices.proofs.FormsFound.{IsForm, first-form}
 use Rattle.constant_steps.proofs.NamesOutside.{equal_numbers}
-use Rattle.run_steps.proofs.SeatedUses.{Among, first, later, Seated, sites-seated}
-use Rattle.run_steps.proofs.TokenPlaces.{tokens-rise}
-use Rattle.run_steps.proofs.SpanPlaces.{DeclIn, DeclsIn}
-use Rattle.run_steps.proofs.SpelledPlaces.{front_in}
-use Rattle.run_steps.proofs.SpreadParts.{AllOther, Apart}
-use Rattle.run_steps.proofs.SeenSpread.{decl-apart}
-use Rattle.import_uses.specs.Parts.{EachSeen, IsName, IsElsewhere, StandsOnce}
-use Rattle.import_uses.specs.Parts as stands
+use Rattle.order_runs.proofs.RunSteps.SeatedUses.{Among, first, later, Seated, sites-seated}
+use Rattle.order_runs.proofs.RunSteps.TokenPlaces.{tokens-rise}
+use Rattle.order_runs.proofs.RunSteps.SpanPlaces.{DeclIn, DeclsIn}
+use Rattle.order_runs.proofs.RunSteps.SpelledPlaces.{front_in}
+use Rattle.order_runs.proofs.RunSteps.SpreadParts.{AllOther, Apart}
+use Rattle.order_runs.proofs.RunSteps.SeenSpread.{decl-apart}
+use Rattle.standing_uses.specs.ImportUses.Parts.{EachSeen, IsName, IsElsewhere, StandsOnce}
+use Rattle.standing_uses.specs.ImportUses.Parts as stands
 use Rattle.standing_uses.specs.Laws.{IsNamedOnce, ConstantUsesStandOnce, AreTyped, ConstantStepsAreTold}
 use Rattle.go_tree.specs.FileView.{file_of}
 use Rattle.scope_names.specs.declared.names.ImportName.{ImportName}
 use Rattle.scope_tables.specs.Table.{IsTableOf, table_of}
 use Rattle.pkg_graph.specs.Package.{Package, import_specs}
-use Rattle.import_laws.specs.Steps.{names_standing}
-use Rattle.import_laws.proofs.GraphImports.{map_twice}
+use Rattle.form_imports.specs.ImportLaws.Steps.{names_standing}
+use Rattle.form_imports.proofs.ImportLaws.GraphImports.{map_twice}
 use Rattle.place_meanings.specs.Laws.{AreNamesOf}
 use Rattle.place_meanings.proofs.PlacesMean.{files_named}
 use Rattle.constant_forms.specs.declared.uses.ConstantUse.{ConstantUse}
@@ -44,7 +44,7 @@ use Rattle.constant_forms.specs.Views.{form_of, reduced_of}
 use Rattle.constant_forms.specs.Uses.{IsUse, IsReducedTo}
 use Rattle.unused_imports.specs.Uses.{all_parts}
 use Rattle.unused_imports.specs.Told.{IsTold}
-use Rattle.import_uses.specs.Steps.{StepsSwapUses}
+use Rattle.standing_uses.specs.ImportUses.Steps.{StepsSwapUses}
 use Rattle.run_rules.specs.FormTrees.{Form}
 use Rattle.run_rules.specs.Reduced.{Reduced, becomes}
 use Rattle.run_rules.specs.Laws.{file_found}

@@ -21,8 +21,8 @@ use Rattle.constant_forms.specs.Views.{name_expr}
 use Rattle.constant_forms.specs.Uses.{IsUse, IsReducedTo}
 use Rattle.unused_imports.specs.Uses.{all_parts}
 use Rattle.unused_imports.specs.Told.{IsTold}
-use Rattle.import_uses.specs.Parts.{IsName, IsNoImport, StandsOnce}
-use Rattle.import_uses.specs.Steps.{EachDecl, IsStanding}
+use Rattle.standing_uses.specs.ImportUses.Parts.{IsName, IsNoImport, StandsOnce}
+use Rattle.standing_uses.specs.ImportUses.Steps.{EachDecl, IsStanding}
 
 -- It is a name that nothing declares around it and that of no import, or a name behind a name. Of all parts of its
 -- declaration it alone stands at its span, at its place.

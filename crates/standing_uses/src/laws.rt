@@ -2,7 +2,7 @@
 
 ghost use Rattle.standing_uses.specs.Laws.{ConstantStepsAreTold, ConstantUsesStandOnce};
 
-use import_uses::steps_swap_uses;
+use crate::import_uses::steps_swap_uses;
 
 /// Where the files of a program read from their texts, a use of a constant that a step finds is a name, that of no
 /// import, or a name behind a name, and stands once in its declaration, as import_uses asks.

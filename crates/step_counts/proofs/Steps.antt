@@ -10,7 +10,7 @@ use Rattle.run_rules.specs.Run.{Standing, Logged, Next, path_of_file, texts_size
 use Rattle.run_rules.specs.Sites.{MarkRef}
 use Rattle.run_rules.specs.Steps.{At}
 use Rattle.run_rules.specs.Texts.{FileText}
-use Rattle.run_progress.proofs.Counts.{origins_are_counted}
+use Rattle.run_by_steps.proofs.RunProgress.Counts.{origins_are_counted}
 use Rattle.step_counts.specs.declared.counts.StepCounts.{StepCounts}
 use Rattle.step_counts.specs.Origins.{Counted, OriginKey, same_key, steps_from, counted_at, IsCounted}
 use Rattle.step_counts.specs.Laws.{steps_at, AreCounted, NoneAreCounted, OneMore, StepsAreCounted, OriginsWithinSteps, CountsCome, TextsLieWithin}

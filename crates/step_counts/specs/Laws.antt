@@ -10,7 +10,7 @@ use Rattle.run_rules.specs.Sites.{MarkRef}
 use Rattle.run_rules.specs.Steps.{At}
 use Rattle.run_rules.specs.Texts.{FileText}
 use Rattle.next_file.specs.declared.limits.Progress.{Progress}
-use Rattle.run_progress.specs.Laws.{HasCome}
+use Rattle.run_by_steps.specs.RunProgress.Laws.{HasCome}
 use Rattle.step_counts.specs.declared.counts.StepCounts.{StepCounts}
 use Rattle.step_counts.specs.Origins.{OriginKey, same_key, steps_from}
 

@@ -17,9 +17,9 @@ use Rattle.run_rules.specs.Places.{type_seen, written_seen, params_seen, sig_see
 use Rattle.run_rules.specs.Rewriting.{Changes, new_name, new_names, new_written, new_params, new_sig, new_expr, new_all, new_option, new_elems, new_key, new_value, new_stmt, new_stmts, new_first, new_block, new_left, new_arms, new_cases, new_constants, new_variables}
 use Rattle.run_rules.specs.Respanned.{value_with}
 use Rattle.run_rules.specs.Sites.{an_expr, part_span}
-use Rattle.import_uses.specs.Parts.{EachSeen, IsElsewhere, IsKeyed, StandsOnce}
-use Rattle.import_uses.proofs.Stays.{change}
-use Rattle.import_uses.proofs.Walk.{IsForm}
+use Rattle.standing_uses.specs.ImportUses.Parts.{EachSeen, IsElsewhere, IsKeyed, StandsOnce}
+use Rattle.standing_uses.proofs.ImportUses.Stays.{change}
+use Rattle.standing_uses.proofs.ImportUses.Walk.{IsForm}
 use Rattle.possible_uses.specs.Among.{ElemsKeyed, KeyKeyed, ValueKeyed}
 use Rattle.possible_uses.specs.Candidates.{Candidate, plain_part, key_part}
 use Rattle.possible_uses.specs.Parts as after

@@ -5,7 +5,7 @@ use Rattle.go_tree.specs.Tree.{NameAt, Expr, ident}
 use Rattle.go_tree.specs.File.{Decl, File}
 use Rattle.pkg_graph.specs.Package.{Package}
 use Rattle.constant_forms.specs.Views.{name_expr}
-use Rattle.import_uses.specs.Parts.{EachSeen, IsName, StandsOnce}
+use Rattle.standing_uses.specs.ImportUses.Parts.{EachSeen, IsName, StandsOnce}
 use Rattle.possible_uses.specs.Among.{Keyed}
 use Rattle.possible_uses.specs.Candidates.{Candidate}
 use Rattle.possible_uses.specs.Parts.{parts_of}

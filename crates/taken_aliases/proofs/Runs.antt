@@ -12,16 +12,16 @@ use Rattle.run_rules.specs.Texts.{FileText}
 use Rattle.run_rules.specs.Respanned.{packages_with}
 use Rattle.run_rules.specs.Run.{Standing, Logged, Next, Run, ends, goes_on, as_read, here_of}
 use Rattle.run_rules.specs.Inlining.{standing_as_read}
-use Rattle.run_steps.specs.RunPackages.{members_of, packages_of}
-use Rattle.run_steps.proofs.OtherSpans.{members-with}
+use Rattle.order_runs.specs.RunSteps.RunPackages.{members_of, packages_of}
+use Rattle.order_runs.proofs.RunSteps.OtherSpans.{members-with}
 use Rattle.order_runs.specs.SameProgram.{SameProgram}
 use Rattle.order_runs.proofs.OrderedSteps.{program-then, program-itself}
 use Rattle.order_runs.proofs.OrderedRuns.{spans-keep-program}
 use Rattle.alias_runs.specs.AliasNext.{IsImportingAlias}
-use Rattle.settled_constants.specs.Laws as settled
-use Rattle.settled_constants.specs.Programs.{IsReady}
-use Rattle.ready_modules.proofs.Typed.{linked_typed}
-use Rattle.taken_names.proofs.Steps as constants
+use Rattle.marked_runs.specs.SettledConstants.Laws as settled
+use Rattle.marked_runs.specs.SettledConstants.Programs.{IsReady}
+use Rattle.marked_runs.proofs.ReadyModules.Typed.{linked_typed}
+use Rattle.marked_runs.proofs.TakenNames.Steps as constants
 use Rattle.taken_aliases.specs.Taken.{TakesAlias, TakesEither, of_constant, of_alias, EachTakesEither}
 use Rattle.taken_aliases.proofs.Steps as aliases
 

@@ -15,10 +15,10 @@ use Rattle.run_rules.specs.Texts.{FileText}
 use Rattle.run_rules.specs.Respanned.{packages_with}
 use Rattle.run_rules.specs.Run.{Standing, Logged, here_of, Next, Run}
 use Rattle.run_rules.specs.Inlining.{ModuleReads, standing_as_read}
-use Rattle.run_steps.specs.RunPackages.{packages_of}
+use Rattle.order_runs.specs.RunSteps.RunPackages.{packages_of}
 use Rattle.order_runs.specs.SameProgram.{SameProgram}
 use Rattle.alias_runs.specs.AliasNext.{IsImportingAlias}
-use Rattle.settled_constants.specs.Programs.{IsReady}
+use Rattle.marked_runs.specs.SettledConstants.Programs.{IsReady}
 use Rattle.taken_aliases.specs.Taken.{TakesAlias, TakesEither, EachTakesEither}
 
 -- A step that alias_runs speaks of is such a step, whose use has its old place with the imports added.

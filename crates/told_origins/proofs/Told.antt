@@ -19,8 +19,8 @@ use Rattle.run_rules.specs.Sites.{MarkRef, Part, an_expr, a_type_part, a_constan
 use Rattle.run_rules.specs.Steps.{At}
 use Rattle.run_rules.specs.Surroundings.{Place, Seen, seen}
 use Rattle.run_rules.specs.Texts.{FileText}
-use Rattle.import_uses.specs.Parts as parts
-use Rattle.import_uses.specs.Parts.{IsName}
+use Rattle.standing_uses.specs.ImportUses.Parts as parts
+use Rattle.standing_uses.specs.ImportUses.Parts.{IsName}
 use Rattle.member_uses.proofs.Stays.{candidate_with, after_decl-stays}
 use Rattle.place_meanings.specs.Agreement.{BlockIsLocal}
 use Rattle.place_meanings.specs.Parts.{AllScoped}
@@ -29,16 +29,16 @@ use Rattle.possible_uses.specs.Among.{Keyed}
 use Rattle.possible_uses.specs.Candidates.{Candidate}
 use Rattle.possible_uses.specs.Laws.{PartsAreAmongAll}
 use Rattle.possible_uses.specs.Parts.{parts_of}
-use Rattle.run_steps.proofs.SeatedUses.{Among, Seated, sites-seated}
-use Rattle.run_steps.proofs.SpanPlaces.{DeclIn, DeclsIn}
-use Rattle.run_steps.proofs.SpelledPlaces.{front_in}
-use Rattle.run_steps.proofs.TokenPlaces.{Rises, tokens-rise}
+use Rattle.order_runs.proofs.RunSteps.SeatedUses.{Among, Seated, sites-seated}
+use Rattle.order_runs.proofs.RunSteps.SpanPlaces.{DeclIn, DeclsIn}
+use Rattle.order_runs.proofs.RunSteps.SpelledPlaces.{front_in}
+use Rattle.order_runs.proofs.RunSteps.TokenPlaces.{Rises, tokens-rise}
 use Rattle.standing_uses.proofs.Named.{constant_named}
 use Rattle.standing_uses.proofs.Once.{nth_in}
 use Rattle.unused_imports.specs.Uses.{all_parts}
-use Rattle.lone_uses.specs.Alone.{span_named, IsElsewhere, AreElsewhere, StandsAlone}
-use Rattle.lone_uses.specs.Alone as alone
-use Rattle.lone_uses.proofs.Files.{Has, has_here, has_later, front_follows, alone_in_one, alone_in_all}
+use Rattle.standing_uses.specs.LoneUses.Alone.{span_named, IsElsewhere, AreElsewhere, StandsAlone}
+use Rattle.standing_uses.specs.LoneUses.Alone as alone
+use Rattle.standing_uses.proofs.LoneUses.Files.{Has, has_here, has_later, front_follows, alone_in_one, alone_in_all}
 use Rattle.use_origins.specs.Origins.{named_span, own_origin, first_origin, decls_origin}
 use Rattle.told_origins.specs.Laws.{OriginsAreTold, part_origins, decls_origins}
 use Rattle.told_origins.proofs.Parts.{comes_in, use_like, is_new, one_part}

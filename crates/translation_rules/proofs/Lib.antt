@@ -15,3 +15,6 @@ pub mod FunctionsStand
 pub mod HeadersTyped
 pub mod RuledPackages
 pub mod RulesInUse
+pub mod DeclaredResults
+pub mod SingleValues
+pub mod SourceNames

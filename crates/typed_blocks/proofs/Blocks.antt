@@ -23,18 +23,18 @@ use Rattle.typed_in_place.proofs.Rising.{and_first, and_second}
 use Rattle.run_rules.specs.Programs.{linked_file, linked_imports}
 use Rattle.run_rules.specs.Sites.{MarkRef, Where, where_is}
 use Rattle.run_rules.specs.Surroundings.{Place}
-use Rattle.step_laws.specs.PartsTyped.{HeaderTyped}
-use Rattle.step_laws.proofs.KnownConstants.{declares-it}
+use Rattle.constant_steps.specs.StepLaws.PartsTyped.{HeaderTyped}
+use Rattle.constant_steps.proofs.StepLaws.KnownConstants.{declares-it}
 use Rattle.written_literal.proofs.NamesMeant.{means_join}
 use Rattle.constant_steps.specs.Alone.{block_from, PackageAt, this_package, a_later_package}
 use Rattle.constant_steps.specs.PlainUse.{linked_at}
 use Rattle.constant_steps.proofs.MarksFound.{nth_mapped}
 use Rattle.constant_steps.proofs.NamesOutside.{linked_block}
-use Rattle.qualified_steps.specs.MemberNames.{member_name, NamesMember}
-use Rattle.qualified_steps.specs.NamedUse.{PackageStands}
-use Rattle.qualified_steps.proofs.Declared.{sound_there}
-use Rattle.qualified_steps.proofs.MembersNamed.{named_in_home}
-use Rattle.alias_sites.proofs.AliasFirst.{names_append, decl_names}
+use Rattle.constant_steps.specs.QualifiedSteps.MemberNames.{member_name, NamesMember}
+use Rattle.constant_steps.specs.QualifiedSteps.NamedUse.{PackageStands}
+use Rattle.constant_steps.proofs.QualifiedSteps.Declared.{sound_there}
+use Rattle.constant_steps.proofs.QualifiedSteps.MembersNamed.{named_in_home}
+use Rattle.alias_runs.proofs.AliasSites.AliasFirst.{names_append, decl_names}
 use Rattle.typed_blocks.specs.Laws.{HeadersTyped}
 
 -- ---- names that may be declared

@@ -11,7 +11,7 @@ use Rattle.go_types.specs.WellTyped.{well_typed}
 use Rattle.run_rules.specs.Sites.{Where}
 use Rattle.constant_steps.specs.Alone.{this_package}
 use Rattle.constant_steps.specs.PlainUse.{linked_at}
-use Rattle.step_laws.proofs.PartsTyped.{headers-typed}
+use Rattle.constant_steps.proofs.StepLaws.PartsTyped.{headers-typed}
 use Rattle.typed_blocks.proofs.Blocks.{no-init}
 
 abbrev at : ℕ → List ℕ → NameAt ℕ

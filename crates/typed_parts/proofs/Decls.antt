@@ -27,10 +27,10 @@ use Rattle.go_types.specs.Initial.{all_initial}
 use Rattle.go_types.specs.WellTyped.{body_env, well_typed}
 use Rattle.go_types.proofs.Agreeing.{from_given, from_both, from_only}
 use Rattle.typed_in_place.specs.ProgramReplaced.{All, all_of_none, all_and}
-use Rattle.step_laws.specs.DeclStands.{AtNth}
-use Rattle.step_laws.specs.PartsTyped.{HeaderTyped}
-use Rattle.step_laws.proofs.PartsTyped.{headers-typed, TypedThere, DeclIsTyped, FilesTyped, PackageIsTyped, of-packages}
-use Rattle.order_cycles.specs.Orders.{AllOrdered}
+use Rattle.constant_steps.specs.StepLaws.DeclStands.{AtNth}
+use Rattle.constant_steps.specs.StepLaws.PartsTyped.{HeaderTyped}
+use Rattle.constant_steps.proofs.StepLaws.PartsTyped.{headers-typed, TypedThere, DeclIsTyped, FilesTyped, PackageIsTyped, of-packages}
+use Rattle.cycle_runs.specs.OrderCycles.Orders.{AllOrdered}
 use Rattle.run_rules.specs.Surroundings.{Place, Seen, alike, value_use, in_constant}
 use Rattle.run_rules.specs.Places.{written_seen, all_seen, sig_seen, stmts_seen}
 use Rattle.run_rules.specs.Programs.{numbered_from, numbered, is_ready, lesser, least_ready, ordered_after, in_dependency_order, numbers_of, linked_file, linked_imports, linked_package, linked_packages, linked, world, imports_mean, top_place, body_place, headed_func, constants_at_top, variables_at_top, types_at_top, receiver_seen, func_seen, decl_seen}

@@ -9,7 +9,7 @@ use Rattle.go_types.specs.Typing.{all_parts, stmts}
 use Rattle.run_rules.specs.Surroundings.{Use, Place}
 use Rattle.run_rules.specs.Places.{all_seen, stmts_seen}
 use Rattle.go_types.specs.WellTyped.{well_typed}
-use Rattle.order_cycles.specs.Orders.{AllOrdered}
+use Rattle.cycle_runs.specs.OrderCycles.Orders.{AllOrdered}
 use Rattle.run_rules.specs.Programs.{linked, decl_seen}
 use Rattle.run_rules.specs.Sites.{Where}
 use Rattle.run_rules.specs.Steps.{At}

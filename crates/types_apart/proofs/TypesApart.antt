@@ -13,8 +13,8 @@ use Rattle.layout_laws.specs.Formed.{FormedType}
 use Rattle.layout_laws.proofs.RealTokens.{unmarked_scalars}
 use Rattle.run_rules.specs.Texts.{spelling_before, first_spelling, needs_blank}
 use Rattle.splice_laws.specs.Splice.{are_apart, first_word}
-use Rattle.names_apart.specs.Starts.{StartsName}
-use Rattle.names_apart.proofs.NamesApart.{names_apart, around}
+use Rattle.put_nodes.specs.NamesApart.Starts.{StartsName}
+use Rattle.put_nodes.proofs.NamesApart.NamesApart.{names_apart, around}
 use Rattle.types_apart.proofs.MarksApart.{brackets-apart, stars-apart}
 
 pub map-letter : is_letter 109 ≡ true

@@ -9,7 +9,7 @@ use Rattle.go_layout.specs.TypeLayout.{type_layout}
 use Rattle.layout_laws.specs.Formed.{FormedType}
 use Rattle.run_rules.specs.Texts.{spelling_before, first_spelling, needs_blank}
 use Rattle.splice_laws.specs.Splice.{are_apart, first_word}
-use Rattle.names_apart.specs.Starts.{StartsName}
+use Rattle.put_nodes.specs.NamesApart.Starts.{StartsName}
 
 -- Where an identifier of a text starts, a written type may start, if no blank is needed before it: no token that ends
 -- there is read on into its first word.

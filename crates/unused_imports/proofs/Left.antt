@@ -9,7 +9,7 @@ use Rattle.scope_names.specs.declared.names.ImportName.{ImportName}
 use Rattle.scope_tables.specs.Table.{Table}
 use Rattle.import_rules.specs.Unused as rules
 use Rattle.import_rules.specs.Unused.{unused_from}
-use Rattle.import_laws.specs.Steps.{used_before, used_after, removed_specs, RemovedAreUnused}
+use Rattle.form_imports.specs.ImportLaws.Steps.{used_before, used_after, removed_specs, RemovedAreUnused}
 use Rattle.go_types.specs.Answers.{given}
 use Rattle.run_rules.specs.Sites.{MarkRef, an_expr}
 use Rattle.run_rules.specs.Steps.{At, Found}

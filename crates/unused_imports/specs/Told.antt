@@ -8,7 +8,7 @@ use Rattle.scope_tables.specs.Table.{Table}
 use Rattle.run_rules.specs.Sites.{MarkRef, an_expr}
 use Rattle.run_rules.specs.Steps.{At, Found}
 use Rattle.run_rules.specs.Run.{Standing}
-use Rattle.import_laws.specs.Steps.{names_standing, used_before, used_after}
+use Rattle.form_imports.specs.ImportLaws.Steps.{names_standing, used_before, used_after}
 use Rattle.possible_uses.specs.Candidates.{Candidate}
 use Rattle.constant_forms.specs.declared.reduced.ConstantForm.{ConstantForm}
 use Rattle.unused_imports.specs.Uses.{one_if, is_import, form_import, uses_among, named_import}

@@ -15,8 +15,8 @@ use Rattle.go_kernel.specs.Alike.{MeanSame}
 use Rattle.go_kernel.specs.Laws.{Ranked, AllScoped}
 use Rattle.go_translation.specs.Here.{Here}
 use Rattle.go_translation.specs.Translation.{expr_term, deferred_term}
-use Rattle.form_in_place.specs.CalledLiteral.{declared_at}
-use Rattle.form_in_place.specs.Written.{Written}
+use Rattle.form_meaning.specs.FormInPlace.CalledLiteral.{declared_at}
+use Rattle.form_meaning.specs.FormInPlace.Written.{Written}
 use Rattle.form_meaning.specs.CallMeaning.{CallOf}
 use Rattle.form_meaning.proofs.MeaningLaws.{operand_law, deferred_law}
 use Rattle.run_rules.specs.Surroundings.{Place}

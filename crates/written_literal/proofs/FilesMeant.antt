@@ -14,7 +14,7 @@ use Rattle.go_types.specs.Programs as source
 use Rattle.go_types.specs.Programs.{SourceFile, Program, Headed, headed, headed_package, headed_files, is_main}
 use Rattle.go_types.specs.Collect.{DeclaredTypes, block_by, types_declared, valued_world}
 use Rattle.typed_in_place.proofs.Collected.{valued_settled}
-use Rattle.form_in_place.specs.Places.{is_member}
+use Rattle.form_meaning.specs.FormInPlace.Places.{is_member}
 use Rattle.run_rules.specs.Programs.{linked, linked_file, imports_mean, world, top_env}
 use Rattle.run_rules.specs.Sites.{Where, outer, import_number}
 use Rattle.written_literal.specs.LinkedNames.{AllDeclared, Standing}

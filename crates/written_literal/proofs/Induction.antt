@@ -26,10 +26,10 @@ use Rattle.scope_names.specs.Means.{Environment}
 use Rattle.run_rules.specs.Surroundings.{Slot, elem_use, into_or}
 use Rattle.run_rules.specs.Rewriting.{Changes, new_name, new_names, new_label, new_type, new_written, new_params, new_sig, new_expr, new_all, new_option, new_elems, new_key, new_value, new_stmt, new_stmts, new_first, new_block, new_left, new_arms, new_cases, new_constants, new_variables}
 use Rattle.run_rules.specs.Respanned.{value_with}
-use Rattle.form_in_place.specs.Places.{Landing, results_in}
-use Rattle.form_in_place.specs.Written.{Written, w_leaf, w_int, w_rune, w_str, w_composite, w_selector, w_index, w_slice, w_call, w_into, w_func_lit, w_type, w_unary, w_binary, w_star, WrittenAll, all_none, all_and, WrittenOption, option_none, option_some, WrittenElems, elems_none, elems_and, WrittenKey, key_none, key_field, key_some, WrittenValue, value_plain, value_braced, WrittenBody, body_none, body_and, WrittenStmt, s_const, s_var, s_empty, s_eval, s_eval_into, s_step, s_assign, s_define, s_return, s_break, s_continue, s_inner, s_if, s_for, s_range, s_switch, s_defer, s_label, WrittenFirst, first_none, first_some, WrittenBlock, block_none, block_some, WrittenLeft, left_none, left_assigns, left_defines, WrittenArms, arms_none, arms_and, WrittenCases, cases_none, cases_and, WrittenConstants, constants_none, constants_own, constants_again, WrittenVariables, variables_none, variables_and}
-use Rattle.form_in_place.specs.Bound.{Before, repeats, inner_under, stmt_binds, first_binds, range_left_binds, literal_binds, variable_binds, constant_binds, repeated_binds}
-use Rattle.form_in_place.specs.Leaves.{no_params, no_type, a_type, param_and, WrittenType, WrittenParams}
+use Rattle.form_meaning.specs.FormInPlace.Places.{Landing, results_in}
+use Rattle.form_meaning.specs.FormInPlace.Written.{Written, w_leaf, w_int, w_rune, w_str, w_composite, w_selector, w_index, w_slice, w_call, w_into, w_func_lit, w_type, w_unary, w_binary, w_star, WrittenAll, all_none, all_and, WrittenOption, option_none, option_some, WrittenElems, elems_none, elems_and, WrittenKey, key_none, key_field, key_some, WrittenValue, value_plain, value_braced, WrittenBody, body_none, body_and, WrittenStmt, s_const, s_var, s_empty, s_eval, s_eval_into, s_step, s_assign, s_define, s_return, s_break, s_continue, s_inner, s_if, s_for, s_range, s_switch, s_defer, s_label, WrittenFirst, first_none, first_some, WrittenBlock, block_none, block_some, WrittenLeft, left_none, left_assigns, left_defines, WrittenArms, arms_none, arms_and, WrittenCases, cases_none, cases_and, WrittenConstants, constants_none, constants_own, constants_again, WrittenVariables, variables_none, variables_and}
+use Rattle.form_meaning.specs.FormInPlace.Bound.{Before, repeats, inner_under, stmt_binds, first_binds, range_left_binds, literal_binds, variable_binds, constant_binds, repeated_binds}
+use Rattle.form_meaning.specs.FormInPlace.Leaves.{no_params, no_type, a_type, param_and, WrittenType, WrittenParams}
 use Rattle.scope_names.specs.Scopes.{not_blank, sig_declares}
 use Rattle.run_rules.specs.Surroundings.{first_declares, left_declares}
 use Rattle.written_literal.specs.Listing.{Listing}

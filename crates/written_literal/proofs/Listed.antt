@@ -14,8 +14,8 @@ use Rattle.go_types.specs.TypeNames.{written_type}
 use Rattle.go_types.specs.Operands.{Operand, Typed, all_typed}
 use Rattle.go_types.specs.Statements.{may_declare, names_once, some_declared, assigns_to, defined_by, bound_names, Declared, constants_declared, variables_declared, constant_entity, variable_entity, bind_all, bind_each, no_values}
 use Rattle.go_types.specs.Typing.{new_by_define, binds_of, and_then, unused_after, new_constants, new_variables, right_values, Repeated, nothing_to_repeat, declares_constants, declares_variables, all_parts, places, used_variables}
-use Rattle.form_in_place.specs.Bound.{Before, repeats, at_iota, constant_binds, repeated_binds, variable_binds, stmt_binds, first_binds}
-use Rattle.form_in_place.proofs.Uses.{among_append}
+use Rattle.form_meaning.specs.FormInPlace.Bound.{Before, repeats, at_iota, constant_binds, repeated_binds, variable_binds, stmt_binds, first_binds}
+use Rattle.form_meaning.proofs.FormInPlace.Uses.{among_append}
 use Rattle.run_rules.specs.Surroundings.{first_declares}
 use Rattle.written_literal.specs.Within.{Grows}
 

@@ -12,7 +12,7 @@ use Rattle.go_types.specs.TypeNames.{type_meant, params_meant}
 use Rattle.go_types.specs.Operands.{Operand, value}
 use Rattle.go_types.specs.Statements.{names_once, bound_names, some_declared, bind_each, range_types, range_binds, param_binds, body_binds}
 use Rattle.go_types.specs.Typing.{binds_or, binds_of, new_by_range, parts}
-use Rattle.form_in_place.specs.Bound.{range_left_binds, literal_binds}
+use Rattle.form_meaning.specs.FormInPlace.Bound.{range_left_binds, literal_binds}
 use Rattle.run_rules.specs.Surroundings.{left_declares}
 use Rattle.written_literal.specs.Within.{Grows}
 use Rattle.written_literal.specs.Listing.{Listing}

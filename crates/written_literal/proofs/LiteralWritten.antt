@@ -5,8 +5,8 @@ use Rattle.go_tree.specs.Tree.{Sig, func_lit, Stmts}
 use Rattle.scope_names.specs.Means.{Environment}
 use Rattle.pkg_graph.specs.Package.{Package}
 use Rattle.go_types.specs.Entities.{Entity, World, in_block}
-use Rattle.form_in_place.specs.CalledLiteral.{declared_at}
-use Rattle.form_in_place.specs.Written.{Written}
+use Rattle.form_meaning.specs.FormInPlace.CalledLiteral.{declared_at}
+use Rattle.form_meaning.specs.FormInPlace.Written.{Written}
 use Rattle.run_rules.specs.Surroundings.{other, Place}
 use Rattle.run_rules.specs.Sites.{Where}
 use Rattle.run_rules.specs.Naming.{Names}

@@ -5,8 +5,8 @@ use Rattle.go_tree.specs.Tree.{Elems, no_elems, elem, no_value, some_value}
 use Rattle.go_types.specs.Types.{GoType, GoFields, no_go_fields, go_field, fields_of}
 use Rattle.go_types.specs.Entities.{Env, defined_in}
 use Rattle.go_types.specs.Literals.{field_key, literal_takes}
-use Rattle.form_in_place.specs.Places.{Landing, SeenFields, key_name, KeysSeen, KeysIn}
-use Rattle.form_in_place.specs.Leaves.{LiteralAlike}
+use Rattle.form_meaning.specs.FormInPlace.Places.{Landing, SeenFields, key_name, KeysSeen, KeysIn}
+use Rattle.form_meaning.specs.FormInPlace.Leaves.{LiteralAlike}
 
 fields_here : (k : ℕ) (n : List ℕ) (fs : GoFields) → SeenFields k k n fs
 fields_here k n no_go_fields = tt

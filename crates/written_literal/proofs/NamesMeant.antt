@@ -24,7 +24,7 @@ use Rattle.go_types.specs.Initial.{all_initial}
 use Rattle.go_types.proofs.Agreeing.{from_given, from_both, from_only, some_same}
 use Rattle.typed_in_place.specs.ImportRule.{imports_sound}
 use Rattle.written_literal.specs.LinkedNames.{AllDeclared, NoneNumbered}
-use Rattle.form_in_place.specs.Places.{is_member}
+use Rattle.form_meaning.specs.FormInPlace.Places.{is_member}
 use Rattle.run_rules.specs.Programs.{package_number, linked_import, linked_file}
 
 -- ---- two environments with the same names, in the same order

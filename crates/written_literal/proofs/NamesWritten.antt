@@ -9,9 +9,9 @@ use Rattle.pkg_graph.specs.Package.{Package}
 use Rattle.pkg_graph.specs.Members.{Target, local, imported, member, predeclared}
 use Rattle.go_types.specs.Answers.{given, otherwise, is_among}
 use Rattle.go_types.specs.Entities.{Entity, World, meaning, universe, block_of, package_of, is_exported, exported}
-use Rattle.form_in_place.specs.Places.{SameName, has_home, is_member}
-use Rattle.form_in_place.specs.Written.{Written, w_leaf, w_local, w_outer}
-use Rattle.form_in_place.specs.Leaves as rules
+use Rattle.form_meaning.specs.FormInPlace.Places.{SameName, has_home, is_member}
+use Rattle.form_meaning.specs.FormInPlace.Written.{Written, w_leaf, w_local, w_outer}
+use Rattle.form_meaning.specs.FormInPlace.Leaves as rules
 use Rattle.run_rules.specs.Surroundings.{Place, is_local}
 use Rattle.run_rules.specs.Sites.{Where, outer, outer_meaning, mark_of}
 use Rattle.run_rules.specs.Naming.{Names, member_qualifier}

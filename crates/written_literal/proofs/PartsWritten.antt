@@ -11,11 +11,11 @@ use Rattle.go_types.specs.Types.{GoType, GoFields, no_go_fields, go_field}
 use Rattle.go_types.specs.Defined.{Defined}
 use Rattle.go_types.specs.Entities.{Entity, World, package_of, is_exported, defined_in}
 use Rattle.go_types.specs.Primary.{fields_in}
-use Rattle.form_in_place.specs.Places.{SeenFields, SeenIn, SelectorAlike}
-use Rattle.form_in_place.specs.Written.{WrittenBody}
-use Rattle.form_in_place.specs.Leaves as rules
-use Rattle.form_in_place.proofs.Seen.{exported_selector}
-use Rattle.form_in_place.specs.Places.{open_in}
+use Rattle.form_meaning.specs.FormInPlace.Places.{SeenFields, SeenIn, SelectorAlike}
+use Rattle.form_meaning.specs.FormInPlace.Written.{WrittenBody}
+use Rattle.form_meaning.specs.FormInPlace.Leaves as rules
+use Rattle.form_meaning.proofs.FormInPlace.Seen.{exported_selector}
+use Rattle.form_meaning.specs.FormInPlace.Places.{open_in}
 use Rattle.run_rules.specs.Surroundings.{Use, Place, Seen, seen, seen_type, seen_stmt, inner_slot, in_slot}
 use Rattle.run_rules.specs.Sites.{Where}
 use Rattle.run_rules.specs.Naming.{Names}

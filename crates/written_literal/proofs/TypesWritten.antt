@@ -11,9 +11,9 @@ use Rattle.go_types.specs.Answers.{given, both, one_of, only_if, is_among}
 use Rattle.go_types.specs.Types.{pointer_to, slice_of, map_of, struct_of, go_field, field_names}
 use Rattle.go_types.specs.Entities.{Entity, World, Env, meaning, package_of, is_exported, exported, type_of_name}
 use Rattle.go_types.specs.TypeNames.{field_package}
-use Rattle.form_in_place.specs.Places.{TypeAlike}
-use Rattle.form_in_place.proofs.Uses.{both_used, same_used, apart_used, single_apart, both_apart, nothing_apart}
-use Rattle.form_in_place.proofs.TypesInPlace.{FieldsAlike}
+use Rattle.form_meaning.specs.FormInPlace.Places.{TypeAlike}
+use Rattle.form_meaning.proofs.FormInPlace.Uses.{both_used, same_used, apart_used, single_apart, both_apart, nothing_apart}
+use Rattle.form_meaning.proofs.FormInPlace.TypesInPlace.{FieldsAlike}
 use Rattle.run_rules.specs.Surroundings.{Place, is_local}
 use Rattle.run_rules.specs.Sites.{Where, outer, imported_by, import_number, qualifier}
 use Rattle.run_rules.specs.Naming.{Names, member_qualifier, type_there, fields_there, qualified, qualified_or}

@@ -8,9 +8,9 @@ use Rattle.scope_names.specs.Means.{Environment, means}
 use Rattle.go_types.specs.Answers.{is_among}
 use Rattle.go_types.specs.Entities.{Entity, World, Env, Binds, extend, in_block}
 use Rattle.go_types.specs.Statements.{bound_names}
-use Rattle.form_in_place.specs.Places.{SameName, AllSame}
-use Rattle.form_in_place.specs.Bound.{at_iota}
-use Rattle.form_in_place.proofs.Uses.{among_append, among_left}
+use Rattle.form_meaning.specs.FormInPlace.Places.{SameName, AllSame}
+use Rattle.form_meaning.specs.FormInPlace.Bound.{at_iota}
+use Rattle.form_meaning.proofs.FormInPlace.Uses.{among_append, among_left}
 use Rattle.written_literal.specs.Within.{Within, Grows}
 
 same_name : (n x : List ℕ) (b : Bool) → bytes_eq x n ≡ b → bytes_eq n x ≡ b

@@ -10,11 +10,11 @@ use Rattle.go_types.specs.TypeNames.{func_type}
 use Rattle.go_types.specs.Operands.{value}
 use Rattle.go_types.specs.Literals.{is_struct, key_type, inner_type}
 use Rattle.go_types.specs.Typing.{parts, used_constants, nothing_to_repeat}
-use Rattle.form_in_place.specs.Places.{at_place, Landing, Outside, TypeAlike, SelectorAlike}
+use Rattle.form_meaning.specs.FormInPlace.Places.{at_place, Landing, Outside, TypeAlike, SelectorAlike}
 use Rattle.typed_in_place.specs.SameFacts.{UsedAlike}
-use Rattle.form_in_place.specs.Written.{Written, WrittenAgain}
-use Rattle.form_in_place.specs.Bound.{Before, repeats, inner_under, literal_under}
-use Rattle.form_in_place.specs.Leaves.{Leaf, LiteralAlike}
+use Rattle.form_meaning.specs.FormInPlace.Written.{Written, WrittenAgain}
+use Rattle.form_meaning.specs.FormInPlace.Bound.{Before, repeats, inner_under, literal_under}
+use Rattle.form_meaning.specs.FormInPlace.Leaves.{Leaf, LiteralAlike}
 use Rattle.run_rules.specs.Surroundings.{Use, Place, Seen, seen, seen_type, seen_stmt, alike, value_use, plain_slot, in_constant, before_repeats, after_constants, inner_slot, in_slot}
 use Rattle.run_rules.specs.Rewriting.{Changes, new_written, new_all, new_constants}
 use Rattle.run_rules.specs.Respanned.{value_with}

@@ -5,7 +5,7 @@ use Rattle.scope_names.specs.Means.{Environment, means, is_blank}
 use Rattle.scope_names.specs.FreeNames.{names_of}
 use Rattle.pkg_graph.specs.Package.{Package}
 use Rattle.go_types.specs.Entities.{Entity, World}
-use Rattle.form_in_place.specs.Places.{Landing}
+use Rattle.form_meaning.specs.FormInPlace.Places.{Landing}
 use Rattle.run_rules.specs.Surroundings.{Place, is_local}
 use Rattle.run_rules.specs.Sites.{Where}
 use Rattle.run_rules.specs.Naming.{Names}

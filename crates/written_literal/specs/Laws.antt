@@ -12,10 +12,10 @@ use Rattle.go_kernel.specs.Kernel.{FuncName, Program, code}
 use Rattle.go_kernel.specs.Alike.{MeanSame}
 use Rattle.go_kernel.specs.Laws.{Ranked, AllScoped}
 use Rattle.go_kernel.specs.Scope.{Scoped}
-use Rattle.form_in_place.specs.CalledLiteral.{declared_at}
-use Rattle.form_in_place.specs.Leaves.{LiteralAlike}
-use Rattle.form_in_place.specs.Places.{Landing}
-use Rattle.form_in_place.specs.Written.{Written, WrittenBody}
+use Rattle.form_meaning.specs.FormInPlace.CalledLiteral.{declared_at}
+use Rattle.form_meaning.specs.FormInPlace.Leaves.{LiteralAlike}
+use Rattle.form_meaning.specs.FormInPlace.Places.{Landing}
+use Rattle.form_meaning.specs.FormInPlace.Written.{Written, WrittenBody}
 use Rattle.go_translation.specs.Here.{Here}
 use Rattle.go_translation.specs.Translation.{expr_term, deferred_term}
 use Rattle.run_rules.specs.FormTrees.{outside_expr}

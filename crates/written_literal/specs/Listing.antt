@@ -4,7 +4,7 @@ use Rattle.std.specs.Prelude.{ℕ, List, [], Option}
 use Rattle.go_tree.specs.Tree.{NameAt, Sig, TypeExpr, Expr, Exprs, Stmt, StmtOption, RangeLeft}
 use Rattle.scope_names.specs.Scopes.{declares, not_blank, sig_declares}
 use Rattle.go_types.specs.Entities.{Env}
-use Rattle.form_in_place.specs.Bound.{Before, stmt_binds, first_binds, range_left_binds, literal_binds, variable_binds, constant_binds, repeated_binds}
+use Rattle.form_meaning.specs.FormInPlace.Bound.{Before, stmt_binds, first_binds, range_left_binds, literal_binds, variable_binds, constant_binds, repeated_binds}
 use Rattle.run_rules.specs.Surroundings.{first_declares, left_declares}
 use Rattle.written_literal.specs.Within.{Grows}
 

@@ -4,7 +4,7 @@ use Rattle.go_tree.specs.Tree.{Sig, Stmts}
 use Rattle.scope_names.specs.Means.{Environment}
 use Rattle.pkg_graph.specs.Package.{Package}
 use Rattle.go_types.specs.Entities.{Entity, World, in_block}
-use Rattle.form_in_place.specs.CalledLiteral.{declared_at}
+use Rattle.form_meaning.specs.FormInPlace.CalledLiteral.{declared_at}
 use Rattle.run_rules.specs.Surroundings.{Place, in_literal}
 use Rattle.run_rules.specs.Sites.{Where}
 use Rattle.run_rules.specs.Naming.{Names}

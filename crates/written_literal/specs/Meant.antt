@@ -7,7 +7,7 @@ use Rattle.pkg_graph.specs.Package.{Package}
 use Rattle.pkg_graph.specs.Members.{Target, local, imported, member, predeclared}
 use Rattle.go_types.specs.Answers.{is_among}
 use Rattle.go_types.specs.Entities.{Entity, World, meaning, universe, block_of, package_of}
-use Rattle.form_in_place.specs.Places.{is_member, means_function}
+use Rattle.form_meaning.specs.FormInPlace.Places.{is_member, means_function}
 use Rattle.run_rules.specs.Surroundings.{Place, is_local}
 use Rattle.run_rules.specs.Sites.{Where, outer, import_number}
 use Rattle.run_rules.specs.Naming.{Names}

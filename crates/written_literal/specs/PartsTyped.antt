@@ -13,9 +13,9 @@ use Rattle.go_types.specs.TypeNames.{func_type}
 use Rattle.go_types.specs.Operands.{value}
 use Rattle.go_types.specs.Primary.{fields_in}
 use Rattle.go_types.specs.Typing.{parts}
-use Rattle.form_in_place.specs.Bound.{literal_under}
-use Rattle.form_in_place.specs.Leaves.{LiteralAlike}
-use Rattle.form_in_place.specs.Places.{open_in}
+use Rattle.form_meaning.specs.FormInPlace.Bound.{literal_under}
+use Rattle.form_meaning.specs.FormInPlace.Leaves.{LiteralAlike}
+use Rattle.form_meaning.specs.FormInPlace.Places.{open_in}
 use Rattle.run_rules.specs.Surroundings.{Use, Place, Seen, seen, seen_type, seen_stmt}
 use Rattle.run_rules.specs.Sites.{Where, outer_meaning, mark_of, qualifier}
 use Rattle.run_rules.specs.Naming.{Names, type_there}

@@ -7,7 +7,7 @@ use Rattle.scope_names.specs.Means.{Environment, means}
 use Rattle.go_types.specs.Answers.{is_among}
 use Rattle.go_types.specs.Entities.{Entity, World, Env, Binds, meaning}
 use Rattle.go_types.specs.Statements.{bound_names}
-use Rattle.form_in_place.specs.Places.{SameName}
+use Rattle.form_meaning.specs.FormInPlace.Places.{SameName}
 
 -- Packages are `w` and the body's is `h`; `outside` are the names around the body, `there` those where the text will
 -- stand; `declared` are the names that the body has declared so far, each declared at one of `bound`; `a` is the place

@@ -1,4 +1,4 @@
-use Rattle.run_steps.specs.RunPackages.{packages_of}
+use Rattle.order_runs.specs.RunSteps.RunPackages.{packages_of}
 use Rattle.order_runs.proofs.OrderedSteps.{program-means}
 use Rattle.alias_runs.proofs.AliasImports.{alias-step}
 use Rattle.alias_runs.proofs.OrderedAliases.{same-program}

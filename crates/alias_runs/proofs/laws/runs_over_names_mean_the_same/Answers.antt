@@ -1,7 +1,7 @@
 use Rattle.run_rules.specs.Respanned.{packages_with}
 use Rattle.run_rules.specs.Run.{here_of}
-use Rattle.run_steps.specs.RunPackages.{packages_of}
-use Rattle.run_steps.proofs.SameMeant.{same-code}
+use Rattle.order_runs.specs.RunSteps.RunPackages.{packages_of}
+use Rattle.order_runs.proofs.RunSteps.SameMeant.{same-code}
 use Rattle.order_runs.proofs.OrderedSteps.{program-means}
 use Rattle.alias_runs.proofs.AliasImports.{names-run}
 use Rattle.alias_runs.proofs.NamesRuns.{module-keeps}

@@ -1,6 +1,6 @@
 use Rattle.run_rules.specs.Respanned.{packages_with}
 use Rattle.run_rules.specs.Run.{here_of}
-use Rattle.run_steps.specs.RunPackages.{packages_of}
+use Rattle.order_runs.specs.RunSteps.RunPackages.{packages_of}
 use Rattle.order_runs.proofs.OrderedSteps.{same-program, program-means}
 use Rattle.order_runs.proofs.OrderedRuns.{module-keeps}
 use Rattle.order_runs.proofs.laws.runs_with_imports_mean_the_same.Goals as goal

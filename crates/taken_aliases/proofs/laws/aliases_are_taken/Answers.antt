@@ -1,7 +1,7 @@
-use Rattle.ready_modules.proofs.Typed.{linked_typed}
+use Rattle.marked_runs.proofs.ReadyModules.Typed.{linked_typed}
 use Rattle.run_rules.specs.Respanned.{packages_with}
 use Rattle.run_rules.specs.Run.{here_of}
-use Rattle.run_steps.specs.RunPackages.{packages_of}
+use Rattle.order_runs.specs.RunSteps.RunPackages.{packages_of}
 use Rattle.order_runs.proofs.OrderedSteps.{program-means}
 use Rattle.taken_aliases.proofs.Steps.{same-program}
 use Rattle.taken_aliases.proofs.Runs.{importing-taken, typed-next, module-keeps}

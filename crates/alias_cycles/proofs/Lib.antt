@@ -1,2 +1,0 @@
-pub mod FormsStand
-pub mod AliasCycles

@@ -1,8 +1,0 @@
-//! The imports after a step over an alias: they are right where the file of the use still uses its
-//! own (Go specification, Import declarations; Alias declarations). Definitions and laws alone,
-//! without code.
-#![tactic(auto)]
-
-mod laws;
-
-pub use laws::imports_stay_right;

@@ -1,0 +1,7 @@
+-- Uses of aliases among the packages of a run: the alias that a name means there is the one that the rules of typing
+-- say it means (Go specification, Alias declarations; Declarations and scope).
+pub mod AliasFirst
+pub mod AliasMeant
+pub mod AliasUsed
+pub mod TypeSteps
+pub mod Instance

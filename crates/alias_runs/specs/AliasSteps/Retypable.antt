@@ -1,0 +1,44 @@
+-- What is asked at each place that the walk lists, so that all that the walk puts are types written otherwise (Go
+-- specification, Alias declarations; Conversions; Composite literals; Function literals).
+-- `R` says of a place what typing has there beside what the walk has there.
+use Rattle.std.specs.Prelude.{◌≡◌, ℕ, List, [], ◌∷◌, Some, None}
+use Rattle.go_tree.specs.Tree.{NameAt, Expr, composite}
+use Rattle.go_types.specs.Types.{GoType}
+use Rattle.go_types.specs.Defined.{under}
+use Rattle.go_types.specs.Entities.{Env, defined_in}
+use Rattle.go_types.specs.TypeNames.{type_meant}
+use Rattle.run_rules.specs.Surroundings.{Place, Seen, seen, seen_type, seen_stmt}
+use Rattle.run_rules.specs.Rewriting.{Changes}
+use Rattle.constant_steps.specs.StepLaws.Answered.{ExprKnown, StmtKnown}
+use Rattle.constant_steps.specs.StepLaws.Stands.{TypeStands}
+use Rattle.constant_steps.specs.StepLaws.SwapUses.{BracesKnown}
+use Rattle.alias_runs.specs.AliasTexts.Retyped.{PlainType, NoneUsed}
+
+-- two expressions that are one type, by its name or as its text, and use no name that is declared around
+pub record SameTypeUse {S : Type 0} (around : List (List ℕ)) (env : Env) (e f : Expr S) : Type 0 where
+  pub type : GoType
+  pub old : PlainType env e type
+  pub new : PlainType env f type
+  pub apart : NoneUsed around env e f
+
+module _ {S : Type 0} (c : Changes S) (R : List (List ℕ) → Env → Env → List (NameAt S) → Type 0) where
+  -- an expression by itself: the type of a composite literal is known, and those of the braces in it
+  abbrev pub LiteralKnown : Place S → Expr S → Type 0
+  LiteralKnown p (composite s t es) =
+      (around : List (List ℕ)) (env : Env) → R around env p.env p.bound →
+      (w : GoType) × ((type_meant env t ≡ Some w) × BracesKnown (defined_in env) (under (defined_in env) w) es)
+  LiteralKnown p e = Unit {0}
+
+  -- what is put in the place of a part is another text of its type; no statement is replaced
+  abbrev pub Retypable : Seen S → Type 0
+  Retypable (seen p u e) =
+      ExprKnown c R p e × (LiteralKnown p e × ((around : List (List ℕ)) (env : Env) → R around env p.env p.bound →
+      (f : Expr S) → c.expr p u e ≡ Some f → SameTypeUse around env e f))
+  Retypable (seen_type p t) =
+      (around : List (List ℕ)) (env : Env) → R around env p.env p.bound → TypeStands c around env p t
+  Retypable (seen_stmt p s) = StmtKnown c p s × (c.stmt p s ≡ None)
+
+  -- so it is with all parts of a list
+  abbrev pub AllRetypable : List (Seen S) → Type 0
+  AllRetypable [] = Unit {0}
+  AllRetypable (x ∷ xs) = Retypable x × AllRetypable xs

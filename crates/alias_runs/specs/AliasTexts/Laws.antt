@@ -1,0 +1,60 @@
+-- The laws of trees in which types are written otherwise. Each is the contract of a function of this crate (Go
+-- specification, Alias declarations; Type identity; Conversions).
+use Rattle.std.specs.Prelude.{◌≡◌, ℕ, List, Option}
+use Rattle.go_tree.specs.declared.spans.Span.{Span}
+use Rattle.go_tree.specs.Tree.{Expr, Stmts}
+use Rattle.go_tree.specs.File.{Func}
+use Rattle.go_types.specs.Types.{GoType}
+use Rattle.go_types.specs.Entities.{World, Env}
+use Rattle.go_types.specs.Programs.{Header, Headed}
+use Rattle.go_types.specs.Collect.{env_of}
+use Rattle.go_types.specs.WellTyped.{body_env}
+use Rattle.go_kernel.specs.Kernel.{ImportPath}
+use Rattle.go_translation.specs.Here.{Here}
+use Rattle.go_translation.specs.Translation.{expr_term, stmts_term}
+use Rattle.go_translation.specs.Packages.{header_functions, header_initial}
+use Rattle.typed_in_place.specs.Replaced.{ExprReplaced, StmtsReplaced}
+use Rattle.typed_in_place.specs.HeaderReplaced.{HeaderIn}
+use Rattle.alias_runs.specs.AliasTexts.Retyped.{ExprRetyped, StmtsRetyped, HeaderRetyped}
+
+-- an expression with types written otherwise is one with parts replaced by parts with the same facts
+abbrev pub RetypedExpressionsStand : Type 0
+RetypedExpressionsStand =
+    (around : List (List ℕ)) (a : Env) (e f : Expr Span) → ExprRetyped around a e f → ExprReplaced around a e f
+
+-- so is a body
+abbrev pub RetypedBodiesStand : Type 0
+RetypedBodiesStand =
+    (around : List (List ℕ)) (a : Env) (b c : Stmts Span) → StmtsRetyped around a b c → StmtsReplaced around a b c
+
+-- and the header of a declaration
+abbrev pub RetypedHeadersStand : Type 0
+RetypedHeadersStand =
+    (at : Option ℕ → Env) (inside : Func Span → Env) (h k : Header Span) → HeaderRetyped at inside h k →
+    HeaderIn at h k
+
+-- it has the same term at each place
+abbrev pub RetypedExpressionsMean : Type 0
+RetypedExpressionsMean =
+    (around : List (List ℕ)) (h : Here) (t : GoType) (e f : Expr Span) → ExprRetyped around h.env e f →
+    expr_term h t e ≡ expr_term h t f
+
+-- so have statements
+abbrev pub RetypedBodiesMean : Type 0
+RetypedBodiesMean =
+    (around : List (List ℕ)) (h : Here) (b c : Stmts Span) → StmtsRetyped around h.env b c →
+    stmts_term h b ≡ stmts_term h c
+
+-- a declaration declares functions with the same code, under the same names
+abbrev pub RetypedFunctionsMean : Type 0
+RetypedFunctionsMean =
+    (paths : List (ℕ × ImportPath)) (w : World) (h : Headed Span) (x y : Header Span) →
+    HeaderRetyped (env_of w h) (body_env w h) x y →
+    header_functions paths w (record h { header = x }) ≡ header_functions paths w (record h { header = y })
+
+-- and sets package variables alike
+abbrev pub RetypedVariablesMean : Type 0
+RetypedVariablesMean =
+    (paths : List (ℕ × ImportPath)) (w : World) (h : Headed Span) (x y : Header Span) →
+    HeaderRetyped (env_of w h) (body_env w h) x y →
+    header_initial paths w (record h { header = x }) ≡ header_initial paths w (record h { header = y })

@@ -1,5 +1,0 @@
-pub mod AliasFirst
-pub mod AliasMeant
-pub mod AliasUsed
-pub mod TypeSteps
-pub mod Instance

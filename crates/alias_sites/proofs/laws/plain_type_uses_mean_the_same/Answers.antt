@@ -1,8 +1,0 @@
-use Rattle.alias_sites.proofs.TypeSteps.{form-swaps, type-step-means-the-same}
-use Rattle.alias_sites.proofs.laws.plain_type_uses_mean_the_same.Goals as goal
-
-pub returns-clause-swaps : goal.returns-clause-swaps
-returns-clause-swaps c = λ same commented rs marks x u v y s k ps more at. form-swaps same commented rs marks x u v y s k ps more at
-
-pub returns-clause-meaning : goal.returns-clause-meaning
-returns-clause-meaning c = λ same commented rs marks x u v y s k P at right. type-step-means-the-same same commented rs marks x u v y s k P at right

@@ -1,4 +1,0 @@
-pub mod FirstAlias
-pub mod NamedUse
-pub mod TypeUse
-pub mod Laws

@@ -1,4 +1,0 @@
-pub mod RetypedTyping
-pub mod RetypedTerms
-pub mod RetypedHeaders
-mod Instance

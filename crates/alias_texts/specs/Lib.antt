@@ -1,2 +1,0 @@
-pub mod Retyped
-pub mod Laws

@@ -1,2 +1,0 @@
-pub mod CalledUse
-pub mod Laws

@@ -1,0 +1,30 @@
+-- What one step of a run over a constant keeps: the program with the constant's text in a use's place is typed as it
+-- was, and means the same (Go specification, Constant declarations).
+pub mod Standing
+pub mod BodilessStands
+pub mod DeclarationsStand
+pub mod StepInPlace
+pub mod DeclChanged
+pub mod ConstantStepLaw
+pub mod StepsCompose
+pub mod Walking
+pub mod OutsideHolds
+pub mod FurtherApart
+pub mod Swapping
+pub mod SwapProgram
+pub mod StepMeaning
+pub mod ConstantLeaves
+pub mod UsesAnswered
+pub mod DeclUses
+pub mod StepUses
+pub mod SwapWalk
+pub mod DeclSwapUses
+pub mod SpansKept
+pub mod NothingPut
+pub mod GroupsDeclare
+pub mod PartsTyped
+pub mod StepSwaps
+pub mod KnownConstants
+pub mod ConstantRuns
+pub mod UsesFree
+pub mod Instance

@@ -1,0 +1,5 @@
+-- What a body calls that is written elsewhere: the marked functions that it calls where it stands (Go specification,
+-- Function literals; Calls; Declarations and scope).
+pub mod Past
+pub mod Bodies
+pub mod Example

@@ -1,0 +1,46 @@
+-- What the imports of a file become, one of which goes while another comes; and that a local variable with the name of
+-- the import that goes has that name as an identifier, which so is the name of an import no more.
+use Rattle.std.proofs.Common.{◌≡◌, refl, ℕ, false, List, [], ◌∷◌, None, Some, codes}
+use Rattle.go_tree.specs.declared.spans.Span.{Span}
+use Rattle.go_tree.specs.File.{ImportSpec, ImportDecl}
+use Rattle.import_rules.specs.declared.new_import.NewImport.{NewImport}
+use Rattle.import_splices.specs.AddedFile.{added_spec}
+use Rattle.import_splices.specs.SettledFile.{settled_decls}
+use Rattle.pkg_graph.specs.Package.{Package, specs_in}
+use Rattle.cycle_runs.specs.ImportCycles.OtherImports.{import_path}
+
+abbrev at : ℕ → Span
+at n = record { start = n; end = n }
+
+abbrev spec_of : ℕ → List ℕ → ImportSpec Span
+spec_of n path = record { span = at n; name = None; path = path }
+
+-- import "m/d"; import "m/h"
+abbrev old : List (ImportDecl Span)
+old = record { span = at 1; grouped = false; specs = spec_of 2 (codes "m/d") ∷ [] } ∷ record { span = at 3; grouped = false; specs = spec_of 4 (codes "m/h") ∷ [] } ∷ []
+
+-- import "m/e" comes
+abbrev new : NewImport
+new = record { name = codes "e"; path = codes "m/e"; spelled = false }
+
+-- the import of h goes, and that of e comes first
+become : settled_decls [] [] [] (at 4 ∷ []) (new ∷ []) old
+    ≡ record { span = tt; grouped = false; specs = added_spec new ∷ [] }
+    ∷ record { span = tt; grouped = false; specs = record { span = tt; name = None; path = codes "m/d" } ∷ [] } ∷ []
+become = refl
+
+-- packages d, h and e
+abbrev packages : List (Package Span)
+packages =
+    record { path = codes "m/d"; name = codes "d"; files = [] } ∷ record { path = codes "m/h"; name = codes "h"; files = [] } ∷ record { path = codes "m/e"; name = codes "e"; files = [] } ∷ []
+
+-- `d` is the name of the same import
+same : import_path packages (spec_of 6 (codes "m/e") ∷ spec_of 2 (codes "m/d") ∷ []) (codes "d") ≡ import_path packages (specs_in old) (codes "d")
+same = refl
+
+-- `h`, also where it is a local variable, is the name of an import before, and of none afterwards
+before : import_path packages (specs_in old) (codes "h") ≡ Some (codes "m/h")
+before = refl
+
+afterwards : import_path packages (spec_of 6 (codes "m/e") ∷ spec_of 2 (codes "m/d") ∷ []) (codes "h") ≡ None
+afterwards = refl

@@ -1,0 +1,4 @@
+-- The imports that a step adds: its package is led to them already, so they lead to no cycle of packages (Go
+-- specification, Import declarations; Qualified identifiers).
+pub mod Led
+pub mod Laws

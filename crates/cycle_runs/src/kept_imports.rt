@@ -1,0 +1,16 @@
+//! Laws of the imports of a file as a step leaves it.
+
+ghost use Rattle.cycle_runs.specs.KeptImports.Laws.{FilesAreSettled, FilesImportNoMore, NamesAreKept};
+
+/// Where a step's form is laid out in the place of a node, its file as read again imports what it
+/// imported, but what the step removes, and what the step adds, and nothing else.
+pub fn files_are_settled()
+    ensures settled { FilesAreSettled }
+    ensures no_more { FilesImportNoMore }
+{}
+
+/// Then each identifier of the file is the name of the same import as with the step's imports added, or
+/// of none, if no import that goes has the name of an identifier that stands in the file.
+pub fn names_are_kept()
+    ensures { NamesAreKept }
+{}

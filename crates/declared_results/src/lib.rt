@@ -1,7 +1,0 @@
-//! Functions and methods that names mean have as many results in the program of packages as by their types:
-//! definitions and laws alone, without code.
-#![tactic(auto)]
-
-mod laws;
-
-pub use laws::declared_functions_have_their_results;

@@ -1,0 +1,9 @@
+-- A function's body in place: what may be written for it at another place of the program, maybe in another package, and
+-- that it is typed there as where it is declared. So the called literal of what is written is the operand that the call
+-- is (Go specification, Calls; Function literals; Qualified identifiers; Exported identifiers).
+pub mod Places
+pub mod Bound
+pub mod Leaves
+pub mod Written
+pub mod CalledLiteral
+pub mod Laws

@@ -1,4 +1,0 @@
-pub mod Beginnings
-pub mod Behind
-pub mod Apart
-mod Examples

@@ -1,5 +1,0 @@
-use Rattle.forms_apart.proofs.Apart.{name_apart}
-use Rattle.forms_apart.proofs.laws.identifiers_stand_apart.Goals as goal
-
-pub returns : goal.returns
-returns c = λ text tokens comments file of_text spells at name is none. name_apart text tokens comments file of_text spells at name is none

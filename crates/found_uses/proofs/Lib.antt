@@ -1,2 +1,0 @@
-pub mod NoRecursive
-mod Example

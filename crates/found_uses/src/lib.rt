@@ -1,7 +1,0 @@
-//! What the use is that a step of a run replaces: no recursive function, whatever the form (Go
-//! specification, Calls; golang.org/x/tools, internal/refactor/inline).
-#![tactic(auto)]
-
-mod laws;
-
-pub use laws::steps_use_no_recursive;

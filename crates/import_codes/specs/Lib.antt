@@ -1,2 +1,0 @@
-pub mod PackagesMoved
-pub mod Laws

@@ -1,4 +1,0 @@
-pub mod NamesRead
-pub mod OtherImports
-pub mod ImportSteps
-pub mod Laws

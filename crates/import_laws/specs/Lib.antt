@@ -1,2 +1,0 @@
-pub mod GraphNames
-pub mod Steps

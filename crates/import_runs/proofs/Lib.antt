@@ -1,4 +1,0 @@
-pub mod Listed
-pub mod PathsAlike
-pub mod MembersMoved
-pub mod ImportingNexts

@@ -1,3 +1,0 @@
-pub mod PathsUnder
-pub mod ImportingNext
-pub mod Laws

@@ -1,2 +1,0 @@
-pub mod ImportingSteps
-pub mod Laws

@@ -1,9 +1,0 @@
-//! A step of a run over a constant that is declared as a name, with the imports that its form needs
-//! added and those removed that nothing needs: the packages after mean the same (Go specification,
-//! Constant declarations; Qualified identifiers; Import declarations). Definitions and laws alone,
-//! without code.
-#![tactic(auto)]
-
-mod laws;
-
-pub use laws::importing_steps_mean_the_same;

@@ -1,7 +1,0 @@
-//! What a step over a use of a constant changes of the uses of imports in its file: definitions and a law alone, without
-//! code.
-#![tactic(auto)]
-
-mod laws;
-
-pub use laws::steps_swap_uses;

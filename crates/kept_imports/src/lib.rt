@@ -1,7 +1,0 @@
-//! What the file of a step imports once it is read again, and that its identifiers are the names of
-//! the same imports (Go specification, Import declarations; Declarations and scope).
-#![tactic(auto)]
-
-mod laws;
-
-pub use laws::{files_are_settled, names_are_kept};

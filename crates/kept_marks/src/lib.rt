@@ -1,7 +1,0 @@
-//! Steps over marked constants keep their marks those of constants that are declared as names: definitions and laws
-//! alone, without code (Go specification, Constant declarations; Qualified identifiers; Import declarations).
-#![tactic(auto)]
-
-mod laws;
-
-pub use laws::marks_stay_named;

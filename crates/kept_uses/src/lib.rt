@@ -1,7 +1,0 @@
-//! A use of a marked constant that is kept stays so while what constant_forms is told of it stays: definitions and laws
-//! alone, without code.
-#![tactic(auto)]
-
-mod laws;
-
-pub use laws::kept_uses_stay;

@@ -1,6 +1,0 @@
-pub mod Walk
-pub mod Homes
-pub mod Names
-pub mod Forms
-pub mod Steps
-mod Example

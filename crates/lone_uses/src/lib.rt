@@ -1,7 +1,0 @@
-//! The use of a constant stands alone at its span among the names in its file: definitions and laws alone, without code
-//! (Go specification, Operands; Qualified identifiers; Selectors).
-#![tactic(auto)]
-
-mod laws;
-
-pub use laws::constant_uses_stand_alone;

@@ -1,2 +1,0 @@
-pub mod NamesStand
-pub mod Files

@@ -1,0 +1,7 @@
+-- Marks of constants are marks of constants that are declared as names, and so are uses of them: definitions and laws
+-- alone, without code (Go specification, Constant declarations; Qualified identifiers).
+pub mod Order
+pub mod Entries
+pub mod ReadMarks
+pub mod Declared
+pub mod Used

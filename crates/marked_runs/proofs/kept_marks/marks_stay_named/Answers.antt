@@ -1,0 +1,8 @@
+use Rattle.marked_runs.proofs.KeptMarks.Kept.{is-over, stays}
+use Rattle.marked_runs.proofs.kept_marks.marks_stay_named.Goals as goal
+
+pub returns-clause-over : goal.returns-clause-over
+returns-clause-over c = λ marks st l after n all over. is-over marks st l after n over all
+
+pub returns-clause-stay : goal.returns-clause-stay
+returns-clause-stay c = λ marks st l after n ready all over. stays marks st l after n over ready all (c.constants_settle.ensures.settle marks st l after n ready (is-over marks st l after n over all))

@@ -1,0 +1,15 @@
+use Rattle.marked_runs.proofs.SettledConstants.Settled.{uses_named, adds_led, constant_settles}
+use Rattle.marked_runs.proofs.SettledConstants.Spelled.{uses_spelled}
+use Rattle.marked_runs.proofs.settled_constants.constants_settle.Goals as goal
+
+pub returns-clause-names : goal.returns-clause-names
+returns-clause-names c = λ marks st l after n uses e part. uses_named marks st l after n uses e part
+
+pub returns-clause-spelled : goal.returns-clause-spelled
+returns-clause-spelled c = λ marks st l after n reads named uses e part. uses_spelled marks st l after n reads named uses e part
+
+pub returns-clause-led : goal.returns-clause-led
+returns-clause-led c = λ marks st l after n reads named links uses e part. adds_led marks st l after n reads named links uses e part
+
+pub returns-clause-settle : goal.returns-clause-settle
+returns-clause-settle c = λ marks st l after n ready over. constant_settles marks st l after n c.well_typed_files_are_scoped.ensures.scoped ready over

@@ -1,0 +1,39 @@
+//! Laws of steps over constants.
+
+ghost use Rattle.marked_runs.specs.SettledConstants.Laws.{ConstantRunsKeepCycles, ConstantUsesAreNames};
+ghost use Rattle.marked_runs.specs.SettledConstants.Laws.{ConstantUsesAreSpelled, ConstantsAddLed, ConstantsKeepCycles, ConstantsSettle};
+ghost use Rattle.marked_runs.specs.SettledConstants.Laws.{FilesOfUsesAreUndotted, LinkedPackagesAreWritable, StepsStayReady, UsesAreScoped};
+
+use scoped_parts::well_typed_files_are_scoped;
+
+/// In a well-typed program whose files read from their texts the declaration around each use is scoped as put_names asks
+/// it; where no call hands on a slice for its last arguments, the file of each use is undotted; and linked packages that
+/// are named are writable.
+pub fn programs_are_ready()
+    ensures scoped { UsesAreScoped }
+    ensures undotted { FilesOfUsesAreUndotted }
+    ensures writable { LinkedPackagesAreWritable }
+{
+    well_typed_files_are_scoped();
+}
+
+/// A use of a constant is a name, none of whose identifiers holds the byte 0, so the imports that its form adds are of
+/// packages that are led to; so in such a program a step over a constant that is declared as a name settles its file.
+pub fn constants_settle()
+    ensures names { ConstantUsesAreNames }
+    ensures spelled { ConstantUsesAreSpelled }
+    ensures led { ConstantsAddLed }
+    ensures settle { ConstantsSettle }
+{
+    well_typed_files_are_scoped();
+}
+
+/// A step that settles its file leaves such a program, where that is well typed; so steps over constants, and runs of
+/// them, keep which marked functions lie on a cycle.
+pub fn constants_keep_cycles()
+    ensures ready { StepsStayReady }
+    ensures step { ConstantsKeepCycles }
+    ensures runs { ConstantRunsKeepCycles }
+{
+    well_typed_files_are_scoped();
+}

@@ -1,5 +1,0 @@
-pub mod Order
-pub mod Entries
-pub mod ReadMarks
-pub mod Declared
-pub mod Used

@@ -1,3 +1,0 @@
-pub mod NamesApart
-pub mod NoDots
-mod Examples

@@ -1,8 +1,0 @@
-use Rattle.next_programs.proofs.NextMade.{made_are_next, one_made}
-use Rattle.next_programs.proofs.laws.read_files_are_next.Goals as goal
-
-pub returns-clause-made : goal.returns-clause-made
-returns-clause-made c = made_are_next
-
-pub returns-clause-one : goal.returns-clause-one
-returns-clause-one c = one_made

@@ -1,8 +1,0 @@
-use Rattle.next_programs.proofs.Reached.{reached_on, reached_runs}
-use Rattle.next_programs.proofs.laws.runs_are_made_by_steps.Goals as goal
-
-pub returns-clause-on : goal.returns-clause-on
-returns-clause-on c = reached_on
-
-pub returns-clause-ends : goal.returns-clause-ends
-returns-clause-ends c = reached_runs

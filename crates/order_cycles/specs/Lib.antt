@@ -1,4 +1,0 @@
-pub mod Orders
-pub mod Steps
-pub mod NewNames
-pub mod Laws

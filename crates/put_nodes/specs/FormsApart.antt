@@ -1,0 +1,4 @@
+-- What is written behind a token, in a text that reads as a file: definitions and laws alone, without code (Go
+-- specification, Tokens; Operators and punctuation).
+pub mod Begins
+pub mod Laws

@@ -1,0 +1,5 @@
+-- Names of types in a file: each is a node of it, and another name of a type is put in its place by the edit that
+-- writes it there (Go specification, Types; Source file organization). Definitions and laws alone, without code.
+pub mod Names
+pub mod Swapped
+pub mod Laws

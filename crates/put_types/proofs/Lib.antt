@@ -1,2 +1,0 @@
-pub mod StepsPut
-pub mod AliasNames

@@ -1,9 +1,0 @@
-pub mod Lacking
-pub mod Served
-pub mod TextThere
-pub mod FormThere
-pub mod AliasThere
-pub mod AliasNames
-pub mod TypeSwaps
-pub mod AliasSwapped
-pub mod Example

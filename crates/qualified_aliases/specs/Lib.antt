@@ -1,3 +1,0 @@
-pub mod NamedTexts
-pub mod AliasUse
-pub mod Laws

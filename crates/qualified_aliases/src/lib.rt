@@ -1,8 +1,0 @@
-//! A step of a run over an alias as a written type, where the use, the alias and the types that it
-//! is declared by stand in any packages: the packages after mean the same (Go specification, Alias
-//! declarations; Qualified identifiers). Definitions and laws alone, without code.
-#![tactic(auto)]
-
-mod laws;
-
-pub use laws::aliases_in_any_package_mean_the_same;

@@ -1,3 +1,0 @@
-pub mod Specs
-pub mod ReadAgain
-pub mod NamesKept

@@ -1,3 +1,0 @@
-pub mod PutInText
-pub mod RemovedNames
-pub mod Laws

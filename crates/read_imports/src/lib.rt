@@ -1,8 +1,0 @@
-//! What the file of a step's use imports, as its new text reads: the specs that the step doesn't
-//! remove, if it adds none; and so the same imports, where it removes none (Go specification, Import
-//! declarations). Definitions and laws alone, without code.
-#![tactic(auto)]
-
-mod laws;
-
-pub use laws::imports_are_read_again;

@@ -1,7 +1,0 @@
-//! Modules that read are programs in which steps over constants settle their files: definitions and laws alone, without
-//! code (Go specification, Packages; Import declarations; Package clause).
-#![tactic(auto)]
-
-mod laws;
-
-pub use laws::read_modules_are_ready;

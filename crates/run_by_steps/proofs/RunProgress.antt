@@ -1,0 +1,3 @@
+-- How far a run has come, from step to step: definitions and laws alone, without code.
+pub mod Apart
+pub mod Counts

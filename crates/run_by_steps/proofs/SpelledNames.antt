@@ -1,0 +1,3 @@
+-- The identifiers of a file that reads: definitions and laws alone, without code.
+pub mod Names
+pub mod Read

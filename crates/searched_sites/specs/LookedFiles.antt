@@ -1,0 +1,2 @@
+-- A look at a file of a program tells of it what searches ask: definitions and laws alone, without code.
+pub mod Laws

@@ -1,4 +1,0 @@
-pub mod BareDots
-pub mod Ready
-pub mod Settled
-pub mod Spelled

@@ -1,7 +1,0 @@
-//! Steps over constants in programs as they stand settle their files and keep which marked functions lie on a cycle:
-//! definitions and laws alone, without code (Go specification, Constant declarations; Import declarations; Calls).
-#![tactic(auto)]
-
-mod laws;
-
-pub use laws::{constants_keep_cycles, constants_settle, programs_are_ready};

@@ -1,3 +1,0 @@
-pub mod SameKinds
-pub mod ValuesFound
-pub mod Rounds

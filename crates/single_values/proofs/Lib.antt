@@ -1,5 +1,0 @@
-pub mod KeptNames
-pub mod AssignedWidths
-pub mod FilesThere
-pub mod PackagesGive
-mod ValuesInUse

@@ -1,7 +1,0 @@
-//! The imports that a step adds may be declared in their file: definitions and laws alone, without code (Go
-//! specification, Import declarations; Declarations and scope).
-#![tactic(auto)]
-
-mod laws;
-
-pub use laws::added_imports_may_be_declared;

@@ -1,4 +1,0 @@
-pub mod FirstLetters
-pub mod FormedNames
-pub mod ReadNames
-pub mod NoIdentifiers

@@ -1,2 +1,0 @@
-pub mod ReadPackages
-pub mod Laws

@@ -1,0 +1,4 @@
+-- The use of a constant stands alone at its span among the names in its file: definitions and laws alone, without code
+-- (Go specification, Operands; Qualified identifiers; Selectors).
+pub mod Alone
+pub mod Laws

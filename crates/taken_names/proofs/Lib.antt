@@ -1,4 +1,0 @@
-pub mod Nexts
-pub mod Steps
-pub mod Runs
-pub mod Kept

@@ -1,9 +1,0 @@
-//! Steps of a run over constants, and runs of them, that change imports and with them the order of packages, at the
-//! places that the uses have once the imports are added: the program after each is well typed, and means what the one
-//! before does (Go specification, Import declarations; Packages; Program initialization). Definitions and laws alone,
-//! without code.
-#![tactic(auto)]
-
-mod laws;
-
-pub use laws::{names_are_taken, runs_over_constants_keep};

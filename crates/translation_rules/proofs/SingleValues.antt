@@ -1,0 +1,7 @@
+-- The term of each value in well-typed packages gives one value, and that of each call its results: definitions and
+-- laws alone, without code.
+pub mod KeptNames
+pub mod AssignedWidths
+pub mod FilesThere
+pub mod PackagesGive
+pub mod ValuesInUse

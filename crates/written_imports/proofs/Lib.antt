@@ -1,4 +1,0 @@
-pub mod Candidates
-pub mod StepImports
-pub mod Octets
-pub mod ReadNames

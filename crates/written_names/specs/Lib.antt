@@ -1,2 +1,0 @@
-pub mod NamedPackages
-pub mod Laws
