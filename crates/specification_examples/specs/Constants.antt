@@ -13,15 +13,17 @@ use Rattle.go_types.specs.Operands.{Operand, value}
 use Rattle.specification_examples.specs.Sources.{between, literal, name, number, of, operand, rune, slice_of_type, starred, text, type_of, with}
 use Rattle.specification_examples.specs.Setting.{AllAre, AllRepresented, named}
 
--- a constant, and a value that isn't constant
+-- a constant
 abbrev pub is_constant : GoType → Const → Option Operand
 is_constant t c = Some (value t (exact c))
 
+-- a value that isn't constant
 abbrev pub is_run : GoType → Option Operand
 is_run t = Some (value t run)
 
--- ---- Representability: x, T, and whether x is representable by a value of T ('a' is 0x61)
+-- ---- Representability
 
+-- x, T, and whether x is representable by a value of T ('a' is 0x61)
 abbrev pub Representability : Type 0
 Representability =
     AllRepresented
@@ -32,6 +34,7 @@ Representability =
 
 -- ---- Constant expressions
 
+-- each expression with what it is
 abbrev pub ConstantExpressions : Type 0
 ConstantExpressions =
     AllAre
@@ -81,6 +84,7 @@ letters =
 abbrev pub word : Expr ℕ
 word = text (codes "`hell" ++ 195 ∷ 184 ∷ codes "`")
 
+-- each conversion with what it gives
 abbrev pub Conversions : Type 0
 Conversions =
     AllAre

@@ -42,6 +42,7 @@ AllIdentical env rows =
     map (λ r. both (type_meant env r.0) (type_meant env r.1) (λ t u. Some (identical t u))) rows
     ≡ map (λ r. Some r.2) rows
 
+-- pairs of the types declared above, and whether they are identical
 abbrev pub TypeIdentity : Type 0
 TypeIdentity =
     AllIdentical (place_in types)
@@ -75,6 +76,7 @@ abbrev pub AllCalled : Env → List (Expr ℕ × Bool) → Type 0
 AllCalled env rows =
     map (λ r. parts env r.0) rows ≡ map (λ r. if r.1 then Some (several []) else None) rows
 
+-- calls of the methods declared above, and whether they are typed
 abbrev pub MethodSets : Type 0
 MethodSets =
     AllCalled (place_in methods)

@@ -51,10 +51,11 @@ rune s = rune_lit 0 (codes "'\\x" ++ (s ++ codes "'"))
 abbrev pub text : List ℕ → Expr ℕ
 text s = str_lit 0 s
 
--- operators
+-- an operand with an operator before it
 abbrev pub with : UnOp → Expr ℕ → Expr ℕ
 with o e = unary 0 o e
 
+-- two operands with an operator between them
 abbrev pub between : Expr ℕ → BinOp → Expr ℕ → Expr ℕ
 between a o b = binary 0 o a b
 
