@@ -3,4 +3,5 @@
 pub mod Beginnings
 pub mod Behind
 pub mod Apart
+pub mod TypesApart
 pub mod Examples

@@ -1,17 +1,11 @@
 -- A name is put in the place of a name.
-use Rattle.std.proofs.Common.{◌≡◌, ◌≤◌, ℕ, Bool, true, false, inr, List, ◌∷◌, ◌++◌, drop, Option, Some, refl, sym, ap, subst, ◌∙◌, arith}
+use Rattle.std.proofs.Common.{◌≡◌, ◌≤◌, ℕ, Bool, true, false, inr, List, drop, Option, Some, refl, sym, ap, subst, ◌∙◌, arith}
 use Rattle.std.specs.Str.{chars}
 use Rattle.go_tree.specs.declared.spans.Span.{Span}
-use Rattle.go_tree.specs.declared.tokens.Token.{Token}
 use Rattle.go_tree.specs.Tree.{Expr, ident, int_lit, rune_lit, str_lit, composite, selector, index, slice, call, func_lit, type_operand, unary, binary, star}
 use Rattle.go_tree.specs.Bare.{bare_expr}
 use Rattle.go_tree.specs.File.{File}
 use Rattle.go_tree.specs.FileBare.{bare_file}
-use Rattle.go_words.specs.Terminals as terminal
-use Rattle.go_words.specs.Terminals.{lex, lexemes}
-use Rattle.go_read.specs.SpellsTypes.{Lexemes}
-use Rattle.go_read.specs.SpellsSpans.{start_of, span_to}
-use Rattle.go_read.specs.Spells.{SpellsBare, ident_rule}
 use Rattle.go_layout.specs.Layouts.{Layout}
 use Rattle.go_layout.specs.Parens.{ends_in_integer}
 use Rattle.layout_laws.specs.Formed.{is_call}
@@ -25,11 +19,8 @@ use Rattle.splice_laws.specs.Dots.{UndottedFile}
 use Rattle.splice_laws.specs.Fits.{expr_mark, swap_mark}
 use Rattle.splice_laws.specs.Forms.{new_layout, AsksOld, FormedNew}
 use Rattle.splice_laws.specs.Joints.{begins_with_dot}
-use Rattle.splice_laws.specs.Replaced.{Replaced}
 use Rattle.splice_laws.specs.Splice.{are_apart, first_word, splice}
 use Rattle.splice_laws.specs.Swaps.{Swap, an_operand, a_callee, FileIn}
-use Rattle.splice_laws.proofs.Files.{replaced}
-use Rattle.splice_laws.proofs.Rises.{tokens_rise}
 use Rattle.put_nodes.specs.SpelledNames.{IsNameExpr, a_name_alone, a_qualified_name}
 use Rattle.put_nodes.specs.Put.{FormIsPut, IsSomeName, alone, qualified}
 use Rattle.put_nodes.specs.Swapped.{StandsAs, as_operand, as_callee, as_deferred, IsOldName, IsSwapped, MayBeSwapped, is_old, is_node}

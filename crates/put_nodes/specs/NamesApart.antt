@@ -1,4 +1,3 @@
 -- What stands before a name and behind what is called, in a text that reads as a file: definitions and laws alone,
 -- without code (Go specification, Tokens; Calls).
-pub mod Starts
 pub mod Laws

@@ -7,7 +7,7 @@ mod laws;
 mod names_apart;
 mod type_nodes;
 
-pub use forms_apart::{forms_stand_apart, identifiers_stand_apart};
+pub use forms_apart::{forms_stand_apart, identifiers_stand_apart, types_stand_apart};
 pub use laws::{names_are_put, parts_are_nodes};
-pub use names_apart::{calls_stand_before_no_dot, names_stand_apart};
+pub use names_apart::calls_stand_before_no_dot;
 pub use type_nodes::type_names_are_put;

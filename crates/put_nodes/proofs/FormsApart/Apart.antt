@@ -1,5 +1,5 @@
 -- A form that needs no blank stands apart from the token before it.
-use Rattle.std.proofs.Common.{◌≡◌, ◌⊎◌, inl, inr, ℕ, ◌+◌, ◌<◌, ◌≤◌, Bool, true, false, cond, not, ◌&&◌, ◌||◌, nat_eq, nat_lt, ◌==◌, List, [], ◌∷◌, ◌++◌, Option, Some, None, refl, sym, ap, subst, ◌∙◌, arith}
+use Rattle.std.proofs.Common.{◌≡◌, ℕ, ◌+◌, ◌<◌, ◌≤◌, Bool, true, false, ◌&&◌, ◌||◌, nat_eq, nat_lt, ◌==◌, List, [], ◌∷◌, ◌++◌, Option, Some, None, refl, sym, ap, subst, ◌∙◌, arith}
 use Rattle.std.specs.Prelude.{encode_utf8_all, codes, if◌then◌else◌}
 use Rattle.std.specs.Str.{all_scalars, chars}
 use Rattle.std.proofs.lemmas.Bool.Decides.{nat_tests}
@@ -11,14 +11,14 @@ use Rattle.go_tree.specs.declared.tokens.TokenKind.{TokenKind}
 use Rattle.go_tree.specs.File.{File}
 use Rattle.go_words.specs.Tokens.Characters.{is_letter, is_listed}
 use Rattle.go_words.specs.Tokens.{TokensOf, size_of, span_of, inserted, tokens_at, due_after, tokens_from, after_mark, mark_size}
-use Rattle.go_words.specs.Tokens.Pieces.{PieceKind, blanks, remark, token, Piece, IsPiece, IsNext, CutsTo}
+use Rattle.go_words.specs.Tokens.Pieces.{PieceKind, blanks, remark, token, Piece, IsPiece, CutsTo}
 use Rattle.go_read.specs.SpellsFiles.{SpellsFile}
 use Rattle.go_scan.specs.Unsupported.{is_unsupported, word_spans}
 use Rattle.go_scan.proofs.Derivatives.{and_true}
 use Rattle.go_scan.proofs.PieceKinds.{never_empty}
 use Rattle.layout_laws.specs.Formed.{IsName}
 use Rattle.run_rules.specs.Texts.{run_together, needs_blank, spelling_before}
-use Rattle.splice_laws.specs.Joints.{begins_with_dot, is_open}
+use Rattle.splice_laws.specs.Joints.{is_open}
 use Rattle.splice_laws.specs.Splice.{are_two, is_inserted, stays_apart, are_apart}
 use Rattle.splice_laws.proofs.Ends.{or_cases}
 use Rattle.supported_words.proofs.Words.{words_supported}

@@ -1,5 +1,5 @@
 -- What a token is before a letter or a sign with which it doesn't run together.
-use Rattle.std.proofs.Common.{◌≡◌, ℕ, ◌<◌, Bool, true, false, not, ◌&&◌, ◌||◌, nat_eq, nat_lt, ◌==◌, bytes_eq, List, [], ◌∷◌, ◌++◌, length, take, refl, sym, ap, subst, ◌∙◌, arith}
+use Rattle.std.proofs.Common.{◌≡◌, ℕ, Bool, true, false, not, ◌&&◌, ◌||◌, nat_eq, nat_lt, ◌==◌, bytes_eq, List, [], ◌∷◌, ◌++◌, length, take, refl, sym, ap, subst, ◌∙◌, arith}
 use Rattle.std.specs.Prelude.{encode_utf8_all, codes, if◌then◌else◌}
 use Rattle.std.specs.Cmp.Lexicographic.{pointwise}
 use Rattle.std.specs.List.{list_all, list_any, starts_with}
@@ -8,14 +8,14 @@ use Rattle.std.proofs.lemmas.List.{append_assoc}
 use Rattle.std.proofs.lemmas.Str.{encode_ascii}
 use Rattle.go_tree.specs.declared.tokens.TokenKind.{TokenKind}
 use Rattle.go_tree.specs.declared.tokens.TokenKind.TheVariants.{Ident, Keyword, Operator, Integer, Float, Imaginary, Rune, Str, Inserted}
-use Rattle.go_words.specs.Tokens.Characters.{is_letter, is_word, is_listed, each}
-use Rattle.go_words.specs.Tokens.Pieces.{PieceKind, blanks, remark, token, operator_spellings, operator, may_precede, IsPiece, IsNext}
+use Rattle.go_words.specs.Tokens.Characters.{is_letter, is_listed, each}
+use Rattle.go_words.specs.Tokens.Pieces.{PieceKind, blanks, token, operator_spellings, operator, may_precede, IsPiece, IsNext}
 use Rattle.go_scan.specs.Automaton.{next_of, kind_in}
 use Rattle.go_scan.specs.Unsupported.{is_unsupported}
 use Rattle.go_scan.proofs.Derivatives.{and_parts, and_true}
 use Rattle.go_scan.proofs.AutomatonLemmas.{below, below_at, run}
 use Rattle.go_scan.proofs.LexemeLemmas.{form_runs}
-use Rattle.go_scan.proofs.PieceKinds.{Sort, a_blank, a_letter, a_lexeme, sort_of, never_empty}
+use Rattle.go_scan.proofs.PieceKinds.{Sort, a_blank, a_letter, a_lexeme, sort_of}
 use Rattle.layout_laws.proofs.NextTokens.{START, DEAD, next_lexeme, next_name, next_keyword, lexeme_first}
 use Rattle.run_rules.specs.Texts.{begins_word, is_longer_front, long_operators, run_together}
 use Rattle.splice_laws.proofs.Ends.{or_cases, each_word, operator_passes}

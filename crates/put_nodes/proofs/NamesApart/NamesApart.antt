@@ -1,40 +1,31 @@
--- Where an identifier stands, another one may stand: what ends directly before it doesn't go on with its first letter.
-use Rattle.std.proofs.Common.{◌≡◌, ◌⊎◌, inl, inr, ℕ, ◌+◌, ◌<◌, ◌≤◌, Bool, true, false, cond, not, ◌&&◌, ◌||◌, nat_eq, nat_lt, nat_le, ◌==◌, bytes_eq, List, [], ◌∷◌, ◌++◌, length, take, drop, Option, Some, None, refl, sym, ap, subst, ◌∙◌, arith, length-take, length-append}
+-- What ends before a letter, and tokens that end elsewhere.
+use Rattle.std.proofs.Common.{◌≡◌, ℕ, ◌+◌, ◌<◌, ◌≤◌, Bool, true, false, cond, not, ◌&&◌, ◌||◌, nat_eq, nat_lt, nat_le, ◌==◌, bytes_eq, List, [], ◌∷◌, ◌++◌, length, take, drop, Option, Some, None, refl, sym, ap, subst, ◌∙◌, arith, length-take, length-append}
 use Rattle.std.specs.Prelude.{encode_utf8, encode_utf8_all, codes, if◌then◌else◌}
 use Rattle.std.specs.Char.{len_utf8}
-use Rattle.std.specs.List.{list_all}
 use Rattle.std.specs.Str.{all_scalars, chars}
 use Rattle.std.proofs.lemmas.Bool.Decides.{nat_tests}
-use Rattle.std.proofs.lemmas.List.{append_assoc}
-use Rattle.std.proofs.lemmas.Str.{chars-encodes, length-encode}
+use Rattle.std.proofs.lemmas.Str.{length-encode}
 use Rattle.ucd_category.specs.GeneralCategory.{general_category}
 use Rattle.ucd_category.specs.GeneralCategoryRows.{general_category_rows}
 use Rattle.ucd_table.specs.Rows.{value_in}
-use Rattle.go_tree.specs.declared.spans.Span.{Span}
 use Rattle.go_tree.specs.declared.tokens.Token.{Token}
-use Rattle.go_tree.specs.declared.tokens.Comment.{Comment}
 use Rattle.go_tree.specs.declared.tokens.TokenKind.{TokenKind}
 use Rattle.go_tree.specs.declared.tokens.TokenKind.TheVariants.{Ident, Keyword, Operator, Integer, Float, Imaginary, Rune, Str, Inserted}
-use Rattle.go_words.specs.Terminals.{Terminal, Lexeme, lex, ident, terminal_of, lexeme_of, lexemes, found_in, keywords, operators}
 use Rattle.go_words.specs.Tokens.Characters.{is_letter, is_word, is_digit, is_listed, each, byte_order_mark}
-use Rattle.go_words.specs.Tokens.{TokensOf, size_of, span_of, inserted, tokens_at, due_after, tokens_from, after_mark, mark_size}
-use Rattle.go_words.specs.Tokens.Pieces.{PieceKind, blanks, remark, token, Piece, keyword_spellings, is_among, is_identifier, may_precede, IsPiece, IsNext, CutsTo}
-use Rattle.go_read.specs.SpellsTypes.{Lexemes}
+use Rattle.go_words.specs.Tokens.{size_of, span_of, inserted, tokens_at, due_after, tokens_from, after_mark}
+use Rattle.go_words.specs.Tokens.Pieces.{PieceKind, blanks, remark, token, Piece, may_precede, IsPiece, IsNext}
 use Rattle.go_scan.specs.Automaton.{next_of, kind_in}
 use Rattle.go_scan.specs.Pieces.{piece_of, Exact}
 use Rattle.go_scan.proofs.Derivatives.{and_parts, and_true}
-use Rattle.go_scan.proofs.AutomatonLemmas.{below, below_at, run}
+use Rattle.go_scan.proofs.AutomatonLemmas.{below, below_at}
 use Rattle.go_scan.proofs.LetterLemmas.{letter_ascii}
-use Rattle.go_scan.proofs.LexemeLemmas.{form_runs}
-use Rattle.go_scan.proofs.PieceKinds.{Sort, a_blank, a_letter, a_lexeme, sort_of, never_empty}
+use Rattle.go_scan.proofs.PieceKinds.{never_empty}
 use Rattle.go_scan.proofs.PieceLemmas.{piece_exact}
-use Rattle.layout_laws.specs.Formed.{IsName}
-use Rattle.layout_laws.proofs.NextTokens.{START, DEAD, next_lexeme}
+use Rattle.layout_laws.proofs.NextTokens.{DEAD}
 use Rattle.splice_laws.specs.Joints.{begins_with_dot, is_open}
 use Rattle.splice_laws.specs.Splice.{has_length, are_two, is_inserted, stays_apart, are_apart}
 use Rattle.splice_laws.proofs.Ends.{or_cases}
-use Rattle.splice_laws.proofs.Joins.{is_remark_kind, whole_state}
-use Rattle.put_nodes.specs.NamesApart.Starts.{StartsName, this_token, later_token}
+use Rattle.splice_laws.proofs.Joins.{is_remark_kind}
 
 -- ---- small things
 
@@ -143,18 +134,6 @@ letter_word c l = by_letter (is_letter c) l
 
 -- ---- a token before a letter
 
--- no letter follows a number
-number_alone : (k : TokenKind) (w : List ℕ) (c : ℕ) (more : List ℕ) → is_number (token k) ≡ true → may_precede (token k) w (c ∷ more) ≡ true → is_word c ≡ true → ⊥
-number_alone Integer w c more q h e = nope (is_word c) h e
-number_alone Float w c more q h e = nope (is_word c) h e
-number_alone Imaginary w c more q h e = nope (is_word c) h e
-number_alone Ident w c more q h e = absurd cc
-number_alone Keyword w c more q h e = absurd cc
-number_alone Operator w c more q h e = absurd cc
-number_alone Rune w c more q h e = absurd cc
-number_alone Str w c more q h e = absurd cc
-number_alone Inserted w c more q h e = absurd cc
-
 -- a letter may follow any other
 pub letter_follows : (k : TokenKind) (w : List ℕ) (d : ℕ) (others : List ℕ) → (is_number (token k) ≡ true → ⊥) → is_letter d ≡ true → may_precede (token k) w (d ∷ others) ≡ true
 letter_follows Ident w d others off l = refl
@@ -170,50 +149,6 @@ letter_follows Operator w d others off l = by_slash (bytes_eq w (codes "/")) (no
     by_slash : (b : Bool) → d == 42 ≡ false → (if b then not (d == 42) else true) ≡ true
     by_slash true e = rw e refl
     by_slash false e = refl
-
--- What stands before a letter stands so before any other.
-letter_ends : (k : TokenKind) (w : List ℕ) (c : ℕ) (more : List ℕ) → IsNext (w ++ c ∷ more) (token k) w (c ∷ more) → is_letter c ≡ true → (d : ℕ) (others : List ℕ) → is_letter d ≡ true → IsNext (w ++ d ∷ others) (token k) w (d ∷ others)
-letter_ends k [] c more next l d others m = absurd (never_empty (token k) next.spelled)
-letter_ends k (x ∷ xs) c more next l d others m = by_sort (sort_of (token k) x xs next.spelled)
-  where
-    no_blanks : token k ≡ blanks → ⊥
-    no_blanks e = cc
-
-    no_remark : is_remark_kind (token k) ≡ true → ⊥
-    no_remark e = cc
-
-    no_number : is_number (token k) ≡ true → ⊥
-    no_number q = number_alone k (x ∷ xs) c more q next.follows (letter_word c l)
-
-    -- a word goes on with the letter
-    goes_on : is_letter x ≡ true → each is_word xs ≡ true → ⊥
-    goes_on y h = by_key (is_among keyword_spellings (x ∷ xs ++ c ∷ [])) refl
-      where
-        name : is_identifier (x ∷ xs ++ c ∷ []) ≡ true
-        name = and_true (is_letter x) (each is_word (xs ++ c ∷ [])) y (each_on is_word xs c h (letter_word c l))
-
-        longer : (j : PieceKind) → IsPiece j (x ∷ xs ++ c ∷ []) → ⊥
-        longer j p = too_long (x ∷ xs) c (next.longest j (x ∷ xs ++ c ∷ []) more (sym (append_assoc (x ∷ xs) (c ∷ []) more)) p)
-
-        by_key : (b : Bool) → is_among keyword_spellings (x ∷ xs ++ c ∷ []) ≡ b → ⊥
-        by_key true e = longer (token Keyword) e
-        by_key false e = longer (token Ident) (name, e)
-
-    by_sort : Sort (token k) x xs → IsNext (x ∷ xs ++ d ∷ others) (token k) (x ∷ xs) (d ∷ others)
-    by_sort (a_blank e _ _) = absurd (no_blanks e)
-    by_sort (a_letter _ y h) = absurd (goes_on y h)
-    by_sort (a_lexeme b y form) =
-        let facts = form_runs (token k) (x ∷ xs) form in
-        let at = whole_state (run START (x ∷ xs)) facts.0 in
-        let dead : nat_eq (next_of (run START (x ∷ xs)) d) DEAD ≡ true =
-        or_cases (nat_lt (run START (x ∷ xs)) 2) (letter_stops (run START (x ∷ xs))) (below_at 28 (λ s. nat_lt s 2 || letter_stops s) (run START (x ∷ xs)) letters_checked at.0)
-        (λ q. clash (nat_lt (run START (x ∷ xs)) 2) q at.1)
-        (λ q. or_cases (is_number (kind_in (run START (x ∷ xs)))) (is_remark_kind (kind_in (run START (x ∷ xs))) || letters_dead (run START (x ∷ xs))) q
-        (λ r. absurd (no_number (subst (λ (j : PieceKind). is_number j ≡ true) (sym facts.1) r)))
-        (λ r. or_cases (is_remark_kind (kind_in (run START (x ∷ xs)))) (letters_dead (run START (x ∷ xs))) r
-        (λ t. absurd (no_remark (subst (λ (j : PieceKind). is_remark_kind j ≡ true) (sym facts.1) t)))
-        (λ t. dead_letter (run START (x ∷ xs)) d t m))) in
-        next_lexeme (token k) x xs (d ∷ others) b y next.spelled dead (letter_follows k (x ∷ xs) d others no_number m)
 
 -- it is the first piece where the two stand side by side
 pub next_two : (w rest : List ℕ) (k : PieceKind) → IsNext (w ++ rest) k w rest → are_two w rest ≡ true
@@ -251,12 +186,6 @@ unfolding stays_apart
 token_elsewhere k w at place next e =
     elsewhere (is_inserted k) (nat_eq (at + size_of w) place) (are_two (chars (encode_utf8_all w)) next && not (is_open k (encode_utf8_all w) && begins_with_dot next)) e
 
-token_here : (k : TokenKind) (w : List ℕ) (at place : ℕ) (d : ℕ) (ds : List ℕ) → all_scalars w ≡ true → are_two w (d ∷ ds) ≡ true → is_letter d ≡ true → stays_apart place (d ∷ ds) (record { span = span_of at w; kind = k; spelling = encode_utf8_all w }) ≡ true
-unfolding stays_apart
-token_here k w at place d ds scalars two l =
-    here_apart (is_inserted k) (nat_eq (at + size_of w) place) (are_two (chars (encode_utf8_all w)) (d ∷ ds)) (is_open k (encode_utf8_all w)) (d == 46)
-    (subst (λ (v : List ℕ). are_two v (d ∷ ds) ≡ true) (sym (chars-encodes w scalars)) two) (no_letter d 46 dot_letter l)
-
 -- an inserted semicolon is no matter
 with_inserted : (due : Option ℕ) (ts : List Token) (place : ℕ) (next : List ℕ) → are_apart ts place next ≡ true → are_apart (inserted due ++ ts) place next ≡ true
 unfolding stays_apart
@@ -286,7 +215,7 @@ behind (p ∷ ps) at due place next lt = by_kind p.kind p.word (behind ps (at + 
         and_true (stays_apart place next (record { span = span_of at w; kind = k; spelling = encode_utf8_all w })) (are_apart (tokens_from (at + size_of p.word) (due_after at due p.kind p.word) ps) place next)
         (token_elsewhere k w at place next (other_place (at + size_of w) place (omega (arith, lt)))) h
 
--- ---- where the identifier stands
+-- ---- pieces
 
 -- a piece has a byte at least
 pub has_bytes : (k : PieceKind) (w : List ℕ) → IsPiece k w → 0 < size_of w
@@ -302,101 +231,10 @@ has_bytes k (c ∷ cs) piece = let sizes = length-append (encode_utf8 c) (encode
     width : (c : ℕ) → 0 < len_utf8 c
     width c = wide (nat_lt c 0x80) (nat_lt c 0x800) (nat_lt c 0x1_0000)
 
--- the next piece is an identifier, and stands at the place
-abbrev IsHere : List Piece → ℕ → ℕ → Type 0
-IsHere [] at place = ⊥
-IsHere (p ∷ ps) at place = (p.kind ≡ token Ident) × (place ≡ at)
-
-strip : (due : Option ℕ) (place : ℕ) (ts : List Token) → StartsName place (inserted due ++ ts) → StartsName place ts
-strip None place ts h = h
-strip (Some n) place ts (this_token e q) = absurd cc
-strip (Some n) place ts (later_token h) = h
-
-strip_line : (b : Bool) (due : Option ℕ) (place : ℕ) (ts : List Token) → StartsName place ((if b then inserted due else []) ++ ts) → StartsName place ts
-strip_line true due place ts h = strip due place ts h
-strip_line false due place ts h = h
-
-none_left : (place : ℕ) → StartsName place [] → ⊥
-none_left place h = elim h [ ]
-
-none_inserted : (due : Option ℕ) (place : ℕ) → StartsName place (inserted due) → ⊥
-none_inserted None place h = none_left place h
-none_inserted (Some n) place (this_token e q) = cc
-none_inserted (Some n) place (later_token h) = none_left place h
-
-ahead : (ps : List Piece) (text : List ℕ) (at : ℕ) (due : Option ℕ) (place : ℕ) → CutsTo text ps [] → StartsName place (tokens_from at due ps) → IsHere ps at place ⊎ (at < place)
-unfolding tokens_from
-ahead [] text at due place cut h = absurd (none_inserted due place h)
-ahead (p ∷ ps) text at due place cut h = by_kind p.kind refl (λ k. ahead ps cut.0 (at + size_of p.word) (due_after at due p.kind p.word) place cut.2 k) h
-  where
-    size : 0 < size_of p.word
-    size = has_bytes p.kind p.word cut.1.spelled
-
-    by_view : IsHere ps (at + size_of p.word) place ⊎ (at + size_of p.word < place) → at < place
-    by_view (inr lt) = omega (arith, lt)
-    by_view (inl x) = by_next ps x
-      where
-        by_next : (qs : List Piece) → IsHere qs (at + size_of p.word) place → at < place
-        by_next [] x = absurd x
-        by_next (q ∷ qs) x = let e = x.1 in omega (arith, e, size)
-
-    by_kind : (k : PieceKind) → p.kind ≡ k → (StartsName place (tokens_from (at + size_of p.word) (due_after at due p.kind p.word) ps) → IsHere ps (at + size_of p.word) place ⊎ (at + size_of p.word < place))
-        → StartsName place (tokens_at at due k p.word ++ tokens_from (at + size_of p.word) (due_after at due p.kind p.word) ps) → ((p.kind ≡ token Ident) × (place ≡ at)) ⊎ (at < place)
-    by_kind blanks e on h = inr (by_view (on (strip_line (is_listed p.word 10) due place (tokens_from (at + size_of p.word) (due_after at due p.kind p.word) ps) h)))
-    by_kind remark e on h = inr (by_view (on (strip_line (is_listed p.word 10) due place (tokens_from (at + size_of p.word) (due_after at due p.kind p.word) ps) h)))
-    by_kind (token k) e on (this_token i q) = inl (e ∙ ap (λ (j : TokenKind). token j) i, sym q)
-    by_kind (token k) e on (later_token h) = inr (by_view (on h))
-
 -- the first letter of an identifier
 pub first_letter : (w : List ℕ) → IsPiece (token Ident) w → (c : ℕ) × (cs : List ℕ) × (w ≡ c ∷ cs) × (is_letter c ≡ true)
 first_letter [] piece = absurd (never_empty (token Ident) piece)
 first_letter (c ∷ cs) piece = (c, cs, refl, (and_parts (is_letter c) (each is_word cs) piece.0).0)
-
--- what a piece is directly before an identifier
-before_name : (k : TokenKind) (w text more : List ℕ) → IsNext text (token k) w more → (q : Piece) (rest : List ℕ) → q.kind ≡ token Ident → IsNext more q.kind q.word rest → (d : ℕ) (ds : List ℕ) → is_letter d ≡ true → are_two w (d ∷ ds) ≡ true
-before_name k w text more next q rest e at_name d ds m =
-    let f = first_letter q.word (subst (λ (j : PieceKind). IsPiece j q.word) e at_name.spelled) in
-    let on : more ≡ f.0 ∷ (f.1 ++ rest) = at_name.parts ∙ ap (λ (v : List ℕ). v ++ rest) f.2 in
-    let here : IsNext (w ++ more) (token k) w more = subst (λ (v : List ℕ). IsNext v (token k) w more) next.parts next in
-    next_two w (d ∷ ds) (token k) (letter_ends k w f.0 (f.1 ++ rest) (subst (λ (v : List ℕ). IsNext (w ++ v) (token k) w v) on here) f.3 d ds m)
-
-pub around : (ps : List Piece) (text : List ℕ) (at : ℕ) (due : Option ℕ) (place : ℕ) → CutsTo text ps [] → all_scalars text ≡ true → StartsName place (tokens_from at due ps) → (d : ℕ) (ds : List ℕ) → is_letter d ≡ true → are_apart (tokens_from at due ps) place (d ∷ ds) ≡ true
-unfolding tokens_from
-around [] text at due place cut scalars h d ds m = at_the_end due place (d ∷ ds)
-around (p ∷ ps) text at due place cut scalars h d ds m =
-    let parts = scalars_parts p.word cut.0 (subst (λ (x : List ℕ). all_scalars x ≡ true) cut.1.parts scalars) in
-    by_kind p.kind p.word refl cut.1 parts.0 (λ k. around ps cut.0 (at + size_of p.word) (due_after at due p.kind p.word) place cut.2 parts.1 k d ds m) h
-  where
-    others : List Token
-    others = tokens_from (at + size_of p.word) (due_after at due p.kind p.word) ps
-
-    -- the token ends where the identifier starts, or elsewhere
-    ends : (k : TokenKind) (w : List ℕ) → p.word ≡ w → all_scalars p.word ≡ true → IsNext text (token k) w cut.0 → IsHere ps (at + size_of p.word) place ⊎ (at + size_of p.word < place) → stays_apart place (d ∷ ds) (record { span = span_of at w; kind = k; spelling = encode_utf8_all w }) ≡ true
-    ends k w e scalar next (inr lt) = token_elsewhere k w at place (d ∷ ds) (before (at + size_of w) place (subst (λ (v : List ℕ). at + size_of v < place) e lt))
-      where
-        before : (a b : ℕ) → a < b → nat_eq a b ≡ false
-        before a b e = grind (arith, nat_tests, e)
-    ends k w e scalar next (inl x) = by_next ps cut.2 x
-      where
-        by_next : (qs : List Piece) → CutsTo cut.0 qs [] → IsHere qs (at + size_of p.word) place → stays_apart place (d ∷ ds) (record { span = span_of at w; kind = k; spelling = encode_utf8_all w }) ≡ true
-        by_next [] c x = absurd x
-        by_next (q ∷ qs) c x = token_here k w at place d ds (subst (λ (v : List ℕ). all_scalars v ≡ true) e scalar) (before_name k w text cut.0 next q c.0 x.0 c.1 d ds m) m
-
-    by_kind : (k : PieceKind) (w : List ℕ) → p.word ≡ w → IsNext text k w cut.0 → all_scalars p.word ≡ true
-        → (StartsName place (tokens_from (at + size_of p.word) (due_after at due p.kind p.word) ps) → are_apart (tokens_from (at + size_of p.word) (due_after at due p.kind p.word) ps) place (d ∷ ds) ≡ true)
-        → StartsName place (tokens_at at due k w ++ tokens_from (at + size_of p.word) (due_after at due p.kind p.word) ps)
-        → are_apart (tokens_at at due k w ++ tokens_from (at + size_of p.word) (due_after at due p.kind p.word) ps) place (d ∷ ds) ≡ true
-    by_kind blanks w e next scalar on h = with_line (is_listed w 10) due others place (d ∷ ds) (on (strip_line (is_listed w 10) due place others h))
-    by_kind remark w e next scalar on h = with_line (is_listed w 10) due others place (d ∷ ds) (on (strip_line (is_listed w 10) due place others h))
-    by_kind (token k) w e next scalar on (this_token i q) =
-        let size = has_bytes (token k) w next.spelled in
-        let same : size_of p.word ≡ size_of w = ap size_of e in
-        and_true (stays_apart place (d ∷ ds) (record { span = span_of at w; kind = k; spelling = encode_utf8_all w })) (are_apart others place (d ∷ ds))
-        (token_elsewhere k w at place (d ∷ ds) (other_place (at + size_of w) place (omega (arith, q, size))))
-        (behind ps (at + size_of p.word) (due_after at due p.kind p.word) place (d ∷ ds) (omega (arith, q, size, same)))
-    by_kind (token k) w e next scalar on (later_token h) =
-        and_true (stays_apart place (d ∷ ds) (record { span = span_of at w; kind = k; spelling = encode_utf8_all w })) (are_apart others place (d ∷ ds))
-        (ends k w e scalar next (ahead ps cut.0 (at + size_of p.word) (due_after at due p.kind p.word) place cut.2 h)) (on h)
 
 -- ---- texts
 
@@ -407,64 +245,3 @@ unmarked_scalars (c ∷ cs) h = by_mark (c == byte_order_mark)
     by_mark : (b : Bool) → all_scalars (if b then cs else c ∷ cs) ≡ true
     by_mark true = (and_parts (lib.Utf8.scalar c) (all_scalars cs) h).1
     by_mark false = h
-
-pub names_apart : (text : List ℕ) (tokens : List Token) (comments : List Comment) → TokensOf text tokens comments → (at : ℕ) → StartsName at tokens → (n : List ℕ) → IsName n → are_apart tokens at (chars n) ≡ true
-names_apart text tokens comments of_text at there n name =
-    let f = first_letter (chars n) name.1 in
-    subst (λ (v : List ℕ). are_apart tokens at v ≡ true) (sym f.2)
-    (subst (λ (ts : List Token). are_apart ts at (f.0 ∷ f.1) ≡ true) (sym of_text.tokens_are)
-    (around of_text.pieces (after_mark of_text.characters) (mark_size of_text.characters) None at of_text.cut (unmarked_scalars of_text.characters of_text.scalars)
-    (subst (λ (ts : List Token). StartsName at ts) of_text.tokens_are there) f.0 f.1 f.3))
-
--- ---- identifiers among terminals
-
-abbrev is_name : Terminal → Bool
-is_name (ident _) = true
-is_name _ = false
-
-found_plain : (rows : List (List ℕ × Terminal)) (w : List ℕ) → list_all (λ row. not (is_name row.1)) rows ≡ true → is_name (found_in rows w) ≡ true → ⊥
-found_plain [] w h e = absurd cc
-found_plain (row ∷ rows) w h e =
-    let p = and_parts (not (is_name row.1)) (list_all (λ row. not (is_name row.1)) rows) h in by_row (bytes_eq row.0 w) p.0 (λ q. found_plain rows w p.1 q) e
-  where
-    by_row : (b : Bool) → not (is_name row.1) ≡ true → (is_name (found_in rows w) ≡ true → ⊥) → is_name (if b then row.1 else found_in rows w) ≡ true → ⊥
-    by_row true p later e = nope (is_name row.1) p e
-    by_row false p later e = later e
-
-keywords_plain : list_all (λ row. not (is_name row.1)) keywords ≡ true
-keywords_plain = refl
-
-operators_plain : list_all (λ row. not (is_name row.1)) operators ≡ true
-operators_plain = refl
-
-kind_is : (k : TokenKind) (w : List ℕ) → is_name (terminal_of k w) ≡ true → k ≡ Ident
-kind_is Ident w e = refl
-kind_is Keyword w e = absurd (found_plain keywords w keywords_plain e)
-kind_is Operator w e = absurd (found_plain operators w operators_plain e)
-kind_is Integer w e = absurd cc
-kind_is Float w e = absurd cc
-kind_is Imaginary w e = absurd cc
-kind_is Rune w e = absurd cc
-kind_is Str w e = absurd cc
-kind_is Inserted w e = absurd cc
-
-first_is : (x y : Lexeme) (xs ys : Lexemes) → x ∷ xs ≡ y ∷ ys → x ≡ y
-first_is x y xs ys e = cc
-
-others_are : (x y : Lexeme) (xs ys : Lexemes) → x ∷ xs ≡ y ∷ ys → xs ≡ ys
-others_are x y xs ys e = cc
-
-span_is : (s t : Span) (x y : Terminal) → lex s x ≡ lex t y → s ≡ t
-span_is s t x y e = cc
-
-word_is : (s t : Span) (x y : Terminal) → lex s x ≡ lex t y → x ≡ y
-word_is s t x y e = cc
-
--- a terminal that is an identifier is an identifier among the tokens
-pub starts_name : (tokens : List Token) (front rest : Lexemes) (s : Span) (n : List ℕ) → lexemes tokens ≡ front ++ lex s (ident n) ∷ rest → StartsName s.start tokens
-starts_name [] [] rest s n e = absurd cc
-starts_name [] (x ∷ front) rest s n e = absurd cc
-starts_name (t ∷ ts) [] rest s n e =
-    let one = first_is (lex t.span (terminal_of t.kind t.spelling)) (lex s (ident n)) (lexemes ts) rest e in
-    this_token (kind_is t.kind t.spelling (ap is_name (word_is t.span s (terminal_of t.kind t.spelling) (ident n) one))) (ap (λ (z : Span). z.start) (span_is t.span s (terminal_of t.kind t.spelling) (ident n) one))
-starts_name (t ∷ ts) (x ∷ front) rest s n e = later_token (starts_name ts front rest s n (others_are (lexeme_of t) x (lexemes ts) (front ++ lex s (ident n) ∷ rest) e))

@@ -1,79 +1,35 @@
 -- A name of a type is put in the place of a name of a type.
-use Rattle.std.proofs.Common.{◌≡◌, ℕ, Bool, true, false, List, [], ◌∷◌, ◌++◌, drop, Option, Some, None, refl, sym, ap, subst, ◌∙◌}
-use Rattle.std.specs.Str.{chars}
+use Rattle.std.proofs.Common.{◌≡◌, Bool, true, false, drop, Option, refl, ap, ◌∙◌}
 use Rattle.go_tree.specs.declared.spans.Span.{Span}
 use Rattle.go_tree.specs.Tree.{NameAt, TypeExpr, named}
 use Rattle.go_tree.specs.Bare.{bare_type}
 use Rattle.go_tree.specs.File.{File}
 use Rattle.go_tree.specs.FileBare.{bare_file}
-use Rattle.go_words.specs.Terminals as terminal
-use Rattle.go_words.specs.Terminals.{lex, lexemes, paren}
-use Rattle.go_read.specs.SpellsTypes.{Lexemes, SpellsType, named_rule, qualified_rule, type_parens_rule}
-use Rattle.go_read.specs.Spells.{SpellsLiteralType, named_literal_rule, qualified_literal_rule, type_literal_rule}
-use Rattle.go_read.specs.SpellsSpans.{span_to}
+use Rattle.go_layout.specs.Layouts.{Layout}
 use Rattle.go_layout.specs.TypeLayout.{type_layout}
-use Rattle.layout_laws.specs.Formed.{IsName, FormedType, FormedLiteralType}
+use Rattle.layout_laws.specs.Formed.{FormedType, FormedLiteralType}
+use Rattle.layout_laws.proofs.BareLayouts.{type_bare}
 use Rattle.run_rules.specs.FormTrees.{as_type}
 use Rattle.run_rules.specs.Inlining.{ReadsAs}
 use Rattle.run_rules.specs.Respanned.{type_with, file_with}
 use Rattle.run_rules.specs.Steps.{At}
 use Rattle.run_rules.specs.Surroundings.{Slot}
-use Rattle.run_rules.specs.Texts.{FileText, indent_at}
+use Rattle.run_rules.specs.Texts.{FileText, indent_at, spelling_before, first_spelling, needs_blank}
 use Rattle.splice_laws.specs.Dots.{UndottedFile}
 use Rattle.splice_laws.specs.Joints.{begins_with_dot}
-use Rattle.splice_laws.specs.Replaced.{Replaced, starts_rise}
 use Rattle.splice_laws.specs.Splice.{are_apart, first_word}
 use Rattle.splice_laws.specs.Swaps.{Swap, a_type, a_literal_type, FileIn}
-use Rattle.splice_laws.proofs.Files.{replaced}
-use Rattle.splice_laws.proofs.Rises.{tokens_rise}
 use Rattle.form_splices.specs.Laws.{is_parted}
 use Rattle.form_splices.proofs.FormLayouts.{type-spliced}
-use Rattle.put_nodes.specs.NamesApart.Starts.{StartsName}
-use Rattle.put_nodes.proofs.NamesApart.NamesApart.{names_apart, starts_name}
+use Rattle.put_nodes.proofs.FormsApart.TypesApart.{types_apart}
 use Rattle.put_nodes.specs.Put.{FormIsPut}
 use Rattle.put_nodes.proofs.NamesLaid.{indent_spaces}
 use Rattle.put_nodes.specs.TypeNodes.Swapped.{TypeSwapped}
 use Rattle.put_nodes.specs.TypeNodes.Names.{IsTypeName, a_type_alone, a_qualified_type}
 
--- ---- where a name of a type begins
-
--- the first identifier of a type that is a name, which may stand in parentheses
-record FirstName (at : ℕ) (ts : Lexemes) : Type 0 where
-  front : Lexemes
-  span : Span
-  name : List ℕ
-  more : Lexemes
-  tokens : ts ≡ front ++ lex span (terminal.ident name) ∷ more
-  starts : at ≡ span.start
-
-first-name : {z : Span} {q : Option (NameAt Span)} {n : NameAt Span} {ts r : Lexemes} → SpellsType span_to (named z q n) ts r → FirstName z.start ts
-first-name (named_rule {s = s} {n = n} {r = r}) = record { front = []; span = s; name = n; more = r; tokens = refl; starts = refl }
-first-name (qualified_rule {s = s} {p = p}) = record { front = []; span = s; name = p; more = _; tokens = refl; starts = refl }
-first-name (type_parens_rule {s = s} d) =
-    let x : FirstName _ _ = first-name d in
-    record { front = lex s paren ∷ x.front; span = x.span; name = x.name; more = x.more; tokens = ap (λ (ts : Lexemes). lex s paren ∷ ts) x.tokens; starts = x.starts }
-
-more-front : (xs ys zs : Lexemes) → xs ++ (ys ++ zs) ≡ (xs ++ ys) ++ zs
-more-front [] ys zs = refl
-more-front (x ∷ xs) ys zs = ap (λ (ts : Lexemes). x ∷ ts) (more-front xs ys zs)
-
 -- ---- the new name
 
--- the name that comes first
-abbrev first-of : {S : Type 0} → TypeExpr S → List ℕ
-first-of (named s None n) = n.name
-first-of (named s (Some q) n) = q.name
-first-of t = []
-
 module _ {A B : Type 0} (to : A → B) where
-  first-is-name : {t : TypeExpr A} → IsTypeName t → IsName (first-of t)
-  first-is-name (a_type_alone x) = x
-  first-is-name (a_qualified_type x y) = x
-
-  first-laid : {t : TypeExpr A} → IsTypeName t → first_word (type_layout (bare_type (type_with to t))) ≡ chars (first-of t)
-  first-laid (a_type_alone x) = refl
-  first-laid (a_qualified_type x y) = refl
-
   bare-name : {t : TypeExpr A} → IsTypeName t → bare_type (type_with to t) ≡ bare_type t
   bare-name (a_type_alone x) = refl
   bare-name (a_qualified_type x y) = refl
@@ -86,11 +42,6 @@ module _ {A B : Type 0} (to : A → B) where
   formed-name (a_type_alone x) = (tt, x)
   formed-name (a_qualified_type x y) = (x, y)
 
-literal-first : {j : Bool} {z : Span} {q : Option (NameAt Span)} {n : NameAt Span} {ts r : Lexemes} → SpellsLiteralType span_to j (named z q n) ts r → FirstName z.start ts
-literal-first (named_literal_rule {s = s} {n = n} {r = r}) = record { front = []; span = s; name = n; more = r; tokens = refl; starts = refl }
-literal-first (qualified_literal_rule {s = s} {p = p}) = record { front = []; span = s; name = p; more = _; tokens = refl; starts = refl }
-literal-first (type_literal_rule b d) = first-name d
-
 module _ (to : At → Span) (t : FileText) (tree : File At) (reads : ReadsAs t (file_with to tree)) (undotted : UndottedFile (bare_file (file_with to tree))) (z s : At) (p : Slot) (q : Option (NameAt At)) (n : NameAt At) (new : TypeExpr At) (is : IsTypeName new) where
   abbrev range : Span
   range = to s
@@ -101,24 +52,14 @@ module _ (to : At → Span) (t : FileText) (tree : File At) (reads : ReadsAs t (
   abbrev InFile : Swap Span → Type 0
   InFile w = (g : File Span) × FileIn w (file_with to tree) g
 
-  starts-by : (front node rest : Lexemes) → lexemes t.tokens ≡ front ++ (node ++ rest) → FirstName range.start (node ++ rest) → StartsName range.start t.tokens
-  starts-by front node rest e x =
-      subst (λ (at : ℕ). StartsName at t.tokens) (sym x.starts)
-      (starts_name t.tokens (front ++ x.front) x.more x.span x.name (e ∙ ap (λ (ts : Lexemes). front ++ ts) x.tokens ∙ more-front front x.front (lex x.span (terminal.ident x.name) ∷ x.more)))
+  -- the layout without spans is that of the name
+  laid : type_layout (bare_type (type_with to new)) ≡ type_layout new
+  laid = ap (λ (u : TypeExpr (Unit {0})). type_layout u) (bare-name to is) ∙ type_bare new
 
-  type-starts : {are : Lexemes → Type 0} → Replaced span_to (a_type old (type_with to new)) (lexemes t.tokens) are → StartsName range.start t.tokens
-  type-starts r = starts-by r.front r.node r.rest r.tokens (first-name r.old)
-
-  literal-starts : {are : Lexemes → Type 0} → Replaced span_to (a_literal_type false old (type_with to new)) (lexemes t.tokens) are → StartsName range.start t.tokens
-  literal-starts r = starts-by r.front r.node r.rest r.tokens (literal-first r.old.2)
-
-  rising : starts_rise (lexemes t.tokens)
-  rising = tokens_rise t.text t.tokens t.comments reads.scans
-
-  apart : StartsName range.start t.tokens → are_apart t.tokens range.start (first_word (type_layout (bare_type (type_with to new)))) ≡ true
-  apart starts =
-      subst (λ (v : List ℕ). are_apart t.tokens range.start v ≡ true) (sym (first-laid to is))
-      (names_apart t.text t.tokens t.comments reads.scans range.start starts (first-of new) (first-is-name to is))
+  apart : is_parted t z range p (as_type new) ≡ false → are_apart t.tokens range.start (first_word (type_layout (bare_type (type_with to new)))) ≡ true
+  apart none =
+      types_apart t.text t.tokens t.comments (file_with to tree) reads.scans reads.spells range.start (bare_type (type_with to new)) (formed-name to is)
+      (ap (λ (l : Layout). needs_blank (spelling_before range.start t.tokens) (first_spelling l)) laid ∙ none)
 
   pub type-name-put : (literal : Bool) → TypeSwapped to InFile literal (named s q n) → FormIsPut t (file_with to tree) z range p (as_type new)
   type-name-put false swapped =
@@ -140,7 +81,7 @@ module _ (to : At → Span) (t : FileText) (tree : File At) (reads : ReadsAs t (
           formed = formed-name to is;
           spaces = indent_spaces t.text range.start;
           undotted = λ e. e;
-          apart = λ e. apart (type-starts (replaced (a_type old (type_with to new)) (file_with to tree) put.0 (lexemes t.tokens) reads.spells rising put.1));
+          apart = apart;
         };
       }
   type-name-put true swapped =
@@ -162,6 +103,6 @@ module _ (to : At → Span) (t : FileText) (tree : File At) (reads : ReadsAs t (
           formed = (formed-literal to is, λ e. absurd cc);
           spaces = indent_spaces t.text range.start;
           undotted = λ e. e;
-          apart = λ e. apart (literal-starts (replaced (a_literal_type false old (type_with to new)) (file_with to tree) put.0 (lexemes t.tokens) reads.spells rising put.1));
+          apart = apart;
         };
       }

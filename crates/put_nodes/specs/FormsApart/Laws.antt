@@ -7,10 +7,12 @@ use Rattle.go_tree.specs.declared.tokens.Comment.{Comment}
 use Rattle.go_tree.specs.File.{File}
 use Rattle.go_words.specs.Tokens.{TokensOf}
 use Rattle.go_read.specs.SpellsFiles.{SpellsFile}
-use Rattle.run_rules.specs.Texts.{needs_blank, spelling_before}
+use Rattle.run_rules.specs.Texts.{first_spelling, needs_blank, spelling_before}
 use Rattle.std.specs.Str.{chars}
-use Rattle.layout_laws.specs.Formed.{IsName}
-use Rattle.splice_laws.specs.Splice.{are_apart}
+use Rattle.go_layout.specs.TypeLayout.{type_layout}
+use Rattle.go_tree.specs.Tree.{TypeExpr}
+use Rattle.layout_laws.specs.Formed.{FormedType, IsName}
+use Rattle.splice_laws.specs.Splice.{are_apart, first_word}
 use Rattle.put_nodes.specs.FormsApart.Begins.{may_begin}
 
 -- In a text that reads as a file, where a form would need no blank before it, the token that ends there, if one does,
@@ -28,3 +30,11 @@ IdentifiersStandApart =
     (text : List ℕ) (tokens : List Token) (comments : List Comment) (file : File Span) → TokensOf text tokens comments
     → SpellsFile tokens file → (at : ℕ) (name : List ℕ) → IsName name
     → needs_blank (spelling_before at tokens) (Some name) ≡ false → are_apart tokens at (chars name) ≡ true
+
+-- So does a written type.
+abbrev pub TypesStandApart : Type 0
+TypesStandApart =
+    (text : List ℕ) (tokens : List Token) (comments : List Comment) (file : File Span) → TokensOf text tokens comments
+    → SpellsFile tokens file → (at : ℕ) (t : TypeExpr (Unit {0})) → FormedType t
+    → needs_blank (spelling_before at tokens) (first_spelling (type_layout t)) ≡ false
+    → are_apart tokens at (first_word (type_layout t)) ≡ true

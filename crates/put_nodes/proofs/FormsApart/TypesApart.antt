@@ -1,0 +1,51 @@
+-- A written type that needs no blank stands apart from the token before it.
+use Rattle.std.proofs.Common.{◌≡◌, refl, sym, subst, ℕ, true, false, List, [], ◌∷◌, Some, None}
+use Rattle.std.specs.Prelude.{encode_utf8_all}
+use Rattle.ucd_category.specs.GeneralCategory.{general_category}
+use Rattle.ucd_category.specs.GeneralCategoryRows.{general_category_rows}
+use Rattle.ucd_table.specs.Rows.{value_in}
+use Rattle.go_tree.specs.declared.spans.Span.{Span}
+use Rattle.go_tree.specs.declared.tokens.Token.{Token}
+use Rattle.go_tree.specs.declared.tokens.Comment.{Comment}
+use Rattle.go_tree.specs.Tree.{TypeExpr, named, pointer, slice_type, map_type, struct_type}
+use Rattle.go_tree.specs.File.{File}
+use Rattle.go_words.specs.Tokens.{TokensOf}
+use Rattle.go_words.specs.Tokens.Characters.{is_letter}
+use Rattle.go_read.specs.SpellsFiles.{SpellsFile}
+use Rattle.go_layout.specs.TypeLayout.{type_layout}
+use Rattle.layout_laws.specs.Formed.{FormedType}
+use Rattle.run_rules.specs.Texts.{spelling_before, first_spelling, needs_blank}
+use Rattle.splice_laws.specs.Splice.{are_apart, first_word}
+use Rattle.put_nodes.specs.FormsApart.Begins.{may_begin}
+use Rattle.put_nodes.proofs.FormsApart.Apart.{forms_apart, name_apart}
+
+star_begins : may_begin 42 ≡ true
+unfolding is_letter general_category general_category_rows value_in
+star_begins = refl
+
+bracket_begins : may_begin 91 ≡ true
+unfolding is_letter general_category general_category_rows value_in
+bracket_begins = refl
+
+map_begins : may_begin 109 ≡ true
+unfolding is_letter general_category general_category_rows value_in
+map_begins = refl
+
+struct_begins : may_begin 115 ≡ true
+unfolding is_letter general_category general_category_rows value_in
+struct_begins = refl
+
+module _ (text : List ℕ) (tokens : List Token) (comments : List Comment) (file : File Span) (of_text : TokensOf text tokens comments) (spells : SpellsFile tokens file) (at : ℕ) where
+  -- one that begins with a sign or a keyword
+  begun : (c : ℕ) (cs : List ℕ) → may_begin c ≡ true → needs_blank (spelling_before at tokens) (Some (c ∷ cs)) ≡ false → (encoded : encode_utf8_all (c ∷ cs) ≡ c ∷ cs) → are_apart tokens at (c ∷ cs) ≡ true
+  begun c cs b none encoded =
+      forms_apart text tokens comments file of_text spells at c cs b (subst (λ (v : List ℕ). needs_blank (spelling_before at tokens) (Some v) ≡ false) (sym encoded) none)
+
+  pub types_apart : (t : TypeExpr (Unit {0})) → FormedType t → needs_blank (spelling_before at tokens) (first_spelling (type_layout t)) ≡ false → are_apart tokens at (first_word (type_layout t)) ≡ true
+  unfolding lib.Utf8.encode
+  types_apart (named s None n) f none = name_apart text tokens comments file of_text spells at n.name f.1 none
+  types_apart (named s (Some q) n) f none = name_apart text tokens comments file of_text spells at q.name f.0 none
+  types_apart (pointer s t) f none = begun 42 [] star_begins none refl
+  types_apart (slice_type s t) f none = begun 91 [] bracket_begins none refl
+  types_apart (map_type s k t) f none = begun 109 (97 ∷ 112 ∷ []) map_begins none refl
+  types_apart (struct_type s fs) f none = begun 115 (116 ∷ 114 ∷ 117 ∷ 99 ∷ 116 ∷ []) struct_begins none refl

@@ -1,3 +1,0 @@
-pub mod MarksApart
-pub mod TypesApart
-pub mod Examples
