@@ -1,0 +1,5 @@
+pub mod KindsStay
+pub mod NoCycles
+pub mod Settled
+pub mod Takes
+pub mod Runs
