@@ -11,7 +11,8 @@ ghost use Rattle.checker_tables.specs.Ready.{Keeps};
 ghost use Rattle.operand_answers.specs.Known.{Stands};
 ghost use Rattle.local_blocks.specs.Places.{IsPlace, IsWithin};
 ghost use Rattle.expr_walk.specs.Walked.{AreAllWalked};
-ghost use Rattle.constant_groups.specs.Groups.{AreWalkedSpecs, GivesDeclared, IsWalkedFrom, in_spec, own_from, repeated_from};
+ghost use Rattle.constant_groups.specs.Groups.{AreWalkedSpecs, GivesDeclared, IsWalkedFrom};
+ghost use Rattle.constant_groups.specs.Groups.{in_spec, own_from, repeated_from};
 
 use crate::members::constant_member;
 use checker_tables::Tables;

@@ -71,8 +71,10 @@ fn numbered_values(
     ensures keeps { Keeps tables.old tables.new }
     ensures same { scope.new ≡ scope.old }
     ensures gives { GivesAll tables.new.env tables.new.consts
-        (go_typing.all_parts (env_at tables.old.env tables.old.consts blocks.now (numbered number scope.old)) (exprs_of es.now))
-        (go_typing.places (env_at tables.old.env tables.old.consts blocks.now (numbered number scope.old)) (exprs_of es.now))
+        (go_typing.all_parts (env_at tables.old.env tables.old.consts blocks.now (numbered number scope.old))
+        (exprs_of es.now))
+        (go_typing.places (env_at tables.old.env tables.old.consts blocks.now (numbered number scope.old))
+        (exprs_of es.now))
         result }
 {
     let before = scope.iota;
@@ -102,7 +104,8 @@ fn spec_constants(
     ensures gives { (env : Env) → IsPlace tables.old.env tables.old.consts blocks.now scope.old block.now.names env
         → GivesConstants tables.new.env tables.new.consts (names_of (map name_at_of names.now))
         (go.new_constants env (names_of (map name_at_of names.now))
-        (type_name.written_type (env_at tables.old.env tables.old.consts blocks.now scope.old) (option_map type_of from.now.of))
+        (type_name.written_type (env_at tables.old.env tables.old.consts blocks.now scope.old)
+        (option_map type_of from.now.of))
         (go_typing.all_parts (env_at tables.old.env tables.old.consts blocks.now (numbered number scope.old))
         (exprs_of from.now.values))) result }
 {
@@ -132,7 +135,8 @@ pub(crate) fn constant_member(
     ensures gives { (env : Env) → IsPlace tables.old.env tables.old.consts blocks.now scope.old block.old.names env
         → GivesDeclared tables.new blocks.now scope.new block.new.names env
         (go.new_constants env (names_of (map name_at_of names.now))
-        (type_name.written_type (env_at tables.old.env tables.old.consts blocks.now scope.old) (option_map type_of from.now.of))
+        (type_name.written_type (env_at tables.old.env tables.old.consts blocks.now scope.old)
+        (option_map type_of from.now.of))
         (go_typing.all_parts (env_at tables.old.env tables.old.consts blocks.now (numbered number scope.old))
         (exprs_of from.now.values))) result }
 {
