@@ -1,3 +1,4 @@
 pub mod CallLemmas
 pub mod FieldLemmas
 pub mod SliceLemmas
+pub mod BuiltinRules

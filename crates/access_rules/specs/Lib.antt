@@ -2,3 +2,4 @@ pub mod Places
 pub mod Slices
 pub mod Functions
 pub mod Selections
+pub mod BuiltinRules

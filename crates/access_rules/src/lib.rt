@@ -2,6 +2,7 @@
 //! (Go specification, Selectors; Index expressions; Slice expressions; Address operators; Calls).
 #![tactic(auto)]
 
+mod builtin_rules;
 mod calls;
 mod fields;
 mod forms;
@@ -12,6 +13,9 @@ mod pointers;
 mod selectors;
 mod slices;
 
+pub use builtin_rules::{
+    allocates, appends, capacity, copies, deletes, is_printed, length, makes, panics,
+};
 pub use calls::{takes_all, takes_call, takes_values};
 pub use fields::{find_field, is_blank, sees};
 pub use forms::form;

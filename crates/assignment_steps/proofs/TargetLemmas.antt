@@ -27,8 +27,8 @@ use Rattle.operand_modes.specs.Operands.{SameOperand, operand_at}
 use Rattle.operand_answers.specs.declared.located.Located.{Located}
 use Rattle.operand_answers.specs.Located.{GivesAt, is_stored, stored_by}
 use Rattle.control_steps.specs.Ends.{EndsAs}
-use Rattle.right_sides.specs.Values.{AreAlike, GivesValuesAlike, SameValue, SameValues}
-use Rattle.right_sides.proofs.AlikeValues.{fits_alike, settled_alike}
+use Rattle.control_steps.specs.RightSides.Values.{AreAlike, GivesValuesAlike, SameValue, SameValues}
+use Rattle.control_steps.proofs.RightSides.AlikeValues.{fits_alike, settled_alike}
 use Rattle.assignment_steps.specs.declared.targets.Target.{Target}
 use Rattle.assignment_steps.specs.declared.targets.TargetList.{TargetList}
 use Rattle.assignment_steps.specs.Targets.{AreTargets, GivesTarget, GivesTargets, IsTarget, target_of, targets_of}

@@ -1,1 +1,3 @@
 pub mod Targets
+pub mod SpecSteps
+pub mod DefineSteps

@@ -11,15 +11,15 @@ ghost use Rattle.access_rules.specs.Functions.{AreValues};
 ghost use Rattle.checker_tables.specs.Ready.{AreReady};
 ghost use Rattle.operand_answers.specs.Lists.{GivesAll};
 ghost use Rattle.control_steps.specs.Ends.{EndsAs};
-ghost use Rattle.right_sides.specs.Values.{AreValuesIfOk, GivesValuesAlike, StandIfOk};
+ghost use Rattle.control_steps.specs.RightSides.Values.{AreValuesIfOk, GivesValuesAlike, StandIfOk};
 ghost use Rattle.assignment_steps.specs.Targets.{AreTargets, AreTargetsIfOk, GivesTargets, targets_of};
 
 use crate::targets::{Target, TargetList, stores};
 use checker_tables::Tables;
+use control_steps::right_values;
 use operand_answers::OperandList;
 use operand_modes::ValueList;
 use operand_rules::{Refusal, Value};
-use right_sides::right_values;
 use std::alloc::Global;
 
 /// Whether each value may be stored at its target, one by one.

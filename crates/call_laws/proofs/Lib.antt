@@ -1,2 +1,3 @@
 pub mod ValueLists
 pub mod CallLemmas
+pub mod LiteralCalls

@@ -13,8 +13,8 @@ ghost use Rattle.operand_answers.specs.Located.{GivesAt, IsThereIfOk};
 
 use crate::conversions::conversion_call;
 use crate::functions::function_call;
-use builtin_steps::builtin_call;
 use checker_tables::Tables;
+use composite_steps::builtin_call;
 use operand_answers::{Located, OperandList, elsewhere};
 use operand_modes::Operand;
 use operand_rules::Refusal;

@@ -24,8 +24,8 @@ use Rattle.declared_types.proofs.Found.{world_kept}
 use Rattle.func_headers.specs.NameRoles.{SameTypes, role_of}
 use Rattle.method_headers.proofs.MethodLaws.{methods_are_found}
 use Rattle.method_types.specs.Methods.{refused_methods}
-use Rattle.method_sets.specs.Methods.{HasDeclared, OnlyMethods}
-use Rattle.method_sets.proofs.Kept.{flags_kept, keys_kept, under_kept}
+use Rattle.method_types.specs.MethodSets.Methods.{HasDeclared, OnlyMethods}
+use Rattle.method_types.proofs.MethodSets.Kept.{flags_kept, keys_kept, under_kept}
 use Rattle.checker_tables.specs.Ready.{IsReady}
 use Rattle.checker_tables.proofs.ReadyLemmas.{ready_stays}
 use Rattle.collected.specs.Methods.{MethodsAreAdded}

@@ -25,7 +25,7 @@ use Rattle.declared_types.proofs.Passed.{members_on, places_on}
 use Rattle.defined_types.specs.declared.declared.DeclaredType.{DeclaredType}
 use Rattle.defined_types.specs.DeclaredTypes.{AreDeclared, declared_of}
 use Rattle.defined_types.proofs.TypeSteps.{are_same}
-use Rattle.refused_types.specs.Refusals.{TypesAreKnown}
+use Rattle.finite_types.specs.RefusedTypes.Refusals.{TypesAreKnown}
 use Rattle.func_headers.specs.Functions.{TypesAreDeclared}
 use Rattle.checker_tables.specs.Ready.{IsReady}
 use Rattle.header_order.specs.Types.{refused_types}

@@ -14,9 +14,7 @@ ghost use Rattle.collected.specs.Methods.{MethodsAreAdded};
 
 use checker_tables::Tables;
 use go_tree::NoMemory;
-use method_names::attached_types;
-use method_sets::declare_methods;
-use method_types::{MethodTypes, method_types};
+use method_types::{MethodTypes, attached_types, declare_methods, method_types};
 use package_blocks::PackageHeader;
 use std::alloc::{AllocError, Global};
 use type_relations::Env;

@@ -2,11 +2,13 @@
 //! their keys and values (Go specification, Composite literals).
 #![tactic(auto)]
 
+mod builtin_steps;
 mod elements;
 mod literals;
 mod operands;
 mod types;
 
+pub use builtin_steps::builtin_call;
 pub use elements::{ElementList, keyed, of_field, unkeyed};
 pub use literals::{literal, literal_inside};
 pub use operands::operand_of;

@@ -20,7 +20,7 @@ use Rattle.operand_laws.specs.Alike.{SameBound}
 use Rattle.operand_answers.specs.declared.located.Located.{Located}
 use Rattle.operand_answers.specs.Located.{GivesAt}
 use Rattle.access_rules.specs.Slices.{bound_of}
-use Rattle.access_steps.specs.Bounds.{GivesBound}
+use Rattle.operand_answers.specs.AccessSteps.Bounds.{GivesBound}
 use Rattle.control_steps.specs.Ends.{EndsAs}
 
 -- ---- tests that see operands alike

@@ -12,7 +12,7 @@ ghost use Rattle.operand_rules.specs.Values.{IsType, type_of};
 ghost use Rattle.operand_modes.specs.Operands.{IsOperand, operand_at};
 ghost use Rattle.operand_answers.specs.Located.{GivesAt, IsThereIfOk};
 ghost use Rattle.access_rules.specs.Slices.{IsBoundValue, bound_of};
-ghost use Rattle.access_steps.specs.Bounds.{GivesBound, IsBoundIfOk};
+ghost use Rattle.operand_answers.specs.AccessSteps.Bounds.{GivesBound, IsBoundIfOk};
 
 use crate::refused::unmet;
 use checker_tables::Tables;

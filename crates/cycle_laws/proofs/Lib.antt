@@ -12,3 +12,4 @@ pub mod CallsBare
 pub mod BareWith
 pub mod DeclRead
 mod Examples
+pub mod ConstantCycles

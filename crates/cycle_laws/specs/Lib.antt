@@ -3,3 +3,4 @@ pub mod NamesNoFunction
 pub mod PutSteps
 pub mod NamesStay
 pub mod Laws
+pub mod ConstantCycles

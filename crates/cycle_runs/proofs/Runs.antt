@@ -15,7 +15,7 @@ use Rattle.run_rules.specs.Steps.{At, same_here, change_nth, changes_for}
 use Rattle.run_rules.specs.Cycles.{LeadsTo, is_recursive}
 use Rattle.run_rules.specs.Run.{Standing, Logged, Next, Run, ends, goes_on}
 use Rattle.run_rules.specs.Inlining.{ModuleReads, standing_as_read}
-use Rattle.constant_cycles.specs.Laws.{NamesFor, TypesFor}
+use Rattle.cycle_laws.specs.ConstantCycles.Laws.{NamesFor, TypesFor}
 use Rattle.cycle_runs.specs.StepCycles.Steps.{StandsAtEnds, UsesAtEnds}
 use Rattle.cycle_runs.proofs.StepCycles.CallsKept.{step-led}
 use Rattle.cycle_laws.specs.PutCalls.{mark_there}

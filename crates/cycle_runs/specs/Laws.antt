@@ -13,7 +13,7 @@ use Rattle.run_rules.specs.Steps.{At}
 use Rattle.run_rules.specs.Cycles.{is_recursive}
 use Rattle.run_rules.specs.Run.{Standing, Logged, Next, Run}
 use Rattle.run_rules.specs.Inlining.{ModuleReads, standing_as_read}
-use Rattle.constant_cycles.specs.Laws.{NamesFor, TypesFor}
+use Rattle.cycle_laws.specs.ConstantCycles.Laws.{NamesFor, TypesFor}
 use Rattle.cycle_runs.specs.StepCycles.Steps.{StandsAtEnds, UsesAtEnds}
 use Rattle.cycle_runs.specs.ImportCycles.ImportSteps.{packages_added}
 use Rattle.cycle_runs.specs.OrderCycles.NewNames.{NamesByPath}

@@ -18,12 +18,12 @@ ghost use Rattle.operand_modes.specs.Operands.{GivesOperand};
 ghost use Rattle.checker_tables.specs.Ready.{Keeps};
 ghost use Rattle.operand_answers.specs.Known.{Stands};
 ghost use Rattle.operand_answers.specs.Lists.{GivesAll};
-ghost use Rattle.access_steps.specs.Bounds.{GivesBound};
+ghost use Rattle.operand_answers.specs.AccessSteps.Bounds.{GivesBound};
 ghost use Rattle.composite_steps.specs.Elements.{GivesElement, GivesElements};
 ghost use Rattle.expr_walk.specs.Walked.{AreAllWalked, AreWalkedElems, IsWalked, IsWalkedKey, IsWalkedOption, IsWalkedValue};
-ghost use Rattle.walk_arms.specs.Answers.{GivesExpr};
+ghost use Rattle.expr_walk.specs.WalkArms.Answers.{GivesExpr};
 
-use access_steps::{bound, index, slice};
+use crate::walk_arms::package_before;
 use call_steps::call;
 use checker_tables::{Tables, meant};
 use composite_steps::{
@@ -34,15 +34,13 @@ use const_eval::Kind;
 use go_tree::{Elem, ElemList, Expr, ExprList, NameAt, TypeExpr, Value as ElemValue};
 use literal_rules::Element;
 use name_steps::{literal, named, qualified, type_operand};
-use operand_answers::{Located, OperandList};
+use operand_answers::{Located, OperandList, binary, bound, index, slice, star, unary};
 use operand_modes::Operand;
 use operand_rules::{Refusal, Value};
-use operator_steps::{binary, star, unary};
 use selector_steps::selector;
 use std::alloc::Global;
 use type_table::TypeId;
 use typed_names::{Blocks, Scope};
-use walk_arms::package_before;
 
 /// What an expression is, and where it stands: the operand that it is by its parts, or that it isn't
 /// typed. The tables only grow.

@@ -3,5 +3,7 @@
 #![tactic(auto)]
 
 mod exprs;
+mod walk_arms;
 
 pub use exprs::{all_exprs, expr};
+pub use walk_arms::package_before;

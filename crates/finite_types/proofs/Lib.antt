@@ -1,2 +1,3 @@
 pub mod FlagLaws
 pub mod NamesEnd
+pub mod RefusedTypes

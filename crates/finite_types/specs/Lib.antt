@@ -1,2 +1,3 @@
 pub mod Finite
 pub mod Flags
+pub mod RefusedTypes

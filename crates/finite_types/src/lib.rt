@@ -5,6 +5,8 @@
 mod flags;
 mod grown;
 mod order;
+mod refused_types;
 
 pub use flags::{finite_types, is_finite};
 pub use grown::{extend_finite, first_finite};
+pub use refused_types::{TypeTests, is_good_type, refuse_types};

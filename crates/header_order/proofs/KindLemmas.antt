@@ -18,7 +18,7 @@ use Rattle.func_headers.specs.Functions.{is_function, is_refused_function, numbe
 use Rattle.func_headers.proofs.SameTypeLaws.{header_types, resolved_same}
 use Rattle.func_headers.proofs.StayLaws.{types_stay}
 use Rattle.method_types.specs.Methods.{refused_methods}
-use Rattle.headers_stay.proofs.Stay.{headers_are_final}
+use Rattle.value_rounds.proofs.HeadersStay.Stay.{headers_are_final}
 use Rattle.header_order.specs.Kinds.{is_refused_value, is_value, mark_all, wrongs}
 use Rattle.header_order.specs.Laws.{MarksAreWrongs}
 use Rattle.header_order.proofs.MarkLemmas.{either, either_length, length_false, length_map, mark_numbers, numbers_of}

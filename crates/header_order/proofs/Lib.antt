@@ -4,3 +4,6 @@ pub mod KindLemmas
 pub mod FileLemmas
 pub mod ModuleLemmas
 pub mod CodeLemmas
+pub mod FirstRefusals
+pub mod RefusedImports
+pub mod FirstImports

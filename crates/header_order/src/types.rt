@@ -11,14 +11,14 @@ ghost use Rattle.type_exprs.specs.Grown.{TypesGrown};
 ghost use Rattle.declared_types.specs.Steps.{KnowsPlaces};
 ghost use Rattle.defined_types.specs.DeclaredTypes.{declared_of};
 ghost use Rattle.package_blocks.specs.Headers.{AreHeaders, listed_of};
-ghost use Rattle.refused_types.specs.Refusals.{AreTested, TypesAreKnown};
+ghost use Rattle.finite_types.specs.RefusedTypes.Refusals.{AreTested, TypesAreKnown};
 ghost use Rattle.refused_headers.specs.First.{refuses_type};
 ghost use Rattle.func_headers.specs.Functions.{numbers_where};
 
+use finite_types::TypeTests;
 use go_tree::NoMemory;
 use package_blocks::PackageHeader;
 use refused_headers::is_refused_type;
-use refused_types::TypeTests;
 use std::alloc::Global;
 use type_relations::Env;
 use typed_names::{Blocks, Scope};

@@ -9,8 +9,8 @@ use Rattle.go_scan.proofs.Cuts.{tokens_once}
 use Rattle.import_rules.specs.declared.new_import.NewImport.{NewImport}
 use Rattle.import_rules.specs.Laid.{Laid}
 use Rattle.import_rules.specs.Settled.{settled}
-use Rattle.import_places.specs.ReadFiles.{SpellsImportsOf, ReadsImportsOf}
-use Rattle.import_places.proofs.FilesLaid.{imports_laid}
+use Rattle.import_splices.specs.ImportPlaces.ReadFiles.{SpellsImportsOf, ReadsImportsOf}
+use Rattle.import_splices.proofs.ImportPlaces.FilesLaid.{imports_laid}
 
 pub read_laid : (text : List ℕ) (tokens : List Token) (comments : List Comment) (file : File Span) → ReadsImportsOf text file → TokensOf text tokens comments → Laid text tokens file
 read_laid text tokens comments file r t =

@@ -8,7 +8,7 @@ ghost use Rattle.go_words.specs.Tokens.{TokensOf};
 ghost use Rattle.text_edits.specs.Order.{InOrder};
 ghost use Rattle.import_rules.specs.Laid.{CommentsAscend, Laid};
 ghost use Rattle.import_rules.specs.Settled.{removal, settled};
-ghost use Rattle.import_places.specs.ReadFiles.{ReadsImportsOf};
+ghost use Rattle.import_splices.specs.ImportPlaces.ReadFiles.{ReadsImportsOf};
 
 use crate::added::{adds_to_group, group_insertion, insertion_before, last_closing, push_removals};
 use crate::order::in_order;

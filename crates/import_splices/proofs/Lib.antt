@@ -20,3 +20,7 @@ pub mod Grown
 pub mod FormTails
 pub mod FormsToo
 pub mod Checks
+pub mod ImportPlaces
+pub mod SupportedWords
+pub mod TypedDots
+pub mod FormSplices

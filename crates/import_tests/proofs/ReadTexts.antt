@@ -11,9 +11,9 @@ use Rattle.import_rules.specs.declared.new_import.NewImport.{NewImport}
 use Rattle.import_rules.specs.Laid.{CommentsAscend, Laid}
 use Rattle.import_rules.specs.Settled.{settled}
 use Rattle.import_rules.proofs.SettledOrder.{settled_within}
-use Rattle.import_places.specs.ReadFiles.{SpellsImportsOf, ReadsImportsOf}
-use Rattle.import_places.proofs.FilesLaid.{imports_laid}
-use Rattle.import_places.proofs.CommentsStand.{comments_ascend}
+use Rattle.import_splices.specs.ImportPlaces.ReadFiles.{SpellsImportsOf, ReadsImportsOf}
+use Rattle.import_splices.proofs.ImportPlaces.FilesLaid.{imports_laid}
+use Rattle.import_splices.proofs.ImportPlaces.CommentsStand.{comments_ascend}
 
 module _ (text : List ℕ) (tokens : List Token) (comments : List Comment) (file : File Span) (s : IsSource text tokens comments file) where
   own_imports : SpellsImportsOf tokens file

@@ -28,7 +28,7 @@ use Rattle.operand_modes.specs.Operands.{SameOperand, operand_at}
 use Rattle.operand_laws.proofs.ContentLemmas.{alike_by}
 use Rattle.checker_tables.specs.declared.tables.Tables.{Tables}
 use Rattle.operand_answers.specs.declared.located.Located.{Located}
-use Rattle.walk_arms.specs.Answers.{GivesExpr}
+use Rattle.expr_walk.specs.WalkArms.Answers.{GivesExpr}
 use Rattle.initial_values.specs.Steps.{constant_content, constant_operand}
 
 -- ---- constants

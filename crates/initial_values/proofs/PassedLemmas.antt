@@ -24,8 +24,8 @@ use Rattle.checker_tables.specs.declared.tables.Tables.{Tables}
 use Rattle.checker_tables.specs.Ready.{Keeps}
 use Rattle.operand_answers.specs.Known.{Stands}
 use Rattle.operand_answers.proofs.KeptLemmas.{env_kept, keeps_on, keeps_self}
-use Rattle.walk_arms.proofs.ElementArms.{type_kept}
-use Rattle.walk_arms.proofs.ExprArms.{at}
+use Rattle.expr_walk.proofs.WalkArms.ElementArms.{type_kept}
+use Rattle.expr_walk.proofs.WalkArms.ExprArms.{at}
 use Rattle.initial_values.specs.Steps.{IsPassed, under_option}
 use Rattle.initial_values.proofs.BodilessLemmas.{and_assoc}
 

@@ -7,6 +7,12 @@ mod constant;
 mod initial;
 mod makers;
 mod types;
+mod value_blocks;
+mod value_entities;
+mod value_places;
 
 pub use bodiless::{all_bodiless, is_bodiless};
 pub use initial::{all_initial, is_initial};
+pub use value_blocks::{copied_blocks, set_values};
+pub use value_entities::{EntityList, ValueKind, no_constants, spec_constants, variables_at};
+pub use value_places::{value_names, value_place};

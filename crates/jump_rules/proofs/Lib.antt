@@ -1,1 +1,4 @@
 pub mod JumpLemmas
+pub mod DistinctNames
+pub mod JumpPlaces
+pub mod UsedLocals

@@ -5,7 +5,7 @@ ghost use Rattle.go_tree.specs.View.{arms_of, cases_of, held_block_option_of, st
 ghost use Rattle.go_types.specs.Answers.{distinct_by};
 ghost use Rattle.go_types.specs.Jumps as go;
 
-use distinct_names::are_distinct;
+use crate::distinct_names::are_distinct;
 use go_tree::{Arm, ArmList, Block, Case, CaseList, Name, NoMemory, Stmt, StmtList};
 use std::alloc::Global;
 

@@ -7,3 +7,4 @@ pub mod ReadyModules
 pub mod KeptMarks
 pub mod TakenNames
 pub mod SoundImports
+pub mod PutForms

@@ -8,7 +8,7 @@ use Rattle.member_uses.specs.Laws.{AllConstants}
 use Rattle.run_rules.specs.Marks.{marks_of}
 use Rattle.run_rules.specs.Texts.{FileText}
 use Rattle.run_rules.specs.Inlining.{ModuleReads, standing_as_read}
-use Rattle.unspread_forms.specs.UnspreadForms.{UnspreadPackages}
+use Rattle.written_literal.specs.UnspreadForms.UnspreadForms.{UnspreadPackages}
 use Rattle.marked_runs.specs.NamedMarks.Laws.{ReadMarksAreNamed}
 use Rattle.marked_runs.specs.ReadyModules.Laws.{ReadModulesAreReady}
 use Rattle.marked_runs.proofs.ReadyModules.Typed.{typed_as_read}

@@ -19,7 +19,7 @@ use Rattle.run_rules.specs.Inlining.{ModuleReads, standing_as_read}
 use Rattle.order_runs.specs.RunSteps.RunPackages.{packages_of}
 use Rattle.marked_runs.specs.NamedMarks.Named.{AllNamed}
 use Rattle.marked_runs.specs.TakenNames.Laws.{KeptByRun}
-use Rattle.unspread_forms.specs.UnspreadForms.{UnspreadPackages}
+use Rattle.written_literal.specs.UnspreadForms.UnspreadForms.{UnspreadPackages}
 use Rattle.marked_runs.specs.Marked.{AllOverNames}
 
 -- Where each mark is that of a constant, no marked function lies on a cycle.

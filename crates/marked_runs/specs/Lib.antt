@@ -6,3 +6,4 @@ pub mod ReadyModules
 pub mod KeptMarks
 pub mod TakenNames
 pub mod SoundImports
+pub mod PutForms

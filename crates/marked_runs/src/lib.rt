@@ -5,6 +5,7 @@
 mod kept_marks;
 mod laws;
 mod named_marks;
+mod put_forms;
 mod ready_modules;
 mod settled_constants;
 mod sound_imports;
@@ -13,6 +14,7 @@ mod taken_names;
 pub use kept_marks::marks_stay_named;
 pub use laws::runs_over_marks_keep;
 pub use named_marks::{read_marks_are_named, uses_are_marked};
+pub use put_forms::{constants_come_next, forms_of_constants_are_put, values_are_names};
 pub use ready_modules::read_modules_are_ready;
 pub use settled_constants::{constants_keep_cycles, constants_settle, programs_are_ready};
 pub use sound_imports::added_imports_may_be_declared;

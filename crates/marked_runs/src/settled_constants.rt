@@ -4,7 +4,7 @@ ghost use Rattle.marked_runs.specs.SettledConstants.Laws.{ConstantRunsKeepCycles
 ghost use Rattle.marked_runs.specs.SettledConstants.Laws.{ConstantUsesAreSpelled, ConstantsAddLed, ConstantsKeepCycles, ConstantsSettle};
 ghost use Rattle.marked_runs.specs.SettledConstants.Laws.{FilesOfUsesAreUndotted, LinkedPackagesAreWritable, StepsStayReady, UsesAreScoped};
 
-use scoped_parts::well_typed_files_are_scoped;
+use typed_parts::well_typed_files_are_scoped;
 
 /// In a well-typed program whose files read from their texts the declaration around each use is scoped as put_names asks
 /// it; where no call hands on a slice for its last arguments, the file of each use is undotted; and linked packages that

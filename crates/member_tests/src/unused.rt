@@ -4,9 +4,9 @@ use crate::files::{Tabled, name_of, read_tabled};
 use constant_forms::{ConstantForm, NamedPackage};
 use go_tree::{Expr, Span};
 use possible_uses::PartRef;
+use repeated_parts::{file_parts, unused_imports};
 use std::alloc::Global;
 use std::test::Fail;
-use unused_imports::{file_parts, unused_imports};
 
 fn first_use<'a>(parts: &[PartRef<'a>]) -> Option<&'a Expr> {
     for part in parts {

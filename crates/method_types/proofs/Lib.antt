@@ -1,2 +1,4 @@
 pub mod TypeSteps
 pub mod RefusedLaws
+pub mod MethodNames
+pub mod MethodSets

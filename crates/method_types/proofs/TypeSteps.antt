@@ -36,11 +36,11 @@ use Rattle.package_blocks.proofs.HeaderLemmas.{append_none}
 use Rattle.func_headers.proofs.SameTypeLaws.{func_same, place_types}
 use Rattle.method_headers.specs.Methods.{GivesReceiver, method_type_at}
 use Rattle.method_headers.proofs.MethodParts.{methods_by_parts, on_type}
-use Rattle.method_names.specs.declared.headers.MethodAt.{MethodAt}
-use Rattle.method_names.specs.Attached as names
-use Rattle.method_names.specs.Attached.{AreAttached, attached}
-use Rattle.method_names.specs.Known.{method_in}
-use Rattle.method_names.proofs.AttachLemmas.{header_at, headers_end, named_on, on_by_method}
+use Rattle.method_types.specs.declared.method_names.headers.MethodAt.{MethodAt}
+use Rattle.method_types.specs.MethodNames.Attached as names
+use Rattle.method_types.specs.MethodNames.Attached.{AreAttached, attached}
+use Rattle.method_types.specs.MethodNames.Known.{method_in}
+use Rattle.method_types.proofs.MethodNames.AttachLemmas.{header_at, headers_end, named_on, on_by_method}
 use Rattle.method_types.specs.Methods as declared
 use Rattle.method_types.specs.Methods.{AreDeclared, AreTypedMethods, IsTypedMethod, GivesMethod, IsMethod, MethodOn, declared_at, refused_methods}
 use Rattle.method_types.specs.Steps.{GivesTyped, MethodsSoFar, TypesHeader, TypesPassed, attached_at, names_after}

@@ -20,7 +20,7 @@ use Rattle.func_types.specs.Answers.{AreTypesOf, func_of}
 use Rattle.declared_types.specs.Steps.{KnowsPlaces}
 use Rattle.package_blocks.specs.declared.headers.PackageHeader.{PackageHeader}
 use Rattle.package_blocks.specs.Headers.{AreHeaders, IsHeader, listed_of}
-use Rattle.method_names.specs.Attached.{AreAttached, attached}
+use Rattle.method_types.specs.MethodNames.Attached.{AreAttached, attached}
 use Rattle.method_types.specs.Methods.{AreDeclared, AreTypedMethods, GivesMethod, declared_at, refused_methods}
 
 -- what is answered for a header

@@ -14,15 +14,15 @@ ghost use Rattle.type_exprs.specs.Grown.{TypesGrown};
 ghost use Rattle.declared_types.specs.Steps.{KnowsPlaces};
 ghost use Rattle.package_blocks.specs.Headers.{AreHeaders, header_of, listed_of};
 ghost use Rattle.method_headers.specs.Methods.{method_type_at};
-ghost use Rattle.method_names.specs.Attached.{AreAttached};
-ghost use Rattle.method_names.specs.Known.{method_in};
+ghost use Rattle.method_types.specs.MethodNames.Attached.{AreAttached};
+ghost use Rattle.method_types.specs.MethodNames.Known.{method_in};
 ghost use Rattle.method_types.specs.Methods.{AreDeclared, AreTypedMethods, IsTypedMethod, refused_methods};
 ghost use Rattle.method_types.specs.Steps.{GivesTyped, TypesHeader, attached_at};
 
+use crate::method_names::{MethodAt, method_in};
 use comparable_types::TypeFlags;
 use go_tree::NoMemory;
 use method_headers::method_type;
-use method_names::{MethodAt, method_in};
 use operand_rules::Refusal;
 use package_blocks::PackageHeader;
 use std::alloc::{AllocError, Global};

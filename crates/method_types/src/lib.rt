@@ -4,6 +4,10 @@
 
 mod headers;
 mod laws;
+mod method_names;
+mod method_sets;
 
 pub use headers::{MethodTypes, method_types};
 pub use laws::refused_by_types;
+pub use method_names::{MethodAt, attached_types, method_in};
+pub use method_sets::declare_methods;

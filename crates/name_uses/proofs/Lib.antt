@@ -1,3 +1,4 @@
 pub mod LocalLemmas
 pub mod StateLemmas
 pub mod StateSteps
+pub mod HeaderUses

@@ -9,8 +9,8 @@ use Rattle.type_relations.specs.Environment.{Environment}
 use Rattle.type_table.specs.declared.nodes.TypeId.{TypeId}
 use Rattle.defined_types.specs.declared.declared.DeclaredType.{DeclaredType}
 use Rattle.defined_types.specs.DeclaredTypes.{AreDeclared, IsDeclared}
-use Rattle.underlying_types.specs.Chains.{declared_as, next_or, under_number}
-use Rattle.underlying_types.proofs.ChainLaws.{ended_chains}
+use Rattle.value_rounds.specs.UnderlyingTypes.Chains.{declared_as, next_or, under_number}
+use Rattle.value_rounds.proofs.UnderlyingTypes.ChainLaws.{ended_chains}
 use Rattle.named_types.specs.Defining.{next_number}
 use Rattle.named_types.specs.Steps.{after_steps, number_at}
 

@@ -15,8 +15,8 @@ use Rattle.type_table.proofs.TypesAtLaws.{get_within, type_at_row}
 use Rattle.type_relations.specs.Environment.{Environment, MethodRow, defined_at, defined_types, env_type, has_methods, home_of, is_named_type, method_at, methods_in, name_of, with_definition}
 use Rattle.defined_types.specs.declared.declared.DeclaredType.{DeclaredType}
 use Rattle.defined_types.specs.DeclaredTypes.{AreDeclared, IsDeclared, declared_of, home_in, name_in}
-use Rattle.underlying_types.specs.Chains.{under_number}
-use Rattle.underlying_types.proofs.ChainLaws.{under_by_number}
+use Rattle.value_rounds.specs.UnderlyingTypes.Chains.{under_number}
+use Rattle.value_rounds.proofs.UnderlyingTypes.ChainLaws.{under_by_number}
 use Rattle.named_types.specs.Defining.{TypesDefined, all_defined, defined_among}
 use Rattle.named_types.specs.Steps.{number_at}
 use Rattle.named_types.proofs.ChainSteps as chain

@@ -5,7 +5,7 @@ use Rattle.go_types.specs.TypeDeclarations.{underlying}
 use Rattle.type_relations.specs.Environment.{Environment, defined_types}
 use Rattle.defined_types.specs.declared.declared.DeclaredType.{DeclaredType}
 use Rattle.defined_types.specs.DeclaredTypes.{declared_of}
-use Rattle.underlying_types.specs.Chains.{declared_as, next_or}
+use Rattle.value_rounds.specs.UnderlyingTypes.Chains.{declared_as, next_or}
 
 -- the type that a type is declared as, or itself where it isn't declared
 abbrev pub next_number : List DeclaredType → ℕ → ℕ

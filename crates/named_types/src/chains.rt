@@ -2,7 +2,7 @@
 
 ghost use Rattle.std.specs.Prelude.{◌≡◌, ℕ, length, IfOk};
 ghost use Rattle.defined_types.specs.DeclaredTypes.{AreDeclared};
-ghost use Rattle.underlying_types.specs.Chains.{under_number};
+ghost use Rattle.value_rounds.specs.UnderlyingTypes.Chains.{under_number};
 ghost use Rattle.named_types.specs.Steps.{number_at};
 ghost use Rattle.named_types.specs.Defining.{next_number};
 

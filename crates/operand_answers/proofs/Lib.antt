@@ -2,3 +2,5 @@ pub mod KeptLemmas
 pub mod AnswerLemmas
 pub mod StoredLemmas
 pub mod AddedLemmas
+pub mod OperatorSteps
+pub mod AccessSteps

@@ -1,3 +1,5 @@
 pub mod Located
 pub mod Lists
 pub mod Known
+pub mod OperatorSteps
+pub mod AccessSteps

@@ -2,10 +2,14 @@
 //! are added to the tables (Go specification, Expressions; Address operators).
 #![tactic(auto)]
 
+mod access_steps;
 mod interned;
 mod lists;
 mod located;
+mod operator_steps;
 
+pub use access_steps::{bound, index, slice};
 pub use interned::added;
 pub use lists::OperandList;
 pub use located::{Located, elsewhere};
+pub use operator_steps::{binary, star, unary};

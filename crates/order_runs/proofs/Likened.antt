@@ -17,9 +17,9 @@ use Rattle.typed_in_place.proofs.ImportRule.{well_typed_apart}
 use Rattle.go_kernel.specs.Kernel.{same_text}
 use Rattle.go_translation.specs.Packages.{Package, sources, codes_of, program_of, initial_of, has_path, has_number, are_distinct, are_linked, are_well_typed}
 use Rattle.constant_steps.specs.StepLaws.PartsTyped.{HeaderTyped}
-use Rattle.same_worlds.specs.SameWorlds.{SameWorld}
-use Rattle.same_worlds.proofs.HeadersMoved.{HeadersMoved, nothing_moved, after_first, places_changed, moved_again}
-use Rattle.same_worlds.proofs.OrdersSame.{collected-same}
+use Rattle.typed_in_place.specs.SameWorlds.SameWorlds.{SameWorld}
+use Rattle.typed_in_place.proofs.SameWorlds.HeadersMoved.{HeadersMoved, nothing_moved, after_first, places_changed, moved_again}
+use Rattle.typed_in_place.proofs.SameWorlds.OrdersSame.{collected-same}
 use Rattle.cycle_runs.proofs.OrderCycles.Orders.{worlds-then, equal-worlds}
 use Rattle.order_runs.specs.SameCodes.Orders.{PackagesReordered, no_packages, same_first, swapped, one_after_another}
 use Rattle.order_runs.proofs.SameCodes.OrdersTyped as orders

@@ -1,2 +1,4 @@
 pub mod Made
 pub mod Settled
+pub mod FileSteps
+pub mod SearchedPrograms

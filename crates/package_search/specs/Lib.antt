@@ -1,2 +1,4 @@
 pub mod Looks
 pub mod Search
+pub mod FileSteps
+pub mod SearchedPrograms

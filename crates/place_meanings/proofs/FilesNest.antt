@@ -8,8 +8,8 @@ use Rattle.go_read.specs.SpellsSpans.{span_to}
 use Rattle.go_read.specs.SpellsFiles.{SpellsTypeSpec, SpellsTypeSpecs, SpellsReceiver, SpellsTop, type_spec_rule, alias_spec_rule, no_type_specs_rule, last_type_spec_rule, more_type_specs_rule, receiver_rule, pointer_receiver_rule, named_receiver_rule, named_pointer_receiver_rule, top_const_rule, top_var_rule, top_type_rule, top_type_group_rule, top_func_rule, top_method_rule, SpellsTops, SpellsFront, no_tops_rule, more_tops_rule, front_rule}
 use Rattle.splice_laws.proofs.Grafts.{Within, here, drop}
 use Rattle.splice_laws.proofs.Pasts.{imports_past}
-use Rattle.import_places.proofs.TokensStand.{tokens_stand}
-use Rattle.import_places.proofs.ImportsStand.{all_lie}
+use Rattle.import_splices.proofs.ImportPlaces.TokensStand.{tokens_stand}
+use Rattle.import_splices.proofs.ImportPlaces.ImportsStand.{all_lie}
 use Rattle.run_rules.specs.Texts.{FileText}
 use Rattle.run_rules.specs.Inlining.{ReadsAs}
 use Rattle.run_laws.proofs.NodeSpans.{AllType, AllTypeSpecs}

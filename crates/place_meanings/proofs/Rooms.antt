@@ -6,7 +6,7 @@ use Rattle.go_words.specs.Terminals.{Terminal, lex, semicolon}
 use Rattle.go_read.specs.SpellsTypes.{Lexemes}
 use Rattle.go_read.specs.SpellsSpans.{span_to}
 use Rattle.splice_laws.proofs.Grafts.{Within, here, later, both_within}
-use Rattle.import_places.proofs.ImportsStand.{IsWord, Lie, end_before, end_is}
+use Rattle.import_splices.proofs.ImportPlaces.ImportsStand.{IsWord, Lie, end_before, end_is}
 use Rattle.place_meanings.proofs.Nested.{Lies}
 
 -- the tokens stand in their order from a byte on; none but an inserted semicolon is empty

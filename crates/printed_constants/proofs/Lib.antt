@@ -2,3 +2,8 @@ pub mod Parts
 pub mod Plain
 pub mod Respan
 pub mod Steps
+pub mod PrintedUses
+pub mod StandingForms
+pub mod FormNames
+pub mod DeclaredMembers
+pub mod CountedNames

@@ -17,7 +17,7 @@ use Rattle.run_rules.specs.Inlining.{standing_as_read}
 use Rattle.run_rules.specs.Sites.{MarkRef, Where}
 use Rattle.run_rules.specs.Steps.{At}
 use Rattle.run_rules.specs.Texts.{FileText}
-use Rattle.unspread_forms.specs.UnspreadForms.{UnspreadPackages}
+use Rattle.written_literal.specs.UnspreadForms.UnspreadForms.{UnspreadPackages}
 use Rattle.printed_constants.specs.Printed.{IsFlat, IsPrinted, ArePrinted}
 
 -- The parts of such a declaration are scoped, in whatever file.

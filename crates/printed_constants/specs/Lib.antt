@@ -1,2 +1,7 @@
 pub mod Printed
 pub mod Laws
+pub mod PrintedUses
+pub mod StandingForms
+pub mod FormNames
+pub mod DeclaredMembers
+pub mod CountedNames

@@ -2,6 +2,16 @@
 //! (Go specification, Constant declarations; Function declarations; Expression statements).
 #![tactic(auto)]
 
+mod counted_names;
+mod declared_members;
+mod form_names;
 mod laws;
+mod printed_uses;
+mod standing_forms;
 
+pub use counted_names::printed_files_have_few_names;
+pub use declared_members::constants_name_members;
+pub use form_names::forms_name_no_blank;
 pub use laws::{printed_packages_are_plain, printed_parts_are_simple, steps_stay_printed};
+pub use printed_uses::{printed_steps_are_over, printed_uses_are_expressions, printed_uses_stand};
+pub use standing_forms::{first_uses_are_typed, first_uses_have_next, forms_name_no_import};

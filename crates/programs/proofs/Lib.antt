@@ -1,1 +1,5 @@
 pub mod UserLaws
+pub mod PartOrigins
+pub mod TextsOfPackages
+pub mod OriginsOfUses
+pub mod FileValues

@@ -10,10 +10,10 @@ use Rattle.run_rules.specs.Respanned.{file_with}
 use Rattle.run_rules.specs.Steps.{At}
 use Rattle.run_rules.specs.Run.{Standing, here_of}
 use Rattle.run_rules.specs.Inlining.{ReadsAs}
-use Rattle.part_origins.specs.declared.origins.Origins.{Origins}
-use Rattle.part_origins.specs.declared.origins.PackageOrigins.{PackageOrigins}
-use Rattle.part_origins.specs.Laws.{decls_origins}
-use Rattle.part_origins.specs.Views.{origins_of}
+use Rattle.programs.specs.declared.part_origins.origins.Origins.{Origins}
+use Rattle.programs.specs.declared.part_origins.origins.PackageOrigins.{PackageOrigins}
+use Rattle.programs.specs.PartOrigins.Laws.{decls_origins}
+use Rattle.programs.specs.PartOrigins.Views.{origins_of}
 use Rattle.programs.specs.declared.state.PackageFiles.{PackageFiles}
 
 -- a text with its tokens and comments

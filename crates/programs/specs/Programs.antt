@@ -19,7 +19,7 @@ use Rattle.module_marks.specs.Tables.{IsTableOf}
 use Rattle.mark_values.specs.Values.{decl_values}
 use Rattle.mark_values.specs.Tables as values
 use Rattle.mark_values.specs.Tables.{key_of, values_at}
-use Rattle.part_origins.specs.declared.origins.PackageOrigins.{PackageOrigins}
+use Rattle.programs.specs.declared.part_origins.origins.PackageOrigins.{PackageOrigins}
 use Rattle.programs.specs.declared.state.PackageFiles.{PackageFiles}
 use Rattle.programs.specs.declared.state.Program.{Program}
 use Rattle.programs.specs.Kept.{IsKeptFile, AreKeptOrigins, AreCounted}

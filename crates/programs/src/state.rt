@@ -1,12 +1,12 @@
 //! A program, and what is kept of the files of its packages.
 
+use crate::part_origins::PackageOrigins;
 use crate::users::Users;
 use file_names::Places;
 use go_scan::Tokens;
 use go_tree::Text;
 use mark_values::ConstantValues;
 use module_marks::{BadMarkAt, MarkTable};
-use part_origins::PackageOrigins;
 use pkg_graph::Package;
 
 /// What is kept of the files of a package, by their numbers: their texts, with tokens and comments, and of which it

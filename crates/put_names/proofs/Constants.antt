@@ -18,8 +18,8 @@ use Rattle.run_rules.specs.Sites.{MarkRef, Where, Inlinable, a_constant, an_alia
 use Rattle.run_rules.specs.Steps.{At, same_here, Found}
 use Rattle.run_rules.specs.Surroundings.{other, Place, inner_slot, in_slot}
 use Rattle.run_laws.specs.Reading.{FileReads, ProgramReads}
-use Rattle.form_splices.specs.Laws.{MakesForm}
-use Rattle.form_splices.proofs.FormsFound.{step-makes-form}
+use Rattle.import_splices.specs.FormSplices.Laws.{MakesForm}
+use Rattle.import_splices.proofs.FormSplices.FormsFound.{step-makes-form}
 use Rattle.put_nodes.specs.SpelledNames.{AreNames}
 use Rattle.put_names.specs.WrittenNames.NamedPackages.{AreOfPackages}
 use Rattle.put_nodes.specs.Swapped.{FormedDecl}

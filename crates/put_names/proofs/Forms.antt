@@ -18,7 +18,7 @@ use Rattle.run_rules.specs.Sites.{MarkRef, Where, Inlinable, Site, part_span, ma
 use Rattle.run_rules.specs.Steps.{At, same_here, Found}
 use Rattle.run_rules.specs.Surroundings.{Place}
 use Rattle.run_laws.specs.Reading.{FileAt}
-use Rattle.form_splices.specs.Laws.{MakesForm}
+use Rattle.import_splices.specs.FormSplices.Laws.{MakesForm}
 use Rattle.put_names.specs.WrittenNames.NamedPackages.{AreOfPackages}
 use Rattle.put_names.proofs.Unnamed.{none_unnamed, none_unnamed_two}
 use Rattle.put_nodes.specs.SpelledNames.{IsNameExpr, a_name_alone, a_qualified_name, AreNames}

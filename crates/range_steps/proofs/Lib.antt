@@ -1,3 +1,4 @@
 pub mod RangeLemmas
 pub mod VariableLemmas
 pub mod StoreLemmas
+pub mod CaseSteps

@@ -15,8 +15,8 @@ use Rattle.operand_rules.specs.declared.values.ValueType.TheVariants as variant
 use Rattle.operand_rules.specs.Values.{IsType}
 use Rattle.operator_rules.specs.BasicTypes.{IsBasic}
 use Rattle.operand_modes.specs.Operands.{SameOperand}
-use Rattle.right_sides.specs.Values.{SameValue}
-use Rattle.right_sides.proofs.AlikeValues.{settled_alike}
+use Rattle.control_steps.specs.RightSides.Values.{SameValue}
+use Rattle.control_steps.proofs.RightSides.AlikeValues.{settled_alike}
 use Rattle.range_steps.specs.Ranges.{collection_types}
 
 -- `int` is a type of values of the table

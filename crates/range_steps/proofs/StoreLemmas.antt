@@ -18,8 +18,8 @@ use Rattle.operand_rules.specs.declared.values.Refusal.TheVariants.{NotTyped}
 use Rattle.operand_modes.specs.Operands.{operand_at}
 use Rattle.operand_answers.specs.declared.located.Located.{Located}
 use Rattle.operand_answers.specs.Located.{GivesAt}
-use Rattle.right_sides.specs.Values.{SameValue}
-use Rattle.right_sides.proofs.AlikeValues.{fits_alike}
+use Rattle.control_steps.specs.RightSides.Values.{SameValue}
+use Rattle.control_steps.proofs.RightSides.AlikeValues.{fits_alike}
 use Rattle.assignment_steps.specs.declared.targets.Target as code
 use Rattle.assignment_steps.specs.declared.targets.Target.TheVariants.{Blank, Store}
 use Rattle.assignment_steps.specs.Targets.{GivesTargets, targets_of}

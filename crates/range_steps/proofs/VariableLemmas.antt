@@ -22,8 +22,8 @@ use Rattle.typed_names.specs.declared.entities.Entity.TheVariants.{Variable}
 use Rattle.operand_modes.specs.Operands.{SameOperand, operand_at}
 use Rattle.operand_answers.specs.declared.located.Located.{Located}
 use Rattle.operand_answers.specs.Located.{GivesAt}
-use Rattle.declaration_steps.specs.Entities.{GivesBinds, binds_at}
-use Rattle.spec_steps.specs.Specs.{GivesVariables}
+use Rattle.control_steps.specs.DeclarationSteps.Entities.{GivesBinds, binds_at}
+use Rattle.assignment_steps.specs.SpecSteps.Specs.{GivesVariables}
 use Rattle.range_steps.specs.declared.types.RangeTypes.{RangeTypes}
 use Rattle.range_steps.specs.Ranges.{HasRangeTypes, listed, second_of, some_named}
 use Rattle.range_steps.proofs.RangeLemmas.{range_alike}

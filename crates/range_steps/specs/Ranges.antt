@@ -10,7 +10,7 @@ use Rattle.type_table.specs.declared.nodes.TypeId.{TypeId}
 use Rattle.type_relations.specs.Environment.{Environment, env_type}
 use Rattle.operand_rules.specs.declared.values.ValueType.TheVariants.{Typed}
 use Rattle.operand_rules.specs.Values.{IsType}
-use Rattle.builtin_steps.specs.Arguments.{the_only}
+use Rattle.composite_steps.specs.BuiltinSteps.Arguments.{the_only}
 use Rattle.assignment_steps.specs.declared.targets.Target.{Target}
 use Rattle.assignment_steps.specs.declared.targets.Target.TheVariants.{Blank, Store}
 use Rattle.range_steps.specs.declared.types.RangeTypes.{RangeTypes}

@@ -13,7 +13,7 @@ ghost use Rattle.type_relations.specs.Environment.{defined_types, env_type};
 ghost use Rattle.operand_rules.specs.declared.values.ValueType.TheVariants.{Typed};
 ghost use Rattle.operand_rules.specs.Values.{IsType, IsValue, typed_of};
 ghost use Rattle.operand_modes.specs.Operands.{IsOperand, operand_at};
-ghost use Rattle.builtin_steps.specs.Arguments.{the_only};
+ghost use Rattle.composite_steps.specs.BuiltinSteps.Arguments.{the_only};
 ghost use Rattle.checker_tables.specs.Ready.{AreReady};
 ghost use Rattle.operand_answers.specs.Located.{GivesAt, IsThereIfOk};
 ghost use Rattle.assignment_steps.specs.Targets.{AreTargets, AreTargetsIfOk, GivesTargets, IsTarget};
@@ -79,7 +79,7 @@ fn stores_turn(tables: &Tables, targets: &[Target], types: RangeTypes) -> bool
 }
 
 /// The only target of a list.
-#[tactic(auto, using(builtin_steps::proofs::ArgumentLemmas::one_item, builtin_steps::proofs::ArgumentLemmas::not_one))]
+#[tactic(auto, using(composite_steps::proofs::BuiltinSteps::ArgumentLemmas::one_item, composite_steps::proofs::BuiltinSteps::ArgumentLemmas::not_one))]
 fn only_target(targets: &[Target]) -> Option<Target>
     ensures { result ≡ the_only targets.now }
 {

@@ -3,9 +3,11 @@
 #![tactic(auto)]
 
 mod assigned;
+mod case_steps;
 mod types;
 mod variables;
 
 pub use assigned::{assigns, ranges_over};
+pub use case_steps::{CasesSeen, case_values};
 pub use types::{RangeTypes, range_types};
 pub use variables::range_variables;

@@ -34,8 +34,8 @@ use Rattle.defined_types.proofs.TypeSteps.{are_same}
 use Rattle.package_blocks.specs.declared.headers.HeaderKind.TheVariants as kind
 use Rattle.package_blocks.specs.declared.headers.PackageHeader.{PackageHeader}
 use Rattle.package_blocks.specs.Headers.{AreHeaders, no_headers, a_header, IsHeader, header_of, listed_of}
-use Rattle.refused_types.specs.Refusals.{TypesAreKnown, is_good_at}
-use Rattle.refused_types.proofs.GoodKept.{good_keeps}
+use Rattle.finite_types.specs.RefusedTypes.Refusals.{TypesAreKnown, is_good_at}
+use Rattle.finite_types.proofs.RefusedTypes.GoodKept.{good_keeps}
 use Rattle.refused_headers.specs.First.{HeadersPassed, first_from, first_place, refuses_type, spec_refused}
 
 -- ---- one header

@@ -18,7 +18,7 @@ use Rattle.defined_types.specs.declared.declared.DeclaredType.{DeclaredType}
 use Rattle.defined_types.specs.DeclaredTypes.{declared_of}
 use Rattle.package_blocks.specs.declared.headers.PackageHeader.{PackageHeader}
 use Rattle.package_blocks.specs.Headers.{AreHeaders, listed_of}
-use Rattle.refused_types.specs.Refusals.{is_good_at}
+use Rattle.finite_types.specs.RefusedTypes.Refusals.{is_good_at}
 
 -- the header of a type that declares nothing
 abbrev pub refuses_type : DeclaredTypes → World → Headed Span → Bool

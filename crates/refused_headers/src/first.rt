@@ -13,12 +13,12 @@ ghost use Rattle.type_exprs.specs.Grown.{TypesGrown};
 ghost use Rattle.declared_types.specs.Steps.{KnowsPlaces};
 ghost use Rattle.defined_types.specs.DeclaredTypes.{declared_of};
 ghost use Rattle.package_blocks.specs.Headers.{AreHeaders, IsHeader, listed_of};
-ghost use Rattle.refused_types.specs.Refusals.{AreTested, TypesAreKnown};
+ghost use Rattle.finite_types.specs.RefusedTypes.Refusals.{AreTested, TypesAreKnown};
 ghost use Rattle.refused_headers.specs.First.{first_place, refuses_type, spec_refused};
 
+use finite_types::{TypeTests, is_good_type};
 use go_tree::{NoMemory, TypeSpec};
 use package_blocks::{HeaderKind, PackageHeader};
-use refused_types::{TypeTests, is_good_type};
 use std::alloc::Global;
 use type_relations::Env;
 use typed_names::{Blocks, Scope};

@@ -1,2 +1,4 @@
 pub mod Walked
 pub mod Members
+pub mod UsesRepeated
+pub mod ImportsUnused

@@ -1,3 +1,5 @@
 pub mod Flags
 pub mod Along
 pub mod Laws
+pub mod UsesRepeated
+pub mod ImportsUnused

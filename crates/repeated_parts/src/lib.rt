@@ -4,9 +4,13 @@
 mod decls;
 mod exprs;
 mod groups;
+mod imports_unused;
 mod laws;
 mod stmts;
 mod types;
+mod uses_repeated;
 
 pub use decls::repeated_parts;
+pub use imports_unused::{file_parts, unused_imports};
 pub use laws::flags_are_those_of_places;
+pub use uses_repeated::{FlaggedUse, repeated_uses, repeated_uses_are_sites};

@@ -1,3 +1,4 @@
 pub mod Sorted
 pub mod Tables
 pub mod Told
+pub mod ReportFiles

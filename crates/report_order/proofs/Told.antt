@@ -10,10 +10,10 @@ use Rattle.run_rules.specs.Texts.{FileText}
 use Rattle.report_lines.specs.declared.lines.ReportItem.{ReportItem}
 use Rattle.report_lines.specs.Lines.{lines_of}
 use Rattle.report_lines.specs.Laws.{item_of}
-use Rattle.report_files.specs.Files.{ComesFirst, PathsAscend, IsPathIn, EachEntry, entries_in, lines_by_file}
-use Rattle.report_files.specs.Laws.{all_entries}
-use Rattle.report_files.proofs.Arranged.{each_arranged, in_file, is_itself, others_too}
-use Rattle.report_files.proofs.Lines.{report_by_file}
+use Rattle.report_order.specs.ReportFiles.Files.{ComesFirst, PathsAscend, IsPathIn, EachEntry, entries_in, lines_by_file}
+use Rattle.report_order.specs.ReportFiles.Laws.{all_entries}
+use Rattle.report_order.proofs.ReportFiles.Arranged.{each_arranged, in_file, is_itself, others_too}
+use Rattle.report_order.proofs.ReportFiles.Lines.{report_by_file}
 use Rattle.report_order.specs.declared.rows.ReportRow.{ReportRow}
 use Rattle.report_order.specs.declared.text.ReportSource.{ReportSource}
 use Rattle.report_order.specs.Order.{put_item, in_order}

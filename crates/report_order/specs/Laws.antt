@@ -6,8 +6,8 @@ use Rattle.run_rules.specs.Report.{Entry, file_of, report_of}
 use Rattle.run_rules.specs.Run.{Logged, KeptUse}
 use Rattle.run_rules.specs.Texts.{FileText}
 use Rattle.report_lines.specs.Laws.{item_of}
-use Rattle.report_files.specs.Files.{PathsAscend}
-use Rattle.report_files.specs.Laws.{all_entries}
+use Rattle.report_order.specs.ReportFiles.Files.{PathsAscend}
+use Rattle.report_order.specs.ReportFiles.Laws.{all_entries}
 use Rattle.report_order.specs.declared.rows.ReportRow.{ReportRow}
 use Rattle.report_order.specs.declared.text.ReportSource.{ReportSource}
 use Rattle.report_order.specs.Rows.{items_in, report_from}

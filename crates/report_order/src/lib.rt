@@ -2,10 +2,16 @@
 #![tactic(auto)]
 
 mod laws;
+mod limit_refusals;
 mod order;
+mod report_files;
+mod report_words;
 mod rows;
 mod text;
 
 pub use laws::rows_make_the_report;
+pub use limit_refusals::limit_refusal;
+pub use report_files::{reports_are_by_file, steps_lie_in_files};
+pub use report_words::{bad_text, inlined_text, kept_text};
 pub use rows::ReportRow;
 pub use text::{ReportSource, report_text};

@@ -15,9 +15,9 @@ use Rattle.import_rules.specs.Laid.{IsStart, DeclsLie, Laid}
 use Rattle.run_rules.specs.Laws.{ImportsEndBy, LiesBehindImports}
 use Rattle.run_laws.proofs.NodeSpans.{AllDecl}
 use Rattle.run_laws.proofs.SpelledSpans.{top_all}
-use Rattle.import_places.proofs.TokensStand.{tokens_stand}
-use Rattle.import_places.proofs.ImportsStand.{IsWord, Lie, ImportsLie, last_end, all_lie, end_is, lie_lower, lie_past, ends_up, ends_within, imports_lie}
-use Rattle.import_places.proofs.FilesLaid.{imports_laid}
+use Rattle.import_splices.proofs.ImportPlaces.TokensStand.{tokens_stand}
+use Rattle.import_splices.proofs.ImportPlaces.ImportsStand.{IsWord, Lie, ImportsLie, last_end, all_lie, end_is, lie_lower, lie_past, ends_up, ends_within, imports_lie}
+use Rattle.import_splices.proofs.ImportPlaces.FilesLaid.{imports_laid}
 
 -- it holds of the parts of each declaration
 abbrev pub AllDecls : (Span → Type 0) → List (Decl Span) → Type 0

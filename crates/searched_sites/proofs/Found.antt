@@ -11,10 +11,10 @@ use Rattle.run_rules.specs.Steps.{At}
 use Rattle.run_rules.specs.Run.{Standing, KeptUse, here_of, is_commented, kept_use, kept_among}
 use Rattle.constant_forms.specs.declared.reduced.ReducedConstant.{ReducedConstant}
 use Rattle.constant_forms.specs.Uses.{IsReducedTo}
-use Rattle.marked_uses.specs.declared.uses.MarkedUse.{MarkedUse}
-use Rattle.marked_uses.specs.Uses.{PlacedMark, decls_uses}
-use Rattle.marked_uses.specs.Views.{placed_of}
-use Rattle.marked_uses.specs.Laws.{placed_site, placed_sites, EachSite, IsPlaced, MarkedUsesAreSites, UsesArePlaced}
+use Rattle.use_search.specs.declared.uses_of_marks.uses.MarkedUse.{MarkedUse}
+use Rattle.use_search.specs.UsesOfMarks.Uses.{PlacedMark, decls_uses}
+use Rattle.use_search.specs.UsesOfMarks.Views.{placed_of}
+use Rattle.use_search.specs.UsesOfMarks.Laws.{placed_site, placed_sites, EachSite, IsPlaced, MarkedUsesAreSites, UsesArePlaced}
 use Rattle.use_search.specs.declared.search.FoundForm.{FoundForm}
 use Rattle.use_search.specs.declared.search.FoundObstacle.{FoundObstacle}
 use Rattle.use_search.specs.declared.views.FileView.{FileView}

@@ -4,3 +4,12 @@ pub mod Found
 pub mod Steps
 pub mod KeptUses
 pub mod LookedFiles
+pub mod OrderedSearches
+pub mod KeptPlaces
+pub mod SettledFiles
+pub mod ToldValues
+pub mod FoundSteps
+pub mod ToldOrigins
+pub mod SwappedParts
+pub mod KeptPrograms
+pub mod PrintedSearches

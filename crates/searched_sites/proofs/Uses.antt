@@ -32,7 +32,7 @@ use Rattle.place_meanings.proofs.PlacesMean.{files_named}
 use Rattle.member_uses.specs.Laws.{is_constant, AllConstants, Knows}
 use Rattle.module_marks.specs.Views.{mark_ref_of}
 use Rattle.repeated_parts.specs.Along.{is_again}
-use Rattle.constant_cycles.proofs.OffCycles.{one_mark}
+use Rattle.cycle_laws.proofs.ConstantCycles.OffCycles.{one_mark}
 use Rattle.constant_steps.proofs.MarksFound.{StandsThere, stands_there, DeclaredThere, declared_there}
 use Rattle.constant_forms.specs.declared.uses.ConstantValue.{ConstantValue}
 use Rattle.constant_forms.specs.declared.uses.ConstantValue.TheVariants as lent
@@ -41,9 +41,9 @@ use Rattle.constant_forms.specs.Told.{needed_package, is_elsewhere, AreInPackage
 use Rattle.constant_forms.specs.Uses.{IsUse}
 use Rattle.mark_values.specs.Values.{value_of}
 use Rattle.mark_values.specs.Tables.{value_in}
-use Rattle.marked_uses.specs.declared.uses.MarkedUse.{MarkedUse}
-use Rattle.marked_uses.specs.Uses.{PlacedMark}
-use Rattle.marked_uses.specs.Laws.{IsPlaced}
+use Rattle.use_search.specs.declared.uses_of_marks.uses.MarkedUse.{MarkedUse}
+use Rattle.use_search.specs.UsesOfMarks.Uses.{PlacedMark}
+use Rattle.use_search.specs.UsesOfMarks.Laws.{IsPlaced}
 use Rattle.use_search.specs.declared.views.FileView.{FileView}
 use Rattle.use_search.specs.declared.views.ProgramView.{ProgramView}
 use Rattle.use_search.specs.Answers.{names_of, IsTold}

@@ -3,3 +3,12 @@ pub mod Searched
 pub mod Laws
 pub mod KeptUses
 pub mod LookedFiles
+pub mod OrderedSearches
+pub mod KeptPlaces
+pub mod SettledFiles
+pub mod ToldValues
+pub mod FoundSteps
+pub mod ToldOrigins
+pub mod SwappedParts
+pub mod KeptPrograms
+pub mod PrintedSearches

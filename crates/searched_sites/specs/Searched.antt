@@ -12,9 +12,9 @@ use Rattle.run_rules.specs.Steps.{At, same_here, Found}
 use Rattle.run_rules.specs.Run.{Standing, KeptUse, Kept, here_of, is_commented}
 use Rattle.constant_forms.specs.declared.reduced.ReducedConstant.TheVariants.{Becomes}
 use Rattle.constant_forms.specs.Views.{named_of, form_of, obstacle_of, reduced_of}
-use Rattle.marked_uses.specs.declared.uses.MarkedUse.{MarkedUse}
-use Rattle.marked_uses.specs.Views.{placed_of}
-use Rattle.marked_uses.specs.Laws.{placed_site}
+use Rattle.use_search.specs.declared.uses_of_marks.uses.MarkedUse.{MarkedUse}
+use Rattle.use_search.specs.UsesOfMarks.Views.{placed_of}
+use Rattle.use_search.specs.UsesOfMarks.Laws.{placed_site}
 use Rattle.use_search.specs.declared.search.FoundForm.{FoundForm}
 use Rattle.use_search.specs.declared.search.FoundObstacle.{FoundObstacle}
 

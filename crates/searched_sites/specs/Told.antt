@@ -24,7 +24,7 @@ use Rattle.mark_values.specs.declared.values.DeclaredValue.{DeclaredValue}
 use Rattle.mark_values.specs.declared.values.DeclaredValue.TheVariants.{Plain, Qualified}
 use Rattle.mark_values.specs.Values.{value_of}
 use Rattle.mark_values.specs.Tables.{value_in}
-use Rattle.marked_uses.specs.Laws.{EachSound}
+use Rattle.use_search.specs.UsesOfMarks.Laws.{EachSound}
 use Rattle.use_search.specs.declared.views.FileView.{FileView}
 use Rattle.use_search.specs.declared.views.ProgramView.{ProgramView}
 use Rattle.use_search.specs.Answers.{names_of}

@@ -1,3 +1,4 @@
 pub mod SimpleLemmas
 pub mod TargetWalks
 pub mod SeenStatements
+pub mod ConstantGroups

@@ -14,11 +14,11 @@ use Rattle.typed_names.specs.declared.scopes.Scope.{Scope}
 use Rattle.typed_names.specs.Meanings.{Names}
 use Rattle.operand_rules.specs.declared.values.Refusal.{Refusal}
 use Rattle.checker_tables.specs.declared.tables.Tables.{Tables}
-use Rattle.local_blocks.specs.Places.{IsPlace, in_block_of}
-use Rattle.local_blocks.proofs.PlaceLemmas.{places_are_environments}
-use Rattle.local_blocks.proofs.SeenNames.{all_seen, parts_seen, place_seen, places_seen}
+use Rattle.control_steps.specs.LocalBlocks.Places.{IsPlace, in_block_of}
+use Rattle.control_steps.proofs.LocalBlocks.PlaceLemmas.{places_are_environments}
+use Rattle.control_steps.proofs.LocalBlocks.SeenNames.{all_seen, parts_seen, place_seen, places_seen}
 use Rattle.control_steps.specs.Ends.{EndsAs}
-use Rattle.walk_arms.proofs.ExprArms.{at}
+use Rattle.expr_walk.proofs.WalkArms.ExprArms.{at}
 use Rattle.simple_walk.specs.Simple.{IsSimple}
 use Rattle.std.specs.Prelude.{if◌then◌else◌}
 

@@ -26,7 +26,7 @@ use Rattle.operand_answers.specs.Lists.{AreThereIfOk, GivesAll}
 use Rattle.control_steps.specs.declared.returns.Body.{Body}
 use Rattle.control_steps.specs.Ends.{EndsAs}
 use Rattle.control_steps.specs.Returns.{IsBodyOf}
-use Rattle.right_sides.specs.Values.{StandIfOk}
+use Rattle.control_steps.specs.RightSides.Values.{StandIfOk}
 
 -- ---- calls
 

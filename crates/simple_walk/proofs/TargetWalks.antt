@@ -21,8 +21,8 @@ use Rattle.assignment_steps.specs.declared.targets.Target as code
 use Rattle.assignment_steps.specs.declared.targets.Target.TheVariants.{Blank, Store}
 use Rattle.assignment_steps.specs.declared.targets.TargetList.{TargetList}
 use Rattle.assignment_steps.specs.Targets.{AreTargets, AreTargetsIfOk, GivesTarget, GivesTargets, IsTarget, target_of, targets_of}
-use Rattle.walk_arms.proofs.ExprArms.{at}
-use Rattle.walk_arms.proofs.ListArms.{append_none, given_same, map_on, read_on}
+use Rattle.expr_walk.proofs.WalkArms.ExprArms.{at}
+use Rattle.expr_walk.proofs.WalkArms.ListArms.{append_none, given_same, map_on, read_on}
 use Rattle.simple_walk.specs.Targets.{AreTargetsWalked, one_target}
 
 -- ---- one target

@@ -13,15 +13,13 @@ ghost use Rattle.control_steps.specs.Ends.{EndsAs};
 ghost use Rattle.expr_walk.specs.Walked.{AreAllWalked, IsWalked};
 
 use crate::left_sides::targets;
-use assignment_steps::assignment;
+use assignment_steps::{assignment, increment, update};
 use checker_tables::Tables;
 use expr_walk::{all_exprs, expr};
 use go_tree::{BinOp, Expr, ExprList};
-use increment_steps::increment;
 use operand_rules::Refusal;
 use std::alloc::Global;
 use typed_names::{Blocks, Scope};
-use update_steps::update;
 
 /// `++` or `--`.
 pub(crate) fn step(

@@ -4,9 +4,11 @@
 
 mod assigns;
 mod calls;
+mod constant_groups;
 mod left_sides;
 mod returns;
 mod simple;
 
+pub use constant_groups::constant_group;
 pub use left_sides::targets;
 pub use simple::simple_statement;

@@ -10,7 +10,7 @@ ghost use Rattle.checker_tables.specs.Ready.{Keeps};
 ghost use Rattle.operand_answers.specs.Known.{Stands};
 ghost use Rattle.control_steps.specs.Ends.{EndsAs};
 ghost use Rattle.control_steps.specs.Returns.{IsBodyOf};
-ghost use Rattle.local_blocks.specs.Places.{IsPlace};
+ghost use Rattle.control_steps.specs.LocalBlocks.Places.{IsPlace};
 ghost use Rattle.jump_rules.specs.Labels.{IsAround};
 ghost use Rattle.simple_walk.specs.Simple.{IsSimple};
 

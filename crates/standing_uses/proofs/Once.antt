@@ -17,8 +17,8 @@ use Rattle.run_rules.specs.Steps.{At, same_here, Found}
 use Rattle.run_rules.specs.Run.{Standing, here_of, is_commented, step_in}
 use Rattle.run_laws.specs.Reading.{FileReads, FileAt, ProgramReads}
 use Rattle.run_laws.proofs.FoundSpans.{Placed, FoundIn, found_in}
-use Rattle.form_splices.specs.Laws.{MakesForm}
-use Rattle.form_splices.proofs.FormsFound.{IsForm, first-form}
+use Rattle.import_splices.specs.FormSplices.Laws.{MakesForm}
+use Rattle.import_splices.proofs.FormSplices.FormsFound.{IsForm, first-form}
 use Rattle.constant_steps.proofs.NamesOutside.{equal_numbers}
 use Rattle.order_runs.proofs.RunSteps.SeatedUses.{Among, first, later, Seated, sites-seated}
 use Rattle.order_runs.proofs.RunSteps.TokenPlaces.{tokens-rise}
@@ -42,8 +42,8 @@ use Rattle.constant_forms.specs.declared.reduced.ConstantForm.{ConstantForm}
 use Rattle.constant_forms.specs.declared.reduced.ReducedConstant.TheVariants.{Becomes}
 use Rattle.constant_forms.specs.Views.{form_of, reduced_of}
 use Rattle.constant_forms.specs.Uses.{IsUse, IsReducedTo}
-use Rattle.unused_imports.specs.Uses.{all_parts}
-use Rattle.unused_imports.specs.Told.{IsTold}
+use Rattle.repeated_parts.specs.ImportsUnused.Uses.{all_parts}
+use Rattle.repeated_parts.specs.ImportsUnused.Told.{IsTold}
 use Rattle.standing_uses.specs.ImportUses.Steps.{StepsSwapUses}
 use Rattle.run_rules.specs.FormTrees.{Form}
 use Rattle.run_rules.specs.Reduced.{Reduced, becomes}

@@ -19,8 +19,8 @@ use Rattle.constant_forms.specs.declared.reduced.ConstantForm.{ConstantForm}
 use Rattle.constant_forms.specs.declared.reduced.ReducedConstant.TheVariants.{Becomes}
 use Rattle.constant_forms.specs.Views.{name_expr}
 use Rattle.constant_forms.specs.Uses.{IsUse, IsReducedTo}
-use Rattle.unused_imports.specs.Uses.{all_parts}
-use Rattle.unused_imports.specs.Told.{IsTold}
+use Rattle.repeated_parts.specs.ImportsUnused.Uses.{all_parts}
+use Rattle.repeated_parts.specs.ImportsUnused.Told.{IsTold}
 use Rattle.standing_uses.specs.ImportUses.Parts.{IsName, IsNoImport, StandsOnce}
 use Rattle.standing_uses.specs.ImportUses.Steps.{EachDecl, IsStanding}
 

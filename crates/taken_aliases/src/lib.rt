@@ -5,5 +5,11 @@
 #![tactic(auto)]
 
 mod laws;
+mod mixed_runs;
+mod put_texts;
+mod typed_blocks;
 
 pub use laws::{aliases_are_taken, steps_stay_ready};
+pub use mixed_runs::{aliases_settle, runs_over_names_keep};
+pub use put_texts::{aliases_become_types, types_are_put, types_are_put_by_steps};
+pub use typed_blocks::{imports_may_be_declared, members_are_not_init};

@@ -30,3 +30,4 @@ mod Instance
 mod Counterexamples
 mod LeafInstances
 mod AliasInstance
+pub mod SameWorlds

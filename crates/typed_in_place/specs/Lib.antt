@@ -12,3 +12,5 @@ pub mod ImportsMoved
 pub mod Aliases
 pub mod UsesKept
 pub mod Laws
+pub mod SameWorlds
+pub mod SpecificationExamples

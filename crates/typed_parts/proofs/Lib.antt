@@ -1,2 +1,4 @@
 pub mod Walk
 pub mod Decls
+pub mod ScopedParts
+pub mod DottedImports

@@ -1,2 +1,4 @@
 pub mod Parts
 pub mod Laws
+pub mod ScopedParts
+pub mod DottedImports

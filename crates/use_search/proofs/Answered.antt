@@ -4,7 +4,7 @@ use Rattle.std.specs.Prelude.{MatchOption}
 use Rattle.constant_forms.specs.declared.uses.ConstantUse.{ConstantUse}
 use Rattle.constant_forms.specs.declared.reduced.ReducedConstant.{ReducedConstant}
 use Rattle.constant_forms.specs.Told.{AreInPackages}
-use Rattle.marked_uses.specs.declared.uses.MarkedUse.{MarkedUse}
+use Rattle.use_search.specs.declared.uses_of_marks.uses.MarkedUse.{MarkedUse}
 use Rattle.use_search.specs.declared.views.FileView.{FileView}
 use Rattle.use_search.specs.declared.views.ProgramView.{ProgramView}
 use Rattle.use_search.specs.Answers.{IsTold, IsReduction, IsAnswer}

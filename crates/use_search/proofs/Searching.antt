@@ -3,7 +3,7 @@ use Rattle.std.proofs.Common.{◌≡◌, ◌∙◌, refl, sym, ap, subst, ℕ, �
 use Rattle.std.proofs.lemmas.List.{drop_more}
 use Rattle.file_names.proofs.Walks.{nothing_left}
 use Rattle.constant_forms.specs.declared.reduced.ReducedConstant.TheVariants.{Becomes}
-use Rattle.marked_uses.specs.declared.uses.MarkedUse.{MarkedUse}
+use Rattle.use_search.specs.declared.uses_of_marks.uses.MarkedUse.{MarkedUse}
 use Rattle.use_search.specs.declared.search.FoundForm.{FoundForm}
 use Rattle.use_search.specs.declared.search.FoundObstacle.{FoundObstacle}
 use Rattle.use_search.specs.declared.views.FileView.{FileView}

@@ -16,7 +16,7 @@ use Rattle.constant_forms.specs.Uses.{IsUse, IsReducedTo}
 use Rattle.mark_values.specs.declared.values.DeclaredValue.{DeclaredValue}
 use Rattle.mark_values.specs.Values.{value_of}
 use Rattle.mark_values.specs.Tables.{value_in}
-use Rattle.marked_uses.specs.declared.uses.MarkedUse.{MarkedUse}
+use Rattle.use_search.specs.declared.uses_of_marks.uses.MarkedUse.{MarkedUse}
 use Rattle.use_search.specs.declared.views.FileView.{FileView}
 use Rattle.use_search.specs.declared.views.ProgramView.{ProgramView}
 

@@ -8,9 +8,9 @@ use Rattle.run_rules.specs.Programs.{numbered}
 use Rattle.run_rules.specs.Sites.{MarkRef}
 use Rattle.constant_forms.specs.declared.obstacles.Obstacle.{Obstacle}
 use Rattle.constant_forms.specs.declared.reduced.ReducedConstant.TheVariants.{Becomes, Kept}
-use Rattle.marked_uses.specs.declared.uses.MarkedUse.{MarkedUse}
-use Rattle.marked_uses.specs.Uses.{decls_uses}
-use Rattle.marked_uses.specs.Views.{placed_of}
+use Rattle.use_search.specs.declared.uses_of_marks.uses.MarkedUse.{MarkedUse}
+use Rattle.use_search.specs.UsesOfMarks.Uses.{decls_uses}
+use Rattle.use_search.specs.UsesOfMarks.Views.{placed_of}
 use Rattle.use_search.specs.declared.search.FoundForm.{FoundForm}
 use Rattle.use_search.specs.declared.search.FoundObstacle.{FoundObstacle}
 use Rattle.use_search.specs.declared.views.FileView.{FileView}

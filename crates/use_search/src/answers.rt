@@ -7,10 +7,10 @@ ghost use Rattle.scope_tables.specs.Table.{IsTableOf, table_of};
 ghost use Rattle.constant_forms.specs.Told.{AreInPackages};
 ghost use Rattle.use_search.specs.Answers.{CantBeTold, IsAnswer, IsReduction, IsTold};
 
+use crate::uses_of_marks::MarkedUse;
 use crate::views::{FileView, ProgramView};
 use constant_forms::{ConstantUse, ReducedConstant, reduced_constant};
 use go_tree::NoMemory;
-use marked_uses::MarkedUse;
 use std::alloc::Global;
 
 /// The number in 32 bits, where it fits.

@@ -3,7 +3,9 @@
 
 mod answers;
 mod search;
+mod uses_of_marks;
 mod views;
 
 pub use search::{FoundForm, FoundObstacle, Searched, search_file, search_uses};
+pub use uses_of_marks::{MarkedUse, marked_uses, marked_uses_are_sites, uses_are_placed};
 pub use views::{FileView, ProgramView};

@@ -11,10 +11,10 @@ ghost use Rattle.module_marks.specs.Tables as marks_table;
 ghost use Rattle.use_search.specs.Search.{IsLooked, IsSearched, IsFileSearch};
 
 use crate::answers::answer;
+use crate::uses_of_marks::{MarkedUse, marked_uses};
 use crate::views::{FileView, ProgramView};
 use constant_forms::{ConstantForm, Obstacle, ReducedConstant};
 use go_tree::NoMemory;
-use marked_uses::{MarkedUse, marked_uses};
 use member_uses::FileScopes;
 use module_marks::MarkTable;
 use std::alloc::Global;

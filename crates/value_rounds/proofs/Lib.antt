@@ -3,3 +3,5 @@ pub mod Kept
 pub mod Others
 pub mod Rounds
 pub mod SoFar
+pub mod HeadersStay
+pub mod UnderlyingTypes

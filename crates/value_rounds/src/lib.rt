@@ -3,6 +3,10 @@
 //! declarations; Variable declarations). Laws alone.
 #![tactic(auto)]
 
+mod headers_stay;
 mod laws;
+mod underlying_types;
 
+pub use headers_stay::headers_are_final;
 pub use laws::values_are_found;
+pub use underlying_types::chains_of_names_end;

@@ -8,7 +8,7 @@ use Rattle.go_tree.specs.declared.tokens.TokenKind.TheVariants.{Ident, Keyword, 
 use Rattle.go_words.specs.Terminals.{Terminal, ellipsis, lex, lexemes, found_in, operators, keywords, terminal_of}
 use Rattle.go_read.specs.SpellsTypes.{Lexemes}
 use Rattle.go_read.specs.SpellsSpans.{span_to}
-use Rattle.supported_words.proofs.Spelled.{Passed, here, later}
+use Rattle.import_splices.proofs.SupportedWords.Spelled.{Passed, here, later}
 use Rattle.variadic_words.specs.Dots.{is_operator, is_dots}
 use Rattle.variadic_words.specs.Laws.{FilesWithoutDots}
 use Rattle.variadic_words.proofs.Unspread.{front_plain}

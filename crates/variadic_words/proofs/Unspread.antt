@@ -9,10 +9,10 @@ use Rattle.go_read.specs.SpellsFiles.{SpellsTop, SpellsTops, SpellsFront, top_co
 use Rattle.go_tree.specs.declared.spans.Span.{Span}
 use Rattle.go_words.specs.Terminals.{lex, ellipsis}
 use Rattle.splice_laws.specs.Dots.{ExprDots, ExprsDots, OptionDots, ElemsDots, ValueDots, KeyDots, StmtDots, StmtsDots, PartDots, BlockDots, LeftDots, ArmsDots, CasesDots, SpecsDots, DeclDots, DeclsDots}
-use Rattle.typed_dots.specs.TypedDots.{AnyExpr}
-use Rattle.typed_dots.specs.Unspread.{UnspreadRest, UnspreadFile}
-use Rattle.supported_words.proofs.Spelled as words
-use Rattle.supported_words.proofs.Spelled.{Passed, drop, sign_known}
+use Rattle.import_splices.specs.TypedDots.TypedDots.{AnyExpr}
+use Rattle.import_splices.specs.TypedDots.Unspread.{UnspreadRest, UnspreadFile}
+use Rattle.import_splices.proofs.SupportedWords.Spelled as words
+use Rattle.import_splices.proofs.SupportedWords.Spelled.{Passed, drop, sign_known}
 
 -- none of the tokens that are passed is `...`
 module _ {S : Type 0} (mark : Lexemes → Lexemes → S) (whole : Lexemes) (none : (s : Span) (us : Lexemes) → Passed (lex s ellipsis ∷ us) whole → ⊥) where

@@ -9,3 +9,4 @@ pub mod PartsTyped
 pub mod LiteralThere
 pub mod ClearCall
 pub mod Laws
+pub mod UnspreadForms

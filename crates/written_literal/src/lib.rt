@@ -4,8 +4,10 @@
 #![tactic(auto)]
 
 mod laws;
+mod unspread_forms;
 
 pub use laws::{
     clear_calls_mean_their_literals, names_mean_the_same, unobstructed_functions_are_written,
     walks_list_declarations,
 };
+pub use unspread_forms::forms_hand_on_no_slice;

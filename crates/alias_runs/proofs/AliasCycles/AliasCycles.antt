@@ -19,8 +19,8 @@ use Rattle.run_rules.specs.Surroundings.{Place, Use, Seen, seen, seen_type, seen
 use Rattle.cycle_laws.specs.PutCalls.{CallsAlike, LiteralTyped, AllPutCallAlike}
 use Rattle.cycle_laws.specs.PutSteps.{PutsAlike}
 use Rattle.cycle_laws.proofs.NoCallees.{names-alike}
-use Rattle.constant_cycles.specs.NamesPut.{NameForName, AllNamesPut}
-use Rattle.constant_cycles.proofs.UsesPut.{type-puts-alike}
+use Rattle.cycle_laws.specs.ConstantCycles.NamesPut.{NameForName, AllNamesPut}
+use Rattle.cycle_laws.proofs.ConstantCycles.UsesPut.{type-puts-alike}
 use Rattle.constant_steps.specs.PlainUse.{IsSimple, AllSimple}
 use Rattle.cycle_runs.proofs.FoundUses.NoRecursive.{step-off}
 use Rattle.cycle_runs.specs.ImportCycles.ImportSteps.{packages_added}

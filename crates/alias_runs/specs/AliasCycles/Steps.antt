@@ -8,7 +8,7 @@ use Rattle.run_rules.specs.Run.{Standing, Logged, Next, Run, ends, goes_on, is_c
 use Rattle.run_rules.specs.Sites.{MarkRef, part_span}
 use Rattle.run_rules.specs.Steps.{At, same_here}
 use Rattle.order_runs.specs.RunSteps.RunPackages.{members_of}
-use Rattle.constant_cycles.specs.Laws.{NamesFor, TypesFor}
+use Rattle.cycle_laws.specs.ConstantCycles.Laws.{NamesFor, TypesFor}
 use Rattle.cycle_runs.specs.ImportCycles.ImportSteps.{packages_added}
 use Rattle.cycle_runs.specs.OrderCycles.Steps.{site_added, GivesWayAdded}
 use Rattle.alias_runs.specs.QualifiedAliases.AliasUse.{text_there}

@@ -17,7 +17,7 @@ use Rattle.run_rules.specs.Cycles.{leads_to}
 use Rattle.run_rules.specs.Steps.{At}
 use Rattle.run_rules.proofs.CaseTools.{mark, param, sig, fn}
 use Rattle.run_rules.proofs.Instances.{the}
-use Rattle.constant_cycles.proofs.Examples.{node}
+use Rattle.cycle_laws.proofs.ConstantCycles.Examples.{node}
 use Rattle.cycle_laws.specs.PutCalls.{called_among}
 
 abbrev name_of : ℕ → List ℕ → NameAt At

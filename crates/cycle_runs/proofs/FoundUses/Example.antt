@@ -17,7 +17,7 @@ use Rattle.run_rules.specs.FormTrees.{FormKind, ExprForm, LiteralForm}
 use Rattle.run_rules.proofs.CaseTools.{mark, param, sig, fn}
 use Rattle.run_rules.proofs.Instances.{the}
 use Rattle.go_types.specs.Answers.{given}
-use Rattle.constant_cycles.proofs.Examples.{node}
+use Rattle.cycle_laws.proofs.ConstantCycles.Examples.{node}
 
 abbrev name_of : ℕ → List ℕ → NameAt At
 name_of s n = record { span = node s; name = n }

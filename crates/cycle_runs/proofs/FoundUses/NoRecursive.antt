@@ -15,7 +15,7 @@ use Rattle.run_rules.specs.Reduced.{Reduced, becomes, range_of, obstacle_for, ca
 use Rattle.run_rules.specs.Cycles.{is_recursive}
 use Rattle.run_rules.specs.Steps.{At, same_here}
 use Rattle.run_rules.specs.Run.{Standing, Logged, FormOf, Next, is_commented}
-use Rattle.constant_cycles.proofs.OffCycles.{no-function-recursive}
+use Rattle.cycle_laws.proofs.ConstantCycles.OffCycles.{no-function-recursive}
 use Rattle.cycle_runs.proofs.StepCycles.Led.{found-form}
 
 module _ (commented : ℕ → ℕ → At → Bool) (ps : List (Package At)) (marks : List MarkRef) where

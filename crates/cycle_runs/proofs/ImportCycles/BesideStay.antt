@@ -16,8 +16,8 @@ use Rattle.go_types.specs.Agreement.{In, head, Same}
 use Rattle.run_rules.specs.Programs.{world, imports_mean, top_env}
 use Rattle.run_rules.specs.Sites.{MarkRef, is_among_marks, Where, Inlinable, is_function, is_free_function, inlinable_in, where_is, inlinable, members_in, member_of, is_this_method, find_marked_method, marked, marked_as}
 use Rattle.typed_in_place.specs.ProgramsAlike.{OneByOne, no_more, and_more}
-use Rattle.same_worlds.specs.SameWorlds.{SameWorld}
-use Rattle.same_worlds.proofs.DefinedSame.{under-same}
+use Rattle.typed_in_place.specs.SameWorlds.SameWorlds.{SameWorld}
+use Rattle.typed_in_place.proofs.SameWorlds.DefinedSame.{under-same}
 use Rattle.cycle_runs.specs.StepCycles.PackagesAlike.{function_part, DeclAlike, FileAlike, PackageAlike, PackagesAlike}
 use Rattle.cycle_runs.proofs.StepCycles.AlikeStay.{OptionBy, neither, each, get-by, at-both, receives, method_by, this_by, this-here, functions-alike, kinds-alike, free-alike, member-of-alike}
 use Rattle.cycle_runs.proofs.StepCycles.StepAlike.{no-function-in, no-function-among}

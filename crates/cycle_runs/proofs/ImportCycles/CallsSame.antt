@@ -14,15 +14,15 @@ use Rattle.go_types.specs.Literals.{is_struct}
 use Rattle.go_types.specs.Typing.{all_parts, binds_of}
 use Rattle.go_types.specs.Bodies.{no_values, body_binds}
 use Rattle.go_types.specs.Declarations.{Repeated, nothing_to_repeat, binds_or}
-use Rattle.same_worlds.specs.SameWorlds.{SameWorld, at}
-use Rattle.same_worlds.proofs.AgainSame.{Again, either-again, nothing-again}
-use Rattle.same_worlds.proofs.DefinedSame.{under-same}
-use Rattle.same_worlds.proofs.DeclarationsSame.{new_constants-same, new_variables-same}
-use Rattle.same_worlds.proofs.LiteralsSame.{inner_type-same, key_type-same, literal_type-same}
-use Rattle.same_worlds.proofs.PrimarySame.{field_type-same}
-use Rattle.same_worlds.proofs.StatementsSame.{right_values-same}
-use Rattle.same_worlds.proofs.TypeNamesSame.{type_meant-same, func_type-same, written_type-same}
-use Rattle.same_worlds.proofs.TypingSame.{parts-same, all_parts-same, places-same, declares-same, declares_first-same, range_declares-same}
+use Rattle.typed_in_place.specs.SameWorlds.SameWorlds.{SameWorld, at}
+use Rattle.typed_in_place.proofs.SameWorlds.AgainSame.{Again, either-again, nothing-again}
+use Rattle.typed_in_place.proofs.SameWorlds.DefinedSame.{under-same}
+use Rattle.typed_in_place.proofs.SameWorlds.DeclarationsSame.{new_constants-same, new_variables-same}
+use Rattle.typed_in_place.proofs.SameWorlds.LiteralsSame.{inner_type-same, key_type-same, literal_type-same}
+use Rattle.typed_in_place.proofs.SameWorlds.PrimarySame.{field_type-same}
+use Rattle.typed_in_place.proofs.SameWorlds.StatementsSame.{right_values-same}
+use Rattle.typed_in_place.proofs.SameWorlds.TypeNamesSame.{type_meant-same, func_type-same, written_type-same}
+use Rattle.typed_in_place.proofs.SameWorlds.TypingSame.{parts-same, all_parts-same, places-same, declares-same, declares_first-same, range_declares-same}
 use Rattle.run_rules.specs.Surroundings.{Use, into_type, elem_use, key_use, into_or, field_set, repeated_by}
 use Rattle.run_rules.specs.Sites.{MarkRef}
 use Rattle.cycle_laws.proofs.Called.{Callees, at_member, home_of_method, called_by, callee, member_or, meaning_past, env_lit, bound_lit, first_bound, range_bound, after_bound, more_bound, calls_expr, calls_all, calls_option, calls_elems, calls_key, calls_value, calls_stmt, calls_stmts, calls_first, calls_block, calls_left, calls_arms, calls_cases, calls_constants, calls_variables}

@@ -11,9 +11,9 @@ use Rattle.go_types.specs.Types.{named_type, type_name_of, base_of}
 use Rattle.go_types.specs.Entities.{Entity, World, Env, Binds, extend, type_of_name, universe}
 use Rattle.go_types.specs.Bodies.{body_binds}
 use Rattle.go_types.specs.MethodDeclarations.{receiver_binds}
-use Rattle.same_worlds.specs.SameWorlds.{SameWorld}
-use Rattle.same_worlds.proofs.DefinedSame.{under-same}
-use Rattle.same_worlds.proofs.TypeNamesSame.{func_type-same}
+use Rattle.typed_in_place.specs.SameWorlds.SameWorlds.{SameWorld}
+use Rattle.typed_in_place.proofs.SameWorlds.DefinedSame.{under-same}
+use Rattle.typed_in_place.proofs.SameWorlds.TypeNamesSame.{func_type-same}
 use Rattle.cycle_laws.proofs.Called.{Callees}
 use Rattle.cycle_laws.proofs.DeclRead.{calls_group, calls_of_variables, received, receiver_name, body_names, calls_decl}
 use Rattle.cycle_runs.proofs.ImportCycles.CallsSame.{calls_all-same, calls_stmts-same}

@@ -20,7 +20,7 @@ use Rattle.run_rules.specs.Steps.{At, Found, same_here, with_file, added_decls}
 use Rattle.run_rules.proofs.CaseTools.{mark, imp, imps, param, sig, fn}
 use Rattle.run_rules.proofs.Instances.{the}
 use Rattle.cycle_laws.specs.PutCalls.{GivesWayAmong, mark_there}
-use Rattle.constant_cycles.proofs.Examples.{node}
+use Rattle.cycle_laws.proofs.ConstantCycles.Examples.{node}
 use Rattle.typed_in_place.specs.ProgramsAlike.{no_more, and_more}
 use Rattle.cycle_runs.specs.ImportCycles.OtherImports.{import_path, SameOrder}
 use Rattle.cycle_runs.specs.ImportCycles.ImportSteps.{file_added, packages_added, where_added, decl_put, calls_added, AddsNewNames}

@@ -22,7 +22,7 @@ use Rattle.cycle_laws.proofs.DeclRead.{calls_decl, decl-bare, decl-led}
 use Rattle.cycle_laws.specs.PutSteps.{ReadCallsAlikeIn}
 use Rattle.cycle_runs.specs.ImportCycles.NamesRead.{MarksStay, AllRead}
 use Rattle.cycle_runs.specs.ImportCycles.OtherImports.{PackagesBeside, IdentifiersRead}
-use Rattle.same_worlds.specs.SameWorlds.{SameWorld}
+use Rattle.typed_in_place.specs.SameWorlds.SameWorlds.{SameWorld}
 use Rattle.cycle_runs.proofs.ImportCycles.CallsMoved.{E}
 use Rattle.cycle_runs.proofs.ImportCycles.DeclSame.{decl-same}
 use Rattle.cycle_runs.proofs.ImportCycles.DeclMoved.{D, f, q, same-callees, fine, decl-moved}

@@ -11,9 +11,9 @@ use Rattle.run_rules.specs.Steps.{At}
 use Rattle.run_rules.specs.Cycles.{is_recursive}
 use Rattle.run_rules.specs.Run.{Standing, Logged, Next}
 use Rattle.cycle_laws.specs.PutSteps.{PutsAlike}
-use Rattle.constant_cycles.specs.Laws.{NamesFor, TypesFor}
-use Rattle.constant_cycles.proofs.OffCycles.{no-function-recursive}
-use Rattle.constant_cycles.proofs.UsesPut.{uses-put-alike, type-puts-alike}
+use Rattle.cycle_laws.specs.ConstantCycles.Laws.{NamesFor, TypesFor}
+use Rattle.cycle_laws.proofs.ConstantCycles.OffCycles.{no-function-recursive}
+use Rattle.cycle_laws.proofs.ConstantCycles.UsesPut.{uses-put-alike, type-puts-alike}
 use Rattle.cycle_runs.specs.StepCycles.Steps.{StandsAtEnds, UsesAtEnds}
 use Rattle.cycle_runs.proofs.StepCycles.Kept.{uses-stand}
 use Rattle.cycle_runs.specs.ImportCycles.ImportSteps.{packages_added}

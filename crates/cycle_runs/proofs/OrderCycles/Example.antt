@@ -22,11 +22,11 @@ use Rattle.run_rules.specs.FormTrees.{ConstForm, as_expr}
 use Rattle.run_rules.specs.Steps.{At, Found, same_here, changes_for, new_decl, with_file}
 use Rattle.run_rules.proofs.CaseTools.{mark, imp, imps, param, sig, fn}
 use Rattle.run_rules.proofs.Instances.{the}
-use Rattle.constant_cycles.proofs.Examples.{node}
+use Rattle.cycle_laws.proofs.ConstantCycles.Examples.{node}
 use Rattle.typed_in_place.specs.ProgramsAlike.{OneByOne, no_more, and_more}
 use Rattle.cycle_runs.specs.StepCycles.PackagesAlike.{DeclAlike}
 use Rattle.typed_in_place.proofs.ProgramsReplaced.{each_one}
-use Rattle.same_worlds.specs.SameWorlds.{SameWorld}
+use Rattle.typed_in_place.specs.SameWorlds.SameWorlds.{SameWorld}
 use Rattle.cycle_runs.specs.ImportCycles.OtherImports.{PackagesBeside, import_path}
 use Rattle.cycle_runs.specs.ImportCycles.ImportSteps.{file_added, packages_added, where_added, decl_put}
 use Rattle.cycle_runs.specs.OrderCycles.Orders.{AllOrdered, PackagesUnder}

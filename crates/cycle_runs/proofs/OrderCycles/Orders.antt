@@ -11,9 +11,9 @@ use Rattle.go_types.specs.Entities.{World}
 use Rattle.go_types.specs.Programs.{SourcePackage}
 use Rattle.go_types.specs.Collect.{collected}
 use Rattle.run_rules.specs.Programs.{numbered_from, numbered, is_ready, lesser, least_ready, ordered_after, in_dependency_order, numbers_of, linked_package, linked_packages, world}
-use Rattle.same_worlds.specs.SameWorlds.{SameWorld, Reordered, no_packages, same_first, swapped, one_after_another}
-use Rattle.same_worlds.proofs.AtHome.{nat_same}
-use Rattle.same_worlds.proofs.OrdersSame.{collected-same}
+use Rattle.typed_in_place.specs.SameWorlds.SameWorlds.{SameWorld, Reordered, no_packages, same_first, swapped, one_after_another}
+use Rattle.typed_in_place.proofs.SameWorlds.AtHome.{nat_same}
+use Rattle.typed_in_place.proofs.SameWorlds.OrdersSame.{collected-same}
 use Rattle.cycle_runs.specs.ImportCycles.OtherImports.{PackagesBeside}
 use Rattle.cycle_runs.proofs.ImportCycles.WorldMoved.{collected-moved}
 use Rattle.cycle_runs.specs.OrderCycles.Orders.{AllOrdered, PackagesUnder}

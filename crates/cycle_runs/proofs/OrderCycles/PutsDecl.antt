@@ -26,9 +26,9 @@ use Rattle.run_rules.specs.FormTrees.{Form, as_expr, as_dropped, as_block, as_ty
 use Rattle.run_rules.specs.Calls.{blank}
 use Rattle.run_rules.specs.Forms.{is_at}
 use Rattle.run_rules.specs.Steps.{type_replaced, changes_for, new_constants, new_variables, name_in, new_receiver_option, new_type_spec, new_decl}
-use Rattle.same_worlds.specs.SameWorlds.{SameWorld}
-use Rattle.same_worlds.proofs.DefinedSame.{under-same}
-use Rattle.same_worlds.proofs.TypeNamesSame.{func_type-same}
+use Rattle.typed_in_place.specs.SameWorlds.SameWorlds.{SameWorld}
+use Rattle.typed_in_place.proofs.SameWorlds.DefinedSame.{under-same}
+use Rattle.typed_in_place.proofs.SameWorlds.TypeNamesSame.{func_type-same}
 use Rattle.cycle_runs.proofs.ImportCycles.FreeIdentifiers.{in-left, in-right, params-in}
 use Rattle.cycle_runs.proofs.ImportCycles.CallsMoved.{agrees-kept, nowhere}
 use Rattle.cycle_runs.proofs.OrderCycles.Puts.{Putting, put_written, put_sig, put_all, put_stmts}

@@ -13,7 +13,7 @@ use Rattle.run_laws.proofs.FoundSpans.{Placed}
 use Rattle.typed_in_place.specs.ProgramsAlike.{OneByOne}
 use Rattle.typed_in_place.proofs.ProgramsReplaced.{each_one, one_by_one}
 use Rattle.cycle_laws.proofs.StepsLead.{change-at}
-use Rattle.same_worlds.specs.SameWorlds.{SameWorld}
+use Rattle.typed_in_place.specs.SameWorlds.SameWorlds.{SameWorld}
 use Rattle.cycle_runs.proofs.StepCycles.Orders.{rows-by}
 use Rattle.cycle_runs.proofs.StepCycles.StepAlike.{one-changed}
 use Rattle.cycle_runs.specs.ImportCycles.OtherImports.{PackagesBeside, FileUnder}

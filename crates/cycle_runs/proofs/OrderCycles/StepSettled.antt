@@ -23,7 +23,7 @@ use Rattle.cycle_laws.specs.PutCalls.{GivesWayAmong, mark_there}
 use Rattle.cycle_laws.proofs.DeclCalls.{decl-kept}
 use Rattle.cycle_laws.proofs.StepsLead.{change-at}
 use Rattle.cycle_laws.proofs.BareWith as spans
-use Rattle.same_worlds.specs.SameWorlds.{SameWorld}
+use Rattle.typed_in_place.specs.SameWorlds.SameWorlds.{SameWorld}
 use Rattle.cycle_runs.specs.StepCycles.PackagesAlike.{DeclAlike}
 use Rattle.cycle_runs.proofs.StepCycles.AlikeStay.{OptionBy, neither, each, get-by}
 use Rattle.cycle_runs.proofs.StepCycles.Orders.{NumberedBy, rows-by, order-by}

@@ -2,7 +2,7 @@
 use Rattle.std.proofs.Common.{◌≡◌, refl, sym, ◌∙◌, subst, ℕ, Bool, true, false, List, [], ◌∷◌, Option, Some, None, if◌then◌else◌, arith}
 use Rattle.std.specs.Prelude.{nat_eq}
 use Rattle.std.proofs.lemmas.Option.{same_Some}
-use Rattle.same_worlds.proofs.AtHome.{nat_same}
+use Rattle.typed_in_place.proofs.SameWorlds.AtHome.{nat_same}
 
 pub nat_self : (a : ℕ) → nat_eq a a ≡ true
 nat_self a = grind arith

@@ -5,7 +5,7 @@ use Rattle.std.specs.List.{list_any, list_all, Contains}
 use Rattle.std.proofs.lemmas.Option.{same_Some}
 use Rattle.go_types.specs.Agreement.{In, head, tail}
 use Rattle.run_rules.specs.Steps.{change_nth}
-use Rattle.same_worlds.proofs.AtHome.{nat_same}
+use Rattle.typed_in_place.proofs.SameWorlds.AtHome.{nat_same}
 
 -- ---- by place
 

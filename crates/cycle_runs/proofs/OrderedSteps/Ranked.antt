@@ -11,7 +11,7 @@ use Rattle.pkg_graph.specs.Order.{has_path, is_placed, IsReady, Follows, none, n
 use Rattle.go_types.specs.Agreement.{In}
 use Rattle.run_rules.specs.Programs.{dependency_order}
 use Rattle.run_rules.proofs.InOrder.{order_is}
-use Rattle.same_worlds.proofs.AtHome.{nat_same}
+use Rattle.typed_in_place.proofs.SameWorlds.AtHome.{nat_same}
 use Rattle.cycle_runs.specs.OrderCycles.Orders.{AllOrdered}
 use Rattle.cycle_runs.specs.OrderedSteps.Ranks.{RankedBelow, IsRanked}
 use Rattle.cycle_runs.proofs.OrderedSteps.Members.{all-in, each-in, any-of, one-of}

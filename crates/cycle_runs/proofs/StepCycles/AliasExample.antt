@@ -22,9 +22,9 @@ use Rattle.run_rules.specs.Steps.{At, same_here, changes_for}
 use Rattle.run_rules.proofs.CaseTools.{mark, param, sig, tspec, fn}
 use Rattle.run_rules.proofs.Instances.{the}
 use Rattle.constant_steps.specs.StepLaws.DeclStands.{DeclStands, DeclTypesStand, body_there}
-use Rattle.constant_cycles.specs.NamesPut.{AllTypesPut}
-use Rattle.constant_cycles.specs.Laws.{TypesFor}
-use Rattle.constant_cycles.proofs.Examples.{node}
+use Rattle.cycle_laws.specs.ConstantCycles.NamesPut.{AllTypesPut}
+use Rattle.cycle_laws.specs.ConstantCycles.Laws.{TypesFor}
+use Rattle.cycle_laws.proofs.ConstantCycles.Examples.{node}
 use Rattle.cycle_runs.specs.StepCycles.Steps.{packages_put, TypesStandBy, StandsIn, StandsInRounds, StandsAtEnds}
 
 abbrev written : ℕ → List ℕ → TypeExpr At

@@ -10,7 +10,7 @@ use Rattle.run_rules.specs.Steps.{At, same_here, changes_for}
 use Rattle.run_rules.specs.Cycles.{OnCycle, GivesWay, LeadsTo, is_recursive}
 use Rattle.run_rules.specs.Run.{Standing, Logged, Next, Run, ends, goes_on, is_commented}
 use Rattle.run_rules.proofs.Chains.{same_cycles}
-use Rattle.constant_cycles.proofs.OffCycles.{one_mark}
+use Rattle.cycle_laws.proofs.ConstantCycles.OffCycles.{one_mark}
 use Rattle.cycle_laws.specs.PutCalls.{mark_there, CallsAlike, AllPutCallAlike}
 use Rattle.cycle_runs.specs.StepCycles.Calls.{Rerouted, another_edge, new_edge, CallsThrough, AllPutCallThrough, GivesWayThere, AllGiveWay}
 use Rattle.cycle_runs.proofs.StepCycles.Led.{same-itself, found-led}

@@ -24,7 +24,7 @@ use Rattle.run_rules.specs.FormTrees.{as_expr}
 use Rattle.run_rules.specs.Programs.{linked, decl_seen}
 use Rattle.run_rules.specs.Steps.{At, same_here}
 use Rattle.constant_steps.specs.StepLaws.NamesOutside.{UseThere, AllUsesThere}
-use Rattle.constant_cycles.proofs.Examples.{node, a_func, call_of, marks, before, pointer, in_two, in_sum, new_name}
+use Rattle.cycle_laws.proofs.ConstantCycles.Examples.{node, a_func, call_of, marks, before, pointer, in_two, in_sum, new_name}
 use Rattle.cycle_runs.specs.StepCycles.Steps.{packages_put, UsesIn, UsesAtEnds, StandsAtEnds}
 use Rattle.run_rules.proofs.CaseTools.{mark}
 use Rattle.cycle_runs.specs.StepCycles.OwnConstants.{OwnConstant, AllOnlyUse, StandsAlone}

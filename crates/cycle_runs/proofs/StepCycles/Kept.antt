@@ -21,8 +21,8 @@ use Rattle.typed_in_place.proofs.Leaves.{type_itself}
 use Rattle.constant_steps.specs.StepLaws.DeclStands.{body_there}
 use Rattle.constant_steps.proofs.StepLaws.ConstantStepLaw.{decl-types-stay}
 use Rattle.constant_steps.proofs.StepLaws.DeclUses.{decl-with-use}
-use Rattle.constant_cycles.specs.Laws.{NamesFor, TypesFor}
-use Rattle.constant_cycles.proofs.UsesPut.{constant-steps-keep, alias-steps-keep}
+use Rattle.cycle_laws.specs.ConstantCycles.Laws.{NamesFor, TypesFor}
+use Rattle.cycle_laws.proofs.ConstantCycles.UsesPut.{constant-steps-keep, alias-steps-keep}
 use Rattle.cycle_runs.specs.StepCycles.Steps.{SameImports, packages_put, imports_there, UsesIn, StandsInRounds, StandsAtEnds, UsesAtEnds}
 use Rattle.cycle_runs.proofs.StepCycles.WorldStays.{step-reads-alike}
 

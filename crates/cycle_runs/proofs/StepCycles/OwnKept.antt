@@ -16,9 +16,9 @@ use Rattle.run_rules.specs.Run.{Standing, Logged, Next, is_commented}
 use Rattle.constant_steps.specs.StepLaws.NamesOutside.{AllUsesThere}
 use Rattle.cycle_laws.specs.NamesNoFunction.{NamesNoFunction}
 use Rattle.cycle_laws.proofs.NoCallees.{ident-names, selector-names}
-use Rattle.constant_cycles.specs.NamesPut.{AllNamesPut}
-use Rattle.constant_cycles.proofs.NamesHere.{qualified-name}
-use Rattle.constant_cycles.proofs.Unobstructed.{unobstructed-constant}
+use Rattle.cycle_laws.specs.ConstantCycles.NamesPut.{AllNamesPut}
+use Rattle.cycle_laws.proofs.ConstantCycles.NamesHere.{qualified-name}
+use Rattle.cycle_laws.proofs.ConstantCycles.Unobstructed.{unobstructed-constant}
 use Rattle.cycle_runs.specs.StepCycles.Steps.{SameImports, UsesAtEnds}
 use Rattle.cycle_runs.specs.StepCycles.OwnConstants.{OwnConstant, OfPackage, AllOnlyUse, StandsAlone}
 use Rattle.cycle_runs.proofs.StepCycles.Led.{found-form, found-marked}

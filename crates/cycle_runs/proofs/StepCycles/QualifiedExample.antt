@@ -25,7 +25,7 @@ use Rattle.run_rules.specs.Steps.{At, same_here}
 use Rattle.run_rules.proofs.CaseTools.{mark, imp, imps, param, sig, fn}
 use Rattle.run_rules.proofs.Instances.{the}
 use Rattle.constant_steps.specs.StepLaws.NamesOutside.{UseThere, AllUsesThere}
-use Rattle.constant_cycles.proofs.Examples.{node}
+use Rattle.cycle_laws.proofs.ConstantCycles.Examples.{node}
 use Rattle.cycle_runs.specs.StepCycles.Steps.{packages_put, imports_there, UsesIn, UsesAtEnds}
 use Rattle.cycle_runs.specs.StepCycles.OwnConstants.{OfPackage, AllOnlyUse, StandsAlone}
 

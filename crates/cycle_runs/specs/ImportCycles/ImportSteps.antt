@@ -13,7 +13,7 @@ use Rattle.run_rules.specs.Cycles.{is_recursive}
 use Rattle.run_rules.specs.Run.{Standing, Logged, Next}
 use Rattle.cycle_laws.specs.PutCalls.{GivesWayAmong, mark_there, called_among}
 use Rattle.cycle_runs.specs.StepCycles.PackagesAlike.{DeclAlike}
-use Rattle.same_worlds.specs.SameWorlds.{SameWorld}
+use Rattle.typed_in_place.specs.SameWorlds.SameWorlds.{SameWorld}
 use Rattle.cycle_runs.specs.ImportCycles.OtherImports.{IdentifiersRead, import_path}
 
 -- the file of a use with the imports that its form adds, before the form is put

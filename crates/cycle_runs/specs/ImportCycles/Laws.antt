@@ -16,7 +16,7 @@ use Rattle.run_rules.specs.Cycles.{is_recursive}
 use Rattle.run_rules.specs.Run.{Standing, Logged, Next}
 use Rattle.cycle_laws.specs.PutCalls.{called_among}
 use Rattle.cycle_laws.specs.PutSteps.{ReadCallsAlikeIn}
-use Rattle.same_worlds.specs.SameWorlds.{SameWorld}
+use Rattle.typed_in_place.specs.SameWorlds.SameWorlds.{SameWorld}
 use Rattle.cycle_runs.specs.ImportCycles.NamesRead.{AllRead, MarksStay}
 use Rattle.cycle_runs.specs.ImportCycles.ImportSteps.{packages_added, AddsNewNames, DeclaresAlike, KeepsNames, SettlesImports}
 use Rattle.cycle_runs.specs.ImportCycles.OtherImports.{PackagesBeside, PackagesSame, IdentifiersRead, ImportsRead, SameOrder}

@@ -10,9 +10,9 @@ use Rattle.run_rules.specs.FormTrees.{as_expr, as_type}
 use Rattle.run_rules.specs.Steps.{At}
 use Rattle.run_rules.specs.Cycles.{is_recursive}
 use Rattle.run_rules.specs.Run.{Standing, Logged, Next, Run}
-use Rattle.constant_cycles.specs.Laws.{NamesFor, TypesFor}
+use Rattle.cycle_laws.specs.ConstantCycles.Laws.{NamesFor, TypesFor}
 use Rattle.cycle_runs.specs.StepCycles.Steps.{StandsAtEnds, UsesAtEnds}
-use Rattle.same_worlds.specs.SameWorlds.{SameWorld}
+use Rattle.typed_in_place.specs.SameWorlds.SameWorlds.{SameWorld}
 use Rattle.cycle_runs.specs.ImportCycles.OtherImports.{PackagesBeside}
 use Rattle.cycle_runs.specs.ImportCycles.ImportSteps.{packages_added, AddsNewNames, SettlesImports}
 use Rattle.cycle_runs.specs.OrderCycles.Orders.{AllOrdered, PackagesUnder}

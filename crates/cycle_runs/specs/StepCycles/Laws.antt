@@ -13,7 +13,7 @@ use Rattle.run_rules.specs.Cycles.{OnCycle, is_recursive}
 use Rattle.run_rules.specs.Run.{Standing, Logged, Next, Run}
 use Rattle.cycle_laws.specs.PutCalls.{AllPutCallAlike}
 use Rattle.cycle_laws.specs.PutSteps.{ReadCallsAlike}
-use Rattle.constant_cycles.specs.Laws.{NamesFor, TypesFor}
+use Rattle.cycle_laws.specs.ConstantCycles.Laws.{NamesFor, TypesFor}
 use Rattle.cycle_runs.specs.StepCycles.PackagesAlike.{PackagesAlike}
 use Rattle.cycle_runs.specs.StepCycles.Steps.{SameImports, StandsAtEnds, UsesAtEnds}
 use Rattle.cycle_runs.specs.StepCycles.OwnConstants.{OwnConstant, OfPackage, StandsAlone}

@@ -14,7 +14,7 @@ use Rattle.pkg_graph.specs.Members.{Target, imported, member, predeclared as pre
 use Rattle.import_rules.specs.Unused.{spec_spans, AreImportsOf}
 use Rattle.import_rules.proofs.MeaningLaws.{means_append}
 use Rattle.import_rules.proofs.UnusedLaws.{used_names_mean_at}
-use Rattle.import_places.proofs.FilesLaid.{imports_laid}
+use Rattle.import_splices.proofs.ImportPlaces.FilesLaid.{imports_laid}
 use Rattle.run_rules.specs.Texts.{FileText}
 use Rattle.run_rules.specs.Respanned.{source_with, package_with, packages_with}
 use Rattle.run_rules.specs.Run.{as_read}

@@ -14,7 +14,7 @@ use Rattle.import_rules.specs.declared.new_import.Needed.{Needed}
 use Rattle.import_rules.specs.declared.new_import.NewImport.{NewImport}
 use Rattle.import_rules.specs.SettledNames.{Wanted, AreNeeded, EachMeansIn, new_imports, settled_names}
 use Rattle.import_rules.specs.Unused.{AreImportsOf, AreUsed, unused_specs}
-use Rattle.import_places.specs.ReadFiles.{ReadsImportsOf}
+use Rattle.import_splices.specs.ImportPlaces.ReadFiles.{ReadsImportsOf}
 use Rattle.run_rules.specs.Marks.{text_at}
 use Rattle.run_rules.specs.Texts.{FileText}
 use Rattle.run_rules.specs.Inlining.{ModuleReads}

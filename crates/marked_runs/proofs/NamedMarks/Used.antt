@@ -9,8 +9,8 @@ use Rattle.run_rules.specs.Surroundings.{Place}
 use Rattle.run_rules.specs.Sites.{MarkRef, Where, Inlinable, an_expr, is_among_marks, is_free_function, not_function, inlinable, name_mark, qualifier, member_of, qualified_mark, selected_method, marked, marked_as, called_mark, expr_mark}
 use Rattle.run_rules.specs.Steps.{At}
 use Rattle.run_rules.specs.Run.{Standing, Logged, Next}
-use Rattle.form_splices.specs.Laws.{MakesForm}
-use Rattle.form_splices.proofs.FormsFound.{step-makes-form}
+use Rattle.import_splices.specs.FormSplices.Laws.{MakesForm}
+use Rattle.import_splices.proofs.FormSplices.FormsFound.{step-makes-form}
 use Rattle.order_runs.proofs.RunSteps.SeatedUses.{Seated, sites-seated}
 use Rattle.put_names.specs.Uses.{UsesConstant}
 use Rattle.marked_runs.specs.NamedMarks.Named.{IsNamedConstant, AllNamed}

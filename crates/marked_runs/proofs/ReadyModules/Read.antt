@@ -25,8 +25,8 @@ use Rattle.run_by_steps.specs.WrittenImports.Laws.{AreNamed}
 use Rattle.run_by_steps.proofs.WrittenImports.ReadNames.{read_packages_are_named}
 use Rattle.put_names.specs.WrittenNames.NamedPackages.{PathsAreOctets}
 use Rattle.put_names.proofs.WrittenNames.ReadNames.{modules_named}
-use Rattle.unspread_forms.specs.UnspreadForms.{UnspreadFiles, UnspreadPackages}
-use Rattle.unspread_forms.proofs.Spans.{decls-spanned}
+use Rattle.written_literal.specs.UnspreadForms.UnspreadForms.{UnspreadFiles, UnspreadPackages}
+use Rattle.written_literal.proofs.UnspreadForms.Spans.{decls-spanned}
 use Rattle.marked_runs.specs.SettledConstants.Programs.{IsReady}
 use Rattle.marked_runs.proofs.ReadyModules.Typed.{linked_typed, typed_as_read}
 

@@ -15,20 +15,20 @@ use Rattle.run_rules.specs.Run.{Standing, Logged, Next, here_of}
 use Rattle.run_rules.specs.Sites.{MarkRef}
 use Rattle.run_rules.specs.Steps.{At}
 use Rattle.run_laws.specs.Reading.{ProgramReads}
-use Rattle.form_splices.specs.Laws.{MakesForm}
-use Rattle.form_splices.proofs.FormsFound.{step-makes-form}
+use Rattle.import_splices.specs.FormSplices.Laws.{MakesForm}
+use Rattle.import_splices.proofs.FormSplices.FormsFound.{step-makes-form}
 use Rattle.cycle_runs.proofs.ImportCycles.ImportStep.{placed}
 use Rattle.order_runs.proofs.RunSteps.SeatedUses.{Among, first, later, Seated, sites-seated}
 use Rattle.splice_laws.specs.Dots.{UndottedDecls, UndottedFile}
-use Rattle.typed_dots.specs.Unspread.{UnspreadDecls, UnspreadUndotted, UnspreadAreUndotted}
-use Rattle.typed_dots.proofs.UndottedFiles.{files_are_undotted}
-use Rattle.typed_dots.proofs.UnspreadDots.{packages_dots}
-use Rattle.unspread_forms.specs.UnspreadForms.{UnspreadFiles, UnspreadPackages}
+use Rattle.import_splices.specs.TypedDots.Unspread.{UnspreadDecls, UnspreadUndotted, UnspreadAreUndotted}
+use Rattle.import_splices.proofs.TypedDots.UndottedFiles.{files_are_undotted}
+use Rattle.import_splices.proofs.TypedDots.UnspreadDots.{packages_dots}
+use Rattle.written_literal.specs.UnspreadForms.UnspreadForms.{UnspreadFiles, UnspreadPackages}
 use Rattle.cycle_runs.specs.OrderCycles.Orders.{AllOrdered}
 use Rattle.cycle_runs.specs.Linked.{Linked}
 use Rattle.cycle_runs.proofs.Runs.{linked-names}
 use Rattle.put_names.specs.WrittenNames.NamedPackages.{PackagesAreNamed, PathsAreOctets}
-use Rattle.scoped_parts.specs.Laws.{WellTypedFilesAreScoped}
+use Rattle.typed_parts.specs.ScopedParts.Laws.{WellTypedFilesAreScoped}
 use Rattle.put_names.specs.Laws.{PackagesAreWritable}
 use Rattle.put_names.specs.Uses.{IsScopedAround}
 use Rattle.put_names.proofs.StepsPut.{file_reads}

@@ -22,8 +22,8 @@ use Rattle.put_nodes.specs.Put as put
 use Rattle.put_nodes.specs.Put.{IsSomeName}
 use Rattle.put_names.specs.Uses.{IsUsedByName, UsesConstant}
 use Rattle.put_names.proofs.Settled.{constants_settle}
-use Rattle.scoped_parts.specs.Laws.{WellTypedFilesAreScoped}
-use Rattle.unspread_forms.proofs.StepsUnspread.{step-unspread}
+use Rattle.typed_parts.specs.ScopedParts.Laws.{WellTypedFilesAreScoped}
+use Rattle.written_literal.proofs.UnspreadForms.StepsUnspread.{step-unspread}
 use Rattle.put_names.specs.WrittenNames.NamedPackages.{PackagesAreNamed, PathsAreOctets}
 use Rattle.put_names.proofs.WrittenNames.Kept as names
 use Rattle.marked_runs.specs.SettledConstants.Programs.{IsReady, IsOverConstant, PutsOtherName, AllOverConstants}

@@ -18,7 +18,7 @@ use Rattle.order_runs.specs.RunSteps.RunPackages.{members_of, packages_of}
 use Rattle.order_runs.proofs.OrderedSteps.{program-means}
 use Rattle.marked_runs.specs.SettledConstants.Laws as settled
 use Rattle.marked_runs.specs.SettledConstants.Programs.{IsReady, IsOverConstant}
-use Rattle.unspread_forms.specs.UnspreadForms.{UnspreadPackages}
+use Rattle.written_literal.specs.UnspreadForms.UnspreadForms.{UnspreadPackages}
 use Rattle.marked_runs.specs.ReadyModules.Laws.{ReadModulesAreReady}
 use Rattle.marked_runs.proofs.ReadyModules.Typed.{linked_typed, typed_as_read}
 use Rattle.marked_runs.specs.TakenNames.Taken.{TakesName, EachTakes, AllTake}

@@ -20,7 +20,7 @@ use Rattle.cycle_runs.specs.LedImports.Led.{IsSpelled}
 use Rattle.put_names.specs.WrittenNames.NamedPackages.{PackagesAreNamed, PathsAreOctets}
 use Rattle.put_names.specs.Laws.{PackagesAreWritable}
 use Rattle.put_names.specs.Uses.{IsScopedAround, IsUsedByName, UsesConstant}
-use Rattle.unspread_forms.specs.UnspreadForms.{UnspreadPackages}
+use Rattle.written_literal.specs.UnspreadForms.UnspreadForms.{UnspreadPackages}
 use Rattle.marked_runs.specs.SettledConstants.Programs.{IsReady, IsOverConstant, PutsOtherName, AllOverConstants}
 
 -- In a well-typed program the declaration around each use is scoped, as put_names asks.

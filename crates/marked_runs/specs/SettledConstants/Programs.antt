@@ -13,11 +13,11 @@ use Rattle.cycle_runs.specs.OrderCycles.NewNames.{FewNames}
 use Rattle.cycle_runs.specs.OrderCycles.Steps.{site_added}
 use Rattle.cycle_runs.specs.ImportCycles.ImportSteps.{packages_added}
 use Rattle.cycle_runs.specs.StepCycles.Steps.{UsesAtEnds}
-use Rattle.constant_cycles.specs.Laws.{NamesFor}
+use Rattle.cycle_laws.specs.ConstantCycles.Laws.{NamesFor}
 use Rattle.cycle_runs.specs.KeptImports.Files.{RemovesNoNames}
 use Rattle.put_names.specs.Uses.{UsesConstant}
 use Rattle.run_rules.specs.FormTrees.{as_expr}
-use Rattle.unspread_forms.specs.UnspreadForms.{UnspreadPackages}
+use Rattle.written_literal.specs.UnspreadForms.UnspreadForms.{UnspreadPackages}
 use Rattle.put_names.specs.WrittenNames.NamedPackages.{PackagesAreNamed, PathsAreOctets}
 
 -- Its files read from their texts, each under a path of its own; its packages are linked, with identifiers for their

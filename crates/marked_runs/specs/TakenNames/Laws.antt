@@ -22,7 +22,7 @@ use Rattle.order_runs.specs.RunSteps.RunPackages.{packages_of}
 use Rattle.order_runs.specs.ImportRuns.ImportingNext.{IsImporting}
 use Rattle.order_runs.specs.SameProgram.{SameProgram}
 use Rattle.marked_runs.specs.SettledConstants.Programs.{IsReady, IsOverConstant}
-use Rattle.unspread_forms.specs.UnspreadForms.{UnspreadPackages}
+use Rattle.written_literal.specs.UnspreadForms.UnspreadForms.{UnspreadPackages}
 use Rattle.marked_runs.specs.TakenNames.Taken.{TakesName, EachTakes, AllTake}
 
 -- A step that import_runs speaks of is such a step, whose use has its old place with the imports added.

@@ -19,8 +19,8 @@ use Rattle.run_rules.specs.Naming.{imports_added, unnamed_package}
 use Rattle.run_rules.specs.Steps.{At, same_here, change_nth, new_decls, added_decls, file_between, packages_between}
 use Rattle.run_rules.specs.Run.{Standing, Logged, Next, here_of, origin_of, is_commented}
 use Rattle.run_laws.proofs.FoundSpans.{Placed}
-use Rattle.form_splices.specs.Laws.{MakesForm}
-use Rattle.form_splices.proofs.FormsFound.{step-makes-form}
+use Rattle.import_splices.specs.FormSplices.Laws.{MakesForm}
+use Rattle.import_splices.proofs.FormSplices.FormsFound.{step-makes-form}
 use Rattle.constant_steps.specs.StepLaws.ConstantSteps.{ConstantStep}
 use Rattle.constant_steps.specs.StepLaws.ConstantSwaps.{ConstantSwaps}
 use Rattle.constant_steps.specs.StepLaws.SwapPrograms.{members_put}

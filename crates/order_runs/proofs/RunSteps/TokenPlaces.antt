@@ -10,8 +10,8 @@ use Rattle.go_read.specs.SpellsSpans.{start_of, span_to}
 use Rattle.splice_laws.specs.Replaced.{starts_rise}
 use Rattle.splice_laws.proofs.Grafts.{Within, here, later, both_within}
 use Rattle.splice_laws.proofs.Rises.{tokens_rise}
-use Rattle.import_places.proofs.TokensStand.{tokens_stand}
-use Rattle.import_places.proofs.ImportsStand.{Lie, all_lie, end_before, end_is}
+use Rattle.import_splices.proofs.ImportPlaces.TokensStand.{tokens_stand}
+use Rattle.import_splices.proofs.ImportPlaces.ImportsStand.{Lie, all_lie, end_before, end_is}
 
 -- the next token begins behind the start of one with this span, and where it ends or later
 abbrev pub Behind : Span → Lexemes → Type 0

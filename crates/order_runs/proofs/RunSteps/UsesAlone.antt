@@ -17,8 +17,8 @@ use Rattle.run_rules.specs.Steps.{At, same_here}
 use Rattle.run_rules.specs.Run.{Standing, Logged, Next, here_of}
 use Rattle.run_laws.specs.Reading.{FileReads, FileAt, ProgramReads}
 use Rattle.run_laws.proofs.FoundSpans.{Placed}
-use Rattle.form_splices.specs.Laws.{MakesForm}
-use Rattle.form_splices.proofs.FormsFound.{step-makes-form}
+use Rattle.import_splices.specs.FormSplices.Laws.{MakesForm}
+use Rattle.import_splices.proofs.FormSplices.FormsFound.{step-makes-form}
 use Rattle.cycle_runs.proofs.StepCycles.StepAlike.{found-placed}
 use Rattle.constant_steps.specs.PlainUse.{AllTheUse}
 use Rattle.constant_steps.proofs.NamesOutside.{equal_numbers}

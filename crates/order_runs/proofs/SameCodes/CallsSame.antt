@@ -13,15 +13,15 @@ use Rattle.go_translation.specs.Values.{nothing, one_value, path_of}
 use Rattle.go_translation.specs.Places.{temporaries, local_values}
 use Rattle.go_translation.specs.Operators.{no_type, type_or, own_type}
 use Rattle.go_translation.specs.Calls.{field_number, fields_or_none, selected_field, is_pointer_value, literal_term, is_map, inner_literal, is_slice, conversion_op, is_untyped_constant, is_nil_value, conversion_term, method_named, receiver_type, receiver_term, method_on, method_callee, operand_types, operand_type, each_as, builtin_wants, callee_wants, first_operand, named_by, element_zero, make_op, make_term, new_term, length_op, fail_type, builtin_term, with_receiver, call_term, defer_term, Callee, to_function, to_literal, to_type, to_builtin, to_nothing}
-use Rattle.same_worlds.specs.SameWorlds.{SameWorld}
+use Rattle.typed_in_place.specs.SameWorlds.SameWorlds.{SameWorld}
 use Rattle.std.specs.Prelude.{◌≡◌}
 use Rattle.go_types.specs.Entities.{World}
 use Rattle.order_runs.proofs.SameCodes.MentionsSame.{is_pointer-same}
 use Rattle.order_runs.proofs.SameCodes.ValuesSame.{kind_at-same, panic_type-same, zero_of-same}
-use Rattle.same_worlds.proofs.DefinedSame.{methods-same, under-same}
-use Rattle.same_worlds.proofs.OperandsSame.{settled-same}
-use Rattle.same_worlds.proofs.PrimarySame.{fields_in-same}
-use Rattle.same_worlds.proofs.RelationsSame.{is_whole_number-same}
+use Rattle.typed_in_place.proofs.SameWorlds.DefinedSame.{methods-same, under-same}
+use Rattle.typed_in_place.proofs.SameWorlds.OperandsSame.{settled-same}
+use Rattle.typed_in_place.proofs.SameWorlds.PrimarySame.{fields_in-same}
+use Rattle.typed_in_place.proofs.SameWorlds.RelationsSame.{is_whole_number-same}
 
 module _ (left right : World) (same : SameWorld left right) (pl pr : List (ℕ × ImportPath)) (alike : (p : ℕ) → path_of pl p ≡ path_of pr p) where
   pub selected_field-same : (x2 : ℕ) (x3 : List ℕ) (x4 : Option Typed) → selected_field left.defined x2 x3 x4 ≡ selected_field right.defined x2 x3 x4

@@ -15,7 +15,7 @@ use Rattle.go_translation.specs.Operators.{no_type, own_type, first_type, other_
 use Rattle.go_translation.specs.Calls.{field_number, constant_place}
 use Rattle.go_translation.specs.Statements.{key_name}
 use Rattle.go_translation.specs.Facts.{typed_at, typed_option, first_typed, value_types, target_types, range_type, key_place, element_place, element_places, binds_after, binds_first, spec_binds, define_binds, following}
-use Rattle.same_worlds.specs.SameWorlds.{SameWorld, at as within}
+use Rattle.typed_in_place.specs.SameWorlds.SameWorlds.{SameWorld, at as within}
 use Rattle.order_runs.specs.SameCodes.SamePaths.{hat}
 use Rattle.std.specs.Prelude.{◌≡◌}
 use Rattle.go_types.specs.Entities.{World}
@@ -24,10 +24,10 @@ use Rattle.go_translation.specs.Values.{path_of}
 use Rattle.order_runs.proofs.SameCodes.MentionsSame.{mentions_stmts-same, own_mentions-same}
 use Rattle.order_runs.proofs.SameCodes.OperatorsSame.{settled_option-same}
 use Rattle.order_runs.proofs.SameCodes.StatementsSame.{tag_type-same}
-use Rattle.same_worlds.proofs.DeclarationsSame.{new_by_define-same, new_variables-same}
-use Rattle.same_worlds.proofs.StatementsSame.{right_values-same}
-use Rattle.same_worlds.proofs.TypeNamesSame.{written_type-same}
-use Rattle.same_worlds.proofs.TypingSame.{all_parts-same, declares-same, declares_first-same, parts-same, places-same}
+use Rattle.typed_in_place.proofs.SameWorlds.DeclarationsSame.{new_by_define-same, new_variables-same}
+use Rattle.typed_in_place.proofs.SameWorlds.StatementsSame.{right_values-same}
+use Rattle.typed_in_place.proofs.SameWorlds.TypeNamesSame.{written_type-same}
+use Rattle.typed_in_place.proofs.SameWorlds.TypingSame.{all_parts-same, declares-same, declares_first-same, parts-same, places-same}
 
 module _ (left right : World) (same : SameWorld left right) (pl pr : List (ℕ × ImportPath)) (alike : (p : ℕ) → path_of pl p ≡ path_of pr p) where
   module _ {S : Type 0} where

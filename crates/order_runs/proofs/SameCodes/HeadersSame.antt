@@ -18,8 +18,8 @@ use Rattle.go_translation.specs.Places.{assignment}
 use Rattle.go_translation.specs.Calls.{function_named, method_named}
 use Rattle.go_translation.specs.Statements.{spec_types}
 use Rattle.go_translation.specs.Packages.{Package, binds_or_none, named_code, variable_place, file_here, function_names, function_binds, function_code, called_name, func_code, header_functions, variables_set, header_initial, headers_functions, headers_initial, package_code}
-use Rattle.same_worlds.specs.SameWorlds.{SameWorld}
-use Rattle.same_worlds.proofs.TypeNamesSame.{func_type-same, written_type-same}
+use Rattle.typed_in_place.specs.SameWorlds.SameWorlds.{SameWorld}
+use Rattle.typed_in_place.proofs.SameWorlds.TypeNamesSame.{func_type-same, written_type-same}
 use Rattle.order_runs.proofs.SameCodes.ReceiversSame.{around, receiver_type-same, receiver_of-same}
 use Rattle.order_runs.proofs.SameCodes.ValuesSame.{zeros_of-same}
 use Rattle.order_runs.proofs.SameCodes.MentionsSame.{mentions_stmts-same}

@@ -12,20 +12,20 @@ use Rattle.go_types.specs.Statements.{bound_names, no_values}
 use Rattle.go_types.specs.Typing.{binds_of}
 use Rattle.go_translation.specs.Values.{typed_of}
 use Rattle.go_translation.specs.Mentions.{mention, variable_mention, callee_way, literal_mentions, is_pointer, takes_address, selected_way, operand_way, unary_way, beyond_names, beyond, within_names, stored_again, mentions, mentions_all, mentions_option, mentions_left, mentions_elems, mentions_key, mentions_value, mentions_stmt, mentions_stmts, mentions_first, mentions_block, mentions_range, mentions_arms, mentions_cases, mentions_specs, group_mentions, own_mentions, Way, Read, Stored, Addressed, Deferred, Mention}
-use Rattle.same_worlds.specs.SameWorlds.{SameWorld, at as within}
+use Rattle.typed_in_place.specs.SameWorlds.SameWorlds.{SameWorld, at as within}
 use Rattle.std.specs.Prelude.{◌≡◌}
 use Rattle.go_types.specs.Entities.{World}
 use Rattle.go_kernel.specs.Kernel.{ImportPath}
 use Rattle.go_translation.specs.Values.{path_of}
 use Rattle.go_types.specs.Declarations.{binds_or}
 use Rattle.go_types.specs.Bodies.{body_binds}
-use Rattle.same_worlds.proofs.DeclarationsSame.{new_variables-same}
-use Rattle.same_worlds.proofs.DefinedSame.{methods-same, under-same}
-use Rattle.same_worlds.proofs.LiteralsSame.{inner_type-same, key_type-same, literal_type-same}
-use Rattle.same_worlds.proofs.PrimarySame.{field_type-same}
-use Rattle.same_worlds.proofs.StatementsSame.{right_values-same}
-use Rattle.same_worlds.proofs.TypeNamesSame.{func_type-same, type_meant-same, written_type-same}
-use Rattle.same_worlds.proofs.TypingSame.{all_parts-same, declares-same, declares_first-same, parts-same, places-same, range_declares-same}
+use Rattle.typed_in_place.proofs.SameWorlds.DeclarationsSame.{new_variables-same}
+use Rattle.typed_in_place.proofs.SameWorlds.DefinedSame.{methods-same, under-same}
+use Rattle.typed_in_place.proofs.SameWorlds.LiteralsSame.{inner_type-same, key_type-same, literal_type-same}
+use Rattle.typed_in_place.proofs.SameWorlds.PrimarySame.{field_type-same}
+use Rattle.typed_in_place.proofs.SameWorlds.StatementsSame.{right_values-same}
+use Rattle.typed_in_place.proofs.SameWorlds.TypeNamesSame.{func_type-same, type_meant-same, written_type-same}
+use Rattle.typed_in_place.proofs.SameWorlds.TypingSame.{all_parts-same, declares-same, declares_first-same, parts-same, places-same, range_declares-same}
 
 module _ (left right : World) (same : SameWorld left right) (pl pr : List (ℕ × ImportPath)) (alike : (p : ℕ) → path_of pl p ≡ path_of pr p) where
   pub is_pointer-same : (x2 : GoType) → is_pointer left.defined x2 ≡ is_pointer right.defined x2

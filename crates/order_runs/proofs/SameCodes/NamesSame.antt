@@ -12,13 +12,13 @@ use Rattle.go_translation.specs.Values as v
 use Rattle.go_translation.specs.Here.{Location, Here, location}
 use Rattle.go_translation.specs.Places.{nowhere}
 use Rattle.go_translation.specs.Names.{root_at, variable_root, entity_root, name_root, variable_term, iota_term, entity_term, name_term, element_of_map, index_op}
-use Rattle.same_worlds.specs.SameWorlds.{SameWorld}
+use Rattle.typed_in_place.specs.SameWorlds.SameWorlds.{SameWorld}
 use Rattle.order_runs.specs.SameCodes.SamePaths.{hat}
 use Rattle.std.specs.Prelude.{◌≡◌}
 use Rattle.go_types.specs.Entities.{World}
 use Rattle.order_runs.proofs.SameCodes.CallsSame.{is_slice-same}
 use Rattle.order_runs.proofs.SameCodes.ValuesSame.{as_value-same, constant_term-same}
-use Rattle.same_worlds.proofs.DefinedSame.{under-same}
+use Rattle.typed_in_place.proofs.SameWorlds.DefinedSame.{under-same}
 
 module _ (left right : World) (same : SameWorld left right) (pl pr : List (ℕ × ImportPath)) (alike : (p : ℕ) → path_of pl p ≡ path_of pr p) where
   pub variable_root-same : (x1 : Here) (x2 : List ℕ) → variable_root (hat left pl x1) x2 ≡ variable_root (hat right pr x1) x2

@@ -14,15 +14,15 @@ use Rattle.go_kernel.specs.Kernel as k
 use Rattle.go_kernel.specs.Kernel.{Kind, Truth, Check, Checked, Unchecked, Op, Arith, Divide, Quotient, Remainder, Shift, Negate, Complement, Compare, Concat, Term, Both, Prim, If}
 use Rattle.go_translation.specs.Values.{one_value}
 use Rattle.go_translation.specs.Operators.{no_type, type_or, own_type, settled_types, settled_option, constant_or, folded, is_known_divisor, divisor_check, is_unsigned, is_sure_count, count_check, sum_op, is_text, operator_term, common_at, compared_type, is_compared, is_shift, left_type, right_type, unary_term}
-use Rattle.same_worlds.specs.SameWorlds.{SameWorld}
+use Rattle.typed_in_place.specs.SameWorlds.SameWorlds.{SameWorld}
 use Rattle.std.specs.Prelude.{◌≡◌, ℕ}
 use Rattle.go_types.specs.Entities.{World}
 use Rattle.go_kernel.specs.Kernel.{ImportPath}
 use Rattle.go_translation.specs.Values.{path_of}
 use Rattle.order_runs.proofs.SameCodes.ValuesSame.{as_value-same, kind_at-same}
-use Rattle.same_worlds.proofs.DefinedSame.{under-same}
-use Rattle.same_worlds.proofs.OperandsSame.{default_type-same, kind_of-same, settled-same}
-use Rattle.same_worlds.proofs.OperatorsSame.{common_type-same, compared_at-same}
+use Rattle.typed_in_place.proofs.SameWorlds.DefinedSame.{under-same}
+use Rattle.typed_in_place.proofs.SameWorlds.OperandsSame.{default_type-same, kind_of-same, settled-same}
+use Rattle.typed_in_place.proofs.SameWorlds.OperatorsSame.{common_type-same, compared_at-same}
 
 module _ (left right : World) (same : SameWorld left right) (pl pr : List (ℕ × ImportPath)) (alike : (p : ℕ) → path_of pl p ≡ path_of pr p) where
   pub settled_types-same : (x2 : List Typed) → settled_types left.defined x2 ≡ settled_types right.defined x2

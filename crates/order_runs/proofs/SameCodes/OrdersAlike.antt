@@ -8,10 +8,10 @@ use Rattle.go_kernel.specs.Kernel.{ImportPath, FuncName, Func, same_func, declar
 use Rattle.go_translation.specs.Values.{path_of}
 use Rattle.go_translation.specs.Packages.{Package, PackageCode, sources, paths_in, package_code, codes_of, inserted, in_path_order, one_by_one, initial_of, functions_of, program_of, main_of, has_number, has_path, are_distinct, shown_by}
 use Rattle.typed_in_place.proofs.Rising.{and_first, and_second}
-use Rattle.same_worlds.specs.SameWorlds as worlds
-use Rattle.same_worlds.specs.SameWorlds.{SameWorld, Reordered}
-use Rattle.same_worlds.proofs.AtHome.{nat_same}
-use Rattle.same_worlds.proofs.OrdersSame.{collected-same}
+use Rattle.typed_in_place.specs.SameWorlds.SameWorlds as worlds
+use Rattle.typed_in_place.specs.SameWorlds.SameWorlds.{SameWorld, Reordered}
+use Rattle.typed_in_place.proofs.SameWorlds.AtHome.{nat_same}
+use Rattle.typed_in_place.proofs.SameWorlds.OrdersSame.{collected-same}
 use Rattle.order_runs.specs.SameCodes.SamePaths.{SamePaths}
 use Rattle.order_runs.specs.SameCodes.Orders.{PackagesReordered, no_packages, same_first, swapped, one_after_another}
 use Rattle.order_runs.proofs.SameCodes.HeadersSame.{package_code-same}

@@ -17,14 +17,14 @@ use Rattle.go_types.specs.Collect.{declared_types, declared_by, aliased_world, t
 use Rattle.go_types.specs.WellTyped.{refused_unless, means_function, receiver_of, is_method, header_ok, function_ok, body_ok, receiver_names, function_uses, header_uses, is_used_in, first_import, first_header, first_body, lacks_main, well_typed}
 use Rattle.typed_in_place.specs.ImportRule.{files_import, files_declare, package_declares, package_imports, declarations_ok}
 use Rattle.typed_in_place.proofs.ImportRule.{well_typed_apart}
-use Rattle.same_worlds.specs.SameWorlds.{SameWorld, Reordered, no_packages, same_first, swapped, one_after_another}
-use Rattle.same_worlds.proofs.DefinedSame.{under-same}
-use Rattle.same_worlds.proofs.HeadersSame.{SameDeclared, declared_types-same, declared_by-same}
-use Rattle.same_worlds.proofs.TypeNamesSame.{func_type-same}
-use Rattle.same_worlds.proofs.TypingSame.{stmts-same, used_all-same, used_stmts-same}
-use Rattle.same_worlds.proofs.AtHome.{nat_same, at_home, types_at_home}
-use Rattle.same_worlds.proofs.HeadersMoved.{HeadersMoved, home-stays, types-count-stays, program-moved}
-use Rattle.same_worlds.proofs.OrdersSame.{aliased-same, collected-same}
+use Rattle.typed_in_place.specs.SameWorlds.SameWorlds.{SameWorld, Reordered, no_packages, same_first, swapped, one_after_another}
+use Rattle.typed_in_place.proofs.SameWorlds.DefinedSame.{under-same}
+use Rattle.typed_in_place.proofs.SameWorlds.HeadersSame.{SameDeclared, declared_types-same, declared_by-same}
+use Rattle.typed_in_place.proofs.SameWorlds.TypeNamesSame.{func_type-same}
+use Rattle.typed_in_place.proofs.SameWorlds.TypingSame.{stmts-same, used_all-same, used_stmts-same}
+use Rattle.typed_in_place.proofs.SameWorlds.AtHome.{nat_same, at_home, types_at_home}
+use Rattle.typed_in_place.proofs.SameWorlds.HeadersMoved.{HeadersMoved, home-stays, types-count-stays, program-moved}
+use Rattle.typed_in_place.proofs.SameWorlds.OrdersSame.{aliased-same, collected-same}
 use Rattle.order_runs.proofs.SameCodes.ReceiversSame.{around, receiver_type-same, receiver_of-same}
 
 -- the same methods of a package have been named

@@ -5,7 +5,7 @@ use Rattle.std.proofs.lemmas.Bool.Decides.{nat_tests}
 use Rattle.std.proofs.lemmas.Slice.Eq.{bytes_eq-Decides}
 use Rattle.go_kernel.specs.Kernel.{Text, same_text}
 use Rattle.go_translation.specs.Packages.{PackageCode, comes_first, inserted}
-use Rattle.same_worlds.proofs.AtHome.{nat_same}
+use Rattle.typed_in_place.proofs.SameWorlds.AtHome.{nat_same}
 
 eq-back : (x y : ℕ) → nat_eq x y ≡ true → nat_eq y x ≡ true
 eq-back x y e = grind (arith, nat_tests, e)

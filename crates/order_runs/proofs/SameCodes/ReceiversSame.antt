@@ -9,8 +9,8 @@ use Rattle.go_types.specs.Entities.{Entity, universe, World, Env, Binds, meaning
 use Rattle.go_types.specs.Programs.{Headed}
 use Rattle.go_types.specs.MethodDeclarations.{receiver_type, receiver_binds}
 use Rattle.go_types.specs.WellTyped.{receiver_of}
-use Rattle.same_worlds.specs.SameWorlds.{SameWorld}
-use Rattle.same_worlds.proofs.DefinedSame.{under-same}
+use Rattle.typed_in_place.specs.SameWorlds.SameWorlds.{SameWorld}
+use Rattle.typed_in_place.proofs.SameWorlds.DefinedSame.{under-same}
 
 -- the top of a file, with this package block
 abbrev pub around : {S : Type 0} → World → Headed S → Option ℕ → Environment Entity → Env

@@ -15,7 +15,7 @@ use Rattle.go_translation.specs.Places.{store_at}
 use Rattle.go_translation.specs.Operators.{no_type, type_or, first_type, other_types}
 use Rattle.go_translation.specs.Calls.{field_type_at}
 use Rattle.go_translation.specs.Statements.{range_form, is_new, new_names, old_stored, entity_type, defined_types, tag_type, update_type, element_type, over_slice, over_map, over_numbers}
-use Rattle.same_worlds.specs.SameWorlds.{SameWorld, at as within}
+use Rattle.typed_in_place.specs.SameWorlds.SameWorlds.{SameWorld, at as within}
 use Rattle.order_runs.specs.SameCodes.SamePaths.{hat}
 use Rattle.std.specs.Prelude.{◌≡◌}
 use Rattle.go_types.specs.Entities.{World}
@@ -25,8 +25,8 @@ use Rattle.order_runs.proofs.SameCodes.CallsSame.{is_slice-same}
 use Rattle.order_runs.proofs.SameCodes.NamesSame.{element_of_map-same, variable_root-same}
 use Rattle.order_runs.proofs.SameCodes.OperatorsSame.{right_type-same}
 use Rattle.order_runs.proofs.SameCodes.ValuesSame.{kind_at-same}
-use Rattle.same_worlds.proofs.LiteralsSame.{inner_type-same}
-use Rattle.same_worlds.proofs.OperandsSame.{settled-same}
+use Rattle.typed_in_place.proofs.SameWorlds.LiteralsSame.{inner_type-same}
+use Rattle.typed_in_place.proofs.SameWorlds.OperandsSame.{settled-same}
 
 module _ (left right : World) (same : SameWorld left right) (pl pr : List (ℕ × ImportPath)) (alike : (p : ℕ) → path_of pl p ≡ path_of pr p) where
   pub range_form-same : (x2 : GoType) (x3 : Option Typed) → range_form left.defined x2 x3 ≡ range_form right.defined x2 x3

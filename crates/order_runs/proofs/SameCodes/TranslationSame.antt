@@ -27,7 +27,7 @@ use Rattle.go_translation.specs.Names.{entity_root, gives_two, first_value}
 use Rattle.go_translation.specs.Statements.{return_term, loop_term, renewed, RangeForm, turn_values, range_term, variable_names, spec_types, first_place, truth_type, int_type}
 use Rattle.go_translation.specs.Facts.{label_option, has_bound, count_exprs, literal_names}
 use Rattle.go_translation.specs.Translation.{expr_term, args_term, values_term, try_term, option_term, elems_term, key_term, element_term, place_term, place_terms, address, callee, stmts_term, stmt_term, first_term, test_term, tag_term, block_term, arms_term, turn_term, cases_term, fits_term, default_term, deferred_term, specs_term}
-use Rattle.same_worlds.specs.SameWorlds.{SameWorld, at as within}
+use Rattle.typed_in_place.specs.SameWorlds.SameWorlds.{SameWorld, at as within}
 use Rattle.order_runs.specs.SameCodes.SamePaths.{hat}
 use Rattle.std.specs.Prelude.{◌≡◌}
 use Rattle.go_types.specs.Entities.{World}
@@ -41,12 +41,12 @@ use Rattle.order_runs.proofs.SameCodes.NamesSame.{element_of_map-same, entity_te
 use Rattle.order_runs.proofs.SameCodes.OperatorsSame.{constant_or-same, folded-same, left_type-same, operator_term-same, right_type-same, unary_term-same}
 use Rattle.order_runs.proofs.SameCodes.StatementsSame.{defined_types-same, element_type-same, new_names-same, old_stored-same, range_form-same, tag_type-same, update_type-same}
 use Rattle.order_runs.proofs.SameCodes.ValuesSame.{as_value-same, zero_of-same, zeros_of-same}
-use Rattle.same_worlds.proofs.DefinedSame.{exported-same, under-same}
-use Rattle.same_worlds.proofs.LiteralsSame.{key_type-same, literal_type-same}
-use Rattle.same_worlds.proofs.OperandsSame.{named_operand-same}
-use Rattle.same_worlds.proofs.StatementsSame.{package_before-same}
-use Rattle.same_worlds.proofs.TypeNamesSame.{func_type-same, type_meant-same, written_type-same}
-use Rattle.same_worlds.proofs.TypingSame.{all_parts-same, parts-same, place-same, range_declares-same}
+use Rattle.typed_in_place.proofs.SameWorlds.DefinedSame.{exported-same, under-same}
+use Rattle.typed_in_place.proofs.SameWorlds.LiteralsSame.{key_type-same, literal_type-same}
+use Rattle.typed_in_place.proofs.SameWorlds.OperandsSame.{named_operand-same}
+use Rattle.typed_in_place.proofs.SameWorlds.StatementsSame.{package_before-same}
+use Rattle.typed_in_place.proofs.SameWorlds.TypeNamesSame.{func_type-same, type_meant-same, written_type-same}
+use Rattle.typed_in_place.proofs.SameWorlds.TypingSame.{all_parts-same, parts-same, place-same, range_declares-same}
 
 module _ (left right : World) (same : SameWorld left right) (pl pr : List (ℕ × ImportPath)) (alike : (p : ℕ) → path_of pl p ≡ path_of pr p) where
   pub function_of-same : (x1 : Here) (x2 : BodyNames) (x3 : List Mention) (x4 : Term) → function_of (hat left pl x1) x2 x3 x4 ≡ function_of (hat right pr x1) x2 x3 x4

@@ -12,7 +12,7 @@ use Rattle.go_translation.specs.Mentions.{mentions_stmts}
 use Rattle.go_translation.specs.Here.{Here}
 use Rattle.go_translation.specs.Translation.{expr_term, stmts_term}
 use Rattle.go_translation.specs.Packages.{Package, package_code, codes_of, program_of, initial_of, are_distinct, shown_by}
-use Rattle.same_worlds.specs.SameWorlds.{at, SameWorld, Reordered}
+use Rattle.typed_in_place.specs.SameWorlds.SameWorlds.{at, SameWorld, Reordered}
 use Rattle.order_runs.specs.SameCodes.SamePaths.{hat, SamePaths}
 use Rattle.order_runs.specs.SameCodes.Orders.{PackagesReordered}
 

@@ -5,7 +5,7 @@ use Rattle.go_types.specs.Entities.{World}
 use Rattle.go_kernel.specs.Kernel.{ImportPath}
 use Rattle.go_translation.specs.Values.{path_of}
 use Rattle.go_translation.specs.Here.{Here}
-use Rattle.same_worlds.specs.SameWorlds.{at}
+use Rattle.typed_in_place.specs.SameWorlds.SameWorlds.{at}
 
 -- the place in another world, with these import paths
 abbrev pub hat : World → List (ℕ × ImportPath) → Here → Here

@@ -6,8 +6,8 @@ use Rattle.go_tree.specs.Tree.{NameAt, TypeExpr, named, Exprs, no_exprs, expr_an
 use Rattle.go_tree.specs.File.{TypeSpec, Decl, values, types, func}
 use Rattle.layout_laws.specs.Formed.{FormedType}
 use Rattle.go_types.specs.Answers.{given}
-use Rattle.form_splices.specs.Laws.{MakesForm}
-use Rattle.form_splices.proofs.FormsFound.{step-makes-form}
+use Rattle.import_splices.specs.FormSplices.Laws.{MakesForm}
+use Rattle.import_splices.proofs.FormSplices.FormsFound.{step-makes-form}
 use Rattle.run_rules.specs.FormTrees.{FormKind, TypeForm, Form, as_type, form_identifiers}
 use Rattle.run_rules.specs.Naming.{Names, unnamed, new_first, unnamed_in, Named, names_by, named_packages, qualified, qualified_or}
 use Rattle.run_rules.specs.Obstacles.{Obstacle}

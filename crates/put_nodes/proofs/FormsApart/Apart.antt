@@ -21,7 +21,7 @@ use Rattle.run_rules.specs.Texts.{run_together, needs_blank, spelling_before}
 use Rattle.splice_laws.specs.Joints.{is_open}
 use Rattle.splice_laws.specs.Splice.{are_two, is_inserted, stays_apart, are_apart}
 use Rattle.splice_laws.proofs.Ends.{or_cases}
-use Rattle.supported_words.proofs.Words.{words_supported}
+use Rattle.import_splices.proofs.SupportedWords.Words.{words_supported}
 use Rattle.put_nodes.proofs.NamesApart.NamesApart.{first_letter, scalars_parts, next_two, dot_letter, no_letter, token_elsewhere, here_apart, with_line, at_the_end, behind, has_bytes, unmarked_scalars}
 use Rattle.put_nodes.specs.FormsApart.Begins.{first_signs, may_begin}
 use Rattle.put_nodes.proofs.FormsApart.Beginnings.{sign_no_dot}

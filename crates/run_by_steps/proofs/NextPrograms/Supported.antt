@@ -11,8 +11,8 @@ use Rattle.text_edits.specs.Applied.{Ascend, applied, replaced_from}
 use Rattle.text_edits.proofs.Turns.{replaced_later}
 use Rattle.import_rules.specs.Settled.{settled}
 use Rattle.import_rules.proofs.SettledOrder.{settled_ascend}
-use Rattle.supported_words.proofs.Words.{texts_supported}
-use Rattle.supported_words.proofs.Constraints.{constraints_stay}
+use Rattle.import_splices.proofs.SupportedWords.Words.{texts_supported}
+use Rattle.import_splices.proofs.SupportedWords.Constraints.{constraints_stay}
 use Rattle.run_rules.specs.Sites.{MarkRef}
 use Rattle.run_rules.specs.Texts.{form_edit}
 use Rattle.run_rules.specs.Respanned.{decl_with, file_with}

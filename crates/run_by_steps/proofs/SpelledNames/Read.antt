@@ -13,7 +13,7 @@ use Rattle.go_read.specs.SpellsTypes.{Lexemes}
 use Rattle.go_read.specs.SpellsSpans.{span_to}
 use Rattle.import_splices.specs.AddedFile.{IsName}
 use Rattle.run_rules.specs.Naming.{unnamed_package}
-use Rattle.supported_words.proofs.Spelled.{Passed, here, later}
+use Rattle.import_splices.proofs.SupportedWords.Spelled.{Passed, here, later}
 use Rattle.run_by_steps.proofs.WrittenImports.ReadNames.{AllNameWell, text_names}
 use Rattle.run_by_steps.specs.SpelledNames.Laws.{AreIdentifiers, ReadNamesAreIdentifiers, IdentifiersAreNamed}
 use Rattle.run_by_steps.proofs.SpelledNames.Names.{Each, nil, cons, front_names}

@@ -16,7 +16,7 @@ use Rattle.run_rules.specs.Steps.{At}
 use Rattle.run_rules.specs.Run.{here_of}
 use Rattle.form_imports.specs.ImportLaws.Steps.{names_standing}
 use Rattle.file_tables.specs.Numbers.{number_in}
-use Rattle.marked_uses.proofs.BlocksStay.{block_stays}
+use Rattle.use_search.proofs.UsesOfMarks.BlocksStay.{block_stays}
 
 module _ (ps : List (Package At)) where
   abbrev qs : List (Package Span)

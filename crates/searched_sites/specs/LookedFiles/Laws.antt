@@ -17,7 +17,7 @@ use Rattle.form_imports.specs.ImportLaws.Steps.{names_standing}
 use Rattle.member_uses.specs.Uses.{Names}
 use Rattle.member_uses.specs.Laws.{Knows}
 use Rattle.file_names.specs.Members.{IsBlockOf}
-use Rattle.marked_uses.specs.Laws.{EachSound}
+use Rattle.use_search.specs.UsesOfMarks.Laws.{EachSound}
 use Rattle.package_search.specs.declared.looks.FileLook.{FileLook}
 use Rattle.package_search.specs.declared.looks.ProgramSources.{ProgramSources}
 use Rattle.package_search.specs.Looks.{IsLook}

@@ -21,7 +21,7 @@ use Rattle.possible_uses.specs.Candidates.{Candidate, plain_part, key_part}
 use Rattle.possible_uses.specs.Among.{may_be_use, names_in, Follows, at_the_end, past_a_use, past_no_use, past_a_key, past_a_field, past_an_old_name, past_a_type, past_a_statement}
 use Rattle.place_meanings.specs.Agreement.{AgreesAt, target_of}
 use Rattle.place_meanings.specs.Parts.{AtTypes, AtParts}
-use Rattle.unused_imports.specs.Uses.{one_if, is_import, import_meant, import_at, uses_among, named_import}
+use Rattle.repeated_parts.specs.ImportsUnused.Uses.{one_if, is_import, import_meant, import_at, uses_among, named_import}
 use Rattle.standing_uses.proofs.ImportUses.Totals.{total, before_dot, types_of, uses_of, none_last, past_one, past_none, past_nothing}
 
 -- ---- what stands in a package block is no import

@@ -19,7 +19,7 @@ use Rattle.constant_forms.specs.Views.{name_expr}
 use Rattle.run_rules.specs.FormTrees.{a_name}
 use Rattle.constant_forms.specs.declared.packages.NamedPackage.{NamedPackage}
 use Rattle.constant_forms.specs.declared.reduced.ConstantForm.{ConstantForm}
-use Rattle.unused_imports.specs.Uses.{one_if, is_import, import_at, form_import, named_import}
+use Rattle.repeated_parts.specs.ImportsUnused.Uses.{one_if, is_import, import_at, form_import, named_import}
 use Rattle.standing_uses.specs.ImportUses.Parts.{EachSeen, IsTyped, IsKeyed, IsName, IsElsewhere, StandsOnce, here, later as further}
 use Rattle.standing_uses.specs.ImportUses.Parts as parts_are
 use Rattle.standing_uses.proofs.ImportUses.Totals.{total, uses_of, zero_sum, none_first, none_last, put_last, put_later}

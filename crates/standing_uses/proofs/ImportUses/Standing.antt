@@ -9,7 +9,7 @@ use Rattle.run_rules.specs.Sites.{Part, an_expr, a_type_part}
 use Rattle.possible_uses.specs.Candidates.{Candidate}
 use Rattle.possible_uses.specs.Parts.{parts_of}
 use Rattle.member_uses.proofs.Stays.{candidate_with, after_decl-stays}
-use Rattle.unused_imports.specs.Uses.{one_if, is_import, named_import, uses_among, all_parts}
+use Rattle.repeated_parts.specs.ImportsUnused.Uses.{one_if, is_import, named_import, uses_among, all_parts}
 use Rattle.standing_uses.proofs.ImportUses.Sums.{sum}
 
 module _ {S : Type 0} (to : S → Span) (t : Table) (k : ℕ) where

@@ -33,7 +33,7 @@ use Rattle.place_meanings.specs.Parts.{AllScoped, AtParts}
 use Rattle.place_meanings.proofs.PlacesMean.{places_mean}
 use Rattle.constant_forms.specs.declared.reduced.ConstantForm.{ConstantForm}
 use Rattle.constant_forms.specs.Views.{name_expr}
-use Rattle.unused_imports.specs.Uses.{one_if, is_import, form_import, named_import, uses_among, all_parts}
+use Rattle.repeated_parts.specs.ImportsUnused.Uses.{one_if, is_import, form_import, named_import, uses_among, all_parts}
 use Rattle.standing_uses.specs.ImportUses.Parts.{EachSeen, IsTyped, IsKeyed, IsElsewhere, IsNoImport, IsPlain, DottedImports, at_the_end, before_a_dot, past_another}
 use Rattle.standing_uses.specs.ImportUses.Steps.{EachDecl, IsStanding, IsStep, StepsSwapUses}
 use Rattle.standing_uses.proofs.ImportUses.Totals.{total, before_dot, uses_of, any_types}

@@ -5,7 +5,7 @@ use Rattle.std.specs.List.{list_any}
 use Rattle.go_tree.specs.Tree.{TypeExpr, named, pointer, slice_type, map_type, struct_type, ident, selector}
 use Rattle.run_rules.specs.Surroundings.{Place, Seen, seen, seen_type, seen_stmt}
 use Rattle.run_rules.specs.Sites.{named_in}
-use Rattle.unused_imports.specs.Uses.{one_if}
+use Rattle.repeated_parts.specs.ImportsUnused.Uses.{one_if}
 
 module _ {S : Type 0} where
   -- the total of what is counted of each

@@ -20,7 +20,7 @@ use Rattle.run_rules.specs.Places.{type_seen, written_seen, params_seen, sig_see
 use Rattle.run_rules.specs.Sites.{named_in}
 use Rattle.run_rules.specs.Rewriting.{Changes, new_name, new_names, new_written, new_params, new_sig, new_expr, new_all, new_option, new_elems, new_key, new_value, new_stmt, new_stmts, new_first, new_block, new_left, new_arms, new_cases, new_constants, new_variables}
 use Rattle.run_rules.specs.Respanned.{expr_with, value_with}
-use Rattle.unused_imports.specs.Uses.{one_if}
+use Rattle.repeated_parts.specs.ImportsUnused.Uses.{one_if}
 use Rattle.standing_uses.specs.ImportUses.Parts.{EachSeen, IsTyped, IsKeyed, IsName, behind as behind_name}
 use Rattle.possible_uses.specs.Among.{ElemsKeyed, KeyKeyed, ValueKeyed}
 use Rattle.standing_uses.specs.ImportUses.Parts as parts_are

@@ -12,10 +12,10 @@ use Rattle.go_read.specs.SpellsFiles.{SpellsTops, SpellsFront, no_tops_rule, mor
 use Rattle.run_rules.specs.Sites.{an_expr}
 use Rattle.splice_laws.proofs.Grafts.{Within, here, later}
 use Rattle.splice_laws.proofs.Pasts.{imports_past, top_past}
-use Rattle.import_places.proofs.ImportsStand.{end_is}
+use Rattle.import_splices.proofs.ImportPlaces.ImportsStand.{end_is}
 use Rattle.possible_uses.specs.Candidates.{Candidate}
 use Rattle.possible_uses.specs.Parts.{parts_of}
-use Rattle.unused_imports.specs.Uses.{all_parts}
+use Rattle.repeated_parts.specs.ImportsUnused.Uses.{all_parts}
 use Rattle.run_laws.proofs.NodeSpans.{AllDecl}
 use Rattle.run_laws.proofs.SpelledSpans.{top_all}
 use Rattle.order_runs.proofs.RunSteps.TokenPlaces.{Rises, Full, full, rises-within, starts-up, ends-by, within-more, le-le, itself, full-within}

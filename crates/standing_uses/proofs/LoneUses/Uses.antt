@@ -18,7 +18,7 @@ use Rattle.run_rules.specs.Sites.{MarkRef, an_expr, a_constant, Site, inlinable,
 use Rattle.run_rules.specs.Steps.{At, same_here, Found}
 use Rattle.run_rules.specs.Surroundings.{Use, Place, Seen, seen, is_local, is_old}
 use Rattle.run_rules.specs.Texts.{FileText}
-use Rattle.form_splices.proofs.FormsFound.{IsForm, first-form}
+use Rattle.import_splices.proofs.FormSplices.FormsFound.{IsForm, first-form}
 use Rattle.standing_uses.specs.ImportUses.Parts as parts
 use Rattle.standing_uses.specs.ImportUses.Parts.{IsName}
 use Rattle.standing_uses.specs.ImportUses.Steps.{EachDecl, IsStanding}
@@ -37,7 +37,7 @@ use Rattle.order_runs.proofs.RunSteps.SpelledPlaces.{front_in}
 use Rattle.order_runs.proofs.RunSteps.TokenPlaces.{Rises, tokens-rise}
 use Rattle.standing_uses.proofs.Named.{constant_named}
 use Rattle.standing_uses.proofs.Once.{nth_in}
-use Rattle.unused_imports.specs.Uses.{all_parts}
+use Rattle.repeated_parts.specs.ImportsUnused.Uses.{all_parts}
 use Rattle.standing_uses.specs.LoneUses.Alone.{span_named, StandsAlone}
 use Rattle.standing_uses.specs.LoneUses.Laws.{ConstantUsesStandAlone}
 use Rattle.standing_uses.proofs.LoneUses.Files.{Has, has_here, has_later, front_follows, alone_in_one, alone_in_all}

@@ -2,7 +2,7 @@
 use Rattle.std.proofs.Common.{◌≡◌, ◌∙◌, refl, sym, subst, List, Some}
 use Rattle.std.proofs.lemmas.Option.{same_Some}
 use Rattle.go_tree.specs.declared.spans.Span.{Span}
-use Rattle.import_places.proofs.CommentsStand.{comments_ascend}
+use Rattle.import_splices.proofs.ImportPlaces.CommentsStand.{comments_ascend}
 use Rattle.run_rules.specs.Inlining.{ReadsAs}
 use Rattle.run_rules.specs.Laws.{LiesBehindImports, file_found}
 use Rattle.run_rules.specs.Marks.{text_at}

@@ -23,8 +23,8 @@ use Rattle.place_meanings.specs.Parts.{AllScoped}
 use Rattle.place_meanings.specs.Laws.{AreNamesOf}
 use Rattle.constant_forms.specs.declared.reduced.ConstantForm.{ConstantForm}
 use Rattle.constant_forms.specs.Views.{name_expr, form_of}
-use Rattle.unused_imports.specs.Uses.{all_parts}
-use Rattle.unused_imports.specs.Told.{IsTold}
+use Rattle.repeated_parts.specs.ImportsUnused.Uses.{all_parts}
+use Rattle.repeated_parts.specs.ImportsUnused.Told.{IsTold}
 use Rattle.standing_uses.specs.ImportUses.Parts.{IsName, IsNoImport, DottedImports, StandsOnce}
 
 -- it holds for each declaration

@@ -10,7 +10,7 @@ use Rattle.run_rules.specs.Run.{Standing, here_of, step_in}
 use Rattle.run_rules.specs.Sites.{MarkRef, an_expr, a_constant, inlinable, part_span}
 use Rattle.run_rules.specs.Steps.{At, Found}
 use Rattle.run_rules.specs.Texts.{FileText}
-use Rattle.unused_imports.specs.Uses.{all_parts}
+use Rattle.repeated_parts.specs.ImportsUnused.Uses.{all_parts}
 use Rattle.standing_uses.specs.LoneUses.Alone.{StandsAlone}
 
 -- Of the parts of a file that reads, just the first use of a constant that becomes a form is a name at its span, where

@@ -22,8 +22,8 @@ use Rattle.constant_forms.specs.declared.reduced.ReducedConstant.TheVariants.{Be
 use Rattle.constant_forms.specs.Uses.{IsUse, IsReducedTo}
 use Rattle.constant_forms.specs.Views.{named_of, form_of}
 use Rattle.standing_uses.specs.Laws.{AreTyped}
-use Rattle.unused_imports.specs.Told.{IsTold}
-use Rattle.unused_imports.specs.Uses.{all_parts}
+use Rattle.repeated_parts.specs.ImportsUnused.Told.{IsTold}
+use Rattle.repeated_parts.specs.ImportsUnused.Uses.{all_parts}
 
 -- The first use of a constant that becomes a form, of which the code is told (constant_forms' `IsUse`) and which
 -- becomes this form, is told to `unused_imports`, by the file of the use as it stands, if that is typed.

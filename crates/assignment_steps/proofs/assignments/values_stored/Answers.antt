@@ -4,7 +4,7 @@ use Rattle.go_types.specs.Statements.{stores_all}
 use Rattle.type_relations.specs.Environment.{defined_types}
 use Rattle.operand_rules.specs.Values.{typed_of}
 use Rattle.access_rules.specs.Functions.{AreValues}
-use Rattle.right_sides.specs.Values.{AreValuesIfOk, GivesValuesAlike}
+use Rattle.control_steps.specs.RightSides.Values.{AreValuesIfOk, GivesValuesAlike}
 use Rattle.assignment_steps.specs.Targets.{AreTargets, targets_of}
 use Rattle.assignment_steps.proofs.TargetLemmas.{stored_met, stored_refused}
 use Rattle.assignment_steps.proofs.assignments.values_stored.Goals as goal

@@ -1,6 +1,6 @@
 use Rattle.std.proofs.Common.{[], subst, sym}
 use Rattle.typed_names.specs.Meanings.{world_at}
-use Rattle.method_names.specs.Attached.{AreAttached}
+use Rattle.method_types.specs.MethodNames.Attached.{AreAttached}
 use Rattle.collected.proofs.MethodLemmas.{methods_added, ready_with_methods}
 use Rattle.collected.proofs.methods.add_methods.Goals as goal
 

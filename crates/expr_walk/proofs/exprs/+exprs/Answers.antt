@@ -26,21 +26,21 @@ use Rattle.operand_answers.specs.Lists.{GivesAll}
 use Rattle.operand_answers.specs.Located.{GivesAt}
 use Rattle.operand_answers.proofs.AnswerLemmas.{type_refused_at}
 use Rattle.operand_answers.proofs.KeptLemmas.{stands_kept, there_kept}
-use Rattle.access_steps.specs.Bounds.{GivesBound}
+use Rattle.operand_answers.specs.AccessSteps.Bounds.{GivesBound}
 use Rattle.call_steps.proofs.CallSteps.{arguments_there}
 use Rattle.name_steps.specs.Spelled.{IsSpelled}
 use Rattle.literal_rules.specs.declared.elements.Element.{Element}
 use Rattle.composite_steps.specs.declared.elements.ElementList.{ElementList}
 use Rattle.composite_steps.specs.Elements.{GivesElement, GivesElements}
 use Rattle.composite_steps.proofs.ElementLemmas.{elements_there, operand_kept}
-use Rattle.walk_arms.specs.Answers.{GivesExpr}
-use Rattle.walk_arms.specs.Elements.{AreElementsWalked}
-use Rattle.walk_arms.specs.Lists.{AreWalked}
+use Rattle.expr_walk.specs.WalkArms.Answers.{GivesExpr}
+use Rattle.expr_walk.specs.WalkArms.Elements.{AreElementsWalked}
+use Rattle.expr_walk.specs.WalkArms.Lists.{AreWalked}
 use Rattle.expr_walk.specs.Walked.{AreAllWalked, AreWalkedElems, IsWalked}
-use Rattle.walk_arms.proofs.ElementArms.{braced_arm, composite_arm, element_arm, elements_end, elements_fails, elements_more, elements_start, key_else, key_then, one, type_kept}
-use Rattle.walk_arms.proofs.ExprArms.{at, binary_arm, bound_arm, call_arm, expr_there, index_arm, literal_arm, no_span, package_arm, selector_arm, slice_arm, star_arm, unary_arm}
+use Rattle.expr_walk.proofs.WalkArms.ElementArms.{braced_arm, composite_arm, element_arm, elements_end, elements_fails, elements_more, elements_start, key_else, key_then, one, type_kept}
+use Rattle.expr_walk.proofs.WalkArms.ExprArms.{at, binary_arm, bound_arm, call_arm, expr_there, index_arm, literal_arm, no_span, package_arm, selector_arm, slice_arm, star_arm, unary_arm}
 use Rattle.expr_walk.proofs.Parts.{elem_smaller, elem_walked, expr_smaller, expr_walked}
-use Rattle.walk_arms.proofs.ListArms.{walk_ends, walk_fails, walk_more, walk_pushed, walk_start}
+use Rattle.expr_walk.proofs.WalkArms.ListArms.{walk_ends, walk_fails, walk_more, walk_pushed, walk_start}
 use Rattle.expr_walk.proofs.exprs.+exprs.Goals as goal
 
 pub expr-returns-in-Ident-clause-stands : goal.expr-returns-in-Ident-clause-stands

@@ -3,8 +3,8 @@ use Rattle.go_tree.specs.Lists.{elems_from, exprs_from}
 use Rattle.go_tree.specs.View.{boxed_expr_option_of, elem_of, elems_of, expr_of, exprs_of, held_value_option_of, value_of}
 use Rattle.go_types.specs.Defined.{under}
 use Rattle.type_relations.specs.Environment.{defined_types, env_type}
-use Rattle.walk_arms.specs.Elements.{AreElementsWalked}
-use Rattle.walk_arms.specs.Lists.{AreWalked}
+use Rattle.expr_walk.specs.WalkArms.Elements.{AreElementsWalked}
+use Rattle.expr_walk.specs.WalkArms.Lists.{AreWalked}
 use Rattle.expr_walk.specs.Walked.{size, size_all, size_elems, size_key, size_option, size_value}
 use Rattle.expr_walk.proofs.exprs.+exprs.Given as goal
 

@@ -3,7 +3,7 @@ use Rattle.go_tree.specs.Lists.{exprs_from}
 use Rattle.go_tree.specs.View.{expr_of}
 use Rattle.go_types.specs.Initial.{all_constant, is_constant}
 use Rattle.expr_walk.proofs.Parts.{expr_walked}
-use Rattle.walk_arms.proofs.ExprArms.{at}
+use Rattle.expr_walk.proofs.WalkArms.ExprArms.{at}
 use Rattle.initial_values.specs.Steps.{IsPassed}
 use Rattle.initial_values.proofs.PassedLemmas.{next_constant, passed_not, passed_one, read_constant, rest_constant}
 use Rattle.initial_values.proofs.constant.constant_from.Goals as goal

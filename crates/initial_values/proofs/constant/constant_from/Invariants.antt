@@ -1,4 +1,4 @@
-use Rattle.walk_arms.proofs.ExprArms.{at}
+use Rattle.expr_walk.proofs.WalkArms.ExprArms.{at}
 use Rattle.initial_values.specs.Steps.{IsPassed}
 use Rattle.initial_values.proofs.PassedLemmas.{rest_constant}
 use Rattle.initial_values.proofs.constant.constant_from.Given as goal

@@ -7,7 +7,7 @@ use Rattle.operator_rules.specs.Settling.{typed_option}
 use Rattle.type_relations.specs.Environment.{defined_types}
 use Rattle.expr_walk.specs.Walked.{AreWalkedElems}
 use Rattle.expr_walk.proofs.Parts.{elem_smaller, elem_walked}
-use Rattle.walk_arms.proofs.ExprArms.{at}
+use Rattle.expr_walk.proofs.WalkArms.ExprArms.{at}
 use Rattle.initial_values.specs.Steps.{IsPassed, under_option}
 use Rattle.operand_answers.proofs.KeptLemmas.{env_kept}
 use Rattle.initial_values.proofs.ConstantLemmas.{address_initial, call_initial, or_left, or_right}

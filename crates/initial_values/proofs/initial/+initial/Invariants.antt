@@ -5,7 +5,7 @@ use Rattle.go_types.specs.Initial.{initial_elems}
 use Rattle.operator_rules.specs.Settling.{typed_option}
 use Rattle.type_relations.specs.Environment.{defined_types}
 use Rattle.expr_walk.specs.Walked.{size, size_elems, size_key, size_value}
-use Rattle.walk_arms.proofs.ExprArms.{at}
+use Rattle.expr_walk.proofs.WalkArms.ExprArms.{at}
 use Rattle.initial_values.specs.Steps.{IsPassed, under_option}
 use Rattle.initial_values.proofs.initial.+initial.Given as goal
 

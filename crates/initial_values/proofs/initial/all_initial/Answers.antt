@@ -4,7 +4,7 @@ use Rattle.go_tree.specs.View.{expr_of}
 use Rattle.go_types.specs.Initial as go
 use Rattle.expr_walk.specs.Walked.{AreAllWalked}
 use Rattle.expr_walk.proofs.Parts.{expr_walked}
-use Rattle.walk_arms.proofs.ExprArms.{at}
+use Rattle.expr_walk.proofs.WalkArms.ExprArms.{at}
 use Rattle.initial_values.specs.Steps.{IsPassed}
 use Rattle.initial_values.proofs.PassedLemmas.{next_initial, passed_not, passed_one, read_initial}
 use Rattle.initial_values.proofs.initial.all_initial.Goals as goal

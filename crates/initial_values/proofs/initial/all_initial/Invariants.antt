@@ -2,7 +2,7 @@ use Rattle.std.proofs.Common.{map}
 use Rattle.go_tree.specs.Lists.{exprs_from}
 use Rattle.go_tree.specs.View.{expr_of}
 use Rattle.go_types.specs.Initial as go
-use Rattle.walk_arms.proofs.ExprArms.{at}
+use Rattle.expr_walk.proofs.WalkArms.ExprArms.{at}
 use Rattle.initial_values.specs.Steps.{IsPassed}
 use Rattle.initial_values.proofs.PassedLemmas.{rest_initial}
 use Rattle.initial_values.proofs.initial.all_initial.Given as goal

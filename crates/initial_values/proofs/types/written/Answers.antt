@@ -3,7 +3,7 @@ use Rattle.go_tree.specs.View.{type_of}
 use Rattle.go_types.specs.TypeNames.{type_meant}
 use Rattle.type_exprs.specs.Answers.{GivesType}
 use Rattle.operand_answers.proofs.KeptLemmas.{stands_kept}
-use Rattle.walk_arms.proofs.ExprArms.{at}
+use Rattle.expr_walk.proofs.WalkArms.ExprArms.{at}
 use Rattle.initial_values.proofs.types.written.Goals as goal
 
 pub returns-in-Ok-clause-stands : goal.returns-in-Ok-clause-stands

@@ -11,7 +11,7 @@ use Rattle.operand_rules.specs.Values.{typed_of}
 use Rattle.operand_modes.specs.Operands.{IsOperand, operand_at}
 use Rattle.operand_answers.proofs.AnswerLemmas.{single_is}
 use Rattle.control_steps.proofs.OperandTests.{not_typed}
-use Rattle.spec_steps.specs.Specs.{GivesVariables}
+use Rattle.assignment_steps.specs.SpecSteps.Specs.{GivesVariables}
 use Rattle.range_steps.proofs.VariableLemmas.{declared_by, once_declared, stand_twice}
 use Rattle.range_steps.proofs.variables.operand_variables.Goals as goal
 

@@ -2,7 +2,7 @@ use Rattle.std.proofs.Common.{◌∙◌, ◌++◌, ◌∷◌, [], arith, ap, Ok,
 use Rattle.type_relations.specs.Environment.{defined_types}
 use Rattle.go_types.specs.Statements.{range_binds}
 use Rattle.typed_names.specs.declared.entities.Entity.TheVariants.{Variable}
-use Rattle.declaration_steps.specs.Entities.{GivesBinds}
+use Rattle.control_steps.specs.DeclarationSteps.Entities.{GivesBinds}
 use Rattle.range_steps.specs.Ranges.{listed}
 use Rattle.range_steps.proofs.VariableLemmas.{no_variables, one_variable, too_many, too_many_for_one, two_variables}
 use Rattle.range_steps.proofs.variables.turn_variables.Goals as goal

@@ -6,8 +6,8 @@ use Rattle.go_types.specs.Statements as go
 use Rattle.scope_names.specs.FreeNames.{names_of}
 use Rattle.type_relations.specs.Environment.{defined_types}
 use Rattle.operand_rules.specs.Values.{typed_of}
-use Rattle.spec_steps.specs.Specs.{GivesVariables}
-use Rattle.spec_steps.proofs.SpecLemmas.{names_counted}
+use Rattle.assignment_steps.specs.SpecSteps.Specs.{GivesVariables}
+use Rattle.assignment_steps.proofs.SpecSteps.SpecLemmas.{names_counted}
 use Rattle.range_steps.specs.Ranges.{listed, listed_option}
 use Rattle.range_steps.proofs.VariableLemmas.{none_declared, variables_declared}
 use Rattle.range_steps.proofs.variables.value_variables.Goals as goal

@@ -1,5 +1,5 @@
 use Rattle.std.proofs.Common.{◌≡◌, drop}
-use Rattle.refused_types.specs.Refusals.{AreTested}
+use Rattle.finite_types.specs.RefusedTypes.Refusals.{AreTested}
 use Rattle.refused_headers.specs.First.{HeadersPassed}
 use Rattle.refused_headers.proofs.first.first_refused_type.Given as goal
 

@@ -6,7 +6,7 @@ use Rattle.go_types.specs.Typing as go
 use Rattle.operand_answers.specs.Lists.{GivesAll}
 use Rattle.operand_answers.proofs.KeptLemmas.{env_kept}
 use Rattle.control_steps.specs.Ends.{EndsAs}
-use Rattle.walk_arms.proofs.ExprArms.{at}
+use Rattle.expr_walk.proofs.WalkArms.ExprArms.{at}
 use Rattle.simple_walk.proofs.SimpleLemmas.{stand_of}
 use Rattle.simple_walk.proofs.TargetWalks.{targets_kept, targets_there}
 use Rattle.simple_walk.proofs.assigns.assign.Goals as goal

@@ -5,7 +5,7 @@ use Rattle.go_types.specs.Statements.{one_more, step_op, updates}
 use Rattle.go_types.specs.Typing.{parts, place}
 use Rattle.operand_answers.proofs.KeptLemmas.{stands_kept}
 use Rattle.control_steps.specs.Ends.{EndsAs}
-use Rattle.walk_arms.proofs.ExprArms.{at, expr_there}
+use Rattle.expr_walk.proofs.WalkArms.ExprArms.{at, expr_there}
 use Rattle.simple_walk.proofs.assigns.step.Goals as goal
 
 pub increment-requires-clause-ready : goal.increment-requires-clause-ready

@@ -4,7 +4,7 @@ use Rattle.go_tree.specs.View.{expr_of, exprs_of}
 use Rattle.go_types.specs.Statements.{is_panic}
 use Rattle.go_types.specs.Typing as go
 use Rattle.expr_walk.specs.Walked.{IsWalked}
-use Rattle.walk_arms.proofs.ExprArms.{at, read_before}
+use Rattle.expr_walk.proofs.WalkArms.ExprArms.{at, read_before}
 use Rattle.simple_walk.proofs.SimpleLemmas.{call_lifted}
 use Rattle.simple_walk.proofs.calls.call_statement.Goals as goal
 

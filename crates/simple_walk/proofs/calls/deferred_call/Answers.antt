@@ -3,7 +3,7 @@ use Rattle.go_tree.specs.Tree as tree
 use Rattle.go_tree.specs.View.{expr_of, exprs_of}
 use Rattle.go_types.specs.Typing as go
 use Rattle.expr_walk.specs.Walked.{IsWalked}
-use Rattle.walk_arms.proofs.ExprArms.{at, read_before}
+use Rattle.expr_walk.proofs.WalkArms.ExprArms.{at, read_before}
 use Rattle.simple_walk.proofs.SimpleLemmas.{defer_lifted}
 use Rattle.simple_walk.proofs.calls.deferred_call.Goals as goal
 

@@ -2,7 +2,7 @@ use Rattle.std.proofs.Common.{◌∙◌, subst, sym}
 use Rattle.go_tree.specs.View.{expr_of}
 use Rattle.go_types.specs.Typing.{parts, place}
 use Rattle.assignment_steps.specs.Targets.{GivesTarget}
-use Rattle.walk_arms.proofs.ExprArms.{at, expr_there}
+use Rattle.expr_walk.proofs.WalkArms.ExprArms.{at, expr_there}
 use Rattle.simple_walk.proofs.TargetWalks.{blank_stored, others_stored}
 use Rattle.simple_walk.proofs.left_sides.target.Goals as goal
 

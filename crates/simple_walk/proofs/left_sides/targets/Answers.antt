@@ -6,7 +6,7 @@ use Rattle.type_exprs.proofs.NewNames.{drop_all, drop_item}
 use Rattle.assignment_steps.specs.Targets.{GivesTarget, GivesTargets}
 use Rattle.expr_walk.specs.Walked.{AreAllWalked}
 use Rattle.expr_walk.proofs.Parts.{expr_walked}
-use Rattle.walk_arms.proofs.ExprArms.{at}
+use Rattle.expr_walk.proofs.WalkArms.ExprArms.{at}
 use Rattle.simple_walk.specs.Targets.{AreTargetsWalked, one_target}
 use Rattle.simple_walk.proofs.TargetWalks.{targets_end, targets_fail, targets_more, targets_start}
 use Rattle.simple_walk.proofs.left_sides.targets.Goals as goal

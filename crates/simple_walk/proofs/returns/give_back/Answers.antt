@@ -1,7 +1,7 @@
 use Rattle.std.proofs.Common.{sym}
 use Rattle.go_tree.specs.View.{exprs_of}
 use Rattle.go_types.specs.Typing as go
-use Rattle.walk_arms.proofs.ExprArms.{at}
+use Rattle.expr_walk.proofs.WalkArms.ExprArms.{at}
 use Rattle.simple_walk.proofs.SimpleLemmas.{all_there, body_kept, types_kept}
 use Rattle.simple_walk.proofs.returns.give_back.Goals as goal
 

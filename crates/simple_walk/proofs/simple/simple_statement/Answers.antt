@@ -3,7 +3,7 @@ use Rattle.go_tree.specs.Tree as tree
 use Rattle.go_tree.specs.View.{exprs_of, stmt_of}
 use Rattle.go_types.specs.Typing as go
 use Rattle.control_steps.specs.Ends.{EndsAs}
-use Rattle.walk_arms.proofs.ExprArms.{at}
+use Rattle.expr_walk.proofs.WalkArms.ExprArms.{at}
 use Rattle.simple_walk.specs.Simple.{IsSimple}
 use Rattle.simple_walk.proofs.SeenStatements.{simple_at}
 use Rattle.simple_walk.proofs.simple.simple_statement.Goals as goal

@@ -2,8 +2,8 @@ use Rattle.std.proofs.Common.{◌∙◌, ap, map, subst, List}
 use Rattle.go_tree.specs.declared.files.Decl.{Decl}
 use Rattle.go_tree.specs.FileView.{decl_of}
 use Rattle.run_rules.specs.Programs.{numbered}
-use Rattle.marked_uses.specs.declared.uses.MarkedUse.{MarkedUse}
-use Rattle.marked_uses.specs.Uses.{decls_uses}
+use Rattle.use_search.specs.declared.uses_of_marks.uses.MarkedUse.{MarkedUse}
+use Rattle.use_search.specs.UsesOfMarks.Uses.{decls_uses}
 use Rattle.use_search.specs.Answers.{names_of}
 use Rattle.use_search.specs.Search.{IsSearched}
 use Rattle.use_search.proofs.search.search_file.Goals as goal

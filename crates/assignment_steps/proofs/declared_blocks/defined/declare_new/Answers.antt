@@ -1,0 +1,14 @@
+use Rattle.std.proofs.Common.{List, OnOk, subst, sym}
+use Rattle.const_eval.specs.declared.consts.Const.{Const}
+use Rattle.go_types.specs.Entities as go
+use Rattle.type_relations.specs.Environment.{Environment}
+use Rattle.typed_names.specs.Meanings.{Names, entity_option}
+use Rattle.control_steps.specs.LocalBlocks.Places.{IsPlace}
+use Rattle.assignment_steps.specs.DefineSteps.Defined.{bind_if}
+use Rattle.assignment_steps.proofs.declared_blocks.defined.declare_new.Goals as goal
+
+pub returns-in-Some-clause-declared : goal.returns-in-Some-clause-declared
+returns-in-Some-clause-declared c =
+    subst
+    (λ o. OnOk c.declare.result ((e : Environment) (cs : List Const) (bs : List Names) (env : go.Env) → IsPlace e cs bs c.args.scope.now c.args.block.now.names env → IsPlace e cs bs c.declare.new.scope c.declare.new.self.names (go.extend (bind_if c.args.name.now (entity_option e cs o)) env)))
+    (sym c.in-Some.is) c.declare.ensures.declared

@@ -1,0 +1,85 @@
+//! `++` and `--` (Go specification, IncDec statements).
+
+ghost use Rattle.std.specs.Prelude.{◌≡◌, ◌∷◌, [], false, IfOk, Option, Some};
+ghost use Rattle.go_types.specs.Answers.{given, only_if};
+ghost use Rattle.go_types.specs.Entities as go_entity;
+ghost use Rattle.go_types.specs.Operands as go_operand;
+ghost use Rattle.go_types.specs.Statements as go;
+ghost use Rattle.type_relations.specs.Environment.{defined_types};
+ghost use Rattle.operand_rules.specs.Values.{Gives};
+ghost use Rattle.access_rules.specs.Places.{place_of};
+ghost use Rattle.operand_modes.specs.Operands.{operand_at};
+ghost use Rattle.checker_tables.specs.Ready.{AreReady, Keeps};
+ghost use Rattle.operand_answers.specs.Located.{GivesAt, IsThere, IsThereIfOk};
+ghost use Rattle.control_steps.specs.Ends.{EndsAs};
+
+use crate::update_steps::is_updated;
+use checker_tables::Tables;
+use const_eval::{Const, Kind};
+use control_steps::ends_if;
+use go_tree::{BinOp, NoMemory};
+use operand_answers::Located;
+use operand_modes::Operand;
+use operand_rules::{Refusal, Value, ValueType, folded};
+use std::alloc::{AllocError, Global};
+
+/// The operator by which `++` or `--` updates its operand.
+fn operator(up: bool) -> BinOp
+    ensures { result ≡ go.step_op up }
+{
+    if up { BinOp::Add } else { BinOp::Sub }
+}
+
+/// The untyped constant 1.
+#[tactic(auto, using(checker_tables::proofs::ReadyLemmas::types_kept))]
+fn one(tables: &mut Tables) -> Result<Value, Refusal>
+    requires ready { AreReady tables.old }
+    ensures ready { AreReady tables.new }
+    ensures keeps { Keeps tables.old tables.new }
+    ensures gives { Gives tables.new.env tables.new.consts (Some go.one_more) result }
+{
+    folded(
+        &mut tables.consts,
+        ValueType::Untyped(Kind::UntypedInt),
+        Ok(Const::Whole(1)),
+    )
+}
+
+/// Whether what an operator gives of an operand and 1 may be stored where the operand stands; an error
+/// where memory was refused.
+fn is_stepped(alloc: Global, tables: &mut Tables, op: BinOp, x: Located) -> Result<bool, NoMemory>
+    requires ready { AreReady tables.old }
+    requires there { IsThere tables.old.env tables.old.consts x }
+    ensures ready { AreReady tables.new }
+    ensures keeps { Keeps tables.old tables.new }
+    ensures is { IfOk result (λ b. b ≡ go.updates (defined_types tables.old.env) op (place_of x.place ∷ [])
+        (operand_at tables.old.env tables.old.consts x.operand ∷ []) (go.one_more ∷ [])) }
+{
+    match one(tables) {
+        Ok(step) => is_updated(alloc, tables, op, x.place, x.operand, Operand::Single(step)),
+        Err(_) => Err(AllocError),
+    }
+}
+
+/// That `++`, or `--`, isn't terminating, by the answer for its operand: it is what updating the operand
+/// by the constant 1 is.
+pub fn increment(
+    alloc: Global,
+    tables: &mut Tables,
+    up: bool,
+    x: Result<Located, Refusal>,
+) -> Result<bool, Refusal>
+    requires ready { AreReady tables.old }
+    requires there { IsThereIfOk tables.old.env tables.old.consts x }
+    ensures ready { AreReady tables.new }
+    ensures keeps { Keeps tables.old tables.new }
+    ensures gives { (o : Option go_operand.Operand) (p : go_entity.Place)
+        → GivesAt tables.old.env tables.old.consts o p x
+        → EndsAs (given o (λ o. only_if (go.updates (defined_types tables.old.env) (go.step_op up) (p ∷ [])
+        (o ∷ []) (go.one_more ∷ [])) (Some false))) result }
+{
+    match x {
+        Ok(x) => ends_if(is_stepped(alloc, tables, operator(up), x), false),
+        Err(refusal) => Err(refusal),
+    }
+}

@@ -1,7 +1,0 @@
-//! What is asked of a whole body, by the answer for its statements (Go specification, Terminating
-//! statements; Labeled statements).
-#![tactic(auto)]
-
-mod bodies;
-
-pub use bodies::is_body;

@@ -1,9 +1,0 @@
-//! The names that expressions and the statements of a block use (Go specification, Declarations and scope;
-//! Composite literals; Assignment statements).
-#![tactic(auto)]
-
-mod exprs;
-mod stmts;
-
-pub use exprs::exprs_uses;
-pub use stmts::stmts_uses;

@@ -1,0 +1,12 @@
+use Rattle.std.specs.Prelude.{◌≡◌, map}
+use Rattle.std.specs.List.{list_all}
+use Rattle.std.proofs.Common.{drop}
+use Rattle.go_types.specs.Primary.{is_printed}
+use Rattle.type_relations.specs.Environment.{defined_types}
+use Rattle.operand_rules.specs.Values.{typed_of}
+use Rattle.composite_steps.proofs.builtin_steps.printing.all_printed.Given as goal
+
+abbrev pub invariant-loop-x : goal.invariant-loop-x
+invariant-loop-x l =
+    list_all (is_printed (defined_types l.env)) (map (typed_of l.env l.consts) (drop l.x-index l.xs))
+    ≡ list_all (is_printed (defined_types l.env)) (map (typed_of l.env l.consts) l.xs)

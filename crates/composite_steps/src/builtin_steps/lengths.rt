@@ -1,0 +1,48 @@
+//! `len` and `cap` of values (Go specification, Length and capacity).
+
+ghost use Rattle.std.specs.Prelude.{map};
+ghost use Rattle.go_types.specs.Primary as go;
+ghost use Rattle.type_relations.specs.Environment.{defined_types};
+ghost use Rattle.operand_rules.specs.Values.{Gives, typed_of};
+ghost use Rattle.access_rules.specs.Functions.{AreValues};
+ghost use Rattle.checker_tables.specs.Ready.{AreReady, Keeps};
+
+use crate::builtin_steps::arguments::only;
+use access_rules::{capacity, length};
+use checker_tables::Tables;
+use operand_rules::{Refusal, Value};
+use std::alloc::Global;
+
+/// What `cap` gives of a slice.
+pub(crate) fn capacity_of(tables: &Tables, xs: &[Value]) -> Result<Value, Refusal>
+    requires ready { AreReady tables.now }
+    requires values { AreValues tables.now.env tables.now.consts xs.now }
+    ensures { Gives tables.now.env tables.now.consts
+        (go.cap_call (defined_types tables.now.env)
+        (map (typed_of tables.now.env tables.now.consts) xs.now)) result }
+{
+    let _types = tables.env.len();
+    match only(xs) {
+        Some(x) => capacity(&tables.env, tables.basics, x.of),
+        None => Err(Refusal::NotTyped),
+    }
+}
+
+/// What `len` gives of a string, a slice or a map; the length of a constant string is added to the
+/// constants.
+#[tactic(auto, using(checker_tables::proofs::ReadyLemmas::types_kept))]
+pub(crate) fn length_of(alloc: Global, tables: &mut Tables, xs: &[Value]) -> Result<Value, Refusal>
+    requires ready { AreReady tables.old }
+    requires values { AreValues tables.old.env tables.old.consts xs.now }
+    ensures ready { AreReady tables.new }
+    ensures keeps { Keeps tables.old tables.new }
+    ensures gives { Gives tables.new.env tables.new.consts
+        (go.len_call (defined_types tables.old.env)
+        (map (typed_of tables.old.env tables.old.consts) xs.now)) result }
+{
+    let _types = tables.env.len();
+    match only(xs) {
+        Some(x) => length(alloc, &tables.env, &mut tables.consts, tables.basics, x),
+        None => Err(Refusal::NotTyped),
+    }
+}

@@ -1,7 +1,0 @@
-//! What a step over a constant keeps of the cycles of marked functions (Go specification, Calls; Constant
-//! declarations).
-#![tactic(auto)]
-
-mod laws;
-
-pub use laws::{constants_keep_cycles, names_name_no_function};

@@ -1,9 +1,0 @@
-//! Declarations of constants in a function: a group of specs, each of which may repeat the type and the
-//! values before it, with the number of the spec as `iota` (Go specification, Constant declarations;
-//! Iota).
-#![tactic(auto)]
-
-mod groups;
-mod members;
-
-pub use groups::constant_group;

@@ -1,0 +1,19 @@
+use Rattle.std.specs.Prelude.{◌≡◌, List, map, not}
+use Rattle.std.specs.List.{list_all}
+use Rattle.std.proofs.Common.{drop}
+use Rattle.const_eval.specs.declared.consts.Const.{Const}
+use Rattle.go_tree.specs.View.{name_at_of}
+use Rattle.go_types.specs.Entities.{Env, is_declared_here}
+use Rattle.scope_names.specs.FreeNames.{names_of}
+use Rattle.type_relations.specs.Environment.{Environment}
+use Rattle.typed_names.specs.declared.scopes.Scope.{Scope}
+use Rattle.typed_names.specs.Meanings.{Names}
+use Rattle.control_steps.specs.LocalBlocks.Places.{IsPlace}
+use Rattle.control_steps.proofs.declaration_steps.names.are_new.Given as goal
+
+abbrev pub invariant-loop-name : goal.invariant-loop-name
+invariant-loop-name l =
+    (e : Environment) (cs : List Const) (bs : List Names) (s : Scope) (env : Env) →
+    IsPlace e cs bs s l.block.names env →
+    list_all (λ n. not (is_declared_here env n)) (names_of (map name_at_of (drop l.name-index l.names)))
+    ≡ list_all (λ n. not (is_declared_here env n)) (names_of (map name_at_of l.names))

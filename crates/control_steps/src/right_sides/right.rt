@@ -1,0 +1,47 @@
+//! The values on the right of a declaration or an assignment (Go specification, Assignment statements;
+//! Variable declarations).
+
+ghost use Rattle.std.specs.Prelude.{◌≡◌, List, Option};
+ghost use Rattle.go_types.specs.Entities as go_entity;
+ghost use Rattle.go_types.specs.Operands as go_operand;
+ghost use Rattle.go_types.specs.Statements as go;
+ghost use Rattle.type_relations.specs.Environment.{defined_types};
+ghost use Rattle.checker_tables.specs.Ready.{AreReady};
+ghost use Rattle.operand_answers.specs.Lists.{GivesAll};
+ghost use Rattle.control_steps.specs.RightSides.Values.{AreValuesIfOk, GivesValuesAlike, StandIfOk};
+
+use checker_tables::Tables;
+use operand_answers::OperandList;
+use operand_modes::{ValueList, assigned_values};
+use operand_rules::Refusal;
+use std::alloc::Global;
+
+/// So many values, by the answer for the expressions on the right: each its own, or all results of one
+/// call; an element of a map gives two, the element and whether it is there.
+pub fn right_values(
+    alloc: Global,
+    tables: &Tables,
+    count: usize,
+    right: Result<OperandList, Refusal>,
+) -> Result<ValueList, Refusal>
+    requires ready { AreReady tables.now }
+    requires right { StandIfOk tables.now.env tables.now.consts right }
+    ensures there { AreValuesIfOk tables.now.env tables.now.consts result }
+    ensures gives { (env : go_entity.Env) (os : Option (List go_operand.Operand)) (ps : List go_entity.Place)
+        → go_entity.defined_in env ≡ defined_types tables.now.env
+        → GivesAll tables.now.env tables.now.consts os ps right
+        → GivesValuesAlike tables.now.env tables.now.consts (go.right_values env count ps os) result }
+{
+    let _types = tables.env.len();
+    match right {
+        Ok(right) => assigned_values(
+            alloc,
+            &tables.env,
+            &tables.consts,
+            count,
+            &right.places,
+            &right.operands,
+        ),
+        Err(refusal) => Err(refusal),
+    }
+}

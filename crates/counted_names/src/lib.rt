@@ -1,7 +1,0 @@
-//! How many identifiers a file of constants and of functions that print them has: definitions and laws alone, without
-//! code (Go specification, Identifiers; Tokens).
-#![tactic(auto)]
-
-mod laws;
-
-pub use laws::printed_files_have_few_names;

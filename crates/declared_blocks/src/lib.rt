@@ -1,9 +1,0 @@
-//! What a declaration binds goes into the innermost block, one name after the other (Go specification,
-//! Declarations and scope).
-#![tactic(auto)]
-
-mod defined;
-mod entities;
-
-pub use defined::declare_defined;
-pub use entities::declare_entities;

@@ -1,5 +1,0 @@
-use Rattle.declared_members.proofs.Named.{name_members}
-use Rattle.declared_members.proofs.laws.constants_name_members.Goals as goal
-
-pub returns : goal.returns
-returns c = name_members

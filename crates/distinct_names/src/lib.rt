@@ -1,7 +1,0 @@
-//! Names of which each stands once: labels of a body, and the names that a declaration declares (Go
-//! specification, Labeled statements; Declarations and scope).
-#![tactic(auto)]
-
-mod names;
-
-pub use names::{are_distinct, stand_once};

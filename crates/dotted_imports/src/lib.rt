@@ -1,7 +1,0 @@
-//! In well-typed files names of imports stand before dots alone: definitions and laws alone, without code (Go
-//! specification, Qualified identifiers; Import declarations).
-#![tactic(auto)]
-
-mod laws;
-
-pub use laws::well_typed_files_are_dotted;

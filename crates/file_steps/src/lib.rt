@@ -1,7 +1,0 @@
-//! What a step over a use of a marked constant makes of its file.
-#![tactic(auto)]
-
-mod step;
-mod used;
-
-pub use step::{FileStep, step_file};

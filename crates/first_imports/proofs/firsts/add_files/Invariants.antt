@@ -1,8 +1,0 @@
-use Rattle.std.proofs.Common.{drop}
-use Rattle.first_imports.specs.Firsts.{AddsRest, tagged}
-use Rattle.first_imports.proofs.firsts.add_files.Given as goal
-
-abbrev pub invariant-loop-file : goal.invariant-loop-file
-invariant-loop-file l =
-    AddsRest l.packages l.blocks l.used (tagged l.home l.files) (tagged l.home (drop l.file-index l.files))
-    l.initial.firsts.items l.firsts.items

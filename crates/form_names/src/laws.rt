@@ -1,9 +1,0 @@
-//! The law of the names that forms have for packages.
-
-ghost use Rattle.form_names.specs.Laws.{FormNamesAreNotBlank};
-
-/// No package has the name `_` in the form of a use: an import by this name means no package, and what is added has the
-/// package's own name, or that with a number behind it (Go specification, Import declarations; Blank identifier).
-pub fn forms_name_no_blank()
-    ensures { FormNamesAreNotBlank }
-{}

@@ -1,7 +1,0 @@
-//! The names that forms have for packages aren't `_`: definitions and laws alone, without code (Go specification,
-//! Import declarations; Blank identifier).
-#![tactic(auto)]
-
-mod laws;
-
-pub use laws::forms_name_no_blank;

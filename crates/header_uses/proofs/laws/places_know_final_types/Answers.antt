@@ -1,5 +1,0 @@
-use Rattle.header_uses.proofs.Places.{final_places_stand}
-use Rattle.header_uses.proofs.laws.places_know_final_types.Goals as goal
-
-pub returns : goal.returns
-returns c = λ ps e bs s h f same. final_places_stand ps e bs s h f same

@@ -1,5 +1,0 @@
-use Rattle.header_uses.proofs.HeadersFound.{headers_found}
-use Rattle.header_uses.proofs.laws.walks_find_uses_of_headers.Goals as goal
-
-pub returns : goal.returns
-returns c = λ w h outer ds n name g. headers_found w h outer ds n name g

@@ -1,8 +1,0 @@
-//! Headers are judged alike before methods are known and after: what a package declares besides methods
-//! asks for none of them (Go specification, Declarations and scope; Constant expressions; Package
-//! initialization; Method declarations). Laws alone.
-#![tactic(auto)]
-
-mod laws;
-
-pub use laws::headers_are_final;

@@ -1,0 +1,10 @@
+//! What the constants and the variables of one header are declared as, one entity for each name (Go
+//! specification, Constant declarations; Iota; Variable declarations).
+
+mod entities;
+mod lists;
+mod specs;
+
+pub use entities::ValueKind;
+pub use lists::EntityList;
+pub use specs::{no_constants, spec_constants, variables_at};

@@ -1,7 +1,0 @@
-//! What a labelled statement gives of the answer for its statement (Go specification, Labeled
-//! statements).
-#![tactic(auto)]
-
-mod labelled;
-
-pub use labelled::labelled_statement;

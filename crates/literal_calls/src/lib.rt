@@ -1,7 +1,0 @@
-//! What the literal calls that stands for a call of a function: what the function's body calls, and what
-//! the call did besides (Go specification, Calls; Function literals).
-#![tactic(auto)]
-
-mod laws;
-
-pub use laws::literals_call_through;

@@ -1,5 +1,0 @@
-use Rattle.std.proofs.Common.{◌∙◌, sym}
-use Rattle.local_blocks.proofs.blocks.LocalBlock.declares.Goals as goal
-
-pub returns : goal.returns
-returns c = λ e cs bs s env p. c.has.ensures ∙ sym (p.here c.args.name.now)

@@ -1,6 +1,0 @@
-use Rattle.local_blocks.proofs.PlaceLemmas.{block_ended}
-use Rattle.local_blocks.proofs.blocks.LocalBlock.end.Goals as goal
-
-pub returns : goal.returns
-returns c =
-    λ s w l. block_ended c.args.scope.now s c.truncate.new.self c.args.self.now.start w l c.truncate.ensures

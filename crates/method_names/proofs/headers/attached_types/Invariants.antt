@@ -1,7 +1,0 @@
-use Rattle.method_names.specs.Known.{MethodsPassed}
-use Rattle.method_names.proofs.headers.attached_types.Given as goal
-
-abbrev pub invariant-loop-header : goal.invariant-loop-header
-invariant-loop-header l =
-    MethodsPassed l.types l.blocks l.files l.headers l.header-index l.names.fields.items l.names.methods.items
-    l.attached.items

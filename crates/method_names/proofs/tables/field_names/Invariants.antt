@@ -1,6 +1,0 @@
-use Rattle.std.proofs.Common.{drop, map}
-use Rattle.method_names.proofs.TableLemmas.{FieldsLeft}
-use Rattle.method_names.proofs.tables.field_names.Given as goal
-
-abbrev pub invariant-loop-field : goal.invariant-loop-field
-invariant-loop-field l = FieldsLeft (map (λ f. f.name) l.fields) (map (λ f. f.name) (drop l.field-index l.fields)) l.names

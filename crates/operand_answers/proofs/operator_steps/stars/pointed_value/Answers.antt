@@ -1,0 +1,25 @@
+use Rattle.go_types.specs.Entities as go_entity
+use Rattle.go_types.specs.Operands.{value}
+use Rattle.go_types.specs.Operators.{star_of}
+use Rattle.type_relations.specs.Environment.{defined_types}
+use Rattle.operand_rules.specs.Values.{type_of}
+use Rattle.checker_tables.proofs.PartLemmas.{parts_follow}
+use Rattle.operand_answers.proofs.AnswerLemmas.{value_refused}
+use Rattle.operand_answers.proofs.OperatorSteps.StepLemmas.{pointed_located}
+use Rattle.operand_answers.proofs.operator_steps.stars.pointed_value.Goals as goal
+
+pub pointed-requires-clause-types : goal.pointed-requires-clause-types
+pointed-requires-clause-types c = parts_follow c.args.env.now c.len-types.ensures.good c.requires.types
+
+pub returns-in-Ok : goal.returns-in-Ok
+returns-in-Ok c =
+    λ cs k.
+    pointed_located c.args.env.now cs c.len-types.ensures.good c.requires.types c.args.x c.in-Ok.value k c.requires.of
+    (c.in-Ok.ensures cs k)
+
+pub returns-in-Err : goal.returns-in-Err
+returns-in-Err c =
+    λ cs k.
+    let e = c.args.env.now in
+    value_refused e cs (star_of (defined_types e) (value (type_of e c.args.x.of) k)) go_entity.addressable c.in-Err.refusal
+    (c.in-Err.ensures cs k)

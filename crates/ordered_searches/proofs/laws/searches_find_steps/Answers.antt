@@ -1,9 +1,0 @@
-use Rattle.ordered_searches.proofs.Ordered.{are_searched}
-use Rattle.ordered_searches.proofs.FirstFound.{find_steps}
-use Rattle.ordered_searches.proofs.laws.searches_find_steps.Goals as goal
-
-pub returns-clause-files : goal.returns-clause-files
-returns-clause-files c = are_searched c.looks_tell_files.ensures c.searches_find_sites.ensures.sites
-
-pub returns-clause-steps : goal.returns-clause-steps
-returns-clause-steps c = find_steps c.looks_tell_files.ensures c.searches_find_sites.ensures.sites c.uses_are_placed.ensures

@@ -1,8 +1,0 @@
-//! The order of the packages of a program as it stands.
-#![tactic(auto)]
-
-mod links;
-mod numbers;
-mod order;
-
-pub use order::package_order;

@@ -1,8 +1,0 @@
-//! The law of where parts come from.
-
-ghost use Rattle.part_origins.specs.Laws.{PartsComeFromThemselves};
-
-/// In a file as read each part comes from where it stands.
-pub fn parts_come_from_themselves()
-    ensures { PartsComeFromThemselves }
-{}

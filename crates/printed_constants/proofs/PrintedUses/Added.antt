@@ -1,0 +1,68 @@
+-- What marked_runs asks of the declarations around such a use.
+use Rattle.std.proofs.Common.{◌≡◌, ◌∙◌, ap, List, map, Some}
+use Rattle.std.specs.Prelude.{slice_get}
+use Rattle.go_tree.specs.declared.spans.Span.{Span}
+use Rattle.go_tree.specs.File.{Decl}
+use Rattle.pkg_graph.specs.Package.{SourceTree, Package}
+use Rattle.constant_steps.proofs.AfterStep.{nth_changed}
+use Rattle.constant_steps.proofs.MarksFound.{StandsThere, stands_there}
+use Rattle.constant_steps.specs.Alone.{PlainFiles}
+use Rattle.constant_steps.specs.PlainUse.{AllSimple}
+use Rattle.cycle_runs.specs.ImportCycles.ImportSteps.{file_added, packages_added, where_added}
+use Rattle.cycle_runs.proofs.ImportCycles.ImportStep.{placed}
+use Rattle.marked_runs.specs.Marked.{StandsAdded, decl_there}
+use Rattle.run_laws.proofs.FoundSpans.{Placed}
+use Rattle.run_rules.specs.Programs.{linked_file}
+use Rattle.run_rules.specs.Run.{Standing, Logged, Next, here_of}
+use Rattle.run_rules.specs.Sites.{MarkRef, Where, where_is}
+use Rattle.run_rules.specs.Steps.{At, change_nth}
+use Rattle.printed_constants.specs.Printed.{ArePrinted}
+use Rattle.printed_constants.proofs.Parts.{decl_parts, parts_simple}
+use Rattle.printed_constants.proofs.Plain.{packages_plain}
+use Rattle.printed_constants.proofs.Steps.{added_printed}
+use Rattle.printed_constants.specs.PrintedUses.Added.{IsNamedThere}
+use Rattle.printed_constants.specs.PrintedUses.Laws.{PrintedUsesStand}
+
+module _ (marks : List MarkRef) (st : Standing) (l : Logged) (after : Standing) (n : Next marks st l after) (printed : ArePrinted st.packages) where
+  abbrev rs : List (Package At)
+  rs = packages_added st.packages n.found
+
+  all : ArePrinted rs
+  all = added_printed marks st l after n printed
+
+  here : Placed here_of (λ (s : Span). Unit {0}) st.packages marks n.found.site
+  here = placed marks st l after n
+
+  package_there : slice_get rs n.found.site.at.number ≡ Some (where_added n.found).of
+  package_there =
+      nth_changed (λ (p : Package At). record p { files = change_nth n.found.site.at.file_number (λ (s : SourceTree At). record s { tree = file_added n.found }) p.files }) n.found.site.at.number st.packages n.found.site.at.of here.package_is
+
+  own_plain : PlainFiles (map (linked_file rs) (where_added n.found).of.files)
+  own_plain = packages_plain rs rs all (record (where_added n.found) { number = n.found.site.at.number }) package_there
+
+  marked_plain : (m : MarkRef) (home : Where At) → where_is rs m ≡ Some home → PlainFiles (map (linked_file rs) home.of.files)
+  marked_plain m home home_is =
+      let there : StandsThere rs m home = stands_there rs m home home_is in
+      packages_plain rs rs all home (ap (slice_get rs) there.number ∙ there.package_there)
+
+  are_simple : (d : Decl At) → slice_get n.found.site.at.source.tree.decls n.found.site.decl ≡ Some d → AllSimple (decl_there n d)
+  are_simple d e =
+      parts_simple (decl_there n d)
+      (decl_parts rs n.found.site.at.number (where_added n.found).of (file_added n.found) (printed n.found.site.at here.package_is here.file_is n.found.site.decl d e))
+
+  pub stands_added : IsNamedThere n → StandsAdded n
+  stands_added named = record {
+    place = named.place;
+    use_ = named.use_;
+    used_as = named.used_as;
+    there = named.there;
+    plain = own_plain;
+    home_plain = marked_plain n.found.site.mark named.use_.home named.use_.home_is;
+    new_plain = marked_plain named.use_.new_mark named.use_.new_home named.use_.new_home_is;
+    simple = are_simple;
+    form = named.form;
+    imports = named.imports;
+  }
+
+pub uses_stand : PrintedUsesStand
+uses_stand marks st l after n printed named = stands_added marks st l after n printed named

@@ -1,0 +1,22 @@
+-- A step among constants and functions that print them is over a marked constant, as kept_marks asks.
+use Rattle.import_splices.specs.FormSplices.Laws.{MakesForm}
+use Rattle.import_splices.proofs.FormSplices.FormsFound.{step-makes-form}
+use Rattle.marked_runs.proofs.NamedMarks.Used.{named-used}
+use Rattle.printed_constants.proofs.FormNames.Forms.{form_not_blank}
+use Rattle.put_names.specs.Uses.{UsesConstant}
+use Rattle.put_names.proofs.Constants.{constant_becomes}
+use Rattle.printed_constants.specs.PrintedUses.Laws.{PrintedStepsAreOver}
+use Rattle.printed_constants.proofs.PrintedUses.Expressions.{site_expression}
+
+pub steps_over : PrintedStepsAreOver
+steps_over marks st l after n ready printed own named few removes =
+    let m : MakesForm marks st n.found = step-makes-form marks st l after n in
+    let e = site_expression st.packages marks printed n.found.site m.is_use in
+    let uses : UsesConstant n = named-used marks st l after n e.0 e.1 named in
+    record {
+      old = e.0;
+      part = e.1;
+      few = few;
+      removes = removes;
+      spelled = form_not_blank marks st l after n own few (constant_becomes marks st l after n ready.reads uses).0;
+    }

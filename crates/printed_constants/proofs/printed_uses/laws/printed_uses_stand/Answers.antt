@@ -1,0 +1,5 @@
+use Rattle.printed_constants.proofs.PrintedUses.Added.{uses_stand}
+use Rattle.printed_constants.proofs.printed_uses.laws.printed_uses_stand.Goals as goal
+
+pub returns : goal.returns
+returns c = uses_stand

@@ -1,0 +1,22 @@
+//! Laws of uses among constants and functions that print them.
+
+ghost use Rattle.printed_constants.specs.PrintedUses.Laws.{PrintedStepsAreOver, PrintedUsesAreExpressions, PrintedUsesStand};
+
+/// Each use of a marked declaration in a program of constants, and of functions that print them, is an expression: no
+/// types are written there (Go specification, Operands).
+pub fn printed_uses_are_expressions()
+    ensures { PrintedUsesAreExpressions }
+{}
+
+/// So a step of such a program whose marks are those of constants is one of kept_marks, where the names to avoid
+/// are fewer than 2^64, and no import that goes has the
+/// name of an identifier (Go specification, Qualified identifiers; Package clause).
+pub fn printed_steps_are_over()
+    ensures { PrintedStepsAreOver }
+{}
+
+/// Where the use of such a step is, with the imports of its form added, a name of a constant that is declared as
+/// another's name, what marked_runs asks of the declarations around holds (Go specification, Constant declarations).
+pub fn printed_uses_stand()
+    ensures { PrintedUsesStand }
+{}

@@ -1,0 +1,10 @@
+use Rattle.std.proofs.Common.{◌≡◌, ◌+◌, drop, map}
+use Rattle.scope_tables.specs.Table.{table_of}
+use Rattle.possible_uses.specs.Views.{part_of}
+use Rattle.repeated_parts.specs.ImportsUnused.Uses.{one_if, uses_among}
+use Rattle.repeated_parts.proofs.imports_unused.parts.is_used_once.Given as goal
+
+abbrev pub invariant-loop-part : goal.invariant-loop-part
+invariant-loop-part l =
+    uses_among (table_of l.scopes) (λ s. s) l.number (map part_of l.parts)
+    ≡ one_if l.once + uses_among (table_of l.scopes) (λ s. s) l.number (map part_of (drop l.part-index l.parts))

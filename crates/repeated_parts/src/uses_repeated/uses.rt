@@ -1,0 +1,81 @@
+//! Uses of members with their flags.
+
+ghost use Rattle.std.specs.Prelude.{◌≡◌, ◌++◌, IfOk, OnOk, drop, map};
+ghost use Rattle.member_uses.specs.Uses.{part_uses};
+ghost use Rattle.member_uses.specs.Views.{names_in, used_of};
+ghost use Rattle.possible_uses.specs.Views.{part_of};
+ghost use Rattle.repeated_parts.specs.UsesRepeated.Uses.{first_flag, with_flag, flagged_uses};
+ghost use Rattle.repeated_parts.specs.UsesRepeated.Views.{flagged_of};
+
+use go_tree::NoMemory;
+use member_uses::{FileScopes, MemberUse, member_uses};
+use possible_uses::PartRef;
+use std::alloc::Global;
+
+/// A use of a member, and whether a later member of a group of constants repeats the expression in which it stands (Go
+/// specification, Constant declarations).
+#[derive(Clone, Copy)]
+pub struct FlaggedUse<'a> {
+    pub of: MemberUse<'a>,
+    pub repeated: bool,
+}
+
+/// The flag with this number; false where there are fewer.
+fn flag_at(flags: &[bool], at: usize) -> bool
+    ensures { result ≡ first_flag (drop at flags.now) }
+{
+    match flags.get(at) {
+        None => false,
+        Some(flag) => *flag,
+    }
+}
+
+/// Adds the uses with this flag.
+fn add_uses<'a>(
+    found: &[MemberUse<'a>],
+    repeated: bool,
+    uses: &mut Vec<FlaggedUse<'a>>,
+) -> Result<(), NoMemory>
+    ensures { OnOk result (map flagged_of uses.new.items
+        ≡ map flagged_of uses.old.items ++ with_flag repeated (map used_of found.now)) }
+{
+    for of in found {
+        uses.push(FlaggedUse { of: *of, repeated })?;
+    }
+    Ok(())
+}
+
+/// Adds the use that a part is, with this flag.
+fn add_part<'a>(
+    alloc: Global,
+    file: &FileScopes,
+    part: PartRef<'a>,
+    repeated: bool,
+    uses: &mut Vec<FlaggedUse<'a>>,
+) -> Result<(), NoMemory>
+    ensures { OnOk result (map flagged_of uses.new.items ≡ map flagged_of uses.old.items
+        ++ with_flag repeated (part_uses (λ s. s) (names_in file.now) (part_of part.entry).key
+        (part_of part.entry).part)) }
+{
+    let found = member_uses(alloc, file, &[part])?;
+    add_uses(&found, repeated, uses)
+}
+
+/// The members of package blocks that parts of a declaration name, in the order of the parts, each with the flag of its
+/// part, as repeated_parts gives the flags; an error where memory is refused. It takes one look-up a part.
+pub fn repeated_uses<'a>(
+    alloc: Global,
+    file: &FileScopes,
+    parts: &[PartRef<'a>],
+    flags: &[bool],
+) -> Result<Vec<FlaggedUse<'a>>, NoMemory>
+    ensures { IfOk result (λ uses. map flagged_of uses.items
+        ≡ flagged_uses (λ s. s) (names_in file.now) (map part_of parts.now) flags.now) }
+{
+    let mut uses = Vec::new(alloc);
+    for (at, part) in parts.iter().enumerate() {
+        let repeated = flag_at(flags, at);
+        add_part(alloc, file, *part, repeated, &mut uses)?;
+    }
+    Ok(uses)
+}

@@ -1,7 +1,0 @@
-//! What the code that looks for uses asks of a declaration's parts, where they are typed. Laws alone,
-//! without code.
-#![tactic(auto)]
-
-mod laws;
-
-pub use laws::{typed_parts_are_keyed, well_typed_files_are_scoped};

@@ -1,0 +1,16 @@
+-- The law of searches in files of constants and of functions that print them. It is the contract of a function of this
+-- crate (Go specification, Constant declarations; Composite literals).
+use Rattle.std.specs.Prelude.{List}
+use Rattle.use_search.specs.UsesOfMarks.Laws.{EachSound}
+use Rattle.member_uses.specs.Uses.{Names}
+use Rattle.run_rules.specs.Run.{Standing}
+use Rattle.run_rules.specs.Sites.{MarkRef, Where}
+use Rattle.run_rules.specs.Steps.{At}
+use Rattle.searched_sites.specs.OrderedSearches.Held.{IsThere}
+use Rattle.printed_constants.specs.Printed.{ArePrinted}
+
+-- The declarations of each file are as marked_uses asks, by whatever names.
+abbrev pub PrintedFilesAreSound : Type 0
+PrintedFilesAreSound =
+    (marks : List MarkRef) (st : Standing) (w : Where At) (f : Names) → ArePrinted st.packages → IsThere st.packages w
+    → EachSound st.packages marks w f w.source.tree.decls

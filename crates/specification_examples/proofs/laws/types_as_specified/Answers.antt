@@ -1,8 +1,0 @@
-use Rattle.std.proofs.Common.{refl}
-use Rattle.specification_examples.proofs.laws.types_as_specified.Goals as goal
-
-pub returns-clause-identical : goal.returns-clause-identical
-returns-clause-identical c = refl
-
-pub returns-clause-methods : goal.returns-clause-methods
-returns-clause-methods c = refl

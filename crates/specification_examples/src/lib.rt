@@ -1,6 +1,0 @@
-//! Examples of the Go specification, computed by the rules of typing: laws alone.
-#![tactic(auto)]
-
-mod laws;
-
-pub use laws::{constants_as_specified, types_as_specified};

@@ -1,7 +1,0 @@
-//! What a step over a use of a constant changes of the parts of its declaration that may be uses: definitions and laws
-//! alone, without code.
-#![tactic(auto)]
-
-mod laws;
-
-pub use laws::steps_swap_parts;

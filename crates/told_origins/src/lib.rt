@@ -1,6 +1,0 @@
-//! Where a use of a constant comes from, by where it stands: definitions and laws alone, without code.
-#![tactic(auto)]
-
-mod laws;
-
-pub use laws::origins_are_told;

@@ -1,7 +1,0 @@
-//! What a table tells of marked constants that are declared as names: definitions and a law alone, without code (Go
-//! specification, Constant declarations; Qualified identifiers).
-#![tactic(auto)]
-
-mod laws;
-
-pub use laws::values_are_told;

@@ -1,6 +1,0 @@
-//! What declared types are defined as, through chains of names (Go specification, Underlying types).
-#![tactic(auto)]
-
-mod laws;
-
-pub use laws::chains_of_names_end;

@@ -1,9 +1,0 @@
-//! Which imports of a file a step over a use of a marked constant leaves unused.
-#![tactic(auto)]
-
-mod names;
-mod parts;
-mod unused;
-
-pub use parts::file_parts;
-pub use unused::unused_imports;

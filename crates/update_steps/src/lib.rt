@@ -1,9 +1,0 @@
-//! What `op=`, `++` and `--` give of the answers for their operands (Go specification, Assignment
-//! statements; IncDec statements).
-#![tactic(auto)]
-
-mod lists;
-mod updates;
-
-pub use lists::update;
-pub use updates::is_updated;

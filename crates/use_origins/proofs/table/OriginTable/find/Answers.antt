@@ -1,6 +1,0 @@
-use Rattle.std.proofs.Common.{◌∙◌}
-use Rattle.use_origins.proofs.Tables.{span_found}
-use Rattle.use_origins.proofs.table.OriginTable.find.Goals as goal
-
-pub returns : goal.returns
-returns c = rw (← c.self.view_is) (c.copied.ensures ∙ c.get.ensures.value ∙ span_found c.args.span c.self.inside.entries.entries)

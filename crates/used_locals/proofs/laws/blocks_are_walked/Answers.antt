@@ -1,5 +1,0 @@
-use Rattle.used_locals.proofs.ScopeLaws.{blocks_begin, blocks_end, parts_declare, parts_use}
-use Rattle.used_locals.proofs.laws.blocks_are_walked.Goals as goal
-
-pub returns : goal.returns
-returns c = record { begin = blocks_begin; uses = parts_use; declares = parts_declare; end = blocks_end }

@@ -1,8 +1,0 @@
-use Rattle.std.proofs.Common.{◌≡◌, drop}
-use Rattle.used_locals.specs.Pending.{all_pass}
-use Rattle.used_locals.specs.Used.{used_of}
-use Rattle.used_locals.proofs.pending.PendingNames.all_pass.Given as goal
-
-abbrev pub invariant-loop-pending : goal.invariant-loop-pending
-invariant-loop-pending l =
-    all_pass (drop l.pending-index l.pending-items) (used_of l.used) ≡ all_pass l.pending-items (used_of l.used)

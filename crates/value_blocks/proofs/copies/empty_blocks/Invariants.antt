@@ -1,6 +1,0 @@
-use Rattle.std.proofs.Common.{◌≡◌, []}
-use Rattle.std.specs.Prelude.{replicate}
-use Rattle.value_blocks.proofs.copies.empty_blocks.Given as goal
-
-abbrev pub invariant-loop : goal.invariant-loop
-invariant-loop l = l.blocks ≡ replicate l.counter []

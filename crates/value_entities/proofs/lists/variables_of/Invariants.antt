@@ -1,6 +1,0 @@
-use Rattle.std.proofs.Common.{◌≡◌, replicate}
-use Rattle.typed_names.specs.declared.entities.Entity.TheVariants.{Variable as a_variable}
-use Rattle.value_entities.proofs.lists.variables_of.Given as goal
-
-abbrev pub invariant-loop : goal.invariant-loop
-invariant-loop l = l.items.items ≡ replicate l.counter (a_variable l.t)

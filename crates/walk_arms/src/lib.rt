@@ -1,8 +1,0 @@
-//! The arms of the walk over expressions: what is known of the parts, in the tables in which they were
-//! walked, and what a rule gives, make up what is known of the whole; lists of expressions and of
-//! elements are walked one by one (Go specification, Expressions).
-#![tactic(auto)]
-
-mod qualifiers;
-
-pub use qualifiers::package_before;
