@@ -30,6 +30,13 @@ greatest_more f (x ∷ xs) zero d lt = omega arith
 greatest_more f (x ∷ xs) (suc i) d lt =
     let here = rw add-one at (greatest_more f xs i d (omega arith)) in rw add-one (omega (arith, here))
 
+-- one more entry, by the deeper of two
+pub walk_more : {A : Type 0} (f : A → ℕ) (xs : List A) (i was here r : ℕ) (x : A) → i < length xs → x ≡ get_or xs i x → was ≡ capped (greatest f (take i xs)) → here ≡ capped (f x) → ((m n : ℕ) → was ≡ capped m → here ≡ capped n → r ≡ capped (max m n)) → r ≡ capped (greatest f (take (i + 1) xs))
+walk_more f xs i was here r x lt is so_far deep both =
+    both (greatest f (take i xs)) (f x) so_far deep
+    ∙ ap (λ y. capped (max (greatest f (take i xs)) (f y))) is
+    ∙ sym (ap capped (greatest_more f xs i x lt))
+
 -- the greatest of the entries is that of the list
 list_walked : {A T : Type 0} (deep : A → ℕ) (depth : T → ℕ) (of : List A → T) → ((xs : List A) → depth (of xs) ≡ greatest deep xs) → (l : T) (xs : List A) (n r : ℕ) → l ≡ of xs → r ≡ capped (greatest deep (take n xs)) → length xs ≤ n → r ≡ capped (depth l)
 list_walked deep depth of each l xs n r seen so_far whole =

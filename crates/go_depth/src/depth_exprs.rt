@@ -53,7 +53,6 @@ pub(crate) fn option_depth(e: &Option<Expr>) -> u32
 }
 
 #[cycle(tree_depth)]
-#[tactic(auto, using(crate::proofs::DepthLemmas::greatest_more, crate::proofs::DepthLemmas::exprs_walked))]
 pub(crate) fn exprs_depth(exprs: &ExprList) -> u32
     ensures { result ≡ capped (depth_exprs (exprs_of exprs.now)) }
 {
@@ -65,7 +64,6 @@ pub(crate) fn exprs_depth(exprs: &ExprList) -> u32
 }
 
 #[cycle(tree_depth)]
-#[tactic(auto, using(crate::proofs::DepthLemmas::greatest_more, crate::proofs::DepthLemmas::elems_walked))]
 fn elems_depth(elems: &ElemList) -> u32
     ensures { result ≡ capped (depth_elems (elems_of elems.now)) }
 {

@@ -81,7 +81,6 @@ fn block_option_depth(block: &Option<Block>) -> u32
 }
 
 #[cycle(tree_depth)]
-#[tactic(auto, using(crate::proofs::DepthLemmas::greatest_more, crate::proofs::DepthLemmas::stmts_walked))]
 fn stmts_depth(stmts: &StmtList) -> u32
     ensures { result ≡ capped (depth_stmts (stmts_of stmts.now)) }
 {
@@ -124,7 +123,6 @@ fn arm_depth(arm: &Arm) -> u32
 }
 
 #[cycle(tree_depth)]
-#[tactic(auto, using(crate::proofs::DepthLemmas::greatest_more, crate::proofs::DepthLemmas::arms_walked))]
 fn arms_depth(arms: &ArmList) -> u32
     ensures { result ≡ capped (depth_arms (arms_of arms.now)) }
 {
@@ -143,7 +141,6 @@ fn case_depth(case: &Case) -> u32
 }
 
 #[cycle(tree_depth)]
-#[tactic(auto, using(crate::proofs::DepthLemmas::greatest_more, crate::proofs::DepthLemmas::cases_walked))]
 fn cases_depth(cases: &CaseList) -> u32
     ensures { result ≡ capped (depth_cases (cases_of cases.now)) }
 {
@@ -165,7 +162,6 @@ fn const_spec_depth(spec: &ConstSpec) -> u32
 }
 
 #[cycle(tree_depth)]
-#[tactic(auto, using(crate::proofs::DepthLemmas::greatest_more, crate::proofs::DepthLemmas::const_specs_walked))]
 fn const_specs_depth(specs: &ConstSpecList) -> u32
     ensures { result ≡ capped (depth_value_specs (const_specs_of specs.now)) }
 {
@@ -187,7 +183,6 @@ fn var_spec_depth(spec: &VarSpec) -> u32
 }
 
 #[cycle(tree_depth)]
-#[tactic(auto, using(crate::proofs::DepthLemmas::greatest_more, crate::proofs::DepthLemmas::var_specs_walked))]
 fn var_specs_depth(specs: &VarSpecList) -> u32
     ensures { result ≡ capped (depth_value_specs (var_specs_of specs.now)) }
 {
