@@ -104,7 +104,6 @@ pub(crate) fn copy_expr_option(alloc: Global, e: &Option<Expr>) -> Result<Option
 }
 
 #[cycle(copy_tree)]
-#[tactic(auto, using(crate::proofs::CopyLemmas::map_copied, crate::proofs::CopyLemmas::exprs_copied))]
 pub(crate) fn copy_exprs(alloc: Global, exprs: &ExprList) -> Result<ExprList, NoMemory>
     ensures { IfOk result (λ c. exprs_of c ≡ exprs_of exprs.now) }
 {
@@ -116,7 +115,6 @@ pub(crate) fn copy_exprs(alloc: Global, exprs: &ExprList) -> Result<ExprList, No
 }
 
 #[cycle(copy_tree)]
-#[tactic(auto, using(crate::proofs::CopyLemmas::map_copied, crate::proofs::CopyLemmas::elems_copied))]
 fn copy_elems(alloc: Global, elems: &ElemList) -> Result<ElemList, NoMemory>
     ensures { IfOk result (λ c. elems_of c ≡ elems_of elems.now) }
 {
@@ -132,7 +130,10 @@ fn copy_elem(alloc: Global, elem: &Elem) -> Result<Elem, NoMemory>
     ensures { IfOk result (λ c. elem_of c ≡ elem_of elem.now) }
 {
     match &elem.key {
-        None => Ok(Elem::new(elem.span, None, copy_value(alloc, &elem.value)?)),
+        None => {
+            let value = copy_value(alloc, &elem.value)?;
+            Ok(Elem::new(elem.span, None, value))
+        }
         Some(key) => {
             let key = Box::new(alloc, copy_value(alloc, key)?)?;
             let value = copy_value(alloc, &elem.value)?;

@@ -117,7 +117,6 @@ fn copy_block_option(alloc: Global, block: &Option<Block>) -> Result<Option<Bloc
 }
 
 #[cycle(copy_tree)]
-#[tactic(auto, using(crate::proofs::CopyLemmas::map_copied, crate::proofs::CopyLemmas::stmts_copied))]
 fn copy_stmts(alloc: Global, stmts: &StmtList) -> Result<StmtList, NoMemory>
     ensures { IfOk result (λ c. stmts_of c ≡ stmts_of stmts.now) }
 {
@@ -166,7 +165,6 @@ fn copy_arm(alloc: Global, arm: &Arm) -> Result<Arm, NoMemory>
 }
 
 #[cycle(copy_tree)]
-#[tactic(auto, using(crate::proofs::CopyLemmas::map_copied, crate::proofs::CopyLemmas::arms_copied))]
 fn copy_arms(alloc: Global, arms: &ArmList) -> Result<ArmList, NoMemory>
     ensures { IfOk result (λ c. arms_of c ≡ arms_of arms.now) }
 {
@@ -186,7 +184,6 @@ fn copy_case(alloc: Global, case: &Case) -> Result<Case, NoMemory>
 }
 
 #[cycle(copy_tree)]
-#[tactic(auto, using(crate::proofs::CopyLemmas::map_copied, crate::proofs::CopyLemmas::cases_copied))]
 fn copy_cases(alloc: Global, cases: &CaseList) -> Result<CaseList, NoMemory>
     ensures { IfOk result (λ c. cases_of c ≡ cases_of cases.now) }
 {
@@ -208,7 +205,6 @@ fn copy_const_spec(alloc: Global, spec: &ConstSpec) -> Result<ConstSpec, NoMemor
 }
 
 #[cycle(copy_tree)]
-#[tactic(auto, using(crate::proofs::CopyLemmas::map_copied, crate::proofs::CopyLemmas::const_specs_copied))]
 fn copy_const_specs(alloc: Global, specs: &ConstSpecList) -> Result<ConstSpecList, NoMemory>
     ensures { IfOk result (λ c. const_specs_of c ≡ const_specs_of specs.now) }
 {
@@ -230,7 +226,6 @@ fn copy_var_spec(alloc: Global, spec: &VarSpec) -> Result<VarSpec, NoMemory>
 }
 
 #[cycle(copy_tree)]
-#[tactic(auto, using(crate::proofs::CopyLemmas::map_copied, crate::proofs::CopyLemmas::var_specs_copied))]
 fn copy_var_specs(alloc: Global, specs: &VarSpecList) -> Result<VarSpecList, NoMemory>
     ensures { IfOk result (λ c. var_specs_of c ≡ var_specs_of specs.now) }
 {
