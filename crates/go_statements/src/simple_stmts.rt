@@ -19,7 +19,6 @@ use go_tree::{Expr, ExprList, Stmt, assign_stmt, define_stmt};
 use go_words::Terminal;
 
 /// A simple statement; in a header no composite literal begins with a name outside of brackets.
-#[tactic(auto, using(crate::proofs::SimpleArms::simple_defines, crate::proofs::SimpleArms::simple_none, crate::proofs::SimpleArms::simple_goes))]
 pub(crate) fn simple_stmt<'a, F: Fn(Cursor) -> Taken>(place: Place<'a, '_, F>) -> Reading<'a, Stmt>
     requires ready { Ready F.Fn place }
     ensures gives { Gives stmt_of result
