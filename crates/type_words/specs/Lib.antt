@@ -1,0 +1,2 @@
+pub mod TypeText
+pub mod Written
