@@ -44,13 +44,15 @@ add() {
     fi
 }
 
-# modules, what is refused of them, those that are too large, tokens and trees of files, files printed, and what documents name
+# modules, what is refused of them, those that are too large, what is shown of files, and what documents name
 add runs.sh
 add modules.sh
 add limits.sh
 add tokens.sh
 add trees.sh
 add print.sh
+add names.sh
+add marks.sh
 add docs.sh
 
 # the shipped example, by its script

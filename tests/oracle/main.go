@@ -1,8 +1,8 @@
 // Writes tables of what Go's own packages say of small programs, as checks of the definitions:
 //
 //	go run . names sources/names.go ../../crates/scope_names/proofs (then rt fmt)
-//	go run . uses sources/names.go ../../crates/module_tests/src/name
-//	go run . uses sources/specification.go ../../crates/module_tests/src/specification
+//	go run . uses sources/names.go ../names/names
+//	go run . uses sources/specification.go ../names/specification
 //
 // A type that several names share stands in the tree once for each, so the sources give each name its own. The gate
 // doesn't run this program: what it writes is committed.

@@ -120,23 +120,33 @@ func index(list []string, name string) int {
 	panic(name)
 }
 
-// meaning is what go/types says that the identifier means.
-func (c *checked) meaning(id *ast.Ident) string {
+// object is what go/types says that the identifier means, or nil.
+func (c *checked) object(id *ast.Ident) types.Object {
 	o := c.info.Uses[id]
-	if o == nil {
-		return "None"
-	}
 	if v, ok := o.(*types.Var); ok && v.IsField() {
 		// a key of a struct's literal: what the name would mean as a use
 		_, o = c.pkg.Scope().Innermost(id.Pos()).LookupParent(id.Name, id.Pos())
-		if o == nil {
-			return "None"
-		}
 	}
-	if p, ok := o.(*types.PkgName); ok {
-		return fmt.Sprintf("(Some (Import %d))", index(c.imports, p.Name()))
+	return o
+}
+
+func isImport(o types.Object) bool {
+	_, ok := o.(*types.PkgName)
+	return ok
+}
+
+func isPredeclared(o types.Object) bool { return o.Parent() == types.Universe || o.Pkg() == nil }
+
+// meaning is what the identifier means, as a term.
+func (c *checked) meaning(id *ast.Ident) string {
+	o := c.object(id)
+	if o == nil {
+		return "None"
 	}
-	if o.Parent() == types.Universe || o.Pkg() == nil {
+	if isImport(o) {
+		return fmt.Sprintf("(Some (Import %d))", index(c.imports, o.Name()))
+	}
+	if isPredeclared(o) {
 		return fmt.Sprintf("(Some (Universe %d))", index(universe, o.Name()))
 	}
 	if o.Parent() == c.pkg.Scope() {

@@ -4,7 +4,13 @@
 //! hexadecimal, or why the file has none: `BAD OFFSET` or `NOTUTF8 OFFSET`. `tree` writes `read`
 //! where the file has a tree, or else the first of these that holds: `not UTF-8 OFFSET` or `bad
 //! token OFFSET`, `unsupported OFFSET`, `too deep OFFSET`, `not read OFFSET`. `print` writes a file
-//! that has a tree in the one layout, without its comments, and of another what `tree` writes.
+//! that has a tree in the one layout, without its comments, and of another what `tree` writes; so do
+//! the next words of a file without a tree. `names` writes each identifier, one a line: `OFFSET NAME`
+//! and what the name means there, `local`, `import` or `package` with the offset at which it is
+//! declared, `predeclared` or `nothing`. `marks` writes each mark `//go:fix inline` that means
+//! something, `OFFSET KIND NAME` with the offset of the name, and then each other: `OFFSET bad:
+//! REASON`. For both words the file is a package of its own, and an import whose spec gives no name
+//! has the last element of its path.
 #![tactic(auto)]
 
 ghost use Rattle.std.specs.Prelude.{◌≤◌, IfOk, OnOk, length, vec_len};
@@ -14,7 +20,10 @@ ghost use Rattle.go_layout.specs.Layouts.{text_of};
 ghost use Rattle.go_show.specs.Outcomes.{ShowsFile, ShowsTree};
 ghost use Rattle.go_tree.specs.FileView.{file_of};
 
+mod blocks;
 mod lines;
+mod marks;
+mod names;
 mod tree;
 
 use go_parse::read_file;
@@ -22,6 +31,8 @@ use go_print::print_file;
 use go_scan::{ScanError, scan};
 use go_tree::{FileTree, MAX_FILE_BYTES};
 use lines::write_tokens;
+use marks::write_marks;
+use names::write_names;
 use std::alloc::Global;
 use std::io::{self, BufWriter, Write};
 use std::process::ExitCode;
@@ -33,7 +44,7 @@ use tree::write_fault;
 /// Why nothing is shown.
 #[derive(Debug, Drop, Error)]
 enum Fault {
-    #[error("usage: go_show tokens|tree|print FILE")]
+    #[error("usage: go_show tokens|tree|print|names|marks FILE")]
     Usage,
     #[error("{0}: cannot be read: {1}")]
     Unreadable(String, io::Error),
@@ -49,6 +60,8 @@ enum Part {
     Tokens,
     Tree,
     Print,
+    Names,
+    Marks,
 }
 
 fn part_of(word: &str) -> Option<Part> {
@@ -56,6 +69,8 @@ fn part_of(word: &str) -> Option<Part> {
         "tokens" => Some(Part::Tokens),
         "tree" => Some(Part::Tree),
         "print" => Some(Part::Print),
+        "names" => Some(Part::Names),
+        "marks" => Some(Part::Marks),
         _ => None,
     }
 }
@@ -145,6 +160,8 @@ fn show<R: Env + Files + Print + AllocGlobal>(rt: &R) -> Result<(), Fault> {
         Part::Tokens => write_scan(rt.alloc(), &mut out, &text)?,
         Part::Tree => write_tree(rt.alloc(), &mut out, &text)?,
         Part::Print => write_print(rt.alloc(), &mut out, &text)?,
+        Part::Names => write_names(rt.alloc(), &mut out, &text)?,
+        Part::Marks => write_marks(rt.alloc(), &mut out, &text)?,
     }
     out.flush()?;
     Ok(())

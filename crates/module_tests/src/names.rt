@@ -1,17 +1,11 @@
-//! What names mean at places of files, and which names stand in parts of them.
+//! Which names stand in parts of files; what names mean is in tests/names.
 
 use crate::sources::source;
-use crate::{name_rows, name_text, specification_rows, specification_text};
-use go_tree::{Decl, Expr, FileTree, FuncDecl, Name, Span, Text};
+use go_tree::{Decl, Expr, FileTree, FuncDecl, Name};
 use names_within::{binders, free_names, fresh};
-use scope_names::{Entity, FileNames, ImportList, ImportName, NameList};
-use scope_tables::{Scopes, scopes};
+use scope_names::NameList;
 use std::alloc::Global;
-use std::process::Abort;
 use std::test::Fail;
-
-/// More imports, or names of a package block, than any text here has.
-const MANY: usize = 100;
 
 fn name(alloc: Global, text: &str) -> Result<Name, Fail> {
     Ok(Name::of(text.as_bytes().to_vec(alloc)?))
@@ -23,102 +17,6 @@ fn list(alloc: Global, words: &str) -> Result<NameList, Fail> {
         names.push(name(alloc, word)?)?;
     }
     Ok(NameList::of(names))
-}
-
-/// Imports of these names; the spec of each stands where its number says.
-fn imports(alloc: Global, words: &str) -> Result<ImportList, Fail> {
-    let mut list = Vec::new(alloc);
-    let mut at: u32 = 0;
-    for word in words.split(' ') {
-        list.push(ImportName {
-            name: name(alloc, word)?,
-            path: Text::of(b"m/p".to_vec(alloc)?),
-            spec: Span { start: at, end: at },
-        })?;
-        at = at.wrapping_add(1);
-    }
-    Ok(ImportList::of(list))
-}
-
-/// The scopes of a text that declares these names outside of its functions.
-fn table(alloc: Global, text: &str, import_names: &str, members: &str) -> Result<Scopes, Fail> {
-    let names = FileNames {
-        imports: imports(alloc, import_names)?,
-        package: list(alloc, members)?,
-    };
-    if names.imports.items().len() > MANY || names.package.items().len() > MANY {
-        return Err(Fail::new("too many names"));
-    }
-    let source = source(alloc, text.as_bytes())?;
-    let table = scopes(alloc, &source.tree, &names);
-    drop(source);
-    Ok(table?)
-}
-
-fn kind(entity: Option<Entity>) -> (&'static str, u32) {
-    match entity {
-        None => ("nothing", 0),
-        Some(Entity::Local(span)) => ("local", span.start),
-        Some(Entity::Import(number)) => ("import", number),
-        Some(Entity::Package(number)) => ("package", number),
-        Some(Entity::Universe(number)) => ("universe", number),
-    }
-}
-
-/// Where what is declared by a local declaration or an import stands.
-fn declaration(entity: Option<Entity>) -> Option<u32> {
-    match entity {
-        Some(Entity::Local(span)) => Some(span.start),
-        Some(Entity::Import(number)) => Some(number),
-        _ => None,
-    }
-}
-
-/// Each row says where a use stands, its name, and what it means.
-fn compare<R: Abort + AllocGlobal>(rt: &R, table: &Scopes, rows: &str) -> Result<(), Fail> {
-    for row in rows.split(';') {
-        let mut words = row.split(' ');
-        let (Some(place), Some(word)) = (words.next(), words.next()) else {
-            return Err(Fail::new("a row without a name"));
-        };
-        let Ok(at) = place.parse::<u32>() else {
-            return Err(Fail::new("a row without a place"));
-        };
-        let name = name(rt.alloc(), word)?;
-        let entity = table.lookup(&name, at);
-        let (kind, number) = kind(entity);
-        let found = format!(in rt.alloc(); "{at} {word} {kind} {number}")?;
-        assert!(rt; found.as_str() == row, "found {found}");
-        let captured = table
-            .captured(&name, at)
-            .map(|span: Span| -> u32 { span.start });
-        assert!(rt; captured == declaration(entity), "captured at {at}");
-    }
-    Ok(())
-}
-
-// Small functions, one for each rule of scopes.
-#[test]
-fn uses_as_go_types_resolves_them(rt: HostRuntime) -> Result<(), Fail> {
-    let table = table(
-        rt.alloc(),
-        name_text::TEXT,
-        name_rows::IMPORTS,
-        name_rows::MEMBERS,
-    )?;
-    compare(&rt, &table, name_rows::ROWS)
-}
-
-// The examples of the Go specification, Declarations and scope, by go/types too.
-#[test]
-fn uses_by_the_specification(rt: HostRuntime) -> Result<(), Fail> {
-    let table = table(
-        rt.alloc(),
-        specification_text::TEXT,
-        specification_rows::IMPORTS,
-        specification_rows::MEMBERS,
-    )?;
-    compare(&rt, &table, specification_rows::ROWS)
 }
 
 fn joined(alloc: Global, names: &NameList) -> Result<Vec<u8>, Fail> {
