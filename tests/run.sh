@@ -52,7 +52,9 @@ add tokens.sh
 add trees.sh
 add print.sh
 add names.sh
+add parts.sh
 add marks.sh
+add imports.sh
 add docs.sh
 
 # the shipped example, by its script

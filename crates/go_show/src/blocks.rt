@@ -14,7 +14,7 @@ pub struct FileBlocks {
 }
 
 /// What stands behind the last slash of a path.
-fn last_element(path: &[u8]) -> &[u8] {
+pub fn last_element(path: &[u8]) -> &[u8] {
     let mut last = path;
     for (i, byte) in path.iter().enumerate() {
         if *byte == b'/' {

@@ -7,10 +7,17 @@
 //! that has a tree in the one layout, without its comments, and of another what `tree` writes; so do
 //! the next words of a file without a tree. `names` writes each identifier, one a line: `OFFSET NAME`
 //! and what the name means there, `local`, `import` or `package` with the offset at which it is
-//! declared, `predeclared` or `nothing`. `marks` writes each mark `//go:fix inline` that means
-//! something, `OFFSET KIND NAME` with the offset of the name, and then each other: `OFFSET bad:
-//! REASON`. For both words the file is a package of its own, and an import whose spec gives no name
-//! has the last element of its path.
+//! declared, `predeclared` or `nothing`. `parts` writes of each function the names that it declares,
+//! `declared NAME ..`, and of each value of a variable outside functions those that are free in it,
+//! `free NAME ..`. `marks` writes each mark `//go:fix inline` that means something, `OFFSET KIND NAME`
+//! with the offset of the name, and then each other: `OFFSET bad: REASON`. For these words the file is
+//! a package of its own, and an import whose spec gives no name has the last element of its path.
+//!
+//! `go_show imports FILE WORD..` writes the file in which an import comes for each word `+PATH` or
+//! `+NAME=PATH`, and those go whose path a word `-PATH` names. `go_show need FILE OFFSET PATH NAME
+//! WORD..` writes by which name the file knows the package with this path and own name at the offset,
+//! and ` new` where an import has to come for it; the words are names that are bound there, or, with
+//! a `+`, names that other files of the package declare.
 #![tactic(auto)]
 
 ghost use Rattle.std.specs.Prelude.{◌≤◌, IfOk, OnOk, length, vec_len};
@@ -21,18 +28,24 @@ ghost use Rattle.go_show.specs.Outcomes.{ShowsFile, ShowsTree};
 ghost use Rattle.go_tree.specs.FileView.{file_of};
 
 mod blocks;
+mod imports;
 mod lines;
 mod marks;
 mod names;
+mod needs;
+mod parts;
 mod tree;
 
 use go_parse::read_file;
 use go_print::print_file;
 use go_scan::{ScanError, scan};
 use go_tree::{FileTree, MAX_FILE_BYTES};
+use imports::write_imports;
 use lines::write_tokens;
 use marks::write_marks;
 use names::write_names;
+use needs::write_need;
+use parts::write_parts;
 use std::alloc::Global;
 use std::io::{self, BufWriter, Write};
 use std::process::ExitCode;
@@ -44,7 +57,7 @@ use tree::write_fault;
 /// Why nothing is shown.
 #[derive(Debug, Drop, Error)]
 enum Fault {
-    #[error("usage: go_show tokens|tree|print|names|marks FILE")]
+    #[error("usage: go_show tokens|tree|print|names|parts|marks FILE, or go_show imports|need FILE WORD..")]
     Usage,
     #[error("{0}: cannot be read: {1}")]
     Unreadable(String, io::Error),
@@ -61,7 +74,10 @@ enum Part {
     Tree,
     Print,
     Names,
+    Parts,
     Marks,
+    Imports,
+    Need,
 }
 
 fn part_of(word: &str) -> Option<Part> {
@@ -70,13 +86,30 @@ fn part_of(word: &str) -> Option<Part> {
         "tree" => Some(Part::Tree),
         "print" => Some(Part::Print),
         "names" => Some(Part::Names),
+        "parts" => Some(Part::Parts),
         "marks" => Some(Part::Marks),
+        "imports" => Some(Part::Imports),
+        "need" => Some(Part::Need),
         _ => None,
     }
 }
 
-/// What the command's words ask for, and the file that they name.
-fn asked<R: Env + AllocGlobal>(rt: &R) -> Result<(Part, String), Fault> {
+/// Whether words may stand behind the file's name.
+fn takes_words(part: Part) -> bool {
+    matches!(part, Part::Imports | Part::Need)
+}
+
+/// The words that are left.
+fn rest_of<I: Iterator<Item = String>>(alloc: Global, words: I) -> io::Result<Vec<String>> {
+    let mut rest = Vec::new(alloc);
+    for word in words {
+        rest.push(word)?;
+    }
+    Ok(rest)
+}
+
+/// What the command's words ask for, the file that they name, and the words behind it.
+fn asked<R: Env + AllocGlobal>(rt: &R) -> Result<(Part, String, Vec<String>), Fault> {
     let mut words = env::args(rt)?;
     let _program = words.next();
     let Some(word) = words.next() else {
@@ -88,10 +121,11 @@ fn asked<R: Env + AllocGlobal>(rt: &R) -> Result<(Part, String), Fault> {
     let Some(part) = part_of(word.as_str()) else {
         return Err(Fault::Usage);
     };
-    if words.next().is_some() {
+    let more = rest_of(rt.alloc(), words)?;
+    if !more.is_empty() && !takes_words(part) {
         return Err(Fault::Usage);
     }
-    Ok((part, path))
+    Ok((part, path, more))
 }
 
 fn text_of<R: Files + AllocGlobal>(rt: &R, path: String) -> Result<Vec<u8>, Fault>
@@ -153,7 +187,7 @@ fn write_print<W: Write>(alloc: Global, out: &mut W, text: &[u8]) -> io::Result<
 }
 
 fn show<R: Env + Files + Print + AllocGlobal>(rt: &R) -> Result<(), Fault> {
-    let (part, path) = asked(rt)?;
+    let (part, path, more) = asked(rt)?;
     let text = text_of(rt, path)?;
     let mut out = BufWriter::new(rt.alloc(), io::writer(rt))?;
     match part {
@@ -161,7 +195,10 @@ fn show<R: Env + Files + Print + AllocGlobal>(rt: &R) -> Result<(), Fault> {
         Part::Tree => write_tree(rt.alloc(), &mut out, &text)?,
         Part::Print => write_print(rt.alloc(), &mut out, &text)?,
         Part::Names => write_names(rt.alloc(), &mut out, &text)?,
+        Part::Parts => write_parts(rt.alloc(), &mut out, &text)?,
         Part::Marks => write_marks(rt.alloc(), &mut out, &text)?,
+        Part::Imports => write_imports(rt.alloc(), &mut out, &text, &more)?,
+        Part::Need => write_need(rt.alloc(), &mut out, &text, &more)?,
     }
     out.flush()?;
     Ok(())

@@ -1,4 +1,4 @@
--- What a text that reads gives the calls that settle its imports.
+-- What a text that is read gives the call that settles its imports.
 use Rattle.std.proofs.Common.{◌≡◌, ℕ, List, length, refl, sym, subst}
 use Rattle.go_tree.specs.declared.spans.Span.{Span}
 use Rattle.go_tree.specs.declared.tokens.Token.{Token}
@@ -8,12 +8,11 @@ use Rattle.go_parse.specs.Sources.{IsSource}
 use Rattle.text_edits.specs.declared.edit.Edit.{Edit}
 use Rattle.text_edits.specs.Applied.{Within}
 use Rattle.import_rules.specs.declared.new_import.NewImport.{NewImport}
-use Rattle.import_rules.specs.Laid.{CommentsAscend, Laid}
+use Rattle.import_rules.specs.Laid.{Laid}
 use Rattle.import_rules.specs.Settled.{settled}
 use Rattle.import_rules.proofs.SettledOrder.{settled_within}
 use Rattle.import_splices.specs.ImportPlaces.ReadFiles.{SpellsImportsOf, ReadsImportsOf}
 use Rattle.import_splices.proofs.ImportPlaces.FilesLaid.{imports_laid}
-use Rattle.import_splices.proofs.ImportPlaces.CommentsStand.{comments_ascend}
 
 module _ (text : List ℕ) (tokens : List Token) (comments : List Comment) (file : File Span) (s : IsSource text tokens comments file) where
   own_imports : SpellsImportsOf tokens file
@@ -22,11 +21,8 @@ module _ (text : List ℕ) (tokens : List Token) (comments : List Comment) (file
   pub reads_imports : ReadsImportsOf text file
   reads_imports = record { tokens = tokens; comments = comments; scans = s.0; spells = own_imports }
 
-  pub imports_lie : Laid text tokens file
+  imports_lie : Laid text tokens file
   imports_lie = imports_laid text tokens comments file s.0 own_imports
-
-  pub ascend : CommentsAscend 0 comments
-  ascend = comments_ascend text tokens comments s.0
 
   pub edits_within : (added : List NewImport) (unused : List Span) (es : List Edit) → es ≡ settled text tokens comments file added unused → Within (length text) es
   edits_within added unused es e = subst (λ (xs : List Edit). Within (length text) xs) (sym e) (settled_within text tokens comments file added unused imports_lie)

@@ -1,6 +1,6 @@
 use Rattle.go_tree.specs.FileView.{file_of}
-use Rattle.import_tests.proofs.ReadTexts.{reads_imports, edits_within}
-use Rattle.import_tests.proofs.settling.settled.Goals as goal
+use Rattle.go_show.proofs.ReadTexts.{reads_imports, edits_within}
+use Rattle.go_show.proofs.imports.settled.Goals as goal
 
 pub settle-requires-clause-reads : goal.settle-requires-clause-reads
 settle-requires-clause-reads c =
