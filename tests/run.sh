@@ -54,6 +54,7 @@ add print.sh
 add names.sh
 add parts.sh
 add marks.sh
+add uses.sh
 add imports.sh
 add docs.sh
 

@@ -9,9 +9,11 @@
 //! and what the name means there, `local`, `import` or `package` with the offset at which it is
 //! declared, `predeclared` or `nothing`. `parts` writes of each function the names that it declares,
 //! `declared NAME ..`, and of each value of a variable outside functions those that are free in it,
-//! `free NAME ..`. `marks` writes each mark `//go:fix inline` that means something, `OFFSET KIND NAME`
-//! with the offset of the name, and then each other: `OFFSET bad: REASON`. For these words the file is
-//! a package of its own, and an import whose spec gives no name has the last element of its path.
+//! `free NAME ..`. `marks` writes each mark `//go:fix inline` that means
+//! something, `OFFSET KIND NAME` with the offset of the name, and then each other: `OFFSET bad:
+//! REASON`. `uses` writes the name of each import and whether a declaration uses it, `used` or
+//! `unused`. For these words the file is a package of its own, and an import whose spec gives no name
+//! has the last element of its path.
 //!
 //! `go_show imports FILE WORD..` writes the file in which an import comes for each word `+PATH` or
 //! `+NAME=PATH`, and those go whose path a word `-PATH` names. `go_show need FILE OFFSET PATH NAME
@@ -35,6 +37,7 @@ mod names;
 mod needs;
 mod parts;
 mod tree;
+mod uses;
 
 use go_parse::read_file;
 use go_print::print_file;
@@ -53,11 +56,12 @@ use std::rt::{Env, Files};
 use std::{env, fs};
 use thiserror::Error;
 use tree::write_fault;
+use uses::write_uses;
 
 /// Why nothing is shown.
 #[derive(Debug, Drop, Error)]
 enum Fault {
-    #[error("usage: go_show tokens|tree|print|names|parts|marks FILE, or go_show imports|need FILE WORD..")]
+    #[error("usage: go_show tokens|tree|print|names|parts|marks|uses FILE, or go_show imports|need FILE WORD..")]
     Usage,
     #[error("{0}: cannot be read: {1}")]
     Unreadable(String, io::Error),
@@ -76,6 +80,7 @@ enum Part {
     Names,
     Parts,
     Marks,
+    Uses,
     Imports,
     Need,
 }
@@ -88,6 +93,7 @@ fn part_of(word: &str) -> Option<Part> {
         "names" => Some(Part::Names),
         "parts" => Some(Part::Parts),
         "marks" => Some(Part::Marks),
+        "uses" => Some(Part::Uses),
         "imports" => Some(Part::Imports),
         "need" => Some(Part::Need),
         _ => None,
@@ -197,6 +203,7 @@ fn show<R: Env + Files + Print + AllocGlobal>(rt: &R) -> Result<(), Fault> {
         Part::Names => write_names(rt.alloc(), &mut out, &text)?,
         Part::Parts => write_parts(rt.alloc(), &mut out, &text)?,
         Part::Marks => write_marks(rt.alloc(), &mut out, &text)?,
+        Part::Uses => write_uses(rt.alloc(), &mut out, &text)?,
         Part::Imports => write_imports(rt.alloc(), &mut out, &text, &more)?,
         Part::Need => write_need(rt.alloc(), &mut out, &text, &more)?,
     }

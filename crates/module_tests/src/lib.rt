@@ -1,9 +1,5 @@
-//! Tests of the calls that read a module's files: their packages, and names that stand in parts of them.
+//! Tests of the calls that order the packages of a module.
 #![tactic(auto)]
 
 #[cfg(test)]
-mod names;
-#[cfg(test)]
 mod packages;
-#[cfg(test)]
-mod sources;

@@ -1,4 +1,0 @@
-//! Tests of the names of a file that its declarations use.
-#![tactic(auto)]
-
-mod found;
