@@ -1,10 +1,15 @@
-//! `go_show WORD FILE` shows a file of Go source.
+//! `go_show WORD FILE` shows a file of Go source, and `go_show declared FOLDER` what a module declares.
 //!
 //! `tokens` writes its tokens, one a line: `START END KIND SPELLING`, with the spelling in
 //! hexadecimal, or why the file has none: `BAD OFFSET` or `NOTUTF8 OFFSET`. `tree` writes `read`
 //! where the file has a tree, or else the first of these that holds: `not UTF-8 OFFSET` or `bad
 //! token OFFSET`, `unsupported OFFSET`, `too deep OFFSET`, `not read OFFSET`. `print` writes a file
 //! that has a tree in the one layout, without its comments, and of another what `tree` writes.
+//!
+//! `declared` reads the module in a folder as gofix does, and writes package by package, in the order of their
+//! imports, a line `package PATH` and then one for each type, function and method that is declared:
+//! `FILE:LINE:COL: DECLARATION`, with the type as Go writes it. Behind them stands `FILE:LINE:COL: refused` for the
+//! first such declaration that is refused. Of a folder that is no module it writes what gofix does.
 #![tactic(auto)]
 
 ghost use Rattle.std.specs.Prelude.{◌≤◌, IfOk, OnOk, length, vec_len};
@@ -14,9 +19,14 @@ ghost use Rattle.go_layout.specs.Layouts.{text_of};
 ghost use Rattle.go_show.specs.Outcomes.{ShowsFile, ShowsTree};
 ghost use Rattle.go_tree.specs.FileView.{file_of};
 
+mod declarations;
+mod declared;
+mod folder;
 mod lines;
+mod places;
 mod tree;
 
+use declared::show_declared;
 use go_parse::read_file;
 use go_print::print_file;
 use go_scan::{ScanError, scan};
@@ -33,8 +43,10 @@ use tree::write_fault;
 /// Why nothing is shown.
 #[derive(Debug, Drop, Error)]
 enum Fault {
-    #[error("usage: go_show tokens|tree|print FILE")]
+    #[error("usage: go_show tokens|tree|print FILE, or go_show declared FOLDER")]
     Usage,
+    #[error("no module")]
+    NoModule,
     #[error("{0}: cannot be read: {1}")]
     Unreadable(String, io::Error),
     #[error("{0}: has more than 4 MiB")]
@@ -43,9 +55,10 @@ enum Fault {
     Io(#[from] io::Error),
 }
 
-/// What is shown of a file.
+/// What is shown of a file, or of the module in a folder.
 #[derive(Clone, Copy)]
 enum Part {
+    Declared,
     Tokens,
     Tree,
     Print,
@@ -53,6 +66,7 @@ enum Part {
 
 fn part_of(word: &str) -> Option<Part> {
     match word {
+        "declared" => Some(Part::Declared),
         "tokens" => Some(Part::Tokens),
         "tree" => Some(Part::Tree),
         "print" => Some(Part::Print),
@@ -137,11 +151,25 @@ fn write_print<W: Write>(alloc: Global, out: &mut W, text: &[u8]) -> io::Result<
     }
 }
 
-fn show<R: Env + Files + Print + AllocGlobal>(rt: &R) -> Result<(), Fault> {
-    let (part, path) = asked(rt)?;
+/// Shows what the module in a folder declares.
+fn show_module<R: Env + Files + Print + AllocGlobal>(rt: &R, path: String) -> Result<(), Fault> {
+    match show_declared(rt, path.as_str()) {
+        Ok(true) => Ok(()),
+        Ok(false) => Err(Fault::NoModule),
+        Err(fault) => Err(Fault::Unreadable(path, fault)),
+    }
+}
+
+/// Shows a part of a file.
+fn show_file<R: Files + Print + AllocGlobal>(
+    rt: &R,
+    part: Part,
+    path: String,
+) -> Result<(), Fault> {
     let text = text_of(rt, path)?;
     let mut out = BufWriter::new(rt.alloc(), io::writer(rt))?;
     match part {
+        Part::Declared => {}
         Part::Tokens => write_scan(rt.alloc(), &mut out, &text)?,
         Part::Tree => write_tree(rt.alloc(), &mut out, &text)?,
         Part::Print => write_print(rt.alloc(), &mut out, &text)?,
@@ -150,9 +178,19 @@ fn show<R: Env + Files + Print + AllocGlobal>(rt: &R) -> Result<(), Fault> {
     Ok(())
 }
 
+fn show<R: Env + Files + Print + AllocGlobal>(rt: &R) -> Result<(), Fault> {
+    let (part, path) = asked(rt)?;
+    match part {
+        Part::Declared => show_module(rt, path),
+        Part::Tokens | Part::Tree | Part::Print => show_file(rt, part, path),
+    }
+}
+
 fn main(rt: HostRuntime) -> ExitCode {
     match show(&rt) {
         Ok(()) => ExitCode::SUCCESS,
+        // gofix's line says why.
+        Err(Fault::NoModule) => ExitCode::from(1),
         Err(fault) => {
             let _ = eprintln!(rt; "go_show: {fault}");
             ExitCode::from(if matches!(fault, Fault::Usage) { 2 } else { 1 })
