@@ -1,4 +1,4 @@
-//! `go_show WORD FILE` shows a file of Go source.
+//! `go_show WORD FILE` shows a file of Go source, and `go_show declared FOLDER` what a module declares.
 //!
 //! `tokens` writes its tokens, one a line: `START END KIND SPELLING`, with the spelling in
 //! hexadecimal, or why the file has none: `BAD OFFSET` or `NOTUTF8 OFFSET`. `tree` writes `read`
@@ -20,6 +20,11 @@
 //! WORD..` writes by which name the file knows the package with this path and own name at the offset,
 //! and ` new` where an import has to come for it; the words are names that are bound there, or, with
 //! a `+`, names that other files of the package declare.
+//!
+//! `declared` reads the module in a folder as gofix does, and writes package by package, in the order of their
+//! imports, a line `package PATH` and then one for each type, function and method that is declared:
+//! `FILE:LINE:COL: DECLARATION`, with the type as Go writes it. Behind them stands `FILE:LINE:COL: refused` for the
+//! first such declaration that is refused. Of a folder that is no module it writes what gofix does.
 #![tactic(auto)]
 
 ghost use Rattle.std.specs.Prelude.{◌≤◌, IfOk, OnOk, length, vec_len};
@@ -30,15 +35,20 @@ ghost use Rattle.go_show.specs.Outcomes.{ShowsFile, ShowsTree};
 ghost use Rattle.go_tree.specs.FileView.{file_of};
 
 mod blocks;
+mod declarations;
+mod declared;
+mod folder;
 mod imports;
 mod lines;
 mod marks;
 mod names;
 mod needs;
 mod parts;
+mod places;
 mod tree;
 mod uses;
 
+use declared::show_declared;
 use go_parse::read_file;
 use go_print::print_file;
 use go_scan::{ScanError, scan};
@@ -61,8 +71,10 @@ use uses::write_uses;
 /// Why nothing is shown.
 #[derive(Debug, Drop, Error)]
 enum Fault {
-    #[error("usage: go_show tokens|tree|print|names|parts|marks|uses FILE, or go_show imports|need FILE WORD..")]
+    #[error("usage: go_show tokens|tree|print|names|parts|marks|uses FILE, or go_show imports|need FILE WORD.., or go_show declared FOLDER")]
     Usage,
+    #[error("no module")]
+    NoModule,
     #[error("{0}: cannot be read: {1}")]
     Unreadable(String, io::Error),
     #[error("{0}: has more than 4 MiB")]
@@ -114,8 +126,27 @@ fn rest_of<I: Iterator<Item = String>>(alloc: Global, words: I) -> io::Result<Ve
     Ok(rest)
 }
 
-/// What the command's words ask for, the file that they name, and the words behind it.
-fn asked<R: Env + AllocGlobal>(rt: &R) -> Result<(Part, String, Vec<String>), Fault> {
+/// What the command's words ask for: what the module in a folder declares, or a part of a file, with the words behind
+/// the file's name.
+#[derive(Drop)]
+enum Asked {
+    Declared(String),
+    File(Part, String, Vec<String>),
+}
+
+fn asked_by(word: &str, path: String, more: Vec<String>) -> Option<Asked> {
+    if word == "declared" && more.is_empty() {
+        return Some(Asked::Declared(path));
+    }
+    let part = part_of(word)?;
+    if more.is_empty() || takes_words(part) {
+        Some(Asked::File(part, path, more))
+    } else {
+        None
+    }
+}
+
+fn asked<R: Env + AllocGlobal>(rt: &R) -> Result<Asked, Fault> {
     let mut words = env::args(rt)?;
     let _program = words.next();
     let Some(word) = words.next() else {
@@ -124,14 +155,8 @@ fn asked<R: Env + AllocGlobal>(rt: &R) -> Result<(Part, String, Vec<String>), Fa
     let Some(path) = words.next() else {
         return Err(Fault::Usage);
     };
-    let Some(part) = part_of(word.as_str()) else {
-        return Err(Fault::Usage);
-    };
     let more = rest_of(rt.alloc(), words)?;
-    if !more.is_empty() && !takes_words(part) {
-        return Err(Fault::Usage);
-    }
-    Ok((part, path, more))
+    asked_by(word.as_str(), path, more).ok_or(Fault::Usage)
 }
 
 fn text_of<R: Files + AllocGlobal>(rt: &R, path: String) -> Result<Vec<u8>, Fault>
@@ -192,8 +217,22 @@ fn write_print<W: Write>(alloc: Global, out: &mut W, text: &[u8]) -> io::Result<
     }
 }
 
-fn show<R: Env + Files + Print + AllocGlobal>(rt: &R) -> Result<(), Fault> {
-    let (part, path, more) = asked(rt)?;
+/// Shows what the module in a folder declares.
+fn show_module<R: Env + Files + Print + AllocGlobal>(rt: &R, path: String) -> Result<(), Fault> {
+    match show_declared(rt, path.as_str()) {
+        Ok(true) => Ok(()),
+        Ok(false) => Err(Fault::NoModule),
+        Err(fault) => Err(Fault::Unreadable(path, fault)),
+    }
+}
+
+/// Shows a part of a file.
+fn show_file<R: Files + Print + AllocGlobal>(
+    rt: &R,
+    part: Part,
+    path: String,
+    more: &[String],
+) -> Result<(), Fault> {
     let text = text_of(rt, path)?;
     let mut out = BufWriter::new(rt.alloc(), io::writer(rt))?;
     match part {
@@ -204,16 +243,25 @@ fn show<R: Env + Files + Print + AllocGlobal>(rt: &R) -> Result<(), Fault> {
         Part::Parts => write_parts(rt.alloc(), &mut out, &text)?,
         Part::Marks => write_marks(rt.alloc(), &mut out, &text)?,
         Part::Uses => write_uses(rt.alloc(), &mut out, &text)?,
-        Part::Imports => write_imports(rt.alloc(), &mut out, &text, &more)?,
-        Part::Need => write_need(rt.alloc(), &mut out, &text, &more)?,
+        Part::Imports => write_imports(rt.alloc(), &mut out, &text, more)?,
+        Part::Need => write_need(rt.alloc(), &mut out, &text, more)?,
     }
     out.flush()?;
     Ok(())
 }
 
+fn show<R: Env + Files + Print + AllocGlobal>(rt: &R) -> Result<(), Fault> {
+    match asked(rt)? {
+        Asked::Declared(path) => show_module(rt, path),
+        Asked::File(part, path, more) => show_file(rt, part, path, &more),
+    }
+}
+
 fn main(rt: HostRuntime) -> ExitCode {
     match show(&rt) {
         Ok(()) => ExitCode::SUCCESS,
+        // gofix's line says why.
+        Err(Fault::NoModule) => ExitCode::from(1),
         Err(fault) => {
             let _ = eprintln!(rt; "go_show: {fault}");
             ExitCode::from(if matches!(fault, Fault::Usage) { 2 } else { 1 })

@@ -19,7 +19,6 @@ pub(crate) enum Type {
     Pointer(usize),
     Slice(usize),
     Map(usize, usize),
-    Struct(Member),
     Pair(Member, Member),
 }
 
@@ -62,14 +61,6 @@ fn map(env: &mut Env, key: TypeId, element: TypeId) -> Result<TypeId, NoMemory> 
     env.intern(TypeNode::Map { key, element })
 }
 
-fn one_field(alloc: Global, env: &mut Env, first: Field) -> Result<TypeId, NoMemory> {
-    if !env.has(first.of) {
-        return Ok(first.of);
-    }
-    let items = vec![in alloc; first]?;
-    env.intern(TypeNode::Struct(FieldList { items }))
-}
-
 fn two_fields(
     alloc: Global,
     env: &mut Env,
@@ -98,10 +89,6 @@ pub(crate) fn intern(
         Type::Pointer(i) => with_part(env, at(types, i), true),
         Type::Slice(i) => with_part(env, at(types, i), false),
         Type::Map(i, j) => map(env, at(types, i), at(types, j)),
-        Type::Struct(member) => {
-            let first = field(alloc, types, member)?;
-            one_field(alloc, env, first)
-        }
         Type::Pair(member, other) => {
             let first = field(alloc, types, member)?;
             let second = field(alloc, types, other)?;

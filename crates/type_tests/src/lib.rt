@@ -1,9 +1,6 @@
-//! Tests of the table of types, of the relations on types, of which types are comparable, and of what
-//! names mean.
+//! Tests of the table of types, of the relations on types, and of what names mean.
 #![tactic(auto)]
 
-#[cfg(test)]
-mod comparison;
 #[cfg(test)]
 mod declared;
 #[cfg(test)]

@@ -1,0 +1,7 @@
+use Rattle.go_show.proofs.ModuleLemmas.{read_are_ordered}
+use Rattle.go_show.proofs.declared.write_module.Goals as goal
+
+pub write_packages-requires-clause-order : goal.write_packages-requires-clause-order
+write_packages-requires-clause-order g c =
+    read_are_ordered c.packages-packages.result.now c.order.result.now c.args.files.now c.args.read.now c.requires
+    c.packages-packages.ensures c.order.ensures

@@ -1,0 +1,348 @@
+//! A line for each declaration of a module's packages, and for the first that is refused.
+
+ghost use Rattle.std.specs.Prelude.{◌≡◌, length, true};
+ghost use Rattle.type_table.specs.Rows.{IdsBelow};
+
+use crate::places::Cursor;
+use go_tree::{FuncDecl, NoMemory, Place, Text, TypeSpec};
+use header_order::first_refused_headers;
+use package_blocks::{HeaderKind, PackageHeader};
+use pkg_graph::{Package, SourceTree};
+use source_files::SourceFile;
+use std::alloc::{AllocError, Global};
+use std::io::{self, Write};
+use type_relations::Env;
+use type_table::{TypeId, TypeNode};
+use type_words::{Home, TypeFault, signature_text, type_text};
+use typed_names::{Blocks, Entity};
+
+/// What packages declare: the types, what names mean, the headers with a mark for each that is
+/// refused, and the import paths of packages by their numbers.
+#[derive(Clone, Copy)]
+pub(crate) struct Declarations<'a> {
+    pub(crate) types: &'a Env,
+    pub(crate) blocks: &'a Blocks,
+    pub(crate) headers: &'a [PackageHeader<'a>],
+    pub(crate) marks: &'a [bool],
+    pub(crate) paths: &'a [Text],
+}
+
+/// What stands for a type that is too large to be written.
+const TOO_LARGE: &[u8] = b"...";
+
+/// Adds the text of a type, or what stands for one that is too large.
+fn push_text(line: &mut Vec<u8>, text: Result<Vec<u8>, TypeFault>) -> Result<(), NoMemory> {
+    match text {
+        Ok(text) => Ok(line.extend_from_slice(&text)?),
+        Err(TypeFault::TooLarge) => Ok(line.extend_from_slice(TOO_LARGE)?),
+        Err(TypeFault::NoMemory) => Err(AllocError),
+    }
+}
+
+/// The types of a tuple.
+fn members(types: &Env, t: TypeId) -> &[TypeId]
+    ensures { IdsBelow (length types.now.rows) result.now }
+{
+    if !types.has(t) {
+        return &[];
+    }
+    match types.node(t) {
+        TypeNode::Tuple(members) => &members.items,
+        _ => &[],
+    }
+}
+
+/// Whether the table has all types.
+fn has_all(types: &Env, ids: &[TypeId]) -> bool
+    ensures { result ≡ true → IdsBelow (length types.now.rows) ids.now }
+{
+    for t in ids {
+        if !types.has(*t) {
+            return false;
+        }
+    }
+    true
+}
+
+/// Adds `type NAME TYPE`, with the underlying type, or `type NAME = TYPE` of an alias.
+fn push_type(
+    alloc: Global,
+    line: &mut Vec<u8>,
+    types: &Env,
+    home: &Home,
+    spec: &TypeSpec,
+    t: TypeId,
+) -> Result<(), NoMemory> {
+    if !types.has(t) {
+        return Ok(());
+    }
+    line.extend_from_slice(b"type ")?;
+    line.extend_from_slice(spec.name.name.items())?;
+    line.extend_from_slice(if spec.alias {
+        b" = ".as_slice()
+    } else {
+        b" ".as_slice()
+    })?;
+    let shown = if spec.alias { t } else { types.under(t) };
+    push_text(line, type_text(alloc, types, home, shown))
+}
+
+/// Adds `func NAME SIGNATURE`.
+fn push_function(
+    alloc: Global,
+    line: &mut Vec<u8>,
+    types: &Env,
+    home: &Home,
+    name: &[u8],
+    params: TypeId,
+    results: TypeId,
+) -> Result<(), NoMemory> {
+    line.extend_from_slice(b"func ")?;
+    line.extend_from_slice(name)?;
+    let text = signature_text(
+        alloc,
+        types,
+        home,
+        members(types, params),
+        members(types, results),
+    );
+    push_text(line, text)
+}
+
+/// Adds `func (TYPE) NAME SIGNATURE`, if the type has such a method.
+fn push_method(
+    alloc: Global,
+    line: &mut Vec<u8>,
+    types: &Env,
+    home: &Home,
+    t: TypeId,
+    name: &[u8],
+) -> Result<(), NoMemory> {
+    if !types.has(t) {
+        return Ok(());
+    }
+    let Some(method) = types.method(t, name) else {
+        return Ok(());
+    };
+    let params = &method.of.params.items;
+    let results = &method.of.results.items;
+    if !has_all(types, params) || !has_all(types, results) {
+        return Ok(());
+    }
+    line.extend_from_slice(if method.pointer {
+        b"func (*".as_slice()
+    } else {
+        b"func (".as_slice()
+    })?;
+    push_text(line, type_text(alloc, types, home, t))?;
+    line.extend_from_slice(b") ")?;
+    line.extend_from_slice(name)?;
+    push_text(line, signature_text(alloc, types, home, params, results))
+}
+
+/// Adds what a function without a receiver declares, or a method, if it is known.
+fn push_func(
+    alloc: Global,
+    line: &mut Vec<u8>,
+    declared: &Declarations,
+    home: &Home,
+    function: &FuncDecl,
+) -> Result<(), NoMemory> {
+    let name = function.name.name.items();
+    match &function.receiver {
+        Some(receiver) => match declared.blocks.find(home.number, receiver.of.name.items()) {
+            Some(Entity::TypeName(t)) => push_method(alloc, line, declared.types, home, t, name),
+            _ => Ok(()),
+        },
+        None => match declared.blocks.find(home.number, name) {
+            Some(Entity::Function { params, results }) => {
+                push_function(alloc, line, declared.types, home, name, params, results)
+            }
+            _ => Ok(()),
+        },
+    }
+}
+
+/// What a header declares in a package, if it is known: nothing of constants, variables and blank names.
+fn declaration(
+    alloc: Global,
+    declared: &Declarations,
+    home: &Home,
+    header: &PackageHeader,
+) -> Result<Vec<u8>, NoMemory> {
+    let mut line = Vec::new(alloc);
+    match header.kind {
+        HeaderKind::Type(spec) => {
+            match declared.blocks.find(home.number, spec.name.name.items()) {
+                Some(Entity::TypeName(t)) => {
+                    push_type(alloc, &mut line, declared.types, home, spec, t)?
+                }
+                _ => {}
+            }
+        }
+        HeaderKind::Function(function) => { push_func(alloc, &mut line, declared, home, function)? }
+        HeaderKind::Constants { .. } | HeaderKind::Variables(_) => {}
+    }
+    Ok(line)
+}
+
+/// Writes `PATH:LINE:COL: WORDS`.
+fn write_line<W: Write>(out: &mut W, path: &[u8], place: Place, words: &[u8]) -> io::Result<()> {
+    out.write_all(path)?;
+    write!(out, ":{}:{}: ", place.line, place.col)?;
+    out.write_all(words)?;
+    out.write_all(b"\n")
+}
+
+/// The text of the file with a path, among files in the order of their paths.
+fn text_at<'a>(files: &'a [SourceFile], path: &[u8]) -> &'a [u8] {
+    match files.binary_search_by(|file| file.path.items().cmp(path)) {
+        Ok(i) => files[i].bytes.items(),
+        Err(_) => b"".as_slice(),
+    }
+}
+
+/// Writes the declarations of a file with a number, whose headers begin with the one of the number `next`; answers
+/// where they end.
+fn write_file<W: Write>(
+    alloc: Global,
+    out: &mut W,
+    text: &[u8],
+    path: &[u8],
+    number: usize,
+    next: usize,
+    home: &Home,
+    declared: &Declarations,
+) -> io::Result<usize> {
+    let mut cursor = Cursor::new(text);
+    for i in next..declared.headers.len() {
+        let header = &declared.headers[i];
+        if header.file != number {
+            return Ok(i);
+        }
+        let words = declaration(alloc, declared, home, header)?;
+        let refused = declared.marks.get(i) == Some(&true);
+        if !refused && !words.is_empty() {
+            write_line(out, path, cursor.advance(header.at.start), &words)?;
+        }
+    }
+    Ok(declared.headers.len())
+}
+
+/// How far the writing has come: the number of the next file among all, and that of the next header.
+#[derive(Clone, Copy)]
+struct Progress {
+    file: usize,
+    header: usize,
+}
+
+/// Writes the declarations of the files of a package.
+fn write_files<W: Write>(
+    alloc: Global,
+    out: &mut W,
+    files: &[SourceFile],
+    trees: &[SourceTree],
+    home: &Home,
+    declared: &Declarations,
+    from: Progress,
+) -> io::Result<Progress> {
+    let Progress {
+        mut file,
+        mut header,
+    } = from;
+    for tree in trees {
+        let path = tree.path.items();
+        let text = text_at(files, path);
+        header = write_file(alloc, out, text, path, file, header, home, declared)?;
+        file = file.saturating_add(1);
+    }
+    Ok(Progress { file, header })
+}
+
+/// Writes the package with a number.
+fn write_package<W: Write>(
+    alloc: Global,
+    out: &mut W,
+    files: &[SourceFile],
+    package: &Package,
+    number: u32,
+    declared: &Declarations,
+    from: Progress,
+) -> io::Result<Progress> {
+    out.write_all(b"package ")?;
+    out.write_all(package.path.items())?;
+    out.write_all(b"\n")?;
+    let home = Home {
+        number,
+        paths: declared.paths,
+    };
+    write_files(
+        alloc,
+        out,
+        files,
+        package.files.items(),
+        &home,
+        declared,
+        from,
+    )
+}
+
+/// The path of the file with a number among all, those of one package after the other.
+fn path_at<'a>(packages: &'a [Package], order: &[u32], number: usize) -> &'a [u8] {
+    let mut left = number;
+    for k in order {
+        let Some(package) = packages.get(*k as usize) else {
+            continue;
+        };
+        let trees = package.files.items();
+        match trees.get(left) {
+            Some(tree) => return tree.path.items(),
+            None => left = left.saturating_sub(trees.len()),
+        }
+    }
+    b"".as_slice()
+}
+
+/// Writes the line of the first header that is refused, if one is.
+fn write_refused<W: Write>(
+    alloc: Global,
+    out: &mut W,
+    files: &[SourceFile],
+    packages: &[Package],
+    order: &[u32],
+    declared: &Declarations,
+) -> io::Result<()> {
+    let firsts = first_refused_headers(alloc, declared.marks, packages, order)?;
+    for first in &firsts {
+        let Some(number) = first else {
+            continue;
+        };
+        let Some(header) = declared.headers.get(*number) else {
+            continue;
+        };
+        let path = path_at(packages, order, header.file);
+        let place = Cursor::new(text_at(files, path)).advance(header.at.start);
+        return write_line(out, path, place, b"refused");
+    }
+    Ok(())
+}
+
+/// Writes package by package, in the order of their imports, `package PATH` and a line for each declaration that is
+/// known; behind them a line for the first header that is refused, if one is: the first of the first file.
+pub(crate) fn write_declarations<W: Write>(
+    alloc: Global,
+    out: &mut W,
+    files: &[SourceFile],
+    packages: &[Package],
+    order: &[u32],
+    declared: &Declarations,
+) -> io::Result<()> {
+    let mut from = Progress { file: 0, header: 0 };
+    for number in order {
+        let Some(package) = packages.get(*number as usize) else {
+            continue;
+        };
+        from = write_package(alloc, out, files, package, *number, declared, from)?;
+    }
+    write_refused(alloc, out, files, packages, order, declared)
+}

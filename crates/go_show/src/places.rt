@@ -1,0 +1,44 @@
+//! Places of a text, one after another.
+
+use go_tree::Place;
+
+/// A text, and a place in it from which later ones are reached, so that all places of a text take time that is
+/// linear in it.
+#[derive(Clone, Copy)]
+pub(crate) struct Cursor<'a> {
+    text: &'a [u8],
+    offset: usize,
+    place: Place,
+}
+
+impl<'a> Cursor<'a> {
+    /// The begin of a text.
+    pub(crate) fn new(text: &'a [u8]) -> Cursor<'a> {
+        Cursor {
+            text,
+            offset: 0,
+            place: Place { line: 1, col: 1 },
+        }
+    }
+
+    /// Moves by one byte.
+    fn step(&mut self, byte: u8) {
+        self.offset = self.offset.saturating_add(1);
+        if byte == b'\n' {
+            self.place.line = self.place.line.saturating_add(1);
+            self.place.col = 1;
+        } else {
+            self.place.col = self.place.col.saturating_add(1);
+        }
+    }
+
+    /// Moves on to an offset, and answers the place there. An offset behind the end counts as the end, one before
+    /// the place as the place.
+    pub(crate) fn advance(&mut self, offset: u32) -> Place {
+        let text = self.text;
+        for i in self.offset..(offset as usize).min(text.len()) {
+            self.step(text[i]);
+        }
+        self.place
+    }
+}
