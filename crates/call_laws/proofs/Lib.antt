@@ -1,3 +1,2 @@
 pub mod ValueLists
 pub mod CallLemmas
-pub mod LiteralCalls

@@ -4,7 +4,5 @@
 #![tactic(auto)]
 
 mod laws;
-mod literal_calls;
 
 pub use laws::calls_see_alike;
-pub use literal_calls::literals_call_through;

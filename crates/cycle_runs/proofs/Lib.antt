@@ -10,3 +10,4 @@ pub mod FoundUses
 pub mod BodiesThere
 pub mod KeptImports
 pub mod LedImports
+pub mod LiteralCalls

@@ -8,6 +8,7 @@ mod import_cycles;
 mod kept_imports;
 mod laws;
 mod led_imports;
+mod literal_calls;
 mod order_cycles;
 mod ordered_steps;
 mod step_cycles;
@@ -20,6 +21,7 @@ pub use import_cycles::{
 pub use kept_imports::{files_are_settled, names_are_kept};
 pub use laws::{packages_stay_linked, runs_keep_cycles};
 pub use led_imports::{added_imports_are_led, homes_are_led};
+pub use literal_calls::literals_call_through;
 pub use order_cycles::{linked_steps_keep_cycles, orders_declare_the_same, steps_add_new_names};
 pub use ordered_steps::{orders_are_ranked, read_modules_are_ordered, steps_keep_orders};
 pub use step_cycles::{calls_give_way, steps_keep_cycles, steps_read_calls_alike};

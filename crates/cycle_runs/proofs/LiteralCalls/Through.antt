@@ -31,7 +31,7 @@ use Rattle.cycle_laws.proofs.CallsBare.{stmts-calls-bare}
 use Rattle.cycle_laws.proofs.Walked.{callees, callee-is, led, app, type-led, sig-led, expr-led, all-led}
 use Rattle.cycle_runs.specs.StepCycles.Calls.{CallsThrough, AllPutCallThrough}
 use Rattle.cycle_runs.proofs.BodiesThere.Bodies.{literals-there}
-use Rattle.call_laws.specs.LiteralCalls.Literals.{IsName, IsLiteralOf, AllPutLiterals, PutsLiterals}
+use Rattle.cycle_runs.specs.LiteralCalls.Literals.{IsName, IsLiteralOf, AllPutLiterals, PutsLiterals}
 
 -- ---- lists of marks
 

@@ -1,6 +1,6 @@
 //! Laws of the calls of literals that stand for calls.
 
-ghost use Rattle.call_laws.specs.LiteralCalls.Laws.{LiteralsCallThrough, LiteralStepsKeepCycles, OnlyCallsCallThrough};
+ghost use Rattle.cycle_runs.specs.LiteralCalls.Laws.{LiteralsCallThrough, LiteralStepsKeepCycles, OnlyCallsCallThrough};
 
 /// A literal of a function, put for a call that names it, calls what the function leads to and what the
 /// call's arguments do, and nothing else; so where at a use's span the call alone stands, all that a step

@@ -16,7 +16,7 @@ use Rattle.cycle_runs.specs.ImportCycles.ImportSteps.{packages_added}
 use Rattle.cycle_runs.specs.OrderCycles.Steps.{site_added}
 use Rattle.cycle_runs.specs.Linked.{Linked, SettlesFile}
 use Rattle.cycle_runs.specs.StepCycles.Calls.{CallsThrough, AllPutCallThrough}
-use Rattle.call_laws.specs.LiteralCalls.Literals.{IsLiteralOf, AllPutLiterals, PutsLiterals}
+use Rattle.cycle_runs.specs.LiteralCalls.Literals.{IsLiteralOf, AllPutLiterals, PutsLiterals}
 
 -- A literal of a function calls through to what the function calls, for a call that names it.
 abbrev pub LiteralsCallThrough : Type 0

@@ -1,5 +1,5 @@
-use Rattle.call_laws.proofs.LiteralCalls.Through.{literal-through, all-through, literal-step}
-use Rattle.call_laws.proofs.literal_calls.laws.literals_call_through.Goals as goal
+use Rattle.cycle_runs.proofs.LiteralCalls.Through.{literal-through, all-through, literal-step}
+use Rattle.cycle_runs.proofs.literal_calls.laws.literals_call_through.Goals as goal
 
 pub returns-clause-literals : goal.returns-clause-literals
 returns-clause-literals c = λ ps marks v at m q y x l. literal-through ps marks v at m q y x l
