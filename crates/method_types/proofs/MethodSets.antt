@@ -1,5 +1,5 @@
-mod SetLemmas
-mod DeclareLemmas
-mod PutLemmas
-mod TableLemmas
+pub mod SetLemmas
+pub mod DeclareLemmas
+pub mod PutLemmas
+pub mod TableLemmas
 pub mod Kept

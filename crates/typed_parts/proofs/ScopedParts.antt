@@ -1,4 +1,4 @@
-mod Keys
-mod SpelledPosts
-mod SeenPosts
-mod Scoped
+pub mod Keys
+pub mod SpelledPosts
+pub mod SeenPosts
+pub mod Scoped
