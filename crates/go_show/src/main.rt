@@ -117,36 +117,27 @@ fn takes_words(part: Part) -> bool {
     matches!(part, Part::Imports | Part::Need)
 }
 
-/// The words that are left.
-fn rest_of<I: Iterator<Item = String>>(alloc: Global, words: I) -> io::Result<Vec<String>> {
-    let mut rest = Vec::new(alloc);
-    for word in words {
-        rest.push(word)?;
-    }
-    Ok(rest)
-}
-
 /// What the command's words ask for: what the module in a folder declares, or a part of a file, with the words behind
 /// the file's name.
 #[derive(Drop)]
-enum Asked {
+enum Request {
     Declared(String),
     File(Part, String, Vec<String>),
 }
 
-fn asked_by(word: &str, path: String, more: Vec<String>) -> Option<Asked> {
+fn asked_by(word: &str, path: String, more: Vec<String>) -> Option<Request> {
     if word == "declared" && more.is_empty() {
-        return Some(Asked::Declared(path));
+        return Some(Request::Declared(path));
     }
     let part = part_of(word)?;
     if more.is_empty() || takes_words(part) {
-        Some(Asked::File(part, path, more))
+        Some(Request::File(part, path, more))
     } else {
         None
     }
 }
 
-fn asked<R: Env + AllocGlobal>(rt: &R) -> Result<Asked, Fault> {
+fn asked<R: Env + AllocGlobal>(rt: &R) -> Result<Request, Fault> {
     let mut words = env::args(rt)?;
     let _program = words.next();
     let Some(word) = words.next() else {
@@ -155,7 +146,10 @@ fn asked<R: Env + AllocGlobal>(rt: &R) -> Result<Asked, Fault> {
     let Some(path) = words.next() else {
         return Err(Fault::Usage);
     };
-    let more = rest_of(rt.alloc(), words)?;
+    let more: Vec<String> = match words.collect(rt.alloc()) {
+        Ok(more) => more,
+        Err(fault) => return Err(Fault::Io(io::Error::from(fault))),
+    };
     asked_by(word.as_str(), path, more).ok_or(Fault::Usage)
 }
 
@@ -252,8 +246,8 @@ fn show_file<R: Files + Print + AllocGlobal>(
 
 fn show<R: Env + Files + Print + AllocGlobal>(rt: &R) -> Result<(), Fault> {
     match asked(rt)? {
-        Asked::Declared(path) => show_module(rt, path),
-        Asked::File(part, path, more) => show_file(rt, part, path, &more),
+        Request::Declared(path) => show_module(rt, path),
+        Request::File(part, path, more) => show_file(rt, part, path, &more),
     }
 }
 

@@ -1,6 +1,6 @@
 //! Which imports of a file its declarations use (Go specification, Import declarations).
 
-ghost use Rattle.std.specs.Prelude.{◌≤◌, [], length};
+ghost use Rattle.std.specs.Prelude.{◌≡◌, ◌≤◌, [], length};
 ghost use Rattle.type_relations.specs.Environment.{Environment};
 ghost use Rattle.typed_names.specs.Known.{AllHaveTypes};
 
