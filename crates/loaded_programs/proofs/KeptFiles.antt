@@ -7,17 +7,17 @@ use Rattle.go_tree.specs.declared.spans.Span.{Span}
 use Rattle.go_scan.specs.TokenLists.{TokenLists}
 use Rattle.name_walks.specs.Around.{place_in}
 use Rattle.module_files.specs.PathLists.{number_of, AreDistinct}
-use Rattle.pkg_graph.specs.Package.{SourceTree, Package, first_seen, home_of, files_of, package_of, packages_of}
+use Rattle.pkg_graph.specs.Package.{SourceTree, Package, first_seen, home_of, files_of, package_of}
 use Rattle.pkg_graph.specs.Reads.{Source}
 use Rattle.pkg_graph.specs.Views.{package_view}
 use Rattle.pkg_graph.specs.declared.packages.Package as code
 use Rattle.pkg_graph.proofs.PackageLaws.{paths_distinct}
 use Rattle.run_rules.specs.Marks.{text_at}
 use Rattle.run_rules.specs.Texts.{FileText}
-use Rattle.run_rules.specs.Respanned.{file_with, source_with, package_with, packages_with}
+use Rattle.run_rules.specs.Respanned.{file_with, source_with, package_with}
 use Rattle.run_rules.specs.Steps.{At}
 use Rattle.run_rules.specs.Run.{Standing, as_read, here_of}
-use Rattle.run_rules.specs.Inlining.{ModuleReads, ReadsAs, standing_as_read}
+use Rattle.run_rules.specs.Inlining.{ReadsAs, standing_as_read}
 use Rattle.run_laws.specs.Reading.{FileReads}
 use Rattle.run_laws.specs.Laws.{OneTextEach}
 use Rattle.run_laws.proofs.PathsOwn.{paths_own}
@@ -25,11 +25,11 @@ use Rattle.run_laws.proofs.RunsRead as runs
 use Rattle.module_reading.specs.Files.{IsScanned}
 use Rattle.module_reading.specs.declared.files.ScannedFile.{ScannedFile}
 use Rattle.module_reading.specs.declared.reading.ReadModule.{ReadModule}
-use Rattle.module_marks.specs.Views.{file_text, texts_of}
+use Rattle.module_marks.specs.Views.{file_text}
 use Rattle.file_names.specs.Imports.{FindsPackages}
 use Rattle.source_files.specs.declared.files.SourceFile.{SourceFile}
 use Rattle.programs.specs.declared.state.PackageFiles.{PackageFiles}
-use Rattle.programs.specs.Kept.{text_with, IsKeptFile, AreCounted}
+use Rattle.programs.specs.Kept.{IsKeptFile, AreCounted}
 use Rattle.programs.specs.Programs.{AreKeptFiles}
 use Rattle.programs.specs.TextsOfPackages.Given.{given_to, kept_at, AreTexts}
 use Rattle.read_modules.specs.Modules.{IsReadIn, packages_in, texts_in}

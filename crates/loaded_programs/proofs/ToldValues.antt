@@ -24,7 +24,7 @@ use Rattle.place_meanings.specs.Laws.{AreNamesOf}
 use Rattle.place_meanings.proofs.PlacesMean.{files_named}
 use Rattle.member_uses.specs.Laws.{is_constant, AllConstants, Knows}
 use Rattle.file_tables.specs.Numbers.{number_in}
-use Rattle.mark_values.specs.Tables.{key_of, Known}
+use Rattle.mark_values.specs.Tables.{Known}
 use Rattle.programs.specs.Programs.{HasValues, TellsValues}
 use Rattle.programs.specs.FileValues.Filled.{HasFileValues, is_constants}
 use Rattle.loaded_programs.proofs.Images.{image_at, at_image, both}
