@@ -1,0 +1,9 @@
+pub mod Images
+pub mod AsRead
+pub mod ConstantsAsRead
+pub mod NamesStand
+pub mod GivenFiles
+pub mod KeptFiles
+pub mod ToldValues
+pub mod ConstantsMarked
+pub mod Loading
