@@ -5,4 +5,5 @@
 mod groups;
 mod members;
 
-pub use groups::constant_group;
+pub use groups::{constant_group, has_none};
+pub use members::written_type;

@@ -47,13 +47,13 @@ written_refused e d NotTyped h = ap (λ d. given d (λ u. Some (Some u))) h
 written_refused e d NoMemory h = tt
 
 module _ (a b : Tables) (g : Keeps a b) where
-  written_there : (o : Option TypeId) → IfSome o (λ t. IsType a.env (Typed t)) → IfSome o (λ t. IsType b.env (Typed t))
+  pub written_there : (o : Option TypeId) → IfSome o (λ t. IsType a.env (Typed t)) → IfSome o (λ t. IsType b.env (Typed t))
   written_there None h = tt
   written_there (Some t) h =
       let m = g.types.more in
       let l = h.0 in (omega (arith, l, m), ap is_untyped (g.types.types t.0 h.0) ∙ h.1)
 
-  written_same :
+  pub written_same :
       (o : Option TypeId) → IfSome o (λ t. IsType a.env (Typed t)) → typed_option b.env o ≡ typed_option a.env o
   written_same None h = refl
   written_same (Some t) h = ap Some (g.types.types t.0 h.0)
@@ -107,7 +107,7 @@ module _ (e : Environment) (cs : List Const) (bs : List Names) (s : Scope) (bloc
       ap (λ env. all_parts env es) (places_are_environments e cs bs s block env p)
       ∙ all_seen (env_at e cs bs s) env.here es
 
-  seen_written : (t : Option (TypeExpr Span)) → written_type env t ≡ written_type (env_at e cs bs s) t
+  pub seen_written : (t : Option (TypeExpr Span)) → written_type env t ≡ written_type (env_at e cs bs s) t
   seen_written None = refl
   seen_written (Some t) =
       ap (λ o. given o (λ u. Some (Some u)))

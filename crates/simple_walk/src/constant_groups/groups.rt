@@ -23,7 +23,7 @@ use std::alloc::Global;
 use typed_names::{Blocks, Scope};
 
 /// Whether a list of expressions has none.
-fn has_none(es: &ExprList) -> bool
+pub fn has_none(es: &ExprList) -> bool
     ensures { result ≡ no_values (exprs_of es.now) }
 {
     es.items().len() == 0

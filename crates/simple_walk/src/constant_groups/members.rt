@@ -30,7 +30,7 @@ use type_table::TypeId;
 use typed_names::{Blocks, Scope};
 
 /// The type that is written, if one is.
-fn written_type(
+pub fn written_type(
     alloc: Global,
     tables: &mut Tables,
     scope: &Scope,

@@ -1,0 +1,46 @@
+//! The values of a declaration of variables (Go specification, Variable declarations; Short variable
+//! declarations).
+
+ghost use Rattle.std.specs.Prelude.{List, ℕ};
+ghost use Rattle.go_tree.specs.View.{exprs_of};
+ghost use Rattle.go_types.specs.Entities.{Env};
+ghost use Rattle.go_types.specs.Statements as go_statement;
+ghost use Rattle.go_types.specs.Typing as go;
+ghost use Rattle.checker_tables.specs.Ready.{Keeps};
+ghost use Rattle.operand_answers.specs.Known.{Stands};
+ghost use Rattle.control_steps.specs.RightSides.Values.{AreValuesIfOk, GivesValuesAlike};
+ghost use Rattle.control_steps.specs.LocalBlocks.Places.{IsPlace};
+ghost use Rattle.expr_walk.specs.Walked.{AreAllWalked};
+
+use checker_tables::Tables;
+use control_steps::right_values;
+use expr_walk::all_exprs;
+use go_tree::ExprList;
+use operand_modes::ValueList;
+use operand_rules::Refusal;
+use std::alloc::Global;
+use typed_names::{Blocks, Scope};
+
+/// The values of so many variables: each its own, or all results of one call; an element of a map gives
+/// two. The tables only grow.
+pub(crate) fn declared_values(
+    alloc: Global,
+    tables: &mut Tables,
+    scope: &Scope,
+    blocks: &Blocks,
+    count: usize,
+    es: &ExprList,
+) -> Result<ValueList, Refusal>
+    requires stands { Stands tables.old blocks.now scope.now }
+    requires walked { AreAllWalked (exprs_of es.now) }
+    ensures stands { Stands tables.new blocks.now scope.now }
+    ensures keeps { Keeps tables.old tables.new }
+    ensures there { AreValuesIfOk tables.new.env tables.new.consts result }
+    ensures gives { (block : List (List ℕ)) (env : Env)
+        → IsPlace tables.old.env tables.old.consts blocks.now scope.now block env
+        → GivesValuesAlike tables.new.env tables.new.consts (go_statement.right_values env count
+        (go.places env (exprs_of es.now)) (go.all_parts env (exprs_of es.now))) result }
+{
+    let values = all_exprs(alloc, tables, scope, blocks, es);
+    right_values(alloc, tables, count, values)
+}
