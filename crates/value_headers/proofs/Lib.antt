@@ -1,0 +1,4 @@
+pub mod SpelledLiterals
+pub mod SpelledExprs
+pub mod SpelledFiles
+pub mod SpelledHeaders

@@ -1,0 +1,66 @@
+-- Declarations of constants and variables whose literals are well spelled (Go specification, Constant declarations;
+-- Variable declarations).
+use Rattle.std.specs.Prelude.{ℕ, List, [], ◌∷◌, map}
+use Rattle.go_tree.specs.declared.spans.Span.{Span}
+use Rattle.go_tree.specs.Tree.{Stmt, const_decl, var_decl, ValueSpecs, no_specs, spec}
+use Rattle.go_tree.specs.File.{Decl, values, types, func, File}
+use Rattle.go_types.specs.Programs.{headed}
+use Rattle.pkg_graph.specs.Package.{Package, SourceTree, packages_of}
+use Rattle.pkg_graph.specs.Reads.{AreTrees, Source}
+use Rattle.run_rules.specs.Texts.{FileText}
+use Rattle.run_rules.specs.Inlining.{IsSourceFile, ReadsAs}
+use Rattle.run_rules.specs.Programs.{linked}
+use Rattle.typed_names.specs.declared.scopes.Scope.{Scope}
+use Rattle.package_blocks.specs.declared.headers.PackageHeader.{PackageHeader}
+use Rattle.package_blocks.specs.Headers.{AreHeaders, header_of, listed_of}
+use Rattle.initial_values.specs.Spelled.{AllHaveGoodLiterals}
+use Rattle.initial_values.specs.ValueEntities.Headers.{HasSpelledValues}
+
+-- the literals of the values of specs are well spelled
+abbrev pub SpecsAreSpelled : ValueSpecs Span → Type 0
+SpecsAreSpelled no_specs = Unit {0}
+SpecsAreSpelled (spec s ns t es ss) = AllHaveGoodLiterals es × SpecsAreSpelled ss
+
+-- so are those of constants or variables
+abbrev pub ValuesAreSpelled : Stmt Span → Type 0
+ValuesAreSpelled (const_decl s grouped ss) = SpecsAreSpelled ss
+ValuesAreSpelled (var_decl s grouped ss) = SpecsAreSpelled ss
+ValuesAreSpelled _ = Unit {0}
+
+-- so of all declarations of a file
+abbrev pub DeclsAreSpelled : List (Decl Span) → Type 0
+DeclsAreSpelled [] = Unit {0}
+DeclsAreSpelled (values x ∷ ds) = ValuesAreSpelled x × DeclsAreSpelled ds
+DeclsAreSpelled (types s grouped ts ∷ ds) = DeclsAreSpelled ds
+DeclsAreSpelled (func f ∷ ds) = DeclsAreSpelled ds
+
+-- so of files
+abbrev pub FilesAreSpelled : List (SourceTree Span) → Type 0
+FilesAreSpelled [] = Unit {0}
+FilesAreSpelled (f ∷ fs) = DeclsAreSpelled f.tree.decls × FilesAreSpelled fs
+
+-- so of packages
+abbrev pub PackagesAreSpelled : List (Package Span) → Type 0
+PackagesAreSpelled [] = Unit {0}
+PackagesAreSpelled (p ∷ ps) = FilesAreSpelled p.files × PackagesAreSpelled ps
+
+-- so of headers of the code
+abbrev pub AreSpelled : List PackageHeader → Type 0
+AreSpelled [] = Unit {0}
+AreSpelled (c ∷ cs) = HasSpelledValues (header_of c.kind) × AreSpelled cs
+
+-- so are those of each file that reads from a text
+abbrev pub ReadValuesAreSpelled : Type 0
+ReadValuesAreSpelled = (t : FileText) (tree : File Span) → ReadsAs t tree → DeclsAreSpelled tree.decls
+
+-- so are those of packages of such files
+abbrev pub PackagesReadAreSpelled : Type 0
+PackagesReadAreSpelled =
+    (home : List ℕ) (files : List Source) (trees : List (SourceTree Span)) → AreTrees IsSourceFile files trees →
+    PackagesAreSpelled (packages_of home trees)
+
+-- so are those of the headers of such packages
+abbrev pub HeadersAreSpelled : Type 0
+HeadersAreSpelled =
+    (ps : List (Package Span)) → PackagesAreSpelled ps → (files : List Scope) (cs : List PackageHeader) →
+    AreHeaders files (map listed_of cs) (headed (linked ps)) → AreSpelled cs
