@@ -1,3 +1,6 @@
+pub mod Bound
+pub mod ValueLemmas
+pub mod HeaderLemmas
 pub mod SpelledLiterals
 pub mod SpelledExprs
 pub mod SpelledFiles
