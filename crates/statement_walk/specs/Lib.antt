@@ -1,1 +1,3 @@
 pub mod Declared
+pub mod Parts
+pub mod Uses

@@ -1,10 +1,19 @@
-//! The walk over statements: declarations of variables in a function (Go specification, Variable
-//! declarations; Short variable declarations).
+//! The walk over statements: declarations of variables in a function, and the names that they and
+//! expressions use (Go specification, Declarations and scope; Variable declarations; Short variable
+//! declarations).
 #![tactic(auto)]
 
+mod begins;
+mod groups;
+mod literal_types;
+mod parts;
 mod shorts;
+mod uses;
 mod values;
 mod variables;
 
+pub use groups::variable_group;
+pub use parts::{short_part, spec_part};
 pub use shorts::define_statement;
+pub use uses::{use_expr, use_exprs};
 pub use variables::variable_spec;

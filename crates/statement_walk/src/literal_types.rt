@@ -1,0 +1,104 @@
+//! The types of composite literals and of their parts, where they are known (Go specification, Composite
+//! literals).
+
+ghost use Rattle.std.specs.Prelude.{◌≡◌, IfOk, IfSome, Some};
+ghost use Rattle.go_tree.specs.View.{type_of};
+ghost use Rattle.go_types.specs.Answers.{given, meets};
+ghost use Rattle.go_types.specs.Literals as go;
+ghost use Rattle.go_types.specs.TypeNames as type_name;
+ghost use Rattle.type_relations.specs.Environment.{defined_types};
+ghost use Rattle.operand_rules.specs.declared.values.ValueType.TheVariants.{Typed};
+ghost use Rattle.operand_rules.specs.Values.{IsType};
+ghost use Rattle.operator_rules.specs.Settling.{typed_option};
+ghost use Rattle.typed_names.specs.Scopes.{env_at};
+ghost use Rattle.checker_tables.specs.Ready.{AreReady, Keeps};
+ghost use Rattle.operand_answers.specs.Known.{Stands};
+ghost use Rattle.statement_walk.specs.Uses.{under_option};
+
+use checker_tables::{Tables, meant};
+use composite_steps::{inner_type, is_struct, key_type, literal_type};
+use go_tree::{NoMemory, TypeExpr};
+use operand_rules::Refusal;
+use std::alloc::{AllocError, Global};
+use type_table::TypeId;
+use typed_names::{Blocks, Scope};
+
+/// What a type in the source means, or nothing where it isn't one.
+pub(crate) fn known_type(
+    alloc: Global,
+    tables: &mut Tables,
+    scope: &Scope,
+    blocks: &Blocks,
+    t: &TypeExpr,
+) -> Result<Option<TypeId>, NoMemory>
+    requires stands { Stands tables.old blocks.now scope.now }
+    ensures stands { Stands tables.new blocks.now scope.now }
+    ensures keeps { Keeps tables.old tables.new }
+    ensures there { IfOk result (λ o. IfSome o (λ t. IsType tables.new.env (Typed t))) }
+    ensures is { IfOk result (λ o. typed_option tables.new.env o
+        ≡ type_name.type_meant (env_at tables.old.env tables.old.consts blocks.now scope.now) (type_of t.now)) }
+{
+    match meant(alloc, tables, scope, blocks, t) {
+        Ok(t) => Ok(Some(t)),
+        Err(Refusal::NotTyped) => Ok(None),
+        Err(Refusal::NoMemory) => Err(AllocError),
+    }
+}
+
+/// Whether the type of a literal is a struct, where it is known.
+pub(crate) fn has_fields(tables: &Tables, t: Option<TypeId>) -> bool
+    requires ready { AreReady tables.now }
+    requires of { IfSome t (λ t. IsType tables.now.env (Typed t)) }
+    ensures { result ≡ meets (under_option (defined_types tables.now.env) (typed_option tables.now.env t))
+        go.is_struct }
+{
+    match t {
+        Some(t) => is_struct(tables, t),
+        None => false,
+    }
+}
+
+/// The type of the keys of a literal of the type, where it is a map.
+pub(crate) fn type_of_keys(tables: &Tables, t: Option<TypeId>) -> Option<TypeId>
+    requires ready { AreReady tables.now }
+    requires of { IfSome t (λ t. IsType tables.now.env (Typed t)) }
+    ensures is { typed_option tables.now.env result ≡ given
+        (under_option (defined_types tables.now.env) (typed_option tables.now.env t))
+        (go.key_type (defined_types tables.now.env)) }
+    ensures there { IfSome result (λ t. IsType tables.now.env (Typed t)) }
+{
+    match t {
+        Some(t) => key_type(tables, t),
+        None => None,
+    }
+}
+
+/// The type of the elements of a literal of the type, where it is a slice or a map.
+pub(crate) fn type_of_elements(tables: &Tables, t: Option<TypeId>) -> Option<TypeId>
+    requires ready { AreReady tables.now }
+    requires of { IfSome t (λ t. IsType tables.now.env (Typed t)) }
+    ensures is { typed_option tables.now.env result ≡ given
+        (under_option (defined_types tables.now.env) (typed_option tables.now.env t))
+        (go.inner_type (defined_types tables.now.env)) }
+    ensures there { IfSome result (λ t. IsType tables.now.env (Typed t)) }
+{
+    match t {
+        Some(t) => inner_type(tables, t),
+        None => None,
+    }
+}
+
+/// The type of a literal that leaves its type out, where a value of the type is wanted.
+pub(crate) fn type_of_braces(tables: &Tables, t: Option<TypeId>) -> Option<TypeId>
+    requires ready { AreReady tables.now }
+    requires of { IfSome t (λ t. IsType tables.now.env (Typed t)) }
+    ensures is { under_option (defined_types tables.now.env) (typed_option tables.now.env result)
+        ≡ given (typed_option tables.now.env t) (λ t. under_option (defined_types tables.now.env)
+        (Some (go.literal_type (defined_types tables.now.env) t))) }
+    ensures there { IfSome result (λ t. IsType tables.now.env (Typed t)) }
+{
+    match t {
+        Some(t) => Some(literal_type(tables, t)),
+        None => None,
+    }
+}
