@@ -1,0 +1,4 @@
+pub mod Codes
+pub mod CopiesSame
+pub mod LookLemmas
+pub mod LeftLemmas
