@@ -46,7 +46,8 @@ pub record AreSomeDeclared (k : Tables) (bs : List Names) (s : Scope) (block : L
 
 -- so where it is answered that they are, or nothing where the answer is that they may not be
 abbrev pub GivesVariablesHere :
-    {T : Type 0} → Tables → List Names → Scope → List (List ℕ) → Env → Option Declared → Result T Refusal → Type 0
+    {T : Type 0} → Tables → List Names → Scope → List (List ℕ) → Env → Option Declared →
+    Result T Refusal → Type 0
 GivesVariablesHere k bs s block env o (Ok v) = AreSomeDeclared k bs s block env o
 GivesVariablesHere k bs s block env o (Err NotTyped) = o ≡ None
 GivesVariablesHere k bs s block env o (Err NoMemory) = Unit {0}

@@ -24,8 +24,8 @@ use Rattle.jump_rules.specs.UsedLocals.Walked.{IsWalked}
 abbrev pub AreHere : Env → List PendingName → Type 0
 AreHere env xs = list_all (λ (x : PendingName). is_declared_here env x.name) xs ≡ true
 
--- A part of a block declares this, and uses names: what it binds is new in the block, and so are the variables that must
--- be used; the place after it is known; and of a block that is walked up to it the rest is left.
+-- A part of a block declares this, and uses names: what it binds is new in the block, and so are the variables that
+-- must be used; the place after it is known; and of a block that is walked up to it the rest is left.
 pub record IsPart (k : Tables) (bs : List Names) (s : Scope) (block : List (List ℕ)) (env : Env) (d : Declared)
     (uses : List (List ℕ)) (p q : Used) (xs ys : List PendingName) : Type 0 where
   pub new : list_all (λ n. not (is_declared_here env n)) (bound_names d.binds) ≡ true
@@ -46,7 +46,8 @@ pub record IsRead (k : Tables) (bs : List Names) (s : Scope) (block : List (List
 
 -- so where it is answered that it may stand, or it may not
 abbrev pub GivesRead :
-    {T : Type 0} → Tables → List Names → Scope → List (List ℕ) → Env → Option Declared → List (List ℕ) → Used → Used →
+    {T : Type 0} → Tables → List Names → Scope → List (List ℕ) → Env → Option Declared →
+    List (List ℕ) → Used → Used →
     List PendingName → List PendingName → Result T Refusal → Type 0
 GivesRead k bs s block env o uses p q xs ys (Ok v) = IsRead k bs s block env o uses p q xs ys
 GivesRead k bs s block env o uses p q xs ys (Err NotTyped) = o ≡ None

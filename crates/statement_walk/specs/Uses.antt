@@ -1,5 +1,5 @@
--- The types of composite literals, by which it is known which keys are names that are used, and expressions of which some
--- have been read (Go specification, Declarations and scope; Composite literals).
+-- The types of composite literals, by which it is known which keys are names that are used, and expressions of which
+-- some have been read (Go specification, Declarations and scope; Composite literals).
 use Rattle.std.specs.Prelude.{◌≡◌, ℕ, List, Option, Some}
 use Rattle.go_types.specs.Answers.{given}
 use Rattle.go_types.specs.Defined.{Defined, under}
@@ -16,7 +16,8 @@ abbrev pub under_option : List Defined → Option GoType → Option GoType
 under_option ds t = given t (λ t. Some (under ds t))
 
 -- some names are used, and where those that are left are used too, these are known
-pub record UsesLeft (old new : Tables) (bs : List Names) (s : Scope) (rest : List (List ℕ)) (p total : Used) : Type 0 where
+pub record UsesLeft (old new : Tables) (bs : List Names) (s : Scope) (rest : List (List ℕ)) (p total : Used)
+    : Type 0 where
   pub stands : Stands new bs s
   pub keeps : Keeps old new
   pub left : and_names rest p ≡ total
