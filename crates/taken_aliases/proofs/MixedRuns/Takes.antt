@@ -1,5 +1,5 @@
 -- A step over a constant or an alias takes what it puts, with the imports of its form added to its file.
-use Rattle.std.proofs.Common.{◌≡◌, ℕ, true, List, Some}
+use Rattle.std.proofs.Common.{◌≡◌, true, List, Some}
 use Rattle.std.specs.Prelude.{slice_get}
 use Rattle.go_tree.specs.declared.spans.Span.{Span}
 use Rattle.pkg_graph.specs.Package.{SourceTree, Package}
@@ -21,7 +21,7 @@ use Rattle.marked_runs.specs.SoundImports.Laws.{AddedImportsMayBeDeclared}
 use Rattle.alias_runs.specs.QualifiedAliases.AliasUse.{AliasUseStands, ImportsHold}
 use Rattle.alias_runs.specs.CalledAliases.CalledUse.{IsPlaced, as_written, as_called}
 use Rattle.marked_runs.specs.TakenNames.Taken.{site_there, TakesName}
-use Rattle.taken_aliases.specs.Taken.{TakesAlias}
+use Rattle.taken_aliases.specs.Taken.{in_its_place, TakesAlias}
 use Rattle.marked_runs.specs.Marked.{StandsAdded}
 use Rattle.marked_runs.proofs.Alone.{alone-there}
 use Rattle.taken_aliases.specs.MixedRuns.Marked.{PlacedThere, written_there, called_there, AliasStandsAdded}
@@ -105,7 +105,7 @@ module _ (sound : AddedImportsMayBeDeclared) (marks : List MarkRef) (st : Standi
       place = h.place;
       use_ = h.use_;
       stands = stands;
-      placed = is-placed h.placed;
+      placed = in_its_place (is-placed h.placed);
       form = h.form;
       names = names;
       sound = holds;

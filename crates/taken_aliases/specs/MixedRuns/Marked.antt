@@ -23,7 +23,9 @@ use Rattle.constant_steps.specs.PlainUse.{AllSimple}
 use Rattle.alias_runs.specs.QualifiedAliases.AliasUse.{AliasUse, text_there}
 use Rattle.alias_runs.specs.CalledAliases.CalledUse.{is_pointer}
 use Rattle.put_names.specs.PutTypes.Uses.{UsesTypeName}
+use Rattle.put_names.specs.Uses.{IsUsedByName}
 use Rattle.taken_aliases.specs.PutTexts.Uses.{UsesAliasText, FitsLiteral}
+use Rattle.taken_aliases.specs.PutCalls.Uses.{MayBeLaid}
 use Rattle.marked_runs.specs.SettledConstants.Programs.{IsOverConstant}
 use Rattle.marked_runs.specs.TakenNames.Taken.{site_there}
 use Rattle.marked_runs.specs.Marked.{decl_there, StandsAdded}
@@ -33,10 +35,11 @@ abbrev pub NoFunctions : List (Package At) → List MarkRef → Type 0
 NoFunctions ps marks = (m : MarkRef) → is_among_marks marks m ≡ true → meets (inlinable ps m) is_function ≡ false
 
 module _ {marks : List MarkRef} {st : Standing} {l : Logged} {after : Standing} (n : Next marks st l after) where
-  -- The form of an alias is laid out in the place of a name of a type that its declaration writes; or, as of a use that
-  -- is an expression, in the place of a node that is told.
+  -- The form of an alias is laid out in the place of a name of a type that its declaration writes; or in the place of a
+  -- name that is an expression, as of what is called in a conversion; or in the place of a node that is told.
   pub data LaysOut (uses : UsesAliasText n) : Type 0 where
     at_a_type : (used : UsesTypeName n) → FitsLiteral n used uses → LaysOut uses
+    at_an_expression : IsUsedByName n → MayBeLaid n.found.site.place.slot uses.text → LaysOut uses
     at_a_node : PutsNode n → LaysOut uses
 
   -- The step is over an alias, whatever its type. The names to avoid are fewer than 2^64, and no import that goes has
