@@ -94,8 +94,8 @@ module _ (sound : AddedImportsMayBeDeclared) (marks : List MarkRef) (st : Standi
     is-placed : PlacedThere n h.place h.use_ → IsPlaced same_here (is_commented st) mid marks (site_there n.found h.place) h.use_ stands
     is-placed (written_there old part receiver alone) =
         as_written (record { use_ = old; part = part; receiver = receiver here.decl here.decl_is; alone = alone here.decl here.decl_is })
-    is-placed (called_there old used_as part bare there) =
-        as_called (record { use_ = old; part = part; no_pointer = bare; alone = alone-there marks st l after n reads h.place used_as old part here.decl here.decl_is (there here.decl here.decl_is) })
+    is-placed (called_there old used_as part callee there) =
+        as_called (record { use_ = old; part = part; called = callee; alone = alone-there marks st l after n reads h.place used_as old part here.decl here.decl_is (there here.decl here.decl_is) })
 
     holds : ImportsHold same_here (is_commented st) mid marks (site_there n.found h.place) h.use_
     holds = record { use_ = file-sound; home = home-sound h.use_.home (stands_there mid n.found.site.mark h.use_.home h.use_.home_is) }

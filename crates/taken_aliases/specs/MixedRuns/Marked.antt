@@ -18,6 +18,7 @@ use Rattle.cycle_runs.specs.ImportCycles.ImportSteps.{packages_added}
 use Rattle.order_runs.specs.ImportCodes.PackagesMoved.{ImportsStand}
 use Rattle.cycle_runs.specs.KeptImports.Files.{PutsNode, RemovesNoNames}
 use Rattle.cycle_runs.specs.OrderCycles.NewNames.{FewNames}
+use Rattle.alias_runs.specs.AliasSteps.Retypable.{IsCalleePlace}
 use Rattle.alias_runs.specs.AliasSites.TypeUse.{AllTheType, ReceiverStays}
 use Rattle.constant_steps.specs.PlainUse.{AllSimple}
 use Rattle.alias_runs.specs.QualifiedAliases.AliasUse.{AliasUse, text_there}
@@ -60,7 +61,7 @@ module _ {marks : List MarkRef} {st : Standing} {l : Logged} {after : Standing} 
       text_there same_here (is_commented st) (packages_added st.packages n.found) marks (site_there n.found p) u
 
   -- The use is a written type, and nothing else stands at its span in its declaration, whose receiver stays; or it is an
-  -- expression, and the alias isn't declared as `*` before a type.
+  -- expression, and what is called where the alias is declared as `*` before a type.
   pub data PlacedThere (p : Place At) (u : UseThere p) : Type 0 where
     written_there :
         (old : TypeExpr At) → n.found.site.part ≡ a_type_part old
@@ -71,7 +72,7 @@ module _ {marks : List MarkRef} {st : Standing} {l : Logged} {after : Standing} 
         → AllTheType same_here (site_there n.found p) old (written_text p u) (decl_there n d))
         → PlacedThere p u
     called_there :
-        (old : Expr At) (used_as : Use) → n.found.site.part ≡ an_expr old → is_pointer u.text ≡ false
+        (old : Expr At) (used_as : Use) → n.found.site.part ≡ an_expr old → (is_pointer u.text ≡ true → IsCalleePlace p)
         → ((d : Decl At) → slice_get n.found.site.at.source.tree.decls n.found.site.decl ≡ Some d
         → Contains (decl_there n d) (seen p used_as old))
         → PlacedThere p u
