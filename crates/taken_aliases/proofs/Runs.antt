@@ -23,7 +23,7 @@ use Rattle.marked_runs.specs.SettledConstants.Laws as settled
 use Rattle.marked_runs.specs.SettledConstants.Programs.{IsReady}
 use Rattle.marked_runs.proofs.ReadyModules.Typed.{linked_typed}
 use Rattle.marked_runs.proofs.TakenNames.Steps as constants
-use Rattle.taken_aliases.specs.Taken.{TakesAlias, TakesEither, of_constant, of_alias, EachTakesEither}
+use Rattle.taken_aliases.specs.Taken.{in_its_place, TakesAlias, TakesEither, of_constant, of_alias, EachTakesEither}
 use Rattle.taken_aliases.proofs.Steps as aliases
 
 nothing-behind : {A : Type 0} (xs : List A) → xs ++ [] ≡ xs
@@ -36,7 +36,7 @@ module _ (marks : List MarkRef) (st : Standing) (l : Logged) (after : Standing) 
     place = n.found.site.place;
     use_ = h.use_;
     stands = h.stands;
-    placed = h.placed;
+    placed = in_its_place h.placed;
     form = h.form;
     names = h.names;
     sound = h.sound;

@@ -37,7 +37,12 @@ use Rattle.alias_runs.proofs.CalledAliases.PlacedSteps.{HeadersTyped, placed-bes
 use Rattle.alias_runs.proofs.AliasLinks.{form-link, form-numbers}
 use Rattle.alias_runs.proofs.FormNexts as next
 use Rattle.marked_runs.specs.TakenNames.Taken.{site_there}
-use Rattle.taken_aliases.specs.Taken.{TakesAlias}
+use Rattle.alias_runs.specs.CalledAliases.CalledUse.{IsPlaced}
+use Rattle.taken_aliases.specs.Taken.{IsTaken, in_its_place, of_a_receiver, TakesAlias}
+use Rattle.taken_aliases.specs.AliasReceivers.Steps.{ReceiverSwaps}
+use Rattle.taken_aliases.specs.AliasReceivers.ReceiverUses.{IsReceiverUse}
+use Rattle.taken_aliases.proofs.AliasReceivers.Steps.{receiver-link}
+use Rattle.taken_aliases.proofs.AliasReceivers.Uses.{swaps-beside}
 
 -- packages of a run by their numbers, under other imports
 numbers-moved : {S : Type 0} (ps qs : List (run.Package S)) → PathsUnder ps qs → PackagesMoved (members_among ps (numbered ps)) (members_among qs (numbered qs))
@@ -132,14 +137,27 @@ module _ (marks : List MarkRef) (st : Standing) (l : Logged) (after : Standing) 
     abbrev k : ℕ
     k = (next.use-stands marks st l after n h.names own-distinct).nth
 
-    pub swaps : AliasSwaps same_here mid (part_span there.part) n.found.form there.at.number there.at.of there.at.source.tree (sources Q) k there.at.file_number there.decl (sources (members_of mid))
+    swaps : IsPlaced same_here (is_commented st) mid marks there u h.stands → AliasSwaps same_here mid (part_span there.part) n.found.form there.at.number there.at.of there.at.source.tree (sources Q) k there.at.file_number there.decl (sources (members_of mid))
     unfolding all-stand
-    swaps =
+    swaps t =
         subst (λ (g : Form At). AliasSwaps same_here mid (part_span there.part) g there.at.number there.at.of there.at.source.tree (sources Q) k there.at.file_number there.decl (sources (members_of mid))) (sym h.form)
-        (placed-beside same_here (is_commented st) mid marks there u h.stands h.placed (members_of mid) Q all-stand h.sound d3 typed)
+        (placed-beside same_here (is_commented st) mid marks there u h.stands t (members_of mid) Q all-stand h.sound d3 typed)
+
+    receiver-swaps : IsReceiverUse same_here (is_commented st) mid marks there u h.stands → ReceiverSwaps same_here mid (part_span there.part) n.found.form there.at.number there.at.of there.at.source.tree (sources Q) k there.at.file_number there.decl (sources (members_of mid))
+    unfolding all-stand
+    receiver-swaps t =
+        subst (λ (g : Form At). ReceiverSwaps same_here mid (part_span there.part) g there.at.number there.at.of there.at.source.tree (sources Q) k there.at.file_number there.decl (sources (members_of mid))) (sym h.form)
+        (swaps-beside same_here (is_commented st) mid marks there u h.stands t (members_of mid) Q all-stand h.sound d3)
+
+    -- with the form in the use's place
+    with-form : IsTaken same_here (is_commented st) mid marks there u h.stands → Likened (members_of mid ++ Q) (put ++ Q)
+    with-form (in_its_place t) =
+        likened-link (form-link same_here mid (part_span there.part) n.found.form there.at.number there.at.of there.at.source.tree k there.at.file_number there.decl (members_of mid) Q (swaps t) d3)
+    with-form (of_a_receiver t) =
+        likened-link (receiver-link same_here mid (part_span there.part) n.found.form there.at.number there.at.of there.at.source.tree k there.at.file_number there.decl (members_of mid) Q (receiver-swaps t) d3)
 
     k4 : Likened (members_of mid ++ Q) (put ++ Q)
-    k4 = likened-link (form-link same_here mid (part_span there.part) n.found.form there.at.number there.at.of there.at.source.tree k there.at.file_number there.decl (members_of mid) Q swaps d3)
+    k4 = with-form h.placed
 
     k5 : Likened (put ++ Q) (members_of back ++ Q)
     k5 = likened-link (bare-link (put ++ Q) (members_of back ++ Q) (beside-alike put (members_of back) Q (next.read-again marks st l after n h.names own-distinct)))

@@ -126,7 +126,7 @@ module _ {S : Type 0} (same : S → S → Bool) (rs : List (Package S)) (z : S) 
       let vs : List (Seen S) = all_seen q us es in
       let there : Put (ts ++ vs) = front (ts ++ vs) (variables_at_top rs q ss) x in
       and_more
-      (of_variables (written-stands c [] (at None) q t (types-put None q t refl refl (front ts vs there))) (all-retype same z form R k [] (at None) q us es (at-top None q refl refl) (behind ts vs there))
+      (of_variables (written-stands c [] (at None) q t (types-put None q t refl refl (front ts vs there))) (all-retype same z form R k [] (at None) q refl us es (at-top None q refl refl) (behind ts vs there))
       (all-bodiless c [] (at None) q us es (values-put None q us es refl refl (behind ts vs there))))
       (variables-put f ss (behind (ts ++ vs) (variables_at_top rs q ss) x))
 

@@ -14,7 +14,7 @@ use Rattle.go_types.specs.TypeNames.{resolved, resolved_fields, field_before, ty
 use Rattle.go_types.specs.Typing.{used}
 use Rattle.form_meaning.proofs.FormInPlace.Uses.{among_left}
 use Rattle.typed_in_place.specs.SameFacts.{NoneAround, SameType}
-use Rattle.typed_in_place.specs.Leaves.{Names, plain_name, qualified_name}
+use Rattle.typed_in_place.specs.Leaves.{Names, plain_name, qualified_name, NamesType, type_by_star}
 use Rattle.typed_in_place.specs.Replaced.{TypeReplaced, same_type, in_pointer, in_slice_type, in_map_type, in_struct_type, FieldsReplaced, no_more_fields, in_field}
 use Rattle.typed_in_place.proofs.Leaves.{never, type_itself}
 use Rattle.typed_in_place.proofs.TypeLeaves.{none_around_alike}
@@ -25,9 +25,10 @@ use Rattle.constant_steps.specs.StepLaws.Answered.{HoldsWithin}
 use Rattle.constant_steps.specs.StepLaws.NamesOutside.{NamesOutside}
 use Rattle.constant_steps.proofs.StepLaws.OutsideHolds.{among_right, outside_holds}
 use Rattle.constant_steps.proofs.StepLaws.UsesAnswered.{NamedThere, named-there, not-around}
+use Rattle.alias_runs.proofs.AliasTexts.RetypedTyping.{plain-type}
 use Rattle.alias_runs.specs.AliasTexts.Retyped.{PlainType, by_name, by_text}
-use Rattle.alias_runs.specs.AliasSteps.Retypable.{SameTypeUse, AllRetypable}
-use Rattle.alias_runs.specs.AliasSteps.AliasUses.{AtTop, NoneLocal, TypeUseThere, TypeThere, name_there, text_there, ExprUseThere, NamedUses, FieldUses, TypeUses, AllAliasUses}
+use Rattle.alias_runs.specs.AliasSteps.Retypable.{TypePut, as_part, as_callee, AllRetypable}
+use Rattle.alias_runs.specs.AliasSteps.AliasUses.{AtTop, NoneLocal, TypeUseThere, TypeThere, name_there, text_there, PutThere, bare_there, star_there, ExprUseThere, NamedUses, FieldUses, TypeUses, AllAliasUses}
 
 -- what is known of the top of the file holds on in each scope
 pub at-top-holds : {S : Type 0} (top : Env) → HoldsWithin (AtTop {S = S} top)
@@ -105,8 +106,21 @@ module _ {S : Type 0} (top : Env) (around : List (List ℕ)) (env : Env) (p : Pl
   unused-there (name_there {n = n} d q b l) m i = ap (is_among m) (used-name d) ∙ never around m n (not-around top around env p.env p.bound n r.outside b l) i
   unused-there (text_there {u = u} e f) m i = none-around (free_type [] u) f m i
 
-  expr-use : (x e : Expr S) → ExprUseThere top p x e → SameTypeUse around env x e
-  expr-use x e h = record { type = h.type; old = plain-there h.old; new = plain-there h.new; apart = record { old = unused-there h.old; new = unused-there h.new } }
+  -- what is called, with `*` before it
+  names-put : {e : Expr S} {t : GoType} → PutThere top p e t → NamesType env e t
+  names-put (bare_there h) = plain-type (plain-there h)
+  names-put (star_there c h) = type_by_star (names-put h)
+
+  unused-put : {e : Expr S} {t : GoType} → PutThere top p e t → NoneAround around (used env e)
+  unused-put (bare_there h) = unused-there h
+  unused-put (star_there c h) = unused-put h
+
+  use-put : {x e : Expr S} {t : GoType} → TypeThere top p x t → PutThere top p e t → TypePut around env p x e
+  use-put {t = t} h (bare_there k) = as_part (record { type = t; old = plain-there h; new = plain-there k; apart = record { old = unused-there h; new = unused-there k } })
+  use-put h (star_there {t = t} c k) = as_callee c (pointer_to t) (plain-type (plain-there h)) (type_by_star (names-put k)) (record { old = unused-there h; new = unused-put k })
+
+  expr-use : (x e : Expr S) → ExprUseThere top p x e → TypePut around env p x e
+  expr-use x e h = use-put h.old h.new
 
 -- ---- in a written type
 

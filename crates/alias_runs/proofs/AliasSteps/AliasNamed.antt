@@ -19,7 +19,7 @@ use Rattle.typed_in_place.proofs.DeclaredAliases.{as_declared, alias_means, alia
 use Rattle.typed_in_place.proofs.DeclaredAliasStands.{text-resolved, text-meant, declared_alias_stands}
 use Rattle.typed_in_place.proofs.MethodsAside.{alias_means_last}
 use Rattle.run_rules.specs.Surroundings.{Place, is_local}
-use Rattle.alias_runs.specs.AliasSteps.AliasUses.{NoneLocal, TypeUseThere, TypeThere, name_there, ExprUseThere, NamesAlias}
+use Rattle.alias_runs.specs.AliasSteps.AliasUses.{NoneLocal, TypeUseThere, PutThere, name_there, ExprUseThere, NamesAlias}
 
 declared-type : (r : Option GoType) → type_of_name (Some (as_declared r)) ≡ r
 declared-type None = refl
@@ -52,7 +52,7 @@ module _ {S : Type 0} (ps : Program S) (h : Headed S) (a : TypeSpec S) (top : En
 
   -- so as an expression, where the type is known
   pub alias-called : (w : World) (p : Place S) (t u : TypeExpr S) (x e : Expr S) (r : Option Entity) (n : List ℕ) (v : GoType) → TypesEnd ps (headed ps) w → NamesAlias ps h a w top t u → Names top x r n → r ≡ means (block_of w.blocks h.home) a.name.name → is_blank n ≡ false → is_local p n ≡ false
-      → type_meant top u ≡ Some v → TypeThere top p e v → ExprUseThere top p x e
+      → type_meant top u ≡ Some v → PutThere top p e v → ExprUseThere top p x e
   alias-called w p t u x e r n v end m d q b l k y = record {
     type = v;
     old = name_there d (q ∙ alias-entity m.declares end ∙ ap (λ o. Some (as_declared o)) (text-meant (env_of w h None) top m.text (sym m.world) ∙ k)) b l;

@@ -25,7 +25,7 @@ use Rattle.run_rules.specs.FormTrees.{Form, as_expr, as_type}
 use Rattle.run_rules.specs.Programs.{top_place}
 use Rattle.run_rules.specs.Surroundings.{Place, is_local}
 use Rattle.constant_steps.specs.StepLaws.DeclStands.{AtNth}
-use Rattle.alias_runs.specs.AliasSteps.AliasUses.{NoneLocal, TypeUseThere, name_there, ExprUseThere}
+use Rattle.alias_runs.specs.AliasSteps.AliasUses.{NoneLocal, TypeUseThere, name_there, bare_there, ExprUseThere}
 use Rattle.alias_runs.specs.AliasSteps.AliasSteps.{DeclOfPackage, WholeUses, AliasSwaps, form_put}
 use Rattle.alias_runs.proofs.AliasSteps.AliasStepLaw.{alias-program}
 use Rattle.alias_runs.proofs.AliasSteps.RetypedInPlace.{retyped-in-place}
@@ -86,7 +86,7 @@ one-name p m b l n i = go (bytes_eq n m) refl i
 
 -- the name of T where the alias is called
 as-called : {top : Env} {p : Place ℕ} {e : Expr ℕ} → Some (ident 37 (codes "T")) ≡ Some e → meaning top (codes "A") ≡ Some (type_name type_t) → meaning top (codes "T") ≡ Some (type_name type_t) → is_local p (codes "A") ≡ false → is_local p (codes "T") ≡ false → ExprUseThere top p (ident 37 (codes "A")) e
-as-called {top = top} {p = p} q a b l m = subst (λ e. ExprUseThere top p (ident 37 (codes "A")) e) (same-put q) (record { type = type_t; old = name_there plain_name a refl l; new = name_there plain_name b refl m })
+as-called {top = top} {p = p} q a b l m = subst (λ e. ExprUseThere top p (ident 37 (codes "A")) e) (same-put q) (record { type = type_t; old = name_there plain_name a refl l; new = bare_there (name_there plain_name b refl m) })
 
 -- whatever the run's packages are
 module _ (rs : List (run.Package ℕ)) (pk : run.Package ℕ) (tree : File ℕ) where

@@ -3,14 +3,14 @@ use Rattle.std.specs.Prelude.{◌≡◌, refl, ℕ, suc, Bool, true, false, ◌|
 use mathlib.Core.Path.{ap, sym, ◌∙◌, subst}
 use Rattle.std.proofs.Common.{arith}
 use Rattle.std.proofs.lemmas.Slice.Eq.{bytes_eq-Decides}
-use Rattle.go_tree.specs.Tree.{TypeExpr, named, pointer, slice_type, map_type, struct_type, Expr, composite, Stmt, const_decl, ValueSpecs, no_specs, spec}
+use Rattle.go_tree.specs.Tree.{TypeExpr, named, pointer, slice_type, map_type, struct_type, Expr, star, composite, Stmt, const_decl, ValueSpecs, no_specs, spec}
 use Rattle.go_tree.specs.File.{Decl, File}
 use Rattle.scope_names.specs.FreeNames.{free_type}
 use Rattle.scope_names.specs.Means.{Environment, means, is_blank}
 use Rattle.pkg_graph.specs.Package.{Package}
 use Rattle.go_types.specs.Answers.{given, only_if}
-use Rattle.go_types.specs.Types.{GoType}
-use Rattle.go_types.specs.Defined.{has_keys}
+use Rattle.go_types.specs.Types.{GoType, pointer_to}
+use Rattle.go_types.specs.Defined.{Defined, has_keys}
 use Rattle.go_types.specs.Entities.{Entity, type_name, type_of_name, World, Env, block_of, meaning, exported, package_of, defined_in}
 use Rattle.go_types.specs.TypeNames.{resolved, type_meant}
 use Rattle.go_types.specs.Typing.{Repeated, nothing_to_repeat}
@@ -40,8 +40,8 @@ use Rattle.constant_steps.proofs.MarksFound.{nth_mapped}
 use Rattle.constant_steps.proofs.PlainImports.{Distinct}
 use Rattle.constant_steps.proofs.SimpleUses.{simple_known}
 use Rattle.constant_steps.specs.QualifiedSteps.MemberNames.{member_name}
-use Rattle.alias_runs.specs.AliasSteps.Retypable.{LiteralKnown}
-use Rattle.alias_runs.specs.AliasSteps.AliasUses.{AtTop, NoneLocal, TypeUseThere, TypeThere, name_there, text_there, ExprUseThere, AllAliasUses}
+use Rattle.alias_runs.specs.AliasSteps.Retypable.{IsCalleePlace, LiteralKnown}
+use Rattle.alias_runs.specs.AliasSteps.AliasUses.{AtTop, NoneLocal, TypeUseThere, name_there, text_there, PutThere, bare_there, star_there, ExprUseThere, AllAliasUses}
 use Rattle.alias_runs.specs.AliasSteps.AliasSteps.{DeclOfPackage, form_put, WholeUses, AliasSwaps}
 use Rattle.alias_runs.proofs.AliasSteps.AliasNamed.{alias-entity}
 use Rattle.alias_runs.specs.AliasSites.FirstAlias.{FirstAlias, with_types}
@@ -76,13 +76,22 @@ of-entity (Some x) t e = go x e
 only-name : {S : Type 0} (p : Place S) (m : List ℕ) → NoneLocal p (m ∷ []) → (is_blank m ≡ false) × (is_local p m ≡ false)
 only-name p m h = h m (ap (λ b. b || false) ((bytes_eq-Decides m m).1 refl))
 
-no-pointer : {S : Type 0} (rs : List (Package S)) (home : Where S) (k : ℕ) (ns : Names) (z : S) (p : Place S) (t : TypeExpr S) → is_pointer t ≡ false → is_pointer (type_there rs home k ns z p t) ≡ false
-no-pointer rs home k ns z p (named s None n) e = refl
-no-pointer rs home k ns z p (named s (Some q) n) e = refl
-no-pointer rs home k ns z p (pointer s t) e = e
-no-pointer rs home k ns z p (slice_type s t) e = refl
-no-pointer rs home k ns z p (map_type s a t) e = refl
-no-pointer rs home k ns z p (struct_type s fs) e = refl
+pointer-kept : {S : Type 0} (rs : List (Package S)) (home : Where S) (k : ℕ) (ns : Names) (z : S) (p : Place S) (t : TypeExpr S) → is_pointer (type_there rs home k ns z p t) ≡ is_pointer t
+pointer-kept rs home k ns z p (named s None n) = refl
+pointer-kept rs home k ns z p (named s (Some q) n) = refl
+pointer-kept rs home k ns z p (pointer s t) = refl
+pointer-kept rs home k ns z p (slice_type s t) = refl
+pointer-kept rs home k ns z p (map_type s a t) = refl
+pointer-kept rs home k ns z p (struct_type s fs) = refl
+
+-- what a pointer that is known points to is known
+pointed : (ds : List Defined) (o : Option GoType) (v : GoType) → given (given o (λ u. Some (pointer_to u))) (λ u. only_if (has_keys ds u) (Some u)) ≡ Some v → (u : GoType) × ((given o (λ u. only_if (has_keys ds u) (Some u)) ≡ Some u) × (pointer_to u ≡ v))
+pointed ds None v e = nothing-put e
+pointed ds (Some u) v e = by (has_keys ds u) refl e
+  where
+    by : (b : Bool) → has_keys ds u ≡ b → only_if b (Some (pointer_to u)) ≡ Some v → (w : GoType) × ((only_if (has_keys ds u) (Some u) ≡ Some w) × (pointer_to w ≡ v))
+    by true q k = (u, (ap (λ b. only_if b (Some u)) q, some_same (pointer_to u) v k))
+    by false q k = nothing-put k
 
 module _ {S : Type 0} (top : Env) where
   plain-meant : (t : TypeExpr S) (v : GoType) → type_meant top t ≡ Some v → resolved top t ≡ Some v
@@ -90,18 +99,20 @@ module _ {S : Type 0} (top : Env) where
       let c = from_given (resolved top t) (λ u. only_if (has_keys (defined_in top) u) (Some u)) v e in
       c.1 ∙ from_only (has_keys (defined_in top) c.0) (Some c.0) v c.2
 
-  there-as : (z : S) (p : Place S) (t : TypeExpr S) (v : GoType) → is_pointer t ≡ false → NoneLocal p (free_type [] t) → type_meant top t ≡ Some v → TypeThere top p (type_expr z t) v
+  there-as : (z : S) (p : Place S) (t : TypeExpr S) (v : GoType) → (is_pointer t ≡ true → IsCalleePlace p) → NoneLocal p (free_type [] t) → type_meant top t ≡ Some v → PutThere top p (type_expr z t) v
   there-as z p (named s None n) v q h e =
       let l : (is_blank n.name ≡ false) × (is_local p n.name ≡ false) = only-name p n.name h in
-      name_there plain_name (of-entity (meaning top n.name) v (plain-meant (named s None n) v e)) l.0 l.1
+      bare_there (name_there plain_name (of-entity (meaning top n.name) v (plain-meant (named s None n) v e)) l.0 l.1)
   there-as z p (named s (Some q) n) v w h e =
       let l : (is_blank q.name ≡ false) × (is_local p q.name ≡ false) = only-name p q.name h in
       let c = from_given (package_of (meaning top q.name)) (λ k. type_of_name (exported top.world k n.name)) v (plain-meant (named s (Some q) n) v e) in
-      name_there (qualified_name c.1) (of-entity (exported top.world c.0 n.name) v c.2) l.0 l.1
-  there-as z p (pointer s t) v q h e = absurd (grind (arith, q))
-  there-as z p (slice_type s t) v q h e = text_there e h
-  there-as z p (map_type s a t) v q h e = text_there e h
-  there-as z p (struct_type s fs) v q h e = text_there e h
+      bare_there (name_there (qualified_name c.1) (of-entity (exported top.world c.0 n.name) v c.2) l.0 l.1)
+  there-as z p (pointer s t) v q h e =
+      let c = pointed (defined_in top) (resolved top t) v e in
+      subst (λ v. PutThere top p (star z (type_expr z t)) v) c.1.1 (star_there (q refl) (there-as z p t c.0 (λ _. q refl) h c.1.0))
+  there-as z p (slice_type s t) v q h e = bare_there (text_there e h)
+  there-as z p (map_type s a t) v q h e = bare_there (text_there e h)
+  there-as z p (struct_type s fs) v q h e = bare_there (text_there e h)
 
 -- ---- the parts of the declaration
 
@@ -184,7 +195,7 @@ module _ {S : Type 0} (same : S → S → Bool) (commented : ℕ → ℕ → S �
     called-there g known = record {
       type = g;
       old = name_there names.names (names.is ∙ alias-entity qs a.header a.spec (top w) a.declares end ∙ ap (λ o. Some (as_declared o)) (text-here ∙ known)) free.spelled free.free;
-      new = there-as (top w) z x.place new g (no-pointer rs u.home x.at.number (names_by u.packages) z (home_place same commented rs marks u.home) u.text t.no_pointer) (new-free same commented rs marks x u v i qs k w (with_types end)) known;
+      new = there-as (top w) z x.place new g (λ e. t.called (sym (pointer-kept rs u.home x.at.number (names_by u.packages) z (home_place same commented rs marks u.home) u.text) ∙ e)) (new-free same commented rs marks x u v i qs k w (with_types end)) known;
     }
 
   module _ (ps more : Program S) (a : PackagesHold same commented rs marks x u ps) (d : Distinct (ps ++ more)) (typed : All (HeaderTyped (types_declared (ps ++ more) (headed (ps ++ more))) (collected (ps ++ more))) (headed (ps ++ more))) where

@@ -3,12 +3,12 @@
 -- Declarations and scope; Qualified identifiers).
 use Rattle.std.specs.Prelude.{◌≡◌, ℕ, true, false, Bool, List, [], ◌∷◌, Option, Some, None}
 use Rattle.go_tree.specs.Tree.{NameAt, TypeExpr, named, pointer, slice_type, map_type, struct_type, Fields, no_fields}
-use Rattle.go_tree.specs.Tree.{field, Expr, type_operand}
+use Rattle.go_tree.specs.Tree.{field, Expr, type_operand, star}
 use Rattle.go_tree.specs.File.{TypeSpec}
 use Rattle.scope_names.specs.Means.{is_blank, means}
 use Rattle.scope_names.specs.FreeNames.{free_type}
 use Rattle.go_types.specs.Answers.{is_among}
-use Rattle.go_types.specs.Types.{GoType}
+use Rattle.go_types.specs.Types.{GoType, pointer_to}
 use Rattle.go_types.specs.Entities.{Entity, type_name, type_of_name, World, Env, block_of}
 use Rattle.go_types.specs.TypeNames.{resolved, type_meant}
 use Rattle.go_types.specs.Programs.{Program, Headed, headed}
@@ -20,7 +20,7 @@ use Rattle.run_rules.specs.Steps.{changes_for}
 use Rattle.run_rules.specs.Surroundings.{Place, Seen, seen, seen_type, seen_stmt, is_local}
 use Rattle.constant_steps.specs.StepLaws.Answered.{ExprKnown, StmtKnown}
 use Rattle.constant_steps.specs.StepLaws.NamesOutside.{NamesOutside}
-use Rattle.alias_runs.specs.AliasSteps.Retypable.{LiteralKnown}
+use Rattle.alias_runs.specs.AliasSteps.Retypable.{IsCalleePlace, LiteralKnown}
 
 -- names outside a declaration mean at this place what they mean at the top of the file, in the same package
 pub record AtTop {S : Type 0} (top : Env) (around : List (List ℕ)) (env a : Env) (bound : List (NameAt S)) :
@@ -47,11 +47,18 @@ pub data TypeThere {S : Type 0} (top : Env) (p : Place S) : Expr S → GoType �
       {s : S} {u : TypeExpr S} {t : GoType} → type_meant top u ≡ Some t → NoneLocal p (free_type [] u) →
       TypeThere top p (type_operand s u) t
 
+-- so it is what is put there, or, as what is called, with `*` before it
+pub data PutThere {S : Type 0} (top : Env) (p : Place S) : Expr S → GoType → Type 0 where
+  bare_there : {e : Expr S} {t : GoType} → TypeThere top p e t → PutThere top p e t
+  star_there :
+      {s : S} {e : Expr S} {t : GoType} → IsCalleePlace p → PutThere top p e t →
+      PutThere top p (star s e) (pointer_to t)
+
 -- two expressions that are one type there
 pub record ExprUseThere {S : Type 0} (top : Env) (p : Place S) (x e : Expr S) : Type 0 where
   pub type : GoType
   pub old : TypeThere top p x type
-  pub new : TypeThere top p e type
+  pub new : PutThere top p e type
 
 module _ {S : Type 0} (same : S → S → Bool) (z : S) where
   module _ (new : TypeExpr S) (U : TypeExpr S → TypeExpr S → Type 0) where

@@ -22,7 +22,7 @@ use Rattle.go_translation.specs.Packages.{Package, sources, codes_of, are_distin
 use Rattle.go_translation.specs.SameMeaning.{Packages, WellTyped, with_further, SameMeaning}
 use Rattle.run_rules.specs.FormTrees.{Form}
 use Rattle.run_rules.specs.Surroundings.{Place, is_local}
-use Rattle.alias_runs.specs.AliasSteps.AliasUses.{NoneLocal, TypeUseThere, TypeThere, ExprUseThere, NamesAlias}
+use Rattle.alias_runs.specs.AliasSteps.AliasUses.{NoneLocal, TypeUseThere, PutThere, ExprUseThere, NamesAlias}
 use Rattle.alias_runs.specs.AliasSteps.AliasSteps.{form_put, members_with_form, AliasSwaps}
 use Rattle.alias_runs.specs.AliasSteps.RetypedPrograms.{RetypedProgram, RetypedPackages}
 use Rattle.alias_runs.specs.AliasSteps.Runs.{NamesRun}
@@ -54,7 +54,7 @@ CalledAliasesMeanTheirText =
     (t u : TypeExpr Span) (x e : Expr Span) (r : Option Entity) (n : List ℕ) (v : GoType) →
     TypesEnd ps (headed ps) w → NamesAlias ps h a w top t u → Names top x r n →
     r ≡ means (block_of w.blocks h.home) a.name.name → is_blank n ≡ false → is_local p n ≡ false →
-    type_meant top u ≡ Some v → TypeThere top p e v → ExprUseThere top p x e
+    type_meant top u ≡ Some v → PutThere top p e v → ExprUseThere top p x e
 
 -- ---- one step: the form is put at `z` in a declaration, in the tree of a file of the package pk of the run's packages
 

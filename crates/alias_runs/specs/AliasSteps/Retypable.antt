@@ -1,7 +1,7 @@
 -- What is asked at each place that the walk lists, so that all that the walk puts are types written otherwise (Go
 -- specification, Alias declarations; Conversions; Composite literals; Function literals).
 -- `R` says of a place what typing has there beside what the walk has there.
-use Rattle.std.specs.Prelude.{◌≡◌, ℕ, List, [], ◌∷◌, Some, None}
+use Rattle.std.specs.Prelude.{◌≡◌, ℕ, true, List, [], ◌∷◌, Some, None}
 use Rattle.go_tree.specs.Tree.{NameAt, Expr, composite}
 use Rattle.go_types.specs.Types.{GoType}
 use Rattle.go_types.specs.Defined.{under}
@@ -12,6 +12,7 @@ use Rattle.run_rules.specs.Rewriting.{Changes}
 use Rattle.constant_steps.specs.StepLaws.Answered.{ExprKnown, StmtKnown}
 use Rattle.constant_steps.specs.StepLaws.Stands.{TypeStands}
 use Rattle.constant_steps.specs.StepLaws.SwapUses.{BracesKnown}
+use Rattle.typed_in_place.specs.Leaves.{NamesType}
 use Rattle.alias_runs.specs.AliasTexts.Retyped.{PlainType, NoneUsed}
 
 -- two expressions that are one type, by its name or as its text, and use no name that is declared around
@@ -20,6 +21,17 @@ pub record SameTypeUse {S : Type 0} (around : List (List ℕ)) (env : Env) (e f 
   pub old : PlainType env e type
   pub new : PlainType env f type
   pub apart : NoneUsed around env e f
+
+-- the place of what is called: `(` directly follows an operand that binds as tightly as any
+abbrev pub IsCalleePlace : {S : Type 0} → Place S → Type 0
+IsCalleePlace p = (p.slot.level ≡ 7) × (p.slot.closed ≡ true)
+
+-- two expressions that are one type at this place; where they are what is called, they may have `*` before a type
+pub data TypePut {S : Type 0} (around : List (List ℕ)) (env : Env) (p : Place S) (e f : Expr S) : Type 0 where
+  as_part : SameTypeUse around env e f → TypePut around env p e f
+  as_callee :
+      IsCalleePlace p → (t : GoType) → NamesType env e t → NamesType env f t → NoneUsed around env e f →
+      TypePut around env p e f
 
 module _ {S : Type 0} (c : Changes S) (R : List (List ℕ) → Env → Env → List (NameAt S) → Type 0) where
   -- an expression by itself: the type of a composite literal is known, and those of the braces in it
@@ -33,7 +45,7 @@ module _ {S : Type 0} (c : Changes S) (R : List (List ℕ) → Env → Env → L
   abbrev pub Retypable : Seen S → Type 0
   Retypable (seen p u e) =
       ExprKnown c R p e × (LiteralKnown p e × ((around : List (List ℕ)) (env : Env) → R around env p.env p.bound →
-      (f : Expr S) → c.expr p u e ≡ Some f → SameTypeUse around env e f))
+      (f : Expr S) → c.expr p u e ≡ Some f → TypePut around env p e f))
   Retypable (seen_type p t) =
       (around : List (List ℕ)) (env : Env) → R around env p.env p.bound → TypeStands c around env p t
   Retypable (seen_stmt p s) = StmtKnown c p s × (c.stmt p s ≡ None)

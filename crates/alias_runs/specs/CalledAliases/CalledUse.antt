@@ -6,6 +6,7 @@ use Rattle.pkg_graph.specs.Package.{Package}
 use Rattle.run_rules.specs.Programs.{decl_seen}
 use Rattle.run_rules.specs.Sites.{MarkRef, Site, an_expr}
 use Rattle.constant_steps.specs.PlainUse.{AllTheUse}
+use Rattle.alias_runs.specs.AliasSteps.Retypable.{IsCalleePlace}
 use Rattle.alias_runs.specs.QualifiedAliases.AliasUse.{AliasUse, AliasUseStands, IsTypeUse}
 
 -- `*` before a type
@@ -16,12 +17,12 @@ is_pointer t = false
 module _ {S : Type 0} (same : S → S → Bool) (commented : ℕ → ℕ → S → Bool) (rs : List (Package S))
     (marks : List MarkRef) (x : Site S) (u : AliasUse same commented rs marks x)
     (v : AliasUseStands same commented rs marks x u) where
-  -- The use is an expression, and the alias isn't declared as `*` before a type. Nothing else stands at its span in its
-  -- declaration.
+  -- The use is an expression; where the alias is declared as `*` before a type, it is what is called. Nothing else
+  -- stands at its span in its declaration.
   pub record IsCalledUse : Type 0 where
     pub use_ : Expr S
     pub part : x.part ≡ an_expr use_
-    pub no_pointer : is_pointer u.text ≡ false
+    pub called : is_pointer u.text ≡ true → IsCalleePlace x.place
     pub alone : AllTheUse same x use_ (decl_seen rs x.at.number x.at.of x.at.source.tree v.decl)
 
   -- the use is a written type, or such an expression

@@ -1,5 +1,5 @@
 -- A run over marked constants and aliases from a module that reads.
-use Rattle.std.proofs.Common.{◌≡◌, ◌∙◌, sym, true, List, []}
+use Rattle.std.proofs.Common.{◌≡◌, ◌∙◌, sym, true, List}
 use Rattle.std.specs.Prelude.{ℕ}
 use Rattle.std.specs.List.{list_all}
 use Rattle.go_tree.specs.declared.spans.Span.{Span}
@@ -17,7 +17,7 @@ use Rattle.run_rules.specs.Inlining.{ModuleReads, standing_as_read}
 use Rattle.order_runs.specs.RunSteps.RunPackages.{members_of}
 use Rattle.marked_runs.specs.ReadyModules.Laws.{ReadModulesAreReady}
 use Rattle.marked_runs.proofs.ReadyModules.Typed.{typed_as_read}
-use Rattle.marked_runs.specs.SettledConstants.Laws.{ConstantsSettle}
+use Rattle.marked_runs.specs.SettledConstants.Laws.{ConstantsSettle, UsesAreScoped}
 use Rattle.marked_runs.specs.SettledConstants.Programs.{IsReady}
 use Rattle.marked_runs.specs.SoundImports.Laws.{AddedImportsMayBeDeclared}
 use Rattle.marked_runs.specs.TakenNames.Laws.{KeptByRun}
@@ -30,7 +30,7 @@ use Rattle.taken_aliases.proofs.MixedRuns.NoCycles.{no-cycle}
 use Rattle.taken_aliases.proofs.MixedRuns.Settled.{alias-settles}
 use Rattle.taken_aliases.proofs.MixedRuns.Takes.{takes-name, takes-alias}
 
-module _ (sound : AddedImportsMayBeDeclared) (settles : ConstantsSettle) (step : StepsStayReady) where
+module _ (sound : AddedImportsMayBeDeclared) (scoped : UsesAreScoped) (settles : ConstantsSettle) (step : StepsStayReady) where
   one-step : (marks : List MarkRef) (st : Standing) (l : Logged) (after : Standing) (n : Next marks st l after) → IsReady st → are_well_typed (members_of st.packages) ≡ true → IsOverEither n → SettlesFile n × TakesEither n
   one-step marks st l after n ready typed (over_constant over stands) =
       let settled : SettlesFile n = settles marks st l after n ready over in (
@@ -38,7 +38,7 @@ module _ (sound : AddedImportsMayBeDeclared) (settles : ConstantsSettle) (step :
         of_constant (takes-name sound marks st l after n ready.reads (step-names marks st l after n ready.links settled) (linked-names st.packages ready.links) typed over.few stands),
       )
   one-step marks st l after n ready typed (over_alias over stands) =
-      let settled : SettlesFile n = alias-settles marks st l after n ready over in (
+      let settled : SettlesFile n = alias-settles scoped marks st l after n ready over in (
         settled,
         of_alias (takes-alias sound marks st l after n ready.reads (step-names marks st l after n ready.links settled) (linked-names st.packages ready.links) typed over.few stands),
       )

@@ -11,10 +11,12 @@ use Rattle.taken_aliases.proofs.PutTexts.Packages.{texts-name, texts-add-led}
 use Rattle.taken_aliases.proofs.PutTexts.Steps.{aliases-settle}
 use Rattle.marked_runs.specs.SettledConstants.Programs.{IsReady}
 use Rattle.marked_runs.proofs.SettledConstants.Ready.{uses_undotted, linked_writable}
-use Rattle.taken_aliases.specs.MixedRuns.Marked.{LaysOut, at_a_type, at_a_node, IsOverAlias}
+use Rattle.marked_runs.specs.SettledConstants.Laws.{UsesAreScoped}
+use Rattle.taken_aliases.specs.MixedRuns.Marked.{LaysOut, at_a_type, at_an_expression, at_a_node, IsOverAlias}
+use Rattle.taken_aliases.proofs.PutCalls.Steps.{called-aliases-settle}
 
-pub alias-settles : (marks : List MarkRef) (st : Standing) (l : Logged) (after : Standing) (n : Next marks st l after) → IsReady st → IsOverAlias n → SettlesFile n
-alias-settles marks st l after n ready over = by over.lays_out
+pub alias-settles : UsesAreScoped → (marks : List MarkRef) (st : Standing) (l : Logged) (after : Standing) (n : Next marks st l after) → IsReady st → IsOverAlias n → SettlesFile n
+alias-settles scoped marks st l after n ready over = by over.lays_out
   where
     of : AreOfPackages st.packages n.found.named
     of = texts-name marks st l after n ready.reads over.uses ready.links.ordered
@@ -26,6 +28,9 @@ alias-settles marks st l after n ready over = by over.lays_out
     by (at_a_type used fits) =
         aliases-settle marks st l after n ready.reads used over.uses fits ready.links (linked_writable st.packages ready.links ready.named ready.octets)
         (uses_undotted marks st l after n ready.typed ready.unspread) over.few over.removes
+    by (at_an_expression used laid) =
+        called-aliases-settle marks st l after n ready.reads used over.uses laid ready.links (linked_writable st.packages ready.links ready.named ready.octets)
+        (uses_undotted marks st l after n ready.typed ready.unspread) (scoped marks st l after n ready.reads ready.links.ordered ready.typed) over.few over.removes
     by (at_a_node puts) = record {
       puts = puts;
       writable = step_imports marks st n.found n.is_first n.old n.stands ready.octets of are;

@@ -1,5 +1,5 @@
 -- A step over a constant or an alias takes what it puts, with the imports of its form added to its file.
-use Rattle.std.proofs.Common.{◌≡◌, ℕ, true, List, Some}
+use Rattle.std.proofs.Common.{◌≡◌, true, List, Some}
 use Rattle.std.specs.Prelude.{slice_get}
 use Rattle.go_tree.specs.declared.spans.Span.{Span}
 use Rattle.pkg_graph.specs.Package.{SourceTree, Package}
@@ -22,7 +22,7 @@ use Rattle.marked_runs.specs.SoundImports.Laws.{AddedImportsMayBeDeclared}
 use Rattle.alias_runs.specs.QualifiedAliases.AliasUse.{AliasUseStands, ImportsHold}
 use Rattle.alias_runs.specs.CalledAliases.CalledUse.{IsPlaced, as_written, as_called}
 use Rattle.marked_runs.specs.TakenNames.Taken.{site_there, TakesName}
-use Rattle.taken_aliases.specs.Taken.{TakesAlias}
+use Rattle.taken_aliases.specs.Taken.{in_its_place, TakesAlias}
 use Rattle.marked_runs.specs.Marked.{StandsAdded}
 use Rattle.marked_runs.proofs.Alone.{alone-there}
 use Rattle.taken_aliases.specs.MixedRuns.Marked.{PlacedThere, written_there, called_there, AliasStandsAdded}
@@ -95,8 +95,8 @@ module _ (sound : AddedImportsMayBeDeclared) (marks : List MarkRef) (st : Standi
     is-placed : PlacedThere n h.place h.use_ → IsPlaced same_here (is_commented st) mid marks (site_there n.found h.place) h.use_ stands
     is-placed (written_there old part receiver alone) =
         as_written (record { use_ = old; part = part; receiver = receiver here.decl here.decl_is; alone = alone here.decl here.decl_is })
-    is-placed (called_there old used_as part bare there) =
-        as_called (record { use_ = old; part = part; no_pointer = bare; alone = alone-there marks st l after n reads h.place used_as old part here.decl here.decl_is (there here.decl here.decl_is) })
+    is-placed (called_there old used_as part callee there) =
+        as_called (record { use_ = old; part = part; called = callee; alone = alone-there marks st l after n reads h.place used_as old part here.decl here.decl_is (there here.decl here.decl_is) })
 
     holds : ImportsHold same_here (is_commented st) mid marks (site_there n.found h.place) h.use_
     holds = record { use_ = file-sound; home = home-sound h.use_.home (stands_there mid n.found.site.mark h.use_.home h.use_.home_is) }
@@ -106,7 +106,7 @@ module _ (sound : AddedImportsMayBeDeclared) (marks : List MarkRef) (st : Standi
       place = h.place;
       use_ = h.use_;
       stands = stands;
-      placed = is-placed h.placed;
+      placed = in_its_place (is-placed h.placed);
       form = h.form;
       names = names;
       sound = holds;

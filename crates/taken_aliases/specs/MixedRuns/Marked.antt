@@ -18,12 +18,15 @@ use Rattle.cycle_runs.specs.ImportCycles.ImportSteps.{packages_added}
 use Rattle.order_runs.specs.ImportCodes.PackagesMoved.{ImportsStand}
 use Rattle.cycle_runs.specs.KeptImports.Files.{PutsNode, RemovesNoNames}
 use Rattle.cycle_runs.specs.OrderCycles.NewNames.{FewNames}
+use Rattle.alias_runs.specs.AliasSteps.Retypable.{IsCalleePlace}
 use Rattle.alias_runs.specs.AliasSites.TypeUse.{AllTheType, ReceiverStays}
 use Rattle.constant_steps.specs.PlainUse.{AllSimple}
 use Rattle.alias_runs.specs.QualifiedAliases.AliasUse.{AliasUse, text_there}
 use Rattle.alias_runs.specs.CalledAliases.CalledUse.{is_pointer}
 use Rattle.put_names.specs.PutTypes.Uses.{UsesTypeName}
+use Rattle.put_names.specs.Uses.{IsUsedByName}
 use Rattle.taken_aliases.specs.PutTexts.Uses.{UsesAliasText, FitsLiteral}
+use Rattle.taken_aliases.specs.PutCalls.Uses.{MayBeLaid}
 use Rattle.marked_runs.specs.SettledConstants.Programs.{IsOverConstant}
 use Rattle.marked_runs.specs.TakenNames.Taken.{site_there}
 use Rattle.marked_runs.specs.Marked.{decl_there, StandsAdded}
@@ -33,10 +36,11 @@ abbrev pub NoFunctions : List (Package At) → List MarkRef → Type 0
 NoFunctions ps marks = (m : MarkRef) → is_among_marks marks m ≡ true → meets (inlinable ps m) is_function ≡ false
 
 module _ {marks : List MarkRef} {st : Standing} {l : Logged} {after : Standing} (n : Next marks st l after) where
-  -- The form of an alias is laid out in the place of a name of a type that its declaration writes; or, as of a use that
-  -- is an expression, in the place of a node that is told.
+  -- The form of an alias is laid out in the place of a name of a type that its declaration writes; or in the place of a
+  -- name that is an expression, as of what is called in a conversion; or in the place of a node that is told.
   pub data LaysOut (uses : UsesAliasText n) : Type 0 where
     at_a_type : (used : UsesTypeName n) → FitsLiteral n used uses → LaysOut uses
+    at_an_expression : IsUsedByName n → MayBeLaid n.found.site.place.slot uses.text → LaysOut uses
     at_a_node : PutsNode n → LaysOut uses
 
   -- The step is over an alias, whatever its type. The names to avoid are fewer than 2^64, and no import that goes has
@@ -57,7 +61,7 @@ module _ {marks : List MarkRef} {st : Standing} {l : Logged} {after : Standing} 
       text_there same_here (is_commented st) (packages_added st.packages n.found) marks (site_there n.found p) u
 
   -- The use is a written type, and nothing else stands at its span in its declaration, whose receiver stays; or it is an
-  -- expression, and the alias isn't declared as `*` before a type.
+  -- expression, and what is called where the alias is declared as `*` before a type.
   pub data PlacedThere (p : Place At) (u : UseThere p) : Type 0 where
     written_there :
         (old : TypeExpr At) → n.found.site.part ≡ a_type_part old
@@ -68,7 +72,7 @@ module _ {marks : List MarkRef} {st : Standing} {l : Logged} {after : Standing} 
         → AllTheType same_here (site_there n.found p) old (written_text p u) (decl_there n d))
         → PlacedThere p u
     called_there :
-        (old : Expr At) (used_as : Use) → n.found.site.part ≡ an_expr old → is_pointer u.text ≡ false
+        (old : Expr At) (used_as : Use) → n.found.site.part ≡ an_expr old → (is_pointer u.text ≡ true → IsCalleePlace p)
         → ((d : Decl At) → slice_get n.found.site.at.source.tree.decls n.found.site.decl ≡ Some d
         → Contains (decl_there n d) (seen p used_as old))
         → PlacedThere p u

@@ -4,13 +4,17 @@ ghost use Rattle.taken_aliases.specs.MixedRuns.Laws.{AliasesSettle, MarksOfNoFun
 ghost use Rattle.taken_aliases.specs.MixedRuns.Laws.{StepsKeepNoFunctions};
 
 use crate::{aliases_are_taken, steps_stay_ready};
-use marked_runs::{added_imports_may_be_declared, constants_settle, read_modules_are_ready};
+use marked_runs::{
+    added_imports_may_be_declared, constants_settle, programs_are_ready, read_modules_are_ready,
+};
 
 /// In a program that is ready a step over an alias of any type settles its file: where the use is a
-/// written type, with nothing else asked of its form or its imports.
+/// written type, or what is called in a conversion, with nothing else asked of its form or its imports.
 pub fn aliases_settle()
     ensures { AliasesSettle }
-{}
+{
+    programs_are_ready();
+}
 
 /// Where no mark is of a function, no marked function lies on a cycle (`cycles`), and none is of a
 /// function after a step (`stay`). A run over marked constants and aliases, from a module that reads
@@ -22,6 +26,7 @@ pub fn runs_over_names_keep()
 {
     added_imports_may_be_declared();
     constants_settle();
+    programs_are_ready();
     read_modules_are_ready();
     aliases_are_taken();
     steps_stay_ready();

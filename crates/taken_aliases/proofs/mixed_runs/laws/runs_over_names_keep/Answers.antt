@@ -11,4 +11,4 @@ returns-clause-stay c = λ marks st l after n none. no-functions-stay marks st l
 
 pub returns-clause-runs : goal.returns-clause-runs
 returns-clause-runs c = λ files ps texts marks last log r octets typed unspread none run h.
-    runs-keep c.added_imports_may_be_declared.ensures c.constants_settle.ensures.settle c.steps_stay_ready.ensures c.read_modules_are_ready.ensures.ready c.aliases_are_taken.ensures.runs files ps texts marks last log r octets typed unspread none run h
+    runs-keep c.added_imports_may_be_declared.ensures c.programs_are_ready.ensures.scoped c.constants_settle.ensures.settle c.steps_stay_ready.ensures c.read_modules_are_ready.ensures.ready c.aliases_are_taken.ensures.runs files ps texts marks last log r octets typed unspread none run h

@@ -1,0 +1,4 @@
+pub mod TypeSeats
+pub mod Listed
+pub mod Named
+pub mod Over

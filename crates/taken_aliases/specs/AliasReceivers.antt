@@ -1,0 +1,4 @@
+pub mod Receivers
+pub mod Steps
+pub mod ReceiverUses
+pub mod Laws

@@ -1,0 +1,48 @@
+-- Uses of aliases that are asked of little: as written types and as expressions (Go specification, Alias declarations;
+-- Types; Method declarations; Conversions).
+use Rattle.std.specs.Prelude.{◌≡◌, List, Some, None, slice_get}
+use Rattle.go_tree.specs.Tree.{TypeExpr, named, Expr}
+use Rattle.go_tree.specs.File.{Receiver, Func, Decl, func}
+use Rattle.constant_steps.specs.PlainUse.{AllSimple}
+use Rattle.run_rules.specs.Programs.{decl_seen}
+use Rattle.run_rules.specs.Run.{Standing, Logged, Next}
+use Rattle.run_rules.specs.Sites.{MarkRef, an_expr, a_type_part}
+use Rattle.run_rules.specs.Steps.{At}
+use Rattle.cycle_runs.specs.KeptImports.Files.{RemovesNoNames}
+use Rattle.cycle_runs.specs.OrderCycles.NewNames.{FewNames}
+use Rattle.taken_aliases.specs.PutTexts.Uses.{UsesAliasText}
+use Rattle.taken_aliases.specs.PutCalls.Uses.{MayBeLaid}
+
+-- the type of a method's receiver
+pub data IsReceiverType {S : Type 0} : Decl S → TypeExpr S → Type 0 where
+  of_receiver :
+      (f : Func S) (r : Receiver S) → f.receiver ≡ Some r → IsReceiverType (func f) (named r.of.span None r.of)
+
+module _ {marks : List MarkRef} {st : Standing} {l : Logged} {after : Standing} (n : Next marks st l after) where
+  -- The use is a written type, but not that of a receiver.
+  pub record IsWrittenType (old : TypeExpr At) : Type 0 where
+    pub part : n.found.site.part ≡ a_type_part old
+    pub not_received :
+        (d : Decl At) → slice_get n.found.site.at.source.tree.decls n.found.site.decl ≡ Some d
+        → IsReceiverType d old → ⊥
+
+  -- In its declaration no composite literal, no literal of a function and no group of constants in a body with a member
+  -- that repeats another stands.
+  abbrev pub IsSimpleAround : Type 0
+  IsSimpleAround =
+      (d : Decl At) → slice_get n.found.site.at.source.tree.decls n.found.site.decl ≡ Some d → AllSimple
+      (decl_seen st.packages n.found.site.at.number n.found.site.at.of n.found.site.at.source.tree d)
+
+  -- A step over an alias, whatever its type, where the use is such a written type in such a declaration; or an
+  -- expression, in the place of which the type may be laid out. The names to avoid are fewer than 2^64, and no import
+  -- that goes has the name of an identifier.
+  pub data IsWritten (uses : UsesAliasText n) : Type 0 where
+    as_a_type : (old : TypeExpr At) → IsWrittenType old → IsSimpleAround → IsWritten uses
+    as_an_expression :
+        (old : Expr At) → n.found.site.part ≡ an_expr old → MayBeLaid n.found.site.place.slot uses.text → IsWritten uses
+
+  pub record IsOverWritten : Type 0 where
+    pub uses : UsesAliasText n
+    pub written : IsWritten uses
+    pub few : FewNames st.packages n.found
+    pub removes : RemovesNoNames n
