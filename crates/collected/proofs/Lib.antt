@@ -1,4 +1,5 @@
 pub mod RowsSame
 pub mod TypeLemmas
 pub mod MethodLemmas
+pub mod ThereStays
 pub mod CollectLemmas

@@ -3,7 +3,9 @@
 
 ghost use Rattle.std.specs.Prelude.{◌<◌, ◌^◌, length, IfOk};
 ghost use Rattle.package_blocks.specs.Collected.{AreOrdered};
+ghost use Rattle.package_blocks.specs.Imports.{views};
 ghost use Rattle.func_headers.specs.Functions.{program_of};
+ghost use Rattle.value_headers.specs.SpelledDecls.{PackagesAreSpelled};
 ghost use Rattle.collected.specs.Collected.{AreDeclarations};
 
 use crate::methods::add_methods;
@@ -12,13 +14,15 @@ use checker_tables::Tables;
 use func_headers::declare_functions;
 use go_tree::NoMemory;
 use package_blocks::{PackageHeader, PackageNames, collect_names};
+use package_values::{DeclaredValues, declare_values};
 use pkg_graph::Package;
 use std::alloc::Global;
 use typed_names::{Blocks, Scope};
 
-/// The tables of types with all that packages declare, the package blocks by the numbers of packages, the places
-/// outside all functions of all files and all headers, both by package after package in their dependency order;
-/// and, by kinds, the numbers of the headers that are refused, in their order.
+/// The tables of types and constants with all that packages declare, the package blocks by the numbers of packages,
+/// the places outside all functions of all files and all headers, both by package after package in their dependency
+/// order; and, by kinds, the numbers of the headers that are refused, in their order. Values are constants and
+/// variables.
 #[derive(Drop)]
 pub struct Collected<'a> {
     pub tables: Tables,
@@ -26,12 +30,14 @@ pub struct Collected<'a> {
     pub files: Vec<Scope>,
     pub headers: Vec<PackageHeader<'a>>,
     pub refused_types: Vec<usize>,
+    pub refused_values: Vec<usize>,
     pub refused_functions: Vec<usize>,
     pub refused_methods: Vec<usize>,
 }
 
-/// What the packages of a module declare, in their order: types, functions and methods. The error is want of
-/// memory.
+/// What the packages of a module declare, in their order: types, functions, constants, variables and methods. The
+/// literals of values have to be well spelled, as they are in files that read (value_headers'
+/// `read_values_are_spelled`). The error is want of memory.
 pub fn collect<'a>(
     alloc: Global,
     packages: &'a [Package],
@@ -39,6 +45,7 @@ pub fn collect<'a>(
 ) -> Result<Collected<'a>, NoMemory>
     requires few { length packages.now < 2 ^ 32 }
     requires order { AreOrdered packages.now order.now }
+    requires spelled { PackagesAreSpelled (views packages.now) }
     ensures { IfOk result (AreDeclarations (program_of packages.now)) }
 {
     let PackageNames {
@@ -59,13 +66,18 @@ pub fn collect<'a>(
         &mut blocks,
         &headers,
     )?;
-    let refused_methods = add_methods(alloc, &mut tables, &files, &blocks, &headers)?;
+    let DeclaredValues {
+        blocks: declared,
+        refused: refused_values,
+    } = declare_values(alloc, &mut tables, &files, &blocks, &headers)?;
+    let refused_methods = add_methods(alloc, &mut tables, &files, &declared, &headers)?;
     Ok(Collected {
         tables,
-        blocks,
+        blocks: declared,
         files,
         headers,
         refused_types,
+        refused_values,
         refused_functions,
         refused_methods,
     })

@@ -1,7 +1,7 @@
-//! What the packages of a module declare, found in one call: their types, functions and methods, the tables of
-//! types with them, what the names of the package blocks mean, and the headers that are refused (Go
-//! specification, Blocks; Declarations and scope; Type declarations; Function declarations; Method
-//! declarations).
+//! What the packages of a module declare, found in one call: their types, functions, constants, variables and
+//! methods, the tables of types and constants with them, what the names of the package blocks mean, and the headers
+//! that are refused (Go specification, Blocks; Declarations and scope; Type declarations; Constant declarations;
+//! Variable declarations; Function declarations; Method declarations).
 #![tactic(auto)]
 
 mod declarations;

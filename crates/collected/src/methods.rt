@@ -10,6 +10,7 @@ ghost use Rattle.declared_types.specs.Steps.{KnowsPlaces};
 ghost use Rattle.package_blocks.specs.Headers.{AreHeaders, listed_of};
 ghost use Rattle.method_types.specs.Methods.{refused_methods};
 ghost use Rattle.checker_tables.specs.Ready.{AreReady};
+ghost use Rattle.initial_values.specs.ValueBlocks.Values.{AreThere};
 ghost use Rattle.collected.specs.Methods.{MethodsAreAdded};
 
 use checker_tables::Tables;
@@ -47,6 +48,9 @@ pub(crate) fn add_methods(
     requires known { KnowsPlaces tables.old.env blocks.now files.now }
     ensures ready { IfOk result (λ refused. AreReady tables.new) }
     ensures known { IfOk result (λ refused. KnowsPlaces tables.new.env blocks.now files.now) }
+    ensures consts { IfOk result (λ refused. tables.new.consts ≡ tables.old.consts) }
+    ensures there { IfOk result (λ refused. AreThere tables.old.env tables.old.consts blocks.now
+        → AreThere tables.new.env tables.new.consts blocks.now) }
     ensures added { IfOk result (λ refused. (cs : List Const) (hs : List (Headed Span))
         → AreHeaders files.now (map listed_of headers.now) hs
         → MethodsAreAdded tables.new.env cs blocks.now (world_at tables.old.env cs blocks.now) hs refused.items) }

@@ -1,3 +1,5 @@
 mod OutcomeLemmas
 mod ReadTexts
 mod ModuleLemmas
+mod ConstantLemmas
+mod UseLemmas

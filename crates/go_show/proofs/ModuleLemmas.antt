@@ -1,9 +1,13 @@
--- The packages of a module that is read, in the order of their imports.
+-- The packages of a module that is read: they stand in the order of their imports, and literals are well spelled.
 use Rattle.std.proofs.Common.{◌≡◌, ℕ, List, subst, sym}
 use Rattle.pkg_graph.specs.declared.packages.Package.{Package}
 use Rattle.package_blocks.specs.Collected.{AreOrdered}
+use Rattle.package_blocks.specs.Imports.{views}
 use Rattle.module_reading.specs.declared.reading.ReadModule.{ReadModule}
-use Rattle.module_reading.specs.Modules.{IsReadFrom}
+use Rattle.module_reading.specs.Files.{sources_of}
+use Rattle.module_reading.specs.Modules.{IsReadFrom, go_sources}
+use Rattle.value_headers.specs.SpelledDecls.{PackagesAreSpelled}
+use Rattle.value_headers.proofs.SpelledHeaders.{read_packages_spelled}
 use Rattle.source_files.specs.declared.files.SourceFile.{SourceFile}
 
 pub read_are_ordered :
@@ -13,3 +17,11 @@ read_are_ordered packages order files m r p o =
     subst (λ ps. AreOrdered ps order) (sym p)
     (subst (λ ks. AreOrdered m.graph.packages.items ks) (sym o)
     (record { home = m.home.path; trees = r.trees; packages_are = r.packages_are; order_is = r.order_is }))
+
+pub read_are_spelled :
+    (packages : List Package) (files : List SourceFile) (m : ReadModule) → IsReadFrom files m →
+    packages ≡ m.graph.packages.items → PackagesAreSpelled (views packages)
+read_are_spelled packages files m r p =
+    subst (λ ps. PackagesAreSpelled (views ps)) (sym p)
+    (subst PackagesAreSpelled (sym r.packages_are)
+    (read_packages_spelled m.home.path (go_sources (sources_of files)) r.trees r.trees_are))

@@ -2,10 +2,13 @@
 
 ghost use Rattle.std.specs.Prelude.{◌≡◌, length, true};
 ghost use Rattle.type_table.specs.Rows.{IdsBelow};
+ghost use Rattle.initial_values.specs.ValueBlocks.Values.{AreThere};
 
 use crate::places::Cursor;
-use go_tree::{FuncDecl, NoMemory, Place, Text, TypeSpec};
-use header_order::first_refused_headers;
+use crate::values::value_line;
+use go_tree::{FuncDecl, NameAtList, NoMemory, Place, Text, TypeSpec};
+use header_order::RefusedPlace;
+use operand_rules::ConstTable;
 use package_blocks::{HeaderKind, PackageHeader};
 use pkg_graph::{Package, SourceTree};
 use source_files::SourceFile;
@@ -16,11 +19,12 @@ use type_table::{TypeId, TypeNode};
 use type_words::{Home, TypeFault, signature_text, type_text};
 use typed_names::{Blocks, Entity};
 
-/// What packages declare: the types, what names mean, the headers with a mark for each that is
-/// refused, and the import paths of packages by their numbers.
+/// What packages declare: the types and constants, what names mean, the headers with a mark for each
+/// that is refused, and the import paths of packages by their numbers.
 #[derive(Clone, Copy)]
 pub(crate) struct Declarations<'a> {
     pub(crate) types: &'a Env,
+    pub(crate) consts: &'a ConstTable,
     pub(crate) blocks: &'a Blocks,
     pub(crate) headers: &'a [PackageHeader<'a>],
     pub(crate) marks: &'a [bool],
@@ -31,7 +35,10 @@ pub(crate) struct Declarations<'a> {
 const TOO_LARGE: &[u8] = b"...";
 
 /// Adds the text of a type, or what stands for one that is too large.
-fn push_text(line: &mut Vec<u8>, text: Result<Vec<u8>, TypeFault>) -> Result<(), NoMemory> {
+pub(crate) fn push_text(
+    line: &mut Vec<u8>,
+    text: Result<Vec<u8>, TypeFault>,
+) -> Result<(), NoMemory> {
     match text {
         Ok(text) => Ok(line.extend_from_slice(&text)?),
         Err(TypeFault::TooLarge) => Ok(line.extend_from_slice(TOO_LARGE)?),
@@ -163,35 +170,93 @@ fn push_func(
     }
 }
 
-/// What a header declares in a package, if it is known: nothing of constants, variables and blank names.
-fn declaration(
+/// What the header of a type declares in a package, if it is known; a blank name is not.
+fn type_line(
     alloc: Global,
     declared: &Declarations,
     home: &Home,
-    header: &PackageHeader,
+    spec: &TypeSpec,
 ) -> Result<Vec<u8>, NoMemory> {
     let mut line = Vec::new(alloc);
-    match header.kind {
-        HeaderKind::Type(spec) => {
-            match declared.blocks.find(home.number, spec.name.name.items()) {
-                Some(Entity::TypeName(t)) => {
-                    push_type(alloc, &mut line, declared.types, home, spec, t)?
-                }
-                _ => {}
-            }
+    match declared.blocks.find(home.number, spec.name.name.items()) {
+        Some(Entity::TypeName(t)) => {
+            push_type(alloc, &mut line, declared.types, home, spec, t)?
         }
-        HeaderKind::Function(function) => { push_func(alloc, &mut line, declared, home, function)? }
-        HeaderKind::Constants { .. } | HeaderKind::Variables(_) => {}
+        _ => {}
     }
     Ok(line)
 }
 
-/// Writes `PATH:LINE:COL: WORDS`.
+/// What the header of a function or a method declares, if it is known.
+fn func_line(
+    alloc: Global,
+    declared: &Declarations,
+    home: &Home,
+    function: &FuncDecl,
+) -> Result<Vec<u8>, NoMemory> {
+    let mut line = Vec::new(alloc);
+    push_func(alloc, &mut line, declared, home, function)?;
+    Ok(line)
+}
+
+/// Writes `PATH:LINE:COL: WORDS`, unless there are none.
 fn write_line<W: Write>(out: &mut W, path: &[u8], place: Place, words: &[u8]) -> io::Result<()> {
+    if words.is_empty() {
+        return Ok(());
+    }
     out.write_all(path)?;
     write!(out, ":{}:{}: ", place.line, place.col)?;
     out.write_all(words)?;
     out.write_all(b"\n")
+}
+
+/// Writes a line for each of the names that means a constant or a variable.
+fn write_values<W: Write>(
+    alloc: Global,
+    out: &mut W,
+    path: &[u8],
+    place: Place,
+    declared: &Declarations,
+    home: &Home,
+    names: &NameAtList,
+) -> io::Result<()>
+    requires { AreThere declared.now.types.now declared.now.consts.now declared.now.blocks.now }
+{
+    for name in names.items() {
+        let words = value_line(alloc, declared, home, name.name.items())?;
+        write_line(out, path, place, &words)?;
+    }
+    Ok(())
+}
+
+/// Writes a line for each name that a header declares and that is known.
+fn write_header<W: Write>(
+    alloc: Global,
+    out: &mut W,
+    path: &[u8],
+    place: Place,
+    declared: &Declarations,
+    home: &Home,
+    header: &PackageHeader,
+) -> io::Result<()>
+    requires { AreThere declared.now.types.now declared.now.consts.now declared.now.blocks.now }
+{
+    match header.kind {
+        HeaderKind::Constants { names, .. } => {
+            write_values(alloc, out, path, place, declared, home, names)
+        }
+        HeaderKind::Variables(spec) => {
+            write_values(alloc, out, path, place, declared, home, &spec.names)
+        }
+        HeaderKind::Type(spec) => {
+            let words = type_line(alloc, declared, home, spec)?;
+            write_line(out, path, place, &words)
+        }
+        HeaderKind::Function(function) => {
+            let words = func_line(alloc, declared, home, function)?;
+            write_line(out, path, place, &words)
+        }
+    }
 }
 
 /// The text of the file with a path, among files in the order of their paths.
@@ -213,17 +278,19 @@ fn write_file<W: Write>(
     next: usize,
     home: &Home,
     declared: &Declarations,
-) -> io::Result<usize> {
+) -> io::Result<usize>
+    requires { AreThere declared.now.types.now declared.now.consts.now declared.now.blocks.now }
+{
     let mut cursor = Cursor::new(text);
     for i in next..declared.headers.len() {
         let header = &declared.headers[i];
         if header.file != number {
             return Ok(i);
         }
-        let words = declaration(alloc, declared, home, header)?;
         let refused = declared.marks.get(i) == Some(&true);
-        if !refused && !words.is_empty() {
-            write_line(out, path, cursor.advance(header.at.start), &words)?;
+        if !refused {
+            let place = cursor.advance(header.at.start);
+            write_header(alloc, out, path, place, declared, home, header)?;
         }
     }
     Ok(declared.headers.len())
@@ -245,7 +312,9 @@ fn write_files<W: Write>(
     home: &Home,
     declared: &Declarations,
     from: Progress,
-) -> io::Result<Progress> {
+) -> io::Result<Progress>
+    requires { AreThere declared.now.types.now declared.now.consts.now declared.now.blocks.now }
+{
     let Progress {
         mut file,
         mut header,
@@ -268,7 +337,9 @@ fn write_package<W: Write>(
     number: u32,
     declared: &Declarations,
     from: Progress,
-) -> io::Result<Progress> {
+) -> io::Result<Progress>
+    requires { AreThere declared.now.types.now declared.now.consts.now declared.now.blocks.now }
+{
     out.write_all(b"package ")?;
     out.write_all(package.path.items())?;
     out.write_all(b"\n")?;
@@ -287,48 +358,31 @@ fn write_package<W: Write>(
     )
 }
 
-/// The path of the file with a number among all, those of one package after the other.
-fn path_at<'a>(packages: &'a [Package], order: &[u32], number: usize) -> &'a [u8] {
-    let mut left = number;
-    for k in order {
-        let Some(package) = packages.get(*k as usize) else {
-            continue;
-        };
-        let trees = package.files.items();
-        match trees.get(left) {
-            Some(tree) => return tree.path.items(),
-            None => left = left.saturating_sub(trees.len()),
-        }
+/// The path of the file of a place that is refused.
+fn path_of<'a>(packages: &'a [Package], refused: RefusedPlace) -> &'a [u8] {
+    let Some(package) = packages.get(refused.package as usize) else {
+        return b"".as_slice();
+    };
+    match package.files.items().get(refused.file) {
+        Some(tree) => tree.path.items(),
+        None => b"".as_slice(),
     }
-    b"".as_slice()
 }
 
-/// Writes the line of the first header that is refused, if one is.
-fn write_refused<W: Write>(
-    alloc: Global,
+/// Writes `PATH:LINE:COL: refused` for a place that is refused.
+pub(crate) fn write_refused<W: Write>(
     out: &mut W,
     files: &[SourceFile],
     packages: &[Package],
-    order: &[u32],
-    declared: &Declarations,
+    refused: RefusedPlace,
 ) -> io::Result<()> {
-    let firsts = first_refused_headers(alloc, declared.marks, packages, order)?;
-    for first in &firsts {
-        let Some(number) = first else {
-            continue;
-        };
-        let Some(header) = declared.headers.get(*number) else {
-            continue;
-        };
-        let path = path_at(packages, order, header.file);
-        let place = Cursor::new(text_at(files, path)).advance(header.at.start);
-        return write_line(out, path, place, b"refused");
-    }
-    Ok(())
+    let path = path_of(packages, refused);
+    let place = Cursor::new(text_at(files, path)).advance(refused.at.start);
+    write_line(out, path, place, b"refused")
 }
 
-/// Writes package by package, in the order of their imports, `package PATH` and a line for each declaration that is
-/// known; behind them a line for the first header that is refused, if one is: the first of the first file.
+/// Writes package by package, in the order of their imports, `package PATH` and a line for each name that is declared
+/// and known.
 pub(crate) fn write_declarations<W: Write>(
     alloc: Global,
     out: &mut W,
@@ -336,7 +390,9 @@ pub(crate) fn write_declarations<W: Write>(
     packages: &[Package],
     order: &[u32],
     declared: &Declarations,
-) -> io::Result<()> {
+) -> io::Result<()>
+    requires { AreThere declared.now.types.now declared.now.consts.now declared.now.blocks.now }
+{
     let mut from = Progress { file: 0, header: 0 };
     for number in order {
         let Some(package) = packages.get(*number as usize) else {
@@ -344,5 +400,5 @@ pub(crate) fn write_declarations<W: Write>(
         };
         from = write_package(alloc, out, files, package, *number, declared, from)?;
     }
-    write_refused(alloc, out, files, packages, order, declared)
+    Ok(())
 }

@@ -2,10 +2,13 @@
 
 ghost use Rattle.std.specs.Prelude.{◌<◌, ◌≤◌, ◌^◌, All, length};
 ghost use Rattle.package_blocks.specs.Collected.{AreOrdered};
+ghost use Rattle.package_blocks.specs.Imports.{views};
+ghost use Rattle.value_headers.specs.SpelledDecls.{PackagesAreSpelled};
 ghost use Rattle.module_reading.specs.Modules.{IsReadFrom};
 
-use crate::declarations::{Declarations, write_declarations};
+use crate::declarations::{Declarations, write_declarations, write_refused};
 use crate::folder::{Unread, source_files, tell};
+use crate::refused::first_refused;
 use collected::{Collected, collect};
 use fix_io::{RealSink, RealTree};
 use folder_reading::MAX_FILES;
@@ -54,7 +57,7 @@ fn paths_of(alloc: Global, packages: &[Package]) -> Result<Vec<Text>, NoMemory> 
     Ok(paths)
 }
 
-/// Writes what packages declare.
+/// Writes what packages declare, and the first import or declaration that is refused.
 fn write_packages<W: Write>(
     alloc: Global,
     out: &mut W,
@@ -64,32 +67,40 @@ fn write_packages<W: Write>(
 ) -> io::Result<()>
     requires few { length packages.now < 2 ^ 32 }
     requires order { AreOrdered packages.now order.now }
+    requires spelled { PackagesAreSpelled (views packages.now) }
 {
     let Collected {
         tables,
         blocks,
+        files: places,
         headers,
-        refused_types,
-        refused_functions,
-        refused_methods,
-        ..
+        refused_types: types,
+        refused_values: values,
+        refused_functions: functions,
+        refused_methods: methods,
     } = collect(alloc, packages, order)?;
     let refused = RefusedHeaders {
-        types: refused_types,
-        values: Vec::new(alloc),
-        functions: refused_functions,
-        methods: refused_methods,
+        types,
+        values,
+        functions,
+        methods,
     };
     let marks = refused_marks(alloc, headers.len(), &refused)?;
     let paths = paths_of(alloc, packages)?;
     let declared = Declarations {
         types: &tables.env,
+        consts: &tables.consts,
         blocks: &blocks,
         headers: &headers,
         marks: &marks,
         paths: &paths,
     };
-    write_declarations(alloc, out, files, packages, order, &declared)
+    write_declarations(alloc, out, files, packages, order, &declared)?;
+    let first = first_refused(alloc, tables, &blocks, &places, packages, order, &headers, &refused)?;
+    match first {
+        Some(place) => write_refused(out, files, packages, place),
+        None => Ok(()),
+    }
 }
 
 /// Writes what the packages of a module declare.

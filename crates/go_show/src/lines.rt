@@ -20,7 +20,8 @@ fn word_of(kind: TokenKind) -> &'static str {
     }
 }
 
-fn push_hex(line: &mut Vec<u8>, bytes: &[u8]) -> Result<(), AllocError> {
+/// Adds the bytes in hexadecimal.
+pub(crate) fn push_hex(line: &mut Vec<u8>, bytes: &[u8]) -> Result<(), AllocError> {
     for byte in bytes {
         line.push(HEX[(*byte >> 4) as usize])?;
         line.push(HEX[(*byte & 15) as usize])?;

@@ -22,9 +22,10 @@
 //! a `+`, names that other files of the package declare.
 //!
 //! `declared` reads the module in a folder as gofix does, and writes package by package, in the order of their
-//! imports, a line `package PATH` and then one for each type, function and method that is declared:
-//! `FILE:LINE:COL: DECLARATION`, with the type as Go writes it. Behind them stands `FILE:LINE:COL: refused` for the
-//! first such declaration that is refused. Of a folder that is no module it writes what gofix does.
+//! imports, a line `package PATH` and then one for each type, constant, variable, function and method that is
+//! declared: `FILE:LINE:COL: DECLARATION`, with the type as Go writes it, and the value of a constant. Behind them
+//! stands `FILE:LINE:COL: refused` for the first import or declaration that is refused. Of a folder that is no module
+//! it writes what gofix does.
 #![tactic(auto)]
 
 ghost use Rattle.std.specs.Prelude.{◌≤◌, IfOk, OnOk, length, vec_len};
@@ -45,8 +46,10 @@ mod names;
 mod needs;
 mod parts;
 mod places;
+mod refused;
 mod tree;
 mod uses;
+mod values;
 
 use declared::show_declared;
 use go_parse::read_file;

@@ -12,14 +12,15 @@ use Rattle.go_types.specs.MethodDeclarations.{MethodName, declared_on}
 use Rattle.go_types.specs.Collect.{DeclaredTypes, collected, declared_by, is_finite, type_entity, types_declared, typed_world, valued_world}
 use Rattle.go_types.specs.WellTyped.{is_method, method_ok, header_ok}
 use Rattle.typed_in_place.proofs.Headers.{declared_in, good_in}
-use Rattle.refused_headers.specs.First.{refuses_type}
+use Rattle.refused_headers.specs.Refused.{refuses_type}
 use Rattle.func_headers.specs.NameRoles.{SameTypes}
 use Rattle.func_headers.specs.Functions.{is_function, is_refused_function, numbers_where}
 use Rattle.func_headers.proofs.SameTypeLaws.{header_types, resolved_same}
 use Rattle.func_headers.proofs.StayLaws.{types_stay}
 use Rattle.method_types.specs.Methods.{refused_methods}
+use Rattle.value_rounds.specs.Values.{is_refused_value, is_value}
 use Rattle.value_rounds.proofs.HeadersStay.Stay.{headers_are_final}
-use Rattle.header_order.specs.Kinds.{is_refused_value, is_value, mark_all, wrongs}
+use Rattle.header_order.specs.Kinds.{mark_all, wrongs}
 use Rattle.header_order.specs.Laws.{MarksAreWrongs}
 use Rattle.header_order.proofs.MarkLemmas.{either, either_length, length_false, length_map, mark_numbers, numbers_of}
 

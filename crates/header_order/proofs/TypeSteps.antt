@@ -20,7 +20,7 @@ use Rattle.defined_types.proofs.TypeSteps.{are_same}
 use Rattle.package_blocks.specs.declared.headers.PackageHeader.{PackageHeader}
 use Rattle.package_blocks.specs.Headers.{AreHeaders, no_headers, a_header, IsHeader, listed_of}
 use Rattle.finite_types.specs.RefusedTypes.Refusals.{TypesAreKnown}
-use Rattle.refused_headers.specs.First.{refuses_type}
+use Rattle.refused_headers.specs.Refused.{refuses_type}
 use Rattle.refused_headers.proofs.Refuses.{refuses_same}
 use Rattle.func_headers.specs.Functions.{numbers_where}
 use Rattle.header_order.specs.Types.{TypesPassed}

@@ -1,40 +1,25 @@
 -- Which headers of a program are refused, by kinds and all together (Go specification, Declarations and scope;
 -- Uniqueness of identifiers).
-use Rattle.std.specs.Prelude.{◌≡◌, ℕ, zero, suc, Bool, true, false, not, ◌&&◌, List, [], ◌∷◌, replicate, is_none}
+use Rattle.std.specs.Prelude.{◌≡◌, ℕ, zero, suc, Bool, true, false, not, List, [], ◌∷◌, replicate}
 use Rattle.go_tree.specs.declared.spans.Span.{Span}
 use Rattle.go_types.specs.Answers.{and_also}
 use Rattle.go_types.specs.Entities.{World}
-use Rattle.go_types.specs.Programs.{Header, constants, variables, Headed, Program, headed}
+use Rattle.go_types.specs.Programs.{Headed, Program, headed}
 use Rattle.go_types.specs.MethodDeclarations.{MethodName, declared_on}
-use Rattle.go_types.specs.Collect.{DeclaredTypes, collected, declared_by, types_declared, valued_world}
+use Rattle.go_types.specs.Collect.{DeclaredTypes, collected, types_declared}
 use Rattle.go_types.specs.WellTyped.{header_ok}
-use Rattle.func_headers.specs.Functions.{numbers_where, refused_functions}
+use Rattle.func_headers.specs.Functions.{refused_functions}
 use Rattle.method_types.specs.Methods.{refused_methods}
+use Rattle.value_rounds.specs.Values.{refused_values}
 use Rattle.header_order.specs.declared.kinds.RefusedHeaders.{RefusedHeaders}
 use Rattle.header_order.specs.Types.{refused_types}
 
--- the header of constants or of variables
-abbrev pub is_value : Header Span → Bool
-is_value (constants ns t es i) = true
-is_value (variables ns t es) = true
-is_value h = false
-
--- one that is refused
-abbrev pub is_refused_value : DeclaredTypes → World → Headed Span → Bool
-is_refused_value ds w h = is_value h.header && is_none (declared_by ds w h)
-
-module _ (ps : Program Span) where
-  -- the numbers of such headers in a program, in their order
-  abbrev pub refused_values : List ℕ
-  refused_values =
-      numbers_where (is_refused_value (types_declared ps (headed ps)) (valued_world ps (headed ps))) 0 (headed ps)
-
-  -- these are the headers that are refused, by kinds
-  pub record AreRefused (r : RefusedHeaders) : Type 0 where
-    pub types : r.types.items ≡ refused_types ps
-    pub values : r.values.items ≡ refused_values
-    pub functions : r.functions.items ≡ refused_functions ps
-    pub methods : r.methods.items ≡ refused_methods (collected ps) [] 0 (headed ps)
+-- these are the headers of a program that are refused, by kinds
+pub record AreRefused (ps : Program Span) (r : RefusedHeaders) : Type 0 where
+  pub types : r.types.items ≡ refused_types ps
+  pub values : r.values.items ≡ refused_values ps
+  pub functions : r.functions.items ≡ refused_functions ps
+  pub methods : r.methods.items ≡ refused_methods (collected ps) [] 0 (headed ps)
 
 -- ---- all kinds
 

@@ -12,7 +12,7 @@ ghost use Rattle.declared_types.specs.Steps.{KnowsPlaces};
 ghost use Rattle.defined_types.specs.DeclaredTypes.{declared_of};
 ghost use Rattle.package_blocks.specs.Headers.{AreHeaders, listed_of};
 ghost use Rattle.finite_types.specs.RefusedTypes.Refusals.{AreTested, TypesAreKnown};
-ghost use Rattle.refused_headers.specs.First.{refuses_type};
+ghost use Rattle.refused_headers.specs.Refused.{refuses_type};
 ghost use Rattle.func_headers.specs.Functions.{numbers_where};
 
 use finite_types::TypeTests;

@@ -50,11 +50,12 @@ impl DeclaringHeaders {
     }
 }
 
-/// The package of a header.
-fn home_of(files: &[Scope], header: &PackageHeader) -> Option<u32> {
-    match files.get(header.file) {
-        Some(file) => Some(file.home),
-        None => None,
+/// The place of a header whose names may be declared; any other declares nothing.
+fn place_of<'a>(files: &'a [Scope], header: &PackageHeader) -> Option<&'a Scope> {
+    if header.sound {
+        files.get(header.file)
+    } else {
+        None
     }
 }
 
@@ -91,11 +92,20 @@ fn declaring_headers(
 ) -> Result<DeclaringHeaders, NoMemory> {
     let mut declaring = DeclaringHeaders::new(alloc, packages)?;
     for (number, header) in headers.iter().enumerate() {
-        if let (Some(home), Some(names)) = (home_of(files, header), declared_names(header)) {
-            declaring.add(alloc, home, names, number)?;
+        if let (Some(place), Some(names)) = (place_of(files, header), declared_names(header)) {
+            declaring.add(alloc, place.home, names, number)?;
         }
     }
     Ok(declaring)
+}
+
+/// The number of the header that declares what a name means at a place, if one of its package does; the name of an
+/// import hides it.
+fn used_header(declaring: &DeclaringHeaders, place: &Scope, name: &[u8]) -> Option<usize> {
+    match place.imports.find(name) {
+        Some(_) => None,
+        None => declaring.find(place.home, name),
+    }
 }
 
 /// By the numbers of headers: those that name one of its names, and how many names it waits for.
@@ -133,10 +143,10 @@ fn header_uses(
     let declaring = declaring_headers(alloc, files, packages, headers)?;
     let mut uses = HeaderUses::new(alloc, headers.len())?;
     for (number, header) in headers.iter().enumerate() {
-        if let Some(home) = home_of(files, header) {
+        if let Some(place) = place_of(files, header) {
             let names = used_names(alloc, header)?;
             for name in &names {
-                if let Some(used) = declaring.find(home, name.items()) {
+                if let Some(used) = used_header(&declaring, place, name.items()) {
                     uses.add(number, used)?;
                 }
             }
@@ -146,20 +156,53 @@ fn header_uses(
 }
 
 /// Those that wait for a header wait for one name less; who waits for none any more is added.
-fn let_go(waits: &mut [usize], users: &[usize], ready: &mut Vec<usize>) -> Result<(), NoMemory> {
+fn let_go(waits: &mut [usize], users: &[usize], order: &mut Vec<usize>) -> Result<(), NoMemory> {
     for user in users {
         if *user < waits.len() && waits[*user] > 0 {
             waits[*user] -= 1;
             if waits[*user] == 0 {
-                ready.push(*user)?;
+                order.push(*user)?;
             }
         }
     }
     Ok(())
 }
 
-/// The numbers of headers, each behind all that its values name; without those that lead back to themselves, and
-/// those behind them. Linear in the text of the headers, but for look-ups by hash.
+/// Places a header that waits for none, and behind it those that wait for none any more then.
+fn place_header(
+    users: &Rows,
+    waits: &mut [usize],
+    order: &mut Vec<usize>,
+    number: usize,
+) -> Result<(), NoMemory> {
+    let start = order.len();
+    order.push(number)?;
+    for at in start..users.len() {
+        if at >= order.len() {
+            return Ok(());
+        }
+        let placed = order[at];
+        if placed < users.len() {
+            let_go(waits, users.row(placed), order)?;
+        }
+    }
+    Ok(())
+}
+
+/// The numbers of headers that wait for none.
+fn without_waits(alloc: Global, waits: &[usize]) -> Result<Vec<usize>, NoMemory> {
+    let mut free = Vec::new(alloc);
+    for (number, count) in waits.iter().enumerate() {
+        if *count == 0 {
+            free.push(number)?;
+        }
+    }
+    Ok(free)
+}
+
+/// The numbers of headers, package after package as they stand, each behind all of its package that its values
+/// name; without those that lead back to themselves, and those behind them. Linear in the text of the headers, but
+/// for look-ups by hash.
 pub(crate) fn order_of_use(
     alloc: Global,
     files: &[Scope],
@@ -167,17 +210,10 @@ pub(crate) fn order_of_use(
     headers: &[PackageHeader],
 ) -> Result<Vec<usize>, NoMemory> {
     let HeaderUses { users, mut waits } = header_uses(alloc, files, packages, headers)?;
-    let mut ready = Vec::new(alloc);
-    for number in 0..waits.len() {
-        if waits[number] == 0 {
-            ready.push(number)?;
-        }
+    let free = without_waits(alloc, &waits)?;
+    let mut order = Vec::new(alloc);
+    for number in &free {
+        place_header(&users, &mut waits, &mut order, *number)?;
     }
-    for place in 0..users.len() {
-        if place < ready.len() && ready[place] < users.len() {
-            let number = ready[place];
-            let_go(&mut waits, users.row(number), &mut ready)?;
-        }
-    }
-    Ok(ready)
+    Ok(order)
 }

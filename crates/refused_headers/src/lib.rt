@@ -1,7 +1,6 @@
-//! Which headers of types are refused, and the first of them (Go specification, Type declarations;
-//! Uniqueness of identifiers).
+//! Which headers of types are refused (Go specification, Type declarations; Uniqueness of identifiers).
 #![tactic(auto)]
 
-mod first;
+mod types;
 
-pub use first::{first_refused_type, is_refused_type};
+pub use types::is_refused_type;

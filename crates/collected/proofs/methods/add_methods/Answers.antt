@@ -2,6 +2,7 @@ use Rattle.std.proofs.Common.{[], subst, sym}
 use Rattle.typed_names.specs.Meanings.{world_at}
 use Rattle.method_types.specs.MethodNames.Attached.{AreAttached}
 use Rattle.collected.proofs.MethodLemmas.{methods_added, ready_with_methods}
+use Rattle.collected.proofs.ThereStays.{there_stays}
 use Rattle.collected.proofs.methods.add_methods.Goals as goal
 
 pub returns-clause-ready : goal.returns-clause-ready
@@ -14,6 +15,12 @@ returns-clause-ready c =
 pub returns-clause-known : goal.returns-clause-known
 returns-clause-known c =
     c.declare_methods.ensures.known c.args.blocks.now c.args.files.now c.method_types.ensures.known
+
+pub returns-clause-there : goal.returns-clause-there
+returns-clause-there c =
+    there_stays c.args.tables.now.env c.method_types.new.types c.declare_methods.new.types c.method_types.ensures.grown
+    c.declare_methods.ensures.only c.args.tables.now.consts c.args.blocks.now
+    (c.declare_methods.ensures.known c.args.blocks.now c.args.files.now c.method_types.ensures.known).members
 
 pub returns-clause-added : goal.returns-clause-added
 returns-clause-added c =

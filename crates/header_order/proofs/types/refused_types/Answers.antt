@@ -3,7 +3,7 @@ use Rattle.type_exprs.proofs.NewNames.{drop_all, drop_item}
 use Rattle.typed_names.specs.Meanings.{world_at}
 use Rattle.declared_types.proofs.Passed.{members_on, places_on}
 use Rattle.defined_types.specs.DeclaredTypes.{declared_of}
-use Rattle.refused_headers.specs.First.{refuses_type}
+use Rattle.refused_headers.specs.Refused.{refuses_type}
 use Rattle.header_order.specs.Types.{TypesPassed}
 use Rattle.header_order.proofs.TypeSteps.{passed_all, passed_more, passed_none, types_of_program}
 use Rattle.header_order.proofs.types.refused_types.Goals.{then-wrong+in_ok-push, else-wrong}

@@ -1,20 +1,18 @@
-//! The first header of a type that is refused (Go specification, Type declarations; Uniqueness of
-//! identifiers).
+//! Whether the header of a type is refused (Go specification, Type declarations; Uniqueness of identifiers).
 
 ghost use Rattle.std.specs.Prelude.{◌≡◌, List, map, IfOk};
 ghost use Rattle.const_eval.specs.declared.consts.Const.{Const};
 ghost use Rattle.go_tree.specs.declared.spans.Span.{Span};
 ghost use Rattle.go_tree.specs.FileView.{type_spec_of};
-ghost use Rattle.go_types.specs.Programs.{Headed, Program};
-ghost use Rattle.go_types.specs.Collect.{typed_world, types_declared};
+ghost use Rattle.go_types.specs.Programs.{Headed};
 ghost use Rattle.typed_names.specs.Meanings.{world_at};
 ghost use Rattle.value_types.specs.ValueTypes.{HasValueTypes};
 ghost use Rattle.type_exprs.specs.Grown.{TypesGrown};
 ghost use Rattle.declared_types.specs.Steps.{KnowsPlaces};
 ghost use Rattle.defined_types.specs.DeclaredTypes.{declared_of};
-ghost use Rattle.package_blocks.specs.Headers.{AreHeaders, IsHeader, listed_of};
-ghost use Rattle.finite_types.specs.RefusedTypes.Refusals.{AreTested, TypesAreKnown};
-ghost use Rattle.refused_headers.specs.First.{first_place, refuses_type, spec_refused};
+ghost use Rattle.package_blocks.specs.Headers.{IsHeader, listed_of};
+ghost use Rattle.finite_types.specs.RefusedTypes.Refusals.{AreTested};
+ghost use Rattle.refused_headers.specs.Refused.{refuses_type, spec_refused};
 
 use finite_types::{TypeTests, is_good_type};
 use go_tree::{NoMemory, TypeSpec};
@@ -82,39 +80,4 @@ pub fn is_refused_type(
         HeaderKind::Variables(_) => Ok(false),
         HeaderKind::Function(_) => Ok(false),
     }
-}
-
-/// The first header of a type that is refused, by its place among all headers: its name may not be
-/// declared beside those before it, or its type is refused by what names mean. Once the headers of all
-/// types are known it is the first that go_types' rounds refuse.
-pub fn first_refused_type(
-    alloc: Global,
-    types: &mut Env,
-    tests: &mut TypeTests,
-    files: &[Scope],
-    blocks: &Blocks,
-    headers: &[PackageHeader],
-) -> Result<Option<usize>, NoMemory>
-    requires known { KnowsPlaces types.old blocks.now files.now }
-    requires tested { AreTested types.old tests.old }
-    ensures grown { TypesGrown types.old types.new }
-    ensures values { HasValueTypes types.old → HasValueTypes types.new }
-    ensures tested { AreTested types.new tests.new }
-    ensures declared { tests.new.declared ≡ tests.old.declared }
-    ensures first { IfOk result (λ place. (hs : List (Headed Span)) (cs : List Const)
-        → AreHeaders files.now (map listed_of headers.now) hs
-        → place ≡ first_place (refuses_type (map (declared_of types.old) tests.old.declared.items)
-        (world_at types.old cs blocks.now)) hs) }
-    ensures of_programs { IfOk result (λ place. (ps : Program Span) (hs : List (Headed Span)) (cs : List Const)
-        → AreHeaders files.now (map listed_of headers.now) hs
-        → TypesAreKnown ps hs (world_at types.old cs blocks.now)
-        → map (declared_of types.old) tests.old.declared.items ≡ types_declared ps hs
-        → place ≡ first_place (refuses_type (types_declared ps hs) (typed_world ps hs)) hs) }
-{
-    for (i, header) in headers.iter().enumerate() {
-        if is_refused_type(alloc, types, tests, files, blocks, header)? {
-            return Ok(Some(i));
-        }
-    }
-    Ok(None)
 }

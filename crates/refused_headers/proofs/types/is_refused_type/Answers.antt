@@ -2,7 +2,7 @@ use Rattle.std.proofs.Common.{◌∙◌, map}
 use Rattle.std.proofs.lemmas.Result.{IfOk-weaker}
 use Rattle.defined_types.specs.DeclaredTypes.{declared_of}
 use Rattle.refused_headers.proofs.Refuses.{refused_header}
-use Rattle.refused_headers.proofs.first.is_refused_type.Goals as goal
+use Rattle.refused_headers.proofs.types.is_refused_type.Goals as goal
 
 pub returns-in-Type-clause-refuses : goal.returns-in-Type-clause-refuses
 returns-in-Type-clause-refuses c =
