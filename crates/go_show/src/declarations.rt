@@ -179,9 +179,7 @@ fn type_line(
 ) -> Result<Vec<u8>, NoMemory> {
     let mut line = Vec::new(alloc);
     match declared.blocks.find(home.number, spec.name.name.items()) {
-        Some(Entity::TypeName(t)) => {
-            push_type(alloc, &mut line, declared.types, home, spec, t)?
-        }
+        Some(Entity::TypeName(t)) => { push_type(alloc, &mut line, declared.types, home, spec, t)? }
         _ => {}
     }
     Ok(line)

@@ -96,7 +96,9 @@ fn write_packages<W: Write>(
         paths: &paths,
     };
     write_declarations(alloc, out, files, packages, order, &declared)?;
-    let first = first_refused(alloc, tables, &blocks, &places, packages, order, &headers, &refused)?;
+    let first = first_refused(
+        alloc, tables, &blocks, &places, packages, order, &headers, &refused,
+    )?;
     match first {
         Some(place) => write_refused(out, files, packages, place),
         None => Ok(()),

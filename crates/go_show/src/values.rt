@@ -84,7 +84,11 @@ fn push_value(line: &mut Vec<u8>, value: &Const) -> Result<(), NoMemory> {
             Ok(line.extend_from_slice(buffer.format(*number).as_bytes())?)
         }
         Const::Truth(truth) => {
-            let word = if *truth { b"true".as_slice() } else { b"false".as_slice() };
+            let word = if *truth {
+                b"true".as_slice()
+            } else {
+                b"false".as_slice()
+            };
             Ok(line.extend_from_slice(word)?)
         }
         Const::Bytes(text) => push_quoted(line, text.items()),
@@ -139,9 +143,7 @@ pub(crate) fn value_line(
             let constant = declared.consts.value(value);
             push_constant(alloc, &mut line, declared, home, name, of, constant)?
         }
-        Some(Entity::Variable(of)) => {
-            push_variable(alloc, &mut line, declared, home, name, of)?
-        }
+        Some(Entity::Variable(of)) => { push_variable(alloc, &mut line, declared, home, name, of)? }
         _ => {}
     }
     Ok(line)

@@ -3,4 +3,4 @@ use Rattle.checker_tables.specs.Ready.{AreReady}
 use Rattle.go_show.proofs.refused.add_uses.Given as goal
 
 abbrev pub invariant-loop-file : goal.invariant-loop-file
-invariant-loop-file l = record { ready : AreReady l.tables; places : KnowsPlaces l.tables.env l.blocks l.places; }
+invariant-loop-file l = record { ready : AreReady l.tables; places : KnowsPlaces l.tables.env l.blocks l.places }

@@ -3,4 +3,4 @@ use Rattle.checker_tables.specs.Ready.{AreReady}
 use Rattle.go_show.proofs.refused.names_used.Given as goal
 
 abbrev pub invariant-loop-number : goal.invariant-loop-number
-invariant-loop-number l = record { ready : AreReady l.tables; places : KnowsPlaces l.tables.env l.blocks l.places; }
+invariant-loop-number l = record { ready : AreReady l.tables; places : KnowsPlaces l.tables.env l.blocks l.places }
