@@ -7,3 +7,4 @@ pub mod SpecsLemmas
 pub mod BasicUses
 pub mod ConstantLemmas
 pub mod FunctionLiterals
+pub mod FoundLemmas

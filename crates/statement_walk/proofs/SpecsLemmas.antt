@@ -129,7 +129,7 @@ unused_left us ds ns (x ∷ fs) h =
     ap₂ (λ c r. cond c r (x ∷ r))
     (among_either x us ds ns (not_true (is_among x ds) q.0) ∙ sym (among_on x us ns)) (unused_left us ds ns fs q.1)
 
-all_on : {A : Type 0} (f : A → Bool) (xs ys : List A) → list_all f (xs ++ ys) ≡ (list_all f xs && list_all f ys)
+pub all_on : {A : Type 0} (f : A → Bool) (xs ys : List A) → list_all f (xs ++ ys) ≡ (list_all f xs && list_all f ys)
 all_on f [] ys = refl
 all_on f (x ∷ xs) ys = ap (λ b. f x && b) (all_on f xs ys) ∙ by (f x) (list_all f xs) (list_all f ys)
   where

@@ -1,2 +1,3 @@
 pub mod Params
+pub mod Found
 pub mod Laws

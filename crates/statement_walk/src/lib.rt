@@ -17,7 +17,8 @@ mod variables;
 
 pub use constants::{constant_group, constant_part};
 pub use function_literals::{
-    end_params, literal_body, literal_operand, literals_refuse, param_part, signature,
+    end_params, find_in_all, find_literals, literal_body, literal_operand, literals_refuse,
+    param_part, signature,
 };
 pub use groups::variable_group;
 pub use laws::constants_use_alike;

@@ -1,5 +1,5 @@
 -- An expression isn't typed in which a function literal stands that isn't.
-use Rattle.std.proofs.Common.{◌≡◌, ◌&&◌, Bool, true, false, cond, ◌∷◌, Option, Some, None, refl, ap}
+use Rattle.std.proofs.Common.{◌≡◌, ◌∙◌, ◌++◌, ◌&&◌, Bool, true, false, cond, List, ◌∷◌, Option, Some, None, refl, sym, ap}
 use Rattle.std.specs.Prelude.{is_some}
 use Rattle.go_tree.specs.Tree.{Expr, ident, int_lit, rune_lit, str_lit, composite, selector, index, slice, call, func_lit, type_operand, unary, binary, star, Exprs, no_exprs, expr_and, ExprOption, no_expr, some_expr, Elems, no_elems, elem, Value, plain, braced, ValueOption, no_value, some_value}
 use Rattle.go_types.specs.Answers.{both, given}
@@ -12,7 +12,9 @@ use Rattle.go_types.specs.Operators.{binary_of, star_of, unary_of}
 use Rattle.go_types.specs.Primary.{call_of, index_of, selected, sliced}
 use Rattle.go_types.specs.TypeNames.{type_meant}
 use Rattle.go_types.specs.Typing.{all_parts, bound, element, elements, parts, place, with_key}
-use Rattle.statement_walk.specs.FunctionLiterals.Laws.{all_pass, elems_pass, key_passes, literals_pass, option_passes, value_passes}
+use Rattle.statement_walk.specs.FunctionLiterals.Found.{literals_in, literals_in_all, literals_in_elems, literals_in_key, literals_in_option, literals_in_value}
+use Rattle.statement_walk.specs.FunctionLiterals.Laws.{all_typed_at}
+use Rattle.statement_walk.proofs.SpecsLemmas.{all_on}
 
 none_given : {A B : Type 0} (o : Option A) (k : A → Option B) → o ≡ None → given o k ≡ None
 none_given o k h = ap (λ o. given o k) h
@@ -34,7 +36,7 @@ either_none :
 either_none true b o q k h f g = second_none o q k (g h)
 either_none false b o q k h f g = first_none o q k (f refl)
 
-not_there : {A : Type 0} (o : Option A) → is_some o ≡ false → o ≡ None
+not_there : {A : Type 0} (o : Option A) → (is_some o && true) ≡ false → o ≡ None
 not_there None h = refl
 not_there (Some a) h = absurd (cc)
 
@@ -60,8 +62,17 @@ one_none true false c o k q m h f g l = first_none (given o k) q m (none_given o
 one_none false b c o k q m h f g l = first_none (given o k) q m (each_none o k (f refl))
 
 module _ {S : Type 0} (env : Env) where
+  two : (xs ys : List (Expr S)) → all_typed_at env (xs ++ ys) ≡ false → (all_typed_at env xs && all_typed_at env ys) ≡ false
+  two xs ys h = sym (all_on (λ e. is_some (parts env e)) xs ys) ∙ h
+
+  three :
+      (xs ys zs : List (Expr S)) → all_typed_at env (xs ++ (ys ++ zs)) ≡ false →
+      (all_typed_at env xs && (all_typed_at env ys && all_typed_at env zs)) ≡ false
+  three xs ys zs h =
+      ap (λ b. all_typed_at env xs && b) (sym (all_on (λ e. is_some (parts env e)) ys zs)) ∙ two xs (ys ++ zs) h
+
   mutual
-    pub refused_literal : (e : Expr S) → literals_pass env e ≡ false → parts env e ≡ None
+    pub refused_literal : (e : Expr S) → all_typed_at env (literals_in e) ≡ false → parts env e ≡ None
     refused_literal (ident _ n) h = absurd (cc)
     refused_literal (int_lit _ s) h = absurd (cc)
     refused_literal (rune_lit _ s) h = absurd (cc)
@@ -76,43 +87,46 @@ module _ {S : Type 0} (env : Env) where
         none_given (parts env x) (λ o. with_value o (selected (defined_in env) env.home n.name (place env x)))
         (refused_literal x h)
     refused_literal (index _ x i) h =
-        either_none (literals_pass env x) (literals_pass env i) (parts env x) (parts env i)
-        (λ o j. both (typed o) (typed j) (index_of (defined_in env))) h (refused_literal x) (refused_literal i)
+        either_none (all_typed_at env (literals_in x)) (all_typed_at env (literals_in i)) (parts env x) (parts env i)
+        (λ o j. both (typed o) (typed j) (index_of (defined_in env))) (two (literals_in x) (literals_in i) h)
+        (refused_literal x) (refused_literal i)
     refused_literal (slice _ x i j) h =
-        three_none (literals_pass env x) (option_passes env i) (option_passes env j) (parts env x) (bound env i)
-        (bound env j) (λ o i j. with_value o (λ v. sliced (defined_in env) v i j)) h (refused_literal x) (refused_bound i)
+        three_none (all_typed_at env (literals_in x)) (all_typed_at env (literals_in_option i)) (all_typed_at env (literals_in_option j)) (parts env x) (bound env i)
+        (bound env j) (λ o i j. with_value o (λ v. sliced (defined_in env) v i j))
+        (three (literals_in x) (literals_in_option i) (literals_in_option j) h) (refused_literal x) (refused_bound i)
         (refused_bound j)
     refused_literal (call _ f xs _) h =
-        either_none (literals_pass env f) (all_pass env xs) (parts env f) (all_parts env xs) (call_of (defined_in env)) h
-        (refused_literal f) (refused_list xs)
+        either_none (all_typed_at env (literals_in f)) (all_typed_at env (literals_in_all xs)) (parts env f) (all_parts env xs) (call_of (defined_in env))
+        (two (literals_in f) (literals_in_all xs) h) (refused_literal f) (refused_list xs)
     refused_literal (func_lit s g r b) h = not_there (parts env (func_lit s g r b)) h
     refused_literal (type_operand _ t) h = absurd (cc)
     refused_literal (unary _ op x) h =
         none_given (parts env x) (unary_of (defined_in env) op (place env x)) (refused_literal x h)
     refused_literal (binary _ op x y) h =
-        either_none (literals_pass env x) (literals_pass env y) (parts env x) (parts env y) (binary_of (defined_in env) op)
-        h (refused_literal x) (refused_literal y)
+        either_none (all_typed_at env (literals_in x)) (all_typed_at env (literals_in y)) (parts env x) (parts env y) (binary_of (defined_in env) op)
+        (two (literals_in x) (literals_in y) h) (refused_literal x) (refused_literal y)
     refused_literal (star _ x) h = none_given (parts env x) (star_of (defined_in env)) (refused_literal x h)
 
-    pub refused_list : (es : Exprs S) → all_pass env es ≡ false → all_parts env es ≡ None
+    pub refused_list : (es : Exprs S) → all_typed_at env (literals_in_all es) ≡ false → all_parts env es ≡ None
     refused_list no_exprs h = absurd (cc)
     refused_list (expr_and e es) h =
-        either_none (literals_pass env e) (all_pass env es) (parts env e) (all_parts env es) (λ o os. Some (o ∷ os)) h
-        (refused_literal e) (refused_list es)
+        either_none (all_typed_at env (literals_in e)) (all_typed_at env (literals_in_all es)) (parts env e) (all_parts env es) (λ o os. Some (o ∷ os))
+        (two (literals_in e) (literals_in_all es) h) (refused_literal e) (refused_list es)
 
-    refused_bound : (e : ExprOption S) → option_passes env e ≡ false → bound env e ≡ None
+    refused_bound : (e : ExprOption S) → all_typed_at env (literals_in_option e) ≡ false → bound env e ≡ None
     refused_bound no_expr h = absurd (cc)
     refused_bound (some_expr e) h =
         none_given (parts env e) (λ o. with_value o (λ v. Some (Some v))) (refused_literal e h)
 
-    refused_elems : (es : Elems S) → elems_pass env es ≡ false → (u : GoType) → elements env u es ≡ None
+    refused_elems : (es : Elems S) → all_typed_at env (literals_in_elems es) ≡ false → (u : GoType) → elements env u es ≡ None
     refused_elems no_elems h u = absurd (cc)
     refused_elems (elem _ k v es) h u =
-        one_none (key_passes env k) (value_passes env v) (elems_pass env es) (element env (inner_type (defined_in env) u) v)
-        (λ o. with_key env u k o) (elements env u es) (λ x xs. Some (x ∷ xs)) h (λ g o. refused_key k g u o)
+        one_none (all_typed_at env (literals_in_key k)) (all_typed_at env (literals_in_value v)) (all_typed_at env (literals_in_elems es)) (element env (inner_type (defined_in env) u) v)
+        (λ o. with_key env u k o) (elements env u es) (λ x xs. Some (x ∷ xs))
+        (three (literals_in_key k) (literals_in_value v) (literals_in_elems es) h) (λ g o. refused_key k g u o)
         (λ g. refused_value v g (inner_type (defined_in env) u)) (λ g. refused_elems es g u)
 
-    refused_value : (v : Value S) → value_passes env v ≡ false → (t : Option GoType) → element env t v ≡ None
+    refused_value : (v : Value S) → all_typed_at env (literals_in_value v) ≡ false → (t : Option GoType) → element env t v ≡ None
     refused_value (plain e) h t = refused_literal e h
     refused_value (braced _ es) h t =
         each_none t
@@ -122,7 +136,7 @@ module _ {S : Type 0} (env : Env) where
         (built_inside (defined_in env) env.home t)
         (refused_elems es h (under (defined_in env) (literal_type (defined_in env) t))))
 
-    refused_key : (k : ValueOption S) → key_passes env k ≡ false → (u : GoType) (o : Operand) → with_key env u k o ≡ None
+    refused_key : (k : ValueOption S) → all_typed_at env (literals_in_key k) ≡ false → (u : GoType) (o : Operand) → with_key env u k o ≡ None
     refused_key no_value h u o = absurd (cc)
     refused_key (some_value (plain (ident _ n))) h u o = absurd (cc)
     refused_key (some_value k) h u o =

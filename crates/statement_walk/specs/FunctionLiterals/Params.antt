@@ -22,15 +22,15 @@ abbrev pub may_bind : Env → List (List ℕ) → Bool
 may_bind env ns = distinct_by bytes_eq ns && list_all (λ n. not (is_declared_here env n)) ns
 
 -- names are bound in the innermost block
-pub record AreBound (e : Environment) (cs : List Const) (bs : List Names) (s : Scope) (block : List (List ℕ)) (env : Env)
-    (binds : Binds) : Type 0 where
+pub record AreBound (e : Environment) (cs : List Const) (bs : List Names) (s : Scope) (block : List (List ℕ))
+    (env : Env) (binds : Binds) : Type 0 where
   pub may : may_bind env (bound_names binds) ≡ true
   pub place : IsPlace e cs bs s block (extend binds env)
 
 -- so where it is answered that they are, or they may not be
 abbrev pub GivesBound :
-    {T : Type 0} → Environment → List Const → List Names → Scope → List (List ℕ) → Env → Binds → Result T Refusal →
-    Type 0
+    {T : Type 0} → Environment → List Const → List Names → Scope → List (List ℕ) → Env → Binds →
+    Result T Refusal → Type 0
 GivesBound e cs bs s block env binds (Ok v) = AreBound e cs bs s block env binds
 GivesBound e cs bs s block env binds (Err NotTyped) = may_bind env (bound_names binds) ≡ false
 GivesBound e cs bs s block env binds (Err NoMemory) = Unit {0}

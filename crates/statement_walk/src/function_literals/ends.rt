@@ -56,7 +56,8 @@ pub fn end_params(
     blank: bool,
 ) -> Result<(), NoMemory>
     ensures { OnOk result ((p : Used) (names : List (List ℕ)) → blank ≡ p (codes "_")
-        → ended pending.now (used_of used.old) ≡ and_names (without (not_blank (sig_names (sig_of sig.now))) names) p
+        → ended pending.now (used_of used.old)
+        ≡ and_names (without (not_blank (sig_names (sig_of sig.now))) names) p
         → used_of used.new ≡ and_names (without (sig_names (sig_of sig.now)) names) p) }
 {
     pending.end(alloc, used)?;
