@@ -1,5 +1,5 @@
--- The laws of programs after steps. Each is the contract of a function of this crate (Go specification, Packages; Source
--- file organization; Constant declarations; Declarations and scope; Qualified identifiers).
+-- The laws of programs after steps. Each is the contract of a function of this crate (Go specification, Packages;
+-- Source file organization; Constant declarations; Declarations and scope; Qualified identifiers).
 use Rattle.std.specs.Prelude.{◌≡◌, ℕ, ◌+◌, ◌<◌, ◌≤◌, ◌^◌, Bool, true, false, ◌&&◌, nat_eq, is_some, List, map, length, Option, Some, slice_get}
 use Rattle.go_tree.specs.Tree.{NameAt, Expr}
 use Rattle.go_tree.specs.File.{Decl}

@@ -45,7 +45,8 @@ file_spans home i d = given (slice_get home.files.items i) (λ own. own_spans ow
 abbrev pub spans_at : List PackageOrigins → DeclKey → Option (List Span)
 spans_at os k = given (slice_get os k.0) (λ home. file_spans home k.1.0 k.1.1)
 
--- These are the origins of the declaration's parts, once the use in it that stands there became a name, qualified or not.
+-- These are the origins of the declaration's parts, once the use in it that stands there became a name, qualified or
+-- not.
 abbrev pub AreSwapped : Program → StepPlace → Bool → Span → List Span → Type 0
 AreSwapped p at qualified z os =
     (decl : Decl) (spans : List Span) → decl_at p.packages.items (key_at at) ≡ Some decl
@@ -65,9 +66,9 @@ pub record HoldsSource (at : StepPlace) (packages : List Package) : Type 0 where
   pub home_is : slice_get packages at.home ≡ Some home
   pub file : at.file < length home.files
 
--- What a step at this place asks, which makes this file: the file is there with all that is kept of it, each package has
--- a path of its own by which it is found, and each import after the step names one. The bytes of the module and of the
--- new text are fewer than 2^32 together.
+-- What a step at this place asks, which makes this file: the file is there with all that is kept of it, each package
+-- has a path of its own by which it is found, and each import after the step names one. The bytes of the module and of
+-- the new text are fewer than 2^32 together.
 pub record MayBePut (p : Program) (at : StepPlace) (f : NewFile) : Type 0 where
   pub source : HoldsSource at p.packages.items
   pub text : HoldsFile at.home at.file p.files.items
@@ -93,9 +94,9 @@ abbrev pub AreOtherValues : StepPlace → Known → Known → Type 0
 AreOtherValues at old new =
     (q : DeclKey) → (nat_eq at.home q.0 && nat_eq at.file q.1.0) ≡ false → values_at q new ≡ values_at q old
 
--- The file of the place is this one now: its tree, its text with tokens and comments, where the parts of the declaration
--- come from, and what its constants are declared as, by the names of its package's block. Packages are in dependency
--- order; files that use the declaration aren't settled any more; all else stays.
+-- The file of the place is this one now: its tree, its text with tokens and comments, where the parts of the
+-- declaration come from, and what its constants are declared as, by the names of its package's block. Packages are in
+-- dependency order; files that use the declaration aren't settled any more; all else stays.
 pub record IsStepPut (at : StepPlace) (os : List Span) (block : List (List ℕ)) (f : NewFile) (old new : Program)
     : Type 0 where
   pub packages_are :

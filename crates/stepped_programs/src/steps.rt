@@ -4,7 +4,8 @@ ghost use Rattle.std.specs.Prelude.{◌≡◌, ◌+◌, ◌<◌, ◌≤◌, ◌^
 ghost use Rattle.file_names.specs.Imports.{FindsPackages};
 ghost use Rattle.programs.specs.declared.state.PackageFiles as declared;
 ghost use Rattle.stepped_programs.specs.Texts.{HoldsFile};
-ghost use Rattle.stepped_programs.specs.Steps.{AreFileValues, AreOtherValues, AreSwapped, HoldsSource, IsStepPut, MayBePut};
+ghost use Rattle.stepped_programs.specs.Steps.{AreFileValues, AreOtherValues, AreSwapped, HoldsSource};
+ghost use Rattle.stepped_programs.specs.Steps.{IsStepPut, MayBePut};
 
 use crate::declarations::{decl_at, spans_at};
 use crate::flags::unsettle;

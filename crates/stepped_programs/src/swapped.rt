@@ -7,7 +7,8 @@ ghost use Rattle.run_rules.specs.Sites.{an_expr};
 ghost use Rattle.possible_uses.specs.Parts.{parts_of};
 ghost use Rattle.possible_uses.specs.Views.{part_of};
 ghost use Rattle.programs.specs.OriginsOfUses.Origins.{named_span};
-ghost use Rattle.stepped_programs.specs.SwappedOrigins.{dots_at, from_use, is_name_at, names_before_dot, parts_before, swapped, swapped_at};
+ghost use Rattle.stepped_programs.specs.SwappedOrigins.{dots_at, from_use, is_name_at, names_before_dot};
+ghost use Rattle.stepped_programs.specs.SwappedOrigins.{parts_before, swapped, swapped_at};
 
 use go_tree::{Decl, Expr, NoMemory, Span};
 use possible_uses::{PartRef, decl_parts};
