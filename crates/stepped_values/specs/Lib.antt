@@ -1,0 +1,4 @@
+pub mod OfSteps
+pub mod Held
+pub mod Laws
+pub mod Flags

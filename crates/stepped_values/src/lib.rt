@@ -1,0 +1,11 @@
+//! What marked constants are declared as in a program that is kept, after a step too, and what searches are told of it:
+//! definitions and laws alone, without code (Go specification, Constant declarations; Declarations and scope).
+#![tactic(auto)]
+
+mod held_programs;
+mod laws;
+mod settled_flags;
+
+pub use held_programs::programs_are_held;
+pub use laws::marked_values_stay;
+pub use settled_flags::settled_flags_stay;
