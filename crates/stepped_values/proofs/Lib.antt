@@ -4,3 +4,6 @@ pub mod Said
 pub mod Others
 pub mod Held
 pub mod Flags
+pub mod Constants
+pub mod FileValues
+pub mod Steps

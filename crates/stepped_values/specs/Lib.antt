@@ -2,3 +2,4 @@ pub mod OfSteps
 pub mod Held
 pub mod Laws
 pub mod Flags
+pub mod Filled
