@@ -67,7 +67,7 @@ module _ {S T : Type 0} (to : S → T) where
       by true = refl
       by false = refl
 
-  decl_constant : (d : Decl S) (i : ℕ) → meets (inlinable_in (decl_with to d) i) is_constant ≡ meets (inlinable_in d i) is_constant
+  pub decl_constant : (d : Decl S) (i : ℕ) → meets (inlinable_in (decl_with to d) i) is_constant ≡ meets (inlinable_in d i) is_constant
   decl_constant (values s) i = values_with s i
   decl_constant (types s g ts) i =
       ap (λ (o : Option (TypeSpec T)). meets (given o aliased) is_constant) (slice_get-map (type_spec_with to) ts i)
@@ -120,7 +120,7 @@ module _ {S T : Type 0} (to : S → T) where
   values_constant (defer _ _) i h = absurd cc
   values_constant (label _ _ _) i h = absurd cc
 
-  no_constant : (o : Option (TypeSpec S)) → meets (given o aliased) is_constant ≡ false
+  pub no_constant : (o : Option (TypeSpec S)) → meets (given o aliased) is_constant ≡ false
   no_constant None = refl
   no_constant (Some t) = by t.alias
     where

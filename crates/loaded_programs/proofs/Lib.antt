@@ -4,6 +4,7 @@ pub mod ConstantsAsRead
 pub mod NamesStand
 pub mod GivenFiles
 pub mod KeptFiles
+pub mod OpenFiles
 pub mod ToldValues
 pub mod ConstantsMarked
 pub mod Loading

@@ -136,6 +136,6 @@ module _ (folder : List Source) (files : List SourceFile) (m : ReadModule) (only
       record {
         is_program = program_made;
         bad_are = made.bad_are;
-        unsettled = none_settled folder files m r p.places place_found (length m.graph.packages.items) p.files.items made.texts_are;
+        unsettled = none_settled files m r.read p.places place_found (length m.graph.packages.items) p.files.items made.texts_are;
         unused = made.unused;
       }

@@ -1,6 +1,6 @@
 -- The program that is loaded from a module that is read (Go specification, Packages; Source file organization; Constant
 -- declarations; golang.org/x/tools, analyzer inline).
-use Rattle.std.specs.Prelude.{◌≡◌, ℕ, Bool, List, [], map, Some, slice_get}
+use Rattle.std.specs.Prelude.{◌≡◌, ℕ, ◌<◌, Bool, List, [], length, map, Some, slice_get}
 use Rattle.std.specs.List.{list_all}
 use Rattle.go_tree.specs.declared.spans.Span.{Span}
 use Rattle.pkg_graph.specs.Package.{Package}
@@ -24,6 +24,7 @@ use Rattle.programs.specs.PartOrigins.Spans.{packages_spans}
 use Rattle.programs.specs.PartOrigins.Views.{packages_origins}
 use Rattle.programs.specs.Programs.{IsProgramOf, NoneAreSettled}
 use Rattle.programs.specs.declared.state.Program.{Program}
+use Rattle.package_search.specs.SearchedPrograms.Programs.{IsOpenProgram}
 use Rattle.read_modules.specs.Modules.{packages_in, texts_in}
 use Rattle.loaded_programs.specs.declared.load.Tables.{Tables}
 
@@ -49,3 +50,7 @@ pub record IsLoaded (folder : List Source) (m : ReadModule) (only : List ℕ) (p
   pub bad_are : map bad_at_of p.bad.items ≡ bad_of (packages_in m) (texts_in m) (packages_in m)
   pub unsettled : NoneAreSettled p
   pub unused : p.users ≡ []
+
+-- Each of its packages may be searched.
+abbrev pub AllAreOpen : Program → Type 0
+AllAreOpen p = (k : ℕ) → k < length p.packages.items → IsOpenProgram p k

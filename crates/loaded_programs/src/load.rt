@@ -4,10 +4,11 @@ ghost use Rattle.std.specs.Prelude.{◌≡◌, ◌+◌, ◌<◌, ◌^◌, All, I
 ghost use Rattle.pkg_graph.specs.Reads.{Source};
 ghost use Rattle.run_rules.specs.Run.{module_file_size, texts_size};
 ghost use Rattle.module_reading.specs.Files.{IsScanned};
+ghost use Rattle.module_reading.specs.Modules.{IsReadFrom};
 ghost use Rattle.module_marks.specs.Views.{mark_ref_of};
 ghost use Rattle.source_files.specs.declared.files.SourceFile as code_file;
 ghost use Rattle.read_modules.specs.Modules.{IsReadIn, packages_in, texts_in};
-ghost use Rattle.loaded_programs.specs.Loaded.{AreTables, IsLoaded, marks_constants};
+ghost use Rattle.loaded_programs.specs.Loaded.{AllAreOpen, AreTables, IsLoaded, marks_constants};
 
 use crate::marks::constant_marks;
 use file_names::{MarkRef, Places, find_packages};
@@ -48,8 +49,8 @@ fn program_tables(alloc: Global, packages: &[Package], good: &[MarkRef]) -> Resu
 
 /// The program of a module that is read, in which the declarations are marked whose full names begin with `only`;
 /// nothing where some mark of the module isn't one of a constant. `bytes` are those of `go.mod` and of all texts. Each
-/// file is as it was read: none is settled, and each part comes from where it stands. An error where memory is refused,
-/// or where a file has 2^32 names.
+/// file is as it was read: none is settled, and each part comes from where it stands. Each package may be searched. An
+/// error where memory is refused, or where a file has 2^32 names.
 ///
 /// One step for each declaration, import and name of a package block, and one look-up for each mark, constant and file;
 /// the texts are copied (Go specification, Packages; Constant declarations; golang.org/x/tools, analyzer inline).
@@ -63,6 +64,8 @@ pub fn load_program(
     requires scanned { All IsScanned read.files.items }
     ensures constants { IfOk result (λ r. is_some r
         ≡ marks_constants (packages_in read.entry) (texts_in read.entry)) }
+    ensures searchable { IfOk result (λ r. IfSome r (λ p. (files : List code_file.SourceFile)
+        → IsReadFrom files read.entry → AllAreOpen p)) }
     ensures loaded { IfOk result (λ r. IfSome r (λ p. (folder : List Source) (files : List code_file.SourceFile)
         → IsReadIn folder files read.entry → bytes ≡ module_file_size folder + texts_size (texts_in read.entry)
         → IsLoaded folder read.entry only.now p)) }

@@ -11,7 +11,7 @@ use Rattle.pkg_graph.specs.Views.{package_view}
 use Rattle.run_rules.specs.Inlining as inlining
 use Rattle.run_rules.specs.Inlining.{IsSourceFile}
 use Rattle.module_reading.specs.Files.{IsScanned, source_of, sources_of}
-use Rattle.module_reading.specs.Modules.{go_sources}
+use Rattle.module_reading.specs.Modules.{go_sources, IsReadFrom}
 use Rattle.module_reading.specs.declared.files.ScannedFile.{ScannedFile}
 use Rattle.module_reading.specs.declared.reading.ReadModule.{ReadModule}
 use Rattle.module_reading.proofs.RefusedLemmas.{texts_alike}
@@ -57,9 +57,9 @@ paths_spelled : (fs : List Source) (ts : List (SourceTree Span)) → AreTrees Is
 paths_spelled _ _ trees.none = refl
 paths_spelled _ _ (trees.file f tree fs ts s rest) = ap (λ (ps : List (List ℕ)). f.path ∷ ps) (paths_spelled fs ts rest)
 
-pub paths_alike : (folder : List Source) (files : List SourceFile) (m : ReadModule) (r : IsReadIn folder files m) → map (λ s. s.file.now.path) m.files.items ≡ map (λ t. t.path) r.read.trees
-paths_alike folder files m r =
-    paths_scanned m.files.items ∙ ap (map (λ f. f.path)) (texts_alike files m.files.items r.read.scanned) ∙ paths_spelled (go_sources (sources_of files)) r.read.trees r.read.trees_are
+pub paths_alike : (files : List SourceFile) (m : ReadModule) (r : IsReadFrom files m) → map (λ s. s.file.now.path) m.files.items ≡ map (λ t. t.path) r.trees
+paths_alike files m r =
+    paths_scanned m.files.items ∙ ap (map (λ f. f.path)) (texts_alike files m.files.items r.scanned) ∙ paths_spelled (go_sources (sources_of files)) r.trees r.trees_are
 
 -- ---- how many packages there are
 

@@ -73,7 +73,7 @@ module _ (ps : List (Package At)) where
   first_or k m rest true e h here later = subst Holds (sym (one_mark m k e)) here
   first_or k m rest false e h here later = later h
 
-  among_constant : (ms : List MarkRef) (m : MarkRef) → AllConstants ps ms → is_among_marks ms m ≡ true → Holds m
+  pub among_constant : (ms : List MarkRef) (m : MarkRef) → AllConstants ps ms → is_among_marks ms m ≡ true → Holds m
   among_constant [] m a h = absurd cc
   among_constant (k ∷ ms) m a h = first_or k m (is_among_marks ms m) (same_mark m k) refl h a.0 (λ l. among_constant ms m a.1 l)
 

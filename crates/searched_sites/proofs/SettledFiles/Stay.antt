@@ -7,9 +7,10 @@ use Rattle.go_types.specs.Answers.{given}
 use Rattle.searched_sites.specs.KeptUses.Laws.{KeptUsesStay}
 use Rattle.mark_values.specs.declared.values.DeclaredValue.{DeclaredValue}
 use Rattle.mark_values.specs.Tables.{Known, DeclKey, key_of, values_at}
-use Rattle.use_search.specs.UsesOfMarks.Laws.{placed_sites, MarkedUsesAreSites, UsesArePlaced}
+use Rattle.use_search.specs.UsesOfMarks.Laws.{EachSite, IsPlaced, placed_sites, MarkedUsesAreSites, UsesArePlaced}
 use Rattle.use_search.specs.UsesOfMarks.Uses.{PlacedMark, decls_uses}
 use Rattle.use_search.proofs.UsesOfMarks.BlocksStay.{member_stays}
+use Rattle.member_uses.specs.Uses.{Names}
 use Rattle.module_marks.specs.Views.{mark_ref_of}
 use Rattle.package_search.specs.Search.{is_settled}
 use Rattle.pkg_graph.specs.Package.{SourceTree, Package}
@@ -29,8 +30,8 @@ use Rattle.use_search.specs.declared.views.ProgramView.{ProgramView}
 use Rattle.use_search.specs.Answers.{names_of}
 use Rattle.searched_sites.specs.OrderedSearches.Held.{IsThere, IsSearchable, Users, AreUsed, flag_of}
 use Rattle.searched_sites.proofs.OrderedSearches.Looked.{program_told}
-use Rattle.searched_sites.specs.SettledFiles.Left.{IsLeft, TellTheSame, AreSameBut, UseNoneOf, FoundNoneOf, KeepOthers}
-use Rattle.searched_sites.specs.SettledFiles.Laws.{BlocksStay, TablesStay, NamesStay, KeptFilesStay, FlagsMayStay, OtherValuesStay, PutsChangeOne, FoundUsesTell}
+use Rattle.searched_sites.specs.SettledFiles.Left.{IsLeft, TellTheSame, AreSameBut, TellOthersTheSame, UseNoneOf, FoundNoneOf, KeepOthers}
+use Rattle.searched_sites.specs.SettledFiles.Laws.{BlocksStay, TablesStay, NamesStay, KeptFilesStay, FlagsMayStay, OtherValuesStay, OtherMarksStay, PutsChangeOne, FoundUsesTell}
 use Rattle.searched_sites.proofs.SettledFiles.Packages.{changed, with_tree, in_package, block_now, member_now, paths_now, blocks_now}
 use Rattle.searched_sites.proofs.SettledFiles.Left.{source_same, names_same, knows_stay, file_stays}
 use Rattle.searched_sites.proofs.SettledFiles.Sites.{paths_told, all_kept, uses_same}
@@ -90,6 +91,19 @@ others_told changed old new same (x ∷ xs) none = (
 pub other_values_stay : OtherValuesStay
 other_values_stay changed old new xs same none = others_told changed old new same xs none
 
+pub other_marks_stay : OtherMarksStay
+other_marks_stay marks changed old new same m among other =
+    ap (λ (o : Option (List (Option DeclaredValue))). given o (λ vs. given (slice_get vs m.item) (λ v. v))) (same (key_of m) other)
+
+-- each site uses a marked constant
+marked_told : (ps : List (Package At)) (marks : List MarkRef) (w : Where At) (f : Names) (changed : DeclKey → Bool) (old new : Known) → TellOthersTheSame marks changed old new → (xs : List (Site At))
+    → EachSite (IsPlaced ps marks w f) xs → UseNoneOf changed xs → TellTheSame old new xs
+marked_told ps marks w f changed old new same [] placed none = tt
+marked_told ps marks w f changed old new same (x ∷ xs) placed none = (
+  same x.mark placed.0.is_marked none.0,
+  marked_told ps marks w f changed old new same xs placed.1 none.1,
+)
+
 -- which constants sites use
 found_none : (marks : List MarkRef) (st : Standing) (changed : DeclKey → Bool) (xs : List (Site At)) (ks : List FoundObstacle) (r : Option FoundForm) → AreSearched marks st xs ks r → r ≡ None → FoundNoneOf changed ks
     → UseNoneOf changed xs
@@ -109,11 +123,11 @@ puts_change_one k vs old new put = λ q other. put q ∙ ap (λ (b : Bool). if b
 -- ---- flags
 
 -- a file after a step stood before it
-record WasThere (ps : List (Package At)) (v : Where At) : Type 0 where
-  file : Where At
-  there : IsThere ps file
-  number_is : v.number ≡ file.number
-  file_is : v.file_number ≡ file.file_number
+pub record WasThere (ps : List (Package At)) (v : Where At) : Type 0 where
+  pub file : Where At
+  pub there : IsThere ps file
+  pub number_is : v.number ≡ file.number
+  pub file_is : v.file_number ≡ file.file_number
 
 module _ (marks : List MarkRef) (st : Standing) (l : Logged) (after : Standing) (n : Next marks st l after) where
   was_in : (v : Where At) (p : Package At) → slice_get st.packages v.number ≡ Some p → (s : SourceTree At) → slice_get p.files v.file_number ≡ Some s → WasThere st.packages v
@@ -133,7 +147,7 @@ module _ (marks : List MarkRef) (st : Standing) (l : Logged) (after : Standing) 
       (ap (λ (q : Package At). slice_get q.files v.file_number) (sym e.1) ∙ t.file_is) in
       was_in v p h b.old b.there
 
-  was_there : (v : Where At) → IsThere after.packages v → WasThere st.packages v
+  pub was_there : (v : Where At) → IsThere after.packages v → WasThere st.packages v
   was_there v t =
       let b = changed (in_package marks st l after n) st.packages n.found.site.at.number v.number v.of (ap (λ (qs : List (Package At)). slice_get qs v.number) (sym n.packages_are) ∙ t.package_is) in
       was_by v t b.old b.there b.which
@@ -163,12 +177,14 @@ flags_stay sites_are placed law marks st l after n s t tokens more changed were 
     let m = may b.file b.there set in
     let was = settled b.file b.there m.was_set in
     let none : FoundNoneOf changed was.kept = none_changed changed were b.file.number b.file.file_number m.unused was.kept was.used in
-    let told : TellTheSame s.values.now t.values.now (sites_in_file marks st b.file) =
-    others_told changed s.values.now t.values.now same (sites_in_file marks st b.file)
-    (found_none marks st changed (sites_in_file marks st b.file) was.kept None was.searched refl none) in
     let p : ProgramView = record { packages = s.packages; values = s.values } in
     let q : ProgramView = record { packages = t.packages; values = t.values } in
-    let r = stays_kept sites_are placed law marks st l after n p q b.file v was.view paths (program_told marks st s tokens held p refl refl) (program_told marks after t more now q refl refl)
+    let own : IsProgram marks st p = program_told marks st s tokens held p refl refl in
+    let told : TellTheSame s.values.now t.values.now (sites_in_file marks st b.file) =
+    marked_told st.packages marks b.file (names_of was.view) changed s.values.now t.values.now same (sites_in_file marks st b.file)
+    (placed st.packages marks b.file (names_of was.view) (knows marks st b.file p was.view own was.is_file) held.constants was.is_file.sound)
+    (found_none marks st changed (sites_in_file marks st b.file) was.kept None was.searched refl none) in
+    let r = stays_kept sites_are placed law marks st l after n p q b.file v was.view paths own (program_told marks after t more now q refl refl)
     (record { before = b.there; after = there; number_is = b.number_is; file_is = b.file_is; other = m.other }) (now.searchable v there) was.is_file was.kept was.searched told in
     let used : AreUsed users b.file.number b.file.file_number was.kept =
     still_used changed were users keep b.file.number b.file.file_number was.kept none was.used in

@@ -23,7 +23,7 @@ use Rattle.use_search.specs.declared.search.FoundObstacle.{FoundObstacle}
 use Rattle.use_search.specs.declared.views.FileView.{FileView}
 use Rattle.use_search.specs.declared.views.ProgramView.{ProgramView}
 use Rattle.searched_sites.specs.OrderedSearches.Held.{IsThere, IsSearchable, IsHeld, Users, flag_of, AreAllSettled}
-use Rattle.searched_sites.specs.SettledFiles.Left.{IsLeft, TellTheSame, AreSameBut, UseNoneOf, FoundNoneOf, KeepOthers, MayStaySet}
+use Rattle.searched_sites.specs.SettledFiles.Left.{IsLeft, TellTheSame, AreSameBut, TellOthersTheSame, UseNoneOf, FoundNoneOf, KeepOthers, MayStaySet}
 
 -- A step leaves the block of each package.
 abbrev pub BlocksStay : Type 0
@@ -60,13 +60,14 @@ KeptFilesStay =
     → TellTheSame p.values.now q.values.now (sites_in_file marks st w)
     → IsFile marks after v view × AreSearched marks after (sites_in_file marks after v) kept None
 
--- So the flags of such files may stay set, where something else is told of the constants of some declarations alone.
+-- So the flags of such files may stay set, where something else is told of marked constants of some declarations alone.
 abbrev pub FlagsMayStay : Type 0
 FlagsMayStay =
     (marks : List MarkRef) (st : Standing) (l : Logged) (after : Standing) (n : Next marks st l after)
     (s t : ProgramSources) (tokens more : ℕ → List TokenLists) (changed : DeclKey → Bool) (were users : Users)
     (old new : ℕ → List Bool) → OnePathEach st.packages → IsHeld marks st s tokens → IsHeld marks after t more
-    → AreSameBut changed s.values.now t.values.now → KeepOthers changed were users → AreAllSettled marks st were old
+    → TellOthersTheSame marks changed s.values.now t.values.now → KeepOthers changed were users
+    → AreAllSettled marks st were old
     → ((w : Where At) → IsThere st.packages w → flag_of new w ≡ true → MayStaySet n.found changed were old w)
     → AreAllSettled marks after users new
 
@@ -75,6 +76,12 @@ abbrev pub OtherValuesStay : Type 0
 OtherValuesStay =
     (changed : DeclKey → Bool) (old new : Known) (xs : List (Site At)) → AreSameBut changed old new
     → UseNoneOf changed xs → TellTheSame old new xs
+
+-- And of all marked constants of other declarations.
+abbrev pub OtherMarksStay : Type 0
+OtherMarksStay =
+    (marks : List MarkRef) (changed : DeclKey → Bool) (old new : Known) → AreSameBut changed old new
+    → TellOthersTheSame marks changed old new
 
 -- So it is with one declaration that is looked at again.
 abbrev pub PutsChangeOne : Type 0

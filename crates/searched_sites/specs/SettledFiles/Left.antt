@@ -1,7 +1,7 @@
 -- Files that a step leaves as they are (Go specification, Packages; Source file organization; Constant declarations).
 use Rattle.std.specs.Prelude.{◌≡◌, ℕ, Bool, true, false, List, [], ◌∷◌}
 use Rattle.pkg_graph.specs.Package.{Package}
-use Rattle.run_rules.specs.Sites.{Where, Site}
+use Rattle.run_rules.specs.Sites.{MarkRef, Where, Site, is_among_marks}
 use Rattle.run_rules.specs.Steps.{At, Found}
 use Rattle.mark_values.specs.Tables.{Known, DeclKey, key_of, values_at, value_in}
 use Rattle.use_search.specs.UsesOfMarks.Laws.{EachSite}
@@ -29,6 +29,11 @@ TellTheSame old new xs = EachSite (λ x. value_in new x.mark ≡ value_in old x.
 -- the two tables tell the same of all declarations but those that `changed` names
 abbrev pub AreSameBut : (DeclKey → Bool) → Known → Known → Type 0
 AreSameBut changed old new = (k : DeclKey) → changed k ≡ false → values_at k new ≡ values_at k old
+
+-- the two tables tell the same of marked constants, but of those of the declarations that `changed` names
+abbrev pub TellOthersTheSame : List MarkRef → (DeclKey → Bool) → Known → Known → Type 0
+TellOthersTheSame marks changed old new =
+    (m : MarkRef) → is_among_marks marks m ≡ true → changed (key_of m) ≡ false → value_in new m ≡ value_in old m
 
 -- none of these sites uses a constant of such a declaration
 abbrev pub UseNoneOf : (DeclKey → Bool) → List (Site At) → Type 0

@@ -1,7 +1,7 @@
 //! Laws of files that steps leave as they are.
 
 ghost use Rattle.searched_sites.specs.SettledFiles.Laws.{BlocksStay, FlagsMayStay, FoundUsesTell, KeptFilesStay, NamesStay};
-ghost use Rattle.searched_sites.specs.SettledFiles.Laws.{OtherValuesStay, PutsChangeOne, TablesStay};
+ghost use Rattle.searched_sites.specs.SettledFiles.Laws.{OtherMarksStay, OtherValuesStay, PutsChangeOne, TablesStay};
 
 use crate::kept_uses_stay;
 use use_search::{marked_uses_are_sites, uses_are_placed};
@@ -16,13 +16,14 @@ pub fn steps_leave_other_files()
 
 /// Where no use in such a file is free, and the same is told of each constant that it uses, none is free after the
 /// step, and each is kept by the same obstacle (`kept`). So flags of files that are settled may stay set, but that of
-/// the file of the step, and those of files that are known to use a constant of one of the declarations of which
-/// something else is told now (`flags`): those that were looked at again (`values`, `puts`). Which constants a file
-/// uses is told by the uses that a search found (`found`).
+/// the file of the step, and those of files that are known to use a constant of one of the declarations of whose marked
+/// constants something else is told now (`flags`): those that were looked at again (`values`, `marked`, `puts`). Which
+/// constants a file uses is told by the uses that a search found (`found`).
 pub fn settled_files_stay()
     ensures kept { KeptFilesStay }
     ensures flags { FlagsMayStay }
     ensures values { OtherValuesStay }
+    ensures marked { OtherMarksStay }
     ensures puts { PutsChangeOne }
     ensures found { FoundUsesTell }
 {

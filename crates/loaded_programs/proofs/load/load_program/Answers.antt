@@ -13,6 +13,7 @@ use Rattle.read_modules.specs.Modules.{packages_in, texts_in}
 use Rattle.loaded_programs.specs.Loaded.{AreTables, marks_constants}
 use Rattle.loaded_programs.proofs.ConstantsMarked.{marked_constants}
 use Rattle.loaded_programs.proofs.Loading.{loaded, moved}
+use Rattle.loaded_programs.proofs.OpenFiles.{opened}
 use Rattle.loaded_programs.proofs.load.load_program.Goals as goal
 
 pub constant_marks-requires : goal.constant_marks-requires
@@ -33,6 +34,33 @@ returns-clause-constants c =
     moved (λ (cs : List Package) (fs : List ScannedFile). true ≡ marks_constants (map package_view cs) (texts_of fs)) c.deref.result.now c.args.read.graph.packages.items
     c.deref-2.result.now c.args.read.files.items (c.deref.ensures.value ∙ c.into_packages-packages.ensures) c.deref-2.ensures.value
     (rw c.in-Some.is at c.in_ok-marked.ensures.constants)
+
+pub returns-clause-searchable : goal.returns-clause-searchable
+returns-clause-searchable c = λ files r.
+    let m = c.args.read in
+    let good = c.in-Some.found.good.items in
+    let packages : c.into_packages-packages.result.items ≡ m.graph.packages.items = c.into_packages-packages.ensures in
+    let counted : vec_len c.into_packages-packages.result ≡ length c.into_packages-packages.result.items = search rules in
+    let tables : AreTables m.graph.packages.items (map mark_ref_of good) c.in_ok-tables.tables =
+    moved (λ (cs : List Package) (ms : List MarkRef). AreTables cs (map mark_ref_of ms) c.in_ok-tables.tables) c.deref-3.result.now m.graph.packages.items c.deref-4.result.now good
+    (c.deref-3.ensures.value ∙ packages) c.deref-4.ensures.value c.in_ok-tables.ensures in
+    let texts : AreTexts m.home.path c.in_ok-tables.tables.places (length m.graph.packages.items) m.files.items c.in_ok-files.files.items =
+    moved (λ (path : List ℕ) (n : ℕ). AreTexts path c.in_ok-tables.tables.places n m.files.items c.in_ok-files.files.items) c.items.result.now m.home.path c.len.result
+    (length m.graph.packages.items) c.items.ensures (c.len.ensures ∙ counted ∙ ap (λ (cs : List Package). length cs) packages) c.in_ok-files.ensures in
+    let program : Program =
+    record {
+      packages = c.into_packages-packages.result;
+      files = c.in_ok-files.files;
+      origins = c.in_ok-tables.tables.origins;
+      places = c.in_ok-tables.tables.places;
+      order = c.in_ok-order.order;
+      marks = c.in_ok-tables.tables.marks;
+      bad = c.in-Some.found.bad;
+      values = c.in_ok-tables.tables.values;
+      users = c.new.result;
+      bytes = c.args.bytes;
+    } in
+    opened files m program r packages tables.places_are texts
 
 pub returns-clause-loaded : goal.returns-clause-loaded
 returns-clause-loaded c = λ folder files r e.

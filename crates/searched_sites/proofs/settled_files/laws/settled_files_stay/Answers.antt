@@ -1,4 +1,4 @@
-use Rattle.searched_sites.proofs.SettledFiles.Stay.{kept_files_stay, flags_stay, other_values_stay, puts_change_one, found_uses_tell}
+use Rattle.searched_sites.proofs.SettledFiles.Stay.{kept_files_stay, flags_stay, other_values_stay, other_marks_stay, puts_change_one, found_uses_tell}
 use Rattle.searched_sites.proofs.settled_files.laws.settled_files_stay.Goals as goal
 
 pub returns-clause-kept : goal.returns-clause-kept
@@ -9,6 +9,9 @@ returns-clause-flags c = flags_stay c.marked_uses_are_sites.ensures c.uses_are_p
 
 pub returns-clause-values : goal.returns-clause-values
 returns-clause-values c = other_values_stay
+
+pub returns-clause-marked : goal.returns-clause-marked
+returns-clause-marked c = other_marks_stay
 
 pub returns-clause-puts : goal.returns-clause-puts
 returns-clause-puts c = puts_change_one
