@@ -22,9 +22,10 @@ use Rattle.run_rules.specs.Sites.{MarkRef, Site}
 use Rattle.run_rules.specs.Steps.{At, change_nth}
 use Rattle.searched_sites.proofs.SettledFiles.Packages.{block_now, placed}
 use Rattle.use_search.proofs.UsesOfMarks.BlocksStay.{block_stays}
+use Rattle.stepped_values.specs.Filled.{IsFilledAnew}
 use Rattle.stepped_programs.specs.declared.place.StepPlace.{StepPlace}
 use Rattle.stepped_programs.specs.Steps.{IsStepPut}
-use Rattle.stepped_programs.specs.Laws.{IsOfStep, AreFilled, StepsFillValues}
+use Rattle.stepped_programs.specs.Laws.{IsOfStep, StepsFillValues}
 use Rattle.stepped_programs.proofs.Lists.{change_here}
 use Rattle.stepped_programs.proofs.Packages.{file_put, home_put, packages_now}
 
@@ -81,8 +82,8 @@ module _ (files : List Source) (marks : List MarkRef) (st : Standing) (l : Logge
   others : (q : DeclKey) → (nat_eq x.at.number q.0 && nat_eq x.at.file_number q.1.0) ≡ false → values_at q new.values ≡ values_at q old.values
   others q h = put.other_values q ((λ v. nat_eq (o.place.home v) q.0 && nat_eq (o.place.file v) q.1.0) ∙ h)
 
-  filled : AreFilled n codes old.values new.values
-  filled = record { packages_are = packages_put; home = own.0; home_is = own.1; source = source.0; source_is = source.1; here = has_values; others = others }
+  pub filled : IsFilledAnew codes n.found old.values new.values
+  filled = record { home = own.0; home_is = own.1; source = source.0; source_is = source.1; here = has_values; others = others }
 
 pub fill_values : StepsFillValues
-fill_values files marks st l after n at os block f old new is o put = filled files marks st l after n at os block f old new is o put
+fill_values files marks st l after n at os block f old new is o put = (packages_put files marks st l after n at os block f old new is o put, filled files marks st l after n at os block f old new is o put)

@@ -14,3 +14,4 @@ pub mod Rests
 pub mod Whole
 pub mod LeftFlags
 pub mod Asked
+pub mod SettledFiles

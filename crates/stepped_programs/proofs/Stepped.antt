@@ -29,17 +29,18 @@ use Rattle.run_rules.specs.Steps.{At}
 use Rattle.run_rules.specs.Texts.{FileText}
 use Rattle.searched_sites.proofs.SettledFiles.Packages.{placed}
 use Rattle.searched_sites.proofs.SettledFiles.Stay.{tables_stay}
+use Rattle.stepped_values.specs.Filled.{ConstantsStayMarked, ValuesAreToldAfterSteps}
 use Rattle.stepped_programs.specs.declared.place.StepPlace.{StepPlace}
 use Rattle.stepped_programs.specs.Steps.{IsStepPut}
 use Rattle.stepped_programs.specs.Laws.{IsOfStep, StepsKeepPrograms}
 use Rattle.stepped_programs.proofs.Packages.{count_now, found_same}
-use Rattle.stepped_programs.proofs.Filled.{packages_put}
+use Rattle.stepped_programs.proofs.Filled.{packages_put, filled}
 use Rattle.stepped_programs.proofs.Files.{program_reads}
 use Rattle.stepped_programs.proofs.Kept.{files_counted, kept_now}
 use Rattle.stepped_programs.proofs.ComeFrom.{origins_now}
 
 module _ (files : List Source) (marks : List MarkRef) (st : Standing) (l : Logged) (after : Standing) (n : Next marks st l after) (at : StepPlace) (os : List Span) (block : List (List ℕ)) (f : NewFile) (old new : Program)
-    (is : IsProgramOf files marks st old) (apart : are_paths_apart st.texts ≡ true) (o : IsOfStep n at os block f) (put : IsStepPut at os block f old new) (constants : AllConstants after.packages marks) (told : TellsValues marks after.packages new.values) where
+    (is : IsProgramOf files marks st old) (apart : are_paths_apart st.texts ≡ true) (o : IsOfStep n at os block f) (put : IsStepPut at os block f old new) (constants : ConstantsStayMarked) (told : ValuesAreToldAfterSteps) where
   abbrev x : Site At
   x = n.found.site
 
@@ -78,13 +79,13 @@ module _ (files : List Source) (marks : List MarkRef) (st : Standing) (l : Logge
             (found_same at.home at.file (file_of f.tree) old.packages.items new.packages.items put.packages_are old.places is.places_are);
         order_is = put.order_is ∙ ap (λ (ps : List (Package Span)). dependency_order ps) same ∙ order_with here_of after.packages;
         marks_are = subst (λ (t : MarkTable). IsTableOf (packages_with here_of after.packages) marks t) (sym put.marks_stay) (tables_stay marks st l after n old.marks is.marks_are);
-        constants = constants;
-        values = told;
+        constants = constants marks marks st l after n is.constants;
+        values = told marks st l after n new.packages.items old.values new.values same is.constants is.values (filled files marks st l after n at os block f old new is o put);
         count = files_counted files marks st l after n at os block f old new is o put ∙ is.count ∙ sym (count_now marks st l after n);
         kept = kept_now files marks st l after n at os block f old new is o put;
         origins = origins_now files marks st l after n at os block f old new is o put;
         bytes_are = counted;
       }
 
-pub keep_programs : StepsKeepPrograms
-keep_programs files marks st l after n at os block f old new is apart o put constants told = is_program files marks st l after n at os block f old new is apart o put constants told
+pub keep_programs : ConstantsStayMarked → ValuesAreToldAfterSteps → StepsKeepPrograms
+keep_programs constants told files marks st l after n at os block f old new is apart o put = is_program files marks st l after n at os block f old new is apart o put constants told

@@ -16,6 +16,7 @@ use Rattle.possible_uses.specs.Among.{Keyed}
 use Rattle.possible_uses.specs.Parts.{parts_of}
 use Rattle.constant_forms.specs.Views.{name_expr}
 use Rattle.cycle_runs.specs.Linked.{Linked}
+use Rattle.marked_runs.specs.KeptMarks.Over.{IsOverName}
 use Rattle.mark_values.specs.Tables.{DeclKey, Known, same_key, values_at}
 use Rattle.member_uses.specs.Laws.{AllConstants}
 use Rattle.next_file.specs.declared.file.NewFile.{NewFile}
@@ -42,10 +43,12 @@ use Rattle.run_rules.specs.Steps.{At, same_here}
 use Rattle.run_rules.specs.Texts.{FileText}
 use Rattle.searched_sites.specs.FoundSteps.Laws.{step_of}
 use Rattle.searched_sites.specs.OrderedSearches.Found.{IsFoundFirst}
-use Rattle.searched_sites.specs.OrderedSearches.Held.{IsThere, flag_of}
+use Rattle.searched_sites.specs.OrderedSearches.Held.{IsThere, AreAllSettled, flag_of}
 use Rattle.searched_sites.specs.SettledFiles.Left.{MayStaySet}
 use Rattle.searched_sites.specs.SwappedParts.Swaps.{HasNoDot}
 use Rattle.standing_uses.specs.ImportUses.Parts.{EachSeen}
+use Rattle.stepped_values.specs.Filled.{IsFilledAnew}
+use Rattle.stepped_values.specs.Flags.{IsKeptProgram}
 use Rattle.stepped_programs.specs.declared.place.StepPlace.{StepPlace}
 use Rattle.stepped_programs.specs.SwappedOrigins.{swapped}
 use Rattle.stepped_programs.specs.Steps.{key_at, AreSwapped, MayBePut, IsStepPut}
@@ -68,37 +71,24 @@ pub record IsOfStep {marks : List MarkRef} {st : Standing} {l : Logged} {after :
   pub block_is : block ≡ map (λ m. m.0) (package_block 0 n.found.site.at.of)
   pub origins_are : slice_get (decls_origins n.tree.decls) at.decl ≡ Some os
 
--- After a step all that is kept is that of the next program, in which the same declarations are marked, where these are
--- constants then too and the table tells what they are declared as. No two texts have one path.
+-- After a step all that is kept is that of the next program, in which the same declarations are marked. No two texts
+-- have one path.
 abbrev pub StepsKeepPrograms : Type 0
 StepsKeepPrograms =
     (files : List Source) (marks : List MarkRef) (st : Standing) (l : Logged) (after : Standing)
     (n : Next marks st l after) (at : StepPlace) (os : List Span) (block : List (List ℕ)) (f : NewFile)
     (old new : Program) → IsProgramOf files marks st old → are_paths_apart st.texts ≡ true → IsOfStep n at os block f
-    → IsStepPut at os block f old new → AllConstants after.packages marks → TellsValues marks after.packages new.values
-    → IsProgramOf files marks after new
+    → IsStepPut at os block f old new → IsProgramOf files marks after new
 
--- The packages are those after the step, and the table has what the constants of the step's file are declared as among
--- them; of other files what it had.
-pub record AreFilled {marks : List MarkRef} {st : Standing} {l : Logged} {after : Standing} (n : Next marks st l after)
-    (packages : List code.Package) (old new : Known) : Type 0 where
-  pub packages_are : map package_view packages ≡ packages_with here_of after.packages
-  pub home : code.Package
-  pub home_is : slice_get packages n.found.site.at.number ≡ Some home
-  pub source : code_tree.SourceTree
-  pub source_is : slice_get home.files n.found.site.at.file_number ≡ Some source
-  pub here : HasFileValues packages n.found.site.at.number home n.found.site.at.file_number source new
-  pub others :
-      (q : DeclKey) → (nat_eq n.found.site.at.number q.0 && nat_eq n.found.site.at.file_number q.1.0) ≡ false
-      → values_at q new ≡ values_at q old
-
--- So it is with the table of a program in which the file of a step is put.
+-- The table has what the constants of the step's file are declared as among the packages after the step, and of other
+-- files what it had.
 abbrev pub StepsFillValues : Type 0
 StepsFillValues =
     (files : List Source) (marks : List MarkRef) (st : Standing) (l : Logged) (after : Standing)
     (n : Next marks st l after) (at : StepPlace) (os : List Span) (block : List (List ℕ)) (f : NewFile)
     (old new : Program) → IsProgramOf files marks st old → IsOfStep n at os block f → IsStepPut at os block f old new
-    → AreFilled n new.packages.items old.values new.values
+    → (map package_view new.packages.items ≡ packages_with here_of after.packages)
+    × IsFilledAnew new.packages.items n.found old.values new.values
 
 -- ---- files that stay settled
 
@@ -117,6 +107,16 @@ StepsLeaveFlags =
     (os : List Span) (block : List (List ℕ)) (f : NewFile) (old new : Program) → IsPlaceOf n at
     → IsStepPut at os block f old new → (w : Where At) → IsThere st.packages w → flag_of (flags_of new) w ≡ true
     → MayStaySet n.found (same_key (key_at at)) (users_of old) (flags_of old) w
+
+-- So files that are settled are so after a step over a name, but that of the step and those that use a constant of the
+-- declaration of the use.
+abbrev pub StepsKeepSettled : Type 0
+StepsKeepSettled =
+    (files : List Source) (marks : List MarkRef) (st : Standing) (l : Logged) (after : Standing)
+    (n : Next marks st l after) (at : StepPlace) (os : List Span) (block : List (List ℕ)) (f : NewFile)
+    (old new : Program) (s t : ProgramSources) → IsKeptProgram files marks st old s
+    → IsKeptProgram files marks after new t → IsOverName n → IsOfStep n at os block f → IsStepPut at os block f old new
+    → AreAllSettled marks st (users_of old) (flags_of old) → AreAllSettled marks after (users_of new) (flags_of new)
 
 -- ---- origins
 
