@@ -1,5 +1,5 @@
 -- The files of a program after a step: that of the step, and those that it leaves.
-use Rattle.std.proofs.Common.{◌≡◌, ◌∙◌, ◌⊎◌, inl, inr, refl, sym, ap, ℕ, ◌<◌, List, length, Some, subst}
+use Rattle.std.proofs.Common.{◌≡◌, ◌∙◌, sym, ap, ℕ, ◌<◌, List, length, Some, subst}
 use Rattle.std.specs.Prelude.{slice_get}
 use Rattle.std.proofs.lemmas.Option.{slice_get_within}
 use Rattle.pkg_graph.specs.Package.{SourceTree, Package}
@@ -12,40 +12,10 @@ use Rattle.run_rules.specs.Run.{Standing, Logged, Next}
 use Rattle.run_rules.specs.Sites.{MarkRef, Where}
 use Rattle.run_rules.specs.Steps.{At}
 use Rattle.searched_sites.specs.OrderedSearches.Held.{IsThere}
-use Rattle.stepped_programs.proofs.Lists.{There, there}
+use Rattle.searched_sites.proofs.KeptPrograms.Kept.{There, there}
 use Rattle.searched_sites.specs.SettledFiles.Left.{IsLeft}
 use Rattle.searched_sites.proofs.SettledFiles.Left.{source_same}
-use Rattle.searched_sites.proofs.SettledFiles.Packages.{changed, with_tree, in_package}
-
--- a file after a step stood before it
-pub record WasThere (ps : List (Package At)) (v : Where At) : Type 0 where
-  pub file : Where At
-  pub there : IsThere ps file
-  pub number_is : v.number ≡ file.number
-  pub file_is : v.file_number ≡ file.file_number
-
-module _ (marks : List MarkRef) (st : Standing) (l : Logged) (after : Standing) (n : Next marks st l after) where
-  was_in : (v : Where At) (p : Package At) → slice_get st.packages v.number ≡ Some p → (s : SourceTree At) → slice_get p.files v.file_number ≡ Some s → WasThere st.packages v
-  was_in v p h s i =
-      record {
-        file = record { number = v.number; of = p; file_number = v.file_number; source = s };
-        there = record { package_is = h; file_is = i };
-        number_is = refl;
-        file_is = refl;
-      }
-
-  was_by : (v : Where At) → IsThere after.packages v → (p : Package At) → slice_get st.packages v.number ≡ Some p → ((v.number ≡ n.found.site.at.number) × (v.of ≡ in_package marks st l after n p)) ⊎ (v.of ≡ p)
-      → WasThere st.packages v
-  was_by v t p h (inr e) = was_in v p h v.source (ap (λ (q : Package At). slice_get q.files v.file_number) (sym e) ∙ t.file_is)
-  was_by v t p h (inl e) =
-      let b = changed (with_tree marks st l after n) p.files n.found.site.at.file_number v.file_number v.source
-      (ap (λ (q : Package At). slice_get q.files v.file_number) (sym e.1) ∙ t.file_is) in
-      was_in v p h b.old b.there
-
-  pub was_there : (v : Where At) → IsThere after.packages v → WasThere st.packages v
-  was_there v t =
-      let b = changed (in_package marks st l after n) st.packages n.found.site.at.number v.number v.of (ap (λ (qs : List (Package At)). slice_get qs v.number) (sym n.packages_are) ∙ t.package_is) in
-      was_by v t b.old b.there b.which
+use Rattle.searched_sites.proofs.SettledFiles.Stay.{WasThere, was_there}
 
 -- where a file stands
 abbrev pub standing_at : ℕ → ℕ → Package At → SourceTree At → Where At

@@ -3,7 +3,6 @@ pub mod Packages
 pub mod Files
 pub mod Kept
 pub mod ComeFrom
-pub mod LoneUses
 pub mod SwappedParts
 pub mod Held
 pub mod Found

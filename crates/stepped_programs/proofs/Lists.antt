@@ -1,7 +1,7 @@
 -- Lists with an entry changed.
-use Rattle.std.proofs.Common.{◌≡◌, refl, ap, ℕ, zero, suc, ◌<◌, ◌⊎◌, inl, inr, Bool, true, false, ◌&&◌, nat_eq, List, [], ◌∷◌, map, length, get_or, Some, arith, slice_set}
+use Rattle.std.proofs.Common.{◌≡◌, refl, ap, ℕ, zero, suc, Bool, true, false, ◌&&◌, nat_eq, List, [], ◌∷◌, map, length, Some, slice_set}
 use Rattle.std.specs.Prelude.{slice_get}
-use Rattle.std.proofs.lemmas.Bool.{eqb-true, eqb-false}
+use Rattle.std.proofs.lemmas.Bool.{eqb-true}
 use Rattle.std.proofs.lemmas.Option.{same_Some}
 use Rattle.run_rules.specs.Steps.{change_nth}
 
@@ -36,39 +36,3 @@ not_both a b i j n = by (nat_eq a b) (nat_eq i j) refl refl
     by true true e f = absurd (n (eqb-true a b e, eqb-true i j f))
     by true false e f = refl
     by false y e f = refl
-
--- ---- entries
-
--- there is an entry
-pub record There {A : Type 0} (xs : List A) (k : ℕ) : Type 0 where
-  pub entry : A
-  pub is : slice_get xs k ≡ Some entry
-
-pub there : {A : Type 0} (xs : List A) (k : ℕ) → k < length xs → There xs k
-there [] k h = absurd (omega (arith, h))
-there (x ∷ xs) zero h = record { entry = x; is = refl }
-there (x ∷ xs) (suc k) h = let t = there xs k (omega (arith, h)) in record { entry = t.entry; is = t.is }
-
-pub set_here : {A : Type 0} (xs : List A) (k : ℕ) (y : A) → k < length xs → slice_get (slice_set xs k y) k ≡ Some y
-set_here [] k y h = absurd (omega (arith, h))
-set_here (x ∷ xs) zero y h = refl
-set_here (x ∷ xs) (suc k) y h = set_here xs k y (omega (arith, h))
-
-pub set_else : {A : Type 0} (xs : List A) (k j : ℕ) (y : A) → (j ≡ k → ⊥) → slice_get (slice_set xs k y) j ≡ slice_get xs j
-set_else [] k j y h = refl
-set_else (x ∷ xs) zero zero y h = absurd (h refl)
-set_else (x ∷ xs) zero (suc j) y h = refl
-set_else (x ∷ xs) (suc k) zero y h = refl
-set_else (x ∷ xs) (suc k) (suc j) y h = set_else xs k j y (λ e. h (ap suc e))
-
-pub nat_cases : (j k : ℕ) → (j ≡ k) ⊎ (j ≡ k → ⊥)
-nat_cases j k = by (nat_eq j k) refl
-  where
-    by : (b : Bool) → nat_eq j k ≡ b → (j ≡ k) ⊎ (j ≡ k → ⊥)
-    by true e = inl (eqb-true j k e)
-    by false e = inr (eqb-false j k e)
-
-pub got : {A : Type 0} (xs : List A) (i : ℕ) (d : A) → i < length xs → slice_get xs i ≡ Some (get_or xs i d)
-got [] i d h = absurd (omega (arith, h))
-got (x ∷ xs) zero d h = refl
-got (x ∷ xs) (suc i) d h = got xs i d (omega (arith, h))

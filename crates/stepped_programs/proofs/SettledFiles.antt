@@ -1,5 +1,5 @@
 -- Files stay settled after a step whose file is put into a program.
-use Rattle.std.proofs.Common.{◌≡◌, ◌∙◌, refl, sym, ap, subst, ℕ, Bool, true, List}
+use Rattle.std.proofs.Common.{◌≡◌, sym, subst, ℕ, true, List}
 use Rattle.go_tree.specs.declared.spans.Span.{Span}
 use Rattle.pkg_graph.specs.Reads.{Source}
 use Rattle.mark_values.specs.Tables.{DeclKey, same_key}

@@ -9,12 +9,11 @@ use Rattle.pkg_graph.specs.Reads.{Source}
 use Rattle.pkg_graph.specs.Views.{package_view}
 use Rattle.file_names.specs.Imports.{FindsPackages}
 use Rattle.loaded_programs.proofs.AsRead.{order_with}
-use Rattle.member_uses.specs.Laws.{AllConstants}
 use Rattle.module_marks.specs.Tables.{IsTableOf}
 use Rattle.module_marks.specs.declared.table.MarkTable.{MarkTable}
 use Rattle.next_file.specs.declared.file.NewFile.{NewFile}
 use Rattle.programs.specs.Kept.{IsKeptFile, text_with}
-use Rattle.programs.specs.Programs.{IsProgramOf, TellsValues}
+use Rattle.programs.specs.Programs.{IsProgramOf}
 use Rattle.programs.specs.declared.state.PackageFiles.{PackageFiles}
 use Rattle.programs.specs.declared.state.Program.{Program}
 use Rattle.run_by_steps.specs.RunProgress.Laws.{are_paths_apart}

@@ -28,7 +28,8 @@ use Rattle.run_rules.specs.Surroundings.{Place, is_old}
 use Rattle.searched_sites.specs.SwappedParts.Swaps.{PartsSwap, parts_in, spans_in}
 use Rattle.searched_sites.proofs.SwappedParts.Decls.{swap_parts}
 use Rattle.searched_sites.proofs.ToldOrigins.Parts.{is_new}
-use Rattle.stepped_programs.proofs.LoneUses.{same_named, is_same, itself, standing, parts_stand, local, stands_alone}
+use Rattle.searched_sites.proofs.SwappedParts.Keeps.{spans_of}
+use Rattle.searched_sites.proofs.ToldOrigins.Told.{same_named, is_same, itself, standing, parts_stand, local, stands_alone}
 use Rattle.standing_uses.specs.ImportUses.Parts as parts
 use Rattle.standing_uses.specs.ImportUses.Parts.{IsName}
 use Rattle.standing_uses.specs.Laws.{IsNamedOnce}
@@ -148,11 +149,6 @@ module _ (z : Span) (e : Expr Span) where
 
 -- ---- parts with where they come from
 
-spans_of : {e new : Expr At} (old now : List (Candidate At)) (s : PartsSwap e new old now) → spans_in old ≡ map part_span s.front ++ (spans_in (after_expr e []) ++ map part_span s.back)
-spans_of {e = e} old now s =
-    ap (map part_span) s.old_is ∙ map-append part_span s.front (parts_in (after_expr e []) ++ s.back)
-    ∙ ap (λ (l : List At). map part_span s.front ++ l) (map-append part_span (parts_in (after_expr e [])) s.back)
-
 abbrev moved : Part At → Part Span
 moved p = (candidate_with here_of (record { part = p; key = false })).part
 
@@ -172,7 +168,7 @@ module _ (at : At) (q : Option (List ℕ)) (word : List ℕ) (old now : List (Ca
 
   origins_both : (e : Expr At) (s : PartsSwap e new old now) → map origin_of (spans_in old) ≡ from s.front ++ (map origin_of (spans_in (after_expr e [])) ++ from s.back)
   origins_both e s =
-      ap (map origin_of) (spans_of old now s)
+      ap (map origin_of) (spans_of (λ a. true) old now s)
       ∙ map-append origin_of (map part_span s.front) (spans_in (after_expr e []) ++ map part_span s.back)
       ∙ ap (λ (l : List Span). from s.front ++ l) (map-append origin_of (spans_in (after_expr e [])) (map part_span s.back))
 

@@ -1,6 +1,6 @@
 -- The laws of programs after steps. Each is the contract of a function of this crate (Go specification, Packages;
 -- Source file organization; Constant declarations; Declarations and scope; Qualified identifiers).
-use Rattle.std.specs.Prelude.{◌≡◌, ℕ, ◌+◌, ◌<◌, ◌≤◌, ◌^◌, Bool, true, false, ◌&&◌, nat_eq, is_some, List, map, length, Option, Some, slice_get}
+use Rattle.std.specs.Prelude.{◌≡◌, ℕ, ◌+◌, ◌<◌, ◌≤◌, ◌^◌, Bool, true, is_some, List, map, length, Option, Some, slice_get}
 use Rattle.go_tree.specs.Tree.{NameAt, Expr}
 use Rattle.go_tree.specs.File.{Decl}
 use Rattle.go_tree.specs.FileView.{file_of}
@@ -9,24 +9,20 @@ use Rattle.go_tree.specs.declared.spans.Span.{Span}
 use Rattle.pkg_graph.specs.Members.{package_block}
 use Rattle.pkg_graph.specs.Reads.{Source}
 use Rattle.pkg_graph.specs.Views.{package_view}
-use Rattle.pkg_graph.specs.declared.packages.Package as code
-use Rattle.pkg_graph.specs.declared.packages.SourceTree as code_tree
 use Rattle.place_meanings.specs.Parts.{AllScoped}
 use Rattle.possible_uses.specs.Among.{Keyed}
 use Rattle.possible_uses.specs.Parts.{parts_of}
 use Rattle.constant_forms.specs.Views.{name_expr}
 use Rattle.cycle_runs.specs.Linked.{Linked}
 use Rattle.marked_runs.specs.KeptMarks.Over.{IsOverName}
-use Rattle.mark_values.specs.Tables.{DeclKey, Known, same_key, values_at}
-use Rattle.member_uses.specs.Laws.{AllConstants}
+use Rattle.mark_values.specs.Tables.{DeclKey, same_key}
 use Rattle.next_file.specs.declared.file.NewFile.{NewFile}
 use Rattle.next_file.specs.Files.{text_of}
 use Rattle.package_search.specs.declared.looks.ProgramSources.{ProgramSources}
 use Rattle.package_search.specs.declared.search.FoundInPackage.{FoundInPackage}
 use Rattle.programs.specs.PartOrigins.Laws.{decls_origins}
 use Rattle.programs.specs.PartOrigins.Spans.{part_spans}
-use Rattle.programs.specs.FileValues.Filled.{HasFileValues}
-use Rattle.programs.specs.Programs.{IsProgramOf, TellsValues}
+use Rattle.programs.specs.Programs.{IsProgramOf}
 use Rattle.programs.specs.TextsOfPackages.Given.{kept_at}
 use Rattle.programs.specs.Users.{is_user}
 use Rattle.programs.specs.declared.state.Program.{Program}

@@ -10,8 +10,6 @@ mod steps;
 mod swapped;
 mod texts;
 
-pub use laws::{
-    origins_are_swapped, steps_keep_programs, steps_keep_settled, steps_may_be_put,
-};
+pub use laws::{origins_are_swapped, steps_keep_programs, steps_keep_settled, steps_may_be_put};
 pub use place::StepPlace;
 pub use steps::{put_step, step_origins};
