@@ -32,35 +32,35 @@ use Rattle.searched_sites.specs.KeptPrograms.Laws.{ProgramsAreOpen, SearchedProg
 -- ---- lists
 
 -- there is an entry
-record There {A : Type 0} (xs : List A) (k : ℕ) : Type 0 where
-  entry : A
-  is : slice_get xs k ≡ Some entry
+pub record There {A : Type 0} (xs : List A) (k : ℕ) : Type 0 where
+  pub entry : A
+  pub is : slice_get xs k ≡ Some entry
 
-there : {A : Type 0} (xs : List A) (k : ℕ) → k < length xs → There xs k
+pub there : {A : Type 0} (xs : List A) (k : ℕ) → k < length xs → There xs k
 there [] k h = absurd (omega (arith, h))
 there (x ∷ xs) zero h = record { entry = x; is = refl }
 there (x ∷ xs) (suc k) h = let t = there xs k (omega (arith, h)) in record { entry = t.entry; is = t.is }
 
-set_here : {A : Type 0} (xs : List A) (k : ℕ) (y : A) → k < length xs → slice_get (slice_set xs k y) k ≡ Some y
+pub set_here : {A : Type 0} (xs : List A) (k : ℕ) (y : A) → k < length xs → slice_get (slice_set xs k y) k ≡ Some y
 set_here [] k y h = absurd (omega (arith, h))
 set_here (x ∷ xs) zero y h = refl
 set_here (x ∷ xs) (suc k) y h = set_here xs k y (omega (arith, h))
 
-set_else : {A : Type 0} (xs : List A) (k j : ℕ) (y : A) → (j ≡ k → ⊥) → slice_get (slice_set xs k y) j ≡ slice_get xs j
+pub set_else : {A : Type 0} (xs : List A) (k j : ℕ) (y : A) → (j ≡ k → ⊥) → slice_get (slice_set xs k y) j ≡ slice_get xs j
 set_else [] k j y h = refl
 set_else (x ∷ xs) zero zero y h = absurd (h refl)
 set_else (x ∷ xs) zero (suc j) y h = refl
 set_else (x ∷ xs) (suc k) zero y h = refl
 set_else (x ∷ xs) (suc k) (suc j) y h = set_else xs k j y (λ e. h (ap suc e))
 
-nat_cases : (j k : ℕ) → (j ≡ k) ⊎ (j ≡ k → ⊥)
+pub nat_cases : (j k : ℕ) → (j ≡ k) ⊎ (j ≡ k → ⊥)
 nat_cases j k = by (nat_eq j k) refl
   where
     by : (b : Bool) → nat_eq j k ≡ b → (j ≡ k) ⊎ (j ≡ k → ⊥)
     by true e = inl (eqb-true j k e)
     by false e = inr (eqb-false j k e)
 
-got : {A : Type 0} (xs : List A) (i : ℕ) (d : A) → i < length xs → slice_get xs i ≡ Some (get_or xs i d)
+pub got : {A : Type 0} (xs : List A) (i : ℕ) (d : A) → i < length xs → slice_get xs i ≡ Some (get_or xs i d)
 got [] i d h = absurd (omega (arith, h))
 got (x ∷ xs) zero d h = refl
 got (x ∷ xs) (suc i) d h = got xs i d (omega (arith, h))

@@ -117,6 +117,10 @@ module _ (marks : List MarkRef) (st : Standing) (l : Logged) (after : Standing) 
         imports_are = k.imports_are ∙ sym imports_same;
       }
 
+  pub named_stay : (f : Names) (k : Knows here_of (file_with here_of) st.packages w f) → k.names ≡ names_standing st.packages w → (knows_stay f k).names ≡ names_standing after.packages v
+  unfolding knows_stay
+  named_stay f k e = e ∙ sym names_same
+
   -- ---- its text
 
   own_at : FileAt st.packages own.number own.file_number own.source

@@ -27,7 +27,7 @@ module _ (P : At → Bool) where
   of_name at None n h = (h, tt)
   of_name at (Some q) n h = (h, (h, tt))
 
-  spans_of : {e new : Expr At} (old now : List (Candidate At)) (s : PartsSwap e new old now) → spans_in old ≡ map part_span s.front ++ (spans_in (after_expr e []) ++ map part_span s.back)
+  pub spans_of : {e new : Expr At} (old now : List (Candidate At)) (s : PartsSwap e new old now) → spans_in old ≡ map part_span s.front ++ (spans_in (after_expr e []) ++ map part_span s.back)
   spans_of {e = e} old now s =
       ap (map part_span) s.old_is ∙ map-append part_span s.front (parts_in (after_expr e []) ++ s.back)
       ∙ ap (λ (l : List At). map part_span s.front ++ l) (map-append part_span (parts_in (after_expr e [])) s.back)

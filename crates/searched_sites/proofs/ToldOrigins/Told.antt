@@ -46,7 +46,7 @@ use Rattle.searched_sites.proofs.ToldOrigins.Parts.{comes_in, use_like, is_new, 
 -- ---- names among parts
 
 -- the two spans of a name are one
-same_named : (x : Part Span) → named_span x ≡ span_named x
+pub same_named : (x : Part Span) → named_span x ≡ span_named x
 same_named (an_expr (ident s n)) = refl
 same_named (an_expr (int_lit s n)) = refl
 same_named (an_expr (rune_lit s n)) = refl
@@ -63,10 +63,10 @@ same_named (an_expr (binary s o a b)) = refl
 same_named (an_expr (star s e)) = refl
 same_named (a_type_part t) = refl
 
-is_same : (a b : Span) → same_span a b ≡ true → a ≡ b
+pub is_same : (a b : Span) → same_span a b ≡ true → a ≡ b
 is_same a b e = grind (arith, nat_tests, e)
 
-itself : (a : Span) → same_span a a ≡ true
+pub itself : (a : Span) → same_span a a ≡ true
 itself a = grind (arith, nat_tests)
 
 -- a name at the span
@@ -92,7 +92,7 @@ own_elsewhere q x o h = ap (λ (r : Option Span). given r (λ s. if same_span q 
 abbrev origins_of : List (Candidate At) → List Span
 origins_of cs = map (λ c. origin_of (part_span c.part)) cs
 
-abbrev standing : List (Candidate At) → List (Candidate Span)
+abbrev pub standing : List (Candidate At) → List (Candidate Span)
 standing cs = map (candidate_with here_of) cs
 
 module _ (q : Span) (e : Expr At) (named : span_named (an_expr (expr_with here_of e)) ≡ Some q) where
@@ -162,7 +162,7 @@ nothing_told q (c ∷ cs) h =
     ap (λ (o : Option Span). or_else o (first_origin q (standing cs) (origins_of cs))) (own_elsewhere q (candidate_with here_of c).part (origin_of (part_span c.part)) h.0)
     ∙ nothing_told q cs h.1
 
-parts_stand : (d : Decl At) → parts_of (decl_with here_of d) ≡ standing (parts_of d)
+pub parts_stand : (d : Decl At) → parts_of (decl_with here_of d) ≡ standing (parts_of d)
 parts_stand d = after_decl-stays here_of d []
 
 has_in_all : {e : Expr Span} (ds : List (Decl At)) (i : ℕ) (d : Decl At) → slice_get ds i ≡ Some d → Has e (parts_of (decl_with here_of d)) → Has e (all_parts (decls_with here_of ds))
@@ -218,7 +218,7 @@ module _ (among : PartsAreAmongAll At) (marks : List MarkRef) (st : Standing) (x
   is_seen : Among (seen x.place x.use_ e) (decl_seen st.packages x.at.number x.at.of x.at.source.tree d)
   is_seen = seat.is_seen e part d decl_is
 
-  local : BlockIsLocal x.place
+  pub local : BlockIsLocal x.place
   local = one_part here_of (λ q at. BlockIsLocal q) is_seen (blocks_local At here_of st.packages x.at old x.decl d reads decl_is scoped)
 
   has : Has e (parts_of d)
@@ -242,7 +242,7 @@ module _ (among : PartsAreAmongAll At) (marks : List MarkRef) (st : Standing) (x
   its_own : StandsAlone z (expr_with here_of e) (parts_of (decl_with here_of d))
   its_own = alone_in_one z (expr_with here_of e) (decl_with here_of d) inside.0 inside.1 inside.2 named its_part
 
-  stands_alone : StandsAlone z (expr_with here_of e) (standing (parts_of d))
+  pub stands_alone : StandsAlone z (expr_with here_of e) (standing (parts_of d))
   stands_alone = subst (StandsAlone z (expr_with here_of e)) (parts_stand d) its_own
 
   in_decl : first_origin z (parts_of (decl_with here_of d)) (part_origins d) ≡ Some (origin_of (expr_span e))

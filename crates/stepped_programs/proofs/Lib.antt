@@ -1,0 +1,16 @@
+pub mod Lists
+pub mod Packages
+pub mod Files
+pub mod Kept
+pub mod ComeFrom
+pub mod SwappedParts
+pub mod Held
+pub mod Found
+pub mod Filled
+pub mod Stepped
+pub mod Unsettling
+pub mod Rests
+pub mod Whole
+pub mod LeftFlags
+pub mod Asked
+pub mod SettledFiles

@@ -1,0 +1,5 @@
+pub mod Texts
+pub mod Flags
+pub mod SwappedOrigins
+pub mod Steps
+pub mod Laws

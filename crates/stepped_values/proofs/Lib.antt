@@ -1,0 +1,9 @@
+pub mod Places
+pub mod DeclaredAs
+pub mod Said
+pub mod Others
+pub mod Held
+pub mod Flags
+pub mod Constants
+pub mod FileValues
+pub mod Steps

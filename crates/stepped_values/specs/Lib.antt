@@ -1,0 +1,5 @@
+pub mod OfSteps
+pub mod Held
+pub mod Laws
+pub mod Flags
+pub mod Filled
