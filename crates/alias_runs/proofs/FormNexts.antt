@@ -29,6 +29,7 @@ use Rattle.constant_steps.proofs.PlainImports.{Distinct, distinct_sources}
 use Rattle.constant_steps.specs.QualifiedSteps.NamedUse.{PackageStands}
 use Rattle.cycle_runs.specs.ImportCycles.OtherImports.{PackagesBeside, FileUnder}
 use Rattle.cycle_runs.specs.ImportCycles.ImportSteps.{file_added, packages_added, where_added, decl_put}
+use Rattle.cycle_runs.proofs.ImportCycles.FreeIdentifiers.{looked-up-within}
 use Rattle.cycle_runs.proofs.ImportCycles.ImportStep.{placed, twice, added-same}
 use Rattle.cycle_runs.proofs.ImportCycles.ImportsAdded.{path-stays, reads-added}
 use Rattle.cycle_runs.proofs.ImportCycles.LeadAlike.{same-beside}
@@ -107,7 +108,7 @@ module _ (marks : List MarkRef) (st : Standing) (l : Logged) (after : Standing) 
         path = refl;
         name = refl;
         files = one-changed (FileUnder rs mid) added-itself (with_tree (file_added n.found)) x.at.file_number x.at.of.files x.at.source here.file_is
-            (record { decls = refl; imports = λ k d e m i. reads-added marks st l after n names.new_names k d e m i });
+            (record { decls = refl; imports = λ k d e m i. reads-added marks st l after n names.new_names k d e m (looked-up-within d m i) });
       })
 
   -- ---- the file is read again, with these imports
@@ -131,7 +132,7 @@ module _ (marks : List MarkRef) (st : Standing) (l : Logged) (after : Standing) 
               decls = refl;
               imports = λ k d e m i.
                   paths-alike (trees-alike (file_added n.found) n.tree) (import_specs n.tree) m
-                  ∙ names.kept_names k d e m i
+                  ∙ names.kept_names k d e m (looked-up-within d m i)
                   ∙ sym (paths-alike (trees-alike (file_added n.found) tree_read) (import_specs (file_added n.found)) m);
             });
       })

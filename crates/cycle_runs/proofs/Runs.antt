@@ -21,24 +21,25 @@ use Rattle.cycle_runs.proofs.StepCycles.CallsKept.{step-led}
 use Rattle.cycle_laws.specs.PutCalls.{mark_there}
 use Rattle.cycle_laws.specs.PutSteps.{KeepsStatements, ReadCallsAlikeIn}
 use Rattle.cycle_runs.specs.ImportCycles.ImportSteps.{file_added, packages_added, where_added}
+use Rattle.cycle_runs.proofs.ImportCycles.FreeIdentifiers.{looked-up-within}
 use Rattle.cycle_runs.proofs.ImportCycles.ImportStep.{added-same}
 use Rattle.cycle_runs.proofs.ImportCycles.ImportsAdded.{new-names-read}
 use Rattle.cycle_runs.proofs.ImportCycles.LeadAlike.{same-beside}
 use Rattle.cycle_runs.proofs.ImportCycles.NamesReadAlike.{identifiers-read-alike}
 use Rattle.cycle_runs.proofs.OrderCycles.StepAdded.{added-declare}
 use Rattle.cycle_runs.specs.OrderCycles.Orders.{AllOrdered}
-use Rattle.cycle_runs.specs.OrderCycles.NewNames.{NamesByPath}
-use Rattle.cycle_runs.specs.OrderCycles.Steps.{site_added, KeepsImportNames}
+use Rattle.cycle_runs.specs.OrderCycles.NewNames.{NamesByPath, FewNames}
+use Rattle.cycle_runs.specs.OrderCycles.Steps.{site_added, KeepsImportNames, KeepsImportLookUps}
 use Rattle.cycle_runs.proofs.OrderCycles.NamesAdded.{adds-new-names}
 use Rattle.cycle_runs.proofs.OrderCycles.StepSettled.{step-keeps}
 use Rattle.cycle_runs.proofs.OrderCycles.ConstantSteps.{constants-kept, aliases-kept}
 use Rattle.cycle_runs.specs.OrderedSteps.Laws.{ReadModulesAreOrdered}
 use Rattle.cycle_runs.proofs.OrderedSteps.Modules.{module-paths}
 use Rattle.cycle_runs.proofs.OrderedSteps.Steps.{steps-ordered, steps-own}
-use Rattle.cycle_runs.specs.KeptImports.Files.{IsSettled}
-use Rattle.cycle_runs.proofs.KeptImports.Kept.{is-settled, no-more, keeps-names}
+use Rattle.cycle_runs.specs.KeptImports.Files.{IsSettled, RemovesNoLookUps}
+use Rattle.cycle_runs.proofs.KeptImports.Kept.{is-settled, no-more, keeps-names, keeps-look-ups}
 use Rattle.cycle_runs.proofs.FoundUses.NoRecursive.{step-off}
-use Rattle.cycle_runs.specs.Linked.{Linked, SettlesFile, PutsWhatStood, CallsWhatStood, AllPut}
+use Rattle.cycle_runs.specs.Linked.{Linked, WritesFile, SettlesFile, PutsWhatStood, CallsWhatStood, AllPut}
 use Rattle.cycle_runs.proofs.Leads.{still-leads, through-alike}
 use Rattle.cycle_runs.proofs.Paths.{names-by-path, module-some, changed-some}
 
@@ -52,12 +53,12 @@ module-linked ordered files ps texts r = record {
   ordered = ordered files ps texts r;
 }
 
-module _ (marks : List MarkRef) (st : Standing) (l : Logged) (after : Standing) (n : Next marks st l after) (h : Linked st.packages) (s : SettlesFile n) where
-  settled-so : IsSettled n
-  settled-so = is-settled marks st l after n s.puts s.writable
+module _ (marks : List MarkRef) (st : Standing) (l : Logged) (after : Standing) (n : Next marks st l after) (h : Linked st.packages) (s : WritesFile n) where
+  pub written-so : IsSettled n
+  written-so = is-settled marks st l after n s.puts s.writable
 
-  both-ordered : AllOrdered (packages_added st.packages n.found) × AllOrdered after.packages
-  both-ordered = steps-ordered marks st l after n h.own h.ordered s.led (no-more marks st l after n settled-so)
+  pub both-written : AllOrdered (packages_added st.packages n.found) × AllOrdered after.packages
+  both-written = steps-ordered marks st l after n h.own h.ordered s.led (no-more marks st l after n written-so)
 
   abbrev with_tree : File At → SourceTree At → SourceTree At
   with_tree t f = record f { tree = t }
@@ -67,8 +68,38 @@ module _ (marks : List MarkRef) (st : Standing) (l : Logged) (after : Standing) 
     own = steps-own marks st l after n h.own;
     paths = subst (λ (qs : List (Package At)). (k : ℕ) (p : Package At) → slice_get qs k ≡ Some p → p.path ≡ [] → ⊥) (sym n.packages_are)
         (changed-some (λ p. record p { files = change_nth n.found.site.at.file_number (with_tree n.tree) p.files }) (λ p. refl) n.found.site.at.number st.packages h.paths);
-    ordered = both-ordered.1;
+    ordered = both-written.1;
   }
+
+  pub step-look-ups : FewNames st.packages n.found → RemovesNoLookUps n → KeepsImportLookUps n
+  step-look-ups few removes = record {
+    new_names = adds-new-names marks st l after n few (linked-names st.packages h);
+    kept_names = keeps-look-ups marks st l after n written-so few (linked-names st.packages h) removes;
+    ordered = h.ordered;
+    ordered_added = both-written.0;
+    ordered_after = both-written.1;
+  }
+
+-- what a step writes that settles its file
+pub writes-of : {marks : List MarkRef} {st : Standing} {l : Logged} {after : Standing} {n : Next marks st l after} → SettlesFile n → WritesFile n
+writes-of s = record { puts = s.puts; writable = s.writable; led = s.led }
+
+-- where identifiers are kept, so is what is looked up
+pub look-ups-of : {marks : List MarkRef} {st : Standing} {l : Logged} {after : Standing} {n : Next marks st l after} → KeepsImportNames n → KeepsImportLookUps n
+look-ups-of h = record {
+  new_names = h.new_names;
+  kept_names = λ k d e m i. h.kept_names k d e m (looked-up-within d m i);
+  ordered = h.ordered;
+  ordered_added = h.ordered_added;
+  ordered_after = h.ordered_after;
+}
+
+module _ (marks : List MarkRef) (st : Standing) (l : Logged) (after : Standing) (n : Next marks st l after) (h : Linked st.packages) (s : SettlesFile n) where
+  settled-so : IsSettled n
+  settled-so = written-so marks st l after n h (writes-of s)
+
+  both-ordered : AllOrdered (packages_added st.packages n.found) × AllOrdered after.packages
+  both-ordered = both-written marks st l after n h (writes-of s)
 
   pub step-names : KeepsImportNames n
   step-names = record {
@@ -117,4 +148,4 @@ module _ (marks : List MarkRef) (st : Standing) (l : Logged) (after : Standing) 
 pub run-keeps : (marks : List MarkRef) (st last : Standing) (log : List Logged) (run : Run marks st log last) → Linked st.packages → AllPut run → (m : MarkRef) → is_recursive st.packages marks m ≡ is_recursive last.packages marks m
 run-keeps marks _ _ _ (ends st over) h a m = refl
 run-keeps marks _ _ _ (goes_on st next last l log n run) h a m =
-    one-step marks st l next n h a.0 a.1.0 m ∙ run-keeps marks next last log run (step-linked marks st l next n h a.0) a.1.1 m
+    one-step marks st l next n h a.0 a.1.0 m ∙ run-keeps marks next last log run (step-linked marks st l next n h (writes-of a.0)) a.1.1 m

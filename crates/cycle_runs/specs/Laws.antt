@@ -16,9 +16,10 @@ use Rattle.run_rules.specs.Inlining.{ModuleReads, standing_as_read}
 use Rattle.cycle_laws.specs.ConstantCycles.Laws.{NamesFor, TypesFor}
 use Rattle.cycle_runs.specs.StepCycles.Steps.{StandsAtEnds, UsesAtEnds}
 use Rattle.cycle_runs.specs.ImportCycles.ImportSteps.{packages_added}
-use Rattle.cycle_runs.specs.OrderCycles.NewNames.{NamesByPath}
-use Rattle.cycle_runs.specs.OrderCycles.Steps.{site_added, KeepsImportNames}
-use Rattle.cycle_runs.specs.Linked.{Linked, SettlesFile, PutsWhatStood, CallsWhatStood, AllPut}
+use Rattle.cycle_runs.specs.OrderCycles.NewNames.{NamesByPath, FewNames}
+use Rattle.cycle_runs.specs.KeptImports.Files.{RemovesNoLookUps}
+use Rattle.cycle_runs.specs.OrderCycles.Steps.{site_added, KeepsImportNames, KeepsImportLookUps}
+use Rattle.cycle_runs.specs.Linked.{Linked, WritesFile, SettlesFile, PutsWhatStood, CallsWhatStood, AllPut}
 
 -- The packages of a module that reads are linked.
 abbrev pub ReadModulesAreLinked : Type 0
@@ -26,21 +27,28 @@ ReadModulesAreLinked =
     (files : List Source) (ps : List (Package Span)) (texts : List (List ℕ × FileText)) → ModuleReads files ps texts
     → Linked (standing_as_read ps texts).packages
 
--- They stay so after a step that settles its file.
+-- They stay so after a step that writes its file.
 abbrev pub StepsStayLinked : Type 0
 StepsStayLinked =
     (marks : List MarkRef) (st : Standing) (l : Logged) (after : Standing) (n : Next marks st l after)
-    → Linked st.packages → SettlesFile n → Linked after.packages
+    → Linked st.packages → WritesFile n → Linked after.packages
 
 -- Each package of linked packages has the name that its path has.
 abbrev pub LinkedNamesByPath : Type 0
 LinkedNamesByPath = (ps : List (Package At)) → Linked ps → NamesByPath ps
 
--- Such a step keeps the names of imports.
+-- A step that settles its file keeps the names of imports.
 abbrev pub StepsKeepImportNames : Type 0
 StepsKeepImportNames =
     (marks : List MarkRef) (st : Standing) (l : Logged) (after : Standing) (n : Next marks st l after)
     → Linked st.packages → SettlesFile n → KeepsImportNames n
+
+-- One that writes its file keeps the names that are looked up, if the names to avoid are fewer than 2^64 and no import
+-- that goes has such a name.
+abbrev pub StepsKeepImportLookUps : Type 0
+StepsKeepImportLookUps =
+    (marks : List MarkRef) (st : Standing) (l : Logged) (after : Standing) (n : Next marks st l after)
+    → Linked st.packages → WritesFile n → FewNames st.packages n.found → RemovesNoLookUps n → KeepsImportLookUps n
 
 -- ---- cycles
 

@@ -27,7 +27,14 @@ pub record Linked (ps : List (Package At)) : Type 0 where
   pub ordered : AllOrdered ps
 
 -- The step's form is laid out in the place of a node; its added imports can be written, and imports lead to their
--- packages already; the names to avoid are fewer than 2^64; and no import that goes has the name of an identifier.
+-- packages already.
+pub record WritesFile {marks : List MarkRef} {st : Standing} {l : Logged} {after : Standing}
+    (n : Next marks st l after) : Type 0 where
+  pub puts : PutsNode n
+  pub writable : AreWritable (imports_added n.found.named)
+  pub led : AddsLedTo st.packages n.found
+
+-- So it is, the names to avoid are fewer than 2^64, and no import that goes has the name of an identifier.
 pub record SettlesFile {marks : List MarkRef} {st : Standing} {l : Logged} {after : Standing}
     (n : Next marks st l after) : Type 0 where
   pub puts : PutsNode n

@@ -1,6 +1,6 @@
 //! Laws of the imports of a file as a step leaves it.
 
-ghost use Rattle.cycle_runs.specs.KeptImports.Laws.{FilesAreSettled, FilesImportNoMore, NamesAreKept};
+ghost use Rattle.cycle_runs.specs.KeptImports.Laws.{FilesAreSettled, FilesImportNoMore, LookUpsAreKept, NamesAreKept};
 
 /// Where a step's form is laid out in the place of a node, its file as read again imports what it
 /// imported, but what the step removes, and what the step adds, and nothing else.
@@ -10,7 +10,10 @@ pub fn files_are_settled()
 {}
 
 /// Then each identifier of the file is the name of the same import as with the step's imports added, or
-/// of none, if no import that goes has the name of an identifier that stands in the file.
+/// of none, if no import that goes has the name of an identifier that stands in the file. Each name that
+/// its declarations look up is so, if no import that goes has the name of one of these: what is behind a
+/// dot, or declared around its use in a body, isn't asked.
 pub fn names_are_kept()
-    ensures { NamesAreKept }
+    ensures identifiers { NamesAreKept }
+    ensures look_ups { LookUpsAreKept }
 {}

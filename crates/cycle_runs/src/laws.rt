@@ -1,6 +1,7 @@
 //! Laws of runs and of the cycles of marked functions.
 
-ghost use Rattle.cycle_runs.specs.Laws.{ReadModulesAreLinked, StepsStayLinked, LinkedNamesByPath, StepsKeepImportNames};
+ghost use Rattle.cycle_runs.specs.Laws.{ReadModulesAreLinked, StepsStayLinked, LinkedNamesByPath};
+ghost use Rattle.cycle_runs.specs.Laws.{StepsKeepImportLookUps, StepsKeepImportNames};
 ghost use Rattle.cycle_runs.specs.Laws.{StepsKeepCycles, RunsKeepCycles, ConstantStepsKeepCycles};
 ghost use Rattle.cycle_runs.specs.Laws.{AliasStepsKeepCycles, CallStepsKeepCycles};
 
@@ -8,12 +9,14 @@ use crate::ordered_steps::read_modules_are_ordered;
 
 /// The packages of a module that reads stand in dependency order, each under a path of its own; a step
 /// whose added imports are led to, and whose file is settled as its text says, keeps that, and each
-/// identifier is the name of the same import before and after.
+/// identifier is the name of the same import before and after. So is each name that is looked up, if no
+/// import that goes has the name of one.
 pub fn packages_stay_linked()
     ensures read { ReadModulesAreLinked }
     ensures stay { StepsStayLinked }
     ensures named { LinkedNamesByPath }
     ensures names { StepsKeepImportNames }
+    ensures look_ups { StepsKeepImportLookUps }
 {
     read_modules_are_ordered();
 }

@@ -8,3 +8,4 @@ pub mod KeptMarks
 pub mod TakenNames
 pub mod SoundImports
 pub mod PutForms
+pub mod LinkedMembers

@@ -1,5 +1,5 @@
 -- A run over marked constants from a module that reads.
-use Rattle.std.proofs.Common.{◌≡◌, ◌∙◌, sym, true, List, []}
+use Rattle.std.proofs.Common.{◌≡◌, ◌∙◌, sym, true, List}
 use Rattle.std.specs.List.{list_all}
 use Rattle.go_words.specs.Tokens.Characters.{each}
 use Rattle.import_splices.specs.AddedFile.{is_byte}
@@ -20,10 +20,10 @@ use Rattle.run_rules.specs.Sites.{MarkRef}
 use Rattle.run_rules.specs.Run.{Standing, Logged, Next, Run, ends, goes_on, here_of}
 use Rattle.order_runs.specs.RunSteps.RunPackages.{members_of}
 use Rattle.marked_runs.specs.NamedMarks.Named.{AllNamed}
-use Rattle.marked_runs.specs.SettledConstants.Programs.{IsReady, IsOverConstant}
-use Rattle.cycle_runs.specs.OrderCycles.Steps.{KeepsImportNames}
+use Rattle.marked_runs.specs.SettledConstants.Programs.{IsReady}
+use Rattle.cycle_runs.specs.OrderCycles.Steps.{KeepsImportLookUps}
 use Rattle.cycle_runs.specs.OrderCycles.NewNames.{NamesByPath, FewNames}
-use Rattle.cycle_runs.proofs.Runs.{linked-names, step-names}
+use Rattle.cycle_runs.proofs.Runs.{linked-names}
 use Rattle.go_tree.specs.declared.spans.Span.{Span}
 use Rattle.pkg_graph.specs.Package.{SourceTree, Package}
 use Rattle.run_rules.specs.Sites.{Where}
@@ -35,13 +35,14 @@ use Rattle.constant_steps.proofs.MarksFound.{StandsThere, stands_there}
 use Rattle.cycle_runs.specs.ImportCycles.ImportSteps.{file_added, packages_added, where_added}
 use Rattle.cycle_runs.proofs.ImportCycles.ImportStep.{placed}
 use Rattle.marked_runs.specs.SoundImports.Laws.{AddedImportsMayBeDeclared}
-use Rattle.marked_runs.specs.SettledConstants.Laws.{ConstantsSettle}
+use Rattle.marked_runs.specs.SettledConstants.Laws.{ConstantsWrite}
 use Rattle.marked_runs.specs.TakenNames.Taken.{TakesName, EachTakes}
 use Rattle.marked_runs.specs.TakenNames.Laws.{StepsStayReady, RunsMeanTheSame, KeptByRun}
-use Rattle.marked_runs.specs.KeptMarks.Laws.{NamedStepsAreOver, StepsKeepNamed}
+use Rattle.marked_runs.specs.KeptMarks.Laws.{StepsKeepNamed}
+use Rattle.marked_runs.proofs.KeptMarks.Kept.{writes, look-ups}
 use Rattle.marked_runs.specs.Marked.{StandsAdded, AllOverNames}
 
-module _ (sound : AddedImportsMayBeDeclared) (marks : List MarkRef) (st : Standing) (l : Logged) (after : Standing) (n : Next marks st l after) (reads : ProgramReads st) (h : StandsAdded n) (names : KeepsImportNames n) (by_path : NamesByPath st.packages) (typed : are_well_typed (members_of st.packages) ≡ true) (few : FewNames st.packages n.found) where
+module _ (sound : AddedImportsMayBeDeclared) (marks : List MarkRef) (st : Standing) (l : Logged) (after : Standing) (n : Next marks st l after) (reads : ProgramReads st) (h : StandsAdded n) (names : KeepsImportLookUps n) (by_path : NamesByPath st.packages) (typed : are_well_typed (members_of st.packages) ≡ true) (few : FewNames st.packages n.found) where
   abbrev w : Where At
   w = n.found.site.at
 
@@ -54,7 +55,7 @@ module _ (sound : AddedImportsMayBeDeclared) (marks : List MarkRef) (st : Standi
   here : Placed here_of (λ (s : Span). Unit {0}) st.packages marks n.found.site
   here = placed marks st l after n
 
-  takes-name : TakesName n
+  pub takes-name : TakesName n
   takes-name =
       let home : StandsThere (packages_added st.packages n.found) n.found.site.mark h.use_.home = stands_there (packages_added st.packages n.found) n.found.site.mark h.use_.home h.use_.home_is in
       record {
@@ -83,15 +84,14 @@ module _ (sound : AddedImportsMayBeDeclared) (marks : List MarkRef) (st : Standi
         imports = h.imports;
       }
 
-module _ (sound : AddedImportsMayBeDeclared) (settles : ConstantsSettle) (step : StepsStayReady) (are_over : NamedStepsAreOver) (keep : StepsKeepNamed) where
+module _ (sound : AddedImportsMayBeDeclared) (write : ConstantsWrite) (step : StepsStayReady) (keep : StepsKeepNamed) where
   -- each step takes its name, and the last program is ready and well typed, its marks those of constants
   pub all-take : (marks : List MarkRef) (st last : Standing) (log : List Logged) (run : Run marks st log last) → AllOverNames run → IsReady st → are_well_typed (members_of st.packages) ≡ true → AllNamed st.packages marks
       → EachTakes run × (IsReady last × ((are_well_typed (members_of last.packages) ≡ true) × AllNamed last.packages marks))
   all-take marks st _ _ (ends _ over) h ready typed named = (tt, (ready, (typed, named)))
   all-take marks st last _ (goes_on _ next _ l log n run) h ready typed named =
-      let over : IsOverConstant n = are_over marks st l next n named h.0 in
-      let takes : TakesName n = takes-name sound marks st l next n ready.reads h.1.0 (step-names marks st l next n ready.links (settles marks st l next n ready over)) (linked-names st.packages ready.links) typed h.0.few in
-      let r = step marks st l next n ready typed over takes in
+      let takes : TakesName n = takes-name sound marks st l next n ready.reads h.1.0 (look-ups marks st l next n h.0 write ready named) (linked-names st.packages ready.links) typed h.0.few in
+      let r = step marks st l next n ready typed (writes marks st l next n h.0 write ready named) takes in
       let rest = all-take marks next last log run h.1.1 r.0 r.1 (keep marks st l next n ready named h.0) in
       ((takes, rest.0), rest.1)
 

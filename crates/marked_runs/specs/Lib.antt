@@ -7,3 +7,4 @@ pub mod KeptMarks
 pub mod TakenNames
 pub mod SoundImports
 pub mod PutForms
+pub mod LinkedMembers

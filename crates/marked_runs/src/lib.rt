@@ -4,6 +4,7 @@
 
 mod kept_marks;
 mod laws;
+mod linked_members;
 mod named_marks;
 mod put_forms;
 mod ready_modules;
@@ -13,6 +14,7 @@ mod taken_names;
 
 pub use kept_marks::marks_stay_named;
 pub use laws::runs_over_marks_keep;
+pub use linked_members::members_are_linked;
 pub use named_marks::{read_marks_are_named, uses_are_marked};
 pub use put_forms::{constants_come_next, forms_of_constants_are_put, values_are_names};
 pub use ready_modules::read_modules_are_ready;

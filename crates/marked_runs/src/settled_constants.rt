@@ -1,7 +1,8 @@
 //! Laws of steps over constants.
 
 ghost use Rattle.marked_runs.specs.SettledConstants.Laws.{ConstantRunsKeepCycles, ConstantUsesAreNames};
-ghost use Rattle.marked_runs.specs.SettledConstants.Laws.{ConstantUsesAreSpelled, ConstantsAddLed, ConstantsKeepCycles, ConstantsSettle};
+ghost use Rattle.marked_runs.specs.SettledConstants.Laws.{ConstantUsesAreSpelled, ConstantsAddLed, ConstantsKeepCycles};
+ghost use Rattle.marked_runs.specs.SettledConstants.Laws.{ConstantsSettle, ConstantsWrite};
 ghost use Rattle.marked_runs.specs.SettledConstants.Laws.{FilesOfUsesAreUndotted, LinkedPackagesAreWritable, StepsStayReady, UsesAreScoped};
 
 use typed_parts::well_typed_files_are_scoped;
@@ -18,17 +19,19 @@ pub fn programs_are_ready()
 }
 
 /// A use of a constant is a name, none of whose identifiers holds the byte 0, so the imports that its form adds are of
-/// packages that are led to; so in such a program a step over a constant that is declared as a name settles its file.
+/// packages that are led to; so in such a program a step over a constant that is declared as a name writes its file,
+/// and settles it where no import that goes has the name of an identifier.
 pub fn constants_settle()
     ensures names { ConstantUsesAreNames }
     ensures spelled { ConstantUsesAreSpelled }
     ensures led { ConstantsAddLed }
+    ensures writes { ConstantsWrite }
     ensures settle { ConstantsSettle }
 {
     well_typed_files_are_scoped();
 }
 
-/// A step that settles its file leaves such a program, where that is well typed; so steps over constants, and runs of
+/// A step that writes its file leaves such a program, where that is well typed; so steps over constants, and runs of
 /// them, keep which marked functions lie on a cycle.
 pub fn constants_keep_cycles()
     ensures ready { StepsStayReady }

@@ -17,8 +17,9 @@ pub fn names_are_taken()
     ensures runs { RunsMeanTheSame }
 {}
 
-/// So a step over a constant in a program that is ready and well typed leaves such a program; and a run of such steps
-/// from a module that reads keeps typing, which marked functions lie on a cycle, and the meaning.
+/// So such a step that writes its file, in a program that is ready and well typed, leaves such a program; and a run of
+/// such steps over constants from a module that reads keeps typing, which marked functions lie on a cycle, and the
+/// meaning.
 pub fn runs_over_constants_keep()
     ensures step { StepsStayReady }
     ensures runs { RunsOverConstantsKeep }

@@ -7,3 +7,5 @@ pub mod StandingForms
 pub mod FormNames
 pub mod DeclaredMembers
 pub mod CountedNames
+pub mod RemovedImports
+pub mod PrintedRuns

@@ -163,7 +163,7 @@ module _ (marks : List MarkRef) (st : Standing) (l : Logged) (after : Standing) 
       by c g (inl s) = subst (λ (y : Decl At). IsPrinted y) (sym s) (old_printed i c g)
       by c g (inr s) = subst (λ (y : Decl At). IsPrinted y) (sym s) (made_printed c (old_printed i c g))
 
-  read_again : (i : ℕ) (d : Decl At) → slice_get n.tree.decls i ≡ Some d → IsPrinted d
+  pub read_again : (i : ℕ) (d : Decl At) → slice_get n.tree.decls i ≡ Some d → IsPrinted d
   read_again i d e =
       let there : slice_get (decls_with origin_of (new_decls same_here st.packages x n.found.form)) i ≡ Some (decl_with origin_of d) =
       sym (ap (λ (f : File Span). slice_get f.decls i) n.origins_are) ∙ nth_mapped (decl_with origin_of) n.tree.decls i d e in

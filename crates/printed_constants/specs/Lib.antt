@@ -5,3 +5,5 @@ pub mod StandingForms
 pub mod FormNames
 pub mod DeclaredMembers
 pub mod CountedNames
+pub mod RemovedImports
+pub mod PrintedRuns

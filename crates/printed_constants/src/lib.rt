@@ -6,12 +6,16 @@ mod counted_names;
 mod declared_members;
 mod form_names;
 mod laws;
+mod printed_runs;
 mod printed_uses;
+mod removed_imports;
 mod standing_forms;
 
-pub use counted_names::printed_files_have_few_names;
+pub use counted_names::{printed_files_have_few_names, printed_steps_avoid_few_names};
 pub use declared_members::constants_name_members;
 pub use form_names::forms_name_no_blank;
 pub use laws::{printed_packages_are_plain, printed_parts_are_simple, steps_stay_printed};
+pub use printed_runs::printed_runs_keep;
 pub use printed_uses::{printed_steps_are_over, printed_uses_are_expressions, printed_uses_stand};
+pub use removed_imports::printed_steps_remove_no_look_ups;
 pub use standing_forms::{first_uses_are_typed, first_uses_have_next, forms_name_no_import};

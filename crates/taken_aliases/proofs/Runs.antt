@@ -7,6 +7,7 @@ use Rattle.go_kernel.specs.Kernel.{FuncName}
 use Rattle.pkg_graph.specs.Package as run
 use Rattle.go_translation.specs.Packages.{are_well_typed}
 use Rattle.cycle_runs.specs.Linked.{SettlesFile}
+use Rattle.cycle_runs.proofs.Runs.{writes-of}
 use Rattle.run_rules.specs.Sites.{MarkRef}
 use Rattle.run_rules.specs.Texts.{FileText}
 use Rattle.run_rules.specs.Respanned.{packages_with}
@@ -54,7 +55,7 @@ module _ (marks : List MarkRef) (st : Standing) (l : Logged) (after : Standing) 
   pub ready-next : settled.StepsStayReady → IsReady st → are_well_typed (members_of st.packages) ≡ true → SettlesFile n → TakesEither n → IsReady after × (are_well_typed (members_of after.packages) ≡ true)
   ready-next stays ready w settles h =
       let typed : are_well_typed (members_of after.packages) ≡ true = typed-next h w in
-      (stays marks st l after n ready settles (linked_typed after.packages typed), typed)
+      (stays marks st l after n ready (writes-of settles) (linked_typed after.packages typed), typed)
 
 pub run-keeps : (marks : List MarkRef) (st last : Standing) (log : List Logged) (run : Run marks st log last) → EachTakesEither run → (marked : List FuncName) → SameProgram (packages_of st.packages marked) (packages_of last.packages marked)
 run-keeps marks st _ _ (ends _ over) h marked = program-itself (packages_of st.packages marked)

@@ -12,6 +12,7 @@ use Rattle.go_tree.specs.File.{ImportDecl, Decl, values, File}
 use Rattle.scope_names.specs.Identifiers.{decl_identifiers}
 use Rattle.pkg_graph.specs.Package.{SourceTree, Package, specs_in, import_specs}
 use Rattle.go_types.specs.Agreement.{In, head, tail}
+use Rattle.cycle_runs.specs.ImportCycles.LookedUp.{decl_looked_up}
 use Rattle.run_rules.specs.Programs.{world}
 use Rattle.run_rules.specs.Naming.{imports_added}
 use Rattle.run_rules.specs.Sites.{MarkRef, sites}
@@ -83,13 +84,11 @@ adds (suc k) d h n i = cc
 declared : world mid ≡ world before
 declared = refl
 
--- the packages stand in the same order, and each identifier is the name of the same import
-same-names : (n : List ℕ) → In n (decl_identifiers the_func) → import_path mid (import_specs (file_added found)) n ≡ import_path before (specs_in (importing (codes "m/h"))) n
+-- the packages stand in the same order, and each name that is looked up is that of the same import
+same-names : (n : List ℕ) → In n (decl_looked_up the_func) → import_path mid (import_specs (file_added found)) n ≡ import_path before (specs_in (importing (codes "m/h"))) n
 same-names _ head = refl
 same-names _ (tail head) = refl
-same-names _ (tail (tail head)) = refl
-same-names _ (tail (tail (tail head))) = refl
-same-names n (tail (tail (tail (tail i)))) = elim i [ ]
+same-names n (tail (tail i)) = elim i [ ]
 
 same-order : SameOrder before mid
 same-order =
@@ -97,8 +96,8 @@ same-order =
     (and_more (record { number = refl; name = refl; files = and_more (record { decls = refl; imports = λ k d e n i. refl }) no_more })
     (and_more (record { number = refl; name = refl; files = and_more (record { decls = refl; imports = in-p }) no_more }) no_more))
   where
-    in-p : (k : ℕ) (d : Decl At) → slice_get (the_func ∷ []) k ≡ Some d → (n : List ℕ) → In n (decl_identifiers d) → import_path mid (import_specs (file_added found)) n ≡ import_path before (specs_in (importing (codes "m/h"))) n
-    in-p zero d h n i = same-names n (subst (λ (d : Decl At). In n (decl_identifiers d)) (sym (same_Some the_func d h)) i)
+    in-p : (k : ℕ) (d : Decl At) → slice_get (the_func ∷ []) k ≡ Some d → (n : List ℕ) → In n (decl_looked_up d) → import_path mid (import_specs (file_added found)) n ≡ import_path before (specs_in (importing (codes "m/h"))) n
+    in-p zero d h n i = same-names n (subst (λ (d : Decl At). In n (decl_looked_up d)) (sym (same_Some the_func d h)) i)
     in-p (suc k) d h n i = cc
 
 added-path : import_path mid (import_specs (file_added found)) (codes "d") ≡ Some (codes "m/d")

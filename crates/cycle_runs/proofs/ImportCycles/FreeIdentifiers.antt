@@ -1,10 +1,12 @@
 -- The free names of a part are among its identifiers: one line a clause.
 use Rattle.std.proofs.Common.{ℕ, ◌⊎◌, inl, inr, Bool, true, false, List, [], ◌∷◌, ◌++◌, Option, Some, None, if◌then◌else◌}
+use Rattle.go_tree.specs.File.{TypeSpec, Receiver, Func, Decl, values, types, func}
 use Rattle.go_tree.specs.Tree.{Param, TypeExpr, named, pointer, slice_type, map_type, struct_type, Fields, no_fields, field, Expr, ident, int_lit, rune_lit, str_lit, composite, selector, index, slice, call, func_lit, type_operand, unary, binary, star, Exprs, no_exprs, expr_and, ExprOption, no_expr, some_expr, Elems, no_elems, elem, Value, plain, braced, ValueOption, no_value, some_value, Stmt, const_decl, var_decl, empty, eval, step, assign, define, return_, break_, continue_, inner, if_, for_, range_, switch, defer, label, Stmts, no_stmts, stmt_and, StmtOption, no_stmt, some_stmt, BlockOption, no_block, some_block, RangeLeft, nothing, assigns, defines, Arms, no_arms, arm, Cases, no_cases, case, ValueSpecs, no_specs, spec}
 use Rattle.scope_names.specs.FreeNames.{unless_declared, names_of, declared, declared_option, arms_declared, defined, sig_names, free_type, free_fields, free_type_option, free_params, free_expr, free_exprs, free_expr_option, free_elems, free_value, free_value_option, free_stmt, free_stmts, free_stmt_option, free_block_option, free_left, free_arms, free_cases, free_specs}
-use Rattle.scope_names.specs.Identifiers.{name_option, type_identifiers, fields_identifiers, type_option_identifiers, params_identifiers, expr_identifiers, exprs_identifiers, expr_option_identifiers, elems_identifiers, value_identifiers, value_option_identifiers, stmt_identifiers, stmts_identifiers, stmt_option_identifiers, block_option_identifiers, left_identifiers, arms_identifiers, cases_identifiers, specs_identifiers}
+use Rattle.scope_names.specs.Identifiers.{name_option, type_identifiers, fields_identifiers, type_option_identifiers, params_identifiers, expr_identifiers, exprs_identifiers, expr_option_identifiers, elems_identifiers, value_identifiers, value_option_identifiers, stmt_identifiers, stmts_identifiers, stmt_option_identifiers, block_option_identifiers, left_identifiers, arms_identifiers, cases_identifiers, specs_identifiers, type_specs_identifiers, receiver_identifiers, sig_identifiers, decl_identifiers}
 use Rattle.go_types.specs.Answers.{is_among}
 use Rattle.go_types.specs.Agreement.{In, head, tail}
+use Rattle.cycle_runs.specs.ImportCycles.LookedUp.{specs_looked_up, types_looked_up, receiver_looked_up, decl_looked_up}
 
 -- each name of the first stands in the second
 abbrev pub Within : List (List ℕ) → List (List ℕ) → Type 0
@@ -160,3 +162,58 @@ module _ {S : Type 0} where
     pub specs-in : (around : List (List ℕ)) (x : ValueSpecs S) → Within (free_specs around x) (specs_identifiers x)
     specs-in around no_specs = none []
     specs-in around (spec _ ns t xs ss) = both-within (free_type_option around t ++ free_exprs around xs) (free_specs (names_of ns ++ around) ss) (names_of ns ++ type_option_identifiers t ++ exprs_identifiers xs) (specs_identifiers ss) (both-within (free_type_option around t) (free_exprs around xs) (names_of ns ++ type_option_identifiers t) (exprs_identifiers xs) (behind (free_type_option around t) (names_of ns) (type_option_identifiers t) (written-in around t)) (exprs-in around xs)) (specs-in (names_of ns ++ around) ss)
+
+  -- ---- the names that a declaration looks up
+
+  values-within : (ss : ValueSpecs S) → Within (specs_looked_up ss) (specs_identifiers ss)
+  values-within no_specs = none []
+  values-within (spec _ ns t xs ss) = both-within (free_type_option [] t ++ free_exprs [] xs) (specs_looked_up ss) (names_of ns ++ type_option_identifiers t ++ exprs_identifiers xs) (specs_identifiers ss) (both-within (free_type_option [] t) (free_exprs [] xs) (names_of ns ++ type_option_identifiers t) (exprs_identifiers xs) (behind (free_type_option [] t) (names_of ns) (type_option_identifiers t) (written-in [] t)) (exprs-in [] xs)) (values-within ss)
+
+  types-within : (ts : List (TypeSpec S)) → Within (types_looked_up ts) (type_specs_identifiers ts)
+  types-within [] = none []
+  types-within (t ∷ ts) = both-within (free_type [] t.of) (types_looked_up ts) (t.name.name ∷ type_identifiers t.of) (type_specs_identifiers ts) (λ n i. tail (type-in [] t.of n i)) (types-within ts)
+
+  receiver-within : (r : Option (Receiver S)) → Within (receiver_looked_up r) (receiver_identifiers r)
+  receiver-within None = none []
+  receiver-within (Some r) = λ n i. in-right n (name_option r.name) (r.of.name ∷ []) i
+
+  func-within : (f : Func S) → Within (decl_looked_up (func f)) (decl_identifiers (func f))
+  func-within f =
+      both-within (receiver_looked_up f.receiver ++ free_params [] f.sig.params ++ free_params [] f.sig.results) (free_stmts [] f.body)
+      (receiver_identifiers f.receiver ++ f.name.name ∷ sig_identifiers f.sig) (stmts_identifiers f.body) front (stmts-in [] f.body)
+    where
+      in-sig : Within (free_params [] f.sig.params ++ free_params [] f.sig.results) (sig_identifiers f.sig)
+      in-sig = both-within (free_params [] f.sig.params) (free_params [] f.sig.results) (params_identifiers f.sig.params) (params_identifiers f.sig.results) (params-in [] f.sig.params) (params-in [] f.sig.results)
+
+      front : Within (receiver_looked_up f.receiver ++ free_params [] f.sig.params ++ free_params [] f.sig.results) (receiver_identifiers f.receiver ++ f.name.name ∷ sig_identifiers f.sig)
+      front n i = by (in-either n (receiver_looked_up f.receiver ++ free_params [] f.sig.params) (free_params [] f.sig.results) i)
+        where
+          first : In n (receiver_looked_up f.receiver) ⊎ In n (free_params [] f.sig.params) → In n (receiver_identifiers f.receiver ++ f.name.name ∷ sig_identifiers f.sig)
+          first (inl j) = in-left n (receiver_identifiers f.receiver) (f.name.name ∷ sig_identifiers f.sig) (receiver-within f.receiver n j)
+          first (inr j) = in-right n (receiver_identifiers f.receiver) (f.name.name ∷ sig_identifiers f.sig) (tail (in-sig n (in-left n (free_params [] f.sig.params) (free_params [] f.sig.results) j)))
+
+          by : In n (receiver_looked_up f.receiver ++ free_params [] f.sig.params) ⊎ In n (free_params [] f.sig.results) → In n (receiver_identifiers f.receiver ++ f.name.name ∷ sig_identifiers f.sig)
+          by (inl j) = first (in-either n (receiver_looked_up f.receiver) (free_params [] f.sig.params) j)
+          by (inr j) = in-right n (receiver_identifiers f.receiver) (f.name.name ∷ sig_identifiers f.sig) (tail (in-sig n (in-right n (free_params [] f.sig.params) (free_params [] f.sig.results) j)))
+
+  -- each is an identifier of it
+  pub looked-up-within : (d : Decl S) → Within (decl_looked_up d) (decl_identifiers d)
+  looked-up-within (values (const_decl _ _ ss)) = values-within ss
+  looked-up-within (values (var_decl _ _ ss)) = values-within ss
+  looked-up-within (values (empty s)) = none (decl_identifiers (values (empty s)))
+  looked-up-within (values (eval s x)) = none (decl_identifiers (values (eval s x)))
+  looked-up-within (values (step s x o)) = none (decl_identifiers (values (step s x o)))
+  looked-up-within (values (assign s xs o ys)) = none (decl_identifiers (values (assign s xs o ys)))
+  looked-up-within (values (define s ns ys)) = none (decl_identifiers (values (define s ns ys)))
+  looked-up-within (values (return_ s xs)) = none (decl_identifiers (values (return_ s xs)))
+  looked-up-within (values (break_ s l)) = none (decl_identifiers (values (break_ s l)))
+  looked-up-within (values (continue_ s l)) = none (decl_identifiers (values (continue_ s l)))
+  looked-up-within (values (inner s b)) = none (decl_identifiers (values (inner s b)))
+  looked-up-within (values (if_ s bs z)) = none (decl_identifiers (values (if_ s bs z)))
+  looked-up-within (values (for_ s i x p z b)) = none (decl_identifiers (values (for_ s i x p z b)))
+  looked-up-within (values (range_ s l x z b)) = none (decl_identifiers (values (range_ s l x z b)))
+  looked-up-within (values (switch s i x cs)) = none (decl_identifiers (values (switch s i x cs)))
+  looked-up-within (values (defer s x)) = none (decl_identifiers (values (defer s x)))
+  looked-up-within (values (label s n x)) = none (decl_identifiers (values (label s n x)))
+  looked-up-within (types _ _ ts) = types-within ts
+  looked-up-within (func f) = func-within f

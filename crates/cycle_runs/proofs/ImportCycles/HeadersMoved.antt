@@ -1,20 +1,20 @@
 -- The headers of a package under other imports of its files: each name that they look up means what it meant, where each
--- identifier of the declarations does.
+-- that the declarations look up does.
 use Rattle.std.proofs.Common.{◌≡◌, refl, ℕ, suc, Bool, true, false, List, [], ◌∷◌, ◌++◌, map, Option, Some, None, if◌then◌else◌}
 use Rattle.std.specs.Prelude.{slice_get}
 use Rattle.go_tree.specs.Tree.{NameAt, TypeExpr, Exprs, no_exprs, const_decl, var_decl, empty, eval, step, assign, define, return_, break_, continue_, inner, if_, for_, range_, switch, defer, label, ValueSpecs, no_specs, spec}
 use Rattle.go_tree.specs.File.{TypeSpec, Receiver, Func, Decl, values, types, func}
-use Rattle.scope_names.specs.FreeNames.{names_of}
-use Rattle.scope_names.specs.Identifiers.{name_option, type_identifiers, type_option_identifiers, params_identifiers, sig_identifiers, exprs_identifiers, stmts_identifiers, specs_identifiers, type_specs_identifiers, receiver_identifiers, decl_identifiers}
+use Rattle.scope_names.specs.FreeNames.{free_type, free_type_option, free_params, free_exprs, free_stmts}
 use Rattle.scope_names.specs.Means.{Environment, means, is_blank}
 use Rattle.go_types.specs.Entities.{Entity, World, block_of, universe}
 use Rattle.go_types.specs.Bodies.{no_values}
 use Rattle.go_types.specs.Programs.{Header, constants, a_type_spec, Headed, file_env, at_member, constant_headers, variable_headers, headers, all_headers, header_names, headed_file}
-use Rattle.go_types.specs.Agreement.{In, head, tail}
+use Rattle.go_types.specs.Agreement.{In, head}
 use Rattle.typed_in_place.specs.ProgramsAlike.{OneByOne, no_more, and_more}
 use Rattle.typed_in_place.specs.ProgramReplaced.{All, all_of_none, all_and}
 use Rattle.typed_in_place.specs.ImportsMoved.{under_imports, MovedReceiver, nothing_received, received, MovedIn, moved_constants, moved_variables, moved_type, moved_func, Moved}
-use Rattle.cycle_runs.proofs.ImportCycles.FreeIdentifiers.{in-left, in-right, type-in, written-in, params-in, exprs-in}
+use Rattle.cycle_runs.specs.ImportCycles.LookedUp.{specs_looked_up, types_looked_up, receiver_looked_up, decl_looked_up}
+use Rattle.cycle_runs.proofs.ImportCycles.FreeIdentifiers.{in-left, in-right}
 
 -- the second header is the first under other imports, under which each name that it looks up means what it meant
 pub record HeaderMoved {S : Type 0} (h k : Headed S) : Type 0 where
@@ -39,63 +39,65 @@ module _ (home : ℕ) (is js : Environment Entity) where
     abbrev pub HeaderReads : S × Header S → Type 0
     HeaderReads h = (w : World) → MovedIn (λ i. file_env w home is i) (under w) h.1
 
-    constants-read : (ns : List (NameAt S)) (t : Option (TypeExpr S)) (es : Exprs S) (i : ℕ) → AllMean (type_option_identifiers t) → AllMean (exprs_identifiers es) → (w : World) → MovedIn (λ i. file_env w home is i) (under w) (constants ns t es i)
-    constants-read ns t es i f g w = moved_constants (λ n j. f n (written-in [] t n j) w) (λ n j. g n (exprs-in [] es n j) w)
-
-    constant-all : (at : S → S) (t : Option (TypeExpr S)) (es : Exprs S) (i : ℕ) (ss : ValueSpecs S) → AllMean (type_option_identifiers t) → AllMean (exprs_identifiers es) → AllMean (specs_identifiers ss) → All HeaderReads (constant_headers at t es i ss)
+    constant-all : (at : S → S) (t : Option (TypeExpr S)) (es : Exprs S) (i : ℕ) (ss : ValueSpecs S) → AllMean (free_type_option [] t) → AllMean (free_exprs [] es) → AllMean (specs_looked_up ss) → All HeaderReads (constant_headers at t es i ss)
     constant-all at t es i no_specs f g h = all_of_none
     constant-all at t es i (spec s ns u fs ss) f g h =
         by (no_values fs) (constant-all at t es (suc i) ss f g rest) (constant-all at u fs (suc i) ss own-type own-values rest)
       where
-        rest : AllMean (specs_identifiers ss)
-        rest n j = h n (in-right n (names_of ns ++ type_option_identifiers u ++ exprs_identifiers fs) (specs_identifiers ss) j)
+        rest : AllMean (specs_looked_up ss)
+        rest n j = h n (in-right n (free_type_option [] u ++ free_exprs [] fs) (specs_looked_up ss) j)
 
-        own-values : AllMean (exprs_identifiers fs)
-        own-values n j = h n (in-left n (names_of ns ++ type_option_identifiers u ++ exprs_identifiers fs) (specs_identifiers ss) (in-right n (names_of ns ++ type_option_identifiers u) (exprs_identifiers fs) j))
+        own-values : AllMean (free_exprs [] fs)
+        own-values n j = h n (in-left n (free_type_option [] u ++ free_exprs [] fs) (specs_looked_up ss) (in-right n (free_type_option [] u) (free_exprs [] fs) j))
 
-        own-type : AllMean (type_option_identifiers u)
-        own-type n j = h n (in-left n (names_of ns ++ type_option_identifiers u ++ exprs_identifiers fs) (specs_identifiers ss) (in-left n (names_of ns ++ type_option_identifiers u) (exprs_identifiers fs) (in-right n (names_of ns) (type_option_identifiers u) j)))
+        own-type : AllMean (free_type_option [] u)
+        own-type n j = h n (in-left n (free_type_option [] u ++ free_exprs [] fs) (specs_looked_up ss) (in-left n (free_type_option [] u) (free_exprs [] fs) j))
 
         by : (b : Bool) → All HeaderReads (constant_headers at t es (suc i) ss) → All HeaderReads (constant_headers at u fs (suc i) ss)
             → All HeaderReads (if b then (at s, constants ns t es i) ∷ constant_headers at t es (suc i) ss else (at s, constants ns u fs i) ∷ constant_headers at u fs (suc i) ss)
-        by true x y = all_and (constants-read ns t es i f g) x
-        by false x y = all_and (constants-read ns u fs i own-type own-values) y
+        by true x y = all_and (λ w. moved_constants (λ n j. f n j w) (λ n j. g n j w)) x
+        by false x y = all_and (λ w. moved_constants (λ n j. own-type n j w) (λ n j. own-values n j w)) y
 
-    variable-all : (at : S → S) (ss : ValueSpecs S) → AllMean (specs_identifiers ss) → All HeaderReads (variable_headers at ss)
+    variable-all : (at : S → S) (ss : ValueSpecs S) → AllMean (specs_looked_up ss) → All HeaderReads (variable_headers at ss)
     variable-all at no_specs h = all_of_none
-    variable-all at (spec s ns u fs ss) h = all_and (λ w. moved_variables (λ n j. own-type n (written-in [] u n j) w) (λ n j. own-values n (exprs-in [] fs n j) w)) (variable-all at ss rest)
+    variable-all at (spec s ns u fs ss) h = all_and (λ w. moved_variables (λ n j. own-type n j w) (λ n j. own-values n j w)) (variable-all at ss rest)
       where
-        rest : AllMean (specs_identifiers ss)
-        rest n j = h n (in-right n (names_of ns ++ type_option_identifiers u ++ exprs_identifiers fs) (specs_identifiers ss) j)
+        rest : AllMean (specs_looked_up ss)
+        rest n j = h n (in-right n (free_type_option [] u ++ free_exprs [] fs) (specs_looked_up ss) j)
 
-        own-values : AllMean (exprs_identifiers fs)
-        own-values n j = h n (in-left n (names_of ns ++ type_option_identifiers u ++ exprs_identifiers fs) (specs_identifiers ss) (in-right n (names_of ns ++ type_option_identifiers u) (exprs_identifiers fs) j))
+        own-values : AllMean (free_exprs [] fs)
+        own-values n j = h n (in-left n (free_type_option [] u ++ free_exprs [] fs) (specs_looked_up ss) (in-right n (free_type_option [] u) (free_exprs [] fs) j))
 
-        own-type : AllMean (type_option_identifiers u)
-        own-type n j = h n (in-left n (names_of ns ++ type_option_identifiers u ++ exprs_identifiers fs) (specs_identifiers ss) (in-left n (names_of ns ++ type_option_identifiers u) (exprs_identifiers fs) (in-right n (names_of ns) (type_option_identifiers u) j)))
+        own-type : AllMean (free_type_option [] u)
+        own-type n j = h n (in-left n (free_type_option [] u ++ free_exprs [] fs) (specs_looked_up ss) (in-left n (free_type_option [] u) (free_exprs [] fs) j))
 
-    type-all : (g : Bool) (s : S) (ts : List (TypeSpec S)) → AllMean (type_specs_identifiers ts) → All HeaderReads (map (λ t. (at_member g s t.span, a_type_spec t)) ts)
+    type-all : (g : Bool) (s : S) (ts : List (TypeSpec S)) → AllMean (types_looked_up ts) → All HeaderReads (map (λ t. (at_member g s t.span, a_type_spec t)) ts)
     type-all g s [] h = all_of_none
     type-all g s (t ∷ ts) h =
-        all_and (λ w. moved_type (λ n j. h n (in-left n (t.name.name ∷ type_identifiers t.of) (type_specs_identifiers ts) (tail (type-in [] t.of n j))) w))
-        (type-all g s ts (λ n j. h n (in-right n (t.name.name ∷ type_identifiers t.of) (type_specs_identifiers ts) j)))
+        all_and (λ w. moved_type (λ n j. h n (in-left n (free_type [] t.of) (types_looked_up ts) j) w))
+        (type-all g s ts (λ n j. h n (in-right n (free_type [] t.of) (types_looked_up ts) j)))
 
-    receiver-reads : (r : Option (Receiver S)) → AllMean (receiver_identifiers r) → (w : World) → MovedReceiver (file_env w home is None) (under w) r
+    receiver-reads : (r : Option (Receiver S)) → AllMean (receiver_looked_up r) → (w : World) → MovedReceiver (file_env w home is None) (under w) r
     receiver-reads None h w = nothing_received
-    receiver-reads (Some r) h w = received (h r.of.name (in-right r.of.name (name_option r.name) (r.of.name ∷ []) head) w)
+    receiver-reads (Some r) h w = received (h r.of.name head w)
 
-    func-all : (f : Func S) → AllMean (decl_identifiers (func f)) → All HeaderReads (headers (func f))
-    func-all f h = all_and (λ w. moved_func (receiver-reads f.receiver (λ n j. h n (in-left n before (stmts_identifiers f.body) (in-left n (receiver_identifiers f.receiver) (f.name.name ∷ sig_identifiers f.sig) j))) w)
-        (λ n j. signature n (in-left n (params_identifiers f.sig.params) (params_identifiers f.sig.results) (params-in [] f.sig.params n j)) w)
-        (λ n j. signature n (in-right n (params_identifiers f.sig.params) (params_identifiers f.sig.results) (params-in [] f.sig.results n j)) w)) all_of_none
+    func-all : (f : Func S) → AllMean (decl_looked_up (func f)) → All HeaderReads (headers (func f))
+    func-all f h = all_and (λ w. moved_func (receiver-reads f.receiver (λ n j. front n (in-left n (receiver ++ params) results (in-left n receiver params j))) w)
+        (λ n j. front n (in-left n (receiver ++ params) results (in-right n receiver params j)) w) (λ n j. front n (in-right n (receiver ++ params) results j) w)) all_of_none
       where
-        before : List (List ℕ)
-        before = receiver_identifiers f.receiver ++ f.name.name ∷ sig_identifiers f.sig
+        receiver : List (List ℕ)
+        receiver = receiver_looked_up f.receiver
 
-        signature : AllMean (sig_identifiers f.sig)
-        signature n j = h n (in-left n before (stmts_identifiers f.body) (in-right n (receiver_identifiers f.receiver) (f.name.name ∷ sig_identifiers f.sig) (tail j)))
+        params : List (List ℕ)
+        params = free_params [] f.sig.params
 
-    decl-all : (d : Decl S) → AllMean (decl_identifiers d) → All HeaderReads (headers d)
+        results : List (List ℕ)
+        results = free_params [] f.sig.results
+
+        front : AllMean (receiver ++ params ++ results)
+        front n j = h n (in-left n (receiver ++ params ++ results) (free_stmts [] f.body) j)
+
+    decl-all : (d : Decl S) → AllMean (decl_looked_up d) → All HeaderReads (headers d)
     decl-all (values (const_decl s g ss)) h = constant-all (at_member g s) None no_exprs 0 ss (λ n j. elim j [ ]) (λ n j. elim j [ ]) h
     decl-all (values (var_decl s g ss)) h = variable-all (at_member g s) ss h
     decl-all (values (empty _)) h = all_of_none
@@ -116,7 +118,7 @@ module _ (home : ℕ) (is js : Environment Entity) where
     decl-all (types s g ts) h = type-all g s ts h
     decl-all (func f) h = func-all f h
 
-    pub decls-all : (ds : List (Decl S)) → ((k : ℕ) (d : Decl S) → slice_get ds k ≡ Some d → AllMean (decl_identifiers d)) → All HeaderReads (all_headers ds)
+    pub decls-all : (ds : List (Decl S)) → ((k : ℕ) (d : Decl S) → slice_get ds k ≡ Some d → AllMean (decl_looked_up d)) → All HeaderReads (all_headers ds)
     decls-all [] h = all_of_none
     decls-all (d ∷ ds) h = all-append HeaderReads (headers d) (all_headers ds) (decl-all d (h 0 d refl)) (decls-all ds (λ k e g. h (suc k) e g))
 

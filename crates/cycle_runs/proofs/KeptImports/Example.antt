@@ -1,12 +1,16 @@
 -- What the imports of a file become, one of which goes while another comes; and that a local variable with the name of
--- the import that goes has that name as an identifier, which so is the name of an import no more.
+-- the import that goes has that name as an identifier, which so is the name of an import no more, though no declaration
+-- looks it up.
 use Rattle.std.proofs.Common.{◌≡◌, refl, ℕ, false, List, [], ◌∷◌, None, Some, codes}
 use Rattle.go_tree.specs.declared.spans.Span.{Span}
-use Rattle.go_tree.specs.File.{ImportSpec, ImportDecl}
+use Rattle.go_tree.specs.declared.exprs.Rest.TheVariants.{Plain}
+use Rattle.go_tree.specs.Tree.{NameAt, Expr, ident, int_lit, selector, call, no_exprs, expr_and, Stmt, define, eval, no_stmts, stmt_and}
+use Rattle.go_tree.specs.File.{ImportSpec, ImportDecl, Decl, func}
 use Rattle.import_rules.specs.declared.new_import.NewImport.{NewImport}
 use Rattle.import_splices.specs.AddedFile.{added_spec}
 use Rattle.import_splices.specs.SettledFile.{settled_decls}
 use Rattle.pkg_graph.specs.Package.{Package, specs_in}
+use Rattle.cycle_runs.specs.ImportCycles.LookedUp.{decl_looked_up}
 use Rattle.cycle_runs.specs.ImportCycles.OtherImports.{import_path}
 
 abbrev at : ℕ → Span
@@ -44,3 +48,25 @@ before = refl
 
 afterwards : import_path packages (spec_of 6 (codes "m/e") ∷ spec_of 2 (codes "m/d") ∷ []) (codes "h") ≡ None
 afterwards = refl
+
+-- func main() { h := 1; println(h); println(e.d) }
+abbrev named : ℕ → List ℕ → NameAt Span
+named n x = record { span = at n; name = x }
+
+abbrev prints : ℕ → Expr Span → Stmt Span
+prints n e = eval (at n) (call (at n) (ident (at n) (codes "println")) (expr_and e no_exprs) Plain)
+
+abbrev main : Decl Span
+main =
+    func (record {
+      span = at 10;
+      receiver = None;
+      name = named 11 (codes "main");
+      sig = record { params = []; results = [] };
+      body_span = at 12;
+      body = stmt_and (define (at 13) (named 13 (codes "h") ∷ []) (expr_and (int_lit (at 14) (codes "1")) no_exprs)) (stmt_and (prints 15 (ident (at 16) (codes "h"))) (stmt_and (prints 17 (selector (at 18) (ident (at 18) (codes "e")) (named 19 (codes "d")))) no_stmts));
+    })
+
+-- neither the variable nor what is behind the dot is looked up
+looked-up : decl_looked_up main ≡ codes "println" ∷ codes "println" ∷ codes "e" ∷ []
+looked-up = refl

@@ -9,12 +9,11 @@ use Rattle.go_tree.specs.declared.spans.Span.{Span}
 use Rattle.go_tree.specs.declared.tokens.Token.{Token}
 use Rattle.go_tree.specs.Tree.{NameAt}
 use Rattle.go_tree.specs.Bare.{bare_name}
-use Rattle.go_tree.specs.File.{ImportSpec, ImportDecl, Decl, File}
+use Rattle.go_tree.specs.File.{ImportSpec, ImportDecl, File}
 use Rattle.go_tree.specs.FileBare.{bare_import_spec, bare_import_decl}
 use Rattle.go_scan.proofs.Cuts.{tokens_once}
 use Rattle.go_read.specs.SpellsFiles.{SpellsFile}
 use Rattle.go_read.proofs.Whole as read
-use Rattle.scope_names.specs.Identifiers.{decl_identifiers}
 use Rattle.text_edits.specs.declared.edit.Edit.{Edit}
 use Rattle.text_edits.specs.Applied.{applied}
 use Rattle.import_rules.specs.declared.new_import.NewImport.{NewImport}
@@ -36,11 +35,12 @@ use Rattle.run_rules.specs.Run.{Standing, Logged, Next, here_of, edits_in}
 use Rattle.run_rules.specs.Laws.{file_found}
 use Rattle.form_imports.specs.ImportLaws.Steps.{removed_specs}
 use Rattle.cycle_runs.specs.StepCycles.PackagesAlike.{import_key}
-use Rattle.cycle_runs.specs.ImportCycles.ImportSteps.{file_added, packages_added, KeepsNames}
+use Rattle.cycle_runs.specs.ImportCycles.OtherImports.{import_path}
+use Rattle.cycle_runs.specs.ImportCycles.ImportSteps.{file_added, packages_added, KeepsNames, KeepsLookUps}
 use Rattle.cycle_runs.specs.OrderCycles.NewNames.{NamesByPath, FewNames}
 use Rattle.cycle_runs.specs.OrderedSteps.Ranks.{ImportsNoMore}
 use Rattle.cycle_runs.proofs.OrderedSteps.Members.{in-front, in-back}
-use Rattle.cycle_runs.specs.KeptImports.Files.{PutsNode, IsSettled, RemovesNoNames}
+use Rattle.cycle_runs.specs.KeptImports.Files.{PutsNode, IsSettled, RemovesNoneNamed, RemovesNoNames, RemovesNoLookUps}
 use Rattle.cycle_runs.proofs.KeptImports.Keys.{Key, new_key, keys-both, keys-bare, key-with, keys-with, key-for, key_name, path_by, name-by, path-by, Apart}
 use Rattle.cycle_runs.proofs.KeptImports.Settled.{NoneGoes, path-settled, settled-fewer}
 use Rattle.cycle_runs.proofs.KeptImports.Fresh.{step-apart, step-differ}
@@ -172,14 +172,13 @@ module _ (marks : List MarkRef) (st : Standing) (l : Logged) (after : Standing) 
             (subst (λ (ps : List (List ℕ)). In path ps) (sym (paths-of-keys (specs_in old-decls)) ∙ ap (map (λ (k : Key). k.1)) keys-old ∙ paths-of-keys (import_specs tree)) j)
         by (inr j) = in-back path (map (λ s. s.path) (import_specs tree)) (map (λ i. i.path) added) j
 
-    module _ (few : FewNames st.packages n.found) (paths : NamesByPath st.packages) (removes : RemovesNoNames n) where
+    module _ (few : FewNames st.packages n.found) (paths : NamesByPath st.packages) where
       abbrev mid : List (Package At)
       mid = packages_added st.packages n.found
 
-      -- no spec that goes has the name of an identifier that stands
-      none-goes : (k : ℕ) (d : Decl At) → slice_get n.tree.decls k ≡ Some d → (m : List ℕ) → In m (decl_identifiers d)
-          → NoneGoes n.old.text n.old.tokens n.old.comments unused mid m (specs_in old-decls)
-      none-goes k d e m i = subst (λ (ss : List (ImportSpec Span)). NoneGoes n.old.text n.old.tokens n.old.comments unused mid m ss) (sym (specs-with tree.imports)) (each (import_specs tree) (λ j s f. removes k d e m i j s f))
+      -- no spec that goes has the name
+      none-goes : (m : List ℕ) → RemovesNoneNamed n m → NoneGoes n.old.text n.old.tokens n.old.comments unused mid m (specs_in old-decls)
+      none-goes m removes = subst (λ (ss : List (ImportSpec Span)). NoneGoes n.old.text n.old.tokens n.old.comments unused mid m ss) (sym (specs-with tree.imports)) (each (import_specs tree) removes)
         where
           map-both : (xs ys : List (ImportSpec At)) → map (import_spec_with here_of) (xs ++ ys) ≡ map (import_spec_with here_of) xs ++ map (import_spec_with here_of) ys
           map-both [] ys = refl
@@ -200,13 +199,20 @@ module _ (marks : List MarkRef) (st : Standing) (l : Logged) (after : Standing) 
               by g true f =
                   absurd (h zero s refl g (name-by mid s ∙ ap (key_name mid) (sym (key-with here_of s)) ∙ (bytes_eq-Decides (key_name mid (import_key (import_spec_with here_of s))) m).0 f))
 
-      pub keeps-names : KeepsNames n
-      keeps-names k d e m i =
+      -- such a name is that of the same import, or of none
+      name-kept : (m : List ℕ) → RemovesNoneNamed n m → import_path mid (import_specs n.tree) m ≡ import_path mid (import_specs (file_added n.found)) m
+      name-kept m removes =
           path-by mid (import_specs n.tree) m
           ∙ ap (λ (ks : List Key). path_by mid ks m) keys-after
           ∙ path-settled n.old.text n.old.tokens n.old.comments unused mid m added old-decls (step-differ marks st l after n few paths)
           (subst (λ (ks : List Key). Apart mid (map new_key added) ks) (sym keys-old) (step-apart marks st l after n few paths))
-          (none-goes k d e m i)
+          (none-goes m removes)
           ∙ ap (λ (ks : List Key). path_by mid (ks ++ map new_key added) m) keys-old
           ∙ ap (λ (ks : List Key). path_by mid ks m) (sym keys-between)
           ∙ sym (path-by mid (import_specs (file_added n.found)) m)
+
+      pub keeps-names : RemovesNoNames n → KeepsNames n
+      keeps-names removes k d e m i = name-kept m (removes k d e m i)
+
+      pub keeps-look-ups : RemovesNoLookUps n → KeepsLookUps n
+      keeps-look-ups removes k d e m i = name-kept m (removes k d e m i)

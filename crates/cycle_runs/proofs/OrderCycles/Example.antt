@@ -11,7 +11,6 @@ use Rattle.std.proofs.Common.{refl, sym, ap, ◌∙◌, subst}
 use Rattle.std.proofs.lemmas.Option.{same_Some}
 use Rattle.go_tree.specs.Tree.{NameAt, named, Expr, ident, selector, int_lit, no_exprs, expr_and, const_decl, return_, no_stmts, stmt_and, no_specs, spec}
 use Rattle.go_tree.specs.File.{ImportDecl, Decl, values, File}
-use Rattle.scope_names.specs.Identifiers.{decl_identifiers}
 use Rattle.scope_names.specs.Means.{Environment}
 use Rattle.pkg_graph.specs.Package.{SourceTree, Package, import_specs}
 use Rattle.go_types.specs.Agreement.{In, head, tail}
@@ -27,6 +26,7 @@ use Rattle.typed_in_place.specs.ProgramsAlike.{OneByOne, no_more, and_more}
 use Rattle.cycle_runs.specs.StepCycles.PackagesAlike.{DeclAlike}
 use Rattle.typed_in_place.proofs.ProgramsReplaced.{each_one}
 use Rattle.typed_in_place.specs.SameWorlds.SameWorlds.{SameWorld}
+use Rattle.cycle_runs.specs.ImportCycles.LookedUp.{decl_looked_up}
 use Rattle.cycle_runs.specs.ImportCycles.OtherImports.{PackagesBeside, import_path}
 use Rattle.cycle_runs.specs.ImportCycles.ImportSteps.{file_added, packages_added, where_added, decl_put}
 use Rattle.cycle_runs.specs.OrderCycles.Orders.{AllOrdered, PackagesUnder}
@@ -113,14 +113,12 @@ all-between = all-of-three between _ _ _ refl (0 ∷ 1 ∷ 2 ∷ []) refl refl r
 all-after : AllOrdered after
 all-after = all-of-three after _ _ _ refl (0 ∷ 2 ∷ 1 ∷ []) refl refl refl order-after
 
--- ---- the same declarations, each identifier of which is the name of the same import, or of none
+-- ---- the same declarations, in which each name that is looked up is that of the same import, or of none
 
-same-names : (n : List ℕ) → In n (decl_identifiers (decl_put before found the_func)) → import_path after (import_specs settled) n ≡ import_path between (import_specs put) n
+same-names : (n : List ℕ) → In n (decl_looked_up (decl_put before found the_func)) → import_path after (import_specs settled) n ≡ import_path between (import_specs put) n
 same-names _ head = refl
 same-names _ (tail head) = refl
-same-names _ (tail (tail head)) = refl
-same-names _ (tail (tail (tail head))) = refl
-same-names n (tail (tail (tail (tail i)))) = elim i [ ]
+same-names n (tail (tail i)) = elim i [ ]
 
 under : PackagesUnder between after
 under =
@@ -128,8 +126,8 @@ under =
     (and_more (record { number = refl; name = refl; files = and_more (record { decls = refl; imports = λ k d e n i. refl }) no_more })
     (and_more (record { number = refl; name = refl; files = and_more (record { decls = refl; imports = in-e }) no_more }) no_more))
   where
-    in-e : (k : ℕ) (d : Decl At) → slice_get (decl_put before found the_func ∷ []) k ≡ Some d → (n : List ℕ) → In n (decl_identifiers d) → import_path after (import_specs settled) n ≡ import_path between (import_specs put) n
-    in-e zero d h n i = same-names n (subst (λ (d : Decl At). In n (decl_identifiers d)) (sym (same_Some (decl_put before found the_func) d h)) i)
+    in-e : (k : ℕ) (d : Decl At) → slice_get (decl_put before found the_func ∷ []) k ≡ Some d → (n : List ℕ) → In n (decl_looked_up d) → import_path after (import_specs settled) n ≡ import_path between (import_specs put) n
+    in-e zero d h n i = same-names n (subst (λ (d : Decl At). In n (decl_looked_up d)) (sym (same_Some (decl_put before found the_func) d h)) i)
     in-e (suc k) d h n i = cc
 
 beside : PackagesBeside between after

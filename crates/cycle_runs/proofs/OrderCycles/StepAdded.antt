@@ -18,6 +18,7 @@ use Rattle.cycle_runs.proofs.StepCycles.Orders.{rows-by}
 use Rattle.cycle_runs.proofs.StepCycles.StepAlike.{one-changed}
 use Rattle.cycle_runs.specs.ImportCycles.OtherImports.{PackagesBeside, FileUnder}
 use Rattle.cycle_runs.specs.ImportCycles.ImportSteps.{file_added, packages_added, where_added}
+use Rattle.cycle_runs.proofs.ImportCycles.FreeIdentifiers.{looked-up-within}
 use Rattle.cycle_runs.proofs.ImportCycles.ImportStep.{placed, added-same}
 use Rattle.cycle_runs.proofs.ImportCycles.LeadAlike.{same-beside}
 use Rattle.cycle_runs.proofs.ImportCycles.ImportsAdded.{path-stays, reads-added, new-names-read}
@@ -81,7 +82,7 @@ module _ (marks : List MarkRef) (st : Standing) (l : Logged) (after : Standing) 
         path = refl;
         name = refl;
         files = one-changed (FileUnder st.packages mid) under-itself (with_tree (file_added n.found)) x.at.file_number x.at.of.files x.at.source here.file_is
-            (record { decls = refl; imports = λ k d e m i. reads-added marks st l after n new k d e m i });
+            (record { decls = refl; imports = λ k d e m i. reads-added marks st l after n new k d e m (looked-up-within d m i) });
       }))
 
   module _ (before : AllOrdered st.packages) (added : AllOrdered mid) where

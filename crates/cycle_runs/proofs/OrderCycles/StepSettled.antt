@@ -31,6 +31,7 @@ use Rattle.cycle_runs.proofs.StepCycles.StepAlike.{both-changed, changed-alike, 
 use Rattle.cycle_runs.proofs.StepCycles.WorldStays.{receivers-stay, put-world, FileSpans, PackageSpans, spans-world}
 use Rattle.cycle_runs.specs.ImportCycles.OtherImports.{PackagesBeside, import_path, FileUnder}
 use Rattle.cycle_runs.specs.ImportCycles.ImportSteps.{file_added, packages_added, where_added, decl_put, DeclaresAlike, calls_added, SettlesImports}
+use Rattle.cycle_runs.proofs.ImportCycles.FreeIdentifiers.{looked-up-within}
 use Rattle.cycle_runs.proofs.ImportCycles.ImportStep.{twice, placed, put-beside, decls-are, imports-kept}
 use Rattle.cycle_runs.proofs.ImportCycles.ImportsAdded.{path-stays, new-names-read, settled-names-read}
 use Rattle.cycle_runs.specs.OrderCycles.Orders.{AllOrdered, PackagesUnder}
@@ -187,7 +188,7 @@ module _ (marks : List MarkRef) (st : Standing) (l : Logged) (after : Standing) 
   under-settled : PackagesUnder read after.packages
   under-settled = under-of read after.packages (subst (λ (t : List (Package At)). OneByOne (PackageBy (FileUnder read after.packages)) read t) (sym n.packages_are)
       (both-trees (FileUnder read after.packages) settled-itself tree_read n.tree
-      (record { decls = refl; imports = λ k d e m i. named-after m ∙ s.imports.kept_names k d e m i ∙ sym (named-read m) })))
+      (record { decls = refl; imports = λ k d e m i. named-after m ∙ s.imports.kept_names k d e m (looked-up-within d m i) ∙ sym (named-read m) })))
 
   imports-itself : (f : SourceTree At) → map (λ z. z.path) (import_specs f.tree) ≡ map (λ z. z.path) (import_specs f.tree)
   imports-itself f = refl

@@ -14,6 +14,7 @@ use Rattle.run_rules.specs.Run.{Standing, Logged, Next}
 use Rattle.cycle_laws.specs.PutCalls.{GivesWayAmong, mark_there, called_among}
 use Rattle.cycle_runs.specs.StepCycles.PackagesAlike.{DeclAlike}
 use Rattle.typed_in_place.specs.SameWorlds.SameWorlds.{SameWorld}
+use Rattle.cycle_runs.specs.ImportCycles.LookedUp.{decl_looked_up}
 use Rattle.cycle_runs.specs.ImportCycles.OtherImports.{IdentifiersRead, import_path}
 
 -- the file of a use with the imports that its form adds, before the form is put
@@ -69,6 +70,15 @@ abbrev pub KeepsNames : {marks : List MarkRef} {st : Standing} {l : Logged} {aft
     → Next marks st l after → Type 0
 KeepsNames {st = st} n =
     (k : ℕ) (d : Decl At) → slice_get n.tree.decls k ≡ Some d → (m : List ℕ) → In m (decl_identifiers d)
+    → import_path (packages_added st.packages n.found) (import_specs n.tree) m
+    ≡ import_path (packages_added st.packages n.found) (import_specs (file_added n.found)) m
+
+-- each name that a declaration of the file as it is read again looks up is that of the same import as it was with the
+-- imports added, or of none
+abbrev pub KeepsLookUps : {marks : List MarkRef} {st : Standing} {l : Logged} {after : Standing}
+    → Next marks st l after → Type 0
+KeepsLookUps {st = st} n =
+    (k : ℕ) (d : Decl At) → slice_get n.tree.decls k ≡ Some d → (m : List ℕ) → In m (decl_looked_up d)
     → import_path (packages_added st.packages n.found) (import_specs n.tree) m
     ≡ import_path (packages_added st.packages n.found) (import_specs (file_added n.found)) m
 

@@ -55,8 +55,8 @@ SettledNamesMeanTheSame =
     (marks : List MarkRef) (st : Standing) (l : Logged) (after : Standing) (n : Next marks st l after)
     → DeclaresAlike n → KeepsNames n → IdentifiersRead (packages_added st.packages n.found) after.packages
 
--- Programs of the same declarations declare the same, of the same types, if each identifier is the name of the same
--- import, or of none, and the packages stand in the same dependency order.
+-- Programs of the same declarations declare the same, of the same types, if each name that is looked up is that of the
+-- same import, or of none, and the packages stand in the same dependency order.
 abbrev pub OtherImportsDeclareTheSame : Type 0
 OtherImportsDeclareTheSame =
     (ps qs : List (Package At)) → PackagesBeside ps qs → SameOrder ps qs → world qs ≡ world ps

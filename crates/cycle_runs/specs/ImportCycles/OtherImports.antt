@@ -16,6 +16,7 @@ use Rattle.run_rules.specs.Steps.{At}
 use Rattle.run_rules.specs.Run.{origin_of}
 use Rattle.cycle_runs.specs.StepCycles.PackagesAlike.{DeclAlike}
 use Rattle.cycle_runs.specs.ImportCycles.NamesRead.{AllRead}
+use Rattle.cycle_runs.specs.ImportCycles.LookedUp.{decl_looked_up}
 
 module _ {S : Type 0} where
   -- two packages with the same path and name, and in each place a declaration of the same names
@@ -55,11 +56,11 @@ module _ {S : Type 0} where
       → slice_get v.source.tree.decls a.decl ≡ Some d → (n : List ℕ) → In n (decl_identifiers d)
       → import_path after (import_specs v.source.tree) n ≡ import_path before (import_specs w.source.tree) n
 
-  -- two files hold the same declarations, each identifier of which is the name of the same import, or of none
+  -- two files hold the same declarations, and each name that these look up is that of the same import, or of none
   pub record FileUnder (ps qs : List (Package S)) (f g : SourceTree S) : Type 0 where
     pub decls : g.tree.decls ≡ f.tree.decls
     pub imports :
-        (k : ℕ) (d : Decl S) → slice_get f.tree.decls k ≡ Some d → (n : List ℕ) → In n (decl_identifiers d)
+        (k : ℕ) (d : Decl S) → slice_get f.tree.decls k ≡ Some d → (n : List ℕ) → In n (decl_looked_up d)
         → import_path qs (import_specs g.tree) n ≡ import_path ps (import_specs f.tree) n
 
   -- two packages with the same number and name, and with such files

@@ -22,6 +22,7 @@ use Rattle.run_rules.specs.Steps.{At}
 use Rattle.run_rules.specs.Run.{Standing, Logged, Next, here_of}
 use Rattle.run_rules.specs.Laws.{file_found}
 use Rattle.form_imports.specs.ImportLaws.Steps.{removed_specs}
+use Rattle.cycle_runs.specs.ImportCycles.LookedUp.{decl_looked_up}
 use Rattle.cycle_runs.specs.ImportCycles.ImportSteps.{packages_added}
 
 -- The step's form is laid out in the place of a node of its file.
@@ -47,11 +48,25 @@ IsSettled {marks = marks} {st = st} n =
     ≡ settled_decls n.old.text n.old.tokens n.old.comments (removed_specs marks st n.found)
     (imports_added n.found.named) (file_found n.found).imports
 
--- No import that the step removes has the name of an identifier of a declaration of the file as it is read again.
-abbrev pub RemovesNoNames : {marks : List MarkRef} {st : Standing} {l : Logged} {after : Standing}
-    → Next marks st l after → Type 0
-RemovesNoNames {marks = marks} {st = st} n =
-    (k : ℕ) (d : Decl At) → slice_get n.tree.decls k ≡ Some d → (m : List ℕ) → In m (decl_identifiers d)
-    → (i : ℕ) (s : ImportSpec At) → slice_get (import_specs n.found.site.at.source.tree) i ≡ Some s
+-- No import that the step removes has this name.
+abbrev pub RemovesNoneNamed : {marks : List MarkRef} {st : Standing} {l : Logged} {after : Standing}
+    → Next marks st l after → List ℕ → Type 0
+RemovesNoneNamed {marks = marks} {st = st} n m =
+    (i : ℕ) (s : ImportSpec At) → slice_get (import_specs n.found.site.at.source.tree) i ≡ Some s
     → list_any (same_span (here_of s.span)) (removed_specs marks st n.found) ≡ true
     → import_name (packages_added st.packages n.found) s ≡ m → ⊥
+
+-- None has the name of an identifier of a declaration of the file as it is read again.
+abbrev pub RemovesNoNames : {marks : List MarkRef} {st : Standing} {l : Logged} {after : Standing}
+    → Next marks st l after → Type 0
+RemovesNoNames n =
+    (k : ℕ) (d : Decl At) → slice_get n.tree.decls k ≡ Some d → (m : List ℕ) → In m (decl_identifiers d)
+    → RemovesNoneNamed n m
+
+-- None has a name that a declaration of the file as it is read again looks up: the name of a field, of a method or of
+-- what another package declares, which stands behind a dot, is none of these.
+abbrev pub RemovesNoLookUps : {marks : List MarkRef} {st : Standing} {l : Logged} {after : Standing}
+    → Next marks st l after → Type 0
+RemovesNoLookUps n =
+    (k : ℕ) (d : Decl At) → slice_get n.tree.decls k ≡ Some d → (m : List ℕ) → In m (decl_looked_up d)
+    → RemovesNoneNamed n m

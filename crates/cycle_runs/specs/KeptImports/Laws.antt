@@ -5,10 +5,10 @@ use Rattle.import_splices.specs.AddedFile.{AreWritable}
 use Rattle.run_rules.specs.Sites.{MarkRef}
 use Rattle.run_rules.specs.Naming.{imports_added}
 use Rattle.run_rules.specs.Run.{Standing, Logged, Next}
-use Rattle.cycle_runs.specs.ImportCycles.ImportSteps.{KeepsNames}
+use Rattle.cycle_runs.specs.ImportCycles.ImportSteps.{KeepsNames, KeepsLookUps}
 use Rattle.cycle_runs.specs.OrderCycles.NewNames.{NamesByPath, FewNames}
 use Rattle.cycle_runs.specs.OrderedSteps.Ranks.{ImportsNoMore}
-use Rattle.cycle_runs.specs.KeptImports.Files.{PutsNode, IsSettled, RemovesNoNames}
+use Rattle.cycle_runs.specs.KeptImports.Files.{PutsNode, IsSettled, RemovesNoNames, RemovesNoLookUps}
 
 -- Where the form is laid out in the place of a node, the file as it is read again has the imports that stay, and those
 -- that came.
@@ -29,3 +29,9 @@ abbrev pub NamesAreKept : Type 0
 NamesAreKept =
     (marks : List MarkRef) (st : Standing) (l : Logged) (after : Standing) (n : Next marks st l after) → IsSettled n
     → FewNames st.packages n.found → NamesByPath st.packages → RemovesNoNames n → KeepsNames n
+
+-- Each name that its declarations look up is that of the same import, or of none, if none that goes has such a name.
+abbrev pub LookUpsAreKept : Type 0
+LookUpsAreKept =
+    (marks : List MarkRef) (st : Standing) (l : Logged) (after : Standing) (n : Next marks st l after) → IsSettled n
+    → FewNames st.packages n.found → NamesByPath st.packages → RemovesNoLookUps n → KeepsLookUps n

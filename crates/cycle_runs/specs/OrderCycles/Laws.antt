@@ -20,8 +20,8 @@ use Rattle.cycle_runs.specs.OrderCycles.NewNames.{NamesByPath, FewNames}
 use Rattle.cycle_runs.specs.OrderCycles.Steps.{site_added, PutsTheSame, KeepsImportNames, GivesWayAdded, AllGiveWayAdded}
 
 -- Programs of the same declarations under other imports declare what is found the same, in whatever dependency order
--- their packages stand, if each identifier is the name of the same import, or of none, and no imports lead to a cycle
--- of packages.
+-- their packages stand, if each name that is looked up is that of the same import, or of none, and no imports lead to a
+-- cycle of packages.
 abbrev pub OrdersDeclareTheSame : Type 0
 OrdersDeclareTheSame =
     (ps qs : List (Package At)) → PackagesBeside ps qs → PackagesUnder ps qs → AllOrdered ps → AllOrdered qs

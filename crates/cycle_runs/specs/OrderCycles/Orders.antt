@@ -13,7 +13,7 @@ module _ {S : Type 0} where
   AllOrdered ps =
       (k : ℕ) (p : Package S) → slice_get ps k ≡ Some p → list_any (λ j. j == k) (dependency_order ps) ≡ true
 
-  -- packages with the same names and the same declarations one by one, each identifier of which is the name of the same
-  -- import, or of none
+  -- packages with the same names and the same declarations one by one, where each name that these look up is that of
+  -- the same import, or of none
   abbrev pub PackagesUnder : List (Package S) → List (Package S) → Type 0
   PackagesUnder ps qs = OneByOne (PackageUnder ps qs) (numbered ps) (numbered qs)

@@ -11,7 +11,8 @@ use Rattle.run_rules.specs.Run.{Standing, Logged, Next, Run, ends, goes_on}
 use Rattle.cycle_laws.specs.PutCalls.{AllPutCallAlike}
 use Rattle.cycle_laws.specs.PutSteps.{KeepsStatements}
 use Rattle.cycle_runs.specs.StepCycles.Steps.{StandsAtEnds}
-use Rattle.cycle_runs.specs.ImportCycles.ImportSteps.{file_added, packages_added, where_added, AddsNewNames, KeepsNames, decl_put}
+use Rattle.cycle_runs.specs.ImportCycles.ImportSteps.{file_added, packages_added, where_added, decl_put}
+use Rattle.cycle_runs.specs.ImportCycles.ImportSteps.{AddsNewNames, KeepsNames, KeepsLookUps}
 use Rattle.cycle_runs.specs.OrderCycles.Orders.{AllOrdered}
 
 -- the use with the imports of its form added to its file
@@ -33,6 +34,16 @@ pub record KeepsImportNames {marks : List MarkRef} {st : Standing} {l : Logged} 
     (n : Next marks st l after) : Type 0 where
   pub new_names : AddsNewNames st.packages n.found
   pub kept_names : KeepsNames n
+  pub ordered : AllOrdered st.packages
+  pub ordered_added : AllOrdered (packages_added st.packages n.found)
+  pub ordered_after : AllOrdered after.packages
+
+-- The same, where each name that the file as it is read again looks up is that of the same import as with them added,
+-- or of none: nothing is asked of identifiers that are looked up nowhere.
+pub record KeepsImportLookUps {marks : List MarkRef} {st : Standing} {l : Logged} {after : Standing}
+    (n : Next marks st l after) : Type 0 where
+  pub new_names : AddsNewNames st.packages n.found
+  pub kept_names : KeepsLookUps n
   pub ordered : AllOrdered st.packages
   pub ordered_added : AllOrdered (packages_added st.packages n.found)
   pub ordered_after : AllOrdered after.packages

@@ -8,7 +8,6 @@ use Rattle.go_tree.specs.declared.spans.Span.{Span}
 use Rattle.go_tree.specs.Tree.{NameAt, Expr, ident, selector}
 use Rattle.go_tree.specs.File.{ImportSpec, Decl}
 use Rattle.scope_names.specs.FreeNames.{names_of}
-use Rattle.scope_names.specs.Identifiers.{decl_identifiers}
 use Rattle.scope_names.specs.Means.{means}
 use Rattle.pkg_graph.specs.Package.{SourceTree, Package, import_specs}
 use Rattle.pkg_graph.specs.Members.{Target}
@@ -37,9 +36,13 @@ use Rattle.cycle_runs.specs.ImportCycles.ImportSteps.{file_added, packages_added
 use Rattle.cycle_runs.proofs.ImportCycles.ImportStep.{placed}
 use Rattle.cycle_runs.proofs.ImportCycles.ImportsAdded.{reads-added}
 use Rattle.cycle_runs.specs.OrderCycles.NewNames.{NamesByPath}
-use Rattle.cycle_runs.specs.OrderCycles.Steps.{KeepsImportNames}
-use Rattle.cycle_runs.specs.Linked.{SettlesFile}
-use Rattle.cycle_runs.proofs.Runs.{linked-names, step-names}
+use Rattle.cycle_runs.specs.ImportCycles.LookedUp.{decl_looked_up}
+use Rattle.cycle_runs.proofs.ImportCycles.FreeIdentifiers.{looked-up-within}
+use Rattle.cycle_runs.specs.KeptImports.Files.{RemovesNoNames}
+use Rattle.cycle_runs.specs.OrderCycles.Steps.{KeepsImportLookUps}
+use Rattle.cycle_runs.specs.Linked.{WritesFile}
+use Rattle.cycle_runs.proofs.Runs.{linked-names, step-look-ups}
+use Rattle.marked_runs.specs.SettledConstants.Laws.{ConstantsWrite}
 use Rattle.put_names.specs.Uses.{IsDeclaredAsName, as_name, as_member, UsesConstant}
 use Rattle.marked_runs.specs.SettledConstants.Programs.{IsReady, IsOverConstant}
 use Rattle.marked_runs.specs.NamedMarks.Named.{IsNamedConstant, AllNamed}
@@ -104,16 +107,25 @@ own-number off (x ∷ ps) (suc q) p e h = by (bytes_eq p.path x.path) refl (own-
     by false f r = omega (arith, r)
 
 module _ (marks : List MarkRef) (st : Standing) (l : Logged) (after : Standing) (n : Next marks st l after) (over : IsOverName n) where
-  pub is-over : AllNamed st.packages marks → IsOverConstant n
-  is-over all = record {
+  pub is-over : AllNamed st.packages marks → RemovesNoNames n → IsOverConstant n
+  is-over all removes = record {
     uses = named-used marks st l after n over.old over.part all;
     old = over.old;
     part = over.part;
     few = over.few;
-    removes = over.removes;
+    removes = removes;
   }
 
-  module _ (ready : IsReady st) (all : AllNamed st.packages marks) (settles : SettlesFile n) where
+  module _ (write : ConstantsWrite) (ready : IsReady st) (all : AllNamed st.packages marks) where
+    pub writes : WritesFile n
+    writes = write marks st l after n ready (named-used marks st l after n over.old over.part all) over.old over.part over.few
+
+    pub look-ups : KeepsImportLookUps n
+    look-ups = step-look-ups marks st l after n ready.links writes over.few over.removes
+
+    abbrev names : KeepsImportLookUps n
+    names = look-ups
+
     abbrev x : Site At
     x = n.found.site
 
@@ -125,9 +137,6 @@ module _ (marks : List MarkRef) (st : Standing) (l : Logged) (after : Standing) 
 
     here : Placed here_of (λ (s : Span). Unit {0}) st.packages marks x
     here = placed marks st l after n
-
-    names : KeepsImportNames n
-    names = step-names marks st l after n ready.links settles
 
     by_path : NamesByPath st.packages
     by_path = linked-names st.packages ready.links
@@ -213,11 +222,11 @@ module _ (marks : List MarkRef) (st : Standing) (l : Logged) (after : Standing) 
           shaped : shape constant3.value ≡ shape v2
           shaped = constant3.shaped ∙ shape-with origin_of v2
 
-          -- an identifier before a dot is one of the declaration
-          dotted : (q k : List ℕ) → shape v2 ≡ Some (Some q, k) → In q (decl_identifiers d3)
+          -- a name before a dot is looked up
+          dotted : (q k : List ℕ) → shape v2 ≡ Some (Some q, k) → In q (decl_looked_up d3)
           dotted q k s = dotted-in d3 m.item constant3.name constant3.value q k constant3.is (shaped ∙ s)
 
-          there-now : (q : List ℕ) → In q (decl_identifiers d3) → import_path now (import_specs u.source.tree) q ≡ import_path mid (import_specs (file_added n.found)) q
+          there-now : (q : List ℕ) → In q (decl_looked_up d3) → import_path now (import_specs u.source.tree) q ≡ import_path mid (import_specs (file_added n.found)) q
           there-now q i = (λ v. import_path now (import_specs (new v).tree) q) ∙ paths-between (import_specs n.tree) q ∙ names.kept_names m.decl d3 seen_there.1 q i
 
           made : Declares now u (shape v2) → IsNamedConstant now m
@@ -246,7 +255,7 @@ module _ (marks : List MarkRef) (st : Standing) (l : Logged) (after : Standing) 
                     imported =
                         imported-now st.packages w n.tree here.package_is here.file_is c.home u q k
                         (there-now q (dotted q a.name s)
-                        ∙ reads-added marks st l after n names.new_names m.decl d.decl old-nth q (dotted-in d.decl m.item c.name (selector y (ident y' q) a) q a.name holds refl)
+                        ∙ reads-added marks st l after n names.new_names m.decl d.decl old-nth q (looked-up-within d.decl q (dotted-in d.decl m.item c.name (selector y (ident y' q) a) q a.name holds refl))
                         ∙ (λ v. import_path st.packages (import_specs (home-source v).tree) q)) h;
                     there = pn.1;
                   }

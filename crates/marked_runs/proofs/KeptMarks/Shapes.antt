@@ -4,14 +4,14 @@ use Rattle.std.specs.Prelude.{slice_get}
 use Rattle.std.proofs.lemmas.Option.{same_Some}
 use Rattle.go_tree.specs.Tree.{NameAt, Expr, ident, int_lit, rune_lit, str_lit, composite, selector, index, slice, call, func_lit, type_operand, unary, binary, star, Exprs, no_exprs, expr_and, const_decl, ValueSpecs, no_specs, spec}
 use Rattle.go_tree.specs.File.{TypeSpec, Decl, values, types, func}
-use Rattle.scope_names.specs.FreeNames.{names_of}
-use Rattle.scope_names.specs.Identifiers.{type_option_identifiers, expr_identifiers, exprs_identifiers, specs_identifiers, decl_identifiers}
+use Rattle.scope_names.specs.FreeNames.{free_type_option, free_expr, free_exprs}
 use Rattle.pkg_graph.specs.Package.{Package}
 use Rattle.go_types.specs.Answers.{given}
 use Rattle.go_types.specs.Agreement.{In, head}
 use Rattle.run_rules.specs.Respanned.{name_with, type_with, expr_with, exprs_with, specs_with, type_spec_with, decl_with}
 use Rattle.run_rules.specs.Sites.{Where, Inlinable, a_constant, an_alias, constant_in_spec, less, nth_constant, aliased, inlinable_in}
 use Rattle.run_rules.specs.Steps.{At}
+use Rattle.cycle_runs.specs.ImportCycles.LookedUp.{specs_looked_up, decl_looked_up}
 use Rattle.cycle_runs.proofs.ImportCycles.FreeIdentifiers.{in-left, in-right}
 use Rattle.put_names.specs.Uses.{IsDeclaredAsName, as_name, as_member}
 use Rattle.marked_runs.proofs.KeptMarks.Changed.{Imported}
@@ -106,10 +106,10 @@ module _ (ps : List (Package At)) (w : Where At) where
   declared (binary y o a b) h = absurd h
   declared (star y b) h = absurd h
 
--- ---- the name before the dot is an identifier of the declaration
+-- ---- the name before the dot is looked up by the declaration
 
 module _ {S : Type 0} where
-  before-dot : (e : Expr S) (q n : List ℕ) → shape e ≡ Some (Some q, n) → In q (expr_identifiers e)
+  before-dot : (e : Expr S) (q n : List ℕ) → shape e ≡ Some (Some q, n) → In q (free_expr [] e)
   before-dot (ident s x) q n h = no-name h
     where
       no-name : ◌≡◌ {A = Option (Option (List ℕ) × List ℕ)} (Some (None, x)) (Some (Some q, n)) → In q (x ∷ [])
@@ -123,8 +123,8 @@ module _ {S : Type 0} where
       first_is h =
           same_Some x q (ap (λ (o : Option (Option (List ℕ) × List ℕ)). elim o [ None ↦ None | Some a ↦ a.0 ]) h)
 
-      in-first : x ≡ q → In q (x ∷ m.name ∷ [])
-      in-first e = subst (λ (y : List ℕ). In y (x ∷ m.name ∷ [])) e head
+      in-first : x ≡ q → In q (x ∷ [])
+      in-first e = subst (λ (y : List ℕ). In y (x ∷ [])) e head
   before-dot (selector s (int_lit y x) m) q n h = absurd cc
   before-dot (selector s (rune_lit y x) m) q n h = absurd cc
   before-dot (selector s (str_lit y x) m) q n h = absurd cc
@@ -152,13 +152,13 @@ module _ {S : Type 0} where
   before-dot (star y b) q n h = absurd cc
 
   module _ (q : List ℕ) where
-    in-spec : (i : ℕ) (ns : List (NameAt S)) (es : Exprs S) (rest : Option (Inlinable S)) (c : NameAt S) (e : Expr S) (more : List (List ℕ)) → In q (expr_identifiers e) → (rest ≡ Some (a_constant c e) → In q more)
-        → constant_in_spec i ns es rest ≡ Some (a_constant c e) → In q (exprs_identifiers es ++ more)
-    in-spec i [] es rest c e more f k h = in-right q (exprs_identifiers es) more (k h)
+    in-spec : (i : ℕ) (ns : List (NameAt S)) (es : Exprs S) (rest : Option (Inlinable S)) (c : NameAt S) (e : Expr S) (more : List (List ℕ)) → In q (free_expr [] e) → (rest ≡ Some (a_constant c e) → In q more)
+        → constant_in_spec i ns es rest ≡ Some (a_constant c e) → In q (free_exprs [] es ++ more)
+    in-spec i [] es rest c e more f k h = in-right q (free_exprs [] es) more (k h)
     in-spec zero (n ∷ ns) no_exprs rest c e more f k h = absurd cc
     in-spec zero (n ∷ ns) (expr_and y ys) rest c e more f k h =
-        in-left q (exprs_identifiers (expr_and y ys)) more
-        (in-left q (expr_identifiers y) (exprs_identifiers ys) (subst (λ (x : Expr S). In q (expr_identifiers x)) (sym (value_of (same_Some (a_constant n y) (a_constant c e) h))) f))
+        in-left q (free_exprs [] (expr_and y ys)) more
+        (in-left q (free_expr [] y) (free_exprs [] ys) (subst (λ (x : Expr S). In q (free_expr [] x)) (sym (value_of (same_Some (a_constant n y) (a_constant c e) h))) f))
       where
         value_of : a_constant n y ≡ a_constant c e → y ≡ e
         value_of g = cc
@@ -169,12 +169,12 @@ module _ {S : Type 0} where
         turns [] us vs = refl
         turns (x ∷ xs) us vs = λ v. x ∷ turns xs us vs v
 
-        further : In q (exprs_identifiers ys ++ more) → In q ((expr_identifiers y ++ exprs_identifiers ys) ++ more)
-        further g = subst (λ (x : List (List ℕ)). In q x) (sym (turns (expr_identifiers y) (exprs_identifiers ys) more)) (in-right q (expr_identifiers y) (exprs_identifiers ys ++ more) g)
+        further : In q (free_exprs [] ys ++ more) → In q ((free_expr [] y ++ free_exprs [] ys) ++ more)
+        further g = subst (λ (x : List (List ℕ)). In q x) (sym (turns (free_expr [] y) (free_exprs [] ys) more)) (in-right q (free_expr [] y) (free_exprs [] ys ++ more) g)
 
-    in-specs : (i : ℕ) (ss : ValueSpecs S) (c : NameAt S) (e : Expr S) → In q (expr_identifiers e) → nth_constant i ss ≡ Some (a_constant c e) → In q (specs_identifiers ss)
+    in-specs : (i : ℕ) (ss : ValueSpecs S) (c : NameAt S) (e : Expr S) → In q (free_expr [] e) → nth_constant i ss ≡ Some (a_constant c e) → In q (specs_looked_up ss)
     in-specs i no_specs c e f h = absurd cc
-    in-specs i (spec s ns t es ss) c e f h = behind (names_of ns ++ type_option_identifiers t) (exprs_identifiers es) (specs_identifiers ss) (in-spec i ns es (nth_constant (less i ns) ss) c e (specs_identifiers ss) f (λ g. in-specs (less i ns) ss c e f g) h)
+    in-specs i (spec s ns t es ss) c e f h = behind (free_type_option [] t) (free_exprs [] es) (specs_looked_up ss) (in-spec i ns es (nth_constant (less i ns) ss) c e (specs_looked_up ss) f (λ g. in-specs (less i ns) ss c e f g) h)
       where
         turns : (xs us vs : List (List ℕ)) → (xs ++ us) ++ vs ≡ xs ++ (us ++ vs)
         turns [] us vs = refl
@@ -183,7 +183,7 @@ module _ {S : Type 0} where
         behind : (xs us vs : List (List ℕ)) → In q (us ++ vs) → In q ((xs ++ us) ++ vs)
         behind xs us vs g = subst (λ (x : List (List ℕ)). In q x) (sym (turns xs us vs)) (in-right q xs (us ++ vs) g)
 
-    in-decl : (d : Decl S) (i : ℕ) (c : NameAt S) (e : Expr S) → In q (expr_identifiers e) → inlinable_in d i ≡ Some (a_constant c e) → In q (decl_identifiers d)
+    in-decl : (d : Decl S) (i : ℕ) (c : NameAt S) (e : Expr S) → In q (free_expr [] e) → inlinable_in d i ≡ Some (a_constant c e) → In q (decl_looked_up d)
     in-decl (values (const_decl s g ss)) i c e f h = in-specs i ss c e f h
     in-decl (values s) i c e f h = absurd cc
     in-decl (types s g ts) i c e f h = absurd (none_in (slice_get ts i) h)
@@ -197,7 +197,7 @@ module _ {S : Type 0} where
             by false q = cc
     in-decl (func g) i c e f h = absurd cc
 
-  pub dotted-in : (d : Decl S) (i : ℕ) (c : NameAt S) (e : Expr S) (q n : List ℕ) → inlinable_in d i ≡ Some (a_constant c e) → shape e ≡ Some (Some q, n) → In q (decl_identifiers d)
+  pub dotted-in : (d : Decl S) (i : ℕ) (c : NameAt S) (e : Expr S) (q n : List ℕ) → inlinable_in d i ≡ Some (a_constant c e) → shape e ≡ Some (Some q, n) → In q (decl_looked_up d)
   dotted-in d i c e q n h k = in-decl q d i c e (before-dot e q n k) h
 
 -- ---- constants of declarations that are equal but for their spans

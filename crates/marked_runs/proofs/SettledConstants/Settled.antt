@@ -14,14 +14,15 @@ use Rattle.standing_uses.specs.ImportUses.Parts as parts
 use Rattle.standing_uses.specs.ImportUses.Parts.{IsName}
 use Rattle.standing_uses.proofs.Named.{constant_named}
 use Rattle.cycle_runs.specs.OrderedSteps.Ranks.{AddsLedTo}
-use Rattle.cycle_runs.specs.Linked.{Linked, SettlesFile}
-use Rattle.cycle_runs.proofs.Runs.{step-linked, one-constant}
+use Rattle.cycle_runs.specs.Linked.{Linked, WritesFile, SettlesFile}
+use Rattle.cycle_runs.specs.OrderCycles.NewNames.{FewNames}
+use Rattle.cycle_runs.proofs.Runs.{step-linked, writes-of, one-constant}
 use Rattle.cycle_runs.proofs.LedImports.Homes.{home-led}
 use Rattle.cycle_runs.proofs.LedImports.Steps.{added-led}
 use Rattle.put_nodes.specs.Put as put
 use Rattle.put_nodes.specs.Put.{IsSomeName}
 use Rattle.put_names.specs.Uses.{IsUsedByName, UsesConstant}
-use Rattle.put_names.proofs.Settled.{constants_settle}
+use Rattle.put_names.proofs.Settled.{constants_settle, constants_write}
 use Rattle.typed_parts.specs.ScopedParts.Laws.{WellTypedFilesAreScoped}
 use Rattle.written_literal.proofs.UnspreadForms.StepsUnspread.{step-unspread}
 use Rattle.put_names.specs.WrittenNames.NamedPackages.{PackagesAreNamed, PathsAreOctets}
@@ -56,19 +57,31 @@ module _ (marks : List MarkRef) (st : Standing) (l : Logged) (after : Standing) 
       (adds_led ready.reads ready.named ready.links over.uses over.old over.part)
       over.few over.removes over.uses
 
-  pub stays_ready : IsReady st → SettlesFile n → well_typed (linked after.packages) ≡ true → IsReady after
-  stays_ready ready settles typed =
+  pub constant_writes : WellTypedFilesAreScoped → IsReady st → UsesConstant n → (e : Expr At) → n.found.site.part ≡ an_expr e → FewNames st.packages n.found → WritesFile n
+  constant_writes scoped ready uses e part few =
+      constants_write marks st l after n ready.reads (linked_writable st.packages ready.links ready.named ready.octets)
+      (uses_undotted marks st l after n ready.typed ready.unspread)
+      (uses_scoped marks st l after n scoped ready.reads ready.links.ordered ready.typed)
+      (uses_named uses e part)
+      (adds_led ready.reads ready.named ready.links uses e part)
+      few uses
+
+  pub written_ready : IsReady st → WritesFile n → well_typed (linked after.packages) ≡ true → IsReady after
+  written_ready ready writes typed =
       let read : ProgramReads after × OnePathEach after.packages = steps_keep_reading marks st l after n ready.reads ready.paths in
       let kept : PackagesAreNamed after.packages × PathsAreOctets after.packages = names.step_keeps marks st l after n ready.named ready.octets in
       record {
         reads = read.0;
         paths = read.1;
-        links = step-linked marks st l after n ready.links settles;
+        links = step-linked marks st l after n ready.links writes;
         named = kept.0;
         octets = kept.1;
         typed = typed;
         unspread = step-unspread marks st l after n ready.unspread;
       }
+
+  pub stays_ready : IsReady st → SettlesFile n → well_typed (linked after.packages) ≡ true → IsReady after
+  stays_ready ready settles typed = written_ready ready (writes-of settles) typed
 
   pub step_keeps : WellTypedFilesAreScoped → IsReady st → IsOverConstant n → PutsOtherName n → (m : MarkRef) → is_recursive st.packages marks m ≡ is_recursive after.packages marks m
   step_keeps scoped ready over puts m =

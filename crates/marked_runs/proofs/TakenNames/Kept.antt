@@ -17,7 +17,9 @@ use Rattle.run_rules.specs.Inlining.{ModuleReads, standing_as_read}
 use Rattle.order_runs.specs.RunSteps.RunPackages.{members_of, packages_of}
 use Rattle.order_runs.proofs.OrderedSteps.{program-means}
 use Rattle.marked_runs.specs.SettledConstants.Laws as settled
-use Rattle.marked_runs.specs.SettledConstants.Programs.{IsReady, IsOverConstant}
+use Rattle.cycle_runs.specs.Linked.{WritesFile}
+use Rattle.cycle_runs.proofs.Runs.{writes-of}
+use Rattle.marked_runs.specs.SettledConstants.Programs.{IsReady}
 use Rattle.written_literal.specs.UnspreadForms.UnspreadForms.{UnspreadPackages}
 use Rattle.marked_runs.specs.ReadyModules.Laws.{ReadModulesAreReady}
 use Rattle.marked_runs.proofs.ReadyModules.Typed.{linked_typed, typed_as_read}
@@ -29,10 +31,10 @@ use Rattle.marked_runs.proofs.TakenNames.Runs.{typed-next, module-keeps}
 abbrev pub BothReady : Standing → Type 0
 BothReady st = IsReady st × (are_well_typed (members_of st.packages) ≡ true)
 
-pub step-ready : settled.ConstantsSettle → settled.StepsStayReady → (marks : List MarkRef) (st : Standing) (l : Logged) (after : Standing) (n : Next marks st l after) → BothReady st → IsOverConstant n → TakesName n → BothReady after
-step-ready settles stays marks st l after n h over takes =
+pub step-ready : settled.StepsStayReady → (marks : List MarkRef) (st : Standing) (l : Logged) (after : Standing) (n : Next marks st l after) → BothReady st → WritesFile n → TakesName n → BothReady after
+step-ready stays marks st l after n h writes takes =
     let typed : are_well_typed (members_of after.packages) ≡ true = typed-next marks st l after n takes h.1 in
-    (stays marks st l after n h.0 (settles marks st l after n h.0 over) (linked_typed after.packages typed), typed)
+    (stays marks st l after n h.0 writes (linked_typed after.packages typed), typed)
 
 each-takes : (marks : List MarkRef) (st last : Standing) (log : List Logged) (run : Run marks st log last) → AllTake run → EachTakes run
 each-takes marks st _ _ (ends _ over) h = tt
@@ -42,13 +44,13 @@ module _ (settles : settled.ConstantsSettle) (stays : settled.StepsStayReady) (k
   last-ready : (marks : List MarkRef) (st last : Standing) (log : List Logged) (run : Run marks st log last) → AllTake run → BothReady st → BothReady last
   last-ready marks st _ _ (ends _ over) h r = r
   last-ready marks st last _ (goes_on _ next _ l log n run) h r =
-      last-ready marks next last log run h.1.1.1 (step-ready settles stays marks st l next n r h.0 h.1.1.0)
+      last-ready marks next last log run h.1.1.1 (step-ready stays marks st l next n r (writes-of (settles marks st l next n r.0 h.0)) h.1.1.0)
 
   same-cycles : (marks : List MarkRef) (st last : Standing) (log : List Logged) (run : Run marks st log last) → AllTake run → BothReady st → (m : MarkRef) → is_recursive st.packages marks m ≡ is_recursive last.packages marks m
   same-cycles marks st _ _ (ends _ over) h r m = refl
   same-cycles marks st last _ (goes_on _ next _ l log n run) h r m =
       keep marks st l next n r.0 h.0 h.1.0 m
-      ∙ same-cycles marks next last log run h.1.1.1 (step-ready settles stays marks st l next n r h.0 h.1.1.0) m
+      ∙ same-cycles marks next last log run h.1.1.1 (step-ready stays marks st l next n r (writes-of (settles marks st l next n r.0 h.0)) h.1.1.0) m
 
   pub run-over-constants : ReadModulesAreReady → (files : List Source) (ps : List (run.Package Span)) (texts : List (List ℕ × FileText)) (marks : List MarkRef) (last : Standing) (log : List Logged) → ModuleReads files ps texts
       → list_all (λ f. each is_byte f.path) files ≡ true → are_well_typed (members_of ps) ≡ true → UnspreadPackages ps → (run : Run marks (standing_as_read ps texts) log last) → AllTake run → KeptByRun ps texts marks last

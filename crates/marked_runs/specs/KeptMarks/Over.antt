@@ -7,15 +7,15 @@ use Rattle.run_rules.specs.Naming.{names_by}
 use Rattle.run_rules.specs.Sites.{MarkRef, an_expr}
 use Rattle.run_rules.specs.Steps.{At}
 use Rattle.run_rules.specs.Run.{Standing, Logged, Next}
-use Rattle.cycle_runs.specs.KeptImports.Files.{RemovesNoNames}
+use Rattle.cycle_runs.specs.KeptImports.Files.{RemovesNoLookUps}
 use Rattle.cycle_runs.specs.OrderCycles.NewNames.{FewNames}
 
--- The use is an expression. The names to avoid are fewer than 2^64, no import that goes has the name of an identifier,
--- and no package is named `_` in the form.
+-- The use is an expression. The names to avoid are fewer than 2^64, no import that goes has a name that is looked up in
+-- the file as it is read again, and no package is named `_` in the form.
 pub record IsOverName {marks : List MarkRef} {st : Standing} {l : Logged} {after : Standing} (n : Next marks st l after)
     : Type 0 where
   pub old : Expr At
   pub part : n.found.site.part ≡ an_expr old
   pub few : FewNames st.packages n.found
-  pub removes : RemovesNoNames n
+  pub removes : RemovesNoLookUps n
   pub spelled : (k : ℕ) → is_blank (names_by n.found.named k) ≡ false

@@ -15,7 +15,8 @@ use Rattle.run_laws.specs.Reading.{ProgramReads}
 use Rattle.splice_laws.specs.Dots.{UndottedFile}
 use Rattle.cycle_runs.specs.OrderCycles.Orders.{AllOrdered}
 use Rattle.cycle_runs.specs.OrderedSteps.Ranks.{AddsLedTo}
-use Rattle.cycle_runs.specs.Linked.{Linked, SettlesFile}
+use Rattle.cycle_runs.specs.Linked.{Linked, WritesFile, SettlesFile}
+use Rattle.cycle_runs.specs.OrderCycles.NewNames.{FewNames}
 use Rattle.cycle_runs.specs.LedImports.Led.{IsSpelled}
 use Rattle.put_names.specs.WrittenNames.NamedPackages.{PackagesAreNamed, PathsAreOctets}
 use Rattle.put_names.specs.Laws.{PackagesAreWritable}
@@ -63,7 +64,13 @@ ConstantsAddLed =
     → PackagesAreNamed st.packages → Linked st.packages → UsesConstant n → (e : Expr At)
     → n.found.site.part ≡ an_expr e → AddsLedTo st.packages n.found
 
--- So a step over a constant settles its file in a program that is ready.
+-- So a step over a constant writes its file in a program that is ready, if the names to avoid are fewer than 2^64.
+abbrev pub ConstantsWrite : Type 0
+ConstantsWrite =
+    (marks : List MarkRef) (st : Standing) (l : Logged) (after : Standing) (n : Next marks st l after) → IsReady st
+    → UsesConstant n → (e : Expr At) → n.found.site.part ≡ an_expr e → FewNames st.packages n.found → WritesFile n
+
+-- It settles it where besides no import that goes has the name of an identifier.
 abbrev pub ConstantsSettle : Type 0
 ConstantsSettle =
     (marks : List MarkRef) (st : Standing) (l : Logged) (after : Standing) (n : Next marks st l after) → IsReady st
@@ -71,11 +78,11 @@ ConstantsSettle =
 
 -- ---- programs after steps
 
--- A step that settles its file leaves a program that is ready, if that is well typed.
+-- A step that writes its file leaves a program that is ready, if that is well typed.
 abbrev pub StepsStayReady : Type 0
 StepsStayReady =
     (marks : List MarkRef) (st : Standing) (l : Logged) (after : Standing) (n : Next marks st l after) → IsReady st
-    → SettlesFile n → well_typed (linked after.packages) ≡ true → IsReady after
+    → WritesFile n → well_typed (linked after.packages) ≡ true → IsReady after
 
 -- A step over a constant keeps which marked functions lie on a cycle, if it puts another name of the constant.
 abbrev pub ConstantsKeepCycles : Type 0

@@ -21,7 +21,8 @@ use Rattle.run_rules.specs.Inlining.{ModuleReads, standing_as_read}
 use Rattle.order_runs.specs.RunSteps.RunPackages.{packages_of}
 use Rattle.order_runs.specs.ImportRuns.ImportingNext.{IsImporting}
 use Rattle.order_runs.specs.SameProgram.{SameProgram}
-use Rattle.marked_runs.specs.SettledConstants.Programs.{IsReady, IsOverConstant}
+use Rattle.cycle_runs.specs.Linked.{WritesFile}
+use Rattle.marked_runs.specs.SettledConstants.Programs.{IsReady}
 use Rattle.written_literal.specs.UnspreadForms.UnspreadForms.{UnspreadPackages}
 use Rattle.marked_runs.specs.TakenNames.Taken.{TakesName, EachTakes, AllTake}
 
@@ -45,11 +46,12 @@ StepsStayTyped =
     → WellTyped (packages_of st.packages [])
     → WellTyped (packages_of after.packages []) × (well_typed (linked after.packages) ≡ true)
 
--- So where a program is ready and its packages are well typed, so is the program after the step, and so are they.
+-- So where a program is ready and its packages are well typed, and such a step writes its file, so is the program after
+-- the step, and so are they.
 abbrev pub StepsStayReady : Type 0
 StepsStayReady =
     (marks : List MarkRef) (st : Standing) (l : Logged) (after : Standing) (n : Next marks st l after) → IsReady st
-    → WellTyped (packages_of st.packages []) → IsOverConstant n → TakesName n
+    → WellTyped (packages_of st.packages []) → WritesFile n → TakesName n
     → IsReady after × WellTyped (packages_of after.packages [])
 
 -- The last program of a run of such steps, from files that read as a module, means what the module does.

@@ -11,7 +11,7 @@ use Rattle.run_rules.specs.FormTrees.{as_expr}
 use Rattle.run_rules.specs.Steps.{At, Found, same_here}
 use Rattle.run_rules.specs.Run.{Standing, Logged, Next, Run, ends, goes_on, is_commented}
 use Rattle.cycle_runs.specs.ImportCycles.ImportSteps.{packages_added, where_added}
-use Rattle.cycle_runs.specs.OrderCycles.Steps.{KeepsImportNames}
+use Rattle.cycle_runs.specs.OrderCycles.Steps.{KeepsImportLookUps}
 use Rattle.constant_steps.specs.QualifiedSteps.NamedUse.{NamedUse, NamedUseStands}
 use Rattle.order_runs.specs.RunSteps.RunPackages.{members_of, packages_of}
 use Rattle.order_runs.specs.ImportCodes.PackagesMoved.{ImportsStand}
@@ -23,8 +23,8 @@ abbrev pub site_there : Found At → Place At → Site At
 site_there f p = record f.site { at = where_added f; place = p }
 
 -- With the imports of the form added, the use stands at this place. It is a name of a constant that is declared as
--- another's name, and becomes that name, for which the file has all imports then. These have new names, and each
--- identifier is last the name of the same import, or of none; the imports of the packages are right at last.
+-- another's name, and becomes that name, for which the file has all imports then. These have new names, and each name
+-- that is looked up is last that of the same import, or of none; the imports of the packages are right at last.
 pub record TakesName {marks : List MarkRef} {st : Standing} {l : Logged} {after : Standing} (n : Next marks st l after)
     : Type 0 where
   pub place : Place At
@@ -33,7 +33,7 @@ pub record TakesName {marks : List MarkRef} {st : Standing} {l : Logged} {after 
       NamedUseStands same_here (is_commented st) (packages_added st.packages n.found) marks
       (site_there n.found place) use_
   pub form : n.found.form ≡ as_expr use_.new
-  pub names : KeepsImportNames n
+  pub names : KeepsImportLookUps n
   pub file_sound : MayBeDeclared (packages_added st.packages n.found) (site_there n.found place).at
   pub home_sound : MayBeDeclared (packages_added st.packages n.found) use_.home
   pub imports :

@@ -4,7 +4,6 @@ use Rattle.std.specs.Prelude.{slice_get, nat_eq, is_none, ◌&&◌}
 use Rattle.go_tree.specs.Tree.{TypeExpr, Exprs, no_exprs, const_decl, var_decl, empty, eval, step, assign, define, return_, break_, continue_, inner, if_, for_, range_, switch, defer, label, ValueSpecs, no_specs, spec}
 use Rattle.go_tree.specs.File.{TypeSpec, Receiver, Func, Decl, values, types, func}
 use Rattle.scope_names.specs.FreeNames.{free_params, free_stmts}
-use Rattle.scope_names.specs.Identifiers.{stmts_identifiers, receiver_identifiers, sig_identifiers, decl_identifiers}
 use Rattle.scope_names.specs.Means.{Environment, means, is_blank}
 use Rattle.go_types.specs.Answers.{given, only_if, otherwise}
 use Rattle.go_types.specs.Types.{named_type, type_name_of, base_of}
@@ -22,7 +21,8 @@ use Rattle.typed_in_place.specs.ImportsMoved.{under_imports, file_names, MovedRe
 use Rattle.typed_in_place.proofs.ImportsMoved.{func_type-moved}
 use Rattle.go_translation.proofs.SmallAlike.{kept}
 use Rattle.constant_steps.proofs.StepLaws.FurtherApart.{both-all}
-use Rattle.cycle_runs.proofs.ImportCycles.FreeIdentifiers.{in-right, stmts-in}
+use Rattle.cycle_runs.specs.ImportCycles.LookedUp.{receiver_looked_up, decl_looked_up}
+use Rattle.cycle_runs.proofs.ImportCycles.FreeIdentifiers.{in-right}
 use Rattle.cycle_runs.proofs.ImportCycles.HeadersMoved.{AllMean, HeaderReads, decls-all}
 
 -- the second header is the first under other imports, under which each name means what it meant
@@ -88,7 +88,7 @@ module _ (home : ℕ) (is js : Environment Entity) where
     type-bodies g s [] = all_of_none
     type-bodies g s (t ∷ ts) = all_and tt (type-bodies g s ts)
 
-    decl-bodies : (d : Decl S) → AllMean home is js (decl_identifiers d) → All BodyReads (headers d)
+    decl-bodies : (d : Decl S) → AllMean home is js (decl_looked_up d) → All BodyReads (headers d)
     decl-bodies (values (const_decl s g ss)) h = constant-bodies (at_member g s) None no_exprs 0 ss
     decl-bodies (values (var_decl s g ss)) h = variable-bodies (at_member g s) ss
     decl-bodies (values (empty _)) h = all_of_none
@@ -108,9 +108,9 @@ module _ (home : ℕ) (is js : Environment Entity) where
     decl-bodies (values (label _ _ _)) h = all_of_none
     decl-bodies (types s g ts) h = type-bodies g s ts
     decl-bodies (func f) h =
-        all_and (λ n j. h n (in-right n (receiver_identifiers f.receiver ++ f.name.name ∷ sig_identifiers f.sig) (stmts_identifiers f.body) (stmts-in [] f.body n j))) all_of_none
+        all_and (λ n j. h n (in-right n (receiver_looked_up f.receiver ++ free_params [] f.sig.params ++ free_params [] f.sig.results) (free_stmts [] f.body) j)) all_of_none
 
-    decls-bodies : (ds : List (Decl S)) → ((k : ℕ) (d : Decl S) → slice_get ds k ≡ Some d → AllMean home is js (decl_identifiers d)) → All BodyReads (all_headers ds)
+    decls-bodies : (ds : List (Decl S)) → ((k : ℕ) (d : Decl S) → slice_get ds k ≡ Some d → AllMean home is js (decl_looked_up d)) → All BodyReads (all_headers ds)
     decls-bodies [] h = all_of_none
     decls-bodies (d ∷ ds) h = both-all (decl-bodies d (h 0 d refl)) (decls-bodies ds (λ k e g. h (suc k) e g))
 
@@ -140,6 +140,6 @@ module _ (home : ℕ) (is js : Environment Entity) where
           and_more (record { imports = js; same = refl; moved = moved-there x refl refl p; body = whole x refl refl (moved-there x refl refl p) q })
           (whole-file in_main file (header_names h.1 ++ before) hs ps qs)
 
-      pub file-moved : (in_main : Bool) (file : ℕ) (before : List (List ℕ)) (ds : List (Decl S)) → ((k : ℕ) (d : Decl S) → slice_get ds k ≡ Some d → AllMean home is js (decl_identifiers d))
+      pub file-moved : (in_main : Bool) (file : ℕ) (before : List (List ℕ)) (ds : List (Decl S)) → ((k : ℕ) (d : Decl S) → slice_get ds k ≡ Some d → AllMean home is js (decl_looked_up d))
           → OneByOne WholeMoved (headed_file home in_main file is before (all_headers ds)) (headed_file home in_main file js before (all_headers ds))
       file-moved in_main file before ds f = whole-file in_main file before (all_headers ds) (decls-all home is js ds f) (decls-bodies ds f)

@@ -34,6 +34,7 @@ use Rattle.constant_steps.specs.QualifiedSteps.NamedRuns.{named_members, found_n
 use Rattle.constant_steps.proofs.QualifiedSteps.NamedLinked.{named_linked}
 use Rattle.cycle_runs.specs.ImportCycles.OtherImports.{PackagesBeside, FileUnder}
 use Rattle.cycle_runs.specs.ImportCycles.ImportSteps.{file_added, packages_added, where_added, decl_put}
+use Rattle.cycle_runs.proofs.ImportCycles.FreeIdentifiers.{looked-up-within}
 use Rattle.cycle_runs.proofs.ImportCycles.ImportStep.{placed, twice, added-same}
 use Rattle.cycle_runs.proofs.ImportCycles.ImportsAdded.{path-stays, reads-added}
 use Rattle.cycle_runs.proofs.ImportCycles.LeadAlike.{same-beside}
@@ -128,7 +129,7 @@ module _ (marks : List MarkRef) (st : Standing) (l : Logged) (after : Standing) 
         path = refl;
         name = refl;
         files = one-changed (FileUnder rs mid) added-itself (with_tree (file_added n.found)) x.at.file_number x.at.of.files x.at.source here.file_is
-            (record { decls = refl; imports = λ k d e m i. reads-added marks st l after n h.names.new_names k d e m i });
+            (record { decls = refl; imports = λ k d e m i. reads-added marks st l after n h.names.new_names k d e m (looked-up-within d m i) });
       })
 
   -- ---- the file is read again, with these imports

@@ -8,7 +8,6 @@ use Rattle.std.specs.Prelude.{Bool, codes, nat_eq, slice_get}
 use Rattle.std.proofs.lemmas.Option.{same_Some}
 use Rattle.go_tree.specs.Tree.{NameAt, Expr, ident, int_lit, selector, no_exprs, expr_and, const_decl, no_specs, spec}
 use Rattle.go_tree.specs.File.{Decl, values, ImportDecl}
-use Rattle.scope_names.specs.Identifiers.{decl_identifiers}
 use Rattle.module_files.specs.Internal.{passes}
 use Rattle.pkg_graph.specs.Package as run
 use Rattle.pkg_graph.specs.Package.{SourceTree}
@@ -26,6 +25,7 @@ use Rattle.constant_steps.specs.Alone as alone
 use Rattle.constant_steps.specs.PlainUse.{linked_at}
 use Rattle.constant_steps.specs.QualifiedSteps.MemberNames.{imported_member}
 use Rattle.constant_steps.specs.QualifiedSteps.NamedUse.{NamedUse, NamedUseStands, PackagesStand}
+use Rattle.cycle_runs.specs.ImportCycles.LookedUp.{decl_looked_up}
 use Rattle.order_runs.proofs.RunSteps.SameMeant.{same-code}
 use Rattle.order_runs.specs.ImportCodes.PackagesMoved.{imported_as, PackagesMoved}
 use Rattle.order_runs.proofs.ImportCodes.PackagesCode.{package-itself}
@@ -153,21 +153,19 @@ packages_with is e = record { members = members_with is e; marked = [] }
 abbrev old : Expr ℕ
 old = of_package 41 (codes "b") (codes "C")
 
--- ---- each identifier is the name of the same package
+-- ---- each name that is looked up is that of the same package
 
-other_imports : (is js : List (Import ℕ)) (s : ℕ) (x m : List ℕ) → imported_as js (codes "E") ≡ imported_as is (codes "E") → imported_as js x ≡ imported_as is x → imported_as js m ≡ imported_as is m → (t u : ℕ) → (k : ℕ) (d : Decl ℕ)
-    → slice_get (declares 40 (codes "E") (selector s (ident t x) (named u m)) ∷ []) k ≡ Some d → (n : List ℕ) → In n (decl_identifiers d) → imported_as js n ≡ imported_as is n
-other_imports is js s x m e f g t u zero d h n i = by n (subst (λ (d : Decl ℕ). In n (decl_identifiers d)) (sym (same_Some (declares 40 (codes "E") (selector s (ident t x) (named u m))) d h)) i)
+other_imports : (is js : List (Import ℕ)) (s : ℕ) (x m : List ℕ) → imported_as js x ≡ imported_as is x → (t u : ℕ) → (k : ℕ) (d : Decl ℕ)
+    → slice_get (declares 40 (codes "E") (selector s (ident t x) (named u m)) ∷ []) k ≡ Some d → (n : List ℕ) → In n (decl_looked_up d) → imported_as js n ≡ imported_as is n
+other_imports is js s x m f t u zero d h n i = by n (subst (λ (d : Decl ℕ). In n (decl_looked_up d)) (sym (same_Some (declares 40 (codes "E") (selector s (ident t x) (named u m))) d h)) i)
   where
-    by : (n : List ℕ) → In n (decl_identifiers (declares 40 (codes "E") (selector s (ident t x) (named u m)))) → imported_as js n ≡ imported_as is n
-    by _ head = e
-    by _ (tail head) = f
-    by _ (tail (tail head)) = g
-    by n (tail (tail (tail i))) = elim i [ ]
-other_imports is js s x m e f g t u (suc k) d h n i = cc
+    by : (n : List ℕ) → In n (decl_looked_up (declares 40 (codes "E") (selector s (ident t x) (named u m)))) → imported_as js n ≡ imported_as is n
+    by _ head = f
+    by n (tail i) = elim i [ ]
+other_imports is js s x m f t u (suc k) d h n i = cc
 
-moved : (is js : List (Import ℕ)) (s : ℕ) (x m : List ℕ) (t u : ℕ) → imported_as js (codes "E") ≡ imported_as is (codes "E") → imported_as js x ≡ imported_as is x → imported_as js m ≡ imported_as is m → PackagesMoved (members_with is (selector s (ident t x) (named u m))) (members_with js (selector s (ident t x) (named u m)))
-moved is js s x m t u e f g = and_more (package-itself _) (and_more (package-itself _) (and_more (record { path = refl; number = refl; name = refl; files = and_more (record { decls = refl; imports = other_imports is js s x m e f g t u }) no_more }) no_more))
+moved : (is js : List (Import ℕ)) (s : ℕ) (x m : List ℕ) (t u : ℕ) → imported_as js x ≡ imported_as is x → PackagesMoved (members_with is (selector s (ident t x) (named u m))) (members_with js (selector s (ident t x) (named u m)))
+moved is js s x m t u f = and_more (package-itself _) (and_more (package-itself _) (and_more (record { path = refl; number = refl; name = refl; files = and_more (record { decls = refl; imports = other_imports is js s x m f t u }) no_more }) no_more))
 
 stand_there : PackagesStand nat_eq no_comments rs (mark_of 1 ∷ []) use_of_c is_named_use (sources (members_with (from_b ∷ from_a ∷ []) old))
 unfolding is_named_use
@@ -188,11 +186,11 @@ the_step = record {
   use_ = is_named_use;
   stands = use_stands;
   added = members_with (from_b ∷ from_a ∷ []) old;
-  adds = moved (from_b ∷ []) (from_b ∷ from_a ∷ []) 41 (codes "b") (codes "C") 42 9 refl refl refl;
+  adds = moved (from_b ∷ []) (from_b ∷ from_a ∷ []) 41 (codes "b") (codes "C") 42 9 refl;
   there = stand_there;
   read = members_with (from_b ∷ from_a ∷ []) put;
   respans = refl;
-  settles = moved (from_b ∷ from_a ∷ []) (from_a ∷ []) 41 (codes "a") (codes "D") 41 41 refl refl refl;
+  settles = moved (from_b ∷ from_a ∷ []) (from_a ∷ []) 41 (codes "a") (codes "D") 41 41 refl;
   file_sound = refl;
   home_sound = refl;
   imports = λ Q w. record { linked = refl; right = refl };

@@ -16,8 +16,8 @@ use Rattle.order_runs.specs.ImportCodes.PackagesMoved.{PackagesMoved, ImportsSta
 
 -- ---- typing
 
--- Packages of the same declarations, each identifier of which is the name of the same package or of none, declare the
--- same.
+-- Packages of the same declarations, where each name that these look up is that of the same package or of none, declare
+-- the same.
 abbrev pub DeclareTheSame : Type 0
 DeclareTheSame =
     (ps qs : List (Package Span)) → PackagesMoved ps qs → collected (sources ps) ≡ collected (sources qs)

@@ -3,12 +3,12 @@
 use Rattle.std.specs.Prelude.{◌≡◌, ℕ, true, List, [], ◌∷◌, ◌++◌, Option, Some, None, if◌then◌else◌, bytes_eq, slice_get}
 use Rattle.std.specs.List.{list_all}
 use Rattle.go_tree.specs.File.{Decl}
-use Rattle.scope_names.specs.Identifiers.{decl_identifiers}
 use Rattle.go_types.specs.Agreement.{In}
 use Rattle.go_types.specs.Programs.{Import, SourceFile, headed}
 use Rattle.go_types.specs.Collect.{collected}
 use Rattle.typed_in_place.specs.ImportRule.{package_imports}
 use Rattle.typed_in_place.specs.ProgramsAlike.{OneByOne}
+use Rattle.cycle_runs.specs.ImportCycles.LookedUp.{decl_looked_up}
 use Rattle.go_translation.specs.Packages.{Package, sources, are_linked}
 
 module _ {S : Type 0} where
@@ -17,11 +17,11 @@ module _ {S : Type 0} where
   imported_as [] n = None
   imported_as (i ∷ is) n = if bytes_eq i.name n then Some i.of else imported_as is n
 
-  -- Two files hold the same declarations, each identifier of which is the name of the same package, or of none.
+  -- Two files hold the same declarations, and each name that these look up is that of the same package, or of none.
   pub record FileMoved (f g : SourceFile S) : Type 0 where
     pub decls : g.decls ≡ f.decls
     pub imports :
-        (k : ℕ) (d : Decl S) → slice_get f.decls k ≡ Some d → (n : List ℕ) → In n (decl_identifiers d)
+        (k : ℕ) (d : Decl S) → slice_get f.decls k ≡ Some d → (n : List ℕ) → In n (decl_looked_up d)
         → imported_as g.imports n ≡ imported_as f.imports n
 
   -- Two packages have the same path, number and name, and such files.

@@ -13,8 +13,8 @@ use Rattle.order_runs.specs.ImportCodes.PackagesMoved.{PackagesMoved}
 use Rattle.order_runs.specs.ImportRuns.ImportingNext.{IsImporting, KeepsOrder}
 use Rattle.order_runs.specs.ImportRuns.PathsUnder.{PathsUnder}
 
--- Packages of a run with the same declarations, each identifier of which is the name of the same import, or of none,
--- and in the same dependency order, are linked to packages of the same declarations under other imports.
+-- Packages of a run with the same declarations, where each name that these look up is that of the same import, or of
+-- none, and in the same dependency order, are linked to packages of the same declarations under other imports.
 abbrev pub RunPackagesAreMoved : Type 0
 RunPackagesAreMoved =
     (ps qs : List (run.Package Span)) → PathsUnder ps qs → dependency_order qs ≡ dependency_order ps

@@ -6,8 +6,8 @@ use Rattle.typed_in_place.specs.ProgramsAlike.{OneByOne}
 use Rattle.cycle_runs.specs.ImportCycles.OtherImports.{FileUnder}
 
 module _ {S : Type 0} where
-  -- two packages with the same path and name, in whose files the same declarations stand, each identifier of which is
-  -- the name of the same import, or of none
+  -- two packages with the same path and name, in whose files the same declarations stand, and each name that these look
+  -- up is that of the same import, or of none
   pub record PathUnder (ps qs : List (Package S)) (p q : Package S) : Type 0 where
     pub path : q.path ≡ p.path
     pub name : q.name ≡ p.name

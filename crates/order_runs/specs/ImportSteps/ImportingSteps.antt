@@ -21,7 +21,8 @@ MayBeDeclared rs w =
 module _ {S : Type 0} (same : S → S → Bool) where
   -- A step of a run between these packages. In `added` the file of the use has the imports that the form needs; there
   -- the form is put in the use's place; in `read` the same declarations have other spans, as the file is read again; and
-  -- last the imports go that nothing needs. Each identifier is all the time the name of the same package, or of none.
+  -- last the imports go that nothing needs. Each name that is looked up is all the time that of the same package, or of
+  -- none.
   pub record ImportingStep (P P' : Packages S) : Type 0 where
     pub commented : ℕ → ℕ → S → Bool
     pub packages : List (run.Package S)

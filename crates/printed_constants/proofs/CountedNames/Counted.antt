@@ -150,10 +150,10 @@ module _ {S : Type 0} (mark : Lexemes → Lexemes → S) where
   front_fits h (front_rule {is = is} {ds = ds} {ts = ts} {mid = mid} {r = r} b x y) =
       let k : Fit (imports_identifiers is ++ decls_identifiers ds) r ts = both_fit (imports_identifiers is) (decls_identifiers ds) r mid ts (imports_fit x) (decls_fit h y) in omega (arith, k)
 
-map_length : (xs : List Token) → length (lexemes xs) ≡ length xs
-map_length [] = refl
-map_length (x ∷ xs) = λ v. suc (map_length xs v)
+pub lexemes_length : (xs : List Token) → length (lexemes xs) ≡ length xs
+lexemes_length [] = refl
+lexemes_length (x ∷ xs) = λ v. suc (lexemes_length xs v)
 
 pub names_few : (tokens : List Token) (f : File Span) → SpellsFile tokens f → ((i : ℕ) (d : Decl Span) → slice_get f.decls i ≡ Some d → IsPrinted d) → length (identifiers f) ≤ length tokens
 names_few tokens f d h =
-    let k = front_fits span_to h d in let e = map_length tokens in omega (arith, e, k)
+    let k = front_fits span_to h d in let e = lexemes_length tokens in omega (arith, e, k)

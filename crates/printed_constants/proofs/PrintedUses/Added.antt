@@ -10,7 +10,12 @@ use Rattle.constant_steps.specs.Alone.{PlainFiles}
 use Rattle.constant_steps.specs.PlainUse.{AllSimple}
 use Rattle.cycle_runs.specs.ImportCycles.ImportSteps.{file_added, packages_added, where_added}
 use Rattle.cycle_runs.proofs.ImportCycles.ImportStep.{placed}
+use Rattle.cycle_runs.specs.OrderedSteps.Ranks.{OwnPaths}
+use Rattle.cycle_runs.proofs.OrderedSteps.Steps.{steps-own}
 use Rattle.marked_runs.specs.Marked.{StandsAdded, decl_there}
+use Rattle.marked_runs.specs.LinkedMembers.Laws.{HaveFiles}
+use Rattle.marked_runs.proofs.LinkedMembers.Files.{step-have}
+use Rattle.marked_runs.proofs.LinkedMembers.Linked.{members-linked}
 use Rattle.run_laws.proofs.FoundSpans.{Placed}
 use Rattle.run_rules.specs.Programs.{linked_file}
 use Rattle.run_rules.specs.Run.{Standing, Logged, Next, here_of}
@@ -50,8 +55,8 @@ module _ (marks : List MarkRef) (st : Standing) (l : Logged) (after : Standing) 
       parts_simple (decl_there n d)
       (decl_parts rs n.found.site.at.number (where_added n.found).of (file_added n.found) (printed n.found.site.at here.package_is here.file_is n.found.site.decl d e))
 
-  pub stands_added : IsNamedThere n → StandsAdded n
-  stands_added named = record {
+  pub stands_added : OwnPaths st.packages → HaveFiles st.packages → IsNamedThere n → StandsAdded n
+  stands_added own files named = record {
     place = named.place;
     use_ = named.use_;
     used_as = named.used_as;
@@ -61,8 +66,8 @@ module _ (marks : List MarkRef) (st : Standing) (l : Logged) (after : Standing) 
     new_plain = marked_plain named.use_.new_mark named.use_.new_home named.use_.new_home_is;
     simple = are_simple;
     form = named.form;
-    imports = named.imports;
+    imports = λ marked Q w. record { linked = members-linked after.packages (steps-own marks st l after n own) (step-have marks st l after n files); right = named.imports marked Q w };
   }
 
 pub uses_stand : PrintedUsesStand
-uses_stand marks st l after n printed named = stands_added marks st l after n printed named
+uses_stand marks st l after n printed own files named = stands_added marks st l after n printed own files named

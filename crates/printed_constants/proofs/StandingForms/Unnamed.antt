@@ -111,16 +111,16 @@ module _ (m : List ℕ) where
   -- ---- the top of a file
 
   module _ {S : Type 0} (ps : List (Package S)) (w : Where S) where
-    abbrev behind : Environment Target
+    abbrev pub behind : Environment Target
     behind = package_block w.number w.of ++ numbered predeclared 0 universe.predeclared
 
-    none_behind : MeansNone behind
+    pub none_behind : MeansNone behind
     none_behind k = ap (means_import k) (no_both (package_block w.number w.of) (numbered predeclared 0 universe.predeclared) (no_files w.number 0 w.of.files) (no_predeclared 0 universe.predeclared) m)
 
-    abbrev names : List (List ℕ)
+    abbrev pub names : List (List ℕ)
     names = map (import_name ps) (import_specs w.source.tree)
 
-    in_turn : outer ps w ≡ numbered imported 0 names ++ behind
+    pub in_turn : outer ps w ≡ numbered imported 0 names ++ behind
     in_turn = turns (numbered imported 0 names) (package_block w.number w.of) (numbered predeclared 0 universe.predeclared)
 
     pub names_unnamed : MeansNone (outer ps w) → Unnamed names

@@ -1,11 +1,20 @@
--- The law of how many identifiers a file has. It is the contract of a function of this crate (Go specification,
--- Identifiers; Tokens).
-use Rattle.std.specs.Prelude.{◌≡◌, ◌≤◌, ℕ, List, Some, length, slice_get}
+-- The laws of how many identifiers a file has, and how many names a step avoids. Each is the contract of a function of
+-- this crate (Go specification, Identifiers; Tokens; Import declarations).
+use Rattle.std.specs.Prelude.{◌≡◌, ◌+◌, ◌≤◌, ℕ, List, Some, None, length, slice_get}
 use Rattle.go_read.specs.SpellsFiles.{SpellsFile}
 use Rattle.go_tree.specs.declared.spans.Span.{Span}
 use Rattle.go_tree.specs.declared.tokens.Token.{Token}
+use Rattle.go_tree.specs.declared.tokens.Comment.{Comment}
 use Rattle.go_tree.specs.File.{Decl, File}
-use Rattle.printed_constants.specs.Printed.{IsPrinted}
+use Rattle.go_words.specs.Tokens.{TokensOf}
+use Rattle.cycle_runs.specs.OrderCycles.NewNames.{FewNames}
+use Rattle.pkg_graph.specs.Reads.{Source}
+use Rattle.run_laws.specs.Reading.{ProgramReads, OnePathEach}
+use Rattle.run_rules.specs.Run.{Standing, Logged, Next, texts_size, the_limits, passed}
+use Rattle.run_rules.specs.Sites.{MarkRef}
+use Rattle.run_rules.specs.Texts.{FileText}
+use Rattle.marked_runs.specs.NamedMarks.Named.{AllNamed}
+use Rattle.printed_constants.specs.Printed.{IsPrinted, ArePrinted}
 use Rattle.scope_names.specs.Identifiers.{identifiers}
 
 -- A file of constants and of functions that print them has no more identifiers than tokens.
@@ -13,3 +22,23 @@ abbrev pub PrintedNamesAreFew : Type 0
 PrintedNamesAreFew =
     (tokens : List Token) (f : File Span) → SpellsFile tokens f
     → ((i : ℕ) (d : Decl Span) → slice_get f.decls i ≡ Some d → IsPrinted d) → length (identifiers f) ≤ length tokens
+
+-- A text has at most two tokens for each byte: a word of it, and a semicolon that is inserted behind one.
+abbrev pub TokensAreFew : Type 0
+TokensAreFew =
+    (text : List ℕ) (tokens : List Token) (comments : List Comment) → TokensOf text tokens comments
+    → length tokens ≤ length text + length text
+
+-- So where the texts of a program of such files are within the limit of a run, the names that a step over a constant
+-- avoids are fewer than 2^64.
+abbrev pub SmallTextsHaveFewNames : Type 0
+SmallTextsHaveFewNames =
+    (marks : List MarkRef) (st : Standing) (l : Logged) (after : Standing) (n : Next marks st l after)
+    → ProgramReads st → OnePathEach st.packages → ArePrinted st.packages → AllNamed st.packages marks
+    → texts_size st.texts ≤ the_limits.total → FewNames st.packages n.found
+
+-- They are within it after each step that passes no limit.
+abbrev pub StepsStayWithin : Type 0
+StepsStayWithin =
+    (files : List Source) (done : List Logged) (l : Logged) (new : FileText) (texts : List (List ℕ × FileText))
+    → passed the_limits files done l new texts ≡ None → texts_size texts ≤ the_limits.total

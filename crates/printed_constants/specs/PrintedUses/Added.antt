@@ -5,9 +5,9 @@ use Rattle.go_tree.specs.File.{Decl}
 use Rattle.go_kernel.specs.Kernel.{FuncName}
 use Rattle.go_translation.specs.Packages.{Package}
 use Rattle.go_translation.specs.SameMeaning.{WellTyped, with_further}
-use Rattle.order_runs.specs.ImportCodes.PackagesMoved.{ImportsStand}
 use Rattle.cycle_runs.specs.ImportCycles.ImportSteps.{packages_added}
 use Rattle.marked_runs.specs.Marked.{decl_there}
+use Rattle.marked_runs.specs.LinkedMembers.Laws.{ImportsUsed}
 use Rattle.constant_steps.specs.QualifiedSteps.NamedUse.{NamedUse}
 use Rattle.run_rules.specs.FormTrees.{as_expr}
 use Rattle.run_rules.specs.Run.{Standing, Logged, Next, is_commented}
@@ -18,7 +18,7 @@ use Rattle.order_runs.specs.RunSteps.RunPackages.{members_of, packages_of}
 use Rattle.marked_runs.specs.TakenNames.Taken.{site_there}
 
 -- With the imports of the form added the use stands at this place, is a name of a constant that is declared as
--- another's name, and becomes that name; the imports are right at last.
+-- another's name, and becomes that name; each import is declared once and used at last.
 pub record IsNamedThere {marks : List MarkRef} {st : Standing} {l : Logged} {after : Standing}
     (n : Next marks st l after) : Type 0 where
   pub place : Place At
@@ -30,4 +30,4 @@ pub record IsNamedThere {marks : List MarkRef} {st : Standing} {l : Logged} {aft
   pub form : n.found.form ≡ as_expr use_.new
   pub imports :
       (marked : List FuncName) (Q : List (Package At)) → WellTyped (with_further (packages_of st.packages marked) Q)
-      → ImportsStand Q (members_of after.packages)
+      → ImportsUsed Q (members_of after.packages)

@@ -1,16 +1,16 @@
 -- The laws of uses among constants and functions that print them. Each is the contract of a function of this crate (Go
 -- specification, Constant declarations; Operands; Qualified identifiers).
-use Rattle.std.specs.Prelude.{◌≡◌, List, Contains}
+use Rattle.std.specs.Prelude.{◌≡◌, ◌≤◌, List, Contains}
 use Rattle.form_imports.specs.OwnNames.{AllOwn}
 use Rattle.go_tree.specs.Tree.{Expr}
-use Rattle.cycle_runs.specs.KeptImports.Files.{RemovesNoNames}
+use Rattle.cycle_runs.specs.OrderedSteps.Ranks.{OwnPaths}
 use Rattle.marked_runs.specs.KeptMarks.Over.{IsOverName}
+use Rattle.marked_runs.specs.LinkedMembers.Laws.{HaveFiles}
 use Rattle.marked_runs.specs.Marked.{StandsAdded}
 use Rattle.marked_runs.specs.NamedMarks.Named.{AllNamed}
-use Rattle.cycle_runs.specs.OrderCycles.NewNames.{FewNames}
 use Rattle.pkg_graph.specs.Package.{Package}
 use Rattle.printed_constants.specs.Printed.{ArePrinted}
-use Rattle.run_rules.specs.Run.{Standing, Logged, Next}
+use Rattle.run_rules.specs.Run.{Standing, Logged, Next, texts_size, the_limits}
 use Rattle.run_rules.specs.Sites.{MarkRef, Site, an_expr, sites}
 use Rattle.run_rules.specs.Steps.{At}
 use Rattle.printed_constants.specs.PrintedUses.Added.{IsNamedThere}
@@ -22,16 +22,17 @@ PrintedUsesAreExpressions =
     (ps : List (Package At)) (marks : List MarkRef) → ArePrinted ps → (x : Site At) → Contains (sites ps marks) x
     → (e : Expr At) × (x.part ≡ an_expr e)
 
--- So a step is over a marked constant as kept_marks asks, but for what is asked here.
+-- So a step is over a marked constant as kept_marks asks, where the program's texts are within the limit of a run.
 abbrev pub PrintedStepsAreOver : Type 0
 PrintedStepsAreOver =
     (marks : List MarkRef) (st : Standing) (l : Logged) (after : Standing) (n : Next marks st l after) → IsReady st
-    → ArePrinted st.packages → AllOwn st.packages → AllNamed st.packages marks → FewNames st.packages n.found
-    → RemovesNoNames n → IsOverName n
+    → ArePrinted st.packages → AllOwn st.packages → AllNamed st.packages marks
+    → texts_size st.texts ≤ the_limits.total → IsOverName n
 
--- Where with the imports of its form added the use is a name of a constant that is declared as another's name, and the
--- imports are right at last, it stands as marked_runs asks (`StandsAdded`).
+-- Where with the imports of its form added the use is a name of a constant that is declared as another's name, and each
+-- import is declared once and used at last, it stands as marked_runs asks (`StandsAdded`), if packages have files, and
+-- paths of their own.
 abbrev pub PrintedUsesStand : Type 0
 PrintedUsesStand =
     (marks : List MarkRef) (st : Standing) (l : Logged) (after : Standing) (n : Next marks st l after)
-    → ArePrinted st.packages → IsNamedThere n → StandsAdded n
+    → ArePrinted st.packages → OwnPaths st.packages → HaveFiles st.packages → IsNamedThere n → StandsAdded n

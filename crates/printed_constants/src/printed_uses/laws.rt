@@ -8,9 +8,8 @@ pub fn printed_uses_are_expressions()
     ensures { PrintedUsesAreExpressions }
 {}
 
-/// So a step of such a program whose marks are those of constants is one of kept_marks, where the names to avoid
-/// are fewer than 2^64, and no import that goes has the
-/// name of an identifier (Go specification, Qualified identifiers; Package clause).
+/// So a step of such a program whose marks are those of constants, and whose texts are within the limit of a run, is
+/// one of kept_marks (Go specification, Qualified identifiers; Package clause).
 pub fn printed_steps_are_over()
     ensures { PrintedStepsAreOver }
 {}

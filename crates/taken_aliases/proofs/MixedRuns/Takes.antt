@@ -16,6 +16,7 @@ use Rattle.cycle_runs.specs.ImportCycles.ImportSteps.{file_added, packages_added
 use Rattle.cycle_runs.proofs.ImportCycles.ImportStep.{placed}
 use Rattle.order_runs.specs.ImportSteps.ImportingSteps.{MayBeDeclared}
 use Rattle.cycle_runs.specs.OrderCycles.Steps.{KeepsImportNames}
+use Rattle.cycle_runs.proofs.Runs.{look-ups-of}
 use Rattle.cycle_runs.specs.OrderCycles.NewNames.{NamesByPath, FewNames}
 use Rattle.marked_runs.specs.SoundImports.Laws.{AddedImportsMayBeDeclared}
 use Rattle.alias_runs.specs.QualifiedAliases.AliasUse.{AliasUseStands, ImportsHold}
@@ -74,7 +75,7 @@ module _ (sound : AddedImportsMayBeDeclared) (marks : List MarkRef) (st : Standi
           alone = alone-there marks st l after n reads h.place h.used_as h.use_.use_ h.use_.part here.decl here.decl_is (h.there here.decl here.decl_is);
         };
     form = h.form;
-    names = names;
+    names = look-ups-of names;
     file_sound = file-sound;
     home_sound = home-sound h.use_.home (stands_there mid n.found.site.mark h.use_.home h.use_.home_is);
     imports = h.imports;

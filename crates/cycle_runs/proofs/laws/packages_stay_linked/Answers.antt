@@ -1,4 +1,4 @@
-use Rattle.cycle_runs.proofs.Runs.{linked-names, module-linked, step-linked, step-names}
+use Rattle.cycle_runs.proofs.Runs.{linked-names, module-linked, step-linked, step-look-ups, step-names}
 use Rattle.cycle_runs.proofs.laws.packages_stay_linked.Goals as goal
 
 pub returns-clause-read : goal.returns-clause-read
@@ -12,3 +12,6 @@ returns-clause-named c = λ ps h. linked-names ps h
 
 pub returns-clause-names : goal.returns-clause-names
 returns-clause-names c = λ marks st l after n h s. step-names marks st l after n h s
+
+pub returns-clause-look_ups : goal.returns-clause-look_ups
+returns-clause-look_ups c = λ marks st l after n h s few removes. step-look-ups marks st l after n h s few removes

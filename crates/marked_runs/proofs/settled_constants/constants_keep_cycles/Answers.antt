@@ -1,8 +1,8 @@
-use Rattle.marked_runs.proofs.SettledConstants.Settled.{stays_ready, step_keeps, run_keeps}
+use Rattle.marked_runs.proofs.SettledConstants.Settled.{written_ready, step_keeps, run_keeps}
 use Rattle.marked_runs.proofs.settled_constants.constants_keep_cycles.Goals as goal
 
 pub returns-clause-ready : goal.returns-clause-ready
-returns-clause-ready c = λ marks st l after n ready settles typed. stays_ready marks st l after n ready settles typed
+returns-clause-ready c = λ marks st l after n ready writes typed. written_ready marks st l after n ready writes typed
 
 pub returns-clause-step : goal.returns-clause-step
 returns-clause-step c = λ marks st l after n ready over puts m. step_keeps marks st l after n c.well_typed_files_are_scoped.ensures.scoped ready over puts m

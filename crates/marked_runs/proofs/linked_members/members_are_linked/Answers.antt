@@ -1,0 +1,12 @@
+use Rattle.marked_runs.proofs.LinkedMembers.Files.{read-have, step-have}
+use Rattle.marked_runs.proofs.LinkedMembers.Linked.{members-linked}
+use Rattle.marked_runs.proofs.linked_members.members_are_linked.Goals as goal
+
+pub returns-clause-linked : goal.returns-clause-linked
+returns-clause-linked c = λ ps own files. members-linked ps own files
+
+pub returns-clause-read : goal.returns-clause-read
+returns-clause-read c = λ files ps texts r. read-have files ps texts r
+
+pub returns-clause-stay : goal.returns-clause-stay
+returns-clause-stay c = λ marks st l after n h. step-have marks st l after n h

@@ -1,0 +1,3 @@
+pub mod LookedUp
+pub mod Imports
+pub mod Removed

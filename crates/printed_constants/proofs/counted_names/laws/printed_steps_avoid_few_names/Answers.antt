@@ -1,0 +1,12 @@
+use Rattle.printed_constants.proofs.CountedNames.Tokens.{tokens_few}
+use Rattle.printed_constants.proofs.CountedNames.Avoided.{avoided_few, stay_within}
+use Rattle.printed_constants.proofs.counted_names.laws.printed_steps_avoid_few_names.Goals as goal
+
+pub returns-clause-tokens : goal.returns-clause-tokens
+returns-clause-tokens c = λ text tokens comments t. tokens_few text tokens comments t
+
+pub returns-clause-few : goal.returns-clause-few
+returns-clause-few c = λ marks st l after n reads paths printed named small. avoided_few marks st l after n reads paths printed named small
+
+pub returns-clause-within : goal.returns-clause-within
+returns-clause-within c = λ files done l new texts e. stay_within files done l new texts e
