@@ -1,5 +1,5 @@
 -- A run over marked constants from a module that reads.
-use Rattle.std.proofs.Common.{◌≡◌, ◌∙◌, sym, true, List, []}
+use Rattle.std.proofs.Common.{◌≡◌, ◌∙◌, sym, true, List}
 use Rattle.std.specs.List.{list_all}
 use Rattle.go_words.specs.Tokens.Characters.{each}
 use Rattle.import_splices.specs.AddedFile.{is_byte}

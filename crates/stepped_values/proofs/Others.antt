@@ -23,20 +23,23 @@ use Rattle.printed_constants.specs.DeclaredMembers.Laws.{ConstantsNameMembers}
 use Rattle.cycle_runs.specs.ImportCycles.OtherImports.{import_path}
 use Rattle.cycle_runs.specs.ImportCycles.ImportSteps.{packages_added, decl_put}
 use Rattle.cycle_runs.specs.OrderCycles.NewNames.{NamesByPath}
-use Rattle.cycle_runs.specs.OrderCycles.Steps.{KeepsImportNames}
+use Rattle.cycle_runs.specs.OrderCycles.Steps.{KeepsImportLookUps}
+use Rattle.cycle_runs.specs.ImportCycles.LookedUp.{decl_looked_up}
+use Rattle.cycle_runs.proofs.ImportCycles.FreeIdentifiers.{looked-up-within}
 use Rattle.cycle_runs.proofs.ImportCycles.ImportsAdded.{reads-added}
-use Rattle.cycle_runs.proofs.Runs.{linked-names, step-names}
+use Rattle.cycle_runs.proofs.Runs.{linked-names}
 use Rattle.mark_values.specs.declared.values.DeclaredValue.{DeclaredValue}
 use Rattle.mark_values.specs.declared.values.DeclaredValue.TheVariants.{Plain, Qualified}
 use Rattle.mark_values.specs.Tables.{DeclKey, Known, key_of, same_key, values_at, value_in}
 use Rattle.programs.specs.Programs.{TellsValues}
 use Rattle.loaded_programs.proofs.Images.{both}
-use Rattle.marked_runs.specs.KeptMarks.Laws.{NamedStepsAreOver, StepsKeepNamed}
+use Rattle.marked_runs.specs.KeptMarks.Laws.{StepsKeepNamed}
 use Rattle.marked_runs.specs.KeptMarks.Over.{IsOverName}
 use Rattle.marked_runs.specs.NamedMarks.Named.{IsNamedConstant, AllNamed}
-use Rattle.marked_runs.specs.SettledConstants.Laws.{ConstantsSettle}
+use Rattle.marked_runs.specs.SettledConstants.Laws.{ConstantsWrite}
 use Rattle.marked_runs.specs.SettledConstants.Programs.{IsReady}
 use Rattle.marked_runs.proofs.KeptMarks.Changed.{Imported, qs, paths-now, imported-now}
+use Rattle.marked_runs.proofs.KeptMarks.Kept.{look-ups}
 use Rattle.marked_runs.proofs.KeptMarks.Served.{mid-path}
 use Rattle.marked_runs.proofs.KeptMarks.Shapes.{Shape, shape, shape-with, dotted-in}
 use Rattle.marked_runs.proofs.NamedMarks.Declared.{inlinable-with}
@@ -100,7 +103,7 @@ last_differs false b c h e = absurd (true≢false (sym h))
 
 -- ---- a step
 
-module _ (scoped : WellTypedFilesAreScoped) (members : ConstantsNameMembers) (keep : StepsKeepNamed) (so_over : NamedStepsAreOver) (settle : ConstantsSettle) (marks : List MarkRef) (st : Standing) (l : Logged)
+module _ (scoped : WellTypedFilesAreScoped) (members : ConstantsNameMembers) (keep : StepsKeepNamed) (write : ConstantsWrite) (marks : List MarkRef) (st : Standing) (l : Logged)
     (after : Standing) (n : Next marks st l after) (ready : IsReady st) (now_ready : IsReady after) (typed : WellTyped (packages_of st.packages [])) (now_typed : WellTyped (packages_of after.packages []))
     (named : AllNamed st.packages marks) (over : IsOverName n) (old new : Known) (told : TellsValues marks st.packages old) (told_now : TellsValues marks after.packages new)
     (others : (q : DeclKey) → is_of_step n.found q ≡ false → values_at q new ≡ values_at q old) where
@@ -110,8 +113,8 @@ module _ (scoped : WellTypedFilesAreScoped) (members : ConstantsNameMembers) (ke
   abbrev mid : List (Package At)
   mid = packages_added st.packages n.found
 
-  names : KeepsImportNames n
-  names = step-names marks st l after n ready.links (settle marks st l after n ready (so_over marks st l after n named over))
+  names : KeepsImportLookUps n
+  names = look-ups marks st l after n over write ready named
 
   by_path : NamesByPath st.packages
   by_path = linked-names st.packages ready.links
@@ -204,7 +207,7 @@ module _ (scoped : WellTypedFilesAreScoped) (members : ConstantsNameMembers) (ke
     paths_between : (ss : List (ImportSpec At)) (q : List ℕ) → import_path now ss q ≡ import_path mid ss q
     paths_between ss q = paths-now st.packages own n.tree package_there file_there ss q ∙ sym (mid-path marks st l after n over.few by_path ss q)
 
-    path_same : (q : List ℕ) → In q (decl_identifiers was.decl) → In q (decl_identifiers is.decl) → import_path now (import_specs c_now.home.source.tree) q ≡ import_path st.packages (import_specs c.home.source.tree) q
+    path_same : (q : List ℕ) → In q (decl_identifiers was.decl) → In q (decl_looked_up is.decl) → import_path now (import_specs c_now.home.source.tree) q ≡ import_path st.packages (import_specs c.home.source.tree) q
     path_same q a b =
         (λ v. import_path now (import_specs (source_now v).tree) q) ∙ paths_between (import_specs n.tree) q
         ∙ names.kept_names m.decl is.decl nth_now q b ∙ reads-added marks st l after n names.new_names m.decl was.decl nth q a
@@ -215,7 +218,7 @@ module _ (scoped : WellTypedFilesAreScoped) (members : ConstantsNameMembers) (ke
     carry q a j s h =
         subst (λ (rs : List (Package At)). Imported rs c_now.home q j) (sym n.packages_are)
         (imported-now st.packages own n.tree package_there file_there c.home c_now.home q j
-        (path_same q (dotted-in was.decl m.item c.name c.value q a was.holds s) (dotted-in is.decl m.item c_now.name c_now.value q a is.holds (shape_same ∙ s))) h)
+        (path_same q (looked-up-within was.decl q (dotted-in was.decl m.item c.name c.value q a was.holds s)) (dotted-in is.decl m.item c_now.name c_now.value q a is.holds (shape_same ∙ s))) h)
 
     block_same : map (λ (x : List ℕ × Target). x.0) (package_block 0 c_now.home.of) ≡ map (λ (x : List ℕ × Target). x.0) (package_block 0 c.home.of)
     block_same = ap (map (λ (x : List ℕ × Target). x.0)) (block_now marks st l after n m.«package» 0 c.home.of c_now.home.of at.package_there at_now.package_there)
@@ -239,6 +242,6 @@ module _ (scoped : WellTypedFilesAreScoped) (members : ConstantsNameMembers) (ke
           in_file m among (eqb-true own.number m.«package» q.0) (eqb-true own.file_number m.file q.1)
           (last_differs (nat_eq own.number m.«package») (nat_eq own.file_number m.file) (nat_eq n.found.site.decl m.decl) e differs)
 
-pub others_stay : WellTypedFilesAreScoped → ConstantsNameMembers → StepsKeepNamed → NamedStepsAreOver → ConstantsSettle → MarkedValuesStay
-others_stay scoped members keep so_over settle marks st l after n old new ready now_ready typed now_typed named over told told_now others =
-    stay_told scoped members keep so_over settle marks st l after n ready now_ready typed now_typed named over old new told told_now others
+pub others_stay : WellTypedFilesAreScoped → ConstantsNameMembers → StepsKeepNamed → ConstantsWrite → MarkedValuesStay
+others_stay scoped members keep write marks st l after n old new ready now_ready typed now_typed named over told told_now others =
+    stay_told scoped members keep write marks st l after n ready now_ready typed now_typed named over old new told told_now others

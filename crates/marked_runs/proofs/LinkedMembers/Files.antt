@@ -1,10 +1,9 @@
 -- Each package of a module that reads has a file, and each step keeps this.
-use Rattle.std.proofs.Common.{◌≡◌, refl, sym, ◌∙◌, ap, subst, ◌⊎◌, inl, inr, ℕ, zero, suc, Bool, true, false, not, List, [], ◌∷◌, map, filter, Option, Some, if◌then◌else◌}
+use Rattle.std.proofs.Common.{◌≡◌, refl, sym, ◌∙◌, ap, subst, ◌⊎◌, inl, inr, ℕ, zero, suc, Bool, true, false, not, List, [], ◌∷◌, map, filter, Some, if◌then◌else◌}
 use Rattle.std.specs.Prelude.{bytes_eq, slice_get}
 use Rattle.std.proofs.lemmas.Option.{same_Some}
 use Rattle.std.proofs.lemmas.Slice.Eq.{bytes_eq-Decides}
 use Rattle.go_tree.specs.declared.spans.Span.{Span}
-use Rattle.go_tree.specs.File.{File}
 use Rattle.pkg_graph.specs.Package.{SourceTree, Package, first_seen, home_of, files_of, package_of, packages_of}
 use Rattle.pkg_graph.specs.Reads.{Source}
 use Rattle.run_rules.specs.Steps.{At, change_nth}

@@ -22,7 +22,7 @@ use Rattle.run_rules.specs.Reduced.{name_obstacle, home_place, constant_form}
 use Rattle.run_rules.specs.Respanned.{decl_with, file_with}
 use Rattle.run_rules.specs.Rewriting.{new_expr}
 use Rattle.run_rules.specs.Run.{Standing, Logged, Next, Limit, Steps, StepsOfUse, Bytes, Total, TooLarge, over, over_weight, first_over, module_file_size, steps_like, texts_size, the_limits, passed, here_of, is_commented}
-use Rattle.run_rules.specs.Sites.{MarkRef, Where, Inlinable, a_constant, part_span, inlinable}
+use Rattle.run_rules.specs.Sites.{MarkRef, Where, Inlinable, a_constant, part_span}
 use Rattle.run_rules.specs.Steps.{At, same_here}
 use Rattle.run_rules.specs.Surroundings.{other, Place, inner_slot, in_slot}
 use Rattle.run_rules.specs.Texts.{FileText}

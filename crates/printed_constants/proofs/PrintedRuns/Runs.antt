@@ -1,12 +1,11 @@
 -- Each step of a run among constants and functions that print them is over a marked constant, as marked_runs asks.
 use Rattle.std.proofs.Common.{◌≡◌, refl, sym, subst, ℕ, zero, suc, ◌≤◌, true, List, [], ◌∷◌, ◌++◌}
-use Rattle.go_tree.specs.Tree.{Expr, ident, selector}
+use Rattle.go_tree.specs.Tree.{ident, selector}
 use Rattle.go_translation.specs.Packages.{are_well_typed}
 use Rattle.import_rules.specs.SettledNames.{IsOwnName}
 use Rattle.pkg_graph.specs.Package.{Package}
-use Rattle.run_rules.specs.FormTrees.{as_expr}
 use Rattle.run_rules.specs.Run.{Standing, Logged, Next, Run, ends, goes_on, texts_size, the_limits}
-use Rattle.run_rules.specs.Inlining.{Reaches, begins, steps_on}
+use Rattle.run_rules.specs.Inlining.{Reaches, steps_on}
 use Rattle.run_rules.specs.Sites.{MarkRef}
 use Rattle.run_rules.specs.Steps.{At, change_nth}
 use Rattle.run_rules.proofs.OneRun.{one_next}
@@ -30,7 +29,7 @@ use Rattle.marked_runs.proofs.LinkedMembers.Files.{step-have}
 use Rattle.marked_runs.proofs.KeptMarks.Puts.{Puts, puts_name, puts_member, step-puts}
 use Rattle.marked_runs.proofs.NamedMarks.Used.{named-used}
 use Rattle.marked_runs.proofs.Runs.{takes-name}
-use Rattle.printed_constants.specs.Printed.{IsFlat, a_name, a_selection, ArePrinted}
+use Rattle.printed_constants.specs.Printed.{a_name, a_selection, ArePrinted}
 use Rattle.printed_constants.specs.PrintedRuns.Laws.{AllNamedThere, StaysWithin}
 use Rattle.printed_constants.proofs.CountedNames.Avoided.{stay_within}
 use Rattle.printed_constants.proofs.PrintedUses.Added.{uses_stand}
@@ -41,9 +40,10 @@ use Rattle.printed_constants.proofs.Steps.{stay_printed}
 pub runs_within : (files : List Source) (marks : List MarkRef) (st last : Standing) (done log : List Logged) (run : Run marks st log last) → Reaches marks the_limits files done st log last → StaysWithin run
 runs_within files marks st last done _ (ends _ over) r = tt
 runs_within files marks st last done _ (goes_on _ next _ l log n run) (steps_on _ _ _ _ to _ k p rest) =
-    let one = one_next marks st l l next to n k in
-    (subst (λ (z : Standing). texts_size z.texts ≤ the_limits.total) (sym one.1) (stay_within files done l k.new to.texts p),
-    runs_within files marks next last (done ++ l ∷ []) log run (subst (λ (z : Standing). Reaches marks the_limits files (done ++ l ∷ []) z log last) (sym one.1) rest))
+    let one = one_next marks st l l next to n k in (
+      subst (λ (z : Standing). texts_size z.texts ≤ the_limits.total) (sym one.1) (stay_within files done l k.new to.texts p),
+      runs_within files marks next last (done ++ l ∷ []) log run (subst (λ (z : Standing). Reaches marks the_limits files (done ++ l ∷ []) z log last) (sym one.1) rest),
+    )
 
 own_changed : (F : Package At → Package At) → ((p : Package At) → (F p).name ≡ p.name) → (i : ℕ) (ps : List (Package At)) → AllOwn ps → AllOwn (change_nth i F ps)
 own_changed F same i [] h = h

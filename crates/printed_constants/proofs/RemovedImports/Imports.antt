@@ -1,5 +1,5 @@
 -- A name that is used as that of an import, by the number of its spec; and imports that a step removes, by theirs.
-use Rattle.std.proofs.Common.{◌≡◌, ◌∙◌, refl, sym, ap, subst, ◌⊎◌, inl, inr, ℕ, zero, suc, ◌+◌, Bool, true, false, not, ◌&&◌, ◌||◌, if◌then◌else◌, bytes_eq, nat_eq, List, [], ◌∷◌, ◌++◌, map, Option, Some, None, arith}
+use Rattle.std.proofs.Common.{◌≡◌, ◌∙◌, refl, sym, subst, ◌⊎◌, inl, inr, ℕ, zero, suc, ◌+◌, Bool, true, false, not, ◌&&◌, ◌||◌, if◌then◌else◌, bytes_eq, nat_eq, List, [], ◌∷◌, ◌++◌, map, Option, Some, arith}
 use Rattle.std.specs.Prelude.{slice_get}
 use Rattle.std.specs.List.{list_any}
 use Rattle.std.proofs.lemmas.Bool.Decides.{nat_tests}
@@ -7,7 +7,6 @@ use Rattle.std.proofs.lemmas.Option.{same_Some}
 use Rattle.std.proofs.lemmas.Slice.Eq.{bytes_eq-Decides}
 use Rattle.go_tree.specs.declared.spans.Span.{Span}
 use Rattle.go_tree.specs.declared.tokens.Token.{Token}
-use Rattle.go_tree.specs.Tree.{ident, selector, call}
 use Rattle.go_tree.specs.File.{ImportSpec, Decl, File}
 use Rattle.scope_names.specs.declared.names.Entity.{Entity}
 use Rattle.scope_names.specs.declared.names.Entity.TheVariants.{Import}
@@ -27,7 +26,7 @@ use Rattle.order_runs.proofs.RunSteps.SeatedUses.{Among, first, later}
 use Rattle.run_rules.specs.Programs.{decl_seen}
 use Rattle.run_rules.specs.Sites.{Where, imported_by, outer}
 use Rattle.run_rules.specs.Steps.{At, means_import, uses_import}
-use Rattle.run_rules.specs.Surroundings.{Seen, seen, seen_stmt}
+use Rattle.run_rules.specs.Surroundings.{Seen}
 use Rattle.standing_uses.specs.ImportUses.Parts.{EachSeen}
 use Rattle.printed_constants.specs.Printed.{a_name, a_number, a_selection, an_operand, a_call, IsPrinted}
 use Rattle.printed_constants.proofs.Parts.{PrintedPart, an_expression, a_statement, decl_parts}

@@ -1,10 +1,10 @@
 -- What constants, and functions that print them, look up: each such name stands at a part of the declaration around which
 -- nothing is declared, and is the same with other spans.
-use Rattle.std.proofs.Common.{◌≡◌, ◌∙◌, refl, sym, subst, ◌⊎◌, inl, inr, ℕ, suc, true, false, List, [], ◌∷◌, ◌++◌, map, Option, None, Some}
+use Rattle.std.proofs.Common.{◌≡◌, ◌∙◌, refl, sym, subst, ◌⊎◌, inl, inr, ℕ, suc, true, false, List, [], ◌∷◌, ◌++◌, map, None}
 use Rattle.std.specs.Option.{option_map}
 use Rattle.go_tree.specs.declared.exprs.Rest.TheVariants.{Plain}
 use Rattle.go_tree.specs.Tree.{Expr, ident, selector, call, Exprs, no_exprs, expr_and, eval, Stmts, ValueSpecs}
-use Rattle.go_tree.specs.File.{Func, Decl, func, File}
+use Rattle.go_tree.specs.File.{Decl, func, File}
 use Rattle.scope_names.specs.FreeNames.{free_params, free_expr, free_exprs, free_stmts}
 use Rattle.pkg_graph.specs.Package.{Package}
 use Rattle.go_types.specs.Agreement.{In, head, tail}

@@ -1,6 +1,6 @@
 -- No import that a step removes has a name that is looked up in the file as it is read again: such a name would use the
 -- import, as it did before.
-use Rattle.std.proofs.Common.{◌≡◌, ◌∙◌, refl, sym, ap, subst, ℕ, zero, suc, ◌+◌, Bool, true, false, not, List, [], ◌∷◌, ◌++◌, map, Option, Some, None, arith}
+use Rattle.std.proofs.Common.{◌≡◌, ◌∙◌, refl, sym, ap, subst, ℕ, zero, suc, ◌+◌, Bool, true, false, not, List, [], ◌∷◌, ◌++◌, map, Some, arith}
 use Rattle.std.specs.Prelude.{slice_get}
 use Rattle.std.specs.List.{list_any}
 use Rattle.std.proofs.lemmas.Option.{same_Some}
@@ -13,7 +13,7 @@ use Rattle.scope_names.specs.Means.{means, numbered}
 use Rattle.import_rules.specs.Laid.{Laid}
 use Rattle.import_rules.specs.Removed.{same_span}
 use Rattle.import_rules.specs.SettledNames.{import_at}
-use Rattle.import_rules.specs.Unused.{AreImportsOf, unused_specs, spec_spans}
+use Rattle.import_rules.specs.Unused.{AreImportsOf, spec_spans}
 use Rattle.pkg_graph.specs.Package.{SourceTree, Package, specs_in, import_specs}
 use Rattle.pkg_graph.specs.Members.{imported, name_or, import_name}
 use Rattle.go_types.specs.Agreement.{In}
@@ -26,11 +26,11 @@ use Rattle.run_rules.specs.Inlining.{ReadsAs}
 use Rattle.run_rules.specs.Laws.{file_found}
 use Rattle.run_rules.specs.Naming.{imports_added}
 use Rattle.run_rules.specs.Programs.{decl_seen}
-use Rattle.run_rules.specs.Respanned.{import_spec_with, import_decl_with, decl_with, decls_with, file_with}
+use Rattle.run_rules.specs.Respanned.{import_spec_with, import_decl_with, decl_with, decls_with}
 use Rattle.run_rules.specs.Run.{Standing, Logged, Next, here_of, origin_of, is_commented}
 use Rattle.run_rules.specs.Sites.{MarkRef, Where, Site, imported_by, outer}
-use Rattle.run_rules.specs.Steps.{At, same_here, change_nth, means_import, named_by_import, uses_import, added_decls, new_decls, file_between, packages_between, where_between}
-use Rattle.form_imports.specs.ImportLaws.Steps.{names_standing, used_before, used_after, removed_specs}
+use Rattle.run_rules.specs.Steps.{At, same_here, change_nth, means_import, uses_import, added_decls, new_decls, file_between, packages_between, where_between}
+use Rattle.form_imports.specs.ImportLaws.Steps.{names_standing, used_before, used_after}
 use Rattle.form_imports.proofs.ImportLaws.GraphImports.{map_append, map_twice}
 use Rattle.form_imports.proofs.ImportLaws.StepImports.{removed_are_unused}
 use Rattle.cycle_runs.specs.ImportCycles.ImportSteps.{file_added, packages_added}
@@ -45,7 +45,7 @@ use Rattle.import_splices.proofs.FormSplices.FormsFound.{step-makes-form}
 use Rattle.put_names.proofs.StepsPut.{file_reads}
 use Rattle.printed_constants.specs.Printed.{IsFlat, a_name, a_selection, IsPrinted, ArePrinted}
 use Rattle.printed_constants.proofs.PrintedUses.Expressions.{site_expression}
-use Rattle.printed_constants.proofs.RemovedImports.Imports.{any_true, nth_among, not_both, UsedBy, decls_used, ImportAt, import_there, import_stays, gone}
+use Rattle.printed_constants.proofs.RemovedImports.Imports.{any_true, nth_among, UsedBy, decls_used, ImportAt, import_there, import_stays, gone}
 use Rattle.printed_constants.proofs.RemovedImports.LookedUp.{SeenIn, decl_looks, decl_same}
 use Rattle.printed_constants.proofs.StandingForms.Dots.{at_top}
 use Rattle.printed_constants.proofs.StandingForms.Unnamed.{behind, none_behind, in_turn}

@@ -3,8 +3,10 @@
 ghost use Rattle.printed_constants.specs.PrintedRuns.Laws.{PrintedInliningsKeep, PrintedRunsKeep, RunsStayWithin};
 
 use form_imports::packages_have_own_names;
-use marked_runs::{added_imports_may_be_declared, constants_settle, marks_stay_named, read_marks_are_named};
-use marked_runs::{read_modules_are_ready, runs_over_constants_keep, runs_over_marks_keep};
+use marked_runs::{
+    added_imports_may_be_declared, constants_settle, marks_stay_named, read_marks_are_named,
+    read_modules_are_ready, runs_over_constants_keep, runs_over_marks_keep,
+};
 
 /// A run over constants from a module that reads, is well typed and within the limits, all of whose declarations are
 /// constants and functions that print them, keeps typing, which marked functions lie on a cycle, and the meaning, where

@@ -3,5 +3,4 @@ use Rattle.stepped_values.proofs.laws.marked_values_stay.Goals as goal
 
 pub returns : goal.returns
 returns c =
-    others_stay c.well_typed_files_are_scoped.ensures.scoped c.constants_name_members.ensures c.marks_stay_named.ensures.stay c.marks_stay_named.ensures.over
-    c.constants_settle.ensures.settle
+    others_stay c.well_typed_files_are_scoped.ensures.scoped c.constants_name_members.ensures c.marks_stay_named.ensures.stay c.constants_settle.ensures.writes
