@@ -4,11 +4,10 @@ use Rattle.std.specs.Prelude.{bytes_eq, slice_get}
 use Rattle.std.proofs.lemmas.Option.{same_Some}
 use Rattle.go_tree.specs.declared.spans.Span.{Span}
 use Rattle.go_tree.specs.File.{ImportSpec, ImportDecl, Decl, File}
-use Rattle.scope_names.specs.FreeNames.{names_of}
 use Rattle.import_rules.specs.declared.new_import.NewImport.{NewImport}
 use Rattle.import_splices.specs.SettledFile.{settled_decls}
 use Rattle.pkg_graph.specs.Package.{SourceTree, Package, specs_in, import_specs}
-use Rattle.pkg_graph.specs.Members.{package_name, name_or, block_names}
+use Rattle.pkg_graph.specs.Members.{name_or}
 use Rattle.go_types.specs.Programs as typed
 use Rattle.go_types.specs.Programs.{names_in, headers, all_headers}
 use Rattle.typed_in_place.specs.ImportRule.{imports_sound}
@@ -36,10 +35,10 @@ use Rattle.cycle_runs.proofs.ImportCycles.ImportsRead.{numbers-stay}
 use Rattle.cycle_runs.specs.OrderCycles.Orders.{AllOrdered}
 use Rattle.cycle_runs.specs.OrderCycles.NewNames.{NamesByPath, FewNames}
 use Rattle.cycle_runs.specs.KeptImports.Files.{IsSettled}
-use Rattle.cycle_runs.proofs.KeptImports.Keys.{Key, new_key, keys-both, keys-bare, keys-with, key-for, key_name, name-by}
+use Rattle.cycle_runs.proofs.KeptImports.Keys.{new_key, keys-both, keys-bare, keys-with, key-for, name-by}
 use Rattle.marked_runs.proofs.SoundImports.Blocks.{names-declared}
 use Rattle.marked_runs.proofs.SoundImports.Sound.{added-sound}
-use Rattle.marked_runs.proofs.SoundImports.Times.{specs-both, once, times, times-both, settled-times}
+use Rattle.marked_runs.proofs.SoundImports.Times.{specs-both, times, times-both, settled-times}
 use Rattle.marked_runs.proofs.SoundImports.Once.{count, sound-fewer}
 
 was-some : {A B : Type 0} {R : A → B → Type 0} {o : Option A} {u : Option B} (b : B) → OptionBy R o u → u ≡ Some b → (a : A) × (o ≡ Some a) × R a b
