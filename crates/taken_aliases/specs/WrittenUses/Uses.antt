@@ -33,14 +33,15 @@ module _ {marks : List MarkRef} {st : Standing} {l : Logged} {after : Standing} 
       (d : Decl At) → slice_get n.found.site.at.source.tree.decls n.found.site.decl ≡ Some d → AllSimple
       (decl_seen st.packages n.found.site.at.number n.found.site.at.of n.found.site.at.source.tree d)
 
-  -- A step over an alias, whatever its type, where the use is such a written type in such a declaration; or an
-  -- expression, in the place of which the type may be laid out. The names to avoid are fewer than 2^64, and no import
-  -- that goes has the name of an identifier.
+  -- The use is such a written type in such a declaration; or an expression, in the place of which the alias's type may
+  -- be laid out.
   pub data IsWritten (uses : UsesAliasText n) : Type 0 where
     as_a_type : (old : TypeExpr At) → IsWrittenType old → IsSimpleAround → IsWritten uses
     as_an_expression :
         (old : Expr At) → n.found.site.part ≡ an_expr old → MayBeLaid n.found.site.place.slot uses.text → IsWritten uses
 
+  -- A step over an alias, whatever its type, at such a use. The names to avoid are fewer than 2^64, and no import that
+  -- goes has the name of an identifier.
   pub record IsOverWritten : Type 0 where
     pub uses : UsesAliasText n
     pub written : IsWritten uses
