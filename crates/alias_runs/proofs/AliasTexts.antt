@@ -3,4 +3,5 @@
 pub mod RetypedTyping
 pub mod RetypedTerms
 pub mod RetypedHeaders
+pub mod NewTypes
 pub mod Instance

@@ -27,7 +27,7 @@ use Rattle.constant_steps.proofs.StepLaws.OutsideHolds.{among_right, outside_hol
 use Rattle.constant_steps.proofs.StepLaws.UsesAnswered.{NamedThere, named-there, not-around}
 use Rattle.alias_runs.proofs.AliasTexts.RetypedTyping.{plain-type}
 use Rattle.alias_runs.specs.AliasTexts.Retyped.{PlainType, by_name, by_text}
-use Rattle.alias_runs.specs.AliasSteps.Retypable.{TypePut, as_part, as_callee, AllRetypable}
+use Rattle.alias_runs.specs.AliasSteps.Retypable.{OneTypePut, as_part, as_callee, AllRetypable}
 use Rattle.alias_runs.specs.AliasSteps.AliasUses.{AtTop, NoneLocal, TypeUseThere, TypeThere, name_there, text_there, PutThere, bare_there, star_there, ExprUseThere, NamedUses, FieldUses, TypeUses, AllAliasUses}
 
 -- what is known of the top of the file holds on in each scope
@@ -115,11 +115,11 @@ module _ {S : Type 0} (top : Env) (around : List (List ℕ)) (env : Env) (p : Pl
   unused-put (bare_there h) = unused-there h
   unused-put (star_there c h) = unused-put h
 
-  use-put : {x e : Expr S} {t : GoType} → TypeThere top p x t → PutThere top p e t → TypePut around env p x e
+  use-put : {x e : Expr S} {t : GoType} → TypeThere top p x t → PutThere top p e t → OneTypePut around env p x e
   use-put {t = t} h (bare_there k) = as_part (record { type = t; old = plain-there h; new = plain-there k; apart = record { old = unused-there h; new = unused-there k } })
   use-put h (star_there {t = t} c k) = as_callee c (pointer_to t) (plain-type (plain-there h)) (type_by_star (names-put k)) (record { old = unused-there h; new = unused-put k })
 
-  expr-use : (x e : Expr S) → ExprUseThere top p x e → TypePut around env p x e
+  expr-use : (x e : Expr S) → ExprUseThere top p x e → OneTypePut around env p x e
   expr-use x e h = use-put h.old h.new
 
 -- ---- in a written type

@@ -34,7 +34,7 @@ use Rattle.typed_in_place.proofs.TypeLeaves.{same_type_operand}
 use Rattle.alias_runs.specs.AliasTexts.Retyped as retyped
 use Rattle.alias_runs.specs.AliasTexts.Retyped.{PlainType, by_name, by_text, ExprRetyped, same_expr, a_type, in_composite, in_selector, in_index, in_slice, in_conversion, in_call, in_type_operand, in_unary, in_binary, in_star, ExprsRetyped, same_exprs, in_exprs, OptionRetyped, same_option, in_option, ElemsRetyped, no_more_elems, in_elems, KeyRetyped, no_key, same_field, in_key, ValueRetyped, in_plain, in_braces, StmtRetyped, same_stmt, in_const, in_var, in_eval, in_step, in_assign, in_define, in_return, in_block_stmt, in_if, in_for, in_range, in_switch, in_defer, in_label, StmtsRetyped, same_stmts, in_stmts, FirstRetyped, same_first, in_first, BlockRetyped, same_block, in_last, LeftRetyped, same_left, in_assigned, ArmsRetyped, no_arm, in_arm, CasesRetyped, no_more_cases, in_case, SpecsRetyped, no_more_specs, in_spec}
 use Rattle.alias_runs.proofs.AliasTexts.RetypedTyping.{plain-type}
-use Rattle.alias_runs.specs.AliasSteps.Retypable.{SameTypeUse, TypePut, as_part, as_callee, AllRetypable}
+use Rattle.alias_runs.specs.AliasSteps.Retypable.{SameTypeUse, OneTypePut, as_part, as_callee, AllRetypable}
 use Rattle.go_types.specs.Typing as typing
 use Rattle.std.proofs.Common.{arith, ◌≤◌}
 
@@ -66,7 +66,7 @@ named-bodiless (type_by_name d q b) = name-bodiless d
 named-bodiless (type_by_text d) = refl
 named-bodiless (type_by_star h) = named-bodiless h
 
-same-put : {S : Type 0} (around : List (List ℕ)) (env : Env) (p : Place S) (x e : Expr S) → TypePut around env p x e → SameExpr around env x e
+same-put : {S : Type 0} (around : List (List ℕ)) (env : Env) (p : Place S) (x e : Expr S) → OneTypePut around env p x e → SameExpr around env x e
 same-put around env p x e (as_part u) = same-use around env x e u
 same-put around env p x e (as_callee q t old new apart) = record { facts = same_type_operand around env x e t old new apart.old apart.new; bodies = named-bodiless old ∙ sym (named-bodiless new) }
 
@@ -159,14 +159,14 @@ module _ {S : Type 0} (same : S → S → Bool) (z : S) (form : Form S) (R : Lis
   -- ---- what is put in the place of an expression
 
   -- where it isn't what is called, it is a type by its name or as a text
-  part-put : {around : List (List ℕ)} {env : Env} {x e : Expr S} (p : Place S) → NotClosed p → TypePut around env p x e → ExprRetyped around env x e
+  part-put : {around : List (List ℕ)} {env : Env} {x e : Expr S} (p : Place S) → NotClosed p → OneTypePut around env p x e → ExprRetyped around env x e
   part-put p o (as_part u) = a-use u
   part-put p o (as_callee q t x e n) = clash p.slot.closed q.1 (o q.0)
 
-  mine : (around : List (List ℕ)) (env : Env) (p : Place S) (u : Use) (x : Expr S) (xs : List (Seen S)) → R around env p.env p.bound → AllRetypable c R (xs ++ seen p u x ∷ []) → (e : Expr S) → c.expr p u x ≡ Some e → TypePut around env p x e
+  mine : (around : List (List ℕ)) (env : Env) (p : Place S) (u : Use) (x : Expr S) (xs : List (Seen S)) → R around env p.env p.bound → AllRetypable c R (xs ++ seen p u x ∷ []) → (e : Expr S) → c.expr p u x ≡ Some e → OneTypePut around env p x e
   mine around env p u x xs r a e q = (behind xs (seen p u x ∷ []) a).0.1.1 around env r e q
 
-  own-put : (around : List (List ℕ)) (env : Env) (p : Place S) (u : Use) (x : Expr S) → R around env p.env p.bound → AllRetypable c R (expr_seen p u x) → (e : Expr S) → c.expr p u x ≡ Some e → TypePut around env p x e
+  own-put : (around : List (List ℕ)) (env : Env) (p : Place S) (u : Use) (x : Expr S) → R around env p.env p.bound → AllRetypable c R (expr_seen p u x) → (e : Expr S) → c.expr p u x ≡ Some e → OneTypePut around env p x e
   own-put around env p u (ident s n) r a e q = mine around env p u (ident s n) [] r a e q
   own-put around env p u (int_lit s n) r a e q = mine around env p u (int_lit s n) [] r a e q
   own-put around env p u (rune_lit s n) r a e q = mine around env p u (rune_lit s n) [] r a e q
@@ -208,7 +208,7 @@ module _ {S : Type 0} (same : S → S → Bool) (z : S) (form : Form S) (R : Lis
       → (((e : Expr S) → c.expr p called f ≡ Some e → ExprRetyped around env f e) → ExprRetyped around env f (new_expr c p called f)) → ExprsRetyped around env xs ys → ExprRetyped around env (call s f xs z) (call s (new_expr c p called f) ys z)
   call-of around env s f xs ys z p r a kept args = by (c.expr p called f) refl
     where
-      put-so : (e : Expr S) → c.expr p called f ≡ Some e → TypePut around env p f e → ExprRetyped around env (call s f xs z) (call s (new_expr c p called f) ys z)
+      put-so : (e : Expr S) → c.expr p called f ≡ Some e → OneTypePut around env p f e → ExprRetyped around env (call s f xs z) (call s (new_expr c p called f) ys z)
       put-so e q (as_part u) = in_call s (kept (λ g k. subst (λ g. ExprRetyped around env f g) (some_same e g (sym q ∙ k)) (a-use u))) args
       put-so e q (as_callee i t old new apart) = subst (λ g. ExprRetyped around env (call s f xs z) (call s g ys z)) (sym (new-is p called f e q)) (in_conversion s t old new apart args)
 

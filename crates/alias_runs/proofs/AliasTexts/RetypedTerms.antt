@@ -148,7 +148,7 @@ module _ {S : Type 0} where
   plain_address h t (by_name d q b) = named_address h t d q b
   plain_address h t (by_text d) = refl
 
-  type_parts : (a : Env) (t : GoType) {e : Expr S} → NamesType a e t → parts a e ≡ Some (operands.a_type t)
+  pub type_parts : (a : Env) (t : GoType) {e : Expr S} → NamesType a e t → parts a e ≡ Some (operands.a_type t)
   type_parts a t (type_by_name d q b) = name_parts d ∙ ap (named_operand a) q
   type_parts a t (type_by_text d) = ap (λ r. given r (λ u. Some (operands.a_type u))) d
   type_parts a _ (type_by_star {t = t} d) = ap (λ r. given r (star_of (defined_in a))) (type_parts a t d)

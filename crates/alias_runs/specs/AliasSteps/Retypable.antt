@@ -27,11 +27,11 @@ abbrev pub IsCalleePlace : {S : Type 0} → Place S → Type 0
 IsCalleePlace p = (p.slot.level ≡ 7) × (p.slot.closed ≡ true)
 
 -- two expressions that are one type at this place; where they are what is called, they may have `*` before a type
-pub data TypePut {S : Type 0} (around : List (List ℕ)) (env : Env) (p : Place S) (e f : Expr S) : Type 0 where
-  as_part : SameTypeUse around env e f → TypePut around env p e f
+pub data OneTypePut {S : Type 0} (around : List (List ℕ)) (env : Env) (p : Place S) (e f : Expr S) : Type 0 where
+  as_part : SameTypeUse around env e f → OneTypePut around env p e f
   as_callee :
       IsCalleePlace p → (t : GoType) → NamesType env e t → NamesType env f t → NoneUsed around env e f →
-      TypePut around env p e f
+      OneTypePut around env p e f
 
 module _ {S : Type 0} (c : Changes S) (R : List (List ℕ) → Env → Env → List (NameAt S) → Type 0) where
   -- an expression by itself: the type of a composite literal is known, and those of the braces in it
@@ -45,7 +45,7 @@ module _ {S : Type 0} (c : Changes S) (R : List (List ℕ) → Env → Env → L
   abbrev pub Retypable : Seen S → Type 0
   Retypable (seen p u e) =
       ExprKnown c R p e × (LiteralKnown p e × ((around : List (List ℕ)) (env : Env) → R around env p.env p.bound →
-      (f : Expr S) → c.expr p u e ≡ Some f → TypePut around env p e f))
+      (f : Expr S) → c.expr p u e ≡ Some f → OneTypePut around env p e f))
   Retypable (seen_type p t) =
       (around : List (List ℕ)) (env : Env) → R around env p.env p.bound → TypeStands c around env p t
   Retypable (seen_stmt p s) = StmtKnown c p s × (c.stmt p s ≡ None)

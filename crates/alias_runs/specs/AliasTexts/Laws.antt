@@ -1,11 +1,12 @@
 -- The laws of trees in which types are written otherwise. Each is the contract of a function of this crate (Go
 -- specification, Alias declarations; Type identity; Conversions).
-use Rattle.std.specs.Prelude.{◌≡◌, ℕ, List, Option}
+use Rattle.std.specs.Prelude.{◌≡◌, ℕ, List, Option, Some}
 use Rattle.go_tree.specs.declared.spans.Span.{Span}
-use Rattle.go_tree.specs.Tree.{Expr, Stmts}
+use Rattle.go_tree.specs.declared.exprs.Rest.{Rest}
+use Rattle.go_tree.specs.Tree.{Expr, call, no_exprs, expr_and, Stmts}
 use Rattle.go_tree.specs.File.{Func}
 use Rattle.go_types.specs.Types.{GoType}
-use Rattle.go_types.specs.Entities.{World, Env}
+use Rattle.go_types.specs.Entities.{New, builtin, World, Env}
 use Rattle.go_types.specs.Programs.{Header, Headed}
 use Rattle.go_types.specs.Collect.{env_of}
 use Rattle.go_types.specs.WellTyped.{body_env}
@@ -13,9 +14,10 @@ use Rattle.go_kernel.specs.Kernel.{ImportPath}
 use Rattle.go_translation.specs.Here.{Here}
 use Rattle.go_translation.specs.Translation.{expr_term, stmts_term}
 use Rattle.go_translation.specs.Packages.{header_functions, header_initial}
+use Rattle.typed_in_place.specs.Leaves.{Names, NamesType}
 use Rattle.typed_in_place.specs.Replaced.{ExprReplaced, StmtsReplaced}
 use Rattle.typed_in_place.specs.HeaderReplaced.{HeaderIn}
-use Rattle.alias_runs.specs.AliasTexts.Retyped.{ExprRetyped, StmtsRetyped, HeaderRetyped}
+use Rattle.alias_runs.specs.AliasTexts.Retyped.{NoneUsed, ExprRetyped, StmtsRetyped, HeaderRetyped}
 
 -- an expression with types written otherwise is one with parts replaced by parts with the same facts
 abbrev pub RetypedExpressionsStand : Type 0
@@ -58,3 +60,20 @@ RetypedVariablesMean =
     (paths : List (ℕ × ImportPath)) (w : World) (h : Headed Span) (x y : Header Span) →
     HeaderRetyped (env_of w h) (body_env w h) x y →
     header_initial paths w (record h { header = x }) ≡ header_initial paths w (record h { header = y })
+
+-- ---- an argument that is a type, also with `*` before it
+
+-- A call with one argument, which is a type: where the type is written otherwise, by a name, as a text or with `*` before
+-- it, the call is typed alike (Go specification, Allocation; Making slices, maps and channels).
+abbrev pub CallsOnTypesStand : Type 0
+CallsOnTypesStand =
+    (around : List (List ℕ)) (a : Env) (s : Span) (b e f : Expr Span) (t : GoType) (z : Rest) → NamesType a e t →
+    NamesType a f t → NoneUsed around a e f →
+    ExprReplaced around a (call s b (expr_and e no_exprs) z) (call s b (expr_and f no_exprs) z)
+
+-- Where `new` is called, it has the same term.
+abbrev pub NewMeansTheSame : Type 0
+NewMeansTheSame =
+    (h : Here) (want t : GoType) (s : Span) (b e f : Expr Span) (n : List ℕ) (z : Rest) →
+    Names h.env b (Some (builtin New)) n → NamesType h.env e t → NamesType h.env f t →
+    expr_term h want (call s b (expr_and e no_exprs) z) ≡ expr_term h want (call s b (expr_and f no_exprs) z)

@@ -18,7 +18,7 @@ use Rattle.put_names.specs.PutTypes.Uses.{UsesTypeName}
 use Rattle.put_names.specs.Uses.{IsUsedByName}
 use Rattle.taken_aliases.specs.PutTexts.Uses.{UsesAliasText}
 use Rattle.taken_aliases.specs.MixedRuns.Marked.{LaysOut, at_a_type, at_an_expression, IsOverAlias}
-use Rattle.taken_aliases.specs.WrittenUses.Uses.{IsReceiverType, IsWrittenType, IsSimpleAround, IsWritten, as_a_type, as_an_expression, IsOverWritten}
+use Rattle.taken_aliases.specs.WrittenUses.Uses.{IsReceiverType, IsWrittenType, IsWritten, as_a_type, as_an_expression, IsOverWritten}
 use Rattle.taken_aliases.proofs.WrittenUses.TypeSeats.{InType, type-uses-seated}
 use Rattle.taken_aliases.proofs.WrittenUses.Listed.{apart, decl-lists}
 use Rattle.taken_aliases.proofs.WrittenUses.Named.{alias-named}
@@ -62,12 +62,12 @@ module _ (marks : List MarkRef) (st : Standing) (l : Logged) (after : Standing) 
 
   -- ---- written types
 
-  module _ (old : TypeExpr At) (is : IsWrittenType n old) (simple : IsSimpleAround n) where
+  module _ (old : TypeExpr At) (is : IsWrittenType n old) where
     in-type : (d : Decl At) → slice_get n.found.site.at.source.tree.decls n.found.site.decl ≡ Some d → InType n.found.site.place old (decl_seen st.packages n.found.site.at.number n.found.site.at.of n.found.site.at.source.tree d)
     in-type d e = type-uses-seated st.packages marks n.found.site makes.is_use old is.part d e
 
     listed : (d : Decl At) → slice_get n.found.site.at.source.tree.decls n.found.site.decl ≡ Some d → Contains (type_names d) (false, old)
-    listed d e = by (decl-lists st.packages n.found.site.at.number n.found.site.at.of n.found.site.at.source.tree d (simple d e) n.found.site.place (in-type d e).type old (in-type d e).is_seen (in-type d e).inside)
+    listed d e = by (decl-lists st.packages n.found.site.at.number n.found.site.at.of n.found.site.at.source.tree d old (is.no_literal d e) n.found.site.place (in-type d e).type (in-type d e).is_seen (in-type d e).inside)
       where
         by : IsReceiverType d old ⊎ Among (false, old) (type_names d) → Contains (type_names d) (false, old)
         by (inl r) = absurd (is.not_received d e r)
@@ -101,5 +101,5 @@ module _ (marks : List MarkRef) (st : Standing) (l : Logged) (after : Standing) 
   written-over over = record { uses = over.uses; lays_out = by over.written; few = over.few; removes = over.removes }
     where
       by : IsWritten n over.uses → LaysOut n over.uses
-      by (as_a_type old is simple) = at_a_type (written-listed old is simple) (λ e. no-literal old is simple e)
+      by (as_a_type old is) = at_a_type (written-listed old is) (λ e. no-literal old is e)
       by (as_an_expression old part laid) = at_an_expression (uses-named over.uses old part) laid

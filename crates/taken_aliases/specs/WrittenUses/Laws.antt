@@ -9,14 +9,14 @@ use Rattle.put_names.specs.PutTypes.Uses.{UsesTypeName}
 use Rattle.put_names.specs.Uses.{IsUsedByName}
 use Rattle.taken_aliases.specs.PutTexts.Uses.{UsesAliasText}
 use Rattle.taken_aliases.specs.MixedRuns.Marked.{IsOverAlias}
-use Rattle.taken_aliases.specs.WrittenUses.Uses.{IsWrittenType, IsSimpleAround, IsOverWritten}
+use Rattle.taken_aliases.specs.WrittenUses.Uses.{IsWrittenType, IsOverWritten}
 
--- A use that is a written type, but not that of a receiver, in a simple declaration is a name of a type that the
--- declaration writes, as put_types asks of one.
+-- A use that is a written type, but not that of a receiver, nor by itself that of a composite literal, is a name of a
+-- type that its declaration writes, as put_types asks of one.
 abbrev pub WrittenUsesAreListed : Type 0
 WrittenUsesAreListed =
     (marks : List MarkRef) (st : Standing) (l : Logged) (after : Standing) (n : Next marks st l after)
-    (old : TypeExpr At) → IsWrittenType n old → IsSimpleAround n → UsesTypeName n
+    (old : TypeExpr At) → IsWrittenType n old → UsesTypeName n
 
 -- An expression that is a use of an alias is a name.
 abbrev pub AliasUsesAreNames : Type 0

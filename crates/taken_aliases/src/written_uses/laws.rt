@@ -2,10 +2,9 @@
 
 ghost use Rattle.taken_aliases.specs.WrittenUses.Laws.{AliasUsesAreNames, WrittenUsesAreListed, WrittenUsesAreOver};
 
-/// A use that is a written type, but not that of a receiver, in a declaration without composite
-/// literals, literals of functions and groups of constants with a member that repeats another, is among
-/// the names of types that its declaration writes (`types`); a use of an alias that is an expression is
-/// a name (`names`).
+/// A use that is a written type, but not that of a receiver, nor by itself that of a composite literal,
+/// is among the names of types that its declaration writes (`types`); a use of an alias that is an
+/// expression is a name (`names`).
 pub fn uses_are_written()
     ensures types { WrittenUsesAreListed }
     ensures names { AliasUsesAreNames }
