@@ -1,10 +1,9 @@
 -- The arms of an `if`, one within the other.
-use Rattle.std.specs.Prelude.{if◌then◌else◌}
-use Rattle.std.proofs.Common.{◌≡◌, ◌∙◌, ◌+◌, ◌<◌, ◌≤◌, ◌++◌, ◌&&◌, ℕ, Bool, true, false, cond, zero, suc, List, [], ◌∷◌, length, map, drop, get_or, Option, Some, None, Result, Ok, Err, OnOk, refl, sym, ap, ap₂, subst, append_assoc, arith}
+use Rattle.std.proofs.Common.{◌≡◌, ◌∙◌, ◌+◌, ◌<◌, ◌≤◌, ◌++◌, ◌&&◌, ℕ, Bool, true, false, zero, suc, List, [], ◌∷◌, length, map, drop, get_or, Option, Some, None, Result, Ok, Err, OnOk, refl, sym, ap, ap₂, subst, append_assoc, arith}
 use Rattle.go_tree.specs.declared.spans.Span.{Span}
 use Rattle.go_tree.specs.declared.stmts.Arm as source
 use Rattle.go_tree.specs.Lists.{arms_from}
-use Rattle.go_tree.specs.Tree.{Arms, no_arms, Expr, Stmt, if_, StmtOption, Stmts, BlockOption}
+use Rattle.go_tree.specs.Tree.{Arms, no_arms, Expr, if_, Stmts, BlockOption}
 use Rattle.go_tree.specs.View.{arm_of, boxed_stmt_option_of, expr_of, stmts_of}
 use Rattle.scope_names.specs.FreeNames.{declared_option}
 use Rattle.go_types.specs.Answers.{both, given, meets, only_if}
@@ -12,7 +11,7 @@ use Rattle.go_types.specs.Bodies.{Ctx}
 use Rattle.go_types.specs.Declarations.{Declared, all_used, beyond, binds_of}
 use Rattle.go_types.specs.Entities.{Binds, Env, defined_in, extend, in_block}
 use Rattle.go_types.specs.Statements.{has_last, is_condition}
-use Rattle.go_types.specs.Typing.{arms, block, declares_first, first, parts, stmt, stmts, used, used_arms, used_block, used_first, used_stmt, used_stmts}
+use Rattle.go_types.specs.Typing.{arms, block, first, parts, stmt, stmts, used, used_arms, used_block, used_first, used_stmt, used_stmts}
 use Rattle.access_rules.specs.Functions.{AreTypes}
 use Rattle.type_exprs.proofs.NewNames.{drop_all, drop_item}
 use Rattle.typed_names.specs.declared.scopes.Scope.{Scope}
@@ -29,18 +28,18 @@ use Rattle.assignment_steps.proofs.DeclaredBlocks.BlockLemmas.{within_on, within
 use Rattle.jump_rules.specs.declared.around.Around.{Around}
 use Rattle.jump_rules.specs.declared.used_locals.pending.PendingName.{PendingName}
 use Rattle.jump_rules.specs.UsedLocals.Used.{Used, and_names}
-use Rattle.jump_rules.specs.UsedLocals.Pending.{all_pass, ended}
+use Rattle.jump_rules.specs.UsedLocals.Pending.{all_pass}
 use Rattle.jump_rules.specs.UsedLocals.Walked.{IsWalked}
 use Rattle.jump_rules.proofs.UsedLocals.ScopeLaws.{blocks_begin}
 use Rattle.simple_walk.proofs.SimpleLemmas.{types_kept}
 use Rattle.statement_walk.specs.Parts.{GivesRead, IsRead}
 use Rattle.block_walk.specs.declared.arms.OpenArm.{OpenArm}
 use Rattle.block_walk.specs.Answers.{GivesEnds, GivesLeft, GivesTest, IsBodyPlace, StaysAround, behind}
-use Rattle.block_walk.specs.Arms.{ArmValue, ArmsRead, AreArmsRead, AreOpen, none_open, one_open, GivesArm, GivesOpen, IsArm, IsOpen, arm_before, arms_onto, if_answer, innermost_first, opened}
+use Rattle.block_walk.specs.Arms.{ArmValue, ArmsRead, AreArmsRead, AreOpen, none_open, one_open, GivesArm, GivesOpen, IsArm, arm_before, arms_onto, if_answer, innermost_first, opened}
 use Rattle.block_walk.specs.Walked.{AreWalkedArms, AreWalkedStmts, IsHeader, size_arms, size_stmts}
 use Rattle.expr_walk.specs.Walked as expression
 use Rattle.block_walk.proofs.EndLemmas.{left_none, none_only}
-use Rattle.block_walk.proofs.LoopLemmas.{header_declares, two_tests, used_last, used_then}
+use Rattle.block_walk.proofs.LoopLemmas.{header_declares, two_tests, used_then}
 use Rattle.block_walk.proofs.PlaceSteps.{there_in}
 
 -- ---- arms of the code

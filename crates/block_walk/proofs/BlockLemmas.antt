@@ -1,10 +1,10 @@
 -- Statements of a block one after the other.
 use Rattle.std.specs.Prelude.{if◌then◌else◌}
-use Rattle.std.proofs.Common.{◌≡◌, ◌∙◌, ◌+◌, ◌<◌, ◌≤◌, ◌++◌, ℕ, Bool, true, false, cond, zero, suc, List, [], ◌∷◌, length, map, drop, get_or, Option, Some, None, Result, Ok, Err, refl, sym, ap, ap₂, subst, arith}
+use Rattle.std.proofs.Common.{◌≡◌, ◌+◌, ◌<◌, ◌≤◌, ◌++◌, ℕ, Bool, false, zero, suc, List, [], ◌∷◌, length, map, drop, get_or, Option, None, Ok, Err, refl, sym, ap, ap₂, subst, arith}
 use Rattle.go_tree.specs.declared.spans.Span.{Span}
 use Rattle.go_tree.specs.declared.stmts.Stmt as source
 use Rattle.go_tree.specs.Lists.{stmts_from}
-use Rattle.go_tree.specs.Tree.{Stmt, Stmts, no_stmts, stmt_and}
+use Rattle.go_tree.specs.Tree.{Stmt, Stmts, stmt_and}
 use Rattle.go_tree.specs.View.{stmt_of}
 use Rattle.scope_names.specs.FreeNames.{declared}
 use Rattle.go_types.specs.Answers.{both, only_if}
@@ -24,8 +24,7 @@ use Rattle.checker_tables.specs.Ready.{Keeps}
 use Rattle.operand_answers.specs.Known.{Stands}
 use Rattle.operand_answers.proofs.KeptLemmas.{keeps_on, keeps_self}
 use Rattle.control_steps.specs.declared.returns.Body.{Body}
-use Rattle.control_steps.specs.LocalBlocks.Places.{IsPlace, IsWithin}
-use Rattle.control_steps.specs.Returns.{IsBodyOf}
+use Rattle.control_steps.specs.LocalBlocks.Places.{IsWithin}
 use Rattle.assignment_steps.proofs.DeclaredBlocks.BlockLemmas.{within_on, within_self}
 use Rattle.jump_rules.specs.declared.around.Around.{Around}
 use Rattle.jump_rules.specs.declared.used_locals.pending.PendingName.{PendingName}

@@ -1,11 +1,10 @@
 -- The cases of a switch, one after the other, and a switch by the answers for its parts.
-use Rattle.std.specs.Prelude.{if◌then◌else◌}
-use Rattle.std.proofs.Common.{◌≡◌, ◌∙◌, ◌+◌, ◌<◌, ◌≤◌, ◌++◌, ◌&&◌, ℕ, Bool, true, false, not, cond, zero, suc, List, [], ◌∷◌, length, map, drop, get_or, Option, Some, None, Result, Ok, Err, OnOk, IfOk, refl, sym, ap, ap₂, subst, append_assoc, arith}
+use Rattle.std.proofs.Common.{◌≡◌, ◌∙◌, ◌+◌, ◌<◌, ◌≤◌, ◌++◌, ◌&&◌, ℕ, Bool, true, false, not, zero, suc, List, [], ◌∷◌, length, map, drop, get_or, Option, Some, None, Result, Ok, Err, OnOk, refl, sym, ap, subst, arith}
 use Rattle.std.specs.List.{list_all}
 use Rattle.go_tree.specs.declared.spans.Span.{Span}
 use Rattle.go_tree.specs.declared.stmts.Case as source
 use Rattle.go_tree.specs.Lists.{cases_from}
-use Rattle.go_tree.specs.Tree.{Cases, no_cases, case, Exprs, ExprOption, Stmt, Stmts, StmtOption, switch}
+use Rattle.go_tree.specs.Tree.{Cases, no_cases, Exprs, ExprOption, Stmt, StmtOption, switch}
 use Rattle.go_tree.specs.View.{case_of, exprs_of, stmts_of}
 use Rattle.const_eval.specs.declared.consts.Const.{Const}
 use Rattle.const_eval.specs.declared.consts.Const.TheVariants.{Whole, Truth, Bytes}
@@ -15,9 +14,9 @@ use Rattle.go_types.specs.Bodies.{Ctx, in_switch}
 use Rattle.go_types.specs.Declarations.{Declared, all_used, beyond, binds_of}
 use Rattle.go_types.specs.Entities.{Binds, Content, Env, run, exact, shift, defined_in, extend, in_block}
 use Rattle.go_types.specs.Jumps.{breaks_in}
-use Rattle.go_types.specs.Operands.{Operand, Typed, all_typed, value}
+use Rattle.go_types.specs.Operands.{Operand, Typed, all_typed}
 use Rattle.go_types.specs.Statements.{Clauses, case_constants, case_value, choice, is_default, tag_of, tag_value}
-use Rattle.go_types.specs.Typing.{all_parts, bound, clauses, declares_first, first, stmt, stmts, used_all, used_cases, used_first, used_option, used_stmt, used_stmts}
+use Rattle.go_types.specs.Typing.{all_parts, bound, clauses, first, stmt, stmts, used_all, used_cases, used_first, used_option, used_stmt, used_stmts}
 use Rattle.type_relations.specs.Environment.{Environment, defined_types}
 use Rattle.operand_rules.specs.declared.values.Value.{Value}
 use Rattle.operand_rules.specs.declared.values.Refusal.{Refusal}
@@ -30,7 +29,7 @@ use Rattle.typed_names.specs.Meanings.{Names}
 use Rattle.checker_tables.specs.declared.tables.Tables.{Tables}
 use Rattle.checker_tables.specs.Ready.{Keeps}
 use Rattle.operand_answers.specs.Known.{Stands}
-use Rattle.operand_answers.proofs.KeptLemmas.{keeps_on, keeps_self, value_on, value_same}
+use Rattle.operand_answers.proofs.KeptLemmas.{keeps_on, keeps_self, value_same}
 use Rattle.operand_answers.specs.AccessSteps.Bounds.{GivesBound, IsBoundIfOk}
 use Rattle.control_steps.specs.declared.returns.Body.{Body}
 use Rattle.control_steps.specs.LocalBlocks.Places.{IsPlace}
@@ -52,7 +51,7 @@ use Rattle.range_steps.proofs.CaseSteps.ValueLemmas.{values_alike, values_kept}
 use Rattle.simple_walk.proofs.SimpleLemmas.{types_kept}
 use Rattle.statement_walk.specs.Parts.{GivesRead, IsRead}
 use Rattle.block_walk.specs.Answers.{GivesEnds, GivesLeft, IsBodyPlace, StaysAround, behind}
-use Rattle.block_walk.specs.Cases.{AreCasesRead, CaseValue, CasesRead, GivesAdded, GivesCase, GivesTag, IsCase, IsTag, IsTagIfOk, case_before}
+use Rattle.block_walk.specs.Cases.{AreCasesRead, CaseValue, CasesRead, GivesAdded, GivesCase, GivesTag, IsCase, IsTagIfOk, case_before}
 use Rattle.block_walk.specs.Walked.{AreWalkedCases, AreWalkedStmts, size_cases, size_stmts}
 use Rattle.block_walk.proofs.EndLemmas.{left_none}
 use Rattle.block_walk.proofs.LoopLemmas.{header_declares, used_last, used_then}

@@ -1,5 +1,5 @@
 -- First statements of headers, conditions, and statements behind each turn of a loop.
-use Rattle.std.proofs.Common.{◌≡◌, ◌∙◌, ◌&&◌, ℕ, Bool, true, false, not, List, [], Option, Some, None, Result, Ok, Err, refl, sym, ap, ap₂, subst}
+use Rattle.std.proofs.Common.{◌≡◌, ◌∙◌, ℕ, Bool, true, false, List, [], Option, Some, None, Result, Ok, Err, refl, sym, ap, ap₂, subst}
 use Rattle.std.specs.Prelude.{is_some}
 use Rattle.go_tree.specs.declared.spans.Span.{Span}
 use Rattle.go_tree.specs.Tree.{Expr, some_expr, StmtOption, no_stmt, some_stmt, Stmt, const_decl, var_decl, empty, eval, step, assign, define, return_, break_, continue_, inner, if_, for_, range_, switch, defer, label}
@@ -9,8 +9,8 @@ use Rattle.go_types.specs.Declarations.{Declared, no_names}
 use Rattle.go_types.specs.Defined.{Defined}
 use Rattle.go_types.specs.Entities.{Env, defined_in}
 use Rattle.go_types.specs.Operands.{Operand, Typed, typed, value, with_value}
-use Rattle.go_types.specs.Statements.{is_condition, is_define, is_test}
-use Rattle.go_types.specs.Typing.{bound, declares, first, parts, stmt, used_first, used_stmt}
+use Rattle.go_types.specs.Statements.{is_condition, is_test}
+use Rattle.go_types.specs.Typing.{bound, declares, first, parts, stmt, used_first}
 use Rattle.type_relations.specs.Environment.{defined_types}
 use Rattle.typed_names.specs.declared.scopes.Scope.{Scope}
 use Rattle.typed_names.specs.Meanings.{Names}

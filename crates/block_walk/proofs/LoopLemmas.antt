@@ -1,5 +1,5 @@
 -- A `for` by the answers for its parts.
-use Rattle.std.proofs.Common.{◌≡◌, ◌∙◌, ◌++◌, ◌&&◌, ℕ, Bool, true, false, not, List, [], Option, Some, None, Result, Ok, Err, refl, sym, ap, ap₂, subst, append_assoc}
+use Rattle.std.proofs.Common.{◌≡◌, ◌∙◌, ◌++◌, ◌&&◌, ℕ, Bool, true, false, not, List, [], Option, Some, None, Result, Ok, Err, refl, sym, ap, subst, append_assoc}
 use Rattle.std.specs.Prelude.{is_some}
 use Rattle.std.proofs.lemmas.List.{append-nil}
 use Rattle.go_tree.specs.declared.spans.Span.{Span}
@@ -7,7 +7,7 @@ use Rattle.go_tree.specs.Tree.{ExprOption, Stmt, for_, Stmts, StmtOption, no_stm
 use Rattle.scope_names.specs.FreeNames.{declared_option}
 use Rattle.go_types.specs.Answers.{both, given, only_if}
 use Rattle.go_types.specs.Bodies.{Ctx, in_loop}
-use Rattle.go_types.specs.Declarations.{Declared, all_used, beyond, binds_of, no_names}
+use Rattle.go_types.specs.Declarations.{Declared, all_used, beyond, binds_of}
 use Rattle.go_types.specs.Entities.{Binds, Env, extend, in_block}
 use Rattle.go_types.specs.Jumps.{breaks_in}
 use Rattle.go_types.specs.Statements.{is_absent, is_define, is_test}

@@ -1,10 +1,10 @@
 -- Places in a body, in later tables, in new blocks and in loops.
-use Rattle.std.proofs.Common.{◌≡◌, ◌∙◌, ℕ, List, [], Option, Result, Ok, Err, OnOk, refl, sym, ap, subst}
+use Rattle.std.proofs.Common.{◌≡◌, ◌∙◌, ℕ, List, [], Result, Ok, Err, OnOk, sym, ap, subst}
 use Rattle.go_tree.specs.declared.spans.Span.{Span}
-use Rattle.go_tree.specs.Tree.{Expr, Exprs}
+use Rattle.go_tree.specs.Tree.{Expr}
 use Rattle.go_types.specs.Bodies.{Ctx, in_loop, in_switch}
 use Rattle.go_types.specs.Entities.{Env, in_block}
-use Rattle.go_types.specs.Typing.{used, used_all}
+use Rattle.go_types.specs.Typing.{used}
 use Rattle.access_rules.specs.Functions.{AreTypes}
 use Rattle.typed_names.specs.declared.scopes.Scope.{Scope}
 use Rattle.typed_names.specs.Meanings.{Names}
@@ -14,7 +14,6 @@ use Rattle.operand_answers.specs.Known.{Stands}
 use Rattle.operand_answers.proofs.KeptLemmas.{stands_kept}
 use Rattle.control_steps.specs.declared.returns.Body.{Body}
 use Rattle.control_steps.specs.LocalBlocks.Places.{IsPlace}
-use Rattle.control_steps.specs.Returns.{IsBodyOf}
 use Rattle.control_steps.proofs.LocalBlocks.PlaceLemmas.{blocks_begin, places_are_environments}
 use Rattle.jump_rules.specs.declared.around.Around.{Around}
 use Rattle.jump_rules.specs.Labels.{IsAround}

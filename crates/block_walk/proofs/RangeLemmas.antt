@@ -1,10 +1,10 @@
 -- Range clauses, and a loop over a range by the answers for its parts.
-use Rattle.std.proofs.Common.{◌≡◌, ◌∙◌, ◌++◌, ◌&&◌, ◌||◌, ℕ, Bool, true, false, not, cond, List, [], ◌∷◌, length, map, Option, Some, None, Result, Ok, Err, refl, sym, ap, ap₂, subst, append_assoc}
+use Rattle.std.proofs.Common.{◌≡◌, ◌∙◌, ◌++◌, ℕ, Bool, true, false, not, cond, List, [], ◌∷◌, Option, Some, None, Result, Ok, Err, refl, sym, ap, ap₂, subst}
 use Rattle.std.specs.Prelude.{is_some}
 use Rattle.std.proofs.lemmas.Option.{none-some}
 use Rattle.go_tree.specs.declared.spans.Span.{Span}
-use Rattle.go_tree.specs.Tree.{NameAt, Expr, Exprs, Stmt, Stmts, range_, RangeLeft, nothing, assigns, defines}
-use Rattle.scope_names.specs.FreeNames.{defined, names_of}
+use Rattle.go_tree.specs.Tree.{Expr, Exprs, Stmt, Stmts, range_, RangeLeft, nothing, assigns, defines}
+use Rattle.scope_names.specs.FreeNames.{defined}
 use Rattle.scope_names.specs.Means.{is_blank}
 use Rattle.go_types.specs.Answers.{given, is_empty, meets, only_if}
 use Rattle.go_types.specs.Types.{GoType}
@@ -12,7 +12,7 @@ use Rattle.go_types.specs.Bodies.{Ctx, in_loop}
 use Rattle.go_types.specs.Declarations.{Declared, all_used, beyond, binds_of, bound_names, names_once, no_names, not_blank, some_declared, variables_declared}
 use Rattle.go_types.specs.Defined.{Defined}
 use Rattle.go_types.specs.Entities.{Binds, Entity, Env, defined_in, extend, in_block, variable}
-use Rattle.go_types.specs.Operands.{Operand, Typed, typed, with_value}
+use Rattle.go_types.specs.Operands.{Operand, Typed, typed}
 use Rattle.go_types.specs.Statements.{Target, new_by_range, range_assigns, range_binds, range_types}
 use Rattle.go_types.specs.Typing.{parts, range_declares, ranges, stmt, stmts, targets, used, used_left, used_range, used_stmt, used_stmts}
 use Rattle.type_relations.specs.Environment.{Environment, defined_types}
@@ -220,10 +220,11 @@ module _ (env : Env) (ns : List (List ℕ)) (bs : Binds) (fs : List (List ℕ)) 
   value_bound None h = absurd (none-some made h)
   value_bound (Some v) h =
       let g =
-      only_true (names_once ns) (some_declared (given (range_types (defined_in env) v) (range_binds (defined_in env) ns))) made h in
-      (g.0,
-      types_bound (range_types (defined_in env) v)
-      (some_bound (given (range_types (defined_in env) v) (range_binds (defined_in env) ns)) g.1))
+      only_true (names_once ns) (some_declared (given (range_types (defined_in env) v) (range_binds (defined_in env) ns))) made h in (
+        g.0,
+        types_bound (range_types (defined_in env) v)
+            (some_bound (given (range_types (defined_in env) v) (range_binds (defined_in env) ns)) g.1),
+      )
 
   operand_bound :
       (o : Option Operand) → given o (new_by_range env ns) ≡ Some made →

@@ -1,11 +1,11 @@
 -- Statements in which no others stand: the names that they use, and what they leave of a block.
-use Rattle.std.proofs.Common.{◌≡◌, ◌∙◌, ◌+◌, ◌<◌, ◌≤◌, ◌++◌, ℕ, Bool, true, false, cond, List, [], ◌∷◌, length, map, drop, get_or, Option, Some, None, Result, Ok, Err, OnOk, refl, sym, ap, ap₂, subst}
+use Rattle.std.proofs.Common.{◌≡◌, ◌∙◌, ◌++◌, ℕ, Bool, true, false, cond, List, [], ◌∷◌, Option, Some, None, Result, Ok, Err, refl, sym, ap, ap₂, subst}
 use Rattle.go_tree.specs.declared.spans.Span.{Span}
 use Rattle.go_tree.specs.declared.operators.BinOp.{BinOp}
 use Rattle.go_tree.specs.Tree.{NameAt, Expr, ident, int_lit, rune_lit, str_lit, composite, selector, index, slice, call, func_lit, type_operand, unary, binary, star, Exprs, no_exprs, expr_and, Stmt, ValueSpecs, const_decl, var_decl, empty, eval, step, assign, define, return_, break_, continue_, inner, if_, for_, range_, switch, defer, label}
 use Rattle.go_types.specs.Answers.{given, without}
 use Rattle.go_types.specs.Bodies.{Ctx}
-use Rattle.go_types.specs.Declarations.{Declared, no_names}
+use Rattle.go_types.specs.Declarations.{no_names}
 use Rattle.go_types.specs.Entities.{Env}
 use Rattle.go_types.specs.Typing.{declares, declares_variables, stmt, used, used_all, used_left, used_stmt, used_variables}
 use Rattle.typed_names.specs.declared.scopes.Scope.{Scope}
@@ -28,9 +28,9 @@ use Rattle.jump_rules.specs.UsedLocals.Used.{Used, and_names}
 use Rattle.jump_rules.proofs.UsedLocals.ScopeLaws.{parts_use}
 use Rattle.simple_walk.specs.Simple.{IsSimple}
 use Rattle.simple_walk.proofs.ConstantGroups.MemberLemmas.{place_kept}
-use Rattle.statement_walk.specs.Parts.{AreHere, GivesRead, IsPart, IsRead}
+use Rattle.statement_walk.specs.Parts.{AreHere, GivesRead, IsPart}
 use Rattle.statement_walk.proofs.SeenUses.{all_used_seen, used_seen}
-use Rattle.block_walk.specs.Answers.{GivesEnds, GivesStatement, IsBodyPlace, IsStatement, declaration_answer, side_uses, target_uses}
+use Rattle.block_walk.specs.Answers.{GivesEnds, GivesStatement, IsBodyPlace, declaration_answer, side_uses, target_uses}
 use Rattle.block_walk.specs.Walked.{is_name}
 
 -- ---- left sides

@@ -1,6 +1,6 @@
 -- Kinds of statements: those in which others stand, those that declare names, and the others.
 use denote.Hole.Carrier
-use Rattle.std.proofs.Common.{◌≡◌, Bool, true, false, Some, refl}
+use Rattle.std.proofs.Common.{◌≡◌, true, false, Some, refl}
 use Rattle.go_tree.specs.declared.spans.Span.{Span}
 use Rattle.go_tree.specs.declared.stmts.ConstDecl as cd
 use Rattle.go_tree.specs.declared.stmts.VarDecl as vd

@@ -1,7 +1,7 @@
 -- What stands in the headers of statements (Go specification, For statements with for clause).
-use Rattle.std.specs.Prelude.{Bool, false, ◌&&◌, not, is_some}
+use Rattle.std.specs.Prelude.{Bool, ◌&&◌, not, is_some}
 use Rattle.go_tree.specs.declared.spans.Span.{Span}
-use Rattle.go_tree.specs.Tree.{Stmt, define, some_stmt}
+use Rattle.go_tree.specs.Tree.{Stmt, some_stmt}
 use Rattle.go_types.specs.Bodies.{Ctx}
 use Rattle.go_types.specs.Entities.{Env}
 use Rattle.go_types.specs.Statements.{is_define}

@@ -183,7 +183,16 @@ pub fn statements(
     let mut ends = false;
     for s in stmts.items() {
         match statement(
-            alloc, tables, scope, blocks, block, around, body, used, &mut pending, s,
+            alloc,
+            tables,
+            scope,
+            blocks,
+            block,
+            around,
+            body,
+            used,
+            &mut pending,
+            s,
         ) {
             Ok(last) => ends = ends_behind(s, ends, last),
             Err(refusal) => return Err(refusal),

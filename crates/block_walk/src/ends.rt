@@ -120,7 +120,10 @@ pub(crate) fn without_end(read: Result<bool, Refusal>) -> Result<(), Refusal>
 }
 
 /// The second answer, where the first is that its part may stand.
-pub(crate) fn behind(first: Result<(), Refusal>, second: Result<bool, Refusal>) -> Result<bool, Refusal>
+pub(crate) fn behind(
+    first: Result<(), Refusal>,
+    second: Result<bool, Refusal>,
+) -> Result<bool, Refusal>
     ensures { result ≡ answer.behind first second }
 {
     match first {

@@ -59,7 +59,16 @@ fn one_arm(
     let mut pending = PendingNames::new(alloc);
     let first = &arm.first;
     let declared = header(
-        alloc, tables, scope, blocks, &mut block, around, body, used, &mut pending, first,
+        alloc,
+        tables,
+        scope,
+        blocks,
+        &mut block,
+        around,
+        body,
+        used,
+        &mut pending,
+        first,
     );
     let passes = condition_of(alloc, tables, scope, blocks, used, &arm.test);
     let stmts = &arm.body.stmts;

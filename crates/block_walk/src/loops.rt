@@ -95,7 +95,16 @@ pub(crate) fn for_statement(
     let mut block = LocalBlock::begin(alloc, scope);
     let mut pending = PendingNames::new(alloc);
     let declared = header(
-        alloc, tables, scope, blocks, &mut block, around, body, used, &mut pending, first,
+        alloc,
+        tables,
+        scope,
+        blocks,
+        &mut block,
+        around,
+        body,
+        used,
+        &mut pending,
+        first,
     );
     let passes = loop_condition(alloc, tables, scope, blocks, used, test);
     let steps = post_of(alloc, tables, scope, blocks, around, body, used, post);
@@ -139,7 +148,15 @@ pub(crate) fn range_statement(
     let mut block = LocalBlock::begin(alloc, scope);
     let mut pending = PendingNames::new(alloc);
     let declared = range_header(
-        alloc, tables, scope, blocks, &mut block, used, &mut pending, left, over,
+        alloc,
+        tables,
+        scope,
+        blocks,
+        &mut block,
+        used,
+        &mut pending,
+        left,
+        over,
     );
     let turn = loop_block(alloc, tables, scope, blocks, around, body, used, stmts);
     block.end(scope);

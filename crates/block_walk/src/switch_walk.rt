@@ -143,12 +143,23 @@ pub(crate) fn switch_statement(
     let mut block = LocalBlock::begin(alloc, scope);
     let mut pending = PendingNames::new(alloc);
     let declared = header(
-        alloc, tables, scope, blocks, &mut block, around, body, used, &mut pending, first,
+        alloc,
+        tables,
+        scope,
+        blocks,
+        &mut block,
+        around,
+        body,
+        used,
+        &mut pending,
+        first,
     );
     let compared = switch_tag(alloc, tables, scope, blocks, used, tag);
     let breakable = around.breakable;
     enter_switch(around);
-    let ends = all_cases(alloc, tables, scope, blocks, around, body, used, compared, cases);
+    let ends = all_cases(
+        alloc, tables, scope, blocks, around, body, used, compared, cases,
+    );
     leave_switch(around, breakable);
     block.end(scope);
     close(alloc, used, &pending, behind(declared, ends))

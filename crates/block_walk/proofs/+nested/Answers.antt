@@ -1,4 +1,4 @@
-use Rattle.std.proofs.Common.{◌≡◌, ◌∙◌, ◌+◌, ◌++◌, ◌&&◌, [], drop, Err, Ok, OnOk, None, Option, Some, true, false, not, ap, arith, map, refl, subst, sym}
+use Rattle.std.proofs.Common.{◌≡◌, ◌∙◌, ◌+◌, ◌++◌, ◌&&◌, drop, Err, Ok, OnOk, None, Some, true, false, not, ap, arith, map, refl, subst, sym}
 use Rattle.go_tree.specs.Tree as tree
 use Rattle.go_tree.specs.View.{arm_of, arms_of, boxed_stmt_option_of, case_of, cases_of, expr_of, held_block_option_of, name_at_of, plain_expr_option_of, range_left_of, stmt_of, stmts_of}
 use Rattle.go_tree.specs.Lists.{arms_from, cases_from, stmts_from}
@@ -8,7 +8,7 @@ use Rattle.go_types.specs.Jumps.{breaks, breaks_in}
 use Rattle.go_types.specs.Answers.{given}
 use Rattle.go_types.specs.Statements.{choice, has_last, is_default, tag_of}
 use Rattle.go_types.specs.Typing as go
-use Rattle.assignment_steps.proofs.DeclaredBlocks.BlockLemmas.{within_on, within_self}
+use Rattle.assignment_steps.proofs.DeclaredBlocks.BlockLemmas.{within_on}
 use Rattle.control_steps.specs.LocalBlocks.Places.{IsWithin}
 use Rattle.operand_answers.proofs.KeptLemmas.{keeps_on, value_on}
 use Rattle.jump_rules.specs.UsedLocals.Used.{and_names, used_of}

@@ -1,4 +1,4 @@
-use Rattle.std.proofs.Common.{◌+◌, ◌≡◌, drop, map}
+use Rattle.std.proofs.Common.{◌+◌, ◌≡◌}
 use Rattle.go_tree.specs.View.{arms_of, cases_of, held_block_option_of, stmt_of, stmts_of}
 use Rattle.jump_rules.specs.UsedLocals.Used.{used_of}
 use Rattle.block_walk.specs.Walked.{size_arms, size_block, size_cases, size_stmt, size_stmts}

@@ -1,8 +1,8 @@
-use Rattle.std.proofs.Common.{◌≡◌, ◌∙◌, ◌++◌, ◌∷◌, [], refl, subst, sym, arith}
+use Rattle.std.proofs.Common.{[], subst, sym, arith}
 use Rattle.std.proofs.lemmas.List.{nil_from_length}
 use Rattle.jump_rules.specs.UsedLocals.Used.{used_of}
-use Rattle.block_walk.specs.Arms.{GivesOpen, if_answer, innermost_first}
-use Rattle.block_walk.specs.Answers.{GivesEnds, GivesLeft}
+use Rattle.block_walk.specs.Arms.{GivesOpen, innermost_first}
+use Rattle.block_walk.specs.Answers.{GivesLeft}
 use Rattle.block_walk.proofs.ArmLemmas.{arm_pushed, open_end, open_less}
 use Rattle.block_walk.proofs.arms.close_arms.Goals as goal
 

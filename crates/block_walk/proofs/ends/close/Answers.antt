@@ -1,6 +1,5 @@
-use Rattle.std.proofs.Common.{◌∙◌, Ok, Err, subst, sym}
+use Rattle.std.proofs.Common.{subst}
 use Rattle.jump_rules.specs.UsedLocals.Used.{used_of}
-use Rattle.operand_rules.specs.declared.values.Refusal.{Refusal}
 use Rattle.block_walk.specs.Answers.{GivesLeft}
 use Rattle.block_walk.proofs.EndLemmas.{close_fails, close_passes, close_refused}
 use Rattle.block_walk.proofs.ends.close.Goals as goal

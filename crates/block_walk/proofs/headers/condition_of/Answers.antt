@@ -1,4 +1,4 @@
-use Rattle.std.proofs.Common.{◌≡◌, ◌∙◌, ap, sym}
+use Rattle.std.proofs.Common.{◌∙◌, ap}
 use Rattle.go_tree.specs.View.{expr_of}
 use Rattle.go_types.specs.Answers.{meets}
 use Rattle.go_types.specs.Entities.{defined_in}

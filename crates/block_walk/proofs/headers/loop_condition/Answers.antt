@@ -1,5 +1,4 @@
-use Rattle.std.proofs.Common.{◌∙◌, Ok, refl, subst, sym}
-use Rattle.go_tree.specs.Tree as tree
+use Rattle.std.proofs.Common.{Ok, refl, subst, sym}
 use Rattle.go_tree.specs.View.{expr_of, plain_expr_option_of}
 use Rattle.go_types.specs.Statements.{is_test}
 use Rattle.go_types.specs.Typing as go

@@ -1,6 +1,5 @@
-use Rattle.std.proofs.Common.{◌∙◌, ◌&&◌, Ok, not, refl, subst, sym}
+use Rattle.std.proofs.Common.{◌&&◌, Ok, not, refl, subst, sym}
 use Rattle.std.specs.Prelude.{is_some}
-use Rattle.go_tree.specs.Tree as tree
 use Rattle.go_tree.specs.View.{boxed_stmt_option_of, stmt_of}
 use Rattle.go_types.specs.Statements.{is_define}
 use Rattle.go_types.specs.Typing as go

@@ -1,7 +1,6 @@
-use Rattle.std.proofs.Common.{◌≡◌, ◌∙◌, ap}
+use Rattle.std.proofs.Common.{◌∙◌, ap}
 use Rattle.go_tree.specs.View.{stmt_of}
 use Rattle.go_types.specs.Typing as go
-use Rattle.expr_walk.proofs.WalkArms.ExprArms.{at}
 use Rattle.jump_rules.specs.UsedLocals.Used.{and_names, used_of}
 use Rattle.simple_walk.proofs.SimpleLemmas.{types_kept}
 use Rattle.block_walk.proofs.PlaceSteps.{body_place_kept}

@@ -1,4 +1,4 @@
-use Rattle.std.proofs.Common.{◌≡◌, ◌∙◌, ap, ap₂, sym}
+use Rattle.std.proofs.Common.{◌∙◌, ap}
 use Rattle.go_tree.specs.Tree as tree
 use Rattle.go_tree.specs.View.{expr_of}
 use Rattle.go_types.specs.Answers.{meets}

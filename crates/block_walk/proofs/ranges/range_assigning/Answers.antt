@@ -1,4 +1,4 @@
-use Rattle.std.proofs.Common.{◌≡◌, ◌∙◌, ◌++◌, ap, ap₂, subst, sym}
+use Rattle.std.proofs.Common.{◌∙◌, ◌++◌, subst}
 use Rattle.go_tree.specs.Tree as tree
 use Rattle.go_tree.specs.View.{expr_of, exprs_of}
 use Rattle.go_types.specs.Answers.{meets}
@@ -8,7 +8,7 @@ use Rattle.go_types.specs.Statements.{range_assigns}
 use Rattle.go_types.specs.Typing as go
 use Rattle.operand_answers.proofs.KeptLemmas.{env_kept, keeps_on, there_kept}
 use Rattle.expr_walk.proofs.WalkArms.ExprArms.{at, expr_kept, expr_there}
-use Rattle.jump_rules.specs.UsedLocals.Used.{and_names, used_of}
+use Rattle.jump_rules.specs.UsedLocals.Used.{used_of}
 use Rattle.assignment_steps.specs.Targets.{GivesTargets}
 use Rattle.simple_walk.proofs.ConstantGroups.MemberLemmas.{place_kept}
 use Rattle.block_walk.specs.Ranges.{range_clause}

@@ -9,12 +9,11 @@ use Rattle.go_types.specs.Typing as go
 use Rattle.scope_names.specs.FreeNames.{names_of}
 use Rattle.assignment_steps.specs.SpecSteps.Specs.{GivesVariables}
 use Rattle.control_steps.specs.DeclarationSteps.Entities.{AreEntities, binds_at}
-use Rattle.control_steps.specs.LocalBlocks.Places.{IsPlace, in_block_of}
+use Rattle.control_steps.specs.LocalBlocks.Places.{IsPlace}
 use Rattle.expr_walk.proofs.WalkArms.ExprArms.{at, expr_there}
 use Rattle.jump_rules.specs.UsedLocals.Pending.{all_begun}
 use Rattle.jump_rules.specs.UsedLocals.Used.{and_names, used_of}
-use Rattle.simple_walk.proofs.ConstantGroups.MemberLemmas.{place_here, place_kept, within_self}
-use Rattle.statement_walk.proofs.DeclaredLemmas.{variables_there}
+use Rattle.simple_walk.proofs.ConstantGroups.MemberLemmas.{place_kept, within_self}
 use Rattle.statement_walk.proofs.PartLemmas.{part_read, spec_begun}
 use Rattle.block_walk.specs.Ranges.{range_clause}
 use Rattle.block_walk.proofs.RangeLemmas.{clause_refused, parts_before, range_all, range_news, types_before, used_before}

@@ -1,4 +1,4 @@
-use Rattle.std.proofs.Common.{◌∙◌, ◌++◌, subst, sym}
+use Rattle.std.proofs.Common.{◌++◌, subst, sym}
 use Rattle.go_tree.specs.View.{expr_of, range_left_of}
 use Rattle.go_types.specs.Entities.{in_block}
 use Rattle.go_types.specs.Typing as go

@@ -1,6 +1,6 @@
 use Rattle.std.proofs.Common.{◌≡◌, ◌∙◌, ◌+◌, ap, drop, map, subst, sym}
 use Rattle.go_tree.specs.Lists.{exprs_from}
-use Rattle.go_tree.specs.View.{expr_of, exprs_of}
+use Rattle.go_tree.specs.View.{expr_of}
 use Rattle.go_types.specs.Typing as go
 use Rattle.type_exprs.proofs.NewNames.{drop_all, drop_item}
 use Rattle.operand_answers.proofs.KeptLemmas.{env_kept}

@@ -1,9 +1,8 @@
-use Rattle.std.proofs.Common.{◌≡◌, ◌∙◌, ◌++◌, OnOk, ap, subst, sym}
-use Rattle.go_tree.specs.View.{expr_of, exprs_of, stmt_of}
+use Rattle.std.proofs.Common.{◌≡◌, OnOk, subst, sym}
+use Rattle.go_tree.specs.View.{exprs_of, stmt_of}
 use Rattle.go_types.specs.Typing as go
 use Rattle.expr_walk.proofs.WalkArms.ExprArms.{at}
 use Rattle.jump_rules.specs.UsedLocals.Used.{and_names, used_of}
-use Rattle.simple_walk.specs.Simple.{IsSimple}
 use Rattle.statement_walk.proofs.UsesLemmas.{uses_then}
 use Rattle.block_walk.specs.Answers.{target_uses}
 use Rattle.block_walk.proofs.SimpleLemmas.{target_split}

@@ -1,8 +1,6 @@
-use Rattle.std.proofs.Common.{◌≡◌, ◌∙◌, [], subst, sym}
+use Rattle.std.proofs.Common.{◌≡◌, []}
 use Rattle.go_tree.specs.View.{plain_expr_option_of}
-use Rattle.go_types.specs.Answers.{given}
-use Rattle.go_types.specs.Entities.{defined_in}
-use Rattle.go_types.specs.Statements.{tag_of, tag_value}
+use Rattle.go_types.specs.Statements.{tag_of}
 use Rattle.go_types.specs.Typing as go
 use Rattle.jump_rules.specs.UsedLocals.Used.{and_names, used_of}
 use Rattle.operand_answers.proofs.KeptLemmas.{stands_kept}

@@ -1,10 +1,8 @@
-use Rattle.std.proofs.Common.{◌≡◌, ◌∙◌, None, Ok, Some, OnOk, ap, refl, subst, sym}
+use Rattle.std.proofs.Common.{◌≡◌, ◌∙◌, None, Ok, ap, refl, subst, sym}
 use Rattle.go_tree.specs.Tree as tree
 use Rattle.go_tree.specs.View.{expr_of, plain_expr_option_of}
 use Rattle.go_types.specs.Typing as go
 use Rattle.operand_answers.specs.AccessSteps.Bounds.{GivesBound}
-use Rattle.control_steps.proofs.LocalBlocks.PlaceLemmas.{places_are_environments}
-use Rattle.control_steps.proofs.LocalBlocks.SeenNames.{bound_seen}
 use Rattle.expr_walk.specs.Walked.{IsWalkedOption}
 use Rattle.expr_walk.proofs.WalkArms.ExprArms.{at, bound_arm, expr_there}
 use Rattle.jump_rules.specs.UsedLocals.Used.{and_names, used_of}

@@ -1,13 +1,11 @@
-use Rattle.std.proofs.Common.{◌≡◌, ◌∙◌, [], OnOk, ap, subst, sym}
+use Rattle.std.proofs.Common.{◌∙◌, ap}
 use Rattle.go_tree.specs.View.{exprs_of}
 use Rattle.go_types.specs.Typing as go
 use Rattle.operand_rules.specs.Values.{typed_of}
 use Rattle.jump_rules.specs.UsedLocals.Used.{and_names, used_of}
 use Rattle.operand_answers.proofs.KeptLemmas.{keeps_on, stands_kept, value_on}
-use Rattle.control_steps.specs.LocalBlocks.Places.{in_block_of}
-use Rattle.control_steps.specs.RightSides.Values.{AreValuesIfOk}
 use Rattle.expr_walk.proofs.WalkArms.ExprArms.{at}
-use Rattle.simple_walk.proofs.ConstantGroups.MemberLemmas.{place_here, place_kept}
+use Rattle.simple_walk.proofs.ConstantGroups.MemberLemmas.{place_kept}
 use Rattle.simple_walk.proofs.SimpleLemmas.{all_there}
 use Rattle.statement_walk.proofs.PartLemmas.{uses_here}
 use Rattle.block_walk.proofs.CaseLemmas.{alike_same, alike_self, values_answered, values_from, well_before}

@@ -1,2 +1,0 @@
-use Rattle.std.proofs.Common.{◌≡◌, ◌∙◌, refl, subst, sym}
-use Rattle.block_walk.proofs.switches.add_case.Goals as goal
