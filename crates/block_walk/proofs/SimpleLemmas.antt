@@ -5,9 +5,9 @@ use Rattle.go_tree.specs.declared.operators.BinOp.{BinOp}
 use Rattle.go_tree.specs.Tree.{NameAt, Expr, ident, int_lit, rune_lit, str_lit, composite, selector, index, slice, call, func_lit, type_operand, unary, binary, star, Exprs, no_exprs, expr_and, Stmt, ValueSpecs, const_decl, var_decl, empty, eval, step, assign, define, return_, break_, continue_, inner, if_, for_, range_, switch, defer, label}
 use Rattle.go_types.specs.Answers.{given, without}
 use Rattle.go_types.specs.Bodies.{Ctx}
-use Rattle.go_types.specs.Declarations.{no_names}
+use Rattle.go_types.specs.Declarations.{no_names, nothing_to_repeat}
 use Rattle.go_types.specs.Entities.{Env}
-use Rattle.go_types.specs.Typing.{declares, declares_variables, stmt, used, used_all, used_left, used_stmt, used_variables}
+use Rattle.go_types.specs.Typing.{declares, declares_constants, declares_variables, stmt, used, used_all, used_left, used_stmt, used_constants, used_variables}
 use Rattle.typed_names.specs.declared.scopes.Scope.{Scope}
 use Rattle.typed_names.specs.Meanings.{Names}
 use Rattle.operand_rules.specs.declared.values.Refusal.{Refusal}
@@ -166,6 +166,14 @@ ends_with o total q (Err NoMemory) h u = tt
 
 module _ (k : Tables) (bs : List Names) (s : Scope) (block : List (List ℕ)) (c : Ctx) (env : Env) (p q : Used)
     (xs ys : List PendingName) where
+  pub const_declared :
+      (sp : Span) (g : Bool) (ss : ValueSpecs Span) (r : Result (Unit {0}) Refusal) →
+      GivesRead k bs s block env (declares_constants env nothing_to_repeat 0 ss) (used_constants env ss) p q xs ys r →
+      GivesStatement k bs s block c env (const_decl sp g ss) p q xs ys (declaration_answer r)
+  const_declared sp g ss (Ok v) h = record { typed = ap (λ o. given o (λ d. Some false)) h.is; read = h }
+  const_declared sp g ss (Err NotTyped) h = ap (λ o. given o (λ d. Some false)) h
+  const_declared sp g ss (Err NoMemory) h = tt
+
   pub var_declared :
       (sp : Span) (g : Bool) (ss : ValueSpecs Span) (r : Result (Unit {0}) Refusal) →
       GivesRead k bs s block env (declares_variables env ss) (used_variables env ss) p q xs ys r →

@@ -3,11 +3,13 @@ use denote.Hole.Carrier
 use Rattle.std.proofs.Common.{◌≡◌, true, false, Some, refl}
 use Rattle.go_tree.specs.declared.spans.Span.{Span}
 use Rattle.go_tree.specs.declared.stmts.ConstDecl as cd
+use Rattle.go_tree.specs.declared.stmts.ConstDecl.{out-ConstDecl}
+use Rattle.go_tree.specs.declared.stmts.ConstSpecList as csl
 use Rattle.go_tree.specs.declared.stmts.VarDecl as vd
 use Rattle.go_tree.specs.declared.stmts.VarDecl.{out-VarDecl}
 use Rattle.go_tree.specs.declared.stmts.VarSpecList as vsl
 use Rattle.go_tree.specs.Tree.{Stmt, const_decl, var_decl, empty, eval, step, assign, define, return_, break_, continue_, inner, if_, for_, range_, switch, defer, label}
-use Rattle.go_tree.specs.View.{const_decl_of, var_decl_of, var_specs_of}
+use Rattle.go_tree.specs.View.{const_decl_of, const_specs_of, var_decl_of, var_specs_of}
 use Rattle.go_types.specs.Declarations.{no_names}
 use Rattle.go_types.specs.Entities.{Env}
 use Rattle.go_types.specs.Statements.{is_empty_stmt}
@@ -38,6 +40,13 @@ filled_var d = of_variables is_empty_stmt false (λ s g ss. refl) d
 pub var_is : (d : vd.VarDecl) → var_decl_of d ≡ var_decl (out-VarDecl d).span (out-VarDecl d).grouped (var_specs_of (out-VarDecl d).specs)
 unfolding out-VarDecl Carrier.out
 var_is (vd.VarDecl' s g (vsl.VarSpecList' _ ss)) = refl
+
+-- so of constants
+pub const_is :
+    (d : cd.ConstDecl) →
+    const_decl_of d ≡ const_decl (out-ConstDecl d).span (out-ConstDecl d).grouped (const_specs_of (out-ConstDecl d).specs)
+unfolding out-ConstDecl Carrier.out
+const_is (cd.ConstDecl' s g (csl.ConstSpecList' _ ss)) = refl
 
 -- ---- what is known of each kind
 

@@ -28,8 +28,9 @@ holds_others (switch _ i t cs) = true
 holds_others (label _ n s) = true
 holds_others s = false
 
--- no other stands in the statement, and its expressions are walked; it is no declaration of constants
+-- no other stands in the statement, and its expressions are walked
 abbrev pub IsPlain : Stmt Span → Type 0
+IsPlain (const_decl _ _ ss) = AreWalkedSpecs ss
 IsPlain (var_decl _ _ ss) = AreWalkedSpecs ss
 IsPlain (define _ ns es) = AreAllWalked es
 IsPlain s = IsSimple s
@@ -56,7 +57,7 @@ IsWalkedLeft (assigns es) = AreAllWalked es
 IsWalkedLeft (defines ns) = Unit {0}
 
 abbrev mutual
-  -- the expressions of a statement are walked, and of those that stand in it; none is a declaration of constants
+  -- the expressions of a statement are walked, and of those that stand in it
   pub IsWalkedStmt : Stmt Span → Type 0
   IsWalkedStmt (inner _ b) = AreWalkedStmts b
   IsWalkedStmt (if_ _ arms last) = AreWalkedArms arms × IsWalkedBlock last

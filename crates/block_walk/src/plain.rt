@@ -24,7 +24,7 @@ use go_tree::Stmt;
 use jump_rules::{Around, PendingNames, UsedNames};
 use operand_rules::Refusal;
 use simple_walk::simple_statement;
-use statement_walk::{short_part, variable_group};
+use statement_walk::{constant_group, short_part, variable_group};
 use std::alloc::Global;
 use typed_names::{Blocks, Scope};
 
@@ -54,7 +54,7 @@ pub(crate) fn simple_part(
     simple_statement(alloc, tables, scope, blocks, around, body, s)
 }
 
-/// A declaration of variables in a block.
+/// A declaration of constants or variables in a block.
 fn declaration(
     alloc: Global,
     tables: &mut Tables,
@@ -78,6 +78,11 @@ fn declaration(
         (used_of used.old) (used_of used.new) pending.old pending.new result }
 {
     match s {
+        Stmt::Const(declared) => {
+            let specs = &declared.specs;
+            let group = constant_group(alloc, tables, scope, blocks, block, used, pending, specs);
+            declaration_answer(group)
+        }
         Stmt::Var(declared) => {
             let specs = &declared.specs;
             let group = variable_group(alloc, tables, scope, blocks, block, used, pending, specs);
@@ -89,7 +94,6 @@ fn declaration(
             );
             declaration_answer(short)
         }
-        Stmt::Const(_) => unreachable!("a constant declaration isn't plain"),
         Stmt::Empty { .. }
         | Stmt::Eval { .. }
         | Stmt::Step { .. }

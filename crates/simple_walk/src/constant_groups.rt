@@ -5,5 +5,5 @@
 mod groups;
 mod members;
 
-pub use groups::{constant_group, has_none};
+pub use groups::{has_none, own_or_repeated, repeated_member};
 pub use members::written_type;

@@ -9,6 +9,6 @@ mod left_sides;
 mod returns;
 mod simple;
 
-pub use constant_groups::{constant_group, has_none, written_type};
+pub use constant_groups::{has_none, own_or_repeated, repeated_member, written_type};
 pub use left_sides::targets;
 pub use simple::simple_statement;

@@ -14,11 +14,11 @@ use Rattle.operand_rules.proofs.OpenedLemmas.{some_same}
 use Rattle.jump_rules.specs.declared.used_locals.pending.PendingName.{PendingName}
 use Rattle.jump_rules.specs.UsedLocals.Laws.{AreNew}
 
-left_true : (a b : Bool) → (a && b) ≡ true → a ≡ true
+pub left_true : (a b : Bool) → (a && b) ≡ true → a ≡ true
 left_true true b h = refl
 left_true false b h = absurd (cc)
 
-right_true : (a b : Bool) → (a && b) ≡ true → b ≡ true
+pub right_true : (a b : Bool) → (a && b) ≡ true → b ≡ true
 right_true true b h = h
 right_true false b h = absurd (cc)
 
@@ -37,7 +37,7 @@ lacks_first : (a b : Bool) → not (a || b) ≡ true → (a ≡ false) × (not b
 lacks_first true b h = absurd (cc)
 lacks_first false b h = (refl, h)
 
-bound_with :
+pub bound_with :
     (n : List ℕ) (e : Entity) (b : Bool) (cs : Binds) (ms : List (List ℕ)) → bound_names cs ≡ ms →
     bound_names (cond b [] ((n, e) ∷ []) ++ cs) ≡ cond b ms (n ∷ ms)
 bound_with n e true cs ms h = h
@@ -135,7 +135,7 @@ module _ (env : Env) where
       (defined_by ds env ns vs) (news ns) bs (defined_names ds ns vs) h
 
   -- the names of a spec, of which each is new
-  all_new :
+  pub all_new :
       (ns : List (List ℕ)) → list_all is_new ns ≡ true → not_blank ns ≡ news ns
   all_new [] h = refl
   all_new (n ∷ ns) h =
@@ -144,7 +144,7 @@ module _ (env : Env) where
       ∙ ap (λ a. news_with n a (is_blank n) (news ns)) (sym a)
 
 -- each name with what its value declares
-bound_all :
+pub bound_all :
     (f : Typed → Option Entity) (ns : List (List ℕ)) (vs : List Typed) (bs : Binds) → bind_all f ns vs ≡ Some bs →
     bound_names bs ≡ not_blank ns
 bound_all f [] [] bs h = ap bound_names (sym (some_same [] bs h))
@@ -163,13 +163,13 @@ bound_all f (n ∷ ns) (v ∷ vs) bs h = step n (f v) (bind_all f ns vs) (not_bl
         ap bound_names (sym (some_same (cond (is_blank n) [] ((n, e) ∷ []) ++ cs) bs h))
         ∙ bound_with n e (is_blank n) cs ms (f cs refl)
 
-bound_each : (e : Entity) (ns : List (List ℕ)) → bound_names (bind_each e ns) ≡ not_blank ns
+pub bound_each : (e : Entity) (ns : List (List ℕ)) → bound_names (bind_each e ns) ≡ not_blank ns
 bound_each e [] = refl
 bound_each e (n ∷ ns) = bound_with n e (is_blank n) (bind_each e ns) (not_blank ns) (bound_each e ns)
 
 -- ---- what a short declaration and a spec of variables bind
 
-only_true : {A : Type 0} (b : Bool) (o : Option A) (x : A) → only_if b o ≡ Some x → (b ≡ true) × (o ≡ Some x)
+pub only_true : {A : Type 0} (b : Bool) (o : Option A) (x : A) → only_if b o ≡ Some x → (b ≡ true) × (o ≡ Some x)
 only_true true o x h = (refl, h)
 only_true false o x h = absurd (none-some x h)
 

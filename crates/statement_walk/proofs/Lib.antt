@@ -4,3 +4,6 @@ pub mod SeenUses
 pub mod FreshNames
 pub mod PartLemmas
 pub mod SpecsLemmas
+pub mod BasicUses
+pub mod ConstantLemmas
+pub mod FunctionLiterals

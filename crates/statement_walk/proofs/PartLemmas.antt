@@ -91,7 +91,7 @@ among_more q (n ∷ ns) ms h = ap (λ b. bytes_eq q n || b) (among_more q ns ms 
     or_true true = refl
     or_true false = refl
 
-here_more :
+pub here_more :
     (bs : Binds) (env : Env) (xs : List PendingName) → AreHere env xs → AreHere (extend bs env) xs
 here_more bs env [] h = refl
 here_more bs env (x ∷ xs) h =

@@ -46,7 +46,7 @@ without_on out (n ∷ ns) ms =
     by true n xs ys = refl
     by false n xs ys = refl
 
-among_on : (q : List ℕ) (ns ms : List (List ℕ)) → is_among q (ns ++ ms) ≡ (is_among q ns || is_among q ms)
+pub among_on : (q : List ℕ) (ns ms : List (List ℕ)) → is_among q (ns ++ ms) ≡ (is_among q ns || is_among q ms)
 among_on q [] ms = refl
 among_on q (n ∷ ns) ms = ap (λ b. bytes_eq q n || b) (among_on q ns ms) ∙ by (bytes_eq q n) (is_among q ns) (is_among q ms)
   where
@@ -67,7 +67,7 @@ without_both a b (n ∷ ns) =
     without_step a b ns n (is_among n b) (is_among n a) refl (without_both a b ns)
     ∙ ap (λ c. cond c (without (b ++ a) ns) (n ∷ without (b ++ a) ns)) (sym (among_on n b a))
 
-without_none : (ns : List (List ℕ)) → without [] ns ≡ ns
+pub without_none : (ns : List (List ℕ)) → without [] ns ≡ ns
 without_none [] = refl
 without_none (n ∷ ns) = ap (λ ms. n ∷ ms) (without_none ns)
 
@@ -191,10 +191,10 @@ all_apart env ds (x ∷ fs) h g =
 
 -- ---- a part after another
 
-bound_on : (a b : Binds) → bound_names (a ++ b) ≡ bound_names a ++ bound_names b
+pub bound_on : (a b : Binds) → bound_names (a ++ b) ≡ bound_names a ++ bound_names b
 bound_on a b = map-append (λ (x : List ℕ × Entity). x.0) a b
 
-names_on :
+pub names_on :
     (ux uv rest : List (List ℕ)) (a b : Binds) →
     (ux ++ beyond a uv) ++ beyond (b ++ a) rest ≡ ux ++ beyond a (uv ++ beyond b rest)
 names_on ux uv rest a b =
@@ -267,13 +267,13 @@ part_none k bs s block env p xs h g =
 abbrev made : Binds → List (List ℕ) → Declared
 made bs fs = record { binds = bs; fresh = fs }
 
-then_given :
+pub then_given :
     {A B C : Type 0} (o : Option A) (f : A → B) (g : B → C) (h : A → C) → ((a : A) → g (f a) ≡ h a) →
     given (given o (λ a. Some (f a))) (λ b. Some (g b)) ≡ given o (λ a. Some (h a))
 then_given None f g h e = refl
 then_given (Some a) f g h e = ap Some (e a)
 
-none_first : (us : List (List ℕ)) (o : Option Declared) → o ≡ given o (λ e. Some (and_then (unused_after us no_names) e))
+pub none_first : (us : List (List ℕ)) (o : Option Declared) → o ≡ given o (λ e. Some (and_then (unused_after us no_names) e))
 none_first us None = refl
 none_first us (Some e) = ap (λ bs. Some (made bs e.fresh)) (sym (append-nil e.binds))
 

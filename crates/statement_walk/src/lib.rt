@@ -4,7 +4,10 @@
 #![tactic(auto)]
 
 mod begins;
+mod constants;
+mod function_literals;
 mod groups;
+mod laws;
 mod literal_types;
 mod parts;
 mod shorts;
@@ -12,7 +15,12 @@ mod uses;
 mod values;
 mod variables;
 
+pub use constants::{constant_group, constant_part};
+pub use function_literals::{
+    end_params, literal_body, literal_operand, literals_refuse, param_part, signature,
+};
 pub use groups::variable_group;
+pub use laws::constants_use_alike;
 pub use parts::{short_part, spec_part};
 pub use shorts::define_statement;
 pub use uses::{use_expr, use_exprs};

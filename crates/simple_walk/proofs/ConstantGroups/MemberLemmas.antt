@@ -1,5 +1,5 @@
 -- One spec of a group of constants.
-use Rattle.std.proofs.Common.{◌≡◌, ◌∙◌, ℕ, List, [], Option, Some, None, Result, Ok, Err, IfOk, IfSome, refl, sym, ap, ap₂, subst, arith}
+use Rattle.std.proofs.Common.{◌≡◌, ◌∙◌, ℕ, List, [], Option, Some, None, Result, Ok, Err, IfOk, IfSome, refl, sym, ap, subst, arith}
 use Rattle.go_tree.specs.declared.spans.Span.{Span}
 use Rattle.go_tree.specs.Tree.{Exprs, TypeExpr}
 use Rattle.const_eval.specs.declared.consts.Const.{Const}
@@ -7,7 +7,6 @@ use Rattle.go_types.specs.Answers.{given}
 use Rattle.go_types.specs.Types.{GoType, is_untyped}
 use Rattle.go_types.specs.Declarations.{Declared, new_constants}
 use Rattle.go_types.specs.Entities.{Env, extend}
-use Rattle.go_types.specs.Operands as go
 use Rattle.go_types.specs.TypeNames.{type_meant, written_type}
 use Rattle.go_types.specs.Typing.{all_parts}
 use Rattle.type_table.specs.declared.nodes.TypeId.{TypeId}

@@ -1,25 +1,22 @@
--- Groups of constants in a function, and what is known of the specs that are read (Go specification, Constant
--- declarations; Iota).
+-- Specs of groups of constants in a function, which may repeat the type and the values before them (Go specification,
+-- Constant declarations; Iota).
 use Rattle.std.specs.Prelude.{◌≡◌, ℕ, List, [], Option, Some, None, Result, Ok, Err, if◌then◌else◌}
 use Rattle.std.specs.Borrow.{Bor}
 use Rattle.go_tree.specs.declared.spans.Span.{Span}
 use Rattle.go_tree.specs.declared.stmts.ConstSpec.{ConstSpec}
 use Rattle.go_tree.specs.Tree.{NameAt, TypeExpr, Exprs, ValueSpecs, no_specs, spec}
 use Rattle.go_tree.specs.View.{const_spec_of}
-use Rattle.go_types.specs.Answers.{given}
 use Rattle.go_types.specs.Bodies.{no_values}
-use Rattle.go_types.specs.Declarations.{Declared, Repeated, and_then, nothing_to_repeat}
+use Rattle.go_types.specs.Declarations.{Declared, Repeated, nothing_to_repeat}
 use Rattle.go_types.specs.Entities.{Env, extend}
 use Rattle.go_types.specs.TypeNames.{written_type}
-use Rattle.go_types.specs.Typing.{all_parts, declares_constants}
+use Rattle.go_types.specs.Typing.{all_parts}
 use Rattle.typed_names.specs.declared.scopes.Scope.{Scope}
 use Rattle.typed_names.specs.Meanings.{Names}
 use Rattle.operand_rules.specs.declared.values.Refusal.{Refusal}
 use Rattle.operand_rules.specs.declared.values.Refusal.TheVariants.{NotTyped, NoMemory}
 use Rattle.checker_tables.specs.declared.tables.Tables.{Tables}
-use Rattle.checker_tables.specs.Ready.{Keeps}
-use Rattle.operand_answers.specs.Known.{Stands}
-use Rattle.control_steps.specs.LocalBlocks.Places.{IsPlace, IsWithin}
+use Rattle.control_steps.specs.LocalBlocks.Places.{IsPlace}
 use Rattle.expr_walk.specs.Walked.{AreAllWalked}
 
 -- a place in the spec of this number
@@ -71,24 +68,3 @@ abbrev pub GivesDeclared :
 GivesDeclared k bs s block env o (Ok v) = IsDeclared k bs s block env o
 GivesDeclared k bs s block env o (Err NotTyped) = o ≡ None
 GivesDeclared k bs s block env o (Err NoMemory) = Unit {0}
-
--- of all specs some are declared, and the rest is left
-pub record SpecsDeclared (k : Tables) (bs : List Names) (s : Scope) (block : List (List ℕ)) (start : Env)
-    (all rest : ValueSpecs Span) (i : ℕ) (r : Repeated) : Type 0 where
-  pub known : Declared
-  pub fresh : known.fresh ≡ []
-  pub place : IsPlace k.env k.consts bs s block (extend known.binds start)
-  pub read :
-      declares_constants start nothing_to_repeat 0 all
-      ≡ given (declares_constants (extend known.binds start) r i rest) (λ e. Some (and_then known e))
-
--- so in the tables and the block as they grow
-pub record GroupWalked (old new : Tables) (bs : List Names) (around s : Scope) (before block : List (List ℕ))
-    (all rest : ValueSpecs Span) (i : ℕ) (from : Option (Bor ConstSpec)) : Type 0 where
-  pub stands : Stands new bs s
-  pub keeps : Keeps old new
-  pub within : IsWithin around s
-  pub walked : IsWalkedFrom from
-  pub declared :
-      (env : Env) → IsPlace old.env old.consts bs around before env →
-      SpecsDeclared new bs s block env all rest i (repeated_from from)

@@ -1,23 +1,22 @@
 //! Groups of constants (Go specification, Constant declarations; Iota).
 
 ghost use Rattle.std.specs.Prelude.{◌≡◌, map};
-ghost use Rattle.go_tree.specs.View.{const_spec_of, const_specs_of, exprs_of, name_at_of};
+ghost use Rattle.go_tree.specs.View.{const_spec_of, exprs_of, name_at_of};
 ghost use Rattle.go_types.specs.Bodies.{no_values};
 ghost use Rattle.go_types.specs.Declarations as go;
 ghost use Rattle.go_types.specs.Entities.{Env};
-ghost use Rattle.go_types.specs.Typing as go_typing;
 ghost use Rattle.scope_names.specs.FreeNames.{names_of};
 ghost use Rattle.checker_tables.specs.Ready.{Keeps};
 ghost use Rattle.operand_answers.specs.Known.{Stands};
 ghost use Rattle.control_steps.specs.LocalBlocks.Places.{IsPlace, IsWithin};
 ghost use Rattle.expr_walk.specs.Walked.{AreAllWalked};
-ghost use Rattle.simple_walk.specs.ConstantGroups.Groups.{AreWalkedSpecs, GivesDeclared, IsWalkedFrom};
+ghost use Rattle.simple_walk.specs.ConstantGroups.Groups.{GivesDeclared, IsWalkedFrom};
 ghost use Rattle.simple_walk.specs.ConstantGroups.Groups.{in_spec, own_from, repeated_from};
 
 use crate::constant_groups::members::constant_member;
 use checker_tables::Tables;
 use control_steps::LocalBlock;
-use go_tree::{ConstSpec, ConstSpecList, ExprList, NameAtList};
+use go_tree::{ConstSpec, ExprList, NameAtList};
 use operand_rules::Refusal;
 use std::alloc::Global;
 use typed_names::{Blocks, Scope};
@@ -30,7 +29,10 @@ pub fn has_none(es: &ExprList) -> bool
 }
 
 /// The spec whose type and values a spec has: its own, or those before it.
-fn own_or_repeated<'a>(spec: &'a ConstSpec, before: Option<&'a ConstSpec>) -> Option<&'a ConstSpec>
+pub fn own_or_repeated<'a>(
+    spec: &'a ConstSpec,
+    before: Option<&'a ConstSpec>,
+) -> Option<&'a ConstSpec>
     requires own { AreAllWalked (exprs_of spec.now.values) }
     requires before { IsWalkedFrom before }
     ensures is { repeated_from result ≡ own_from (const_spec_of spec.now) (repeated_from before.entry) }
@@ -45,7 +47,7 @@ fn own_or_repeated<'a>(spec: &'a ConstSpec, before: Option<&'a ConstSpec>) -> Op
 
 /// Declares the constants of the spec of a number in the innermost block, which has the type and the values
 /// of this one, if there is one.
-fn repeated_member(
+pub fn repeated_member(
     alloc: Global,
     tables: &mut Tables,
     scope: &mut Scope,
@@ -70,38 +72,4 @@ fn repeated_member(
         Some(from) => constant_member(alloc, tables, scope, blocks, block, number, names, from),
         None => Err(Refusal::NotTyped),
     }
-}
-
-/// Declares the constants of a group in the innermost block, spec by spec: each name stands once and is new
-/// there, and has the value of its own, or of the spec before that it repeats, with the number of its spec as
-/// `iota`.
-pub fn constant_group(
-    alloc: Global,
-    tables: &mut Tables,
-    scope: &mut Scope,
-    blocks: &Blocks,
-    block: &mut LocalBlock,
-    specs: &ConstSpecList,
-) -> Result<(), Refusal>
-    requires stands { Stands tables.old blocks.now scope.old }
-    requires walked { AreWalkedSpecs (const_specs_of specs.now) }
-    ensures stands { Stands tables.new blocks.now scope.new }
-    ensures keeps { Keeps tables.old tables.new }
-    ensures within { IsWithin scope.old scope.new }
-    ensures start { block.new.start ≡ block.old.start }
-    ensures gives { (env : Env) → IsPlace tables.old.env tables.old.consts blocks.now scope.old block.old.names env
-        → GivesDeclared tables.new blocks.now scope.new block.new.names env
-        (go_typing.declares_constants env go.nothing_to_repeat 0 (const_specs_of specs.now)) result }
-{
-    let items = specs.items();
-    let mut from = None;
-    for i in 0..items.len() {
-        let spec = &items[i];
-        from = own_or_repeated(spec, from);
-        match repeated_member(alloc, tables, scope, blocks, block, i, &spec.names, from) {
-            Ok(()) => {}
-            Err(refusal) => return Err(refusal),
-        }
-    }
-    Ok(())
 }

@@ -1,4 +1,4 @@
-use Rattle.std.proofs.Common.{◌∙◌, map, refl, subst, sym}
+use Rattle.std.proofs.Common.{◌∙◌, map, subst, sym}
 use Rattle.std.specs.Option.{option_map}
 use Rattle.go_tree.specs.View.{exprs_of, name_at_of, type_of}
 use Rattle.go_types.specs.Declarations.{new_constants}
@@ -10,7 +10,7 @@ use Rattle.control_steps.specs.DeclarationSteps.Entities.{AreEntities, binds_at}
 use Rattle.control_steps.specs.LocalBlocks.Places.{IsPlace}
 use Rattle.expr_walk.proofs.WalkArms.ExprArms.{at}
 use Rattle.simple_walk.specs.ConstantGroups.Groups.{numbered}
-use Rattle.simple_walk.proofs.ConstantGroups.MemberLemmas.{constants_there, declared_given, place_kept}
+use Rattle.simple_walk.proofs.ConstantGroups.MemberLemmas.{declared_given, place_kept}
 use Rattle.simple_walk.proofs.constant_groups.members.constant_member.Goals as goal
 
 pub returns-in_ok-declare_entities-in-Ok-clause-stands : goal.returns-in_ok-declare_entities-in-Ok-clause-stands

@@ -1,0 +1,4 @@
+pub mod ParamLemmas
+pub mod LiteralLemmas
+pub mod RefusedLiterals
+pub mod EndLemmas

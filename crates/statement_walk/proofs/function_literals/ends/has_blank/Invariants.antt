@@ -1,0 +1,11 @@
+use Rattle.std.proofs.Common.{◌≡◌, drop, map}
+use Rattle.std.specs.List.{list_any}
+use Rattle.go_tree.specs.View.{param_of}
+use Rattle.scope_names.specs.FreeNames.{params_names}
+use Rattle.scope_names.specs.Means.{is_blank}
+use Rattle.statement_walk.proofs.function_literals.ends.has_blank.Given as goal
+
+abbrev pub invariant-loop-param : goal.invariant-loop-param
+invariant-loop-param l =
+    list_any is_blank (params_names (map param_of (drop l.param-index l.params)))
+    ≡ list_any is_blank (params_names (map param_of l.params))
