@@ -1,0 +1,10 @@
+pub mod StatementKinds
+pub mod PlaceSteps
+pub mod EndLemmas
+pub mod SimpleLemmas
+pub mod HeaderLemmas
+pub mod BlockLemmas
+pub mod LoopLemmas
+pub mod ArmLemmas
+pub mod CaseLemmas
+pub mod RangeLemmas

@@ -1,0 +1,17 @@
+//! The walk over the statements of a block: whether they are typed and terminating, what they declare,
+//! and which names they use (Go specification, Blocks; Statements; Terminating statements).
+#![tactic(auto)]
+
+mod arms;
+mod blocks;
+mod ends;
+mod headers;
+mod ifs;
+mod loops;
+mod plain;
+mod ranges;
+mod simple_uses;
+mod switch_walk;
+mod switches;
+
+pub use blocks::{block_statements, statement, statements};

@@ -1,0 +1,149 @@
+//! The tags of switches, and their cases (Go specification, Expression switches).
+
+ghost use Rattle.std.specs.Prelude.{◌≡◌, ℕ, List, None, OnOk, Some, false};
+ghost use Rattle.std.specs.List.{list_all};
+ghost use Rattle.go_tree.specs.View.{expr_of, exprs_of, plain_expr_option_of, stmts_of};
+ghost use Rattle.go_types.specs.Answers.{given, only_if};
+ghost use Rattle.go_types.specs.Entities.{Env, defined_in};
+ghost use Rattle.go_types.specs.Jumps as jump;
+ghost use Rattle.go_types.specs.Operands as go_operand;
+ghost use Rattle.go_types.specs.Statements as go_statement;
+ghost use Rattle.go_types.specs.Typing as go;
+ghost use Rattle.operand_rules.specs.Values.{IsValue, typed_of};
+ghost use Rattle.checker_tables.specs.Ready.{Keeps};
+ghost use Rattle.operand_answers.specs.Known.{Stands};
+ghost use Rattle.operand_answers.specs.AccessSteps.Bounds.{GivesBound};
+ghost use Rattle.control_steps.specs.LocalBlocks.Places.{IsPlace};
+ghost use Rattle.control_steps.specs.RightSides.Values.{AreValuesIfOk, GivesValuesAlike, SameValue};
+ghost use Rattle.expr_walk.specs.Walked.{AreAllWalked, IsWalked, IsWalkedOption};
+ghost use Rattle.jump_rules.specs.UsedLocals.Used.{and_names, used_of};
+ghost use Rattle.block_walk.specs.Cases.{GivesAdded, GivesTag, IsTagIfOk};
+
+use checker_tables::Tables;
+use control_steps::tag;
+use expr_walk::{all_exprs, expr};
+use go_tree::{Case, Expr, ExprList};
+use jump_rules::{UsedNames, breaks_in};
+use operand_answers::bound;
+use operand_modes::ValueList;
+use operand_rules::{Refusal, Value};
+use range_steps::{CasesSeen, case_values};
+use statement_walk::{use_expr, use_exprs};
+use std::alloc::Global;
+use typed_names::{Blocks, Scope};
+
+/// What the tag of a switch is, which may be left out, before it has its type.
+fn tag_bound(
+    alloc: Global,
+    tables: &mut Tables,
+    scope: &Scope,
+    blocks: &Blocks,
+    used: &mut UsedNames,
+    e: &Option<Expr>,
+) -> Result<Option<Value>, Refusal>
+    requires stands { Stands tables.old blocks.now scope.now }
+    requires walked { IsWalkedOption (plain_expr_option_of e.now) }
+    ensures stands { Stands tables.new blocks.now scope.now }
+    ensures keeps { Keeps tables.old tables.new }
+    ensures uses { (env : Env) (block : List (List ℕ))
+        → IsPlace tables.old.env tables.old.consts blocks.now scope.now block env → OnOk result (used_of used.new
+        ≡ and_names (go.used_option env (plain_expr_option_of e.now)) (used_of used.old)) }
+    ensures gives { (env : Env) (block : List (List ℕ))
+        → IsPlace tables.old.env tables.old.consts blocks.now scope.now block env
+        → GivesBound tables.new.env tables.new.consts (go.bound env (plain_expr_option_of e.now)) result }
+{
+    match e {
+        None => Ok(None),
+        Some(e) => {
+            use_expr(alloc, tables, scope, blocks, used, e)?;
+            let operand = expr(alloc, tables, scope, blocks, e);
+            bound(tables, operand)
+        }
+    }
+}
+
+/// The value that the cases of a switch are compared with: its tag, or `true`.
+pub(crate) fn switch_tag(
+    alloc: Global,
+    tables: &mut Tables,
+    scope: &Scope,
+    blocks: &Blocks,
+    used: &mut UsedNames,
+    e: &Option<Expr>,
+) -> Result<Value, Refusal>
+    requires stands { Stands tables.old blocks.now scope.now }
+    requires walked { IsWalkedOption (plain_expr_option_of e.now) }
+    ensures stands { Stands tables.new blocks.now scope.now }
+    ensures keeps { Keeps tables.old tables.new }
+    ensures there { IsTagIfOk tables.new.env tables.new.consts result }
+    ensures uses { (env : Env) (block : List (List ℕ))
+        → IsPlace tables.old.env tables.old.consts blocks.now scope.now block env → OnOk result (used_of used.new
+        ≡ and_names (go.used_option env (plain_expr_option_of e.now)) (used_of used.old)) }
+    ensures gives { (env : Env) (block : List (List ℕ))
+        → IsPlace tables.old.env tables.old.consts blocks.now scope.now block env
+        → GivesTag tables.new.env tables.new.consts
+        (go_statement.tag_of env (go.bound env (plain_expr_option_of e.now))) result }
+{
+    let compared = tag_bound(alloc, tables, scope, blocks, used, e);
+    tag(tables, compared)
+}
+
+/// The values of a case, each of which may be compared with the tag.
+pub(crate) fn values_of_case(
+    alloc: Global,
+    tables: &mut Tables,
+    scope: &Scope,
+    blocks: &Blocks,
+    used: &mut UsedNames,
+    tag: Value,
+    es: &ExprList,
+) -> Result<ValueList, Refusal>
+    requires stands { Stands tables.old blocks.now scope.now }
+    requires tag { IsValue tables.old.env tables.old.consts tag }
+    requires walked { AreAllWalked (exprs_of es.now) }
+    ensures stands { Stands tables.new blocks.now scope.now }
+    ensures keeps { Keeps tables.old tables.new }
+    ensures there { AreValuesIfOk tables.new.env tables.new.consts result }
+    ensures uses { (env : Env) (block : List (List ℕ))
+        → IsPlace tables.old.env tables.old.consts blocks.now scope.now block env
+        → OnOk result (used_of used.new ≡ and_names (go.used_all env (exprs_of es.now)) (used_of used.old)) }
+    ensures gives { (env : Env) (block : List (List ℕ))
+        → IsPlace tables.old.env tables.old.consts blocks.now scope.now block env → (w : go_operand.Typed)
+        → SameValue w (typed_of tables.old.env tables.old.consts tag)
+        → GivesValuesAlike tables.new.env tables.new.consts (given (go.all_parts env (exprs_of es.now)) (λ os. given
+        (go_operand.all_typed os) (λ vs. only_if (list_all (go_statement.case_value (defined_in env) w) vs) (Some vs))))
+        result }
+{
+    use_exprs(alloc, tables, scope, blocks, used, es)?;
+    let right = all_exprs(alloc, tables, scope, blocks, es);
+    case_values(alloc, tables, tag, right)
+}
+
+/// Adds a case to those of a switch that were seen, by the answers for its values and for its statements.
+pub(crate) fn add_case(
+    alloc: Global,
+    tables: &Tables,
+    seen: &mut CasesSeen,
+    case: &Case,
+    values: Result<ValueList, Refusal>,
+    block: Result<bool, Refusal>,
+) -> Result<(), Refusal>
+    requires { AreValuesIfOk tables.now.env tables.now.consts values }
+    ensures { GivesAdded tables.now seen.old seen.new (go_statement.is_default (exprs_of case.now.values))
+        (jump.breaks_in false None (stmts_of case.now.body)) values block result }
+{
+    match values {
+        Ok(values) => match block {
+            Ok(ends) => {
+                let stays = ends && !breaks_in(false, None, &case.body);
+                if seen.add(alloc, tables, &case.values, &values.items, stays)? {
+                    Ok(())
+                } else {
+                    Err(Refusal::NotTyped)
+                }
+            }
+            Err(refusal) => Err(refusal),
+        },
+        Err(refusal) => Err(refusal),
+    }
+}
