@@ -2,3 +2,6 @@
 -- specification, Import declarations; Declarations and scope).
 pub mod Blocks
 pub mod Sound
+pub mod Times
+pub mod Once
+pub mod After

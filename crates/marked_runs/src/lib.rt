@@ -19,5 +19,5 @@ pub use named_marks::{read_marks_are_named, uses_are_marked};
 pub use put_forms::{constants_come_next, forms_of_constants_are_put, values_are_names};
 pub use ready_modules::read_modules_are_ready;
 pub use settled_constants::{constants_keep_cycles, constants_settle, programs_are_ready};
-pub use sound_imports::added_imports_may_be_declared;
+pub use sound_imports::{added_imports_may_be_declared, settled_imports_may_be_declared};
 pub use taken_names::{names_are_taken, runs_over_constants_keep};

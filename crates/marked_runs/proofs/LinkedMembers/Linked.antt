@@ -23,7 +23,7 @@ use Rattle.marked_runs.specs.LinkedMembers.Laws.{HaveFiles}
 
 module _ {S : Type 0} (ps : List (Package S)) (placed : List ℕ) where
   -- it is one of these, which are numbered from k on, and all that it imports is placed
-  record Chosen (k : ℕ) (xs : List (Package S)) (q : ℕ × Package S) : Type 0 where
+  pub record Chosen (k : ℕ) (xs : List (Package S)) (q : ℕ × Package S) : Type 0 where
     pub nth : ℕ
     pub there : slice_get xs nth ≡ Some q.1
     pub number : q.0 ≡ k + nth
@@ -44,7 +44,7 @@ module _ {S : Type 0} (ps : List (Package S)) (placed : List ℕ) where
   chosen-step k x xs q true None ready h e = here k x xs q ready e
   chosen-step k x xs q true (Some r) ready h e = one-of-two k x xs q r (comes_before r.1.path x.path) ready (h r refl) e
 
-  chosen : (k : ℕ) (xs : List (Package S)) (q : ℕ × Package S) → least_ready ps placed (numbered_from k xs) ≡ Some q → Chosen k xs q
+  pub chosen : (k : ℕ) (xs : List (Package S)) (q : ℕ × Package S) → least_ready ps placed (numbered_from k xs) ≡ Some q → Chosen k xs q
   chosen k [] q e = absurd (no e)
     where
       no : ◌≡◌ {A = Option (ℕ × Package S)} None (Some q) → ⊥

@@ -67,7 +67,7 @@ module _ (sound : AddedImportsMayBeDeclared) (write : ConstantsWrite) (step : St
   all_over marks st _ _ (ends _ over) h fits ready typed named printed own files small = tt
   all_over marks st last _ (goes_on _ next _ l log n run) h fits ready typed named printed own files small =
       let over : IsOverName n = steps_over marks st l next n ready printed own named small in
-      let stands : StandsAdded n = uses_stand marks st l next n printed ready.links.own files h.0 in
+      let stands : StandsAdded n = uses_stand marks st l next n ready typed printed files over.few (writes marks st l next n over write ready named) h.0 in
       let takes : TakesName n = takes-name sound marks st l next n ready.reads stands (look-ups marks st l next n over write ready named) (linked-names st.packages ready.links) typed over.few in
       let r = step marks st l next n ready typed (writes marks st l next n over write ready named) takes in
       (over, (stands, all_over marks next last log run h.1 fits.1 r.0 r.1 (keep marks st l next n ready named over) (printed_after marks st l next n (named-used marks st l next n over.old over.part named) printed) (own_after marks st l next n own) (step-have marks st l next n files) fits.0))

@@ -21,7 +21,7 @@ use Rattle.printed_constants.specs.Printed.{ArePrinted}
 use Rattle.printed_constants.specs.PrintedUses.Added.{IsNamedThere}
 
 -- With the imports of its form added the use of each step is a name of a constant that is declared as another's name,
--- and each import is declared once and used at last.
+-- and each import is used at last.
 abbrev pub AllNamedThere : {marks : List MarkRef} {st last : Standing} {log : List Logged} → Run marks st log last
     → Type 0
 AllNamedThere (ends st over) = Unit {0}

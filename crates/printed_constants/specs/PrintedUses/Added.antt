@@ -18,7 +18,7 @@ use Rattle.order_runs.specs.RunSteps.RunPackages.{members_of, packages_of}
 use Rattle.marked_runs.specs.TakenNames.Taken.{site_there}
 
 -- With the imports of the form added the use stands at this place, is a name of a constant that is declared as
--- another's name, and becomes that name; each import is declared once and used at last.
+-- another's name, and becomes that name; each import is used at last.
 pub record IsNamedThere {marks : List MarkRef} {st : Standing} {l : Logged} {after : Standing}
     (n : Next marks st l after) : Type 0 where
   pub place : Place At

@@ -1,9 +1,12 @@
 -- The laws of uses among constants and functions that print them. Each is the contract of a function of this crate (Go
 -- specification, Constant declarations; Operands; Qualified identifiers).
-use Rattle.std.specs.Prelude.{◌≡◌, ◌≤◌, List, Contains}
+use Rattle.std.specs.Prelude.{◌≡◌, ◌≤◌, List, [], Contains}
 use Rattle.form_imports.specs.OwnNames.{AllOwn}
 use Rattle.go_tree.specs.Tree.{Expr}
-use Rattle.cycle_runs.specs.OrderedSteps.Ranks.{OwnPaths}
+use Rattle.go_translation.specs.SameMeaning.{WellTyped}
+use Rattle.order_runs.specs.RunSteps.RunPackages.{packages_of}
+use Rattle.cycle_runs.specs.Linked.{WritesFile}
+use Rattle.cycle_runs.specs.OrderCycles.NewNames.{FewNames}
 use Rattle.marked_runs.specs.KeptMarks.Over.{IsOverName}
 use Rattle.marked_runs.specs.LinkedMembers.Laws.{HaveFiles}
 use Rattle.marked_runs.specs.Marked.{StandsAdded}
@@ -30,9 +33,10 @@ PrintedStepsAreOver =
     → texts_size st.texts ≤ the_limits.total → IsOverName n
 
 -- Where with the imports of its form added the use is a name of a constant that is declared as another's name, and each
--- import is declared once and used at last, it stands as marked_runs asks (`StandsAdded`), if packages have files, and
--- paths of their own.
+-- import is used at last, it stands as marked_runs asks (`StandsAdded`), in a program that is ready and well typed, if
+-- the step writes its file and the names to avoid are fewer than 2^64.
 abbrev pub PrintedUsesStand : Type 0
 PrintedUsesStand =
     (marks : List MarkRef) (st : Standing) (l : Logged) (after : Standing) (n : Next marks st l after)
-    → ArePrinted st.packages → OwnPaths st.packages → HaveFiles st.packages → IsNamedThere n → StandsAdded n
+    → IsReady st → WellTyped (packages_of st.packages []) → ArePrinted st.packages → HaveFiles st.packages
+    → FewNames st.packages n.found → WritesFile n → IsNamedThere n → StandsAdded n

@@ -11,8 +11,8 @@ use marked_runs::{
 /// A run over constants from a module that reads, is well typed and within the limits, all of whose declarations are
 /// constants and functions that print them, keeps typing, which marked functions lie on a cycle, and the meaning, where
 /// the use of each step, with the imports of its form added, is a name of a constant that is declared as another's
-/// name, and each import is declared once and used at last. What the names to avoid are, which imports go, what they are of,
-/// and how the declarations around stand isn't asked. The inlining of such a module passes no limit at any step, so its
+/// name, and each import is used at last. What the names to avoid are, which imports go, where they may be declared and
+/// what they are of, and how the declarations around stand isn't asked. The inlining of such a module passes no limit at any step, so its
 /// texts stay within.
 pub fn printed_runs_keep()
     ensures within { RunsStayWithin }

@@ -1,5 +1,6 @@
 use Rattle.marked_runs.proofs.LinkedMembers.Files.{read-have, step-have}
 use Rattle.marked_runs.proofs.LinkedMembers.Linked.{members-linked}
+use Rattle.marked_runs.proofs.LinkedMembers.Right.{used-right}
 use Rattle.marked_runs.proofs.linked_members.members_are_linked.Goals as goal
 
 pub returns-clause-linked : goal.returns-clause-linked
@@ -10,3 +11,6 @@ returns-clause-read c = λ files ps texts r. read-have files ps texts r
 
 pub returns-clause-stay : goal.returns-clause-stay
 returns-clause-stay c = λ marks st l after n h. step-have marks st l after n h
+
+pub returns-clause-right : goal.returns-clause-right
+returns-clause-right c = λ ps more sound e. used-right ps more sound e
