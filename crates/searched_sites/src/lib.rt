@@ -21,7 +21,7 @@ pub use kept_uses::kept_uses_stay;
 pub use laws::{files_are_searched_in_order, searches_find_sites};
 pub use looked_files::looks_tell_files;
 pub use ordered_searches::{searches_find_steps, searches_settle_files};
-pub use printed_searches::printed_files_are_searched;
+pub use printed_searches::{printed_files_are_searchable, printed_files_are_searched};
 pub use settled_files::{settled_files_stay, steps_leave_other_files};
 pub use swapped_parts::steps_swap_parts;
 pub use told_origins::origins_are_told;

@@ -3,4 +3,4 @@
 
 mod laws;
 
-pub use laws::printed_files_are_searched;
+pub use laws::{printed_files_are_searchable, printed_files_are_searched};

@@ -13,9 +13,10 @@ use Rattle.scope_names.specs.declared.names.ImportName.{ImportName}
 use Rattle.pkg_graph.specs.Package.{SourceTree, Package, import_specs}
 use Rattle.pkg_graph.specs.Members.{member, import_name, specs_names, unless_method, block_names, items_from, decls_from, files_from, package_block}
 use Rattle.pkg_graph.specs.Reads.{Source}
+use Rattle.import_rules.specs.Needs.{avoided}
 use Rattle.go_types.specs.Answers.{given, otherwise}
 use Rattle.run_rules.specs.FormTrees.{ConstForm, Form, as_expr, form_identifiers, outside_changes}
-use Rattle.run_rules.specs.Naming.{Names, unnamed, no_span, unnamed_package, new_first, unnamed_in, name_added, named_package, named_packages, names_here, member_qualifier}
+use Rattle.run_rules.specs.Naming.{Names, unnamed, no_span, unnamed_package, new_first, unnamed_in, name_added, named_package, named_packages, names_here, member_qualifier, fuel_for}
 use Rattle.run_rules.specs.Places.{expr_seen}
 use Rattle.run_rules.specs.Programs.{top_place}
 use Rattle.run_rules.specs.Reduced.{name_obstacle, home_place, constant_form}
@@ -29,7 +30,7 @@ use Rattle.run_rules.specs.Texts.{FileText}
 use Rattle.run_laws.specs.Reading.{FileReads, FileAt, ProgramReads, OnePathEach}
 use Rattle.run_laws.proofs.FoundSpans.{Placed}
 use Rattle.go_read.specs.SpellsWeight.{weights_of}
-use Rattle.form_imports.specs.ImportLaws.Steps.{binders_in, binders_of}
+use Rattle.form_imports.specs.ImportLaws.Steps.{names_standing, binders_in, binders_of}
 use Rattle.form_imports.proofs.ImportLaws.IdentifiersWith.{identifiers-with}
 use Rattle.import_splices.proofs.FormSplices.FormsFound.{step-makes-form}
 use Rattle.cycle_runs.specs.OrderCycles.NewNames.{FewNames}
@@ -134,16 +135,7 @@ lists_few own imports block bound words named most h1 h2 h3 h4 h5 h6 h7 =
     let d = length-append imports block in
     omega (arith, a, b, c, d, h1, h2, h3, h4, h5, h6, h7)
 
-module _ (marks : List MarkRef) (st : Standing) (l : Logged) (after : Standing) (n : Next marks st l after) (reads : ProgramReads st) (paths : OnePathEach st.packages) (printed : ArePrinted st.packages) where
-  abbrev w : Where At
-  w = n.found.site.at
-
-  abbrev z : At
-  z = part_span n.found.site.part
-
-  here : Placed here_of (λ (s : Span). Unit {0}) st.packages marks n.found.site
-  here = placed marks st l after n
-
+module _ (st : Standing) (reads : ProgramReads st) (paths : OnePathEach st.packages) (printed : ArePrinted st.packages) where
   -- ---- a file
 
   module _ (k i : ℕ) (f : SourceTree At) (at : FileAt st.packages k i f) where
@@ -192,20 +184,51 @@ module _ (marks : List MarkRef) (st : Standing) (l : Logged) (after : Standing) 
       one_on : (j i : ℕ) → j + suc i ≡ suc j + i
       one_on j i = omega arith
 
-  own_file : (i : ℕ) (f : SourceTree At) → slice_get w.of.files i ≡ Some f → FileAt st.packages w.number i f
-  own_file i f e = record { of = w.of; package_is = here.package_is; file_is = e }
+  module _ (w : Where At) (package_is : slice_get st.packages w.number ≡ Some w.of) where
+    own_file : (i : ℕ) (f : SourceTree At) → slice_get w.of.files i ≡ Some f → FileAt st.packages w.number i f
+    own_file i f e = record { of = w.of; package_is = package_is; file_is = e }
 
-  block_few : length (package_block 0 w.of) ≤ texts_size st.texts + texts_size st.texts
-  block_few =
-      let a = files_counted 0 0 w.of.files (λ i f e. let b = file_counted 0 (0 + i) f.tree (own_printed w.number i f (own_file i f e)) in let c = names_in_file w.number i f (own_file i f e) in omega (arith, b, c)) in
-      let d = among_all st.texts (map (λ f. f.path) w.of.files) (once_of (map (λ f. f.path) w.of.files) apart) in
-      omega (arith, a, d)
-    where
-      apart : (i j : ℕ) (p q : List ℕ) → slice_get (map (λ f. f.path) w.of.files) i ≡ Some p → slice_get (map (λ f. f.path) w.of.files) j ≡ Some q → p ≡ q → i ≡ j
-      apart i j p q e g s =
-          let a = mapped_nth (λ (f : SourceTree At). f.path) w.of.files i p e in
-          let b = mapped_nth (λ (f : SourceTree At). f.path) w.of.files j q g in
-          (paths w.number i w.number j a.0 b.0 (own_file i a.0 a.1) (own_file j b.0 b.1) (a.2 ∙ s ∙ sym b.2)).1
+    block_few : length (package_block 0 w.of) ≤ texts_size st.texts + texts_size st.texts
+    block_few =
+        let a = files_counted 0 0 w.of.files (λ i f e. let b = file_counted 0 (0 + i) f.tree (own_printed w.number i f (own_file i f e)) in let c = names_in_file w.number i f (own_file i f e) in omega (arith, b, c)) in
+        let d = among_all st.texts (map (λ f. f.path) w.of.files) (once_of (map (λ f. f.path) w.of.files) apart) in
+        omega (arith, a, d)
+      where
+        apart : (i j : ℕ) (p q : List ℕ) → slice_get (map (λ f. f.path) w.of.files) i ≡ Some p → slice_get (map (λ f. f.path) w.of.files) j ≡ Some q → p ≡ q → i ≡ j
+        apart i j p q e g s =
+            let a = mapped_nth (λ (f : SourceTree At). f.path) w.of.files i p e in
+            let b = mapped_nth (λ (f : SourceTree At). f.path) w.of.files j q g in
+            (paths w.number i w.number j a.0 b.0 (own_file i a.0 a.1) (own_file j b.0 b.1) (a.2 ∙ s ∙ sym b.2)).1
+
+    -- ---- a file that stands there
+
+    abbrev stands_for : ImportSpec At → ImportName
+    stands_for s = record { name = import_name st.packages s; path = s.path; spec = here_of s.span }
+
+    pub standing_few : slice_get w.of.files w.file_number ≡ Some w.source → texts_size st.texts ≤ the_limits.total → fuel_for w.source.tree (avoided (names_standing st.packages w) []) < 2 ^ 64
+    standing_few file_is small =
+        let within : texts_size st.texts ≤ 16777216 = small in
+        let file : FileAt st.packages w.number w.file_number w.source = record { of = w.of; package_is = package_is; file_is = file_is } in
+        let one = one_among st.texts w.source.path in
+        let own = names_in_file w.number w.file_number w.source file in
+        let specs = specs_in_file w.number w.file_number w.source file in
+        let block = block_few in
+        let a = length-map (names_standing st.packages w).imports (λ i. i.name) in
+        let b : length (names_standing st.packages w).imports ≡ length (import_specs w.source.tree) = length-map (import_specs w.source.tree) (λ s. stands_for s) in
+        let c = length-map (package_block 0 w.of) (λ x. x.0) in
+        let all = lists_few (identifiers w.source.tree) (map (λ i. i.name) (names_standing st.packages w).imports) (map (λ x. x.0) (package_block 0 w.of)) [] (keyword_spellings ++ predeclared) 0 (texts_size st.texts + texts_size st.texts)
+        (omega (arith, own, one)) (omega (arith, a, b, specs, one)) (omega (arith, block, c)) refl words_few (omega arith) (omega (arith, within)) in
+        subst (λ (k : ℕ). suc (length (identifiers w.source.tree ++ ((map (λ i. i.name) (names_standing st.packages w).imports ++ map (λ x. x.0) (package_block 0 w.of) ++ []) ++ (keyword_spellings ++ predeclared)))) < k) two_to_64 (omega (arith, all))
+
+module _ (marks : List MarkRef) (st : Standing) (l : Logged) (after : Standing) (n : Next marks st l after) (reads : ProgramReads st) (paths : OnePathEach st.packages) (printed : ArePrinted st.packages) where
+  abbrev w : Where At
+  w = n.found.site.at
+
+  abbrev z : At
+  z = part_span n.found.site.part
+
+  here : Placed here_of (λ (s : Span). Unit {0}) st.packages marks n.found.site
+  here = placed marks st l after n
 
   -- ---- the form
 
@@ -252,9 +275,9 @@ module _ (marks : List MarkRef) (st : Standing) (l : Logged) (after : Standing) 
         let within : texts_size st.texts ≤ 16777216 = small in
         let file : FileAt st.packages w.number w.file_number w.source = record { of = w.of; package_is = here.package_is; file_is = here.file_is } in
         let one = one_among st.texts w.source.path in
-        let own = names_in_file w.number w.file_number w.source file in
-        let specs = specs_in_file w.number w.file_number w.source file in
-        let block = block_few in
+        let own = names_in_file st reads paths printed w.number w.file_number w.source file in
+        let specs = specs_in_file st reads paths printed w.number w.file_number w.source file in
+        let block = block_few st reads paths printed w here.package_is in
         let a = length-map (names_here st.packages w).imports (λ i. i.name) in
         let b : length (names_here st.packages w).imports ≡ length (import_specs w.source.tree) = length-map (import_specs w.source.tree) (λ s. name_of_import s) in
         let c = length-map (package_block 0 w.of) (λ x. x.0) in

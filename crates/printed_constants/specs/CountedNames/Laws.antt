@@ -1,6 +1,6 @@
 -- The laws of how many identifiers a file has, and how many names a step avoids. Each is the contract of a function of
 -- this crate (Go specification, Identifiers; Tokens; Import declarations).
-use Rattle.std.specs.Prelude.{◌≡◌, ◌+◌, ◌≤◌, ℕ, List, Some, None, length, slice_get}
+use Rattle.std.specs.Prelude.{◌≡◌, ◌+◌, ◌≤◌, ◌<◌, ◌^◌, ℕ, List, [], Some, None, length, slice_get}
 use Rattle.go_read.specs.SpellsFiles.{SpellsFile}
 use Rattle.go_tree.specs.declared.spans.Span.{Span}
 use Rattle.go_tree.specs.declared.tokens.Token.{Token}
@@ -11,7 +11,11 @@ use Rattle.cycle_runs.specs.OrderCycles.NewNames.{FewNames}
 use Rattle.pkg_graph.specs.Reads.{Source}
 use Rattle.run_laws.specs.Reading.{ProgramReads, OnePathEach}
 use Rattle.run_rules.specs.Run.{Standing, Logged, Next, texts_size, the_limits, passed}
-use Rattle.run_rules.specs.Sites.{MarkRef}
+use Rattle.run_rules.specs.Sites.{MarkRef, Where}
+use Rattle.run_rules.specs.Steps.{At}
+use Rattle.run_rules.specs.Naming.{fuel_for}
+use Rattle.import_rules.specs.Needs.{avoided}
+use Rattle.form_imports.specs.ImportLaws.Steps.{names_standing}
 use Rattle.run_rules.specs.Texts.{FileText}
 use Rattle.marked_runs.specs.NamedMarks.Named.{AllNamed}
 use Rattle.printed_constants.specs.Printed.{IsPrinted, ArePrinted}
@@ -36,6 +40,14 @@ SmallTextsHaveFewNames =
     (marks : List MarkRef) (st : Standing) (l : Logged) (after : Standing) (n : Next marks st l after)
     → ProgramReads st → OnePathEach st.packages → ArePrinted st.packages → AllNamed st.packages marks
     → texts_size st.texts ≤ the_limits.total → FewNames st.packages n.found
+
+-- So are those that a search avoids in each of its files.
+abbrev pub SmallFilesHaveFewNames : Type 0
+SmallFilesHaveFewNames =
+    (st : Standing) → ProgramReads st → OnePathEach st.packages → ArePrinted st.packages
+    → texts_size st.texts ≤ the_limits.total → (w : Where At) → slice_get st.packages w.number ≡ Some w.of
+    → slice_get w.of.files w.file_number ≡ Some w.source
+    → fuel_for w.source.tree (avoided (names_standing st.packages w) []) < 2 ^ 64
 
 -- They are within it after each step that passes no limit.
 abbrev pub StepsStayWithin : Type 0

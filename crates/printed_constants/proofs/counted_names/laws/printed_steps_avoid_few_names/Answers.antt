@@ -1,5 +1,5 @@
 use Rattle.printed_constants.proofs.CountedNames.Tokens.{tokens_few}
-use Rattle.printed_constants.proofs.CountedNames.Avoided.{avoided_few, stay_within}
+use Rattle.printed_constants.proofs.CountedNames.Avoided.{standing_few, avoided_few, stay_within}
 use Rattle.printed_constants.proofs.counted_names.laws.printed_steps_avoid_few_names.Goals as goal
 
 pub returns-clause-tokens : goal.returns-clause-tokens
@@ -10,3 +10,6 @@ returns-clause-few c = λ marks st l after n reads paths printed named small. av
 
 pub returns-clause-within : goal.returns-clause-within
 returns-clause-within c = λ files done l new texts e. stay_within files done l new texts e
+
+pub returns-clause-files : goal.returns-clause-files
+returns-clause-files c = λ st reads paths printed small w package_is file_is. standing_few st reads paths printed w package_is file_is small
