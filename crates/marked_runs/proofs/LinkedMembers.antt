@@ -1,3 +1,4 @@
 pub mod Files
 pub mod Linked
 pub mod Right
+pub mod Stand

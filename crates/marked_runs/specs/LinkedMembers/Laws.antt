@@ -3,6 +3,7 @@
 use Rattle.std.specs.Prelude.{◌≡◌, Bool, true, ◌&&◌, ℕ, suc, List, [], ◌∷◌, ◌++◌, Some, slice_get}
 use Rattle.std.specs.List.{list_all}
 use Rattle.go_tree.specs.declared.spans.Span.{Span}
+use Rattle.go_tree.specs.Tree.{Expr}
 use Rattle.pkg_graph.specs.Package as run
 use Rattle.pkg_graph.specs.Reads.{Source}
 use Rattle.go_types.specs.Entities.{World}
@@ -10,14 +11,19 @@ use Rattle.go_types.specs.Programs.{SourceFile, Program, Headed, headed}
 use Rattle.go_types.specs.Collect.{collected}
 use Rattle.typed_in_place.specs.ImportRule.{imports_used, package_imports}
 use Rattle.go_translation.specs.Packages.{Package, sources, are_linked}
+use Rattle.go_translation.specs.SameMeaning.{WellTyped}
+use Rattle.run_rules.specs.FormTrees.{as_expr}
 use Rattle.run_rules.specs.Inlining.{ModuleReads, standing_as_read}
 use Rattle.run_rules.specs.Run.{Standing, Logged, Next}
 use Rattle.run_rules.specs.Sites.{MarkRef, Where}
 use Rattle.run_rules.specs.Steps.{At}
 use Rattle.run_rules.specs.Texts.{FileText}
-use Rattle.order_runs.specs.RunSteps.RunPackages.{members_of}
+use Rattle.order_runs.specs.RunSteps.RunPackages.{members_of, packages_of}
+use Rattle.order_runs.specs.ImportCodes.PackagesMoved.{ImportsStand}
 use Rattle.order_runs.specs.ImportSteps.ImportingSteps.{MayBeDeclared}
 use Rattle.cycle_runs.specs.OrderedSteps.Ranks.{OwnPaths}
+use Rattle.cycle_runs.specs.OrderCycles.NewNames.{FewNames}
+use Rattle.cycle_runs.specs.Linked.{Linked, WritesFile}
 
 module _ {S : Type 0} where
   -- each package has a file
@@ -65,3 +71,12 @@ UsedImportsAreRight =
     → ((w : Where At) → slice_get ps w.number ≡ Some w.of → slice_get w.of.files w.file_number ≡ Some w.source
     → MayBeDeclared ps w)
     → ImportsUsed more (members_of ps) → ImportsRight more (members_of ps)
+
+-- So after a step whose form is an expression, which writes its file, in a well-typed program of linked packages, of
+-- which each has a file, the imports are right at last if they are used, and the names to avoid are fewer than 2^64.
+abbrev pub UsedImportsStand : Type 0
+UsedImportsStand =
+    (marks : List MarkRef) (st : Standing) (l : Logged) (after : Standing) (n : Next marks st l after) (e : Expr At)
+    → n.found.form ≡ as_expr e → Linked st.packages → HaveFiles st.packages → WellTyped (packages_of st.packages [])
+    → FewNames st.packages n.found → WritesFile n → (more : List (Package At))
+    → ImportsUsed more (members_of after.packages) → ImportsStand more (members_of after.packages)

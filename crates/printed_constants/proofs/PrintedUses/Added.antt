@@ -1,40 +1,29 @@
 -- What marked_runs asks of the declarations around such a use.
-use Rattle.std.proofs.Common.{◌≡◌, ◌∙◌, ap, sym, subst, true, List, map, Option, Some}
+use Rattle.std.proofs.Common.{◌≡◌, ◌∙◌, ap, true, List, map, Some}
 use Rattle.std.specs.Prelude.{slice_get}
 use Rattle.go_tree.specs.declared.spans.Span.{Span}
-use Rattle.go_tree.specs.File.{Receiver, Decl}
+use Rattle.go_tree.specs.File.{Decl}
 use Rattle.pkg_graph.specs.Package.{SourceTree, Package}
 use Rattle.constant_steps.proofs.AfterStep.{nth_changed}
 use Rattle.constant_steps.proofs.MarksFound.{StandsThere, stands_there}
 use Rattle.constant_steps.specs.Alone.{PlainFiles}
 use Rattle.constant_steps.specs.PlainUse.{AllSimple}
-use Rattle.cycle_runs.specs.ImportCycles.ImportSteps.{file_added, packages_added, where_added, DeclaresAlike}
+use Rattle.cycle_runs.specs.ImportCycles.ImportSteps.{file_added, packages_added, where_added}
 use Rattle.cycle_runs.proofs.ImportCycles.ImportStep.{placed}
 use Rattle.cycle_runs.specs.Linked.{WritesFile}
 use Rattle.cycle_runs.specs.OrderCycles.NewNames.{FewNames}
-use Rattle.cycle_runs.proofs.Runs.{linked-names, written-so}
-use Rattle.cycle_runs.proofs.StepCycles.StepAlike.{ReceiverStays, new-alike}
-use Rattle.cycle_runs.proofs.OrderedSteps.Steps.{steps-own}
 use Rattle.marked_runs.specs.Marked.{StandsAdded, decl_there}
-use Rattle.marked_runs.specs.LinkedMembers.Laws.{HaveFiles, ImportsUsed}
+use Rattle.marked_runs.specs.LinkedMembers.Laws.{HaveFiles}
 use Rattle.marked_runs.specs.SettledConstants.Programs.{IsReady}
-use Rattle.marked_runs.proofs.LinkedMembers.Right.{used-right}
-use Rattle.marked_runs.proofs.SoundImports.After.{after-sound}
-use Rattle.order_runs.specs.ImportCodes.PackagesMoved.{ImportsStand}
 use Rattle.order_runs.specs.RunSteps.RunPackages.{members_of}
-use Rattle.go_translation.specs.Packages as translated
 use Rattle.go_translation.specs.Packages.{are_well_typed}
-use Rattle.marked_runs.proofs.LinkedMembers.Files.{step-have}
-use Rattle.marked_runs.proofs.LinkedMembers.Linked.{members-linked}
+use Rattle.marked_runs.proofs.LinkedMembers.Stand.{imports-stand}
 use Rattle.run_laws.proofs.FoundSpans.{Placed}
-use Rattle.run_rules.specs.Programs.{linked_file, top_place}
+use Rattle.run_rules.specs.Programs.{linked_file}
 use Rattle.run_rules.specs.Run.{Standing, Logged, Next, here_of}
-use Rattle.run_rules.specs.Sites.{MarkRef, Where, part_span, where_is}
-use Rattle.run_rules.specs.Rewriting.{Changes}
-use Rattle.run_rules.specs.Steps.{At, same_here, change_nth, changes_for, new_receiver_option}
-use Rattle.typed_in_place.specs.HeaderReplaced.{SameReceiver, no_receiver}
-use Rattle.run_rules.specs.Surroundings.{Place}
-use Rattle.printed_constants.specs.Printed.{IsPrinted, some_constants, a_function, ArePrinted}
+use Rattle.run_rules.specs.Sites.{MarkRef, Where, where_is}
+use Rattle.run_rules.specs.Steps.{At, change_nth}
+use Rattle.printed_constants.specs.Printed.{ArePrinted}
 use Rattle.printed_constants.proofs.Parts.{decl_parts, parts_simple}
 use Rattle.printed_constants.proofs.Plain.{packages_plain}
 use Rattle.printed_constants.proofs.Steps.{added_printed}
@@ -68,22 +57,6 @@ module _ (marks : List MarkRef) (st : Standing) (l : Logged) (after : Standing) 
       parts_simple (decl_there n d)
       (decl_parts rs n.found.site.at.number (where_added n.found).of (file_added n.found) (printed n.found.site.at here.package_is here.file_is n.found.site.decl d e))
 
-  -- no declaration is a method's
-  receiver_stays : (c : Changes At) (q : Place At) {d : Decl At} → IsPrinted d → ReceiverStays same_here st.packages c q d
-  receiver_stays c q (some_constants h) = tt
-  receiver_stays c q (a_function {f = f} r xs ys h) = subst (λ (o : Option (Receiver At)). SameReceiver o (new_receiver_option same_here st.packages c q o)) (sym r) no_receiver
-
-  declares_alike : DeclaresAlike n
-  declares_alike d e =
-      new-alike same_here st.packages (changes_for same_here (part_span n.found.site.part) n.found.form) n.found.site.at.number n.found.site.at.of n.found.site.at.source.tree d
-      (receiver_stays (changes_for same_here (part_span n.found.site.part) n.found.form) (top_place st.packages n.found.site.at.number n.found.site.at.of n.found.site.at.source.tree) (printed n.found.site.at here.package_is here.file_is n.found.site.decl d e))
-
-  imports_right : IsReady st → are_well_typed (members_of st.packages) ≡ true → HaveFiles st.packages → FewNames st.packages n.found → WritesFile n → (Q : List (translated.Package At)) → ImportsUsed Q (members_of after.packages) → ImportsStand Q (members_of after.packages)
-  imports_right ready typed files few write Q used = record {
-    linked = members-linked after.packages (steps-own marks st l after n ready.links.own) (step-have marks st l after n files);
-    right = used-right after.packages Q (after-sound marks st l after n ready.links.ordered (linked-names st.packages ready.links) typed few (written-so marks st l after n ready.links write) declares_alike) used;
-  }
-
   pub stands_added : IsReady st → are_well_typed (members_of st.packages) ≡ true → HaveFiles st.packages → FewNames st.packages n.found → WritesFile n → IsNamedThere n → StandsAdded n
   stands_added ready typed files few write named = record {
     place = named.place;
@@ -95,7 +68,7 @@ module _ (marks : List MarkRef) (st : Standing) (l : Logged) (after : Standing) 
     new_plain = marked_plain named.use_.new_mark named.use_.new_home named.use_.new_home_is;
     simple = are_simple;
     form = named.form;
-    imports = λ marked Q w. imports_right ready typed files few write Q (named.imports marked Q w);
+    imports = λ marked Q w. imports-stand marks st l after n named.use_.new named.form ready.links files typed few write Q (named.imports marked Q w);
   }
 
 pub uses_stand : PrintedUsesStand

@@ -1,6 +1,7 @@
 use Rattle.marked_runs.proofs.LinkedMembers.Files.{read-have, step-have}
 use Rattle.marked_runs.proofs.LinkedMembers.Linked.{members-linked}
 use Rattle.marked_runs.proofs.LinkedMembers.Right.{used-right}
+use Rattle.marked_runs.proofs.LinkedMembers.Stand.{imports-stand}
 use Rattle.marked_runs.proofs.linked_members.members_are_linked.Goals as goal
 
 pub returns-clause-linked : goal.returns-clause-linked
@@ -14,3 +15,6 @@ returns-clause-stay c = λ marks st l after n h. step-have marks st l after n h
 
 pub returns-clause-right : goal.returns-clause-right
 returns-clause-right c = λ ps more sound e. used-right ps more sound e
+
+pub returns-clause-stand : goal.returns-clause-stand
+returns-clause-stand c = λ marks st l after n e form links files typed few write more used. imports-stand marks st l after n e form links files typed few write more used
