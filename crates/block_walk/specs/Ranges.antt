@@ -7,5 +7,6 @@ use Rattle.go_types.specs.Declarations.{Declared}
 use Rattle.go_types.specs.Entities.{Env}
 use Rattle.go_types.specs.Typing.{parts, range_declares, ranges}
 
+-- what a range clause declares, where it may stand
 abbrev pub range_clause : Env → RangeLeft Span → Expr Span → Option Declared
 range_clause env l e = given (parts env e) (λ o. only_if (ranges env o l) (range_declares env (Some o) l))
