@@ -19,9 +19,9 @@ use Rattle.header_order.specs.Types.{refused_types}
 use Rattle.collected.specs.declared.declarations.Collected.{Collected}
 use Rattle.collected.specs.Methods.{HaveMethods}
 
--- What the packages of a program declare: the tables are ready, and have the types and constants of all names; the files
--- and headers are those of the program. Each name means what the packages declare, constants with their values, and
--- types mean the same, whichever constants are read. Methods and refused headers are as they are declared.
+-- What the packages of a program declare: the tables are ready, and have the types and constants of all names; the
+-- files and headers are those of the program. Each name means what the packages declare, constants with their values,
+-- and types mean the same, whichever constants are read. Methods and refused headers are as they are declared.
 pub record AreDeclarations (ps : Program Span) (c : Collected) : Type 0 where
   pub ready : AreReady c.tables
   pub there : AreThere c.tables.env c.tables.consts c.blocks
