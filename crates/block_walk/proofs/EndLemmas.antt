@@ -117,3 +117,9 @@ label_read k bs s block c env sp n t p q xs ys (Err NoMemory) (Ok f) g h =
 label_read k bs s block c env sp n t p q xs ys (Err NoMemory) (Err NotTyped) g h =
     h (stmt (labelled c n t) env t) tt
 label_read k bs s block c env sp n t p q xs ys (Err NoMemory) (Err NoMemory) g h = tt
+
+-- the answer without the names that are used
+pub ends_alone : (o : Option Bool) (total q : Used) (r : Result Bool Refusal) → GivesEnds o total q r → EndsAs o r
+ends_alone o total q (Ok b) h = h.0
+ends_alone o total q (Err NotTyped) h = h
+ends_alone o total q (Err NoMemory) h = tt

@@ -4,6 +4,7 @@
 
 mod arms;
 mod blocks;
+mod bodies;
 mod ends;
 mod headers;
 mod ifs;
@@ -15,3 +16,4 @@ mod switch_walk;
 mod switches;
 
 pub use blocks::{block_statements, statement, statements};
+pub use bodies::function_body;
