@@ -1,3 +1,5 @@
 pub mod ExprArms
 pub mod ListArms
 pub mod ElementArms
+pub mod LiteralLemmas
+pub mod LaterWalks

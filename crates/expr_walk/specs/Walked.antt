@@ -1,7 +1,9 @@
 -- Expressions that are walked, and how large they are (Go specification, Expressions).
-use Rattle.std.specs.Prelude.{◌≡◌, ℕ, ◌+◌, List, pos}
+use Rattle.std.specs.Prelude.{◌≡◌, ℕ, ◌+◌, List, is_some, pos, true}
 use Rattle.go_tree.specs.declared.spans.Span.{Span}
 use Rattle.go_tree.specs.Tree.{Expr, ident, int_lit, rune_lit, str_lit, composite, selector, index, slice, call, func_lit, type_operand, unary, binary, star, Exprs, no_exprs, expr_and, ExprOption, no_expr, some_expr, Elems, no_elems, elem, Value, plain, braced, ValueOption, no_value, some_value}
+use Rattle.go_types.specs.Entities.{Env}
+use Rattle.go_types.specs.Typing.{parts}
 use Rattle.go_words.specs.Texts.{text_value}
 use Rattle.const_eval.specs.declared.kinds.Kind.{Kind}
 use Rattle.const_eval.specs.declared.kinds.Kind.TheVariants as kind
@@ -15,47 +17,47 @@ pub record IsLiteralOf (k : Kind) (x : Exact) (spelling : List ℕ) : Type 0 whe
   pub value : literal_value spelling ≡ x
 
 abbrev mutual
-  -- literals are well spelled; no function literal stands in it
-  pub IsWalked : Expr Span → Type 0
-  IsWalked (ident _ n) = Unit {0}
-  IsWalked (int_lit _ s) = IsLiteralOf kind.UntypedInt (number (pos (integer_value s))) s
-  IsWalked (rune_lit _ s) = IsLiteralOf kind.UntypedRune (literal_value s) s
-  IsWalked (str_lit _ s) = IsLiteralOf kind.UntypedStr (text (text_value s)) s
-  IsWalked (composite _ t es) = AreWalkedElems es
-  IsWalked (selector _ b n) = IsWalked b
-  IsWalked (index _ b i) = IsWalked b × IsWalked i
-  IsWalked (slice _ b i j) = IsWalked b × IsWalkedOption i × IsWalkedOption j
-  IsWalked (call _ f xs _) = IsWalked f × AreAllWalked xs
-  IsWalked (func_lit _ g _ b) = ⊥
-  IsWalked (type_operand _ t) = Unit {0}
-  IsWalked (unary _ op e) = IsWalked e
-  IsWalked (binary _ op x y) = IsWalked x × IsWalked y
-  IsWalked (star _ e) = IsWalked e
+  -- literals are well spelled, and function literals are typed where they stand
+  pub IsWalked : Env → Expr Span → Type 0
+  IsWalked env (ident _ n) = Unit {0}
+  IsWalked env (int_lit _ s) = IsLiteralOf kind.UntypedInt (number (pos (integer_value s))) s
+  IsWalked env (rune_lit _ s) = IsLiteralOf kind.UntypedRune (literal_value s) s
+  IsWalked env (str_lit _ s) = IsLiteralOf kind.UntypedStr (text (text_value s)) s
+  IsWalked env (composite _ t es) = AreWalkedElems env es
+  IsWalked env (selector _ b n) = IsWalked env b
+  IsWalked env (index _ b i) = IsWalked env b × IsWalked env i
+  IsWalked env (slice _ b i j) = IsWalked env b × IsWalkedOption env i × IsWalkedOption env j
+  IsWalked env (call _ f xs _) = IsWalked env f × AreAllWalked env xs
+  IsWalked env (func_lit s g r b) = is_some (parts env (func_lit s g r b)) ≡ true
+  IsWalked env (type_operand _ t) = Unit {0}
+  IsWalked env (unary _ op e) = IsWalked env e
+  IsWalked env (binary _ op x y) = IsWalked env x × IsWalked env y
+  IsWalked env (star _ e) = IsWalked env e
 
   -- so of each of a list
-  pub AreAllWalked : Exprs Span → Type 0
-  AreAllWalked no_exprs = Unit {0}
-  AreAllWalked (expr_and e es) = IsWalked e × AreAllWalked es
+  pub AreAllWalked : Env → Exprs Span → Type 0
+  AreAllWalked env no_exprs = Unit {0}
+  AreAllWalked env (expr_and e es) = IsWalked env e × AreAllWalked env es
 
   -- so of a bound that may be left out
-  pub IsWalkedOption : ExprOption Span → Type 0
-  IsWalkedOption no_expr = Unit {0}
-  IsWalkedOption (some_expr e) = IsWalked e
+  pub IsWalkedOption : Env → ExprOption Span → Type 0
+  IsWalkedOption env no_expr = Unit {0}
+  IsWalkedOption env (some_expr e) = IsWalked env e
 
   -- so of the keys and values of elements
-  pub AreWalkedElems : Elems Span → Type 0
-  AreWalkedElems no_elems = Unit {0}
-  AreWalkedElems (elem _ k v es) = IsWalkedKey k × IsWalkedValue v × AreWalkedElems es
+  pub AreWalkedElems : Env → Elems Span → Type 0
+  AreWalkedElems env no_elems = Unit {0}
+  AreWalkedElems env (elem _ k v es) = IsWalkedKey env k × IsWalkedValue env v × AreWalkedElems env es
 
   -- so of a key or a value
-  pub IsWalkedValue : Value Span → Type 0
-  IsWalkedValue (plain e) = IsWalked e
-  IsWalkedValue (braced _ es) = AreWalkedElems es
+  pub IsWalkedValue : Env → Value Span → Type 0
+  IsWalkedValue env (plain e) = IsWalked env e
+  IsWalkedValue env (braced _ es) = AreWalkedElems env es
 
   -- so of a key that may be left out
-  pub IsWalkedKey : ValueOption Span → Type 0
-  IsWalkedKey no_value = Unit {0}
-  IsWalkedKey (some_value k) = IsWalkedValue k
+  pub IsWalkedKey : Env → ValueOption Span → Type 0
+  IsWalkedKey env no_value = Unit {0}
+  IsWalkedKey env (some_value k) = IsWalkedValue env k
 
 abbrev mutual
   -- how deep the walk over an expression can go: more than over each of its parts

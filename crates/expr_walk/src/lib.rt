@@ -6,4 +6,4 @@ mod exprs;
 mod walk_arms;
 
 pub use exprs::{all_exprs, expr};
-pub use walk_arms::package_before;
+pub use walk_arms::{function_operand, package_before, signature};
