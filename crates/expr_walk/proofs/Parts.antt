@@ -5,19 +5,19 @@ use Rattle.go_tree.specs.declared.exprs.Expr as expression
 use Rattle.go_tree.specs.Lists.{elems_from, exprs_from}
 use Rattle.go_types.specs.Entities.{Env}
 use Rattle.go_tree.specs.View.{elem_of, expr_of, held_value_option_of, value_of}
-use Rattle.expr_walk.specs.Walked.{AreAllWalked, AreWalkedElems, IsWalked, IsWalkedKey, IsWalkedValue, size, size_all, size_elems, size_key, size_value}
+use Rattle.expr_walk.specs.Walked.{AreAllWalked, AreAllWalkedAt, AreWalkedElems, AreWalkedElemsAt, IsWalked, IsWalkedAt, IsWalkedKey, IsWalkedKeyAt, IsWalkedValue, IsWalkedValueAt, size, size_all, size_elems, size_key, size_value}
 
 -- the key and the value of an element
-pub record IsWalkedElem (env : Env) (x : source.Elem) : Type 0 where
-  pub key : IsWalkedKey env (held_value_option_of x.key)
-  pub value : IsWalkedValue env (value_of x.value)
+pub record IsWalkedElem (x : source.Elem) : Type 0 where
+  pub key : IsWalkedKey (held_value_option_of x.key)
+  pub value : IsWalkedValue (value_of x.value)
 
 pub elem_walked :
-    (env : Env) (xs : List source.Elem) (i : ℕ) (x : source.Elem) → i < length xs → x ≡ get_or xs i x →
-    AreWalkedElems env (elems_from (map elem_of xs)) → IsWalkedElem env x
-elem_walked env [] i x l e h = absurd (omega (arith, l))
-elem_walked env (y ∷ xs) zero x l e h = subst (IsWalkedElem env) (sym e) (record { key = h.0; value = h.1 })
-elem_walked env (y ∷ xs) (suc i) x l e h = elem_walked env xs i x (omega (arith, l)) e h.2
+    (xs : List source.Elem) (i : ℕ) (x : source.Elem) → i < length xs → x ≡ get_or xs i x →
+    AreWalkedElems (elems_from (map elem_of xs)) → IsWalkedElem x
+elem_walked [] i x l e h = absurd (omega (arith, l))
+elem_walked (y ∷ xs) zero x l e h = subst IsWalkedElem (sym e) (record { key = h.0; value = h.1 })
+elem_walked (y ∷ xs) (suc i) x l e h = elem_walked xs i x (omega (arith, l)) e h.2
 
 -- how large they are
 abbrev pub elem_size : source.Elem → ℕ
@@ -36,11 +36,11 @@ elem_smaller (y ∷ xs) (suc i) x l e =
 -- ---- expressions in order
 
 pub expr_walked :
-    (env : Env) (xs : List expression.Expr) (i : ℕ) (x : expression.Expr) → i < length xs → x ≡ get_or xs i x →
-    AreAllWalked env (exprs_from (map expr_of xs)) → IsWalked env (expr_of x)
-expr_walked env [] i x l p h = absurd (omega (arith, l))
-expr_walked env (y ∷ xs) zero x l p h = subst (λ x. IsWalked env (expr_of x)) (sym p) h.0
-expr_walked env (y ∷ xs) (suc i) x l p h = expr_walked env xs i x (omega (arith, l)) p h.1
+    (xs : List expression.Expr) (i : ℕ) (x : expression.Expr) → i < length xs → x ≡ get_or xs i x →
+    AreAllWalked (exprs_from (map expr_of xs)) → IsWalked (expr_of x)
+expr_walked [] i x l p h = absurd (omega (arith, l))
+expr_walked (y ∷ xs) zero x l p h = subst (λ x. IsWalked (expr_of x)) (sym p) h.0
+expr_walked (y ∷ xs) (suc i) x l p h = expr_walked xs i x (omega (arith, l)) p h.1
 
 pub expr_smaller :
     (xs : List expression.Expr) (i : ℕ) (x : expression.Expr) → i < length xs → x ≡ get_or xs i x →
@@ -51,3 +51,24 @@ expr_smaller (y ∷ xs) zero x l p =
 expr_smaller (y ∷ xs) (suc i) x l p =
     let h : size (expr_of x) < size_all (exprs_from (map expr_of xs)) = expr_smaller xs i x (omega (arith, l)) p in
     omega (arith, h)
+
+-- ---- the same at a place
+
+-- the key and the value of an element
+pub record IsWalkedElemAt (env : Env) (x : source.Elem) : Type 0 where
+  pub key : IsWalkedKeyAt env (held_value_option_of x.key)
+  pub value : IsWalkedValueAt env (value_of x.value)
+
+pub elem_walked_at :
+    (env : Env) (xs : List source.Elem) (i : ℕ) (x : source.Elem) → i < length xs → x ≡ get_or xs i x →
+    AreWalkedElemsAt env (elems_from (map elem_of xs)) → IsWalkedElemAt env x
+elem_walked_at env [] i x l e h = absurd (omega (arith, l))
+elem_walked_at env (y ∷ xs) zero x l e h = subst (IsWalkedElemAt env) (sym e) (record { key = h.0; value = h.1 })
+elem_walked_at env (y ∷ xs) (suc i) x l e h = elem_walked_at env xs i x (omega (arith, l)) e h.2
+
+pub expr_walked_at :
+    (env : Env) (xs : List expression.Expr) (i : ℕ) (x : expression.Expr) → i < length xs → x ≡ get_or xs i x →
+    AreAllWalkedAt env (exprs_from (map expr_of xs)) → IsWalkedAt env (expr_of x)
+expr_walked_at env [] i x l p h = absurd (omega (arith, l))
+expr_walked_at env (y ∷ xs) zero x l p h = subst (λ x. IsWalkedAt env (expr_of x)) (sym p) h.0
+expr_walked_at env (y ∷ xs) (suc i) x l p h = expr_walked_at env xs i x (omega (arith, l)) p h.1

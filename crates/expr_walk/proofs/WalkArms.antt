@@ -2,4 +2,3 @@ pub mod ExprArms
 pub mod ListArms
 pub mod ElementArms
 pub mod LiteralLemmas
-pub mod LaterWalks

@@ -17,47 +17,90 @@ pub record IsLiteralOf (k : Kind) (x : Exact) (spelling : List ℕ) : Type 0 whe
   pub value : literal_value spelling ≡ x
 
 abbrev mutual
-  -- literals are well spelled, and function literals are typed where they stand
-  pub IsWalked : Env → Expr Span → Type 0
-  IsWalked env (ident _ n) = Unit {0}
-  IsWalked env (int_lit _ s) = IsLiteralOf kind.UntypedInt (number (pos (integer_value s))) s
-  IsWalked env (rune_lit _ s) = IsLiteralOf kind.UntypedRune (literal_value s) s
-  IsWalked env (str_lit _ s) = IsLiteralOf kind.UntypedStr (text (text_value s)) s
-  IsWalked env (composite _ t es) = AreWalkedElems env es
-  IsWalked env (selector _ b n) = IsWalked env b
-  IsWalked env (index _ b i) = IsWalked env b × IsWalked env i
-  IsWalked env (slice _ b i j) = IsWalked env b × IsWalkedOption env i × IsWalkedOption env j
-  IsWalked env (call _ f xs _) = IsWalked env f × AreAllWalked env xs
-  IsWalked env (func_lit s g r b) = is_some (parts env (func_lit s g r b)) ≡ true
-  IsWalked env (type_operand _ t) = Unit {0}
-  IsWalked env (unary _ op e) = IsWalked env e
-  IsWalked env (binary _ op x y) = IsWalked env x × IsWalked env y
-  IsWalked env (star _ e) = IsWalked env e
+  -- literals are well spelled; no function literal stands in it
+  pub IsWalked : Expr Span → Type 0
+  IsWalked (ident _ n) = Unit {0}
+  IsWalked (int_lit _ s) = IsLiteralOf kind.UntypedInt (number (pos (integer_value s))) s
+  IsWalked (rune_lit _ s) = IsLiteralOf kind.UntypedRune (literal_value s) s
+  IsWalked (str_lit _ s) = IsLiteralOf kind.UntypedStr (text (text_value s)) s
+  IsWalked (composite _ t es) = AreWalkedElems es
+  IsWalked (selector _ b n) = IsWalked b
+  IsWalked (index _ b i) = IsWalked b × IsWalked i
+  IsWalked (slice _ b i j) = IsWalked b × IsWalkedOption i × IsWalkedOption j
+  IsWalked (call _ f xs _) = IsWalked f × AreAllWalked xs
+  IsWalked (func_lit _ g _ b) = ⊥
+  IsWalked (type_operand _ t) = Unit {0}
+  IsWalked (unary _ op e) = IsWalked e
+  IsWalked (binary _ op x y) = IsWalked x × IsWalked y
+  IsWalked (star _ e) = IsWalked e
 
   -- so of each of a list
-  pub AreAllWalked : Env → Exprs Span → Type 0
-  AreAllWalked env no_exprs = Unit {0}
-  AreAllWalked env (expr_and e es) = IsWalked env e × AreAllWalked env es
+  pub AreAllWalked : Exprs Span → Type 0
+  AreAllWalked no_exprs = Unit {0}
+  AreAllWalked (expr_and e es) = IsWalked e × AreAllWalked es
 
   -- so of a bound that may be left out
-  pub IsWalkedOption : Env → ExprOption Span → Type 0
-  IsWalkedOption env no_expr = Unit {0}
-  IsWalkedOption env (some_expr e) = IsWalked env e
+  pub IsWalkedOption : ExprOption Span → Type 0
+  IsWalkedOption no_expr = Unit {0}
+  IsWalkedOption (some_expr e) = IsWalked e
 
   -- so of the keys and values of elements
-  pub AreWalkedElems : Env → Elems Span → Type 0
-  AreWalkedElems env no_elems = Unit {0}
-  AreWalkedElems env (elem _ k v es) = IsWalkedKey env k × IsWalkedValue env v × AreWalkedElems env es
+  pub AreWalkedElems : Elems Span → Type 0
+  AreWalkedElems no_elems = Unit {0}
+  AreWalkedElems (elem _ k v es) = IsWalkedKey k × IsWalkedValue v × AreWalkedElems es
 
   -- so of a key or a value
-  pub IsWalkedValue : Env → Value Span → Type 0
-  IsWalkedValue env (plain e) = IsWalked env e
-  IsWalkedValue env (braced _ es) = AreWalkedElems env es
+  pub IsWalkedValue : Value Span → Type 0
+  IsWalkedValue (plain e) = IsWalked e
+  IsWalkedValue (braced _ es) = AreWalkedElems es
 
   -- so of a key that may be left out
-  pub IsWalkedKey : Env → ValueOption Span → Type 0
-  IsWalkedKey env no_value = Unit {0}
-  IsWalkedKey env (some_value k) = IsWalkedValue env k
+  pub IsWalkedKey : ValueOption Span → Type 0
+  IsWalkedKey no_value = Unit {0}
+  IsWalkedKey (some_value k) = IsWalkedValue k
+
+abbrev mutual
+  -- literals are well spelled, and function literals are typed where they stand
+  pub IsWalkedAt : Env → Expr Span → Type 0
+  IsWalkedAt env (ident _ n) = Unit {0}
+  IsWalkedAt env (int_lit _ s) = IsLiteralOf kind.UntypedInt (number (pos (integer_value s))) s
+  IsWalkedAt env (rune_lit _ s) = IsLiteralOf kind.UntypedRune (literal_value s) s
+  IsWalkedAt env (str_lit _ s) = IsLiteralOf kind.UntypedStr (text (text_value s)) s
+  IsWalkedAt env (composite _ t es) = AreWalkedElemsAt env es
+  IsWalkedAt env (selector _ b n) = IsWalkedAt env b
+  IsWalkedAt env (index _ b i) = IsWalkedAt env b × IsWalkedAt env i
+  IsWalkedAt env (slice _ b i j) = IsWalkedAt env b × IsWalkedOptionAt env i × IsWalkedOptionAt env j
+  IsWalkedAt env (call _ f xs _) = IsWalkedAt env f × AreAllWalkedAt env xs
+  IsWalkedAt env (func_lit s g r b) = is_some (parts env (func_lit s g r b)) ≡ true
+  IsWalkedAt env (type_operand _ t) = Unit {0}
+  IsWalkedAt env (unary _ op e) = IsWalkedAt env e
+  IsWalkedAt env (binary _ op x y) = IsWalkedAt env x × IsWalkedAt env y
+  IsWalkedAt env (star _ e) = IsWalkedAt env e
+
+  -- so of each of a list
+  pub AreAllWalkedAt : Env → Exprs Span → Type 0
+  AreAllWalkedAt env no_exprs = Unit {0}
+  AreAllWalkedAt env (expr_and e es) = IsWalkedAt env e × AreAllWalkedAt env es
+
+  -- so of a bound that may be left out
+  pub IsWalkedOptionAt : Env → ExprOption Span → Type 0
+  IsWalkedOptionAt env no_expr = Unit {0}
+  IsWalkedOptionAt env (some_expr e) = IsWalkedAt env e
+
+  -- so of the keys and values of elements
+  pub AreWalkedElemsAt : Env → Elems Span → Type 0
+  AreWalkedElemsAt env no_elems = Unit {0}
+  AreWalkedElemsAt env (elem _ k v es) = IsWalkedKeyAt env k × IsWalkedValueAt env v × AreWalkedElemsAt env es
+
+  -- so of a key or a value
+  pub IsWalkedValueAt : Env → Value Span → Type 0
+  IsWalkedValueAt env (plain e) = IsWalkedAt env e
+  IsWalkedValueAt env (braced _ es) = AreWalkedElemsAt env es
+
+  -- so of a key that may be left out
+  pub IsWalkedKeyAt : Env → ValueOption Span → Type 0
+  IsWalkedKeyAt env no_value = Unit {0}
+  IsWalkedKeyAt env (some_value k) = IsWalkedValueAt env k
 
 abbrev mutual
   -- how deep the walk over an expression can go: more than over each of its parts

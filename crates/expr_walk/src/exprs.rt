@@ -20,7 +20,7 @@ ghost use Rattle.operand_answers.specs.Known.{Stands};
 ghost use Rattle.operand_answers.specs.Lists.{GivesAll};
 ghost use Rattle.operand_answers.specs.AccessSteps.Bounds.{GivesBound};
 ghost use Rattle.composite_steps.specs.Elements.{GivesElement, GivesElements};
-ghost use Rattle.expr_walk.specs.Walked.{AreAllWalked, AreWalkedElems, IsWalked, IsWalkedKey, IsWalkedOption, IsWalkedValue};
+ghost use Rattle.expr_walk.specs.Walked.{AreAllWalkedAt, AreWalkedElemsAt, IsWalkedAt, IsWalkedKeyAt, IsWalkedOptionAt, IsWalkedValueAt};
 ghost use Rattle.expr_walk.specs.WalkArms.Answers.{GivesExpr};
 
 use crate::walk_arms::{function_literal, package_before};
@@ -45,7 +45,7 @@ use typed_names::{Blocks, Scope};
 /// What an expression is, and where it stands: the operand that it is by its parts, or that it isn't
 /// typed. The tables only grow.
 #[cycle(exprs)]
-#[tactic(auto, using(crate::proofs::WalkArms::LaterWalks::walked_later, crate::proofs::WalkArms::LaterWalks::option_later, crate::proofs::WalkArms::LaterWalks::all_later))]
+#[tactic(auto, using(crate::proofs::LaterWalks::walked_later, crate::proofs::LaterWalks::option_later))]
 pub fn expr(
     alloc: Global,
     tables: &mut Tables,
@@ -54,7 +54,7 @@ pub fn expr(
     e: &Expr,
 ) -> Result<Located, Refusal>
     requires stands { Stands tables.old blocks.now scope.now }
-    requires walked { IsWalked (env_at tables.old.env tables.old.consts blocks.now scope.now)
+    requires walked { IsWalkedAt (env_at tables.old.env tables.old.consts blocks.now scope.now)
         (expr_of e.now) }
     ensures stands { Stands tables.new blocks.now scope.now }
     ensures keeps { Keeps tables.old tables.new }
@@ -119,7 +119,7 @@ fn bound_of(
     e: &Option<Box<Expr>>,
 ) -> Result<Option<Value>, Refusal>
     requires stands { Stands tables.old blocks.now scope.now }
-    requires walked { IsWalkedOption (env_at tables.old.env tables.old.consts blocks.now scope.now)
+    requires walked { IsWalkedOptionAt (env_at tables.old.env tables.old.consts blocks.now scope.now)
         (boxed_expr_option_of e.now) }
     ensures stands { Stands tables.new blocks.now scope.now }
     ensures keeps { Keeps tables.old tables.new }
@@ -145,7 +145,7 @@ pub fn all_exprs(
     es: &ExprList,
 ) -> Result<OperandList, Refusal>
     requires stands { Stands tables.old blocks.now scope.now }
-    requires walked { AreAllWalked (env_at tables.old.env tables.old.consts blocks.now scope.now)
+    requires walked { AreAllWalkedAt (env_at tables.old.env tables.old.consts blocks.now scope.now)
         (exprs_of es.now) }
     ensures stands { Stands tables.new blocks.now scope.now }
     ensures keeps { Keeps tables.old tables.new }
@@ -175,7 +175,7 @@ fn selected(
     name: &NameAt,
 ) -> Result<Located, Refusal>
     requires stands { Stands tables.old blocks.now scope.now }
-    requires walked { IsWalked (env_at tables.old.env tables.old.consts blocks.now scope.now)
+    requires walked { IsWalkedAt (env_at tables.old.env tables.old.consts blocks.now scope.now)
         (expr_of base.now) }
     ensures stands { Stands tables.new blocks.now scope.now }
     ensures keeps { Keeps tables.old tables.new }
@@ -203,7 +203,7 @@ fn composite(
     elems: &ElemList,
 ) -> Result<Located, Refusal>
     requires stands { Stands tables.old blocks.now scope.now }
-    requires walked { AreWalkedElems (env_at tables.old.env tables.old.consts blocks.now scope.now)
+    requires walked { AreWalkedElemsAt (env_at tables.old.env tables.old.consts blocks.now scope.now)
         (elems_of elems.now) }
     ensures stands { Stands tables.new blocks.now scope.now }
     ensures keeps { Keeps tables.old tables.new }
@@ -232,7 +232,7 @@ fn elements<'a>(
 ) -> Result<ElementList<'a>, Refusal>
     requires stands { Stands tables.old blocks.now scope.now }
     requires of { IsType tables.old.env (Typed t) }
-    requires walked { AreWalkedElems (env_at tables.old.env tables.old.consts blocks.now scope.now)
+    requires walked { AreWalkedElemsAt (env_at tables.old.env tables.old.consts blocks.now scope.now)
         (elems_of elems.now) }
     ensures stands { Stands tables.new blocks.now scope.now }
     ensures keeps { Keeps tables.old tables.new }
@@ -263,9 +263,9 @@ fn one_element<'a>(
 ) -> Result<Element<'a>, Refusal>
     requires stands { Stands tables.old blocks.now scope.now }
     requires of { IsType tables.old.env (Typed t) }
-    requires key { IsWalkedKey (env_at tables.old.env tables.old.consts blocks.now scope.now)
+    requires key { IsWalkedKeyAt (env_at tables.old.env tables.old.consts blocks.now scope.now)
         (held_value_option_of x.now.key) }
-    requires value { IsWalkedValue (env_at tables.old.env tables.old.consts blocks.now scope.now)
+    requires value { IsWalkedValueAt (env_at tables.old.env tables.old.consts blocks.now scope.now)
         (value_of x.now.value) }
     ensures stands { Stands tables.new blocks.now scope.now }
     ensures keeps { Keeps tables.old tables.new }
@@ -294,7 +294,7 @@ fn with_key<'a>(
 ) -> Result<Element<'a>, Refusal>
     requires stands { Stands tables.old blocks.now scope.now }
     requires of { IsType tables.old.env (Typed t) }
-    requires walked { IsWalkedKey (env_at tables.old.env tables.old.consts blocks.now scope.now)
+    requires walked { IsWalkedKeyAt (env_at tables.old.env tables.old.consts blocks.now scope.now)
         (held_value_option_of key.now) }
     ensures stands { Stands tables.new blocks.now scope.now }
     ensures keeps { Keeps tables.old tables.new }
@@ -330,7 +330,7 @@ fn part(
 ) -> Result<Operand, Refusal>
     requires stands { Stands tables.old blocks.now scope.now }
     requires to { IfSome to (λ t. IsType tables.old.env (Typed t)) }
-    requires walked { IsWalkedValue (env_at tables.old.env tables.old.consts blocks.now scope.now)
+    requires walked { IsWalkedValueAt (env_at tables.old.env tables.old.consts blocks.now scope.now)
         (value_of x.now) }
     ensures stands { Stands tables.new blocks.now scope.now }
     ensures keeps { Keeps tables.old tables.new }
@@ -356,7 +356,7 @@ fn braced(
 ) -> Result<Operand, Refusal>
     requires stands { Stands tables.old blocks.now scope.now }
     requires to { IfSome to (λ t. IsType tables.old.env (Typed t)) }
-    requires walked { AreWalkedElems (env_at tables.old.env tables.old.consts blocks.now scope.now)
+    requires walked { AreWalkedElemsAt (env_at tables.old.env tables.old.consts blocks.now scope.now)
         (elems_of elems.now) }
     ensures stands { Stands tables.new blocks.now scope.now }
     ensures keeps { Keeps tables.old tables.new }

@@ -1,5 +1,5 @@
 -- Function literals by their signatures.
-use Rattle.std.proofs.Common.{◌≡◌, ◌∙◌, Bool, true, false, List, [], ◌∷◌, length, map, Option, Some, None, Ok, Err, refl, sym, ap, is_some}
+use Rattle.std.proofs.Common.{◌≡◌, Bool, true, false, List, [], ◌∷◌, length, Option, Some, None, Ok, Err, refl, sym, ap, is_some}
 use Rattle.const_eval.specs.declared.consts.Const.{Const}
 use Rattle.go_types.specs.Answers.{given, only_if}
 use Rattle.go_types.specs.Entities as go_entity
