@@ -3,8 +3,9 @@ use Rattle.std.proofs.Common.{◌≡◌, ◌<◌, ◌+◌, ℕ, zero, suc, arith
 use Rattle.go_tree.specs.declared.exprs.Elem as source
 use Rattle.go_tree.specs.declared.exprs.Expr as expression
 use Rattle.go_tree.specs.Lists.{elems_from, exprs_from}
+use Rattle.go_types.specs.Entities.{Env}
 use Rattle.go_tree.specs.View.{elem_of, expr_of, held_value_option_of, value_of}
-use Rattle.expr_walk.specs.Walked.{AreAllWalked, AreWalkedElems, IsWalked, IsWalkedKey, IsWalkedValue, size, size_all, size_elems, size_key, size_value}
+use Rattle.expr_walk.specs.Walked.{AreAllWalked, AreAllWalkedAt, AreWalkedElems, AreWalkedElemsAt, IsWalked, IsWalkedAt, IsWalkedKey, IsWalkedKeyAt, IsWalkedValue, IsWalkedValueAt, size, size_all, size_elems, size_key, size_value}
 
 -- the key and the value of an element
 pub record IsWalkedElem (x : source.Elem) : Type 0 where
@@ -50,3 +51,24 @@ expr_smaller (y ∷ xs) zero x l p =
 expr_smaller (y ∷ xs) (suc i) x l p =
     let h : size (expr_of x) < size_all (exprs_from (map expr_of xs)) = expr_smaller xs i x (omega (arith, l)) p in
     omega (arith, h)
+
+-- ---- the same at a place
+
+-- the key and the value of an element
+pub record IsWalkedElemAt (env : Env) (x : source.Elem) : Type 0 where
+  pub key : IsWalkedKeyAt env (held_value_option_of x.key)
+  pub value : IsWalkedValueAt env (value_of x.value)
+
+pub elem_walked_at :
+    (env : Env) (xs : List source.Elem) (i : ℕ) (x : source.Elem) → i < length xs → x ≡ get_or xs i x →
+    AreWalkedElemsAt env (elems_from (map elem_of xs)) → IsWalkedElemAt env x
+elem_walked_at env [] i x l e h = absurd (omega (arith, l))
+elem_walked_at env (y ∷ xs) zero x l e h = subst (IsWalkedElemAt env) (sym e) (record { key = h.0; value = h.1 })
+elem_walked_at env (y ∷ xs) (suc i) x l e h = elem_walked_at env xs i x (omega (arith, l)) e h.2
+
+pub expr_walked_at :
+    (env : Env) (xs : List expression.Expr) (i : ℕ) (x : expression.Expr) → i < length xs → x ≡ get_or xs i x →
+    AreAllWalkedAt env (exprs_from (map expr_of xs)) → IsWalkedAt env (expr_of x)
+expr_walked_at env [] i x l p h = absurd (omega (arith, l))
+expr_walked_at env (y ∷ xs) zero x l p h = subst (λ x. IsWalkedAt env (expr_of x)) (sym p) h.0
+expr_walked_at env (y ∷ xs) (suc i) x l p h = expr_walked_at env xs i x (omega (arith, l)) p h.1

@@ -1,3 +1,4 @@
 pub mod ExprArms
 pub mod ListArms
 pub mod ElementArms
+pub mod LiteralLemmas

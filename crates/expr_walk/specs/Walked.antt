@@ -1,7 +1,9 @@
 -- Expressions that are walked, and how large they are (Go specification, Expressions).
-use Rattle.std.specs.Prelude.{◌≡◌, ℕ, ◌+◌, List, pos}
+use Rattle.std.specs.Prelude.{◌≡◌, ℕ, ◌+◌, List, is_some, pos, true}
 use Rattle.go_tree.specs.declared.spans.Span.{Span}
 use Rattle.go_tree.specs.Tree.{Expr, ident, int_lit, rune_lit, str_lit, composite, selector, index, slice, call, func_lit, type_operand, unary, binary, star, Exprs, no_exprs, expr_and, ExprOption, no_expr, some_expr, Elems, no_elems, elem, Value, plain, braced, ValueOption, no_value, some_value}
+use Rattle.go_types.specs.Entities.{Env}
+use Rattle.go_types.specs.Typing.{parts}
 use Rattle.go_words.specs.Texts.{text_value}
 use Rattle.const_eval.specs.declared.kinds.Kind.{Kind}
 use Rattle.const_eval.specs.declared.kinds.Kind.TheVariants as kind
@@ -56,6 +58,49 @@ abbrev mutual
   pub IsWalkedKey : ValueOption Span → Type 0
   IsWalkedKey no_value = Unit {0}
   IsWalkedKey (some_value k) = IsWalkedValue k
+
+abbrev mutual
+  -- literals are well spelled, and function literals are typed where they stand
+  pub IsWalkedAt : Env → Expr Span → Type 0
+  IsWalkedAt env (ident _ n) = Unit {0}
+  IsWalkedAt env (int_lit _ s) = IsLiteralOf kind.UntypedInt (number (pos (integer_value s))) s
+  IsWalkedAt env (rune_lit _ s) = IsLiteralOf kind.UntypedRune (literal_value s) s
+  IsWalkedAt env (str_lit _ s) = IsLiteralOf kind.UntypedStr (text (text_value s)) s
+  IsWalkedAt env (composite _ t es) = AreWalkedElemsAt env es
+  IsWalkedAt env (selector _ b n) = IsWalkedAt env b
+  IsWalkedAt env (index _ b i) = IsWalkedAt env b × IsWalkedAt env i
+  IsWalkedAt env (slice _ b i j) = IsWalkedAt env b × IsWalkedOptionAt env i × IsWalkedOptionAt env j
+  IsWalkedAt env (call _ f xs _) = IsWalkedAt env f × AreAllWalkedAt env xs
+  IsWalkedAt env (func_lit s g r b) = is_some (parts env (func_lit s g r b)) ≡ true
+  IsWalkedAt env (type_operand _ t) = Unit {0}
+  IsWalkedAt env (unary _ op e) = IsWalkedAt env e
+  IsWalkedAt env (binary _ op x y) = IsWalkedAt env x × IsWalkedAt env y
+  IsWalkedAt env (star _ e) = IsWalkedAt env e
+
+  -- so of each of a list
+  pub AreAllWalkedAt : Env → Exprs Span → Type 0
+  AreAllWalkedAt env no_exprs = Unit {0}
+  AreAllWalkedAt env (expr_and e es) = IsWalkedAt env e × AreAllWalkedAt env es
+
+  -- so of a bound that may be left out
+  pub IsWalkedOptionAt : Env → ExprOption Span → Type 0
+  IsWalkedOptionAt env no_expr = Unit {0}
+  IsWalkedOptionAt env (some_expr e) = IsWalkedAt env e
+
+  -- so of the keys and values of elements
+  pub AreWalkedElemsAt : Env → Elems Span → Type 0
+  AreWalkedElemsAt env no_elems = Unit {0}
+  AreWalkedElemsAt env (elem _ k v es) = IsWalkedKeyAt env k × IsWalkedValueAt env v × AreWalkedElemsAt env es
+
+  -- so of a key or a value
+  pub IsWalkedValueAt : Env → Value Span → Type 0
+  IsWalkedValueAt env (plain e) = IsWalkedAt env e
+  IsWalkedValueAt env (braced _ es) = AreWalkedElemsAt env es
+
+  -- so of a key that may be left out
+  pub IsWalkedKeyAt : Env → ValueOption Span → Type 0
+  IsWalkedKeyAt env no_value = Unit {0}
+  IsWalkedKeyAt env (some_value k) = IsWalkedValueAt env k
 
 abbrev mutual
   -- how deep the walk over an expression can go: more than over each of its parts

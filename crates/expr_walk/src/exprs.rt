@@ -20,10 +20,10 @@ ghost use Rattle.operand_answers.specs.Known.{Stands};
 ghost use Rattle.operand_answers.specs.Lists.{GivesAll};
 ghost use Rattle.operand_answers.specs.AccessSteps.Bounds.{GivesBound};
 ghost use Rattle.composite_steps.specs.Elements.{GivesElement, GivesElements};
-ghost use Rattle.expr_walk.specs.Walked.{AreAllWalked, AreWalkedElems, IsWalked, IsWalkedKey, IsWalkedOption, IsWalkedValue};
+ghost use Rattle.expr_walk.specs.Walked.{AreAllWalkedAt, AreWalkedElemsAt, IsWalkedAt, IsWalkedKeyAt, IsWalkedOptionAt, IsWalkedValueAt};
 ghost use Rattle.expr_walk.specs.WalkArms.Answers.{GivesExpr};
 
-use crate::walk_arms::package_before;
+use crate::walk_arms::{function_literal, package_before};
 use call_steps::call;
 use checker_tables::{Tables, meant};
 use composite_steps::{
@@ -45,6 +45,7 @@ use typed_names::{Blocks, Scope};
 /// What an expression is, and where it stands: the operand that it is by its parts, or that it isn't
 /// typed. The tables only grow.
 #[cycle(exprs)]
+#[tactic(auto, using(crate::proofs::LaterWalks::walked_later, crate::proofs::LaterWalks::option_later))]
 pub fn expr(
     alloc: Global,
     tables: &mut Tables,
@@ -53,7 +54,8 @@ pub fn expr(
     e: &Expr,
 ) -> Result<Located, Refusal>
     requires stands { Stands tables.old blocks.now scope.now }
-    requires walked { IsWalked (expr_of e.now) }
+    requires walked { IsWalkedAt (env_at tables.old.env tables.old.consts blocks.now scope.now)
+        (expr_of e.now) }
     ensures stands { Stands tables.new blocks.now scope.now }
     ensures keeps { Keeps tables.old tables.new }
     ensures gives { GivesExpr tables.new (env_at tables.old.env tables.old.consts blocks.now scope.now)
@@ -103,7 +105,7 @@ pub fn expr(
             let arguments = all_exprs(alloc, tables, scope, blocks, args);
             call(alloc, tables, function, arguments)
         }
-        Expr::FuncLit { .. } => unreachable!("no function literal is walked"),
+        Expr::FuncLit { sig, .. } => function_literal(alloc, tables, scope, blocks, sig),
     }
 }
 
@@ -117,7 +119,8 @@ fn bound_of(
     e: &Option<Box<Expr>>,
 ) -> Result<Option<Value>, Refusal>
     requires stands { Stands tables.old blocks.now scope.now }
-    requires walked { IsWalkedOption (boxed_expr_option_of e.now) }
+    requires walked { IsWalkedOptionAt (env_at tables.old.env tables.old.consts blocks.now scope.now)
+        (boxed_expr_option_of e.now) }
     ensures stands { Stands tables.new blocks.now scope.now }
     ensures keeps { Keeps tables.old tables.new }
     ensures gives { GivesBound tables.new.env tables.new.consts
@@ -142,7 +145,8 @@ pub fn all_exprs(
     es: &ExprList,
 ) -> Result<OperandList, Refusal>
     requires stands { Stands tables.old blocks.now scope.now }
-    requires walked { AreAllWalked (exprs_of es.now) }
+    requires walked { AreAllWalkedAt (env_at tables.old.env tables.old.consts blocks.now scope.now)
+        (exprs_of es.now) }
     ensures stands { Stands tables.new blocks.now scope.now }
     ensures keeps { Keeps tables.old tables.new }
     ensures gives { GivesAll tables.new.env tables.new.consts
@@ -171,7 +175,8 @@ fn selected(
     name: &NameAt,
 ) -> Result<Located, Refusal>
     requires stands { Stands tables.old blocks.now scope.now }
-    requires walked { IsWalked (expr_of base.now) }
+    requires walked { IsWalkedAt (env_at tables.old.env tables.old.consts blocks.now scope.now)
+        (expr_of base.now) }
     ensures stands { Stands tables.new blocks.now scope.now }
     ensures keeps { Keeps tables.old tables.new }
     ensures gives { (s : Span) → GivesExpr tables.new
@@ -198,7 +203,8 @@ fn composite(
     elems: &ElemList,
 ) -> Result<Located, Refusal>
     requires stands { Stands tables.old blocks.now scope.now }
-    requires walked { AreWalkedElems (elems_of elems.now) }
+    requires walked { AreWalkedElemsAt (env_at tables.old.env tables.old.consts blocks.now scope.now)
+        (elems_of elems.now) }
     ensures stands { Stands tables.new blocks.now scope.now }
     ensures keeps { Keeps tables.old tables.new }
     ensures gives { (s : Span) → GivesExpr tables.new
@@ -226,7 +232,8 @@ fn elements<'a>(
 ) -> Result<ElementList<'a>, Refusal>
     requires stands { Stands tables.old blocks.now scope.now }
     requires of { IsType tables.old.env (Typed t) }
-    requires walked { AreWalkedElems (elems_of elems.now) }
+    requires walked { AreWalkedElemsAt (env_at tables.old.env tables.old.consts blocks.now scope.now)
+        (elems_of elems.now) }
     ensures stands { Stands tables.new blocks.now scope.now }
     ensures keeps { Keeps tables.old tables.new }
     ensures gives { GivesElements tables.new.env tables.new.consts
@@ -256,8 +263,10 @@ fn one_element<'a>(
 ) -> Result<Element<'a>, Refusal>
     requires stands { Stands tables.old blocks.now scope.now }
     requires of { IsType tables.old.env (Typed t) }
-    requires key { IsWalkedKey (held_value_option_of x.now.key) }
-    requires value { IsWalkedValue (value_of x.now.value) }
+    requires key { IsWalkedKeyAt (env_at tables.old.env tables.old.consts blocks.now scope.now)
+        (held_value_option_of x.now.key) }
+    requires value { IsWalkedValueAt (env_at tables.old.env tables.old.consts blocks.now scope.now)
+        (value_of x.now.value) }
     ensures stands { Stands tables.new blocks.now scope.now }
     ensures keeps { Keeps tables.old tables.new }
     ensures gives { GivesElement tables.new.env tables.new.consts
@@ -285,7 +294,8 @@ fn with_key<'a>(
 ) -> Result<Element<'a>, Refusal>
     requires stands { Stands tables.old blocks.now scope.now }
     requires of { IsType tables.old.env (Typed t) }
-    requires walked { IsWalkedKey (held_value_option_of key.now) }
+    requires walked { IsWalkedKeyAt (env_at tables.old.env tables.old.consts blocks.now scope.now)
+        (held_value_option_of key.now) }
     ensures stands { Stands tables.new blocks.now scope.now }
     ensures keeps { Keeps tables.old tables.new }
     ensures gives { (o : Option go_operand.Operand) → GivesOperand tables.old.env tables.old.consts o value
@@ -320,7 +330,8 @@ fn part(
 ) -> Result<Operand, Refusal>
     requires stands { Stands tables.old blocks.now scope.now }
     requires to { IfSome to (λ t. IsType tables.old.env (Typed t)) }
-    requires walked { IsWalkedValue (value_of x.now) }
+    requires walked { IsWalkedValueAt (env_at tables.old.env tables.old.consts blocks.now scope.now)
+        (value_of x.now) }
     ensures stands { Stands tables.new blocks.now scope.now }
     ensures keeps { Keeps tables.old tables.new }
     ensures gives { GivesOperand tables.new.env tables.new.consts
@@ -345,7 +356,8 @@ fn braced(
 ) -> Result<Operand, Refusal>
     requires stands { Stands tables.old blocks.now scope.now }
     requires to { IfSome to (λ t. IsType tables.old.env (Typed t)) }
-    requires walked { AreWalkedElems (elems_of elems.now) }
+    requires walked { AreWalkedElemsAt (env_at tables.old.env tables.old.consts blocks.now scope.now)
+        (elems_of elems.now) }
     ensures stands { Stands tables.new blocks.now scope.now }
     ensures keeps { Keeps tables.old tables.new }
     ensures gives { (s : Span) → GivesOperand tables.new.env tables.new.consts

@@ -2,8 +2,10 @@
 //! specification, Expressions).
 #![tactic(auto)]
 
+mod bodiless;
 mod exprs;
 mod walk_arms;
 
-pub use exprs::{all_exprs, expr};
-pub use walk_arms::package_before;
+pub use bodiless::{all_exprs, expr};
+pub use exprs::{all_exprs as all_exprs_at, expr as expr_at};
+pub use walk_arms::{function_operand, package_before, signature};

@@ -1,7 +1,7 @@
-use Rattle.std.proofs.Common.{◌∙◌, ◌+◌, [], List, IfSome, Ok, Err, Some, arith, drop, map, pos, ap₂, subst, sym}
+use Rattle.std.proofs.Common.{false, ◌∙◌, ◌+◌, [], List, IfSome, Ok, Err, Some, arith, drop, map, pos, ap₂, subst, sym}
 use Rattle.go_tree.specs.Tree as tree
 use Rattle.go_tree.specs.Lists.{elems_from, exprs_from}
-use Rattle.go_tree.specs.View.{boxed_expr_option_of, elem_of, elems_of, expr_of, exprs_of, held_value_option_of, name_at_of, type_of, value_of}
+use Rattle.go_tree.specs.View.{sig_of, stmts_of, boxed_expr_option_of, elem_of, elems_of, expr_of, exprs_of, held_value_option_of, name_at_of, type_of, value_of}
 use Rattle.const_eval.specs.declared.kinds.Kind.TheVariants as kind
 use Rattle.const_eval.specs.Exact.{number, text}
 use Rattle.const_eval.specs.Literals.{integer_value, literal_value}
@@ -9,11 +9,12 @@ use Rattle.go_words.specs.Texts.{text_value}
 use Rattle.go_types.specs.Answers.{given}
 use Rattle.go_types.specs.Defined.{under}
 use Rattle.go_types.specs.Entities as go_entity
-use Rattle.go_types.specs.Entities.{defined_in, exported, meaning}
+use Rattle.go_types.specs.Bodies.{body_binds, body_ctx, is_body}
+use Rattle.go_types.specs.Entities.{defined_in, exported, extend, in_block, meaning}
 use Rattle.go_types.specs.Literals.{built, field_key, is_struct, key_type, keyed, of_field}
 use Rattle.go_types.specs.Operands.{literal_operand, named_operand, named_place, place_by, with_value}
 use Rattle.go_types.specs.Primary as go
-use Rattle.go_types.specs.TypeNames.{type_meant}
+use Rattle.go_types.specs.TypeNames.{func_type, type_meant}
 use Rattle.go_types.specs.Typing as go_typing
 use Rattle.go_types.specs.Typing.{bound}
 use Rattle.type_relations.specs.Environment.{defined_types, env_type}
@@ -25,7 +26,7 @@ use Rattle.operand_modes.specs.Operands.{GivesOperand}
 use Rattle.operand_answers.specs.Lists.{GivesAll}
 use Rattle.operand_answers.specs.Located.{GivesAt}
 use Rattle.operand_answers.proofs.AnswerLemmas.{type_refused_at}
-use Rattle.operand_answers.proofs.KeptLemmas.{stands_kept, there_kept}
+use Rattle.operand_answers.proofs.KeptLemmas.{env_kept, stands_kept, there_kept}
 use Rattle.operand_answers.specs.AccessSteps.Bounds.{GivesBound}
 use Rattle.call_steps.proofs.CallSteps.{arguments_there}
 use Rattle.name_steps.specs.Spelled.{IsSpelled}
@@ -36,10 +37,12 @@ use Rattle.composite_steps.proofs.ElementLemmas.{elements_there, operand_kept}
 use Rattle.expr_walk.specs.WalkArms.Answers.{GivesExpr}
 use Rattle.expr_walk.specs.WalkArms.Elements.{AreElementsWalked}
 use Rattle.expr_walk.specs.WalkArms.Lists.{AreWalked}
-use Rattle.expr_walk.specs.Walked.{AreAllWalked, AreWalkedElems, IsWalked}
+use Rattle.expr_walk.specs.Walked.{AreAllWalkedAt, AreWalkedElemsAt, IsWalkedAt, IsWalkedKeyAt}
 use Rattle.expr_walk.proofs.WalkArms.ElementArms.{braced_arm, composite_arm, element_arm, elements_end, elements_fails, elements_more, elements_start, key_else, key_then, one, type_kept}
 use Rattle.expr_walk.proofs.WalkArms.ExprArms.{at, binary_arm, bound_arm, call_arm, expr_there, index_arm, literal_arm, no_span, package_arm, selector_arm, slice_arm, star_arm, unary_arm}
-use Rattle.expr_walk.proofs.Parts.{elem_smaller, elem_walked, expr_smaller, expr_walked}
+use Rattle.expr_walk.proofs.LaterWalks.{all_later}
+use Rattle.expr_walk.proofs.WalkArms.LiteralLemmas.{literal_is}
+use Rattle.expr_walk.proofs.Parts.{elem_smaller, elem_walked_at, expr_smaller, expr_walked_at}
 use Rattle.expr_walk.proofs.WalkArms.ListArms.{walk_ends, walk_fails, walk_more, walk_pushed, walk_start}
 use Rattle.expr_walk.proofs.exprs.+exprs.Goals as goal
 
@@ -64,7 +67,7 @@ expr-returns-in-IntLit-clause-gives t c =
     let n = c.literal.new.tables in
     let a = at c.args.tables.now c.args.blocks.now c.args.scope.now in
     let s = c.in-IntLit.spelling in
-    let w = subst (λ x. IsWalked (expr_of x)) c.in-IntLit.is c.requires.walked in
+    let w = subst (λ x. IsWalkedAt (at c.args.tables.now c.args.blocks.now c.args.scope.now) (expr_of x)) c.in-IntLit.is c.requires.walked in
     subst (λ x. GivesExpr n a (expr_of x) c.literal.result) (sym c.in-IntLit.is)
     (literal_arm c.args.tables.now c.args.blocks.now c.args.scope.now n kind.UntypedInt (number (pos (integer_value s))) s c.literal.result w.value
     (subst (λ s. GivesAt n.env n.consts (literal_operand kind.UntypedInt (literal_value s)) go_entity.elsewhere c.literal.result)
@@ -72,7 +75,7 @@ expr-returns-in-IntLit-clause-gives t c =
 
 pub expr-literal-requires : goal.expr-literal-requires
 expr-literal-requires t c =
-    let w = subst (λ x. IsWalked (expr_of x)) c.in-IntLit.is c.requires.walked in
+    let w = subst (λ x. IsWalkedAt (at c.args.tables.now c.args.blocks.now c.args.scope.now) (expr_of x)) c.in-IntLit.is c.requires.walked in
     record {
       ready = c.requires.stands.ready;
       spelled = subst (IsSpelled kind.UntypedInt) (sym c.items-in-IntLit.ensures) w.spelled;
@@ -87,7 +90,7 @@ expr-returns-in-RuneLit-clause-gives t c =
     let n = c.literal-in-RuneLit.new.tables in
     let a = at c.args.tables.now c.args.blocks.now c.args.scope.now in
     let s = c.in-RuneLit.spelling in
-    let w = subst (λ x. IsWalked (expr_of x)) c.in-RuneLit.is c.requires.walked in
+    let w = subst (λ x. IsWalkedAt (at c.args.tables.now c.args.blocks.now c.args.scope.now) (expr_of x)) c.in-RuneLit.is c.requires.walked in
     subst (λ x. GivesExpr n a (expr_of x) c.literal-in-RuneLit.result) (sym c.in-RuneLit.is)
     (literal_arm c.args.tables.now c.args.blocks.now c.args.scope.now n kind.UntypedRune (literal_value s) s c.literal-in-RuneLit.result w.value
     (subst (λ s. GivesAt n.env n.consts (literal_operand kind.UntypedRune (literal_value s)) go_entity.elsewhere c.literal-in-RuneLit.result)
@@ -95,7 +98,7 @@ expr-returns-in-RuneLit-clause-gives t c =
 
 pub expr-literal-requires-in-RuneLit : goal.expr-literal-requires-in-RuneLit
 expr-literal-requires-in-RuneLit t c =
-    let w = subst (λ x. IsWalked (expr_of x)) c.in-RuneLit.is c.requires.walked in
+    let w = subst (λ x. IsWalkedAt (at c.args.tables.now c.args.blocks.now c.args.scope.now) (expr_of x)) c.in-RuneLit.is c.requires.walked in
     record {
       ready = c.requires.stands.ready;
       spelled = subst (IsSpelled kind.UntypedRune) (sym c.items-in-RuneLit.ensures) w.spelled;
@@ -110,7 +113,7 @@ expr-returns-in-StrLit-clause-gives t c =
     let n = c.literal-in-StrLit.new.tables in
     let a = at c.args.tables.now c.args.blocks.now c.args.scope.now in
     let s = c.in-StrLit.spelling in
-    let w = subst (λ x. IsWalked (expr_of x)) c.in-StrLit.is c.requires.walked in
+    let w = subst (λ x. IsWalkedAt (at c.args.tables.now c.args.blocks.now c.args.scope.now) (expr_of x)) c.in-StrLit.is c.requires.walked in
     subst (λ x. GivesExpr n a (expr_of x) c.literal-in-StrLit.result) (sym c.in-StrLit.is)
     (literal_arm c.args.tables.now c.args.blocks.now c.args.scope.now n kind.UntypedStr (text (text_value s)) s c.literal-in-StrLit.result w.value
     (subst (λ s. GivesAt n.env n.consts (literal_operand kind.UntypedStr (literal_value s)) go_entity.elsewhere c.literal-in-StrLit.result)
@@ -118,7 +121,7 @@ expr-returns-in-StrLit-clause-gives t c =
 
 pub expr-literal-requires-in-StrLit : goal.expr-literal-requires-in-StrLit
 expr-literal-requires-in-StrLit t c =
-    let w = subst (λ x. IsWalked (expr_of x)) c.in-StrLit.is c.requires.walked in
+    let w = subst (λ x. IsWalkedAt (at c.args.tables.now c.args.blocks.now c.args.scope.now) (expr_of x)) c.in-StrLit.is c.requires.walked in
     record {
       ready = c.requires.stands.ready;
       spelled = subst (IsSpelled kind.UntypedStr) (sym c.items-in-StrLit.ensures) w.spelled;
@@ -487,7 +490,12 @@ composite-elements-list-requires t c =
       omega (arith, c.decreases),
       (
         stands_kept k c.meant.new.tables c.meant.ensures.keeps c.args.blocks.now c.args.scope.now c.requires.stands c.meant.ensures.ready,
-        ((c.in-Ok.ensures.gives k.consts).0, c.requires.walked),
+        (
+          (c.in-Ok.ensures.gives k.consts).0,
+          subst (λ env. AreWalkedElemsAt env (elems_of c.args.elems.now))
+              (sym (env_kept k c.meant.new.tables c.meant.ensures.keeps c.args.blocks.now c.args.scope.now c.requires.stands))
+              c.requires.walked,
+        ),
       ),
     )
 
@@ -496,8 +504,13 @@ elements-one_element-requires t c =
     let items = c.items-x-items.result.now in
     let item = c.x-item.result in
     let d = rw c.items-x-items.ensures.seen at c.decreases in
-    let w = elem_walked items c.loop-x.x-index item c.loop-x-test.true c.x-item.is
-    (subst AreWalkedElems c.items-x-items.ensures.seen c.requires.walked) in (
+    let k = c.args.tables.now in
+    let a = at c.loop-x.tables c.args.blocks.now c.args.scope.now in
+    let w = elem_walked_at a items c.loop-x.x-index item c.loop-x-test.true c.x-item.is
+    (subst (AreWalkedElemsAt a) c.items-x-items.ensures.seen
+    (subst (λ env. AreWalkedElemsAt env (elems_of c.args.elems.now))
+    (sym (env_kept k c.loop-x.tables c.loop-x.invariant.keeps c.args.blocks.now c.args.scope.now c.requires.stands))
+    c.requires.walked)) in (
       omega (arith, d, elem_smaller items c.loop-x.x-index item c.loop-x-test.true c.x-item.is),
       (
         c.loop-x.invariant.stands,
@@ -510,7 +523,12 @@ one_element-with_key-requires t c = (
   omega (arith, c.decreases),
   (
     c.part-value.ensures.stands,
-    (type_kept c.args.tables.now c.part-value.new.tables c.part-value.ensures.keeps c.args.t c.requires.of, c.requires.key),
+    (
+      type_kept c.args.tables.now c.part-value.new.tables c.part-value.ensures.keeps c.args.t c.requires.of,
+      subst (λ env. IsWalkedKeyAt env (held_value_option_of c.args.x.now.key))
+          (sym (env_kept c.args.tables.now c.part-value.new.tables c.part-value.ensures.keeps c.args.blocks.now c.args.scope.now c.requires.stands))
+          c.requires.key,
+    ),
   ),
 )
 
@@ -554,8 +572,12 @@ all_exprs-expr-requires t c =
       omega (arith, d, expr_smaller items c.loop-e.e-index item c.loop-e-test.true c.e-item.is),
       (
         c.loop-e.invariant.stands,
-        expr_walked items c.loop-e.e-index item c.loop-e-test.true c.e-item.is
-            (subst AreAllWalked c.items-e-items.ensures.seen c.requires.walked),
+        expr_walked_at (at c.loop-e.tables c.args.blocks.now c.args.scope.now) items c.loop-e.e-index item c.loop-e-test.true
+            c.e-item.is
+            (subst (AreAllWalkedAt (at c.loop-e.tables c.args.blocks.now c.args.scope.now)) c.items-e-items.ensures.seen
+            (subst (λ env. AreAllWalkedAt env (exprs_of c.args.es.now))
+            (sym (env_kept c.args.tables.now c.loop-e.tables c.loop-e.invariant.keeps c.args.blocks.now c.args.scope.now c.requires.stands))
+            c.requires.walked)),
       ),
     )
 
@@ -622,3 +644,33 @@ all_exprs-returns-clause-gives t c =
     (walk_ends k n bs s all list
     (subst (λ xs. AreWalked k n bs s all (exprs_from (map expr_of xs)) list.operands.items list.places.items)
     (drop_all items c.loop-e.e-index c.loop-e-test.false) c.loop-e.invariant))
+
+-- ---- function literals
+
+pub expr-returns-in-FuncLit-clause-gives : goal.expr-returns-in-FuncLit-clause-gives
+expr-returns-in-FuncLit-clause-gives t c =
+    let n = c.function_literal.new.tables in
+    let a = at c.args.tables.now c.args.blocks.now c.args.scope.now in
+    let g = sig_of c.in-FuncLit.sig in
+    let b = stmts_of c.in-FuncLit.body.stmts in
+    subst (λ x. GivesExpr n a (expr_of x) c.function_literal.result) (sym c.in-FuncLit.is)
+    (subst (λ o. GivesAt n.env n.consts o go_entity.elsewhere c.function_literal.result)
+    (sym
+    (literal_is (func_type a g) (body_binds [] g)
+    (λ f bs. is_body f b (go_typing.stmts (body_ctx g f) (extend bs (in_block a)) false b))
+    (subst (λ x. IsWalkedAt a (expr_of x)) c.in-FuncLit.is c.requires.walked)))
+    c.function_literal.ensures.gives)
+
+pub expr-all_exprs-arguments-requires : goal.expr-all_exprs-arguments-requires
+expr-all_exprs-arguments-requires t c =
+    let k = c.args.tables.now in
+    let a = at k c.args.blocks.now c.args.scope.now in
+    let d = rw c.in-Call.is at c.decreases in
+    let w = subst (λ x. IsWalkedAt a (expr_of x)) c.in-Call.is c.requires.walked in (
+      omega (arith, d),
+      (
+        c.expr-function.ensures.stands,
+        all_later k c.expr-function.new.tables c.expr-function.ensures.keeps c.args.blocks.now c.args.scope.now
+            c.requires.stands (exprs_of c.in-Call.args) w.1,
+      ),
+    )
