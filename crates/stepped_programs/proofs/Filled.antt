@@ -22,7 +22,7 @@ use Rattle.run_rules.specs.Sites.{MarkRef, Site}
 use Rattle.run_rules.specs.Steps.{At, change_nth}
 use Rattle.searched_sites.proofs.SettledFiles.Packages.{block_now, placed}
 use Rattle.use_search.proofs.UsesOfMarks.BlocksStay.{block_stays}
-use Rattle.stepped_values.specs.Filled.{IsFilledAnew}
+use Rattle.stepped_programs.specs.SteppedValues.Filled.{IsFilledAnew}
 use Rattle.stepped_programs.specs.declared.place.StepPlace.{StepPlace}
 use Rattle.stepped_programs.specs.Steps.{IsStepPut}
 use Rattle.stepped_programs.specs.Laws.{IsOfStep, StepsFillValues}

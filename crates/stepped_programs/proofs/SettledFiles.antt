@@ -13,8 +13,8 @@ use Rattle.run_rules.specs.Sites.{MarkRef, Where}
 use Rattle.run_rules.specs.Steps.{At}
 use Rattle.searched_sites.specs.OrderedSearches.Held.{IsThere, AreAllSettled, flag_of}
 use Rattle.searched_sites.specs.SettledFiles.Left.{MayStaySet}
-use Rattle.stepped_values.specs.Flags.{IsKeptProgram, SettledFlagsStay}
-use Rattle.stepped_values.specs.OfSteps.{decl_of_step}
+use Rattle.stepped_programs.specs.SteppedValues.Flags.{IsKeptProgram, SettledFlagsStay}
+use Rattle.stepped_programs.specs.SteppedValues.OfSteps.{decl_of_step}
 use Rattle.stepped_programs.specs.declared.place.StepPlace.{StepPlace}
 use Rattle.stepped_programs.specs.Steps.{key_at, IsStepPut}
 use Rattle.stepped_programs.specs.Laws.{IsOfStep, StepsKeepSettled, flags_of, users_of}

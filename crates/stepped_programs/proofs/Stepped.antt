@@ -28,7 +28,7 @@ use Rattle.run_rules.specs.Steps.{At}
 use Rattle.run_rules.specs.Texts.{FileText}
 use Rattle.searched_sites.proofs.SettledFiles.Packages.{placed}
 use Rattle.searched_sites.proofs.SettledFiles.Stay.{tables_stay}
-use Rattle.stepped_values.specs.Filled.{ConstantsStayMarked, ValuesAreToldAfterSteps}
+use Rattle.stepped_programs.specs.SteppedValues.Filled.{ConstantsStayMarked, ValuesAreToldAfterSteps}
 use Rattle.stepped_programs.specs.declared.place.StepPlace.{StepPlace}
 use Rattle.stepped_programs.specs.Steps.{IsStepPut}
 use Rattle.stepped_programs.specs.Laws.{IsOfStep, StepsKeepPrograms}

@@ -43,8 +43,8 @@ use Rattle.searched_sites.specs.OrderedSearches.Held.{IsThere, AreAllSettled, fl
 use Rattle.searched_sites.specs.SettledFiles.Left.{MayStaySet}
 use Rattle.searched_sites.specs.SwappedParts.Swaps.{HasNoDot}
 use Rattle.standing_uses.specs.ImportUses.Parts.{EachSeen}
-use Rattle.stepped_values.specs.Filled.{IsFilledAnew}
-use Rattle.stepped_values.specs.Flags.{IsKeptProgram}
+use Rattle.stepped_programs.specs.SteppedValues.Filled.{IsFilledAnew}
+use Rattle.stepped_programs.specs.SteppedValues.Flags.{IsKeptProgram}
 use Rattle.stepped_programs.specs.declared.place.StepPlace.{StepPlace}
 use Rattle.stepped_programs.specs.SwappedOrigins.{swapped}
 use Rattle.stepped_programs.specs.Steps.{key_at, AreSwapped, MayBePut, IsStepPut}

@@ -1,3 +1,4 @@
+pub mod SteppedValues
 pub mod Texts
 pub mod Flags
 pub mod SwappedOrigins

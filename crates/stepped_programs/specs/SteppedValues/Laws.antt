@@ -1,0 +1,26 @@
+-- The law of marked constants after a step. It is the contract of a function of this crate (Go specification, Constant
+-- declarations; Import declarations; Declarations and scope).
+use Rattle.std.specs.Prelude.{◌≡◌, false, List, []}
+use Rattle.go_translation.specs.SameMeaning.{WellTyped}
+use Rattle.order_runs.specs.RunSteps.RunPackages.{packages_of}
+use Rattle.run_rules.specs.Run.{Standing, Logged, Next}
+use Rattle.run_rules.specs.Sites.{MarkRef}
+use Rattle.mark_values.specs.Tables.{DeclKey, Known, same_key, values_at}
+use Rattle.marked_runs.specs.KeptMarks.Over.{IsOverName}
+use Rattle.marked_runs.specs.NamedMarks.Named.{AllNamed}
+use Rattle.marked_runs.specs.SettledConstants.Programs.{IsReady}
+use Rattle.programs.specs.Programs.{TellsValues}
+use Rattle.searched_sites.specs.SettledFiles.Left.{TellOthersTheSame}
+use Rattle.stepped_programs.specs.SteppedValues.OfSteps.{is_of_step, decl_of_step}
+
+-- In programs that are ready and typed, whose marks are those of constants that are declared as names, two tables that
+-- tell what these are declared as, before a step and after it, tell the same of all but those in the declaration of the
+-- use, if they have the same of other files.
+abbrev pub MarkedValuesStay : Type 0
+MarkedValuesStay =
+    (marks : List MarkRef) (st : Standing) (l : Logged) (after : Standing) (n : Next marks st l after)
+    (old new : Known) → IsReady st → IsReady after → WellTyped (packages_of st.packages [])
+    → WellTyped (packages_of after.packages []) → AllNamed st.packages marks → IsOverName n
+    → TellsValues marks st.packages old → TellsValues marks after.packages new
+    → ((q : DeclKey) → is_of_step n.found q ≡ false → values_at q new ≡ values_at q old)
+    → TellOthersTheSame marks (same_key (decl_of_step n.found)) old new

@@ -1,6 +1,0 @@
-use Rattle.stepped_values.proofs.Others.{others_stay}
-use Rattle.stepped_values.proofs.laws.marked_values_stay.Goals as goal
-
-pub returns : goal.returns
-returns c =
-    others_stay c.well_typed_files_are_scoped.ensures.scoped c.constants_name_members.ensures c.marks_stay_named.ensures.stay c.constants_settle.ensures.writes
