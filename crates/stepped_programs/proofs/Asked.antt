@@ -31,8 +31,8 @@ use Rattle.run_rules.specs.Respanned.{file_with, package_with, packages_with}
 use Rattle.run_rules.specs.Run.{Standing, Logged, Next, here_of, texts_size}
 use Rattle.run_rules.specs.Sites.{MarkRef, Site}
 use Rattle.run_rules.specs.Steps.{At, change_nth}
-use Rattle.searched_sites.proofs.KeptPrograms.Kept.{There, there, got}
-use Rattle.searched_sites.proofs.SettledFiles.Packages.{paths_now}
+use Rattle.stepped_programs.proofs.SearchedSites.KeptPrograms.Kept.{There, there, got}
+use Rattle.stepped_programs.proofs.SearchedSites.SettledFiles.Packages.{paths_now}
 use Rattle.step_counts.proofs.Steps.{texts_within}
 use Rattle.stepped_programs.specs.declared.place.StepPlace.{StepPlace}
 use Rattle.stepped_programs.specs.Texts.{HoldsFile}

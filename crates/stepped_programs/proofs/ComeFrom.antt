@@ -23,9 +23,9 @@ use Rattle.run_rules.specs.Respanned.{expr_with, type_with, decl_with, decls_wit
 use Rattle.run_rules.specs.Run.{Standing, Logged, Next, origin_of}
 use Rattle.run_rules.specs.Sites.{MarkRef, Part, an_expr, a_type_part, Site, part_span, type_span}
 use Rattle.run_rules.specs.Steps.{At, same_here, changes_for, new_decl, new_decls}
-use Rattle.searched_sites.proofs.KeptPrograms.Kept.{set_here, set_else, nat_cases}
+use Rattle.stepped_programs.proofs.SearchedSites.KeptPrograms.Kept.{set_here, set_else, nat_cases}
 use Rattle.stepped_programs.proofs.Lists.{put_image}
-use Rattle.searched_sites.proofs.SettledFiles.Packages.{placed}
+use Rattle.stepped_programs.proofs.SearchedSites.SettledFiles.Packages.{placed}
 use Rattle.stepped_programs.specs.declared.place.StepPlace.{StepPlace}
 use Rattle.stepped_programs.specs.SwappedOrigins.{IsOriginPut}
 use Rattle.stepped_programs.specs.Steps.{IsStepPut}

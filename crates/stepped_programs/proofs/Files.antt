@@ -11,11 +11,11 @@ use Rattle.run_laws.specs.Reading.{ProgramReads}
 use Rattle.run_rules.specs.Run.{Standing, Logged, Next}
 use Rattle.run_rules.specs.Sites.{MarkRef, Where}
 use Rattle.run_rules.specs.Steps.{At}
-use Rattle.searched_sites.specs.OrderedSearches.Held.{IsThere}
-use Rattle.searched_sites.proofs.KeptPrograms.Kept.{There, there}
-use Rattle.searched_sites.specs.SettledFiles.Left.{IsLeft}
-use Rattle.searched_sites.proofs.SettledFiles.Left.{source_same}
-use Rattle.searched_sites.proofs.SettledFiles.Stay.{WasThere, was_there}
+use Rattle.stepped_programs.specs.SearchedSites.OrderedSearches.Held.{IsThere}
+use Rattle.stepped_programs.proofs.SearchedSites.KeptPrograms.Kept.{There, there}
+use Rattle.stepped_programs.specs.SearchedSites.SettledFiles.Left.{IsLeft}
+use Rattle.stepped_programs.proofs.SearchedSites.SettledFiles.Left.{source_same}
+use Rattle.stepped_programs.proofs.SearchedSites.SettledFiles.Stay.{WasThere, was_there}
 
 -- where a file stands
 abbrev pub standing_at : ℕ → ℕ → Package At → SourceTree At → Where At

@@ -20,7 +20,7 @@ use Rattle.run_rules.specs.Respanned.{source_with, package_with, packages_with}
 use Rattle.run_rules.specs.Run.{Standing, Logged, Next, here_of}
 use Rattle.run_rules.specs.Sites.{MarkRef, Site}
 use Rattle.run_rules.specs.Steps.{At, change_nth}
-use Rattle.searched_sites.proofs.SettledFiles.Packages.{block_now, placed}
+use Rattle.stepped_programs.proofs.SearchedSites.SettledFiles.Packages.{block_now, placed}
 use Rattle.use_search.proofs.UsesOfMarks.BlocksStay.{block_stays}
 use Rattle.stepped_programs.specs.SteppedValues.Filled.{IsFilledAnew}
 use Rattle.stepped_programs.specs.declared.place.StepPlace.{StepPlace}

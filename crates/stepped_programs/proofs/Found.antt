@@ -33,10 +33,10 @@ use Rattle.run_rules.specs.Texts.{FileText}
 use Rattle.use_search.specs.UsesOfMarks.Laws.{IsSound, EachSound}
 use Rattle.use_search.specs.UsesOfMarks.Uses.{PlacedMark}
 use Rattle.use_search.specs.Answers.{names_of}
-use Rattle.searched_sites.specs.FoundSteps.Laws.{step_of}
-use Rattle.searched_sites.specs.OrderedSearches.Found.{IsFoundFirst}
-use Rattle.searched_sites.specs.SwappedParts.Swaps.{HasNoDot}
-use Rattle.searched_sites.proofs.SettledFiles.Packages.{placed}
+use Rattle.stepped_programs.specs.SearchedSites.FoundSteps.Laws.{step_of}
+use Rattle.stepped_programs.specs.SearchedSites.OrderedSearches.Found.{IsFoundFirst}
+use Rattle.stepped_programs.specs.SearchedSites.SwappedParts.Swaps.{HasNoDot}
+use Rattle.stepped_programs.proofs.SearchedSites.SettledFiles.Packages.{placed}
 use Rattle.standing_uses.specs.ImportUses.Parts.{EachSeen}
 use Rattle.stepped_programs.specs.Steps.{AreSwapped}
 use Rattle.stepped_programs.specs.Laws.{IsPlaceOf, PutsName, IsOfStep, place_of, IsUndotted, FoundUsesArePut}

@@ -26,7 +26,7 @@ use Rattle.run_rules.specs.Respanned.{decl_with, file_with, source_with, package
 use Rattle.run_rules.specs.Run.{Standing, Logged, Next, here_of}
 use Rattle.run_rules.specs.Sites.{MarkRef, Site, part_span}
 use Rattle.run_rules.specs.Steps.{At}
-use Rattle.searched_sites.proofs.SettledFiles.Packages.{placed}
+use Rattle.stepped_programs.proofs.SearchedSites.SettledFiles.Packages.{placed}
 use Rattle.stepped_programs.specs.declared.place.StepPlace.{StepPlace}
 use Rattle.stepped_programs.specs.SwappedOrigins.{swapped}
 use Rattle.stepped_programs.specs.Steps.{key_at, file_spans, spans_at, AreSwapped}

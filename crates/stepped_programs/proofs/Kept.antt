@@ -23,10 +23,10 @@ use Rattle.run_rules.specs.Run.{Standing, Logged, Next, here_of}
 use Rattle.run_rules.specs.Sites.{MarkRef, Site}
 use Rattle.run_rules.specs.Steps.{At}
 use Rattle.run_rules.specs.Texts.{FileText}
-use Rattle.searched_sites.proofs.KeptPrograms.Kept.{There, there, set_here, set_else, nat_cases}
+use Rattle.stepped_programs.proofs.SearchedSites.KeptPrograms.Kept.{There, there, set_here, set_else, nat_cases}
 use Rattle.stepped_programs.proofs.Lists.{as_many}
-use Rattle.searched_sites.proofs.SettledFiles.Left.{text_same}
-use Rattle.searched_sites.proofs.SettledFiles.Packages.{Before, changed}
+use Rattle.stepped_programs.proofs.SearchedSites.SettledFiles.Left.{text_same}
+use Rattle.stepped_programs.proofs.SearchedSites.SettledFiles.Packages.{Before, changed}
 use Rattle.stepped_programs.specs.declared.place.StepPlace.{StepPlace}
 use Rattle.stepped_programs.specs.Texts.{ArePut}
 use Rattle.stepped_programs.specs.Flags.{AreUnsettled, IsUnsettled}

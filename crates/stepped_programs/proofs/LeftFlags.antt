@@ -15,9 +15,9 @@ use Rattle.programs.specs.declared.state.Program.{Program}
 use Rattle.run_rules.specs.Run.{Standing, Logged, Next}
 use Rattle.run_rules.specs.Sites.{MarkRef, Where}
 use Rattle.run_rules.specs.Steps.{At}
-use Rattle.searched_sites.specs.OrderedSearches.Held.{flag_of}
-use Rattle.searched_sites.specs.SettledFiles.Left.{MayStaySet}
-use Rattle.searched_sites.proofs.KeptPrograms.Kept.{There, there, set_here, set_else, nat_cases}
+use Rattle.stepped_programs.specs.SearchedSites.OrderedSearches.Held.{flag_of}
+use Rattle.stepped_programs.specs.SearchedSites.SettledFiles.Left.{MayStaySet}
+use Rattle.stepped_programs.proofs.SearchedSites.KeptPrograms.Kept.{There, there, set_here, set_else, nat_cases}
 use Rattle.stepped_programs.specs.declared.place.StepPlace.{StepPlace}
 use Rattle.stepped_programs.specs.Texts.{ArePut}
 use Rattle.stepped_programs.specs.Flags.{AreUnsettled, IsUnsettled}

@@ -1,3 +1,4 @@
+pub mod SearchedSites
 pub mod SteppedValues
 pub mod Lists
 pub mod Packages

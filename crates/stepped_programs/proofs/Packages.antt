@@ -16,7 +16,7 @@ use Rattle.run_rules.specs.Respanned.{source_with, file_with, package_with, pack
 use Rattle.run_rules.specs.Run.{Standing, Logged, Next, here_of}
 use Rattle.run_rules.specs.Sites.{MarkRef, Site}
 use Rattle.run_rules.specs.Steps.{At, change_nth}
-use Rattle.searched_sites.proofs.SettledFiles.Packages.{map_same, placed, with_tree, in_package}
+use Rattle.stepped_programs.proofs.SearchedSites.SettledFiles.Packages.{map_same, placed, with_tree, in_package}
 use Rattle.stepped_programs.proofs.Lists.{with_images, as_many, change_here}
 
 module _ (marks : List MarkRef) (st : Standing) (l : Logged) (after : Standing) (n : Next marks st l after) where

@@ -11,8 +11,8 @@ use Rattle.programs.specs.declared.state.Program.{Program}
 use Rattle.run_rules.specs.Run.{Standing, Logged, Next}
 use Rattle.run_rules.specs.Sites.{MarkRef, Where}
 use Rattle.run_rules.specs.Steps.{At}
-use Rattle.searched_sites.specs.OrderedSearches.Held.{IsThere, AreAllSettled, flag_of}
-use Rattle.searched_sites.specs.SettledFiles.Left.{MayStaySet}
+use Rattle.stepped_programs.specs.SearchedSites.OrderedSearches.Held.{IsThere, AreAllSettled, flag_of}
+use Rattle.stepped_programs.specs.SearchedSites.SettledFiles.Left.{MayStaySet}
 use Rattle.stepped_programs.specs.SteppedValues.Flags.{IsKeptProgram, SettledFlagsStay}
 use Rattle.stepped_programs.specs.SteppedValues.OfSteps.{decl_of_step}
 use Rattle.stepped_programs.specs.declared.place.StepPlace.{StepPlace}

@@ -26,8 +26,8 @@ use Rattle.run_rules.specs.Run.{Standing, Logged, Next, here_of, module_file_siz
 use Rattle.run_rules.specs.Sites.{MarkRef, Site}
 use Rattle.run_rules.specs.Steps.{At}
 use Rattle.run_rules.specs.Texts.{FileText}
-use Rattle.searched_sites.proofs.SettledFiles.Packages.{placed}
-use Rattle.searched_sites.proofs.SettledFiles.Stay.{tables_stay}
+use Rattle.stepped_programs.proofs.SearchedSites.SettledFiles.Packages.{placed}
+use Rattle.stepped_programs.proofs.SearchedSites.SettledFiles.Stay.{tables_stay}
 use Rattle.stepped_programs.specs.SteppedValues.Filled.{ConstantsStayMarked, ValuesAreToldAfterSteps}
 use Rattle.stepped_programs.specs.declared.place.StepPlace.{StepPlace}
 use Rattle.stepped_programs.specs.Steps.{IsStepPut}

@@ -25,11 +25,11 @@ use Rattle.run_rules.specs.Run.{Standing, Logged, Next, here_of, origin_of}
 use Rattle.run_rules.specs.Sites.{MarkRef, Part, an_expr, Site, part_span}
 use Rattle.run_rules.specs.Steps.{At, same_here, change_nth, changes_for, new_decl}
 use Rattle.run_rules.specs.Surroundings.{Place, is_old}
-use Rattle.searched_sites.specs.SwappedParts.Swaps.{PartsSwap, parts_in, spans_in}
-use Rattle.searched_sites.proofs.SwappedParts.Decls.{swap_parts}
-use Rattle.searched_sites.proofs.ToldOrigins.Parts.{is_new}
-use Rattle.searched_sites.proofs.SwappedParts.Keeps.{spans_of}
-use Rattle.searched_sites.proofs.ToldOrigins.Told.{same_named, is_same, itself, standing, parts_stand, local, stands_alone}
+use Rattle.stepped_programs.specs.SearchedSites.SwappedParts.Swaps.{PartsSwap, parts_in, spans_in}
+use Rattle.stepped_programs.proofs.SearchedSites.SwappedParts.Decls.{swap_parts}
+use Rattle.stepped_programs.proofs.SearchedSites.ToldOrigins.Parts.{is_new}
+use Rattle.stepped_programs.proofs.SearchedSites.SwappedParts.Keeps.{spans_of}
+use Rattle.stepped_programs.proofs.SearchedSites.ToldOrigins.Told.{same_named, is_same, itself, standing, parts_stand, local, stands_alone}
 use Rattle.standing_uses.specs.ImportUses.Parts as parts
 use Rattle.standing_uses.specs.ImportUses.Parts.{IsName}
 use Rattle.standing_uses.specs.Laws.{IsNamedOnce}

@@ -8,7 +8,7 @@ use Rattle.mark_values.specs.Tables.{DeclKey}
 use Rattle.package_search.specs.Search.{is_settled}
 use Rattle.programs.specs.Users.{Known, is_user}
 use Rattle.programs.specs.declared.state.PackageFiles.{PackageFiles}
-use Rattle.searched_sites.proofs.KeptPrograms.Kept.{set_here, set_else, nat_cases}
+use Rattle.stepped_programs.proofs.SearchedSites.KeptPrograms.Kept.{set_here, set_else, nat_cases}
 use Rattle.stepped_programs.specs.Flags.{IsLeftSettled, AreLeftSettled, IsUnsettled, AreUnsettled}
 
 below : (i n : ℕ) → (i < n) ⊎ (n ≤ i)

@@ -19,7 +19,7 @@ use Rattle.programs.specs.declared.state.Program.{Program}
 use Rattle.run_rules.specs.Steps.{change_nth}
 use Rattle.stepped_programs.specs.declared.place.StepPlace.{StepPlace}
 use Rattle.stepped_programs.specs.Steps.{HoldsSource, MayBePut}
-use Rattle.searched_sites.proofs.KeptPrograms.Kept.{There, there}
+use Rattle.stepped_programs.proofs.SearchedSites.KeptPrograms.Kept.{There, there}
 use Rattle.stepped_programs.proofs.Lists.{as_many, change_here}
 use Rattle.stepped_programs.proofs.Packages.{paths_same, found_same}
 

@@ -37,11 +37,11 @@ use Rattle.run_rules.specs.Run.{Standing, Logged, Next, here_of, origin_of}
 use Rattle.run_rules.specs.Sites.{MarkRef, Where, Site, an_expr, a_constant, inlinable, part_span}
 use Rattle.run_rules.specs.Steps.{At, same_here}
 use Rattle.run_rules.specs.Texts.{FileText}
-use Rattle.searched_sites.specs.FoundSteps.Laws.{step_of}
-use Rattle.searched_sites.specs.OrderedSearches.Found.{IsFoundFirst}
-use Rattle.searched_sites.specs.OrderedSearches.Held.{IsThere, AreAllSettled, flag_of}
-use Rattle.searched_sites.specs.SettledFiles.Left.{MayStaySet}
-use Rattle.searched_sites.specs.SwappedParts.Swaps.{HasNoDot}
+use Rattle.stepped_programs.specs.SearchedSites.FoundSteps.Laws.{step_of}
+use Rattle.stepped_programs.specs.SearchedSites.OrderedSearches.Found.{IsFoundFirst}
+use Rattle.stepped_programs.specs.SearchedSites.OrderedSearches.Held.{IsThere, AreAllSettled, flag_of}
+use Rattle.stepped_programs.specs.SearchedSites.SettledFiles.Left.{MayStaySet}
+use Rattle.stepped_programs.specs.SearchedSites.SwappedParts.Swaps.{HasNoDot}
 use Rattle.standing_uses.specs.ImportUses.Parts.{EachSeen}
 use Rattle.stepped_programs.specs.SteppedValues.Filled.{IsFilledAnew}
 use Rattle.stepped_programs.specs.SteppedValues.Flags.{IsKeptProgram}

@@ -1,3 +1,4 @@
+pub mod SearchedSites
 pub mod SteppedValues
 pub mod Texts
 pub mod Flags

@@ -6,6 +6,7 @@ mod flags;
 mod laws;
 mod origins;
 mod place;
+mod searched_sites;
 mod stepped_values;
 mod steps;
 mod swapped;
@@ -13,5 +14,15 @@ mod texts;
 
 pub use laws::{origins_are_swapped, steps_keep_programs, steps_keep_settled, steps_may_be_put};
 pub use place::StepPlace;
+pub use searched_sites::{
+    files_are_searched_in_order, found_uses_are_steps, kept_uses_are_told_once, kept_uses_stay,
+    looks_tell_files, origins_are_told, printed_files_are_searchable, printed_files_are_searched,
+    programs_are_open, searched_programs_stay, searches_find_sites, searches_find_steps,
+    searches_settle_files, settled_files_stay, steps_go_on, steps_leave_other_files,
+    steps_swap_parts, values_are_told,
+};
+pub use stepped_values::{
+    constants_stay_marked, marked_values_stay, programs_are_held, settled_flags_stay,
+    values_are_told_after_steps,
+};
 pub use steps::{put_step, step_origins};
-pub use stepped_values::{constants_stay_marked, values_are_told_after_steps, programs_are_held, marked_values_stay, settled_flags_stay};

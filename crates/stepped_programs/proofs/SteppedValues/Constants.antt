@@ -14,7 +14,7 @@ use Rattle.run_rules.specs.Steps.{At, same_here, changes_for, new_constants, new
 use Rattle.run_rules.specs.Surroundings.{Use, Place, later_uses, in_constant, value_use, alike}
 use Rattle.member_uses.specs.Laws.{is_constant}
 use Rattle.loaded_programs.proofs.ConstantsAsRead.{decl_constant, no_constant}
-use Rattle.searched_sites.proofs.SettledFiles.Packages.{seen_same, placed, with_tree, in_package}
+use Rattle.stepped_programs.proofs.SearchedSites.SettledFiles.Packages.{seen_same, placed, with_tree, in_package}
 use Rattle.stepped_programs.specs.SteppedValues.Filled.{ConstantsStayMarked}
 use Rattle.stepped_programs.proofs.SteppedValues.Places.{kept_through, seen_mapped}
 

@@ -35,7 +35,7 @@ use Rattle.mark_values.proofs.Written.{IsWritten, decl_formed}
 use Rattle.mark_values.proofs.Own.{in_decl, of_decl}
 use Rattle.programs.specs.Programs.{HasValues}
 use Rattle.put_names.specs.Uses.{IsDeclaredAsName, as_name, as_member}
-use Rattle.searched_sites.specs.Told.{IsToldValue}
+use Rattle.stepped_programs.specs.SearchedSites.Told.{IsToldValue}
 
 -- ---- values
 

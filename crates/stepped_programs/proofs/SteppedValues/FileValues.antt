@@ -31,7 +31,7 @@ use Rattle.programs.specs.FileValues.Filled.{HasFileValues, is_constants}
 use Rattle.loaded_programs.proofs.Images.{at_image}
 use Rattle.loaded_programs.proofs.ConstantsAsRead.{constants_declared}
 use Rattle.loaded_programs.proofs.NamesStand.{names_stand, numbers_stand}
-use Rattle.searched_sites.proofs.Uses.{among_constant}
+use Rattle.stepped_programs.proofs.SearchedSites.Uses.{among_constant}
 
 -- a file whose constants the table has
 module _ (st : Standing) (codes : List code.Package) (same : map package_view codes ≡ packages_with here_of st.packages) (marks : List MarkRef) (constants : AllConstants st.packages marks) (t : Known) (m : MarkRef) (home : Where At) (d : Decl At)

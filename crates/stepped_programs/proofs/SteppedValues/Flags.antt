@@ -7,9 +7,9 @@ use Rattle.mark_values.specs.Tables.{DeclKey, Known, same_key, values_at, value_
 use Rattle.marked_runs.specs.KeptMarks.Over.{IsOverName}
 use Rattle.package_search.specs.declared.looks.ProgramSources.{ProgramSources}
 use Rattle.programs.specs.declared.state.Program.{Program}
-use Rattle.searched_sites.specs.OrderedSearches.Held.{IsHeld}
-use Rattle.searched_sites.specs.SettledFiles.Left.{TellOthersTheSame}
-use Rattle.searched_sites.specs.SettledFiles.Laws.{FlagsMayStay}
+use Rattle.stepped_programs.specs.SearchedSites.OrderedSearches.Held.{IsHeld}
+use Rattle.stepped_programs.specs.SearchedSites.SettledFiles.Left.{TellOthersTheSame}
+use Rattle.stepped_programs.specs.SearchedSites.SettledFiles.Laws.{FlagsMayStay}
 use Rattle.stepped_programs.specs.SteppedValues.OfSteps.{is_of_step, decl_of_step}
 use Rattle.stepped_programs.specs.SteppedValues.Flags.{IsKeptProgram, SettledFlagsStay}
 use Rattle.stepped_programs.specs.SteppedValues.Held.{tokens_in, ProgramsAreHeld}

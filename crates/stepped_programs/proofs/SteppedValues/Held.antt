@@ -25,8 +25,8 @@ use Rattle.programs.specs.declared.state.PackageFiles.{PackageFiles}
 use Rattle.programs.specs.declared.state.Program.{Program}
 use Rattle.programs.specs.Programs.{IsProgramOf}
 use Rattle.programs.specs.Kept.{text_with}
-use Rattle.searched_sites.specs.Told.{IsToldValue}
-use Rattle.searched_sites.specs.OrderedSearches.Held.{IsThere, AreTokensOf, IsSearchable, IsHeld}
+use Rattle.stepped_programs.specs.SearchedSites.Told.{IsToldValue}
+use Rattle.stepped_programs.specs.SearchedSites.OrderedSearches.Held.{IsThere, AreTokensOf, IsSearchable, IsHeld}
 use Rattle.stepped_programs.specs.SteppedValues.Held.{tokens_in, AreSourcesOf, ProgramsAreHeld}
 use Rattle.stepped_programs.proofs.SteppedValues.Places.{marked_there}
 use Rattle.stepped_programs.proofs.SteppedValues.DeclaredAs.{name_told}

@@ -43,7 +43,7 @@ use Rattle.marked_runs.proofs.KeptMarks.Kept.{look-ups}
 use Rattle.marked_runs.proofs.KeptMarks.Served.{mid-path}
 use Rattle.marked_runs.proofs.KeptMarks.Shapes.{Shape, shape, shape-with, dotted-in}
 use Rattle.marked_runs.proofs.NamedMarks.Declared.{inlinable-with}
-use Rattle.searched_sites.proofs.SettledFiles.Packages.{placed, with_tree, in_package, block_now}
+use Rattle.stepped_programs.proofs.SearchedSites.SettledFiles.Packages.{placed, with_tree, in_package, block_now}
 use Rattle.stepped_programs.specs.SteppedValues.OfSteps.{is_of_step, decl_of_step}
 use Rattle.stepped_programs.specs.SteppedValues.Laws.{MarkedValuesStay}
 use Rattle.stepped_programs.proofs.SteppedValues.Places.{marked_there, changed_here, changed_else}

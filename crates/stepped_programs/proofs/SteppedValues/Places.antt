@@ -8,7 +8,7 @@ use Rattle.go_types.proofs.Agreeing.{from_given, some_same}
 use Rattle.run_rules.specs.Sites.{MarkRef, Where, where_is}
 use Rattle.run_rules.specs.Steps.{At, change_nth}
 use Rattle.constant_steps.proofs.MarksFound.{StandsThere, stands_there}
-use Rattle.searched_sites.specs.OrderedSearches.Held.{IsThere}
+use Rattle.stepped_programs.specs.SearchedSites.OrderedSearches.Held.{IsThere}
 
 -- ---- where a mark's declaration stands
 

@@ -18,11 +18,11 @@ use Rattle.mark_values.specs.Tables.{DeclKey, Known, key_of, values_at}
 use Rattle.programs.specs.FileValues.Filled.{HasFileValues}
 use Rattle.programs.specs.Programs.{HasValues, TellsValues}
 use Rattle.loaded_programs.proofs.Images.{both}
-use Rattle.searched_sites.specs.OrderedSearches.Held.{IsThere}
-use Rattle.searched_sites.specs.SettledFiles.Left.{IsLeft}
-use Rattle.searched_sites.proofs.SettledFiles.Left.{source_same, knows_stay, named_stay}
-use Rattle.searched_sites.proofs.SettledFiles.Packages.{placed, with_tree, in_package}
-use Rattle.searched_sites.proofs.SettledFiles.Stay.{was_there}
+use Rattle.stepped_programs.specs.SearchedSites.OrderedSearches.Held.{IsThere}
+use Rattle.stepped_programs.specs.SearchedSites.SettledFiles.Left.{IsLeft}
+use Rattle.stepped_programs.proofs.SearchedSites.SettledFiles.Left.{source_same, knows_stay, named_stay}
+use Rattle.stepped_programs.proofs.SearchedSites.SettledFiles.Packages.{placed, with_tree, in_package}
+use Rattle.stepped_programs.proofs.SearchedSites.SettledFiles.Stay.{was_there}
 use Rattle.stepped_programs.specs.SteppedValues.OfSteps.{is_of_step}
 use Rattle.stepped_programs.specs.SteppedValues.Filled.{IsFilledAnew, ValuesAreToldAfterSteps, FilledValuesStayElsewhere}
 use Rattle.stepped_programs.proofs.SteppedValues.Places.{file_number_is, marked_there, there_marked, changed_here}

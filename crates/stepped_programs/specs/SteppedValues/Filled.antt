@@ -12,7 +12,7 @@ use Rattle.member_uses.specs.Laws.{AllConstants}
 use Rattle.mark_values.specs.Tables.{DeclKey, Known, values_at}
 use Rattle.programs.specs.FileValues.Filled.{HasFileValues}
 use Rattle.programs.specs.Programs.{TellsValues}
-use Rattle.searched_sites.specs.SettledFiles.Left.{AreSameBut}
+use Rattle.stepped_programs.specs.SearchedSites.SettledFiles.Left.{AreSameBut}
 use Rattle.stepped_programs.specs.SteppedValues.OfSteps.{is_of_step}
 
 -- The new table has what the constants of the file of the step are declared as among these packages, and of other files

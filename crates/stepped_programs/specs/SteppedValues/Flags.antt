@@ -14,8 +14,8 @@ use Rattle.marked_runs.specs.SettledConstants.Programs.{IsReady}
 use Rattle.package_search.specs.declared.looks.ProgramSources.{ProgramSources}
 use Rattle.programs.specs.declared.state.Program.{Program}
 use Rattle.programs.specs.Programs.{IsProgramOf}
-use Rattle.searched_sites.specs.OrderedSearches.Held.{IsThere, IsSearchable, Users, flag_of, AreAllSettled}
-use Rattle.searched_sites.specs.SettledFiles.Left.{KeepOthers, MayStaySet}
+use Rattle.stepped_programs.specs.SearchedSites.OrderedSearches.Held.{IsThere, IsSearchable, Users, flag_of, AreAllSettled}
+use Rattle.stepped_programs.specs.SearchedSites.SettledFiles.Left.{KeepOthers, MayStaySet}
 use Rattle.stepped_programs.specs.SteppedValues.OfSteps.{is_of_step, decl_of_step}
 use Rattle.stepped_programs.specs.SteppedValues.Held.{AreSourcesOf}
 

@@ -14,7 +14,7 @@ use Rattle.package_search.specs.declared.looks.ProgramSources.{ProgramSources}
 use Rattle.programs.specs.declared.state.Program.{Program}
 use Rattle.programs.specs.Programs.{IsProgramOf}
 use Rattle.programs.specs.TextsOfPackages.Given.{kept_at}
-use Rattle.searched_sites.specs.OrderedSearches.Held.{IsThere, IsSearchable, IsHeld}
+use Rattle.stepped_programs.specs.SearchedSites.OrderedSearches.Held.{IsThere, IsSearchable, IsHeld}
 
 -- the tokens of the files of each package, by its number
 abbrev pub tokens_in : Program → ℕ → List TokenLists

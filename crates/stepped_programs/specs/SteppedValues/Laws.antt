@@ -10,7 +10,7 @@ use Rattle.marked_runs.specs.KeptMarks.Over.{IsOverName}
 use Rattle.marked_runs.specs.NamedMarks.Named.{AllNamed}
 use Rattle.marked_runs.specs.SettledConstants.Programs.{IsReady}
 use Rattle.programs.specs.Programs.{TellsValues}
-use Rattle.searched_sites.specs.SettledFiles.Left.{TellOthersTheSame}
+use Rattle.stepped_programs.specs.SearchedSites.SettledFiles.Left.{TellOthersTheSame}
 use Rattle.stepped_programs.specs.SteppedValues.OfSteps.{is_of_step, decl_of_step}
 
 -- In programs that are ready and typed, whose marks are those of constants that are declared as names, two tables that

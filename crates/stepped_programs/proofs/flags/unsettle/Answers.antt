@@ -1,5 +1,5 @@
 use Rattle.std.proofs.Common.{◌<◌, refl, get_or, length, arith}
-use Rattle.searched_sites.proofs.KeptPrograms.Kept.{got}
+use Rattle.stepped_programs.proofs.SearchedSites.KeptPrograms.Kept.{got}
 use Rattle.stepped_programs.proofs.Unsettling.{flags_put, one_package, all_packages}
 use Rattle.stepped_programs.proofs.flags.unsettle.Goals as goal
 

@@ -1,6 +1,6 @@
 use Rattle.std.proofs.Common.{◌∙◌, refl, sym, ap, Some}
 use Rattle.programs.specs.declared.part_origins.origins.Origins.{Origins}
-use Rattle.searched_sites.proofs.KeptPrograms.Kept.{got}
+use Rattle.stepped_programs.proofs.SearchedSites.KeptPrograms.Kept.{got}
 use Rattle.stepped_programs.proofs.origins.put_file.Goals as goal
 
 pub returns : goal.returns

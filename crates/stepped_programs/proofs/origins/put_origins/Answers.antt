@@ -1,6 +1,6 @@
 use Rattle.std.proofs.Common.{refl, get_or}
 use Rattle.std.proofs.lemmas.Option.{slice_get_within}
-use Rattle.searched_sites.proofs.KeptPrograms.Kept.{got}
+use Rattle.stepped_programs.proofs.SearchedSites.KeptPrograms.Kept.{got}
 use Rattle.stepped_programs.proofs.origins.put_origins.Goals as goal
 
 pub returns : goal.returns

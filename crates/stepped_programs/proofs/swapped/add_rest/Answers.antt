@@ -1,7 +1,7 @@
 use Rattle.std.proofs.Common.{◌∙◌, ◌+◌, sym, ap, List, Option, Some, ◌++◌, drop, append_assoc}
 use Rattle.go_tree.specs.declared.spans.Span.{Span}
 use Rattle.stepped_programs.specs.SwappedOrigins.{from_use}
-use Rattle.searched_sites.proofs.KeptPrograms.Kept.{got}
+use Rattle.stepped_programs.proofs.SearchedSites.KeptPrograms.Kept.{got}
 use Rattle.stepped_programs.proofs.Rests.{no_rest, whole_rest}
 use Rattle.stepped_programs.proofs.swapped.add_rest.Goals as goal
 

@@ -1,0 +1,23 @@
+-- The laws of searches in files of constants and of functions that print them. Each is the contract of a function of
+-- this crate (Go specification, Constant declarations; Composite literals; Identifiers).
+use Rattle.std.specs.Prelude.{◌≤◌, List}
+use Rattle.use_search.specs.UsesOfMarks.Laws.{EachSound}
+use Rattle.member_uses.specs.Uses.{Names}
+use Rattle.run_laws.specs.Reading.{ProgramReads, OnePathEach}
+use Rattle.run_rules.specs.Run.{Standing, texts_size, the_limits}
+use Rattle.run_rules.specs.Sites.{MarkRef, Where}
+use Rattle.run_rules.specs.Steps.{At}
+use Rattle.stepped_programs.specs.SearchedSites.OrderedSearches.Held.{IsThere, IsSearchable}
+use Rattle.printed_constants.specs.Printed.{ArePrinted}
+
+-- The declarations of each file are as marked_uses asks, by whatever names.
+abbrev pub PrintedFilesAreSound : Type 0
+PrintedFilesAreSound =
+    (marks : List MarkRef) (st : Standing) (w : Where At) (f : Names) → ArePrinted st.packages → IsThere st.packages w
+    → EachSound st.packages marks w f w.source.tree.decls
+
+-- So each file may be searched, where the texts of the program are within the limit of a run.
+abbrev pub PrintedFilesAreSearchable : Type 0
+PrintedFilesAreSearchable =
+    (marks : List MarkRef) (st : Standing) → ProgramReads st → OnePathEach st.packages → ArePrinted st.packages
+    → texts_size st.texts ≤ the_limits.total → (w : Where At) → IsThere st.packages w → IsSearchable marks st w
