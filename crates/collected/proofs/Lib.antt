@@ -1,3 +1,5 @@
+pub mod PackageValues
+pub mod ValueHeaders
 pub mod RowsSame
 pub mod TypeLemmas
 pub mod MethodLemmas

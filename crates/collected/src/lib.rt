@@ -6,6 +6,10 @@
 
 mod declarations;
 mod methods;
+mod package_values;
 mod types;
+mod value_headers;
 
 pub use declarations::{Collected, collect};
+pub use package_values::{DeclaredValues, declare_values};
+pub use value_headers::{declare_header, is_value, read_values_are_spelled};

@@ -6,8 +6,8 @@ use Rattle.package_blocks.specs.Imports.{views}
 use Rattle.module_reading.specs.declared.reading.ReadModule.{ReadModule}
 use Rattle.module_reading.specs.Files.{sources_of}
 use Rattle.module_reading.specs.Modules.{IsReadFrom, go_sources}
-use Rattle.value_headers.specs.SpelledDecls.{PackagesAreSpelled}
-use Rattle.value_headers.proofs.SpelledHeaders.{read_packages_spelled}
+use Rattle.collected.specs.ValueHeaders.SpelledDecls.{PackagesAreSpelled}
+use Rattle.collected.proofs.ValueHeaders.SpelledHeaders.{read_packages_spelled}
 use Rattle.source_files.specs.declared.files.SourceFile.{SourceFile}
 
 pub read_are_ordered :

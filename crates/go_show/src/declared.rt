@@ -3,7 +3,7 @@
 ghost use Rattle.std.specs.Prelude.{◌<◌, ◌≤◌, ◌^◌, All, length};
 ghost use Rattle.package_blocks.specs.Collected.{AreOrdered};
 ghost use Rattle.package_blocks.specs.Imports.{views};
-ghost use Rattle.value_headers.specs.SpelledDecls.{PackagesAreSpelled};
+ghost use Rattle.collected.specs.ValueHeaders.SpelledDecls.{PackagesAreSpelled};
 ghost use Rattle.module_reading.specs.Modules.{IsReadFrom};
 
 use crate::declarations::{Declarations, write_declarations, write_refused};

@@ -1,0 +1,176 @@
+-- The headers that are left are those that are refused.
+use Rattle.std.proofs.Common.{◌≡◌, ◌∙◌, ◌&&◌, ◌++◌, ◌+◌, ℕ, suc, Bool, true, false, not, cond, List, [], ◌∷◌, Option, Some, None, refl, sym, ap, ap₂, length, map, drop, arith}
+use Rattle.std.specs.Prelude.{◌⊎◌, if◌then◌else◌, is_none, is_some, replicate, slice_get}
+use Rattle.std.proofs.Common.{inl, inr, append_assoc, add-one}
+use Rattle.go_tree.specs.declared.spans.Span.{Span}
+use Rattle.go_types.specs.Entities.{World}
+use Rattle.go_types.specs.Programs.{Headed, Program, headed}
+use Rattle.go_types.specs.TypeDeclarations.{DeclaredTypes}
+use Rattle.go_types.specs.Collect.{declared_by, types_declared, valued_world}
+use Rattle.pkg_graph.specs.declared.packages.Package.{Package}
+use Rattle.typed_names.specs.declared.scopes.Scope.{Scope}
+use Rattle.typed_names.specs.Meanings.{Names, world_at}
+use Rattle.declared_types.specs.Members.{Below, SameMembers}
+use Rattle.declared_types.proofs.NamesClearer.{keeps_none, same_clearer}
+use Rattle.package_blocks.specs.declared.headers.PackageHeader.{PackageHeader}
+use Rattle.package_blocks.specs.Headers.{AreHeaders, Listed, a_header, header_of, listed_of, no_headers}
+use Rattle.func_headers.specs.Functions.{numbers_where, program_of}
+use Rattle.checker_tables.specs.declared.tables.Tables.{Tables}
+use Rattle.value_rounds.specs.Values.{OthersAreDeclared, ValuesAreDeclared, is_refused_value, is_value}
+use Rattle.value_rounds.specs.Steps.{HasNoMore}
+use Rattle.value_rounds.proofs.Kept.{value_keeps}
+use Rattle.value_rounds.proofs.Rounds.{same_types}
+use Rattle.value_rounds.proofs.SoFar.{found_is_all, nothing_is_found}
+use Rattle.collected.specs.PackageValues.Passes.{AreFound, AreLooked, Looked, left_numbers}
+use Rattle.collected.proofs.PackageValues.LookLemmas.{all_looked, unmarked}
+
+-- ---- headers one by one
+
+module _ (files : List Scope) (ds : DeclaredTypes) (v : World) where
+  -- a mark says that the values of a header are found
+  abbrev TellsOf : Headed Span → Bool → Type 0
+  TellsOf h b = is_value h.header ≡ true → is_none (declared_by ds v h) ≡ not b
+
+  one_left : (h : Headed Span) (c : PackageHeader) (b : Bool) → header_of c.kind ≡ h.header → TellsOf h b →
+      (is_value (header_of c.kind) && not b) ≡ is_refused_value ds v h
+  one_left h c b same tells = ap (λ x. is_value x && not b) same ∙ by (is_value h.header) refl
+    where
+      by : (t : Bool) → is_value h.header ≡ t → (t && not b) ≡ (t && is_none (declared_by ds v h))
+      by true e = sym (tells e)
+      by false e = refl
+
+  left_in :
+      (ls : List Listed) (hs : List (Headed Span)) → AreHeaders files ls hs → (cs : List PackageHeader) →
+      ls ≡ map listed_of cs → (marks : List Bool) → length marks ≡ length cs → (i : ℕ) →
+      ((j : ℕ) (h : Headed Span) (b : Bool) → slice_get hs j ≡ Some h → slice_get marks j ≡ Some b → TellsOf h b) →
+      left_numbers i cs marks ≡ numbers_where (is_refused_value ds v) i hs
+  left_in _ _ no_headers [] q marks l i f = refl
+  left_in _ _ no_headers (x ∷ xs) q marks l i f = absurd cc
+  left_in (y ∷ ls) (h ∷ hs) (a_header is are) [] q marks l i f = absurd cc
+  left_in (y ∷ ls) (h ∷ hs) (a_header is are) (x ∷ xs) q [] l i f = absurd (grind (arith, l))
+  left_in (y ∷ ls) (h ∷ hs) (a_header is are) (x ∷ xs) q (b ∷ bs) l i f =
+      let ls_are : ls ≡ map listed_of xs = cc in
+      let y_is : y ≡ listed_of x = cc in
+      let same : header_of x.kind ≡ h.header = sym (ap (λ y. y.header) y_is) ∙ is.header in
+      let sized : length bs ≡ length xs = omega (arith, l) in
+      let rest = left_in ls hs are xs ls_are bs sized (suc i) (λ j. f (suc j)) in
+      ap₂ (λ t ns. if t then i ∷ ns else ns) (one_left h x b same (f 0 h b refl refl)) rest
+
+-- ---- the end
+
+no_more : {A : Type 0} (o : Option A) → o ≡ None → is_none o ≡ true
+no_more o e = ap is_none e
+
+some_more : {A : Type 0} (o : Option A) → is_some o ≡ true → is_none o ≡ false
+some_more None e = absurd (grind (arith, e))
+some_more (Some x) e = refl
+
+module _ (files : List Scope) (headers : List PackageHeader) (m : Tables) (bs : List Names) (marks : List Bool)
+    (packages : List Package) (are : AreHeaders files (map listed_of headers) (headed (program_of packages)))
+    (f : AreFound (program_of packages) (world_at m.env m.consts bs) marks)
+    (looked : AreLooked files headers m bs marks) (count : length marks ≡ length headers) where
+  abbrev ps : Program Span
+  ps = program_of packages
+
+  abbrev w : World
+  w = world_at m.env m.consts bs
+
+  abbrev v : World
+  v = valued_world ps (headed ps)
+
+  members : SameMembers w v
+  members = found_is_all ps w f.so_far (all_looked files headers m bs marks packages are f looked)
+
+  defined : w.defined ≡ v.defined
+  defined = f.so_far.defined ∙ sym (same_types ps)
+
+  back : Below v w
+  back p n = same_clearer (sym (members p n))
+
+  tells :
+      (j : ℕ) (h : Headed Span) (b : Bool) → slice_get (headed ps) j ≡ Some h → slice_get marks j ≡ Some b →
+      is_value h.header ≡ true → is_none (declared_by (types_declared ps (headed ps)) v h) ≡ not b
+  tells j h true at marked value = some_more (declared_by (types_declared ps (headed ps)) v h) (f.known j h marked at).declared
+  tells j h false at marked value = by (looked j packages are h at value)
+    where
+      by :
+          (slice_get marks j ≡ Some true) ⊎ HasNoMore ps w h →
+          is_none (declared_by (types_declared ps (headed ps)) v h) ≡ true
+      by (inl e) =
+          let z : Some false ≡ Some true = sym marked ∙ e in
+          let y : false ≡ true = cc in
+          absurd (grind (arith, y))
+      by (inr e) =
+          no_more (declared_by (types_declared ps (headed ps)) v h)
+          (keeps_none (value_keeps (types_declared ps (headed ps)) h value v w (sym defined) back) e)
+
+  pub values_declared :
+      (left : List ℕ) → left ≡ left_numbers 0 headers marks → ValuesAreDeclared ps w left
+  values_declared left is =
+      record {
+        members = members;
+        defined = defined;
+        refused_are =
+            is
+            ∙ left_in files (types_declared ps (headed ps)) v (map listed_of headers) (headed ps) are headers refl marks
+            count 0 tells;
+      }
+
+-- from the start on
+pub values_found :
+    (files : List Scope) (headers : List PackageHeader) (k m : Tables) (start bs : List Names) (marks more : List Bool)
+    (n : ℕ) → marks ≡ replicate n false → Looked files headers k start marks m bs more →
+    AreLooked files headers m bs more → length more ≡ length headers → (left : List ℕ) →
+    left ≡ left_numbers 0 headers more → (packages : List Package) →
+    AreHeaders files (map listed_of headers) (headed (program_of packages)) →
+    OthersAreDeclared (program_of packages) (world_at k.env k.consts start) →
+    ValuesAreDeclared (program_of packages) (world_at m.env m.consts bs) left
+values_found files headers k m start bs marks more n empty r looked count left is packages are d =
+    let ps = program_of packages in
+    values_declared files headers m bs more packages are
+    (r.found packages are
+    (record {
+      so_far = nothing_is_found ps (world_at k.env k.consts start) d;
+      known = λ i h marked at. absurd (unmarked n i (sym (ap (λ l. slice_get l i) empty) ∙ marked));
+    }))
+    looked count left is
+
+-- ---- numbers one by one
+
+module _ (headers : List PackageHeader) (marks : List Bool) (count : length marks ≡ length headers) where
+  left_step :
+      (i : ℕ) (cs : List PackageHeader) (bs : List Bool) (c : PackageHeader) (b : Bool) (seen : List ℕ) →
+      left_numbers 0 headers marks ≡ seen ++ left_numbers i (c ∷ cs) (b ∷ bs) → (t : Bool) →
+      (is_value (header_of c.kind) && not b) ≡ t →
+      left_numbers 0 headers marks ≡ cond t (seen ++ i ∷ []) seen ++ left_numbers (suc i) cs bs
+  left_step i cs bs c b seen r true e =
+      r ∙ ap (λ t. seen ++ (if t then i ∷ left_numbers (suc i) cs bs else left_numbers (suc i) cs bs)) e
+      ∙ sym (append_assoc seen (i ∷ []) (left_numbers (suc i) cs bs))
+  left_step i cs bs c b seen r false e =
+      r ∙ ap (λ t. seen ++ (if t then i ∷ left_numbers (suc i) cs bs else left_numbers (suc i) cs bs)) e
+
+  -- one more is asked
+  pub left_more :
+      (i : ℕ) (c : PackageHeader) (b : Bool) (seen : List ℕ) → drop i headers ≡ c ∷ drop (i + 1) headers →
+      drop i marks ≡ b ∷ drop (i + 1) marks →
+      left_numbers 0 headers marks ≡ seen ++ left_numbers i (drop i headers) (drop i marks) → (t : Bool) →
+      (is_value (header_of c.kind) && not b) ≡ t →
+      left_numbers 0 headers marks
+      ≡ cond t (seen ++ i ∷ []) seen ++ left_numbers (i + 1) (drop (i + 1) headers) (drop (i + 1) marks)
+  left_more i c b seen here mark r t e =
+      left_step i (drop (i + 1) headers) (drop (i + 1) marks) c b seen
+      (r ∙ ap₂ (λ cs bs. seen ++ left_numbers i cs bs) here mark) t e
+      ∙ ap (λ k. cond t (seen ++ i ∷ []) seen ++ left_numbers k (drop (i + 1) headers) (drop (i + 1) marks))
+      (sym (add-one i))
+
+  append_nothing : (xs : List ℕ) → xs ++ [] ≡ xs
+  append_nothing [] = refl
+  append_nothing (x ∷ xs) = ap (λ ys. x ∷ ys) (append_nothing xs)
+
+  -- all are
+  pub left_all :
+      (i : ℕ) (seen : List ℕ) → drop i headers ≡ [] →
+      left_numbers 0 headers marks ≡ seen ++ left_numbers i (drop i headers) (drop i marks) →
+      seen ≡ left_numbers 0 headers marks
+  left_all i seen end r =
+      sym (r ∙ ap (λ cs. seen ++ left_numbers i cs (drop i marks)) end ∙ append_nothing seen)

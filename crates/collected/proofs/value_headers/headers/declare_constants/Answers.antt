@@ -1,0 +1,47 @@
+use Rattle.std.proofs.Common.{map, refl, subst}
+use Rattle.go_tree.specs.View.{name_at_of}
+use Rattle.go_types.specs.Programs.{constants}
+use Rattle.scope_names.specs.FreeNames.{names_of}
+use Rattle.package_blocks.specs.Headers.{repeated_type, repeated_values}
+use Rattle.package_blocks.specs.Names.{plain_names}
+use Rattle.initial_values.proofs.ValueBlocks.ListLemmas.{names_alike}
+use Rattle.initial_values.proofs.ValueEntities.SpecLemmas.{names_length}
+use Rattle.collected.specs.ValueHeaders.Values.{HasCount}
+use Rattle.collected.proofs.ValueHeaders.HeaderLemmas.{in_any_case, there_answered, values_answered}
+use Rattle.collected.proofs.ValueHeaders.ValueLemmas.{count_given}
+use Rattle.collected.proofs.value_headers.headers.declare_constants.Goals as goal
+
+pub declare_names-requires : goal.declare_names-requires
+declare_names-requires c =
+    let names = c.args.names.now in
+    let o = c.args.repeats in
+    subst (λ n. HasCount n c.constant_values-found.result) (names_length names)
+    (count_given c.args.tables.now c.constant_values-found.new.tables c.args.blocks.now c.args.file.now
+    (constants (map name_at_of names) (repeated_type o) (repeated_values o) c.args.number)
+    c.constant_values-found.result c.constant_values-found.ensures.gives (names_of (map name_at_of names)) refl)
+
+pub returns-clause-ready : goal.returns-clause-ready
+returns-clause-ready c = in_any_case c.declare_names.result c.constant_values-found.ensures.ready
+
+pub returns-clause-keeps : goal.returns-clause-keeps
+returns-clause-keeps c = in_any_case c.declare_names.result c.constant_values-found.ensures.keeps
+
+pub returns-clause-there : goal.returns-clause-there
+returns-clause-there c =
+    let o = c.args.repeats in
+    there_answered c.args.tables.now c.constant_values-found.new.tables c.args.blocks.now c.declare_names.new.blocks
+    c.args.file.now
+    (constants (map name_at_of c.args.names.now) (repeated_type o) (repeated_values o) c.args.number)
+    c.constant_values-found.ensures.keeps c.requires.ready c.requires.there c.constant_values-found.result
+    c.declare_names.result c.constant_values-found.ensures.ready c.constant_values-found.ensures.gives
+    c.declare_names.ensures.there
+
+pub returns-clause-set : goal.returns-clause-set
+returns-clause-set c =
+    let names = c.args.names.now in
+    let o = c.args.repeats in
+    values_answered c.args.tables.now c.constant_values-found.new.tables c.args.blocks.now c.declare_names.new.blocks
+    c.args.file.now (constants (map name_at_of names) (repeated_type o) (repeated_values o) c.args.number)
+    c.constant_values-found.ensures.keeps c.requires.ready c.requires.there c.constant_values-found.result
+    (plain_names names) c.declare_names.result c.constant_values-found.ensures.gives (names_alike names)
+    c.declare_names.ensures.set

@@ -1,0 +1,39 @@
+//! The names of a header mean what its values are from its declaration on (Go specification, Package block).
+
+ghost use Rattle.std.specs.Prelude.{◌≡◌, false, List, length, IfOk};
+ghost use Rattle.const_eval.specs.declared.consts.Const.{Const};
+ghost use Rattle.type_relations.specs.Environment.{Environment};
+ghost use Rattle.package_blocks.specs.Names.{plain_names};
+ghost use Rattle.initial_values.specs.ValueBlocks.Values.{AreThere};
+ghost use Rattle.collected.specs.ValueHeaders.Values.{AreEntitiesIfOk, HasCount, NamesDeclared};
+
+use go_tree::{NameAtList, NoMemory};
+use initial_values::{EntityList, set_values};
+use operand_rules::Refusal;
+use std::alloc::{AllocError, Global};
+use typed_names::Blocks;
+
+/// Declares names in the block of a package as what was found of their values, unless that is a refusal; tells
+/// whether it isn't.
+pub(crate) fn declare_names(
+    alloc: Global,
+    blocks: &mut Blocks,
+    home: u32,
+    names: &NameAtList,
+    found: Result<EntityList, Refusal>,
+) -> Result<bool, NoMemory>
+    requires { HasCount (length names.now) found }
+    ensures set { IfOk result (NamesDeclared home (plain_names names.now) found blocks.old blocks.new) }
+    ensures there { IfOk result (λ well. (e : Environment) (cs : List Const)
+        → AreEntitiesIfOk e cs found → AreThere e cs blocks.old → AreThere e cs blocks.new) }
+    ensures same { IfOk result (λ well. well ≡ false → blocks.new ≡ blocks.old) }
+{
+    match found {
+        Ok(list) => {
+            set_values(alloc, blocks, home, names, &list.items)?;
+            Ok(true)
+        }
+        Err(Refusal::NotTyped) => Ok(false),
+        Err(Refusal::NoMemory) => Err(AllocError),
+    }
+}

@@ -1,7 +1,0 @@
-use Rattle.package_values.specs.Passes.{FirstLooked}
-use Rattle.package_values.proofs.passes.look_at_all.Given as goal
-
-abbrev pub invariant-loop-number : goal.invariant-loop-number
-invariant-loop-number l =
-    FirstLooked l.files l.headers l.number l.initial.tables l.initial.blocks l.initial.found.items l.tables l.blocks
-    l.found.items l.changed

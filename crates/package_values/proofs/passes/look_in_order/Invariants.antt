@@ -1,6 +1,0 @@
-use Rattle.package_values.specs.Passes.{Looked}
-use Rattle.package_values.proofs.passes.look_in_order.Given as goal
-
-abbrev pub invariant-loop-number : goal.invariant-loop-number
-invariant-loop-number l =
-    Looked l.files l.headers l.initial.tables l.initial.blocks l.initial.found.items l.tables l.blocks l.found.items

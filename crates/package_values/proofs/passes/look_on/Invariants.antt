@@ -1,6 +1,0 @@
-use Rattle.package_values.specs.Passes.{Looked}
-use Rattle.package_values.proofs.passes.look_on.Given as goal
-
-abbrev pub invariant-loop : goal.invariant-loop
-invariant-loop l =
-    Looked l.files l.headers l.initial.tables l.initial.blocks l.initial.found.items l.tables l.blocks l.found.items
