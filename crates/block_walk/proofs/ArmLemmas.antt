@@ -31,7 +31,7 @@ use Rattle.jump_rules.specs.UsedLocals.Used.{Used, and_names}
 use Rattle.jump_rules.specs.UsedLocals.Pending.{all_pass}
 use Rattle.jump_rules.specs.UsedLocals.Walked.{IsWalked}
 use Rattle.jump_rules.proofs.UsedLocals.ScopeLaws.{blocks_begin}
-use Rattle.simple_walk.proofs.SimpleLemmas.{types_kept}
+use Rattle.statement_walk.proofs.SimpleWalk.SimpleLemmas.{types_kept}
 use Rattle.statement_walk.specs.Parts.{GivesRead, IsRead}
 use Rattle.block_walk.specs.declared.arms.OpenArm.{OpenArm}
 use Rattle.block_walk.specs.Answers.{GivesEnds, GivesLeft, GivesTest, IsBodyPlace, StaysAround, behind}

@@ -31,7 +31,7 @@ use Rattle.jump_rules.specs.declared.used_locals.pending.PendingName.{PendingNam
 use Rattle.jump_rules.specs.UsedLocals.Used.{Used, and_names}
 use Rattle.jump_rules.specs.UsedLocals.Walked.{IsWalked}
 use Rattle.jump_rules.proofs.UsedLocals.ScopeLaws.{blocks_begin}
-use Rattle.simple_walk.proofs.SimpleLemmas.{types_kept}
+use Rattle.statement_walk.proofs.SimpleWalk.SimpleLemmas.{types_kept}
 use Rattle.statement_walk.specs.Parts.{AreHere}
 use Rattle.block_walk.specs.Answers.{GivesEnds, GivesLeft, GivesStatement, IsBodyPlace, IsStatement, StaysAround}
 use Rattle.block_walk.specs.Blocks.{AreRead, BlockRead}

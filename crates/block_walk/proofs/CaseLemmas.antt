@@ -45,10 +45,10 @@ use Rattle.jump_rules.specs.UsedLocals.Walked.{IsWalked}
 use Rattle.jump_rules.proofs.UsedLocals.ScopeLaws.{blocks_begin}
 use Rattle.jump_rules.proofs.UsedLocals.UsedLemmas.{names_append}
 use Rattle.expr_walk.specs.Walked.{AreAllWalked}
-use Rattle.range_steps.specs.declared.case_steps.seen.CasesSeen.{CasesSeen}
-use Rattle.range_steps.specs.CaseSteps.Cases.{choice_after, with_case}
-use Rattle.range_steps.proofs.CaseSteps.ValueLemmas.{values_alike, values_kept}
-use Rattle.simple_walk.proofs.SimpleLemmas.{types_kept}
+use Rattle.statement_walk.specs.declared.range_steps.case_steps.seen.CasesSeen.{CasesSeen}
+use Rattle.statement_walk.specs.RangeSteps.CaseSteps.Cases.{choice_after, with_case}
+use Rattle.statement_walk.proofs.RangeSteps.CaseSteps.ValueLemmas.{values_alike, values_kept}
+use Rattle.statement_walk.proofs.SimpleWalk.SimpleLemmas.{types_kept}
 use Rattle.statement_walk.specs.Parts.{GivesRead, IsRead}
 use Rattle.block_walk.specs.Answers.{GivesEnds, GivesLeft, IsBodyPlace, StaysAround, behind}
 use Rattle.block_walk.specs.Cases.{AreCasesRead, CaseValue, CasesRead, GivesAdded, GivesCase, GivesTag, IsCase, IsTagIfOk, case_before}

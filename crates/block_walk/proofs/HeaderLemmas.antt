@@ -24,7 +24,7 @@ use Rattle.control_steps.proofs.LocalBlocks.SeenNames.{parts_seen}
 use Rattle.expr_walk.proofs.WalkArms.ExprArms.{at}
 use Rattle.jump_rules.specs.declared.used_locals.pending.PendingName.{PendingName}
 use Rattle.jump_rules.specs.UsedLocals.Used.{Used}
-use Rattle.simple_walk.specs.Simple.{IsSimple}
+use Rattle.statement_walk.specs.SimpleWalk.Simple.{IsSimple}
 use Rattle.statement_walk.specs.Parts.{AreHere, GivesRead}
 use Rattle.statement_walk.proofs.SpecsLemmas.{part_none}
 use Rattle.block_walk.specs.Answers.{GivesEnds, GivesStatement, GivesTest, without_end}

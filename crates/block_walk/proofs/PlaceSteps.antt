@@ -19,8 +19,8 @@ use Rattle.jump_rules.specs.declared.around.Around.{Around}
 use Rattle.jump_rules.specs.Labels.{IsAround}
 use Rattle.expr_walk.specs.Walked.{IsWalked}
 use Rattle.expr_walk.proofs.WalkArms.ExprArms.{at}
-use Rattle.simple_walk.proofs.ConstantGroups.MemberLemmas.{place_kept}
-use Rattle.simple_walk.proofs.SimpleLemmas.{body_kept}
+use Rattle.statement_walk.proofs.SimpleWalk.ConstantGroups.MemberLemmas.{place_kept}
+use Rattle.statement_walk.proofs.SimpleWalk.SimpleLemmas.{body_kept}
 use Rattle.statement_walk.proofs.SeenUses.{used_seen}
 use Rattle.block_walk.specs.Answers.{IsBodyPlace, StaysAround}
 

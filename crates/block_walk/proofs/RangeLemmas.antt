@@ -34,8 +34,8 @@ use Rattle.assignment_steps.specs.Targets.{AreTargetsIfOk, GivesTargets}
 use Rattle.expr_walk.specs.Walked.{AreAllWalked}
 use Rattle.expr_walk.specs.Walked as expression
 use Rattle.expr_walk.proofs.WalkArms.ExprArms.{at}
-use Rattle.simple_walk.proofs.ConstantGroups.MemberLemmas.{place_kept}
-use Rattle.simple_walk.proofs.SeenStatements.{targets_seen}
+use Rattle.statement_walk.proofs.SimpleWalk.ConstantGroups.MemberLemmas.{place_kept}
+use Rattle.statement_walk.proofs.SimpleWalk.SeenStatements.{targets_seen}
 use Rattle.jump_rules.specs.declared.used_locals.pending.PendingName.{PendingName}
 use Rattle.jump_rules.specs.UsedLocals.Used.{Used, and_names}
 use Rattle.jump_rules.specs.UsedLocals.Walked.{IsWalked}

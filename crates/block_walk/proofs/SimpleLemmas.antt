@@ -26,8 +26,8 @@ use Rattle.jump_rules.specs.declared.around.Around.{Around}
 use Rattle.jump_rules.specs.declared.used_locals.pending.PendingName.{PendingName}
 use Rattle.jump_rules.specs.UsedLocals.Used.{Used, and_names}
 use Rattle.jump_rules.proofs.UsedLocals.ScopeLaws.{parts_use}
-use Rattle.simple_walk.specs.Simple.{IsSimple}
-use Rattle.simple_walk.proofs.ConstantGroups.MemberLemmas.{place_kept}
+use Rattle.statement_walk.specs.SimpleWalk.Simple.{IsSimple}
+use Rattle.statement_walk.proofs.SimpleWalk.ConstantGroups.MemberLemmas.{place_kept}
 use Rattle.statement_walk.specs.Parts.{AreHere, GivesRead, IsPart}
 use Rattle.statement_walk.proofs.SeenUses.{all_used_seen, used_seen}
 use Rattle.block_walk.specs.Answers.{GivesEnds, GivesStatement, IsBodyPlace, declaration_answer, side_uses, target_uses}

@@ -15,7 +15,7 @@ use Rattle.go_types.specs.Entities.{Env}
 use Rattle.go_types.specs.Statements.{is_empty_stmt}
 use Rattle.go_types.specs.Typing.{declares}
 use Rattle.jump_rules.proofs.JumpLemmas.{of_constants, of_variables}
-use Rattle.simple_walk.specs.Simple.{IsSimple}
+use Rattle.statement_walk.specs.SimpleWalk.Simple.{IsSimple}
 use Rattle.block_walk.specs.Walked.{IsPlain, IsPost, IsWalkedStmt, holds_others, is_declaration}
 
 pub no_others_const : (d : cd.ConstDecl) → holds_others (const_decl_of d) ≡ false

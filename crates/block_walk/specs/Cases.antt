@@ -24,8 +24,8 @@ use Rattle.control_steps.specs.declared.returns.Body.{Body}
 use Rattle.control_steps.specs.RightSides.Values.{SameValue}
 use Rattle.jump_rules.specs.declared.around.Around.{Around}
 use Rattle.jump_rules.specs.UsedLocals.Used.{Used, and_names}
-use Rattle.range_steps.specs.declared.case_steps.seen.CasesSeen.{CasesSeen}
-use Rattle.range_steps.specs.CaseSteps.Cases.{choice_after, with_case}
+use Rattle.statement_walk.specs.declared.range_steps.case_steps.seen.CasesSeen.{CasesSeen}
+use Rattle.statement_walk.specs.RangeSteps.CaseSteps.Cases.{choice_after, with_case}
 use Rattle.block_walk.specs.Answers.{IsBodyPlace, StaysAround}
 
 -- the value that cases are compared with

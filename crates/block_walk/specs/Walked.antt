@@ -3,8 +3,8 @@ use Rattle.std.specs.Prelude.{ℕ, ◌+◌, Bool, true, false}
 use Rattle.go_tree.specs.declared.spans.Span.{Span}
 use Rattle.go_tree.specs.Tree.{Expr, ident, Stmt, const_decl, var_decl, define, inner, if_, for_, range_, switch, label, Stmts, no_stmts, stmt_and, StmtOption, no_stmt, some_stmt, BlockOption, no_block, some_block, Arms, no_arms, arm, RangeLeft, nothing, assigns, defines, Cases, no_cases, case}
 use Rattle.expr_walk.specs.Walked.{AreAllWalked, IsWalked, IsWalkedOption}
-use Rattle.simple_walk.specs.Simple.{IsSimple}
-use Rattle.simple_walk.specs.ConstantGroups.Groups.{AreWalkedSpecs}
+use Rattle.statement_walk.specs.SimpleWalk.Simple.{IsSimple}
+use Rattle.statement_walk.specs.SimpleWalk.ConstantGroups.Groups.{AreWalkedSpecs}
 
 -- an expression that is a name
 abbrev pub is_name : Expr Span → Bool

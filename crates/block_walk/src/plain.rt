@@ -10,7 +10,7 @@ ghost use Rattle.checker_tables.specs.Ready.{Keeps};
 ghost use Rattle.operand_answers.specs.Known.{Stands};
 ghost use Rattle.control_steps.specs.LocalBlocks.Places.{IsPlace, IsWithin};
 ghost use Rattle.jump_rules.specs.UsedLocals.Used.{and_names, used_of};
-ghost use Rattle.simple_walk.specs.Simple.{IsSimple};
+ghost use Rattle.statement_walk.specs.SimpleWalk.Simple.{IsSimple};
 ghost use Rattle.statement_walk.specs.Parts.{AreHere};
 ghost use Rattle.block_walk.specs.Answers.{GivesEnds, GivesStatement, IsBodyPlace};
 ghost use Rattle.block_walk.specs.Walked as walked;
@@ -23,8 +23,7 @@ use control_steps::{Body, LocalBlock};
 use go_tree::Stmt;
 use jump_rules::{Around, PendingNames, UsedNames};
 use operand_rules::Refusal;
-use simple_walk::simple_statement;
-use statement_walk::{constant_group, short_part, variable_group};
+use statement_walk::{constant_group, short_part, simple_statement, variable_group};
 use std::alloc::Global;
 use typed_names::{Blocks, Scope};
 

@@ -24,9 +24,7 @@ use expr_walk::expr;
 use go_tree::{Expr, ExprList, NameAtList, RangeLeft};
 use jump_rules::{PendingNames, UsedNames};
 use operand_rules::Refusal;
-use range_steps::{assigns, range_variables, ranges_over};
-use simple_walk::targets;
-use statement_walk::use_expr;
+use statement_walk::{assigns, range_variables, ranges_over, targets, use_expr};
 use std::alloc::Global;
 use typed_names::{Blocks, Scope};
 

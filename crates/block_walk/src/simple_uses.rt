@@ -9,7 +9,7 @@ ghost use Rattle.checker_tables.specs.Ready.{Keeps};
 ghost use Rattle.operand_answers.specs.Known.{Stands};
 ghost use Rattle.expr_walk.specs.Walked.{AreAllWalked, IsWalked};
 ghost use Rattle.jump_rules.specs.UsedLocals.Used.{and_names, used_of};
-ghost use Rattle.simple_walk.specs.Simple.{IsSimple};
+ghost use Rattle.statement_walk.specs.SimpleWalk.Simple.{IsSimple};
 ghost use Rattle.block_walk.specs.Answers.{side_uses, target_uses};
 ghost use Rattle.block_walk.specs.Walked as walked;
 

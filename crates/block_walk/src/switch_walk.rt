@@ -30,7 +30,7 @@ use control_steps::{Body, LocalBlock};
 use go_tree::{Case, CaseList, Expr, Stmt};
 use jump_rules::{Around, PendingNames, UsedNames, enter_switch, leave_switch};
 use operand_rules::{Refusal, Value};
-use range_steps::CasesSeen;
+use statement_walk::CasesSeen;
 use std::alloc::Global;
 use typed_names::{Blocks, Scope};
 

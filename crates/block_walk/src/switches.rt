@@ -27,8 +27,7 @@ use jump_rules::{UsedNames, breaks_in};
 use operand_answers::bound;
 use operand_modes::ValueList;
 use operand_rules::{Refusal, Value};
-use range_steps::{CasesSeen, case_values};
-use statement_walk::{use_expr, use_exprs};
+use statement_walk::{CasesSeen, case_values, use_expr, use_exprs};
 use std::alloc::Global;
 use typed_names::{Blocks, Scope};
 

@@ -35,7 +35,7 @@ use Rattle.jump_rules.specs.UsedLocals.Pending.{Scopes, all_begun}
 use Rattle.jump_rules.specs.UsedLocals.Laws.{AreNew}
 use Rattle.jump_rules.specs.UsedLocals.Walked.{IsWalked}
 use Rattle.jump_rules.proofs.UsedLocals.ScopeLaws.{blanks_skipped, parts_declare}
-use Rattle.simple_walk.specs.ConstantGroups.Groups.{GivesDeclared, IsDeclared, IsWalkedFrom, SpecValue, in_spec, own_from, repeated_from}
+use Rattle.statement_walk.specs.SimpleWalk.ConstantGroups.Groups.{GivesDeclared, IsDeclared, IsWalkedFrom, SpecValue, in_spec, own_from, repeated_from}
 use Rattle.statement_walk.specs.Basic.{all_only_basic}
 use Rattle.statement_walk.specs.ConstantParts.{AreConstantsRead, ConstantsRead, only_constants}
 use Rattle.statement_walk.specs.Parts.{AreHere, GivesRead, IsPart, IsRead}

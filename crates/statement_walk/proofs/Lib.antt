@@ -1,3 +1,5 @@
+pub mod RangeSteps
+pub mod SimpleWalk
 pub mod DeclaredLemmas
 pub mod UsesLemmas
 pub mod SeenUses

@@ -19,7 +19,7 @@ use Rattle.checker_tables.specs.declared.tables.Tables.{Tables}
 use Rattle.checker_tables.specs.Ready.{Keeps}
 use Rattle.operand_answers.specs.Known.{Stands}
 use Rattle.operand_answers.proofs.KeptLemmas.{env_kept, keeps_on, keeps_self}
-use Rattle.simple_walk.proofs.ConstantGroups.MemberLemmas.{written_same, written_there}
+use Rattle.statement_walk.proofs.SimpleWalk.ConstantGroups.MemberLemmas.{written_same, written_there}
 use Rattle.jump_rules.specs.UsedLocals.Used.{Used, and_names}
 use Rattle.jump_rules.proofs.UsedLocals.UsedLemmas.{names_append, names_on}
 use Rattle.expr_walk.proofs.WalkArms.ExprArms.{at}

@@ -17,7 +17,7 @@ use Rattle.operand_answers.specs.Known.{Stands}
 use Rattle.control_steps.specs.LocalBlocks.Places.{IsPlace, IsWithin}
 use Rattle.jump_rules.specs.declared.used_locals.pending.PendingName.{PendingName}
 use Rattle.jump_rules.specs.UsedLocals.Used.{Used}
-use Rattle.simple_walk.specs.ConstantGroups.Groups.{IsWalkedFrom, repeated_from}
+use Rattle.statement_walk.specs.SimpleWalk.ConstantGroups.Groups.{IsWalkedFrom, repeated_from}
 use Rattle.statement_walk.specs.Parts.{AreHere, IsPart}
 
 -- constants, none of which must be used

@@ -16,7 +16,7 @@ use Rattle.operand_rules.specs.declared.values.Refusal.TheVariants.{NotTyped, No
 use Rattle.checker_tables.specs.declared.tables.Tables.{Tables}
 use Rattle.control_steps.specs.LocalBlocks.Places.{IsPlace}
 use Rattle.assignment_steps.specs.DefineSteps.Defined.{news_at}
-use Rattle.simple_walk.specs.ConstantGroups.Groups.{SpecValue}
+use Rattle.statement_walk.specs.SimpleWalk.ConstantGroups.Groups.{SpecValue}
 
 -- what a spec of variables declares
 abbrev pub spec_variables : Env → SpecValue → Option Declared

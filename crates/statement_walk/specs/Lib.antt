@@ -1,3 +1,5 @@
+pub mod RangeSteps
+pub mod SimpleWalk
 pub mod Declared
 pub mod Parts
 pub mod Uses

@@ -13,16 +13,16 @@ ghost use Rattle.operand_answers.specs.Known.{Stands};
 ghost use Rattle.control_steps.specs.LocalBlocks.Places.{IsPlace, IsWithin};
 ghost use Rattle.expr_walk.specs.Walked.{AreAllWalked};
 ghost use Rattle.jump_rules.specs.UsedLocals.Used.{used_of};
-ghost use Rattle.simple_walk.specs.ConstantGroups.Groups.{AreWalkedSpecs, IsWalkedFrom, in_spec, repeated_from};
+ghost use Rattle.statement_walk.specs.SimpleWalk.ConstantGroups.Groups.{AreWalkedSpecs, IsWalkedFrom, in_spec, repeated_from};
 ghost use Rattle.statement_walk.specs.Parts.{AreHere, GivesRead};
 
+use crate::simple_walk::{own_or_repeated, repeated_member};
 use crate::uses::use_exprs;
 use checker_tables::Tables;
 use control_steps::LocalBlock;
 use go_tree::{ConstSpec, ConstSpecList};
 use jump_rules::{PendingNames, UsedNames, use_type_option};
 use operand_rules::Refusal;
-use simple_walk::{own_or_repeated, repeated_member};
 use std::alloc::Global;
 use typed_names::{Blocks, Scope};
 

@@ -8,7 +8,7 @@ ghost use Rattle.checker_tables.specs.Ready.{Keeps};
 ghost use Rattle.operand_answers.specs.Known.{Stands};
 ghost use Rattle.control_steps.specs.LocalBlocks.Places.{IsPlace, IsWithin};
 ghost use Rattle.jump_rules.specs.UsedLocals.Used.{used_of};
-ghost use Rattle.simple_walk.specs.ConstantGroups.Groups.{AreWalkedSpecs};
+ghost use Rattle.statement_walk.specs.SimpleWalk.ConstantGroups.Groups.{AreWalkedSpecs};
 ghost use Rattle.statement_walk.specs.Parts.{AreHere, GivesRead};
 
 use crate::parts::spec_part;

@@ -10,7 +10,9 @@ mod groups;
 mod laws;
 mod literal_types;
 mod parts;
+mod range_steps;
 mod shorts;
+mod simple_walk;
 mod uses;
 mod values;
 mod variables;
@@ -23,6 +25,12 @@ pub use function_literals::{
 pub use groups::variable_group;
 pub use laws::constants_use_alike;
 pub use parts::{short_part, spec_part};
+pub use range_steps::{
+    CasesSeen, RangeTypes, assigns, case_values, range_types, range_variables, ranges_over,
+};
 pub use shorts::define_statement;
+pub use simple_walk::{
+    has_none, own_or_repeated, repeated_member, simple_statement, targets, written_type,
+};
 pub use uses::{use_expr, use_exprs};
 pub use variables::variable_spec;

@@ -12,13 +12,13 @@ ghost use Rattle.control_steps.specs.LocalBlocks.Places.{IsPlace, IsWithin};
 ghost use Rattle.expr_walk.specs.Walked.{AreAllWalked};
 ghost use Rattle.statement_walk.specs.Declared.{GivesVariablesHere, spec_variables};
 
+use crate::simple_walk::{has_none, written_type};
 use crate::values::declared_values;
 use assignment_steps::{declare_entities, new_variables};
 use checker_tables::Tables;
 use control_steps::{EntityList, LocalBlock};
 use go_tree::VarSpec;
 use operand_rules::Refusal;
-use simple_walk::{has_none, written_type};
 use std::alloc::Global;
 use typed_names::{Blocks, Scope};
 

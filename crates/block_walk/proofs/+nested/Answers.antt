@@ -12,8 +12,8 @@ use Rattle.assignment_steps.proofs.DeclaredBlocks.BlockLemmas.{within_on}
 use Rattle.control_steps.specs.LocalBlocks.Places.{IsWithin}
 use Rattle.operand_answers.proofs.KeptLemmas.{keeps_on, value_on}
 use Rattle.jump_rules.specs.UsedLocals.Used.{and_names, used_of}
-use Rattle.simple_walk.proofs.ConstantGroups.MemberLemmas.{place_kept}
-use Rattle.simple_walk.proofs.SimpleLemmas.{types_kept}
+use Rattle.statement_walk.proofs.SimpleWalk.ConstantGroups.MemberLemmas.{place_kept}
+use Rattle.statement_walk.proofs.SimpleWalk.SimpleLemmas.{types_kept}
 use Rattle.block_walk.specs.Answers.{GivesEnds, GivesLeft, GivesStatement, StaysAround, behind}
 use Rattle.block_walk.specs.Arms.{ArmsRead, GivesArm, innermost_first, opened}
 use Rattle.block_walk.specs.Blocks.{BlockRead}

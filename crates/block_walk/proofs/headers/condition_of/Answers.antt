@@ -6,7 +6,7 @@ use Rattle.go_types.specs.Statements.{is_condition}
 use Rattle.go_types.specs.Typing as go
 use Rattle.expr_walk.proofs.WalkArms.ExprArms.{at, expr_there}
 use Rattle.jump_rules.specs.UsedLocals.Used.{and_names, used_of}
-use Rattle.simple_walk.proofs.ConstantGroups.MemberLemmas.{place_kept}
+use Rattle.statement_walk.proofs.SimpleWalk.ConstantGroups.MemberLemmas.{place_kept}
 use Rattle.block_walk.proofs.HeaderLemmas.{condition_seen, failed, passed}
 use Rattle.block_walk.proofs.PlaceSteps.{used_here}
 use Rattle.block_walk.proofs.headers.condition_of.Goals as goal

@@ -2,7 +2,7 @@ use Rattle.std.proofs.Common.{◌∙◌, ap}
 use Rattle.go_tree.specs.View.{stmt_of}
 use Rattle.go_types.specs.Typing as go
 use Rattle.jump_rules.specs.UsedLocals.Used.{and_names, used_of}
-use Rattle.simple_walk.proofs.SimpleLemmas.{types_kept}
+use Rattle.statement_walk.proofs.SimpleWalk.SimpleLemmas.{types_kept}
 use Rattle.block_walk.proofs.PlaceSteps.{body_place_kept}
 use Rattle.block_walk.proofs.SimpleLemmas.{ends_with, simple_uses_here}
 use Rattle.block_walk.proofs.plain.simple_part.Goals as goal

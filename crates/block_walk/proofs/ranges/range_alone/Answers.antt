@@ -9,7 +9,7 @@ use Rattle.go_types.specs.Typing as go
 use Rattle.std.specs.Prelude.{is_some}
 use Rattle.expr_walk.proofs.WalkArms.ExprArms.{at, expr_there}
 use Rattle.jump_rules.specs.UsedLocals.Used.{and_names, used_of}
-use Rattle.simple_walk.proofs.ConstantGroups.MemberLemmas.{place_kept}
+use Rattle.statement_walk.proofs.SimpleWalk.ConstantGroups.MemberLemmas.{place_kept}
 use Rattle.block_walk.specs.Ranges.{range_clause}
 use Rattle.block_walk.proofs.RangeLemmas.{alone_is, alone_seen, clause_fails, clause_passes, used_before}
 use Rattle.block_walk.proofs.ranges.range_alone.Goals as goal

@@ -10,7 +10,7 @@ use Rattle.operand_answers.proofs.KeptLemmas.{env_kept, keeps_on, there_kept}
 use Rattle.expr_walk.proofs.WalkArms.ExprArms.{at, expr_kept, expr_there}
 use Rattle.jump_rules.specs.UsedLocals.Used.{used_of}
 use Rattle.assignment_steps.specs.Targets.{GivesTargets}
-use Rattle.simple_walk.proofs.ConstantGroups.MemberLemmas.{place_kept}
+use Rattle.statement_walk.proofs.SimpleWalk.ConstantGroups.MemberLemmas.{place_kept}
 use Rattle.block_walk.specs.Ranges.{range_clause}
 use Rattle.block_walk.proofs.RangeLemmas.{assigns_is, assigns_seen, clause_fails, clause_passes, left_then_over, targets_there}
 use Rattle.block_walk.proofs.ranges.range_assigning.Goals as goal

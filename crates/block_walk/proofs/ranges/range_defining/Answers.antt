@@ -13,7 +13,7 @@ use Rattle.control_steps.specs.LocalBlocks.Places.{IsPlace}
 use Rattle.expr_walk.proofs.WalkArms.ExprArms.{at, expr_there}
 use Rattle.jump_rules.specs.UsedLocals.Pending.{all_begun}
 use Rattle.jump_rules.specs.UsedLocals.Used.{and_names, used_of}
-use Rattle.simple_walk.proofs.ConstantGroups.MemberLemmas.{place_kept, within_self}
+use Rattle.statement_walk.proofs.SimpleWalk.ConstantGroups.MemberLemmas.{place_kept, within_self}
 use Rattle.statement_walk.proofs.PartLemmas.{part_read, spec_begun}
 use Rattle.block_walk.specs.Ranges.{range_clause}
 use Rattle.block_walk.proofs.RangeLemmas.{clause_refused, parts_before, range_all, range_news, types_before, used_before}

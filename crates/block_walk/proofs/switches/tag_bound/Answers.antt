@@ -6,7 +6,7 @@ use Rattle.operand_answers.specs.AccessSteps.Bounds.{GivesBound}
 use Rattle.expr_walk.specs.Walked.{IsWalkedOption}
 use Rattle.expr_walk.proofs.WalkArms.ExprArms.{at, bound_arm, expr_there}
 use Rattle.jump_rules.specs.UsedLocals.Used.{and_names, used_of}
-use Rattle.simple_walk.proofs.ConstantGroups.MemberLemmas.{place_kept}
+use Rattle.statement_walk.proofs.SimpleWalk.ConstantGroups.MemberLemmas.{place_kept}
 use Rattle.block_walk.proofs.CaseLemmas.{bound_at, well_before}
 use Rattle.block_walk.proofs.PlaceSteps.{used_here}
 use Rattle.block_walk.proofs.switches.tag_bound.Goals as goal

@@ -5,8 +5,8 @@ use Rattle.operand_rules.specs.Values.{typed_of}
 use Rattle.jump_rules.specs.UsedLocals.Used.{and_names, used_of}
 use Rattle.operand_answers.proofs.KeptLemmas.{keeps_on, stands_kept, value_on}
 use Rattle.expr_walk.proofs.WalkArms.ExprArms.{at}
-use Rattle.simple_walk.proofs.ConstantGroups.MemberLemmas.{place_kept}
-use Rattle.simple_walk.proofs.SimpleLemmas.{all_there}
+use Rattle.statement_walk.proofs.SimpleWalk.ConstantGroups.MemberLemmas.{place_kept}
+use Rattle.statement_walk.proofs.SimpleWalk.SimpleLemmas.{all_there}
 use Rattle.statement_walk.proofs.PartLemmas.{uses_here}
 use Rattle.block_walk.proofs.CaseLemmas.{alike_same, alike_self, values_answered, values_from, well_before}
 use Rattle.block_walk.proofs.switches.values_of_case.Goals as goal

@@ -3,8 +3,8 @@ use Rattle.go_types.specs.Declarations.{nothing_to_repeat}
 use Rattle.go_types.specs.Typing.{declares_constants, used_constants}
 use Rattle.jump_rules.specs.UsedLocals.Used.{used_of}
 use Rattle.assignment_steps.proofs.DeclaredBlocks.BlockLemmas.{within_on}
-use Rattle.simple_walk.specs.ConstantGroups.Groups.{AreWalkedSpecs}
-use Rattle.simple_walk.proofs.ConstantGroups.GroupLemmas.{spec_walked}
+use Rattle.statement_walk.specs.SimpleWalk.ConstantGroups.Groups.{AreWalkedSpecs}
+use Rattle.statement_walk.proofs.SimpleWalk.ConstantGroups.GroupLemmas.{spec_walked}
 use Rattle.statement_walk.specs.Parts.{GivesRead}
 use Rattle.statement_walk.proofs.ConstantLemmas.{group_end, group_more, group_refused, group_start}
 use Rattle.statement_walk.proofs.constants.constant_group.Goals as goal

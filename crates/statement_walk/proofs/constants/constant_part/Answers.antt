@@ -6,8 +6,8 @@ use Rattle.scope_names.specs.FreeNames.{free_type_option, names_of}
 use Rattle.jump_rules.specs.UsedLocals.Pending.{all_begun}
 use Rattle.jump_rules.specs.UsedLocals.Used.{and_names, used_of}
 use Rattle.jump_rules.proofs.UsedLocals.UsedLemmas.{names_append}
-use Rattle.simple_walk.specs.ConstantGroups.Groups.{in_spec, repeated_from}
-use Rattle.simple_walk.proofs.ConstantGroups.MemberLemmas.{place_kept}
+use Rattle.statement_walk.specs.SimpleWalk.ConstantGroups.Groups.{in_spec, repeated_from}
+use Rattle.statement_walk.proofs.SimpleWalk.ConstantGroups.MemberLemmas.{place_kept}
 use Rattle.expr_walk.proofs.WalkArms.ExprArms.{at}
 use Rattle.statement_walk.proofs.ConstantLemmas.{constant_read, constant_refused}
 use Rattle.statement_walk.proofs.PartLemmas.{uses_here}

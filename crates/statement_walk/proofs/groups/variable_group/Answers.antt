@@ -2,7 +2,7 @@ use Rattle.std.proofs.Common.{◌∙◌, Ok, Err, refl, subst, sym}
 use Rattle.go_types.specs.Typing.{declares_variables, used_variables}
 use Rattle.jump_rules.specs.UsedLocals.Used.{used_of}
 use Rattle.assignment_steps.proofs.DeclaredBlocks.BlockLemmas.{within_on}
-use Rattle.simple_walk.specs.ConstantGroups.Groups.{AreWalkedSpecs}
+use Rattle.statement_walk.specs.SimpleWalk.ConstantGroups.Groups.{AreWalkedSpecs}
 use Rattle.statement_walk.specs.Parts.{GivesRead}
 use Rattle.statement_walk.proofs.SpecsLemmas.{group_end, group_more, group_refused, group_start, spec_walked}
 use Rattle.statement_walk.proofs.groups.variable_group.Goals as goal

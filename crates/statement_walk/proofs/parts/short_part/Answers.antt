@@ -8,7 +8,7 @@ use Rattle.scope_names.specs.FreeNames.{names_of}
 use Rattle.assignment_steps.specs.DefineSteps.Defined.{news_at}
 use Rattle.jump_rules.specs.UsedLocals.Pending.{all_begun}
 use Rattle.jump_rules.specs.UsedLocals.Used.{and_names, used_of}
-use Rattle.simple_walk.proofs.ConstantGroups.MemberLemmas.{place_kept}
+use Rattle.statement_walk.proofs.SimpleWalk.ConstantGroups.MemberLemmas.{place_kept}
 use Rattle.statement_walk.proofs.FreshNames.{short_binds_news}
 use Rattle.statement_walk.proofs.PartLemmas.{part_read, short_refused, uses_here}
 use Rattle.statement_walk.proofs.parts.short_part.Goals as goal

@@ -4,7 +4,7 @@ use Rattle.go_types.specs.Entities.{extend}
 use Rattle.scope_names.specs.FreeNames.{names_of}
 use Rattle.assignment_steps.specs.DefineSteps.Defined.{AreNew, news_at}
 use Rattle.control_steps.specs.LocalBlocks.Places.{IsPlace}
-use Rattle.simple_walk.proofs.ConstantGroups.MemberLemmas.{place_kept, within_self}
+use Rattle.statement_walk.proofs.SimpleWalk.ConstantGroups.MemberLemmas.{place_kept, within_self}
 use Rattle.statement_walk.proofs.shorts.define_statement.Goals as goal
 
 pub returns-in_ok-declare_defined-in-Ok-clause-stands : goal.returns-in_ok-declare_defined-in-Ok-clause-stands

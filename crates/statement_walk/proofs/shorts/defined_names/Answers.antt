@@ -7,7 +7,7 @@ use Rattle.go_types.specs.Typing as go
 use Rattle.control_steps.specs.RightSides.Values.{GivesValuesAlike}
 use Rattle.scope_names.specs.FreeNames.{names_of}
 use Rattle.control_steps.specs.LocalBlocks.Places.{in_block_of}
-use Rattle.simple_walk.proofs.ConstantGroups.MemberLemmas.{place_here, place_kept}
+use Rattle.statement_walk.proofs.SimpleWalk.ConstantGroups.MemberLemmas.{place_here, place_kept}
 use Rattle.expr_walk.proofs.WalkArms.ExprArms.{at, no_span}
 use Rattle.statement_walk.proofs.DeclaredLemmas.{news_there}
 use Rattle.statement_walk.proofs.shorts.defined_names.Goals as goal

@@ -15,7 +15,7 @@ use Rattle.expr_walk.proofs.Parts.{elem_smaller, elem_walked, expr_smaller, expr
 use Rattle.expr_walk.proofs.WalkArms.ExprArms.{at}
 use Rattle.jump_rules.specs.UsedLocals.Used.{and_name, and_names, used_of}
 use Rattle.jump_rules.proofs.UsedLocals.UsedLemmas.{names_append}
-use Rattle.simple_walk.proofs.ConstantGroups.MemberLemmas.{written_same}
+use Rattle.statement_walk.proofs.SimpleWalk.ConstantGroups.MemberLemmas.{written_same}
 use Rattle.statement_walk.specs.Uses.{UsesLeft, under_option}
 use Rattle.statement_walk.proofs.UsesLemmas.{element_uses, field_unused, key_used, literal_before, type_stays, uses_more, uses_start, uses_then}
 use Rattle.statement_walk.proofs.uses.+uses.Goals as goal

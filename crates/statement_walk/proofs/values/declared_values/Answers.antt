@@ -2,7 +2,7 @@ use Rattle.std.proofs.Common.{subst, sym}
 use Rattle.go_tree.specs.View.{exprs_of}
 use Rattle.go_types.specs.Typing as go
 use Rattle.control_steps.specs.RightSides.Values.{GivesValuesAlike}
-use Rattle.simple_walk.proofs.SimpleLemmas.{stand_of}
+use Rattle.statement_walk.proofs.SimpleWalk.SimpleLemmas.{stand_of}
 use Rattle.expr_walk.proofs.WalkArms.ExprArms.{at}
 use Rattle.statement_walk.proofs.DeclaredLemmas.{right_seen}
 use Rattle.statement_walk.proofs.values.declared_values.Goals as goal

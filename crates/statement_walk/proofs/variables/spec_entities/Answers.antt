@@ -11,7 +11,7 @@ use Rattle.control_steps.specs.RightSides.Values.{GivesValuesAlike}
 use Rattle.scope_names.specs.FreeNames.{names_of}
 use Rattle.assignment_steps.specs.SpecSteps.Specs.{GivesVariables, GivesWritten}
 use Rattle.control_steps.specs.LocalBlocks.Places.{in_block_of}
-use Rattle.simple_walk.proofs.ConstantGroups.MemberLemmas.{place_here, place_kept, seen_written, written_kept, written_stays}
+use Rattle.statement_walk.proofs.SimpleWalk.ConstantGroups.MemberLemmas.{place_here, place_kept, seen_written, written_kept, written_stays}
 use Rattle.expr_walk.proofs.WalkArms.ExprArms.{at}
 use Rattle.statement_walk.specs.Declared.{spec_variables}
 use Rattle.statement_walk.proofs.DeclaredLemmas.{variables_there}

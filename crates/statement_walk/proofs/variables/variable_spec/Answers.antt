@@ -4,7 +4,7 @@ use Rattle.go_types.specs.Entities.{extend}
 use Rattle.scope_names.specs.FreeNames.{names_of}
 use Rattle.control_steps.specs.DeclarationSteps.Entities.{AreEntities, binds_at}
 use Rattle.control_steps.specs.LocalBlocks.Places.{IsPlace}
-use Rattle.simple_walk.proofs.ConstantGroups.MemberLemmas.{place_kept, within_self}
+use Rattle.statement_walk.proofs.SimpleWalk.ConstantGroups.MemberLemmas.{place_kept, within_self}
 use Rattle.statement_walk.proofs.variables.variable_spec.Goals as goal
 
 pub returns-in_ok-declare_entities-in-Ok-clause-stands : goal.returns-in_ok-declare_entities-in-Ok-clause-stands

@@ -1,7 +1,0 @@
-use Rattle.std.proofs.Common.{◌∙◌, ap, sym}
-use Rattle.go_types.specs.Statements.{is_default}
-use Rattle.range_steps.proofs.CaseSteps.CaseLemmas.{default_written}
-use Rattle.range_steps.proofs.case_steps.seen.is_default.Goals as goal
-
-pub returns : goal.returns
-returns c = default_written c.items.result.now ∙ ap is_default (sym c.items.ensures.seen)

@@ -1,6 +1,0 @@
-use Rattle.std.proofs.Common.{drop}
-use Rattle.operand_modes.specs.Lists.{AreRead}
-use Rattle.range_steps.proofs.case_steps.values.own_values.Given as goal
-
-abbrev pub invariant-loop-operand : goal.invariant-loop-operand
-invariant-loop-operand l = AreRead l.operands (drop l.operand-index l.operands) l.values.items

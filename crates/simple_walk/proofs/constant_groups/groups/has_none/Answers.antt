@@ -1,7 +1,0 @@
-use Rattle.std.proofs.Common.{◌∙◌, ap, sym}
-use Rattle.go_types.specs.Bodies.{no_values}
-use Rattle.control_steps.proofs.TakenLemmas.{none_written}
-use Rattle.simple_walk.proofs.constant_groups.groups.has_none.Goals as goal
-
-pub returns : goal.returns
-returns c = none_written c.items.result.now ∙ ap no_values (sym c.items.ensures.seen)
