@@ -1,0 +1,4 @@
+pub mod Flagged
+pub mod Searched
+pub mod Kept
+pub mod Steps

@@ -1,0 +1,8 @@
+//! The first free use of a marked constant in a program, in the order of the run, with what is learned of its files.
+#![tactic(auto)]
+
+mod first;
+mod laws;
+
+pub use first::{FirstUse, first_use};
+pub use laws::{first_uses_are_steps, first_uses_keep_programs};
