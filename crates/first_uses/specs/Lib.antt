@@ -1,0 +1,4 @@
+pub mod First
+pub mod Step
+pub mod StepLaws
+pub mod Laws
