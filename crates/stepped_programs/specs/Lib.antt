@@ -1,3 +1,4 @@
+pub mod FirstUses
 pub mod SearchedSites
 pub mod SteppedValues
 pub mod Texts

@@ -2,6 +2,7 @@
 #![tactic(auto)]
 
 mod declarations;
+mod first_uses;
 mod flags;
 mod laws;
 mod origins;
@@ -12,6 +13,10 @@ mod steps;
 mod swapped;
 mod texts;
 
+pub use first_uses::{
+    FirstUse, first_use, first_uses_are_steps, first_uses_keep_programs, found_uses_may_step,
+    step_use, use_steps_go_on,
+};
 pub use laws::{origins_are_swapped, steps_keep_programs, steps_keep_settled, steps_may_be_put};
 pub use place::StepPlace;
 pub use searched_sites::{

@@ -1,8 +1,0 @@
-use Rattle.first_uses.proofs.Kept.{open_in_order, keep_programs}
-use Rattle.first_uses.proofs.laws.first_uses_keep_programs.Goals as goal
-
-pub returns-clause-open : goal.returns-clause-open
-returns-clause-open c = open_in_order
-
-pub returns-clause-keep : goal.returns-clause-keep
-returns-clause-keep c = keep_programs
