@@ -1,4 +1,5 @@
-//! A program after a step: what is kept of it, with the file that the step made in the place of the old one.
+//! Programs on the way of a run: what searches in them find, the first use that is free, the step over it, and the program
+//! after the step.
 #![tactic(auto)]
 
 mod declarations;
