@@ -30,7 +30,7 @@ use Rattle.operand_rules.specs.declared.values.Refusal.TheVariants.{NotTyped, No
 use Rattle.control_steps.proofs.LocalBlocks.PlaceLemmas.{places_are_environments}
 use Rattle.expr_walk.specs.Walked.{AreAllWalked}
 use Rattle.expr_walk.proofs.WalkArms.ExprArms.{at}
-use Rattle.statement_walk.specs.Declared.{AreDeclared, GivesNews, GivesVariablesHere}
+use Rattle.statement_walk.specs.DeclaredVariables.{AreDeclared, GivesNews, GivesVariablesHere}
 use Rattle.statement_walk.specs.Parts.{AreHere, GivesRead, IsRead}
 use Rattle.statement_walk.proofs.SeenUses.{all_used_seen}
 use Rattle.statement_walk.proofs.FreshNames.{BindsNews, news_begin, news_fresh}

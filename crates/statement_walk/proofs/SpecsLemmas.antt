@@ -29,7 +29,7 @@ use Rattle.jump_rules.specs.UsedLocals.Used.{Used}
 use Rattle.jump_rules.specs.UsedLocals.Walked.{IsWalked}
 use Rattle.expr_walk.specs.Walked.{AreAllWalked}
 use Rattle.statement_walk.specs.SimpleWalk.ConstantGroups.Groups.{AreWalkedSpecs, SpecValue}
-use Rattle.statement_walk.specs.Declared.{spec_variables}
+use Rattle.statement_walk.specs.DeclaredVariables.{spec_variables}
 use Rattle.statement_walk.specs.Parts.{AreHere, AreSpecsRead, GivesRead, GroupRead, IsPart, IsRead}
 use Rattle.statement_walk.proofs.FreshNames.{apart}
 use Rattle.statement_walk.proofs.PartLemmas.{among_more}

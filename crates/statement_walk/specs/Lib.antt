@@ -1,6 +1,6 @@
 pub mod RangeSteps
 pub mod SimpleWalk
-pub mod Declared
+pub mod DeclaredVariables
 pub mod Parts
 pub mod Uses
 pub mod Basic

@@ -14,7 +14,7 @@ ghost use Rattle.operand_answers.specs.Known.{Stands};
 ghost use Rattle.control_steps.specs.LocalBlocks.Places.{IsPlace, IsWithin};
 ghost use Rattle.expr_walk.specs.Walked.{AreAllWalked};
 ghost use Rattle.jump_rules.specs.UsedLocals.Used.{used_of};
-ghost use Rattle.statement_walk.specs.Declared.{spec_variables};
+ghost use Rattle.statement_walk.specs.DeclaredVariables.{spec_variables};
 ghost use Rattle.statement_walk.specs.Parts.{AreHere, GivesRead};
 
 use crate::begins::begin_defined;

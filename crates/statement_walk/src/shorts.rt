@@ -12,7 +12,7 @@ ghost use Rattle.operand_answers.specs.Known.{Stands};
 ghost use Rattle.control_steps.specs.LocalBlocks.Places.{IsPlace, IsWithin};
 ghost use Rattle.assignment_steps.specs.DefineSteps.Defined.{AreNew, GivesShort};
 ghost use Rattle.expr_walk.specs.Walked.{AreAllWalked};
-ghost use Rattle.statement_walk.specs.Declared.{GivesNews};
+ghost use Rattle.statement_walk.specs.DeclaredVariables.{GivesNews};
 
 use crate::values::declared_values;
 use assignment_steps::{DefinedList, declare_defined, short_declaration};

@@ -10,7 +10,7 @@ ghost use Rattle.control_steps.specs.DeclarationSteps.Entities.{AreEntities};
 ghost use Rattle.assignment_steps.specs.SpecSteps.Specs.{GivesVariables};
 ghost use Rattle.control_steps.specs.LocalBlocks.Places.{IsPlace, IsWithin};
 ghost use Rattle.expr_walk.specs.Walked.{AreAllWalked};
-ghost use Rattle.statement_walk.specs.Declared.{GivesVariablesHere, spec_variables};
+ghost use Rattle.statement_walk.specs.DeclaredVariables.{GivesVariablesHere, spec_variables};
 
 use crate::simple_walk::{has_none, written_type};
 use crate::values::declared_values;

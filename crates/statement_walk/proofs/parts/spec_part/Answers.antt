@@ -12,7 +12,7 @@ use Rattle.jump_rules.specs.UsedLocals.Used.{and_names, used_of}
 use Rattle.jump_rules.proofs.UsedLocals.UsedLemmas.{names_append}
 use Rattle.statement_walk.proofs.SimpleWalk.ConstantGroups.MemberLemmas.{place_kept}
 use Rattle.expr_walk.proofs.WalkArms.ExprArms.{at}
-use Rattle.statement_walk.specs.Declared.{spec_variables}
+use Rattle.statement_walk.specs.DeclaredVariables.{spec_variables}
 use Rattle.statement_walk.proofs.FreshNames.{spec_binds_news}
 use Rattle.statement_walk.proofs.PartLemmas.{part_read, spec_begun, spec_refused, uses_here}
 use Rattle.statement_walk.proofs.parts.spec_part.Goals as goal

@@ -13,7 +13,7 @@ use Rattle.assignment_steps.specs.SpecSteps.Specs.{GivesVariables, GivesWritten}
 use Rattle.control_steps.specs.LocalBlocks.Places.{in_block_of}
 use Rattle.statement_walk.proofs.SimpleWalk.ConstantGroups.MemberLemmas.{place_here, place_kept, seen_written, written_kept, written_stays}
 use Rattle.expr_walk.proofs.WalkArms.ExprArms.{at}
-use Rattle.statement_walk.specs.Declared.{spec_variables}
+use Rattle.statement_walk.specs.DeclaredVariables.{spec_variables}
 use Rattle.statement_walk.proofs.DeclaredLemmas.{variables_there}
 use Rattle.statement_walk.proofs.variables.spec_entities.Goals as goal
 
