@@ -87,15 +87,15 @@ chain 'type S0 = struct{ x []int }' "$pair" 40 'type K map[S40]int'
 shows "a key of forty structs that hold a slice" $'\nmain.go:43:1: type S40 = ...\nmain.go:44:1: refused'
 
 # Type identity of such structs, at each of forty levels: of the A and the B, which hold the same at the bottom; not of the A and
-# the C, whose fields there differ, or the D, which are defined types, or the A of the level before
-chain $'type A0 = struct{ x int }\ntype B0 = struct{ x int }\ntype C0 = struct{ x int8 }\ntype D0 struct{ x int }' \
+# the C, whose fields there differ, or the G, which are defined types, or the A of the level before
+chain $'type A0 = struct{ x int }\ntype B0 = struct{ x int }\ntype C0 = struct{ x int8 }\ntype G0 struct{ x int }' \
     $'type A{n} = struct{ a, b A{m} }\ntype B{n} = struct{ a, b B{m} }\ntype C{n} = struct{ a, b C{m} }
-type D{n} struct{ a, b D{m} }\nvar p{n} *A{n} = new(B{n})\nvar q{n} *A{n} = new(C{n})\nvar r{n} *A{n} = new(D{n})
-var s{n} *A{n} = new(A{m})\nvar t{n} B{n} = A{n}{}\nvar u{n} B{n} = C{n}{}\nvar v{n} D{n} = struct{ a, b D{m} }{}
-var w{n} D{n} = A{n}{}\nvar x{n} D{n} = D{m}{}\nvar y{n} = A{n}{B{m}{}, A{m}{}}\nvar z{n} = A{n}{B{m}{}, C{m}{}}' 40 \
+type G{n} struct{ a, b G{m} }\nvar p{n} *A{n} = new(B{n})\nvar q{n} *A{n} = new(C{n})\nvar r{n} *A{n} = new(G{n})
+var s{n} *A{n} = new(A{m})\nvar t{n} B{n} = A{n}{}\nvar u{n} B{n} = C{n}{}\nvar v{n} G{n} = struct{ a, b G{m} }{}
+var w{n} G{n} = A{n}{}\nvar x{n} G{n} = G{m}{}\nvar y{n} = A{n}{B{m}{}, A{m}{}}\nvar z{n} = A{n}{B{m}{}, C{m}{}}' 40 \
     $'type E A40\n\nvar e0 E = B40{}\n\nvar e1 *E = new(A40)\n\nvar e2 E = C40{}\n\nfunc IsNil(q *A40) bool { return q == nil }'
 shows "two structs that are identical" $'\nmain.go:11:1: var p1 *struct{a struct{x int}; b struct{x int}}\n'
-shows "forty structs of two structs that are identical" $'\nmain.go:596:1: var p40 ...\nmain.go:600:1: var t40 ...\nmain.go:602:1: var v40 D40\nmain.go:605:1: var y40 ...\nmain.go:607:1: type E ...\nmain.go:609:1: var e0 E\n'
+shows "forty structs of two structs that are identical" $'\nmain.go:596:1: var p40 ...\nmain.go:600:1: var t40 ...\nmain.go:602:1: var v40 G40\nmain.go:605:1: var y40 ...\nmain.go:607:1: type E ...\nmain.go:609:1: var e0 E\n'
 for name in p t v y; do counts "identical structs, variables $name" 40 "^main\\.go:[0-9]+:1: var $name[0-9]+ "; done
 counts "structs that aren't identical" 0 ': var ([qrsuwxz][0-9]|e[12])'
 shows "the first struct that isn't identical" $'\nmain.go:615:1: func IsNil...\nmain.go:12:1: refused'
