@@ -1,10 +1,14 @@
 #!/usr/bin/env python3
-"""Counts the ways through crates.txt from each crate down, which `rt ci` walks before its first check.
+"""Counts what `rt ci` walks through crates.txt before its first check.
 
-Usage: bench/ways.py. Prints the crates with the most ways, the most first, and how many there are in all.
+For each name that a `ghost use` in a crate's src/ brings, and for each file there, it walks every way from the crate down
+through crates.txt. Usage: bench/ways.py. Prints the crates for which it walks the most, the most first, each with its
+ways, its names and its files, and how many ways are walked in all.
 """
 import functools
+import glob
 import os
+import re
 
 TOP = os.path.dirname(os.path.dirname(os.path.abspath(__file__)))
 SHOWN = 12
@@ -18,6 +22,17 @@ def libraries():
     return {name: [it for it in below if it in crates] for name, below in crates.items()}
 
 
+def names_and_files(crate):
+    """How many names the crate's code brings for its clauses, and how many files it has."""
+    names = files = 0
+    for path in glob.glob(f"{TOP}/crates/{crate}/src/**/*.rt", recursive=True):
+        files += 1
+        with open(path, encoding="utf-8") as it:
+            for item in re.findall(r"(?m)^[ \t]*ghost use\b([^;]*);", it.read()):
+                names += len([part for part in re.split(r"[{},]", item) if part.strip() and not part.strip().endswith(".")])
+    return names, files
+
+
 def main():
     below = libraries()
 
@@ -25,9 +40,11 @@ def main():
     def ways(name):
         return 1 + sum(map(ways, below[name]))
 
-    for name in sorted(below, key=ways, reverse=True)[:SHOWN]:
-        print(f"{ways(name):>10} {name}")
-    print(f"{sum(map(ways, below)):>10} in all, of {len(below)} crates")
+    rows = [(ways(name), *names_and_files(name), name) for name in below]
+    rows.sort(key=lambda it: it[0] * (it[1] + it[2]), reverse=True)
+    for of, names, files, name in rows[:SHOWN]:
+        print(f"{of * (names + files):>12} walked for {name}: {of} ways, {names} names, {files} files")
+    print(f"{sum(of * (names + files) for of, names, files, _ in rows):>12} walked in all, for {len(rows)} crates")
 
 
 if __name__ == "__main__":

@@ -44,12 +44,12 @@ add() {
     fi
 }
 
-# modules, what is refused of them, those that are too large, what is shown of files, and what documents name
-# modules, what is refused of them, what they declare, those that are too large, tokens and trees of files, files printed, and
-# what documents name
+# modules, what is refused of them, what they declare, those that are too large, tokens and trees of files, files
+# printed, rows of types, and what documents name
 add runs.sh
 add modules.sh
 add declared.sh
+add types.sh
 add limits.sh
 add tokens.sh
 add trees.sh
