@@ -1,0 +1,5 @@
+pub mod Bodies
+pub mod Puts
+pub mod Blocks
+pub mod Runs
+pub mod Laws
