@@ -321,7 +321,7 @@ module _ {S : Type 0} (ps more : Program S) (itself : imports_itself ps ≡ true
 
     all_within : (xs : Program S) → AllOf (λ (p : SourcePackage S). has_package ps p.number ≡ true) xs →
         AllOf (λ (p : SourcePackage S). list_all (λ f. list_all (λ i. has_package ps i.of) f.imports) p.files ≡ true)
-            xs →
+        xs →
         AllOf (HeaderWithin r) (headed xs)
     all_within [] e k = tt
     all_within (p ∷ xs) e k =
@@ -373,7 +373,7 @@ module _ {S : Type 0} (ps more : Program S) (itself : imports_itself ps ≡ true
         block_of (blocks_by g qs ks) k ≡ block_by g k hs
     right_block g k e =
         block_is g ks k qs ∙ (λ z. if any_both (λ (p : SourcePackage S). nat_eq p.number k) ps more e z then
-            block_by g k
+        block_by g k
         ks else [])
         ∙ block_at_home g k ks ∙ (λ z. block_by g k (at_home_front k hs ms (all_elsewhere k e) z)) ∙ sym
         (block_at_home g k hs)

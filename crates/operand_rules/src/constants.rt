@@ -63,8 +63,8 @@ impl ConstTable {
         &self.values[c.0]
     }
 
-    /// Adds a constant behind the others. Where their strings would have more than `MAX_CONST_BYTES` bytes together, the
-    /// answer is want of memory.
+    /// Adds a constant behind the others. Where their strings would have more than `MAX_CONST_BYTES` bytes together,
+    /// the answer is want of memory.
     pub fn keep(&mut self, value: Const) -> Result<ConstId, NoMemory>
         ensures added { OnOk result (self.new ≡ self.old ++ value ∷ []) }
         ensures number { IfOk result (λ c. c.0 ≡ length self.old) }

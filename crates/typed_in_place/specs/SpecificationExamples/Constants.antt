@@ -1,5 +1,5 @@
--- The examples of the Go specification's sections Representability, Constant expressions and Conversions that are in the
--- language: those with whole numbers, runes, strings, slices and pointers.
+-- The examples of the Go specification's sections Representability, Constant expressions and Conversions that are in
+-- the language: those with whole numbers, runes, strings, slices and pointers.
 use Rattle.std.specs.Prelude.{ℕ, true, false, List, [], ◌∷◌, ◌++◌, Option, Some, None, pos, negsuc, codes}
 use Rattle.go_tree.specs.declared.operators.UnOp.TheVariants.{Minus, Flip}
 use Rattle.go_tree.specs.declared.operators.BinOp.TheVariants.{Mul, Div, Shl, Add, Gt}
