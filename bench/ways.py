@@ -1,9 +1,9 @@
 #!/usr/bin/env python3
 """Counts what `rt ci` walks through crates.txt before its first check.
 
-For each name that a `ghost use` in a crate's src/ brings, and for each file there, it walks every way from the crate down
-through crates.txt. Usage: bench/ways.py. Prints the crates for which it walks the most, the most first, each with its
-ways, its names and its files, and how many ways are walked in all.
+For each name that a `ghost use` in a crate's src/ brings, and for each file there, it walks every way from the crate
+down through crates.txt. Usage: bench/ways.py. Prints the crates for which it walks the most, the most first, each with
+its ways, its names and its files, and how many ways are walked in all.
 """
 import functools
 import glob
@@ -29,7 +29,8 @@ def names_and_files(crate):
         files += 1
         with open(path, encoding="utf-8") as it:
             for item in re.findall(r"(?m)^[ \t]*ghost use\b([^;]*);", it.read()):
-                names += len([part for part in re.split(r"[{},]", item) if part.strip() and not part.strip().endswith(".")])
+                parts = [part.strip() for part in re.split(r"[{},]", item)]
+                names += len([part for part in parts if part and not part.endswith(".")])
     return names, files
 
 

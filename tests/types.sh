@@ -4,8 +4,8 @@
 # A row is `typed`, or the place in main.go of the declaration that isn't; a tab; `=` where go/types of Go 1.19 is of
 # the same mind, or `-` and why the language is another there; a tab; and what stands behind `package main` in main.go,
 # with its newlines and tabs escaped. types/set.go is another file of the package, and types/lib.go is the package
-# m/lib. Where Go 1.19 is installed it is asked of each row, and of the modules of declared.txt; elsewhere only how the rows
-# are written is looked at.
+# m/lib. Where Go 1.19 is installed it is asked of each row, and of the modules of declared.txt; elsewhere only how the
+# rows are written is looked at.
 set -u
 top=$(cd "$(dirname "${BASH_SOURCE[0]}")/.." && pwd)
 . "$top/tests/counts.sh"
