@@ -5,5 +5,9 @@ pub mod StandingForms
 pub mod FormNames
 pub mod DeclaredMembers
 pub mod CountedNames
+pub mod QualifiedDots
 pub mod RemovedImports
 pub mod PrintedRuns
+pub mod PrintedSteps
+pub mod UsedImports
+pub mod NamedUses

@@ -23,8 +23,8 @@ use Rattle.run_rules.specs.Reduced.{name_obstacle, home_place, constant_form}
 use Rattle.run_rules.specs.Respanned.{decl_with, file_with}
 use Rattle.run_rules.specs.Rewriting.{new_expr}
 use Rattle.run_rules.specs.Run.{Standing, Logged, Next, Limit, Steps, StepsOfUse, Bytes, Total, TooLarge, over, over_weight, first_over, module_file_size, steps_like, texts_size, the_limits, passed, here_of, is_commented}
-use Rattle.run_rules.specs.Sites.{MarkRef, Where, Inlinable, a_constant, part_span}
-use Rattle.run_rules.specs.Steps.{At, same_here}
+use Rattle.run_rules.specs.Sites.{MarkRef, Where, Inlinable, a_constant, part_span, where_is, inlinable}
+use Rattle.run_rules.specs.Steps.{At, same_here, Found}
 use Rattle.run_rules.specs.Surroundings.{other, Place, inner_slot, in_slot}
 use Rattle.run_rules.specs.Texts.{FileText}
 use Rattle.run_laws.specs.Reading.{FileReads, FileAt, ProgramReads, OnePathEach}
@@ -32,13 +32,18 @@ use Rattle.run_laws.proofs.FoundSpans.{Placed}
 use Rattle.go_read.specs.SpellsWeight.{weights_of}
 use Rattle.form_imports.specs.ImportLaws.Steps.{names_standing, binders_in, binders_of}
 use Rattle.form_imports.proofs.ImportLaws.IdentifiersWith.{identifiers-with}
+use Rattle.import_splices.specs.FormSplices.Laws.{MakesForm}
 use Rattle.import_splices.proofs.FormSplices.FormsFound.{step-makes-form}
+use Rattle.order_runs.proofs.RunSteps.SeatedUses.{Seated}
 use Rattle.cycle_runs.specs.OrderCycles.NewNames.{FewNames}
 use Rattle.cycle_runs.proofs.ImportCycles.ImportStep.{placed}
 use Rattle.put_names.specs.Uses.{IsDeclaredAsName, as_name, as_member, UsesConstant}
 use Rattle.put_names.proofs.Forms.{IsFormBy, by_obstacle, reduced_is}
-use Rattle.marked_runs.specs.NamedMarks.Named.{AllNamed}
-use Rattle.marked_runs.proofs.NamedMarks.Used.{named-used}
+use Rattle.marked_runs.specs.NamedMarks.Named.{IsNamedConstant, AllNamed}
+use Rattle.marked_runs.specs.PutForms.Uses.{IsFirstUse, UsesNamedConstant}
+use Rattle.marked_runs.proofs.PutForms.FirstUses as first
+use Rattle.marked_runs.proofs.PutForms.FirstUses.{makes, seated}
+use Rattle.marked_runs.proofs.NamedMarks.Used.{of-expr, named-used}
 use Rattle.printed_constants.specs.Printed.{FlatConstants, no_constants, and_constant, IsPrinted, some_constants, a_function, ArePrinted}
 use Rattle.printed_constants.proofs.CountedNames.Counted.{names_few}
 use Rattle.printed_constants.proofs.CountedNames.Specs.{specs_few, as_many_specs}
@@ -220,15 +225,12 @@ module _ (st : Standing) (reads : ProgramReads st) (paths : OnePathEach st.packa
         (omega (arith, own, one)) (omega (arith, a, b, specs, one)) (omega (arith, block, c)) refl words_few (omega arith) (omega (arith, within)) in
         subst (λ (k : ℕ). suc (length (identifiers w.source.tree ++ ((map (λ i. i.name) (names_standing st.packages w).imports ++ map (λ x. x.0) (package_block 0 w.of) ++ []) ++ (keyword_spellings ++ predeclared)))) < k) two_to_64 (omega (arith, all))
 
-module _ (marks : List MarkRef) (st : Standing) (l : Logged) (after : Standing) (n : Next marks st l after) (reads : ProgramReads st) (paths : OnePathEach st.packages) (printed : ArePrinted st.packages) where
+module _ (marks : List MarkRef) (st : Standing) (f : Found At) (its : MakesForm marks st f) (here : Placed here_of (λ (s : Span). Unit {0}) st.packages marks f.site) (reads : ProgramReads st) (paths : OnePathEach st.packages) (printed : ArePrinted st.packages) where
   abbrev w : Where At
-  w = n.found.site.at
+  w = f.site.at
 
   abbrev z : At
-  z = part_span n.found.site.part
-
-  here : Placed here_of (λ (s : Span). Unit {0}) st.packages marks n.found.site
-  here = placed marks st l after n
+  z = part_span f.site.part
 
   -- ---- the form
 
@@ -236,13 +238,13 @@ module _ (marks : List MarkRef) (st : Standing) (l : Logged) (after : Standing) 
   name_of_import s = record { name = import_name st.packages s; path = s.path; spec = no_span }
 
   abbrev text_by : Where At → Expr At → Names → Form At
-  text_by home e names = constant_form same_here (is_commented st) st.packages marks n.found.site home e names
+  text_by home e names = constant_form same_here (is_commented st) st.packages marks f.site home e names
 
   abbrev top_of : Where At → Place At
   top_of home = top_place st.packages home.number home.of home.source.tree
 
   text_short : (home : Where At) {e : Expr At} → IsDeclaredAsName st.packages home e → length (form_identifiers (text_by home e unnamed)) ≤ 2
-  text_short home (as_name {s = s} {n = m}) = by (member_qualifier st.packages home n.found.site.at.number unnamed (top_of home) m)
+  text_short home (as_name {s = s} {n = m}) = by (member_qualifier st.packages home f.site.at.number unnamed (top_of home) m)
     where
       by : (o : Option (List ℕ)) → length (form_identifiers (as_expr (otherwise (given o (λ q. Some (selector z (ident z q) (record { span = z; name = m })))) (ident z m)))) ≤ 2
       by None = omega arith
@@ -250,27 +252,27 @@ module _ (marks : List MarkRef) (st : Standing) (l : Logged) (after : Standing) 
   text_short home (as_member {s = s} {z = y} {q = q} {n = m} k p h t) =
       subst
       (λ (o : Option ℕ). length (form_identifiers (as_expr (otherwise (given (given o (λ j. Some (unnamed j))) (λ v. Some (selector z (ident z v) (record { span = z; name = m.name }))))
-      (selector z (new_expr (outside_changes st.packages home n.found.site.at.number unnamed z) (in_slot (inner_slot (top_of home).slot (selector s (ident y q) m) 7 false true) (top_of home)) other (ident y q)) (record { span = z; name = m.name }))))) ≤ 2)
+      (selector z (new_expr (outside_changes st.packages home f.site.at.number unnamed z) (in_slot (inner_slot (top_of home).slot (selector s (ident y q) m) 7 false true) (top_of home)) other (ident y q)) (record { span = z; name = m.name }))))) ≤ 2)
       (sym h) (omega arith)
 
-  module _ (uses : UsesConstant n) where
-    made : IsFormBy marks st n.found (step-makes-form marks st l after n) (text_by uses.home uses.value)
+  module _ (home : Where At) (home_is : where_is st.packages f.site.mark ≡ Some home) (name : NameAt At) (value : Expr At) (declared : inlinable st.packages f.site.mark ≡ Some (a_constant name value)) (as_name : IsDeclaredAsName st.packages home value) where
+    made : IsFormBy marks st f its (text_by home value)
     made =
-        by_obstacle marks st n.found (step-makes-form marks st l after n) ConstForm (text_by uses.home uses.value)
-        (name_obstacle same_here (is_commented st) st.packages marks n.found.site uses.home (expr_seen (home_place same_here (is_commented st) st.packages marks uses.home) other uses.value) (text_by uses.home uses.value unnamed))
-        (reduced_is marks st n.found (step-makes-form marks st l after n) uses.home (a_constant uses.name uses.value) uses.home_is uses.declared)
+        by_obstacle marks st f its ConstForm (text_by home value)
+        (name_obstacle same_here (is_commented st) st.packages marks f.site home (expr_seen (home_place same_here (is_commented st) st.packages marks home) other value) (text_by home value unnamed))
+        (reduced_is marks st f its home (a_constant name value) home_is declared)
 
-    named_few : length n.found.named ≤ 2
+    named_few : length f.named ≤ 2
     named_few =
-        let a : length n.found.named ≡ length (named_packages st.packages n.found.site.at n.found.site.place [] (unnamed_in (form_identifiers (text_by uses.home uses.value unnamed)))) = ap length made.named_is in
-        let b = packages_counted st.packages n.found.site.at n.found.site.place [] (unnamed_in (form_identifiers (text_by uses.home uses.value unnamed))) in
-        let c = unnamed_counted (form_identifiers (text_by uses.home uses.value unnamed)) in
-        let d = text_short uses.home uses.as_name in omega (arith, a, b, c, d)
+        let a : length f.named ≡ length (named_packages st.packages f.site.at f.site.place [] (unnamed_in (form_identifiers (text_by home value unnamed)))) = ap length made.named_is in
+        let b = packages_counted st.packages f.site.at f.site.place [] (unnamed_in (form_identifiers (text_by home value unnamed))) in
+        let c = unnamed_counted (form_identifiers (text_by home value unnamed)) in
+        let d = text_short home as_name in omega (arith, a, b, c, d)
 
-    none_bound : length (binders_of st.packages n.found.site.mark) ≡ 0
-    none_bound = ap (λ (o : Option (Inlinable At)). length (elim o as (λ r. List (List ℕ)) [ None ↦ [] | Some d ↦ binders_in d ])) uses.declared
+    none_bound : length (binders_of st.packages f.site.mark) ≡ 0
+    none_bound = ap (λ (o : Option (Inlinable At)). length (elim o as (λ r. List (List ℕ)) [ None ↦ [] | Some d ↦ binders_in d ])) declared
 
-    few_by : texts_size st.texts ≤ the_limits.total → FewNames st.packages n.found
+    pub few_by : texts_size st.texts ≤ the_limits.total → FewNames st.packages f
     few_by small =
         let within : texts_size st.texts ≤ 16777216 = small in
         let file : FileAt st.packages w.number w.file_number w.source = record { of = w.of; package_is = here.package_is; file_is = here.file_is } in
@@ -281,14 +283,34 @@ module _ (marks : List MarkRef) (st : Standing) (l : Logged) (after : Standing) 
         let a = length-map (names_here st.packages w).imports (λ i. i.name) in
         let b : length (names_here st.packages w).imports ≡ length (import_specs w.source.tree) = length-map (import_specs w.source.tree) (λ s. name_of_import s) in
         let c = length-map (package_block 0 w.of) (λ x. x.0) in
-        subst (λ (k : ℕ). suc (length (identifiers w.source.tree ++ ((map (λ i. i.name) (names_here st.packages w).imports ++ map (λ x. x.0) (package_block 0 w.of) ++ binders_of st.packages n.found.site.mark) ++ (keyword_spellings ++ predeclared)))) + length n.found.named < k) two_to_64
-        (lists_few (identifiers w.source.tree) (map (λ i. i.name) (names_here st.packages w).imports) (map (λ x. x.0) (package_block 0 w.of)) (binders_of st.packages n.found.site.mark) (keyword_spellings ++ predeclared) (length n.found.named) (texts_size st.texts + texts_size st.texts)
+        subst (λ (k : ℕ). suc (length (identifiers w.source.tree ++ ((map (λ i. i.name) (names_here st.packages w).imports ++ map (λ x. x.0) (package_block 0 w.of) ++ binders_of st.packages f.site.mark) ++ (keyword_spellings ++ predeclared)))) + length f.named < k) two_to_64
+        (lists_few (identifiers w.source.tree) (map (λ i. i.name) (names_here st.packages w).imports) (map (λ x. x.0) (package_block 0 w.of)) (binders_of st.packages f.site.mark) (keyword_spellings ++ predeclared) (length f.named) (texts_size st.texts + texts_size st.texts)
         (omega (arith, own, one)) (omega (arith, a, b, specs, one)) (omega (arith, block, c)) none_bound words_few named_few (omega (arith, within)))
 
-  pub avoided_few : AllNamed st.packages marks → texts_size st.texts ≤ the_limits.total → FewNames st.packages n.found
-  avoided_few named small =
-      let e = site_expression st.packages marks printed n.found.site (step-makes-form marks st l after n).is_use in
-      few_by (named-used marks st l after n e.0 e.1 named) small
+pub avoided_few : (marks : List MarkRef) (st : Standing) (l : Logged) (after : Standing) (n : Next marks st l after) → ProgramReads st → OnePathEach st.packages → ArePrinted st.packages → AllNamed st.packages marks → texts_size st.texts ≤ the_limits.total → FewNames st.packages n.found
+avoided_few marks st l after n reads paths printed named small =
+    let e = site_expression st.packages marks printed n.found.site (step-makes-form marks st l after n).is_use in
+    let u : UsesConstant n = named-used marks st l after n e.0 e.1 named in
+    few_by marks st n.found (step-makes-form marks st l after n) (placed marks st l after n) reads paths printed u.home u.home_is u.name u.value u.declared u.as_name small
+
+-- a first use is a name of a constant that is declared as a name, and avoids few names, before its step is known
+pub first_named : (marks : List MarkRef) (st : Standing) (f : Found At) (old : FileText) → IsFirstUse marks st f old → ProgramReads st → OnePathEach st.packages → ArePrinted st.packages → AllNamed st.packages marks → texts_size st.texts ≤ the_limits.total → UsesNamedConstant st f old
+first_named marks st f old is reads paths printed named small =
+    let its : MakesForm marks st f = makes marks st f old is.is_first is.there in
+    let e = site_expression st.packages marks printed f.site its.is_use in
+    let seat : Seated st.packages marks f.site = seated marks st f old is.is_first is.there in
+    let c : IsNamedConstant st.packages f.site.mark = named f.site.mark (of-expr st.packages marks f.site.at f.site.place e.0 f.site.mark (seat.is_use e.0 e.1)) in
+    record {
+      home = c.home;
+      home_is = c.home_is;
+      name = c.name;
+      value = c.value;
+      declared = c.declared;
+      as_name = c.as_name;
+      expr = e.0;
+      part = e.1;
+      few = few_by marks st f its (first.placed marks st f old is.is_first is.there) reads paths printed c.home c.home_is c.name c.value c.declared c.as_name small;
+    }
 
 -- ---- limits
 
@@ -302,8 +324,8 @@ none_over limit bound count rest e = by (nat_lt bound count) refl e
     by true f h = absurd cc
     by false f h = (at_most f, h)
 
-pub stay_within : (files : List Source) (done : List Logged) (l : Logged) (new : FileText) (texts : List (List ℕ × FileText)) → passed the_limits files done l new texts ≡ None → texts_size texts ≤ the_limits.total
-stay_within files done l new texts e =
+pub total_within : (files : List Source) (done : List Logged) (l : Logged) (new : FileText) (texts : List (List ℕ × FileText)) → passed the_limits files done l new texts ≡ None → (length new.text ≤ the_limits.bytes) × (module_file_size files + texts_size texts ≤ the_limits.total)
+total_within files done l new texts e =
     let weight : Option TooLarge = over_weight the_limits.weight (first_over the_limits.weight (weights_of new.tokens)) in
     let total : Option TooLarge = over Total the_limits.total (module_file_size files + texts_size texts) weight in
     let bytes : Option TooLarge = over Bytes the_limits.bytes (length new.text) total in
@@ -311,5 +333,8 @@ stay_within files done l new texts e =
     let a = none_over Steps the_limits.steps (suc (length done)) uses e in
     let b = none_over StepsOfUse the_limits.steps_of_use (suc (steps_like l done)) bytes a.1 in
     let c = none_over Bytes the_limits.bytes (length new.text) total b.1 in
-    let d = none_over Total the_limits.total (module_file_size files + texts_size texts) weight c.1 in
-    let f : module_file_size files + texts_size texts ≤ 16777216 = d.0 in omega (arith, f)
+    let d = none_over Total the_limits.total (module_file_size files + texts_size texts) weight c.1 in (c.0, d.0)
+
+pub stay_within : (files : List Source) (done : List Logged) (l : Logged) (new : FileText) (texts : List (List ℕ × FileText)) → passed the_limits files done l new texts ≡ None → texts_size texts ≤ the_limits.total
+stay_within files done l new texts e =
+    let f : module_file_size files + texts_size texts ≤ 16777216 = (total_within files done l new texts e).1 in omega (arith, f)

@@ -30,7 +30,10 @@ use Rattle.marked_runs.proofs.KeptMarks.Puts.{Puts, puts_name, puts_member, step
 use Rattle.marked_runs.proofs.NamedMarks.Used.{named-used}
 use Rattle.marked_runs.proofs.Runs.{takes-name}
 use Rattle.printed_constants.specs.Printed.{a_name, a_selection, ArePrinted}
-use Rattle.printed_constants.specs.PrintedRuns.Laws.{AllNamedThere, StaysWithin}
+use Rattle.printed_constants.specs.NamedUses.Laws.{ConstantsNamesStand, StepsKeepConstantsNames}
+use Rattle.printed_constants.specs.NamedUses.Names.{AllConstantsNames}
+use Rattle.printed_constants.specs.PrintedRuns.Laws.{StaysWithin}
+use Rattle.printed_constants.specs.UsedImports.Laws.{StepsLeaveImportsUsed}
 use Rattle.printed_constants.proofs.CountedNames.Avoided.{stay_within}
 use Rattle.printed_constants.proofs.PrintedUses.Added.{uses_stand}
 use Rattle.printed_constants.proofs.PrintedUses.Over.{steps_over}
@@ -51,23 +54,23 @@ own_changed F same zero (p ∷ ps) h = (subst IsOwnName (sym (same p)) h.0, h.1)
 own_changed F same (suc i) (p ∷ ps) h = (h.0, own_changed F same i ps h.1)
 
 module _ (marks : List MarkRef) (st : Standing) (l : Logged) (after : Standing) (n : Next marks st l after) where
-  own_after : AllOwn st.packages → AllOwn after.packages
+  pub own_after : AllOwn st.packages → AllOwn after.packages
   own_after h = subst (λ (ps : List (Package At)). AllOwn ps) (sym n.packages_are) (own_changed _ (λ p. refl) n.found.site.at.number st.packages h)
 
-  printed_after : UsesConstant n → ArePrinted st.packages → ArePrinted after.packages
+  pub printed_after : UsesConstant n → ArePrinted st.packages → ArePrinted after.packages
   printed_after uses printed = by (step-puts marks st l after n uses)
     where
       by : Puts marks st l after n → ArePrinted after.packages
       by (puts_name m f) = stay_printed marks st l after n (ident _ m) f a_name printed
       by (puts_member k p m others there g f) = stay_printed marks st l after n (selector _ (ident _ _) _) f (a_selection a_name) printed
 
-module _ (sound : AddedImportsMayBeDeclared) (write : ConstantsWrite) (step : StepsStayReady) (keep : StepsKeepNamed) where
-  pub all_over : (marks : List MarkRef) (st last : Standing) (log : List Logged) (run : Run marks st log last) → AllNamedThere run → StaysWithin run → IsReady st → are_well_typed (members_of st.packages) ≡ true → AllNamed st.packages marks → ArePrinted st.packages → AllOwn st.packages
+module _ (sound : AddedImportsMayBeDeclared) (write : ConstantsWrite) (step : StepsStayReady) (keep : StepsKeepNamed) (used : StepsLeaveImportsUsed) (stand : ConstantsNamesStand) (stay : StepsKeepConstantsNames) where
+  pub all_over : (marks : List MarkRef) (st last : Standing) (log : List Logged) (run : Run marks st log last) → StaysWithin run → IsReady st → are_well_typed (members_of st.packages) ≡ true → AllNamed st.packages marks → AllConstantsNames st.packages marks → ArePrinted st.packages → AllOwn st.packages
       → HaveFiles st.packages → texts_size st.texts ≤ the_limits.total → AllOverNames run
-  all_over marks st _ _ (ends _ over) h fits ready typed named printed own files small = tt
-  all_over marks st last _ (goes_on _ next _ l log n run) h fits ready typed named printed own files small =
+  all_over marks st _ _ (ends _ over) fits ready typed named all printed own files small = tt
+  all_over marks st last _ (goes_on _ next _ l log n run) fits ready typed named all printed own files small =
       let over : IsOverName n = steps_over marks st l next n ready printed own named small in
-      let stands : StandsAdded n = uses_stand marks st l next n ready typed printed files over.few (writes marks st l next n over write ready named) h.0 in
+      let stands : StandsAdded n = uses_stand write used marks st l next n ready typed printed files own named small (stand marks st l next n ready typed printed own named all small) in
       let takes : TakesName n = takes-name sound marks st l next n ready.reads stands (look-ups marks st l next n over write ready named) (linked-names st.packages ready.links) typed over.few in
       let r = step marks st l next n ready typed (writes marks st l next n over write ready named) takes in
-      (over, (stands, all_over marks next last log run h.1 fits.1 r.0 r.1 (keep marks st l next n ready named over) (printed_after marks st l next n (named-used marks st l next n over.old over.part named) printed) (own_after marks st l next n own) (step-have marks st l next n files) fits.0))
+      (over, (stands, all_over marks next last log run fits.1 r.0 r.1 (keep marks st l next n ready named over) (stay marks st l next n ready typed printed own named all small) (printed_after marks st l next n (named-used marks st l next n over.old over.part named) printed) (own_after marks st l next n own) (step-have marks st l next n files) fits.0))

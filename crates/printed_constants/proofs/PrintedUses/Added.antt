@@ -12,11 +12,15 @@ use Rattle.cycle_runs.specs.ImportCycles.ImportSteps.{file_added, packages_added
 use Rattle.cycle_runs.proofs.ImportCycles.ImportStep.{placed}
 use Rattle.cycle_runs.specs.Linked.{WritesFile}
 use Rattle.cycle_runs.specs.OrderCycles.NewNames.{FewNames}
+use Rattle.marked_runs.specs.KeptMarks.Over.{IsOverName}
 use Rattle.marked_runs.specs.Marked.{StandsAdded, decl_there}
-use Rattle.marked_runs.specs.LinkedMembers.Laws.{HaveFiles}
+use Rattle.marked_runs.specs.LinkedMembers.Laws.{HaveFiles, ImportsUsed}
+use Rattle.marked_runs.specs.SettledConstants.Laws.{ConstantsWrite}
 use Rattle.marked_runs.specs.SettledConstants.Programs.{IsReady}
 use Rattle.order_runs.specs.RunSteps.RunPackages.{members_of}
+use Rattle.go_translation.specs.Packages as translated
 use Rattle.go_translation.specs.Packages.{are_well_typed}
+use Rattle.marked_runs.proofs.KeptMarks.Kept.{writes}
 use Rattle.marked_runs.proofs.LinkedMembers.Stand.{imports-stand}
 use Rattle.run_laws.proofs.FoundSpans.{Placed}
 use Rattle.run_rules.specs.Programs.{linked_file}
@@ -29,6 +33,8 @@ use Rattle.printed_constants.proofs.Plain.{packages_plain}
 use Rattle.printed_constants.proofs.Steps.{added_printed}
 use Rattle.printed_constants.specs.PrintedUses.Added.{IsNamedThere}
 use Rattle.printed_constants.specs.PrintedUses.Laws.{PrintedUsesStand}
+use Rattle.printed_constants.specs.UsedImports.Laws.{StepsLeaveImportsUsed}
+use Rattle.printed_constants.proofs.PrintedUses.Over.{steps_over}
 
 module _ (marks : List MarkRef) (st : Standing) (l : Logged) (after : Standing) (n : Next marks st l after) (printed : ArePrinted st.packages) where
   abbrev rs : List (Package At)
@@ -57,8 +63,8 @@ module _ (marks : List MarkRef) (st : Standing) (l : Logged) (after : Standing) 
       parts_simple (decl_there n d)
       (decl_parts rs n.found.site.at.number (where_added n.found).of (file_added n.found) (printed n.found.site.at here.package_is here.file_is n.found.site.decl d e))
 
-  pub stands_added : IsReady st → are_well_typed (members_of st.packages) ≡ true → HaveFiles st.packages → FewNames st.packages n.found → WritesFile n → IsNamedThere n → StandsAdded n
-  stands_added ready typed files few write named = record {
+  pub stands_added : IsReady st → are_well_typed (members_of st.packages) ≡ true → HaveFiles st.packages → FewNames st.packages n.found → WritesFile n → ((more : List (translated.Package At)) → ImportsUsed more (members_of after.packages)) → IsNamedThere n → StandsAdded n
+  stands_added ready typed files few write used named = record {
     place = named.place;
     use_ = named.use_;
     used_as = named.used_as;
@@ -68,8 +74,11 @@ module _ (marks : List MarkRef) (st : Standing) (l : Logged) (after : Standing) 
     new_plain = marked_plain named.use_.new_mark named.use_.new_home named.use_.new_home_is;
     simple = are_simple;
     form = named.form;
-    imports = λ marked Q w. imports-stand marks st l after n named.use_.new named.form ready.links files typed few write Q (named.imports marked Q w);
+    imports = λ marked Q w. imports-stand marks st l after n named.use_.new named.form ready.links files typed few write Q (used Q);
   }
 
-pub uses_stand : PrintedUsesStand
-uses_stand marks st l after n ready typed printed files few write named = stands_added marks st l after n printed ready typed files few write named
+pub uses_stand : ConstantsWrite → StepsLeaveImportsUsed → PrintedUsesStand
+uses_stand write used marks st l after n ready typed printed files own all small named =
+    let over : IsOverName n = steps_over marks st l after n ready printed own all small in
+    stands_added marks st l after n printed ready typed files over.few (writes marks st l after n over write ready all)
+    (λ more. used marks st l after n ready typed printed own all small more) named

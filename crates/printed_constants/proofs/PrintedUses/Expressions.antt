@@ -1,5 +1,5 @@
 -- Each use among constants and functions that print them is an expression.
-use Rattle.std.proofs.Common.{◌≡◌, ◌<◌, refl, subst, ℕ, zero, suc, ◌+◌, List, [], ◌∷◌, ◌++◌, Option, Some, None, arith}
+use Rattle.std.proofs.Common.{◌≡◌, ◌<◌, refl, subst, ℕ, zero, suc, List, [], ◌∷◌, ◌++◌, Option, Some, None, arith}
 use Rattle.std.specs.Prelude.{slice_get, Contains}
 use Rattle.go_tree.specs.Tree.{TypeExpr, Expr}
 use Rattle.go_tree.specs.File.{Decl}

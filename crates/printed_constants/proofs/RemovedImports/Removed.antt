@@ -57,7 +57,7 @@ spans_with (d ∷ ds) =
     map_append (λ s. here_of s.span) d.specs (specs_in ds)
     ∙ (λ v. sym (map_twice (import_spec_with here_of) (λ (s : ImportSpec Span). s.span) d.specs) v ++ spans_with ds v)
 
-specs-of-both : {S : Type 0} (ds es : List (ImportDecl S)) → specs_in (ds ++ es) ≡ specs_in ds ++ specs_in es
+pub specs-of-both : {S : Type 0} (ds es : List (ImportDecl S)) → specs_in (ds ++ es) ≡ specs_in ds ++ specs_in es
 specs-of-both [] es = refl
 specs-of-both (d ∷ ds) es = (λ v. d.specs ++ specs-of-both ds es v) ∙ sym (turns d.specs (specs_in ds) (specs_in es))
   where
@@ -95,7 +95,7 @@ module _ (marks : List MarkRef) (st : Standing) (l : Logged) (after : Standing) 
   name_added : (s : ImportSpec At) → import_name mid s ≡ import_name st.packages s
   name_added s = λ z. name_or s.name (name-stays (with_tree (file_added n.found)) (λ p. refl) (λ p. refl) w.number st.packages s.path z)
 
-  name_between : (s : ImportSpec At) → import_name qs s ≡ import_name st.packages s
+  pub name_between : (s : ImportSpec At) → import_name qs s ≡ import_name st.packages s
   name_between s = λ z. name_or s.name (name-stays (with_tree (file_between same_here (is_commented st) st.packages marks n.found)) (λ p. refl) (λ p. refl) w.number st.packages s.path z)
 
   abbrev added_names : List (List ℕ)
@@ -105,7 +105,7 @@ module _ (marks : List MarkRef) (st : Standing) (l : Logged) (after : Standing) 
   names_are [] = refl
   names_are (s ∷ ss) = λ z. name_between s z ∷ names_are ss z
 
-  names_there : map (import_name qs) (import_specs v.source.tree) ≡ map (import_name st.packages) (import_specs w.source.tree) ++ added_names
+  pub names_there : map (import_name qs) (import_specs v.source.tree) ≡ map (import_name st.packages) (import_specs w.source.tree) ++ added_names
   names_there =
       (λ z. map (import_name qs) (specs-of-both w.source.tree.imports (added_decls n.found.range (imports_added n.found.named)) z))
       ∙ map_append (import_name qs) (import_specs w.source.tree) (specs_in (added_decls n.found.range (imports_added n.found.named)))

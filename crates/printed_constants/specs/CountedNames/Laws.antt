@@ -1,6 +1,7 @@
 -- The laws of how many identifiers a file has, and how many names a step avoids. Each is the contract of a function of
 -- this crate (Go specification, Identifiers; Tokens; Import declarations).
-use Rattle.std.specs.Prelude.{◌≡◌, ◌+◌, ◌≤◌, ◌<◌, ◌^◌, ℕ, List, [], Some, None, length, slice_get}
+use Rattle.std.specs.Prelude.{◌≡◌, ◌+◌, ◌≤◌, ◌<◌, ◌^◌, ℕ, List, [], Some, None, length}
+use Rattle.std.specs.Prelude.{slice_get}
 use Rattle.go_read.specs.SpellsFiles.{SpellsFile}
 use Rattle.go_tree.specs.declared.spans.Span.{Span}
 use Rattle.go_tree.specs.declared.tokens.Token.{Token}
@@ -10,14 +11,15 @@ use Rattle.go_words.specs.Tokens.{TokensOf}
 use Rattle.cycle_runs.specs.OrderCycles.NewNames.{FewNames}
 use Rattle.pkg_graph.specs.Reads.{Source}
 use Rattle.run_laws.specs.Reading.{ProgramReads, OnePathEach}
-use Rattle.run_rules.specs.Run.{Standing, Logged, Next, texts_size, the_limits, passed}
+use Rattle.run_rules.specs.Run.{Standing, Logged, Next, module_file_size, texts_size, the_limits, passed}
 use Rattle.run_rules.specs.Sites.{MarkRef, Where}
-use Rattle.run_rules.specs.Steps.{At}
+use Rattle.run_rules.specs.Steps.{At, Found}
 use Rattle.run_rules.specs.Naming.{fuel_for}
 use Rattle.import_rules.specs.Needs.{avoided}
 use Rattle.form_imports.specs.ImportLaws.Steps.{names_standing}
 use Rattle.run_rules.specs.Texts.{FileText}
 use Rattle.marked_runs.specs.NamedMarks.Named.{AllNamed}
+use Rattle.marked_runs.specs.PutForms.Uses.{IsFirstUse, UsesNamedConstant}
 use Rattle.printed_constants.specs.Printed.{IsPrinted, ArePrinted}
 use Rattle.scope_names.specs.Identifiers.{identifiers}
 
@@ -54,3 +56,18 @@ abbrev pub StepsStayWithin : Type 0
 StepsStayWithin =
     (files : List Source) (done : List Logged) (l : Logged) (new : FileText) (texts : List (List ℕ × FileText))
     → passed the_limits files done l new texts ≡ None → texts_size texts ≤ the_limits.total
+
+-- So is the new text within that of a file, and with `go.mod` all texts are.
+abbrev pub StepsStayWithinTotal : Type 0
+StepsStayWithinTotal =
+    (files : List Source) (done : List Logged) (l : Logged) (new : FileText) (texts : List (List ℕ × FileText))
+    → passed the_limits files done l new texts ≡ None
+    → (length new.text ≤ the_limits.bytes) × (module_file_size files + texts_size texts ≤ the_limits.total)
+
+-- The first use of such a program that becomes a form is that of a constant which is declared as a name, and the names
+-- to avoid are fewer than 2^64: so it is before a step over it is known.
+abbrev pub FirstUsesAreNamed : Type 0
+FirstUsesAreNamed =
+    (marks : List MarkRef) (st : Standing) (f : Found At) (old : FileText) → IsFirstUse marks st f old
+    → ProgramReads st → OnePathEach st.packages → ArePrinted st.packages → AllNamed st.packages marks
+    → texts_size st.texts ≤ the_limits.total → UsesNamedConstant st f old

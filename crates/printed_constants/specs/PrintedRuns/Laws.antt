@@ -17,15 +17,8 @@ use Rattle.run_rules.specs.Sites.{MarkRef}
 use Rattle.run_rules.specs.Texts.{FileText}
 use Rattle.order_runs.specs.RunSteps.RunPackages.{packages_of}
 use Rattle.marked_runs.specs.TakenNames.Laws.{KeptByRun}
+use Rattle.printed_constants.specs.NamedUses.Names.{AllConstantsNames}
 use Rattle.printed_constants.specs.Printed.{ArePrinted}
-use Rattle.printed_constants.specs.PrintedUses.Added.{IsNamedThere}
-
--- With the imports of its form added the use of each step is a name of a constant that is declared as another's name,
--- and each import is used at last.
-abbrev pub AllNamedThere : {marks : List MarkRef} {st last : Standing} {log : List Logged} → Run marks st log last
-    → Type 0
-AllNamedThere (ends st over) = Unit {0}
-AllNamedThere (goes_on st next last l log n run) = IsNamedThere n × AllNamedThere run
 
 -- The texts after each step are within the limit of a run.
 abbrev pub StaysWithin : {marks : List MarkRef} {st last : Standing} {log : List Logged} → Run marks st log last
@@ -40,22 +33,27 @@ RunsStayWithin =
     → (run : Run marks st log last) → Reaches marks the_limits files done st log last → StaysWithin run
 
 -- Such a run from a module that reads, the paths of whose files are octets, that is well typed, within the limit, of
--- constants and of functions that print them, and whose marks are all of constants, keeps typing, which marked
--- functions lie on a cycle, and the meaning.
+-- constants and of functions that print them, and whose marks are all of constants that are declared as names of
+-- constants, keeps typing, which marked functions lie on a cycle, and the meaning. Nothing is asked of its steps but
+-- the limit.
 abbrev pub PrintedRunsKeep : Type 0
 PrintedRunsKeep =
     (files : List Source) (ps : List (Package Span)) (texts : List (List ℕ × FileText)) (only : List ℕ)
     (last : Standing) (log : List Logged) → ModuleReads files ps texts
     → list_all (λ f. each is_byte f.path) files ≡ true → WellTyped (packages_of ps []) → ArePrinted ps
-    → AllConstants ps (marks_of ps texts only) → texts_size texts ≤ the_limits.total
-    → (run : Run (marks_of ps texts only) (standing_as_read ps texts) log last) → AllNamedThere run → StaysWithin run
+    → AllConstants ps (marks_of ps texts only)
+    → AllConstantsNames (standing_as_read ps texts).packages (marks_of ps texts only)
+    → texts_size texts ≤ the_limits.total
+    → (run : Run (marks_of ps texts only) (standing_as_read ps texts) log last) → StaysWithin run
     → KeptByRun ps texts (marks_of ps texts only) last
 
--- So does the inlining of such a module, of whose limits nothing else is asked.
+-- So does the inlining of such a module, of whose steps nothing is asked.
 abbrev pub PrintedInliningsKeep : Type 0
 PrintedInliningsKeep =
     (files : List Source) (ps : List (Package Span)) (texts : List (List ℕ × FileText)) (only : List ℕ)
     (after : List (List ℕ × FileText)) (report : List ℕ) (i : IsInlining the_limits files ps texts only after report)
     → list_all (λ f. each is_byte f.path) files ≡ true → WellTyped (packages_of ps []) → ArePrinted ps
-    → AllConstants ps (marks_of ps texts only) → texts_size texts ≤ the_limits.total → AllNamedThere i.run
+    → AllConstants ps (marks_of ps texts only)
+    → AllConstantsNames (standing_as_read ps texts).packages (marks_of ps texts only)
+    → texts_size texts ≤ the_limits.total
     → KeptByRun ps texts (marks_of ps texts only) i.last

@@ -2,23 +2,18 @@
 -- (Go specification, Constant declarations; Qualified identifiers; Import declarations).
 use Rattle.std.specs.Prelude.{◌≡◌, List, Some, Contains, slice_get}
 use Rattle.go_tree.specs.File.{Decl}
-use Rattle.go_kernel.specs.Kernel.{FuncName}
-use Rattle.go_translation.specs.Packages.{Package}
-use Rattle.go_translation.specs.SameMeaning.{WellTyped, with_further}
 use Rattle.cycle_runs.specs.ImportCycles.ImportSteps.{packages_added}
 use Rattle.marked_runs.specs.Marked.{decl_there}
-use Rattle.marked_runs.specs.LinkedMembers.Laws.{ImportsUsed}
 use Rattle.constant_steps.specs.QualifiedSteps.NamedUse.{NamedUse}
 use Rattle.run_rules.specs.FormTrees.{as_expr}
 use Rattle.run_rules.specs.Run.{Standing, Logged, Next, is_commented}
 use Rattle.run_rules.specs.Sites.{MarkRef}
 use Rattle.run_rules.specs.Steps.{At, same_here}
 use Rattle.run_rules.specs.Surroundings.{Use, Place, seen}
-use Rattle.order_runs.specs.RunSteps.RunPackages.{members_of, packages_of}
 use Rattle.marked_runs.specs.TakenNames.Taken.{site_there}
 
 -- With the imports of the form added the use stands at this place, is a name of a constant that is declared as
--- another's name, and becomes that name; each import is used at last.
+-- another's name, and becomes that name.
 pub record IsNamedThere {marks : List MarkRef} {st : Standing} {l : Logged} {after : Standing}
     (n : Next marks st l after) : Type 0 where
   pub place : Place At
@@ -28,6 +23,3 @@ pub record IsNamedThere {marks : List MarkRef} {st : Standing} {l : Logged} {aft
       (d : Decl At) → slice_get n.found.site.at.source.tree.decls n.found.site.decl ≡ Some d
       → Contains (decl_there n d) (seen place used_as use_.use_)
   pub form : n.found.form ≡ as_expr use_.new
-  pub imports :
-      (marked : List FuncName) (Q : List (Package At)) → WellTyped (with_further (packages_of st.packages marked) Q)
-      → ImportsUsed Q (members_of after.packages)

@@ -5,8 +5,6 @@ use Rattle.form_imports.specs.OwnNames.{AllOwn}
 use Rattle.go_tree.specs.Tree.{Expr}
 use Rattle.go_translation.specs.SameMeaning.{WellTyped}
 use Rattle.order_runs.specs.RunSteps.RunPackages.{packages_of}
-use Rattle.cycle_runs.specs.Linked.{WritesFile}
-use Rattle.cycle_runs.specs.OrderCycles.NewNames.{FewNames}
 use Rattle.marked_runs.specs.KeptMarks.Over.{IsOverName}
 use Rattle.marked_runs.specs.LinkedMembers.Laws.{HaveFiles}
 use Rattle.marked_runs.specs.Marked.{StandsAdded}
@@ -32,11 +30,12 @@ PrintedStepsAreOver =
     → ArePrinted st.packages → AllOwn st.packages → AllNamed st.packages marks
     → texts_size st.texts ≤ the_limits.total → IsOverName n
 
--- Where with the imports of its form added the use is a name of a constant that is declared as another's name, and each
--- import is used at last, it stands as marked_runs asks (`StandsAdded`), in a program that is ready and well typed, if
--- the step writes its file and the names to avoid are fewer than 2^64.
+-- Where with the imports of its form added the use is a name of a constant that is declared as another's name, it
+-- stands as marked_runs asks (`StandsAdded`), in such a program that is ready and well typed, each of whose packages
+-- has a file.
 abbrev pub PrintedUsesStand : Type 0
 PrintedUsesStand =
     (marks : List MarkRef) (st : Standing) (l : Logged) (after : Standing) (n : Next marks st l after)
     → IsReady st → WellTyped (packages_of st.packages []) → ArePrinted st.packages → HaveFiles st.packages
-    → FewNames st.packages n.found → WritesFile n → IsNamedThere n → StandsAdded n
+    → AllOwn st.packages → AllNamed st.packages marks → texts_size st.texts ≤ the_limits.total → IsNamedThere n
+    → StandsAdded n

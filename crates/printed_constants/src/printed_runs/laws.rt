@@ -2,6 +2,8 @@
 
 ghost use Rattle.printed_constants.specs.PrintedRuns.Laws.{PrintedInliningsKeep, PrintedRunsKeep, RunsStayWithin};
 
+use crate::named_uses::constants_names_stand;
+use crate::used_imports::printed_imports_are_used;
 use form_imports::packages_have_own_names;
 use marked_runs::{
     added_imports_may_be_declared, constants_settle, marks_stay_named, read_marks_are_named,
@@ -9,11 +11,9 @@ use marked_runs::{
 };
 
 /// A run over constants from a module that reads, is well typed and within the limits, all of whose declarations are
-/// constants and functions that print them, keeps typing, which marked functions lie on a cycle, and the meaning, where
-/// the use of each step, with the imports of its form added, is a name of a constant that is declared as another's
-/// name, and each import is used at last. What the names to avoid are, which imports go, where they may be declared and
-/// what they are of, and how the declarations around stand isn't asked. The inlining of such a module passes no limit at any step, so its
-/// texts stay within.
+/// constants and functions that print them, and whose marked constants are declared as names of constants, keeps
+/// typing, which marked functions lie on a cycle, and the meaning. Of its steps nothing is asked but that their texts
+/// are within the limit; the inlining of such a module passes no limit at any step, so of it nothing is asked.
 pub fn printed_runs_keep()
     ensures within { RunsStayWithin }
     ensures runs { PrintedRunsKeep }
@@ -21,8 +21,10 @@ pub fn printed_runs_keep()
 {
     packages_have_own_names();
     added_imports_may_be_declared();
+    constants_names_stand();
     constants_settle();
     marks_stay_named();
+    printed_imports_are_used();
     read_marks_are_named();
     read_modules_are_ready();
     runs_over_constants_keep();

@@ -1,0 +1,11 @@
+pub mod Forms
+pub mod Middle
+pub mod Parts
+pub mod Served
+pub mod Stand
+pub mod Exported
+pub mod ExportedUse
+pub mod Names
+pub mod Stays
+pub mod Uses
+pub mod Example
