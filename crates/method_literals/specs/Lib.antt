@@ -1,0 +1,3 @@
+pub mod MethodUse
+pub mod Declared
+pub mod Laws
