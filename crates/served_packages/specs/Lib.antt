@@ -1,0 +1,4 @@
+pub mod NamedPackages
+pub mod OpenTypes
+pub mod ServedFunctions
+pub mod Laws
