@@ -1,0 +1,4 @@
+pub mod Ranks
+pub mod Calls
+pub mod Free
+pub mod Laws
