@@ -1,0 +1,59 @@
+-- Runs of steps that give way, or put literals, keep which marked functions lie on a cycle.
+use Rattle.std.proofs.Common.{◌≡◌, refl, sym, ◌∙◌, ap, subst, ℕ, zero, suc, List, [], ◌∷◌, map, Some}
+use Rattle.std.specs.Prelude.{slice_get}
+use Rattle.std.proofs.lemmas.Option.{same_Some}
+use Rattle.go_tree.specs.declared.spans.Span.{Span}
+use Rattle.pkg_graph.specs.Package.{SourceTree, Package}
+use Rattle.pkg_graph.specs.Reads.{Source}
+use Rattle.run_rules.specs.Respanned.{source_with, packages_with}
+use Rattle.run_rules.specs.Texts.{FileText}
+use Rattle.run_rules.specs.Sites.{MarkRef}
+use Rattle.run_rules.specs.Cycles.{is_recursive}
+use Rattle.run_rules.specs.Steps.{At}
+use Rattle.run_rules.specs.Run.{Standing, Logged, Next, Run, ends, goes_on, as_read}
+use Rattle.run_rules.specs.Inlining.{ModuleReads, standing_as_read}
+use Rattle.run_laws.specs.Reading.{ProgramReads, FileAt, OnePathEach}
+use Rattle.run_laws.proofs.RunsRead.{modules_read, next_reads, next_paths}
+use Rattle.run_laws.proofs.PathsOwn.{paths_own}
+use Rattle.cycle_runs.specs.Linked.{Linked, SettlesFile}
+use Rattle.cycle_runs.proofs.OrderedSteps.Modules.{package-at}
+use Rattle.cycle_runs.proofs.Runs.{step-linked, writes-of, one-step}
+use Rattle.form_cycles.specs.Runs.{puts_what_stood, changes_a_body}
+use Rattle.form_cycles.proofs.FormSteps.{body-step}
+use Rattle.literal_cycles.specs.Runs.{KeepsCycles, gives_way, puts_literal, AllKeepCycles}
+use Rattle.literal_cycles.proofs.ThroughLiterals.{literal_step}
+
+-- ---- files by their numbers, as a module is read
+
+file_was_read : (fs : List (SourceTree Span)) (i : ℕ) (f : SourceTree At) → slice_get (map (source_with as_read) fs) i ≡ Some f → (x : SourceTree Span) × (slice_get fs i ≡ Some x) × (f ≡ source_with as_read x)
+file_was_read [] i f h = absurd cc
+file_was_read (x ∷ fs) zero f h = (x, refl, sym (same_Some (source_with as_read x) f h))
+file_was_read (x ∷ fs) (suc i) f h = file_was_read fs i f h
+
+was_at : (ps : List (Package Span)) (k i : ℕ) (f : SourceTree At) → FileAt (packages_with as_read ps) k i f → (x : SourceTree Span) × FileAt ps k i x × (f ≡ source_with as_read x)
+was_at ps k i f at =
+    let p = package-at as_read ps k at.of at.package_is in
+    let x = file_was_read p.0.files i f (subst (λ (q : Package At). slice_get q.files i ≡ Some f) p.2 at.file_is) in
+    (x.0, record { of = p.0; package_is = p.1; file_is = x.1 }, x.2)
+
+paths_as_read : (ps : List (Package Span)) → OnePathEach ps → OnePathEach (packages_with as_read ps)
+paths_as_read ps one k i l j f g a b e =
+    let x = was_at ps k i f a in
+    let y = was_at ps l j g b in
+    one k i l j x.0 y.0 x.1 y.1 (sym (ap (λ (s : SourceTree At). s.path) x.2) ∙ e ∙ ap (λ (s : SourceTree At). s.path) y.2)
+
+-- ---- runs
+
+one_way : (marks : List MarkRef) (st : Standing) (l : Logged) (after : Standing) (n : Next marks st l after) → Linked st.packages → ProgramReads st → SettlesFile n → KeepsCycles n → (m : MarkRef) → is_recursive st.packages marks m ≡ is_recursive after.packages marks m
+one_way marks st l after n h reads s (gives_way (puts_what_stood p)) m = one-step marks st l after n h s p m
+one_way marks st l after n h reads s (gives_way (changes_a_body b c)) m = body-step marks st l after n h s b c m
+one_way marks st l after n h reads s (puts_literal b k) m = literal_step marks st l after n k h reads s b m
+
+run_keeps : (marks : List MarkRef) (st last : Standing) (log : List Logged) (run : Run marks st log last) → Linked st.packages → ProgramReads st → OnePathEach st.packages → AllKeepCycles run → (m : MarkRef) → is_recursive st.packages marks m ≡ is_recursive last.packages marks m
+run_keeps marks _ _ _ (ends st over) h reads one a m = refl
+run_keeps marks _ _ _ (goes_on st next last l log n run) h reads one a m =
+    one_way marks st l next n h reads a.0 a.1.0 m ∙ run_keeps marks next last log run (step-linked marks st l next n h (writes-of a.0)) (next_reads marks st l next n reads one) (next_paths marks st l next n reads one) a.1.1 m
+
+pub module_keeps : (files : List Source) (ps : List (Package Span)) (texts : List (List ℕ × FileText)) (marks : List MarkRef) (last : Standing) (log : List Logged) → ModuleReads files ps texts → Linked (standing_as_read ps texts).packages
+    → (run : Run marks (standing_as_read ps texts) log last) → AllKeepCycles run → (m : MarkRef) → is_recursive (standing_as_read ps texts).packages marks m ≡ is_recursive last.packages marks m
+module_keeps files ps texts marks last log r h run a m = run_keeps marks (standing_as_read ps texts) last log run h (modules_read files ps texts r) (paths_as_read ps (paths_own files ps texts r).0) a m

@@ -1,0 +1,5 @@
+pub mod Around
+pub mod Stands
+pub mod Uses
+pub mod Runs
+pub mod Laws

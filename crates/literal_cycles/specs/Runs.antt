@@ -1,0 +1,22 @@
+-- Runs each of whose steps keeps which marked functions lie on a cycle: what is put has the facts of what stood there,
+-- or a body gives way, or a literal is put for a call (Go specification, Calls; Function literals; Import
+-- declarations).
+use Rattle.std.specs.Prelude.{List}
+use Rattle.run_rules.specs.Sites.{MarkRef}
+use Rattle.run_rules.specs.Run.{Standing, Logged, Next, Run, ends, goes_on}
+use Rattle.cycle_runs.specs.Linked.{SettlesFile}
+use Rattle.form_cycles.specs.Bodies.{StandsInFunction}
+use Rattle.form_cycles.specs.Runs.{GivesWay}
+use Rattle.literal_cycles.specs.Uses.{PutsLiteral}
+
+-- A step gives way, as form_cycles has it, or puts a literal in a function.
+pub data KeepsCycles {marks : List MarkRef} {st : Standing} {l : Logged} {after : Standing} (n : Next marks st l after)
+    : Type 0 where
+  gives_way : GivesWay n → KeepsCycles n
+  puts_literal : StandsInFunction n → PutsLiteral n → KeepsCycles n
+
+-- so does each step of a run, and each settles its file
+abbrev pub AllKeepCycles : {marks : List MarkRef} {st last : Standing} {log : List Logged} → Run marks st log last
+    → Type 0
+AllKeepCycles (ends st over) = Unit {0}
+AllKeepCycles (goes_on st next last l log n run) = SettlesFile n × (KeepsCycles n × AllKeepCycles run)
