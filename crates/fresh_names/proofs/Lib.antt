@@ -1,0 +1,4 @@
+pub mod Decimals
+pub mod Candidates
+pub mod Found
+mod Example
