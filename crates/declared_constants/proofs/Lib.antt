@@ -1,0 +1,6 @@
+pub mod Values
+pub mod Members
+pub mod Named
+pub mod Unmarked
+pub mod Read
+mod Example
