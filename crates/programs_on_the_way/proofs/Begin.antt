@@ -10,7 +10,7 @@ use Rattle.programs.specs.declared.state.PackageFiles.{PackageFiles}
 use Rattle.programs.specs.declared.state.Program.{Program}
 use Rattle.programs.specs.Programs.{NoneAreSettled}
 use Rattle.read_modules.specs.Modules.{packages_in, texts_in}
-use Rattle.run_rules.specs.Inlining.{Reaches, begins, standing_as_read}
+use Rattle.run_rules.specs.Inlining.{begins, standing_as_read}
 use Rattle.run_rules.specs.Marks.{marks_of}
 use Rattle.run_rules.specs.Run.{Standing, module_file_size, texts_size, the_limits}
 use Rattle.run_rules.specs.Sites.{MarkRef}
@@ -20,6 +20,7 @@ use Rattle.stepped_programs.specs.FirstUses.Laws.{FirstUsesAreSteps}
 use Rattle.stepped_programs.specs.Laws.{flags_of}
 use Rattle.stepped_programs.specs.SearchedSites.FoundSteps.Laws.{SearchesEndRuns}
 use Rattle.stepped_programs.specs.SearchedSites.PrintedSearches.Laws.{PrintedFilesAreSearchable}
+use Rattle.declared_constants.specs.Laws.{ReadConstantsNameConstants}
 use Rattle.programs_on_the_way.specs.Laws.{RunsBegin, RunsEnd}
 
 none_set : (i : ℕ) → is_settled [] i ≡ true → ⊥
@@ -48,13 +49,13 @@ unsettled p none k i e = by (slice_get p.files.items k) refl (sym (ap (λ (bs : 
 pub texts_small : (n m : ℕ) → n + m ≤ the_limits.total → m ≤ the_limits.total
 texts_small n m h = let k : n + m ≤ 16777216 = h in omega (arith, k)
 
-pub runs_begin : PrintedFilesAreSearchable → ReadModulesArePrintedPrograms → NoneAreCounted → RunsBegin
-runs_begin searchable read none files m only p s c r octets words typed printed constants names small loaded sources steps origins =
+pub runs_begin : ReadConstantsNameConstants → PrintedFilesAreSearchable → ReadModulesArePrintedPrograms → NoneAreCounted → RunsBegin
+runs_begin names searchable read none files m only p s c r octets words typed printed constants small loaded sources steps origins =
     let ps : List (Package Span) = packages_in m in
     let texts : List (List ℕ × FileText) = texts_in m in
     let marks : List MarkRef = marks_of ps texts only in
     let st : Standing = standing_as_read ps texts in
-    let program : IsPrintedProgram files marks st = read files ps texts only r octets typed printed constants names small in
+    let program : IsPrintedProgram files marks st = read files ps texts only r octets typed printed constants (names files ps texts only r octets typed printed constants) small in
     record {
       reached = record { read = r; octets = octets; supported = words; steps = begins [] st };
       kept =

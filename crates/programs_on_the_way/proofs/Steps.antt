@@ -1,12 +1,8 @@
 -- With the file of a step put in, the next program stands on the way.
-use Rattle.std.proofs.Common.{◌≡◌, ◌∙◌, sym, ap, subst, ℕ, ◌+◌, ◌≤◌, List, Some, None, length, arith}
-use Rattle.std.specs.Prelude.{slice_get, is_some}
+use Rattle.std.proofs.Common.{◌≡◌, ◌∙◌, sym, ap, subst, ℕ, ◌+◌, ◌≤◌, List, Some, None, length}
+use Rattle.std.specs.Prelude.{slice_get}
 use Rattle.std.proofs.lemmas.Option.{same_Some}
-use Rattle.go_tree.specs.Tree.{Expr}
-use Rattle.go_tree.specs.File.{Decl}
 use Rattle.go_tree.specs.FileView.{file_of}
-use Rattle.go_tree.specs.declared.limits.TheConstants.{MAX_FILE_BYTES}
-use Rattle.go_tree.specs.declared.spans.Span.{Span}
 use Rattle.pkg_graph.specs.Reads.{Source}
 use Rattle.marked_runs.specs.KeptMarks.Over.{IsOverName}
 use Rattle.marked_runs.proofs.NamedMarks.Used.{named-used}
@@ -21,19 +17,17 @@ use Rattle.printed_constants.specs.CountedNames.Laws.{StepsStayWithinTotal}
 use Rattle.printed_constants.specs.PrintedSteps.Laws.{StepsAreOverNames, PrintedStepsKeep}
 use Rattle.printed_constants.specs.PrintedSteps.Programs.{IsPrintedProgram}
 use Rattle.printed_constants.specs.QualifiedDots.Laws.{PrintedUsesAreUndotted}
-use Rattle.programs.specs.declared.state.Program.{Program}
 use Rattle.run_by_steps.specs.NextPrograms.Made.{NextWith}
 use Rattle.run_by_steps.specs.Reached.{row_of}
 use Rattle.run_by_steps.specs.RunProgress.Laws.{HasCome, StepsComeNext}
 use Rattle.run_rules.specs.Forms.{is_at}
 use Rattle.run_rules.specs.Marks.{marks_of, text_at}
 use Rattle.run_rules.specs.Programs.{decl_seen}
-use Rattle.run_rules.specs.Run.{Standing, Logged, Next, module_file_size, texts_size, the_limits, passed}
+use Rattle.run_rules.specs.Run.{Standing, Logged, module_file_size, texts_size, the_limits, passed}
 use Rattle.run_rules.specs.Sites.{MarkRef, part_span}
 use Rattle.run_rules.specs.Steps.{At, same_here, Found}
 use Rattle.run_rules.specs.Texts.{FileText}
 use Rattle.standing_uses.specs.ImportUses.Parts.{EachSeen}
-use Rattle.step_counts.specs.declared.counts.StepCounts.{StepCounts}
 use Rattle.step_counts.specs.Laws.{OneMore, StepsAreCounted}
 use Rattle.stepped_programs.specs.FirstUses.StepLaws.{FoundFilesStand, text_there}
 use Rattle.stepped_programs.specs.Laws.{place_of, IsOfStep, IsUndotted, FoundUsesArePut, StepsKeepPrograms, StepsKeepSettled}

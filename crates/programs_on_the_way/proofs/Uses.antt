@@ -1,5 +1,5 @@
 -- The first free use of a program on its way, and how far the run has come before the step over it.
-use Rattle.std.proofs.Common.{◌≡◌, ◌∙◌, refl, sym, ap, ℕ, List, Option, Some}
+use Rattle.std.proofs.Common.{◌≡◌, ◌∙◌, refl, sym, ap, List, Option, Some}
 use Rattle.std.specs.Prelude.{slice_get}
 use Rattle.go_tree.specs.declared.spans.Span.{Span}
 use Rattle.pkg_graph.specs.Package as run
@@ -23,7 +23,7 @@ use Rattle.standing_uses.specs.ToldSteps.Laws.{BecomesForm}
 use Rattle.step_counts.specs.Laws.{CountsCome}
 use Rattle.stepped_programs.specs.FirstUses.Laws.{FirstUsesAreSteps, FirstUsesKeepPrograms, FirstUsesSettleFiles}
 use Rattle.stepped_programs.specs.FirstUses.Step.{HasFileOf, IsViewOf}
-use Rattle.stepped_programs.specs.FirstUses.StepLaws.{FoundFilesStand, IsRightFirst, text_there}
+use Rattle.stepped_programs.specs.FirstUses.StepLaws.{FoundFilesStand, text_there}
 use Rattle.stepped_programs.specs.SearchedSites.FoundSteps.Laws.{step_of}
 use Rattle.stepped_programs.specs.SearchedSites.FoundSteps.Uses.{IsRightUse}
 use Rattle.stepped_programs.specs.SearchedSites.OrderedSearches.Found.{IsFoundFirst}

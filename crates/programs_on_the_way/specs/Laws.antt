@@ -19,7 +19,6 @@ use Rattle.next_file.specs.Files.{text_of}
 use Rattle.order_runs.specs.RunSteps.RunPackages.{packages_of}
 use Rattle.package_search.specs.declared.file_steps.step.FileStep.{FileStep}
 use Rattle.package_search.specs.declared.looks.ProgramSources.{ProgramSources}
-use Rattle.printed_constants.specs.NamedUses.Names.{AllConstantsNames}
 use Rattle.printed_constants.specs.Printed.{ArePrinted}
 use Rattle.programs.specs.declared.state.Program.{Program}
 use Rattle.read_modules.specs.Modules.{packages_in, texts_in}
@@ -46,15 +45,13 @@ use Rattle.programs_on_the_way.specs.OnTheWay.{IsOnTheWay, IsProgressOf}
 
 -- What is loaded of a module that reads stands at the beginning of a run, where the paths of its files are octets, its
 -- words are supported, it is well typed and within the limit, all its declarations are constants and functions that
--- print them, and all its marks are of constants that are declared as names of constants.
+-- print them, and all its marks are of constants.
 abbrev pub RunsBegin : Type 0
 RunsBegin =
     (files : List Source) (m : ReadModule) (only : List ℕ) (p : Program) (s : ProgramSources) (c : StepCounts)
     → ModuleReads files (packages_in m) (texts_in m) → list_all (λ f. each is_byte f.path) files ≡ true
     → AllSupported (texts_in m) → WellTyped (packages_of (packages_in m) []) → ArePrinted (packages_in m)
     → AllConstants (packages_in m) (marks_of (packages_in m) (texts_in m) only)
-    → AllConstantsNames (standing_as_read (packages_in m) (texts_in m)).packages
-    (marks_of (packages_in m) (texts_in m) only)
     → module_file_size files + texts_size (texts_in m) ≤ the_limits.total → IsLoaded files m only p → AreSourcesOf p s
     → c.steps ≡ 0 → c.origins ≡ []
     → IsOnTheWay files (packages_in m) (texts_in m) only [] (standing_as_read (packages_in m) (texts_in m)) p s c

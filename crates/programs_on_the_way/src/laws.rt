@@ -2,6 +2,7 @@
 
 ghost use Rattle.programs_on_the_way.specs.Laws as law;
 
+use declared_constants::declared_constants_name_constants;
 use printed_constants::{
     printed_dots_are_qualified, printed_steps_avoid_few_names, printed_steps_keep,
 };
@@ -13,11 +14,12 @@ use stepped_programs::{
 };
 
 /// The program that is loaded of a module of constants and of functions that print them, which is well typed and within
-/// the limits, and whose marked constants are declared as names of constants, stands at the beginning of a run: no step
-/// is counted, and no file is settled.
+/// the limits, and whose marks are of constants, stands at the beginning of a run: no step is counted, and no file is
+/// settled.
 pub fn runs_begin()
     ensures { law.RunsBegin }
 {
+    declared_constants_name_constants();
     printed_files_are_searchable();
     printed_steps_keep();
     steps_are_counted();
