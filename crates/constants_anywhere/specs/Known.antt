@@ -43,7 +43,8 @@ module _ {S : Type 0} (same : S → S → Bool) (z : S) (e : Expr S) (top : Env)
   AllTranslated [] = Unit {0}
   AllTranslated (x ∷ xs) = PartTranslated x × AllTranslated xs
 
-module _ {S : Type 0} (same : S → S → Bool) (rs : List (Package S)) (x : Site S) (new : List ℕ) (decl : Decl S) where
+module _ {S : Type 0} (same : S → S → Bool) (rs : List (Package S)) (x : Site S) (new : List ℕ)
+    (decl : Decl S) where
   -- the name in the use's place
   abbrev pub new_name : Expr S
   new_name = ident (part_span x.part) new

@@ -32,7 +32,8 @@ use Rattle.constants_anywhere.specs.UseAnywhere.{UseAnywhere}
 -- a constant that is known, and so does the name that the constant is declared as, before the step and after it.
 abbrev pub KnownPartsMeanConstants : Type 0
 KnownPartsMeanConstants =
-    (same : Span → Span → Bool) (commented : ℕ → ℕ → Span → Bool) (rs : List (Package Span)) (marks : List MarkRef)
+    (same : Span → Span → Bool) (commented : ℕ → ℕ → Span → Bool) (rs : List (Package Span))
+    (marks : List MarkRef)
     (x : Site Span) (u : PlainUse same commented rs marks x) (v : UseAnywhere same commented rs marks x u) (s : Span)
     (k : ℕ) (ps more : Program Span) → PackageAt (linked_at rs x.at s) k ps → well_typed (ps ++ more) ≡ true →
     PartsStand same rs x u.new v.decl k ps more →
@@ -42,7 +43,8 @@ KnownPartsMeanConstants =
 -- And the imports of the packages after are right.
 abbrev pub KnownPartsKeepImports : Type 0
 KnownPartsKeepImports =
-    (same : Span → Span → Bool) (commented : ℕ → ℕ → Span → Bool) (rs : List (Package Span)) (marks : List MarkRef)
+    (same : Span → Span → Bool) (commented : ℕ → ℕ → Span → Bool) (rs : List (Package Span))
+    (marks : List MarkRef)
     (x : Site Span) (u : PlainUse same commented rs marks x) (v : UseAnywhere same commented rs marks x u) (s : Span)
     (k : ℕ) (ms Q : List (translated.Package Span)) → PackageAt (linked_at rs x.at s) k (sources ms) →
     are_well_typed (ms ++ Q) ≡ true → PartsStand same rs x u.new v.decl k (sources ms) (sources Q) →
@@ -52,7 +54,8 @@ KnownPartsKeepImports =
 -- So the packages after the step mean what those before do, beside all further packages.
 abbrev pub KnownPartsMeanTheSame : Type 0
 KnownPartsMeanTheSame =
-    (same : Span → Span → Bool) (commented : ℕ → ℕ → Span → Bool) (rs : List (Package Span)) (marks : List MarkRef)
+    (same : Span → Span → Bool) (commented : ℕ → ℕ → Span → Bool) (rs : List (Package Span))
+    (marks : List MarkRef)
     (x : Site Span) (u : PlainUse same commented rs marks x) (v : UseAnywhere same commented rs marks x u) (s : Span)
     (k : ℕ) (P : Packages Span) → PackageAt (linked_at rs x.at s) k (sources P.members) →
     ((Q : List (translated.Package Span)) → WellTyped (with_further P Q) →
@@ -66,7 +69,8 @@ KnownPartsMeanTheSame =
 -- form in the use's place are linked to. The new name is one that a program can have: it holds no byte 0.
 abbrev pub StepsLinkThePackages : Type 0
 StepsLinkThePackages =
-    (same : Span → Span → Bool) (commented : ℕ → ℕ → Span → Bool) (rs : List (Package Span)) (marks : List MarkRef)
+    (same : Span → Span → Bool) (commented : ℕ → ℕ → Span → Bool) (rs : List (Package Span))
+    (marks : List MarkRef)
     (x : Site Span) (u : PlainUse same commented rs marks x) (v : UseAnywhere same commented rs marks x u) (s : Span)
     (k : ℕ) (ms : List (translated.Package Span)) → sources ms ≡ linked rs → are_distinct ms ≡ true →
     PackageAt (linked_at rs x.at s) k (sources ms) → unnamed_package u.new ≡ None →
@@ -80,7 +84,8 @@ StepsLinkThePackages =
 -- known.
 abbrev pub SimplePartsAreKnown : Type 0
 SimplePartsAreKnown =
-    (same : Span → Span → Bool) (rs : List (Package Span)) (x : Site Span) (new : List ℕ) (decl : Decl Span) (k : ℕ)
+    (same : Span → Span → Bool) (rs : List (Package Span)) (x : Site Span) (new : List ℕ) (decl : Decl Span)
+    (k : ℕ)
     (ps more : Program Span) → AllSimple (parts_there same rs x new decl) → PartsStand same rs x new decl k ps more
 
 -- In a well-typed program whose packages are those of the run, in dependency order before any further ones, the parts
@@ -88,9 +93,11 @@ SimplePartsAreKnown =
 -- are written in the types of its literals have exported names.
 abbrev pub TypedPartsAreKnown : Type 0
 TypedPartsAreKnown =
-    (same : Span → Span → Bool) (commented : ℕ → ℕ → Span → Bool) (rs : List (Package Span)) (marks : List MarkRef)
+    (same : Span → Span → Bool) (commented : ℕ → ℕ → Span → Bool) (rs : List (Package Span))
+    (marks : List MarkRef)
     (x : Site Span) (u : PlainUse same commented rs marks x) (v : UseAnywhere same commented rs marks x u) (s : Span)
-    (k : ℕ) (more : Program Span) → PackageAt (linked_at rs x.at s) k (linked rs) → in_order (linked rs ++ more) ≡ true
+    (k : ℕ) (more : Program Span) → PackageAt (linked_at rs x.at s) k (linked rs) →
+    in_order (linked rs ++ more) ≡ true
     → well_typed (linked rs ++ more) ≡ true → LiteralsExported (parts_there same rs x u.new v.decl) →
     PartsStand same rs x u.new v.decl k (linked rs) more
 
@@ -100,9 +107,11 @@ TypedPartsAreKnown =
 -- does the name that the constant is declared as, before the step and after it.
 abbrev pub UsesAnywhereMeanConstants : Type 0
 UsesAnywhereMeanConstants =
-    (same : Span → Span → Bool) (commented : ℕ → ℕ → Span → Bool) (rs : List (Package Span)) (marks : List MarkRef)
+    (same : Span → Span → Bool) (commented : ℕ → ℕ → Span → Bool) (rs : List (Package Span))
+    (marks : List MarkRef)
     (x : Site Span) (u : PlainUse same commented rs marks x) (v : UseAnywhere same commented rs marks x u) (s : Span)
-    (k : ℕ) (more : Program Span) → PackageAt (linked_at rs x.at s) k (linked rs) → in_order (linked rs ++ more) ≡ true
+    (k : ℕ) (more : Program Span) → PackageAt (linked_at rs x.at s) k (linked rs) →
+    in_order (linked rs ++ more) ≡ true
     → well_typed (linked rs ++ more) ≡ true → LiteralsExported (parts_there same rs x u.new v.decl) →
     ConstantSwaps same rs (part_span x.part) (ident (part_span x.part) u.new) x.at.number x.at.of x.at.source.tree more
     k x.at.file_number x.decl (linked rs)
@@ -110,7 +119,8 @@ UsesAnywhereMeanConstants =
 -- The imports of the packages after are right.
 abbrev pub UsesAnywhereKeepImports : Type 0
 UsesAnywhereKeepImports =
-    (same : Span → Span → Bool) (commented : ℕ → ℕ → Span → Bool) (rs : List (Package Span)) (marks : List MarkRef)
+    (same : Span → Span → Bool) (commented : ℕ → ℕ → Span → Bool) (rs : List (Package Span))
+    (marks : List MarkRef)
     (x : Site Span) (u : PlainUse same commented rs marks x) (v : UseAnywhere same commented rs marks x u) (s : Span)
     (k : ℕ) (ms Q : List (translated.Package Span)) → sources ms ≡ linked rs →
     PackageAt (linked_at rs x.at s) k (sources ms) → are_well_typed (ms ++ Q) ≡ true →
@@ -121,7 +131,8 @@ UsesAnywhereKeepImports =
 -- So the packages after the step mean what those before do, beside all further packages.
 abbrev pub UsesAnywhereMeanTheSame : Type 0
 UsesAnywhereMeanTheSame =
-    (same : Span → Span → Bool) (commented : ℕ → ℕ → Span → Bool) (rs : List (Package Span)) (marks : List MarkRef)
+    (same : Span → Span → Bool) (commented : ℕ → ℕ → Span → Bool) (rs : List (Package Span))
+    (marks : List MarkRef)
     (x : Site Span) (u : PlainUse same commented rs marks x) (v : UseAnywhere same commented rs marks x u) (s : Span)
     (k : ℕ) (P : Packages Span) → sources P.members ≡ linked rs →
     PackageAt (linked_at rs x.at s) k (sources P.members) → LiteralsExported (parts_there same rs x u.new v.decl) →

@@ -11,7 +11,8 @@ use Rattle.constant_steps.specs.PlainUse.{AllTheUse, PlainUse}
 
 -- The use stands in a declaration of the file's package, in which nothing else stands at its span, and which isn't
 -- that of the constant. All declarations of the package are plain; of this one's parts nothing is asked.
-pub record UseAnywhere {S : Type 0} (same : S → S → Bool) (commented : ℕ → ℕ → S → Bool) (rs : List (Package S))
+pub record UseAnywhere {S : Type 0} (same : S → S → Bool) (commented : ℕ → ℕ → S → Bool)
+    (rs : List (Package S))
     (marks : List MarkRef) (x : Site S) (u : PlainUse same commented rs marks x) : Type 0 where
   pub package_there : slice_get rs x.at.number ≡ Some x.at.of
   pub file_there : slice_get x.at.of.files x.at.file_number ≡ Some x.at.source

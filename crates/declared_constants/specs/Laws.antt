@@ -37,7 +37,8 @@ abbrev pub ConstantsAreDeclared : Type 0
 ConstantsAreDeclared =
     (ps : List (Package At)) → AllOrdered ps → HaveFiles ps → WellTyped (packages_of ps []) → ArePrinted ps
     → (k : ℕ) (p : Package At) → slice_get ps k ≡ Some p → (n : List ℕ) → is_blank n ≡ false
-    → (t : GoType) (c : Const) → means (block_of (world ps).blocks k) n ≡ Some (constant t c) → IsConstantOf ps k n
+    → (t : GoType) (c : Const) → means (block_of (world ps).blocks k) n ≡ Some (constant t c)
+    → IsConstantOf ps k n
 
 -- So a marked constant that is declared as a name, and not as a predeclared one, is declared as that of a constant.
 abbrev pub DeclaredConstantsNameConstants : Type 0
@@ -58,7 +59,8 @@ ReadConstantsAreNotPredeclared =
 abbrev pub ReadConstantsNameConstants : Type 0
 ReadConstantsNameConstants =
     (files : List Source) (ps : List (Package Span)) (texts : List (List ℕ × FileText)) (only : List ℕ)
-    → ModuleReads files ps texts → list_all (λ f. each is_byte f.path) files ≡ true → WellTyped (packages_of ps [])
+    → ModuleReads files ps texts → list_all (λ f. each is_byte f.path) files ≡ true
+    → WellTyped (packages_of ps [])
     → ArePrinted ps → AllConstants ps (marks_of ps texts only)
     → AllConstantsNames (standing_as_read ps texts).packages (marks_of ps texts only)
 
@@ -77,7 +79,8 @@ PrintedModulesKeepRuns =
 abbrev pub PrintedModulesKeepInlinings : Type 0
 PrintedModulesKeepInlinings =
     (files : List Source) (ps : List (Package Span)) (texts : List (List ℕ × FileText)) (only : List ℕ)
-    (after : List (List ℕ × FileText)) (report : List ℕ) (i : IsInlining the_limits files ps texts only after report)
+    (after : List (List ℕ × FileText)) (report : List ℕ)
+    (i : IsInlining the_limits files ps texts only after report)
     → list_all (λ f. each is_byte f.path) files ≡ true → WellTyped (packages_of ps []) → ArePrinted ps
     → AllConstants ps (marks_of ps texts only) → texts_size texts ≤ the_limits.total
     → KeptByRun ps texts (marks_of ps texts only) i.last

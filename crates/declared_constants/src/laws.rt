@@ -28,8 +28,8 @@ pub fn declared_constants_name_constants()
 
 /// So a run over constants from a module that reads, is well typed and within the limits, all of whose declarations are
 /// constants and functions that print them, and all of whose marks are of constants, keeps typing, which marked
-/// functions lie on a cycle, and the meaning, and so does its inlining. Of what the constants are declared as nothing is
-/// asked.
+/// functions lie on a cycle, and the meaning, and so does its inlining. Nothing is asked of what the constants are
+/// declared as.
 pub fn printed_modules_keep()
     ensures runs { law.PrintedModulesKeepRuns }
     ensures inlinings { law.PrintedModulesKeepInlinings }

@@ -30,7 +30,8 @@ NewNamesAreFound S =
 -- One is new where the names that are not stand among at most 10^64 + 10^63, each counted once.
 abbrev pub FewNamesLeaveNewOnes : Type 0 → Type 0
 FewNamesLeaveNewOnes S =
-    (file : File S) (avoid : List (List ℕ)) (base : List ℕ) (names : List (List ℕ)) → TakenAmong file avoid names
+    (file : File S) (avoid : List (List ℕ)) (base : List ℕ) (names : List (List ℕ))
+    → TakenAmong file avoid names
     → length names ≤ 10 ^ 64 + 10 ^ 63 → IsNewCandidate file avoid base
 
 -- Some names to avoid leave no new candidate, since a number is written by 64 digits at most.

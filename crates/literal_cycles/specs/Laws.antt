@@ -82,7 +82,8 @@ LiteralsArePutInBodies =
 abbrev pub LiteralStepsKeepCycles : Type 0
 LiteralStepsKeepCycles =
     (marks : List MarkRef) (st : Standing) (l : Logged) (after : Standing) (n : Next marks st l after)
-    → Linked st.packages → ProgramReads st → SettlesFile n → StandsInFunction n → PutsLiteral n → (m : MarkRef)
+    → Linked st.packages → ProgramReads st → SettlesFile n → StandsInFunction n → PutsLiteral n
+    → (m : MarkRef)
     → is_recursive st.packages marks m ≡ is_recursive after.packages marks m
 
 -- So does each run, from files that read as a module, of steps that settle their files and put such literals, or give

@@ -23,7 +23,8 @@ place_of_use ms x = record { env = x.place.env; paths = paths_in ms; locals = []
 
 -- The use is a plain call that becomes a literal, in well-typed packages; names around it that aren't local mean what
 -- they do at the top of its file, and packages that the function names have names that serve there.
-pub record TypedLiteral (commented : ℕ → ℕ → At → Bool) (rs : List (Package At)) (marks : List MarkRef) (x : Site At) :
+pub record TypedLiteral (commented : ℕ → ℕ → At → Bool) (rs : List (Package At)) (marks : List MarkRef)
+    (x : Site At) :
     Type 0 where
   pub becomes : LiteralUse same_here commented rs marks x
   pub plain : PlainCall same_here commented rs marks x becomes

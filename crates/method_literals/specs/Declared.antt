@@ -22,7 +22,8 @@ module _ {S : Type 0} where
       }
 
   -- a package of the program declares the method g with this receiver, whose type has the name `on` in the package
-  pub record DeclaredMethod (ps : Program S) (p : SourcePackage S) (g : Func S) (r : Receiver S) (on : List ℕ) : Type 0
+  pub record DeclaredMethod (ps : Program S) (p : SourcePackage S) (g : Func S) (r : Receiver S)
+      (on : List ℕ) : Type 0
     where
       pub nth : ℕ
       pub stands : PackageAt p nth ps

@@ -59,7 +59,8 @@ MethodsAreCoded =
 -- the receiver's argument before the others: the operand, its address, or what it points to.
 abbrev pub FormsBeginWithReceivers : Type 0
 FormsBeginWithReceivers =
-    (same : Span → Span → Bool) (commented : ℕ → ℕ → Span → Bool) (rs : List (Package Span)) (marks : List MarkRef)
+    (same : Span → Span → Bool) (commented : ℕ → ℕ → Span → Bool) (rs : List (Package Span))
+    (marks : List MarkRef)
     (x : Site Span) (u : LiteralUse same commented rs marks x) (v : MethodCall same commented rs marks x u)
     (ms : List (translated.Package Span)) → Linked rs ms x same commented marks u →
     (c : Here) → CalledAt rs ms x c → PackagesServe rs ms x same commented marks u c →
@@ -69,7 +70,8 @@ FormsBeginWithReceivers =
 -- The call and the literal are the same operand.
 abbrev pub MethodsAreTypedAlike : Type 0
 MethodsAreTypedAlike =
-    (same : Span → Span → Bool) (commented : ℕ → ℕ → Span → Bool) (rs : List (Package Span)) (marks : List MarkRef)
+    (same : Span → Span → Bool) (commented : ℕ → ℕ → Span → Bool) (rs : List (Package Span))
+    (marks : List MarkRef)
     (x : Site Span) (u : LiteralUse same commented rs marks x) (v : MethodCall same commented rs marks x u)
     (ms : List (translated.Package Span)) → Linked rs ms x same commented marks u →
     (c : Here) → CalledAt rs ms x c → PackagesServe rs ms x same commented marks u c →
@@ -79,7 +81,8 @@ MethodsAreTypedAlike =
 -- And under free prices the call means the literal, where the packages are ranked and the method is free.
 abbrev pub MethodsMeanTheirLiterals : Type 0
 MethodsMeanTheirLiterals =
-    (same : Span → Span → Bool) (commented : ℕ → ℕ → Span → Bool) (rs : List (Package Span)) (marks : List MarkRef)
+    (same : Span → Span → Bool) (commented : ℕ → ℕ → Span → Bool) (rs : List (Package Span))
+    (marks : List MarkRef)
     (x : Site Span) (u : LiteralUse same commented rs marks x) (v : MethodCall same commented rs marks x u)
     (ms : List (translated.Package Span)) → Linked rs ms x same commented marks u →
     (c : Here) → CalledAt rs ms x c → PackagesServe rs ms x same commented marks u c →
@@ -95,7 +98,8 @@ MethodsMeanTheirLiterals =
 -- statement runs.
 abbrev pub DeferredMethodsMeanTheirLiterals : Type 0
 DeferredMethodsMeanTheirLiterals =
-    (same : Span → Span → Bool) (commented : ℕ → ℕ → Span → Bool) (rs : List (Package Span)) (marks : List MarkRef)
+    (same : Span → Span → Bool) (commented : ℕ → ℕ → Span → Bool) (rs : List (Package Span))
+    (marks : List MarkRef)
     (x : Site Span) (u : LiteralUse same commented rs marks x) (v : MethodCall same commented rs marks x u)
     (ms : List (translated.Package Span)) → Linked rs ms x same commented marks u →
     (c : Here) → CalledAt rs ms x c → PackagesServe rs ms x same commented marks u c →

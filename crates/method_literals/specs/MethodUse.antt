@@ -39,7 +39,8 @@ module _ {S : Type 0} (same : S → S → Bool) (commented : ℕ → ℕ → S �
     pub is_method : u.callee.receiver ≡ Some receiver
     pub on : List ℕ
     pub declared_on :
-        receiver_type (world rs) (headed_func rs u.home.number u.home.of u.home.source.tree u.callee) receiver ≡ Some on
+        receiver_type (world rs)
+        (headed_func rs u.home.number u.home.of u.home.source.tree u.callee) receiver ≡ Some on
     -- the operand's type, and that the selection is a method's
     pub type : GoType
     pub content : Content

@@ -52,7 +52,8 @@ RunsBegin =
     → ModuleReads files (packages_in m) (texts_in m) → list_all (λ f. each is_byte f.path) files ≡ true
     → AllSupported (texts_in m) → WellTyped (packages_of (packages_in m) []) → ArePrinted (packages_in m)
     → AllConstants (packages_in m) (marks_of (packages_in m) (texts_in m) only)
-    → module_file_size files + texts_size (texts_in m) ≤ the_limits.total → IsLoaded files m only p → AreSourcesOf p s
+    → module_file_size files + texts_size (texts_in m) ≤ the_limits.total → IsLoaded files m only p
+    → AreSourcesOf p s
     → c.steps ≡ 0 → c.origins ≡ []
     → IsOnTheWay files (packages_in m) (texts_in m) only [] (standing_as_read (packages_in m) (texts_in m)) p s c
 

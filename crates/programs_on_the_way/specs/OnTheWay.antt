@@ -35,7 +35,8 @@ pub record IsOnTheWay (files : List Source) (ps : List (Package Span)) (texts : 
 
 -- So far a run has come before the step over this use, which comes from this offset of its file: by the counts, and by
 -- the bytes of the module but for the file.
-pub record IsProgressOf (p : Program) (u : FirstUse) (c : StepCounts) (offset : ℕ) (progress : Progress) : Type 0 where
+pub record IsProgressOf (p : Program) (u : FirstUse) (c : StepCounts) (offset : ℕ)
+    (progress : Progress) : Type 0 where
   pub steps : progress.steps ≡ c.steps
   pub steps_of_use : progress.steps_of_use ≡ steps_from (u.home, (u.found.file, offset)) c.origins
   pub bytes : (h : HasFileOf p u) → progress.other_bytes + length h.text ≡ p.bytes

@@ -30,7 +30,8 @@ module _ {S : Type 0} (ps : List (Package S)) (marks : List MarkRef) where
     mark_named f =
         elim f.receiver [
           | Some r ↦ None
-          | None ↦ given (number_with paths f.home) (λ k. marked_as ps marks is_free_function (member_of ps k f.name))
+          | None ↦ given (number_with paths f.home)
+              (λ k. marked_as ps marks is_free_function (member_of ps k f.name))
         ]
 
     -- it is marked, and lies on no cycle of marked functions
@@ -48,7 +49,8 @@ module _ {S : Type 0} (ps : List (Package S)) (marks : List MarkRef) where
     pub distinct : are_distinct ms ≡ true
     pub typed : well_typed (linked ps) ≡ true
     pub stand :
-        (m : MarkRef) (w : Where S) → is_among_marks marks m ≡ true → meets (inlinable ps m) is_free_function ≡ true →
+        (m : MarkRef) (w : Where S) → is_among_marks marks m ≡ true →
+        meets (inlinable ps m) is_free_function ≡ true →
         where_is ps m ≡ Some w → Standing ps w
 
   -- no body of a marked function without a receiver declares a group of constants

@@ -66,7 +66,8 @@ CodeNamesWhatItCalls =
 abbrev pub CodeCallsWhatIsLedTo : Type 0
 CodeCallsWhatIsLedTo =
     (ps : List (Package Span)) (marks : List MarkRef) (ms : List (translated.Package Span)) → Translated ps marks ms
-    → NoConstantGroups ps marks → (f g : FuncName) (a b : MarkRef) → mark_named ps marks (paths_in ms) f ≡ Some a
+    → NoConstantGroups ps marks → (f g : FuncName) (a b : MarkRef)
+    → mark_named ps marks (paths_in ms) f ≡ Some a
     → mark_named ps marks (paths_in ms) g ≡ Some b → IsAskedFor g (code (program_of (codes_of ms) f))
     → LeadsTo ps marks a b
 
@@ -82,8 +83,10 @@ ProgramsAreRanked =
 abbrev pub FreeCallsMeanTheirLiterals : Type 0
 FreeCallsMeanTheirLiterals =
     (ps : List (Package Span)) (marks : List MarkRef) (ms : List (translated.Package Span)) → Translated ps marks ms
-    → NoConstantGroups ps marks → (f : FuncName) → is_free ps marks (paths_in ms) f ≡ true → (A : ℕ) (a : Term)
-    → MeanSame (program_of (codes_of ms)) (is_free ps marks (paths_in ms)) A (suc (rank_named ps marks (paths_in ms) f))
+    → NoConstantGroups ps marks → (f : FuncName) → is_free ps marks (paths_in ms) f ≡ true → (A : ℕ)
+    (a : Term)
+    → MeanSame (program_of (codes_of ms))
+    (is_free ps marks (paths_in ms)) A (suc (rank_named ps marks (paths_in ms) f))
     (Call f a) (Let (program_of (codes_of ms) f).params a (Alone (code (program_of (codes_of ms) f))))
 
 -- ---- uses
@@ -92,10 +95,13 @@ FreeCallsMeanTheirLiterals =
 -- prices, and that the program is ranked and the function free is nothing to ask.
 abbrev pub LiteralUsesMeanTheirLiterals : Type 0
 LiteralUsesMeanTheirLiterals =
-    (same : Span → Span → Bool) (commented : ℕ → ℕ → Span → Bool) (ps : List (Package Span)) (marks : List MarkRef)
+    (same : Span → Span → Bool) (commented : ℕ → ℕ → Span → Bool) (ps : List (Package Span))
+    (marks : List MarkRef)
     (x : Site Span) (u : LiteralUse same commented ps marks x) → PlainCall same commented ps marks x u
-    → (ms : List (translated.Package Span)) → Linked ps ms x same commented marks u → (c : Here) → CalledAt ps ms x c
-    → PackagesServe ps ms x same commented marks u c → (e : Expr Span) → u.form ≡ as_expr e → Translated ps marks ms
+    → (ms : List (translated.Package Span)) → Linked ps ms x same commented marks u → (c : Here)
+    → CalledAt ps ms x c
+    → PackagesServe ps ms x same commented marks u c → (e : Expr Span) → u.form ≡ as_expr e
+    → Translated ps marks ms
     → NoConstantGroups ps marks → (A : ℕ) (t : GoType)
     → MeanSame (program_of (codes_of ms)) (is_free ps marks (paths_in ms)) A (suc (rank ps marks x.mark))
     (expr_term c t u.tree) (expr_term c t e)

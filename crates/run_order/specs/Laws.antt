@@ -23,7 +23,8 @@ UsesAreInOrder =
 -- So the use that a step replaces is the first that becomes a form: of all uses that do, it stands before each other.
 abbrev pub StepsTakeTheFirst : Type 0
 StepsTakeTheFirst =
-    (marks : List MarkRef) (st : Standing) (l : Logged) (after : Standing) (n : Next marks st l after) → ProgramReads st
+    (marks : List MarkRef) (st : Standing) (l : Logged) (after : Standing) (n : Next marks st l after)
+    → ProgramReads st
     → IsFirstFree marks st n.found.site
 
 -- The numbers of files are in the order of their paths: in a module that reads, and after each run from it.

@@ -68,7 +68,8 @@ CompositeLiteralsAreSeen =
 -- Around each part of a function's signature and body names mean what has such types.
 abbrev pub FunctionsAreOpen : Type 0
 FunctionsAreOpen =
-    (same : Span → Span → Bool) (commented : ℕ → ℕ → Span → Bool) (rs : List (Package Span)) (marks : List MarkRef)
+    (same : Span → Span → Bool) (commented : ℕ → ℕ → Span → Bool) (rs : List (Package Span))
+    (marks : List MarkRef)
     (x : Site Span) (u : LiteralUse same commented rs marks x) (v : PlainCall same commented rs marks x u)
     (ms : List (translated.Package Span)) → Linked rs ms x same commented marks u →
     AllWithoutConstants (body_seen same rs (call_of same commented rs marks x u)) →
@@ -81,7 +82,8 @@ FunctionsAreOpen =
 -- its own, is among those for which the literal that a use becomes asks a name.
 abbrev pub NamedPackagesAreNeeded : Type 0
 NamedPackagesAreNeeded =
-    (same : Span → Span → Bool) (commented : ℕ → ℕ → Span → Bool) (rs : List (Package Span)) (marks : List MarkRef)
+    (same : Span → Span → Bool) (commented : ℕ → ℕ → Span → Bool) (rs : List (Package Span))
+    (marks : List MarkRef)
     (x : Site Span) (u : LiteralUse same commented rs marks x) (v : PlainCall same commented rs marks x u)
     (ms : List (translated.Package Span)) → Linked rs ms x same commented marks u →
     AllWithoutConstants (body_seen same rs (call_of same commented rs marks x u)) → (k : ℕ) →
@@ -94,7 +96,8 @@ NamedPackagesAreNeeded =
 -- So where no import is added, each package that the function names by an import has a name that serves at the use.
 abbrev pub NamedPackagesServe : Type 0
 NamedPackagesServe =
-    (same : Span → Span → Bool) (commented : ℕ → ℕ → Span → Bool) (rs : List (Package Span)) (marks : List MarkRef)
+    (same : Span → Span → Bool) (commented : ℕ → ℕ → Span → Bool) (rs : List (Package Span))
+    (marks : List MarkRef)
     (x : Site Span) (u : LiteralUse same commented rs marks x) (v : PlainCall same commented rs marks x u)
     (ms : List (translated.Package Span)) → Linked rs ms x same commented marks u →
     NeedsNoImport same commented rs marks x u → (c : Here) → CalledAt rs ms x c →
@@ -107,7 +110,8 @@ NamedPackagesServe =
 -- has no composite literals.
 abbrev pub OwnPackageServes : Type 0
 OwnPackageServes =
-    (same : Span → Span → Bool) (commented : ℕ → ℕ → Span → Bool) (rs : List (Package Span)) (marks : List MarkRef)
+    (same : Span → Span → Bool) (commented : ℕ → ℕ → Span → Bool) (rs : List (Package Span))
+    (marks : List MarkRef)
     (x : Site Span) (u : LiteralUse same commented rs marks x) (v : PlainCall same commented rs marks x u)
     (ms : List (translated.Package Span)) → Linked rs ms x same commented marks u →
     NeedsNoImport same commented rs marks x u → (c : Here) → CalledAt rs ms x c →
@@ -121,16 +125,19 @@ OwnPackageServes =
 -- operand.
 abbrev pub ServedLiteralsAreTypedAlike : Type 0
 ServedLiteralsAreTypedAlike =
-    (same : Span → Span → Bool) (commented : ℕ → ℕ → Span → Bool) (rs : List (Package Span)) (marks : List MarkRef)
+    (same : Span → Span → Bool) (commented : ℕ → ℕ → Span → Bool) (rs : List (Package Span))
+    (marks : List MarkRef)
     (x : Site Span) (u : LiteralUse same commented rs marks x) (v : PlainCall same commented rs marks x u)
     (ms : List (translated.Package Span)) → Linked rs ms x same commented marks u →
     NeedsNoImport same commented rs marks x u → LiteralsAtHome same commented rs marks x u →
-    (c : Here) → CalledAt rs ms x c → (e : Expr Span) → u.form ≡ as_expr e → parts c.env u.tree ≡ parts c.env e
+    (c : Here) → CalledAt rs ms x c → (e : Expr Span) → u.form ≡ as_expr e →
+    parts c.env u.tree ≡ parts c.env e
 
 -- And under free prices the call means the literal, where the packages are ranked and the function is free.
 abbrev pub ServedCallsMeanTheirLiterals : Type 0
 ServedCallsMeanTheirLiterals =
-    (same : Span → Span → Bool) (commented : ℕ → ℕ → Span → Bool) (rs : List (Package Span)) (marks : List MarkRef)
+    (same : Span → Span → Bool) (commented : ℕ → ℕ → Span → Bool) (rs : List (Package Span))
+    (marks : List MarkRef)
     (x : Site Span) (u : LiteralUse same commented rs marks x) (v : PlainCall same commented rs marks x u)
     (ms : List (translated.Package Span)) → Linked rs ms x same commented marks u →
     NeedsNoImport same commented rs marks x u → LiteralsAtHome same commented rs marks x u →
@@ -143,9 +150,11 @@ ServedCallsMeanTheirLiterals =
 -- And a deferred call means the deferred literal.
 abbrev pub ServedDeferredCallsMeanTheirLiterals : Type 0
 ServedDeferredCallsMeanTheirLiterals =
-    (same : Span → Span → Bool) (commented : ℕ → ℕ → Span → Bool) (rs : List (Package Span)) (marks : List MarkRef)
+    (same : Span → Span → Bool) (commented : ℕ → ℕ → Span → Bool) (rs : List (Package Span))
+    (marks : List MarkRef)
     (x : Site Span) (u : LiteralUse same commented rs marks x) (v : PlainCall same commented rs marks x u)
     (ms : List (translated.Package Span)) → Linked rs ms x same commented marks u →
     NeedsNoImport same commented rs marks x u → LiteralsAtHome same commented rs marks x u →
-    (c : Here) → CalledAt rs ms x c → (e : Expr Span) → u.form ≡ as_expr e → (free : FuncName → Bool) (A : ℕ) →
+    (c : Here) → CalledAt rs ms x c → (e : Expr Span) → u.form ≡ as_expr e → (free : FuncName → Bool)
+    (A : ℕ) →
     MeanSame (program_of (codes_of ms)) free A 0 (deferred_term c u.tree) (deferred_term c e)

@@ -19,7 +19,8 @@ abbrev pub ValuesCallNoFunction : Type 0
 ValuesCallNoFunction =
     (ps : List (Package At)) → AllOrdered ps → well_typed (linked ps) ≡ true → (w : Where At)
     → slice_get ps w.number ≡ Some w.of → slice_get w.of.files w.file_number ≡ Some w.source
-    → (i : ℕ) (d : Decl At) → slice_get w.source.tree.decls i ≡ Some d → ((g : Func At) → d ≡ func g → ⊥)
+    → (i : ℕ) (d : Decl At) → slice_get w.source.tree.decls i ≡ Some d
+    → ((g : Func At) → d ≡ func g → ⊥)
     → CallNoFunction (decl_seen ps w.number w.of w.source.tree d)
 
 -- So the use that a step replaces stands in a function or method, in a well-typed program, where it is a call of what
