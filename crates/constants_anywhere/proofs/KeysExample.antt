@@ -1,22 +1,18 @@
 -- A use as the key of a map, beside a key that names a field.
 --   package main: const D = 7; const C = D; type T struct { C int }; func main() { _ = map[int]T{C: {C: 1}} }
 -- C is marked; after the step: _ = map[int]T{D: {C: 1}}
-use Rattle.std.specs.Prelude.{refl, ℕ, false, List, [], ◌∷◌, None, if◌then◌else◌, codes, nat_eq}
+use Rattle.std.specs.Prelude.{refl, ℕ, false, [], ◌∷◌, None, codes, nat_eq}
 use Rattle.std.proofs.Common.{arith}
 use Rattle.go_tree.specs.Tree.{Expr, ident, int_lit, composite, map_type, struct_type, no_fields, field, no_exprs, expr_and, no_elems, elem, plain, braced, some_value, assign, Stmts, no_stmts, stmt_and}
 use Rattle.go_tree.specs.Tree as tree
 use Rattle.go_tree.specs.Tree.{NameAt}
-use Rattle.go_tree.specs.File.{Decl, Func, func, File, types}
-use Rattle.pkg_graph.specs.Package.{SourceTree, Package}
-use Rattle.go_translation.specs.SameMeaning.{Packages, SameMeaning}
-use Rattle.run_rules.specs.Surroundings.{whole, Place, Seen, seen}
-use Rattle.run_rules.specs.Programs.{top_place, decl_seen}
-use Rattle.run_rules.specs.Sites.{Where, Site, an_expr}
+use Rattle.go_tree.specs.File.{Decl, func, types}
+use Rattle.go_translation.specs.SameMeaning.{SameMeaning}
 use Rattle.run_rules.specs.FormTrees.{ConstForm, as_expr}
 use Rattle.constant_steps.specs.Alone.{no_constants, and_constant, constants_alone, no_decls, and_decl, this_package}
 use Rattle.constant_steps.specs.Alone as alone
-use Rattle.constant_steps.specs.PlainUse.{linked_at, PlainUse}
-use Rattle.constants_anywhere.proofs.ExampleParts.{named, declares, mark_of_c, mark_of_d, marks, no_comments}
+use Rattle.constant_steps.specs.PlainUse.{PlainUse}
+use Rattle.constants_anywhere.proofs.ExampleParts.{named, mark_of_d, marks, no_comments, main_with, home, program, use_of_c, packages_with}
 use Rattle.constants_anywhere.specs.UseAnywhere.{UseAnywhere}
 use Rattle.constants_anywhere.proofs.UsesAnywhere.{meaning_anywhere}
 
@@ -29,43 +25,13 @@ body_with e =
 abbrev type_t : Decl ℕ
 type_t = types 60 false (record { span = 61; name = named 62 (codes "T"); alias = false; of = struct_type 63 (field 64 (named 65 (codes "C")) (tree.named 66 None (named 66 (codes "int"))) no_fields) } ∷ [])
 
-abbrev main_with : Expr ℕ → Func ℕ
-main_with e = record { span = 30; receiver = None; name = named 32 (codes "main"); sig = record { params = []; results = [] }; body_span = 33; body = body_with e }
-
-abbrev file_with : Expr ℕ → File ℕ
-file_with e = record { package_name = named 1 (codes "main"); imports = []; decls = declares 10 (codes "D") (int_lit 11 (codes "7")) ∷ declares 20 (codes "C") (ident 21 (codes "D")) ∷ type_t ∷ func (main_with e) ∷ [] }
-
-abbrev source : SourceTree ℕ
-source = record { path = codes "main.go"; tree = file_with (ident 31 (codes "C")) }
-
-abbrev pk : Package ℕ
-pk = record { path = codes "m"; name = codes "main"; files = source ∷ [] }
-
-abbrev rs : List (Package ℕ)
-rs = pk ∷ []
-
-abbrev here : Where ℕ
-here = record { number = 0; of = pk; file_number = 0; source = source }
-
--- the place of the name at the span 31
-abbrev place_of_use : Place ℕ → List (Seen ℕ) → Place ℕ
-place_of_use q [] = q
-place_of_use q (seen p u (ident s n) ∷ xs) = if nat_eq s 31 then p else place_of_use q xs
-place_of_use q (x ∷ xs) = place_of_use q xs
-
-abbrev there : Place ℕ
-there = place_of_use (top_place rs 0 pk source.tree) (decl_seen rs 0 pk source.tree (func (main_with (ident 31 (codes "C")))))
-
-abbrev use_of_c : Site ℕ
-use_of_c = record { at = here; decl = 3; place = there; use_ = whole; part = an_expr (ident 31 (codes "C")); mark = mark_of_c }
-
-is_plain_use : PlainUse nat_eq no_comments rs marks use_of_c
+is_plain_use : PlainUse nat_eq no_comments (program body_with (type_t ∷ [])) marks (use_of_c body_with (type_t ∷ []))
 is_plain_use = record {
   span = 31;
   name = codes "C";
   part = refl;
   use_ = refl;
-  home = here;
+  home = home body_with (type_t ∷ []);
   stands = refl;
   constant = named 20 (codes "C");
   at = 21;
@@ -85,22 +51,19 @@ is_plain_use = record {
   new_declared = refl;
 }
 
-use_stands : UseAnywhere nat_eq no_comments rs marks use_of_c is_plain_use
+use_stands : UseAnywhere nat_eq no_comments (program body_with (type_t ∷ [])) marks (use_of_c body_with (type_t ∷ [])) is_plain_use
 unfolding is_plain_use
 use_stands = record {
   package_there = refl;
   file_there = refl;
-  decl = func (main_with (ident 31 (codes "C")));
+  decl = func (main_with body_with (type_t ∷ []) (ident 31 (codes "C")));
   decl_there = refl;
   elsewhere = refl;
   plain = alone.and_file (and_decl (constants_alone (and_constant no_constants)) (and_decl (constants_alone (and_constant no_constants)) (and_decl alone.some_types (and_decl alone.a_function no_decls)))) alone.no_files;
   alone = (λ i. absurd (grind (arith, i)), (tt, (λ i. (refl, refl), (λ i. absurd (grind (arith, i)), (λ i. absurd (grind (arith, i)), (tt, tt))))));
 }
 
-abbrev packages_with : Expr ℕ → Packages ℕ
-packages_with e = record { members = record { path = codes "m"; source = record (linked_at rs here 1) { files = record { imports = []; decls = (file_with e).decls } ∷ [] } } ∷ []; marked = [] }
-
 -- by the law alone
-means_the_same : SameMeaning (packages_with (ident 31 (codes "C"))) (packages_with (ident 31 (codes "D")))
+means_the_same : SameMeaning (packages_with body_with (type_t ∷ []) (ident 31 (codes "C"))) (packages_with body_with (type_t ∷ []) (ident 31 (codes "D")))
 unfolding use_stands is_plain_use
-means_the_same = meaning_anywhere nat_eq no_comments rs marks use_of_c is_plain_use use_stands 1 0 (tt, (tt, (tt, (tt, ((tt, tt), (tt, tt)))))) (packages_with (ident 31 (codes "C"))) refl this_package
+means_the_same = meaning_anywhere nat_eq no_comments (program body_with (type_t ∷ [])) marks (use_of_c body_with (type_t ∷ [])) is_plain_use use_stands 1 0 (tt, (tt, (tt, (tt, ((tt, tt), (tt, tt)))))) (packages_with body_with (type_t ∷ []) (ident 31 (codes "C"))) refl this_package
