@@ -1,9 +1,11 @@
 #!/usr/bin/env python3
-"""Counts what `rt ci` walks through crates.txt before its first check.
+"""Counts what `rt ci` walks through crates.txt.
 
-For each name that a `ghost use` in a crate's src/ brings, and for each file there, it walks every way from the crate
-down through crates.txt. Usage: bench/ways.py. Prints the crates for which it walks the most, the most first, each with
-its ways, its names and its files, and how many ways are walked in all.
+Before its first check it walks every way from a crate down through crates.txt, for each name that a `ghost use` in the
+crate's src/ brings, and for each file there. A kit that keeps nothing between its runs also reads the files of a crate
+for every way that leads to it, before and behind the proof of each library. Usage: bench/ways.py. Prints the crates for
+which it walks the most, the most first, each with its ways, its names and its files; how many ways are walked before
+the first check; and how many ways lead down from all crates.
 """
 import functools
 import glob
@@ -46,6 +48,7 @@ def main():
     for of, names, files, name in rows[:SHOWN]:
         print(f"{of * (names + files):>12} walked for {name}: {of} ways, {names} names, {files} files")
     print(f"{sum(of * (names + files) for of, names, files, _ in rows):>12} walked in all, for {len(rows)} crates")
+    print(f"{sum(of for of, _, _, _ in rows):>12} ways down from all crates")
 
 
 if __name__ == "__main__":

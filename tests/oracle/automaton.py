@@ -1,5 +1,5 @@
 #!/usr/bin/env python3
-"""Prints the tables of crates/go_scan/src/automaton.rt, from the forms of words in crates/go_words/specs/Tokens.
+"""Prints the tables of crates/go_scan/src/automaton.rt, from the forms of words in crates/go_tree/specs/GoWords/Tokens.
 
 Usage: tests/oracle/automaton.py [check]. With `check` it says instead whether the file's tables are these.
 

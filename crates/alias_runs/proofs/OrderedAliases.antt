@@ -1,7 +1,7 @@
 -- A step of a run over an alias that changes imports leaves packages that are one program with those before, beside all further packages, in whatever order they stand.
 use Rattle.std.proofs.Common.{◌≡◌, refl, sym, subst, ◌∙◌, ℕ, true, ◌&&◌, List, [], ◌∷◌, ◌++◌}
 use Rattle.std.specs.List.{list_any}
-use Rattle.go_types.specs.WellTyped.{well_typed}
+use Rattle.go_tree.specs.GoTypes.WellTyped.{well_typed}
 use Rattle.go_kernel.specs.Kernel.{FuncName}
 use Rattle.pkg_graph.specs.Package as run
 use Rattle.typed_in_place.proofs.ProgramsReplaced.{one_by_one}
@@ -12,9 +12,9 @@ use Rattle.run_rules.specs.FormTrees.{Form}
 use Rattle.run_rules.specs.Sites.{MarkRef, Site, part_span}
 use Rattle.run_rules.specs.Steps.{At, same_here}
 use Rattle.run_rules.specs.Run.{Standing, Logged, Next, is_commented}
-use Rattle.cycle_runs.proofs.StepCycles.Orders.{rows-by}
-use Rattle.cycle_runs.specs.OrderCycles.Orders.{AllOrdered}
-use Rattle.cycle_runs.proofs.OrderCycles.StepSettled.{ordered-alike}
+use Rattle.order_runs.proofs.CycleRuns.StepCycles.Orders.{rows-by}
+use Rattle.order_runs.specs.CycleRuns.OrderCycles.Orders.{AllOrdered}
+use Rattle.order_runs.proofs.CycleRuns.OrderCycles.StepSettled.{ordered-alike}
 use Rattle.order_runs.specs.RunSteps.RunPackages.{members_among, members_of, packages_of}
 use Rattle.order_runs.proofs.RunSteps.PackageStands.{distinct-front}
 use Rattle.order_runs.proofs.RunSteps.SpansForgotten.{beside-alike}

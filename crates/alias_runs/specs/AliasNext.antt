@@ -8,8 +8,8 @@ use Rattle.go_translation.specs.SameMeaning.{WellTyped, with_further}
 use Rattle.run_rules.specs.Sites.{MarkRef}
 use Rattle.run_rules.specs.Steps.{At, same_here}
 use Rattle.run_rules.specs.Run.{Standing, Logged, Next, Run, ends, goes_on, is_commented}
-use Rattle.cycle_runs.specs.ImportCycles.ImportSteps.{packages_added}
-use Rattle.cycle_runs.specs.OrderCycles.Steps.{site_added, KeepsImportNames}
+use Rattle.order_runs.specs.CycleRuns.ImportCycles.ImportSteps.{packages_added}
+use Rattle.order_runs.specs.CycleRuns.OrderCycles.Steps.{site_added, KeepsImportNames}
 use Rattle.order_runs.specs.RunSteps.RunPackages.{members_of, packages_of}
 use Rattle.order_runs.specs.ImportCodes.PackagesMoved.{ImportsStand}
 use Rattle.order_runs.specs.ImportRuns.ImportingNext.{IsImporting}

@@ -1,8 +1,8 @@
 -- Where an assignment stores values, as the code has it and as an answer tells (Go specification, Assignment
 -- statements).
 use Rattle.std.specs.Prelude.{◌≡◌, List, [], ◌∷◌, map, Option, Some, None, Result, Ok, Err}
-use Rattle.go_types.specs.Statements as go
-use Rattle.type_relations.specs.Environment.{Environment, env_type}
+use Rattle.go_tree.specs.GoTypes.Statements as go
+use Rattle.type_table.specs.TypeRelations.Environment.{Environment, env_type}
 use Rattle.operand_rules.specs.declared.values.ValueType.TheVariants.{Typed}
 use Rattle.operand_rules.specs.declared.values.Refusal.{Refusal}
 use Rattle.operand_rules.specs.declared.values.Refusal.TheVariants.{NotTyped, NoMemory}

@@ -1,13 +1,13 @@
 //! Assignments (Go specification, Assignment statements).
 
 ghost use Rattle.std.specs.Prelude.{◌≡◌, false, List, Option, Some, length, map};
-ghost use Rattle.go_types.specs.Answers.{given, meets, only_if};
-ghost use Rattle.go_types.specs.Entities as go_entity;
-ghost use Rattle.go_types.specs.Operands as go_operand;
-ghost use Rattle.go_types.specs.Statements as go;
-ghost use Rattle.type_relations.specs.Environment.{defined_types};
+ghost use Rattle.go_tree.specs.GoTypes.Answers.{given, meets, only_if};
+ghost use Rattle.go_tree.specs.GoTypes.Entities as go_entity;
+ghost use Rattle.go_tree.specs.GoTypes.Operands as go_operand;
+ghost use Rattle.go_tree.specs.GoTypes.Statements as go;
+ghost use Rattle.type_table.specs.TypeRelations.Environment.{defined_types};
 ghost use Rattle.operand_rules.specs.Values.{typed_of};
-ghost use Rattle.access_rules.specs.Functions.{AreValues};
+ghost use Rattle.operator_rules.specs.AccessRules.Functions.{AreValues};
 ghost use Rattle.checker_tables.specs.Ready.{AreReady};
 ghost use Rattle.operand_answers.specs.Lists.{GivesAll};
 ghost use Rattle.control_steps.specs.Ends.{EndsAs};

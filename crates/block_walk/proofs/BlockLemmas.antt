@@ -6,15 +6,15 @@ use Rattle.go_tree.specs.declared.stmts.Stmt as source
 use Rattle.go_tree.specs.Lists.{stmts_from}
 use Rattle.go_tree.specs.Tree.{Stmt, Stmts, stmt_and}
 use Rattle.go_tree.specs.View.{stmt_of}
-use Rattle.scope_names.specs.FreeNames.{declared}
-use Rattle.go_types.specs.Answers.{both, only_if}
-use Rattle.go_types.specs.Bodies.{Ctx}
-use Rattle.go_types.specs.Declarations.{Declared, all_used, beyond, binds_of}
-use Rattle.go_types.specs.Entities.{Binds, Env, extend}
-use Rattle.go_types.specs.Statements.{is_empty_stmt}
-use Rattle.go_types.specs.Typing.{declares, stmt, stmts, used_stmt, used_stmts}
-use Rattle.access_rules.specs.Functions.{AreTypes}
-use Rattle.type_exprs.proofs.NewNames.{drop_all, drop_item}
+use Rattle.go_tree.specs.ScopeNames.FreeNames.{declared}
+use Rattle.go_tree.specs.GoTypes.Answers.{both, only_if}
+use Rattle.go_tree.specs.GoTypes.Bodies.{Ctx}
+use Rattle.go_tree.specs.GoTypes.Declarations.{Declared, all_used, beyond, binds_of}
+use Rattle.go_tree.specs.GoTypes.Entities.{Binds, Env, extend}
+use Rattle.go_tree.specs.GoTypes.Statements.{is_empty_stmt}
+use Rattle.go_tree.specs.GoTypes.Typing.{declares, stmt, stmts, used_stmt, used_stmts}
+use Rattle.operator_rules.specs.AccessRules.Functions.{AreTypes}
+use Rattle.typed_names.proofs.TypeExprs.NewNames.{drop_all, drop_item}
 use Rattle.typed_names.specs.declared.scopes.Scope.{Scope}
 use Rattle.typed_names.specs.Meanings.{Names}
 use Rattle.operand_rules.specs.declared.values.Refusal.{Refusal}

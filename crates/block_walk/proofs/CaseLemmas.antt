@@ -6,24 +6,24 @@ use Rattle.go_tree.specs.declared.stmts.Case as source
 use Rattle.go_tree.specs.Lists.{cases_from}
 use Rattle.go_tree.specs.Tree.{Cases, no_cases, Exprs, ExprOption, Stmt, StmtOption, switch}
 use Rattle.go_tree.specs.View.{case_of, exprs_of, stmts_of}
-use Rattle.const_eval.specs.declared.consts.Const.{Const}
-use Rattle.const_eval.specs.declared.consts.Const.TheVariants.{Whole, Truth, Bytes}
-use Rattle.scope_names.specs.FreeNames.{declared_option}
-use Rattle.go_types.specs.Answers.{both, given, only_if}
-use Rattle.go_types.specs.Bodies.{Ctx, in_switch}
-use Rattle.go_types.specs.Declarations.{Declared, all_used, beyond, binds_of}
-use Rattle.go_types.specs.Entities.{Binds, Content, Env, run, exact, shift, defined_in, extend, in_block}
-use Rattle.go_types.specs.Jumps.{breaks_in}
-use Rattle.go_types.specs.Operands.{Operand, Typed, all_typed}
-use Rattle.go_types.specs.Statements.{Clauses, case_constants, case_value, choice, is_default, tag_of, tag_value}
-use Rattle.go_types.specs.Typing.{all_parts, bound, clauses, first, stmt, stmts, used_all, used_cases, used_first, used_option, used_stmt, used_stmts}
-use Rattle.type_relations.specs.Environment.{Environment, defined_types}
+use Rattle.go_tree.specs.declared.const_eval.consts.Const.{Const}
+use Rattle.go_tree.specs.declared.const_eval.consts.Const.TheVariants.{Whole, Truth, Bytes}
+use Rattle.go_tree.specs.ScopeNames.FreeNames.{declared_option}
+use Rattle.go_tree.specs.GoTypes.Answers.{both, given, only_if}
+use Rattle.go_tree.specs.GoTypes.Bodies.{Ctx, in_switch}
+use Rattle.go_tree.specs.GoTypes.Declarations.{Declared, all_used, beyond, binds_of}
+use Rattle.go_tree.specs.GoTypes.Entities.{Binds, Content, Env, run, exact, shift, defined_in, extend, in_block}
+use Rattle.go_tree.specs.GoTypes.Jumps.{breaks_in}
+use Rattle.go_tree.specs.GoTypes.Operands.{Operand, Typed, all_typed}
+use Rattle.go_tree.specs.GoTypes.Statements.{Clauses, case_constants, case_value, choice, is_default, tag_of, tag_value}
+use Rattle.go_tree.specs.GoTypes.Typing.{all_parts, bound, clauses, first, stmt, stmts, used_all, used_cases, used_first, used_option, used_stmt, used_stmts}
+use Rattle.type_table.specs.TypeRelations.Environment.{Environment, defined_types}
 use Rattle.operand_rules.specs.declared.values.Value.{Value}
 use Rattle.operand_rules.specs.declared.values.Refusal.{Refusal}
 use Rattle.operand_rules.specs.declared.values.Refusal.TheVariants.{NotTyped, NoMemory}
 use Rattle.operand_rules.specs.Values.{Gives, IsValue, SameContent, content_of, type_of, typed_of}
-use Rattle.access_rules.specs.Functions.{AreTypes}
-use Rattle.type_exprs.proofs.NewNames.{drop_all, drop_item}
+use Rattle.operator_rules.specs.AccessRules.Functions.{AreTypes}
+use Rattle.typed_names.proofs.TypeExprs.NewNames.{drop_all, drop_item}
 use Rattle.typed_names.specs.declared.scopes.Scope.{Scope}
 use Rattle.typed_names.specs.Meanings.{Names}
 use Rattle.checker_tables.specs.declared.tables.Tables.{Tables}

@@ -1,15 +1,15 @@
 -- The ends of blocks, and answers one behind another.
 use Rattle.std.proofs.Common.{◌≡◌, ◌∙◌, ◌&&◌, ℕ, Bool, true, false, not, cond, List, [], ◌∷◌, Option, Some, None, Result, Ok, Err, OnOk, refl, sym, ap}
-use Rattle.go_types.specs.Answers.{given, only_if}
+use Rattle.go_tree.specs.GoTypes.Answers.{given, only_if}
 use Rattle.operand_rules.specs.declared.values.Refusal.{Refusal}
 use Rattle.operand_rules.specs.declared.values.Refusal.TheVariants.{NotTyped, NoMemory}
 use Rattle.go_tree.specs.declared.spans.Span.{Span}
 use Rattle.go_tree.specs.Tree.{NameAt, Stmt, label}
-use Rattle.go_types.specs.Bodies.{Ctx, labelled}
-use Rattle.go_types.specs.Entities.{Env}
-use Rattle.go_types.specs.Jumps.{breaks, is_breakable, is_loop}
-use Rattle.go_types.specs.Typing.{stmt}
-use Rattle.type_relations.specs.Environment.{Environment}
+use Rattle.go_tree.specs.GoTypes.Bodies.{Ctx, labelled}
+use Rattle.go_tree.specs.GoTypes.Entities.{Env}
+use Rattle.go_tree.specs.GoTypes.Jumps.{breaks, is_breakable, is_loop}
+use Rattle.go_tree.specs.GoTypes.Typing.{stmt}
+use Rattle.type_table.specs.TypeRelations.Environment.{Environment}
 use Rattle.typed_names.specs.declared.scopes.Scope.{Scope}
 use Rattle.typed_names.specs.Meanings.{Names}
 use Rattle.checker_tables.specs.declared.tables.Tables.{Tables}

@@ -3,15 +3,15 @@ use Rattle.std.proofs.Common.{◌≡◌, ◌∙◌, ℕ, Bool, true, false, List
 use Rattle.std.specs.Prelude.{is_some}
 use Rattle.go_tree.specs.declared.spans.Span.{Span}
 use Rattle.go_tree.specs.Tree.{Expr, some_expr, StmtOption, no_stmt, some_stmt, Stmt, const_decl, var_decl, empty, eval, step, assign, define, return_, break_, continue_, inner, if_, for_, range_, switch, defer, label}
-use Rattle.go_types.specs.Answers.{both, given, meets, unless_missing}
-use Rattle.go_types.specs.Bodies.{Ctx}
-use Rattle.go_types.specs.Declarations.{Declared, no_names}
-use Rattle.go_types.specs.Defined.{Defined}
-use Rattle.go_types.specs.Entities.{Env, defined_in}
-use Rattle.go_types.specs.Operands.{Operand, Typed, typed, value, with_value}
-use Rattle.go_types.specs.Statements.{is_condition, is_test}
-use Rattle.go_types.specs.Typing.{bound, declares, first, parts, stmt, used_first}
-use Rattle.type_relations.specs.Environment.{defined_types}
+use Rattle.go_tree.specs.GoTypes.Answers.{both, given, meets, unless_missing}
+use Rattle.go_tree.specs.GoTypes.Bodies.{Ctx}
+use Rattle.go_tree.specs.GoTypes.Declarations.{Declared, no_names}
+use Rattle.go_tree.specs.GoTypes.Defined.{Defined}
+use Rattle.go_tree.specs.GoTypes.Entities.{Env, defined_in}
+use Rattle.go_tree.specs.GoTypes.Operands.{Operand, Typed, typed, value, with_value}
+use Rattle.go_tree.specs.GoTypes.Statements.{is_condition, is_test}
+use Rattle.go_tree.specs.GoTypes.Typing.{bound, declares, first, parts, stmt, used_first}
+use Rattle.type_table.specs.TypeRelations.Environment.{defined_types}
 use Rattle.typed_names.specs.declared.scopes.Scope.{Scope}
 use Rattle.typed_names.specs.Meanings.{Names}
 use Rattle.operand_rules.specs.declared.values.Refusal.{Refusal}

@@ -10,10 +10,10 @@ use Rattle.go_tree.specs.declared.stmts.VarDecl.{out-VarDecl}
 use Rattle.go_tree.specs.declared.stmts.VarSpecList as vsl
 use Rattle.go_tree.specs.Tree.{Stmt, const_decl, var_decl, empty, eval, step, assign, define, return_, break_, continue_, inner, if_, for_, range_, switch, defer, label}
 use Rattle.go_tree.specs.View.{const_decl_of, const_specs_of, var_decl_of, var_specs_of}
-use Rattle.go_types.specs.Declarations.{no_names}
-use Rattle.go_types.specs.Entities.{Env}
-use Rattle.go_types.specs.Statements.{is_empty_stmt}
-use Rattle.go_types.specs.Typing.{declares}
+use Rattle.go_tree.specs.GoTypes.Declarations.{no_names}
+use Rattle.go_tree.specs.GoTypes.Entities.{Env}
+use Rattle.go_tree.specs.GoTypes.Statements.{is_empty_stmt}
+use Rattle.go_tree.specs.GoTypes.Typing.{declares}
 use Rattle.jump_rules.proofs.JumpLemmas.{of_constants, of_variables}
 use Rattle.statement_walk.specs.SimpleWalk.Simple.{IsSimple}
 use Rattle.block_walk.specs.Walked.{IsPlain, IsPost, IsWalkedStmt, holds_others, is_declaration}

@@ -1,12 +1,13 @@
 -- What is known of statements, as the answers for them tell: whether they are terminating, what they declare, and the
 -- names that they use (Go specification, Blocks; Declarations and scope; Terminating statements).
-use Rattle.std.specs.Prelude.{◌≡◌, ℕ, Bool, true, false, List, [], Option, Some, None, Result, Ok, Err, if◌then◌else◌}
+use Rattle.std.specs.Prelude.{◌≡◌, ℕ, Bool, true, false, List, [], Option, Some, None, Result, Ok, Err}
+use Rattle.std.specs.Prelude.{if◌then◌else◌}
 use Rattle.go_tree.specs.declared.spans.Span.{Span}
 use Rattle.go_tree.specs.declared.operators.BinOp.{BinOp}
 use Rattle.go_tree.specs.Tree.{Expr, Exprs, Stmt}
-use Rattle.go_types.specs.Bodies.{Ctx}
-use Rattle.go_types.specs.Entities.{Env}
-use Rattle.go_types.specs.Typing.{declares, stmt, used, used_all, used_left, used_stmt}
+use Rattle.go_tree.specs.GoTypes.Bodies.{Ctx}
+use Rattle.go_tree.specs.GoTypes.Entities.{Env}
+use Rattle.go_tree.specs.GoTypes.Typing.{declares, stmt, used, used_all, used_left, used_stmt}
 use Rattle.typed_names.specs.declared.scopes.Scope.{Scope}
 use Rattle.typed_names.specs.Meanings.{Names}
 use Rattle.operand_rules.specs.declared.values.Refusal.{Refusal}

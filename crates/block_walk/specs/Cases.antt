@@ -2,19 +2,19 @@
 use Rattle.std.specs.Prelude.{◌≡◌, ℕ, Bool, ◌&&◌, not, List, map, Option, Some, None, Result, Ok, Err}
 use Rattle.go_tree.specs.declared.spans.Span.{Span}
 use Rattle.go_tree.specs.Tree.{Exprs, Stmts, Cases, case}
-use Rattle.go_types.specs.Answers.{given}
-use Rattle.go_types.specs.Bodies.{Ctx}
-use Rattle.go_types.specs.Entities.{Env}
-use Rattle.go_types.specs.Operands.{Typed}
-use Rattle.go_types.specs.Statements.{Clauses, choice}
-use Rattle.go_types.specs.Typing.{clauses, used_cases}
-use Rattle.const_eval.specs.declared.consts.Const.{Const}
-use Rattle.type_relations.specs.Environment.{Environment}
+use Rattle.go_tree.specs.GoTypes.Answers.{given}
+use Rattle.go_tree.specs.GoTypes.Bodies.{Ctx}
+use Rattle.go_tree.specs.GoTypes.Entities.{Env}
+use Rattle.go_tree.specs.GoTypes.Operands.{Typed}
+use Rattle.go_tree.specs.GoTypes.Statements.{Clauses, choice}
+use Rattle.go_tree.specs.GoTypes.Typing.{clauses, used_cases}
+use Rattle.go_tree.specs.declared.const_eval.consts.Const.{Const}
+use Rattle.type_table.specs.TypeRelations.Environment.{Environment}
 use Rattle.operand_rules.specs.declared.values.Value.{Value}
 use Rattle.operand_rules.specs.declared.values.Refusal.{Refusal}
 use Rattle.operand_rules.specs.declared.values.Refusal.TheVariants.{NotTyped, NoMemory}
 use Rattle.operand_rules.specs.Values.{IsValue, typed_of}
-use Rattle.access_rules.specs.Functions.{AreTypes}
+use Rattle.operator_rules.specs.AccessRules.Functions.{AreTypes}
 use Rattle.typed_names.specs.declared.scopes.Scope.{Scope}
 use Rattle.typed_names.specs.Meanings.{Names}
 use Rattle.checker_tables.specs.declared.tables.Tables.{Tables}

@@ -3,12 +3,12 @@
 
 ghost use Rattle.std.specs.Prelude.{◌≡◌, ◌&&◌, ℕ, List, is_some, not};
 ghost use Rattle.go_tree.specs.View.{boxed_stmt_option_of, expr_of, plain_expr_option_of, stmt_of};
-ghost use Rattle.go_types.specs.Answers.{meets};
-ghost use Rattle.go_types.specs.Bodies.{Ctx};
-ghost use Rattle.go_types.specs.Entities.{Env, defined_in};
-ghost use Rattle.go_types.specs.Statements as go_statement;
-ghost use Rattle.go_types.specs.Typing as go;
-ghost use Rattle.access_rules.specs.Functions.{AreTypes};
+ghost use Rattle.go_tree.specs.GoTypes.Answers.{meets};
+ghost use Rattle.go_tree.specs.GoTypes.Bodies.{Ctx};
+ghost use Rattle.go_tree.specs.GoTypes.Entities.{Env, defined_in};
+ghost use Rattle.go_tree.specs.GoTypes.Statements as go_statement;
+ghost use Rattle.go_tree.specs.GoTypes.Typing as go;
+ghost use Rattle.operator_rules.specs.AccessRules.Functions.{AreTypes};
 ghost use Rattle.checker_tables.specs.Ready.{Keeps};
 ghost use Rattle.operand_answers.specs.Known.{Stands};
 ghost use Rattle.control_steps.specs.LocalBlocks.Places.{IsPlace, IsWithin};

@@ -1,11 +1,11 @@
 //! Calls (Go specification, Calls; Conversions; Built-in functions).
 
 ghost use Rattle.std.specs.Prelude.{List, Option};
-ghost use Rattle.go_types.specs.Answers.{both};
-ghost use Rattle.go_types.specs.Entities as go_entity;
-ghost use Rattle.go_types.specs.Operands as go_operand;
-ghost use Rattle.go_types.specs.Primary as go;
-ghost use Rattle.type_relations.specs.Environment.{defined_types};
+ghost use Rattle.go_tree.specs.GoTypes.Answers.{both};
+ghost use Rattle.go_tree.specs.GoTypes.Entities as go_entity;
+ghost use Rattle.go_tree.specs.GoTypes.Operands as go_operand;
+ghost use Rattle.go_tree.specs.GoTypes.Primary as go;
+ghost use Rattle.type_table.specs.TypeRelations.Environment.{defined_types};
 ghost use Rattle.operand_modes.specs.Operands.{AreOperands, GivesOperand, IsOperand, operand_at, operands_at};
 ghost use Rattle.checker_tables.specs.Ready.{AreReady, Keeps};
 ghost use Rattle.operand_answers.specs.Lists.{AreThereIfOk, GivesAll};

@@ -1,8 +1,8 @@
 //! Conversions (Go specification, Conversions).
 
 ghost use Rattle.std.specs.Prelude.{◌≡◌};
-ghost use Rattle.go_types.specs.Primary as go;
-ghost use Rattle.type_relations.specs.Environment.{defined_types, env_type};
+ghost use Rattle.go_tree.specs.GoTypes.Primary as go;
+ghost use Rattle.type_table.specs.TypeRelations.Environment.{defined_types, env_type};
 ghost use Rattle.operand_rules.specs.declared.values.ValueType.TheVariants.{Typed};
 ghost use Rattle.operand_rules.specs.Values.{IsType};
 ghost use Rattle.operand_modes.specs.Lists.{only_value};

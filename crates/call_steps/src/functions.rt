@@ -1,18 +1,18 @@
 //! Calls of functions and methods (Go specification, Calls; Assignability).
 
 ghost use Rattle.std.specs.Prelude.{◌≡◌, ◌<◌, length, Some};
-ghost use Rattle.go_types.specs.Answers.{only_if};
-ghost use Rattle.go_types.specs.Operands as go;
-ghost use Rattle.go_types.specs.Operands.{spread};
-ghost use Rattle.type_relations.specs.Environment.{defined_types};
-ghost use Rattle.access_rules.specs.Functions.{AreValues, operands_of};
+ghost use Rattle.go_tree.specs.GoTypes.Answers.{only_if};
+ghost use Rattle.go_tree.specs.GoTypes.Operands as go;
+ghost use Rattle.go_tree.specs.GoTypes.Operands.{spread};
+ghost use Rattle.type_table.specs.TypeRelations.Environment.{defined_types};
+ghost use Rattle.operator_rules.specs.AccessRules.Functions.{AreValues, operands_of};
 ghost use Rattle.operand_modes.specs.Operands.{AreOperands, GivesOperand, operands_at, tuple_at};
 ghost use Rattle.checker_tables.specs.Ready.{AreReady};
 
-use access_rules::takes_all;
 use checker_tables::Tables;
 use operand_modes::{Operand, results_operand, tuple_parts, values};
 use operand_rules::{Refusal, Value};
+use operator_rules::access_rules::takes_all;
 use std::alloc::Global;
 use type_table::TypeId;
 

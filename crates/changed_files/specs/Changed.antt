@@ -1,5 +1,6 @@
 -- The files that a run changes (golang.org/x/tools, internal/refactor/inline, for what a run is).
-use Rattle.std.specs.Prelude.{bytes_eq, if◌then◌else◌, List, [], ◌∷◌, ◌++◌, Option, Some, None, slice_get}
+use Rattle.std.specs.Prelude.{bytes_eq, if◌then◌else◌, List, [], ◌∷◌, ◌++◌, Option, Some, None}
+use Rattle.std.specs.Prelude.{slice_get}
 use Rattle.source_files.specs.declared.files.SourceFile.{SourceFile}
 use Rattle.changed_files.specs.declared.changed.LastText.{LastText}
 use Rattle.changed_files.specs.declared.changed.ChangedFile.{ChangedFile}

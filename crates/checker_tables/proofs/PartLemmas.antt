@@ -1,10 +1,10 @@
 -- The parts of types in a table of types of values.
 use Rattle.std.specs.Prelude.{◌≡◌, ℕ, zero, suc, ◌<◌, List, [], ◌∷◌, map, length, Some, slice_get}
 use Rattle.std.proofs.Common.{arith}
-use Rattle.go_types.specs.Table.{NodeField, TypeNode, basic_node, named_node, pointer_node, slice_node, map_node, struct_node, tuple_node, untyped_node, nil_node, AllBelow, none_above, below_and, node_parts}
-use Rattle.type_relations.specs.Environment.{Environment}
+use Rattle.go_tree.specs.GoTypes.Table.{NodeField, TypeNode, basic_node, named_node, pointer_node, slice_node, map_node, struct_node, tuple_node, untyped_node, nil_node, AllBelow, none_above, below_and, node_parts}
+use Rattle.type_table.specs.TypeRelations.Environment.{Environment}
 use Rattle.operator_rules.specs.Parts.{AreParts, FieldParts, IsPart, RowParts}
-use Rattle.value_types.specs.ValueTypes.{HasValueTypes}
+use Rattle.type_table.specs.ValueTypes.ValueTypes.{HasValueTypes}
 use Rattle.checker_tables.specs.Laws.{PartsFollow}
 
 -- a row that is there has a number of the table

@@ -2,17 +2,17 @@
 use Rattle.std.specs.Prelude.{◌≡◌, [], length, refl}
 use Rattle.std.proofs.Common.{arith}
 use mathlib.Core.Path.{sym, ◌∙◌, subst}
-use Rattle.type_relations.specs.Environment.{Environment, defined_types}
+use Rattle.type_table.specs.TypeRelations.Environment.{Environment, defined_types}
 use Rattle.comparable_types.specs.declared.grown.TypeFlags.{TypeFlags}
 use Rattle.comparable_types.specs.Grown.{AreFlags, AreFlagsSoFar, DefinedBelow}
 use Rattle.operator_rules.specs.declared.basics.BasicTypes.{BasicTypes}
 use Rattle.operator_rules.specs.BasicTypes.{AreBasic}
 use Rattle.operator_rules.specs.Kept as rule
 use Rattle.operator_rules.proofs.KeptLemmas.{basic_types_stay}
-use Rattle.value_types.specs.ValueTypes.{HasValueTypes}
-use Rattle.value_types.proofs.ValueLemmas.{no_rows_are_value_types}
-use Rattle.type_exprs.specs.Grown.{TypesGrown}
-use Rattle.type_exprs.proofs.FlagsKept.{defined_kept, flags_kept}
+use Rattle.type_table.specs.ValueTypes.ValueTypes.{HasValueTypes}
+use Rattle.type_table.proofs.ValueTypes.ValueLemmas.{no_rows_are_value_types}
+use Rattle.typed_names.specs.TypeExprs.Grown.{TypesGrown}
+use Rattle.typed_names.proofs.TypeExprs.FlagsKept.{defined_kept, flags_kept}
 use Rattle.checker_tables.specs.Ready.{IsReady}
 use Rattle.checker_tables.specs.Laws.{ReadyStays}
 

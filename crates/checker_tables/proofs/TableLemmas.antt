@@ -3,10 +3,10 @@ use Rattle.std.specs.Prelude.{◌≡◌, ℕ, zero, suc, ◌<◌, ◌≤◌, nat
 use Rattle.std.proofs.Common.{arith}
 use Rattle.std.proofs.lemmas.Bool.Decides.{nat_tests}
 use mathlib.Core.Path.{ap, sym, ◌∙◌}
-use Rattle.go_types.specs.Types.{is_untyped}
-use Rattle.go_types.specs.Table.{TypeNode}
+use Rattle.go_tree.specs.GoTypes.Types.{is_untyped}
+use Rattle.go_tree.specs.GoTypes.Table.{TypeNode}
 use Rattle.type_table.specs.TypesAt.{type_at, type_of_row, type_within}
-use Rattle.type_relations.specs.Environment.{Environment, env_type}
+use Rattle.type_table.specs.TypeRelations.Environment.{Environment, env_type}
 use Rattle.checker_tables.specs.Laws.{ValueTypesAreThere}
 
 -- there is no row behind the last

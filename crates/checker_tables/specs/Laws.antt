@@ -1,19 +1,19 @@
 -- The laws of tables that are ready. Each is a clause of a function of this crate.
 use Rattle.std.specs.Prelude.{◌≡◌, ℕ, List, Some}
-use Rattle.go_types.specs.Types.{FuncType}
-use Rattle.go_types.specs.Defined.{Method}
-use Rattle.go_types.specs.Entities.{Place}
-use Rattle.go_types.specs.Operands.{Typed, a_function}
-use Rattle.go_types.specs.Primary.{selected}
-use Rattle.type_relations.specs.Environment.{Environment, IsEnvironment, defined_types}
-use Rattle.type_relations.specs.Methods.{declared_method}
+use Rattle.go_tree.specs.GoTypes.Types.{FuncType}
+use Rattle.go_tree.specs.GoTypes.Defined.{Method}
+use Rattle.go_tree.specs.GoTypes.Entities.{Place}
+use Rattle.go_tree.specs.GoTypes.Operands.{Typed, a_function}
+use Rattle.go_tree.specs.GoTypes.Primary.{selected}
+use Rattle.type_table.specs.TypeRelations.Environment.{Environment, IsEnvironment, defined_types}
+use Rattle.type_table.specs.TypeRelations.Methods.{declared_method}
 use Rattle.comparable_types.specs.declared.grown.TypeFlags.{TypeFlags}
 use Rattle.operator_rules.specs.declared.basics.BasicTypes.{BasicTypes}
 use Rattle.operator_rules.specs.Parts.{HasParts}
-use Rattle.value_types.specs.ValueTypes.{HasValueTypes}
-use Rattle.type_exprs.specs.Grown.{TypesGrown}
+use Rattle.type_table.specs.ValueTypes.ValueTypes.{HasValueTypes}
+use Rattle.typed_names.specs.TypeExprs.Grown.{TypesGrown}
 use Rattle.type_table.specs.declared.nodes.TypeId.{TypeId}
-use Rattle.access_rules.specs.Functions.{AreTypes, types_at}
+use Rattle.operator_rules.specs.AccessRules.Functions.{AreTypes, types_at}
 use Rattle.checker_tables.specs.Ready.{AreValueTypes, HasFuncTypes, IsReady}
 
 -- the parts of types are types of values

@@ -1,15 +1,15 @@
 -- Tables from which what the rules ask follows, and what a step leaves as it is (Go specification, Types; Constants;
 -- Comparison operators).
 use Rattle.std.specs.Prelude.{◌≡◌, false, length, List, [], ◌∷◌}
-use Rattle.go_types.specs.Types.{GoType, FuncType, is_untyped}
-use Rattle.type_relations.specs.Environment.{Environment}
+use Rattle.go_tree.specs.GoTypes.Types.{GoType, FuncType, is_untyped}
+use Rattle.type_table.specs.TypeRelations.Environment.{Environment}
 use Rattle.comparable_types.specs.declared.grown.TypeFlags.{TypeFlags}
 use Rattle.comparable_types.specs.Grown.{AreFlagsSoFar, DefinedBelow}
 use Rattle.operand_rules.specs.Constants.{Grown}
 use Rattle.operator_rules.specs.declared.basics.BasicTypes.{BasicTypes}
 use Rattle.operator_rules.specs.BasicTypes.{AreBasic}
-use Rattle.value_types.specs.ValueTypes.{HasValueTypes}
-use Rattle.type_exprs.specs.Grown.{TypesGrown}
+use Rattle.type_table.specs.ValueTypes.ValueTypes.{HasValueTypes}
+use Rattle.typed_names.specs.TypeExprs.Grown.{TypesGrown}
 use Rattle.checker_tables.specs.declared.tables.Tables.{Tables}
 
 -- all types are types of values, the flags of the first ones are right, no other is defined, and the predeclared types

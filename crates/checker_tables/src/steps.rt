@@ -1,28 +1,28 @@
 //! Steps that add to the tables: operators between values, addresses, and types in the source.
 
 ghost use Rattle.std.specs.Prelude.{List};
-ghost use Rattle.const_eval.specs.declared.consts.Const.{Const};
+ghost use Rattle.go_tree.specs.declared.const_eval.consts.Const.{Const};
 ghost use Rattle.go_tree.specs.View.{type_of};
-ghost use Rattle.go_types.specs.Entities as go_entity;
-ghost use Rattle.go_types.specs.Operators as go;
-ghost use Rattle.go_types.specs.TypeNames as type_name;
-ghost use Rattle.type_relations.specs.Environment.{defined_types, env_type};
+ghost use Rattle.go_tree.specs.GoTypes.Entities as go_entity;
+ghost use Rattle.go_tree.specs.GoTypes.Operators as go;
+ghost use Rattle.go_tree.specs.GoTypes.TypeNames as type_name;
+ghost use Rattle.type_table.specs.TypeRelations.Environment.{defined_types, env_type};
 ghost use Rattle.operand_rules.specs.declared.values.ValueType.TheVariants.{Typed};
 ghost use Rattle.operand_rules.specs.Values.{Gives, IsType, IsValue, typed_of};
-ghost use Rattle.access_rules.specs.Places.{place_of};
+ghost use Rattle.operator_rules.specs.AccessRules.Places.{place_of};
 ghost use Rattle.typed_names.specs.Known.{KnowsTypes};
 ghost use Rattle.typed_names.specs.Scopes.{env_at};
-ghost use Rattle.type_exprs.specs.Answers.{GivesType};
+ghost use Rattle.typed_names.specs.TypeExprs.Answers.{GivesType};
 ghost use Rattle.checker_tables.specs.Ready.{AreReady, Keeps};
 
 use crate::tables::Tables;
-use access_rules::{Place, address_of};
 use go_tree::{BinOp, TypeExpr};
 use operand_rules::{Refusal, Value};
+use operator_rules::access_rules::{Place, address_of};
 use operator_rules::binary_value;
 use std::alloc::Global;
-use type_exprs::type_meant;
 use type_table::TypeId;
+use typed_names::type_exprs::type_meant;
 use typed_names::{Blocks, Scope};
 
 /// What a binary operator between two values gives (Go specification, Operators).

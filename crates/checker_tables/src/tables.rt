@@ -8,7 +8,7 @@ use go_tree::NoMemory;
 use operand_rules::ConstTable;
 use operator_rules::BasicTypes;
 use std::alloc::Global;
-use type_relations::Env;
+use type_table::type_relations::Env;
 
 /// Types with their flags, the predeclared types that rules give by themselves, and constants.
 #[derive(Drop)]

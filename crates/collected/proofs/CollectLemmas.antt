@@ -1,16 +1,16 @@
 -- What is found of types, functions, constants, variables and methods is what the packages declare.
 use Rattle.std.proofs.Common.{◌≡◌, ◌∙◌, ℕ, List, [], Option, Some, None, refl, sym, ap, ap₂}
 use Rattle.go_tree.specs.declared.spans.Span.{Span}
-use Rattle.const_eval.specs.declared.consts.Const.{Const}
-use Rattle.scope_names.specs.Means.{means}
-use Rattle.go_types.specs.Types.{named_type}
-use Rattle.go_types.specs.Defined.{has_keys, methods, under}
-use Rattle.go_types.specs.Entities.{World}
-use Rattle.go_types.specs.Primary.{find_method}
-use Rattle.go_types.specs.Programs.{Program, headed}
-use Rattle.go_types.specs.MethodDeclarations.{with_methods}
-use Rattle.go_types.specs.Collect.{collected, typed_world, valued_world, world_of}
-use Rattle.type_relations.specs.Environment.{Environment, defined_types}
+use Rattle.go_tree.specs.declared.const_eval.consts.Const.{Const}
+use Rattle.go_tree.specs.ScopeNames.Means.{means}
+use Rattle.go_tree.specs.GoTypes.Types.{named_type}
+use Rattle.go_tree.specs.GoTypes.Defined.{has_keys, methods, under}
+use Rattle.go_tree.specs.GoTypes.Entities.{World}
+use Rattle.go_tree.specs.GoTypes.Primary.{find_method}
+use Rattle.go_tree.specs.GoTypes.Programs.{Program, headed}
+use Rattle.go_tree.specs.GoTypes.MethodDeclarations.{with_methods}
+use Rattle.go_tree.specs.GoTypes.Collect.{collected, typed_world, valued_world, world_of}
+use Rattle.type_table.specs.TypeRelations.Environment.{Environment, defined_types}
 use Rattle.typed_names.specs.declared.entities.Entity.{Entity}
 use Rattle.typed_names.specs.declared.entities.Entity.TheVariants.{Variable, Constant, TypeName, Function, Package, Predeclared, Refused}
 use Rattle.typed_names.specs.Meanings.{Names, block_at, entity_option, world_at}

@@ -2,23 +2,23 @@
 use Rattle.std.proofs.Common.{◌≡◌, ◌∙◌, ◌<◌, ℕ, true, false, List, [], Option, Some, None, refl, sym, subst, ap, ap₂, length, is_some}
 use Rattle.std.specs.Prelude.{slice_get}
 use Rattle.go_tree.specs.declared.spans.Span.{Span}
-use Rattle.const_eval.specs.declared.consts.Const.{Const}
-use Rattle.go_types.specs.Types.{named_type}
-use Rattle.go_types.specs.Defined.{Defined, find_defined}
-use Rattle.go_types.specs.Programs.{Headed}
-use Rattle.go_types.specs.Table.{TypeNode, basic_node, named_node, pointer_node, slice_node, map_node, struct_node, tuple_node, untyped_node, nil_node}
+use Rattle.go_tree.specs.declared.const_eval.consts.Const.{Const}
+use Rattle.go_tree.specs.GoTypes.Types.{named_type}
+use Rattle.go_tree.specs.GoTypes.Defined.{Defined, find_defined}
+use Rattle.go_tree.specs.GoTypes.Programs.{Headed}
+use Rattle.go_tree.specs.GoTypes.Table.{TypeNode, basic_node, named_node, pointer_node, slice_node, map_node, struct_node, tuple_node, untyped_node, nil_node}
 use Rattle.type_table.specs.TypesAt.{type_at, type_by}
 use Rattle.type_table.proofs.TypesAtLaws.{get_within, type_at_row}
-use Rattle.type_relations.specs.Environment.{Definition, Environment, IsEnvironment, defined_at, defined_types, definition_in, env_type, has_methods, is_defined}
-use Rattle.type_relations.proofs.UnderLaws.{defined_option, found_by_number}
+use Rattle.type_table.specs.TypeRelations.Environment.{Definition, Environment, IsEnvironment, defined_at, defined_types, definition_in, env_type, has_methods, is_defined}
+use Rattle.type_table.proofs.TypeRelations.UnderLaws.{defined_option, found_by_number}
 use Rattle.comparable_types.specs.declared.grown.TypeFlags.{TypeFlags}
 use Rattle.comparable_types.specs.Grown.{AreFlagsSoFar, DefinedBelow}
 use Rattle.operator_rules.specs.declared.basics.BasicTypes.{BasicTypes}
 use Rattle.operator_rules.proofs.KeptLemmas.{basic_types_stay}
-use Rattle.value_types.specs.ValueTypes.{HasValueTypes}
+use Rattle.type_table.specs.ValueTypes.ValueTypes.{HasValueTypes}
 use Rattle.typed_names.specs.Known.{AllHaveTypes}
 use Rattle.typed_names.specs.Meanings.{Names, world_at}
-use Rattle.type_exprs.specs.Grown.{TypesGrown}
+use Rattle.typed_names.specs.TypeExprs.Grown.{TypesGrown}
 use Rattle.declared_types.specs.Members.{SameMembers}
 use Rattle.declared_types.proofs.Found.{world_kept}
 use Rattle.func_headers.specs.NameRoles.{SameTypes, role_of}

@@ -1,21 +1,21 @@
 -- What is read of a table of types by its rows alone stays where they do.
 use Rattle.std.proofs.Common.{◌≡◌, ◌∙◌, ◌<◌, ◌≤◌, List, [], ◌∷◌, Option, Some, None, refl, sym, subst, ap, ap₂, map, length, arith}
-use Rattle.const_eval.specs.declared.consts.Const.{Const}
-use Rattle.scope_names.specs.Means.{means}
-use Rattle.go_types.specs.Types.{GoType, FuncType, is_untyped}
-use Rattle.go_types.specs.Entities as go
+use Rattle.go_tree.specs.declared.const_eval.consts.Const.{Const}
+use Rattle.go_tree.specs.ScopeNames.Means.{means}
+use Rattle.go_tree.specs.GoTypes.Types.{GoType, FuncType, is_untyped}
+use Rattle.go_tree.specs.GoTypes.Entities as go
 use Rattle.type_table.specs.TypesAt.{type_at}
-use Rattle.type_relations.specs.Environment.{Environment}
+use Rattle.type_table.specs.TypeRelations.Environment.{Environment}
 use Rattle.operand_rules.specs.declared.values.ValueType.{ValueType}
 use Rattle.operand_rules.specs.declared.values.ValueType.TheVariants as variant
 use Rattle.operand_rules.specs.Constants.{const_at}
 use Rattle.operand_rules.specs.Values.{type_of}
 use Rattle.operator_rules.specs.Kept as rule
-use Rattle.value_types.specs.ValueTypes.{HasValueTypes}
+use Rattle.type_table.specs.ValueTypes.ValueTypes.{HasValueTypes}
 use Rattle.typed_names.specs.declared.entities.Entity.{Entity}
 use Rattle.typed_names.specs.declared.entities.Entity.TheVariants.{Variable, Constant, TypeName, Function, Package, Predeclared, Refused}
 use Rattle.typed_names.specs.Meanings.{Names, block_at, entity_at, entity_option, tuple_list, world_at}
-use Rattle.type_exprs.specs.Grown.{TypesGrown}
+use Rattle.typed_names.specs.TypeExprs.Grown.{TypesGrown}
 use Rattle.declared_types.specs.Members.{SameMembers}
 use Rattle.declared_types.proofs.Found.{member_read}
 use Rattle.defined_types.specs.declared.declared.DeclaredType.{DeclaredType}

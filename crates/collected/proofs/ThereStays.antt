@@ -1,13 +1,13 @@
 -- Types and constants of all names stay in the tables while methods are declared.
 use Rattle.std.proofs.Common.{◌≡◌, ◌∙◌, List, [], ◌∷◌, refl, ap}
-use Rattle.const_eval.specs.declared.consts.Const.{Const}
-use Rattle.const_eval.specs.Exact.{represents}
-use Rattle.go_types.specs.Answers.{meets}
-use Rattle.go_types.specs.Types.{GoType, basic_kind, untyped}
-use Rattle.go_types.specs.Defined.{under}
-use Rattle.go_types.specs.Operands.{kind_of}
+use Rattle.go_tree.specs.declared.const_eval.consts.Const.{Const}
+use Rattle.go_tree.specs.ConstEval.Exact.{represents}
+use Rattle.go_tree.specs.GoTypes.Answers.{meets}
+use Rattle.go_tree.specs.GoTypes.Types.{GoType, basic_kind, untyped}
+use Rattle.go_tree.specs.GoTypes.Defined.{under}
+use Rattle.go_tree.specs.GoTypes.Operands.{kind_of}
 use Rattle.type_table.specs.TypesAt.{type_at}
-use Rattle.type_relations.specs.Environment.{Environment, defined_types}
+use Rattle.type_table.specs.TypeRelations.Environment.{Environment, defined_types}
 use Rattle.operand_rules.specs.declared.values.ValueType.{ValueType}
 use Rattle.operand_rules.specs.declared.values.ValueType.TheVariants as variant
 use Rattle.operand_rules.specs.Constants.{const_at}
@@ -17,7 +17,7 @@ use Rattle.typed_names.specs.declared.entities.Entity.{Entity}
 use Rattle.typed_names.specs.declared.entities.Entity.TheVariants.{Variable, Constant, TypeName, Function, Package, Predeclared, Refused}
 use Rattle.typed_names.specs.Known.{AllHaveTypes, HasTypes, HaveTypes}
 use Rattle.typed_names.specs.Meanings.{Names}
-use Rattle.type_exprs.specs.Grown.{TypesGrown}
+use Rattle.typed_names.specs.TypeExprs.Grown.{TypesGrown}
 use Rattle.method_types.specs.MethodSets.Methods.{OnlyMethods}
 use Rattle.method_types.proofs.MethodSets.Kept.{under_kept}
 use Rattle.initial_values.specs.ValueBlocks.Values.{AreThere}

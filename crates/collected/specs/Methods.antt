@@ -1,15 +1,15 @@
 -- Methods in the tables (Go specification, Method declarations; Method sets; Selectors).
 use Rattle.std.specs.Prelude.{◌≡◌, ℕ, ◌<◌, true, List, [], length}
 use Rattle.go_tree.specs.declared.spans.Span.{Span}
-use Rattle.const_eval.specs.declared.consts.Const.{Const}
-use Rattle.go_types.specs.Types.{named_type}
-use Rattle.go_types.specs.Defined.{methods}
-use Rattle.go_types.specs.Entities.{World}
-use Rattle.go_types.specs.Primary.{find_method}
-use Rattle.go_types.specs.Programs.{Headed}
-use Rattle.go_types.specs.Collect.{world_of}
-use Rattle.type_relations.specs.Environment.{Environment, env_type, is_defined}
-use Rattle.type_relations.specs.Methods.{declared_method}
+use Rattle.go_tree.specs.declared.const_eval.consts.Const.{Const}
+use Rattle.go_tree.specs.GoTypes.Types.{named_type}
+use Rattle.go_tree.specs.GoTypes.Defined.{methods}
+use Rattle.go_tree.specs.GoTypes.Entities.{World}
+use Rattle.go_tree.specs.GoTypes.Primary.{find_method}
+use Rattle.go_tree.specs.GoTypes.Programs.{Headed}
+use Rattle.go_tree.specs.GoTypes.Collect.{world_of}
+use Rattle.type_table.specs.TypeRelations.Environment.{Environment, env_type, is_defined}
+use Rattle.type_table.specs.TypeRelations.Methods.{declared_method}
 use Rattle.typed_names.specs.Meanings.{Names, world_at}
 use Rattle.declared_types.specs.Members.{SameMembers}
 use Rattle.func_headers.specs.NameRoles.{SameTypes}

@@ -2,10 +2,10 @@
 -- and scope).
 use Rattle.std.specs.Prelude.{◌≡◌, ℕ, List}
 use Rattle.go_tree.specs.declared.spans.Span.{Span}
-use Rattle.const_eval.specs.declared.consts.Const.{Const}
-use Rattle.go_types.specs.Programs.{Program, headed}
-use Rattle.go_types.specs.Collect.{refused_world, typed_world}
-use Rattle.type_relations.specs.Environment.{Environment, defined_types}
+use Rattle.go_tree.specs.declared.const_eval.consts.Const.{Const}
+use Rattle.go_tree.specs.GoTypes.Programs.{Program, headed}
+use Rattle.go_tree.specs.GoTypes.Collect.{refused_world, typed_world}
+use Rattle.type_table.specs.TypeRelations.Environment.{Environment, defined_types}
 use Rattle.typed_names.specs.Meanings.{Names, world_at}
 use Rattle.declared_types.specs.Members.{SameMembers}
 use Rattle.func_headers.specs.Functions.{TypesAreDeclared}

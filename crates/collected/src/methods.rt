@@ -1,10 +1,10 @@
 //! The methods that packages declare (Go specification, Method declarations; Method sets).
 
 ghost use Rattle.std.specs.Prelude.{◌≡◌, ◌<◌, [], ℕ, List, length, map, true, false, IfOk};
-ghost use Rattle.const_eval.specs.declared.consts.Const.{Const};
+ghost use Rattle.go_tree.specs.declared.const_eval.consts.Const.{Const};
 ghost use Rattle.go_tree.specs.declared.spans.Span.{Span};
-ghost use Rattle.go_types.specs.Programs.{Headed};
-ghost use Rattle.type_relations.specs.Environment.{IsEnvironment, has_methods};
+ghost use Rattle.go_tree.specs.GoTypes.Programs.{Headed};
+ghost use Rattle.type_table.specs.TypeRelations.Environment.{IsEnvironment, has_methods};
 ghost use Rattle.typed_names.specs.Meanings.{world_at};
 ghost use Rattle.declared_types.specs.Steps.{KnowsPlaces};
 ghost use Rattle.package_blocks.specs.Headers.{AreHeaders, listed_of};
@@ -18,8 +18,8 @@ use go_tree::NoMemory;
 use method_types::{MethodTypes, attached_types, declare_methods, method_types};
 use package_blocks::PackageHeader;
 use std::alloc::{AllocError, Global};
-use type_relations::Env;
 use type_table::TypeId;
+use type_table::type_relations::Env;
 use typed_names::{Blocks, Scope};
 
 /// Whether no type has methods.

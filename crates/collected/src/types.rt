@@ -1,16 +1,16 @@
 //! The types that packages declare (Go specification, Type declarations).
 
 ghost use Rattle.std.specs.Prelude.{◌≡◌, [], List, map, IfOk};
-ghost use Rattle.const_eval.specs.declared.consts.Const.{Const};
+ghost use Rattle.go_tree.specs.declared.const_eval.consts.Const.{Const};
 ghost use Rattle.go_tree.specs.declared.spans.Span.{Span};
-ghost use Rattle.go_types.specs.Programs.{Headed, Program, headed};
-ghost use Rattle.go_types.specs.Collect as go;
-ghost use Rattle.go_types.specs.Collect.{refused_world};
+ghost use Rattle.go_tree.specs.GoTypes.Programs.{Headed, Program, headed};
+ghost use Rattle.go_tree.specs.GoTypes.Collect as go;
+ghost use Rattle.go_tree.specs.GoTypes.Collect.{refused_world};
 ghost use Rattle.pkg_graph.specs.Package.{Package};
 ghost use Rattle.run_rules.specs.Programs.{linked};
-ghost use Rattle.type_relations.specs.Environment.{Environment};
+ghost use Rattle.type_table.specs.TypeRelations.Environment.{Environment};
 ghost use Rattle.operator_rules.specs.Kept.{TypesGrown};
-ghost use Rattle.value_types.specs.ValueTypes.{HasValueTypes};
+ghost use Rattle.type_table.specs.ValueTypes.ValueTypes.{HasValueTypes};
 ghost use Rattle.typed_names.specs.Meanings.{world_at};
 ghost use Rattle.declared_types.specs.Headers.{AreTypeHeaders};
 ghost use Rattle.declared_types.specs.Members.{SameMembers};
@@ -32,7 +32,7 @@ use operand_rules::ConstTable;
 use operator_rules::BasicTypes;
 use package_blocks::{PackageHeader, type_headers};
 use std::alloc::Global;
-use type_relations::Env;
+use type_table::type_relations::Env;
 use typed_names::{Blocks, Scope};
 
 /// Makes known what the names of types mean in the package blocks, and defines the defined types: the

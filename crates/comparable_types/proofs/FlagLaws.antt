@@ -5,18 +5,18 @@ use mathlib.Core.Path.{ap, ap₂, sym, subst, ◌∙◌}
 use borrow.Author.Tests.{eqb-true}
 use Rattle.std.proofs.Common.{inl, inr, take, arith}
 use Rattle.std.specs.Cmp.{both_ways}
-use Rattle.go_types.specs.Types.{GoType, named_type}
-use Rattle.go_types.specs.Defined.{under, comparable_by, comparable_fields, comparable_within}
-use Rattle.go_types.specs.Table.{NodeField, TypeNode as Row, basic_node, named_node, pointer_node, slice_node, map_node, struct_node, tuple_node, untyped_node, nil_node, node_parts, AllBelow, none_above, below_and}
-use Rattle.go_types.proofs.IdenticalLaws.{and_left, and_right}
+use Rattle.go_tree.specs.GoTypes.Types.{GoType, named_type}
+use Rattle.go_tree.specs.GoTypes.Defined.{under, comparable_by, comparable_fields, comparable_within}
+use Rattle.go_tree.specs.GoTypes.Table.{NodeField, TypeNode as Row, basic_node, named_node, pointer_node, slice_node, map_node, struct_node, tuple_node, untyped_node, nil_node, node_parts, AllBelow, none_above, below_and}
+use Rattle.go_tree.proofs.GoTypes.IdenticalLaws.{and_left, and_right}
 use Rattle.type_table.specs.declared.nodes.Field.{Field}
 use Rattle.type_table.specs.declared.nodes.TypeNode.{TypeNode}
 use Rattle.type_table.specs.declared.nodes.TypeNode.TheVariants.{Struct}
 use Rattle.type_table.specs.Rows.{FieldsBelow, field_of, row_of}
 use Rattle.type_table.specs.TypesAt.{fields_by, type_by, type_at}
 use Rattle.type_table.proofs.TypesAtLaws.{type_at_row, get_within, got_within}
-use Rattle.type_relations.specs.Environment.{Environment, IsEnvironment, under_by, defined_types, env_type}
-use Rattle.type_relations.proofs.UnderLaws.{is_named, named_option, undefined, under_at, under_within}
+use Rattle.type_table.specs.TypeRelations.Environment.{Environment, IsEnvironment, under_by, defined_types, env_type}
+use Rattle.type_table.proofs.TypeRelations.UnderLaws.{is_named, named_option, undefined, under_at, under_within}
 use Rattle.comparable_types.specs.Comparable.{is_comparable, AreComparable}
 use Rattle.comparable_types.specs.Flags.{flag_at, under_number, row_by, row_option, under_flag, row_flag, SoundFlags, ClosedFlags, missing, KeptFlags, PassedFlags}
 use Rattle.comparable_types.proofs.NamesEnd.{and_both, names_stay}

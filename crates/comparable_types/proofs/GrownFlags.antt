@@ -4,16 +4,16 @@ use Rattle.std.specs.List.{list_all}
 use mathlib.Core.Path.{ap, ap₂, sym, subst, ◌∙◌}
 use borrow.Author.Tests.{eqb-true}
 use Rattle.std.proofs.Common.{arith, length-append}
-use Rattle.go_types.specs.Types.{named_type}
-use Rattle.go_types.specs.Defined.{find_defined, under_of, comparable_within}
-use Rattle.go_types.specs.Table.{NodeField, TypeNode as Row, basic_node, named_node, pointer_node, slice_node, map_node, struct_node, tuple_node, untyped_node, nil_node, node_parts, AllBelow, none_above, below_and}
+use Rattle.go_tree.specs.GoTypes.Types.{named_type}
+use Rattle.go_tree.specs.GoTypes.Defined.{find_defined, under_of, comparable_within}
+use Rattle.go_tree.specs.GoTypes.Table.{NodeField, TypeNode as Row, basic_node, named_node, pointer_node, slice_node, map_node, struct_node, tuple_node, untyped_node, nil_node, node_parts, AllBelow, none_above, below_and}
 use Rattle.type_table.specs.declared.nodes.Field.{Field}
 use Rattle.type_table.specs.declared.nodes.TypeNode.{TypeNode}
 use Rattle.type_table.specs.declared.nodes.TypeNode.TheVariants.{Struct}
 use Rattle.type_table.specs.Rows.{row_of}
 use Rattle.type_table.proofs.TypesAtLaws.{type_at_row, get_within}
-use Rattle.type_relations.specs.Environment.{Environment, Definition, IsEnvironment, definition_in, defined_at, defined_types}
-use Rattle.type_relations.proofs.UnderLaws.{defined_option, found_by_number}
+use Rattle.type_table.specs.TypeRelations.Environment.{Environment, Definition, IsEnvironment, definition_in, defined_at, defined_types}
+use Rattle.type_table.proofs.TypeRelations.UnderLaws.{defined_option, found_by_number}
 use Rattle.comparable_types.specs.Comparable.{is_comparable}
 use Rattle.comparable_types.specs.Flags.{flag_at, under_number}
 use Rattle.comparable_types.specs.Grown.{DefinedBelow, later_by, later_option}

@@ -4,15 +4,15 @@ use Rattle.std.specs.List.{list_all}
 use mathlib.Core.Path.{ap, ap₂, sym, subst, ◌∙◌}
 use borrow.Author.Tests.{eqb-true}
 use Rattle.std.proofs.Common.{arith, length-append}
-use Rattle.go_types.specs.Defined.{has_keys, fields_have_keys}
-use Rattle.go_types.specs.Table.{NodeField, TypeNode as Row, basic_node, named_node, pointer_node, slice_node, map_node, struct_node, tuple_node, untyped_node, nil_node, node_parts, AllBelow, none_above, below_and}
+use Rattle.go_tree.specs.GoTypes.Defined.{has_keys, fields_have_keys}
+use Rattle.go_tree.specs.GoTypes.Table.{NodeField, TypeNode as Row, basic_node, named_node, pointer_node, slice_node, map_node, struct_node, tuple_node, untyped_node, nil_node, node_parts, AllBelow, none_above, below_and}
 use Rattle.type_table.specs.declared.nodes.Field.{Field}
 use Rattle.type_table.specs.declared.nodes.TypeNode.{TypeNode}
 use Rattle.type_table.specs.declared.nodes.TypeNode.TheVariants.{Struct}
 use Rattle.type_table.specs.Rows.{row_of}
 use Rattle.type_table.specs.TypesAt.{fields_by, type_by, type_at}
 use Rattle.type_table.proofs.TypesAtLaws.{type_at_row, get_within}
-use Rattle.type_relations.specs.Environment.{Environment, IsEnvironment, defined_types}
+use Rattle.type_table.specs.TypeRelations.Environment.{Environment, IsEnvironment, defined_types}
 use Rattle.comparable_types.specs.Comparable.{is_comparable, AreComparable}
 use Rattle.comparable_types.specs.Flags.{flag_at}
 use Rattle.comparable_types.specs.Keys.{is_keyed, AreKeyed, keys_by, keys_option}

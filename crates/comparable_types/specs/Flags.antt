@@ -1,9 +1,11 @@
 -- How the flags of types follow from those of the types that they hold by value: a struct holds its fields, a named
 -- type its underlying type (Go specification, Comparison operators; Underlying types).
-use Rattle.std.specs.Prelude.{◌≡◌, ℕ, suc, ◌<◌, Bool, true, false, List, [], ◌∷◌, length, Option, Some, None, slice_get, slice_index_or, if◌then◌else◌}
+use Rattle.std.specs.Prelude.{◌≡◌, ℕ, suc, ◌<◌, Bool, true, false, List, [], ◌∷◌, length, Option}
+use Rattle.std.specs.Prelude.{Some, None, slice_get, slice_index_or, if◌then◌else◌}
 use Rattle.std.specs.List.{list_all}
-use Rattle.go_types.specs.Table.{TypeNode, basic_node, named_node, pointer_node, slice_node, map_node, struct_node, tuple_node, untyped_node, nil_node}
-use Rattle.type_relations.specs.Environment.{Environment, definition_in, under_by}
+use Rattle.go_tree.specs.GoTypes.Table.{TypeNode, basic_node, named_node, pointer_node, slice_node, map_node}
+use Rattle.go_tree.specs.GoTypes.Table.{struct_node, tuple_node, untyped_node, nil_node}
+use Rattle.type_table.specs.TypeRelations.Environment.{Environment, definition_in, under_by}
 use Rattle.comparable_types.specs.Comparable.{is_comparable}
 
 -- the flag of a type

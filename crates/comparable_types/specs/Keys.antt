@@ -1,9 +1,11 @@
 -- In which types of an environment each map has a comparable key type, a flag for each (Go specification, Map types).
-use Rattle.std.specs.Prelude.{◌≡◌, ℕ, ◌<◌, Bool, true, false, ◌&&◌, List, length, Option, Some, None, slice_get}
+use Rattle.std.specs.Prelude.{◌≡◌, ℕ, ◌<◌, Bool, true, false, ◌&&◌, List, length, Option, Some, None}
+use Rattle.std.specs.Prelude.{slice_get}
 use Rattle.std.specs.List.{list_all}
-use Rattle.go_types.specs.Defined.{has_keys}
-use Rattle.go_types.specs.Table.{TypeNode, basic_node, named_node, pointer_node, slice_node, map_node, struct_node, tuple_node, untyped_node, nil_node}
-use Rattle.type_relations.specs.Environment.{Environment, defined_types, env_type}
+use Rattle.go_tree.specs.GoTypes.Defined.{has_keys}
+use Rattle.go_tree.specs.GoTypes.Table.{TypeNode, basic_node, named_node, pointer_node, slice_node, map_node}
+use Rattle.go_tree.specs.GoTypes.Table.{struct_node, tuple_node, untyped_node, nil_node}
+use Rattle.type_table.specs.TypeRelations.Environment.{Environment, defined_types, env_type}
 
 -- each map in the type of a number has a comparable key type
 abbrev pub is_keyed : Environment → ℕ → Bool

@@ -4,14 +4,14 @@
 ghost use Rattle.std.specs.Prelude.{◌≡◌, ◌<◌, true, false, length, IfOk};
 ghost use Rattle.std.specs.List.{list_all};
 ghost use Rattle.type_table.specs.Rows.{FieldsBelow, field_of};
-ghost use Rattle.type_relations.specs.Environment.{IsEnvironment};
+ghost use Rattle.type_table.specs.TypeRelations.Environment.{IsEnvironment};
 ghost use Rattle.comparable_types.specs.Comparable.{AreComparable};
 ghost use Rattle.comparable_types.specs.Flags.{ClosedFlags, SoundFlags, flag_at, missing, row_flag, under_flag};
 
 use crate::order::set_in_order;
 use go_tree::NoMemory;
 use std::alloc::Global;
-use type_relations::Env;
+use type_table::type_relations::Env;
 use type_table::{Field, TypeId, TypeNode};
 
 /// For each type of the table, by its number, whether it is comparable.

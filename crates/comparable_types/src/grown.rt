@@ -11,7 +11,7 @@ use crate::flags::{comparable_types, flag};
 use crate::keys::{all_keyed, keyed_types, row_keyed};
 use go_tree::NoMemory;
 use std::alloc::Global;
-use type_relations::Env;
+use type_table::type_relations::Env;
 use type_table::{TypeId, TypeNode};
 
 /// Which types are comparable, and in which each map has a comparable key type, by their numbers.

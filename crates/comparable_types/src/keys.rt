@@ -10,7 +10,7 @@ ghost use Rattle.comparable_types.specs.Keys.{AreKeyed, keys_option};
 use crate::flags::flag;
 use go_tree::NoMemory;
 use std::alloc::Global;
-use type_relations::Env;
+use type_table::type_relations::Env;
 use type_table::{Field, TypeId, TypeNode};
 
 /// For each type of the table, by its number, whether the key type of each map in it is comparable.

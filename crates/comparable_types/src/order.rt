@@ -2,13 +2,13 @@
 //! (Go specification, Struct types; Underlying types).
 
 ghost use Rattle.std.specs.Prelude.{◌≡◌, ◌<◌, length};
-ghost use Rattle.type_relations.specs.Environment.{IsEnvironment};
+ghost use Rattle.type_table.specs.TypeRelations.Environment.{IsEnvironment};
 ghost use Rattle.comparable_types.specs.Flags.{SoundFlags};
 
 use crate::flags::set_flag;
 use go_tree::NoMemory;
 use std::alloc::Global;
-use type_relations::Env;
+use type_table::type_relations::Env;
 use type_table::{TypeId, TypeNode};
 
 /// A step of the walk: into a type, or out of it after those that it holds.

@@ -1,14 +1,14 @@
 -- Composite literals see elements alike whose contents are the same.
 use Rattle.std.proofs.Common.{◌≡◌, ◌∙◌, ◌+◌, ◌&&◌, not, ℕ, Bool, List, [], ◌∷◌, Option, Some, None, refl, ap, ap₂, bytes_eq, nat_eq}
 use Rattle.std.specs.List.{list_all}
-use Rattle.const_eval.specs.declared.consts.Const.{Const}
-use Rattle.scope_names.specs.Means.{is_blank}
-use Rattle.go_types.specs.Answers.{distinct_by, given, meets, only_if}
-use Rattle.go_types.specs.Types.{GoType, GoFields, no_go_fields, go_field, element_of, fields_of, map_parts}
-use Rattle.go_types.specs.Defined.{Defined, under}
-use Rattle.go_types.specs.Operands.{Operand, value, several, a_type, a_function, a_builtin, recovered, fits, plain_value, takes}
-use Rattle.go_types.specs.Primary.{find_field, sees}
-use Rattle.go_types.specs.Literals.{Element, unkeyed, of_field, keyed, built, built_inside, constant_index, constant_keys, constant_then, distinct_consts, element_value, fields_set, fills, has_key, index_or, indices, literal_takes, literal_type, map_takes, sets_field, slice_takes, struct_takes}
+use Rattle.go_tree.specs.declared.const_eval.consts.Const.{Const}
+use Rattle.go_tree.specs.ScopeNames.Means.{is_blank}
+use Rattle.go_tree.specs.GoTypes.Answers.{distinct_by, given, meets, only_if}
+use Rattle.go_tree.specs.GoTypes.Types.{GoType, GoFields, no_go_fields, go_field, element_of, fields_of, map_parts}
+use Rattle.go_tree.specs.GoTypes.Defined.{Defined, under}
+use Rattle.go_tree.specs.GoTypes.Operands.{Operand, value, several, a_type, a_function, a_builtin, recovered, fits, plain_value, takes}
+use Rattle.go_tree.specs.GoTypes.Primary.{find_field, sees}
+use Rattle.go_tree.specs.GoTypes.Literals.{Element, unkeyed, of_field, keyed, built, built_inside, constant_index, constant_keys, constant_then, distinct_consts, element_value, fields_set, fills, has_key, index_or, indices, literal_takes, literal_type, map_takes, sets_field, slice_takes, struct_takes}
 use Rattle.operand_modes.specs.Operands.{SameOperand}
 use Rattle.operand_laws.proofs.ContentLemmas.{alike_by}
 use Rattle.operand_laws.proofs.ValueLemmas.{fitting_sees_alike}

@@ -1,21 +1,21 @@
 -- What is known of elements and of literals.
 use Rattle.std.proofs.Common.{◌≡◌, ◌∙◌, ℕ, Bool, true, false, List, [], ◌∷◌, Option, Some, None, Result, Ok, Err, refl, sym, ap, ap₂, subst}
-use Rattle.const_eval.specs.declared.consts.Const.{Const}
-use Rattle.go_types.specs.Answers.{given, only_if}
-use Rattle.go_types.specs.Types.{GoType, is_untyped}
-use Rattle.go_types.specs.Entities as go_entity
-use Rattle.go_types.specs.Operands as go_operand
-use Rattle.go_types.specs.Operands.{plain_value, value}
-use Rattle.go_types.specs.Literals as go
-use Rattle.go_types.specs.Literals.{unkeyed, of_field, keyed}
-use Rattle.type_relations.specs.Environment.{Environment}
-use Rattle.type_exprs.specs.Grown.{TypesGrown}
+use Rattle.go_tree.specs.declared.const_eval.consts.Const.{Const}
+use Rattle.go_tree.specs.GoTypes.Answers.{given, only_if}
+use Rattle.go_tree.specs.GoTypes.Types.{GoType, is_untyped}
+use Rattle.go_tree.specs.GoTypes.Entities as go_entity
+use Rattle.go_tree.specs.GoTypes.Operands as go_operand
+use Rattle.go_tree.specs.GoTypes.Operands.{plain_value, value}
+use Rattle.go_tree.specs.GoTypes.Literals as go
+use Rattle.go_tree.specs.GoTypes.Literals.{unkeyed, of_field, keyed}
+use Rattle.type_table.specs.TypeRelations.Environment.{Environment}
+use Rattle.typed_names.specs.TypeExprs.Grown.{TypesGrown}
 use Rattle.operand_rules.specs.Constants.{Grown}
 use Rattle.operand_rules.specs.declared.values.Value.{Value}
 use Rattle.operand_rules.specs.declared.values.Refusal.{Refusal}
 use Rattle.operand_rules.specs.declared.values.Refusal.TheVariants.{NotTyped, NoMemory}
 use Rattle.operand_rules.specs.Values.{Gives, IsGiven, type_of}
-use Rattle.access_rules.specs.declared.places.Place.TheVariants.{Literal}
+use Rattle.operator_rules.specs.declared.access_rules.places.Place.TheVariants.{Literal}
 use Rattle.operand_modes.specs.declared.modes.Operand.{Operand}
 use Rattle.operand_modes.specs.declared.modes.Operand.TheVariants.{Single}
 use Rattle.operand_modes.specs.Operands.{GivesOperand, SameOperand, operand_at}

@@ -1,9 +1,9 @@
 -- Elements of composite literals, as the answers for them tell (Go specification, Composite literals).
 use Rattle.std.specs.Prelude.{◌≡◌, List, [], ◌∷◌, Option, Some, None, Result, Ok, Err}
-use Rattle.const_eval.specs.declared.consts.Const.{Const}
-use Rattle.go_types.specs.Literals as go
-use Rattle.go_types.specs.Literals.{unkeyed, of_field, keyed}
-use Rattle.type_relations.specs.Environment.{Environment}
+use Rattle.go_tree.specs.declared.const_eval.consts.Const.{Const}
+use Rattle.go_tree.specs.GoTypes.Literals as go
+use Rattle.go_tree.specs.GoTypes.Literals.{unkeyed, of_field, keyed}
+use Rattle.type_table.specs.TypeRelations.Environment.{Environment}
 use Rattle.operand_rules.specs.declared.values.Refusal.{Refusal}
 use Rattle.operand_rules.specs.declared.values.Refusal.TheVariants.{NotTyped, NoMemory}
 use Rattle.operand_modes.specs.Operands.{SameOperand}

@@ -1,13 +1,13 @@
 //! Composite literals by the answers for their elements (Go specification, Composite literals).
 
 ghost use Rattle.std.specs.Prelude.{◌≡◌, Bool, false, List, Option};
-ghost use Rattle.const_eval.specs.declared.consts.Const.{Const};
-ghost use Rattle.go_types.specs.Answers.{given, only_if};
-ghost use Rattle.go_types.specs.Entities as go_entity;
-ghost use Rattle.go_types.specs.Literals as go;
-ghost use Rattle.go_types.specs.Operands.{plain_value};
-ghost use Rattle.go_types.specs.Types.{GoType, is_untyped};
-ghost use Rattle.type_relations.specs.Environment.{Environment, defined_types, env_type};
+ghost use Rattle.go_tree.specs.declared.const_eval.consts.Const.{Const};
+ghost use Rattle.go_tree.specs.GoTypes.Answers.{given, only_if};
+ghost use Rattle.go_tree.specs.GoTypes.Entities as go_entity;
+ghost use Rattle.go_tree.specs.GoTypes.Literals as go;
+ghost use Rattle.go_tree.specs.GoTypes.Operands.{plain_value};
+ghost use Rattle.go_tree.specs.GoTypes.Types.{GoType, is_untyped};
+ghost use Rattle.type_table.specs.TypeRelations.Environment.{Environment, defined_types, env_type};
 ghost use Rattle.operand_rules.specs.declared.values.ValueType.TheVariants.{Typed};
 ghost use Rattle.operand_rules.specs.Values.{Gives, IsType};
 ghost use Rattle.operand_modes.specs.Operands.{GivesOperand};
@@ -16,12 +16,12 @@ ghost use Rattle.operand_answers.specs.Located.{GivesAt};
 ghost use Rattle.composite_steps.specs.Elements.{AreElementsIfOk, GivesElements};
 
 use crate::elements::ElementList;
-use access_rules::Place;
 use checker_tables::Tables;
 use literal_rules::{built, built_inside};
 use operand_answers::Located;
 use operand_modes::{Operand, single};
 use operand_rules::{Refusal, Value};
+use operator_rules::access_rules::Place;
 use std::alloc::Global;
 use type_table::TypeId;
 

@@ -2,16 +2,16 @@
 //! literals).
 
 ghost use Rattle.std.specs.Prelude.{◌≡◌, IfSome};
-ghost use Rattle.go_types.specs.Defined.{under};
-ghost use Rattle.go_types.specs.Literals as go;
-ghost use Rattle.type_relations.specs.Environment.{defined_types, env_type};
+ghost use Rattle.go_tree.specs.GoTypes.Defined.{under};
+ghost use Rattle.go_tree.specs.GoTypes.Literals as go;
+ghost use Rattle.type_table.specs.TypeRelations.Environment.{defined_types, env_type};
 ghost use Rattle.operand_rules.specs.declared.values.ValueType.TheVariants.{Typed};
 ghost use Rattle.operand_rules.specs.Values.{IsType};
 ghost use Rattle.operator_rules.specs.Settling.{typed_option};
 ghost use Rattle.checker_tables.specs.Ready.{AreReady};
 
-use access_rules::form;
 use checker_tables::Tables;
+use operator_rules::access_rules::form;
 use type_table::{TypeId, TypeNode};
 
 /// Whether a literal of the type is one of a struct.

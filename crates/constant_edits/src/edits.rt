@@ -1,6 +1,7 @@
 //! The form in the place of the use, and the imports of its file settled.
 
-ghost use Rattle.std.specs.Prelude.{◌≡◌, ◌<◌, ◌≤◌, ◌++◌, ◌∷◌, [], IfOk, OnOk, length, List, ℕ, map};
+ghost use Rattle.std.specs.Prelude.{◌≡◌, ◌<◌, ◌≤◌, ◌++◌, ◌∷◌, [], IfOk, OnOk, length, List};
+ghost use Rattle.std.specs.Prelude.{ℕ, map};
 ghost use Rattle.std.specs.Option.{option_map, option_to_list};
 ghost use Rattle.go_tree.specs.FileView.{file_of};
 ghost use Rattle.import_rules.specs.Laid.{CommentsAscend, Laid};

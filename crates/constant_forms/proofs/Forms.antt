@@ -3,18 +3,18 @@ use Rattle.std.proofs.Common.{◌≡◌, ◌∙◌, refl, sym, ap, ℕ, Bool, tr
 use Rattle.std.specs.Option.{option_map, option_to_list}
 use denote.Ref.{Bor}
 use Rattle.go_tree.specs.Tree.{NameAt, Expr, ident, selector}
-use Rattle.scope_names.specs.declared.names.Entity.{Entity}
-use Rattle.scope_names.specs.declared.names.Entity.TheVariants as entity
+use Rattle.go_tree.specs.declared.scope_names.names.Entity.{Entity}
+use Rattle.go_tree.specs.declared.scope_names.names.Entity.TheVariants as entity
 use Rattle.pkg_graph.specs.Package.{Package}
 use Rattle.pkg_graph.specs.Members.{Target}
-use Rattle.go_types.specs.Answers.{given, otherwise}
+use Rattle.go_tree.specs.GoTypes.Answers.{given, otherwise}
 use Rattle.run_rules.specs.Surroundings.{Place, other, in_slot, inner_slot}
 use Rattle.run_rules.specs.Rewriting.{Changes, new_expr, new_name}
 use Rattle.run_rules.specs.Sites.{Where, mark_of}
 use Rattle.run_rules.specs.Naming.{Names, unnamed, unnamed_package, unnamed_in, new_first}
 use Rattle.run_rules.specs.FormTrees.{as_expr, a_name, form_identifiers, outside_changes}
 use Rattle.run_rules.specs.Steps.{At}
-use Rattle.place_meanings.specs.Agreement.{target_of}
+use Rattle.splice_laws.specs.PlaceMeanings.Agreement.{target_of}
 use Rattle.constant_forms.specs.declared.uses.ConstantValue.{ConstantValue}
 use Rattle.constant_forms.specs.declared.uses.ConstantValue.TheVariants.{Plain}
 use Rattle.constant_forms.specs.Views.{name_expr}

@@ -4,17 +4,17 @@ use Rattle.std.specs.List.{list_any}
 use Rattle.std.proofs.lemmas.Bool.{both_ways}
 use Rattle.go_tree.specs.declared.spans.Span.{Span}
 use Rattle.go_tree.specs.File.{ImportSpec, File}
-use Rattle.go_words.specs.Tokens.Pieces.{is_among, keyword_spellings}
-use Rattle.scope_names.specs.declared.names.Entity.{Entity}
-use Rattle.scope_names.specs.declared.names.Entity.TheVariants.{Local, Import, Package, Universe}
-use Rattle.scope_names.specs.declared.names.FileNames.{FileNames}
-use Rattle.scope_names.specs.declared.names.ImportName.{ImportName}
-use Rattle.scope_names.specs.FreeNames.{names_of}
-use Rattle.scope_names.specs.Identifiers.{identifiers}
-use Rattle.scope_names.specs.Means.{Environment, means, or_else, file_environment, outermost, predeclared}
-use Rattle.scope_names.specs.Occurrences.{means_import}
-use Rattle.scope_names.specs.Fresh.{candidate, is_new, IsFresh}
-use Rattle.scope_names.specs.Scopes.{Scope, holds_at, locals_at, decls_scopes, environment_at}
+use Rattle.go_tree.specs.GoWords.Tokens.Pieces.{is_among, keyword_spellings}
+use Rattle.go_tree.specs.declared.scope_names.names.Entity.{Entity}
+use Rattle.go_tree.specs.declared.scope_names.names.Entity.TheVariants.{Local, Import, Package, Universe}
+use Rattle.go_tree.specs.declared.scope_names.names.FileNames.{FileNames}
+use Rattle.go_tree.specs.declared.scope_names.names.ImportName.{ImportName}
+use Rattle.go_tree.specs.ScopeNames.FreeNames.{names_of}
+use Rattle.go_tree.specs.ScopeNames.Identifiers.{identifiers}
+use Rattle.go_tree.specs.ScopeNames.Means.{Environment, means, or_else, file_environment, outermost, predeclared}
+use Rattle.go_tree.specs.ScopeNames.Occurrences.{means_import}
+use Rattle.go_tree.specs.ScopeNames.Fresh.{candidate, is_new, IsFresh}
+use Rattle.go_tree.specs.ScopeNames.Scopes.{Scope, holds_at, locals_at, decls_scopes, environment_at}
 use Rattle.scope_tables.specs.Table.{Table, IsTableOf}
 use Rattle.import_rules.specs.declared.new_import.Needed.{Needed}
 use Rattle.import_rules.specs.Needs.{serving_from, serving, avoided, IsNeeded, IsNeededAt, there, new}
@@ -31,9 +31,9 @@ use Rattle.run_rules.specs.Laws.{needed_of}
 use Rattle.run_rules.specs.Steps.{At}
 use Rattle.run_rules.specs.Run.{here_of}
 use Rattle.run_rules.proofs.NamesFound.{named_is_needed}
-use Rattle.form_imports.specs.ImportLaws.Steps.{names_standing}
-use Rattle.form_imports.proofs.ImportLaws.GraphImports.{map_twice}
-use Rattle.place_meanings.specs.Agreement.{means_local, AgreesAt}
+use Rattle.splice_laws.specs.FormImports.ImportLaws.Steps.{names_standing}
+use Rattle.splice_laws.proofs.FormImports.ImportLaws.GraphImports.{map_twice}
+use Rattle.splice_laws.specs.PlaceMeanings.Agreement.{means_local, AgreesAt}
 use Rattle.constant_forms.specs.Told.{named_by}
 
 -- ---- new names

@@ -4,23 +4,23 @@ use Rattle.std.proofs.lemmas.Bool.{eqb-true}
 use Rattle.std.proofs.lemmas.Option.{same_Some}
 use denote.Ref.{Bor}
 use Rattle.go_tree.specs.Tree.{Expr, ident, selector}
-use Rattle.scope_names.specs.declared.names.Entity.{Entity}
-use Rattle.scope_names.specs.declared.names.Entity.TheVariants as entity
-use Rattle.scope_names.specs.Means.{Environment, means, or_else, is_blank, binding, numbered}
-use Rattle.scope_names.specs.Means as names
+use Rattle.go_tree.specs.declared.scope_names.names.Entity.{Entity}
+use Rattle.go_tree.specs.declared.scope_names.names.Entity.TheVariants as entity
+use Rattle.go_tree.specs.ScopeNames.Means.{Environment, means, or_else, is_blank, binding, numbered}
+use Rattle.go_tree.specs.ScopeNames.Means as names
 use Rattle.import_rules.proofs.MeaningLaws.{means_append}
 use Rattle.pkg_graph.specs.Package.{Package, import_specs}
 use Rattle.pkg_graph.specs.Members.{Target, local, imported, member, predeclared, import_name, package_block}
 use Rattle.module_files.specs.Internal.{may_import}
-use Rattle.go_types.specs.Answers.{given, one_of, is_empty}
-use Rattle.go_types.specs.Entities.{is_exported}
+use Rattle.go_tree.specs.GoTypes.Answers.{given, one_of, is_empty}
+use Rattle.go_tree.specs.GoTypes.Entities.{is_exported}
 use Rattle.run_rules.specs.Surroundings.{Place, other, is_local}
 use Rattle.run_rules.specs.Places.{expr_seen}
 use Rattle.run_rules.specs.Sites.{MarkRef, Where, same_target, mark_of, imported_by, import_number, outer, outer_meaning}
 use Rattle.run_rules.specs.Naming.{package_path}
 use Rattle.run_rules.specs.Obstacles.{is_qualified_there, Obstacle, NotAccessible, Internal, Shadowed, obstacle_if, unless_exported, is_elsewhere, hidden_member, not_accessible, internal_package, means_this, shadowed_meaning, shadowed, is_repeated}
 use Rattle.run_rules.specs.Steps.{At}
-use Rattle.place_meanings.specs.Agreement.{target_of}
+use Rattle.splice_laws.specs.PlaceMeanings.Agreement.{target_of}
 use Rattle.constant_forms.specs.declared.uses.ConstantValue.{ConstantValue}
 use Rattle.constant_forms.specs.declared.uses.ConstantValue.TheVariants.{Plain, Qualified}
 use Rattle.constant_forms.specs.Told.{value_name, is_hidden, means_universe, means_member, is_another}

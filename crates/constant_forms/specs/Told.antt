@@ -1,18 +1,19 @@
 -- What follows from what the code is told of a use of a marked constant (Go specification, Exported identifiers;
 -- Qualified identifiers; Declarations and scope; Import declarations).
-use Rattle.std.specs.Prelude.{◌≡◌, ℕ, ◌<◌, Bool, true, false, not, ◌&&◌, List, [], Option, Some, None, if◌then◌else◌}
+use Rattle.std.specs.Prelude.{◌≡◌, ℕ, ◌<◌, Bool, true, false, not, ◌&&◌, List, [], Option, Some, None}
+use Rattle.std.specs.Prelude.{if◌then◌else◌}
 use Rattle.std.specs.Prelude.{bytes_eq, nat_eq, length, slice_get}
 use Rattle.std.specs.List.{list_any}
 use Rattle.go_tree.specs.FileView.{file_of}
-use Rattle.scope_names.specs.declared.names.Entity.{Entity}
-use Rattle.scope_names.specs.declared.names.Entity.TheVariants.{Package, Universe}
+use Rattle.go_tree.specs.declared.scope_names.names.Entity.{Entity}
+use Rattle.go_tree.specs.declared.scope_names.names.Entity.TheVariants.{Package, Universe}
 use Rattle.scope_tables.specs.Table.{meaning_in, table_of}
 use Rattle.module_files.specs.Internal.{may_import}
 use Rattle.import_rules.specs.declared.new_import.Needed.{Needed}
 use Rattle.import_rules.specs.Needs.{IsNeededAt}
 use Rattle.pkg_graph.specs.declared.packages.Package as code
-use Rattle.go_types.specs.Answers.{given, one_of}
-use Rattle.go_types.specs.Entities.{is_exported}
+use Rattle.go_tree.specs.GoTypes.Answers.{given, one_of}
+use Rattle.go_tree.specs.GoTypes.Entities.{is_exported}
 use Rattle.run_rules.specs.Naming.{Named}
 use Rattle.run_rules.specs.Obstacles.{Obstacle, NotAccessible, Internal, Shadowed, CommentInside, Repeated, obstacle_if}
 use Rattle.run_rules.specs.Steps.{lies_in}

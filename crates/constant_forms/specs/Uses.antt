@@ -4,14 +4,14 @@ use Rattle.std.specs.Prelude.{◌≡◌, ℕ, ◌<◌, ◌^◌, Bool, not, List,
 use Rattle.std.specs.List.{list_any}
 use Rattle.go_tree.specs.Tree.{NameAt, Expr, ident, selector}
 use Rattle.go_tree.specs.FileView.{file_of}
-use Rattle.scope_names.specs.declared.names.Entity.{Entity}
-use Rattle.scope_names.specs.declared.names.Entity.TheVariants as entity
-use Rattle.scope_names.specs.Identifiers.{identifiers}
+use Rattle.go_tree.specs.declared.scope_names.names.Entity.{Entity}
+use Rattle.go_tree.specs.declared.scope_names.names.Entity.TheVariants as entity
+use Rattle.go_tree.specs.ScopeNames.Identifiers.{identifiers}
 use Rattle.scope_tables.specs.Table.{IsTableOf, table_of}
 use Rattle.import_rules.specs.Needs.{avoided}
 use Rattle.pkg_graph.specs.Package.{Package}
 use Rattle.pkg_graph.specs.Views.{package_view}
-use Rattle.go_types.specs.Answers.{given, is_empty}
+use Rattle.go_tree.specs.GoTypes.Answers.{given, is_empty}
 use Rattle.run_rules.specs.Surroundings.{Place}
 use Rattle.run_rules.specs.Programs.{top_place}
 use Rattle.run_rules.specs.Sites.{MarkRef, Where, Site, a_constant, part_span, where_is, inlinable, mark_of}
@@ -21,8 +21,8 @@ use Rattle.run_rules.specs.Reduced.{reduced}
 use Rattle.run_rules.specs.Respanned.{packages_with}
 use Rattle.run_rules.specs.Steps.{At, same_here, lies_in}
 use Rattle.run_rules.specs.Run.{here_of}
-use Rattle.form_imports.specs.ImportLaws.Steps.{names_standing}
-use Rattle.place_meanings.specs.Agreement.{target_of, AgreesAt}
+use Rattle.splice_laws.specs.FormImports.ImportLaws.Steps.{names_standing}
+use Rattle.splice_laws.specs.PlaceMeanings.Agreement.{target_of, AgreesAt}
 use Rattle.constant_forms.specs.declared.uses.ConstantValue.{ConstantValue}
 use Rattle.constant_forms.specs.declared.uses.ConstantValue.TheVariants.{Plain, Qualified}
 use Rattle.constant_forms.specs.declared.uses.ConstantUse.{ConstantUse}

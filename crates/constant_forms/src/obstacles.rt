@@ -11,9 +11,9 @@ ghost use Rattle.constant_forms.specs.Told.{refused, refused_path, shadowed_told
 use crate::uses::{ConstantUse, ConstantValue, value_name};
 use comments_within::comment_lies_in;
 use exported_names::is_exported;
+use go_tree::scope_names::Entity;
 use go_tree::{Name, NoMemory, Text};
 use module_files::may_import;
-use scope_names::Entity;
 use std::alloc::Global;
 
 /// Why a use stays, in the order in which the reasons are looked for.

@@ -7,11 +7,11 @@ ghost use Rattle.constant_forms.specs.Views.{named_of};
 ghost use Rattle.constant_forms.specs.Told.{IsNamed, named_by};
 
 use crate::uses::ConstantUse;
+use go_tree::scope_names::NameList;
 use go_tree::{Name, NoMemory, Text};
 use import_edit::need;
 use import_rules::{Needed, NewImport};
 use pkg_graph::Package;
-use scope_names::NameList;
 use std::alloc::Global;
 
 /// A package by its number, its name at a place, and the import that has to be added for it.

@@ -3,9 +3,9 @@
 ghost use Rattle.std.specs.Prelude.{◌≡◌, ◌<◌, ◌↔◌, IsTrue, length, slice_get, Some};
 ghost use Rattle.constant_forms.specs.Told.{AreInPackages, is_elsewhere, needed, needed_package, value_name};
 
+use go_tree::scope_names::{Entity, FileNames};
 use go_tree::{Comment, FileTree, Name, Span};
 use pkg_graph::Package;
-use scope_names::{Entity, FileNames};
 use scope_tables::Scopes;
 
 /// What a marked constant is declared as (Go specification, Constant declarations; Qualified identifiers).

@@ -4,16 +4,16 @@ use Rattle.std.specs.Prelude.{◌≡◌, refl, ℕ, Bool, true, false, List, [],
 use mathlib.Core.Path.{ap, sym, ◌∙◌, subst}
 use Rattle.go_tree.specs.Tree.{TypeExpr, Expr, no_exprs}
 use Rattle.go_tree.specs.File.{File}
-use Rattle.scope_names.specs.Means.{Environment}
+use Rattle.go_tree.specs.ScopeNames.Means.{Environment}
 use Rattle.pkg_graph.specs.Package.{Package}
-use Rattle.go_types.specs.Answers.{given, only_if}
-use Rattle.go_types.specs.Types.{GoType}
-use Rattle.go_types.specs.Defined.{under, has_keys}
-use Rattle.go_types.specs.Entities.{Entity, World, block_of}
-use Rattle.go_types.specs.TypeNames.{resolved, type_meant}
-use Rattle.go_types.specs.Programs.{Header, constants, variables, a_type_spec, a_func, Headed, Program, headed, file_env}
-use Rattle.go_types.specs.Collect.{declared_types, aliased_world, types_declared, typed_world, valued_world, collected, methods_from}
-use Rattle.go_types.proofs.Agreeing.{from_given}
+use Rattle.go_tree.specs.GoTypes.Answers.{given, only_if}
+use Rattle.go_tree.specs.GoTypes.Types.{GoType}
+use Rattle.go_tree.specs.GoTypes.Defined.{under, has_keys}
+use Rattle.go_tree.specs.GoTypes.Entities.{Entity, World, block_of}
+use Rattle.go_tree.specs.GoTypes.TypeNames.{resolved, type_meant}
+use Rattle.go_tree.specs.GoTypes.Programs.{Header, constants, variables, a_type_spec, a_func, Headed, Program, headed, file_env}
+use Rattle.go_tree.specs.GoTypes.Collect.{declared_types, aliased_world, types_declared, typed_world, valued_world, collected, methods_from}
+use Rattle.go_tree.proofs.GoTypes.Agreeing.{from_given}
 use Rattle.typed_in_place.specs.ProgramReplaced.{ValuesEnd, after_values, at_last}
 use Rattle.typed_in_place.specs.ProgramsAlike.{OneByOne, no_more, and_more, SameHeaders, SameNumbers, AliasesStand, TypesStand}
 use Rattle.typed_in_place.specs.HeaderReplaced.{SpecsIn, types_of_constants, types_of_variables, types_of_spec, types_of_func}
@@ -21,11 +21,11 @@ use Rattle.typed_in_place.proofs.Collected.{aliases_same, types_same, declared_t
 use Rattle.typed_in_place.proofs.MethodsAside.{under_methods, keys_methods}
 use Rattle.typed_in_place.proofs.ProgramsReplaced.{one_by_one, each_one, append_one, replaced_aliases_stand, replaced_types_stand, aliases_stand_itself, types_stand_itself}
 use Rattle.typed_in_place.proofs.Rising.{keeps_some}
-use Rattle.constant_steps.specs.StepLaws.DeclStands.{HeadedBy, ResolvedAlike, TypesAlike}
-use Rattle.constant_steps.specs.StepLaws.ConstantSteps.{constant_put}
-use Rattle.constant_steps.proofs.StepLaws.ConstantStepLaw.{resolved-stays, types-stay-put}
-use Rattle.constant_steps.proofs.StepLaws.DeclChanged.{receiver_itself}
-use Rattle.constant_steps.proofs.StepLaws.StepInPlace.{names-declared, program-by, same-packages}
+use Rattle.splice_laws.specs.ConstantSteps.StepLaws.DeclStands.{HeadedBy, ResolvedAlike, TypesAlike}
+use Rattle.splice_laws.specs.ConstantSteps.StepLaws.ConstantSteps.{constant_put}
+use Rattle.splice_laws.proofs.ConstantSteps.StepLaws.ConstantStepLaw.{resolved-stays, types-stay-put}
+use Rattle.splice_laws.proofs.ConstantSteps.StepLaws.DeclChanged.{receiver_itself}
+use Rattle.splice_laws.proofs.ConstantSteps.StepLaws.StepInPlace.{names-declared, program-by, same-packages}
 use Rattle.imported_typing.proofs.ProgramsAlike.{headed_both}
 use Rattle.imported_typing.proofs.TypesKept.{TypesKept, text_kept}
 use Rattle.constants_anywhere.proofs.TypeRounds.{kept_itself, HeaderFollows, KnowsTypes, values_follow}

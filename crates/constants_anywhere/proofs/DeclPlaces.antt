@@ -4,20 +4,20 @@ use Rattle.std.specs.Prelude.{◌≡◌, refl, ℕ, suc, ◌||◌, List, [], ◌
 use mathlib.Core.Path.{ap, sym, subst}
 use Rattle.go_tree.specs.Tree.{NameAt, Sig, const_decl, var_decl, Stmt, ValueSpecs, no_specs, spec}
 use Rattle.go_tree.specs.File.{TypeSpec, Receiver, Func, Decl, values, types, func, File}
-use Rattle.scope_names.specs.Scopes.{sig_declares}
-use Rattle.scope_names.specs.FreeNames.{sig_names}
+use Rattle.go_tree.specs.ScopeNames.Scopes.{sig_declares}
+use Rattle.go_tree.specs.ScopeNames.FreeNames.{sig_names}
 use Rattle.pkg_graph.specs.Package.{Package}
-use Rattle.go_types.specs.Types.{FuncType}
-use Rattle.go_types.specs.Entities.{Env}
-use Rattle.go_types.specs.TypeNames.{func_type}
-use Rattle.go_types.specs.Bodies.{body_ctx, literal_env}
-use Rattle.go_types.specs.WellTyped.{receiver_names}
+use Rattle.go_tree.specs.GoTypes.Types.{FuncType}
+use Rattle.go_tree.specs.GoTypes.Entities.{Env}
+use Rattle.go_tree.specs.GoTypes.TypeNames.{func_type}
+use Rattle.go_tree.specs.GoTypes.Bodies.{body_ctx, literal_env}
+use Rattle.go_tree.specs.GoTypes.WellTyped.{receiver_names}
 use Rattle.run_rules.specs.Surroundings.{Place, Seen, in_constant, in_literal, value_use, alike}
 use Rattle.run_rules.specs.Programs.{world, top_env, top_place, body_place, headed_func, imports_mean, constants_at_top, variables_at_top, types_at_top, receiver_seen, decl_seen}
-use Rattle.constant_steps.specs.StepLaws.Answered.{HoldsWithin}
-use Rattle.constant_steps.specs.StepLaws.NamesOutside.{NamesOutside}
-use Rattle.constant_steps.proofs.StepLaws.OutsideHolds.{outside_holds}
-use Rattle.constant_steps.proofs.StepLaws.DeclUses.{at-top, body-begins}
+use Rattle.splice_laws.specs.ConstantSteps.StepLaws.Answered.{HoldsWithin}
+use Rattle.splice_laws.specs.ConstantSteps.StepLaws.NamesOutside.{NamesOutside}
+use Rattle.splice_laws.proofs.ConstantSteps.StepLaws.OutsideHolds.{outside_holds}
+use Rattle.splice_laws.proofs.ConstantSteps.StepLaws.DeclUses.{at-top, body-begins}
 use Rattle.go_tree.specs.Tree.{ident}
 use Rattle.literal_steps.specs.TypedParts.{LocalValues}
 use Rattle.constants_anywhere.proofs.LocalHolds.{Valued, valued_holds, top_valued, StartTyped, start_valued}

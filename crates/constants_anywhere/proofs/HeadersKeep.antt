@@ -5,16 +5,16 @@ use mathlib.Core.Path.{ap, sym, ◌∙◌, subst}
 use Rattle.std.proofs.lemmas.Slice.Eq.{bytes_eq-Decides}
 use Rattle.go_tree.specs.Tree.{TypeExpr, Expr, Exprs, no_exprs, expr_and, ident, Stmts, ValueSpecs}
 use Rattle.go_tree.specs.File.{TypeSpec, Receiver, Func, Decl, func, File}
-use Rattle.scope_names.specs.Means.{Environment}
-use Rattle.scope_names.specs.FreeNames.{sig_names}
+use Rattle.go_tree.specs.ScopeNames.Means.{Environment}
+use Rattle.go_tree.specs.ScopeNames.FreeNames.{sig_names}
 use Rattle.pkg_graph.specs.Package.{Package}
-use Rattle.go_types.specs.Answers.{is_among, without}
-use Rattle.go_types.specs.Entities.{Entity, World, Env}
-use Rattle.go_types.specs.Typing.{used_all, used_stmts}
-use Rattle.go_types.specs.Programs.{Header, a_type_spec, a_func, headers, constant_headers, variable_headers, at_member}
-use Rattle.scope_names.specs.FreeNames.{free_params, free_type_option}
-use Rattle.go_types.specs.Collect.{file_env}
-use Rattle.go_types.specs.WellTyped.{receiver_names, body_env}
+use Rattle.go_tree.specs.GoTypes.Answers.{is_among, without}
+use Rattle.go_tree.specs.GoTypes.Entities.{Entity, World, Env}
+use Rattle.go_tree.specs.GoTypes.Typing.{used_all, used_stmts}
+use Rattle.go_tree.specs.GoTypes.Programs.{Header, a_type_spec, a_func, headers, constant_headers, variable_headers, at_member}
+use Rattle.go_tree.specs.ScopeNames.FreeNames.{free_params, free_type_option}
+use Rattle.go_tree.specs.GoTypes.Collect.{file_env}
+use Rattle.go_tree.specs.GoTypes.WellTyped.{receiver_names, body_env}
 use Rattle.typed_in_place.specs.SameFacts.{UsedAlike}
 use Rattle.typed_in_place.specs.Leaves.{Names, plain_name}
 use Rattle.typed_in_place.specs.ProgramsAlike.{OneByOne, no_more, and_more}
@@ -28,18 +28,18 @@ use Rattle.run_rules.specs.Programs.{top_place, body_place, constants_at_top, va
 use Rattle.run_rules.specs.Sites.{Site, part_span}
 use Rattle.run_rules.specs.FormTrees.{as_expr}
 use Rattle.run_rules.specs.Steps.{changes_for, new_constants, new_variables, new_type_spec, new_receiver_option, new_decl}
-use Rattle.constant_steps.specs.StepLaws.NamesOutside.{UseThere}
-use Rattle.constant_steps.specs.StepLaws.SwapPrograms.{headed_there}
-use Rattle.constant_steps.proofs.StepLaws.DeclUses.{at-top, body-begins}
-use Rattle.constant_steps.proofs.StepLaws.Standing.{all-stands, stmts-stands}
-use Rattle.constant_steps.proofs.StepLaws.Swapping.{written-same, sig-same}
-use Rattle.constant_steps.proofs.StepLaws.Walking.{all-walk, stmts-walk}
-use Rattle.constant_steps.specs.Alone.{SingleSpecs, no_constants, and_constant, and_typed, and_repeated, SingleVariables, no_variables, and_variable, PlainDecl, constants_alone, variables_alone, some_types}
-use Rattle.constant_steps.specs.Alone as alone
-use Rattle.constant_steps.specs.HeaderUses.{Differs, UseAlike}
-use Rattle.constant_steps.specs.PlainUse.{AllTheUse}
-use Rattle.constant_steps.proofs.OneMore.{WithOne, one_holds}
-use Rattle.constant_steps.proofs.HeadersUse.{uses_itself}
+use Rattle.splice_laws.specs.ConstantSteps.StepLaws.NamesOutside.{UseThere}
+use Rattle.splice_laws.specs.ConstantSteps.StepLaws.SwapPrograms.{headed_there}
+use Rattle.splice_laws.proofs.ConstantSteps.StepLaws.DeclUses.{at-top, body-begins}
+use Rattle.splice_laws.proofs.ConstantSteps.StepLaws.Standing.{all-stands, stmts-stands}
+use Rattle.splice_laws.proofs.ConstantSteps.StepLaws.Swapping.{written-same, sig-same}
+use Rattle.splice_laws.proofs.ConstantSteps.StepLaws.Walking.{all-walk, stmts-walk}
+use Rattle.splice_laws.specs.ConstantSteps.Alone.{SingleSpecs, no_constants, and_constant, and_typed, and_repeated, SingleVariables, no_variables, and_variable, PlainDecl, constants_alone, variables_alone, some_types}
+use Rattle.splice_laws.specs.ConstantSteps.Alone as alone
+use Rattle.splice_laws.specs.ConstantSteps.HeaderUses.{Differs, UseAlike}
+use Rattle.splice_laws.specs.ConstantSteps.PlainUse.{AllTheUse}
+use Rattle.splice_laws.proofs.ConstantSteps.OneMore.{WithOne, one_holds}
+use Rattle.splice_laws.proofs.ConstantSteps.HeadersUse.{uses_itself}
 use Rattle.constants_anywhere.specs.Known.{AllKnown}
 use Rattle.constants_anywhere.proofs.PartsMeant.{known_answered}
 

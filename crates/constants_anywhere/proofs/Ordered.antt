@@ -4,13 +4,13 @@ use Rattle.std.specs.Prelude.{◌≡◌, refl, ℕ, zero, suc, Bool, true, false
 use Rattle.std.specs.List.{list_any, list_all}
 use mathlib.Core.Path.{ap, sym, ◌∙◌}
 use Rattle.std.proofs.Common.{arith}
-use Rattle.go_types.specs.Programs.{Import, SourceFile, SourcePackage, Program}
-use Rattle.go_types.proofs.Agreeing.{some_same}
+use Rattle.go_tree.specs.GoTypes.Programs.{Import, SourceFile, SourcePackage, Program}
+use Rattle.go_tree.proofs.GoTypes.Agreeing.{some_same}
 use Rattle.typed_in_place.proofs.Rising.{and_first, and_second, both_true}
 use Rattle.go_translation.specs.Packages.{Package, sources, has_path, has_number, are_distinct, imports_known, are_linked}
 use Rattle.imported_typing.specs.Further.{has_package, imports_itself, in_order_behind, in_order}
-use Rattle.constant_steps.specs.Alone.{PackageAt, this_package, a_later_package}
-use Rattle.constant_steps.proofs.AfterStep.{same_number}
+use Rattle.splice_laws.specs.ConstantSteps.Alone.{PackageAt, this_package, a_later_package}
+use Rattle.splice_laws.proofs.ConstantSteps.AfterStep.{same_number}
 
 no : {A : Type 0} → false ≡ true → A
 no e = absurd (grind (arith, e))

@@ -4,38 +4,38 @@ use mathlib.Core.Path.{ap, sym, ◌∙◌, subst}
 use Rattle.std.proofs.Common.{arith}
 use Rattle.go_tree.specs.Tree.{NameAt, TypeExpr, Exprs, no_exprs, expr_and, const_decl, var_decl, ValueSpecs, no_specs, spec}
 use Rattle.go_tree.specs.File.{TypeSpec, Receiver, Func, Decl, values, types, func, File}
-use Rattle.scope_names.specs.Means.{Environment}
-use Rattle.scope_names.specs.FreeNames.{names_of}
+use Rattle.go_tree.specs.ScopeNames.Means.{Environment}
+use Rattle.go_tree.specs.ScopeNames.FreeNames.{names_of}
 use Rattle.pkg_graph.specs.Package.{Package}
-use Rattle.go_types.specs.Answers.{given, both, meets, only_if, distinct_by, is_empty}
-use Rattle.go_types.specs.Types.{GoType, FuncType, named_type}
-use Rattle.go_types.specs.Defined.{Method}
-use Rattle.go_types.specs.Entities.{Entity, variable, function, World, Env, Binds}
-use Rattle.go_types.specs.TypeNames.{written_type, func_type}
-use Rattle.go_types.specs.Operands.{Operand, all_typed}
-use Rattle.go_types.specs.Declarations.{bind_all, bind_each, constant_entity, variable_entity}
-use Rattle.go_types.specs.Bodies.{no_values, body_ctx, body_binds, is_body}
-use Rattle.go_types.specs.MethodDeclarations.{is_new_method, receiver_type, receiver_binds, method_declared}
-use Rattle.go_types.specs.Jumps.{labels_in}
-use Rattle.go_types.specs.Bodiless.{all_bodiless}
-use Rattle.go_types.specs.Initial.{all_initial}
-use Rattle.go_types.specs.Typing.{all_parts, stmts}
-use Rattle.go_types.specs.Programs.{Header, constants, variables, a_func, Headed, SourceFile, SourcePackage, Program, constant_headers, variable_headers, at_member, headed, headed_package, block_names, file_block, file_env, is_main}
-use Rattle.go_types.specs.Collect.{DeclaredTypes, may_be_main, function_declared, package_constants, package_variables, types_declared}
-use Rattle.go_types.specs.WellTyped.{receiver_of, well_typed}
-use Rattle.go_types.proofs.Agreeing.{from_given, from_both, from_only, some_same}
+use Rattle.go_tree.specs.GoTypes.Answers.{given, both, meets, only_if, distinct_by, is_empty}
+use Rattle.go_tree.specs.GoTypes.Types.{GoType, FuncType, named_type}
+use Rattle.go_tree.specs.GoTypes.Defined.{Method}
+use Rattle.go_tree.specs.GoTypes.Entities.{Entity, variable, function, World, Env, Binds}
+use Rattle.go_tree.specs.GoTypes.TypeNames.{written_type, func_type}
+use Rattle.go_tree.specs.GoTypes.Operands.{Operand, all_typed}
+use Rattle.go_tree.specs.GoTypes.Declarations.{bind_all, bind_each, constant_entity, variable_entity}
+use Rattle.go_tree.specs.GoTypes.Bodies.{no_values, body_ctx, body_binds, is_body}
+use Rattle.go_tree.specs.GoTypes.MethodDeclarations.{is_new_method, receiver_type, receiver_binds, method_declared}
+use Rattle.go_tree.specs.GoTypes.Jumps.{labels_in}
+use Rattle.go_tree.specs.GoTypes.Bodiless.{all_bodiless}
+use Rattle.go_tree.specs.GoTypes.Initial.{all_initial}
+use Rattle.go_tree.specs.GoTypes.Typing.{all_parts, stmts}
+use Rattle.go_tree.specs.GoTypes.Programs.{Header, constants, variables, a_func, Headed, SourceFile, SourcePackage, Program, constant_headers, variable_headers, at_member, headed, headed_package, block_names, file_block, file_env, is_main}
+use Rattle.go_tree.specs.GoTypes.Collect.{DeclaredTypes, may_be_main, function_declared, package_constants, package_variables, types_declared}
+use Rattle.go_tree.specs.GoTypes.WellTyped.{receiver_of, well_typed}
+use Rattle.go_tree.proofs.GoTypes.Agreeing.{from_given, from_both, from_only, some_same}
 use Rattle.typed_in_place.specs.ProgramReplaced.{All, all_and}
 use Rattle.run_rules.specs.Surroundings.{Place, Seen, alike, value_use, in_constant}
 use Rattle.run_rules.specs.Places.{written_seen, all_seen, sig_seen, stmts_seen}
 use Rattle.run_rules.specs.Programs.{linked_file, linked, world, imports_mean, top_place, body_place, headed_func, constants_at_top, variables_at_top, types_at_top, receiver_seen, func_seen, decl_seen}
 use Rattle.run_rules.specs.Sites.{Where}
-use Rattle.constant_steps.specs.StepLaws.DeclStands.{AtNth}
-use Rattle.constant_steps.specs.StepLaws.PartsTyped.{HeaderTyped}
-use Rattle.constant_steps.specs.StepLaws.SwapPrograms.{headed_there}
-use Rattle.constant_steps.proofs.StepLaws.PartsTyped.{headers-typed, all-behind, TypedThere, DeclIsTyped, FilesTyped, PackageIsTyped, of-packages}
-use Rattle.constant_steps.specs.Alone.{PackageAt, this_package, a_later_package}
-use Rattle.constant_steps.specs.PlainUse.{linked_at}
-use Rattle.constant_steps.proofs.MarksFound.{nth_mapped}
+use Rattle.splice_laws.specs.ConstantSteps.StepLaws.DeclStands.{AtNth}
+use Rattle.splice_laws.specs.ConstantSteps.StepLaws.PartsTyped.{HeaderTyped}
+use Rattle.splice_laws.specs.ConstantSteps.StepLaws.SwapPrograms.{headed_there}
+use Rattle.splice_laws.proofs.ConstantSteps.StepLaws.PartsTyped.{headers-typed, all-behind, TypedThere, DeclIsTyped, FilesTyped, PackageIsTyped, of-packages}
+use Rattle.splice_laws.specs.ConstantSteps.Alone.{PackageAt, this_package, a_later_package}
+use Rattle.splice_laws.specs.ConstantSteps.PlainUse.{linked_at}
+use Rattle.splice_laws.proofs.ConstantSteps.MarksFound.{nth_mapped}
 use Rattle.constants_anywhere.specs.TypedParts.{AllTyped}
 use Rattle.constants_anywhere.proofs.LocalHolds.{StartTyped}
 use Rattle.constants_anywhere.proofs.TypedWalk.{join, written_stands, sig_stands, all_stand, stmts_stand, met, there_is}
@@ -126,7 +126,7 @@ module _ {S : Type 0} (ps : List (Package S)) where
             let hd : Headed S = headed_there k in_main n (imports_mean ps p file) f.span h.0 (a_func f) in
             let env : Env = file_env (world ps) k (imports_mean ps p file) None in
             let y = there_is (only_if h.0 (function_declared (world ps) hd f)) e in
-            let last : (FuncType → Binds → Option Binds) = (λ g bs. only_if (may_be_main hd f g) (Some (Rattle.scope_names.specs.Means.binding f.name.name (function g)))) in
+            let last : (FuncType → Binds → Option Binds) = (λ g bs. only_if (may_be_main hd f g) (Some (Rattle.go_tree.specs.ScopeNames.Means.binding f.name.name (function g)))) in
             let r = from_given (func_type env f.sig) (λ g. given (body_binds [] f.sig g) (last g)) y.0 (from_only h.0 (function_declared (world ps) hd f) y.0 y.1) in
             let b = from_given (body_binds [] f.sig r.0) (last r.0) y.0 r.2 in
             record {

@@ -5,13 +5,13 @@ use mathlib.Core.Path.{ap, ap₂, sym, ◌∙◌}
 use Rattle.std.proofs.Common.{arith}
 use Rattle.go_tree.specs.Tree.{NameAt, Expr, ident}
 use Rattle.go_tree.specs.File.{Decl}
-use Rattle.scope_names.specs.Means.{means, is_blank}
+use Rattle.go_tree.specs.ScopeNames.Means.{means, is_blank}
 use Rattle.pkg_graph.specs.Package.{SourceTree, Package}
 use Rattle.pkg_graph.specs.Members.{Target, member}
-use Rattle.go_types.specs.Entities.{World}
-use Rattle.go_types.specs.Programs.{SourceFile, SourcePackage, Program, headed, file_block, block_names, is_init}
-use Rattle.go_types.specs.Collect.{file_env}
-use Rattle.go_types.proofs.Agreeing.{some_same}
+use Rattle.go_tree.specs.GoTypes.Entities.{World}
+use Rattle.go_tree.specs.GoTypes.Programs.{SourceFile, SourcePackage, Program, headed, file_block, block_names, is_init}
+use Rattle.go_tree.specs.GoTypes.Collect.{file_env}
+use Rattle.go_tree.proofs.GoTypes.Agreeing.{some_same}
 use Rattle.typed_in_place.specs.ProgramReplaced.{ValuesEnd}
 use Rattle.run_rules.specs.Surroundings.{Place, is_local}
 use Rattle.run_rules.specs.Programs.{linked_file, linked_imports}
@@ -20,19 +20,19 @@ use Rattle.run_rules.specs.Sites.{MarkRef, Site, a_constant, part_span, not_func
 use Rattle.run_rules.specs.FormTrees.{as_expr}
 use Rattle.run_rules.specs.Reduced.{home_place}
 use Rattle.run_rules.specs.Steps.{change_nth, changes_for, new_decl}
-use Rattle.constant_steps.specs.StepLaws.DeclStands.{decl_changed, file_changed}
-use Rattle.constant_steps.specs.StepLaws.ConstantUses.{UseOfConstant}
-use Rattle.constant_steps.specs.Alone.{block_from, PackageAt, FirstIs, type_in, AsConstant}
-use Rattle.go_types.specs.Answers.{given}
-use Rattle.constant_steps.specs.PlainUse.{linked_at, type_marked, PlainUse}
+use Rattle.splice_laws.specs.ConstantSteps.StepLaws.DeclStands.{decl_changed, file_changed}
+use Rattle.splice_laws.specs.ConstantSteps.StepLaws.ConstantUses.{UseOfConstant}
+use Rattle.splice_laws.specs.ConstantSteps.Alone.{block_from, PackageAt, FirstIs, type_in, AsConstant}
+use Rattle.go_tree.specs.GoTypes.Answers.{given}
+use Rattle.splice_laws.specs.ConstantSteps.PlainUse.{linked_at, type_marked, PlainUse}
 use Rattle.constants_anywhere.specs.UseAnywhere.{UseAnywhere}
-use Rattle.constant_steps.proofs.FirstDeclared.{first_declared, spelled_where_declared, package_where_declared}
-use Rattle.constant_steps.proofs.NamesOutside.{equal_numbers, MemberThere, member_there, unshadowed, not_local}
-use Rattle.constant_steps.proofs.PlainForms.{not_shadowed}
-use Rattle.constant_steps.proofs.PlainUses.{MarkedIn}
-use Rattle.constant_steps.proofs.UsesMeant.{use_meant}
-use Rattle.constant_steps.proofs.AfterStep.{same_number, SomeConstant, constant_after, files_after, files_named, nth_changed, nth_stays, plain_file, plain_decl}
-use Rattle.constant_steps.proofs.MarksFound.{member_of_mark, named_member, marked_so, StandsThere, stands_there, DeclaredThere, declared_there, nth_mapped}
+use Rattle.splice_laws.proofs.ConstantSteps.FirstDeclared.{first_declared, spelled_where_declared, package_where_declared}
+use Rattle.splice_laws.proofs.ConstantSteps.NamesOutside.{equal_numbers, MemberThere, member_there, unshadowed, not_local}
+use Rattle.splice_laws.proofs.ConstantSteps.PlainForms.{not_shadowed}
+use Rattle.splice_laws.proofs.ConstantSteps.PlainUses.{MarkedIn}
+use Rattle.splice_laws.proofs.ConstantSteps.UsesMeant.{use_meant}
+use Rattle.splice_laws.proofs.ConstantSteps.AfterStep.{same_number, SomeConstant, constant_after, files_after, files_named, nth_changed, nth_stays, plain_file, plain_decl}
+use Rattle.splice_laws.proofs.ConstantSteps.MarksFound.{member_of_mark, named_member, marked_so, StandsThere, stands_there, DeclaredThere, declared_there, nth_mapped}
 
 module _ {S : Type 0} (same : S → S → Bool) (commented : ℕ → ℕ → S → Bool) (rs : List (Package S)) (marks : List MarkRef) (x : Site S) (u : PlainUse same commented rs marks x) (v : UseAnywhere same commented rs marks x u) where
   abbrev K : ℕ

@@ -6,33 +6,33 @@ use Rattle.std.proofs.Common.{arith}
 use Rattle.go_tree.specs.Tree.{Expr, ident, no_exprs, expr_and}
 use Rattle.go_tree.specs.File.{Decl, File}
 use Rattle.pkg_graph.specs.Package.{Package}
-use Rattle.go_types.specs.Answers.{only_if}
-use Rattle.go_types.specs.Entities.{World}
-use Rattle.go_types.specs.Programs.{constants, SourceFile, SourcePackage, Program, headed, file_block, block_names, is_init}
-use Rattle.go_types.specs.Collect.{file_env, declared_by, types_declared, collected}
-use Rattle.go_types.specs.WellTyped.{well_typed}
-use Rattle.go_types.proofs.Agreeing.{some_same}
+use Rattle.go_tree.specs.GoTypes.Answers.{only_if}
+use Rattle.go_tree.specs.GoTypes.Entities.{World}
+use Rattle.go_tree.specs.GoTypes.Programs.{constants, SourceFile, SourcePackage, Program, headed, file_block, block_names, is_init}
+use Rattle.go_tree.specs.GoTypes.Collect.{file_env, declared_by, types_declared, collected}
+use Rattle.go_tree.specs.GoTypes.WellTyped.{well_typed}
+use Rattle.go_tree.proofs.GoTypes.Agreeing.{some_same}
 use Rattle.typed_in_place.specs.ProgramReplaced.{at_last}
 use Rattle.run_rules.specs.Programs.{linked_file, linked_imports, decl_seen}
 use Rattle.run_rules.specs.Sites.{MarkRef, Site, part_span}
 use Rattle.run_rules.specs.FormTrees.{as_expr}
 use Rattle.run_rules.specs.Steps.{changes_for}
-use Rattle.constant_steps.specs.StepLaws.PartsTyped.{HeaderTyped}
-use Rattle.constant_steps.specs.StepLaws.NamesOutside.{AllUsesThere}
-use Rattle.constant_steps.specs.StepLaws.SwapUses.{AllSwapsThere}
-use Rattle.constant_steps.specs.StepLaws.ConstantSteps.{constant_put}
-use Rattle.constant_steps.specs.StepLaws.ConstantUses.{FilesUse, PackageUses}
-use Rattle.constant_steps.specs.StepLaws.ConstantSwaps.{FilesSwapThere, PackageSwapsThere, ConstantSwaps}
-use Rattle.constant_steps.proofs.StepLaws.PartsTyped.{headers-typed}
-use Rattle.constant_steps.proofs.StepLaws.KnownConstants.{of-first, declares-it, known-use}
-use Rattle.constant_steps.proofs.StepLaws.StepUses.{use-of-constant}
-use Rattle.constant_steps.specs.Alone.{PackageAt, ConstantHeader}
-use Rattle.constant_steps.specs.PlainUse.{linked_at, PlainUse}
-use Rattle.constant_steps.proofs.PlainSteps.{not_so}
+use Rattle.splice_laws.specs.ConstantSteps.StepLaws.PartsTyped.{HeaderTyped}
+use Rattle.splice_laws.specs.ConstantSteps.StepLaws.NamesOutside.{AllUsesThere}
+use Rattle.splice_laws.specs.ConstantSteps.StepLaws.SwapUses.{AllSwapsThere}
+use Rattle.splice_laws.specs.ConstantSteps.StepLaws.ConstantSteps.{constant_put}
+use Rattle.splice_laws.specs.ConstantSteps.StepLaws.ConstantUses.{FilesUse, PackageUses}
+use Rattle.splice_laws.specs.ConstantSteps.StepLaws.ConstantSwaps.{FilesSwapThere, PackageSwapsThere, ConstantSwaps}
+use Rattle.splice_laws.proofs.ConstantSteps.StepLaws.PartsTyped.{headers-typed}
+use Rattle.splice_laws.proofs.ConstantSteps.StepLaws.KnownConstants.{of-first, declares-it, known-use}
+use Rattle.splice_laws.proofs.ConstantSteps.StepLaws.StepUses.{use-of-constant}
+use Rattle.splice_laws.specs.ConstantSteps.Alone.{PackageAt, ConstantHeader}
+use Rattle.splice_laws.specs.ConstantSteps.PlainUse.{linked_at, PlainUse}
+use Rattle.splice_laws.proofs.ConstantSteps.PlainSteps.{not_so}
 use Rattle.constants_anywhere.specs.Known.{PartsStand}
 use Rattle.constants_anywhere.specs.UseAnywhere.{UseAnywhere}
-use Rattle.constant_steps.proofs.AfterStep.{package_after, package_beside, at_package, at_nth}
-use Rattle.constant_steps.proofs.MarksFound.{nth_mapped}
+use Rattle.splice_laws.proofs.ConstantSteps.AfterStep.{package_after, package_beside, at_package, at_nth}
+use Rattle.splice_laws.proofs.ConstantSteps.MarksFound.{nth_mapped}
 use Rattle.constants_anywhere.proofs.PartsMeant.{known_uses, known_swaps}
 use Rattle.constants_anywhere.proofs.UsesFound.{first_old, old_in, use_before, use_after}
 

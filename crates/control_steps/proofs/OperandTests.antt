@@ -1,15 +1,15 @@
 -- Tests of operands that are answered, and of ones that aren't typed.
 use Rattle.std.proofs.Common.{◌≡◌, ◌∙◌, Bool, true, false, List, Option, Some, None, Result, Ok, Err, IfOk, refl, sym, ap, subst}
-use Rattle.const_eval.specs.declared.consts.Const.{Const}
-use Rattle.const_eval.specs.Exact.{is_truth_kind}
-use Rattle.go_types.specs.Answers.{given, meets, only_if, unless_missing}
-use Rattle.go_types.specs.Types.{GoType}
-use Rattle.go_types.specs.Defined.{Defined}
-use Rattle.go_types.specs.Entities as go_entity
-use Rattle.go_types.specs.Operands as go
-use Rattle.go_types.specs.Operands.{value, several, a_type, a_function, a_builtin, recovered, Typed, kind_passes, typed}
-use Rattle.go_types.specs.Statements.{is_condition}
-use Rattle.type_relations.specs.Environment.{Environment}
+use Rattle.go_tree.specs.declared.const_eval.consts.Const.{Const}
+use Rattle.go_tree.specs.ConstEval.Exact.{is_truth_kind}
+use Rattle.go_tree.specs.GoTypes.Answers.{given, meets, only_if, unless_missing}
+use Rattle.go_tree.specs.GoTypes.Types.{GoType}
+use Rattle.go_tree.specs.GoTypes.Defined.{Defined}
+use Rattle.go_tree.specs.GoTypes.Entities as go_entity
+use Rattle.go_tree.specs.GoTypes.Operands as go
+use Rattle.go_tree.specs.GoTypes.Operands.{value, several, a_type, a_function, a_builtin, recovered, Typed, kind_passes, typed}
+use Rattle.go_tree.specs.GoTypes.Statements.{is_condition}
+use Rattle.type_table.specs.TypeRelations.Environment.{Environment}
 use Rattle.operand_rules.specs.declared.values.Value.{Value}
 use Rattle.operand_rules.specs.declared.values.Refusal.{Refusal}
 use Rattle.operand_rules.specs.declared.values.Refusal.TheVariants.{NotTyped, NoMemory}
@@ -19,7 +19,7 @@ use Rattle.operand_modes.specs.Operands.{SameOperand, operand_at, single_of}
 use Rattle.operand_laws.specs.Alike.{SameBound}
 use Rattle.operand_answers.specs.declared.located.Located.{Located}
 use Rattle.operand_answers.specs.Located.{GivesAt}
-use Rattle.access_rules.specs.Slices.{bound_of}
+use Rattle.operator_rules.specs.AccessRules.Slices.{bound_of}
 use Rattle.operand_answers.specs.AccessSteps.Bounds.{GivesBound}
 use Rattle.control_steps.specs.Ends.{EndsAs}
 

@@ -1,26 +1,26 @@
 -- Operands where values of types are wanted, one by one.
 use Rattle.std.proofs.Common.{◌≡◌, ◌∙◌, ◌&&◌, ◌||◌, Bool, true, false, List, [], ◌∷◌, map, length, nat_eq, Option, Some, None, Result, Ok, Err, IfOk, refl, sym, ap, ap₂, subst, arith}
 use Rattle.std.specs.Prelude.{if◌then◌else◌}
-use Rattle.const_eval.specs.declared.consts.Const.{Const}
+use Rattle.go_tree.specs.declared.const_eval.consts.Const.{Const}
 use Rattle.std.proofs.lemmas.Bool.Decides.{nat_tests}
 use Rattle.go_tree.specs.declared.exprs.Expr as source
 use Rattle.go_tree.specs.declared.spans.Span.{Span}
 use Rattle.go_tree.specs.Lists.{exprs_from}
 use Rattle.go_tree.specs.View.{expr_of}
 use Rattle.go_tree.specs.Tree.{Exprs}
-use Rattle.go_types.specs.Answers.{both, is_empty, meets}
-use Rattle.go_types.specs.Types.{GoType}
-use Rattle.go_types.specs.Defined.{Defined}
-use Rattle.go_types.specs.Entities as go_entity
-use Rattle.go_types.specs.Operands as go
-use Rattle.go_types.specs.Operands.{value, Typed, all_typed, fits, spread, takes_all, typed}
-use Rattle.go_types.specs.Bodies.{Ctx, no_values, returns}
-use Rattle.type_relations.specs.Environment.{Environment}
+use Rattle.go_tree.specs.GoTypes.Answers.{both, is_empty, meets}
+use Rattle.go_tree.specs.GoTypes.Types.{GoType}
+use Rattle.go_tree.specs.GoTypes.Defined.{Defined}
+use Rattle.go_tree.specs.GoTypes.Entities as go_entity
+use Rattle.go_tree.specs.GoTypes.Operands as go
+use Rattle.go_tree.specs.GoTypes.Operands.{value, Typed, all_typed, fits, spread, takes_all, typed}
+use Rattle.go_tree.specs.GoTypes.Bodies.{Ctx, no_values, returns}
+use Rattle.type_table.specs.TypeRelations.Environment.{Environment}
 use Rattle.operand_rules.specs.declared.values.Value.{Value}
 use Rattle.operand_rules.specs.declared.values.Refusal.{Refusal}
 use Rattle.operand_rules.specs.declared.values.Refusal.TheVariants.{NotTyped}
 use Rattle.operand_rules.specs.Values.{typed_of}
-use Rattle.access_rules.specs.Functions.{operands_of}
+use Rattle.operator_rules.specs.AccessRules.Functions.{operands_of}
 use Rattle.operand_modes.specs.Lists.{GivesValues}
 use Rattle.operand_modes.specs.Operands.{operands_at}
 use Rattle.operand_answers.specs.declared.lists.OperandList.{OperandList}

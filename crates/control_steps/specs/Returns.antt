@@ -1,8 +1,8 @@
 -- The body around a `return` (Go specification, Return statements).
 use Rattle.std.specs.Prelude.{◌≡◌}
-use Rattle.go_types.specs.Bodies.{Ctx}
-use Rattle.type_relations.specs.Environment.{Environment}
-use Rattle.access_rules.specs.Functions.{types_at}
+use Rattle.go_tree.specs.GoTypes.Bodies.{Ctx}
+use Rattle.type_table.specs.TypeRelations.Environment.{Environment}
+use Rattle.operator_rules.specs.AccessRules.Functions.{types_at}
 use Rattle.control_steps.specs.declared.returns.Body.{Body}
 
 -- the results are those of the body around, and have names as they have there

@@ -1,17 +1,17 @@
 //! Conditions (Go specification, If statements; For statements with single condition).
 
 ghost use Rattle.std.specs.Prelude.{◌≡◌, IfOk, Option};
-ghost use Rattle.const_eval.specs.Exact.{is_truth_kind};
-ghost use Rattle.go_types.specs.Answers.{meets, unless_missing};
-ghost use Rattle.go_types.specs.Entities as go_entity;
-ghost use Rattle.go_types.specs.Operands as go_operand;
-ghost use Rattle.go_types.specs.Operands.{Typed, kind_passes, value};
-ghost use Rattle.go_types.specs.Statements as go;
-ghost use Rattle.type_relations.specs.Environment.{defined_types};
+ghost use Rattle.go_tree.specs.ConstEval.Exact.{is_truth_kind};
+ghost use Rattle.go_tree.specs.GoTypes.Answers.{meets, unless_missing};
+ghost use Rattle.go_tree.specs.GoTypes.Entities as go_entity;
+ghost use Rattle.go_tree.specs.GoTypes.Operands as go_operand;
+ghost use Rattle.go_tree.specs.GoTypes.Operands.{Typed, kind_passes, value};
+ghost use Rattle.go_tree.specs.GoTypes.Statements as go;
+ghost use Rattle.type_table.specs.TypeRelations.Environment.{defined_types};
 ghost use Rattle.operand_rules.specs.Values.{IsType, type_of};
 ghost use Rattle.operand_modes.specs.Operands.{IsOperand, operand_at};
 ghost use Rattle.operand_answers.specs.Located.{GivesAt, IsThereIfOk};
-ghost use Rattle.access_rules.specs.Slices.{IsBoundValue, bound_of};
+ghost use Rattle.operator_rules.specs.AccessRules.Slices.{IsBoundValue, bound_of};
 ghost use Rattle.operand_answers.specs.AccessSteps.Bounds.{GivesBound, IsBoundIfOk};
 
 use crate::refused::unmet;
@@ -20,7 +20,7 @@ use go_tree::NoMemory;
 use operand_answers::Located;
 use operand_modes::{Operand, single_value};
 use operand_rules::{Refusal, Value, ValueType, is_truth_kind, kind_of};
-use type_relations::Env;
+use type_table::type_relations::Env;
 
 /// Whether values of the type are truth values.
 fn is_truth(env: &Env, t: ValueType) -> bool

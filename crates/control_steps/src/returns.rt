@@ -2,13 +2,13 @@
 
 ghost use Rattle.std.specs.Prelude.{◌≡◌, ◌||◌, List, Option, Some, true, IfOk};
 ghost use Rattle.go_tree.specs.View.{exprs_of};
-ghost use Rattle.go_types.specs.Answers.{is_empty, meets, only_if};
-ghost use Rattle.go_types.specs.Bodies as go;
-ghost use Rattle.go_types.specs.Entities as go_entity;
-ghost use Rattle.go_types.specs.Operands as go_operand;
-ghost use Rattle.go_types.specs.Operands.{spread, takes_all};
-ghost use Rattle.type_relations.specs.Environment.{Environment, defined_types};
-ghost use Rattle.access_rules.specs.Functions.{AreTypes, types_at};
+ghost use Rattle.go_tree.specs.GoTypes.Answers.{is_empty, meets, only_if};
+ghost use Rattle.go_tree.specs.GoTypes.Bodies as go;
+ghost use Rattle.go_tree.specs.GoTypes.Entities as go_entity;
+ghost use Rattle.go_tree.specs.GoTypes.Operands as go_operand;
+ghost use Rattle.go_tree.specs.GoTypes.Operands.{spread, takes_all};
+ghost use Rattle.type_table.specs.TypeRelations.Environment.{Environment, defined_types};
+ghost use Rattle.operator_rules.specs.AccessRules.Functions.{AreTypes, types_at};
 ghost use Rattle.operand_modes.specs.Operands.{AreOperands, operands_at};
 ghost use Rattle.checker_tables.specs.Ready.{AreReady};
 ghost use Rattle.operand_answers.specs.Lists.{AreThereIfOk, GivesAll};
@@ -16,12 +16,12 @@ ghost use Rattle.control_steps.specs.Ends.{EndsAs};
 ghost use Rattle.control_steps.specs.Returns.{IsBodyOf};
 
 use crate::refused::{ends_if, unmet};
-use access_rules::takes_all;
 use checker_tables::Tables;
 use go_tree::{ExprList, NoMemory};
 use operand_answers::OperandList;
 use operand_modes::{Operand, values};
 use operand_rules::Refusal;
+use operator_rules::access_rules::takes_all;
 use std::alloc::Global;
 use type_table::TypeId;
 

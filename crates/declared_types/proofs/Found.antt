@@ -8,18 +8,18 @@ use Rattle.go_tree.specs.declared.files.TypeSpec as code
 use Rattle.go_tree.specs.Tree.{TypeExpr}
 use Rattle.go_tree.specs.File.{TypeSpec}
 use Rattle.go_tree.specs.FileView.{type_spec_of}
-use Rattle.const_eval.specs.declared.consts.Const.{Const}
-use Rattle.scope_names.specs.Means.{means, or_else, is_blank}
-use Rattle.go_types.specs.Answers.{given, only_if, is_among}
-use Rattle.go_types.specs.Types.{GoType, named_type}
-use Rattle.go_types.specs.Entities as go
-use Rattle.go_types.specs.Entities.{refused, type_name, World, Env, block_of, universe}
-use Rattle.go_types.specs.Declarations.{bind_each}
-use Rattle.go_types.specs.TypeNames.{resolved}
-use Rattle.go_types.specs.Programs.{spec_of, Header, Headed, header_names, Program, env_of}
-use Rattle.go_types.specs.Collect.{type_entity, spec_type, alias_entity, refused_world, aliased_world}
-use Rattle.type_relations.specs.Environment as types
-use Rattle.type_relations.specs.Environment.{env_type}
+use Rattle.go_tree.specs.declared.const_eval.consts.Const.{Const}
+use Rattle.go_tree.specs.ScopeNames.Means.{means, or_else, is_blank}
+use Rattle.go_tree.specs.GoTypes.Answers.{given, only_if, is_among}
+use Rattle.go_tree.specs.GoTypes.Types.{GoType, named_type}
+use Rattle.go_tree.specs.GoTypes.Entities as go
+use Rattle.go_tree.specs.GoTypes.Entities.{refused, type_name, World, Env, block_of, universe}
+use Rattle.go_tree.specs.GoTypes.Declarations.{bind_each}
+use Rattle.go_tree.specs.GoTypes.TypeNames.{resolved}
+use Rattle.go_tree.specs.GoTypes.Programs.{spec_of, Header, Headed, header_names, Program, env_of}
+use Rattle.go_tree.specs.GoTypes.Collect.{type_entity, spec_type, alias_entity, refused_world, aliased_world}
+use Rattle.type_table.specs.TypeRelations.Environment as types
+use Rattle.type_table.specs.TypeRelations.Environment.{env_type}
 use Rattle.universe_block.specs.declared.block.PredeclaredEntity.TheVariants as predeclared
 use Rattle.typed_names.specs.declared.entities.Entity.{Entity}
 use Rattle.typed_names.specs.declared.entities.Entity.TheVariants.{Variable, Constant, TypeName, Function, Package, Predeclared, Refused}
@@ -28,8 +28,8 @@ use Rattle.typed_names.specs.Known.{AllHaveTypes}
 use Rattle.typed_names.specs.Meanings.{Names, block_at, entity_option, names_at, world_at}
 use Rattle.typed_names.specs.Scopes.{env_at}
 use Rattle.typed_names.proofs.NameLaws.{block_means}
-use Rattle.type_exprs.specs.Grown.{TypesGrown}
-use Rattle.type_exprs.proofs.GrownLaws.{env_same}
+use Rattle.typed_names.specs.TypeExprs.Grown.{TypesGrown}
+use Rattle.typed_names.proofs.TypeExprs.GrownLaws.{env_same}
 use Rattle.typed_in_place.specs.Known.{kept, Clearer, as_before, Knows}
 use Rattle.typed_in_place.proofs.Rising.{resolved-keeps, keeps_some, keeps_either}
 use Rattle.typed_in_place.proofs.DeclaredAliases.{as_declared}

@@ -5,18 +5,18 @@ use Rattle.std.proofs.Common.{arith, get_or, nat_lt}
 use Rattle.std.proofs.lemmas.Bool.Decides.{nat_tests}
 use Rattle.go_tree.specs.declared.spans.Span.{Span}
 use Rattle.go_tree.specs.FileView.{type_spec_of}
-use Rattle.go_types.specs.Programs.{Headed, Program}
-use Rattle.go_types.specs.Collect.{aliased_world, refused_world}
-use Rattle.const_eval.specs.declared.consts.Const.{Const}
-use Rattle.go_types.specs.Table.{named_node}
-use Rattle.type_relations.specs.Environment.{Environment, env_type, with_type}
-use Rattle.value_types.specs.ValueTypes.{HasValueTypes}
-use Rattle.value_types.proofs.ValueLemmas.{value_types_stay}
+use Rattle.go_tree.specs.GoTypes.Programs.{Headed, Program}
+use Rattle.go_tree.specs.GoTypes.Collect.{aliased_world, refused_world}
+use Rattle.go_tree.specs.declared.const_eval.consts.Const.{Const}
+use Rattle.go_tree.specs.GoTypes.Table.{named_node}
+use Rattle.type_table.specs.TypeRelations.Environment.{Environment, env_type, with_type}
+use Rattle.type_table.specs.ValueTypes.ValueTypes.{HasValueTypes}
+use Rattle.type_table.proofs.ValueTypes.ValueLemmas.{value_types_stay}
 use Rattle.typed_names.specs.declared.scopes.Scope.{Scope}
 use Rattle.typed_names.specs.Known.{AllHaveTypes, KnowsTypes}
 use Rattle.typed_names.specs.Meanings.{Names, world_at}
-use Rattle.type_exprs.specs.Grown.{TypesGrown}
-use Rattle.type_exprs.proofs.GrownLaws.{env_same, grown_on, grown_self, known_on}
+use Rattle.typed_names.specs.TypeExprs.Grown.{TypesGrown}
+use Rattle.typed_names.proofs.TypeExprs.GrownLaws.{env_same, grown_on, grown_self, known_on}
 use Rattle.declared_types.specs.declared.headers.TypeHeader.{TypeHeader}
 use Rattle.declared_types.specs.Headers.{AreTypeHeaders, no_headers, a_type, another, IsTypeAt, IsTypeHeader, type_of_spec}
 use Rattle.declared_types.specs.Members.{Below, SameMembers, SameNames, member}

@@ -1,23 +1,25 @@
 -- The steps in which it is found what the names of types mean (Go specification, Alias declarations; Declarations and
 -- scope).
-use Rattle.std.specs.Prelude.{◌≡◌, ℕ, Bool, true, false, ◌&&◌, List, [], ◌∷◌, Option, Some, None, nat_eq, bytes_eq, length, slice_get, if◌then◌else◌}
+use Rattle.std.specs.Prelude.{◌≡◌, ℕ, Bool, true, false, ◌&&◌, List, [], ◌∷◌, Option, Some, None}
+use Rattle.std.specs.Prelude.{nat_eq, bytes_eq, length, slice_get, if◌then◌else◌}
 use Rattle.go_tree.specs.declared.spans.Span.{Span}
 use Rattle.go_tree.specs.declared.files.TypeSpec.{TypeSpec}
 use Rattle.go_tree.specs.FileView.{type_spec_of}
-use Rattle.const_eval.specs.declared.consts.Const.{Const}
-use Rattle.scope_names.specs.Means.{means}
-use Rattle.go_types.specs.Programs.{Headed, Program}
-use Rattle.go_types.specs.Collect.{aliased_world, refused_world}
-use Rattle.type_relations.specs.Environment.{Environment, env_type}
+use Rattle.go_tree.specs.declared.const_eval.consts.Const.{Const}
+use Rattle.go_tree.specs.ScopeNames.Means.{means}
+use Rattle.go_tree.specs.GoTypes.Programs.{Headed, Program}
+use Rattle.go_tree.specs.GoTypes.Collect.{aliased_world, refused_world}
+use Rattle.type_table.specs.TypeRelations.Environment.{Environment, env_type}
 use Rattle.type_table.specs.declared.nodes.TypeId.{TypeId}
 use Rattle.typed_names.specs.declared.entities.Entity.{Entity}
-use Rattle.typed_names.specs.declared.entities.Entity.TheVariants.{Variable, Constant, TypeName, Function, Package, Predeclared, Refused}
+use Rattle.typed_names.specs.declared.entities.Entity.TheVariants.{Variable, Constant, TypeName, Function, Package}
+use Rattle.typed_names.specs.declared.entities.Entity.TheVariants.{Predeclared, Refused}
 use Rattle.typed_names.specs.declared.scopes.Scope.{Scope}
 use Rattle.typed_names.specs.Known.{AllHaveTypes, HaveTypes}
 use Rattle.typed_names.specs.Meanings.{Names, block_at, world_at}
 use Rattle.typed_names.specs.Scopes.{env_at}
-use Rattle.value_types.specs.ValueTypes.{HasValueTypes}
-use Rattle.type_exprs.specs.Grown.{TypesGrown}
+use Rattle.type_table.specs.ValueTypes.ValueTypes.{HasValueTypes}
+use Rattle.typed_names.specs.TypeExprs.Grown.{TypesGrown}
 use Rattle.declared_types.specs.declared.headers.TypeHeader.{TypeHeader}
 use Rattle.declared_types.specs.Headers.{AreTypeHeaders, type_of_spec}
 use Rattle.declared_types.specs.Members.{Below, SameNames}

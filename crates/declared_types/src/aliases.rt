@@ -2,14 +2,14 @@
 //! definitions; Declarations and scope).
 
 ghost use Rattle.std.specs.Prelude.{◌≡◌, List, false, true, length, IfOk, OnErr, OnOk};
-ghost use Rattle.const_eval.specs.declared.consts.Const.{Const};
+ghost use Rattle.go_tree.specs.declared.const_eval.consts.Const.{Const};
 ghost use Rattle.go_tree.specs.declared.spans.Span.{Span};
-ghost use Rattle.go_types.specs.Programs.{Headed, Program};
-ghost use Rattle.go_types.specs.Collect.{aliased_world, refused_world};
-ghost use Rattle.value_types.specs.ValueTypes.{HasValueTypes};
+ghost use Rattle.go_tree.specs.GoTypes.Programs.{Headed, Program};
+ghost use Rattle.go_tree.specs.GoTypes.Collect.{aliased_world, refused_world};
+ghost use Rattle.type_table.specs.ValueTypes.ValueTypes.{HasValueTypes};
 ghost use Rattle.typed_names.specs.Known.{KnowsTypes};
 ghost use Rattle.typed_names.specs.Meanings.{world_at};
-ghost use Rattle.type_exprs.specs.Grown.{TypesGrown};
+ghost use Rattle.typed_names.specs.TypeExprs.Grown.{TypesGrown};
 ghost use Rattle.declared_types.specs.Headers.{AreTypeHeaders, IsTypeHeader};
 ghost use Rattle.declared_types.specs.Members.{SameMembers};
 ghost use Rattle.declared_types.specs.Steps.{AllClosed, AreFound, ClosedHeader, IsClosed, IsSet};
@@ -20,7 +20,7 @@ use crate::specs::spec_type;
 use go_tree::{NoMemory, TypeSpec};
 use operand_rules::Refusal;
 use std::alloc::{AllocError, Global};
-use type_relations::Env;
+use type_table::type_relations::Env;
 use typed_names::{Blocks, Entity, Scope};
 
 /// Whether a name means what isn't known yet.

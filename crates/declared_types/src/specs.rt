@@ -2,26 +2,26 @@
 //! definitions).
 
 ghost use Rattle.std.specs.Prelude.{◌≡◌, List, Some};
-ghost use Rattle.const_eval.specs.declared.consts.Const.{Const};
+ghost use Rattle.go_tree.specs.declared.const_eval.consts.Const.{Const};
 ghost use Rattle.go_tree.specs.FileView.{type_spec_of};
-ghost use Rattle.go_types.specs.Types as go;
-ghost use Rattle.value_types.specs.ValueTypes.{HasValueTypes};
+ghost use Rattle.go_tree.specs.GoTypes.Types as go;
+ghost use Rattle.type_table.specs.ValueTypes.ValueTypes.{HasValueTypes};
 ghost use Rattle.typed_names.specs.Known.{KnowsTypes};
 ghost use Rattle.typed_names.specs.Scopes.{env_at};
-ghost use Rattle.type_exprs.specs.Answers.{GivesType};
-ghost use Rattle.type_exprs.specs.Grown.{TypesGrown};
+ghost use Rattle.typed_names.specs.TypeExprs.Answers.{GivesType};
+ghost use Rattle.typed_names.specs.TypeExprs.Grown.{TypesGrown};
 ghost use Rattle.declared_types.specs.Headers.{type_of_spec};
 
 use go_tree::{Name, TypeSpec};
 use operand_rules::Refusal;
 use std::alloc::Global;
-use type_exprs::resolved;
-use type_relations::Env;
+use type_table::type_relations::Env;
 use type_table::{TypeId, TypeNode};
+use typed_names::type_exprs::resolved;
 use typed_names::{Blocks, Scope};
 
 /// The defined type of this name in a package.
-#[tactic(auto, using(crate::proofs::Passed::name_added, type_exprs::proofs::ValuesKept::values_self, value_types::proofs::ValueLemmas::values_same))]
+#[tactic(auto, using(crate::proofs::Passed::name_added, typed_names::proofs::TypeExprs::ValuesKept::values_self, type_table::proofs::ValueTypes::ValueLemmas::values_same))]
 pub fn named_type(alloc: Global, types: &mut Env, home: u32, name: &Name) -> Result<TypeId, Refusal>
     ensures grown { TypesGrown types.old types.new }
     ensures values { HasValueTypes types.old → HasValueTypes types.new }

@@ -2,17 +2,17 @@
 use Rattle.std.specs.Prelude.{◌≡◌, refl, ℕ, ◌++◌, List, [], ◌∷◌, map, Option, Some, None, Ok, Err, slice_get, Bool, true, false, not, ◌||◌}
 use mathlib.Core.Path.{ap, ap₂, sym, ◌∙◌}
 use Rattle.std.proofs.Common.{arith, append_assoc}
-use Rattle.const_eval.specs.declared.consts.Const.{Const}
+use Rattle.go_tree.specs.declared.const_eval.consts.Const.{Const}
 use Rattle.go_tree.specs.declared.spans.Span.{Span}
 use Rattle.go_tree.specs.File.{TypeSpec}
 use Rattle.go_tree.specs.FileView.{type_spec_of}
-use Rattle.scope_names.specs.Means.{is_blank}
-use Rattle.go_types.specs.Entities.{Env}
-use Rattle.go_types.specs.TypeNames.{resolved}
-use Rattle.go_types.specs.Answers.{and_also, given, only_if}
-use Rattle.go_types.specs.Types.{GoType, named_type}
-use Rattle.go_types.specs.TypeDeclarations as go
-use Rattle.type_relations.specs.Environment.{Environment, env_type, is_named_type}
+use Rattle.go_tree.specs.ScopeNames.Means.{is_blank}
+use Rattle.go_tree.specs.GoTypes.Entities.{Env}
+use Rattle.go_tree.specs.GoTypes.TypeNames.{resolved}
+use Rattle.go_tree.specs.GoTypes.Answers.{and_also, given, only_if}
+use Rattle.go_tree.specs.GoTypes.Types.{GoType, named_type}
+use Rattle.go_tree.specs.GoTypes.TypeDeclarations as go
+use Rattle.type_table.specs.TypeRelations.Environment.{Environment, env_type, is_named_type}
 use Rattle.type_table.specs.declared.nodes.TypeId.{TypeId}
 use Rattle.operand_rules.specs.declared.values.ValueType.TheVariants.{Typed}
 use Rattle.operand_rules.specs.declared.values.Refusal.{Refusal}
@@ -21,10 +21,10 @@ use Rattle.operand_rules.specs.Values.{IsType}
 use Rattle.typed_names.specs.declared.scopes.Scope.{Scope}
 use Rattle.typed_names.specs.Meanings.{Names}
 use Rattle.typed_names.specs.Scopes.{env_at}
-use Rattle.type_exprs.specs.Answers.{GivesType}
-use Rattle.value_types.specs.ValueTypes.{HasValueTypes}
-use Rattle.type_exprs.specs.Grown.{TypesGrown}
-use Rattle.type_exprs.proofs.GrownLaws.{env_same, grown_on, grown_self, type_on}
+use Rattle.typed_names.specs.TypeExprs.Answers.{GivesType}
+use Rattle.type_table.specs.ValueTypes.ValueTypes.{HasValueTypes}
+use Rattle.typed_names.specs.TypeExprs.Grown.{TypesGrown}
+use Rattle.typed_names.proofs.TypeExprs.GrownLaws.{env_same, grown_on, grown_self, type_on}
 use Rattle.declared_types.specs.declared.headers.TypeHeader.{TypeHeader}
 use Rattle.declared_types.specs.Steps.{KnowsPlaces}
 use Rattle.declared_types.proofs.Passed.{knows_types, members_on, places_on}

@@ -1,22 +1,22 @@
 //! Defined types with the types that they are declared as (Go specification, Type definitions).
 
 ghost use Rattle.std.specs.Prelude.{◌≡◌, ◌++◌, ◌||◌, [], List, Some, map, not, IfOk, OnOk};
-ghost use Rattle.const_eval.specs.declared.consts.Const.{Const};
+ghost use Rattle.go_tree.specs.declared.const_eval.consts.Const.{Const};
 ghost use Rattle.go_tree.specs.declared.spans.Span.{Span};
 ghost use Rattle.go_tree.specs.FileView.{type_spec_of};
-ghost use Rattle.go_types.specs.Answers.{and_also};
-ghost use Rattle.go_types.specs.Programs.{Headed, Program};
-ghost use Rattle.go_types.specs.Collect as go;
-ghost use Rattle.go_types.specs.Collect.{aliased_world};
-ghost use Rattle.scope_names.specs.Means.{is_blank};
+ghost use Rattle.go_tree.specs.GoTypes.Answers.{and_also};
+ghost use Rattle.go_tree.specs.GoTypes.Programs.{Headed, Program};
+ghost use Rattle.go_tree.specs.GoTypes.Collect as go;
+ghost use Rattle.go_tree.specs.GoTypes.Collect.{aliased_world};
+ghost use Rattle.go_tree.specs.ScopeNames.Means.{is_blank};
 ghost use Rattle.operand_rules.specs.Values.{IsType};
 ghost use Rattle.operand_rules.specs.declared.values.ValueType.TheVariants.{Typed};
-ghost use Rattle.type_relations.specs.Environment.{env_type};
+ghost use Rattle.type_table.specs.TypeRelations.Environment.{env_type};
 ghost use Rattle.typed_names.specs.Known.{KnowsTypes};
 ghost use Rattle.typed_names.specs.Meanings.{world_at};
 ghost use Rattle.typed_names.specs.Scopes.{env_at};
-ghost use Rattle.value_types.specs.ValueTypes.{HasValueTypes};
-ghost use Rattle.type_exprs.specs.Grown.{TypesGrown};
+ghost use Rattle.type_table.specs.ValueTypes.ValueTypes.{HasValueTypes};
+ghost use Rattle.typed_names.specs.TypeExprs.Grown.{TypesGrown};
 ghost use Rattle.declared_types.specs.Headers.{AreTypeHeaders};
 ghost use Rattle.declared_types.specs.Members.{SameMembers};
 ghost use Rattle.declared_types.specs.Steps.{KnowsPlaces};
@@ -27,9 +27,9 @@ use declared_types::{TypeHeader, named_type};
 use go_tree::{Name, NoMemory, TypeSpec};
 use operand_rules::Refusal;
 use std::alloc::{AllocError, Global};
-use type_exprs::resolved;
-use type_relations::Env;
 use type_table::TypeId;
+use type_table::type_relations::Env;
+use typed_names::type_exprs::resolved;
 use typed_names::{Blocks, Scope};
 
 /// A defined type, and the type that it is declared as.

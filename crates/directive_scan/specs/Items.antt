@@ -1,13 +1,15 @@
 -- What of a file can be marked, and what can't (Go specification, Declarations and scope; Constant declarations; Type
 -- declarations; Function declarations; Method declarations).
-use Rattle.std.specs.Prelude.{ℕ, Bool, true, false, not, List, [], ◌∷◌, ◌++◌, Option, Some, None, if◌then◌else◌}
+use Rattle.std.specs.Prelude.{ℕ, Bool, true, false, not, List, [], ◌∷◌, ◌++◌, Option, Some, None}
+use Rattle.std.specs.Prelude.{if◌then◌else◌}
 use Rattle.go_tree.specs.declared.spans.Span.{Span}
-use Rattle.go_tree.specs.Tree.{NameAt, TypeExpr, Expr, ident, selector, Exprs, no_exprs, expr_and, const_decl, ValueSpecs, no_specs, spec}
+use Rattle.go_tree.specs.Tree.{NameAt, TypeExpr, Expr, ident, selector, Exprs, no_exprs, expr_and, const_decl}
+use Rattle.go_tree.specs.Tree.{ValueSpecs, no_specs, spec}
 use Rattle.go_tree.specs.File.{TypeSpec, Receiver, Func, Decl, values, types, func, File}
-use Rattle.scope_names.specs.declared.names.Entity.{Entity}
-use Rattle.scope_names.specs.declared.names.Entity.TheVariants.{Import, Universe}
-use Rattle.scope_names.specs.declared.names.FileNames.{FileNames}
-use Rattle.scope_names.specs.Means.{Environment, means, outermost}
+use Rattle.go_tree.specs.declared.scope_names.names.Entity.{Entity}
+use Rattle.go_tree.specs.declared.scope_names.names.Entity.TheVariants.{Import, Universe}
+use Rattle.go_tree.specs.declared.scope_names.names.FileNames.{FileNames}
+use Rattle.go_tree.specs.ScopeNames.Means.{Environment, means, outermost}
 use Rattle.directive_scan.specs.declared.mark_types.MarkKind.{MarkKind}
 use Rattle.directive_scan.specs.declared.mark_types.MarkKind.TheVariants.{Function, Method, Constant, Alias}
 use Rattle.directive_scan.specs.declared.mark_types.Verdict.{Verdict}

@@ -1,13 +1,15 @@
 -- The lines of a text that comments and tokens stand on (Go specification, Comments), and the lines that mark what
 -- follows them (golang.org/x/tools, analyzer inline: `//go:fix inline`).
 -- Lines count from 0. Byte 10 ends a line, and belongs to the line that it ends.
-use Rattle.std.specs.Prelude.{◌≡◌, ℕ, zero, suc, ◌-◌, ◌≤◌, ◌<◌, ◌==◌, Bool, true, false, not, ◌&&◌, ◌||◌, nat_eq, nat_le, nat_lt, if◌then◌else◌, List, [], ◌∷◌, take, drop, reverse, take_while, codes}
+use Rattle.std.specs.Prelude.{◌≡◌, ℕ, zero, suc, ◌-◌, ◌≤◌, ◌<◌, ◌==◌, Bool, true, false, not}
+use Rattle.std.specs.Prelude.{◌&&◌, ◌||◌, nat_eq, nat_le, nat_lt, if◌then◌else◌, List, [], ◌∷◌}
+use Rattle.std.specs.Prelude.{take, drop, reverse, take_while, codes}
 use Rattle.std.specs.List.{list_any, list_all, starts_with, prefix_len}
 use Rattle.go_tree.specs.declared.spans.Span.{Span}
 use Rattle.go_tree.specs.declared.tokens.Token.{Token}
 use Rattle.go_tree.specs.declared.tokens.Comment.{Comment}
 use Rattle.text_places.specs.Lines.{lines_before}
-use Rattle.go_words.specs.Tokens.Characters.{is_blank}
+use Rattle.go_tree.specs.GoWords.Tokens.Characters.{is_blank}
 use Rattle.go_scan.specs.Unsupported.{bytes_in}
 
 -- the line on which the byte at an offset stands, counted from 0

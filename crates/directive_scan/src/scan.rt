@@ -14,8 +14,8 @@ use crate::line_table::{line_at, line_numbers};
 use crate::mark_types::{BadMark, Marks};
 use crate::merge::placed_in;
 use go_scan::Tokens;
+use go_tree::scope_names::FileNames;
 use go_tree::{FileTree, MAX_FILE_BYTES, NoMemory};
-use scope_names::FileNames;
 use std::alloc::Global;
 
 /// Which lines hold a byte of a comment, and of no token.

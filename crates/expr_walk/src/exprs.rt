@@ -3,13 +3,14 @@
 ghost use Rattle.std.specs.Prelude.{IfSome, Option};
 ghost use Rattle.go_tree.specs.declared.spans.Span.{Span};
 ghost use Rattle.go_tree.specs.Tree as tree;
-ghost use Rattle.go_tree.specs.View.{boxed_expr_option_of, elems_of, expr_of, exprs_of, held_value_option_of, name_at_of, type_of, value_of};
-ghost use Rattle.go_types.specs.Answers.{given};
-ghost use Rattle.go_types.specs.Defined.{under};
-ghost use Rattle.go_types.specs.Literals as go_literal;
-ghost use Rattle.go_types.specs.Operands as go_operand;
-ghost use Rattle.go_types.specs.Typing as go;
-ghost use Rattle.type_relations.specs.Environment.{defined_types, env_type};
+ghost use Rattle.go_tree.specs.View.{boxed_expr_option_of, elems_of, expr_of, exprs_of, held_value_option_of};
+ghost use Rattle.go_tree.specs.View.{name_at_of, type_of, value_of};
+ghost use Rattle.go_tree.specs.GoTypes.Answers.{given};
+ghost use Rattle.go_tree.specs.GoTypes.Defined.{under};
+ghost use Rattle.go_tree.specs.GoTypes.Literals as go_literal;
+ghost use Rattle.go_tree.specs.GoTypes.Operands as go_operand;
+ghost use Rattle.go_tree.specs.GoTypes.Typing as go;
+ghost use Rattle.type_table.specs.TypeRelations.Environment.{defined_types, env_type};
 ghost use Rattle.operand_rules.specs.declared.values.ValueType.TheVariants.{Typed};
 ghost use Rattle.operand_rules.specs.Values.{IsType};
 ghost use Rattle.operator_rules.specs.Settling.{typed_option};
@@ -20,7 +21,8 @@ ghost use Rattle.operand_answers.specs.Known.{Stands};
 ghost use Rattle.operand_answers.specs.Lists.{GivesAll};
 ghost use Rattle.operand_answers.specs.AccessSteps.Bounds.{GivesBound};
 ghost use Rattle.composite_steps.specs.Elements.{GivesElement, GivesElements};
-ghost use Rattle.expr_walk.specs.Walked.{AreAllWalkedAt, AreWalkedElemsAt, IsWalkedAt, IsWalkedKeyAt, IsWalkedOptionAt, IsWalkedValueAt};
+ghost use Rattle.expr_walk.specs.Walked.{AreAllWalkedAt, AreWalkedElemsAt, IsWalkedAt, IsWalkedKeyAt, IsWalkedOptionAt};
+ghost use Rattle.expr_walk.specs.Walked.{IsWalkedValueAt};
 ghost use Rattle.expr_walk.specs.WalkArms.Answers.{GivesExpr};
 
 use crate::walk_arms::{function_literal, package_before};
@@ -30,7 +32,7 @@ use composite_steps::{
     ElementList, inner_type, is_struct, key_type, keyed, literal as composite_literal,
     literal_inside, literal_type, of_field, operand_of, unkeyed,
 };
-use const_eval::Kind;
+use go_tree::const_eval::Kind;
 use go_tree::{Elem, ElemList, Expr, ExprList, NameAt, TypeExpr, Value as ElemValue};
 use literal_rules::Element;
 use name_steps::{literal, named, qualified, type_operand};

@@ -8,9 +8,9 @@ ghost use Rattle.pkg_graph.specs.Views.{package_view};
 ghost use Rattle.file_names.specs.Imports.{import_in, FindsPackages};
 
 use crate::places::Places;
+use go_tree::scope_names::{ImportList, ImportName};
 use go_tree::{FileTree, ImportSpec, Name, NoMemory, Text};
 use pkg_graph::Package;
-use scope_names::{ImportList, ImportName};
 use std::alloc::Global;
 
 /// Where each package stands in the list, by its import path. Linear in the paths. The only error is `NoMemory`.

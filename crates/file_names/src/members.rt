@@ -2,15 +2,15 @@
 
 ghost use Rattle.std.specs.Prelude.{◌≡◌, ◌++◌, ◌∷◌, [], map, IfOk, OnOk};
 ghost use Rattle.go_tree.specs.FileView.{decl_of, file_of};
-ghost use Rattle.scope_names.specs.Means.{binding, is_blank};
+ghost use Rattle.go_tree.specs.ScopeNames.Means.{binding, is_blank};
 ghost use Rattle.pkg_graph.specs.Members.{items_from, decls_from, files_from, block_names, package_block};
 ghost use Rattle.pkg_graph.specs.Views.{package_view, source_of};
 ghost use Rattle.file_names.specs.Members.{member_of, target_of, is_method};
 
 use crate::declared::declared_names;
+use go_tree::scope_names::NameList;
 use go_tree::{Decl, FileTree, Name, NameAt, NoMemory};
 use pkg_graph::Package;
-use scope_names::NameList;
 use std::alloc::Global;
 
 /// A declared name by numbers, each from 0: its package, its file in the package, its declaration in the file, and the

@@ -11,9 +11,9 @@ ghost use Rattle.file_names.specs.Members.{IsBlockOf};
 
 use crate::imports::file_imports;
 use crate::places::Places;
+use go_tree::scope_names::{FileNames, NameList};
 use go_tree::{FileTree, NoMemory};
 use pkg_graph::Package as SourcePackage;
-use scope_names::{FileNames, NameList};
 use std::alloc::Global;
 
 /// What the blocks around the declarations of a file declare: the imports of the file, and the names of its package's

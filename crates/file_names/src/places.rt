@@ -1,6 +1,7 @@
 //! Where names stand first in a list.
 
-ghost use Rattle.std.specs.Prelude.{◌≡◌, ◌++◌, ◌∷◌, [], ℕ, List, Some, is_some, IfOk, OnOk, bytes_eq, if◌then◌else◌, length};
+ghost use Rattle.std.specs.Prelude.{◌≡◌, ◌++◌, ◌∷◌, [], ℕ, List, Some, is_some, IfOk, OnOk, bytes_eq};
+ghost use Rattle.std.specs.Prelude.{if◌then◌else◌, length};
 ghost use Rattle.name_walks.specs.Around.{place_in};
 ghost use Rattle.file_names.specs.Places.{Finds};
 

@@ -14,9 +14,9 @@ ghost use Rattle.file_tables.specs.Numbers.{number_in};
 
 use crate::numbers::import_numbers;
 use file_names::{Places, names_of_file};
+use go_tree::scope_names::{FileNames, NameList};
 use go_tree::{FileTree, NoMemory};
 use pkg_graph::Package;
-use scope_names::{FileNames, NameList};
 use scope_tables::{Scopes, scopes};
 use std::alloc::{AllocError, Global};
 

@@ -6,18 +6,18 @@ use borrow.Author.Tests.{eqb-true}
 use Rattle.std.proofs.Common.{inl, inr, arith, length-append}
 use Rattle.std.proofs.lemmas.List.{get_or_append_left, get_or_push}
 use Rattle.std.specs.Cmp.{both_ways}
-use Rattle.go_types.specs.Answers.{meets}
-use Rattle.go_types.specs.Types.{GoType, named_type}
-use Rattle.go_types.specs.Table.{NodeField, TypeNode as Row, basic_node, named_node, pointer_node, slice_node, map_node, struct_node, tuple_node, untyped_node, nil_node, node_parts, AllBelow, none_above, below_and}
-use Rattle.go_types.specs.TypeDeclarations.{DeclaredTypes, declared_as, is_finite_by, are_finite_by, is_finite_within, is_finite, under_within}
-use Rattle.go_types.proofs.IdenticalLaws.{and_left, and_right}
+use Rattle.go_tree.specs.GoTypes.Answers.{meets}
+use Rattle.go_tree.specs.GoTypes.Types.{GoType, named_type}
+use Rattle.go_tree.specs.GoTypes.Table.{NodeField, TypeNode as Row, basic_node, named_node, pointer_node, slice_node, map_node, struct_node, tuple_node, untyped_node, nil_node, node_parts, AllBelow, none_above, below_and}
+use Rattle.go_tree.specs.GoTypes.TypeDeclarations.{DeclaredTypes, declared_as, is_finite_by, are_finite_by, is_finite_within, is_finite, under_within}
+use Rattle.go_tree.proofs.GoTypes.IdenticalLaws.{and_left, and_right}
 use Rattle.type_table.specs.declared.nodes.Field.{Field}
 use Rattle.type_table.specs.declared.nodes.TypeNode.{TypeNode}
 use Rattle.type_table.specs.declared.nodes.TypeNode.TheVariants.{Struct}
 use Rattle.type_table.specs.Rows.{row_of}
 use Rattle.type_table.specs.TypesAt.{fields_by, type_by, type_at}
 use Rattle.type_table.proofs.TypesAtLaws.{type_at_row, get_within, got_within}
-use Rattle.type_relations.specs.Environment.{Environment, IsEnvironment, env_type}
+use Rattle.type_table.specs.TypeRelations.Environment.{Environment, IsEnvironment, env_type}
 use Rattle.comparable_types.specs.Flags.{flag_at, missing}
 use Rattle.comparable_types.proofs.FlagLaws.{all_mapped, got_flag, set_flag, some_flag}
 use Rattle.comparable_types.proofs.NamesEnd.{and_both}

@@ -1,9 +1,11 @@
 -- How the flags of types follow from those of the types that they hold by value: a struct holds its fields, a named
 -- type what it is declared as (Go specification, Struct types; Type definitions).
-use Rattle.std.specs.Prelude.{◌≡◌, ℕ, ◌<◌, ◌≤◌, Bool, true, false, List, [], ◌∷◌, length, Option, Some, None, slice_get}
+use Rattle.std.specs.Prelude.{◌≡◌, ℕ, ◌<◌, ◌≤◌, Bool, true, false, List, [], ◌∷◌, length}
+use Rattle.std.specs.Prelude.{Option, Some, None, slice_get}
 use Rattle.std.specs.List.{list_all}
-use Rattle.go_types.specs.Table.{TypeNode, basic_node, named_node, pointer_node, slice_node, map_node, struct_node, tuple_node, untyped_node, nil_node}
-use Rattle.type_relations.specs.Environment.{Environment}
+use Rattle.go_tree.specs.GoTypes.Table.{TypeNode, basic_node, named_node, pointer_node, slice_node, map_node}
+use Rattle.go_tree.specs.GoTypes.Table.{struct_node, tuple_node, untyped_node, nil_node}
+use Rattle.type_table.specs.TypeRelations.Environment.{Environment}
 use Rattle.comparable_types.specs.Flags.{flag_at, missing}
 use Rattle.defined_types.specs.declared.declared.DeclaredType.{DeclaredType}
 use Rattle.defined_types.specs.DeclaredTypes.{AreDeclared}

@@ -4,7 +4,7 @@
 ghost use Rattle.std.specs.Prelude.{◌≡◌, ◌<◌, List, true, false, length, IfOk};
 ghost use Rattle.std.specs.List.{list_all};
 ghost use Rattle.type_table.specs.Rows.{field_of};
-ghost use Rattle.type_relations.specs.Environment.{IsEnvironment};
+ghost use Rattle.type_table.specs.TypeRelations.Environment.{IsEnvironment};
 ghost use Rattle.comparable_types.specs.Flags.{flag_at, missing};
 ghost use Rattle.defined_types.specs.DeclaredTypes.{AreDeclared};
 ghost use Rattle.defined_types.specs.declared.declared.DeclaredType.{DeclaredType};
@@ -16,7 +16,7 @@ use defined_types::DeclaredType;
 use go_tree::NoMemory;
 use named_types::{next_numbers, number_at};
 use std::alloc::Global;
-use type_relations::Env;
+use type_table::type_relations::Env;
 use type_table::{Field, TypeId, TypeNode};
 
 /// For each type of the table, by its number, whether it is finite.

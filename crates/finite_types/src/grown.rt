@@ -11,7 +11,7 @@ use crate::flags::{all_finite, finite_types};
 use defined_types::DeclaredType;
 use go_tree::NoMemory;
 use std::alloc::Global;
-use type_relations::Env;
+use type_table::type_relations::Env;
 use type_table::{TypeId, TypeNode};
 
 /// Whether a type that isn't declared is finite, by the flags of its parts.

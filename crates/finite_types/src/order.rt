@@ -2,7 +2,7 @@
 //! (Go specification, Struct types; Underlying types).
 
 ghost use Rattle.std.specs.Prelude.{◌≡◌, ◌<◌, List, length};
-ghost use Rattle.type_relations.specs.Environment.{IsEnvironment};
+ghost use Rattle.type_table.specs.TypeRelations.Environment.{IsEnvironment};
 ghost use Rattle.defined_types.specs.declared.declared.DeclaredType.{DeclaredType};
 ghost use Rattle.finite_types.specs.Flags.{IsNext, SoundFlags};
 
@@ -10,7 +10,7 @@ use crate::flags::set_flag;
 use go_tree::NoMemory;
 use named_types::number_at;
 use std::alloc::Global;
-use type_relations::Env;
+use type_table::type_relations::Env;
 use type_table::{TypeId, TypeNode};
 
 /// A step of the walk: into a type, or out of it after those that it holds.

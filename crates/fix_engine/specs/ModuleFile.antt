@@ -1,5 +1,7 @@
 -- The file `go.mod` (Go Modules Reference, go.mod files): a module line, an empty line and a go line.
-use Rattle.std.specs.Prelude.{◌≡◌, ℕ, ◌+◌, ◌-◌, Bool, true, not, ◌&&◌, ◌||◌, ◌==◌, nat_le, nat_lt, nat_eq, IsTrue, if◌then◌else◌, List, [], ◌∷◌, ◌++◌, length, slice_range, codes, Option, Some, None}
+use Rattle.std.specs.Prelude.{◌≡◌, ℕ, ◌+◌, ◌-◌, Bool, true, not, ◌&&◌, ◌||◌, ◌==◌, nat_le}
+use Rattle.std.specs.Prelude.{nat_lt, nat_eq, IsTrue, if◌then◌else◌, List, [], ◌∷◌, ◌++◌, length}
+use Rattle.std.specs.Prelude.{slice_range, codes, Option, Some, None}
 use Rattle.std.specs.List.{starts_with, ends_with}
 use Rattle.go_outline.specs.declared.found.TheConstants.{MAX_OUTLINE_BYTES}
 

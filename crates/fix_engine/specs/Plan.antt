@@ -1,5 +1,6 @@
 -- What is planned for a module, as a function of its files.
-use Rattle.std.specs.Prelude.{ℕ, ◌+◌, ◌&&◌, if◌then◌else◌, bytes_eq, nat_eq, List, [], ◌∷◌, ◌++◌, length, map, Option, Some, None, codes}
+use Rattle.std.specs.Prelude.{ℕ, ◌+◌, ◌&&◌, if◌then◌else◌, bytes_eq, nat_eq, List, [], ◌∷◌}
+use Rattle.std.specs.Prelude.{◌++◌, length, map, Option, Some, None, codes}
 use Rattle.std.specs.List.{starts_with}
 use Rattle.go_tree.specs.declared.spans.Span.{Span}
 use Rattle.go_meaning_laws.specs.Package.{Package}
@@ -17,7 +18,8 @@ use Rattle.text_edits.specs.Applied.{applied}
 use Rattle.text_edits.specs.Order.{spans}
 use Rattle.fix_engine.specs.ModuleFile.{module_path}
 use Rattle.fix_engine.specs.Located.{constants_of, prints_of, outline_of_parts}
-use Rattle.fix_engine.specs.Settled.{settled_constants, settled_prints, constant_steps, print_steps, constant_edits, print_edits}
+use Rattle.fix_engine.specs.Settled.{settled_constants, settled_prints, constant_steps, print_steps, constant_edits}
+use Rattle.fix_engine.specs.Settled.{print_edits}
 use Rattle.fix_engine.specs.Report.{full_name, lines_of}
 
 -- ---- the module

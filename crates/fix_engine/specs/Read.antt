@@ -1,8 +1,10 @@
 -- The constants of a tree, and what its functions print, each with its place.
-use Rattle.std.specs.Prelude.{ℕ, Bool, true, false, ◌&&◌, nat_le, nat_eq, List, [], ◌∷◌, ◌++◌, length, take, codes, Option, Some, None, option_to_list}
+use Rattle.std.specs.Prelude.{ℕ, Bool, true, false, ◌&&◌, nat_le, nat_eq, List, [], ◌∷◌, ◌++◌, length}
+use Rattle.std.specs.Prelude.{take, codes, Option, Some, None, option_to_list}
 use Rattle.std.specs.List.{ends_with}
 use Rattle.go_tree.specs.declared.spans.Span.{Span}
-use Rattle.go_tree.specs.Tree.{NameAt, TypeExpr, Expr, ident, int_lit, call, Exprs, no_exprs, expr_and, Stmt, const_decl, eval, Stmts, no_stmts, stmt_and, ValueSpecs, no_specs, spec}
+use Rattle.go_tree.specs.Tree.{NameAt, TypeExpr, Expr, ident, int_lit, call, Exprs, no_exprs, expr_and, Stmt}
+use Rattle.go_tree.specs.Tree.{const_decl, eval, Stmts, no_stmts, stmt_and, ValueSpecs, no_specs, spec}
 use Rattle.go_tree.specs.File.{Decl, values, func}
 use Rattle.fix_engine.specs.declared.outline.Operand.{Operand}
 use Rattle.fix_engine.specs.declared.outline.Constant.{Constant}

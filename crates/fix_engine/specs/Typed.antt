@@ -1,5 +1,6 @@
 -- When the parts of a file are well typed: no name is declared twice, and each operand has a value.
-use Rattle.std.specs.Prelude.{ℕ, zero, suc, Bool, true, false, ◌&&◌, if◌then◌else◌, List, [], ◌∷◌, Some, None, is_none}
+use Rattle.std.specs.Prelude.{ℕ, zero, suc, Bool, true, false, ◌&&◌, if◌then◌else◌, List, [], ◌∷◌}
+use Rattle.std.specs.Prelude.{Some, None, is_none}
 use Rattle.fix_engine.specs.declared.outline.Operand.{Operand}
 use Rattle.fix_engine.specs.declared.outline.Constant.{Constant}
 use Rattle.fix_engine.specs.Chain.{value_named}

@@ -4,7 +4,8 @@ ghost use Rattle.std.specs.Prelude.{◌≡◌, [], ◌++◌, ◌∷◌, Some, No
 ghost use Rattle.go_tree.specs.View.{expr_of, exprs_of, stmt_of, stmts_of, const_decl_of};
 ghost use Rattle.go_tree.specs.FileView.{file_of};
 ghost use Rattle.go_tree.specs.File.{values};
-ghost use Rattle.fix_engine.specs.Read.{is_marked_at, operand_of, one_operand, constant_in, constants_in, printed, all_printed, prints_in};
+ghost use Rattle.fix_engine.specs.Read.{is_marked_at, operand_of, one_operand, constant_in, constants_in, printed};
+ghost use Rattle.fix_engine.specs.Read.{all_printed, prints_in};
 
 use go_tree::{ConstDecl, Decl, Expr, ExprList, FileTree, NoMemory, Stmt, StmtList, Text};
 use std::alloc::Global;

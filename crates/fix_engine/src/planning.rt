@@ -1,13 +1,15 @@
 //! The plan: which files to replace, and the report.
 
-ghost use Rattle.std.specs.Prelude.{◌≡◌, ◌&&◌, ◌^◌, ◌<◌, ◌≤◌, [], ◌∷◌, IfErr, IfOk, IsTrue, MatchOption, Some, bytes_eq, codes, length};
+ghost use Rattle.std.specs.Prelude.{◌≡◌, ◌&&◌, ◌^◌, ◌<◌, ◌≤◌, [], ◌∷◌, IfErr, IfOk};
+ghost use Rattle.std.specs.Prelude.{IsTrue, MatchOption, Some, bytes_eq, codes, length};
 ghost use Rattle.go_tree.specs.FileView.{file_of};
 ghost use Rattle.go_outline.specs.Outline.{IsOutlineOf, Outline, text_of, tree_of};
 ghost use Rattle.fix_engine.specs.Located.{constants_of, prints_of};
 ghost use Rattle.text_edits.specs.Applied.{Ascend};
 ghost use Rattle.fix_engine.specs.Report.{Within};
 ghost use Rattle.text_edits.specs.Keeps.{Keeps};
-ghost use Rattle.fix_engine.specs.Plan.{Module, changed_main, contents, last_outline, made, made_by, made_of, module_of, package_of, ranges_in};
+ghost use Rattle.fix_engine.specs.Plan.{Module, changed_main, contents, last_outline, made, made_by, made_of};
+ghost use Rattle.fix_engine.specs.Plan.{module_of, package_of, ranges_in};
 ghost use Rattle.go_meaning_laws.specs.Typing.{well_typed};
 ghost use Rattle.fix_engine.specs.Answer.{IsFaultOf, IsFaultOfText, IsMadeOf, IsPlanOf};
 

@@ -2,7 +2,9 @@
 
 ghost use Rattle.std.specs.Prelude.{◌≡◌, [], ◌++◌, ◌<◌, IfOk, OnOk, drop, length, map, take};
 ghost use Rattle.fix_engine.specs.Chain.{replaced_names, last_name};
-ghost use Rattle.fix_engine.specs.Settled.{constant_edits, constant_steps, edit_to, edits_next, last_if_replaced, print_edits, print_steps, settled_constants, settled_next, step_at, steps_next, steps_of};
+ghost use Rattle.fix_engine.specs.Settled.{constant_edits, constant_steps, edit_to, edits_next, last_if_replaced};
+ghost use Rattle.fix_engine.specs.Settled.{print_edits, print_steps, settled_constants, settled_next, step_at};
+ghost use Rattle.fix_engine.specs.Settled.{steps_next, steps_of};
 
 use crate::lookup::stands_for;
 use crate::outline::{Constant, Operand, copy};

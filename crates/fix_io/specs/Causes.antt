@@ -1,5 +1,6 @@
 -- What the outside counts and remembers of its failures, and why a call answers one.
-use Rattle.std.specs.Prelude.{◌≡◌, ℕ, ◌+◌, ◌-◌, ◌^◌, ◌≤◌, min, OnErr, OnOk, IsErrOf, Result, Ok, Err, Option, Some}
+use Rattle.std.specs.Prelude.{◌≡◌, ℕ, ◌+◌, ◌-◌, ◌^◌, ◌≤◌, min, OnErr, OnOk, IsErrOf, Result}
+use Rattle.std.specs.Prelude.{Ok, Err, Option, Some}
 use Rattle.fix_io.specs.declared.tree.Call.{Call}
 use Rattle.fix_io.specs.declared.tree.Failed.{Failed as Fault}
 use Rattle.fix_io.specs.declared.tree.TreeFault.{TreeFault}

@@ -1,5 +1,6 @@
 -- Writes to the files of a tree, and what they leave.
-use Rattle.std.specs.Prelude.{◌≡◌, ◌≢◌, ◌<◌, ℕ, suc, if◌then◌else◌, List, [], ◌∷◌, ◌++◌, length, take, slice_index_or}
+use Rattle.std.specs.Prelude.{◌≡◌, ◌≢◌, ◌<◌, ℕ, suc, if◌then◌else◌, List, [], ◌∷◌}
+use Rattle.std.specs.Prelude.{◌++◌, length, take, slice_index_or}
 use Rattle.std.specs.Str.{bytes_eq}
 use Rattle.fix_io.specs.Files.{HeldFile, bytes_at, with_bytes}
 

@@ -1,6 +1,7 @@
 //! A sink in memory, whose writes fail as they are told to.
 
-ghost use Rattle.std.specs.Prelude.{◌≡◌, ◌⊎◌, ◌↔◌, ◌+◌, ◌-◌, ◌<◌, ◌≤◌, [], ◌++◌, length, min, take, Contains, IfOk, OnErr, IsErr, Some, vec_len};
+ghost use Rattle.std.specs.Prelude.{◌≡◌, ◌⊎◌, ◌↔◌, ◌+◌, ◌-◌, ◌<◌, ◌≤◌, []};
+ghost use Rattle.std.specs.Prelude.{◌++◌, length, min, take, Contains, IfOk, OnErr, IsErr, Some, vec_len};
 ghost use Rattle.std.specs.Vec.{vec_capacity};
 ghost use Rattle.fix_io.specs.Causes.{HasPlainCause, one_more, plain_counted};
 

@@ -1,11 +1,14 @@
 //! A tree in memory, whose calls fail as they are told to.
 
-ghost use Rattle.std.specs.Prelude.{◌≡◌, ◌⊎◌, ◌↔◌, ◌<◌, ◌≤◌, ◌^◌, List, [], length, take, Contains, IfOk, OnOk, OnErr, IsErr, IsErrOf, IsOkUnless, vec_len, Some, None, Option, false};
+ghost use Rattle.std.specs.Prelude.{◌≡◌, ◌⊎◌, ◌↔◌, ◌<◌, ◌≤◌, ◌^◌, List, [], length};
+ghost use Rattle.std.specs.Prelude.{take, Contains, IfOk, OnOk, OnErr, IsErr, IsErrOf, IsOkUnless, vec_len, Some, None};
+ghost use Rattle.std.specs.Prelude.{Option, false};
 ghost use Rattle.std.specs.Bool.{MatchBool};
 ghost use Rattle.std.specs.List.Sorted.{IsPermutation};
 ghost use Rattle.fix_io.specs.declared.tree.Call.{Call};
 ghost use Rattle.fix_io.specs.Files.{paths, bytes_at, with_bytes, IsAscending};
-ghost use Rattle.fix_io.specs.Causes.{HasCause, HasPlainCause, last_failed, last_plain_failed, one_more, counted, plain_counted};
+ghost use Rattle.fix_io.specs.Causes.{HasCause, HasPlainCause, last_failed, last_plain_failed, one_more, counted};
+ghost use Rattle.fix_io.specs.Causes.{plain_counted};
 
 use crate::calls::Calls;
 use crate::mem_file::{MemFile, front, has_path, make_ready, put};

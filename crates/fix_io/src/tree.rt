@@ -1,6 +1,7 @@
 //! A tree of files.
 
-ghost use Rattle.std.specs.Prelude.{◌≡◌, ℕ, ◌<◌, ◌≤◌, List, [], length, take, slice_index_or, IfOk, OnOk, OnErr, IfSome, vec_len};
+ghost use Rattle.std.specs.Prelude.{◌≡◌, ℕ, ◌<◌, ◌≤◌, List, [], length, take, slice_index_or, IfOk};
+ghost use Rattle.std.specs.Prelude.{OnOk, OnErr, IfSome, vec_len};
 ghost use Rattle.std.specs.declared.option.Option.{Option};
 ghost use Rattle.std.specs.Option.{option_map};
 ghost use Rattle.fix_io.specs.declared.tree.Call.{Call};

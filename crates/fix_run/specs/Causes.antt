@@ -4,7 +4,8 @@ use Rattle.fix_io.specs.declared.Call.{Call}
 use Rattle.fix_io.specs.declared.Call.TheVariants as call
 use Rattle.fix_io.specs.Files.{HeldFile}
 use Rattle.fix_run.specs.declared.status.Status.{Status}
-use Rattle.fix_run.specs.declared.status.Status.TheVariants.{Done, Found, NoMemory, ListFault, ReadFault, Refused, WriteFault, ReportFault, Usage}
+use Rattle.fix_run.specs.declared.status.Status.TheVariants.{Done, Found, NoMemory, ListFault, ReadFault, Refused}
+use Rattle.fix_run.specs.declared.status.Status.TheVariants.{WriteFault, ReportFault, Usage}
 use Rattle.fix_run.specs.Listed.{reads_module}
 use Rattle.fix_run.specs.Refusals.{WhyRefused, told_too_long}
 use Rattle.folder_reading.specs.declared.faults.FolderFault.{FolderFault}
@@ -72,8 +73,8 @@ StopsWords words Usage = are_accepted words ≡ false
 StopsWords words NoMemory = Unit {0}
 StopsWords words _ = ⊥
 
--- Why there is no plan: the files aren't listed, or one isn't read, where the checks before it passed; they are refused,
--- and are no well-typed module of the form that is built; or there is no memory.
+-- Why there is no plan: the files aren't listed, or one isn't read, where the checks before it passed; they are
+-- refused, and are no well-typed module of the form that is built; or there is no memory.
 abbrev pub MayStop : Status → Type 0 → Option Call → List (List ℕ) → Option (List HeldFile) → Type 0
 MayStop ListFault rose failed listed held = rose × (failed ≡ Some call.List)
 MayStop (ReadFault i) rose failed listed held = rose × (failed ≡ Some (call.Read i)) × AreFew listed

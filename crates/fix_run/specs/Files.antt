@@ -19,8 +19,8 @@ read_contents files = contents_of (sources_in files)
 abbrev pub texts_of : List HeldFile → List (List ℕ)
 texts_of files = map (λ f. f.bytes) files
 
--- the bytes of files afterwards, where those that are read among all paths have these, one after another, and the others
--- their own
+-- the bytes of files afterwards, where those that are read among all paths have these, one after another, and the
+-- others their own
 abbrev pub texts_after : List (List ℕ) → List HeldFile → List (List ℕ × List ℕ) → List (List ℕ)
 texts_after all [] after = []
 texts_after all (f ∷ fs) [] = f.bytes ∷ texts_after all fs []

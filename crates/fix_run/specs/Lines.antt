@@ -4,7 +4,8 @@ use Rattle.refusals.specs.declared.refusal.Refusal.{Refusal}
 use Rattle.refusals.specs.Line as refusal
 use Rattle.module_refusals.specs.Refused.{IsBelow}
 use Rattle.fix_run.specs.declared.status.Status.{Status}
-use Rattle.fix_run.specs.declared.status.Status.TheVariants.{Done, Found, Usage, NoMemory, ListFault, ReadFault, Refused, WriteFault, ReportFault}
+use Rattle.fix_run.specs.declared.status.Status.TheVariants.{Done, Found, Usage, NoMemory, ListFault, ReadFault}
+use Rattle.fix_run.specs.declared.status.Status.TheVariants.{Refused, WriteFault, ReportFault}
 
 -- the path of the listed file that a refusal names, or nothing
 abbrev pub path_in : List (List ℕ) → Option ℕ → List ℕ

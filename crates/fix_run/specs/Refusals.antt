@@ -14,7 +14,8 @@ use Rattle.refusals.specs.declared.refusal.Refusal.{Refusal}
 abbrev pub told_too_long : ℕ → Refusal
 told_too_long i = record { file = Some i; place = None; detail = TooBig }
 
--- More files are selected than a module may have; or one of them passes a limit of bytes; or nothing is planned for them.
+-- More files are selected than a module may have; or one of them passes a limit of bytes; or nothing is planned for
+-- them.
 pub data WhyRefused (files : List HeldFile) : Refusal → Type 0 where
   too_many : MAX_FILES < length (selected (paths files)) → WhyRefused files (told_whole TooBig)
   too_long : AreFew (paths files) → (i : ℕ) → first_too_long 0 (sources_in files) ≡ Some i →

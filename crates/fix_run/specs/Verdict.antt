@@ -1,6 +1,7 @@
 -- What is answered where no fault rises and memory is there: the status, the files that are held afterwards, and the
 -- bytes that are written.
-use Rattle.std.specs.Prelude.{◌≡◌, ◌≢◌, ◌⊎◌, ⊤, ℕ, zero, suc, Bool, true, false, ◌<◌, if◌then◌else◌, List, ◌++◌, length, take, drop, Option, Some}
+use Rattle.std.specs.Prelude.{◌≡◌, ◌≢◌, ◌⊎◌, ⊤, ℕ, zero, suc, Bool, true, false, ◌<◌}
+use Rattle.std.specs.Prelude.{if◌then◌else◌, List, ◌++◌, length, take, drop, Option, Some}
 use Rattle.run_meaning.specs.Meaning.{IsInlining}
 use Rattle.refusals.specs.declared.refusal.Refusal.{Refusal}
 use Rattle.fix_io.specs.Files.{HeldFile, paths, bytes_at}
@@ -51,8 +52,8 @@ pub data IsVerdict (words : List (List ℕ)) (files : List HeldFile) : Verdict �
       IsVerdict words files (verdict_of (has_fix words) files after report steps)
 
 -- A run leads from the files that are read to others, and its report is written. With `--fix` the status is Done, those
--- others are read of the new files, and all other files stay. Without it the files stay, and the status is Found exactly
--- where the run has a step, or else Done.
+-- others are read of the new files, and all other files stay. Without it the files stay, and the status is Found
+-- exactly where the run has a step, or else Done.
 pub record IsEnd (words : List (List ℕ)) (files : List HeldFile) (v : Verdict) : Type 0 where
   pub after : List (List ℕ × List ℕ)
   pub inlined : IsInlining (read_contents files) after (only_of words) v.bytes

@@ -1,6 +1,7 @@
 //! Replacing the files that a plan changes.
 
-ghost use Rattle.std.specs.Prelude.{◌≡◌, ℕ, ◌<◌, ◌≤◌, [], length, take, slice_index_or, All, IfErr, OnOk, Some};
+ghost use Rattle.std.specs.Prelude.{◌≡◌, ℕ, ◌<◌, ◌≤◌, [], length, take, slice_index_or, All, IfErr};
+ghost use Rattle.std.specs.Prelude.{OnOk, Some};
 ghost use Rattle.std.specs.Option.{option_map};
 ghost use Rattle.fix_io.specs.declared.Call.{Call};
 ghost use Rattle.fix_io.specs.Causes.{Rose};

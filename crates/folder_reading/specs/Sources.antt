@@ -1,5 +1,5 @@
--- The files of a folder that are read (the go command's documentation, Package lists and patterns; Go Modules Reference,
--- Vendoring).
+-- The files of a folder that are read (the go command's documentation, Package lists and patterns; Go Modules
+-- Reference, Vendoring).
 use Rattle.std.specs.Prelude.{◌≡◌, ℕ, ◌+◌, List, [], map, take, slice_index_or, Option, IfSome}
 use Rattle.go_tree.specs.declared.limits.TheConstants.{MAX_FILE_BYTES}
 use Rattle.fix_io.specs.Files.{HeldFile, bytes_at, no_file, paths}

@@ -3,9 +3,9 @@ use Rattle.std.proofs.Common.{◌≡◌, refl, sym, ap, ◌∙◌, ◌⊎◌, in
 use Rattle.std.proofs.lemmas.Bool.{or_left, or_right, or_cases}
 use Rattle.std.proofs.lemmas.List.Folds.{list_any-append}
 use Rattle.go_tree.specs.Tree.{Expr, ident, call, func_lit, Exprs, no_exprs, expr_and, Stmt, inner, Stmts}
-use Rattle.scope_names.specs.FreeNames.{names_of}
+use Rattle.go_tree.specs.ScopeNames.FreeNames.{names_of}
 use Rattle.pkg_graph.specs.Package.{Package}
-use Rattle.go_types.specs.Entities.{Env}
+use Rattle.go_tree.specs.GoTypes.Entities.{Env}
 use Rattle.run_rules.specs.Surroundings.{other, Place, Seen, seen, seen_type, seen_stmt, block, after_stmt, in_literal}
 use Rattle.run_rules.specs.Places.{expr_seen, stmt_seen}
 use Rattle.run_rules.specs.Programs.{body_place}
@@ -13,13 +13,13 @@ use Rattle.run_rules.specs.Rewriting.{Changes}
 use Rattle.run_rules.specs.Sites.{MarkRef, same_mark, is_among_marks, Where}
 use Rattle.run_rules.specs.Steps.{At}
 use Rattle.run_rules.specs.Cycles.{leads_to, LeadsTo}
-use Rattle.cycle_laws.specs.PutCalls.{called_among}
-use Rattle.cycle_laws.proofs.Called.{Callees, called_by, callee, calls_expr, calls_all, calls_stmt, calls_stmts}
-use Rattle.cycle_laws.proofs.CallsBare.{stmts-calls-bare}
-use Rattle.cycle_laws.proofs.Walked.{callees, callee-is, after-bound, literal-bound, literal-place, expr-led, all-led, stmt-led, stmts-led}
-use Rattle.cycle_laws.proofs.ConstantCycles.OffCycles.{one_mark}
-use Rattle.cycle_runs.proofs.BodiesThere.Bodies.{bodies-there}
-use Rattle.cycle_runs.proofs.LiteralCalls.Through.{body-led}
+use Rattle.order_runs.specs.CycleLaws.PutCalls.{called_among}
+use Rattle.order_runs.proofs.CycleLaws.Called.{Callees, called_by, callee, calls_expr, calls_all, calls_stmt, calls_stmts}
+use Rattle.order_runs.proofs.CycleLaws.CallsBare.{stmts-calls-bare}
+use Rattle.order_runs.proofs.CycleLaws.Walked.{callees, callee-is, after-bound, literal-bound, literal-place, expr-led, all-led, stmt-led, stmts-led}
+use Rattle.order_runs.proofs.CycleLaws.ConstantCycles.OffCycles.{one_mark}
+use Rattle.order_runs.proofs.CycleRuns.BodiesThere.Bodies.{bodies-there}
+use Rattle.order_runs.proofs.CycleRuns.LiteralCalls.Through.{body-led}
 use Rattle.form_cycles.specs.Puts.{ExprCallsThrough, StatementCallsThrough, AllPutThrough}
 use Rattle.form_cycles.specs.Blocks.{AreNames, Binds, to_new_names, to_blanks, Bound, bound_by, nothing_bound, Holds, is_it, returns_it, HasBody, NamesFunction, CallsArguments, IsBlockOf, IsLiteralWith, AllPutFunction}
 

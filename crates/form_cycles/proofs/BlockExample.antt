@@ -13,8 +13,8 @@ use Rattle.run_rules.specs.Programs.{body_place}
 use Rattle.run_rules.specs.Sites.{MarkRef, Where}
 use Rattle.run_rules.specs.Steps.{At}
 use Rattle.run_rules.proofs.CaseTools.{mark, param, sig}
-use Rattle.cycle_laws.specs.PutCalls.{called_among}
-use Rattle.cycle_laws.proofs.ConstantCycles.Examples.{node}
+use Rattle.order_runs.specs.CycleLaws.PutCalls.{called_among}
+use Rattle.order_runs.proofs.CycleLaws.ConstantCycles.Examples.{node}
 use Rattle.form_cycles.specs.Puts.{StatementCallsThrough}
 use Rattle.form_cycles.specs.Blocks.{to_new_names, bound_by, is_it, NamesFunction, IsBlockOf, IsLiteralWith}
 use Rattle.form_cycles.proofs.BlockCalls.{block-through}

@@ -12,27 +12,27 @@ use Rattle.run_rules.specs.Respanned.{decls_with}
 use Rattle.run_rules.specs.Sites.{MarkRef, Site}
 use Rattle.run_rules.specs.Steps.{At, same_here, change_nth, with_file}
 use Rattle.run_rules.specs.Run.{Standing, Logged, Next, here_of, origin_of}
-use Rattle.run_laws.proofs.FoundSpans.{Placed}
+use Rattle.splice_laws.proofs.RunLaws.FoundSpans.{Placed}
 use Rattle.typed_in_place.specs.ProgramsAlike.{OneByOne, no_more, and_more}
 use Rattle.typed_in_place.proofs.ProgramsReplaced.{one_by_one}
 use Rattle.typed_in_place.specs.SameWorlds.SameWorlds.{SameWorld}
-use Rattle.cycle_laws.specs.PutCalls.{GivesWayAmong, mark_there}
-use Rattle.cycle_laws.proofs.StepsLead.{change-at}
-use Rattle.cycle_laws.proofs.BareWith as spans
-use Rattle.cycle_runs.specs.StepCycles.PackagesAlike.{DeclAlike}
-use Rattle.cycle_runs.proofs.StepCycles.StepAlike.{both-changed, changed-alike, all-from-origins, file-itself, new-alike}
-use Rattle.cycle_runs.proofs.StepCycles.WorldStays.{FileSpans, PackageSpans, spans-world}
-use Rattle.cycle_runs.specs.ImportCycles.OtherImports.{PackagesBeside, import_path, FileUnder}
-use Rattle.cycle_runs.specs.ImportCycles.ImportSteps.{file_added, packages_added, where_added, decl_put, DeclaresAlike, calls_added, SettlesImports}
-use Rattle.cycle_runs.proofs.ImportCycles.FreeIdentifiers.{looked-up-within}
-use Rattle.cycle_runs.proofs.ImportCycles.ImportStep.{twice, placed, put-beside, decls-are}
-use Rattle.cycle_runs.proofs.ImportCycles.ImportsAdded.{path-stays, new-names-read, settled-names-read}
-use Rattle.cycle_runs.specs.OrderCycles.Orders.{AllOrdered, PackagesUnder}
-use Rattle.cycle_runs.specs.OrderCycles.Steps.{site_added, PutsTheSame, KeepsImportNames}
-use Rattle.cycle_runs.proofs.OrderCycles.Orders.{worlds-then, equal-worlds, orders-declare}
-use Rattle.cycle_runs.proofs.OrderCycles.StepAdded.{PackageBy, package-itself, under-of, added-declare, puts-the-same}
-use Rattle.cycle_runs.proofs.OrderCycles.StepSettled.{ordered-alike}
-use Rattle.cycle_runs.proofs.FoundUses.NoRecursive.{step-off}
+use Rattle.order_runs.specs.CycleLaws.PutCalls.{GivesWayAmong, mark_there}
+use Rattle.order_runs.proofs.CycleLaws.StepsLead.{change-at}
+use Rattle.order_runs.proofs.CycleLaws.BareWith as spans
+use Rattle.order_runs.specs.CycleRuns.StepCycles.PackagesAlike.{DeclAlike}
+use Rattle.order_runs.proofs.CycleRuns.StepCycles.StepAlike.{both-changed, changed-alike, all-from-origins, file-itself, new-alike}
+use Rattle.order_runs.proofs.CycleRuns.StepCycles.WorldStays.{FileSpans, PackageSpans, spans-world}
+use Rattle.order_runs.specs.CycleRuns.ImportCycles.OtherImports.{PackagesBeside, import_path, FileUnder}
+use Rattle.order_runs.specs.CycleRuns.ImportCycles.ImportSteps.{file_added, packages_added, where_added, decl_put, DeclaresAlike, calls_added, SettlesImports}
+use Rattle.order_runs.proofs.CycleRuns.ImportCycles.FreeIdentifiers.{looked-up-within}
+use Rattle.order_runs.proofs.CycleRuns.ImportCycles.ImportStep.{twice, placed, put-beside, decls-are}
+use Rattle.order_runs.proofs.CycleRuns.ImportCycles.ImportsAdded.{path-stays, new-names-read, settled-names-read}
+use Rattle.order_runs.specs.CycleRuns.OrderCycles.Orders.{AllOrdered, PackagesUnder}
+use Rattle.order_runs.specs.CycleRuns.OrderCycles.Steps.{site_added, PutsTheSame, KeepsImportNames}
+use Rattle.order_runs.proofs.CycleRuns.OrderCycles.Orders.{worlds-then, equal-worlds, orders-declare}
+use Rattle.order_runs.proofs.CycleRuns.OrderCycles.StepAdded.{PackageBy, package-itself, under-of, added-declare, puts-the-same}
+use Rattle.order_runs.proofs.CycleRuns.OrderCycles.StepSettled.{ordered-alike}
+use Rattle.order_runs.proofs.CycleRuns.FoundUses.NoRecursive.{step-off}
 use Rattle.form_cycles.specs.Bodies.{ChangesBody, changes_of, decl_added, DeclGivesWay}
 use Rattle.form_cycles.proofs.BodyWorld.{receiver-stays, body-world}
 

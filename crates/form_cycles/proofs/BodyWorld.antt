@@ -4,29 +4,29 @@ use Rattle.std.specs.Prelude.{slice_get}
 use Rattle.std.proofs.lemmas.Option.{same_Some}
 use Rattle.go_tree.specs.Tree.{TypeExpr, Stmts}
 use Rattle.go_tree.specs.File.{Receiver, Func, Decl, func, File}
-use Rattle.scope_names.specs.Means.{Environment}
+use Rattle.go_tree.specs.ScopeNames.Means.{Environment}
 use Rattle.pkg_graph.specs.Package.{SourceTree, Package}
-use Rattle.go_types.specs.Entities.{Entity, World, Env}
-use Rattle.go_types.specs.TypeNames.{resolved}
-use Rattle.go_types.specs.Programs.{Header, a_func, Program, headed, headers}
-use Rattle.go_types.specs.Collect.{file_env, aliased_world, types_declared, typed_world, valued_world}
+use Rattle.go_tree.specs.GoTypes.Entities.{Entity, World, Env}
+use Rattle.go_tree.specs.GoTypes.TypeNames.{resolved}
+use Rattle.go_tree.specs.GoTypes.Programs.{Header, a_func, Program, headed, headers}
+use Rattle.go_tree.specs.GoTypes.Collect.{file_env, aliased_world, types_declared, typed_world, valued_world}
 use Rattle.typed_in_place.specs.Replaced.{TypeReplaced}
 use Rattle.typed_in_place.specs.ProgramsAlike.{OneByOne, no_more, and_more, AliasesStand, TypesStand, ValuesStand, DeclareAlike}
 use Rattle.typed_in_place.specs.HeaderReplaced.{SpecsIn, types_of_func, SameReceiver, HeaderIn, in_func}
 use Rattle.typed_in_place.proofs.Collected.{same_collected}
 use Rattle.typed_in_place.proofs.ProgramsReplaced.{one_by_one, replaced_aliases_stand, replaced_types_stand, replaced_values_stand}
-use Rattle.constant_steps.specs.StepLaws.DeclStands.{ProgramBy, ResolvedAlike, TypesAlike, ValuesAlike}
-use Rattle.constant_steps.proofs.StepLaws.DeclChanged.{DeclBy, receiver_itself, resolved_itself, types_itself, values_itself}
-use Rattle.constant_steps.proofs.StepLaws.StepInPlace.{names-stand, names-declared, program-by, same-packages}
+use Rattle.splice_laws.specs.ConstantSteps.StepLaws.DeclStands.{ProgramBy, ResolvedAlike, TypesAlike, ValuesAlike}
+use Rattle.splice_laws.proofs.ConstantSteps.StepLaws.DeclChanged.{DeclBy, receiver_itself, resolved_itself, types_itself, values_itself}
+use Rattle.splice_laws.proofs.ConstantSteps.StepLaws.StepInPlace.{names-stand, names-declared, program-by, same-packages}
 use Rattle.run_rules.specs.Programs.{linked, top_place, world}
 use Rattle.run_rules.specs.Rewriting.{Changes}
 use Rattle.run_rules.specs.Sites.{Site, part_span}
 use Rattle.run_rules.specs.FormTrees.{Form}
 use Rattle.run_rules.specs.Steps.{At, same_here, change_nth, changes_for, new_decl}
-use Rattle.cycle_runs.specs.StepCycles.PackagesAlike.{FileAlike, PackageAlike, PackagesAlike}
-use Rattle.cycle_runs.specs.StepCycles.Steps.{packages_put, imports_there}
-use Rattle.cycle_runs.proofs.StepCycles.PutProgram.{package-put, program-put}
-use Rattle.cycle_runs.proofs.StepCycles.StepAlike.{ReceiverStays, one-changed, changed-alike, file-itself, package-itself, new-alike}
+use Rattle.order_runs.specs.CycleRuns.StepCycles.PackagesAlike.{FileAlike, PackageAlike, PackagesAlike}
+use Rattle.order_runs.specs.CycleRuns.StepCycles.Steps.{packages_put, imports_there}
+use Rattle.order_runs.proofs.CycleRuns.StepCycles.PutProgram.{package-put, program-put}
+use Rattle.order_runs.proofs.CycleRuns.StepCycles.StepAlike.{ReceiverStays, one-changed, changed-alike, file-itself, package-itself, new-alike}
 use Rattle.form_cycles.specs.Bodies.{IsNoType}
 use Rattle.form_cycles.proofs.DeclPut.{receiver-same, put_in, func-put}
 

@@ -10,9 +10,9 @@ use Rattle.run_rules.specs.Rewriting.{Changes, new_stmts}
 use Rattle.run_rules.specs.Sites.{MarkRef, Where}
 use Rattle.run_rules.specs.FormTrees.{Form}
 use Rattle.run_rules.specs.Steps.{changes_for, name_in, new_receiver_option, new_decl}
-use Rattle.cycle_laws.specs.PutCalls.{GivesWayAmong, mark_there, called_among}
-use Rattle.cycle_laws.proofs.Gives.{gives-eq, gives-then}
-use Rattle.cycle_laws.proofs.Walked.{app, type-led, sig-led}
+use Rattle.order_runs.specs.CycleLaws.PutCalls.{GivesWayAmong, mark_there, called_among}
+use Rattle.order_runs.proofs.CycleLaws.Gives.{gives-eq, gives-then}
+use Rattle.order_runs.proofs.CycleLaws.Walked.{app, type-led, sig-led}
 use Rattle.form_cycles.specs.Bodies.{IsNoType}
 use Rattle.form_cycles.proofs.BodiesPut.{type-stays, sig-same}
 

@@ -19,9 +19,9 @@ use Rattle.run_rules.specs.FormTrees.{Form, as_block}
 use Rattle.run_rules.specs.Steps.{At, same_here, changes_for}
 use Rattle.run_rules.specs.Cycles.{LeadsTo}
 use Rattle.run_rules.proofs.CaseTools.{mark, sig}
-use Rattle.cycle_laws.specs.PutCalls.{GivesWayAmong, mark_there, called_among}
-use Rattle.cycle_laws.proofs.ConstantCycles.Examples.{node}
-use Rattle.cycle_laws.proofs.ConstantCycles.OffCycles.{one_mark}
+use Rattle.order_runs.specs.CycleLaws.PutCalls.{GivesWayAmong, mark_there, called_among}
+use Rattle.order_runs.proofs.CycleLaws.ConstantCycles.Examples.{node}
+use Rattle.order_runs.proofs.CycleLaws.ConstantCycles.OffCycles.{one_mark}
 use Rattle.form_cycles.specs.Puts.{StatementCallsThrough, AllPutThrough}
 use Rattle.form_cycles.proofs.BodiesPut.{statements-give}
 

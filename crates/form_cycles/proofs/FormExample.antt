@@ -18,9 +18,9 @@ use Rattle.run_rules.specs.Steps.{At, Found, same_here, changes_for, first_step}
 use Rattle.run_rules.specs.Cycles.{LeadsTo, is_recursive}
 use Rattle.run_rules.proofs.CaseTools.{mark, param, sig}
 use Rattle.run_rules.proofs.Instances.{the}
-use Rattle.cycle_laws.specs.PutCalls.{GivesWayAmong, mark_there, called_among}
-use Rattle.cycle_laws.proofs.ConstantCycles.Examples.{node}
-use Rattle.cycle_laws.proofs.ConstantCycles.OffCycles.{one_mark}
+use Rattle.order_runs.specs.CycleLaws.PutCalls.{GivesWayAmong, mark_there, called_among}
+use Rattle.order_runs.proofs.CycleLaws.ConstantCycles.Examples.{node}
+use Rattle.order_runs.proofs.CycleLaws.ConstantCycles.OffCycles.{one_mark}
 use Rattle.form_cycles.specs.Puts.{ExprCallsThrough, AllPutThrough}
 use Rattle.form_cycles.proofs.BodiesPut.{statements-give}
 

@@ -5,7 +5,7 @@ use Rattle.std.proofs.lemmas.Option.{same_Some}
 use Rattle.go_tree.specs.Tree.{Expr}
 use Rattle.go_tree.specs.File.{Func, Decl, func}
 use Rattle.pkg_graph.specs.Package.{Package}
-use Rattle.go_types.specs.Answers.{meets}
+use Rattle.go_tree.specs.GoTypes.Answers.{meets}
 use Rattle.run_rules.specs.Surroundings.{Place}
 use Rattle.run_rules.specs.Places.{stmts_seen}
 use Rattle.run_rules.specs.Programs.{body_place, decl_seen}
@@ -15,20 +15,20 @@ use Rattle.run_rules.specs.FormTrees.{Form, as_expr}
 use Rattle.run_rules.specs.Steps.{At, same_here, changes_for}
 use Rattle.run_rules.specs.Cycles.{LeadsTo, is_recursive}
 use Rattle.run_rules.specs.Run.{Standing, Logged, Next, Run, ends, goes_on}
-use Rattle.cycle_laws.specs.PutCalls.{GivesWayAmong, mark_there, called_among}
-use Rattle.cycle_laws.specs.PutSteps.{KeepsStatements, ReadCallsAlikeIn}
-use Rattle.cycle_laws.proofs.DeclCalls.{decl-kept}
-use Rattle.cycle_runs.specs.ImportCycles.ImportSteps.{file_added, packages_added, where_added, calls_added}
-use Rattle.cycle_runs.specs.OrderCycles.Steps.{KeepsImportNames}
-use Rattle.cycle_runs.specs.Linked.{Linked, SettlesFile, CallsWhatStood}
-use Rattle.cycle_runs.proofs.ImportCycles.ImportStep.{added-same, imports-kept}
-use Rattle.cycle_runs.proofs.ImportCycles.ImportsAdded.{new-names-read}
-use Rattle.cycle_runs.proofs.ImportCycles.LeadAlike.{same-beside}
-use Rattle.cycle_runs.proofs.ImportCycles.NamesReadAlike.{identifiers-read-alike}
-use Rattle.cycle_runs.proofs.OrderCycles.StepAdded.{added-declare}
-use Rattle.cycle_runs.proofs.StepCycles.CallsKept.{step-led}
-use Rattle.cycle_runs.proofs.Leads.{still-leads, through-alike}
-use Rattle.cycle_runs.proofs.Runs.{step-names, step-linked, writes-of, one-step}
+use Rattle.order_runs.specs.CycleLaws.PutCalls.{GivesWayAmong, mark_there, called_among}
+use Rattle.order_runs.specs.CycleLaws.PutSteps.{KeepsStatements, ReadCallsAlikeIn}
+use Rattle.order_runs.proofs.CycleLaws.DeclCalls.{decl-kept}
+use Rattle.order_runs.specs.CycleRuns.ImportCycles.ImportSteps.{file_added, packages_added, where_added, calls_added}
+use Rattle.order_runs.specs.CycleRuns.OrderCycles.Steps.{KeepsImportNames}
+use Rattle.order_runs.specs.CycleRuns.Linked.{Linked, SettlesFile, CallsWhatStood}
+use Rattle.order_runs.proofs.CycleRuns.ImportCycles.ImportStep.{added-same, imports-kept}
+use Rattle.order_runs.proofs.CycleRuns.ImportCycles.ImportsAdded.{new-names-read}
+use Rattle.order_runs.proofs.CycleRuns.ImportCycles.LeadAlike.{same-beside}
+use Rattle.order_runs.proofs.CycleRuns.ImportCycles.NamesReadAlike.{identifiers-read-alike}
+use Rattle.order_runs.proofs.CycleRuns.OrderCycles.StepAdded.{added-declare}
+use Rattle.order_runs.proofs.CycleRuns.StepCycles.CallsKept.{step-led}
+use Rattle.order_runs.proofs.CycleRuns.Leads.{still-leads, through-alike}
+use Rattle.order_runs.proofs.CycleRuns.Runs.{step-names, step-linked, writes-of, one-step}
 use Rattle.form_cycles.specs.Bodies.{StandsInFunction, changes_of, decl_added, ChangesBody, DeclGivesWay, StandsThere}
 use Rattle.form_cycles.specs.Puts.{PutsInBody}
 use Rattle.form_cycles.specs.Blocks.{PutsFunctionInBody}

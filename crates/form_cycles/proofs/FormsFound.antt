@@ -15,15 +15,15 @@ use Rattle.go_tree.specs.declared.operators.BinOp.TheVariants.{Add, Gt}
 use Rattle.go_tree.specs.Tree.{NameAt, named, ident, int_lit, str_lit, call, binary, no_exprs, expr_and, eval, define, return_, if_, defer, no_stmts, stmt_and, no_stmt, no_block, no_arms, arm}
 use Rattle.go_tree.specs.File.{File}
 use Rattle.pkg_graph.specs.Package.{Package}
-use Rattle.go_types.specs.Answers.{given}
+use Rattle.go_tree.specs.GoTypes.Answers.{given}
 use Rattle.run_rules.specs.Programs.{decl_seen}
 use Rattle.run_rules.specs.Sites.{MarkRef, Site, part_span, sites}
 use Rattle.run_rules.specs.Reduced.{Reduced, becomes, kept, reduced}
 use Rattle.run_rules.specs.FormTrees.{FormKind, ExprForm, BlockForm, TailForm, LiteralForm, Form, as_dropped}
 use Rattle.run_rules.specs.Steps.{At, same_here, changes_for, new_decl}
 use Rattle.run_rules.proofs.CaseTools.{mark, param, sig, fn}
-use Rattle.cycle_laws.specs.PutCalls.{called_among}
-use Rattle.cycle_laws.proofs.ConstantCycles.Examples.{node}
+use Rattle.order_runs.specs.CycleLaws.PutCalls.{called_among}
+use Rattle.order_runs.proofs.CycleLaws.ConstantCycles.Examples.{node}
 
 abbrev name_of : ℕ → List ℕ → NameAt At
 name_of s n = record { span = node s; name = n }

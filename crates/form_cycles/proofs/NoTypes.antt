@@ -4,7 +4,7 @@ use Rattle.std.proofs.lemmas.Option.{same_Some}
 use Rattle.go_tree.specs.Tree.{Expr}
 use Rattle.go_tree.specs.File.{Func}
 use Rattle.pkg_graph.specs.Package.{Package}
-use Rattle.go_types.specs.Answers.{given, meets}
+use Rattle.go_tree.specs.GoTypes.Answers.{given, meets}
 use Rattle.run_rules.specs.Sites.{MarkRef, Where, Inlinable, a_constant, an_alias, a_function, is_function, Part, an_expr, a_type_part, Site, where_is, inlinable}
 use Rattle.run_rules.specs.Naming.{Named, Names, names_by}
 use Rattle.run_rules.specs.Calls.{Call, chosen}
@@ -15,7 +15,7 @@ use Rattle.run_rules.specs.Obstacles.{Obstacle}
 use Rattle.run_rules.specs.Reduced.{Reduced, becomes, kept, range_of, call_at, call_obstacle, names_in_form, first_free, kept_by, reduced_to, reduced_call, reduced_function, reduced_in, reduced}
 use Rattle.run_rules.specs.Steps.{At, same_here}
 use Rattle.run_rules.specs.Run.{Standing, Logged, Next, is_commented}
-use Rattle.cycle_runs.proofs.FoundUses.NoRecursive.{step-form}
+use Rattle.order_runs.proofs.CycleRuns.FoundUses.NoRecursive.{step-form}
 use Rattle.form_cycles.specs.Bodies.{IsNoType}
 
 put-no-type : (a f : Form At) → IsNoType a → ◌≡◌ {A = Option (Form At)} (Some a) (Some f) → IsNoType f

@@ -3,14 +3,15 @@
 -- Function literals; Short variable declarations; Assignment statements).
 use Rattle.std.specs.Prelude.{◌≡◌, ℕ, true, List, [], ◌∷◌, ◌++◌, Some, None, slice_get}
 use Rattle.go_tree.specs.declared.exprs.Rest.{Rest}
-use Rattle.go_tree.specs.Tree.{NameAt, Sig, Expr, ident, call, func_lit, Exprs, no_exprs, expr_and, Stmt, eval, define, assign, inner, return_, Stmts, stmt_and}
+use Rattle.go_tree.specs.Tree.{NameAt, Sig, Expr, ident, call, func_lit, Exprs, no_exprs, expr_and, Stmt, eval, define}
+use Rattle.go_tree.specs.Tree.{assign, inner, return_, Stmts, stmt_and}
 use Rattle.go_tree.specs.File.{Func, func}
 use Rattle.go_tree.specs.Bare.{bare_stmts}
-use Rattle.scope_names.specs.Means.{Environment}
-use Rattle.scope_names.specs.Identifiers.{stmts_identifiers}
+use Rattle.go_tree.specs.ScopeNames.Means.{Environment}
+use Rattle.go_tree.specs.ScopeNames.Identifiers.{stmts_identifiers}
 use Rattle.pkg_graph.specs.Package.{Package}
-use Rattle.go_types.specs.Answers.{meets}
-use Rattle.go_types.specs.Entities.{Entity}
+use Rattle.go_tree.specs.GoTypes.Answers.{meets}
+use Rattle.go_tree.specs.GoTypes.Entities.{Entity}
 use Rattle.run_rules.specs.Surroundings.{other, Place, Seen, seen, seen_type, seen_stmt, block, after_stmt, in_literal}
 use Rattle.run_rules.specs.Places.{expr_seen, all_seen, stmts_seen}
 use Rattle.run_rules.specs.Rewriting.{Changes}
@@ -18,9 +19,9 @@ use Rattle.run_rules.specs.Programs.{body_place}
 use Rattle.run_rules.specs.Sites.{MarkRef, Where, where_is, inlinable, is_function, called_mark}
 use Rattle.run_rules.specs.Steps.{At}
 use Rattle.run_rules.specs.Run.{Standing, Logged, Next}
-use Rattle.cycle_laws.specs.PutCalls.{called_among}
-use Rattle.cycle_runs.specs.ImportCycles.ImportSteps.{file_added, packages_added, where_added}
-use Rattle.cycle_runs.specs.BodiesThere.There.{AllCalledSo, PlaceThere}
+use Rattle.order_runs.specs.CycleLaws.PutCalls.{called_among}
+use Rattle.order_runs.specs.CycleRuns.ImportCycles.ImportSteps.{file_added, packages_added, where_added}
+use Rattle.order_runs.specs.CycleRuns.BodiesThere.There.{AllCalledSo, PlaceThere}
 use Rattle.form_cycles.specs.Bodies.{changes_of}
 use Rattle.form_cycles.specs.Puts.{CalleeStays, StatementStays}
 

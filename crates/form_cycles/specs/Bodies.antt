@@ -3,15 +3,15 @@
 use Rattle.std.specs.Prelude.{◌≡◌, List, Some, slice_get}
 use Rattle.go_tree.specs.File.{Func, Decl, func}
 use Rattle.pkg_graph.specs.Package.{Package}
-use Rattle.constant_steps.specs.StepLaws.DeclStands.{DeclStands}
+use Rattle.splice_laws.specs.ConstantSteps.StepLaws.DeclStands.{DeclStands}
 use Rattle.run_rules.specs.Programs.{top_place, body_place}
 use Rattle.run_rules.specs.Rewriting.{Changes}
 use Rattle.run_rules.specs.Sites.{MarkRef, part_span}
 use Rattle.run_rules.specs.FormTrees.{Form, as_type}
 use Rattle.run_rules.specs.Steps.{At, Found, same_here, changes_for, new_decl}
 use Rattle.run_rules.specs.Run.{Standing, Logged, Next}
-use Rattle.cycle_laws.specs.PutCalls.{GivesWayAmong, mark_there}
-use Rattle.cycle_runs.specs.ImportCycles.ImportSteps.{file_added, packages_added, where_added, calls_added}
+use Rattle.order_runs.specs.CycleLaws.PutCalls.{GivesWayAmong, mark_there}
+use Rattle.order_runs.specs.CycleRuns.ImportCycles.ImportSteps.{file_added, packages_added, where_added, calls_added}
 
 -- the form is no type
 abbrev pub IsNoType : {S : Type 0} → Form S → Type 0

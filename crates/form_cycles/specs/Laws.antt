@@ -5,7 +5,7 @@ use Rattle.go_tree.specs.declared.spans.Span.{Span}
 use Rattle.go_tree.specs.Tree.{Expr, Stmt, Stmts}
 use Rattle.pkg_graph.specs.Package.{Package}
 use Rattle.pkg_graph.specs.Reads.{Source}
-use Rattle.go_types.specs.Answers.{meets}
+use Rattle.go_tree.specs.GoTypes.Answers.{meets}
 use Rattle.typed_in_place.specs.SameWorlds.SameWorlds.{SameWorld}
 use Rattle.run_rules.specs.Surroundings.{Place}
 use Rattle.run_rules.specs.Places.{stmts_seen}
@@ -18,10 +18,10 @@ use Rattle.run_rules.specs.Steps.{At, changes_for}
 use Rattle.run_rules.specs.Cycles.{LeadsTo, is_recursive}
 use Rattle.run_rules.specs.Run.{Standing, Logged, Next, Run}
 use Rattle.run_rules.specs.Inlining.{ModuleReads, standing_as_read}
-use Rattle.cycle_laws.specs.PutCalls.{GivesWayAmong, mark_there, called_among}
-use Rattle.cycle_runs.specs.ImportCycles.ImportSteps.{SettlesImports}
-use Rattle.cycle_runs.specs.OrderCycles.Steps.{KeepsImportNames}
-use Rattle.cycle_runs.specs.Linked.{Linked, SettlesFile, CallsWhatStood}
+use Rattle.order_runs.specs.CycleLaws.PutCalls.{GivesWayAmong, mark_there, called_among}
+use Rattle.order_runs.specs.CycleRuns.ImportCycles.ImportSteps.{SettlesImports}
+use Rattle.order_runs.specs.CycleRuns.OrderCycles.Steps.{KeepsImportNames}
+use Rattle.order_runs.specs.CycleRuns.Linked.{Linked, SettlesFile, CallsWhatStood}
 use Rattle.form_cycles.specs.Bodies.{IsNoType, StandsInFunction, ChangesBody, DeclGivesWay, StandsThere}
 use Rattle.form_cycles.specs.Puts.{ExprCallsThrough, StatementCallsThrough, AllPutThrough, PutsInBody}
 use Rattle.form_cycles.specs.Blocks.{IsBlockOf, IsLiteralWith, PutsFunctionInBody}

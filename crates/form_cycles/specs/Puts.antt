@@ -5,17 +5,20 @@ use Rattle.std.specs.Prelude.{◌≡◌, ℕ, ◌⊎◌, true, false, List, [], 
 use Rattle.go_tree.specs.Tree.{Expr, call, Stmt, const_decl, var_decl, define, range_, ValueSpecs, no_specs, spec}
 use Rattle.go_tree.specs.File.{Func, func}
 use Rattle.pkg_graph.specs.Package.{Package}
-use Rattle.go_types.specs.Declarations.{nothing_to_repeat}
-use Rattle.run_rules.specs.Surroundings.{whole, called, other, Place, Seen, seen, seen_type, seen_stmt, alike, value_use, inner_slot, callee_place, after_stmt, in_heading, plain_slot, ranged, after_variables}
+use Rattle.go_tree.specs.GoTypes.Declarations.{nothing_to_repeat}
+use Rattle.run_rules.specs.Surroundings.{whole, called, other, Place, Seen, seen, seen_type, seen_stmt, alike}
+use Rattle.run_rules.specs.Surroundings.{value_use, inner_slot, callee_place, after_stmt, in_heading, plain_slot}
+use Rattle.run_rules.specs.Surroundings.{ranged, after_variables}
 use Rattle.run_rules.specs.Places.{expr_seen, stmt_seen, stmts_seen}
 use Rattle.run_rules.specs.Programs.{body_place}
-use Rattle.run_rules.specs.Rewriting.{Changes, new_names, new_written, new_expr, new_all, new_left, new_constants, new_variables}
+use Rattle.run_rules.specs.Rewriting.{Changes, new_names, new_written, new_expr, new_all, new_left, new_constants}
+use Rattle.run_rules.specs.Rewriting.{new_variables}
 use Rattle.run_rules.specs.Sites.{MarkRef, is_among_marks, Where, called_mark}
 use Rattle.run_rules.specs.Cycles.{LeadsTo}
 use Rattle.run_rules.specs.Steps.{At}
 use Rattle.run_rules.specs.Run.{Standing, Logged, Next}
-use Rattle.cycle_laws.specs.PutCalls.{called_among}
-use Rattle.cycle_runs.specs.ImportCycles.ImportSteps.{file_added, packages_added, where_added}
+use Rattle.order_runs.specs.CycleLaws.PutCalls.{called_among}
+use Rattle.order_runs.specs.CycleRuns.ImportCycles.ImportSteps.{file_added, packages_added, where_added}
 use Rattle.form_cycles.specs.Bodies.{changes_of}
 
 -- Of two lists of functions that are called: what is in the first is in the second, or m calls it; what is in the

@@ -3,7 +3,7 @@
 use Rattle.std.specs.Prelude.{List}
 use Rattle.run_rules.specs.Sites.{MarkRef}
 use Rattle.run_rules.specs.Run.{Standing, Logged, Next, Run, ends, goes_on}
-use Rattle.cycle_runs.specs.Linked.{SettlesFile, PutsWhatStood}
+use Rattle.order_runs.specs.CycleRuns.Linked.{SettlesFile, PutsWhatStood}
 use Rattle.form_cycles.specs.Bodies.{ChangesBody, DeclGivesWay}
 
 -- A step's form has the facts of what stood there, wherever it stands, and calls it, but that what was used gives way;

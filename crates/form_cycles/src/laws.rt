@@ -2,7 +2,7 @@
 
 ghost use Rattle.form_cycles.specs.Laws as law;
 
-use cycle_runs::packages_stay_linked;
+use order_runs::cycle_runs::packages_stay_linked;
 
 /// A step in the body of a function, whatever its form is, leaves what the packages declare as it was.
 /// So it keeps which marked functions lie on a cycle, if the function calls what it called, but that

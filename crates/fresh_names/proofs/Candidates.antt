@@ -2,8 +2,8 @@
 use Rattle.std.proofs.Common.{◌≡◌, refl, sym, ap, ◌∙◌, ℕ, zero, suc, ◌+◌, ◌<◌, ◌≤◌, Bool, true, false, ◌||◌, bytes_eq, List, [], ◌∷◌, ◌++◌, length, if◌then◌else◌, arith}
 use Rattle.std.specs.Prelude.{decimal}
 use Rattle.std.proofs.lemmas.List.{append_cancel_left, length-append}
-use Rattle.go_words.specs.Tokens.Pieces.{is_among}
-use Rattle.scope_names.specs.Fresh.{candidate}
+use Rattle.go_tree.specs.GoWords.Tokens.Pieces.{is_among}
+use Rattle.go_tree.specs.ScopeNames.Fresh.{candidate}
 use Rattle.import_rules.proofs.NeededMeans.{same_name}
 use Rattle.fresh_names.proofs.Decimals.{told_apart, some-digit, all-differ, Told, told}
 

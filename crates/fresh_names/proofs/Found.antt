@@ -3,10 +3,10 @@ use Rattle.std.proofs.Common.{◌≡◌, ◌≢◌, refl, sym, ap, ◌∙◌, �
 use Rattle.std.proofs.lemmas.Bool.{eqb-true, eqb-false, cases_lt}
 use Rattle.std.proofs.lemmas.List.{length-append}
 use Rattle.go_tree.specs.File.{File}
-use Rattle.go_words.specs.Tokens.Pieces.{keyword_spellings, is_among}
-use Rattle.scope_names.specs.Identifiers.{identifiers}
-use Rattle.scope_names.specs.Means.{predeclared}
-use Rattle.scope_names.specs.Fresh.{candidate, is_new, IsFirst, IsFresh}
+use Rattle.go_tree.specs.GoWords.Tokens.Pieces.{keyword_spellings, is_among}
+use Rattle.go_tree.specs.ScopeNames.Identifiers.{identifiers}
+use Rattle.go_tree.specs.ScopeNames.Means.{predeclared}
+use Rattle.go_tree.specs.ScopeNames.Fresh.{candidate, is_new, IsFirst, IsFresh}
 use Rattle.import_rules.proofs.NeededMeans.{any_append, own_eq}
 use Rattle.import_rules.specs.Needs.{serving, avoided, IsNeeded, there, new}
 use Rattle.pkg_graph.specs.Package.{Package}

@@ -2,8 +2,8 @@
 -- Import declarations).
 use Rattle.std.specs.Prelude.{◌≡◌, ℕ, ◌≤◌, ◌+◌, ◌^◌, true, false, List, length}
 use Rattle.go_tree.specs.File.{File}
-use Rattle.go_words.specs.Tokens.Pieces.{is_among}
-use Rattle.scope_names.specs.Fresh.{candidate, is_new, IsFresh}
+use Rattle.go_tree.specs.GoWords.Tokens.Pieces.{is_among}
+use Rattle.go_tree.specs.ScopeNames.Fresh.{candidate, is_new, IsFresh}
 use Rattle.pkg_graph.specs.Package.{Package}
 use Rattle.import_rules.specs.Needs.{avoided, IsNeeded}
 use Rattle.run_rules.specs.Surroundings.{Place}

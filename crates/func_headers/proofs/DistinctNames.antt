@@ -4,15 +4,15 @@ use Rattle.std.specs.List.{list_all, list_any}
 use Rattle.std.proofs.lemmas.Slice.Eq.{bytes_eq-Decides}
 use Rattle.go_tree.specs.declared.spans.Span.{Span}
 use Rattle.go_tree.specs.Tree.{NameAt, Param}
-use Rattle.scope_names.specs.Means.{is_blank, means}
-use Rattle.scope_names.specs.FreeNames.{name_then, params_names}
-use Rattle.go_types.specs.Answers.{distinct_by, is_among}
-use Rattle.go_types.specs.Declarations.{names_once, not_blank}
+use Rattle.go_tree.specs.ScopeNames.Means.{is_blank, means}
+use Rattle.go_tree.specs.ScopeNames.FreeNames.{name_then, params_names}
+use Rattle.go_tree.specs.GoTypes.Answers.{distinct_by, is_among}
+use Rattle.go_tree.specs.GoTypes.Declarations.{names_once, not_blank}
 use Rattle.typed_names.specs.declared.entities.Entity.{Entity}
 use Rattle.typed_names.specs.Meanings.{Names}
 use Rattle.typed_names.proofs.NameLaws.{turned}
-use Rattle.type_exprs.specs.Fields.{are_new, NamesSeen}
-use Rattle.type_exprs.proofs.NewNames.{name_again, name_seen, names_start}
+use Rattle.typed_names.specs.TypeExprs.Fields.{are_new, NamesSeen}
+use Rattle.typed_names.proofs.TypeExprs.NewNames.{name_again, name_seen, names_start}
 use Rattle.package_blocks.proofs.HeaderLemmas.{append_none}
 use Rattle.func_headers.specs.Names.{AddsNames, NamesAfter, NamesLeft}
 

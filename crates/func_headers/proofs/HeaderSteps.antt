@@ -5,16 +5,16 @@ use Rattle.std.proofs.Common.{arith, cond}
 use Rattle.std.proofs.lemmas.Slice.Eq.{bytes_eq-Decides}
 use Rattle.go_tree.specs.declared.files.FuncDecl.{FuncDecl}
 use Rattle.go_tree.specs.FileView.{func_of}
-use Rattle.const_eval.specs.declared.consts.Const.{Const}
-use Rattle.scope_names.specs.Means.{is_blank, means}
-use Rattle.go_types.specs.Answers.{given, only_if}
-use Rattle.go_types.specs.Types.{FuncType}
-use Rattle.go_types.specs.Entities as go
-use Rattle.go_types.specs.Entities.{World}
-use Rattle.go_types.specs.Programs.{header_names, env_of}
+use Rattle.go_tree.specs.declared.const_eval.consts.Const.{Const}
+use Rattle.go_tree.specs.ScopeNames.Means.{is_blank, means}
+use Rattle.go_tree.specs.GoTypes.Answers.{given, only_if}
+use Rattle.go_tree.specs.GoTypes.Types.{FuncType}
+use Rattle.go_tree.specs.GoTypes.Entities as go
+use Rattle.go_tree.specs.GoTypes.Entities.{World}
+use Rattle.go_tree.specs.GoTypes.Programs.{header_names, env_of}
 use Rattle.pkg_graph.specs.declared.packages.Package.{Package}
-use Rattle.type_relations.specs.Environment.{Environment}
-use Rattle.type_relations.specs.declared.methods.FuncType as code_type
+use Rattle.type_table.specs.TypeRelations.Environment.{Environment}
+use Rattle.type_table.specs.declared.type_relations.methods.FuncType as code_type
 use Rattle.operand_rules.specs.declared.values.Refusal.TheVariants.{NotTyped}
 use Rattle.std.specs.Prelude.{Result, Ok, Err, IfOk}
 use Rattle.typed_names.specs.declared.entities.Entity.{Entity}
@@ -23,7 +23,7 @@ use Rattle.typed_names.specs.Known.{AllHaveTypes}
 use Rattle.typed_names.specs.Meanings.{Names, block_at, entity_at, entity_option, world_at}
 use Rattle.typed_names.specs.Scopes.{env_at}
 use Rattle.typed_names.proofs.NameLaws.{turned}
-use Rattle.type_exprs.specs.Grown.{TypesGrown}
+use Rattle.typed_names.specs.TypeExprs.Grown.{TypesGrown}
 use Rattle.func_types.specs.Answers.{GivesFunc}
 use Rattle.func_types.specs.Answers as answers
 use Rattle.declared_types.specs.Members.{member}

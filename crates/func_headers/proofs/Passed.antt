@@ -2,22 +2,22 @@
 use Rattle.std.proofs.Common.{◌≡◌, ◌∙◌, ◌+◌, ◌++◌, ℕ, zero, suc, Bool, cond, List, [], ◌∷◌, Option, Some, refl, sym, ap, subst, map, drop, length, add-one, bytes_eq}
 use Rattle.std.specs.Prelude.{slice_get, codes}
 use Rattle.go_tree.specs.declared.spans.Span.{Span}
-use Rattle.const_eval.specs.declared.consts.Const.{Const}
-use Rattle.scope_names.specs.Means.{Environment}
-use Rattle.go_types.specs.Answers.{meets}
-use Rattle.go_types.specs.Entities as go
-use Rattle.go_types.specs.Programs.{Header, Headed, SourceFile, Program, all_headers, block_names, file_block, header_names, headed, headed_file, headed_files, names_in}
+use Rattle.go_tree.specs.declared.const_eval.consts.Const.{Const}
+use Rattle.go_tree.specs.ScopeNames.Means.{Environment}
+use Rattle.go_tree.specs.GoTypes.Answers.{meets}
+use Rattle.go_tree.specs.GoTypes.Entities as go
+use Rattle.go_tree.specs.GoTypes.Programs.{Header, Headed, SourceFile, Program, all_headers, block_names, file_block, header_names, headed, headed_file, headed_files, names_in}
 use Rattle.pkg_graph.specs.Package as pure
 use Rattle.pkg_graph.specs.declared.packages.Package.{Package}
 use Rattle.run_rules.specs.Programs.{in_dependency_order, linked, linked_file, linked_packages}
-use Rattle.type_relations.specs.Environment as types
+use Rattle.type_table.specs.TypeRelations.Environment as types
 use Rattle.comparable_types.specs.declared.grown.TypeFlags.{TypeFlags}
 use Rattle.comparable_types.specs.Grown.{AreFlagsSoFar, DefinedBelow}
 use Rattle.typed_names.specs.declared.scopes.Scope.{Scope}
 use Rattle.typed_names.specs.Meanings.{Names, world_at}
-use Rattle.value_types.specs.ValueTypes.{HasValueTypes}
-use Rattle.type_exprs.specs.Grown.{TypesGrown}
-use Rattle.type_exprs.proofs.GrownLaws.{grown_on, grown_self}
+use Rattle.type_table.specs.ValueTypes.ValueTypes.{HasValueTypes}
+use Rattle.typed_names.specs.TypeExprs.Grown.{TypesGrown}
+use Rattle.typed_names.proofs.TypeExprs.GrownLaws.{grown_on, grown_self}
 use Rattle.typed_in_place.specs.Declared.{HasNumber}
 use Rattle.declared_types.specs.Steps.{KnowsPlaces}
 use Rattle.package_blocks.specs.declared.headers.PackageHeader.{PackageHeader}

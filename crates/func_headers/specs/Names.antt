@@ -1,7 +1,7 @@
 -- Names of parameters and results as they are read one by one (Go specification, Function declarations).
 use Rattle.std.specs.Prelude.{◌≡◌, ℕ, Bool, true, false, List, [], ◌++◌}
 use Rattle.typed_names.specs.Meanings.{Names}
-use Rattle.type_exprs.specs.Fields.{NamesSeen, are_new}
+use Rattle.typed_names.specs.TypeExprs.Fields.{NamesSeen, are_new}
 
 -- of all names some are seen, and the rest is left; else a name stands again
 abbrev pub NamesAfter : List (List ℕ) → List (List ℕ) → Names → Bool → Type 0

@@ -1,27 +1,28 @@
 -- The steps in which the functions of headers are declared one after the other (Go specification, Function
 -- declarations; Declarations and scope).
-use Rattle.std.specs.Prelude.{◌≡◌, ℕ, Bool, true, false, not, ◌&&◌, ◌||◌, List, [], ◌∷◌, ◌++◌, length, map, drop, Option, Some, None, if◌then◌else◌, nat_eq, is_some, ◌⊎◌}
+use Rattle.std.specs.Prelude.{◌≡◌, ℕ, Bool, true, false, not, ◌&&◌, ◌||◌, List, [], ◌∷◌, ◌++◌}
+use Rattle.std.specs.Prelude.{length, map, drop, Option, Some, None, if◌then◌else◌, nat_eq, is_some, ◌⊎◌}
 use Rattle.std.specs.List.{list_any}
 use Rattle.std.specs.Borrow.{Bor}
 use Rattle.go_tree.specs.declared.spans.Span.{Span}
 use Rattle.go_tree.specs.declared.files.FuncDecl.{FuncDecl}
 use Rattle.go_tree.specs.File.{Func}
 use Rattle.go_tree.specs.FileView.{func_of}
-use Rattle.const_eval.specs.declared.consts.Const.{Const}
-use Rattle.go_types.specs.Types.{FuncType}
-use Rattle.go_types.specs.Entities as go
-use Rattle.go_types.specs.Entities.{World}
-use Rattle.go_types.specs.Programs.{Headed, header_names, Program, headed}
-use Rattle.go_types.specs.Collect.{types_declared, typed_world, valued_world}
+use Rattle.go_tree.specs.declared.const_eval.consts.Const.{Const}
+use Rattle.go_tree.specs.GoTypes.Types.{FuncType}
+use Rattle.go_tree.specs.GoTypes.Entities as go
+use Rattle.go_tree.specs.GoTypes.Entities.{World}
+use Rattle.go_tree.specs.GoTypes.Programs.{Headed, header_names, Program, headed}
+use Rattle.go_tree.specs.GoTypes.Collect.{types_declared, typed_world, valued_world}
 use Rattle.pkg_graph.specs.declared.packages.Package.{Package}
-use Rattle.type_relations.specs.Environment.{Environment}
+use Rattle.type_table.specs.TypeRelations.Environment.{Environment}
 use Rattle.comparable_types.specs.declared.grown.TypeFlags.{TypeFlags}
 use Rattle.comparable_types.specs.Grown.{AreFlagsSoFar, DefinedBelow}
 use Rattle.typed_names.specs.declared.scopes.Scope.{Scope}
 use Rattle.typed_names.specs.Meanings.{Names, world_at}
 use Rattle.typed_names.specs.Scopes.{env_at}
-use Rattle.value_types.specs.ValueTypes.{HasValueTypes}
-use Rattle.type_exprs.specs.Grown.{TypesGrown}
+use Rattle.type_table.specs.ValueTypes.ValueTypes.{HasValueTypes}
+use Rattle.typed_names.specs.TypeExprs.Grown.{TypesGrown}
 use Rattle.declared_types.specs.Members.{member}
 use Rattle.declared_types.specs.Steps.{KnowsPlaces}
 use Rattle.package_blocks.specs.declared.headers.PackageHeader.{PackageHeader}
@@ -29,7 +30,8 @@ use Rattle.package_blocks.specs.Headers.{AreHeaders, IsHeader, listed_of}
 use Rattle.package_blocks.specs.Imports.{views}
 use Rattle.package_blocks.specs.Names.{is_declared}
 use Rattle.func_headers.specs.NameRoles.{SameTypes}
-use Rattle.func_headers.specs.Functions.{TypesAreDeclared, function_at, function_in, is_function, is_main_at, is_refused_function, names_function, numbers_where, program_of}
+use Rattle.func_headers.specs.Functions.{TypesAreDeclared, function_at, function_in, is_function, is_main_at}
+use Rattle.func_headers.specs.Functions.{is_refused_function, names_function, numbers_where, program_of}
 
 -- the function of a header of the code, as a value
 abbrev pub seen_function : Option (Bor FuncDecl) → Option (Func Span)

@@ -1,15 +1,15 @@
 //! Functions by their signatures (Go specification, Function declarations; Program execution).
 
 ghost use Rattle.std.specs.Prelude.{◌≡◌, ◌||◌, ◌&&◌, List, not, map, length, bytes_eq, codes, IfOk};
-ghost use Rattle.const_eval.specs.declared.consts.Const.{Const};
+ghost use Rattle.go_tree.specs.declared.const_eval.consts.Const.{Const};
 ghost use Rattle.go_tree.specs.FileView.{func_of};
 ghost use Rattle.go_tree.specs.View.{param_of};
-ghost use Rattle.go_types.specs.Answers.{is_empty};
+ghost use Rattle.go_tree.specs.GoTypes.Answers.{is_empty};
 ghost use Rattle.comparable_types.specs.Grown.{AreFlagsSoFar, DefinedBelow};
-ghost use Rattle.value_types.specs.ValueTypes.{HasValueTypes};
+ghost use Rattle.type_table.specs.ValueTypes.ValueTypes.{HasValueTypes};
 ghost use Rattle.typed_names.specs.Known.{KnowsTypes};
 ghost use Rattle.typed_names.specs.Scopes.{env_at};
-ghost use Rattle.type_exprs.specs.Grown.{TypesGrown};
+ghost use Rattle.typed_names.specs.TypeExprs.Grown.{TypesGrown};
 ghost use Rattle.func_types.specs.Answers.{GivesFunc};
 ghost use Rattle.func_headers.specs.Functions.{function_at, may_be_declared};
 
@@ -19,7 +19,7 @@ use func_types::func_type;
 use go_tree::{FuncDecl, NoMemory, ParamList};
 use operand_rules::Refusal;
 use std::alloc::Global;
-use type_relations::{Env, FuncType};
+use type_table::type_relations::{Env, FuncType};
 use typed_names::{Blocks, Scope};
 
 /// Whether there are no parameters, or no results.

@@ -1,21 +1,23 @@
 //! The headers of functions, one after the other (Go specification, Declarations and scope; Function
 //! declarations).
 
-ghost use Rattle.std.specs.Prelude.{◌≡◌, ◌&&◌, ℕ, List, [], ◌∷◌, length, map, nat_eq, if◌then◌else◌, slice_get, Some, IfOk, OnOk, OnErr};
-ghost use Rattle.const_eval.specs.declared.consts.Const.{Const};
-ghost use Rattle.go_types.specs.Programs.{headed};
-ghost use Rattle.scope_names.specs.Means.{means};
-ghost use Rattle.type_relations.specs.Environment.{Environment};
+ghost use Rattle.std.specs.Prelude.{◌≡◌, ◌&&◌, ℕ, List, [], ◌∷◌, length, map, nat_eq};
+ghost use Rattle.std.specs.Prelude.{if◌then◌else◌, slice_get, Some, IfOk, OnOk, OnErr};
+ghost use Rattle.go_tree.specs.declared.const_eval.consts.Const.{Const};
+ghost use Rattle.go_tree.specs.GoTypes.Programs.{headed};
+ghost use Rattle.go_tree.specs.ScopeNames.Means.{means};
+ghost use Rattle.type_table.specs.TypeRelations.Environment.{Environment};
 ghost use Rattle.comparable_types.specs.Grown.{AreFlagsSoFar, DefinedBelow};
-ghost use Rattle.value_types.specs.ValueTypes.{HasValueTypes};
+ghost use Rattle.type_table.specs.ValueTypes.ValueTypes.{HasValueTypes};
 ghost use Rattle.typed_names.specs.Known.{AllHaveTypes, HasTypes, KnowsTypes};
 ghost use Rattle.typed_names.specs.Meanings.{block_at, world_at};
-ghost use Rattle.type_exprs.specs.Grown.{TypesGrown};
+ghost use Rattle.typed_names.specs.TypeExprs.Grown.{TypesGrown};
 ghost use Rattle.declared_types.specs.Steps.{KnowsPlaces};
 ghost use Rattle.package_blocks.specs.Headers.{AreHeaders, header_of, listed_of};
 ghost use Rattle.package_blocks.specs.Imports.{views};
 ghost use Rattle.package_blocks.specs.Names.{is_declared};
-ghost use Rattle.func_headers.specs.Functions.{FunctionsAreDeclared, TypesAreDeclared, is_main_at, plain_function, program_of};
+ghost use Rattle.func_headers.specs.Functions.{FunctionsAreDeclared, TypesAreDeclared, is_main_at, plain_function};
+ghost use Rattle.func_headers.specs.Functions.{program_of};
 ghost use Rattle.func_headers.specs.Steps.{FunctionSet, SetsHeader, instead, seen_function};
 
 use crate::functions::declared_function;
@@ -27,7 +29,7 @@ use operand_rules::Refusal;
 use package_blocks::{HeaderKind, PackageHeader};
 use pkg_graph::Package;
 use std::alloc::{AllocError, Global};
-use type_relations::Env;
+use type_table::type_relations::Env;
 use typed_names::{Blocks, Entity, Scope};
 
 /// Whether the package of a number has the name `main`.

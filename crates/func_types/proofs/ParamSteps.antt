@@ -2,16 +2,16 @@
 use Rattle.std.proofs.Common.{◌≡◌, ◌∙◌, ◌++◌, ◌<◌, List, [], ◌∷◌, Option, Some, None, Result, Ok, Err, IfOk, OnOk, OnErr, ℕ, refl, sym, ap, ap₂, subst, length, map}
 use Rattle.go_tree.specs.declared.spans.Span.{Span}
 use Rattle.go_tree.specs.Tree.{Param}
-use Rattle.const_eval.specs.declared.consts.Const.{Const}
-use Rattle.go_types.specs.Answers.{both, given}
-use Rattle.go_types.specs.Types as go
-use Rattle.go_types.specs.Types.{GoType, GoTypes}
-use Rattle.go_types.specs.Table.{tuple_node}
-use Rattle.go_types.specs.TypeNames.{params_meant, type_meant}
-use Rattle.type_relations.specs.Environment.{Environment, env_type, with_type}
-use Rattle.value_types.specs.ValueTypes.{HasValueTypes}
-use Rattle.value_types.proofs.ValueLemmas.{value_types_stay, values_same}
-use Rattle.type_relations.specs.declared.methods.FuncType.{FuncType}
+use Rattle.go_tree.specs.declared.const_eval.consts.Const.{Const}
+use Rattle.go_tree.specs.GoTypes.Answers.{both, given}
+use Rattle.go_tree.specs.GoTypes.Types as go
+use Rattle.go_tree.specs.GoTypes.Types.{GoType, GoTypes}
+use Rattle.go_tree.specs.GoTypes.Table.{tuple_node}
+use Rattle.go_tree.specs.GoTypes.TypeNames.{params_meant, type_meant}
+use Rattle.type_table.specs.TypeRelations.Environment.{Environment, env_type, with_type}
+use Rattle.type_table.specs.ValueTypes.ValueTypes.{HasValueTypes}
+use Rattle.type_table.proofs.ValueTypes.ValueLemmas.{value_types_stay, values_same}
+use Rattle.type_table.specs.declared.type_relations.methods.FuncType.{FuncType}
 use Rattle.type_table.specs.declared.nodes.TypeId.{TypeId}
 use Rattle.type_table.specs.Rows.{IdsBelow}
 use Rattle.type_table.specs.TypesAt.{type_by, types_by}
@@ -25,9 +25,9 @@ use Rattle.typed_names.specs.declared.scopes.Scope.{Scope}
 use Rattle.typed_names.specs.Known.{KnowsTypes}
 use Rattle.typed_names.specs.Meanings.{Names, listed, tuple_list}
 use Rattle.typed_names.specs.Scopes.{env_at}
-use Rattle.type_exprs.specs.Answers.{GivesType}
-use Rattle.type_exprs.specs.Grown.{TypesGrown}
-use Rattle.type_exprs.proofs.GrownLaws.{env_same, grown_on, grown_self, known_on, type_on}
+use Rattle.typed_names.specs.TypeExprs.Answers.{GivesType}
+use Rattle.typed_names.specs.TypeExprs.Grown.{TypesGrown}
+use Rattle.typed_names.proofs.TypeExprs.GrownLaws.{env_same, grown_on, grown_self, known_on, type_on}
 use Rattle.func_types.specs.Answers.{AreTypesOf, GivesFunc, GivesTypes, types_at, with_results}
 use Rattle.func_types.specs.Params.{ParamsRead}
 

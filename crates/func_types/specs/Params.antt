@@ -2,19 +2,19 @@
 use Rattle.std.specs.Prelude.{◌≡◌, List, ◌++◌, length, Some}
 use Rattle.go_tree.specs.declared.spans.Span.{Span}
 use Rattle.go_tree.specs.Tree.{Param}
-use Rattle.const_eval.specs.declared.consts.Const.{Const}
-use Rattle.go_types.specs.Answers.{given}
-use Rattle.go_types.specs.TypeNames.{params_meant}
-use Rattle.type_relations.specs.Environment.{Environment}
+use Rattle.go_tree.specs.declared.const_eval.consts.Const.{Const}
+use Rattle.go_tree.specs.GoTypes.Answers.{given}
+use Rattle.go_tree.specs.GoTypes.TypeNames.{params_meant}
+use Rattle.type_table.specs.TypeRelations.Environment.{Environment}
 use Rattle.type_table.specs.declared.nodes.TypeId.{TypeId}
 use Rattle.comparable_types.specs.declared.grown.TypeFlags.{TypeFlags}
 use Rattle.comparable_types.specs.Grown.{AreFlagsSoFar, DefinedBelow}
-use Rattle.value_types.specs.ValueTypes.{HasValueTypes}
+use Rattle.type_table.specs.ValueTypes.ValueTypes.{HasValueTypes}
 use Rattle.typed_names.specs.declared.scopes.Scope.{Scope}
 use Rattle.typed_names.specs.Known.{KnowsTypes}
 use Rattle.typed_names.specs.Meanings.{Names}
 use Rattle.typed_names.specs.Scopes.{env_at}
-use Rattle.type_exprs.specs.Grown.{TypesGrown}
+use Rattle.typed_names.specs.TypeExprs.Grown.{TypesGrown}
 use Rattle.func_types.specs.Answers.{AreTypesOf, types_at}
 
 -- of all parameters some have their types, and the rest is left

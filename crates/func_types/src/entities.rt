@@ -1,18 +1,18 @@
 //! What the name of a function means (Go specification, Function declarations).
 
 ghost use Rattle.std.specs.Prelude.{◌≡◌, ◌<◌, List, length, IfOk};
-ghost use Rattle.const_eval.specs.declared.consts.Const.{Const};
-ghost use Rattle.go_types.specs.Entities as go;
-ghost use Rattle.type_relations.specs.Environment.{env_type};
+ghost use Rattle.go_tree.specs.declared.const_eval.consts.Const.{Const};
+ghost use Rattle.go_tree.specs.GoTypes.Entities as go;
+ghost use Rattle.type_table.specs.TypeRelations.Environment.{env_type};
 ghost use Rattle.type_table.specs.Rows.{IdsBelow};
 ghost use Rattle.typed_names.specs.Known.{HasTypes};
 ghost use Rattle.typed_names.specs.Meanings.{entity_at, tuple_list};
-ghost use Rattle.value_types.specs.ValueTypes.{HasValueTypes};
-ghost use Rattle.type_exprs.specs.Grown.{TypesGrown};
+ghost use Rattle.type_table.specs.ValueTypes.ValueTypes.{HasValueTypes};
+ghost use Rattle.typed_names.specs.TypeExprs.Grown.{TypesGrown};
 ghost use Rattle.func_types.specs.Answers.{AreTypesOf, func_of, types_at};
 
 use go_tree::NoMemory;
-use type_relations::{Env, FuncType};
+use type_table::type_relations::{Env, FuncType};
 use type_table::{TypeId, TypeIdList, TypeNode};
 use typed_names::Entity;
 

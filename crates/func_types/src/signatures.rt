@@ -1,26 +1,26 @@
 //! The types of parameters and results (Go specification, Function types).
 
 ghost use Rattle.std.specs.Prelude.{List, Option, Some, map, length};
-ghost use Rattle.const_eval.specs.declared.consts.Const.{Const};
+ghost use Rattle.go_tree.specs.declared.const_eval.consts.Const.{Const};
 ghost use Rattle.go_tree.specs.View.{param_of, sig_of};
-ghost use Rattle.go_types.specs.Answers.{given};
-ghost use Rattle.go_types.specs.Types.{GoType};
-ghost use Rattle.go_types.specs.TypeNames as go;
-ghost use Rattle.type_relations.specs.Environment.{Environment};
+ghost use Rattle.go_tree.specs.GoTypes.Answers.{given};
+ghost use Rattle.go_tree.specs.GoTypes.Types.{GoType};
+ghost use Rattle.go_tree.specs.GoTypes.TypeNames as go;
+ghost use Rattle.type_table.specs.TypeRelations.Environment.{Environment};
 ghost use Rattle.comparable_types.specs.Grown.{AreFlagsSoFar, DefinedBelow};
 ghost use Rattle.typed_names.specs.Known.{KnowsTypes};
 ghost use Rattle.typed_names.specs.Scopes.{env_at};
-ghost use Rattle.value_types.specs.ValueTypes.{HasValueTypes};
-ghost use Rattle.type_exprs.specs.Grown.{TypesGrown};
+ghost use Rattle.type_table.specs.ValueTypes.ValueTypes.{HasValueTypes};
+ghost use Rattle.typed_names.specs.TypeExprs.Grown.{TypesGrown};
 ghost use Rattle.func_types.specs.Answers.{AreTypesOf, GivesFunc, GivesTypes, with_results};
 
 use comparable_types::TypeFlags;
 use go_tree::{ParamList, Sig};
 use operand_rules::Refusal;
 use std::alloc::Global;
-use type_exprs::type_meant;
-use type_relations::{Env, FuncType};
 use type_table::TypeIdList;
+use type_table::type_relations::{Env, FuncType};
+use typed_names::type_exprs::type_meant;
 use typed_names::{Blocks, Scope};
 
 /// The types of parameters or results in their order; dots before the last one's type are passed over.

@@ -1,8 +1,10 @@
 -- How deep an entry of a list of trees is.
 use Rattle.std.specs.Prelude.{ℕ, ◌+◌, max, map}
 use Rattle.std.specs.Option.{option_map}
-use Rattle.go_tree.specs.View.{param_of, name_at_of, type_of, expr_of, exprs_of, stmt_of, stmts_of, value_of, held_value_option_of, boxed_stmt_option_of}
-use Rattle.go_depth.specs.Depth.{depth_param, depth_names, depth_type, depth_type_option, depth_expr, depth_exprs, depth_stmt, depth_stmts, depth_value, depth_value_option, depth_stmt_option}
+use Rattle.go_tree.specs.View.{param_of, name_at_of, type_of, expr_of, exprs_of, stmt_of, stmts_of, value_of}
+use Rattle.go_tree.specs.View.{held_value_option_of, boxed_stmt_option_of}
+use Rattle.go_depth.specs.Depth.{depth_param, depth_names, depth_type, depth_type_option, depth_expr, depth_exprs}
+use Rattle.go_depth.specs.Depth.{depth_stmt, depth_stmts, depth_value, depth_value_option, depth_stmt_option}
 use Rattle.go_tree.specs.declared.types.Param.{Param}
 use Rattle.go_tree.specs.declared.types.FieldSpec.{FieldSpec}
 use Rattle.go_tree.specs.declared.exprs.Expr.{Expr}

@@ -1,8 +1,10 @@
 //! How deep the nodes of expressions are nested.
 
 ghost use Rattle.std.specs.Prelude.{◌≡◌};
-ghost use Rattle.go_tree.specs.View.{expr_of, exprs_of, boxed_expr_option_of, plain_expr_option_of, value_of, held_value_option_of, elems_of};
-ghost use Rattle.go_depth.specs.Depth.{capped, depth_expr, depth_exprs, depth_expr_option, depth_value, depth_value_option, depth_elems};
+ghost use Rattle.go_tree.specs.View.{expr_of, exprs_of, boxed_expr_option_of, plain_expr_option_of, value_of};
+ghost use Rattle.go_tree.specs.View.{held_value_option_of, elems_of};
+ghost use Rattle.go_depth.specs.Depth.{capped, depth_expr, depth_exprs, depth_expr_option, depth_value};
+ghost use Rattle.go_depth.specs.Depth.{depth_value_option, depth_elems};
 ghost use Rattle.go_depth.specs.Deep.{elem_deep};
 
 use crate::depth_stmts::block_depth;

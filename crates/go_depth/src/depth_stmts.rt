@@ -1,8 +1,10 @@
 //! How deep the nodes of statements are nested.
 
 ghost use Rattle.std.specs.Prelude.{◌≡◌, ◌+◌};
-ghost use Rattle.go_tree.specs.View.{held_block_option_of, stmt_of, stmts_of, boxed_stmt_option_of, range_left_of, arms_of, cases_of, const_specs_of, const_decl_of, var_specs_of, var_decl_of};
-ghost use Rattle.go_depth.specs.Depth.{capped, depth_stmt, depth_stmts, depth_stmt_option, depth_block_option, depth_range_left, depth_arms, depth_cases, depth_value_specs};
+ghost use Rattle.go_tree.specs.View.{held_block_option_of, stmt_of, stmts_of, boxed_stmt_option_of, range_left_of};
+ghost use Rattle.go_tree.specs.View.{arms_of, cases_of, const_specs_of, const_decl_of, var_specs_of, var_decl_of};
+ghost use Rattle.go_depth.specs.Depth.{capped, depth_stmt, depth_stmts, depth_stmt_option, depth_block_option};
+ghost use Rattle.go_depth.specs.Depth.{depth_range_left, depth_arms, depth_cases, depth_value_specs};
 ghost use Rattle.go_depth.specs.Deep.{arm_deep, case_deep, const_spec_deep, var_spec_deep};
 
 use crate::depth_exprs::{depth, exprs_depth, option_depth};

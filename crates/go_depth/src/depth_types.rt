@@ -3,7 +3,8 @@
 ghost use Rattle.std.specs.Prelude.{◌≡◌, ◌+◌, ℕ, max, map};
 ghost use Rattle.std.specs.Option.{option_map};
 ghost use Rattle.go_tree.specs.View.{name_at_of, type_of, fields_of, param_of, sig_of};
-ghost use Rattle.go_depth.specs.Depth.{capped, greatest, depth_name_option, depth_names, depth_type, depth_fields, depth_type_option, depth_param, depth_sig};
+ghost use Rattle.go_depth.specs.Depth.{capped, greatest, depth_name_option, depth_names, depth_type, depth_fields};
+ghost use Rattle.go_depth.specs.Depth.{depth_type_option, depth_param, depth_sig};
 ghost use Rattle.go_depth.specs.Deep.{field_deep};
 
 use go_tree::{FieldSpec, FieldSpecList, NameAt, NameAtList, Param, ParamList, Sig, TypeExpr};

@@ -6,7 +6,7 @@ use Rattle.go_tree.specs.declared.exprs.Elem as source
 use Rattle.go_tree.specs.View.{elem_of}
 use Rattle.go_tree.specs.Lists.{elems_from}
 use Rattle.go_tree.specs.Tree.{Expr, Elems, ValueOption, Value, no_elems, elem, plain, braced, no_value, some_value}
-use Rattle.go_words.specs.Terminals.{lex, comma, colon, brace, end_brace}
+use Rattle.go_tree.specs.GoWords.Terminals.{lex, comma, colon, brace, end_brace}
 use Rattle.go_read.specs.SpellsSpans.{span_to}
 use Rattle.go_read.specs.SpellsTypes.{Lexemes}
 use Rattle.go_read.specs.Goals.{read_operand, read_elems, read_elem, read_value}
@@ -14,8 +14,8 @@ use Rattle.go_read.specs.Programs.{ask, run}
 use Rattle.go_read.specs.ReadExprs.{elems_step, elems_after, elem_step, value_step}
 use Rattle.go_read.specs.Reading.{at}
 use Rattle.go_read.proofs.Finds.{gives, asks, finish}
-use Rattle.go_words.specs.declared.terminals.Terminal.{Terminal}
-use Rattle.go_words.specs.declared.terminals.Terminal.TheVariants as code
+use Rattle.go_tree.specs.declared.go_words.terminals.Terminal.{Terminal}
+use Rattle.go_tree.specs.declared.go_words.terminals.Terminal.TheVariants as code
 use Rattle.go_productions.specs.Terminals.{first_of, rest_of}
 use Rattle.go_productions.specs.Parts.{onto, in_front}
 use Rattle.go_expressions.specs.ExprParts.{elem_at, elem_and}

@@ -11,7 +11,7 @@ use Rattle.go_tree.specs.declared.exprs.Rest.TheVariants.{Plain}
 use Rattle.go_tree.specs.View.{expr_of}
 use Rattle.go_tree.specs.Lists.{exprs_from}
 use Rattle.go_tree.specs.Tree.{Expr, Exprs, no_exprs, expr_and, binary}
-use Rattle.go_words.specs.Terminals.{lex, binary_op, not_, comma, ellipsis, end_paren, level_of}
+use Rattle.go_tree.specs.GoWords.Terminals.{lex, binary_op, not_, comma, ellipsis, end_paren, level_of}
 use Rattle.go_read.specs.SpellsSpans.{span_to}
 use Rattle.go_read.specs.SpellsTypes.{Lexemes}
 use Rattle.go_read.specs.Spells.{is_func_lit}
@@ -22,8 +22,8 @@ use Rattle.go_read.specs.Reading.{at}
 use Rattle.go_read.proofs.Finds.{Runs, gives, asks, passes, tails_more, finish}
 use Rattle.go_expressions.specs.declared.prefixes.Prefix.{Prefix}
 use Rattle.go_expressions.specs.declared.prefixes.Prefix.TheVariants as prefix
-use Rattle.go_words.specs.declared.terminals.Terminal.{Terminal}
-use Rattle.go_words.specs.declared.terminals.Terminal.TheVariants as code
+use Rattle.go_tree.specs.declared.go_words.terminals.Terminal.{Terminal}
+use Rattle.go_tree.specs.declared.go_words.terminals.Terminal.TheVariants as code
 use Rattle.go_productions.specs.Terminals.{first_of, rest_of}
 use Rattle.go_productions.specs.Parts.{onto, in_front, args_end}
 use Rattle.go_expressions.specs.ExprParts.{arg_and, prefix_of, prefixed, binary_of}

@@ -2,16 +2,16 @@
 use Rattle.std.proofs.Common.{◌≡◌, ◌≢◌, ℕ, Bool, true, false, List, ◌∷◌, Some, None, refl, sym, ap, ◌∙◌}
 use Rattle.go_tree.specs.declared.spans.Span.{Span}
 use Rattle.go_tree.specs.Tree.{TypeExpr, Sig, Stmts, Expr, Elems, ident, composite, func_lit, type_operand}
-use Rattle.go_words.specs.Terminals as terminal
-use Rattle.go_words.specs.Terminals.{lex, int_lit, rune_lit, str_lit, comma, dot, paren, end_paren, bracket, brace, key_func, key_map, key_struct}
+use Rattle.go_tree.specs.GoWords.Terminals as terminal
+use Rattle.go_tree.specs.GoWords.Terminals.{lex, int_lit, rune_lit, str_lit, comma, dot, paren, end_paren, bracket, brace, key_func, key_map, key_struct}
 use Rattle.go_read.specs.SpellsSpans.{span_to}
 use Rattle.go_read.specs.SpellsTypes.{Lexemes}
 use Rattle.go_read.specs.Goals.{read_type, read_sig, read_expr, read_elems, read_block}
 use Rattle.go_read.specs.Programs.{Program, give, ask, run, after_end_paren, after_end_brace}
 use Rattle.go_read.specs.Reading.{at}
 use Rattle.go_read.proofs.Finds.{gives, asks}
-use Rattle.go_words.specs.declared.terminals.Terminal.{Terminal}
-use Rattle.go_words.specs.declared.terminals.Terminal.TheVariants as code
+use Rattle.go_tree.specs.declared.go_words.terminals.Terminal.{Terminal}
+use Rattle.go_tree.specs.declared.go_words.terminals.Terminal.TheVariants as code
 use Rattle.go_productions.specs.Terminals.{first_of, rest_of, spelling_of, has_letters}
 use Rattle.go_productions.specs.Parts.{is_qualified}
 use Rattle.go_expressions.specs.ExprParts.{plain_of, literal_here, follows_type, composite_program, composite_at, typed_after, typed_at, word_program, operand_at}

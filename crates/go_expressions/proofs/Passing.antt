@@ -5,7 +5,7 @@ use Rattle.go_read.specs.SpellsTypes.{Lexemes}
 use Rattle.go_productions.specs.declared.cursor.Cursor.{Cursor}
 use Rattle.go_productions.specs.Cursors.{ahead}
 use Rattle.go_productions.specs.Answers.{Gives, Shorter, Within}
-use Rattle.go_words.specs.declared.terminals.Terminal.{Terminal}
+use Rattle.go_tree.specs.declared.go_words.terminals.Terminal.{Terminal}
 use Rattle.go_productions.specs.Terminals.{first_of, rest_of, taken}
 
 pub passed_on : {X E A : Type 0} (see : X → A) (result : Result (Option (X × Cursor)) E) (o p : Option (A × Lexemes)) → o ≡ p → Gives see result p → Gives see result o

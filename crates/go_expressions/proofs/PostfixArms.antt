@@ -3,7 +3,7 @@ use Rattle.std.proofs.Common.{◌≡◌, ◌≢◌, true, false, ◌∷◌, Some
 use Rattle.go_tree.specs.declared.exprs.Rest.{Rest}
 use Rattle.go_tree.specs.declared.spans.Span.{Span}
 use Rattle.go_tree.specs.Tree.{Expr, ExprOption, Exprs, selector, index, slice, call, no_expr, some_expr}
-use Rattle.go_words.specs.Terminals.{lex, ident, colon, dot, paren, bracket, end_bracket}
+use Rattle.go_tree.specs.GoWords.Terminals.{lex, ident, colon, dot, paren, bracket, end_bracket}
 use Rattle.go_read.specs.SpellsSpans.{span_to}
 use Rattle.go_read.specs.SpellsTypes.{Lexemes}
 use Rattle.go_read.specs.Spells.{is_func_lit}
@@ -11,8 +11,8 @@ use Rattle.go_read.specs.Goals.{read_operand, read_args}
 use Rattle.go_read.specs.Programs.{give, run, after_end_bracket}
 use Rattle.go_read.specs.Reading.{at}
 use Rattle.go_read.proofs.Finds.{gives, asks, passes}
-use Rattle.go_words.specs.declared.terminals.Terminal.{Terminal}
-use Rattle.go_words.specs.declared.terminals.Terminal.TheVariants as code
+use Rattle.go_tree.specs.declared.go_words.terminals.Terminal.{Terminal}
+use Rattle.go_tree.specs.declared.go_words.terminals.Terminal.TheVariants as code
 use Rattle.go_productions.specs.Terminals.{first_of, rest_of, name_of}
 use Rattle.go_expressions.specs.ExprParts.{continues, high_program, high_at, index_after, brackets_program, brackets_at, postfix_at}
 use Rattle.go_productions.proofs.Steps.{lacks, refuses, no_end_bracket, on_end_bracket}

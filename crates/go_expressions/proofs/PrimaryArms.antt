@@ -5,7 +5,7 @@ use Rattle.go_tree.specs.declared.exprs.Rest.{Rest}
 use Rattle.go_tree.specs.declared.spans.Span.{Span}
 use Rattle.go_tree.specs.declared.operators.BinOp.TheVariants.{Mul, Add, Sub, Xor, And}
 use Rattle.go_tree.specs.Tree.{TypeExpr, named, Sig, Stmts, Expr, ExprOption, Exprs, Elems, composite, selector, index, slice, call, func_lit, type_operand, no_expr, some_expr}
-use Rattle.go_words.specs.Terminals.{lex, ident, int_lit, rune_lit, str_lit, binary_op, not_, comma, colon, dot, paren, end_paren, bracket, end_bracket, brace, end_brace, key_func, key_map, key_struct}
+use Rattle.go_tree.specs.GoWords.Terminals.{lex, ident, int_lit, rune_lit, str_lit, binary_op, not_, comma, colon, dot, paren, end_paren, bracket, end_bracket, brace, end_brace, key_func, key_map, key_struct}
 use Rattle.go_read.specs.SpellsSpans.{span_to}
 use Rattle.go_read.specs.SpellsTypes.{Lexemes, name_here}
 use Rattle.go_read.specs.Spells.{is_func_lit}

@@ -1,26 +1,32 @@
 -- Parts of expressions that no goal of the reader is for.
-use Rattle.std.specs.Prelude.{ℕ, Bool, true, false, nat_le, if◌then◌else◌, List, ◌∷◌, Option, Some, None, option_and_then}
+use Rattle.std.specs.Prelude.{ℕ, Bool, true, false, nat_le, if◌then◌else◌, List, ◌∷◌, Option, Some, None}
+use Rattle.std.specs.Prelude.{option_and_then}
 use Rattle.go_tree.specs.declared.exprs.Rest.{Rest}
 use Rattle.go_tree.specs.declared.spans.Span.{Span}
 use Rattle.go_tree.specs.declared.operators.BinOp.{BinOp}
 use Rattle.go_tree.specs.declared.operators.BinOp.TheVariants.{Mul, Add, Sub, Xor, And}
 use Rattle.go_tree.specs.declared.operators.UnOp.TheVariants.{Plus, Minus, Not, Flip, Address}
-use Rattle.go_tree.specs.Tree.{TypeExpr, Expr, Exprs, ExprOption, Elems, ValueOption, Value, ident, elem, int_lit, rune_lit, str_lit, composite, selector, index, slice, call, func_lit, type_operand, unary, star, expr_and, no_expr, some_expr}
-use Rattle.go_words.specs.Terminals as terminal
-use Rattle.go_words.specs.Terminals.{lex, comma, colon, dot, paren, end_paren, bracket, end_bracket, brace, key_func, key_map, key_struct, level_of}
+use Rattle.go_tree.specs.Tree.{TypeExpr, Expr, Exprs, ExprOption, Elems, ValueOption, Value, ident, elem, int_lit}
+use Rattle.go_tree.specs.Tree.{rune_lit, str_lit, composite, selector, index, slice, call, func_lit, type_operand}
+use Rattle.go_tree.specs.Tree.{unary, star, expr_and, no_expr, some_expr}
+use Rattle.go_tree.specs.GoWords.Terminals as terminal
+use Rattle.go_tree.specs.GoWords.Terminals.{lex, comma, colon, dot, paren, end_paren, bracket, end_bracket, brace}
+use Rattle.go_tree.specs.GoWords.Terminals.{key_func, key_map, key_struct, level_of}
 use Rattle.go_read.specs.SpellsSpans.{span_to}
 use Rattle.go_read.specs.SpellsTypes.{Lexemes, name_here}
 use Rattle.go_read.specs.Spells.{is_func_lit}
-use Rattle.go_read.specs.Goals.{read_type, read_sig, read_expr, read_operand, read_args, read_elems, read_elem, read_block}
-use Rattle.go_read.specs.Programs.{Program, give, fail, ask, unless, run, after_end_brace, after_end_bracket, after_end_paren}
+use Rattle.go_read.specs.Goals.{read_type, read_sig, read_expr, read_operand, read_args, read_elems, read_elem}
+use Rattle.go_read.specs.Goals.{read_block}
+use Rattle.go_read.specs.Programs.{Program, give, fail, ask, unless, run, after_end_brace, after_end_bracket}
+use Rattle.go_read.specs.Programs.{after_end_paren}
 use Rattle.go_read.specs.Reading.{at}
 use Rattle.go_tree.specs.View.{expr_of, exprs_of}
 use Rattle.go_expressions.specs.declared.basics.Args.{Args}
 use Rattle.go_expressions.specs.declared.basics.Operand.{Operand}
 use Rattle.go_expressions.specs.declared.prefixes.Prefix.{Prefix}
 use Rattle.go_expressions.specs.declared.prefixes.Prefix.TheVariants as prefix
-use Rattle.go_words.specs.declared.terminals.Terminal.{Terminal}
-use Rattle.go_words.specs.declared.terminals.Terminal.TheVariants as code
+use Rattle.go_tree.specs.declared.go_words.terminals.Terminal.{Terminal}
+use Rattle.go_tree.specs.declared.go_words.terminals.Terminal.TheVariants as code
 
 -- ---- operators
 

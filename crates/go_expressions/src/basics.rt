@@ -6,11 +6,11 @@ ghost use Rattle.go_tree.specs.View.{expr_of};
 ghost use Rattle.go_read.specs.Spells.{is_func_lit};
 ghost use Rattle.go_expressions.specs.ExprParts.{plain_of};
 
+use go_tree::go_words::Terminal;
 use go_tree::{
     Expr, ExprList, Name, NoMemory, Rest, Span, Text, ident_expr, int_lit_expr, rune_lit_expr,
     str_lit_expr,
 };
-use go_words::Terminal;
 use std::alloc::Global;
 
 /// An expression, and whether it stands without parentheses around it.

@@ -10,8 +10,8 @@ ghost use Rattle.go_productions.specs.Answers.{Gives, Shorter, Within};
 ghost use Rattle.go_expressions.specs.Bodies.{Ready};
 
 use go_productions::{Cursor, Reading};
+use go_tree::go_words::Terminal;
 use go_tree::{Block, NoMemory, StmtList};
-use go_words::Terminal;
 use std::alloc::AllocError;
 
 /// Statements and how many tokens they take, or nothing where the tokens don't begin with some.

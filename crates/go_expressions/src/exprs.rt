@@ -18,8 +18,8 @@ use crate::operands::operand;
 use crate::postfixes::{continues, postfix};
 use crate::prefixes::{prefix_of, prefixed};
 use go_productions::{Cursor, Reading, args_end};
+use go_tree::go_words::{Terminal, level_of};
 use go_tree::{BinOp, Expr, ExprList, Rest};
-use go_words::{Terminal, level_of};
 
 /// An expression; in a header no composite literal begins with a name outside of brackets.
 #[cycle(expressions)]

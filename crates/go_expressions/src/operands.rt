@@ -8,17 +8,18 @@ ghost use Rattle.go_read.specs.Goals.{read_elems, read_value};
 ghost use Rattle.go_read.specs.Reading.{at};
 ghost use Rattle.go_expressions.specs.Bodies.{Ready};
 ghost use Rattle.go_productions.specs.Answers.{Gives, Shorter, Within};
-ghost use Rattle.go_expressions.specs.ExprParts.{composite_at, elem_at, follows_type, literal_here, operand_at, operand_of, typed_at};
+ghost use Rattle.go_expressions.specs.ExprParts.{composite_at, elem_at, follows_type, literal_here, operand_at};
+ghost use Rattle.go_expressions.specs.ExprParts.{operand_of, typed_at};
 ghost use Rattle.go_productions.specs.Terminals.{first_of, has_letters};
 
 use crate::basics::{Operand, plain_expr};
 use crate::bodies::{Place, Taken, block};
 use crate::exprs::{binary_expr, expression};
 use go_productions::{Cursor, Reading, qualifies, signature, type_expr};
+use go_tree::go_words::Terminal;
 use go_tree::{
     Elem, ElemList, Expr, TypeExpr, Value, composite_expr, func_lit_expr, type_operand_expr,
 };
-use go_words::Terminal;
 
 /// An operand.
 #[cycle(expressions)]

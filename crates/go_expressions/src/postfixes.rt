@@ -11,8 +11,8 @@ use crate::basics::is_func_lit;
 use crate::bodies::{Place, Taken};
 use crate::exprs::{call_args, expression};
 use go_productions::{Cursor, Reading, name};
+use go_tree::go_words::Terminal;
 use go_tree::{Expr, call_expr, index_expr, selector_expr, slice_expr};
-use go_words::Terminal;
 
 /// Whether arguments, a name after a dot, an index or bounds stand first.
 pub(crate) fn continues(tokens: Cursor) -> bool

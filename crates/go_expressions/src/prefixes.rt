@@ -4,8 +4,8 @@ ghost use Rattle.std.specs.Prelude.{◌≡◌};
 ghost use Rattle.go_tree.specs.View.{expr_of};
 ghost use Rattle.go_expressions.specs.ExprParts.{prefix_of, prefixed};
 
+use go_tree::go_words::Terminal;
 use go_tree::{BinOp, Expr, Span, UnOp, star_expr, unary_expr};
-use go_words::Terminal;
 
 /// What stands before an operand (Go specification, Operators).
 #[derive(Clone, Copy, Debug)]

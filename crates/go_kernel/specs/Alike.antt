@@ -1,7 +1,10 @@
 -- When two runs end alike, when two terms mean the same in place, and when a term is another but for parts that mean
 -- the same. Deferred calls count as equal when they are equally many and run alike, one by one.
 use Rattle.std.specs.Prelude.{◌≡◌, ℕ, ◌<◌, ◌≤◌, List, [], ◌∷◌, Bool, true, Option}
-use Rattle.go_kernel.specs.Kernel.{Name, Label, FuncName, Value, Reason, Event, Op, Slot, Term, Vals, Local, Set, Both, Prim, If, Let, Loop, Leave, Catch, Within, Alone, Recover, Call, Defer, DeferLit, Store, Frame, Deferred, State, Exit, Result, Gives, Leaves, Cuts, after, run_one, Program, chain, free_level, Ext}
+use Rattle.go_kernel.specs.Kernel.{Name, Label, FuncName, Value, Reason, Event, Op, Slot, Term, Vals, Local, Set, Both}
+use Rattle.go_kernel.specs.Kernel.{Prim, If, Let, Loop, Leave, Catch, Within, Alone, Recover, Call, Defer, DeferLit}
+use Rattle.go_kernel.specs.Kernel.{Store, Frame, Deferred, State, Exit, Result, Gives, Leaves, Cuts, after, run_one}
+use Rattle.go_kernel.specs.Kernel.{Program, chain, free_level, Ext}
 
 -- the events of a run
 abbrev pub out_of : Result → List Event

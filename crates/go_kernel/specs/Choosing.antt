@@ -1,7 +1,8 @@
 -- Which arguments of a call may take their parameters' places in the body together: each argument is then evaluated
 -- where its parameter is used, and nobody can tell (Go specification, "Calls", "Order of evaluation", "Declarations and
 -- scope"). Rows and items are read off the kernel terms of arguments and body.
-use Rattle.std.specs.Prelude.{◌≡◌, ◌≢◌, ◌⊎◌, bytes_eq, ℕ, ◌+◌, ◌≤◌, List, [], ◌∷◌, Bool, true, false, if◌then◌else◌, Option, Some, None, nat_eq}
+use Rattle.std.specs.Prelude.{◌≡◌, ◌≢◌, ◌⊎◌, bytes_eq, ℕ, ◌+◌, ◌≤◌, List, [], ◌∷◌}
+use Rattle.std.specs.Prelude.{Bool, true, false, if◌then◌else◌, Option, Some, None, nat_eq}
 use Rattle.go_kernel.specs.Kernel.{Name, Term, Program}
 use Rattle.go_kernel.specs.Scope.{has}
 use Rattle.go_kernel.specs.Classes.{Class, Looks, Acts, class_of, allows, clash}

@@ -8,7 +8,8 @@ use Rattle.go_kernel.specs.Alike.{MeanSame}
 use Rattle.go_kernel.specs.Classes.{steady, looks}
 use Rattle.go_kernel.specs.Items.{Item, items, uses, writes}
 use Rattle.go_kernel.specs.Arguments.{Arg, arg, names_of, args_of, rest, chosen}
-use Rattle.go_kernel.specs.Choosing.{Row, is_write, is_effect, uses_before, AsCareful, Safe, unassigned, uncaptured, names_only, AreRows, distinct, well_named, closed}
+use Rattle.go_kernel.specs.Choosing.{Row, is_write, is_effect, uses_before, AsCareful, Safe, unassigned, uncaptured}
+use Rattle.go_kernel.specs.Choosing.{names_only, AreRows, distinct, well_named, closed}
 use Rattle.go_kernel.specs.Laws.{Ranked, AllScoped}
 
 -- ---- one argument

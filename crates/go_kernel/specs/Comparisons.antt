@@ -1,6 +1,7 @@
 -- Comparisons and truth values (Go specification, "Comparison operators", "Logical operators"). Slices and maps are
 -- compared with nil alone.
-use Rattle.std.specs.Prelude.{Bool, true, false, not, ◌&&◌, ◌||◌, List, [], ◌∷◌, nat_eq, nat_lt, bytes_eq, int_lt}
+use Rattle.std.specs.Prelude.{Bool, true, false, not, ◌&&◌, ◌||◌, List, [], ◌∷◌, nat_eq, nat_lt, bytes_eq}
+use Rattle.std.specs.Prelude.{int_lt}
 use Rattle.go_kernel.specs.Names.{Text, same_text}
 use Rattle.go_kernel.specs.Values.{Base, Numbered, Global, Value, Number, Truth, Str, Nil, Pointer, Empty, With}
 use Rattle.go_kernel.specs.Numbers.{int_eq}

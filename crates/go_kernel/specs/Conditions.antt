@@ -1,6 +1,8 @@
 -- Conditions on terms that are computed: how many values a term gives, and what holds of each name that is free in it.
-use Rattle.std.specs.Prelude.{nat_eq, ℕ, zero, ◌+◌, List, [], ◌∷◌, ◌++◌, length, Bool, true, false, if◌then◌else◌, Option, Some, None}
-use Rattle.go_kernel.specs.Kernel.{Name, gives, Slot, Term, Vals, Local, Set, Both, Prim, If, Let, Loop, Leave, Catch, Within, Alone, Recover, Call, Defer, DeferLit, Program}
+use Rattle.std.specs.Prelude.{nat_eq, ℕ, zero, ◌+◌, List, [], ◌∷◌, ◌++◌, length, Bool, true, false}
+use Rattle.std.specs.Prelude.{if◌then◌else◌, Option, Some, None}
+use Rattle.go_kernel.specs.Kernel.{Name, gives, Slot, Term, Vals, Local, Set, Both, Prim, If, Let, Loop, Leave, Catch}
+use Rattle.go_kernel.specs.Kernel.{Within, Alone, Recover, Call, Defer, DeferLit, Program}
 use Rattle.go_kernel.specs.Scope.{has, slot_name}
 
 -- the sum, where both are known

@@ -6,7 +6,11 @@ use Rattle.go_kernel.specs.Values.{Value, Reason}
 use Rattle.go_kernel.specs.Store.{Store, empty_store}
 use Rattle.go_kernel.specs.Actions.{Event, Answer, Ok, Fails}
 use Rattle.go_kernel.specs.Prims.{prim}
-use Rattle.go_kernel.specs.Ops.{Check, Checked, Unchecked, Op, Arith, Divide, Shift, Negate, Complement, Convert, Not, Compare, Concat, ByteAt, BytesOfString, StringOfBytes, Field, SetField, StructLit, ReadGlobal, GlobalAddress, Load, Save, Address, Alloc, SliceLit, MakeSlice, Element, ElementAddress, Len, Cap, Copy, Append, Slicing, MapLit, MakeMap, MapLen, MapSet, MapDelete, MapGet, MapTry, RangeMap, RangeNext, Emit, Fail}
+use Rattle.go_kernel.specs.Ops.{Check, Checked, Unchecked, Op, Arith, Divide, Shift, Negate, Complement, Convert, Not}
+use Rattle.go_kernel.specs.Ops.{Compare, Concat, ByteAt, BytesOfString, StringOfBytes, Field, SetField, StructLit}
+use Rattle.go_kernel.specs.Ops.{ReadGlobal, GlobalAddress, Load, Save, Address, Alloc, SliceLit, MakeSlice, Element}
+use Rattle.go_kernel.specs.Ops.{ElementAddress, Len, Cap, Copy, Append, Slicing, MapLit, MakeMap, MapLen, MapSet}
+use Rattle.go_kernel.specs.Ops.{MapDelete, MapGet, MapTry, RangeMap, RangeNext, Emit, Fail}
 
 -- whether a primitive may panic, depends on the store, changes the memory or prints, and takes choices
 pub record Effect : Type 0 where

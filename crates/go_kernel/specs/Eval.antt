@@ -1,13 +1,16 @@
 -- Evaluation of terms (Go specification, "Order of evaluation", "Calls", "Statements", "Handling panics"). A budget
 -- bounds how deep calls nest and how many turns loops make, so that every evaluation ends: where it is gone, the run is
 -- cut.
-use Rattle.std.specs.Prelude.{ℕ, zero, suc, ◌++◌, List, [], ◌∷◌, Bool, true, false, bytes_eq, if◌then◌else◌, Option, Some, None}
+use Rattle.std.specs.Prelude.{ℕ, zero, suc, ◌++◌, List, [], ◌∷◌, Bool, true, false, bytes_eq}
+use Rattle.std.specs.Prelude.{if◌then◌else◌, Option, Some, None}
 use Rattle.go_kernel.specs.Names.{Name, Label, FuncName}
 use Rattle.go_kernel.specs.Values.{Value, Truth, Reason, or_nil}
 use Rattle.go_kernel.specs.Store.{Store, value_at}
 use Rattle.go_kernel.specs.Prims.{Answer, Ok, Fails, prim}
-use Rattle.go_kernel.specs.Terms.{Slot, InFrame, InCell, Term, Vals, Local, Set, Both, Prim, If, Let, Loop, Leave, Catch, Within, Alone, Recover, Call, Defer, DeferLit, code, Program}
-use Rattle.go_kernel.specs.State.{Frame, lookup, put_all, push, pop, Deferred, State, Exit, Gone, Panic, Result, Gives, Leaves, Cuts, Level}
+use Rattle.go_kernel.specs.Terms.{Slot, InFrame, InCell, Term, Vals, Local, Set, Both, Prim, If, Let, Loop, Leave}
+use Rattle.go_kernel.specs.Terms.{Catch, Within, Alone, Recover, Call, Defer, DeferLit, code, Program}
+use Rattle.go_kernel.specs.State.{Frame, lookup, put_all, push, pop, Deferred, State, Exit, Gone, Panic, Result, Gives}
+use Rattle.go_kernel.specs.State.{Leaves, Cuts, Level}
 
 -- the one combinator: go on with values, or with an exit
 abbrev pub after : Result → (List Value → State → Result) → (Exit → State → Result) → Result

@@ -1,7 +1,8 @@
 -- The laws of forms: what may stand for a called literal and for a deferred call. Each is the contract of a function of
 -- this crate.
 use Rattle.std.specs.Prelude.{◌≡◌, ℕ, List, [], ◌∷◌, length, Bool, true, false, if◌then◌else◌, Some}
-use Rattle.go_kernel.specs.Kernel.{Name, FuncName, Value, Slot, Term, Vals, Set, Let, Within, Alone, Defer, DeferLit, code, Program}
+use Rattle.go_kernel.specs.Kernel.{Name, FuncName, Value, Slot, Term, Vals, Set, Let, Within, Alone, Defer, DeferLit}
+use Rattle.go_kernel.specs.Kernel.{code, Program}
 use Rattle.go_kernel.specs.Scope.{has, Scoped}
 use Rattle.go_kernel.specs.Substitution.{sub}
 use Rattle.go_kernel.specs.Alike.{MeanSame}
@@ -11,7 +12,8 @@ use Rattle.go_kernel.specs.Arguments.{Arg, arg, names_of, args_of, rest, chosen}
 use Rattle.go_kernel.specs.Conditions.{width, each_free, none_in}
 use Rattle.go_kernel.specs.Choosing.{Row, Safe, AreRows}
 use Rattle.go_kernel.specs.ChosenLaws.{Receives}
-use Rattle.go_kernel.specs.Forms.{in_frames, give_slots, return_to, return_to_slots, slot_names, distinct_names, tidy, never, retarget, turns}
+use Rattle.go_kernel.specs.Forms.{in_frames, give_slots, return_to, return_to_slots, slot_names, distinct_names, tidy}
+use Rattle.go_kernel.specs.Forms.{never, retarget, turns}
 
 -- the term names none of these
 abbrev pub names_none : List Name → Term → Bool

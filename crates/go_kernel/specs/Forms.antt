@@ -1,7 +1,10 @@
 -- Bodies and returns, as the forms of a call need them (Go specification, "Return statements", "Blocks", "Labeled
 -- statements", "Defer statements").
-use Rattle.std.specs.Prelude.{bytes_eq, nat_eq, ℕ, List, [], ◌∷◌, ◌++◌, length, Bool, true, false, if◌then◌else◌, Option, Some, None}
-use Rattle.go_kernel.specs.Kernel.{Name, Label, return_label, Truth, Program, Fail, Save, Unchecked, Slot, InFrame, InCell, Term, Vals, Local, Set, Both, Prim, If, Let, Loop, Leave, Catch, Within, Alone, Recover, Call, Defer, DeferLit}
+use Rattle.std.specs.Prelude.{bytes_eq, nat_eq, ℕ, List, [], ◌∷◌, ◌++◌, length, Bool, true, false}
+use Rattle.std.specs.Prelude.{if◌then◌else◌, Option, Some, None}
+use Rattle.go_kernel.specs.Kernel.{Name, Label, return_label, Truth, Program, Fail, Save, Unchecked, Slot, InFrame}
+use Rattle.go_kernel.specs.Kernel.{InCell, Term, Vals, Local, Set, Both, Prim, If, Let, Loop, Leave, Catch, Within}
+use Rattle.go_kernel.specs.Kernel.{Alone, Recover, Call, Defer, DeferLit}
 use Rattle.go_kernel.specs.Scope.{has, slot_name}
 use Rattle.go_kernel.specs.Conditions.{width, each_free, none_in}
 

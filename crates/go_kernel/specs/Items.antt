@@ -1,7 +1,9 @@
 -- What a body does, in strict order of evaluation, as a list up to the first part that may not run or may run again;
 -- and how often it uses a name (Go specification, "Order of evaluation").
-use Rattle.std.specs.Prelude.{bytes_eq, ℕ, ◌+◌, List, [], ◌∷◌, ◌++◌, Bool, true, false, if◌then◌else◌}
-use Rattle.go_kernel.specs.Kernel.{Name, Effect, effect, Term, Vals, Local, Set, Both, Prim, If, Let, Loop, Leave, Catch, Within, Alone, Recover, Call, Defer, DeferLit}
+use Rattle.std.specs.Prelude.{bytes_eq, ℕ, ◌+◌, List, [], ◌∷◌, ◌++◌, Bool, true, false}
+use Rattle.std.specs.Prelude.{if◌then◌else◌}
+use Rattle.go_kernel.specs.Kernel.{Name, Effect, effect, Term, Vals, Local, Set, Both, Prim, If, Let, Loop, Leave}
+use Rattle.go_kernel.specs.Kernel.{Catch, Within, Alone, Recover, Call, Defer, DeferLit}
 use Rattle.go_kernel.specs.Scope.{has}
 
 -- a use of a parameter; a read of a cell, package variable or map; an operation that may panic; a store, an allocation,

@@ -1,7 +1,9 @@
 -- The laws of meaning that know nothing of Go's types. Each is the contract of a function of this crate, and holds of
 -- every program, whatever further functions it has.
-use Rattle.std.specs.Prelude.{◌≡◌, ℕ, suc, ◌+◌, ◌*◌, ◌<◌, ◌≤◌, List, [], ◌++◌, Bool, true, false}
-use Rattle.go_kernel.specs.Kernel.{FuncName, Term, Let, Alone, Call, code, Program, Frame, State, chain, free_level, shows, free_shows, Covers}
+use Rattle.std.specs.Prelude.{◌≡◌, ℕ, suc, ◌+◌, ◌*◌, ◌<◌, ◌≤◌, List, [], ◌++◌, Bool, true}
+use Rattle.std.specs.Prelude.{false}
+use Rattle.go_kernel.specs.Kernel.{FuncName, Term, Let, Alone, Call, code, Program, Frame, State, chain, free_level}
+use Rattle.go_kernel.specs.Kernel.{shows, free_shows, Covers}
 use Rattle.go_kernel.specs.Scope.{names, has, Free, Scoped}
 use Rattle.go_kernel.specs.Alike.{reframed, Alike, MeanSame, Below, Same, Calls}
 

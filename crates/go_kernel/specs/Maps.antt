@@ -1,6 +1,7 @@
 -- Maps (Go specification, "Map types", "Index expressions", "Deletion of map elements", "For statements with range
 -- clause"). A map keeps its entries in order of insertion, and an overwritten key keeps its place.
-use Rattle.std.specs.Prelude.{ℕ, suc, ◌%◌, Bool, true, false, not, List, [], ◌∷◌, ◌++◌, length, map, filter, if◌then◌else◌, Option, Some, None, slice_get, codes}
+use Rattle.std.specs.Prelude.{ℕ, suc, ◌%◌, Bool, true, false, not, List, [], ◌∷◌, ◌++◌, length, map}
+use Rattle.std.specs.Prelude.{filter, if◌then◌else◌, Option, Some, None, slice_get, codes}
 use Rattle.go_kernel.specs.Values.{Value, Truth, Nil, Map, Empty, With, struct_of, or_nil, runtime_error}
 use Rattle.go_kernel.specs.Store.{Memory, Entries, allocated, with_cell, entries_at}
 use Rattle.go_kernel.specs.Comparisons.{same_value}

@@ -1,6 +1,7 @@
 -- Names of a program: identifiers, import paths and what is declared under them (Go specification, "Identifiers",
 -- "Declarations and scope", "Import declarations").
-use Rattle.std.specs.Prelude.{ℕ, Bool, true, false, List, [], ◌∷◌, ◌++◌, Option, Some, None, bytes_eq, ◌&&◌, codes}
+use Rattle.std.specs.Prelude.{ℕ, Bool, true, false, List, [], ◌∷◌, ◌++◌, Option, Some, None, bytes_eq}
+use Rattle.std.specs.Prelude.{◌&&◌, codes}
 
 -- a text as its bytes
 abbrev pub Text : Type 0

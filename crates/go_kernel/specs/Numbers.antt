@@ -1,9 +1,13 @@
 -- Whole numbers of a kind (Go specification, "Arithmetic operators", "Integer operators", "Integer overflow",
 -- "Conversions between numeric types").
-use Rattle.std.specs.Prelude.{◌≡◌, ◌⊎◌, ◌<◌, ◌*◌, ℕ, ◌-◌, ◌^◌, Bool, true, false, List, [], ◌∷◌, if◌then◌else◌, nat_eq, nat_lt, ℤ, pos, negsuc, ◌+ℤ◌, ◌-ℤ◌, ◌*ℤ◌, neg_ℤ, int_lt, int_div, int_rem, codes}
+use Rattle.std.specs.Prelude.{◌≡◌, ◌⊎◌, ◌<◌, ◌*◌, ℕ, ◌-◌, ◌^◌, Bool, true, false, List}
+use Rattle.std.specs.Prelude.{[], ◌∷◌, if◌then◌else◌, nat_eq, nat_lt, ℤ, pos, negsuc, ◌+ℤ◌}
+use Rattle.std.specs.Prelude.{◌-ℤ◌, ◌*ℤ◌, neg_ℤ, int_lt, int_div, int_rem, codes}
 use Rattle.std.specs.Int.{int_bit_and, int_bit_or, int_bit_xor, int_rem_euclid, int_div_euclid, w128}
-use Rattle.go_kernel.specs.Values.{Kind, Int, Int8, Int16, Int32, Int64, Uint, Uint8, Uint16, Uint32, Uint64, Value, Number, runtime_error}
-use Rattle.go_kernel.specs.Ops.{Arithmetic, Add, Sub, Mul, And, Or, Xor, AndNot, Division, Quotient, Remainder, Direction, Left, Right}
+use Rattle.go_kernel.specs.Values.{Kind, Int, Int8, Int16, Int32, Int64, Uint, Uint8, Uint16, Uint32, Uint64, Value}
+use Rattle.go_kernel.specs.Values.{Number, runtime_error}
+use Rattle.go_kernel.specs.Ops.{Arithmetic, Add, Sub, Mul, And, Or, Xor, AndNot, Division, Quotient, Remainder}
+use Rattle.go_kernel.specs.Ops.{Direction, Left, Right}
 use Rattle.go_kernel.specs.Actions.{Attempt, Done, Panics}
 
 -- how many bits a number of the kind has

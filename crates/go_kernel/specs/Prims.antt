@@ -2,14 +2,22 @@
 use Rattle.std.specs.Prelude.{ℕ, List, [], ◌∷◌}
 use Rattle.go_kernel.specs.Values.{Value, Global, Pointer, PanicType}
 use Rattle.go_kernel.specs.Store.{Memory, Store}
-use Rattle.go_kernel.specs.Ops.{Check, Checked, Unchecked, Printer, Op, Arith, Divide, Shift, Negate, Complement, Convert, Not, Compare, Concat, ByteAt, BytesOfString, StringOfBytes, Field, SetField, StructLit, ReadGlobal, GlobalAddress, Load, Save, Address, Alloc, SliceLit, MakeSlice, Element, ElementAddress, Len, Cap, Copy, Append, Slicing, MapLit, MakeMap, MapLen, MapSet, MapDelete, MapGet, MapTry, RangeMap, RangeNext, Emit, Fail}
+use Rattle.go_kernel.specs.Ops.{Check, Checked, Unchecked, Printer, Op, Arith, Divide, Shift, Negate, Complement}
+use Rattle.go_kernel.specs.Ops.{Convert, Not, Compare, Concat, ByteAt, BytesOfString, StringOfBytes, Field, SetField}
+use Rattle.go_kernel.specs.Ops.{StructLit, ReadGlobal, GlobalAddress, Load, Save, Address, Alloc, SliceLit, MakeSlice}
+use Rattle.go_kernel.specs.Ops.{Element, ElementAddress, Len, Cap, Copy, Append, Slicing, MapLit, MakeMap, MapLen}
+use Rattle.go_kernel.specs.Ops.{MapSet, MapDelete, MapGet, MapTry, RangeMap, RangeNext, Emit, Fail}
 pub use Rattle.go_kernel.specs.Actions.{Event, Answer, Ok, Fails}
-use Rattle.go_kernel.specs.Actions.{Attempt, Panics, Change, Action, Compute, Read, Try, TryRead, Write, TryWrite, Draw, perform, try_if, try_read_if}
+use Rattle.go_kernel.specs.Actions.{Attempt, Panics, Change, Action, Compute, Read, Try, TryRead, Write, TryWrite, Draw}
+use Rattle.go_kernel.specs.Actions.{perform, try_if, try_read_if}
 use Rattle.go_kernel.specs.Numbers.{arith, divide, shift, negate, complement, convert}
 use Rattle.go_kernel.specs.Comparisons.{compare, negation}
-use Rattle.go_kernel.specs.Variables.{field_read, field_set, with_fields, load, address, save, assign, read_global, first, alloc}
-use Rattle.go_kernel.specs.Slices.{concat, len, cap, element, element_address, byte_at, slicing, slice_lit, make_slice, append, copy, string_of_bytes, bytes_of_string}
-use Rattle.go_kernel.specs.Maps.{map_len, map_get, map_try, new_map, map_lit, map_set, map_delete, range_map, range_next}
+use Rattle.go_kernel.specs.Variables.{field_read, field_set, with_fields, load, address, save, assign, read_global}
+use Rattle.go_kernel.specs.Variables.{first, alloc}
+use Rattle.go_kernel.specs.Slices.{concat, len, cap, element, element_address, byte_at, slicing, slice_lit, make_slice}
+use Rattle.go_kernel.specs.Slices.{append, copy, string_of_bytes, bytes_of_string}
+use Rattle.go_kernel.specs.Maps.{map_len, map_get, map_try, new_map, map_lit, map_set, map_delete, range_map}
+use Rattle.go_kernel.specs.Maps.{range_next}
 
 -- a store, which panics on nil where it goes through a pointer of the program
 abbrev pub save_if : Check → Action

@@ -1,6 +1,8 @@
 -- The names of a frame, and the locals that a term names (Go specification, "Declarations and scope").
-use Rattle.std.specs.Prelude.{bytes_eq, ◌≡◌, List, [], ◌∷◌, ◌++◌, Bool, true, false, if◌then◌else◌}
-use Rattle.go_kernel.specs.Kernel.{Name, Term, Vals, Local, Set, Both, Prim, If, Let, Loop, Leave, Catch, Within, Alone, Recover, Call, Defer, DeferLit, Slot, InFrame, InCell, Frame}
+use Rattle.std.specs.Prelude.{bytes_eq, ◌≡◌, List, [], ◌∷◌, ◌++◌, Bool, true, false}
+use Rattle.std.specs.Prelude.{if◌then◌else◌}
+use Rattle.go_kernel.specs.Kernel.{Name, Term, Vals, Local, Set, Both, Prim, If, Let, Loop, Leave, Catch, Within, Alone}
+use Rattle.go_kernel.specs.Kernel.{Recover, Call, Defer, DeferLit, Slot, InFrame, InCell, Frame}
 
 -- the names of a frame's locals
 abbrev pub names : Frame → List Name

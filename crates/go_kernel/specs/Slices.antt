@@ -1,7 +1,9 @@
 -- Strings and slices (Go specification, "String types", "Slice types", "Index expressions", "Slice expressions",
 -- "Length and capacity", "Making slices, maps and channels", "Appending to and copying slices", "Conversions to and
 -- from a string type").
-use Rattle.std.specs.Prelude.{ℕ, zero, suc, ◌+◌, ◌-◌, ◌*◌, ◌^◌, Bool, true, false, ◌&&◌, List, [], ◌∷◌, ◌++◌, length, map, take, drop, if◌then◌else◌, Option, Some, None, nat_lt, nat_le, ℤ, pos, negsuc, slice_get, slice_set, codes}
+use Rattle.std.specs.Prelude.{ℕ, zero, suc, ◌+◌, ◌-◌, ◌*◌, ◌^◌, Bool, true, false, ◌&&◌, List, []}
+use Rattle.std.specs.Prelude.{◌∷◌, ◌++◌, length, map, take, drop, if◌then◌else◌, Option, Some, None}
+use Rattle.std.specs.Prelude.{nat_lt, nat_le, ℤ, pos, negsuc, slice_get, slice_set, codes}
 use Rattle.go_kernel.specs.Values.{Numbered, Value, Int, Uint8, Number, Str, Nil, Pointer, Slice, or_nil, runtime_error}
 use Rattle.go_kernel.specs.Store.{Memory, Elements, allocated, with_cell, elements_at}
 use Rattle.go_kernel.specs.Actions.{Attempt, Done, Panics, Change, Outcome, Changes, Refuses}

@@ -1,7 +1,8 @@
 -- The store: the memory, which has package variables and cells in order of allocation, and the choices that the order
 -- of a range over a map is drawn from (Go specification, "Variables", "Allocation", "For statements with range
 -- clause").
-use Rattle.std.specs.Prelude.{ℕ, Bool, ◌&&◌, List, [], ◌∷◌, ◌++◌, if◌then◌else◌, Option, Some, None, slice_get, slice_set}
+use Rattle.std.specs.Prelude.{ℕ, Bool, ◌&&◌, List, [], ◌∷◌, ◌++◌, if◌then◌else◌, Option, Some}
+use Rattle.std.specs.Prelude.{None, slice_get, slice_set}
 use Rattle.go_kernel.specs.Names.{Name, ImportPath, same_text}
 use Rattle.go_kernel.specs.Values.{Base, Numbered, Global, Value, Pointer, at_path, with_path, or_nil}
 

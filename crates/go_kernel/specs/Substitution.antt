@@ -1,6 +1,7 @@
 -- Substitution of terms for free names.
 use Rattle.std.specs.Prelude.{List, [], ◌∷◌, ◌++◌, if◌then◌else◌}
-use Rattle.go_kernel.specs.Kernel.{Name, Term, Vals, Local, Set, Both, Prim, If, Let, Loop, Leave, Catch, Within, Alone, Recover, Call, Defer, DeferLit}
+use Rattle.go_kernel.specs.Kernel.{Name, Term, Vals, Local, Set, Both, Prim, If, Let, Loop, Leave, Catch, Within, Alone}
+use Rattle.go_kernel.specs.Kernel.{Recover, Call, Defer, DeferLit}
 use Rattle.go_kernel.specs.Scope.{has}
 
 -- what stands for a name, where g has been bound since

@@ -1,6 +1,7 @@
 //! Laws of arguments that take their parameters' places: an argument is then evaluated where its parameter is used.
 
-ghost use Rattle.go_kernel.specs.ChosenLaws.{ActingArgumentMoves, CallMovesItsSafeSet, CarefulListServes, LookingArgumentMoves, SafeSetMoves, SteadyArgumentMoves};
+ghost use Rattle.go_kernel.specs.ChosenLaws.{ActingArgumentMoves, CallMovesItsSafeSet, CarefulListServes};
+ghost use Rattle.go_kernel.specs.ChosenLaws.{LookingArgumentMoves, SafeSetMoves, SteadyArgumentMoves};
 
 /// An argument that can't panic and looks at the frame alone may stand wherever its parameter is used, in loops and
 /// deferred literals too.

@@ -1,6 +1,7 @@
 //! Laws of forms: what may stand for a called literal and for a deferred call.
 
-ghost use Rattle.go_kernel.specs.FormLaws.{BodyIsBlock, DeferredCallIsItsLiteral, DeferredCallMovesItsSafeSet, ReturnIsItsExpression, TailIntoSlotsIsBlock, TailIsBlock};
+ghost use Rattle.go_kernel.specs.FormLaws.{BodyIsBlock, DeferredCallIsItsLiteral, DeferredCallMovesItsSafeSet};
+ghost use Rattle.go_kernel.specs.FormLaws.{ReturnIsItsExpression, TailIntoSlotsIsBlock, TailIsBlock};
 
 /// A called literal whose body is one `return` of an expression is the expression,
 /// if this gives as many values as there are results, names none of the results and doesn't recover.

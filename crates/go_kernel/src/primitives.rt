@@ -1,7 +1,9 @@
 //! The table of primitives: what each may do.
 
 ghost use Rattle.std.specs.Prelude.{◌≡◌, ℕ, false, List, [], ◌∷◌, ◌++◌, ◌≢◌, ℤ, pos};
-ghost use Rattle.go_kernel.specs.Kernel.{Kind, Value, Number, Store, Op, Divide, Division, Shift, Direction, Checked, Unchecked, effect, gives, prim, IsPure, IsLook, SeesMemory, IsCalm, KeepsMemory, Keeps, Makes};
+ghost use Rattle.go_kernel.specs.Kernel.{Kind, Value, Number, Store, Op, Divide, Division, Shift, Direction, Checked};
+ghost use Rattle.go_kernel.specs.Kernel.{Unchecked, effect, gives, prim, IsPure, IsLook, SeesMemory, IsCalm};
+ghost use Rattle.go_kernel.specs.Kernel.{KeepsMemory, Keeps, Makes};
 
 /// What the table says of a primitive, its answers keep (Go specification, "Run-time panics",
 /// "Order of evaluation"): one that may not panic never does, whatever its operands; one that

@@ -1,7 +1,8 @@
 -- The layout of a file (Go specification, Source file organization; go/printer of the Go standard library): its package
 -- clause, its imports and its declarations, with an empty line before each of them. They begin without an indent, and a
 -- newline ends the last.
-use Rattle.std.specs.Prelude.{ℕ, ◌/◌, ◌%◌, Bool, true, false, not, ◌&&◌, nat_lt, nat_eq, if◌then◌else◌, List, [], ◌∷◌, ◌++◌, Option, Some, None, codes}
+use Rattle.std.specs.Prelude.{ℕ, ◌/◌, ◌%◌, Bool, true, false, not, ◌&&◌, nat_lt, nat_eq}
+use Rattle.std.specs.Prelude.{if◌then◌else◌, List, [], ◌∷◌, ◌++◌, Option, Some, None, codes}
 use Rattle.std.specs.Char.{digit_char}
 use Rattle.go_tree.specs.declared.tokens.TokenKind.TheVariants.{Str}
 use Rattle.go_tree.specs.File.{ImportSpec, ImportDecl, TypeSpec, Receiver, Func, Decl, values, types, func, File}

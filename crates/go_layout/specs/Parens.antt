@@ -3,8 +3,9 @@
 use Rattle.std.specs.Prelude.{ℕ, ◌+◌, Bool, true, false, not, ◌&&◌, ◌||◌, nat_lt}
 use Rattle.go_tree.specs.declared.operators.UnOp.{UnOp}
 use Rattle.go_tree.specs.declared.operators.UnOp.TheVariants.{Plus, Minus, Flip, Address}
-use Rattle.go_tree.specs.Tree.{named, pointer, slice_type, map_type, struct_type, Expr, Exprs, no_exprs, expr_and, int_lit, composite, type_operand, unary, binary, star}
-use Rattle.go_words.specs.Terminals.{level_of}
+use Rattle.go_tree.specs.Tree.{named, pointer, slice_type, map_type, struct_type, Expr, Exprs, no_exprs, expr_and}
+use Rattle.go_tree.specs.Tree.{int_lit, composite, type_operand, unary, binary, star}
+use Rattle.go_tree.specs.GoWords.Terminals.{level_of}
 
 -- two operators that would be read as one: `++`, `--`, `&&`, `&^`
 abbrev pub is_one_operator : UnOp → UnOp → Bool

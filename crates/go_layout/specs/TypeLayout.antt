@@ -1,6 +1,7 @@
 -- The layout of types and signatures (Go specification, Types, Function types).
 use Rattle.std.specs.Prelude.{Bool, true, false, List, [], ◌∷◌, Option, Some, None, codes}
-use Rattle.go_tree.specs.Tree.{NameAt, TypeExpr, named, pointer, slice_type, map_type, struct_type, Fields, no_fields, field, Param, Sig}
+use Rattle.go_tree.specs.Tree.{NameAt, TypeExpr, named, pointer, slice_type, map_type, struct_type, Fields, no_fields}
+use Rattle.go_tree.specs.Tree.{field, Param, Sig}
 use Rattle.go_layout.specs.Layouts.{Layout, no_text, gap, ◌⊕◌, key, op, name_layout}
 
 -- what stands between an entry of a list and those after it

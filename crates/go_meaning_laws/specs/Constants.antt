@@ -1,5 +1,6 @@
 -- The values of constant expressions (Go specification, Constant expressions; Integer literals).
-use Rattle.std.specs.Prelude.{ℕ, suc, ◌+◌, ◌-◌, ◌*◌, Bool, List, [], ◌∷◌, length, Option, Some, None, is_some}
+use Rattle.std.specs.Prelude.{ℕ, suc, ◌+◌, ◌-◌, ◌*◌, Bool, List, [], ◌∷◌, length, Option, Some}
+use Rattle.std.specs.Prelude.{None, is_some}
 use Rattle.go_tree.specs.Tree.{Expr, ident, int_lit}
 use Rattle.go_meaning_laws.specs.Means.{Environment, constant_meant}
 

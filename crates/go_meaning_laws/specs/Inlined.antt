@@ -3,7 +3,8 @@
 -- Trees are taken without their spans. A construct without a rule has no step in it.
 use Rattle.std.specs.Prelude.{◌≡◌, ℕ, Bool, List, ◌∷◌, Option, Some, map}
 use Rattle.go_tree.specs.declared.exprs.Rest.{Rest}
-use Rattle.go_tree.specs.Tree.{NameAt, TypeExpr, Expr, ident, call, Exprs, expr_and, Stmt, const_decl, eval, Stmts, stmt_and, ValueSpecs, spec}
+use Rattle.go_tree.specs.Tree.{NameAt, TypeExpr, Expr, ident, call, Exprs, expr_and, Stmt, const_decl, eval, Stmts}
+use Rattle.go_tree.specs.Tree.{stmt_and, ValueSpecs, spec}
 use Rattle.go_tree.specs.File.{Func, Decl, values, func}
 use Rattle.go_tree.specs.FileBare.{bare_file}
 use Rattle.go_meaning_laws.specs.Package.{SourceTree, Package}

@@ -2,10 +2,12 @@
 -- Bootstrapping; Program initialization; Program execution).
 -- Each rule is by cases on the tree. A construct without a rule is `no_rule`, which does nothing; well-typed packages
 -- have none.
-use Rattle.std.specs.Prelude.{ℕ, Bool, true, false, if◌then◌else◌, List, [], ◌∷◌, ◌++◌, map, Option, Some, None, pos, bytes_eq, nat_eq, nat_lt, codes}
+use Rattle.std.specs.Prelude.{ℕ, Bool, true, false, if◌then◌else◌, List, [], ◌∷◌, ◌++◌, map, Option}
+use Rattle.std.specs.Prelude.{Some, None, pos, bytes_eq, nat_eq, nat_lt, codes}
 use Rattle.go_tree.specs.Tree.{Expr, ident, call, Exprs, no_exprs, expr_and, Stmt, eval, Stmts, no_stmts, stmt_and}
 use Rattle.go_tree.specs.File as file
-use Rattle.go_kernel.specs.Kernel.{Text, ImportPath, FuncName, Number, Int, Println, Emit, Func, Term, Vals, Both, Prim, Let, Program, declared, Shown, shows}
+use Rattle.go_kernel.specs.Kernel.{Text, ImportPath, FuncName, Number, Int, Println, Emit, Func, Term, Vals, Both, Prim}
+use Rattle.go_kernel.specs.Kernel.{Let, Program, declared, Shown, shows}
 use Rattle.go_meaning_laws.specs.Package.{SourceTree, Package}
 use Rattle.go_meaning_laws.specs.Means.{Environment, Entity, predeclared, means, environment}
 use Rattle.go_meaning_laws.specs.Constants.{constant_value}

@@ -1,8 +1,10 @@
 -- Well-typed packages (Go specification, Declarations and scope; Constant declarations; Function declarations; Calls;
 -- Bootstrapping; Program execution).
-use Rattle.std.specs.Prelude.{Bool, true, false, not, ◌&&◌, ◌||◌, List, [], ◌∷◌, Option, Some, None, is_none, bytes_eq, codes}
+use Rattle.std.specs.Prelude.{Bool, true, false, not, ◌&&◌, ◌||◌, List, [], ◌∷◌, Option, Some, None}
+use Rattle.std.specs.Prelude.{is_none, bytes_eq, codes}
 use Rattle.std.specs.List.{list_all}
-use Rattle.go_tree.specs.Tree.{ident, call, Exprs, no_exprs, expr_and, Stmt, const_decl, eval, Stmts, no_stmts, stmt_and, ValueSpecs, no_specs, spec}
+use Rattle.go_tree.specs.Tree.{ident, call, Exprs, no_exprs, expr_and, Stmt, const_decl, eval, Stmts, no_stmts}
+use Rattle.go_tree.specs.Tree.{stmt_and, ValueSpecs, no_specs, spec}
 use Rattle.go_tree.specs.File.{Func, Decl, values, func}
 use Rattle.go_meaning_laws.specs.Package.{SourceTree, Package}
 use Rattle.go_meaning_laws.specs.Means.{Environment, Entity, function, predeclared, means, package_block, environment}

@@ -1,6 +1,7 @@
 //! Laws of inlining constants: what replacing uses of constants does to programs.
 
-ghost use Rattle.go_meaning_laws.specs.Laws.{InlinedIsTyped, InlinedMeansTheSame, InlinedShowsTheSame, InliningRunMeansTheSame};
+ghost use Rattle.go_meaning_laws.specs.Laws.{InlinedIsTyped, InlinedMeansTheSame, InlinedShowsTheSame};
+ghost use Rattle.go_meaning_laws.specs.Laws.{InliningRunMeansTheSame};
 
 /// Where a use of a constant becomes what the constant is declared as, the packages stay well typed
 /// with any further packages, and each main package among them all shows the same: for every list

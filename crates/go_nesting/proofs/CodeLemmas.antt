@@ -1,7 +1,7 @@
 -- The code's terminals count as those of the grammar.
 use Rattle.std.proofs.Common.{◌≡◌, ℕ, List, refl}
-use Rattle.go_words.specs.Terminals as pure
-use Rattle.go_words.specs.Codes.{spelled, code_of}
+use Rattle.go_tree.specs.GoWords.Terminals as pure
+use Rattle.go_tree.specs.GoWords.Codes.{spelled, code_of}
 use Rattle.go_read.specs.SpellsWeight.{counts_after}
 
 pub counts_code : (t : pure.Terminal) (w counts : List ℕ) → counts_after (spelled (code_of t) w) counts ≡ counts_after t counts

@@ -1,7 +1,8 @@
 -- The first token whose nesting weight passes a limit.
-use Rattle.std.specs.Prelude.{◌≡◌, ℕ, ◌<◌, ◌≤◌, nat_lt, List, [], ◌∷◌, ◌++◌, length, take, sum, slice_index, Option, Some, None, All, if◌then◌else◌}
+use Rattle.std.specs.Prelude.{◌≡◌, ℕ, ◌<◌, ◌≤◌, nat_lt, List, [], ◌∷◌, ◌++◌, length, take}
+use Rattle.std.specs.Prelude.{sum, slice_index, Option, Some, None, All, if◌then◌else◌}
 use Rattle.go_tree.specs.declared.tokens.Token.{Token}
-use Rattle.go_words.specs.Terminals.{terminal_of}
+use Rattle.go_tree.specs.GoWords.Terminals.{terminal_of}
 use Rattle.go_read.specs.SpellsWeight.{counts_after, weights_of}
 
 -- a token that starts here has a weight over the limit, and no token before it has

@@ -1,12 +1,12 @@
 //! The counts of the open brackets.
 
 ghost use Rattle.std.specs.Prelude.{◌≡◌, ℕ, ◌≤◌, List, [], ◌∷◌, sum};
-ghost use Rattle.go_words.specs.Codes.{spelled};
+ghost use Rattle.go_tree.specs.GoWords.Codes.{spelled};
 ghost use Rattle.go_read.specs.SpellsWeight.{counts_after};
 ghost use Rattle.go_nesting.specs.Nesting.{after};
 ghost use Rattle.go_nesting.specs.Frames.{counts_of, IsSound};
 
-use go_words::Terminal;
+use go_tree::go_words::Terminal;
 
 /// The most that a limit of weights may be.
 pub const MAX_LIMIT: u32 = 400;

@@ -1,5 +1,6 @@
 -- Where the parts of a file stand in its text.
-use Rattle.std.specs.Prelude.{◌≡◌, ℕ, ◌+◌, ◌≤◌, Bool, if◌then◌else◌, List, [], ◌∷◌, length, slice_range, Option, None}
+use Rattle.std.specs.Prelude.{◌≡◌, ℕ, ◌+◌, ◌≤◌, Bool, if◌then◌else◌, List, [], ◌∷◌}
+use Rattle.std.specs.Prelude.{length, slice_range, Option, None}
 use Rattle.go_outline.specs.declared.found.OperandAt.{OperandAt}
 use Rattle.go_outline.specs.declared.found.ConstantAt.{ConstantAt}
 use Rattle.go_outline.specs.declared.found.PrintAt.{PrintAt}

@@ -1,5 +1,6 @@
 -- The outline that a text has, if it has one: what `IsOutlineOf` says, computed from the text.
-use Rattle.std.specs.Prelude.{ℕ, zero, suc, Bool, true, false, if◌then◌else◌, ◌==◌, nat_le, List, [], ◌∷◌, length, take, drop, codes, Option, Some, None}
+use Rattle.std.specs.Prelude.{ℕ, zero, suc, Bool, true, false, if◌then◌else◌, ◌==◌, nat_le, List, []}
+use Rattle.std.specs.Prelude.{◌∷◌, length, take, drop, codes, Option, Some, None}
 use Rattle.std.specs.Char.{is_ascii_alphanumeric}
 use Rattle.go_outline.specs.Words.{is_name, is_number}
 use Rattle.go_outline.specs.Outline.{Operand, named, number, Constant, is_constant, Outline}

@@ -1,11 +1,13 @@
 //! The trees of the parts of a file.
 
-ghost use Rattle.std.specs.Prelude.{◌≡◌, ◌+◌, ◌^◌, ◌<◌, ◌≤◌, ℕ, [], ◌∷◌, map, length, IfOk, None, slice_range, codes};
+ghost use Rattle.std.specs.Prelude.{◌≡◌, ◌+◌, ◌^◌, ◌<◌, ◌≤◌, ℕ, [], ◌∷◌, map, length};
+ghost use Rattle.std.specs.Prelude.{IfOk, None, slice_range, codes};
 ghost use Rattle.go_tree.specs.View.{name_at_of, expr_of, exprs_of, stmt_of, const_spec_of};
 ghost use Rattle.go_tree.specs.FileView.{decl_of};
 ghost use Rattle.go_tree.specs.Tree.{ident};
 ghost use Rattle.go_tree.specs.Lists.{stmts_from};
-ghost use Rattle.go_outline.specs.Outline.{mark_text, operand_tree, one_expr, constant_tree, print_tree, span_at, main_of};
+ghost use Rattle.go_outline.specs.Outline.{mark_text, operand_tree, one_expr, constant_tree, print_tree, span_at};
+ghost use Rattle.go_outline.specs.Outline.{main_of};
 ghost use Rattle.go_outline.specs.Found.{operand_in, constant_in, spec_tree, IsOperandAt, IsUnmarkedAt, IsPrintAt};
 
 use crate::found::{ConstantAt, OperandAt, PrintAt};

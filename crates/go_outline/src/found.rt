@@ -1,6 +1,7 @@
 //! Where the parts of a file stand in its text.
 
-ghost use Rattle.std.specs.Prelude.{◌≡◌, ◌+◌, ◌≤◌, length, drop, MatchOption, Some, None, ⊤, not, ◌&&◌, ◌||◌};
+ghost use Rattle.std.specs.Prelude.{◌≡◌, ◌+◌, ◌≤◌, length, drop, MatchOption, Some, None, ⊤, not};
+ghost use Rattle.std.specs.Prelude.{◌&&◌, ◌||◌};
 ghost use Rattle.go_outline.specs.Words.{is_name};
 ghost use Rattle.go_outline.specs.Reading.{after, word_length, read_operand, read_constant, read_unmarked, read_print};
 ghost use Rattle.go_outline.specs.Found.{operand_in, constant_in, IsOperandAt, IsConstantAt, IsUnmarkedAt, IsPrintAt};

@@ -4,7 +4,7 @@ use Rattle.std.specs.Prelude.{option_and_then, if◌then◌else◌}
 use Rattle.go_tree.specs.declared.spans.Span.{Span}
 use Rattle.go_tree.specs.Tree.{NameAt, ValueSpecs, const_decl, var_decl}
 use Rattle.go_tree.specs.File.{ImportDecl, Decl, File, values, types}
-use Rattle.go_words.specs.Terminals.{lex, ident, semicolon, paren, key_const, key_func, key_package, key_type, key_var}
+use Rattle.go_tree.specs.GoWords.Terminals.{lex, ident, semicolon, paren, key_const, key_func, key_package, key_type, key_var}
 use Rattle.go_read.specs.SpellsSpans.{span_to}
 use Rattle.go_read.specs.SpellsTypes.{Lexemes, name_here}
 use Rattle.go_read.specs.SpellsFiles.{is_blank}
@@ -13,8 +13,8 @@ use Rattle.go_read.specs.ReadFiles.{func_step, top_step, imports_after, imports_
 use Rattle.go_read.specs.Programs.{give, ask, run, unless}
 use Rattle.go_read.specs.Reading.{at}
 use Rattle.go_read.proofs.Sound.{at_is}
-use Rattle.go_words.specs.declared.terminals.Terminal.{Terminal}
-use Rattle.go_words.specs.declared.terminals.Terminal.TheVariants as code
+use Rattle.go_tree.specs.declared.go_words.terminals.Terminal.{Terminal}
+use Rattle.go_tree.specs.declared.go_words.terminals.Terminal.TheVariants as code
 use Rattle.go_productions.specs.Parts.{const_decl_at, var_decl_at}
 use Rattle.go_productions.specs.Terminals.{first_of, rest_of, name_of}
 use Rattle.go_statements.specs.StmtParts.{valued}

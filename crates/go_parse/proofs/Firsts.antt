@@ -2,11 +2,11 @@
 use Rattle.std.proofs.Common.{◌≡◌, ◌≢◌, ℕ, true, false, List, [], ◌∷◌, Some, None, refl, sym, ap, subst, ◌∙◌, arith}
 use Rattle.go_tree.specs.declared.operators.BinOp.TheVariants.{Mul}
 use Rattle.go_tree.specs.declared.spans.Span.{Span}
-use Rattle.go_words.specs.Terminals as pure
+use Rattle.go_tree.specs.GoWords.Terminals as pure
 use Rattle.go_read.specs.SpellsTypes.{Lexemes}
-use Rattle.go_words.specs.declared.terminals.Terminal.{Terminal}
-use Rattle.go_words.specs.declared.terminals.Terminal.TheVariants as code
-use Rattle.go_words.specs.Codes.{spelled, code_of}
+use Rattle.go_tree.specs.declared.go_words.terminals.Terminal.{Terminal}
+use Rattle.go_tree.specs.declared.go_words.terminals.Terminal.TheVariants as code
+use Rattle.go_tree.specs.GoWords.Codes.{spelled, code_of}
 use Rattle.go_productions.specs.Terminals.{letters_of, taken, first_of}
 use Rattle.go_parse.specs.Parts.{is_equals, is_star}
 

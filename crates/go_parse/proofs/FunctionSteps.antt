@@ -5,15 +5,15 @@ use Rattle.go_tree.specs.declared.operators.BinOp.TheVariants.{Mul}
 use Rattle.go_tree.specs.declared.spans.Span.{Span}
 use Rattle.go_tree.specs.Tree.{NameAt, Sig, Stmts}
 use Rattle.go_tree.specs.File.{Receiver, Decl, func}
-use Rattle.go_words.specs.Terminals.{lex, ident, binary_op, paren}
+use Rattle.go_tree.specs.GoWords.Terminals.{lex, ident, binary_op, paren}
 use Rattle.go_read.specs.SpellsSpans.{span_to}
 use Rattle.go_read.specs.SpellsTypes.{Lexemes}
 use Rattle.go_read.specs.Goals.{read_sig, read_block, read_receiver}
 use Rattle.go_read.specs.ReadFiles.{receiver_step, may_be_variadic}
 use Rattle.go_read.specs.Reading.{at}
 use Rattle.go_read.proofs.Sound.{at_is}
-use Rattle.go_words.specs.declared.terminals.Terminal.{Terminal}
-use Rattle.go_words.specs.declared.terminals.Terminal.TheVariants as code
+use Rattle.go_tree.specs.declared.go_words.terminals.Terminal.{Terminal}
+use Rattle.go_tree.specs.declared.go_words.terminals.Terminal.TheVariants as code
 use Rattle.go_productions.specs.Terminals.{first_of, rest_of, name_of}
 use Rattle.go_parse.specs.Parts.{PartsOfFunc, closed, receiver_here, func_at, func_parts_at, method_at, func_decl_at}
 use Rattle.go_parse.proofs.Firsts.{by_first, apart}

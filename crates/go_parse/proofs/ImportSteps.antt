@@ -4,17 +4,17 @@ use Rattle.std.specs.Prelude.{ℕ, true, false, option_and_then}
 use Rattle.go_tree.specs.declared.spans.Span.{Span}
 use Rattle.go_tree.specs.Tree.{NameAt}
 use Rattle.go_tree.specs.File.{ImportSpec}
-use Rattle.go_words.specs.Terminals.{lex, ident, str_lit, semicolon, paren, end_paren, key_import}
+use Rattle.go_tree.specs.GoWords.Terminals.{lex, ident, str_lit, semicolon, paren, end_paren, key_import}
 use Rattle.go_read.specs.SpellsSpans.{span_to}
-use Rattle.go_words.specs.Texts.{text_value}
+use Rattle.go_tree.specs.GoWords.Texts.{text_value}
 use Rattle.go_read.specs.SpellsTypes.{Lexemes}
 use Rattle.go_read.specs.Goals.{read_import_spec, read_import_specs, read_import}
 use Rattle.go_read.specs.ReadFiles.{import_spec_step, import_specs_after, import_specs_step, import_step}
 use Rattle.go_read.specs.Programs.{give, run}
 use Rattle.go_read.specs.Reading.{at}
 use Rattle.go_read.proofs.Sound.{at_is}
-use Rattle.go_words.specs.declared.terminals.Terminal.{Terminal}
-use Rattle.go_words.specs.declared.terminals.Terminal.TheVariants as code
+use Rattle.go_tree.specs.declared.go_words.terminals.Terminal.{Terminal}
+use Rattle.go_tree.specs.declared.go_words.terminals.Terminal.TheVariants as code
 use Rattle.go_productions.specs.Terminals.{first_of, rest_of, spelling_of, name_of}
 use Rattle.go_parse.specs.Parts.{closed, spec_end, and_before, path_at, grouped_import_at, single_import_at}
 use Rattle.go_parse.proofs.Firsts.{by_first, apart}

@@ -6,10 +6,10 @@ use Rattle.go_tree.specs.declared.tokens.Token.{Token}
 use Rattle.go_tree.specs.declared.tokens.Comment.{Comment}
 use Rattle.go_tree.specs.declared.tokens.TokenKind.{TokenKind}
 use Rattle.go_tree.specs.declared.tokens.TokenKind.TheVariants.{Ident, Keyword, Operator, Integer, Float, Imaginary, Rune, Str, Inserted}
-use Rattle.go_words.specs.Tokens.{TokensOf}
-use Rattle.go_words.specs.Terminals.{Terminal, str_lit, found_in, keywords, operators, terminal_of, lexemes}
-use Rattle.go_literals.specs.Strings.{IsString}
-use Rattle.go_literals.proofs.TokenForms.{tokens_are_strings}
+use Rattle.go_tree.specs.GoWords.Tokens.{TokensOf}
+use Rattle.go_tree.specs.GoWords.Terminals.{Terminal, str_lit, found_in, keywords, operators, terminal_of, lexemes}
+use Rattle.go_tree.specs.GoLiterals.Strings.{IsString}
+use Rattle.go_tree.proofs.GoLiterals.TokenForms.{tokens_are_strings}
 use Rattle.go_parse.specs.Texts.{IsSound, HasTexts}
 
 is_plain : Terminal → Bool

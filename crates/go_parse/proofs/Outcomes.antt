@@ -3,7 +3,7 @@ use Rattle.std.proofs.Common.{◌≡◌, ℕ, List, [], ◌∷◌, Option, Some,
 use Rattle.go_tree.specs.declared.spans.Span.{Span}
 use Rattle.go_tree.specs.declared.tokens.Token.{Token}
 use Rattle.go_tree.specs.File.{File}
-use Rattle.go_words.specs.Terminals.{lex, lexemes}
+use Rattle.go_tree.specs.GoWords.Terminals.{lex, lexemes}
 use Rattle.go_read.specs.SpellsSpans.{span_to, start_of}
 use Rattle.go_read.specs.SpellsTypes.{Lexemes}
 use Rattle.go_read.specs.SpellsFiles.{SpellsFile}

@@ -4,7 +4,7 @@ use Rattle.std.specs.Prelude.{ℕ, List, Result, Ok, Err, IfErr}
 use Rattle.std.specs.Str.{IsValidUpTo}
 use Rattle.go_tree.specs.declared.tokens.Token.{Token}
 use Rattle.go_tree.specs.declared.tokens.Comment.{Comment}
-use Rattle.go_words.specs.Tokens.{StopsAt, TokensOf}
+use Rattle.go_tree.specs.GoWords.Tokens.{StopsAt, TokensOf}
 use Rattle.go_scan.specs.declared.scanner.ScanError.{ScanError}
 use Rattle.go_scan.specs.declared.scanner.ScanError.TheVariants as scanned
 use Rattle.go_scan.specs.Scanned.{HasNoTokens, Refuses}

@@ -1,17 +1,17 @@
 -- The string literals among the tokens that are left.
 use Rattle.std.proofs.Common.{◌≡◌, [], ◌∷◌, Option, Some, None, refl, sym, ap, subst}
 use Rattle.go_tree.specs.declared.spans.Span.{Span}
-use Rattle.go_literals.specs.Strings.{IsString}
+use Rattle.go_tree.specs.GoLiterals.Strings.{IsString}
 use Rattle.go_tree.specs.File.{ImportSpec, ImportDecl}
-use Rattle.go_words.specs.Terminals.{Terminal, lex, str_lit, semicolon, end_paren}
+use Rattle.go_tree.specs.GoWords.Terminals.{Terminal, lex, str_lit, semicolon, end_paren}
 use Rattle.go_read.specs.SpellsSpans.{span_to}
 use Rattle.go_read.specs.SpellsTypes.{Lexemes}
 use Rattle.go_read.specs.Goals.{read_import_spec, read_import}
 use Rattle.go_read.specs.Reading.{at}
 use Rattle.go_read.proofs.Sound.{at_sound}
 use Rattle.go_read.proofs.Suffixes.{Suffix, whole, after, import_spec_suffix, import_suffix}
-use Rattle.go_words.specs.declared.terminals.Terminal.TheVariants as code
-use Rattle.go_words.specs.Codes.{code_of}
+use Rattle.go_tree.specs.declared.go_words.terminals.Terminal.TheVariants as code
+use Rattle.go_tree.specs.GoWords.Codes.{code_of}
 use Rattle.go_productions.specs.Terminals.{first_of, rest_of, letters_of, spelling_of}
 use Rattle.go_parse.specs.Parts.{ended, spec_end}
 use Rattle.go_parse.specs.Texts.{IsSound, HasTexts}

@@ -4,7 +4,7 @@ use Rattle.std.specs.Prelude.{option_and_then}
 use Rattle.go_tree.specs.declared.spans.Span.{Span}
 use Rattle.go_tree.specs.Tree.{NameAt, TypeExpr}
 use Rattle.go_tree.specs.File.{TypeSpec, types}
-use Rattle.go_words.specs.Terminals.{lex, ident, assign, semicolon, paren, end_paren}
+use Rattle.go_tree.specs.GoWords.Terminals.{lex, ident, assign, semicolon, paren, end_paren}
 use Rattle.go_read.specs.SpellsSpans.{span_to}
 use Rattle.go_read.specs.SpellsTypes.{Lexemes}
 use Rattle.go_read.specs.Goals.{read_type, read_type_spec, read_type_specs}
@@ -12,8 +12,8 @@ use Rattle.go_read.specs.ReadFiles.{type_spec_step, type_specs_after, type_specs
 use Rattle.go_read.specs.Programs.{run}
 use Rattle.go_read.specs.Reading.{at}
 use Rattle.go_read.proofs.Sound.{at_is}
-use Rattle.go_words.specs.declared.terminals.Terminal.{Terminal}
-use Rattle.go_words.specs.declared.terminals.Terminal.TheVariants as code
+use Rattle.go_tree.specs.declared.go_words.terminals.Terminal.{Terminal}
+use Rattle.go_tree.specs.declared.go_words.terminals.Terminal.TheVariants as code
 use Rattle.go_productions.specs.Terminals.{first_of, rest_of, name_of}
 use Rattle.go_parse.specs.Parts.{closed, spec_end, and_before, type_after_at, grouped_types_at, single_type_at, type_decl_at}
 use Rattle.go_parse.proofs.Firsts.{by_first, apart}

@@ -4,17 +4,18 @@ use Rattle.go_tree.specs.declared.spans.Span.{Span}
 use Rattle.go_tree.specs.Tree.{NameAt, Sig, Stmts}
 use Rattle.go_tree.specs.View.{block_of, name_at_of, sig_of}
 use Rattle.go_tree.specs.File.{ImportSpec, ImportDecl, TypeSpec, Receiver, Decl, types}
-use Rattle.go_words.specs.Terminals.{lex, ident, str_lit, semicolon, paren, end_paren}
+use Rattle.go_tree.specs.GoWords.Terminals.{lex, ident, str_lit, semicolon, paren, end_paren}
 use Rattle.go_read.specs.SpellsSpans.{span_to}
-use Rattle.go_words.specs.Texts.{text_value}
+use Rattle.go_tree.specs.GoWords.Texts.{text_value}
 use Rattle.go_read.specs.SpellsTypes.{Lexemes}
-use Rattle.go_read.specs.Goals.{read_sig, read_block, read_type, read_import_spec, read_import_specs, read_type_spec, read_type_specs, read_receiver}
+use Rattle.go_read.specs.Goals.{read_sig, read_block, read_type, read_import_spec, read_import_specs, read_type_spec}
+use Rattle.go_read.specs.Goals.{read_type_specs, read_receiver}
 use Rattle.go_read.specs.Programs.{run}
 use Rattle.go_read.specs.ReadFiles.{func_step}
 use Rattle.go_read.specs.Reading.{at}
 use Rattle.go_tree.specs.declared.operators.BinOp.TheVariants.{Mul}
-use Rattle.go_words.specs.declared.terminals.Terminal.{Terminal}
-use Rattle.go_words.specs.declared.terminals.Terminal.TheVariants as code
+use Rattle.go_tree.specs.declared.go_words.terminals.Terminal.{Terminal}
+use Rattle.go_tree.specs.declared.go_words.terminals.Terminal.TheVariants as code
 use Rattle.go_productions.specs.Terminals.{rest_of, name_of}
 use Rattle.go_parse.specs.declared.functions.FuncParts.{FuncParts as Parsed}
 

@@ -5,8 +5,8 @@ use Rattle.go_tree.specs.declared.spans.Span.{Span}
 use Rattle.go_tree.specs.declared.tokens.Token.{Token}
 use Rattle.go_tree.specs.declared.tokens.Comment.{Comment}
 use Rattle.go_tree.specs.File.{File}
-use Rattle.go_words.specs.Terminals.{lexemes}
-use Rattle.go_words.specs.Tokens.{TokensOf, StopsAt}
+use Rattle.go_tree.specs.GoWords.Terminals.{lexemes}
+use Rattle.go_tree.specs.GoWords.Tokens.{TokensOf, StopsAt}
 use Rattle.go_scan.specs.Scanned.{HasNoTokens}
 use Rattle.go_scan.specs.Unsupported.{IsFirst, unsupported_spans}
 use Rattle.go_nesting.specs.declared.counts.TheConstants.{MAX_LIMIT}
@@ -14,7 +14,8 @@ use Rattle.go_nesting.specs.Over.{IsFirstOver}
 use Rattle.go_read.specs.SpellsFiles.{SpellsFile}
 use Rattle.go_read.specs.Fronts.{IsRefusedAt}
 use Rattle.go_parse.specs.declared.source.ReadError.{ReadError}
-use Rattle.go_parse.specs.declared.source.ReadError.TheVariants.{NotUtf8, BadToken, Unsupported, TooDeep, NotRead, NoMemory}
+use Rattle.go_parse.specs.declared.source.ReadError.TheVariants.{NotUtf8, BadToken, Unsupported, TooDeep, NotRead}
+use Rattle.go_parse.specs.declared.source.ReadError.TheVariants.{NoMemory}
 
 -- each word is supported
 abbrev pub IsSupported : List ℕ → List Token → List Comment → Type 0

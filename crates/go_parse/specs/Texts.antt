@@ -1,8 +1,8 @@
 -- The string literals among tokens.
 use Rattle.std.specs.Prelude.{[], ◌∷◌}
-use Rattle.go_words.specs.Terminals.{Terminal, lex, str_lit}
+use Rattle.go_tree.specs.GoWords.Terminals.{Terminal, lex, str_lit}
 use Rattle.go_read.specs.SpellsTypes.{Lexemes}
-use Rattle.go_literals.specs.Strings.{IsString}
+use Rattle.go_tree.specs.GoLiterals.Strings.{IsString}
 
 -- a string literal has the form of one (Go specification, String literals)
 abbrev pub IsSound : Terminal → Type 0

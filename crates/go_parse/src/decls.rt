@@ -12,7 +12,7 @@ use crate::types::type_decl;
 use go_productions::{Cursor, Reading};
 use go_statements::{const_decl, var_decl};
 use go_tree::Decl;
-use go_words::Terminal;
+use go_tree::go_words::Terminal;
 
 /// A declaration of the package block.
 pub(crate) fn decl<'a>(tokens: Cursor<'a>) -> Reading<'a, Decl>

@@ -14,8 +14,8 @@ ghost use Rattle.go_parse.specs.Texts.{HasTexts};
 use crate::decls::decl;
 use crate::imports::import;
 use go_productions::{Cursor, Reading, name};
+use go_tree::go_words::Terminal;
 use go_tree::{Decl, DeclList, FileTree, ImportDecl, ImportDeclList, NameAt, NoMemory};
-use go_words::Terminal;
 
 /// An import with its semicolon.
 fn whole_import<'a>(tokens: Cursor<'a>) -> Reading<'a, ImportDecl>

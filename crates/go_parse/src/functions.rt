@@ -9,15 +9,16 @@ ghost use Rattle.go_read.specs.SpellsSpans.{span_to};
 ghost use Rattle.go_read.specs.Goals.{read_receiver};
 ghost use Rattle.go_read.specs.ReadFiles.{may_be_variadic};
 ghost use Rattle.go_read.specs.Reading.{at};
-ghost use Rattle.go_words.specs.declared.terminals.Terminal.TheVariants as terminal;
+ghost use Rattle.go_tree.specs.declared.go_words.terminals.Terminal.TheVariants as terminal;
 ghost use Rattle.go_productions.specs.Terminals.{first_of};
 ghost use Rattle.go_productions.specs.Answers.{Gives, Shorter};
-ghost use Rattle.go_parse.specs.Parts.{func_at, func_decl_at, func_parts_at, is_star, method_at, parts_of, receiver_here};
+ghost use Rattle.go_parse.specs.Parts.{func_at, func_decl_at, func_parts_at, is_star, method_at, parts_of};
+ghost use Rattle.go_parse.specs.Parts.{receiver_here};
 
 use go_productions::{Cursor, Reading, name, signature};
 use go_statements::block;
+use go_tree::go_words::Terminal;
 use go_tree::{BinOp, Block, Decl, FuncDecl, NameAt, Receiver, Sig};
-use go_words::Terminal;
 
 /// Whether it is `*`.
 fn is_star(terminal: Terminal) -> bool

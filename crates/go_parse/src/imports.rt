@@ -6,19 +6,19 @@ ghost use Rattle.go_tree.specs.View.{name_at_of};
 ghost use Rattle.go_tree.specs.FileView.{import_decl_of, import_spec_of};
 ghost use Rattle.go_productions.specs.Cursors.{ahead};
 ghost use Rattle.go_read.specs.SpellsSpans.{span_to};
-ghost use Rattle.go_words.specs.Texts.{text_value};
+ghost use Rattle.go_tree.specs.GoWords.Texts.{text_value};
 ghost use Rattle.go_read.specs.Goals.{read_import, read_import_spec, read_import_specs};
 ghost use Rattle.go_read.specs.Reading.{at};
-ghost use Rattle.go_words.specs.declared.terminals.Terminal.TheVariants as terminal;
+ghost use Rattle.go_tree.specs.declared.go_words.terminals.Terminal.TheVariants as terminal;
 ghost use Rattle.go_productions.specs.Terminals.{first_of, spelling_of};
 ghost use Rattle.go_productions.specs.Answers.{Gives, Shorter};
 ghost use Rattle.go_parse.specs.Texts.{HasTexts};
 ghost use Rattle.go_parse.specs.Parts.{closed, grouped_import_at, path_at, single_import_at, spec_end};
 
-use go_literals::string_value;
 use go_productions::{Cursor, Reading, name};
+use go_tree::go_literals::string_value;
+use go_tree::go_words::Terminal;
 use go_tree::{ImportDecl, ImportSpec, ImportSpecList, NameAt, NoMemory, Text};
-use go_words::Terminal;
 
 /// The value of the string literal that stands first.
 fn text(tokens: Cursor) -> Result<Text, NoMemory>

@@ -4,9 +4,9 @@ ghost use Rattle.std.specs.Prelude.{◌≡◌, ◌≤◌, IfErr, IfOk, MatchResu
 ghost use Rattle.go_tree.specs.declared.spans.Span.{Span};
 ghost use Rattle.go_tree.specs.File.{File};
 ghost use Rattle.go_tree.specs.FileView.{file_of};
-ghost use Rattle.go_words.specs.Tokens.{TokensOf};
+ghost use Rattle.go_tree.specs.GoWords.Tokens.{TokensOf};
 ghost use Rattle.go_scan.specs.Unsupported.{IsFirst, unsupported_spans};
-ghost use Rattle.go_words.specs.Terminals.{lexemes};
+ghost use Rattle.go_tree.specs.GoWords.Terminals.{lexemes};
 ghost use Rattle.go_productions.specs.Cursors.{ahead};
 ghost use Rattle.go_read.specs.SpellsFiles.{SpellsFile};
 ghost use Rattle.go_read.specs.Fronts.{first_or_end};

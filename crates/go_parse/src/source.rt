@@ -2,7 +2,7 @@
 
 ghost use Rattle.std.specs.Prelude.{◌≢◌, ◌≤◌, IfErr, IfOk, None, length};
 ghost use Rattle.go_tree.specs.FileView.{file_of};
-ghost use Rattle.go_words.specs.Tokens.{TokensOf};
+ghost use Rattle.go_tree.specs.GoWords.Tokens.{TokensOf};
 ghost use Rattle.go_nesting.specs.Over.{IsFirstOver};
 ghost use Rattle.go_parse.specs.Sources.{IsSource, IsSupported, IsTree, RefusesText, RefusesTokens};
 

@@ -8,12 +8,13 @@ ghost use Rattle.go_read.specs.SpellsSpans.{span_to};
 ghost use Rattle.go_read.specs.Goals.{read_type_spec, read_type_specs};
 ghost use Rattle.go_read.specs.Reading.{at};
 ghost use Rattle.go_productions.specs.Answers.{Gives, Shorter};
-ghost use Rattle.go_parse.specs.Parts.{closed, grouped_types_at, is_equals, single_type_at, type_after_at, type_decl_at};
+ghost use Rattle.go_parse.specs.Parts.{closed, grouped_types_at, is_equals, single_type_at, type_after_at};
+ghost use Rattle.go_parse.specs.Parts.{type_decl_at};
 
 use crate::imports::after_spec;
 use go_productions::{Cursor, Reading, name, type_expr};
+use go_tree::go_words::Terminal;
 use go_tree::{Decl, NameAt, TypeDecl, TypeSpec, TypeSpecList};
-use go_words::Terminal;
 
 /// The type of a spec that begins at `whole`, after its name.
 fn spec_type<'a>(

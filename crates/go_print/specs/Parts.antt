@@ -1,12 +1,16 @@
 -- Parts of a layout that have a function of their own.
 use Rattle.std.specs.Prelude.{ℕ, Bool, true, false, ◌&&◌, List, [], ◌∷◌, ◌++◌, Option, Some, codes}
-use Rattle.go_tree.specs.Tree.{NameAt, TypeExpr, Expr, Exprs, Elems, Value, ValueOption, Stmts, StmtOption, Cases, ValueSpecs, no_exprs, expr_and, no_stmts, stmt_and, no_stmt, some_stmt, no_cases, case, no_specs, spec}
+use Rattle.go_tree.specs.Tree.{NameAt, TypeExpr, Expr, Exprs, Elems, Value, ValueOption, Stmts, StmtOption, Cases}
+use Rattle.go_tree.specs.Tree.{ValueSpecs, no_exprs, expr_and, no_stmts, stmt_and, no_stmt, some_stmt, no_cases, case}
+use Rattle.go_tree.specs.Tree.{no_specs, spec}
 use Rattle.go_tree.specs.File.{TypeSpec}
 use Rattle.go_layout.specs.Layouts.{Layout, gap, line, ◌⊕◌, key, op, name_layout, deeper, within}
 use Rattle.go_layout.specs.Parens.{header_within, closed_within}
 use Rattle.go_layout.specs.TypeLayout.{names_layout, type_layout}
 use Rattle.go_layout.specs.FileLayout.{specs_indent, group_layout, type_spec_layout}
-use Rattle.go_layout.specs.TreeLayout.{clause_indent, block_start, block_layout, case_word, equals_before, expr_layout, operand_layout, exprs_layout, elems_layout, key_layout, value_layout, first_layout, stmts_layout, spec_type_layout}
+use Rattle.go_layout.specs.TreeLayout.{clause_indent, block_start, block_layout, case_word, equals_before, expr_layout}
+use Rattle.go_layout.specs.TreeLayout.{operand_layout, exprs_layout, elems_layout, key_layout, value_layout}
+use Rattle.go_layout.specs.TreeLayout.{first_layout, stmts_layout, spec_type_layout}
 
 -- text that stands only on a condition
 abbrev pub text_if : Bool → List ℕ → List ℕ

@@ -4,7 +4,8 @@ ghost use Rattle.std.specs.Prelude.{◌≡◌, ◌++◌, Bool, OnOk, None};
 ghost use Rattle.go_layout.specs.Layouts.{text_of};
 ghost use Rattle.go_layout.specs.TreeLayout.{specs_layout, stmt_layout};
 ghost use Rattle.go_print.specs.Parts.{spec_layout};
-ghost use Rattle.go_tree.specs.View.{const_decl_of, const_spec_of, const_specs_of, var_decl_of, var_spec_of, var_specs_of};
+ghost use Rattle.go_tree.specs.View.{const_decl_of, const_spec_of, const_specs_of, var_decl_of, var_spec_of};
+ghost use Rattle.go_tree.specs.View.{var_specs_of};
 
 use crate::exprs::write_exprs;
 use crate::parts::{deeper, write_line_if, write_text};

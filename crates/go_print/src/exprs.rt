@@ -2,17 +2,19 @@
 
 ghost use Rattle.std.specs.Prelude.{◌≡◌, ◌++◌, OnOk, false};
 ghost use Rattle.go_layout.specs.Layouts.{text_of};
-ghost use Rattle.go_layout.specs.TreeLayout.{expr_layout, exprs_layout, key_layout, operand_layout, option_layout, value_layout};
+ghost use Rattle.go_layout.specs.TreeLayout.{expr_layout, exprs_layout, key_layout, operand_layout, option_layout};
+ghost use Rattle.go_layout.specs.TreeLayout.{value_layout};
 ghost use Rattle.go_print.specs.Parts.{braced_layout, elem_layout, within_layout};
-ghost use Rattle.go_tree.specs.View.{boxed_expr_option_of, elem_of, elems_of, expr_of, exprs_of, held_value_option_of, value_of};
+ghost use Rattle.go_tree.specs.View.{boxed_expr_option_of, elem_of, elems_of, expr_of, exprs_of, held_value_option_of};
+ghost use Rattle.go_tree.specs.View.{value_of};
 
 use crate::parens::{LOWEST, OPERAND, UNARY, base_parens, needs_parens, operand_parens};
 use crate::parts::{write_binary, write_if, write_name, write_text};
 use crate::rests::{closes, write_rest};
 use crate::stmts::write_block;
 use crate::types::{write_sig, write_type};
+use go_tree::go_words::{level_of, unary_spelling};
 use go_tree::{Elem, ElemList, Expr, ExprList, NoMemory, Value};
-use go_words::{level_of, unary_spelling};
 
 /// An expression with the parentheses that its place needs: a level, in a header outside brackets
 /// or not, `closed` where `(`, `,` or `)` directly follows.

@@ -1,11 +1,12 @@
 //! Where parentheses stand around an expression.
 
 ghost use Rattle.std.specs.Prelude.{◌≡◌, ◌||◌, false};
-ghost use Rattle.go_layout.specs.Parens.{is_bracketed_type, is_integer, is_named_literal, is_one_operator, needs_parens, precedence, runs_into};
+ghost use Rattle.go_layout.specs.Parens.{is_bracketed_type, is_integer, is_named_literal, is_one_operator};
+ghost use Rattle.go_layout.specs.Parens.{needs_parens, precedence, runs_into};
 ghost use Rattle.go_tree.specs.View.{expr_of};
 
+use go_tree::go_words::level_of;
 use go_tree::{Expr, TypeExpr, UnOp};
-use go_words::level_of;
 
 /// The precedence of an expression with an operator before its operand.
 pub(crate) const UNARY: u8 = 6;

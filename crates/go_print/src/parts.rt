@@ -2,14 +2,14 @@
 
 ghost use Rattle.std.specs.Prelude.{◌≡◌, ◌∷◌, ◌++◌, IfOk, OnOk};
 ghost use Rattle.go_layout.specs.Layouts.{deeper, name_layout, text_of};
-ghost use Rattle.go_words.specs.Operators.{assign_spelling, binary_spelling};
+ghost use Rattle.go_tree.specs.GoWords.Operators.{assign_spelling, binary_spelling};
 ghost use Rattle.go_layout.specs.TreeLayout.{label_layout, spaced, step_spelling};
 ghost use Rattle.go_print.specs.Parts.{text_if};
 ghost use Rattle.go_tree.specs.View.{name_at_of};
 ghost use Rattle.std.specs.Option.{option_map};
 
+use go_tree::go_words::binary_spelling;
 use go_tree::{BinOp, NameAt, NoMemory};
-use go_words::binary_spelling;
 
 /// The indent of what stands one tab deeper.
 pub(crate) fn deeper(out: &Vec<u8>, indent: &[u8]) -> Result<Vec<u8>, NoMemory>

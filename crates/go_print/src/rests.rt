@@ -8,8 +8,8 @@ ghost use Rattle.go_tree.specs.View.{expr_of, exprs_of};
 
 use crate::parens::{LOWEST, UNARY, needs_parens, operand_parens};
 use crate::parts::{write_if, write_text};
+use go_tree::go_words::level_of;
 use go_tree::{Expr, ExprList, NoMemory, Rest};
-use go_words::level_of;
 
 /// Whether `)` directly follows the arguments.
 pub(crate) fn closes(rest: Rest) -> bool

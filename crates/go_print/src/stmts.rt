@@ -2,9 +2,12 @@
 
 ghost use Rattle.std.specs.Prelude.{◌≡◌, ◌++◌, OnOk, None, true};
 ghost use Rattle.go_layout.specs.Layouts.{text_of};
-ghost use Rattle.go_layout.specs.TreeLayout.{arms_layout, block_layout, cases_layout, first_layout, last_layout, left_layout, option_layout, part_layout, post_layout, stmt_layout, stmts_layout, test_layout};
+ghost use Rattle.go_layout.specs.TreeLayout.{arms_layout, block_layout, cases_layout, first_layout, last_layout};
+ghost use Rattle.go_layout.specs.TreeLayout.{left_layout, option_layout, part_layout, post_layout, stmt_layout};
+ghost use Rattle.go_layout.specs.TreeLayout.{stmts_layout, test_layout};
 ghost use Rattle.go_print.specs.Parts.{arm_layout, clause_layout, has_clause};
-ghost use Rattle.go_tree.specs.View.{arm_of, arms_of, boxed_stmt_option_of, case_of, cases_of, held_block_option_of, plain_expr_option_of, range_left_of, stmt_of, stmts_of};
+ghost use Rattle.go_tree.specs.View.{arm_of, arms_of, boxed_stmt_option_of, case_of, cases_of, held_block_option_of};
+ghost use Rattle.go_tree.specs.View.{plain_expr_option_of, range_left_of, stmt_of, stmts_of};
 
 use crate::decls::{write_const_decl, write_var_decl};
 use crate::exprs::{write_expr, write_exprs, write_operand};

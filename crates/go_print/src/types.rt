@@ -3,7 +3,9 @@
 ghost use Rattle.std.specs.Prelude.{◌≡◌, ◌++◌, OnOk, map};
 ghost use Rattle.std.specs.Option.{option_map};
 ghost use Rattle.go_layout.specs.Layouts.{text_of};
-ghost use Rattle.go_layout.specs.TypeLayout.{dots_where, fields_layout, names_layout, param_layout, param_list_layout, param_name_layout, params_layout, qualifier_layout, results_layout, sig_layout, type_layout};
+ghost use Rattle.go_layout.specs.TypeLayout.{dots_where, fields_layout, names_layout, param_layout, param_list_layout};
+ghost use Rattle.go_layout.specs.TypeLayout.{param_name_layout, params_layout, qualifier_layout, results_layout};
+ghost use Rattle.go_layout.specs.TypeLayout.{sig_layout, type_layout};
 ghost use Rattle.go_layout.specs.TreeLayout.{spec_type_layout};
 ghost use Rattle.go_print.specs.Parts.{field_layout};
 ghost use Rattle.go_tree.specs.View.{field_of, fields_of, name_at_of, param_of, sig_of, type_of};

@@ -7,7 +7,7 @@ use Rattle.std.proofs.lemmas.List.{map_push}
 use Rattle.go_tree.specs.declared.types.FieldSpec.{FieldSpec}
 use Rattle.go_tree.specs.View.{field_of, name_at_of, type_of}
 use Rattle.go_tree.specs.Lists.{fields_from}
-use Rattle.go_words.specs.Terminals.{lex, ident, comma, semicolon, end_brace}
+use Rattle.go_tree.specs.GoWords.Terminals.{lex, ident, comma, semicolon, end_brace}
 use Rattle.go_read.specs.SpellsSpans.{span_to}
 use Rattle.go_read.specs.SpellsTypes.{Lexemes, fields_of}
 use Rattle.go_read.specs.Goals.{read_type, read_entries, read_fields}
@@ -15,8 +15,8 @@ use Rattle.go_read.specs.Programs.{run}
 use Rattle.go_read.specs.ReadTypes.{entries_step, fields_step, fields_after}
 use Rattle.go_read.specs.Reading.{at}
 use Rattle.go_read.proofs.Finds.{gives, asks, finish}
-use Rattle.go_words.specs.declared.terminals.Terminal.{Terminal}
-use Rattle.go_words.specs.declared.terminals.Terminal.TheVariants as code
+use Rattle.go_tree.specs.declared.go_words.terminals.Terminal.{Terminal}
+use Rattle.go_tree.specs.declared.go_words.terminals.Terminal.TheVariants as code
 use Rattle.go_productions.specs.Terminals.{first_of, rest_of, name_of}
 use Rattle.go_productions.specs.Parts.{onto, in_front, field_and, skipped, shared, shared_read, shared_onto}
 use Rattle.go_productions.proofs.Fronts.{onto_append, then_some, then_none}

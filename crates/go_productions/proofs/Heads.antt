@@ -6,13 +6,13 @@ use Rattle.std.proofs.lemmas.Bool.{ltb-true, ltb-false}
 use Rattle.go_tree.specs.declared.tokens.Token.{Token}
 use Rattle.go_tree.specs.declared.tokens.TokenKind.{TokenKind}
 use Rattle.go_tree.specs.declared.tokens.TokenKind.TheVariants.{Ident, Keyword, Operator, Integer, Float, Imaginary, Rune, Str, Inserted}
-use Rattle.go_words.specs.Terminals as pure
-use Rattle.go_words.specs.Terminals.{lexeme_of, lexemes, terminal_of, found_in, keywords, operators}
+use Rattle.go_tree.specs.GoWords.Terminals as pure
+use Rattle.go_tree.specs.GoWords.Terminals.{lexeme_of, lexemes, terminal_of, found_in, keywords, operators}
 use Rattle.go_read.specs.SpellsSpans.{end_after, span_to, start_of}
 use Rattle.go_read.specs.SpellsTypes.{Lexemes}
-use Rattle.go_words.specs.declared.terminals.Terminal.{Terminal}
-use Rattle.go_words.specs.declared.terminals.Terminal.TheVariants as code
-use Rattle.go_words.specs.Codes.{code_of, terminal_at}
+use Rattle.go_tree.specs.declared.go_words.terminals.Terminal.{Terminal}
+use Rattle.go_tree.specs.declared.go_words.terminals.Terminal.TheVariants as code
+use Rattle.go_tree.specs.GoWords.Codes.{code_of, terminal_at}
 use Rattle.go_productions.specs.declared.cursor.Cursor.{Cursor}
 use Rattle.go_productions.specs.Cursors.{ahead}
 use Rattle.go_productions.specs.Terminals.{first_of, rest_of, taken, start_at, letters_of, spelling_of, has_letters}

@@ -1,14 +1,14 @@
 -- What the reader gives for names, by their first tokens.
 use Rattle.std.proofs.Common.{◌≡◌, ◌≢◌, [], ◌∷◌, Some, None, refl, sym, ap, ◌∙◌}
-use Rattle.go_words.specs.Terminals.{lex, ident, comma}
+use Rattle.go_tree.specs.GoWords.Terminals.{lex, ident, comma}
 use Rattle.go_read.specs.SpellsSpans.{span_to}
 use Rattle.go_read.specs.SpellsTypes.{Lexemes}
 use Rattle.go_read.specs.Goals.{read_names}
 use Rattle.go_read.specs.ReadTypes.{names_step}
 use Rattle.go_read.specs.Reading.{at}
 use Rattle.go_read.proofs.Finds.{gives, finish}
-use Rattle.go_words.specs.declared.terminals.Terminal.{Terminal}
-use Rattle.go_words.specs.declared.terminals.Terminal.TheVariants as code
+use Rattle.go_tree.specs.declared.go_words.terminals.Terminal.{Terminal}
+use Rattle.go_tree.specs.declared.go_words.terminals.Terminal.TheVariants as code
 use Rattle.go_productions.specs.Terminals.{first_of, rest_of, name_of}
 use Rattle.go_productions.specs.Parts.{in_front, skipped}
 use Rattle.go_productions.proofs.Steps.{fails, goes_on}

@@ -3,7 +3,7 @@ use Rattle.std.proofs.Common.{◌≡◌, ◌≢◌, ℕ, Bool, true, false, List
 use Rattle.std.specs.Prelude.{option_and_then}
 use Rattle.go_tree.specs.declared.spans.Span.{Span}
 use Rattle.go_tree.specs.Tree.{NameAt, TypeExpr, Param}
-use Rattle.go_words.specs.Terminals.{lex, ident, comma, ellipsis, end_paren}
+use Rattle.go_tree.specs.GoWords.Terminals.{lex, ident, comma, ellipsis, end_paren}
 use Rattle.go_read.specs.SpellsSpans.{span_to}
 use Rattle.go_read.specs.SpellsTypes.{Lexemes, params_of, unnamed}
 use Rattle.go_read.specs.Goals.{read_type, read_entries, read_named, read_unnamed}
@@ -11,8 +11,8 @@ use Rattle.go_read.specs.Programs.{run}
 use Rattle.go_read.specs.ReadTypes.{named_step, named_after, unnamed_step, unnamed_after, rest_after}
 use Rattle.go_read.specs.Reading.{at}
 use Rattle.go_read.proofs.Finds.{finish}
-use Rattle.go_words.specs.declared.terminals.Terminal.{Terminal}
-use Rattle.go_words.specs.declared.terminals.Terminal.TheVariants as code
+use Rattle.go_tree.specs.declared.go_words.terminals.Terminal.{Terminal}
+use Rattle.go_tree.specs.declared.go_words.terminals.Terminal.TheVariants as code
 use Rattle.go_productions.specs.Terminals.{first_of, rest_of, name_of}
 use Rattle.go_productions.specs.Parts.{onto, in_front, shared, shared_read, shared_onto, param_from, rest_from, rest_here, rest_onto, rest_group, group_onto, params_at}
 use Rattle.go_productions.proofs.Fronts.{then_some, then_none}

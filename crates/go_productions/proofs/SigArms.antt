@@ -4,7 +4,7 @@ use Rattle.std.specs.Prelude.{option_and_then}
 use Rattle.go_tree.specs.declared.spans.Span.{Span}
 use Rattle.go_tree.specs.declared.operators.BinOp.TheVariants.{Mul}
 use Rattle.go_tree.specs.Tree.{TypeExpr, named, Param}
-use Rattle.go_words.specs.Terminals.{lex, ident, binary_op, comma, dot, ellipsis, paren, end_paren, bracket, brace, key_map, key_struct}
+use Rattle.go_tree.specs.GoWords.Terminals.{lex, ident, binary_op, comma, dot, ellipsis, paren, end_paren, bracket, brace, key_map, key_struct}
 use Rattle.go_read.specs.SpellsSpans.{span_to}
 use Rattle.go_read.specs.SpellsTypes.{Lexemes, name_here, unnamed}
 use Rattle.go_read.specs.Goals.{read_type, read_entries, read_named, read_unnamed, read_params, read_sig}
@@ -12,8 +12,8 @@ use Rattle.go_read.specs.Programs.{ask}
 use Rattle.go_read.specs.ReadTypes.{sig_step, results_step, params_step, params_either, named_step, unnamed_step, unnamed_after, entries_step, type_step}
 use Rattle.go_read.specs.Reading.{at}
 use Rattle.go_read.proofs.Finds.{Runs, gives, asks, looks, finish}
-use Rattle.go_words.specs.declared.terminals.Terminal.{Terminal}
-use Rattle.go_words.specs.declared.terminals.Terminal.TheVariants as code
+use Rattle.go_tree.specs.declared.go_words.terminals.Terminal.{Terminal}
+use Rattle.go_tree.specs.declared.go_words.terminals.Terminal.TheVariants as code
 use Rattle.go_productions.specs.Terminals.{first_of, rest_of}
 use Rattle.go_productions.specs.Parts.{begins_type, has_names, params_at, results_at}
 use Rattle.go_productions.proofs.Fronts.{then_some, then_none}

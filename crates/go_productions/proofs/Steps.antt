@@ -2,16 +2,16 @@
 use Rattle.std.proofs.Common.{◌≡◌, ◌≢◌, Bool, true, false, [], ◌∷◌, Option, Some, None, refl, sym, ap, ◌∙◌}
 use Rattle.std.specs.Prelude.{option_and_then, if◌then◌else◌}
 use Rattle.go_tree.specs.declared.spans.Span.{Span}
-use Rattle.go_words.specs.Terminals as pure
-use Rattle.go_words.specs.Terminals.{lex}
+use Rattle.go_tree.specs.GoWords.Terminals as pure
+use Rattle.go_tree.specs.GoWords.Terminals.{lex}
 use Rattle.go_read.specs.SpellsSpans.{span_to}
 use Rattle.go_read.specs.SpellsTypes.{Lexemes}
 use Rattle.go_read.specs.Goals.{Goal, Answer}
 use Rattle.go_read.specs.Programs.{Program, give, fail, ask, run, unless, after_semicolon, after_colon, after_brace, after_end_brace, after_end_bracket, after_end_paren}
 use Rattle.go_read.specs.Reading.{at}
 use Rattle.go_read.proofs.Finds.{Runs}
-use Rattle.go_words.specs.declared.terminals.Terminal.{Terminal}
-use Rattle.go_words.specs.declared.terminals.Terminal.TheVariants as code
+use Rattle.go_tree.specs.declared.go_words.terminals.Terminal.{Terminal}
+use Rattle.go_tree.specs.declared.go_words.terminals.Terminal.TheVariants as code
 use Rattle.go_productions.specs.Terminals.{first_of, rest_of}
 use Rattle.go_productions.specs.Parts.{in_front}
 

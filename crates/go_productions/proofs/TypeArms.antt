@@ -4,15 +4,15 @@ use Rattle.go_tree.specs.declared.spans.Span.{Span}
 use Rattle.go_tree.specs.declared.operators.BinOp.{BinOp}
 use Rattle.go_tree.specs.declared.operators.BinOp.TheVariants.{Mul}
 use Rattle.go_tree.specs.Tree.{TypeExpr, Fields, named, pointer, slice_type, map_type, struct_type}
-use Rattle.go_words.specs.Terminals.{lex, ident, binary_op, dot, paren, bracket, end_bracket, brace, key_map, key_struct}
+use Rattle.go_tree.specs.GoWords.Terminals.{lex, ident, binary_op, dot, paren, bracket, end_bracket, brace, key_map, key_struct}
 use Rattle.go_read.specs.SpellsSpans.{span_to}
 use Rattle.go_read.specs.SpellsTypes.{Lexemes}
 use Rattle.go_read.specs.Goals.{read_type, read_fields}
 use Rattle.go_read.specs.ReadTypes.{type_step}
 use Rattle.go_read.specs.Reading.{at}
 use Rattle.go_read.proofs.Finds.{gives, asks, finish}
-use Rattle.go_words.specs.declared.terminals.Terminal.{Terminal}
-use Rattle.go_words.specs.declared.terminals.Terminal.TheVariants as code
+use Rattle.go_tree.specs.declared.go_words.terminals.Terminal.{Terminal}
+use Rattle.go_tree.specs.declared.go_words.terminals.Terminal.TheVariants as code
 use Rattle.go_productions.specs.Terminals.{first_of, rest_of, name_of}
 use Rattle.go_productions.specs.Parts.{is_qualified}
 use Rattle.go_productions.proofs.Steps.{fails, lacks, no_end_bracket, on_end_bracket, no_end_brace, on_end_brace, no_end_paren, on_end_paren}

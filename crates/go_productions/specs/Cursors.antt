@@ -1,6 +1,6 @@
 -- The tokens that stand ahead of a place.
 use Rattle.std.specs.Prelude.{drop}
-use Rattle.go_words.specs.Terminals.{lexemes}
+use Rattle.go_tree.specs.GoWords.Terminals.{lexemes}
 use Rattle.go_read.specs.SpellsTypes.{Lexemes}
 use Rattle.go_productions.specs.declared.cursor.Cursor.{Cursor}
 

@@ -1,18 +1,19 @@
 -- Parts of the grammar that no goal of the reader is for.
-use Rattle.std.specs.Prelude.{Bool, true, false, List, [], ◌∷◌, ◌++◌, map, Option, Some, None, option_and_then}
+use Rattle.std.specs.Prelude.{Bool, true, false, List, [], ◌∷◌, ◌++◌, map, Option, Some, None}
+use Rattle.std.specs.Prelude.{option_and_then}
 use Rattle.std.specs.Option.{option_map}
 use Rattle.go_tree.specs.declared.exprs.Rest.{Rest}
 use Rattle.go_tree.specs.declared.exprs.Rest.TheVariants.{Plain, Whole}
 use Rattle.go_tree.specs.declared.spans.Span.{Span}
 use Rattle.go_tree.specs.declared.operators.BinOp.TheVariants.{Mul}
 use Rattle.go_tree.specs.Tree.{NameAt, TypeExpr, Fields, field, Param, Stmt, const_decl, var_decl}
-use Rattle.go_words.specs.Terminals.{lex, ident, comma, dot, ellipsis, paren, end_paren, brace}
+use Rattle.go_tree.specs.GoWords.Terminals.{lex, ident, comma, dot, ellipsis, paren, end_paren, brace}
 use Rattle.go_read.specs.SpellsSpans.{span_to}
 use Rattle.go_read.specs.SpellsTypes.{Lexemes, unnamed}
 use Rattle.go_read.specs.Goals.{read_type, read_entries, read_named, read_unnamed, read_params, read_decl}
 use Rattle.go_read.specs.Reading.{at}
-use Rattle.go_words.specs.declared.terminals.Terminal.{Terminal}
-use Rattle.go_words.specs.declared.terminals.Terminal.TheVariants as code
+use Rattle.go_tree.specs.declared.go_words.terminals.Terminal.{Terminal}
+use Rattle.go_tree.specs.declared.go_words.terminals.Terminal.TheVariants as code
 use Rattle.go_productions.specs.declared.arguments.ArgsEnd.{ArgsEnd}
 use Rattle.go_productions.specs.Cursors.{ahead}
 use Rattle.go_productions.specs.Terminals.{first_of, rest_of, name_of}

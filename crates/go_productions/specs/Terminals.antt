@@ -1,13 +1,13 @@
 -- The tokens that a reader sees first (Go specification, Tokens).
 use Rattle.std.specs.Prelude.{ℕ, Bool, true, false, List, [], ◌∷◌, Option, Some, None}
-use Rattle.go_words.specs.Terminals as pure
+use Rattle.go_tree.specs.GoWords.Terminals as pure
 use Rattle.go_tree.specs.declared.spans.Span.{Span}
 use Rattle.go_tree.specs.Tree.{NameAt}
 use Rattle.go_read.specs.SpellsSpans.{span_to}
 use Rattle.go_read.specs.SpellsTypes.{Lexemes}
-use Rattle.go_words.specs.declared.terminals.Terminal.{Terminal}
-use Rattle.go_words.specs.declared.terminals.Terminal.TheVariants as code
-use Rattle.go_words.specs.Codes.{code_of}
+use Rattle.go_tree.specs.declared.go_words.terminals.Terminal.{Terminal}
+use Rattle.go_tree.specs.declared.go_words.terminals.Terminal.TheVariants as code
+use Rattle.go_tree.specs.GoWords.Codes.{code_of}
 
 -- the first terminal, or `Foreign` where no token is left
 abbrev pub first_of : Lexemes → Terminal

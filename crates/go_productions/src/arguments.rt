@@ -7,7 +7,7 @@ ghost use Rattle.go_productions.specs.Parts.{args_closed, args_end, args_end_of}
 
 use crate::cursor::Cursor;
 use go_tree::Rest;
-use go_words::Terminal;
+use go_tree::go_words::Terminal;
 
 /// The end of the arguments of a call.
 #[derive(Clone, Copy)]

@@ -1,15 +1,15 @@
 //! A place among the tokens of a file.
 
 ghost use Rattle.std.specs.Prelude.{◌≡◌, ◌+◌, ◌<◌, ◌≤◌, true, length, drop};
-ghost use Rattle.go_words.specs.Terminals.{lexemes};
+ghost use Rattle.go_tree.specs.GoWords.Terminals.{lexemes};
 ghost use Rattle.go_read.specs.SpellsSpans.{span_to};
 ghost use Rattle.go_productions.specs.Cursors.{ahead};
 ghost use Rattle.go_productions.specs.Terminals.{first_of, rest_of, start_at, taken, spelling_of, has_letters};
 
 use crate::room::Room;
 use go_scan::Tokens;
+use go_tree::go_words::Terminal;
 use go_tree::{Span, Token};
-use go_words::Terminal;
 
 /// A place among the tokens of a file: those before it are read, those from it on stand ahead. It hands on the room
 /// that the file's tree is made in.

@@ -13,8 +13,8 @@ ghost use Rattle.go_productions.specs.Parts.{is_qualified, skipped};
 
 use crate::Reading;
 use crate::cursor::Cursor;
+use go_tree::go_words::Terminal;
 use go_tree::{Name, NameAt, NameAtList, NoMemory};
-use go_words::Terminal;
 
 /// Names with commas between them.
 #[tactic(auto, using(crate::proofs::NameArms::names_none, crate::proofs::NameArms::names_last, crate::proofs::NameArms::names_more))]

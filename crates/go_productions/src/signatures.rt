@@ -9,14 +9,15 @@ ghost use Rattle.go_read.specs.SpellsTypes.{type_mark, unnamed};
 ghost use Rattle.go_read.specs.Goals.{read_params, read_sig};
 ghost use Rattle.go_read.specs.Reading.{at};
 ghost use Rattle.go_productions.specs.Answers.{Gives, Shorter, Within};
-ghost use Rattle.go_productions.specs.Parts.{begins_type, group_onto, has_names, param_from, params_at, rest_from, rest_group, rest_here, rest_onto, results_at};
+ghost use Rattle.go_productions.specs.Parts.{begins_type, group_onto, has_names, param_from, params_at, rest_from};
+ghost use Rattle.go_productions.specs.Parts.{rest_group, rest_here, rest_onto, results_at};
 
 use crate::Reading;
 use crate::cursor::Cursor;
 use crate::name_lists::{name, skip_names};
 use crate::types::{shared_fields, type_expr};
+use go_tree::go_words::Terminal;
 use go_tree::{BinOp, FieldSpec, NameAt, NoMemory, Param, ParamList, Sig, Span, TypeExpr};
-use go_words::Terminal;
 
 /// A signature, whose results stand before a block. The last parameter of a variadic one may have three dots before
 /// its type.

@@ -13,8 +13,8 @@ ghost use Rattle.go_productions.specs.Terminals.{first_of};
 use crate::Reading;
 use crate::cursor::Cursor;
 use crate::name_lists::{name, qualifies, skip_names};
+use go_tree::go_words::Terminal;
 use go_tree::{BinOp, FieldSpec, FieldSpecList, TypeExpr};
-use go_words::Terminal;
 
 /// A type.
 #[cycle(types)]

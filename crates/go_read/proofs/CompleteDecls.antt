@@ -2,7 +2,7 @@
 use Rattle.std.proofs.Common.{◌≡◌, Bool, true, false, List, ◌∷◌, Option, Some, None, refl}
 use Rattle.go_tree.specs.declared.spans.Span.{Span}
 use Rattle.go_tree.specs.Tree.{NameAt, TypeExpr, Exprs, ValueSpecs, no_exprs, no_specs, spec}
-use Rattle.go_words.specs.Terminals.{lex, assign, comma, semicolon, paren, end_paren, end_brace}
+use Rattle.go_tree.specs.GoWords.Terminals.{lex, assign, comma, semicolon, paren, end_paren, end_brace}
 use Rattle.go_read.specs.SpellsTypes.{Lexemes, SpellsType, SpellsNames, last_name_rule, more_names_rule}
 use Rattle.go_read.specs.Goals.{read_decl, read_specs, read_spec}
 use Rattle.go_read.specs.Programs.{give, ask}

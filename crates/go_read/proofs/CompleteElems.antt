@@ -2,7 +2,7 @@
 use Rattle.std.proofs.Common.{◌≡◌, Bool, true, false, ◌∷◌, Option, Some, refl}
 use Rattle.go_tree.specs.declared.spans.Span.{Span}
 use Rattle.go_tree.specs.Tree.{Expr, Elems, Value, ValueOption, no_elems, elem, plain, braced, no_value, some_value}
-use Rattle.go_words.specs.Terminals.{lex, comma, colon, brace, end_brace}
+use Rattle.go_tree.specs.GoWords.Terminals.{lex, comma, colon, brace, end_brace}
 use Rattle.go_read.specs.SpellsTypes.{Lexemes}
 use Rattle.go_read.specs.Goals.{read_operand, read_elems, read_elem, read_value}
 use Rattle.go_read.specs.Programs.{give, ask}

@@ -10,8 +10,8 @@ use Rattle.go_tree.specs.declared.operators.UnOp.TheVariants.{Plus, Minus, Not, 
 use Rattle.go_tree.specs.declared.exprs.Rest.{Rest}
 use Rattle.go_tree.specs.declared.exprs.Rest.TheVariants as handed
 use Rattle.go_tree.specs.Tree.{TypeExpr, Sig, Expr, Exprs, ExprOption, Elems, Stmts, ident, int_lit, rune_lit, str_lit, composite, selector, index, slice, call, func_lit, type_operand, unary, binary, star, no_exprs, expr_and, no_expr, some_expr}
-use Rattle.go_words.specs.Terminals as terminal
-use Rattle.go_words.specs.Terminals.{lex, binary_op, comma, colon, dot, ellipsis, paren, end_paren, bracket, end_bracket, brace, end_brace, key_func, key_map, key_struct, level_of, unary_sign}
+use Rattle.go_tree.specs.GoWords.Terminals as terminal
+use Rattle.go_tree.specs.GoWords.Terminals.{lex, binary_op, comma, colon, dot, ellipsis, paren, end_paren, bracket, end_bracket, brace, end_brace, key_func, key_map, key_struct, level_of, unary_sign}
 use Rattle.go_read.specs.SpellsTypes.{Lexemes, name_here, SpellsType, SpellsSig}
 use Rattle.go_read.specs.Spells.{is_func_lit, starts_type, follows_type, SpellsLiteralType, named_literal_rule, qualified_literal_rule, type_literal_rule}
 use Rattle.go_read.specs.Goals.{read_expr, read_more, read_unary, read_postfix, read_operand, read_exprs, read_args, read_elems, read_block}

@@ -3,8 +3,8 @@ use Rattle.std.proofs.Common.{◌≡◌, ℕ, Bool, true, false, List, ◌∷◌
 use Rattle.go_tree.specs.declared.spans.Span.{Span}
 use Rattle.go_tree.specs.declared.operators.BinOp.{BinOp}
 use Rattle.go_tree.specs.Tree.{NameAt, Expr, Exprs, Stmt, ident, no_exprs, expr_and, eval, step, assign, define, nothing, assigns, defines}
-use Rattle.go_words.specs.Terminals as terminal
-use Rattle.go_words.specs.Terminals.{lex, increment, decrement, comma, semicolon, colon, brace, end_brace, key_range}
+use Rattle.go_tree.specs.GoWords.Terminals as terminal
+use Rattle.go_tree.specs.GoWords.Terminals.{lex, increment, decrement, comma, semicolon, colon, brace, end_brace, key_range}
 use Rattle.go_read.specs.SpellsTypes.{Lexemes, SpellsNames, last_name_rule, more_names_rule}
 use Rattle.go_read.specs.Goals.{Clause, plain_clause, range_clause, read_names, read_exprs, read_simple, read_simple_after, read_clause}
 use Rattle.go_read.specs.Programs.{give, ask, look}

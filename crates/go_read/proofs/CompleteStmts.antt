@@ -3,7 +3,7 @@ use Rattle.std.proofs.Common.{◌≡◌, ℕ, Bool, true, false, List, ◌∷◌
 use Rattle.go_tree.specs.declared.spans.Span.{Span}
 use Rattle.go_tree.specs.declared.exprs.Rest.{Rest}
 use Rattle.go_tree.specs.Tree.{Expr, Exprs, ExprOption, Stmt, Stmts, StmtOption, BlockOption, RangeLeft, Arms, Cases, ValueSpecs, call, no_exprs, some_expr, const_decl, var_decl, empty, return_, break_, continue_, inner, if_, for_, range_, switch, defer, label, no_stmts, stmt_and, no_stmt, some_stmt, no_block, some_block, no_arms, arm, no_cases, case}
-use Rattle.go_words.specs.Terminals.{lex, ident, semicolon, colon, brace, end_brace, key_break, key_case, key_const, key_continue, key_default, key_defer, key_else, key_for, key_if, key_range, key_return, key_switch, key_var}
+use Rattle.go_tree.specs.GoWords.Terminals.{lex, ident, semicolon, colon, brace, end_brace, key_break, key_case, key_const, key_continue, key_default, key_defer, key_else, key_for, key_if, key_range, key_return, key_switch, key_var}
 use Rattle.go_read.specs.SpellsTypes.{Lexemes, name_here}
 use Rattle.go_read.specs.Spells.{is_empty, SpellsIf, arm_rule, only_arm_rule, else_rule, else_if_rule}
 use Rattle.go_read.specs.Goals.{range_clause, read_operand, read_exprs, read_simple, read_clause, read_stmt, read_stmts, read_block, read_arm, read_if, read_cases, read_decl}

@@ -2,7 +2,7 @@
 use Rattle.std.proofs.Common.{◌≡◌, ℕ, Bool, true, false, List, [], ◌∷◌, Option, Some, None, refl}
 use Rattle.go_tree.specs.declared.spans.Span.{Span}
 use Rattle.go_tree.specs.Tree.{NameAt, TypeExpr, named, Fields, no_fields, Param, Sig}
-use Rattle.go_words.specs.Terminals.{lex, ident, comma, dot, ellipsis, paren, end_paren, brace, end_brace}
+use Rattle.go_tree.specs.GoWords.Terminals.{lex, ident, comma, dot, ellipsis, paren, end_paren, brace, end_brace}
 use Rattle.go_read.specs.SpellsTypes.{Lexemes, rest_named_rule, comma_rest_named_rule, rest_unnamed_rule, comma_rest_unnamed_rule, rest_rule, named_rest_rule, name_here, params_of, unnamed, SpellsType, SpellsFields, SpellsEntries, SpellsNamed, SpellsUnnamed, SpellsParams, SpellsResults, SpellsSig, SpellsNames, named_rule, qualified_rule, pointer_rule, slice_type_rule, map_type_rule, struct_type_rule, type_parens_rule, no_fields_rule, last_field_rule, more_fields_rule, last_entry_rule, more_entries_rule, last_named_rule, comma_named_rule, more_named_rule, last_unnamed_rule, comma_unnamed_rule, more_unnamed_rule, no_params_rule, named_params_rule, unnamed_params_rule, no_results_rule, params_results_rule, type_result_rule, sig_rule, last_name_rule, more_names_rule}
 use Rattle.go_read.specs.Goals.{read_type, read_fields, read_entries, read_named, read_unnamed, read_params, read_sig, read_names}
 use Rattle.go_read.specs.Programs.{give, ask, look}

@@ -2,7 +2,7 @@
 use Rattle.std.proofs.Common.{◌≡◌, ℕ, Bool, true, false, ◌∷◌, Option, Some, None, refl, ap, ◌∙◌}
 use Rattle.std.specs.Prelude.{option_and_then}
 use Rattle.go_tree.specs.declared.operators.BinOp.TheVariants.{Mul, Add, Sub, Xor, And}
-use Rattle.go_words.specs.Terminals.{lex, ident, int_lit, rune_lit, str_lit, binary_op, not_, define, comma, semicolon, dot, paren, end_paren, bracket, brace, end_brace, key_case, key_default, key_func, key_map, key_struct}
+use Rattle.go_tree.specs.GoWords.Terminals.{lex, ident, int_lit, rune_lit, str_lit, binary_op, not_, define, comma, semicolon, dot, paren, end_paren, bracket, brace, end_brace, key_case, key_default, key_func, key_map, key_struct}
 use Rattle.go_read.specs.SpellsTypes.{Lexemes}
 use Rattle.go_tree.specs.Tree.{Expr}
 use Rattle.go_read.specs.Goals.{Goal, Answer, read_more, read_postfix}

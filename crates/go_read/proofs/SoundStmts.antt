@@ -2,8 +2,8 @@
 use Rattle.std.proofs.Common.{◌+◌, ◌*◌, ◌≤◌, Bool, true, false, List, [], ◌∷◌, length, Option, Some, None, arith}
 use Rattle.go_tree.specs.declared.spans.Span.{Span}
 use Rattle.go_tree.specs.Tree.{NameAt, TypeExpr, Expr, Exprs, ExprOption, Stmt, Stmts, StmtOption, Cases, call, no_exprs, expr_and, no_expr, some_expr, eval, no_stmt, some_stmt, some_block, no_arms, arm, case, define, for_}
-use Rattle.go_words.specs.Terminals as terminal
-use Rattle.go_words.specs.Terminals.{lex, ident, assign, increment, decrement, semicolon, colon, paren, end_paren, brace, end_brace, key_break, key_case, key_const, key_continue, key_default, key_defer, key_else, key_for, key_if, key_range, key_return, key_switch, key_var}
+use Rattle.go_tree.specs.GoWords.Terminals as terminal
+use Rattle.go_tree.specs.GoWords.Terminals.{lex, ident, assign, increment, decrement, semicolon, colon, paren, end_paren, brace, end_brace, key_break, key_case, key_const, key_continue, key_default, key_defer, key_else, key_for, key_if, key_range, key_return, key_switch, key_var}
 use Rattle.go_read.specs.SpellsTypes.{Lexemes}
 use Rattle.go_read.specs.Spells.{is_empty, SpellsOperand, SpellsOption, SpellsExprs, SpellsSimple, SpellsPart, SpellsFirst, SpellsStmt, SpellsStmts, SpellsBlock, SpellsCases, no_expr_rule, some_expr_rule, last_expr_rule, more_exprs_rule, eval_rule, increment_rule, decrement_rule, assign_rule, define_rule, no_part_rule, part_rule, no_first_rule, first_rule, empty_rule, simple_rule, const_rule, var_rule, return_rule, return_values_rule, break_rule, break_label_rule, continue_rule, continue_label_rule, block_rule, if_rule, while_rule, for_rule, range_rule, switch_rule, defer_rule, label_rule, braces_rule, no_stmts_rule, last_stmt_rule, more_stmts_rule, only_arm_rule, else_rule, else_if_rule, arm_rule, no_left_rule, assigns_rule, defines_rule, no_cases_rule, case_rule, default_rule, single_rule, group_rule, no_specs_rule, last_spec_rule, more_specs_rule, repeated_rule, typed_var_rule, values_rule, typed_values_rule}
 use Rattle.go_read.specs.Goals.{Clause, plain_clause, range_clause, read_type, read_names, read_expr, read_operand, read_exprs, read_simple, read_simple_after, read_clause, read_stmt, read_stmts, read_block, read_arm, read_if, read_cases, read_decl, read_specs, read_spec}

@@ -6,7 +6,7 @@ use Rattle.go_tree.specs.Tree.{TypeExpr, Expr, Stmt}
 use Rattle.go_tree.specs.Bare.{bare_type, bare_expr, bare_stmt}
 use Rattle.go_tree.specs.File.{File}
 use Rattle.go_tree.specs.FileBare.{bare_file}
-use Rattle.go_words.specs.Terminals.{lexemes}
+use Rattle.go_tree.specs.GoWords.Terminals.{lexemes}
 use Rattle.go_read.specs.SpellsSpans.{span_to}
 use Rattle.go_read.specs.SpellsTypes.{Lexemes, SpellsType}
 use Rattle.go_read.specs.Spells.{SpellsOperand, SpellsStmt}

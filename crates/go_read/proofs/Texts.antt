@@ -5,7 +5,7 @@ use Rattle.go_tree.specs.declared.tokens.Token.{Token}
 use Rattle.go_tree.specs.declared.tokens.TokenKind.{TokenKind}
 use Rattle.go_tree.specs.declared.tokens.TokenKind.TheVariants.{Ident, Keyword, Operator, Integer, Rune, Str}
 use Rattle.go_tree.specs.Tree.{NameAt, TypeExpr, Expr, Exprs, Stmt, Stmts, named, ident, int_lit, no_exprs, expr_and, no_stmts, stmt_and}
-use Rattle.go_words.specs.Terminals.{Terminal, keywords, lexemes}
+use Rattle.go_tree.specs.GoWords.Terminals.{Terminal, keywords, lexemes}
 use Rattle.go_read.specs.SpellsTypes.{Lexemes}
 use Rattle.go_read.specs.Goals.{Goal, Answer}
 use Rattle.go_read.specs.Bareness.{nowhere}

@@ -4,7 +4,7 @@ use Rattle.go_tree.specs.declared.spans.Span.{Span}
 use Rattle.go_tree.specs.declared.tokens.Token.{Token}
 use Rattle.go_tree.specs.Tree.{TypeExpr, Expr, Stmt}
 use Rattle.go_tree.specs.File.{File}
-use Rattle.go_words.specs.Terminals.{lexemes}
+use Rattle.go_tree.specs.GoWords.Terminals.{lexemes}
 use Rattle.go_read.specs.SpellsSpans.{span_to, start_of}
 use Rattle.go_read.specs.SpellsTypes.{Lexemes, SpellsType}
 use Rattle.go_read.specs.Spells.{SpellsOperand, SpellsStmt}

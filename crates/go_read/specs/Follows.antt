@@ -1,6 +1,6 @@
 -- Which tokens may follow a part that is read from left to right.
 use Rattle.std.specs.Prelude.{◌≡◌, Bool, true, false, ◌∷◌}
-use Rattle.go_words.specs.Terminals.{lex, ident, binary_op, semicolon, dot, paren, bracket, brace, end_brace}
+use Rattle.go_tree.specs.GoWords.Terminals.{lex, ident, binary_op, semicolon, dot, paren, bracket, brace, end_brace}
 use Rattle.go_read.specs.SpellsTypes.{Lexemes}
 
 -- a name after a dot, which would go on with a type's name

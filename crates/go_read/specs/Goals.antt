@@ -1,7 +1,8 @@
 -- What a reader of tokens can be asked for, and what it answers.
 use Rattle.std.specs.Prelude.{ℕ, ◌+◌, ◌*◌, Bool, List, length, Option}
 use Rattle.go_tree.specs.declared.exprs.Rest.{Rest}
-use Rattle.go_tree.specs.Tree.{NameAt, TypeExpr, Fields, Param, Sig, Expr, Exprs, Elems, Value, ValueOption, Stmt, Stmts, StmtOption, BlockOption, RangeLeft, Arms, Cases, ValueSpecs}
+use Rattle.go_tree.specs.Tree.{NameAt, TypeExpr, Fields, Param, Sig, Expr, Exprs, Elems, Value, ValueOption, Stmt}
+use Rattle.go_tree.specs.Tree.{Stmts, StmtOption, BlockOption, RangeLeft, Arms, Cases, ValueSpecs}
 use Rattle.go_tree.specs.File.{ImportSpec, ImportDecl, TypeSpec, Receiver, Decl, File}
 use Rattle.go_read.specs.SpellsTypes.{Lexemes}
 

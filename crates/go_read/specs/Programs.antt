@@ -1,7 +1,7 @@
 -- One step of reading: it answers, fails, or asks for parts and goes on with their answers.
 use Rattle.std.specs.Prelude.{Bool, true, false, ◌∷◌, Option, Some, None, option_and_then}
 use Rattle.go_read.specs.SpellsTypes.{Lexemes}
-use Rattle.go_words.specs.Terminals.{lex, semicolon, colon, brace, end_brace, end_bracket, end_paren}
+use Rattle.go_tree.specs.GoWords.Terminals.{lex, semicolon, colon, brace, end_brace, end_bracket, end_paren}
 use Rattle.go_read.specs.Goals.{Goal, Answer, Reader}
 
 -- `ask` fails where the part isn't there; `look` goes on either way

@@ -7,13 +7,20 @@ use Rattle.go_tree.specs.declared.operators.UnOp.{UnOp}
 use Rattle.go_tree.specs.declared.operators.UnOp.TheVariants.{Plus, Minus, Not, Flip, Address}
 use Rattle.go_tree.specs.declared.exprs.Rest.{Rest}
 use Rattle.go_tree.specs.declared.exprs.Rest.TheVariants.{Plain, Whole}
-use Rattle.go_tree.specs.Tree.{TypeExpr, named, Expr, Exprs, ExprOption, Elems, Value, ValueOption, ident, int_lit, rune_lit, str_lit, composite, selector, index, slice, call, func_lit, type_operand, unary, binary, star, no_exprs, expr_and, no_expr, some_expr, no_elems, elem, plain, braced, no_value, some_value}
-use Rattle.go_words.specs.Terminals as terminal
-use Rattle.go_words.specs.Terminals.{lex, binary_op, not_, comma, colon, dot, ellipsis, paren, end_paren, bracket, end_bracket, brace, end_brace, key_func, key_map, key_struct, level_of}
+use Rattle.go_tree.specs.Tree.{TypeExpr, named, Expr, Exprs, ExprOption, Elems, Value, ValueOption, ident, int_lit}
+use Rattle.go_tree.specs.Tree.{rune_lit, str_lit, composite, selector, index, slice, call, func_lit, type_operand}
+use Rattle.go_tree.specs.Tree.{unary, binary, star, no_exprs, expr_and, no_expr, some_expr, no_elems, elem, plain}
+use Rattle.go_tree.specs.Tree.{braced, no_value, some_value}
+use Rattle.go_tree.specs.GoWords.Terminals as terminal
+use Rattle.go_tree.specs.GoWords.Terminals.{lex, binary_op, not_, comma, colon, dot, ellipsis, paren, end_paren}
+use Rattle.go_tree.specs.GoWords.Terminals.{bracket, end_bracket, brace, end_brace, key_func, key_map, key_struct}
+use Rattle.go_tree.specs.GoWords.Terminals.{level_of}
 use Rattle.go_read.specs.SpellsTypes.{Lexemes, name_here}
 use Rattle.go_read.specs.Spells.{is_func_lit}
-use Rattle.go_read.specs.Goals.{read_type, read_sig, read_expr, read_more, read_unary, read_postfix, read_operand, read_exprs, read_args, read_elems, read_elem, read_value, read_block}
-use Rattle.go_read.specs.Programs.{Program, give, fail, ask, unless, after_end_brace, after_end_bracket, after_end_paren}
+use Rattle.go_read.specs.Goals.{read_type, read_sig, read_expr, read_more, read_unary, read_postfix, read_operand}
+use Rattle.go_read.specs.Goals.{read_exprs, read_args, read_elems, read_elem, read_value, read_block}
+use Rattle.go_read.specs.Programs.{Program, give, fail, ask, unless, after_end_brace, after_end_bracket}
+use Rattle.go_read.specs.Programs.{after_end_paren}
 
 module _ {S : Type 0} (mark : Lexemes → Lexemes → S) where
   -- an expression: a unary one, and what operators of the level or above follow

@@ -3,11 +3,14 @@ use Rattle.std.specs.Prelude.{Bool, true, false, List, [], ◌∷◌, Option, So
 use Rattle.go_tree.specs.declared.operators.BinOp.TheVariants.{Mul}
 use Rattle.go_tree.specs.Tree.{const_decl, var_decl}
 use Rattle.go_tree.specs.File.{ImportSpec, ImportDecl, TypeSpec, Receiver, Decl, values, types, func, File}
-use Rattle.go_words.specs.Terminals.{lex, ident, str_lit, binary_op, assign, semicolon, paren, end_paren, key_const, key_func, key_import, key_package, key_type, key_var}
-use Rattle.go_words.specs.Texts.{text_value}
+use Rattle.go_tree.specs.GoWords.Terminals.{lex, ident, str_lit, binary_op, assign, semicolon, paren, end_paren}
+use Rattle.go_tree.specs.GoWords.Terminals.{key_const, key_func, key_import, key_package, key_type, key_var}
+use Rattle.go_tree.specs.GoWords.Texts.{text_value}
 use Rattle.go_read.specs.SpellsTypes.{Lexemes, name_here}
 use Rattle.go_read.specs.SpellsFiles.{is_blank}
-use Rattle.go_read.specs.Goals.{read_type, read_sig, read_block, read_decl, read_import_spec, read_import_specs, read_import, read_type_spec, read_type_specs, read_receiver, read_top, read_imports, read_tops}
+use Rattle.go_read.specs.Goals.{read_type, read_sig, read_block, read_decl, read_import_spec, read_import_specs}
+use Rattle.go_read.specs.Goals.{read_import, read_type_spec, read_type_specs, read_receiver, read_top, read_imports}
+use Rattle.go_read.specs.Goals.{read_tops}
 use Rattle.go_read.specs.Programs.{Program, give, fail, ask, look, unless, after_end_paren}
 
 module _ {S : Type 0} (mark : Lexemes → Lexemes → S) where

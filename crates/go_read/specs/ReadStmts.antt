@@ -1,12 +1,22 @@
 -- One step of reading a statement, and a declaration of constants or variables.
 use Rattle.std.specs.Prelude.{Bool, true, false, List, ◌∷◌, Option, Some, None}
-use Rattle.go_tree.specs.Tree.{NameAt, TypeExpr, Expr, Exprs, ExprOption, Stmt, Stmts, StmtOption, BlockOption, Arms, Cases, ValueSpecs, call, no_exprs, expr_and, no_expr, some_expr, const_decl, var_decl, empty, eval, step, assign, define, return_, break_, continue_, inner, if_, for_, range_, switch, defer, label, no_stmts, stmt_and, no_stmt, some_stmt, no_block, some_block, nothing, assigns, defines, no_arms, arm, no_cases, case, no_specs, spec}
-use Rattle.go_words.specs.Terminals as terminal
-use Rattle.go_words.specs.Terminals.{lex, ident, increment, decrement, semicolon, colon, paren, end_paren, brace, end_brace, key_break, key_case, key_const, key_continue, key_default, key_defer, key_else, key_for, key_if, key_range, key_return, key_switch, key_var}
+use Rattle.go_tree.specs.Tree.{NameAt, TypeExpr, Expr, Exprs, ExprOption, Stmt, Stmts, StmtOption, BlockOption, Arms}
+use Rattle.go_tree.specs.Tree.{Cases, ValueSpecs, call, no_exprs, expr_and, no_expr, some_expr, const_decl, var_decl}
+use Rattle.go_tree.specs.Tree.{empty, eval, step, assign, define, return_, break_, continue_, inner, if_, for_, range_}
+use Rattle.go_tree.specs.Tree.{switch, defer, label, no_stmts, stmt_and, no_stmt, some_stmt, no_block, some_block}
+use Rattle.go_tree.specs.Tree.{nothing, assigns, defines, no_arms, arm, no_cases, case, no_specs, spec}
+use Rattle.go_tree.specs.GoWords.Terminals as terminal
+use Rattle.go_tree.specs.GoWords.Terminals.{lex, ident, increment, decrement, semicolon, colon, paren, end_paren, brace}
+use Rattle.go_tree.specs.GoWords.Terminals.{end_brace, key_break, key_case, key_const, key_continue, key_default}
+use Rattle.go_tree.specs.GoWords.Terminals.{key_defer, key_else, key_for, key_if, key_range, key_return, key_switch}
+use Rattle.go_tree.specs.GoWords.Terminals.{key_var}
 use Rattle.go_read.specs.SpellsTypes.{Lexemes, name_here}
 use Rattle.go_read.specs.Spells.{is_empty}
-use Rattle.go_read.specs.Goals.{Clause, plain_clause, range_clause, read_type, read_names, read_expr, read_operand, read_exprs, read_simple, read_simple_after, read_clause, read_stmt, read_stmts, read_block, read_arm, read_if, read_cases, read_decl, read_specs, read_spec}
-use Rattle.go_read.specs.Programs.{Program, give, fail, ask, look, unless, after_semicolon, after_colon, after_brace, after_end_brace, after_end_paren}
+use Rattle.go_read.specs.Goals.{Clause, plain_clause, range_clause, read_type, read_names, read_expr, read_operand}
+use Rattle.go_read.specs.Goals.{read_exprs, read_simple, read_simple_after, read_clause, read_stmt, read_stmts}
+use Rattle.go_read.specs.Goals.{read_block, read_arm, read_if, read_cases, read_decl, read_specs, read_spec}
+use Rattle.go_read.specs.Programs.{Program, give, fail, ask, look, unless, after_semicolon, after_colon, after_brace}
+use Rattle.go_read.specs.Programs.{after_end_brace, after_end_paren}
 
 module _ {S : Type 0} (mark : Lexemes → Lexemes → S) where
   -- after one expression

@@ -1,8 +1,10 @@
 -- One step of reading a type, a signature, and a list of names.
 use Rattle.std.specs.Prelude.{Bool, true, false, List, [], ◌∷◌, Option, Some, None}
 use Rattle.go_tree.specs.declared.operators.BinOp.TheVariants.{Mul}
-use Rattle.go_tree.specs.Tree.{NameAt, TypeExpr, named, pointer, slice_type, map_type, struct_type, Fields, no_fields, Param, Sig}
-use Rattle.go_words.specs.Terminals.{lex, ident, binary_op, comma, semicolon, dot, ellipsis, paren, end_paren, bracket, end_bracket, brace, end_brace, key_map, key_struct}
+use Rattle.go_tree.specs.Tree.{NameAt, TypeExpr, named, pointer, slice_type, map_type, struct_type, Fields, no_fields}
+use Rattle.go_tree.specs.Tree.{Param, Sig}
+use Rattle.go_tree.specs.GoWords.Terminals.{lex, ident, binary_op, comma, semicolon, dot, ellipsis, paren, end_paren}
+use Rattle.go_tree.specs.GoWords.Terminals.{bracket, end_bracket, brace, end_brace, key_map, key_struct}
 use Rattle.go_read.specs.SpellsTypes.{Lexemes, name_here, fields_of, params_of, unnamed}
 use Rattle.go_read.specs.Goals.{read_type, read_fields, read_entries, read_named, read_unnamed, read_params, read_names}
 use Rattle.go_read.specs.Programs.{Program, give, fail, ask, look, after_end_brace, after_end_bracket, after_end_paren}

@@ -1,12 +1,22 @@
 -- Reading from left to right: what stands at the front of these tokens.
 use Rattle.std.specs.Prelude.{ℕ, zero, suc, None}
 use Rattle.go_read.specs.SpellsTypes.{Lexemes}
-use Rattle.go_read.specs.Goals.{Goal, Reader, Answer, weight, read_type, read_fields, read_entries, read_named, read_unnamed, read_params, read_sig, read_names, read_expr, read_more, read_unary, read_postfix, read_operand, read_exprs, read_args, read_elems, read_elem, read_value, read_simple, read_simple_after, read_clause, read_stmt, read_stmts, read_block, read_arm, read_if, read_cases, read_decl, read_specs, read_spec, read_import_spec, read_import_specs, read_import, read_type_spec, read_type_specs, read_receiver, read_top, read_imports, read_tops, read_front}
+use Rattle.go_read.specs.Goals.{Goal, Reader, Answer, weight, read_type, read_fields, read_entries, read_named}
+use Rattle.go_read.specs.Goals.{read_unnamed, read_params, read_sig, read_names, read_expr, read_more, read_unary}
+use Rattle.go_read.specs.Goals.{read_postfix, read_operand, read_exprs, read_args, read_elems, read_elem, read_value}
+use Rattle.go_read.specs.Goals.{read_simple, read_simple_after, read_clause, read_stmt, read_stmts, read_block}
+use Rattle.go_read.specs.Goals.{read_arm, read_if, read_cases, read_decl, read_specs, read_spec, read_import_spec}
+use Rattle.go_read.specs.Goals.{read_import_specs, read_import, read_type_spec, read_type_specs, read_receiver}
+use Rattle.go_read.specs.Goals.{read_top, read_imports, read_tops, read_front}
 use Rattle.go_read.specs.Programs.{Program, run}
-use Rattle.go_read.specs.ReadTypes.{type_step, fields_step, entries_step, named_step, unnamed_step, params_step, sig_step, names_step}
-use Rattle.go_read.specs.ReadExprs.{expr_step, more_step, unary_step, postfix_step, operand_step, exprs_step, args_step, elems_step, elem_step, value_step}
-use Rattle.go_read.specs.ReadStmts.{simple_step, simple_after_step, clause_step, stmt_step, stmts_step, block_step, arm_step, if_step, cases_step, decl_step, specs_step, spec_step}
-use Rattle.go_read.specs.ReadFiles.{import_spec_step, import_specs_step, import_step, type_spec_step, type_specs_step, receiver_step, top_step, imports_step, tops_step, front_step}
+use Rattle.go_read.specs.ReadTypes.{type_step, fields_step, entries_step, named_step, unnamed_step, params_step}
+use Rattle.go_read.specs.ReadTypes.{sig_step, names_step}
+use Rattle.go_read.specs.ReadExprs.{expr_step, more_step, unary_step, postfix_step, operand_step, exprs_step, args_step}
+use Rattle.go_read.specs.ReadExprs.{elems_step, elem_step, value_step}
+use Rattle.go_read.specs.ReadStmts.{simple_step, simple_after_step, clause_step, stmt_step, stmts_step, block_step}
+use Rattle.go_read.specs.ReadStmts.{arm_step, if_step, cases_step, decl_step, specs_step, spec_step}
+use Rattle.go_read.specs.ReadFiles.{import_spec_step, import_specs_step, import_step, type_spec_step, type_specs_step}
+use Rattle.go_read.specs.ReadFiles.{receiver_step, top_step, imports_step, tops_step, front_step}
 
 module _ {S : Type 0} (mark : Lexemes → Lexemes → S) where
   -- the step of each goal

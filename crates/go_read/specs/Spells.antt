@@ -4,16 +4,28 @@
 -- A relation that ends in `tokens rest` holds where the tokens before `rest` are spelled by one of the productions; the
 -- rules
 -- below are the productions, one each. `mark tokens rest` is what a node has for its span.
-use Rattle.std.specs.Prelude.{◌≡◌, ℕ, ◌+◌, ◌≤◌, Bool, true, false, List, ◌∷◌, Option, Some, None}
+use Rattle.std.specs.Prelude.{◌≡◌, ℕ, ◌+◌, ◌≤◌, Bool, true, false, List, ◌∷◌, Option, Some}
+use Rattle.std.specs.Prelude.{None}
 use Rattle.go_tree.specs.declared.spans.Span.{Span}
 use Rattle.go_tree.specs.declared.operators.UnOp.{UnOp}
 use Rattle.go_tree.specs.declared.operators.BinOp.{BinOp}
 use Rattle.go_tree.specs.declared.operators.BinOp.TheVariants.{Mul}
 use Rattle.go_tree.specs.declared.exprs.Rest.{Rest}
 use Rattle.go_tree.specs.declared.exprs.Rest.TheVariants.{Plain, Whole}
-use Rattle.go_tree.specs.Tree.{NameAt, TypeExpr, named, Sig, Expr, Exprs, ExprOption, Elems, Value, ValueOption, Stmt, Stmts, StmtOption, BlockOption, RangeLeft, Arms, Cases, ValueSpecs, ident, int_lit, rune_lit, str_lit, composite, selector, index, slice, call, func_lit, type_operand, unary, binary, star, no_exprs, expr_and, no_expr, some_expr, no_elems, elem, plain, braced, no_value, some_value, const_decl, var_decl, empty, eval, step, assign, define, return_, break_, continue_, inner, if_, for_, range_, switch, defer, label, no_stmts, stmt_and, no_stmt, some_stmt, no_block, some_block, nothing, assigns, defines, no_arms, arm, no_cases, case, no_specs, spec}
-use Rattle.go_words.specs.Terminals as terminal
-use Rattle.go_words.specs.Terminals.{lex, binary_op, increment, decrement, comma, semicolon, colon, dot, ellipsis, paren, end_paren, bracket, end_bracket, brace, end_brace, key_break, key_case, key_const, key_continue, key_default, key_defer, key_else, key_for, key_func, key_if, key_map, key_range, key_return, key_struct, key_switch, key_var, level_of, unary_sign}
+use Rattle.go_tree.specs.Tree.{NameAt, TypeExpr, named, Sig, Expr, Exprs, ExprOption, Elems, Value, ValueOption, Stmt}
+use Rattle.go_tree.specs.Tree.{Stmts, StmtOption, BlockOption, RangeLeft, Arms, Cases, ValueSpecs, ident, int_lit}
+use Rattle.go_tree.specs.Tree.{rune_lit, str_lit, composite, selector, index, slice, call, func_lit, type_operand}
+use Rattle.go_tree.specs.Tree.{unary, binary, star, no_exprs, expr_and, no_expr, some_expr, no_elems, elem, plain}
+use Rattle.go_tree.specs.Tree.{braced, no_value, some_value, const_decl, var_decl, empty, eval, step, assign, define}
+use Rattle.go_tree.specs.Tree.{return_, break_, continue_, inner, if_, for_, range_, switch, defer, label, no_stmts}
+use Rattle.go_tree.specs.Tree.{stmt_and, no_stmt, some_stmt, no_block, some_block, nothing, assigns, defines, no_arms}
+use Rattle.go_tree.specs.Tree.{arm, no_cases, case, no_specs, spec}
+use Rattle.go_tree.specs.GoWords.Terminals as terminal
+use Rattle.go_tree.specs.GoWords.Terminals.{lex, binary_op, increment, decrement, comma, semicolon, colon, dot}
+use Rattle.go_tree.specs.GoWords.Terminals.{ellipsis, paren, end_paren, bracket, end_bracket, brace, end_brace}
+use Rattle.go_tree.specs.GoWords.Terminals.{key_break, key_case, key_const, key_continue, key_default, key_defer}
+use Rattle.go_tree.specs.GoWords.Terminals.{key_else, key_for, key_func, key_if, key_map, key_range, key_return}
+use Rattle.go_tree.specs.GoWords.Terminals.{key_struct, key_switch, key_var, level_of, unary_sign}
 use Rattle.go_read.specs.SpellsTypes.{Lexemes, name_here, SpellsType, SpellsSig, SpellsNames}
 
 -- whether a type that begins with `[`, `map` or `struct` may begin here

@@ -7,9 +7,10 @@ use Rattle.go_tree.specs.declared.operators.BinOp.TheVariants.{Mul}
 use Rattle.go_tree.specs.declared.tokens.Token.{Token}
 use Rattle.go_tree.specs.Tree.{TypeExpr, Sig, Stmts, ValueSpecs, const_decl, var_decl}
 use Rattle.go_tree.specs.File.{ImportSpec, ImportDecl, TypeSpec, Receiver, Decl, values, types, func, File}
-use Rattle.go_words.specs.Terminals.{lex, ident, str_lit, binary_op, assign, semicolon, paren, end_paren, key_const, key_func, key_import, key_package, key_type, key_var, lexemes}
+use Rattle.go_tree.specs.GoWords.Terminals.{lex, ident, str_lit, binary_op, assign, semicolon, paren, end_paren}
+use Rattle.go_tree.specs.GoWords.Terminals.{key_const, key_func, key_import, key_package, key_type, key_var, lexemes}
 use Rattle.go_read.specs.SpellsSpans.{span_to}
-use Rattle.go_words.specs.Texts.{text_value}
+use Rattle.go_tree.specs.GoWords.Texts.{text_value}
 use Rattle.go_read.specs.SpellsTypes.{Lexemes, name_here, SpellsType, SpellsSig}
 use Rattle.go_read.specs.Spells.{SpellsBlock, SpellsDecl}
 

@@ -1,7 +1,7 @@
 -- Which bytes a part of a file takes: from the start of its first token to the end of its last.
 use Rattle.std.specs.Prelude.{ℕ, ◌-◌, List, [], ◌∷◌, length, take}
 use Rattle.go_tree.specs.declared.spans.Span.{Span}
-use Rattle.go_words.specs.Terminals.{Lexeme, lex}
+use Rattle.go_tree.specs.GoWords.Terminals.{Lexeme, lex}
 
 -- where the first token starts
 abbrev pub start_of : List Lexeme → ℕ

@@ -6,8 +6,10 @@
 use Rattle.std.specs.Prelude.{ℕ, Bool, true, false, List, [], ◌∷◌, Some, None}
 use Rattle.go_tree.specs.declared.spans.Span.{Span}
 use Rattle.go_tree.specs.declared.operators.BinOp.TheVariants.{Mul}
-use Rattle.go_tree.specs.Tree.{NameAt, TypeExpr, named, pointer, slice_type, map_type, struct_type, Fields, no_fields, field, Param, Sig}
-use Rattle.go_words.specs.Terminals.{Lexeme, lex, ident, binary_op, comma, semicolon, dot, ellipsis, paren, end_paren, bracket, end_bracket, brace, end_brace, key_map, key_struct}
+use Rattle.go_tree.specs.Tree.{NameAt, TypeExpr, named, pointer, slice_type, map_type, struct_type, Fields, no_fields}
+use Rattle.go_tree.specs.Tree.{field, Param, Sig}
+use Rattle.go_tree.specs.GoWords.Terminals.{Lexeme, lex, ident, binary_op, comma, semicolon, dot, ellipsis, paren}
+use Rattle.go_tree.specs.GoWords.Terminals.{end_paren, bracket, end_bracket, brace, end_brace, key_map, key_struct}
 
 -- the terminals from a place on, each where it stands
 abbrev pub Lexemes : Type 0

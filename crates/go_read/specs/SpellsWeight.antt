@@ -1,7 +1,8 @@
 -- The nesting weight of a token: how deep the trees are that may have been begun when it is read.
 use Rattle.std.specs.Prelude.{ℕ, ◌+◌, List, [], ◌∷◌, sum}
 use Rattle.go_tree.specs.declared.tokens.Token.{Token}
-use Rattle.go_words.specs.Terminals.{Terminal, comma, semicolon, paren, end_paren, bracket, end_bracket, brace, end_brace, terminal_of}
+use Rattle.go_tree.specs.GoWords.Terminals.{Terminal, comma, semicolon, paren, end_paren, bracket, end_bracket, brace}
+use Rattle.go_tree.specs.GoWords.Terminals.{end_brace, terminal_of}
 
 -- behind an opening bracket: it counts for the bracket around it, and nothing is counted in it yet
 abbrev pub opened : List ℕ → List ℕ

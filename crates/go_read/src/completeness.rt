@@ -5,7 +5,7 @@ ghost use Rattle.go_tree.specs.declared.spans.Span.{Span};
 ghost use Rattle.go_tree.specs.declared.tokens.Token.{Token};
 ghost use Rattle.go_tree.specs.Tree.{TypeExpr, Expr, Stmt};
 ghost use Rattle.go_tree.specs.File.{File};
-ghost use Rattle.go_words.specs.Terminals.{lexemes};
+ghost use Rattle.go_tree.specs.GoWords.Terminals.{lexemes};
 ghost use Rattle.go_read.specs.SpellsSpans.{span_to};
 ghost use Rattle.go_read.specs.SpellsTypes.{Lexemes, SpellsType};
 ghost use Rattle.go_read.specs.Spells.{SpellsOperand, SpellsStmt};

@@ -7,7 +7,7 @@ ghost use Rattle.go_tree.specs.FileBare.{bare_file};
 ghost use Rattle.go_read.specs.Spells.{SpellsOperand, SpellsStmt};
 ghost use Rattle.go_read.specs.SpellsFiles.{SpellsFront, SpellsFile};
 ghost use Rattle.go_read.specs.SpellsSpans.{span_to};
-ghost use Rattle.go_words.specs.Terminals.{lexemes};
+ghost use Rattle.go_tree.specs.GoWords.Terminals.{lexemes};
 ghost use Rattle.go_read.specs.SpellsTypes.{Lexemes, SpellsType};
 ghost use Rattle.go_tree.specs.Tree.{TypeExpr, Expr, Stmt};
 ghost use Rattle.go_tree.specs.declared.spans.Span.{Span};

@@ -1,8 +1,8 @@
 -- The automaton knows the words that have a form.
 use Rattle.std.proofs.Common.{◌≡◌, ℕ, zero, suc, ◌<◌, ◌≤◌, Bool, true, false, cond, not, ◌&&◌, ◌||◌, nat_eq, nat_lt, ◌==◌, List, [], ◌∷◌, map, get_or, refl, sym, ap, subst, ◌∙◌, arith}
 use Rattle.std.proofs.lemmas.Bool.Decides.{nat_tests}
-use Rattle.go_words.specs.Tokens.Characters.{is_listed, byte_order_mark}
-use Rattle.go_words.specs.Tokens.Forms.{Form, nothing, empty, one_of, other_than, both, either, many}
+use Rattle.go_tree.specs.GoWords.Tokens.Characters.{is_listed, byte_order_mark}
+use Rattle.go_tree.specs.GoWords.Tokens.Forms.{Form, nothing, empty, one_of, other_than, both, either, many}
 use Rattle.go_scan.specs.declared.automaton.TheConstants.{CLASS, NEXT, START, FOREIGN, OTHER, STATES, CLASSES}
 use Rattle.go_scan.specs.Automaton.{class_of, next_of}
 use Rattle.go_scan.proofs.Derivatives.{nullable, both_of, either_of, empty_if, with_second, after, along, matches, and_parts, and_true}

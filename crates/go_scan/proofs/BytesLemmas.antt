@@ -8,11 +8,11 @@ use Rattle.std.specs.Str.{chars}
 use Rattle.std.proofs.lemmas.Str.{encodes-chars, encodes_same}
 use Rattle.go_tree.specs.declared.tokens.TokenKind.{TokenKind}
 use Rattle.go_tree.specs.declared.tokens.TokenKind.TheVariants.{Ident, Keyword, Operator, Integer, Float, Imaginary, Rune, Str, Inserted}
-use Rattle.go_words.specs.Terminals.{Terminal, keywords, operators, spellings, found_in, ends_statement, fallthrough}
-use Rattle.go_words.specs.Codes.{row_of}
-use Rattle.go_words.specs.Tokens.{ends_line}
-use Rattle.go_words.specs.Tokens.Characters.{is_listed}
-use Rattle.go_words.specs.Tokens.Pieces.{keyword_spellings, is_among}
+use Rattle.go_tree.specs.GoWords.Terminals.{Terminal, keywords, operators, spellings, found_in, ends_statement, fallthrough}
+use Rattle.go_tree.specs.GoWords.Codes.{row_of}
+use Rattle.go_tree.specs.GoWords.Tokens.{ends_line}
+use Rattle.go_tree.specs.GoWords.Tokens.Characters.{is_listed}
+use Rattle.go_tree.specs.GoWords.Tokens.Pieces.{keyword_spellings, is_among}
 
 -- ---- words of ASCII
 

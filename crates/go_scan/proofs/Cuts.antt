@@ -3,8 +3,8 @@ use Rattle.std.proofs.Common.{◌≡◌, ℕ, ◌+◌, List, [], ◌∷◌, ◌+
 use Rattle.std.proofs.lemmas.Str.{encodes_same}
 use Rattle.go_tree.specs.declared.tokens.Token.{Token}
 use Rattle.go_tree.specs.declared.tokens.Comment.{Comment}
-use Rattle.go_words.specs.Tokens.{TokensOf, StopsAt, tokens_from, comments_from, after_mark, mark_size, pieces_size}
-use Rattle.go_words.specs.Tokens.Pieces.{PieceKind, Piece, IsPiece, IsNext, CutsTo}
+use Rattle.go_tree.specs.GoWords.Tokens.{TokensOf, StopsAt, tokens_from, comments_from, after_mark, mark_size, pieces_size}
+use Rattle.go_tree.specs.GoWords.Tokens.Pieces.{PieceKind, Piece, IsPiece, IsNext, CutsTo}
 use Rattle.go_scan.proofs.PieceKinds.{one_kind, never_empty}
 
 -- two fronts of one text that are as long are one

@@ -1,8 +1,8 @@
 -- Examples of the Go specification, by computation.
 use Rattle.std.proofs.Common.{◌≡◌, true, false, refl, codes}
-use Rattle.go_words.specs.Tokens.Forms.{HasForm}
-use Rattle.go_words.specs.Tokens.Literals.{int_lit, float_lit, imaginary_lit, rune_lit, string_lit, comment}
-use Rattle.go_words.specs.Tokens.Pieces.{operator, operator_spellings}
+use Rattle.go_tree.specs.GoWords.Tokens.Forms.{HasForm}
+use Rattle.go_tree.specs.GoWords.Tokens.Literals.{int_lit, float_lit, imaginary_lit, rune_lit, string_lit, comment}
+use Rattle.go_tree.specs.GoWords.Tokens.Pieces.{operator, operator_spellings}
 use Rattle.go_scan.proofs.Derivatives.{matches, has_form}
 
 hexadecimal : HasForm int_lit (codes "0x_67_7a_2f_cc_40_c6")

@@ -4,7 +4,7 @@ use Rattle.std.proofs.lemmas.Bool.Decides.{nat_tests}
 use Rattle.ucd_category.specs.GeneralCategory.{general_category}
 use Rattle.ucd_category.specs.GeneralCategoryRows.{general_category_rows}
 use Rattle.ucd_table.specs.Rows.{value_in}
-use Rattle.go_words.specs.Tokens.Characters.{is_letter, is_digit, is_letter_category, is_decimal_number}
+use Rattle.go_tree.specs.GoWords.Tokens.Characters.{is_letter, is_digit, is_letter_category, is_decimal_number}
 use Rattle.go_scan.proofs.AutomatonLemmas.{below, below_at}
 
 abbrev ascii_letter : ℕ → Bool

@@ -2,9 +2,9 @@
 use Rattle.std.proofs.Common.{◌≡◌, ℕ, Bool, true, ◌&&◌, nat_eq, List, [], ◌∷◌, get_or, refl, sym, ap, ◌∙◌, arith}
 use Rattle.std.proofs.lemmas.Bool.Decides.{nat_tests}
 use Rattle.go_tree.specs.declared.tokens.TokenKind.TheVariants.{Ident, Keyword, Operator, Integer, Float, Imaginary, Rune, Str, Inserted}
-use Rattle.go_words.specs.Tokens.Forms.{Form, nothing, HasForm}
-use Rattle.go_words.specs.Tokens.Literals.{int_lit, float_lit, imaginary_lit, rune_lit, string_lit, comment}
-use Rattle.go_words.specs.Tokens.Pieces.{PieceKind, blanks, remark, token, operator, operator_spellings, IsPiece}
+use Rattle.go_tree.specs.GoWords.Tokens.Forms.{Form, nothing, HasForm}
+use Rattle.go_tree.specs.GoWords.Tokens.Literals.{int_lit, float_lit, imaginary_lit, rune_lit, string_lit, comment}
+use Rattle.go_tree.specs.GoWords.Tokens.Pieces.{PieceKind, blanks, remark, token, operator, operator_spellings, IsPiece}
 use Rattle.go_scan.specs.declared.automaton.TheConstants.{NEXT, START, DEAD, CLASSES}
 use Rattle.go_scan.specs.Automaton.{class_of, next_of, is_whole, kind_in}
 use Rattle.go_scan.proofs.Derivatives.{has_form, form_matches, has_nothing, and_parts, and_true}

@@ -4,12 +4,12 @@ use Rattle.std.proofs.lemmas.Str.{encodes-chars}
 use Rattle.go_tree.specs.declared.tokens.Token.{Token}
 use Rattle.go_tree.specs.declared.tokens.TokenKind.{TokenKind}
 use Rattle.go_tree.specs.declared.tokens.Comment.{Comment}
-use Rattle.go_words.specs.declared.terminals.Terminal.{Terminal}
-use Rattle.go_words.specs.Terminals.{terminal_of}
-use Rattle.go_words.specs.Codes.{spelled, terminal_at}
-use Rattle.go_words.specs.Tokens.{ends_line, size_of}
-use Rattle.go_words.specs.Tokens.Pieces.{blanks, remark, token}
-use Rattle.go_words.proofs.CodeLemmas.{terminal_is}
+use Rattle.go_tree.specs.declared.go_words.terminals.Terminal.{Terminal}
+use Rattle.go_tree.specs.GoWords.Terminals.{terminal_of}
+use Rattle.go_tree.specs.GoWords.Codes.{spelled, terminal_at}
+use Rattle.go_tree.specs.GoWords.Tokens.{ends_line, size_of}
+use Rattle.go_tree.specs.GoWords.Tokens.Pieces.{blanks, remark, token}
+use Rattle.go_tree.proofs.GoWords.CodeLemmas.{terminal_is}
 use Rattle.go_scan.specs.declared.lists.Lists.{Lists}
 use Rattle.go_scan.specs.Scanned.{Adds}
 use Rattle.go_scan.proofs.BytesLemmas.{line_same}

@@ -6,9 +6,9 @@ use Rattle.ucd_category.specs.GeneralCategory.{general_category}
 use Rattle.ucd_category.specs.GeneralCategoryRows.{general_category_rows}
 use Rattle.ucd_table.specs.Rows.{value_in}
 use Rattle.go_tree.specs.declared.tokens.TokenKind.TheVariants.{Ident, Keyword, Operator, Integer, Float, Imaginary, Rune, Str, Inserted}
-use Rattle.go_words.specs.Tokens.Characters.{is_letter, is_digit, is_word, is_blank, each, byte_order_mark}
-use Rattle.go_words.specs.Tokens.Forms.{HasForm}
-use Rattle.go_words.specs.Tokens.Pieces.{PieceKind, blanks, remark, token, keyword_spellings, is_among, is_identifier, IsPiece}
+use Rattle.go_tree.specs.GoWords.Tokens.Characters.{is_letter, is_digit, is_word, is_blank, each, byte_order_mark}
+use Rattle.go_tree.specs.GoWords.Tokens.Forms.{HasForm}
+use Rattle.go_tree.specs.GoWords.Tokens.Pieces.{PieceKind, blanks, remark, token, keyword_spellings, is_among, is_identifier, IsPiece}
 use Rattle.go_scan.specs.declared.automaton.TheConstants.{START, DEAD}
 use Rattle.go_scan.specs.Automaton.{next_of, is_whole, kind_in}
 use Rattle.go_scan.proofs.Derivatives.{and_parts}

@@ -3,8 +3,8 @@ use Rattle.std.proofs.Common.{◌≡◌, ℕ, ◌+◌, ◌≤◌, Bool, true, fa
 use Rattle.std.specs.List.{prefix_len}
 use Rattle.std.proofs.lemmas.List.{take-append-drop}
 use Rattle.go_tree.specs.declared.tokens.TokenKind.TheVariants.{Ident, Keyword}
-use Rattle.go_words.specs.Tokens.Characters.{is_letter, is_word, is_blank, each}
-use Rattle.go_words.specs.Tokens.Pieces.{PieceKind, blanks, token, keyword_spellings, is_among, is_identifier, may_precede, IsPiece, IsNext}
+use Rattle.go_tree.specs.GoWords.Tokens.Characters.{is_letter, is_word, is_blank, each}
+use Rattle.go_tree.specs.GoWords.Tokens.Pieces.{PieceKind, blanks, token, keyword_spellings, is_among, is_identifier, may_precede, IsPiece, IsNext}
 use Rattle.go_scan.specs.declared.automaton.TheConstants.{START}
 use Rattle.go_scan.specs.Automaton.{is_whole, kind_in, longest_from}
 use Rattle.go_scan.specs.Pieces.{word_kind, checked, lexeme_checked, lexeme_of, piece_of, Exact}

@@ -1,8 +1,8 @@
 -- What the scanner has looked at when it answers.
 use Rattle.std.proofs.Common.{◌≡◌, ℕ, ◌+◌, ◌≤◌, Bool, true, false, cond, List, [], ◌∷◌, length, take, drop, Option, Some, None, refl, sym, ap, ◌∙◌, arith}
 use Rattle.std.specs.List.{prefix_len}
-use Rattle.go_words.specs.Tokens.Characters.{is_letter, is_word, is_blank}
-use Rattle.go_words.specs.Tokens.Pieces.{PieceKind, blanks, may_precede}
+use Rattle.go_tree.specs.GoWords.Tokens.Characters.{is_letter, is_word, is_blank}
+use Rattle.go_tree.specs.GoWords.Tokens.Pieces.{PieceKind, blanks, may_precede}
 use Rattle.go_scan.specs.declared.automaton.TheConstants.{START}
 use Rattle.go_scan.specs.Automaton.{kind_in, longest_from}
 use Rattle.go_scan.specs.Pieces.{word_kind, checked, lexeme_checked, lexeme_of, piece_of}

@@ -4,11 +4,11 @@ use Rattle.std.specs.Str.{all_scalars, IsCharBoundary}
 use Rattle.std.proofs.lemmas.Str.{encodes-append, length-encode, len_utf8_bounds, encodes-chars, scalars-chars, chars-nil}
 use Rattle.go_tree.specs.declared.tokens.Token.{Token}
 use Rattle.go_tree.specs.declared.tokens.Comment.{Comment}
-use Rattle.go_words.specs.declared.terminals.Terminal.{Terminal}
-use Rattle.go_words.specs.Codes.{terminal_at}
-use Rattle.go_words.specs.Tokens.Characters.{byte_order_mark}
-use Rattle.go_words.specs.Tokens.{TokensOf, StopsAt, tokens_at, tokens_from, comments_at, comments_from, due_after, inserted, after_mark, mark_size, pieces_size, size_of}
-use Rattle.go_words.specs.Tokens.Pieces.{PieceKind, Piece, IsPiece, IsNext, CutsTo}
+use Rattle.go_tree.specs.declared.go_words.terminals.Terminal.{Terminal}
+use Rattle.go_tree.specs.GoWords.Codes.{terminal_at}
+use Rattle.go_tree.specs.GoWords.Tokens.Characters.{byte_order_mark}
+use Rattle.go_tree.specs.GoWords.Tokens.{TokensOf, StopsAt, tokens_at, tokens_from, comments_at, comments_from, due_after, inserted, after_mark, mark_size, pieces_size, size_of}
+use Rattle.go_tree.specs.GoWords.Tokens.Pieces.{PieceKind, Piece, IsPiece, IsNext, CutsTo}
 use Rattle.go_scan.specs.Pieces.{Exact}
 use Rattle.go_scan.specs.Sizes.{ExactSize}
 use Rattle.go_scan.proofs.Cuts.{cut_on}

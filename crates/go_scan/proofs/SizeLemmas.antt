@@ -7,8 +7,8 @@ use Rattle.std.specs.Str.{chars, all_scalars, IsCharBoundary}
 use Rattle.std.proofs.lemmas.List.{take-append-drop}
 use Rattle.std.proofs.lemmas.Str.{chars-encodes, encodes-append, encodes-chars, scalars-chars, length-encode, IsCharBoundary-at_seam, chars_past_char, IsUtf8-past_char, chars-nil}
 use lib.Utf8.{scalar}
-use Rattle.go_words.specs.Tokens.{size_of}
-use Rattle.go_words.specs.Tokens.Pieces.{PieceKind}
+use Rattle.go_tree.specs.GoWords.Tokens.{size_of}
+use Rattle.go_tree.specs.GoWords.Tokens.Pieces.{PieceKind}
 use Rattle.go_scan.specs.declared.automaton.TheConstants.{DEAD}
 use Rattle.go_scan.specs.Automaton.{next_of, is_whole, longest_from}
 use Rattle.go_scan.specs.Pieces.{Exact}

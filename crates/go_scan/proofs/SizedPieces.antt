@@ -3,9 +3,9 @@ use Rattle.std.proofs.Common.{◌≡◌, ℕ, Bool, true, false, List, [], ◌�
 use Rattle.std.specs.List.{prefix_len}
 use Rattle.std.specs.Str.{IsCharBoundary}
 use Rattle.std.specs.Char.{len_utf8}
-use Rattle.go_words.specs.Tokens.{size_of, after_mark}
-use Rattle.go_words.specs.Tokens.Characters.{byte_order_mark, is_letter, is_word, is_blank}
-use Rattle.go_words.specs.Tokens.Pieces.{PieceKind, blanks, may_precede}
+use Rattle.go_tree.specs.GoWords.Tokens.{size_of, after_mark}
+use Rattle.go_tree.specs.GoWords.Tokens.Characters.{byte_order_mark, is_letter, is_word, is_blank}
+use Rattle.go_tree.specs.GoWords.Tokens.Pieces.{PieceKind, blanks, may_precede}
 use Rattle.go_scan.specs.declared.automaton.TheConstants.{START}
 use Rattle.go_scan.specs.Automaton.{kind_in, longest_from}
 use Rattle.go_scan.specs.Pieces.{word_kind, lexeme_of, piece_of}

@@ -6,12 +6,12 @@ use Rattle.std.proofs.lemmas.List.Elements.{All-nil, All-append, All-push, All-w
 use Rattle.go_tree.specs.declared.spans.Span.{Span}
 use Rattle.go_tree.specs.declared.tokens.Token.{Token}
 use Rattle.go_tree.specs.declared.tokens.Comment.{Comment}
-use Rattle.go_words.specs.declared.terminals.Terminal.{Terminal}
-use Rattle.go_words.specs.Terminals.{terminal_of, is_foreign}
-use Rattle.go_words.specs.Codes.{spelled, terminal_at}
-use Rattle.go_words.proofs.CodeLemmas.{foreign_code, terminal_beside}
-use Rattle.go_words.specs.Tokens.{TokensOf, comments_at, comments_from, after_mark, mark_size, pieces_size, size_of}
-use Rattle.go_words.specs.Tokens.Pieces.{PieceKind, blanks, remark, token, Piece, CutsTo}
+use Rattle.go_tree.specs.declared.go_words.terminals.Terminal.{Terminal}
+use Rattle.go_tree.specs.GoWords.Terminals.{terminal_of, is_foreign}
+use Rattle.go_tree.specs.GoWords.Codes.{spelled, terminal_at}
+use Rattle.go_tree.proofs.GoWords.CodeLemmas.{foreign_code, terminal_beside}
+use Rattle.go_tree.specs.GoWords.Tokens.{TokensOf, comments_at, comments_from, after_mark, mark_size, pieces_size, size_of}
+use Rattle.go_tree.specs.GoWords.Tokens.Pieces.{PieceKind, blanks, remark, token, Piece, CutsTo}
 use Rattle.go_scan.specs.Unsupported.{is_unsupported, is_constraint, constraint_spans, word_spans, package_start, unsupported_spans, IsFirst, earlier, first_word, first_constraint}
 use Rattle.go_scan.proofs.ScanLemmas.{marked_total}
 

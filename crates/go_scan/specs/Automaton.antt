@@ -1,9 +1,11 @@
 -- What the automaton of words reads.
-use Rattle.std.specs.Prelude.{ℕ, ◌+◌, ◌==◌, Bool, ◌&&◌, nat_lt, nat_le, List, [], ◌∷◌, Option, Some, slice_index, slice_index_or, if◌then◌else◌}
-use Rattle.go_scan.specs.declared.automaton.TheConstants.{CLASS, NEXT, DEAD, FOREIGN, OTHER, OPERATORS, INTEGERS, FLOATS, IMAGINARIES, RUNES, STRINGS, COMMENTS, PARTS}
+use Rattle.std.specs.Prelude.{ℕ, ◌+◌, ◌==◌, Bool, ◌&&◌, nat_lt, nat_le, List, [], ◌∷◌, Option, Some}
+use Rattle.std.specs.Prelude.{slice_index, slice_index_or, if◌then◌else◌}
+use Rattle.go_scan.specs.declared.automaton.TheConstants.{CLASS, NEXT, DEAD, FOREIGN, OTHER, OPERATORS, INTEGERS}
+use Rattle.go_scan.specs.declared.automaton.TheConstants.{FLOATS, IMAGINARIES, RUNES, STRINGS, COMMENTS, PARTS}
 use Rattle.go_tree.specs.declared.tokens.TokenKind.TheVariants.{Operator, Integer, Float, Imaginary, Rune, Str}
-use Rattle.go_words.specs.Tokens.Characters.{byte_order_mark}
-use Rattle.go_words.specs.Tokens.Pieces.{PieceKind, remark, token}
+use Rattle.go_tree.specs.GoWords.Tokens.Characters.{byte_order_mark}
+use Rattle.go_tree.specs.GoWords.Tokens.Pieces.{PieceKind, remark, token}
 
 -- the class of a character, by which the automaton goes on: ASCII by a table, all others alike but the byte order mark
 abbrev pub class_of : ℕ → ℕ

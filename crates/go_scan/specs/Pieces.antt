@@ -1,9 +1,11 @@
 -- The piece at the front of a text, from what the scanner looks at.
-use Rattle.std.specs.Prelude.{ℕ, ◌≤◌, List, [], ◌∷◌, length, take, drop, Option, Some, None, if◌then◌else◌}
+use Rattle.std.specs.Prelude.{ℕ, ◌≤◌, List, [], ◌∷◌, length, take, drop, Option, Some, None}
+use Rattle.std.specs.Prelude.{if◌then◌else◌}
 use Rattle.std.specs.List.{prefix_len}
 use Rattle.go_tree.specs.declared.tokens.TokenKind.TheVariants.{Ident, Keyword}
-use Rattle.go_words.specs.Tokens.Characters.{is_letter, is_word, is_blank}
-use Rattle.go_words.specs.Tokens.Pieces.{PieceKind, blanks, remark, token, keyword_spellings, is_among, may_precede, IsNext}
+use Rattle.go_tree.specs.GoWords.Tokens.Characters.{is_letter, is_word, is_blank}
+use Rattle.go_tree.specs.GoWords.Tokens.Pieces.{PieceKind, blanks, remark, token, keyword_spellings, is_among}
+use Rattle.go_tree.specs.GoWords.Tokens.Pieces.{may_precede, IsNext}
 use Rattle.go_scan.specs.declared.pieces.PieceKind as source
 use Rattle.go_scan.specs.declared.pieces.PieceKind.TheVariants.{Blanks, Comment, Token}
 use Rattle.go_scan.specs.declared.automaton.TheConstants.{START}

@@ -3,9 +3,9 @@ use Rattle.std.specs.Prelude.{◌≡◌, ℕ, List, ◌++◌, map, ⊤}
 use Rattle.std.specs.Str.{IsValidUpTo}
 use Rattle.go_tree.specs.declared.tokens.Token.{Token}
 use Rattle.go_tree.specs.declared.tokens.Comment.{Comment}
-use Rattle.go_words.specs.Codes.{terminal_at}
-use Rattle.go_words.specs.Tokens.{TokensOf, StopsAt, tokens_at, due_after, comments_at}
-use Rattle.go_words.specs.Tokens.Pieces.{PieceKind}
+use Rattle.go_tree.specs.GoWords.Codes.{terminal_at}
+use Rattle.go_tree.specs.GoWords.Tokens.{TokensOf, StopsAt, tokens_at, due_after, comments_at}
+use Rattle.go_tree.specs.GoWords.Tokens.Pieces.{PieceKind}
 use Rattle.go_scan.specs.declared.scanner.ScanError.{ScanError}
 use Rattle.go_scan.specs.declared.scanner.ScanError.TheVariants.{NotUtf8, BadToken, NoMemory}
 use Rattle.go_scan.specs.declared.lists.Lists.{Lists}

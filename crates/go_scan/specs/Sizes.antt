@@ -1,9 +1,10 @@
 -- What the scanner looks at, with sizes in bytes: the code walks over the bytes of a text, the definitions over its
 -- characters (Go specification, Source code representation).
-use Rattle.std.specs.Prelude.{◌≡◌, ℕ, ◌+◌, ◌==◌, Bool, List, [], ◌∷◌, take, Option, Some, None, if◌then◌else◌}
+use Rattle.std.specs.Prelude.{◌≡◌, ℕ, ◌+◌, ◌==◌, Bool, List, [], ◌∷◌, take, Option, Some, None}
+use Rattle.std.specs.Prelude.{if◌then◌else◌}
 use Rattle.std.specs.Char.{len_utf8}
-use Rattle.go_words.specs.Tokens.{size_of}
-use Rattle.go_words.specs.Tokens.Pieces.{PieceKind}
+use Rattle.go_tree.specs.GoWords.Tokens.{size_of}
+use Rattle.go_tree.specs.GoWords.Tokens.Pieces.{PieceKind}
 use Rattle.go_scan.specs.declared.automaton.TheConstants.{DEAD}
 use Rattle.go_scan.specs.Automaton.{next_of, is_whole}
 use Rattle.go_scan.specs.Pieces.{Exact}

@@ -3,15 +3,17 @@
 -- `fallthrough`, `go`, `goto`, `interface` and `select`, the operators `<-` and `~`, floating-point and imaginary
 -- literals (Go specification, Keywords, Operators and punctuation), and a build constraint before the package clause
 -- (go/build/constraint).
-use Rattle.std.specs.Prelude.{◌≡◌, ℕ, ◌-◌, ◌≤◌, Bool, true, false, ◌&&◌, nat_eq, nat_lt, nat_le, List, [], ◌∷◌, ◌++◌, take, drop, Option, Some, None, codes, bytes_eq, if◌then◌else◌, Contains, All}
+use Rattle.std.specs.Prelude.{◌≡◌, ℕ, ◌-◌, ◌≤◌, Bool, true, false, ◌&&◌, nat_eq, nat_lt, nat_le}
+use Rattle.std.specs.Prelude.{List, [], ◌∷◌, ◌++◌, take, drop, Option, Some, None, codes, bytes_eq}
+use Rattle.std.specs.Prelude.{if◌then◌else◌, Contains, All}
 use Rattle.std.specs.List.{starts_with}
 use Rattle.go_tree.specs.declared.spans.Span.{Span}
 use Rattle.go_tree.specs.declared.tokens.Token.{Token}
 use Rattle.go_tree.specs.declared.tokens.Comment.{Comment}
 use Rattle.go_tree.specs.declared.tokens.TokenKind.{TokenKind}
 use Rattle.go_tree.specs.declared.tokens.TokenKind.TheVariants.{Keyword}
-use Rattle.go_words.specs.Terminals.{terminal_of, is_foreign}
-use Rattle.go_words.specs.Tokens.Characters.{is_blank}
+use Rattle.go_tree.specs.GoWords.Terminals.{terminal_of, is_foreign}
+use Rattle.go_tree.specs.GoWords.Tokens.Characters.{is_blank}
 
 -- no production holds the token
 abbrev pub is_unsupported : TokenKind → List ℕ → Bool

@@ -2,7 +2,8 @@
 
 ghost use Rattle.std.specs.Prelude.{◌≡◌, ◌<◌, ◌≤◌, length, chars};
 ghost use Rattle.go_scan.specs.Sizes.{size_while};
-ghost use Rattle.go_words.specs.Tokens.Characters.{is_letter, is_digit, is_word, is_blank, is_letter_category, is_decimal_number};
+ghost use Rattle.go_tree.specs.GoWords.Tokens.Characters.{is_letter, is_digit, is_word, is_blank, is_letter_category};
+ghost use Rattle.go_tree.specs.GoWords.Tokens.Characters.{is_decimal_number};
 
 use unicode::properties::GeneralCategory;
 

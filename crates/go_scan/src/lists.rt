@@ -1,17 +1,18 @@
 //! The tokens and comments so far (Go specification, Semicolons, Comments).
 
-ghost use Rattle.std.specs.Prelude.{◌≡◌, ◌+◌, ◌<◌, ◌^◌, ◌++◌, length, map, chars, if◌then◌else◌, OnOk, Some, None};
-ghost use Rattle.go_words.specs.Codes.{spelled, terminal_at};
-ghost use Rattle.go_words.specs.Terminals.{terminal_of};
-ghost use Rattle.go_words.specs.Tokens.{ends_line, inserted};
-ghost use Rattle.go_words.specs.Tokens.Characters.{is_listed};
-ghost use Rattle.go_words.specs.Tokens.Pieces.{blanks, token};
+ghost use Rattle.std.specs.Prelude.{◌≡◌, ◌+◌, ◌<◌, ◌^◌, ◌++◌, length, map, chars};
+ghost use Rattle.std.specs.Prelude.{if◌then◌else◌, OnOk, Some, None};
+ghost use Rattle.go_tree.specs.GoWords.Codes.{spelled, terminal_at};
+ghost use Rattle.go_tree.specs.GoWords.Terminals.{terminal_of};
+ghost use Rattle.go_tree.specs.GoWords.Tokens.{ends_line, inserted};
+ghost use Rattle.go_tree.specs.GoWords.Tokens.Characters.{is_listed};
+ghost use Rattle.go_tree.specs.GoWords.Tokens.Pieces.{blanks, token};
 ghost use Rattle.go_scan.specs.Pieces.{kind_of};
 ghost use Rattle.go_scan.specs.Scanned.{Adds};
 
 use crate::pieces::PieceKind;
+use go_tree::go_words::{Terminal, ends_line, terminal_of};
 use go_tree::{Comment, NoMemory, Span, Spelling, Token, TokenKind};
-use go_words::{Terminal, ends_line, terminal_of};
 use std::alloc::Global;
 
 /// The tokens, the terminal of each, and the comments so far. `due` is the end of the last token where a newline, or

@@ -1,7 +1,7 @@
 //! The piece at the front of a text (Go specification, Lexical elements).
 
 ghost use Rattle.std.specs.Prelude.{◌≡◌, bytes_eq, chars, codes};
-ghost use Rattle.go_words.specs.Tokens.Pieces.{no_word_first, no_star_first, may_precede};
+ghost use Rattle.go_tree.specs.GoWords.Tokens.Pieces.{no_word_first, no_star_first, may_precede};
 ghost use Rattle.go_scan.specs.Automaton.{kind_in};
 ghost use Rattle.go_scan.specs.Pieces.{kind_of, seen, word_kind, lexeme_of, piece_of};
 ghost use Rattle.go_scan.specs.Sizes.{sized, ExactSize};
@@ -10,7 +10,7 @@ use crate::automaton::{COMMENTS, FLOATS, IMAGINARIES, INTEGERS, RUNES, STRINGS};
 use crate::characters::{blanks_size, is_blank, is_letter, is_word, word_size};
 use crate::lexemes::longest;
 use go_tree::TokenKind;
-use go_words::keyword;
+use go_tree::go_words::keyword;
 
 /// What a piece of a text is.
 #[derive(Clone, Copy, Debug, PartialEq, Eq)]

@@ -1,15 +1,15 @@
 //! Tokens and comments of a text (Go specification, Source code representation, Lexical elements).
 
 ghost use Rattle.std.specs.Prelude.{◌≡◌, ◌≢◌, ◌+◌, ◌≤◌, length, map, chars, IfOk, IfErr};
-ghost use Rattle.go_words.specs.Codes.{terminal_at};
-ghost use Rattle.go_words.specs.Tokens.{TokensOf, after_mark, mark_size};
+ghost use Rattle.go_tree.specs.GoWords.Codes.{terminal_at};
+ghost use Rattle.go_tree.specs.GoWords.Tokens.{TokensOf, after_mark, mark_size};
 ghost use Rattle.go_scan.specs.Scanned.{Refuses, HasNoTokens};
 
 use crate::characters::BYTE_ORDER_MARK;
 use crate::lists::{Lists, add, insert_due};
 use crate::pieces::piece;
+use go_tree::go_words::Terminal;
 use go_tree::{Comment, MAX_FILE_BYTES, Token};
-use go_words::Terminal;
 use std::alloc::{AllocError, Global};
 use std::marker::Model;
 use std::str;
@@ -25,7 +25,7 @@ pub struct Tokens {
 
 impl Model for Tokens {
     ghost use Rattle.std.specs.Prelude.{◌≡◌, map};
-    ghost use Rattle.go_words.specs.Codes.{terminal_at};
+    ghost use Rattle.go_tree.specs.GoWords.Codes.{terminal_at};
     ghost use Rattle.go_scan.specs.TokenLists.{TokenLists};
 
     ghost Value = { TokenLists };

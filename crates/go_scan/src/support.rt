@@ -1,14 +1,16 @@
 //! Words that are not supported.
 
 ghost use Rattle.std.specs.Prelude.{◌≡◌, ℕ, ◌≤◌, List, if◌then◌else◌, length, map, All, Some, None};
-ghost use Rattle.go_words.specs.Codes.{spelled, terminal_at};
-ghost use Rattle.go_words.specs.Terminals.{is_foreign};
-ghost use Rattle.go_words.specs.Tokens.{TokensOf};
-ghost use Rattle.go_scan.specs.Unsupported.{is_package, package_start, stands_before, is_build_line, is_constraint, blank_or_end, unsupported_spans, IsFirst, earlier, first_word, first_constraint};
+ghost use Rattle.go_tree.specs.GoWords.Codes.{spelled, terminal_at};
+ghost use Rattle.go_tree.specs.GoWords.Terminals.{is_foreign};
+ghost use Rattle.go_tree.specs.GoWords.Tokens.{TokensOf};
+ghost use Rattle.go_scan.specs.Unsupported.{is_package, package_start, stands_before, is_build_line, is_constraint};
+ghost use Rattle.go_scan.specs.Unsupported.{blank_or_end, unsupported_spans, IsFirst, earlier, first_word};
+ghost use Rattle.go_scan.specs.Unsupported.{first_constraint};
 
 use crate::scanner::Tokens;
+use go_tree::go_words::{Terminal, is_foreign};
 use go_tree::{Comment, Span, Token, TokenKind};
-use go_words::{Terminal, is_foreign};
 
 const BUILD_LINE: &[u8; 10] = b"//go:build";
 

@@ -11,8 +11,8 @@ use Rattle.import_rules.specs.declared.new_import.NewImport.{NewImport}
 use Rattle.import_rules.specs.Laid.{Laid}
 use Rattle.import_rules.specs.Settled.{settled}
 use Rattle.import_rules.proofs.SettledOrder.{settled_within}
-use Rattle.import_splices.specs.ImportPlaces.ReadFiles.{SpellsImportsOf, ReadsImportsOf}
-use Rattle.import_splices.proofs.ImportPlaces.FilesLaid.{imports_laid}
+use Rattle.splice_laws.specs.ImportSplices.ImportPlaces.ReadFiles.{SpellsImportsOf, ReadsImportsOf}
+use Rattle.splice_laws.proofs.ImportSplices.ImportPlaces.FilesLaid.{imports_laid}
 
 module _ (text : List ℕ) (tokens : List Token) (comments : List Comment) (file : File Span) (s : IsSource text tokens comments file) where
   own_imports : SpellsImportsOf tokens file

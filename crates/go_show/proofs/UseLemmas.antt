@@ -1,6 +1,6 @@
 -- A walk over the declarations of a file leaves the package blocks and the places of all files as they are.
 use Rattle.std.proofs.Common.{◌≡◌, ap, subst}
-use Rattle.type_relations.specs.Environment.{Environment}
+use Rattle.type_table.specs.TypeRelations.Environment.{Environment}
 use Rattle.typed_names.specs.Meanings.{Names}
 use Rattle.typed_names.specs.declared.scopes.Scope.{Scope}
 use Rattle.declared_types.specs.Steps.{KnowsPlaces}

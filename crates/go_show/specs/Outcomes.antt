@@ -8,7 +8,8 @@ use Rattle.go_tree.specs.File.{File}
 use Rattle.go_layout.specs.Layouts.{text_of}
 use Rattle.go_layout.specs.FileLayout.{file_layout}
 use Rattle.go_parse.specs.declared.source.ReadError.{ReadError}
-use Rattle.go_parse.specs.declared.source.ReadError.TheVariants.{NotUtf8, BadToken, Unsupported, TooDeep, NotRead, NoMemory}
+use Rattle.go_parse.specs.declared.source.ReadError.TheVariants.{NotUtf8, BadToken, Unsupported, TooDeep, NotRead}
+use Rattle.go_parse.specs.declared.source.ReadError.TheVariants.{NoMemory}
 use Rattle.go_parse.specs.Sources.{IsSource, RefusesText}
 
 -- a reason and the byte at which it is seen

@@ -2,8 +2,8 @@
 //! Blocks; Import declarations).
 
 use file_names::{DeclaredName, NameKind, declared_names};
+use go_tree::scope_names::{FileNames, ImportList, ImportName, NameList};
 use go_tree::{FileTree, ImportSpec, Name, NoMemory, Span, Text};
-use scope_names::{FileNames, ImportList, ImportName, NameList};
 use std::alloc::Global;
 
 /// The names of a file, and where those of its package block are declared.

@@ -14,7 +14,7 @@ use pkg_graph::{Package, SourceTree};
 use source_files::SourceFile;
 use std::alloc::{AllocError, Global};
 use std::io::{self, Write};
-use type_relations::Env;
+use type_table::type_relations::Env;
 use type_table::{TypeId, TypeNode};
 use type_words::{Home, TypeFault, signature_text, type_text};
 use typed_names::{Blocks, Entity};

@@ -6,9 +6,9 @@ use crate::blocks::{FileBlocks, file_blocks};
 use crate::names::table_of;
 use crate::tree::write_fault;
 use go_parse::read_file;
+use go_tree::scope_names::{FileNames, NameList};
 use go_tree::{FileTree, MAX_FILE_BYTES, Name, NoMemory, Text};
 use import_edit::need;
-use scope_names::{FileNames, NameList};
 use std::alloc::Global;
 use std::io::{self, Write};
 

@@ -4,13 +4,13 @@ ghost use Rattle.initial_values.specs.ValueBlocks.Values.{AreThere};
 
 use crate::declarations::{Declarations, push_text};
 use crate::lines::push_hex;
-use const_eval::{Const, Kind};
 use go_tree::NoMemory;
+use go_tree::const_eval::{Const, Kind};
 use itoa::Buffer;
 use operand_rules::ValueType;
 use std::alloc::Global;
-use type_relations::Env;
 use type_table::TypeId;
+use type_table::type_relations::Env;
 use type_words::{Home, type_text};
 use typed_names::Entity;
 

@@ -6,7 +6,7 @@ use Rattle.go_tree.specs.declared.stmts.Arm as source_arm
 use Rattle.go_tree.specs.View.{arm_of}
 use Rattle.go_tree.specs.Lists.{arms_from}
 use Rattle.go_tree.specs.Tree.{Expr, ExprOption, no_expr, some_expr, Stmt, Stmts, StmtOption, no_stmt, some_stmt, BlockOption, no_block, some_block, eval, if_, switch, Arms, no_arms, arm, Cases}
-use Rattle.go_words.specs.Terminals.{lex, semicolon, brace, key_else, key_if, key_switch}
+use Rattle.go_tree.specs.GoWords.Terminals.{lex, semicolon, brace, key_else, key_if, key_switch}
 use Rattle.go_read.specs.SpellsSpans.{span_to}
 use Rattle.go_read.specs.SpellsTypes.{Lexemes}
 use Rattle.go_read.specs.Goals.{read_operand, read_simple, read_stmt, read_block, read_arm, read_if, read_cases}
@@ -14,8 +14,8 @@ use Rattle.go_read.specs.Programs.{give, ask, run, after_brace, after_end_brace}
 use Rattle.go_read.specs.ReadStmts.{stmt_step, arm_step, arm_first, arm_after, arm_eval, arm_test, arm_body, if_step, if_after, switch_first, switch_after, switch_eval, switch_tag, switch_body}
 use Rattle.go_read.specs.Reading.{at}
 use Rattle.go_read.proofs.Finds.{gives, asks, finish}
-use Rattle.go_words.specs.declared.terminals.Terminal.{Terminal}
-use Rattle.go_words.specs.declared.terminals.Terminal.TheVariants as code
+use Rattle.go_tree.specs.declared.go_words.terminals.Terminal.{Terminal}
+use Rattle.go_tree.specs.declared.go_words.terminals.Terminal.TheVariants as code
 use Rattle.go_productions.specs.Terminals.{first_of, rest_of}
 use Rattle.go_productions.specs.Parts.{onto, in_front}
 use Rattle.go_statements.specs.StmtParts.{evaluated, arm_seen, arm_at, arm_body_at, arm_test_at, arm_and, switch_body_at, switch_tag_at, switch_after_at}

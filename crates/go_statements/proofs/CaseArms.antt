@@ -6,7 +6,7 @@ use Rattle.go_tree.specs.declared.stmts.Case as source
 use Rattle.go_tree.specs.View.{case_of}
 use Rattle.go_tree.specs.Lists.{cases_from}
 use Rattle.go_tree.specs.Tree.{Exprs, no_exprs, Stmts, Cases, no_cases, case}
-use Rattle.go_words.specs.Terminals.{lex, colon, key_case, key_default}
+use Rattle.go_tree.specs.GoWords.Terminals.{lex, colon, key_case, key_default}
 use Rattle.go_read.specs.SpellsSpans.{span_to}
 use Rattle.go_read.specs.SpellsTypes.{Lexemes}
 use Rattle.go_read.specs.Goals.{read_exprs, read_stmts, read_cases}
@@ -14,8 +14,8 @@ use Rattle.go_read.specs.Programs.{run, after_colon}
 use Rattle.go_read.specs.ReadStmts.{cases_step, case_body}
 use Rattle.go_read.specs.Reading.{at}
 use Rattle.go_read.proofs.Finds.{gives, finish}
-use Rattle.go_words.specs.declared.terminals.Terminal.{Terminal}
-use Rattle.go_words.specs.declared.terminals.Terminal.TheVariants as code
+use Rattle.go_tree.specs.declared.go_words.terminals.Terminal.{Terminal}
+use Rattle.go_tree.specs.declared.go_words.terminals.Terminal.TheVariants as code
 use Rattle.go_productions.specs.Terminals.{first_of, rest_of}
 use Rattle.go_productions.specs.Parts.{onto, in_front}
 use Rattle.go_statements.specs.StmtParts.{case_here, case_at, case_colon, case_body_at, case_and}

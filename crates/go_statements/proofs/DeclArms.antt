@@ -7,7 +7,7 @@ use Rattle.go_tree.specs.View.{var_spec_of}
 use Rattle.go_tree.specs.Lists.{specs_from}
 use Rattle.go_tree.specs.File.{values}
 use Rattle.go_tree.specs.Tree.{NameAt, TypeExpr, Exprs, Stmt, no_exprs, const_decl, var_decl, ValueSpecs, no_specs, spec}
-use Rattle.go_words.specs.Terminals.{lex, assign, semicolon, paren, end_paren, end_brace}
+use Rattle.go_tree.specs.GoWords.Terminals.{lex, assign, semicolon, paren, end_paren, end_brace}
 use Rattle.go_read.specs.SpellsSpans.{span_to}
 use Rattle.go_read.specs.SpellsTypes.{Lexemes}
 use Rattle.go_read.specs.Goals.{read_type, read_names, read_exprs, read_decl, read_specs, read_spec}
@@ -15,8 +15,8 @@ use Rattle.go_read.specs.Programs.{give, ask, run}
 use Rattle.go_read.specs.ReadStmts.{decl_step, specs_step, specs_after, spec_step, spec_after, typed_step, typed_after}
 use Rattle.go_read.specs.Reading.{at}
 use Rattle.go_read.proofs.Finds.{gives, asks, finish}
-use Rattle.go_words.specs.declared.terminals.Terminal.{Terminal}
-use Rattle.go_words.specs.declared.terminals.Terminal.TheVariants as code
+use Rattle.go_tree.specs.declared.go_words.terminals.Terminal.{Terminal}
+use Rattle.go_tree.specs.declared.go_words.terminals.Terminal.TheVariants as code
 use Rattle.go_productions.specs.Terminals.{first_of, rest_of}
 use Rattle.go_productions.specs.Parts.{onto, in_front, const_decl_at, var_decl_at}
 use Rattle.go_statements.specs.StmtParts.{valued, spec_at, spec_and, is_equals, repeats}

@@ -3,8 +3,8 @@ use Rattle.std.proofs.Common.{◌≡◌, ◌≢◌, true, false, List, ◌∷◌
 use Rattle.std.specs.Prelude.{option_and_then}
 use Rattle.go_tree.specs.declared.spans.Span.{Span}
 use Rattle.go_tree.specs.Tree.{NameAt, Expr, Exprs, ExprOption, no_expr, some_expr, Stmt, Stmts, StmtOption, no_stmt, some_stmt, eval, define, for_, range_, RangeLeft, nothing, assigns, defines}
-use Rattle.go_words.specs.Terminals as terminal
-use Rattle.go_words.specs.Terminals.{lex, assign, semicolon, brace, key_for, key_range}
+use Rattle.go_tree.specs.GoWords.Terminals as terminal
+use Rattle.go_tree.specs.GoWords.Terminals.{lex, assign, semicolon, brace, key_for, key_range}
 use Rattle.go_read.specs.SpellsSpans.{span_to}
 use Rattle.go_read.specs.SpellsTypes.{Lexemes}
 use Rattle.go_read.specs.Goals.{Clause, plain_clause, range_clause, read_names, read_operand, read_exprs, read_simple, read_simple_after, read_clause, read_stmt, read_block}
@@ -13,8 +13,8 @@ use Rattle.go_read.specs.ReadStmts.{stmt_step, clause_step, clause_names, clause
 use Rattle.go_read.specs.Reading.{at}
 use Rattle.go_read.proofs.Finds.{gives, asks, looks, finish}
 use Rattle.go_read.proofs.Runs.{some_is}
-use Rattle.go_words.specs.declared.terminals.Terminal.{Terminal}
-use Rattle.go_words.specs.declared.terminals.Terminal.TheVariants as code
+use Rattle.go_tree.specs.declared.go_words.terminals.Terminal.{Terminal}
+use Rattle.go_tree.specs.declared.go_words.terminals.Terminal.TheVariants as code
 use Rattle.go_productions.specs.Terminals.{first_of, rest_of}
 use Rattle.go_productions.specs.Parts.{skipped}
 use Rattle.go_statements.specs.StmtParts.{is_short, short_after, defines_here, evaluated, range_here, for_body_at, for_post_at, for_test_at, for_plain_at, range_at, for_clause_at}

@@ -7,8 +7,8 @@ use Rattle.go_tree.specs.declared.exprs.Expr as source
 use Rattle.go_tree.specs.Lists.{exprs_from}
 use Rattle.go_tree.specs.View.{expr_of}
 use Rattle.go_tree.specs.Tree.{NameAt, Expr, Exprs, Stmt, no_exprs, expr_and, eval, step, assign, define}
-use Rattle.go_words.specs.Terminals as terminal
-use Rattle.go_words.specs.Terminals.{lex, ident, comma, increment, decrement}
+use Rattle.go_tree.specs.GoWords.Terminals as terminal
+use Rattle.go_tree.specs.GoWords.Terminals.{lex, ident, comma, increment, decrement}
 use Rattle.go_read.specs.SpellsSpans.{span_to}
 use Rattle.go_read.specs.SpellsTypes.{Lexemes}
 use Rattle.go_read.specs.Goals.{read_names, read_exprs, read_simple, read_simple_after}
@@ -17,8 +17,8 @@ use Rattle.go_read.specs.ReadTypes.{names_step}
 use Rattle.go_read.specs.ReadStmts.{simple_step, simple_names, simple_exprs, simple_after_step, one_expr, one_after}
 use Rattle.go_read.specs.Reading.{at}
 use Rattle.go_read.proofs.Finds.{gives, asks, looks, finish}
-use Rattle.go_words.specs.declared.terminals.Terminal.{Terminal}
-use Rattle.go_words.specs.declared.terminals.Terminal.TheVariants as code
+use Rattle.go_tree.specs.declared.go_words.terminals.Terminal.{Terminal}
+use Rattle.go_tree.specs.declared.go_words.terminals.Terminal.TheVariants as code
 use Rattle.go_productions.specs.Terminals.{first_of, rest_of, name_of}
 use Rattle.go_productions.specs.Parts.{skipped}
 use Rattle.go_statements.specs.StmtParts.{is_short, short_after, defines_here, define_at, only}

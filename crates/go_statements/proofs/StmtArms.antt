@@ -6,7 +6,7 @@ use Rattle.go_tree.specs.declared.stmts.Stmt as source
 use Rattle.go_tree.specs.View.{stmt_of}
 use Rattle.go_tree.specs.Lists.{stmts_from}
 use Rattle.go_tree.specs.Tree.{Expr, Exprs, no_exprs, call, Stmt, Stmts, no_stmts, stmt_and, ValueSpecs, const_decl, var_decl, empty, return_, break_, continue_, inner, defer, label}
-use Rattle.go_words.specs.Terminals.{lex, ident, colon, semicolon, brace, end_brace, key_break, key_case, key_const, key_continue, key_default, key_defer, key_for, key_if, key_return, key_switch, key_var}
+use Rattle.go_tree.specs.GoWords.Terminals.{lex, ident, colon, semicolon, brace, end_brace, key_break, key_case, key_const, key_continue, key_default, key_defer, key_for, key_if, key_return, key_switch, key_var}
 use Rattle.go_read.specs.SpellsSpans.{span_to}
 use Rattle.go_read.specs.SpellsTypes.{Lexemes}
 use Rattle.go_read.specs.Spells.{is_empty, SpellsStmt, SpellsSimple, empty_rule, simple_rule, eval_rule, increment_rule, decrement_rule, assign_rule, define_rule}
@@ -16,8 +16,8 @@ use Rattle.go_read.specs.ReadStmts.{stmt_step, stmts_step, stmts_after, return_s
 use Rattle.go_read.specs.Reading.{at}
 use Rattle.go_read.proofs.Finds.{Runs, gives, asks, passes, finish}
 use Rattle.go_read.proofs.Whole.{stmt_spelled}
-use Rattle.go_words.specs.declared.terminals.Terminal.{Terminal}
-use Rattle.go_words.specs.declared.terminals.Terminal.TheVariants as code
+use Rattle.go_tree.specs.declared.go_words.terminals.Terminal.{Terminal}
+use Rattle.go_tree.specs.declared.go_words.terminals.Terminal.TheVariants as code
 use Rattle.go_productions.specs.Terminals.{first_of, rest_of, name_of}
 use Rattle.go_productions.specs.Parts.{onto, in_front, const_decl_at, var_decl_at}
 use Rattle.go_statements.specs.StmtParts.{closes, ends_stmts, is_bare_call}

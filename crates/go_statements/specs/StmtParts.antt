@@ -1,20 +1,23 @@
 -- Parts of statements that no goal of the reader is for.
 use Rattle.std.specs.Prelude.{Bool, true, false, List, map, ◌∷◌, Option, Some, None, option_and_then}
 use Rattle.go_tree.specs.declared.spans.Span.{Span}
-use Rattle.go_tree.specs.Tree.{NameAt, TypeExpr, Expr, Exprs, ExprOption, Stmt, Stmts, StmtOption, BlockOption, RangeLeft, Arms, arm, Cases, case, ValueSpecs, spec, define, eval, call, expr_and, no_exprs}
+use Rattle.go_tree.specs.Tree.{NameAt, TypeExpr, Expr, Exprs, ExprOption, Stmt, Stmts, StmtOption, BlockOption}
+use Rattle.go_tree.specs.Tree.{RangeLeft, Arms, arm, Cases, case, ValueSpecs, spec, define, eval, call, expr_and}
+use Rattle.go_tree.specs.Tree.{no_exprs}
 use Rattle.go_tree.specs.File.{Decl, values}
 use Rattle.go_tree.specs.Lists.{specs_from}
 use Rattle.go_tree.specs.View.{var_spec_of}
 use Rattle.go_statements.specs.declared.decls.Group.{Group}
-use Rattle.go_words.specs.Terminals.{lex, assign, colon, key_case, key_default, key_range}
+use Rattle.go_tree.specs.GoWords.Terminals.{lex, assign, colon, key_case, key_default, key_range}
 use Rattle.go_read.specs.SpellsSpans.{span_to}
 use Rattle.go_read.specs.SpellsTypes.{Lexemes}
 use Rattle.go_read.specs.Goals.{range_clause, read_names, read_exprs, read_clause, read_arm, read_spec, read_stmts}
 use Rattle.go_read.specs.Programs.{ask, run}
-use Rattle.go_read.specs.ReadStmts.{arm_body, arm_test, for_body, for_post, for_test, for_plain, for_after, switch_body, switch_tag, switch_after}
+use Rattle.go_read.specs.ReadStmts.{arm_body, arm_test, for_body, for_post, for_test, for_plain, for_after, switch_body}
+use Rattle.go_read.specs.ReadStmts.{switch_tag, switch_after}
 use Rattle.go_read.specs.Reading.{at}
-use Rattle.go_words.specs.declared.terminals.Terminal.{Terminal}
-use Rattle.go_words.specs.declared.terminals.Terminal.TheVariants as code
+use Rattle.go_tree.specs.declared.go_words.terminals.Terminal.{Terminal}
+use Rattle.go_tree.specs.declared.go_words.terminals.Terminal.TheVariants as code
 use Rattle.go_productions.specs.Terminals.{first_of, rest_of}
 use Rattle.go_productions.specs.Parts.{skipped}
 

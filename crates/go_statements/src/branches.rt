@@ -2,22 +2,24 @@
 
 ghost use Rattle.std.specs.Prelude.{◌≡◌, true, map, ◌<◌, ◌≤◌, length};
 ghost use Rattle.go_tree.specs.Lists.{exprs_from};
-ghost use Rattle.go_tree.specs.View.{arm_of, boxed_expr_option_of, boxed_stmt_option_of, case_of, cases_of, expr_of, stmt_of};
+ghost use Rattle.go_tree.specs.View.{arm_of, boxed_expr_option_of, boxed_stmt_option_of, case_of, cases_of, expr_of};
+ghost use Rattle.go_tree.specs.View.{stmt_of};
 ghost use Rattle.go_productions.specs.Cursors.{ahead};
 ghost use Rattle.go_read.specs.SpellsSpans.{span_to};
 ghost use Rattle.go_read.specs.Goals.{read_cases, read_stmt};
 ghost use Rattle.go_read.specs.Reading.{at};
 ghost use Rattle.go_expressions.specs.Bodies.{Ready};
 ghost use Rattle.go_productions.specs.Answers.{Gives, Shorter, Within};
-ghost use Rattle.go_statements.specs.StmtParts.{arm_at, arm_body_at, arm_test_at, case_at, case_body_at, case_here, switch_after_at, switch_body_at, switch_tag_at};
+ghost use Rattle.go_statements.specs.StmtParts.{arm_at, arm_body_at, arm_test_at, case_at, case_body_at, case_here};
+ghost use Rattle.go_statements.specs.StmtParts.{switch_after_at, switch_body_at, switch_tag_at};
 ghost use Rattle.go_productions.specs.Terminals.{first_of};
 
 use crate::parts::{evaluated, unboxed};
 use crate::simple_stmts::simple_stmt;
 use go_expressions::{Place, Taken, block, expr_list, expression, statements};
 use go_productions::{Cursor, Reading};
+use go_tree::go_words::Terminal;
 use go_tree::{Arm, ArmList, Case, CaseList, Expr, ExprList, Stmt};
-use go_words::Terminal;
 
 /// An `if` statement, which begins with its keyword; arms after `else` belong to it.
 #[tactic(auto, using(crate::proofs::BranchArms::if_lost, crate::proofs::BranchArms::if_alone, crate::proofs::BranchArms::if_open, crate::proofs::BranchArms::if_else, crate::proofs::BranchArms::if_more))]

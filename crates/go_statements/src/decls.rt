@@ -3,7 +3,8 @@
 ghost use Rattle.std.specs.Prelude.{◌≡◌, false, IfOk, Some, map, ◌<◌, length};
 ghost use Rattle.go_tree.specs.Lists.{specs_from};
 ghost use Rattle.go_tree.specs.Tree.{const_decl, var_decl};
-ghost use Rattle.go_tree.specs.View.{const_decl_of, const_spec_of, exprs_of, name_at_of, stmt_of, type_of, var_decl_of, var_spec_of};
+ghost use Rattle.go_tree.specs.View.{const_decl_of, const_spec_of, exprs_of, name_at_of, stmt_of, type_of, var_decl_of};
+ghost use Rattle.go_tree.specs.View.{var_spec_of};
 ghost use Rattle.go_tree.specs.FileView.{decl_of};
 ghost use Rattle.go_productions.specs.Cursors.{ahead};
 ghost use Rattle.go_read.specs.SpellsSpans.{span_to};
@@ -18,11 +19,11 @@ ghost use Rattle.go_statements.specs.StmtParts.{group_of, is_equals, repeats, sp
 use crate::stmts::taken;
 use go_expressions::{Place, Taken, expr_list};
 use go_productions::{Cursor, Reading, names, type_expr};
+use go_tree::go_words::Terminal;
 use go_tree::{
     ConstDecl, ConstSpec, ConstSpecList, Decl, ExprList, NameAtList, NoMemory, Span, Stmt,
     TypeExpr, VarDecl, VarSpec, VarSpecList,
 };
-use go_words::Terminal;
 use std::alloc::Global;
 
 /// The specs of a declaration.

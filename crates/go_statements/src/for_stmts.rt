@@ -8,15 +8,16 @@ ghost use Rattle.go_read.specs.Goals.{read_stmt};
 ghost use Rattle.go_read.specs.Reading.{at};
 ghost use Rattle.go_expressions.specs.Bodies.{Ready};
 ghost use Rattle.go_productions.specs.Answers.{Gives, Shorter};
-ghost use Rattle.go_statements.specs.StmtParts.{defines_here, for_body_at, for_clause_at, for_plain_at, for_post_at, for_test_at, range_at, range_here};
+ghost use Rattle.go_statements.specs.StmtParts.{defines_here, for_body_at, for_clause_at, for_plain_at, for_post_at};
+ghost use Rattle.go_statements.specs.StmtParts.{for_test_at, range_at, range_here};
 ghost use Rattle.go_productions.specs.Terminals.{first_of};
 
 use crate::parts::{assigned, evaluated, unboxed};
 use crate::simple_stmts::{defines, simple_after, simple_stmt};
 use go_expressions::{Place, Taken, block, expr_list, expression};
 use go_productions::{Cursor, Reading, names};
+use go_tree::go_words::Terminal;
 use go_tree::{Expr, ExprList, RangeLeft, Stmt, define_stmt, range_stmt};
-use go_words::Terminal;
 
 /// A `for` statement, which begins with its keyword.
 #[tactic(auto, using(crate::proofs::ForArms::for_endless, crate::proofs::ForArms::for_no_first, crate::proofs::ForArms::for_range, crate::proofs::ForArms::for_clause))]

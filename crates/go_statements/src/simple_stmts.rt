@@ -15,8 +15,8 @@ ghost use Rattle.go_statements.specs.StmtParts.{define_at, defines_here, is_shor
 
 use go_expressions::{Place, Taken, expr_list};
 use go_productions::{Cursor, Reading, names, skip_names};
+use go_tree::go_words::Terminal;
 use go_tree::{Expr, ExprList, Stmt, assign_stmt, define_stmt};
-use go_words::Terminal;
 
 /// A simple statement; in a header no composite literal begins with a name outside of brackets.
 pub(crate) fn simple_stmt<'a, F: Fn(Cursor) -> Taken>(place: Place<'a, '_, F>) -> Reading<'a, Stmt>

@@ -19,8 +19,8 @@ use crate::parts::is_bare_call;
 use crate::simple_stmts::simple_stmt;
 use go_expressions::{Place, Taken, binary_expr, expr_list};
 use go_productions::{Cursor, Reading, name};
+use go_tree::go_words::Terminal;
 use go_tree::{Block, ExprList, Stmt, StmtList, inner_stmt, label_stmt};
-use go_words::Terminal;
 
 /// Statements in braces.
 #[tactic(auto, using(go_expressions::proofs::BodyArms::block_open, go_expressions::proofs::BodyArms::block_none, go_expressions::proofs::BodyArms::block_end, go_expressions::proofs::BodyArms::block_some))]

@@ -2,7 +2,8 @@
 //! stands in no box or list is dear to check.
 
 ghost use Rattle.std.specs.Prelude.{◌≡◌, IfOk};
-ghost use Rattle.go_tree.specs.View.{expr_of, exprs_of, boxed_expr_option_of, plain_expr_option_of, value_of, elem_of, elems_of};
+ghost use Rattle.go_tree.specs.View.{expr_of, exprs_of, boxed_expr_option_of, plain_expr_option_of, value_of, elem_of};
+ghost use Rattle.go_tree.specs.View.{elems_of};
 
 use crate::copy_stmts::copy_block;
 use crate::copy_types::{copy_name, copy_name_at, copy_sig, copy_text, copy_type};

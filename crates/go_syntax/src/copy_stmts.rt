@@ -2,7 +2,9 @@
 //! that drops one is dear to check.
 
 ghost use Rattle.std.specs.Prelude.{◌≡◌, IfOk};
-ghost use Rattle.go_tree.specs.View.{block_of, held_block_option_of, stmt_of, stmts_of, boxed_stmt_option_of, range_left_of, arm_of, arms_of, case_of, cases_of, const_spec_of, const_specs_of, var_spec_of, var_specs_of};
+ghost use Rattle.go_tree.specs.View.{block_of, held_block_option_of, stmt_of, stmts_of, boxed_stmt_option_of};
+ghost use Rattle.go_tree.specs.View.{range_left_of, arm_of, arms_of, case_of, cases_of, const_spec_of, const_specs_of};
+ghost use Rattle.go_tree.specs.View.{var_spec_of, var_specs_of};
 
 use crate::copy_exprs::{copy_expr, copy_expr_option, copy_exprs};
 use crate::copy_types::{copy_name_at, copy_name_at_option, copy_names, copy_type_option};

@@ -2,7 +2,9 @@
 -- "Calls", "Defer statements", "Declarations and scope").
 use Rattle.std.specs.Prelude.{ℕ, Bool, true, ◌&&◌, List, [], ◌∷◌, ◌++◌, nat_lt, if◌then◌else◌}
 use Rattle.std.specs.List.{list_any, list_all}
-use Rattle.go_kernel.specs.Kernel.{Name, ImportPath, FuncName, same_text, same_func, Op, ReadGlobal, GlobalAddress, Save, Func, code, Term, Vals, Local, Set, Both, Prim, If, Let, Loop, Leave, Catch, Within, Alone, Recover, Call, Defer, DeferLit}
+use Rattle.go_kernel.specs.Kernel.{Name, ImportPath, FuncName, same_text, same_func, Op, ReadGlobal, GlobalAddress}
+use Rattle.go_kernel.specs.Kernel.{Save, Func, code, Term, Vals, Local, Set, Both, Prim, If, Let, Loop, Leave, Catch}
+use Rattle.go_kernel.specs.Kernel.{Within, Alone, Recover, Call, Defer, DeferLit}
 use Rattle.go_translation.specs.Packages.{PackageCode, functions_of, initial_of}
 
 -- ---- functions

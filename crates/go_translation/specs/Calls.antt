@@ -1,18 +1,23 @@
 -- Selectors, composite literals, conversions, predeclared functions and calls as terms, over operands that are typed
 -- and terms that are made (Go specification, "Selectors", "Composite literals", "Conversions", "Built-in functions",
 -- "Calls", "Defer statements").
-use Rattle.std.specs.Prelude.{ℕ, zero, suc, Bool, true, false, not, ◌&&◌, ◌||◌, List, [], ◌∷◌, length, Option, Some, None, if◌then◌else◌, bytes_eq, is_some, pos}
-use Rattle.const_eval.specs.declared.kinds.Kind.TheVariants as kind
-use Rattle.const_eval.specs.declared.consts.Const.TheVariants.{Whole}
-use Rattle.go_types.specs.Answers.{given, meets}
-use Rattle.go_types.specs.Types.{GoType, basic, named_type, slice_of, map_of, struct_of, untyped, untyped_nil, GoFields, no_go_fields, go_field, base_of, element_of, map_parts}
-use Rattle.go_types.specs.Defined.{Defined, under, methods, Method}
-use Rattle.go_types.specs.Relations.{is_whole_number}
-use Rattle.go_types.specs.Entities.{Builtin, Append, Cap, Copy, Delete, Len, Make, New, Panic, Print, Println, Recover, exact}
-use Rattle.go_types.specs.Operands.{Operand, a_type, a_function, a_builtin, Typed, typed, settled}
-use Rattle.go_types.specs.Primary.{sees, find_method, fields_in}
+use Rattle.std.specs.Prelude.{ℕ, zero, suc, Bool, true, false, not, ◌&&◌, ◌||◌, List, [], ◌∷◌, length}
+use Rattle.std.specs.Prelude.{Option, Some, None, if◌then◌else◌, bytes_eq, is_some, pos}
+use Rattle.go_tree.specs.declared.const_eval.kinds.Kind.TheVariants as kind
+use Rattle.go_tree.specs.declared.const_eval.consts.Const.TheVariants.{Whole}
+use Rattle.go_tree.specs.GoTypes.Answers.{given, meets}
+use Rattle.go_tree.specs.GoTypes.Types.{GoType, basic, named_type, slice_of, map_of, struct_of, untyped, untyped_nil}
+use Rattle.go_tree.specs.GoTypes.Types.{GoFields, no_go_fields, go_field, base_of, element_of, map_parts}
+use Rattle.go_tree.specs.GoTypes.Defined.{Defined, under, methods, Method}
+use Rattle.go_tree.specs.GoTypes.Relations.{is_whole_number}
+use Rattle.go_tree.specs.GoTypes.Entities.{Builtin, Append, Cap, Copy, Delete, Len, Make, New, Panic, Print, Println}
+use Rattle.go_tree.specs.GoTypes.Entities.{Recover, exact}
+use Rattle.go_tree.specs.GoTypes.Operands.{Operand, a_type, a_function, a_builtin, Typed, typed, settled}
+use Rattle.go_tree.specs.GoTypes.Primary.{sees, find_method, fields_in}
 use Rattle.go_kernel.specs.Kernel as k
-use Rattle.go_kernel.specs.Kernel.{Name, ImportPath, FuncName, Value, Checked, Op, Convert, BytesOfString, StringOfBytes, StructLit, SliceLit, MakeSlice, MapLit, MakeMap, MapLen, MapDelete, Emit, Fail, Alloc, Func, code, Term, Both, Prim, Let, Alone, Call, Defer, DeferLit}
+use Rattle.go_kernel.specs.Kernel.{Name, ImportPath, FuncName, Value, Checked, Op, Convert, BytesOfString}
+use Rattle.go_kernel.specs.Kernel.{StringOfBytes, StructLit, SliceLit, MakeSlice, MapLit, MakeMap, MapLen, MapDelete}
+use Rattle.go_kernel.specs.Kernel.{Emit, Fail, Alloc, Func, code, Term, Both, Prim, Let, Alone, Call, Defer, DeferLit}
 use Rattle.go_translation.specs.Values.{nothing, one_value, path_of, kind_at, zero_of, panic_type}
 use Rattle.go_translation.specs.Mentions.{is_pointer}
 use Rattle.go_translation.specs.Places.{temporaries, local_values}

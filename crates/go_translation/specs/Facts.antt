@@ -1,16 +1,20 @@
 -- What is read off a tree before it is translated: types of operands, places of elements, what declarations bind and
 -- what follows them (Go specification, "Assignment statements", "Composite literals", "Declarations and scope").
-use Rattle.std.specs.Prelude.{ℕ, suc, Bool, true, false, List, [], ◌∷◌, ◌++◌, length, Option, Some, None, if◌then◌else◌}
-use Rattle.go_tree.specs.Tree.{NameAt, Sig, TypeExpr, Expr, Exprs, no_exprs, expr_and, ExprOption, no_expr, some_expr, Elems, no_elems, elem, plain, braced, ValueOption, no_value, some_value, Stmt, Stmts, StmtOption, RangeLeft, assigns}
-use Rattle.scope_names.specs.FreeNames.{names_of, declared, declared_option}
-use Rattle.go_types.specs.Answers.{meets}
-use Rattle.go_types.specs.Types.{GoType, is_untyped, GoFields, FuncType, fields_of}
-use Rattle.go_types.specs.Entities.{Env, Binds, extend}
-use Rattle.go_types.specs.TypeNames.{written_type}
-use Rattle.go_types.specs.Operands.{Typed}
-use Rattle.go_types.specs.Literals.{field_key}
-use Rattle.go_types.specs.Statements.{no_values, is_blank_name}
-use Rattle.go_types.specs.Typing.{parts, all_parts, places, declares, declares_first, binds_of, new_variables, new_by_define, right_values}
+use Rattle.std.specs.Prelude.{ℕ, suc, Bool, true, false, List, [], ◌∷◌, ◌++◌, length, Option, Some, None}
+use Rattle.std.specs.Prelude.{if◌then◌else◌}
+use Rattle.go_tree.specs.Tree.{NameAt, Sig, TypeExpr, Expr, Exprs, no_exprs, expr_and, ExprOption, no_expr, some_expr}
+use Rattle.go_tree.specs.Tree.{Elems, no_elems, elem, plain, braced, ValueOption, no_value, some_value, Stmt, Stmts}
+use Rattle.go_tree.specs.Tree.{StmtOption, RangeLeft, assigns}
+use Rattle.go_tree.specs.ScopeNames.FreeNames.{names_of, declared, declared_option}
+use Rattle.go_tree.specs.GoTypes.Answers.{meets}
+use Rattle.go_tree.specs.GoTypes.Types.{GoType, is_untyped, GoFields, FuncType, fields_of}
+use Rattle.go_tree.specs.GoTypes.Entities.{Env, Binds, extend}
+use Rattle.go_tree.specs.GoTypes.TypeNames.{written_type}
+use Rattle.go_tree.specs.GoTypes.Operands.{Typed}
+use Rattle.go_tree.specs.GoTypes.Literals.{field_key}
+use Rattle.go_tree.specs.GoTypes.Statements.{no_values, is_blank_name}
+use Rattle.go_tree.specs.GoTypes.Typing.{parts, all_parts, places, declares, declares_first, binds_of, new_variables}
+use Rattle.go_tree.specs.GoTypes.Typing.{new_by_define, right_values}
 use Rattle.go_translation.specs.Values.{typed_of}
 use Rattle.go_translation.specs.Mentions.{Mention, mentions_stmts, own_mentions}
 use Rattle.go_translation.specs.Here.{Here, declaring, BodyNames, name_options}

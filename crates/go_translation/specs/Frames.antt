@@ -3,7 +3,8 @@
 -- literals").
 use Rattle.std.specs.Prelude.{Bool, true, not, ◌&&◌, List, [], ◌∷◌, ◌++◌, if◌then◌else◌}
 use Rattle.std.specs.List.{list_all}
-use Rattle.go_kernel.specs.Kernel.{Name, Slot, Alloc, code, Term, Vals, Local, Set, Both, Prim, If, Let, Loop, Leave, Catch, Within, Alone, Recover, Call, Defer, DeferLit}
+use Rattle.go_kernel.specs.Kernel.{Name, Slot, Alloc, code, Term, Vals, Local, Set, Both, Prim, If, Let, Loop, Leave}
+use Rattle.go_kernel.specs.Kernel.{Catch, Within, Alone, Recover, Call, Defer, DeferLit}
 use Rattle.go_kernel.specs.Scope.{has, slot_name}
 use Rattle.go_translation.specs.Packages.{PackageCode, functions_of, initial_of}
 

@@ -1,13 +1,15 @@
 -- Where a part of a body stands: what names mean there, where its local variables are, and where the results of the
 -- body around go (Go specification, "Blocks", "Declarations and scope", "Variables", "Function declarations", "Function
 -- literals").
-use Rattle.std.specs.Prelude.{ℕ, suc, Bool, false, not, ◌&&◌, List, [], ◌∷◌, ◌++◌, map, Option, Some, None, if◌then◌else◌}
+use Rattle.std.specs.Prelude.{ℕ, suc, Bool, false, not, ◌&&◌, List, [], ◌∷◌, ◌++◌, map, Option, Some}
+use Rattle.std.specs.Prelude.{None, if◌then◌else◌}
 use Rattle.go_tree.specs.Tree.{NameAt, Param}
-use Rattle.scope_names.specs.Means.{Environment, means, is_blank}
-use Rattle.go_types.specs.Types.{GoType}
-use Rattle.go_types.specs.Defined.{Defined}
-use Rattle.go_types.specs.Entities.{Entity, variable, Env, defined_in, Binds, extend, in_block}
-use Rattle.go_kernel.specs.Kernel.{Name, ImportPath, Slot, InFrame, InCell, Term, Func, in_cells, temporary, named_result, result_name}
+use Rattle.go_tree.specs.ScopeNames.Means.{Environment, means, is_blank}
+use Rattle.go_tree.specs.GoTypes.Types.{GoType}
+use Rattle.go_tree.specs.GoTypes.Defined.{Defined}
+use Rattle.go_tree.specs.GoTypes.Entities.{Entity, variable, Env, defined_in, Binds, extend, in_block}
+use Rattle.go_kernel.specs.Kernel.{Name, ImportPath, Slot, InFrame, InCell, Term, Func, in_cells, temporary}
+use Rattle.go_kernel.specs.Kernel.{named_result, result_name}
 use Rattle.go_translation.specs.Values.{zeros_of}
 use Rattle.go_translation.specs.Mentions.{Mention, is_held, is_held_param}
 

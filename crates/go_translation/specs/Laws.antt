@@ -1,25 +1,28 @@
 -- The laws of translation. Each is the contract of a function of this crate.
-use Rattle.std.specs.Prelude.{◌≡◌, ◌⊎◌, ℕ, Some, ◌+◌, ◌*◌, ◌≤◌, Bool, true, false, List, [], ◌++◌, length}
+use Rattle.std.specs.Prelude.{◌≡◌, ◌⊎◌, ℕ, Some, ◌+◌, ◌*◌, ◌≤◌, Bool, true, false, List, []}
+use Rattle.std.specs.Prelude.{◌++◌, length}
 use Rattle.go_tree.specs.declared.spans.Span.{Span}
 use Rattle.go_tree.specs.Tree.{Expr, Exprs, Stmts}
 use Rattle.go_tree.specs.Bare.{bare_expr, bare_stmts}
-use Rattle.scope_names.specs.Means.{Environment}
-use Rattle.scope_names.specs.FreeNames.{free_expr, free_stmts}
-use Rattle.go_types.specs.Types.{GoType}
-use Rattle.go_types.specs.Entities.{Entity, Env}
-use Rattle.go_types.specs.Agreement.{with_names, On, Agrees}
-use Rattle.go_types.specs.Operands.{Operand, spread, takes_all}
-use Rattle.go_types.specs.Bodies.{no_values}
-use Rattle.go_types.specs.Operators.{has_address}
-use Rattle.go_types.specs.Typing.{parts, all_parts, place}
+use Rattle.go_tree.specs.ScopeNames.Means.{Environment}
+use Rattle.go_tree.specs.ScopeNames.FreeNames.{free_expr, free_stmts}
+use Rattle.go_tree.specs.GoTypes.Types.{GoType}
+use Rattle.go_tree.specs.GoTypes.Entities.{Entity, Env}
+use Rattle.go_tree.specs.GoTypes.Agreement.{with_names, On, Agrees}
+use Rattle.go_tree.specs.GoTypes.Operands.{Operand, spread, takes_all}
+use Rattle.go_tree.specs.GoTypes.Bodies.{no_values}
+use Rattle.go_tree.specs.GoTypes.Operators.{has_address}
+use Rattle.go_tree.specs.GoTypes.Typing.{parts, all_parts, place}
 use Rattle.go_kernel.specs.Kernel.{ImportPath, FuncName, Covers, Program}
 use Rattle.go_kernel.specs.Conditions.{width}
-use Rattle.go_translation.specs.Mentions.{Read, Addressed, Mention, mentions, mentions_all, mentions_stmts, any_mention, is_stored, is_held, is_held_param}
+use Rattle.go_translation.specs.Mentions.{Read, Addressed, Mention, mentions, mentions_all, mentions_stmts, any_mention}
+use Rattle.go_translation.specs.Mentions.{is_stored, is_held, is_held_param}
 use Rattle.go_translation.specs.Here.{Location, Here, defined_here}
 use Rattle.go_translation.specs.Translation.{expr_term, values_term, address, stmts_term}
 use Rattle.go_kernel.specs.Scope.{Scoped}
 use Rattle.go_kernel.specs.Laws.{Ranked, AllScoped}
-use Rattle.go_translation.specs.Packages.{Package, codes_of, initial_of, functions_of, program_of, shown_by, freely_shown_by}
+use Rattle.go_translation.specs.Packages.{Package, codes_of, initial_of, functions_of, program_of, shown_by}
+use Rattle.go_translation.specs.Packages.{freely_shown_by}
 use Rattle.go_translation.specs.SameMeaning.{Packages, WellTyped, with_further, HasMain, SameMeaning}
 use Rattle.go_translation.specs.Asked.{is_ranked, asks_nothing_missing}
 use Rattle.go_translation.specs.Spelled.{AreSpelled}

@@ -1,22 +1,32 @@
 -- How the variables of a function are mentioned, and which of them live in a cell of the store: those that a pointer or
 -- a deferred literal may reach (Go specification, "Address operators", "Calls", "Method values", "Defer statements",
 -- "Function literals").
-use Rattle.std.specs.Prelude.{ℕ, Bool, true, false, ◌&&◌, ◌||◌, List, [], ◌∷◌, ◌++◌, length, Option, Some, None, if◌then◌else◌, bytes_eq, is_some, is_none}
+use Rattle.std.specs.Prelude.{ℕ, Bool, true, false, ◌&&◌, ◌||◌, List, [], ◌∷◌, ◌++◌, length, Option}
+use Rattle.std.specs.Prelude.{Some, None, if◌then◌else◌, bytes_eq, is_some, is_none}
 use Rattle.std.specs.List.{list_any}
 use Rattle.go_tree.specs.declared.operators.UnOp.{UnOp}
 use Rattle.go_tree.specs.declared.operators.UnOp.TheVariants.{Address}
-use Rattle.go_tree.specs.Tree.{Expr, ident, int_lit, rune_lit, str_lit, composite, selector, index, slice, call, func_lit, type_operand, unary, binary, star, Exprs, no_exprs, expr_and, ExprOption, no_expr, some_expr, Elems, no_elems, elem, Value, plain, braced, ValueOption, no_value, some_value, Stmt, const_decl, var_decl, empty, eval, step, assign, define, return_, break_, continue_, inner, if_, for_, range_, switch, defer, label, Stmts, no_stmts, stmt_and, StmtOption, no_stmt, some_stmt, BlockOption, no_block, some_block, RangeLeft, nothing, assigns, defines, Arms, no_arms, arm, Cases, no_cases, case, ValueSpecs, no_specs, spec}
-use Rattle.scope_names.specs.FreeNames.{names_of, sig_names, declared, declared_option, defined}
-use Rattle.go_types.specs.Answers.{given, meets, is_among}
-use Rattle.go_types.specs.Types.{GoType, base_of}
-use Rattle.go_types.specs.Defined.{Defined, under, methods}
-use Rattle.go_types.specs.Entities.{Entity, variable, stand_in, Env, meaning, defined_in, Binds, extend, in_block, is_declared_here}
-use Rattle.go_types.specs.TypeNames.{type_meant, written_type}
-use Rattle.go_types.specs.Operands.{Typed}
-use Rattle.go_types.specs.Primary.{field_type, find_method}
-use Rattle.go_types.specs.Literals.{is_struct, key_type, inner_type, literal_type}
-use Rattle.go_types.specs.Statements.{bound_names, no_values}
-use Rattle.go_types.specs.Typing.{parts, all_parts, places, declares, declares_first, range_declares, binds_of, literal_env, new_variables, right_values}
+use Rattle.go_tree.specs.Tree.{Expr, ident, int_lit, rune_lit, str_lit, composite, selector, index, slice, call}
+use Rattle.go_tree.specs.Tree.{func_lit, type_operand, unary, binary, star, Exprs, no_exprs, expr_and, ExprOption}
+use Rattle.go_tree.specs.Tree.{no_expr, some_expr, Elems, no_elems, elem, Value, plain, braced, ValueOption, no_value}
+use Rattle.go_tree.specs.Tree.{some_value, Stmt, const_decl, var_decl, empty, eval, step, assign, define, return_}
+use Rattle.go_tree.specs.Tree.{break_, continue_, inner, if_, for_, range_, switch, defer, label, Stmts, no_stmts}
+use Rattle.go_tree.specs.Tree.{stmt_and, StmtOption, no_stmt, some_stmt, BlockOption, no_block, some_block, RangeLeft}
+use Rattle.go_tree.specs.Tree.{nothing, assigns, defines, Arms, no_arms, arm, Cases, no_cases, case, ValueSpecs}
+use Rattle.go_tree.specs.Tree.{no_specs, spec}
+use Rattle.go_tree.specs.ScopeNames.FreeNames.{names_of, sig_names, declared, declared_option, defined}
+use Rattle.go_tree.specs.GoTypes.Answers.{given, meets, is_among}
+use Rattle.go_tree.specs.GoTypes.Types.{GoType, base_of}
+use Rattle.go_tree.specs.GoTypes.Defined.{Defined, under, methods}
+use Rattle.go_tree.specs.GoTypes.Entities.{Entity, variable, stand_in, Env, meaning, defined_in, Binds, extend}
+use Rattle.go_tree.specs.GoTypes.Entities.{in_block, is_declared_here}
+use Rattle.go_tree.specs.GoTypes.TypeNames.{type_meant, written_type}
+use Rattle.go_tree.specs.GoTypes.Operands.{Typed}
+use Rattle.go_tree.specs.GoTypes.Primary.{field_type, find_method}
+use Rattle.go_tree.specs.GoTypes.Literals.{is_struct, key_type, inner_type, literal_type}
+use Rattle.go_tree.specs.GoTypes.Statements.{bound_names, no_values}
+use Rattle.go_tree.specs.GoTypes.Typing.{parts, all_parts, places, declares, declares_first, range_declares, binds_of}
+use Rattle.go_tree.specs.GoTypes.Typing.{literal_env, new_variables, right_values}
 use Rattle.go_translation.specs.Values.{typed_of}
 
 -- how an expression stands around a name: it is read, stored to, its address is taken, or it is what a `defer` calls

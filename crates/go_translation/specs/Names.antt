@@ -1,15 +1,17 @@
 -- What names stand for, as places and as terms (Go specification, "Variables", "Constants", "Qualified identifiers",
 -- "Iota", "Assignment statements").
 use Rattle.std.specs.Prelude.{ℕ, Bool, false, List, [], ◌∷◌, Option, Some, None, if◌then◌else◌, pos}
-use Rattle.const_eval.specs.declared.consts.Const.TheVariants.{Whole}
-use Rattle.scope_names.specs.Means.{is_blank}
-use Rattle.go_types.specs.Answers.{given, meets}
-use Rattle.go_types.specs.Types.{GoType, map_parts}
-use Rattle.go_types.specs.Defined.{Defined, under}
-use Rattle.go_types.specs.Entities.{Place as StandsAt, map_element, Entity, variable, constant, stand_in, nil_name, iota_name, meaning}
-use Rattle.go_types.specs.Operands.{Typed}
+use Rattle.go_tree.specs.declared.const_eval.consts.Const.TheVariants.{Whole}
+use Rattle.go_tree.specs.ScopeNames.Means.{is_blank}
+use Rattle.go_tree.specs.GoTypes.Answers.{given, meets}
+use Rattle.go_tree.specs.GoTypes.Types.{GoType, map_parts}
+use Rattle.go_tree.specs.GoTypes.Defined.{Defined, under}
+use Rattle.go_tree.specs.GoTypes.Entities.{Place as StandsAt, map_element, Entity, variable, constant, stand_in}
+use Rattle.go_tree.specs.GoTypes.Entities.{nil_name, iota_name, meaning}
+use Rattle.go_tree.specs.GoTypes.Operands.{Typed}
 use Rattle.go_kernel.specs.Kernel as k
-use Rattle.go_kernel.specs.Kernel.{ImportPath, Nil, Unchecked, ReadGlobal, Load, Element, ByteAt, Term, Local, Both, Prim}
+use Rattle.go_kernel.specs.Kernel.{ImportPath, Nil, Unchecked, ReadGlobal, Load, Element, ByteAt, Term, Local, Both}
+use Rattle.go_kernel.specs.Kernel.{Prim}
 use Rattle.go_translation.specs.Values.{one_value, path_of, as_value, constant_term}
 use Rattle.go_translation.specs.Values as v
 use Rattle.go_translation.specs.Here.{Location, no_location, Here, defined_here, location}

@@ -1,21 +1,23 @@
 -- Constants and operators as terms, over operands that are typed and terms that are made (Go specification,
 -- "Constants", "Operators", "Constant expressions", "Handling panics").
-use Rattle.std.specs.Prelude.{Bool, true, false, not, ◌&&◌, ◌||◌, List, [], ◌∷◌, Option, Some, None, if◌then◌else◌}
+use Rattle.std.specs.Prelude.{Bool, true, false, not, ◌&&◌, ◌||◌, List, [], ◌∷◌, Option, Some, None}
+use Rattle.std.specs.Prelude.{if◌then◌else◌}
 use Rattle.go_tree.specs.declared.operators.UnOp.{UnOp}
 use Rattle.go_tree.specs.declared.operators.UnOp.TheVariants as un
 use Rattle.go_tree.specs.declared.operators.BinOp.{BinOp}
 use Rattle.go_tree.specs.declared.operators.BinOp.TheVariants as bin
-use Rattle.const_eval.specs.declared.kinds.Kind as c
-use Rattle.const_eval.specs.declared.kinds.Kind.TheVariants as kind
-use Rattle.const_eval.specs.Exact.{is_truth_kind, is_text_kind}
-use Rattle.go_types.specs.Answers.{given, meets}
-use Rattle.go_types.specs.Types.{GoType, basic, untyped, untyped_nil, basic_kind, is_untyped}
-use Rattle.go_types.specs.Defined.{Defined, under}
-use Rattle.go_types.specs.Entities.{run, exact}
-use Rattle.go_types.specs.Operands.{Operand, value, recovered, Typed, settled, default_type, kind_of}
-use Rattle.go_types.specs.Operators.{common_type, compared_at}
+use Rattle.go_tree.specs.declared.const_eval.kinds.Kind as c
+use Rattle.go_tree.specs.declared.const_eval.kinds.Kind.TheVariants as kind
+use Rattle.go_tree.specs.ConstEval.Exact.{is_truth_kind, is_text_kind}
+use Rattle.go_tree.specs.GoTypes.Answers.{given, meets}
+use Rattle.go_tree.specs.GoTypes.Types.{GoType, basic, untyped, untyped_nil, basic_kind, is_untyped}
+use Rattle.go_tree.specs.GoTypes.Defined.{Defined, under}
+use Rattle.go_tree.specs.GoTypes.Entities.{run, exact}
+use Rattle.go_tree.specs.GoTypes.Operands.{Operand, value, recovered, Typed, settled, default_type, kind_of}
+use Rattle.go_tree.specs.GoTypes.Operators.{common_type, compared_at}
 use Rattle.go_kernel.specs.Kernel as k
-use Rattle.go_kernel.specs.Kernel.{Kind, Truth, Check, Checked, Unchecked, Op, Arith, Divide, Quotient, Remainder, Shift, Negate, Complement, Compare, Concat, Term, Both, Prim, If}
+use Rattle.go_kernel.specs.Kernel.{Kind, Truth, Check, Checked, Unchecked, Op, Arith, Divide, Quotient, Remainder}
+use Rattle.go_kernel.specs.Kernel.{Shift, Negate, Complement, Compare, Concat, Term, Both, Prim, If}
 use Rattle.go_translation.specs.Values.{one_value, kind_at, as_value}
 
 -- no place gives a type

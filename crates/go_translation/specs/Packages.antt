@@ -1,21 +1,24 @@
 -- Packages as programs of the kernel, and what a main package shows when it runs (Go specification, "Packages",
 -- "Function declarations", "Method declarations", "Variable declarations", "Program initialization", "Program
 -- execution").
-use Rattle.std.specs.Prelude.{ℕ, Bool, true, false, not, ◌&&◌, ◌||◌, List, [], ◌∷◌, ◌++◌, map, length, Option, Some, None, if◌then◌else◌, nat_eq, nat_lt, bytes_eq, codes}
+use Rattle.std.specs.Prelude.{ℕ, Bool, true, false, not, ◌&&◌, ◌||◌, List, [], ◌∷◌, ◌++◌, map}
+use Rattle.std.specs.Prelude.{length, Option, Some, None, if◌then◌else◌, nat_eq, nat_lt, bytes_eq, codes}
 use Rattle.std.specs.List.{list_any, list_all}
 use Rattle.go_tree.specs.Tree.{NameAt, TypeExpr, Exprs}
 use Rattle.go_tree.specs.File.{Receiver, Func as Function}
-use Rattle.scope_names.specs.Means.{is_blank}
-use Rattle.scope_names.specs.FreeNames.{names_of}
-use Rattle.go_types.specs.Answers.{given}
-use Rattle.go_types.specs.Types.{GoType, FuncType}
-use Rattle.go_types.specs.Entities.{World, Binds, extend, in_block, defined_in}
-use Rattle.go_types.specs.TypeNames.{func_type, written_type}
-use Rattle.go_types.specs.Statements.{body_binds, no_values}
-use Rattle.go_types.specs.Programs.{SourceFile, SourcePackage, constants, variables, a_type_spec, a_func, Headed, headed_package}
-use Rattle.go_types.specs.Collect.{env_of, collected, receiver_type}
-use Rattle.go_types.specs.WellTyped.{well_typed, receiver_of}
-use Rattle.go_kernel.specs.Kernel.{free_shows, Text, ImportPath, FuncName, same_text, Func, Term, Vals, Let, Program, declared, Shown, shows}
+use Rattle.go_tree.specs.ScopeNames.Means.{is_blank}
+use Rattle.go_tree.specs.ScopeNames.FreeNames.{names_of}
+use Rattle.go_tree.specs.GoTypes.Answers.{given}
+use Rattle.go_tree.specs.GoTypes.Types.{GoType, FuncType}
+use Rattle.go_tree.specs.GoTypes.Entities.{World, Binds, extend, in_block, defined_in}
+use Rattle.go_tree.specs.GoTypes.TypeNames.{func_type, written_type}
+use Rattle.go_tree.specs.GoTypes.Statements.{body_binds, no_values}
+use Rattle.go_tree.specs.GoTypes.Programs.{SourceFile, SourcePackage, constants, variables, a_type_spec, a_func, Headed}
+use Rattle.go_tree.specs.GoTypes.Programs.{headed_package}
+use Rattle.go_tree.specs.GoTypes.Collect.{env_of, collected, receiver_type}
+use Rattle.go_tree.specs.GoTypes.WellTyped.{well_typed, receiver_of}
+use Rattle.go_kernel.specs.Kernel.{free_shows, Text, ImportPath, FuncName, same_text, Func, Term, Vals, Let, Program}
+use Rattle.go_kernel.specs.Kernel.{declared, Shown, shows}
 use Rattle.go_translation.specs.Values.{nothing, path_of, zeros_of}
 use Rattle.go_translation.specs.Mentions.{Mention, mentions_stmts}
 use Rattle.go_translation.specs.Here.{Here, BodyNames, name_option, name_options, at_body, function_of}

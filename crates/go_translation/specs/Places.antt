@@ -1,7 +1,9 @@
 -- What is stored to, or has an address: where it begins, and the fields from there (Go specification, "Address
 -- operators", "Assignment statements", "IncDec statements", "Selectors").
 use Rattle.std.specs.Prelude.{ℕ, zero, suc, ◌+◌, List, [], ◌∷◌, ◌++◌, length}
-use Rattle.go_kernel.specs.Kernel.{Name, ImportPath, Value, temporary, Checked, Unchecked, Field, SetField, ReadGlobal, GlobalAddress, Load, Save, Address, ElementAddress, Element, MapGet, MapSet, Term, Local, Set, Both, Prim, Let}
+use Rattle.go_kernel.specs.Kernel.{Name, ImportPath, Value, temporary, Checked, Unchecked, Field, SetField, ReadGlobal}
+use Rattle.go_kernel.specs.Kernel.{GlobalAddress, Load, Save, Address, ElementAddress, Element, MapGet, MapSet, Term}
+use Rattle.go_kernel.specs.Kernel.{Local, Set, Both, Prim, Let}
 use Rattle.go_translation.specs.Values.{nothing}
 
 -- nothing, for `_`; a variable in the frame, in a cell, or of a package; what a pointer points to; an element of a

@@ -1,17 +1,20 @@
 -- Results, loops, ranges and declarations as terms, over terms that are made (Go specification, "Return statements",
 -- "For statements", "For statements with range clause", "Variable declarations", "Short variable declarations").
-use Rattle.std.specs.Prelude.{ℕ, suc, Bool, true, false, not, ◌&&◌, ◌||◌, List, [], ◌∷◌, length, Option, Some, None, if◌then◌else◌, is_some, pos}
+use Rattle.std.specs.Prelude.{ℕ, suc, Bool, true, false, not, ◌&&◌, ◌||◌, List, [], ◌∷◌, length, Option}
+use Rattle.std.specs.Prelude.{Some, None, if◌then◌else◌, is_some, pos}
 use Rattle.go_tree.specs.declared.operators.BinOp.{BinOp}
-use Rattle.const_eval.specs.declared.kinds.Kind.TheVariants as kind
-use Rattle.scope_names.specs.Means.{is_blank}
-use Rattle.go_types.specs.Answers.{meets}
-use Rattle.go_types.specs.Types.{GoType, basic, fields_of}
-use Rattle.go_types.specs.Defined.{Defined}
-use Rattle.go_types.specs.Entities.{run, Entity, variable, Env, meaning, is_declared_here}
-use Rattle.go_types.specs.Operands.{Typed, settled}
-use Rattle.go_types.specs.Literals.{inner_type}
+use Rattle.go_tree.specs.declared.const_eval.kinds.Kind.TheVariants as kind
+use Rattle.go_tree.specs.ScopeNames.Means.{is_blank}
+use Rattle.go_tree.specs.GoTypes.Answers.{meets}
+use Rattle.go_tree.specs.GoTypes.Types.{GoType, basic, fields_of}
+use Rattle.go_tree.specs.GoTypes.Defined.{Defined}
+use Rattle.go_tree.specs.GoTypes.Entities.{run, Entity, variable, Env, meaning, is_declared_here}
+use Rattle.go_tree.specs.GoTypes.Operands.{Typed, settled}
+use Rattle.go_tree.specs.GoTypes.Literals.{inner_type}
 use Rattle.go_kernel.specs.Kernel as k
-use Rattle.go_kernel.specs.Kernel.{Name, Kind, Number, Int, Nil, Slot, InFrame, InCell, Unchecked, Load, Alloc, Element, Compare, Less, Arith, RangeMap, RangeNext, temporary, break_label, continue_label, Term, Vals, Local, Set, Both, Prim, Let, Loop, Catch}
+use Rattle.go_kernel.specs.Kernel.{Name, Kind, Number, Int, Nil, Slot, InFrame, InCell, Unchecked, Load, Alloc, Element}
+use Rattle.go_kernel.specs.Kernel.{Compare, Less, Arith, RangeMap, RangeNext, temporary, break_label, continue_label}
+use Rattle.go_kernel.specs.Kernel.{Term, Vals, Local, Set, Both, Prim, Let, Loop, Catch}
 use Rattle.go_kernel.specs.Forms.{return_to, return_to_slots, slot_names}
 use Rattle.go_translation.specs.Values.{one_value, kind_at}
 use Rattle.go_translation.specs.Values as v

@@ -1,35 +1,57 @@
 -- What expressions and statements do, as terms of the kernel: operands strictly from left to right, implicit `&` and
 -- `*` written out, constants as values (Go specification, "Expressions", "Order of evaluation", "Statements").
-use Rattle.std.specs.Prelude.{ℕ, suc, true, false, ◌||◌, List, [], ◌∷◌, ◌++◌, length, Option, Some, None, if◌then◌else◌, pos}
-use Rattle.go_tree.specs.Tree.{Expr, ident, int_lit, rune_lit, str_lit, composite, selector, index, slice, call, func_lit, type_operand, unary, binary, star, Exprs, no_exprs, expr_and, ExprOption, no_expr, some_expr, Elems, no_elems, elem, Value, plain, braced, ValueOption, no_value, some_value, Stmt, const_decl, var_decl, empty, eval, step, assign, define, return_, break_, continue_, inner, if_, for_, range_, switch, defer, label, Stmts, no_stmts, stmt_and, StmtOption, no_stmt, some_stmt, BlockOption, no_block, some_block, RangeLeft, nothing, assigns, defines, Arms, no_arms, arm, Cases, no_cases, case, ValueSpecs, no_specs, spec}
-use Rattle.const_eval.specs.declared.kinds.Kind.TheVariants as kind
-use Rattle.const_eval.specs.declared.consts.Const.TheVariants.{Whole}
-use Rattle.const_eval.specs.Exact.{number, text}
-use Rattle.const_eval.specs.Literals.{integer_value, literal_value}
-use Rattle.go_words.specs.Texts.{text_value}
-use Rattle.scope_names.specs.FreeNames.{names_of, defined}
-use Rattle.go_types.specs.Answers.{given}
-use Rattle.go_types.specs.Types.{GoType, basic}
-use Rattle.go_types.specs.Defined.{under}
-use Rattle.go_types.specs.Entities.{run, Env, meaning, exported, Binds, extend, in_block}
-use Rattle.go_types.specs.TypeNames.{type_meant, func_type, written_type}
-use Rattle.go_types.specs.Operands.{Operand, a_type, named_operand, literal_operand, spread}
-use Rattle.go_types.specs.Literals.{key_type, literal_type}
-use Rattle.go_types.specs.Jumps.{is_breakable}
-use Rattle.go_types.specs.Statements.{body_binds, no_values}
-use Rattle.go_types.specs.Typing.{parts, all_parts, place, range_declares, binds_of, package_before, step_op}
+use Rattle.std.specs.Prelude.{ℕ, suc, true, false, ◌||◌, List, [], ◌∷◌, ◌++◌, length, Option, Some}
+use Rattle.std.specs.Prelude.{None, if◌then◌else◌, pos}
+use Rattle.go_tree.specs.Tree.{Expr, ident, int_lit, rune_lit, str_lit, composite, selector, index, slice, call}
+use Rattle.go_tree.specs.Tree.{func_lit, type_operand, unary, binary, star, Exprs, no_exprs, expr_and, ExprOption}
+use Rattle.go_tree.specs.Tree.{no_expr, some_expr, Elems, no_elems, elem, Value, plain, braced, ValueOption, no_value}
+use Rattle.go_tree.specs.Tree.{some_value, Stmt, const_decl, var_decl, empty, eval, step, assign, define, return_}
+use Rattle.go_tree.specs.Tree.{break_, continue_, inner, if_, for_, range_, switch, defer, label, Stmts, no_stmts}
+use Rattle.go_tree.specs.Tree.{stmt_and, StmtOption, no_stmt, some_stmt, BlockOption, no_block, some_block, RangeLeft}
+use Rattle.go_tree.specs.Tree.{nothing, assigns, defines, Arms, no_arms, arm, Cases, no_cases, case, ValueSpecs}
+use Rattle.go_tree.specs.Tree.{no_specs, spec}
+use Rattle.go_tree.specs.declared.const_eval.kinds.Kind.TheVariants as kind
+use Rattle.go_tree.specs.declared.const_eval.consts.Const.TheVariants.{Whole}
+use Rattle.go_tree.specs.ConstEval.Exact.{number, text}
+use Rattle.go_tree.specs.ConstEval.Literals.{integer_value, literal_value}
+use Rattle.go_tree.specs.GoWords.Texts.{text_value}
+use Rattle.go_tree.specs.ScopeNames.FreeNames.{names_of, defined}
+use Rattle.go_tree.specs.GoTypes.Answers.{given}
+use Rattle.go_tree.specs.GoTypes.Types.{GoType, basic}
+use Rattle.go_tree.specs.GoTypes.Defined.{under}
+use Rattle.go_tree.specs.GoTypes.Entities.{run, Env, meaning, exported, Binds, extend, in_block}
+use Rattle.go_tree.specs.GoTypes.TypeNames.{type_meant, func_type, written_type}
+use Rattle.go_tree.specs.GoTypes.Operands.{Operand, a_type, named_operand, literal_operand, spread}
+use Rattle.go_tree.specs.GoTypes.Literals.{key_type, literal_type}
+use Rattle.go_tree.specs.GoTypes.Jumps.{is_breakable}
+use Rattle.go_tree.specs.GoTypes.Statements.{body_binds, no_values}
+use Rattle.go_tree.specs.GoTypes.Typing.{parts, all_parts, place, range_declares, binds_of, package_before, step_op}
 use Rattle.go_kernel.specs.Kernel as k
-use Rattle.go_kernel.specs.Kernel.{Name, Truth, Checked, Load, Alloc, Slicing, MapGet, MapTry, Compare, Equal, in_cells, temporary, return_label, break_label, continue_label, Term, Vals, Local, Both, Prim, If, Let, Leave, Catch}
+use Rattle.go_kernel.specs.Kernel.{Name, Truth, Checked, Load, Alloc, Slicing, MapGet, MapTry, Compare, Equal, in_cells}
+use Rattle.go_kernel.specs.Kernel.{temporary, return_label, break_label, continue_label, Term, Vals, Local, Both, Prim}
+use Rattle.go_kernel.specs.Kernel.{If, Let, Leave, Catch}
 use Rattle.go_translation.specs.Values.{one_value, path_of, as_value, zero_of, typed_of}
 use Rattle.go_translation.specs.Values as v
-use Rattle.go_translation.specs.Mentions.{Mention, Read, mentions, mentions_option, mentions_first, mentions_stmts, mentions_block, mentions_arms, mentions_cases, mentions_specs}
+use Rattle.go_translation.specs.Mentions.{Mention, Read, mentions, mentions_option, mentions_first, mentions_stmts}
+use Rattle.go_translation.specs.Mentions.{mentions_block, mentions_arms, mentions_cases, mentions_specs}
 use Rattle.go_translation.specs.Here.{Here, defined_here, in_inner, declaring, new_cells, at_body, function_of}
-use Rattle.go_translation.specs.Places.{nowhere, pointed, at_index, at_key, Place, from, field_at, address_term, assignment, update}
-use Rattle.go_translation.specs.Operators.{no_type, answer_or, type_or, own_type, first_type, other_types, operand_list, constant_or, is_folded, is_folded_unary, folded, operator_term, left_type, right_type, is_recovered, recovered_term, unary_term}
-use Rattle.go_translation.specs.Calls.{selected_field, is_pointer_value, struct_value, literal_term, keyed_term, inner_literal, Callee, to_literal, to_nothing, named_callee, type_callee, method_callee, callee_wants, call_term, defer_term, each_as}
-use Rattle.go_translation.specs.Names.{entity_root, name_root, entity_term, name_term, gives_two, first_value, element_of_map, index_op}
-use Rattle.go_translation.specs.Statements.{return_term, loop_term, renewed, RangeForm, range_form, turn_values, range_term, new_names, variable_names, old_stored, defined_types, spec_types, tag_type, first_place, truth_type, int_type, update_type, element_type}
-use Rattle.go_translation.specs.Facts.{label_option, has_bound, typed_at, typed_option, first_typed, value_types, target_types, count_exprs, range_type, element_place, element_places, literal_names, binds_first, spec_binds, define_binds, following, after}
+use Rattle.go_translation.specs.Places.{nowhere, pointed, at_index, at_key, Place, from, field_at, address_term}
+use Rattle.go_translation.specs.Places.{assignment, update}
+use Rattle.go_translation.specs.Operators.{no_type, answer_or, type_or, own_type, first_type, other_types, operand_list}
+use Rattle.go_translation.specs.Operators.{constant_or, is_folded, is_folded_unary, folded, operator_term, left_type}
+use Rattle.go_translation.specs.Operators.{right_type, is_recovered, recovered_term, unary_term}
+use Rattle.go_translation.specs.Calls.{selected_field, is_pointer_value, struct_value, literal_term, keyed_term}
+use Rattle.go_translation.specs.Calls.{inner_literal, Callee, to_literal, to_nothing, named_callee, type_callee}
+use Rattle.go_translation.specs.Calls.{method_callee, callee_wants, call_term, defer_term, each_as}
+use Rattle.go_translation.specs.Names.{entity_root, name_root, entity_term, name_term, gives_two, first_value}
+use Rattle.go_translation.specs.Names.{element_of_map, index_op}
+use Rattle.go_translation.specs.Statements.{return_term, loop_term, renewed, RangeForm, range_form, turn_values}
+use Rattle.go_translation.specs.Statements.{range_term, new_names, variable_names, old_stored, defined_types}
+use Rattle.go_translation.specs.Statements.{spec_types, tag_type, first_place, truth_type, int_type, update_type}
+use Rattle.go_translation.specs.Statements.{element_type}
+use Rattle.go_translation.specs.Facts.{label_option, has_bound, typed_at, typed_option, first_typed, value_types}
+use Rattle.go_translation.specs.Facts.{target_types, count_exprs, range_type, element_place, element_places}
+use Rattle.go_translation.specs.Facts.{literal_names, binds_first, spec_binds, define_binds, following, after}
 
 module _ {S : Type 0} where
   abbrev mutual

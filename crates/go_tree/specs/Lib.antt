@@ -6,3 +6,8 @@ pub mod FileView
 pub mod Bare
 pub mod FileBare
 pub mod Spellings
+pub mod GoWords
+pub mod ScopeNames
+pub mod ConstEval
+pub mod GoLiterals
+pub mod GoTypes

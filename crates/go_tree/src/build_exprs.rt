@@ -2,8 +2,10 @@
 //! made: a step that drops an expression which stands in no box or list is dear to check.
 
 ghost use Rattle.std.specs.Prelude.{◌≡◌};
-ghost use Rattle.go_tree.specs.Tree.{ident, int_lit, rune_lit, str_lit, composite, selector, index, slice, call, func_lit, type_operand, unary, binary, star};
-ghost use Rattle.go_tree.specs.View.{name_at_of, type_of, sig_of, expr_of, exprs_of, elem_of, elems_of, boxed_expr_option_of, held_value_option_of, stmts_of, value_of};
+ghost use Rattle.go_tree.specs.Tree.{ident, int_lit, rune_lit, str_lit, composite, selector, index, slice, call};
+ghost use Rattle.go_tree.specs.Tree.{func_lit, type_operand, unary, binary, star};
+ghost use Rattle.go_tree.specs.View.{name_at_of, type_of, sig_of, expr_of, exprs_of, elem_of, elems_of};
+ghost use Rattle.go_tree.specs.View.{boxed_expr_option_of, held_value_option_of, stmts_of, value_of};
 
 use crate::exprs::{Elem, ElemList, Expr, ExprList, Rest, Value};
 use crate::operators::{BinOp, UnOp};

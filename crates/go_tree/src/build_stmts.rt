@@ -2,8 +2,12 @@
 
 ghost use Rattle.std.specs.Prelude.{◌≡◌, map};
 ghost use Rattle.std.specs.Option.{option_map};
-ghost use Rattle.go_tree.specs.Tree.{const_decl, var_decl, empty, eval, step, assign, define, return_, break_, continue_, inner, if_, for_, range_, switch, defer, label};
-ghost use Rattle.go_tree.specs.View.{arm_of, arms_of, block_of, boxed_stmt_option_of, case_of, cases_of, const_decl_of, const_spec_of, const_specs_of, expr_of, exprs_of, held_block_option_of, name_at_of, plain_expr_option_of, range_left_of, stmt_of, stmts_of, type_of, var_decl_of, var_spec_of, var_specs_of};
+ghost use Rattle.go_tree.specs.Tree.{const_decl, var_decl, empty, eval, step, assign, define, return_, break_};
+ghost use Rattle.go_tree.specs.Tree.{continue_, inner, if_, for_, range_, switch, defer, label};
+ghost use Rattle.go_tree.specs.View.{arm_of, arms_of, block_of, boxed_stmt_option_of, case_of, cases_of, const_decl_of};
+ghost use Rattle.go_tree.specs.View.{const_spec_of, const_specs_of, expr_of, exprs_of, held_block_option_of};
+ghost use Rattle.go_tree.specs.View.{name_at_of, plain_expr_option_of, range_left_of, stmt_of, stmts_of, type_of};
+ghost use Rattle.go_tree.specs.View.{var_decl_of, var_spec_of, var_specs_of};
 
 use crate::exprs::{Expr, ExprList};
 use crate::operators::BinOp;

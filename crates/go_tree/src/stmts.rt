@@ -6,7 +6,8 @@ ghost use Rattle.go_tree.specs.declared.stmts.ConstSpecList.{out-ConstSpecList};
 ghost use Rattle.go_tree.specs.declared.stmts.VarSpecList.{out-VarSpecList};
 ghost use Rattle.go_tree.specs.declared.stmts.ArmList.{out-ArmList};
 ghost use Rattle.go_tree.specs.declared.stmts.CaseList.{out-CaseList};
-ghost use Rattle.go_tree.specs.View.{arm_of, arms_of, case_of, cases_of, const_spec_of, const_specs_of, stmt_of, stmts_of, var_spec_of, var_specs_of};
+ghost use Rattle.go_tree.specs.View.{arm_of, arms_of, case_of, cases_of, const_spec_of, const_specs_of, stmt_of};
+ghost use Rattle.go_tree.specs.View.{stmts_of, var_spec_of, var_specs_of};
 ghost use Rattle.go_tree.specs.Lists.{arms_from, cases_from, specs_from, stmts_from};
 
 use crate::exprs::{Expr, ExprList};

@@ -1,13 +1,14 @@
 -- The first refused header of each file (Go specification, Packages; Declarations and scope).
-use Rattle.std.specs.Prelude.{◌≡◌, ℕ, zero, suc, ◌+◌, ◌≤◌, Bool, false, List, [], ◌∷◌, ◌++◌, drop, length, map, Option, Some, None, nat_eq, slice_get, if◌then◌else◌}
+use Rattle.std.specs.Prelude.{◌≡◌, ℕ, zero, suc, ◌+◌, ◌≤◌, Bool, false, List, [], ◌∷◌, ◌++◌}
+use Rattle.std.specs.Prelude.{drop, length, map, Option, Some, None, nat_eq, slice_get, if◌then◌else◌}
 use Rattle.std.specs.List.{list_any}
 use Rattle.go_tree.specs.declared.spans.Span.{Span}
 use Rattle.go_tree.specs.FileView.{decl_of}
-use Rattle.go_types.specs.Answers.{given, one_of}
-use Rattle.go_types.specs.Entities.{World}
-use Rattle.go_types.specs.Programs.{SourceFile, Headed, Program, all_headers}
-use Rattle.go_types.specs.Collect.{DeclaredTypes}
-use Rattle.go_types.specs.WellTyped.{NotTyped, first_header, first_import}
+use Rattle.go_tree.specs.GoTypes.Answers.{given, one_of}
+use Rattle.go_tree.specs.GoTypes.Entities.{World}
+use Rattle.go_tree.specs.GoTypes.Programs.{SourceFile, Headed, Program, all_headers}
+use Rattle.go_tree.specs.GoTypes.Collect.{DeclaredTypes}
+use Rattle.go_tree.specs.GoTypes.WellTyped.{NotTyped, first_header, first_import}
 use Rattle.pkg_graph.specs.declared.packages.SourceTree.{SourceTree}
 use Rattle.pkg_graph.specs.declared.packages.Package.{Package}
 

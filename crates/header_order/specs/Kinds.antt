@@ -2,12 +2,12 @@
 -- Uniqueness of identifiers).
 use Rattle.std.specs.Prelude.{◌≡◌, ℕ, zero, suc, Bool, true, false, not, List, [], ◌∷◌, replicate}
 use Rattle.go_tree.specs.declared.spans.Span.{Span}
-use Rattle.go_types.specs.Answers.{and_also}
-use Rattle.go_types.specs.Entities.{World}
-use Rattle.go_types.specs.Programs.{Headed, Program, headed}
-use Rattle.go_types.specs.MethodDeclarations.{MethodName, declared_on}
-use Rattle.go_types.specs.Collect.{DeclaredTypes, collected, types_declared}
-use Rattle.go_types.specs.WellTyped.{header_ok}
+use Rattle.go_tree.specs.GoTypes.Answers.{and_also}
+use Rattle.go_tree.specs.GoTypes.Entities.{World}
+use Rattle.go_tree.specs.GoTypes.Programs.{Headed, Program, headed}
+use Rattle.go_tree.specs.GoTypes.MethodDeclarations.{MethodName, declared_on}
+use Rattle.go_tree.specs.GoTypes.Collect.{DeclaredTypes, collected, types_declared}
+use Rattle.go_tree.specs.GoTypes.WellTyped.{header_ok}
 use Rattle.func_headers.specs.Functions.{refused_functions}
 use Rattle.method_types.specs.Methods.{refused_methods}
 use Rattle.value_rounds.specs.Values.{refused_values}

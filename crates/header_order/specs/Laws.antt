@@ -1,17 +1,18 @@
 -- The laws of refused headers. Each is a clause of a function of this crate.
 use Rattle.std.specs.Prelude.{◌≡◌, ℕ, List, [], length, map}
 use Rattle.go_tree.specs.declared.spans.Span.{Span}
-use Rattle.go_types.specs.Entities.{World}
-use Rattle.go_types.specs.Programs.{Headed, Program, SourcePackage, block_names, headed}
-use Rattle.go_types.specs.Collect.{DeclaredTypes}
-use Rattle.go_types.specs.WellTyped.{refused_header}
+use Rattle.go_tree.specs.GoTypes.Entities.{World}
+use Rattle.go_tree.specs.GoTypes.Programs.{Headed, Program, SourcePackage, block_names, headed}
+use Rattle.go_tree.specs.GoTypes.Collect.{DeclaredTypes}
+use Rattle.go_tree.specs.GoTypes.WellTyped.{refused_header}
 use Rattle.pkg_graph.specs.declared.packages.Package.{Package}
 use Rattle.package_blocks.specs.Collected.{AreOrdered}
 use Rattle.package_blocks.specs.Imports.{views}
 use Rattle.run_rules.specs.Programs.{linked}
 use Rattle.header_order.specs.declared.kinds.RefusedHeaders.{RefusedHeaders}
 use Rattle.header_order.specs.Kinds.{AreRefused, marks_of, program_wrongs, wrongs}
-use Rattle.header_order.specs.Files.{NumbersApart, counts_of, file_counts, files_refused, first_marks, first_of_files, headers_refused, imports_refused, refusal_at, total}
+use Rattle.header_order.specs.Files.{NumbersApart, counts_of, file_counts, files_refused, first_marks, first_of_files}
+use Rattle.header_order.specs.Files.{headers_refused, imports_refused, refusal_at, total}
 
 -- the headers that are refused by their kinds, before methods are known, are those that aren't right once all is known
 abbrev pub MarksAreWrongs : Type 0

@@ -1,14 +1,14 @@
 -- The headers of types that are refused, looked at one after the other (Go specification, Type declarations).
 use Rattle.std.specs.Prelude.{◌≡◌, ℕ, ◌++◌, List, map}
 use Rattle.go_tree.specs.declared.spans.Span.{Span}
-use Rattle.const_eval.specs.declared.consts.Const.{Const}
-use Rattle.go_types.specs.Programs.{Headed, Program, headed}
-use Rattle.go_types.specs.Collect.{types_declared, typed_world}
-use Rattle.type_relations.specs.Environment.{Environment}
-use Rattle.value_types.specs.ValueTypes.{HasValueTypes}
+use Rattle.go_tree.specs.declared.const_eval.consts.Const.{Const}
+use Rattle.go_tree.specs.GoTypes.Programs.{Headed, Program, headed}
+use Rattle.go_tree.specs.GoTypes.Collect.{types_declared, typed_world}
+use Rattle.type_table.specs.TypeRelations.Environment.{Environment}
+use Rattle.type_table.specs.ValueTypes.ValueTypes.{HasValueTypes}
 use Rattle.typed_names.specs.declared.scopes.Scope.{Scope}
 use Rattle.typed_names.specs.Meanings.{Names, world_at}
-use Rattle.type_exprs.specs.Grown.{TypesGrown}
+use Rattle.typed_names.specs.TypeExprs.Grown.{TypesGrown}
 use Rattle.declared_types.specs.Steps.{KnowsPlaces}
 use Rattle.defined_types.specs.declared.declared.DeclaredType.{DeclaredType}
 use Rattle.defined_types.specs.DeclaredTypes.{declared_of}

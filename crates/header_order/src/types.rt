@@ -1,13 +1,13 @@
 //! The headers of types that are refused (Go specification, Type declarations; Uniqueness of identifiers).
 
 ghost use Rattle.std.specs.Prelude.{◌≡◌, List, map, IfOk};
-ghost use Rattle.const_eval.specs.declared.consts.Const.{Const};
+ghost use Rattle.go_tree.specs.declared.const_eval.consts.Const.{Const};
 ghost use Rattle.go_tree.specs.declared.spans.Span.{Span};
-ghost use Rattle.go_types.specs.Programs.{Headed, Program};
-ghost use Rattle.go_types.specs.Collect.{typed_world, types_declared};
-ghost use Rattle.value_types.specs.ValueTypes.{HasValueTypes};
+ghost use Rattle.go_tree.specs.GoTypes.Programs.{Headed, Program};
+ghost use Rattle.go_tree.specs.GoTypes.Collect.{typed_world, types_declared};
+ghost use Rattle.type_table.specs.ValueTypes.ValueTypes.{HasValueTypes};
 ghost use Rattle.typed_names.specs.Meanings.{world_at};
-ghost use Rattle.type_exprs.specs.Grown.{TypesGrown};
+ghost use Rattle.typed_names.specs.TypeExprs.Grown.{TypesGrown};
 ghost use Rattle.declared_types.specs.Steps.{KnowsPlaces};
 ghost use Rattle.defined_types.specs.DeclaredTypes.{declared_of};
 ghost use Rattle.package_blocks.specs.Headers.{AreHeaders, listed_of};
@@ -20,7 +20,7 @@ use go_tree::NoMemory;
 use package_blocks::PackageHeader;
 use refused_headers::is_refused_type;
 use std::alloc::Global;
-use type_relations::Env;
+use type_table::type_relations::Env;
 use typed_names::{Blocks, Scope};
 
 /// The numbers of the headers that are refused among those of types, in their order. Once the headers of all

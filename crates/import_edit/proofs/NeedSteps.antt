@@ -2,12 +2,12 @@
 use Rattle.std.proofs.Common.{◌≡◌, ◌∙◌, ◌&&◌, not, ℕ, suc, true, false, if◌then◌else◌, bytes_eq, List, [], ◌∷◌, Some, None, refl, sym, ap, subst}
 use Rattle.go_tree.specs.declared.spans.Span.{Span}
 use Rattle.go_tree.specs.File.{File}
-use Rattle.go_words.specs.Tokens.Pieces.{is_among}
-use Rattle.scope_names.specs.declared.names.ImportName.{ImportName}
-use Rattle.scope_names.specs.declared.names.FileNames.{FileNames}
-use Rattle.scope_names.specs.Fresh.{IsFresh}
-use Rattle.scope_names.specs.Occurrences.{means_import}
-use Rattle.scope_names.specs.Scopes.{environment_at}
+use Rattle.go_tree.specs.GoWords.Tokens.Pieces.{is_among}
+use Rattle.go_tree.specs.declared.scope_names.names.ImportName.{ImportName}
+use Rattle.go_tree.specs.declared.scope_names.names.FileNames.{FileNames}
+use Rattle.go_tree.specs.ScopeNames.Fresh.{IsFresh}
+use Rattle.go_tree.specs.ScopeNames.Occurrences.{means_import}
+use Rattle.go_tree.specs.ScopeNames.Scopes.{environment_at}
 use Rattle.scope_tables.specs.Table.{Table, IsTableOf}
 use Rattle.import_rules.specs.Needs.{serves, serving_from, serving, avoided, IsNeededAt, there, new}
 use Rattle.import_edit.specs.Serving.{serving_at}

@@ -4,13 +4,13 @@ use Rattle.go_tree.specs.declared.spans.Span.{Span}
 use Rattle.go_tree.specs.declared.tokens.Token.{Token}
 use Rattle.go_tree.specs.declared.tokens.Comment.{Comment}
 use Rattle.go_tree.specs.File.{File}
-use Rattle.go_words.specs.Tokens.{TokensOf}
+use Rattle.go_tree.specs.GoWords.Tokens.{TokensOf}
 use Rattle.go_scan.proofs.Cuts.{tokens_once}
 use Rattle.import_rules.specs.declared.new_import.NewImport.{NewImport}
 use Rattle.import_rules.specs.Laid.{Laid}
 use Rattle.import_rules.specs.Settled.{settled}
-use Rattle.import_splices.specs.ImportPlaces.ReadFiles.{SpellsImportsOf, ReadsImportsOf}
-use Rattle.import_splices.proofs.ImportPlaces.FilesLaid.{imports_laid}
+use Rattle.splice_laws.specs.ImportSplices.ImportPlaces.ReadFiles.{SpellsImportsOf, ReadsImportsOf}
+use Rattle.splice_laws.proofs.ImportSplices.ImportPlaces.FilesLaid.{imports_laid}
 
 pub read_laid : (text : List ℕ) (tokens : List Token) (comments : List Comment) (file : File Span) → ReadsImportsOf text file → TokensOf text tokens comments → Laid text tokens file
 read_laid text tokens comments file r t =

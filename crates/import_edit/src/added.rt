@@ -1,11 +1,13 @@
 //! Where imports are added, and as which bytes (Go specification, Import declarations; Source file organization).
 
-ghost use Rattle.std.specs.Prelude.{◌≡◌, ◌≤◌, ◌<◌, ◌++◌, ◌∷◌, [], codes, length, map, IfOk, OnOk};
+ghost use Rattle.std.specs.Prelude.{◌≡◌, ◌≤◌, ◌<◌, ◌++◌, ◌∷◌, [], codes, length, map, IfOk};
+ghost use Rattle.std.specs.Prelude.{OnOk};
 ghost use Rattle.go_tree.specs.FileView.{import_decl_of};
 ghost use Rattle.text_edits.specs.Order.{InOrder};
 ghost use Rattle.import_rules.specs.Added.{Addition, adds_to_group, closing, each_within, is_open_group, last_closing};
 ghost use Rattle.import_rules.specs.Settled.{insertion, removal};
-ghost use Rattle.import_edit.specs.Fronts.{LastFits, addition_before, first_addition, front_addition, group_addition, least_start};
+ghost use Rattle.import_edit.specs.Fronts.{LastFits, addition_before, first_addition, front_addition, group_addition};
+ghost use Rattle.import_edit.specs.Fronts.{least_start};
 ghost use Rattle.import_edit.specs.Order.{imports_of};
 
 use crate::lines::blank_start;

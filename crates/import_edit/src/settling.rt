@@ -4,11 +4,11 @@ ghost use Rattle.std.specs.Prelude.{◌≡◌, ◌≤◌, ◌<◌, ◌++◌, ◌
 ghost use Rattle.go_tree.specs.declared.tokens.Comment.{Comment};
 ghost use Rattle.go_tree.specs.declared.tokens.Token.{Token};
 ghost use Rattle.go_tree.specs.FileView.{file_of};
-ghost use Rattle.go_words.specs.Tokens.{TokensOf};
+ghost use Rattle.go_tree.specs.GoWords.Tokens.{TokensOf};
 ghost use Rattle.text_edits.specs.Order.{InOrder};
 ghost use Rattle.import_rules.specs.Laid.{CommentsAscend, Laid};
 ghost use Rattle.import_rules.specs.Settled.{removal, settled};
-ghost use Rattle.import_splices.specs.ImportPlaces.ReadFiles.{ReadsImportsOf};
+ghost use Rattle.splice_laws.specs.ImportSplices.ImportPlaces.ReadFiles.{ReadsImportsOf};
 
 use crate::added::{adds_to_group, group_insertion, insertion_before, last_closing, push_removals};
 use crate::order::in_order;

@@ -1,7 +1,9 @@
 -- The packages of a module by their numbers: a package has the number of its path's place in a list of distinct paths,
 -- and `links` holds for each number those of the packages that it imports (Go specification, Import declarations;
 -- Program initialization and execution).
-use Rattle.std.specs.Prelude.{◌≡◌, ℕ, suc, ◌<◌, ◌==◌, ◌⊎◌, Bool, true, false, not, ◌&&◌, ◌||◌, ◌+◌, List, [], ◌∷◌, ◌++◌, length, take, if◌then◌else◌, slice_index_or}
+use Rattle.std.specs.Prelude.{◌≡◌, ℕ, suc, ◌<◌, ◌==◌, ◌⊎◌, Bool, true, false, not, ◌&&◌}
+use Rattle.std.specs.Prelude.{◌||◌, ◌+◌, List, [], ◌∷◌, ◌++◌, length, take, if◌then◌else◌}
+use Rattle.std.specs.Prelude.{slice_index_or}
 use Rattle.std.specs.List.{list_any, list_all}
 use Rattle.module_files.specs.Pieces.{comes_before}
 use Rattle.module_files.specs.PathLists.{has_path, path_at}

@@ -1,6 +1,7 @@
 //! The order of packages: each time the one with the least path whose imports are all placed.
 
-ghost use Rattle.std.specs.Prelude.{◌≡◌, ◌<◌, ◌^◌, true, false, List, ℕ, [], length, take, slice_set, IfOk, OnOk, IfSome, IfNone};
+ghost use Rattle.std.specs.Prelude.{◌≡◌, ◌<◌, ◌^◌, true, false, List, ℕ, [], length, take, slice_set};
+ghost use Rattle.std.specs.Prelude.{IfOk, OnOk, IfSome, IfNone};
 ghost use Rattle.module_files.specs.PathLists.{has_path, path_at, AreDistinct};
 ghost use Rattle.import_order.specs.Numbers.{is_among, row, is_marked, number_in, AreLinks, AreKept};
 ghost use Rattle.import_order.specs.Numbers.{AreKeptBut, IsOpen, IsLeastOpen, MarksAre, FollowsNumbers};

@@ -1,6 +1,7 @@
 //! Rows of numbers: a list of numbers for each number.
 
-ghost use Rattle.std.specs.Prelude.{◌≡◌, ◌<◌, [], ◌∷◌, ◌++◌, IfOk, OnOk, replicate, length, slice_set, List, ℕ};
+ghost use Rattle.std.specs.Prelude.{◌≡◌, ◌<◌, [], ◌∷◌, ◌++◌, IfOk, OnOk, replicate, length};
+ghost use Rattle.std.specs.Prelude.{slice_set, List, ℕ};
 ghost use Rattle.import_order.specs.Numbers.{row};
 
 use go_tree::NoMemory;

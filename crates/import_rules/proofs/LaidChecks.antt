@@ -4,7 +4,7 @@ use Rattle.go_tree.specs.declared.spans.Span.{Span}
 use Rattle.go_tree.specs.declared.tokens.Token.{Token}
 use Rattle.go_tree.specs.declared.tokens.TokenKind.TheVariants.{Ident, Operator}
 use Rattle.go_tree.specs.File.{ImportSpec, File}
-use Rattle.go_words.specs.Tokens.Characters.{is_blank}
+use Rattle.go_tree.specs.GoWords.Tokens.Characters.{is_blank}
 use Rattle.import_rules.specs.Laid.{IsInked, StandInOrder, IsStart, SpecsLie, DeclLies, Laid}
 
 abbrev at : ℕ → ℕ → Span

@@ -5,12 +5,12 @@ use Rattle.std.specs.Fmt.{digits}
 use Rattle.go_tree.specs.declared.spans.Span.{Span}
 use Rattle.go_tree.specs.Tree.{NameAt, ident, int_lit, selector, no_exprs, expr_and, eval, define, Stmts, no_stmts, stmt_and}
 use Rattle.go_tree.specs.File.{File, func}
-use Rattle.go_words.specs.Tokens.Pieces.{keyword_spellings}
-use Rattle.scope_names.specs.declared.names.ImportName.{ImportName}
-use Rattle.scope_names.specs.declared.names.FileNames.{FileNames}
-use Rattle.scope_names.specs.Scopes.{environment_at}
-use Rattle.scope_names.specs.Occurrences.{uses_import}
-use Rattle.scope_names.specs.Fresh.{candidate, IsFirst}
+use Rattle.go_tree.specs.GoWords.Tokens.Pieces.{keyword_spellings}
+use Rattle.go_tree.specs.declared.scope_names.names.ImportName.{ImportName}
+use Rattle.go_tree.specs.declared.scope_names.names.FileNames.{FileNames}
+use Rattle.go_tree.specs.ScopeNames.Scopes.{environment_at}
+use Rattle.go_tree.specs.ScopeNames.Occurrences.{uses_import}
+use Rattle.go_tree.specs.ScopeNames.Fresh.{candidate, IsFirst}
 use Rattle.import_rules.specs.declared.new_import.Needed.{Needed}
 use Rattle.import_rules.specs.Needs.{IsNeededAt, there, new}
 use Rattle.import_rules.specs.SettledNames.{AreNeeded}

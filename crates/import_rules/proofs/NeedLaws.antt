@@ -1,11 +1,11 @@
 -- One name is needed.
 use Rattle.std.proofs.Common.{◌≡◌, ℕ, Bool, List, Option, Some, None, true, false, arith}
 use Rattle.go_tree.specs.File.{File}
-use Rattle.scope_names.specs.declared.names.Entity.{Entity}
-use Rattle.scope_names.specs.declared.names.FileNames.{FileNames}
-use Rattle.scope_names.specs.Means.{Environment}
-use Rattle.scope_names.specs.Fresh.{is_new}
-use Rattle.scope_names.proofs.FreshLaws.{first_is_one}
+use Rattle.go_tree.specs.declared.scope_names.names.Entity.{Entity}
+use Rattle.go_tree.specs.declared.scope_names.names.FileNames.{FileNames}
+use Rattle.go_tree.specs.ScopeNames.Means.{Environment}
+use Rattle.go_tree.specs.ScopeNames.Fresh.{is_new}
+use Rattle.go_tree.proofs.ScopeNames.FreshLaws.{first_is_one}
 use Rattle.import_rules.specs.declared.new_import.Needed.{Needed}
 use Rattle.import_rules.specs.Needs.{serving, avoided, IsNeeded, there, new}
 

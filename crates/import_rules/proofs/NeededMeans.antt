@@ -6,15 +6,15 @@ use Rattle.std.proofs.lemmas.Bool.Decides.{same_from_decides}
 use Rattle.std.proofs.lemmas.Slice.Eq.{bytes_eq-Decides}
 use Rattle.go_tree.specs.declared.spans.Span.{Span}
 use Rattle.go_tree.specs.File.{File}
-use Rattle.go_words.specs.Tokens.Pieces.{keyword_spellings, is_among}
-use Rattle.scope_names.specs.declared.names.Entity.{Entity}
-use Rattle.scope_names.specs.declared.names.Entity.TheVariants.{Local, Import, Package, Universe}
-use Rattle.scope_names.specs.declared.names.ImportName.{ImportName}
-use Rattle.scope_names.specs.declared.names.FileNames.{FileNames}
-use Rattle.scope_names.specs.Identifiers.{identifiers}
-use Rattle.scope_names.specs.Means.{Environment, is_blank, predeclared, means}
-use Rattle.scope_names.specs.Occurrences.{means_import}
-use Rattle.scope_names.specs.Fresh.{candidate, is_new, IsFirst}
+use Rattle.go_tree.specs.GoWords.Tokens.Pieces.{keyword_spellings, is_among}
+use Rattle.go_tree.specs.declared.scope_names.names.Entity.{Entity}
+use Rattle.go_tree.specs.declared.scope_names.names.Entity.TheVariants.{Local, Import, Package, Universe}
+use Rattle.go_tree.specs.declared.scope_names.names.ImportName.{ImportName}
+use Rattle.go_tree.specs.declared.scope_names.names.FileNames.{FileNames}
+use Rattle.go_tree.specs.ScopeNames.Identifiers.{identifiers}
+use Rattle.go_tree.specs.ScopeNames.Means.{Environment, is_blank, predeclared, means}
+use Rattle.go_tree.specs.ScopeNames.Occurrences.{means_import}
+use Rattle.go_tree.specs.ScopeNames.Fresh.{candidate, is_new, IsFirst}
 use Rattle.import_rules.specs.declared.new_import.NewImport.{NewImport}
 use Rattle.import_rules.specs.Needs.{serves, serving_from, avoided}
 use Rattle.import_rules.specs.SpecText.{is_before, put, in_order}

@@ -3,15 +3,15 @@ use Rattle.std.proofs.Common.{◌≡◌, ◌+◌, ℕ, zero, Bool, true, false, 
 use Rattle.std.proofs.lemmas.Bool.{and_parts, and_from, and_right, or_parts, or_left, or_right, both_ways, not-true, not_from_false, false_from_ne_true}
 use Rattle.go_tree.specs.declared.spans.Span.{Span}
 use Rattle.go_tree.specs.File.{File}
-use Rattle.go_words.specs.Tokens.Pieces.{keyword_spellings, is_among}
-use Rattle.scope_names.specs.declared.names.Entity.{Entity}
-use Rattle.scope_names.specs.declared.names.Entity.TheVariants.{Import, Local}
-use Rattle.scope_names.specs.declared.names.ImportName.{ImportName}
-use Rattle.scope_names.specs.declared.names.FileNames.{FileNames}
-use Rattle.scope_names.specs.Identifiers.{identifiers}
-use Rattle.scope_names.specs.Means.{Environment, is_blank, predeclared, means, outermost}
-use Rattle.scope_names.specs.Scopes.{Scope, holds_at, locals_at, decls_scopes, environment_at}
-use Rattle.scope_names.specs.Fresh.{is_new}
+use Rattle.go_tree.specs.GoWords.Tokens.Pieces.{keyword_spellings, is_among}
+use Rattle.go_tree.specs.declared.scope_names.names.Entity.{Entity}
+use Rattle.go_tree.specs.declared.scope_names.names.Entity.TheVariants.{Import, Local}
+use Rattle.go_tree.specs.declared.scope_names.names.ImportName.{ImportName}
+use Rattle.go_tree.specs.declared.scope_names.names.FileNames.{FileNames}
+use Rattle.go_tree.specs.ScopeNames.Identifiers.{identifiers}
+use Rattle.go_tree.specs.ScopeNames.Means.{Environment, is_blank, predeclared, means, outermost}
+use Rattle.go_tree.specs.ScopeNames.Scopes.{Scope, holds_at, locals_at, decls_scopes, environment_at}
+use Rattle.go_tree.specs.ScopeNames.Fresh.{is_new}
 use Rattle.import_rules.specs.declared.new_import.Needed.{Needed}
 use Rattle.import_rules.specs.declared.new_import.NewImport.{NewImport}
 use Rattle.import_rules.specs.Needs.{serving, avoided, there, new}

@@ -6,7 +6,7 @@ use Rattle.go_tree.specs.declared.spans.Span.{Span}
 use Rattle.go_tree.specs.declared.tokens.Token.{Token}
 use Rattle.go_tree.specs.declared.tokens.Comment.{Comment}
 use Rattle.go_tree.specs.File.{ImportSpec, ImportDecl}
-use Rattle.go_words.specs.Tokens.Characters.{is_blank}
+use Rattle.go_tree.specs.GoWords.Tokens.Characters.{is_blank}
 use Rattle.import_rules.specs.Removed.{is_semicolon, through_semicolon, widened, goes, spec_range, decl_range, goes_whole, specs_ranges, decl_ranges, ranges}
 use Rattle.import_rules.specs.Added.{is_open_group, adds_to_group, last_closing, single_start, front_of}
 use Rattle.import_rules.specs.Laid.{IsInk, IsInked, StandInOrder, StartsAt, IsStart, SpecsLie, BodyLies, DeclLies, DeclsLie}

@@ -7,13 +7,13 @@ use Rattle.std.proofs.lemmas.Option.{same_Some}
 use Rattle.go_tree.specs.declared.spans.Span.{Span}
 use Rattle.go_tree.specs.declared.tokens.Token.{Token}
 use Rattle.go_tree.specs.File.{ImportSpec, ImportDecl}
-use Rattle.scope_names.specs.declared.names.Entity.{Entity}
-use Rattle.scope_names.specs.declared.names.Entity.TheVariants.{Import}
-use Rattle.scope_names.specs.declared.names.ImportName.{ImportName}
-use Rattle.scope_names.specs.declared.names.FileNames.{FileNames}
-use Rattle.scope_names.specs.Means.{Environment, means}
-use Rattle.scope_names.specs.Scopes.{environment_at}
-use Rattle.scope_names.specs.Occurrences.{Occurrence, file_uses, means_import}
+use Rattle.go_tree.specs.declared.scope_names.names.Entity.{Entity}
+use Rattle.go_tree.specs.declared.scope_names.names.Entity.TheVariants.{Import}
+use Rattle.go_tree.specs.declared.scope_names.names.ImportName.{ImportName}
+use Rattle.go_tree.specs.declared.scope_names.names.FileNames.{FileNames}
+use Rattle.go_tree.specs.ScopeNames.Means.{Environment, means}
+use Rattle.go_tree.specs.ScopeNames.Scopes.{environment_at}
+use Rattle.go_tree.specs.ScopeNames.Occurrences.{Occurrence, file_uses, means_import}
 use Rattle.import_rules.specs.declared.new_import.Needed.{Needed}
 use Rattle.import_rules.specs.Removed.{same_span}
 use Rattle.import_rules.specs.Laid.{SpecsLie, BodyLies, DeclsLie}

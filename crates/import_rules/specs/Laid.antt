@@ -1,11 +1,12 @@
 -- How the imports of a file lie in its text (Go specification, Source file organization; Import declarations; Tokens;
 -- Semicolons).
-use Rattle.std.specs.Prelude.{◌≡◌, ℕ, ◌+◌, ◌-◌, ◌≤◌, ◌<◌, ◌⊎◌, Bool, true, false, List, [], ◌∷◌, length, get_or}
+use Rattle.std.specs.Prelude.{◌≡◌, ℕ, ◌+◌, ◌-◌, ◌≤◌, ◌<◌, ◌⊎◌, Bool, true, false, List}
+use Rattle.std.specs.Prelude.{[], ◌∷◌, length, get_or}
 use Rattle.go_tree.specs.declared.spans.Span.{Span}
 use Rattle.go_tree.specs.declared.tokens.Token.{Token}
 use Rattle.go_tree.specs.declared.tokens.Comment.{Comment}
 use Rattle.go_tree.specs.File.{ImportSpec, ImportDecl, File}
-use Rattle.go_words.specs.Tokens.Characters.{is_blank}
+use Rattle.go_tree.specs.GoWords.Tokens.Characters.{is_blank}
 use Rattle.import_rules.specs.Removed.{is_semicolon}
 
 -- a byte that isn't a blank stands at an offset of the text

@@ -1,15 +1,16 @@
 -- The name by which a file knows a package at a place (Go specification, Import declarations; Qualified identifiers).
-use Rattle.std.specs.Prelude.{◌≡◌, ℕ, suc, Bool, true, false, not, ◌&&◌, bytes_eq, List, [], ◌∷◌, ◌++◌, map, Option, Some, None, if◌then◌else◌}
+use Rattle.std.specs.Prelude.{◌≡◌, ℕ, suc, Bool, true, false, not, ◌&&◌, bytes_eq, List, [], ◌∷◌}
+use Rattle.std.specs.Prelude.{◌++◌, map, Option, Some, None, if◌then◌else◌}
 use Rattle.go_tree.specs.declared.spans.Span.{Span}
 use Rattle.go_tree.specs.File.{File}
-use Rattle.go_words.specs.Tokens.Pieces.{is_among}
-use Rattle.scope_names.specs.declared.names.Entity.{Entity}
-use Rattle.scope_names.specs.declared.names.ImportName.{ImportName}
-use Rattle.scope_names.specs.declared.names.FileNames.{FileNames}
-use Rattle.scope_names.specs.Means.{Environment, means}
-use Rattle.scope_names.specs.Scopes.{environment_at}
-use Rattle.scope_names.specs.Occurrences.{means_import}
-use Rattle.scope_names.specs.Fresh.{IsFresh}
+use Rattle.go_tree.specs.GoWords.Tokens.Pieces.{is_among}
+use Rattle.go_tree.specs.declared.scope_names.names.Entity.{Entity}
+use Rattle.go_tree.specs.declared.scope_names.names.ImportName.{ImportName}
+use Rattle.go_tree.specs.declared.scope_names.names.FileNames.{FileNames}
+use Rattle.go_tree.specs.ScopeNames.Means.{Environment, means}
+use Rattle.go_tree.specs.ScopeNames.Scopes.{environment_at}
+use Rattle.go_tree.specs.ScopeNames.Occurrences.{means_import}
+use Rattle.go_tree.specs.ScopeNames.Fresh.{IsFresh}
 use Rattle.import_rules.specs.declared.new_import.Needed.{Needed}
 
 module _ (env : Environment Entity) (bound : List (List ℕ)) (path : List ℕ) where

@@ -1,5 +1,6 @@
 -- Which bytes go with an import spec or declaration (Go specification, Import declarations; Semicolons).
-use Rattle.std.specs.Prelude.{ℕ, ◌+◌, ◌-◌, ◌==◌, Bool, true, false, not, ◌&&◌, nat_le, nat_lt, nat_eq, bytes_eq, if◌then◌else◌, List, [], ◌∷◌, ◌++◌, take, drop, reverse, codes}
+use Rattle.std.specs.Prelude.{ℕ, ◌+◌, ◌-◌, ◌==◌, Bool, true, false, not, ◌&&◌, nat_le, nat_lt, nat_eq}
+use Rattle.std.specs.Prelude.{bytes_eq, if◌then◌else◌, List, [], ◌∷◌, ◌++◌, take, drop, reverse, codes}
 use Rattle.std.specs.List.{list_any, list_all, prefix_len}
 use Rattle.go_tree.specs.declared.spans.Span.{Span}
 use Rattle.go_tree.specs.declared.tokens.Token.{Token}
@@ -7,7 +8,7 @@ use Rattle.go_tree.specs.declared.tokens.Comment.{Comment}
 use Rattle.go_tree.specs.declared.tokens.TokenKind.{TokenKind}
 use Rattle.go_tree.specs.declared.tokens.TokenKind.TheVariants.{Operator}
 use Rattle.go_tree.specs.File.{ImportSpec, ImportDecl}
-use Rattle.go_words.specs.Tokens.Characters.{is_blank}
+use Rattle.go_tree.specs.GoWords.Tokens.Characters.{is_blank}
 
 -- the span from the one offset to the other
 abbrev pub span_at : ℕ → ℕ → Span

@@ -1,17 +1,18 @@
 -- What names mean once a file's imports are settled (Go specification, Import declarations; Declarations and scope).
-use Rattle.std.specs.Prelude.{◌≡◌, ℕ, zero, suc, Bool, true, false, not, bytes_eq, if◌then◌else◌, List, [], ◌∷◌, ◌++◌, map, filter, Option, Some, None}
+use Rattle.std.specs.Prelude.{◌≡◌, ℕ, zero, suc, Bool, true, false, not, bytes_eq, if◌then◌else◌, List}
+use Rattle.std.specs.Prelude.{[], ◌∷◌, ◌++◌, map, filter, Option, Some, None}
 use Rattle.std.specs.List.{list_any}
 use Rattle.go_tree.specs.declared.spans.Span.{Span}
 use Rattle.go_tree.specs.File.{File}
-use Rattle.scope_names.specs.declared.names.Entity.{Entity}
-use Rattle.scope_names.specs.declared.names.Entity.TheVariants.{Local, Import}
-use Rattle.scope_names.specs.declared.names.ImportName.{ImportName}
-use Rattle.scope_names.specs.declared.names.FileNames.{FileNames}
-use Rattle.scope_names.specs.Means.{Environment, is_blank, means, outermost}
+use Rattle.go_tree.specs.declared.scope_names.names.Entity.{Entity}
+use Rattle.go_tree.specs.declared.scope_names.names.Entity.TheVariants.{Local, Import}
+use Rattle.go_tree.specs.declared.scope_names.names.ImportName.{ImportName}
+use Rattle.go_tree.specs.declared.scope_names.names.FileNames.{FileNames}
+use Rattle.go_tree.specs.ScopeNames.Means.{Environment, is_blank, means, outermost}
 use Rattle.import_rules.specs.declared.new_import.Needed.{Needed}
 use Rattle.import_rules.specs.declared.new_import.NewImport.{NewImport}
-use Rattle.scope_names.specs.Scopes.{environment_at}
-use Rattle.scope_names.specs.Fresh.{is_new}
+use Rattle.go_tree.specs.ScopeNames.Scopes.{environment_at}
+use Rattle.go_tree.specs.ScopeNames.Fresh.{is_new}
 use Rattle.import_rules.specs.Needs.{avoided, IsNeeded}
 use Rattle.import_rules.specs.SpecText.{in_order}
 use Rattle.import_rules.specs.Removed.{same_span}

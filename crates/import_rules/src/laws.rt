@@ -1,8 +1,10 @@
 //! Laws of imports.
 
 ghost use Rattle.import_rules.specs.Needs.{OneNameIsNeeded};
-ghost use Rattle.import_rules.specs.SettledLaws.{SettledAscend, SettledBytesStay, SettledInOrder, SettledKeeps, SettledWithin};
-ghost use Rattle.import_rules.specs.SettledNames.{AddedNamesAreDistinct, AddedNamesAreNew, NeededNamesMean, NeededNamesMeanAt};
+ghost use Rattle.import_rules.specs.SettledLaws.{SettledAscend, SettledBytesStay, SettledInOrder, SettledKeeps};
+ghost use Rattle.import_rules.specs.SettledLaws.{SettledWithin};
+ghost use Rattle.import_rules.specs.SettledNames.{AddedNamesAreDistinct, AddedNamesAreNew, NeededNamesMean};
+ghost use Rattle.import_rules.specs.SettledNames.{NeededNamesMeanAt};
 ghost use Rattle.import_rules.specs.Unused.{StandingNamesAreUsed, UsedImportsStay, UsedNamesMeanAt};
 
 /// At a place of a file a package has one name.

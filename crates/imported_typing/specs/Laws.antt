@@ -3,17 +3,18 @@
 use Rattle.std.specs.Prelude.{◌≡◌, Bool, true, ◌++◌}
 use Rattle.go_tree.specs.declared.spans.Span.{Span}
 use Rattle.go_tree.specs.Tree.{Expr, Stmt, Stmts}
-use Rattle.go_types.specs.Types.{GoType}
-use Rattle.go_types.specs.Entities.{World, Env}
-use Rattle.go_types.specs.Bodies.{Ctx}
-use Rattle.go_types.specs.Typing.{parts, place, declares, stmts, used_stmts}
-use Rattle.go_types.specs.Recorded.{recorded_stmts}
-use Rattle.go_types.specs.Programs.{Program, Headed, headed}
-use Rattle.go_types.specs.TypeDeclarations.{DeclaredTypes, is_finite}
-use Rattle.go_types.specs.Collect.{declared_by, types_declared, collected}
-use Rattle.go_types.specs.WellTyped.{body_ok, header_uses, refused_place, well_typed}
+use Rattle.go_tree.specs.GoTypes.Types.{GoType}
+use Rattle.go_tree.specs.GoTypes.Entities.{World, Env}
+use Rattle.go_tree.specs.GoTypes.Bodies.{Ctx}
+use Rattle.go_tree.specs.GoTypes.Typing.{parts, place, declares, stmts, used_stmts}
+use Rattle.go_tree.specs.GoTypes.Recorded.{recorded_stmts}
+use Rattle.go_tree.specs.GoTypes.Programs.{Program, Headed, headed}
+use Rattle.go_tree.specs.GoTypes.TypeDeclarations.{DeclaredTypes, is_finite}
+use Rattle.go_tree.specs.GoTypes.Collect.{declared_by, types_declared, collected}
+use Rattle.go_tree.specs.GoTypes.WellTyped.{body_ok, header_uses, refused_place, well_typed}
 use Rattle.typed_in_place.specs.SameWorlds.SameWorlds.{at}
-use Rattle.imported_typing.specs.Reach.{Reach, AllOf, IfAny, TypeWithin, OperandWithin, PlaceWithin, SameWithin, HeaderWithin, OwnTypeWithin}
+use Rattle.imported_typing.specs.Reach.{Reach, AllOf, IfAny, TypeWithin, OperandWithin, PlaceWithin, SameWithin}
+use Rattle.imported_typing.specs.Reach.{HeaderWithin, OwnTypeWithin}
 use Rattle.imported_typing.specs.Further.{imports_itself, are_others, in_order, own_reach, refused_among, chains_end}
 
 -- ---- typing (Expressions; Statements)

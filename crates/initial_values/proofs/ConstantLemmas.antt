@@ -6,18 +6,18 @@ use Rattle.go_tree.specs.declared.operators.UnOp.{UnOp}
 use Rattle.go_tree.specs.declared.operators.UnOp.TheVariants.{Plus, Minus, Not, Flip, Address}
 use Rattle.go_tree.specs.declared.exprs.Rest.{Rest}
 use Rattle.go_tree.specs.Tree.{Expr, Exprs, call, unary}
-use Rattle.const_eval.specs.declared.consts.Const.{Const}
-use Rattle.go_types.specs.Answers.{given, meets}
-use Rattle.go_types.specs.Types.{pointer_to}
-use Rattle.go_types.specs.Defined.{Defined}
-use Rattle.go_types.specs.Entities as go_entity
-use Rattle.go_types.specs.Entities.{Env, defined_in}
-use Rattle.go_types.specs.Initial.{is_address, is_composite, is_constant, is_initial, is_maker, sizes_constant}
-use Rattle.go_types.specs.Operands as go
-use Rattle.go_types.specs.Operands.{Typed, value, several, a_type, a_function, a_builtin, recovered, typed, constant_of}
-use Rattle.go_types.specs.Operators.{address_of, has_address, unary_of}
-use Rattle.go_types.specs.Typing.{parts, place}
-use Rattle.type_relations.specs.Environment.{Environment}
+use Rattle.go_tree.specs.declared.const_eval.consts.Const.{Const}
+use Rattle.go_tree.specs.GoTypes.Answers.{given, meets}
+use Rattle.go_tree.specs.GoTypes.Types.{pointer_to}
+use Rattle.go_tree.specs.GoTypes.Defined.{Defined}
+use Rattle.go_tree.specs.GoTypes.Entities as go_entity
+use Rattle.go_tree.specs.GoTypes.Entities.{Env, defined_in}
+use Rattle.go_tree.specs.GoTypes.Initial.{is_address, is_composite, is_constant, is_initial, is_maker, sizes_constant}
+use Rattle.go_tree.specs.GoTypes.Operands as go
+use Rattle.go_tree.specs.GoTypes.Operands.{Typed, value, several, a_type, a_function, a_builtin, recovered, typed, constant_of}
+use Rattle.go_tree.specs.GoTypes.Operators.{address_of, has_address, unary_of}
+use Rattle.go_tree.specs.GoTypes.Typing.{parts, place}
+use Rattle.type_table.specs.TypeRelations.Environment.{Environment}
 use Rattle.operand_rules.specs.declared.values.Content as content
 use Rattle.operand_rules.specs.declared.values.Content.TheVariants.{Run, Exact, Shift}
 use Rattle.operand_rules.specs.declared.values.Refusal.TheVariants.{NotTyped}

@@ -6,14 +6,14 @@ use Rattle.go_tree.specs.declared.exprs.Expr as expression
 use Rattle.go_tree.specs.Tree.{Expr, Value, ValueOption}
 use Rattle.go_tree.specs.Lists.{elems_from, exprs_from}
 use Rattle.go_tree.specs.View.{elem_of, expr_of, held_value_option_of, value_of}
-use Rattle.go_types.specs.Answers.{given}
-use Rattle.go_types.specs.Types.{GoType}
-use Rattle.go_types.specs.Defined.{under}
-use Rattle.go_types.specs.Entities.{Env}
-use Rattle.go_types.specs.Initial.{all_constant, all_initial, initial_elems, initial_key, initial_value, is_constant, is_initial, sizes_constant}
-use Rattle.go_types.specs.Literals.{inner_type}
-use Rattle.type_exprs.proofs.NewNames.{drop_all, drop_item}
-use Rattle.type_relations.specs.Environment.{defined_types, env_type}
+use Rattle.go_tree.specs.GoTypes.Answers.{given}
+use Rattle.go_tree.specs.GoTypes.Types.{GoType}
+use Rattle.go_tree.specs.GoTypes.Defined.{under}
+use Rattle.go_tree.specs.GoTypes.Entities.{Env}
+use Rattle.go_tree.specs.GoTypes.Initial.{all_constant, all_initial, initial_elems, initial_key, initial_value, is_constant, is_initial, sizes_constant}
+use Rattle.go_tree.specs.GoTypes.Literals.{inner_type}
+use Rattle.typed_names.proofs.TypeExprs.NewNames.{drop_all, drop_item}
+use Rattle.type_table.specs.TypeRelations.Environment.{defined_types, env_type}
 use Rattle.type_table.specs.declared.nodes.TypeId.{TypeId}
 use Rattle.operand_rules.specs.declared.values.ValueType.TheVariants.{Typed}
 use Rattle.operand_rules.specs.Values.{IsType}

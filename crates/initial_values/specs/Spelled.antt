@@ -1,11 +1,14 @@
 -- Expressions whose literals are well spelled (Go specification, Integer literals; Rune literals; String literals).
 use Rattle.std.specs.Prelude.{pos}
 use Rattle.go_tree.specs.declared.spans.Span.{Span}
-use Rattle.go_tree.specs.Tree.{Expr, ident, int_lit, rune_lit, str_lit, composite, selector, index, slice, call, func_lit, type_operand, unary, binary, star, Exprs, no_exprs, expr_and, ExprOption, no_expr, some_expr, Elems, no_elems, elem, Value, plain, braced, ValueOption, no_value, some_value}
-use Rattle.go_words.specs.Texts.{text_value}
-use Rattle.const_eval.specs.declared.kinds.Kind.TheVariants as kind
-use Rattle.const_eval.specs.Exact.{number, text}
-use Rattle.const_eval.specs.Literals.{integer_value, literal_value}
+use Rattle.go_tree.specs.Tree.{Expr, ident, int_lit, rune_lit, str_lit, composite, selector, index, slice, call}
+use Rattle.go_tree.specs.Tree.{func_lit, type_operand, unary, binary, star, Exprs, no_exprs, expr_and, ExprOption}
+use Rattle.go_tree.specs.Tree.{no_expr, some_expr, Elems, no_elems, elem, Value, plain, braced, ValueOption, no_value}
+use Rattle.go_tree.specs.Tree.{some_value}
+use Rattle.go_tree.specs.GoWords.Texts.{text_value}
+use Rattle.go_tree.specs.declared.const_eval.kinds.Kind.TheVariants as kind
+use Rattle.go_tree.specs.ConstEval.Exact.{number, text}
+use Rattle.go_tree.specs.ConstEval.Literals.{integer_value, literal_value}
 use Rattle.expr_walk.specs.Walked.{IsLiteralOf}
 
 abbrev mutual

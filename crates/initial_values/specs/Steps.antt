@@ -1,10 +1,10 @@
 -- The steps in which it is told whether expressions are initialisers (Go specification, Constant expressions;
 -- Composite literals).
 use Rattle.std.specs.Prelude.{◌≡◌, Bool, true, false, List, Option, Some, None}
-use Rattle.go_types.specs.Answers.{given}
-use Rattle.go_types.specs.Types.{GoType}
-use Rattle.go_types.specs.Defined.{Defined, under}
-use Rattle.go_types.specs.Literals.{literal_type}
+use Rattle.go_tree.specs.GoTypes.Answers.{given}
+use Rattle.go_tree.specs.GoTypes.Types.{GoType}
+use Rattle.go_tree.specs.GoTypes.Defined.{Defined, under}
+use Rattle.go_tree.specs.GoTypes.Literals.{literal_type}
 use Rattle.operand_rules.specs.declared.values.Content.{Content}
 use Rattle.operand_rules.specs.declared.values.Content.TheVariants.{Run, Exact, Shift}
 use Rattle.operand_modes.specs.declared.modes.Operand.{Operand}

@@ -2,7 +2,7 @@
 use Rattle.std.proofs.Common.{◌≡◌, ℕ, ◌+◌, Bool, true, false, ◌||◌, List, [], ◌∷◌, Option, Some, None, refl}
 use Rattle.std.specs.Prelude.{codes}
 use Rattle.go_tree.specs.Tree.{NameAt, TypeExpr, Param, Sig, Expr, Exprs, Stmt, Arms, ValueSpecs, named, pointer, slice_type, map_type, struct_type, ident, int_lit, rune_lit, str_lit, composite, selector, index, slice, call, func_lit, type_operand, unary, binary, star, no_exprs, expr_and, const_decl, var_decl, empty, eval, step, assign, define, return_, break_, continue_, inner, if_, for_, range_, switch, defer, label, no_arms, arm, no_stmt, some_stmt, no_block, some_block, no_specs, spec}
-use Rattle.go_words.specs.Terminals.{level_of}
+use Rattle.go_tree.specs.GoWords.Terminals.{level_of}
 use Rattle.go_layout.specs.Layouts.{Layout, within, op}
 use Rattle.go_layout.specs.TypeLayout.{type_layout, names_layout, result_layout, results_layout, sig_layout}
 use Rattle.go_layout.specs.Parens.{needs_parens, runs_into, header_within, closed_within}

@@ -9,15 +9,15 @@ use Rattle.ucd_table.specs.Rows.{value_in}
 use Rattle.std.specs.Str.{all_scalars}
 use Rattle.std.proofs.lemmas.Str.{encodes-append}
 use Rattle.std.proofs.lemmas.List.{append_assoc, append-nil}
-use Rattle.go_words.specs.Tokens.Characters.{is_letter, is_blank, byte_order_mark}
-use Rattle.go_words.specs.Tokens.{TokensOf, after_mark, mark_size, size_of, ends_line, span_of, due_after, tokens_from, comments_from, pieces_size}
-use Rattle.go_words.specs.Tokens.Pieces.{PieceKind, blanks, token, Piece, IsPiece, IsNext, CutsTo}
+use Rattle.go_tree.specs.GoWords.Tokens.Characters.{is_letter, is_blank, byte_order_mark}
+use Rattle.go_tree.specs.GoWords.Tokens.{TokensOf, after_mark, mark_size, size_of, ends_line, span_of, due_after, tokens_from, comments_from, pieces_size}
+use Rattle.go_tree.specs.GoWords.Tokens.Pieces.{PieceKind, blanks, token, Piece, IsPiece, IsNext, CutsTo}
 use Rattle.go_scan.specs.Automaton.{next_of, is_whole}
 use Rattle.go_scan.proofs.Derivatives.{and_parts, and_true}
 use Rattle.go_scan.proofs.AutomatonLemmas.{run}
 use Rattle.go_scan.proofs.LexemeLemmas.{form_runs, run_dead}
 use Rattle.go_scan.proofs.PieceKinds.{Sort, a_blank, a_letter, a_lexeme, sort_of, never_empty}
-use Rattle.go_words.specs.Terminals.{lex, terminal_of, lexemes}
+use Rattle.go_tree.specs.GoWords.Terminals.{lex, terminal_of, lexemes}
 use Rattle.go_read.specs.SpellsTypes.{Lexemes}
 use Rattle.go_layout.specs.Layouts.{Layout, no_text, a_token, gap, line, ◌⊕◌, text_of}
 use Rattle.layout_laws.specs.LayoutTokens.{HasTokens, of_nothing, of_token, of_gap, of_line, of_end, of_both}

@@ -2,7 +2,7 @@
 use Rattle.std.proofs.Common.{◌≡◌, ℕ, Bool, true, false, List, [], ◌∷◌, ◌++◌, Option, Some, None, refl}
 use Rattle.std.specs.Prelude.{codes}
 use Rattle.go_tree.specs.Tree.{NameAt, TypeExpr, Expr, Exprs, ExprOption, Stmt, Stmts, StmtOption, RangeLeft, Cases, ValueSpecs, no_exprs, expr_and, no_expr, some_expr, no_stmts, stmt_and, no_stmt, some_stmt, nothing, assigns, defines, no_cases, case, no_specs, spec}
-use Rattle.go_words.specs.Tokens.Pieces.{no_word_first}
+use Rattle.go_tree.specs.GoWords.Tokens.Pieces.{no_word_first}
 use Rattle.go_layout.specs.Layouts.{line, op, within, deeper, ◌⊕◌}
 use Rattle.go_layout.specs.TypeLayout.{names_layout, type_layout}
 use Rattle.go_layout.specs.Parens.{needs_parens, header_within, closed_within}

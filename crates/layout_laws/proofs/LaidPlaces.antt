@@ -7,10 +7,10 @@ use Rattle.go_tree.specs.declared.tokens.TokenKind.TheVariants.{Operator}
 use Rattle.go_tree.specs.declared.exprs.Rest.{Rest}
 use Rattle.go_tree.specs.declared.exprs.Rest.TheVariants.{Plain, Whole, Packed, Empty}
 use Rattle.go_tree.specs.Tree.{Expr, Exprs, Stmts, ident, int_lit, rune_lit, str_lit, composite, selector, index, slice, call, func_lit, type_operand, unary, binary, star, no_stmts, stmt_and}
-use Rattle.go_words.specs.Tokens.Characters.{each, is_listed}
+use Rattle.go_tree.specs.GoWords.Tokens.Characters.{each, is_listed}
 use Rattle.go_scan.proofs.Derivatives.{and_parts, and_true}
 use Rattle.go_layout.specs.Layouts.{Layout, within, op, deeper, ◌⊕◌}
-use Rattle.go_words.specs.Operators.{unary_spelling}
+use Rattle.go_tree.specs.GoWords.Operators.{unary_spelling}
 use Rattle.go_layout.specs.Parens.{needs_parens, is_integer, runs_into, ends_in_integer, last_ends_in_integer, is_one_operator, header_within, closed_within}
 use Rattle.go_layout.specs.TreeLayout.{gap_where, closes, rest_layout, exprs_layout, expr_layout, in_braces, stmts_layout, stmt_layout, stmt_end, gives_semicolon}
 use Rattle.layout_laws.specs.Formed.{FormedRest, FormedExpr, FormedStmts}

@@ -5,10 +5,10 @@ use Rattle.std.specs.Str.{all_scalars, chars}
 use Rattle.std.proofs.lemmas.Str.{scalars-chars, encodes-chars}
 use Rattle.std.proofs.lemmas.Bool.Decides.{nat_tests}
 use Rattle.go_tree.specs.declared.tokens.TokenKind.TheVariants.{Ident, Keyword, Operator, Integer, Rune, Str}
-use Rattle.go_words.specs.Tokens.Characters.{is_letter, is_digit, is_word, is_blank, each, is_listed, byte_order_mark}
-use Rattle.go_words.specs.Tokens.Forms.{HasForm}
-use Rattle.go_words.specs.Tokens.Literals.{int_lit}
-use Rattle.go_words.specs.Tokens.Pieces.{PieceKind, token, keyword_spellings, operator_spellings, operator, is_among, no_word_first, may_precede, IsPiece, IsNext}
+use Rattle.go_tree.specs.GoWords.Tokens.Characters.{is_letter, is_digit, is_word, is_blank, each, is_listed, byte_order_mark}
+use Rattle.go_tree.specs.GoWords.Tokens.Forms.{HasForm}
+use Rattle.go_tree.specs.GoWords.Tokens.Literals.{int_lit}
+use Rattle.go_tree.specs.GoWords.Tokens.Pieces.{PieceKind, token, keyword_spellings, operator_spellings, operator, is_among, no_word_first, may_precede, IsPiece, IsNext}
 use Rattle.go_scan.specs.Automaton.{next_of, is_whole, kind_in}
 use Rattle.go_scan.proofs.Derivatives.{matches, has_form, and_parts, and_true}
 use Rattle.go_scan.proofs.AutomatonLemmas.{below, below_at, run}

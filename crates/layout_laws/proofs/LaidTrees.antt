@@ -3,9 +3,9 @@ use Rattle.std.proofs.Common.{◌≡◌, ℕ, ◌+◌, Bool, true, false, ◌||�
 use Rattle.std.specs.Prelude.{codes}
 use Rattle.std.specs.Str.{chars}
 use Rattle.go_tree.specs.Tree.{Expr, Exprs, ExprOption, Elems, Value, Stmt, Stmts, StmtOption, BlockOption, RangeLeft, Arms, Cases, ValueSpecs, ident, int_lit, rune_lit, str_lit, composite, selector, index, slice, call, func_lit, type_operand, unary, binary, star, no_exprs, expr_and, no_expr, some_expr, no_elems, elem, plain, braced, no_value, some_value, const_decl, var_decl, empty, eval, step, assign, define, return_, break_, continue_, inner, if_, for_, range_, switch, defer, label, no_stmts, stmt_and, no_stmt, some_stmt, no_block, some_block, nothing, assigns, defines, no_arms, arm, no_cases, case, no_specs, spec}
-use Rattle.go_words.specs.Terminals.{level_of}
+use Rattle.go_tree.specs.GoWords.Terminals.{level_of}
 use Rattle.go_layout.specs.Layouts.{gap, op, key, deeper, ◌⊕◌}
-use Rattle.go_words.specs.Operators.{binary_spelling, unary_spelling, assign_spelling}
+use Rattle.go_tree.specs.GoWords.Operators.{binary_spelling, unary_spelling, assign_spelling}
 use Rattle.go_layout.specs.TypeLayout.{names_layout, sig_layout}
 use Rattle.go_layout.specs.Parens.{needs_parens, is_integer, runs_into, ends_in_integer, last_ends_in_integer}
 use Rattle.go_layout.specs.TreeLayout.{closes, rest_layout, spaced, clause_indent, spec_type_layout, equals_before, spec_end, in_group, expr_layout, exprs_layout, option_layout, test_layout, elems_layout, value_layout, stmt_layout, stmts_layout, part_layout, post_layout, first_layout, arms_layout, last_layout, left_layout, cases_layout, specs_layout}

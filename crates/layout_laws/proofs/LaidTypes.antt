@@ -10,12 +10,12 @@ use Rattle.go_tree.specs.declared.operators.BinOp.{BinOp}
 use Rattle.go_tree.specs.declared.operators.BinOp.TheVariants.{Mul, Div, Rem, Shl, Shr, And, AndNot, Add, Sub, Or, Xor, Eq, Ne, Lt, Le, Gt, Ge, LogAnd, LogOr}
 use Rattle.go_tree.specs.declared.tokens.TokenKind.TheVariants.{Operator}
 use Rattle.go_tree.specs.Tree.{NameAt, TypeExpr, Fields, Param, Sig, named, pointer, slice_type, map_type, struct_type, no_fields, field}
-use Rattle.go_words.specs.Tokens.Characters.{is_letter, is_digit, is_word, each, is_listed}
-use Rattle.go_words.specs.Tokens.Pieces.{token, no_word_first, may_precede}
+use Rattle.go_tree.specs.GoWords.Tokens.Characters.{is_letter, is_digit, is_word, each, is_listed}
+use Rattle.go_tree.specs.GoWords.Tokens.Pieces.{token, no_word_first, may_precede}
 use Rattle.go_scan.specs.Automaton.{next_of}
 use Rattle.go_scan.proofs.Derivatives.{and_parts, and_true}
 use Rattle.go_layout.specs.Layouts.{gap, ◌⊕◌}
-use Rattle.go_words.specs.Operators.{binary_spelling, assign_spelling}
+use Rattle.go_tree.specs.GoWords.Operators.{binary_spelling, assign_spelling}
 use Rattle.go_layout.specs.TypeLayout.{comma_before, names_layout, type_layout, fields_layout, field_end, dots_where, param_name_layout, param_list_layout, params_layout, results_layout, sig_layout}
 use Rattle.go_layout.specs.TreeLayout.{spaced}
 use Rattle.layout_laws.specs.Formed.{is_assign, IsNamed, IsUnnamed, FormedName, FormedNames, FormedType, FormedFields, FormedNamed, FormedUnnamed, FormedParams, FormedSig}

@@ -2,8 +2,8 @@
 use Rattle.std.proofs.Common.{◌≡◌, ℕ, ◌≤◌, Bool, true, false, cond, not, nat_eq, List, [], ◌∷◌, ◌++◌, length, refl, sym, ap, subst, ◌∙◌, arith}
 use Rattle.std.proofs.lemmas.Bool.Decides.{nat_tests}
 use Rattle.go_tree.specs.declared.tokens.TokenKind.TheVariants.{Ident, Keyword, Operator, Integer, Rune, Str}
-use Rattle.go_words.specs.Tokens.Characters.{is_letter, is_word, is_blank, each}
-use Rattle.go_words.specs.Tokens.Pieces.{PieceKind, blanks, token, keyword_spellings, is_among, no_word_first, may_precede, IsPiece, IsNext}
+use Rattle.go_tree.specs.GoWords.Tokens.Characters.{is_letter, is_word, is_blank, each}
+use Rattle.go_tree.specs.GoWords.Tokens.Pieces.{PieceKind, blanks, token, keyword_spellings, is_among, no_word_first, may_precede, IsPiece, IsNext}
 use Rattle.go_scan.specs.Automaton.{next_of, is_whole}
 use Rattle.go_scan.proofs.Derivatives.{and_parts}
 use Rattle.go_scan.proofs.AutomatonLemmas.{run}

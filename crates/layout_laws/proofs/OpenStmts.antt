@@ -2,7 +2,7 @@
 use Rattle.std.proofs.Common.{◌≡◌, ℕ, Bool, true, false, List, [], ◌∷◌, ◌++◌, None, refl, sym, subst}
 use Rattle.go_tree.specs.declared.spans.Span.{Span}
 use Rattle.go_tree.specs.Tree.{Stmt, Stmts, no_stmts, stmt_and, const_decl, var_decl, empty, eval, step, assign, define, return_, break_, continue_, inner, if_, for_, range_, switch, defer, label}
-use Rattle.go_words.specs.Terminals.{lex, semicolon, end_brace}
+use Rattle.go_tree.specs.GoWords.Terminals.{lex, semicolon, end_brace}
 use Rattle.go_read.specs.SpellsTypes.{Lexemes}
 use Rattle.go_read.specs.Spells.{is_empty, SpellsStmts, simple_rule, no_stmts_rule, last_stmt_rule, more_stmts_rule}
 use Rattle.go_read.specs.Bareness.{nowhere}

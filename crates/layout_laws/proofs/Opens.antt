@@ -11,16 +11,16 @@ use Rattle.go_tree.specs.declared.operators.UnOp.TheVariants.{Plus, Minus, Not, 
 use Rattle.go_tree.specs.declared.operators.BinOp.{BinOp}
 use Rattle.go_tree.specs.declared.operators.BinOp.TheVariants.{Mul, Div, Rem, Shl, Shr, And, AndNot, Add, Sub, Or, Xor, Eq, Ne, Lt, Le, Gt, Ge, LogAnd, LogOr}
 use Rattle.go_tree.specs.Tree.{NameAt, TypeExpr, Expr, named, pointer, slice_type, map_type, struct_type, ident, int_lit, rune_lit, str_lit, composite, selector, index, slice, call, func_lit, type_operand, unary, binary, star}
-use Rattle.go_words.specs.Tokens.Characters.{is_letter, is_word, is_blank, each, is_listed}
-use Rattle.go_words.specs.Tokens.Forms.{Form, HasForm}
-use Rattle.go_words.specs.Tokens.Forms as form
-use Rattle.go_words.specs.Tokens.Literals as lit
-use Rattle.go_words.specs.Tokens.Pieces.{token, IsPiece}
+use Rattle.go_tree.specs.GoWords.Tokens.Characters.{is_letter, is_word, is_blank, each, is_listed}
+use Rattle.go_tree.specs.GoWords.Tokens.Forms.{Form, HasForm}
+use Rattle.go_tree.specs.GoWords.Tokens.Forms as form
+use Rattle.go_tree.specs.GoWords.Tokens.Literals as lit
+use Rattle.go_tree.specs.GoWords.Tokens.Pieces.{token, IsPiece}
 use Rattle.go_scan.proofs.Derivatives.{after, along, nullable, form_matches, and_parts}
 use Rattle.go_scan.proofs.PieceKinds.{never_empty}
-use Rattle.go_words.specs.Terminals.{level_of}
+use Rattle.go_tree.specs.GoWords.Terminals.{level_of}
 use Rattle.go_layout.specs.Layouts.{Layout, a_token, gap, op, name_layout, within, ◌⊕◌}
-use Rattle.go_words.specs.Operators.{binary_spelling}
+use Rattle.go_tree.specs.GoWords.Operators.{binary_spelling}
 use Rattle.go_layout.specs.TypeLayout.{type_layout, names_layout}
 use Rattle.go_layout.specs.Parens.{needs_parens, is_integer, header_within, closed_within}
 use Rattle.go_layout.specs.TreeLayout.{spaced, elems_layout, expr_layout}

@@ -7,11 +7,11 @@ use Rattle.go_tree.specs.declared.tokens.Token.{Token}
 use Rattle.go_tree.specs.declared.tokens.Comment.{Comment}
 use Rattle.go_tree.specs.declared.tokens.TokenKind.{TokenKind}
 use Rattle.go_tree.specs.declared.tokens.TokenKind.TheVariants.{Ident, Keyword, Operator, Integer, Float, Imaginary, Rune, Str, Inserted}
-use Rattle.go_words.specs.Tokens.Characters.{is_listed, byte_order_mark}
-use Rattle.go_words.specs.Tokens.{TokensOf, after_mark, mark_size, tokens_at, size_of, inserted, due_after, tokens_from}
-use Rattle.go_words.specs.Tokens.Pieces.{PieceKind, blanks, remark, token, Piece, IsPiece, CutsTo}
+use Rattle.go_tree.specs.GoWords.Tokens.Characters.{is_listed, byte_order_mark}
+use Rattle.go_tree.specs.GoWords.Tokens.{TokensOf, after_mark, mark_size, tokens_at, size_of, inserted, due_after, tokens_from}
+use Rattle.go_tree.specs.GoWords.Tokens.Pieces.{PieceKind, blanks, remark, token, Piece, IsPiece, CutsTo}
 use Rattle.go_scan.proofs.Derivatives.{and_parts, and_true}
-use Rattle.go_words.specs.Terminals.{Terminal, lex, terminal_of, lexemes, found_in, keywords, operators}
+use Rattle.go_tree.specs.GoWords.Terminals.{Terminal, lex, terminal_of, lexemes, found_in, keywords, operators}
 use Rattle.go_read.specs.SpellsTypes.{Lexemes}
 use Rattle.layout_laws.specs.Formed.{IsToken}
 use Rattle.layout_laws.specs.Real.{IsReal, AreReal}

@@ -9,13 +9,13 @@ use Rattle.go_tree.specs.declared.operators.BinOp.TheVariants.{Mul, Div, Rem, Sh
 use Rattle.go_tree.specs.declared.exprs.Rest.{Rest}
 use Rattle.go_tree.specs.declared.exprs.Rest.TheVariants.{Plain, Whole, Packed, Empty}
 use Rattle.go_tree.specs.Tree.{NameAt, TypeExpr, Expr, Exprs, Stmt, Stmts, BlockOption, named, pointer, slice_type, map_type, struct_type, ident, int_lit, rune_lit, str_lit, composite, selector, index, slice, call, func_lit, type_operand, unary, binary, star, no_exprs, expr_and, const_decl, var_decl, empty, eval, step, assign, define, return_, break_, continue_, inner, if_, for_, range_, switch, defer, label, no_stmts, stmt_and, no_block, some_block}
-use Rattle.go_words.specs.Terminals as terminal
-use Rattle.go_words.specs.Terminals.{Terminal, lex, binary_op, unary_sign, level_of, semicolon, colon, ellipsis, end_paren, key_defer, key_else}
+use Rattle.go_tree.specs.GoWords.Terminals as terminal
+use Rattle.go_tree.specs.GoWords.Terminals.{Terminal, lex, binary_op, unary_sign, level_of, semicolon, colon, ellipsis, end_paren, key_defer, key_else}
 use Rattle.go_read.specs.SpellsTypes.{Lexemes}
 use Rattle.go_read.specs.Spells.{starts_type, SpellsLiteralType, SpellsBare, SpellsOperand, SpellsExprs, SpellsArgs, no_args_rule, args_rule, rest_args_rule, SpellsSimple, SpellsStmt, SpellsStmts, SpellsBlock, SpellsSpec, named_literal_rule, qualified_literal_rule, type_literal_rule, type_rule, unary_rule, binary_rule, assign_rule, simple_rule, defer_rule, label_rule, braces_rule, repeated_rule, typed_var_rule, values_rule, typed_values_rule}
 use Rattle.go_read.specs.Bareness.{nowhere}
 use Rattle.go_layout.specs.Layouts.{Layout, line, op, ◌⊕◌}
-use Rattle.go_words.specs.Operators.{binary_spelling, unary_spelling, assign_spelling}
+use Rattle.go_tree.specs.GoWords.Operators.{binary_spelling, unary_spelling, assign_spelling}
 use Rattle.go_layout.specs.Parens.{needs_parens, last_ends_in_integer}
 use Rattle.go_layout.specs.TypeLayout.{names_layout, type_layout}
 use Rattle.go_layout.specs.TreeLayout.{gap_where, closes, rest_layout, exprs_layout, in_braces, equals_before, spec_type_layout, gives_semicolon}

@@ -4,7 +4,7 @@ use Rattle.std.specs.Prelude.{codes}
 use Rattle.go_tree.specs.declared.spans.Span.{Span}
 use Rattle.go_tree.specs.declared.exprs.Rest.{Rest}
 use Rattle.go_tree.specs.Tree.{NameAt, TypeExpr, Sig, Expr, Exprs, ExprOption, Elems, Value, ValueOption, Stmt, Stmts, StmtOption, BlockOption, RangeLeft, Arms, Cases, ValueSpecs, composite, selector, index, slice, call, func_lit, star, no_exprs, expr_and, no_elems, elem, no_value, some_value, braced, const_decl, var_decl, step, define, return_, break_, continue_, for_, range_, switch, no_stmt, some_stmt, some_block, assigns, defines, no_arms, arm, no_cases, case, no_specs, spec, label, defer, stmt_and}
-use Rattle.go_words.specs.Terminals.{lex, end_paren}
+use Rattle.go_tree.specs.GoWords.Terminals.{lex, end_paren}
 use Rattle.go_read.specs.SpellsTypes.{Lexemes, SpellsSig, SpellsNames}
 use Rattle.go_read.specs.Spells.{SpellsLiteralType, SpellsBare, SpellsExpr, SpellsOperand, SpellsOption, SpellsExprs, SpellsArgs, SpellsElems, SpellsElem, SpellsValue, SpellsSimple, SpellsPart, SpellsFirst, SpellsStmt, SpellsStmts, SpellsBlock, SpellsIf, SpellsArm, SpellsLeft, SpellsCases, SpellsDecl, SpellsSpec, SpellsSpecs, single_rule, more_specs_rule, more_stmts_rule, composite_rule, func_rule, selector_rule, index_rule, slice_rule, call_rule, star_rule, last_expr_rule, more_exprs_rule, last_elem_rule, more_elems_rule, value_rule, keyed_rule, braced_rule, increment_rule, decrement_rule, define_rule, part_rule, first_rule, const_rule, var_rule, break_rule, break_label_rule, continue_rule, continue_label_rule, while_rule, for_rule, range_rule, switch_rule, only_arm_rule, else_rule, else_if_rule, arm_rule, assigns_rule, defines_rule, case_rule, default_rule, group_rule, return_values_rule}
 use Rattle.go_read.specs.Bareness.{nowhere}

@@ -3,12 +3,12 @@ use Rattle.std.proofs.Common.{◌≡◌, ℕ, ◌+◌, ◌≤◌, Bool, true, fa
 use Rattle.go_tree.specs.declared.operators.UnOp.{UnOp}
 use Rattle.go_tree.specs.declared.operators.BinOp.{BinOp}
 use Rattle.go_tree.specs.Tree.{NameAt, TypeExpr, Expr, Exprs, ExprOption, Elems, Value, Stmt, Stmts, StmtOption, BlockOption, RangeLeft, Arms, Cases, ValueSpecs, ident, int_lit, rune_lit, str_lit, composite, selector, index, slice, call, func_lit, type_operand, unary, binary, star, no_exprs, expr_and, no_expr, some_expr, no_elems, elem, plain, braced, no_value, some_value, const_decl, var_decl, empty, eval, step, assign, define, return_, break_, continue_, inner, if_, for_, range_, switch, defer, label, no_stmts, stmt_and, no_stmt, some_stmt, no_block, some_block, nothing, assigns, defines, no_arms, arm, no_cases, case, no_specs, spec}
-use Rattle.go_words.specs.Terminals.{level_of}
+use Rattle.go_tree.specs.GoWords.Terminals.{level_of}
 use Rattle.go_read.specs.SpellsTypes.{Lexemes}
 use Rattle.go_read.specs.Spells.{SpellsBare, SpellsOption, SpellsExprs, SpellsElems, SpellsValue, SpellsPart, SpellsFirst, SpellsStmts, SpellsBlock, SpellsIf, SpellsLeft, SpellsCases, SpellsDecl, SpellsSpec, SpellsSpecs, SpellsOperand, SpellsSimple, ident_rule, int_rule, rune_rule, text_rule, operand_rule, no_expr_rule, some_expr_rule, no_elems_rule, plain_rule, eval_rule, no_part_rule, part_rule, no_first_rule, empty_rule, return_rule, block_rule, if_rule, no_stmts_rule, no_left_rule, no_cases_rule, no_specs_rule}
 use Rattle.go_read.specs.Bareness.{nowhere}
 use Rattle.go_layout.specs.Layouts.{Layout, within, deeper, ◌⊕◌, op}
-use Rattle.go_words.specs.Operators.{binary_spelling, unary_spelling, assign_spelling}
+use Rattle.go_tree.specs.GoWords.Operators.{binary_spelling, unary_spelling, assign_spelling}
 use Rattle.go_layout.specs.TypeLayout.{names_layout, type_layout, sig_layout}
 use Rattle.go_layout.specs.Parens.{needs_parens, is_integer, runs_into, header_within, closed_within}
 use Rattle.go_layout.specs.TreeLayout.{closes, rest_layout, spaced, clause_indent, gives_semicolon, spec_type_layout, equals_before, in_group, in_braces, expr_layout, exprs_layout, option_layout, test_layout, elems_layout, key_layout, value_layout, stmt_layout, stmts_layout, part_layout, post_layout, first_layout, arms_layout, last_layout, left_layout, cases_layout, specs_layout}

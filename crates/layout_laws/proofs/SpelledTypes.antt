@@ -2,7 +2,7 @@
 use Rattle.std.proofs.Common.{Bool, true, false, List, [], ◌∷◌, Option, Some, None, inl, inr}
 use Rattle.go_tree.specs.declared.spans.Span.{Span}
 use Rattle.go_tree.specs.Tree.{NameAt, TypeExpr, Fields, Param, Sig, named, pointer, slice_type, map_type, struct_type, no_fields, field}
-use Rattle.go_words.specs.Terminals.{lex, end_paren, end_brace}
+use Rattle.go_tree.specs.GoWords.Terminals.{lex, end_paren, end_brace}
 use Rattle.go_read.specs.SpellsTypes.{Lexemes, rest_rule, named_rest_rule, rest_named_rule, rest_unnamed_rule, SpellsType, SpellsFields, SpellsNamed, SpellsUnnamed, SpellsParams, SpellsResults, SpellsSig, SpellsNames, named_rule, qualified_rule, pointer_rule, slice_type_rule, map_type_rule, struct_type_rule, no_fields_rule, last_field_rule, more_fields_rule, last_entry_rule, last_named_rule, more_named_rule, last_unnamed_rule, more_unnamed_rule, no_params_rule, named_params_rule, unnamed_params_rule, no_results_rule, params_results_rule, type_result_rule, sig_rule, last_name_rule, more_names_rule}
 use Rattle.go_read.specs.Bareness.{nowhere}
 use Rattle.go_layout.specs.TypeLayout.{names_layout, type_layout, fields_layout, param_list_layout, params_layout, results_layout, sig_layout}

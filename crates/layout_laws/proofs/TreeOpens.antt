@@ -3,7 +3,7 @@ use Rattle.std.proofs.Common.{◌≡◌, ℕ, Bool, true, false, List, Option, S
 use Rattle.std.specs.Prelude.{codes}
 use Rattle.go_tree.specs.Tree.{NameAt, TypeExpr, Expr, Exprs, Elems, Value, ValueOption, Stmt, Arms, no_exprs, expr_and, no_elems, elem, plain, braced, no_value, some_value, const_decl, var_decl, empty, eval, step, assign, define, return_, break_, continue_, inner, if_, for_, range_, switch, defer, label, no_arms, arm, no_stmt, some_stmt}
 use Rattle.go_layout.specs.Layouts.{gap, line, op, name_layout, within, ◌⊕◌}
-use Rattle.go_words.specs.Operators.{assign_spelling}
+use Rattle.go_tree.specs.GoWords.Operators.{assign_spelling}
 use Rattle.go_layout.specs.TypeLayout.{names_layout, type_layout, dots_where, param_name_layout}
 use Rattle.go_layout.specs.Parens.{needs_parens, header_within, closed_within}
 use Rattle.go_layout.specs.TreeLayout.{spaced, step_spelling, comma_before_exprs, comma_before_elems, closed_before, comma_follows, expr_layout, exprs_layout, elems_layout, value_layout, stmt_layout, arms_layout, last_layout}

@@ -6,9 +6,9 @@ use Rattle.go_tree.specs.declared.spans.Span.{Span}
 use Rattle.go_tree.specs.declared.tokens.Token.{Token}
 use Rattle.go_tree.specs.Tree.{TypeExpr, Sig, Expr, Stmts}
 use Rattle.go_tree.specs.Bare.{bare_type, bare_sig, bare_expr, bare_stmts}
-use Rattle.go_words.specs.Tokens.{TokensOf, tokens_from, pieces_size}
-use Rattle.go_words.specs.Tokens.Pieces.{Piece, CutsTo}
-use Rattle.go_words.specs.Terminals.{lexemes}
+use Rattle.go_tree.specs.GoWords.Tokens.{TokensOf, tokens_from, pieces_size}
+use Rattle.go_tree.specs.GoWords.Tokens.Pieces.{Piece, CutsTo}
+use Rattle.go_tree.specs.GoWords.Terminals.{lexemes}
 use Rattle.go_read.specs.SpellsTypes.{Lexemes, SpellsType, SpellsSig}
 use Rattle.go_read.specs.Spells.{SpellsStmts, operand_rule}
 use Rattle.go_read.specs.SpellsSpans.{span_to}

@@ -9,8 +9,16 @@ use Rattle.go_tree.specs.declared.tokens.TokenKind.{TokenKind}
 use Rattle.go_tree.specs.declared.tokens.TokenKind.TheVariants.{Ident, Integer, Rune, Str}
 use Rattle.go_tree.specs.declared.exprs.Rest.{Rest}
 use Rattle.go_tree.specs.declared.exprs.Rest.TheVariants.{Plain, Whole, Packed, Empty}
-use Rattle.go_tree.specs.Tree.{NameAt, TypeExpr, Fields, Param, Sig, Expr, Exprs, ExprOption, Elems, Value, ValueOption, Stmt, Stmts, StmtOption, BlockOption, RangeLeft, Arms, Cases, ValueSpecs, named, pointer, slice_type, map_type, struct_type, no_fields, field, ident, int_lit, rune_lit, str_lit, composite, selector, index, slice, call, func_lit, type_operand, unary, binary, star, no_exprs, expr_and, no_expr, some_expr, no_elems, elem, plain, braced, no_value, some_value, const_decl, var_decl, empty, eval, step, assign, define, return_, break_, continue_, inner, if_, for_, range_, switch, defer, label, no_stmts, stmt_and, no_stmt, some_stmt, no_block, some_block, nothing, assigns, defines, no_arms, arm, no_cases, case, no_specs, spec}
-use Rattle.go_words.specs.Tokens.Pieces.{token, IsPiece}
+use Rattle.go_tree.specs.Tree.{NameAt, TypeExpr, Fields, Param, Sig, Expr, Exprs, ExprOption, Elems, Value, ValueOption}
+use Rattle.go_tree.specs.Tree.{Stmt, Stmts, StmtOption, BlockOption, RangeLeft, Arms, Cases, ValueSpecs, named, pointer}
+use Rattle.go_tree.specs.Tree.{slice_type, map_type, struct_type, no_fields, field, ident, int_lit, rune_lit, str_lit}
+use Rattle.go_tree.specs.Tree.{composite, selector, index, slice, call, func_lit, type_operand, unary, binary, star}
+use Rattle.go_tree.specs.Tree.{no_exprs, expr_and, no_expr, some_expr, no_elems, elem, plain, braced, no_value}
+use Rattle.go_tree.specs.Tree.{some_value, const_decl, var_decl, empty, eval, step, assign, define, return_, break_}
+use Rattle.go_tree.specs.Tree.{continue_, inner, if_, for_, range_, switch, defer, label, no_stmts, stmt_and, no_stmt}
+use Rattle.go_tree.specs.Tree.{some_stmt, no_block, some_block, nothing, assigns, defines, no_arms, arm, no_cases, case}
+use Rattle.go_tree.specs.Tree.{no_specs, spec}
+use Rattle.go_tree.specs.GoWords.Tokens.Pieces.{token, IsPiece}
 use Rattle.go_read.specs.Spells.{is_func_lit}
 
 -- the bytes are the spelling of a token of this kind

@@ -1,9 +1,10 @@
 -- A layout whose pieces are those of its text, in front of what follows.
-use Rattle.std.specs.Prelude.{◌≡◌, ℕ, ◌==◌, Bool, true, ◌||◌, List, [], ◌∷◌, ◌++◌, encode_utf8_all}
+use Rattle.std.specs.Prelude.{◌≡◌, ℕ, ◌==◌, Bool, true, ◌||◌, List, [], ◌∷◌, ◌++◌}
+use Rattle.std.specs.Prelude.{encode_utf8_all}
 use Rattle.std.specs.Str.{all_scalars}
 use Rattle.go_tree.specs.declared.tokens.TokenKind.{TokenKind}
-use Rattle.go_words.specs.Tokens.Characters.{each}
-use Rattle.go_words.specs.Tokens.Pieces.{blanks, token, IsNext}
+use Rattle.go_tree.specs.GoWords.Tokens.Characters.{each}
+use Rattle.go_tree.specs.GoWords.Tokens.Pieces.{blanks, token, IsNext}
 use Rattle.go_layout.specs.Layouts.{Layout, no_text, a_token, gap, line, ◌⊕◌}
 use Rattle.layout_laws.specs.LayoutPieces.{word_of, letters_of, due_of}
 

@@ -1,15 +1,16 @@
 -- What is written for a tree spells the tree.
-use Rattle.std.specs.Prelude.{◌≡◌, ℕ, ◌+◌, ◌≤◌, ◌==◌, Bool, true, false, not, ◌&&◌, List, [], ◌∷◌, ◌++◌, Option, None, is_some, encode_utf8_all}
+use Rattle.std.specs.Prelude.{◌≡◌, ℕ, ◌+◌, ◌≤◌, ◌==◌, Bool, true, false, not, ◌&&◌, List, []}
+use Rattle.std.specs.Prelude.{◌∷◌, ◌++◌, Option, None, is_some, encode_utf8_all}
 use Rattle.std.specs.Str.{all_scalars}
 use Rattle.go_tree.specs.declared.spans.Span.{Span}
 use Rattle.go_tree.specs.declared.tokens.Token.{Token}
 use Rattle.go_tree.specs.declared.tokens.Comment.{Comment}
 use Rattle.go_tree.specs.Tree.{TypeExpr, Sig, Expr, Stmts, no_stmts, stmt_and}
 use Rattle.go_tree.specs.Bare.{bare_type, bare_sig, bare_expr, bare_stmts}
-use Rattle.go_words.specs.Tokens.Characters.{is_word}
-use Rattle.go_words.specs.Tokens.{TokensOf, tokens_from, pieces_size}
-use Rattle.go_words.specs.Tokens.Pieces.{Piece, CutsTo}
-use Rattle.go_words.specs.Terminals.{lex, lexemes, semicolon, end_brace}
+use Rattle.go_tree.specs.GoWords.Tokens.Characters.{is_word}
+use Rattle.go_tree.specs.GoWords.Tokens.{TokensOf, tokens_from, pieces_size}
+use Rattle.go_tree.specs.GoWords.Tokens.Pieces.{Piece, CutsTo}
+use Rattle.go_tree.specs.GoWords.Terminals.{lex, lexemes, semicolon, end_brace}
 use Rattle.go_read.specs.SpellsTypes.{Lexemes, SpellsType, SpellsSig}
 use Rattle.go_read.specs.Spells.{SpellsOperand, SpellsStmts}
 use Rattle.go_read.specs.SpellsSpans.{span_to}

@@ -3,8 +3,8 @@ use Rattle.std.specs.Prelude.{ℕ, ◌+◌, Bool, false, List, [], ◌∷◌, �
 use Rattle.std.specs.Str.{chars}
 use Rattle.go_tree.specs.declared.tokens.TokenKind.{TokenKind}
 use Rattle.go_tree.specs.declared.tokens.TokenKind.TheVariants.{Keyword, Operator}
-use Rattle.go_words.specs.Tokens.{size_of, ends_line, due_after}
-use Rattle.go_words.specs.Tokens.Pieces.{blanks, token, Piece}
+use Rattle.go_tree.specs.GoWords.Tokens.{size_of, ends_line, due_after}
+use Rattle.go_tree.specs.GoWords.Tokens.Pieces.{blanks, token, Piece}
 use Rattle.go_layout.specs.Layouts.{Layout, no_text, a_token, gap, line, ◌⊕◌}
 
 -- the characters of a token; keywords and operators are written in ASCII

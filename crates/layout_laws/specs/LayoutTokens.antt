@@ -2,7 +2,7 @@
 use Rattle.std.specs.Prelude.{ℕ, true, false, List, ◌∷◌}
 use Rattle.go_tree.specs.declared.spans.Span.{Span}
 use Rattle.go_tree.specs.declared.tokens.TokenKind.{TokenKind}
-use Rattle.go_words.specs.Terminals.{lex, terminal_of, semicolon}
+use Rattle.go_tree.specs.GoWords.Terminals.{lex, terminal_of, semicolon}
 use Rattle.go_read.specs.SpellsTypes.{Lexemes}
 use Rattle.go_layout.specs.Layouts.{Layout, no_text, a_token, gap, line, ◌⊕◌}
 

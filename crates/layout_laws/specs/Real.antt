@@ -1,7 +1,7 @@
 -- Terminals that are tokens of a text.
 use Rattle.std.specs.Prelude.{◌≡◌, true, [], ◌∷◌}
 use Rattle.go_tree.specs.declared.tokens.TokenKind.TheVariants.{Ident, Integer, Rune, Str}
-use Rattle.go_words.specs.Terminals.{Terminal, lex, ident, int_lit, rune_lit, str_lit, assign}
+use Rattle.go_tree.specs.GoWords.Terminals.{Terminal, lex, ident, int_lit, rune_lit, str_lit, assign}
 use Rattle.go_read.specs.SpellsTypes.{Lexemes}
 use Rattle.layout_laws.specs.Formed.{IsToken, is_assign}
 

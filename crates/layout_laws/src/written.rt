@@ -6,7 +6,8 @@ ghost use Rattle.go_tree.specs.Tree.{TypeExpr, Sig, Expr, Stmts};
 ghost use Rattle.go_tree.specs.Bare.{bare_type, bare_sig, bare_expr, bare_stmts};
 ghost use Rattle.layout_laws.specs.Formed.{FormedType, FormedSig, FormedOperand, FormedStmts};
 ghost use Rattle.layout_laws.specs.Laid.{is_indent};
-ghost use Rattle.layout_laws.specs.Laws.{IsSpelledType, IsSpelledSig, SigIsWritten, IsSpelledExpr, IsSpelledStmts, TypeIsWritten, ExprIsWritten, StmtsAreWritten};
+ghost use Rattle.layout_laws.specs.Laws.{IsSpelledType, IsSpelledSig, SigIsWritten, IsSpelledExpr, IsSpelledStmts};
+ghost use Rattle.layout_laws.specs.Laws.{TypeIsWritten, ExprIsWritten, StmtsAreWritten};
 
 /// For each tree that some tokens of a text spell, the tokens of its layout's text spell the tree again: an expression
 /// in

@@ -5,28 +5,28 @@ use mathlib.Core.Path.{ap, sym, ◌∙◌, subst}
 use Rattle.std.proofs.Common.{arith}
 use Rattle.go_tree.specs.Tree.{NameAt, Exprs, no_exprs, expr_and, const_decl, ValueSpecs, no_specs, spec}
 use Rattle.go_tree.specs.File.{Func, Decl, values, types, func, TypeSpec}
-use Rattle.scope_names.specs.FreeNames.{names_of}
-use Rattle.scope_names.specs.Means.{Environment, means, is_blank}
+use Rattle.go_tree.specs.ScopeNames.FreeNames.{names_of}
+use Rattle.go_tree.specs.ScopeNames.Means.{Environment, means, is_blank}
 use Rattle.pkg_graph.specs.Package.{Package}
 use Rattle.pkg_graph.specs.Members.{Target, local, imported, member, predeclared, package_block}
-use Rattle.go_types.specs.Answers.{given, meets}
-use Rattle.go_types.specs.Entities.{Entity, function, package_name, package_of, exported, is_exported, block_of, universe}
-use Rattle.go_types.specs.Programs.{SourcePackage, Program, headed}
-use Rattle.go_types.specs.WellTyped.{well_typed}
-use Rattle.go_types.proofs.Agreeing.{some_same}
+use Rattle.go_tree.specs.GoTypes.Answers.{given, meets}
+use Rattle.go_tree.specs.GoTypes.Entities.{Entity, function, package_name, package_of, exported, is_exported, block_of, universe}
+use Rattle.go_tree.specs.GoTypes.Programs.{SourcePackage, Program, headed}
+use Rattle.go_tree.specs.GoTypes.WellTyped.{well_typed}
+use Rattle.go_tree.proofs.GoTypes.Agreeing.{some_same}
 use Rattle.form_meaning.specs.FormInPlace.Places.{is_member, means_function}
 use Rattle.run_rules.specs.Surroundings.{Place, is_local}
 use Rattle.run_rules.specs.Programs.{linked, linked_file, world, top_env}
 use Rattle.run_rules.specs.Sites.{MarkRef, Where, Inlinable, a_constant, an_alias, a_function, is_free_function, inlinable, inlinable_in, nth_constant, constant_in_spec, less, aliased, is_among_marks, mark_of, imported_by, outer, import_number, members_in, member_of, marked_as}
-use Rattle.written_literal.specs.LinkedNames.{NoneNumbered, Standing}
-use Rattle.written_literal.specs.Meant.{FileMeant}
-use Rattle.written_literal.proofs.FilesMeant.{file_meant}
-use Rattle.constant_steps.specs.Alone.{block_from, PackageAt, this_package, a_later_package}
-use Rattle.constant_steps.proofs.NamesOutside.{member_there, linked_block}
-use Rattle.constant_steps.proofs.MarksFound.{member_of_mark, named_member, StandsThere, stands_there, DeclaredThere, declared_there, nth_mapped}
-use Rattle.constant_steps.proofs.QualifiedSteps.UsesMeant.{has_number}
-use Rattle.cycle_laws.proofs.Called.{Callees}
-use Rattle.cycle_laws.proofs.Walked.{callees}
+use Rattle.splice_laws.specs.WrittenLiteral.LinkedNames.{NoneNumbered, Standing}
+use Rattle.splice_laws.specs.WrittenLiteral.Meant.{FileMeant}
+use Rattle.splice_laws.proofs.WrittenLiteral.FilesMeant.{file_meant}
+use Rattle.splice_laws.specs.ConstantSteps.Alone.{block_from, PackageAt, this_package, a_later_package}
+use Rattle.splice_laws.proofs.ConstantSteps.NamesOutside.{member_there, linked_block}
+use Rattle.splice_laws.proofs.ConstantSteps.MarksFound.{member_of_mark, named_member, StandsThere, stands_there, DeclaredThere, declared_there, nth_mapped}
+use Rattle.splice_laws.proofs.ConstantSteps.QualifiedSteps.UsesMeant.{has_number}
+use Rattle.order_runs.proofs.CycleLaws.Called.{Callees}
+use Rattle.order_runs.proofs.CycleLaws.Walked.{callees}
 use Rattle.typed_in_place.specs.Declared.{HasNumber}
 use Rattle.literal_steps.specs.FirstFunctions.{FirstFunction}
 use Rattle.literal_steps.proofs.FilesKnown.{nothing_else}

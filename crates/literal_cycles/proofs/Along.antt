@@ -1,21 +1,21 @@
 -- Two places of one body, in the function and where it is written, and what the names there say of calls.
 use Rattle.std.proofs.Common.{◌≡◌, refl, sym, ap, ◌∙◌, ℕ, Bool, true, false, ◌||◌, List, [], ◌∷◌, ◌++◌, Option, Some, None, if◌then◌else◌, arith}
 use Rattle.go_tree.specs.Tree.{NameAt, const_decl, func_lit}
-use Rattle.scope_names.specs.FreeNames.{names_of}
-use Rattle.scope_names.specs.Means.{Environment, means}
+use Rattle.go_tree.specs.ScopeNames.FreeNames.{names_of}
+use Rattle.go_tree.specs.ScopeNames.Means.{Environment, means}
 use Rattle.pkg_graph.specs.Members.{Target}
-use Rattle.go_types.specs.Answers.{is_among}
-use Rattle.go_types.specs.Entities.{Entity, World, Env, Binds, package_of, exported, extend, in_block}
-use Rattle.go_types.specs.Statements.{bound_names}
-use Rattle.go_types.specs.TypeNames.{func_type}
+use Rattle.go_tree.specs.GoTypes.Answers.{is_among}
+use Rattle.go_tree.specs.GoTypes.Entities.{Entity, World, Env, Binds, package_of, exported, extend, in_block}
+use Rattle.go_tree.specs.GoTypes.Statements.{bound_names}
+use Rattle.go_tree.specs.GoTypes.TypeNames.{func_type}
 use Rattle.form_meaning.specs.FormInPlace.Places.{Landing, means_function}
 use Rattle.form_meaning.proofs.FormInPlace.Uses.{among_append}
 use Rattle.run_rules.specs.Surroundings.{Seen, seen, seen_stmt}
 use Rattle.run_rules.specs.Sites.{MarkRef}
-use Rattle.written_literal.specs.Within.{Within, Grows}
-use Rattle.written_literal.proofs.WithinLaws.{blocked, entered}
-use Rattle.cycle_laws.proofs.Called.{Callees, meaning_past}
-use Rattle.cycle_laws.proofs.Walked.{names-append}
+use Rattle.splice_laws.specs.WrittenLiteral.Within.{Within, Grows}
+use Rattle.splice_laws.proofs.WrittenLiteral.WithinLaws.{blocked, entered}
+use Rattle.order_runs.proofs.CycleLaws.Called.{Callees, meaning_past}
+use Rattle.order_runs.proofs.CycleLaws.Walked.{names-append}
 use Rattle.std.specs.Prelude.{is_some}
 
 -- ---- parts that hold no group of constants, and whose literals of functions have types

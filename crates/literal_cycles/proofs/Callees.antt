@@ -2,21 +2,21 @@
 use Rattle.std.proofs.Common.{◌≡◌, refl, sym, ap, ◌∙◌, ℕ, Bool, true, false, List, Option, Some, None, if◌then◌else◌, arith}
 use Rattle.std.specs.Prelude.{is_some}
 use Rattle.go_tree.specs.Tree.{NameAt, Expr, ident, selector}
-use Rattle.scope_names.specs.Means.{Environment, means}
+use Rattle.go_tree.specs.ScopeNames.Means.{Environment, means}
 use Rattle.pkg_graph.specs.Members.{Target}
-use Rattle.go_types.specs.Answers.{given, otherwise, is_among}
-use Rattle.go_types.specs.Types.{GoType, base_of, type_name_of}
-use Rattle.go_types.specs.Defined.{Defined}
-use Rattle.go_types.specs.Entities.{Content, Entity, function, World, Env, meaning, package_of, exported, defined_in}
-use Rattle.go_types.specs.Operands.{Operand, value, typed}
-use Rattle.go_types.specs.Primary.{field_type}
-use Rattle.go_types.specs.Typing.{parts}
+use Rattle.go_tree.specs.GoTypes.Answers.{given, otherwise, is_among}
+use Rattle.go_tree.specs.GoTypes.Types.{GoType, base_of, type_name_of}
+use Rattle.go_tree.specs.GoTypes.Defined.{Defined}
+use Rattle.go_tree.specs.GoTypes.Entities.{Content, Entity, function, World, Env, meaning, package_of, exported, defined_in}
+use Rattle.go_tree.specs.GoTypes.Operands.{Operand, value, typed}
+use Rattle.go_tree.specs.GoTypes.Primary.{field_type}
+use Rattle.go_tree.specs.GoTypes.Typing.{parts}
 use Rattle.form_meaning.specs.FormInPlace.Places.{at_place, Landing, is_member, has_home, means_function, SelectorAlike}
 use Rattle.form_meaning.specs.FormInPlace.Leaves.{Leaf, member, imported, own, argument}
 use Rattle.form_meaning.specs.FormInPlace.Written.{Written, w_leaf, w_local, w_outer, w_selector}
 use Rattle.form_meaning.proofs.FormInPlace.Fields.{field_seen}
 use Rattle.form_meaning.proofs.FormInPlace.InPlace.{parts_there}
-use Rattle.cycle_laws.proofs.Called.{Callees, home_of_method, meaning_past, member_or, callee}
+use Rattle.order_runs.proofs.CycleLaws.Called.{Callees, home_of_method, meaning_past, member_or, callee}
 use Rattle.literal_cycles.proofs.Along.{NamesAgree, function_if, Along, beside, inner_here, inner_there, outer_here, outer_there}
 
 -- the type on which a method is declared, by the operand before the dot
@@ -30,7 +30,7 @@ home_alike ds h k n (Some o) f = refl
 
 -- a member is no package
 no_package : (e : Entity) → is_member e ≡ true → package_of (Some e) ≡ None
-no_package (Rattle.go_types.specs.Entities.package_name p) h = absurd (grind (arith, h))
+no_package (Rattle.go_tree.specs.GoTypes.Entities.package_name p) h = absurd (grind (arith, h))
 no_package e h = refl
 
 module _ (site : Landing) (world : World) (K : ℕ) (outside there : Environment Entity) (C : Callees) (M : List ℕ → Option Target) (P : Option Target → Option ℕ) (puts : site.puts ≡ false) (agree : NamesAgree C M P world K site.home outside there site.around) where

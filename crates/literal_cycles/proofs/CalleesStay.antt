@@ -2,10 +2,10 @@
 use Rattle.std.proofs.Common.{◌≡◌, refl, sym, ap, ◌∙◌, ℕ, Bool, true, false, List, Some, None, if◌then◌else◌, arith}
 use Rattle.go_tree.specs.Tree.{NameAt, Expr, ident, int_lit, rune_lit, str_lit, selector, call}
 use Rattle.pkg_graph.specs.Package.{Package}
-use Rattle.go_types.specs.Answers.{given, otherwise}
-use Rattle.go_types.specs.Types.{base_of, type_name_of}
-use Rattle.go_types.specs.Entities.{defined_in}
-use Rattle.go_types.specs.Primary.{field_type}
+use Rattle.go_tree.specs.GoTypes.Answers.{given, otherwise}
+use Rattle.go_tree.specs.GoTypes.Types.{base_of, type_name_of}
+use Rattle.go_tree.specs.GoTypes.Entities.{defined_in}
+use Rattle.go_tree.specs.GoTypes.Primary.{field_type}
 use Rattle.run_rules.specs.Surroundings.{Use, called, other, Place, inner_slot, callee_place}
 use Rattle.run_rules.specs.Rewriting.{Changes, new_expr}
 use Rattle.run_rules.specs.Classes.{type_at}
@@ -14,7 +14,7 @@ use Rattle.run_rules.specs.FormTrees.{as_expr}
 use Rattle.run_rules.specs.Forms.{is_at}
 use Rattle.run_rules.specs.Steps.{At, same_here, changes_for}
 use Rattle.form_cycles.specs.Puts.{CalleeStays}
-use Rattle.written_literal.specs.Fine.{is_call}
+use Rattle.splice_laws.specs.WrittenLiteral.Fine.{is_call}
 use Rattle.literal_cycles.specs.Around.{before_dot, CalledStays}
 use Rattle.std.specs.Prelude.{is_some}
 

@@ -11,14 +11,14 @@ use Rattle.go_tree.specs.declared.exprs.Rest.TheVariants.{Plain}
 use Rattle.go_tree.specs.declared.operators.BinOp.TheVariants.{Add}
 use Rattle.go_tree.specs.Tree.{NameAt, named, Param, Sig, Expr, ident, int_lit, call, func_lit, binary, no_exprs, expr_and, Stmt, eval, define, assign, return_, Stmts, no_stmts, stmt_and}
 use Rattle.go_tree.specs.File.{Func, func}
-use Rattle.scope_names.specs.Identifiers.{stmts_identifiers}
-use Rattle.scope_names.specs.Means.{means}
+use Rattle.go_tree.specs.ScopeNames.Identifiers.{stmts_identifiers}
+use Rattle.go_tree.specs.ScopeNames.Means.{means}
 use Rattle.pkg_graph.specs.Package.{SourceTree, Package}
 use Rattle.param_choice.specs.Chosen.{has}
-use Rattle.go_types.specs.Agreement.{head}
-use Rattle.go_types.specs.Types.{basic}
-use Rattle.const_eval.specs.declared.kinds.Kind.TheVariants as kind
-use Rattle.go_types.specs.Entities.{variable, meaning}
+use Rattle.go_tree.specs.GoTypes.Agreement.{head}
+use Rattle.go_tree.specs.GoTypes.Types.{basic}
+use Rattle.go_tree.specs.declared.const_eval.kinds.Kind.TheVariants as kind
+use Rattle.go_tree.specs.GoTypes.Entities.{variable, meaning}
 use Rattle.go_translation.specs.Packages as translated
 use Rattle.run_rules.specs.Surroundings.{whole, other, Place, a_slot, in_slot, at_stmt, after_stmt, in_literal, is_local}
 use Rattle.run_rules.specs.Places.{expr_seen, sig_seen, stmts_seen}
@@ -30,12 +30,12 @@ use Rattle.run_rules.specs.Obstacles.{Shadowed}
 use Rattle.run_rules.specs.Reduced.{kept, reduced}
 use Rattle.run_rules.specs.Steps.{At, same_here, changes_for}
 use Rattle.run_rules.proofs.CaseTools.{mark}
-use Rattle.written_literal.specs.LinkedNames.{Standing}
-use Rattle.constant_steps.specs.Alone.{this_package}
-use Rattle.constant_steps.specs.PlainUse.{linked_at}
-use Rattle.cycle_laws.specs.PutCalls.{called_among}
-use Rattle.cycle_laws.proofs.ConstantCycles.Examples.{node}
-use Rattle.cycle_runs.specs.BodiesThere.There.{AllCalledSo}
+use Rattle.splice_laws.specs.WrittenLiteral.LinkedNames.{Standing}
+use Rattle.splice_laws.specs.ConstantSteps.Alone.{this_package}
+use Rattle.splice_laws.specs.ConstantSteps.PlainUse.{linked_at}
+use Rattle.order_runs.specs.CycleLaws.PutCalls.{called_among}
+use Rattle.order_runs.proofs.CycleLaws.ConstantCycles.Examples.{node}
+use Rattle.order_runs.specs.CycleRuns.BodiesThere.There.{AllCalledSo}
 use Rattle.literal_steps.specs.LiteralUse.{LiteralUse, call_of, names_of_form, plainly, PlainCall}
 use Rattle.literal_steps.specs.CalledAt.{CalledAt, Linked, PackagesServe}
 use Rattle.literal_steps.proofs.PartsHere.{all_here}

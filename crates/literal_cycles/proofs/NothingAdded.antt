@@ -7,8 +7,8 @@ use Rattle.run_rules.specs.Naming.{imports_added}
 use Rattle.run_rules.specs.Sites.{MarkRef, Where}
 use Rattle.run_rules.specs.Steps.{At, change_nth, added_decls}
 use Rattle.run_rules.specs.Run.{Standing, Logged, Next}
-use Rattle.cycle_runs.specs.ImportCycles.ImportSteps.{file_added, packages_added, where_added}
-use Rattle.cycle_runs.proofs.StepCycles.StepAlike.{found-placed}
+use Rattle.order_runs.specs.CycleRuns.ImportCycles.ImportSteps.{file_added, packages_added, where_added}
+use Rattle.order_runs.proofs.CycleRuns.StepCycles.StepAlike.{found-placed}
 
 append_none : {A : Type 0} (xs : List A) → xs ++ [] ≡ xs
 append_none [] = refl

@@ -4,8 +4,8 @@ use Rattle.std.proofs.lemmas.Option.{same_Some}
 use Rattle.go_tree.specs.Tree.{TypeExpr, Expr, const_decl, var_decl, ValueSpecs, no_specs, spec}
 use Rattle.go_tree.specs.File.{TypeSpec, Receiver, Decl, values, types, func}
 use Rattle.pkg_graph.specs.Package.{SourceTree, Package}
-use Rattle.go_types.specs.Answers.{one_of}
-use Rattle.go_types.specs.Entities.{Env}
+use Rattle.go_tree.specs.GoTypes.Answers.{one_of}
+use Rattle.go_tree.specs.GoTypes.Entities.{Env}
 use Rattle.go_translation.specs.Packages as translated
 use Rattle.run_rules.specs.Surroundings.{Use, other, Place, Seen, seen, seen_type, seen_stmt, in_constant}
 use Rattle.run_rules.specs.Programs.{in_dependency_order, numbered, world, top_env, top_place, body_place, headed_func, constants_at_top, variables_at_top, types_at_top, receiver_seen, decl_seen}
@@ -13,7 +13,7 @@ use Rattle.run_rules.specs.Sites.{MarkRef, Where, an_expr, a_type_part, Site, na
 use Rattle.run_rules.specs.Reduced.{Reduced, becomes, kept, reduced}
 use Rattle.run_rules.specs.Steps.{At, Found, same_here, found_by, first_found}
 use Rattle.run_rules.specs.Run.{Standing, Logged, Next, is_commented}
-use Rattle.constant_steps.proofs.StepLaws.DeclUses.{body-begins}
+use Rattle.splice_laws.proofs.ConstantSteps.StepLaws.DeclUses.{body-begins}
 use Rattle.literal_steps.specs.CalledAt.{CalledAt}
 use Rattle.literal_cycles.specs.Uses.{place_of_use}
 use Rattle.literal_cycles.proofs.PlacesOut.{Out, AllOut, join, out_constant, sig_out, written_out, all_exprs_out, stmts_out}

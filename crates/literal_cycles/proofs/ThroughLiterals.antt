@@ -6,9 +6,9 @@ use Rattle.std.proofs.lemmas.List.Folds.{list_any-append}
 use Rattle.std.proofs.lemmas.Option.{same_Some}
 use Rattle.go_tree.specs.Tree.{Expr}
 use Rattle.go_tree.specs.File.{Func, func}
-use Rattle.scope_names.specs.FreeNames.{names_of}
+use Rattle.go_tree.specs.ScopeNames.FreeNames.{names_of}
 use Rattle.pkg_graph.specs.Package.{Package}
-use Rattle.go_types.specs.Answers.{meets}
+use Rattle.go_tree.specs.GoTypes.Answers.{meets}
 use Rattle.run_rules.specs.Surroundings.{other, Place, Seen, seen, seen_type, seen_stmt}
 use Rattle.run_rules.specs.Places.{expr_seen, all_seen, sig_seen, stmts_seen}
 use Rattle.run_rules.specs.Programs.{top_place, body_place, receiver_seen}
@@ -19,15 +19,15 @@ use Rattle.run_rules.specs.Reduced.{Reduced, becomes, kept}
 use Rattle.run_rules.specs.Steps.{At, same_here, changes_for}
 use Rattle.run_rules.specs.Cycles.{leads_to, LeadsTo, is_recursive}
 use Rattle.run_rules.specs.Run.{Standing, Logged, Next, is_commented}
-use Rattle.cycle_laws.specs.PutCalls.{called_among}
-use Rattle.cycle_laws.proofs.Called.{Callees, called_by, callee, calls_expr, calls_stmts}
-use Rattle.cycle_laws.proofs.Walked.{callees, callee-is, expr-led, all-led, stmts-led}
-use Rattle.cycle_laws.proofs.ConstantCycles.OffCycles.{one_mark}
-use Rattle.cycle_runs.specs.ImportCycles.ImportSteps.{file_added, where_added}
-use Rattle.cycle_runs.specs.Linked.{Linked, SettlesFile}
-use Rattle.cycle_runs.proofs.FoundUses.NoRecursive.{step-form}
-use Rattle.cycle_runs.proofs.LiteralCalls.Through.{body-led}
-use Rattle.constant_steps.proofs.MarksFound.{declared_there}
+use Rattle.order_runs.specs.CycleLaws.PutCalls.{called_among}
+use Rattle.order_runs.proofs.CycleLaws.Called.{Callees, called_by, callee, calls_expr, calls_stmts}
+use Rattle.order_runs.proofs.CycleLaws.Walked.{callees, callee-is, expr-led, all-led, stmts-led}
+use Rattle.order_runs.proofs.CycleLaws.ConstantCycles.OffCycles.{one_mark}
+use Rattle.order_runs.specs.CycleRuns.ImportCycles.ImportSteps.{file_added, where_added}
+use Rattle.order_runs.specs.CycleRuns.Linked.{Linked, SettlesFile}
+use Rattle.order_runs.proofs.CycleRuns.FoundUses.NoRecursive.{step-form}
+use Rattle.order_runs.proofs.CycleRuns.LiteralCalls.Through.{body-led}
+use Rattle.splice_laws.proofs.ConstantSteps.MarksFound.{declared_there}
 use Rattle.form_cycles.specs.Bodies.{StandsInFunction, changes_of}
 use Rattle.form_cycles.specs.Puts.{ExprCallsThrough, CalleeStays, AllPutThrough, PutsInBody}
 use Rattle.form_cycles.proofs.FormSteps.{calls-change, call-step}
@@ -36,15 +36,15 @@ use Rattle.literal_steps.proofs.NoObstacle.{clear}
 use Rattle.literal_cycles.specs.Around.{CalledStays, AllStayAround}
 use Rattle.literal_cycles.specs.Uses.{place_of_use, TypedLiteral, PutsLiteral}
 use Rattle.literal_cycles.proofs.CalleesStay.{callees_stay}
-use Rattle.written_literal.specs.Fine.{is_call}
+use Rattle.splice_laws.specs.WrittenLiteral.Fine.{is_call}
 use Rattle.literal_cycles.proofs.Agreed.{func_of_decl}
 use Rattle.literal_cycles.proofs.LiteralLed.{form_calls}
 use Rattle.literal_cycles.proofs.SitesOut.{stands_so}
 use Rattle.literal_cycles.proofs.NothingAdded.{same_where, same_packages}
-use Rattle.constant_steps.specs.PlainUse.{AllTheUse}
-use Rattle.run_laws.specs.Reading.{ProgramReads}
+use Rattle.splice_laws.specs.ConstantSteps.PlainUse.{AllTheUse}
+use Rattle.splice_laws.specs.RunLaws.Reading.{ProgramReads}
 use Rattle.order_runs.proofs.RunSteps.UsesAlone.{stands-alone}
-use Rattle.go_types.proofs.Agreeing.{some_same}
+use Rattle.go_tree.proofs.GoTypes.Agreeing.{some_same}
 
 append_none : {A : Type 0} (xs : List A) → xs ++ [] ≡ xs
 append_none [] = refl

@@ -3,19 +3,19 @@ use Rattle.std.proofs.Common.{◌≡◌, refl, ap, ◌∙◌, ◌⊎◌, inl, in
 use Rattle.std.specs.Prelude.{slice_get}
 use Rattle.go_tree.specs.File.{TypeSpec, Decl, values, types, func}
 use Rattle.pkg_graph.specs.Package.{SourceTree, Package}
-use Rattle.go_types.specs.Answers.{given, meets}
+use Rattle.go_tree.specs.GoTypes.Answers.{given, meets}
 use Rattle.run_rules.specs.Surroundings.{Place, Seen, seen_type}
 use Rattle.run_rules.specs.Programs.{decl_seen, types_at_top, top_place}
 use Rattle.run_rules.specs.Sites.{MarkRef, is_among_marks, Where, inlinable, is_function, sites_among, parts_of}
 use Rattle.run_rules.specs.Cycles.{function_marks, leads_to}
 use Rattle.run_rules.specs.Steps.{At}
 use Rattle.run_rules.specs.Run.{Standing, Logged, Next, here_of}
-use Rattle.run_laws.proofs.FoundSpans.{Placed}
+use Rattle.splice_laws.proofs.RunLaws.FoundSpans.{Placed}
 use Rattle.go_tree.specs.declared.spans.Span.{Span}
-use Rattle.cycle_laws.specs.PutCalls.{mark_there}
-use Rattle.cycle_laws.proofs.Walked.{led, app, type-led}
-use Rattle.cycle_runs.proofs.StepCycles.StepAlike.{found-placed}
-use Rattle.cycle_runs.proofs.StepCycles.CallsKept.{step-led}
+use Rattle.order_runs.specs.CycleLaws.PutCalls.{mark_there}
+use Rattle.order_runs.proofs.CycleLaws.Walked.{led, app, type-led}
+use Rattle.order_runs.proofs.CycleRuns.StepCycles.StepAlike.{found-placed}
+use Rattle.order_runs.proofs.CycleRuns.StepCycles.CallsKept.{step-led}
 use Rattle.form_cycles.specs.Bodies.{StandsInFunction}
 use Rattle.literal_cycles.specs.Stands.{StandsInValues}
 

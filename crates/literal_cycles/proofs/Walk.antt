@@ -2,21 +2,21 @@
 use Rattle.std.proofs.Common.{◌≡◌, refl, sym, ap, ◌∙◌, ℕ, suc, Bool, true, false, List, [], ◌∷◌, ◌++◌, Option, Some, None, if◌then◌else◌, arith}
 use Rattle.std.specs.Prelude.{is_some}
 use Rattle.go_tree.specs.Tree.{NameAt, Param, Sig, TypeExpr, const_decl, composite, func_lit, Expr, Exprs, ExprOption, Elems, Value, ValueOption, Stmt, Stmts, StmtOption, BlockOption, RangeLeft, Arms, Cases, ValueSpecs}
-use Rattle.scope_names.specs.FreeNames.{names_of, defined}
-use Rattle.scope_names.specs.Means.{Environment}
-use Rattle.scope_names.specs.Scopes as scopes
-use Rattle.scope_names.specs.Scopes.{not_blank, specs_declare, param_names, sig_declares}
+use Rattle.go_tree.specs.ScopeNames.FreeNames.{names_of, defined}
+use Rattle.go_tree.specs.ScopeNames.Means.{Environment}
+use Rattle.go_tree.specs.ScopeNames.Scopes as scopes
+use Rattle.go_tree.specs.ScopeNames.Scopes.{not_blank, specs_declare, param_names, sig_declares}
 use Rattle.pkg_graph.specs.Members.{Target}
-use Rattle.go_types.specs.Answers.{given, meets}
-use Rattle.go_types.specs.Defined.{under}
-use Rattle.go_types.specs.Types.{GoType, FuncType, basic, named_type, pointer_to, slice_of, map_of, struct_of, tuple_of, untyped, untyped_nil}
-use Rattle.go_types.specs.Entities.{Entity, World, Env, defined_in, extend, in_block}
-use Rattle.go_types.specs.TypeNames.{func_type}
-use Rattle.go_types.specs.Literals.{is_struct, key_type, inner_type}
-use Rattle.go_types.specs.Bodies.{literal_env}
-use Rattle.go_types.specs.Declarations.{new_variables}
-use Rattle.go_types.specs.Statements.{bound_names, right_values}
-use Rattle.go_types.specs.Typing.{parts, range_declares, binds_of}
+use Rattle.go_tree.specs.GoTypes.Answers.{given, meets}
+use Rattle.go_tree.specs.GoTypes.Defined.{under}
+use Rattle.go_tree.specs.GoTypes.Types.{GoType, FuncType, basic, named_type, pointer_to, slice_of, map_of, struct_of, tuple_of, untyped, untyped_nil}
+use Rattle.go_tree.specs.GoTypes.Entities.{Entity, World, Env, defined_in, extend, in_block}
+use Rattle.go_tree.specs.GoTypes.TypeNames.{func_type}
+use Rattle.go_tree.specs.GoTypes.Literals.{is_struct, key_type, inner_type}
+use Rattle.go_tree.specs.GoTypes.Bodies.{literal_env}
+use Rattle.go_tree.specs.GoTypes.Declarations.{new_variables}
+use Rattle.go_tree.specs.GoTypes.Statements.{bound_names, right_values}
+use Rattle.go_tree.specs.GoTypes.Typing.{parts, range_declares, binds_of}
 use Rattle.std.specs.Prelude.{length}
 use Rattle.form_meaning.specs.FormInPlace.Places.{at_place, Landing}
 use Rattle.form_meaning.specs.FormInPlace.Bound.{Before, inner_under, stmt_binds, first_binds, range_left_binds, literal_binds, variable_binds, literal_under}
@@ -28,9 +28,9 @@ use Rattle.form_meaning.proofs.FormInPlace.InPlace.{type_there, type_option_ther
 use Rattle.run_rules.specs.Surroundings.{Use, Place, a_slot, in_slot, seen, seen_stmt, into_type, into_or, elem_use, key_use, first_declares, left_declares, in_literal}
 use Rattle.run_rules.specs.Places.{type_seen, after_arms, expr_seen, all_seen, option_seen, elems_seen, key_seen, value_seen, stmt_seen, stmts_seen, first_seen, block_seen, left_seen, arms_seen, cases_seen, variables_seen}
 use Rattle.run_rules.specs.Sites.{MarkRef}
-use Rattle.written_literal.specs.Listing.{Listing}
-use Rattle.cycle_laws.proofs.Called.{Callees, env_lit, bound_lit, called_by, calls_expr, calls_all, calls_option, calls_elems, calls_key, calls_value, calls_stmt, calls_stmts, calls_first, calls_block, calls_left, calls_arms, calls_cases, calls_variables}
-use Rattle.cycle_laws.proofs.Walked.{callee-env, literal-place}
+use Rattle.splice_laws.specs.WrittenLiteral.Listing.{Listing}
+use Rattle.order_runs.proofs.CycleLaws.Called.{Callees, env_lit, bound_lit, called_by, calls_expr, calls_all, calls_option, calls_elems, calls_key, calls_value, calls_stmt, calls_stmts, calls_first, calls_block, calls_left, calls_arms, calls_cases, calls_variables}
+use Rattle.order_runs.proofs.CycleLaws.Walked.{callee-env, literal-place}
 use Rattle.literal_cycles.proofs.Along.{AllPlain, front, back, last_part, unless, NamesAgree, Along, along_block, along_more, beside}
 use Rattle.literal_cycles.proofs.Callees.{callee_there}
 

@@ -5,7 +5,7 @@ use Rattle.go_tree.specs.declared.spans.Span.{Span}
 use Rattle.go_tree.specs.Tree.{Expr}
 use Rattle.pkg_graph.specs.Package.{Package}
 use Rattle.pkg_graph.specs.Reads.{Source}
-use Rattle.go_types.specs.Answers.{meets}
+use Rattle.go_tree.specs.GoTypes.Answers.{meets}
 use Rattle.go_translation.specs.Packages as translated
 use Rattle.run_rules.specs.Surroundings.{other, Place}
 use Rattle.run_rules.specs.Places.{expr_seen, all_seen}
@@ -16,12 +16,12 @@ use Rattle.run_rules.specs.Cycles.{leads_to, is_recursive}
 use Rattle.run_rules.specs.Texts.{FileText}
 use Rattle.run_rules.specs.Run.{Standing, Logged, Next, Run}
 use Rattle.run_rules.specs.Inlining.{ModuleReads, standing_as_read}
-use Rattle.run_laws.specs.Reading.{ProgramReads}
-use Rattle.cycle_laws.specs.PutCalls.{called_among}
-use Rattle.cycle_runs.specs.Linked.{Linked, SettlesFile}
+use Rattle.splice_laws.specs.RunLaws.Reading.{ProgramReads}
+use Rattle.order_runs.specs.CycleLaws.PutCalls.{called_among}
+use Rattle.order_runs.specs.CycleRuns.Linked.{Linked, SettlesFile}
 use Rattle.form_cycles.specs.Bodies.{StandsInFunction}
 use Rattle.form_cycles.specs.Puts.{ExprCallsThrough, CalleeStays, PutsInBody}
-use Rattle.written_literal.specs.Fine.{is_call}
+use Rattle.splice_laws.specs.WrittenLiteral.Fine.{is_call}
 use Rattle.literal_steps.specs.CalledAt.{CalledAt}
 use Rattle.literal_cycles.specs.Around.{CalledStays}
 use Rattle.literal_cycles.specs.Stands.{StandsInValues}

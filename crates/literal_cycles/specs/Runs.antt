@@ -4,7 +4,7 @@
 use Rattle.std.specs.Prelude.{List}
 use Rattle.run_rules.specs.Sites.{MarkRef}
 use Rattle.run_rules.specs.Run.{Standing, Logged, Next, Run, ends, goes_on}
-use Rattle.cycle_runs.specs.Linked.{SettlesFile}
+use Rattle.order_runs.specs.CycleRuns.Linked.{SettlesFile}
 use Rattle.form_cycles.specs.Bodies.{StandsInFunction}
 use Rattle.form_cycles.specs.Runs.{GivesWay}
 use Rattle.literal_cycles.specs.Uses.{PutsLiteral}

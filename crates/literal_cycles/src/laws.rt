@@ -2,7 +2,7 @@
 
 ghost use Rattle.literal_cycles.specs.Laws as law;
 
-use cycle_runs::packages_stay_linked;
+use order_runs::cycle_runs::packages_stay_linked;
 
 /// In well-typed packages the literal that a plain call becomes, deferred or not, in the function's own
 /// package or in another one, calls the marked functions that the function leads to and those that the

@@ -2,8 +2,8 @@
 use Rattle.std.specs.Prelude.{◌≡◌, ℕ, zero, suc, ◌+◌, ◌<◌, ◌≤◌, false, List, [], ◌∷◌, length, refl}
 use Rattle.std.proofs.Common.{get_or, drop, add-one, arith}
 use Rattle.std.proofs.Math.Seq.{drop-cons}
-use Rattle.const_eval.specs.declared.consts.Const.{Const}
-use Rattle.type_relations.specs.Environment.{Environment}
+use Rattle.go_tree.specs.declared.const_eval.consts.Const.{Const}
+use Rattle.type_table.specs.TypeRelations.Environment.{Environment}
 use Rattle.operand_rules.specs.declared.values.ValueType.TheVariants.{Typed}
 use Rattle.operand_rules.specs.declared.values.Content.TheVariants.{Run}
 use Rattle.operand_modes.specs.declared.modes.Operand.TheVariants.{Single}

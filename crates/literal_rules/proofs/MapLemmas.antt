@@ -3,12 +3,12 @@ use Rattle.std.specs.Prelude.{◌≡◌, ℕ, ◌+◌, ◌<◌, ◌≤◌, Bool,
 use Rattle.std.proofs.Common.{get_or, drop}
 use Rattle.std.specs.List.{list_any}
 use mathlib.Core.Path.{ap, sym, ◌∙◌, subst}
-use Rattle.const_eval.specs.declared.consts.Const.{Const}
-use Rattle.go_types.specs.Answers.{distinct_by}
-use Rattle.go_types.specs.Operands as go_operand
-use Rattle.go_types.specs.Literals as go
-use Rattle.go_types.specs.Literals.{constant_keys, constant_then, distinct_consts, same_const}
-use Rattle.type_relations.specs.Environment.{Environment}
+use Rattle.go_tree.specs.declared.const_eval.consts.Const.{Const}
+use Rattle.go_tree.specs.GoTypes.Answers.{distinct_by}
+use Rattle.go_tree.specs.GoTypes.Operands as go_operand
+use Rattle.go_tree.specs.GoTypes.Literals as go
+use Rattle.go_tree.specs.GoTypes.Literals.{constant_keys, constant_then, distinct_consts, same_const}
+use Rattle.type_table.specs.TypeRelations.Environment.{Environment}
 use Rattle.operand_rules.specs.declared.constants.ConstId.{ConstId}
 use Rattle.operand_rules.specs.declared.values.Content.{Content}
 use Rattle.operand_rules.specs.declared.values.Content.TheVariants.{Run, Exact, Shift}

@@ -4,15 +4,15 @@ use Rattle.std.specs.List.{list_any}
 use Rattle.std.proofs.Common.{get_or, drop}
 use Rattle.std.proofs.lemmas.Cmp.{nat_eq_equiv}
 use mathlib.Core.Path.{ap, subst, ◌∙◌}
-use Rattle.const_eval.specs.declared.consts.Const.{Const}
-use Rattle.type_relations.specs.Environment.{Environment}
+use Rattle.go_tree.specs.declared.const_eval.consts.Const.{Const}
+use Rattle.type_table.specs.TypeRelations.Environment.{Environment}
 use Rattle.literal_rules.specs.declared.elements.Element.{Element}
 use Rattle.literal_rules.specs.Elements.{element_at, elements_at}
 use Rattle.literal_rules.proofs.ElementLemmas.{from_one, no_such}
-use Rattle.go_types.specs.Answers.{distinct_by, given, meets}
-use Rattle.go_types.specs.Defined.{Defined}
-use Rattle.go_types.specs.Literals as go
-use Rattle.go_types.specs.Literals.{index_or, indices}
+use Rattle.go_tree.specs.GoTypes.Answers.{distinct_by, given, meets}
+use Rattle.go_tree.specs.GoTypes.Defined.{Defined}
+use Rattle.go_tree.specs.GoTypes.Literals as go
+use Rattle.go_tree.specs.GoTypes.Literals.{index_or, indices}
 use Rattle.literal_rules.specs.Sets.{new_and_distinct}
 use Rattle.literal_rules.specs.Indices.{IndicesRead}
 use Rattle.literal_rules.proofs.DistinctLemmas.{new_first, seen_first, seen_none}

@@ -1,16 +1,17 @@
 -- Elements of composite literals by the code's names (Go specification, Composite literals).
-use Rattle.std.specs.Prelude.{ℕ, ◌<◌, Bool, true, false, not, ◌&&◌, List, [], ◌∷◌, map, length, Option, Some, None}
-use Rattle.const_eval.specs.declared.consts.Const.{Const}
-use Rattle.go_words.specs.Tokens.Pieces.{is_among}
+use Rattle.std.specs.Prelude.{ℕ, ◌<◌, Bool, true, false, not, ◌&&◌, List, [], ◌∷◌, map, length, Option}
+use Rattle.std.specs.Prelude.{Some, None}
+use Rattle.go_tree.specs.declared.const_eval.consts.Const.{Const}
+use Rattle.go_tree.specs.GoWords.Tokens.Pieces.{is_among}
 use Rattle.name_walks.specs.EachOnce.{with_name}
-use Rattle.go_types.specs.Types.{GoType}
-use Rattle.go_types.specs.Defined.{Defined}
-use Rattle.go_types.specs.Operands as go_operand
-use Rattle.go_types.specs.Operands.{takes}
-use Rattle.go_types.specs.Literals as go
-use Rattle.go_types.specs.Literals.{unkeyed, of_field, keyed}
-use Rattle.go_types.specs.Primary.{sees}
-use Rattle.type_relations.specs.Environment.{Environment}
+use Rattle.go_tree.specs.GoTypes.Types.{GoType}
+use Rattle.go_tree.specs.GoTypes.Defined.{Defined}
+use Rattle.go_tree.specs.GoTypes.Operands as go_operand
+use Rattle.go_tree.specs.GoTypes.Operands.{takes}
+use Rattle.go_tree.specs.GoTypes.Literals as go
+use Rattle.go_tree.specs.GoTypes.Literals.{unkeyed, of_field, keyed}
+use Rattle.go_tree.specs.GoTypes.Primary.{sees}
+use Rattle.type_table.specs.TypeRelations.Environment.{Environment}
 use Rattle.operand_rules.specs.declared.constants.ConstId.{ConstId}
 use Rattle.operand_rules.specs.declared.values.Content.{Content}
 use Rattle.operand_rules.specs.declared.values.Content.TheVariants.{Exact}

@@ -1,9 +1,9 @@
 -- Indices of the elements of a slice's literal, read one by one (Go specification, Composite literals).
 use Rattle.std.specs.Prelude.{◌≡◌, ℕ, List, nat_eq}
-use Rattle.go_types.specs.Answers.{distinct_by, meets}
-use Rattle.go_types.specs.Defined.{Defined}
-use Rattle.go_types.specs.Literals as go
-use Rattle.go_types.specs.Literals.{indices}
+use Rattle.go_tree.specs.GoTypes.Answers.{distinct_by, meets}
+use Rattle.go_tree.specs.GoTypes.Defined.{Defined}
+use Rattle.go_tree.specs.GoTypes.Literals as go
+use Rattle.go_tree.specs.GoTypes.Literals.{indices}
 use Rattle.literal_rules.specs.Sets.{new_and_distinct}
 
 -- the indices of some elements were seen, no two the same; `next` follows the last, and the rest is left

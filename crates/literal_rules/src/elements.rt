@@ -2,15 +2,15 @@
 
 ghost use Rattle.std.specs.Prelude.{◌≡◌, ◌<◌, length};
 ghost use Rattle.std.specs.List.{list_all};
-ghost use Rattle.go_types.specs.Literals as go;
-ghost use Rattle.go_types.specs.Operands.{takes};
-ghost use Rattle.type_relations.specs.Environment.{defined_types, env_type};
+ghost use Rattle.go_tree.specs.GoTypes.Literals as go;
+ghost use Rattle.go_tree.specs.GoTypes.Operands.{takes};
+ghost use Rattle.type_table.specs.TypeRelations.Environment.{defined_types, env_type};
 ghost use Rattle.literal_rules.specs.Elements.{AreElements, elements_at};
 
 use operand_modes::{Operand, takes};
 use operand_rules::ConstTable;
-use type_relations::Env;
 use type_table::TypeId;
+use type_table::type_relations::Env;
 
 /// What stands before the value of an element.
 #[derive(Clone, Copy)]

@@ -2,9 +2,9 @@
 //! literals).
 
 ghost use Rattle.std.specs.Prelude.{◌≡◌, IfOk, IfSome};
-ghost use Rattle.go_types.specs.Defined.{under};
-ghost use Rattle.go_types.specs.Literals as go;
-ghost use Rattle.type_relations.specs.Environment.{defined_types, env_type};
+ghost use Rattle.go_tree.specs.GoTypes.Defined.{under};
+ghost use Rattle.go_tree.specs.GoTypes.Literals as go;
+ghost use Rattle.type_table.specs.TypeRelations.Environment.{defined_types, env_type};
 ghost use Rattle.operand_rules.specs.declared.values.ValueType.TheVariants.{Typed};
 ghost use Rattle.operand_rules.specs.Values.{Gives, IsType};
 ghost use Rattle.operator_rules.specs.Parts.{HasParts};
@@ -15,11 +15,11 @@ use crate::elements::Element;
 use crate::maps::map_takes;
 use crate::slices::slice_takes;
 use crate::structs::struct_takes;
-use access_rules::form;
 use go_tree::NoMemory;
 use operand_rules::{ConstTable, Content, Refusal, Value, ValueType};
+use operator_rules::access_rules::form;
 use std::alloc::Global;
-use type_relations::Env;
+use type_table::type_relations::Env;
 use type_table::{TypeId, TypeNode};
 
 /// Whether the elements are those of a literal of the type: of a struct, a slice or a map.

@@ -3,9 +3,10 @@
 
 ghost use Rattle.std.specs.Prelude.{◌≡◌, ◌<◌, length, IfOk, OnOk};
 ghost use Rattle.std.specs.List.{list_all};
-ghost use Rattle.go_types.specs.Literals as go;
-ghost use Rattle.type_relations.specs.Environment.{defined_types, env_type};
-ghost use Rattle.literal_rules.specs.Elements.{AreElements, IsElement, IsKeyOperand, const_key, element_at, elements_at};
+ghost use Rattle.go_tree.specs.GoTypes.Literals as go;
+ghost use Rattle.type_table.specs.TypeRelations.Environment.{defined_types, env_type};
+ghost use Rattle.literal_rules.specs.Elements.{AreElements, IsElement, IsKeyOperand, const_key, element_at};
+ghost use Rattle.literal_rules.specs.Elements.{elements_at};
 ghost use Rattle.literal_rules.specs.Sets.{AddsConst, is_new_const};
 
 use crate::elements::{Element, Key, all_take};
@@ -14,8 +15,8 @@ use go_tree::NoMemory;
 use operand_modes::{Operand, takes};
 use operand_rules::{ConstId, ConstTable, Content};
 use std::alloc::Global;
-use type_relations::Env;
 use type_table::TypeId;
+use type_table::type_relations::Env;
 
 /// Whether an element has a key, which may stand where one of the type is wanted.
 fn has_key(env: &Env, consts: &ConstTable, to: TypeId, x: Element) -> bool

@@ -2,21 +2,21 @@
 //! (Go specification, Composite literals).
 
 ghost use Rattle.std.specs.Prelude.{◌≡◌, ◌<◌, length, nat_eq, IfOk};
-ghost use Rattle.go_types.specs.Answers.{distinct_by, meets};
-ghost use Rattle.go_types.specs.Literals as go;
-ghost use Rattle.type_relations.specs.Environment.{defined_types, env_type};
+ghost use Rattle.go_tree.specs.GoTypes.Answers.{distinct_by, meets};
+ghost use Rattle.go_tree.specs.GoTypes.Literals as go;
+ghost use Rattle.type_table.specs.TypeRelations.Environment.{defined_types, env_type};
 ghost use Rattle.operand_modes.specs.Operands.{IsOperand, operand_at};
 ghost use Rattle.literal_rules.specs.Elements.{AreElements, IsElement, element_at, elements_at};
 
 use crate::elements::{Element, Key, all_take};
 use crate::sets::IndexNumbers;
-use const_eval::{Const, Kind, represent};
 use go_tree::NoMemory;
+use go_tree::const_eval::{Const, Kind, represent};
 use operand_modes::{Operand, single_value};
 use operand_rules::{ConstTable, Content, Value};
 use std::alloc::{AllocError, Global};
-use type_relations::Env;
 use type_table::TypeId;
+use type_table::type_relations::Env;
 
 /// The index that a constant value is, where `int` represents it.
 fn index_value(env: &Env, consts: &ConstTable, x: Value) -> Option<u128>

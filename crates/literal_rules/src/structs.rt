@@ -3,24 +3,24 @@
 
 ghost use Rattle.std.specs.Prelude.{◌≡◌, bytes_eq, map, IfOk, OnOk};
 ghost use Rattle.std.specs.List.{list_all};
-ghost use Rattle.go_types.specs.Answers.{distinct_by};
-ghost use Rattle.go_types.specs.Literals as go;
+ghost use Rattle.go_tree.specs.GoTypes.Answers.{distinct_by};
+ghost use Rattle.go_tree.specs.GoTypes.Literals as go;
 ghost use Rattle.type_table.specs.Rows.{field_of};
 ghost use Rattle.type_table.specs.TypesAt.{fields_by};
-ghost use Rattle.type_relations.specs.Environment.{defined_types, env_type};
+ghost use Rattle.type_table.specs.TypeRelations.Environment.{defined_types, env_type};
 ghost use Rattle.operator_rules.specs.Parts.{FieldParts, IsPart};
 ghost use Rattle.literal_rules.specs.Elements.{AreElements, IsElement, element_at, elements_at, fills_by, names_in};
 ghost use Rattle.literal_rules.specs.Elements.{new_name, starts_unkeyed, with_field};
 
 use crate::elements::{Element, Key};
-use access_rules::{find_field, is_blank, sees};
 use go_tree::NoMemory;
 use name_walks::NameSet;
 use operand_modes::takes;
 use operand_rules::ConstTable;
+use operator_rules::access_rules::{find_field, is_blank, sees};
 use std::alloc::Global;
-use type_relations::Env;
 use type_table::Field;
+use type_table::type_relations::Env;
 
 /// Whether an element without a key gives a field its value.
 fn fills_field(env: &Env, consts: &ConstTable, home: u32, field: &Field, x: Element) -> bool

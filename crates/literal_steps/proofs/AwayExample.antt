@@ -9,14 +9,14 @@ use Rattle.go_tree.specs.declared.exprs.Rest.TheVariants.{Plain}
 use Rattle.go_tree.specs.declared.operators.BinOp.TheVariants.{Add}
 use Rattle.go_tree.specs.Tree.{NameAt, TypeExpr, named, Sig, Expr, ident, int_lit, selector, call, func_lit, binary, no_exprs, expr_and, Stmt, var_decl, eval, assign, return_, Stmts, no_stmts, stmt_and, no_specs, spec}
 use Rattle.go_tree.specs.File.{Func, values, func, File}
-use Rattle.const_eval.specs.declared.kinds.Kind.TheVariants as kind
-use Rattle.scope_names.specs.Binders.{func_binders}
+use Rattle.go_tree.specs.declared.const_eval.kinds.Kind.TheVariants as kind
+use Rattle.go_tree.specs.ScopeNames.Binders.{func_binders}
 use Rattle.pkg_graph.specs.Package.{Package}
 use Rattle.module_files.specs.Internal.{passes}
 use Rattle.param_choice.specs.Chosen.{has}
 use Rattle.import_rules.specs.Removed.{same_span}
-use Rattle.go_types.specs.Types.{basic}
-use Rattle.go_types.specs.Typing.{parts}
+use Rattle.go_tree.specs.GoTypes.Types.{basic}
+use Rattle.go_tree.specs.GoTypes.Typing.{parts}
 use Rattle.go_kernel.specs.Kernel.{FuncName}
 use Rattle.go_kernel.specs.Alike.{MeanSame}
 use Rattle.go_translation.specs.Here.{Here}
@@ -28,9 +28,9 @@ use Rattle.run_rules.specs.Surroundings.{whole, Place, a_slot, in_slot, at_stmt}
 use Rattle.run_rules.specs.Programs.{body_place}
 use Rattle.run_rules.specs.Sites.{MarkRef, Where, Site, an_expr}
 use Rattle.run_rules.specs.FormTrees.{as_expr}
-use Rattle.written_literal.specs.LinkedNames.{Standing}
-use Rattle.constant_steps.specs.Alone.{this_package}
-use Rattle.constant_steps.specs.PlainUse.{linked_at}
+use Rattle.splice_laws.specs.WrittenLiteral.LinkedNames.{Standing}
+use Rattle.splice_laws.specs.ConstantSteps.Alone.{this_package}
+use Rattle.splice_laws.specs.ConstantSteps.PlainUse.{linked_at}
 use Rattle.literal_steps.specs.LiteralUse.{LiteralUse, by_import, PlainCall}
 use Rattle.literal_steps.specs.CalledAt.{CalledAt, Linked, PackagesServe}
 use Rattle.literal_steps.proofs.NamesServe.{serves_there}

@@ -8,25 +8,25 @@ use Rattle.go_tree.specs.declared.spans.Span.{Span}
 use Rattle.go_tree.specs.Tree.{NameAt, Param, Sig, Expr, ident, selector, call, func_lit, Exprs, no_exprs, expr_and, Stmts, const_decl, ValueSpecs, no_specs, spec}
 use Rattle.go_tree.specs.File.{Func, Decl, values, types, func, TypeSpec}
 use Rattle.go_tree.specs.Bare.{bare_expr}
-use Rattle.scope_names.specs.Means.{Environment, means, is_blank}
-use Rattle.scope_names.specs.FreeNames.{names_of, sig_names}
-use Rattle.scope_names.specs.Scopes.{not_blank, param_names, sig_declares}
+use Rattle.go_tree.specs.ScopeNames.Means.{Environment, means, is_blank}
+use Rattle.go_tree.specs.ScopeNames.FreeNames.{names_of, sig_names}
+use Rattle.go_tree.specs.ScopeNames.Scopes.{not_blank, param_names, sig_declares}
 use Rattle.pkg_graph.specs.Package.{Package}
 use Rattle.pkg_graph.specs.Members.{Target, package_block}
-use Rattle.go_types.specs.Answers.{given, both, meets, otherwise, is_among}
-use Rattle.go_types.specs.Types.{GoType}
-use Rattle.go_types.specs.Entities.{Entity, function, Env, Binds, meaning, package_of, is_exported, exported, block_of, defined_in, extend, in_block}
-use Rattle.go_types.specs.TypeNames.{type_meant, func_type, params_meant}
-use Rattle.go_types.specs.Operands.{a_function, with_value, named_operand}
-use Rattle.go_types.specs.Primary.{call_of, selected}
-use Rattle.go_types.specs.Declarations.{bound_names, binds_or}
-use Rattle.go_types.specs.Bodies.{Ctx, body_binds, body_ctx, is_body}
-use Rattle.go_types.specs.Typing.{package_before, parts, all_parts, place, stmts}
-use Rattle.go_types.specs.Programs.{SourcePackage, Program, Headed, headed, file_env}
-use Rattle.go_types.specs.Collect.{env_of, collected}
-use Rattle.go_types.specs.WellTyped.{body_env, receiver_of}
-use Rattle.go_types.proofs.Agreeing.{from_given, from_both, some_same}
-use Rattle.go_types.proofs.TypingBare.{parts-bare}
+use Rattle.go_tree.specs.GoTypes.Answers.{given, both, meets, otherwise, is_among}
+use Rattle.go_tree.specs.GoTypes.Types.{GoType}
+use Rattle.go_tree.specs.GoTypes.Entities.{Entity, function, Env, Binds, meaning, package_of, is_exported, exported, block_of, defined_in, extend, in_block}
+use Rattle.go_tree.specs.GoTypes.TypeNames.{type_meant, func_type, params_meant}
+use Rattle.go_tree.specs.GoTypes.Operands.{a_function, with_value, named_operand}
+use Rattle.go_tree.specs.GoTypes.Primary.{call_of, selected}
+use Rattle.go_tree.specs.GoTypes.Declarations.{bound_names, binds_or}
+use Rattle.go_tree.specs.GoTypes.Bodies.{Ctx, body_binds, body_ctx, is_body}
+use Rattle.go_tree.specs.GoTypes.Typing.{package_before, parts, all_parts, place, stmts}
+use Rattle.go_tree.specs.GoTypes.Programs.{SourcePackage, Program, Headed, headed, file_env}
+use Rattle.go_tree.specs.GoTypes.Collect.{env_of, collected}
+use Rattle.go_tree.specs.GoTypes.WellTyped.{body_env, receiver_of}
+use Rattle.go_tree.proofs.GoTypes.Agreeing.{from_given, from_both, some_same}
+use Rattle.go_tree.proofs.GoTypes.TypingBare.{parts-bare}
 use Rattle.typed_in_place.specs.Declared as declared
 use Rattle.typed_in_place.specs.Declared.{HasNumber}
 use Rattle.form_meaning.specs.FormInPlace.CalledLiteral.{declared_at}
@@ -61,18 +61,18 @@ use Rattle.run_rules.specs.Naming.{Names}
 use Rattle.run_rules.specs.FormTrees.{Form, as_expr, as_dropped, as_block, as_type}
 use Rattle.run_rules.specs.Obstacles.{hidden_here, shadowed_here}
 use Rattle.run_rules.specs.Places.{params_seen}
-use Rattle.written_literal.specs.Within.{Within}
-use Rattle.written_literal.specs.Listing.{Listing}
-use Rattle.written_literal.specs.KnownNames.{landing, KnownNames}
-use Rattle.written_literal.specs.TypesTyped.{Qualifies}
-use Rattle.written_literal.proofs.FilesMeant.{file_meant}
-use Rattle.written_literal.proofs.TypesWritten.{qualifier_means}
-use Rattle.written_literal.proofs.ListedHeads.{listing}
-use Rattle.written_literal.proofs.WithinLaws.{entered}
-use Rattle.constant_steps.specs.Alone.{block_from, PackageAt, this_package, a_later_package}
-use Rattle.constant_steps.specs.PlainUse.{linked_at}
-use Rattle.constant_steps.proofs.NamesOutside.{MemberThere, member_there, linked_block, not_local}
-use Rattle.constant_steps.proofs.MarksFound.{member_of_mark, named_member, marked_so, StandsThere, stands_there, DeclaredThere, declared_there, nth_mapped}
+use Rattle.splice_laws.specs.WrittenLiteral.Within.{Within}
+use Rattle.splice_laws.specs.WrittenLiteral.Listing.{Listing}
+use Rattle.splice_laws.specs.WrittenLiteral.KnownNames.{landing, KnownNames}
+use Rattle.splice_laws.specs.WrittenLiteral.TypesTyped.{Qualifies}
+use Rattle.splice_laws.proofs.WrittenLiteral.FilesMeant.{file_meant}
+use Rattle.splice_laws.proofs.WrittenLiteral.TypesWritten.{qualifier_means}
+use Rattle.splice_laws.proofs.WrittenLiteral.ListedHeads.{listing}
+use Rattle.splice_laws.proofs.WrittenLiteral.WithinLaws.{entered}
+use Rattle.splice_laws.specs.ConstantSteps.Alone.{block_from, PackageAt, this_package, a_later_package}
+use Rattle.splice_laws.specs.ConstantSteps.PlainUse.{linked_at}
+use Rattle.splice_laws.proofs.ConstantSteps.NamesOutside.{MemberThere, member_there, linked_block, not_local}
+use Rattle.splice_laws.proofs.ConstantSteps.MarksFound.{member_of_mark, named_member, marked_so, StandsThere, stands_there, DeclaredThere, declared_there, nth_mapped}
 use Rattle.literal_steps.specs.TypedParts.{LocalValues}
 use Rattle.literal_steps.specs.ServedParts.{AllServed, AllAway}
 use Rattle.literal_steps.specs.FirstFunctions.{FirstFunction}

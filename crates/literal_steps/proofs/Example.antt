@@ -9,12 +9,12 @@ use Rattle.go_tree.specs.declared.exprs.Rest.TheVariants.{Plain}
 use Rattle.go_tree.specs.declared.operators.BinOp.TheVariants.{Add}
 use Rattle.go_tree.specs.Tree.{NameAt, named, Sig, Expr, ident, int_lit, call, func_lit, binary, no_exprs, expr_and, Stmt, eval, assign, return_, Stmts, no_stmts, stmt_and}
 use Rattle.go_tree.specs.File.{Func, func, File}
-use Rattle.const_eval.specs.declared.kinds.Kind.TheVariants as kind
+use Rattle.go_tree.specs.declared.const_eval.kinds.Kind.TheVariants as kind
 use Rattle.pkg_graph.specs.Package.{SourceTree, Package}
 use Rattle.param_choice.specs.Chosen.{has}
 use Rattle.import_rules.specs.Removed.{same_span}
-use Rattle.go_types.specs.Types.{basic}
-use Rattle.go_types.specs.Typing.{parts}
+use Rattle.go_tree.specs.GoTypes.Types.{basic}
+use Rattle.go_tree.specs.GoTypes.Typing.{parts}
 use Rattle.go_kernel.specs.Kernel.{FuncName}
 use Rattle.go_kernel.specs.Alike.{MeanSame}
 use Rattle.go_translation.specs.Here.{Here}
@@ -30,9 +30,9 @@ use Rattle.run_rules.specs.FormTrees.{as_expr, top}
 use Rattle.run_rules.specs.Places.{sig_seen}
 use Rattle.run_rules.specs.Obstacles.{Shadowed}
 use Rattle.run_rules.specs.Reduced.{kept, reduced}
-use Rattle.written_literal.specs.LinkedNames.{Standing}
-use Rattle.constant_steps.specs.Alone.{this_package}
-use Rattle.constant_steps.specs.PlainUse.{linked_at}
+use Rattle.splice_laws.specs.WrittenLiteral.LinkedNames.{Standing}
+use Rattle.splice_laws.specs.ConstantSteps.Alone.{this_package}
+use Rattle.splice_laws.specs.ConstantSteps.PlainUse.{linked_at}
 use Rattle.literal_steps.specs.LiteralUse.{LiteralUse, call_of, names_of_form, plainly, PlainCall}
 use Rattle.literal_steps.specs.CalledAt.{CalledAt, Linked, PackagesServe}
 use Rattle.literal_steps.proofs.PartsHere.{all_here}

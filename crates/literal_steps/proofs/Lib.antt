@@ -13,3 +13,6 @@ pub mod NamesServe
 pub mod CallMeant
 mod Example
 mod AwayExample
+pub mod MethodLiterals
+pub mod RankedMarks
+pub mod ServedPackages

@@ -5,29 +5,29 @@ use Rattle.std.specs.List.{list_any}
 use Rattle.std.proofs.Common.{arith}
 use Rattle.std.proofs.lemmas.Slice.Eq.{bytes_eq-Decides}
 use Rattle.go_tree.specs.File.{ImportSpec}
-use Rattle.go_words.specs.Tokens.Pieces.{is_among}
-use Rattle.scope_names.specs.declared.names.Entity.{Entity}
-use Rattle.scope_names.specs.declared.names.Entity.TheVariants.{Local, Import, Package as Member, Universe}
-use Rattle.scope_names.specs.declared.names.ImportName.{ImportName}
-use Rattle.scope_names.specs.FreeNames.{names_of}
-use Rattle.scope_names.specs.Means.{Environment, means, is_blank, numbered, outermost, predeclared, or_else}
-use Rattle.scope_names.specs.Occurrences.{means_import}
+use Rattle.go_tree.specs.GoWords.Tokens.Pieces.{is_among}
+use Rattle.go_tree.specs.declared.scope_names.names.Entity.{Entity}
+use Rattle.go_tree.specs.declared.scope_names.names.Entity.TheVariants.{Local, Import, Package as Member, Universe}
+use Rattle.go_tree.specs.declared.scope_names.names.ImportName.{ImportName}
+use Rattle.go_tree.specs.ScopeNames.FreeNames.{names_of}
+use Rattle.go_tree.specs.ScopeNames.Means.{Environment, means, is_blank, numbered, outermost, predeclared, or_else}
+use Rattle.go_tree.specs.ScopeNames.Occurrences.{means_import}
 use Rattle.pkg_graph.specs.Package as graph
 use Rattle.pkg_graph.specs.Package.{import_specs}
 use Rattle.pkg_graph.specs.Members as members
 use Rattle.pkg_graph.specs.Members.{Target, imported, import_name, package_block}
 use Rattle.import_rules.specs.Needs.{serves, serving_from, serving, avoided}
-use Rattle.go_types.specs.Answers.{given}
-use Rattle.go_types.specs.Entities as typing
-use Rattle.go_types.specs.Entities.{package_of}
+use Rattle.go_tree.specs.GoTypes.Answers.{given}
+use Rattle.go_tree.specs.GoTypes.Entities as typing
+use Rattle.go_tree.specs.GoTypes.Entities.{package_of}
 use Rattle.run_rules.specs.Surroundings.{Place, is_local}
 use Rattle.run_rules.specs.Programs.{package_number, top_env}
 use Rattle.run_rules.specs.Sites.{Where, outer, import_number}
 use Rattle.run_rules.specs.Naming.{no_span, Named, names_by, imports_added, name_added, fresh_name, package_path, own_name, names_here, environment_here, added_import, named_packages}
-use Rattle.written_literal.specs.LinkedNames.{Standing}
-use Rattle.written_literal.specs.Meant.{Serves}
-use Rattle.written_literal.proofs.FilesMeant.{file_meant}
-use Rattle.written_literal.proofs.NamesMeant.{means_join}
+use Rattle.splice_laws.specs.WrittenLiteral.LinkedNames.{Standing}
+use Rattle.splice_laws.specs.WrittenLiteral.Meant.{Serves}
+use Rattle.splice_laws.proofs.WrittenLiteral.FilesMeant.{file_meant}
+use Rattle.splice_laws.proofs.WrittenLiteral.NamesMeant.{means_join}
 
 is_empty : {A : Type 0} → List A → Bool
 is_empty [] = true

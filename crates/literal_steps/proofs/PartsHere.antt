@@ -3,21 +3,21 @@ use Rattle.std.specs.Prelude.{◌≡◌, refl, ℕ, Bool, true, false, ◌&&◌,
 use mathlib.Core.Path.{ap, sym, ◌∙◌, subst}
 use Rattle.std.proofs.Common.{arith}
 use Rattle.go_tree.specs.Tree.{NameAt, Param, TypeExpr, named, pointer, slice_type, map_type, struct_type, Fields, no_fields, field, Expr, ident, int_lit, rune_lit, str_lit, composite, selector, index, slice, call, func_lit, type_operand, unary, binary, star, Elems, no_elems, elem, Value, plain, braced, ValueOption, no_value, some_value, const_decl, eval, defer, Stmts}
-use Rattle.scope_names.specs.Means.{Environment, means, is_blank}
-use Rattle.scope_names.specs.FreeNames.{names_of}
+use Rattle.go_tree.specs.ScopeNames.Means.{Environment, means, is_blank}
+use Rattle.go_tree.specs.ScopeNames.FreeNames.{names_of}
 use Rattle.pkg_graph.specs.Package.{Package}
 use Rattle.pkg_graph.specs.Members.{Target, local, imported, member, predeclared}
-use Rattle.go_types.specs.Answers.{given, both, only_if, is_among}
-use Rattle.go_types.specs.Types.{GoType, pointer_to, slice_of, map_of, struct_of, GoFields, no_go_fields, go_field}
-use Rattle.go_types.specs.Defined.{Defined, under, has_keys}
-use Rattle.go_types.specs.Entities.{Content, is_exported, variable, constant, stand_in, type_name, function, package_name, builtin, nil_name, iota_name, refused, Entity, World, Env, meaning, universe, block_of, exported, package_of, type_of_name, defined_in}
-use Rattle.go_types.specs.TypeNames.{resolved, resolved_fields, field_before, type_meant, params_meant}
-use Rattle.go_types.specs.Operands.{Operand, value}
-use Rattle.go_types.specs.Primary.{fields_in}
-use Rattle.go_types.specs.Literals.{Element, field_key, of_field, keyed, built_inside, key_type, inner_type, literal_type}
-use Rattle.go_types.specs.Bodies.{Ctx}
-use Rattle.go_types.specs.Typing.{parts, elements, element, with_key, stmts}
-use Rattle.go_types.proofs.Agreeing.{from_given, from_both}
+use Rattle.go_tree.specs.GoTypes.Answers.{given, both, only_if, is_among}
+use Rattle.go_tree.specs.GoTypes.Types.{GoType, pointer_to, slice_of, map_of, struct_of, GoFields, no_go_fields, go_field}
+use Rattle.go_tree.specs.GoTypes.Defined.{Defined, under, has_keys}
+use Rattle.go_tree.specs.GoTypes.Entities.{Content, is_exported, variable, constant, stand_in, type_name, function, package_name, builtin, nil_name, iota_name, refused, Entity, World, Env, meaning, universe, block_of, exported, package_of, type_of_name, defined_in}
+use Rattle.go_tree.specs.GoTypes.TypeNames.{resolved, resolved_fields, field_before, type_meant, params_meant}
+use Rattle.go_tree.specs.GoTypes.Operands.{Operand, value}
+use Rattle.go_tree.specs.GoTypes.Primary.{fields_in}
+use Rattle.go_tree.specs.GoTypes.Literals.{Element, field_key, of_field, keyed, built_inside, key_type, inner_type, literal_type}
+use Rattle.go_tree.specs.GoTypes.Bodies.{Ctx}
+use Rattle.go_tree.specs.GoTypes.Typing.{parts, elements, element, with_key, stmts}
+use Rattle.go_tree.proofs.GoTypes.Agreeing.{from_given, from_both}
 use Rattle.form_meaning.specs.FormInPlace.Places.{Landing, SeenFields, SeenIn, SelectorAlike, is_member, means_function}
 use Rattle.form_meaning.specs.FormInPlace.Bound.{inner_under, literal_under}
 use Rattle.form_meaning.specs.FormInPlace.Written.{WrittenBody}
@@ -30,18 +30,18 @@ use Rattle.run_rules.specs.Rewriting.{new_label, new_params, new_stmts}
 use Rattle.run_rules.specs.Sites.{Where, outer, imported_by, import_number, qualifier}
 use Rattle.run_rules.specs.Naming.{Names, type_there}
 use Rattle.run_rules.specs.Obstacles.{hidden_here, hidden_in_type, hidden_selection, unless_exported, shadowed_here, shadowed_in_type, first_answer}
-use Rattle.written_literal.specs.Within.{Within}
-use Rattle.written_literal.specs.Fine.{keeping, same_span, is_package, names_package, FineElems, FineKey, FineValue, FineSelector, Fine, AllFine}
-use Rattle.written_literal.specs.Fine as fine
-use Rattle.written_literal.specs.Meant.{NameTyped, Serves}
-use Rattle.written_literal.specs.KnownNames.{landing, KnownNames}
-use Rattle.written_literal.specs.TypesTyped.{Qualifies, TypeTyped, FieldsTyped}
-use Rattle.written_literal.specs.PartsTyped.{selector_there, expr_there, changes_there, qualifier_before}
-use Rattle.written_literal.proofs.NamesWritten.{name_written}
-use Rattle.written_literal.proofs.TypesWritten.{one_of_none, exported_unless, qualifier_means, type_written}
-use Rattle.written_literal.proofs.LiteralsHere.{literal_here}
-use Rattle.written_literal.proofs.ListedHeads.{listing}
-use Rattle.written_literal.proofs.Induction.{stmts-written}
+use Rattle.splice_laws.specs.WrittenLiteral.Within.{Within}
+use Rattle.splice_laws.specs.WrittenLiteral.Fine.{keeping, same_span, is_package, names_package, FineElems, FineKey, FineValue, FineSelector, Fine, AllFine}
+use Rattle.splice_laws.specs.WrittenLiteral.Fine as fine
+use Rattle.splice_laws.specs.WrittenLiteral.Meant.{NameTyped, Serves}
+use Rattle.splice_laws.specs.WrittenLiteral.KnownNames.{landing, KnownNames}
+use Rattle.splice_laws.specs.WrittenLiteral.TypesTyped.{Qualifies, TypeTyped, FieldsTyped}
+use Rattle.splice_laws.specs.WrittenLiteral.PartsTyped.{selector_there, expr_there, changes_there, qualifier_before}
+use Rattle.splice_laws.proofs.WrittenLiteral.NamesWritten.{name_written}
+use Rattle.splice_laws.proofs.WrittenLiteral.TypesWritten.{one_of_none, exported_unless, qualifier_means, type_written}
+use Rattle.splice_laws.proofs.WrittenLiteral.LiteralsHere.{literal_here}
+use Rattle.splice_laws.proofs.WrittenLiteral.ListedHeads.{listing}
+use Rattle.splice_laws.proofs.WrittenLiteral.Induction.{stmts-written}
 use Rattle.literal_steps.specs.TypedParts.{is_value, LocalValues, NameStands, ElementsTyped, PartStands, AllStand, NoConstants, AllWithoutConstants}
 use Rattle.literal_steps.specs.ServedParts.{TypeServed, FieldsServed, PartServed, AllServed, TypeAway, FieldsAway, PartAway, AllAway, NothingElse}
 use Rattle.literal_steps.proofs.TypedWalk.{stmts_stand}

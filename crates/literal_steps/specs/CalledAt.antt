@@ -1,11 +1,11 @@
 -- The place of a call, as the rules of typing and the translation have it, and the packages around it (Go
 -- specification, Declarations and scope; Packages).
 use Rattle.std.specs.Prelude.{◌≡◌, ℕ, Bool, true, false, List, Some, None, slice_get}
-use Rattle.scope_names.specs.FreeNames.{names_of}
-use Rattle.scope_names.specs.Means.{means, is_blank}
+use Rattle.go_tree.specs.ScopeNames.FreeNames.{names_of}
+use Rattle.go_tree.specs.ScopeNames.Means.{means, is_blank}
 use Rattle.pkg_graph.specs.Package.{Package}
-use Rattle.go_types.specs.Entities.{meaning}
-use Rattle.go_types.specs.WellTyped.{well_typed}
+use Rattle.go_tree.specs.GoTypes.Entities.{meaning}
+use Rattle.go_tree.specs.GoTypes.WellTyped.{well_typed}
 use Rattle.go_translation.specs.Here.{Here}
 use Rattle.go_translation.specs.Packages as translated
 use Rattle.go_translation.specs.Packages.{sources, paths_in, are_distinct}
@@ -15,9 +15,9 @@ use Rattle.run_rules.specs.Places.{sig_seen}
 use Rattle.run_rules.specs.Programs.{linked, world, top_env}
 use Rattle.run_rules.specs.Sites.{MarkRef, Site}
 use Rattle.run_rules.specs.Surroundings.{is_local}
-use Rattle.written_literal.specs.LinkedNames.{Standing}
-use Rattle.constant_steps.specs.Alone.{PackageAt}
-use Rattle.constant_steps.specs.PlainUse.{linked_at}
+use Rattle.splice_laws.specs.WrittenLiteral.LinkedNames.{Standing}
+use Rattle.splice_laws.specs.ConstantSteps.Alone.{PackageAt}
+use Rattle.splice_laws.specs.ConstantSteps.PlainUse.{linked_at}
 use Rattle.literal_steps.specs.ServedParts.{AllServed, AllAway}
 use Rattle.literal_steps.specs.LiteralUse.{LiteralUse, call_of, names_of_form}
 

@@ -6,16 +6,16 @@ use Rattle.go_tree.specs.declared.spans.Span.{Span}
 use Rattle.go_tree.specs.Tree.{Expr, Stmts}
 use Rattle.go_tree.specs.Bare.{bare_stmts}
 use Rattle.go_tree.specs.File.{Func, func}
-use Rattle.scope_names.specs.FreeNames.{names_of}
-use Rattle.scope_names.specs.Means.{Environment, means, is_blank}
+use Rattle.go_tree.specs.ScopeNames.FreeNames.{names_of}
+use Rattle.go_tree.specs.ScopeNames.Means.{Environment, means, is_blank}
 use Rattle.pkg_graph.specs.Package.{Package}
 use Rattle.pkg_graph.specs.Members.{member}
-use Rattle.go_types.specs.Answers.{is_among}
-use Rattle.go_types.specs.Types.{GoType}
-use Rattle.go_types.specs.Entities.{Entity, World}
-use Rattle.go_types.specs.Bodies.{Ctx}
-use Rattle.go_types.specs.Programs.{SourceFile, SourcePackage, Program, headed, block_names, file_block}
-use Rattle.go_types.specs.Typing.{parts, stmts}
+use Rattle.go_tree.specs.GoTypes.Answers.{is_among}
+use Rattle.go_tree.specs.GoTypes.Types.{GoType}
+use Rattle.go_tree.specs.GoTypes.Entities.{Entity, World}
+use Rattle.go_tree.specs.GoTypes.Bodies.{Ctx}
+use Rattle.go_tree.specs.GoTypes.Programs.{SourceFile, SourcePackage, Program, headed, block_names, file_block}
+use Rattle.go_tree.specs.GoTypes.Typing.{parts, stmts}
 use Rattle.go_kernel.specs.Kernel.{FuncName}
 use Rattle.go_kernel.specs.Alike.{MeanSame}
 use Rattle.go_kernel.specs.Laws.{Ranked}
@@ -36,14 +36,14 @@ use Rattle.run_rules.specs.FormTrees.{LiteralForm, as_expr}
 use Rattle.run_rules.specs.Forms.{literal_tree}
 use Rattle.run_rules.specs.Obstacles.{shadowed_here, first_answer}
 use Rattle.run_rules.specs.Reduced.{text_taken, names_in_form, call_obstacle}
-use Rattle.written_literal.specs.Within.{Within}
-use Rattle.written_literal.specs.Fine.{keeping}
-use Rattle.written_literal.specs.KnownNames.{landing, KnownNames}
-use Rattle.written_literal.specs.PartsTyped.{changes_there}
-use Rattle.written_literal.specs.LinkedNames.{Standing}
-use Rattle.written_literal.specs.Meant.{Serves}
-use Rattle.written_literal.specs.Laws.{NoObstacleIn}
-use Rattle.constant_steps.specs.Alone.{block_from, PackageAt}
+use Rattle.splice_laws.specs.WrittenLiteral.Within.{Within}
+use Rattle.splice_laws.specs.WrittenLiteral.Fine.{keeping}
+use Rattle.splice_laws.specs.WrittenLiteral.KnownNames.{landing, KnownNames}
+use Rattle.splice_laws.specs.WrittenLiteral.PartsTyped.{changes_there}
+use Rattle.splice_laws.specs.WrittenLiteral.LinkedNames.{Standing}
+use Rattle.splice_laws.specs.WrittenLiteral.Meant.{Serves}
+use Rattle.splice_laws.specs.WrittenLiteral.Laws.{NoObstacleIn}
+use Rattle.splice_laws.specs.ConstantSteps.Alone.{block_from, PackageAt}
 use Rattle.literal_steps.specs.TypedParts.{LocalValues, StandIn}
 use Rattle.literal_steps.specs.ServedParts.{AllServed, AllAway, NothingElse}
 use Rattle.literal_steps.specs.AlikeChanges.{AllAlike}
@@ -125,7 +125,8 @@ FunctionsAreFirst =
     FirstFunction n p.number (file_block (block_names p.files) [] file.imports) g (headed ps)
 
 -- Where the packages that a form needs have names in the file of the use and no import is added, the name of each that
--- is the first with its path serves, at any place of the function whose declared names are among those that are avoided.
+-- is the first with its path serves, at any place of the function whose declared names are among those that are
+-- avoided.
 abbrev pub NamesThatAreThereServe : Type 0
 NamesThatAreThereServe =
     (ps : List (Package Span)) (w : Where Span) (at : Place Span) (bound : List (List ℕ)) (needed : List ℕ) →

@@ -5,3 +5,6 @@ pub mod FirstFunctions
 pub mod LiteralUse
 pub mod CalledAt
 pub mod Laws
+pub mod MethodLiterals
+pub mod RankedMarks
+pub mod ServedPackages

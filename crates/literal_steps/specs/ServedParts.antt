@@ -2,20 +2,21 @@
 -- and what means nothing in a file (Go specification, Qualified identifiers; Import declarations; Constant
 -- declarations).
 use Rattle.std.specs.Prelude.{◌≡◌, ℕ, true, false, List, [], ◌∷◌, Some, None, is_some, nat_eq}
-use Rattle.go_tree.specs.Tree.{TypeExpr, named, pointer, slice_type, map_type, struct_type, Fields, no_fields, field, ident, composite, selector, const_decl}
-use Rattle.scope_names.specs.Means.{Environment, means}
+use Rattle.go_tree.specs.Tree.{TypeExpr, named, pointer, slice_type, map_type, struct_type, Fields, no_fields, field}
+use Rattle.go_tree.specs.Tree.{ident, composite, selector, const_decl}
+use Rattle.go_tree.specs.ScopeNames.Means.{Environment, means}
 use Rattle.pkg_graph.specs.Package.{Package}
-use Rattle.go_types.specs.Answers.{given}
-use Rattle.go_types.specs.Types.{GoType}
-use Rattle.go_types.specs.Entities.{Content, Entity, is_exported, defined_in}
-use Rattle.go_types.specs.Operands.{value}
-use Rattle.go_types.specs.Primary.{fields_in}
-use Rattle.go_types.specs.Typing.{parts}
+use Rattle.go_tree.specs.GoTypes.Answers.{given}
+use Rattle.go_tree.specs.GoTypes.Types.{GoType}
+use Rattle.go_tree.specs.GoTypes.Entities.{Content, Entity, is_exported, defined_in}
+use Rattle.go_tree.specs.GoTypes.Operands.{value}
+use Rattle.go_tree.specs.GoTypes.Primary.{fields_in}
+use Rattle.go_tree.specs.GoTypes.Typing.{parts}
 use Rattle.form_meaning.specs.FormInPlace.Places.{open_in}
 use Rattle.run_rules.specs.Surroundings.{Place, Seen, seen, seen_type, seen_stmt}
 use Rattle.run_rules.specs.Sites.{Where, outer, outer_meaning, mark_of, qualifier}
 use Rattle.run_rules.specs.Naming.{Names}
-use Rattle.written_literal.specs.Meant.{Serves}
+use Rattle.splice_laws.specs.WrittenLiteral.Meant.{Serves}
 
 -- Names for packages at a use, where names mean `there` and those of `around` are declared around it; the parts stand
 -- in the file `home`.

@@ -4,6 +4,9 @@
 #![tactic(auto)]
 
 mod laws;
+pub mod method_literals;
+pub mod ranked_marks;
+pub mod served_packages;
 
 pub use laws::{
     calls_mean_their_literals, literals_have_no_obstacle, names_there_serve,

@@ -6,9 +6,9 @@ use Rattle.go_tree.specs.declared.tokens.Token.{Token}
 use Rattle.go_tree.specs.declared.tokens.Comment.{Comment}
 use Rattle.go_tree.specs.Tree.{NameAt}
 use Rattle.go_tree.specs.File.{File}
-use Rattle.go_words.specs.Tokens.{TokensOf}
+use Rattle.go_tree.specs.GoWords.Tokens.{TokensOf}
 use Rattle.go_read.specs.SpellsFiles.{SpellsFile}
-use Rattle.scope_names.specs.declared.names.FileNames.{FileNames}
+use Rattle.go_tree.specs.declared.scope_names.names.FileNames.{FileNames}
 use Rattle.directive_scan.specs.declared.mark_types.Mark.{Mark}
 use Rattle.directive_scan.specs.declared.mark_types.BadMark.{BadMark}
 use Rattle.directive_scan.specs.declared.mark_types.Verdict.{Verdict}

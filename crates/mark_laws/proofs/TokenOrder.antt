@@ -2,9 +2,9 @@
 use Rattle.std.proofs.Common.{◌≤◌, ◌+◌, ℕ, Bool, true, false, if◌then◌else◌, List, [], ◌∷◌, ◌++◌, map, Option, Some, None, sym, arith, subst}
 use Rattle.go_tree.specs.declared.tokens.Token.{Token}
 use Rattle.go_tree.specs.declared.tokens.Comment.{Comment}
-use Rattle.go_words.specs.Tokens.{TokensOf, tokens_from, tokens_at, due_after, comments_from, comments_at, inserted, size_of, ends_line, mark_size}
-use Rattle.go_words.specs.Tokens.Characters.{is_listed}
-use Rattle.go_words.specs.Tokens.Pieces.{PieceKind, blanks, remark, token, Piece}
+use Rattle.go_tree.specs.GoWords.Tokens.{TokensOf, tokens_from, tokens_at, due_after, comments_from, comments_at, inserted, size_of, ends_line, mark_size}
+use Rattle.go_tree.specs.GoWords.Tokens.Characters.{is_listed}
+use Rattle.go_tree.specs.GoWords.Tokens.Pieces.{PieceKind, blanks, remark, token, Piece}
 use Rattle.mark_laws.specs.Ascending.{AscendFrom, none, next, Ascend}
 
 abbrev pub token_start : Token → ℕ

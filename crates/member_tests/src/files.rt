@@ -3,8 +3,8 @@
 ghost use Rattle.std.specs.Prelude.{◌<◌, ◌^◌, length, IfOk};
 
 use go_parse::{Source, read_file};
+use go_tree::scope_names::{FileNames, ImportList, ImportName, NameList};
 use go_tree::{MAX_FILE_BYTES, Name, Span, Text};
-use scope_names::{FileNames, ImportList, ImportName, NameList};
 use scope_tables::{Scopes, scopes};
 use std::alloc::Global;
 use std::test::Fail;

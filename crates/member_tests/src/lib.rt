@@ -1,5 +1,6 @@
 //! Tests of the calls that find uses of members in a file, what marked constants are declared as, which imports steps
-//! leave unused, and which files hold only constants and functions that print them.
+//! leave unused, which files hold only constants and functions that print them, and of searches for the first free
+//! use of a marked constant.
 #![tactic(auto)]
 
 #[cfg(test)]
@@ -12,5 +13,7 @@ mod members;
 mod parts;
 #[cfg(test)]
 mod printed;
+#[cfg(test)]
+mod searches;
 #[cfg(test)]
 mod unused;

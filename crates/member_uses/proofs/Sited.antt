@@ -5,21 +5,21 @@ use Rattle.std.proofs.lemmas.List.{append_assoc, append-nil, map-append}
 use Rattle.go_tree.specs.declared.spans.Span.{Span}
 use Rattle.go_tree.specs.Tree.{NameAt, TypeExpr, named, pointer, slice_type, map_type, struct_type, Expr, ident, int_lit, rune_lit, str_lit, composite, selector, index, slice, call, func_lit, type_operand, unary, binary, star}
 use Rattle.go_tree.specs.File.{File}
-use Rattle.scope_names.specs.Means.{means, is_blank}
-use Rattle.scope_names.specs.Scopes.{expr_span}
+use Rattle.go_tree.specs.ScopeNames.Means.{means, is_blank}
+use Rattle.go_tree.specs.ScopeNames.Scopes.{expr_span}
 use Rattle.pkg_graph.specs.Package.{Package}
 use Rattle.pkg_graph.specs.Members.{Target}
-use Rattle.go_types.specs.Answers.{given}
-use Rattle.go_types.specs.Entities.{is_declared_here}
+use Rattle.go_tree.specs.GoTypes.Answers.{given}
+use Rattle.go_tree.specs.GoTypes.Entities.{is_declared_here}
 use Rattle.run_rules.specs.Surroundings.{Use, other, stored, Place, Seen, seen, seen_type, seen_stmt, is_old}
 use Rattle.run_rules.specs.Sites.{MarkRef, Where, Part, an_expr, a_type_part, Site, mark_of, not_function, type_span, part_span, named_in, outer, member_of, name_mark, qualified_mark, marked, marked_as, expr_mark, type_mark, site_by, type_sites, site_here, sites_among}
 use Rattle.possible_uses.specs.Candidates.{Candidate, plain_part, key_part}
 use Rattle.possible_uses.specs.Parts.{put}
 use Rattle.possible_uses.specs.Among.{may_be_use, Follows, at_the_end, past_a_use, past_no_use, past_a_key, past_a_field, past_an_old_name, past_a_type, past_a_statement}
 use Rattle.possible_uses.specs.Laws.{PartsAreAmongAll}
-use Rattle.place_meanings.specs.Agreement.{BlockIsLocal, AgreesAt}
-use Rattle.place_meanings.specs.Parts.{AtTypes, AtParts}
-use Rattle.place_meanings.specs.Laws.{PlacesMeanAsTablesSay, BlocksAreLocal}
+use Rattle.splice_laws.specs.PlaceMeanings.Agreement.{BlockIsLocal, AgreesAt}
+use Rattle.splice_laws.specs.PlaceMeanings.Parts.{AtTypes, AtParts}
+use Rattle.splice_laws.specs.PlaceMeanings.Laws.{PlacesMeanAsTablesSay, BlocksAreLocal}
 use Rattle.member_uses.specs.Uses.{Used, Names, used, package_at, import_at, part_uses, member_uses}
 use Rattle.member_uses.specs.Laws.{AllConstants, mark_used, marked_uses, LeavesFieldsOut, unmarked, with_mark, a_field, NoKeyIsMarked, site_marks, Knows, MarkedMembersAreSites}
 use Rattle.member_uses.specs.Laws as left

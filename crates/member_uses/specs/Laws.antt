@@ -1,21 +1,23 @@
 -- Which uses of members are uses of marked constants (Go specification, Constant declarations; Declarations and scope;
 -- Composite literals).
-use Rattle.std.specs.Prelude.{◌≡◌, ℕ, Bool, true, false, List, [], ◌∷◌, Option, Some, None, map, slice_get}
+use Rattle.std.specs.Prelude.{◌≡◌, ℕ, Bool, true, false, List, [], ◌∷◌, Option, Some, None, map}
+use Rattle.std.specs.Prelude.{slice_get}
 use Rattle.go_tree.specs.declared.spans.Span.{Span}
 use Rattle.go_tree.specs.File.{Decl, File}
-use Rattle.scope_names.specs.declared.names.FileNames.{FileNames}
+use Rattle.go_tree.specs.declared.scope_names.names.FileNames.{FileNames}
 use Rattle.scope_tables.specs.Table.{IsTableOf}
 use Rattle.pkg_graph.specs.Package.{Package, import_specs}
-use Rattle.go_types.specs.Answers.{meets}
+use Rattle.go_tree.specs.GoTypes.Answers.{meets}
 use Rattle.run_rules.specs.Programs.{package_number, decl_seen}
-use Rattle.run_rules.specs.Sites.{MarkRef, Where, Inlinable, a_constant, Site, part_span, inlinable, member_of, marked, sites_among}
+use Rattle.run_rules.specs.Sites.{MarkRef, Where, Inlinable, a_constant, Site, part_span, inlinable, member_of, marked}
+use Rattle.run_rules.specs.Sites.{sites_among}
 use Rattle.run_rules.specs.Respanned.{decl_with}
 use Rattle.run_rules.specs.Texts.{FileText}
 use Rattle.run_rules.specs.Inlining.{ReadsAs}
 use Rattle.possible_uses.specs.Among.{Keyed}
 use Rattle.possible_uses.specs.Parts.{parts_of}
-use Rattle.place_meanings.specs.Parts.{AllScoped}
-use Rattle.place_meanings.specs.Laws.{AreNamesOf}
+use Rattle.splice_laws.specs.PlaceMeanings.Parts.{AllScoped}
+use Rattle.splice_laws.specs.PlaceMeanings.Laws.{AreNamesOf}
 use Rattle.member_uses.specs.Uses.{Used, Names, member_uses}
 
 module _ {S : Type 0} where

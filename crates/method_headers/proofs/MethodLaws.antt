@@ -6,16 +6,16 @@ use Rattle.std.proofs.Common.{arith}
 use Rattle.std.proofs.lemmas.Slice.Eq.{bytes_eq-Decides}
 use Rattle.go_tree.specs.declared.spans.Span.{Span}
 use Rattle.go_tree.specs.File.{Receiver, Func}
-use Rattle.scope_names.specs.Means.{is_blank}
-use Rattle.scope_names.specs.FreeNames.{name_then, sig_names}
-use Rattle.go_types.specs.Answers.{given, both, only_if, is_among, and_also}
-use Rattle.go_types.specs.Types.{GoType, named_type, type_name_of, base_of, fields_of, field_names}
-use Rattle.go_types.specs.Defined.{Defined, find_defined, declared_methods}
-use Rattle.go_types.specs.Entities.{World, Env, meaning, type_of_name}
-use Rattle.go_types.specs.Declarations.{names_once}
-use Rattle.go_types.specs.Primary.{find_method}
-use Rattle.go_types.specs.Programs.{Headed, func_of, env_of}
-use Rattle.go_types.specs.MethodDeclarations.{DeclaredMethod, MethodName, declared_on, fields_under, has_method_name, method_declared, method_header, methods_from, methods_on, receiver_type, with_methods}
+use Rattle.go_tree.specs.ScopeNames.Means.{is_blank}
+use Rattle.go_tree.specs.ScopeNames.FreeNames.{name_then, sig_names}
+use Rattle.go_tree.specs.GoTypes.Answers.{given, both, only_if, is_among, and_also}
+use Rattle.go_tree.specs.GoTypes.Types.{GoType, named_type, type_name_of, base_of, fields_of, field_names}
+use Rattle.go_tree.specs.GoTypes.Defined.{Defined, find_defined, declared_methods}
+use Rattle.go_tree.specs.GoTypes.Entities.{World, Env, meaning, type_of_name}
+use Rattle.go_tree.specs.GoTypes.Declarations.{names_once}
+use Rattle.go_tree.specs.GoTypes.Primary.{find_method}
+use Rattle.go_tree.specs.GoTypes.Programs.{Headed, func_of, env_of}
+use Rattle.go_tree.specs.GoTypes.MethodDeclarations.{DeclaredMethod, MethodName, declared_on, fields_under, has_method_name, method_declared, method_header, methods_from, methods_on, receiver_type, with_methods}
 use Rattle.func_headers.specs.NameRoles.{SameTypes, SameTypesAt}
 use Rattle.func_headers.proofs.SameTypeLaws.{func_same, header_types, same_type}
 use Rattle.method_headers.specs.Methods.{method_type_at, own_type_name, receiver_at}

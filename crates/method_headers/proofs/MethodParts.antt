@@ -3,17 +3,17 @@ use Rattle.std.proofs.Common.{◌≡◌, ◌∙◌, ◌++◌, ℕ, Bool, true, f
 use Rattle.go_tree.specs.declared.spans.Span.{Span}
 use Rattle.go_tree.specs.Tree.{NameAt}
 use Rattle.go_tree.specs.File.{Receiver, Func}
-use Rattle.scope_names.specs.Means.{binding, is_blank}
-use Rattle.scope_names.specs.FreeNames.{name_then, params_names, sig_names}
-use Rattle.go_types.specs.Answers.{both, distinct_by, given, only_if}
-use Rattle.go_types.specs.Types.{GoType, named_type, pointer_to, FuncType}
-use Rattle.go_types.specs.Defined.{Method}
-use Rattle.go_types.specs.Entities.{variable, Env, Binds}
-use Rattle.go_types.specs.TypeNames.{func_type, params_meant}
-use Rattle.go_types.specs.Declarations.{bound_names, names_once, not_blank}
-use Rattle.go_types.specs.Bodies.{body_binds, param_binds}
-use Rattle.go_types.specs.Programs.{env_of}
-use Rattle.go_types.specs.MethodDeclarations.{receiver_binds, receiver_type}
+use Rattle.go_tree.specs.ScopeNames.Means.{binding, is_blank}
+use Rattle.go_tree.specs.ScopeNames.FreeNames.{name_then, params_names, sig_names}
+use Rattle.go_tree.specs.GoTypes.Answers.{both, distinct_by, given, only_if}
+use Rattle.go_tree.specs.GoTypes.Types.{GoType, named_type, pointer_to, FuncType}
+use Rattle.go_tree.specs.GoTypes.Defined.{Method}
+use Rattle.go_tree.specs.GoTypes.Entities.{variable, Env, Binds}
+use Rattle.go_tree.specs.GoTypes.TypeNames.{func_type, params_meant}
+use Rattle.go_tree.specs.GoTypes.Declarations.{bound_names, names_once, not_blank}
+use Rattle.go_tree.specs.GoTypes.Bodies.{body_binds, param_binds}
+use Rattle.go_tree.specs.GoTypes.Programs.{env_of}
+use Rattle.go_tree.specs.GoTypes.MethodDeclarations.{receiver_binds, receiver_type}
 use Rattle.package_blocks.proofs.HeaderLemmas.{map_append}
 use Rattle.func_headers.proofs.Signatures.{blank_append, params_bound}
 use Rattle.method_headers.specs.Methods.{method_of, method_type_at}

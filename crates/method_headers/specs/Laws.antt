@@ -1,16 +1,18 @@
 -- Laws of the methods that packages declare (Go specification, Method declarations; Method sets). Each is a clause of a
 -- function of this crate.
-use Rattle.std.specs.Prelude.{◌≡◌, ℕ, ◌&&◌, true, List, [], ◌∷◌, Option, Some, None, if◌then◌else◌, nat_eq, bytes_eq, is_some}
+use Rattle.std.specs.Prelude.{◌≡◌, ℕ, ◌&&◌, true, List, [], ◌∷◌, Option, Some, None}
+use Rattle.std.specs.Prelude.{if◌then◌else◌, nat_eq, bytes_eq, is_some}
 use Rattle.go_tree.specs.declared.spans.Span.{Span}
 use Rattle.go_tree.specs.File.{Receiver, Func}
-use Rattle.go_types.specs.Answers.{both}
-use Rattle.go_types.specs.Types.{named_type}
-use Rattle.go_types.specs.Defined.{Method, find_defined, methods}
-use Rattle.go_types.specs.Entities.{World}
-use Rattle.go_types.specs.Primary.{find_method}
-use Rattle.go_types.specs.Programs.{Headed, env_of}
-use Rattle.go_types.specs.MethodDeclarations.{DeclaredMethod, MethodName, declared_on, method_declared, method_header, methods_from}
-use Rattle.go_types.specs.Collect.{world_of}
+use Rattle.go_tree.specs.GoTypes.Answers.{both}
+use Rattle.go_tree.specs.GoTypes.Types.{named_type}
+use Rattle.go_tree.specs.GoTypes.Defined.{Method, find_defined, methods}
+use Rattle.go_tree.specs.GoTypes.Entities.{World}
+use Rattle.go_tree.specs.GoTypes.Primary.{find_method}
+use Rattle.go_tree.specs.GoTypes.Programs.{Headed, env_of}
+use Rattle.go_tree.specs.GoTypes.MethodDeclarations.{DeclaredMethod, MethodName, declared_on, method_declared}
+use Rattle.go_tree.specs.GoTypes.MethodDeclarations.{method_header, methods_from}
+use Rattle.go_tree.specs.GoTypes.Collect.{world_of}
 use Rattle.func_headers.specs.NameRoles.{SameTypes}
 use Rattle.method_headers.specs.Methods.{method_of, method_type_at, receiver_at}
 

@@ -2,14 +2,14 @@
 -- specification, Method declarations).
 use Rattle.std.specs.Prelude.{◌≡◌, ℕ, ◌<◌, ◌&&◌, List, length, Option, Some, None, nat_eq, is_none}
 use Rattle.go_tree.specs.File.{Receiver, Func}
-use Rattle.scope_names.specs.FreeNames.{name_then, sig_names}
-use Rattle.go_types.specs.Answers.{given, only_if}
-use Rattle.go_types.specs.Types.{GoType, named_type, type_name_of, base_of, FuncType}
-use Rattle.go_types.specs.Defined.{Defined, Method, under}
-use Rattle.go_types.specs.Entities.{Env, meaning, type_of_name, defined_in}
-use Rattle.go_types.specs.TypeNames.{func_type}
-use Rattle.go_types.specs.Declarations.{names_once}
-use Rattle.type_relations.specs.Environment.{Environment, env_type}
+use Rattle.go_tree.specs.ScopeNames.FreeNames.{name_then, sig_names}
+use Rattle.go_tree.specs.GoTypes.Answers.{given, only_if}
+use Rattle.go_tree.specs.GoTypes.Types.{GoType, named_type, type_name_of, base_of, FuncType}
+use Rattle.go_tree.specs.GoTypes.Defined.{Defined, Method, under}
+use Rattle.go_tree.specs.GoTypes.Entities.{Env, meaning, type_of_name, defined_in}
+use Rattle.go_tree.specs.GoTypes.TypeNames.{func_type}
+use Rattle.go_tree.specs.GoTypes.Declarations.{names_once}
+use Rattle.type_table.specs.TypeRelations.Environment.{Environment, env_type}
 use Rattle.type_table.specs.declared.nodes.TypeId.{TypeId}
 
 -- the name of a defined type of a package, which is no pointer

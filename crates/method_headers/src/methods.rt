@@ -1,13 +1,13 @@
 //! The types of methods (Go specification, Method declarations).
 
 ghost use Rattle.std.specs.Prelude.{List, length};
-ghost use Rattle.const_eval.specs.declared.consts.Const.{Const};
+ghost use Rattle.go_tree.specs.declared.const_eval.consts.Const.{Const};
 ghost use Rattle.go_tree.specs.FileView.{func_of, receiver_of};
 ghost use Rattle.comparable_types.specs.Grown.{AreFlagsSoFar, DefinedBelow};
-ghost use Rattle.value_types.specs.ValueTypes.{HasValueTypes};
+ghost use Rattle.type_table.specs.ValueTypes.ValueTypes.{HasValueTypes};
 ghost use Rattle.typed_names.specs.Known.{KnowsTypes};
 ghost use Rattle.typed_names.specs.Scopes.{env_at};
-ghost use Rattle.type_exprs.specs.Grown.{TypesGrown};
+ghost use Rattle.typed_names.specs.TypeExprs.Grown.{TypesGrown};
 ghost use Rattle.func_types.specs.Answers.{GivesFunc};
 ghost use Rattle.method_headers.specs.Methods.{method_type_at};
 
@@ -17,7 +17,7 @@ use func_types::func_type;
 use go_tree::{FuncDecl, Receiver};
 use operand_rules::Refusal;
 use std::alloc::Global;
-use type_relations::{Env, FuncType};
+use type_table::type_relations::{Env, FuncType};
 use typed_names::{Blocks, Scope};
 
 /// The type of a method with this receiver. `flags` are those of the types that are there, and are told of

@@ -1,19 +1,19 @@
 //! Receivers (Go specification, Method declarations).
 
 ghost use Rattle.std.specs.Prelude.{◌≡◌, ◌<◌, List, length, nat_eq, is_some, IfSome};
-ghost use Rattle.const_eval.specs.declared.consts.Const.{Const};
+ghost use Rattle.go_tree.specs.declared.const_eval.consts.Const.{Const};
 ghost use Rattle.go_tree.specs.FileView.{receiver_of};
-ghost use Rattle.go_types.specs.Answers.{given, meets};
-ghost use Rattle.go_types.specs.Entities.{type_of_name};
-ghost use Rattle.go_types.specs.Types.{base_of, type_name_of};
-ghost use Rattle.type_relations.specs.Environment.{defined_types, env_type};
+ghost use Rattle.go_tree.specs.GoTypes.Answers.{given, meets};
+ghost use Rattle.go_tree.specs.GoTypes.Entities.{type_of_name};
+ghost use Rattle.go_tree.specs.GoTypes.Types.{base_of, type_name_of};
+ghost use Rattle.type_table.specs.TypeRelations.Environment.{defined_types, env_type};
 ghost use Rattle.typed_names.specs.Known.{HasTypes, KnowsTypes};
 ghost use Rattle.typed_names.specs.Meanings.{entity_option};
 ghost use Rattle.typed_names.specs.Scopes.{env_at};
 ghost use Rattle.method_headers.specs.Methods.{GivesReceiver, own_type_name, receiver_at};
 
 use go_tree::Receiver;
-use type_relations::Env;
+use type_table::type_relations::Env;
 use type_table::{TypeId, TypeNode};
 use typed_names::{Blocks, Entity, Scope};
 

@@ -4,28 +4,28 @@ use Rattle.std.specs.Prelude.{is_none, slice_get}
 use Rattle.go_tree.specs.declared.spans.Span.{Span}
 use Rattle.go_tree.specs.File.{Receiver, Func}
 use Rattle.go_tree.specs.FileView as tree
-use Rattle.const_eval.specs.declared.consts.Const.{Const}
-use Rattle.scope_names.specs.FreeNames.{name_then, sig_names}
-use Rattle.go_types.specs.Answers.{given, both, meets, only_if, and_also}
-use Rattle.go_types.specs.Types.{FuncType, GoType}
-use Rattle.go_types.specs.Defined as go
-use Rattle.go_types.specs.Entities.{World}
-use Rattle.go_types.specs.Declarations.{names_once}
-use Rattle.go_types.specs.Programs as programs
-use Rattle.go_types.specs.Programs.{Header, constants, variables, a_type_spec, a_func, Headed, env_of}
-use Rattle.go_types.specs.MethodDeclarations.{MethodName, declared_on, is_new_method, method_declared, method_header, receiver_type}
-use Rattle.go_types.specs.WellTyped.{is_method, method_ok}
-use Rattle.type_relations.specs.Environment.{Environment}
-use Rattle.type_relations.specs.declared.methods.Method.{Method}
+use Rattle.go_tree.specs.declared.const_eval.consts.Const.{Const}
+use Rattle.go_tree.specs.ScopeNames.FreeNames.{name_then, sig_names}
+use Rattle.go_tree.specs.GoTypes.Answers.{given, both, meets, only_if, and_also}
+use Rattle.go_tree.specs.GoTypes.Types.{FuncType, GoType}
+use Rattle.go_tree.specs.GoTypes.Defined as go
+use Rattle.go_tree.specs.GoTypes.Entities.{World}
+use Rattle.go_tree.specs.GoTypes.Declarations.{names_once}
+use Rattle.go_tree.specs.GoTypes.Programs as programs
+use Rattle.go_tree.specs.GoTypes.Programs.{Header, constants, variables, a_type_spec, a_func, Headed, env_of}
+use Rattle.go_tree.specs.GoTypes.MethodDeclarations.{MethodName, declared_on, is_new_method, method_declared, method_header, receiver_type}
+use Rattle.go_tree.specs.GoTypes.WellTyped.{is_method, method_ok}
+use Rattle.type_table.specs.TypeRelations.Environment.{Environment}
+use Rattle.type_table.specs.declared.type_relations.methods.Method.{Method}
 use Rattle.type_table.specs.declared.nodes.TypeId.{TypeId}
 use Rattle.comparable_types.specs.declared.grown.TypeFlags.{TypeFlags}
 use Rattle.comparable_types.specs.Grown.{AreFlagsSoFar, DefinedBelow}
 use Rattle.typed_names.specs.declared.scopes.Scope.{Scope}
 use Rattle.typed_names.specs.Meanings.{Names, world_at}
 use Rattle.typed_names.specs.Scopes.{env_at}
-use Rattle.value_types.specs.ValueTypes.{HasValueTypes}
-use Rattle.type_exprs.specs.Grown.{TypesGrown}
-use Rattle.type_exprs.proofs.GrownLaws.{grown_on, grown_self}
+use Rattle.type_table.specs.ValueTypes.ValueTypes.{HasValueTypes}
+use Rattle.typed_names.specs.TypeExprs.Grown.{TypesGrown}
+use Rattle.typed_names.proofs.TypeExprs.GrownLaws.{grown_on, grown_self}
 use Rattle.func_types.specs.Answers.{func_of}
 use Rattle.func_types.proofs.ParamSteps.{types_kept, types_same}
 use Rattle.declared_types.specs.Steps.{KnowsPlaces}

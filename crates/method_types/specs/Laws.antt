@@ -2,10 +2,10 @@
 -- function of this crate.
 use Rattle.std.specs.Prelude.{◌≡◌, ℕ, List}
 use Rattle.go_tree.specs.declared.spans.Span.{Span}
-use Rattle.go_types.specs.Entities.{World}
-use Rattle.go_types.specs.Programs.{Headed}
-use Rattle.go_types.specs.MethodDeclarations.{MethodName}
-use Rattle.go_types.specs.Collect.{world_of}
+use Rattle.go_tree.specs.GoTypes.Entities.{World}
+use Rattle.go_tree.specs.GoTypes.Programs.{Headed}
+use Rattle.go_tree.specs.GoTypes.MethodDeclarations.{MethodName}
+use Rattle.go_tree.specs.GoTypes.Collect.{world_of}
 use Rattle.func_headers.specs.NameRoles.{SameTypes}
 use Rattle.method_types.specs.Methods.{refused_methods}
 

@@ -1,14 +1,15 @@
 -- The methods that headers declare, and which headers of methods are refused (Go specification, Method declarations).
-use Rattle.std.specs.Prelude.{◌≡◌, ℕ, suc, not, ◌&&◌, List, [], ◌∷◌, Option, Some, None, if◌then◌else◌}
+use Rattle.std.specs.Prelude.{◌≡◌, ℕ, suc, not, ◌&&◌, List, [], ◌∷◌, Option, Some, None}
+use Rattle.std.specs.Prelude.{if◌then◌else◌}
 use Rattle.go_tree.specs.declared.spans.Span.{Span}
-use Rattle.go_types.specs.Answers.{given, only_if, and_also}
-use Rattle.go_types.specs.Defined as go
-use Rattle.go_types.specs.Entities.{World}
-use Rattle.go_types.specs.Programs.{Headed}
-use Rattle.go_types.specs.MethodDeclarations.{MethodName, declared_on, is_new_method, method_header}
-use Rattle.go_types.specs.WellTyped.{is_method, method_ok}
-use Rattle.type_relations.specs.Environment.{Environment}
-use Rattle.type_relations.specs.declared.methods.Method.{Method}
+use Rattle.go_tree.specs.GoTypes.Answers.{given, only_if, and_also}
+use Rattle.go_tree.specs.GoTypes.Defined as go
+use Rattle.go_tree.specs.GoTypes.Entities.{World}
+use Rattle.go_tree.specs.GoTypes.Programs.{Headed}
+use Rattle.go_tree.specs.GoTypes.MethodDeclarations.{MethodName, declared_on, is_new_method, method_header}
+use Rattle.go_tree.specs.GoTypes.WellTyped.{is_method, method_ok}
+use Rattle.type_table.specs.TypeRelations.Environment.{Environment}
+use Rattle.type_table.specs.declared.type_relations.methods.Method.{Method}
 use Rattle.func_types.specs.Answers.{AreTypesOf, func_of}
 
 -- a method with the name of the defined type that it is declared on

@@ -1,21 +1,22 @@
 -- The steps in which the methods of headers get their types (Go specification, Method declarations).
-use Rattle.std.specs.Prelude.{◌≡◌, ℕ, zero, suc, Bool, List, [], ◌∷◌, ◌++◌, length, map, drop, Option, Some, None, is_some}
+use Rattle.std.specs.Prelude.{◌≡◌, ℕ, zero, suc, Bool, List, [], ◌∷◌, ◌++◌, length, map, drop, Option}
+use Rattle.std.specs.Prelude.{Some, None, is_some}
 use Rattle.go_tree.specs.declared.spans.Span.{Span}
-use Rattle.const_eval.specs.declared.consts.Const.{Const}
-use Rattle.go_types.specs.Answers.{and_also}
-use Rattle.go_types.specs.Types as go
-use Rattle.go_types.specs.Entities.{World}
-use Rattle.go_types.specs.Programs.{Headed}
-use Rattle.go_types.specs.MethodDeclarations.{MethodName, declared_on}
-use Rattle.type_relations.specs.Environment.{Environment}
-use Rattle.type_relations.specs.declared.methods.Method.{Method}
+use Rattle.go_tree.specs.declared.const_eval.consts.Const.{Const}
+use Rattle.go_tree.specs.GoTypes.Answers.{and_also}
+use Rattle.go_tree.specs.GoTypes.Types as go
+use Rattle.go_tree.specs.GoTypes.Entities.{World}
+use Rattle.go_tree.specs.GoTypes.Programs.{Headed}
+use Rattle.go_tree.specs.GoTypes.MethodDeclarations.{MethodName, declared_on}
+use Rattle.type_table.specs.TypeRelations.Environment.{Environment}
+use Rattle.type_table.specs.declared.type_relations.methods.Method.{Method}
 use Rattle.type_table.specs.declared.nodes.TypeId.{TypeId}
 use Rattle.comparable_types.specs.declared.grown.TypeFlags.{TypeFlags}
 use Rattle.comparable_types.specs.Grown.{AreFlagsSoFar, DefinedBelow}
 use Rattle.typed_names.specs.declared.scopes.Scope.{Scope}
 use Rattle.typed_names.specs.Meanings.{Names, world_at}
-use Rattle.value_types.specs.ValueTypes.{HasValueTypes}
-use Rattle.type_exprs.specs.Grown.{TypesGrown}
+use Rattle.type_table.specs.ValueTypes.ValueTypes.{HasValueTypes}
+use Rattle.typed_names.specs.TypeExprs.Grown.{TypesGrown}
 use Rattle.func_types.specs.Answers.{AreTypesOf, func_of}
 use Rattle.declared_types.specs.Steps.{KnowsPlaces}
 use Rattle.package_blocks.specs.declared.headers.PackageHeader.{PackageHeader}

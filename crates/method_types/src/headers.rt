@@ -3,14 +3,14 @@
 ghost use Rattle.std.specs.Prelude.{◌≡◌, ◌&&◌, [], List, length, map, is_some, is_none, IfOk};
 ghost use Rattle.go_tree.specs.declared.spans.Span.{Span};
 ghost use Rattle.go_tree.specs.FileView.{func_of, receiver_of};
-ghost use Rattle.const_eval.specs.declared.consts.Const.{Const};
-ghost use Rattle.go_types.specs.Programs.{Headed};
+ghost use Rattle.go_tree.specs.declared.const_eval.consts.Const.{Const};
+ghost use Rattle.go_tree.specs.GoTypes.Programs.{Headed};
 ghost use Rattle.comparable_types.specs.Grown.{AreFlagsSoFar, DefinedBelow};
-ghost use Rattle.value_types.specs.ValueTypes.{HasValueTypes};
+ghost use Rattle.type_table.specs.ValueTypes.ValueTypes.{HasValueTypes};
 ghost use Rattle.typed_names.specs.Known.{KnowsTypes};
 ghost use Rattle.typed_names.specs.Meanings.{world_at};
 ghost use Rattle.typed_names.specs.Scopes.{env_at};
-ghost use Rattle.type_exprs.specs.Grown.{TypesGrown};
+ghost use Rattle.typed_names.specs.TypeExprs.Grown.{TypesGrown};
 ghost use Rattle.declared_types.specs.Steps.{KnowsPlaces};
 ghost use Rattle.package_blocks.specs.Headers.{AreHeaders, header_of, listed_of};
 ghost use Rattle.method_headers.specs.Methods.{method_type_at};
@@ -26,8 +26,8 @@ use method_headers::method_type;
 use operand_rules::Refusal;
 use package_blocks::PackageHeader;
 use std::alloc::{AllocError, Global};
-use type_relations::{Env, Method};
 use type_table::TypeId;
+use type_table::type_relations::{Env, Method};
 use typed_names::{Blocks, Scope};
 
 /// The methods that headers declare, one for each header that declares one, and the numbers of the headers

@@ -1,5 +1,6 @@
 -- Internal packages (the go command's documentation, Internal Directories).
-use Rattle.std.specs.Prelude.{◌≡◌, ℕ, zero, suc, ◌+◌, ◌-◌, ◌<◌, ◌==◌, Bool, true, ◌&&◌, ◌||◌, not, nat_eq, bytes_eq, List, [], ◌∷◌, length, take, drop, codes}
+use Rattle.std.specs.Prelude.{◌≡◌, ℕ, zero, suc, ◌+◌, ◌-◌, ◌<◌, ◌==◌, Bool, true, ◌&&◌}
+use Rattle.std.specs.Prelude.{◌||◌, not, nat_eq, bytes_eq, List, [], ◌∷◌, length, take, drop, codes}
 use Rattle.std.specs.List.{starts_with}
 
 -- the path ends here, or a `/` stands here

@@ -1,6 +1,8 @@
 -- The file `go.mod` (Go Modules Reference, go.mod files: Lexical elements, Module paths and versions, module directive,
 -- go directive).
-use Rattle.std.specs.Prelude.{ℕ, ◌+◌, ◌-◌, ◌*◌, ◌==◌, Bool, false, not, ◌&&◌, ◌||◌, nat_le, nat_lt, nat_eq, min, length, if◌then◌else◌, bytes_eq, List, [], ◌∷◌, take, drop, fold, Option, Some, None, option_and_then, codes}
+use Rattle.std.specs.Prelude.{ℕ, ◌+◌, ◌-◌, ◌*◌, ◌==◌, Bool, false, not, ◌&&◌, ◌||◌, nat_le}
+use Rattle.std.specs.Prelude.{nat_lt, nat_eq, min, length, if◌then◌else◌, bytes_eq, List, [], ◌∷◌, take}
+use Rattle.std.specs.Prelude.{drop, fold, Option, Some, None, option_and_then, codes}
 use Rattle.std.specs.List.{list_all, prefix_len, ends_with}
 use Rattle.module_files.specs.Pieces.{lines, before_comment, fields, has_bytes}
 

@@ -1,11 +1,12 @@
 -- Parts of bytes: the elements of a path, the lines of a text, the fields of a line.
-use Rattle.std.specs.Prelude.{ℕ, ◌==◌, Bool, true, false, if◌then◌else◌, nat_eq, nat_lt, List, [], ◌∷◌, map, take, Option, None, Some, codes}
+use Rattle.std.specs.Prelude.{ℕ, ◌==◌, Bool, true, false, if◌then◌else◌, nat_eq, nat_lt, List, []}
+use Rattle.std.specs.Prelude.{◌∷◌, map, take, Option, None, Some, codes}
 use Rattle.std.specs.List.{join_with_byte}
 use Rattle.bstr.specs.Fields.{fields_acc}
 use Rattle.bstr.specs.Find.{first_of, matches}
 use Rattle.bstr.specs.Text.{lines_of, without_terminator}
 use Rattle.bstr.specs.Utf8.{pieces, spans_from}
-use Rattle.go_words.specs.Tokens.Characters.{is_blank}
+use Rattle.go_tree.specs.GoWords.Tokens.Characters.{is_blank}
 
 -- the byte in up_to of the first piece
 abbrev pub push_front : ℕ → List (List ℕ) → List (List ℕ)

@@ -1,7 +1,8 @@
 -- Which files of a folder are read (the go command's documentation, Package lists and patterns: files and folders whose
 -- names begin with `_` or `.`, and folders named `testdata`; Go Modules Reference, Vendoring, and modules within
 -- modules).
-use Rattle.std.specs.Prelude.{ℕ, suc, ◌==◌, Bool, false, not, ◌&&◌, ◌||◌, if◌then◌else◌, bytes_eq, nat_eq, List, [], ◌∷◌, ◌++◌, codes}
+use Rattle.std.specs.Prelude.{ℕ, suc, ◌==◌, Bool, false, not, ◌&&◌, ◌||◌, if◌then◌else◌, bytes_eq}
+use Rattle.std.specs.Prelude.{nat_eq, List, [], ◌∷◌, ◌++◌, codes}
 use Rattle.std.specs.List.{list_any, ends_with, join_with_byte}
 use Rattle.module_files.specs.Pieces.{folders, file_name}
 

@@ -2,7 +2,7 @@
 
 ghost use Rattle.std.specs.Prelude.{◌≡◌};
 ghost use Rattle.std.specs.Option.{option_copied};
-ghost use Rattle.go_words.specs.Tokens.Characters.{is_blank};
+ghost use Rattle.go_tree.specs.GoWords.Tokens.Characters.{is_blank};
 ghost use Rattle.module_files.specs.Pieces.{before_comment, has_bytes};
 ghost use Rattle.module_files.specs.ModuleFile.{argument_in};
 

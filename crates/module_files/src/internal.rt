@@ -1,7 +1,8 @@
 //! Internal packages.
 
 ghost use Rattle.std.specs.Prelude.{◌≡◌, ◌≤◌, length};
-ghost use Rattle.module_files.specs.Internal.{begins_element, is_start, is_internal_at, lies_within, passes, may_import};
+ghost use Rattle.module_files.specs.Internal.{begins_element, is_start, is_internal_at, lies_within, passes};
+ghost use Rattle.module_files.specs.Internal.{may_import};
 
 const INTERNAL: &[u8; 8] = b"internal";
 

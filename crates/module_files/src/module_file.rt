@@ -4,7 +4,8 @@ ghost use Rattle.std.specs.Prelude.{◌≡◌, IfOk, IfErr};
 ghost use Rattle.std.specs.List.{list_all};
 ghost use Rattle.std.specs.Option.{option_copied};
 ghost use Rattle.module_files.specs.Pieces.{before_comment};
-ghost use Rattle.module_files.specs.ModuleFile.{argument_of, is_quote, is_path_byte, is_module_path, unquoted, module_path, module_of, is_module};
+ghost use Rattle.module_files.specs.ModuleFile.{argument_of, is_quote, is_path_byte, is_module_path, unquoted};
+ghost use Rattle.module_files.specs.ModuleFile.{module_path, module_of, is_module};
 ghost use Rattle.module_files.specs.ModuleFaults.{IsModuleFault};
 
 use crate::faults::{GraphError, Module};

@@ -1,6 +1,7 @@
 //! Paths by their numbers, and sets of paths in their order.
 
-ghost use Rattle.std.specs.Prelude.{◌≡◌, [], ◌∷◌, IfOk, OnOk, IfSome, IfNone, true, not, ◌||◌, bytes_eq, All, length, ◌<◌};
+ghost use Rattle.std.specs.Prelude.{◌≡◌, [], ◌∷◌, IfOk, OnOk, IfSome, IfNone, true, not, ◌||◌};
+ghost use Rattle.std.specs.Prelude.{bytes_eq, All, length, ◌<◌};
 ghost use Rattle.std.specs.Prelude.{Some, List, ℕ};
 ghost use Rattle.module_files.specs.Pieces.{comes_before};
 ghost use Rattle.module_files.specs.PathLists.{has_path, number_of, path_at, with_path};

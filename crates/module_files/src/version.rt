@@ -2,7 +2,8 @@
 
 ghost use Rattle.std.specs.Prelude.{◌≡◌, ◌≤◌, length};
 ghost use Rattle.std.specs.List.{prefix_len};
-ghost use Rattle.module_files.specs.ModuleFile.{is_decimal, digits, behind_digits, number_of, is_number, is_recent, is_minor, is_version};
+ghost use Rattle.module_files.specs.ModuleFile.{is_decimal, digits, behind_digits, number_of, is_number, is_recent};
+ghost use Rattle.module_files.specs.ModuleFile.{is_minor, is_version};
 
 use crate::fields::has_bytes;
 

@@ -8,7 +8,7 @@ use Rattle.indexmap.specs.IndexMap.{insert_entry}
 use Rattle.go_tree.specs.declared.spans.Span.{Span}
 use Rattle.go_tree.specs.Tree.{NameAt}
 use Rattle.go_tree.specs.File.{Decl}
-use Rattle.scope_names.specs.Means.{or_else}
+use Rattle.go_tree.specs.ScopeNames.Means.{or_else}
 use Rattle.import_rules.specs.Removed.{span_at, same_span}
 use Rattle.pkg_graph.specs.Members.{decl_names}
 use Rattle.run_rules.specs.Programs.{numbered, numbered_from}

@@ -11,10 +11,10 @@ ghost use Rattle.module_marks.specs.Views.{mark_ref_of, bad_at_of};
 use crate::spans::declared_spans;
 use directive_scan::{BadMark, Mark, marks};
 use file_names::MarkRef;
+use go_tree::scope_names::FileNames;
 use go_tree::{FileTree, NoMemory, Text};
 use module_reading::ScannedFile;
 use pkg_graph::SourceTree;
-use scope_names::FileNames;
 use std::alloc::Global;
 
 /// A mark that means nothing, with the path of its file.

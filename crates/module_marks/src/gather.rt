@@ -15,9 +15,9 @@ use crate::file_marks::{ModuleMarks, add_marks};
 use crate::sources::Sources;
 use file_names::{block_members, member_names, names_of_file};
 use go_tree::NoMemory;
+use go_tree::scope_names::{FileNames, NameList};
 use module_reading::ScannedFile;
 use pkg_graph::{Package, SourceTree};
-use scope_names::{FileNames, NameList};
 use std::alloc::Global;
 
 /// Adds the marks of the file of these numbers, whose package block has these names, and hands the names back.

@@ -31,8 +31,8 @@ pub data IsUnplanned (files : List SourceFile) : Refusal → Type 0 where
   ill_typed : AreModule files → (ps : List (Package Span)) → HasForm (contents_of files) ps →
       list_all well_typed ps ≡ false → IsUnplanned files (told_whole NotTyped)
 
--- The files are a module, and these are the files afterwards, the report and the number of steps that are planned, where
--- constants count as marked whose full names begin with `only`.
+-- The files are a module, and these are the files afterwards, the report and the number of steps that are planned,
+-- where constants count as marked whose full names begin with `only`.
 pub record IsPlanned (files : List SourceFile) (only : List ℕ) (after : List (List ℕ × List ℕ)) (report : List ℕ)
     (steps : ℕ) : Type 0 where
   pub module_is : AreModule files

@@ -2,7 +2,7 @@
 use Rattle.std.proofs.Common.{◌≡◌, ◌≢◌, ◌∙◌, ℕ, List, sym, subst}
 use Rattle.std.specs.Prelude.{Result, Ok, Err, IfErr}
 use Rattle.std.specs.Str.{IsValidUpTo}
-use Rattle.go_words.specs.Tokens.{StopsAt}
+use Rattle.go_tree.specs.GoWords.Tokens.{StopsAt}
 use Rattle.go_scan.specs.declared.scanner.ScanError.{ScanError}
 use Rattle.go_scan.specs.declared.scanner.ScanError.TheVariants as scanned
 use Rattle.go_scan.specs.Scanned.{HasNoTokens, Refuses}

@@ -3,7 +3,7 @@
 use Rattle.std.specs.Prelude.{◌≡◌, ◌≤◌, Bool, not, bytes_eq, List, [], ◌∷◌, map, filter, length, All}
 use Rattle.go_tree.specs.FileView.{file_of}
 use Rattle.go_tree.specs.declared.limits.TheConstants.{MAX_FILE_BYTES}
-use Rattle.go_words.specs.Tokens.{TokensOf}
+use Rattle.go_tree.specs.GoWords.Tokens.{TokensOf}
 use Rattle.go_read.specs.SpellsFiles.{SpellsFile}
 use Rattle.module_files.specs.Selected.{module_file}
 use Rattle.pkg_graph.specs.Reads.{Source}

@@ -34,8 +34,8 @@ abbrev pub module_answer : List Source → ModuleAnswer
 module_answer files = answer_in (find (is_at module_file) files)
 
 -- The module is what the files read as: its path is that of `go.mod`, its packages are made of the trees of the files,
--- nothing is wrong with their names and imports, and the files of Go source are kept with their tokens, of which each is
--- supported and none nests too deeply.
+-- nothing is wrong with their names and imports, and the files of Go source are kept with their tokens, of which each
+-- is supported and none nests too deeply.
 pub record IsReadFrom (files : List SourceFile) (m : ReadModule) : Type 0 where
   pub path_is : module_answer (sources_of files) ≡ is_module m.home.path
   pub scanned : AreScanned (go_files files) m.files.items

@@ -6,8 +6,8 @@ use Rattle.go_tree.specs.declared.spans.Span.{Span}
 use Rattle.go_tree.specs.declared.tokens.Token.{Token}
 use Rattle.go_tree.specs.declared.tokens.Comment.{Comment}
 use Rattle.go_tree.specs.File.{File}
-use Rattle.go_words.specs.Terminals.{lexemes}
-use Rattle.go_words.specs.Tokens.{TokensOf, StopsAt}
+use Rattle.go_tree.specs.GoWords.Terminals.{lexemes}
+use Rattle.go_tree.specs.GoWords.Tokens.{TokensOf, StopsAt}
 use Rattle.go_scan.specs.Scanned.{HasNoTokens}
 use Rattle.go_scan.specs.Unsupported.{IsFirst, unsupported_spans}
 use Rattle.go_nesting.specs.declared.counts.TheConstants.{MAX_LIMIT}

@@ -1,7 +1,7 @@
 //! The tokens of all files.
 
 ghost use Rattle.std.specs.Prelude.{◌≡◌, ◌≢◌, ◌≤◌, ◌<◌, ◌^◌, All, IfErr, IfOk, length};
-ghost use Rattle.go_words.specs.Tokens.{TokensOf};
+ghost use Rattle.go_tree.specs.GoWords.Tokens.{TokensOf};
 ghost use Rattle.module_files.specs.declared.faults.GraphError.TheVariants.{NoMemory};
 ghost use Rattle.module_reading.specs.Files.{AreScanned, IsScanned, go_files};
 ghost use Rattle.module_reading.specs.Refusals.{Fails, IsOfScan, RefusesScan};

@@ -6,9 +6,9 @@ use Rattle.go_tree.specs.declared.tokens.Token.{Token}
 use Rattle.go_tree.specs.declared.tokens.TokenKind.{TokenKind}
 use Rattle.go_tree.specs.declared.tokens.TokenKind.TheVariants.{Ident, Keyword, Operator, Integer, Float, Imaginary, Rune, Str, Inserted}
 use Rattle.go_tree.specs.File.{File}
-use Rattle.go_words.specs.Terminals.{Terminal, Lexeme, lex, ident, semicolon, keywords, operators, found_in, terminal_of, lexemes}
+use Rattle.go_tree.specs.GoWords.Terminals.{Terminal, Lexeme, lex, ident, semicolon, keywords, operators, found_in, terminal_of, lexemes}
 use Rattle.go_tree.specs.declared.tokens.Comment.{Comment}
-use Rattle.go_words.specs.Tokens.{TokensOf}
+use Rattle.go_tree.specs.GoWords.Tokens.{TokensOf}
 use Rattle.go_scan.proofs.Cuts.{tokens_once}
 use Rattle.run_rules.specs.Inlining.{IsSourceFile}
 use Rattle.module_refusals.specs.Told.{NamesPackage}

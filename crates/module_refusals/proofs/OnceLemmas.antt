@@ -7,8 +7,8 @@ use Rattle.std.proofs.lemmas.List.{take_all}
 use Rattle.std.proofs.lemmas.List.Elements.{All-contains}
 use Rattle.go_tree.specs.declared.spans.Span.{Span}
 use Rattle.go_tree.specs.declared.tokens.Token.{Token}
-use Rattle.go_words.specs.Terminals.{lexemes}
-use Rattle.go_words.specs.Tokens.{StopsAt}
+use Rattle.go_tree.specs.GoWords.Terminals.{lexemes}
+use Rattle.go_tree.specs.GoWords.Tokens.{StopsAt}
 use Rattle.go_scan.proofs.Cuts.{stops_once}
 use Rattle.go_scan.specs.Unsupported.{IsFirst, unsupported_spans}
 use Rattle.go_nesting.specs.declared.counts.TheConstants.{MAX_LIMIT}

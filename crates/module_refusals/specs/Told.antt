@@ -51,8 +51,8 @@ fault_detail (Unsupported span) text = detail.Unsupported (bytes_in text span)
 fault_detail (TooDeep _) text = detail.TooDeep
 fault_detail (NotRead _) text = detail.NotRead
 
--- How what is wrong with `go.mod` or the packages is told: of a file whose package is named otherwise than its folder's,
--- the name, and of an import its path. Want of memory isn't told.
+-- How what is wrong with `go.mod` or the packages is told: of a file whose package is named otherwise than its
+-- folder's, the name, and of an import its path. Want of memory isn't told.
 abbrev pub TellsModule : List SourceFile → GraphError → Refusal → Type 0
 TellsModule files graph.NoModuleLine r = r ≡ told_whole detail.NoModuleLine
 TellsModule files (graph.OldGo version) r = r ≡ told_whole (detail.OldGo version)

@@ -1,6 +1,7 @@
 //! The first reason why files are no module.
 
-ghost use Rattle.std.specs.Prelude.{◌≡◌, ◌<◌, ◌≤◌, ◌^◌, ℕ, All, IfOk, IfSome, MatchOption, length};
+ghost use Rattle.std.specs.Prelude.{◌≡◌, ◌<◌, ◌≤◌, ◌^◌, ℕ, All, IfOk, IfSome, MatchOption};
+ghost use Rattle.std.specs.Prelude.{length};
 ghost use Rattle.module_reading.specs.Files.{go_files, sources_of};
 ghost use Rattle.module_reading.specs.Modules.{Refuses, RefusesModule};
 ghost use Rattle.module_refusals.specs.Refused.{AreModule, IsBelow, IsRefusal};

@@ -1,15 +1,15 @@
 -- Untyped constants that are kept.
 use Rattle.std.proofs.Common.{◌≡◌, ◌<◌, ◌^◌, ℕ, true, List, Some, Result, Ok, Err, refl, sym, subst, arith, pos}
 use Rattle.std.proofs.lemmas.Bool.Decides.{nat_tests}
-use Rattle.const_eval.specs.declared.kinds.Kind.{Kind}
-use Rattle.const_eval.specs.declared.kinds.Kind.TheVariants as kind
-use Rattle.const_eval.specs.declared.consts.Const.{Const}
-use Rattle.const_eval.specs.declared.consts.Const.TheVariants.{Whole}
-use Rattle.const_eval.specs.Exact.{represents}
-use Rattle.go_types.specs.Types.{untyped}
-use Rattle.go_types.specs.Entities.{exact}
-use Rattle.go_types.specs.Operands.{value}
-use Rattle.type_relations.specs.Environment.{Environment}
+use Rattle.go_tree.specs.declared.const_eval.kinds.Kind.{Kind}
+use Rattle.go_tree.specs.declared.const_eval.kinds.Kind.TheVariants as kind
+use Rattle.go_tree.specs.declared.const_eval.consts.Const.{Const}
+use Rattle.go_tree.specs.declared.const_eval.consts.Const.TheVariants.{Whole}
+use Rattle.go_tree.specs.ConstEval.Exact.{represents}
+use Rattle.go_tree.specs.GoTypes.Types.{untyped}
+use Rattle.go_tree.specs.GoTypes.Entities.{exact}
+use Rattle.go_tree.specs.GoTypes.Operands.{value}
+use Rattle.type_table.specs.TypeRelations.Environment.{Environment}
 use Rattle.operand_rules.specs.declared.values.ValueType.{ValueType}
 use Rattle.operand_rules.specs.declared.values.ValueType.TheVariants.{Untyped}
 use Rattle.operand_rules.specs.declared.values.Content.{Content}

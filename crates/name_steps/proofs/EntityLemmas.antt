@@ -1,14 +1,14 @@
 -- What a name means has its types and its constant in the tables.
 use Rattle.std.proofs.Common.{◌≡◌, ◌∙◌, ◌<◌, ◌++◌, ℕ, zero, suc, Bool, true, false, List, [], ◌∷◌, Option, Some, None, refl, sym, ap, subst, IfSome, length, bytes_eq, cond}
-use Rattle.const_eval.specs.declared.consts.Const.{Const}
-use Rattle.const_eval.specs.declared.consts.Const.TheVariants.{Truth}
-use Rattle.scope_names.specs.Means.{means}
-use Rattle.go_types.specs.Types.{GoType}
-use Rattle.go_types.specs.Entities as go
-use Rattle.go_types.specs.Entities.{block_of, exported, is_exported, meaning, universe}
-use Rattle.const_eval.specs.Exact.{represents}
-use Rattle.go_types.specs.Operands.{kind_passes}
-use Rattle.type_relations.specs.Environment.{Environment, defined_types}
+use Rattle.go_tree.specs.declared.const_eval.consts.Const.{Const}
+use Rattle.go_tree.specs.declared.const_eval.consts.Const.TheVariants.{Truth}
+use Rattle.go_tree.specs.ScopeNames.Means.{means}
+use Rattle.go_tree.specs.GoTypes.Types.{GoType}
+use Rattle.go_tree.specs.GoTypes.Entities as go
+use Rattle.go_tree.specs.GoTypes.Entities.{block_of, exported, is_exported, meaning, universe}
+use Rattle.go_tree.specs.ConstEval.Exact.{represents}
+use Rattle.go_tree.specs.GoTypes.Operands.{kind_passes}
+use Rattle.type_table.specs.TypeRelations.Environment.{Environment, defined_types}
 use Rattle.operand_rules.specs.declared.values.ValueType.{ValueType}
 use Rattle.operand_rules.specs.declared.values.Content.TheVariants.{Exact}
 use Rattle.operand_rules.specs.Constants.{const_at}

@@ -1,17 +1,17 @@
 -- Names as operands.
 use Rattle.std.proofs.Common.{◌≡◌, List, Option, Some, refl}
-use Rattle.const_eval.specs.declared.consts.Const.{Const}
-use Rattle.go_types.specs.Entities as go_entity
-use Rattle.go_types.specs.Entities.{run}
-use Rattle.go_types.specs.Operands as go
-use Rattle.go_types.specs.Operands.{value, named_operand, named_place}
+use Rattle.go_tree.specs.declared.const_eval.consts.Const.{Const}
+use Rattle.go_tree.specs.GoTypes.Entities as go_entity
+use Rattle.go_tree.specs.GoTypes.Entities.{run}
+use Rattle.go_tree.specs.GoTypes.Operands as go
+use Rattle.go_tree.specs.GoTypes.Operands.{value, named_operand, named_place}
 use Rattle.type_table.specs.declared.nodes.TypeId.{TypeId}
-use Rattle.type_relations.specs.Environment.{Environment, env_type}
+use Rattle.type_table.specs.TypeRelations.Environment.{Environment, env_type}
 use Rattle.operand_rules.specs.declared.constants.ConstId.{ConstId}
 use Rattle.operand_rules.specs.declared.values.ValueType.{ValueType}
 use Rattle.operand_rules.specs.declared.values.ValueType.TheVariants.{Typed, Nil}
 use Rattle.operand_rules.specs.declared.values.Content.TheVariants.{Run, Exact}
-use Rattle.access_rules.specs.declared.places.Place.TheVariants.{Addressable, Elsewhere}
+use Rattle.operator_rules.specs.declared.access_rules.places.Place.TheVariants.{Addressable, Elsewhere}
 use Rattle.typed_names.specs.declared.entities.Entity.TheVariants.{Variable, Constant, TypeName, Function}
 use Rattle.typed_names.specs.Meanings.{entity_at}
 use Rattle.universe_block.specs.declared.block.PredeclaredEntity.{PredeclaredEntity}

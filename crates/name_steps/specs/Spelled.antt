@@ -1,8 +1,8 @@
 -- Literals whose spelling is that of their kind (Go specification, Integer literals; Rune literals; String literals).
 use Rattle.std.specs.Prelude.{◌≡◌, ℕ, true, List}
-use Rattle.const_eval.specs.declared.kinds.Kind.{Kind}
-use Rattle.const_eval.specs.Literals.{literal_value}
-use Rattle.go_literals.specs.Literals.{IsLiteral}
+use Rattle.go_tree.specs.declared.const_eval.kinds.Kind.{Kind}
+use Rattle.go_tree.specs.ConstEval.Literals.{literal_value}
+use Rattle.go_tree.specs.GoLiterals.Literals.{IsLiteral}
 use Rattle.operand_rules.specs.Folding.{is_literal_kind}
 
 -- a literal token, which stands for a constant of the kind

@@ -1,19 +1,19 @@
 //! What an entity is as an operand, and where it stands (Go specification, Operands; Address operators).
 
 ghost use Rattle.std.specs.Prelude.{◌≡◌, IfSome, Option, Some};
-ghost use Rattle.go_types.specs.Entities as go_entity;
-ghost use Rattle.go_types.specs.Operands.{named_operand, named_place};
+ghost use Rattle.go_tree.specs.GoTypes.Entities as go_entity;
+ghost use Rattle.go_tree.specs.GoTypes.Operands.{named_operand, named_place};
 ghost use Rattle.typed_names.specs.Meanings.{entity_at, entity_option};
 ghost use Rattle.checker_tables.specs.Ready.{AreReady, Keeps};
 ghost use Rattle.operand_answers.specs.Known.{IsEntity};
 ghost use Rattle.operand_answers.specs.Located.{GivesAt};
 
 use crate::predeclared::predeclared_operand;
-use access_rules::Place;
 use checker_tables::Tables;
 use operand_answers::{Located, elsewhere};
 use operand_modes::Operand;
 use operand_rules::{Content, Refusal, Value, ValueType};
+use operator_rules::access_rules::Place;
 use typed_names::Entity;
 
 /// What an entity is, in a constant spec of this number, and where it stands; a package is no operand.

@@ -1,14 +1,14 @@
 //! Literals as operands (Go specification, Operands; Constants).
 
-ghost use Rattle.const_eval.specs.Literals.{literal_value};
-ghost use Rattle.go_types.specs.Entities as go_entity;
-ghost use Rattle.go_types.specs.Operands.{literal_operand};
+ghost use Rattle.go_tree.specs.ConstEval.Literals.{literal_value};
+ghost use Rattle.go_tree.specs.GoTypes.Entities as go_entity;
+ghost use Rattle.go_tree.specs.GoTypes.Operands.{literal_operand};
 ghost use Rattle.checker_tables.specs.Ready.{AreReady, Keeps};
 ghost use Rattle.operand_answers.specs.Located.{GivesAt};
 ghost use Rattle.name_steps.specs.Spelled.{IsSpelled};
 
 use checker_tables::Tables;
-use const_eval::Kind;
+use go_tree::const_eval::Kind;
 use operand_answers::{Located, elsewhere};
 use operand_modes::single;
 use operand_rules::{Refusal, literal as literal_token};

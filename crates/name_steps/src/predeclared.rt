@@ -1,19 +1,19 @@
 //! What predeclared names are as operands (Go specification, Predeclared identifiers; Iota).
 
 ghost use Rattle.std.specs.Prelude.{◌≡◌, Option, Some, true, pos};
-ghost use Rattle.const_eval.specs.Exact.{represents};
-ghost use Rattle.go_types.specs.Entities as go_entity;
-ghost use Rattle.go_types.specs.Entities.{exact};
-ghost use Rattle.go_types.specs.Operands as go;
-ghost use Rattle.go_types.specs.Operands.{a_type, named_operand, value};
-ghost use Rattle.go_types.specs.Types.{basic, untyped};
+ghost use Rattle.go_tree.specs.ConstEval.Exact.{represents};
+ghost use Rattle.go_tree.specs.GoTypes.Entities as go_entity;
+ghost use Rattle.go_tree.specs.GoTypes.Entities.{exact};
+ghost use Rattle.go_tree.specs.GoTypes.Operands as go;
+ghost use Rattle.go_tree.specs.GoTypes.Operands.{a_type, named_operand, value};
+ghost use Rattle.go_tree.specs.GoTypes.Types.{basic, untyped};
 ghost use Rattle.operand_rules.specs.Values.{is_untyped_kind};
 ghost use Rattle.universe_block.specs.Meanings.{entity_of};
 ghost use Rattle.operand_modes.specs.Operands.{GivesOperand};
 ghost use Rattle.checker_tables.specs.Ready.{AreReady, Keeps};
 
 use checker_tables::Tables;
-use const_eval::{Const, Kind};
+use go_tree::const_eval::{Const, Kind};
 use operand_answers::added;
 use operand_modes::{Operand, single};
 use operand_rules::{Content, Refusal, Value, ValueType, folded};

@@ -2,21 +2,21 @@
 
 ghost use Rattle.std.specs.Prelude.{Some};
 ghost use Rattle.go_tree.specs.View.{type_of};
-ghost use Rattle.go_types.specs.Answers.{given};
-ghost use Rattle.go_types.specs.Entities as go_entity;
-ghost use Rattle.go_types.specs.Operands.{a_type};
-ghost use Rattle.go_types.specs.TypeNames.{type_meant};
+ghost use Rattle.go_tree.specs.GoTypes.Answers.{given};
+ghost use Rattle.go_tree.specs.GoTypes.Entities as go_entity;
+ghost use Rattle.go_tree.specs.GoTypes.Operands.{a_type};
+ghost use Rattle.go_tree.specs.GoTypes.TypeNames.{type_meant};
 ghost use Rattle.typed_names.specs.Scopes.{env_at};
 ghost use Rattle.checker_tables.specs.Ready.{AreReady, Keeps};
 ghost use Rattle.operand_answers.specs.Known.{Stands};
 ghost use Rattle.operand_answers.specs.Located.{GivesAt};
 
-use access_rules::Place;
 use checker_tables::{Tables, meant};
 use go_tree::TypeExpr;
 use operand_answers::Located;
 use operand_modes::Operand;
 use operand_rules::Refusal;
+use operator_rules::access_rules::Place;
 use std::alloc::Global;
 use typed_names::{Blocks, Scope};
 

@@ -1,24 +1,24 @@
 -- The steps of a walk, by what they change of its state.
 use Rattle.std.proofs.Common.{◌≡◌, ℕ, ◌-◌, Bool, true, false, ◌||◌, List, [], ◌∷◌, ◌++◌, map, drop, length, Option, Some, None, Result, Ok, Err, OnOk, OnErr, refl, sym, ap, ap₂, ◌∙◌, subst, is_some, if◌then◌else◌, arith}
 use Rattle.go_tree.specs.Tree.{TypeExpr}
-use Rattle.scope_names.specs.Means.{is_blank}
-use Rattle.go_types.specs.Answers.{given, meets, is_among}
-use Rattle.go_types.specs.Types.{GoType}
-use Rattle.go_types.specs.Defined.{under}
-use Rattle.go_types.specs.Entities.{Env, defined_in}
-use Rattle.go_types.specs.TypeNames.{type_meant}
-use Rattle.go_types.specs.Literals.{is_struct}
+use Rattle.go_tree.specs.ScopeNames.Means.{is_blank}
+use Rattle.go_tree.specs.GoTypes.Answers.{given, meets, is_among}
+use Rattle.go_tree.specs.GoTypes.Types.{GoType}
+use Rattle.go_tree.specs.GoTypes.Defined.{under}
+use Rattle.go_tree.specs.GoTypes.Entities.{Env, defined_in}
+use Rattle.go_tree.specs.GoTypes.TypeNames.{type_meant}
+use Rattle.go_tree.specs.GoTypes.Literals.{is_struct}
 use Rattle.type_table.specs.declared.nodes.TypeId.{TypeId}
-use Rattle.type_relations.specs.Environment.{Environment, defined_types}
+use Rattle.type_table.specs.TypeRelations.Environment.{Environment, defined_types}
 use Rattle.typed_names.specs.declared.entities.Entity.{Entity}
 use Rattle.typed_names.specs.Known.{KnowsTypes}
 use Rattle.typed_names.specs.Meanings.{Names}
 use Rattle.typed_names.specs.Scopes.{env_at}
 use Rattle.operand_rules.specs.declared.values.Refusal.{Refusal}
 use Rattle.operand_rules.specs.declared.values.Refusal.TheVariants.{NotTyped}
-use Rattle.type_exprs.specs.Answers.{GivesType}
-use Rattle.type_exprs.specs.Grown.{TypesGrown}
-use Rattle.type_exprs.proofs.GrownLaws.{env_same, known_on}
+use Rattle.typed_names.specs.TypeExprs.Answers.{GivesType}
+use Rattle.typed_names.specs.TypeExprs.Grown.{TypesGrown}
+use Rattle.typed_names.proofs.TypeExprs.GrownLaws.{env_same, known_on}
 use Rattle.declared_types.specs.Steps.{KnowsPlaces}
 use Rattle.checker_tables.specs.declared.tables.Tables.{Tables}
 use Rattle.checker_tables.specs.Ready.{AreReady, Keeps}

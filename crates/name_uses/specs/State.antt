@@ -1,7 +1,7 @@
 -- The state of a walk as data (Go specification, Blocks; Declarations and scope; Composite literals).
 use Rattle.std.specs.Prelude.{ℕ, List, Option}
 use Rattle.type_table.specs.declared.nodes.TypeId.{TypeId}
-use Rattle.type_relations.specs.Environment.{Environment}
+use Rattle.type_table.specs.TypeRelations.Environment.{Environment}
 use Rattle.typed_names.specs.declared.scopes.Scope.{Scope}
 use Rattle.typed_names.specs.Meanings.{Names}
 

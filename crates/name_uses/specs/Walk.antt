@@ -1,9 +1,9 @@
 -- A walk beside the places of all files, which it leaves as they are (Go specification, Blocks; Declarations and
 -- scope).
 use Rattle.std.specs.Prelude.{[], List, map}
-use Rattle.go_types.specs.Entities.{Env}
-use Rattle.const_eval.specs.declared.consts.Const.{Const}
-use Rattle.type_relations.specs.Environment.{Environment}
+use Rattle.go_tree.specs.GoTypes.Entities.{Env}
+use Rattle.go_tree.specs.declared.const_eval.consts.Const.{Const}
+use Rattle.type_table.specs.TypeRelations.Environment.{Environment}
 use Rattle.typed_names.specs.declared.scopes.Scope.{Scope}
 use Rattle.typed_names.specs.Meanings.{Names}
 use Rattle.typed_names.specs.Scopes.{env_at}

@@ -1,10 +1,10 @@
 //! The types of literals in a literal (Go specification, Composite literals).
 
 ghost use Rattle.std.specs.Prelude.{◌≡◌, Some, IfSome};
-ghost use Rattle.go_types.specs.Answers.{given, meets};
-ghost use Rattle.go_types.specs.Defined.{under};
-ghost use Rattle.go_types.specs.Literals as go;
-ghost use Rattle.type_relations.specs.Environment.{defined_types, env_type};
+ghost use Rattle.go_tree.specs.GoTypes.Answers.{given, meets};
+ghost use Rattle.go_tree.specs.GoTypes.Defined.{under};
+ghost use Rattle.go_tree.specs.GoTypes.Literals as go;
+ghost use Rattle.type_table.specs.TypeRelations.Environment.{defined_types, env_type};
 ghost use Rattle.operand_rules.specs.declared.values.ValueType.TheVariants.{Typed};
 ghost use Rattle.operand_rules.specs.Values.{IsType};
 ghost use Rattle.operator_rules.specs.Settling.{typed_option};

@@ -3,13 +3,14 @@
 ghost use Rattle.std.specs.Prelude.{◌≡◌, [], length, is_some, IfOk, OnOk};
 ghost use Rattle.go_tree.specs.FileView.{receiver_of};
 ghost use Rattle.go_tree.specs.View.{type_of};
-ghost use Rattle.go_types.specs.TypeNames.{type_meant};
+ghost use Rattle.go_tree.specs.GoTypes.TypeNames.{type_meant};
 ghost use Rattle.typed_names.specs.Known.{KnowsTypes};
 ghost use Rattle.typed_names.specs.Scopes.{env_at};
 ghost use Rattle.declared_types.specs.Steps.{KnowsPlaces};
 ghost use Rattle.checker_tables.specs.Ready.{AreReady};
 ghost use Rattle.method_headers.specs.Methods.{receiver_at};
-ghost use Rattle.used_names.specs.Uses.{close_literal, declare, end_function, has_fields, hides, hush, leave, open_inside, open_literal, start, use_name};
+ghost use Rattle.used_names.specs.Uses.{close_literal, declare, end_function, has_fields, hides, hush, leave};
+ghost use Rattle.used_names.specs.Uses.{open_inside, open_literal, start, use_name};
 ghost use Rattle.name_uses.specs.Walk.{places_at, walk_of, walked};
 
 use crate::inside::{has_fields, inside};

@@ -4,7 +4,7 @@ use Rattle.std.proofs.Math.Seq.{drop-cons}
 use Rattle.std.specs.List.{list_any, position_or_len}
 use Rattle.std.proofs.lemmas.List.Folds.{list_any-append}
 use Rattle.std.proofs.lemmas.Slice.Eq.{bytes_eq-Decides}
-use Rattle.go_words.specs.Tokens.Pieces.{is_among}
+use Rattle.go_tree.specs.GoWords.Tokens.Pieces.{is_among}
 use Rattle.name_walks.specs.EachOnce.{each_once, with_name}
 
 module _ {V : Type 0} (items : V → List ℕ) where

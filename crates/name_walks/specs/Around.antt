@@ -1,5 +1,6 @@
 -- Where names that are declared around a place stand first among them.
-use Rattle.std.specs.Prelude.{◌≡◌, ◌≤◌, ◌<◌, ℕ, List, [], ◌∷◌, Option, Some, None, bytes_eq, if◌then◌else◌, length, slice_index_or}
+use Rattle.std.specs.Prelude.{◌≡◌, ◌≤◌, ◌<◌, ℕ, List, [], ◌∷◌, Option, Some, None, bytes_eq}
+use Rattle.std.specs.Prelude.{if◌then◌else◌, length, slice_index_or}
 
 -- the place of a name
 abbrev pub place_in : List (List ℕ × ℕ) → List ℕ → Option ℕ

@@ -1,6 +1,6 @@
 -- Names without repetition.
 use Rattle.std.specs.Prelude.{ℕ, List, [], ◌∷◌, ◌++◌, filter, not, bytes_eq, if◌then◌else◌}
-use Rattle.go_words.specs.Tokens.Pieces.{is_among}
+use Rattle.go_tree.specs.GoWords.Tokens.Pieces.{is_among}
 
 -- each name once, where it stands first
 abbrev pub each_once : List (List ℕ) → List (List ℕ)

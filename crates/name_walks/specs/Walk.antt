@@ -1,10 +1,11 @@
 -- What a walk over a tree has gathered: the names that it has found, those that are declared around the place where it
 -- is and the blocks around it, the innermost last, and what has been declared in blocks.
-use Rattle.std.specs.Prelude.{ℕ, Bool, ◌&&◌, ◌||◌, List, [], ◌∷◌, ◌++◌, Option, Some, None, length, take, slice_get, option_and_then, ◌-◌, if◌then◌else◌}
+use Rattle.std.specs.Prelude.{ℕ, Bool, ◌&&◌, ◌||◌, List, [], ◌∷◌, ◌++◌, Option, Some, None, length}
+use Rattle.std.specs.Prelude.{take, slice_get, option_and_then, ◌-◌, if◌then◌else◌}
 use Rattle.go_tree.specs.declared.spans.Span.{Span}
 use Rattle.go_tree.specs.Tree.{NameAt}
-use Rattle.go_words.specs.Tokens.Pieces.{is_among}
-use Rattle.scope_names.specs.Means.{is_blank}
+use Rattle.go_tree.specs.GoWords.Tokens.Pieces.{is_among}
+use Rattle.go_tree.specs.ScopeNames.Means.{is_blank}
 use Rattle.name_walks.specs.declared.walk.Wanted.{Wanted}
 use Rattle.name_walks.specs.declared.walk.Wanted.TheVariants.{Identifiers, Binders, Free, Scopes}
 use Rattle.name_walks.specs.declared.walk.Nesting.{Nesting}

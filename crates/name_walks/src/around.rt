@@ -1,7 +1,8 @@
 //! Names that are declared around a place.
 
-ghost use Rattle.std.specs.Prelude.{◌≡◌, ◌&&◌, ◌++◌, ◌∷◌, [], ℕ, List, Some, OnOk, OnErr, bytes_eq, if◌then◌else◌, length, nat_lt, slice_index_or, take};
-ghost use Rattle.go_words.specs.Tokens.Pieces.{is_among};
+ghost use Rattle.std.specs.Prelude.{◌≡◌, ◌&&◌, ◌++◌, ◌∷◌, [], ℕ, List, Some, OnOk, OnErr};
+ghost use Rattle.std.specs.Prelude.{bytes_eq, if◌then◌else◌, length, nat_lt, slice_index_or, take};
+ghost use Rattle.go_tree.specs.GoWords.Tokens.Pieces.{is_among};
 ghost use Rattle.name_walks.specs.Around.{place_in};
 
 use crate::sets::copy_of;

@@ -1,16 +1,16 @@
 //! New names.
 
 ghost use Rattle.std.specs.Prelude.{◌≡◌, IfOk, ◌||◌};
-ghost use Rattle.go_words.specs.Tokens.Pieces.{is_among, keyword_spellings};
+ghost use Rattle.go_tree.specs.GoWords.Tokens.Pieces.{is_among, keyword_spellings};
 ghost use Rattle.name_walks.specs.Reserved.{is_reserved, is_untaken};
-ghost use Rattle.scope_names.specs.Fresh.{candidate, IsFirst};
-ghost use Rattle.scope_names.specs.Means.{predeclared};
+ghost use Rattle.go_tree.specs.ScopeNames.Fresh.{candidate, IsFirst};
+ghost use Rattle.go_tree.specs.ScopeNames.Means.{predeclared};
 
 use crate::sets::NameSet;
+use go_tree::go_words::keyword;
+use go_tree::scope_names::{FileNames, ImportList, NameList, meaning_outside};
 use go_tree::{Name, NoMemory};
-use go_words::keyword;
 use itoa::Buffer;
-use scope_names::{FileNames, ImportList, NameList, meaning_outside};
 use std::alloc::Global;
 
 /// How many words are no new names: the keywords, the predeclared names, and `init`.

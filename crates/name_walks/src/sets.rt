@@ -1,8 +1,9 @@
 //! Sets of names, and lists without repetition.
 
-ghost use Rattle.std.specs.Prelude.{◌≡◌, ◌||◌, ◌++◌, ◌∷◌, if◌then◌else◌, not, [], ℕ, List, IfOk, OnOk, length, ◌<◌, ◌^◌, bytes_eq, position};
+ghost use Rattle.std.specs.Prelude.{◌≡◌, ◌||◌, ◌++◌, ◌∷◌, if◌then◌else◌, not, [], ℕ, List};
+ghost use Rattle.std.specs.Prelude.{IfOk, OnOk, length, ◌<◌, ◌^◌, bytes_eq, position};
 ghost use Rattle.std.specs.List.{position_or_len};
-ghost use Rattle.go_words.specs.Tokens.Pieces.{is_among};
+ghost use Rattle.go_tree.specs.GoWords.Tokens.Pieces.{is_among};
 ghost use Rattle.name_walks.specs.EachOnce.{each_once, with_name};
 
 use go_tree::{Name, NoMemory};

@@ -10,7 +10,7 @@ use crate::steps::{after_steps, own_numbers};
 use defined_types::DeclaredType;
 use go_tree::NoMemory;
 use std::alloc::Global;
-use type_relations::Env;
+use type_table::type_relations::Env;
 
 /// For each type by its number the one that it is declared as, or itself where it isn't declared.
 pub fn next_numbers(

@@ -2,11 +2,11 @@
 
 ghost use Rattle.std.specs.Prelude.{◌≡◌, ◌<◌, [], List, map, length, true, false, OnErr, OnOk};
 ghost use Rattle.go_tree.specs.declared.spans.Span.{Span};
-ghost use Rattle.go_types.specs.Programs.{Headed, Program};
-ghost use Rattle.go_types.specs.Collect as go;
-ghost use Rattle.go_types.specs.Collect.{typed_world};
-ghost use Rattle.type_relations.specs.Environment.{defined_types, env_type, has_methods, is_named_type};
-ghost use Rattle.type_relations.specs.Environment.{with_definition};
+ghost use Rattle.go_tree.specs.GoTypes.Programs.{Headed, Program};
+ghost use Rattle.go_tree.specs.GoTypes.Collect as go;
+ghost use Rattle.go_tree.specs.GoTypes.Collect.{typed_world};
+ghost use Rattle.type_table.specs.TypeRelations.Environment.{defined_types, env_type, has_methods, is_named_type};
+ghost use Rattle.type_table.specs.TypeRelations.Environment.{with_definition};
 ghost use Rattle.typed_names.specs.declared.scopes.Scope.{Scope};
 ghost use Rattle.typed_names.specs.Meanings.{Names};
 ghost use Rattle.declared_types.specs.Steps.{KnowsPlaces};
@@ -18,8 +18,8 @@ use crate::steps::number_at;
 use defined_types::DeclaredType;
 use go_tree::NoMemory;
 use std::alloc::{AllocError, Global};
-use type_relations::Env;
 use type_table::TypeId;
+use type_table::type_relations::Env;
 
 /// Defines a type by its underlying type.
 fn define_type(types: &mut Env, named: TypeId, under: TypeId) -> Result<(), NoMemory>

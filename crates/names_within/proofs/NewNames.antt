@@ -2,11 +2,11 @@
 use Rattle.std.proofs.Common.{◌≡◌, ◌∙◌, ℕ, Bool, true, false, ◌||◌, ◌&&◌, not, List, bytes_eq, codes, refl, sym, ap}
 use Rattle.go_tree.specs.declared.spans.Span.{Span}
 use Rattle.go_tree.specs.File.{File}
-use Rattle.go_words.specs.Tokens.Pieces.{is_among, keyword_spellings}
+use Rattle.go_tree.specs.GoWords.Tokens.Pieces.{is_among, keyword_spellings}
 use Rattle.name_walks.specs.Reserved.{is_reserved, is_untaken}
-use Rattle.scope_names.specs.Fresh.{candidate, is_new, IsFirst, IsFresh}
-use Rattle.scope_names.specs.Identifiers.{identifiers}
-use Rattle.scope_names.specs.Means.{predeclared}
+use Rattle.go_tree.specs.ScopeNames.Fresh.{candidate, is_new, IsFirst, IsFresh}
+use Rattle.go_tree.specs.ScopeNames.Identifiers.{identifiers}
+use Rattle.go_tree.specs.ScopeNames.Means.{predeclared}
 
 pub or_false : (a : Bool) → (a || false) ≡ a
 or_false true = refl

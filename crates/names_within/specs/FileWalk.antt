@@ -3,7 +3,8 @@ use Rattle.std.specs.Prelude.{ℕ, List, [], ◌∷◌, Option, Some, None}
 use Rattle.go_tree.specs.declared.spans.Span.{Span}
 use Rattle.go_tree.specs.File.{ImportSpec, ImportDecl, TypeSpec, Receiver, Func, Decl, values, types, func, File}
 use Rattle.name_walks.specs.Walk.{Walk, mention, enter, nesting, leave}
-use Rattle.names_within.specs.TreeWalk.{mention_option, bind_option, begin_option, begin_sig, after_type, after_sig, after_stmt, after_stmts}
+use Rattle.names_within.specs.TreeWalk.{mention_option, bind_option, begin_option, begin_sig, after_type, after_sig}
+use Rattle.names_within.specs.TreeWalk.{after_stmt, after_stmts}
 
 -- the names that the specs of an import declaration give
 abbrev pub after_import_specs : List (ImportSpec Span) → Walk → Walk

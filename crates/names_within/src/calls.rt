@@ -3,17 +3,17 @@
 ghost use Rattle.std.specs.Prelude.{◌≡◌, IfOk, [], map};
 ghost use Rattle.go_tree.specs.View.{expr_of};
 ghost use Rattle.go_tree.specs.FileView.{file_of, func_of};
-ghost use Rattle.scope_names.specs.Binders.{func_binders};
-ghost use Rattle.scope_names.specs.FreeNames.{free_expr};
-ghost use Rattle.scope_names.specs.Scopes.{decls_scopes};
+ghost use Rattle.go_tree.specs.ScopeNames.Binders.{func_binders};
+ghost use Rattle.go_tree.specs.ScopeNames.FreeNames.{free_expr};
+ghost use Rattle.go_tree.specs.ScopeNames.Scopes.{decls_scopes};
 ghost use Rattle.name_walks.specs.EachOnce.{each_once};
 ghost use Rattle.name_walks.specs.LocalScopes.{scope_of};
 
 use crate::exprs::expr_names;
 use crate::files::{decls_names, func_names};
+use go_tree::scope_names::NameList;
 use go_tree::{Expr, FileTree, FuncDecl, NoMemory};
 use name_walks::{LocalScope, NameWalk, Wanted, each_once};
-use scope_names::NameList;
 use std::alloc::Global;
 
 /// The free names of an expression, each once and in order: the identifiers that are used in it and not declared

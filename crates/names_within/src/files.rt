@@ -2,9 +2,12 @@
 
 ghost use Rattle.std.specs.Prelude.{◌≡◌, OnOk, map};
 ghost use Rattle.std.specs.Option.{option_map};
-ghost use Rattle.go_tree.specs.FileView.{import_spec_of, import_decl_of, type_spec_of, receiver_of, func_of, decl_of, file_of};
+ghost use Rattle.go_tree.specs.FileView.{import_spec_of, import_decl_of, type_spec_of, receiver_of, func_of, decl_of};
+ghost use Rattle.go_tree.specs.FileView.{file_of};
 ghost use Rattle.name_walks.specs.Walk.{walk_of};
-ghost use Rattle.names_within.specs.FileWalk.{after_import_specs, after_imports, after_type_specs, after_receiver, begin_receiver, after_header, after_body, after_func, after_decl, after_decls, after_file};
+ghost use Rattle.names_within.specs.FileWalk.{after_import_specs, after_imports, after_type_specs, after_receiver};
+ghost use Rattle.names_within.specs.FileWalk.{begin_receiver, after_header, after_body, after_func, after_decl};
+ghost use Rattle.names_within.specs.FileWalk.{after_decls, after_file};
 
 use crate::stmts::{const_decl_names, stmts_names, var_decl_names};
 use crate::types::{begin_option, begin_sig, bind_option, mention_option, sig_names, type_names};

@@ -1,9 +1,13 @@
 //! Names in statements.
 
 ghost use Rattle.std.specs.Prelude.{◌≡◌, OnOk};
-ghost use Rattle.go_tree.specs.View.{held_block_option_of, stmt_of, stmts_of, boxed_stmt_option_of, range_left_of, arm_of, arms_of, case_of, cases_of, const_spec_of, const_specs_of, const_decl_of, var_spec_of, var_specs_of, var_decl_of};
+ghost use Rattle.go_tree.specs.View.{held_block_option_of, stmt_of, stmts_of, boxed_stmt_option_of, range_left_of};
+ghost use Rattle.go_tree.specs.View.{arm_of, arms_of, case_of, cases_of, const_spec_of, const_specs_of, const_decl_of};
+ghost use Rattle.go_tree.specs.View.{var_spec_of, var_specs_of, var_decl_of};
 ghost use Rattle.name_walks.specs.Walk.{walk_of};
-ghost use Rattle.names_within.specs.TreeWalk.{after_stmt, after_stmts, after_block, after_block_option, after_stmt_option, after_post, after_left, begin_left, after_arm, after_arms, after_case, after_cases, after_spec, after_specs};
+ghost use Rattle.names_within.specs.TreeWalk.{after_stmt, after_stmts, after_block, after_block_option};
+ghost use Rattle.names_within.specs.TreeWalk.{after_stmt_option, after_post, after_left, begin_left, after_arm};
+ghost use Rattle.names_within.specs.TreeWalk.{after_arms, after_case, after_cases, after_spec, after_specs};
 
 use crate::exprs::{expr_end, expr_names, exprs_names, option_names};
 use crate::types::{begin_all, bind_all, mention_option, type_option_names};

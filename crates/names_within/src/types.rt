@@ -4,7 +4,10 @@ ghost use Rattle.std.specs.Prelude.{◌≡◌, OnOk, map};
 ghost use Rattle.std.specs.Option.{option_map};
 ghost use Rattle.go_tree.specs.View.{name_at_of, type_of, fields_of, field_of, param_of, sig_of};
 ghost use Rattle.name_walks.specs.Walk.{walk_of};
-ghost use Rattle.names_within.specs.TreeWalk.{mention_option, bind_option, begin, begin_option, bind_all, declare_all, hold_all, begin_all, after_named, after_type, after_fields, after_field, after_type_option, after_param, after_params, begin_params, after_sig, begin_sig};
+ghost use Rattle.names_within.specs.TreeWalk.{mention_option, bind_option, begin, begin_option, bind_all, declare_all};
+ghost use Rattle.names_within.specs.TreeWalk.{hold_all, begin_all, after_named, after_type, after_fields, after_field};
+ghost use Rattle.names_within.specs.TreeWalk.{after_type_option, after_param, after_params, begin_params, after_sig};
+ghost use Rattle.names_within.specs.TreeWalk.{begin_sig};
 
 use go_tree::{FieldSpec, FieldSpecList, NameAt, NameAtList, NoMemory, Param, Sig, TypeExpr};
 use name_walks::NameWalk;

@@ -4,8 +4,8 @@ use Rattle.std.specs.Prelude.{Contains}
 use Rattle.go_tree.specs.declared.spans.Span.{Span}
 use Rattle.go_tree.specs.declared.tokens.Token.{Token}
 use Rattle.go_tree.specs.declared.tokens.Comment.{Comment}
-use Rattle.go_words.specs.Terminals.{lexemes}
-use Rattle.go_words.specs.Tokens.{TokensOf}
+use Rattle.go_tree.specs.GoWords.Terminals.{lexemes}
+use Rattle.go_tree.specs.GoWords.Tokens.{TokensOf}
 use Rattle.go_scan.proofs.Cuts.{tokens_once}
 use Rattle.go_read.specs.SpellsWeight.{weights_of}
 use Rattle.go_read.proofs.Whole.{refused_spells_none}

@@ -4,7 +4,7 @@ use Rattle.std.specs.Prelude.{sum}
 use Rattle.std.proofs.lemmas.Bool.{lt-ltb, le-ltb}
 use Rattle.std.proofs.lemmas.List.Sums.{sum_by-cons}
 use Rattle.go_tree.specs.declared.tokens.Token.{Token}
-use Rattle.go_words.specs.Terminals.{Terminal, comma, semicolon, paren, end_paren, bracket, end_bracket, brace, end_brace, terminal_of}
+use Rattle.go_tree.specs.GoWords.Terminals.{Terminal, comma, semicolon, paren, end_paren, bracket, end_bracket, brace, end_brace, terminal_of}
 use Rattle.go_read.specs.SpellsWeight.{opened, closed, separated, counted, counts_after, weights_after}
 use Rattle.run_rules.specs.Run.{first_over}
 

@@ -5,7 +5,7 @@ use Rattle.go_tree.specs.declared.tokens.Token.{Token}
 use Rattle.go_tree.specs.declared.tokens.Comment.{Comment}
 use Rattle.go_tree.specs.File.{File}
 use Rattle.go_tree.specs.FileView.{file_of}
-use Rattle.go_words.specs.Tokens.{TokensOf}
+use Rattle.go_tree.specs.GoWords.Tokens.{TokensOf}
 use Rattle.go_read.specs.SpellsFiles.{SpellsFile}
 use Rattle.go_read.specs.SpellsWeight.{weights_of}
 use Rattle.go_parse.specs.Sources.{IsSource, IsSupported}

@@ -5,7 +5,8 @@ use Rattle.pkg_graph.specs.Reads.{Source}
 use Rattle.refusals.specs.declared.refusal.Limit as code
 use Rattle.refusals.specs.declared.refusal.Limit.TheVariants as one
 use Rattle.run_rules.specs.Texts.{FileText}
-use Rattle.run_rules.specs.Run.{Logged, Limit, Steps, StepsOfUse, Bytes, Total, Weight, TooLarge, over, the_limits, steps_like, module_file_size, texts_size, passed}
+use Rattle.run_rules.specs.Run.{Logged, Limit, Steps, StepsOfUse, Bytes, Total, Weight, TooLarge, over, the_limits}
+use Rattle.run_rules.specs.Run.{steps_like, module_file_size, texts_size, passed}
 use Rattle.next_file.specs.declared.limits.Progress.{Progress}
 use Rattle.next_file.specs.declared.limits.Passed.{Passed}
 

@@ -1,14 +1,14 @@
 -- Tables to which a type is added.
 use Rattle.std.proofs.Common.{◌≡◌, ◌<◌, ℕ, false, refl, length}
-use Rattle.go_types.specs.Types.{GoType, is_untyped}
-use Rattle.go_types.specs.Table.{TypeNode}
+use Rattle.go_tree.specs.GoTypes.Types.{GoType, is_untyped}
+use Rattle.go_tree.specs.GoTypes.Table.{TypeNode}
 use Rattle.type_table.specs.TypesAt.{type_by}
-use Rattle.type_relations.specs.Environment.{Environment, defined_types, env_type, with_type}
-use Rattle.type_exprs.specs.Grown.{TypesGrown}
-use Rattle.type_exprs.proofs.RowLaws.{row_grown, row_kept}
-use Rattle.type_exprs.proofs.ValuesKept.{values_added}
-use Rattle.value_types.specs.ValueTypes.{HasValueTypes}
-use Rattle.value_types.proofs.ValueLemmas.{values_same}
+use Rattle.type_table.specs.TypeRelations.Environment.{Environment, defined_types, env_type, with_type}
+use Rattle.typed_names.specs.TypeExprs.Grown.{TypesGrown}
+use Rattle.typed_names.proofs.TypeExprs.RowLaws.{row_grown, row_kept}
+use Rattle.typed_names.proofs.TypeExprs.ValuesKept.{values_added}
+use Rattle.type_table.specs.ValueTypes.ValueTypes.{HasValueTypes}
+use Rattle.type_table.proofs.ValueTypes.ValueLemmas.{values_same}
 use Rattle.checker_tables.specs.declared.tables.Tables.{Tables}
 use Rattle.checker_tables.specs.Ready.{AreReady, Keeps}
 use Rattle.checker_tables.proofs.ReadyLemmas.{ready_stays}

@@ -1,14 +1,14 @@
 -- What is known of operands and of names stays known while types and constants are added.
 use Rattle.std.proofs.Common.{◌≡◌, ◌∙◌, ◌<◌, ℕ, suc, List, [], ◌∷◌, Option, Result, Ok, Err, refl, sym, ap, ap₂, subst, length, arith}
-use Rattle.const_eval.specs.declared.consts.Const.{Const}
-use Rattle.const_eval.specs.Exact.{represents}
-use Rattle.go_types.specs.Types.{GoType, is_untyped}
-use Rattle.go_types.specs.Entities as go_entity
-use Rattle.go_types.specs.Entities.{exact, extend}
-use Rattle.go_types.specs.Operands as go
-use Rattle.go_types.specs.Operands.{Typed, kind_passes, value, several, a_type, a_function}
-use Rattle.go_types.specs.Programs.{file_env}
-use Rattle.type_relations.specs.Environment.{Environment, defined_types}
+use Rattle.go_tree.specs.declared.const_eval.consts.Const.{Const}
+use Rattle.go_tree.specs.ConstEval.Exact.{represents}
+use Rattle.go_tree.specs.GoTypes.Types.{GoType, is_untyped}
+use Rattle.go_tree.specs.GoTypes.Entities as go_entity
+use Rattle.go_tree.specs.GoTypes.Entities.{exact, extend}
+use Rattle.go_tree.specs.GoTypes.Operands as go
+use Rattle.go_tree.specs.GoTypes.Operands.{Typed, kind_passes, value, several, a_type, a_function}
+use Rattle.go_tree.specs.GoTypes.Programs.{file_env}
+use Rattle.type_table.specs.TypeRelations.Environment.{Environment, defined_types}
 use Rattle.operand_rules.specs.declared.values.ValueType.{ValueType}
 use Rattle.operand_rules.specs.declared.values.ValueType.TheVariants as variant
 use Rattle.operand_rules.specs.declared.values.Content.{Content}
@@ -25,8 +25,8 @@ use Rattle.typed_names.specs.declared.scopes.Scope.{Scope}
 use Rattle.typed_names.specs.Known.{AllHaveTypes, HasTypes, HaveTypes, KnowsTypes}
 use Rattle.typed_names.specs.Meanings.{Names, blocks_from, entity_at, names_at, tuple_list, world_at}
 use Rattle.typed_names.specs.Scopes.{env_at}
-use Rattle.type_exprs.specs.Grown.{TypesGrown}
-use Rattle.type_exprs.proofs.GrownLaws.{env_same, grown_on, grown_self, known_on}
+use Rattle.typed_names.specs.TypeExprs.Grown.{TypesGrown}
+use Rattle.typed_names.proofs.TypeExprs.GrownLaws.{env_same, grown_on, grown_self, known_on}
 use Rattle.operand_modes.specs.declared.modes.Operand.{Operand}
 use Rattle.operand_modes.specs.declared.modes.Operand.TheVariants as mode
 use Rattle.operand_modes.specs.Operands.{AreOperands, IsOperand, SameOperand, operand_at, operands_at}

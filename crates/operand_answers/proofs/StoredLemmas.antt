@@ -1,15 +1,15 @@
 -- Values of the parts of types: their types are in the table.
 use Rattle.std.proofs.Common.{◌≡◌, ◌∙◌, ◌<◌, ℕ, true, false, List, Option, Some, None, refl, sym, ap, subst, length}
-use Rattle.const_eval.specs.declared.consts.Const.{Const}
-use Rattle.go_types.specs.Types.{GoType, base_of, element_of, is_untyped, map_parts}
-use Rattle.go_types.specs.Defined.{under}
-use Rattle.go_types.specs.Entities.{run}
-use Rattle.go_types.specs.Operands.{value}
-use Rattle.go_types.specs.Table.{TypeNode, basic_node, named_node, pointer_node, slice_node, map_node, struct_node, tuple_node, untyped_node, nil_node}
+use Rattle.go_tree.specs.declared.const_eval.consts.Const.{Const}
+use Rattle.go_tree.specs.GoTypes.Types.{GoType, base_of, element_of, is_untyped, map_parts}
+use Rattle.go_tree.specs.GoTypes.Defined.{under}
+use Rattle.go_tree.specs.GoTypes.Entities.{run}
+use Rattle.go_tree.specs.GoTypes.Operands.{value}
+use Rattle.go_tree.specs.GoTypes.Table.{TypeNode, basic_node, named_node, pointer_node, slice_node, map_node, struct_node, tuple_node, untyped_node, nil_node}
 use Rattle.type_table.specs.TypesAt.{type_by}
 use Rattle.type_table.proofs.TypesAtLaws.{get_within, type_at_row}
-use Rattle.type_relations.specs.Environment.{Environment, IsEnvironment, defined_types, definition_in, env_type, under_by}
-use Rattle.type_relations.proofs.UnderLaws.{number_is, under_within}
+use Rattle.type_table.specs.TypeRelations.Environment.{Environment, IsEnvironment, defined_types, definition_in, env_type, under_by}
+use Rattle.type_table.proofs.TypeRelations.UnderLaws.{number_is, under_within}
 use Rattle.operand_rules.specs.declared.values.ValueType.{ValueType}
 use Rattle.operand_rules.specs.declared.values.ValueType.TheVariants as variant
 use Rattle.operand_rules.specs.declared.values.Content.{Content}
@@ -17,7 +17,7 @@ use Rattle.operand_rules.specs.declared.values.Content.TheVariants.{Run, Exact, 
 use Rattle.operand_rules.specs.declared.values.Value.{Value}
 use Rattle.operand_rules.specs.Values.{IsGiven, IsType, SameContent, content_of, type_of}
 use Rattle.operator_rules.specs.Parts.{RowParts}
-use Rattle.value_types.specs.ValueTypes.{HasValueTypes}
+use Rattle.type_table.specs.ValueTypes.ValueTypes.{HasValueTypes}
 use Rattle.checker_tables.proofs.PartLemmas.{parts_follow}
 use Rattle.operand_answers.specs.Located.{is_stored, stored_by}
 

@@ -1,7 +1,7 @@
 -- Names whose types and constants are in the tables (Go specification, Declarations and scope; Constants).
 use Rattle.std.specs.Prelude.{List, [], ◌∷◌}
-use Rattle.const_eval.specs.declared.consts.Const.{Const}
-use Rattle.type_relations.specs.Environment.{Environment}
+use Rattle.go_tree.specs.declared.const_eval.consts.Const.{Const}
+use Rattle.type_table.specs.TypeRelations.Environment.{Environment}
 use Rattle.operand_rules.specs.declared.values.Content.TheVariants.{Exact}
 use Rattle.operand_rules.specs.Values.{IsContent}
 use Rattle.typed_names.specs.declared.entities.Entity.{Entity}

@@ -1,13 +1,13 @@
 -- What expressions in order are, and where they stand (Go specification, Calls; Assignment statements).
 use Rattle.std.specs.Prelude.{◌≡◌, List, [], ◌∷◌, map, Option, Some, None, Result, Ok, Err}
-use Rattle.const_eval.specs.declared.consts.Const.{Const}
-use Rattle.go_types.specs.Entities as go_entity
-use Rattle.go_types.specs.Operands as go
-use Rattle.type_relations.specs.Environment.{Environment}
+use Rattle.go_tree.specs.declared.const_eval.consts.Const.{Const}
+use Rattle.go_tree.specs.GoTypes.Entities as go_entity
+use Rattle.go_tree.specs.GoTypes.Operands as go
+use Rattle.type_table.specs.TypeRelations.Environment.{Environment}
 use Rattle.operand_rules.specs.declared.values.Refusal.{Refusal}
 use Rattle.operand_rules.specs.declared.values.Refusal.TheVariants.{NotTyped, NoMemory}
-use Rattle.access_rules.specs.declared.places.Place.{Place}
-use Rattle.access_rules.specs.Places.{place_of}
+use Rattle.operator_rules.specs.declared.access_rules.places.Place.{Place}
+use Rattle.operator_rules.specs.AccessRules.Places.{place_of}
 use Rattle.operand_modes.specs.declared.modes.Operand.{Operand}
 use Rattle.operand_modes.specs.Operands.{AreOperands, operands_at}
 use Rattle.operand_laws.specs.Alike.{AllSame}

@@ -1,10 +1,10 @@
 -- What an expression is, and where it stands, as the answer for it tells (Go specification, Expressions; Address
 -- operators; Assignment statements).
 use Rattle.std.specs.Prelude.{◌≡◌, Bool, true, false, List, Option, Some, None, Result, Ok, Err}
-use Rattle.const_eval.specs.declared.consts.Const.{Const}
-use Rattle.go_types.specs.Entities as go_entity
-use Rattle.go_types.specs.Operands as go
-use Rattle.type_relations.specs.Environment.{Environment}
+use Rattle.go_tree.specs.declared.const_eval.consts.Const.{Const}
+use Rattle.go_tree.specs.GoTypes.Entities as go_entity
+use Rattle.go_tree.specs.GoTypes.Operands as go
+use Rattle.type_table.specs.TypeRelations.Environment.{Environment}
 use Rattle.operand_rules.specs.declared.values.ValueType as code
 use Rattle.operand_rules.specs.declared.values.ValueType.TheVariants as variant
 use Rattle.operand_rules.specs.declared.values.Content.{Content}
@@ -12,9 +12,9 @@ use Rattle.operand_rules.specs.declared.values.Content.TheVariants.{Run}
 use Rattle.operand_rules.specs.declared.values.Value.{Value}
 use Rattle.operand_rules.specs.declared.values.Refusal.{Refusal}
 use Rattle.operand_rules.specs.declared.values.Refusal.TheVariants.{NotTyped, NoMemory}
-use Rattle.access_rules.specs.declared.places.Place as place
-use Rattle.access_rules.specs.declared.places.Place.TheVariants.{Elsewhere}
-use Rattle.access_rules.specs.Places.{place_of}
+use Rattle.operator_rules.specs.declared.access_rules.places.Place as place
+use Rattle.operator_rules.specs.declared.access_rules.places.Place.TheVariants.{Elsewhere}
+use Rattle.operator_rules.specs.AccessRules.Places.{place_of}
 use Rattle.operand_modes.specs.declared.modes.Operand.{Operand}
 use Rattle.operand_modes.specs.declared.modes.Operand.TheVariants.{Single}
 use Rattle.operand_modes.specs.Operands.{IsOperand, SameOperand, operand_at}

@@ -1,11 +1,11 @@
 //! Types that a step adds to the tables (Go specification, Types).
 
 ghost use Rattle.std.specs.Prelude.{◌≡◌, ℕ, length, false, Some};
-ghost use Rattle.go_types.specs.Types.{GoType, is_untyped};
+ghost use Rattle.go_tree.specs.GoTypes.Types.{GoType, is_untyped};
 ghost use Rattle.type_table.specs.Rows.{PartsBelow, row_of};
 ghost use Rattle.type_table.specs.TypesAt.{type_by};
-ghost use Rattle.type_relations.specs.Environment.{env_type};
-ghost use Rattle.type_exprs.specs.Answers.{GivesType};
+ghost use Rattle.type_table.specs.TypeRelations.Environment.{env_type};
+ghost use Rattle.typed_names.specs.TypeExprs.Answers.{GivesType};
 ghost use Rattle.checker_tables.specs.Ready.{AreReady, Keeps};
 
 use checker_tables::Tables;

@@ -3,9 +3,9 @@
 ghost use Rattle.std.specs.Prelude.{◌≡◌, [], ◌∷◌, ◌++◌, OnOk};
 
 use crate::located::Located;
-use access_rules::Place;
 use go_tree::NoMemory;
 use operand_modes::Operand;
+use operator_rules::access_rules::Place;
 use std::alloc::Global;
 
 /// What expressions in order are, and where they stand.

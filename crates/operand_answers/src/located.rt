@@ -1,16 +1,16 @@
 //! What an expression is, and where it stands (Go specification, Expressions; Address operators).
 
 ghost use Rattle.std.specs.Prelude.{List, Option};
-ghost use Rattle.const_eval.specs.declared.consts.Const.{Const};
-ghost use Rattle.go_types.specs.Entities as go_entity;
-ghost use Rattle.go_types.specs.Operands as go;
-ghost use Rattle.type_relations.specs.Environment.{Environment};
+ghost use Rattle.go_tree.specs.declared.const_eval.consts.Const.{Const};
+ghost use Rattle.go_tree.specs.GoTypes.Entities as go_entity;
+ghost use Rattle.go_tree.specs.GoTypes.Operands as go;
+ghost use Rattle.type_table.specs.TypeRelations.Environment.{Environment};
 ghost use Rattle.operand_modes.specs.Operands.{GivesOperand};
 ghost use Rattle.operand_answers.specs.Located.{GivesAt};
 
-use access_rules::Place;
 use operand_modes::Operand;
 use operand_rules::Refusal;
+use operator_rules::access_rules::Place;
 
 /// What an expression is, and where it stands.
 #[derive(Clone, Copy)]

@@ -3,12 +3,12 @@ use Rattle.std.specs.Prelude.{◌≡◌, Bool, true, false, ◌&&◌, List, ◌+
 use Rattle.std.specs.List.{list_all}
 use Rattle.std.proofs.lemmas.List.Folds.{list_all-append}
 use mathlib.Core.Path.{ap₂, sym, ◌∙◌, subst}
-use Rattle.const_eval.specs.declared.kinds.Kind.{Kind}
-use Rattle.const_eval.specs.declared.consts.Const.{Const}
-use Rattle.const_eval.specs.Exact.{represents}
-use Rattle.go_types.specs.Answers.{only_if}
-use Rattle.go_types.specs.Entities.{Content, run, exact, shift}
-use Rattle.go_types.specs.Operands.{Operand, value, several, a_type, a_function, a_builtin, recovered, is_shift, leaves}
+use Rattle.go_tree.specs.declared.const_eval.kinds.Kind.{Kind}
+use Rattle.go_tree.specs.declared.const_eval.consts.Const.{Const}
+use Rattle.go_tree.specs.ConstEval.Exact.{represents}
+use Rattle.go_tree.specs.GoTypes.Answers.{only_if}
+use Rattle.go_tree.specs.GoTypes.Entities.{Content, run, exact, shift}
+use Rattle.go_tree.specs.GoTypes.Operands.{Operand, value, several, a_type, a_function, a_builtin, recovered, is_shift, leaves}
 use Rattle.operand_rules.specs.Values.{SameContent}
 use Rattle.operand_modes.specs.Operands.{SameOperand}
 use Rattle.operand_laws.specs.Alike.{SameAnswer}

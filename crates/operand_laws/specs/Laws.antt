@@ -2,14 +2,14 @@
 use Rattle.std.specs.Prelude.{◌≡◌, List, Option, Result}
 use Rattle.go_tree.specs.declared.operators.BinOp.{BinOp}
 use Rattle.go_tree.specs.declared.operators.UnOp.{UnOp}
-use Rattle.const_eval.specs.declared.consts.Const.{Const}
-use Rattle.go_types.specs.Types.{GoType}
-use Rattle.go_types.specs.Defined.{Defined}
-use Rattle.go_types.specs.Entities.{Content}
-use Rattle.go_types.specs.Operands.{Operand, Typed, fits}
-use Rattle.go_types.specs.Operators.{binary_value_operand, unary_value_operand}
-use Rattle.go_types.specs.Primary.{converted, index_of, sliced}
-use Rattle.type_relations.specs.Environment.{Environment}
+use Rattle.go_tree.specs.declared.const_eval.consts.Const.{Const}
+use Rattle.go_tree.specs.GoTypes.Types.{GoType}
+use Rattle.go_tree.specs.GoTypes.Defined.{Defined}
+use Rattle.go_tree.specs.GoTypes.Entities.{Content}
+use Rattle.go_tree.specs.GoTypes.Operands.{Operand, Typed, fits}
+use Rattle.go_tree.specs.GoTypes.Operators.{binary_value_operand, unary_value_operand}
+use Rattle.go_tree.specs.GoTypes.Primary.{converted, index_of, sliced}
+use Rattle.type_table.specs.TypeRelations.Environment.{Environment}
 use Rattle.operand_rules.specs.declared.values.Value.{Value}
 use Rattle.operand_rules.specs.declared.values.Refusal.{Refusal}
 use Rattle.operand_rules.specs.Values.{Gives, SameContent}

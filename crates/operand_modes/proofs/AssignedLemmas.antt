@@ -4,22 +4,22 @@ use Rattle.std.proofs.Common.{get_or, arith}
 use Rattle.std.proofs.lemmas.List.{length-map}
 use Rattle.std.proofs.lemmas.Bool.Decides.{nat_tests}
 use mathlib.Core.Path.{ap, sym, ◌∙◌, subst}
-use Rattle.const_eval.specs.declared.consts.Const.{Const}
-use Rattle.go_types.specs.Answers.{given, only_if}
-use Rattle.go_types.specs.Defined.{Defined}
-use Rattle.go_types.specs.Operands as go
-use Rattle.go_types.specs.Operands.{Typed, all_typed, spread, values_of}
-use Rattle.go_types.specs.Statements.{assigned_values}
-use Rattle.type_relations.specs.Environment.{Environment}
+use Rattle.go_tree.specs.declared.const_eval.consts.Const.{Const}
+use Rattle.go_tree.specs.GoTypes.Answers.{given, only_if}
+use Rattle.go_tree.specs.GoTypes.Defined.{Defined}
+use Rattle.go_tree.specs.GoTypes.Operands as go
+use Rattle.go_tree.specs.GoTypes.Operands.{Typed, all_typed, spread, values_of}
+use Rattle.go_tree.specs.GoTypes.Statements.{assigned_values}
+use Rattle.type_table.specs.TypeRelations.Environment.{Environment}
 use Rattle.operand_rules.specs.declared.values.Content.{Content}
 use Rattle.operand_rules.specs.declared.values.Content.TheVariants.{Run}
 use Rattle.operand_rules.specs.declared.values.Value.{Value}
 use Rattle.operand_rules.specs.declared.values.Refusal.{Refusal}
 use Rattle.operand_rules.specs.declared.values.Refusal.TheVariants.{NotTyped, NoMemory}
 use Rattle.operand_rules.specs.Values.{IsContent, IsValue, typed_of}
-use Rattle.access_rules.specs.declared.places.Place.{Place}
-use Rattle.access_rules.specs.declared.places.Place.TheVariants.{Addressable, MapElement, Literal, Elsewhere}
-use Rattle.access_rules.specs.Places.{place_of}
+use Rattle.operator_rules.specs.declared.access_rules.places.Place.{Place}
+use Rattle.operator_rules.specs.declared.access_rules.places.Place.TheVariants.{Addressable, MapElement, Literal, Elsewhere}
+use Rattle.operator_rules.specs.AccessRules.Places.{place_of}
 use Rattle.operand_modes.specs.declared.modes.Operand.{Operand}
 use Rattle.operand_modes.specs.declared.modes.Operand.TheVariants as mode
 use Rattle.operand_modes.specs.Operands.{AreOperands, operands_at, single_of}

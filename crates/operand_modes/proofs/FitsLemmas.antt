@@ -1,11 +1,11 @@
 -- Operands that are values fit where their values do, any others nowhere.
 use Rattle.std.specs.Prelude.{◌≡◌, Bool, false, List, Some, None, refl}
 use mathlib.Core.Path.{ap, subst}
-use Rattle.const_eval.specs.declared.consts.Const.{Const}
-use Rattle.go_types.specs.Defined.{Defined}
-use Rattle.go_types.specs.Types.{GoType}
-use Rattle.go_types.specs.Operands.{fits, takes}
-use Rattle.type_relations.specs.Environment.{Environment}
+use Rattle.go_tree.specs.declared.const_eval.consts.Const.{Const}
+use Rattle.go_tree.specs.GoTypes.Defined.{Defined}
+use Rattle.go_tree.specs.GoTypes.Types.{GoType}
+use Rattle.go_tree.specs.GoTypes.Operands.{fits, takes}
+use Rattle.type_table.specs.TypeRelations.Environment.{Environment}
 use Rattle.operand_rules.specs.declared.values.Value.{Value}
 use Rattle.operand_rules.specs.Values.{IsValue, typed_of}
 use Rattle.operand_modes.specs.declared.modes.Operand.{Operand}

@@ -3,18 +3,18 @@ use Rattle.std.specs.Prelude.{◌≡◌, ℕ, zero, suc, ◌<◌, ◌≤◌, Lis
 use Rattle.std.proofs.Common.{◌+◌, get_or, drop, arith, add-one, append-nil}
 use Rattle.std.proofs.Math.Seq.{drop-cons}
 use mathlib.Core.Path.{ap, sym, ◌∙◌, subst}
-use Rattle.const_eval.specs.declared.consts.Const.{Const}
-use Rattle.go_types.specs.Answers.{both, given}
-use Rattle.go_types.specs.Types.{GoType}
-use Rattle.go_types.specs.Entities.{run}
-use Rattle.go_types.specs.Operands as go
-use Rattle.go_types.specs.Operands.{Typed, value, several, a_type, a_function, a_builtin, recovered, all_typed, spread, typed}
+use Rattle.go_tree.specs.declared.const_eval.consts.Const.{Const}
+use Rattle.go_tree.specs.GoTypes.Answers.{both, given}
+use Rattle.go_tree.specs.GoTypes.Types.{GoType}
+use Rattle.go_tree.specs.GoTypes.Entities.{run}
+use Rattle.go_tree.specs.GoTypes.Operands as go
+use Rattle.go_tree.specs.GoTypes.Operands.{Typed, value, several, a_type, a_function, a_builtin, recovered, all_typed, spread, typed}
 use Rattle.type_table.specs.declared.nodes.TypeId.{TypeId}
-use Rattle.type_relations.specs.Environment.{Environment, env_type}
+use Rattle.type_table.specs.TypeRelations.Environment.{Environment, env_type}
 use Rattle.operand_rules.specs.declared.values.Value.{Value}
 use Rattle.operand_rules.specs.declared.values.Refusal.TheVariants.{NotTyped}
 use Rattle.operand_rules.specs.Values.{IsValue, typed_of}
-use Rattle.access_rules.specs.Functions.{AreTypes, AreValues, types_at}
+use Rattle.operator_rules.specs.AccessRules.Functions.{AreTypes, AreValues, types_at}
 use Rattle.operand_modes.specs.declared.modes.Operand.{Operand}
 use Rattle.operand_modes.specs.declared.modes.Operand.TheVariants as mode
 use Rattle.operand_modes.specs.Operands.{AreOperands, IsOperand, operand_at, operands_at, several_of, single_of, tuple_at}

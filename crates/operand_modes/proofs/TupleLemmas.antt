@@ -2,14 +2,14 @@
 use Rattle.std.specs.Prelude.{◌≡◌, ℕ, List, [], ◌∷◌, map, length, refl}
 use Rattle.std.proofs.Common.{get_or, arith}
 use mathlib.Core.Path.{ap, sym, ◌∙◌}
-use Rattle.go_types.specs.Types.{GoType}
-use Rattle.go_types.specs.Entities.{run}
-use Rattle.go_types.specs.Operands.{value, several, results_operand}
+use Rattle.go_tree.specs.GoTypes.Types.{GoType}
+use Rattle.go_tree.specs.GoTypes.Entities.{run}
+use Rattle.go_tree.specs.GoTypes.Operands.{value, several, results_operand}
 use Rattle.type_table.specs.declared.nodes.TypeId.{TypeId}
 use Rattle.type_table.specs.TypesAt.{types_by}
-use Rattle.type_relations.specs.Environment.{Environment, env_type}
+use Rattle.type_table.specs.TypeRelations.Environment.{Environment, env_type}
 use Rattle.operator_rules.specs.Parts.{AreParts}
-use Rattle.access_rules.specs.Functions.{AreTypes, types_at}
+use Rattle.operator_rules.specs.AccessRules.Functions.{AreTypes, types_at}
 use Rattle.typed_names.specs.Meanings.{listed}
 
 -- the types of a tuple in order

@@ -1,12 +1,12 @@
 -- What operands of the code are: types by their numbers, constants by theirs (Go specification, Expressions; Calls;
 -- Function types).
 use Rattle.std.specs.Prelude.{◌≡◌, ◌<◌, List, [], ◌∷◌, map, length, Option, Some, None, Result, Ok, Err}
-use Rattle.const_eval.specs.declared.consts.Const.{Const}
-use Rattle.go_types.specs.Types as type
-use Rattle.go_types.specs.Operands as go
-use Rattle.go_types.specs.Operands.{value, several, a_type, a_function, a_builtin, recovered}
+use Rattle.go_tree.specs.declared.const_eval.consts.Const.{Const}
+use Rattle.go_tree.specs.GoTypes.Types as type
+use Rattle.go_tree.specs.GoTypes.Operands as go
+use Rattle.go_tree.specs.GoTypes.Operands.{value, several, a_type, a_function, a_builtin, recovered}
 use Rattle.type_table.specs.declared.nodes.TypeId.{TypeId}
-use Rattle.type_relations.specs.Environment.{Environment, env_type}
+use Rattle.type_table.specs.TypeRelations.Environment.{Environment, env_type}
 use Rattle.universe_block.specs.Meanings.{builtin_of}
 use Rattle.operand_rules.specs.declared.values.ValueType.TheVariants.{Typed}
 use Rattle.operand_rules.specs.declared.values.Value.{Value}

@@ -2,24 +2,25 @@
 //! statements; Variable declarations).
 
 ghost use Rattle.std.specs.Prelude.{◌≡◌, ◌∷◌, [], map, IfOk};
-ghost use Rattle.go_types.specs.Operands as go;
-ghost use Rattle.go_types.specs.Statements as statement;
-ghost use Rattle.type_relations.specs.Environment.{defined_types};
+ghost use Rattle.go_tree.specs.GoTypes.Operands as go;
+ghost use Rattle.go_tree.specs.GoTypes.Statements as statement;
+ghost use Rattle.type_table.specs.TypeRelations.Environment.{defined_types};
 ghost use Rattle.operand_rules.specs.Values.{IsType, runs};
 ghost use Rattle.operator_rules.specs.Parts.{HasParts};
-ghost use Rattle.access_rules.specs.Places.{place_of};
+ghost use Rattle.operator_rules.specs.AccessRules.Places.{place_of};
 ghost use Rattle.operand_modes.specs.Operands.{AreOperands, operands_at};
-ghost use Rattle.operand_modes.specs.Lists.{AreStored, GivesValues, is_element, looked_up, only_element, only_value, with_presence};
+ghost use Rattle.operand_modes.specs.Lists.{AreStored, GivesValues, is_element, looked_up, only_element, only_value};
+ghost use Rattle.operand_modes.specs.Lists.{with_presence};
 
 use crate::lists::ValueList;
 use crate::modes::{Operand, single_value};
 use crate::spreads::values;
-use access_rules::Place;
-use const_eval::Kind;
 use go_tree::NoMemory;
+use go_tree::const_eval::Kind;
 use operand_rules::{ConstTable, Content, Refusal, Value, ValueType};
+use operator_rules::access_rules::Place;
 use std::alloc::Global;
-use type_relations::Env;
+use type_table::type_relations::Env;
 
 /// So many values, each its own or all of one call.
 #[tactic(auto, using(crate::proofs::AssignedLemmas::counted, crate::proofs::AssignedLemmas::not_counted, crate::proofs::AssignedLemmas::none_counted))]

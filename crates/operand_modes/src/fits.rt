@@ -1,14 +1,14 @@
 //! Where operands may stand (Go specification, Assignability; Representability).
 
 ghost use Rattle.std.specs.Prelude.{◌≡◌, ◌<◌, length};
-ghost use Rattle.go_types.specs.Operands as go;
-ghost use Rattle.type_relations.specs.Environment.{defined_types, env_type};
+ghost use Rattle.go_tree.specs.GoTypes.Operands as go;
+ghost use Rattle.type_table.specs.TypeRelations.Environment.{defined_types, env_type};
 ghost use Rattle.operand_modes.specs.Operands.{IsOperand, operand_at};
 
 use crate::modes::{Operand, single_value};
 use operand_rules::{ConstTable, fits};
-use type_relations::Env;
 use type_table::TypeId;
+use type_table::type_relations::Env;
 
 /// Whether an operand may stand where a value of the type is wanted.
 #[tactic(auto, using(crate::proofs::FitsLemmas::value_there, crate::proofs::FitsLemmas::value_takes, crate::proofs::FitsLemmas::none_takes))]

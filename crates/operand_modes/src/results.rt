@@ -1,15 +1,15 @@
 //! What calls of functions give (Go specification, Calls).
 
 ghost use Rattle.std.specs.Prelude.{◌≡◌, ◌<◌, List, length};
-ghost use Rattle.const_eval.specs.declared.consts.Const.{Const};
-ghost use Rattle.go_types.specs.Operands as go;
+ghost use Rattle.go_tree.specs.declared.const_eval.consts.Const.{Const};
+ghost use Rattle.go_tree.specs.GoTypes.Operands as go;
 ghost use Rattle.operator_rules.specs.Parts.{HasParts};
-ghost use Rattle.access_rules.specs.Functions.{AreTypes, types_at};
+ghost use Rattle.operator_rules.specs.AccessRules.Functions.{AreTypes, types_at};
 ghost use Rattle.operand_modes.specs.Operands.{IsOperand, operand_at, tuple_at};
 
 use crate::modes::Operand;
 use operand_rules::{Content, Value, ValueType};
-use type_relations::Env;
+use type_table::type_relations::Env;
 use type_table::{TypeId, TypeNode};
 
 /// The types of a tuple.
@@ -27,7 +27,7 @@ pub fn tuple_parts(env: &Env, t: TypeId) -> &[TypeId]
 }
 
 /// What a call of a function with these results gives: its value where there is one result.
-#[tactic(auto, using(crate::proofs::TupleLemmas::one_result, crate::proofs::TupleLemmas::other_results, access_rules::proofs::CallLemmas::type_item))]
+#[tactic(auto, using(crate::proofs::TupleLemmas::one_result, crate::proofs::TupleLemmas::other_results, operator_rules::proofs::AccessRules::CallLemmas::type_item))]
 pub fn results_operand(env: &Env, results: TypeId) -> Operand
     requires types { HasParts env.now }
     requires within { results.0 < length env.now.rows }

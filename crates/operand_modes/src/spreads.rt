@@ -2,9 +2,9 @@
 //! specification, Calls).
 
 ghost use Rattle.std.specs.Prelude.{◌≡◌, ◌<◌, [], ◌∷◌, List, length, map, IfOk};
-ghost use Rattle.const_eval.specs.declared.consts.Const.{Const};
-ghost use Rattle.go_types.specs.Operands as go;
-ghost use Rattle.type_relations.specs.Environment.{Environment};
+ghost use Rattle.go_tree.specs.declared.const_eval.consts.Const.{Const};
+ghost use Rattle.go_tree.specs.GoTypes.Operands as go;
+ghost use Rattle.type_table.specs.TypeRelations.Environment.{Environment};
 ghost use Rattle.operator_rules.specs.Parts.{HasParts};
 ghost use Rattle.operand_modes.specs.Operands.{AreOperands, operands_at, several_of, tuple_at};
 ghost use Rattle.operand_modes.specs.Lists.{GivesValues, only_results, run_value};
@@ -15,8 +15,8 @@ use crate::results::tuple_parts;
 use go_tree::NoMemory;
 use operand_rules::{ConstTable, Content, Refusal, Value, ValueType};
 use std::alloc::Global;
-use type_relations::Env;
 use type_table::TypeId;
+use type_table::type_relations::Env;
 
 /// The values that operands are, one by one.
 fn each_value(alloc: Global, operands: &[Operand]) -> Result<ValueList, Refusal>

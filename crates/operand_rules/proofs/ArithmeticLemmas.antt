@@ -2,20 +2,20 @@
 use Rattle.std.specs.Prelude.{◌≡◌, Bool, true, false, not, ◌&&◌, ◌||◌, List, Option, Some, None, Result, refl}
 use mathlib.Core.Path.{ap, sym, ◌∙◌, subst}
 use Rattle.go_tree.specs.declared.operators.BinOp.{BinOp}
-use Rattle.const_eval.specs.declared.kinds.Kind.{Kind}
-use Rattle.const_eval.specs.declared.consts.Const.{Const}
-use Rattle.const_eval.specs.declared.consts.ConstError.{ConstError}
-use Rattle.const_eval.specs.Conditions.{binary_applies}
-use Rattle.const_eval.specs.Exact.{represents, is_truth_kind, Answers}
-use Rattle.const_eval.specs.Operators.{binary_value}
-use Rattle.go_types.specs.Answers.{given, meets, only_if}
-use Rattle.go_types.specs.Types.{GoType, is_untyped}
-use Rattle.go_types.specs.Defined.{Defined}
-use Rattle.go_types.specs.Identical.{identical}
-use Rattle.go_types.specs.Operands.{Operand, Typed, kind_of}
-use Rattle.go_types.specs.Operators.{common_type, joins, calculated_operand, divides_by_zero, arithmetic}
-use Rattle.go_types.proofs.IdenticalLaws.{and_left, and_right, identical_same}
-use Rattle.type_relations.specs.Environment.{Environment, defined_types}
+use Rattle.go_tree.specs.declared.const_eval.kinds.Kind.{Kind}
+use Rattle.go_tree.specs.declared.const_eval.consts.Const.{Const}
+use Rattle.go_tree.specs.declared.const_eval.consts.ConstError.{ConstError}
+use Rattle.go_tree.specs.ConstEval.Conditions.{binary_applies}
+use Rattle.go_tree.specs.ConstEval.Exact.{represents, is_truth_kind, Answers}
+use Rattle.go_tree.specs.ConstEval.Operators.{binary_value}
+use Rattle.go_tree.specs.GoTypes.Answers.{given, meets, only_if}
+use Rattle.go_tree.specs.GoTypes.Types.{GoType, is_untyped}
+use Rattle.go_tree.specs.GoTypes.Defined.{Defined}
+use Rattle.go_tree.specs.GoTypes.Identical.{identical}
+use Rattle.go_tree.specs.GoTypes.Operands.{Operand, Typed, kind_of}
+use Rattle.go_tree.specs.GoTypes.Operators.{common_type, joins, calculated_operand, divides_by_zero, arithmetic}
+use Rattle.go_tree.proofs.GoTypes.IdenticalLaws.{and_left, and_right, identical_same}
+use Rattle.type_table.specs.TypeRelations.Environment.{Environment, defined_types}
 use Rattle.operand_rules.specs.declared.constants.ConstId.{ConstId}
 use Rattle.operand_rules.specs.declared.values.ValueType.{ValueType}
 use Rattle.operand_rules.specs.declared.values.ValueType.TheVariants as variant

@@ -1,17 +1,17 @@
 -- Conversions of values.
 use Rattle.std.specs.Prelude.{◌≡◌, ◌<◌, Bool, true, List, length, Some, None, Ok, refl}
 use mathlib.Core.Path.{ap, sym, ◌∙◌, subst}
-use Rattle.const_eval.specs.declared.kinds.Kind.{Kind}
-use Rattle.const_eval.specs.declared.consts.Const.{Const}
-use Rattle.const_eval.specs.Exact.{represents}
-use Rattle.go_types.specs.Answers.{meets, only_if}
-use Rattle.go_types.specs.Types.{basic_kind}
-use Rattle.go_types.specs.Defined.{under}
-use Rattle.go_types.specs.Entities.{run, exact}
-use Rattle.go_types.specs.Operands.{value, plain_value}
-use Rattle.go_types.specs.Primary.{converted_constant}
+use Rattle.go_tree.specs.declared.const_eval.kinds.Kind.{Kind}
+use Rattle.go_tree.specs.declared.const_eval.consts.Const.{Const}
+use Rattle.go_tree.specs.ConstEval.Exact.{represents}
+use Rattle.go_tree.specs.GoTypes.Answers.{meets, only_if}
+use Rattle.go_tree.specs.GoTypes.Types.{basic_kind}
+use Rattle.go_tree.specs.GoTypes.Defined.{under}
+use Rattle.go_tree.specs.GoTypes.Entities.{run, exact}
+use Rattle.go_tree.specs.GoTypes.Operands.{value, plain_value}
+use Rattle.go_tree.specs.GoTypes.Primary.{converted_constant}
 use Rattle.type_table.specs.declared.nodes.TypeId.{TypeId}
-use Rattle.type_relations.specs.Environment.{Environment, defined_types, env_type}
+use Rattle.type_table.specs.TypeRelations.Environment.{Environment, defined_types, env_type}
 use Rattle.operand_rules.specs.declared.constants.ConstId.{ConstId}
 use Rattle.operand_rules.specs.declared.values.ValueType.TheVariants.{Typed}
 use Rattle.operand_rules.specs.declared.values.Content.TheVariants.{Run, Exact}

@@ -1,15 +1,15 @@
 -- Literals.
 use Rattle.std.specs.Prelude.{◌≡◌, ℤ, Bool, true, false, List, Result, Ok, Err, if◌then◌else◌, refl}
 use mathlib.Core.Path.{◌∙◌}
-use Rattle.const_eval.specs.declared.kinds.Kind.{Kind}
-use Rattle.const_eval.specs.declared.kinds.Kind.TheVariants as kind
-use Rattle.const_eval.specs.declared.consts.Const.{Const}
-use Rattle.const_eval.specs.declared.consts.Const.TheVariants.{Whole}
-use Rattle.const_eval.specs.declared.consts.ConstError.{ConstError}
-use Rattle.const_eval.specs.declared.consts.ConstError.TheVariants.{Overflow, Wide}
-use Rattle.const_eval.specs.Exact.{Exact, number, truth, text, zero_divisor, negative_count, senseless, kept, is_within_128_bits, Answers}
-use Rattle.go_types.specs.Operands.{literal_operand}
-use Rattle.type_relations.specs.Environment.{Environment}
+use Rattle.go_tree.specs.declared.const_eval.kinds.Kind.{Kind}
+use Rattle.go_tree.specs.declared.const_eval.kinds.Kind.TheVariants as kind
+use Rattle.go_tree.specs.declared.const_eval.consts.Const.{Const}
+use Rattle.go_tree.specs.declared.const_eval.consts.Const.TheVariants.{Whole}
+use Rattle.go_tree.specs.declared.const_eval.consts.ConstError.{ConstError}
+use Rattle.go_tree.specs.declared.const_eval.consts.ConstError.TheVariants.{Overflow, Wide}
+use Rattle.go_tree.specs.ConstEval.Exact.{Exact, number, truth, text, zero_divisor, negative_count, senseless, kept, is_within_128_bits, Answers}
+use Rattle.go_tree.specs.GoTypes.Operands.{literal_operand}
+use Rattle.type_table.specs.TypeRelations.Environment.{Environment}
 use Rattle.operand_rules.specs.declared.values.ValueType.TheVariants.{Untyped}
 use Rattle.operand_rules.specs.declared.values.Value.{Value}
 use Rattle.operand_rules.specs.declared.values.Refusal.{Refusal}

@@ -6,11 +6,11 @@ use Rattle.std.proofs.lemmas.List.{append-nil}
 use Rattle.std.proofs.lemmas.Int.{ints}
 use Rattle.std.proofs.lemmas.List.Folds.{list_all-append}
 use mathlib.Core.Path.{ap, ap₂, sym, ◌∙◌, subst}
-use Rattle.const_eval.specs.declared.consts.Const.{Const}
-use Rattle.const_eval.specs.declared.consts.Const.TheVariants.{Whole}
-use Rattle.const_eval.specs.Exact.{represents, lies_within}
-use Rattle.const_eval.specs.Kinds.{limits}
-use Rattle.go_types.proofs.IdenticalLaws.{and_left, and_right}
+use Rattle.go_tree.specs.declared.const_eval.consts.Const.{Const}
+use Rattle.go_tree.specs.declared.const_eval.consts.Const.TheVariants.{Whole}
+use Rattle.go_tree.specs.ConstEval.Exact.{represents, lies_within}
+use Rattle.go_tree.specs.ConstEval.Kinds.{limits}
+use Rattle.go_tree.proofs.GoTypes.IdenticalLaws.{and_left, and_right}
 use Rattle.operand_rules.specs.declared.values.Bounds.{Bounds}
 use Rattle.operand_rules.specs.Open.{IsWithin, AreJoined}
 

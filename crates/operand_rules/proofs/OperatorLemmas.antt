@@ -2,15 +2,15 @@
 use Rattle.std.specs.Prelude.{◌≡◌, ℤ, Bool, true, false, if◌then◌else◌, pos, negsuc, refl}
 use Rattle.go_tree.specs.declared.operators.BinOp.{BinOp}
 use Rattle.go_tree.specs.declared.operators.BinOp.TheVariants.{Mul, Div, Rem, Shl, Shr, And, AndNot, Add, Sub, Or, Xor, Eq, Ne, Lt, Le, Gt, Ge, LogAnd, LogOr}
-use Rattle.const_eval.specs.declared.kinds.Kind.{Kind}
-use Rattle.const_eval.specs.declared.kinds.Kind.TheVariants as kind
-use Rattle.const_eval.specs.declared.consts.Const.{Const}
-use Rattle.const_eval.specs.declared.consts.Const.TheVariants.{Whole, Truth, Bytes}
-use Rattle.const_eval.specs.Conditions.{fits_right, is_number_kind, binary_applies, is_whole}
-use Rattle.const_eval.specs.Exact.{represents, zero_divisor, number, is_truth_kind}
-use Rattle.const_eval.specs.Operators.{is_zero, binary_value}
-use Rattle.go_types.specs.Operators.{greater_kind}
-use Rattle.go_types.specs.Relations.{akin}
+use Rattle.go_tree.specs.declared.const_eval.kinds.Kind.{Kind}
+use Rattle.go_tree.specs.declared.const_eval.kinds.Kind.TheVariants as kind
+use Rattle.go_tree.specs.declared.const_eval.consts.Const.{Const}
+use Rattle.go_tree.specs.declared.const_eval.consts.Const.TheVariants.{Whole, Truth, Bytes}
+use Rattle.go_tree.specs.ConstEval.Conditions.{fits_right, is_number_kind, binary_applies, is_whole}
+use Rattle.go_tree.specs.ConstEval.Exact.{represents, zero_divisor, number, is_truth_kind}
+use Rattle.go_tree.specs.ConstEval.Operators.{is_zero, binary_value}
+use Rattle.go_tree.specs.GoTypes.Operators.{greater_kind}
+use Rattle.go_tree.specs.GoTypes.Relations.{akin}
 use Rattle.operand_rules.specs.Operators.{is_calculation, is_shift_operator}
 use Rattle.operand_rules.specs.Values.{is_untyped_kind, is_untyped_number}
 use Rattle.operand_rules.proofs.FoldingLemmas.{suits}

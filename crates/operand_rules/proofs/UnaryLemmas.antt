@@ -3,20 +3,20 @@ use Rattle.std.specs.Prelude.{◌≡◌, true, false, List, Some, None, Result, 
 use mathlib.Core.Path.{ap, sym, ◌∙◌, subst}
 use Rattle.go_tree.specs.declared.operators.UnOp.{UnOp}
 use Rattle.go_tree.specs.declared.operators.UnOp.TheVariants.{Plus, Minus, Not, Flip, Address}
-use Rattle.const_eval.specs.declared.kinds.Kind.{Kind}
-use Rattle.const_eval.specs.declared.consts.Const.{Const}
-use Rattle.const_eval.specs.declared.consts.Const.TheVariants.{Whole, Truth, Bytes}
-use Rattle.const_eval.specs.declared.consts.ConstError.{ConstError}
-use Rattle.const_eval.specs.Conditions.{unary_applies}
-use Rattle.const_eval.specs.Exact.{Answers}
-use Rattle.const_eval.specs.Operators.{unary_value}
-use Rattle.go_types.specs.Answers.{given, only_if}
-use Rattle.go_types.specs.Types.{GoType}
-use Rattle.go_types.specs.Defined.{Defined}
-use Rattle.go_types.specs.Entities.{Content, exact}
-use Rattle.go_types.specs.Operands.{kind_of}
-use Rattle.go_types.specs.Operators.{changed_operand, unary_value_operand}
-use Rattle.type_relations.specs.Environment.{Environment, defined_types}
+use Rattle.go_tree.specs.declared.const_eval.kinds.Kind.{Kind}
+use Rattle.go_tree.specs.declared.const_eval.consts.Const.{Const}
+use Rattle.go_tree.specs.declared.const_eval.consts.Const.TheVariants.{Whole, Truth, Bytes}
+use Rattle.go_tree.specs.declared.const_eval.consts.ConstError.{ConstError}
+use Rattle.go_tree.specs.ConstEval.Conditions.{unary_applies}
+use Rattle.go_tree.specs.ConstEval.Exact.{Answers}
+use Rattle.go_tree.specs.ConstEval.Operators.{unary_value}
+use Rattle.go_tree.specs.GoTypes.Answers.{given, only_if}
+use Rattle.go_tree.specs.GoTypes.Types.{GoType}
+use Rattle.go_tree.specs.GoTypes.Defined.{Defined}
+use Rattle.go_tree.specs.GoTypes.Entities.{Content, exact}
+use Rattle.go_tree.specs.GoTypes.Operands.{kind_of}
+use Rattle.go_tree.specs.GoTypes.Operators.{changed_operand, unary_value_operand}
+use Rattle.type_table.specs.TypeRelations.Environment.{Environment, defined_types}
 use Rattle.operand_rules.specs.declared.constants.ConstId.{ConstId}
 use Rattle.operand_rules.specs.declared.values.Content.TheVariants as code
 use Rattle.operand_rules.specs.declared.values.Value.{Value}

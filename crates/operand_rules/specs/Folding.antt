@@ -1,10 +1,10 @@
 -- Constants that operators give (Go specification, Constant expressions).
 use Rattle.std.specs.Prelude.{◌≡◌, ◌<◌, Bool, false, ◌&&◌, List, length, Result, Ok, Err}
-use Rattle.const_eval.specs.declared.kinds.Kind.{Kind}
-use Rattle.const_eval.specs.declared.consts.Const.{Const}
-use Rattle.const_eval.specs.declared.consts.ConstError as fault
-use Rattle.const_eval.specs.declared.consts.ConstError.TheVariants as cause
-use Rattle.const_eval.specs.Exact.{Exact as ExactValue, number, text, is_text_kind}
+use Rattle.go_tree.specs.declared.const_eval.kinds.Kind.{Kind}
+use Rattle.go_tree.specs.declared.const_eval.consts.Const.{Const}
+use Rattle.go_tree.specs.declared.const_eval.consts.ConstError as fault
+use Rattle.go_tree.specs.declared.const_eval.consts.ConstError.TheVariants as cause
+use Rattle.go_tree.specs.ConstEval.Exact.{Exact as ExactValue, number, text, is_text_kind}
 use Rattle.operand_rules.specs.declared.values.ValueType.{ValueType}
 use Rattle.operand_rules.specs.declared.values.Content.{Content}
 use Rattle.operand_rules.specs.declared.values.Content.TheVariants.{Exact}

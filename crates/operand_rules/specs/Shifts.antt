@@ -1,7 +1,7 @@
 -- Counts of shifts (Go specification, Operators).
 use Rattle.std.specs.Prelude.{◌≡◌, ◌<◌, true, List, length}
-use Rattle.const_eval.specs.declared.consts.Const.{Const}
-use Rattle.const_eval.specs.Conditions.{is_whole}
+use Rattle.go_tree.specs.declared.const_eval.consts.Const.{Const}
+use Rattle.go_tree.specs.ConstEval.Conditions.{is_whole}
 use Rattle.operand_rules.specs.declared.values.Content.{Content}
 use Rattle.operand_rules.specs.declared.values.Content.TheVariants.{Run, Exact, Shift}
 use Rattle.operand_rules.specs.Constants.{const_at}

@@ -1,20 +1,21 @@
 -- What values of the code stand for: types by their numbers, constants by theirs (Go specification, Expressions;
 -- Constants; Operators).
-use Rattle.std.specs.Prelude.{◌≡◌, ◌<◌, ◌&&◌, Bool, true, false, List, [], ◌∷◌, length, Option, Some, None, Result, Ok, Err, int_le}
+use Rattle.std.specs.Prelude.{◌≡◌, ◌<◌, ◌&&◌, Bool, true, false, List, [], ◌∷◌, length, Option}
+use Rattle.std.specs.Prelude.{Some, None, Result, Ok, Err, int_le}
 use Rattle.std.specs.List.{list_all}
-use Rattle.const_eval.specs.declared.kinds.Kind.{Kind}
-use Rattle.const_eval.specs.declared.kinds.Kind.TheVariants as kind
-use Rattle.const_eval.specs.declared.consts.Const.{Const}
-use Rattle.const_eval.specs.declared.consts.Const.TheVariants.{Whole}
-use Rattle.const_eval.specs.Exact.{represents, is_truth_kind}
-use Rattle.go_types.specs.Types.{GoType, untyped, untyped_nil, is_untyped}
-use Rattle.go_types.specs.Entities as go
-use Rattle.go_types.specs.Entities.{run, exact, shift}
-use Rattle.go_types.specs.Operands.{Operand, value, Typed, kind_passes, represented}
-use Rattle.go_types.specs.Defined.{Defined}
-use Rattle.go_types.specs.Relations.{akin, is_whole_number}
-use Rattle.go_types.specs.Operators.{greater_kind}
-use Rattle.type_relations.specs.Environment.{Environment, defined_types, env_type}
+use Rattle.go_tree.specs.declared.const_eval.kinds.Kind.{Kind}
+use Rattle.go_tree.specs.declared.const_eval.kinds.Kind.TheVariants as kind
+use Rattle.go_tree.specs.declared.const_eval.consts.Const.{Const}
+use Rattle.go_tree.specs.declared.const_eval.consts.Const.TheVariants.{Whole}
+use Rattle.go_tree.specs.ConstEval.Exact.{represents, is_truth_kind}
+use Rattle.go_tree.specs.GoTypes.Types.{GoType, untyped, untyped_nil, is_untyped}
+use Rattle.go_tree.specs.GoTypes.Entities as go
+use Rattle.go_tree.specs.GoTypes.Entities.{run, exact, shift}
+use Rattle.go_tree.specs.GoTypes.Operands.{Operand, value, Typed, kind_passes, represented}
+use Rattle.go_tree.specs.GoTypes.Defined.{Defined}
+use Rattle.go_tree.specs.GoTypes.Relations.{akin, is_whole_number}
+use Rattle.go_tree.specs.GoTypes.Operators.{greater_kind}
+use Rattle.type_table.specs.TypeRelations.Environment.{Environment, defined_types, env_type}
 use Rattle.operand_rules.specs.declared.values.ValueType as code
 use Rattle.operand_rules.specs.declared.values.ValueType.TheVariants as variant
 use Rattle.operand_rules.specs.declared.values.Content.{Content}

@@ -2,13 +2,13 @@
 //! Operators).
 
 ghost use Rattle.std.specs.Prelude.{◌≡◌, ◌++◌, int_le, if◌then◌else◌};
-ghost use Rattle.go_types.specs.Operands.{leaves};
+ghost use Rattle.go_tree.specs.GoTypes.Operands.{leaves};
 ghost use Rattle.operand_rules.specs.Open.{AreJoined, IsOpen, IsOpenAt, IsOpenedAt, IsWithin, both_exact};
 ghost use Rattle.operand_rules.specs.Values.{content_of};
 
 use crate::constants::{ConstId, ConstTable};
 use crate::values::{Bounds, Content, ValueType};
-use const_eval::Const;
+use go_tree::const_eval::Const;
 
 /// The constants of two operands, where both are constant.
 pub fn both_exact(x: Content, y: Content) -> Option<(ConstId, ConstId)>

@@ -1,10 +1,10 @@
 //! Arithmetic operators (Go specification, Arithmetic operators; Constant expressions).
 
 ghost use Rattle.std.specs.Prelude.{◌≡◌, ◌&&◌, true, not, Some};
-ghost use Rattle.const_eval.specs.Conditions.{binary_applies};
-ghost use Rattle.go_types.specs.Operands.{kind_of};
-ghost use Rattle.go_types.specs.Operators as go;
-ghost use Rattle.type_relations.specs.Environment.{defined_types};
+ghost use Rattle.go_tree.specs.ConstEval.Conditions.{binary_applies};
+ghost use Rattle.go_tree.specs.GoTypes.Operands.{kind_of};
+ghost use Rattle.go_tree.specs.GoTypes.Operators as go;
+ghost use Rattle.type_table.specs.TypeRelations.Environment.{defined_types};
 ghost use Rattle.operand_rules.specs.Constants.{Grown};
 ghost use Rattle.operand_rules.specs.Open.{IsJoined};
 ghost use Rattle.operand_rules.specs.Operators.{is_calculation};
@@ -16,10 +16,10 @@ use crate::constants::ConstTable;
 use crate::folding::folded;
 use crate::kinds::{is_number_kind, is_text_kind, is_truth_kind, kind_of};
 use crate::values::{Content, Refusal, Value, ValueType};
-use const_eval::{Const, Kind, binary};
 use go_tree::BinOp;
+use go_tree::const_eval::{Const, Kind, binary};
 use std::alloc::Global;
-use type_relations::Env;
+use type_table::type_relations::Env;
 
 /// Whether the operator applies to two operands of the kind.
 pub fn binary_applies(op: BinOp, k: Kind) -> bool

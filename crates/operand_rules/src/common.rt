@@ -1,17 +1,17 @@
 //! The type of two operands together (Go specification, Operators; Constant expressions).
 
 ghost use Rattle.std.specs.Prelude.{◌≡◌, true, IfSome};
-ghost use Rattle.go_types.specs.Operators as go;
-ghost use Rattle.go_types.specs.Operators.{greater_kind};
-ghost use Rattle.type_relations.specs.Environment.{defined_types};
+ghost use Rattle.go_tree.specs.GoTypes.Operators as go;
+ghost use Rattle.go_tree.specs.GoTypes.Operators.{greater_kind};
+ghost use Rattle.type_table.specs.TypeRelations.Environment.{defined_types};
 ghost use Rattle.operand_rules.specs.Values.{IsCommon, IsType, IsValue, is_not_nil, type_of, type_option, typed_of};
 
 use crate::constants::ConstTable;
 use crate::fitting::fits;
 use crate::kinds::akin;
 use crate::values::{Value, ValueType};
-use const_eval::Kind;
-use type_relations::{Env, identical};
+use go_tree::const_eval::Kind;
+use type_table::type_relations::{Env, identical};
 
 /// Of two untyped kinds, a rune counts more than a whole number.
 fn greater_kind(j: Kind, k: Kind) -> Kind

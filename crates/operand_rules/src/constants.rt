@@ -3,8 +3,8 @@
 ghost use Rattle.std.specs.Prelude.{◌≡◌, ◌<◌, ◌≤◌, [], ◌∷◌, ◌++◌, length, IfOk, OnErr, OnOk};
 ghost use Rattle.operand_rules.specs.Constants.{bytes_of, bytes_in, const_at};
 
-use const_eval::Const;
 use go_tree::NoMemory;
+use go_tree::const_eval::Const;
 use std::alloc::{AllocError, Global};
 use std::marker::Model;
 
@@ -34,7 +34,7 @@ pub struct ConstTable {
 
 impl Model for ConstTable {
     ghost use Rattle.std.specs.Prelude.{◌≡◌, ◌+◌, List};
-    ghost use Rattle.const_eval.specs.declared.consts.Const.{Const};
+    ghost use Rattle.go_tree.specs.declared.const_eval.consts.Const.{Const};
     ghost use Rattle.operand_rules.specs.Constants.{bytes_in};
 
     ghost Value = { List Const };

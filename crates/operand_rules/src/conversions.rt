@@ -1,9 +1,9 @@
 //! Conversions (Go specification, Conversions; Constant expressions).
 
 ghost use Rattle.std.specs.Prelude.{◌≡◌, ◌<◌, length};
-ghost use Rattle.go_types.specs.Primary as go;
-ghost use Rattle.go_types.specs.Relations as relation;
-ghost use Rattle.type_relations.specs.Environment.{defined_types, env_type};
+ghost use Rattle.go_tree.specs.GoTypes.Primary as go;
+ghost use Rattle.go_tree.specs.GoTypes.Relations as relation;
+ghost use Rattle.type_table.specs.TypeRelations.Environment.{defined_types, env_type};
 ghost use Rattle.operand_rules.specs.declared.values.ValueType.TheVariants.{Typed};
 ghost use Rattle.operand_rules.specs.Constants.{const_at};
 ghost use Rattle.operand_rules.specs.Values.{Gives, IsType, IsValue, type_of, typed_of};
@@ -12,8 +12,8 @@ use crate::constants::{ConstId, ConstTable};
 use crate::fitting::{assignable_to, has_nil, shift_fits};
 use crate::kinds::{is_byte_kind, is_number_kind, is_text_kind, is_whole_type, under_kind};
 use crate::values::{Content, Refusal, Value, ValueType};
-use const_eval::represent;
-use type_relations::{Env, convertible};
+use go_tree::const_eval::represent;
+use type_table::type_relations::{Env, convertible};
 use type_table::{TypeId, TypeNode};
 
 /// A slice whose elements have the underlying type `uint8`.

@@ -1,17 +1,17 @@
 //! Where a value may stand (Go specification, Assignability; Representability).
 
 ghost use Rattle.std.specs.Prelude.{◌≡◌, ◌<◌, length};
-ghost use Rattle.go_types.specs.Operands as go;
-ghost use Rattle.go_types.specs.Relations as relation;
-ghost use Rattle.type_relations.specs.Environment.{defined_types, env_type};
-ghost use Rattle.go_types.specs.Defined.{under};
+ghost use Rattle.go_tree.specs.GoTypes.Operands as go;
+ghost use Rattle.go_tree.specs.GoTypes.Relations as relation;
+ghost use Rattle.type_table.specs.TypeRelations.Environment.{defined_types, env_type};
+ghost use Rattle.go_tree.specs.GoTypes.Defined.{under};
 ghost use Rattle.operand_rules.specs.Values.{IsType, IsValue, shift_fits, type_of, typed_of, within};
 
 use crate::constants::ConstTable;
 use crate::kinds::{akin, is_number_kind, under_kind};
 use crate::values::{Bounds, Content, Value, ValueType};
-use const_eval::{Const, represent};
-use type_relations::{Env, assignable};
+use go_tree::const_eval::{Const, represent};
+use type_table::type_relations::{Env, assignable};
 use type_table::{TypeId, TypeNode};
 
 /// Whether the type represents the constant (Go specification, Representability).

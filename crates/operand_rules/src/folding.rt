@@ -5,7 +5,7 @@ ghost use Rattle.operand_rules.specs.Folding.{Folds};
 
 use crate::constants::ConstTable;
 use crate::values::{Content, Refusal, Value, ValueType};
-use const_eval::{Const, ConstError};
+use go_tree::const_eval::{Const, ConstError};
 
 /// The value of a type that a constant is, or why there is none.
 #[tactic(auto, using(crate::proofs::ConstantLemmas::grown_self, crate::proofs::ConstantLemmas::grown_by_one, crate::proofs::ConstantLemmas::grown_by_none, crate::proofs::ConstantLemmas::added_at, crate::proofs::ConstantLemmas::added_within))]

@@ -1,20 +1,20 @@
 //! Kinds of types and values (Go specification, Numeric types; Boolean types; String types).
 
 ghost use Rattle.std.specs.Prelude.{◌≡◌, ◌<◌, length};
-ghost use Rattle.const_eval.specs.Conditions.{is_number_kind};
-ghost use Rattle.const_eval.specs.Exact.{is_text_kind, is_truth_kind};
-ghost use Rattle.const_eval.specs.declared.kinds.Kind.TheVariants.{Uint8};
-ghost use Rattle.go_types.specs.Operands as go;
-ghost use Rattle.go_types.specs.Types.{same_kind};
-ghost use Rattle.go_types.specs.Relations as relation;
-ghost use Rattle.go_types.specs.Relations.{akin};
-ghost use Rattle.type_relations.specs.Environment.{defined_types, env_type};
-ghost use Rattle.type_relations.specs.Kinds.{under_kind};
+ghost use Rattle.go_tree.specs.ConstEval.Conditions.{is_number_kind};
+ghost use Rattle.go_tree.specs.ConstEval.Exact.{is_text_kind, is_truth_kind};
+ghost use Rattle.go_tree.specs.declared.const_eval.kinds.Kind.TheVariants.{Uint8};
+ghost use Rattle.go_tree.specs.GoTypes.Operands as go;
+ghost use Rattle.go_tree.specs.GoTypes.Types.{same_kind};
+ghost use Rattle.go_tree.specs.GoTypes.Relations as relation;
+ghost use Rattle.go_tree.specs.GoTypes.Relations.{akin};
+ghost use Rattle.type_table.specs.TypeRelations.Environment.{defined_types, env_type};
+ghost use Rattle.type_table.specs.TypeRelations.Kinds.{under_kind};
 ghost use Rattle.operand_rules.specs.Values.{IsType, type_of};
 
 use crate::values::ValueType;
-use const_eval::Kind;
-use type_relations::Env;
+use go_tree::const_eval::Kind;
+use type_table::type_relations::Env;
 use type_table::{TypeId, TypeNode};
 
 /// A kind of whole numbers.

@@ -2,10 +2,10 @@
 //! literals; Constants).
 
 ghost use Rattle.std.specs.Prelude.{◌≡◌, true};
-ghost use Rattle.go_literals.specs.Literals.{IsLiteral};
-ghost use Rattle.const_eval.specs.Literals.{literal_value};
-ghost use Rattle.go_types.specs.Operands.{literal_operand};
-ghost use Rattle.type_relations.specs.Environment.{Environment};
+ghost use Rattle.go_tree.specs.GoLiterals.Literals.{IsLiteral};
+ghost use Rattle.go_tree.specs.ConstEval.Literals.{literal_value};
+ghost use Rattle.go_tree.specs.GoTypes.Operands.{literal_operand};
+ghost use Rattle.type_table.specs.TypeRelations.Environment.{Environment};
 ghost use Rattle.operand_rules.specs.Constants.{Grown};
 ghost use Rattle.operand_rules.specs.Folding.{is_literal_kind};
 ghost use Rattle.operand_rules.specs.Values.{Gives};
@@ -13,7 +13,7 @@ ghost use Rattle.operand_rules.specs.Values.{Gives};
 use crate::constants::ConstTable;
 use crate::folding::folded;
 use crate::values::{Refusal, Value, ValueType};
-use const_eval::Kind;
+use go_tree::const_eval::Kind;
 use std::alloc::Global;
 
 /// What a literal token is: an untyped constant of this kind, which is that of its form.
@@ -28,6 +28,6 @@ pub fn literal(
     ensures grown { Grown consts.old consts.new }
     ensures gives { (e : Environment) → Gives e consts.new (literal_operand kind (literal_value spelling.now)) result }
 {
-    let constant = const_eval::literal(alloc, spelling);
+    let constant = go_tree::const_eval::literal(alloc, spelling);
     folded(consts, ValueType::Untyped(kind), constant)
 }

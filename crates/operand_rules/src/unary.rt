@@ -1,9 +1,9 @@
 //! Unary operators (Go specification, Arithmetic operators; Logical operators; Constant expressions).
 
 ghost use Rattle.std.specs.Prelude.{◌≡◌};
-ghost use Rattle.const_eval.specs.Conditions.{unary_applies};
-ghost use Rattle.go_types.specs.Operators as go;
-ghost use Rattle.type_relations.specs.Environment.{defined_types};
+ghost use Rattle.go_tree.specs.ConstEval.Conditions.{unary_applies};
+ghost use Rattle.go_tree.specs.GoTypes.Operators as go;
+ghost use Rattle.type_table.specs.TypeRelations.Environment.{defined_types};
 ghost use Rattle.operand_rules.specs.Constants.{Grown};
 ghost use Rattle.operand_rules.specs.Values.{Gives, IsValue, typed_of};
 
@@ -11,10 +11,10 @@ use crate::constants::ConstTable;
 use crate::folding::folded;
 use crate::kinds::{is_number_kind, is_truth_kind, kind_of};
 use crate::values::{Content, Refusal, Value};
-use const_eval::{Kind, unary};
 use go_tree::UnOp;
+use go_tree::const_eval::{Kind, unary};
 use std::alloc::Global;
-use type_relations::Env;
+use type_table::type_relations::Env;
 
 /// Whether the operator applies to one operand of the kind.
 fn unary_applies(op: UnOp, k: Kind) -> bool

@@ -1,7 +1,7 @@
 //! Values: their types, and what is known of them (Go specification, Expressions; Constants).
 
 use crate::constants::ConstId;
-use const_eval::Kind;
+use go_tree::const_eval::Kind;
 use std::alloc::{AllocError, AllocFailed};
 use type_table::TypeId;
 

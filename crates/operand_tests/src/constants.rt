@@ -13,7 +13,7 @@ use operand_rules::{ConstTable, Refusal, Value, unary_value};
 use operator_rules::{BasicTypes, binary_value};
 use std::alloc::Global;
 use std::test::Fail;
-use type_relations::Env;
+use type_table::type_relations::Env;
 
 /// Two operands with an operator between them, and what they are.
 const BINARY: [(Number, BinOp, Number, Found); 24] = [

@@ -5,10 +5,10 @@ ghost use Rattle.operand_rules.specs.Constants.{Grown};
 ghost use Rattle.operand_rules.specs.Values.{IsValue};
 ghost use Rattle.operator_rules.specs.BasicTypes.{AreBasic};
 
-use const_eval::{Const, Kind};
+use go_tree::const_eval::{Const, Kind};
 use operand_rules::{ConstTable, Content, Refusal, Value, ValueType, conversion};
 use operator_rules::BasicTypes;
-use type_relations::Env;
+use type_table::type_relations::Env;
 
 /// A constant: an untyped number or rune, or one of `int`, `rune` or `byte`.
 #[derive(Clone, Copy, Debug, PartialEq, Eq)]

@@ -3,17 +3,17 @@ use Rattle.std.specs.Prelude.{◌≡◌, ℕ, ◌<◌, ◌≤◌, Bool, true, fa
 use Rattle.std.specs.List.{list_any}
 use Rattle.std.proofs.Common.{arith, length-append}
 use mathlib.Core.Path.{ap, sym, ◌∙◌, subst}
-use Rattle.const_eval.specs.declared.kinds.Kind.{Kind}
-use Rattle.const_eval.specs.declared.consts.Const.{Const}
-use Rattle.const_eval.specs.Exact.{represents}
-use Rattle.go_types.specs.Operands.{kind_passes}
-use Rattle.go_types.specs.Entities as go
-use Rattle.go_types.specs.Entities.{exact}
+use Rattle.go_tree.specs.declared.const_eval.kinds.Kind.{Kind}
+use Rattle.go_tree.specs.declared.const_eval.consts.Const.{Const}
+use Rattle.go_tree.specs.ConstEval.Exact.{represents}
+use Rattle.go_tree.specs.GoTypes.Operands.{kind_passes}
+use Rattle.go_tree.specs.GoTypes.Entities as go
+use Rattle.go_tree.specs.GoTypes.Entities.{exact}
 use Rattle.type_table.specs.declared.nodes.TypeId.{TypeId}
-use Rattle.go_types.specs.Table.{TypeNode}
+use Rattle.go_tree.specs.GoTypes.Table.{TypeNode}
 use Rattle.type_table.specs.SameRows.{same_row}
 use Rattle.type_table.specs.Interned.{with_row}
-use Rattle.type_relations.specs.Environment.{Environment, defined_types, env_type, with_type}
+use Rattle.type_table.specs.TypeRelations.Environment.{Environment, defined_types, env_type, with_type}
 use Rattle.operand_rules.specs.declared.values.ValueType.{ValueType}
 use Rattle.operand_rules.specs.declared.values.Content.{Content}
 use Rattle.operand_rules.specs.declared.values.Content.TheVariants.{Run, Exact, Shift}

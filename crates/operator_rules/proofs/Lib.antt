@@ -3,3 +3,4 @@ pub mod LogicalLemmas
 pub mod TypeLemmas
 pub mod KeptLemmas
 pub mod GrowthLemmas
+pub mod AccessRules

@@ -3,13 +3,13 @@ use Rattle.std.specs.Prelude.{◌≡◌, Bool, true, false, ◌||◌, Option, So
 use mathlib.Core.Path.{sym, ◌∙◌}
 use Rattle.go_tree.specs.declared.operators.BinOp.{BinOp}
 use Rattle.go_tree.specs.declared.operators.BinOp.TheVariants.{Mul, Div, Rem, Shl, Shr, And, AndNot, Add, Sub, Or, Xor, Eq, Ne, Lt, Le, Gt, Ge, LogAnd, LogOr}
-use Rattle.const_eval.specs.declared.kinds.Kind.{Kind}
-use Rattle.const_eval.specs.Conditions.{binary_applies}
-use Rattle.const_eval.specs.Exact.{is_truth_kind}
-use Rattle.go_types.specs.Answers.{meets}
-use Rattle.go_types.specs.Types.{GoType}
-use Rattle.go_types.specs.Operands.{kind_of, kind_passes}
-use Rattle.type_relations.specs.Environment.{Environment, defined_types}
+use Rattle.go_tree.specs.declared.const_eval.kinds.Kind.{Kind}
+use Rattle.go_tree.specs.ConstEval.Conditions.{binary_applies}
+use Rattle.go_tree.specs.ConstEval.Exact.{is_truth_kind}
+use Rattle.go_tree.specs.GoTypes.Answers.{meets}
+use Rattle.go_tree.specs.GoTypes.Types.{GoType}
+use Rattle.go_tree.specs.GoTypes.Operands.{kind_of, kind_passes}
+use Rattle.type_table.specs.TypeRelations.Environment.{Environment, defined_types}
 use Rattle.operand_rules.specs.Operators.{is_logical}
 
 -- a test and nothing else

@@ -1,7 +1,7 @@
 -- What a growing table of constants, or of types, leaves as it is (Go specification, Constants; Types).
 use Rattle.std.specs.Prelude.{◌≡◌, ℕ, ◌<◌, ◌≤◌, List, length}
-use Rattle.const_eval.specs.declared.consts.Const.{Const}
-use Rattle.type_relations.specs.Environment.{Environment, env_type}
+use Rattle.go_tree.specs.declared.const_eval.consts.Const.{Const}
+use Rattle.type_table.specs.TypeRelations.Environment.{Environment, env_type}
 use Rattle.operand_rules.specs.declared.values.Value.{Value}
 use Rattle.operand_rules.specs.Constants.{Grown}
 use Rattle.operand_rules.specs.Values.{IsValue, typed_of}

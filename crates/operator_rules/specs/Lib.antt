@@ -5,3 +5,4 @@ pub mod Comparisons
 pub mod Kept
 pub mod Parts
 pub mod Growth
+pub mod AccessRules

@@ -1,8 +1,8 @@
 -- Types by their numbers, where there are any (Go specification, Constants).
 use Rattle.std.specs.Prelude.{Option, Some, None}
-use Rattle.go_types.specs.Types.{GoType}
+use Rattle.go_tree.specs.GoTypes.Types.{GoType}
 use Rattle.type_table.specs.declared.nodes.TypeId.{TypeId}
-use Rattle.type_relations.specs.Environment.{Environment, env_type}
+use Rattle.type_table.specs.TypeRelations.Environment.{Environment, env_type}
 
 -- the type that there is
 abbrev pub typed_option : Environment → Option TypeId → Option GoType

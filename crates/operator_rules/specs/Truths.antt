@@ -2,12 +2,12 @@
 -- Logical operators; Constant expressions).
 use Rattle.std.specs.Prelude.{Bool, true, false, ◌||◌, Option, Some, None, Result, Ok}
 use Rattle.go_tree.specs.declared.operators.BinOp.{BinOp}
-use Rattle.const_eval.specs.declared.kinds.Kind.{Kind}
-use Rattle.const_eval.specs.declared.kinds.Kind.TheVariants as kind
-use Rattle.const_eval.specs.declared.consts.Const.{Const}
-use Rattle.const_eval.specs.declared.consts.Const.TheVariants.{Whole, Truth, Bytes}
-use Rattle.const_eval.specs.declared.consts.ConstError.{ConstError}
-use Rattle.const_eval.specs.Operators.{is_comparison}
+use Rattle.go_tree.specs.declared.const_eval.kinds.Kind.{Kind}
+use Rattle.go_tree.specs.declared.const_eval.kinds.Kind.TheVariants as kind
+use Rattle.go_tree.specs.declared.const_eval.consts.Const.{Const}
+use Rattle.go_tree.specs.declared.const_eval.consts.Const.TheVariants.{Whole, Truth, Bytes}
+use Rattle.go_tree.specs.declared.const_eval.consts.ConstError.{ConstError}
+use Rattle.go_tree.specs.ConstEval.Operators.{is_comparison}
 use Rattle.operand_rules.specs.Operators.{is_logical}
 
 -- a comparison, `&&` or `||`

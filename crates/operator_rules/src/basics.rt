@@ -1,15 +1,15 @@
 //! The predeclared types that rules give by themselves (Go specification, Types; Constants).
 
 ghost use Rattle.std.specs.Prelude.{◌≡◌, IfOk};
-ghost use Rattle.type_relations.specs.Environment.{defined_types};
+ghost use Rattle.type_table.specs.TypeRelations.Environment.{defined_types};
 ghost use Rattle.operator_rules.specs.BasicTypes.{AreBasic, IsBasic};
 ghost use Rattle.operator_rules.specs.Kept.{TypesGrown};
 ghost use Rattle.operator_rules.specs.Parts.{HasParts};
-ghost use Rattle.value_types.specs.ValueTypes.{HasValueTypes};
+ghost use Rattle.type_table.specs.ValueTypes.ValueTypes.{HasValueTypes};
 
-use const_eval::Kind;
 use go_tree::NoMemory;
-use type_relations::Env;
+use go_tree::const_eval::Kind;
+use type_table::type_relations::Env;
 use type_table::{TypeId, TypeNode};
 
 /// The numbers of `int`, `rune`, `byte`, `bool` and `string`.
@@ -23,7 +23,7 @@ pub struct BasicTypes {
 }
 
 /// The number of the predeclared type of this kind.
-#[tactic(auto, using(crate::proofs::KeptLemmas::interned_grown, crate::proofs::KeptLemmas::types_same, crate::proofs::GrowthLemmas::basic_parts, crate::proofs::GrowthLemmas::parts_same, value_types::proofs::ValueLemmas::basic_added, value_types::proofs::ValueLemmas::values_same))]
+#[tactic(auto, using(crate::proofs::KeptLemmas::interned_grown, crate::proofs::KeptLemmas::types_same, crate::proofs::GrowthLemmas::basic_parts, crate::proofs::GrowthLemmas::parts_same, type_table::proofs::ValueTypes::ValueLemmas::basic_added, type_table::proofs::ValueTypes::ValueLemmas::values_same))]
 fn basic_type(env: &mut Env, k: Kind) -> Result<TypeId, NoMemory>
     ensures is { IfOk result (λ t. IsBasic env.new t k) }
     ensures grown { TypesGrown env.old env.new }

@@ -1,8 +1,8 @@
 //! Which rule a binary operator follows (Go specification, Operators).
 
-ghost use Rattle.go_types.specs.Operators as go;
-ghost use Rattle.go_types.specs.Operands.{value};
-ghost use Rattle.type_relations.specs.Environment.{defined_types};
+ghost use Rattle.go_tree.specs.GoTypes.Operators as go;
+ghost use Rattle.go_tree.specs.GoTypes.Operands.{value};
+ghost use Rattle.type_table.specs.TypeRelations.Environment.{defined_types};
 ghost use Rattle.comparable_types.specs.Grown.{AreFlags};
 ghost use Rattle.operand_rules.specs.Constants.{Grown};
 ghost use Rattle.operand_rules.specs.Values.{Gives, IsValue, content_of, type_of, typed_of};
@@ -12,11 +12,11 @@ use crate::basics::BasicTypes;
 use crate::comparisons::comparison;
 use crate::logical::logic;
 use comparable_types::TypeFlags;
-use const_eval::Kind;
 use go_tree::BinOp;
+use go_tree::const_eval::Kind;
 use operand_rules::{ConstTable, Content, Refusal, Value, ValueType, arithmetic, shifting};
 use std::alloc::Global;
-use type_relations::Env;
+use type_table::type_relations::Env;
 
 /// What a binary operator between two values gives.
 pub fn binary_value(

@@ -1,11 +1,11 @@
 //! Comparisons (Go specification, Comparison operators).
 
 ghost use Rattle.std.specs.Prelude.{◌≡◌, ◌||◌, ◌&&◌, true, IfSome};
-ghost use Rattle.const_eval.specs.Operators.{is_comparison};
-ghost use Rattle.go_types.specs.Operands.{is_shift};
-ghost use Rattle.go_types.specs.Operators as go;
-ghost use Rattle.go_types.specs.Types.{is_nil, is_untyped};
-ghost use Rattle.type_relations.specs.Environment.{defined_types, env_type};
+ghost use Rattle.go_tree.specs.ConstEval.Operators.{is_comparison};
+ghost use Rattle.go_tree.specs.GoTypes.Operands.{is_shift};
+ghost use Rattle.go_tree.specs.GoTypes.Operators as go;
+ghost use Rattle.go_tree.specs.GoTypes.Types.{is_nil, is_untyped};
+ghost use Rattle.type_table.specs.TypeRelations.Environment.{defined_types, env_type};
 ghost use Rattle.comparable_types.specs.Grown.{AreFlags};
 ghost use Rattle.operand_rules.specs.declared.values.ValueType.TheVariants.{Typed};
 ghost use Rattle.operand_rules.specs.Constants.{Grown};
@@ -18,12 +18,12 @@ use crate::logical::applies;
 use crate::settling::default_type;
 use crate::truths::truth_value;
 use comparable_types::TypeFlags;
-use const_eval::Kind;
 use go_tree::BinOp;
+use go_tree::const_eval::Kind;
 use operand_rules::{ConstTable, Content, Refusal, Value, ValueType, common_type, fits, has_nil};
 use std::alloc::Global;
-use type_relations::{Env, assignable};
 use type_table::TypeId;
+use type_table::type_relations::{Env, assignable};
 
 /// The type of an untyped constant, or of nil.
 fn is_untyped(env: &Env, t: ValueType) -> bool

@@ -2,6 +2,7 @@
 //! follows, and the type that a value settles at (Go specification, Operators; Constants).
 #![tactic(auto)]
 
+pub mod access_rules;
 mod basics;
 mod binary;
 mod comparisons;

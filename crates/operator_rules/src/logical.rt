@@ -1,10 +1,10 @@
 //! `&&` and `||` (Go specification, Logical operators).
 
 ghost use Rattle.std.specs.Prelude.{◌≡◌, ◌&&◌, true};
-ghost use Rattle.const_eval.specs.Conditions as condition;
-ghost use Rattle.go_types.specs.Operands.{kind_passes};
-ghost use Rattle.go_types.specs.Operators as go;
-ghost use Rattle.type_relations.specs.Environment.{defined_types};
+ghost use Rattle.go_tree.specs.ConstEval.Conditions as condition;
+ghost use Rattle.go_tree.specs.GoTypes.Operands.{kind_passes};
+ghost use Rattle.go_tree.specs.GoTypes.Operators as go;
+ghost use Rattle.type_table.specs.TypeRelations.Environment.{defined_types};
 ghost use Rattle.operand_rules.specs.Constants.{Grown};
 ghost use Rattle.operand_rules.specs.Operators.{is_logical};
 ghost use Rattle.operand_rules.specs.Values.{Gives, IsType, IsValue, is_not_nil, type_of, typed_of};
@@ -15,7 +15,7 @@ use operand_rules::{
     ConstTable, Refusal, Value, ValueType, binary_applies, common_type, joins, kind_of,
 };
 use std::alloc::Global;
-use type_relations::Env;
+use type_table::type_relations::Env;
 
 /// Whether the operator applies to operands of the type.
 pub(crate) fn applies(env: &Env, op: BinOp, t: ValueType) -> bool

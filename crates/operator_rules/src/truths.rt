@@ -2,23 +2,23 @@
 //! Logical operators; Constant expressions).
 
 ghost use Rattle.std.specs.Prelude.{◌≡◌, true};
-ghost use Rattle.const_eval.specs.declared.kinds.Kind.TheVariants.{UntypedBool};
-ghost use Rattle.const_eval.specs.Exact.{represents, is_truth_kind};
-ghost use Rattle.const_eval.specs.Operators.{binary_value};
-ghost use Rattle.go_types.specs.Operands.{constant_at, kind_passes};
-ghost use Rattle.go_types.specs.Operators as go;
-ghost use Rattle.type_relations.specs.Environment.{defined_types};
+ghost use Rattle.go_tree.specs.declared.const_eval.kinds.Kind.TheVariants.{UntypedBool};
+ghost use Rattle.go_tree.specs.ConstEval.Exact.{represents, is_truth_kind};
+ghost use Rattle.go_tree.specs.ConstEval.Operators.{binary_value};
+ghost use Rattle.go_tree.specs.GoTypes.Operands.{constant_at, kind_passes};
+ghost use Rattle.go_tree.specs.GoTypes.Operators as go;
+ghost use Rattle.type_table.specs.TypeRelations.Environment.{defined_types};
 ghost use Rattle.operand_rules.specs.Constants.{Grown};
 ghost use Rattle.operand_rules.specs.Values.{Gives, IsKept, IsType, content_of, type_of};
 ghost use Rattle.operator_rules.specs.Truths.{alike, gives_truth, sort_of, truth_in, truth_option};
 
-use const_eval::{Const, ConstError, Kind, binary};
 use go_tree::BinOp;
+use go_tree::const_eval::{Const, ConstError, Kind, binary};
 use operand_rules::{
     ConstTable, Content, Refusal, Value, ValueType, binary_applies, both_exact, folded,
 };
 use std::alloc::Global;
-use type_relations::Env;
+use type_table::type_relations::Env;
 
 /// The kind of an untyped constant like this one.
 fn sort_of(constant: &Const) -> Kind

@@ -4,23 +4,23 @@ use Rattle.std.specs.Prelude.{nat_eq, is_none}
 use Rattle.std.proofs.lemmas.Bool.Decides.{nat_tests}
 use Rattle.std.specs.List.{list_all, list_any}
 use Rattle.std.proofs.lemmas.Slice.Eq.{bytes_eq-Decides}
-use Rattle.scope_names.specs.Means.{is_blank}
-use Rattle.go_types.specs.Answers.{one_of}
-use Rattle.go_types.specs.Entities.{World}
-use Rattle.go_types.specs.Programs.{Import, SourceFile, Program, Headed, headed, block_names, import_sound}
-use Rattle.go_types.specs.Collect.{types_declared, collected}
-use Rattle.go_types.specs.WellTyped.{refused_unless, first_import, well_typed}
+use Rattle.go_tree.specs.ScopeNames.Means.{is_blank}
+use Rattle.go_tree.specs.GoTypes.Answers.{one_of}
+use Rattle.go_tree.specs.GoTypes.Entities.{World}
+use Rattle.go_tree.specs.GoTypes.Programs.{Import, SourceFile, Program, Headed, headed, block_names, import_sound}
+use Rattle.go_tree.specs.GoTypes.Collect.{types_declared, collected}
+use Rattle.go_tree.specs.GoTypes.WellTyped.{refused_unless, first_import, well_typed}
 use Rattle.typed_in_place.specs.ImportRule.{files_import, package_imports, imports_ok, declarations_ok}
 use Rattle.typed_in_place.specs.ProgramReplaced.{All, all_of_none, all_and}
 use Rattle.typed_in_place.proofs.Rising.{and_first, and_second, both_true}
 use Rattle.typed_in_place.proofs.ImportRule.{well_typed_apart}
 use Rattle.go_kernel.specs.Kernel.{same_text}
 use Rattle.go_translation.specs.Packages.{Package, sources, codes_of, program_of, initial_of, has_path, has_number, are_distinct, are_linked, are_well_typed}
-use Rattle.constant_steps.specs.StepLaws.PartsTyped.{HeaderTyped}
+use Rattle.splice_laws.specs.ConstantSteps.StepLaws.PartsTyped.{HeaderTyped}
 use Rattle.typed_in_place.specs.SameWorlds.SameWorlds.{SameWorld}
 use Rattle.typed_in_place.proofs.SameWorlds.HeadersMoved.{HeadersMoved, nothing_moved, after_first, places_changed, moved_again}
 use Rattle.typed_in_place.proofs.SameWorlds.OrdersSame.{collected-same}
-use Rattle.cycle_runs.proofs.OrderCycles.Orders.{worlds-then, equal-worlds}
+use Rattle.order_runs.proofs.CycleRuns.OrderCycles.Orders.{worlds-then, equal-worlds}
 use Rattle.order_runs.specs.SameCodes.Orders.{PackagesReordered, no_packages, same_first, swapped, one_after_another}
 use Rattle.order_runs.proofs.SameCodes.OrdersTyped as orders
 use Rattle.order_runs.proofs.SameCodes.OrdersTyped.{declarations-ordered, header_ok-same, body_ok-same, used-same, types-same}

@@ -2,9 +2,9 @@
 -- further packages, in whatever order they stand.
 use Rattle.std.proofs.Common.{◌≡◌, refl, sym, subst, ◌∙◌, ℕ, ◌+◌, ◌*◌, Bool, true, false, ◌&&◌, List, [], ◌∷◌, ◌++◌, length}
 use Rattle.std.specs.List.{list_any}
-use Rattle.go_types.specs.Programs.{Program, headed}
-use Rattle.go_types.specs.Collect.{types_declared, collected}
-use Rattle.go_types.specs.WellTyped.{well_typed}
+use Rattle.go_tree.specs.GoTypes.Programs.{Program, headed}
+use Rattle.go_tree.specs.GoTypes.Collect.{types_declared, collected}
+use Rattle.go_tree.specs.GoTypes.WellTyped.{well_typed}
 use Rattle.go_kernel.specs.Kernel.{FuncName, ImportPath, Covers, free_shows}
 use Rattle.go_kernel.proofs.SameShows.{both_ways}
 use Rattle.pkg_graph.specs.Package as run
@@ -16,11 +16,11 @@ use Rattle.run_rules.specs.Programs.{numbered}
 use Rattle.run_rules.specs.Sites.{MarkRef, Site, part_span}
 use Rattle.run_rules.specs.Steps.{At, same_here}
 use Rattle.run_rules.specs.Run.{Standing, Logged, Next, is_commented}
-use Rattle.constant_steps.specs.StepLaws.PartsTyped.{HeaderTyped}
-use Rattle.constant_steps.specs.StepLaws.ConstantSwaps.{ConstantSwaps}
-use Rattle.cycle_runs.proofs.StepCycles.Orders.{rows-by}
-use Rattle.cycle_runs.specs.OrderCycles.Orders.{AllOrdered}
-use Rattle.cycle_runs.proofs.OrderCycles.StepSettled.{ordered-alike}
+use Rattle.splice_laws.specs.ConstantSteps.StepLaws.PartsTyped.{HeaderTyped}
+use Rattle.splice_laws.specs.ConstantSteps.StepLaws.ConstantSwaps.{ConstantSwaps}
+use Rattle.order_runs.proofs.CycleRuns.StepCycles.Orders.{rows-by}
+use Rattle.order_runs.specs.CycleRuns.OrderCycles.Orders.{AllOrdered}
+use Rattle.order_runs.proofs.CycleRuns.OrderCycles.StepSettled.{ordered-alike}
 use Rattle.order_runs.specs.RunSteps.RunPackages.{members_among, members_of, packages_of}
 use Rattle.order_runs.proofs.RunSteps.PackageStands.{distinct-front}
 use Rattle.order_runs.proofs.RunSteps.SpansForgotten.{beside-alike}

@@ -10,9 +10,9 @@ use Rattle.go_translation.specs.Packages.{Package, has_path, has_number, are_dis
 use Rattle.typed_in_place.proofs.Rising.{and_first, and_second}
 use Rattle.run_rules.specs.Programs.{linked_package, numbered}
 use Rattle.order_runs.specs.RunSteps.RunPackages.{with_path, members_among, members_of}
-use Rattle.cycle_runs.specs.OrderCycles.Orders.{AllOrdered}
-use Rattle.cycle_runs.proofs.OrderCycles.Swaps.{Swaps, no_items, later_items, first_two, and_then, swaps-back}
-use Rattle.cycle_runs.proofs.OrderCycles.Orders.{order-swaps}
+use Rattle.order_runs.specs.CycleRuns.OrderCycles.Orders.{AllOrdered}
+use Rattle.order_runs.proofs.CycleRuns.OrderCycles.Swaps.{Swaps, no_items, later_items, first_two, and_then, swaps-back}
+use Rattle.order_runs.proofs.CycleRuns.OrderCycles.Orders.{order-swaps}
 use Rattle.order_runs.specs.SameCodes.Orders.{PackagesReordered, no_packages, same_first, swapped, one_after_another}
 use Rattle.order_runs.proofs.Likened.{distinct-reordered}
 

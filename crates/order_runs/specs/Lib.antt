@@ -6,3 +6,5 @@ pub mod ImportCodes
 pub mod ImportSteps
 pub mod ImportRuns
 pub mod SameCodes
+pub mod CycleRuns
+pub mod CycleLaws

@@ -3,6 +3,8 @@
 //! declarations; Packages; Program initialization). Definitions and laws alone, without code.
 #![tactic(auto)]
 
+pub mod cycle_laws;
+pub mod cycle_runs;
 mod import_codes;
 mod import_runs;
 mod import_steps;

@@ -9,13 +9,13 @@ use Rattle.pkg_graph.specs.Graph.{imports_of}
 use Rattle.pkg_graph.specs.Order.{is_placed}
 use Rattle.typed_names.proofs.NameLaws.{turned}
 use Rattle.go_tree.specs.declared.spans.Span.{Span}
-use Rattle.const_eval.specs.declared.consts.Const.{Const}
-use Rattle.scope_names.specs.Means.{Environment, is_blank, means}
-use Rattle.go_types.specs.Answers.{is_among}
-use Rattle.go_types.specs.Entities as go
-use Rattle.go_types.specs.Declarations.{bind_each}
-use Rattle.go_types.specs.Programs.{Header, Headed, SourceFile, Program, all_headers, file_block, header_names, headed, headed_file, headed_files, headed_package, is_main, block_names, names_in}
-use Rattle.go_types.specs.Collect.{block_by, blocks_by, refused_world}
+use Rattle.go_tree.specs.declared.const_eval.consts.Const.{Const}
+use Rattle.go_tree.specs.ScopeNames.Means.{Environment, is_blank, means}
+use Rattle.go_tree.specs.GoTypes.Answers.{is_among}
+use Rattle.go_tree.specs.GoTypes.Entities as go
+use Rattle.go_tree.specs.GoTypes.Declarations.{bind_each}
+use Rattle.go_tree.specs.GoTypes.Programs.{Header, Headed, SourceFile, Program, all_headers, file_block, header_names, headed, headed_file, headed_files, headed_package, is_main, block_names, names_in}
+use Rattle.go_tree.specs.GoTypes.Collect.{block_by, blocks_by, refused_world}
 use Rattle.pkg_graph.specs.Package as pure
 use Rattle.pkg_graph.specs.Package.{packages_of}
 use Rattle.pkg_graph.specs.GraphLaws.{OrdersAreUnique}
@@ -24,7 +24,7 @@ use Rattle.pkg_graph.specs.declared.packages.SourceTree.{SourceTree}
 use Rattle.pkg_graph.specs.declared.packages.Package.{Package}
 use Rattle.pkg_graph.specs.Views.{package_view, source_of}
 use Rattle.run_rules.specs.Programs.{dependency_order, in_dependency_order, is_ready, least_ready, lesser, linked, linked_file, linked_packages, numbered, numbered_from, numbers_of, ordered_after}
-use Rattle.type_relations.specs.Environment as types
+use Rattle.type_table.specs.TypeRelations.Environment as types
 use Rattle.typed_names.specs.declared.scopes.Scope.{Scope}
 use Rattle.typed_names.specs.Known.{AllHaveTypes, HaveTypes}
 use Rattle.typed_names.specs.Meanings.{Names, block_at, entity_option, names_at}

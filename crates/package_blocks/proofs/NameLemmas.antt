@@ -2,10 +2,10 @@
 use Rattle.std.proofs.Common.{◌≡◌, ◌∙◌, ◌&&◌, ◌||◌, not, ℕ, nat_eq, Bool, true, false, cond, List, [], ◌∷◌, ◌++◌, Option, Some, refl, sym, ap, ap₂, is_some, length, bytes_eq, arith}
 use Rattle.std.proofs.lemmas.Slice.Eq.{bytes_eq-Decides}
 use Rattle.std.proofs.lemmas.List.Folds.{list_any-append}
-use Rattle.scope_names.specs.Means.{is_blank, means}
-use Rattle.go_types.specs.Answers.{is_among}
-use Rattle.go_types.specs.Programs.{is_init}
-use Rattle.type_relations.specs.Environment.{Environment}
+use Rattle.go_tree.specs.ScopeNames.Means.{is_blank, means}
+use Rattle.go_tree.specs.GoTypes.Answers.{is_among}
+use Rattle.go_tree.specs.GoTypes.Programs.{is_init}
+use Rattle.type_table.specs.TypeRelations.Environment.{Environment}
 use Rattle.typed_names.specs.declared.entities.Entity.{Entity}
 use Rattle.typed_names.specs.declared.entities.Entity.TheVariants.{Refused}
 use Rattle.typed_names.specs.Known.{AllHaveTypes}

@@ -1,21 +1,22 @@
 -- What is collected of a program before anything is known of what it declares (Go specification, Blocks; Packages;
 -- Declarations and scope).
-use Rattle.std.specs.Prelude.{◌≡◌, ℕ, false, List, [], ◌∷◌, ◌++◌, length, map, Some, None, nat_eq, slice_get, ◌==◌, if◌then◌else◌}
+use Rattle.std.specs.Prelude.{◌≡◌, ℕ, false, List, [], ◌∷◌, ◌++◌, length, map, Some, None, nat_eq}
+use Rattle.std.specs.Prelude.{slice_get, ◌==◌, if◌then◌else◌}
 use Rattle.std.specs.List.{list_any}
 use Rattle.go_tree.specs.declared.spans.Span.{Span}
 use Rattle.go_tree.specs.File.{Decl}
 use Rattle.go_tree.specs.FileView.{decl_of}
-use Rattle.const_eval.specs.declared.consts.Const.{Const}
-use Rattle.scope_names.specs.Means.{means}
-use Rattle.go_types.specs.Programs.{Headed, header_names, headed}
-use Rattle.go_types.specs.Collect.{refused_world}
+use Rattle.go_tree.specs.declared.const_eval.consts.Const.{Const}
+use Rattle.go_tree.specs.ScopeNames.Means.{means}
+use Rattle.go_tree.specs.GoTypes.Programs.{Headed, header_names, headed}
+use Rattle.go_tree.specs.GoTypes.Collect.{refused_world}
 use Rattle.pkg_graph.specs.Package as pure
 use Rattle.pkg_graph.specs.Package.{packages_of}
 use Rattle.pkg_graph.specs.Order.{IsDependencyOrder}
 use Rattle.pkg_graph.specs.declared.packages.SourceTree.{SourceTree}
 use Rattle.pkg_graph.specs.declared.packages.Package.{Package}
 use Rattle.run_rules.specs.Programs.{linked, linked_packages, in_dependency_order, numbers_of}
-use Rattle.type_relations.specs.Environment.{Environment}
+use Rattle.type_table.specs.TypeRelations.Environment.{Environment}
 use Rattle.typed_names.specs.declared.scopes.Scope.{Scope}
 use Rattle.typed_names.specs.Known.{AllHaveTypes}
 use Rattle.typed_names.specs.Meanings.{Names, block_at, world_at}

@@ -1,19 +1,20 @@
 -- Packages by their import paths, and what the imports of a file mean (Go specification, Import declarations; File
 -- block).
-use Rattle.std.specs.Prelude.{◌≡◌, ℕ, suc, List, [], ◌∷◌, ◌++◌, map, Option, Some, None, is_some, bytes_eq, if◌then◌else◌}
+use Rattle.std.specs.Prelude.{◌≡◌, ℕ, suc, List, [], ◌∷◌, ◌++◌, map, Option, Some, None, is_some}
+use Rattle.std.specs.Prelude.{bytes_eq, if◌then◌else◌}
 use Rattle.go_tree.specs.declared.spans.Span.{Span}
 use Rattle.go_tree.specs.declared.files.ImportSpec.{ImportSpec}
 use Rattle.go_tree.specs.declared.files.ImportDecl.{ImportDecl}
 use Rattle.go_tree.specs.FileView.{import_spec_of, import_decl_of}
-use Rattle.const_eval.specs.declared.consts.Const.{Const}
-use Rattle.scope_names.specs.Means.{means, or_else}
-use Rattle.go_types.specs.Programs.{Import, file_block}
+use Rattle.go_tree.specs.declared.const_eval.consts.Const.{Const}
+use Rattle.go_tree.specs.ScopeNames.Means.{means, or_else}
+use Rattle.go_tree.specs.GoTypes.Programs.{Import, file_block}
 use Rattle.pkg_graph.specs.Package as pure
 use Rattle.pkg_graph.specs.Package.{specs_in}
 use Rattle.pkg_graph.specs.declared.packages.Package.{Package}
 use Rattle.pkg_graph.specs.Views.{package_view}
 use Rattle.run_rules.specs.Programs.{linked_import}
-use Rattle.type_relations.specs.Environment.{Environment}
+use Rattle.type_table.specs.TypeRelations.Environment.{Environment}
 use Rattle.typed_names.specs.Known.{HaveTypes}
 use Rattle.typed_names.specs.Meanings.{Names, entity_option, names_at}
 use Rattle.package_blocks.specs.Names.{HasNames, is_declared}

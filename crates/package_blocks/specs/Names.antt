@@ -1,11 +1,12 @@
 -- Names that package blocks declare, of which nothing is known yet (Go specification, Package block; Uniqueness of
 -- identifiers; Blank identifier).
-use Rattle.std.specs.Prelude.{◌≡◌, ℕ, Bool, true, not, ◌&&◌, ◌||◌, List, [], ◌∷◌, ◌++◌, length, map, Option, Some, is_some, nat_eq, if◌then◌else◌}
+use Rattle.std.specs.Prelude.{◌≡◌, ℕ, Bool, true, not, ◌&&◌, ◌||◌, List, [], ◌∷◌, ◌++◌}
+use Rattle.std.specs.Prelude.{length, map, Option, Some, is_some, nat_eq, if◌then◌else◌}
 use Rattle.go_tree.specs.declared.texts.NameAt.{NameAt}
-use Rattle.scope_names.specs.Means.{is_blank, means}
-use Rattle.go_types.specs.Answers.{is_among}
-use Rattle.go_types.specs.Programs.{is_init}
-use Rattle.type_relations.specs.Environment.{Environment}
+use Rattle.go_tree.specs.ScopeNames.Means.{is_blank, means}
+use Rattle.go_tree.specs.GoTypes.Answers.{is_among}
+use Rattle.go_tree.specs.GoTypes.Programs.{is_init}
+use Rattle.type_table.specs.TypeRelations.Environment.{Environment}
 use Rattle.typed_names.specs.declared.entities.Entity.{Entity}
 use Rattle.typed_names.specs.declared.entities.Entity.TheVariants.{Refused}
 use Rattle.typed_names.specs.Known.{AllHaveTypes}

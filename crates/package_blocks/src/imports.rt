@@ -1,12 +1,13 @@
 //! File blocks (Go specification, Import declarations; Blocks).
 
-ghost use Rattle.std.specs.Prelude.{◌≡◌, ◌<◌, ◌^◌, [], ◌∷◌, List, length, IfOk, OnOk, ℕ, if◌then◌else◌, is_some, ◌||◌};
+ghost use Rattle.std.specs.Prelude.{◌≡◌, ◌<◌, ◌^◌, [], ◌∷◌, List, length, IfOk, OnOk, ℕ};
+ghost use Rattle.std.specs.Prelude.{if◌then◌else◌, is_some, ◌||◌};
 ghost use Rattle.go_tree.specs.FileView.{import_spec_of};
-ghost use Rattle.go_types.specs.Programs as go;
+ghost use Rattle.go_tree.specs.GoTypes.Programs as go;
 ghost use Rattle.pkg_graph.specs.Members.{import_name, package_name};
 ghost use Rattle.run_rules.specs.Programs.{package_number};
-ghost use Rattle.scope_names.specs.Means as scope;
-ghost use Rattle.scope_names.specs.Means.{means};
+ghost use Rattle.go_tree.specs.ScopeNames.Means as scope;
+ghost use Rattle.go_tree.specs.ScopeNames.Means.{means};
 ghost use Rattle.typed_names.specs.Meanings.{block_at};
 ghost use Rattle.package_blocks.specs.Imports.{AddsImports, AreNumbers, IsFileBlock, linked_decls, linked_specs, views};
 ghost use Rattle.package_blocks.specs.Imports.{AddsImport};

@@ -1,7 +1,8 @@
 //! Packages by their import paths (Go specification, Import declarations).
 
-ghost use Rattle.std.specs.Prelude.{◌≡◌, ◌<◌, ◌^◌, [], ℕ, List, Some, None, length, IfOk, OnOk, bytes_eq, if◌then◌else◌};
-ghost use Rattle.scope_names.specs.Means.{means, or_else};
+ghost use Rattle.std.specs.Prelude.{◌≡◌, ◌<◌, ◌^◌, [], ℕ, List, Some, None, length, IfOk, OnOk};
+ghost use Rattle.std.specs.Prelude.{bytes_eq, if◌then◌else◌};
+ghost use Rattle.go_tree.specs.ScopeNames.Means.{means, or_else};
 ghost use Rattle.package_blocks.specs.Imports.{AreNumbers};
 
 use crate::names::copy_of;

@@ -1,6 +1,7 @@
--- Searches over the files of a package, of which some are settled: none of their uses is free (Go specification, Constant
--- declarations; Packages).
-use Rattle.std.specs.Prelude.{◌≡◌, ◌⊎◌, ℕ, ◌<◌, Bool, true, false, List, length, Option, Some, None, slice_get, slice_index_or, map}
+-- Searches over the files of a package, of which some are settled: none of their uses is free (Go specification,
+-- Constant declarations; Packages).
+use Rattle.std.specs.Prelude.{◌≡◌, ◌⊎◌, ℕ, ◌<◌, Bool, true, false, List, length, Option, Some, None}
+use Rattle.std.specs.Prelude.{slice_get, slice_index_or, map}
 use Rattle.go_scan.specs.TokenLists.{TokenLists}
 use Rattle.pkg_graph.specs.Members.{package_block}
 use Rattle.pkg_graph.specs.Views.{package_view}

@@ -9,11 +9,11 @@ use file_names::Places;
 use file_tables::{FileTables, file_tables};
 use go_scan::Tokens;
 use go_tree::NoMemory;
-use mark_values::ConstantValues;
+use go_tree::scope_names::NameList;
 use module_marks::MarkTable;
 use pkg_graph::{Package, SourceTree};
-use scope_names::NameList;
 use std::alloc::Global;
+use use_search::mark_values::ConstantValues;
 use use_search::{FileView, FoundForm, FoundObstacle, ProgramView, search_file};
 
 /// What a search is told of a program: its packages, where each stands by its path, which of their declarations are

@@ -1,7 +1,8 @@
 -- When a set of arguments may take their parameters' places together: none passes another that it may not pass, and
 -- none gets into the scope of a bound parameter that its names would mean (Go specification, "Order of evaluation",
 -- "Declarations and scope"). A set is a test of the parameters' numbers.
-use Rattle.std.specs.Prelude.{◌≡◌, ◌≢◌, ℕ, ◌<◌, Bool, ◌||◌, IsTrue, length, Some, slice_get, Contains}
+use Rattle.std.specs.Prelude.{◌≡◌, ◌≢◌, ℕ, ◌<◌, Bool, ◌||◌, IsTrue, length, Some, slice_get}
+use Rattle.std.specs.Prelude.{Contains}
 use Rattle.order_hazards.specs.Items.{IsBefore}
 use Rattle.order_hazards.specs.Clash.{Clash}
 use Rattle.order_hazards.specs.Solo.{IsSolo}

@@ -1,5 +1,6 @@
 -- What striking out keeps: each set that is left holds every safe set.
-use Rattle.std.specs.Prelude.{◌≡◌, ◌≢◌, ℕ, ◌<◌, Bool, false, IsTrue, ◌⊎◌, List, length, Some, slice_get, Contains}
+use Rattle.std.specs.Prelude.{◌≡◌, ◌≢◌, ℕ, ◌<◌, Bool, false, IsTrue, ◌⊎◌, List, length, Some}
+use Rattle.std.specs.Prelude.{slice_get, Contains}
 use Rattle.order_hazards.specs.Items.{IsBefore}
 use Rattle.order_hazards.specs.Clash.{Clash}
 use Rattle.order_hazards.specs.Solo.{IsSolo}

@@ -1,10 +1,12 @@
 //! The greatest safe set of parameters.
 
-ghost use Rattle.std.specs.Prelude.{◌≡◌, ℕ, ◌<◌, ◌^◌, ◌↔◌, Bool, false, IsTrue, IfOk, MatchOption, MatchBool, length};
+ghost use Rattle.std.specs.Prelude.{◌≡◌, ℕ, ◌<◌, ◌^◌, ◌↔◌, Bool, false, IsTrue, IfOk};
+ghost use Rattle.std.specs.Prelude.{MatchOption, MatchBool, length};
 ghost use Rattle.param_choice.specs.Chosen.{has};
 ghost use Rattle.param_choice.specs.Safe.{IsSafe, union};
 ghost use Rattle.param_choice.specs.Greatest.{IsGreatest};
-ghost use Rattle.param_choice.specs.Strikes.{ClashNeeds, NameNeeds, Lacks, LacksOne, NoneLacks, Precedes, MovesAlone, Fits, IsOpen};
+ghost use Rattle.param_choice.specs.Strikes.{ClashNeeds, NameNeeds, Lacks, LacksOne, NoneLacks, Precedes, MovesAlone};
+ghost use Rattle.param_choice.specs.Strikes.{Fits, IsOpen};
 
 use crate::chosen::{Chosen, is_kept};
 use crate::no_memory::NoMemory;

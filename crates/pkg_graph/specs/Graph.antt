@@ -1,6 +1,7 @@
 -- Imports between the packages of a module, and what is wrong with them (Go specification, Import declarations;
 -- Package clause; Program initialization and execution).
-use Rattle.std.specs.Prelude.{◌≡◌, ℕ, suc, Bool, true, not, ◌&&◌, bytes_eq, List, [], ◌∷◌, ◌++◌, map, find, Contains, Option, Some, None, codes}
+use Rattle.std.specs.Prelude.{◌≡◌, ℕ, suc, Bool, true, not, ◌&&◌, bytes_eq, List, [], ◌∷◌, ◌++◌}
+use Rattle.std.specs.Prelude.{map, find, Contains, Option, Some, None, codes}
 use Rattle.std.specs.List.{list_any}
 use Rattle.go_tree.specs.declared.spans.Span.{Span}
 use Rattle.go_tree.specs.File.{ImportSpec}

@@ -1,5 +1,6 @@
 -- Why files aren't the packages of a module.
-use Rattle.std.specs.Prelude.{◌≡◌, ◌<◌, ⊤, ℕ, length, map, find, Bool, true, false, not, List, Option, Some, None, bytes_eq, codes, slice_index_or, []}
+use Rattle.std.specs.Prelude.{◌≡◌, ◌<◌, ⊤, ℕ, length, map, find, Bool, true, false, not, List, Option}
+use Rattle.std.specs.Prelude.{Some, None, bytes_eq, codes, slice_index_or, []}
 use Rattle.go_tree.specs.declared.spans.Span.{Span}
 use Rattle.pkg_graph.specs.Package.{SourceTree}
 use Rattle.pkg_graph.specs.Graph.{ImportAt, numbered_files, IsFault, mixed_package, no_package, cycle, internal_package}
@@ -13,7 +14,8 @@ use Rattle.module_files.specs.Pieces.{comes_before}
 use Rattle.module_files.specs.PathLists.{number_of, path_at}
 use Rattle.import_order.specs.Numbers.{Reaches}
 use Rattle.module_files.specs.declared.faults.GraphError.{GraphError}
-use Rattle.module_files.specs.declared.faults.GraphError.TheVariants.{MixedPackage, NoPackage, Cycle, Internal, NoMemory}
+use Rattle.module_files.specs.declared.faults.GraphError.TheVariants.{MixedPackage, NoPackage, Cycle, Internal}
+use Rattle.module_files.specs.declared.faults.GraphError.TheVariants.{NoMemory}
 
 -- The error names the fault of the files. Want of memory says nothing of them.
 abbrev pub IsGraphFault : List ℕ → List (SourceTree Span) → GraphError → Type 0

@@ -1,13 +1,14 @@
 -- What a file's names mean among packages (Go specification, Blocks; Import declarations; Declarations and scope).
 -- Numbers count from 0: a package among the packages, a file in its package, a declaration in its file, and a name in
 -- its declaration.
-use Rattle.std.specs.Prelude.{ℕ, suc, bytes_eq, if◌then◌else◌, List, [], ◌∷◌, ◌++◌, map, Option, Some, None}
+use Rattle.std.specs.Prelude.{ℕ, suc, bytes_eq, if◌then◌else◌, List, [], ◌∷◌, ◌++◌, map, Option, Some}
+use Rattle.std.specs.Prelude.{None}
 use Rattle.go_tree.specs.declared.spans.Span.{Span}
 use Rattle.go_tree.specs.Tree.{NameAt, const_decl, var_decl, ValueSpecs, no_specs, spec}
 use Rattle.go_tree.specs.File.{ImportSpec, Receiver, Decl, values, types, func, File}
-use Rattle.scope_names.specs.declared.names.FileNames.{FileNames}
-use Rattle.scope_names.specs.Means.{Environment, binding, numbered}
-use Rattle.scope_names.specs.Occurrences.{Occurrence, decls_uses}
+use Rattle.go_tree.specs.declared.scope_names.names.FileNames.{FileNames}
+use Rattle.go_tree.specs.ScopeNames.Means.{Environment, binding, numbered}
+use Rattle.go_tree.specs.ScopeNames.Occurrences.{Occurrence, decls_uses}
 use Rattle.pkg_graph.specs.Package.{SourceTree, Package, import_specs}
 
 -- what a use of a name means
@@ -84,7 +85,7 @@ module _ {S : Type 0} where
   abbrev pub outside : List (Package S) → ℕ → Package S → File S → Environment Target
   outside ps k p file =
       numbered imported 0 (map (import_name ps) (import_specs file))
-      ++ package_block k p ++ numbered predeclared 0 Rattle.scope_names.specs.Means.predeclared
+      ++ package_block k p ++ numbered predeclared 0 Rattle.go_tree.specs.ScopeNames.Means.predeclared
 
 -- what the calls of scope_names are told of a file
 abbrev pub names_of_file : List (Package Span) → Package Span → File Span → FileNames

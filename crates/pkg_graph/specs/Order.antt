@@ -1,6 +1,7 @@
 -- The order of packages: each time the one with the least path whose imports are all placed (Go specification, Program
 -- initialization and execution: packages are sorted by import path).
-use Rattle.std.specs.Prelude.{◌≡◌, ℕ, ◌==◌, Bool, true, false, bytes_eq, List, [], ◌∷◌, ◌++◌, Option, Some, None, slice_get}
+use Rattle.std.specs.Prelude.{◌≡◌, ℕ, ◌==◌, Bool, true, false, bytes_eq, List, [], ◌∷◌, ◌++◌}
+use Rattle.std.specs.Prelude.{Option, Some, None, slice_get}
 use Rattle.std.specs.List.{list_any, list_all}
 use Rattle.module_files.specs.Pieces.{comes_before}
 use Rattle.pkg_graph.specs.Package.{Package}

@@ -1,6 +1,7 @@
 -- Packages as values without places in memory (Go specification, Packages; Source file organization; Import
 -- declarations).
-use Rattle.std.specs.Prelude.{ℕ, List, [], ◌∷◌, ◌++◌, map, filter, not, bytes_eq, if◌then◌else◌, codes}
+use Rattle.std.specs.Prelude.{ℕ, List, [], ◌∷◌, ◌++◌, map, filter, not, bytes_eq, if◌then◌else◌}
+use Rattle.std.specs.Prelude.{codes}
 use Rattle.go_tree.specs.File.{ImportSpec, ImportDecl, File}
 use Rattle.module_files.specs.Pieces.{folder_of, has_bytes}
 

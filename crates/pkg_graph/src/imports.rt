@@ -3,7 +3,8 @@
 ghost use Rattle.std.specs.Prelude.{◌≡◌, ◌<◌, ◌^◌, IfOk, OnOk, map, length};
 ghost use Rattle.module_files.specs.PathLists.{AreDistinct};
 ghost use Rattle.pkg_graph.specs.Views.{AreNumbersBelow};
-ghost use Rattle.pkg_graph.specs.ImportViews.{import_view, specs_of, imports_in, AreLinksOf, AddsImports, AreImportsOf, AddsLink};
+ghost use Rattle.pkg_graph.specs.ImportViews.{import_view, specs_of, imports_in, AreLinksOf, AddsImports, AreImportsOf};
+ghost use Rattle.pkg_graph.specs.ImportViews.{AddsLink};
 
 use crate::homes::Homes;
 use crate::packages::SourceTree;

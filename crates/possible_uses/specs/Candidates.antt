@@ -1,5 +1,5 @@
--- A part of a declaration that may be a use of a marked declaration (Go specification, Operands; Calls; Types; Composite
--- literals).
+-- A part of a declaration that may be a use of a marked declaration (Go specification, Operands; Calls; Types;
+-- Composite literals).
 use Rattle.std.specs.Prelude.{Bool, true, false, None}
 use Rattle.go_tree.specs.Tree.{NameAt, named, Expr}
 use Rattle.run_rules.specs.Sites.{Part, an_expr, a_type_part}

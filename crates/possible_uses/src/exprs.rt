@@ -1,9 +1,11 @@
 //! Parts of expressions.
 
 ghost use Rattle.std.specs.Prelude.{◌≡◌, OnOk, map};
-ghost use Rattle.go_tree.specs.View.{expr_of, exprs_of, boxed_expr_option_of, plain_expr_option_of, value_of, held_value_option_of, elem_of, elems_of};
+ghost use Rattle.go_tree.specs.View.{expr_of, exprs_of, boxed_expr_option_of, plain_expr_option_of, value_of};
+ghost use Rattle.go_tree.specs.View.{held_value_option_of, elem_of, elems_of};
 ghost use Rattle.possible_uses.specs.Views.{part_of};
-ghost use Rattle.possible_uses.specs.Parts.{put_selector, after_expr, after_exprs, after_expr_option, after_value, after_key, after_elems};
+ghost use Rattle.possible_uses.specs.Parts.{put_selector, after_expr, after_exprs, after_expr_option, after_value};
+ghost use Rattle.possible_uses.specs.Parts.{after_key, after_elems};
 
 use crate::parts::{PartRef, put_expr, put_key};
 use crate::stmts::stmts_parts;

@@ -1,9 +1,11 @@
 //! Parts of statements.
 
 ghost use Rattle.std.specs.Prelude.{◌≡◌, OnOk, map};
-ghost use Rattle.go_tree.specs.View.{held_block_option_of, stmt_of, stmts_of, boxed_stmt_option_of, range_left_of, arms_of, cases_of, const_specs_of, var_specs_of};
+ghost use Rattle.go_tree.specs.View.{held_block_option_of, stmt_of, stmts_of, boxed_stmt_option_of, range_left_of};
+ghost use Rattle.go_tree.specs.View.{arms_of, cases_of, const_specs_of, var_specs_of};
 ghost use Rattle.possible_uses.specs.Views.{part_of};
-ghost use Rattle.possible_uses.specs.Parts.{after_stmt, after_stmts, after_block_option, after_stmt_option, after_left, after_arms, after_cases, after_specs};
+ghost use Rattle.possible_uses.specs.Parts.{after_stmt, after_stmts, after_block_option, after_stmt_option, after_left};
+ghost use Rattle.possible_uses.specs.Parts.{after_arms, after_cases, after_specs};
 
 use crate::exprs::{expr_parts, exprs_parts, option_parts};
 use crate::parts::PartRef;

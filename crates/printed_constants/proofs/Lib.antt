@@ -13,3 +13,4 @@ pub mod PrintedRuns
 pub mod PrintedSteps
 pub mod UsedImports
 pub mod NamedUses
+pub mod DeclaredConstants

@@ -7,8 +7,8 @@ use Rattle.go_tree.specs.declared.exprs.Rest.TheVariants.{Plain}
 use Rattle.go_tree.specs.Tree.{Param, Expr, ident, int_lit, selector, call, Exprs, no_exprs, eval, Stmts, ValueSpecs}
 use Rattle.go_tree.specs.File.{Receiver, Decl, File}
 use Rattle.pkg_graph.specs.Package.{SourceTree, Package}
-use Rattle.go_types.specs.Answers.{otherwise}
-use Rattle.go_types.specs.Typing.{parts, all_parts}
+use Rattle.go_tree.specs.GoTypes.Answers.{otherwise}
+use Rattle.go_tree.specs.GoTypes.Typing.{parts, all_parts}
 use Rattle.run_rules.specs.Surroundings.{Use, other, called, alone, a_slot, Place, alike, head_use, later_uses, arg_uses, value_use, inner_slot, in_slot, callee_place, comma_slot, after_stmt, at_stmt, in_constant}
 use Rattle.run_rules.specs.Programs.{top_place, body_place}
 use Rattle.run_rules.specs.Rewriting.{Changes, new_params, new_expr, new_all, new_stmts}
@@ -20,10 +20,10 @@ use Rattle.run_rules.specs.Steps.{At, same_here, change_nth, changes_for, new_co
 use Rattle.run_rules.specs.Run.{Standing, Logged, Next, origin_of, as_read}
 use Rattle.run_rules.specs.Inlining.{standing_as_read}
 use Rattle.run_rules.specs.Texts.{FileText}
-use Rattle.standing_uses.proofs.ImportUses.Stays.{change}
-use Rattle.cycle_runs.specs.ImportCycles.ImportSteps.{file_added, packages_added}
-use Rattle.cycle_runs.proofs.ImportCycles.ImportStep.{placed}
-use Rattle.run_laws.proofs.FoundSpans.{Placed}
+use Rattle.typed_parts.proofs.StandingUses.ImportUses.Stays.{change}
+use Rattle.order_runs.specs.CycleRuns.ImportCycles.ImportSteps.{file_added, packages_added}
+use Rattle.order_runs.proofs.CycleRuns.ImportCycles.ImportStep.{placed}
+use Rattle.splice_laws.proofs.RunLaws.FoundSpans.{Placed}
 use Rattle.run_rules.specs.Run.{here_of}
 use Rattle.printed_constants.specs.Printed.{IsFlat, a_name, a_number, a_selection, AllFlat, no_operands, and_operand, IsPrint, an_operand, a_call, PrintStmts, no_prints, and_print, FlatConstants, no_constants, and_constant, IsPrinted, some_constants, a_function, ArePrinted}
 use Rattle.printed_constants.proofs.Respan.{decl_there, decl_back}

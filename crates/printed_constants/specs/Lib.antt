@@ -11,3 +11,4 @@ pub mod PrintedRuns
 pub mod PrintedSteps
 pub mod UsedImports
 pub mod NamedUses
+pub mod DeclaredConstants

@@ -2,7 +2,8 @@
 -- declarations; Expression statements; Calls; Selectors; Integer literals).
 use Rattle.std.specs.Prelude.{◌≡◌, ℕ, Bool, List, [], ◌∷◌, Some, None, slice_get}
 use Rattle.go_tree.specs.declared.exprs.Rest.TheVariants.{Plain}
-use Rattle.go_tree.specs.Tree.{NameAt, Expr, ident, int_lit, selector, call, Exprs, no_exprs, expr_and, const_decl, eval, Stmts, no_stmts, stmt_and, ValueSpecs, no_specs, spec}
+use Rattle.go_tree.specs.Tree.{NameAt, Expr, ident, int_lit, selector, call, Exprs, no_exprs, expr_and, const_decl}
+use Rattle.go_tree.specs.Tree.{eval, Stmts, no_stmts, stmt_and, ValueSpecs, no_specs, spec}
 use Rattle.go_tree.specs.File.{Func, Decl, values, func}
 use Rattle.pkg_graph.specs.Package.{Package}
 use Rattle.run_rules.specs.Sites.{Where}

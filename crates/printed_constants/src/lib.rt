@@ -3,6 +3,7 @@
 #![tactic(auto)]
 
 mod counted_names;
+pub mod declared_constants;
 mod declared_members;
 mod form_names;
 mod laws;

@@ -1,7 +1,9 @@
 -- Declarations of constants, and of functions that print them (Go specification, Constant declarations; Function
 -- declarations; Expression statements).
-use Rattle.std.specs.Prelude.{ℕ, Bool, true, false, not, ◌&&◌, List, [], ◌∷◌, Option, Some, None, bytes_eq, codes}
-use Rattle.go_tree.specs.Tree.{NameAt, TypeExpr, Exprs, no_exprs, expr_and, Stmt, const_decl, eval, Stmts, no_stmts, stmt_and, ValueSpecs, no_specs, spec}
+use Rattle.std.specs.Prelude.{ℕ, Bool, true, false, not, ◌&&◌, List, [], ◌∷◌, Option, Some, None, bytes_eq}
+use Rattle.std.specs.Prelude.{codes}
+use Rattle.go_tree.specs.Tree.{NameAt, TypeExpr, Exprs, no_exprs, expr_and, Stmt, const_decl, eval, Stmts, no_stmts}
+use Rattle.go_tree.specs.Tree.{stmt_and, ValueSpecs, no_specs, spec}
 use Rattle.go_tree.specs.File.{Func, Decl, values, func}
 use Rattle.printing_files.specs.Operands.{is_operand, is_print}
 

@@ -1,6 +1,7 @@
 -- A program as it stands, and what a run keeps of it (Go specification, Packages; Source file organization; Constant
 -- declarations; Program initialization).
-use Rattle.std.specs.Prelude.{◌≡◌, ℕ, ◌<◌, ◌^◌, ◌+◌, true, false, List, map, length, Some, slice_get, slice_index_or}
+use Rattle.std.specs.Prelude.{◌≡◌, ℕ, ◌<◌, ◌^◌, ◌+◌, true, false, List, map, length, Some}
+use Rattle.std.specs.Prelude.{slice_get, slice_index_or}
 use Rattle.go_tree.specs.File.{Decl}
 use Rattle.pkg_graph.specs.Package.{SourceTree, Package}
 use Rattle.pkg_graph.specs.Reads.{Source}
@@ -10,15 +11,15 @@ use Rattle.run_rules.specs.Sites.{MarkRef, Where, is_among_marks, where_is}
 use Rattle.run_rules.specs.Respanned.{decl_with, file_with, packages_with}
 use Rattle.run_rules.specs.Steps.{At}
 use Rattle.run_rules.specs.Run.{Standing, here_of, module_file_size, texts_size}
-use Rattle.run_laws.specs.Reading.{OnePathEach}
-use Rattle.form_imports.specs.ImportLaws.Steps.{names_standing}
+use Rattle.splice_laws.specs.RunLaws.Reading.{OnePathEach}
+use Rattle.splice_laws.specs.FormImports.ImportLaws.Steps.{names_standing}
 use Rattle.member_uses.specs.Uses.{Names}
 use Rattle.member_uses.specs.Laws.{AllConstants, Knows}
 use Rattle.file_names.specs.Imports.{FindsPackages}
 use Rattle.module_marks.specs.Tables.{IsTableOf}
-use Rattle.mark_values.specs.Values.{decl_values}
-use Rattle.mark_values.specs.Tables as values
-use Rattle.mark_values.specs.Tables.{key_of, values_at}
+use Rattle.use_search.specs.MarkValues.Values.{decl_values}
+use Rattle.use_search.specs.MarkValues.Tables as values
+use Rattle.use_search.specs.MarkValues.Tables.{key_of, values_at}
 use Rattle.programs.specs.declared.part_origins.origins.PackageOrigins.{PackageOrigins}
 use Rattle.programs.specs.declared.state.PackageFiles.{PackageFiles}
 use Rattle.programs.specs.declared.state.Program.{Program}

@@ -2,7 +2,7 @@
 use Rattle.std.specs.Prelude.{◌≡◌, ℕ, Bool, true, ◌&&◌, nat_eq, List, [], ◌∷◌}
 use Rattle.std.specs.List.{list_any}
 use Rattle.module_marks.specs.Views.{mark_ref_of}
-use Rattle.mark_values.specs.Tables.{DeclKey, key_of, same_key}
+use Rattle.use_search.specs.MarkValues.Tables.{DeclKey, key_of, same_key}
 use Rattle.use_search.specs.declared.search.FoundObstacle.{FoundObstacle}
 
 -- a file by the numbers of its package and itself

@@ -8,7 +8,7 @@ use Rattle.layout_laws.specs.Formed.{IsName}
 use Rattle.import_rules.specs.Needs.{serving, avoided}
 use Rattle.pkg_graph.specs.Package.{SourceTree, Package}
 use Rattle.pkg_graph.specs.Members.{Target}
-use Rattle.go_types.specs.Answers.{given}
+use Rattle.go_tree.specs.GoTypes.Answers.{given}
 use Rattle.run_rules.specs.FormTrees.{FormKind, Form, as_expr, form_identifiers}
 use Rattle.run_rules.specs.Naming.{Names, unnamed, new_first, unnamed_in, Named, name_added, names_by, fresh_name, package_path, own_name, names_here, environment_here, added_import, named_package, named_packages}
 use Rattle.run_rules.specs.Obstacles.{Obstacle}
@@ -17,8 +17,8 @@ use Rattle.run_rules.specs.Run.{Standing, is_commented}
 use Rattle.run_rules.specs.Sites.{MarkRef, Where, Inlinable, Site, part_span, mark_of, where_is, inlinable}
 use Rattle.run_rules.specs.Steps.{At, same_here, Found}
 use Rattle.run_rules.specs.Surroundings.{Place}
-use Rattle.run_laws.specs.Reading.{FileAt}
-use Rattle.import_splices.specs.FormSplices.Laws.{MakesForm}
+use Rattle.splice_laws.specs.RunLaws.Reading.{FileAt}
+use Rattle.splice_laws.specs.ImportSplices.FormSplices.Laws.{MakesForm}
 use Rattle.put_names.specs.WrittenNames.NamedPackages.{AreOfPackages}
 use Rattle.put_names.proofs.Unnamed.{none_unnamed, none_unnamed_two}
 use Rattle.put_nodes.specs.SpelledNames.{IsNameExpr, a_name_alone, a_qualified_name, AreNames}

@@ -1,16 +1,16 @@
 -- Steps over constants and aliases settle their files.
 use Rattle.std.proofs.Common.{List}
 use Rattle.go_tree.specs.FileBare.{bare_file}
-use Rattle.cycle_runs.specs.Linked.{WritesFile, SettlesFile}
-use Rattle.import_splices.specs.AddedFile.{AreWritable}
-use Rattle.cycle_runs.specs.KeptImports.Files.{RemovesNoNames}
-use Rattle.cycle_runs.specs.OrderCycles.NewNames.{FewNames}
-use Rattle.cycle_runs.specs.OrderedSteps.Ranks.{AddsLedTo}
+use Rattle.order_runs.specs.CycleRuns.Linked.{WritesFile, SettlesFile}
+use Rattle.splice_laws.specs.ImportSplices.AddedFile.{AreWritable}
+use Rattle.order_runs.specs.CycleRuns.KeptImports.Files.{RemovesNoNames}
+use Rattle.order_runs.specs.CycleRuns.OrderCycles.NewNames.{FewNames}
+use Rattle.order_runs.specs.CycleRuns.OrderedSteps.Ranks.{AddsLedTo}
 use Rattle.run_rules.specs.Laws.{file_found}
 use Rattle.run_rules.specs.Naming.{imports_added}
 use Rattle.run_rules.specs.Run.{Standing, Logged, Next}
 use Rattle.run_rules.specs.Sites.{MarkRef}
-use Rattle.run_laws.specs.Reading.{ProgramReads}
+use Rattle.splice_laws.specs.RunLaws.Reading.{ProgramReads}
 use Rattle.splice_laws.specs.Dots.{UndottedFile}
 use Rattle.put_nodes.specs.SpelledNames.{AreNames}
 use Rattle.put_names.specs.WrittenNames.NamedPackages.{AreOfPackages}

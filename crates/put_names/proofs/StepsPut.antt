@@ -5,11 +5,11 @@ use Rattle.go_tree.specs.declared.spans.Span.{Span}
 use Rattle.go_tree.specs.Tree.{Expr}
 use Rattle.go_tree.specs.File.{File}
 use Rattle.go_tree.specs.FileBare.{bare_file}
-use Rattle.scope_names.specs.Means.{means, is_blank}
-use Rattle.scope_names.specs.Scopes.{expr_span}
+use Rattle.go_tree.specs.ScopeNames.Means.{means, is_blank}
+use Rattle.go_tree.specs.ScopeNames.Scopes.{expr_span}
 use Rattle.pkg_graph.specs.Members.{Target}
-use Rattle.go_types.specs.Answers.{given}
-use Rattle.go_types.specs.Entities.{is_declared_here}
+use Rattle.go_tree.specs.GoTypes.Answers.{given}
+use Rattle.go_tree.specs.GoTypes.Entities.{is_declared_here}
 use Rattle.run_rules.specs.FormTrees.{Form, as_expr}
 use Rattle.run_rules.specs.Inlining.{ReadsAs}
 use Rattle.run_rules.specs.Laws.{file_found}
@@ -19,17 +19,17 @@ use Rattle.run_rules.specs.Sites.{MarkRef, Part, part_span, mark_of, outer, not_
 use Rattle.run_rules.specs.Steps.{At, same_here}
 use Rattle.run_rules.specs.Surroundings.{Place, Seen, seen}
 use Rattle.run_rules.specs.Texts.{FileText}
-use Rattle.run_laws.specs.Reading.{FileReads, FileAt, ProgramReads}
-use Rattle.run_laws.proofs.FoundSpans.{Placed, FoundIn, found_in}
+use Rattle.splice_laws.specs.RunLaws.Reading.{FileReads, FileAt, ProgramReads}
+use Rattle.splice_laws.proofs.RunLaws.FoundSpans.{Placed, FoundIn, found_in}
 use Rattle.splice_laws.specs.Dots.{UndottedFile}
 use Rattle.splice_laws.specs.Swaps.{Swap, FileIn}
-use Rattle.import_splices.specs.FormSplices.Laws.{MakesForm}
-use Rattle.import_splices.proofs.FormSplices.FormsFound.{step-makes-form}
-use Rattle.place_meanings.specs.Agreement.{BlockIsLocal}
-use Rattle.place_meanings.specs.Parts.{AtPart, AtParts}
-use Rattle.place_meanings.proofs.PlacesMean.{blocks_local}
+use Rattle.splice_laws.specs.ImportSplices.FormSplices.Laws.{MakesForm}
+use Rattle.splice_laws.proofs.ImportSplices.FormSplices.FormsFound.{step-makes-form}
+use Rattle.splice_laws.specs.PlaceMeanings.Agreement.{BlockIsLocal}
+use Rattle.splice_laws.specs.PlaceMeanings.Parts.{AtPart, AtParts}
+use Rattle.splice_laws.proofs.PlaceMeanings.PlacesMean.{blocks_local}
 use Rattle.order_runs.proofs.RunSteps.SeatedUses.{Among, first, later, Seated, sites-seated}
-use Rattle.cycle_runs.specs.KeptImports.Files.{PutsNode}
+use Rattle.order_runs.specs.CycleRuns.KeptImports.Files.{PutsNode}
 use Rattle.put_names.specs.ReadImports.PutInText.{PutInText}
 use Rattle.put_nodes.specs.Put.{FormIsPut}
 use Rattle.put_nodes.specs.Swapped.{IsOldName, old_name, MayBeSwapped, SeenSwapped, AllSwapped}

@@ -6,8 +6,8 @@ use Rattle.std.proofs.lemmas.Str.{chars-encodes, inside_one, length-encode, len_
 use Rattle.ucd_category.specs.GeneralCategory.{general_category}
 use Rattle.ucd_category.specs.GeneralCategoryRows.{general_category_rows}
 use Rattle.ucd_table.specs.Rows.{value_in}
-use Rattle.go_words.specs.Tokens.Characters.{is_letter, is_word, each}
-use Rattle.go_words.specs.Tokens.Pieces.{is_identifier}
+use Rattle.go_tree.specs.GoWords.Tokens.Characters.{is_letter, is_word, each}
+use Rattle.go_tree.specs.GoWords.Tokens.Pieces.{is_identifier}
 use Rattle.go_scan.proofs.Derivatives.{and_parts}
 use Rattle.layout_laws.specs.Formed.{IsName}
 use Rattle.run_rules.specs.Naming.{unnamed_package, new_first, unnamed_in}

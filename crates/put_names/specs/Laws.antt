@@ -5,13 +5,13 @@ use Rattle.go_tree.specs.FileBare.{bare_file}
 use Rattle.run_rules.specs.Laws.{file_found}
 use Rattle.run_rules.specs.Run.{Standing, Logged, Next}
 use Rattle.run_rules.specs.Sites.{MarkRef}
-use Rattle.run_laws.specs.Reading.{ProgramReads}
+use Rattle.splice_laws.specs.RunLaws.Reading.{ProgramReads}
 use Rattle.splice_laws.specs.Dots.{UndottedFile}
-use Rattle.cycle_runs.specs.Linked.{SettlesFile}
-use Rattle.import_splices.specs.AddedFile.{AreWritable}
-use Rattle.cycle_runs.specs.KeptImports.Files.{PutsNode, RemovesNoNames}
-use Rattle.cycle_runs.specs.OrderCycles.NewNames.{NamesByPath, FewNames}
-use Rattle.cycle_runs.specs.OrderedSteps.Ranks.{AddsLedTo}
+use Rattle.order_runs.specs.CycleRuns.Linked.{SettlesFile}
+use Rattle.splice_laws.specs.ImportSplices.AddedFile.{AreWritable}
+use Rattle.order_runs.specs.CycleRuns.KeptImports.Files.{PutsNode, RemovesNoNames}
+use Rattle.order_runs.specs.CycleRuns.OrderCycles.NewNames.{NamesByPath, FewNames}
+use Rattle.order_runs.specs.CycleRuns.OrderedSteps.Ranks.{AddsLedTo}
 use Rattle.run_rules.specs.Naming.{imports_added}
 use Rattle.put_names.specs.ReadImports.PutInText.{PutInText}
 use Rattle.put_nodes.specs.SpelledNames.{AreNames}
@@ -29,8 +29,8 @@ NamesArePutBySteps =
     → UndottedFile (bare_file (file_found n.found)) → IsScopedAround n → IsUsedByName n → BecomesName n
     → PutsNode n × PutInText n
 
--- So it settles its file, as cycle_runs asks of a step, where its added imports can be written, and are of packages that
--- are led to; the names to avoid are fewer than 2^64; and no import that goes has the name of an identifier.
+-- So it settles its file, as cycle_runs asks of a step, where its added imports can be written, and are of packages
+-- that are led to; the names to avoid are fewer than 2^64; and no import that goes has the name of an identifier.
 abbrev pub NamesSettleFiles : Type 0
 NamesSettleFiles =
     (marks : List MarkRef) (st : Standing) (l : Logged) (after : Standing) (n : Next marks st l after) → ProgramReads st
@@ -38,8 +38,8 @@ NamesSettleFiles =
     → AreWritable (imports_added n.found.named) → AddsLedTo st.packages n.found → FewNames st.packages n.found
     → RemovesNoNames n → SettlesFile n
 
--- A constant that is declared as a name becomes a name, if the names that the form has for packages are identifiers; and
--- these are names of packages of the program.
+-- A constant that is declared as a name becomes a name, if the names that the form has for packages are identifiers;
+-- and these are names of packages of the program.
 abbrev pub ConstantsBecomeNames : Type 0
 ConstantsBecomeNames =
     (marks : List MarkRef) (st : Standing) (l : Logged) (after : Standing) (n : Next marks st l after) → ProgramReads st
@@ -52,8 +52,8 @@ AliasesBecomeNames =
     → IsUsedByName n → UsesAlias n
     → AreOfPackages st.packages n.found.named × (AreNames n.found.named → BecomesName n)
 
--- What is asked of a program besides: each package has an identifier for its name, the one that its path has, and octets
--- for its path.
+-- What is asked of a program besides: each package has an identifier for its name, the one that its path has, and
+-- octets for its path.
 pub record PackagesAreWritable (ps : List (Package At)) : Type 0 where
   pub named : PackagesAreNamed ps
   pub octets : PathsAreOctets ps

@@ -7,9 +7,10 @@ use Rattle.pkg_graph.specs.Package.{Package}
 use Rattle.run_rules.specs.FormTrees.{as_expr}
 use Rattle.run_rules.specs.Programs.{top_place, decl_seen}
 use Rattle.run_rules.specs.Run.{Standing, Logged, Next}
-use Rattle.run_rules.specs.Sites.{MarkRef, Where, an_expr, a_constant, an_alias, part_span, where_is, inlinable, qualifier}
+use Rattle.run_rules.specs.Sites.{MarkRef, Where, an_expr, a_constant, an_alias, part_span, where_is, inlinable}
+use Rattle.run_rules.specs.Sites.{qualifier}
 use Rattle.run_rules.specs.Steps.{At}
-use Rattle.place_meanings.specs.Parts.{AllScoped}
+use Rattle.splice_laws.specs.PlaceMeanings.Parts.{AllScoped}
 use Rattle.put_nodes.specs.SpelledNames.{IsNameExpr}
 use Rattle.put_nodes.specs.Put.{IsSomeName}
 

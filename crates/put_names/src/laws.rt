@@ -1,7 +1,8 @@
 //! Laws of steps over names.
 
 ghost use Rattle.put_names.specs.Laws.{NamesArePutBySteps, NamesSettleFiles};
-ghost use Rattle.put_names.specs.Laws.{AliasesBecomeNames, AliasesSettleFiles, ConstantsBecomeNames, ConstantsSettleFiles};
+ghost use Rattle.put_names.specs.Laws.{AliasesBecomeNames, AliasesSettleFiles, ConstantsBecomeNames};
+ghost use Rattle.put_names.specs.Laws.{ConstantsSettleFiles};
 
 /// A step over a use that is a name and becomes a name lays the new name out in the place of a node of its file, so
 /// what kept_imports and read_imports ask of a step's form holds of it; and so cycle_runs' `SettlesFile` does, where what

@@ -1,6 +1,7 @@
 //! Laws of the names of packages.
 
-ghost use Rattle.put_names.specs.WrittenNames.Laws.{AddedImportsAreWritable, NamesAreIdentifiers, ReadModulesAreNamed, StepsKeepNames};
+ghost use Rattle.put_names.specs.WrittenNames.Laws.{AddedImportsAreWritable, NamesAreIdentifiers, ReadModulesAreNamed};
+ghost use Rattle.put_names.specs.WrittenNames.Laws.{StepsKeepNames};
 
 /// Where the packages of a program have identifiers for their names, so have all that a step's form names; and the
 /// imports that it adds can be written.

@@ -9,14 +9,14 @@ use Rattle.go_tree.specs.declared.operators.UnOp.{UnOp}
 use Rattle.go_tree.specs.declared.tokens.TokenKind.TheVariants.{Ident}
 use Rattle.go_tree.specs.Tree.{Expr, ident, selector}
 use Rattle.go_tree.specs.Bare.{bare_expr}
-use Rattle.go_words.specs.Tokens.Characters.{each}
+use Rattle.go_tree.specs.GoWords.Tokens.Characters.{each}
 use Rattle.go_scan.proofs.Derivatives.{and_true}
 use Rattle.go_layout.specs.Layouts.{Layout, no_text, a_token, ◌⊕◌, op, name_layout, within, text_of}
 use Rattle.go_layout.specs.Parens.{needs_parens, header_within, closed_within}
 use Rattle.go_layout.specs.TreeLayout.{expr_layout}
 use Rattle.layout_laws.specs.Formed.{IsName, FormedOperand}
 use Rattle.layout_laws.specs.Laid.{is_indent}
-use Rattle.go_types.specs.Answers.{meets}
+use Rattle.go_tree.specs.GoTypes.Answers.{meets}
 use Rattle.import_rules.specs.Removed.{line_start}
 use Rattle.run_rules.specs.Surroundings.{Slot, is_bracketed}
 use Rattle.run_rules.specs.FormTrees.{Form, as_expr}

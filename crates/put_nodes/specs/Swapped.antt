@@ -4,9 +4,10 @@ use Rattle.std.specs.Prelude.{◌≡◌, ◌≤◌, ℕ, Bool, true, false, not,
 use Rattle.go_tree.specs.Tree.{Expr, ident}
 use Rattle.go_tree.specs.File.{TypeSpec, Decl, values, types, func}
 use Rattle.layout_laws.specs.Formed.{is_call, FormedType, FormedStmt, FormedStmts}
-use Rattle.scope_names.specs.Means.{is_blank}
-use Rattle.go_types.specs.Entities.{is_declared_here}
-use Rattle.run_rules.specs.Surroundings.{Use, called, deferred_call, Slot, a_slot, Place, Seen, seen, seen_type, seen_stmt}
+use Rattle.go_tree.specs.ScopeNames.Means.{is_blank}
+use Rattle.go_tree.specs.GoTypes.Entities.{is_declared_here}
+use Rattle.run_rules.specs.Surroundings.{Use, called, deferred_call, Slot, a_slot, Place, Seen, seen, seen_type}
+use Rattle.run_rules.specs.Surroundings.{seen_stmt}
 use Rattle.run_rules.specs.Respanned.{expr_with}
 use Rattle.splice_laws.specs.Swaps.{Swap, an_operand, a_callee, a_deferred}
 

@@ -3,7 +3,9 @@ use Rattle.std.specs.Prelude.{ℕ, List, codes}
 use Rattle.refusals.specs.declared.refusal.Limit.{Limit}
 use Rattle.refusals.specs.declared.refusal.Limit.TheVariants.{Steps, StepsOfUse, Bytes, Total, Weight}
 use Rattle.refusals.specs.declared.refusal.Detail.{Detail}
-use Rattle.refusals.specs.declared.refusal.Detail.TheVariants.{NotUtf8, BadToken, TooBig, Unsupported, NotRead, TooDeep, NoModuleLine, OldGo, MixedPackage, NoPackage, Cycle, Internal, NotTyped, TooLarge, NotYet}
+use Rattle.refusals.specs.declared.refusal.Detail.TheVariants.{NotUtf8, BadToken, TooBig, Unsupported, NotRead, TooDeep}
+use Rattle.refusals.specs.declared.refusal.Detail.TheVariants.{NoModuleLine, OldGo, MixedPackage, NoPackage, Cycle}
+use Rattle.refusals.specs.declared.refusal.Detail.TheVariants.{Internal, NotTyped, TooLarge, NotYet}
 
 -- the number of each cause
 abbrev pub number_of : Detail → ℕ

@@ -1,13 +1,13 @@
 //! Whether the header of a type is refused (Go specification, Type declarations; Uniqueness of identifiers).
 
 ghost use Rattle.std.specs.Prelude.{◌≡◌, List, map, IfOk};
-ghost use Rattle.const_eval.specs.declared.consts.Const.{Const};
+ghost use Rattle.go_tree.specs.declared.const_eval.consts.Const.{Const};
 ghost use Rattle.go_tree.specs.declared.spans.Span.{Span};
 ghost use Rattle.go_tree.specs.FileView.{type_spec_of};
-ghost use Rattle.go_types.specs.Programs.{Headed};
+ghost use Rattle.go_tree.specs.GoTypes.Programs.{Headed};
 ghost use Rattle.typed_names.specs.Meanings.{world_at};
-ghost use Rattle.value_types.specs.ValueTypes.{HasValueTypes};
-ghost use Rattle.type_exprs.specs.Grown.{TypesGrown};
+ghost use Rattle.type_table.specs.ValueTypes.ValueTypes.{HasValueTypes};
+ghost use Rattle.typed_names.specs.TypeExprs.Grown.{TypesGrown};
 ghost use Rattle.declared_types.specs.Steps.{KnowsPlaces};
 ghost use Rattle.defined_types.specs.DeclaredTypes.{declared_of};
 ghost use Rattle.package_blocks.specs.Headers.{IsHeader, listed_of};
@@ -18,7 +18,7 @@ use finite_types::{TypeTests, is_good_type};
 use go_tree::{NoMemory, TypeSpec};
 use package_blocks::{HeaderKind, PackageHeader};
 use std::alloc::Global;
-use type_relations::Env;
+use type_table::type_relations::Env;
 use typed_names::{Blocks, Scope};
 
 /// Whether the header of a type, of this spec, is refused.

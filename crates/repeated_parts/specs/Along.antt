@@ -2,9 +2,9 @@
 -- specification, Constant declarations; Operands; Calls; Types; Composite literals; Short variable declarations).
 use Rattle.std.specs.Prelude.{◌≡◌, ℕ, Bool, true, false, not, List, [], ◌∷◌, ◌++◌, map, Option}
 use Rattle.go_tree.specs.Tree.{NameAt, TypeExpr, Expr, ident, Stmt}
-use Rattle.go_types.specs.Answers.{meets, is_empty}
-use Rattle.go_types.specs.Types.{GoType}
-use Rattle.go_types.specs.Literals.{is_struct}
+use Rattle.go_tree.specs.GoTypes.Answers.{meets, is_empty}
+use Rattle.go_tree.specs.GoTypes.Types.{GoType}
+use Rattle.go_tree.specs.GoTypes.Literals.{is_struct}
 use Rattle.run_rules.specs.Surroundings.{Use, stored, Place, Seen, seen, seen_type, seen_stmt, is_old}
 use Rattle.run_rules.specs.Sites.{an_expr, named_in}
 use Rattle.possible_uses.specs.Candidates.{Candidate, plain_part, key_part}
@@ -18,8 +18,8 @@ module _ {S : Type 0} where
   is_again p = not (is_empty p.again)
 
   -- From some parts with their flags to more of them, past parts with their places, as possible_uses' `Follows` goes:
-  -- one more for each that may be a use, with the flag of its place, and one for each name in a type. A key that names a
-  -- field is no part with a place, and so has any flag.
+  -- one more for each that may be a use, with the flag of its place, and one for each name in a type. A key that names
+  -- a field is no part with a place, and so has any flag.
   pub data FlagsAlong : List (Candidate S) → List Bool → List (Seen S) → List (Candidate S) → List Bool → Type 0 where
     at_the_end : {xs : List (Candidate S)} {ms : List Bool} → FlagsAlong xs ms [] xs ms
     past_a_use : {xs zs : List (Candidate S)} {ms ns : List Bool} {ys : List (Seen S)} {p : Place S} {u : Use}

@@ -1,8 +1,10 @@
 //! Flags of the parts of expressions.
 
 ghost use Rattle.std.specs.Prelude.{◌≡◌, OnOk};
-ghost use Rattle.go_tree.specs.View.{expr_of, exprs_of, boxed_expr_option_of, plain_expr_option_of, value_of, held_value_option_of, elems_of};
-ghost use Rattle.repeated_parts.specs.Flags.{flags_selector, flags_expr, flags_exprs, flags_expr_option, flags_value, flags_key, flags_elems};
+ghost use Rattle.go_tree.specs.View.{expr_of, exprs_of, boxed_expr_option_of, plain_expr_option_of, value_of};
+ghost use Rattle.go_tree.specs.View.{held_value_option_of, elems_of};
+ghost use Rattle.repeated_parts.specs.Flags.{flags_selector, flags_expr, flags_exprs, flags_expr_option, flags_value};
+ghost use Rattle.repeated_parts.specs.Flags.{flags_key, flags_elems};
 
 use crate::groups::put_flag;
 use crate::stmts::stmts_flags;

@@ -1,8 +1,10 @@
 //! Flags of the parts of statements.
 
 ghost use Rattle.std.specs.Prelude.{◌≡◌, OnOk};
-ghost use Rattle.go_tree.specs.View.{held_block_option_of, stmt_of, stmts_of, boxed_stmt_option_of, range_left_of, arms_of, cases_of, const_specs_of, var_specs_of};
-ghost use Rattle.repeated_parts.specs.Flags.{flags_stmt, flags_stmts, flags_block_option, flags_stmt_option, flags_left, flags_arms, flags_cases, flags_group, flags_specs};
+ghost use Rattle.go_tree.specs.View.{held_block_option_of, stmt_of, stmts_of, boxed_stmt_option_of, range_left_of};
+ghost use Rattle.go_tree.specs.View.{arms_of, cases_of, const_specs_of, var_specs_of};
+ghost use Rattle.repeated_parts.specs.Flags.{flags_stmt, flags_stmts, flags_block_option, flags_stmt_option};
+ghost use Rattle.repeated_parts.specs.Flags.{flags_left, flags_arms, flags_cases, flags_group, flags_specs};
 
 use crate::exprs::{expr_flags, exprs_flags, option_flags};
 use crate::groups::is_repeated;

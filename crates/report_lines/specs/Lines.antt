@@ -1,6 +1,7 @@
 -- The lines of a report over one file (golang.org/x/tools, analyzer inline, for what is reported; the lines are this
 -- project's own).
-use Rattle.std.specs.Prelude.{◌≡◌, ⊤, ℕ, ◌+◌, ◌≤◌, List, [], ◌∷◌, ◌++◌, take, codes, decimal}
+use Rattle.std.specs.Prelude.{◌≡◌, ⊤, ℕ, ◌+◌, ◌≤◌, List, [], ◌∷◌, ◌++◌, take, codes}
+use Rattle.std.specs.Prelude.{decimal}
 use Rattle.text_places.specs.Lines.{lines_before, column_after}
 use Rattle.go_tree.specs.declared.spans.Place.{Place}
 use Rattle.run_rules.specs.Report.{place_text}

@@ -1,5 +1,6 @@
 -- What is told of files by their numbers (golang.org/x/tools, analyzer inline, for what is reported).
-use Rattle.std.specs.Prelude.{◌≡◌, ℕ, suc, ◌<◌, nat_eq, if◌then◌else◌, List, [], ◌∷◌, ◌++◌, length, slice_index_or}
+use Rattle.std.specs.Prelude.{◌≡◌, ℕ, suc, ◌<◌, nat_eq, if◌then◌else◌, List, [], ◌∷◌, ◌++◌}
+use Rattle.std.specs.Prelude.{length, slice_index_or}
 use Rattle.report_lines.specs.declared.lines.ReportItem.{ReportItem}
 use Rattle.report_lines.specs.Lines.{lines_of}
 use Rattle.report_order.specs.declared.rows.ReportRow.{ReportRow}

@@ -2,10 +2,10 @@
 use Rattle.std.specs.Prelude.{◌≡◌, true, ℕ, List, [], ◌∷◌, Some}
 use Rattle.std.specs.List.{list_all}
 use Rattle.go_tree.specs.declared.spans.Span.{Span}
-use Rattle.go_words.specs.Tokens.Characters.{each}
+use Rattle.go_tree.specs.GoWords.Tokens.Characters.{each}
 use Rattle.go_parse.specs.Sources.{IsSupported}
 use Rattle.text_edits.specs.Applied.{applied}
-use Rattle.import_splices.specs.AddedFile.{is_byte}
+use Rattle.splice_laws.specs.ImportSplices.AddedFile.{is_byte}
 use Rattle.pkg_graph.specs.Package.{Package}
 use Rattle.pkg_graph.specs.Reads.{Source}
 use Rattle.run_rules.specs.Sites.{MarkRef}
@@ -14,7 +14,7 @@ use Rattle.run_rules.specs.Texts.{FileText}
 use Rattle.run_rules.specs.Steps.{At, Found}
 use Rattle.run_rules.specs.Run.{Standing, Logged, step_in, edits_in, logged, the_limits}
 use Rattle.run_rules.specs.Inlining.{ModuleReads, standing_as_read, Reaches}
-use Rattle.form_imports.specs.OwnNames.{AreInProgram}
+use Rattle.splice_laws.specs.FormImports.OwnNames.{AreInProgram}
 use Rattle.run_by_steps.specs.NextPrograms.Made.{PutsForm}
 
 -- each text has supported words alone

@@ -1,6 +1,7 @@
 //! Laws of the names and the paths of packages.
 
-ghost use Rattle.run_by_steps.specs.WrittenImports.Laws.{ImportsAreWritten, ReadPackagesAreNamed, RunsKeepPackagesNamed};
+ghost use Rattle.run_by_steps.specs.WrittenImports.Laws.{ImportsAreWritten, ReadPackagesAreNamed};
+ghost use Rattle.run_by_steps.specs.WrittenImports.Laws.{RunsKeepPackagesNamed};
 
 /// Each package of a module that reads has an identifier as its name and a path of octets, where the paths of its files
 /// are octets; and runs keep that.

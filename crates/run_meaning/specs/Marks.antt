@@ -1,5 +1,6 @@
 -- Which constants are marked for inlining (Go specification, Constant declarations; Comments).
-use Rattle.std.specs.Prelude.{◌≡◌, ℕ, ◌+◌, Bool, true, nat_eq, List, [], ◌∷◌, ◌++◌, length, Some, None}
+use Rattle.std.specs.Prelude.{◌≡◌, ℕ, ◌+◌, Bool, true, nat_eq, List, [], ◌∷◌, ◌++◌, length, Some}
+use Rattle.std.specs.Prelude.{None}
 use Rattle.std.specs.List.{starts_with}
 use Rattle.go_tree.specs.declared.spans.Span.{Span}
 use Rattle.go_kernel.specs.Kernel.{ImportPath}

@@ -3,7 +3,8 @@
 -- A construct without a rule has no place.
 use Rattle.std.specs.Prelude.{⊤, ℕ, Bool, List, [], ◌∷◌, ◌++◌, Option}
 use Rattle.go_tree.specs.declared.exprs.Rest.{Rest}
-use Rattle.go_tree.specs.Tree.{NameAt, TypeExpr, Expr, call, Exprs, no_exprs, expr_and, Stmt, const_decl, eval, Stmts, no_stmts, stmt_and, ValueSpecs, no_specs, spec}
+use Rattle.go_tree.specs.Tree.{NameAt, TypeExpr, Expr, call, Exprs, no_exprs, expr_and, Stmt, const_decl, eval, Stmts}
+use Rattle.go_tree.specs.Tree.{no_stmts, stmt_and, ValueSpecs, no_specs, spec}
 use Rattle.go_tree.specs.File.{Func, Decl, values, func}
 use Rattle.go_meaning_laws.specs.Package.{SourceTree, Package}
 

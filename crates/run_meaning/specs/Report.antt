@@ -1,5 +1,6 @@
 -- The report of a run: a line for each step and for each use that is kept, by their places in the files as read.
-use Rattle.std.specs.Prelude.{⊤, ◌≡◌, ℕ, ◌≤◌, true, ◌&&◌, bytes_eq, nat_eq, List, [], ◌∷◌, ◌++◌, map, filter, codes}
+use Rattle.std.specs.Prelude.{⊤, ◌≡◌, ℕ, ◌≤◌, true, ◌&&◌, bytes_eq, nat_eq, List, [], ◌∷◌}
+use Rattle.std.specs.Prelude.{◌++◌, map, filter, codes}
 use Rattle.go_tree.specs.declared.spans.Span.{Span}
 use Rattle.go_kernel.specs.Kernel.{ImportPath}
 use Rattle.go_meaning_laws.specs.Package.{Package}

@@ -1,6 +1,7 @@
 //! Laws of the run: what it does to the packages of a module.
 
-ghost use Rattle.run_meaning.specs.Meaning.{FormsAreOne, PlannedIsInlining, PlansAreJudged, RunMeansTheSame, RunsAreOne};
+ghost use Rattle.run_meaning.specs.Meaning.{FormsAreOne, PlannedIsInlining, PlansAreJudged, RunMeansTheSame};
+ghost use Rattle.run_meaning.specs.Meaning.{RunsAreOne};
 
 /// A program has one run, and the last program of the run means the same as the first. With any
 /// further packages, each main package shows the same and ends or panics alike, each within a

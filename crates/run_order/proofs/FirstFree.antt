@@ -2,14 +2,14 @@
 use Rattle.std.proofs.Common.{◌≡◌, refl, sym, ap, ◌∙◌, subst, ◌<◌, ℕ, ◌⊎◌, inl, inr, List, [], ◌∷◌, ◌++◌, Option, Some, None}
 use Rattle.std.proofs.lemmas.Option.{same_Some}
 use Rattle.go_tree.specs.declared.spans.Span.{Span}
-use Rattle.go_types.specs.Answers.{one_of}
+use Rattle.go_tree.specs.GoTypes.Answers.{one_of}
 use Rattle.run_rules.specs.Laws.{HasForm}
 use Rattle.run_rules.specs.Programs.{dependency_order}
 use Rattle.run_rules.specs.Reduced.{Reduced, becomes, kept, reduced}
 use Rattle.run_rules.specs.Run.{Standing, Logged, Next, is_commented}
 use Rattle.run_rules.specs.Sites.{MarkRef, Site, sites}
 use Rattle.run_rules.specs.Steps.{At, same_here, Found, found_by, first_found}
-use Rattle.run_laws.specs.Reading.{ProgramReads}
+use Rattle.splice_laws.specs.RunLaws.Reading.{ProgramReads}
 use Rattle.run_order.specs.Order.{span_of, ComesBefore, StandsBefore, package_before, file_before, end_before, IsAgain, StandsBehind, IsOneAgain, UsesAscend, AllFollow, NoneBecomes, IsFirstFree}
 use Rattle.run_order.proofs.UsesInOrder.{uses-ascend}
 

@@ -1,6 +1,7 @@
--- A range joined with those that it touches, as they are looked at one after another (text_edits' joined edits, of which
--- only the lengths of the texts are known).
-use Rattle.std.specs.Prelude.{ℕ, ◌+◌, ◌-◌, ◌≤◌, ◌<◌, ◌^◌, if◌then◌else◌, nat_lt, List, [], ◌∷◌, Some, None}
+-- A range joined with those that it touches, as they are looked at one after another (text_edits' joined edits, of
+-- which only the lengths of the texts are known).
+use Rattle.std.specs.Prelude.{ℕ, ◌+◌, ◌-◌, ◌≤◌, ◌<◌, ◌^◌, if◌then◌else◌, nat_lt, List, []}
+use Rattle.std.specs.Prelude.{◌∷◌, Some, None}
 use Rattle.run_ranges.specs.declared.ranges.ChangedRange.{ChangedRange}
 use Rattle.run_ranges.specs.declared.ranges.Walk.{Walk}
 
@@ -42,8 +43,8 @@ module _ (next : ChangedRange) where
       if nat_lt (ends w r) next.start then r ∷ joined_on (record w { from = r.end; at = ends w r }) rs
       else (if nat_lt next.end (begins w r) then joint w ∷ r ∷ rs else joined_on (met w r) rs)
 
-  -- The ranges ascend in a file of so many bytes, from a byte on that stands at another one now; the text as it is, with
-  -- what the edit writes, stays small, and the edit lies within it.
+  -- The ranges ascend in a file of so many bytes, from a byte on that stands at another one now; the text as it is,
+  -- with what the edit writes, stays small, and the edit lies within it.
   abbrev pub Rises : ℕ → ℕ → ℕ → List ChangedRange → Type 0
   Rises size from at [] = (from ≤ size) × (next.end ≤ at + (size - from))
   Rises size from at (r ∷ rs) =

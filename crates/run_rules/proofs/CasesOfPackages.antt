@@ -10,8 +10,8 @@ use Rattle.go_tree.specs.File.{File, values, types}
 use Rattle.run_rules.specs.FormTrees.{ExprForm, LiteralForm}
 use Rattle.run_rules.proofs.CaseTools.{at, nm, tok, note, param, sig, imp, imps, tspec, fn, pack, source, mark, Module, is_typed, first_change, step_of, kept_uses}
 use Rattle.go_read.specs.SpellsSpans.{span_to}
-use Rattle.go_words.specs.Terminals.{lexemes}
-use Rattle.go_words.specs.Tokens.Pieces.{keyword_spellings}
+use Rattle.go_tree.specs.GoWords.Terminals.{lexemes}
+use Rattle.go_tree.specs.GoWords.Tokens.Pieces.{keyword_spellings}
 use Rattle.go_read.specs.Goals.{read_front}
 use Rattle.go_read.proofs.Texts.{reading}
 use Rattle.run_rules.proofs.CaseTools.{read_at}

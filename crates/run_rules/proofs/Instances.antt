@@ -4,7 +4,7 @@ use Rattle.std.proofs.lemmas.Bool.{leb-true}
 use Rattle.go_tree.specs.declared.spans.Span.{Span}
 use Rattle.go_tree.specs.declared.tokens.Token.{Token}
 use Rattle.go_tree.specs.File.{File}
-use Rattle.go_words.specs.Terminals.{lexemes}
+use Rattle.go_tree.specs.GoWords.Terminals.{lexemes}
 use Rattle.go_read.specs.SpellsSpans.{span_to}
 use Rattle.go_read.specs.Goals.{read_front}
 use Rattle.go_read.proofs.Whole.{file_spelled}
@@ -23,7 +23,7 @@ use Rattle.run_rules.specs.Run.{Standing, Logged, here_of, origin_of, step_in, e
 use Rattle.run_rules.specs.Report.{report_of}
 use Rattle.run_rules.specs.Inlining.{standing_as_read, ModuleReads, Reaches, begins, IsInlining, IsTooLarge}
 use Rattle.run_rules.proofs.CaseTools.{read_at}
-use Rattle.go_words.specs.Tokens.{TokensOf}
+use Rattle.go_tree.specs.GoWords.Tokens.{TokensOf}
 
 -- what is there
 abbrev pub the : {A : Type 0} (o : Option A) → is_some o ≡ true → A

@@ -9,13 +9,13 @@ use Rattle.go_tree.specs.Tree.{named, ident, int_lit, call, binary, no_exprs, ex
 use Rattle.go_tree.specs.File.{File, values, types}
 use Rattle.run_rules.proofs.CaseTools.{at, nm, tok, note, param, sig, tspec, fn, pack, source, mark, Module}
 use Rattle.go_read.specs.SpellsSpans.{span_to}
-use Rattle.go_words.specs.Terminals.{lexemes}
+use Rattle.go_tree.specs.GoWords.Terminals.{lexemes}
 use Rattle.go_read.specs.Goals.{read_front}
 use Rattle.go_read.proofs.Texts.{reading}
 use Rattle.run_rules.proofs.CaseTools.{read_at}
 use Rattle.std.specs.Prelude.{map, Option}
 use Rattle.import_rules.specs.Removed.{same_span}
-use Rattle.go_types.specs.Answers.{given}
+use Rattle.go_tree.specs.GoTypes.Answers.{given}
 use Rattle.run_rules.specs.Sites.{Site, SiteKind, Operand, Statement, Return, RightSide, Deferred, Header, ConstName, TypeName, inlinable, kind_of, sites}
 
 abbrev kinds_module_f0 : File Span

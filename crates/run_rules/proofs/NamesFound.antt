@@ -7,17 +7,17 @@ use Rattle.std.proofs.lemmas.List.{append_cancel_left, length-append}
 use Rattle.std.proofs.lemmas.List.Folds.{list_any-append}
 use Rattle.std.proofs.lemmas.Fmt.{decimal_is_IsNumeral}
 use Rattle.go_tree.specs.File.{File}
-use Rattle.scope_names.specs.Identifiers.{identifiers}
-use Rattle.scope_names.specs.Means.{predeclared}
-use Rattle.scope_names.specs.Fresh.{candidate, is_new, IsFirst, IsFresh}
+use Rattle.go_tree.specs.ScopeNames.Identifiers.{identifiers}
+use Rattle.go_tree.specs.ScopeNames.Means.{predeclared}
+use Rattle.go_tree.specs.ScopeNames.Fresh.{candidate, is_new, IsFirst, IsFresh}
 use Rattle.pkg_graph.specs.Package.{Package}
 use Rattle.import_rules.specs.declared.new_import.Needed.{Needed}
 use Rattle.import_rules.specs.Needs.{serving, avoided, IsNeeded, there, new}
 use Rattle.run_rules.specs.Surroundings.{Place}
 use Rattle.run_rules.specs.Sites.{Where}
 use Rattle.run_rules.specs.Naming.{Named, package_path, own_name, names_here, environment_here, added_import, named_package, first_new, fuel_for, fresh_name}
-use Rattle.go_words.specs.Tokens.Pieces.{keyword_spellings}
-use Rattle.go_words.specs.Tokens.Pieces.{is_among}
+use Rattle.go_tree.specs.GoWords.Tokens.Pieces.{keyword_spellings}
+use Rattle.go_tree.specs.GoWords.Tokens.Pieces.{is_among}
 
 -- ---- names that are the same
 

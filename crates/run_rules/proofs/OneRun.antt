@@ -4,7 +4,7 @@ use Rattle.std.proofs.lemmas.Option.{same_Some}
 use Rattle.go_tree.specs.declared.spans.Span.{Span}
 use Rattle.go_tree.specs.declared.tokens.Token.{Token}
 use Rattle.go_tree.specs.File.{File}
-use Rattle.go_words.specs.Tokens.{TokensOf}
+use Rattle.go_tree.specs.GoWords.Tokens.{TokensOf}
 use Rattle.go_scan.proofs.Cuts.{tokens_once}
 use Rattle.go_read.specs.SpellsFiles.{SpellsFile}
 use Rattle.go_read.proofs.Whole as read

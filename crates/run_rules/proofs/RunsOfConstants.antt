@@ -11,8 +11,8 @@ use Rattle.go_tree.specs.Tree.{ident, int_lit, call, binary, no_exprs, expr_and,
 use Rattle.go_tree.specs.File.{File, values}
 use Rattle.run_rules.proofs.CaseTools.{at, nm, tok, note, sig, fn, pack, source, mark, Module}
 use Rattle.go_read.specs.SpellsSpans.{span_to}
-use Rattle.go_words.specs.Terminals.{lexemes}
-use Rattle.go_words.specs.Tokens.Pieces.{keyword_spellings}
+use Rattle.go_tree.specs.GoWords.Terminals.{lexemes}
+use Rattle.go_tree.specs.GoWords.Tokens.Pieces.{keyword_spellings}
 use Rattle.go_read.specs.Goals.{read_front}
 use Rattle.go_read.proofs.Texts.{reading}
 use Rattle.run_rules.proofs.CaseTools.{read_at}
@@ -31,12 +31,12 @@ use Rattle.run_rules.specs.Inlining.{standing_as_read, begins, steps_on, IsInlin
 use Rattle.run_rules.proofs.CaseTools.{from, nmf}
 use Rattle.run_rules.proofs.Instances.{stand_so, is_at_most, stands_after, log_entry, next_by, kept_by, inlining_by, too_large_by}
 use Rattle.run_rules.proofs.ModulesRead.{module_by, module_text, folder, small_module, small_module_is}
-use Rattle.go_words.specs.Tokens.{TokensOf}
+use Rattle.go_tree.specs.GoWords.Tokens.{TokensOf}
 use Rattle.ucd_category.specs.GeneralCategory.{general_category}
 use Rattle.ucd_category.specs.GeneralCategoryRows.{general_category_rows}
 use Rattle.ucd_table.specs.Rows.{value_in}
-use Rattle.go_words.specs.Tokens.{tokens_from, comments_from}
-use Rattle.go_words.specs.Tokens.Characters.{is_letter, is_digit}
+use Rattle.go_tree.specs.GoWords.Tokens.{tokens_from, comments_from}
+use Rattle.go_tree.specs.GoWords.Tokens.Characters.{is_letter, is_digit}
 use Rattle.go_scan.specs.Automaton.{next_of, longest_from}
 use Rattle.go_scan.specs.Pieces.{piece_of, lexeme_of}
 use Rattle.run_rules.proofs.TokensFound.{tokens_by}

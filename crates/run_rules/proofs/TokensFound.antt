@@ -5,11 +5,11 @@ use Rattle.std.specs.Str.{all_scalars}
 use Rattle.std.proofs.lemmas.Option.{same_Some}
 use Rattle.go_tree.specs.declared.tokens.Token.{Token}
 use Rattle.go_tree.specs.declared.tokens.Comment.{Comment}
-use Rattle.go_words.specs.Tokens.{TokensOf, tokens_from, comments_from, after_mark, mark_size}
-use Rattle.go_words.specs.Tokens.Pieces.{PieceKind, Piece, CutsTo}
+use Rattle.go_tree.specs.GoWords.Tokens.{TokensOf, tokens_from, comments_from, after_mark, mark_size}
+use Rattle.go_tree.specs.GoWords.Tokens.Pieces.{PieceKind, Piece, CutsTo}
 use Rattle.go_scan.specs.Pieces.{piece_of, Exact}
 use Rattle.go_scan.proofs.PieceLemmas.{piece_exact}
-use Rattle.go_types.specs.Answers.{given}
+use Rattle.go_tree.specs.GoTypes.Answers.{given}
 
 abbrev the_piece : PieceKind × ℕ → List ℕ → Piece
 the_piece x text = record { kind = x.0; word = take x.1 text }

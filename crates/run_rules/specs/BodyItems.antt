@@ -1,22 +1,32 @@
 -- What evaluating a body does, in strict order: uses of its parameters, reads, failures and writes, with `Stop` before
 -- each part that may not be reached, or more than once (Go specification, Order of evaluation; Calls; Assignment
 -- statements; Handling panics).
-use Rattle.std.specs.Prelude.{ℕ, suc, Bool, not, ◌&&◌, List, [], ◌∷◌, ◌++◌, Option, Some, None, if◌then◌else◌}
+use Rattle.std.specs.Prelude.{ℕ, suc, Bool, not, ◌&&◌, List, [], ◌∷◌, ◌++◌, Option, Some, None}
+use Rattle.std.specs.Prelude.{if◌then◌else◌}
 use Rattle.go_tree.specs.declared.operators.UnOp.TheVariants.{Address}
-use Rattle.go_tree.specs.Tree.{NameAt, Expr, ident, int_lit, rune_lit, str_lit, composite, selector, index, slice, call, func_lit, type_operand, unary, binary, star, Exprs, no_exprs, expr_and, ExprOption, no_expr, some_expr, Elems, no_elems, elem, Value, plain, braced, ValueOption, no_value, some_value, Stmt, const_decl, var_decl, empty, eval, step, assign, define, return_, break_, continue_, inner, if_, for_, range_, switch, defer, label, Stmts, no_stmts, stmt_and, StmtOption, no_stmt, some_stmt, BlockOption, no_block, some_block, RangeLeft, nothing, assigns, defines, Arms, no_arms, arm, Cases, no_cases, case, ValueSpecs, no_specs, spec}
-use Rattle.scope_names.specs.Means.{is_blank}
+use Rattle.go_tree.specs.Tree.{NameAt, Expr, ident, int_lit, rune_lit, str_lit, composite, selector, index, slice, call}
+use Rattle.go_tree.specs.Tree.{func_lit, type_operand, unary, binary, star, Exprs, no_exprs, expr_and, ExprOption}
+use Rattle.go_tree.specs.Tree.{no_expr, some_expr, Elems, no_elems, elem, Value, plain, braced, ValueOption, no_value}
+use Rattle.go_tree.specs.Tree.{some_value, Stmt, const_decl, var_decl, empty, eval, step, assign, define, return_}
+use Rattle.go_tree.specs.Tree.{break_, continue_, inner, if_, for_, range_, switch, defer, label, Stmts, no_stmts}
+use Rattle.go_tree.specs.Tree.{stmt_and, StmtOption, no_stmt, some_stmt, BlockOption, no_block, some_block, RangeLeft}
+use Rattle.go_tree.specs.Tree.{nothing, assigns, defines, Arms, no_arms, arm, Cases, no_cases, case, ValueSpecs}
+use Rattle.go_tree.specs.Tree.{no_specs, spec}
+use Rattle.go_tree.specs.ScopeNames.Means.{is_blank}
 use Rattle.order_hazards.specs.declared.facts.Item.{Item}
 use Rattle.order_hazards.specs.declared.facts.Item.TheVariants.{Param, Read, Fail, Write, Stop}
-use Rattle.go_types.specs.Answers.{given, meets}
-use Rattle.go_types.specs.Types.{GoType}
-use Rattle.go_types.specs.Defined.{under}
-use Rattle.go_types.specs.Entities.{Cap, Len, Entity, Env, meaning, defined_in}
-use Rattle.go_types.specs.TypeNames.{type_meant}
-use Rattle.go_types.specs.Operands.{Operand, a_type, a_builtin}
-use Rattle.go_types.specs.Literals.{is_struct, key_type, inner_type, literal_type}
-use Rattle.go_types.specs.Typing.{parts}
-use Rattle.run_rules.specs.Surroundings.{Place, is_logic, local_at, after_stmt, after_first, block, ranged, in_literal, after_variables}
-use Rattle.run_rules.specs.Classes.{is_variable, is_constant, is_map, is_text, is_string, is_bytes, is_byte_list, points, is_qualified, root, takes_address, may_fail}
+use Rattle.go_tree.specs.GoTypes.Answers.{given, meets}
+use Rattle.go_tree.specs.GoTypes.Types.{GoType}
+use Rattle.go_tree.specs.GoTypes.Defined.{under}
+use Rattle.go_tree.specs.GoTypes.Entities.{Cap, Len, Entity, Env, meaning, defined_in}
+use Rattle.go_tree.specs.GoTypes.TypeNames.{type_meant}
+use Rattle.go_tree.specs.GoTypes.Operands.{Operand, a_type, a_builtin}
+use Rattle.go_tree.specs.GoTypes.Literals.{is_struct, key_type, inner_type, literal_type}
+use Rattle.go_tree.specs.GoTypes.Typing.{parts}
+use Rattle.run_rules.specs.Surroundings.{Place, is_logic, local_at, after_stmt, after_first, block, ranged, in_literal}
+use Rattle.run_rules.specs.Surroundings.{after_variables}
+use Rattle.run_rules.specs.Classes.{is_variable, is_constant, is_map, is_text, is_string, is_bytes, is_byte_list}
+use Rattle.run_rules.specs.Classes.{points, is_qualified, root, takes_address, may_fail}
 
 -- items, where a test passes
 abbrev pub if_items : Bool → List Item → List Item

@@ -1,6 +1,7 @@
 -- Which parameters of a call may be replaced by their arguments, found by striking out until nothing changes (Go
 -- specification, Order of evaluation; Calls).
-use Rattle.std.specs.Prelude.{ℕ, zero, suc, Bool, true, false, not, ◌&&◌, ◌||◌, List, [], ◌∷◌, map, length, drop, if◌then◌else◌, nat_eq, nat_lt}
+use Rattle.std.specs.Prelude.{ℕ, zero, suc, Bool, true, false, not, ◌&&◌, ◌||◌, List, [], ◌∷◌, map}
+use Rattle.std.specs.Prelude.{length, drop, if◌then◌else◌, nat_eq, nat_lt}
 use Rattle.std.specs.List.{list_any, list_all, count_by, position_or_len}
 use Rattle.order_hazards.specs.declared.facts.Class.{Class}
 use Rattle.order_hazards.specs.declared.facts.Class.TheVariants.{Steady, Looks, Acts}

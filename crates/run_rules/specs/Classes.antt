@@ -1,28 +1,31 @@
 -- What evaluating an argument may do: nothing that matters, look at what may change, or act (Go specification, Order of
 -- evaluation; Address operators; Defer statements; Constant expressions).
-use Rattle.std.specs.Prelude.{ℕ, Bool, true, false, not, ◌&&◌, ◌||◌, List, Option, Some, None, if◌then◌else◌, is_some}
+use Rattle.std.specs.Prelude.{ℕ, Bool, true, false, not, ◌&&◌, ◌||◌, List, Option, Some, None}
+use Rattle.std.specs.Prelude.{if◌then◌else◌, is_some}
 use Rattle.std.specs.List.{list_any}
 use Rattle.go_tree.specs.declared.operators.UnOp.TheVariants.{Address}
 use Rattle.go_tree.specs.declared.operators.BinOp.{BinOp}
 use Rattle.go_tree.specs.declared.operators.BinOp.TheVariants.{Div, Rem, Shl, Shr}
-use Rattle.go_tree.specs.Tree.{Expr, ident, int_lit, rune_lit, str_lit, composite, selector, index, slice, call, func_lit, type_operand, unary, binary, star, Exprs, no_exprs, expr_and, Elems, no_elems, elem, Value, plain, braced}
-use Rattle.const_eval.specs.declared.kinds.Kind.{Kind}
-use Rattle.const_eval.specs.declared.kinds.Kind.TheVariants as kind
-use Rattle.const_eval.specs.Exact.{is_text_kind}
-use Rattle.scope_names.specs.FreeNames.{names_of}
+use Rattle.go_tree.specs.Tree.{Expr, ident, int_lit, rune_lit, str_lit, composite, selector, index, slice, call}
+use Rattle.go_tree.specs.Tree.{func_lit, type_operand, unary, binary, star, Exprs, no_exprs, expr_and, Elems, no_elems}
+use Rattle.go_tree.specs.Tree.{elem, Value, plain, braced}
+use Rattle.go_tree.specs.declared.const_eval.kinds.Kind.{Kind}
+use Rattle.go_tree.specs.declared.const_eval.kinds.Kind.TheVariants as kind
+use Rattle.go_tree.specs.ConstEval.Exact.{is_text_kind}
+use Rattle.go_tree.specs.ScopeNames.FreeNames.{names_of}
 use Rattle.order_hazards.specs.declared.facts.Class.{Class}
 use Rattle.order_hazards.specs.declared.facts.Class.TheVariants.{Steady, Looks, Acts}
-use Rattle.go_types.specs.Answers.{given, meets, is_among}
-use Rattle.go_types.specs.Types.{GoType, base_of, element_of, map_parts, basic_kind, same_kind}
-use Rattle.go_types.specs.Defined.{under, methods}
-use Rattle.go_types.specs.Entities.{Cap, Len, exact, Entity, variable, Env, meaning, defined_in}
-use Rattle.go_types.specs.TypeNames.{type_meant}
-use Rattle.go_types.specs.Operands.{Operand, value, a_type, a_builtin, typed, kind_passes}
-use Rattle.go_types.specs.Primary.{find_method}
-use Rattle.go_types.specs.Literals.{is_struct}
-use Rattle.go_types.specs.Typing.{parts}
+use Rattle.go_tree.specs.GoTypes.Answers.{given, meets, is_among}
+use Rattle.go_tree.specs.GoTypes.Types.{GoType, base_of, element_of, map_parts, basic_kind, same_kind}
+use Rattle.go_tree.specs.GoTypes.Defined.{under, methods}
+use Rattle.go_tree.specs.GoTypes.Entities.{Cap, Len, exact, Entity, variable, Env, meaning, defined_in}
+use Rattle.go_tree.specs.GoTypes.TypeNames.{type_meant}
+use Rattle.go_tree.specs.GoTypes.Operands.{Operand, value, a_type, a_builtin, typed, kind_passes}
+use Rattle.go_tree.specs.GoTypes.Primary.{find_method}
+use Rattle.go_tree.specs.GoTypes.Literals.{is_struct}
+use Rattle.go_tree.specs.GoTypes.Typing.{parts}
 use Rattle.run_rules.specs.Surroundings.{Place, Seen, seen, addressed, called, local_at}
-use Rattle.go_types.specs.Statements.{package_before}
+use Rattle.go_tree.specs.GoTypes.Statements.{package_before}
 
 -- the later of two classes
 abbrev pub worse : Class → Class → Class

@@ -3,13 +3,14 @@
 -- Without one stay: a value of the type, an untyped constant or nil that goes into the type, an untyped constant beside
 -- a value of the type, a whole untyped constant whose default type it is, and an untyped truth value that isn't
 -- constant, where the type is `bool`.
-use Rattle.std.specs.Prelude.{Bool, true, false, not, ◌&&◌, ◌||◌, [], ◌∷◌, Option, Some, None, if◌then◌else◌}
-use Rattle.const_eval.specs.declared.kinds.Kind.TheVariants as kind
-use Rattle.go_types.specs.Answers.{meets}
-use Rattle.go_types.specs.Types.{GoType, basic, is_nil, is_untyped, untyped_kind, same_kind}
-use Rattle.go_types.specs.Identical.{identical}
-use Rattle.go_types.specs.Entities.{run, exact, shift, elsewhere, Entity, variable, stand_in}
-use Rattle.go_types.specs.Operands.{Typed, default_type}
+use Rattle.std.specs.Prelude.{Bool, true, false, not, ◌&&◌, ◌||◌, [], ◌∷◌, Option, Some, None}
+use Rattle.std.specs.Prelude.{if◌then◌else◌}
+use Rattle.go_tree.specs.declared.const_eval.kinds.Kind.TheVariants as kind
+use Rattle.go_tree.specs.GoTypes.Answers.{meets}
+use Rattle.go_tree.specs.GoTypes.Types.{GoType, basic, is_nil, is_untyped, untyped_kind, same_kind}
+use Rattle.go_tree.specs.GoTypes.Identical.{identical}
+use Rattle.go_tree.specs.GoTypes.Entities.{run, exact, shift, elsewhere, Entity, variable, stand_in}
+use Rattle.go_tree.specs.GoTypes.Operands.{Typed, default_type}
 use Rattle.run_rules.specs.Surroundings.{Use, into, beside, whole, returned}
 
 -- the type of the other operand

@@ -1,9 +1,11 @@
 -- Cycles of marked functions: one leads to another that its body uses (golang.org/x/tools, internal/refactor/inline; Go
 -- specification, Calls; Method declarations).
-use Rattle.std.specs.Prelude.{◌≡◌, ℕ, zero, suc, ◌⊎◌, Bool, true, List, [], ◌∷◌, ◌++◌, length, Some, None, if◌then◌else◌}
+use Rattle.std.specs.Prelude.{◌≡◌, ℕ, zero, suc, ◌⊎◌, Bool, true, List, [], ◌∷◌, ◌++◌, length}
+use Rattle.std.specs.Prelude.{Some, None, if◌then◌else◌}
 use Rattle.pkg_graph.specs.Package.{Package}
-use Rattle.go_types.specs.Answers.{meets}
-use Rattle.run_rules.specs.Sites.{MarkRef, is_among_marks, Site, where_is, inlinable, is_function, parts_of, sites_among}
+use Rattle.go_tree.specs.GoTypes.Answers.{meets}
+use Rattle.run_rules.specs.Sites.{MarkRef, is_among_marks, Site, where_is, inlinable, is_function, parts_of}
+use Rattle.run_rules.specs.Sites.{sites_among}
 
 -- One leads to another, directly or by others.
 pub data Chain {A : Type 0} (leads : A → A → Type 0) : A → A → Type 0 where

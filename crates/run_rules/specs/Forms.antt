@@ -1,30 +1,38 @@
 -- What may stand in the place of a call: when each form applies, and its tree (Go specification, Calls; Return
 -- statements; Blocks; Conversions; Defer statements; Handling panics).
-use Rattle.std.specs.Prelude.{ℕ, zero, suc, Bool, true, false, not, ◌&&◌, ◌||◌, List, [], ◌∷◌, map, Option, Some, None, if◌then◌else◌, nat_eq, nat_lt, is_some}
+use Rattle.std.specs.Prelude.{ℕ, zero, suc, Bool, true, false, not, ◌&&◌, ◌||◌, List, [], ◌∷◌, map}
+use Rattle.std.specs.Prelude.{Option, Some, None, if◌then◌else◌, nat_eq, nat_lt, is_some}
 use Rattle.std.specs.List.{count_by, list_any, list_all}
 use Rattle.go_tree.specs.declared.exprs.Rest.TheVariants.{Plain}
-use Rattle.go_tree.specs.Tree.{NameAt, TypeExpr, Param, Expr, ident, selector, call, func_lit, Exprs, no_exprs, expr_and, Stmt, eval, assign, define, inner, return_, label, Stmts, stmt_and}
-use Rattle.const_eval.specs.declared.consts.Const.{Const}
-use Rattle.scope_names.specs.FreeNames.{params_names, free_expr}
-use Rattle.scope_names.specs.Scopes.{expr_span}
+use Rattle.go_tree.specs.Tree.{NameAt, TypeExpr, Param, Expr, ident, selector, call, func_lit, Exprs, no_exprs}
+use Rattle.go_tree.specs.Tree.{expr_and, Stmt, eval, assign, define, inner, return_, label, Stmts, stmt_and}
+use Rattle.go_tree.specs.declared.const_eval.consts.Const.{Const}
+use Rattle.go_tree.specs.ScopeNames.FreeNames.{params_names, free_expr}
+use Rattle.go_tree.specs.ScopeNames.Scopes.{expr_span}
 use Rattle.pkg_graph.specs.Package.{Package}
 use Rattle.param_choice.specs.Chosen.{has}
-use Rattle.go_types.specs.Answers.{given, meets, is_among, is_empty}
-use Rattle.go_types.specs.Types.{GoType}
-use Rattle.go_types.specs.Entities.{exact, elsewhere, Entity, variable, stand_in, Env}
-use Rattle.go_types.specs.Operands.{Operand, several, Typed, typed}
-use Rattle.go_types.specs.Primary.{stands_alone}
-use Rattle.go_types.specs.Typing.{parts, stmt, is_call}
-use Rattle.go_types.specs.Recorded.{recorded_stmt, hardens}
-use Rattle.run_rules.specs.Surroundings.{Use, whole, returned, deferred_call, other, Place, Seen, seen, seen_stmt, Around, local_at}
+use Rattle.go_tree.specs.GoTypes.Answers.{given, meets, is_among, is_empty}
+use Rattle.go_tree.specs.GoTypes.Types.{GoType}
+use Rattle.go_tree.specs.GoTypes.Entities.{exact, elsewhere, Entity, variable, stand_in, Env}
+use Rattle.go_tree.specs.GoTypes.Operands.{Operand, several, Typed, typed}
+use Rattle.go_tree.specs.GoTypes.Primary.{stands_alone}
+use Rattle.go_tree.specs.GoTypes.Typing.{parts, stmt, is_call}
+use Rattle.go_tree.specs.GoTypes.Recorded.{recorded_stmt, hardens}
+use Rattle.run_rules.specs.Surroundings.{Use, whole, returned, deferred_call, other, Place, Seen, seen, seen_stmt}
+use Rattle.run_rules.specs.Surroundings.{Around, local_at}
 use Rattle.run_rules.specs.Rewriting.{Changes, new_expr, new_stmt, new_stmts, new_params}
 use Rattle.run_rules.specs.BodyItems.{number_of}
 use Rattle.run_rules.specs.Sites.{is_deferred}
 use Rattle.run_rules.specs.Conversions.{converts}
-use Rattle.run_rules.specs.Calls.{Given, Call, blank, param_name, declared_place, exprs_of, is_recover, uses, is_stored, start, func_type_is, all_params, body_seen, spread_call, args, given_params, arg_typed, start_with, bound_params}
+use Rattle.run_rules.specs.Calls.{Given, Call, blank, param_name, declared_place, exprs_of, is_recover, uses, is_stored}
+use Rattle.run_rules.specs.Calls.{start, func_type_is, all_params, body_seen, spread_call, args, given_params}
+use Rattle.run_rules.specs.Calls.{arg_typed, start_with, bound_params}
 use Rattle.run_rules.specs.Naming.{Names, type_there}
-use Rattle.go_types.specs.Bodies.{has_names}
-use Rattle.run_rules.specs.FormTrees.{FormKind, ConstForm, TypeForm, ExprForm, BlockForm, TailForm, LiteralForm, Form, as_expr, as_dropped, as_block, hole, is_statement, in_list, returned_types, all_identical, only_one, conversion, a_name, one_expr, top, keep_span, keep_type, outside_name, outside_selector, outside_changes}
+use Rattle.go_tree.specs.GoTypes.Bodies.{has_names}
+use Rattle.run_rules.specs.FormTrees.{FormKind, ConstForm, TypeForm, ExprForm, BlockForm, TailForm, LiteralForm, Form}
+use Rattle.run_rules.specs.FormTrees.{as_expr, as_dropped, as_block, hole, is_statement, in_list, returned_types}
+use Rattle.run_rules.specs.FormTrees.{all_identical, only_one, conversion, a_name, one_expr, top, keep_span, keep_type}
+use Rattle.run_rules.specs.FormTrees.{outside_name, outside_selector, outside_changes}
 
 module _ {S : Type 0} (same : S → S → Bool) where
   -- ---- the caller with something in a use's place

@@ -14,9 +14,10 @@ use Rattle.run_rules.specs.Sites.{MarkRef}
 use Rattle.run_rules.specs.Texts.{FileText}
 use Rattle.run_rules.specs.Respanned.{packages_with}
 use Rattle.run_rules.specs.Marks.{marks_of, bad_of}
-use Rattle.run_rules.specs.Run.{Standing, Logged, as_read, Run, Next, uses_kept, FilesKeep, bytes_of, Limits, TooLarge, passed}
+use Rattle.run_rules.specs.Run.{Standing, Logged, as_read, Run, Next, uses_kept, FilesKeep, bytes_of, Limits, TooLarge}
+use Rattle.run_rules.specs.Run.{passed}
 use Rattle.run_rules.specs.Report.{report_of}
-use Rattle.go_words.specs.Tokens.{TokensOf}
+use Rattle.go_tree.specs.GoWords.Tokens.{TokensOf}
 
 -- the packages as read: each node comes from itself
 abbrev pub standing_as_read : List (Package Span) → List (List ℕ × FileText) → Standing

@@ -1,5 +1,6 @@
 -- Laws of what a run is (golang.org/x/tools, internal/refactor/inline and analyzer inline).
-use Rattle.std.specs.Prelude.{◌≡◌, ℕ, ◌<◌, ◌≤◌, ◌^◌, ◌⊎◌, ◌↔◌, Bool, true, List, [], ◌∷◌, length, None, is_some, Contains}
+use Rattle.std.specs.Prelude.{◌≡◌, ℕ, ◌<◌, ◌≤◌, ◌^◌, ◌⊎◌, ◌↔◌, Bool, true, List, []}
+use Rattle.std.specs.Prelude.{◌∷◌, length, None, is_some, Contains}
 use Rattle.go_tree.specs.declared.spans.Span.{Span}
 use Rattle.go_tree.specs.declared.tokens.Token.{Token}
 use Rattle.go_tree.specs.Tree.{Expr, Stmts}

@@ -2,18 +2,21 @@
 -- literals; Struct types; Constant declarations; the go command's documentation, Internal Directories).
 -- Each is looked for in what the form takes from the marked declaration, in the order of that declaration's text; what
 -- the call's arguments hold doesn't count.
-use Rattle.std.specs.Prelude.{ℕ, Bool, true, false, not, ◌&&◌, ◌||◌, List, [], ◌∷◌, Option, Some, None, if◌then◌else◌, nat_eq}
+use Rattle.std.specs.Prelude.{ℕ, Bool, true, false, not, ◌&&◌, ◌||◌, List, [], ◌∷◌, Option, Some, None}
+use Rattle.std.specs.Prelude.{if◌then◌else◌, nat_eq}
 use Rattle.std.specs.List.{list_any}
-use Rattle.go_tree.specs.Tree.{TypeExpr, named, pointer, slice_type, map_type, struct_type, Fields, no_fields, field, Expr, ident, composite, selector, Elems, no_elems, elem, Value, plain, braced, ValueOption, no_value, some_value}
+use Rattle.go_tree.specs.Tree.{TypeExpr, named, pointer, slice_type, map_type, struct_type, Fields, no_fields, field}
+use Rattle.go_tree.specs.Tree.{Expr, ident, composite, selector, Elems, no_elems, elem, Value, plain, braced}
+use Rattle.go_tree.specs.Tree.{ValueOption, no_value, some_value}
 use Rattle.pkg_graph.specs.Package.{Package}
 use Rattle.pkg_graph.specs.Members.{Target, imported, member, predeclared}
 use Rattle.pkg_graph.specs.Internal.{may_import}
-use Rattle.go_types.specs.Answers.{given, one_of, is_among, is_empty}
-use Rattle.go_types.specs.Types.{GoType, GoFields, no_go_fields, go_field, fields_of}
-use Rattle.go_types.specs.Defined.{under}
-use Rattle.go_types.specs.Entities.{Env, is_exported, defined_in}
-use Rattle.go_types.specs.TypeNames.{type_meant}
-use Rattle.go_types.specs.Literals.{key_type, inner_type, literal_type, field_key}
+use Rattle.go_tree.specs.GoTypes.Answers.{given, one_of, is_among, is_empty}
+use Rattle.go_tree.specs.GoTypes.Types.{GoType, GoFields, no_go_fields, go_field, fields_of}
+use Rattle.go_tree.specs.GoTypes.Defined.{under}
+use Rattle.go_tree.specs.GoTypes.Entities.{Env, is_exported, defined_in}
+use Rattle.go_tree.specs.GoTypes.TypeNames.{type_meant}
+use Rattle.go_tree.specs.GoTypes.Literals.{key_type, inner_type, literal_type, field_key}
 use Rattle.run_rules.specs.Surroundings.{Place, Seen, seen, seen_type, seen_stmt}
 use Rattle.run_rules.specs.Sites.{Where, same_target, mark_of, outer_meaning, qualifier}
 use Rattle.run_rules.specs.Naming.{package_path}

@@ -1,19 +1,34 @@
 -- Every expression, written type and statement of a part of a program with the place where it stands, in the order of
 -- their ends (Go specification, Blocks; Declarations and scope; Expressions; Statements).
 -- A key that names a field, a label and a declared name are no expressions; a name that `:=` assigns to is one.
-use Rattle.std.specs.Prelude.{ℕ, suc, ◌+◌, Bool, true, false, List, [], ◌∷◌, ◌++◌, Option, Some, None, if◌then◌else◌}
-use Rattle.go_tree.specs.Tree.{NameAt, Param, Sig, TypeExpr, Expr, ident, int_lit, rune_lit, str_lit, composite, selector, index, slice, call, func_lit, type_operand, unary, binary, star, Exprs, no_exprs, expr_and, ExprOption, no_expr, some_expr, Elems, no_elems, elem, Value, plain, braced, ValueOption, no_value, some_value, Stmt, const_decl, var_decl, empty, eval, step, assign, define, return_, break_, continue_, inner, if_, for_, range_, switch, defer, label, Stmts, no_stmts, stmt_and, StmtOption, no_stmt, some_stmt, BlockOption, no_block, some_block, RangeLeft, nothing, assigns, defines, Arms, no_arms, arm, Cases, no_cases, case, ValueSpecs, no_specs, spec}
-use Rattle.go_words.specs.Terminals.{level_of}
-use Rattle.go_types.specs.Answers.{given, meets}
-use Rattle.go_types.specs.Types.{GoType}
-use Rattle.go_types.specs.Defined.{under}
-use Rattle.go_types.specs.Entities.{defined_in}
-use Rattle.go_types.specs.TypeNames.{type_meant}
-use Rattle.go_types.specs.Literals.{is_struct, literal_type}
-use Rattle.go_types.specs.Typing.{parts, all_parts}
-use Rattle.run_rules.specs.Surroundings.{Use, whole, stored, updated, called, deferred_call, alone, other, a_slot, Place, Seen, seen, seen_type, seen_stmt, alike, into_type, head_use, later_uses, arg_uses, unary_use, operand_use, first_operand_use, right_uses, every_use, value_use, return_uses, elem_use, key_use, inner_slot, last_slot, in_slot, callee_place, comma_slot, elem_closed, after_stmt, after_first, block, looping, switching, in_heading, at_stmt, plain_slot, ranged, in_literal, repeated_by, in_constant, after_constants, before_repeats, after_variables, is_old}
-use Rattle.go_types.specs.Bodies.{labelled}
-use Rattle.go_types.specs.Declarations.{Repeated, nothing_to_repeat}
+use Rattle.std.specs.Prelude.{ℕ, suc, ◌+◌, Bool, true, false, List, [], ◌∷◌, ◌++◌, Option, Some, None}
+use Rattle.std.specs.Prelude.{if◌then◌else◌}
+use Rattle.go_tree.specs.Tree.{NameAt, Param, Sig, TypeExpr, Expr, ident, int_lit, rune_lit, str_lit, composite}
+use Rattle.go_tree.specs.Tree.{selector, index, slice, call, func_lit, type_operand, unary, binary, star, Exprs}
+use Rattle.go_tree.specs.Tree.{no_exprs, expr_and, ExprOption, no_expr, some_expr, Elems, no_elems, elem, Value, plain}
+use Rattle.go_tree.specs.Tree.{braced, ValueOption, no_value, some_value, Stmt, const_decl, var_decl, empty, eval, step}
+use Rattle.go_tree.specs.Tree.{assign, define, return_, break_, continue_, inner, if_, for_, range_, switch, defer}
+use Rattle.go_tree.specs.Tree.{label, Stmts, no_stmts, stmt_and, StmtOption, no_stmt, some_stmt, BlockOption, no_block}
+use Rattle.go_tree.specs.Tree.{some_block, RangeLeft, nothing, assigns, defines, Arms, no_arms, arm, Cases, no_cases}
+use Rattle.go_tree.specs.Tree.{case, ValueSpecs, no_specs, spec}
+use Rattle.go_tree.specs.GoWords.Terminals.{level_of}
+use Rattle.go_tree.specs.GoTypes.Answers.{given, meets}
+use Rattle.go_tree.specs.GoTypes.Types.{GoType}
+use Rattle.go_tree.specs.GoTypes.Defined.{under}
+use Rattle.go_tree.specs.GoTypes.Entities.{defined_in}
+use Rattle.go_tree.specs.GoTypes.TypeNames.{type_meant}
+use Rattle.go_tree.specs.GoTypes.Literals.{is_struct, literal_type}
+use Rattle.go_tree.specs.GoTypes.Typing.{parts, all_parts}
+use Rattle.run_rules.specs.Surroundings.{Use, whole, stored, updated, called, deferred_call, alone, other, a_slot}
+use Rattle.run_rules.specs.Surroundings.{Place, Seen, seen, seen_type, seen_stmt, alike, into_type, head_use}
+use Rattle.run_rules.specs.Surroundings.{later_uses, arg_uses, unary_use, operand_use, first_operand_use, right_uses}
+use Rattle.run_rules.specs.Surroundings.{every_use, value_use, return_uses, elem_use, key_use, inner_slot, last_slot}
+use Rattle.run_rules.specs.Surroundings.{in_slot, callee_place, comma_slot, elem_closed, after_stmt, after_first, block}
+use Rattle.run_rules.specs.Surroundings.{looping, switching, in_heading, at_stmt, plain_slot, ranged, in_literal}
+use Rattle.run_rules.specs.Surroundings.{repeated_by, in_constant, after_constants, before_repeats, after_variables}
+use Rattle.run_rules.specs.Surroundings.{is_old}
+use Rattle.go_tree.specs.GoTypes.Bodies.{labelled}
+use Rattle.go_tree.specs.GoTypes.Declarations.{Repeated, nothing_to_repeat}
 
 module _ {S : Type 0} where
   -- a written type

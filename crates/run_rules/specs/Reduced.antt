@@ -1,26 +1,32 @@
 -- What a use becomes: its first free form, or the obstacle that keeps it (Go specification, Calls; Alias declarations;
 -- Constant declarations).
-use Rattle.std.specs.Prelude.{ℕ, Bool, true, false, not, ◌&&◌, List, [], ◌∷◌, ◌++◌, map, Option, Some, None, if◌then◌else◌, is_none}
+use Rattle.std.specs.Prelude.{ℕ, Bool, true, false, not, ◌&&◌, List, [], ◌∷◌, ◌++◌, map, Option, Some}
+use Rattle.std.specs.Prelude.{None, if◌then◌else◌, is_none}
 use Rattle.std.specs.List.{list_any}
 use Rattle.go_tree.specs.Tree.{TypeExpr, Param, Expr, eval, return_, no_exprs, expr_and}
 use Rattle.go_tree.specs.File.{Func}
-use Rattle.scope_names.specs.Binders.{func_binders}
-use Rattle.scope_names.specs.Scopes.{expr_span}
+use Rattle.go_tree.specs.ScopeNames.Binders.{func_binders}
+use Rattle.go_tree.specs.ScopeNames.Scopes.{expr_span}
 use Rattle.pkg_graph.specs.Package.{Package}
 use Rattle.param_choice.specs.Chosen.{has}
-use Rattle.go_types.specs.Answers.{given, meets, one_of}
+use Rattle.go_tree.specs.GoTypes.Answers.{given, meets, one_of}
 use Rattle.run_rules.specs.Surroundings.{other, Place, Seen, seen, seen_type, seen_stmt}
 use Rattle.run_rules.specs.Places.{expr_seen, stmts_seen}
 use Rattle.run_rules.specs.Rewriting.{new_expr}
 use Rattle.run_rules.specs.Programs.{numbered, top_place}
-use Rattle.run_rules.specs.Sites.{MarkRef, Where, Inlinable, a_constant, an_alias, a_function, Part, an_expr, a_type_part, Site, part_span, where_is, inlinable, parts_of}
+use Rattle.run_rules.specs.Sites.{MarkRef, Where, Inlinable, a_constant, an_alias, a_function, Part, an_expr}
+use Rattle.run_rules.specs.Sites.{a_type_part, Site, part_span, where_is, inlinable, parts_of}
 use Rattle.run_rules.specs.Conversions.{converts}
-use Rattle.run_rules.specs.Calls.{bound_params, Given, Call, declared_place, uses, all_params, body_seen, spread_call, arg_typed, start_with, chosen, given_params, has_receiver}
+use Rattle.run_rules.specs.Calls.{bound_params, Given, Call, declared_place, uses, all_params, body_seen, spread_call}
+use Rattle.run_rules.specs.Calls.{arg_typed, start_with, chosen, given_params, has_receiver}
 use Rattle.run_rules.specs.Naming.{Names, unnamed, unnamed_in, type_there, Named, named_packages, names_by}
-use Rattle.run_rules.specs.FormTrees.{FormKind, ConstForm, TypeForm, ExprForm, BlockForm, TailForm, LiteralForm, Form, as_expr, as_type, top, one_expr, form_identifiers, type_expr, is_statement, outside_changes}
+use Rattle.run_rules.specs.FormTrees.{FormKind, ConstForm, TypeForm, ExprForm, BlockForm, TailForm, LiteralForm, Form}
+use Rattle.run_rules.specs.FormTrees.{as_expr, as_type, top, one_expr, form_identifiers, type_expr, is_statement}
+use Rattle.run_rules.specs.FormTrees.{outside_changes}
 use Rattle.run_rules.specs.Forms.{is_at, is_statement_call, value_converts, binding_use, form_tree, applies}
 use Rattle.run_rules.specs.Cycles.{is_recursive}
-use Rattle.run_rules.specs.Obstacles.{Obstacle, Recursive, CommentInside, Spread, Repeated, obstacle_if, not_accessible, internal_package, shadowed, is_repeated}
+use Rattle.run_rules.specs.Obstacles.{Obstacle, Recursive, CommentInside, Spread, Repeated, obstacle_if, not_accessible}
+use Rattle.run_rules.specs.Obstacles.{internal_package, shadowed, is_repeated}
 
 -- A use becomes a form, in the place of what has this span, with these names for packages; or it stays.
 pub data Reduced (S : Type 0) : Type 0 where

@@ -1,12 +1,14 @@
 -- The report of a run: a line for each step, each use that is kept and each bad mark, by their places in the files as
 -- read (golang.org/x/tools, analyzer inline, for what is reported; the lines are this project's own).
-use Rattle.std.specs.Prelude.{ℕ, ◌+◌, Bool, bytes_eq, nat_le, List, [], ◌∷◌, ◌++◌, map, take, Some, None, if◌then◌else◌, codes, decimal}
+use Rattle.std.specs.Prelude.{ℕ, ◌+◌, Bool, bytes_eq, nat_le, List, [], ◌∷◌, ◌++◌, map, take, Some}
+use Rattle.std.specs.Prelude.{None, if◌then◌else◌, codes, decimal}
 use Rattle.text_places.specs.Lines.{lines_before, column_after}
 use Rattle.pkg_graph.specs.Pieces.{comes_before}
 use Rattle.directive_scan.specs.declared.mark_types.BadReason.{BadReason}
 use Rattle.directive_scan.specs.declared.mark_types.BadReason.TheVariants.{NotNamedConstant, NotAlias, NothingMarked}
 use Rattle.run_rules.specs.FormTrees.{FormKind, ConstForm, TypeForm, ExprForm, BlockForm, TailForm, LiteralForm}
-use Rattle.run_rules.specs.Obstacles.{Obstacle, NotAccessible, Internal, Shadowed, Recursive, CommentInside, Spread, Repeated}
+use Rattle.run_rules.specs.Obstacles.{Obstacle, NotAccessible, Internal, Shadowed, Recursive, CommentInside, Spread}
+use Rattle.run_rules.specs.Obstacles.{Repeated}
 use Rattle.run_rules.specs.Texts.{FileText}
 use Rattle.run_rules.specs.Marks.{BadAt, full_name, text_at}
 use Rattle.run_rules.specs.Run.{Logged, KeptUse}

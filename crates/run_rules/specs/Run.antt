@@ -1,6 +1,8 @@
 -- The run: programs, each the next of the one before, up to one in which no use is free; the ranges in which it changes
 -- the files, and its limits (golang.org/x/tools, analyzer inline and internal/refactor/inline).
-use Rattle.std.specs.Prelude.{◌≡◌, ℕ, suc, ◌+◌, Bool, ◌&&◌, List, [], ◌∷◌, ◌++◌, map, filter, find, length, Option, Some, None, if◌then◌else◌, bytes_eq, nat_eq, nat_lt, slice_get}
+use Rattle.std.specs.Prelude.{◌≡◌, ℕ, suc, ◌+◌, Bool, ◌&&◌, List, [], ◌∷◌, ◌++◌, map, filter}
+use Rattle.std.specs.Prelude.{find, length, Option, Some, None, if◌then◌else◌, bytes_eq, nat_eq, nat_lt}
+use Rattle.std.specs.Prelude.{slice_get}
 use Rattle.std.specs.List.{list_any}
 use Rattle.go_tree.specs.declared.spans.Span.{Span}
 use Rattle.go_tree.specs.File.{File}
@@ -14,7 +16,7 @@ use Rattle.text_edits.specs.Keeps.{Keeps}
 use Rattle.module_files.specs.Selected.{module_file}
 use Rattle.pkg_graph.specs.Package.{Package}
 use Rattle.pkg_graph.specs.Reads.{Source, is_at}
-use Rattle.go_types.specs.Answers.{given, meets}
+use Rattle.go_tree.specs.GoTypes.Answers.{given, meets}
 use Rattle.run_rules.specs.Sites.{MarkRef, Site, part_span, sites}
 use Rattle.run_rules.specs.Naming.{Named}
 use Rattle.run_rules.specs.FormTrees.{FormKind, Form}
@@ -24,7 +26,7 @@ use Rattle.run_rules.specs.Texts.{FileText}
 use Rattle.run_rules.specs.Respanned.{file_with, decls_with}
 use Rattle.run_rules.specs.Marks.{marked_name, home_path, text_at}
 use Rattle.run_rules.specs.Steps.{At, same_here, Found, first_step, new_decls, with_file, step_edits, lies_in}
-use Rattle.go_words.specs.Tokens.{TokensOf}
+use Rattle.go_tree.specs.GoWords.Tokens.{TokensOf}
 
 -- A program as it stands: its packages, whose nodes have their places in the text and the uses that they come from, and
 -- the texts of its files by their paths.

@@ -1,10 +1,12 @@
 -- One step of a run: the first use that has a free form becomes it, and the imports of its file are settled (Go
 -- specification, Import declarations; Declarations and scope).
-use Rattle.std.specs.Prelude.{ℕ, zero, suc, Bool, true, false, not, ◌&&◌, List, [], ◌∷◌, ◌++◌, map, filter, Option, Some, None, if◌then◌else◌, nat_eq, nat_le, nat_lt, slice_get}
+use Rattle.std.specs.Prelude.{ℕ, zero, suc, Bool, true, false, not, ◌&&◌, List, [], ◌∷◌, ◌++◌, map}
+use Rattle.std.specs.Prelude.{filter, Option, Some, None, if◌then◌else◌, nat_eq, nat_le, nat_lt, slice_get}
 use Rattle.std.specs.List.{list_any}
 use Rattle.go_tree.specs.declared.spans.Span.{Span}
 use Rattle.go_tree.specs.declared.tokens.Comment.{Comment}
-use Rattle.go_tree.specs.Tree.{NameAt, TypeExpr, named, pointer, slice_type, map_type, struct_type, Fields, no_fields, field, ident, const_decl, var_decl, ValueSpecs, no_specs, spec}
+use Rattle.go_tree.specs.Tree.{NameAt, TypeExpr, named, pointer, slice_type, map_type, struct_type, Fields, no_fields}
+use Rattle.go_tree.specs.Tree.{field, ident, const_decl, var_decl, ValueSpecs, no_specs, spec}
 use Rattle.go_tree.specs.File.{ImportSpec, ImportDecl, TypeSpec, Receiver, Decl, values, types, func, File}
 use Rattle.text_edits.specs.declared.edit.Edit.{Edit}
 use Rattle.text_edits.specs.Applied.{applied}
@@ -12,7 +14,7 @@ use Rattle.import_rules.specs.declared.new_import.NewImport.{NewImport}
 use Rattle.import_rules.specs.Removed.{same_span}
 use Rattle.import_rules.specs.Settled.{settled}
 use Rattle.pkg_graph.specs.Package.{Package, import_specs}
-use Rattle.go_types.specs.Answers.{given, meets, otherwise, one_of}
+use Rattle.go_tree.specs.GoTypes.Answers.{given, meets, otherwise, one_of}
 use Rattle.run_rules.specs.Surroundings.{Slot, Place, Seen, seen, seen_type, seen_stmt, in_constant, value_use, alike}
 use Rattle.run_rules.specs.Rewriting.{Changes, new_stmts, new_sig, new_written, new_all}
 use Rattle.run_rules.specs.Programs.{numbered, top_place, body_place, decl_seen}

@@ -1,28 +1,33 @@
 -- What is around a part of a program: what names mean there, how the part is used, and what its spelling needs (Go
 -- specification, Blocks; Declarations and scope; Operands; Operators; Statements).
-use Rattle.std.specs.Prelude.{ℕ, zero, suc, Bool, true, false, not, ◌&&◌, ◌||◌, List, [], ◌∷◌, ◌++◌, map, length, Option, Some, None, if◌then◌else◌, bytes_eq}
+use Rattle.std.specs.Prelude.{ℕ, zero, suc, Bool, true, false, not, ◌&&◌, ◌||◌, List, [], ◌∷◌, ◌++◌}
+use Rattle.std.specs.Prelude.{map, length, Option, Some, None, if◌then◌else◌, bytes_eq}
 use Rattle.go_tree.specs.declared.operators.UnOp.{UnOp}
 use Rattle.go_tree.specs.declared.operators.UnOp.TheVariants.{Address}
 use Rattle.go_tree.specs.declared.operators.BinOp.{BinOp}
 use Rattle.go_tree.specs.declared.operators.BinOp.TheVariants.{Shl, Shr, LogAnd, LogOr}
-use Rattle.go_tree.specs.Tree.{NameAt, TypeExpr, Sig, Expr, func_lit, Exprs, no_exprs, expr_and, Elems, no_elems, elem, ValueOption, no_value, some_value, Stmt, StmtOption, no_stmt, some_stmt, RangeLeft, defines, ValueSpecs, no_specs, spec}
+use Rattle.go_tree.specs.Tree.{NameAt, TypeExpr, Sig, Expr, func_lit, Exprs, no_exprs, expr_and, Elems, no_elems, elem}
+use Rattle.go_tree.specs.Tree.{ValueOption, no_value, some_value, Stmt, StmtOption, no_stmt, some_stmt, RangeLeft}
+use Rattle.go_tree.specs.Tree.{defines, ValueSpecs, no_specs, spec}
 use Rattle.go_layout.specs.Parens.{needs_parens, is_integer, runs_into, header_within, closed_within}
-use Rattle.scope_names.specs.FreeNames.{names_of, declared, declared_option, defined}
-use Rattle.scope_names.specs.Scopes as scopes
-use Rattle.scope_names.specs.Scopes.{not_blank, sig_declares}
-use Rattle.scope_names.specs.Means.{is_blank}
-use Rattle.go_types.specs.Answers.{given, meets, is_among}
-use Rattle.go_types.specs.Types.{GoType, GoFields, no_go_fields, go_field, element_of, map_parts, fields_of, is_untyped}
-use Rattle.go_types.specs.Defined.{under}
-use Rattle.go_types.specs.Entities.{Builtin, Append, Delete, Panic, Print, Println, run, Env, Binds, defined_in, extend, in_block, is_declared_here}
-use Rattle.go_types.specs.TypeNames.{type_meant, func_type, written_type}
-use Rattle.go_types.specs.Operands.{Operand, value, several, a_function, a_builtin, Typed, typed}
-use Rattle.go_types.specs.Primary.{find_field}
-use Rattle.go_types.specs.Literals.{key_type, inner_type, field_key}
-use Rattle.go_types.specs.Statements.{is_blank_name, right_values}
-use Rattle.go_types.specs.Typing.{parts, all_parts, places, declares, declares_first, range_declares, binds_of}
-use Rattle.go_types.specs.Bodies.{Ctx, in_loop, in_switch, body_ctx, no_values, literal_env}
-use Rattle.go_types.specs.Declarations.{new_constants, new_variables, Repeated}
+use Rattle.go_tree.specs.ScopeNames.FreeNames.{names_of, declared, declared_option, defined}
+use Rattle.go_tree.specs.ScopeNames.Scopes as scopes
+use Rattle.go_tree.specs.ScopeNames.Scopes.{not_blank, sig_declares}
+use Rattle.go_tree.specs.ScopeNames.Means.{is_blank}
+use Rattle.go_tree.specs.GoTypes.Answers.{given, meets, is_among}
+use Rattle.go_tree.specs.GoTypes.Types.{GoType, GoFields, no_go_fields, go_field, element_of, map_parts, fields_of}
+use Rattle.go_tree.specs.GoTypes.Types.{is_untyped}
+use Rattle.go_tree.specs.GoTypes.Defined.{under}
+use Rattle.go_tree.specs.GoTypes.Entities.{Builtin, Append, Delete, Panic, Print, Println, run, Env, Binds, defined_in}
+use Rattle.go_tree.specs.GoTypes.Entities.{extend, in_block, is_declared_here}
+use Rattle.go_tree.specs.GoTypes.TypeNames.{type_meant, func_type, written_type}
+use Rattle.go_tree.specs.GoTypes.Operands.{Operand, value, several, a_function, a_builtin, Typed, typed}
+use Rattle.go_tree.specs.GoTypes.Primary.{find_field}
+use Rattle.go_tree.specs.GoTypes.Literals.{key_type, inner_type, field_key}
+use Rattle.go_tree.specs.GoTypes.Statements.{is_blank_name, right_values}
+use Rattle.go_tree.specs.GoTypes.Typing.{parts, all_parts, places, declares, declares_first, range_declares, binds_of}
+use Rattle.go_tree.specs.GoTypes.Bodies.{Ctx, in_loop, in_switch, body_ctx, no_values, literal_env}
+use Rattle.go_tree.specs.GoTypes.Declarations.{new_constants, new_variables, Repeated}
 
 -- What a place asks of the expression in it.
 pub data Use : Type 0 where

@@ -1,6 +1,7 @@
 -- The text that a form has at its place, and the edits of a step (Go specification, Tokens; Comments; Operators and
 -- punctuation; go/printer of the Go standard library).
-use Rattle.std.specs.Prelude.{ℕ, Bool, false, not, ◌&&◌, ◌||◌, List, [], ◌∷◌, ◌++◌, take, drop, length, Option, Some, None, if◌then◌else◌, nat_eq, nat_le, nat_lt, codes}
+use Rattle.std.specs.Prelude.{ℕ, Bool, false, not, ◌&&◌, ◌||◌, List, [], ◌∷◌, ◌++◌, take, drop}
+use Rattle.std.specs.Prelude.{length, Option, Some, None, if◌then◌else◌, nat_eq, nat_le, nat_lt, codes}
 use Rattle.std.specs.List.{list_any, starts_with, prefix_len}
 use Rattle.go_tree.specs.declared.spans.Span.{Span}
 use Rattle.go_tree.specs.declared.tokens.Token.{Token}
@@ -12,7 +13,7 @@ use Rattle.go_layout.specs.TreeLayout.{expr_layout, stmt_layout, block_layout}
 use Rattle.go_layout.specs.Parens.{header_within, closed_within}
 use Rattle.text_edits.specs.declared.edit.Edit.{Edit}
 use Rattle.import_rules.specs.Removed.{line_start}
-use Rattle.go_types.specs.Answers.{one_of}
+use Rattle.go_tree.specs.GoTypes.Answers.{one_of}
 use Rattle.run_rules.specs.Surroundings.{Slot, is_bracketed}
 use Rattle.run_rules.specs.Calls.{blank}
 use Rattle.run_rules.specs.FormTrees.{Form, as_expr, as_dropped, as_block, as_type}

@@ -5,14 +5,14 @@ use Rattle.std.proofs.lemmas.List.{drop_all}
 use Rattle.go_tree.specs.declared.spans.Span.{Span}
 use Rattle.go_tree.specs.File.{File}
 use Rattle.name_walks.specs.LocalScopes.{scope_of}
-use Rattle.scope_names.specs.declared.names.FileNames.{FileNames}
-use Rattle.scope_names.specs.declared.names.ImportName.{ImportName}
-use Rattle.scope_names.specs.declared.names.Entity.TheVariants.{Import, Package}
-use Rattle.scope_names.specs.Scopes.{decls_scopes}
+use Rattle.go_tree.specs.declared.scope_names.names.FileNames.{FileNames}
+use Rattle.go_tree.specs.declared.scope_names.names.ImportName.{ImportName}
+use Rattle.go_tree.specs.declared.scope_names.names.Entity.TheVariants.{Import, Package}
+use Rattle.go_tree.specs.ScopeNames.Scopes.{decls_scopes}
 use Rattle.scope_tables.specs.Table.{IsTableOf}
 use Rattle.name_walks.specs.declared.walk.LocalScope.{LocalScope}
-use Rattle.scope_names.specs.declared.names.Entity.{Entity}
-use Rattle.scope_names.specs.Means.{or_else, means, numbered, binding}
+use Rattle.go_tree.specs.declared.scope_names.names.Entity.{Entity}
+use Rattle.go_tree.specs.ScopeNames.Means.{or_else, means, numbered, binding}
 use Rattle.scope_tables.specs.declared.rows.Rows.{Rows}
 use Rattle.scope_tables.specs.Building.{locals_of, outside_of, extent_at, extents_named, KeepsLocals, KeepsOutside, AddsLocal, Claims}
 use Rattle.scope_tables.proofs.TableLaws.{grouped, or_none, first_of, table_is}

@@ -1,9 +1,10 @@
 -- A table while it is built.
-use Rattle.std.specs.Prelude.{◌≡◌, ℕ, List, [], ◌∷◌, ◌++◌, Option, if◌then◌else◌, bytes_eq, length}
+use Rattle.std.specs.Prelude.{◌≡◌, ℕ, List, [], ◌∷◌, ◌++◌, Option, if◌then◌else◌, bytes_eq}
+use Rattle.std.specs.Prelude.{length}
 use Rattle.std.specs.List.{position_or_len}
 use Rattle.name_walks.specs.declared.walk.LocalScope.{LocalScope}
-use Rattle.scope_names.specs.declared.names.Entity.{Entity}
-use Rattle.scope_names.specs.Means.{or_else, means, binding}
+use Rattle.go_tree.specs.declared.scope_names.names.Entity.{Entity}
+use Rattle.go_tree.specs.ScopeNames.Means.{or_else, means, binding}
 use Rattle.scope_tables.specs.NamedScopes.{Extent}
 use Rattle.scope_tables.specs.Table.{locals_in, outside_in}
 use Rattle.scope_tables.specs.declared.rows.Rows.{Rows}

@@ -1,8 +1,9 @@
 -- The innermost of the declarations of one name (Go specification, Declarations and scope).
-use Rattle.std.specs.Prelude.{◌≡◌, ◌≤◌, ◌<◌, ◌-◌, ℕ, Bool, true, false, ◌&&◌, nat_le, nat_lt, List, [], ◌∷◌, Option, Some, None, if◌then◌else◌, length, slice_index_or}
+use Rattle.std.specs.Prelude.{◌≡◌, ◌≤◌, ◌<◌, ◌-◌, ℕ, Bool, true, false, ◌&&◌, nat_le, nat_lt}
+use Rattle.std.specs.Prelude.{List, [], ◌∷◌, Option, Some, None, if◌then◌else◌, length, slice_index_or}
 use Rattle.std.specs.List.Sorted.{IsNonDecreasingBy}
 use Rattle.go_tree.specs.declared.spans.Span.{Span}
-use Rattle.scope_names.specs.Means.{or_else}
+use Rattle.go_tree.specs.ScopeNames.Means.{or_else}
 use Rattle.scope_tables.specs.declared.named.Held.{Held}
 use Rattle.scope_tables.specs.declared.named.Way.{Way}
 

@@ -1,12 +1,13 @@
 -- What a table of scopes says of names (Go specification, Declarations and scope).
-use Rattle.std.specs.Prelude.{◌≡◌, ℕ, List, [], ◌∷◌, Option, Some, None, if◌then◌else◌, bytes_eq, slice_get, option_map, option_and_then}
+use Rattle.std.specs.Prelude.{◌≡◌, ℕ, List, [], ◌∷◌, Option, Some, None, if◌then◌else◌, bytes_eq}
+use Rattle.std.specs.Prelude.{slice_get, option_map, option_and_then}
 use Rattle.go_tree.specs.declared.spans.Span.{Span}
 use Rattle.go_tree.specs.File.{File}
-use Rattle.scope_names.specs.declared.names.Entity.{Entity}
-use Rattle.scope_names.specs.declared.names.Entity.TheVariants.{Local, Import, Package, Universe}
-use Rattle.scope_names.specs.declared.names.FileNames.{FileNames}
-use Rattle.scope_names.specs.Means.{or_else, means, numbered, predeclared}
-use Rattle.scope_names.specs.Scopes.{meaning_at, captured_at}
+use Rattle.go_tree.specs.declared.scope_names.names.Entity.{Entity}
+use Rattle.go_tree.specs.declared.scope_names.names.Entity.TheVariants.{Local, Import, Package, Universe}
+use Rattle.go_tree.specs.declared.scope_names.names.FileNames.{FileNames}
+use Rattle.go_tree.specs.ScopeNames.Means.{or_else, means, numbered, predeclared}
+use Rattle.go_tree.specs.ScopeNames.Scopes.{meaning_at, captured_at}
 use Rattle.scope_tables.specs.NamedScopes.{Extent, innermost}
 use Rattle.scope_tables.specs.declared.rows.Row.{Row}
 use Rattle.scope_tables.specs.declared.table.Scopes.{Scopes}

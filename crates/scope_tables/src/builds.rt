@@ -6,9 +6,9 @@ ghost use Rattle.scope_tables.specs.Table.{IsTableOf, table_of};
 
 use crate::rows::{Rows, claim_imports, claim_members, declare_all};
 use crate::table::Scopes;
+use go_tree::scope_names::{FileNames, ImportName};
 use go_tree::{FileTree, NoMemory, Span};
 use names_within::local_scopes;
-use scope_names::{FileNames, ImportName};
 use std::alloc::Global;
 
 fn spec_spans(alloc: Global, imports: &[ImportName]) -> Result<Vec<Span>, NoMemory>

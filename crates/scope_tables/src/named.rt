@@ -1,6 +1,7 @@
 //! The declarations of one name.
 
-ghost use Rattle.std.specs.Prelude.{◌≡◌, ◌≤◌, ◌<◌, ◌-◌, ℕ, Bool, true, false, [], ◌∷◌, ◌++◌, length, map, IfSome, OnOk};
+ghost use Rattle.std.specs.Prelude.{◌≡◌, ◌≤◌, ◌<◌, ◌-◌, ℕ, Bool, true, false, [], ◌∷◌};
+ghost use Rattle.std.specs.Prelude.{◌++◌, length, map, IfSome, OnOk};
 ghost use Rattle.std.specs.List.Sorted.{IsNonDecreasingBy};
 ghost use Rattle.scope_tables.specs.declared.named.Held.{Held};
 ghost use Rattle.scope_tables.specs.NamedScopes.{extent_of, innermost, Behind, Ended, IsLinked, LeadsBack, Follows};

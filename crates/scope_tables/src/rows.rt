@@ -1,15 +1,17 @@
 //! Names with what declares them.
 
-ghost use Rattle.std.specs.Prelude.{◌≡◌, ◌<◌, ◌^◌, ◌++◌, ◌∷◌, [], ℕ, List, Option, Some, None, if◌then◌else◌, bytes_eq, length, map, OnOk, IfOk};
-ghost use Rattle.scope_names.specs.declared.names.Entity.TheVariants.{Import, Package};
-ghost use Rattle.scope_names.specs.Means.{or_else, means, numbered, is_blank};
+ghost use Rattle.std.specs.Prelude.{◌≡◌, ◌<◌, ◌^◌, ◌++◌, ◌∷◌, [], ℕ, List, Option, Some};
+ghost use Rattle.std.specs.Prelude.{None, if◌then◌else◌, bytes_eq, length, map, OnOk, IfOk};
+ghost use Rattle.go_tree.specs.declared.scope_names.names.Entity.TheVariants.{Import, Package};
+ghost use Rattle.go_tree.specs.ScopeNames.Means.{or_else, means, numbered, is_blank};
 ghost use Rattle.scope_tables.specs.Table.{locals_in, outside_in};
-ghost use Rattle.scope_tables.specs.Building.{IsEven, locals_of, outside_of, KeepsLocals, KeepsOutside, AddsLocal, Claims, extents_named, extent_at, position_of};
+ghost use Rattle.scope_tables.specs.Building.{IsEven, locals_of, outside_of, KeepsLocals, KeepsOutside, AddsLocal};
+ghost use Rattle.scope_tables.specs.Building.{Claims, extents_named, extent_at, position_of};
 
 use crate::named::NamedScopes;
+use go_tree::scope_names::{Entity, ImportName};
 use go_tree::{Name, NoMemory, Span};
 use name_walks::{LocalScope, NameSet};
-use scope_names::{Entity, ImportName};
 use std::alloc::Global;
 
 /// What declares a name: its declarations in functions, and what it means outside of them.

@@ -1,15 +1,15 @@
 //! What a name means at a place of a file.
 
 ghost use Rattle.std.specs.Prelude.{◌≡◌, ℕ, List, [], Option, None, option_map, slice_get};
-ghost use Rattle.scope_names.specs.declared.names.Entity.TheVariants.{Local};
-ghost use Rattle.scope_names.specs.Means.{or_else};
+ghost use Rattle.go_tree.specs.declared.scope_names.names.Entity.TheVariants.{Local};
+ghost use Rattle.go_tree.specs.ScopeNames.Means.{or_else};
 ghost use Rattle.scope_tables.specs.NamedScopes.{innermost};
 ghost use Rattle.scope_tables.specs.Table.{captured_in, locals_in, meaning_in, outside_in, part_of, table_of};
 
 use crate::rows::{Row, Rows};
+use go_tree::scope_names::{Entity, predeclared};
 use go_tree::{Name, Span};
 use name_walks::NameSet;
-use scope_names::{Entity, predeclared};
 
 /// What each name means at each place of a file (Go specification, Declarations and scope).
 #[derive(Drop)]

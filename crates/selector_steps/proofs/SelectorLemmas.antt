@@ -1,34 +1,34 @@
 -- Fields and methods as operands.
 use Rattle.std.proofs.Common.{◌≡◌, ◌∙◌, ℕ, List, [], ◌∷◌, map, Option, Some, None, Result, Ok, Err, refl, sym, ap, ap₂, subst, length, arith}
-use Rattle.const_eval.specs.declared.consts.Const.{Const}
-use Rattle.go_types.specs.Answers.{given}
-use Rattle.go_types.specs.Types as type
-use Rattle.go_types.specs.Types.{GoType, base_of}
-use Rattle.go_types.specs.Table.{tuple_node}
-use Rattle.go_types.specs.Defined.{Defined}
-use Rattle.go_types.specs.Entities as go_entity
-use Rattle.go_types.specs.Entities.{run}
-use Rattle.go_types.specs.Operands as go
-use Rattle.go_types.specs.Operands.{value, several, a_type, a_function, a_builtin, recovered, Typed, place_by, plain_value, with_value}
-use Rattle.go_types.specs.Primary.{field_place, field_type, method_value, selected, selected_place}
+use Rattle.go_tree.specs.declared.const_eval.consts.Const.{Const}
+use Rattle.go_tree.specs.GoTypes.Answers.{given}
+use Rattle.go_tree.specs.GoTypes.Types as type
+use Rattle.go_tree.specs.GoTypes.Types.{GoType, base_of}
+use Rattle.go_tree.specs.GoTypes.Table.{tuple_node}
+use Rattle.go_tree.specs.GoTypes.Defined.{Defined}
+use Rattle.go_tree.specs.GoTypes.Entities as go_entity
+use Rattle.go_tree.specs.GoTypes.Entities.{run}
+use Rattle.go_tree.specs.GoTypes.Operands as go
+use Rattle.go_tree.specs.GoTypes.Operands.{value, several, a_type, a_function, a_builtin, recovered, Typed, place_by, plain_value, with_value}
+use Rattle.go_tree.specs.GoTypes.Primary.{field_place, field_type, method_value, selected, selected_place}
 use Rattle.type_table.specs.declared.nodes.TypeId.{TypeId}
 use Rattle.type_table.specs.Rows.{IdsBelow}
 use Rattle.type_table.specs.TypesAt.{type_by}
-use Rattle.type_relations.specs.Environment.{Environment, env_type}
-use Rattle.type_relations.specs.declared.methods.FuncType.{FuncType}
+use Rattle.type_table.specs.TypeRelations.Environment.{Environment, env_type}
+use Rattle.type_table.specs.declared.type_relations.methods.FuncType.{FuncType}
 use Rattle.operand_rules.specs.declared.values.ValueType.TheVariants as variant
 use Rattle.operand_rules.specs.declared.values.Content.TheVariants.{Run}
 use Rattle.operand_rules.specs.declared.values.Value.{Value}
 use Rattle.operand_rules.specs.declared.values.Refusal.{Refusal}
 use Rattle.operand_rules.specs.declared.values.Refusal.TheVariants.{NotTyped, NoMemory}
 use Rattle.operand_rules.specs.Values.{IsType, content_of, type_of, typed_of}
-use Rattle.access_rules.specs.declared.places.Place as place
-use Rattle.access_rules.specs.declared.places.Place.TheVariants.{Addressable, MapElement, Literal, Elsewhere}
-use Rattle.access_rules.specs.Functions.{AreTypes, function_of, types_at}
-use Rattle.access_rules.specs.Places.{place_of}
+use Rattle.operator_rules.specs.declared.access_rules.places.Place as place
+use Rattle.operator_rules.specs.declared.access_rules.places.Place.TheVariants.{Addressable, MapElement, Literal, Elsewhere}
+use Rattle.operator_rules.specs.AccessRules.Functions.{AreTypes, function_of, types_at}
+use Rattle.operator_rules.specs.AccessRules.Places.{place_of}
 use Rattle.typed_names.specs.Meanings.{tuple_list}
-use Rattle.type_exprs.specs.Answers.{GivesType}
-use Rattle.type_exprs.specs.Grown.{TypesGrown}
+use Rattle.typed_names.specs.TypeExprs.Answers.{GivesType}
+use Rattle.typed_names.specs.TypeExprs.Grown.{TypesGrown}
 use Rattle.func_types.specs.Answers as func
 use Rattle.func_types.specs.Answers.{AreTypesOf, func_of}
 use Rattle.func_types.proofs.ParamSteps.{tuple_is, types_same}

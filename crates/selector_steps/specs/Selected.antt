@@ -1,10 +1,10 @@
 -- What a selector gives, as the answer for it tells (Go specification, Selectors; Function types).
 use Rattle.std.specs.Prelude.{◌≡◌, ◌<◌, List, length, Option, Some, None, Result, Ok, Err}
-use Rattle.go_types.specs.Types.{GoType}
-use Rattle.go_types.specs.Entities.{run}
-use Rattle.go_types.specs.Operands.{Operand, a_function, value}
+use Rattle.go_tree.specs.GoTypes.Types.{GoType}
+use Rattle.go_tree.specs.GoTypes.Entities.{run}
+use Rattle.go_tree.specs.GoTypes.Operands.{Operand, a_function, value}
 use Rattle.type_table.specs.declared.nodes.TypeId.{TypeId}
-use Rattle.type_relations.specs.Environment.{Environment, env_type}
+use Rattle.type_table.specs.TypeRelations.Environment.{Environment, env_type}
 use Rattle.operand_rules.specs.declared.values.ValueType.TheVariants.{Typed}
 use Rattle.operand_rules.specs.declared.values.Refusal.{Refusal}
 use Rattle.operand_rules.specs.declared.values.Refusal.TheVariants.{NotTyped, NoMemory}

@@ -1,23 +1,23 @@
 //! Fields and methods that selectors name (Go specification, Selectors).
 
 ghost use Rattle.std.specs.Prelude.{◌≡◌, IfOk, Option, Some};
-ghost use Rattle.go_types.specs.Entities as go_entity;
-ghost use Rattle.go_types.specs.Operands as go_operand;
-ghost use Rattle.go_types.specs.Types as go_type;
-ghost use Rattle.go_types.specs.Primary as go;
-ghost use Rattle.type_relations.specs.Environment.{Environment, defined_types};
+ghost use Rattle.go_tree.specs.GoTypes.Entities as go_entity;
+ghost use Rattle.go_tree.specs.GoTypes.Operands as go_operand;
+ghost use Rattle.go_tree.specs.GoTypes.Types as go_type;
+ghost use Rattle.go_tree.specs.GoTypes.Primary as go;
+ghost use Rattle.type_table.specs.TypeRelations.Environment.{Environment, defined_types};
 ghost use Rattle.operand_rules.specs.Values.{IsType, type_of};
-ghost use Rattle.value_types.specs.ValueTypes.{HasValueTypes};
-ghost use Rattle.access_rules.specs.Places.{place_of};
-ghost use Rattle.access_rules.specs.Selections.{IsSelected, selected_option};
+ghost use Rattle.type_table.specs.ValueTypes.ValueTypes.{HasValueTypes};
+ghost use Rattle.operator_rules.specs.AccessRules.Places.{place_of};
+ghost use Rattle.operator_rules.specs.AccessRules.Selections.{IsSelected, selected_option};
 ghost use Rattle.checker_tables.specs.Ready.{HasFuncTypes};
 ghost use Rattle.selector_steps.specs.Selected.{GivesSelected};
 
-use access_rules::{Place, Selection, selected};
 use go_tree::NoMemory;
 use operand_rules::{Refusal, ValueType};
+use operator_rules::access_rules::{Place, Selection, selected};
 use std::alloc::Global;
-use type_relations::{Env, FuncType};
+use type_table::type_relations::{Env, FuncType};
 use type_table::{TypeId, TypeIdList};
 
 /// What a selector names: a field of this type, or a method.

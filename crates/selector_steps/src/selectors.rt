@@ -1,26 +1,26 @@
 //! Selectors (Go specification, Selectors).
 
 ghost use Rattle.std.specs.Prelude.{◌≡◌, Option, Some};
-ghost use Rattle.go_types.specs.Answers.{given};
-ghost use Rattle.go_types.specs.Entities as go_entity;
-ghost use Rattle.go_types.specs.Operands as go_operand;
-ghost use Rattle.go_types.specs.Entities.{run};
-ghost use Rattle.go_types.specs.Operands.{place_by, value, with_value};
-ghost use Rattle.go_types.specs.Primary as go;
-ghost use Rattle.type_relations.specs.Environment.{defined_types, env_type};
+ghost use Rattle.go_tree.specs.GoTypes.Answers.{given};
+ghost use Rattle.go_tree.specs.GoTypes.Entities as go_entity;
+ghost use Rattle.go_tree.specs.GoTypes.Operands as go_operand;
+ghost use Rattle.go_tree.specs.GoTypes.Entities.{run};
+ghost use Rattle.go_tree.specs.GoTypes.Operands.{place_by, value, with_value};
+ghost use Rattle.go_tree.specs.GoTypes.Primary as go;
+ghost use Rattle.type_table.specs.TypeRelations.Environment.{defined_types, env_type};
 ghost use Rattle.operand_rules.specs.declared.values.ValueType.TheVariants.{Typed};
 ghost use Rattle.operand_rules.specs.Values.{IsType, IsValue, type_of, typed_of};
-ghost use Rattle.access_rules.specs.Places.{place_of};
+ghost use Rattle.operator_rules.specs.AccessRules.Places.{place_of};
 ghost use Rattle.checker_tables.specs.Ready.{AreReady, Keeps};
 ghost use Rattle.operand_answers.specs.Located.{GivesAt, IsLocated, IsThereIfOk};
 
 use crate::functions::function_operand;
 use crate::selections::{Selected, selection};
-use access_rules::{Place, selected_place};
 use checker_tables::Tables;
 use operand_answers::{Located, elsewhere};
 use operand_modes::{Operand, single_value};
 use operand_rules::{Content, Refusal, Value, ValueType};
+use operator_rules::access_rules::{Place, selected_place};
 use std::alloc::Global;
 use type_table::TypeId;
 

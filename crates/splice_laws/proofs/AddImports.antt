@@ -12,10 +12,10 @@ use Rattle.go_tree.specs.declared.tokens.TokenKind.{TokenKind}
 use Rattle.go_tree.specs.declared.tokens.TokenKind.TheVariants.{Ident, Keyword, Operator, Integer, Float, Imaginary, Rune, Str, Inserted}
 use Rattle.go_tree.specs.File.{ImportDecl, File}
 use Rattle.go_tree.specs.FileBare.{bare_file}
-use Rattle.go_words.specs.Tokens.{TokensOf, size_of, span_of, due_after, tokens_from, comments_from, pieces_size}
-use Rattle.go_words.specs.Tokens.Pieces.{token, Piece, keyword_spellings, is_blanks, IsPiece, IsNext}
+use Rattle.go_tree.specs.GoWords.Tokens.{TokensOf, size_of, span_of, due_after, tokens_from, comments_from, pieces_size}
+use Rattle.go_tree.specs.GoWords.Tokens.Pieces.{token, Piece, keyword_spellings, is_blanks, IsPiece, IsNext}
 use Rattle.go_scan.proofs.Derivatives.{and_parts}
-use Rattle.go_words.specs.Terminals.{Terminal, Lexeme, lex, ident, str_lit, semicolon, key_import, key_package, terminal_of, lexeme_of, lexemes, found_in, keywords as key_rows, operators, paren}
+use Rattle.go_tree.specs.GoWords.Terminals.{Terminal, Lexeme, lex, ident, str_lit, semicolon, key_import, key_package, terminal_of, lexeme_of, lexemes, found_in, keywords as key_rows, operators, paren}
 use Rattle.go_read.specs.SpellsTypes.{Lexemes}
 use Rattle.go_read.specs.SpellsSpans.{span_to, end_after}
 use Rattle.go_read.specs.SpellsFiles.{SpellsImport, SpellsFront, SpellsFile, path_rule, named_path_rule, import_rule, import_group_rule, no_imports_rule, more_imports_rule, front_rule}

@@ -2,7 +2,7 @@
 use Rattle.std.proofs.Common.{◌≡◌, Bool, List, ◌∷◌, refl, sym, ap, ◌∙◌}
 use Rattle.go_tree.specs.declared.spans.Span.{Span}
 use Rattle.go_tree.specs.Tree.{NameAt, TypeExpr, Fields, Param}
-use Rattle.go_words.specs.Terminals.{Lexeme, lex, comma, semicolon}
+use Rattle.go_tree.specs.GoWords.Terminals.{Lexeme, lex, comma, semicolon}
 use Rattle.go_read.specs.SpellsTypes.{Lexemes, type_mark, fields_of, params_of, SpellsType, SpellsFields, SpellsEntries, SpellsRest, SpellsNamed, named_rule, qualified_rule, pointer_rule, slice_type_rule, map_type_rule, struct_type_rule, type_parens_rule, no_fields_rule, last_field_rule, more_fields_rule, last_entry_rule, more_entries_rule, rest_rule, named_rest_rule, last_named_rule, comma_named_rule, more_named_rule, rest_named_rule, comma_rest_named_rule}
 use Rattle.splice_laws.specs.Swaps.{OtherFirst, OtherField}
 use Rattle.splice_laws.proofs.Grafts.{Within, here, later, drop, both_within}

@@ -4,7 +4,7 @@ use Rattle.go_tree.specs.declared.tokens.TokenKind.{TokenKind}
 use Rattle.go_scan.proofs.Derivatives.{or_left, or_right}
 use Rattle.go_tree.specs.Tree.{TypeExpr, named, pointer, slice_type, map_type, struct_type, Expr, Stmt, ident, int_lit, rune_lit, str_lit, composite, selector, index, slice, call, func_lit, type_operand, unary, binary, star, const_decl, var_decl, empty, eval, step, assign, define, return_, break_, continue_, inner, if_, for_, range_, switch, defer, label, no_stmt, some_stmt, no_arms, arm}
 use Rattle.go_tree.specs.Bare.{bare_type, bare_expr, bare_stmt}
-use Rattle.go_words.specs.Tokens.Pieces.{Piece}
+use Rattle.go_tree.specs.GoWords.Tokens.Pieces.{Piece}
 use Rattle.go_layout.specs.Layouts.{Layout, no_text, a_token, gap, line, ◌⊕◌, within}
 use Rattle.go_layout.specs.TypeLayout.{type_layout}
 use Rattle.go_layout.specs.Parens.{needs_parens, header_within, closed_within}

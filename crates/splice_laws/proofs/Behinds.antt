@@ -7,14 +7,14 @@ use Rattle.ucd_category.specs.GeneralCategoryRows.{general_category_rows}
 use Rattle.ucd_table.specs.Rows.{value_in}
 use Rattle.go_tree.specs.declared.tokens.TokenKind.{TokenKind}
 use Rattle.go_tree.specs.declared.tokens.TokenKind.TheVariants.{Ident, Keyword, Operator, Integer, Float, Imaginary, Rune, Str, Inserted}
-use Rattle.go_words.specs.Tokens.Characters.{is_letter, is_digit, is_word, is_blank, each}
-use Rattle.go_words.specs.Tokens.Forms.{HasForm}
-use Rattle.go_words.specs.Tokens.Literals.{comment}
-use Rattle.go_words.specs.Tokens.{tokens_from}
-use Rattle.go_words.specs.Tokens.Pieces.{PieceKind, blanks, remark, token, Piece, operator_spellings, operator, no_word_first, is_blanks, IsPiece}
+use Rattle.go_tree.specs.GoWords.Tokens.Characters.{is_letter, is_digit, is_word, is_blank, each}
+use Rattle.go_tree.specs.GoWords.Tokens.Forms.{HasForm}
+use Rattle.go_tree.specs.GoWords.Tokens.Literals.{comment}
+use Rattle.go_tree.specs.GoWords.Tokens.{tokens_from}
+use Rattle.go_tree.specs.GoWords.Tokens.Pieces.{PieceKind, blanks, remark, token, Piece, operator_spellings, operator, no_word_first, is_blanks, IsPiece}
 use Rattle.go_scan.proofs.Derivatives.{and_parts}
 use Rattle.go_scan.proofs.PieceKinds.{never_empty}
-use Rattle.go_words.specs.Terminals.{Terminal, terminal_of, lexemes, found_in, keywords}
+use Rattle.go_tree.specs.GoWords.Terminals.{Terminal, terminal_of, lexemes, found_in, keywords}
 use Rattle.splice_laws.specs.Joints.{PartsTo}
 use Rattle.splice_laws.proofs.Over.{is_piece}
 use Rattle.splice_laws.specs.Ends.{stops, ends_node}

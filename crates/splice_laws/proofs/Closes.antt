@@ -5,8 +5,8 @@ use Rattle.go_tree.specs.declared.operators.UnOp.{UnOp}
 use Rattle.go_tree.specs.declared.operators.UnOp.TheVariants.{Plus, Minus, Not, Flip, Address}
 use Rattle.go_tree.specs.Tree.{NameAt, TypeExpr, Expr, Exprs, Stmt, Stmts, StmtOption, BlockOption, Arms, ValueSpecs}
 use Rattle.go_tree.specs.declared.exprs.Rest.{Rest}
-use Rattle.go_words.specs.Terminals as terminal
-use Rattle.go_words.specs.Terminals.{Terminal, Lexeme, lex, ends_statement, binary_op, increment, decrement, comma, semicolon, colon, dot, ellipsis, paren, end_paren, bracket, end_bracket, brace, end_brace, key_else, key_range, unary_sign}
+use Rattle.go_tree.specs.GoWords.Terminals as terminal
+use Rattle.go_tree.specs.GoWords.Terminals.{Terminal, Lexeme, lex, ends_statement, binary_op, increment, decrement, comma, semicolon, colon, dot, ellipsis, paren, end_paren, bracket, end_bracket, brace, end_brace, key_else, key_range, unary_sign}
 use Rattle.go_read.specs.SpellsTypes.{Lexemes, SpellsType, SpellsNames, named_rule, qualified_rule, pointer_rule, slice_type_rule, map_type_rule, struct_type_rule, type_parens_rule, last_name_rule, more_names_rule}
 use Rattle.go_read.specs.Spells.{is_empty, SpellsLiteralType, SpellsBare, SpellsExpr, SpellsOperand, SpellsExprs, SpellsArgs, SpellsSimple, SpellsStmt, SpellsBlock, SpellsIf, SpellsArm, SpellsDecl, SpellsSpec, named_literal_rule, qualified_literal_rule, type_literal_rule, ident_rule, int_rule, rune_rule, text_rule, composite_rule, func_rule, type_rule, selector_rule, index_rule, slice_rule, call_rule, unary_rule, star_rule, binary_rule, bare_rule, parens_rule, operand_rule, last_expr_rule, more_exprs_rule, no_args_rule, args_rule, comma_args_rule, rest_args_rule, comma_rest_args_rule, eval_rule, increment_rule, decrement_rule, assign_rule, define_rule, empty_rule, simple_rule, const_rule, var_rule, return_rule, return_values_rule, break_rule, break_label_rule, continue_rule, continue_label_rule, block_rule, if_rule, while_rule, for_rule, range_rule, switch_rule, defer_rule, label_rule, braces_rule, only_arm_rule, else_rule, else_if_rule, arm_rule, single_rule, group_rule, repeated_rule, typed_var_rule, values_rule, typed_values_rule}
 use Rattle.go_read.proofs.SpansAside as aside

@@ -5,9 +5,9 @@ use Rattle.go_tree.specs.declared.spans.Span.{Span}
 use Rattle.go_tree.specs.declared.tokens.Token.{Token}
 use Rattle.go_tree.specs.File.{File}
 use Rattle.go_tree.specs.FileBare.{bare_file}
-use Rattle.go_words.specs.Tokens.{size_of, tokens_from, pieces_size}
-use Rattle.go_words.specs.Tokens.Pieces.{Piece}
-use Rattle.go_words.specs.Terminals.{Terminal, lexemes}
+use Rattle.go_tree.specs.GoWords.Tokens.{size_of, tokens_from, pieces_size}
+use Rattle.go_tree.specs.GoWords.Tokens.Pieces.{Piece}
+use Rattle.go_tree.specs.GoWords.Terminals.{Terminal, lexemes}
 use Rattle.go_read.specs.SpellsTypes.{Lexemes}
 use Rattle.go_read.specs.SpellsSpans.{span_to}
 use Rattle.go_read.specs.SpellsFiles.{SpellsFront}

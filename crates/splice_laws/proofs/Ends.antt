@@ -4,9 +4,9 @@ use Rattle.std.specs.Prelude.{codes}
 use Rattle.std.proofs.lemmas.Bool.Decides.{nat_tests}
 use Rattle.std.proofs.lemmas.List.{append_assoc}
 use Rattle.go_tree.specs.declared.tokens.TokenKind.TheVariants.{Ident, Keyword, Operator, Integer, Float, Imaginary, Rune, Str, Inserted}
-use Rattle.go_words.specs.Tokens.Characters.{is_letter, is_word, is_blank, each, is_listed, byte_order_mark}
-use Rattle.go_words.specs.Tokens.Forms.{Form, empty, one_of, both, either, any_of, HasForm, without, listed, unlisted, joined, the_one, the_other, no_more, once_more}
-use Rattle.go_words.specs.Tokens.Pieces.{PieceKind, blanks, remark, token, keyword_spellings, operator_spellings, operator, exactly, is_among, is_identifier, is_blanks, no_word_first, may_precede, IsPiece, IsNext}
+use Rattle.go_tree.specs.GoWords.Tokens.Characters.{is_letter, is_word, is_blank, each, is_listed, byte_order_mark}
+use Rattle.go_tree.specs.GoWords.Tokens.Forms.{Form, empty, one_of, both, either, any_of, HasForm, without, listed, unlisted, joined, the_one, the_other, no_more, once_more}
+use Rattle.go_tree.specs.GoWords.Tokens.Pieces.{PieceKind, blanks, remark, token, keyword_spellings, operator_spellings, operator, exactly, is_among, is_identifier, is_blanks, no_word_first, may_precede, IsPiece, IsNext}
 use Rattle.go_scan.specs.Automaton.{next_of, is_whole, kind_in}
 use Rattle.go_scan.proofs.Derivatives.{and_parts, and_true, has_nothing, has_empty}
 use Rattle.go_scan.proofs.AutomatonLemmas.{below, below_at, run}

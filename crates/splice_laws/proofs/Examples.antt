@@ -11,10 +11,10 @@ use Rattle.go_tree.specs.declared.operators.BinOp.TheVariants.{Sub, Add, Eq, Gt}
 use Rattle.go_tree.specs.declared.operators.UnOp.TheVariants.{Minus}
 use Rattle.go_tree.specs.Tree.{TypeExpr, Sig, named, pointer, struct_type, field, no_fields, defer, Expr, str_lit, composite, selector, slice, call, func_lit, unary, binary, no_exprs, no_expr, some_expr, no_elems, elem, plain, no_value, eval, define, return_, inner, if_, no_stmt, no_block, arm, no_arms, const_decl, no_specs, spec}
 use Rattle.go_tree.specs.File.{values, func, File}
-use Rattle.go_words.specs.Tokens.Pieces.{token, keyword_spellings}
+use Rattle.go_tree.specs.GoWords.Tokens.Pieces.{token, keyword_spellings}
 use Rattle.go_scan.specs.Pieces.{piece_of, lexeme_of}
 use Rattle.go_scan.specs.Automaton.{next_of, longest_from}
-use Rattle.go_words.specs.Tokens.Characters.{is_letter, is_digit}
+use Rattle.go_tree.specs.GoWords.Tokens.Characters.{is_letter, is_digit}
 use Rattle.ucd_category.specs.GeneralCategory.{general_category}
 use Rattle.ucd_category.specs.GeneralCategoryRows.{general_category_rows}
 use Rattle.ucd_table.specs.Rows.{value_in}

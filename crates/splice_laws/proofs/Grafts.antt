@@ -1,7 +1,7 @@
 -- Lists of tokens that end in other tokens.
 use Rattle.std.proofs.Common.{◌≡◌, ℕ, [], ◌∷◌, ◌++◌, length, refl, sym, ap, subst, ◌∙◌, arith, length-append}
 use Rattle.go_tree.specs.declared.spans.Span.{Span}
-use Rattle.go_words.specs.Terminals.{Terminal, Lexeme, lex, comma, paren, end_paren, bracket, key_map, key_struct}
+use Rattle.go_tree.specs.GoWords.Terminals.{Terminal, Lexeme, lex, comma, paren, end_paren, bracket, key_map, key_struct}
 use Rattle.go_read.specs.SpellsTypes.{Lexemes}
 use Rattle.go_read.specs.Spells.{starts_type, follows_type}
 use Rattle.splice_laws.specs.Replaced.{respan}

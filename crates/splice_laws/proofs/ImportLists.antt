@@ -3,7 +3,7 @@ use Rattle.std.proofs.Common.{◌≡◌, inl, inr, Bool, true, false, List, [], 
 use Rattle.go_tree.specs.declared.spans.Span.{Span}
 use Rattle.go_tree.specs.File.{ImportSpec, ImportDecl, File}
 use Rattle.go_tree.specs.FileBare.{bare_import_spec, bare_import_decl, bare_decl, bare_file}
-use Rattle.go_words.specs.Terminals.{Terminal, lex, ident, semicolon, paren, end_paren, key_import, key_package}
+use Rattle.go_tree.specs.GoWords.Terminals.{Terminal, lex, ident, semicolon, paren, end_paren, key_import, key_package}
 use Rattle.go_read.specs.SpellsTypes.{Lexemes}
 use Rattle.go_read.specs.SpellsFiles.{SpellsImportSpec, SpellsImportSpecs, SpellsImport, SpellsImports, SpellsFront, path_rule, named_path_rule, no_import_specs_rule, last_import_spec_rule, more_import_specs_rule, import_rule, import_group_rule, no_imports_rule, more_imports_rule, front_rule}
 use Rattle.go_read.specs.Bareness.{nowhere}

@@ -10,10 +10,10 @@ use Rattle.ucd_table.specs.Rows.{value_in}
 use Rattle.go_tree.specs.declared.tokens.Token.{Token}
 use Rattle.go_tree.specs.declared.tokens.TokenKind.{TokenKind}
 use Rattle.go_tree.specs.declared.tokens.TokenKind.TheVariants.{Ident, Keyword, Operator, Integer, Float, Imaginary, Rune, Str, Inserted}
-use Rattle.go_words.specs.Tokens.Characters.{is_letter, is_word, is_blank, is_digit, byte_order_mark}
-use Rattle.go_words.specs.Tokens.{size_of, tokens_at, due_after, pieces_size, span_of}
-use Rattle.go_words.specs.Tokens.Forms.{HasForm}
-use Rattle.go_words.specs.Tokens.Pieces.{PieceKind, blanks, remark, token, Piece, keyword_spellings, is_among, may_precede, IsPiece, IsNext}
+use Rattle.go_tree.specs.GoWords.Tokens.Characters.{is_letter, is_word, is_blank, is_digit, byte_order_mark}
+use Rattle.go_tree.specs.GoWords.Tokens.{size_of, tokens_at, due_after, pieces_size, span_of}
+use Rattle.go_tree.specs.GoWords.Tokens.Forms.{HasForm}
+use Rattle.go_tree.specs.GoWords.Tokens.Pieces.{PieceKind, blanks, remark, token, Piece, keyword_spellings, is_among, may_precede, IsPiece, IsNext}
 use Rattle.go_scan.specs.Automaton.{next_of, is_whole, kind_in}
 use Rattle.go_scan.specs.Pieces.{piece_of, Exact}
 use Rattle.go_scan.proofs.Derivatives.{and_parts, and_true}

@@ -7,13 +7,13 @@ use Rattle.go_tree.specs.declared.tokens.Token.{Token}
 use Rattle.go_tree.specs.declared.tokens.Comment.{Comment}
 use Rattle.go_tree.specs.File.{File}
 use Rattle.go_tree.specs.FileBare.{bare_file}
-use Rattle.go_words.specs.Tokens.{TokensOf, size_of, pieces_size}
-use Rattle.go_words.specs.Tokens.Characters.{is_word}
-use Rattle.go_words.specs.Tokens.Pieces.{token, Piece, no_word_first, IsPiece, CutsTo}
+use Rattle.go_tree.specs.GoWords.Tokens.{TokensOf, size_of, pieces_size}
+use Rattle.go_tree.specs.GoWords.Tokens.Characters.{is_word}
+use Rattle.go_tree.specs.GoWords.Tokens.Pieces.{token, Piece, no_word_first, IsPiece, CutsTo}
 use Rattle.go_scan.proofs.Derivatives.{and_true}
 use Rattle.go_scan.proofs.PieceKinds.{never_empty}
 use Rattle.layout_laws.proofs.LaidCuts.{cuts_to}
-use Rattle.go_words.specs.Terminals.{lexemes}
+use Rattle.go_tree.specs.GoWords.Terminals.{lexemes}
 use Rattle.go_read.specs.SpellsTypes.{Lexemes}
 use Rattle.go_read.specs.SpellsSpans.{span_to}
 use Rattle.go_read.specs.SpellsFiles.{SpellsFile, SpellsFront}

@@ -5,8 +5,8 @@ use Rattle.std.proofs.lemmas.List.{append-nil}
 use Rattle.go_tree.specs.declared.spans.Span.{Span}
 use Rattle.go_tree.specs.declared.tokens.Token.{Token}
 use Rattle.go_tree.specs.declared.tokens.Comment.{Comment}
-use Rattle.go_words.specs.Tokens.{size_of, comments_at, comments_from, pieces_size}
-use Rattle.go_words.specs.Tokens.Pieces.{PieceKind, blanks, remark, token, Piece}
+use Rattle.go_tree.specs.GoWords.Tokens.{size_of, comments_at, comments_from, pieces_size}
+use Rattle.go_tree.specs.GoWords.Tokens.Pieces.{PieceKind, blanks, remark, token, Piece}
 use Rattle.text_edits.specs.declared.edit.Edit.{Edit}
 use Rattle.splice_laws.specs.Joints.{words_of, IsPart, PartsTo, Fitting, begin_of, moved_comment, left_comments}
 use Rattle.splice_laws.specs.Spots.{Spot}

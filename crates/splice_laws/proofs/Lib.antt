@@ -36,3 +36,9 @@ pub mod ImportsWritten
 pub mod Laws
 pub mod Marks
 pub mod Examples
+pub mod ImportSplices
+pub mod RunLaws
+pub mod FormImports
+pub mod WrittenLiteral
+pub mod ConstantSteps
+pub mod PlaceMeanings

@@ -11,9 +11,9 @@ use Rattle.go_tree.specs.declared.tokens.Token.{Token}
 use Rattle.go_tree.specs.declared.tokens.Comment.{Comment}
 use Rattle.go_tree.specs.declared.tokens.TokenKind.{TokenKind}
 use Rattle.go_tree.specs.declared.tokens.TokenKind.TheVariants.{Ident, Keyword, Str}
-use Rattle.go_words.specs.Tokens.Characters.{is_letter, is_digit, is_word, byte_order_mark}
-use Rattle.go_words.specs.Tokens.{TokensOf, size_of, span_of, due_after, tokens_from, pieces_size, after_mark}
-use Rattle.go_words.specs.Tokens.Pieces.{PieceKind, blanks, token, Piece, keyword_spellings, is_among, IsPiece, IsNext, CutsTo}
+use Rattle.go_tree.specs.GoWords.Tokens.Characters.{is_letter, is_digit, is_word, byte_order_mark}
+use Rattle.go_tree.specs.GoWords.Tokens.{TokensOf, size_of, span_of, due_after, tokens_from, pieces_size, after_mark}
+use Rattle.go_tree.specs.GoWords.Tokens.Pieces.{PieceKind, blanks, token, Piece, keyword_spellings, is_among, IsPiece, IsNext, CutsTo}
 use Rattle.go_scan.specs.Automaton.{next_of, is_whole, kind_in}
 use Rattle.go_scan.proofs.Derivatives.{and_parts}
 use Rattle.go_scan.proofs.AutomatonLemmas.{below, below_at, run}

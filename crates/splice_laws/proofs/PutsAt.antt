@@ -5,7 +5,7 @@ use Rattle.go_tree.specs.declared.operators.BinOp.{BinOp}
 use Rattle.go_tree.specs.declared.operators.BinOp.TheVariants.{Mul, Div, Rem, Shl, Shr, And, AndNot, Add, Sub, Or, Xor, Eq, Ne, Lt, Le, Gt, Ge, LogAnd, LogOr}
 use Rattle.go_tree.specs.Tree.{TypeExpr, Expr, Stmt, Stmts, defer}
 use Rattle.go_tree.specs.Bare.{bare_type, bare_expr, bare_stmt}
-use Rattle.go_words.specs.Terminals.{lex, comma, paren, end_paren, key_defer, level_of}
+use Rattle.go_tree.specs.GoWords.Terminals.{lex, comma, paren, end_paren, key_defer, level_of}
 use Rattle.go_read.specs.SpellsTypes.{Lexemes, type_mark, SpellsType, named_rule, qualified_rule, pointer_rule, slice_type_rule, map_type_rule, struct_type_rule, type_parens_rule}
 use Rattle.go_read.specs.Spells.{is_func_lit, is_empty, starts_type, follows_type, SpellsLiteralType, SpellsBare, SpellsExpr, SpellsOperand, SpellsSimple, SpellsStmt, SpellsBlock, ident_rule, int_rule, rune_rule, text_rule, composite_rule, func_rule, type_rule, selector_rule, index_rule, slice_rule, call_rule, unary_rule, star_rule, binary_rule, bare_rule, parens_rule, operand_rule, eval_rule, increment_rule, decrement_rule, assign_rule, define_rule, empty_rule, simple_rule, const_rule, var_rule, return_rule, return_values_rule, break_rule, break_label_rule, continue_rule, continue_label_rule, block_rule, if_rule, while_rule, for_rule, range_rule, switch_rule, defer_rule, label_rule, braces_rule}
 use Rattle.go_read.specs.Bareness.{nowhere}

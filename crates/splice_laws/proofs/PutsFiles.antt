@@ -2,7 +2,7 @@
 use Rattle.std.proofs.Common.{◌≡◌, true, List, ◌∷◌, map, None, refl}
 use Rattle.go_tree.specs.File.{TypeSpec, Decl, File}
 use Rattle.go_tree.specs.FileBare.{bare_type_spec, bare_decl, bare_file}
-use Rattle.go_words.specs.Terminals.{lex, ident, assign, semicolon, paren, end_paren, key_const, key_func, key_package, key_type, key_var}
+use Rattle.go_tree.specs.GoWords.Terminals.{lex, ident, assign, semicolon, paren, end_paren, key_const, key_func, key_package, key_type, key_var}
 use Rattle.go_read.specs.SpellsTypes.{Lexemes}
 use Rattle.go_read.specs.SpellsFiles.{SpellsTypeSpec, SpellsTypeSpecs, SpellsTop, SpellsTops, SpellsFront, type_spec_rule, alias_spec_rule, no_type_specs_rule, last_type_spec_rule, more_type_specs_rule, top_const_rule, top_var_rule, top_type_rule, top_type_group_rule, top_func_rule, top_method_rule, no_tops_rule, more_tops_rule, front_rule}
 use Rattle.go_read.specs.Bareness.{nowhere}

@@ -4,7 +4,7 @@ use Rattle.go_tree.specs.declared.spans.Span.{Span}
 use Rattle.go_tree.specs.declared.operators.BinOp.TheVariants.{Mul}
 use Rattle.go_tree.specs.Tree.{NameAt, TypeExpr, Fields, no_fields, field, Param, Sig}
 use Rattle.go_tree.specs.Bare.{bare_name, bare_type, bare_fields, bare_param, bare_sig}
-use Rattle.go_words.specs.Terminals.{lex, ident, binary_op, comma, semicolon, ellipsis, paren, end_paren, bracket, end_bracket, brace, end_brace, key_map, key_struct}
+use Rattle.go_tree.specs.GoWords.Terminals.{lex, ident, binary_op, comma, semicolon, ellipsis, paren, end_paren, bracket, end_bracket, brace, end_brace, key_map, key_struct}
 use Rattle.go_read.specs.SpellsTypes.{Lexemes, params_of, fields_of, SpellsFields, no_fields_rule, last_field_rule, more_fields_rule, SpellsType, SpellsEntries, last_entry_rule, more_entries_rule, SpellsRest, rest_rule, named_rest_rule, SpellsNamed, rest_named_rule, comma_rest_named_rule, SpellsUnnamed, rest_unnamed_rule, comma_rest_unnamed_rule, SpellsParams, SpellsResults, SpellsSig, last_named_rule, comma_named_rule, more_named_rule, last_unnamed_rule, comma_unnamed_rule, more_unnamed_rule, no_params_rule, named_params_rule, unnamed_params_rule, no_results_rule, params_results_rule, type_result_rule, sig_rule, named_rule, qualified_rule, pointer_rule, slice_type_rule, map_type_rule, struct_type_rule, type_parens_rule}
 use Rattle.go_read.specs.Spells.{SpellsLiteralType, named_literal_rule, qualified_literal_rule, type_literal_rule}
 use Rattle.go_read.specs.Bareness.{nowhere}

@@ -6,10 +6,10 @@ use Rattle.std.proofs.Math.Utf8.{encode}
 use Rattle.go_tree.specs.declared.spans.Span.{Span}
 use Rattle.go_tree.specs.declared.tokens.Token.{Token}
 use Rattle.go_tree.specs.declared.tokens.Comment.{Comment}
-use Rattle.go_words.specs.Tokens.Characters.{is_listed}
-use Rattle.go_words.specs.Tokens.{TokensOf, after_mark, mark_size, tokens_at, tokens_from, size_of, span_of, inserted, due_after, ends_line}
-use Rattle.go_words.specs.Tokens.Pieces.{PieceKind, blanks, remark, token, Piece, IsPiece, CutsTo}
-use Rattle.go_words.specs.Terminals.{Lexeme, lex, semicolon, terminal_of, lexemes}
+use Rattle.go_tree.specs.GoWords.Tokens.Characters.{is_listed}
+use Rattle.go_tree.specs.GoWords.Tokens.{TokensOf, after_mark, mark_size, tokens_at, tokens_from, size_of, span_of, inserted, due_after, ends_line}
+use Rattle.go_tree.specs.GoWords.Tokens.Pieces.{PieceKind, blanks, remark, token, Piece, IsPiece, CutsTo}
+use Rattle.go_tree.specs.GoWords.Terminals.{Lexeme, lex, semicolon, terminal_of, lexemes}
 use Rattle.go_read.specs.SpellsTypes.{Lexemes}
 use Rattle.go_read.specs.SpellsSpans.{span_to, start_of}
 use Rattle.go_scan.proofs.PieceKinds.{never_empty}

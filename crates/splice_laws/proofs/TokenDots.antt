@@ -14,13 +14,13 @@ use Rattle.go_tree.specs.declared.tokens.TokenKind.{TokenKind}
 use Rattle.go_tree.specs.declared.tokens.TokenKind.TheVariants.{Ident, Keyword, Operator, Integer, Float, Imaginary, Rune, Str, Inserted}
 use Rattle.go_tree.specs.File.{File}
 use Rattle.go_tree.specs.FileBare.{bare_file}
-use Rattle.go_words.specs.Tokens.Characters.{is_listed, is_letter, is_word, each}
-use Rattle.go_words.specs.Tokens.Forms.{Form, nothing, empty, one_of, other_than, both, either, many, HasForm, without, listed, unlisted, joined, the_one, the_other, no_more, once_more}
-use Rattle.go_words.specs.Tokens.Literals.{int_lit, rune_lit, string_lit}
-use Rattle.go_words.specs.Tokens.{TokensOf, after_mark, mark_size, tokens_at, size_of, inserted, due_after, tokens_from}
-use Rattle.go_words.specs.Tokens.Pieces.{PieceKind, blanks, remark, token, Piece, IsPiece, CutsTo}
+use Rattle.go_tree.specs.GoWords.Tokens.Characters.{is_listed, is_letter, is_word, each}
+use Rattle.go_tree.specs.GoWords.Tokens.Forms.{Form, nothing, empty, one_of, other_than, both, either, many, HasForm, without, listed, unlisted, joined, the_one, the_other, no_more, once_more}
+use Rattle.go_tree.specs.GoWords.Tokens.Literals.{int_lit, rune_lit, string_lit}
+use Rattle.go_tree.specs.GoWords.Tokens.{TokensOf, after_mark, mark_size, tokens_at, size_of, inserted, due_after, tokens_from}
+use Rattle.go_tree.specs.GoWords.Tokens.Pieces.{PieceKind, blanks, remark, token, Piece, IsPiece, CutsTo}
 use Rattle.go_scan.proofs.Derivatives.{and_parts, and_true}
-use Rattle.go_words.specs.Terminals.{Terminal, lex, ellipsis, foreign, terminal_of, lexemes}
+use Rattle.go_tree.specs.GoWords.Terminals.{Terminal, lex, ellipsis, foreign, terminal_of, lexemes}
 use Rattle.go_read.specs.SpellsTypes.{Lexemes}
 use Rattle.go_read.specs.SpellsSpans.{span_to}
 use Rattle.go_read.specs.SpellsFiles.{SpellsFile}

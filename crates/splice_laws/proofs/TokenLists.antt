@@ -9,10 +9,10 @@ use Rattle.go_tree.specs.declared.spans.Span.{Span}
 use Rattle.go_tree.specs.declared.tokens.Token.{Token}
 use Rattle.go_tree.specs.declared.tokens.TokenKind.{TokenKind}
 use Rattle.go_tree.specs.declared.tokens.TokenKind.TheVariants.{Ident, Keyword, Operator, Integer, Float, Imaginary, Rune, Str, Inserted}
-use Rattle.go_words.specs.Tokens.{ends_line, inserted, tokens_at, due_after, tokens_from, size_of}
-use Rattle.go_words.specs.Tokens.Characters.{is_listed}
-use Rattle.go_words.specs.Tokens.Pieces.{PieceKind, blanks, remark, token, Piece, is_among}
-use Rattle.go_words.specs.Terminals.{ends_statement, Terminal, Lexeme, lex, semicolon, terminal_of, lexeme_of, lexemes, found_in, keywords, operators}
+use Rattle.go_tree.specs.GoWords.Tokens.{ends_line, inserted, tokens_at, due_after, tokens_from, size_of}
+use Rattle.go_tree.specs.GoWords.Tokens.Characters.{is_listed}
+use Rattle.go_tree.specs.GoWords.Tokens.Pieces.{PieceKind, blanks, remark, token, Piece, is_among}
+use Rattle.go_tree.specs.GoWords.Terminals.{ends_statement, Terminal, Lexeme, lex, semicolon, terminal_of, lexeme_of, lexemes, found_in, keywords, operators}
 use Rattle.go_read.specs.SpellsTypes.{Lexemes}
 use Rattle.go_read.specs.SpellsSpans.{start_of, end_after, span_to}
 use Rattle.go_scan.proofs.Derivatives.{and_parts, or_left, or_right}

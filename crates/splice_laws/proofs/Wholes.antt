@@ -10,9 +10,9 @@ use Rattle.go_tree.specs.declared.tokens.TokenKind.{TokenKind}
 use Rattle.go_tree.specs.declared.tokens.Comment.{Comment}
 use Rattle.go_tree.specs.Tree.{Stmt, empty}
 use Rattle.go_tree.specs.File.{File}
-use Rattle.go_words.specs.Tokens.{TokensOf, size_of, ends_line, tokens_from, comments_from, pieces_size}
-use Rattle.go_words.specs.Tokens.Pieces.{blanks, Piece}
-use Rattle.go_words.specs.Terminals.{ends_statement, Terminal, lex, semicolon, terminal_of, lexemes}
+use Rattle.go_tree.specs.GoWords.Tokens.{TokensOf, size_of, ends_line, tokens_from, comments_from, pieces_size}
+use Rattle.go_tree.specs.GoWords.Tokens.Pieces.{blanks, Piece}
+use Rattle.go_tree.specs.GoWords.Terminals.{ends_statement, Terminal, lex, semicolon, terminal_of, lexemes}
 use Rattle.go_read.specs.SpellsTypes.{Lexemes}
 use Rattle.go_read.specs.Spells.{is_empty}
 use Rattle.go_read.specs.SpellsSpans.{span_to}

@@ -5,7 +5,14 @@
 use Rattle.std.specs.Prelude.{◌≡◌, Bool, true, false, List, [], ◌∷◌}
 use Rattle.go_tree.specs.declared.exprs.Rest.{Rest}
 use Rattle.go_tree.specs.declared.exprs.Rest.TheVariants.{Whole}
-use Rattle.go_tree.specs.Tree.{Expr, Exprs, ExprOption, Elems, Value, ValueOption, Stmt, Stmts, StmtOption, BlockOption, RangeLeft, Arms, Cases, ValueSpecs, ident, int_lit, rune_lit, str_lit, composite, selector, index, slice, call, func_lit, type_operand, unary, binary, star, no_exprs, expr_and, no_expr, some_expr, no_elems, elem, plain, braced, no_value, some_value, const_decl, var_decl, empty, eval, step, assign, define, return_, break_, continue_, inner, if_, for_, range_, switch, defer, label, no_stmts, stmt_and, no_stmt, some_stmt, no_block, some_block, nothing, assigns, defines, no_arms, arm, no_cases, case, no_specs, spec}
+use Rattle.go_tree.specs.Tree.{Expr, Exprs, ExprOption, Elems, Value, ValueOption, Stmt, Stmts, StmtOption, BlockOption}
+use Rattle.go_tree.specs.Tree.{RangeLeft, Arms, Cases, ValueSpecs, ident, int_lit, rune_lit, str_lit, composite}
+use Rattle.go_tree.specs.Tree.{selector, index, slice, call, func_lit, type_operand, unary, binary, star, no_exprs}
+use Rattle.go_tree.specs.Tree.{expr_and, no_expr, some_expr, no_elems, elem, plain, braced, no_value, some_value}
+use Rattle.go_tree.specs.Tree.{const_decl, var_decl, empty, eval, step, assign, define, return_, break_, continue_}
+use Rattle.go_tree.specs.Tree.{inner, if_, for_, range_, switch, defer, label, no_stmts, stmt_and, no_stmt, some_stmt}
+use Rattle.go_tree.specs.Tree.{no_block, some_block, nothing, assigns, defines, no_arms, arm, no_cases, case, no_specs}
+use Rattle.go_tree.specs.Tree.{spec}
 use Rattle.go_tree.specs.File.{Decl, values, types, func, File}
 
 module _ {S : Type 0} where

@@ -1,9 +1,9 @@
 -- The terminals of a text in parts, and parts that are an import (Go specification, Import declarations, Semicolons).
 use Rattle.std.specs.Prelude.{ℕ, ◌+◌, Bool, true, false, List, [], ◌∷◌, ◌++◌, Option, Some, None}
-use Rattle.go_words.specs.Terminals.{Terminal, lex, lexemes}
+use Rattle.go_tree.specs.GoWords.Terminals.{Terminal, lex, lexemes}
 use Rattle.go_read.specs.SpellsTypes.{Lexemes}
-use Rattle.go_words.specs.Tokens.{tokens_from, pieces_size}
-use Rattle.go_words.specs.Tokens.Pieces.{Piece}
+use Rattle.go_tree.specs.GoWords.Tokens.{tokens_from, pieces_size}
+use Rattle.go_tree.specs.GoWords.Tokens.Pieces.{Piece}
 use Rattle.splice_laws.specs.Joints.{given, due_behind}
 
 -- tokens without their spans

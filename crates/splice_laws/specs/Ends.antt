@@ -1,7 +1,9 @@
 -- What begins with a semicolon, and what may follow a node in its place (Go specification, Semicolons, Operators and
 -- punctuation).
 use Rattle.std.specs.Prelude.{Bool, true, false, [], ◌∷◌}
-use Rattle.go_words.specs.Terminals.{Terminal, lex, binary_op, assign, define, increment, decrement, comma, semicolon, colon, dot, ellipsis, paren, end_paren, bracket, end_bracket, brace, end_brace}
+use Rattle.go_tree.specs.GoWords.Terminals.{Terminal, lex, binary_op, assign, define, increment, decrement, comma}
+use Rattle.go_tree.specs.GoWords.Terminals.{semicolon, colon, dot, ellipsis, paren, end_paren, bracket, end_bracket}
+use Rattle.go_tree.specs.GoWords.Terminals.{brace, end_brace}
 use Rattle.go_read.specs.SpellsTypes.{Lexemes}
 
 -- a semicolon comes first

@@ -1,6 +1,9 @@
 -- What spells the node that a swap takes away, and what has to spell the one that it puts in.
 use Rattle.std.specs.Prelude.{◌≡◌, ℕ, ◌≤◌, Bool, true, false}
-use Rattle.go_tree.specs.Tree.{Expr, Stmt, ident, int_lit, rune_lit, str_lit, composite, selector, index, slice, call, func_lit, type_operand, unary, binary, star, const_decl, var_decl, empty, eval, step, assign, define, return_, break_, continue_, inner, if_, for_, range_, switch, defer, label}
+use Rattle.go_tree.specs.Tree.{Expr, Stmt, ident, int_lit, rune_lit, str_lit, composite, selector, index, slice, call}
+use Rattle.go_tree.specs.Tree.{func_lit, type_operand, unary, binary, star, const_decl, var_decl, empty, eval, step}
+use Rattle.go_tree.specs.Tree.{assign, define, return_, break_, continue_, inner, if_, for_, range_, switch, defer}
+use Rattle.go_tree.specs.Tree.{label}
 use Rattle.go_tree.specs.Bare.{bare_type, bare_expr, bare_stmt}
 use Rattle.go_read.specs.SpellsTypes.{Lexemes, type_mark, SpellsType}
 use Rattle.go_read.specs.Spells.{is_empty, follows_type, SpellsLiteralType, SpellsBare, SpellsExpr, SpellsStmt}

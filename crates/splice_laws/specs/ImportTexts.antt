@@ -1,11 +1,12 @@
 -- An import written into a text (Go specification, Import declarations).
-use Rattle.std.specs.Prelude.{◌≡◌, ℕ, true, false, List, [], ◌∷◌, Option, Some, None, encode_utf8_all, codes}
+use Rattle.std.specs.Prelude.{◌≡◌, ℕ, true, false, List, [], ◌∷◌, Option, Some, None, encode_utf8_all}
+use Rattle.std.specs.Prelude.{codes}
 use Rattle.std.specs.Str.{all_scalars}
 use Rattle.go_tree.specs.declared.tokens.TokenKind.TheVariants.{Ident, Keyword, Str}
 use Rattle.go_tree.specs.Tree.{NameAt}
 use Rattle.go_tree.specs.File.{ImportDecl, File}
-use Rattle.go_words.specs.Tokens.Pieces.{blanks, token, Piece, IsPiece}
-use Rattle.go_words.specs.Texts.{text_value}
+use Rattle.go_tree.specs.GoWords.Tokens.Pieces.{blanks, token, Piece, IsPiece}
+use Rattle.go_tree.specs.GoWords.Texts.{text_value}
 use Rattle.splice_laws.specs.Joints.{words_of}
 
 -- a name or none, and a string literal

@@ -3,7 +3,7 @@ use Rattle.std.specs.Prelude.{◌≡◌, ◌⊎◌, true, List, [], ◌∷◌, �
 use Rattle.go_tree.specs.declared.spans.Span.{Span}
 use Rattle.go_tree.specs.Tree.{NameAt}
 use Rattle.go_tree.specs.File.{ImportSpec, ImportDecl, Decl, File}
-use Rattle.go_words.specs.Terminals.{lex, semicolon}
+use Rattle.go_tree.specs.GoWords.Terminals.{lex, semicolon}
 use Rattle.go_read.specs.SpellsTypes.{Lexemes}
 use Rattle.go_read.specs.SpellsFiles.{SpellsImportSpec, SpellsImport}
 use Rattle.go_read.specs.Bareness.{nowhere}

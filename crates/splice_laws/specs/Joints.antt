@@ -1,6 +1,8 @@
 -- A text in parts: its tokens, comments and blanks, where a run of blanks may be in several parts (Go specification,
 -- Tokens, Comments). So a text can be parted within blanks too, as at the start of a line.
-use Rattle.std.specs.Prelude.{◌≡◌, ◌⊎◌, ℕ, ◌+◌, ◌==◌, Bool, true, false, not, ◌&&◌, nat_eq, nat_le, bytes_eq, if◌then◌else◌, List, [], ◌∷◌, ◌++◌, Option, encode_utf8_all, codes}
+use Rattle.std.specs.Prelude.{◌≡◌, ◌⊎◌, ℕ, ◌+◌, ◌==◌, Bool, true, false, not, ◌&&◌, nat_eq}
+use Rattle.std.specs.Prelude.{nat_le, bytes_eq, if◌then◌else◌, List, [], ◌∷◌, ◌++◌, Option}
+use Rattle.std.specs.Prelude.{encode_utf8_all, codes}
 use Rattle.std.specs.Str.{all_scalars}
 use Rattle.go_tree.specs.declared.spans.Span.{Span}
 use Rattle.go_tree.specs.declared.tokens.Token.{Token}
@@ -10,9 +12,9 @@ use Rattle.go_tree.specs.declared.tokens.TokenKind.TheVariants.{Integer, Operato
 unfoldable pub use Rattle.layout_laws.specs.LayoutPieces.{due_behind}
 use Rattle.text_edits.specs.declared.edit.Edit.{Edit}
 use Rattle.text_edits.specs.InTurn.{moved_offset}
-use Rattle.go_words.specs.Tokens.Characters.{byte_order_mark}
-use Rattle.go_words.specs.Tokens.{size_of, tokens_at, due_after, pieces_size}
-use Rattle.go_words.specs.Tokens.Pieces.{PieceKind, blanks, remark, token, Piece, is_blanks, IsNext}
+use Rattle.go_tree.specs.GoWords.Tokens.Characters.{byte_order_mark}
+use Rattle.go_tree.specs.GoWords.Tokens.{size_of, tokens_at, due_after, pieces_size}
+use Rattle.go_tree.specs.GoWords.Tokens.Pieces.{PieceKind, blanks, remark, token, Piece, is_blanks, IsNext}
 
 -- the characters of pieces
 abbrev pub words_of : List Piece → List ℕ

@@ -1,7 +1,7 @@
 -- Tokens with those of one node replaced.
 use Rattle.std.specs.Prelude.{◌≡◌, ◌<◌, ℕ, true, [], ◌∷◌, ◌++◌, length}
 use Rattle.go_tree.specs.declared.spans.Span.{Span}
-use Rattle.go_words.specs.Terminals.{lex}
+use Rattle.go_tree.specs.GoWords.Terminals.{lex}
 use Rattle.go_read.specs.SpellsTypes.{Lexemes}
 use Rattle.splice_laws.specs.Swaps.{Swap}
 use Rattle.splice_laws.specs.Ends.{ends_node}

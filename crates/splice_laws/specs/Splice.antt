@@ -1,5 +1,6 @@
 -- A form put into a text in place of a node.
-use Rattle.std.specs.Prelude.{◌≡◌, ℕ, Bool, true, false, not, ◌&&◌, ◌||◌, nat_eq, List, [], ◌∷◌, ◌++◌, length, drop, Option, Some, None}
+use Rattle.std.specs.Prelude.{◌≡◌, ℕ, Bool, true, false, not, ◌&&◌, ◌||◌, nat_eq, List, [], ◌∷◌}
+use Rattle.std.specs.Prelude.{◌++◌, length, drop, Option, Some, None}
 use Rattle.std.specs.Str.{chars}
 use Rattle.go_tree.specs.declared.spans.Span.{Span}
 use Rattle.go_tree.specs.declared.tokens.Token.{Token}
@@ -8,8 +9,8 @@ use Rattle.go_tree.specs.declared.tokens.TokenKind.{TokenKind}
 use Rattle.go_tree.specs.declared.tokens.TokenKind.TheVariants.{Inserted}
 use Rattle.go_tree.specs.File.{File}
 use Rattle.go_tree.specs.FileBare.{bare_file}
-use Rattle.go_words.specs.Tokens.{TokensOf}
-use Rattle.go_words.specs.Tokens.Pieces.{PieceKind, Piece}
+use Rattle.go_tree.specs.GoWords.Tokens.{TokensOf}
+use Rattle.go_tree.specs.GoWords.Tokens.Pieces.{PieceKind, Piece}
 use Rattle.go_scan.specs.Pieces.{piece_of}
 use Rattle.go_read.specs.SpellsFiles.{SpellsFile}
 use Rattle.go_layout.specs.Layouts.{Layout, text_of}

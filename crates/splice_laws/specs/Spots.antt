@@ -4,8 +4,8 @@ use Rattle.go_tree.specs.declared.spans.Span.{Span}
 use Rattle.go_tree.specs.declared.tokens.Token.{Token}
 use Rattle.go_tree.specs.declared.tokens.Comment.{Comment}
 use Rattle.go_tree.specs.declared.tokens.TokenKind.{TokenKind}
-use Rattle.go_words.specs.Tokens.{size_of, ends_line, tokens_from, comments_from}
-use Rattle.go_words.specs.Tokens.Pieces.{token, Piece, CutsTo}
+use Rattle.go_tree.specs.GoWords.Tokens.{size_of, ends_line, tokens_from, comments_from}
+use Rattle.go_tree.specs.GoWords.Tokens.Pieces.{token, Piece, CutsTo}
 use Rattle.splice_laws.specs.Joints.{InnerEnd, Parted, begin_of, span_within, given, due_behind}
 
 -- The text in parts: `front`, `node` and `back` are the tokens before a span, within it and behind it, and `last` is

@@ -8,9 +8,14 @@ use Rattle.std.specs.Prelude.{◌≡◌, ℕ, ◌+◌, Bool, true, false, List, 
 use Rattle.go_tree.specs.declared.operators.UnOp.{UnOp}
 use Rattle.go_tree.specs.declared.operators.BinOp.{BinOp}
 use Rattle.go_tree.specs.declared.exprs.Rest.{Rest}
-use Rattle.go_tree.specs.Tree.{NameAt, TypeExpr, pointer, slice_type, map_type, struct_type, Fields, no_fields, field, Param, Sig, Expr, Exprs, ExprOption, Elems, Value, ValueOption, Stmt, Stmts, StmtOption, BlockOption, RangeLeft, Arms, Cases, ValueSpecs, composite, selector, index, slice, call, func_lit, type_operand, unary, binary, star, expr_and, some_expr, elem, plain, braced, some_value, const_decl, var_decl, eval, step, assign, define, return_, inner, if_, for_, range_, switch, defer, label, stmt_and, some_stmt, some_block, assigns, arm, case, spec}
+use Rattle.go_tree.specs.Tree.{NameAt, TypeExpr, pointer, slice_type, map_type, struct_type, Fields, no_fields, field}
+use Rattle.go_tree.specs.Tree.{Param, Sig, Expr, Exprs, ExprOption, Elems, Value, ValueOption, Stmt, Stmts, StmtOption}
+use Rattle.go_tree.specs.Tree.{BlockOption, RangeLeft, Arms, Cases, ValueSpecs, composite, selector, index, slice, call}
+use Rattle.go_tree.specs.Tree.{func_lit, type_operand, unary, binary, star, expr_and, some_expr, elem, plain, braced}
+use Rattle.go_tree.specs.Tree.{some_value, const_decl, var_decl, eval, step, assign, define, return_, inner, if_, for_}
+use Rattle.go_tree.specs.Tree.{range_, switch, defer, label, stmt_and, some_stmt, some_block, assigns, arm, case, spec}
 use Rattle.go_tree.specs.File.{ImportDecl, TypeSpec, Receiver, Decl, values, types, func, File}
-use Rattle.go_words.specs.Terminals.{level_of}
+use Rattle.go_tree.specs.GoWords.Terminals.{level_of}
 
 -- What is replaced in which place, and by what.
 pub data Swap (S : Type 0) : Type 0 where

@@ -11,7 +11,7 @@ ghost use Rattle.splice_laws.specs.Fits.{swap_mark};
 ghost use Rattle.splice_laws.specs.Forms.{new_layout};
 ghost use Rattle.splice_laws.specs.Splice.{are_apart, first_word, splice, spliced_text, ReadsAs, ReadsWith, IsPut};
 ghost use Rattle.std.specs.Prelude.{◌≡◌, true, false, drop};
-ghost use Rattle.go_words.specs.Tokens.{TokensOf};
+ghost use Rattle.go_tree.specs.GoWords.Tokens.{TokensOf};
 ghost use Rattle.go_read.specs.SpellsFiles.{SpellsFile};
 ghost use Rattle.layout_laws.specs.Laid.{is_indent};
 ghost use Rattle.splice_laws.specs.Joints.{begins_with_dot, dots_apart, left_comments};

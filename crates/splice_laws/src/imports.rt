@@ -3,7 +3,7 @@
 ghost use Rattle.std.specs.Prelude.{◌≡◌, ℕ, List, [], ◌∷◌, ◌++◌, codes, encode_utf8_all};
 ghost use Rattle.go_tree.specs.declared.tokens.Token.{Token};
 ghost use Rattle.go_tree.specs.declared.tokens.Comment.{Comment};
-ghost use Rattle.go_words.specs.Tokens.{TokensOf};
+ghost use Rattle.go_tree.specs.GoWords.Tokens.{TokensOf};
 ghost use Rattle.go_read.specs.SpellsFiles.{SpellsFile};
 ghost use Rattle.text_edits.specs.Applied.{applied};
 ghost use Rattle.splice_laws.specs.Joints.{words_of};

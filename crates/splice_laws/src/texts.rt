@@ -4,10 +4,11 @@ ghost use Rattle.std.specs.Prelude.{◌≡◌, ℕ, ◌+◌, true, List, [], ◌
 ghost use Rattle.go_tree.specs.declared.spans.Span.{Span};
 ghost use Rattle.go_tree.specs.declared.tokens.Token.{Token};
 ghost use Rattle.go_tree.specs.declared.tokens.Comment.{Comment};
-ghost use Rattle.go_words.specs.Tokens.{TokensOf, size_of, tokens_from, comments_from, pieces_size};
-ghost use Rattle.go_words.specs.Tokens.Pieces.{Piece};
+ghost use Rattle.go_tree.specs.GoWords.Tokens.{TokensOf, size_of, tokens_from, comments_from, pieces_size};
+ghost use Rattle.go_tree.specs.GoWords.Tokens.Pieces.{Piece};
 ghost use Rattle.text_edits.specs.Applied.{applied};
-ghost use Rattle.splice_laws.specs.Joints.{InnerEnd, LastEnds, Parted, Fitting, begin_of, span_within, due_behind, dots_apart, Spans};
+ghost use Rattle.splice_laws.specs.Joints.{InnerEnd, LastEnds, Parted, Fitting, begin_of, span_within, due_behind};
+ghost use Rattle.splice_laws.specs.Joints.{dots_apart, Spans};
 ghost use Rattle.splice_laws.specs.Spots.{Spot};
 
 /// A text in parts has the tokens and comments of its parts; and where a span of it begins and ends with whole

@@ -9,14 +9,14 @@ use Rattle.go_tree.specs.declared.stmts.ConstSpec as source
 use Rattle.go_tree.specs.Lists.{specs_from}
 use Rattle.go_tree.specs.Tree.{NameAt, TypeExpr, Exprs, no_exprs, expr_and, ValueSpecs, no_specs, spec}
 use Rattle.go_tree.specs.View.{const_spec_of}
-use Rattle.scope_names.specs.FreeNames.{free_type_option, names_of}
-use Rattle.go_types.specs.Answers.{both, given, only_if, without}
-use Rattle.go_types.specs.Types.{GoType}
-use Rattle.go_types.specs.Declarations.{Declared, Repeated, all_used, and_then, beyond, bind_all, bind_each, bound_names, constant_entity, constants_declared, may_declare, names_once, new_constants, not_blank, nothing_to_repeat}
-use Rattle.go_types.specs.Entities.{Binds, Env, defined_in, extend, is_declared_here, refused}
-use Rattle.go_types.specs.Operands.{Operand, all_typed}
-use Rattle.go_types.specs.TypeNames.{written_type}
-use Rattle.go_types.specs.Typing.{declares_constants, used_all, used_constants}
+use Rattle.go_tree.specs.ScopeNames.FreeNames.{free_type_option, names_of}
+use Rattle.go_tree.specs.GoTypes.Answers.{both, given, only_if, without}
+use Rattle.go_tree.specs.GoTypes.Types.{GoType}
+use Rattle.go_tree.specs.GoTypes.Declarations.{Declared, Repeated, all_used, and_then, beyond, bind_all, bind_each, bound_names, constant_entity, constants_declared, may_declare, names_once, new_constants, not_blank, nothing_to_repeat}
+use Rattle.go_tree.specs.GoTypes.Entities.{Binds, Env, defined_in, extend, is_declared_here, refused}
+use Rattle.go_tree.specs.GoTypes.Operands.{Operand, all_typed}
+use Rattle.go_tree.specs.GoTypes.TypeNames.{written_type}
+use Rattle.go_tree.specs.GoTypes.Typing.{declares_constants, used_all, used_constants}
 use Rattle.typed_names.specs.declared.scopes.Scope.{Scope}
 use Rattle.typed_names.specs.Meanings.{Names}
 use Rattle.checker_tables.specs.declared.tables.Tables.{Tables}
@@ -26,7 +26,7 @@ use Rattle.operand_rules.specs.declared.values.Refusal.TheVariants.{NotTyped, No
 use Rattle.operand_rules.proofs.OpenedLemmas.{some_same}
 use Rattle.operand_answers.specs.Known.{Stands}
 use Rattle.operand_answers.proofs.KeptLemmas.{keeps_on, keeps_self}
-use Rattle.type_exprs.proofs.NewNames.{drop_all, drop_item}
+use Rattle.typed_names.proofs.TypeExprs.NewNames.{drop_all, drop_item}
 use Rattle.control_steps.specs.LocalBlocks.Places.{IsPlace, IsWithin}
 use Rattle.assignment_steps.proofs.DeclaredBlocks.BlockLemmas.{extend_more, within_on, within_self}
 use Rattle.jump_rules.specs.declared.used_locals.pending.PendingName.{PendingName}

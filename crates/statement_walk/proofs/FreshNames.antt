@@ -3,13 +3,13 @@ use Rattle.std.proofs.Common.{◌≡◌, ◌∙◌, ◌++◌, ◌&&◌, ◌||◌
 use Rattle.std.specs.List.{list_all, list_any}
 use Rattle.std.proofs.lemmas.Option.{none-some}
 use Rattle.std.proofs.lemmas.Slice.Eq.{bytes_eq-Decides}
-use Rattle.scope_names.specs.Means.{is_blank}
-use Rattle.go_types.specs.Answers.{both, distinct_by, given, is_among, is_empty, only_if}
-use Rattle.go_types.specs.Types.{GoType}
-use Rattle.go_types.specs.Defined.{Defined}
-use Rattle.go_types.specs.Declarations.{Declared, assigns_to, bind_all, bind_each, bound_names, defined_by, may_declare, names_once, new_by_define, new_variables, not_blank, some_declared, variable_entity, variables_declared}
-use Rattle.go_types.specs.Entities.{Binds, Entity, Env, defined_in, is_declared_here, meaning, variable}
-use Rattle.go_types.specs.Operands.{Typed}
+use Rattle.go_tree.specs.ScopeNames.Means.{is_blank}
+use Rattle.go_tree.specs.GoTypes.Answers.{both, distinct_by, given, is_among, is_empty, only_if}
+use Rattle.go_tree.specs.GoTypes.Types.{GoType}
+use Rattle.go_tree.specs.GoTypes.Defined.{Defined}
+use Rattle.go_tree.specs.GoTypes.Declarations.{Declared, assigns_to, bind_all, bind_each, bound_names, defined_by, may_declare, names_once, new_by_define, new_variables, not_blank, some_declared, variable_entity, variables_declared}
+use Rattle.go_tree.specs.GoTypes.Entities.{Binds, Entity, Env, defined_in, is_declared_here, meaning, variable}
+use Rattle.go_tree.specs.GoTypes.Operands.{Typed}
 use Rattle.operand_rules.proofs.OpenedLemmas.{some_same}
 use Rattle.jump_rules.specs.declared.used_locals.pending.PendingName.{PendingName}
 use Rattle.jump_rules.specs.UsedLocals.Laws.{AreNew}

@@ -3,13 +3,13 @@ use Rattle.std.proofs.Common.{◌≡◌, ◌∙◌, ◌++◌, ◌&&◌, ◌||◌
 use Rattle.std.proofs.lemmas.Slice.Eq.{bytes_eq-Decides}
 use Rattle.std.proofs.lemmas.List.{map-append}
 use Rattle.std.specs.List.{list_all}
-use Rattle.const_eval.specs.declared.consts.Const.{Const}
-use Rattle.scope_names.specs.Means.{is_blank}
-use Rattle.go_types.specs.Answers.{is_among, only_if}
-use Rattle.go_types.specs.Declarations.{Declared, all_used, beyond, bound_names, not_blank}
-use Rattle.go_types.specs.Entities as go
-use Rattle.go_types.specs.Entities.{Binds, Env, extend, is_declared_here}
-use Rattle.type_relations.specs.Environment.{Environment}
+use Rattle.go_tree.specs.declared.const_eval.consts.Const.{Const}
+use Rattle.go_tree.specs.ScopeNames.Means.{is_blank}
+use Rattle.go_tree.specs.GoTypes.Answers.{is_among, only_if}
+use Rattle.go_tree.specs.GoTypes.Declarations.{Declared, all_used, beyond, bound_names, not_blank}
+use Rattle.go_tree.specs.GoTypes.Entities as go
+use Rattle.go_tree.specs.GoTypes.Entities.{Binds, Env, extend, is_declared_here}
+use Rattle.type_table.specs.TypeRelations.Environment.{Environment}
 use Rattle.typed_names.specs.declared.scopes.Scope.{Scope}
 use Rattle.typed_names.specs.declared.entities.Entity.{Entity}
 use Rattle.typed_names.specs.Meanings.{Names, entity_at, entity_option}
@@ -24,7 +24,7 @@ use Rattle.jump_rules.specs.UsedLocals.Walked.{IsWalked}
 use Rattle.jump_rules.proofs.UsedLocals.ScopeLaws.{blanks_skipped, parts_declare}
 use Rattle.go_tree.specs.declared.spans.Span.{Span}
 use Rattle.go_tree.specs.Tree.{Exprs}
-use Rattle.go_types.specs.Typing.{used_all}
+use Rattle.go_tree.specs.GoTypes.Typing.{used_all}
 use Rattle.operand_rules.specs.declared.values.Refusal.{Refusal}
 use Rattle.operand_rules.specs.declared.values.Refusal.TheVariants.{NotTyped, NoMemory}
 use Rattle.control_steps.proofs.LocalBlocks.PlaceLemmas.{places_are_environments}

@@ -2,14 +2,14 @@
 use Rattle.std.proofs.Common.{◌≡◌, ◌∙◌, ◌++◌, ℕ, List, [], Option, Some, cond, refl, ap, ap₂}
 use Rattle.go_tree.specs.declared.spans.Span.{Span}
 use Rattle.go_tree.specs.Tree.{Expr, ident, int_lit, rune_lit, str_lit, composite, selector, index, slice, call, func_lit, type_operand, unary, binary, star, Exprs, no_exprs, expr_and, ExprOption, no_expr, some_expr, Elems, no_elems, elem, Value, plain, braced, ValueOption, no_value, some_value}
-use Rattle.scope_names.specs.FreeNames.{free_type}
-use Rattle.go_types.specs.Answers.{given, meets}
-use Rattle.go_types.specs.Types.{GoType}
-use Rattle.go_types.specs.Defined.{under}
-use Rattle.go_types.specs.Entities.{Env, defined_in}
-use Rattle.go_types.specs.Literals.{inner_type, is_struct, key_type, literal_type}
-use Rattle.go_types.specs.TypeNames.{type_meant}
-use Rattle.go_types.specs.Typing.{used, used_all, used_elems, used_key, used_option, used_value}
+use Rattle.go_tree.specs.ScopeNames.FreeNames.{free_type}
+use Rattle.go_tree.specs.GoTypes.Answers.{given, meets}
+use Rattle.go_tree.specs.GoTypes.Types.{GoType}
+use Rattle.go_tree.specs.GoTypes.Defined.{under}
+use Rattle.go_tree.specs.GoTypes.Entities.{Env, defined_in}
+use Rattle.go_tree.specs.GoTypes.Literals.{inner_type, is_struct, key_type, literal_type}
+use Rattle.go_tree.specs.GoTypes.TypeNames.{type_meant}
+use Rattle.go_tree.specs.GoTypes.Typing.{used, used_all, used_elems, used_key, used_option, used_value}
 use Rattle.control_steps.specs.LocalBlocks.Places.{in_block_of}
 use Rattle.control_steps.proofs.LocalBlocks.SeenNames.{type_seen}
 use Rattle.expr_walk.specs.Walked.{AreAllWalked, AreWalkedElems, IsWalked, IsWalkedKey, IsWalkedOption, IsWalkedValue}

@@ -8,11 +8,11 @@ use Rattle.go_tree.specs.declared.stmts.VarSpec as source
 use Rattle.go_tree.specs.Lists.{specs_from}
 use Rattle.go_tree.specs.Tree.{ValueSpecs, no_specs, spec}
 use Rattle.go_tree.specs.View.{var_spec_of}
-use Rattle.scope_names.specs.FreeNames.{free_type_option, names_of}
-use Rattle.go_types.specs.Answers.{given, is_among, only_if, without}
-use Rattle.go_types.specs.Declarations.{Declared, all_used, and_then, beyond, binds_of, bound_names, no_names, unused_after}
-use Rattle.go_types.specs.Entities.{Binds, Entity, Env, extend, is_declared_here}
-use Rattle.go_types.specs.Typing.{declares_variables, used_all, used_variables}
+use Rattle.go_tree.specs.ScopeNames.FreeNames.{free_type_option, names_of}
+use Rattle.go_tree.specs.GoTypes.Answers.{given, is_among, only_if, without}
+use Rattle.go_tree.specs.GoTypes.Declarations.{Declared, all_used, and_then, beyond, binds_of, bound_names, no_names, unused_after}
+use Rattle.go_tree.specs.GoTypes.Entities.{Binds, Entity, Env, extend, is_declared_here}
+use Rattle.go_tree.specs.GoTypes.Typing.{declares_variables, used_all, used_variables}
 use Rattle.typed_names.specs.declared.scopes.Scope.{Scope}
 use Rattle.typed_names.specs.Meanings.{Names}
 use Rattle.checker_tables.specs.declared.tables.Tables.{Tables}
@@ -21,7 +21,7 @@ use Rattle.operand_rules.specs.declared.values.Refusal.{Refusal}
 use Rattle.operand_rules.specs.declared.values.Refusal.TheVariants.{NotTyped, NoMemory}
 use Rattle.operand_answers.specs.Known.{Stands}
 use Rattle.operand_answers.proofs.KeptLemmas.{keeps_on, keeps_self}
-use Rattle.type_exprs.proofs.NewNames.{drop_all, drop_item}
+use Rattle.typed_names.proofs.TypeExprs.NewNames.{drop_all, drop_item}
 use Rattle.control_steps.specs.LocalBlocks.Places.{IsPlace, IsWithin}
 use Rattle.assignment_steps.proofs.DeclaredBlocks.BlockLemmas.{extend_more, within_on, within_self}
 use Rattle.jump_rules.specs.declared.used_locals.pending.PendingName.{PendingName}

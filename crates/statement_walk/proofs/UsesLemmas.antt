@@ -2,14 +2,14 @@
 use Rattle.std.proofs.Common.{◌≡◌, ◌∙◌, ◌++◌, ℕ, Bool, true, false, cond, List, [], Option, Result, OnOk, IfSome, refl, sym, ap, ap₂, subst}
 use Rattle.go_tree.specs.declared.spans.Span.{Span}
 use Rattle.go_tree.specs.Tree.{Value, ValueOption}
-use Rattle.go_types.specs.Answers.{given, meets}
-use Rattle.go_types.specs.Defined.{Defined}
-use Rattle.go_types.specs.Types.{GoType}
-use Rattle.go_types.specs.Entities.{Env}
-use Rattle.go_types.specs.Literals.{inner_type, is_struct}
-use Rattle.go_types.specs.Typing.{used_key, used_value}
+use Rattle.go_tree.specs.GoTypes.Answers.{given, meets}
+use Rattle.go_tree.specs.GoTypes.Defined.{Defined}
+use Rattle.go_tree.specs.GoTypes.Types.{GoType}
+use Rattle.go_tree.specs.GoTypes.Entities.{Env}
+use Rattle.go_tree.specs.GoTypes.Literals.{inner_type, is_struct}
+use Rattle.go_tree.specs.GoTypes.Typing.{used_key, used_value}
 use Rattle.type_table.specs.declared.nodes.TypeId.{TypeId}
-use Rattle.type_relations.specs.Environment.{defined_types}
+use Rattle.type_table.specs.TypeRelations.Environment.{defined_types}
 use Rattle.operand_rules.specs.declared.values.ValueType.TheVariants.{Typed}
 use Rattle.operand_rules.specs.Values.{IsType}
 use Rattle.operator_rules.specs.Settling.{typed_option}

@@ -4,16 +4,17 @@
 ghost use Rattle.std.specs.Prelude.{◌≡◌, ◌++◌, [], map};
 ghost use Rattle.std.specs.Option.{option_map};
 ghost use Rattle.go_tree.specs.View.{const_specs_of, exprs_of, name_at_of, type_of};
-ghost use Rattle.go_types.specs.Declarations as go_declaration;
-ghost use Rattle.go_types.specs.Entities.{Env};
-ghost use Rattle.go_types.specs.Typing as go;
-ghost use Rattle.scope_names.specs.FreeNames.{free_type_option, names_of};
+ghost use Rattle.go_tree.specs.GoTypes.Declarations as go_declaration;
+ghost use Rattle.go_tree.specs.GoTypes.Entities.{Env};
+ghost use Rattle.go_tree.specs.GoTypes.Typing as go;
+ghost use Rattle.go_tree.specs.ScopeNames.FreeNames.{free_type_option, names_of};
 ghost use Rattle.checker_tables.specs.Ready.{Keeps};
 ghost use Rattle.operand_answers.specs.Known.{Stands};
 ghost use Rattle.control_steps.specs.LocalBlocks.Places.{IsPlace, IsWithin};
 ghost use Rattle.expr_walk.specs.Walked.{AreAllWalked};
 ghost use Rattle.jump_rules.specs.UsedLocals.Used.{used_of};
-ghost use Rattle.statement_walk.specs.SimpleWalk.ConstantGroups.Groups.{AreWalkedSpecs, IsWalkedFrom, in_spec, repeated_from};
+ghost use Rattle.statement_walk.specs.SimpleWalk.ConstantGroups.Groups.{AreWalkedSpecs, IsWalkedFrom, in_spec};
+ghost use Rattle.statement_walk.specs.SimpleWalk.ConstantGroups.Groups.{repeated_from};
 ghost use Rattle.statement_walk.specs.Parts.{AreHere, GivesRead};
 
 use crate::simple_walk::{own_or_repeated, repeated_member};

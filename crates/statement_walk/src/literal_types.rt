@@ -3,10 +3,10 @@
 
 ghost use Rattle.std.specs.Prelude.{◌≡◌, IfOk, IfSome, Some};
 ghost use Rattle.go_tree.specs.View.{type_of};
-ghost use Rattle.go_types.specs.Answers.{given, meets};
-ghost use Rattle.go_types.specs.Literals as go;
-ghost use Rattle.go_types.specs.TypeNames as type_name;
-ghost use Rattle.type_relations.specs.Environment.{defined_types};
+ghost use Rattle.go_tree.specs.GoTypes.Answers.{given, meets};
+ghost use Rattle.go_tree.specs.GoTypes.Literals as go;
+ghost use Rattle.go_tree.specs.GoTypes.TypeNames as type_name;
+ghost use Rattle.type_table.specs.TypeRelations.Environment.{defined_types};
 ghost use Rattle.operand_rules.specs.declared.values.ValueType.TheVariants.{Typed};
 ghost use Rattle.operand_rules.specs.Values.{IsType};
 ghost use Rattle.operator_rules.specs.Settling.{typed_option};

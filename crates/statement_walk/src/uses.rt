@@ -2,20 +2,22 @@
 //! specification, Declarations and scope; Composite literals).
 
 ghost use Rattle.std.specs.Prelude.{◌≡◌, ◌++◌, [], IfSome, OnOk};
-ghost use Rattle.go_tree.specs.View.{boxed_expr_option_of, elems_of, expr_of, exprs_of, held_value_option_of, type_of, value_of};
-ghost use Rattle.go_types.specs.Answers.{given};
-ghost use Rattle.go_types.specs.Literals as go_literal;
-ghost use Rattle.go_types.specs.TypeNames as type_name;
-ghost use Rattle.go_types.specs.Typing as go;
-ghost use Rattle.scope_names.specs.FreeNames.{free_type};
-ghost use Rattle.type_relations.specs.Environment.{defined_types};
+ghost use Rattle.go_tree.specs.View.{boxed_expr_option_of, elems_of, expr_of, exprs_of, held_value_option_of, type_of};
+ghost use Rattle.go_tree.specs.View.{value_of};
+ghost use Rattle.go_tree.specs.GoTypes.Answers.{given};
+ghost use Rattle.go_tree.specs.GoTypes.Literals as go_literal;
+ghost use Rattle.go_tree.specs.GoTypes.TypeNames as type_name;
+ghost use Rattle.go_tree.specs.GoTypes.Typing as go;
+ghost use Rattle.go_tree.specs.ScopeNames.FreeNames.{free_type};
+ghost use Rattle.type_table.specs.TypeRelations.Environment.{defined_types};
 ghost use Rattle.operand_rules.specs.declared.values.ValueType.TheVariants.{Typed};
 ghost use Rattle.operand_rules.specs.Values.{IsType};
 ghost use Rattle.operator_rules.specs.Settling.{typed_option};
 ghost use Rattle.typed_names.specs.Scopes.{env_at};
 ghost use Rattle.checker_tables.specs.Ready.{Keeps};
 ghost use Rattle.operand_answers.specs.Known.{Stands};
-ghost use Rattle.expr_walk.specs.Walked.{AreAllWalked, AreWalkedElems, IsWalked, IsWalkedKey, IsWalkedOption, IsWalkedValue};
+ghost use Rattle.expr_walk.specs.Walked.{AreAllWalked, AreWalkedElems, IsWalked, IsWalkedKey, IsWalkedOption};
+ghost use Rattle.expr_walk.specs.Walked.{IsWalkedValue};
 ghost use Rattle.jump_rules.specs.UsedLocals.Used.{and_names, used_of};
 ghost use Rattle.statement_walk.specs.Uses.{under_option};
 

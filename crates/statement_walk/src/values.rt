@@ -3,9 +3,9 @@
 
 ghost use Rattle.std.specs.Prelude.{List, ℕ};
 ghost use Rattle.go_tree.specs.View.{exprs_of};
-ghost use Rattle.go_types.specs.Entities.{Env};
-ghost use Rattle.go_types.specs.Statements as go_statement;
-ghost use Rattle.go_types.specs.Typing as go;
+ghost use Rattle.go_tree.specs.GoTypes.Entities.{Env};
+ghost use Rattle.go_tree.specs.GoTypes.Statements as go_statement;
+ghost use Rattle.go_tree.specs.GoTypes.Typing as go;
 ghost use Rattle.checker_tables.specs.Ready.{Keeps};
 ghost use Rattle.operand_answers.specs.Known.{Stands};
 ghost use Rattle.control_steps.specs.RightSides.Values.{AreValuesIfOk, GivesValuesAlike};

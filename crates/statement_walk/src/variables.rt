@@ -2,8 +2,8 @@
 
 ghost use Rattle.std.specs.Prelude.{◌≡◌, IfOk, map};
 ghost use Rattle.go_tree.specs.View.{exprs_of, name_at_of, var_spec_of};
-ghost use Rattle.go_types.specs.Entities.{Env};
-ghost use Rattle.scope_names.specs.FreeNames.{names_of};
+ghost use Rattle.go_tree.specs.GoTypes.Entities.{Env};
+ghost use Rattle.go_tree.specs.ScopeNames.FreeNames.{names_of};
 ghost use Rattle.checker_tables.specs.Ready.{Keeps};
 ghost use Rattle.operand_answers.specs.Known.{Stands};
 ghost use Rattle.control_steps.specs.DeclarationSteps.Entities.{AreEntities};

@@ -1,9 +1,10 @@
 -- The laws of the counts of a run. Each is the contract of a function of this crate (golang.org/x/tools,
 -- internal/refactor/inline, for what a run is; the limits are this project's own).
-use Rattle.std.specs.Prelude.{◌≡◌, ℕ, ◌+◌, ◌≤◌, ◌&&◌, nat_eq, bytes_eq, if◌then◌else◌, List, [], ◌∷◌, ◌++◌, filter, length, Some}
+use Rattle.std.specs.Prelude.{◌≡◌, ℕ, ◌+◌, ◌≤◌, ◌&&◌, nat_eq, bytes_eq, if◌then◌else◌, List}
+use Rattle.std.specs.Prelude.{[], ◌∷◌, ◌++◌, filter, length, Some}
 use Rattle.pkg_graph.specs.Package.{Package}
 use Rattle.pkg_graph.specs.Reads.{Source}
-use Rattle.run_laws.specs.Reading.{OnePathEach}
+use Rattle.splice_laws.specs.RunLaws.Reading.{OnePathEach}
 use Rattle.run_rules.specs.Marks.{text_at}
 use Rattle.run_rules.specs.Run.{Standing, Logged, Next, path_of_file, module_file_size, texts_size}
 use Rattle.run_rules.specs.Sites.{MarkRef}

@@ -13,16 +13,16 @@ use Rattle.pkg_graph.specs.Package.{Package}
 use Rattle.pkg_graph.specs.Graph.{imports_of}
 use Rattle.pkg_graph.specs.Reads.{Source}
 use Rattle.pkg_graph.specs.Views.{package_view}
-use Rattle.cycle_runs.specs.Linked.{Linked}
-use Rattle.cycle_runs.specs.OrderCycles.Orders.{AllOrdered}
-use Rattle.cycle_runs.specs.OrderedSteps.Ranks.{OwnPaths}
-use Rattle.cycle_runs.proofs.OrderedSteps.Ranked.{orders-ranked}
+use Rattle.order_runs.specs.CycleRuns.Linked.{Linked}
+use Rattle.order_runs.specs.CycleRuns.OrderCycles.Orders.{AllOrdered}
+use Rattle.order_runs.specs.CycleRuns.OrderedSteps.Ranks.{OwnPaths}
+use Rattle.order_runs.proofs.CycleRuns.OrderedSteps.Ranked.{orders-ranked}
 use Rattle.file_tables.specs.DependencyOrder.Links.{AreNamed}
 use Rattle.file_tables.specs.ReplacedFiles.Replaced.{with_tree_of}
 use Rattle.file_tables.proofs.DependencyOrder.Paths.{viewed_paths}
-use Rattle.go_types.specs.Agreement.{In, head, tail}
-use Rattle.loaded_programs.proofs.AsRead.{order_with}
-use Rattle.loaded_programs.proofs.Images.{image_at, at_image}
+use Rattle.go_tree.specs.GoTypes.Agreement.{In, head, tail}
+use Rattle.stepped_programs.proofs.LoadedPrograms.AsRead.{order_with}
+use Rattle.stepped_programs.proofs.LoadedPrograms.Images.{image_at, at_image}
 use Rattle.next_file.specs.declared.file.NewFile.{NewFile}
 use Rattle.programs.specs.Kept.{IsKeptFile}
 use Rattle.programs.specs.Programs.{AreKeptFiles, IsProgramOf}

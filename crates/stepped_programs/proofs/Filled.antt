@@ -10,8 +10,8 @@ use Rattle.pkg_graph.specs.declared.packages.Package as code
 use Rattle.pkg_graph.specs.declared.packages.SourceTree as code_tree
 use Rattle.file_names.specs.Members.{IsBlockOf}
 use Rattle.file_tables.specs.ReplacedFiles.Replaced.{with_tree_of}
-use Rattle.loaded_programs.proofs.Images.{image_at, at_image}
-use Rattle.mark_values.specs.Tables.{DeclKey, values_at}
+use Rattle.stepped_programs.proofs.LoadedPrograms.Images.{image_at, at_image}
+use Rattle.use_search.specs.MarkValues.Tables.{DeclKey, values_at}
 use Rattle.next_file.specs.declared.file.NewFile.{NewFile}
 use Rattle.programs.specs.FileValues.Filled.{HasFileValues}
 use Rattle.programs.specs.Programs.{IsProgramOf}

@@ -8,10 +8,10 @@ use Rattle.go_tree.specs.declared.spans.Span.{Span}
 use Rattle.go_tree.specs.Tree.{Expr}
 use Rattle.go_tree.specs.File.{Decl}
 use Rattle.go_tree.specs.FileView.{file_of}
-use Rattle.scope_names.specs.declared.names.FileNames.{FileNames}
+use Rattle.go_tree.specs.declared.scope_names.names.FileNames.{FileNames}
 use Rattle.pkg_graph.specs.Members.{Target, package_block}
 use Rattle.pkg_graph.specs.Reads.{Source}
-use Rattle.place_meanings.specs.Parts.{AllScoped}
+use Rattle.splice_laws.specs.PlaceMeanings.Parts.{AllScoped}
 use Rattle.possible_uses.specs.Among.{Keyed}
 use Rattle.possible_uses.specs.Laws.{PartsAreAmongAll}
 use Rattle.constant_forms.specs.Views.{name_expr}
@@ -37,7 +37,7 @@ use Rattle.stepped_programs.specs.SearchedSites.FoundSteps.Laws.{step_of}
 use Rattle.stepped_programs.specs.SearchedSites.OrderedSearches.Found.{IsFoundFirst}
 use Rattle.stepped_programs.specs.SearchedSites.SwappedParts.Swaps.{HasNoDot}
 use Rattle.stepped_programs.proofs.SearchedSites.SettledFiles.Packages.{placed}
-use Rattle.standing_uses.specs.ImportUses.Parts.{EachSeen}
+use Rattle.typed_parts.specs.StandingUses.ImportUses.Parts.{EachSeen}
 use Rattle.stepped_programs.specs.Steps.{AreSwapped}
 use Rattle.stepped_programs.specs.Laws.{IsPlaceOf, PutsName, IsOfStep, place_of, IsUndotted, FoundUsesArePut}
 use Rattle.stepped_programs.proofs.Held.{origins_of_steps}

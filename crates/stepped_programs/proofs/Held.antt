@@ -12,9 +12,9 @@ use Rattle.pkg_graph.specs.Reads.{Source}
 use Rattle.pkg_graph.specs.Views.{package_view, source_of}
 use Rattle.pkg_graph.specs.declared.packages.Package as code
 use Rattle.pkg_graph.specs.declared.packages.SourceTree as code_tree
-use Rattle.go_types.specs.Answers.{given}
-use Rattle.loaded_programs.proofs.Images.{image_at, at_image}
-use Rattle.mark_values.specs.Tables.{decl_at}
+use Rattle.go_tree.specs.GoTypes.Answers.{given}
+use Rattle.stepped_programs.proofs.LoadedPrograms.Images.{image_at, at_image}
+use Rattle.use_search.specs.MarkValues.Tables.{decl_at}
 use Rattle.possible_uses.specs.Laws.{PartsAreAmongAll}
 use Rattle.possible_uses.specs.Parts.{parts_of}
 use Rattle.programs.specs.PartOrigins.Laws.{decls_origins}

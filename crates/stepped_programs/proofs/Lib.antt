@@ -17,3 +17,5 @@ pub mod Whole
 pub mod LeftFlags
 pub mod Asked
 pub mod SettledFiles
+pub mod ProgramsOnTheWay
+pub mod LoadedPrograms

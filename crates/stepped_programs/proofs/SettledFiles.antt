@@ -2,8 +2,8 @@
 use Rattle.std.proofs.Common.{◌≡◌, sym, subst, ℕ, true, List}
 use Rattle.go_tree.specs.declared.spans.Span.{Span}
 use Rattle.pkg_graph.specs.Reads.{Source}
-use Rattle.mark_values.specs.Tables.{DeclKey, same_key}
-use Rattle.marked_runs.specs.KeptMarks.Over.{IsOverName}
+use Rattle.use_search.specs.MarkValues.Tables.{DeclKey, same_key}
+use Rattle.typed_parts.specs.MarkedRuns.KeptMarks.Over.{IsOverName}
 use Rattle.next_file.specs.declared.file.NewFile.{NewFile}
 use Rattle.package_search.specs.declared.looks.ProgramSources.{ProgramSources}
 use Rattle.programs.specs.Users.{Known, is_user}

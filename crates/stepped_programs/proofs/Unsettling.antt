@@ -4,7 +4,7 @@ use Rattle.std.specs.Prelude.{slice_get}
 use Rattle.std.specs.Vec.{with_items}
 use Rattle.std.proofs.lemmas.List.{length-set, with_items_is, get_or-set_same, get_or-set_other}
 use Rattle.std.proofs.lemmas.Option.{same_Some, slice_get_within}
-use Rattle.mark_values.specs.Tables.{DeclKey}
+use Rattle.use_search.specs.MarkValues.Tables.{DeclKey}
 use Rattle.package_search.specs.Search.{is_settled}
 use Rattle.programs.specs.Users.{Known, is_user}
 use Rattle.programs.specs.declared.state.PackageFiles.{PackageFiles}

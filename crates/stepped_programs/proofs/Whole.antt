@@ -12,7 +12,7 @@ use Rattle.pkg_graph.specs.declared.packages.Package as code
 use Rattle.file_names.specs.Imports.{FindsPackages}
 use Rattle.file_tables.specs.DependencyOrder.Links.{AreNamed}
 use Rattle.file_tables.specs.ReplacedFiles.Replaced.{with_tree, with_tree_of}
-use Rattle.loaded_programs.proofs.Images.{image_at, at_image}
+use Rattle.stepped_programs.proofs.LoadedPrograms.Images.{image_at, at_image}
 use Rattle.next_file.specs.declared.file.NewFile.{NewFile}
 use Rattle.programs.specs.declared.state.PackageFiles.{PackageFiles}
 use Rattle.programs.specs.declared.state.Program.{Program}

@@ -1,6 +1,7 @@
 -- The laws of programs after steps. Each is the contract of a function of this crate (Go specification, Packages;
 -- Source file organization; Constant declarations; Declarations and scope; Qualified identifiers).
-use Rattle.std.specs.Prelude.{◌≡◌, ℕ, ◌+◌, ◌<◌, ◌≤◌, ◌^◌, Bool, true, is_some, List, map, length, Option, Some, slice_get}
+use Rattle.std.specs.Prelude.{◌≡◌, ℕ, ◌+◌, ◌<◌, ◌≤◌, ◌^◌, Bool, true, is_some, List, map}
+use Rattle.std.specs.Prelude.{length, Option, Some, slice_get}
 use Rattle.go_tree.specs.Tree.{NameAt, Expr}
 use Rattle.go_tree.specs.File.{Decl}
 use Rattle.go_tree.specs.FileView.{file_of}
@@ -9,13 +10,13 @@ use Rattle.go_tree.specs.declared.spans.Span.{Span}
 use Rattle.pkg_graph.specs.Members.{package_block}
 use Rattle.pkg_graph.specs.Reads.{Source}
 use Rattle.pkg_graph.specs.Views.{package_view}
-use Rattle.place_meanings.specs.Parts.{AllScoped}
+use Rattle.splice_laws.specs.PlaceMeanings.Parts.{AllScoped}
 use Rattle.possible_uses.specs.Among.{Keyed}
 use Rattle.possible_uses.specs.Parts.{parts_of}
 use Rattle.constant_forms.specs.Views.{name_expr}
-use Rattle.cycle_runs.specs.Linked.{Linked}
-use Rattle.marked_runs.specs.KeptMarks.Over.{IsOverName}
-use Rattle.mark_values.specs.Tables.{DeclKey, same_key}
+use Rattle.order_runs.specs.CycleRuns.Linked.{Linked}
+use Rattle.typed_parts.specs.MarkedRuns.KeptMarks.Over.{IsOverName}
+use Rattle.use_search.specs.MarkValues.Tables.{DeclKey, same_key}
 use Rattle.next_file.specs.declared.file.NewFile.{NewFile}
 use Rattle.next_file.specs.Files.{text_of}
 use Rattle.package_search.specs.declared.looks.ProgramSources.{ProgramSources}
@@ -28,7 +29,7 @@ use Rattle.programs.specs.Users.{is_user}
 use Rattle.programs.specs.declared.state.Program.{Program}
 use Rattle.run_by_steps.specs.NextPrograms.Made.{NextWith}
 use Rattle.run_by_steps.specs.RunProgress.Laws.{are_paths_apart}
-use Rattle.run_laws.specs.Reading.{ProgramReads}
+use Rattle.splice_laws.specs.RunLaws.Reading.{ProgramReads}
 use Rattle.run_rules.specs.FormTrees.{as_expr}
 use Rattle.run_rules.specs.Forms.{is_at}
 use Rattle.run_rules.specs.Programs.{decl_seen}
@@ -42,7 +43,7 @@ use Rattle.stepped_programs.specs.SearchedSites.OrderedSearches.Found.{IsFoundFi
 use Rattle.stepped_programs.specs.SearchedSites.OrderedSearches.Held.{IsThere, AreAllSettled, flag_of}
 use Rattle.stepped_programs.specs.SearchedSites.SettledFiles.Left.{MayStaySet}
 use Rattle.stepped_programs.specs.SearchedSites.SwappedParts.Swaps.{HasNoDot}
-use Rattle.standing_uses.specs.ImportUses.Parts.{EachSeen}
+use Rattle.typed_parts.specs.StandingUses.ImportUses.Parts.{EachSeen}
 use Rattle.stepped_programs.specs.SteppedValues.Filled.{IsFilledAnew}
 use Rattle.stepped_programs.specs.SteppedValues.Flags.{IsKeptProgram}
 use Rattle.stepped_programs.specs.declared.place.StepPlace.{StepPlace}

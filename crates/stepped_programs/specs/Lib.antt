@@ -6,3 +6,5 @@ pub mod Flags
 pub mod SwappedOrigins
 pub mod Steps
 pub mod Laws
+pub mod ProgramsOnTheWay
+pub mod LoadedPrograms

@@ -1,6 +1,7 @@
 -- What a step makes of all that is kept of a program (Go specification, Packages; Source file organization; Constant
 -- declarations; Program initialization).
-use Rattle.std.specs.Prelude.{◌≡◌, ℕ, ◌<◌, ◌≤◌, ◌^◌, ◌+◌, Bool, false, ◌&&◌, nat_eq, List, map, length, Option, Some, slice_get}
+use Rattle.std.specs.Prelude.{◌≡◌, ℕ, ◌<◌, ◌≤◌, ◌^◌, ◌+◌, Bool, false, ◌&&◌, nat_eq, List}
+use Rattle.std.specs.Prelude.{map, length, Option, Some, slice_get}
 use Rattle.go_tree.specs.declared.files.Decl.{Decl}
 use Rattle.go_tree.specs.declared.spans.Span.{Span}
 use Rattle.go_tree.specs.FileView.{decl_of, file_of}
@@ -8,14 +9,14 @@ use Rattle.module_files.specs.PathLists.{AreDistinct}
 use Rattle.pkg_graph.specs.Views.{package_view}
 use Rattle.pkg_graph.specs.declared.packages.Package.{Package}
 use Rattle.pkg_graph.specs.declared.packages.SourceTree.{SourceTree}
-use Rattle.go_types.specs.Answers.{given}
+use Rattle.go_tree.specs.GoTypes.Answers.{given}
 use Rattle.run_rules.specs.Programs.{dependency_order}
 use Rattle.run_rules.specs.Steps.{change_nth}
 use Rattle.file_names.specs.Imports.{FindsPackages}
 use Rattle.file_names.specs.Members.{IsBlockOf}
 use Rattle.file_tables.specs.DependencyOrder.Links.{AreNamed}
 use Rattle.file_tables.specs.ReplacedFiles.Replaced.{with_tree_of}
-use Rattle.mark_values.specs.Tables.{DeclKey, Known, decl_at, values_at}
+use Rattle.use_search.specs.MarkValues.Tables.{DeclKey, Known, decl_at, values_at}
 use Rattle.next_file.specs.declared.file.NewFile.{NewFile}
 use Rattle.possible_uses.specs.Parts.{parts_of}
 use Rattle.programs.specs.FileValues.Filled.{HasFileValues}

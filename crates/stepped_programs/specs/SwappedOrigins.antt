@@ -1,10 +1,11 @@
 -- Where the parts of a declaration come from once a use in it became a name (Go specification, Operands; Qualified
 -- identifiers; golang.org/x/tools, internal/refactor/inline, for what a run reports).
-use Rattle.std.specs.Prelude.{◌≡◌, ℕ, suc, ◌+◌, ◌-◌, Bool, List, [], ◌∷◌, ◌++◌, take, drop, Option, Some, None, if◌then◌else◌, slice_get, slice_set}
+use Rattle.std.specs.Prelude.{◌≡◌, ℕ, suc, ◌+◌, ◌-◌, Bool, List, [], ◌∷◌, ◌++◌, take, drop}
+use Rattle.std.specs.Prelude.{Option, Some, None, if◌then◌else◌, slice_get, slice_set}
 use Rattle.go_tree.specs.declared.spans.Span.{Span}
 use Rattle.go_tree.specs.Tree.{selector}
 use Rattle.import_rules.specs.Removed.{same_span}
-use Rattle.go_types.specs.Answers.{meets}
+use Rattle.go_tree.specs.GoTypes.Answers.{meets}
 use Rattle.run_rules.specs.Sites.{Part, an_expr}
 use Rattle.possible_uses.specs.Candidates.{Candidate}
 use Rattle.programs.specs.OriginsOfUses.Origins.{named_span}

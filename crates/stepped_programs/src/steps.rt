@@ -1,6 +1,7 @@
 //! Steps put into programs.
 
-ghost use Rattle.std.specs.Prelude.{◌≡◌, ◌+◌, ◌<◌, ◌≤◌, ◌^◌, IfOk, List, OnOk, Some, length, slice_get, ℕ};
+ghost use Rattle.std.specs.Prelude.{◌≡◌, ◌+◌, ◌<◌, ◌≤◌, ◌^◌, IfOk, List, OnOk, Some, length};
+ghost use Rattle.std.specs.Prelude.{slice_get, ℕ};
 ghost use Rattle.file_names.specs.Imports.{FindsPackages};
 ghost use Rattle.programs.specs.declared.state.PackageFiles as declared;
 ghost use Rattle.stepped_programs.specs.Texts.{HoldsFile};
@@ -15,13 +16,13 @@ use crate::swapped::swapped_origins;
 use crate::texts::put_text;
 use file_names::Places;
 use file_tables::{package_order, replace_file};
+use go_tree::scope_names::NameList;
 use go_tree::{NoMemory, Span};
-use mark_values::ConstantValues;
 use next_file::NewFile;
 use pkg_graph::Package;
 use programs::{PackageFiles, Program, fill_source};
-use scope_names::NameList;
 use std::alloc::Global;
+use use_search::mark_values::ConstantValues;
 
 /// The bytes of a module, of which a text of so many bytes gave way to one of so many.
 fn bytes_after(bytes: u32, old: usize, new: usize) -> u32

@@ -1,7 +1,7 @@
 //! Trees of whole files, read of their text.
 
 ghost use Rattle.std.specs.Prelude.{◌≤◌, None, length};
-ghost use Rattle.go_words.specs.Tokens.{TokensOf};
+ghost use Rattle.go_tree.specs.GoWords.Tokens.{TokensOf};
 ghost use Rattle.go_scan.specs.Unsupported.{IsFirst, unsupported_spans};
 
 use go_nesting::{MAX_LIMIT, weight_over};

@@ -6,8 +6,8 @@ use Rattle.go_tree.specs.declared.spans.Span.{Span}
 use Rattle.go_kernel.specs.Kernel.{FuncName}
 use Rattle.pkg_graph.specs.Package as run
 use Rattle.go_translation.specs.Packages.{are_well_typed}
-use Rattle.cycle_runs.specs.Linked.{SettlesFile}
-use Rattle.cycle_runs.proofs.Runs.{writes-of}
+use Rattle.order_runs.specs.CycleRuns.Linked.{SettlesFile}
+use Rattle.order_runs.proofs.CycleRuns.Runs.{writes-of}
 use Rattle.run_rules.specs.Sites.{MarkRef}
 use Rattle.run_rules.specs.Texts.{FileText}
 use Rattle.run_rules.specs.Respanned.{packages_with}
@@ -19,10 +19,10 @@ use Rattle.order_runs.specs.SameProgram.{SameProgram}
 use Rattle.order_runs.proofs.OrderedSteps.{program-then, program-itself}
 use Rattle.order_runs.proofs.OrderedRuns.{spans-keep-program}
 use Rattle.alias_runs.specs.AliasNext.{IsImportingAlias}
-use Rattle.marked_runs.specs.SettledConstants.Laws as settled
-use Rattle.marked_runs.specs.SettledConstants.Programs.{IsReady}
-use Rattle.marked_runs.proofs.ReadyModules.Typed.{linked_typed}
-use Rattle.marked_runs.proofs.TakenNames.Steps as constants
+use Rattle.typed_parts.specs.MarkedRuns.SettledConstants.Laws as settled
+use Rattle.typed_parts.specs.MarkedRuns.SettledConstants.Programs.{IsReady}
+use Rattle.typed_parts.proofs.MarkedRuns.ReadyModules.Typed.{linked_typed}
+use Rattle.typed_parts.proofs.MarkedRuns.TakenNames.Steps as constants
 use Rattle.taken_aliases.specs.Taken.{in_its_place, TakesAlias, TakesEither, of_constant, of_alias, EachTakesEither}
 use Rattle.taken_aliases.proofs.Steps as aliases
 

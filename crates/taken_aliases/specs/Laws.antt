@@ -7,8 +7,8 @@ use Rattle.pkg_graph.specs.Package as run
 use Rattle.pkg_graph.specs.Reads.{Source}
 use Rattle.go_kernel.specs.Kernel.{FuncName}
 use Rattle.go_translation.specs.SameMeaning.{WellTyped, SameMeaning}
-use Rattle.go_types.specs.WellTyped.{well_typed}
-use Rattle.cycle_runs.specs.Linked.{SettlesFile}
+use Rattle.go_tree.specs.GoTypes.WellTyped.{well_typed}
+use Rattle.order_runs.specs.CycleRuns.Linked.{SettlesFile}
 use Rattle.run_rules.specs.Programs.{linked}
 use Rattle.run_rules.specs.Sites.{MarkRef}
 use Rattle.run_rules.specs.Texts.{FileText}
@@ -18,7 +18,7 @@ use Rattle.run_rules.specs.Inlining.{ModuleReads, standing_as_read}
 use Rattle.order_runs.specs.RunSteps.RunPackages.{packages_of}
 use Rattle.order_runs.specs.SameProgram.{SameProgram}
 use Rattle.alias_runs.specs.AliasNext.{IsImportingAlias}
-use Rattle.marked_runs.specs.SettledConstants.Programs.{IsReady}
+use Rattle.typed_parts.specs.MarkedRuns.SettledConstants.Programs.{IsReady}
 use Rattle.taken_aliases.specs.Taken.{TakesAlias, TakesEither, EachTakesEither}
 
 -- A step that alias_runs speaks of is such a step, whose use has its old place with the imports added.

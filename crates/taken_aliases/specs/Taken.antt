@@ -10,14 +10,14 @@ use Rattle.run_rules.specs.Surroundings.{Place}
 use Rattle.run_rules.specs.Sites.{MarkRef, Site}
 use Rattle.run_rules.specs.Steps.{At, same_here}
 use Rattle.run_rules.specs.Run.{Standing, Logged, Next, Run, ends, goes_on, is_commented}
-use Rattle.cycle_runs.specs.ImportCycles.ImportSteps.{packages_added}
-use Rattle.cycle_runs.specs.OrderCycles.Steps.{KeepsImportNames}
+use Rattle.order_runs.specs.CycleRuns.ImportCycles.ImportSteps.{packages_added}
+use Rattle.order_runs.specs.CycleRuns.OrderCycles.Steps.{KeepsImportNames}
 use Rattle.order_runs.specs.RunSteps.RunPackages.{members_of, packages_of}
 use Rattle.order_runs.specs.ImportCodes.PackagesMoved.{ImportsStand}
 use Rattle.alias_runs.specs.QualifiedAliases.AliasUse.{AliasUse, AliasUseStands, ImportsHold}
 use Rattle.alias_runs.specs.CalledAliases.CalledUse.{IsPlaced}
 use Rattle.taken_aliases.specs.AliasReceivers.ReceiverUses.{IsReceiverUse}
-use Rattle.marked_runs.specs.TakenNames.Taken.{site_there, TakesName}
+use Rattle.typed_parts.specs.MarkedRuns.TakenNames.Taken.{site_there, TakesName}
 
 -- The use is a written type or an expression; or it is the type of a method's receiver, and becomes another name of it.
 pub data IsTaken {S : Type 0} (same : S → S → Bool) (commented : ℕ → ℕ → S → Bool) (rs : List (run.Package S))

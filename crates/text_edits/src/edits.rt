@@ -1,6 +1,7 @@
 //! Edits in the order of their places, and the text with all of them made.
 
-ghost use Rattle.std.specs.Prelude.{◌≡◌, ℕ, ◌≤◌, ◌↔◌, [], ◌∷◌, ◌++◌, IfErr, IfOk, IsTrue, OnErr, OnOk, length};
+ghost use Rattle.std.specs.Prelude.{◌≡◌, ℕ, ◌≤◌, ◌↔◌, [], ◌∷◌, ◌++◌, IfErr, IfOk, IsTrue};
+ghost use Rattle.std.specs.Prelude.{OnErr, OnOk, length};
 ghost use Rattle.std.specs.List.{Contains, insert};
 ghost use Rattle.text_edits.specs.Spans.{IsSpan, Overlaps, Precedes};
 ghost use Rattle.text_edits.specs.Order.{InOrder, IsCause, IsFree, IsPlace, spans};

@@ -1,7 +1,8 @@
 //! Laws of edits, for the runs that make them.
 
 ghost use Rattle.text_edits.specs.InTurn.{TurnsAgree};
-ghost use Rattle.text_edits.specs.Joined.{JoinedAgree, JoinedApart, JoinedAscend, JoinedCovers, JoinedIsLeast, JoinedKeeps, JoinedStands};
+ghost use Rattle.text_edits.specs.Joined.{JoinedAgree, JoinedApart, JoinedAscend, JoinedCovers, JoinedIsLeast};
+ghost use Rattle.text_edits.specs.Joined.{JoinedKeeps, JoinedStands};
 ghost use Rattle.text_edits.specs.Places.{BytesStay};
 
 /// Each byte of the old text that no edit replaces stands in the new one, moved by the edits before it.

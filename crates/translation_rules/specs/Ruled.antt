@@ -1,24 +1,35 @@
--- All parts of a body are translated by rules: each expression that is evaluated is as is asked, and so are the values of
--- an assignment, a declaration and a `return`; each value has a term that a rule makes, the elements of structs go to their fields, each left side but `_` is a place, and
--- each call that is deferred is one (Go specification, "Expressions", "Composite literals", "Statements").
-use Rattle.std.specs.Prelude.{◌≡◌, ℕ, Bool, true, false, not, ◌&&◌, List, [], ◌∷◌, ◌++◌, length, Option, Some, None}
-use Rattle.go_tree.specs.Tree.{Expr, ident, int_lit, rune_lit, str_lit, composite, selector, index, slice, call, func_lit, type_operand, unary, binary, star, Exprs, no_exprs, expr_and, ExprOption, no_expr, some_expr, Elems, no_elems, elem, Value, plain, braced, ValueOption, no_value, some_value, Stmt, const_decl, var_decl, empty, eval, step, assign, define, return_, break_, continue_, inner, if_, for_, range_, switch, defer, label, Stmts, no_stmts, stmt_and, StmtOption, no_stmt, some_stmt, BlockOption, no_block, some_block, RangeLeft, nothing, assigns, defines, Arms, no_arms, arm, Cases, no_cases, case, ValueSpecs, no_specs, spec}
-use Rattle.scope_names.specs.Means.{is_blank}
-use Rattle.scope_names.specs.FreeNames.{names_of, defined}
-use Rattle.go_types.specs.Types.{GoType, fields_of}
-use Rattle.go_types.specs.Defined.{under}
-use Rattle.go_types.specs.Entities.{Env, Binds, extend, in_block, is_declared_here}
-use Rattle.go_types.specs.TypeNames.{type_meant, func_type, written_type}
-use Rattle.go_types.specs.Literals.{is_struct, key_type, inner_type, literal_type}
-use Rattle.go_types.specs.Bodies.{body_binds}
-use Rattle.go_types.specs.Statements.{is_blank_name}
-use Rattle.go_types.specs.Typing.{parts, range_declares, binds_of, package_before}
-use Rattle.go_translation.specs.Mentions.{Mention, Read, mentions, mentions_option, mentions_first, mentions_stmts, mentions_block, mentions_arms, mentions_cases, mentions_specs}
+-- All parts of a body are translated by rules: each expression that is evaluated is as is asked, and so are the values
+-- of an assignment, a declaration and a `return`; each value has a term that a rule makes, the elements of structs go
+-- to their fields, each left side but `_` is a place, and each call that is deferred is one (Go specification,
+-- "Expressions", "Composite literals", "Statements").
+use Rattle.std.specs.Prelude.{◌≡◌, ℕ, Bool, true, false, not, ◌&&◌, List, [], ◌∷◌, ◌++◌, length}
+use Rattle.std.specs.Prelude.{Option, Some, None}
+use Rattle.go_tree.specs.Tree.{Expr, ident, int_lit, rune_lit, str_lit, composite, selector, index, slice, call}
+use Rattle.go_tree.specs.Tree.{func_lit, type_operand, unary, binary, star, Exprs, no_exprs, expr_and, ExprOption}
+use Rattle.go_tree.specs.Tree.{no_expr, some_expr, Elems, no_elems, elem, Value, plain, braced, ValueOption, no_value}
+use Rattle.go_tree.specs.Tree.{some_value, Stmt, const_decl, var_decl, empty, eval, step, assign, define, return_}
+use Rattle.go_tree.specs.Tree.{break_, continue_, inner, if_, for_, range_, switch, defer, label, Stmts, no_stmts}
+use Rattle.go_tree.specs.Tree.{stmt_and, StmtOption, no_stmt, some_stmt, BlockOption, no_block, some_block, RangeLeft}
+use Rattle.go_tree.specs.Tree.{nothing, assigns, defines, Arms, no_arms, arm, Cases, no_cases, case, ValueSpecs}
+use Rattle.go_tree.specs.Tree.{no_specs, spec}
+use Rattle.go_tree.specs.ScopeNames.Means.{is_blank}
+use Rattle.go_tree.specs.ScopeNames.FreeNames.{names_of, defined}
+use Rattle.go_tree.specs.GoTypes.Types.{GoType, fields_of}
+use Rattle.go_tree.specs.GoTypes.Defined.{under}
+use Rattle.go_tree.specs.GoTypes.Entities.{Env, Binds, extend, in_block, is_declared_here}
+use Rattle.go_tree.specs.GoTypes.TypeNames.{type_meant, func_type, written_type}
+use Rattle.go_tree.specs.GoTypes.Literals.{is_struct, key_type, inner_type, literal_type}
+use Rattle.go_tree.specs.GoTypes.Bodies.{body_binds}
+use Rattle.go_tree.specs.GoTypes.Statements.{is_blank_name}
+use Rattle.go_tree.specs.GoTypes.Typing.{parts, range_declares, binds_of, package_before}
+use Rattle.go_translation.specs.Mentions.{Mention, Read, mentions, mentions_option, mentions_first, mentions_stmts}
+use Rattle.go_translation.specs.Mentions.{mentions_block, mentions_arms, mentions_cases, mentions_specs}
 use Rattle.go_translation.specs.Here.{Here, defined_here, in_inner, declaring, at_body}
 use Rattle.go_translation.specs.Calls.{literal_term}
 use Rattle.go_translation.specs.Names.{variable_root}
 use Rattle.go_translation.specs.Statements.{defined_types, spec_types}
-use Rattle.go_translation.specs.Facts.{value_types, target_types, count_exprs, element_places, literal_names, binds_first, spec_binds, following, after}
+use Rattle.go_translation.specs.Facts.{value_types, target_types, count_exprs, element_places, literal_names}
+use Rattle.go_translation.specs.Facts.{binds_first, spec_binds, following, after}
 use Rattle.go_translation.specs.Translation.{expr_term, deferred_term}
 use Rattle.go_kernel.specs.Kernel.{Term}
 use Rattle.translation_rules.specs.Fields.{AreFieldsOf}
@@ -64,7 +75,8 @@ module _ {S : Type 0} where
   abbrev pub GoToFields : Here → GoType → Elems S → Type 0
   GoToFields h u es = AreFieldsOf (fields_of u) (element_places h.env u 0 es)
 
--- `At` says what is asked of each expression that is evaluated at a place, and `For` of values for places of these types
+-- `At` says what is asked of each expression that is evaluated at a place, and `For` of values for places of these
+-- types
 module _ {S : Type 0} (At : Here → Expr S → Type 0) (For : Here → List GoType → Exprs S → Type 0) where
   abbrev mutual
     -- ---- expressions

@@ -2,12 +2,12 @@
 -- "Method declarations", "Variable declarations").
 use Rattle.std.specs.Prelude.{ℕ, List, [], ◌∷◌, length, None}
 use Rattle.go_tree.specs.Tree.{Expr, Exprs}
-use Rattle.scope_names.specs.FreeNames.{names_of}
-use Rattle.go_types.specs.Types.{GoType}
-use Rattle.go_types.specs.Entities.{World, Binds, extend, in_block}
-use Rattle.go_types.specs.TypeNames.{func_type, written_type}
-use Rattle.go_types.specs.Programs.{constants, variables, a_type_spec, a_func, Header, Headed, headed}
-use Rattle.go_types.specs.Collect.{env_of, collected}
+use Rattle.go_tree.specs.ScopeNames.FreeNames.{names_of}
+use Rattle.go_tree.specs.GoTypes.Types.{GoType}
+use Rattle.go_tree.specs.GoTypes.Entities.{World, Binds, extend, in_block}
+use Rattle.go_tree.specs.GoTypes.TypeNames.{func_type, written_type}
+use Rattle.go_tree.specs.GoTypes.Programs.{constants, variables, a_type_spec, a_func, Header, Headed, headed}
+use Rattle.go_tree.specs.GoTypes.Collect.{env_of, collected}
 use Rattle.go_kernel.specs.Kernel.{ImportPath}
 use Rattle.go_translation.specs.Mentions.{Mention, mentions_stmts}
 use Rattle.go_translation.specs.Here.{Here, at_body}
@@ -16,7 +16,8 @@ use Rattle.go_translation.specs.Statements.{spec_types}
 use Rattle.go_translation.specs.Packages.{Package, sources, paths_in, file_here, function_names, function_binds}
 use Rattle.translation_rules.specs.Ruled.{Given, RuledExprs, RuledStmts}
 
--- `At` says what is asked of each expression that is evaluated at a place, and `For` of values for places of these types
+-- `At` says what is asked of each expression that is evaluated at a place, and `For` of values for places of these
+-- types
 module _ {S : Type 0} (At : Here → Expr S → Type 0) (For : Here → List GoType → Exprs S → Type 0) where
   -- the body of a function or method, and the values of package variables
   abbrev pub RuledHeader : List (ℕ × ImportPath) → World → Headed S → Header S → Type 0

@@ -1,2 +1,4 @@
 pub mod InternLaws
 pub mod TypesAtLaws
+pub mod TypeRelations
+pub mod ValueTypes

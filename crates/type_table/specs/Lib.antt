@@ -5,3 +5,5 @@ pub mod RowEquality
 pub mod Interned
 pub mod TypesAt
 pub mod TableLaws
+pub mod TypeRelations
+pub mod ValueTypes

@@ -1,18 +1,21 @@
 -- The tests of fields and rows tell which are the same, and the same are hashed alike.
-use Rattle.std.specs.Prelude.{◌≡◌, ℕ, Bool, true, ◌&&◌, List, [], ◌∷◌, map, Option, Some, None, nat_eq, bytes_eq, refl}
+use Rattle.std.specs.Prelude.{◌≡◌, ℕ, Bool, true, ◌&&◌, List, [], ◌∷◌, map, Option, Some, None}
+use Rattle.std.specs.Prelude.{nat_eq, bytes_eq, refl}
 use mathlib.Core.Path.{ap, ap₂, ◌∙◌, subst}
 use Rattle.std.specs.Cmp.{IsEquivalence, both_ways}
 use Rattle.std.proofs.Common.{arith}
 use Rattle.std.proofs.lemmas.Slice.Eq.{bytes_eq-Decides}
-use Rattle.go_types.specs.Types.{kind_number}
-use Rattle.go_types.specs.Identical.{same_package}
-use Rattle.go_types.specs.Table as rows
-use Rattle.go_types.specs.Table.{NodeField, basic_node, named_node, pointer_node, slice_node, map_node, struct_node, tuple_node, untyped_node, nil_node}
-use Rattle.go_types.proofs.IdenticalLaws.{and_left, and_right, kind_same}
+use Rattle.go_tree.specs.GoTypes.Types.{kind_number}
+use Rattle.go_tree.specs.GoTypes.Identical.{same_package}
+use Rattle.go_tree.specs.GoTypes.Table as rows
+use Rattle.go_tree.specs.GoTypes.Table.{NodeField, basic_node, named_node, pointer_node, slice_node, map_node}
+use Rattle.go_tree.specs.GoTypes.Table.{struct_node, tuple_node, untyped_node, nil_node}
+use Rattle.go_tree.proofs.GoTypes.IdenticalLaws.{and_left, and_right, kind_same}
 use Rattle.type_table.specs.declared.nodes.TypeId.{TypeId}
 use Rattle.type_table.specs.declared.nodes.Field.{Field}
 use Rattle.type_table.specs.declared.nodes.TypeNode.{TypeNode}
-use Rattle.type_table.specs.declared.nodes.TypeNode.TheVariants.{Basic, Named, Pointer, Slice, Map, Struct, Tuple, Untyped, Nil}
+use Rattle.type_table.specs.declared.nodes.TypeNode.TheVariants.{Basic, Named, Pointer, Slice, Map, Struct, Tuple}
+use Rattle.type_table.specs.declared.nodes.TypeNode.TheVariants.{Untyped, Nil}
 use Rattle.type_table.specs.Rows.{field_of, row_of}
 use Rattle.type_table.specs.SameRows.{same_field, same_fields, same_row}
 use Rattle.type_table.specs.RowWrites.{field_writes, node_writes}

@@ -4,7 +4,8 @@ use Rattle.std.specs.Hash.{HashWrites, u8, u32, usize, slice, option}
 use Rattle.type_table.specs.declared.nodes.Field.{Field}
 use Rattle.type_table.specs.declared.nodes.TypeId.{TypeId}
 use Rattle.type_table.specs.declared.nodes.TypeNode.{TypeNode}
-use Rattle.type_table.specs.declared.nodes.TypeNode.TheVariants.{Basic, Named, Pointer, Slice, Map, Struct, Tuple, Untyped, Nil}
+use Rattle.type_table.specs.declared.nodes.TypeNode.TheVariants.{Basic, Named, Pointer, Slice, Map, Struct, Tuple}
+use Rattle.type_table.specs.declared.nodes.TypeNode.TheVariants.{Untyped, Nil}
 
 -- a number of a row
 abbrev pub id_writes : TypeId → HashWrites

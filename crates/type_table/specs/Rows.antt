@@ -1,11 +1,13 @@
 -- The rows of the table, as rows of go_types (Go specification, Types).
 use Rattle.std.specs.Prelude.{ℕ, ◌<◌, List, [], ◌∷◌, map}
-use Rattle.go_types.specs.Table.{NodeField, basic_node, named_node, pointer_node, slice_node, map_node, struct_node, tuple_node, untyped_node, nil_node}
-use Rattle.go_types.specs.Table as rows
+use Rattle.go_tree.specs.GoTypes.Table.{NodeField, basic_node, named_node, pointer_node, slice_node, map_node}
+use Rattle.go_tree.specs.GoTypes.Table.{struct_node, tuple_node, untyped_node, nil_node}
+use Rattle.go_tree.specs.GoTypes.Table as rows
 use Rattle.type_table.specs.declared.nodes.TypeId.{TypeId}
 use Rattle.type_table.specs.declared.nodes.Field.{Field}
 use Rattle.type_table.specs.declared.nodes.TypeNode.{TypeNode}
-use Rattle.type_table.specs.declared.nodes.TypeNode.TheVariants.{Basic, Named, Pointer, Slice, Map, Struct, Tuple, Untyped, Nil}
+use Rattle.type_table.specs.declared.nodes.TypeNode.TheVariants.{Basic, Named, Pointer, Slice, Map, Struct, Tuple}
+use Rattle.type_table.specs.declared.nodes.TypeNode.TheVariants.{Untyped, Nil}
 
 -- a field of a row
 abbrev pub field_of : Field → NodeField

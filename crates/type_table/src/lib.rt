@@ -6,6 +6,8 @@ mod laws;
 mod nodes;
 mod same;
 mod table;
+pub mod type_relations;
+pub mod value_types;
 
 pub use laws::rows_stand_for_types;
 pub use nodes::{Field, FieldList, TypeId, TypeIdList, TypeNode};

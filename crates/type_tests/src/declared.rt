@@ -1,9 +1,9 @@
 //! Types as tests write them: each names its parts by their places among those before it.
 
-use const_eval::Kind;
+use go_tree::const_eval::Kind;
 use go_tree::{Name, NoMemory};
 use std::alloc::Global;
-use type_relations::Env;
+use type_table::type_relations::Env;
 use type_table::{Field, FieldList, TypeId, TypeNode};
 
 /// A field: its name of one letter, and its type. No name here is exported.

@@ -2,12 +2,12 @@
 //! sections Type identity, Assignability and Conversions.
 
 use crate::declared::{Type, at, define_all, intern_all};
-use const_eval::Kind;
 use go_tree::NoMemory;
+use go_tree::const_eval::Kind;
 use std::alloc::Global;
 use std::test::Fail;
-use type_relations::{Env, assignable, convertible, identical};
 use type_table::TypeId;
+use type_table::type_relations::{Env, assignable, convertible, identical};
 
 /// `type D int`, `type P []string`, `type Q []string`, `type R struct{ a, b int }` and
 /// `type S struct{ a, c int }`, the types that they are declared as, and others.

@@ -1,6 +1,6 @@
 //! What predeclared names mean: the Go specification's section Predeclared identifiers.
 
-use const_eval::Kind;
+use go_tree::const_eval::Kind;
 use std::test::Fail;
 use universe_block::{Builtin, PredeclaredEntity, predeclared};
 

@@ -3,7 +3,7 @@ use Rattle.std.proofs.Common.{◌≡◌, ◌∙◌, ℕ, ◌≤◌, false, List,
 use Rattle.std.specs.Prelude.{codes}
 use Rattle.type_table.specs.declared.nodes.TypeId.{TypeId}
 use Rattle.type_table.specs.TypesAt.{types_by}
-use Rattle.type_relations.specs.Environment.{Environment, env_type}
+use Rattle.type_table.specs.TypeRelations.Environment.{Environment, env_type}
 use Rattle.type_words.specs.TypeText.{results_text}
 use Rattle.type_words.specs.Written.{type_rows}
 

@@ -4,7 +4,7 @@ use Rattle.type_table.specs.declared.nodes.TypeId.{TypeId}
 use Rattle.type_table.specs.declared.nodes.Field.{Field}
 use Rattle.type_table.specs.Rows.{FieldsBelow, IdsBelow, field_of}
 use Rattle.type_table.specs.TypesAt.{fields_by, types_by}
-use Rattle.type_relations.specs.Environment.{Environment, env_type}
+use Rattle.type_table.specs.TypeRelations.Environment.{Environment, env_type}
 use Rattle.type_words.specs.TypeText.{fields_text, types_text}
 
 module _ (home : ℕ) (paths : List (List ℕ)) (e : Environment) where

@@ -3,15 +3,15 @@
 ghost use Rattle.std.specs.Prelude.{◌≡◌, ◌++◌, length, map, IfOk, OnOk};
 ghost use Rattle.type_table.specs.Rows.{IdsBelow};
 ghost use Rattle.type_table.specs.TypesAt.{types_by};
-ghost use Rattle.type_relations.specs.Environment.{env_type};
+ghost use Rattle.type_table.specs.TypeRelations.Environment.{env_type};
 ghost use Rattle.type_words.specs.TypeText.{results_text, signature_text};
 
 use crate::faults::TypeFault;
 use crate::names::{Home, add};
 use crate::texts::{MAX_TYPE_DEPTH, add_tuple, add_type};
 use std::alloc::Global;
-use type_relations::Env;
 use type_table::TypeId;
+use type_table::type_relations::Env;
 
 /// Adds the results of a function: one without parentheses, none without anything.
 #[tactic(auto, using(crate::proofs::WrittenLemmas::results_several))]

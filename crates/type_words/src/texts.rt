@@ -2,7 +2,7 @@
 
 ghost use Rattle.std.specs.Prelude.{◌≡◌, ◌<◌, ◌++◌, codes, false, length, IfOk, OnOk};
 ghost use Rattle.type_table.specs.Rows.{FieldsBelow, IdsBelow};
-ghost use Rattle.type_relations.specs.Environment.{env_type};
+ghost use Rattle.type_table.specs.TypeRelations.Environment.{env_type};
 ghost use Rattle.type_words.specs.TypeText.{between, type_text};
 ghost use Rattle.type_words.specs.Written.{field_rows, type_rows};
 
@@ -10,7 +10,7 @@ use crate::faults::TypeFault;
 use crate::kinds::kind_name;
 use crate::names::{Home, add, add_name};
 use std::alloc::Global;
-use type_relations::Env;
+use type_table::type_relations::Env;
 use type_table::{Field, TypeId, TypeNode};
 
 /// How deeply a type may nest.

@@ -2,11 +2,11 @@
 use Rattle.std.specs.Prelude.{◌≡◌, ℕ, false, List, Option}
 use mathlib.Core.Path.{◌∙◌}
 use Rattle.go_tree.specs.Tree.{NameAt, Expr}
-use Rattle.scope_names.specs.Means.{means, is_blank}
-use Rattle.go_types.specs.Answers.{is_among}
-use Rattle.go_types.specs.Entities.{Entity, Env, block_of}
-use Rattle.go_types.specs.Programs.{Headed, Program}
-use Rattle.go_types.specs.Collect.{valued_world}
+use Rattle.go_tree.specs.ScopeNames.Means.{means, is_blank}
+use Rattle.go_tree.specs.GoTypes.Answers.{is_among}
+use Rattle.go_tree.specs.GoTypes.Entities.{Entity, Env, block_of}
+use Rattle.go_tree.specs.GoTypes.Programs.{Headed, Program}
+use Rattle.go_tree.specs.GoTypes.Collect.{valued_world}
 use Rattle.typed_in_place.specs.SameFacts.{SameOperand}
 use Rattle.typed_in_place.specs.Leaves.{Names}
 pub use Rattle.typed_in_place.specs.Declared.{NamesConstant}

@@ -1,10 +1,10 @@
 -- The rounds find the least of what aliases and values may be that stays, and refuse no type that need not be.
 use Rattle.std.specs.Prelude.{◌≡◌, ℕ, List}
 use mathlib.Core.Path.{ap, sym, subst}
-use Rattle.scope_names.specs.Means.{Environment}
-use Rattle.go_types.specs.Entities.{Entity}
-use Rattle.go_types.specs.Programs.{Headed, Program}
-use Rattle.go_types.specs.Collect.{alias_round, type_round, value_round, refused_world, rounds, aliased_world, types_declared, typed_world, valued_world}
+use Rattle.go_tree.specs.ScopeNames.Means.{Environment}
+use Rattle.go_tree.specs.GoTypes.Entities.{Entity}
+use Rattle.go_tree.specs.GoTypes.Programs.{Headed, Program}
+use Rattle.go_tree.specs.GoTypes.Collect.{alias_round, type_round, value_round, refused_world, rounds, aliased_world, types_declared, typed_world, valued_world}
 use Rattle.typed_in_place.specs.Known.{BlocksClearer}
 use Rattle.typed_in_place.proofs.Headers.{in_world, alias_answers, type_answers, value_answers, alias_phase, type_phase, value_phase, nothing_clearer}
 use Rattle.typed_in_place.proofs.Phases.{least, greatest}

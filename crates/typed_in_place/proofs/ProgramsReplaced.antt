@@ -2,14 +2,14 @@
 use Rattle.std.specs.Prelude.{◌≡◌, refl, ℕ, suc, Bool, true, false, ◌&&◌, ◌||◌, List, [], ◌∷◌, ◌++◌, Option, Some, None, nat_eq, is_none}
 use Rattle.std.specs.List.{list_all}
 use mathlib.Core.Path.{ap, ap₂, sym, ◌∙◌, subst}
-use Rattle.scope_names.specs.Means.{Environment, is_blank}
+use Rattle.go_tree.specs.ScopeNames.Means.{Environment, is_blank}
 use Rattle.go_tree.specs.Tree.{NameAt, Param, TypeExpr}
 use Rattle.go_tree.specs.File.{Receiver}
-use Rattle.go_types.specs.Answers.{one_of, is_among}
-use Rattle.go_types.specs.Entities.{Entity, World, Env}
-use Rattle.go_types.specs.Programs.{Header, constants, variables, a_type_spec, a_func, Headed, Import, SourceFile, SourcePackage, Program, headed, headed_package, block_names, import_sound}
-use Rattle.go_types.specs.Collect.{env_of, types_declared, valued_world, collected}
-use Rattle.go_types.specs.WellTyped.{refused_unless, header_uses, is_used_in, first_import, well_typed, body_ok}
+use Rattle.go_tree.specs.GoTypes.Answers.{one_of, is_among}
+use Rattle.go_tree.specs.GoTypes.Entities.{Entity, World, Env}
+use Rattle.go_tree.specs.GoTypes.Programs.{Header, constants, variables, a_type_spec, a_func, Headed, Import, SourceFile, SourcePackage, Program, headed, headed_package, block_names, import_sound}
+use Rattle.go_tree.specs.GoTypes.Collect.{env_of, types_declared, valued_world, collected}
+use Rattle.go_tree.specs.GoTypes.WellTyped.{refused_unless, header_uses, is_used_in, first_import, well_typed, body_ok}
 use Rattle.typed_in_place.specs.Replaced.{same_type, TypeOptionReplaced, no_type, some_type, SameName, no_name, one_name, ParamsReplaced, no_params, in_param}
 use Rattle.typed_in_place.specs.ProgramsAlike.{OneByOne, no_more, and_more, SameHeader, AliasesStand, TypesStand, ValuesStand, BodiesAlike, DeclareAlike}
 use Rattle.typed_in_place.specs.HeaderReplaced.{SameReceiver, no_receiver, one_receiver, HeaderIn, in_constants, in_variables, in_type_spec, in_func, AliasesReplaced, TypesReplaced, HeaderReplaced, BodyIn, in_body, no_body_of_constants, no_body_of_variables, no_body_of_a_type}

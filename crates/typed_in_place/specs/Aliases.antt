@@ -1,13 +1,14 @@
 -- A type's text in another place, and an alias with the text of its type (Go specification, Alias declarations; Type
 -- identity; Qualified identifiers): the same text but for how names are written.
 use Rattle.std.specs.Prelude.{◌≡◌, true, false, List, Option, Some, None, nat_eq}
-use Rattle.go_tree.specs.Tree.{NameAt, TypeExpr, named, pointer, slice_type, map_type, struct_type, Fields, no_fields, field, Expr, ident, selector, type_operand, star}
+use Rattle.go_tree.specs.Tree.{NameAt, TypeExpr, named, pointer, slice_type, map_type, struct_type, Fields, no_fields}
+use Rattle.go_tree.specs.Tree.{field, Expr, ident, selector, type_operand, star}
 use Rattle.go_tree.specs.File.{TypeSpec}
-use Rattle.scope_names.specs.Means.{is_blank}
-use Rattle.go_types.specs.Entities.{World, Env}
-use Rattle.go_types.specs.TypeNames.{named_meaning, field_package}
-use Rattle.go_types.specs.Programs.{a_type_spec, Headed, Program}
-use Rattle.go_types.specs.Collect.{typed_world, valued_world, world_of}
+use Rattle.go_tree.specs.ScopeNames.Means.{is_blank}
+use Rattle.go_tree.specs.GoTypes.Entities.{World, Env}
+use Rattle.go_tree.specs.GoTypes.TypeNames.{named_meaning, field_package}
+use Rattle.go_tree.specs.GoTypes.Programs.{a_type_spec, Headed, Program}
+use Rattle.go_tree.specs.GoTypes.Collect.{typed_world, valued_world, world_of}
 use Rattle.typed_in_place.specs.Declared.{FirstWith, HasNumber}
 
 module _ {S T : Type 0} (a b : Env) where

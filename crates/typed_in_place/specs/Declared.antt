@@ -2,15 +2,15 @@
 -- Uniqueness of identifiers).
 use Rattle.std.specs.Prelude.{◌≡◌, ℕ, true, false, ◌&&◌, List, [], ◌∷◌, Option, Some, None, nat_eq}
 use Rattle.go_tree.specs.Tree.{NameAt, Expr, no_exprs, expr_and}
-use Rattle.scope_names.specs.Means.{is_blank}
-use Rattle.go_types.specs.Answers.{is_among}
-use Rattle.go_types.specs.Bodiless.{bodiless}
-use Rattle.go_types.specs.Collect.{env_of, valued_world}
+use Rattle.go_tree.specs.ScopeNames.Means.{is_blank}
+use Rattle.go_tree.specs.GoTypes.Answers.{is_among}
+use Rattle.go_tree.specs.GoTypes.Bodiless.{bodiless}
+use Rattle.go_tree.specs.GoTypes.Collect.{env_of, valued_world}
 use Rattle.typed_in_place.specs.Leaves.{Names}
-use Rattle.go_types.specs.Types.{GoType}
-use Rattle.const_eval.specs.declared.consts.Const.{Const}
-use Rattle.go_types.specs.Entities.{Entity, constant, refused}
-use Rattle.go_types.specs.Programs.{constants, Headed, header_names, SourcePackage, Program}
+use Rattle.go_tree.specs.GoTypes.Types.{GoType}
+use Rattle.go_tree.specs.declared.const_eval.consts.Const.{Const}
+use Rattle.go_tree.specs.GoTypes.Entities.{Entity, constant, refused}
+use Rattle.go_tree.specs.GoTypes.Programs.{constants, Headed, header_names, SourcePackage, Program}
 
 module _ {S : Type 0} where
   -- the header is the first of its package that has the name

@@ -3,14 +3,15 @@
 use Rattle.std.specs.Prelude.{◌≡◌, ℕ, List, [], ◌++◌, Option, Some, None}
 use Rattle.go_tree.specs.Tree.{NameAt, TypeExpr, Exprs}
 use Rattle.go_tree.specs.File.{TypeSpec, Receiver, Func}
-use Rattle.scope_names.specs.FreeNames.{names_of, sig_names}
-use Rattle.go_types.specs.Entities.{World, Env}
-use Rattle.go_types.specs.TypeNames.{resolved}
-use Rattle.go_types.specs.Programs.{Header, constants, variables, a_type_spec, a_func, Headed}
-use Rattle.go_types.specs.Bodiless.{all_bodiless}
-use Rattle.go_types.specs.Collect.{env_of}
-use Rattle.go_types.specs.WellTyped.{body_env, receiver_names}
-use Rattle.typed_in_place.specs.Replaced.{TypeReplaced, TypeOptionReplaced, SameName, SigReplaced, ExprsReplaced, StmtsReplaced}
+use Rattle.go_tree.specs.ScopeNames.FreeNames.{names_of, sig_names}
+use Rattle.go_tree.specs.GoTypes.Entities.{World, Env}
+use Rattle.go_tree.specs.GoTypes.TypeNames.{resolved}
+use Rattle.go_tree.specs.GoTypes.Programs.{Header, constants, variables, a_type_spec, a_func, Headed}
+use Rattle.go_tree.specs.GoTypes.Bodiless.{all_bodiless}
+use Rattle.go_tree.specs.GoTypes.Collect.{env_of}
+use Rattle.go_tree.specs.GoTypes.WellTyped.{body_env, receiver_names}
+use Rattle.typed_in_place.specs.Replaced.{TypeReplaced, TypeOptionReplaced, SameName, SigReplaced, ExprsReplaced}
+use Rattle.typed_in_place.specs.Replaced.{StmtsReplaced}
 
 module _ {S T : Type 0} where
   -- receivers stay

@@ -1,25 +1,29 @@
 -- The laws of typing in place. Each is the contract of a function of this crate.
-use Rattle.std.specs.Prelude.{◌≡◌, ℕ, Bool, true, false, ◌&&◌, List, [], ◌∷◌, ◌++◌, Option, Some, None, if◌then◌else◌, is_none}
+use Rattle.std.specs.Prelude.{◌≡◌, ℕ, Bool, true, false, ◌&&◌, List, [], ◌∷◌, ◌++◌, Option, Some}
+use Rattle.std.specs.Prelude.{None, if◌then◌else◌, is_none}
 use Rattle.std.specs.List.{list_all}
 use Rattle.go_tree.specs.declared.spans.Span.{Span}
 use Rattle.go_tree.specs.Tree.{NameAt, TypeExpr, Expr, func_lit, Exprs, Stmt, Stmts}
 use Rattle.go_tree.specs.File.{TypeSpec, Func}
 use Rattle.go_tree.specs.Bare.{bare_expr, bare_stmt}
-use Rattle.scope_names.specs.Means.{Environment, means, is_blank}
-use Rattle.scope_names.specs.FreeNames.{names_of, free_type, free_expr, named_use}
-use Rattle.go_types.specs.Answers.{given, both, only_if, is_among}
-use Rattle.go_types.specs.Types.{GoType, FuncType}
-use Rattle.go_types.specs.Entities.{Entity, variable, function, type_of_name, World, Env, block_of, defined_in, Binds}
-use Rattle.go_types.specs.TypeNames.{named_meaning, type_meant, func_type, written_type}
-use Rattle.go_types.specs.Operands.{a_function, all_typed}
-use Rattle.go_types.specs.Declarations.{bind_all, bind_each, constant_entity, variable_entity}
-use Rattle.go_types.specs.Bodies.{Ctx, body_binds, no_values}
-use Rattle.go_types.specs.Typing.{parts, all_parts, place, declares, stmt, stmts, used, used_stmts}
-use Rattle.go_types.specs.Initial.{all_initial}
-use Rattle.go_types.specs.Programs.{Import, Headed, Program, headed, is_init, env_of}
-use Rattle.go_types.specs.Collect.{alias_round, type_round, value_round, refused_world, aliased_world, types_declared, typed_world, valued_world, collected, package_constants, package_variables}
-use Rattle.go_types.specs.WellTyped.{function_ok, first_import, is_used_in, well_typed, body_ok}
-use Rattle.go_types.specs.Agreement.{Same, On}
+use Rattle.go_tree.specs.ScopeNames.Means.{Environment, means, is_blank}
+use Rattle.go_tree.specs.ScopeNames.FreeNames.{names_of, free_type, free_expr, named_use}
+use Rattle.go_tree.specs.GoTypes.Answers.{given, both, only_if, is_among}
+use Rattle.go_tree.specs.GoTypes.Types.{GoType, FuncType}
+use Rattle.go_tree.specs.GoTypes.Entities.{Entity, variable, function, type_of_name, World, Env, block_of, defined_in}
+use Rattle.go_tree.specs.GoTypes.Entities.{Binds}
+use Rattle.go_tree.specs.GoTypes.TypeNames.{named_meaning, type_meant, func_type, written_type}
+use Rattle.go_tree.specs.GoTypes.Operands.{a_function, all_typed}
+use Rattle.go_tree.specs.GoTypes.Declarations.{bind_all, bind_each, constant_entity, variable_entity}
+use Rattle.go_tree.specs.GoTypes.Bodies.{Ctx, body_binds, no_values}
+use Rattle.go_tree.specs.GoTypes.Typing.{parts, all_parts, place, declares, stmt, stmts, used, used_stmts}
+use Rattle.go_tree.specs.GoTypes.Initial.{all_initial}
+use Rattle.go_tree.specs.GoTypes.Programs.{Import, Headed, Program, headed, is_init, env_of}
+use Rattle.go_tree.specs.GoTypes.Collect.{alias_round, type_round, value_round, refused_world, aliased_world}
+use Rattle.go_tree.specs.GoTypes.Collect.{types_declared, typed_world, valued_world, collected, package_constants}
+use Rattle.go_tree.specs.GoTypes.Collect.{package_variables}
+use Rattle.go_tree.specs.GoTypes.WellTyped.{function_ok, first_import, is_used_in, well_typed, body_ok}
+use Rattle.go_tree.specs.GoTypes.Agreement.{Same, On}
 use Rattle.typed_in_place.specs.SameFacts.{UsedAlike, NoneAround, SameType, SameOperand, SameStatement}
 use Rattle.typed_in_place.specs.Replaced.{ExprReplaced, StmtReplaced, StmtsReplaced}
 use Rattle.typed_in_place.specs.Leaves.{Names}
@@ -28,7 +32,8 @@ use Rattle.typed_in_place.specs.Aliases.{SameText, AsExpr, DeclaresAlias, TypesE
 use Rattle.typed_in_place.specs.Known.{BlocksClearer}
 use Rattle.typed_in_place.specs.ProgramsAlike.{OneByOne, AliasesStand, TypesStand, ValuesStand}
 use Rattle.typed_in_place.specs.ImportsMoved.{under_imports, Moved, MovedBody}
-use Rattle.typed_in_place.specs.ImportRule.{imports_sound, imports_used, import_names, Fewer, declarations_ok, imports_ok, package_imports}
+use Rattle.typed_in_place.specs.ImportRule.{imports_sound, imports_used, import_names, Fewer, declarations_ok}
+use Rattle.typed_in_place.specs.ImportRule.{imports_ok, package_imports}
 use Rattle.typed_in_place.specs.UsesKept.{UsesAsBefore}
 use Rattle.typed_in_place.specs.ProgramReplaced.{InPlace, InPlaceBeside}
 

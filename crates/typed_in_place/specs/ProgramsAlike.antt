@@ -1,10 +1,12 @@
 -- When two programs declare the same (Go specification, Declarations and scope; Packages): their headers stand one by
 -- one for one another, and declare the same where the rounds of each program end.
 use Rattle.std.specs.Prelude.{◌≡◌, List, [], ◌∷◌}
-use Rattle.go_types.specs.Entities.{World}
-use Rattle.go_types.specs.Programs.{Headed, header_names, Program, headed}
-use Rattle.go_types.specs.Collect.{DeclaredTypes, alias_entity, type_declared, good_entity, declared_by, declared_on, method_header, aliased_world, types_declared, typed_world, valued_world}
-use Rattle.go_types.specs.WellTyped.{is_method, body_ok}
+use Rattle.go_tree.specs.GoTypes.Entities.{World}
+use Rattle.go_tree.specs.GoTypes.Programs.{Headed, header_names, Program, headed}
+use Rattle.go_tree.specs.GoTypes.Collect.{DeclaredTypes, alias_entity, type_declared, good_entity, declared_by}
+use Rattle.go_tree.specs.GoTypes.Collect.{declared_on, method_header, aliased_world, types_declared, typed_world}
+use Rattle.go_tree.specs.GoTypes.Collect.{valued_world}
+use Rattle.go_tree.specs.GoTypes.WellTyped.{is_method, body_ok}
 
 -- one by one
 pub data OneByOne {A B : Type 0} (R : A → B → Type 0) : List A → List B → Type 0 where

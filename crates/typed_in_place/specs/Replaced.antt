@@ -3,21 +3,32 @@
 -- for a part with the same facts.
 -- `around` are the names that are declared around in the same body, `env` the place; both run along as declarations go
 -- by.
-use Rattle.std.specs.Prelude.{◌≡◌, ℕ, ◌+◌, Bool, true, false, List, [], ◌∷◌, ◌++◌, length, Option, Some, None}
+use Rattle.std.specs.Prelude.{◌≡◌, ℕ, ◌+◌, Bool, true, false, List, [], ◌∷◌, ◌++◌, length, Option}
+use Rattle.std.specs.Prelude.{Some, None}
 use Rattle.go_tree.specs.declared.operators.UnOp.{UnOp}
 use Rattle.go_tree.specs.declared.operators.BinOp.{BinOp}
 use Rattle.go_tree.specs.declared.exprs.Rest.{Rest}
-use Rattle.go_tree.specs.Tree.{NameAt, Param, Sig, TypeExpr, pointer, slice_type, map_type, struct_type, Fields, no_fields, field, Expr, composite, selector, index, slice, call, func_lit, type_operand, unary, binary, star, Exprs, no_exprs, expr_and, ExprOption, no_expr, some_expr, Elems, no_elems, elem, Value, plain, braced, ValueOption, no_value, some_value, Stmt, const_decl, var_decl, eval, step, assign, define, return_, inner, if_, for_, range_, switch, defer, label, Stmts, no_stmts, stmt_and, StmtOption, no_stmt, some_stmt, BlockOption, no_block, some_block, RangeLeft, nothing, assigns, defines, Arms, no_arms, arm, Cases, no_cases, case, ValueSpecs, no_specs, spec}
-use Rattle.scope_names.specs.FreeNames.{names_of, sig_names, declared, declared_option, defined, free_type_option}
-use Rattle.go_types.specs.Answers.{given, meets}
-use Rattle.go_types.specs.Types.{GoType}
-use Rattle.go_types.specs.Defined.{under}
-use Rattle.go_types.specs.Entities.{refused, Env, defined_in, extend, in_block}
-use Rattle.go_types.specs.TypeNames.{type_meant, written_type}
-use Rattle.go_types.specs.Literals.{is_struct, field_key, key_type, inner_type, literal_type}
-use Rattle.go_types.specs.Statements.{bind_each, no_values}
-use Rattle.go_types.specs.Typing.{parts, all_parts, places, used_all, declares, declares_first, range_declares, binds_of, literal_env, new_constants, new_variables, right_values, Repeated, nothing_to_repeat}
-pub use Rattle.go_types.specs.Typing.{own_or_repeated}
+use Rattle.go_tree.specs.Tree.{NameAt, Param, Sig, TypeExpr, pointer, slice_type, map_type, struct_type, Fields}
+use Rattle.go_tree.specs.Tree.{no_fields, field, Expr, composite, selector, index, slice, call, func_lit, type_operand}
+use Rattle.go_tree.specs.Tree.{unary, binary, star, Exprs, no_exprs, expr_and, ExprOption, no_expr, some_expr, Elems}
+use Rattle.go_tree.specs.Tree.{no_elems, elem, Value, plain, braced, ValueOption, no_value, some_value, Stmt}
+use Rattle.go_tree.specs.Tree.{const_decl, var_decl, eval, step, assign, define, return_, inner, if_, for_, range_}
+use Rattle.go_tree.specs.Tree.{switch, defer, label, Stmts, no_stmts, stmt_and, StmtOption, no_stmt, some_stmt}
+use Rattle.go_tree.specs.Tree.{BlockOption, no_block, some_block, RangeLeft, nothing, assigns, defines, Arms, no_arms}
+use Rattle.go_tree.specs.Tree.{arm, Cases, no_cases, case, ValueSpecs, no_specs, spec}
+use Rattle.go_tree.specs.ScopeNames.FreeNames.{names_of, sig_names, declared, declared_option, defined}
+use Rattle.go_tree.specs.ScopeNames.FreeNames.{free_type_option}
+use Rattle.go_tree.specs.GoTypes.Answers.{given, meets}
+use Rattle.go_tree.specs.GoTypes.Types.{GoType}
+use Rattle.go_tree.specs.GoTypes.Defined.{under}
+use Rattle.go_tree.specs.GoTypes.Entities.{refused, Env, defined_in, extend, in_block}
+use Rattle.go_tree.specs.GoTypes.TypeNames.{type_meant, written_type}
+use Rattle.go_tree.specs.GoTypes.Literals.{is_struct, field_key, key_type, inner_type, literal_type}
+use Rattle.go_tree.specs.GoTypes.Statements.{bind_each, no_values}
+use Rattle.go_tree.specs.GoTypes.Typing.{parts, all_parts, places, used_all, declares, declares_first, range_declares}
+use Rattle.go_tree.specs.GoTypes.Typing.{binds_of, literal_env, new_constants, new_variables, right_values, Repeated}
+use Rattle.go_tree.specs.GoTypes.Typing.{nothing_to_repeat}
+pub use Rattle.go_tree.specs.GoTypes.Typing.{own_or_repeated}
 use Rattle.typed_in_place.specs.SameFacts.{UsedAlike, SameType, SameOperand, SameStatement}
 
 module _ {S T : Type 0} where

@@ -1,3 +1,4 @@
 pub mod NameLaws
 pub mod LocalLaws
 pub mod ScopeLaws
+pub mod TypeExprs

@@ -1,10 +1,10 @@
 -- What names mean at a place in a file, block by block.
 use Rattle.std.proofs.Common.{◌≡◌, ◌∙◌, ◌++◌, ℕ, true, false, cond, List, Option, None, sym, ap, append_assoc, arith}
-use Rattle.const_eval.specs.declared.consts.Const.{Const}
-use Rattle.scope_names.specs.Means.{means, or_else}
-use Rattle.go_types.specs.Entities as go
-use Rattle.go_types.specs.Entities.{block_of, meaning, package_of, universe, is_exported}
-use Rattle.type_relations.specs.Environment as types
+use Rattle.go_tree.specs.declared.const_eval.consts.Const.{Const}
+use Rattle.go_tree.specs.ScopeNames.Means.{means, or_else}
+use Rattle.go_tree.specs.GoTypes.Entities as go
+use Rattle.go_tree.specs.GoTypes.Entities.{block_of, meaning, package_of, universe, is_exported}
+use Rattle.type_table.specs.TypeRelations.Environment as types
 use Rattle.typed_names.specs.declared.entities.Entity.{Entity}
 use Rattle.typed_names.specs.declared.scopes.Scope.{Scope}
 use Rattle.typed_names.specs.Meanings.{Names, block_at, entity_option, names_at, blocks_from, world_at}

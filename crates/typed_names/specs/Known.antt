@@ -1,10 +1,11 @@
 -- Names whose types are in the table (Go specification, Declarations and scope).
 use Rattle.std.specs.Prelude.{◌<◌, List, [], ◌∷◌, length}
-use Rattle.type_relations.specs.Environment.{Environment}
+use Rattle.type_table.specs.TypeRelations.Environment.{Environment}
 use Rattle.operand_rules.specs.declared.values.ValueType.TheVariants.{Typed}
 use Rattle.operand_rules.specs.Values.{IsType}
 use Rattle.typed_names.specs.declared.entities.Entity.{Entity}
-use Rattle.typed_names.specs.declared.entities.Entity.TheVariants.{Variable, Constant, TypeName, Function, Package, Predeclared, Refused}
+use Rattle.typed_names.specs.declared.entities.Entity.TheVariants.{Variable, Constant, TypeName, Function, Package}
+use Rattle.typed_names.specs.declared.entities.Entity.TheVariants.{Predeclared, Refused}
 use Rattle.typed_names.specs.declared.scopes.Scope.{Scope}
 use Rattle.typed_names.specs.Meanings.{Names}
 

@@ -2,3 +2,4 @@ pub mod Meanings
 pub mod Locals
 pub mod Scopes
 pub mod Known
+pub mod TypeExprs

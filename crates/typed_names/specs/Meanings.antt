@@ -1,16 +1,18 @@
 -- What names mean, read through the tables of types and constants (Go specification, Declarations and scope; Package
 -- block; Predeclared identifiers).
-use Rattle.std.specs.Prelude.{ℕ, suc, List, [], ◌∷◌, map, Option, Some, None, slice_index_or, slice_set, bytes_eq, if◌then◌else◌}
-use Rattle.const_eval.specs.declared.consts.Const.{Const}
-use Rattle.scope_names.specs.Means as scope
-use Rattle.go_types.specs.Types.{GoType, tuple_of, GoTypes, no_go_types, go_type, FuncType}
-use Rattle.go_types.specs.Entities as go
-use Rattle.type_relations.specs.Environment.{Environment, defined_types, env_type}
+use Rattle.std.specs.Prelude.{ℕ, suc, List, [], ◌∷◌, map, Option, Some, None, slice_index_or, slice_set}
+use Rattle.std.specs.Prelude.{bytes_eq, if◌then◌else◌}
+use Rattle.go_tree.specs.declared.const_eval.consts.Const.{Const}
+use Rattle.go_tree.specs.ScopeNames.Means as scope
+use Rattle.go_tree.specs.GoTypes.Types.{GoType, tuple_of, GoTypes, no_go_types, go_type, FuncType}
+use Rattle.go_tree.specs.GoTypes.Entities as go
+use Rattle.type_table.specs.TypeRelations.Environment.{Environment, defined_types, env_type}
 use Rattle.operand_rules.specs.Constants.{const_at}
 use Rattle.operand_rules.specs.Values.{type_of}
 use Rattle.universe_block.specs.Meanings.{entity_of}
 use Rattle.typed_names.specs.declared.entities.Entity.{Entity}
-use Rattle.typed_names.specs.declared.entities.Entity.TheVariants.{Variable, Constant, TypeName, Function, Package, Predeclared, Refused}
+use Rattle.typed_names.specs.declared.entities.Entity.TheVariants.{Variable, Constant, TypeName, Function, Package}
+use Rattle.typed_names.specs.declared.entities.Entity.TheVariants.{Predeclared, Refused}
 
 -- the types of a tuple in order
 abbrev pub listed : GoTypes → List GoType

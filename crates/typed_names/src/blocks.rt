@@ -1,10 +1,11 @@
 //! Package blocks and file blocks (Go specification, Blocks).
 
-ghost use Rattle.std.specs.Prelude.{◌≡◌, ◌<◌, ◌&&◌, ℕ, List, [], ◌∷◌, ◌++◌, length, IfSome, Some, OnErr, OnOk, bytes_eq, nat_eq, if◌then◌else◌};
-ghost use Rattle.const_eval.specs.declared.consts.Const.{Const};
-ghost use Rattle.go_types.specs.Entities as go;
-ghost use Rattle.scope_names.specs.Means.{means};
-ghost use Rattle.type_relations.specs.Environment.{Environment};
+ghost use Rattle.std.specs.Prelude.{◌≡◌, ◌<◌, ◌&&◌, ℕ, List, [], ◌∷◌, ◌++◌, length, IfSome};
+ghost use Rattle.std.specs.Prelude.{Some, OnErr, OnOk, bytes_eq, nat_eq, if◌then◌else◌};
+ghost use Rattle.go_tree.specs.declared.const_eval.consts.Const.{Const};
+ghost use Rattle.go_tree.specs.GoTypes.Entities as go;
+ghost use Rattle.go_tree.specs.ScopeNames.Means.{means};
+ghost use Rattle.type_table.specs.TypeRelations.Environment.{Environment};
 ghost use Rattle.typed_names.specs.Known.{AllHaveTypes, HasTypes, HaveTypes};
 ghost use Rattle.typed_names.specs.Meanings.{block_at, entity_option, with_member, with_name, world_at};
 

@@ -1,9 +1,9 @@
 //! What a name means, by the numbers of types and constants (Go specification, Declarations and scope).
 
 ghost use Rattle.std.specs.Prelude.{◌≡◌, List};
-ghost use Rattle.const_eval.specs.declared.consts.Const.{Const};
-ghost use Rattle.go_types.specs.Entities.{package_of};
-ghost use Rattle.type_relations.specs.Environment.{Environment};
+ghost use Rattle.go_tree.specs.declared.const_eval.consts.Const.{Const};
+ghost use Rattle.go_tree.specs.GoTypes.Entities.{package_of};
+ghost use Rattle.type_table.specs.TypeRelations.Environment.{Environment};
 ghost use Rattle.typed_names.specs.Meanings.{entity_option};
 
 use operand_rules::{ConstId, ValueType};

@@ -7,6 +7,7 @@ mod blocks;
 mod entities;
 mod locals;
 mod scopes;
+pub mod type_exprs;
 
 pub use blocks::{Block, Blocks};
 pub use entities::Entity;

@@ -1,8 +1,9 @@
 //! Names that are declared around a place in a function (Go specification, Blocks; Declarations and
 //! scope).
 
-ghost use Rattle.std.specs.Prelude.{◌≡◌, ◌-◌, ℕ, List, [], ◌∷◌, drop, length, true, Some, OnErr, OnOk, bytes_eq, if◌then◌else◌, is_some, IfOk};
-ghost use Rattle.scope_names.specs.Means.{means};
+ghost use Rattle.std.specs.Prelude.{◌≡◌, ◌-◌, ℕ, List, [], ◌∷◌, drop, length, true, Some, OnErr};
+ghost use Rattle.std.specs.Prelude.{OnOk, bytes_eq, if◌then◌else◌, is_some, IfOk};
+ghost use Rattle.go_tree.specs.ScopeNames.Means.{means};
 ghost use Rattle.typed_names.specs.Locals.{flat};
 
 use crate::entities::Entity;

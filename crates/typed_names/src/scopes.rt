@@ -2,12 +2,12 @@
 //! identifiers).
 
 ghost use Rattle.std.specs.Prelude.{◌≡◌, ◌++◌, List, IfSome};
-ghost use Rattle.const_eval.specs.declared.consts.Const.{Const};
-ghost use Rattle.go_types.specs.Answers.{given};
-ghost use Rattle.go_types.specs.Entities as go;
-ghost use Rattle.go_types.specs.Entities.{block_of, meaning, package_of, universe};
-ghost use Rattle.scope_names.specs.Means.{means};
-ghost use Rattle.type_relations.specs.Environment.{Environment};
+ghost use Rattle.go_tree.specs.declared.const_eval.consts.Const.{Const};
+ghost use Rattle.go_tree.specs.GoTypes.Answers.{given};
+ghost use Rattle.go_tree.specs.GoTypes.Entities as go;
+ghost use Rattle.go_tree.specs.GoTypes.Entities.{block_of, meaning, package_of, universe};
+ghost use Rattle.go_tree.specs.ScopeNames.Means.{means};
+ghost use Rattle.type_table.specs.TypeRelations.Environment.{Environment};
 ghost use Rattle.typed_names.specs.Known.{AllHaveTypes, HasTypes, KnowsTypes};
 ghost use Rattle.typed_names.specs.Meanings.{entity_option, world_at};
 ghost use Rattle.typed_names.specs.Scopes.{env_at, file_env_at};

@@ -1,6 +1,7 @@
 //! Laws of the parts of typed statements and expressions.
 
-ghost use Rattle.typed_parts.specs.Laws.{TypedListsHaveTypedParts, TypedStatementsHaveTypedParts, WellTypedProgramsHaveTypedParts};
+ghost use Rattle.typed_parts.specs.Laws.{TypedListsHaveTypedParts, TypedStatementsHaveTypedParts};
+ghost use Rattle.typed_parts.specs.Laws.{WellTypedProgramsHaveTypedParts};
 
 /// Each part of typed statements, and of typed expressions, that the walk over places lists is typed
 /// where it stands, groups of constants and literals of functions included (Go specification,

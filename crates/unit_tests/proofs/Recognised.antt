@@ -3,10 +3,10 @@ use Rattle.std.proofs.Common.{◌≡◌, ℕ, zero, suc, Bool, true, false, not,
 use Rattle.std.specs.Prelude.{encode_utf8_all}
 use Rattle.std.specs.Str.{all_scalars}
 use Rattle.std.proofs.lemmas.List.{append-nil}
-use Rattle.go_words.specs.Tokens.Characters.{is_listed}
-use Rattle.go_words.specs.Tokens.Forms.{Form, nothing, empty, one_of, other_than, both, either, many, HasForm, without, listed, unlisted, joined, the_one, the_other, no_more, once_more}
-use Rattle.go_words.specs.Tokens.Literals.{int_lit, rune_lit, string_lit}
-use Rattle.go_literals.specs.Literals.{IsLiteral}
+use Rattle.go_tree.specs.GoWords.Tokens.Characters.{is_listed}
+use Rattle.go_tree.specs.GoWords.Tokens.Forms.{Form, nothing, empty, one_of, other_than, both, either, many, HasForm, without, listed, unlisted, joined, the_one, the_other, no_more, once_more}
+use Rattle.go_tree.specs.GoWords.Tokens.Literals.{int_lit, rune_lit, string_lit}
+use Rattle.go_tree.specs.GoLiterals.Literals.{IsLiteral}
 
 abbrev and_then : Bool → (Unit {0} → Bool) → Bool
 and_then true next = next tt

@@ -2,15 +2,15 @@
 //! with `go/constant` and `go/types` (which let the least number divided by -1 wrap at 64 bits). A
 //! truth value stands as 1 or 0.
 
-use const_eval::ConstError::{BadShift, Overflow, Wide, ZeroDivisor};
-use const_eval::Kind::{
-    Int, Int8, Int16, Int32, Int64, Uint, Uint8, Uint16, Uint32, Uint64, UntypedInt, UntypedRune,
-};
-use const_eval::{ConstError, Kind};
 use go_tree::BinOp::{
     Add, And, AndNot, Div, Eq, Ge, Gt, Le, Lt, Mul, Ne, Or, Rem, Shl, Shr, Sub, Xor,
 };
 use go_tree::UnOp::{Flip, Minus, Plus};
+use go_tree::const_eval::ConstError::{BadShift, Overflow, Wide, ZeroDivisor};
+use go_tree::const_eval::Kind::{
+    Int, Int8, Int16, Int32, Int64, Uint, Uint8, Uint16, Uint32, Uint64, UntypedInt, UntypedRune,
+};
+use go_tree::const_eval::{ConstError, Kind};
 use go_tree::{BinOp, UnOp};
 
 pub(crate) type Answer = Result<i128, ConstError>;

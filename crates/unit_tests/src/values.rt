@@ -1,9 +1,9 @@
 //! Operators and conversions at the limits of every kind, and what literals spell.
 
-ghost use Rattle.go_literals.specs.Literals.{IsLiteral};
+ghost use Rattle.go_tree.specs.GoLiterals.Literals.{IsLiteral};
 
 use crate::value_rows::{Answer, BINARY, CONVERTED, UNARY};
-use const_eval::{Const, ConstError, Kind, binary, convert, literal, represent, unary};
+use go_tree::const_eval::{Const, ConstError, Kind, binary, convert, literal, represent, unary};
 use go_tree::{BinOp, UnOp};
 use std::alloc::Global;
 use std::test::Fail;

@@ -1,13 +1,15 @@
 -- What predeclared names mean to the rules of typing (Go specification, Predeclared identifiers).
 use Rattle.std.specs.Prelude.{Option, Some, None}
-use Rattle.const_eval.specs.declared.consts.Const.TheVariants.{Truth as truth_value}
-use Rattle.const_eval.specs.declared.kinds.Kind.TheVariants as kind
-use Rattle.go_types.specs.Types.{basic, untyped}
-use Rattle.go_types.specs.Entities as go
+use Rattle.go_tree.specs.declared.const_eval.consts.Const.TheVariants.{Truth as truth_value}
+use Rattle.go_tree.specs.declared.const_eval.kinds.Kind.TheVariants as kind
+use Rattle.go_tree.specs.GoTypes.Types.{basic, untyped}
+use Rattle.go_tree.specs.GoTypes.Entities as go
 use Rattle.universe_block.specs.declared.block.Builtin as declared
 use Rattle.universe_block.specs.declared.block.Builtin.TheVariants as builtin
 use Rattle.universe_block.specs.declared.block.PredeclaredEntity.{PredeclaredEntity}
-use Rattle.universe_block.specs.declared.block.PredeclaredEntity.TheVariants.{TypeName as a_type, Truth as a_truth, Iota as an_iota, Nil as a_nil, Function as a_function}
+use Rattle.universe_block.specs.declared.block.PredeclaredEntity.TheVariants.{TypeName as a_type, Truth as a_truth}
+use Rattle.universe_block.specs.declared.block.PredeclaredEntity.TheVariants.{Iota as an_iota, Nil as a_nil}
+use Rattle.universe_block.specs.declared.block.PredeclaredEntity.TheVariants.{Function as a_function}
 
 -- a predeclared function
 abbrev pub builtin_of : declared.Builtin → go.Builtin

@@ -1,12 +1,12 @@
 //! The universe block (Go specification, Predeclared identifiers; Blocks).
 
 ghost use Rattle.std.specs.Prelude.{◌≡◌, map, slice_get};
-ghost use Rattle.scope_names.specs.Means.{means};
-ghost use Rattle.go_types.specs.Entities.{universe};
+ghost use Rattle.go_tree.specs.ScopeNames.Means.{means};
+ghost use Rattle.go_tree.specs.GoTypes.Entities.{universe};
 ghost use Rattle.universe_block.specs.Meanings.{entity_of, meaning_of};
 
-use const_eval::Kind;
-use scope_names::Entity;
+use go_tree::const_eval::Kind;
+use go_tree::scope_names::Entity;
 
 /// A predeclared function.
 #[derive(Clone, Copy, Debug, PartialEq, Eq, Drop)]
@@ -88,7 +88,7 @@ fn numbered(number: usize) -> Option<PredeclaredEntity>
 pub fn predeclared(name: &[u8]) -> Option<PredeclaredEntity>
     ensures { meaning_of result ≡ means universe name.now }
 {
-    match scope_names::predeclared(name) {
+    match go_tree::scope_names::predeclared(name) {
         Some(Entity::Universe(number)) => numbered(number as usize),
         Some(Entity::Local(_)) => None,
         Some(Entity::Import(_)) => None,

@@ -13,9 +13,9 @@ use Rattle.constant_forms.specs.declared.uses.ConstantUse.{ConstantUse}
 use Rattle.constant_forms.specs.declared.reduced.ReducedConstant.{ReducedConstant}
 use Rattle.constant_forms.specs.Told.{AreInPackages}
 use Rattle.constant_forms.specs.Uses.{IsUse, IsReducedTo}
-use Rattle.mark_values.specs.declared.values.DeclaredValue.{DeclaredValue}
-use Rattle.mark_values.specs.Values.{value_of}
-use Rattle.mark_values.specs.Tables.{value_in}
+use Rattle.use_search.specs.declared.mark_values.values.DeclaredValue.{DeclaredValue}
+use Rattle.use_search.specs.MarkValues.Values.{value_of}
+use Rattle.use_search.specs.MarkValues.Tables.{value_in}
 use Rattle.use_search.specs.declared.uses_of_marks.uses.MarkedUse.{MarkedUse}
 use Rattle.use_search.specs.declared.views.FileView.{FileView}
 use Rattle.use_search.specs.declared.views.ProgramView.{ProgramView}
@@ -39,8 +39,8 @@ module _ (p : ProgramView) (f : FileView) (u : MarkedUse) where
     pub comments_are : c.comments.now ≡ f.comments.now
     pub repeats : c.repeated ≡ u.repeated
 
-  -- It can't be told of it: the constant is declared as neither a name nor a name of another package, or a package has a
-  -- large number.
+  -- It can't be told of it: the constant is declared as neither a name nor a name of another package, or a package has
+  -- a large number.
   abbrev pub CantBeTold : Type 0
   CantBeTold =
       (v : DeclaredValue) → value_in p.values.now (mark_ref_of u.mark) ≡ Some v → f.home < 2 ^ 32
@@ -52,8 +52,8 @@ IsReduction c r =
     (ps : List (Package At)) (commented : ℕ → ℕ → At → Bool) (marks : List MarkRef) (x : Site At) (home : Where At)
     (n : NameAt At) (e : Expr At) → IsUse ps commented x home n e c → IsReducedTo ps commented marks x r
 
--- It is what the use becomes, or what keeps it. Nothing is answered where constant_forms can't be told of the use, or is
--- told of packages that aren't there.
+-- It is what the use becomes, or what keeps it. Nothing is answered where constant_forms can't be told of the use, or
+-- is told of packages that aren't there.
 abbrev pub IsAnswer : ProgramView → FileView → MarkedUse → Option ReducedConstant → Type 0
 IsAnswer p f u (Some r) = (c : ConstantUse) × (IsTold p f u c × IsReduction c r)
 IsAnswer p f u None =

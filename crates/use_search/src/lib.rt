@@ -2,6 +2,7 @@
 #![tactic(auto)]
 
 mod answers;
+pub mod mark_values;
 mod search;
 mod uses_of_marks;
 mod views;

@@ -1,9 +1,9 @@
 //! What a search looks at.
 
+use crate::mark_values::ConstantValues;
+use go_tree::scope_names::FileNames;
 use go_tree::{Comment, FileTree};
-use mark_values::ConstantValues;
 use pkg_graph::Package;
-use scope_names::FileNames;
 use scope_tables::Scopes;
 
 /// A file as it stands: the number of its package, its tree and its comments, the names that it and its package declare

@@ -1,16 +1,18 @@
 -- What a walk knows that finds the names that are used and not declared around (Go specification, Blocks; Declarations
 -- and scope; Composite literals). Of a local name it knows no more than that it is one: no local name means a type.
-use Rattle.std.specs.Prelude.{ℕ, Bool, true, false, ◌-◌, ◌||◌, List, [], ◌∷◌, ◌++◌, length, drop, Option, Some, None, if◌then◌else◌, bytes_eq}
+use Rattle.std.specs.Prelude.{ℕ, Bool, true, false, ◌-◌, ◌||◌, List, [], ◌∷◌, ◌++◌, length, drop}
+use Rattle.std.specs.Prelude.{Option, Some, None, if◌then◌else◌, bytes_eq}
 use Rattle.std.specs.List.{list_any}
-use Rattle.go_tree.specs.Tree.{NameAt, TypeExpr, named, pointer, slice_type, map_type, struct_type, Fields, no_fields, field}
-use Rattle.scope_names.specs.Means.{is_blank}
-use Rattle.scope_names.specs.FreeNames.{named_use}
-use Rattle.go_types.specs.Answers.{given, meets, is_among}
-use Rattle.go_types.specs.Types.{GoType}
-use Rattle.go_types.specs.Defined.{Defined, under}
-use Rattle.go_types.specs.Entities.{Env, defined_in}
-use Rattle.go_types.specs.TypeNames.{type_meant}
-use Rattle.go_types.specs.Literals.{is_struct, key_type, inner_type, literal_type}
+use Rattle.go_tree.specs.Tree.{NameAt, TypeExpr, named, pointer, slice_type, map_type, struct_type, Fields, no_fields}
+use Rattle.go_tree.specs.Tree.{field}
+use Rattle.go_tree.specs.ScopeNames.Means.{is_blank}
+use Rattle.go_tree.specs.ScopeNames.FreeNames.{named_use}
+use Rattle.go_tree.specs.GoTypes.Answers.{given, meets, is_among}
+use Rattle.go_tree.specs.GoTypes.Types.{GoType}
+use Rattle.go_tree.specs.GoTypes.Defined.{Defined, under}
+use Rattle.go_tree.specs.GoTypes.Entities.{Env, defined_in}
+use Rattle.go_tree.specs.GoTypes.TypeNames.{type_meant}
+use Rattle.go_tree.specs.GoTypes.Literals.{is_struct, key_type, inner_type, literal_type}
 
 -- A walk: the place outside all functions; names that are no uses, since the header of the function around has them;
 -- the names that are declared around in the function, but `_`, innermost first; the underlying types of the composite

@@ -2,10 +2,10 @@
 use Rattle.std.proofs.Common.{◌≡◌, refl, sym, subst, ℕ, Bool, true, false, List, [], ◌∷◌, Option, Some, None}
 use Rattle.std.proofs.lemmas.Option.{same_Some}
 use Rattle.go_tree.specs.Tree.{TypeExpr}
-use Rattle.go_types.specs.Answers.{given, meets}
-use Rattle.go_types.specs.WellTyped.{well_typed}
+use Rattle.go_tree.specs.GoTypes.Answers.{given, meets}
+use Rattle.go_tree.specs.GoTypes.WellTyped.{well_typed}
 use Rattle.pkg_graph.specs.Package.{Package}
-use Rattle.cycle_runs.proofs.FoundUses.NoRecursive.{step-form}
+use Rattle.order_runs.proofs.CycleRuns.FoundUses.NoRecursive.{step-form}
 use Rattle.form_cycles.specs.Bodies.{StandsInFunction}
 use Rattle.run_rules.specs.FormTrees.{FormKind, ConstForm, TypeForm, Form}
 use Rattle.run_rules.specs.Naming.{Named, Names, unnamed}

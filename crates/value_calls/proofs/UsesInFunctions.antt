@@ -4,16 +4,16 @@ use Rattle.std.specs.Prelude.{slice_get}
 use Rattle.go_tree.specs.Tree.{call}
 use Rattle.go_tree.specs.File.{Decl, values, types, func}
 use Rattle.go_tree.specs.declared.spans.Span.{Span}
-use Rattle.go_types.specs.WellTyped.{well_typed}
+use Rattle.go_tree.specs.GoTypes.WellTyped.{well_typed}
 use Rattle.pkg_graph.specs.Package.{Package}
-use Rattle.cycle_runs.proofs.StepCycles.StepAlike.{found-placed}
-use Rattle.cycle_runs.specs.OrderCycles.Orders.{AllOrdered}
+use Rattle.order_runs.proofs.CycleRuns.StepCycles.StepAlike.{found-placed}
+use Rattle.order_runs.specs.CycleRuns.OrderCycles.Orders.{AllOrdered}
 use Rattle.form_cycles.specs.Bodies.{StandsInFunction}
-use Rattle.import_splices.specs.FormSplices.Laws.{MakesForm}
-use Rattle.import_splices.proofs.FormSplices.FormsFound.{step-makes-form}
+use Rattle.splice_laws.specs.ImportSplices.FormSplices.Laws.{MakesForm}
+use Rattle.splice_laws.proofs.ImportSplices.FormSplices.FormsFound.{step-makes-form}
 use Rattle.order_runs.proofs.ImportRuns.Listed.{among-order}
 use Rattle.order_runs.proofs.RunSteps.SeatedUses.{Among, first, later, Seated, sites-seated}
-use Rattle.run_laws.proofs.FoundSpans.{Placed}
+use Rattle.splice_laws.proofs.RunLaws.FoundSpans.{Placed}
 use Rattle.run_rules.specs.Programs.{linked, decl_seen}
 use Rattle.run_rules.specs.Run.{Standing, Logged, Next, here_of}
 use Rattle.run_rules.specs.Sites.{MarkRef, Where, Site}

@@ -3,13 +3,13 @@
 use Rattle.std.specs.Prelude.{◌≡◌, ℕ, true, List, Some, slice_get}
 use Rattle.go_tree.specs.File.{Func, Decl, func}
 use Rattle.pkg_graph.specs.Package.{Package}
-use Rattle.go_types.specs.Answers.{meets}
-use Rattle.go_types.specs.WellTyped.{well_typed}
+use Rattle.go_tree.specs.GoTypes.Answers.{meets}
+use Rattle.go_tree.specs.GoTypes.WellTyped.{well_typed}
 use Rattle.run_rules.specs.Programs.{linked, decl_seen}
 use Rattle.run_rules.specs.Run.{Standing, Logged, Next}
 use Rattle.run_rules.specs.Sites.{MarkRef, Where, is_function, inlinable}
 use Rattle.run_rules.specs.Steps.{At}
-use Rattle.cycle_runs.specs.OrderCycles.Orders.{AllOrdered}
+use Rattle.order_runs.specs.CycleRuns.OrderCycles.Orders.{AllOrdered}
 use Rattle.form_cycles.specs.Bodies.{StandsInFunction}
 use Rattle.value_calls.specs.Calls.{CallNoFunction, CallsFunction, IsExpressionOrType}
 

@@ -5,3 +5,4 @@ pub mod Rounds
 pub mod SoFar
 pub mod HeadersStay
 pub mod UnderlyingTypes
+pub mod NameRounds

@@ -3,11 +3,11 @@ use Rattle.std.specs.Prelude.{◌≡◌, ℕ, zero, suc, List, Some, None, ◌�
 use mathlib.Core.Path.{ap, sym, ◌∙◌, subst}
 use Rattle.std.proofs.Common.{inl, inr}
 use Rattle.go_tree.specs.declared.spans.Span.{Span}
-use Rattle.scope_names.specs.Means.{means}
-use Rattle.go_types.specs.Entities.{refused, World, block_of}
-use Rattle.go_types.specs.Programs.{Headed, Program, headed}
-use Rattle.go_types.specs.TypeDeclarations.{DeclaredTypes}
-use Rattle.go_types.specs.Collect.{times, declared_by, blocks_by, value_round, rounds, types_declared, typed_world, valued_world}
+use Rattle.go_tree.specs.ScopeNames.Means.{means}
+use Rattle.go_tree.specs.GoTypes.Entities.{refused, World, block_of}
+use Rattle.go_tree.specs.GoTypes.Programs.{Headed, Program, headed}
+use Rattle.go_tree.specs.GoTypes.TypeDeclarations.{DeclaredTypes}
+use Rattle.go_tree.specs.GoTypes.Collect.{times, declared_by, blocks_by, value_round, rounds, types_declared, typed_world, valued_world}
 use Rattle.typed_in_place.specs.Known.{Clearer, refused_before, BlocksClearer}
 use Rattle.typed_in_place.proofs.Blocks.{Blocks, name_clearer, block_of_clearer}
 use Rattle.typed_in_place.proofs.Phases.{step_clearer, rises}

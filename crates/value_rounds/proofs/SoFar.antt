@@ -3,12 +3,12 @@ use Rattle.std.specs.Prelude.{◌≡◌, refl, ℕ, zero, suc, Bool, true, false
 use mathlib.Core.Path.{ap, sym, ◌∙◌, subst}
 use Rattle.std.proofs.Common.{arith, inl, inr}
 use Rattle.go_tree.specs.declared.spans.Span.{Span}
-use Rattle.scope_names.specs.Means.{is_blank, means}
-use Rattle.go_types.specs.Answers.{only_if, is_among}
-use Rattle.go_types.specs.Entities.{Entity, refused, World, Binds}
-use Rattle.go_types.specs.Programs.{Headed, header_names, Program, headed}
-use Rattle.go_types.specs.TypeDeclarations.{DeclaredTypes}
-use Rattle.go_types.specs.Collect.{good_entity, declared_by, types_declared, typed_world, valued_world}
+use Rattle.go_tree.specs.ScopeNames.Means.{is_blank, means}
+use Rattle.go_tree.specs.GoTypes.Answers.{only_if, is_among}
+use Rattle.go_tree.specs.GoTypes.Entities.{Entity, refused, World, Binds}
+use Rattle.go_tree.specs.GoTypes.Programs.{Headed, header_names, Program, headed}
+use Rattle.go_tree.specs.GoTypes.TypeDeclarations.{DeclaredTypes}
+use Rattle.go_tree.specs.GoTypes.Collect.{good_entity, declared_by, types_declared, typed_world, valued_world}
 use Rattle.pkg_graph.specs.declared.packages.Package.{Package}
 use Rattle.run_rules.specs.Programs.{in_dependency_order}
 use Rattle.typed_in_place.specs.Known.{Clearer, refused_before}

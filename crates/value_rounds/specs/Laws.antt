@@ -1,9 +1,9 @@
 -- The laws of constants and variables that are found header by header. Each is a clause of a function of this crate.
 use Rattle.std.specs.Prelude.{◌≡◌, ℕ, Bool, true, Some, slice_get}
 use Rattle.go_tree.specs.declared.spans.Span.{Span}
-use Rattle.go_types.specs.Entities.{World}
-use Rattle.go_types.specs.Programs.{Headed, Program, headed}
-use Rattle.go_types.specs.Collect.{valued_world}
+use Rattle.go_tree.specs.GoTypes.Entities.{World}
+use Rattle.go_tree.specs.GoTypes.Programs.{Headed, Program, headed}
+use Rattle.go_tree.specs.GoTypes.Collect.{valued_world}
 use Rattle.pkg_graph.specs.declared.packages.Package.{Package}
 use Rattle.declared_types.specs.Members.{SameMembers}
 use Rattle.func_headers.specs.Functions.{program_of}

@@ -3,3 +3,4 @@ pub mod Steps
 pub mod Laws
 pub mod HeadersStay
 pub mod UnderlyingTypes
+pub mod NameRounds

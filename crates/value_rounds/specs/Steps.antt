@@ -1,12 +1,13 @@
 -- The steps in which constants and variables are declared header by header (Go specification, Constant declarations;
 -- Variable declarations; Declarations and scope).
-use Rattle.std.specs.Prelude.{◌≡◌, ℕ, Bool, true, false, List, Option, Some, None, if◌then◌else◌, nat_eq, is_some, slice_get, ◌⊎◌}
+use Rattle.std.specs.Prelude.{◌≡◌, ℕ, Bool, true, false, List, Option, Some, None, if◌then◌else◌, nat_eq}
+use Rattle.std.specs.Prelude.{is_some, slice_get, ◌⊎◌}
 use Rattle.go_tree.specs.declared.spans.Span.{Span}
-use Rattle.scope_names.specs.Means.{is_blank, means}
-use Rattle.go_types.specs.Answers.{is_among}
-use Rattle.go_types.specs.Entities.{Entity, refused, World, Binds}
-use Rattle.go_types.specs.Programs.{Headed, header_names, Program, headed}
-use Rattle.go_types.specs.Collect.{declared_by, types_declared, typed_world, valued_world}
+use Rattle.go_tree.specs.ScopeNames.Means.{is_blank, means}
+use Rattle.go_tree.specs.GoTypes.Answers.{is_among}
+use Rattle.go_tree.specs.GoTypes.Entities.{Entity, refused, World, Binds}
+use Rattle.go_tree.specs.GoTypes.Programs.{Headed, header_names, Program, headed}
+use Rattle.go_tree.specs.GoTypes.Collect.{declared_by, types_declared, typed_world, valued_world}
 use Rattle.declared_types.specs.Members.{member}
 use Rattle.value_rounds.specs.Values.{is_value, names_value}
 

@@ -5,6 +5,7 @@
 
 mod headers_stay;
 mod laws;
+pub mod name_rounds;
 mod underlying_types;
 
 pub use headers_stay::headers_are_final;

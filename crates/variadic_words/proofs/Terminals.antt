@@ -5,10 +5,10 @@ use Rattle.std.proofs.lemmas.Slice.Eq.{bytes_eq-Decides}
 use Rattle.go_tree.specs.declared.tokens.Token.{Token}
 use Rattle.go_tree.specs.declared.tokens.TokenKind.{TokenKind}
 use Rattle.go_tree.specs.declared.tokens.TokenKind.TheVariants.{Ident, Keyword, Operator, Integer, Float, Imaginary, Rune, Str, Inserted}
-use Rattle.go_words.specs.Terminals.{Terminal, ellipsis, lex, lexemes, found_in, operators, keywords, terminal_of}
+use Rattle.go_tree.specs.GoWords.Terminals.{Terminal, ellipsis, lex, lexemes, found_in, operators, keywords, terminal_of}
 use Rattle.go_read.specs.SpellsTypes.{Lexemes}
 use Rattle.go_read.specs.SpellsSpans.{span_to}
-use Rattle.import_splices.proofs.SupportedWords.Spelled.{Passed, here, later}
+use Rattle.splice_laws.proofs.ImportSplices.SupportedWords.Spelled.{Passed, here, later}
 use Rattle.variadic_words.specs.Dots.{is_operator, is_dots}
 use Rattle.variadic_words.specs.Laws.{FilesWithoutDots}
 use Rattle.variadic_words.proofs.Unspread.{front_plain}

@@ -4,7 +4,7 @@ ghost use Rattle.operand_answers.specs.Located.{IsThereIfOk};
 ghost use Rattle.operand_modes.specs.Operands.{IsOperand};
 
 use checker_tables::Tables;
-use const_eval::Const;
+use go_tree::const_eval::Const;
 use operand_answers::Located;
 use operand_modes::Operand;
 use operand_rules::{Content, Refusal};

@@ -16,18 +16,18 @@ use Rattle.run_rules.specs.Run.{Standing, Logged, Next, Run, ends, goes_on, is_c
 use Rattle.run_rules.specs.Sites.{MarkRef, Where, Site, part_span}
 use Rattle.run_rules.specs.Steps.{At, same_here, changes_for}
 use Rattle.run_rules.specs.Surroundings.{Place, Use, Seen, seen, seen_type, seen_stmt}
-use Rattle.cycle_laws.specs.PutCalls.{CallsAlike, LiteralTyped, AllPutCallAlike}
-use Rattle.cycle_laws.specs.PutSteps.{PutsAlike}
-use Rattle.cycle_laws.proofs.NoCallees.{names-alike}
-use Rattle.cycle_laws.specs.ConstantCycles.NamesPut.{NameForName, AllNamesPut}
-use Rattle.cycle_laws.proofs.ConstantCycles.UsesPut.{type-puts-alike}
-use Rattle.constant_steps.specs.PlainUse.{IsSimple, AllSimple}
-use Rattle.cycle_runs.proofs.FoundUses.NoRecursive.{step-off}
-use Rattle.cycle_runs.specs.ImportCycles.ImportSteps.{packages_added}
-use Rattle.cycle_runs.specs.OrderCycles.Steps.{site_added, GivesWayAdded}
-use Rattle.cycle_runs.proofs.OrderCycles.StepSettled.{step-keeps}
+use Rattle.order_runs.specs.CycleLaws.PutCalls.{CallsAlike, LiteralTyped, AllPutCallAlike}
+use Rattle.order_runs.specs.CycleLaws.PutSteps.{PutsAlike}
+use Rattle.order_runs.proofs.CycleLaws.NoCallees.{names-alike}
+use Rattle.order_runs.specs.CycleLaws.ConstantCycles.NamesPut.{NameForName, AllNamesPut}
+use Rattle.order_runs.proofs.CycleLaws.ConstantCycles.UsesPut.{type-puts-alike}
+use Rattle.splice_laws.specs.ConstantSteps.PlainUse.{IsSimple, AllSimple}
+use Rattle.order_runs.proofs.CycleRuns.FoundUses.NoRecursive.{step-off}
+use Rattle.order_runs.specs.CycleRuns.ImportCycles.ImportSteps.{packages_added}
+use Rattle.order_runs.specs.CycleRuns.OrderCycles.Steps.{site_added, GivesWayAdded}
+use Rattle.order_runs.proofs.CycleRuns.OrderCycles.StepSettled.{step-keeps}
 use Rattle.order_runs.specs.RunSteps.RunPackages.{members_of}
-use Rattle.cycle_runs.specs.StepCycles.Steps.{StandsAtEnds}
+use Rattle.order_runs.specs.CycleRuns.StepCycles.Steps.{StandsAtEnds}
 use Rattle.alias_runs.proofs.QualifiedAliases.FormThere.{type-form, expr-form}
 use Rattle.alias_runs.specs.CalledAliases.CalledUse.{IsPlaced, as_written, as_called}
 use Rattle.alias_runs.specs.AliasNext.{IsImportingAlias}

@@ -3,13 +3,13 @@ use Rattle.std.proofs.Common.{◌≡◌, refl, sym, subst, ◌∙◌, ℕ, zero,
 use Rattle.std.specs.Prelude.{false, None, slice_get}
 use Rattle.std.proofs.lemmas.Option.{same_Some}
 use Rattle.go_tree.specs.File.{Decl, File}
-use Rattle.scope_names.specs.Means.{Environment}
+use Rattle.go_tree.specs.ScopeNames.Means.{Environment}
 use Rattle.pkg_graph.specs.Package as run
 use Rattle.pkg_graph.specs.Package.{SourceTree}
-use Rattle.go_types.specs.Entities.{Entity, World}
-use Rattle.go_types.specs.TypeNames.{resolved}
-use Rattle.go_types.specs.Programs.{SourceFile, SourcePackage, Program, headed, block_names, file_block}
-use Rattle.go_types.specs.Collect.{file_env, aliased_world, typed_world}
+use Rattle.go_tree.specs.GoTypes.Entities.{Entity, World}
+use Rattle.go_tree.specs.GoTypes.TypeNames.{resolved}
+use Rattle.go_tree.specs.GoTypes.Programs.{SourceFile, SourcePackage, Program, headed, block_names, file_block}
+use Rattle.go_tree.specs.GoTypes.Collect.{file_env, aliased_world, typed_world}
 use Rattle.typed_in_place.specs.ProgramReplaced.{ValuesEnd}
 use Rattle.typed_in_place.specs.Replaced.{TypeReplaced}
 use Rattle.go_translation.specs.Packages.{sources, are_distinct, are_well_typed}
@@ -18,14 +18,14 @@ use Rattle.run_rules.specs.Programs.{linked, linked_file, imports_mean, top_plac
 use Rattle.run_rules.specs.Run.{Standing, Logged, Next, is_commented}
 use Rattle.run_rules.specs.Sites.{MarkRef, Site, part_span}
 use Rattle.run_rules.specs.Steps.{At, same_here, change_nth, changes_for}
-use Rattle.constant_steps.specs.StepLaws.DeclStands.{DeclStands, DeclTypesStand, body_there, changed, AtNth}
-use Rattle.constant_steps.specs.Alone.{PackageAt, this_package, a_later_package}
-use Rattle.constant_steps.specs.PlainUse.{linked_at}
-use Rattle.constant_steps.proofs.LinkedAfter.{package_with, rs_after, linked_after}
-use Rattle.constant_steps.proofs.MarksFound.{nth_mapped}
-use Rattle.constant_steps.proofs.PlainImports.{Distinct, distinct_sources}
-use Rattle.constant_steps.specs.QualifiedSteps.NamedUse.{PackageStands}
-use Rattle.cycle_runs.specs.StepCycles.Steps.{packages_put, StandsInRounds, StandsAtEnds}
+use Rattle.splice_laws.specs.ConstantSteps.StepLaws.DeclStands.{DeclStands, DeclTypesStand, body_there, changed, AtNth}
+use Rattle.splice_laws.specs.ConstantSteps.Alone.{PackageAt, this_package, a_later_package}
+use Rattle.splice_laws.specs.ConstantSteps.PlainUse.{linked_at}
+use Rattle.splice_laws.proofs.ConstantSteps.LinkedAfter.{package_with, rs_after, linked_after}
+use Rattle.splice_laws.proofs.ConstantSteps.MarksFound.{nth_mapped}
+use Rattle.splice_laws.proofs.ConstantSteps.PlainImports.{Distinct, distinct_sources}
+use Rattle.splice_laws.specs.ConstantSteps.QualifiedSteps.NamedUse.{PackageStands}
+use Rattle.order_runs.specs.CycleRuns.StepCycles.Steps.{packages_put, StandsInRounds, StandsAtEnds}
 use Rattle.order_runs.specs.RunSteps.RunPackages.{members_of}
 use Rattle.order_runs.proofs.RunSteps.MembersViewed.{sources-linked}
 use Rattle.alias_runs.specs.AliasSteps.AliasSteps.{DeclOfFiles, DeclOfPackage, alias_put, form_put, ResolvedUses, DeclaredTypeUses, WholeUses, AliasSwaps}

@@ -4,13 +4,13 @@ use Rattle.std.specs.Prelude.{◌≡◌, refl, ℕ, List, [], ◌++◌, Some, No
 use mathlib.Core.Path.{ap, sym, ◌∙◌, subst}
 use Rattle.go_tree.specs.Tree.{NameAt, named}
 use Rattle.go_tree.specs.File.{TypeSpec}
-use Rattle.scope_names.specs.Means.{Environment, means, or_else}
-use Rattle.go_types.specs.Entities.{Entity, type_of_name, World, universe, block_of, meaning}
-use Rattle.go_types.specs.Programs.{Headed, Program, headed}
-use Rattle.go_types.specs.Collect.{env_of, file_env}
+use Rattle.go_tree.specs.ScopeNames.Means.{Environment, means, or_else}
+use Rattle.go_tree.specs.GoTypes.Entities.{Entity, type_of_name, World, universe, block_of, meaning}
+use Rattle.go_tree.specs.GoTypes.Programs.{Headed, Program, headed}
+use Rattle.go_tree.specs.GoTypes.Collect.{env_of, file_env}
 use Rattle.typed_in_place.specs.Aliases.{SameText, same_name, DeclaresAlias}
 use Rattle.typed_in_place.proofs.DeclaredAliases.{alias_means}
-use Rattle.written_literal.proofs.NamesMeant.{means_join}
+use Rattle.splice_laws.proofs.WrittenLiteral.NamesMeant.{means_join}
 use Rattle.alias_runs.specs.AliasSteps.AliasUses.{NamesAlias}
 use Rattle.alias_runs.proofs.AliasSteps.AliasNamed.{alias-entity}
 use Rattle.alias_runs.specs.AliasSites.FirstAlias.{FirstAlias, AliasEnd, before_types, with_types}

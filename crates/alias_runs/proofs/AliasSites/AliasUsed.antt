@@ -4,24 +4,24 @@ use mathlib.Core.Path.{ap, sym, ◌∙◌}
 use Rattle.std.proofs.Common.{arith}
 use Rattle.go_tree.specs.Tree.{named}
 use Rattle.go_tree.specs.File.{ImportSpec}
-use Rattle.scope_names.specs.Means.{Environment, means, is_blank, or_else, numbered}
-use Rattle.scope_names.specs.Means as names
+use Rattle.go_tree.specs.ScopeNames.Means.{Environment, means, is_blank, or_else, numbered}
+use Rattle.go_tree.specs.ScopeNames.Means as names
 use Rattle.pkg_graph.specs.Package.{Package, import_specs}
 use Rattle.pkg_graph.specs.Members.{Target, local, imported, member, predeclared, package_block, import_name}
-use Rattle.go_types.specs.Entities.{Entity, World}
-use Rattle.go_types.specs.Programs.{SourcePackage, Program, file_block, block_names, import_sound, import_entity}
-use Rattle.go_types.specs.Collect.{file_env}
-use Rattle.go_types.proofs.Agreeing.{some_same}
-use Rattle.written_literal.proofs.NamesMeant.{means_join}
+use Rattle.go_tree.specs.GoTypes.Entities.{Entity, World}
+use Rattle.go_tree.specs.GoTypes.Programs.{SourcePackage, Program, file_block, block_names, import_sound, import_entity}
+use Rattle.go_tree.specs.GoTypes.Collect.{file_env}
+use Rattle.go_tree.proofs.GoTypes.Agreeing.{some_same}
+use Rattle.splice_laws.proofs.WrittenLiteral.NamesMeant.{means_join}
 use Rattle.run_rules.specs.Surroundings.{Place, is_local}
 use Rattle.run_rules.specs.Programs.{linked_file, linked_import, linked_imports, package_number}
 use Rattle.run_rules.specs.Sites.{MarkRef, Where, Site, an_alias, not_function, same_target, outer, outer_meaning, name_mark}
 use Rattle.run_rules.specs.Reduced.{home_place}
 use Rattle.run_rules.specs.Obstacles.{is_taken_plainly, means_this}
-use Rattle.constant_steps.specs.Alone.{block_from, PackageAt}
-use Rattle.constant_steps.specs.PlainUse.{linked_at}
-use Rattle.constant_steps.proofs.MarksFound.{member_of_mark, named_member, marked_so, StandsThere, stands_there, DeclaredThere, declared_there, nth_mapped}
-use Rattle.constant_steps.proofs.NamesOutside.{MemberThere, member_there, not_local}
+use Rattle.splice_laws.specs.ConstantSteps.Alone.{block_from, PackageAt}
+use Rattle.splice_laws.specs.ConstantSteps.PlainUse.{linked_at}
+use Rattle.splice_laws.proofs.ConstantSteps.MarksFound.{member_of_mark, named_member, marked_so, StandsThere, stands_there, DeclaredThere, declared_there, nth_mapped}
+use Rattle.splice_laws.proofs.ConstantSteps.NamesOutside.{MemberThere, member_there, not_local}
 use Rattle.alias_runs.specs.AliasSteps.AliasUses.{NamesAlias}
 use Rattle.alias_runs.specs.AliasSteps.PlainAlias.{PlainAliasUse}
 use Rattle.alias_runs.proofs.AliasSteps.PlainAliasForms.{alias-means-there}

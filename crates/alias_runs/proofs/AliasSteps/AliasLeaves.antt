@@ -5,13 +5,13 @@ use mathlib.Core.Path.{ap, sym, ◌∙◌}
 use Rattle.std.proofs.Common.{arith}
 use Rattle.std.proofs.lemmas.Slice.Eq.{bytes_eq-Decides}
 use Rattle.go_tree.specs.Tree.{TypeExpr, named, pointer, slice_type, map_type, struct_type, Fields, no_fields, field, Expr}
-use Rattle.scope_names.specs.FreeNames.{free_type, free_fields}
-use Rattle.go_types.specs.Answers.{given, both, only_if, is_among}
-use Rattle.go_types.specs.Types.{GoType, pointer_to, slice_of, map_of, struct_of}
-use Rattle.go_types.specs.Defined.{has_keys}
-use Rattle.go_types.specs.Entities.{Entity, type_of_name, Env, meaning, exported, package_of}
-use Rattle.go_types.specs.TypeNames.{resolved, resolved_fields, field_before, type_meant}
-use Rattle.go_types.specs.Typing.{used}
+use Rattle.go_tree.specs.ScopeNames.FreeNames.{free_type, free_fields}
+use Rattle.go_tree.specs.GoTypes.Answers.{given, both, only_if, is_among}
+use Rattle.go_tree.specs.GoTypes.Types.{GoType, pointer_to, slice_of, map_of, struct_of}
+use Rattle.go_tree.specs.GoTypes.Defined.{has_keys}
+use Rattle.go_tree.specs.GoTypes.Entities.{Entity, type_of_name, Env, meaning, exported, package_of}
+use Rattle.go_tree.specs.GoTypes.TypeNames.{resolved, resolved_fields, field_before, type_meant}
+use Rattle.go_tree.specs.GoTypes.Typing.{used}
 use Rattle.form_meaning.proofs.FormInPlace.Uses.{among_left}
 use Rattle.typed_in_place.specs.SameFacts.{NoneAround, SameType}
 use Rattle.typed_in_place.specs.Leaves.{Names, plain_name, qualified_name, NamesType, type_by_star}
@@ -21,10 +21,10 @@ use Rattle.typed_in_place.proofs.TypeLeaves.{none_around_alike}
 use Rattle.run_rules.specs.FormTrees.{Form, as_expr, as_dropped, as_block, as_type}
 use Rattle.run_rules.specs.Steps.{changes_for, type_replaced, fields_replaced}
 use Rattle.run_rules.specs.Surroundings.{Place, Seen, seen, seen_type, seen_stmt}
-use Rattle.constant_steps.specs.StepLaws.Answered.{HoldsWithin}
-use Rattle.constant_steps.specs.StepLaws.NamesOutside.{NamesOutside}
-use Rattle.constant_steps.proofs.StepLaws.OutsideHolds.{among_right, outside_holds}
-use Rattle.constant_steps.proofs.StepLaws.UsesAnswered.{NamedThere, named-there, not-around}
+use Rattle.splice_laws.specs.ConstantSteps.StepLaws.Answered.{HoldsWithin}
+use Rattle.splice_laws.specs.ConstantSteps.StepLaws.NamesOutside.{NamesOutside}
+use Rattle.splice_laws.proofs.ConstantSteps.StepLaws.OutsideHolds.{among_right, outside_holds}
+use Rattle.splice_laws.proofs.ConstantSteps.StepLaws.UsesAnswered.{NamedThere, named-there, not-around}
 use Rattle.alias_runs.proofs.AliasTexts.RetypedTyping.{plain-type}
 use Rattle.alias_runs.specs.AliasTexts.Retyped.{PlainType, by_name, by_text}
 use Rattle.alias_runs.specs.AliasSteps.Retypable.{OneTypePut, as_part, as_callee, AllRetypable}

@@ -3,20 +3,20 @@ use Rattle.std.specs.Prelude.{◌≡◌, refl, ℕ, zero, suc, Bool, true, List,
 use Rattle.std.specs.List.{list_all}
 use mathlib.Core.Path.{sym, subst}
 use Rattle.go_tree.specs.File.{Decl, File}
-use Rattle.scope_names.specs.Means.{Environment}
+use Rattle.go_tree.specs.ScopeNames.Means.{Environment}
 use Rattle.pkg_graph.specs.Package as run
-use Rattle.go_types.specs.Entities.{Entity, World}
-use Rattle.go_types.specs.Programs.{Header, SourceFile, Program, headed, block_names, file_block, is_main}
-use Rattle.go_types.specs.Collect.{collected}
+use Rattle.go_tree.specs.GoTypes.Entities.{Entity, World}
+use Rattle.go_tree.specs.GoTypes.Programs.{Header, SourceFile, Program, headed, block_names, file_block, is_main}
+use Rattle.go_tree.specs.GoTypes.Collect.{collected}
 use Rattle.typed_in_place.specs.ImportRule.{package_imports}
 use Rattle.typed_in_place.specs.ProgramsAlike.{OneByOne, no_more, and_more}
 use Rattle.typed_in_place.proofs.ProgramsReplaced.{each_one}
 use Rattle.go_translation.specs.Packages.{Package, sources}
 use Rattle.go_translation.specs.SameMeaning.{Packages, WellTyped, with_further, SameMeaning}
 use Rattle.run_rules.specs.FormTrees.{Form}
-use Rattle.constant_steps.specs.StepLaws.DeclStands.{ProgramBy, ResolvedAlike, TypesAlike, AtNth}
-use Rattle.constant_steps.proofs.StepLaws.ConstantStepLaw.{then-nth}
-use Rattle.constant_steps.proofs.StepLaws.DeclChanged.{resolved_itself, types_itself, DeclBy, DeclOfFilesBy, DeclOfPackageBy, changed_by}
+use Rattle.splice_laws.specs.ConstantSteps.StepLaws.DeclStands.{ProgramBy, ResolvedAlike, TypesAlike, AtNth}
+use Rattle.splice_laws.proofs.ConstantSteps.StepLaws.ConstantStepLaw.{then-nth}
+use Rattle.splice_laws.proofs.ConstantSteps.StepLaws.DeclChanged.{resolved_itself, types_itself, DeclBy, DeclOfFilesBy, DeclOfPackageBy, changed_by}
 use Rattle.alias_runs.specs.AliasSteps.AliasSteps.{DeclOfFiles, DeclOfPackage, alias_put, form_put, members_with_form, ResolvedUses, DeclaredTypeUses, WholeUses, AliasSwaps}
 use Rattle.alias_runs.specs.AliasSteps.RetypedPrograms.{RetypedThere, RetypedProgram, RetypedPackages}
 use Rattle.alias_runs.proofs.AliasSteps.RetypedInPlace.{retyped_itself}

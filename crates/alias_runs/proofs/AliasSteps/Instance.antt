@@ -8,14 +8,14 @@ use Rattle.std.proofs.lemmas.Slice.Eq.{bytes_eq-Decides}
 use Rattle.go_tree.specs.declared.exprs.Rest.TheVariants.{Plain}
 use Rattle.go_tree.specs.Tree.{NameAt, TypeExpr, named, Expr, ident, call, no_exprs, expr_and, return_, no_stmts, stmt_and}
 use Rattle.go_tree.specs.File.{Decl, types, func, File}
-use Rattle.scope_names.specs.Means.{is_blank}
+use Rattle.go_tree.specs.ScopeNames.Means.{is_blank}
 use Rattle.pkg_graph.specs.Package as run
-use Rattle.go_types.specs.Types.{GoType, named_type}
-use Rattle.go_types.specs.Entities.{type_name, World, Env, meaning}
-use Rattle.go_types.specs.TypeNames.{type_meant}
-use Rattle.go_types.specs.Programs.{Program}
-use Rattle.go_types.specs.Collect.{file_env}
-use Rattle.go_types.specs.WellTyped.{well_typed}
+use Rattle.go_tree.specs.GoTypes.Types.{GoType, named_type}
+use Rattle.go_tree.specs.GoTypes.Entities.{type_name, World, Env, meaning}
+use Rattle.go_tree.specs.GoTypes.TypeNames.{type_meant}
+use Rattle.go_tree.specs.GoTypes.Programs.{Program}
+use Rattle.go_tree.specs.GoTypes.Collect.{file_env}
+use Rattle.go_tree.specs.GoTypes.WellTyped.{well_typed}
 use Rattle.typed_in_place.specs.Leaves.{plain_name}
 use Rattle.typed_in_place.specs.ProgramReplaced.{ValuesEnd, after_values, at_last, all_of_none}
 use Rattle.typed_in_place.proofs.ProgramsReplaced.{stays_well_typed_beside}
@@ -24,7 +24,7 @@ use Rattle.typed_in_place.specs.ProgramsAlike.{no_more, and_more}
 use Rattle.run_rules.specs.FormTrees.{Form, as_expr, as_type}
 use Rattle.run_rules.specs.Programs.{top_place}
 use Rattle.run_rules.specs.Surroundings.{Place, is_local}
-use Rattle.constant_steps.specs.StepLaws.DeclStands.{AtNth}
+use Rattle.splice_laws.specs.ConstantSteps.StepLaws.DeclStands.{AtNth}
 use Rattle.alias_runs.specs.AliasSteps.AliasUses.{NoneLocal, TypeUseThere, name_there, bare_there, ExprUseThere}
 use Rattle.alias_runs.specs.AliasSteps.AliasSteps.{DeclOfPackage, WholeUses, AliasSwaps, form_put}
 use Rattle.alias_runs.proofs.AliasSteps.AliasStepLaw.{alias-program}

@@ -1,17 +1,17 @@
 -- A program with types written otherwise stands in place of the one before, beside further packages.
 use Rattle.std.specs.Prelude.{refl, ℕ, Bool, List, [], ◌∷◌, Option, Some, None}
 use Rattle.go_tree.specs.File.{Func}
-use Rattle.scope_names.specs.Means.{Environment}
-use Rattle.go_types.specs.Entities.{Entity, World, Env}
-use Rattle.go_types.specs.Programs.{Header, constants, variables, a_type_spec, a_func, SourceFile, Program, headed}
-use Rattle.go_types.specs.Collect.{file_env}
+use Rattle.go_tree.specs.ScopeNames.Means.{Environment}
+use Rattle.go_tree.specs.GoTypes.Entities.{Entity, World, Env}
+use Rattle.go_tree.specs.GoTypes.Programs.{Header, constants, variables, a_type_spec, a_func, SourceFile, Program, headed}
+use Rattle.go_tree.specs.GoTypes.Collect.{file_env}
 use Rattle.go_tree.specs.Tree.{NameAt, Param, TypeExpr}
 use Rattle.typed_in_place.specs.Replaced.{TypeOptionReplaced, no_type, some_type, same_type, SameName, no_name, one_name, ParamsReplaced, no_params, in_param}
 use Rattle.typed_in_place.proofs.Leaves.{type_itself, exprs_themselves}
 use Rattle.typed_in_place.specs.ProgramReplaced.{at_last, InPlaceBeside, All, Apart}
 use Rattle.typed_in_place.proofs.ProgramsReplaced.{one_by_one}
-use Rattle.constant_steps.specs.StepLaws.DeclStands.{BodyStands, of_function, of_constants, of_variables, of_type, HeaderStands, FilesBy, no_files, and_file, ProgramBy, ValuesAlike, WholeAlike, body_there}
-use Rattle.constant_steps.proofs.StepLaws.StepInPlace.{step-in-place}
+use Rattle.splice_laws.specs.ConstantSteps.StepLaws.DeclStands.{BodyStands, of_function, of_constants, of_variables, of_type, HeaderStands, FilesBy, no_files, and_file, ProgramBy, ValuesAlike, WholeAlike, body_there}
+use Rattle.splice_laws.proofs.ConstantSteps.StepLaws.StepInPlace.{step-in-place}
 use Rattle.alias_runs.specs.AliasTexts.Retyped as retyped
 use Rattle.alias_runs.specs.AliasTexts.Retyped.{HeaderRetyped}
 use Rattle.alias_runs.proofs.AliasTexts.RetypedTyping.{stmts-replaced, header-replaced}

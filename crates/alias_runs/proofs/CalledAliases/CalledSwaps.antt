@@ -5,18 +5,18 @@ use Rattle.std.proofs.Common.{arith}
 use Rattle.std.proofs.lemmas.Slice.Eq.{bytes_eq-Decides}
 use Rattle.go_tree.specs.Tree.{TypeExpr, named, pointer, slice_type, map_type, struct_type, Expr, star, composite, Stmt, const_decl, ValueSpecs, no_specs, spec}
 use Rattle.go_tree.specs.File.{Decl, File}
-use Rattle.scope_names.specs.FreeNames.{free_type}
-use Rattle.scope_names.specs.Means.{Environment, means, is_blank}
+use Rattle.go_tree.specs.ScopeNames.FreeNames.{free_type}
+use Rattle.go_tree.specs.ScopeNames.Means.{Environment, means, is_blank}
 use Rattle.pkg_graph.specs.Package.{Package}
-use Rattle.go_types.specs.Answers.{given, only_if}
-use Rattle.go_types.specs.Types.{GoType, pointer_to}
-use Rattle.go_types.specs.Defined.{Defined, has_keys}
-use Rattle.go_types.specs.Entities.{Entity, type_name, type_of_name, World, Env, block_of, meaning, exported, package_of, defined_in}
-use Rattle.go_types.specs.TypeNames.{resolved, type_meant}
-use Rattle.go_types.specs.Typing.{Repeated, nothing_to_repeat}
-use Rattle.go_types.specs.Programs.{Program, headed, block_names, file_block}
-use Rattle.go_types.specs.Collect.{env_of, file_env, aliased_world, types_declared, typed_world, collected}
-use Rattle.go_types.proofs.Agreeing.{from_given, from_only, some_same}
+use Rattle.go_tree.specs.GoTypes.Answers.{given, only_if}
+use Rattle.go_tree.specs.GoTypes.Types.{GoType, pointer_to}
+use Rattle.go_tree.specs.GoTypes.Defined.{Defined, has_keys}
+use Rattle.go_tree.specs.GoTypes.Entities.{Entity, type_name, type_of_name, World, Env, block_of, meaning, exported, package_of, defined_in}
+use Rattle.go_tree.specs.GoTypes.TypeNames.{resolved, type_meant}
+use Rattle.go_tree.specs.GoTypes.Typing.{Repeated, nothing_to_repeat}
+use Rattle.go_tree.specs.GoTypes.Programs.{Program, headed, block_names, file_block}
+use Rattle.go_tree.specs.GoTypes.Collect.{env_of, file_env, aliased_world, types_declared, typed_world, collected}
+use Rattle.go_tree.proofs.GoTypes.Agreeing.{from_given, from_only, some_same}
 use Rattle.typed_in_place.specs.Aliases.{TypesEnd}
 use Rattle.typed_in_place.specs.Aliases as ends
 use Rattle.typed_in_place.specs.Leaves.{plain_name, qualified_name}
@@ -31,15 +31,15 @@ use Rattle.run_rules.specs.Sites.{MarkRef, Where, Site, part_span}
 use Rattle.run_rules.specs.Steps.{changes_for}
 use Rattle.run_rules.specs.Forms.{is_at}
 use Rattle.run_rules.specs.Reduced.{home_place}
-use Rattle.constant_steps.specs.StepLaws.Answered.{RepeatsStay, StmtKnown}
-use Rattle.constant_steps.specs.StepLaws.DeclStands.{AtNth}
-use Rattle.constant_steps.specs.StepLaws.PartsTyped.{HeaderTyped}
-use Rattle.constant_steps.specs.PlainUse.{linked_at, NoneRepeats, IsSimple, AllSimple, AllTheUse}
-use Rattle.constant_steps.proofs.AfterStep.{at_package}
-use Rattle.constant_steps.proofs.MarksFound.{nth_mapped}
-use Rattle.constant_steps.proofs.PlainImports.{Distinct}
-use Rattle.constant_steps.proofs.SimpleUses.{simple_known}
-use Rattle.constant_steps.specs.QualifiedSteps.MemberNames.{member_name}
+use Rattle.splice_laws.specs.ConstantSteps.StepLaws.Answered.{RepeatsStay, StmtKnown}
+use Rattle.splice_laws.specs.ConstantSteps.StepLaws.DeclStands.{AtNth}
+use Rattle.splice_laws.specs.ConstantSteps.StepLaws.PartsTyped.{HeaderTyped}
+use Rattle.splice_laws.specs.ConstantSteps.PlainUse.{linked_at, NoneRepeats, IsSimple, AllSimple, AllTheUse}
+use Rattle.splice_laws.proofs.ConstantSteps.AfterStep.{at_package}
+use Rattle.splice_laws.proofs.ConstantSteps.MarksFound.{nth_mapped}
+use Rattle.splice_laws.proofs.ConstantSteps.PlainImports.{Distinct}
+use Rattle.splice_laws.proofs.ConstantSteps.SimpleUses.{simple_known}
+use Rattle.splice_laws.specs.ConstantSteps.QualifiedSteps.MemberNames.{member_name}
 use Rattle.alias_runs.specs.AliasSteps.Retypable.{IsCalleePlace, LiteralKnown}
 use Rattle.alias_runs.specs.AliasSteps.AliasUses.{AtTop, NoneLocal, TypeUseThere, name_there, text_there, PutThere, bare_there, star_there, ExprUseThere, AllAliasUses}
 use Rattle.alias_runs.specs.AliasSteps.AliasSteps.{DeclOfPackage, form_put, WholeUses, AliasSwaps}

@@ -3,19 +3,19 @@ use Rattle.std.specs.Prelude.{◌≡◌, refl, ℕ, true, ◌||◌, List, Option
 use mathlib.Core.Path.{ap, ap₂, sym, ◌∙◌}
 use Rattle.std.proofs.Common.{arith}
 use Rattle.go_tree.specs.File.{TypeSpec}
-use Rattle.scope_names.specs.Means.{binding}
-use Rattle.go_types.specs.Answers.{given, only_if}
-use Rattle.go_types.specs.Types.{GoType, named_type}
-use Rattle.go_types.specs.Entities.{type_name, World}
-use Rattle.go_types.specs.TypeNames.{resolved, type_meant}
-use Rattle.go_types.specs.Programs.{a_type_spec, Program, Headed, headed}
-use Rattle.go_types.specs.Collect.{env_of, DeclaredTypes, is_finite, type_entity, declared_by, types_declared, collected}
+use Rattle.go_tree.specs.ScopeNames.Means.{binding}
+use Rattle.go_tree.specs.GoTypes.Answers.{given, only_if}
+use Rattle.go_tree.specs.GoTypes.Types.{GoType, named_type}
+use Rattle.go_tree.specs.GoTypes.Entities.{type_name, World}
+use Rattle.go_tree.specs.GoTypes.TypeNames.{resolved, type_meant}
+use Rattle.go_tree.specs.GoTypes.Programs.{a_type_spec, Program, Headed, headed}
+use Rattle.go_tree.specs.GoTypes.Collect.{env_of, DeclaredTypes, is_finite, type_entity, declared_by, types_declared, collected}
 use Rattle.typed_in_place.specs.Aliases.{DeclaresAlias}
 use Rattle.typed_in_place.specs.ProgramReplaced.{All}
 use Rattle.typed_in_place.proofs.Headers.{good_in, declared_in}
 use Rattle.typed_in_place.proofs.HeadersReplaced.{good_by_meant}
-use Rattle.constant_steps.specs.StepLaws.PartsTyped.{HeaderTyped}
-use Rattle.constant_steps.proofs.StepLaws.KnownConstants.{of-first, declares-it}
+use Rattle.splice_laws.specs.ConstantSteps.StepLaws.PartsTyped.{HeaderTyped}
+use Rattle.splice_laws.proofs.ConstantSteps.StepLaws.KnownConstants.{of-first, declares-it}
 
 known-if : (n : List ℕ) (r : Option GoType) → is_some (given (type_entity r) (λ e. Some (binding n e))) ≡ true → (v : GoType) × (r ≡ Some v)
 known-if n None e = absurd (grind (arith, e))

@@ -4,9 +4,9 @@ use Rattle.std.specs.List.{list_all}
 use mathlib.Core.Path.{sym, ◌∙◌}
 use Rattle.go_tree.specs.File.{File}
 use Rattle.pkg_graph.specs.Package.{Package}
-use Rattle.go_types.specs.Programs.{Program, headed}
-use Rattle.go_types.specs.Collect.{types_declared, collected}
-use Rattle.go_types.specs.WellTyped.{well_typed}
+use Rattle.go_tree.specs.GoTypes.Programs.{Program, headed}
+use Rattle.go_tree.specs.GoTypes.Collect.{types_declared, collected}
+use Rattle.go_tree.specs.GoTypes.WellTyped.{well_typed}
 use Rattle.typed_in_place.specs.ImportRule.{package_imports}
 use Rattle.typed_in_place.specs.ProgramReplaced.{All}
 use Rattle.typed_in_place.proofs.Rising.{and_first, and_second}
@@ -14,8 +14,8 @@ use Rattle.go_translation.specs.Packages as translated
 use Rattle.go_translation.specs.Packages.{sources, are_distinct, are_linked, are_well_typed}
 use Rattle.go_translation.specs.SameMeaning.{Packages, WellTyped, with_further, SameMeaning}
 use Rattle.run_rules.specs.Sites.{MarkRef, Site, part_span}
-use Rattle.constant_steps.specs.StepLaws.PartsTyped.{HeaderTyped}
-use Rattle.constant_steps.proofs.StepLaws.PartsTyped.{headers-typed}
+use Rattle.splice_laws.specs.ConstantSteps.StepLaws.PartsTyped.{HeaderTyped}
+use Rattle.splice_laws.proofs.ConstantSteps.StepLaws.PartsTyped.{headers-typed}
 use Rattle.alias_runs.specs.AliasSteps.AliasSteps.{form_put, members_with_form, AliasSwaps}
 use Rattle.alias_runs.proofs.AliasSteps.AliasStepLaw.{alias-step-means-the-same}
 use Rattle.alias_runs.proofs.AliasSteps.RetypedMeaning.{sources-append}

@@ -3,12 +3,12 @@ use Rattle.std.specs.Prelude.{◌≡◌, refl, ℕ, zero, suc, Bool, List, [], �
 use mathlib.Core.Path.{ap, ◌∙◌}
 use Rattle.go_tree.specs.Tree.{TypeExpr, Expr}
 use Rattle.go_tree.specs.File.{TypeSpec, Receiver, Decl, values, types, func, File}
-use Rattle.scope_names.specs.Means.{Environment}
+use Rattle.go_tree.specs.ScopeNames.Means.{Environment}
 use Rattle.pkg_graph.specs.Package.{Package}
-use Rattle.go_types.specs.Entities.{Entity, World}
-use Rattle.go_types.specs.TypeNames.{resolved}
-use Rattle.go_types.specs.Programs.{SourceFile, SourcePackage, Program, headed, block_names, file_block}
-use Rattle.go_types.specs.Collect.{file_env, declared_types, types_declared, aliased_world, typed_world}
+use Rattle.go_tree.specs.GoTypes.Entities.{Entity, World}
+use Rattle.go_tree.specs.GoTypes.TypeNames.{resolved}
+use Rattle.go_tree.specs.GoTypes.Programs.{SourceFile, SourcePackage, Program, headed, block_names, file_block}
+use Rattle.go_tree.specs.GoTypes.Collect.{file_env, declared_types, types_declared, aliased_world, typed_world}
 use Rattle.typed_in_place.specs.ProgramsAlike.{OneByOne, AliasesStand, TypesStand}
 use Rattle.typed_in_place.proofs.Collected.{declared_types_same, aliases_same, types_same}
 use Rattle.typed_in_place.proofs.ProgramsReplaced.{one_by_one, replaced_aliases_stand, replaced_types_stand}
@@ -16,10 +16,10 @@ use Rattle.run_rules.specs.FormTrees.{Form, as_expr}
 use Rattle.run_rules.specs.Programs.{top_place}
 use Rattle.run_rules.specs.Surroundings.{Place}
 use Rattle.run_rules.specs.Steps.{changes_for, new_receiver_option}
-use Rattle.constant_steps.specs.StepLaws.DeclStands.{ProgramBy, ResolvedAlike, TypesAlike, AtNth, changed}
-use Rattle.constant_steps.proofs.StepLaws.DeclChanged.{resolved_itself, types_itself}
-use Rattle.constant_steps.proofs.StepLaws.StepInPlace.{names-declared, program-by}
-use Rattle.constant_steps.specs.Alone.{PackageAt, this_package, a_later_package}
+use Rattle.splice_laws.specs.ConstantSteps.StepLaws.DeclStands.{ProgramBy, ResolvedAlike, TypesAlike, AtNth, changed}
+use Rattle.splice_laws.proofs.ConstantSteps.StepLaws.DeclChanged.{resolved_itself, types_itself}
+use Rattle.splice_laws.proofs.ConstantSteps.StepLaws.StepInPlace.{names-declared, program-by}
+use Rattle.splice_laws.specs.ConstantSteps.Alone.{PackageAt, this_package, a_later_package}
 use Rattle.alias_runs.specs.AliasSteps.AliasUses.{TypeUseThere}
 use Rattle.alias_runs.specs.AliasSteps.AliasSteps.{DeclOfFiles, DeclOfPackage, alias_put, form_put, SpecUses, DeclaredUses, ResolvedUses, DeclaredTypeUses}
 use Rattle.alias_runs.proofs.AliasSteps.AliasStepLaw.{program-put}

@@ -2,23 +2,23 @@
 use Rattle.std.specs.Prelude.{◌≡◌, ℕ, Bool, List, [], map, Option, Some, None, if◌then◌else◌}
 use mathlib.Core.Path.{ap, sym, ◌∙◌, subst}
 use Rattle.go_tree.specs.Tree.{TypeExpr, Expr}
-use Rattle.scope_names.specs.Means.{Environment, means, or_else}
-use Rattle.scope_names.specs.FreeNames.{free_type}
+use Rattle.go_tree.specs.ScopeNames.Means.{Environment, means, or_else}
+use Rattle.go_tree.specs.ScopeNames.FreeNames.{free_type}
 use Rattle.pkg_graph.specs.Package.{Package}
-use Rattle.go_types.specs.Entities.{Entity, World, Env, universe, block_of, meaning, exported}
-use Rattle.go_types.specs.Programs.{Program, block_names, file_block}
-use Rattle.go_types.specs.Collect.{env_of, file_env}
-use Rattle.go_types.proofs.Agreeing.{from_given}
+use Rattle.go_tree.specs.GoTypes.Entities.{Entity, World, Env, universe, block_of, meaning, exported}
+use Rattle.go_tree.specs.GoTypes.Programs.{Program, block_names, file_block}
+use Rattle.go_tree.specs.GoTypes.Collect.{env_of, file_env}
+use Rattle.go_tree.proofs.GoTypes.Agreeing.{from_given}
 use Rattle.typed_in_place.specs.Aliases.{SameText}
 use Rattle.typed_in_place.specs.ImportRule.{imports_sound}
 use Rattle.typed_in_place.specs.Leaves.{Names, plain_name, qualified_name}
 use Rattle.run_rules.specs.Programs.{linked_file, linked_imports}
 use Rattle.run_rules.specs.Sites.{MarkRef, Site, part_span, qualifier, member_of}
 use Rattle.run_rules.specs.Naming.{names_by}
-use Rattle.constant_steps.proofs.MarksFound.{StandsThere}
-use Rattle.constant_steps.specs.QualifiedSteps.MemberNames.{member_name, NamesMember, own_member, imported_member}
-use Rattle.constant_steps.specs.QualifiedSteps.NamedUse.{looked_up}
-use Rattle.constant_steps.proofs.QualifiedSteps.MembersNamed.{OwnName, own_name, OfPackage, of_package}
+use Rattle.splice_laws.proofs.ConstantSteps.MarksFound.{StandsThere}
+use Rattle.splice_laws.specs.ConstantSteps.QualifiedSteps.MemberNames.{member_name, NamesMember, own_member, imported_member}
+use Rattle.splice_laws.specs.ConstantSteps.QualifiedSteps.NamedUse.{looked_up}
+use Rattle.splice_laws.proofs.ConstantSteps.QualifiedSteps.MembersNamed.{OwnName, own_name, OfPackage, of_package}
 use Rattle.alias_runs.specs.AliasSteps.AliasUses.{NoneLocal}
 use Rattle.alias_runs.specs.AliasSites.FirstAlias.{FirstAlias, AliasEnd}
 use Rattle.alias_runs.proofs.AliasSites.AliasMeant.{behind-imports, in-block}

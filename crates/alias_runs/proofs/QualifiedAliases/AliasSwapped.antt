@@ -4,14 +4,14 @@ use Rattle.std.specs.List.{list_all}
 use mathlib.Core.Path.{ap, sym, ◌∙◌, subst}
 use Rattle.go_tree.specs.Tree.{TypeExpr, named, pointer, slice_type, map_type, struct_type, Expr, ident, selector, star}
 use Rattle.go_tree.specs.File.{File}
-use Rattle.scope_names.specs.Means.{Environment, means}
+use Rattle.go_tree.specs.ScopeNames.Means.{Environment, means}
 use Rattle.pkg_graph.specs.Package.{Package}
-use Rattle.go_types.specs.Answers.{given}
-use Rattle.go_types.specs.Entities.{Entity, type_of_name, World, Env, block_of, exported}
-use Rattle.go_types.specs.TypeNames.{resolved}
-use Rattle.go_types.specs.Programs.{Program, headed, block_names, file_block}
-use Rattle.go_types.specs.Collect.{file_env, aliased_world, typed_world, collected}
-use Rattle.go_types.specs.WellTyped.{well_typed}
+use Rattle.go_tree.specs.GoTypes.Answers.{given}
+use Rattle.go_tree.specs.GoTypes.Entities.{Entity, type_of_name, World, Env, block_of, exported}
+use Rattle.go_tree.specs.GoTypes.TypeNames.{resolved}
+use Rattle.go_tree.specs.GoTypes.Programs.{Program, headed, block_names, file_block}
+use Rattle.go_tree.specs.GoTypes.Collect.{file_env, aliased_world, typed_world, collected}
+use Rattle.go_tree.specs.GoTypes.WellTyped.{well_typed}
 use Rattle.typed_in_place.specs.Aliases.{TypesEnd}
 use Rattle.typed_in_place.specs.ImportRule.{package_imports}
 use Rattle.typed_in_place.specs.Aliases as ends
@@ -24,11 +24,11 @@ use Rattle.go_translation.specs.SameMeaning.{Packages, WellTyped, with_further, 
 use Rattle.run_rules.specs.Programs.{linked_file, linked_imports}
 use Rattle.run_rules.specs.Sites.{MarkRef, Site, part_span, a_type_part}
 use Rattle.run_rules.specs.FormTrees.{as_type}
-use Rattle.constant_steps.specs.PlainUse.{linked_at}
-use Rattle.constant_steps.proofs.AfterStep.{package_beside}
-use Rattle.constant_steps.proofs.MarksFound.{StandsThere, nth_mapped}
-use Rattle.constant_steps.proofs.PlainImports.{Distinct, distinct_sources}
-use Rattle.constant_steps.proofs.QualifiedSteps.Declared.{sound_there}
+use Rattle.splice_laws.specs.ConstantSteps.PlainUse.{linked_at}
+use Rattle.splice_laws.proofs.ConstantSteps.AfterStep.{package_beside}
+use Rattle.splice_laws.proofs.ConstantSteps.MarksFound.{StandsThere, nth_mapped}
+use Rattle.splice_laws.proofs.ConstantSteps.PlainImports.{Distinct, distinct_sources}
+use Rattle.splice_laws.proofs.ConstantSteps.QualifiedSteps.Declared.{sound_there}
 use Rattle.alias_runs.specs.AliasSteps.AliasUses.{TypeUseThere, NamesAlias}
 use Rattle.alias_runs.specs.AliasSteps.AliasSteps.{form_put, members_with_form, AliasSwaps}
 use Rattle.alias_runs.proofs.AliasSteps.AliasNamed.{alias-resolved, alias-use}

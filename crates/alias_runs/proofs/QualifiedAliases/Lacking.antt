@@ -4,13 +4,13 @@ use mathlib.Core.Path.{ap, sym, ◌∙◌}
 use Rattle.std.proofs.Common.{arith}
 use Rattle.std.proofs.lemmas.Bool.{or_parts}
 use Rattle.std.proofs.lemmas.Slice.Eq.{bytes_eq-Decides}
-use Rattle.scope_names.specs.Means.{Environment, means, is_blank, or_else}
-use Rattle.go_types.specs.Answers.{is_among}
-use Rattle.go_types.specs.Entities.{Entity, refused, universe, World, Binds, block_of, is_exported}
-use Rattle.go_types.specs.Statements.{bind_each, bound_names}
-use Rattle.go_types.specs.Programs as source
-use Rattle.go_types.specs.Programs.{Header, Headed, SourceFile, SourcePackage, Program, all_headers, header_names, names_in, headed_file, headed_files, headed_package, headed, file_block, is_main}
-use Rattle.go_types.specs.Collect.{alias_entity, good_entity, declared_by, entity_binds, binds_or_refused, block_by, aliased_world, types_declared, typed_world, valued_world}
+use Rattle.go_tree.specs.ScopeNames.Means.{Environment, means, is_blank, or_else}
+use Rattle.go_tree.specs.GoTypes.Answers.{is_among}
+use Rattle.go_tree.specs.GoTypes.Entities.{Entity, refused, universe, World, Binds, block_of, is_exported}
+use Rattle.go_tree.specs.GoTypes.Statements.{bind_each, bound_names}
+use Rattle.go_tree.specs.GoTypes.Programs as source
+use Rattle.go_tree.specs.GoTypes.Programs.{Header, Headed, SourceFile, SourcePackage, Program, all_headers, header_names, names_in, headed_file, headed_files, headed_package, headed, file_block, is_main}
+use Rattle.go_tree.specs.GoTypes.Collect.{alias_entity, good_entity, declared_by, entity_binds, binds_or_refused, block_by, aliased_world, types_declared, typed_world, valued_world}
 use Rattle.typed_in_place.specs.Aliases.{after_types, after_values, at_last}
 use Rattle.typed_in_place.specs.Declared.{HasNumber}
 use Rattle.typed_in_place.specs.Known.{BlockClearer, end_of_block, was_refused, was_known}
@@ -21,11 +21,11 @@ use Rattle.typed_in_place.proofs.SameUses.{Within, each_within}
 use Rattle.typed_in_place.proofs.SettledNames.{block_of_package}
 use Rattle.form_meaning.proofs.FormInPlace.Uses.{among_append}
 use Rattle.pkg_graph.specs.Members.{decls_from}
-use Rattle.written_literal.specs.LinkedNames.{NoneNumbered}
-use Rattle.written_literal.proofs.NamesMeant.{means_join}
-use Rattle.constant_steps.specs.Alone.{block_from, PackageAt, this_package, a_later_package}
-use Rattle.constant_steps.proofs.FirstNames.{other_name, neither}
-use Rattle.constant_steps.proofs.PlainImports.{Distinct}
+use Rattle.splice_laws.specs.WrittenLiteral.LinkedNames.{NoneNumbered}
+use Rattle.splice_laws.proofs.WrittenLiteral.NamesMeant.{means_join}
+use Rattle.splice_laws.specs.ConstantSteps.Alone.{block_from, PackageAt, this_package, a_later_package}
+use Rattle.splice_laws.proofs.ConstantSteps.FirstNames.{other_name, neither}
+use Rattle.splice_laws.proofs.ConstantSteps.PlainImports.{Distinct}
 use Rattle.alias_runs.specs.AliasSites.FirstAlias.{AliasEnd, before_types, with_types}
 use Rattle.alias_runs.proofs.AliasSites.AliasFirst.{or_second, lacking, decls_unbound}
 

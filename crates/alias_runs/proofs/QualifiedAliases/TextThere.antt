@@ -4,18 +4,18 @@ use mathlib.Core.Path.{ap, sym, ◌∙◌, subst}
 use Rattle.std.proofs.Common.{arith}
 use Rattle.go_tree.specs.Tree.{NameAt, TypeExpr, named, pointer, slice_type, map_type, struct_type, Fields, no_fields, field}
 use Rattle.go_tree.specs.File.{ImportSpec}
-use Rattle.scope_names.specs.Means as names
-use Rattle.scope_names.specs.Means.{Environment, means, is_blank, numbered, or_else}
-use Rattle.scope_names.specs.FreeNames.{free_type, free_fields}
-use Rattle.scope_names.specs.Identifiers.{type_identifiers, fields_identifiers}
+use Rattle.go_tree.specs.ScopeNames.Means as names
+use Rattle.go_tree.specs.ScopeNames.Means.{Environment, means, is_blank, numbered, or_else}
+use Rattle.go_tree.specs.ScopeNames.FreeNames.{free_type, free_fields}
+use Rattle.go_tree.specs.ScopeNames.Identifiers.{type_identifiers, fields_identifiers}
 use Rattle.pkg_graph.specs.Package.{Package, import_specs}
 use Rattle.pkg_graph.specs.Members.{Target, local, imported, member, predeclared, import_name, package_block}
-use Rattle.go_types.specs.Answers.{given, one_of, is_among}
-use Rattle.go_types.specs.Entities.{Entity, type_of_name, World, Env, universe, block_of, meaning, exported, package_of, is_exported}
-use Rattle.go_types.specs.TypeNames.{field_package}
-use Rattle.go_types.specs.Programs.{file_block}
-use Rattle.go_types.specs.Collect.{file_env}
-use Rattle.go_types.proofs.Agreeing.{from_given}
+use Rattle.go_tree.specs.GoTypes.Answers.{given, one_of, is_among}
+use Rattle.go_tree.specs.GoTypes.Entities.{Entity, type_of_name, World, Env, universe, block_of, meaning, exported, package_of, is_exported}
+use Rattle.go_tree.specs.GoTypes.TypeNames.{field_package}
+use Rattle.go_tree.specs.GoTypes.Programs.{file_block}
+use Rattle.go_tree.specs.GoTypes.Collect.{file_env}
+use Rattle.go_tree.proofs.GoTypes.Agreeing.{from_given}
 use Rattle.typed_in_place.specs.Aliases.{SameText, same_name, same_pointer, same_slice, same_map, same_struct, SameFields, same_end, same_field}
 use Rattle.typed_in_place.specs.ImportRule.{imports_sound}
 use Rattle.form_meaning.proofs.FormInPlace.Uses.{among_append}
@@ -24,14 +24,14 @@ use Rattle.run_rules.specs.Programs.{linked_file, linked_imports, top_place}
 use Rattle.run_rules.specs.Sites.{Where, mark_of, outer, outer_meaning, qualifier, member_of}
 use Rattle.run_rules.specs.Naming.{Names, qualified, qualified_or, type_there, fields_there, unnamed}
 use Rattle.run_rules.specs.Obstacles.{Shadowed, hidden_name, hidden_in_type, hidden_in_fields, shadowed_name, shadowed_in_type, shadowed_in_fields, unless_exported, means_this}
-use Rattle.written_literal.proofs.NamesMeant.{means_join, IsImport, Answered, matched_means, all_imports_match}
-use Rattle.written_literal.proofs.TypesWritten.{one_of_none, exported_unless}
-use Rattle.constant_steps.specs.Alone.{block_from}
-use Rattle.constant_steps.specs.PlainUse.{linked_at}
-use Rattle.constant_steps.proofs.NamesOutside.{MemberThere, member_there, not_local, linked_block, unshadowed, equal_numbers}
-use Rattle.constant_steps.proofs.QualifiedSteps.MembersNamed.{ByImport, by_import, OfPackage, of_package}
-use Rattle.constant_steps.proofs.QualifiedSteps.Qualifiers.{OwnPath, qualifier_path}
-use Rattle.constant_steps.proofs.QualifiedSteps.Targets.{OfKind, block_kind, number_in, by_number, numbered_by, numbered_spelled}
+use Rattle.splice_laws.proofs.WrittenLiteral.NamesMeant.{means_join, IsImport, Answered, matched_means, all_imports_match}
+use Rattle.splice_laws.proofs.WrittenLiteral.TypesWritten.{one_of_none, exported_unless}
+use Rattle.splice_laws.specs.ConstantSteps.Alone.{block_from}
+use Rattle.splice_laws.specs.ConstantSteps.PlainUse.{linked_at}
+use Rattle.splice_laws.proofs.ConstantSteps.NamesOutside.{MemberThere, member_there, not_local, linked_block, unshadowed, equal_numbers}
+use Rattle.splice_laws.proofs.ConstantSteps.QualifiedSteps.MembersNamed.{ByImport, by_import, OfPackage, of_package}
+use Rattle.splice_laws.proofs.ConstantSteps.QualifiedSteps.Qualifiers.{OwnPath, qualifier_path}
+use Rattle.splice_laws.proofs.ConstantSteps.QualifiedSteps.Targets.{OfKind, block_kind, number_in, by_number, numbered_by, numbered_spelled}
 use Rattle.alias_runs.specs.AliasSteps.AliasUses.{NoneLocal}
 use Rattle.alias_runs.proofs.AliasSites.AliasFirst.{spelled-here}
 use Rattle.alias_runs.proofs.AliasSites.AliasMeant.{behind-imports}

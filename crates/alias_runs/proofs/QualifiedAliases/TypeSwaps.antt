@@ -4,26 +4,26 @@ use mathlib.Core.Path.{ap, sym, ◌∙◌, subst}
 use Rattle.std.proofs.Common.{arith}
 use Rattle.go_tree.specs.Tree.{TypeExpr, Expr, composite, Stmt, const_decl, ValueSpecs, no_specs, spec}
 use Rattle.go_tree.specs.File.{TypeSpec, Decl, values, types, func, File}
-use Rattle.scope_names.specs.Means.{Environment}
+use Rattle.go_tree.specs.ScopeNames.Means.{Environment}
 use Rattle.pkg_graph.specs.Package.{Package}
-use Rattle.go_types.specs.Entities.{Entity, World, Env}
-use Rattle.go_types.specs.TypeNames.{resolved}
-use Rattle.go_types.specs.Typing.{Repeated, nothing_to_repeat}
-use Rattle.go_types.specs.Programs.{Program, headed, block_names, file_block}
-use Rattle.go_types.specs.Collect.{file_env, aliased_world, typed_world}
+use Rattle.go_tree.specs.GoTypes.Entities.{Entity, World, Env}
+use Rattle.go_tree.specs.GoTypes.TypeNames.{resolved}
+use Rattle.go_tree.specs.GoTypes.Typing.{Repeated, nothing_to_repeat}
+use Rattle.go_tree.specs.GoTypes.Programs.{Program, headed, block_names, file_block}
+use Rattle.go_tree.specs.GoTypes.Collect.{file_env, aliased_world, typed_world}
 use Rattle.typed_in_place.specs.ProgramReplaced.{ValuesEnd}
 use Rattle.run_rules.specs.FormTrees.{Form, as_type}
 use Rattle.run_rules.specs.Surroundings.{Place, Use, Seen, seen, seen_type, seen_stmt, plain_slot, after_constants, repeated_by}
 use Rattle.run_rules.specs.Programs.{linked_file, linked_imports, top_place, types_at_top, decl_seen}
 use Rattle.run_rules.specs.Sites.{Site, part_span}
 use Rattle.run_rules.specs.Steps.{changes_for}
-use Rattle.constant_steps.specs.StepLaws.Answered.{RepeatsStay, StmtKnown}
-use Rattle.constant_steps.specs.StepLaws.DeclStands.{AtNth}
-use Rattle.constant_steps.specs.Alone.{PackageAt}
-use Rattle.constant_steps.specs.PlainUse.{linked_at, NoneRepeats, IsSimple, AllSimple}
-use Rattle.constant_steps.proofs.AfterStep.{at_package}
-use Rattle.constant_steps.proofs.MarksFound.{nth_mapped}
-use Rattle.constant_steps.proofs.SimpleUses.{simple_known}
+use Rattle.splice_laws.specs.ConstantSteps.StepLaws.Answered.{RepeatsStay, StmtKnown}
+use Rattle.splice_laws.specs.ConstantSteps.StepLaws.DeclStands.{AtNth}
+use Rattle.splice_laws.specs.ConstantSteps.Alone.{PackageAt}
+use Rattle.splice_laws.specs.ConstantSteps.PlainUse.{linked_at, NoneRepeats, IsSimple, AllSimple}
+use Rattle.splice_laws.proofs.ConstantSteps.AfterStep.{at_package}
+use Rattle.splice_laws.proofs.ConstantSteps.MarksFound.{nth_mapped}
+use Rattle.splice_laws.proofs.ConstantSteps.SimpleUses.{simple_known}
 use Rattle.alias_runs.specs.AliasSteps.Retypable.{LiteralKnown}
 use Rattle.alias_runs.specs.AliasSteps.AliasUses.{AtTop, TypeUseThere, AllAliasUses}
 use Rattle.alias_runs.specs.AliasSteps.AliasSteps.{DeclOfPackage, form_put, SpecUses, DeclaredUses, ResolvedUses, DeclaredTypeUses, WholeUses, AliasSwaps}

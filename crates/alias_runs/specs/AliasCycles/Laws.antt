@@ -6,9 +6,9 @@ use Rattle.run_rules.specs.Cycles.{is_recursive}
 use Rattle.run_rules.specs.Run.{Standing, Logged, Next, Run}
 use Rattle.run_rules.specs.Sites.{MarkRef}
 use Rattle.order_runs.specs.RunSteps.RunPackages.{members_of}
-use Rattle.cycle_runs.specs.StepCycles.Steps.{StandsAtEnds}
-use Rattle.cycle_runs.specs.ImportCycles.ImportSteps.{packages_added}
-use Rattle.cycle_runs.specs.OrderCycles.Steps.{site_added, GivesWayAdded}
+use Rattle.order_runs.specs.CycleRuns.StepCycles.Steps.{StandsAtEnds}
+use Rattle.order_runs.specs.CycleRuns.ImportCycles.ImportSteps.{packages_added}
+use Rattle.order_runs.specs.CycleRuns.OrderCycles.Steps.{site_added, GivesWayAdded}
 use Rattle.alias_runs.specs.AliasNext.{IsImportingAlias}
 use Rattle.alias_runs.specs.AliasCycles.Steps.{AliasCallsNothing, EachKeepsCycles}
 

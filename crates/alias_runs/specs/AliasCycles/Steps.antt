@@ -8,9 +8,9 @@ use Rattle.run_rules.specs.Run.{Standing, Logged, Next, Run, ends, goes_on, is_c
 use Rattle.run_rules.specs.Sites.{MarkRef, part_span}
 use Rattle.run_rules.specs.Steps.{At, same_here}
 use Rattle.order_runs.specs.RunSteps.RunPackages.{members_of}
-use Rattle.cycle_laws.specs.ConstantCycles.Laws.{NamesFor, TypesFor}
-use Rattle.cycle_runs.specs.ImportCycles.ImportSteps.{packages_added}
-use Rattle.cycle_runs.specs.OrderCycles.Steps.{site_added, GivesWayAdded}
+use Rattle.order_runs.specs.CycleLaws.ConstantCycles.Laws.{NamesFor, TypesFor}
+use Rattle.order_runs.specs.CycleRuns.ImportCycles.ImportSteps.{packages_added}
+use Rattle.order_runs.specs.CycleRuns.OrderCycles.Steps.{site_added, GivesWayAdded}
 use Rattle.alias_runs.specs.QualifiedAliases.AliasUse.{text_there}
 use Rattle.alias_runs.specs.CalledAliases.CalledUse.{IsPlaced, as_written, as_called}
 use Rattle.alias_runs.specs.AliasNext.{IsImportingAlias}

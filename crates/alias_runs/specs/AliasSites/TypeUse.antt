@@ -3,14 +3,14 @@
 use Rattle.std.specs.Prelude.{◌≡◌, ℕ, Bool, false, ◌&&◌, List, [], ◌∷◌, None, Some, nat_eq, slice_get}
 use Rattle.go_tree.specs.Tree.{TypeExpr, named}
 use Rattle.go_tree.specs.File.{Decl, func}
-use Rattle.scope_names.specs.Means.{is_blank}
+use Rattle.go_tree.specs.ScopeNames.Means.{is_blank}
 use Rattle.pkg_graph.specs.Package.{Package}
 use Rattle.run_rules.specs.FormTrees.{Form, as_type}
 use Rattle.run_rules.specs.Surroundings.{Seen, seen, seen_type, seen_stmt}
 use Rattle.run_rules.specs.Programs.{top_place, decl_seen}
 use Rattle.run_rules.specs.Sites.{MarkRef, Site, a_type_part, part_span}
 use Rattle.run_rules.specs.Steps.{changes_for, new_receiver_option}
-use Rattle.constant_steps.specs.PlainUse.{AllSimple}
+use Rattle.splice_laws.specs.ConstantSteps.PlainUse.{AllSimple}
 use Rattle.alias_runs.specs.AliasSteps.AliasUses.{NamedUses}
 use Rattle.alias_runs.specs.AliasSites.NamedUse.{NamedUse}
 

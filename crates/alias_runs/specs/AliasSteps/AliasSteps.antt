@@ -3,18 +3,18 @@
 use Rattle.std.specs.Prelude.{◌≡◌, ℕ, zero, suc, Bool, List, [], ◌∷◌, ◌++◌, None}
 use Rattle.go_tree.specs.Tree.{TypeExpr}
 use Rattle.go_tree.specs.File.{TypeSpec, Decl, types, func, File}
-use Rattle.scope_names.specs.Means.{Environment}
+use Rattle.go_tree.specs.ScopeNames.Means.{Environment}
 use Rattle.pkg_graph.specs.Package as run
-use Rattle.go_types.specs.Entities.{Entity, World}
-use Rattle.go_types.specs.TypeNames.{resolved}
-use Rattle.go_types.specs.Programs.{SourceFile, SourcePackage, Program, headed, block_names, file_block}
-use Rattle.go_types.specs.Collect.{file_env, aliased_world, typed_world}
+use Rattle.go_tree.specs.GoTypes.Entities.{Entity, World}
+use Rattle.go_tree.specs.GoTypes.TypeNames.{resolved}
+use Rattle.go_tree.specs.GoTypes.Programs.{SourceFile, SourcePackage, Program, headed, block_names, file_block}
+use Rattle.go_tree.specs.GoTypes.Collect.{file_env, aliased_world, typed_world}
 use Rattle.typed_in_place.specs.ProgramReplaced.{ValuesEnd}
 use Rattle.go_translation.specs.Packages.{Package}
 use Rattle.run_rules.specs.Programs.{top_place, decl_seen}
 use Rattle.run_rules.specs.FormTrees.{Form}
 use Rattle.run_rules.specs.Steps.{changes_for, new_decl, new_receiver_option, change_nth}
-use Rattle.constant_steps.specs.StepLaws.DeclStands.{AtNth, changed, file_changed}
+use Rattle.splice_laws.specs.ConstantSteps.StepLaws.DeclStands.{AtNth, changed, file_changed}
 use Rattle.alias_runs.specs.AliasSteps.AliasUses.{TypeUseThere, TypeUses, AllAliasUses}
 
 -- of the declaration with these numbers of its file and in its file, in a package with this number and a file with

@@ -5,21 +5,21 @@ use Rattle.std.specs.Prelude.{◌≡◌, ℕ, true, false, Bool, List, [], ◌�
 use Rattle.go_tree.specs.Tree.{NameAt, TypeExpr, named, pointer, slice_type, map_type, struct_type, Fields, no_fields}
 use Rattle.go_tree.specs.Tree.{field, Expr, type_operand, star}
 use Rattle.go_tree.specs.File.{TypeSpec}
-use Rattle.scope_names.specs.Means.{is_blank, means}
-use Rattle.scope_names.specs.FreeNames.{free_type}
-use Rattle.go_types.specs.Answers.{is_among}
-use Rattle.go_types.specs.Types.{GoType, pointer_to}
-use Rattle.go_types.specs.Entities.{Entity, type_name, type_of_name, World, Env, block_of}
-use Rattle.go_types.specs.TypeNames.{resolved, type_meant}
-use Rattle.go_types.specs.Programs.{Program, Headed, headed}
-use Rattle.go_types.specs.Collect.{env_of}
+use Rattle.go_tree.specs.ScopeNames.Means.{is_blank, means}
+use Rattle.go_tree.specs.ScopeNames.FreeNames.{free_type}
+use Rattle.go_tree.specs.GoTypes.Answers.{is_among}
+use Rattle.go_tree.specs.GoTypes.Types.{GoType, pointer_to}
+use Rattle.go_tree.specs.GoTypes.Entities.{Entity, type_name, type_of_name, World, Env, block_of}
+use Rattle.go_tree.specs.GoTypes.TypeNames.{resolved, type_meant}
+use Rattle.go_tree.specs.GoTypes.Programs.{Program, Headed, headed}
+use Rattle.go_tree.specs.GoTypes.Collect.{env_of}
 use Rattle.typed_in_place.specs.Aliases.{SameText, DeclaresAlias}
 use Rattle.typed_in_place.specs.Leaves.{Names}
 use Rattle.run_rules.specs.FormTrees.{Form, as_expr, as_dropped, as_block, as_type}
 use Rattle.run_rules.specs.Steps.{changes_for}
 use Rattle.run_rules.specs.Surroundings.{Place, Seen, seen, seen_type, seen_stmt, is_local}
-use Rattle.constant_steps.specs.StepLaws.Answered.{ExprKnown, StmtKnown}
-use Rattle.constant_steps.specs.StepLaws.NamesOutside.{NamesOutside}
+use Rattle.splice_laws.specs.ConstantSteps.StepLaws.Answered.{ExprKnown, StmtKnown}
+use Rattle.splice_laws.specs.ConstantSteps.StepLaws.NamesOutside.{NamesOutside}
 use Rattle.alias_runs.specs.AliasSteps.Retypable.{IsCalleePlace, LiteralKnown}
 
 -- names outside a declaration mean at this place what they mean at the top of the file, in the same package

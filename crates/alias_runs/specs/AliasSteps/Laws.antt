@@ -5,14 +5,14 @@ use Rattle.std.specs.List.{list_all}
 use Rattle.go_tree.specs.declared.spans.Span.{Span}
 use Rattle.go_tree.specs.Tree.{NameAt, TypeExpr, named, Expr}
 use Rattle.go_tree.specs.File.{TypeSpec, File}
-use Rattle.scope_names.specs.Means.{means, is_blank}
-use Rattle.scope_names.specs.FreeNames.{free_type}
+use Rattle.go_tree.specs.ScopeNames.Means.{means, is_blank}
+use Rattle.go_tree.specs.ScopeNames.FreeNames.{free_type}
 use Rattle.pkg_graph.specs.Package as run
-use Rattle.go_types.specs.Types.{GoType}
-use Rattle.go_types.specs.Entities.{Entity, World, Env, block_of}
-use Rattle.go_types.specs.TypeNames.{resolved, type_meant}
-use Rattle.go_types.specs.Programs.{Program, Headed, headed}
-use Rattle.go_types.specs.Collect.{aliased_world, collected}
+use Rattle.go_tree.specs.GoTypes.Types.{GoType}
+use Rattle.go_tree.specs.GoTypes.Entities.{Entity, World, Env, block_of}
+use Rattle.go_tree.specs.GoTypes.TypeNames.{resolved, type_meant}
+use Rattle.go_tree.specs.GoTypes.Programs.{Program, Headed, headed}
+use Rattle.go_tree.specs.GoTypes.Collect.{aliased_world, collected}
 use Rattle.typed_in_place.specs.Aliases.{TypesEnd}
 use Rattle.typed_in_place.specs.ImportRule.{package_imports}
 use Rattle.typed_in_place.specs.Leaves.{Names}

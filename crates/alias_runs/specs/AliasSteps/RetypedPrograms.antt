@@ -2,16 +2,16 @@
 -- step from the one to the other (Go specification, Alias declarations; Packages; Program execution).
 use Rattle.std.specs.Prelude.{◌≡◌, true, ℕ, Bool, List, ◌++◌}
 use Rattle.std.specs.List.{list_all}
-use Rattle.scope_names.specs.Means.{Environment}
-use Rattle.go_types.specs.Entities.{Entity, World}
-use Rattle.go_types.specs.Programs.{Header, Program, headed}
-use Rattle.go_types.specs.Collect.{file_env, aliased_world, typed_world, collected}
+use Rattle.go_tree.specs.ScopeNames.Means.{Environment}
+use Rattle.go_tree.specs.GoTypes.Entities.{Entity, World}
+use Rattle.go_tree.specs.GoTypes.Programs.{Header, Program, headed}
+use Rattle.go_tree.specs.GoTypes.Collect.{file_env, aliased_world, typed_world, collected}
 use Rattle.typed_in_place.specs.ImportRule.{package_imports}
 use Rattle.typed_in_place.specs.ProgramsAlike.{OneByOne}
 use Rattle.typed_in_place.specs.ProgramReplaced.{ValuesEnd}
 use Rattle.go_translation.specs.Packages.{Package, sources}
 use Rattle.go_translation.specs.SameMeaning.{Packages, WellTyped, with_further}
-use Rattle.constant_steps.specs.StepLaws.DeclStands.{body_there, ProgramBy, ResolvedAlike, TypesAlike}
+use Rattle.splice_laws.specs.ConstantSteps.StepLaws.DeclStands.{body_there, ProgramBy, ResolvedAlike, TypesAlike}
 use Rattle.alias_runs.specs.AliasTexts.Retyped.{HeaderRetyped}
 
 -- two headers with types written otherwise, in a package with this number, which has the name `main` or not, in a file

@@ -5,11 +5,11 @@ use Rattle.go_tree.specs.declared.spans.Span.{Span}
 use Rattle.go_tree.specs.declared.exprs.Rest.{Rest}
 use Rattle.go_tree.specs.Tree.{Expr, call, no_exprs, expr_and, Stmts}
 use Rattle.go_tree.specs.File.{Func}
-use Rattle.go_types.specs.Types.{GoType}
-use Rattle.go_types.specs.Entities.{New, builtin, World, Env}
-use Rattle.go_types.specs.Programs.{Header, Headed}
-use Rattle.go_types.specs.Collect.{env_of}
-use Rattle.go_types.specs.WellTyped.{body_env}
+use Rattle.go_tree.specs.GoTypes.Types.{GoType}
+use Rattle.go_tree.specs.GoTypes.Entities.{New, builtin, World, Env}
+use Rattle.go_tree.specs.GoTypes.Programs.{Header, Headed}
+use Rattle.go_tree.specs.GoTypes.Collect.{env_of}
+use Rattle.go_tree.specs.GoTypes.WellTyped.{body_env}
 use Rattle.go_kernel.specs.Kernel.{ImportPath}
 use Rattle.go_translation.specs.Here.{Here}
 use Rattle.go_translation.specs.Translation.{expr_term, stmts_term}
@@ -63,8 +63,8 @@ RetypedVariablesMean =
 
 -- ---- an argument that is a type, also with `*` before it
 
--- A call with one argument, which is a type: where the type is written otherwise, by a name, as a text or with `*` before
--- it, the call is typed alike (Go specification, Allocation; Making slices, maps and channels).
+-- A call with one argument, which is a type: where the type is written otherwise, by a name, as a text or with `*`
+-- before it, the call is typed alike (Go specification, Allocation; Making slices, maps and channels).
 abbrev pub CallsOnTypesStand : Type 0
 CallsOnTypesStand =
     (around : List (List ℕ)) (a : Env) (s : Span) (b e f : Expr Span) (t : GoType) (z : Rest) → NamesType a e t →

@@ -5,16 +5,16 @@ use Rattle.std.specs.Prelude.{◌≡◌, ℕ, Bool, true, false, ◌&&◌, List,
 use Rattle.go_tree.specs.Tree.{NameAt, TypeExpr}
 use Rattle.go_tree.specs.File.{Decl}
 use Rattle.pkg_graph.specs.Package.{Package}
-use Rattle.go_types.specs.Programs.{Program, is_init, block_names}
+use Rattle.go_tree.specs.GoTypes.Programs.{Program, is_init, block_names}
 use Rattle.typed_in_place.specs.ImportRule.{imports_sound}
 use Rattle.run_rules.specs.Programs.{linked_file, linked_imports, decl_seen}
 use Rattle.run_rules.specs.Sites.{MarkRef, Where, Site, an_alias, a_type_part, where_is, inlinable}
 use Rattle.run_rules.specs.Naming.{Named, names_by, imports_added}
 use Rattle.run_rules.specs.FormTrees.{FormKind, Form, as_type}
 use Rattle.run_rules.specs.Reduced.{becomes, home_place, reduced, alias_type}
-use Rattle.constant_steps.specs.PlainUse.{AllSimple}
-use Rattle.constant_steps.specs.QualifiedSteps.MemberNames.{member_name, NamesMember}
-use Rattle.constant_steps.specs.QualifiedSteps.NamedUse.{PackageStands}
+use Rattle.splice_laws.specs.ConstantSteps.PlainUse.{AllSimple}
+use Rattle.splice_laws.specs.ConstantSteps.QualifiedSteps.MemberNames.{member_name, NamesMember}
+use Rattle.splice_laws.specs.ConstantSteps.QualifiedSteps.NamedUse.{PackageStands}
 use Rattle.alias_runs.specs.AliasSites.TypeUse.{AllTheType, ReceiverStays}
 use Rattle.alias_runs.specs.QualifiedAliases.NamedTexts.{part_name, AllNamed}
 

@@ -4,8 +4,8 @@ use Rattle.std.specs.Prelude.{◌≡◌, ℕ, Bool, true, List, ◌++◌}
 use Rattle.std.specs.List.{list_all}
 use Rattle.go_tree.specs.declared.spans.Span.{Span}
 use Rattle.pkg_graph.specs.Package.{Package}
-use Rattle.go_types.specs.Programs.{Program, headed}
-use Rattle.go_types.specs.Collect.{collected}
+use Rattle.go_tree.specs.GoTypes.Programs.{Program, headed}
+use Rattle.go_tree.specs.GoTypes.Collect.{collected}
 use Rattle.typed_in_place.specs.ImportRule.{package_imports}
 use Rattle.go_translation.specs.Packages as translated
 use Rattle.go_translation.specs.Packages.{sources, are_distinct, are_well_typed}
@@ -13,7 +13,8 @@ use Rattle.go_translation.specs.SameMeaning.{Packages, WellTyped, with_further, 
 use Rattle.run_rules.specs.Sites.{MarkRef, Site, part_span}
 use Rattle.run_rules.specs.FormTrees.{as_type}
 use Rattle.alias_runs.specs.AliasSteps.AliasSteps.{form_put, members_with_form, AliasSwaps}
-use Rattle.alias_runs.specs.QualifiedAliases.AliasUse.{AliasUse, AliasUseStands, IsTypeUse, text_there, PackagesHold, ImportsHold}
+use Rattle.alias_runs.specs.QualifiedAliases.AliasUse.{AliasUse, AliasUseStands, IsTypeUse, text_there, PackagesHold}
+use Rattle.alias_runs.specs.QualifiedAliases.AliasUse.{ImportsHold}
 
 -- The form of a use of an alias as a written type, in whose way nothing stands, is the type that the alias is declared
 -- as, written at the use, and stands in the use's place.

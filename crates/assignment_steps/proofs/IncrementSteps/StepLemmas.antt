@@ -1,25 +1,25 @@
 -- Updates by the constant 1.
 use Rattle.std.proofs.Common.{◌≡◌, ◌∙◌, Bool, false, List, [], ◌∷◌, Option, Some, None, Result, Ok, Err, refl, sym, ap, ap₂, subst, pos}
 use Rattle.go_tree.specs.declared.operators.BinOp.{BinOp}
-use Rattle.const_eval.specs.declared.kinds.Kind.TheVariants as kind
-use Rattle.const_eval.specs.declared.consts.Const.{Const}
-use Rattle.const_eval.specs.declared.consts.Const.TheVariants.{Whole}
-use Rattle.go_types.specs.Answers.{given, meets, only_if}
-use Rattle.go_types.specs.Types.{GoType, untyped}
-use Rattle.go_types.specs.Defined.{Defined}
-use Rattle.go_types.specs.Entities as go_entity
-use Rattle.go_types.specs.Entities.{run, exact, shift}
-use Rattle.go_types.specs.Operands as go
-use Rattle.go_types.specs.Operands.{value, several, a_type, a_function, a_builtin, recovered, Typed, typed, with_value}
-use Rattle.go_types.specs.Operators.{binary_of}
-use Rattle.go_types.specs.Statements as statement
-use Rattle.go_types.specs.Statements.{one_more, stores, target_at, updates}
-use Rattle.type_relations.specs.Environment.{Environment}
+use Rattle.go_tree.specs.declared.const_eval.kinds.Kind.TheVariants as kind
+use Rattle.go_tree.specs.declared.const_eval.consts.Const.{Const}
+use Rattle.go_tree.specs.declared.const_eval.consts.Const.TheVariants.{Whole}
+use Rattle.go_tree.specs.GoTypes.Answers.{given, meets, only_if}
+use Rattle.go_tree.specs.GoTypes.Types.{GoType, untyped}
+use Rattle.go_tree.specs.GoTypes.Defined.{Defined}
+use Rattle.go_tree.specs.GoTypes.Entities as go_entity
+use Rattle.go_tree.specs.GoTypes.Entities.{run, exact, shift}
+use Rattle.go_tree.specs.GoTypes.Operands as go
+use Rattle.go_tree.specs.GoTypes.Operands.{value, several, a_type, a_function, a_builtin, recovered, Typed, typed, with_value}
+use Rattle.go_tree.specs.GoTypes.Operators.{binary_of}
+use Rattle.go_tree.specs.GoTypes.Statements as statement
+use Rattle.go_tree.specs.GoTypes.Statements.{one_more, stores, target_at, updates}
+use Rattle.type_table.specs.TypeRelations.Environment.{Environment}
 use Rattle.operand_rules.specs.declared.values.Value.{Value}
 use Rattle.operand_rules.specs.declared.values.Refusal.{Refusal}
 use Rattle.operand_rules.specs.declared.values.Refusal.TheVariants.{NotTyped, NoMemory}
 use Rattle.operand_rules.specs.Values.{IsGiven, SameContent, content_of, type_of}
-use Rattle.access_rules.specs.Places.{place_of}
+use Rattle.operator_rules.specs.AccessRules.Places.{place_of}
 use Rattle.operand_modes.specs.declared.modes.Operand.TheVariants.{Single}
 use Rattle.operand_modes.specs.Operands.{SameOperand, operand_at}
 use Rattle.operand_laws.specs.Alike.{SameAnswer}

@@ -1,23 +1,23 @@
 -- Updates by operators.
 use Rattle.std.proofs.Common.{◌≡◌, ◌∙◌, Bool, false, List, [], ◌∷◌, map, Option, Some, None, Result, Ok, Err, IfOk, refl, sym, ap, subst, arith}
 use Rattle.go_tree.specs.declared.operators.BinOp.{BinOp}
-use Rattle.const_eval.specs.declared.consts.Const.{Const}
-use Rattle.go_types.specs.Answers.{both, given, meets, only_if}
-use Rattle.go_types.specs.Types.{is_untyped}
-use Rattle.go_types.specs.Defined.{Defined}
-use Rattle.go_types.specs.Entities as go_entity
-use Rattle.go_types.specs.Operands as go
-use Rattle.go_types.specs.Operands.{value, several, a_type, a_function, a_builtin, recovered, Typed, typed, with_value}
-use Rattle.go_types.specs.Operators.{binary_of}
-use Rattle.go_types.specs.Statements as statement
-use Rattle.go_types.specs.Statements.{store, stores, target_at, updates}
-use Rattle.type_relations.specs.Environment.{Environment}
+use Rattle.go_tree.specs.declared.const_eval.consts.Const.{Const}
+use Rattle.go_tree.specs.GoTypes.Answers.{both, given, meets, only_if}
+use Rattle.go_tree.specs.GoTypes.Types.{is_untyped}
+use Rattle.go_tree.specs.GoTypes.Defined.{Defined}
+use Rattle.go_tree.specs.GoTypes.Entities as go_entity
+use Rattle.go_tree.specs.GoTypes.Operands as go
+use Rattle.go_tree.specs.GoTypes.Operands.{value, several, a_type, a_function, a_builtin, recovered, Typed, typed, with_value}
+use Rattle.go_tree.specs.GoTypes.Operators.{binary_of}
+use Rattle.go_tree.specs.GoTypes.Statements as statement
+use Rattle.go_tree.specs.GoTypes.Statements.{store, stores, target_at, updates}
+use Rattle.type_table.specs.TypeRelations.Environment.{Environment}
 use Rattle.operand_rules.specs.declared.values.Refusal.{Refusal}
 use Rattle.operand_rules.specs.declared.values.Refusal.TheVariants.{NotTyped, NoMemory}
 use Rattle.operand_laws.specs.Alike.{AllSame, SameAnswer}
 use Rattle.operand_laws.proofs.ContentLemmas.{operand_same}
 use Rattle.operand_answers.proofs.OperatorSteps.AlikeLemmas.{binary_alike}
-use Rattle.access_rules.specs.Places.{place_of}
+use Rattle.operator_rules.specs.AccessRules.Places.{place_of}
 use Rattle.operand_modes.specs.Operands.{SameOperand, operand_at, operands_at}
 use Rattle.checker_tables.specs.declared.tables.Tables.{Tables}
 use Rattle.checker_tables.specs.Ready.{Keeps}

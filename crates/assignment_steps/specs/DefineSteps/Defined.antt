@@ -1,14 +1,15 @@
 -- What the names of a short declaration declare, as an answer tells (Go specification, Short variable declarations).
-use Rattle.std.specs.Prelude.{◌≡◌, ℕ, List, [], ◌∷◌, ◌++◌, Option, Some, None, Result, Ok, Err, IfSome, if◌then◌else◌}
-use Rattle.const_eval.specs.declared.consts.Const.{Const}
-use Rattle.scope_names.specs.Means.{binding}
-use Rattle.go_types.specs.Answers.{given, only_if}
-use Rattle.go_types.specs.Defined as go_defined
-use Rattle.go_types.specs.Entities as go
-use Rattle.go_types.specs.Entities.{Binds, is_declared_here, meaning}
-use Rattle.go_types.specs.Operands.{Typed}
-use Rattle.go_types.specs.Declarations.{Declared, assigns_to, bound_names, variable_entity}
-use Rattle.type_relations.specs.Environment.{Environment}
+use Rattle.std.specs.Prelude.{◌≡◌, ℕ, List, [], ◌∷◌, ◌++◌, Option, Some, None, Result, Ok, Err}
+use Rattle.std.specs.Prelude.{IfSome, if◌then◌else◌}
+use Rattle.go_tree.specs.declared.const_eval.consts.Const.{Const}
+use Rattle.go_tree.specs.ScopeNames.Means.{binding}
+use Rattle.go_tree.specs.GoTypes.Answers.{given, only_if}
+use Rattle.go_tree.specs.GoTypes.Defined as go_defined
+use Rattle.go_tree.specs.GoTypes.Entities as go
+use Rattle.go_tree.specs.GoTypes.Entities.{Binds, is_declared_here, meaning}
+use Rattle.go_tree.specs.GoTypes.Operands.{Typed}
+use Rattle.go_tree.specs.GoTypes.Declarations.{Declared, assigns_to, bound_names, variable_entity}
+use Rattle.type_table.specs.TypeRelations.Environment.{Environment}
 use Rattle.operand_rules.specs.declared.values.Refusal.{Refusal}
 use Rattle.operand_rules.specs.declared.values.Refusal.TheVariants.{NotTyped, NoMemory}
 use Rattle.typed_names.specs.declared.entities.Entity.{Entity}

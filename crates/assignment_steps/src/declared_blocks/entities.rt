@@ -1,11 +1,11 @@
 //! Names that are declared, each with its entity (Go specification, Declarations and scope).
 
 ghost use Rattle.std.specs.Prelude.{◌≡◌, List, length, map, OnOk};
-ghost use Rattle.const_eval.specs.declared.consts.Const.{Const};
+ghost use Rattle.go_tree.specs.declared.const_eval.consts.Const.{Const};
 ghost use Rattle.go_tree.specs.View.{name_at_of};
-ghost use Rattle.go_types.specs.Entities as go;
-ghost use Rattle.scope_names.specs.FreeNames.{names_of};
-ghost use Rattle.type_relations.specs.Environment.{Environment};
+ghost use Rattle.go_tree.specs.GoTypes.Entities as go;
+ghost use Rattle.go_tree.specs.ScopeNames.FreeNames.{names_of};
+ghost use Rattle.type_table.specs.TypeRelations.Environment.{Environment};
 ghost use Rattle.typed_names.specs.Meanings.{Names};
 ghost use Rattle.checker_tables.specs.declared.tables.Tables.{Tables};
 ghost use Rattle.operand_answers.specs.Known.{Stands};

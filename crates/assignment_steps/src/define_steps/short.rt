@@ -1,14 +1,14 @@
 //! Short declarations (Go specification, Short variable declarations).
 
 ghost use Rattle.std.specs.Prelude.{◌≡◌, List, Option, length, map, not};
-ghost use Rattle.const_eval.specs.declared.consts.Const.{Const};
+ghost use Rattle.go_tree.specs.declared.const_eval.consts.Const.{Const};
 ghost use Rattle.go_tree.specs.View.{name_at_of};
-ghost use Rattle.go_types.specs.Answers.{given, is_empty};
-ghost use Rattle.go_types.specs.Declarations as go;
-ghost use Rattle.go_types.specs.Entities.{Binds, Env};
-ghost use Rattle.go_types.specs.Operands.{Typed};
-ghost use Rattle.scope_names.specs.FreeNames.{names_of};
-ghost use Rattle.type_relations.specs.Environment.{Environment, defined_types};
+ghost use Rattle.go_tree.specs.GoTypes.Answers.{given, is_empty};
+ghost use Rattle.go_tree.specs.GoTypes.Declarations as go;
+ghost use Rattle.go_tree.specs.GoTypes.Entities.{Binds, Env};
+ghost use Rattle.go_tree.specs.GoTypes.Operands.{Typed};
+ghost use Rattle.go_tree.specs.ScopeNames.FreeNames.{names_of};
+ghost use Rattle.type_table.specs.TypeRelations.Environment.{Environment, defined_types};
 ghost use Rattle.typed_names.specs.Meanings.{entity_option};
 ghost use Rattle.operand_answers.specs.Known.{Stands};
 ghost use Rattle.control_steps.specs.RightSides.Values.{AreValuesIfOk, GivesValuesAlike};
@@ -16,13 +16,13 @@ ghost use Rattle.control_steps.specs.LocalBlocks.Places.{IsPlace};
 ghost use Rattle.assignment_steps.specs.DefineSteps.Defined.{GivesDefined, GivesShort, bind_if, news_at};
 
 use crate::define_steps::lists::{DefinedList, all_defined};
-use access_rules::is_blank;
 use checker_tables::Tables;
 use control_steps::LocalBlock;
 use go_tree::{NameAt, NameAtList};
 use jump_rules::stand_once;
 use operand_modes::ValueList;
 use operand_rules::Refusal;
+use operator_rules::access_rules::is_blank;
 use std::alloc::Global;
 use typed_names::{Blocks, Entity, Scope};
 

@@ -1,13 +1,13 @@
 //! `++` and `--` (Go specification, IncDec statements).
 
 ghost use Rattle.std.specs.Prelude.{◌≡◌, ◌∷◌, [], false, IfOk, Option, Some};
-ghost use Rattle.go_types.specs.Answers.{given, only_if};
-ghost use Rattle.go_types.specs.Entities as go_entity;
-ghost use Rattle.go_types.specs.Operands as go_operand;
-ghost use Rattle.go_types.specs.Statements as go;
-ghost use Rattle.type_relations.specs.Environment.{defined_types};
+ghost use Rattle.go_tree.specs.GoTypes.Answers.{given, only_if};
+ghost use Rattle.go_tree.specs.GoTypes.Entities as go_entity;
+ghost use Rattle.go_tree.specs.GoTypes.Operands as go_operand;
+ghost use Rattle.go_tree.specs.GoTypes.Statements as go;
+ghost use Rattle.type_table.specs.TypeRelations.Environment.{defined_types};
 ghost use Rattle.operand_rules.specs.Values.{Gives};
-ghost use Rattle.access_rules.specs.Places.{place_of};
+ghost use Rattle.operator_rules.specs.AccessRules.Places.{place_of};
 ghost use Rattle.operand_modes.specs.Operands.{operand_at};
 ghost use Rattle.checker_tables.specs.Ready.{AreReady, Keeps};
 ghost use Rattle.operand_answers.specs.Located.{GivesAt, IsThere, IsThereIfOk};
@@ -15,8 +15,8 @@ ghost use Rattle.control_steps.specs.Ends.{EndsAs};
 
 use crate::update_steps::is_updated;
 use checker_tables::Tables;
-use const_eval::{Const, Kind};
 use control_steps::ends_if;
+use go_tree::const_eval::{Const, Kind};
 use go_tree::{BinOp, NoMemory};
 use operand_answers::Located;
 use operand_modes::Operand;

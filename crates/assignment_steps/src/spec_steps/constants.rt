@@ -1,16 +1,16 @@
 //! Specs of constants (Go specification, Constant declarations).
 
 ghost use Rattle.std.specs.Prelude.{◌≡◌, ℕ, [], List, Option, IfSome, length, map};
-ghost use Rattle.const_eval.specs.declared.consts.Const.{Const};
+ghost use Rattle.go_tree.specs.declared.const_eval.consts.Const.{Const};
 ghost use Rattle.go_tree.specs.View.{name_at_of};
-ghost use Rattle.go_types.specs.Answers.{both, given};
-ghost use Rattle.go_types.specs.Declarations as go;
-ghost use Rattle.go_types.specs.Entities as go_entity;
-ghost use Rattle.go_types.specs.Entities.{Env};
-ghost use Rattle.go_types.specs.Operands as go_operand;
-ghost use Rattle.go_types.specs.Types.{GoType};
-ghost use Rattle.scope_names.specs.FreeNames.{names_of};
-ghost use Rattle.type_relations.specs.Environment.{defined_types};
+ghost use Rattle.go_tree.specs.GoTypes.Answers.{both, given};
+ghost use Rattle.go_tree.specs.GoTypes.Declarations as go;
+ghost use Rattle.go_tree.specs.GoTypes.Entities as go_entity;
+ghost use Rattle.go_tree.specs.GoTypes.Entities.{Env};
+ghost use Rattle.go_tree.specs.GoTypes.Operands as go_operand;
+ghost use Rattle.go_tree.specs.GoTypes.Types.{GoType};
+ghost use Rattle.go_tree.specs.ScopeNames.FreeNames.{names_of};
+ghost use Rattle.type_table.specs.TypeRelations.Environment.{defined_types};
 ghost use Rattle.operand_rules.specs.declared.values.ValueType.TheVariants.{Typed};
 ghost use Rattle.operand_rules.specs.Values.{IsType};
 ghost use Rattle.operator_rules.specs.Settling.{typed_option};

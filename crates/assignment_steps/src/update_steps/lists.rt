@@ -1,12 +1,12 @@
 //! `op=` (Go specification, Assignment statements).
 
 ghost use Rattle.std.specs.Prelude.{◌≡◌, false, IfOk, List, map, Option, Some};
-ghost use Rattle.go_types.specs.Answers.{both, only_if};
-ghost use Rattle.go_types.specs.Entities as go_entity;
-ghost use Rattle.go_types.specs.Operands as go_operand;
-ghost use Rattle.go_types.specs.Statements as go;
-ghost use Rattle.type_relations.specs.Environment.{defined_types};
-ghost use Rattle.access_rules.specs.Places.{place_of};
+ghost use Rattle.go_tree.specs.GoTypes.Answers.{both, only_if};
+ghost use Rattle.go_tree.specs.GoTypes.Entities as go_entity;
+ghost use Rattle.go_tree.specs.GoTypes.Operands as go_operand;
+ghost use Rattle.go_tree.specs.GoTypes.Statements as go;
+ghost use Rattle.type_table.specs.TypeRelations.Environment.{defined_types};
+ghost use Rattle.operator_rules.specs.AccessRules.Places.{place_of};
 ghost use Rattle.operand_modes.specs.Operands.{AreOperands, operands_at};
 ghost use Rattle.composite_steps.specs.BuiltinSteps.Arguments.{the_only};
 ghost use Rattle.checker_tables.specs.Ready.{AreReady, Keeps};
@@ -15,13 +15,13 @@ ghost use Rattle.control_steps.specs.Ends.{EndsAs};
 ghost use Rattle.control_steps.specs.RightSides.Values.{StandIfOk};
 
 use crate::update_steps::updates::is_updated;
-use access_rules::Place;
 use checker_tables::Tables;
 use control_steps::ends_if;
 use go_tree::{BinOp, NoMemory};
 use operand_answers::OperandList;
 use operand_modes::Operand;
 use operand_rules::Refusal;
+use operator_rules::access_rules::Place;
 use std::alloc::Global;
 
 /// The only place of a list.

@@ -1,26 +1,26 @@
 //! A value that is updated by an operator (Go specification, Assignment statements).
 
 ghost use Rattle.std.specs.Prelude.{◌≡◌, ◌∷◌, [], IfOk, Option};
-ghost use Rattle.go_types.specs.Answers.{given, meets};
-ghost use Rattle.go_types.specs.Entities as go_entity;
-ghost use Rattle.go_types.specs.Operands as go_operand;
-ghost use Rattle.go_types.specs.Operands.{typed};
-ghost use Rattle.go_types.specs.Statements as go;
-ghost use Rattle.type_relations.specs.Environment.{defined_types};
-ghost use Rattle.access_rules.specs.Places.{place_of};
+ghost use Rattle.go_tree.specs.GoTypes.Answers.{given, meets};
+ghost use Rattle.go_tree.specs.GoTypes.Entities as go_entity;
+ghost use Rattle.go_tree.specs.GoTypes.Operands as go_operand;
+ghost use Rattle.go_tree.specs.GoTypes.Operands.{typed};
+ghost use Rattle.go_tree.specs.GoTypes.Statements as go;
+ghost use Rattle.type_table.specs.TypeRelations.Environment.{defined_types};
+ghost use Rattle.operator_rules.specs.AccessRules.Places.{place_of};
 ghost use Rattle.operand_modes.specs.Operands.{IsOperand, operand_at};
 ghost use Rattle.checker_tables.specs.Ready.{AreReady, Keeps};
 ghost use Rattle.operand_answers.specs.Located.{GivesAt, IsThereIfOk, StandsAt};
 ghost use Rattle.assignment_steps.specs.Targets.{GivesTarget, IsTarget, IsTargetIfOk, target_of};
 
 use crate::{Target, stored_at, stores};
-use access_rules::Place;
 use checker_tables::Tables;
 use control_steps::unmet;
 use go_tree::{BinOp, NoMemory};
 use operand_answers::{Located, binary};
 use operand_modes::{Operand, single_value};
 use operand_rules::Refusal;
+use operator_rules::access_rules::Place;
 use std::alloc::Global;
 
 /// Whether an operand is a value that may be stored there.

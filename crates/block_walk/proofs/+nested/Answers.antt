@@ -2,12 +2,12 @@ use Rattle.std.proofs.Common.{◌≡◌, ◌∙◌, ◌+◌, ◌++◌, ◌&&◌,
 use Rattle.go_tree.specs.Tree as tree
 use Rattle.go_tree.specs.View.{arm_of, arms_of, boxed_stmt_option_of, case_of, cases_of, expr_of, held_block_option_of, name_at_of, plain_expr_option_of, range_left_of, stmt_of, stmts_of}
 use Rattle.go_tree.specs.Lists.{arms_from, cases_from, stmts_from}
-use Rattle.go_types.specs.Bodies.{in_loop, in_switch, labelled}
-use Rattle.go_types.specs.Entities.{in_block}
-use Rattle.go_types.specs.Jumps.{breaks, breaks_in}
-use Rattle.go_types.specs.Answers.{given}
-use Rattle.go_types.specs.Statements.{choice, has_last, is_default, tag_of}
-use Rattle.go_types.specs.Typing as go
+use Rattle.go_tree.specs.GoTypes.Bodies.{in_loop, in_switch, labelled}
+use Rattle.go_tree.specs.GoTypes.Entities.{in_block}
+use Rattle.go_tree.specs.GoTypes.Jumps.{breaks, breaks_in}
+use Rattle.go_tree.specs.GoTypes.Answers.{given}
+use Rattle.go_tree.specs.GoTypes.Statements.{choice, has_last, is_default, tag_of}
+use Rattle.go_tree.specs.GoTypes.Typing as go
 use Rattle.assignment_steps.proofs.DeclaredBlocks.BlockLemmas.{within_on}
 use Rattle.control_steps.specs.LocalBlocks.Places.{IsWithin}
 use Rattle.operand_answers.proofs.KeptLemmas.{keeps_on, value_on}

@@ -4,17 +4,17 @@ use mathlib.Core.Path.{ap, sym, ◌∙◌, subst}
 use Rattle.std.proofs.Common.{arith}
 use Rattle.std.proofs.lemmas.Slice.Eq.{bytes_eq-Decides}
 use Rattle.go_tree.specs.declared.spans.Span.{Span}
-use Rattle.const_eval.specs.declared.consts.Const.{Const}
-use Rattle.scope_names.specs.Means.{means}
-use Rattle.go_types.specs.Agreement.{In, head, tail}
-use Rattle.go_types.specs.Answers.{is_among}
-use Rattle.go_types.specs.Entities.{World}
-use Rattle.go_types.specs.Programs.{Headed, Program, header_names, headed}
-use Rattle.go_types.specs.TypeDeclarations.{DeclaredTypes}
-use Rattle.go_types.specs.Collect.{declared_by, entity_binds, good_entity, types_declared, typed_world, valued_world}
+use Rattle.go_tree.specs.declared.const_eval.consts.Const.{Const}
+use Rattle.go_tree.specs.ScopeNames.Means.{means}
+use Rattle.go_tree.specs.GoTypes.Agreement.{In, head, tail}
+use Rattle.go_tree.specs.GoTypes.Answers.{is_among}
+use Rattle.go_tree.specs.GoTypes.Entities.{World}
+use Rattle.go_tree.specs.GoTypes.Programs.{Headed, Program, header_names, headed}
+use Rattle.go_tree.specs.GoTypes.TypeDeclarations.{DeclaredTypes}
+use Rattle.go_tree.specs.GoTypes.Collect.{declared_by, entity_binds, good_entity, types_declared, typed_world, valued_world}
 use Rattle.typed_in_place.proofs.Headers.{type_phase, value_phase}
 use Rattle.typed_in_place.proofs.Collected.{typed_settled, valued_settled}
-use Rattle.type_relations.specs.Environment.{Environment}
+use Rattle.type_table.specs.TypeRelations.Environment.{Environment}
 use Rattle.typed_names.specs.declared.entities.Entity.{Entity}
 use Rattle.typed_names.specs.declared.entities.Entity.TheVariants.{Variable, Constant, TypeName, Function, Package, Predeclared, Refused}
 use Rattle.typed_names.specs.declared.scopes.Scope.{Scope}

@@ -3,10 +3,10 @@ use Rattle.std.proofs.Common.{◌≡◌, ◌∙◌, ◌&&◌, ◌++◌, ◌+◌,
 use Rattle.std.specs.Prelude.{◌⊎◌, if◌then◌else◌, is_none, is_some, replicate, slice_get}
 use Rattle.std.proofs.Common.{inl, inr, append_assoc, add-one}
 use Rattle.go_tree.specs.declared.spans.Span.{Span}
-use Rattle.go_types.specs.Entities.{World}
-use Rattle.go_types.specs.Programs.{Headed, Program, headed}
-use Rattle.go_types.specs.TypeDeclarations.{DeclaredTypes}
-use Rattle.go_types.specs.Collect.{declared_by, types_declared, valued_world}
+use Rattle.go_tree.specs.GoTypes.Entities.{World}
+use Rattle.go_tree.specs.GoTypes.Programs.{Headed, Program, headed}
+use Rattle.go_tree.specs.GoTypes.TypeDeclarations.{DeclaredTypes}
+use Rattle.go_tree.specs.GoTypes.Collect.{declared_by, types_declared, valued_world}
 use Rattle.pkg_graph.specs.declared.packages.Package.{Package}
 use Rattle.typed_names.specs.declared.scopes.Scope.{Scope}
 use Rattle.typed_names.specs.Meanings.{Names, world_at}

@@ -2,9 +2,9 @@
 use Rattle.std.proofs.Common.{◌≡◌, ◌∙◌, ◌<◌, ◌≤◌, ℕ, zero, suc, ◌+◌, Bool, true, false, List, [], ◌∷◌, Option, Some, None, refl, sym, ap, subst, length, map, nat_eq, inl, inr, arith, slice_set}
 use Rattle.std.specs.Prelude.{◌⊎◌, if◌then◌else◌, is_some, slice_get, replicate}
 use Rattle.go_tree.specs.declared.spans.Span.{Span}
-use Rattle.go_types.specs.Entities.{World}
-use Rattle.go_types.specs.Programs.{Headed, Program, headed}
-use Rattle.go_types.specs.Collect.{declared_by, types_declared}
+use Rattle.go_tree.specs.GoTypes.Entities.{World}
+use Rattle.go_tree.specs.GoTypes.Programs.{Headed, Program, headed}
+use Rattle.go_tree.specs.GoTypes.Collect.{declared_by, types_declared}
 use Rattle.pkg_graph.specs.declared.packages.Package.{Package}
 use Rattle.typed_names.specs.declared.scopes.Scope.{Scope}
 use Rattle.typed_names.specs.Meanings.{Names, world_at}

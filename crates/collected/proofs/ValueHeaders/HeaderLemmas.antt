@@ -2,14 +2,14 @@
 use Rattle.std.proofs.Common.{◌≡◌, ◌∙◌, ℕ, Bool, true, false, List, Option, Some, None, Result, Ok, Err, refl, sym, ap, ap₂, subst, map, nat_eq}
 use Rattle.std.specs.Prelude.{if◌then◌else◌, IfOk, is_some, slice_get}
 use Rattle.go_tree.specs.declared.spans.Span.{Span}
-use Rattle.const_eval.specs.declared.consts.Const.{Const}
-use Rattle.scope_names.specs.Means.{means}
-use Rattle.go_types.specs.Answers.{only_if}
-use Rattle.go_types.specs.Entities.{Binds, World}
-use Rattle.go_types.specs.Programs.{Header, Headed, Program, header_names, headed}
-use Rattle.go_types.specs.Collect.{declared_by, good_entity, types_declared}
+use Rattle.go_tree.specs.declared.const_eval.consts.Const.{Const}
+use Rattle.go_tree.specs.ScopeNames.Means.{means}
+use Rattle.go_tree.specs.GoTypes.Answers.{only_if}
+use Rattle.go_tree.specs.GoTypes.Entities.{Binds, World}
+use Rattle.go_tree.specs.GoTypes.Programs.{Header, Headed, Program, header_names, headed}
+use Rattle.go_tree.specs.GoTypes.Collect.{declared_by, good_entity, types_declared}
 use Rattle.typed_in_place.proofs.Headers.{declared_in}
-use Rattle.type_relations.specs.Environment.{Environment}
+use Rattle.type_table.specs.TypeRelations.Environment.{Environment}
 use Rattle.operand_rules.specs.declared.values.Refusal.{Refusal}
 use Rattle.operand_rules.specs.declared.values.Refusal.TheVariants.{NotTyped, NoMemory}
 use Rattle.typed_names.specs.declared.entities.Entity.{Entity}

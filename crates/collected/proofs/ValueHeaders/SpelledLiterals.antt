@@ -5,15 +5,15 @@ use Rattle.std.specs.Str.{IsUtf8, chars}
 use Rattle.std.proofs.lemmas.Str.{chars-encodes}
 use Rattle.std.proofs.lemmas.Bool.Decides.{nat_tests}
 use Rattle.go_tree.specs.declared.tokens.TokenKind.TheVariants.{Integer, Rune, Str}
-use Rattle.go_words.specs.Texts.{text_value}
-use Rattle.go_words.specs.Tokens.Characters.{each}
-use Rattle.go_words.specs.Tokens.Forms.{Form, HasForm, one_of, both}
-use Rattle.go_words.specs.Tokens.Literals.{int_lit, rune_lit, string_lit}
-use Rattle.go_literals.specs.Units.{rune_value}
-use Rattle.go_literals.proofs.WordLemmas.{either_is, front_is, low_front, one_is, passes, sole}
-use Rattle.const_eval.specs.declared.kinds.Kind.TheVariants as kind
-use Rattle.const_eval.specs.Exact.{Exact, number, text}
-use Rattle.const_eval.specs.Literals.{integer_value, is_text_quote, literal_value}
+use Rattle.go_tree.specs.GoWords.Texts.{text_value}
+use Rattle.go_tree.specs.GoWords.Tokens.Characters.{each}
+use Rattle.go_tree.specs.GoWords.Tokens.Forms.{Form, HasForm, one_of, both}
+use Rattle.go_tree.specs.GoWords.Tokens.Literals.{int_lit, rune_lit, string_lit}
+use Rattle.go_tree.specs.GoLiterals.Units.{rune_value}
+use Rattle.go_tree.proofs.GoLiterals.WordLemmas.{either_is, front_is, low_front, one_is, passes, sole}
+use Rattle.go_tree.specs.declared.const_eval.kinds.Kind.TheVariants as kind
+use Rattle.go_tree.specs.ConstEval.Exact.{Exact, number, text}
+use Rattle.go_tree.specs.ConstEval.Literals.{integer_value, is_text_quote, literal_value}
 use Rattle.operand_rules.specs.Folding.{is_literal_kind}
 use Rattle.layout_laws.specs.Formed.{IsToken}
 use Rattle.expr_walk.specs.Walked.{IsLiteralOf}

@@ -2,11 +2,11 @@
 use Rattle.std.proofs.Common.{◌≡◌, ◌∙◌, ℕ, List, [], ◌∷◌, Option, Some, None, Result, Ok, Err, refl, ap, length}
 use Rattle.go_tree.specs.declared.spans.Span.{Span}
 use Rattle.go_tree.specs.Tree.{NameAt, TypeExpr, Exprs, no_exprs}
-use Rattle.scope_names.specs.FreeNames.{names_of}
-use Rattle.go_types.specs.Answers.{only_if}
-use Rattle.go_types.specs.Entities.{Env}
-use Rattle.go_types.specs.Programs.{Header, constants, variables, header_names}
-use Rattle.go_types.specs.Collect.{env_of, package_constants, package_variables}
+use Rattle.go_tree.specs.ScopeNames.FreeNames.{names_of}
+use Rattle.go_tree.specs.GoTypes.Answers.{only_if}
+use Rattle.go_tree.specs.GoTypes.Entities.{Env}
+use Rattle.go_tree.specs.GoTypes.Programs.{Header, constants, variables, header_names}
+use Rattle.go_tree.specs.GoTypes.Collect.{env_of, package_constants, package_variables}
 use Rattle.operand_rules.specs.declared.values.Refusal.{Refusal}
 use Rattle.operand_rules.specs.declared.values.Refusal.TheVariants.{NotTyped, NoMemory}
 use Rattle.typed_names.specs.declared.entities.Entity.{Entity}

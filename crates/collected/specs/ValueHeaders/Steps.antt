@@ -2,7 +2,7 @@
 -- declarations).
 use Rattle.std.specs.Prelude.{◌≡◌, Bool, true, List}
 use Rattle.go_tree.specs.declared.spans.Span.{Span}
-use Rattle.go_types.specs.Programs.{Header, Headed, Program}
+use Rattle.go_tree.specs.GoTypes.Programs.{Header, Headed, Program}
 use Rattle.typed_names.specs.declared.scopes.Scope.{Scope}
 use Rattle.typed_names.specs.Meanings.{Names, world_at}
 use Rattle.declared_types.specs.Headers.{IsFileOf}

@@ -2,12 +2,12 @@
 -- declarations; Variable declarations; Package block).
 use Rattle.std.specs.Prelude.{◌≡◌, ℕ, Bool, true, false, List, length, Option, Result, Ok, Err}
 use Rattle.go_tree.specs.declared.spans.Span.{Span}
-use Rattle.const_eval.specs.declared.consts.Const.{Const}
-use Rattle.go_types.specs.Entities.{Binds}
-use Rattle.go_types.specs.Programs.{Header, Headed, header_names}
-use Rattle.go_types.specs.TypeDeclarations.{DeclaredTypes}
-use Rattle.go_types.specs.Collect.{declared_by}
-use Rattle.type_relations.specs.Environment.{Environment}
+use Rattle.go_tree.specs.declared.const_eval.consts.Const.{Const}
+use Rattle.go_tree.specs.GoTypes.Entities.{Binds}
+use Rattle.go_tree.specs.GoTypes.Programs.{Header, Headed, header_names}
+use Rattle.go_tree.specs.GoTypes.TypeDeclarations.{DeclaredTypes}
+use Rattle.go_tree.specs.GoTypes.Collect.{declared_by}
+use Rattle.type_table.specs.TypeRelations.Environment.{Environment}
 use Rattle.operand_rules.specs.declared.values.Refusal.{Refusal}
 use Rattle.operand_rules.specs.declared.values.Refusal.TheVariants.{NotTyped, NoMemory}
 use Rattle.typed_names.specs.declared.entities.Entity.{Entity}

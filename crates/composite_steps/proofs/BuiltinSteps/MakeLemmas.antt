@@ -1,25 +1,25 @@
 -- What `make` and `new` give.
 use Rattle.std.proofs.Common.{◌≡◌, ◌∙◌, true, false, List, [], ◌∷◌, map, Option, Some, None, Err, is_some, refl, sym, ap}
-use Rattle.const_eval.specs.declared.consts.Const.{Const}
-use Rattle.go_types.specs.Answers.{given, only_if}
-use Rattle.go_types.specs.Defined.{Defined, under}
-use Rattle.go_types.specs.Types.{GoType}
-use Rattle.go_types.specs.Operands as go
-use Rattle.go_types.specs.Operands.{a_type, Typed, all_typed, plain_value, spread}
-use Rattle.go_types.specs.Primary.{make_call, make_sizes, new_call}
+use Rattle.go_tree.specs.declared.const_eval.consts.Const.{Const}
+use Rattle.go_tree.specs.GoTypes.Answers.{given, only_if}
+use Rattle.go_tree.specs.GoTypes.Defined.{Defined, under}
+use Rattle.go_tree.specs.GoTypes.Types.{GoType}
+use Rattle.go_tree.specs.GoTypes.Operands as go
+use Rattle.go_tree.specs.GoTypes.Operands.{a_type, Typed, all_typed, plain_value, spread}
+use Rattle.go_tree.specs.GoTypes.Primary.{make_call, make_sizes, new_call}
 use Rattle.type_table.specs.declared.nodes.TypeId.{TypeId}
-use Rattle.type_relations.specs.Environment.{Environment}
+use Rattle.type_table.specs.TypeRelations.Environment.{Environment}
 use Rattle.operand_rules.specs.declared.values.Value.{Value}
 use Rattle.operand_rules.specs.declared.values.Refusal.{Refusal}
 use Rattle.operand_rules.specs.declared.values.Refusal.TheVariants.{NotTyped, NoMemory}
 use Rattle.operand_rules.specs.Values.{typed_of}
-use Rattle.access_rules.specs.Functions.{operands_of}
+use Rattle.operator_rules.specs.AccessRules.Functions.{operands_of}
 use Rattle.operand_modes.specs.declared.modes.Operand.{Operand}
 use Rattle.operand_modes.specs.declared.modes.Operand.TheVariants as mode
 use Rattle.operand_modes.specs.Lists.{GivesValues, only_results}
 use Rattle.operand_modes.specs.Operands.{GivesOperand, operand_at, operands_at}
 use Rattle.operand_modes.proofs.SpreadLemmas.{operands_stay}
-use Rattle.access_rules.proofs.BuiltinRules.SizeLemmas.{all_values}
+use Rattle.operator_rules.proofs.AccessRules.BuiltinRules.SizeLemmas.{all_values}
 use Rattle.composite_steps.specs.BuiltinSteps.Arguments.{the_only, type_in}
 
 -- ---- sizes

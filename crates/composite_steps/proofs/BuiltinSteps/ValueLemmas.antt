@@ -1,12 +1,12 @@
 -- What predeclared functions give of lists of values.
 use Rattle.std.proofs.Common.{◌≡◌, Bool, true, false, List, [], ◌∷◌, map, Option, Some, None, Result, Ok, Err, refl, sym, ap, subst}
-use Rattle.const_eval.specs.declared.consts.Const.{Const}
-use Rattle.go_types.specs.Answers.{given, only_if}
-use Rattle.go_types.specs.Defined.{Defined}
-use Rattle.go_types.specs.Operands as go
-use Rattle.go_types.specs.Operands.{value, several, a_type, a_function, a_builtin, recovered, Typed, all_typed, spread}
-use Rattle.go_types.specs.Primary.{append_call, builtin_call, cap_call, copy_call, delete_call, len_call, make_call, new_call, on_values, panic_call, print_call, recover_call}
-use Rattle.type_relations.specs.Environment.{Environment}
+use Rattle.go_tree.specs.declared.const_eval.consts.Const.{Const}
+use Rattle.go_tree.specs.GoTypes.Answers.{given, only_if}
+use Rattle.go_tree.specs.GoTypes.Defined.{Defined}
+use Rattle.go_tree.specs.GoTypes.Operands as go
+use Rattle.go_tree.specs.GoTypes.Operands.{value, several, a_type, a_function, a_builtin, recovered, Typed, all_typed, spread}
+use Rattle.go_tree.specs.GoTypes.Primary.{append_call, builtin_call, cap_call, copy_call, delete_call, len_call, make_call, new_call, on_values, panic_call, print_call, recover_call}
+use Rattle.type_table.specs.TypeRelations.Environment.{Environment}
 use Rattle.universe_block.specs.declared.block.Builtin as declared
 use Rattle.universe_block.specs.declared.block.Builtin.TheVariants as builtin
 use Rattle.universe_block.specs.Meanings.{builtin_of}
@@ -14,7 +14,7 @@ use Rattle.operand_rules.specs.declared.values.Value.{Value}
 use Rattle.operand_rules.specs.declared.values.Refusal.{Refusal}
 use Rattle.operand_rules.specs.declared.values.Refusal.TheVariants.{NotTyped, NoMemory}
 use Rattle.operand_rules.specs.Values.{IsValue, typed_of}
-use Rattle.access_rules.specs.Functions.{AreValues}
+use Rattle.operator_rules.specs.AccessRules.Functions.{AreValues}
 use Rattle.operand_modes.specs.declared.modes.Operand.{Operand}
 use Rattle.operand_modes.specs.declared.modes.Operand.TheVariants as mode
 use Rattle.operand_modes.specs.Lists.{GivesValues}

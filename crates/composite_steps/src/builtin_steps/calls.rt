@@ -1,13 +1,13 @@
 //! Calls of predeclared functions (Go specification, Built-in functions).
 
 ghost use Rattle.std.specs.Prelude.{◌≡◌, List, map, false, Some};
-ghost use Rattle.go_types.specs.Operands as go_operand;
-ghost use Rattle.go_types.specs.Operands.{all_typed, spread};
-ghost use Rattle.go_types.specs.Primary as go;
-ghost use Rattle.type_relations.specs.Environment.{defined_types};
+ghost use Rattle.go_tree.specs.GoTypes.Operands as go_operand;
+ghost use Rattle.go_tree.specs.GoTypes.Operands.{all_typed, spread};
+ghost use Rattle.go_tree.specs.GoTypes.Primary as go;
+ghost use Rattle.type_table.specs.TypeRelations.Environment.{defined_types};
 ghost use Rattle.universe_block.specs.Meanings.{builtin_of};
 ghost use Rattle.operand_rules.specs.Values.{typed_of};
-ghost use Rattle.access_rules.specs.Functions.{AreValues};
+ghost use Rattle.operator_rules.specs.AccessRules.Functions.{AreValues};
 ghost use Rattle.operand_modes.specs.Operands.{AreOperands, GivesOperand, operands_at};
 ghost use Rattle.checker_tables.specs.Ready.{AreReady, Keeps};
 ghost use Rattle.composite_steps.specs.BuiltinSteps.Arguments.{takes_type};

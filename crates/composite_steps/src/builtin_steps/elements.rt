@@ -2,19 +2,19 @@
 //! Deletion of map elements).
 
 ghost use Rattle.std.specs.Prelude.{map};
-ghost use Rattle.go_types.specs.Primary as go;
-ghost use Rattle.type_relations.specs.Environment.{defined_types};
+ghost use Rattle.go_tree.specs.GoTypes.Primary as go;
+ghost use Rattle.type_table.specs.TypeRelations.Environment.{defined_types};
 ghost use Rattle.operand_rules.specs.Values.{Gives, typed_of};
-ghost use Rattle.access_rules.specs.Functions.{AreValues};
+ghost use Rattle.operator_rules.specs.AccessRules.Functions.{AreValues};
 ghost use Rattle.operand_modes.specs.Operands.{GivesOperand};
 ghost use Rattle.checker_tables.specs.Ready.{AreReady};
 
 use crate::builtin_steps::arguments::pair;
 use crate::builtin_steps::printing::nothing_if;
-use access_rules::{appends, copies, deletes};
 use checker_tables::Tables;
 use operand_modes::Operand;
 use operand_rules::{Refusal, Value};
+use operator_rules::access_rules::{appends, copies, deletes};
 
 /// What `append` gives of a slice and the values behind it.
 pub(crate) fn appended(tables: &Tables, xs: &[Value]) -> Result<Value, Refusal>

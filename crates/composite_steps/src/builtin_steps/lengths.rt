@@ -1,16 +1,16 @@
 //! `len` and `cap` of values (Go specification, Length and capacity).
 
 ghost use Rattle.std.specs.Prelude.{map};
-ghost use Rattle.go_types.specs.Primary as go;
-ghost use Rattle.type_relations.specs.Environment.{defined_types};
+ghost use Rattle.go_tree.specs.GoTypes.Primary as go;
+ghost use Rattle.type_table.specs.TypeRelations.Environment.{defined_types};
 ghost use Rattle.operand_rules.specs.Values.{Gives, typed_of};
-ghost use Rattle.access_rules.specs.Functions.{AreValues};
+ghost use Rattle.operator_rules.specs.AccessRules.Functions.{AreValues};
 ghost use Rattle.checker_tables.specs.Ready.{AreReady, Keeps};
 
 use crate::builtin_steps::arguments::only;
-use access_rules::{capacity, length};
 use checker_tables::Tables;
 use operand_rules::{Refusal, Value};
+use operator_rules::access_rules::{capacity, length};
 use std::alloc::Global;
 
 /// What `cap` gives of a slice.

@@ -2,9 +2,9 @@
 //! Allocation).
 
 ghost use Rattle.std.specs.Prelude.{◌∷◌, []};
-ghost use Rattle.go_types.specs.Operands.{a_type, all_typed};
-ghost use Rattle.go_types.specs.Primary as go;
-ghost use Rattle.type_relations.specs.Environment.{defined_types, env_type};
+ghost use Rattle.go_tree.specs.GoTypes.Operands.{a_type, all_typed};
+ghost use Rattle.go_tree.specs.GoTypes.Primary as go;
+ghost use Rattle.type_table.specs.TypeRelations.Environment.{defined_types, env_type};
 ghost use Rattle.operand_rules.specs.declared.values.ValueType.TheVariants.{Typed};
 ghost use Rattle.operand_rules.specs.Values.{Gives, IsType};
 ghost use Rattle.operand_modes.specs.Lists.{GivesValues};
@@ -12,10 +12,10 @@ ghost use Rattle.operand_modes.specs.Operands.{AreOperands, GivesOperand, operan
 ghost use Rattle.checker_tables.specs.Ready.{AreReady, Keeps};
 
 use crate::builtin_steps::arguments::{are_results, only_type, type_in};
-use access_rules::{allocates, makes};
 use checker_tables::Tables;
 use operand_modes::{Operand, ValueList, single, values};
 use operand_rules::{Refusal, Value};
+use operator_rules::access_rules::{allocates, makes};
 use std::alloc::Global;
 use type_table::TypeId;
 

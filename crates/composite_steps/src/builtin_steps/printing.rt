@@ -3,25 +3,25 @@
 
 ghost use Rattle.std.specs.Prelude.{◌≡◌, [], List, map, Some};
 ghost use Rattle.std.specs.List.{list_all};
-ghost use Rattle.const_eval.specs.declared.consts.Const.{Const};
-ghost use Rattle.go_types.specs.Answers.{only_if};
-ghost use Rattle.go_types.specs.Defined.{Defined};
-ghost use Rattle.go_types.specs.Operands.{several};
-ghost use Rattle.go_types.specs.Primary as go;
-ghost use Rattle.type_relations.specs.Environment.{Environment, defined_types};
+ghost use Rattle.go_tree.specs.declared.const_eval.consts.Const.{Const};
+ghost use Rattle.go_tree.specs.GoTypes.Answers.{only_if};
+ghost use Rattle.go_tree.specs.GoTypes.Defined.{Defined};
+ghost use Rattle.go_tree.specs.GoTypes.Operands.{several};
+ghost use Rattle.go_tree.specs.GoTypes.Primary as go;
+ghost use Rattle.type_table.specs.TypeRelations.Environment.{Environment, defined_types};
 ghost use Rattle.operand_rules.specs.Values.{typed_of};
 ghost use Rattle.operator_rules.specs.BasicTypes.{AreBasic};
-ghost use Rattle.access_rules.specs.Functions.{AreValues};
+ghost use Rattle.operator_rules.specs.AccessRules.Functions.{AreValues};
 ghost use Rattle.operand_modes.specs.Operands.{GivesOperand};
 ghost use Rattle.checker_tables.specs.Ready.{AreReady};
 
 use crate::builtin_steps::arguments::only;
-use access_rules::{is_printed, panics};
 use checker_tables::Tables;
 use operand_modes::Operand;
 use operand_rules::{ConstTable, Refusal, Value};
 use operator_rules::BasicTypes;
-use type_relations::Env;
+use operator_rules::access_rules::{is_printed, panics};
+use type_table::type_relations::Env;
 
 /// A call without results, where it may be called.
 pub(crate) fn nothing_if(passes: bool) -> Result<Operand, Refusal>

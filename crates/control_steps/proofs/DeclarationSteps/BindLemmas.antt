@@ -1,15 +1,15 @@
 -- What the names of a declaration declare, one by one.
 use Rattle.std.proofs.Common.{◌≡◌, ◌∙◌, ◌<◌, ◌+◌, ◌++◌, not, ◌&&◌, ℕ, Bool, true, false, List, [], ◌∷◌, map, length, drop, get_or, Option, Some, None, refl, sym, ap, ap₂, subst, arith, add-one, drop-cons, length-append}
 use Rattle.std.specs.List.{list_all}
-use Rattle.const_eval.specs.declared.consts.Const.{Const}
-use Rattle.scope_names.specs.Means.{binding}
-use Rattle.go_types.specs.Answers.{both}
-use Rattle.go_types.specs.Entities as go
-use Rattle.go_types.specs.Entities.{Binds, Env, is_declared_here}
-use Rattle.go_types.specs.Operands.{Typed}
-use Rattle.go_types.specs.Declarations.{bind_all, bind_each, may_declare, names_once}
+use Rattle.go_tree.specs.declared.const_eval.consts.Const.{Const}
+use Rattle.go_tree.specs.ScopeNames.Means.{binding}
+use Rattle.go_tree.specs.GoTypes.Answers.{both}
+use Rattle.go_tree.specs.GoTypes.Entities as go
+use Rattle.go_tree.specs.GoTypes.Entities.{Binds, Env, is_declared_here}
+use Rattle.go_tree.specs.GoTypes.Operands.{Typed}
+use Rattle.go_tree.specs.GoTypes.Declarations.{bind_all, bind_each, may_declare, names_once}
 use Rattle.type_table.specs.declared.nodes.TypeId.{TypeId}
-use Rattle.type_relations.specs.Environment.{Environment, env_type}
+use Rattle.type_table.specs.TypeRelations.Environment.{Environment, env_type}
 use Rattle.typed_names.specs.declared.entities.Entity.{Entity}
 use Rattle.typed_names.specs.declared.entities.Entity.TheVariants.{Variable}
 use Rattle.typed_names.specs.Meanings.{entity_at}

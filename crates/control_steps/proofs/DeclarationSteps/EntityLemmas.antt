@@ -1,19 +1,19 @@
 -- What a name with a value declares.
 use Rattle.std.proofs.Common.{◌≡◌, ◌∙◌, ◌&&◌, ◌||◌, not, Bool, true, false, List, Option, Some, None, IfSome, is_some, refl, sym, ap, subst}
-use Rattle.const_eval.specs.declared.consts.Const.{Const}
-use Rattle.const_eval.specs.Exact.{represents}
-use Rattle.go_types.specs.Answers.{given, meets, only_if}
-use Rattle.go_types.specs.Types.{GoType, basic, named_type, pointer_to, slice_of, map_of, struct_of, tuple_of, untyped, untyped_nil, basic_kind, has_name}
-use Rattle.go_types.specs.Defined.{Defined, under}
-use Rattle.go_types.specs.Identical.{identical}
-use Rattle.go_types.specs.Relations.{same_underlying}
-use Rattle.go_types.specs.Entities as go
-use Rattle.go_types.specs.Entities.{run, exact, shift}
-use Rattle.go_types.specs.Operands.{Typed, fits, kind_passes, settled}
-use Rattle.go_types.specs.Declarations.{constant_entity, variable_entity}
-use Rattle.go_types.proofs.IdenticalLaws.{and_left, identical_same}
+use Rattle.go_tree.specs.declared.const_eval.consts.Const.{Const}
+use Rattle.go_tree.specs.ConstEval.Exact.{represents}
+use Rattle.go_tree.specs.GoTypes.Answers.{given, meets, only_if}
+use Rattle.go_tree.specs.GoTypes.Types.{GoType, basic, named_type, pointer_to, slice_of, map_of, struct_of, tuple_of, untyped, untyped_nil, basic_kind, has_name}
+use Rattle.go_tree.specs.GoTypes.Defined.{Defined, under}
+use Rattle.go_tree.specs.GoTypes.Identical.{identical}
+use Rattle.go_tree.specs.GoTypes.Relations.{same_underlying}
+use Rattle.go_tree.specs.GoTypes.Entities as go
+use Rattle.go_tree.specs.GoTypes.Entities.{run, exact, shift}
+use Rattle.go_tree.specs.GoTypes.Operands.{Typed, fits, kind_passes, settled}
+use Rattle.go_tree.specs.GoTypes.Declarations.{constant_entity, variable_entity}
+use Rattle.go_tree.proofs.GoTypes.IdenticalLaws.{and_left, identical_same}
 use Rattle.type_table.specs.declared.nodes.TypeId.{TypeId}
-use Rattle.type_relations.specs.Environment.{Environment, defined_types, env_type}
+use Rattle.type_table.specs.TypeRelations.Environment.{Environment, defined_types, env_type}
 use Rattle.operand_rules.proofs.TypeLemmas.{kind_of_typed}
 use Rattle.operand_rules.specs.declared.constants.ConstId.{ConstId}
 use Rattle.operand_rules.specs.declared.values.ValueType.TheVariants as variant

@@ -1,6 +1,6 @@
 -- Labelled statements.
 use Rattle.std.proofs.Common.{◌≡◌, ◌∙◌, ◌&&◌, Bool, true, not, Option, Some, Result, Ok, Err, sym, ap, subst}
-use Rattle.go_types.specs.Answers.{given, only_if}
+use Rattle.go_tree.specs.GoTypes.Answers.{given, only_if}
 use Rattle.operand_rules.specs.declared.values.Refusal.{Refusal}
 use Rattle.operand_rules.specs.declared.values.Refusal.TheVariants.{NotTyped, NoMemory}
 use Rattle.control_steps.specs.Ends.{EndsAs}

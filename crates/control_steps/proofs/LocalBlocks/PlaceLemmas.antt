@@ -1,14 +1,14 @@
 -- Places in blocks, and names that are declared there.
 use Rattle.std.proofs.Common.{◌≡◌, ◌∙◌, ◌+◌, ◌-◌, ◌++◌, ◌||◌, ℕ, true, false, cond, List, [], ◌∷◌, length, drop, Option, Result, Ok, Err, OnOk, OnErr, refl, sym, ap, subst, bytes_eq, arith, length-append}
-use Rattle.const_eval.specs.declared.consts.Const.{Const}
-use Rattle.scope_names.specs.Means as scope
-use Rattle.scope_names.specs.Means.{binding, is_blank}
-use Rattle.go_types.specs.Answers.{is_among}
-use Rattle.go_types.specs.Entities as go
-use Rattle.go_types.specs.Entities.{extend}
+use Rattle.go_tree.specs.declared.const_eval.consts.Const.{Const}
+use Rattle.go_tree.specs.ScopeNames.Means as scope
+use Rattle.go_tree.specs.ScopeNames.Means.{binding, is_blank}
+use Rattle.go_tree.specs.GoTypes.Answers.{is_among}
+use Rattle.go_tree.specs.GoTypes.Entities as go
+use Rattle.go_tree.specs.GoTypes.Entities.{extend}
 use Rattle.name_walks.specs.EachOnce.{with_name}
 use Rattle.name_walks.proofs.SetLaws.{among_with}
-use Rattle.type_relations.specs.Environment.{Environment}
+use Rattle.type_table.specs.TypeRelations.Environment.{Environment}
 use Rattle.typed_names.specs.declared.entities.Entity.{Entity}
 use Rattle.typed_names.specs.declared.scopes.Scope.{Scope}
 use Rattle.typed_names.specs.Meanings.{Names, entity_at, names_at}

@@ -1,15 +1,15 @@
 -- Values on the right that are answered are those of the expressions.
 use Rattle.std.proofs.Common.{◌≡◌, ◌∙◌, ℕ, zero, suc, Bool, true, false, List, [], ◌∷◌, map, length, nat_eq, Option, Some, None, Result, Ok, Err, refl, sym, ap, subst}
-use Rattle.const_eval.specs.declared.consts.Const.{Const}
-use Rattle.go_types.specs.Answers.{given, only_if}
-use Rattle.go_types.specs.Types.{GoType}
-use Rattle.go_types.specs.Defined.{Defined}
-use Rattle.go_types.specs.Entities as go_entity
-use Rattle.go_types.specs.Entities.{addressable, map_element, literal, elsewhere}
-use Rattle.go_types.specs.Operands as go
-use Rattle.go_types.specs.Operands.{value, several, a_type, a_function, a_builtin, recovered, Typed, all_typed, default_type, fits, settled, spread, values_of}
-use Rattle.go_types.specs.Statements.{assigned_values}
-use Rattle.type_relations.specs.Environment.{Environment}
+use Rattle.go_tree.specs.declared.const_eval.consts.Const.{Const}
+use Rattle.go_tree.specs.GoTypes.Answers.{given, only_if}
+use Rattle.go_tree.specs.GoTypes.Types.{GoType}
+use Rattle.go_tree.specs.GoTypes.Defined.{Defined}
+use Rattle.go_tree.specs.GoTypes.Entities as go_entity
+use Rattle.go_tree.specs.GoTypes.Entities.{addressable, map_element, literal, elsewhere}
+use Rattle.go_tree.specs.GoTypes.Operands as go
+use Rattle.go_tree.specs.GoTypes.Operands.{value, several, a_type, a_function, a_builtin, recovered, Typed, all_typed, default_type, fits, settled, spread, values_of}
+use Rattle.go_tree.specs.GoTypes.Statements.{assigned_values}
+use Rattle.type_table.specs.TypeRelations.Environment.{Environment}
 use Rattle.operand_rules.specs.declared.values.ValueType.{ValueType}
 use Rattle.operand_rules.specs.declared.values.ValueType.TheVariants as variant
 use Rattle.operand_rules.specs.declared.values.Content.{Content}
@@ -18,9 +18,9 @@ use Rattle.operand_rules.specs.declared.values.Value.{Value}
 use Rattle.operand_rules.specs.declared.values.Refusal.{Refusal}
 use Rattle.operand_rules.specs.declared.values.Refusal.TheVariants.{NotTyped, NoMemory}
 use Rattle.operand_rules.specs.Values.{typed_of}
-use Rattle.access_rules.specs.declared.places.Place.{Place}
-use Rattle.access_rules.specs.declared.places.Place.TheVariants.{Addressable, MapElement, Literal, Elsewhere}
-use Rattle.access_rules.specs.Places.{place_of}
+use Rattle.operator_rules.specs.declared.access_rules.places.Place.{Place}
+use Rattle.operator_rules.specs.declared.access_rules.places.Place.TheVariants.{Addressable, MapElement, Literal, Elsewhere}
+use Rattle.operator_rules.specs.AccessRules.Places.{place_of}
 use Rattle.operand_modes.specs.declared.modes.Operand.{Operand}
 use Rattle.operand_modes.specs.declared.modes.Operand.TheVariants as mode
 use Rattle.operand_modes.specs.Lists.{AreStored, GivesValues}

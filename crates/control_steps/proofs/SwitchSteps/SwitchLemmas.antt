@@ -1,16 +1,16 @@
 -- Tags and the values of cases.
 use Rattle.std.proofs.Common.{◌≡◌, ◌∙◌, ◌<◌, ◌+◌, ◌&&◌, ◌||◌, ℕ, Bool, true, false, List, ◌∷◌, map, length, drop, get_or, is_some, Option, Some, None, Result, Ok, Err, IfOk, refl, sym, ap, ap₂, subst, add-one, drop-cons}
 use Rattle.std.specs.List.{list_all}
-use Rattle.const_eval.specs.declared.consts.Const.{Const}
-use Rattle.go_types.specs.Answers.{given, only_if}
-use Rattle.go_types.specs.Types.{GoType}
-use Rattle.go_types.specs.Defined.{Defined, comparable, under}
-use Rattle.go_types.specs.Entities.{run}
-use Rattle.go_types.specs.Operands.{Operand, Typed}
-use Rattle.go_types.specs.Relations.{has_nil}
-use Rattle.go_types.specs.Statements.{case_value, tag_value}
+use Rattle.go_tree.specs.declared.const_eval.consts.Const.{Const}
+use Rattle.go_tree.specs.GoTypes.Answers.{given, only_if}
+use Rattle.go_tree.specs.GoTypes.Types.{GoType}
+use Rattle.go_tree.specs.GoTypes.Defined.{Defined, comparable, under}
+use Rattle.go_tree.specs.GoTypes.Entities.{run}
+use Rattle.go_tree.specs.GoTypes.Operands.{Operand, Typed}
+use Rattle.go_tree.specs.GoTypes.Relations.{has_nil}
+use Rattle.go_tree.specs.GoTypes.Statements.{case_value, tag_value}
 use Rattle.type_table.specs.declared.nodes.TypeId.{TypeId}
-use Rattle.type_relations.specs.Environment.{Environment, defined_types, env_type}
+use Rattle.type_table.specs.TypeRelations.Environment.{Environment, defined_types, env_type}
 use Rattle.operand_rules.specs.declared.values.ValueType.TheVariants as variant
 use Rattle.operand_rules.specs.declared.values.Content.TheVariants.{Run}
 use Rattle.operand_rules.specs.declared.values.Value.{Value}
@@ -19,7 +19,7 @@ use Rattle.operand_rules.specs.declared.values.Refusal.TheVariants.{NotTyped, No
 use Rattle.operand_rules.specs.Values.{Gives, IsGiven, IsType, IsValue, typed_of}
 use Rattle.operand_laws.specs.Alike.{SameBound}
 use Rattle.operand_answers.proofs.KeptLemmas.{keeps_on, keeps_self, value_on, value_same}
-use Rattle.access_rules.specs.Slices.{bound_of}
+use Rattle.operator_rules.specs.AccessRules.Slices.{bound_of}
 use Rattle.operand_answers.specs.AccessSteps.Bounds.{GivesBound}
 use Rattle.checker_tables.specs.declared.tables.Tables.{Tables}
 use Rattle.checker_tables.specs.Ready.{AreReady, Keeps}

@@ -1,15 +1,15 @@
 -- What names declare, as the code has it and as an answer tells (Go specification, Constant declarations; Variable
 -- declarations).
 use Rattle.std.specs.Prelude.{◌≡◌, ℕ, List, [], ◌∷◌, ◌++◌, Option, Some, None, Result, Ok, Err}
-use Rattle.const_eval.specs.declared.consts.Const.{Const}
-use Rattle.scope_names.specs.Means.{binding}
-use Rattle.go_types.specs.Types.{GoType}
-use Rattle.go_types.specs.Defined.{Defined}
-use Rattle.go_types.specs.Entities as go
-use Rattle.go_types.specs.Entities.{Binds}
-use Rattle.go_types.specs.Operands.{Typed}
-use Rattle.go_types.specs.Declarations.{constant_entity, variable_entity}
-use Rattle.type_relations.specs.Environment.{Environment}
+use Rattle.go_tree.specs.declared.const_eval.consts.Const.{Const}
+use Rattle.go_tree.specs.ScopeNames.Means.{binding}
+use Rattle.go_tree.specs.GoTypes.Types.{GoType}
+use Rattle.go_tree.specs.GoTypes.Defined.{Defined}
+use Rattle.go_tree.specs.GoTypes.Entities as go
+use Rattle.go_tree.specs.GoTypes.Entities.{Binds}
+use Rattle.go_tree.specs.GoTypes.Operands.{Typed}
+use Rattle.go_tree.specs.GoTypes.Declarations.{constant_entity, variable_entity}
+use Rattle.type_table.specs.TypeRelations.Environment.{Environment}
 use Rattle.operand_rules.specs.declared.values.Refusal.{Refusal}
 use Rattle.operand_rules.specs.declared.values.Refusal.TheVariants.{NotTyped, NoMemory}
 use Rattle.typed_names.specs.declared.entities.Entity.{Entity}

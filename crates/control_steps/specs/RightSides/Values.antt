@@ -1,13 +1,13 @@
 -- Values in order, as the answer for them tells (Go specification, Assignment statements; Constants).
 use Rattle.std.specs.Prelude.{◌≡◌, List, [], ◌∷◌, map, Option, Some, None, Result, Ok, Err}
-use Rattle.const_eval.specs.declared.consts.Const.{Const}
-use Rattle.go_types.specs.Operands.{Typed}
-use Rattle.type_relations.specs.Environment.{Environment}
+use Rattle.go_tree.specs.declared.const_eval.consts.Const.{Const}
+use Rattle.go_tree.specs.GoTypes.Operands.{Typed}
+use Rattle.type_table.specs.TypeRelations.Environment.{Environment}
 use Rattle.operand_rules.specs.declared.values.Value.{Value}
 use Rattle.operand_rules.specs.declared.values.Refusal.{Refusal}
 use Rattle.operand_rules.specs.declared.values.Refusal.TheVariants.{NotTyped, NoMemory}
 use Rattle.operand_rules.specs.Values.{SameContent, typed_of}
-use Rattle.access_rules.specs.Functions.{AreValues}
+use Rattle.operator_rules.specs.AccessRules.Functions.{AreValues}
 use Rattle.operand_modes.specs.Operands.{AreOperands}
 use Rattle.operand_answers.specs.declared.lists.OperandList.{OperandList}
 use Rattle.operand_answers.specs.Lists.{AllStandAt}

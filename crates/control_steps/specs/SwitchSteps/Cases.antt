@@ -1,8 +1,8 @@
 -- The values of a case as they are compared one by one (Go specification, Expression switches).
 use Rattle.std.specs.Prelude.{◌≡◌, List, map}
 use Rattle.std.specs.List.{list_all}
-use Rattle.go_types.specs.Statements.{case_value}
-use Rattle.type_relations.specs.Environment.{defined_types}
+use Rattle.go_tree.specs.GoTypes.Statements.{case_value}
+use Rattle.type_table.specs.TypeRelations.Environment.{defined_types}
 use Rattle.operand_rules.specs.declared.values.Value.{Value}
 use Rattle.operand_rules.specs.Values.{typed_of}
 use Rattle.checker_tables.specs.declared.tables.Tables.{Tables}

@@ -3,12 +3,12 @@
 
 ghost use Rattle.std.specs.Prelude.{◌≡◌, ◌&&◌, ◌||◌, Bool, Option, IfOk, bytes_eq};
 ghost use Rattle.go_tree.specs.View.{stmts_of};
-ghost use Rattle.go_types.specs.Answers.{distinct_by, is_empty};
-ghost use Rattle.go_types.specs.Bodies as go;
-ghost use Rattle.go_types.specs.Jumps.{labels_in};
-ghost use Rattle.go_types.specs.Types.{FuncType};
-ghost use Rattle.type_relations.specs.Environment.{Environment};
-ghost use Rattle.access_rules.specs.Functions.{types_at};
+ghost use Rattle.go_tree.specs.GoTypes.Answers.{distinct_by, is_empty};
+ghost use Rattle.go_tree.specs.GoTypes.Bodies as go;
+ghost use Rattle.go_tree.specs.GoTypes.Jumps.{labels_in};
+ghost use Rattle.go_tree.specs.GoTypes.Types.{FuncType};
+ghost use Rattle.type_table.specs.TypeRelations.Environment.{Environment};
+ghost use Rattle.operator_rules.specs.AccessRules.Functions.{types_at};
 ghost use Rattle.control_steps.specs.Ends.{EndsAs};
 
 use crate::{Body, unmet};

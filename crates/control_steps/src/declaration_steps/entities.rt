@@ -1,13 +1,13 @@
 //! What a name with a value declares (Go specification, Constant declarations; Variable declarations).
 
 ghost use Rattle.std.specs.Prelude.{◌≡◌, List, Some, is_some, IfSome};
-ghost use Rattle.const_eval.specs.declared.consts.Const.{Const};
-ghost use Rattle.go_types.specs.Answers.{only_if};
-ghost use Rattle.go_types.specs.Declarations as go;
-ghost use Rattle.go_types.specs.Defined.{under};
-ghost use Rattle.go_types.specs.Entities.{constant};
-ghost use Rattle.go_types.specs.Types.{basic_kind};
-ghost use Rattle.type_relations.specs.Environment.{defined_types, env_type};
+ghost use Rattle.go_tree.specs.declared.const_eval.consts.Const.{Const};
+ghost use Rattle.go_tree.specs.GoTypes.Answers.{only_if};
+ghost use Rattle.go_tree.specs.GoTypes.Declarations as go;
+ghost use Rattle.go_tree.specs.GoTypes.Defined.{under};
+ghost use Rattle.go_tree.specs.GoTypes.Entities.{constant};
+ghost use Rattle.go_tree.specs.GoTypes.Types.{basic_kind};
+ghost use Rattle.type_table.specs.TypeRelations.Environment.{defined_types, env_type};
 ghost use Rattle.operand_rules.specs.declared.values.Content.TheVariants.{Exact};
 ghost use Rattle.operand_rules.specs.declared.values.ValueType.TheVariants.{Typed};
 ghost use Rattle.operand_rules.specs.Constants.{const_at};
@@ -22,8 +22,8 @@ ghost use Rattle.control_steps.specs.DeclarationSteps.Entities.{entity_for};
 use checker_tables::Tables;
 use operand_rules::{ConstId, Content, Value, ValueType, fits, under_kind};
 use operator_rules::settled;
-use type_relations::Env;
 use type_table::TypeId;
+use type_table::type_relations::Env;
 use typed_names::Entity;
 
 /// Whether a declaration declares constants or variables.

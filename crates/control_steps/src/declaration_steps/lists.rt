@@ -2,13 +2,13 @@
 //! declarations).
 
 ghost use Rattle.std.specs.Prelude.{◌≡◌, ℕ, List, Some, length, map, IfOk, IfSome};
-ghost use Rattle.go_types.specs.Declarations as go;
-ghost use Rattle.go_types.specs.Entities.{variable};
-ghost use Rattle.type_relations.specs.Environment.{defined_types, env_type};
+ghost use Rattle.go_tree.specs.GoTypes.Declarations as go;
+ghost use Rattle.go_tree.specs.GoTypes.Entities.{variable};
+ghost use Rattle.type_table.specs.TypeRelations.Environment.{defined_types, env_type};
 ghost use Rattle.operand_rules.specs.declared.values.ValueType.TheVariants.{Typed};
 ghost use Rattle.operand_rules.specs.Values.{IsType, typed_of};
 ghost use Rattle.operator_rules.specs.Settling.{typed_option};
-ghost use Rattle.access_rules.specs.Functions.{AreValues};
+ghost use Rattle.operator_rules.specs.AccessRules.Functions.{AreValues};
 ghost use Rattle.checker_tables.specs.Ready.{AreReady};
 ghost use Rattle.control_steps.specs.DeclarationSteps.Entities.{AreEntities, GivesBinds, binds_at, entity_for};
 

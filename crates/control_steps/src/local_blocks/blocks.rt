@@ -1,20 +1,20 @@
 //! The innermost block around a place (Go specification, Blocks; Declarations and scope).
 
 ghost use Rattle.std.specs.Prelude.{◌≡◌, ◌||◌, ℕ, [], List, length, bytes_eq, IfOk, OnOk};
-ghost use Rattle.const_eval.specs.declared.consts.Const.{Const};
-ghost use Rattle.go_types.specs.Answers.{is_among};
-ghost use Rattle.go_types.specs.Entities as go;
-ghost use Rattle.scope_names.specs.Means.{binding};
-ghost use Rattle.type_relations.specs.Environment.{Environment};
+ghost use Rattle.go_tree.specs.declared.const_eval.consts.Const.{Const};
+ghost use Rattle.go_tree.specs.GoTypes.Answers.{is_among};
+ghost use Rattle.go_tree.specs.GoTypes.Entities as go;
+ghost use Rattle.go_tree.specs.ScopeNames.Means.{binding};
+ghost use Rattle.type_table.specs.TypeRelations.Environment.{Environment};
 ghost use Rattle.typed_names.specs.declared.scopes.Scope.{Scope as Place};
 ghost use Rattle.typed_names.specs.Meanings.{Names, entity_at};
 ghost use Rattle.checker_tables.specs.declared.tables.Tables.{Tables as AllTables};
 ghost use Rattle.operand_answers.specs.Known.{IsEntity, Stands};
 ghost use Rattle.control_steps.specs.LocalBlocks.Places.{IsPlace, IsWithin};
 
-use access_rules::is_blank;
 use go_tree::NoMemory;
 use name_walks::NameSet;
+use operator_rules::access_rules::is_blank;
 use std::alloc::Global;
 use typed_names::{Entity, Scope};
 

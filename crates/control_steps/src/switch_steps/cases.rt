@@ -2,10 +2,10 @@
 
 ghost use Rattle.std.specs.Prelude.{◌≡◌, IfOk, map};
 ghost use Rattle.std.specs.List.{list_all};
-ghost use Rattle.go_types.specs.Statements as go;
-ghost use Rattle.type_relations.specs.Environment.{defined_types};
+ghost use Rattle.go_tree.specs.GoTypes.Statements as go;
+ghost use Rattle.type_table.specs.TypeRelations.Environment.{defined_types};
 ghost use Rattle.operand_rules.specs.Values.{IsValue, typed_of};
-ghost use Rattle.access_rules.specs.Functions.{AreValues};
+ghost use Rattle.operator_rules.specs.AccessRules.Functions.{AreValues};
 ghost use Rattle.checker_tables.specs.Ready.{AreReady, Keeps};
 
 use crate::unmet;

@@ -1,14 +1,14 @@
 //! The tags of switches (Go specification, Expression switches).
 
 ghost use Rattle.std.specs.Prelude.{◌≡◌, ◌||◌, List, None, Option, Some};
-ghost use Rattle.go_types.specs.Answers.{given, only_if};
+ghost use Rattle.go_tree.specs.GoTypes.Answers.{given, only_if};
 ghost use Rattle.comparable_types.specs.Grown.{AreFlags};
-ghost use Rattle.go_types.specs.Defined.{Defined, comparable, under};
-ghost use Rattle.go_types.specs.Entities.{run};
-ghost use Rattle.go_types.specs.Operands as go_operand;
-ghost use Rattle.go_types.specs.Relations.{has_nil};
-ghost use Rattle.go_types.specs.Statements as go;
-ghost use Rattle.type_relations.specs.Environment.{defined_types, env_type};
+ghost use Rattle.go_tree.specs.GoTypes.Defined.{Defined, comparable, under};
+ghost use Rattle.go_tree.specs.GoTypes.Entities.{run};
+ghost use Rattle.go_tree.specs.GoTypes.Operands as go_operand;
+ghost use Rattle.go_tree.specs.GoTypes.Relations.{has_nil};
+ghost use Rattle.go_tree.specs.GoTypes.Statements as go;
+ghost use Rattle.type_table.specs.TypeRelations.Environment.{defined_types, env_type};
 ghost use Rattle.operand_rules.specs.declared.values.ValueType.TheVariants.{Typed};
 ghost use Rattle.operand_rules.specs.Values.{Gives, IsType, IsValue, typed_of};
 ghost use Rattle.operand_answers.specs.AccessSteps.Bounds.{GivesBound, IsBoundIfOk};
@@ -17,11 +17,11 @@ ghost use Rattle.control_steps.specs.SwitchSteps.Tags.{as_operand};
 
 use checker_tables::Tables;
 use comparable_types::TypeFlags;
-use const_eval::{Const, Kind};
+use go_tree::const_eval::{Const, Kind};
 use operand_rules::{Content, Refusal, Value, ValueType, folded, has_nil};
 use operator_rules::settled;
-use type_relations::Env;
 use type_table::TypeId;
+use type_table::type_relations::Env;
 
 /// Whether values of a type may be compared with others, or with nil.
 #[tactic(auto, using(operator_rules::proofs::TypeLemmas::flag_comparable))]

@@ -2,20 +2,20 @@
 use Rattle.std.proofs.Common.{◌≡◌, ◌∙◌, ◌++◌, ◌<◌, ℕ, Bool, true, false, List, [], ◌∷◌, Option, Some, None, Result, Ok, Err, sym, ap, ap₂, subst, length, arith, if◌then◌else◌}
 use Rattle.go_tree.specs.declared.spans.Span.{Span}
 use Rattle.go_tree.specs.Tree.{TypeExpr, composite, Elems, no_elems, elem, Value, braced, ValueOption}
-use Rattle.const_eval.specs.declared.consts.Const.{Const}
-use Rattle.go_types.specs.Answers.{both, given}
-use Rattle.go_types.specs.Types.{GoType, is_untyped}
-use Rattle.go_types.specs.Defined.{under}
-use Rattle.go_types.specs.Entities as go_entity
-use Rattle.go_types.specs.Entities.{Env, defined_in}
-use Rattle.go_types.specs.Operands as go_operand
-use Rattle.go_types.specs.TypeNames.{type_meant}
-use Rattle.go_types.specs.Literals as go
-use Rattle.go_types.specs.Literals.{built, built_inside, inner_type, literal_type}
-use Rattle.go_types.specs.Typing.{element, elements, with_key}
+use Rattle.go_tree.specs.declared.const_eval.consts.Const.{Const}
+use Rattle.go_tree.specs.GoTypes.Answers.{both, given}
+use Rattle.go_tree.specs.GoTypes.Types.{GoType, is_untyped}
+use Rattle.go_tree.specs.GoTypes.Defined.{under}
+use Rattle.go_tree.specs.GoTypes.Entities as go_entity
+use Rattle.go_tree.specs.GoTypes.Entities.{Env, defined_in}
+use Rattle.go_tree.specs.GoTypes.Operands as go_operand
+use Rattle.go_tree.specs.GoTypes.TypeNames.{type_meant}
+use Rattle.go_tree.specs.GoTypes.Literals as go
+use Rattle.go_tree.specs.GoTypes.Literals.{built, built_inside, inner_type, literal_type}
+use Rattle.go_tree.specs.GoTypes.Typing.{element, elements, with_key}
 use Rattle.type_table.specs.declared.nodes.TypeId.{TypeId}
-use Rattle.type_relations.specs.Environment.{Environment, defined_types, env_type}
-use Rattle.type_exprs.specs.Answers.{GivesType}
+use Rattle.type_table.specs.TypeRelations.Environment.{Environment, defined_types, env_type}
+use Rattle.typed_names.specs.TypeExprs.Answers.{GivesType}
 use Rattle.operand_rules.specs.declared.values.ValueType.TheVariants.{Typed}
 use Rattle.operand_rules.specs.declared.values.Refusal.{Refusal}
 use Rattle.operand_rules.specs.declared.values.Refusal.TheVariants.{NotTyped, NoMemory}

@@ -2,16 +2,16 @@
 use Rattle.std.proofs.Common.{◌≡◌, ◌∙◌, ◌++◌, List, [], ◌∷◌, Option, Some, None, Ok, Err, refl, sym, ap, subst, length, map, arith, length-append}
 use Rattle.go_tree.specs.declared.spans.Span.{Span}
 use Rattle.go_tree.specs.Tree.{Expr, Exprs, no_exprs, expr_and}
-use Rattle.const_eval.specs.declared.consts.Const.{Const}
-use Rattle.go_types.specs.Answers.{both, given}
-use Rattle.go_types.specs.Entities.{Env}
-use Rattle.go_types.specs.Operands as go
-use Rattle.go_types.specs.Typing.{all_parts, parts, place, places}
-use Rattle.type_relations.specs.Environment.{Environment}
+use Rattle.go_tree.specs.declared.const_eval.consts.Const.{Const}
+use Rattle.go_tree.specs.GoTypes.Answers.{both, given}
+use Rattle.go_tree.specs.GoTypes.Entities.{Env}
+use Rattle.go_tree.specs.GoTypes.Operands as go
+use Rattle.go_tree.specs.GoTypes.Typing.{all_parts, parts, place, places}
+use Rattle.type_table.specs.TypeRelations.Environment.{Environment}
 use Rattle.operand_rules.specs.declared.values.Refusal.{Refusal}
 use Rattle.operand_rules.specs.declared.values.Refusal.TheVariants.{NotTyped, NoMemory}
-use Rattle.access_rules.specs.declared.places.Place.{Place}
-use Rattle.access_rules.specs.Places.{place_of}
+use Rattle.operator_rules.specs.declared.access_rules.places.Place.{Place}
+use Rattle.operator_rules.specs.AccessRules.Places.{place_of}
 use Rattle.typed_names.specs.declared.scopes.Scope.{Scope}
 use Rattle.typed_names.specs.Meanings.{Names}
 use Rattle.operand_modes.specs.declared.modes.Operand.{Operand}

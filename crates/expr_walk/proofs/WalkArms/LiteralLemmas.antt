@@ -1,27 +1,27 @@
 -- Function literals by their signatures.
 use Rattle.std.proofs.Common.{◌≡◌, Bool, true, false, List, [], ◌∷◌, length, Option, Some, None, Ok, Err, refl, sym, ap, is_some}
-use Rattle.const_eval.specs.declared.consts.Const.{Const}
-use Rattle.go_types.specs.Answers.{given, only_if}
-use Rattle.go_types.specs.Entities as go_entity
-use Rattle.go_types.specs.Entities.{Binds}
+use Rattle.go_tree.specs.declared.const_eval.consts.Const.{Const}
+use Rattle.go_tree.specs.GoTypes.Answers.{given, only_if}
+use Rattle.go_tree.specs.GoTypes.Entities as go_entity
+use Rattle.go_tree.specs.GoTypes.Entities.{Binds}
 use Rattle.operand_rules.specs.declared.values.Refusal.{Refusal}
 use Rattle.operand_rules.specs.declared.values.Refusal.TheVariants.{NotTyped, NoMemory}
 use Rattle.operand_answers.specs.Located.{GivesAt}
-use Rattle.go_types.specs.Operands.{a_function}
-use Rattle.go_types.specs.Types.{FuncType}
+use Rattle.go_tree.specs.GoTypes.Operands.{a_function}
+use Rattle.go_tree.specs.GoTypes.Types.{FuncType}
 use Rattle.type_table.specs.declared.nodes.TypeId.{TypeId}
-use Rattle.type_relations.specs.Environment.{Environment, env_type}
+use Rattle.type_table.specs.TypeRelations.Environment.{Environment, env_type}
 use Rattle.comparable_types.specs.declared.grown.TypeFlags.{TypeFlags}
 use Rattle.comparable_types.specs.Grown.{AreFlagsSoFar, DefinedBelow}
-use Rattle.value_types.specs.ValueTypes.{HasValueTypes}
-use Rattle.type_exprs.specs.Grown.{TypesGrown}
+use Rattle.type_table.specs.ValueTypes.ValueTypes.{HasValueTypes}
+use Rattle.typed_names.specs.TypeExprs.Grown.{TypesGrown}
 use Rattle.universe_block.specs.Meanings.{entity_of}
 use Rattle.universe_block.specs.declared.block.PredeclaredEntity.{PredeclaredEntity}
 use Rattle.universe_block.specs.declared.block.PredeclaredEntity.TheVariants as predeclared
 use Rattle.typed_names.specs.Known.{HasTypes}
 use Rattle.typed_names.specs.Meanings.{Names, entity_at, signature_at}
 use Rattle.typed_names.specs.declared.entities.Entity.TheVariants.{Function}
-use Rattle.access_rules.specs.Functions as access
+use Rattle.operator_rules.specs.AccessRules.Functions as access
 use Rattle.operand_modes.specs.declared.modes.Operand.TheVariants as mode
 use Rattle.operand_modes.specs.Operands.{GivesOperand}
 use Rattle.checker_tables.specs.declared.tables.Tables.{Tables}

@@ -2,8 +2,8 @@
 use Rattle.std.specs.Prelude.{Result}
 use Rattle.go_tree.specs.declared.spans.Span.{Span}
 use Rattle.go_tree.specs.Tree.{Expr}
-use Rattle.go_types.specs.Entities.{Env}
-use Rattle.go_types.specs.Typing.{parts, place}
+use Rattle.go_tree.specs.GoTypes.Entities.{Env}
+use Rattle.go_tree.specs.GoTypes.Typing.{parts, place}
 use Rattle.operand_rules.specs.declared.values.Refusal.{Refusal}
 use Rattle.checker_tables.specs.declared.tables.Tables.{Tables}
 use Rattle.operand_answers.specs.declared.located.Located.{Located}

@@ -2,14 +2,14 @@
 use Rattle.std.specs.Prelude.{◌≡◌, List, ◌++◌, length, map, Some}
 use Rattle.go_tree.specs.declared.spans.Span.{Span}
 use Rattle.go_tree.specs.Tree.{Exprs}
-use Rattle.go_types.specs.Answers.{given}
-use Rattle.go_types.specs.Operands as go
-use Rattle.go_types.specs.Typing.{all_parts, places}
+use Rattle.go_tree.specs.GoTypes.Answers.{given}
+use Rattle.go_tree.specs.GoTypes.Operands as go
+use Rattle.go_tree.specs.GoTypes.Typing.{all_parts, places}
 use Rattle.typed_names.specs.declared.scopes.Scope.{Scope}
 use Rattle.typed_names.specs.Meanings.{Names}
 use Rattle.typed_names.specs.Scopes.{env_at}
-use Rattle.access_rules.specs.declared.places.Place.{Place}
-use Rattle.access_rules.specs.Places.{place_of}
+use Rattle.operator_rules.specs.declared.access_rules.places.Place.{Place}
+use Rattle.operator_rules.specs.AccessRules.Places.{place_of}
 use Rattle.operand_modes.specs.declared.modes.Operand.{Operand}
 use Rattle.operand_modes.specs.Operands.{AreOperands, operands_at}
 use Rattle.operand_laws.specs.Alike.{AllSame}

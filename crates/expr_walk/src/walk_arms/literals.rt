@@ -1,14 +1,14 @@
 //! Function literals, by their signatures (Go specification, Function literals; Function types).
 
 ghost use Rattle.std.specs.Prelude.{◌≡◌, List, Option, Some};
-ghost use Rattle.const_eval.specs.declared.consts.Const.{Const};
+ghost use Rattle.go_tree.specs.declared.const_eval.consts.Const.{Const};
 ghost use Rattle.go_tree.specs.View.{sig_of};
-ghost use Rattle.go_types.specs.Answers.{given};
-ghost use Rattle.go_types.specs.Entities as go_entity;
-ghost use Rattle.go_types.specs.Operands.{a_function};
-ghost use Rattle.go_types.specs.TypeNames as type_name;
-ghost use Rattle.go_types.specs.Types.{FuncType as GoFuncType};
-ghost use Rattle.type_relations.specs.Environment.{Environment};
+ghost use Rattle.go_tree.specs.GoTypes.Answers.{given};
+ghost use Rattle.go_tree.specs.GoTypes.Entities as go_entity;
+ghost use Rattle.go_tree.specs.GoTypes.Operands.{a_function};
+ghost use Rattle.go_tree.specs.GoTypes.TypeNames as type_name;
+ghost use Rattle.go_tree.specs.GoTypes.Types.{FuncType as GoFuncType};
+ghost use Rattle.type_table.specs.TypeRelations.Environment.{Environment};
 ghost use Rattle.typed_names.specs.Known.{HasTypes};
 ghost use Rattle.typed_names.specs.Meanings.{entity_at};
 ghost use Rattle.typed_names.specs.Scopes.{env_at};
@@ -25,7 +25,7 @@ use operand_answers::{Located, elsewhere};
 use operand_modes::Operand;
 use operand_rules::Refusal;
 use std::alloc::Global;
-use type_relations::FuncType;
+use type_table::type_relations::FuncType;
 use typed_names::{Blocks, Entity, Scope};
 
 /// The type of a function with this signature. The tables only grow.

@@ -2,12 +2,12 @@
 use Rattle.std.specs.Prelude.{◌≡◌, refl, ℕ, Bool, true, false, List, [], ◌∷◌, ◌++◌, Option, Some, None, if◌then◌else◌, nat_eq, ◌⊎◌}
 use mathlib.Core.Path.{ap, ap₂, sym, ◌∙◌, subst}
 use Rattle.std.proofs.Common.{inl, inr, arith}
-use Rattle.scope_names.specs.Means.{Environment, means, or_else}
-use Rattle.go_types.specs.Answers.{given, only_if, otherwise, is_among}
-use Rattle.go_types.specs.Entities.{Entity, refused, block_of}
-use Rattle.go_types.specs.Declarations.{bind_each}
-use Rattle.go_types.specs.Programs.{Headed, header_names, Program}
-use Rattle.go_types.specs.Collect.{entity_binds, binds_or_refused, block_by, blocks_by}
+use Rattle.go_tree.specs.ScopeNames.Means.{Environment, means, or_else}
+use Rattle.go_tree.specs.GoTypes.Answers.{given, only_if, otherwise, is_among}
+use Rattle.go_tree.specs.GoTypes.Entities.{Entity, refused, block_of}
+use Rattle.go_tree.specs.GoTypes.Declarations.{bind_each}
+use Rattle.go_tree.specs.GoTypes.Programs.{Headed, header_names, Program}
+use Rattle.go_tree.specs.GoTypes.Collect.{entity_binds, binds_or_refused, block_by, blocks_by}
 use Rattle.declared_types.proofs.NamesClearer.{each_means, means_append}
 
 each_same :

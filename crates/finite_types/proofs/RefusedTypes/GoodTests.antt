@@ -4,13 +4,13 @@ use mathlib.Core.Path.{ap, ap₂, sym, ◌∙◌, subst}
 use Rattle.std.proofs.Common.{arith}
 use Rattle.go_tree.specs.declared.spans.Span.{Span}
 use Rattle.go_tree.specs.File.{TypeSpec}
-use Rattle.go_types.specs.Answers.{given, meets, only_if}
-use Rattle.go_types.specs.Types.{GoType}
-use Rattle.go_types.specs.Defined.{has_keys}
-use Rattle.go_types.specs.Entities.{Env, defined_in}
-use Rattle.go_types.specs.TypeNames.{resolved, type_meant}
-use Rattle.go_types.specs.TypeDeclarations.{is_finite}
-use Rattle.type_relations.specs.Environment.{Environment, Definition, IsEnvironment, AreDefinitions, env_type}
+use Rattle.go_tree.specs.GoTypes.Answers.{given, meets, only_if}
+use Rattle.go_tree.specs.GoTypes.Types.{GoType}
+use Rattle.go_tree.specs.GoTypes.Defined.{has_keys}
+use Rattle.go_tree.specs.GoTypes.Entities.{Env, defined_in}
+use Rattle.go_tree.specs.GoTypes.TypeNames.{resolved, type_meant}
+use Rattle.go_tree.specs.GoTypes.TypeDeclarations.{is_finite}
+use Rattle.type_table.specs.TypeRelations.Environment.{Environment, Definition, IsEnvironment, AreDefinitions, env_type}
 use Rattle.type_table.specs.declared.nodes.TypeId.{TypeId}
 use Rattle.type_table.proofs.TypesAtLaws.{got_within}
 use Rattle.operand_rules.specs.declared.values.Refusal.TheVariants.{NotTyped}
@@ -18,8 +18,8 @@ use Rattle.comparable_types.specs.declared.grown.TypeFlags.{TypeFlags}
 use Rattle.comparable_types.specs.Flags.{flag_at}
 use Rattle.comparable_types.specs.Grown.{AreFlags, AreFlagsSoFar, DefinedBelow}
 use Rattle.comparable_types.proofs.FlagLaws.{some_flag}
-use Rattle.type_exprs.specs.Answers.{GivesType}
-use Rattle.type_exprs.specs.Grown.{TypesGrown}
+use Rattle.typed_names.specs.TypeExprs.Answers.{GivesType}
+use Rattle.typed_names.specs.TypeExprs.Grown.{TypesGrown}
 use Rattle.defined_types.specs.declared.declared.DeclaredType.{DeclaredType}
 use Rattle.defined_types.specs.DeclaredTypes.{AreDeclared, declared_of}
 use Rattle.defined_types.proofs.TypeSteps.{are_on, are_same}

@@ -4,16 +4,16 @@ use mathlib.Core.Path.{ap, ap₂, sym, ◌∙◌, subst}
 use Rattle.std.proofs.Common.{arith}
 use Rattle.go_tree.specs.declared.spans.Span.{Span}
 use Rattle.go_tree.specs.FileView.{type_spec_of}
-use Rattle.go_types.specs.Programs.{Headed, Program}
-use Rattle.go_types.specs.Collect.{aliased_world, types_declared, typed_world}
-use Rattle.const_eval.specs.declared.consts.Const.{Const}
-use Rattle.type_relations.specs.Environment.{Environment, defined_types}
+use Rattle.go_tree.specs.GoTypes.Programs.{Headed, Program}
+use Rattle.go_tree.specs.GoTypes.Collect.{aliased_world, types_declared, typed_world}
+use Rattle.go_tree.specs.declared.const_eval.consts.Const.{Const}
+use Rattle.type_table.specs.TypeRelations.Environment.{Environment, defined_types}
 use Rattle.typed_names.specs.declared.scopes.Scope.{Scope}
 use Rattle.typed_names.specs.Known.{AllHaveTypes}
 use Rattle.typed_names.specs.Meanings.{Names, world_at}
-use Rattle.value_types.specs.ValueTypes.{HasValueTypes}
-use Rattle.type_exprs.specs.Grown.{TypesGrown}
-use Rattle.type_exprs.proofs.GrownLaws.{env_same, grown_on, grown_self}
+use Rattle.type_table.specs.ValueTypes.ValueTypes.{HasValueTypes}
+use Rattle.typed_names.specs.TypeExprs.Grown.{TypesGrown}
+use Rattle.typed_names.proofs.TypeExprs.GrownLaws.{env_same, grown_on, grown_self}
 use Rattle.declared_types.specs.declared.headers.TypeHeader.{TypeHeader}
 use Rattle.declared_types.specs.Headers.{AreTypeHeaders, IsTypeAt, IsTypeHeader}
 use Rattle.declared_types.specs.Members.{SameMembers}

@@ -7,25 +7,25 @@ use Rattle.go_tree.specs.declared.spans.Span.{Span}
 use Rattle.go_tree.specs.declared.files.TypeSpec as code
 use Rattle.go_tree.specs.File.{TypeSpec}
 use Rattle.go_tree.specs.FileView.{type_spec_of}
-use Rattle.const_eval.specs.declared.consts.Const.{Const}
-use Rattle.scope_names.specs.Means.{means, is_blank}
-use Rattle.go_types.specs.Answers.{given, meets, only_if, is_among}
-use Rattle.go_types.specs.Types.{GoType, named_type}
-use Rattle.go_types.specs.Defined.{has_keys}
-use Rattle.go_types.specs.Entities as go
-use Rattle.go_types.specs.Entities.{refused, type_name, World}
-use Rattle.go_types.specs.TypeNames.{resolved}
-use Rattle.go_types.specs.Programs.{spec_of, Header, Headed, header_names, Program, env_of}
-use Rattle.go_types.specs.Collect.{DeclaredTypes, is_finite, type_entity, spec_type, alias_entity, is_good_type, good_entity, aliased_world, types_declared, typed_world}
-use Rattle.type_relations.specs.Environment as types
-use Rattle.type_relations.specs.Environment.{defined_types}
+use Rattle.go_tree.specs.declared.const_eval.consts.Const.{Const}
+use Rattle.go_tree.specs.ScopeNames.Means.{means, is_blank}
+use Rattle.go_tree.specs.GoTypes.Answers.{given, meets, only_if, is_among}
+use Rattle.go_tree.specs.GoTypes.Types.{GoType, named_type}
+use Rattle.go_tree.specs.GoTypes.Defined.{has_keys}
+use Rattle.go_tree.specs.GoTypes.Entities as go
+use Rattle.go_tree.specs.GoTypes.Entities.{refused, type_name, World}
+use Rattle.go_tree.specs.GoTypes.TypeNames.{resolved}
+use Rattle.go_tree.specs.GoTypes.Programs.{spec_of, Header, Headed, header_names, Program, env_of}
+use Rattle.go_tree.specs.GoTypes.Collect.{DeclaredTypes, is_finite, type_entity, spec_type, alias_entity, is_good_type, good_entity, aliased_world, types_declared, typed_world}
+use Rattle.type_table.specs.TypeRelations.Environment as types
+use Rattle.type_table.specs.TypeRelations.Environment.{defined_types}
 use Rattle.typed_names.specs.declared.entities.Entity.{Entity}
 use Rattle.typed_names.specs.declared.entities.Entity.TheVariants.{Variable, Constant, TypeName, Function, Package, Predeclared, Refused}
 use Rattle.typed_names.specs.declared.scopes.Scope.{Scope}
 use Rattle.typed_names.specs.Known.{AllHaveTypes}
 use Rattle.typed_names.specs.Meanings.{Names, block_at, entity_option, world_at}
 use Rattle.typed_names.specs.Scopes.{env_at}
-use Rattle.type_exprs.specs.Grown.{TypesGrown}
+use Rattle.typed_names.specs.TypeExprs.Grown.{TypesGrown}
 use Rattle.typed_in_place.specs.Known.{Clearer, as_before, refused_before}
 use Rattle.typed_in_place.proofs.Rising.{keeps_some}
 use Rattle.typed_in_place.proofs.Collected.{typed_is}

@@ -1,20 +1,21 @@
 -- The steps in which the names of types are refused (Go specification, Type declarations; Declarations and scope).
-use Rattle.std.specs.Prelude.{◌≡◌, ℕ, Bool, true, false, ◌&&◌, List, [], ◌∷◌, Option, Some, map, nat_eq, bytes_eq, length, slice_get, if◌then◌else◌, is_some, not}
+use Rattle.std.specs.Prelude.{◌≡◌, ℕ, Bool, true, false, ◌&&◌, List, [], ◌∷◌, Option, Some, map}
+use Rattle.std.specs.Prelude.{nat_eq, bytes_eq, length, slice_get, if◌then◌else◌, is_some, not}
 use Rattle.go_tree.specs.declared.spans.Span.{Span}
 use Rattle.go_tree.specs.declared.files.TypeSpec.{TypeSpec}
 use Rattle.go_tree.specs.FileView.{type_spec_of}
-use Rattle.const_eval.specs.declared.consts.Const.{Const}
-use Rattle.scope_names.specs.Means.{means}
-use Rattle.go_types.specs.Programs.{Headed, Program}
-use Rattle.go_types.specs.Collect as go
-use Rattle.type_relations.specs.Environment.{Environment}
+use Rattle.go_tree.specs.declared.const_eval.consts.Const.{Const}
+use Rattle.go_tree.specs.ScopeNames.Means.{means}
+use Rattle.go_tree.specs.GoTypes.Programs.{Headed, Program}
+use Rattle.go_tree.specs.GoTypes.Collect as go
+use Rattle.type_table.specs.TypeRelations.Environment.{Environment}
 use Rattle.typed_names.specs.declared.entities.Entity.{Entity}
 use Rattle.typed_names.specs.declared.entities.Entity.TheVariants.{Refused}
 use Rattle.typed_names.specs.declared.scopes.Scope.{Scope}
 use Rattle.typed_names.specs.Meanings.{Names, block_at, world_at}
 use Rattle.typed_names.specs.Scopes.{env_at}
-use Rattle.value_types.specs.ValueTypes.{HasValueTypes}
-use Rattle.type_exprs.specs.Grown.{TypesGrown}
+use Rattle.type_table.specs.ValueTypes.ValueTypes.{HasValueTypes}
+use Rattle.typed_names.specs.TypeExprs.Grown.{TypesGrown}
 use Rattle.declared_types.specs.declared.headers.TypeHeader.{TypeHeader}
 use Rattle.declared_types.specs.Headers.{AreTypeHeaders}
 use Rattle.declared_types.specs.Steps.{KnowsPlaces, is_refused}

@@ -10,7 +10,7 @@ use comparable_types::TypeFlags;
 use defined_types::DeclaredType;
 use go_tree::NoMemory;
 use std::alloc::Global;
-use type_relations::Env;
+use type_table::type_relations::Env;
 
 /// Which types of a table have comparable keys in their maps, and which are finite, by their numbers,
 /// and the declared types by which this is told.

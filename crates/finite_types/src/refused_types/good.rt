@@ -1,12 +1,12 @@
 //! Whether the type of a spec is refused (Go specification, Type declarations; Struct types; Map types).
 
 ghost use Rattle.std.specs.Prelude.{◌≡◌, List, map, IfOk};
-ghost use Rattle.const_eval.specs.declared.consts.Const.{Const};
+ghost use Rattle.go_tree.specs.declared.const_eval.consts.Const.{Const};
 ghost use Rattle.go_tree.specs.FileView.{type_spec_of};
-ghost use Rattle.value_types.specs.ValueTypes.{HasValueTypes};
+ghost use Rattle.type_table.specs.ValueTypes.ValueTypes.{HasValueTypes};
 ghost use Rattle.typed_names.specs.Known.{KnowsTypes};
 ghost use Rattle.typed_names.specs.Scopes.{env_at};
-ghost use Rattle.type_exprs.specs.Grown.{TypesGrown};
+ghost use Rattle.typed_names.specs.TypeExprs.Grown.{TypesGrown};
 ghost use Rattle.defined_types.specs.DeclaredTypes.{declared_of};
 ghost use Rattle.finite_types.specs.RefusedTypes.Refusals.{AreTested, is_good_at};
 
@@ -15,8 +15,8 @@ use crate::{extend_finite, is_finite};
 use go_tree::{NoMemory, TypeSpec};
 use operand_rules::Refusal;
 use std::alloc::{AllocError, Global};
-use type_exprs::type_meant;
-use type_relations::Env;
+use type_table::type_relations::Env;
+use typed_names::type_exprs::type_meant;
 use typed_names::{Blocks, Scope};
 
 /// Whether the type of a spec isn't refused: its parts are known, its maps have comparable keys, and it

@@ -1,29 +1,30 @@
 //! The names of types that are refused (Go specification, Type declarations; Declarations and scope).
 
 ghost use Rattle.std.specs.Prelude.{◌≡◌, List, false, true, map, length, IfOk, OnErr, OnOk};
-ghost use Rattle.const_eval.specs.declared.consts.Const.{Const};
+ghost use Rattle.go_tree.specs.declared.const_eval.consts.Const.{Const};
 ghost use Rattle.go_tree.specs.declared.spans.Span.{Span};
-ghost use Rattle.go_types.specs.Programs.{Headed, Program};
-ghost use Rattle.go_types.specs.Collect.{aliased_world, typed_world};
-ghost use Rattle.go_types.specs.Collect as go;
-ghost use Rattle.type_relations.specs.Environment.{defined_types};
-ghost use Rattle.value_types.specs.ValueTypes.{HasValueTypes};
+ghost use Rattle.go_tree.specs.GoTypes.Programs.{Headed, Program};
+ghost use Rattle.go_tree.specs.GoTypes.Collect.{aliased_world, typed_world};
+ghost use Rattle.go_tree.specs.GoTypes.Collect as go;
+ghost use Rattle.type_table.specs.TypeRelations.Environment.{defined_types};
+ghost use Rattle.type_table.specs.ValueTypes.ValueTypes.{HasValueTypes};
 ghost use Rattle.typed_names.specs.Known.{KnowsTypes};
 ghost use Rattle.typed_names.specs.Meanings.{world_at};
-ghost use Rattle.type_exprs.specs.Grown.{TypesGrown};
+ghost use Rattle.typed_names.specs.TypeExprs.Grown.{TypesGrown};
 ghost use Rattle.declared_types.specs.Headers.{AreTypeHeaders, IsTypeHeader};
 ghost use Rattle.declared_types.specs.Members.{SameMembers};
 ghost use Rattle.declared_types.specs.Steps.{KnowsPlaces, is_refused};
 ghost use Rattle.defined_types.specs.DeclaredTypes.{declared_of};
 ghost use Rattle.finite_types.specs.RefusedTypes.Refusals.{AreTested, TypesAreKnown};
-ghost use Rattle.finite_types.specs.RefusedTypes.Steps.{AllOpen, AreTyped, IsOpen, IsRefused, OpenHeader, StaysTyped, is_known};
+ghost use Rattle.finite_types.specs.RefusedTypes.Steps.{AllOpen, AreTyped, IsOpen, IsRefused, OpenHeader, StaysTyped};
+ghost use Rattle.finite_types.specs.RefusedTypes.Steps.{is_known};
 
 use crate::refused_types::asked::TypeTests;
 use crate::refused_types::good::is_good_type;
 use declared_types::TypeHeader;
 use go_tree::{NoMemory, TypeSpec};
 use std::alloc::{AllocError, Global};
-use type_relations::Env;
+use type_table::type_relations::Env;
 use typed_names::{Blocks, Entity, Scope};
 
 /// Whether a name is refused.

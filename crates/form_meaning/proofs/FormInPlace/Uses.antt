@@ -3,11 +3,11 @@ use Rattle.std.specs.Prelude.{◌≡◌, ℕ, Bool, true, false, not, ◌&&◌, 
 use mathlib.Core.Path.{ap, ap₂, sym, ◌∙◌, subst}
 use Rattle.std.proofs.lemmas.Slice.Eq.{bytes_eq-Decides}
 use Rattle.std.proofs.Common.{arith}
-use Rattle.go_types.specs.Answers.{is_among, without}
-use Rattle.go_types.specs.Entities.{Binds}
-use Rattle.go_types.specs.Statements.{bound_names}
-use Rattle.go_types.specs.Typing.{beyond, all_used}
-use Rattle.go_types.proofs.Agreeing.{among_right}
+use Rattle.go_tree.specs.GoTypes.Answers.{is_among, without}
+use Rattle.go_tree.specs.GoTypes.Entities.{Binds}
+use Rattle.go_tree.specs.GoTypes.Statements.{bound_names}
+use Rattle.go_tree.specs.GoTypes.Typing.{beyond, all_used}
+use Rattle.go_tree.proofs.GoTypes.Agreeing.{among_right}
 use Rattle.form_meaning.specs.FormInPlace.Places.{Apart}
 use Rattle.typed_in_place.specs.SameFacts.{UsedAlike}
 

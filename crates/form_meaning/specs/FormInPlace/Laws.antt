@@ -4,12 +4,12 @@ use Rattle.std.specs.Prelude.{◌≡◌, ℕ, Bool, List, [], Some}
 use Rattle.go_tree.specs.declared.exprs.Rest.{Rest}
 use Rattle.go_tree.specs.declared.spans.Span.{Span}
 use Rattle.go_tree.specs.Tree.{Sig, Expr, call, func_lit, Exprs, Stmts}
-use Rattle.scope_names.specs.Means.{Environment}
-use Rattle.go_types.specs.Types.{FuncType}
-use Rattle.go_types.specs.Entities.{Entity, Env}
-use Rattle.go_types.specs.Operands.{a_function}
-use Rattle.go_types.specs.Statements.{Ctx}
-use Rattle.go_types.specs.Typing.{parts, place, used, used_stmts, stmts}
+use Rattle.go_tree.specs.ScopeNames.Means.{Environment}
+use Rattle.go_tree.specs.GoTypes.Types.{FuncType}
+use Rattle.go_tree.specs.GoTypes.Entities.{Entity, Env}
+use Rattle.go_tree.specs.GoTypes.Operands.{a_function}
+use Rattle.go_tree.specs.GoTypes.Statements.{Ctx}
+use Rattle.go_tree.specs.GoTypes.Typing.{parts, place, used, used_stmts, stmts}
 use Rattle.form_meaning.specs.FormInPlace.Places.{at_place, Landing, Apart}
 use Rattle.typed_in_place.specs.SameFacts.{UsedAlike}
 use Rattle.form_meaning.specs.FormInPlace.Written.{Written, WrittenBody}

@@ -1,17 +1,19 @@
 -- Another place in the same world, with other names and maybe in another package; and what is the same there (Go
 -- specification, Declarations and scope; Exported identifiers; Qualified identifiers).
-use Rattle.std.specs.Prelude.{◌≡◌, ℕ, Bool, true, false, not, ◌&&◌, ◌||◌, List, [], ◌∷◌, Option, Some, None, bytes_eq, is_none}
+use Rattle.std.specs.Prelude.{◌≡◌, ℕ, Bool, true, false, not, ◌&&◌, ◌||◌, List, [], ◌∷◌, Option}
+use Rattle.std.specs.Prelude.{Some, None, bytes_eq, is_none}
 use Rattle.go_tree.specs.Tree.{TypeExpr, Expr, ident, Elems, no_elems, elem, no_value, some_value}
-use Rattle.scope_names.specs.Means.{Environment, means}
-use Rattle.scope_names.specs.FreeNames.{free_type}
-use Rattle.go_types.specs.Answers.{is_among}
-use Rattle.go_types.specs.Types.{GoType, GoFields, no_go_fields, go_field, FuncType}
-use Rattle.go_types.specs.Defined.{Defined}
-use Rattle.go_types.specs.Entities.{Place, Entity, variable, constant, stand_in, type_name, function, Env, meaning}
-use Rattle.go_types.specs.TypeNames.{resolved}
-use Rattle.go_types.specs.Primary.{sees, fields_in, method_value}
-use Rattle.go_types.specs.Literals.{field_key}
-use Rattle.go_types.specs.Statements.{means_panic}
+use Rattle.go_tree.specs.ScopeNames.Means.{Environment, means}
+use Rattle.go_tree.specs.ScopeNames.FreeNames.{free_type}
+use Rattle.go_tree.specs.GoTypes.Answers.{is_among}
+use Rattle.go_tree.specs.GoTypes.Types.{GoType, GoFields, no_go_fields, go_field, FuncType}
+use Rattle.go_tree.specs.GoTypes.Defined.{Defined}
+use Rattle.go_tree.specs.GoTypes.Entities.{Place, Entity, variable, constant, stand_in, type_name, function, Env}
+use Rattle.go_tree.specs.GoTypes.Entities.{meaning}
+use Rattle.go_tree.specs.GoTypes.TypeNames.{resolved}
+use Rattle.go_tree.specs.GoTypes.Primary.{sees, fields_in, method_value}
+use Rattle.go_tree.specs.GoTypes.Literals.{field_key}
+use Rattle.go_tree.specs.GoTypes.Statements.{means_panic}
 use Rattle.typed_in_place.specs.SameFacts.{UsedAlike}
 
 -- the place of `a` with other names, in the package `p`

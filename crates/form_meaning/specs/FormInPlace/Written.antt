@@ -3,24 +3,36 @@
 -- it stands (Go specification, Qualified identifiers; Exported identifiers; Declarations and scope).
 -- The place runs along: `declared` are the names that the body has declared so far, `a` is the place in the body, and
 -- `m` are the names at the place where the form lands. Typing and translation are inductions on these rules.
-use Rattle.std.specs.Prelude.{◌≡◌, ℕ, ◌+◌, Bool, true, false, List, ◌∷◌, ◌++◌, Option, Some, None, is_some}
+use Rattle.std.specs.Prelude.{◌≡◌, ℕ, ◌+◌, Bool, true, false, List, ◌∷◌, ◌++◌, Option, Some, None}
+use Rattle.std.specs.Prelude.{is_some}
 use Rattle.go_tree.specs.declared.exprs.Rest.{Rest}
 use Rattle.go_tree.specs.declared.operators.UnOp.{UnOp}
 use Rattle.go_tree.specs.declared.operators.BinOp.{BinOp}
-use Rattle.go_tree.specs.Tree.{NameAt, Sig, TypeExpr, Expr, ident, int_lit, rune_lit, str_lit, composite, selector, index, slice, call, func_lit, type_operand, unary, binary, star, Exprs, no_exprs, expr_and, ExprOption, no_expr, some_expr, Elems, no_elems, elem, Value, plain, braced, ValueOption, no_value, some_value, Stmt, const_decl, var_decl, empty, eval, step, assign, define, return_, break_, continue_, inner, if_, for_, range_, switch, defer, label, Stmts, no_stmts, stmt_and, StmtOption, no_stmt, some_stmt, BlockOption, no_block, some_block, RangeLeft, nothing, assigns, defines, Arms, no_arms, arm, Cases, no_cases, case, ValueSpecs, no_specs, spec}
-use Rattle.scope_names.specs.Means.{Environment}
-use Rattle.go_types.specs.Answers.{given, meets, is_among}
-use Rattle.go_types.specs.Types.{GoType, FuncType}
-use Rattle.go_types.specs.Entities.{Builtin, Content, run, Entity, Env, meaning, defined_in, extend, in_block}
-use Rattle.go_types.specs.TypeNames.{func_type}
-use Rattle.go_types.specs.Operands.{value, a_function, a_builtin}
-use Rattle.go_types.specs.Literals.{is_struct, key_type, inner_type}
-use Rattle.go_types.specs.Statements.{bound_names}
-use Rattle.go_types.specs.Typing.{parts, used_constants}
-use Rattle.form_meaning.specs.FormInPlace.Places.{at_place, Landing, has_home, means_function, SameName, AllSame, Outside, TypeAlike, SelectorAlike, results_in}
+use Rattle.go_tree.specs.Tree.{NameAt, Sig, TypeExpr, Expr, ident, int_lit, rune_lit, str_lit, composite, selector}
+use Rattle.go_tree.specs.Tree.{index, slice, call, func_lit, type_operand, unary, binary, star, Exprs, no_exprs}
+use Rattle.go_tree.specs.Tree.{expr_and, ExprOption, no_expr, some_expr, Elems, no_elems, elem, Value, plain, braced}
+use Rattle.go_tree.specs.Tree.{ValueOption, no_value, some_value, Stmt, const_decl, var_decl, empty, eval, step, assign}
+use Rattle.go_tree.specs.Tree.{define, return_, break_, continue_, inner, if_, for_, range_, switch, defer, label}
+use Rattle.go_tree.specs.Tree.{Stmts, no_stmts, stmt_and, StmtOption, no_stmt, some_stmt, BlockOption, no_block}
+use Rattle.go_tree.specs.Tree.{some_block, RangeLeft, nothing, assigns, defines, Arms, no_arms, arm, Cases, no_cases}
+use Rattle.go_tree.specs.Tree.{case, ValueSpecs, no_specs, spec}
+use Rattle.go_tree.specs.ScopeNames.Means.{Environment}
+use Rattle.go_tree.specs.GoTypes.Answers.{given, meets, is_among}
+use Rattle.go_tree.specs.GoTypes.Types.{GoType, FuncType}
+use Rattle.go_tree.specs.GoTypes.Entities.{Builtin, Content, run, Entity, Env, meaning, defined_in, extend, in_block}
+use Rattle.go_tree.specs.GoTypes.TypeNames.{func_type}
+use Rattle.go_tree.specs.GoTypes.Operands.{value, a_function, a_builtin}
+use Rattle.go_tree.specs.GoTypes.Literals.{is_struct, key_type, inner_type}
+use Rattle.go_tree.specs.GoTypes.Statements.{bound_names}
+use Rattle.go_tree.specs.GoTypes.Typing.{parts, used_constants}
+use Rattle.form_meaning.specs.FormInPlace.Places.{at_place, Landing, has_home, means_function, SameName, AllSame}
+use Rattle.form_meaning.specs.FormInPlace.Places.{Outside, TypeAlike, SelectorAlike, results_in}
 use Rattle.typed_in_place.specs.SameFacts.{UsedAlike}
-use Rattle.form_meaning.specs.FormInPlace.Bound.{Before, inner_under, types_after, is_printer, is_shift_op, at_iota, stmt_binds, first_binds, range_left_binds, literal_binds, variable_binds, constant_binds, repeated_binds, literal_under}
-use Rattle.form_meaning.specs.FormInPlace.Leaves.{Leaf, Bare, BareWhole, WrittenType, WrittenParams, BareConstant, LiteralAlike}
+use Rattle.form_meaning.specs.FormInPlace.Bound.{Before, inner_under, types_after, is_printer, is_shift_op, at_iota}
+use Rattle.form_meaning.specs.FormInPlace.Bound.{stmt_binds, first_binds, range_left_binds, literal_binds}
+use Rattle.form_meaning.specs.FormInPlace.Bound.{variable_binds, constant_binds, repeated_binds, literal_under}
+use Rattle.form_meaning.specs.FormInPlace.Leaves.{Leaf, Bare, BareWhole, WrittenType, WrittenParams, BareConstant}
+use Rattle.form_meaning.specs.FormInPlace.Leaves.{LiteralAlike}
 
 module _ {S : Type 0} (site : Landing) where
   mutual

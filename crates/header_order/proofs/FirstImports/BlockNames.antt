@@ -4,13 +4,13 @@ use Rattle.std.specs.List.{list_any}
 use Rattle.std.proofs.lemmas.Bool.{true≢false}
 use Rattle.std.proofs.lemmas.Bool.Decides.{nat_tests}
 use Rattle.go_tree.specs.declared.spans.Span.{Span}
-use Rattle.const_eval.specs.declared.consts.Const.{Const}
-use Rattle.scope_names.specs.Means.{Environment, means}
-use Rattle.go_types.specs.Entities as go
-use Rattle.go_types.specs.Entities.{World}
-use Rattle.go_types.specs.Programs.{Header, SourceFile, SourcePackage, Headed, Program, all_headers, block_names, file_block, header_names, headed, headed_file, headed_files, headed_package, is_main, names_in}
-use Rattle.go_types.specs.Collect.{aliased_world, refused_world, rounds, typed_world, types_declared, valued_world, blocks_by}
-use Rattle.type_relations.specs.Environment.{Environment as Types}
+use Rattle.go_tree.specs.declared.const_eval.consts.Const.{Const}
+use Rattle.go_tree.specs.ScopeNames.Means.{Environment, means}
+use Rattle.go_tree.specs.GoTypes.Entities as go
+use Rattle.go_tree.specs.GoTypes.Entities.{World}
+use Rattle.go_tree.specs.GoTypes.Programs.{Header, SourceFile, SourcePackage, Headed, Program, all_headers, block_names, file_block, header_names, headed, headed_file, headed_files, headed_package, is_main, names_in}
+use Rattle.go_tree.specs.GoTypes.Collect.{aliased_world, refused_world, rounds, typed_world, types_declared, valued_world, blocks_by}
+use Rattle.type_table.specs.TypeRelations.Environment.{Environment as Types}
 use Rattle.typed_names.specs.declared.entities.Entity.{Entity}
 use Rattle.typed_names.specs.Meanings.{Names, block_at, entity_option, world_at}
 use Rattle.typed_in_place.specs.Known.{BlocksClearer}

@@ -1,12 +1,13 @@
 -- The laws of what is refused first. Each is a clause of a function of this crate.
-use Rattle.std.specs.Prelude.{◌≡◌, Bool, ◌&&◌, List, [], ◌∷◌, Option, is_none, nat_eq, if◌then◌else◌}
+use Rattle.std.specs.Prelude.{◌≡◌, Bool, ◌&&◌, List, [], ◌∷◌, Option, is_none, nat_eq}
+use Rattle.std.specs.Prelude.{if◌then◌else◌}
 use Rattle.std.specs.List.{list_all}
 use Rattle.go_tree.specs.declared.spans.Span.{Span}
-use Rattle.go_types.specs.Answers.{meets, one_of}
-use Rattle.go_types.specs.Entities.{World}
-use Rattle.go_types.specs.Programs.{Headed, SourcePackage, Program, headed}
-use Rattle.go_types.specs.Collect.{collected, types_declared}
-use Rattle.go_types.specs.WellTyped.{NotTyped, first_body, lacks_main, refused_place, well_typed}
+use Rattle.go_tree.specs.GoTypes.Answers.{meets, one_of}
+use Rattle.go_tree.specs.GoTypes.Entities.{World}
+use Rattle.go_tree.specs.GoTypes.Programs.{Headed, SourcePackage, Program, headed}
+use Rattle.go_tree.specs.GoTypes.Collect.{collected, types_declared}
+use Rattle.go_tree.specs.GoTypes.WellTyped.{NotTyped, first_body, lacks_main, refused_place, well_typed}
 use Rattle.typed_in_place.specs.ImportRule.{files_declare, imports_ok}
 use Rattle.header_order.specs.Files.{NumbersApart}
 use Rattle.header_order.specs.FirstRefusals.Declarations.{refused_declaration}

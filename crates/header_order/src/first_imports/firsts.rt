@@ -1,21 +1,22 @@
 //! The first import of each file that is refused.
 
 ghost use Rattle.std.specs.Prelude.{◌≡◌, List, IfOk, OnOk, length, slice_get};
-ghost use Rattle.go_types.specs.Programs.{headed};
-ghost use Rattle.go_types.specs.Collect.{collected};
+ghost use Rattle.go_tree.specs.GoTypes.Programs.{headed};
+ghost use Rattle.go_tree.specs.GoTypes.Collect.{collected};
 ghost use Rattle.package_blocks.specs.Collected.{AreOrdered};
 ghost use Rattle.file_names.specs.Imports.{FindsPackages};
 ghost use Rattle.func_headers.specs.Functions.{program_of};
 ghost use Rattle.header_order.specs.FirstRefusals.Files.{file_numbers};
 ghost use Rattle.header_order.specs.FirstRefusals.Declarations.{AreFirstImports};
-ghost use Rattle.header_order.specs.FirstImports.Firsts.{AddsFirsts, AllUsed, FirstWith, HaveNames, IsFirst, of_package, tagged};
+ghost use Rattle.header_order.specs.FirstImports.Firsts.{AddsFirsts, AllUsed, FirstWith, HaveNames, IsFirst};
+ghost use Rattle.header_order.specs.FirstImports.Firsts.{of_package, tagged};
 
 use crate::refused_imports::first_refused_import;
 use file_names::{Places, find_packages, names_of_file};
+use go_tree::scope_names::NameList;
 use go_tree::{FileTree, NoMemory, Span};
 use name_walks::NameSet;
 use pkg_graph::{Package, SourceTree, one_order_at_most};
-use scope_names::NameList;
 use std::alloc::Global;
 use typed_names::Blocks;
 

@@ -3,10 +3,10 @@ use Rattle.std.proofs.Common.{◌≡◌, ◌∙◌, ◌<◌, ◌≤◌, ℕ, zer
 use Rattle.std.specs.Prelude.{if◌then◌else◌}
 use Rattle.std.proofs.lemmas.Slice.Eq.{bytes_eq-Decides}
 use Rattle.go_tree.specs.declared.texts.NameAt.{NameAt}
-use Rattle.const_eval.specs.declared.consts.Const.{Const}
-use Rattle.scope_names.specs.Means.{binding, is_blank, means, or_else}
-use Rattle.scope_names.specs.Means as scope
-use Rattle.type_relations.specs.Environment.{Environment}
+use Rattle.go_tree.specs.declared.const_eval.consts.Const.{Const}
+use Rattle.go_tree.specs.ScopeNames.Means.{binding, is_blank, means, or_else}
+use Rattle.go_tree.specs.ScopeNames.Means as scope
+use Rattle.type_table.specs.TypeRelations.Environment.{Environment}
 use Rattle.typed_names.specs.declared.entities.Entity.{Entity}
 use Rattle.typed_names.specs.Known.{AllHaveTypes, HasTypes}
 use Rattle.typed_names.specs.Meanings.{Names, block_at, with_member, with_name}

@@ -7,25 +7,25 @@ use Rattle.go_tree.specs.declared.texts.NameAt as source
 use Rattle.go_tree.specs.Lists.{exprs_from}
 use Rattle.go_tree.specs.View.{expr_of, name_at_of}
 use Rattle.go_tree.specs.Tree.{Exprs, NameAt, TypeExpr}
-use Rattle.const_eval.specs.declared.consts.Const.{Const}
-use Rattle.scope_names.specs.FreeNames.{names_of}
-use Rattle.scope_names.specs.Means.{binding}
-use Rattle.go_types.specs.Answers.{answers_of, both, given, only_if}
-use Rattle.go_types.specs.Types.{GoType}
-use Rattle.go_types.specs.Defined.{Defined}
-use Rattle.go_types.specs.Entities as go
-use Rattle.go_types.specs.Entities.{Binds, Env}
-use Rattle.go_types.specs.Bodies.{no_values}
-use Rattle.go_types.specs.Declarations.{bind_all, bind_each}
-use Rattle.go_types.specs.Operands as go_operand
-use Rattle.go_types.specs.Operands.{all_typed}
-use Rattle.go_types.specs.Bodiless.{all_bodiless}
-use Rattle.go_types.specs.Initial.{all_initial}
-use Rattle.go_types.specs.Collect.{package_constants, package_variables}
-use Rattle.go_types.specs.TypeNames.{written_type}
-use Rattle.go_types.specs.Typing.{all_parts, places}
-use Rattle.type_exprs.specs.Answers.{GivesType}
-use Rattle.type_relations.specs.Environment.{Environment, defined_types, env_type}
+use Rattle.go_tree.specs.declared.const_eval.consts.Const.{Const}
+use Rattle.go_tree.specs.ScopeNames.FreeNames.{names_of}
+use Rattle.go_tree.specs.ScopeNames.Means.{binding}
+use Rattle.go_tree.specs.GoTypes.Answers.{answers_of, both, given, only_if}
+use Rattle.go_tree.specs.GoTypes.Types.{GoType}
+use Rattle.go_tree.specs.GoTypes.Defined.{Defined}
+use Rattle.go_tree.specs.GoTypes.Entities as go
+use Rattle.go_tree.specs.GoTypes.Entities.{Binds, Env}
+use Rattle.go_tree.specs.GoTypes.Bodies.{no_values}
+use Rattle.go_tree.specs.GoTypes.Declarations.{bind_all, bind_each}
+use Rattle.go_tree.specs.GoTypes.Operands as go_operand
+use Rattle.go_tree.specs.GoTypes.Operands.{all_typed}
+use Rattle.go_tree.specs.GoTypes.Bodiless.{all_bodiless}
+use Rattle.go_tree.specs.GoTypes.Initial.{all_initial}
+use Rattle.go_tree.specs.GoTypes.Collect.{package_constants, package_variables}
+use Rattle.go_tree.specs.GoTypes.TypeNames.{written_type}
+use Rattle.go_tree.specs.GoTypes.Typing.{all_parts, places}
+use Rattle.typed_names.specs.TypeExprs.Answers.{GivesType}
+use Rattle.type_table.specs.TypeRelations.Environment.{Environment, defined_types, env_type}
 use Rattle.type_table.specs.declared.nodes.TypeId.{TypeId}
 use Rattle.operand_rules.specs.declared.values.Refusal.{Refusal}
 use Rattle.operand_rules.specs.declared.values.Refusal.TheVariants.{NotTyped, NoMemory}

@@ -2,20 +2,20 @@
 use Rattle.std.specs.Prelude.{◌≡◌, refl, ◌&&◌, ◌||◌, Bool, true, false, not, List, Option, Some, None, IfSome, is_some, if◌then◌else◌}
 use mathlib.Core.Path.{ap, ap₂, sym, ◌∙◌, subst}
 use Rattle.std.proofs.Common.{arith}
-use Rattle.const_eval.specs.declared.consts.Const.{Const}
-use Rattle.const_eval.specs.declared.kinds.Kind.{Kind}
-use Rattle.const_eval.specs.Exact.{represents}
-use Rattle.go_types.specs.Answers.{given, meets, only_if}
-use Rattle.go_types.specs.Types.{GoType, basic, named_type, pointer_to, slice_of, map_of, struct_of, tuple_of, untyped, untyped_nil, basic_kind, has_name, is_untyped}
-use Rattle.go_types.specs.Identical.{identical}
-use Rattle.go_types.specs.Defined.{Defined, under}
-use Rattle.go_types.specs.Entities as go
-use Rattle.go_types.specs.Entities.{run, exact, shift, constant, variable}
-use Rattle.go_types.specs.Declarations.{constant_entity, variable_entity}
-use Rattle.go_types.specs.Operands.{Typed, fits, kind_of, kind_passes}
-use Rattle.go_types.specs.Relations.{same_underlying}
-use Rattle.go_types.proofs.IdenticalLaws.{identical_same}
-use Rattle.type_relations.specs.Environment.{Environment, defined_types, env_type}
+use Rattle.go_tree.specs.declared.const_eval.consts.Const.{Const}
+use Rattle.go_tree.specs.declared.const_eval.kinds.Kind.{Kind}
+use Rattle.go_tree.specs.ConstEval.Exact.{represents}
+use Rattle.go_tree.specs.GoTypes.Answers.{given, meets, only_if}
+use Rattle.go_tree.specs.GoTypes.Types.{GoType, basic, named_type, pointer_to, slice_of, map_of, struct_of, tuple_of, untyped, untyped_nil, basic_kind, has_name, is_untyped}
+use Rattle.go_tree.specs.GoTypes.Identical.{identical}
+use Rattle.go_tree.specs.GoTypes.Defined.{Defined, under}
+use Rattle.go_tree.specs.GoTypes.Entities as go
+use Rattle.go_tree.specs.GoTypes.Entities.{run, exact, shift, constant, variable}
+use Rattle.go_tree.specs.GoTypes.Declarations.{constant_entity, variable_entity}
+use Rattle.go_tree.specs.GoTypes.Operands.{Typed, fits, kind_of, kind_passes}
+use Rattle.go_tree.specs.GoTypes.Relations.{same_underlying}
+use Rattle.go_tree.proofs.GoTypes.IdenticalLaws.{identical_same}
+use Rattle.type_table.specs.TypeRelations.Environment.{Environment, defined_types, env_type}
 use Rattle.type_table.specs.declared.nodes.TypeId.{TypeId}
 use Rattle.operand_rules.specs.declared.constants.ConstId.{ConstId}
 use Rattle.operand_rules.specs.declared.values.Content.{Content}

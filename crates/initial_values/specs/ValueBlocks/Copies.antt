@@ -1,11 +1,13 @@
 -- Copies of package blocks, none of whose names means a constant (Go specification, Package block).
-use Rattle.std.specs.Prelude.{◌≡◌, ◌<◌, ℕ, Bool, true, false, List, [], ◌∷◌, length, Option, Some, None, slice_get, ◌⊎◌}
-use Rattle.scope_names.specs.Means.{means}
-use Rattle.go_types.specs.Agreement.{In}
-use Rattle.go_types.specs.Programs.{header_names}
-use Rattle.type_relations.specs.Environment.{Environment}
+use Rattle.std.specs.Prelude.{◌≡◌, ◌<◌, ℕ, Bool, true, false, List, [], ◌∷◌, length, Option, Some}
+use Rattle.std.specs.Prelude.{None, slice_get, ◌⊎◌}
+use Rattle.go_tree.specs.ScopeNames.Means.{means}
+use Rattle.go_tree.specs.GoTypes.Agreement.{In}
+use Rattle.go_tree.specs.GoTypes.Programs.{header_names}
+use Rattle.type_table.specs.TypeRelations.Environment.{Environment}
 use Rattle.typed_names.specs.declared.entities.Entity.{Entity}
-use Rattle.typed_names.specs.declared.entities.Entity.TheVariants.{Variable, Constant, TypeName, Function, Package, Predeclared, Refused}
+use Rattle.typed_names.specs.declared.entities.Entity.TheVariants.{Variable, Constant, TypeName, Function, Package}
+use Rattle.typed_names.specs.declared.entities.Entity.TheVariants.{Predeclared, Refused}
 use Rattle.typed_names.specs.declared.scopes.Scope.{Scope}
 use Rattle.typed_names.specs.Known.{AllHaveTypes}
 use Rattle.typed_names.specs.Meanings.{Names, block_at}

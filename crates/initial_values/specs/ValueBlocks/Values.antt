@@ -2,9 +2,9 @@
 -- Variable declarations).
 use Rattle.std.specs.Prelude.{◌≡◌, ℕ, List, drop, if◌then◌else◌, nat_eq}
 use Rattle.go_tree.specs.declared.texts.NameAt.{NameAt}
-use Rattle.const_eval.specs.declared.consts.Const.{Const}
-use Rattle.scope_names.specs.Means.{binding, means}
-use Rattle.type_relations.specs.Environment.{Environment}
+use Rattle.go_tree.specs.declared.const_eval.consts.Const.{Const}
+use Rattle.go_tree.specs.ScopeNames.Means.{binding, means}
+use Rattle.type_table.specs.TypeRelations.Environment.{Environment}
 use Rattle.typed_names.specs.declared.entities.Entity.{Entity}
 use Rattle.typed_names.specs.Known.{AllHaveTypes}
 use Rattle.typed_names.specs.Meanings.{Names, block_at}

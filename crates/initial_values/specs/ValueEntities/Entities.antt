@@ -1,16 +1,17 @@
 -- What names are declared as by their values, one by one (Go specification, Constant declarations; Variable
 -- declarations).
-use Rattle.std.specs.Prelude.{◌≡◌, ℕ, ◌&&◌, Bool, List, [], ◌∷◌, ◌++◌, length, map, replicate, Option, Some, None, Result, Ok, Err, is_some}
-use Rattle.const_eval.specs.declared.consts.Const.{Const}
-use Rattle.scope_names.specs.Means.{Environment, binding}
-use Rattle.go_types.specs.Answers.{answers_of, given}
-use Rattle.go_types.specs.Types.{GoType, basic_kind}
-use Rattle.go_types.specs.Defined.{Defined, under}
-use Rattle.go_types.specs.Entities as go
-use Rattle.go_types.specs.Entities.{Binds}
-use Rattle.go_types.specs.Operands.{Operand, Typed, fits, typed}
-use Rattle.go_types.specs.Declarations.{constant_entity, variable_entity}
-use Rattle.type_relations.specs.Environment as types
+use Rattle.std.specs.Prelude.{◌≡◌, ℕ, ◌&&◌, Bool, List, [], ◌∷◌, ◌++◌, length, map, replicate}
+use Rattle.std.specs.Prelude.{Option, Some, None, Result, Ok, Err, is_some}
+use Rattle.go_tree.specs.declared.const_eval.consts.Const.{Const}
+use Rattle.go_tree.specs.ScopeNames.Means.{Environment, binding}
+use Rattle.go_tree.specs.GoTypes.Answers.{answers_of, given}
+use Rattle.go_tree.specs.GoTypes.Types.{GoType, basic_kind}
+use Rattle.go_tree.specs.GoTypes.Defined.{Defined, under}
+use Rattle.go_tree.specs.GoTypes.Entities as go
+use Rattle.go_tree.specs.GoTypes.Entities.{Binds}
+use Rattle.go_tree.specs.GoTypes.Operands.{Operand, Typed, fits, typed}
+use Rattle.go_tree.specs.GoTypes.Declarations.{constant_entity, variable_entity}
+use Rattle.type_table.specs.TypeRelations.Environment as types
 use Rattle.type_table.specs.declared.nodes.TypeId.{TypeId}
 use Rattle.operand_rules.specs.declared.values.Refusal.{Refusal}
 use Rattle.operand_rules.specs.declared.values.Refusal.TheVariants.{NotTyped, NoMemory}

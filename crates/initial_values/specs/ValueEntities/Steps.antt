@@ -2,15 +2,15 @@
 use Rattle.std.specs.Prelude.{◌≡◌, ℕ, List, ◌++◌, map, Option, Some, None, Result, Ok, Err, IfSome}
 use Rattle.go_tree.specs.declared.spans.Span.{Span}
 use Rattle.go_tree.specs.Tree.{Exprs}
-use Rattle.const_eval.specs.declared.consts.Const.{Const}
-use Rattle.go_types.specs.Answers.{given}
-use Rattle.go_types.specs.Types.{GoType}
-use Rattle.go_types.specs.Defined.{Defined}
-use Rattle.go_types.specs.Entities.{Binds, Env}
-use Rattle.go_types.specs.Declarations.{bind_all}
-use Rattle.go_types.specs.Operands.{all_typed}
-use Rattle.go_types.specs.Typing.{all_parts}
-use Rattle.type_relations.specs.Environment.{Environment}
+use Rattle.go_tree.specs.declared.const_eval.consts.Const.{Const}
+use Rattle.go_tree.specs.GoTypes.Answers.{given}
+use Rattle.go_tree.specs.GoTypes.Types.{GoType}
+use Rattle.go_tree.specs.GoTypes.Defined.{Defined}
+use Rattle.go_tree.specs.GoTypes.Entities.{Binds, Env}
+use Rattle.go_tree.specs.GoTypes.Declarations.{bind_all}
+use Rattle.go_tree.specs.GoTypes.Operands.{all_typed}
+use Rattle.go_tree.specs.GoTypes.Typing.{all_parts}
+use Rattle.type_table.specs.TypeRelations.Environment.{Environment}
 use Rattle.type_table.specs.declared.nodes.TypeId.{TypeId}
 use Rattle.operand_rules.specs.declared.values.ValueType.TheVariants.{Typed}
 use Rattle.operand_rules.specs.declared.values.Refusal.{Refusal}

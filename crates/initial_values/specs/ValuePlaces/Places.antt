@@ -1,10 +1,11 @@
 -- Places outside all functions, with some of the imports of their file (Go specification, Import declarations; File
 -- block; Iota).
 use Rattle.std.specs.Prelude.{◌≡◌, ℕ, Bool, true, false, List, [], ◌∷◌, Option, Some, None, ◌⊎◌}
-use Rattle.scope_names.specs.Means.{is_blank, means}
-use Rattle.go_types.specs.Agreement.{In}
+use Rattle.go_tree.specs.ScopeNames.Means.{is_blank, means}
+use Rattle.go_tree.specs.GoTypes.Agreement.{In}
 use Rattle.typed_names.specs.declared.entities.Entity.{Entity}
-use Rattle.typed_names.specs.declared.entities.Entity.TheVariants.{Variable, Constant, TypeName, Function, Package, Predeclared, Refused}
+use Rattle.typed_names.specs.declared.entities.Entity.TheVariants.{Variable, Constant, TypeName, Function, Package}
+use Rattle.typed_names.specs.declared.entities.Entity.TheVariants.{Predeclared, Refused}
 use Rattle.typed_names.specs.declared.scopes.Scope.{Scope}
 use Rattle.typed_names.specs.Meanings.{Names}
 

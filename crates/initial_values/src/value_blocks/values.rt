@@ -2,9 +2,9 @@
 //! declarations; Variable declarations; Package block).
 
 ghost use Rattle.std.specs.Prelude.{◌≡◌, List, length, IfOk, OnErr, OnOk};
-ghost use Rattle.const_eval.specs.declared.consts.Const.{Const};
-ghost use Rattle.scope_names.specs.Means as scope;
-ghost use Rattle.type_relations.specs.Environment.{Environment};
+ghost use Rattle.go_tree.specs.declared.const_eval.consts.Const.{Const};
+ghost use Rattle.go_tree.specs.ScopeNames.Means as scope;
+ghost use Rattle.type_table.specs.TypeRelations.Environment.{Environment};
 ghost use Rattle.operand_answers.specs.Known.{IsEntity};
 ghost use Rattle.package_blocks.specs.Names.{plain_names};
 ghost use Rattle.initial_values.specs.ValueEntities.Entities.{AreEntities};

@@ -2,8 +2,8 @@
 //! declarations).
 
 ghost use Rattle.std.specs.Prelude.{◌≡◌, IfSome};
-ghost use Rattle.go_types.specs.Declarations as go;
-ghost use Rattle.type_relations.specs.Environment.{defined_types, env_type};
+ghost use Rattle.go_tree.specs.GoTypes.Declarations as go;
+ghost use Rattle.type_table.specs.TypeRelations.Environment.{defined_types, env_type};
 ghost use Rattle.operand_rules.specs.declared.values.ValueType.TheVariants.{Typed};
 ghost use Rattle.operand_rules.specs.Values.{IsType, IsValue, typed_of};
 ghost use Rattle.operator_rules.specs.Settling.{typed_option};

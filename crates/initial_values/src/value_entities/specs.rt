@@ -3,17 +3,17 @@
 
 ghost use Rattle.std.specs.Prelude.{◌&&◌, IfSome, List, length, map, None};
 ghost use Rattle.std.specs.Option.{option_map};
-ghost use Rattle.const_eval.specs.declared.consts.Const.{Const};
+ghost use Rattle.go_tree.specs.declared.const_eval.consts.Const.{Const};
 ghost use Rattle.go_tree.specs.Tree.{no_exprs};
 ghost use Rattle.go_tree.specs.View.{exprs_of, name_at_of, type_of};
-ghost use Rattle.go_types.specs.Answers.{only_if};
-ghost use Rattle.go_types.specs.Bodiless as go_bodiless;
-ghost use Rattle.go_types.specs.Collect as go;
-ghost use Rattle.go_types.specs.Entities.{Env};
-ghost use Rattle.go_types.specs.Initial as go_initial;
-ghost use Rattle.go_types.specs.TypeNames as go_types;
-ghost use Rattle.scope_names.specs.FreeNames.{names_of};
-ghost use Rattle.type_relations.specs.Environment.{Environment};
+ghost use Rattle.go_tree.specs.GoTypes.Answers.{only_if};
+ghost use Rattle.go_tree.specs.GoTypes.Bodiless as go_bodiless;
+ghost use Rattle.go_tree.specs.GoTypes.Collect as go;
+ghost use Rattle.go_tree.specs.GoTypes.Entities.{Env};
+ghost use Rattle.go_tree.specs.GoTypes.Initial as go_initial;
+ghost use Rattle.go_tree.specs.GoTypes.TypeNames as go_types;
+ghost use Rattle.go_tree.specs.ScopeNames.FreeNames.{names_of};
+ghost use Rattle.type_table.specs.TypeRelations.Environment.{Environment};
 ghost use Rattle.operand_rules.specs.declared.values.ValueType.TheVariants.{Typed};
 ghost use Rattle.operand_rules.specs.Values.{IsType};
 ghost use Rattle.operator_rules.specs.Settling.{typed_option};

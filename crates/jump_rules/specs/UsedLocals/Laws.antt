@@ -1,9 +1,9 @@
 -- The laws of scopes that begin and end. Each is a clause of a function of this crate.
 use Rattle.std.specs.Prelude.{◌≡◌, ℕ, Bool, true, not, ◌||◌, ◌&&◌, List, bytes_eq}
 use Rattle.std.specs.List.{list_all}
-use Rattle.scope_names.specs.Means.{is_blank}
-use Rattle.go_types.specs.Answers.{distinct_by, is_among, without}
-use Rattle.go_types.specs.Declarations.{all_used, not_blank}
+use Rattle.go_tree.specs.ScopeNames.Means.{is_blank}
+use Rattle.go_tree.specs.GoTypes.Answers.{distinct_by, is_among, without}
+use Rattle.go_tree.specs.GoTypes.Declarations.{all_used, not_blank}
 use Rattle.jump_rules.specs.declared.used_locals.pending.PendingName.{PendingName}
 use Rattle.jump_rules.specs.UsedLocals.Used.{Used, and_names}
 use Rattle.jump_rules.specs.UsedLocals.Pending.{Scopes, all_begun, all_pass, ended}
@@ -14,8 +14,8 @@ pub record AreNew (ns : List (List ℕ)) (xs : List PendingName) : Type 0 where
   pub named : list_all (λ n. not (is_blank n)) ns ≡ true
   pub fresh : list_all (λ (x : PendingName). not (is_among x.name ns)) xs ≡ true
 
--- after new names are declared and more names are used, all pass where the names before pass, to which the new ones mean
--- nothing, and the new ones are used
+-- after new names are declared and more names are used, all pass where the names before pass, to which the new ones
+-- mean nothing, and the new ones are used
 abbrev pub ScopesPass : Type 0
 ScopesPass =
     (m : Bool) (ns : List (List ℕ)) (p : Used) (xs : List PendingName) → AreNew ns xs → (names : List (List ℕ)) →

@@ -1,15 +1,15 @@
 -- Blocks that are walked part by part, and their laws, each a clause of a function of this crate (Go specification,
 -- Blocks; Declarations and scope; Variable declarations).
 use Rattle.std.specs.Prelude.{◌≡◌, ℕ, Bool, List, [], ◌++◌, Option, if◌then◌else◌}
-use Rattle.go_types.specs.Answers.{only_if, without}
-use Rattle.go_types.specs.Declarations.{all_used}
+use Rattle.go_tree.specs.GoTypes.Answers.{only_if, without}
+use Rattle.go_tree.specs.GoTypes.Declarations.{all_used}
 use Rattle.jump_rules.specs.declared.used_locals.pending.PendingName.{PendingName}
 use Rattle.jump_rules.specs.UsedLocals.Used.{Used, and_names}
 use Rattle.jump_rules.specs.UsedLocals.Pending.{all_begun, all_pass, ended}
 use Rattle.jump_rules.specs.UsedLocals.Laws.{AreNew}
 
--- Of a block some parts are walked: the whole is what is left where the names pass that are declared so far, after those
--- that what is left uses; and the names that the whole uses are known where the scopes end.
+-- Of a block some parts are walked: the whole is what is left where the names pass that are declared so far, after
+-- those that what is left uses; and the names that the whole uses are known where the scopes end.
 pub record IsWalked (whole : Option Bool) (total : Used) (left : Option Bool) (names : List (List ℕ)) (p : Used)
     (xs : List PendingName) : Type 0 where
   pub ends : whole ≡ only_if (all_pass xs (and_names names p)) left

@@ -2,14 +2,14 @@
 
 ghost use Rattle.std.specs.Prelude.{◌≡◌, ◌∷◌, [], map, IfOk, bytes_eq};
 ghost use Rattle.go_tree.specs.View.{name_at_of};
-ghost use Rattle.go_types.specs.Answers.{distinct_by};
-ghost use Rattle.go_types.specs.Declarations.{names_once, not_blank};
-ghost use Rattle.scope_names.specs.FreeNames.{names_of};
+ghost use Rattle.go_tree.specs.GoTypes.Answers.{distinct_by};
+ghost use Rattle.go_tree.specs.GoTypes.Declarations.{names_once, not_blank};
+ghost use Rattle.go_tree.specs.ScopeNames.FreeNames.{names_of};
 ghost use Rattle.jump_rules.specs.DistinctNames.Seen.{AddsName, AddsNames};
 
-use access_rules::is_blank;
 use go_tree::{Name, NameAt, NoMemory};
 use name_walks::NameSet;
+use operator_rules::access_rules::is_blank;
 use std::alloc::Global;
 
 /// A copy of a name.

@@ -2,14 +2,14 @@
 use Rattle.std.proofs.Common.{◌≡◌, ◌∙◌, ◌<◌, ◌&&◌, ◌||◌, not, ℕ, nat_eq, Bool, true, false, cond, List, [], ◌∷◌, Option, Some, None, refl, sym, subst, ap, ap₂, length, bytes_eq, arith}
 use Rattle.std.specs.List.{list_any}
 use Rattle.std.proofs.lemmas.Slice.Eq.{bytes_eq-Decides}
-use Rattle.scope_names.specs.Means.{is_blank}
-use Rattle.go_types.specs.Answers.{is_among, only_if}
-use Rattle.go_types.specs.Types.{GoType, named_type}
-use Rattle.go_types.specs.Defined.{under}
-use Rattle.go_types.specs.Identical.{identical}
-use Rattle.go_types.specs.MethodDeclarations.{MethodName, fields_under, has_method_name, is_new_method}
+use Rattle.go_tree.specs.ScopeNames.Means.{is_blank}
+use Rattle.go_tree.specs.GoTypes.Answers.{is_among, only_if}
+use Rattle.go_tree.specs.GoTypes.Types.{GoType, named_type}
+use Rattle.go_tree.specs.GoTypes.Defined.{under}
+use Rattle.go_tree.specs.GoTypes.Identical.{identical}
+use Rattle.go_tree.specs.GoTypes.MethodDeclarations.{MethodName, fields_under, has_method_name, is_new_method}
 use Rattle.type_table.proofs.TypesAtLaws.{identical_at}
-use Rattle.type_relations.specs.Environment.{Environment, IsEnvironment, defined_types, env_type}
+use Rattle.type_table.specs.TypeRelations.Environment.{Environment, IsEnvironment, defined_types, env_type}
 use Rattle.type_table.specs.declared.nodes.TypeId.{TypeId}
 use Rattle.typed_names.specs.Meanings.{Names}
 use Rattle.typed_names.proofs.NameLaws.{turned}

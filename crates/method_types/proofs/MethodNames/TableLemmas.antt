@@ -1,9 +1,9 @@
 -- The names of fields and methods of types are put into tables.
 use Rattle.std.proofs.Common.{◌≡◌, ◌∙◌, ◌<◌, ◌+◌, ◌++◌, ◌&&◌, ◌||◌, not, ℕ, zero, suc, nat_eq, nat_lt, Bool, true, false, cond, List, [], ◌∷◌, Option, Some, refl, sym, ap, map, length, is_some, bytes_eq, arith, add-one}
-use Rattle.scope_names.specs.Means.{is_blank, means}
-use Rattle.go_types.specs.Answers.{is_among}
-use Rattle.go_types.specs.Types.{GoType, field_names}
-use Rattle.type_relations.specs.Environment.{Environment, env_type}
+use Rattle.go_tree.specs.ScopeNames.Means.{is_blank, means}
+use Rattle.go_tree.specs.GoTypes.Answers.{is_among}
+use Rattle.go_tree.specs.GoTypes.Types.{GoType, field_names}
+use Rattle.type_table.specs.TypeRelations.Environment.{Environment, env_type}
 use Rattle.type_table.specs.declared.nodes.Field.{Field}
 use Rattle.type_table.specs.declared.nodes.TypeNode.{TypeNode}
 use Rattle.type_table.specs.declared.nodes.TypeNode.TheVariants.{Struct}

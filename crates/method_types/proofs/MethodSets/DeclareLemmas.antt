@@ -3,24 +3,24 @@ use Rattle.std.proofs.Common.{◌≡◌, ◌∙◌, ◌<◌, ◌&&◌, ◌++◌,
 use Rattle.std.proofs.lemmas.Slice.Eq.{bytes_eq-Decides}
 use Rattle.go_tree.specs.declared.spans.Span.{Span}
 use Rattle.go_tree.specs.File.{Receiver, Func}
-use Rattle.go_types.specs.Answers.{given, both, only_if, and_also}
-use Rattle.go_types.specs.Types.{GoType, FuncType, named_type}
-use Rattle.go_types.specs.Defined as go
-use Rattle.go_types.specs.Entities.{World}
-use Rattle.go_types.specs.Identical.{identical}
-use Rattle.go_types.specs.Programs as programs
-use Rattle.go_types.specs.Programs.{Headed, env_of}
-use Rattle.go_types.specs.TypeNames.{func_type}
-use Rattle.go_types.specs.Bodies.{body_binds}
-use Rattle.go_types.specs.MethodDeclarations.{DeclaredMethod, MethodName, declared_on, is_new_method, method_declared, method_header, methods_from, receiver_binds, receiver_type}
-use Rattle.go_types.specs.Table.{TypeNode}
+use Rattle.go_tree.specs.GoTypes.Answers.{given, both, only_if, and_also}
+use Rattle.go_tree.specs.GoTypes.Types.{GoType, FuncType, named_type}
+use Rattle.go_tree.specs.GoTypes.Defined as go
+use Rattle.go_tree.specs.GoTypes.Entities.{World}
+use Rattle.go_tree.specs.GoTypes.Identical.{identical}
+use Rattle.go_tree.specs.GoTypes.Programs as programs
+use Rattle.go_tree.specs.GoTypes.Programs.{Headed, env_of}
+use Rattle.go_tree.specs.GoTypes.TypeNames.{func_type}
+use Rattle.go_tree.specs.GoTypes.Bodies.{body_binds}
+use Rattle.go_tree.specs.GoTypes.MethodDeclarations.{DeclaredMethod, MethodName, declared_on, is_new_method, method_declared, method_header, methods_from, receiver_binds, receiver_type}
+use Rattle.go_tree.specs.GoTypes.Table.{TypeNode}
 use Rattle.type_table.specs.TypesAt.{type_at}
 use Rattle.type_table.specs.declared.nodes.TypeId.{TypeId}
 use Rattle.type_table.proofs.TypesAtLaws.{identical_at}
-use Rattle.type_relations.specs.Environment.{Environment, IsEnvironment, MethodRow, env_type, method_at}
-use Rattle.type_relations.specs.Methods.{found_row, method_row, shown_method}
-use Rattle.type_relations.specs.declared.methods.Method.{Method}
-use Rattle.type_exprs.specs.Grown.{TypesGrown}
+use Rattle.type_table.specs.TypeRelations.Environment.{Environment, IsEnvironment, MethodRow, env_type, method_at}
+use Rattle.type_table.specs.TypeRelations.Methods.{found_row, method_row, shown_method}
+use Rattle.type_table.specs.declared.type_relations.methods.Method.{Method}
+use Rattle.typed_names.specs.TypeExprs.Grown.{TypesGrown}
 use Rattle.typed_names.specs.declared.scopes.Scope.{Scope}
 use Rattle.func_types.specs.Answers.{types_at}
 use Rattle.package_blocks.specs.declared.headers.PackageHeader.{PackageHeader}

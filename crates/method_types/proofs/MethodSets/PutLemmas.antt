@@ -1,13 +1,13 @@
 -- Sets of methods are put into a table.
 use Rattle.std.proofs.Common.{◌≡◌, ◌∙◌, ◌+◌, ◌++◌, ◌||◌, ◌&&◌, not, ℕ, zero, suc, nat_eq, Bool, true, false, List, [], ◌∷◌, Option, Some, None, Result, Ok, Err, OnOk, OnErr, refl, sym, subst, ap, ap₂, map, length, replicate, is_some, arith, if◌then◌else◌}
-use Rattle.go_types.specs.Table.{TypeNode}
+use Rattle.go_tree.specs.GoTypes.Table.{TypeNode}
 use Rattle.type_table.specs.declared.nodes.TypeId.{TypeId}
 use Rattle.go_tree.specs.declared.spans.Span.{Span}
 use Rattle.go_tree.specs.File.{Receiver, Func}
-use Rattle.type_relations.specs.Environment.{Environment, IsEnvironment, MethodRow, MethodsWithin, NumbersBelow, has_methods, is_defined, methods_in, with_methods}
-use Rattle.type_relations.specs.Methods.{found_row, method_row}
-use Rattle.type_relations.specs.declared.methods.Method.{Method}
-use Rattle.type_relations.proofs.GrownLaws.{one_more_set}
+use Rattle.type_table.specs.TypeRelations.Environment.{Environment, IsEnvironment, MethodRow, MethodsWithin, NumbersBelow, has_methods, is_defined, methods_in, with_methods}
+use Rattle.type_table.specs.TypeRelations.Methods.{found_row, method_row}
+use Rattle.type_table.specs.declared.type_relations.methods.Method.{Method}
+use Rattle.type_table.proofs.TypeRelations.GrownLaws.{one_more_set}
 use Rattle.func_types.specs.Answers.{AreTypesOf}
 use Rattle.package_blocks.specs.declared.headers.PackageHeader.{PackageHeader}
 use Rattle.package_blocks.specs.Headers.{header_of}

@@ -1,8 +1,8 @@
 -- Methods are put into sets one after the other.
 use Rattle.std.proofs.Common.{◌≡◌, ◌∙◌, ◌<◌, ◌≤◌, ◌+◌, ◌++◌, ℕ, zero, suc, List, [], ◌∷◌, Option, Some, None, Result, Ok, Err, OnOk, refl, sym, ap, ap₂, length, replicate, slice_index_or, slice_set, add-one, arith}
 use Rattle.std.specs.Prelude.{slice_get}
-use Rattle.type_relations.specs.Environment.{MethodRow}
-use Rattle.type_relations.specs.declared.methods.Method.{Method}
+use Rattle.type_table.specs.TypeRelations.Environment.{MethodRow}
+use Rattle.type_table.specs.declared.type_relations.methods.Method.{Method}
 use Rattle.type_table.specs.declared.nodes.TypeId.{TypeId}
 use Rattle.package_blocks.specs.declared.headers.PackageHeader.{PackageHeader}
 use Rattle.package_blocks.specs.Headers.{header_of}

@@ -1,15 +1,15 @@
 -- A table into which the methods that headers declare are put.
 use Rattle.std.proofs.Common.{◌≡◌, ◌∙◌, ◌<◌, ◌+◌, ℕ, true, List, [], Option, Some, None, refl, sym, subst, ap, map, length, replicate, is_some, arith}
 use Rattle.go_tree.specs.declared.spans.Span.{Span}
-use Rattle.go_types.specs.Entities.{World}
-use Rattle.go_types.specs.Programs.{Headed}
-use Rattle.go_types.specs.MethodDeclarations.{methods_from}
+use Rattle.go_tree.specs.GoTypes.Entities.{World}
+use Rattle.go_tree.specs.GoTypes.Programs.{Headed}
+use Rattle.go_tree.specs.GoTypes.MethodDeclarations.{methods_from}
 use Rattle.type_table.specs.declared.nodes.TypeId.{TypeId}
-use Rattle.type_relations.specs.Environment.{Definition, Environment, IsEnvironment, definition_in, methods_in}
-use Rattle.type_relations.specs.Methods.{found_row, shown_method}
-use Rattle.type_relations.specs.declared.methods.Method.{Method}
-use Rattle.type_relations.proofs.MethodLaws.{method_shown, methods_by}
-use Rattle.type_exprs.specs.Grown.{TypesGrown}
+use Rattle.type_table.specs.TypeRelations.Environment.{Definition, Environment, IsEnvironment, definition_in, methods_in}
+use Rattle.type_table.specs.TypeRelations.Methods.{found_row, shown_method}
+use Rattle.type_table.specs.declared.type_relations.methods.Method.{Method}
+use Rattle.type_table.proofs.TypeRelations.MethodLaws.{method_shown, methods_by}
+use Rattle.typed_names.specs.TypeExprs.Grown.{TypesGrown}
 use Rattle.typed_names.specs.declared.scopes.Scope.{Scope}
 use Rattle.package_blocks.specs.declared.headers.PackageHeader.{PackageHeader}
 use Rattle.package_blocks.specs.Headers.{AreHeaders, listed_of}

@@ -1,20 +1,21 @@
 -- The names of fields and methods of types, by the numbers of types, while headers are looked at one after the other
 -- (Go specification, Method declarations; Struct types).
-use Rattle.std.specs.Prelude.{◌≡◌, ℕ, ◌<◌, Bool, false, not, ◌&&◌, ◌||◌, List, [], ◌∷◌, ◌++◌, length, map, drop, Option, Some, None, nat_eq, is_some, if◌then◌else◌}
+use Rattle.std.specs.Prelude.{◌≡◌, ℕ, ◌<◌, Bool, false, not, ◌&&◌, ◌||◌, List, [], ◌∷◌}
+use Rattle.std.specs.Prelude.{◌++◌, length, map, drop, Option, Some, None, nat_eq, is_some, if◌then◌else◌}
 use Rattle.std.specs.List.{list_any}
 use Rattle.go_tree.specs.declared.spans.Span.{Span}
 use Rattle.go_tree.specs.File.{Receiver, Func}
 use Rattle.go_tree.specs.FileView.{func_of, receiver_of}
-use Rattle.const_eval.specs.declared.consts.Const.{Const}
-use Rattle.scope_names.specs.Means.{is_blank, means}
-use Rattle.go_types.specs.Answers.{given, is_among, and_also}
-use Rattle.go_types.specs.Types.{GoType, named_type, fields_of, field_names}
-use Rattle.go_types.specs.Defined.{under}
-use Rattle.go_types.specs.Entities.{World}
-use Rattle.go_types.specs.Programs as go
-use Rattle.go_types.specs.Programs.{Header, Headed}
-use Rattle.go_types.specs.MethodDeclarations.{MethodName, declared_on, has_method_name}
-use Rattle.type_relations.specs.Environment.{Environment, defined_types, env_type}
+use Rattle.go_tree.specs.declared.const_eval.consts.Const.{Const}
+use Rattle.go_tree.specs.ScopeNames.Means.{is_blank, means}
+use Rattle.go_tree.specs.GoTypes.Answers.{given, is_among, and_also}
+use Rattle.go_tree.specs.GoTypes.Types.{GoType, named_type, fields_of, field_names}
+use Rattle.go_tree.specs.GoTypes.Defined.{under}
+use Rattle.go_tree.specs.GoTypes.Entities.{World}
+use Rattle.go_tree.specs.GoTypes.Programs as go
+use Rattle.go_tree.specs.GoTypes.Programs.{Header, Headed}
+use Rattle.go_tree.specs.GoTypes.MethodDeclarations.{MethodName, declared_on, has_method_name}
+use Rattle.type_table.specs.TypeRelations.Environment.{Environment, defined_types, env_type}
 use Rattle.type_table.specs.declared.nodes.TypeId.{TypeId}
 use Rattle.typed_names.specs.declared.scopes.Scope.{Scope}
 use Rattle.typed_names.specs.Meanings.{Names, block_at, world_at}

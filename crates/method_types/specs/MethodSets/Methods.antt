@@ -1,12 +1,12 @@
 -- The methods of the types of a table (Go specification, Method declarations; Method sets; Selectors).
 use Rattle.std.specs.Prelude.{◌≡◌, ℕ, ◌<◌, true, false, List, [], length}
 use Rattle.go_tree.specs.declared.spans.Span.{Span}
-use Rattle.go_types.specs.Types.{named_type}
-use Rattle.go_types.specs.Entities.{World}
-use Rattle.go_types.specs.Programs.{Headed}
-use Rattle.go_types.specs.MethodDeclarations.{methods_from}
-use Rattle.type_relations.specs.Environment.{Environment, env_type, has_methods, is_defined, methods_in}
-use Rattle.type_relations.specs.Methods.{declared_method}
+use Rattle.go_tree.specs.GoTypes.Types.{named_type}
+use Rattle.go_tree.specs.GoTypes.Entities.{World}
+use Rattle.go_tree.specs.GoTypes.Programs.{Headed}
+use Rattle.go_tree.specs.GoTypes.MethodDeclarations.{methods_from}
+use Rattle.type_table.specs.TypeRelations.Environment.{Environment, env_type, has_methods, is_defined, methods_in}
+use Rattle.type_table.specs.TypeRelations.Methods.{declared_method}
 use Rattle.method_headers.specs.Laws.{find_declared}
 
 -- nothing but methods is declared: the types and what they are defined as stay, and so do the methods of types that

@@ -1,11 +1,13 @@
 -- The steps in which the methods that headers declare come into the table (Go specification, Method declarations).
-use Rattle.std.specs.Prelude.{ℕ, zero, suc, not, ◌&&◌, List, [], ◌∷◌, ◌++◌, Option, Some, is_some, if◌then◌else◌}
+use Rattle.std.specs.Prelude.{ℕ, zero, suc, not, ◌&&◌, List, [], ◌∷◌, ◌++◌, Option, Some, is_some}
+use Rattle.std.specs.Prelude.{if◌then◌else◌}
 use Rattle.go_tree.specs.declared.spans.Span.{Span}
 use Rattle.go_tree.specs.File.{Receiver, Func}
-use Rattle.go_types.specs.Table.{TypeNode}
-use Rattle.type_relations.specs.Environment.{Environment, MethodRow, MethodsWithin, has_methods, is_defined, with_methods}
-use Rattle.type_relations.specs.Methods.{found_row, method_row}
-use Rattle.type_relations.specs.declared.methods.Method.{Method}
+use Rattle.go_tree.specs.GoTypes.Table.{TypeNode}
+use Rattle.type_table.specs.TypeRelations.Environment.{Environment, MethodRow, MethodsWithin, has_methods, is_defined}
+use Rattle.type_table.specs.TypeRelations.Environment.{with_methods}
+use Rattle.type_table.specs.TypeRelations.Methods.{found_row, method_row}
+use Rattle.type_table.specs.declared.type_relations.methods.Method.{Method}
 use Rattle.type_table.specs.declared.nodes.TypeId.{TypeId}
 use Rattle.package_blocks.specs.declared.headers.PackageHeader.{PackageHeader}
 use Rattle.package_blocks.specs.Headers.{header_of}

@@ -2,9 +2,9 @@
 
 ghost use Rattle.std.specs.Prelude.{◌≡◌, ◌<◌, [], List, length, map, slice_get, Some, IfOk, IfSome, OnOk};
 ghost use Rattle.go_tree.specs.declared.spans.Span.{Span};
-ghost use Rattle.const_eval.specs.declared.consts.Const.{Const};
+ghost use Rattle.go_tree.specs.declared.const_eval.consts.Const.{Const};
 ghost use Rattle.go_tree.specs.FileView.{receiver_of};
-ghost use Rattle.go_types.specs.Programs.{Headed};
+ghost use Rattle.go_tree.specs.GoTypes.Programs.{Headed};
 ghost use Rattle.typed_names.specs.declared.scopes.Scope.{Scope};
 ghost use Rattle.typed_names.specs.Meanings.{world_at};
 ghost use Rattle.typed_names.specs.Scopes.{env_at};
@@ -19,8 +19,8 @@ use go_tree::{FuncDecl, NoMemory, Receiver};
 use method_headers::receiver_type;
 use package_blocks::{HeaderKind, PackageHeader};
 use std::alloc::Global;
-use type_relations::Env;
 use type_table::TypeId;
+use type_table::type_relations::Env;
 use typed_names::{Blocks, Scope};
 
 /// A method with its receiver.

@@ -1,15 +1,16 @@
 //! The names of fields and methods of types, by the numbers of types (Go specification, Struct types;
 //! Method declarations).
 
-ghost use Rattle.std.specs.Prelude.{◌≡◌, ◌<◌, ◌&&◌, ◌||◌, [], ◌∷◌, ℕ, List, length, map, nat_eq, if◌then◌else◌, None, Some, IfOk, OnOk};
-ghost use Rattle.go_types.specs.Answers.{is_among};
-ghost use Rattle.scope_names.specs.Means.{is_blank};
-ghost use Rattle.type_relations.specs.Environment.{env_type};
+ghost use Rattle.std.specs.Prelude.{◌≡◌, ◌<◌, ◌&&◌, ◌||◌, [], ◌∷◌, ℕ, List, length, map};
+ghost use Rattle.std.specs.Prelude.{nat_eq, if◌then◌else◌, None, Some, IfOk, OnOk};
+ghost use Rattle.go_tree.specs.GoTypes.Answers.{is_among};
+ghost use Rattle.go_tree.specs.ScopeNames.Means.{is_blank};
+ghost use Rattle.type_table.specs.TypeRelations.Environment.{env_type};
 ghost use Rattle.method_types.specs.MethodNames.Known.{AreFields, AreMethods, Attaches, has_name, type_fields};
 
 use go_tree::{Name, NoMemory};
 use std::alloc::Global;
-use type_relations::Env;
+use type_table::type_relations::Env;
 use type_table::{Field, TypeId, TypeNode};
 use typed_names::{Block, Entity};
 

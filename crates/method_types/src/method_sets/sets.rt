@@ -2,7 +2,7 @@
 
 ghost use Rattle.std.specs.Prelude.{◌≡◌, ◌<◌, length, replicate, [], IfOk, OnOk};
 ghost use Rattle.package_blocks.specs.Headers.{header_of};
-ghost use Rattle.type_relations.specs.Methods.{method_row};
+ghost use Rattle.type_table.specs.TypeRelations.Methods.{method_row};
 ghost use Rattle.method_types.specs.MethodNames.Known.{method_in};
 ghost use Rattle.method_types.specs.Steps.{attached_at};
 ghost use Rattle.method_types.specs.MethodSets.Steps.{put_header, put_headers, put_method, put_row};
@@ -11,8 +11,8 @@ use crate::method_names::method_in;
 use go_tree::{Name, NoMemory};
 use package_blocks::PackageHeader;
 use std::alloc::Global;
-use type_relations::{Method, MethodSet};
 use type_table::TypeId;
+use type_table::type_relations::{Method, MethodSet};
 
 /// No methods, for each of so many types.
 fn no_methods(alloc: Global, count: usize) -> Result<Vec<MethodSet>, NoMemory>

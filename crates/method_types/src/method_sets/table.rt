@@ -2,12 +2,12 @@
 
 ghost use Rattle.std.specs.Prelude.{◌≡◌, [], List, length, map, OnOk, if◌then◌else◌};
 ghost use Rattle.go_tree.specs.declared.spans.Span.{Span};
-ghost use Rattle.go_types.specs.Entities.{World};
-ghost use Rattle.go_types.specs.Programs.{Headed};
+ghost use Rattle.go_tree.specs.GoTypes.Entities.{World};
+ghost use Rattle.go_tree.specs.GoTypes.Programs.{Headed};
 ghost use Rattle.comparable_types.specs.declared.grown.TypeFlags.{TypeFlags};
 ghost use Rattle.comparable_types.specs.Grown.{AreFlagsSoFar};
-ghost use Rattle.type_relations.specs.Environment.{Environment, MethodsWithin, has_methods, with_methods};
-ghost use Rattle.type_exprs.specs.Grown.{TypesGrown};
+ghost use Rattle.type_table.specs.TypeRelations.Environment.{Environment, MethodsWithin, has_methods, with_methods};
+ghost use Rattle.typed_names.specs.TypeExprs.Grown.{TypesGrown};
 ghost use Rattle.typed_names.specs.declared.scopes.Scope.{Scope};
 ghost use Rattle.typed_names.specs.Meanings.{Names};
 ghost use Rattle.declared_types.specs.Steps.{KnowsPlaces};
@@ -21,8 +21,8 @@ use crate::method_sets::sets::method_sets;
 use go_tree::NoMemory;
 use package_blocks::PackageHeader;
 use std::alloc::Global;
-use type_relations::{Env, Method, MethodSet};
 use type_table::TypeId;
+use type_table::type_relations::{Env, Method, MethodSet};
 
 /// Puts the methods of a defined type into the table, unless it has methods there.
 fn put_set(types: &mut Env, t: TypeId, set: MethodSet) -> Result<(), NoMemory>

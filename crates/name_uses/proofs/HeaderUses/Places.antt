@@ -3,12 +3,12 @@ use Rattle.std.specs.Prelude.{◌≡◌, ℕ, true, false, List, [], Option, Som
 use Rattle.std.specs.List.{list_any}
 use Rattle.std.proofs.Common.{sym, ap, ◌∙◌, subst}
 use Rattle.go_tree.specs.declared.spans.Span.{Span}
-use Rattle.go_types.specs.Types.{GoType}
-use Rattle.go_types.specs.Entities.{Entity, variable, constant, stand_in, type_name, function, package_name, builtin, nil_name, iota_name, refused, World, Env, meaning, exported, package_of, is_declared_here, defined_in}
-use Rattle.go_types.specs.Defined.{under}
-use Rattle.go_types.specs.Programs.{Headed, Program, headed, env_of}
-use Rattle.go_types.specs.Collect.{valued_world, world_of}
-use Rattle.type_relations.specs.Environment.{Environment}
+use Rattle.go_tree.specs.GoTypes.Types.{GoType}
+use Rattle.go_tree.specs.GoTypes.Entities.{Entity, variable, constant, stand_in, type_name, function, package_name, builtin, nil_name, iota_name, refused, World, Env, meaning, exported, package_of, is_declared_here, defined_in}
+use Rattle.go_tree.specs.GoTypes.Defined.{under}
+use Rattle.go_tree.specs.GoTypes.Programs.{Headed, Program, headed, env_of}
+use Rattle.go_tree.specs.GoTypes.Collect.{valued_world, world_of}
+use Rattle.type_table.specs.TypeRelations.Environment.{Environment}
 use Rattle.typed_names.specs.declared.scopes.Scope.{Scope}
 use Rattle.typed_names.specs.Meanings.{Names, world_at, names_at}
 use Rattle.typed_names.specs.Scopes.{env_at}

@@ -1,8 +1,10 @@
 //! Names that expressions use.
 
 ghost use Rattle.std.specs.Prelude.{◌≡◌, OnOk};
-ghost use Rattle.go_tree.specs.View.{boxed_expr_option_of, elems_of, expr_of, exprs_of, held_value_option_of, plain_expr_option_of, value_of};
-ghost use Rattle.used_names.specs.Walks.{after_elems, after_expr, after_expr_option, after_exprs, after_key, after_lefts, after_value, after_whole};
+ghost use Rattle.go_tree.specs.View.{boxed_expr_option_of, elems_of, expr_of, exprs_of, held_value_option_of};
+ghost use Rattle.go_tree.specs.View.{plain_expr_option_of, value_of};
+ghost use Rattle.used_names.specs.Walks.{after_elems, after_expr, after_expr_option, after_exprs, after_key};
+ghost use Rattle.used_names.specs.Walks.{after_lefts, after_value, after_whole};
 ghost use Rattle.name_uses.specs.Walk.{walk_of, walked};
 
 use crate::body_uses::stmts::stmts_uses;

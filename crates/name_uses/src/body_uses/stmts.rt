@@ -1,9 +1,11 @@
 //! Names that statements use.
 
 ghost use Rattle.std.specs.Prelude.{◌≡◌, OnOk};
-ghost use Rattle.go_tree.specs.View.{arms_of, boxed_stmt_option_of, cases_of, const_specs_of, held_block_option_of, range_left_of, stmt_of, stmts_of, var_specs_of};
+ghost use Rattle.go_tree.specs.View.{arms_of, boxed_stmt_option_of, cases_of, const_specs_of, held_block_option_of};
+ghost use Rattle.go_tree.specs.View.{range_left_of, stmt_of, stmts_of, var_specs_of};
 ghost use Rattle.used_names.specs.Uses.{within};
-ghost use Rattle.used_names.specs.Walks.{after_arms, after_block_option, after_cases, after_left, after_post, after_specs, after_stmt, after_stmt_option, after_stmts, begin_left};
+ghost use Rattle.used_names.specs.Walks.{after_arms, after_block_option, after_cases, after_left, after_post};
+ghost use Rattle.used_names.specs.Walks.{after_specs, after_stmt, after_stmt_option, after_stmts, begin_left};
 ghost use Rattle.name_uses.specs.Walk.{walk_of, walked};
 
 use crate::body_uses::exprs::{expr_uses, exprs_uses, lefts_uses, option_uses};

@@ -3,13 +3,17 @@
 ghost use Rattle.std.specs.Prelude.{◌≡◌, is_some, IfOk, OnErr, OnOk, map};
 ghost use Rattle.std.specs.Option.{option_map};
 ghost use Rattle.go_tree.specs.FileView.{decl_of, func_of, receiver_of, type_spec_of};
-ghost use Rattle.go_tree.specs.View.{const_spec_of, const_specs_of, exprs_of, name_at_of, param_of, sig_of, var_specs_of};
-ghost use Rattle.go_types.specs.Bodies.{no_values};
-ghost use Rattle.go_types.specs.Declarations.{names_once};
-ghost use Rattle.go_types.specs.TypeNames.{func_type, params_meant};
-ghost use Rattle.scope_names.specs.FreeNames.{sig_names};
+ghost use Rattle.go_tree.specs.View.{const_spec_of, const_specs_of, exprs_of, name_at_of, param_of, sig_of};
+ghost use Rattle.go_tree.specs.View.{var_specs_of};
+ghost use Rattle.go_tree.specs.GoTypes.Bodies.{no_values};
+ghost use Rattle.go_tree.specs.GoTypes.Declarations.{names_once};
+ghost use Rattle.go_tree.specs.GoTypes.TypeNames.{func_type, params_meant};
+ghost use Rattle.go_tree.specs.ScopeNames.FreeNames.{sig_names};
 ghost use Rattle.name_uses.specs.Walk.{walk_of, walked};
-ghost use Rattle.name_uses.specs.HeaderUses.Headers.{after_constant, after_constants, after_decl, after_decls, after_func, after_type_specs, after_variables, begin_header, begin_receiver, hush_header, hush_option, hush_params, hush_receiver, is_seen, own_receiver};
+ghost use Rattle.name_uses.specs.HeaderUses.Headers.{after_constant, after_constants, after_decl, after_decls};
+ghost use Rattle.name_uses.specs.HeaderUses.Headers.{after_func, after_type_specs, after_variables, begin_header};
+ghost use Rattle.name_uses.specs.HeaderUses.Headers.{begin_receiver, hush_header, hush_option, hush_params};
+ghost use Rattle.name_uses.specs.HeaderUses.Headers.{hush_receiver, is_seen, own_receiver};
 
 use crate::body_uses::{exprs_uses, stmts_uses};
 use crate::{NameUses, begin_sig, declare_option, sig_uses, type_option_uses, type_uses};

@@ -1,13 +1,13 @@
 -- Bounds of slices, and slices.
 use Rattle.std.proofs.Common.{◌≡◌, ◌∙◌, List, Option, Some, None, Result, Ok, Err, refl, sym, ap, subst}
-use Rattle.const_eval.specs.declared.consts.Const.{Const}
-use Rattle.go_types.specs.Answers.{both, given}
-use Rattle.go_types.specs.Defined.{Defined}
-use Rattle.go_types.specs.Entities as go_entity
-use Rattle.go_types.specs.Operands as go
-use Rattle.go_types.specs.Operands.{value, several, a_type, a_function, a_builtin, recovered, Typed, with_value}
-use Rattle.go_types.specs.Primary.{sliced}
-use Rattle.type_relations.specs.Environment.{Environment}
+use Rattle.go_tree.specs.declared.const_eval.consts.Const.{Const}
+use Rattle.go_tree.specs.GoTypes.Answers.{both, given}
+use Rattle.go_tree.specs.GoTypes.Defined.{Defined}
+use Rattle.go_tree.specs.GoTypes.Entities as go_entity
+use Rattle.go_tree.specs.GoTypes.Operands as go
+use Rattle.go_tree.specs.GoTypes.Operands.{value, several, a_type, a_function, a_builtin, recovered, Typed, with_value}
+use Rattle.go_tree.specs.GoTypes.Primary.{sliced}
+use Rattle.type_table.specs.TypeRelations.Environment.{Environment}
 use Rattle.operand_rules.specs.declared.values.Value.{Value}
 use Rattle.operand_rules.specs.declared.values.Refusal.{Refusal}
 use Rattle.operand_rules.specs.declared.values.Refusal.TheVariants.{NotTyped, NoMemory}
@@ -17,7 +17,7 @@ use Rattle.operand_modes.specs.Operands.{GivesOperand, IsOperand, SameOperand, o
 use Rattle.operand_laws.specs.Alike.{SameBound}
 use Rattle.operand_laws.proofs.ContentLemmas.{operand_same}
 use Rattle.operand_laws.proofs.ValueLemmas.{slice_sees_alike}
-use Rattle.access_rules.specs.Slices.{IsBoundValue, bound_of}
+use Rattle.operator_rules.specs.AccessRules.Slices.{IsBoundValue, bound_of}
 use Rattle.checker_tables.specs.declared.tables.Tables.{Tables}
 use Rattle.checker_tables.specs.Ready.{Keeps}
 use Rattle.operand_answers.specs.declared.located.Located.{Located}

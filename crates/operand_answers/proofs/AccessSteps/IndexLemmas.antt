@@ -1,22 +1,22 @@
 -- Elements of maps, slices and strings.
 use Rattle.std.proofs.Common.{◌≡◌, ◌∙◌, Bool, true, false, cond, List, Option, Some, None, is_some, Result, Ok, refl, sym, ap, subst}
-use Rattle.const_eval.specs.declared.consts.Const.{Const}
-use Rattle.go_types.specs.Answers.{both, only_if}
-use Rattle.go_types.specs.Types.{GoType, element_of, is_untyped, map_parts}
-use Rattle.go_types.specs.Defined.{Defined, under}
-use Rattle.go_types.specs.Entities as go_entity
-use Rattle.go_types.specs.Entities.{run}
-use Rattle.go_types.specs.Operands as go
-use Rattle.go_types.specs.Operands.{value, several, a_type, a_function, a_builtin, recovered, Typed, fits, place_by, plain_value, typed}
-use Rattle.go_types.specs.Primary.{index_of, index_place, is_index, string_element}
-use Rattle.type_relations.specs.Environment.{Environment, IsEnvironment, defined_types}
+use Rattle.go_tree.specs.declared.const_eval.consts.Const.{Const}
+use Rattle.go_tree.specs.GoTypes.Answers.{both, only_if}
+use Rattle.go_tree.specs.GoTypes.Types.{GoType, element_of, is_untyped, map_parts}
+use Rattle.go_tree.specs.GoTypes.Defined.{Defined, under}
+use Rattle.go_tree.specs.GoTypes.Entities as go_entity
+use Rattle.go_tree.specs.GoTypes.Entities.{run}
+use Rattle.go_tree.specs.GoTypes.Operands as go
+use Rattle.go_tree.specs.GoTypes.Operands.{value, several, a_type, a_function, a_builtin, recovered, Typed, fits, place_by, plain_value, typed}
+use Rattle.go_tree.specs.GoTypes.Primary.{index_of, index_place, is_index, string_element}
+use Rattle.type_table.specs.TypeRelations.Environment.{Environment, IsEnvironment, defined_types}
 use Rattle.operand_rules.specs.declared.values.Value.{Value}
 use Rattle.operand_rules.specs.declared.values.Refusal.{Refusal}
 use Rattle.operand_rules.specs.Values.{IsGiven, IsType, SameContent, type_of, typed_of}
-use Rattle.value_types.specs.ValueTypes.{HasValueTypes}
-use Rattle.access_rules.specs.declared.places.Place as place
-use Rattle.access_rules.specs.declared.places.Place.TheVariants.{Addressable, MapElement, Literal, Elsewhere}
-use Rattle.access_rules.specs.Places.{place_of}
+use Rattle.type_table.specs.ValueTypes.ValueTypes.{HasValueTypes}
+use Rattle.operator_rules.specs.declared.access_rules.places.Place as place
+use Rattle.operator_rules.specs.declared.access_rules.places.Place.TheVariants.{Addressable, MapElement, Literal, Elsewhere}
+use Rattle.operator_rules.specs.AccessRules.Places.{place_of}
 use Rattle.operand_modes.specs.declared.modes.Operand.{Operand}
 use Rattle.operand_modes.specs.declared.modes.Operand.TheVariants as mode
 use Rattle.operand_modes.specs.declared.modes.Operand.TheVariants.{Single}

@@ -1,12 +1,12 @@
 -- Bounds of slices that may be left out, as the answers for them tell (Go specification, Slice expressions).
 use Rattle.std.specs.Prelude.{◌≡◌, List, Option, Some, None, Result, Ok, Err}
-use Rattle.const_eval.specs.declared.consts.Const.{Const}
-use Rattle.go_types.specs.Operands.{Typed}
-use Rattle.type_relations.specs.Environment.{Environment}
+use Rattle.go_tree.specs.declared.const_eval.consts.Const.{Const}
+use Rattle.go_tree.specs.GoTypes.Operands.{Typed}
+use Rattle.type_table.specs.TypeRelations.Environment.{Environment}
 use Rattle.operand_rules.specs.declared.values.Value.{Value}
 use Rattle.operand_rules.specs.declared.values.Refusal.{Refusal}
 use Rattle.operand_rules.specs.declared.values.Refusal.TheVariants.{NotTyped, NoMemory}
-use Rattle.access_rules.specs.Slices.{IsBoundValue, bound_of}
+use Rattle.operator_rules.specs.AccessRules.Slices.{IsBoundValue, bound_of}
 use Rattle.operand_laws.specs.Alike.{SameBound}
 
 -- a bound is this one

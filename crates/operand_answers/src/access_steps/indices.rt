@@ -1,22 +1,22 @@
 //! Index expressions (Go specification, Index expressions).
 
 ghost use Rattle.std.specs.Prelude.{Option, Some};
-ghost use Rattle.go_types.specs.Answers.{both};
-ghost use Rattle.go_types.specs.Entities as go_entity;
-ghost use Rattle.go_types.specs.Operands as go_operand;
-ghost use Rattle.go_types.specs.Operands.{place_by, typed};
-ghost use Rattle.go_types.specs.Primary as go;
-ghost use Rattle.type_relations.specs.Environment.{defined_types};
+ghost use Rattle.go_tree.specs.GoTypes.Answers.{both};
+ghost use Rattle.go_tree.specs.GoTypes.Entities as go_entity;
+ghost use Rattle.go_tree.specs.GoTypes.Operands as go_operand;
+ghost use Rattle.go_tree.specs.GoTypes.Operands.{place_by, typed};
+ghost use Rattle.go_tree.specs.GoTypes.Primary as go;
+ghost use Rattle.type_table.specs.TypeRelations.Environment.{defined_types};
 ghost use Rattle.operand_rules.specs.Values.{IsValue, typed_of};
 ghost use Rattle.operand_modes.specs.Operands.{IsOperand, operand_at};
 ghost use Rattle.checker_tables.specs.Ready.{AreReady};
 ghost use Rattle.operand_answers.specs.Located.{GivesAt, IsThereIfOk};
 
 use crate::Located;
-use access_rules::{index_of, index_place};
 use checker_tables::Tables;
 use operand_modes::{Operand, single_value};
 use operand_rules::{Refusal, Value};
+use operator_rules::access_rules::{index_of, index_place};
 
 /// An element of a value, where it stands.
 fn element(tables: &Tables, x: Value, i: Value) -> Result<Located, Refusal>

@@ -1,23 +1,23 @@
 //! Slice expressions (Go specification, Slice expressions).
 
 ghost use Rattle.std.specs.Prelude.{Option, Some};
-ghost use Rattle.go_types.specs.Answers.{both, given};
-ghost use Rattle.go_types.specs.Entities as go_entity;
-ghost use Rattle.go_types.specs.Operands as go_operand;
-ghost use Rattle.go_types.specs.Operands.{Typed, with_value};
-ghost use Rattle.go_types.specs.Primary as go;
-ghost use Rattle.type_relations.specs.Environment.{defined_types};
+ghost use Rattle.go_tree.specs.GoTypes.Answers.{both, given};
+ghost use Rattle.go_tree.specs.GoTypes.Entities as go_entity;
+ghost use Rattle.go_tree.specs.GoTypes.Operands as go_operand;
+ghost use Rattle.go_tree.specs.GoTypes.Operands.{Typed, with_value};
+ghost use Rattle.go_tree.specs.GoTypes.Primary as go;
+ghost use Rattle.type_table.specs.TypeRelations.Environment.{defined_types};
 ghost use Rattle.operand_modes.specs.Operands.{GivesOperand, IsOperand, operand_at};
-ghost use Rattle.access_rules.specs.Slices.{IsBoundValue, bound_of};
+ghost use Rattle.operator_rules.specs.AccessRules.Slices.{IsBoundValue, bound_of};
 ghost use Rattle.checker_tables.specs.Ready.{AreReady};
 ghost use Rattle.operand_answers.specs.Located.{GivesAt, IsThereIfOk};
 ghost use Rattle.operand_answers.specs.AccessSteps.Bounds.{GivesBound, IsBoundIfOk};
 
 use crate::{Located, elsewhere};
-use access_rules::sliced;
 use checker_tables::Tables;
 use operand_modes::{Operand, single, single_value};
 use operand_rules::{Refusal, Value};
+use operator_rules::access_rules::sliced;
 
 /// What a bound of a slice is by the answer for its expression.
 pub fn bound(tables: &Tables, x: Result<Located, Refusal>) -> Result<Option<Value>, Refusal>

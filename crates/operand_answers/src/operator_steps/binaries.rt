@@ -1,11 +1,11 @@
 //! Binary operators (Go specification, Operators; Comparison operators).
 
 ghost use Rattle.std.specs.Prelude.{◌≡◌, ◌||◌, false, Option};
-ghost use Rattle.go_types.specs.Answers.{both};
-ghost use Rattle.go_types.specs.Entities as go_entity;
-ghost use Rattle.go_types.specs.Operands as go_operand;
-ghost use Rattle.go_types.specs.Operators as go;
-ghost use Rattle.type_relations.specs.Environment.{defined_types};
+ghost use Rattle.go_tree.specs.GoTypes.Answers.{both};
+ghost use Rattle.go_tree.specs.GoTypes.Entities as go_entity;
+ghost use Rattle.go_tree.specs.GoTypes.Operands as go_operand;
+ghost use Rattle.go_tree.specs.GoTypes.Operators as go;
+ghost use Rattle.type_table.specs.TypeRelations.Environment.{defined_types};
 ghost use Rattle.operand_rules.specs.Values.{IsValue};
 ghost use Rattle.operand_modes.specs.Operands.{GivesOperand, IsOperand, operand_at};
 ghost use Rattle.checker_tables.specs.Ready.{AreReady, Keeps};
@@ -19,7 +19,7 @@ use operand_modes::{Operand, single, single_value};
 use operand_rules::{ConstTable, Refusal};
 use operator_rules::recover_comparison;
 use std::alloc::Global;
-use type_relations::Env;
+use type_table::type_relations::Env;
 
 /// Whether an operand is what `recover()` gives.
 fn is_recovered(x: Operand) -> bool

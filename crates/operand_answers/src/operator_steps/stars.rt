@@ -2,27 +2,27 @@
 //! Pointer types).
 
 ghost use Rattle.std.specs.Prelude.{◌≡◌, List, Option, Some};
-ghost use Rattle.const_eval.specs.declared.consts.Const.{Const};
-ghost use Rattle.go_types.specs.Answers.{given};
-ghost use Rattle.go_types.specs.Entities as go_entity;
-ghost use Rattle.go_types.specs.Operands as go_operand;
-ghost use Rattle.go_types.specs.Operands.{a_type, place_by, value};
-ghost use Rattle.go_types.specs.Operators as go;
-ghost use Rattle.go_types.specs.Types.{pointer_to};
-ghost use Rattle.type_relations.specs.Environment.{defined_types, env_type};
+ghost use Rattle.go_tree.specs.declared.const_eval.consts.Const.{Const};
+ghost use Rattle.go_tree.specs.GoTypes.Answers.{given};
+ghost use Rattle.go_tree.specs.GoTypes.Entities as go_entity;
+ghost use Rattle.go_tree.specs.GoTypes.Operands as go_operand;
+ghost use Rattle.go_tree.specs.GoTypes.Operands.{a_type, place_by, value};
+ghost use Rattle.go_tree.specs.GoTypes.Operators as go;
+ghost use Rattle.go_tree.specs.GoTypes.Types.{pointer_to};
+ghost use Rattle.type_table.specs.TypeRelations.Environment.{defined_types, env_type};
 ghost use Rattle.operand_rules.specs.declared.values.ValueType.TheVariants.{Typed};
 ghost use Rattle.operand_rules.specs.Values.{IsType, type_of};
-ghost use Rattle.value_types.specs.ValueTypes.{HasValueTypes};
+ghost use Rattle.type_table.specs.ValueTypes.ValueTypes.{HasValueTypes};
 ghost use Rattle.operand_modes.specs.Operands.{GivesOperand, IsOperand, operand_at};
 ghost use Rattle.checker_tables.specs.Ready.{AreReady, Keeps};
 ghost use Rattle.operand_answers.specs.Located.{GivesAt, IsThereIfOk};
 
 use crate::{Located, added, elsewhere};
-use access_rules::{Place, pointed};
 use checker_tables::Tables;
 use operand_modes::{Operand, single_value};
 use operand_rules::{Refusal, Value};
-use type_relations::Env;
+use operator_rules::access_rules::{Place, pointed};
+use type_table::type_relations::Env;
 use type_table::{TypeId, TypeNode};
 
 /// The variable to which a value points.

@@ -2,24 +2,24 @@
 
 ghost use Rattle.std.specs.Prelude.{◌≡◌, ◌≢◌, Option};
 ghost use Rattle.go_tree.specs.declared.operators.UnOp.TheVariants.{Address};
-ghost use Rattle.go_types.specs.Answers.{given};
-ghost use Rattle.go_types.specs.Entities as go_entity;
-ghost use Rattle.go_types.specs.Operands as go_operand;
-ghost use Rattle.go_types.specs.Operators as go;
-ghost use Rattle.type_relations.specs.Environment.{defined_types};
+ghost use Rattle.go_tree.specs.GoTypes.Answers.{given};
+ghost use Rattle.go_tree.specs.GoTypes.Entities as go_entity;
+ghost use Rattle.go_tree.specs.GoTypes.Operands as go_operand;
+ghost use Rattle.go_tree.specs.GoTypes.Operators as go;
+ghost use Rattle.type_table.specs.TypeRelations.Environment.{defined_types};
 ghost use Rattle.operand_rules.specs.Values.{Gives, IsValue, typed_of};
-ghost use Rattle.access_rules.specs.Places.{place_of};
+ghost use Rattle.operator_rules.specs.AccessRules.Places.{place_of};
 ghost use Rattle.operand_modes.specs.declared.modes.Operand.TheVariants.{Single};
 ghost use Rattle.operand_modes.specs.Operands.{GivesOperand, IsOperand, operand_at};
 ghost use Rattle.checker_tables.specs.Ready.{AreReady, Keeps};
 ghost use Rattle.operand_answers.specs.Located.{GivesAt, IsThere, IsThereIfOk, StandsAt};
 
 use crate::{Located, elsewhere};
-use access_rules::Place;
 use checker_tables::{Tables, address};
 use go_tree::UnOp;
 use operand_modes::{Operand, single, single_value};
 use operand_rules::{Refusal, Value, ValueType, unary_value};
+use operator_rules::access_rules::Place;
 use std::alloc::Global;
 
 /// The address of a value at a place.

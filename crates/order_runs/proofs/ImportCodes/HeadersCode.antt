@@ -4,19 +4,19 @@ use mathlib.Core.Path.{ap, sym, ◌∙◌, subst}
 use Rattle.std.proofs.Common.{arith}
 use Rattle.go_tree.specs.Tree.{NameAt, TypeExpr, Exprs}
 use Rattle.go_tree.specs.File.{Receiver, Func as Function}
-use Rattle.scope_names.specs.Means.{Environment}
-use Rattle.scope_names.specs.FreeNames.{names_of, free_type_option, free_params, free_exprs, free_stmts}
-use Rattle.go_types.specs.Answers.{given, only_if, otherwise}
-use Rattle.go_types.specs.Types.{GoType, FuncType, named_type, type_name_of, base_of}
-use Rattle.go_types.specs.Defined.{under}
-use Rattle.go_types.specs.Entities.{Entity, World, type_of_name, Binds, extend, in_block}
-use Rattle.go_types.specs.TypeNames.{func_type, written_type}
-use Rattle.go_types.specs.Statements.{body_binds, no_values}
-use Rattle.go_types.specs.Programs.{Header, constants, variables, a_type_spec, a_func, Headed}
-use Rattle.go_types.specs.Collect.{env_of, receiver_type, receiver_binds}
-use Rattle.go_types.specs.WellTyped.{receiver_of, body_env}
-use Rattle.go_types.specs.Agreement.{Same, On, Agrees}
-use Rattle.go_types.proofs.Agreeing.{agrees_after}
+use Rattle.go_tree.specs.ScopeNames.Means.{Environment}
+use Rattle.go_tree.specs.ScopeNames.FreeNames.{names_of, free_type_option, free_params, free_exprs, free_stmts}
+use Rattle.go_tree.specs.GoTypes.Answers.{given, only_if, otherwise}
+use Rattle.go_tree.specs.GoTypes.Types.{GoType, FuncType, named_type, type_name_of, base_of}
+use Rattle.go_tree.specs.GoTypes.Defined.{under}
+use Rattle.go_tree.specs.GoTypes.Entities.{Entity, World, type_of_name, Binds, extend, in_block}
+use Rattle.go_tree.specs.GoTypes.TypeNames.{func_type, written_type}
+use Rattle.go_tree.specs.GoTypes.Statements.{body_binds, no_values}
+use Rattle.go_tree.specs.GoTypes.Programs.{Header, constants, variables, a_type_spec, a_func, Headed}
+use Rattle.go_tree.specs.GoTypes.Collect.{env_of, receiver_type, receiver_binds}
+use Rattle.go_tree.specs.GoTypes.WellTyped.{receiver_of, body_env}
+use Rattle.go_tree.specs.GoTypes.Agreement.{Same, On, Agrees}
+use Rattle.go_tree.proofs.GoTypes.Agreeing.{agrees_after}
 use Rattle.typed_in_place.specs.ImportsMoved.{under_imports, file_names, MovedReceiver, nothing_received, received, MovedIn, moved_constants, moved_variables, moved_type, moved_func, Moved, MovedBody, moved_body}
 use Rattle.typed_in_place.proofs.ImportsMoved.{func_type-moved}
 use Rattle.go_kernel.specs.Kernel.{ImportPath, FuncName, Func, Term, Vals}

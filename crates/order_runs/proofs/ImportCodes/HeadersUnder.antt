@@ -3,27 +3,27 @@ use Rattle.std.proofs.Common.{◌≡◌, refl, sym, ◌∙◌, subst, ℕ, suc, 
 use Rattle.std.specs.Prelude.{slice_get, nat_eq, is_none, ◌&&◌}
 use Rattle.go_tree.specs.Tree.{TypeExpr, Exprs, no_exprs, const_decl, var_decl, empty, eval, step, assign, define, return_, break_, continue_, inner, if_, for_, range_, switch, defer, label, ValueSpecs, no_specs, spec}
 use Rattle.go_tree.specs.File.{TypeSpec, Receiver, Func, Decl, values, types, func}
-use Rattle.scope_names.specs.FreeNames.{free_params, free_stmts}
-use Rattle.scope_names.specs.Means.{Environment, means, is_blank}
-use Rattle.go_types.specs.Answers.{given, only_if, otherwise}
-use Rattle.go_types.specs.Types.{named_type, type_name_of, base_of}
-use Rattle.go_types.specs.Defined.{under}
-use Rattle.go_types.specs.Entities.{Entity, World, type_of_name, Binds, block_of, universe}
-use Rattle.go_types.specs.TypeNames.{func_type}
-use Rattle.go_types.specs.Statements.{body_binds, no_values}
-use Rattle.go_types.specs.Programs.{Header, constants, variables, a_type_spec, a_func, Headed, at_member, constant_headers, variable_headers, headers, all_headers, header_names, header_sound, headed_file, file_env}
-use Rattle.go_types.specs.Collect.{env_of, receiver_binds}
-use Rattle.go_types.specs.WellTyped.{receiver_of, body_env}
-use Rattle.go_types.specs.Agreement.{On, Agrees}
+use Rattle.go_tree.specs.ScopeNames.FreeNames.{free_params, free_stmts}
+use Rattle.go_tree.specs.ScopeNames.Means.{Environment, means, is_blank}
+use Rattle.go_tree.specs.GoTypes.Answers.{given, only_if, otherwise}
+use Rattle.go_tree.specs.GoTypes.Types.{named_type, type_name_of, base_of}
+use Rattle.go_tree.specs.GoTypes.Defined.{under}
+use Rattle.go_tree.specs.GoTypes.Entities.{Entity, World, type_of_name, Binds, block_of, universe}
+use Rattle.go_tree.specs.GoTypes.TypeNames.{func_type}
+use Rattle.go_tree.specs.GoTypes.Statements.{body_binds, no_values}
+use Rattle.go_tree.specs.GoTypes.Programs.{Header, constants, variables, a_type_spec, a_func, Headed, at_member, constant_headers, variable_headers, headers, all_headers, header_names, header_sound, headed_file, file_env}
+use Rattle.go_tree.specs.GoTypes.Collect.{env_of, receiver_binds}
+use Rattle.go_tree.specs.GoTypes.WellTyped.{receiver_of, body_env}
+use Rattle.go_tree.specs.GoTypes.Agreement.{On, Agrees}
 use Rattle.typed_in_place.specs.ProgramsAlike.{OneByOne, no_more, and_more}
 use Rattle.typed_in_place.specs.ProgramReplaced.{All, all_of_none, all_and}
 use Rattle.typed_in_place.specs.ImportsMoved.{under_imports, file_names, MovedReceiver, nothing_received, received, MovedIn, moved_func, Moved, MovedBody, moved_body, constants_moved, variables_moved, type_moved}
 use Rattle.typed_in_place.proofs.ImportsMoved.{func_type-moved}
 use Rattle.go_translation.proofs.SmallAlike.{kept}
-use Rattle.constant_steps.proofs.StepLaws.FurtherApart.{both-all}
-use Rattle.cycle_runs.specs.ImportCycles.LookedUp.{receiver_looked_up, decl_looked_up}
-use Rattle.cycle_runs.proofs.ImportCycles.FreeIdentifiers.{in-right}
-use Rattle.cycle_runs.proofs.ImportCycles.HeadersMoved.{AllMean, HeaderReads, decls-all}
+use Rattle.splice_laws.proofs.ConstantSteps.StepLaws.FurtherApart.{both-all}
+use Rattle.order_runs.specs.CycleRuns.ImportCycles.LookedUp.{receiver_looked_up, decl_looked_up}
+use Rattle.order_runs.proofs.CycleRuns.ImportCycles.FreeIdentifiers.{in-right}
+use Rattle.order_runs.proofs.CycleRuns.ImportCycles.HeadersMoved.{AllMean, HeaderReads, decls-all}
 
 -- the second header is the first under other imports, under which each name means what it meant
 pub record WholeMoved {S : Type 0} (h k : Headed S) : Type 0 where

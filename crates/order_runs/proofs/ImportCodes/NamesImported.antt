@@ -2,11 +2,11 @@
 use Rattle.std.proofs.Common.{◌≡◌, refl, sym, ap, ◌∙◌, ℕ, Bool, true, false, not, ◌||◌, List, [], ◌∷◌, ◌++◌, Option, Some, None, if◌then◌else◌}
 use Rattle.std.proofs.lemmas.Slice.Eq.{bytes_eq-Decides}
 use Rattle.std.specs.Prelude.{bytes_eq}
-use Rattle.scope_names.specs.Means.{Environment, means, is_blank}
-use Rattle.go_types.specs.Answers.{is_among}
-use Rattle.go_types.specs.Entities.{Entity}
-use Rattle.go_types.specs.Programs.{Import, is_init, import_entity, import_sound, file_block}
-use Rattle.cycle_runs.proofs.ImportCycles.NamesReadAlike.{past-blank}
+use Rattle.go_tree.specs.ScopeNames.Means.{Environment, means, is_blank}
+use Rattle.go_tree.specs.GoTypes.Answers.{is_among}
+use Rattle.go_tree.specs.GoTypes.Entities.{Entity}
+use Rattle.go_tree.specs.GoTypes.Programs.{Import, is_init, import_entity, import_sound, file_block}
+use Rattle.order_runs.proofs.CycleRuns.ImportCycles.NamesReadAlike.{past-blank}
 use Rattle.order_runs.specs.ImportCodes.PackagesMoved.{imported_as}
 
 other-way : (m n : List ℕ) → bytes_eq m n ≡ false → bytes_eq n m ≡ false

@@ -3,10 +3,10 @@ use Rattle.std.specs.Prelude.{◌≡◌, refl, ℕ, suc, Bool, true, not, ◌&&�
 use Rattle.std.specs.List.{list_all, list_any}
 use mathlib.Core.Path.{ap, ap₂, sym, ◌∙◌, subst}
 use Rattle.go_tree.specs.File.{Decl}
-use Rattle.go_types.specs.Entities.{World, block_of, universe}
-use Rattle.go_types.specs.Programs.{SourceFile, all_headers, names_in, block_names, file_block, Headed, headed_file, headed_files, headed_package, headed}
-use Rattle.go_types.specs.Collect.{collected}
-use Rattle.go_types.specs.WellTyped.{well_typed, body_ok}
+use Rattle.go_tree.specs.GoTypes.Entities.{World, block_of, universe}
+use Rattle.go_tree.specs.GoTypes.Programs.{SourceFile, all_headers, names_in, block_names, file_block, Headed, headed_file, headed_files, headed_package, headed}
+use Rattle.go_tree.specs.GoTypes.Collect.{collected}
+use Rattle.go_tree.specs.GoTypes.WellTyped.{well_typed, body_ok}
 use Rattle.typed_in_place.specs.ProgramsAlike.{OneByOne, no_more, and_more, AliasesStand, TypesStand, ValuesStand}
 use Rattle.typed_in_place.specs.ImportRule.{SamePackage, declarations_ok, package_imports}
 use Rattle.typed_in_place.specs.ProgramReplaced.{InPlace, InPlaceBeside}
@@ -16,7 +16,7 @@ use Rattle.typed_in_place.proofs.ProgramsReplaced.{one_by_one, each_one, append_
 use Rattle.go_kernel.specs.Kernel.{ImportPath, Let, same_text}
 use Rattle.go_translation.specs.Packages.{Package, sources, paths_in, header_functions, header_initial, headers_functions, headers_initial, package_code, codes_of, has_path, has_number, are_distinct, are_linked, are_well_typed}
 use Rattle.go_translation.specs.SameMeaning.{Packages, WellTyped, with_further}
-use Rattle.constant_steps.proofs.StepLaws.FurtherApart.{further-apart}
+use Rattle.splice_laws.proofs.ConstantSteps.StepLaws.FurtherApart.{further-apart}
 use Rattle.order_runs.specs.RunSteps.SameCode.{SameCode}
 use Rattle.order_runs.specs.ImportCodes.PackagesMoved.{FileMoved, PackageMoved, PackagesMoved, ImportsStand}
 use Rattle.order_runs.proofs.ImportCodes.NamesImported.{name-means, blank-means}

@@ -8,7 +8,7 @@ use Rattle.pkg_graph.specs.Pieces.{comes_before}
 use Rattle.pkg_graph.specs.Package.{Package}
 use Rattle.run_rules.specs.Programs.{numbered_from, numbered, is_ready, lesser, least_ready, ordered_after, in_dependency_order, numbers_of, dependency_order}
 use Rattle.typed_in_place.specs.ProgramsAlike.{OneByOne, no_more, and_more}
-use Rattle.cycle_runs.proofs.StepCycles.AlikeStay.{OptionBy, neither, each, get-by}
+use Rattle.order_runs.proofs.CycleRuns.StepCycles.AlikeStay.{OptionBy, neither, each, get-by}
 use Rattle.order_runs.proofs.RunSteps.SeatedUses.{Among, first, later}
 
 module _ {S : Type 0} (ps : List (Package S)) where

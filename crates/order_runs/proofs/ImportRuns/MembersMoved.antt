@@ -4,12 +4,12 @@ use Rattle.std.specs.Prelude.{bytes_eq}
 use Rattle.go_tree.specs.File.{ImportSpec}
 use Rattle.pkg_graph.specs.Package.{SourceTree, Package, import_specs}
 use Rattle.pkg_graph.specs.Members.{import_name}
-use Rattle.go_types.specs.Answers.{given}
+use Rattle.go_tree.specs.GoTypes.Answers.{given}
 use Rattle.go_translation.specs.Packages as translated
 use Rattle.run_rules.specs.Programs.{package_number, linked_import, linked_file, linked_package, dependency_order}
 use Rattle.typed_in_place.specs.ProgramsAlike.{OneByOne, no_more, and_more}
 use Rattle.typed_in_place.proofs.ProgramsReplaced.{one_by_one}
-use Rattle.cycle_runs.specs.ImportCycles.OtherImports.{import_path, FileUnder}
+use Rattle.order_runs.specs.CycleRuns.ImportCycles.OtherImports.{import_path, FileUnder}
 use Rattle.order_runs.specs.RunSteps.RunPackages.{with_path, members_among, members_of}
 use Rattle.order_runs.specs.ImportCodes.PackagesMoved.{imported_as, FileMoved, PackagesMoved}
 use Rattle.order_runs.specs.ImportRuns.PathsUnder.{PathUnder, PathsUnder}

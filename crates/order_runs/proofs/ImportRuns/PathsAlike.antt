@@ -7,7 +7,7 @@ use Rattle.pkg_graph.specs.Members.{package_name, name_or}
 use Rattle.run_rules.specs.Programs.{number_from, package_number}
 use Rattle.run_rules.specs.Steps.{change_nth}
 use Rattle.typed_in_place.specs.ProgramsAlike.{OneByOne, no_more, and_more}
-use Rattle.cycle_runs.specs.ImportCycles.OtherImports.{import_path}
+use Rattle.order_runs.specs.CycleRuns.ImportCycles.OtherImports.{import_path}
 
 -- two packages with the same path and name
 pub record SamePath {S : Type 0} (p q : Package S) : Type 0 where

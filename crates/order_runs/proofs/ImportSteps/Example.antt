@@ -11,8 +11,8 @@ use Rattle.go_tree.specs.File.{Decl, values, ImportDecl}
 use Rattle.module_files.specs.Internal.{passes}
 use Rattle.pkg_graph.specs.Package as run
 use Rattle.pkg_graph.specs.Package.{SourceTree}
-use Rattle.go_types.specs.Agreement.{In, head, tail}
-use Rattle.go_types.specs.Programs.{Import}
+use Rattle.go_tree.specs.GoTypes.Agreement.{In, head, tail}
+use Rattle.go_tree.specs.GoTypes.Programs.{Import}
 use Rattle.go_translation.specs.Packages.{Package, sources}
 use Rattle.go_translation.specs.SameMeaning.{Packages, SameMeaning}
 use Rattle.typed_in_place.specs.ProgramsAlike.{no_more, and_more}
@@ -20,12 +20,12 @@ use Rattle.run_rules.specs.Surroundings.{whole, in_constant}
 use Rattle.run_rules.specs.Programs.{top_place}
 use Rattle.run_rules.specs.Sites.{MarkRef, Where, Site, an_expr}
 use Rattle.run_rules.specs.FormTrees.{ConstForm}
-use Rattle.constant_steps.specs.Alone.{this_package, a_later_package, no_constants, and_constant, constants_alone, no_decls, and_decl}
-use Rattle.constant_steps.specs.Alone as alone
-use Rattle.constant_steps.specs.PlainUse.{linked_at}
-use Rattle.constant_steps.specs.QualifiedSteps.MemberNames.{imported_member}
-use Rattle.constant_steps.specs.QualifiedSteps.NamedUse.{NamedUse, NamedUseStands, PackagesStand}
-use Rattle.cycle_runs.specs.ImportCycles.LookedUp.{decl_looked_up}
+use Rattle.splice_laws.specs.ConstantSteps.Alone.{this_package, a_later_package, no_constants, and_constant, constants_alone, no_decls, and_decl}
+use Rattle.splice_laws.specs.ConstantSteps.Alone as alone
+use Rattle.splice_laws.specs.ConstantSteps.PlainUse.{linked_at}
+use Rattle.splice_laws.specs.ConstantSteps.QualifiedSteps.MemberNames.{imported_member}
+use Rattle.splice_laws.specs.ConstantSteps.QualifiedSteps.NamedUse.{NamedUse, NamedUseStands, PackagesStand}
+use Rattle.order_runs.specs.CycleRuns.ImportCycles.LookedUp.{decl_looked_up}
 use Rattle.order_runs.proofs.RunSteps.SameMeant.{same-code}
 use Rattle.order_runs.specs.ImportCodes.PackagesMoved.{imported_as, PackagesMoved}
 use Rattle.order_runs.proofs.ImportCodes.PackagesCode.{package-itself}

@@ -4,12 +4,12 @@ use mathlib.Core.Path.{ap, ap₂, sym, ◌∙◌}
 use Rattle.std.proofs.Common.{arith}
 use Rattle.go_tree.specs.Tree.{NameAt, Expr, no_exprs, expr_and}
 use Rattle.pkg_graph.specs.Package.{Package}
-use Rattle.go_types.specs.Answers.{given, both, only_if}
-use Rattle.go_types.specs.Entities.{Entity, refused, World, Env, Binds}
-use Rattle.go_types.specs.Operands.{Operand, all_typed, named_operand}
-use Rattle.go_types.specs.Statements.{bind_all, constant_entity}
-use Rattle.go_types.specs.Programs.{constants, Program, Headed, headed, is_init}
-use Rattle.go_types.specs.Collect.{env_of, good_entity, declared_by, DeclaredTypes, types_declared, valued_world, collected}
+use Rattle.go_tree.specs.GoTypes.Answers.{given, both, only_if}
+use Rattle.go_tree.specs.GoTypes.Entities.{Entity, refused, World, Env, Binds}
+use Rattle.go_tree.specs.GoTypes.Operands.{Operand, all_typed, named_operand}
+use Rattle.go_tree.specs.GoTypes.Statements.{bind_all, constant_entity}
+use Rattle.go_tree.specs.GoTypes.Programs.{constants, Program, Headed, headed, is_init}
+use Rattle.go_tree.specs.GoTypes.Collect.{env_of, good_entity, declared_by, DeclaredTypes, types_declared, valued_world, collected}
 use Rattle.typed_in_place.specs.Declared.{NamesConstant, ConstantOrRefused, a_constant, refused_yet}
 use Rattle.typed_in_place.specs.Leaves.{Names, plain_name, qualified_name}
 use Rattle.typed_in_place.specs.ProgramReplaced.{All}
@@ -17,13 +17,13 @@ use Rattle.typed_in_place.proofs.Headers.{declared_in}
 use Rattle.typed_in_place.proofs.Leaves.{name_parts}
 use Rattle.run_rules.specs.Surroundings.{Place}
 use Rattle.run_rules.specs.Sites.{Where}
-use Rattle.constant_steps.specs.StepLaws.ConstantUses.{UseOfConstant}
-use Rattle.constant_steps.specs.StepLaws.PartsTyped.{HeaderTyped}
-use Rattle.constant_steps.specs.StepLaws.SwapUses.{SwapThere}
-use Rattle.constant_steps.proofs.StepLaws.KnownConstants.{of-first, declares-it, Known}
-use Rattle.constant_steps.proofs.StepLaws.StepUses.{use-of-constant, constant-of-use}
-use Rattle.constant_steps.proofs.PlainSteps.{not_so}
-use Rattle.constant_steps.proofs.QualifiedSteps.UsesMeant.{DeclaredIn}
+use Rattle.splice_laws.specs.ConstantSteps.StepLaws.ConstantUses.{UseOfConstant}
+use Rattle.splice_laws.specs.ConstantSteps.StepLaws.PartsTyped.{HeaderTyped}
+use Rattle.splice_laws.specs.ConstantSteps.StepLaws.SwapUses.{SwapThere}
+use Rattle.splice_laws.proofs.ConstantSteps.StepLaws.KnownConstants.{of-first, declares-it, Known}
+use Rattle.splice_laws.proofs.ConstantSteps.StepLaws.StepUses.{use-of-constant, constant-of-use}
+use Rattle.splice_laws.proofs.ConstantSteps.PlainSteps.{not_so}
+use Rattle.splice_laws.proofs.ConstantSteps.QualifiedSteps.UsesMeant.{DeclaredIn}
 
 -- what `const n = f` binds, by what `f` is
 abbrev one-constant : List ℕ → World → Option Operand → Option Binds

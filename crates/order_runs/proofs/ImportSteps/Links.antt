@@ -6,12 +6,12 @@ use mathlib.Core.Path.{ap, sym, ◌∙◌}
 use Rattle.go_tree.specs.Tree.{Expr}
 use Rattle.go_tree.specs.File.{File}
 use Rattle.pkg_graph.specs.Package as run
-use Rattle.scope_names.specs.Means.{is_blank}
-use Rattle.go_types.specs.Answers.{is_among, one_of}
-use Rattle.go_types.specs.Entities.{World}
-use Rattle.go_types.specs.Programs.{Import, SourceFile, SourcePackage, Program, Headed, headed, headed_package, block_names, import_sound}
-use Rattle.go_types.specs.Collect.{aliased_world, typed_world, types_declared, collected}
-use Rattle.go_types.specs.WellTyped.{refused_unless, header_uses, is_used_in, first_import, well_typed}
+use Rattle.go_tree.specs.ScopeNames.Means.{is_blank}
+use Rattle.go_tree.specs.GoTypes.Answers.{is_among, one_of}
+use Rattle.go_tree.specs.GoTypes.Entities.{World}
+use Rattle.go_tree.specs.GoTypes.Programs.{Import, SourceFile, SourcePackage, Program, Headed, headed, headed_package, block_names, import_sound}
+use Rattle.go_tree.specs.GoTypes.Collect.{aliased_world, typed_world, types_declared, collected}
+use Rattle.go_tree.specs.GoTypes.WellTyped.{refused_unless, header_uses, is_used_in, first_import, well_typed}
 use Rattle.typed_in_place.specs.ProgramsAlike.{OneByOne}
 use Rattle.typed_in_place.specs.ImportRule.{files_import, package_imports, imports_ok, declarations_ok, SamePackage}
 use Rattle.typed_in_place.specs.ProgramReplaced.{All, all_of_none, all_and, Apart, InPlace, InPlaceBeside}
@@ -21,15 +21,15 @@ use Rattle.typed_in_place.proofs.ProgramsReplaced.{one_by_one, declares_the_same
 use Rattle.typed_in_place.proofs.SpansAside.{types_spans_aside, aliases_spans_aside, values_spans_aside, bodies_spans_aside}
 use Rattle.go_translation.specs.Packages.{Package, sources, codes_of, has_path, has_number, are_distinct, are_linked, are_well_typed}
 use Rattle.go_translation.specs.SpansAside.{bare_headed}
-use Rattle.constant_steps.specs.StepLaws.DeclStands.{changed}
-use Rattle.constant_steps.specs.StepLaws.PartsTyped.{HeaderTyped}
-use Rattle.constant_steps.specs.StepLaws.ConstantSteps.{ConstantStep}
-use Rattle.constant_steps.specs.StepLaws.ConstantSwaps.{ConstantSwaps}
-use Rattle.constant_steps.specs.StepLaws.SwapPrograms.{put_decl, members_put}
-use Rattle.constant_steps.proofs.StepLaws.ConstantStepLaw.{constant-step}
-use Rattle.constant_steps.proofs.StepLaws.FurtherApart.{further-apart}
-use Rattle.constant_steps.proofs.StepLaws.StepUses.{step-with-uses}
-use Rattle.constant_steps.proofs.StepLaws.SwapProgram.{constant-codes, sources-after}
+use Rattle.splice_laws.specs.ConstantSteps.StepLaws.DeclStands.{changed}
+use Rattle.splice_laws.specs.ConstantSteps.StepLaws.PartsTyped.{HeaderTyped}
+use Rattle.splice_laws.specs.ConstantSteps.StepLaws.ConstantSteps.{ConstantStep}
+use Rattle.splice_laws.specs.ConstantSteps.StepLaws.ConstantSwaps.{ConstantSwaps}
+use Rattle.splice_laws.specs.ConstantSteps.StepLaws.SwapPrograms.{put_decl, members_put}
+use Rattle.splice_laws.proofs.ConstantSteps.StepLaws.ConstantStepLaw.{constant-step}
+use Rattle.splice_laws.proofs.ConstantSteps.StepLaws.FurtherApart.{further-apart}
+use Rattle.splice_laws.proofs.ConstantSteps.StepLaws.StepUses.{step-with-uses}
+use Rattle.splice_laws.proofs.ConstantSteps.StepLaws.SwapProgram.{constant-codes, sources-after}
 use Rattle.order_runs.specs.RunSteps.Bared.{bare_source, bare_package, bare_members}
 use Rattle.order_runs.proofs.RunSteps.HeadersBared.{program_bared, program-bare}
 use Rattle.order_runs.proofs.RunSteps.SpansForgotten.{one-by-view, codes-alike}

@@ -1,13 +1,13 @@
 -- Under other imports each header is typed as before, where each name means what it meant.
 use Rattle.std.specs.Prelude.{◌≡◌, true, List, if◌then◌else◌, is_some}
 use mathlib.Core.Path.{sym, ◌∙◌, subst}
-use Rattle.scope_names.specs.Means.{Environment}
-use Rattle.go_types.specs.Answers.{meets}
-use Rattle.go_types.specs.Entities.{Entity, World}
-use Rattle.go_types.specs.Programs.{Headed, headed}
-use Rattle.go_types.specs.Collect.{DeclaredTypes, types_declared, collected}
-use Rattle.go_types.specs.MethodDeclarations.{MethodName, is_new_method}
-use Rattle.go_types.specs.WellTyped.{is_method, header_ok, well_typed}
+use Rattle.go_tree.specs.ScopeNames.Means.{Environment}
+use Rattle.go_tree.specs.GoTypes.Answers.{meets}
+use Rattle.go_tree.specs.GoTypes.Entities.{Entity, World}
+use Rattle.go_tree.specs.GoTypes.Programs.{Headed, headed}
+use Rattle.go_tree.specs.GoTypes.Collect.{DeclaredTypes, types_declared, collected}
+use Rattle.go_tree.specs.GoTypes.MethodDeclarations.{MethodName, is_new_method}
+use Rattle.go_tree.specs.GoTypes.WellTyped.{is_method, header_ok, well_typed}
 use Rattle.typed_in_place.specs.ImportsMoved.{under_imports, Moved}
 use Rattle.typed_in_place.specs.ProgramsAlike.{OneByOne, no_more, and_more}
 use Rattle.typed_in_place.specs.ProgramReplaced.{All, all_of_none, all_and}
@@ -15,8 +15,8 @@ use Rattle.typed_in_place.proofs.Collected.{same_types_declared}
 use Rattle.typed_in_place.proofs.ImportsMoved.{declared-moved, method-moved, body-moved}
 use Rattle.typed_in_place.proofs.ProgramsReplaced.{declare_alike}
 use Rattle.go_translation.specs.Packages.{Package, sources}
-use Rattle.constant_steps.specs.StepLaws.PartsTyped.{HeaderTyped}
-use Rattle.constant_steps.proofs.StepLaws.PartsTyped.{headers-typed}
+use Rattle.splice_laws.specs.ConstantSteps.StepLaws.PartsTyped.{HeaderTyped}
+use Rattle.splice_laws.proofs.ConstantSteps.StepLaws.PartsTyped.{headers-typed}
 use Rattle.order_runs.specs.ImportCodes.PackagesMoved.{PackagesMoved}
 use Rattle.order_runs.proofs.ImportCodes.HeadersUnder.{WholeMoved}
 use Rattle.order_runs.proofs.ImportCodes.PackagesCode as moved

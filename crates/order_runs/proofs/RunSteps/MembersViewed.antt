@@ -8,14 +8,14 @@ use Rattle.pkg_graph.specs.Package as run
 use Rattle.pkg_graph.specs.Package.{SourceTree, import_specs}
 use Rattle.pkg_graph.specs.Members.{package_name, name_or}
 use Rattle.pkg_graph.specs.Graph.{files_import, imports_of}
-use Rattle.go_types.specs.Answers.{given, otherwise}
-use Rattle.go_types.specs.Programs.{Import, SourcePackage, Program}
+use Rattle.go_tree.specs.GoTypes.Answers.{given, otherwise}
+use Rattle.go_tree.specs.GoTypes.Programs.{Import, SourcePackage, Program}
 use Rattle.go_translation.specs.Packages.{Package, sources}
 use Rattle.run_rules.specs.Programs.{number_from, package_number, in_dependency_order, linked_import, linked_file, linked_package, linked_packages, linked}
 use Rattle.typed_in_place.specs.ProgramsAlike.{OneByOne, no_more, and_more}
 use Rattle.typed_in_place.proofs.ProgramsReplaced.{one_by_one, each_one}
-use Rattle.cycle_runs.specs.StepCycles.PackagesAlike.{import_key}
-use Rattle.cycle_runs.proofs.StepCycles.Orders.{NumberedBy, rows-by, order-by}
+use Rattle.order_runs.specs.CycleRuns.StepCycles.PackagesAlike.{import_key}
+use Rattle.order_runs.proofs.CycleRuns.StepCycles.Orders.{NumberedBy, rows-by, order-by}
 use Rattle.order_runs.specs.RunSteps.Bared.{bare_import, bare_source, bare_package, bare_members}
 use Rattle.order_runs.specs.RunSteps.RunPackages.{with_path, members_among, members_of}
 use Rattle.order_runs.proofs.RunSteps.SpansForgotten.{first_or, rest_of}

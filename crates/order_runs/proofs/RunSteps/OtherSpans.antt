@@ -12,11 +12,11 @@ use Rattle.pkg_graph.specs.Package.{SourceTree, specs_in, import_specs}
 use Rattle.pkg_graph.specs.Members.{package_name, name_or}
 use Rattle.pkg_graph.specs.Graph.{files_import, imports_of}
 use Rattle.pkg_graph.specs.Order.{has_path, is_placed}
-use Rattle.go_types.specs.Programs.{Import, SourceFile}
+use Rattle.go_tree.specs.GoTypes.Programs.{Import, SourceFile}
 use Rattle.go_translation.specs.Packages.{Package}
 use Rattle.run_rules.specs.Programs.{numbered, numbered_from, number_from, is_ready, lesser, least_ready, ordered_after, in_dependency_order, linked_import, linked_file, linked_package}
 use Rattle.run_rules.specs.Respanned.{name_with, import_spec_with, import_decl_with, decls_with, source_with, package_with, packages_with}
-use Rattle.cycle_laws.proofs.BareWith as spans
+use Rattle.order_runs.proofs.CycleLaws.BareWith as spans
 use Rattle.order_runs.specs.RunSteps.Bared.{bare_import, bare_source, bare_members}
 use Rattle.order_runs.specs.RunSteps.RunPackages.{with_path, members_among, members_of}
 use Rattle.order_runs.proofs.RunSteps.HeadersBared.{map-both}

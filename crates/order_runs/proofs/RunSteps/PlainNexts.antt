@@ -18,24 +18,24 @@ use Rattle.run_rules.specs.Sites.{MarkRef, Site, part_span}
 use Rattle.run_rules.specs.Naming.{imports_added, unnamed_package}
 use Rattle.run_rules.specs.Steps.{At, same_here, change_nth, new_decls, added_decls, file_between, packages_between}
 use Rattle.run_rules.specs.Run.{Standing, Logged, Next, here_of, origin_of, is_commented}
-use Rattle.run_laws.proofs.FoundSpans.{Placed}
-use Rattle.import_splices.specs.FormSplices.Laws.{MakesForm}
-use Rattle.import_splices.proofs.FormSplices.FormsFound.{step-makes-form}
-use Rattle.constant_steps.specs.StepLaws.ConstantSteps.{ConstantStep}
-use Rattle.constant_steps.specs.StepLaws.ConstantSwaps.{ConstantSwaps}
-use Rattle.constant_steps.specs.StepLaws.SwapPrograms.{members_put}
-use Rattle.constant_steps.proofs.StepLaws.StepMeaning.{typed-after, distinct-before}
-use Rattle.constant_steps.proofs.StepLaws.StepSwaps.{swaps-when-typed}
-use Rattle.constant_steps.proofs.StepLaws.StepUses.{step-with-uses}
-use Rattle.constant_steps.proofs.StepLaws.SwapProgram.{constant-codes}
-use Rattle.cycle_runs.specs.StepCycles.PackagesAlike.{import_key}
-use Rattle.cycle_runs.proofs.StepCycles.StepAlike.{one-changed, both-changed, found-placed}
-use Rattle.cycle_laws.proofs.BareWith as spans
-use Rattle.constant_steps.specs.PlainUse.{AllTheUse, PlainUse, UseStands}
-use Rattle.constant_steps.proofs.PlainForms.{no_packages}
-use Rattle.constant_steps.proofs.PlainImports.{Distinct, distinct_sources, well, plain_imports}
-use Rattle.constant_steps.proofs.PlainLinked.{plain_linked}
-use Rattle.constant_steps.proofs.PlainSteps.{plain_swaps}
+use Rattle.splice_laws.proofs.RunLaws.FoundSpans.{Placed}
+use Rattle.splice_laws.specs.ImportSplices.FormSplices.Laws.{MakesForm}
+use Rattle.splice_laws.proofs.ImportSplices.FormSplices.FormsFound.{step-makes-form}
+use Rattle.splice_laws.specs.ConstantSteps.StepLaws.ConstantSteps.{ConstantStep}
+use Rattle.splice_laws.specs.ConstantSteps.StepLaws.ConstantSwaps.{ConstantSwaps}
+use Rattle.splice_laws.specs.ConstantSteps.StepLaws.SwapPrograms.{members_put}
+use Rattle.splice_laws.proofs.ConstantSteps.StepLaws.StepMeaning.{typed-after, distinct-before}
+use Rattle.splice_laws.proofs.ConstantSteps.StepLaws.StepSwaps.{swaps-when-typed}
+use Rattle.splice_laws.proofs.ConstantSteps.StepLaws.StepUses.{step-with-uses}
+use Rattle.splice_laws.proofs.ConstantSteps.StepLaws.SwapProgram.{constant-codes}
+use Rattle.order_runs.specs.CycleRuns.StepCycles.PackagesAlike.{import_key}
+use Rattle.order_runs.proofs.CycleRuns.StepCycles.StepAlike.{one-changed, both-changed, found-placed}
+use Rattle.order_runs.proofs.CycleLaws.BareWith as spans
+use Rattle.splice_laws.specs.ConstantSteps.PlainUse.{AllTheUse, PlainUse, UseStands}
+use Rattle.splice_laws.proofs.ConstantSteps.PlainForms.{no_packages}
+use Rattle.splice_laws.proofs.ConstantSteps.PlainImports.{Distinct, distinct_sources, well, plain_imports}
+use Rattle.splice_laws.proofs.ConstantSteps.PlainLinked.{plain_linked}
+use Rattle.splice_laws.proofs.ConstantSteps.PlainSteps.{plain_swaps}
 use Rattle.order_runs.specs.RunSteps.Bared.{bare_package, bare_members}
 use Rattle.order_runs.specs.RunSteps.RunPackages.{members_of, packages_of}
 use Rattle.order_runs.specs.RunSteps.SameCode.{SameCode}

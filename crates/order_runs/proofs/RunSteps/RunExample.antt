@@ -8,9 +8,9 @@ use Rattle.std.proofs.lemmas.Option.{same_Some}
 use Rattle.go_tree.specs.declared.exprs.Rest.TheVariants.{Plain}
 use Rattle.go_tree.specs.Tree.{ident, int_lit, call, no_exprs, expr_and, const_decl, eval, no_stmts, stmt_and, no_specs, spec}
 use Rattle.go_tree.specs.File.{File, values}
-use Rattle.go_words.specs.Tokens.{TokensOf, tokens_from, comments_from}
-use Rattle.go_words.specs.Tokens.Characters.{is_letter, is_digit}
-use Rattle.go_words.specs.Tokens.Pieces.{keyword_spellings}
+use Rattle.go_tree.specs.GoWords.Tokens.{TokensOf, tokens_from, comments_from}
+use Rattle.go_tree.specs.GoWords.Tokens.Characters.{is_letter, is_digit}
+use Rattle.go_tree.specs.GoWords.Tokens.Pieces.{keyword_spellings}
 use Rattle.go_scan.specs.Automaton.{next_of, longest_from}
 use Rattle.go_scan.specs.Pieces.{piece_of, lexeme_of}
 use Rattle.go_read.proofs.Texts.{reading}
@@ -31,9 +31,9 @@ use Rattle.run_rules.proofs.Instances.{stands_after, log_entry, next_by}
 use Rattle.run_rules.proofs.ModulesRead.{folder, small_module}
 use Rattle.run_rules.proofs.RunsOfConstants.{one_constant, one_constant_t0, one_constant_new, one_constant_run}
 use Rattle.run_rules.proofs.TokensFound.{tokens_by}
-use Rattle.constant_steps.specs.Alone.{no_constants, and_constant, constants_alone, no_decls, and_decl, no_files, and_file}
-use Rattle.constant_steps.specs.Alone as alone
-use Rattle.constant_steps.specs.PlainUse.{AllSimple}
+use Rattle.splice_laws.specs.ConstantSteps.Alone.{no_constants, and_constant, constants_alone, no_decls, and_decl, no_files, and_file}
+use Rattle.splice_laws.specs.ConstantSteps.Alone as alone
+use Rattle.splice_laws.specs.ConstantSteps.PlainUse.{AllSimple}
 use Rattle.order_runs.specs.RunSteps.RunPackages.{packages_of}
 use Rattle.order_runs.specs.RunSteps.PlainNext.{IsPlain, AllPlain}
 use Rattle.order_runs.proofs.RunSteps.PlainRuns.{module-means}

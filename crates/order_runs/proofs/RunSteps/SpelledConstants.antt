@@ -8,16 +8,16 @@ use Rattle.std.proofs.lemmas.Str.{encodes-chars}
 use Rattle.go_tree.specs.declared.spans.Span.{Span}
 use Rattle.go_tree.specs.Tree.{NameAt, Expr, ident, Exprs, no_exprs, expr_and, const_decl, var_decl, empty, eval, step, assign, define, return_, break_, continue_, inner, if_, for_, range_, switch, defer, label, ValueSpecs, no_specs, spec}
 use Rattle.go_tree.specs.File.{Decl, values, types, func, File}
-use Rattle.go_words.specs.Tokens.Characters.{is_letter, is_word, each}
-use Rattle.go_words.specs.Tokens.Pieces.{is_identifier}
-use Rattle.go_words.specs.Terminals.{lex}
+use Rattle.go_tree.specs.GoWords.Tokens.Characters.{is_letter, is_word, each}
+use Rattle.go_tree.specs.GoWords.Tokens.Pieces.{is_identifier}
+use Rattle.go_tree.specs.GoWords.Terminals.{lex}
 use Rattle.go_scan.proofs.LetterLemmas.{letter_ascii}
 use Rattle.go_read.specs.SpellsTypes.{Lexemes}
 use Rattle.go_read.specs.SpellsSpans.{span_to}
 use Rattle.go_read.specs.Spells.{const_rule}
 use Rattle.go_read.specs.SpellsFiles.{SpellsTop, SpellsTops, SpellsFront, top_const_rule, top_var_rule, top_type_rule, top_type_group_rule, top_func_rule, top_method_rule, no_tops_rule, more_tops_rule, front_rule}
 use Rattle.go_read.proofs.Suffixes.{Suffix, whole, after, imports_suffix, top_suffix}
-use Rattle.go_types.specs.Answers.{given}
+use Rattle.go_tree.specs.GoTypes.Answers.{given}
 use Rattle.layout_laws.specs.Formed.{IsName, FormedExpr, FormedExprs, FormedSpecs}
 use Rattle.layout_laws.specs.Real.{AreReal}
 use Rattle.layout_laws.proofs.FormedTrees.{stmt_formed}
@@ -27,8 +27,8 @@ use Rattle.run_rules.specs.Sites.{MarkRef, Inlinable, a_constant, an_alias, cons
 use Rattle.run_rules.specs.Naming.{unnamed_package}
 use Rattle.run_rules.specs.Steps.{At}
 use Rattle.run_rules.specs.Run.{Standing, here_of}
-use Rattle.run_laws.specs.Reading.{FileReads, ProgramReads}
-use Rattle.constant_steps.proofs.MarksFound.{DeclaredThere, declared_there, StandsThere, stands_there}
+use Rattle.splice_laws.specs.RunLaws.Reading.{FileReads, ProgramReads}
+use Rattle.splice_laws.proofs.ConstantSteps.MarksFound.{DeclaredThere, declared_there, StandsThere, stands_there}
 
 -- ---- an identifier begins with no byte 0
 

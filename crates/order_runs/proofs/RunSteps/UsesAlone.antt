@@ -5,7 +5,7 @@ use Rattle.std.proofs.lemmas.Option.{same_Some}
 use Rattle.go_tree.specs.declared.spans.Span.{Span}
 use Rattle.go_tree.specs.Tree.{Expr, ident, int_lit, rune_lit, str_lit, composite, selector, index, slice, call, func_lit, type_operand, unary, binary, star}
 use Rattle.go_tree.specs.File.{Decl}
-use Rattle.scope_names.specs.Scopes.{expr_span}
+use Rattle.go_tree.specs.ScopeNames.Scopes.{expr_span}
 use Rattle.import_rules.specs.Removed.{same_span}
 use Rattle.typed_in_place.proofs.Rising.{and_first, and_second}
 use Rattle.run_rules.specs.Surroundings.{Seen, seen, seen_type, seen_stmt}
@@ -15,13 +15,13 @@ use Rattle.run_rules.specs.Sites.{MarkRef, an_expr, Site, part_span}
 use Rattle.run_rules.specs.Forms.{is_at}
 use Rattle.run_rules.specs.Steps.{At, same_here}
 use Rattle.run_rules.specs.Run.{Standing, Logged, Next, here_of}
-use Rattle.run_laws.specs.Reading.{FileReads, FileAt, ProgramReads}
-use Rattle.run_laws.proofs.FoundSpans.{Placed}
-use Rattle.import_splices.specs.FormSplices.Laws.{MakesForm}
-use Rattle.import_splices.proofs.FormSplices.FormsFound.{step-makes-form}
-use Rattle.cycle_runs.proofs.StepCycles.StepAlike.{found-placed}
-use Rattle.constant_steps.specs.PlainUse.{AllTheUse}
-use Rattle.constant_steps.proofs.NamesOutside.{equal_numbers}
+use Rattle.splice_laws.specs.RunLaws.Reading.{FileReads, FileAt, ProgramReads}
+use Rattle.splice_laws.proofs.RunLaws.FoundSpans.{Placed}
+use Rattle.splice_laws.specs.ImportSplices.FormSplices.Laws.{MakesForm}
+use Rattle.splice_laws.proofs.ImportSplices.FormSplices.FormsFound.{step-makes-form}
+use Rattle.order_runs.proofs.CycleRuns.StepCycles.StepAlike.{found-placed}
+use Rattle.splice_laws.specs.ConstantSteps.PlainUse.{AllTheUse}
+use Rattle.splice_laws.proofs.ConstantSteps.NamesOutside.{equal_numbers}
 use Rattle.order_runs.proofs.RunSteps.SeatedUses.{Among, first, later, Seated, sites-seated}
 use Rattle.order_runs.proofs.RunSteps.TokenPlaces.{tokens-rise}
 use Rattle.order_runs.proofs.RunSteps.SpanPlaces.{DeclIn, DeclsIn}

@@ -1,14 +1,15 @@
 -- Packages of the same declarations under other imports of their files (Go specification, Import declarations;
 -- Qualified identifiers; Declarations and scope).
-use Rattle.std.specs.Prelude.{◌≡◌, ℕ, true, List, [], ◌∷◌, ◌++◌, Option, Some, None, if◌then◌else◌, bytes_eq, slice_get}
+use Rattle.std.specs.Prelude.{◌≡◌, ℕ, true, List, [], ◌∷◌, ◌++◌, Option, Some, None}
+use Rattle.std.specs.Prelude.{if◌then◌else◌, bytes_eq, slice_get}
 use Rattle.std.specs.List.{list_all}
 use Rattle.go_tree.specs.File.{Decl}
-use Rattle.go_types.specs.Agreement.{In}
-use Rattle.go_types.specs.Programs.{Import, SourceFile, headed}
-use Rattle.go_types.specs.Collect.{collected}
+use Rattle.go_tree.specs.GoTypes.Agreement.{In}
+use Rattle.go_tree.specs.GoTypes.Programs.{Import, SourceFile, headed}
+use Rattle.go_tree.specs.GoTypes.Collect.{collected}
 use Rattle.typed_in_place.specs.ImportRule.{package_imports}
 use Rattle.typed_in_place.specs.ProgramsAlike.{OneByOne}
-use Rattle.cycle_runs.specs.ImportCycles.LookedUp.{decl_looked_up}
+use Rattle.order_runs.specs.CycleRuns.ImportCycles.LookedUp.{decl_looked_up}
 use Rattle.go_translation.specs.Packages.{Package, sources, are_linked}
 
 module _ {S : Type 0} where

@@ -9,9 +9,9 @@ use Rattle.run_rules.specs.Sites.{MarkRef}
 use Rattle.run_rules.specs.FormTrees.{as_expr}
 use Rattle.run_rules.specs.Steps.{At, same_here}
 use Rattle.run_rules.specs.Run.{Standing, Logged, Next, is_commented}
-use Rattle.cycle_runs.specs.ImportCycles.ImportSteps.{packages_added}
-use Rattle.cycle_runs.specs.OrderCycles.Steps.{site_added, KeepsImportLookUps}
-use Rattle.constant_steps.specs.QualifiedSteps.NamedUse.{NamedUse, NamedUseStands}
+use Rattle.order_runs.specs.CycleRuns.ImportCycles.ImportSteps.{packages_added}
+use Rattle.order_runs.specs.CycleRuns.OrderCycles.Steps.{site_added, KeepsImportLookUps}
+use Rattle.splice_laws.specs.ConstantSteps.QualifiedSteps.NamedUse.{NamedUse, NamedUseStands}
 use Rattle.order_runs.specs.RunSteps.RunPackages.{members_of, packages_of}
 use Rattle.order_runs.specs.ImportCodes.PackagesMoved.{ImportsStand}
 use Rattle.order_runs.specs.ImportSteps.ImportingSteps.{MayBeDeclared}

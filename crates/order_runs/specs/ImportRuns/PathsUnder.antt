@@ -3,7 +3,7 @@
 use Rattle.std.specs.Prelude.{◌≡◌, List}
 use Rattle.pkg_graph.specs.Package.{Package}
 use Rattle.typed_in_place.specs.ProgramsAlike.{OneByOne}
-use Rattle.cycle_runs.specs.ImportCycles.OtherImports.{FileUnder}
+use Rattle.order_runs.specs.CycleRuns.ImportCycles.OtherImports.{FileUnder}
 
 module _ {S : Type 0} where
   -- two packages with the same path and name, in whose files the same declarations stand, and each name that these look

@@ -2,14 +2,14 @@
 -- some that nothing needs (Go specification, Constant declarations; Qualified identifiers; Import declarations).
 use Rattle.std.specs.Prelude.{◌≡◌, ℕ, Bool, true, List, [], map}
 use Rattle.pkg_graph.specs.Package as run
-use Rattle.go_types.specs.Programs.{block_names}
+use Rattle.go_tree.specs.GoTypes.Programs.{block_names}
 use Rattle.go_translation.specs.Packages.{Package, sources}
 use Rattle.go_translation.specs.SameMeaning.{Packages, WellTyped, with_further}
 use Rattle.typed_in_place.specs.ImportRule.{imports_sound}
 use Rattle.run_rules.specs.Programs.{linked_file, linked_imports}
 use Rattle.run_rules.specs.Sites.{MarkRef, Where, Site}
-use Rattle.constant_steps.specs.QualifiedSteps.NamedUse.{NamedUse, NamedUseStands, PackagesStand}
-use Rattle.constant_steps.specs.QualifiedSteps.NamedRuns.{named_members}
+use Rattle.splice_laws.specs.ConstantSteps.QualifiedSteps.NamedUse.{NamedUse, NamedUseStands, PackagesStand}
+use Rattle.splice_laws.specs.ConstantSteps.QualifiedSteps.NamedRuns.{named_members}
 use Rattle.order_runs.specs.RunSteps.Bared.{bare_members}
 use Rattle.order_runs.specs.ImportCodes.PackagesMoved.{PackagesMoved, ImportsStand}
 
@@ -20,9 +20,9 @@ MayBeDeclared rs w =
 
 module _ {S : Type 0} (same : S → S → Bool) where
   -- A step of a run between these packages. In `added` the file of the use has the imports that the form needs; there
-  -- the form is put in the use's place; in `read` the same declarations have other spans, as the file is read again; and
-  -- last the imports go that nothing needs. Each name that is looked up is all the time that of the same package, or of
-  -- none.
+  -- the form is put in the use's place; in `read` the same declarations have other spans, as the file is read again;
+  -- and last the imports go that nothing needs. Each name that is looked up is all the time that of the same package,
+  -- or of none.
   pub record ImportingStep (P P' : Packages S) : Type 0 where
     pub commented : ℕ → ℕ → S → Bool
     pub packages : List (run.Package S)

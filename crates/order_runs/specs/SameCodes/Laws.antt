@@ -3,15 +3,16 @@
 use Rattle.std.specs.Prelude.{◌≡◌, ℕ, true, List}
 use Rattle.go_tree.specs.declared.spans.Span.{Span}
 use Rattle.go_tree.specs.Tree.{Expr, Stmts}
-use Rattle.go_types.specs.Types.{GoType}
-use Rattle.go_types.specs.Entities.{World, Env}
-use Rattle.go_types.specs.Programs.{Program}
-use Rattle.go_types.specs.WellTyped.{well_typed}
+use Rattle.go_tree.specs.GoTypes.Types.{GoType}
+use Rattle.go_tree.specs.GoTypes.Entities.{World, Env}
+use Rattle.go_tree.specs.GoTypes.Programs.{Program}
+use Rattle.go_tree.specs.GoTypes.WellTyped.{well_typed}
 use Rattle.go_kernel.specs.Kernel.{ImportPath}
 use Rattle.go_translation.specs.Mentions.{mentions_stmts}
 use Rattle.go_translation.specs.Here.{Here}
 use Rattle.go_translation.specs.Translation.{expr_term, stmts_term}
-use Rattle.go_translation.specs.Packages.{Package, package_code, codes_of, program_of, initial_of, are_distinct, shown_by}
+use Rattle.go_translation.specs.Packages.{Package, package_code, codes_of, program_of, initial_of, are_distinct}
+use Rattle.go_translation.specs.Packages.{shown_by}
 use Rattle.typed_in_place.specs.SameWorlds.SameWorlds.{at, SameWorld, Reordered}
 use Rattle.order_runs.specs.SameCodes.SamePaths.{hat, SamePaths}
 use Rattle.order_runs.specs.SameCodes.Orders.{PackagesReordered}

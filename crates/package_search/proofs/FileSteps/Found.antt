@@ -3,7 +3,7 @@ use Rattle.std.proofs.Common.{◌≡◌, ◌∙◌, sym, ap, ℕ, ◌+◌, ◌<�
 use Rattle.std.proofs.lemmas.List.{at_drop_more, at_drop_all}
 use Rattle.go_tree.specs.declared.spans.Span.{Span}
 use Rattle.go_tree.specs.Tree.{Expr}
-use Rattle.go_types.specs.Answers.{one_of}
+use Rattle.go_tree.specs.GoTypes.Answers.{one_of}
 use Rattle.possible_uses.specs.declared.parts.PartRef.{PartRef}
 use Rattle.possible_uses.specs.Views.{part_of}
 use Rattle.package_search.specs.FileSteps.Used.{part_at, first_at}

@@ -2,7 +2,7 @@
 use Rattle.std.proofs.Common.{◌≡◌, ◌∙◌, refl, sym, ap, subst, ℕ, ◌+◌, ◌<◌, ◌≤◌, Bool, true, false, ◌&&◌, ◌||◌, nat_eq, List, [], ◌∷◌, ◌++◌, length, take, get_or, eq-eqb}
 use Rattle.std.proofs.lemmas.List.{take_more, take_all}
 use Rattle.module_marks.specs.Views.{mark_ref_of}
-use Rattle.mark_values.specs.Tables.{DeclKey, key_of, same_key}
+use Rattle.use_search.specs.MarkValues.Tables.{DeclKey, key_of, same_key}
 use Rattle.use_search.specs.declared.search.FoundObstacle.{FoundObstacle}
 use Rattle.programs.specs.Users.{Known, FileKey, is_user, same_file, AreItsUses}
 use Rattle.package_search.specs.SearchedPrograms.Search.{Keeps}

@@ -26,7 +26,8 @@ use Rattle.next_file.specs.Files.{IsFault}
 use Rattle.use_search.specs.declared.views.FileView.{FileView}
 use Rattle.package_search.specs.FileSteps.Used.{first_at}
 
--- These are the specs that the step leaves unused, where the use is one of the parts and the code is told what they use.
+-- These are the specs that the step leaves unused, where the use is one of the parts and the code is told what they
+-- use.
 abbrev pub MakesUnused : FileView → List (Candidate Span) → ConstantForm → List Span → Type 0
 MakesUnused v parts form specs =
     (marks : List MarkRef) (st : Standing) (f : Found At) (e : Expr Span) → first_at form.span parts ≡ Some e

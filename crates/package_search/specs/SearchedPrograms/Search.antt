@@ -3,7 +3,7 @@
 use Rattle.std.specs.Prelude.{◌≡◌, ◌⊎◌, ℕ, true, Bool, List, length, Option, None}
 use Rattle.go_scan.specs.TokenLists.{TokenLists}
 use Rattle.pkg_graph.specs.declared.packages.Package.{Package}
-use Rattle.mark_values.specs.Tables.{DeclKey}
+use Rattle.use_search.specs.MarkValues.Tables.{DeclKey}
 use Rattle.package_search.specs.declared.looks.FileLook.{FileLook}
 use Rattle.package_search.specs.declared.looks.ProgramSources.{ProgramSources}
 use Rattle.package_search.specs.declared.search.FoundInPackage.{FoundInPackage}

@@ -5,7 +5,8 @@ ghost use Rattle.std.specs.Option.{option_map};
 ghost use Rattle.go_tree.specs.View.{expr_of};
 ghost use Rattle.import_rules.specs.Removed.{same_span as spec_same_span};
 ghost use Rattle.possible_uses.specs.Views.{part_of};
-ghost use Rattle.package_search.specs.FileSteps.Used.{first_at, is_named_at as spec_is_named_at, part_at as spec_part_at};
+ghost use Rattle.package_search.specs.FileSteps.Used.{first_at, is_named_at as spec_is_named_at};
+ghost use Rattle.package_search.specs.FileSteps.Used.{part_at as spec_part_at};
 
 use go_tree::{Expr, Span};
 use possible_uses::PartRef;

@@ -11,9 +11,9 @@ use file_names::{block_members, member_names};
 use file_tables::FileTables;
 use go_scan::Tokens;
 use go_tree::NoMemory;
+use go_tree::scope_names::FileNames;
 use pkg_graph::Package;
 use programs::Users;
-use scope_names::FileNames;
 use std::alloc::Global;
 use use_search::FoundObstacle;
 

@@ -1,7 +1,8 @@
 //! A package of a program.
 
 ghost use Rattle.std.specs.Prelude.{◌<◌, IfOk, length};
-ghost use Rattle.package_search.specs.SearchedPrograms.Programs.{IsOpen, IsOpenProgram, IsProgramSearch, IsPackagesSearch};
+ghost use Rattle.package_search.specs.SearchedPrograms.Programs.{IsOpen, IsOpenProgram, IsProgramSearch};
+ghost use Rattle.package_search.specs.SearchedPrograms.Programs.{IsPackagesSearch};
 
 use crate::searched_programs::files::search_files;
 use crate::{FoundInPackage, ProgramSources};

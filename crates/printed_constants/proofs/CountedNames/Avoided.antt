@@ -6,15 +6,15 @@ use Rattle.std.proofs.lemmas.List.{length-map}
 use Rattle.go_tree.specs.declared.spans.Span.{Span}
 use Rattle.go_tree.specs.Tree.{NameAt, Expr, ident, selector, no_exprs, expr_and, ValueSpecs}
 use Rattle.go_tree.specs.File.{ImportSpec, Receiver, Decl, File}
-use Rattle.go_words.specs.Tokens.Pieces.{keyword_spellings}
-use Rattle.scope_names.specs.Identifiers.{exprs_identifiers, specs_identifiers, imports_identifiers, receiver_identifiers, sig_identifiers, stmts_identifiers, decl_identifiers, decls_identifiers, identifiers}
-use Rattle.scope_names.specs.Means.{is_blank, predeclared}
-use Rattle.scope_names.specs.declared.names.ImportName.{ImportName}
+use Rattle.go_tree.specs.GoWords.Tokens.Pieces.{keyword_spellings}
+use Rattle.go_tree.specs.ScopeNames.Identifiers.{exprs_identifiers, specs_identifiers, imports_identifiers, receiver_identifiers, sig_identifiers, stmts_identifiers, decl_identifiers, decls_identifiers, identifiers}
+use Rattle.go_tree.specs.ScopeNames.Means.{is_blank, predeclared}
+use Rattle.go_tree.specs.declared.scope_names.names.ImportName.{ImportName}
 use Rattle.pkg_graph.specs.Package.{SourceTree, Package, import_specs}
 use Rattle.pkg_graph.specs.Members.{member, import_name, specs_names, unless_method, block_names, items_from, decls_from, files_from, package_block}
 use Rattle.pkg_graph.specs.Reads.{Source}
 use Rattle.import_rules.specs.Needs.{avoided}
-use Rattle.go_types.specs.Answers.{given, otherwise}
+use Rattle.go_tree.specs.GoTypes.Answers.{given, otherwise}
 use Rattle.run_rules.specs.FormTrees.{ConstForm, Form, as_expr, form_identifiers, outside_changes}
 use Rattle.run_rules.specs.Naming.{Names, unnamed, no_span, unnamed_package, new_first, unnamed_in, name_added, named_package, named_packages, names_here, member_qualifier, fuel_for}
 use Rattle.run_rules.specs.Places.{expr_seen}
@@ -27,23 +27,23 @@ use Rattle.run_rules.specs.Sites.{MarkRef, Where, Inlinable, a_constant, part_sp
 use Rattle.run_rules.specs.Steps.{At, same_here, Found}
 use Rattle.run_rules.specs.Surroundings.{other, Place, inner_slot, in_slot}
 use Rattle.run_rules.specs.Texts.{FileText}
-use Rattle.run_laws.specs.Reading.{FileReads, FileAt, ProgramReads, OnePathEach}
-use Rattle.run_laws.proofs.FoundSpans.{Placed}
+use Rattle.splice_laws.specs.RunLaws.Reading.{FileReads, FileAt, ProgramReads, OnePathEach}
+use Rattle.splice_laws.proofs.RunLaws.FoundSpans.{Placed}
 use Rattle.go_read.specs.SpellsWeight.{weights_of}
-use Rattle.form_imports.specs.ImportLaws.Steps.{names_standing, binders_in, binders_of}
-use Rattle.form_imports.proofs.ImportLaws.IdentifiersWith.{identifiers-with}
-use Rattle.import_splices.specs.FormSplices.Laws.{MakesForm}
-use Rattle.import_splices.proofs.FormSplices.FormsFound.{step-makes-form}
+use Rattle.splice_laws.specs.FormImports.ImportLaws.Steps.{names_standing, binders_in, binders_of}
+use Rattle.splice_laws.proofs.FormImports.ImportLaws.IdentifiersWith.{identifiers-with}
+use Rattle.splice_laws.specs.ImportSplices.FormSplices.Laws.{MakesForm}
+use Rattle.splice_laws.proofs.ImportSplices.FormSplices.FormsFound.{step-makes-form}
 use Rattle.order_runs.proofs.RunSteps.SeatedUses.{Seated}
-use Rattle.cycle_runs.specs.OrderCycles.NewNames.{FewNames}
-use Rattle.cycle_runs.proofs.ImportCycles.ImportStep.{placed}
+use Rattle.order_runs.specs.CycleRuns.OrderCycles.NewNames.{FewNames}
+use Rattle.order_runs.proofs.CycleRuns.ImportCycles.ImportStep.{placed}
 use Rattle.put_names.specs.Uses.{IsDeclaredAsName, as_name, as_member, UsesConstant}
 use Rattle.put_names.proofs.Forms.{IsFormBy, by_obstacle, reduced_is}
-use Rattle.marked_runs.specs.NamedMarks.Named.{IsNamedConstant, AllNamed}
-use Rattle.marked_runs.specs.PutForms.Uses.{IsFirstUse, UsesNamedConstant}
-use Rattle.marked_runs.proofs.PutForms.FirstUses as first
-use Rattle.marked_runs.proofs.PutForms.FirstUses.{makes, seated}
-use Rattle.marked_runs.proofs.NamedMarks.Used.{of-expr, named-used}
+use Rattle.typed_parts.specs.MarkedRuns.NamedMarks.Named.{IsNamedConstant, AllNamed}
+use Rattle.typed_parts.specs.MarkedRuns.PutForms.Uses.{IsFirstUse, UsesNamedConstant}
+use Rattle.typed_parts.proofs.MarkedRuns.PutForms.FirstUses as first
+use Rattle.typed_parts.proofs.MarkedRuns.PutForms.FirstUses.{makes, seated}
+use Rattle.typed_parts.proofs.MarkedRuns.NamedMarks.Used.{of-expr, named-used}
 use Rattle.printed_constants.specs.Printed.{FlatConstants, no_constants, and_constant, IsPrinted, some_constants, a_function, ArePrinted}
 use Rattle.printed_constants.proofs.CountedNames.Counted.{names_few}
 use Rattle.printed_constants.proofs.CountedNames.Specs.{specs_few, as_many_specs}

@@ -7,13 +7,13 @@ use Rattle.go_tree.specs.declared.spans.Span.{Span}
 use Rattle.go_tree.specs.declared.tokens.Token.{Token}
 use Rattle.go_tree.specs.Tree.{NameAt, Param, Sig, Expr, Exprs, no_exprs, expr_and, eval, Stmts, ValueSpecs}
 use Rattle.go_tree.specs.File.{ImportSpec, ImportDecl, Decl, File}
-use Rattle.go_words.specs.Terminals.{lexemes}
+use Rattle.go_tree.specs.GoWords.Terminals.{lexemes}
 use Rattle.go_read.specs.Spells.{SpellsBare, SpellsExpr, SpellsOperand, SpellsExprs, SpellsArgs, SpellsStmt, SpellsStmts, SpellsDecl, SpellsSpecs, SpellsSpec, ident_rule, int_rule, selector_rule, call_rule, bare_rule, parens_rule, operand_rule, last_expr_rule, more_exprs_rule, no_args_rule, args_rule, comma_args_rule, eval_rule, simple_rule, no_stmts_rule, last_stmt_rule, more_stmts_rule, braces_rule, single_rule, group_rule, no_specs_rule, last_spec_rule, more_specs_rule, values_rule}
 use Rattle.go_read.specs.SpellsFiles.{SpellsImportSpec, SpellsImportSpecs, SpellsImport, SpellsImports, SpellsTop, SpellsTops, SpellsFront, SpellsFile, path_rule, named_path_rule, no_import_specs_rule, last_import_spec_rule, more_import_specs_rule, import_rule, import_group_rule, no_imports_rule, more_imports_rule, top_const_rule, top_func_rule, top_method_rule, no_tops_rule, more_tops_rule, front_rule}
 use Rattle.go_read.specs.SpellsSpans.{span_to}
 use Rattle.go_read.specs.SpellsTypes.{Lexemes, SpellsSig, SpellsNames, last_name_rule, more_names_rule}
-use Rattle.scope_names.specs.FreeNames.{names_of}
-use Rattle.scope_names.specs.Identifiers.{expr_identifiers, exprs_identifiers, stmts_identifiers, specs_identifiers, import_specs_identifiers, imports_identifiers, params_identifiers, sig_identifiers, decl_identifiers, decls_identifiers, name_option, identifiers}
+use Rattle.go_tree.specs.ScopeNames.FreeNames.{names_of}
+use Rattle.go_tree.specs.ScopeNames.Identifiers.{expr_identifiers, exprs_identifiers, stmts_identifiers, specs_identifiers, import_specs_identifiers, imports_identifiers, params_identifiers, sig_identifiers, decl_identifiers, decls_identifiers, name_option, identifiers}
 use Rattle.splice_laws.proofs.Grafts.{Within, here, later}
 use Rattle.splice_laws.proofs.Pasts.{sig_past}
 use Rattle.printed_constants.specs.Printed.{IsFlat, a_name, a_number, a_selection, AllFlat, no_operands, and_operand, IsPrint, an_operand, a_call, PrintStmts, no_prints, and_print, FlatConstants, no_constants, and_constant, IsPrinted, some_constants, a_function}

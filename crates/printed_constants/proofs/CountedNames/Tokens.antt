@@ -4,9 +4,9 @@ use Rattle.std.proofs.lemmas.Str.{encodes-append}
 use Rattle.std.proofs.Math.Utf8.{encode}
 use Rattle.go_tree.specs.declared.tokens.Token.{Token}
 use Rattle.go_tree.specs.declared.tokens.Comment.{Comment}
-use Rattle.go_words.specs.Tokens.{TokensOf, ends_line, inserted, tokens_at, tokens_from, due_after, size_of, pieces_size, after_mark, mark_size}
-use Rattle.go_words.specs.Tokens.Characters.{byte_order_mark, is_listed}
-use Rattle.go_words.specs.Tokens.Pieces.{PieceKind, blanks, remark, token, Piece, IsPiece, CutsTo}
+use Rattle.go_tree.specs.GoWords.Tokens.{TokensOf, ends_line, inserted, tokens_at, tokens_from, due_after, size_of, pieces_size, after_mark, mark_size}
+use Rattle.go_tree.specs.GoWords.Tokens.Characters.{byte_order_mark, is_listed}
+use Rattle.go_tree.specs.GoWords.Tokens.Pieces.{PieceKind, blanks, remark, token, Piece, IsPiece, CutsTo}
 use Rattle.splice_laws.proofs.Rises.{piece_size}
 
 one_inserted : (due : Option ℕ) → length (inserted due) ≤ 1

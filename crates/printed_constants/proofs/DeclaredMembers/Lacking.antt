@@ -7,16 +7,16 @@ use Rattle.std.proofs.lemmas.Slice.Eq.{bytes_eq-Decides}
 use Rattle.go_tree.specs.declared.spans.Span.{Span}
 use Rattle.go_tree.specs.Tree.{NameAt}
 use Rattle.go_tree.specs.File.{ImportSpec, Decl}
-use Rattle.scope_names.specs.Means as names
-use Rattle.scope_names.specs.Means.{Environment, means, is_blank, binding, numbered, or_else}
+use Rattle.go_tree.specs.ScopeNames.Means as names
+use Rattle.go_tree.specs.ScopeNames.Means.{Environment, means, is_blank, binding, numbered, or_else}
 use Rattle.pkg_graph.specs.Package.{SourceTree, Package, import_specs}
 use Rattle.pkg_graph.specs.Members.{Target, local, imported, member, predeclared, import_name, block_names, items_from, decls_from, files_from, package_block}
-use Rattle.go_types.specs.Answers.{given, is_among}
-use Rattle.go_types.specs.Entities.{Entity, refused, universe, World, Binds, block_of}
-use Rattle.go_types.specs.Statements.{bind_each, bound_names}
-use Rattle.go_types.specs.Programs as source
-use Rattle.go_types.specs.Programs.{Headed, Program, headed, header_names, import_entity, import_sound, file_block}
-use Rattle.go_types.specs.Collect.{declared_by, binds_or_refused, block_by, types_declared, valued_world}
+use Rattle.go_tree.specs.GoTypes.Answers.{given, is_among}
+use Rattle.go_tree.specs.GoTypes.Entities.{Entity, refused, universe, World, Binds, block_of}
+use Rattle.go_tree.specs.GoTypes.Statements.{bind_each, bound_names}
+use Rattle.go_tree.specs.GoTypes.Programs as source
+use Rattle.go_tree.specs.GoTypes.Programs.{Headed, Program, headed, header_names, import_entity, import_sound, file_block}
+use Rattle.go_tree.specs.GoTypes.Collect.{declared_by, binds_or_refused, block_by, types_declared, valued_world}
 use Rattle.typed_in_place.specs.Aliases.{at_last}
 use Rattle.typed_in_place.specs.Declared.{HasNumber}
 use Rattle.typed_in_place.specs.Known.{BlockClearer, end_of_block, was_refused, was_known}
@@ -24,13 +24,13 @@ use Rattle.typed_in_place.proofs.Blocks.{Fits}
 use Rattle.typed_in_place.proofs.Collected.{valued_settled}
 use Rattle.typed_in_place.proofs.Headers.{value_phase}
 use Rattle.typed_in_place.proofs.SettledNames.{block_of_package}
-use Rattle.written_literal.proofs.NamesMeant.{means_join}
-use Rattle.constant_steps.specs.Alone.{PackageAt}
-use Rattle.constant_steps.specs.PlainUse.{linked_at}
-use Rattle.constant_steps.proofs.FirstNames.{other_name}
-use Rattle.constant_steps.proofs.NamesOutside.{linked_block}
-use Rattle.constant_steps.proofs.PlainImports.{Distinct}
-use Rattle.constant_steps.proofs.QualifiedSteps.UsesMeant.{has_number}
+use Rattle.splice_laws.proofs.WrittenLiteral.NamesMeant.{means_join}
+use Rattle.splice_laws.specs.ConstantSteps.Alone.{PackageAt}
+use Rattle.splice_laws.specs.ConstantSteps.PlainUse.{linked_at}
+use Rattle.splice_laws.proofs.ConstantSteps.FirstNames.{other_name}
+use Rattle.splice_laws.proofs.ConstantSteps.NamesOutside.{linked_block}
+use Rattle.splice_laws.proofs.ConstantSteps.PlainImports.{Distinct}
+use Rattle.splice_laws.proofs.ConstantSteps.QualifiedSteps.UsesMeant.{has_number}
 use Rattle.alias_runs.specs.AliasSites.FirstAlias.{with_types}
 use Rattle.alias_runs.proofs.QualifiedAliases.Lacking.{world-lacks, program-lacks}
 use Rattle.run_rules.specs.Programs.{linked_file, linked_import, linked, world, imports_mean, top_env, package_number}

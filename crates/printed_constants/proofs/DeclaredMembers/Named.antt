@@ -3,19 +3,19 @@ use Rattle.std.proofs.Common.{◌≡◌, ◌∙◌, refl, sym, ap, subst, ℕ, t
 use Rattle.std.specs.Prelude.{slice_get}
 use Rattle.std.proofs.lemmas.Option.{same_Some}
 use Rattle.go_tree.specs.Tree.{NameAt, ident, int_lit, rune_lit, str_lit, composite, selector, index, slice, call, func_lit, type_operand, unary, binary, star}
-use Rattle.scope_names.specs.Means.{means}
+use Rattle.go_tree.specs.ScopeNames.Means.{means}
 use Rattle.pkg_graph.specs.Package.{Package}
 use Rattle.pkg_graph.specs.Members.{Target, local, imported, member, predeclared}
-use Rattle.go_types.specs.Entities.{Entity}
-use Rattle.go_types.specs.Operands.{Operand, named_operand}
-use Rattle.go_types.specs.WellTyped.{well_typed}
+use Rattle.go_tree.specs.GoTypes.Entities.{Entity}
+use Rattle.go_tree.specs.GoTypes.Operands.{Operand, named_operand}
+use Rattle.go_tree.specs.GoTypes.WellTyped.{well_typed}
 use Rattle.typed_in_place.proofs.Rising.{and_first, and_second}
 use Rattle.go_translation.specs.Packages.{sources, are_distinct, are_linked, are_well_typed}
-use Rattle.constant_steps.proofs.MarksFound.{StandsThere, stands_there, DeclaredThere, declared_there}
-use Rattle.constant_steps.proofs.PlainImports.{Distinct, distinct_sources}
+use Rattle.splice_laws.proofs.ConstantSteps.MarksFound.{StandsThere, stands_there, DeclaredThere, declared_there}
+use Rattle.splice_laws.proofs.ConstantSteps.PlainImports.{Distinct, distinct_sources}
 use Rattle.typed_parts.proofs.DottedImports.Imports.{no_operand}
 use Rattle.order_runs.proofs.ImportRuns.Listed.{among-order}
-use Rattle.cycle_runs.specs.OrderCycles.Orders.{AllOrdered}
+use Rattle.order_runs.specs.CycleRuns.OrderCycles.Orders.{AllOrdered}
 use Rattle.run_rules.specs.Programs.{in_dependency_order, linked, top_env}
 use Rattle.run_rules.specs.Sites.{MarkRef, Where, a_constant, where_is, inlinable, outer}
 use Rattle.run_rules.specs.Steps.{At}

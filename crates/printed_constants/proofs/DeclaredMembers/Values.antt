@@ -5,28 +5,28 @@ use mathlib.Core.Path.{ap, sym, subst}
 use Rattle.std.proofs.lemmas.Option.{same_Some}
 use Rattle.go_tree.specs.Tree.{NameAt, TypeExpr, Expr, Exprs, no_exprs, expr_and, const_decl, ValueSpecs, no_specs, spec}
 use Rattle.go_tree.specs.File.{TypeSpec, Decl, values, types, func}
-use Rattle.scope_names.specs.FreeNames.{names_of}
-use Rattle.scope_names.specs.Means.{Environment}
+use Rattle.go_tree.specs.ScopeNames.FreeNames.{names_of}
+use Rattle.go_tree.specs.ScopeNames.Means.{Environment}
 use Rattle.pkg_graph.specs.Package.{SourceTree, Package}
-use Rattle.go_types.specs.Answers.{given, both, only_if}
-use Rattle.go_types.specs.Types.{GoType}
-use Rattle.go_types.specs.Entities.{Entity, Env, Binds}
-use Rattle.go_types.specs.TypeNames.{written_type}
-use Rattle.go_types.specs.Operands.{Operand, all_typed}
-use Rattle.go_types.specs.Declarations.{bind_all, constant_entity}
-use Rattle.go_types.specs.Bodiless.{all_bodiless}
-use Rattle.go_types.specs.Typing.{parts, all_parts}
-use Rattle.go_types.specs.Programs.{Header, constants, SourcePackage, Program, headed, constant_headers, at_member, block_names, file_env, is_main}
-use Rattle.go_types.specs.Collect.{DeclaredTypes, types_declared, package_constants}
-use Rattle.go_types.specs.WellTyped.{well_typed}
-use Rattle.go_types.proofs.Agreeing.{from_both, from_only}
+use Rattle.go_tree.specs.GoTypes.Answers.{given, both, only_if}
+use Rattle.go_tree.specs.GoTypes.Types.{GoType}
+use Rattle.go_tree.specs.GoTypes.Entities.{Entity, Env, Binds}
+use Rattle.go_tree.specs.GoTypes.TypeNames.{written_type}
+use Rattle.go_tree.specs.GoTypes.Operands.{Operand, all_typed}
+use Rattle.go_tree.specs.GoTypes.Declarations.{bind_all, constant_entity}
+use Rattle.go_tree.specs.GoTypes.Bodiless.{all_bodiless}
+use Rattle.go_tree.specs.GoTypes.Typing.{parts, all_parts}
+use Rattle.go_tree.specs.GoTypes.Programs.{Header, constants, SourcePackage, Program, headed, constant_headers, at_member, block_names, file_env, is_main}
+use Rattle.go_tree.specs.GoTypes.Collect.{DeclaredTypes, types_declared, package_constants}
+use Rattle.go_tree.specs.GoTypes.WellTyped.{well_typed}
+use Rattle.go_tree.proofs.GoTypes.Agreeing.{from_both, from_only}
 use Rattle.typed_in_place.specs.ProgramReplaced.{All, all_and}
 use Rattle.typed_parts.proofs.Walk.{there_is}
-use Rattle.constant_steps.specs.StepLaws.DeclStands.{AtNth}
-use Rattle.constant_steps.specs.StepLaws.PartsTyped.{HeaderTyped}
-use Rattle.constant_steps.proofs.StepLaws.PartsTyped.{headers-typed, TypedThere, DeclIsTyped, FilesTyped, PackageIsTyped, of-packages}
-use Rattle.constant_steps.specs.Alone.{PackageAt, this_package, a_later_package}
-use Rattle.constant_steps.specs.PlainUse.{linked_at}
+use Rattle.splice_laws.specs.ConstantSteps.StepLaws.DeclStands.{AtNth}
+use Rattle.splice_laws.specs.ConstantSteps.StepLaws.PartsTyped.{HeaderTyped}
+use Rattle.splice_laws.proofs.ConstantSteps.StepLaws.PartsTyped.{headers-typed, TypedThere, DeclIsTyped, FilesTyped, PackageIsTyped, of-packages}
+use Rattle.splice_laws.specs.ConstantSteps.Alone.{PackageAt, this_package, a_later_package}
+use Rattle.splice_laws.specs.ConstantSteps.PlainUse.{linked_at}
 use Rattle.run_rules.specs.Programs.{linked_file, linked, world, imports_mean}
 use Rattle.run_rules.specs.Sites.{Where, Inlinable, a_constant, an_alias, constant_in_spec, less, nth_constant, aliased, inlinable_in}
 

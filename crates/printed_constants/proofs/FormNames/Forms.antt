@@ -4,16 +4,16 @@ use Rattle.std.specs.Prelude.{codes, decimal, slice_get}
 use Rattle.std.proofs.lemmas.List.{length-append}
 use Rattle.std.proofs.lemmas.Option.{same_Some}
 use Rattle.std.proofs.lemmas.Slice.Eq.{bytes_eq-Decides}
-use Rattle.go_words.specs.Tokens.Pieces.{is_among, keyword_spellings}
-use Rattle.scope_names.specs.declared.names.Entity.{Entity}
-use Rattle.scope_names.specs.declared.names.Entity.TheVariants as entity
-use Rattle.scope_names.specs.declared.names.ImportName.{ImportName}
-use Rattle.scope_names.specs.Fresh.{candidate}
-use Rattle.scope_names.specs.FreeNames.{names_of}
-use Rattle.scope_names.specs.Identifiers.{identifiers}
-use Rattle.scope_names.specs.Means.{Environment, means, is_blank, numbered, predeclared, outermost}
-use Rattle.scope_names.specs.Occurrences.{means_import}
-use Rattle.form_imports.specs.OwnNames.{AllOwn}
+use Rattle.go_tree.specs.GoWords.Tokens.Pieces.{is_among, keyword_spellings}
+use Rattle.go_tree.specs.declared.scope_names.names.Entity.{Entity}
+use Rattle.go_tree.specs.declared.scope_names.names.Entity.TheVariants as entity
+use Rattle.go_tree.specs.declared.scope_names.names.ImportName.{ImportName}
+use Rattle.go_tree.specs.ScopeNames.Fresh.{candidate}
+use Rattle.go_tree.specs.ScopeNames.FreeNames.{names_of}
+use Rattle.go_tree.specs.ScopeNames.Identifiers.{identifiers}
+use Rattle.go_tree.specs.ScopeNames.Means.{Environment, means, is_blank, numbered, predeclared, outermost}
+use Rattle.go_tree.specs.ScopeNames.Occurrences.{means_import}
+use Rattle.splice_laws.specs.FormImports.OwnNames.{AllOwn}
 use Rattle.import_rules.specs.SettledNames.{IsOwnName}
 use Rattle.import_rules.specs.Needs.{serves, serving_from, serving, avoided}
 use Rattle.pkg_graph.specs.Package.{Package}
@@ -24,9 +24,9 @@ use Rattle.run_rules.specs.Naming.{Named, no_span, fuel_for, fresh_name, names_b
 use Rattle.run_rules.specs.Steps.{At}
 use Rattle.run_rules.specs.Run.{Standing, Logged, Next, is_commented}
 use Rattle.run_rules.proofs.NamesFound.{found_is_fresh}
-use Rattle.form_imports.specs.ImportLaws.Steps.{binders_of}
-use Rattle.form_imports.proofs.ImportLaws.StepNames.{FoundWell, found_well}
-use Rattle.cycle_runs.specs.OrderCycles.NewNames.{FewNames}
+use Rattle.splice_laws.specs.FormImports.ImportLaws.Steps.{binders_of}
+use Rattle.splice_laws.proofs.FormImports.ImportLaws.StepNames.{FoundWell, found_well}
+use Rattle.order_runs.specs.CycleRuns.OrderCycles.NewNames.{FewNames}
 use Rattle.put_names.specs.WrittenNames.NamedPackages.{AreOfPackages}
 
 -- ---- `_` is the name of no import

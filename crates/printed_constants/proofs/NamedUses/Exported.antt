@@ -4,32 +4,32 @@ use Rattle.std.specs.Prelude.{bytes_eq}
 use Rattle.go_tree.specs.declared.exprs.Rest.TheVariants.{Plain}
 use Rattle.go_tree.specs.Tree.{NameAt, TypeExpr, Expr, ident, selector, call, Exprs, no_exprs, expr_and, eval, Stmts, ValueSpecs}
 use Rattle.go_tree.specs.File.{Func, Decl, func}
-use Rattle.scope_names.specs.FreeNames.{names_of}
-use Rattle.scope_names.specs.Means.{Environment, means}
+use Rattle.go_tree.specs.ScopeNames.FreeNames.{names_of}
+use Rattle.go_tree.specs.ScopeNames.Means.{Environment, means}
 use Rattle.pkg_graph.specs.Package.{Package}
 use Rattle.pkg_graph.specs.Members.{imported}
-use Rattle.go_types.specs.Answers.{given, both, only_if, otherwise, is_empty, distinct_by}
-use Rattle.go_types.specs.Bodies.{Ctx, body_binds, body_ctx, is_body}
-use Rattle.go_types.specs.Bodiless.{all_bodiless}
-use Rattle.go_types.specs.Collect.{DeclaredTypes, types_declared, package_constants}
-use Rattle.go_types.specs.Declarations.{Declared, no_names, bind_all, constant_entity, all_used}
-use Rattle.go_types.specs.Entities.{Entity, Env, Binds, meaning, package_of, exported, is_exported, extend, in_block, block_of, defined_in}
-use Rattle.go_types.specs.Jumps.{labels_in}
-use Rattle.go_types.specs.Operands.{Operand, all_typed, with_value, named_operand}
-use Rattle.go_types.specs.Primary.{selected, call_of}
-use Rattle.go_types.specs.Programs.{Header, constants, a_func, constant_headers, at_member, headed, file_env}
-use Rattle.go_types.specs.Statements.{is_empty_stmt, is_panic}
-use Rattle.go_types.specs.TypeNames.{func_type, written_type}
-use Rattle.go_types.specs.Types.{GoType}
-use Rattle.go_types.specs.Typing.{parts, all_parts, place, declares, stmt, stmts, used_stmts}
-use Rattle.go_types.specs.WellTyped.{receiver_of}
-use Rattle.go_types.proofs.Agreeing.{from_given, from_both, from_only}
+use Rattle.go_tree.specs.GoTypes.Answers.{given, both, only_if, otherwise, is_empty, distinct_by}
+use Rattle.go_tree.specs.GoTypes.Bodies.{Ctx, body_binds, body_ctx, is_body}
+use Rattle.go_tree.specs.GoTypes.Bodiless.{all_bodiless}
+use Rattle.go_tree.specs.GoTypes.Collect.{DeclaredTypes, types_declared, package_constants}
+use Rattle.go_tree.specs.GoTypes.Declarations.{Declared, no_names, bind_all, constant_entity, all_used}
+use Rattle.go_tree.specs.GoTypes.Entities.{Entity, Env, Binds, meaning, package_of, exported, is_exported, extend, in_block, block_of, defined_in}
+use Rattle.go_tree.specs.GoTypes.Jumps.{labels_in}
+use Rattle.go_tree.specs.GoTypes.Operands.{Operand, all_typed, with_value, named_operand}
+use Rattle.go_tree.specs.GoTypes.Primary.{selected, call_of}
+use Rattle.go_tree.specs.GoTypes.Programs.{Header, constants, a_func, constant_headers, at_member, headed, file_env}
+use Rattle.go_tree.specs.GoTypes.Statements.{is_empty_stmt, is_panic}
+use Rattle.go_tree.specs.GoTypes.TypeNames.{func_type, written_type}
+use Rattle.go_tree.specs.GoTypes.Types.{GoType}
+use Rattle.go_tree.specs.GoTypes.Typing.{parts, all_parts, place, declares, stmt, stmts, used_stmts}
+use Rattle.go_tree.specs.GoTypes.WellTyped.{receiver_of}
+use Rattle.go_tree.proofs.GoTypes.Agreeing.{from_given, from_both, from_only}
 use Rattle.typed_in_place.specs.ProgramReplaced.{All, all_and}
 use Rattle.typed_parts.proofs.Walk.{met, there_is}
 use Rattle.typed_parts.proofs.DottedImports.Imports.{no_operand}
-use Rattle.constant_steps.proofs.StepLaws.PartsTyped.{TypedThere, DeclIsTyped}
+use Rattle.splice_laws.proofs.ConstantSteps.StepLaws.PartsTyped.{TypedThere, DeclIsTyped}
 use Rattle.order_runs.proofs.RunSteps.SeatedUses.{Among, first, later}
-use Rattle.standing_uses.specs.ImportUses.Parts.{EachSeen}
+use Rattle.typed_parts.specs.StandingUses.ImportUses.Parts.{EachSeen}
 use Rattle.run_rules.specs.Surroundings.{Use, other, called, alone, a_slot, Place, Seen, seen, seen_stmt, alike, head_use, later_uses, arg_uses, value_use, inner_slot, in_slot, callee_place, comma_slot, after_stmt, at_stmt, in_constant}
 use Rattle.run_rules.specs.Places.{expr_seen, all_seen, stmt_seen, stmts_seen, params_seen, sig_seen}
 use Rattle.run_rules.specs.Programs.{linked, world, imports_mean, top_env, top_place, body_place, headed_func, constants_at_top, receiver_seen, decl_seen}

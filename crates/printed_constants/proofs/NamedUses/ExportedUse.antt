@@ -2,11 +2,11 @@
 use Rattle.std.proofs.Common.{◌≡◌, ◌∙◌, sym, ℕ, true, if◌then◌else◌, List, [], Some, None}
 use Rattle.go_tree.specs.declared.spans.Span.{Span}
 use Rattle.go_tree.specs.Tree.{Expr}
-use Rattle.scope_names.specs.FreeNames.{names_of}
-use Rattle.scope_names.specs.Means.{means}
+use Rattle.go_tree.specs.ScopeNames.FreeNames.{names_of}
+use Rattle.go_tree.specs.ScopeNames.Means.{means}
 use Rattle.pkg_graph.specs.Members.{Target}
-use Rattle.go_types.specs.Answers.{given, is_among}
-use Rattle.go_types.proofs.Agreeing.{from_given}
+use Rattle.go_tree.specs.GoTypes.Answers.{given, is_among}
+use Rattle.go_tree.proofs.GoTypes.Agreeing.{from_given}
 use Rattle.go_translation.specs.Packages.{are_well_typed}
 use Rattle.order_runs.specs.RunSteps.RunPackages.{members_of}
 use Rattle.order_runs.proofs.ImportRuns.Listed.{among-order}
@@ -14,16 +14,16 @@ use Rattle.order_runs.proofs.RunSteps.PackageStands.{StandsAt, package-stands}
 use Rattle.order_runs.proofs.RunSteps.SeatedUses.{Among, Seated}
 use Rattle.put_names.specs.Uses.{IsUsedByName}
 use Rattle.put_nodes.specs.Put.{IsSomeName, alone, qualified}
-use Rattle.constant_steps.proofs.MarksFound.{marked_so}
-use Rattle.cycle_runs.proofs.ImportCycles.ImportStep.{placed}
-use Rattle.run_laws.proofs.FoundSpans.{Placed}
+use Rattle.splice_laws.proofs.ConstantSteps.MarksFound.{marked_so}
+use Rattle.order_runs.proofs.CycleRuns.ImportCycles.ImportStep.{placed}
+use Rattle.splice_laws.proofs.RunLaws.FoundSpans.{Placed}
 use Rattle.run_rules.specs.Programs.{in_dependency_order, linked, top_env, decl_seen}
 use Rattle.run_rules.specs.Run.{Standing, Logged, Next, here_of}
 use Rattle.run_rules.specs.Sites.{MarkRef, Where, Site, not_function, imported_by, import_number, outer, outer_meaning, qualifier, member_of, qualified_mark, expr_mark}
 use Rattle.run_rules.specs.Steps.{At}
 use Rattle.run_rules.specs.Surroundings.{seen}
-use Rattle.marked_runs.specs.SettledConstants.Programs.{IsReady}
-use Rattle.marked_runs.proofs.PutForms.FirstUses.{seated}
+use Rattle.typed_parts.specs.MarkedRuns.SettledConstants.Programs.{IsReady}
+use Rattle.typed_parts.proofs.MarkedRuns.PutForms.FirstUses.{seated}
 use Rattle.printed_constants.specs.Printed.{IsPrinted, ArePrinted}
 use Rattle.printed_constants.proofs.DeclaredMembers.Values.{IsTyped, decl_typed}
 use Rattle.printed_constants.proofs.NamedUses.Exported.{IsKnown, decl_known, is_known, exported_there}

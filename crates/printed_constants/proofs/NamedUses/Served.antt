@@ -9,32 +9,32 @@ use Rattle.std.proofs.lemmas.Slice.Eq.{bytes_eq-Decides}
 use Rattle.go_tree.specs.declared.spans.Span.{Span}
 use Rattle.go_tree.specs.Tree.{NameAt}
 use Rattle.go_tree.specs.File.{ImportSpec, Decl}
-use Rattle.go_words.specs.Tokens.Pieces.{is_among, keyword_spellings}
-use Rattle.scope_names.specs.declared.names.Entity.{Entity}
-use Rattle.scope_names.specs.declared.names.Entity.TheVariants as entity
-use Rattle.scope_names.specs.declared.names.ImportName.{ImportName}
-use Rattle.scope_names.specs.FreeNames.{names_of}
-use Rattle.scope_names.specs.Identifiers.{identifiers, decl_identifiers}
-use Rattle.scope_names.specs.Means.{Environment, means, is_blank, numbered, predeclared, outermost}
-use Rattle.scope_names.specs.Occurrences.{means_import}
+use Rattle.go_tree.specs.GoWords.Tokens.Pieces.{is_among, keyword_spellings}
+use Rattle.go_tree.specs.declared.scope_names.names.Entity.{Entity}
+use Rattle.go_tree.specs.declared.scope_names.names.Entity.TheVariants as entity
+use Rattle.go_tree.specs.declared.scope_names.names.ImportName.{ImportName}
+use Rattle.go_tree.specs.ScopeNames.FreeNames.{names_of}
+use Rattle.go_tree.specs.ScopeNames.Identifiers.{identifiers, decl_identifiers}
+use Rattle.go_tree.specs.ScopeNames.Means.{Environment, means, is_blank, numbered, predeclared, outermost}
+use Rattle.go_tree.specs.ScopeNames.Occurrences.{means_import}
 use Rattle.import_rules.specs.declared.new_import.NewImport.{NewImport}
 use Rattle.import_rules.specs.Needs.{serves, serving_from, serving, avoided}
 use Rattle.pkg_graph.specs.Package.{SourceTree, Package, specs_in, import_specs}
 use Rattle.pkg_graph.specs.Members.{Target, member, package_name, name_or, import_name, block_names, items_from, decls_from, files_from, package_block}
-use Rattle.go_types.specs.Agreement.{In}
-use Rattle.run_laws.proofs.FoundSpans.{Placed}
+use Rattle.go_tree.specs.GoTypes.Agreement.{In}
+use Rattle.splice_laws.proofs.RunLaws.FoundSpans.{Placed}
 use Rattle.run_rules.proofs.NamesFound.{found_is_fresh}
 use Rattle.run_rules.specs.Naming.{Named, no_span, fuel_for, imports_added, names_by, fresh_name, package_path, own_name, names_here, environment_here, added_import, named_package}
 use Rattle.run_rules.specs.Run.{Standing, Logged, Next, here_of}
 use Rattle.run_rules.specs.Sites.{MarkRef, Where}
 use Rattle.run_rules.specs.Steps.{At, change_nth, added_decls, spec_for}
 use Rattle.run_rules.specs.Surroundings.{Place}
-use Rattle.form_imports.specs.ImportLaws.Steps.{binders_of}
-use Rattle.cycle_runs.specs.ImportCycles.ImportSteps.{file_added, packages_added, where_added}
-use Rattle.cycle_runs.specs.OrderCycles.NewNames.{NamesByPath, FewNames}
-use Rattle.cycle_runs.proofs.ImportCycles.ImportStep.{placed}
-use Rattle.cycle_runs.proofs.OrderCycles.NamesAdded.{adds-new-names}
-use Rattle.marked_runs.proofs.KeptMarks.Changed.{name-stays}
+use Rattle.splice_laws.specs.FormImports.ImportLaws.Steps.{binders_of}
+use Rattle.order_runs.specs.CycleRuns.ImportCycles.ImportSteps.{file_added, packages_added, where_added}
+use Rattle.order_runs.specs.CycleRuns.OrderCycles.NewNames.{NamesByPath, FewNames}
+use Rattle.order_runs.proofs.CycleRuns.ImportCycles.ImportStep.{placed}
+use Rattle.order_runs.proofs.CycleRuns.OrderCycles.NamesAdded.{adds-new-names}
+use Rattle.typed_parts.proofs.MarkedRuns.KeptMarks.Changed.{name-stays}
 use Rattle.printed_constants.proofs.NamedUses.Middle.{further_names, last_name, map_both, name_now, files_same}
 use Rattle.printed_constants.proofs.RemovedImports.Removed.{specs-of-both}
 use Rattle.printed_constants.proofs.StandingForms.Unnamed.{Unnamed, path_unnamed}

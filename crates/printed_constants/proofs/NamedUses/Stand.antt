@@ -7,40 +7,40 @@ use Rattle.std.proofs.lemmas.Option.{same_Some}
 use Rattle.go_tree.specs.declared.spans.Span.{Span}
 use Rattle.go_tree.specs.Tree.{NameAt, Expr, ident, selector, ValueSpecs}
 use Rattle.go_tree.specs.File.{ImportSpec, Decl}
-use Rattle.scope_names.specs.FreeNames.{names_of, free_expr}
-use Rattle.scope_names.specs.Identifiers.{expr_identifiers, decl_identifiers}
-use Rattle.scope_names.specs.Means as scopes
-use Rattle.scope_names.specs.Means.{Environment, means, is_blank, numbered}
+use Rattle.go_tree.specs.ScopeNames.FreeNames.{names_of, free_expr}
+use Rattle.go_tree.specs.ScopeNames.Identifiers.{expr_identifiers, decl_identifiers}
+use Rattle.go_tree.specs.ScopeNames.Means as scopes
+use Rattle.go_tree.specs.ScopeNames.Means.{Environment, means, is_blank, numbered}
 use Rattle.pkg_graph.specs.Internal.{may_import}
 use Rattle.pkg_graph.specs.Package.{Package, specs_in, import_specs}
 use Rattle.pkg_graph.specs.Members.{Target, local, imported, member, predeclared, import_name, package_block}
-use Rattle.go_types.specs.Agreement.{In, head}
-use Rattle.go_types.specs.Answers.{given, one_of, otherwise, is_among, is_empty}
-use Rattle.go_types.specs.Entities.{is_exported}
-use Rattle.go_types.proofs.Agreeing.{from_given}
+use Rattle.go_tree.specs.GoTypes.Agreement.{In, head}
+use Rattle.go_tree.specs.GoTypes.Answers.{given, one_of, otherwise, is_among, is_empty}
+use Rattle.go_tree.specs.GoTypes.Entities.{is_exported}
+use Rattle.go_tree.proofs.GoTypes.Agreeing.{from_given}
 use Rattle.go_translation.specs.Packages.{are_well_typed}
-use Rattle.form_imports.specs.ImportLaws.Steps.{binders_in, binders_of}
-use Rattle.form_imports.specs.Written.{NoneUnnamed}
+use Rattle.splice_laws.specs.FormImports.ImportLaws.Steps.{binders_in, binders_of}
+use Rattle.splice_laws.specs.FormImports.Written.{NoneUnnamed}
 use Rattle.import_rules.specs.Needs.{avoided}
-use Rattle.import_splices.proofs.FormSplices.FormsFound.{step-makes-form}
+use Rattle.splice_laws.proofs.ImportSplices.FormSplices.FormsFound.{step-makes-form}
 use Rattle.order_runs.specs.RunSteps.RunPackages.{members_of}
 use Rattle.order_runs.proofs.RunSteps.SeatedUses.{Among, first, later, Seated}
-use Rattle.standing_uses.specs.ImportUses.Parts.{EachSeen}
+use Rattle.typed_parts.specs.StandingUses.ImportUses.Parts.{EachSeen}
 use Rattle.put_names.specs.Uses.{IsDeclaredAsName, as_name, as_member, IsUsedByName, UsesConstant}
 use Rattle.put_names.proofs.Forms.{home_of, IsFormBy, by_obstacle, reduced_is}
 use Rattle.put_nodes.specs.Put.{IsSomeName, alone, qualified}
-use Rattle.constant_steps.specs.Alone.{type_in, spec_type}
-use Rattle.constant_steps.specs.PlainUse.{type_marked}
-use Rattle.constant_steps.specs.QualifiedSteps.MemberNames.{NamesMember, own_member, imported_member}
-use Rattle.constant_steps.specs.QualifiedSteps.NamedUse.{NamedUse}
-use Rattle.constant_steps.proofs.MarksFound.{member_of_mark, named_member, marked_so, both_none, StandsThere, stands_there, DeclaredThere, declared_there}
-use Rattle.cycle_runs.specs.ImportCycles.ImportSteps.{file_added, packages_added, where_added}
-use Rattle.cycle_runs.specs.ImportCycles.LookedUp.{specs_looked_up, decl_looked_up}
-use Rattle.cycle_runs.specs.OrderCycles.NewNames.{NamesByPath, FewNames}
-use Rattle.cycle_runs.proofs.ImportCycles.FreeIdentifiers.{in-left, in-right, looked-up-within}
-use Rattle.cycle_runs.proofs.ImportCycles.ImportStep.{placed}
-use Rattle.cycle_runs.proofs.Runs.{linked-names}
-use Rattle.run_laws.proofs.FoundSpans.{Placed}
+use Rattle.splice_laws.specs.ConstantSteps.Alone.{type_in, spec_type}
+use Rattle.splice_laws.specs.ConstantSteps.PlainUse.{type_marked}
+use Rattle.splice_laws.specs.ConstantSteps.QualifiedSteps.MemberNames.{NamesMember, own_member, imported_member}
+use Rattle.splice_laws.specs.ConstantSteps.QualifiedSteps.NamedUse.{NamedUse}
+use Rattle.splice_laws.proofs.ConstantSteps.MarksFound.{member_of_mark, named_member, marked_so, both_none, StandsThere, stands_there, DeclaredThere, declared_there}
+use Rattle.order_runs.specs.CycleRuns.ImportCycles.ImportSteps.{file_added, packages_added, where_added}
+use Rattle.order_runs.specs.CycleRuns.ImportCycles.LookedUp.{specs_looked_up, decl_looked_up}
+use Rattle.order_runs.specs.CycleRuns.OrderCycles.NewNames.{NamesByPath, FewNames}
+use Rattle.order_runs.proofs.CycleRuns.ImportCycles.FreeIdentifiers.{in-left, in-right, looked-up-within}
+use Rattle.order_runs.proofs.CycleRuns.ImportCycles.ImportStep.{placed}
+use Rattle.order_runs.proofs.CycleRuns.Runs.{linked-names}
+use Rattle.splice_laws.proofs.RunLaws.FoundSpans.{Placed}
 use Rattle.run_rules.specs.FormTrees.{ConstForm, Form, as_expr, form_identifiers, outside_changes}
 use Rattle.run_rules.specs.Naming.{Names, Named, unnamed, unnamed_package, unnamed_in, new_first, names_by, imports_added, own_name, fresh_name, added_import, named_package, named_packages, names_here}
 use Rattle.run_rules.specs.Obstacles.{Obstacle, NotAccessible, Internal, Shadowed, Recursive, CommentInside, Spread, Repeated, obstacle_if, unless_exported, not_accessible, internal_package, shadowed, shadowed_meaning, means_this, is_qualified_there, is_repeated}
@@ -52,11 +52,11 @@ use Rattle.run_rules.specs.Run.{Standing, Logged, Next, here_of, is_commented}
 use Rattle.run_rules.specs.Sites.{MarkRef, Where, a_constant, part_span, Site, mark_of, imported_by, not_function, inlinable, inlinable_in, nth_constant, outer, outer_meaning, import_number, qualifier, member_of, members_in, name_mark, qualified_mark, expr_mark}
 use Rattle.run_rules.specs.Steps.{At, same_here, added_decls}
 use Rattle.run_rules.specs.Surroundings.{Use, other, Place, Seen, seen, inner_slot, in_slot}
-use Rattle.marked_runs.specs.SettledConstants.Programs.{IsReady}
-use Rattle.marked_runs.specs.TakenNames.Taken.{site_there}
-use Rattle.marked_runs.specs.Marked.{decl_there}
-use Rattle.marked_runs.proofs.KeptMarks.Changed.{numbers-now}
-use Rattle.marked_runs.proofs.PutForms.FirstUses.{seated}
+use Rattle.typed_parts.specs.MarkedRuns.SettledConstants.Programs.{IsReady}
+use Rattle.typed_parts.specs.MarkedRuns.TakenNames.Taken.{site_there}
+use Rattle.typed_parts.specs.MarkedRuns.Marked.{decl_there}
+use Rattle.typed_parts.proofs.MarkedRuns.KeptMarks.Changed.{numbers-now}
+use Rattle.typed_parts.proofs.MarkedRuns.PutForms.FirstUses.{seated}
 use Rattle.printed_constants.specs.DeclaredMembers.Members.{IsOwn, IsMember}
 use Rattle.printed_constants.specs.DeclaredMembers.Laws.{ConstantsNameMembers}
 use Rattle.printed_constants.specs.NamedUses.Names.{IsConstantOf, IsConstantsName}

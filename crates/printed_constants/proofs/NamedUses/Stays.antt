@@ -6,31 +6,31 @@ use Rattle.std.proofs.lemmas.Option.{same_Some}
 use Rattle.go_tree.specs.declared.spans.Span.{Span}
 use Rattle.go_tree.specs.Tree.{NameAt, Expr, ident, selector}
 use Rattle.go_tree.specs.File.{ImportSpec, Decl}
-use Rattle.scope_names.specs.FreeNames.{names_of}
-use Rattle.scope_names.specs.Means.{means}
+use Rattle.go_tree.specs.ScopeNames.FreeNames.{names_of}
+use Rattle.go_tree.specs.ScopeNames.Means.{means}
 use Rattle.pkg_graph.specs.Package.{SourceTree, Package, import_specs}
 use Rattle.pkg_graph.specs.Members.{Target, decls_from}
-use Rattle.go_types.specs.Agreement.{In}
-use Rattle.go_types.specs.Answers.{given, is_among}
-use Rattle.go_types.specs.Entities.{is_exported}
-use Rattle.go_types.proofs.Agreeing.{from_given}
-use Rattle.constant_steps.proofs.MarksFound.{DeclaredThere, declared_there}
+use Rattle.go_tree.specs.GoTypes.Agreement.{In}
+use Rattle.go_tree.specs.GoTypes.Answers.{given, is_among}
+use Rattle.go_tree.specs.GoTypes.Entities.{is_exported}
+use Rattle.go_tree.proofs.GoTypes.Agreeing.{from_given}
+use Rattle.splice_laws.proofs.ConstantSteps.MarksFound.{DeclaredThere, declared_there}
 use Rattle.order_runs.proofs.RunSteps.SeatedUses.{Among, first}
-use Rattle.standing_uses.specs.ImportUses.Parts.{IsNoImport}
-use Rattle.standing_uses.specs.Laws.{IsNamedOnce}
-use Rattle.standing_uses.proofs.Once.{stand_once}
+use Rattle.typed_parts.specs.StandingUses.ImportUses.Parts.{IsNoImport}
+use Rattle.typed_parts.specs.StandingUses.Laws.{IsNamedOnce}
+use Rattle.typed_parts.proofs.StandingUses.Once.{stand_once}
 use Rattle.put_names.specs.Uses.{IsDeclaredAsName, as_name, as_member, UsesConstant}
-use Rattle.cycle_runs.specs.ImportCycles.OtherImports.{import_path}
-use Rattle.cycle_runs.specs.ImportCycles.ImportSteps.{file_added, packages_added, decl_put}
-use Rattle.cycle_runs.specs.ImportCycles.LookedUp.{decl_looked_up}
-use Rattle.cycle_runs.specs.OrderCycles.NewNames.{NamesByPath}
-use Rattle.cycle_runs.specs.OrderCycles.Steps.{KeepsImportLookUps}
-use Rattle.cycle_runs.proofs.ImportCycles.FreeIdentifiers.{looked-up-within}
-use Rattle.cycle_runs.proofs.ImportCycles.ImportStep.{placed}
-use Rattle.cycle_runs.proofs.ImportCycles.ImportsAdded.{reads-added}
-use Rattle.cycle_runs.proofs.LedImports.Homes.{package-path, package-there}
-use Rattle.cycle_runs.proofs.Runs.{linked-names}
-use Rattle.run_laws.proofs.FoundSpans.{Placed}
+use Rattle.order_runs.specs.CycleRuns.ImportCycles.OtherImports.{import_path}
+use Rattle.order_runs.specs.CycleRuns.ImportCycles.ImportSteps.{file_added, packages_added, decl_put}
+use Rattle.order_runs.specs.CycleRuns.ImportCycles.LookedUp.{decl_looked_up}
+use Rattle.order_runs.specs.CycleRuns.OrderCycles.NewNames.{NamesByPath}
+use Rattle.order_runs.specs.CycleRuns.OrderCycles.Steps.{KeepsImportLookUps}
+use Rattle.order_runs.proofs.CycleRuns.ImportCycles.FreeIdentifiers.{looked-up-within}
+use Rattle.order_runs.proofs.CycleRuns.ImportCycles.ImportStep.{placed}
+use Rattle.order_runs.proofs.CycleRuns.ImportCycles.ImportsAdded.{reads-added}
+use Rattle.order_runs.proofs.CycleRuns.LedImports.Homes.{package-path, package-there}
+use Rattle.order_runs.proofs.CycleRuns.Runs.{linked-names}
+use Rattle.splice_laws.proofs.RunLaws.FoundSpans.{Placed}
 use Rattle.run_rules.specs.FormTrees.{as_expr}
 use Rattle.run_rules.specs.Forms.{is_at}
 use Rattle.run_rules.specs.Naming.{names_by, package_path}
@@ -42,17 +42,17 @@ use Rattle.run_rules.specs.Run.{Standing, Logged, Next, here_of, origin_of}
 use Rattle.run_rules.specs.Sites.{MarkRef, Where, Inlinable, Site, a_constant, part_span, where_is, inlinable, inlinable_in, imported_by, import_number, outer, member_of}
 use Rattle.run_rules.specs.Steps.{At, same_here, change_nth, changes_for, means_import, named_by_import, with_file}
 use Rattle.run_rules.specs.Surroundings.{Seen, seen, other, inner_slot, in_slot}
-use Rattle.marked_runs.specs.KeptMarks.Over.{IsOverName}
-use Rattle.marked_runs.specs.NamedMarks.Named.{IsNamedConstant, AllNamed}
-use Rattle.marked_runs.specs.SettledConstants.Laws.{ConstantsWrite}
-use Rattle.marked_runs.specs.SettledConstants.Programs.{IsReady}
-use Rattle.marked_runs.proofs.KeptMarks.Changed.{Imported, not-blank, path-meant, meant-by, paths-now, numbers-now}
-use Rattle.marked_runs.proofs.KeptMarks.Constants.{PutAt, put-decl, put-name, put-member, once-there}
-use Rattle.marked_runs.proofs.KeptMarks.Kept.{look-ups}
-use Rattle.marked_runs.proofs.KeptMarks.Served.{mid-path, form-import}
-use Rattle.marked_runs.proofs.KeptMarks.Shapes.{Shape, shape, shape-with, dotted-in, ConstantOf, inlinable-without}
-use Rattle.marked_runs.proofs.NamedMarks.Declared.{inlinable-with}
-use Rattle.marked_runs.proofs.NamedMarks.Used.{named-used}
+use Rattle.typed_parts.specs.MarkedRuns.KeptMarks.Over.{IsOverName}
+use Rattle.typed_parts.specs.MarkedRuns.NamedMarks.Named.{IsNamedConstant, AllNamed}
+use Rattle.typed_parts.specs.MarkedRuns.SettledConstants.Laws.{ConstantsWrite}
+use Rattle.typed_parts.specs.MarkedRuns.SettledConstants.Programs.{IsReady}
+use Rattle.typed_parts.proofs.MarkedRuns.KeptMarks.Changed.{Imported, not-blank, path-meant, meant-by, paths-now, numbers-now}
+use Rattle.typed_parts.proofs.MarkedRuns.KeptMarks.Constants.{PutAt, put-decl, put-name, put-member, once-there}
+use Rattle.typed_parts.proofs.MarkedRuns.KeptMarks.Kept.{look-ups}
+use Rattle.typed_parts.proofs.MarkedRuns.KeptMarks.Served.{mid-path, form-import}
+use Rattle.typed_parts.proofs.MarkedRuns.KeptMarks.Shapes.{Shape, shape, shape-with, dotted-in, ConstantOf, inlinable-without}
+use Rattle.typed_parts.proofs.MarkedRuns.NamedMarks.Declared.{inlinable-with}
+use Rattle.typed_parts.proofs.MarkedRuns.NamedMarks.Used.{named-used}
 use Rattle.printed_constants.specs.NamedUses.Names.{IsConstantOf, IsConstantsName, AllConstantsNames}
 use Rattle.printed_constants.specs.Printed.{a_name, a_selection, ArePrinted}
 use Rattle.printed_constants.proofs.NamedUses.Middle.{Beside, beside, member_now}

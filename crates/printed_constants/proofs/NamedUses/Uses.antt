@@ -2,19 +2,19 @@
 -- each marked constant is declared so after it.
 use Rattle.std.proofs.Common.{◌≡◌, ◌≤◌, true, List}
 use Rattle.go_translation.specs.Packages.{are_well_typed}
-use Rattle.form_imports.specs.OwnNames.{AllOwn}
-use Rattle.form_imports.specs.Written.{NoneUnnamed}
-use Rattle.scope_names.specs.Identifiers.{expr_identifiers}
+use Rattle.splice_laws.specs.FormImports.OwnNames.{AllOwn}
+use Rattle.splice_laws.specs.FormImports.Written.{NoneUnnamed}
+use Rattle.go_tree.specs.ScopeNames.Identifiers.{expr_identifiers}
 use Rattle.order_runs.specs.RunSteps.RunPackages.{members_of}
 use Rattle.put_names.specs.Uses.{IsUsedByName, UsesConstant}
 use Rattle.run_rules.specs.Run.{Standing, Logged, Next, texts_size, the_limits}
 use Rattle.run_rules.specs.Sites.{MarkRef}
-use Rattle.marked_runs.specs.KeptMarks.Over.{IsOverName}
-use Rattle.marked_runs.specs.NamedMarks.Named.{AllNamed}
-use Rattle.marked_runs.specs.SettledConstants.Laws.{ConstantsWrite, ConstantUsesAreNames, ConstantUsesAreSpelled}
-use Rattle.marked_runs.specs.SettledConstants.Programs.{IsReady}
-use Rattle.marked_runs.proofs.KeptMarks.Kept.{stays}
-use Rattle.marked_runs.proofs.NamedMarks.Used.{named-used, uses-marked}
+use Rattle.typed_parts.specs.MarkedRuns.KeptMarks.Over.{IsOverName}
+use Rattle.typed_parts.specs.MarkedRuns.NamedMarks.Named.{AllNamed}
+use Rattle.typed_parts.specs.MarkedRuns.SettledConstants.Laws.{ConstantsWrite, ConstantUsesAreNames, ConstantUsesAreSpelled}
+use Rattle.typed_parts.specs.MarkedRuns.SettledConstants.Programs.{IsReady}
+use Rattle.typed_parts.proofs.MarkedRuns.KeptMarks.Kept.{stays}
+use Rattle.typed_parts.proofs.MarkedRuns.NamedMarks.Used.{named-used, uses-marked}
 use Rattle.printed_constants.specs.DeclaredMembers.Laws.{ConstantsNameMembers}
 use Rattle.printed_constants.specs.NamedUses.Names.{IsConstantsName, AllConstantsNames}
 use Rattle.printed_constants.specs.Printed.{ArePrinted}

@@ -10,25 +10,25 @@ use Rattle.run_rules.specs.Sites.{MarkRef}
 use Rattle.run_rules.specs.Steps.{At, change_nth}
 use Rattle.run_rules.proofs.OneRun.{one_next}
 use Rattle.pkg_graph.specs.Reads.{Source}
-use Rattle.form_imports.specs.OwnNames.{AllOwn}
+use Rattle.splice_laws.specs.FormImports.OwnNames.{AllOwn}
 use Rattle.order_runs.specs.RunSteps.RunPackages.{members_of}
-use Rattle.cycle_runs.proofs.Runs.{linked-names}
+use Rattle.order_runs.proofs.CycleRuns.Runs.{linked-names}
 use Rattle.put_names.specs.Uses.{UsesConstant}
-use Rattle.marked_runs.specs.KeptMarks.Laws.{StepsKeepNamed}
-use Rattle.marked_runs.specs.LinkedMembers.Laws.{HaveFiles}
-use Rattle.marked_runs.specs.KeptMarks.Over.{IsOverName}
-use Rattle.marked_runs.specs.Marked.{StandsAdded, AllOverNames}
-use Rattle.marked_runs.specs.NamedMarks.Named.{AllNamed}
-use Rattle.marked_runs.specs.SettledConstants.Laws.{ConstantsWrite}
-use Rattle.marked_runs.specs.SettledConstants.Programs.{IsReady}
-use Rattle.marked_runs.specs.SoundImports.Laws.{AddedImportsMayBeDeclared}
-use Rattle.marked_runs.specs.TakenNames.Laws.{StepsStayReady}
-use Rattle.marked_runs.specs.TakenNames.Taken.{TakesName}
-use Rattle.marked_runs.proofs.KeptMarks.Kept.{writes, look-ups}
-use Rattle.marked_runs.proofs.LinkedMembers.Files.{step-have}
-use Rattle.marked_runs.proofs.KeptMarks.Puts.{Puts, puts_name, puts_member, step-puts}
-use Rattle.marked_runs.proofs.NamedMarks.Used.{named-used}
-use Rattle.marked_runs.proofs.Runs.{takes-name}
+use Rattle.typed_parts.specs.MarkedRuns.KeptMarks.Laws.{StepsKeepNamed}
+use Rattle.typed_parts.specs.MarkedRuns.LinkedMembers.Laws.{HaveFiles}
+use Rattle.typed_parts.specs.MarkedRuns.KeptMarks.Over.{IsOverName}
+use Rattle.typed_parts.specs.MarkedRuns.Marked.{StandsAdded, AllOverNames}
+use Rattle.typed_parts.specs.MarkedRuns.NamedMarks.Named.{AllNamed}
+use Rattle.typed_parts.specs.MarkedRuns.SettledConstants.Laws.{ConstantsWrite}
+use Rattle.typed_parts.specs.MarkedRuns.SettledConstants.Programs.{IsReady}
+use Rattle.typed_parts.specs.MarkedRuns.SoundImports.Laws.{AddedImportsMayBeDeclared}
+use Rattle.typed_parts.specs.MarkedRuns.TakenNames.Laws.{StepsStayReady}
+use Rattle.typed_parts.specs.MarkedRuns.TakenNames.Taken.{TakesName}
+use Rattle.typed_parts.proofs.MarkedRuns.KeptMarks.Kept.{writes, look-ups}
+use Rattle.typed_parts.proofs.MarkedRuns.LinkedMembers.Files.{step-have}
+use Rattle.typed_parts.proofs.MarkedRuns.KeptMarks.Puts.{Puts, puts_name, puts_member, step-puts}
+use Rattle.typed_parts.proofs.MarkedRuns.NamedMarks.Used.{named-used}
+use Rattle.typed_parts.proofs.MarkedRuns.Runs.{takes-name}
 use Rattle.printed_constants.specs.Printed.{a_name, a_selection, ArePrinted}
 use Rattle.printed_constants.specs.NamedUses.Laws.{ConstantsNamesStand, StepsKeepConstantsNames}
 use Rattle.printed_constants.specs.NamedUses.Names.{AllConstantsNames}

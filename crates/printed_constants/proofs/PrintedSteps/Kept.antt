@@ -1,22 +1,22 @@
 -- Programs of constants and of functions that print them, as read and after a step.
 use Rattle.std.proofs.Common.{◌+◌, ◌≤◌, List, arith}
 use Rattle.pkg_graph.specs.Reads.{Source}
-use Rattle.form_imports.specs.OwnNames.{ReadPackagesAreNamed}
-use Rattle.cycle_runs.proofs.Runs.{linked-names}
-use Rattle.marked_runs.specs.KeptMarks.Laws.{StepsKeepNamed}
-use Rattle.marked_runs.specs.KeptMarks.Over.{IsOverName}
-use Rattle.marked_runs.specs.LinkedMembers.Laws.{ReadPackagesHaveFiles, StepsKeepFiles}
-use Rattle.marked_runs.specs.Marked.{StandsAdded}
-use Rattle.marked_runs.specs.NamedMarks.Laws.{ReadMarksAreNamed}
-use Rattle.marked_runs.specs.PutForms.Uses.{UsesNamedConstant}
-use Rattle.marked_runs.specs.ReadyModules.Laws.{ReadModulesAreReady, ReadModulesAreTyped}
-use Rattle.marked_runs.specs.SettledConstants.Laws.{ConstantsWrite}
-use Rattle.marked_runs.specs.SoundImports.Laws.{AddedImportsMayBeDeclared}
-use Rattle.marked_runs.specs.TakenNames.Laws.{StepsStayReady}
-use Rattle.marked_runs.specs.TakenNames.Taken.{TakesName}
-use Rattle.marked_runs.proofs.KeptMarks.Kept.{writes, look-ups}
-use Rattle.marked_runs.proofs.NamedMarks.Used.{named-used}
-use Rattle.marked_runs.proofs.Runs.{takes-name}
+use Rattle.splice_laws.specs.FormImports.OwnNames.{ReadPackagesAreNamed}
+use Rattle.order_runs.proofs.CycleRuns.Runs.{linked-names}
+use Rattle.typed_parts.specs.MarkedRuns.KeptMarks.Laws.{StepsKeepNamed}
+use Rattle.typed_parts.specs.MarkedRuns.KeptMarks.Over.{IsOverName}
+use Rattle.typed_parts.specs.MarkedRuns.LinkedMembers.Laws.{ReadPackagesHaveFiles, StepsKeepFiles}
+use Rattle.typed_parts.specs.MarkedRuns.Marked.{StandsAdded}
+use Rattle.typed_parts.specs.MarkedRuns.NamedMarks.Laws.{ReadMarksAreNamed}
+use Rattle.typed_parts.specs.MarkedRuns.PutForms.Uses.{UsesNamedConstant}
+use Rattle.typed_parts.specs.MarkedRuns.ReadyModules.Laws.{ReadModulesAreReady, ReadModulesAreTyped}
+use Rattle.typed_parts.specs.MarkedRuns.SettledConstants.Laws.{ConstantsWrite}
+use Rattle.typed_parts.specs.MarkedRuns.SoundImports.Laws.{AddedImportsMayBeDeclared}
+use Rattle.typed_parts.specs.MarkedRuns.TakenNames.Laws.{StepsStayReady}
+use Rattle.typed_parts.specs.MarkedRuns.TakenNames.Taken.{TakesName}
+use Rattle.typed_parts.proofs.MarkedRuns.KeptMarks.Kept.{writes, look-ups}
+use Rattle.typed_parts.proofs.MarkedRuns.NamedMarks.Used.{named-used}
+use Rattle.typed_parts.proofs.MarkedRuns.Runs.{takes-name}
 use Rattle.run_by_steps.specs.RunProgress.Laws.{ReadPathsAreApart, StepsKeepPathsApart}
 use Rattle.run_rules.specs.Run.{Standing, module_file_size, texts_size, the_limits}
 use Rattle.run_rules.specs.Sites.{MarkRef}

@@ -4,25 +4,25 @@ use Rattle.std.specs.Prelude.{slice_get}
 use Rattle.go_tree.specs.declared.spans.Span.{Span}
 use Rattle.go_tree.specs.File.{Decl}
 use Rattle.pkg_graph.specs.Package.{SourceTree, Package}
-use Rattle.constant_steps.proofs.AfterStep.{nth_changed}
-use Rattle.constant_steps.proofs.MarksFound.{StandsThere, stands_there}
-use Rattle.constant_steps.specs.Alone.{PlainFiles}
-use Rattle.constant_steps.specs.PlainUse.{AllSimple}
-use Rattle.cycle_runs.specs.ImportCycles.ImportSteps.{file_added, packages_added, where_added}
-use Rattle.cycle_runs.proofs.ImportCycles.ImportStep.{placed}
-use Rattle.cycle_runs.specs.Linked.{WritesFile}
-use Rattle.cycle_runs.specs.OrderCycles.NewNames.{FewNames}
-use Rattle.marked_runs.specs.KeptMarks.Over.{IsOverName}
-use Rattle.marked_runs.specs.Marked.{StandsAdded, decl_there}
-use Rattle.marked_runs.specs.LinkedMembers.Laws.{HaveFiles, ImportsUsed}
-use Rattle.marked_runs.specs.SettledConstants.Laws.{ConstantsWrite}
-use Rattle.marked_runs.specs.SettledConstants.Programs.{IsReady}
+use Rattle.splice_laws.proofs.ConstantSteps.AfterStep.{nth_changed}
+use Rattle.splice_laws.proofs.ConstantSteps.MarksFound.{StandsThere, stands_there}
+use Rattle.splice_laws.specs.ConstantSteps.Alone.{PlainFiles}
+use Rattle.splice_laws.specs.ConstantSteps.PlainUse.{AllSimple}
+use Rattle.order_runs.specs.CycleRuns.ImportCycles.ImportSteps.{file_added, packages_added, where_added}
+use Rattle.order_runs.proofs.CycleRuns.ImportCycles.ImportStep.{placed}
+use Rattle.order_runs.specs.CycleRuns.Linked.{WritesFile}
+use Rattle.order_runs.specs.CycleRuns.OrderCycles.NewNames.{FewNames}
+use Rattle.typed_parts.specs.MarkedRuns.KeptMarks.Over.{IsOverName}
+use Rattle.typed_parts.specs.MarkedRuns.Marked.{StandsAdded, decl_there}
+use Rattle.typed_parts.specs.MarkedRuns.LinkedMembers.Laws.{HaveFiles, ImportsUsed}
+use Rattle.typed_parts.specs.MarkedRuns.SettledConstants.Laws.{ConstantsWrite}
+use Rattle.typed_parts.specs.MarkedRuns.SettledConstants.Programs.{IsReady}
 use Rattle.order_runs.specs.RunSteps.RunPackages.{members_of}
 use Rattle.go_translation.specs.Packages as translated
 use Rattle.go_translation.specs.Packages.{are_well_typed}
-use Rattle.marked_runs.proofs.KeptMarks.Kept.{writes}
-use Rattle.marked_runs.proofs.LinkedMembers.Stand.{imports-stand}
-use Rattle.run_laws.proofs.FoundSpans.{Placed}
+use Rattle.typed_parts.proofs.MarkedRuns.KeptMarks.Kept.{writes}
+use Rattle.typed_parts.proofs.MarkedRuns.LinkedMembers.Stand.{imports-stand}
+use Rattle.splice_laws.proofs.RunLaws.FoundSpans.{Placed}
 use Rattle.run_rules.specs.Programs.{linked_file}
 use Rattle.run_rules.specs.Run.{Standing, Logged, Next, here_of}
 use Rattle.run_rules.specs.Sites.{MarkRef, Where, where_is}

@@ -1,12 +1,12 @@
 -- A step among constants and functions that print them is over a marked constant, as kept_marks asks.
-use Rattle.import_splices.specs.FormSplices.Laws.{MakesForm}
-use Rattle.import_splices.proofs.FormSplices.FormsFound.{step-makes-form}
-use Rattle.marked_runs.proofs.NamedMarks.Used.{named-used}
+use Rattle.splice_laws.specs.ImportSplices.FormSplices.Laws.{MakesForm}
+use Rattle.splice_laws.proofs.ImportSplices.FormSplices.FormsFound.{step-makes-form}
+use Rattle.typed_parts.proofs.MarkedRuns.NamedMarks.Used.{named-used}
 use Rattle.printed_constants.proofs.FormNames.Forms.{form_not_blank}
 use Rattle.put_names.specs.Uses.{UsesConstant}
 use Rattle.put_names.proofs.Constants.{constant_becomes}
 use Rattle.printed_constants.specs.PrintedUses.Laws.{PrintedStepsAreOver}
-use Rattle.cycle_runs.specs.OrderCycles.NewNames.{FewNames}
+use Rattle.order_runs.specs.CycleRuns.OrderCycles.NewNames.{FewNames}
 use Rattle.printed_constants.proofs.CountedNames.Avoided.{avoided_few}
 use Rattle.printed_constants.proofs.PrintedUses.Expressions.{site_expression}
 use Rattle.printed_constants.proofs.RemovedImports.Removed.{removes_none}

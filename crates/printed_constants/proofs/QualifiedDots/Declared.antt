@@ -5,14 +5,14 @@ use Rattle.std.specs.List.{list_any}
 use Rattle.std.proofs.lemmas.Option.{same_Some}
 use Rattle.go_tree.specs.File.{Decl, File}
 use Rattle.pkg_graph.specs.Package.{SourceTree, Package}
-use Rattle.go_types.specs.Programs.{headed, headed_package, block_names}
-use Rattle.go_types.specs.Collect.{DeclaredTypes, types_declared}
-use Rattle.go_types.specs.WellTyped.{well_typed}
+use Rattle.go_tree.specs.GoTypes.Programs.{headed, headed_package, block_names}
+use Rattle.go_tree.specs.GoTypes.Collect.{DeclaredTypes, types_declared}
+use Rattle.go_tree.specs.GoTypes.WellTyped.{well_typed}
 use Rattle.typed_in_place.specs.ProgramReplaced.{All, all_and}
-use Rattle.constant_steps.specs.StepLaws.DeclStands.{AtNth}
-use Rattle.constant_steps.specs.StepLaws.PartsTyped.{HeaderTyped}
-use Rattle.constant_steps.proofs.StepLaws.PartsTyped.{headers-typed, DeclIsTyped, FilesTyped, of-packages}
-use Rattle.cycle_runs.specs.OrderCycles.Orders.{AllOrdered}
+use Rattle.splice_laws.specs.ConstantSteps.StepLaws.DeclStands.{AtNth}
+use Rattle.splice_laws.specs.ConstantSteps.StepLaws.PartsTyped.{HeaderTyped}
+use Rattle.splice_laws.proofs.ConstantSteps.StepLaws.PartsTyped.{headers-typed, DeclIsTyped, FilesTyped, of-packages}
+use Rattle.order_runs.specs.CycleRuns.OrderCycles.Orders.{AllOrdered}
 use Rattle.run_rules.specs.Programs.{in_dependency_order, numbers_of, linked_file, linked_package, linked_packages, linked, world, imports_mean}
 use Rattle.run_rules.specs.Sites.{Where}
 use Rattle.printed_constants.proofs.QualifiedDots.Blocks.{EachOf, ordered_of}

@@ -5,34 +5,34 @@ use Rattle.std.proofs.lemmas.Bool.{cond_both}
 use Rattle.go_tree.specs.declared.exprs.Rest.TheVariants.{Plain}
 use Rattle.go_tree.specs.Tree.{NameAt, Param, TypeExpr, Expr, selector, call, Exprs, no_exprs, expr_and, eval, Stmts, ValueSpecs}
 use Rattle.go_tree.specs.File.{Receiver, Func, Decl, func, File}
-use Rattle.scope_names.specs.FreeNames.{names_of}
-use Rattle.scope_names.specs.Means.{Environment, means}
+use Rattle.go_tree.specs.ScopeNames.FreeNames.{names_of}
+use Rattle.go_tree.specs.ScopeNames.Means.{Environment, means}
 use Rattle.pkg_graph.specs.Package.{Package}
 use Rattle.pkg_graph.specs.Members.{Target, imported}
-use Rattle.go_types.specs.Answers.{given, both, meets, only_if, otherwise, distinct_by, is_empty, is_among}
-use Rattle.go_types.specs.Types.{GoType, FuncType}
-use Rattle.go_types.specs.Entities.{Entity, variable, constant, stand_in, type_name, function, package_name, builtin, nil_name, iota_name, refused, Env, Binds, meaning, package_of, extend, in_block, universe, block_of}
-use Rattle.go_types.specs.TypeNames.{func_type, written_type}
-use Rattle.go_types.specs.Operands.{Operand, all_typed}
-use Rattle.go_types.specs.Primary.{call_of, stands_alone}
-use Rattle.go_types.specs.Statements.{package_before, is_panic, is_empty_stmt}
-use Rattle.go_types.specs.Declarations.{no_names, all_used, bind_all, bound_names, constant_entity}
-use Rattle.go_types.specs.Bodiless.{all_bodiless}
-use Rattle.go_types.specs.Bodies.{Ctx, param_binds, body_binds, body_ctx, is_body}
-use Rattle.go_types.specs.Jumps.{labels_in}
-use Rattle.go_types.specs.Typing.{parts, all_parts, stmt, stmts, is_call, used_stmts}
-use Rattle.go_types.specs.Programs.{Header, constants, a_func, Headed, constant_headers, at_member, block_names, file_env}
-use Rattle.go_types.specs.Collect.{package_constants}
-use Rattle.go_types.specs.WellTyped.{receiver_of}
-use Rattle.go_types.proofs.Agreeing.{from_given, from_both, from_only}
+use Rattle.go_tree.specs.GoTypes.Answers.{given, both, meets, only_if, otherwise, distinct_by, is_empty, is_among}
+use Rattle.go_tree.specs.GoTypes.Types.{GoType, FuncType}
+use Rattle.go_tree.specs.GoTypes.Entities.{Entity, variable, constant, stand_in, type_name, function, package_name, builtin, nil_name, iota_name, refused, Env, Binds, meaning, package_of, extend, in_block, universe, block_of}
+use Rattle.go_tree.specs.GoTypes.TypeNames.{func_type, written_type}
+use Rattle.go_tree.specs.GoTypes.Operands.{Operand, all_typed}
+use Rattle.go_tree.specs.GoTypes.Primary.{call_of, stands_alone}
+use Rattle.go_tree.specs.GoTypes.Statements.{package_before, is_panic, is_empty_stmt}
+use Rattle.go_tree.specs.GoTypes.Declarations.{no_names, all_used, bind_all, bound_names, constant_entity}
+use Rattle.go_tree.specs.GoTypes.Bodiless.{all_bodiless}
+use Rattle.go_tree.specs.GoTypes.Bodies.{Ctx, param_binds, body_binds, body_ctx, is_body}
+use Rattle.go_tree.specs.GoTypes.Jumps.{labels_in}
+use Rattle.go_tree.specs.GoTypes.Typing.{parts, all_parts, stmt, stmts, is_call, used_stmts}
+use Rattle.go_tree.specs.GoTypes.Programs.{Header, constants, a_func, Headed, constant_headers, at_member, block_names, file_env}
+use Rattle.go_tree.specs.GoTypes.Collect.{package_constants}
+use Rattle.go_tree.specs.GoTypes.WellTyped.{receiver_of}
+use Rattle.go_tree.proofs.GoTypes.Agreeing.{from_given, from_both, from_only}
 use Rattle.typed_in_place.specs.ProgramReplaced.{All, all_and}
-use Rattle.constant_steps.proofs.StepLaws.PartsTyped.{TypedThere, DeclIsTyped}
+use Rattle.splice_laws.proofs.ConstantSteps.StepLaws.PartsTyped.{TypedThere, DeclIsTyped}
 use Rattle.run_rules.specs.Surroundings.{Use, other, called, alone, a_slot, Place, Seen, seen, seen_stmt, alike, head_use, later_uses, arg_uses, value_use, inner_slot, in_slot, callee_place, comma_slot, after_stmt, at_stmt, in_constant}
 use Rattle.run_rules.specs.Places.{expr_seen, all_seen, stmt_seen, stmts_seen, params_seen, sig_seen}
 use Rattle.run_rules.specs.Programs.{linked_imports, linked_file, world, imports_mean, top_place, headed_func, body_place, constants_at_top, receiver_seen, decl_seen}
 use Rattle.run_rules.specs.Sites.{Where, imported_by, outer}
 use Rattle.run_rules.specs.Steps.{means_import, named_by_import}
-use Rattle.standing_uses.specs.ImportUses.Parts.{EachSeen}
+use Rattle.typed_parts.specs.StandingUses.ImportUses.Parts.{EachSeen}
 use Rattle.printed_constants.specs.Printed.{IsFlat, a_name, a_number, a_selection, AllFlat, no_operands, and_operand, IsPrint, an_operand, a_call, PrintStmts, no_prints, and_print, FlatConstants, no_constants, and_constant, IsPrinted, some_constants, a_function, ArePrinted}
 use Rattle.printed_constants.specs.QualifiedDots.Names.{IsUntypedMember, IsQualified}
 use Rattle.printed_constants.specs.QualifiedDots.Laws.{PrintedDotsAreQualified}

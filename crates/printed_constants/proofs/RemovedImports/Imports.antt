@@ -8,11 +8,11 @@ use Rattle.std.proofs.lemmas.Slice.Eq.{bytes_eq-Decides}
 use Rattle.go_tree.specs.declared.spans.Span.{Span}
 use Rattle.go_tree.specs.declared.tokens.Token.{Token}
 use Rattle.go_tree.specs.File.{ImportSpec, Decl, File}
-use Rattle.scope_names.specs.declared.names.Entity.{Entity}
-use Rattle.scope_names.specs.declared.names.Entity.TheVariants.{Import}
-use Rattle.scope_names.specs.declared.names.FileNames.{FileNames}
-use Rattle.scope_names.specs.declared.names.ImportName.{ImportName}
-use Rattle.scope_names.specs.Means.{Environment, means, is_blank, numbered}
+use Rattle.go_tree.specs.declared.scope_names.names.Entity.{Entity}
+use Rattle.go_tree.specs.declared.scope_names.names.Entity.TheVariants.{Import}
+use Rattle.go_tree.specs.declared.scope_names.names.FileNames.{FileNames}
+use Rattle.go_tree.specs.declared.scope_names.names.ImportName.{ImportName}
+use Rattle.go_tree.specs.ScopeNames.Means.{Environment, means, is_blank, numbered}
 use Rattle.import_rules.specs.declared.new_import.Needed.{Needed}
 use Rattle.import_rules.specs.Laid.{Laid}
 use Rattle.import_rules.specs.Removed.{same_span}
@@ -21,13 +21,13 @@ use Rattle.import_rules.specs.Unused.{AreImportsOf, unused_from, unused_specs}
 use Rattle.import_rules.proofs.UnusedLaws.{used_imports_stay}
 use Rattle.pkg_graph.specs.Package.{Package}
 use Rattle.pkg_graph.specs.Members.{Target, imported, import_name}
-use Rattle.go_types.specs.Answers.{given}
+use Rattle.go_tree.specs.GoTypes.Answers.{given}
 use Rattle.order_runs.proofs.RunSteps.SeatedUses.{Among, first, later}
 use Rattle.run_rules.specs.Programs.{decl_seen}
 use Rattle.run_rules.specs.Sites.{Where, imported_by, outer}
 use Rattle.run_rules.specs.Steps.{At, means_import, uses_import}
 use Rattle.run_rules.specs.Surroundings.{Seen}
-use Rattle.standing_uses.specs.ImportUses.Parts.{EachSeen}
+use Rattle.typed_parts.specs.StandingUses.ImportUses.Parts.{EachSeen}
 use Rattle.printed_constants.specs.Printed.{a_name, a_number, a_selection, an_operand, a_call, IsPrinted}
 use Rattle.printed_constants.proofs.Parts.{PrintedPart, an_expression, a_statement, decl_parts}
 use Rattle.printed_constants.proofs.StandingForms.Dots.{at_top}

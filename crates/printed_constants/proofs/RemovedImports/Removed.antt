@@ -7,20 +7,20 @@ use Rattle.std.proofs.lemmas.Option.{same_Some}
 use Rattle.go_tree.specs.declared.spans.Span.{Span}
 use Rattle.go_tree.specs.Tree.{Expr, ident, selector}
 use Rattle.go_tree.specs.File.{ImportSpec, ImportDecl, Decl, File}
-use Rattle.scope_names.specs.declared.names.FileNames.{FileNames}
-use Rattle.scope_names.specs.declared.names.ImportName.{ImportName}
-use Rattle.scope_names.specs.Means.{means, numbered}
+use Rattle.go_tree.specs.declared.scope_names.names.FileNames.{FileNames}
+use Rattle.go_tree.specs.declared.scope_names.names.ImportName.{ImportName}
+use Rattle.go_tree.specs.ScopeNames.Means.{means, numbered}
 use Rattle.import_rules.specs.Laid.{Laid}
 use Rattle.import_rules.specs.Removed.{same_span}
 use Rattle.import_rules.specs.SettledNames.{import_at}
 use Rattle.import_rules.specs.Unused.{AreImportsOf, spec_spans}
 use Rattle.pkg_graph.specs.Package.{SourceTree, Package, specs_in, import_specs}
 use Rattle.pkg_graph.specs.Members.{imported, name_or, import_name}
-use Rattle.go_types.specs.Agreement.{In}
-use Rattle.go_types.specs.Answers.{given}
-use Rattle.run_laws.specs.Reading.{ProgramReads}
-use Rattle.run_laws.proofs.FilesStand.{file_laid}
-use Rattle.run_laws.proofs.FoundSpans.{Placed}
+use Rattle.go_tree.specs.GoTypes.Agreement.{In}
+use Rattle.go_tree.specs.GoTypes.Answers.{given}
+use Rattle.splice_laws.specs.RunLaws.Reading.{ProgramReads}
+use Rattle.splice_laws.proofs.RunLaws.FilesStand.{file_laid}
+use Rattle.splice_laws.proofs.RunLaws.FoundSpans.{Placed}
 use Rattle.run_rules.specs.FormTrees.{as_expr}
 use Rattle.run_rules.specs.Inlining.{ReadsAs}
 use Rattle.run_rules.specs.Laws.{file_found}
@@ -30,18 +30,18 @@ use Rattle.run_rules.specs.Respanned.{import_spec_with, import_decl_with, decl_w
 use Rattle.run_rules.specs.Run.{Standing, Logged, Next, here_of, origin_of, is_commented}
 use Rattle.run_rules.specs.Sites.{MarkRef, Where, Site, imported_by, outer}
 use Rattle.run_rules.specs.Steps.{At, same_here, change_nth, means_import, uses_import, added_decls, new_decls, file_between, packages_between, where_between}
-use Rattle.form_imports.specs.ImportLaws.Steps.{names_standing, used_before, used_after}
-use Rattle.form_imports.proofs.ImportLaws.GraphImports.{map_append, map_twice}
-use Rattle.form_imports.proofs.ImportLaws.StepImports.{removed_are_unused}
-use Rattle.cycle_runs.specs.ImportCycles.ImportSteps.{file_added, packages_added}
-use Rattle.cycle_runs.specs.ImportCycles.LookedUp.{decl_looked_up}
-use Rattle.cycle_runs.specs.KeptImports.Files.{RemovesNoneNamed, RemovesNoLookUps}
-use Rattle.cycle_runs.proofs.ImportCycles.ImportStep.{placed}
-use Rattle.marked_runs.specs.NamedMarks.Named.{AllNamed}
-use Rattle.marked_runs.proofs.KeptMarks.Changed.{name-stays}
-use Rattle.marked_runs.proofs.KeptMarks.Puts.{Puts, puts_name, puts_member, step-puts}
-use Rattle.marked_runs.proofs.NamedMarks.Used.{named-used}
-use Rattle.import_splices.proofs.FormSplices.FormsFound.{step-makes-form}
+use Rattle.splice_laws.specs.FormImports.ImportLaws.Steps.{names_standing, used_before, used_after}
+use Rattle.splice_laws.proofs.FormImports.ImportLaws.GraphImports.{map_append, map_twice}
+use Rattle.splice_laws.proofs.FormImports.ImportLaws.StepImports.{removed_are_unused}
+use Rattle.order_runs.specs.CycleRuns.ImportCycles.ImportSteps.{file_added, packages_added}
+use Rattle.order_runs.specs.CycleRuns.ImportCycles.LookedUp.{decl_looked_up}
+use Rattle.order_runs.specs.CycleRuns.KeptImports.Files.{RemovesNoneNamed, RemovesNoLookUps}
+use Rattle.order_runs.proofs.CycleRuns.ImportCycles.ImportStep.{placed}
+use Rattle.typed_parts.specs.MarkedRuns.NamedMarks.Named.{AllNamed}
+use Rattle.typed_parts.proofs.MarkedRuns.KeptMarks.Changed.{name-stays}
+use Rattle.typed_parts.proofs.MarkedRuns.KeptMarks.Puts.{Puts, puts_name, puts_member, step-puts}
+use Rattle.typed_parts.proofs.MarkedRuns.NamedMarks.Used.{named-used}
+use Rattle.splice_laws.proofs.ImportSplices.FormSplices.FormsFound.{step-makes-form}
 use Rattle.put_names.proofs.StepsPut.{file_reads}
 use Rattle.printed_constants.specs.Printed.{IsFlat, a_name, a_selection, IsPrinted, ArePrinted}
 use Rattle.printed_constants.proofs.PrintedUses.Expressions.{site_expression}

@@ -4,16 +4,16 @@ use Rattle.std.proofs.Common.{◌≡◌, ◌∙◌, refl, sym, ap, ℕ, suc, Boo
 use Rattle.go_tree.specs.declared.exprs.Rest.TheVariants.{Plain}
 use Rattle.go_tree.specs.Tree.{NameAt, Param, Expr, ident, int_lit, selector, call, Exprs, no_exprs, expr_and, eval, Stmts, ValueSpecs}
 use Rattle.go_tree.specs.File.{Receiver, Func, Decl, File}
-use Rattle.scope_names.specs.FreeNames.{names_of}
-use Rattle.scope_names.specs.Identifiers.{expr_identifiers, exprs_identifiers, stmts_identifiers, specs_identifiers, receiver_identifiers, sig_identifiers, decl_identifiers}
-use Rattle.scope_names.specs.Means.{means}
+use Rattle.go_tree.specs.ScopeNames.FreeNames.{names_of}
+use Rattle.go_tree.specs.ScopeNames.Identifiers.{expr_identifiers, exprs_identifiers, stmts_identifiers, specs_identifiers, receiver_identifiers, sig_identifiers, decl_identifiers}
+use Rattle.go_tree.specs.ScopeNames.Means.{means}
 use Rattle.pkg_graph.specs.Package.{Package}
-use Rattle.go_types.specs.Agreement.{In, head}
-use Rattle.go_types.specs.Answers.{given, otherwise, is_among}
-use Rattle.go_types.specs.Typing.{parts, all_parts}
-use Rattle.cycle_runs.proofs.ImportCycles.FreeIdentifiers.{in-left, in-right}
-use Rattle.standing_uses.proofs.ImportUses.Stays.{change}
-use Rattle.standing_uses.specs.ImportUses.Parts.{DottedImports, at_the_end, before_a_dot, past_another}
+use Rattle.go_tree.specs.GoTypes.Agreement.{In, head}
+use Rattle.go_tree.specs.GoTypes.Answers.{given, otherwise, is_among}
+use Rattle.go_tree.specs.GoTypes.Typing.{parts, all_parts}
+use Rattle.order_runs.proofs.CycleRuns.ImportCycles.FreeIdentifiers.{in-left, in-right}
+use Rattle.typed_parts.proofs.StandingUses.ImportUses.Stays.{change}
+use Rattle.typed_parts.specs.StandingUses.ImportUses.Parts.{DottedImports, at_the_end, before_a_dot, past_another}
 use Rattle.run_rules.specs.Surroundings.{Use, other, called, alone, a_slot, Place, Seen, seen, seen_stmt, alike, head_use, later_uses, arg_uses, value_use, inner_slot, in_slot, callee_place, comma_slot, after_stmt, at_stmt, in_constant}
 use Rattle.run_rules.specs.Places.{expr_seen, all_seen, stmts_seen, params_seen, sig_seen}
 use Rattle.run_rules.specs.Programs.{top_place, body_place, constants_at_top, receiver_seen, decl_seen}

@@ -4,7 +4,7 @@ use Rattle.std.proofs.Common.{◌≡◌, ◌∙◌, refl, sym, ap, subst, ℕ, B
 use Rattle.std.specs.Prelude.{nat_eq}
 use Rattle.go_tree.specs.Tree.{NameAt, Expr, ident, selector}
 use Rattle.pkg_graph.specs.Members.{Target, local, imported, member, predeclared}
-use Rattle.go_types.specs.Answers.{given, otherwise, one_of}
+use Rattle.go_tree.specs.GoTypes.Answers.{given, otherwise, one_of}
 use Rattle.run_rules.specs.Rewriting.{new_expr}
 use Rattle.run_rules.specs.Surroundings.{other, Place, Seen, inner_slot, in_slot}
 use Rattle.run_rules.specs.Places.{expr_seen}
@@ -16,10 +16,10 @@ use Rattle.run_rules.specs.Obstacles.{Obstacle, Shadowed, obstacle_if, not_acces
 use Rattle.run_rules.specs.Reduced.{Reduced, becomes, kept, home_place, constant_form, name_obstacle, named_form}
 use Rattle.run_rules.specs.Run.{Standing, is_commented}
 use Rattle.run_rules.specs.Steps.{At, same_here, Found, means_import, named_by_import}
-use Rattle.constant_steps.proofs.MarksFound.{both_none}
-use Rattle.constant_steps.proofs.NamesOutside.{unshadowed}
-use Rattle.standing_uses.specs.ImportUses.Parts.{IsNoImport}
-use Rattle.import_splices.specs.FormSplices.Laws.{MakesForm}
+use Rattle.splice_laws.proofs.ConstantSteps.MarksFound.{both_none}
+use Rattle.splice_laws.proofs.ConstantSteps.NamesOutside.{unshadowed}
+use Rattle.typed_parts.specs.StandingUses.ImportUses.Parts.{IsNoImport}
+use Rattle.splice_laws.specs.ImportSplices.FormSplices.Laws.{MakesForm}
 use Rattle.put_names.specs.Uses.{IsDeclaredAsName, as_name, as_member}
 use Rattle.put_names.proofs.Forms.{IsFormBy, by_obstacle, reduced_is}
 use Rattle.printed_constants.specs.DeclaredMembers.Members.{IsOwn, IsMember}

@@ -7,15 +7,15 @@ use Rattle.std.proofs.lemmas.Bool.Decides.{nat_tests}
 use Rattle.std.proofs.lemmas.List.Folds.{list_any-append}
 use Rattle.std.proofs.lemmas.Option.{same_Some}
 use Rattle.go_tree.specs.File.{ImportSpec, Decl}
-use Rattle.scope_names.specs.Means.{is_blank}
+use Rattle.go_tree.specs.ScopeNames.Means.{is_blank}
 use Rattle.pkg_graph.specs.Package.{SourceTree, Package, import_specs}
 use Rattle.pkg_graph.specs.Members.{import_name}
-use Rattle.go_types.specs.Agreement.{In}
-use Rattle.go_types.specs.Answers.{is_among}
-use Rattle.go_types.specs.Collect.{collected}
-use Rattle.go_types.specs.Entities.{World}
-use Rattle.go_types.specs.Programs.{Import, SourceFile, SourcePackage, Program, Headed, all_headers, names_in, file_block, block_names, headed, headed_file, headed_files, headed_package}
-use Rattle.go_types.specs.WellTyped.{header_uses, is_used_in, first_import, well_typed}
+use Rattle.go_tree.specs.GoTypes.Agreement.{In}
+use Rattle.go_tree.specs.GoTypes.Answers.{is_among}
+use Rattle.go_tree.specs.GoTypes.Collect.{collected}
+use Rattle.go_tree.specs.GoTypes.Entities.{World}
+use Rattle.go_tree.specs.GoTypes.Programs.{Import, SourceFile, SourcePackage, Program, Headed, all_headers, names_in, file_block, block_names, headed, headed_file, headed_files, headed_package}
+use Rattle.go_tree.specs.GoTypes.WellTyped.{header_uses, is_used_in, first_import, well_typed}
 use Rattle.typed_in_place.specs.ImportRule.{imports_sound, imports_used, files_import, package_imports, declarations_ok, imports_ok}
 use Rattle.typed_in_place.proofs.ImportRule.{well_typed_apart, file_imports}
 use Rattle.typed_in_place.proofs.Rising.{and_first, and_second, both_true}
@@ -27,15 +27,15 @@ use Rattle.run_rules.specs.Steps.{At}
 use Rattle.order_runs.specs.RunSteps.RunPackages.{members_of}
 use Rattle.order_runs.proofs.ImportRuns.Listed.{AllListed, order-listed, among-order}
 use Rattle.order_runs.proofs.RunSteps.SeatedUses.{Among, first, later}
-use Rattle.constant_steps.specs.Alone.{PackageAt, this_package, a_later_package}
-use Rattle.constant_steps.specs.PlainUse.{linked_at}
-use Rattle.constant_steps.proofs.MarksFound.{nth_mapped}
-use Rattle.constant_steps.proofs.PlainImports.{Distinct, distinct_sources}
+use Rattle.splice_laws.specs.ConstantSteps.Alone.{PackageAt, this_package, a_later_package}
+use Rattle.splice_laws.specs.ConstantSteps.PlainUse.{linked_at}
+use Rattle.splice_laws.proofs.ConstantSteps.MarksFound.{nth_mapped}
+use Rattle.splice_laws.proofs.ConstantSteps.PlainImports.{Distinct, distinct_sources}
 use Rattle.order_runs.proofs.RunSteps.MembersViewed.{sources-linked}
 use Rattle.order_runs.proofs.RunSteps.PackageStands.{StandsAt, package-stands}
-use Rattle.cycle_runs.specs.OrderCycles.Orders.{AllOrdered}
-use Rattle.marked_runs.specs.LinkedMembers.Laws.{files_use, ImportsUsed}
-use Rattle.marked_runs.proofs.ReadyModules.Typed.{linked_typed}
+use Rattle.order_runs.specs.CycleRuns.OrderCycles.Orders.{AllOrdered}
+use Rattle.typed_parts.specs.MarkedRuns.LinkedMembers.Laws.{files_use, ImportsUsed}
+use Rattle.typed_parts.proofs.MarkedRuns.ReadyModules.Typed.{linked_typed}
 use Rattle.printed_constants.specs.Printed.{IsPrinted, ArePrinted}
 use Rattle.printed_constants.specs.UsedImports.Uses.{decls_looked_up, LookUpImports}
 use Rattle.printed_constants.proofs.UsedImports.HeaderUses.{among_in, in_among, file_uses}

@@ -3,15 +3,15 @@ use Rattle.std.proofs.Common.{◌≡◌, ◌∙◌, ◌⊎◌, inl, inr, refl, s
 use Rattle.go_tree.specs.declared.exprs.Rest.TheVariants.{Plain}
 use Rattle.go_tree.specs.Tree.{Expr, ident, int_lit, selector, call, Exprs, no_exprs, expr_and, eval, Stmts, ValueSpecs}
 use Rattle.go_tree.specs.File.{Decl, File}
-use Rattle.scope_names.specs.FreeNames.{free_params, free_expr, free_exprs, free_stmts}
+use Rattle.go_tree.specs.ScopeNames.FreeNames.{free_params, free_expr, free_exprs, free_stmts}
 use Rattle.pkg_graph.specs.Package.{Package}
-use Rattle.go_types.specs.Agreement.{In}
-use Rattle.go_types.specs.Answers.{otherwise}
-use Rattle.go_types.specs.Typing.{parts, all_parts}
-use Rattle.cycle_runs.specs.ImportCycles.LookedUp.{specs_looked_up, receiver_looked_up, decl_looked_up}
-use Rattle.cycle_runs.proofs.ImportCycles.FreeIdentifiers.{in-left, in-right}
+use Rattle.go_tree.specs.GoTypes.Agreement.{In}
+use Rattle.go_tree.specs.GoTypes.Answers.{otherwise}
+use Rattle.go_tree.specs.GoTypes.Typing.{parts, all_parts}
+use Rattle.order_runs.specs.CycleRuns.ImportCycles.LookedUp.{specs_looked_up, receiver_looked_up, decl_looked_up}
+use Rattle.order_runs.proofs.CycleRuns.ImportCycles.FreeIdentifiers.{in-left, in-right}
 use Rattle.order_runs.proofs.RunSteps.SeatedUses.{Among, first, later}
-use Rattle.standing_uses.proofs.ImportUses.Stays.{change}
+use Rattle.typed_parts.proofs.StandingUses.ImportUses.Stays.{change}
 use Rattle.run_rules.specs.Surroundings.{Use, other, called, alone, a_slot, Place, Seen, seen, seen_stmt, alike, head_use, later_uses, arg_uses, value_use, inner_slot, in_slot, callee_place, comma_slot, after_stmt, at_stmt, in_constant}
 use Rattle.run_rules.specs.Places.{expr_seen, all_seen, stmt_seen, stmts_seen, params_seen, sig_seen}
 use Rattle.run_rules.specs.Programs.{top_place, body_place, constants_at_top, receiver_seen, decl_seen}

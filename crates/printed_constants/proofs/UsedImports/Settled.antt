@@ -9,11 +9,11 @@ use Rattle.import_rules.specs.declared.new_import.NewImport.{NewImport}
 use Rattle.import_rules.specs.SpecText.{is_before, put, in_order}
 use Rattle.import_rules.specs.Removed.{goes, goes_whole}
 use Rattle.import_rules.specs.Added.{adds_to_group}
-use Rattle.import_splices.specs.AddedFile.{added_spec, added_decls}
-use Rattle.import_splices.specs.SettledFile.{left_specs, left_single, left_decl, left_decls, grown_decls, with_added, settled_decls}
+use Rattle.splice_laws.specs.ImportSplices.AddedFile.{added_spec, added_decls}
+use Rattle.splice_laws.specs.ImportSplices.SettledFile.{left_specs, left_single, left_decl, left_decls, grown_decls, with_added, settled_decls}
 use Rattle.pkg_graph.specs.Package.{specs_in}
-use Rattle.cycle_runs.specs.StepCycles.PackagesAlike.{import_key}
-use Rattle.cycle_runs.proofs.KeptImports.Keys.{Key, new_key, key-bare, key-added}
+use Rattle.order_runs.specs.CycleRuns.StepCycles.PackagesAlike.{import_key}
+use Rattle.order_runs.proofs.CycleRuns.KeptImports.Keys.{Key, new_key, key-bare, key-added}
 
 append_none : {A : Type 0} (xs : List A) → xs ++ [] ≡ xs
 append_none [] = refl

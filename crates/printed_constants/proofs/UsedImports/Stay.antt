@@ -5,43 +5,43 @@ use Rattle.std.proofs.lemmas.Bool.Decides.{nat_tests}
 use Rattle.go_tree.specs.declared.spans.Span.{Span}
 use Rattle.go_tree.specs.Tree.{Expr, ident, selector}
 use Rattle.go_tree.specs.File.{ImportSpec, File}
-use Rattle.scope_names.specs.Identifiers.{expr_identifiers}
-use Rattle.scope_names.specs.Means.{is_blank}
-use Rattle.scope_names.specs.Scopes.{expr_span}
+use Rattle.go_tree.specs.ScopeNames.Identifiers.{expr_identifiers}
+use Rattle.go_tree.specs.ScopeNames.Means.{is_blank}
+use Rattle.go_tree.specs.ScopeNames.Scopes.{expr_span}
 use Rattle.pkg_graph.specs.Package.{SourceTree, Package, import_specs}
 use Rattle.pkg_graph.specs.Members.{name_or, import_name}
-use Rattle.go_types.specs.Agreement.{In, head}
+use Rattle.go_tree.specs.GoTypes.Agreement.{In, head}
 use Rattle.go_translation.specs.Packages as translated
 use Rattle.go_translation.specs.Packages.{are_well_typed}
-use Rattle.form_imports.specs.OwnNames.{AllOwn}
-use Rattle.form_imports.specs.Written.{NoneUnnamed}
-use Rattle.form_imports.specs.ImportLaws.Steps.{removed_specs}
+use Rattle.splice_laws.specs.FormImports.OwnNames.{AllOwn}
+use Rattle.splice_laws.specs.FormImports.Written.{NoneUnnamed}
+use Rattle.splice_laws.specs.FormImports.ImportLaws.Steps.{removed_specs}
 use Rattle.order_runs.specs.RunSteps.RunPackages.{members_of}
 use Rattle.order_runs.proofs.RunSteps.SeatedUses.{Seated}
 use Rattle.put_names.specs.Uses.{IsUsedByName, UsesConstant}
 use Rattle.put_nodes.specs.Put.{IsSomeName, alone, qualified}
-use Rattle.cycle_runs.specs.Linked.{WritesFile}
-use Rattle.cycle_runs.specs.KeptImports.Files.{IsSettled}
-use Rattle.cycle_runs.proofs.ImportCycles.ImportStep.{placed}
-use Rattle.cycle_runs.proofs.KeptImports.Kept.{is-settled}
-use Rattle.cycle_runs.proofs.Runs.{linked-names}
-use Rattle.run_laws.proofs.FoundSpans.{Placed}
+use Rattle.order_runs.specs.CycleRuns.Linked.{WritesFile}
+use Rattle.order_runs.specs.CycleRuns.KeptImports.Files.{IsSettled}
+use Rattle.order_runs.proofs.CycleRuns.ImportCycles.ImportStep.{placed}
+use Rattle.order_runs.proofs.CycleRuns.KeptImports.Kept.{is-settled}
+use Rattle.order_runs.proofs.CycleRuns.Runs.{linked-names}
+use Rattle.splice_laws.proofs.RunLaws.FoundSpans.{Placed}
 use Rattle.run_rules.specs.FormTrees.{as_expr}
 use Rattle.run_rules.specs.Forms.{is_at}
 use Rattle.run_rules.specs.Naming.{Named, imports_added, names_by}
 use Rattle.run_rules.specs.Run.{Standing, Logged, Next, here_of, texts_size, the_limits}
 use Rattle.run_rules.specs.Sites.{MarkRef, Where, Part, an_expr, a_constant, part_span}
 use Rattle.run_rules.specs.Steps.{At, same_here, change_nth, with_file}
-use Rattle.marked_runs.specs.KeptMarks.Over.{IsOverName}
-use Rattle.marked_runs.specs.LinkedMembers.Laws.{ImportsUsed}
-use Rattle.marked_runs.specs.NamedMarks.Named.{AllNamed}
-use Rattle.marked_runs.specs.SettledConstants.Laws.{ConstantsWrite, ConstantUsesAreNames, ConstantUsesAreSpelled}
-use Rattle.marked_runs.specs.SettledConstants.Programs.{IsReady}
-use Rattle.marked_runs.proofs.KeptMarks.Changed.{name-stays}
-use Rattle.marked_runs.proofs.KeptMarks.Kept.{writes}
-use Rattle.marked_runs.proofs.NamedMarks.Used.{named-used}
-use Rattle.marked_runs.proofs.PutForms.FirstUses.{seated}
-use Rattle.marked_runs.proofs.SoundImports.Sound.{sound-before}
+use Rattle.typed_parts.specs.MarkedRuns.KeptMarks.Over.{IsOverName}
+use Rattle.typed_parts.specs.MarkedRuns.LinkedMembers.Laws.{ImportsUsed}
+use Rattle.typed_parts.specs.MarkedRuns.NamedMarks.Named.{AllNamed}
+use Rattle.typed_parts.specs.MarkedRuns.SettledConstants.Laws.{ConstantsWrite, ConstantUsesAreNames, ConstantUsesAreSpelled}
+use Rattle.typed_parts.specs.MarkedRuns.SettledConstants.Programs.{IsReady}
+use Rattle.typed_parts.proofs.MarkedRuns.KeptMarks.Changed.{name-stays}
+use Rattle.typed_parts.proofs.MarkedRuns.KeptMarks.Kept.{writes}
+use Rattle.typed_parts.proofs.MarkedRuns.NamedMarks.Used.{named-used}
+use Rattle.typed_parts.proofs.MarkedRuns.PutForms.FirstUses.{seated}
+use Rattle.typed_parts.proofs.MarkedRuns.SoundImports.Sound.{sound-before}
 use Rattle.printed_constants.specs.Printed.{IsFlat, a_name, a_selection, ArePrinted}
 use Rattle.printed_constants.specs.UsedImports.Uses.{decls_looked_up, LookUpImports}
 use Rattle.printed_constants.proofs.NamedUses.Forms.{Writes, writes_name, writes_member, step_writes}

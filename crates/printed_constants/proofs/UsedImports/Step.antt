@@ -9,20 +9,20 @@ use Rattle.std.proofs.lemmas.Slice.Eq.{bytes_eq-Decides}
 use Rattle.go_tree.specs.declared.spans.Span.{Span}
 use Rattle.go_tree.specs.Tree.{Expr, ident}
 use Rattle.go_tree.specs.File.{ImportSpec, ImportDecl, Decl, File}
-use Rattle.scope_names.specs.FreeNames.{free_expr}
-use Rattle.scope_names.specs.Means.{Environment, means, is_blank, numbered}
+use Rattle.go_tree.specs.ScopeNames.FreeNames.{free_expr}
+use Rattle.go_tree.specs.ScopeNames.Means.{Environment, means, is_blank, numbered}
 use Rattle.import_rules.specs.Needs.{serving, avoided}
 use Rattle.import_rules.specs.Removed.{same_span}
-use Rattle.import_splices.specs.SettledFile.{settled_decls}
+use Rattle.splice_laws.specs.ImportSplices.SettledFile.{settled_decls}
 use Rattle.pkg_graph.specs.Package.{Package, specs_in, import_specs}
 use Rattle.pkg_graph.specs.Members.{Target, imported, import_name}
-use Rattle.go_types.specs.Agreement.{In, head}
-use Rattle.go_types.specs.Answers.{given, is_among}
-use Rattle.go_types.specs.Programs.{is_init, import_sound, block_names}
+use Rattle.go_tree.specs.GoTypes.Agreement.{In, head}
+use Rattle.go_tree.specs.GoTypes.Answers.{given, is_among}
+use Rattle.go_tree.specs.GoTypes.Programs.{is_init, import_sound, block_names}
 use Rattle.typed_in_place.specs.ImportRule.{imports_sound}
 use Rattle.typed_in_place.proofs.Rising.{and_first, and_second}
-use Rattle.run_laws.specs.Reading.{ProgramReads}
-use Rattle.run_laws.proofs.FoundSpans.{Placed}
+use Rattle.splice_laws.specs.RunLaws.Reading.{ProgramReads}
+use Rattle.splice_laws.proofs.RunLaws.FoundSpans.{Placed}
 use Rattle.run_rules.specs.FormTrees.{Form, as_expr}
 use Rattle.run_rules.specs.Forms.{is_at}
 use Rattle.run_rules.specs.Laws.{file_found}
@@ -33,16 +33,16 @@ use Rattle.run_rules.specs.Run.{Standing, Logged, Next, here_of, origin_of, is_c
 use Rattle.run_rules.specs.Sites.{MarkRef, Where, Site, an_expr, part_span, imported_by, outer}
 use Rattle.run_rules.specs.Steps.{At, same_here, change_nth, changes_for, means_import, uses_import, added_decls, new_decl, new_decls, packages_between, where_between}
 use Rattle.run_rules.specs.Surroundings.{Use, Place, Seen, seen}
-use Rattle.form_imports.specs.ImportLaws.Steps.{used_before, used_after, removed_specs}
+use Rattle.splice_laws.specs.FormImports.ImportLaws.Steps.{used_before, used_after, removed_specs}
 use Rattle.order_runs.proofs.RunSteps.SeatedUses.{Among, first, later, Seated}
 use Rattle.order_runs.specs.ImportSteps.ImportingSteps.{MayBeDeclared}
-use Rattle.standing_uses.specs.ImportUses.Parts.{EachSeen}
-use Rattle.cycle_runs.specs.StepCycles.PackagesAlike.{import_key}
-use Rattle.cycle_runs.specs.ImportCycles.LookedUp.{decl_looked_up}
-use Rattle.cycle_runs.specs.KeptImports.Files.{IsSettled}
-use Rattle.cycle_runs.specs.OrderCycles.NewNames.{NamesByPath}
-use Rattle.cycle_runs.proofs.ImportCycles.ImportStep.{placed}
-use Rattle.cycle_runs.proofs.KeptImports.Keys.{Key, new_key, key-with, keys-bare, key_name, name-by}
+use Rattle.typed_parts.specs.StandingUses.ImportUses.Parts.{EachSeen}
+use Rattle.order_runs.specs.CycleRuns.StepCycles.PackagesAlike.{import_key}
+use Rattle.order_runs.specs.CycleRuns.ImportCycles.LookedUp.{decl_looked_up}
+use Rattle.order_runs.specs.CycleRuns.KeptImports.Files.{IsSettled}
+use Rattle.order_runs.specs.CycleRuns.OrderCycles.NewNames.{NamesByPath}
+use Rattle.order_runs.proofs.CycleRuns.ImportCycles.ImportStep.{placed}
+use Rattle.order_runs.proofs.CycleRuns.KeptImports.Keys.{Key, new_key, key-with, keys-bare, key_name, name-by}
 use Rattle.printed_constants.specs.Printed.{IsFlat, an_operand, a_name, a_number, a_selection, a_call, IsPrinted, ArePrinted}
 use Rattle.printed_constants.specs.UsedImports.Uses.{decls_looked_up, LookUpImports}
 use Rattle.printed_constants.proofs.Parts.{PrintedPart, an_expression, a_statement, decl_parts}

@@ -7,21 +7,21 @@ use Rattle.go_tree.specs.declared.spans.Span.{Span}
 use Rattle.go_tree.specs.declared.tokens.Token.{Token}
 use Rattle.go_tree.specs.declared.tokens.Comment.{Comment}
 use Rattle.go_tree.specs.File.{Decl, File}
-use Rattle.go_words.specs.Tokens.{TokensOf}
-use Rattle.cycle_runs.specs.OrderCycles.NewNames.{FewNames}
+use Rattle.go_tree.specs.GoWords.Tokens.{TokensOf}
+use Rattle.order_runs.specs.CycleRuns.OrderCycles.NewNames.{FewNames}
 use Rattle.pkg_graph.specs.Reads.{Source}
-use Rattle.run_laws.specs.Reading.{ProgramReads, OnePathEach}
+use Rattle.splice_laws.specs.RunLaws.Reading.{ProgramReads, OnePathEach}
 use Rattle.run_rules.specs.Run.{Standing, Logged, Next, module_file_size, texts_size, the_limits, passed}
 use Rattle.run_rules.specs.Sites.{MarkRef, Where}
 use Rattle.run_rules.specs.Steps.{At, Found}
 use Rattle.run_rules.specs.Naming.{fuel_for}
 use Rattle.import_rules.specs.Needs.{avoided}
-use Rattle.form_imports.specs.ImportLaws.Steps.{names_standing}
+use Rattle.splice_laws.specs.FormImports.ImportLaws.Steps.{names_standing}
 use Rattle.run_rules.specs.Texts.{FileText}
-use Rattle.marked_runs.specs.NamedMarks.Named.{AllNamed}
-use Rattle.marked_runs.specs.PutForms.Uses.{IsFirstUse, UsesNamedConstant}
+use Rattle.typed_parts.specs.MarkedRuns.NamedMarks.Named.{AllNamed}
+use Rattle.typed_parts.specs.MarkedRuns.PutForms.Uses.{IsFirstUse, UsesNamedConstant}
 use Rattle.printed_constants.specs.Printed.{IsPrinted, ArePrinted}
-use Rattle.scope_names.specs.Identifiers.{identifiers}
+use Rattle.go_tree.specs.ScopeNames.Identifiers.{identifiers}
 
 -- A file of constants and of functions that print them has no more identifiers than tokens.
 abbrev pub PrintedNamesAreFew : Type 0

@@ -3,7 +3,7 @@
 use Rattle.std.specs.Prelude.{◌≡◌, List, [], Some}
 use Rattle.go_translation.specs.SameMeaning.{WellTyped}
 use Rattle.go_tree.specs.Tree.{NameAt, Expr}
-use Rattle.cycle_runs.specs.OrderCycles.Orders.{AllOrdered}
+use Rattle.order_runs.specs.CycleRuns.OrderCycles.Orders.{AllOrdered}
 use Rattle.pkg_graph.specs.Package.{Package}
 use Rattle.run_rules.specs.Sites.{MarkRef, Where, a_constant, where_is, inlinable}
 use Rattle.run_rules.specs.Steps.{At}

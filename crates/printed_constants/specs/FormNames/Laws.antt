@@ -1,12 +1,12 @@
 -- The law of the names that forms have for packages. It is the contract of a function of this crate (Go specification,
 -- Import declarations; Blank identifier).
 use Rattle.std.specs.Prelude.{◌≡◌, ℕ, false, List}
-use Rattle.form_imports.specs.OwnNames.{AllOwn}
-use Rattle.cycle_runs.specs.OrderCycles.NewNames.{FewNames}
+use Rattle.splice_laws.specs.FormImports.OwnNames.{AllOwn}
+use Rattle.order_runs.specs.CycleRuns.OrderCycles.NewNames.{FewNames}
 use Rattle.run_rules.specs.Naming.{names_by}
 use Rattle.run_rules.specs.Run.{Standing, Logged, Next}
 use Rattle.run_rules.specs.Sites.{MarkRef}
-use Rattle.scope_names.specs.Means.{is_blank}
+use Rattle.go_tree.specs.ScopeNames.Means.{is_blank}
 use Rattle.put_names.specs.WrittenNames.NamedPackages.{AreOfPackages}
 
 -- No package has the name `_` in a step's form, where its names are those of packages of the program, which have names

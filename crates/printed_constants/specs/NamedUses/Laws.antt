@@ -1,10 +1,10 @@
 -- The laws of constants that are declared as names of constants. Each is the contract of a function of this crate (Go
 -- specification, Constant declarations; Qualified identifiers; Exported identifiers).
 use Rattle.std.specs.Prelude.{◌≤◌, List, []}
-use Rattle.form_imports.specs.OwnNames.{AllOwn}
+use Rattle.splice_laws.specs.FormImports.OwnNames.{AllOwn}
 use Rattle.go_translation.specs.SameMeaning.{WellTyped}
-use Rattle.marked_runs.specs.NamedMarks.Named.{AllNamed}
-use Rattle.marked_runs.specs.SettledConstants.Programs.{IsReady}
+use Rattle.typed_parts.specs.MarkedRuns.NamedMarks.Named.{AllNamed}
+use Rattle.typed_parts.specs.MarkedRuns.SettledConstants.Programs.{IsReady}
 use Rattle.order_runs.specs.RunSteps.RunPackages.{packages_of}
 use Rattle.run_rules.specs.Run.{Standing, Logged, Next, texts_size, the_limits}
 use Rattle.run_rules.specs.Sites.{MarkRef}

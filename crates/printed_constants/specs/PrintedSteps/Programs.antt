@@ -2,11 +2,11 @@
 -- Packages; Package clause; the limits are this project's own).
 use Rattle.std.specs.Prelude.{◌≡◌, ◌+◌, ◌≤◌, true, List, []}
 use Rattle.pkg_graph.specs.Reads.{Source}
-use Rattle.form_imports.specs.OwnNames.{AllOwn}
+use Rattle.splice_laws.specs.FormImports.OwnNames.{AllOwn}
 use Rattle.go_translation.specs.SameMeaning.{WellTyped}
-use Rattle.marked_runs.specs.LinkedMembers.Laws.{HaveFiles}
-use Rattle.marked_runs.specs.NamedMarks.Named.{AllNamed}
-use Rattle.marked_runs.specs.SettledConstants.Programs.{IsReady}
+use Rattle.typed_parts.specs.MarkedRuns.LinkedMembers.Laws.{HaveFiles}
+use Rattle.typed_parts.specs.MarkedRuns.NamedMarks.Named.{AllNamed}
+use Rattle.typed_parts.specs.MarkedRuns.SettledConstants.Programs.{IsReady}
 use Rattle.order_runs.specs.RunSteps.RunPackages.{packages_of}
 use Rattle.run_by_steps.specs.RunProgress.Laws.{are_paths_apart}
 use Rattle.run_rules.specs.Run.{Standing, module_file_size, texts_size, the_limits}

@@ -1,21 +1,21 @@
 -- The laws of uses among constants and functions that print them. Each is the contract of a function of this crate (Go
 -- specification, Constant declarations; Operands; Qualified identifiers).
 use Rattle.std.specs.Prelude.{◌≡◌, ◌≤◌, List, [], Contains}
-use Rattle.form_imports.specs.OwnNames.{AllOwn}
+use Rattle.splice_laws.specs.FormImports.OwnNames.{AllOwn}
 use Rattle.go_tree.specs.Tree.{Expr}
 use Rattle.go_translation.specs.SameMeaning.{WellTyped}
 use Rattle.order_runs.specs.RunSteps.RunPackages.{packages_of}
-use Rattle.marked_runs.specs.KeptMarks.Over.{IsOverName}
-use Rattle.marked_runs.specs.LinkedMembers.Laws.{HaveFiles}
-use Rattle.marked_runs.specs.Marked.{StandsAdded}
-use Rattle.marked_runs.specs.NamedMarks.Named.{AllNamed}
+use Rattle.typed_parts.specs.MarkedRuns.KeptMarks.Over.{IsOverName}
+use Rattle.typed_parts.specs.MarkedRuns.LinkedMembers.Laws.{HaveFiles}
+use Rattle.typed_parts.specs.MarkedRuns.Marked.{StandsAdded}
+use Rattle.typed_parts.specs.MarkedRuns.NamedMarks.Named.{AllNamed}
 use Rattle.pkg_graph.specs.Package.{Package}
 use Rattle.printed_constants.specs.Printed.{ArePrinted}
 use Rattle.run_rules.specs.Run.{Standing, Logged, Next, texts_size, the_limits}
 use Rattle.run_rules.specs.Sites.{MarkRef, Site, an_expr, sites}
 use Rattle.run_rules.specs.Steps.{At}
 use Rattle.printed_constants.specs.PrintedUses.Added.{IsNamedThere}
-use Rattle.marked_runs.specs.SettledConstants.Programs.{IsReady}
+use Rattle.typed_parts.specs.MarkedRuns.SettledConstants.Programs.{IsReady}
 
 -- Each use of such a program is an expression.
 abbrev pub PrintedUsesAreExpressions : Type 0

@@ -3,18 +3,18 @@
 use Rattle.std.specs.Prelude.{◌≡◌, ℕ, true, List, Some, slice_get}
 use Rattle.go_tree.specs.Tree.{NameAt, Expr}
 use Rattle.go_tree.specs.File.{Decl}
-use Rattle.scope_names.specs.Means.{means}
+use Rattle.go_tree.specs.ScopeNames.Means.{means}
 use Rattle.pkg_graph.specs.Package.{Package}
-use Rattle.go_types.specs.Entities.{Entity, block_of}
-use Rattle.go_types.specs.WellTyped.{well_typed}
-use Rattle.cycle_runs.specs.OrderCycles.Orders.{AllOrdered}
+use Rattle.go_tree.specs.GoTypes.Entities.{Entity, block_of}
+use Rattle.go_tree.specs.GoTypes.WellTyped.{well_typed}
+use Rattle.order_runs.specs.CycleRuns.OrderCycles.Orders.{AllOrdered}
 use Rattle.run_rules.specs.Programs.{linked, world, decl_seen}
-use Rattle.marked_runs.specs.SettledConstants.Programs.{IsReady}
+use Rattle.typed_parts.specs.MarkedRuns.SettledConstants.Programs.{IsReady}
 use Rattle.run_rules.specs.Forms.{is_at}
 use Rattle.run_rules.specs.Run.{Standing, Logged, Next}
 use Rattle.run_rules.specs.Sites.{MarkRef, Where, an_expr, a_constant, inlinable, part_span}
 use Rattle.run_rules.specs.Steps.{At, same_here}
-use Rattle.standing_uses.specs.ImportUses.Parts.{EachSeen}
+use Rattle.typed_parts.specs.StandingUses.ImportUses.Parts.{EachSeen}
 use Rattle.printed_constants.specs.Printed.{ArePrinted}
 use Rattle.printed_constants.specs.QualifiedDots.Names.{IsUntypedMember, IsQualified, HasNoDot}
 

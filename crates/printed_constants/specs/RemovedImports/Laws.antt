@@ -1,10 +1,10 @@
 -- The law of the imports that a step removes. It is the contract of a function of this crate (Go specification, Import
 -- declarations; Qualified identifiers; Declarations and scope).
 use Rattle.std.specs.Prelude.{List}
-use Rattle.cycle_runs.specs.KeptImports.Files.{RemovesNoLookUps}
-use Rattle.marked_runs.specs.NamedMarks.Named.{AllNamed}
+use Rattle.order_runs.specs.CycleRuns.KeptImports.Files.{RemovesNoLookUps}
+use Rattle.typed_parts.specs.MarkedRuns.NamedMarks.Named.{AllNamed}
 use Rattle.printed_constants.specs.Printed.{ArePrinted}
-use Rattle.run_laws.specs.Reading.{ProgramReads}
+use Rattle.splice_laws.specs.RunLaws.Reading.{ProgramReads}
 use Rattle.run_rules.specs.Run.{Standing, Logged, Next}
 use Rattle.run_rules.specs.Sites.{MarkRef}
 

@@ -1,14 +1,14 @@
 -- The laws of imports that are used. Each is the contract of a function of this crate (Go specification, Import
 -- declarations; Qualified identifiers; Declarations and scope).
 use Rattle.std.specs.Prelude.{◌≤◌, List, []}
-use Rattle.form_imports.specs.OwnNames.{AllOwn}
+use Rattle.splice_laws.specs.FormImports.OwnNames.{AllOwn}
 use Rattle.go_translation.specs.Packages as translated
 use Rattle.go_translation.specs.SameMeaning.{WellTyped}
-use Rattle.cycle_runs.specs.OrderCycles.Orders.{AllOrdered}
+use Rattle.order_runs.specs.CycleRuns.OrderCycles.Orders.{AllOrdered}
 use Rattle.order_runs.specs.RunSteps.RunPackages.{members_of, packages_of}
-use Rattle.marked_runs.specs.LinkedMembers.Laws.{ImportsUsed}
-use Rattle.marked_runs.specs.NamedMarks.Named.{AllNamed}
-use Rattle.marked_runs.specs.SettledConstants.Programs.{IsReady}
+use Rattle.typed_parts.specs.MarkedRuns.LinkedMembers.Laws.{ImportsUsed}
+use Rattle.typed_parts.specs.MarkedRuns.NamedMarks.Named.{AllNamed}
+use Rattle.typed_parts.specs.MarkedRuns.SettledConstants.Programs.{IsReady}
 use Rattle.pkg_graph.specs.Package.{Package}
 use Rattle.run_rules.specs.Run.{Standing, Logged, Next, texts_size, the_limits}
 use Rattle.run_rules.specs.Sites.{MarkRef}

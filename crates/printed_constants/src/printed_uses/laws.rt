@@ -4,7 +4,7 @@ ghost use Rattle.printed_constants.specs.PrintedUses.Laws.{PrintedStepsAreOver, 
 ghost use Rattle.printed_constants.specs.PrintedUses.Laws.{PrintedUsesStand};
 
 use crate::used_imports::printed_imports_are_used;
-use marked_runs::constants_settle;
+use typed_parts::marked_runs::constants_settle;
 
 /// Each use of a marked declaration in a program of constants, and of functions that print them, is an expression: no
 /// types are written there (Go specification, Operands).

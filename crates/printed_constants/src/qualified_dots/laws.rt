@@ -2,7 +2,7 @@
 
 ghost use Rattle.printed_constants.specs.QualifiedDots.Laws as law;
 
-use standing_uses::constant_uses_stand_once;
+use typed_parts::standing_uses::constant_uses_stand_once;
 use typed_parts::well_typed_files_are_dotted;
 
 /// In packages of constants and of functions that print them each name of a package block means a function or an

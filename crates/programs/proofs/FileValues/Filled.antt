@@ -7,8 +7,8 @@ use Rattle.std.proofs.lemmas.List.Elements.{All-map}
 use Rattle.go_tree.specs.declared.spans.Span.{Span}
 use Rattle.go_tree.specs.File.{ImportSpec, Decl}
 use Rattle.go_tree.specs.FileView.{decl_of, file_of}
-use Rattle.scope_names.specs.Means.{or_else}
-use Rattle.scope_names.specs.declared.names.FileNames.{FileNames}
+use Rattle.go_tree.specs.ScopeNames.Means.{or_else}
+use Rattle.go_tree.specs.declared.scope_names.names.FileNames.{FileNames}
 use Rattle.scope_tables.specs.Table.{IsTableOf}
 use Rattle.pkg_graph.specs.Package as pure
 use Rattle.pkg_graph.specs.Package.{import_specs}
@@ -16,13 +16,13 @@ use Rattle.pkg_graph.specs.Members.{names_of_file}
 use Rattle.pkg_graph.specs.Views.{package_view}
 use Rattle.pkg_graph.specs.declared.packages.Package.{Package}
 use Rattle.pkg_graph.specs.declared.packages.SourceTree.{SourceTree}
-use Rattle.go_types.specs.Answers.{given}
+use Rattle.go_tree.specs.GoTypes.Answers.{given}
 use Rattle.run_rules.specs.Programs.{number_from}
 use Rattle.member_uses.specs.Uses.{Names}
 use Rattle.file_tables.specs.Numbers.{number_in}
-use Rattle.mark_values.specs.declared.values.DeclaredValue.{DeclaredValue}
-use Rattle.mark_values.specs.Values.{decl_values}
-use Rattle.mark_values.specs.Tables.{DeclKey, Known, values_at}
+use Rattle.use_search.specs.declared.mark_values.values.DeclaredValue.{DeclaredValue}
+use Rattle.use_search.specs.MarkValues.Values.{decl_values}
+use Rattle.use_search.specs.MarkValues.Tables.{DeclKey, Known, values_at}
 use Rattle.programs.specs.FileValues.Filled.{is_constants, constants_in, IsFilled, HasFileValues}
 use Rattle.programs.proofs.FileValues.Filling.{nat_cases, unequal}
 

@@ -7,12 +7,12 @@ use Rattle.go_tree.specs.declared.spans.Span.{Span}
 use Rattle.go_tree.specs.declared.files.Decl as code
 use Rattle.go_tree.specs.File.{Decl}
 use Rattle.go_tree.specs.FileView.{decl_of}
-use Rattle.scope_names.specs.Means.{or_else}
-use Rattle.go_types.specs.Answers.{given}
+use Rattle.go_tree.specs.ScopeNames.Means.{or_else}
+use Rattle.go_tree.specs.GoTypes.Answers.{given}
 use Rattle.member_uses.specs.Uses.{Names}
-use Rattle.mark_values.specs.declared.values.DeclaredValue.{DeclaredValue}
-use Rattle.mark_values.specs.Values.{decl_values}
-use Rattle.mark_values.specs.Tables.{DeclKey, same_key, Known, values_at, IsPut}
+use Rattle.use_search.specs.declared.mark_values.values.DeclaredValue.{DeclaredValue}
+use Rattle.use_search.specs.MarkValues.Values.{decl_values}
+use Rattle.use_search.specs.MarkValues.Tables.{DeclKey, same_key, Known, values_at, IsPut}
 use Rattle.programs.specs.FileValues.Filled.{is_constants, constants_in, file_values, IsFilled}
 
 abbrev pub Constants : Type 0

@@ -6,7 +6,7 @@ use Rattle.std.proofs.lemmas.Bool.Decides.{nat_tests}
 use Rattle.indexmap.specs.IndexMap.{insert_entry}
 use Rattle.go_tree.specs.declared.spans.Span.{Span}
 use Rattle.go_tree.specs.File.{Decl}
-use Rattle.scope_names.specs.Means.{or_else}
+use Rattle.go_tree.specs.ScopeNames.Means.{or_else}
 use Rattle.import_rules.specs.Removed.{span_at, same_span}
 use Rattle.possible_uses.specs.declared.parts.PartRef.{PartRef}
 use Rattle.possible_uses.specs.Views.{part_of}

@@ -1,23 +1,24 @@
 -- What the constants of files are declared as (Go specification, Constant declarations; Declarations and scope).
-use Rattle.std.specs.Prelude.{◌≡◌, ℕ, Bool, true, false, ◌&&◌, nat_eq, List, map, Option, Some, None, if◌then◌else◌, slice_get}
+use Rattle.std.specs.Prelude.{◌≡◌, ℕ, Bool, true, false, ◌&&◌, nat_eq, List, map, Option, Some, None}
+use Rattle.std.specs.Prelude.{if◌then◌else◌, slice_get}
 use Rattle.go_tree.specs.declared.spans.Span.{Span}
 use Rattle.go_tree.specs.Tree.{const_decl}
 use Rattle.go_tree.specs.File.{Decl, values}
 use Rattle.go_tree.specs.FileView.{decl_of, file_of}
-use Rattle.scope_names.specs.Means.{or_else}
-use Rattle.scope_names.specs.declared.names.FileNames.{FileNames}
+use Rattle.go_tree.specs.ScopeNames.Means.{or_else}
+use Rattle.go_tree.specs.declared.scope_names.names.FileNames.{FileNames}
 use Rattle.scope_tables.specs.Table.{IsTableOf}
 use Rattle.pkg_graph.specs.Package.{import_specs}
 use Rattle.pkg_graph.specs.Members.{names_of_file}
 use Rattle.pkg_graph.specs.Views.{package_view}
 use Rattle.pkg_graph.specs.declared.packages.Package.{Package}
 use Rattle.pkg_graph.specs.declared.packages.SourceTree.{SourceTree}
-use Rattle.go_types.specs.Answers.{given}
+use Rattle.go_tree.specs.GoTypes.Answers.{given}
 use Rattle.member_uses.specs.Uses.{Names}
 use Rattle.file_tables.specs.Numbers.{number_in}
-use Rattle.mark_values.specs.declared.values.DeclaredValue.{DeclaredValue}
-use Rattle.mark_values.specs.Values.{decl_values}
-use Rattle.mark_values.specs.Tables.{DeclKey, Known, values_at}
+use Rattle.use_search.specs.declared.mark_values.values.DeclaredValue.{DeclaredValue}
+use Rattle.use_search.specs.MarkValues.Values.{decl_values}
+use Rattle.use_search.specs.MarkValues.Tables.{DeclKey, Known, values_at}
 
 -- it declares constants
 abbrev pub is_constants : {S : Type 0} → Decl S → Bool

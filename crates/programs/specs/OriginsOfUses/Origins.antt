@@ -4,9 +4,9 @@ use Rattle.std.specs.Prelude.{◌≡◌, length, List, [], ◌∷◌, Option, So
 use Rattle.go_tree.specs.declared.spans.Span.{Span}
 use Rattle.go_tree.specs.Tree.{ident, selector}
 use Rattle.go_tree.specs.File.{Decl}
-use Rattle.scope_names.specs.Means.{or_else}
+use Rattle.go_tree.specs.ScopeNames.Means.{or_else}
 use Rattle.import_rules.specs.Removed.{same_span}
-use Rattle.go_types.specs.Answers.{given}
+use Rattle.go_tree.specs.GoTypes.Answers.{given}
 use Rattle.possible_uses.specs.Candidates.{Candidate}
 use Rattle.possible_uses.specs.Parts.{parts_of}
 use Rattle.run_rules.specs.Sites.{Part, an_expr}

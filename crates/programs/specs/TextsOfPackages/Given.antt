@@ -1,5 +1,6 @@
 -- The files of a module in their packages (Go specification, Packages; Source file organization).
-use Rattle.std.specs.Prelude.{◌≡◌, ℕ, false, nat_eq, List, [], ◌∷◌, ◌++◌, length, map, Some, None, if◌then◌else◌, slice_get}
+use Rattle.std.specs.Prelude.{◌≡◌, ℕ, false, nat_eq, List, [], ◌∷◌, ◌++◌, length, map, Some, None}
+use Rattle.std.specs.Prelude.{if◌then◌else◌, slice_get}
 use Rattle.name_walks.specs.Around.{place_in}
 use Rattle.module_files.specs.Pieces.{folder_of}
 use Rattle.module_reading.specs.declared.files.ScannedFile.{ScannedFile}

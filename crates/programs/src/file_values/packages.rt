@@ -1,23 +1,24 @@
 //! The constants of packages.
 
-ghost use Rattle.std.specs.Prelude.{◌≡◌, ◌<◌, ◌^◌, ◌&&◌, ℕ, false, nat_eq, IfOk, OnOk, Some, length, slice_get};
+ghost use Rattle.std.specs.Prelude.{◌≡◌, ◌<◌, ◌^◌, ◌&&◌, ℕ, false, nat_eq, IfOk, OnOk, Some};
+ghost use Rattle.std.specs.Prelude.{length, slice_get};
 ghost use Rattle.pkg_graph.specs.Views.{package_view};
 ghost use Rattle.pkg_graph.specs.declared.packages.Package as code;
 ghost use Rattle.pkg_graph.specs.declared.packages.SourceTree as code_tree;
 ghost use Rattle.file_names.specs.Imports.{FindsPackages};
 ghost use Rattle.file_names.specs.Members.{IsBlockOf};
-ghost use Rattle.mark_values.specs.Tables.{DeclKey, values_at};
+ghost use Rattle.use_search.specs.MarkValues.Tables.{DeclKey, values_at};
 ghost use Rattle.programs.specs.FileValues.Filled.{HasFileValues};
 
 use crate::file_values::files::fill_file;
 use file_names::{Places, block_members, member_names};
 use file_tables::{FileTables, file_tables};
 use go_tree::NoMemory;
-use mark_values::ConstantValues;
+use go_tree::scope_names::{FileNames, NameList};
 use member_uses::FileScopes;
 use pkg_graph::{Package, SourceTree};
-use scope_names::{FileNames, NameList};
 use std::alloc::Global;
+use use_search::mark_values::ConstantValues;
 
 /// The table has what the constants of the file with this number are declared as from now on, of the package with
 /// this number, whose block has these names; what it has of other files stays. The names are handed back. An error

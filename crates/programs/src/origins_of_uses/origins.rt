@@ -4,11 +4,12 @@ ghost use Rattle.std.specs.Prelude.{◌≡◌, IfOk, OnOk, length, map};
 ghost use Rattle.go_tree.specs.declared.spans.Span as spans;
 ghost use Rattle.go_tree.specs.View.{expr_of};
 ghost use Rattle.go_tree.specs.FileView.{decl_of};
-ghost use Rattle.scope_names.specs.Means.{or_else};
+ghost use Rattle.go_tree.specs.ScopeNames.Means.{or_else};
 ghost use Rattle.possible_uses.specs.Parts.{parts_of};
 ghost use Rattle.possible_uses.specs.Views.{part_of};
 ghost use Rattle.run_rules.specs.Sites.{an_expr};
-ghost use Rattle.programs.specs.OriginsOfUses.Origins.{AreOriginsOf, at_span, decls_origin, first_origin, named_span, own_origin};
+ghost use Rattle.programs.specs.OriginsOfUses.Origins.{AreOriginsOf, at_span, decls_origin, first_origin, named_span};
+ghost use Rattle.programs.specs.OriginsOfUses.Origins.{own_origin};
 
 use crate::origins_of_uses::table::OriginTable;
 use go_tree::{Decl, Expr, NoMemory, Span};

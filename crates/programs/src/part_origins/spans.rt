@@ -3,7 +3,7 @@
 ghost use Rattle.std.specs.Prelude.{◌≡◌, IfOk};
 ghost use Rattle.go_tree.specs.View.{expr_of, type_of};
 ghost use Rattle.go_tree.specs.FileView.{decl_of};
-ghost use Rattle.scope_names.specs.Scopes.{expr_span};
+ghost use Rattle.go_tree.specs.ScopeNames.Scopes.{expr_span};
 ghost use Rattle.run_rules.specs.Sites.{part_span as spec_part_span, type_span};
 ghost use Rattle.possible_uses.specs.Views.{part_of};
 ghost use Rattle.programs.specs.PartOrigins.Spans.{part_spans};

@@ -1,6 +1,7 @@
 //! Texts in their packages.
 
-ghost use Rattle.std.specs.Prelude.{◌≡◌, ◌<◌, ◌++◌, ◌∷◌, [], false, All, IfOk, OnOk, length, nat_lt};
+ghost use Rattle.std.specs.Prelude.{◌≡◌, ◌<◌, ◌++◌, ◌∷◌, [], false, All, IfOk, OnOk, length};
+ghost use Rattle.std.specs.Prelude.{nat_lt};
 ghost use Rattle.std.specs.List.{list_all};
 ghost use Rattle.programs.specs.TextsOfPackages.Given.{ArePlaced, AreTexts, HaveNone};
 

@@ -12,9 +12,9 @@ use Rattle.run_rules.specs.Naming.{imports_added}
 use Rattle.run_rules.specs.Respanned.{import_spec_with}
 use Rattle.run_rules.specs.Steps.{At, added_decls}
 use Rattle.run_rules.specs.Run.{Standing, Logged, Next, here_of}
-use Rattle.cycle_runs.specs.StepCycles.PackagesAlike.{import_key}
-use Rattle.cycle_runs.specs.ImportCycles.OtherImports.{import_path}
-use Rattle.cycle_runs.specs.ImportCycles.ImportSteps.{packages_added, KeepsNames}
+use Rattle.order_runs.specs.CycleRuns.StepCycles.PackagesAlike.{import_key}
+use Rattle.order_runs.specs.CycleRuns.ImportCycles.OtherImports.{import_path}
+use Rattle.order_runs.specs.CycleRuns.ImportCycles.ImportSteps.{packages_added, KeepsNames}
 use Rattle.put_names.specs.ReadImports.PutInText.{unused_spans, PutInText}
 use Rattle.put_names.specs.ReadImports.RemovedNames.{RemovesNoNames}
 use Rattle.put_names.proofs.ReadImports.Specs.{nothing-behind, with-specs}

@@ -12,8 +12,8 @@ use Rattle.pkg_graph.specs.Package.{specs_in, import_specs}
 use Rattle.text_edits.specs.Applied.{applied}
 use Rattle.import_rules.specs.Removed.{goes}
 use Rattle.import_rules.specs.Settled.{settled}
-use Rattle.import_splices.specs.SettledFile.{left_decls, with_settled}
-use Rattle.import_splices.proofs.FormsToo.{form_settled_go}
+use Rattle.splice_laws.specs.ImportSplices.SettledFile.{left_decls, with_settled}
+use Rattle.splice_laws.proofs.ImportSplices.FormsToo.{form_settled_go}
 use Rattle.splice_laws.specs.Swaps.{Swap, FileIn, in_decls}
 use Rattle.splice_laws.specs.Fits.{swap_mark}
 use Rattle.splice_laws.specs.Forms.{new_layout}
@@ -22,8 +22,8 @@ use Rattle.run_rules.specs.Sites.{MarkRef}
 use Rattle.run_rules.specs.Naming.{imports_added}
 use Rattle.run_rules.specs.Respanned.{file_with}
 use Rattle.run_rules.specs.Run.{Standing, Logged, Next, here_of}
-use Rattle.cycle_runs.specs.StepCycles.PackagesAlike.{import_key}
-use Rattle.cycle_runs.specs.StepCycles.Steps.{SameImports}
+use Rattle.order_runs.specs.CycleRuns.StepCycles.PackagesAlike.{import_key}
+use Rattle.order_runs.specs.CycleRuns.StepCycles.Steps.{SameImports}
 use Rattle.put_names.specs.ReadImports.PutInText.{file_before, unused_spans, PutInText}
 use Rattle.put_names.proofs.ReadImports.Specs.{keys-bare, keys-with, bare-keys, specs-left, all-stay}
 

@@ -6,12 +6,12 @@ use Rattle.std.specs.List.{list_all}
 use Rattle.std.specs.Str.{chars, all_scalars, IsUtf8, IsAscii}
 use Rattle.std.proofs.lemmas.Bool.Decides.{nat_tests}
 use Rattle.std.proofs.lemmas.Str.{chars-append, chars-IsAscii, encodes-append, encodes-chars, encodes-IsAscii, IsUtf8-from_ascii}
-use Rattle.go_words.specs.Tokens.Characters.{is_letter, is_word, is_digit, each}
-use Rattle.go_words.specs.Tokens.Pieces.{keyword_spellings, is_among, is_identifier}
+use Rattle.go_tree.specs.GoWords.Tokens.Characters.{is_letter, is_word, is_digit, each}
+use Rattle.go_tree.specs.GoWords.Tokens.Pieces.{keyword_spellings, is_among, is_identifier}
 use Rattle.go_scan.proofs.Derivatives.{and_parts, and_true}
 use Rattle.go_scan.proofs.LetterLemmas.{digit_ascii}
 use Rattle.layout_laws.specs.Formed.{IsName}
-use Rattle.scope_names.specs.Fresh.{candidate}
+use Rattle.go_tree.specs.ScopeNames.Fresh.{candidate}
 
 -- ---- digits
 

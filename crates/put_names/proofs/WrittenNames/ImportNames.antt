@@ -4,7 +4,7 @@ use Rattle.std.specs.Option.{option_map}
 use Rattle.go_tree.specs.declared.spans.Span.{Span}
 use Rattle.go_tree.specs.Tree.{NameAt}
 use Rattle.go_tree.specs.File.{ImportSpec, ImportDecl, File}
-use Rattle.go_words.specs.Terminals.{lex}
+use Rattle.go_tree.specs.GoWords.Terminals.{lex}
 use Rattle.go_read.specs.SpellsTypes.{Lexemes}
 use Rattle.go_read.specs.SpellsSpans.{span_to}
 use Rattle.go_read.specs.SpellsFiles.{SpellsImportSpec, SpellsImportSpecs, SpellsImport, SpellsImports, SpellsFront, path_rule, named_path_rule, no_import_specs_rule, last_import_spec_rule, more_import_specs_rule, import_rule, import_group_rule, no_imports_rule, more_imports_rule, front_rule}

@@ -9,23 +9,23 @@ use Rattle.std.proofs.lemmas.Str.{encodes-chars, scalars-chars}
 use Rattle.go_tree.specs.declared.spans.Span.{Span}
 use Rattle.go_tree.specs.Tree.{NameAt}
 use Rattle.go_tree.specs.File.{ImportSpec}
-use Rattle.go_words.specs.Tokens.Characters.{each}
-use Rattle.go_words.specs.Tokens.Pieces.{keyword_spellings, is_among}
+use Rattle.go_tree.specs.GoWords.Tokens.Characters.{each}
+use Rattle.go_tree.specs.GoWords.Tokens.Pieces.{keyword_spellings, is_among}
 use Rattle.layout_laws.specs.Formed.{FormedName, IsName}
-use Rattle.scope_names.specs.declared.names.Entity.{Entity}
-use Rattle.scope_names.specs.declared.names.ImportName.{ImportName}
-use Rattle.scope_names.specs.Fresh.{is_new}
-use Rattle.scope_names.specs.Identifiers.{identifiers}
-use Rattle.scope_names.specs.Means.{Environment, predeclared}
+use Rattle.go_tree.specs.declared.scope_names.names.Entity.{Entity}
+use Rattle.go_tree.specs.declared.scope_names.names.ImportName.{ImportName}
+use Rattle.go_tree.specs.ScopeNames.Fresh.{is_new}
+use Rattle.go_tree.specs.ScopeNames.Identifiers.{identifiers}
+use Rattle.go_tree.specs.ScopeNames.Means.{Environment, predeclared}
 use Rattle.pkg_graph.specs.Package.{Package, import_specs}
 use Rattle.pkg_graph.specs.Members.{package_name, name_or, import_name}
 use Rattle.import_rules.specs.declared.new_import.NewImport.{NewImport}
 use Rattle.import_rules.specs.Needs.{serves, serving_from, serving, avoided}
-use Rattle.import_splices.specs.AddedFile as added
-use Rattle.import_splices.specs.AddedFile.{is_byte, AreWritable}
-use Rattle.form_imports.specs.ImportLaws.Steps.{binders_of}
-use Rattle.form_imports.proofs.ImportLaws.StepNames.{FoundWell, found_well}
-use Rattle.cycle_runs.specs.OrderCycles.NewNames.{NamesByPath, FewNames}
+use Rattle.splice_laws.specs.ImportSplices.AddedFile as added
+use Rattle.splice_laws.specs.ImportSplices.AddedFile.{is_byte, AreWritable}
+use Rattle.splice_laws.specs.FormImports.ImportLaws.Steps.{binders_of}
+use Rattle.splice_laws.proofs.FormImports.ImportLaws.StepNames.{FoundWell, found_well}
+use Rattle.order_runs.specs.CycleRuns.OrderCycles.NewNames.{NamesByPath, FewNames}
 use Rattle.run_rules.specs.Surroundings.{Place}
 use Rattle.run_rules.specs.Sites.{MarkRef, Where}
 use Rattle.run_rules.specs.Naming.{Named, no_span, fuel_for, fresh_name, package_path, own_name, names_here, environment_here, added_import, named_packages, name_added, imports_added}
@@ -36,8 +36,8 @@ use Rattle.run_rules.specs.Inlining.{ReadsAs}
 use Rattle.run_rules.specs.Laws.{file_found}
 use Rattle.run_rules.specs.Texts.{FileText}
 use Rattle.run_rules.proofs.NamesFound.{found_is_fresh}
-use Rattle.run_laws.specs.Reading.{FileReads, FileAt, ProgramReads}
-use Rattle.run_laws.proofs.FoundSpans.{Placed, FoundIn, found_in}
+use Rattle.splice_laws.specs.RunLaws.Reading.{FileReads, FileAt, ProgramReads}
+use Rattle.splice_laws.proofs.RunLaws.FoundSpans.{Placed, FoundIn, found_in}
 use Rattle.put_nodes.specs.SpelledNames.{AreNames}
 use Rattle.put_names.specs.WrittenNames.NamedPackages.{PackagesAreNamed, PathsAreOctets, AreOfPackages}
 use Rattle.put_names.proofs.WrittenNames.Candidates.{candidate_is_name}

@@ -2,12 +2,12 @@
 -- declarations; Source file organization).
 use Rattle.std.specs.Prelude.{List}
 use Rattle.go_tree.specs.FileBare.{bare_file}
-use Rattle.cycle_runs.specs.Linked.{SettlesFile}
-use Rattle.import_splices.specs.AddedFile.{AreWritable}
-use Rattle.cycle_runs.specs.KeptImports.Files.{PutsNode, RemovesNoNames}
-use Rattle.cycle_runs.specs.OrderCycles.NewNames.{FewNames}
-use Rattle.cycle_runs.specs.OrderedSteps.Ranks.{AddsLedTo}
-use Rattle.run_laws.specs.Reading.{ProgramReads}
+use Rattle.order_runs.specs.CycleRuns.Linked.{SettlesFile}
+use Rattle.splice_laws.specs.ImportSplices.AddedFile.{AreWritable}
+use Rattle.order_runs.specs.CycleRuns.KeptImports.Files.{PutsNode, RemovesNoNames}
+use Rattle.order_runs.specs.CycleRuns.OrderCycles.NewNames.{FewNames}
+use Rattle.order_runs.specs.CycleRuns.OrderedSteps.Ranks.{AddsLedTo}
+use Rattle.splice_laws.specs.RunLaws.Reading.{ProgramReads}
 use Rattle.run_rules.specs.Laws.{file_found}
 use Rattle.run_rules.specs.Naming.{imports_added}
 use Rattle.run_rules.specs.Run.{Standing, Logged, Next}

@@ -6,9 +6,9 @@ use Rattle.import_rules.specs.Removed.{goes}
 use Rattle.run_rules.specs.Sites.{MarkRef}
 use Rattle.run_rules.specs.Naming.{imports_added}
 use Rattle.run_rules.specs.Run.{Standing, Logged, Next}
-use Rattle.cycle_runs.specs.StepCycles.PackagesAlike.{import_key}
-use Rattle.cycle_runs.specs.StepCycles.Steps.{SameImports}
-use Rattle.cycle_runs.specs.ImportCycles.ImportSteps.{KeepsNames}
+use Rattle.order_runs.specs.CycleRuns.StepCycles.PackagesAlike.{import_key}
+use Rattle.order_runs.specs.CycleRuns.StepCycles.Steps.{SameImports}
+use Rattle.order_runs.specs.CycleRuns.ImportCycles.ImportSteps.{KeepsNames}
 use Rattle.put_names.specs.ReadImports.PutInText.{file_before, unused_spans, PutInText}
 use Rattle.put_names.specs.ReadImports.RemovedNames.{RemovesNoNames}
 

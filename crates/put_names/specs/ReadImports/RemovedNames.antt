@@ -1,16 +1,16 @@
 -- What is asked of the imports that a step removes (Go specification, Import declarations; Declarations and scope).
 use Rattle.std.specs.Prelude.{◌≡◌, ℕ, List, None, Some, filter, slice_get}
 use Rattle.go_tree.specs.File.{ImportSpec, Decl}
-use Rattle.scope_names.specs.Identifiers.{decl_identifiers}
+use Rattle.go_tree.specs.ScopeNames.Identifiers.{decl_identifiers}
 use Rattle.pkg_graph.specs.Package.{import_specs}
-use Rattle.go_types.specs.Agreement.{In}
+use Rattle.go_tree.specs.GoTypes.Agreement.{In}
 use Rattle.import_rules.specs.Removed.{goes}
 use Rattle.run_rules.specs.Sites.{MarkRef}
 use Rattle.run_rules.specs.Respanned.{import_spec_with}
 use Rattle.run_rules.specs.Steps.{At}
 use Rattle.run_rules.specs.Run.{Standing, Logged, Next, here_of}
-use Rattle.cycle_runs.specs.ImportCycles.OtherImports.{import_path}
-use Rattle.cycle_runs.specs.ImportCycles.ImportSteps.{packages_added}
+use Rattle.order_runs.specs.CycleRuns.ImportCycles.OtherImports.{import_path}
+use Rattle.order_runs.specs.CycleRuns.ImportCycles.ImportSteps.{packages_added}
 use Rattle.put_names.specs.ReadImports.PutInText.{unused_spans}
 
 module _ {marks : List MarkRef} {st : Standing} {l : Logged} {after : Standing} (n : Next marks st l after) where

@@ -9,9 +9,9 @@ use Rattle.go_tree.specs.declared.tokens.Token.{Token}
 use Rattle.go_tree.specs.declared.tokens.Comment.{Comment}
 use Rattle.go_tree.specs.declared.tokens.TokenKind.{TokenKind}
 use Rattle.go_tree.specs.File.{File}
-use Rattle.go_words.specs.Tokens.Characters.{is_letter, is_listed}
-use Rattle.go_words.specs.Tokens.{TokensOf, size_of, span_of, inserted, tokens_at, due_after, tokens_from, after_mark, mark_size}
-use Rattle.go_words.specs.Tokens.Pieces.{PieceKind, blanks, remark, token, Piece, IsPiece, CutsTo}
+use Rattle.go_tree.specs.GoWords.Tokens.Characters.{is_letter, is_listed}
+use Rattle.go_tree.specs.GoWords.Tokens.{TokensOf, size_of, span_of, inserted, tokens_at, due_after, tokens_from, after_mark, mark_size}
+use Rattle.go_tree.specs.GoWords.Tokens.Pieces.{PieceKind, blanks, remark, token, Piece, IsPiece, CutsTo}
 use Rattle.go_read.specs.SpellsFiles.{SpellsFile}
 use Rattle.go_scan.specs.Unsupported.{is_unsupported, word_spans}
 use Rattle.go_scan.proofs.Derivatives.{and_true}
@@ -21,7 +21,7 @@ use Rattle.run_rules.specs.Texts.{run_together, needs_blank, spelling_before}
 use Rattle.splice_laws.specs.Joints.{is_open}
 use Rattle.splice_laws.specs.Splice.{are_two, is_inserted, stays_apart, are_apart}
 use Rattle.splice_laws.proofs.Ends.{or_cases}
-use Rattle.import_splices.proofs.SupportedWords.Words.{words_supported}
+use Rattle.splice_laws.proofs.ImportSplices.SupportedWords.Words.{words_supported}
 use Rattle.put_nodes.proofs.NamesApart.NamesApart.{first_letter, scalars_parts, next_two, dot_letter, no_letter, token_elsewhere, here_apart, with_line, at_the_end, behind, has_bytes, unmarked_scalars}
 use Rattle.put_nodes.specs.FormsApart.Begins.{first_signs, may_begin}
 use Rattle.put_nodes.proofs.FormsApart.Beginnings.{sign_no_dot}

@@ -8,10 +8,10 @@ use Rattle.ucd_category.specs.GeneralCategory.{general_category}
 use Rattle.ucd_category.specs.GeneralCategoryRows.{general_category_rows}
 use Rattle.ucd_table.specs.Rows.{value_in}
 use Rattle.go_tree.specs.declared.tokens.TokenKind.TheVariants.{Integer}
-use Rattle.go_words.specs.Tokens.Characters.{is_letter, is_digit, is_word, is_listed}
-use Rattle.go_words.specs.Tokens.Forms.{Form, nothing, empty, one_of, other_than, both, either, many, HasForm, without, listed, unlisted, joined, the_one, the_other, no_more, once_more}
-use Rattle.go_words.specs.Tokens.Literals.{int_lit}
-use Rattle.go_words.specs.Tokens.Pieces.{token, IsPiece}
+use Rattle.go_tree.specs.GoWords.Tokens.Characters.{is_letter, is_digit, is_word, is_listed}
+use Rattle.go_tree.specs.GoWords.Tokens.Forms.{Form, nothing, empty, one_of, other_than, both, either, many, HasForm, without, listed, unlisted, joined, the_one, the_other, no_more, once_more}
+use Rattle.go_tree.specs.GoWords.Tokens.Literals.{int_lit}
+use Rattle.go_tree.specs.GoWords.Tokens.Pieces.{token, IsPiece}
 use Rattle.go_scan.proofs.Derivatives.{and_parts}
 use Rattle.go_scan.proofs.AutomatonLemmas.{below, below_at}
 use Rattle.run_rules.specs.Texts.{is_word_byte, begins_word}

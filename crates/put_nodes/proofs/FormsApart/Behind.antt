@@ -8,8 +8,8 @@ use Rattle.std.proofs.lemmas.List.{append_assoc}
 use Rattle.std.proofs.lemmas.Str.{encode_ascii}
 use Rattle.go_tree.specs.declared.tokens.TokenKind.{TokenKind}
 use Rattle.go_tree.specs.declared.tokens.TokenKind.TheVariants.{Ident, Keyword, Operator, Integer, Float, Imaginary, Rune, Str, Inserted}
-use Rattle.go_words.specs.Tokens.Characters.{is_letter, is_listed, each}
-use Rattle.go_words.specs.Tokens.Pieces.{PieceKind, blanks, token, operator_spellings, operator, may_precede, IsPiece, IsNext}
+use Rattle.go_tree.specs.GoWords.Tokens.Characters.{is_letter, is_listed, each}
+use Rattle.go_tree.specs.GoWords.Tokens.Pieces.{PieceKind, blanks, token, operator_spellings, operator, may_precede, IsPiece, IsNext}
 use Rattle.go_scan.specs.Automaton.{next_of, kind_in}
 use Rattle.go_scan.specs.Unsupported.{is_unsupported}
 use Rattle.go_scan.proofs.Derivatives.{and_parts, and_true}

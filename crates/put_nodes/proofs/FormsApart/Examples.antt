@@ -3,7 +3,7 @@ use Rattle.std.specs.Prelude.{◌≡◌, refl, false, true, codes, Some}
 use Rattle.ucd_category.specs.GeneralCategory.{general_category}
 use Rattle.ucd_category.specs.GeneralCategoryRows.{general_category_rows}
 use Rattle.ucd_table.specs.Rows.{value_in}
-use Rattle.go_words.specs.Tokens.Characters.{is_letter, is_digit}
+use Rattle.go_tree.specs.GoWords.Tokens.Characters.{is_letter, is_digit}
 use Rattle.go_scan.specs.Automaton.{next_of, longest_from}
 use Rattle.go_scan.specs.Pieces.{piece_of, lexeme_of}
 use Rattle.run_rules.specs.Texts.{needs_blank}

@@ -9,8 +9,8 @@ use Rattle.go_tree.specs.declared.tokens.Token.{Token}
 use Rattle.go_tree.specs.declared.tokens.Comment.{Comment}
 use Rattle.go_tree.specs.Tree.{TypeExpr, named, pointer, slice_type, map_type, struct_type}
 use Rattle.go_tree.specs.File.{File}
-use Rattle.go_words.specs.Tokens.{TokensOf}
-use Rattle.go_words.specs.Tokens.Characters.{is_letter}
+use Rattle.go_tree.specs.GoWords.Tokens.{TokensOf}
+use Rattle.go_tree.specs.GoWords.Tokens.Characters.{is_letter}
 use Rattle.go_read.specs.SpellsFiles.{SpellsFile}
 use Rattle.go_layout.specs.TypeLayout.{type_layout}
 use Rattle.layout_laws.specs.Formed.{FormedType}

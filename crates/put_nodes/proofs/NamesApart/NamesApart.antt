@@ -11,9 +11,9 @@ use Rattle.ucd_table.specs.Rows.{value_in}
 use Rattle.go_tree.specs.declared.tokens.Token.{Token}
 use Rattle.go_tree.specs.declared.tokens.TokenKind.{TokenKind}
 use Rattle.go_tree.specs.declared.tokens.TokenKind.TheVariants.{Ident, Keyword, Operator, Integer, Float, Imaginary, Rune, Str, Inserted}
-use Rattle.go_words.specs.Tokens.Characters.{is_letter, is_word, is_digit, is_listed, each, byte_order_mark}
-use Rattle.go_words.specs.Tokens.{size_of, span_of, inserted, tokens_at, due_after, tokens_from, after_mark}
-use Rattle.go_words.specs.Tokens.Pieces.{PieceKind, blanks, remark, token, Piece, may_precede, IsPiece, IsNext}
+use Rattle.go_tree.specs.GoWords.Tokens.Characters.{is_letter, is_word, is_digit, is_listed, each, byte_order_mark}
+use Rattle.go_tree.specs.GoWords.Tokens.{size_of, span_of, inserted, tokens_at, due_after, tokens_from, after_mark}
+use Rattle.go_tree.specs.GoWords.Tokens.Pieces.{PieceKind, blanks, remark, token, Piece, may_precede, IsPiece, IsNext}
 use Rattle.go_scan.specs.Automaton.{next_of, kind_in}
 use Rattle.go_scan.specs.Pieces.{piece_of, Exact}
 use Rattle.go_scan.proofs.Derivatives.{and_parts, and_true}

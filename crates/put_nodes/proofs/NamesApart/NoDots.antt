@@ -12,12 +12,12 @@ use Rattle.go_tree.specs.declared.tokens.TokenKind.TheVariants.{Ident, Keyword, 
 use Rattle.go_tree.specs.Tree.{Expr}
 use Rattle.go_tree.specs.File.{File}
 use Rattle.go_tree.specs.FileBare.{bare_file}
-use Rattle.go_words.specs.Terminals.{Terminal, lex, terminal_of, lexemes, found_in, keywords}
-use Rattle.go_words.specs.Tokens.Characters.{is_blank, each}
-use Rattle.go_words.specs.Tokens.Forms.{HasForm}
-use Rattle.go_words.specs.Tokens.Literals.{comment}
-use Rattle.go_words.specs.Tokens.Pieces.{PieceKind, blanks, remark, token, Piece, operator_spellings, operator, IsPiece}
-use Rattle.go_words.specs.Tokens.{TokensOf, span_of, size_of, due_after, tokens_from, pieces_size}
+use Rattle.go_tree.specs.GoWords.Terminals.{Terminal, lex, terminal_of, lexemes, found_in, keywords}
+use Rattle.go_tree.specs.GoWords.Tokens.Characters.{is_blank, each}
+use Rattle.go_tree.specs.GoWords.Tokens.Forms.{HasForm}
+use Rattle.go_tree.specs.GoWords.Tokens.Literals.{comment}
+use Rattle.go_tree.specs.GoWords.Tokens.Pieces.{PieceKind, blanks, remark, token, Piece, operator_spellings, operator, IsPiece}
+use Rattle.go_tree.specs.GoWords.Tokens.{TokensOf, span_of, size_of, due_after, tokens_from, pieces_size}
 use Rattle.go_read.specs.Spells.{follows_type}
 use Rattle.go_read.specs.SpellsFiles.{SpellsFile}
 use Rattle.go_read.specs.SpellsTypes.{Lexemes}

@@ -1,11 +1,11 @@
--- The laws of what is written behind a token. Each is the contract of a function of this crate (Go specification, Tokens;
--- Operators and punctuation).
+-- The laws of what is written behind a token. Each is the contract of a function of this crate (Go specification,
+-- Tokens; Operators and punctuation).
 use Rattle.std.specs.Prelude.{◌≡◌, ℕ, true, false, List, ◌∷◌, Some, encode_utf8_all}
 use Rattle.go_tree.specs.declared.spans.Span.{Span}
 use Rattle.go_tree.specs.declared.tokens.Token.{Token}
 use Rattle.go_tree.specs.declared.tokens.Comment.{Comment}
 use Rattle.go_tree.specs.File.{File}
-use Rattle.go_words.specs.Tokens.{TokensOf}
+use Rattle.go_tree.specs.GoWords.Tokens.{TokensOf}
 use Rattle.go_read.specs.SpellsFiles.{SpellsFile}
 use Rattle.run_rules.specs.Texts.{first_spelling, needs_blank, spelling_before}
 use Rattle.std.specs.Str.{chars}

@@ -1,5 +1,5 @@
--- The law of what stands behind what is called. It is the contract of a function of this crate (Go specification, Tokens;
--- Calls).
+-- The law of what stands behind what is called. It is the contract of a function of this crate (Go specification,
+-- Tokens; Calls).
 use Rattle.std.specs.Prelude.{◌≡◌, ℕ, Bool, false, List, drop}
 use Rattle.go_tree.specs.declared.spans.Span.{Span}
 use Rattle.go_tree.specs.declared.tokens.Token.{Token}
@@ -7,7 +7,7 @@ use Rattle.go_tree.specs.declared.tokens.Comment.{Comment}
 use Rattle.go_tree.specs.Tree.{Expr}
 use Rattle.go_tree.specs.File.{File}
 use Rattle.go_tree.specs.FileBare.{bare_file}
-use Rattle.go_words.specs.Tokens.{TokensOf}
+use Rattle.go_tree.specs.GoWords.Tokens.{TokensOf}
 use Rattle.go_read.specs.SpellsFiles.{SpellsFile}
 use Rattle.splice_laws.specs.Dots.{UndottedFile}
 use Rattle.splice_laws.specs.Fits.{expr_mark}

@@ -2,7 +2,8 @@
 -- literals, and in literals of functions (Go specification, Types; Composite literals; Function literals; Function
 -- declarations; Method declarations). Each stands beside whether it is the whole type of a composite literal; in the
 -- header of an `if`, `for` or `switch` such names aren't listed, nor are the types of receivers.
-use Rattle.std.specs.Prelude.{Bool, true, false, List, [], ◌∷◌, ◌++◌, map, Option, Some, None, if◌then◌else◌}
+use Rattle.std.specs.Prelude.{Bool, true, false, List, [], ◌∷◌, ◌++◌, map, Option, Some, None}
+use Rattle.std.specs.Prelude.{if◌then◌else◌}
 use Rattle.go_tree.specs.Tree.{NameAt, Param, Sig, TypeExpr, named, Expr, Exprs, ExprOption, Elems, Value, ValueOption}
 use Rattle.go_tree.specs.Tree.{Stmt, Stmts, StmtOption, BlockOption, RangeLeft, Arms, Cases, ValueSpecs, composite}
 use Rattle.go_tree.specs.Tree.{selector, index, slice, call, func_lit, type_operand, unary, binary, star, no_exprs}

@@ -3,12 +3,12 @@
 use Rattle.std.specs.Prelude.{◌≡◌, ℕ, ◌<◌, ◌+◌, List, length, nat_lt}
 use Rattle.go_tree.specs.declared.spans.Span.{Span}
 use Rattle.go_tree.specs.Tree.{Expr}
-use Rattle.scope_names.specs.declared.names.FileNames.{FileNames}
+use Rattle.go_tree.specs.declared.scope_names.names.FileNames.{FileNames}
 use Rattle.scope_tables.specs.Table.{Table}
 use Rattle.run_rules.specs.Sites.{MarkRef, an_expr}
 use Rattle.run_rules.specs.Steps.{At, Found}
 use Rattle.run_rules.specs.Run.{Standing}
-use Rattle.form_imports.specs.ImportLaws.Steps.{names_standing, used_before, used_after}
+use Rattle.splice_laws.specs.FormImports.ImportLaws.Steps.{names_standing, used_before, used_after}
 use Rattle.possible_uses.specs.Candidates.{Candidate}
 use Rattle.constant_forms.specs.declared.reduced.ConstantForm.{ConstantForm}
 use Rattle.repeated_parts.specs.ImportsUnused.Uses.{one_if, is_import, form_import, uses_among, named_import}

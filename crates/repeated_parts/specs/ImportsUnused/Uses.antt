@@ -1,14 +1,15 @@
--- Which imports the parts of a file's declarations use, by a table of its scopes, and which one a step leaves unused (Go
--- specification, Import declarations; Qualified identifiers).
-use Rattle.std.specs.Prelude.{ℕ, ◌+◌, Bool, true, false, not, ◌&&◌, nat_eq, List, [], ◌∷◌, ◌++◌, Option, Some, None, if◌then◌else◌, slice_get}
+-- Which imports the parts of a file's declarations use, by a table of its scopes, and which one a step leaves unused
+-- (Go specification, Import declarations; Qualified identifiers).
+use Rattle.std.specs.Prelude.{ℕ, ◌+◌, Bool, true, false, not, ◌&&◌, nat_eq, List, [], ◌∷◌, ◌++◌}
+use Rattle.std.specs.Prelude.{Option, Some, None, if◌then◌else◌, slice_get}
 use Rattle.go_tree.specs.declared.spans.Span.{Span}
 use Rattle.go_tree.specs.Tree.{named, Expr, selector}
 use Rattle.go_tree.specs.File.{Decl}
-use Rattle.scope_names.specs.declared.names.Entity.{Entity}
-use Rattle.scope_names.specs.declared.names.Entity.TheVariants.{Import}
-use Rattle.scope_names.specs.declared.names.FileNames.{FileNames}
+use Rattle.go_tree.specs.declared.scope_names.names.Entity.{Entity}
+use Rattle.go_tree.specs.declared.scope_names.names.Entity.TheVariants.{Import}
+use Rattle.go_tree.specs.declared.scope_names.names.FileNames.{FileNames}
 use Rattle.scope_tables.specs.Table.{Table, meaning_in}
-use Rattle.go_types.specs.Answers.{given, meets}
+use Rattle.go_tree.specs.GoTypes.Answers.{given, meets}
 use Rattle.run_rules.specs.Sites.{Part, an_expr, a_type_part}
 use Rattle.possible_uses.specs.Candidates.{Candidate}
 use Rattle.possible_uses.specs.Parts.{parts_of}

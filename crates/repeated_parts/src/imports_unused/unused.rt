@@ -8,17 +8,18 @@ ghost use Rattle.possible_uses.specs.Views.{part_of};
 ghost use Rattle.run_rules.specs.Sites.{MarkRef};
 ghost use Rattle.run_rules.specs.Steps.{At, Found, same_here, unused_specs};
 ghost use Rattle.run_rules.specs.Run.{Standing, here_of, is_commented};
-ghost use Rattle.repeated_parts.specs.ImportsUnused.Uses.{is_left as spec_is_left, spec_at as where_spec_is, spec_left as spec_that_goes};
+ghost use Rattle.repeated_parts.specs.ImportsUnused.Uses.{is_left as spec_is_left, spec_at as where_spec_is};
+ghost use Rattle.repeated_parts.specs.ImportsUnused.Uses.{spec_left as spec_that_goes};
 ghost use Rattle.repeated_parts.specs.ImportsUnused.Told.{IsTold};
 
 use crate::imports_unused::names::{expr_import, form_import, is_import};
 use crate::imports_unused::parts::is_used_once;
 use constant_forms::ConstantForm;
-use form_imports::steps_settle_imports;
+use go_tree::scope_names::FileNames;
 use go_tree::{Expr, NoMemory, Span};
 use possible_uses::PartRef;
-use scope_names::FileNames;
 use scope_tables::Scopes;
+use splice_laws::form_imports::steps_settle_imports;
 use std::alloc::Global;
 
 /// Whether the use alone used the import, and the form doesn't.

@@ -11,7 +11,8 @@ use Rattle.run_rules.specs.Sites.{MarkRef}
 use Rattle.run_rules.specs.Texts.{FileText}
 use Rattle.report_lines.specs.Lines.{StandInOrder}
 use Rattle.report_lines.specs.Laws.{item_of}
-use Rattle.report_order.specs.ReportFiles.Files.{PathsAscend, IsPathIn, EachEntry, entries_in, by_files, lines_by_file, LiesWithin}
+use Rattle.report_order.specs.ReportFiles.Files.{PathsAscend, IsPathIn, EachEntry, entries_in, by_files, lines_by_file}
+use Rattle.report_order.specs.ReportFiles.Files.{LiesWithin}
 
 -- Where the paths of files ascend, the entries of a report by path and offset are those of one file after the other,
 -- each file's by their offsets.

@@ -5,9 +5,9 @@ use Rattle.go_tree.specs.File.{File}
 use Rattle.go_tree.specs.FileBare.{bare_decl}
 use Rattle.text_edits.specs.Applied.{applied}
 use Rattle.import_rules.specs.Settled.{settled}
-use Rattle.import_splices.specs.AddedFile.{AreWritable}
-use Rattle.import_splices.specs.SettledFile.{with_settled}
-use Rattle.import_splices.proofs.FormsToo.{form_settled_go}
+use Rattle.splice_laws.specs.ImportSplices.AddedFile.{AreWritable}
+use Rattle.splice_laws.specs.ImportSplices.SettledFile.{with_settled}
+use Rattle.splice_laws.proofs.ImportSplices.FormsToo.{form_settled_go}
 use Rattle.splice_laws.specs.Fits.{swap_mark}
 use Rattle.splice_laws.specs.Forms.{new_layout}
 use Rattle.splice_laws.specs.Splice.{splice, ReadsAs}

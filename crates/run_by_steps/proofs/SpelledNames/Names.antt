@@ -8,11 +8,11 @@ use Rattle.go_read.specs.Spells.{SpellsLiteralType, SpellsBare, SpellsExpr, Spel
 use Rattle.go_read.specs.SpellsFiles.{SpellsImportSpec, SpellsImportSpecs, SpellsImport, SpellsTypeSpec, SpellsTypeSpecs, SpellsReceiver, SpellsTop, SpellsImports, SpellsTops, SpellsFront, path_rule, named_path_rule, no_import_specs_rule, last_import_spec_rule, more_import_specs_rule, import_rule, import_group_rule, type_spec_rule, alias_spec_rule, no_type_specs_rule, last_type_spec_rule, more_type_specs_rule, receiver_rule, pointer_receiver_rule, named_receiver_rule, named_pointer_receiver_rule, top_const_rule, top_var_rule, top_type_rule, top_type_group_rule, top_func_rule, top_method_rule, no_imports_rule, more_imports_rule, no_tops_rule, more_tops_rule, front_rule}
 use Rattle.go_read.specs.SpellsTypes.{fields_of, params_of}
 use Rattle.go_tree.specs.declared.spans.Span.{Span}
-use Rattle.go_words.specs.Terminals.{lex, ident}
-use Rattle.scope_names.specs.FreeNames.{names_of}
-use Rattle.scope_names.specs.Identifiers.{name_option, type_identifiers, fields_identifiers, type_option_identifiers, params_identifiers, sig_identifiers, expr_identifiers, exprs_identifiers, expr_option_identifiers, elems_identifiers, value_identifiers, value_option_identifiers, stmt_identifiers, stmts_identifiers, stmt_option_identifiers, block_option_identifiers, left_identifiers, arms_identifiers, cases_identifiers, specs_identifiers, import_specs_identifiers, imports_identifiers, type_specs_identifiers, receiver_identifiers, decl_identifiers, decls_identifiers, identifiers}
-use Rattle.import_splices.proofs.SupportedWords.Spelled as words
-use Rattle.import_splices.proofs.SupportedWords.Spelled.{Passed, drop, sign_known}
+use Rattle.go_tree.specs.GoWords.Terminals.{lex, ident}
+use Rattle.go_tree.specs.ScopeNames.FreeNames.{names_of}
+use Rattle.go_tree.specs.ScopeNames.Identifiers.{name_option, type_identifiers, fields_identifiers, type_option_identifiers, params_identifiers, sig_identifiers, expr_identifiers, exprs_identifiers, expr_option_identifiers, elems_identifiers, value_identifiers, value_option_identifiers, stmt_identifiers, stmts_identifiers, stmt_option_identifiers, block_option_identifiers, left_identifiers, arms_identifiers, cases_identifiers, specs_identifiers, import_specs_identifiers, imports_identifiers, type_specs_identifiers, receiver_identifiers, decl_identifiers, decls_identifiers, identifiers}
+use Rattle.splice_laws.proofs.ImportSplices.SupportedWords.Spelled as words
+use Rattle.splice_laws.proofs.ImportSplices.SupportedWords.Spelled.{Passed, drop, sign_known}
 
 -- it holds of each of the names
 pub data Each (P : List ℕ → Type 0) : List (List ℕ) → Type 0 where

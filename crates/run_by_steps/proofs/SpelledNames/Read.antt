@@ -5,15 +5,15 @@ use Rattle.std.proofs.lemmas.Bool.{and_parts}
 use Rattle.std.proofs.lemmas.Bool.Decides.{nat_tests}
 use lib.Utf8.{encode}
 use Rattle.go_tree.specs.declared.tokens.Token.{Token}
-use Rattle.go_words.specs.Terminals.{lex, ident, lexemes}
-use Rattle.go_words.specs.Tokens.Characters.{is_letter, is_word, each}
-use Rattle.go_words.specs.Tokens.Pieces.{is_identifier}
+use Rattle.go_tree.specs.GoWords.Terminals.{lex, ident, lexemes}
+use Rattle.go_tree.specs.GoWords.Tokens.Characters.{is_letter, is_word, each}
+use Rattle.go_tree.specs.GoWords.Tokens.Pieces.{is_identifier}
 use Rattle.go_scan.proofs.LetterLemmas.{letter_ascii}
 use Rattle.go_read.specs.SpellsTypes.{Lexemes}
 use Rattle.go_read.specs.SpellsSpans.{span_to}
-use Rattle.import_splices.specs.AddedFile.{IsName}
+use Rattle.splice_laws.specs.ImportSplices.AddedFile.{IsName}
 use Rattle.run_rules.specs.Naming.{unnamed_package}
-use Rattle.import_splices.proofs.SupportedWords.Spelled.{Passed, here, later}
+use Rattle.splice_laws.proofs.ImportSplices.SupportedWords.Spelled.{Passed, here, later}
 use Rattle.run_by_steps.proofs.WrittenImports.ReadNames.{AllNameWell, text_names}
 use Rattle.run_by_steps.specs.SpelledNames.Laws.{AreIdentifiers, ReadNamesAreIdentifiers, IdentifiersAreNamed}
 use Rattle.run_by_steps.proofs.SpelledNames.Names.{Each, nil, cons, front_names}

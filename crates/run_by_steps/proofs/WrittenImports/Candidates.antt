@@ -9,13 +9,13 @@ use Rattle.std.proofs.lemmas.Bool.{or_right, and_parts, and_from}
 use Rattle.std.proofs.lemmas.Bool.Decides.{nat_tests}
 use Rattle.std.proofs.lemmas.Slice.Eq.{bytes_eq-Decides}
 use Rattle.std.proofs.lemmas.Str.{encodes-append}
-use Rattle.go_words.specs.Tokens.Characters.{is_letter, is_digit, is_word, each}
-use Rattle.go_words.specs.Tokens.Pieces.{keyword_spellings, is_among, is_identifier}
+use Rattle.go_tree.specs.GoWords.Tokens.Characters.{is_letter, is_digit, is_word, each}
+use Rattle.go_tree.specs.GoWords.Tokens.Pieces.{keyword_spellings, is_among, is_identifier}
 use Rattle.go_scan.proofs.LetterLemmas.{digit_ascii}
-use Rattle.scope_names.specs.Fresh.{candidate}
+use Rattle.go_tree.specs.ScopeNames.Fresh.{candidate}
 use Rattle.splice_laws.proofs.Splices.{scalars_on}
-use Rattle.import_splices.specs.AddedFile.{IsName}
-use Rattle.import_splices.proofs.Quotes.{low_all}
+use Rattle.splice_laws.specs.ImportSplices.AddedFile.{IsName}
+use Rattle.splice_laws.proofs.ImportSplices.Quotes.{low_all}
 use Rattle.run_rules.specs.Naming.{first_new}
 
 -- ---- digits

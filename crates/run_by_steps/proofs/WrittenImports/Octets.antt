@@ -5,8 +5,8 @@ use Rattle.std.specs.List.{list_all, join_with_byte}
 use Rattle.std.proofs.lemmas.Bool.{and_parts, and_from}
 use Rattle.std.proofs.lemmas.Bool.Decides.{nat_tests}
 use Rattle.go_tree.specs.declared.spans.Span.{Span}
-use Rattle.go_words.specs.Tokens.Characters.{each}
-use Rattle.import_splices.specs.AddedFile.{is_byte}
+use Rattle.go_tree.specs.GoWords.Tokens.Characters.{each}
+use Rattle.splice_laws.specs.ImportSplices.AddedFile.{is_byte}
 use Rattle.module_files.specs.Pieces.{push_front, split_by, elements, all_but_last, folders, folder_of, has_bytes}
 use Rattle.module_files.specs.ModuleFile.{argument_of, is_quote, is_path_byte, is_module_path, unquoted, path_in, module_path, is_version, ModuleAnswer, is_module, no_module_line, old_go, version_answer, path_answer, module_of}
 use Rattle.pkg_graph.specs.Package.{SourceTree, home_of, first_seen}

@@ -11,13 +11,13 @@ use Rattle.go_tree.specs.declared.tokens.Comment.{Comment}
 use Rattle.go_tree.specs.declared.tokens.TokenKind.{TokenKind}
 use Rattle.go_tree.specs.declared.tokens.TokenKind.TheVariants.{Ident, Keyword, Operator, Integer, Float, Imaginary, Rune, Str, Inserted}
 use Rattle.go_tree.specs.File.{File}
-use Rattle.go_words.specs.Terminals.{Terminal, Lexeme, lex, ident, found_in, keywords, operators, terminal_of, lexemes}
-use Rattle.go_words.specs.Tokens.{TokensOf, tokens_from, tokens_at, inserted, due_after, after_mark, mark_size, size_of}
-use Rattle.go_words.specs.Tokens.Characters.{byte_order_mark, is_listed, each}
-use Rattle.go_words.specs.Tokens.Pieces.{PieceKind, blanks, remark, token, Piece, IsPiece, CutsTo}
+use Rattle.go_tree.specs.GoWords.Terminals.{Terminal, Lexeme, lex, ident, found_in, keywords, operators, terminal_of, lexemes}
+use Rattle.go_tree.specs.GoWords.Tokens.{TokensOf, tokens_from, tokens_at, inserted, due_after, after_mark, mark_size, size_of}
+use Rattle.go_tree.specs.GoWords.Tokens.Characters.{byte_order_mark, is_listed, each}
+use Rattle.go_tree.specs.GoWords.Tokens.Pieces.{PieceKind, blanks, remark, token, Piece, IsPiece, CutsTo}
 use Rattle.go_read.specs.SpellsSpans.{span_to}
 use Rattle.go_read.specs.SpellsFiles.{SpellsFront, front_rule}
-use Rattle.import_splices.specs.AddedFile.{is_byte, IsName}
+use Rattle.splice_laws.specs.ImportSplices.AddedFile.{is_byte, IsName}
 use Rattle.splice_laws.proofs.Splices.{scalars_parts}
 use Rattle.pkg_graph.specs.Package.{SourceTree, Package, first_seen, home_of, first_name, package_of, packages_of}
 use Rattle.pkg_graph.specs.Reads.{Source, AreTrees, none, file, go_files, selected_files, is_at}

@@ -1,17 +1,17 @@
 -- Imports that a step adds have identifiers as their names and paths of octets.
 use Rattle.std.proofs.Common.{◌≡◌, sym, subst, ℕ, zero, suc, true, List, [], ◌∷◌, ◌++◌, Option, Some, None, is_some, slice_get, arith}
-use Rattle.go_words.specs.Tokens.Characters.{each}
-use Rattle.scope_names.specs.Fresh.{is_new}
+use Rattle.go_tree.specs.GoWords.Tokens.Characters.{each}
+use Rattle.go_tree.specs.ScopeNames.Fresh.{is_new}
 use Rattle.import_rules.specs.Needs.{serving, avoided}
-use Rattle.import_splices.specs.AddedFile.{is_byte, IsName, AreWritable}
+use Rattle.splice_laws.specs.ImportSplices.AddedFile.{is_byte, IsName, AreWritable}
 use Rattle.pkg_graph.specs.Package.{Package}
 use Rattle.run_rules.specs.Surroundings.{Place}
 use Rattle.run_rules.specs.Sites.{Where}
 use Rattle.run_rules.specs.Naming.{Named, fuel_for, fresh_name, package_path, own_name, names_here, environment_here, added_import, named_packages, name_added, imports_added}
 use Rattle.run_rules.specs.Steps.{At}
 use Rattle.run_rules.specs.Run.{is_commented}
-use Rattle.form_imports.specs.OwnNames.{AreInProgram}
-use Rattle.form_imports.proofs.ImportLaws.StepNames.{found_well}
+use Rattle.splice_laws.specs.FormImports.OwnNames.{AreInProgram}
+use Rattle.splice_laws.proofs.FormImports.ImportLaws.StepNames.{found_well}
 use Rattle.run_by_steps.specs.WrittenImports.Laws.{AreNamed, ImportsAreWritten}
 use Rattle.run_by_steps.proofs.WrittenImports.Candidates.{first_named}
 

@@ -1,9 +1,10 @@
--- The file that a step makes (Go specification, Source file organization; golang.org/x/tools, internal/refactor/inline).
+-- The file that a step makes (Go specification, Source file organization; golang.org/x/tools,
+-- internal/refactor/inline).
 use Rattle.std.specs.Prelude.{◌≡◌, ℕ, Bool, List, map}
 use Rattle.go_tree.specs.declared.spans.Span.{Span}
 use Rattle.go_tree.specs.File.{File}
 use Rattle.go_tree.specs.FileBare.{bare_decl}
-use Rattle.go_words.specs.Tokens.{TokensOf}
+use Rattle.go_tree.specs.GoWords.Tokens.{TokensOf}
 use Rattle.go_read.specs.SpellsFiles.{SpellsFile}
 use Rattle.text_edits.specs.Applied.{applied}
 use Rattle.splice_laws.specs.Swaps.{Swap}

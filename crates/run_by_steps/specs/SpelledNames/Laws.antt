@@ -3,11 +3,11 @@
 use Rattle.std.specs.Prelude.{ℕ, List, [], ◌∷◌}
 use Rattle.go_tree.specs.declared.spans.Span.{Span}
 use Rattle.go_tree.specs.File.{File}
-use Rattle.scope_names.specs.Identifiers.{identifiers}
-use Rattle.import_splices.specs.AddedFile.{IsName}
+use Rattle.go_tree.specs.ScopeNames.Identifiers.{identifiers}
+use Rattle.splice_laws.specs.ImportSplices.AddedFile.{IsName}
 use Rattle.run_rules.specs.Texts.{FileText}
 use Rattle.run_rules.specs.Inlining.{ReadsAs}
-use Rattle.form_imports.specs.Written.{NoneUnnamed}
+use Rattle.splice_laws.specs.FormImports.Written.{NoneUnnamed}
 
 -- each of the names is an identifier in UTF-8
 abbrev pub AreIdentifiers : List (List ℕ) → Type 0

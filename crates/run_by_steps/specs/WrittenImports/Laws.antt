@@ -3,8 +3,8 @@
 use Rattle.std.specs.Prelude.{◌≡◌, true, ℕ, List, [], ◌∷◌, Some}
 use Rattle.std.specs.List.{list_all}
 use Rattle.go_tree.specs.declared.spans.Span.{Span}
-use Rattle.go_words.specs.Tokens.Characters.{each}
-use Rattle.import_splices.specs.AddedFile.{is_byte, IsName, AreWritable}
+use Rattle.go_tree.specs.GoWords.Tokens.Characters.{each}
+use Rattle.splice_laws.specs.ImportSplices.AddedFile.{is_byte, IsName, AreWritable}
 use Rattle.pkg_graph.specs.Package.{Package}
 use Rattle.pkg_graph.specs.Reads.{Source}
 use Rattle.run_rules.specs.Sites.{MarkRef}
@@ -13,7 +13,7 @@ use Rattle.run_rules.specs.Steps.{At, Found}
 use Rattle.run_rules.specs.Texts.{FileText}
 use Rattle.run_rules.specs.Run.{Standing, Logged, step_in, Run}
 use Rattle.run_rules.specs.Inlining.{ModuleReads, standing_as_read}
-use Rattle.form_imports.specs.OwnNames.{AreInProgram}
+use Rattle.splice_laws.specs.FormImports.OwnNames.{AreInProgram}
 
 -- each of the packages has an identifier as its name, and a path of octets
 abbrev pub AreNamed : {S : Type 0} → List (Package S) → Type 0

@@ -9,11 +9,11 @@ use Rattle.go_tree.specs.declared.spans.Span.{Span}
 use Rattle.go_tree.specs.declared.types.Param as source
 use Rattle.go_tree.specs.Tree.{NameAt}
 use Rattle.go_tree.specs.View.{name_at_of, param_of}
-use Rattle.scope_names.specs.FreeNames.{name_then, params_names}
-use Rattle.scope_names.specs.Means.{is_blank}
-use Rattle.go_types.specs.Answers.{is_among, without}
-use Rattle.go_types.specs.Declarations.{not_blank}
-use Rattle.type_exprs.proofs.NewNames.{drop_all, drop_item}
+use Rattle.go_tree.specs.ScopeNames.FreeNames.{name_then, params_names}
+use Rattle.go_tree.specs.ScopeNames.Means.{is_blank}
+use Rattle.go_tree.specs.GoTypes.Answers.{is_among, without}
+use Rattle.go_tree.specs.GoTypes.Declarations.{not_blank}
+use Rattle.typed_names.proofs.TypeExprs.NewNames.{drop_all, drop_item}
 use Rattle.typed_names.proofs.NameLaws.{turned}
 use Rattle.jump_rules.specs.UsedLocals.Used.{Used, and_names, set_name}
 use Rattle.jump_rules.proofs.UsedLocals.UsedLemmas.{used_among}

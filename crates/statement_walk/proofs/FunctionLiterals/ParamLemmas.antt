@@ -3,27 +3,27 @@ use Rattle.std.proofs.Common.{◌≡◌, ◌∙◌, ◌++◌, ◌&&◌, ◌||◌
 use Rattle.std.proofs.lemmas.Option.{none-some}
 use Rattle.std.specs.List.{list_all}
 use Rattle.std.specs.Option.{option_map}
-use Rattle.const_eval.specs.declared.consts.Const.{Const}
+use Rattle.go_tree.specs.declared.const_eval.consts.Const.{Const}
 use Rattle.go_tree.specs.declared.spans.Span.{Span}
 use Rattle.go_tree.specs.declared.types.Param as source
 use Rattle.go_tree.specs.Tree.{NameAt, Param, Sig}
 use Rattle.go_tree.specs.View.{name_at_of, param_of}
-use Rattle.scope_names.specs.FreeNames.{name_then, params_names, sig_names}
-use Rattle.scope_names.specs.Means.{is_blank}
-use Rattle.go_types.specs.Answers.{both, distinct_by, given, is_among, only_if}
-use Rattle.go_types.specs.Types.{FuncType, GoType}
-use Rattle.go_types.specs.Bodies.{param_binding, param_binds}
-use Rattle.go_types.specs.Declarations.{bound_names, not_blank}
-use Rattle.go_types.specs.Entities.{Binds, Entity, Env, extend, in_block, is_declared_here, variable}
-use Rattle.go_types.specs.TypeNames.{func_type, params_meant, type_meant}
-use Rattle.type_relations.specs.Environment.{Environment}
+use Rattle.go_tree.specs.ScopeNames.FreeNames.{name_then, params_names, sig_names}
+use Rattle.go_tree.specs.ScopeNames.Means.{is_blank}
+use Rattle.go_tree.specs.GoTypes.Answers.{both, distinct_by, given, is_among, only_if}
+use Rattle.go_tree.specs.GoTypes.Types.{FuncType, GoType}
+use Rattle.go_tree.specs.GoTypes.Bodies.{param_binding, param_binds}
+use Rattle.go_tree.specs.GoTypes.Declarations.{bound_names, not_blank}
+use Rattle.go_tree.specs.GoTypes.Entities.{Binds, Entity, Env, extend, in_block, is_declared_here, variable}
+use Rattle.go_tree.specs.GoTypes.TypeNames.{func_type, params_meant, type_meant}
+use Rattle.type_table.specs.TypeRelations.Environment.{Environment}
 use Rattle.typed_names.specs.declared.scopes.Scope.{Scope}
 use Rattle.typed_names.specs.Meanings.{Names}
 use Rattle.checker_tables.specs.declared.tables.Tables.{Tables}
 use Rattle.operand_rules.specs.declared.values.Refusal.{Refusal}
 use Rattle.operand_rules.specs.declared.values.Refusal.TheVariants.{NotTyped, NoMemory}
 use Rattle.operand_rules.proofs.OpenedLemmas.{some_same}
-use Rattle.type_exprs.proofs.NewNames.{drop_all, drop_item}
+use Rattle.typed_names.proofs.TypeExprs.NewNames.{drop_all, drop_item}
 use Rattle.control_steps.specs.LocalBlocks.Places.{IsPlace}
 use Rattle.assignment_steps.proofs.DeclaredBlocks.BlockLemmas.{extend_more}
 use Rattle.jump_rules.specs.declared.used_locals.pending.PendingName.{PendingName}

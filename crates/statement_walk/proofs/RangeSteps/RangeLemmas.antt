@@ -1,16 +1,16 @@
 -- The types of the values that each turn of a range gives.
 use Rattle.std.proofs.Common.{◌≡◌, Bool, List, [], ◌∷◌, Option, Some, None, refl, ap, ap₂}
-use Rattle.const_eval.specs.declared.kinds.Kind.{Kind}
-use Rattle.const_eval.specs.declared.kinds.Kind.TheVariants as kind
-use Rattle.go_types.specs.Answers.{given, meets, one_of, only_if}
-use Rattle.go_types.specs.Types.{GoType, basic, named_type, pointer_to, slice_of, map_of, struct_of, tuple_of, untyped, untyped_nil, element_of, map_parts, is_untyped}
-use Rattle.go_types.specs.Defined.{Defined, under}
-use Rattle.go_types.specs.Operands as go
-use Rattle.go_types.specs.Operands.{Typed, value, several, a_type, a_function, a_builtin, recovered, settled, typed}
-use Rattle.go_types.specs.Relations.{is_whole_number}
-use Rattle.go_types.specs.Statements.{range_types}
+use Rattle.go_tree.specs.declared.const_eval.kinds.Kind.{Kind}
+use Rattle.go_tree.specs.declared.const_eval.kinds.Kind.TheVariants as kind
+use Rattle.go_tree.specs.GoTypes.Answers.{given, meets, one_of, only_if}
+use Rattle.go_tree.specs.GoTypes.Types.{GoType, basic, named_type, pointer_to, slice_of, map_of, struct_of, tuple_of, untyped, untyped_nil, element_of, map_parts, is_untyped}
+use Rattle.go_tree.specs.GoTypes.Defined.{Defined, under}
+use Rattle.go_tree.specs.GoTypes.Operands as go
+use Rattle.go_tree.specs.GoTypes.Operands.{Typed, value, several, a_type, a_function, a_builtin, recovered, settled, typed}
+use Rattle.go_tree.specs.GoTypes.Relations.{is_whole_number}
+use Rattle.go_tree.specs.GoTypes.Statements.{range_types}
 use Rattle.type_table.specs.declared.nodes.TypeId.{TypeId}
-use Rattle.type_relations.specs.Environment.{Environment}
+use Rattle.type_table.specs.TypeRelations.Environment.{Environment}
 use Rattle.operand_rules.specs.declared.values.ValueType.TheVariants as variant
 use Rattle.operand_rules.specs.Values.{IsType}
 use Rattle.operator_rules.specs.BasicTypes.{IsBasic}

@@ -1,18 +1,18 @@
 -- The variables that a range clause declares.
 use Rattle.std.proofs.Common.{◌≡◌, ◌∙◌, ◌++◌, ◌||◌, ℕ, Bool, true, false, cond, not, List, [], ◌∷◌, length, Option, Some, None, IfSome, Result, Ok, Err, refl, sym, ap, subst, arith}
-use Rattle.const_eval.specs.declared.consts.Const.{Const}
-use Rattle.scope_names.specs.Means.{binding, is_blank}
-use Rattle.go_types.specs.Answers.{given, is_empty, only_if}
-use Rattle.go_types.specs.Types.{GoType}
-use Rattle.go_types.specs.Defined.{Defined}
-use Rattle.go_types.specs.Entities as go
-use Rattle.go_types.specs.Entities.{Binds, variable}
-use Rattle.go_types.specs.Operands as go_operand
-use Rattle.go_types.specs.Operands.{value, several, a_type, a_function, a_builtin, recovered, typed, with_value}
-use Rattle.go_types.specs.Declarations.{Declared, bound_names, names_once, some_declared}
-use Rattle.go_types.specs.Statements.{new_by_range, range_binds, range_types}
+use Rattle.go_tree.specs.declared.const_eval.consts.Const.{Const}
+use Rattle.go_tree.specs.ScopeNames.Means.{binding, is_blank}
+use Rattle.go_tree.specs.GoTypes.Answers.{given, is_empty, only_if}
+use Rattle.go_tree.specs.GoTypes.Types.{GoType}
+use Rattle.go_tree.specs.GoTypes.Defined.{Defined}
+use Rattle.go_tree.specs.GoTypes.Entities as go
+use Rattle.go_tree.specs.GoTypes.Entities.{Binds, variable}
+use Rattle.go_tree.specs.GoTypes.Operands as go_operand
+use Rattle.go_tree.specs.GoTypes.Operands.{value, several, a_type, a_function, a_builtin, recovered, typed, with_value}
+use Rattle.go_tree.specs.GoTypes.Declarations.{Declared, bound_names, names_once, some_declared}
+use Rattle.go_tree.specs.GoTypes.Statements.{new_by_range, range_binds, range_types}
 use Rattle.type_table.specs.declared.nodes.TypeId.{TypeId}
-use Rattle.type_relations.specs.Environment.{Environment, env_type}
+use Rattle.type_table.specs.TypeRelations.Environment.{Environment, env_type}
 use Rattle.operand_rules.specs.declared.values.ValueType.TheVariants.{Typed}
 use Rattle.operand_rules.specs.declared.values.Refusal.{Refusal}
 use Rattle.operand_rules.specs.declared.values.Refusal.TheVariants.{NotTyped, NoMemory}

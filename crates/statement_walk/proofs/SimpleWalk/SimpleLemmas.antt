@@ -4,23 +4,23 @@ use Rattle.go_tree.specs.declared.exprs.Rest.{Rest}
 use Rattle.go_tree.specs.declared.spans.Span.{Span}
 use Rattle.go_tree.specs.Tree as tree
 use Rattle.go_tree.specs.Tree.{Expr, Exprs}
-use Rattle.const_eval.specs.declared.consts.Const.{Const}
-use Rattle.go_types.specs.Answers.{given, meets, only_if}
-use Rattle.go_types.specs.Types.{is_untyped}
-use Rattle.go_types.specs.Bodies.{Ctx}
-use Rattle.go_types.specs.Entities as go_entity
-use Rattle.go_types.specs.Entities.{Env}
-use Rattle.go_types.specs.Operands as go
-use Rattle.go_types.specs.Primary.{may_be_deferred, stands_alone}
-use Rattle.go_types.specs.Statements.{is_panic}
-use Rattle.go_types.specs.Typing.{parts, stmt}
+use Rattle.go_tree.specs.declared.const_eval.consts.Const.{Const}
+use Rattle.go_tree.specs.GoTypes.Answers.{given, meets, only_if}
+use Rattle.go_tree.specs.GoTypes.Types.{is_untyped}
+use Rattle.go_tree.specs.GoTypes.Bodies.{Ctx}
+use Rattle.go_tree.specs.GoTypes.Entities as go_entity
+use Rattle.go_tree.specs.GoTypes.Entities.{Env}
+use Rattle.go_tree.specs.GoTypes.Operands as go
+use Rattle.go_tree.specs.GoTypes.Primary.{may_be_deferred, stands_alone}
+use Rattle.go_tree.specs.GoTypes.Statements.{is_panic}
+use Rattle.go_tree.specs.GoTypes.Typing.{parts, stmt}
 use Rattle.type_table.specs.declared.nodes.TypeId.{TypeId}
-use Rattle.type_relations.specs.Environment.{Environment}
+use Rattle.type_table.specs.TypeRelations.Environment.{Environment}
 use Rattle.operand_rules.specs.declared.values.ValueType.TheVariants as variant
 use Rattle.operand_rules.specs.declared.values.Refusal.{Refusal}
 use Rattle.operand_rules.specs.Values.{IsType}
-use Rattle.access_rules.specs.Functions.{AreTypes, types_at}
-use Rattle.type_exprs.specs.Grown.{TypesGrown}
+use Rattle.operator_rules.specs.AccessRules.Functions.{AreTypes, types_at}
+use Rattle.typed_names.specs.TypeExprs.Grown.{TypesGrown}
 use Rattle.operand_answers.specs.declared.lists.OperandList.{OperandList}
 use Rattle.operand_answers.specs.Lists.{AreThereIfOk, GivesAll}
 use Rattle.control_steps.specs.declared.returns.Body.{Body}

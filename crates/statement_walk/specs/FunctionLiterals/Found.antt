@@ -4,7 +4,10 @@ use Rattle.std.specs.Prelude.{List, [], ◌∷◌, ◌++◌, map}
 use Rattle.std.specs.Borrow.{Bor}
 use Rattle.go_tree.specs.declared.exprs.Expr as source
 use Rattle.go_tree.specs.declared.spans.Span.{Span}
-use Rattle.go_tree.specs.Tree.{Expr, ident, int_lit, rune_lit, str_lit, composite, selector, index, slice, call, func_lit, type_operand, unary, binary, star, Exprs, no_exprs, expr_and, ExprOption, no_expr, some_expr, Elems, no_elems, elem, Value, plain, braced, ValueOption, no_value, some_value}
+use Rattle.go_tree.specs.Tree.{Expr, ident, int_lit, rune_lit, str_lit, composite, selector, index, slice, call}
+use Rattle.go_tree.specs.Tree.{func_lit, type_operand, unary, binary, star, Exprs, no_exprs, expr_and, ExprOption}
+use Rattle.go_tree.specs.Tree.{no_expr, some_expr, Elems, no_elems, elem, Value, plain, braced, ValueOption, no_value}
+use Rattle.go_tree.specs.Tree.{some_value}
 use Rattle.go_tree.specs.View.{expr_of}
 
 module _ {S : Type 0} where

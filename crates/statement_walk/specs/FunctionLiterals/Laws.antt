@@ -4,8 +4,8 @@ use Rattle.std.specs.Prelude.{◌≡◌, Bool, false, List, None, is_some}
 use Rattle.std.specs.List.{list_all}
 use Rattle.go_tree.specs.declared.spans.Span.{Span}
 use Rattle.go_tree.specs.Tree.{Expr, Exprs}
-use Rattle.go_types.specs.Entities.{Env}
-use Rattle.go_types.specs.Typing.{all_parts, parts}
+use Rattle.go_tree.specs.GoTypes.Entities.{Env}
+use Rattle.go_tree.specs.GoTypes.Typing.{all_parts, parts}
 use Rattle.statement_walk.specs.FunctionLiterals.Found.{literals_in, literals_in_all}
 
 -- each of these is typed at the place

@@ -1,15 +1,16 @@
 -- Parameters and results of a function literal, which the block of its body declares (Go specification, Function
 -- literals; Blocks; Declarations and scope).
-use Rattle.std.specs.Prelude.{◌≡◌, ℕ, Bool, true, false, not, ◌&&◌, List, [], Option, Some, Result, Ok, Err, bytes_eq}
+use Rattle.std.specs.Prelude.{◌≡◌, ℕ, Bool, true, false, not, ◌&&◌, List, [], Option, Some, Result, Ok, Err}
+use Rattle.std.specs.Prelude.{bytes_eq}
 use Rattle.std.specs.List.{list_all}
-use Rattle.const_eval.specs.declared.consts.Const.{Const}
-use Rattle.go_types.specs.Answers.{distinct_by, given}
-use Rattle.go_types.specs.Bodies.{body_binds}
-use Rattle.go_types.specs.Declarations.{Declared, bound_names}
-use Rattle.go_types.specs.Entities.{Binds, Env, extend, is_declared_here}
-use Rattle.go_types.specs.Types.{FuncType}
+use Rattle.go_tree.specs.declared.const_eval.consts.Const.{Const}
+use Rattle.go_tree.specs.GoTypes.Answers.{distinct_by, given}
+use Rattle.go_tree.specs.GoTypes.Bodies.{body_binds}
+use Rattle.go_tree.specs.GoTypes.Declarations.{Declared, bound_names}
+use Rattle.go_tree.specs.GoTypes.Entities.{Binds, Env, extend, is_declared_here}
+use Rattle.go_tree.specs.GoTypes.Types.{FuncType}
 use Rattle.go_tree.specs.Tree.{Sig}
-use Rattle.type_relations.specs.Environment.{Environment}
+use Rattle.type_table.specs.TypeRelations.Environment.{Environment}
 use Rattle.typed_names.specs.declared.scopes.Scope.{Scope}
 use Rattle.typed_names.specs.Meanings.{Names}
 use Rattle.operand_rules.specs.declared.values.Refusal.{Refusal}

@@ -5,16 +5,16 @@ ghost use Rattle.std.specs.Prelude.{◌≡◌, ℕ, [], List, OnOk, codes, map};
 ghost use Rattle.std.specs.List.{list_any};
 ghost use Rattle.std.specs.Option.{option_map};
 ghost use Rattle.go_tree.specs.View.{name_at_of, param_of, sig_of};
-ghost use Rattle.go_types.specs.Answers.{without};
-ghost use Rattle.go_types.specs.Declarations.{not_blank};
-ghost use Rattle.scope_names.specs.FreeNames.{name_then, params_names, sig_names};
-ghost use Rattle.scope_names.specs.Means.{is_blank};
+ghost use Rattle.go_tree.specs.GoTypes.Answers.{without};
+ghost use Rattle.go_tree.specs.GoTypes.Declarations.{not_blank};
+ghost use Rattle.go_tree.specs.ScopeNames.FreeNames.{name_then, params_names, sig_names};
+ghost use Rattle.go_tree.specs.ScopeNames.Means.{is_blank};
 ghost use Rattle.jump_rules.specs.UsedLocals.Pending.{ended};
 ghost use Rattle.jump_rules.specs.UsedLocals.Used.{Used, and_names, used_of};
 
-use access_rules::is_blank;
 use go_tree::{NameAt, NoMemory, Param, Sig};
 use jump_rules::{PendingNames, UsedNames};
+use operator_rules::access_rules::is_blank;
 use std::alloc::Global;
 
 /// Whether a name that may be left out is `_`.

@@ -1,14 +1,14 @@
 //! What a function literal is (Go specification, Function literals).
 
 ghost use Rattle.std.specs.Prelude.{◌≡◌, Bool, List, Option, Some};
-ghost use Rattle.const_eval.specs.declared.consts.Const.{Const};
+ghost use Rattle.go_tree.specs.declared.const_eval.consts.Const.{Const};
 ghost use Rattle.go_tree.specs.View.{stmts_of};
-ghost use Rattle.go_types.specs.Answers.{only_if};
-ghost use Rattle.go_types.specs.Bodies as go;
-ghost use Rattle.go_types.specs.Entities as go_entity;
-ghost use Rattle.go_types.specs.Operands.{a_function};
-ghost use Rattle.go_types.specs.Types.{FuncType as GoFuncType};
-ghost use Rattle.type_relations.specs.Environment.{Environment};
+ghost use Rattle.go_tree.specs.GoTypes.Answers.{only_if};
+ghost use Rattle.go_tree.specs.GoTypes.Bodies as go;
+ghost use Rattle.go_tree.specs.GoTypes.Entities as go_entity;
+ghost use Rattle.go_tree.specs.GoTypes.Operands.{a_function};
+ghost use Rattle.go_tree.specs.GoTypes.Types.{FuncType as GoFuncType};
+ghost use Rattle.type_table.specs.TypeRelations.Environment.{Environment};
 ghost use Rattle.typed_names.specs.Known.{HasTypes};
 ghost use Rattle.typed_names.specs.Meanings.{entity_at};
 ghost use Rattle.operand_modes.specs.Operands.{GivesOperand};
@@ -25,7 +25,7 @@ use operand_answers::{Located, elsewhere};
 use operand_modes::Operand;
 use operand_rules::Refusal;
 use std::alloc::Global;
-use type_relations::FuncType;
+use type_table::type_relations::FuncType;
 use typed_names::Entity;
 
 /// The operand that the name of a function is.

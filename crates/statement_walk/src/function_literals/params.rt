@@ -3,14 +3,14 @@
 
 ghost use Rattle.std.specs.Prelude.{◌≡◌, ◌&&◌, ◌++◌, [], List, OnOk, Some, false, map, not};
 ghost use Rattle.std.specs.Option.{option_map};
-ghost use Rattle.const_eval.specs.declared.consts.Const.{Const};
+ghost use Rattle.go_tree.specs.declared.const_eval.consts.Const.{Const};
 ghost use Rattle.go_tree.specs.View.{name_at_of, param_of, sig_of};
-ghost use Rattle.go_types.specs.Bodies as go;
-ghost use Rattle.go_types.specs.Entities as go_entity;
-ghost use Rattle.go_types.specs.TypeNames as type_name;
-ghost use Rattle.scope_names.specs.FreeNames.{name_then, params_names};
-ghost use Rattle.scope_names.specs.Means.{is_blank};
-ghost use Rattle.type_relations.specs.Environment.{Environment, env_type};
+ghost use Rattle.go_tree.specs.GoTypes.Bodies as go;
+ghost use Rattle.go_tree.specs.GoTypes.Entities as go_entity;
+ghost use Rattle.go_tree.specs.GoTypes.TypeNames as type_name;
+ghost use Rattle.go_tree.specs.ScopeNames.FreeNames.{name_then, params_names};
+ghost use Rattle.go_tree.specs.ScopeNames.Means.{is_blank};
+ghost use Rattle.type_table.specs.TypeRelations.Environment.{Environment, env_type};
 ghost use Rattle.operand_rules.specs.declared.values.ValueType.TheVariants.{Typed};
 ghost use Rattle.operand_rules.specs.Values.{IsType};
 ghost use Rattle.typed_names.specs.declared.scopes.Scope.{Scope as Place};
@@ -24,13 +24,13 @@ ghost use Rattle.jump_rules.specs.UsedLocals.Used.{used_of};
 ghost use Rattle.statement_walk.specs.FunctionLiterals.Params.{GivesBound, sig_declares};
 ghost use Rattle.statement_walk.specs.Parts.{AreHere, GivesRead};
 
-use access_rules::is_blank;
 use control_steps::LocalBlock;
 use go_tree::{NameAt, NoMemory, Param, Sig};
 use jump_rules::{PendingNames, UsedNames};
 use operand_rules::Refusal;
+use operator_rules::access_rules::is_blank;
 use std::alloc::Global;
-use type_relations::FuncType;
+use type_table::type_relations::FuncType;
 use type_table::{TypeId, TypeIdList};
 use typed_names::{Entity, Scope};
 

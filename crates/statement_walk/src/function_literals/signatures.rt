@@ -3,9 +3,9 @@
 
 ghost use Rattle.std.specs.Prelude.{◌≡◌, IfOk, map};
 ghost use Rattle.go_tree.specs.View.{param_of, sig_of};
-ghost use Rattle.go_types.specs.Bodies as go;
-ghost use Rattle.go_types.specs.TypeNames as type_name;
-ghost use Rattle.type_relations.specs.Environment.{Environment};
+ghost use Rattle.go_tree.specs.GoTypes.Bodies as go;
+ghost use Rattle.go_tree.specs.GoTypes.TypeNames as type_name;
+ghost use Rattle.type_table.specs.TypeRelations.Environment.{Environment};
 ghost use Rattle.typed_names.specs.Scopes.{env_at};
 ghost use Rattle.checker_tables.specs.Ready.{Keeps};
 ghost use Rattle.func_types.specs.Answers.{GivesFunc, func_of};
@@ -18,8 +18,8 @@ use func_types::func_type;
 use go_tree::{NoMemory, ParamList, Sig};
 use operand_rules::Refusal;
 use std::alloc::Global;
-use type_relations::FuncType;
 use type_table::TypeId;
+use type_table::type_relations::FuncType;
 use typed_names::{Blocks, Scope};
 
 /// The type of a function with this signature. The tables only grow.

@@ -2,14 +2,14 @@
 //! clause).
 
 ghost use Rattle.std.specs.Prelude.{◌≡◌, ◌&&◌, IfOk, IfSome, List, Option, is_some};
-ghost use Rattle.go_types.specs.Answers.{meets};
-ghost use Rattle.go_types.specs.Entities as go_entity;
-ghost use Rattle.go_types.specs.Entities.{run};
-ghost use Rattle.go_types.specs.Operands as go_operand;
-ghost use Rattle.go_types.specs.Operands.{typed};
-ghost use Rattle.go_types.specs.Relations.{is_whole_number};
-ghost use Rattle.go_types.specs.Statements as go;
-ghost use Rattle.type_relations.specs.Environment.{defined_types, env_type};
+ghost use Rattle.go_tree.specs.GoTypes.Answers.{meets};
+ghost use Rattle.go_tree.specs.GoTypes.Entities as go_entity;
+ghost use Rattle.go_tree.specs.GoTypes.Entities.{run};
+ghost use Rattle.go_tree.specs.GoTypes.Operands as go_operand;
+ghost use Rattle.go_tree.specs.GoTypes.Operands.{typed};
+ghost use Rattle.go_tree.specs.GoTypes.Relations.{is_whole_number};
+ghost use Rattle.go_tree.specs.GoTypes.Statements as go;
+ghost use Rattle.type_table.specs.TypeRelations.Environment.{defined_types, env_type};
 ghost use Rattle.operand_rules.specs.declared.values.ValueType.TheVariants.{Typed};
 ghost use Rattle.operand_rules.specs.Values.{IsType, IsValue, typed_of};
 ghost use Rattle.operand_modes.specs.Operands.{IsOperand, operand_at};

@@ -1,12 +1,12 @@
 //! What each turn of a range gives (Go specification, For statements with range clause).
 
 ghost use Rattle.std.specs.Prelude.{◌≡◌, ◌∷◌, [], IfSome, Some};
-ghost use Rattle.go_types.specs.Answers.{given, only_if};
-ghost use Rattle.go_types.specs.Defined.{under};
-ghost use Rattle.go_types.specs.Operands.{settled};
-ghost use Rattle.go_types.specs.Relations.{is_whole_number};
-ghost use Rattle.go_types.specs.Statements as go;
-ghost use Rattle.type_relations.specs.Environment.{defined_types, env_type};
+ghost use Rattle.go_tree.specs.GoTypes.Answers.{given, only_if};
+ghost use Rattle.go_tree.specs.GoTypes.Defined.{under};
+ghost use Rattle.go_tree.specs.GoTypes.Operands.{settled};
+ghost use Rattle.go_tree.specs.GoTypes.Relations.{is_whole_number};
+ghost use Rattle.go_tree.specs.GoTypes.Statements as go;
+ghost use Rattle.type_table.specs.TypeRelations.Environment.{defined_types, env_type};
 ghost use Rattle.operand_rules.specs.declared.values.ValueType.TheVariants.{Typed};
 ghost use Rattle.operand_rules.specs.Values.{IsType, IsValue, type_of, typed_of};
 ghost use Rattle.checker_tables.specs.Ready.{AreReady};

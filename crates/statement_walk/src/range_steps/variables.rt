@@ -2,13 +2,13 @@
 
 ghost use Rattle.std.specs.Prelude.{◌≡◌, ℕ, List, Option, length, map};
 ghost use Rattle.go_tree.specs.View.{name_at_of};
-ghost use Rattle.go_types.specs.Answers.{given};
-ghost use Rattle.go_types.specs.Declarations as go_declaration;
-ghost use Rattle.go_types.specs.Entities as go_entity;
-ghost use Rattle.go_types.specs.Operands as go_operand;
-ghost use Rattle.go_types.specs.Statements as go;
-ghost use Rattle.scope_names.specs.FreeNames.{names_of};
-ghost use Rattle.type_relations.specs.Environment.{defined_types};
+ghost use Rattle.go_tree.specs.GoTypes.Answers.{given};
+ghost use Rattle.go_tree.specs.GoTypes.Declarations as go_declaration;
+ghost use Rattle.go_tree.specs.GoTypes.Entities as go_entity;
+ghost use Rattle.go_tree.specs.GoTypes.Operands as go_operand;
+ghost use Rattle.go_tree.specs.GoTypes.Statements as go;
+ghost use Rattle.go_tree.specs.ScopeNames.FreeNames.{names_of};
+ghost use Rattle.type_table.specs.TypeRelations.Environment.{defined_types};
 ghost use Rattle.operand_rules.specs.Values.{IsValue, typed_of};
 ghost use Rattle.operand_modes.specs.Operands.{operand_at};
 ghost use Rattle.checker_tables.specs.Ready.{AreReady};
@@ -18,7 +18,6 @@ ghost use Rattle.assignment_steps.specs.SpecSteps.Specs.{GivesVariables};
 ghost use Rattle.statement_walk.specs.RangeSteps.Ranges.{HasRangeTypes, listed, some_named};
 
 use crate::range_steps::types::{RangeTypes, range_types};
-use access_rules::is_blank;
 use checker_tables::Tables;
 use control_steps::EntityList;
 use go_tree::{NameAt, NameAtList};
@@ -26,6 +25,7 @@ use jump_rules::stand_once;
 use operand_answers::Located;
 use operand_modes::single_value;
 use operand_rules::{Refusal, Value};
+use operator_rules::access_rules::is_blank;
 use std::alloc::Global;
 use typed_names::Entity;
 

@@ -2,10 +2,10 @@
 
 ghost use Rattle.std.specs.Prelude.{List, ℕ};
 ghost use Rattle.go_tree.specs.View.{stmt_of};
-ghost use Rattle.go_types.specs.Bodies.{Ctx};
-ghost use Rattle.go_types.specs.Entities.{Env};
-ghost use Rattle.go_types.specs.Typing as go;
-ghost use Rattle.access_rules.specs.Functions.{AreTypes};
+ghost use Rattle.go_tree.specs.GoTypes.Bodies.{Ctx};
+ghost use Rattle.go_tree.specs.GoTypes.Entities.{Env};
+ghost use Rattle.go_tree.specs.GoTypes.Typing as go;
+ghost use Rattle.operator_rules.specs.AccessRules.Functions.{AreTypes};
 ghost use Rattle.checker_tables.specs.Ready.{Keeps};
 ghost use Rattle.operand_answers.specs.Known.{Stands};
 ghost use Rattle.control_steps.specs.Ends.{EndsAs};

@@ -11,7 +11,7 @@ use Rattle.pkg_graph.specs.Views.{package_view}
 use Rattle.pkg_graph.specs.declared.packages.Package.{Package}
 use Rattle.pkg_graph.specs.declared.packages.SourceTree.{SourceTree}
 use Rattle.file_tables.specs.Numbers.{number_in}
-use Rattle.mark_values.specs.Tables.{key_of}
+use Rattle.use_search.specs.MarkValues.Tables.{key_of}
 use Rattle.module_marks.specs.Tables.{IsTableOf}
 use Rattle.module_marks.specs.Views.{mark_ref_of}
 use Rattle.use_search.specs.declared.search.FoundObstacle.{FoundObstacle}

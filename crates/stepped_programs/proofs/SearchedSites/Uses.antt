@@ -8,15 +8,15 @@ use Rattle.go_tree.specs.declared.spans.Span.{Span}
 use Rattle.go_tree.specs.Tree.{NameAt, Expr}
 use Rattle.go_tree.specs.File.{File}
 use Rattle.go_tree.specs.FileView.{file_of}
-use Rattle.scope_names.specs.declared.names.Entity.TheVariants as entity
-use Rattle.scope_names.specs.declared.names.FileNames.{FileNames}
-use Rattle.scope_names.specs.declared.names.ImportName.{ImportName}
-use Rattle.scope_names.specs.Identifiers.{identifiers}
+use Rattle.go_tree.specs.declared.scope_names.names.Entity.TheVariants as entity
+use Rattle.go_tree.specs.declared.scope_names.names.FileNames.{FileNames}
+use Rattle.go_tree.specs.declared.scope_names.names.ImportName.{ImportName}
+use Rattle.go_tree.specs.ScopeNames.Identifiers.{identifiers}
 use Rattle.scope_tables.specs.Table.{Table, IsTableOf, table_of}
 use Rattle.import_rules.specs.Needs.{avoided}
 use Rattle.pkg_graph.specs.Package.{SourceTree, Package, import_specs}
 use Rattle.pkg_graph.specs.Views.{package_view}
-use Rattle.go_types.specs.Answers.{given, meets}
+use Rattle.go_tree.specs.GoTypes.Answers.{given, meets}
 use Rattle.run_rules.specs.Sites.{MarkRef, Where, Inlinable, a_constant, an_alias, a_function, Site, part_span, same_mark, is_among_marks, inlinable}
 use Rattle.run_rules.specs.Naming.{fuel_for}
 use Rattle.run_rules.specs.Marks.{text_at}
@@ -24,23 +24,23 @@ use Rattle.run_rules.specs.Texts.{FileText}
 use Rattle.run_rules.specs.Respanned.{file_with, package_with}
 use Rattle.run_rules.specs.Steps.{At, lies_in}
 use Rattle.run_rules.specs.Run.{Standing, here_of, is_commented}
-use Rattle.form_imports.specs.ImportLaws.Steps.{names_standing}
-use Rattle.form_imports.proofs.ImportLaws.GraphImports.{map_twice}
-use Rattle.place_meanings.specs.Agreement.{AgreesAt}
-use Rattle.place_meanings.specs.Laws.{AreNamesOf}
-use Rattle.place_meanings.proofs.PlacesMean.{files_named}
+use Rattle.splice_laws.specs.FormImports.ImportLaws.Steps.{names_standing}
+use Rattle.splice_laws.proofs.FormImports.ImportLaws.GraphImports.{map_twice}
+use Rattle.splice_laws.specs.PlaceMeanings.Agreement.{AgreesAt}
+use Rattle.splice_laws.specs.PlaceMeanings.Laws.{AreNamesOf}
+use Rattle.splice_laws.proofs.PlaceMeanings.PlacesMean.{files_named}
 use Rattle.member_uses.specs.Laws.{is_constant, AllConstants, Knows}
 use Rattle.module_marks.specs.Views.{mark_ref_of}
 use Rattle.repeated_parts.specs.Along.{is_again}
-use Rattle.cycle_laws.proofs.ConstantCycles.OffCycles.{one_mark}
-use Rattle.constant_steps.proofs.MarksFound.{StandsThere, stands_there, DeclaredThere, declared_there}
+use Rattle.order_runs.proofs.CycleLaws.ConstantCycles.OffCycles.{one_mark}
+use Rattle.splice_laws.proofs.ConstantSteps.MarksFound.{StandsThere, stands_there, DeclaredThere, declared_there}
 use Rattle.constant_forms.specs.declared.uses.ConstantValue.{ConstantValue}
 use Rattle.constant_forms.specs.declared.uses.ConstantValue.TheVariants as lent
 use Rattle.constant_forms.specs.declared.uses.ConstantUse.{ConstantUse}
 use Rattle.constant_forms.specs.Told.{needed_package, is_elsewhere, AreInPackages}
 use Rattle.constant_forms.specs.Uses.{IsUse}
-use Rattle.mark_values.specs.Values.{value_of}
-use Rattle.mark_values.specs.Tables.{value_in}
+use Rattle.use_search.specs.MarkValues.Values.{value_of}
+use Rattle.use_search.specs.MarkValues.Tables.{value_in}
 use Rattle.use_search.specs.declared.uses_of_marks.uses.MarkedUse.{MarkedUse}
 use Rattle.use_search.specs.UsesOfMarks.Uses.{PlacedMark}
 use Rattle.use_search.specs.UsesOfMarks.Laws.{IsPlaced}

@@ -4,7 +4,7 @@ use Rattle.std.specs.Prelude.{slice_get}
 use Rattle.go_tree.specs.Tree.{NameAt, Exprs, no_exprs, expr_and, const_decl, var_decl, ValueSpecs, no_specs, spec}
 use Rattle.go_tree.specs.File.{Decl, values, types, func, File}
 use Rattle.pkg_graph.specs.Package.{SourceTree, Package}
-use Rattle.go_types.specs.Answers.{given, meets}
+use Rattle.go_tree.specs.GoTypes.Answers.{given, meets}
 use Rattle.run_rules.specs.Programs.{top_place}
 use Rattle.run_rules.specs.Respanned.{decl_with}
 use Rattle.run_rules.specs.Rewriting.{Changes, new_all}
@@ -13,7 +13,7 @@ use Rattle.run_rules.specs.Sites.{MarkRef, Where, Site, Inlinable, part_span, co
 use Rattle.run_rules.specs.Steps.{At, same_here, changes_for, new_constants, new_type_spec, new_decl, new_decls}
 use Rattle.run_rules.specs.Surroundings.{Use, Place, later_uses, in_constant, value_use, alike}
 use Rattle.member_uses.specs.Laws.{is_constant}
-use Rattle.loaded_programs.proofs.ConstantsAsRead.{decl_constant, no_constant}
+use Rattle.stepped_programs.proofs.LoadedPrograms.ConstantsAsRead.{decl_constant, no_constant}
 use Rattle.stepped_programs.proofs.SearchedSites.SettledFiles.Packages.{seen_same, placed, with_tree, in_package}
 use Rattle.stepped_programs.specs.SteppedValues.Filled.{ConstantsStayMarked}
 use Rattle.stepped_programs.proofs.SteppedValues.Places.{kept_through, seen_mapped}

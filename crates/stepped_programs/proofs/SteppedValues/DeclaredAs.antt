@@ -4,14 +4,14 @@ use Rattle.std.specs.Prelude.{slice_get, if◌then◌else◌}
 use Rattle.std.proofs.lemmas.Option.{slice_get_within}
 use Rattle.go_tree.specs.Tree.{NameAt, Expr, ident, selector}
 use Rattle.go_tree.specs.File.{Decl}
-use Rattle.scope_names.specs.declared.names.Entity.{Entity}
-use Rattle.scope_names.specs.declared.names.Entity.TheVariants as entity
-use Rattle.scope_names.specs.FreeNames.{names_of}
-use Rattle.scope_names.specs.Means.{means}
+use Rattle.go_tree.specs.declared.scope_names.names.Entity.{Entity}
+use Rattle.go_tree.specs.declared.scope_names.names.Entity.TheVariants as entity
+use Rattle.go_tree.specs.ScopeNames.FreeNames.{names_of}
+use Rattle.go_tree.specs.ScopeNames.Means.{means}
 use Rattle.scope_tables.specs.Table.{meaning_in}
 use Rattle.pkg_graph.specs.Package.{Package, import_specs}
 use Rattle.pkg_graph.specs.Members.{Target, local, imported, member, predeclared}
-use Rattle.go_types.specs.Answers.{given, is_among}
+use Rattle.go_tree.specs.GoTypes.Answers.{given, is_among}
 use Rattle.run_rules.specs.Surroundings.{Use, Place}
 use Rattle.run_rules.specs.Places.{expr_seen}
 use Rattle.run_rules.specs.Programs.{package_number, decl_seen}
@@ -19,20 +19,20 @@ use Rattle.run_rules.specs.Respanned.{expr_with, file_with}
 use Rattle.run_rules.specs.Sites.{MarkRef, Where, a_constant, mark_of, imported_by, outer, outer_meaning, import_number, qualifier, inlinable_in}
 use Rattle.run_rules.specs.Steps.{At}
 use Rattle.run_rules.specs.Run.{here_of}
-use Rattle.place_meanings.specs.Agreement.{target_of, AgreesAt}
-use Rattle.place_meanings.specs.Parts.{AllScoped, AtParts}
-use Rattle.place_meanings.proofs.PlacesMean.{places_mean}
+use Rattle.splice_laws.specs.PlaceMeanings.Agreement.{target_of, AgreesAt}
+use Rattle.splice_laws.specs.PlaceMeanings.Parts.{AllScoped, AtParts}
+use Rattle.splice_laws.proofs.PlaceMeanings.PlacesMean.{places_mean}
 use Rattle.member_uses.specs.Uses.{Names, imported_package, import_at}
 use Rattle.constant_forms.specs.declared.uses.ConstantValue.{ConstantValue}
 use Rattle.constant_forms.specs.declared.uses.ConstantValue.TheVariants as lent
 use Rattle.constant_forms.specs.Uses.{home_place, IsMember, IsPlain, IsQualified, IsValue}
 use Rattle.constant_forms.proofs.Members.{table_members}
-use Rattle.mark_values.specs.declared.values.DeclaredValue.{DeclaredValue}
-use Rattle.mark_values.specs.declared.values.DeclaredValue.TheVariants.{Plain, Qualified}
-use Rattle.mark_values.specs.Values.{value_of, expr_value}
-use Rattle.mark_values.specs.Tables.{Known, value_in}
-use Rattle.mark_values.proofs.Written.{IsWritten, decl_formed}
-use Rattle.mark_values.proofs.Own.{in_decl, of_decl}
+use Rattle.use_search.specs.declared.mark_values.values.DeclaredValue.{DeclaredValue}
+use Rattle.use_search.specs.declared.mark_values.values.DeclaredValue.TheVariants.{Plain, Qualified}
+use Rattle.use_search.specs.MarkValues.Values.{value_of, expr_value}
+use Rattle.use_search.specs.MarkValues.Tables.{Known, value_in}
+use Rattle.use_search.proofs.MarkValues.Written.{IsWritten, decl_formed}
+use Rattle.use_search.proofs.MarkValues.Own.{in_decl, of_decl}
 use Rattle.programs.specs.Programs.{HasValues}
 use Rattle.put_names.specs.Uses.{IsDeclaredAsName, as_name, as_member}
 use Rattle.stepped_programs.specs.SearchedSites.Told.{IsToldValue}

@@ -5,32 +5,32 @@ use Rattle.std.proofs.lemmas.Option.{same_Some}
 use Rattle.go_tree.specs.declared.spans.Span.{Span}
 use Rattle.go_tree.specs.File.{Decl, File}
 use Rattle.go_tree.specs.FileView.{decl_of, file_of}
-use Rattle.scope_names.specs.declared.names.FileNames.{FileNames}
+use Rattle.go_tree.specs.declared.scope_names.names.FileNames.{FileNames}
 use Rattle.scope_tables.specs.Table.{IsTableOf}
 use Rattle.pkg_graph.specs.Package.{SourceTree, Package, import_specs}
 use Rattle.pkg_graph.specs.Members.{names_of_file}
 use Rattle.pkg_graph.specs.Views.{package_view, source_of}
 use Rattle.pkg_graph.specs.declared.packages.Package as code
 use Rattle.pkg_graph.specs.declared.packages.SourceTree as code_tree
-use Rattle.go_types.specs.Answers.{given, meets}
+use Rattle.go_tree.specs.GoTypes.Answers.{given, meets}
 use Rattle.run_rules.specs.Sites.{MarkRef, Where, inlinable_in, is_among_marks, where_is}
 use Rattle.run_rules.specs.Respanned.{decl_with, file_with, source_with, package_with, packages_with}
 use Rattle.run_rules.specs.Steps.{At}
 use Rattle.run_rules.specs.Texts.{FileText}
 use Rattle.run_rules.specs.Inlining.{ReadsAs}
 use Rattle.run_rules.specs.Run.{Standing, here_of}
-use Rattle.constant_steps.proofs.MarksFound.{StandsThere, stands_there}
-use Rattle.form_imports.specs.ImportLaws.Steps.{names_standing}
-use Rattle.place_meanings.specs.Laws.{AreNamesOf}
-use Rattle.place_meanings.proofs.PlacesMean.{files_named}
+use Rattle.splice_laws.proofs.ConstantSteps.MarksFound.{StandsThere, stands_there}
+use Rattle.splice_laws.specs.FormImports.ImportLaws.Steps.{names_standing}
+use Rattle.splice_laws.specs.PlaceMeanings.Laws.{AreNamesOf}
+use Rattle.splice_laws.proofs.PlaceMeanings.PlacesMean.{files_named}
 use Rattle.member_uses.specs.Laws.{is_constant, AllConstants, Knows}
 use Rattle.file_tables.specs.Numbers.{number_in}
-use Rattle.mark_values.specs.Tables.{Known}
+use Rattle.use_search.specs.MarkValues.Tables.{Known}
 use Rattle.programs.specs.Programs.{HasValues}
 use Rattle.programs.specs.FileValues.Filled.{HasFileValues, is_constants}
-use Rattle.loaded_programs.proofs.Images.{at_image}
-use Rattle.loaded_programs.proofs.ConstantsAsRead.{constants_declared}
-use Rattle.loaded_programs.proofs.NamesStand.{names_stand, numbers_stand}
+use Rattle.stepped_programs.proofs.LoadedPrograms.Images.{at_image}
+use Rattle.stepped_programs.proofs.LoadedPrograms.ConstantsAsRead.{constants_declared}
+use Rattle.stepped_programs.proofs.LoadedPrograms.NamesStand.{names_stand, numbers_stand}
 use Rattle.stepped_programs.proofs.SearchedSites.Uses.{among_constant}
 
 -- a file whose constants the table has

@@ -4,22 +4,22 @@ use Rattle.std.specs.Prelude.{slice_get}
 use Rattle.std.proofs.lemmas.Option.{same_Some}
 use Rattle.go_tree.specs.Tree.{NameAt, Expr}
 use Rattle.go_scan.specs.TokenLists.{TokenLists}
-use Rattle.go_types.specs.WellTyped.{well_typed}
+use Rattle.go_tree.specs.GoTypes.WellTyped.{well_typed}
 use Rattle.pkg_graph.specs.Reads.{Source}
 use Rattle.pkg_graph.specs.Views.{package_view}
-use Rattle.cycle_runs.specs.OrderCycles.Orders.{AllOrdered}
+use Rattle.order_runs.specs.CycleRuns.OrderCycles.Orders.{AllOrdered}
 use Rattle.run_rules.specs.Programs.{linked}
 use Rattle.run_rules.specs.Respanned.{packages_with}
 use Rattle.run_rules.specs.Run.{Standing, here_of}
 use Rattle.run_rules.specs.Sites.{MarkRef, Where, a_constant, is_among_marks, where_is, inlinable}
 use Rattle.run_rules.specs.Steps.{At}
-use Rattle.constant_steps.proofs.MarksFound.{declared_there}
+use Rattle.splice_laws.proofs.ConstantSteps.MarksFound.{declared_there}
 use Rattle.typed_parts.specs.ScopedParts.Laws.{WellTypedFilesAreScoped}
 use Rattle.module_marks.specs.Tables.{IsTableOf}
 use Rattle.module_marks.specs.declared.table.MarkTable.{MarkTable}
-use Rattle.mark_values.specs.Tables.{Known, value_in}
+use Rattle.use_search.specs.MarkValues.Tables.{Known, value_in}
 use Rattle.put_names.specs.Uses.{IsDeclaredAsName}
-use Rattle.marked_runs.specs.NamedMarks.Named.{AllNamed}
+use Rattle.typed_parts.specs.MarkedRuns.NamedMarks.Named.{AllNamed}
 use Rattle.package_search.specs.declared.looks.ProgramSources.{ProgramSources}
 use Rattle.programs.specs.declared.state.PackageFiles.{PackageFiles}
 use Rattle.programs.specs.declared.state.Program.{Program}

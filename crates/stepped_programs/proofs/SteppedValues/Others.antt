@@ -5,50 +5,50 @@ use Rattle.std.proofs.lemmas.Bool.{eqb-true, eqb-false, true≢false}
 use Rattle.std.proofs.lemmas.Option.{same_Some}
 use Rattle.go_tree.specs.Tree.{NameAt, Expr}
 use Rattle.go_tree.specs.File.{ImportSpec, Decl}
-use Rattle.scope_names.specs.Identifiers.{decl_identifiers}
+use Rattle.go_tree.specs.ScopeNames.Identifiers.{decl_identifiers}
 use Rattle.pkg_graph.specs.Package.{SourceTree, Package, import_specs}
 use Rattle.pkg_graph.specs.Members.{Target, package_block}
-use Rattle.go_types.specs.Agreement.{In}
-use Rattle.go_types.specs.Answers.{given}
+use Rattle.go_tree.specs.GoTypes.Agreement.{In}
+use Rattle.go_tree.specs.GoTypes.Answers.{given}
 use Rattle.go_translation.specs.SameMeaning.{WellTyped}
 use Rattle.order_runs.specs.RunSteps.RunPackages.{packages_of}
 use Rattle.run_rules.specs.Respanned.{name_with, expr_with, decl_with}
 use Rattle.run_rules.specs.Run.{Standing, Logged, Next, origin_of}
 use Rattle.run_rules.specs.Sites.{MarkRef, Where, a_constant, is_among_marks, inlinable_in, qualifier}
 use Rattle.run_rules.specs.Steps.{At, change_nth}
-use Rattle.constant_steps.proofs.MarksFound.{StandsThere, stands_there, declared_there, nth_mapped}
+use Rattle.splice_laws.proofs.ConstantSteps.MarksFound.{StandsThere, stands_there, declared_there, nth_mapped}
 use Rattle.constant_forms.specs.Uses.{home_place}
 use Rattle.typed_parts.specs.ScopedParts.Laws.{WellTypedFilesAreScoped}
 use Rattle.printed_constants.specs.DeclaredMembers.Laws.{ConstantsNameMembers}
-use Rattle.cycle_runs.specs.ImportCycles.OtherImports.{import_path}
-use Rattle.cycle_runs.specs.ImportCycles.ImportSteps.{packages_added, decl_put}
-use Rattle.cycle_runs.specs.OrderCycles.NewNames.{NamesByPath}
-use Rattle.cycle_runs.specs.OrderCycles.Steps.{KeepsImportLookUps}
-use Rattle.cycle_runs.specs.ImportCycles.LookedUp.{decl_looked_up}
-use Rattle.cycle_runs.proofs.ImportCycles.FreeIdentifiers.{looked-up-within}
-use Rattle.cycle_runs.proofs.ImportCycles.ImportsAdded.{reads-added}
-use Rattle.cycle_runs.proofs.Runs.{linked-names}
-use Rattle.mark_values.specs.declared.values.DeclaredValue.{DeclaredValue}
-use Rattle.mark_values.specs.declared.values.DeclaredValue.TheVariants.{Plain, Qualified}
-use Rattle.mark_values.specs.Tables.{DeclKey, Known, key_of, same_key, values_at, value_in}
+use Rattle.order_runs.specs.CycleRuns.ImportCycles.OtherImports.{import_path}
+use Rattle.order_runs.specs.CycleRuns.ImportCycles.ImportSteps.{packages_added, decl_put}
+use Rattle.order_runs.specs.CycleRuns.OrderCycles.NewNames.{NamesByPath}
+use Rattle.order_runs.specs.CycleRuns.OrderCycles.Steps.{KeepsImportLookUps}
+use Rattle.order_runs.specs.CycleRuns.ImportCycles.LookedUp.{decl_looked_up}
+use Rattle.order_runs.proofs.CycleRuns.ImportCycles.FreeIdentifiers.{looked-up-within}
+use Rattle.order_runs.proofs.CycleRuns.ImportCycles.ImportsAdded.{reads-added}
+use Rattle.order_runs.proofs.CycleRuns.Runs.{linked-names}
+use Rattle.use_search.specs.declared.mark_values.values.DeclaredValue.{DeclaredValue}
+use Rattle.use_search.specs.declared.mark_values.values.DeclaredValue.TheVariants.{Plain, Qualified}
+use Rattle.use_search.specs.MarkValues.Tables.{DeclKey, Known, key_of, same_key, values_at, value_in}
 use Rattle.programs.specs.Programs.{TellsValues}
-use Rattle.loaded_programs.proofs.Images.{both}
-use Rattle.marked_runs.specs.KeptMarks.Laws.{StepsKeepNamed}
-use Rattle.marked_runs.specs.KeptMarks.Over.{IsOverName}
-use Rattle.marked_runs.specs.NamedMarks.Named.{IsNamedConstant, AllNamed}
-use Rattle.marked_runs.specs.SettledConstants.Laws.{ConstantsWrite}
-use Rattle.marked_runs.specs.SettledConstants.Programs.{IsReady}
-use Rattle.marked_runs.proofs.KeptMarks.Changed.{Imported, qs, paths-now, imported-now}
-use Rattle.marked_runs.proofs.KeptMarks.Kept.{look-ups}
-use Rattle.marked_runs.proofs.KeptMarks.Served.{mid-path}
-use Rattle.marked_runs.proofs.KeptMarks.Shapes.{Shape, shape, shape-with, dotted-in}
-use Rattle.marked_runs.proofs.NamedMarks.Declared.{inlinable-with}
+use Rattle.stepped_programs.proofs.LoadedPrograms.Images.{both}
+use Rattle.typed_parts.specs.MarkedRuns.KeptMarks.Laws.{StepsKeepNamed}
+use Rattle.typed_parts.specs.MarkedRuns.KeptMarks.Over.{IsOverName}
+use Rattle.typed_parts.specs.MarkedRuns.NamedMarks.Named.{IsNamedConstant, AllNamed}
+use Rattle.typed_parts.specs.MarkedRuns.SettledConstants.Laws.{ConstantsWrite}
+use Rattle.typed_parts.specs.MarkedRuns.SettledConstants.Programs.{IsReady}
+use Rattle.typed_parts.proofs.MarkedRuns.KeptMarks.Changed.{Imported, qs, paths-now, imported-now}
+use Rattle.typed_parts.proofs.MarkedRuns.KeptMarks.Kept.{look-ups}
+use Rattle.typed_parts.proofs.MarkedRuns.KeptMarks.Served.{mid-path}
+use Rattle.typed_parts.proofs.MarkedRuns.KeptMarks.Shapes.{Shape, shape, shape-with, dotted-in}
+use Rattle.typed_parts.proofs.MarkedRuns.NamedMarks.Declared.{inlinable-with}
 use Rattle.stepped_programs.proofs.SearchedSites.SettledFiles.Packages.{placed, with_tree, in_package, block_now}
 use Rattle.stepped_programs.specs.SteppedValues.OfSteps.{is_of_step, decl_of_step}
 use Rattle.stepped_programs.specs.SteppedValues.Laws.{MarkedValuesStay}
 use Rattle.stepped_programs.proofs.SteppedValues.Places.{marked_there, changed_here, changed_else}
 use Rattle.stepped_programs.proofs.SteppedValues.Said.{own_names, IsSaid, mark_said}
-use Rattle.scope_names.specs.Means as scopes
+use Rattle.go_tree.specs.ScopeNames.Means as scopes
 
 -- ---- a constant of a program
 

@@ -3,11 +3,11 @@ use Rattle.std.proofs.Common.{◌≡◌, ◌∙◌, refl, sym, ap, subst, ℕ, z
 use Rattle.std.specs.Prelude.{slice_get}
 use Rattle.std.proofs.lemmas.Option.{same_Some}
 use Rattle.pkg_graph.specs.Package.{SourceTree, Package}
-use Rattle.go_types.specs.Answers.{given}
-use Rattle.go_types.proofs.Agreeing.{from_given, some_same}
+use Rattle.go_tree.specs.GoTypes.Answers.{given}
+use Rattle.go_tree.proofs.GoTypes.Agreeing.{from_given, some_same}
 use Rattle.run_rules.specs.Sites.{MarkRef, Where, where_is}
 use Rattle.run_rules.specs.Steps.{At, change_nth}
-use Rattle.constant_steps.proofs.MarksFound.{StandsThere, stands_there}
+use Rattle.splice_laws.proofs.ConstantSteps.MarksFound.{StandsThere, stands_there}
 use Rattle.stepped_programs.specs.SearchedSites.OrderedSearches.Held.{IsThere}
 
 -- ---- where a mark's declaration stands

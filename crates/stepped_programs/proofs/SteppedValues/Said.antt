@@ -6,18 +6,18 @@ use Rattle.std.proofs.lemmas.Bool.{true≢false}
 use Rattle.std.proofs.lemmas.Option.{none-some}
 use Rattle.go_tree.specs.Tree.{NameAt, Expr}
 use Rattle.go_tree.specs.File.{Decl}
-use Rattle.scope_names.specs.Means as scopes
-use Rattle.scope_names.specs.Means.{or_else}
-use Rattle.scope_names.specs.FreeNames.{names_of}
-use Rattle.scope_names.specs.Scopes.{Scope, holds_at, decls_scopes}
-use Rattle.scope_names.specs.declared.names.Entity.{Entity}
-use Rattle.scope_names.specs.declared.names.Entity.TheVariants as entity
-use Rattle.scope_names.specs.declared.names.FileNames.{FileNames}
+use Rattle.go_tree.specs.ScopeNames.Means as scopes
+use Rattle.go_tree.specs.ScopeNames.Means.{or_else}
+use Rattle.go_tree.specs.ScopeNames.FreeNames.{names_of}
+use Rattle.go_tree.specs.ScopeNames.Scopes.{Scope, holds_at, decls_scopes}
+use Rattle.go_tree.specs.declared.scope_names.names.Entity.{Entity}
+use Rattle.go_tree.specs.declared.scope_names.names.Entity.TheVariants as entity
+use Rattle.go_tree.specs.declared.scope_names.names.FileNames.{FileNames}
 use Rattle.scope_tables.specs.Table.{meaning_in}
 use Rattle.import_rules.proofs.MeaningLaws.{means_append}
 use Rattle.pkg_graph.specs.Package.{Package, import_specs}
 use Rattle.pkg_graph.specs.Members.{Target, local, imported, member, predeclared, import_name, package_block}
-use Rattle.go_types.specs.Answers.{given, is_among}
+use Rattle.go_tree.specs.GoTypes.Answers.{given, is_among}
 use Rattle.run_rules.specs.Surroundings.{Use, Place}
 use Rattle.run_rules.specs.Places.{expr_seen}
 use Rattle.run_rules.specs.Programs.{decl_seen}
@@ -25,23 +25,23 @@ use Rattle.run_rules.specs.Respanned.{file_with}
 use Rattle.run_rules.specs.Sites.{MarkRef, Where, a_constant, outer_meaning, qualifier, inlinable_in}
 use Rattle.run_rules.specs.Steps.{At}
 use Rattle.run_rules.specs.Run.{here_of}
-use Rattle.form_imports.specs.ImportLaws.Steps.{names_standing}
-use Rattle.place_meanings.specs.Agreement.{means_local, AgreesAt}
-use Rattle.place_meanings.specs.Parts.{AllScoped, AtParts}
-use Rattle.place_meanings.proofs.PlacesMean.{places_mean}
+use Rattle.splice_laws.specs.FormImports.ImportLaws.Steps.{names_standing}
+use Rattle.splice_laws.specs.PlaceMeanings.Agreement.{means_local, AgreesAt}
+use Rattle.splice_laws.specs.PlaceMeanings.Parts.{AllScoped, AtParts}
+use Rattle.splice_laws.proofs.PlaceMeanings.PlacesMean.{places_mean}
 use Rattle.member_uses.specs.Uses.{Names}
 use Rattle.member_uses.specs.Laws.{Knows}
 use Rattle.constant_forms.specs.Uses.{home_place}
 use Rattle.constant_forms.proofs.Members.{table_members}
-use Rattle.mark_values.specs.declared.values.DeclaredValue.{DeclaredValue}
-use Rattle.mark_values.specs.declared.values.DeclaredValue.TheVariants.{Plain, Qualified}
-use Rattle.mark_values.specs.Values.{expr_value}
-use Rattle.mark_values.specs.Tables.{Known, value_in}
-use Rattle.mark_values.proofs.Written.{decl_formed}
-use Rattle.mark_values.proofs.Own.{in_decl}
+use Rattle.use_search.specs.declared.mark_values.values.DeclaredValue.{DeclaredValue}
+use Rattle.use_search.specs.declared.mark_values.values.DeclaredValue.TheVariants.{Plain, Qualified}
+use Rattle.use_search.specs.MarkValues.Values.{expr_value}
+use Rattle.use_search.specs.MarkValues.Tables.{Known, value_in}
+use Rattle.use_search.proofs.MarkValues.Written.{decl_formed}
+use Rattle.use_search.proofs.MarkValues.Own.{in_decl}
 use Rattle.programs.specs.Programs.{HasValues}
 use Rattle.put_names.specs.Uses.{IsDeclaredAsName, as_name, as_member}
-use Rattle.marked_runs.proofs.KeptMarks.Shapes.{Shape, shape}
+use Rattle.typed_parts.proofs.MarkedRuns.KeptMarks.Shapes.{Shape, shape}
 use Rattle.printed_constants.specs.DeclaredMembers.Members.{IsOwn, IsMember}
 use Rattle.stepped_programs.proofs.SteppedValues.DeclaredAs.{package_at, value_had}
 

@@ -12,12 +12,12 @@ use Rattle.run_rules.specs.Respanned.{file_with, packages_with}
 use Rattle.run_rules.specs.Run.{Standing, Logged, Next, here_of}
 use Rattle.run_rules.specs.Sites.{MarkRef, Where, is_among_marks, where_is}
 use Rattle.run_rules.specs.Steps.{At, Found}
-use Rattle.constant_steps.proofs.MarksFound.{stands_there}
+use Rattle.splice_laws.proofs.ConstantSteps.MarksFound.{stands_there}
 use Rattle.member_uses.specs.Laws.{AllConstants}
-use Rattle.mark_values.specs.Tables.{DeclKey, Known, key_of, values_at}
+use Rattle.use_search.specs.MarkValues.Tables.{DeclKey, Known, key_of, values_at}
 use Rattle.programs.specs.FileValues.Filled.{HasFileValues}
 use Rattle.programs.specs.Programs.{HasValues, TellsValues}
-use Rattle.loaded_programs.proofs.Images.{both}
+use Rattle.stepped_programs.proofs.LoadedPrograms.Images.{both}
 use Rattle.stepped_programs.specs.SearchedSites.OrderedSearches.Held.{IsThere}
 use Rattle.stepped_programs.specs.SearchedSites.SettledFiles.Left.{IsLeft}
 use Rattle.stepped_programs.proofs.SearchedSites.SettledFiles.Left.{source_same, knows_stay, named_stay}

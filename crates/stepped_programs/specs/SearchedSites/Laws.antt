@@ -11,7 +11,8 @@ use Rattle.use_search.specs.declared.views.FileView.{FileView}
 use Rattle.use_search.specs.declared.views.ProgramView.{ProgramView}
 use Rattle.use_search.specs.Search.{IsFileSearch}
 use Rattle.stepped_programs.specs.SearchedSites.Told.{IsProgram, IsFile}
-use Rattle.stepped_programs.specs.SearchedSites.Searched.{found_of, IsFree, AreSearched, kept_told, sites_in_file, sites_in_files, FilesSearched, files_in_order}
+use Rattle.stepped_programs.specs.SearchedSites.Searched.{found_of, IsFree, AreSearched, kept_told, sites_in_file}
+use Rattle.stepped_programs.specs.SearchedSites.Searched.{sites_in_files, FilesSearched, files_in_order}
 
 -- What a search over a file answers are the sites of the file.
 abbrev pub SearchesFindSites : Type 0

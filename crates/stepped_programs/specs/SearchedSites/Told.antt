@@ -16,14 +16,14 @@ use Rattle.run_rules.specs.Respanned.{file_with, packages_with}
 use Rattle.run_rules.specs.Steps.{At}
 use Rattle.run_rules.specs.Run.{Standing, here_of}
 use Rattle.run_rules.specs.Inlining.{ReadsAs}
-use Rattle.form_imports.specs.ImportLaws.Steps.{names_standing}
+use Rattle.splice_laws.specs.FormImports.ImportLaws.Steps.{names_standing}
 use Rattle.member_uses.specs.Laws.{AllConstants}
 use Rattle.constant_forms.specs.declared.uses.ConstantValue.{ConstantValue}
 use Rattle.constant_forms.specs.Uses.{IsValue}
-use Rattle.mark_values.specs.declared.values.DeclaredValue.{DeclaredValue}
-use Rattle.mark_values.specs.declared.values.DeclaredValue.TheVariants.{Plain, Qualified}
-use Rattle.mark_values.specs.Values.{value_of}
-use Rattle.mark_values.specs.Tables.{value_in}
+use Rattle.use_search.specs.declared.mark_values.values.DeclaredValue.{DeclaredValue}
+use Rattle.use_search.specs.declared.mark_values.values.DeclaredValue.TheVariants.{Plain, Qualified}
+use Rattle.use_search.specs.MarkValues.Values.{value_of}
+use Rattle.use_search.specs.MarkValues.Tables.{value_in}
 use Rattle.use_search.specs.UsesOfMarks.Laws.{EachSound}
 use Rattle.use_search.specs.declared.views.FileView.{FileView}
 use Rattle.use_search.specs.declared.views.ProgramView.{ProgramView}

@@ -7,14 +7,15 @@ use Rattle.pkg_graph.specs.Reads.{Source}
 use Rattle.run_rules.specs.Run.{Standing, Logged, Next}
 use Rattle.run_rules.specs.Sites.{MarkRef, Where}
 use Rattle.run_rules.specs.Steps.{At}
-use Rattle.mark_values.specs.Tables.{DeclKey, same_key, values_at}
-use Rattle.marked_runs.specs.KeptMarks.Over.{IsOverName}
-use Rattle.marked_runs.specs.NamedMarks.Named.{AllNamed}
-use Rattle.marked_runs.specs.SettledConstants.Programs.{IsReady}
+use Rattle.use_search.specs.MarkValues.Tables.{DeclKey, same_key, values_at}
+use Rattle.typed_parts.specs.MarkedRuns.KeptMarks.Over.{IsOverName}
+use Rattle.typed_parts.specs.MarkedRuns.NamedMarks.Named.{AllNamed}
+use Rattle.typed_parts.specs.MarkedRuns.SettledConstants.Programs.{IsReady}
 use Rattle.package_search.specs.declared.looks.ProgramSources.{ProgramSources}
 use Rattle.programs.specs.declared.state.Program.{Program}
 use Rattle.programs.specs.Programs.{IsProgramOf}
-use Rattle.stepped_programs.specs.SearchedSites.OrderedSearches.Held.{IsThere, IsSearchable, Users, flag_of, AreAllSettled}
+use Rattle.stepped_programs.specs.SearchedSites.OrderedSearches.Held.{IsThere, IsSearchable, Users, flag_of}
+use Rattle.stepped_programs.specs.SearchedSites.OrderedSearches.Held.{AreAllSettled}
 use Rattle.stepped_programs.specs.SearchedSites.SettledFiles.Left.{KeepOthers, MayStaySet}
 use Rattle.stepped_programs.specs.SteppedValues.OfSteps.{is_of_step, decl_of_step}
 use Rattle.stepped_programs.specs.SteppedValues.Held.{AreSourcesOf}

@@ -1,6 +1,7 @@
 //! Laws of searches.
 
-ghost use Rattle.stepped_programs.specs.SearchedSites.Laws.{FilesHaveSteps, KeptSitesAreTold, SearchesFindSites, SitesAreByFile};
+ghost use Rattle.stepped_programs.specs.SearchedSites.Laws.{FilesHaveSteps, KeptSitesAreTold, SearchesFindSites};
+ghost use Rattle.stepped_programs.specs.SearchedSites.Laws.{SitesAreByFile};
 
 use use_search::{marked_uses_are_sites, uses_are_placed};
 

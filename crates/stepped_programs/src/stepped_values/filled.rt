@@ -1,6 +1,7 @@
 //! Laws of tables of which the part of the file of a step is found anew.
 
-ghost use Rattle.stepped_programs.specs.SteppedValues.Filled.{ConstantsStayMarked, FilledValuesStayElsewhere, ValuesAreToldAfterSteps};
+ghost use Rattle.stepped_programs.specs.SteppedValues.Filled.{ConstantsStayMarked, FilledValuesStayElsewhere};
+ghost use Rattle.stepped_programs.specs.SteppedValues.Filled.{ValuesAreToldAfterSteps};
 
 /// What a mark holds for stays a constant, whatever a step puts (Go specification, Constant declarations).
 pub fn constants_stay_marked()

@@ -4,9 +4,9 @@
 use Rattle.std.specs.Prelude.{◌≡◌, refl, ℕ, Bool, true, false, List, [], ◌∷◌, ◌++◌, Some, None, codes, nat_eq}
 use Rattle.go_tree.specs.Tree.{NameAt, TypeExpr, named, no_stmts}
 use Rattle.go_tree.specs.File.{Receiver, Func, Decl, types, func, File}
-use Rattle.scope_names.specs.Means.{binding}
-use Rattle.go_types.specs.Types.{named_type, pointer_to}
-use Rattle.go_types.specs.Entities.{type_name, World}
+use Rattle.go_tree.specs.ScopeNames.Means.{binding}
+use Rattle.go_tree.specs.GoTypes.Types.{named_type, pointer_to}
+use Rattle.go_tree.specs.GoTypes.Entities.{type_name, World}
 use Rattle.pkg_graph.specs.Package.{SourceTree, Package}
 use Rattle.go_translation.specs.Packages.{sources}
 use Rattle.go_translation.specs.SameMeaning.{Packages, SameMeaning}
@@ -15,8 +15,8 @@ use Rattle.run_rules.specs.FormTrees as forms
 use Rattle.run_rules.specs.Programs.{top_place}
 use Rattle.run_rules.specs.Sites.{MarkRef, Where, Site, a_type_part}
 use Rattle.run_rules.specs.Surroundings.{other}
-use Rattle.constant_steps.specs.Alone.{this_package}
-use Rattle.constant_steps.specs.QualifiedSteps.MemberNames.{own_member}
+use Rattle.splice_laws.specs.ConstantSteps.Alone.{this_package}
+use Rattle.splice_laws.specs.ConstantSteps.QualifiedSteps.MemberNames.{own_member}
 use Rattle.alias_runs.specs.QualifiedAliases.NamedTexts.{of_the_block}
 use Rattle.alias_runs.specs.QualifiedAliases.AliasUse.{AliasUse, AliasUseStands, PackagesHold}
 use Rattle.taken_aliases.specs.AliasReceivers.Receivers.{received}

@@ -2,17 +2,17 @@
 use Rattle.std.specs.Prelude.{◌≡◌, refl, ℕ, suc, Bool, ◌&&◌, ◌||◌, List, [], ◌∷◌, is_none}
 use Rattle.std.specs.List.{list_all}
 use mathlib.Core.Path.{◌∙◌}
-use Rattle.scope_names.specs.Means.{is_blank}
-use Rattle.go_types.specs.Answers.{one_of}
-use Rattle.go_types.specs.Entities.{World}
-use Rattle.go_types.specs.Programs.{Headed, Import, SourceFile, SourcePackage, Program, import_sound}
-use Rattle.go_types.specs.WellTyped.{refused_unless, is_used_in, first_import, header_uses}
+use Rattle.go_tree.specs.ScopeNames.Means.{is_blank}
+use Rattle.go_tree.specs.GoTypes.Answers.{one_of}
+use Rattle.go_tree.specs.GoTypes.Entities.{World}
+use Rattle.go_tree.specs.GoTypes.Programs.{Headed, Import, SourceFile, SourcePackage, Program, import_sound}
+use Rattle.go_tree.specs.GoTypes.WellTyped.{refused_unless, is_used_in, first_import, header_uses}
 use Rattle.typed_in_place.specs.ImportRule.{files_import, package_imports}
 use Rattle.typed_in_place.specs.ProgramsAlike.{OneByOne, no_more, and_more}
 use Rattle.typed_in_place.proofs.ImportRule.{used_kept}
 use Rattle.typed_in_place.proofs.ProgramsReplaced.{one_by_one}
-use Rattle.constant_steps.specs.StepLaws.DeclStands.{FilesBy, no_files, and_file, PackageBy, ProgramBy, HeadedBy}
-use Rattle.constant_steps.proofs.StepLaws.StepInPlace.{members-by}
+use Rattle.splice_laws.specs.ConstantSteps.StepLaws.DeclStands.{FilesBy, no_files, and_file, PackageBy, ProgramBy, HeadedBy}
+use Rattle.splice_laws.proofs.ConstantSteps.StepLaws.StepInPlace.{members-by}
 use Rattle.taken_aliases.specs.AliasReceivers.Receivers.{NamedThere}
 use Rattle.taken_aliases.proofs.AliasReceivers.Headers.{names-same, uses-same}
 

@@ -1,15 +1,15 @@
 -- A program in which the types of receivers have other names stands in place of the one before, beside further packages.
 use Rattle.std.specs.Prelude.{◌≡◌, ◌++◌}
 use mathlib.Core.Path.{◌∙◌}
-use Rattle.go_types.specs.Entities.{World}
-use Rattle.go_types.specs.Programs.{Headed, Program, headed}
-use Rattle.go_types.specs.Collect.{alias_entity, type_declared, good_entity, declared_by, method_header, declared_on, collected}
-use Rattle.go_types.specs.WellTyped.{body_ok}
+use Rattle.go_tree.specs.GoTypes.Entities.{World}
+use Rattle.go_tree.specs.GoTypes.Programs.{Headed, Program, headed}
+use Rattle.go_tree.specs.GoTypes.Collect.{alias_entity, type_declared, good_entity, declared_by, method_header, declared_on, collected}
+use Rattle.go_tree.specs.GoTypes.WellTyped.{body_ok}
 use Rattle.typed_in_place.specs.ProgramsAlike.{OneByOne, AliasesStand, TypesStand, ValuesStand, BodiesAlike}
 use Rattle.typed_in_place.specs.ProgramReplaced.{at_last, InPlaceBeside, All, Apart}
 use Rattle.typed_in_place.proofs.ProgramsReplaced.{one_by_one}
-use Rattle.constant_steps.specs.StepLaws.DeclStands.{ProgramBy, HeadedBy}
-use Rattle.constant_steps.proofs.StepLaws.StepInPlace.{program-by, same-packages}
+use Rattle.splice_laws.specs.ConstantSteps.StepLaws.DeclStands.{ProgramBy, HeadedBy}
+use Rattle.splice_laws.proofs.ConstantSteps.StepLaws.StepInPlace.{program-by, same-packages}
 use Rattle.taken_aliases.specs.AliasReceivers.Receivers.{NamedThere, RenamedProgram}
 use Rattle.taken_aliases.proofs.AliasReceivers.Headers.{names-same, method-same, alias-same, type-same, good-same, declared-same, header-same, on-same, body-same}
 

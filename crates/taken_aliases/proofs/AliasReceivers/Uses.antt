@@ -3,13 +3,13 @@ use Rattle.std.specs.Prelude.{◌≡◌, refl, ℕ, Bool, true, ◌&&◌, List, 
 use mathlib.Core.Path.{ap, ◌∙◌, subst}
 use Rattle.go_tree.specs.Tree.{TypeExpr, named, ident}
 use Rattle.go_tree.specs.File.{File}
-use Rattle.scope_names.specs.Means.{Environment, means}
+use Rattle.go_tree.specs.ScopeNames.Means.{Environment, means}
 use Rattle.pkg_graph.specs.Package.{Package}
-use Rattle.go_types.specs.Entities.{Entity, type_of_name, World, Env, block_of}
-use Rattle.go_types.specs.TypeNames.{resolved}
-use Rattle.go_types.specs.Programs.{Program, headed, block_names, file_block}
-use Rattle.go_types.specs.Collect.{file_env, env_of}
-use Rattle.go_types.specs.WellTyped.{well_typed}
+use Rattle.go_tree.specs.GoTypes.Entities.{Entity, type_of_name, World, Env, block_of}
+use Rattle.go_tree.specs.GoTypes.TypeNames.{resolved}
+use Rattle.go_tree.specs.GoTypes.Programs.{Program, headed, block_names, file_block}
+use Rattle.go_tree.specs.GoTypes.Collect.{file_env, env_of}
+use Rattle.go_tree.specs.GoTypes.WellTyped.{well_typed}
 use Rattle.typed_in_place.specs.Aliases.{TypesEnd, SameText}
 use Rattle.typed_in_place.specs.Leaves.{Names, plain_name}
 use Rattle.typed_in_place.proofs.Rising.{and_first}
@@ -19,11 +19,11 @@ use Rattle.go_translation.specs.SameMeaning.{Packages, SameMeaning}
 use Rattle.run_rules.specs.FormTrees.{as_type}
 use Rattle.run_rules.specs.Programs.{linked_file, linked_imports}
 use Rattle.run_rules.specs.Sites.{MarkRef, Site, part_span}
-use Rattle.constant_steps.specs.StepLaws.DeclStands.{AtNth}
-use Rattle.constant_steps.specs.PlainUse.{linked_at}
-use Rattle.constant_steps.proofs.AfterStep.{at_package}
-use Rattle.constant_steps.proofs.MarksFound.{nth_mapped}
-use Rattle.constant_steps.proofs.PlainImports.{Distinct}
+use Rattle.splice_laws.specs.ConstantSteps.StepLaws.DeclStands.{AtNth}
+use Rattle.splice_laws.specs.ConstantSteps.PlainUse.{linked_at}
+use Rattle.splice_laws.proofs.ConstantSteps.AfterStep.{at_package}
+use Rattle.splice_laws.proofs.ConstantSteps.MarksFound.{nth_mapped}
+use Rattle.splice_laws.proofs.ConstantSteps.PlainImports.{Distinct}
 use Rattle.alias_runs.specs.AliasSteps.AliasUses.{NamesAlias}
 use Rattle.alias_runs.specs.AliasSteps.AliasSteps.{DeclOfPackage, form_put, members_with_form}
 use Rattle.alias_runs.specs.AliasSites.FirstAlias.{AliasEnd, with_types}

@@ -6,15 +6,15 @@ use Rattle.go_tree.specs.declared.spans.Span.{Span}
 use Rattle.go_tree.specs.Tree.{NameAt, Exprs, no_exprs, expr_and, Stmt, const_decl, var_decl, empty, eval, step, assign, define, return_, break_, continue_, inner, if_, for_, range_, switch, defer, label, ValueSpecs, no_specs, spec}
 use Rattle.go_tree.specs.File.{TypeSpec, Decl, values, types, func, File}
 use Rattle.pkg_graph.specs.Package.{SourceTree, Package}
-use Rattle.go_types.specs.Answers.{given, meets}
+use Rattle.go_tree.specs.GoTypes.Answers.{given, meets}
 use Rattle.run_rules.specs.Respanned.{decl_with, decls_with}
 use Rattle.run_rules.specs.Rewriting.{Changes}
 use Rattle.run_rules.specs.Run.{Standing, Logged, Next, here_of, origin_of}
 use Rattle.run_rules.specs.Sites.{MarkRef, part_span, Where, Inlinable, an_alias, aliased, constant_in_spec, nth_constant, less, inlinable_in, is_function, inlinable}
 use Rattle.run_rules.specs.Steps.{At, same_here, change_nth, changes_for, new_decl}
-use Rattle.run_laws.proofs.FoundSpans.{Placed}
-use Rattle.cycle_runs.specs.ImportCycles.ImportSteps.{decl_put}
-use Rattle.cycle_runs.proofs.ImportCycles.ImportStep.{placed}
+use Rattle.splice_laws.proofs.RunLaws.FoundSpans.{Placed}
+use Rattle.order_runs.specs.CycleRuns.ImportCycles.ImportSteps.{decl_put}
+use Rattle.order_runs.proofs.CycleRuns.ImportCycles.ImportStep.{placed}
 use Rattle.taken_aliases.specs.MixedRuns.Marked.{NoFunctions}
 
 module _ {S : Type 0} where

@@ -3,27 +3,27 @@ use Rattle.std.proofs.Common.{◌≡◌, ◌∙◌, sym, true, List}
 use Rattle.std.specs.Prelude.{ℕ}
 use Rattle.std.specs.List.{list_all}
 use Rattle.go_tree.specs.declared.spans.Span.{Span}
-use Rattle.go_words.specs.Tokens.Characters.{each}
-use Rattle.import_splices.specs.AddedFile.{is_byte}
+use Rattle.go_tree.specs.GoWords.Tokens.Characters.{each}
+use Rattle.splice_laws.specs.ImportSplices.AddedFile.{is_byte}
 use Rattle.pkg_graph.specs.Package.{Package}
 use Rattle.pkg_graph.specs.Reads.{Source}
-use Rattle.cycle_runs.specs.Linked.{SettlesFile}
-use Rattle.cycle_runs.proofs.Runs.{linked-names, step-names}
+use Rattle.order_runs.specs.CycleRuns.Linked.{SettlesFile}
+use Rattle.order_runs.proofs.CycleRuns.Runs.{linked-names, step-names}
 use Rattle.go_translation.specs.Packages.{are_well_typed}
 use Rattle.run_rules.specs.Sites.{MarkRef}
 use Rattle.run_rules.specs.Texts.{FileText}
 use Rattle.run_rules.specs.Run.{Standing, Logged, Next, Run, ends, goes_on}
 use Rattle.run_rules.specs.Inlining.{ModuleReads, standing_as_read}
 use Rattle.order_runs.specs.RunSteps.RunPackages.{members_of}
-use Rattle.marked_runs.specs.ReadyModules.Laws.{ReadModulesAreReady}
-use Rattle.marked_runs.proofs.ReadyModules.Typed.{typed_as_read}
-use Rattle.marked_runs.specs.SettledConstants.Laws.{ConstantsSettle, UsesAreScoped}
-use Rattle.marked_runs.specs.SettledConstants.Programs.{IsReady}
-use Rattle.marked_runs.specs.SoundImports.Laws.{AddedImportsMayBeDeclared}
-use Rattle.marked_runs.specs.TakenNames.Laws.{KeptByRun}
+use Rattle.typed_parts.specs.MarkedRuns.ReadyModules.Laws.{ReadModulesAreReady}
+use Rattle.typed_parts.proofs.MarkedRuns.ReadyModules.Typed.{typed_as_read}
+use Rattle.typed_parts.specs.MarkedRuns.SettledConstants.Laws.{ConstantsSettle, UsesAreScoped}
+use Rattle.typed_parts.specs.MarkedRuns.SettledConstants.Programs.{IsReady}
+use Rattle.typed_parts.specs.MarkedRuns.SoundImports.Laws.{AddedImportsMayBeDeclared}
+use Rattle.typed_parts.specs.MarkedRuns.TakenNames.Laws.{KeptByRun}
 use Rattle.taken_aliases.specs.Laws.{RunsMeanTheSame, StepsStayReady}
 use Rattle.taken_aliases.specs.Taken.{TakesEither, of_constant, of_alias, EachTakesEither}
-use Rattle.written_literal.specs.UnspreadForms.UnspreadForms.{UnspreadPackages}
+use Rattle.splice_laws.specs.WrittenLiteral.UnspreadForms.UnspreadForms.{UnspreadPackages}
 use Rattle.taken_aliases.specs.MixedRuns.Marked.{NoFunctions, IsOverEither, over_constant, over_alias, AllOverEither}
 use Rattle.taken_aliases.proofs.MixedRuns.KindsStay.{no-functions-stay}
 use Rattle.taken_aliases.proofs.MixedRuns.NoCycles.{no-cycle}

@@ -1,17 +1,17 @@
 -- A step over an alias settles its file in a program that is ready.
 use Rattle.std.proofs.Common.{List}
-use Rattle.cycle_runs.specs.Linked.{SettlesFile}
+use Rattle.order_runs.specs.CycleRuns.Linked.{SettlesFile}
 use Rattle.put_nodes.specs.SpelledNames.{AreNames}
 use Rattle.run_rules.specs.Run.{Standing, Logged, Next}
 use Rattle.run_rules.specs.Sites.{MarkRef}
 use Rattle.put_names.specs.WrittenNames.NamedPackages.{AreOfPackages}
 use Rattle.put_names.proofs.WrittenNames.StepNames.{step_names, step_imports}
-use Rattle.cycle_runs.proofs.Runs.{linked-names}
+use Rattle.order_runs.proofs.CycleRuns.Runs.{linked-names}
 use Rattle.taken_aliases.proofs.PutTexts.Packages.{texts-name, texts-add-led}
 use Rattle.taken_aliases.proofs.PutTexts.Steps.{aliases-settle}
-use Rattle.marked_runs.specs.SettledConstants.Programs.{IsReady}
-use Rattle.marked_runs.proofs.SettledConstants.Ready.{uses_undotted, linked_writable}
-use Rattle.marked_runs.specs.SettledConstants.Laws.{UsesAreScoped}
+use Rattle.typed_parts.specs.MarkedRuns.SettledConstants.Programs.{IsReady}
+use Rattle.typed_parts.proofs.MarkedRuns.SettledConstants.Ready.{uses_undotted, linked_writable}
+use Rattle.typed_parts.specs.MarkedRuns.SettledConstants.Laws.{UsesAreScoped}
 use Rattle.taken_aliases.specs.MixedRuns.Marked.{LaysOut, at_a_type, at_an_expression, at_a_node, IsOverAlias}
 use Rattle.taken_aliases.proofs.PutCalls.Steps.{called-aliases-settle}
 

@@ -3,15 +3,15 @@ use Rattle.std.proofs.Common.{◌≡◌, ◌∙◌, refl, sym, ap, subst, Bool, 
 use Rattle.go_tree.specs.declared.spans.Span.{Span}
 use Rattle.go_tree.specs.FileBare.{bare_file}
 use Rattle.go_tree.specs.Tree.{TypeExpr, named, pointer, slice_type, map_type, struct_type, Expr}
-use Rattle.scope_names.specs.Identifiers.{type_identifiers}
-use Rattle.scope_names.specs.Means.{means, is_blank}
-use Rattle.scope_names.specs.Scopes.{expr_span}
-use Rattle.cycle_runs.specs.Linked.{Linked, SettlesFile}
-use Rattle.import_splices.specs.AddedFile.{AreWritable}
-use Rattle.cycle_runs.specs.KeptImports.Files.{PutsNode, RemovesNoNames}
-use Rattle.cycle_runs.specs.OrderCycles.NewNames.{FewNames}
-use Rattle.cycle_runs.specs.OrderedSteps.Ranks.{AddsLedTo}
-use Rattle.cycle_runs.proofs.LedImports.Names.{type-expr-same}
+use Rattle.go_tree.specs.ScopeNames.Identifiers.{type_identifiers}
+use Rattle.go_tree.specs.ScopeNames.Means.{means, is_blank}
+use Rattle.go_tree.specs.ScopeNames.Scopes.{expr_span}
+use Rattle.order_runs.specs.CycleRuns.Linked.{Linked, SettlesFile}
+use Rattle.splice_laws.specs.ImportSplices.AddedFile.{AreWritable}
+use Rattle.order_runs.specs.CycleRuns.KeptImports.Files.{PutsNode, RemovesNoNames}
+use Rattle.order_runs.specs.CycleRuns.OrderCycles.NewNames.{FewNames}
+use Rattle.order_runs.specs.CycleRuns.OrderedSteps.Ranks.{AddsLedTo}
+use Rattle.order_runs.proofs.CycleRuns.LedImports.Names.{type-expr-same}
 use Rattle.layout_laws.specs.Formed.{IsName, FormedType}
 use Rattle.put_names.specs.ReadImports.PutInText.{PutInText}
 use Rattle.run_rules.specs.FormTrees.{Form, as_expr, type_expr, form_identifiers}
@@ -23,18 +23,18 @@ use Rattle.run_rules.specs.Run.{Standing, Logged, Next, here_of, is_commented}
 use Rattle.run_rules.specs.Sites.{MarkRef, Where, Part, Site, part_span, mark_of, outer, not_function, name_mark, marked_as, expr_mark}
 use Rattle.run_rules.specs.Steps.{At, same_here}
 use Rattle.run_rules.specs.Surroundings.{Place, Slot, Seen, seen}
-use Rattle.run_laws.specs.Reading.{ProgramReads}
-use Rattle.run_laws.proofs.FoundSpans.{Placed}
+use Rattle.splice_laws.specs.RunLaws.Reading.{ProgramReads}
+use Rattle.splice_laws.proofs.RunLaws.FoundSpans.{Placed}
 use Rattle.splice_laws.specs.Dots.{UndottedFile}
-use Rattle.import_splices.specs.FormSplices.Laws.{MakesForm}
-use Rattle.import_splices.proofs.FormSplices.FormsFound.{step-makes-form}
+use Rattle.splice_laws.specs.ImportSplices.FormSplices.Laws.{MakesForm}
+use Rattle.splice_laws.proofs.ImportSplices.FormSplices.FormsFound.{step-makes-form}
 use Rattle.pkg_graph.specs.Package.{Package}
 use Rattle.pkg_graph.specs.Members.{Target}
-use Rattle.go_types.specs.Answers.{given}
-use Rattle.go_types.specs.Entities.{is_declared_here}
-use Rattle.place_meanings.specs.Agreement.{BlockIsLocal}
-use Rattle.place_meanings.specs.Parts.{AtPart, AtParts}
-use Rattle.place_meanings.proofs.PlacesMean.{blocks_local}
+use Rattle.go_tree.specs.GoTypes.Answers.{given}
+use Rattle.go_tree.specs.GoTypes.Entities.{is_declared_here}
+use Rattle.splice_laws.specs.PlaceMeanings.Agreement.{BlockIsLocal}
+use Rattle.splice_laws.specs.PlaceMeanings.Parts.{AtPart, AtParts}
+use Rattle.splice_laws.proofs.PlaceMeanings.PlacesMean.{blocks_local}
 use Rattle.order_runs.proofs.RunSteps.SeatedUses.{Among, first, later, Seated, sites-seated}
 use Rattle.put_nodes.specs.Put.{FormIsPut}
 use Rattle.put_nodes.specs.SpelledNames.{AreNames}

@@ -10,9 +10,9 @@ use Rattle.go_layout.specs.Parens.{needs_parens, ends_in_integer, header_within,
 use Rattle.go_layout.specs.TreeLayout.{expr_layout}
 use Rattle.layout_laws.specs.Formed.{FormedType, FormedOperand}
 use Rattle.layout_laws.proofs.BareLayouts.{expr_bare}
-use Rattle.go_types.specs.Answers.{meets}
-use Rattle.import_splices.specs.FormSplices.Laws.{ends_in_type}
-use Rattle.import_splices.proofs.FormSplices.FormLayouts.{laid-alike}
+use Rattle.go_tree.specs.GoTypes.Answers.{meets}
+use Rattle.splice_laws.specs.ImportSplices.FormSplices.Laws.{ends_in_type}
+use Rattle.splice_laws.proofs.ImportSplices.FormSplices.FormLayouts.{laid-alike}
 use Rattle.run_rules.specs.FormTrees.{as_expr, type_expr}
 use Rattle.run_rules.specs.Respanned.{expr_with}
 use Rattle.run_rules.specs.Steps.{At}

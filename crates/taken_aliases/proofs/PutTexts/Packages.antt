@@ -3,15 +3,15 @@ use Rattle.std.proofs.Common.{◌≡◌, refl, sym, ap, subst, ◌∙◌, ◌⊎
 use Rattle.std.specs.Prelude.{slice_get}
 use Rattle.std.proofs.lemmas.Bool.Decides.{nat_tests}
 use Rattle.std.proofs.lemmas.Option.{same_Some}
-use Rattle.scope_names.specs.Identifiers.{type_identifiers}
+use Rattle.go_tree.specs.ScopeNames.Identifiers.{type_identifiers}
 use Rattle.pkg_graph.specs.Package.{Package, import_specs}
 use Rattle.pkg_graph.specs.Graph.{Imports, Leads, directly, over}
-use Rattle.go_types.specs.Answers.{meets}
-use Rattle.go_types.specs.Agreement.{In, head, tail}
+use Rattle.go_tree.specs.GoTypes.Answers.{meets}
+use Rattle.go_tree.specs.GoTypes.Agreement.{In, head, tail}
 use Rattle.import_rules.specs.declared.new_import.NewImport.{NewImport}
 use Rattle.import_rules.specs.Needs.{serving, avoided}
-use Rattle.import_splices.specs.FormSplices.Laws.{MakesForm}
-use Rattle.import_splices.proofs.FormSplices.FormsFound.{step-makes-form}
+use Rattle.splice_laws.specs.ImportSplices.FormSplices.Laws.{MakesForm}
+use Rattle.splice_laws.proofs.ImportSplices.FormSplices.FormsFound.{step-makes-form}
 use Rattle.run_rules.specs.FormTrees.{TypeForm, Form, form_identifiers}
 use Rattle.run_rules.specs.Naming.{Names, Named, unnamed, unnamed_in, package_path, own_name, names_here, environment_here, fresh_name, added_import, named_package, named_packages, name_added, imports_added}
 use Rattle.run_rules.specs.Programs.{package_number}
@@ -20,14 +20,14 @@ use Rattle.run_rules.specs.Run.{Standing, Logged, Next, is_commented}
 use Rattle.run_rules.specs.Sites.{MarkRef, Where, Inlinable, an_alias, Part, an_expr, a_type_part, Site, part_span, inlinable, not_function}
 use Rattle.run_rules.specs.Steps.{At, same_here}
 use Rattle.run_rules.specs.Surroundings.{Place, seen_type}
-use Rattle.run_laws.specs.Reading.{ProgramReads}
-use Rattle.cycle_runs.specs.Linked.{Linked}
-use Rattle.cycle_runs.specs.OrderCycles.Orders.{AllOrdered}
-use Rattle.cycle_runs.specs.OrderedSteps.Ranks.{IsRanked, AddsLedTo}
-use Rattle.cycle_runs.proofs.OrderedSteps.Ranked.{orders-ranked}
-use Rattle.cycle_runs.proofs.LedImports.Walk.{All}
-use Rattle.cycle_runs.proofs.LedImports.Names.{EachN, Good, Fine, plain-fine, unnamed-good, type-kept, type-expr-same}
-use Rattle.cycle_runs.proofs.LedImports.Homes.{package-path, package-there, file-imports, imports-one, Stands, mark-stands, here, home-led}
+use Rattle.splice_laws.specs.RunLaws.Reading.{ProgramReads}
+use Rattle.order_runs.specs.CycleRuns.Linked.{Linked}
+use Rattle.order_runs.specs.CycleRuns.OrderCycles.Orders.{AllOrdered}
+use Rattle.order_runs.specs.CycleRuns.OrderedSteps.Ranks.{IsRanked, AddsLedTo}
+use Rattle.order_runs.proofs.CycleRuns.OrderedSteps.Ranked.{orders-ranked}
+use Rattle.order_runs.proofs.CycleRuns.LedImports.Walk.{All}
+use Rattle.order_runs.proofs.CycleRuns.LedImports.Names.{EachN, Good, Fine, plain-fine, unnamed-good, type-kept, type-expr-same}
+use Rattle.order_runs.proofs.CycleRuns.LedImports.Homes.{package-path, package-there, file-imports, imports-one, Stands, mark-stands, here, home-led}
 use Rattle.put_names.specs.WrittenNames.NamedPackages.{AreOfPackages}
 use Rattle.put_names.proofs.Forms.{IsFormBy, by_obstacle, reduced_is}
 use Rattle.taken_aliases.specs.PutTexts.Uses.{UsesAliasText}

@@ -19,8 +19,8 @@ use Rattle.splice_laws.specs.Dots.{UndottedFile}
 use Rattle.splice_laws.specs.Joints.{begins_with_dot}
 use Rattle.splice_laws.specs.Splice.{are_apart, first_word}
 use Rattle.splice_laws.specs.Swaps.{Swap, a_type, a_literal_type, FileIn}
-use Rattle.import_splices.specs.FormSplices.Laws.{is_parted}
-use Rattle.import_splices.proofs.FormSplices.FormLayouts.{type-spliced}
+use Rattle.splice_laws.specs.ImportSplices.FormSplices.Laws.{is_parted}
+use Rattle.splice_laws.proofs.ImportSplices.FormSplices.FormLayouts.{type-spliced}
 use Rattle.put_nodes.proofs.FormsApart.TypesApart.{types_apart}
 use Rattle.put_nodes.specs.Put.{FormIsPut}
 use Rattle.put_nodes.proofs.NamesLaid.{indent_spaces}

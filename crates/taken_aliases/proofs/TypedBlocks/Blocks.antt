@@ -6,34 +6,34 @@ use Rattle.std.proofs.Common.{arith}
 use Rattle.std.proofs.lemmas.Slice.Eq.{bytes_eq-Decides}
 use Rattle.go_tree.specs.Tree.{NameAt, Expr}
 use Rattle.go_tree.specs.File.{Decl}
-use Rattle.scope_names.specs.Means.{Environment, means, is_blank, or_else}
-use Rattle.scope_names.specs.FreeNames.{names_of}
+use Rattle.go_tree.specs.ScopeNames.Means.{Environment, means, is_blank, or_else}
+use Rattle.go_tree.specs.ScopeNames.FreeNames.{names_of}
 use Rattle.pkg_graph.specs.Package.{Package}
 use Rattle.pkg_graph.specs.Members as block
 use Rattle.pkg_graph.specs.Members.{Target, member, items_from, decls_from, package_block}
-use Rattle.go_types.specs.Answers.{is_among, only_if}
-use Rattle.go_types.specs.Entities.{Entity, World}
-use Rattle.go_types.specs.Declarations.{names_once}
-use Rattle.go_types.specs.Programs.{Header, constants, variables, a_type_spec, a_func, Headed, SourceFile, SourcePackage, Program, headers, all_headers, header_names, names_in, header_sound, headed_file, headed_files, headed_package, headed, file_block, block_names, is_init, is_main}
-use Rattle.go_types.specs.Collect.{DeclaredTypes, types_declared, collected}
-use Rattle.go_types.specs.WellTyped.{is_method, well_typed}
+use Rattle.go_tree.specs.GoTypes.Answers.{is_among, only_if}
+use Rattle.go_tree.specs.GoTypes.Entities.{Entity, World}
+use Rattle.go_tree.specs.GoTypes.Declarations.{names_once}
+use Rattle.go_tree.specs.GoTypes.Programs.{Header, constants, variables, a_type_spec, a_func, Headed, SourceFile, SourcePackage, Program, headers, all_headers, header_names, names_in, header_sound, headed_file, headed_files, headed_package, headed, file_block, block_names, is_init, is_main}
+use Rattle.go_tree.specs.GoTypes.Collect.{DeclaredTypes, types_declared, collected}
+use Rattle.go_tree.specs.GoTypes.WellTyped.{is_method, well_typed}
 use Rattle.typed_in_place.specs.ImportRule.{imports_sound}
 use Rattle.typed_in_place.specs.ProgramReplaced.{All, all_of_none, all_and}
 use Rattle.typed_in_place.proofs.Rising.{and_first, and_second}
 use Rattle.run_rules.specs.Programs.{linked_file, linked_imports}
 use Rattle.run_rules.specs.Sites.{MarkRef, Where, where_is}
 use Rattle.run_rules.specs.Surroundings.{Place}
-use Rattle.constant_steps.specs.StepLaws.PartsTyped.{HeaderTyped}
-use Rattle.constant_steps.proofs.StepLaws.KnownConstants.{declares-it}
-use Rattle.written_literal.proofs.NamesMeant.{means_join}
-use Rattle.constant_steps.specs.Alone.{block_from, PackageAt, this_package, a_later_package}
-use Rattle.constant_steps.specs.PlainUse.{linked_at}
-use Rattle.constant_steps.proofs.MarksFound.{nth_mapped}
-use Rattle.constant_steps.proofs.NamesOutside.{linked_block}
-use Rattle.constant_steps.specs.QualifiedSteps.MemberNames.{member_name, NamesMember}
-use Rattle.constant_steps.specs.QualifiedSteps.NamedUse.{PackageStands}
-use Rattle.constant_steps.proofs.QualifiedSteps.Declared.{sound_there}
-use Rattle.constant_steps.proofs.QualifiedSteps.MembersNamed.{named_in_home}
+use Rattle.splice_laws.specs.ConstantSteps.StepLaws.PartsTyped.{HeaderTyped}
+use Rattle.splice_laws.proofs.ConstantSteps.StepLaws.KnownConstants.{declares-it}
+use Rattle.splice_laws.proofs.WrittenLiteral.NamesMeant.{means_join}
+use Rattle.splice_laws.specs.ConstantSteps.Alone.{block_from, PackageAt, this_package, a_later_package}
+use Rattle.splice_laws.specs.ConstantSteps.PlainUse.{linked_at}
+use Rattle.splice_laws.proofs.ConstantSteps.MarksFound.{nth_mapped}
+use Rattle.splice_laws.proofs.ConstantSteps.NamesOutside.{linked_block}
+use Rattle.splice_laws.specs.ConstantSteps.QualifiedSteps.MemberNames.{member_name, NamesMember}
+use Rattle.splice_laws.specs.ConstantSteps.QualifiedSteps.NamedUse.{PackageStands}
+use Rattle.splice_laws.proofs.ConstantSteps.QualifiedSteps.Declared.{sound_there}
+use Rattle.splice_laws.proofs.ConstantSteps.QualifiedSteps.MembersNamed.{named_in_home}
 use Rattle.alias_runs.proofs.AliasSites.AliasFirst.{names_append, decl_names}
 use Rattle.taken_aliases.specs.TypedBlocks.Laws.{HeadersTyped}
 

@@ -3,18 +3,18 @@
 use Rattle.std.specs.Prelude.{◌≡◌, ℕ, Bool, ◌&&◌, List, ◌++◌, Option, Some, None, nat_eq, is_none}
 use Rattle.go_tree.specs.Tree.{NameAt}
 use Rattle.go_tree.specs.File.{Receiver, Func}
-use Rattle.scope_names.specs.Means.{Environment}
-use Rattle.go_types.specs.Answers.{given, only_if}
-use Rattle.go_types.specs.Types.{type_name_of, base_of}
-use Rattle.go_types.specs.Defined.{under}
-use Rattle.go_types.specs.Entities.{Entity, World, meaning, type_of_name}
-use Rattle.go_types.specs.Programs.{Header, a_func, Program}
-use Rattle.go_types.specs.Collect.{file_env}
+use Rattle.go_tree.specs.ScopeNames.Means.{Environment}
+use Rattle.go_tree.specs.GoTypes.Answers.{given, only_if}
+use Rattle.go_tree.specs.GoTypes.Types.{type_name_of, base_of}
+use Rattle.go_tree.specs.GoTypes.Defined.{under}
+use Rattle.go_tree.specs.GoTypes.Entities.{Entity, World, meaning, type_of_name}
+use Rattle.go_tree.specs.GoTypes.Programs.{Header, a_func, Program}
+use Rattle.go_tree.specs.GoTypes.Collect.{file_env}
 use Rattle.go_translation.specs.Packages.{Package, sources}
 use Rattle.go_translation.specs.SameMeaning.{Packages, WellTyped, with_further}
 use Rattle.typed_in_place.specs.ProgramReplaced.{ValuesEnd}
 use Rattle.typed_in_place.specs.ProgramsAlike.{OneByOne}
-use Rattle.constant_steps.specs.StepLaws.DeclStands.{ProgramBy}
+use Rattle.splice_laws.specs.ConstantSteps.StepLaws.DeclStands.{ProgramBy}
 
 -- the defined type of the package with this number that a name means as the type of a receiver, also by an alias, in a
 -- file with these imports; it is no pointer

@@ -3,16 +3,16 @@
 use Rattle.std.specs.Prelude.{◌≡◌, ℕ, Bool, true, List, ◌++◌, Some, None}
 use Rattle.go_tree.specs.Tree.{NameAt, named}
 use Rattle.go_tree.specs.File.{Receiver, Func, Decl, func, File}
-use Rattle.scope_names.specs.Means.{Environment}
+use Rattle.go_tree.specs.ScopeNames.Means.{Environment}
 use Rattle.pkg_graph.specs.Package as run
-use Rattle.go_types.specs.Entities.{Entity, World}
-use Rattle.go_types.specs.Programs.{Program}
+use Rattle.go_tree.specs.GoTypes.Entities.{Entity, World}
+use Rattle.go_tree.specs.GoTypes.Programs.{Program}
 use Rattle.run_rules.specs.FormTrees.{Form, as_type}
 use Rattle.run_rules.specs.Programs.{top_place, body_place}
 use Rattle.run_rules.specs.Rewriting.{new_sig, new_stmts}
 use Rattle.run_rules.specs.Steps.{changes_for}
 use Rattle.typed_in_place.specs.ProgramReplaced.{ValuesEnd}
-use Rattle.constant_steps.specs.StepLaws.DeclStands.{AtNth}
+use Rattle.splice_laws.specs.ConstantSteps.StepLaws.DeclStands.{AtNth}
 use Rattle.alias_runs.specs.AliasSteps.AliasSteps.{DeclOfPackage, form_put}
 use Rattle.taken_aliases.specs.AliasReceivers.Receivers.{received}
 

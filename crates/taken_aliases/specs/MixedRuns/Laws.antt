@@ -3,11 +3,11 @@
 use Rattle.std.specs.Prelude.{◌≡◌, true, false, ℕ, List, []}
 use Rattle.std.specs.List.{list_all}
 use Rattle.go_tree.specs.declared.spans.Span.{Span}
-use Rattle.go_words.specs.Tokens.Characters.{each}
-use Rattle.import_splices.specs.AddedFile.{is_byte}
+use Rattle.go_tree.specs.GoWords.Tokens.Characters.{each}
+use Rattle.splice_laws.specs.ImportSplices.AddedFile.{is_byte}
 use Rattle.pkg_graph.specs.Package as run
 use Rattle.pkg_graph.specs.Reads.{Source}
-use Rattle.cycle_runs.specs.Linked.{SettlesFile}
+use Rattle.order_runs.specs.CycleRuns.Linked.{SettlesFile}
 use Rattle.go_translation.specs.SameMeaning.{WellTyped}
 use Rattle.run_rules.specs.Cycles.{is_recursive}
 use Rattle.run_rules.specs.Sites.{MarkRef}
@@ -16,9 +16,9 @@ use Rattle.run_rules.specs.Texts.{FileText}
 use Rattle.run_rules.specs.Run.{Standing, Logged, Next, Run}
 use Rattle.run_rules.specs.Inlining.{ModuleReads, standing_as_read}
 use Rattle.order_runs.specs.RunSteps.RunPackages.{packages_of}
-use Rattle.marked_runs.specs.SettledConstants.Programs.{IsReady}
-use Rattle.marked_runs.specs.TakenNames.Laws.{KeptByRun}
-use Rattle.written_literal.specs.UnspreadForms.UnspreadForms.{UnspreadPackages}
+use Rattle.typed_parts.specs.MarkedRuns.SettledConstants.Programs.{IsReady}
+use Rattle.typed_parts.specs.MarkedRuns.TakenNames.Laws.{KeptByRun}
+use Rattle.splice_laws.specs.WrittenLiteral.UnspreadForms.UnspreadForms.{UnspreadPackages}
 use Rattle.taken_aliases.specs.MixedRuns.Marked.{NoFunctions, IsOverAlias, AllOverEither}
 
 -- A step over an alias settles its file in a program that is ready.

@@ -6,7 +6,7 @@ use Rattle.go_tree.specs.File.{Decl}
 use Rattle.go_kernel.specs.Kernel.{FuncName}
 use Rattle.go_translation.specs.Packages as translated
 use Rattle.go_translation.specs.SameMeaning.{WellTyped, with_further}
-use Rattle.go_types.specs.Answers.{meets}
+use Rattle.go_tree.specs.GoTypes.Answers.{meets}
 use Rattle.pkg_graph.specs.Package.{Package}
 use Rattle.run_rules.specs.FormTrees.{as_type}
 use Rattle.run_rules.specs.Sites.{MarkRef, an_expr, a_type_part, is_function, is_among_marks, inlinable}
@@ -14,22 +14,22 @@ use Rattle.run_rules.specs.Surroundings.{Use, Place, seen}
 use Rattle.run_rules.specs.Steps.{At, same_here}
 use Rattle.run_rules.specs.Run.{Standing, Logged, Next, Run, ends, goes_on, is_commented}
 use Rattle.order_runs.specs.RunSteps.RunPackages.{members_of, packages_of}
-use Rattle.cycle_runs.specs.ImportCycles.ImportSteps.{packages_added}
+use Rattle.order_runs.specs.CycleRuns.ImportCycles.ImportSteps.{packages_added}
 use Rattle.order_runs.specs.ImportCodes.PackagesMoved.{ImportsStand}
-use Rattle.cycle_runs.specs.KeptImports.Files.{PutsNode, RemovesNoNames}
-use Rattle.cycle_runs.specs.OrderCycles.NewNames.{FewNames}
+use Rattle.order_runs.specs.CycleRuns.KeptImports.Files.{PutsNode, RemovesNoNames}
+use Rattle.order_runs.specs.CycleRuns.OrderCycles.NewNames.{FewNames}
 use Rattle.alias_runs.specs.AliasSteps.Retypable.{IsCalleePlace}
 use Rattle.alias_runs.specs.AliasSites.TypeUse.{AllTheType, ReceiverStays}
-use Rattle.constant_steps.specs.PlainUse.{AllSimple}
+use Rattle.splice_laws.specs.ConstantSteps.PlainUse.{AllSimple}
 use Rattle.alias_runs.specs.QualifiedAliases.AliasUse.{AliasUse, text_there}
 use Rattle.alias_runs.specs.CalledAliases.CalledUse.{is_pointer}
 use Rattle.put_names.specs.PutTypes.Uses.{UsesTypeName}
 use Rattle.put_names.specs.Uses.{IsUsedByName}
 use Rattle.taken_aliases.specs.PutTexts.Uses.{UsesAliasText, FitsLiteral}
 use Rattle.taken_aliases.specs.PutCalls.Uses.{MayBeLaid}
-use Rattle.marked_runs.specs.SettledConstants.Programs.{IsOverConstant}
-use Rattle.marked_runs.specs.TakenNames.Taken.{site_there}
-use Rattle.marked_runs.specs.Marked.{decl_there, StandsAdded}
+use Rattle.typed_parts.specs.MarkedRuns.SettledConstants.Programs.{IsOverConstant}
+use Rattle.typed_parts.specs.MarkedRuns.TakenNames.Taken.{site_there}
+use Rattle.typed_parts.specs.MarkedRuns.Marked.{decl_there, StandsAdded}
 
 -- no mark is of a function
 abbrev pub NoFunctions : List (Package At) → List MarkRef → Type 0
@@ -60,8 +60,8 @@ module _ {marks : List MarkRef} {st : Standing} {l : Logged} {after : Standing} 
   written_text p u =
       text_there same_here (is_commented st) (packages_added st.packages n.found) marks (site_there n.found p) u
 
-  -- The use is a written type, and nothing else stands at its span in its declaration, whose receiver stays; or it is an
-  -- expression, and what is called where the alias is declared as `*` before a type.
+  -- The use is a written type, and nothing else stands at its span in its declaration, whose receiver stays; or it is
+  -- an expression, and what is called where the alias is declared as `*` before a type.
   pub data PlacedThere (p : Place At) (u : UseThere p) : Type 0 where
     written_there :
         (old : TypeExpr At) → n.found.site.part ≡ a_type_part old
@@ -77,10 +77,10 @@ module _ {marks : List MarkRef} {st : Standing} {l : Logged} {after : Standing} 
         → Contains (decl_there n d) (seen p used_as old))
         → PlacedThere p u
 
-  -- What taken_aliases asks of it (`TakesAlias`), but what follows: that each identifier is the name of the same import,
-  -- or of none, that imports may be declared, and that nothing else stands at the span of a use which is an expression.
-  -- With the imports of the form added the use stands at this place, in a declaration that isn't the alias's and whose
-  -- parts are simple; the imports are right at last.
+  -- What taken_aliases asks of it (`TakesAlias`), but what follows: that each identifier is the name of the same
+  -- import, or of none, that imports may be declared, and that nothing else stands at the span of a use which is an
+  -- expression. With the imports of the form added the use stands at this place, in a declaration that isn't the
+  -- alias's and whose parts are simple; the imports are right at last.
   pub record AliasStandsAdded : Type 0 where
     pub place : Place At
     pub use_ : UseThere place

@@ -5,14 +5,14 @@ use Rattle.go_tree.specs.declared.spans.Span.{Span}
 use Rattle.go_tree.specs.FileBare.{bare_file}
 use Rattle.go_tree.specs.File.{Decl, File}
 use Rattle.go_tree.specs.Tree.{TypeExpr, Expr}
-use Rattle.cycle_runs.specs.Linked.{Linked, SettlesFile}
-use Rattle.import_splices.specs.AddedFile.{AreWritable}
-use Rattle.cycle_runs.specs.KeptImports.Files.{PutsNode, RemovesNoNames}
+use Rattle.order_runs.specs.CycleRuns.Linked.{Linked, SettlesFile}
+use Rattle.splice_laws.specs.ImportSplices.AddedFile.{AreWritable}
+use Rattle.order_runs.specs.CycleRuns.KeptImports.Files.{PutsNode, RemovesNoNames}
 use Rattle.layout_laws.specs.Formed.{FormedType}
-use Rattle.cycle_runs.specs.OrderCycles.NewNames.{FewNames}
-use Rattle.cycle_runs.specs.OrderedSteps.Ranks.{AddsLedTo}
+use Rattle.order_runs.specs.CycleRuns.OrderCycles.NewNames.{FewNames}
+use Rattle.order_runs.specs.CycleRuns.OrderedSteps.Ranks.{AddsLedTo}
 use Rattle.pkg_graph.specs.Package.{Package}
-use Rattle.run_laws.specs.Reading.{ProgramReads}
+use Rattle.splice_laws.specs.RunLaws.Reading.{ProgramReads}
 use Rattle.run_rules.specs.FormTrees.{as_expr, type_expr}
 use Rattle.run_rules.specs.Inlining.{ReadsAs}
 use Rattle.run_rules.specs.Laws.{file_found}
@@ -24,7 +24,7 @@ use Rattle.run_rules.specs.Sites.{MarkRef}
 use Rattle.run_rules.specs.Steps.{At}
 use Rattle.run_rules.specs.Surroundings.{Use, Place, seen}
 use Rattle.run_rules.specs.Texts.{FileText}
-use Rattle.scope_names.specs.Scopes.{expr_span}
+use Rattle.go_tree.specs.ScopeNames.Scopes.{expr_span}
 use Rattle.put_names.specs.ReadImports.PutInText.{PutInText}
 use Rattle.splice_laws.specs.Dots.{UndottedFile}
 use Rattle.put_names.specs.Laws.{PackagesAreWritable}

@@ -5,14 +5,14 @@ use Rattle.go_tree.specs.declared.spans.Span.{Span}
 use Rattle.go_tree.specs.FileBare.{bare_file}
 use Rattle.go_tree.specs.File.{File}
 use Rattle.go_tree.specs.Tree.{NameAt, TypeExpr, named}
-use Rattle.cycle_runs.specs.Linked.{Linked, SettlesFile}
-use Rattle.import_splices.specs.AddedFile.{AreWritable}
-use Rattle.cycle_runs.specs.KeptImports.Files.{PutsNode, RemovesNoNames}
+use Rattle.order_runs.specs.CycleRuns.Linked.{Linked, SettlesFile}
+use Rattle.splice_laws.specs.ImportSplices.AddedFile.{AreWritable}
+use Rattle.order_runs.specs.CycleRuns.KeptImports.Files.{PutsNode, RemovesNoNames}
 use Rattle.layout_laws.specs.Formed.{FormedType, FormedLiteralType}
-use Rattle.cycle_runs.specs.OrderCycles.NewNames.{FewNames}
-use Rattle.cycle_runs.specs.OrderCycles.Orders.{AllOrdered}
-use Rattle.cycle_runs.specs.OrderedSteps.Ranks.{AddsLedTo}
-use Rattle.run_laws.specs.Reading.{ProgramReads}
+use Rattle.order_runs.specs.CycleRuns.OrderCycles.NewNames.{FewNames}
+use Rattle.order_runs.specs.CycleRuns.OrderCycles.Orders.{AllOrdered}
+use Rattle.order_runs.specs.CycleRuns.OrderedSteps.Ranks.{AddsLedTo}
+use Rattle.splice_laws.specs.RunLaws.Reading.{ProgramReads}
 use Rattle.run_rules.specs.FormTrees.{as_type}
 use Rattle.run_rules.specs.Inlining.{ReadsAs}
 use Rattle.run_rules.specs.Laws.{file_found}

@@ -8,8 +8,8 @@ use Rattle.run_rules.specs.Programs.{decl_seen}
 use Rattle.run_rules.specs.Run.{Standing, Logged, Next}
 use Rattle.run_rules.specs.Sites.{MarkRef, an_expr, a_type_part}
 use Rattle.run_rules.specs.Steps.{At}
-use Rattle.cycle_runs.specs.KeptImports.Files.{RemovesNoNames}
-use Rattle.cycle_runs.specs.OrderCycles.NewNames.{FewNames}
+use Rattle.order_runs.specs.CycleRuns.KeptImports.Files.{RemovesNoNames}
+use Rattle.order_runs.specs.CycleRuns.OrderCycles.NewNames.{FewNames}
 use Rattle.taken_aliases.specs.PutTexts.Uses.{UsesAliasText}
 use Rattle.taken_aliases.specs.PutCalls.Uses.{MayBeLaid}
 

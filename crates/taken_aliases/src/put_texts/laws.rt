@@ -1,7 +1,8 @@
 //! Laws of steps over aliases of any type.
 
 ghost use Rattle.taken_aliases.specs.PutTexts.Laws.{AliasTextsAddLed, AliasTextsNamePackages, AliasesBecomeTypes};
-ghost use Rattle.taken_aliases.specs.PutTexts.Laws.{AliasesSettleFiles, TypesArePut, TypesArePutBySteps, TypesSettleFiles};
+ghost use Rattle.taken_aliases.specs.PutTexts.Laws.{AliasesSettleFiles, TypesArePut, TypesArePutBySteps};
+ghost use Rattle.taken_aliases.specs.PutTexts.Laws.{TypesSettleFiles};
 ghost use Rattle.run_rules.specs.Run.{here_of};
 
 /// In a file that reads from its text each well-formed type, whatever its shape, is put in the place

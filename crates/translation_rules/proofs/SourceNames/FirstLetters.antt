@@ -3,8 +3,8 @@ use Rattle.std.proofs.Common.{◌≡◌, ℕ, ◌+◌, ◌≤◌, ◌<◌, ◌/�
 use Rattle.std.proofs.lemmas.Bool.Decides.{nat_tests}
 use Rattle.std.specs.Str.{chars}
 use Rattle.std.proofs.lemmas.Str.{encodes-chars}
-use Rattle.go_words.specs.Tokens.Characters.{is_letter, is_word, each}
-use Rattle.go_words.specs.Tokens.Pieces.{is_identifier}
+use Rattle.go_tree.specs.GoWords.Tokens.Characters.{is_letter, is_word, each}
+use Rattle.go_tree.specs.GoWords.Tokens.Pieces.{is_identifier}
 use Rattle.go_scan.proofs.LetterLemmas.{letter_ascii}
 use Rattle.layout_laws.specs.Formed.{IsName}
 use Rattle.go_translation.specs.Spelled.{is_spelled}

@@ -4,16 +4,16 @@ use mathlib.Core.Path.{subst, sym}
 use Rattle.go_tree.specs.declared.spans.Span.{Span}
 use Rattle.go_tree.specs.Tree.{TypeExpr, Exprs, no_exprs, ValueSpecs, no_specs, spec}
 use Rattle.go_tree.specs.File.{TypeSpec, Receiver, Decl, File}
-use Rattle.go_words.specs.Terminals.{lex}
+use Rattle.go_tree.specs.GoWords.Terminals.{lex}
 use Rattle.go_read.specs.SpellsTypes.{Lexemes}
 use Rattle.go_read.specs.SpellsSpans.{span_to}
 use Rattle.go_read.specs.Spells.{block_rule, var_rule}
 use Rattle.go_read.specs.SpellsFiles.{SpellsReceiver, SpellsTop, SpellsTops, SpellsFront, receiver_rule, pointer_receiver_rule, named_receiver_rule, named_pointer_receiver_rule, top_const_rule, top_var_rule, top_type_rule, top_type_group_rule, top_func_rule, top_method_rule, no_tops_rule, more_tops_rule, front_rule}
 use Rattle.go_read.proofs.Suffixes.{Suffix, whole, after, receiver_suffix, imports_suffix, top_suffix}
-use Rattle.scope_names.specs.Means.{Environment}
-use Rattle.go_types.specs.Entities.{Entity}
-use Rattle.go_types.specs.Statements.{no_values}
-use Rattle.go_types.specs.Programs.{SourceFile, Header, constants, a_type_spec, Headed, at_member, constant_headers, variable_headers, headers, all_headers, header_names, names_in, file_block, block_names, is_main, headed_file, headed_files, headed_package, headed}
+use Rattle.go_tree.specs.ScopeNames.Means.{Environment}
+use Rattle.go_tree.specs.GoTypes.Entities.{Entity}
+use Rattle.go_tree.specs.GoTypes.Statements.{no_values}
+use Rattle.go_tree.specs.GoTypes.Programs.{SourceFile, Header, constants, a_type_spec, Headed, at_member, constant_headers, variable_headers, headers, all_headers, header_names, names_in, file_block, block_names, is_main, headed_file, headed_files, headed_package, headed}
 use Rattle.layout_laws.specs.Real.{AreReal}
 use Rattle.layout_laws.specs.Formed.{FormedSpecs}
 use Rattle.layout_laws.proofs.RealTokens.{tokens_real}

@@ -5,9 +5,9 @@ use Rattle.go_tree.specs.declared.spans.Span.{Span}
 use Rattle.go_tree.specs.declared.tokens.Token.{Token}
 use Rattle.go_tree.specs.declared.tokens.Comment.{Comment}
 use Rattle.go_tree.specs.File.{File}
-use Rattle.go_words.specs.Tokens.{TokensOf}
+use Rattle.go_tree.specs.GoWords.Tokens.{TokensOf}
 use Rattle.go_read.specs.SpellsFiles.{SpellsFile}
-use Rattle.go_types.specs.Programs.{SourceFile}
+use Rattle.go_tree.specs.GoTypes.Programs.{SourceFile}
 use Rattle.go_translation.specs.Packages.{Package}
 
 -- The file has the declarations of a text's tree.

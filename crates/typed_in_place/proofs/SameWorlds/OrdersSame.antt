@@ -2,13 +2,13 @@
 use Rattle.std.proofs.Common.{refl, sym, ◌∙◌, subst}
 use Rattle.std.proofs.lemmas.Slice.Eq.{bytes_eq-Decides}
 use Rattle.std.specs.Prelude.{◌≡◌, ℕ, zero, suc, Bool, true, false, ◌&&◌, ◌||◌, List, [], ◌∷◌, length, Option, Some, None, if◌then◌else◌, bytes_eq, nat_eq}
-use Rattle.go_types.specs.Answers.{given}
-use Rattle.go_types.specs.Defined.{Defined, find_defined}
-use Rattle.go_types.specs.Entities.{Entity, World, Binds, block_of}
-use Rattle.go_types.specs.Programs.{Program, Headed, headed}
-use Rattle.go_types.specs.TypeDeclarations.{DeclaredTypes, declared_as, under_within, underlying}
-use Rattle.go_types.specs.MethodDeclarations.{DeclaredMethod, methods_on, with_methods, methods_from}
-use Rattle.go_types.specs.Collect.{times, declared_types, alias_entity, good_entity, declared_by, entity_binds, block_by, blocks_by, alias_round, type_round, value_round, refused_world, rounds, aliased_world, types_declared, typed_world, valued_world, world_of, collected}
+use Rattle.go_tree.specs.GoTypes.Answers.{given}
+use Rattle.go_tree.specs.GoTypes.Defined.{Defined, find_defined}
+use Rattle.go_tree.specs.GoTypes.Entities.{Entity, World, Binds, block_of}
+use Rattle.go_tree.specs.GoTypes.Programs.{Program, Headed, headed}
+use Rattle.go_tree.specs.GoTypes.TypeDeclarations.{DeclaredTypes, declared_as, under_within, underlying}
+use Rattle.go_tree.specs.GoTypes.MethodDeclarations.{DeclaredMethod, methods_on, with_methods, methods_from}
+use Rattle.go_tree.specs.GoTypes.Collect.{times, declared_types, alias_entity, good_entity, declared_by, entity_binds, block_by, blocks_by, alias_round, type_round, value_round, refused_world, rounds, aliased_world, types_declared, typed_world, valued_world, world_of, collected}
 use Rattle.typed_in_place.specs.SameWorlds.SameWorlds.{SameWorld, Reordered}
 use Rattle.typed_in_place.proofs.SameWorlds.HeadersSame.{SameDeclared, under_all-same, alias_entity-same, declared_types-same, good_entity-same, declared_by-same, methods_from-same}
 use Rattle.typed_in_place.proofs.SameWorlds.AtHome.{nat_same, block_at_home, types_at_home, methods_at_home}

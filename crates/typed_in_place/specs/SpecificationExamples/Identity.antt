@@ -1,17 +1,19 @@
 -- The examples of the Go specification's section Type identity that are in the language, and the rules of its section
 -- Method sets on a type with two methods.
-use Rattle.std.specs.Prelude.{◌≡◌, ℕ, Bool, true, false, if◌then◌else◌, List, [], ◌∷◌, map, Option, Some, None, codes}
+use Rattle.std.specs.Prelude.{◌≡◌, ℕ, Bool, true, false, if◌then◌else◌, List, [], ◌∷◌, map, Option}
+use Rattle.std.specs.Prelude.{Some, None, codes}
 use Rattle.go_tree.specs.Tree.{TypeExpr, Expr}
 use Rattle.go_tree.specs.File.{Decl}
-use Rattle.go_types.specs.Answers.{both}
-use Rattle.go_types.specs.Identical.{identical}
-use Rattle.go_types.specs.Entities.{Env}
-use Rattle.go_types.specs.TypeNames.{type_meant}
-use Rattle.go_types.specs.Operands.{several}
-use Rattle.go_types.specs.Typing.{parts}
-use Rattle.go_types.specs.Programs.{Program, file_env}
-use Rattle.go_types.specs.Collect.{collected}
-use Rattle.typed_in_place.specs.SpecificationExamples.Sources.{called, defines, literal, method, name, of, pointer_type, renames, slice_of_type, starred, struct_with, type_of}
+use Rattle.go_tree.specs.GoTypes.Answers.{both}
+use Rattle.go_tree.specs.GoTypes.Identical.{identical}
+use Rattle.go_tree.specs.GoTypes.Entities.{Env}
+use Rattle.go_tree.specs.GoTypes.TypeNames.{type_meant}
+use Rattle.go_tree.specs.GoTypes.Operands.{several}
+use Rattle.go_tree.specs.GoTypes.Typing.{parts}
+use Rattle.go_tree.specs.GoTypes.Programs.{Program, file_env}
+use Rattle.go_tree.specs.GoTypes.Collect.{collected}
+use Rattle.typed_in_place.specs.SpecificationExamples.Sources.{called, defines, literal, method, name, of, pointer_type}
+use Rattle.typed_in_place.specs.SpecificationExamples.Sources.{renames, slice_of_type, starred, struct_with, type_of}
 
 -- a package of one file
 abbrev pub program_of : List (Decl ℕ) → Program ℕ

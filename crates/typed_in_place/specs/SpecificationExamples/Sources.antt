@@ -3,7 +3,10 @@ use Rattle.std.specs.Prelude.{ℕ, Bool, true, false, List, [], ◌∷◌, ◌++
 use Rattle.go_tree.specs.declared.operators.UnOp.{UnOp}
 use Rattle.go_tree.specs.declared.operators.BinOp.{BinOp}
 use Rattle.go_tree.specs.declared.exprs.Rest.TheVariants.{Plain}
-use Rattle.go_tree.specs.Tree.{NameAt, TypeExpr, named, pointer, slice_type, struct_type, Fields, no_fields, field, Expr, ident, int_lit, rune_lit, str_lit, composite, selector, call, type_operand, unary, binary, star, Exprs, no_exprs, expr_and, Elems, no_elems, elem, plain, no_value, no_stmts}
+use Rattle.go_tree.specs.Tree.{NameAt, TypeExpr, named, pointer, slice_type, struct_type, Fields, no_fields, field}
+use Rattle.go_tree.specs.Tree.{Expr, ident, int_lit, rune_lit, str_lit, composite, selector, call, type_operand, unary}
+use Rattle.go_tree.specs.Tree.{binary, star, Exprs, no_exprs, expr_and, Elems, no_elems, elem, plain, no_value}
+use Rattle.go_tree.specs.Tree.{no_stmts}
 use Rattle.go_tree.specs.File.{Decl, types, func}
 
 -- a name

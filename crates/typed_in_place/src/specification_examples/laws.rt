@@ -1,6 +1,7 @@
 //! Examples of the Go specification's sections on constants, types and conversions.
 
-ghost use Rattle.typed_in_place.specs.SpecificationExamples.Constants.{ConstantExpressions, Conversions, Representability};
+ghost use Rattle.typed_in_place.specs.SpecificationExamples.Constants.{ConstantExpressions, Conversions};
+ghost use Rattle.typed_in_place.specs.SpecificationExamples.Constants.{Representability};
 ghost use Rattle.typed_in_place.specs.SpecificationExamples.Identity.{MethodSets, TypeIdentity};
 
 /// Constants are represented, computed and converted as the Go specification's sections Representability, Constant

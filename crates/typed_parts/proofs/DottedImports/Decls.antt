@@ -7,42 +7,42 @@ use Rattle.std.proofs.lemmas.Bool.{cond_both}
 use Rattle.std.proofs.lemmas.Option.{same_Some}
 use Rattle.go_tree.specs.Tree.{NameAt, TypeExpr, named, Exprs, no_exprs, expr_and, const_decl, var_decl, ValueSpecs, no_specs, spec}
 use Rattle.go_tree.specs.File.{TypeSpec, Receiver, Func, Decl, values, types, func, File}
-use Rattle.scope_names.specs.FreeNames.{names_of, sig_names}
+use Rattle.go_tree.specs.ScopeNames.FreeNames.{names_of, sig_names}
 use Rattle.pkg_graph.specs.Package.{SourceTree, Package}
 use Rattle.pkg_graph.specs.Pieces.{comes_before}
-use Rattle.go_types.specs.Answers.{given, both, only_if, is_empty, distinct_by}
-use Rattle.go_types.specs.Types.{GoType}
-use Rattle.go_types.specs.Entities.{variable, Env, Binds}
-use Rattle.go_types.specs.TypeNames.{func_type, written_type}
-use Rattle.go_types.specs.Operands.{Operand, all_typed}
-use Rattle.go_types.specs.Declarations.{bind_all, bind_each, constant_entity, variable_entity}
-use Rattle.go_types.specs.Bodiless.{all_bodiless}
-use Rattle.go_types.specs.Bodies.{body_ctx, no_values, is_body}
-use Rattle.go_types.specs.Jumps.{labels_in}
-use Rattle.go_types.specs.Typing.{all_parts, stmts}
-use Rattle.go_types.specs.Programs.{Header, constants, variables, a_func, headed, headed_package, constant_headers, variable_headers, at_member, block_names, file_env}
-use Rattle.go_types.specs.Collect.{DeclaredTypes, types_declared, package_constants, package_variables}
-use Rattle.go_types.specs.Initial.{all_initial}
-use Rattle.go_types.specs.WellTyped.{receiver_names, well_typed}
-use Rattle.go_types.proofs.Agreeing.{from_given, from_both, from_only}
+use Rattle.go_tree.specs.GoTypes.Answers.{given, both, only_if, is_empty, distinct_by}
+use Rattle.go_tree.specs.GoTypes.Types.{GoType}
+use Rattle.go_tree.specs.GoTypes.Entities.{variable, Env, Binds}
+use Rattle.go_tree.specs.GoTypes.TypeNames.{func_type, written_type}
+use Rattle.go_tree.specs.GoTypes.Operands.{Operand, all_typed}
+use Rattle.go_tree.specs.GoTypes.Declarations.{bind_all, bind_each, constant_entity, variable_entity}
+use Rattle.go_tree.specs.GoTypes.Bodiless.{all_bodiless}
+use Rattle.go_tree.specs.GoTypes.Bodies.{body_ctx, no_values, is_body}
+use Rattle.go_tree.specs.GoTypes.Jumps.{labels_in}
+use Rattle.go_tree.specs.GoTypes.Typing.{all_parts, stmts}
+use Rattle.go_tree.specs.GoTypes.Programs.{Header, constants, variables, a_func, headed, headed_package, constant_headers, variable_headers, at_member, block_names, file_env}
+use Rattle.go_tree.specs.GoTypes.Collect.{DeclaredTypes, types_declared, package_constants, package_variables}
+use Rattle.go_tree.specs.GoTypes.Initial.{all_initial}
+use Rattle.go_tree.specs.GoTypes.WellTyped.{receiver_names, well_typed}
+use Rattle.go_tree.proofs.GoTypes.Agreeing.{from_given, from_both, from_only}
 use Rattle.typed_in_place.specs.ProgramReplaced.{All, all_and}
-use Rattle.constant_steps.specs.StepLaws.DeclStands.{AtNth}
-use Rattle.constant_steps.specs.StepLaws.PartsTyped.{HeaderTyped}
-use Rattle.constant_steps.proofs.StepLaws.PartsTyped.{headers-typed, TypedThere, DeclIsTyped, FilesTyped, of-packages}
-use Rattle.cycle_runs.specs.OrderCycles.Orders.{AllOrdered}
+use Rattle.splice_laws.specs.ConstantSteps.StepLaws.DeclStands.{AtNth}
+use Rattle.splice_laws.specs.ConstantSteps.StepLaws.PartsTyped.{HeaderTyped}
+use Rattle.splice_laws.proofs.ConstantSteps.StepLaws.PartsTyped.{headers-typed, TypedThere, DeclIsTyped, FilesTyped, of-packages}
+use Rattle.order_runs.specs.CycleRuns.OrderCycles.Orders.{AllOrdered}
 use Rattle.run_rules.specs.Surroundings.{Place, Seen, seen_type, alike, value_use, in_constant}
 use Rattle.run_rules.specs.Places.{written_seen, all_seen, sig_seen, stmts_seen}
 use Rattle.run_rules.specs.Programs.{numbered_from, numbered, is_ready, lesser, least_ready, ordered_after, in_dependency_order, numbers_of, linked_file, linked_package, linked_packages, linked, world, imports_mean, top_place, body_place, headed_func, constants_at_top, variables_at_top, types_at_top, receiver_seen, func_seen, decl_seen}
 use Rattle.run_rules.specs.Sites.{Where}
-use Rattle.go_types.specs.Operands.{named_operand}
-use Rattle.go_types.specs.Entities.{meaning}
+use Rattle.go_tree.specs.GoTypes.Operands.{named_operand}
+use Rattle.go_tree.specs.GoTypes.Entities.{meaning}
 use Rattle.pkg_graph.specs.Members.{imported}
-use Rattle.scope_names.specs.Means.{is_blank, means}
+use Rattle.go_tree.specs.ScopeNames.Means.{is_blank, means}
 use Rattle.run_rules.specs.Programs.{top_env}
 use Rattle.run_rules.specs.Sites.{outer}
-use Rattle.constant_steps.proofs.StepLaws.DeclUses.{body-begins}
-use Rattle.constant_steps.proofs.StepLaws.OutsideHolds.{no_name}
-use Rattle.standing_uses.specs.ImportUses.Parts.{DottedImports, at_the_end, past_another}
+use Rattle.splice_laws.proofs.ConstantSteps.StepLaws.DeclUses.{body-begins}
+use Rattle.splice_laws.proofs.ConstantSteps.StepLaws.OutsideHolds.{no_name}
+use Rattle.typed_parts.specs.StandingUses.ImportUses.Parts.{DottedImports, at_the_end, past_another}
 use Rattle.typed_parts.proofs.Walk.{met, there_is}
 use Rattle.typed_parts.proofs.DottedImports.Walk.{N, join, written_stands, sig_stands, all_stand, stmts_stand, member_known}
 use Rattle.typed_parts.proofs.DottedImports.Imports.{no_operand, no_blank}

@@ -3,7 +3,7 @@ use Rattle.std.proofs.Common.{◌≡◌, refl, ℕ, zero, suc, List, [], ◌∷�
 use Rattle.std.specs.Prelude.{slice_get}
 use Rattle.go_tree.specs.File.{Decl}
 use Rattle.typed_parts.specs.ScopedParts.Laws.{WellTypedFilesAreScoped}
-use Rattle.standing_uses.specs.ImportUses.Steps.{EachDecl, IsStanding}
+use Rattle.typed_parts.specs.StandingUses.ImportUses.Steps.{EachDecl, IsStanding}
 use Rattle.typed_parts.specs.DottedImports.Laws.{WellTypedFilesAreDotted, WellTypedFilesStand}
 use Rattle.typed_parts.proofs.DottedImports.Decls.{programs_dotted}
 

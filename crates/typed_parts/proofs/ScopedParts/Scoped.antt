@@ -10,12 +10,12 @@ use Rattle.go_tree.specs.File.{Decl, File}
 use Rattle.go_read.specs.SpellsTypes.{Lexemes}
 use Rattle.go_read.specs.SpellsSpans.{span_to}
 use Rattle.go_read.specs.SpellsFiles.{SpellsTops, SpellsFront, SpellsFile, no_tops_rule, more_tops_rule, front_rule}
-use Rattle.go_types.specs.Statements.{is_define}
+use Rattle.go_tree.specs.GoTypes.Statements.{is_define}
 use Rattle.run_rules.specs.Surroundings.{Seen, seen, seen_type, seen_stmt, first_declares}
 use Rattle.run_rules.specs.Respanned.{decl_with}
 use Rattle.run_rules.specs.Programs.{decl_seen}
 use Rattle.run_rules.specs.Run.{here_of}
-use Rattle.place_meanings.specs.Parts.{IsScoped, AllScoped}
+use Rattle.splice_laws.specs.PlaceMeanings.Parts.{IsScoped, AllScoped}
 use Rattle.typed_parts.specs.Parts.{PartTyped, AllTyped}
 use Rattle.typed_parts.proofs.Decls.{programs_typed}
 use Rattle.typed_parts.specs.ScopedParts.Posts.{is_post, PostsInDecl, PostIsSimple, AllPostsSimple}

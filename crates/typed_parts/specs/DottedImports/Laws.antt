@@ -2,8 +2,8 @@
 -- specification, Qualified identifiers; Import declarations).
 use Rattle.std.specs.Prelude.{◌≡◌, ℕ, true, List, Some, slice_get}
 use Rattle.go_tree.specs.File.{Decl}
-use Rattle.go_types.specs.WellTyped.{well_typed}
-use Rattle.cycle_runs.specs.OrderCycles.Orders.{AllOrdered}
+use Rattle.go_tree.specs.GoTypes.WellTyped.{well_typed}
+use Rattle.order_runs.specs.CycleRuns.OrderCycles.Orders.{AllOrdered}
 use Rattle.pkg_graph.specs.Package.{Package}
 use Rattle.run_rules.specs.Programs.{linked, decl_seen}
 use Rattle.run_rules.specs.Respanned.{file_with}
@@ -12,8 +12,8 @@ use Rattle.run_rules.specs.Inlining.{ReadsAs}
 use Rattle.run_rules.specs.Sites.{Where}
 use Rattle.run_rules.specs.Steps.{At}
 use Rattle.run_rules.specs.Texts.{FileText}
-use Rattle.standing_uses.specs.ImportUses.Parts.{DottedImports}
-use Rattle.standing_uses.specs.ImportUses.Steps.{EachDecl, IsStanding}
+use Rattle.typed_parts.specs.StandingUses.ImportUses.Parts.{DottedImports}
+use Rattle.typed_parts.specs.StandingUses.ImportUses.Steps.{EachDecl, IsStanding}
 
 -- In a well-typed program each of whose packages stands in the dependency order, the names of a file's imports stand
 -- before dots alone.

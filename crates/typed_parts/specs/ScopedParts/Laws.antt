@@ -2,10 +2,10 @@
 -- Composite literals; Blocks; For statements).
 use Rattle.std.specs.Prelude.{◌≡◌, ℕ, true, List, Some, slice_get}
 use Rattle.go_tree.specs.File.{Decl}
-use Rattle.go_types.specs.WellTyped.{well_typed}
-use Rattle.cycle_runs.specs.OrderCycles.Orders.{AllOrdered}
+use Rattle.go_tree.specs.GoTypes.WellTyped.{well_typed}
+use Rattle.order_runs.specs.CycleRuns.OrderCycles.Orders.{AllOrdered}
 use Rattle.pkg_graph.specs.Package.{Package}
-use Rattle.place_meanings.specs.Parts.{AllScoped}
+use Rattle.splice_laws.specs.PlaceMeanings.Parts.{AllScoped}
 use Rattle.run_rules.specs.Surroundings.{Seen}
 use Rattle.run_rules.specs.Texts.{FileText}
 use Rattle.run_rules.specs.Respanned.{file_with}
@@ -17,12 +17,13 @@ use Rattle.run_rules.specs.Inlining.{ReadsAs}
 use Rattle.possible_uses.specs.Among.{Keyed}
 use Rattle.typed_parts.specs.Parts.{AllTyped}
 
--- The keys of composite literals among typed parts are names of fields where the literal is of a struct, and else typed.
+-- The keys of composite literals among typed parts are names of fields where the literal is of a struct, and else
+-- typed.
 abbrev pub TypedPartsAreKeyed : Type 0
 TypedPartsAreKeyed = (xs : List (Seen At)) → AllTyped xs → Keyed xs
 
--- In a well-typed program each of whose packages stands in the dependency order, the parts of each declaration of a file
--- that reads from its text are scoped (place_meanings' `AllScoped`), and keyed.
+-- In a well-typed program each of whose packages stands in the dependency order, the parts of each declaration of a
+-- file that reads from its text are scoped (place_meanings' `AllScoped`), and keyed.
 abbrev pub WellTypedFilesAreScoped : Type 0
 WellTypedFilesAreScoped =
     (ps : List (Package At)) → AllOrdered ps → well_typed (linked ps) ≡ true → (w : Where At) (text : FileText)

@@ -8,8 +8,8 @@ use Rattle.run_rules.specs.Sites.{MarkRef, Where, Site, part_span, is_among_mark
 use Rattle.run_rules.specs.Respanned.{file_with, decls_with, packages_with}
 use Rattle.run_rules.specs.Steps.{At}
 use Rattle.run_rules.specs.Run.{here_of}
-use Rattle.place_meanings.specs.Agreement.{AgreesAt}
-use Rattle.place_meanings.specs.Parts.{AllScoped}
+use Rattle.splice_laws.specs.PlaceMeanings.Agreement.{AgreesAt}
+use Rattle.splice_laws.specs.PlaceMeanings.Parts.{AllScoped}
 use Rattle.possible_uses.specs.Among.{Keyed}
 use Rattle.possible_uses.specs.Parts.{parts_of}
 use Rattle.member_uses.specs.Uses.{Names, member_uses}
@@ -18,8 +18,8 @@ use Rattle.repeated_parts.specs.Along.{is_again}
 use Rattle.use_search.specs.UsesOfMarks.Uses.{PlacedMark, decls_uses}
 
 module _ (ps : List (Package At)) (marks : List MarkRef) (w : Where At) (f : Names) where
-  -- In the declaration literals of functions have types and no `for` declares a variable behind its test, keys of struct
-  -- literals are names, and no key is the name of a marked constant.
+  -- In the declaration literals of functions have types and no `for` declares a variable behind its test, keys of
+  -- struct literals are names, and no key is the name of a marked constant.
   pub record IsSound (d : Decl At) : Type 0 where
     pub scoped : AllScoped (decl_seen ps w.number w.of w.source.tree d)
     pub keyed : Keyed (decl_seen ps w.number w.of w.source.tree d)

@@ -1,9 +1,9 @@
 use Rattle.std.proofs.Common.{◌≡◌, ◌∙◌, Some, ap, false, map, subst, sym}
-use Rattle.go_types.specs.Answers.{only_if}
-use Rattle.go_types.specs.Statements.{stores_all}
-use Rattle.type_relations.specs.Environment.{defined_types}
+use Rattle.go_tree.specs.GoTypes.Answers.{only_if}
+use Rattle.go_tree.specs.GoTypes.Statements.{stores_all}
+use Rattle.type_table.specs.TypeRelations.Environment.{defined_types}
 use Rattle.operand_rules.specs.Values.{typed_of}
-use Rattle.access_rules.specs.Functions.{AreValues}
+use Rattle.operator_rules.specs.AccessRules.Functions.{AreValues}
 use Rattle.control_steps.specs.RightSides.Values.{AreValuesIfOk, GivesValuesAlike}
 use Rattle.assignment_steps.specs.Targets.{AreTargets, targets_of}
 use Rattle.assignment_steps.proofs.TargetLemmas.{stored_met, stored_refused}

@@ -1,8 +1,8 @@
 use Rattle.std.proofs.Common.{◌∙◌, ap, subst, sym}
-use Rattle.go_types.specs.Answers.{given}
-use Rattle.go_types.specs.Operands.{with_value}
-use Rattle.go_types.specs.Statements.{target_at}
-use Rattle.access_rules.specs.Places.{place_of}
+use Rattle.go_tree.specs.GoTypes.Answers.{given}
+use Rattle.go_tree.specs.GoTypes.Operands.{with_value}
+use Rattle.go_tree.specs.GoTypes.Statements.{target_at}
+use Rattle.operator_rules.specs.AccessRules.Places.{place_of}
 use Rattle.operand_modes.specs.Operands.{IsOperand, operand_at}
 use Rattle.operand_answers.specs.Located.{StandsAt}
 use Rattle.operand_answers.proofs.AnswerLemmas.{single_is}

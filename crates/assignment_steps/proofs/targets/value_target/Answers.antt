@@ -1,7 +1,7 @@
 use Rattle.std.proofs.Common.{ap, subst, sym}
-use Rattle.go_types.specs.Statements.{target_at}
+use Rattle.go_tree.specs.GoTypes.Statements.{target_at}
 use Rattle.operand_rules.specs.Values.{typed_of}
-use Rattle.access_rules.specs.Places.{place_of}
+use Rattle.operator_rules.specs.AccessRules.Places.{place_of}
 use Rattle.operand_modes.specs.declared.modes.Operand.TheVariants.{Single}
 use Rattle.operand_answers.specs.Located.{StandsAt}
 use Rattle.assignment_steps.specs.Targets.{GivesTarget}

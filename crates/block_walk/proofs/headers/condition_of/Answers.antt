@@ -1,9 +1,9 @@
 use Rattle.std.proofs.Common.{◌∙◌, ap}
 use Rattle.go_tree.specs.View.{expr_of}
-use Rattle.go_types.specs.Answers.{meets}
-use Rattle.go_types.specs.Entities.{defined_in}
-use Rattle.go_types.specs.Statements.{is_condition}
-use Rattle.go_types.specs.Typing as go
+use Rattle.go_tree.specs.GoTypes.Answers.{meets}
+use Rattle.go_tree.specs.GoTypes.Entities.{defined_in}
+use Rattle.go_tree.specs.GoTypes.Statements.{is_condition}
+use Rattle.go_tree.specs.GoTypes.Typing as go
 use Rattle.expr_walk.proofs.WalkArms.ExprArms.{at, expr_there}
 use Rattle.jump_rules.specs.UsedLocals.Used.{and_names, used_of}
 use Rattle.statement_walk.proofs.SimpleWalk.ConstantGroups.MemberLemmas.{place_kept}

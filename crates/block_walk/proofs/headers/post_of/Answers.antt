@@ -1,8 +1,8 @@
 use Rattle.std.proofs.Common.{◌&&◌, Ok, not, refl, subst, sym}
 use Rattle.std.specs.Prelude.{is_some}
 use Rattle.go_tree.specs.View.{boxed_stmt_option_of, stmt_of}
-use Rattle.go_types.specs.Statements.{is_define}
-use Rattle.go_types.specs.Typing as go
+use Rattle.go_tree.specs.GoTypes.Statements.{is_define}
+use Rattle.go_tree.specs.GoTypes.Typing as go
 use Rattle.jump_rules.specs.UsedLocals.Used.{and_names, used_of}
 use Rattle.block_walk.specs.Answers.{GivesTest}
 use Rattle.block_walk.specs.Headers.{post_typed}

@@ -1,6 +1,6 @@
 use Rattle.std.proofs.Common.{◌∙◌, ap}
 use Rattle.go_tree.specs.View.{stmt_of}
-use Rattle.go_types.specs.Typing as go
+use Rattle.go_tree.specs.GoTypes.Typing as go
 use Rattle.jump_rules.specs.UsedLocals.Used.{and_names, used_of}
 use Rattle.statement_walk.proofs.SimpleWalk.SimpleLemmas.{types_kept}
 use Rattle.block_walk.proofs.PlaceSteps.{body_place_kept}

@@ -1,11 +1,11 @@
 use Rattle.std.proofs.Common.{◌∙◌, ap}
 use Rattle.go_tree.specs.Tree as tree
 use Rattle.go_tree.specs.View.{expr_of}
-use Rattle.go_types.specs.Answers.{meets}
-use Rattle.go_types.specs.Entities.{defined_in, in_block}
-use Rattle.go_types.specs.Operands.{typed}
-use Rattle.go_types.specs.Statements.{range_types}
-use Rattle.go_types.specs.Typing as go
+use Rattle.go_tree.specs.GoTypes.Answers.{meets}
+use Rattle.go_tree.specs.GoTypes.Entities.{defined_in, in_block}
+use Rattle.go_tree.specs.GoTypes.Operands.{typed}
+use Rattle.go_tree.specs.GoTypes.Statements.{range_types}
+use Rattle.go_tree.specs.GoTypes.Typing as go
 use Rattle.std.specs.Prelude.{is_some}
 use Rattle.expr_walk.proofs.WalkArms.ExprArms.{at, expr_there}
 use Rattle.jump_rules.specs.UsedLocals.Used.{and_names, used_of}

@@ -1,6 +1,6 @@
 use Rattle.std.proofs.Common.{◌≡◌, OnOk, subst, sym}
 use Rattle.go_tree.specs.View.{exprs_of, stmt_of}
-use Rattle.go_types.specs.Typing as go
+use Rattle.go_tree.specs.GoTypes.Typing as go
 use Rattle.expr_walk.proofs.WalkArms.ExprArms.{at}
 use Rattle.jump_rules.specs.UsedLocals.Used.{and_names, used_of}
 use Rattle.statement_walk.proofs.UsesLemmas.{uses_then}

@@ -1,8 +1,8 @@
 use Rattle.std.proofs.Common.{subst, sym}
-use Rattle.go_types.specs.Answers.{both}
-use Rattle.go_types.specs.Entities as go_entity
-use Rattle.go_types.specs.Primary.{call_of}
-use Rattle.type_relations.specs.Environment.{defined_types}
+use Rattle.go_tree.specs.GoTypes.Answers.{both}
+use Rattle.go_tree.specs.GoTypes.Entities as go_entity
+use Rattle.go_tree.specs.GoTypes.Primary.{call_of}
+use Rattle.type_table.specs.TypeRelations.Environment.{defined_types}
 use Rattle.operand_modes.specs.Operands.{AreOperands, GivesOperand, operand_at, operands_at}
 use Rattle.operand_answers.specs.Lists.{AreThereIfOk, GivesAll}
 use Rattle.operand_answers.specs.Located.{GivesAt, IsThereIfOk}

@@ -1,8 +1,8 @@
 use Rattle.std.proofs.Common.{subst, sym}
-use Rattle.go_types.specs.Defined.{under}
-use Rattle.go_types.specs.Entities as go_entity
-use Rattle.go_types.specs.Literals.{built, literal_takes}
-use Rattle.type_relations.specs.Environment.{defined_types, env_type}
+use Rattle.go_tree.specs.GoTypes.Defined.{under}
+use Rattle.go_tree.specs.GoTypes.Entities as go_entity
+use Rattle.go_tree.specs.GoTypes.Literals.{built, literal_takes}
+use Rattle.type_table.specs.TypeRelations.Environment.{defined_types, env_type}
 use Rattle.operand_rules.specs.Values.{Gives}
 use Rattle.literal_rules.specs.Elements.{AreElements, elements_at}
 use Rattle.checker_tables.proofs.PartLemmas.{parts_follow}

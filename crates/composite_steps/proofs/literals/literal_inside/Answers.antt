@@ -1,6 +1,6 @@
 use Rattle.std.proofs.Common.{subst, sym}
-use Rattle.go_types.specs.Literals.{built_inside}
-use Rattle.type_relations.specs.Environment.{defined_types, env_type}
+use Rattle.go_tree.specs.GoTypes.Literals.{built_inside}
+use Rattle.type_table.specs.TypeRelations.Environment.{defined_types, env_type}
 use Rattle.operand_rules.specs.Values.{Gives}
 use Rattle.literal_rules.specs.Elements.{AreElements, elements_at}
 use Rattle.operand_modes.specs.Operands.{GivesOperand}

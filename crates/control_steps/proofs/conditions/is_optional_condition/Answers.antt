@@ -1,6 +1,6 @@
 use Rattle.std.proofs.Common.{◌∙◌, ap, subst, sym}
-use Rattle.type_relations.specs.Environment.{defined_types}
-use Rattle.access_rules.specs.Slices.{IsBoundValue, bound_of}
+use Rattle.type_table.specs.TypeRelations.Environment.{defined_types}
+use Rattle.operator_rules.specs.AccessRules.Slices.{IsBoundValue, bound_of}
 use Rattle.control_steps.proofs.OperandTests.{passes_test}
 use Rattle.control_steps.proofs.conditions.is_optional_condition.Goals as goal
 

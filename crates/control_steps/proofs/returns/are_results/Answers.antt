@@ -1,7 +1,7 @@
 use Rattle.std.proofs.Common.{◌≡◌, IfOk, subst, sym}
-use Rattle.go_types.specs.Operands.{spread, takes_all}
-use Rattle.type_relations.specs.Environment.{defined_types}
-use Rattle.access_rules.specs.Functions.{types_at}
+use Rattle.go_tree.specs.GoTypes.Operands.{spread, takes_all}
+use Rattle.type_table.specs.TypeRelations.Environment.{defined_types}
+use Rattle.operator_rules.specs.AccessRules.Functions.{types_at}
 use Rattle.operand_modes.specs.Operands.{AreOperands, operands_at}
 use Rattle.operand_answers.specs.Lists.{AreThereIfOk, GivesAll}
 use Rattle.control_steps.proofs.TakenLemmas.{all_met, none_met}

@@ -1,7 +1,7 @@
 use Rattle.std.proofs.Common.{◌≡◌, ◌∙◌, subst, sym}
-use Rattle.go_types.specs.Operands.{spread, takes_all}
-use Rattle.type_relations.specs.Environment.{defined_types}
-use Rattle.access_rules.specs.Functions.{AreValues, operands_of, types_at}
+use Rattle.go_tree.specs.GoTypes.Operands.{spread, takes_all}
+use Rattle.type_table.specs.TypeRelations.Environment.{defined_types}
+use Rattle.operator_rules.specs.AccessRules.Functions.{AreValues, operands_of, types_at}
 use Rattle.operand_modes.specs.Operands.{operands_at}
 use Rattle.checker_tables.proofs.PartLemmas.{parts_follow}
 use Rattle.control_steps.proofs.TakenLemmas.{none_taken, these_taken}

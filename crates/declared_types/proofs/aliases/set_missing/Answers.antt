@@ -1,5 +1,5 @@
 use Rattle.std.proofs.Common.{◌+◌, drop, subst, sym}
-use Rattle.type_exprs.proofs.NewNames.{drop_item}
+use Rattle.typed_names.proofs.TypeExprs.NewNames.{drop_item}
 use Rattle.declared_types.specs.Steps.{HeadersPassed}
 use Rattle.declared_types.proofs.Passed.{passed_set, passed_unset, still_header, still_on}
 use Rattle.declared_types.proofs.aliases.set_missing.Goals.{then-branch, else-branch}

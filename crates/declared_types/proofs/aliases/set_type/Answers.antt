@@ -2,8 +2,8 @@ use Rattle.std.proofs.Common.{[], Err, subst, sym}
 use Rattle.go_tree.specs.FileView.{type_spec_of}
 use Rattle.typed_names.specs.Known.{KnowsTypes}
 use Rattle.typed_names.specs.Scopes.{env_at}
-use Rattle.type_exprs.specs.Answers.{GivesType}
-use Rattle.type_exprs.proofs.GrownLaws.{known_on}
+use Rattle.typed_names.specs.TypeExprs.Answers.{GivesType}
+use Rattle.typed_names.proofs.TypeExprs.GrownLaws.{known_on}
 use Rattle.declared_types.specs.Headers.{type_of_spec}
 use Rattle.declared_types.proofs.aliases.set_type.Goals as goal
 

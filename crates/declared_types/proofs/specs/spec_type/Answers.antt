@@ -1,9 +1,9 @@
 use Rattle.std.proofs.Common.{cond, subst, sym, Some}
 use Rattle.go_tree.specs.FileView.{type_spec_of}
-use Rattle.go_types.specs.TypeNames.{resolved}
-use Rattle.go_types.specs.Types.{named_type}
+use Rattle.go_tree.specs.GoTypes.TypeNames.{resolved}
+use Rattle.go_tree.specs.GoTypes.Types.{named_type}
 use Rattle.typed_names.specs.Scopes.{env_at}
-use Rattle.type_exprs.specs.Answers.{GivesType}
+use Rattle.typed_names.specs.TypeExprs.Answers.{GivesType}
 use Rattle.declared_types.proofs.specs.spec_type.Goals as goal
 
 pub returns-then-spec-clause-gives : goal.returns-then-spec-clause-gives

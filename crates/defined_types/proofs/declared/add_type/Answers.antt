@@ -1,7 +1,7 @@
 use Rattle.std.proofs.Common.{[], Err, ap, map, subst, sym, ◌∙◌}
 use Rattle.go_tree.specs.FileView.{type_spec_of}
 use Rattle.typed_names.specs.Scopes.{env_at}
-use Rattle.type_exprs.proofs.GrownLaws.{grown_self}
+use Rattle.typed_names.proofs.TypeExprs.GrownLaws.{grown_self}
 use Rattle.declared_types.proofs.Passed.{file_gone, file_there}
 use Rattle.defined_types.specs.DeclaredTypes.{AreDeclared, GivesDeclared, declared_by_spec, declared_of}
 use Rattle.defined_types.proofs.TypeSteps.{added_none, added_nowhere, added_one, are_on, are_one}

@@ -1,6 +1,6 @@
 use Rattle.std.proofs.Common.{◌+◌, ◌∙◌, drop, subst}
-use Rattle.go_types.specs.Collect.{aliased_world}
-use Rattle.type_exprs.proofs.NewNames.{drop_all, drop_item}
+use Rattle.go_tree.specs.GoTypes.Collect.{aliased_world}
+use Rattle.typed_names.proofs.TypeExprs.NewNames.{drop_all, drop_item}
 use Rattle.defined_types.specs.DeclaredTypes.{TypesRead}
 use Rattle.defined_types.proofs.OfPrograms.{declared_there}
 use Rattle.defined_types.proofs.TypeSteps.{read_end, read_one}

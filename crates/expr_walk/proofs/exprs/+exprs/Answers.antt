@@ -2,23 +2,23 @@ use Rattle.std.proofs.Common.{false, ◌∙◌, ◌+◌, [], List, IfSome, Ok, E
 use Rattle.go_tree.specs.Tree as tree
 use Rattle.go_tree.specs.Lists.{elems_from, exprs_from}
 use Rattle.go_tree.specs.View.{sig_of, stmts_of, boxed_expr_option_of, elem_of, elems_of, expr_of, exprs_of, held_value_option_of, name_at_of, type_of, value_of}
-use Rattle.const_eval.specs.declared.kinds.Kind.TheVariants as kind
-use Rattle.const_eval.specs.Exact.{number, text}
-use Rattle.const_eval.specs.Literals.{integer_value, literal_value}
-use Rattle.go_words.specs.Texts.{text_value}
-use Rattle.go_types.specs.Answers.{given}
-use Rattle.go_types.specs.Defined.{under}
-use Rattle.go_types.specs.Entities as go_entity
-use Rattle.go_types.specs.Bodies.{body_binds, body_ctx, is_body}
-use Rattle.go_types.specs.Entities.{defined_in, exported, extend, in_block, meaning}
-use Rattle.go_types.specs.Literals.{built, field_key, is_struct, key_type, keyed, of_field}
-use Rattle.go_types.specs.Operands.{literal_operand, named_operand, named_place, place_by, with_value}
-use Rattle.go_types.specs.Primary as go
-use Rattle.go_types.specs.TypeNames.{func_type, type_meant}
-use Rattle.go_types.specs.Typing as go_typing
-use Rattle.go_types.specs.Typing.{bound}
-use Rattle.type_relations.specs.Environment.{defined_types, env_type}
-use Rattle.type_exprs.proofs.NewNames.{drop_all, drop_item}
+use Rattle.go_tree.specs.declared.const_eval.kinds.Kind.TheVariants as kind
+use Rattle.go_tree.specs.ConstEval.Exact.{number, text}
+use Rattle.go_tree.specs.ConstEval.Literals.{integer_value, literal_value}
+use Rattle.go_tree.specs.GoWords.Texts.{text_value}
+use Rattle.go_tree.specs.GoTypes.Answers.{given}
+use Rattle.go_tree.specs.GoTypes.Defined.{under}
+use Rattle.go_tree.specs.GoTypes.Entities as go_entity
+use Rattle.go_tree.specs.GoTypes.Bodies.{body_binds, body_ctx, is_body}
+use Rattle.go_tree.specs.GoTypes.Entities.{defined_in, exported, extend, in_block, meaning}
+use Rattle.go_tree.specs.GoTypes.Literals.{built, field_key, is_struct, key_type, keyed, of_field}
+use Rattle.go_tree.specs.GoTypes.Operands.{literal_operand, named_operand, named_place, place_by, with_value}
+use Rattle.go_tree.specs.GoTypes.Primary as go
+use Rattle.go_tree.specs.GoTypes.TypeNames.{func_type, type_meant}
+use Rattle.go_tree.specs.GoTypes.Typing as go_typing
+use Rattle.go_tree.specs.GoTypes.Typing.{bound}
+use Rattle.type_table.specs.TypeRelations.Environment.{defined_types, env_type}
+use Rattle.typed_names.proofs.TypeExprs.NewNames.{drop_all, drop_item}
 use Rattle.operand_rules.specs.declared.values.ValueType.TheVariants.{Typed}
 use Rattle.operand_rules.specs.Values.{IsType}
 use Rattle.operator_rules.specs.Settling.{typed_option}

@@ -2,7 +2,7 @@ use Rattle.std.proofs.Common.{[], Err, subst, sym}
 use Rattle.go_tree.specs.FileView as tree
 use Rattle.typed_names.specs.Known.{KnowsTypes}
 use Rattle.typed_names.specs.Scopes.{env_at}
-use Rattle.type_exprs.proofs.GrownLaws.{grown_on, known_on}
+use Rattle.typed_names.proofs.TypeExprs.GrownLaws.{grown_on, known_on}
 use Rattle.func_types.specs.Answers.{GivesFunc, func_of}
 use Rattle.func_headers.specs.Functions.{function_at}
 use Rattle.func_headers.proofs.HeaderSteps.{function_set, refused_set}

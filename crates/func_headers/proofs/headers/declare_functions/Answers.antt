@@ -1,5 +1,5 @@
 use Rattle.std.proofs.Common.{[], ◌∷◌, ◌++◌, ◌+◌, ◌∙◌, ap, cond, drop, subst, sym}
-use Rattle.type_exprs.proofs.NewNames.{drop_all, drop_item}
+use Rattle.typed_names.proofs.TypeExprs.NewNames.{drop_all, drop_item}
 use Rattle.func_headers.specs.Steps.{FunctionsPassed}
 use Rattle.func_headers.proofs.Passed.{passed_all, passed_more, passed_none}
 use Rattle.func_headers.proofs.headers.declare_functions.Goals.{then-not-well+in_ok-push, else-not-well}

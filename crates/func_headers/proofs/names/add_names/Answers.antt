@@ -1,7 +1,7 @@
 use Rattle.std.proofs.Common.{[], ◌+◌, drop, false, map, subst}
 use Rattle.go_tree.specs.View.{param_of}
-use Rattle.scope_names.specs.FreeNames.{name_then, params_names}
-use Rattle.type_exprs.proofs.NewNames.{drop_item}
+use Rattle.go_tree.specs.ScopeNames.FreeNames.{name_then, params_names}
+use Rattle.typed_names.proofs.TypeExprs.NewNames.{drop_item}
 use Rattle.func_headers.specs.Names.{AddsNames, NamesLeft}
 use Rattle.func_headers.proofs.DistinctNames.{names_fail, names_more}
 use Rattle.func_headers.proofs.names.add_names.Goals as goal

@@ -1,6 +1,6 @@
 use Rattle.std.proofs.Common.{drop, map}
 use Rattle.go_tree.specs.View.{param_of}
-use Rattle.scope_names.specs.FreeNames.{params_names}
+use Rattle.go_tree.specs.ScopeNames.FreeNames.{params_names}
 use Rattle.func_headers.specs.Names.{NamesLeft}
 use Rattle.func_headers.proofs.names.add_names.Given as goal
 

@@ -1,5 +1,5 @@
 use Rattle.go_tree.specs.View.{sig_of}
-use Rattle.scope_names.specs.FreeNames.{sig_names}
+use Rattle.go_tree.specs.ScopeNames.FreeNames.{sig_names}
 use Rattle.func_headers.proofs.DistinctNames.{once_answered}
 use Rattle.func_headers.proofs.names.has_distinct_names.Goals as goal
 

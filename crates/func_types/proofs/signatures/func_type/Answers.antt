@@ -1,8 +1,8 @@
 use Rattle.std.proofs.Common.{Ok, map, subst}
 use Rattle.go_tree.specs.View.{param_of}
-use Rattle.go_types.specs.TypeNames as go
+use Rattle.go_tree.specs.GoTypes.TypeNames as go
 use Rattle.typed_names.specs.Scopes.{env_at}
-use Rattle.type_exprs.proofs.GrownLaws.{env_same}
+use Rattle.typed_names.proofs.TypeExprs.GrownLaws.{env_same}
 use Rattle.func_types.specs.Answers.{GivesTypes}
 use Rattle.func_types.proofs.ParamSteps.{func_given, func_refused, types_kept}
 use Rattle.func_types.proofs.signatures.func_type.Goals as goal

@@ -1,10 +1,10 @@
 use Rattle.std.proofs.Common.{◌∙◌, ◌+◌, Err, ap, drop, map, subst, sym}
 use Rattle.go_tree.specs.View.{param_of, type_of}
-use Rattle.go_types.specs.TypeNames as go
+use Rattle.go_tree.specs.GoTypes.TypeNames as go
 use Rattle.typed_names.specs.Scopes.{env_at}
-use Rattle.type_exprs.specs.Answers.{GivesType}
-use Rattle.type_exprs.proofs.GrownLaws.{known_on}
-use Rattle.type_exprs.proofs.NewNames.{drop_all, drop_item}
+use Rattle.typed_names.specs.TypeExprs.Answers.{GivesType}
+use Rattle.typed_names.proofs.TypeExprs.GrownLaws.{known_on}
+use Rattle.typed_names.proofs.TypeExprs.NewNames.{drop_all, drop_item}
 use Rattle.func_types.specs.Answers.{GivesTypes}
 use Rattle.func_types.specs.Params.{ParamsRead}
 use Rattle.func_types.proofs.ParamSteps.{params_end, params_err, params_more, params_start}

@@ -2,11 +2,11 @@ use Rattle.std.proofs.Common.{◌≡◌, ℕ, suc, ◌+◌, ◌<◌, ◌≤◌, 
 use Rattle.std.specs.Prelude.{sum}
 use Rattle.std.proofs.lemmas.Grind.{common_steps}
 use Rattle.go_tree.specs.declared.tokens.Token.{Token}
-use Rattle.go_words.specs.Terminals.{terminal_of}
+use Rattle.go_tree.specs.GoWords.Terminals.{terminal_of}
 use Rattle.go_read.specs.SpellsWeight.{counts_after}
-use Rattle.go_words.specs.declared.terminals.Terminal.{Terminal}
-use Rattle.go_words.specs.Codes.{spelled, terminal_at}
-use Rattle.go_words.proofs.CodeLemmas.{terminal_beside}
+use Rattle.go_tree.specs.declared.go_words.terminals.Terminal.{Terminal}
+use Rattle.go_tree.specs.GoWords.Codes.{spelled, terminal_at}
+use Rattle.go_tree.proofs.GoWords.CodeLemmas.{terminal_beside}
 use Rattle.go_nesting.proofs.CodeLemmas.{counts_code}
 use Rattle.go_nesting.specs.declared.counts.Nesting.{Nesting}
 use Rattle.go_nesting.specs.Nesting.{after}

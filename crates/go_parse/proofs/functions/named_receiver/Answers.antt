@@ -1,7 +1,7 @@
 use Rattle.std.proofs.Common.{sym, ◌∙◌}
 use Rattle.go_tree.specs.declared.operators.BinOp.TheVariants.{Mul}
 use Rattle.go_productions.specs.Cursors.{ahead}
-use Rattle.go_words.specs.declared.terminals.Terminal.TheVariants as code
+use Rattle.go_tree.specs.declared.go_words.terminals.Terminal.TheVariants as code
 use Rattle.go_parse.proofs.Firsts.{apart, star_yes, star_off}
 use Rattle.go_parse.proofs.FunctionSteps.{named_is, named_pointer_is, plain_is, starred_is}
 use Rattle.go_parse.proofs.functions.named_receiver.Goals as goal

@@ -7,7 +7,7 @@ use Rattle.go_productions.specs.Cursors.{ahead}
 use Rattle.go_read.specs.SpellsSpans.{span_to}
 use Rattle.go_read.specs.Goals.{read_import_specs}
 use Rattle.go_read.specs.Reading.{at}
-use Rattle.go_words.specs.declared.terminals.Terminal.TheVariants as code
+use Rattle.go_tree.specs.declared.go_words.terminals.Terminal.TheVariants as code
 use Rattle.go_parse.specs.Parts.{with_front}
 use Rattle.go_parse.proofs.Firsts.{apart}
 use Rattle.go_parse.proofs.Lists.{group_ends, group_fails, group_stops, group_goes}

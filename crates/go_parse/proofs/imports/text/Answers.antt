@@ -1,7 +1,7 @@
 use Rattle.std.proofs.Common.{List, ℕ, sym, subst}
 use Rattle.std.specs.Prelude.{IfOk, ◌≡◌}
-use Rattle.go_literals.specs.Strings.{IsString}
-use Rattle.go_words.specs.Texts.{text_value}
+use Rattle.go_tree.specs.GoLiterals.Strings.{IsString}
+use Rattle.go_tree.specs.GoWords.Texts.{text_value}
 use Rattle.go_productions.specs.Cursors.{ahead}
 use Rattle.go_parse.proofs.TextSteps.{text_stands}
 use Rattle.go_parse.proofs.imports.text.Goals as goal

@@ -1,6 +1,6 @@
 use Rattle.std.proofs.Common.{ℕ, ◌+◌, chars, sym, ap, ◌∙◌, arith}
 use Rattle.std.specs.Str.Iter.{chars_rest}
-use Rattle.go_words.specs.Tokens.Characters.{is_blank}
+use Rattle.go_tree.specs.GoWords.Tokens.Characters.{is_blank}
 use Rattle.go_scan.specs.Sizes.{size_while}
 use Rattle.go_scan.proofs.SizeLemmas.{next_utf8, next_size, while_on, while_stops, while_ends}
 use Rattle.go_scan.proofs.characters.blanks_size.Goals as goal

@@ -1,5 +1,5 @@
 use Rattle.std.proofs.Common.{List, ℕ, ap, ◌∙◌}
-use Rattle.go_words.specs.Tokens.Characters.{is_listed}
+use Rattle.go_tree.specs.GoWords.Tokens.Characters.{is_listed}
 use Rattle.go_scan.proofs.NewlineLemmas.{any_listed}
 use Rattle.go_scan.proofs.BytesLemmas.{newline_same}
 use Rattle.go_scan.proofs.lists.has_newline.Goals as goal

@@ -1,7 +1,7 @@
 use Rattle.std.proofs.Common.{Bool, cond, sym, ap, ◌∙◌}
 use Rattle.go_tree.specs.declared.tokens.TokenKind.TheVariants.{Ident, Keyword}
-use Rattle.go_words.specs.Tokens.Pieces.{token}
-use Rattle.go_words.specs.Codes.{spelled}
+use Rattle.go_tree.specs.GoWords.Tokens.Pieces.{token}
+use Rattle.go_tree.specs.GoWords.Codes.{spelled}
 use Rattle.go_scan.proofs.BytesLemmas.{keyword_test}
 use Rattle.go_scan.proofs.pieces.word_kind.Goals as goal
 

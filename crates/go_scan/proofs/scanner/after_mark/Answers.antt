@@ -1,6 +1,6 @@
 use Rattle.std.proofs.Common.{◌≡◌, ℕ, List, Some, chars, slice_get, sym, ap, ◌∙◌, arith}
 use Rattle.std.proofs.lemmas.Bool.Decides.{nat_tests}
-use Rattle.go_words.specs.Tokens.Characters.{byte_order_mark}
+use Rattle.go_tree.specs.GoWords.Tokens.Characters.{byte_order_mark}
 use Rattle.go_scan.proofs.SizedPieces.{mark_boundary, mark_rest}
 use Rattle.go_scan.proofs.scanner.after_mark.Goals as goal
 

@@ -1,7 +1,7 @@
 use Rattle.std.proofs.Common.{◌≡◌, length, sym, subst, List, arith}
 use Rattle.std.proofs.lemmas.Bool.Decides.{nat_tests}
 use Rattle.go_tree.specs.declared.tokens.Comment.{Comment}
-use Rattle.go_words.specs.Tokens.{TokensOf}
+use Rattle.go_tree.specs.GoWords.Tokens.{TokensOf}
 use Rattle.go_scan.specs.Pieces.{kind_of}
 use Rattle.go_scan.proofs.ScanLemmas.{read_start, read_stuck, read_boundary, read_smaller, read_on, read_all}
 use Rattle.go_scan.proofs.scanner.scan_source.Goals as goal

@@ -2,7 +2,7 @@ use Rattle.std.proofs.Common.{◌≡◌, ℕ, List, Option, None, length, map, A
 use Rattle.go_tree.specs.declared.spans.Span.{Span}
 use Rattle.go_tree.specs.declared.tokens.Token.{Token}
 use Rattle.go_tree.specs.declared.tokens.Comment.{Comment}
-use Rattle.go_words.specs.Codes.{terminal_at}
+use Rattle.go_tree.specs.GoWords.Codes.{terminal_at}
 use Rattle.go_scan.specs.Unsupported.{package_start, unsupported_spans, IsFirst, first_word, first_constraint}
 use Rattle.go_scan.proofs.UnsupportedLemmas.{Within, comments_within, unsupported_first}
 use Rattle.go_scan.proofs.support.unsupported.Goals as goal

@@ -1,7 +1,7 @@
 use Rattle.std.proofs.Common.{[], ◌∷◌, ◌+◌, ap, drop, length, map, subst}
 use Rattle.go_tree.specs.FileView.{decl_of}
-use Rattle.go_types.specs.Programs.{all_headers}
-use Rattle.type_exprs.proofs.NewNames.{drop_all, drop_item}
+use Rattle.go_tree.specs.GoTypes.Programs.{all_headers}
+use Rattle.typed_names.proofs.TypeExprs.NewNames.{drop_all, drop_item}
 use Rattle.header_order.specs.Files.{FilesPassed, header_counts}
 use Rattle.header_order.proofs.CodeLemmas.{one_added, passed_all, passed_more, passed_none}
 use Rattle.header_order.proofs.files.add_firsts.Goals as goal

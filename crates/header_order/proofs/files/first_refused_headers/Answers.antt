@@ -1,6 +1,6 @@
 use Rattle.std.proofs.Common.{[], ◌+◌, ap, arith, drop, get_or, subst, sym}
 use Rattle.std.specs.Prelude.{slice_get}
-use Rattle.type_exprs.proofs.NewNames.{drop_all, drop_item}
+use Rattle.typed_names.proofs.TypeExprs.NewNames.{drop_all, drop_item}
 use Rattle.package_blocks.proofs.CollectedLemmas.{item_either}
 use Rattle.header_order.specs.Files.{FilesPassed, counts_of, package_counts}
 use Rattle.header_order.proofs.CodeLemmas.{passed_all, passed_more, passed_none}

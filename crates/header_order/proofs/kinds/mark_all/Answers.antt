@@ -1,5 +1,5 @@
 use Rattle.std.proofs.Common.{◌∙◌, ◌+◌, ap, drop, get_or, sym}
-use Rattle.type_exprs.proofs.NewNames.{drop_all, drop_item}
+use Rattle.typed_names.proofs.TypeExprs.NewNames.{drop_all, drop_item}
 use Rattle.package_blocks.proofs.CollectedLemmas.{item_either}
 use Rattle.header_order.specs.Kinds.{mark_all}
 use Rattle.header_order.proofs.kinds.mark_all.Goals as goal

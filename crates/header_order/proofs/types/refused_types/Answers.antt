@@ -1,5 +1,5 @@
 use Rattle.std.proofs.Common.{[], ◌∷◌, ◌++◌, ◌+◌, ◌∙◌, ap, cond, drop, map, subst, sym, refl}
-use Rattle.type_exprs.proofs.NewNames.{drop_all, drop_item}
+use Rattle.typed_names.proofs.TypeExprs.NewNames.{drop_all, drop_item}
 use Rattle.typed_names.specs.Meanings.{world_at}
 use Rattle.declared_types.proofs.Passed.{members_on, places_on}
 use Rattle.defined_types.specs.DeclaredTypes.{declared_of}

@@ -1,5 +1,5 @@
 use Rattle.std.proofs.Common.{◌≡◌, drop}
-use Rattle.go_words.specs.Tokens.Pieces.{is_among}
+use Rattle.go_tree.specs.GoWords.Tokens.Pieces.{is_among}
 use Rattle.import_edit.proofs.needs.is_among.Given as goal
 
 abbrev pub invariant-loop-other : goal.invariant-loop-other

@@ -1,4 +1,4 @@
-use Rattle.scope_names.specs.Scopes.{environment_at}
+use Rattle.go_tree.specs.ScopeNames.Scopes.{environment_at}
 use Rattle.import_rules.proofs.NeedLaws.{one_is_needed}
 use Rattle.import_rules.proofs.laws.one_name_is_needed.Goals as goal
 

@@ -1,5 +1,5 @@
 use Rattle.std.proofs.Common.{◌+◌, drop, subst, sym}
-use Rattle.type_exprs.proofs.NewNames.{drop_all, drop_item}
+use Rattle.typed_names.proofs.TypeExprs.NewNames.{drop_all, drop_item}
 use Rattle.jump_rules.specs.Labels.{LabelsRead}
 use Rattle.jump_rules.proofs.JumpLemmas.{labels_end, labels_more, labels_start}
 use Rattle.jump_rules.proofs.around.label_around.Goals as goal

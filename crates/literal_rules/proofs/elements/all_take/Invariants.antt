@@ -1,9 +1,9 @@
 use Rattle.std.specs.Prelude.{◌≡◌}
 use Rattle.std.specs.List.{list_all}
 use Rattle.std.proofs.Common.{drop}
-use Rattle.go_types.specs.Literals.{element_value}
-use Rattle.go_types.specs.Operands.{takes}
-use Rattle.type_relations.specs.Environment.{defined_types, env_type}
+use Rattle.go_tree.specs.GoTypes.Literals.{element_value}
+use Rattle.go_tree.specs.GoTypes.Operands.{takes}
+use Rattle.type_table.specs.TypeRelations.Environment.{defined_types, env_type}
 use Rattle.literal_rules.specs.Elements.{elements_at}
 use Rattle.literal_rules.proofs.elements.all_take.Given as goal
 

@@ -1,5 +1,5 @@
 use mathlib.Core.Path.{sym, subst, ◌∙◌}
-use Rattle.go_types.specs.Literals.{same_const}
+use Rattle.go_tree.specs.GoTypes.Literals.{same_const}
 use Rattle.literal_rules.specs.Elements.{key_consts}
 use Rattle.literal_rules.specs.Sets.{SeenOnce}
 use Rattle.literal_rules.proofs.DistinctLemmas.{seen_none}

@@ -1,5 +1,5 @@
 use Rattle.std.proofs.Common.{drop}
-use Rattle.go_types.specs.Literals.{same_const}
+use Rattle.go_tree.specs.GoTypes.Literals.{same_const}
 use Rattle.literal_rules.specs.Elements.{key_consts}
 use Rattle.literal_rules.specs.Sets.{SeenOnce}
 use Rattle.literal_rules.proofs.maps.distinct_keys.Given as goal

@@ -2,7 +2,7 @@ use Rattle.std.specs.Prelude.{◌≡◌, ◌+◌, nat_eq}
 use Rattle.std.specs.List.{list_any}
 use Rattle.std.proofs.Common.{drop}
 use mathlib.Core.Path.{sym, subst, ◌∙◌}
-use Rattle.type_relations.specs.Environment.{defined_types}
+use Rattle.type_table.specs.TypeRelations.Environment.{defined_types}
 use Rattle.literal_rules.specs.Elements.{elements_at}
 use Rattle.literal_rules.specs.Indices.{IndicesRead}
 use Rattle.literal_rules.proofs.DistinctLemmas.{not_seen}

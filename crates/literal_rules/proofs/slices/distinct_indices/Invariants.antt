@@ -1,5 +1,5 @@
 use Rattle.std.proofs.Common.{drop}
-use Rattle.type_relations.specs.Environment.{defined_types}
+use Rattle.type_table.specs.TypeRelations.Environment.{defined_types}
 use Rattle.literal_rules.specs.Elements.{elements_at}
 use Rattle.literal_rules.specs.Indices.{IndicesRead}
 use Rattle.literal_rules.proofs.slices.distinct_indices.Given as goal

@@ -1,7 +1,7 @@
 use Rattle.std.proofs.Common.{arith}
 use mathlib.Core.Path.{sym}
-use Rattle.type_relations.specs.Environment.{defined_types, env_type}
-use Rattle.access_rules.proofs.FieldLemmas.{field_part}
+use Rattle.type_table.specs.TypeRelations.Environment.{defined_types, env_type}
+use Rattle.operator_rules.proofs.AccessRules.FieldLemmas.{field_part}
 use Rattle.literal_rules.specs.Elements.{element_at}
 use Rattle.literal_rules.proofs.ElementLemmas.{element_item, no_such}
 use Rattle.literal_rules.proofs.StructLemmas.{counts_differ}

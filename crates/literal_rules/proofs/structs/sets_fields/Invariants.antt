@@ -1,10 +1,10 @@
 use Rattle.std.specs.Prelude.{◌≡◌, map}
 use Rattle.std.specs.List.{list_all}
 use Rattle.std.proofs.Common.{drop}
-use Rattle.go_types.specs.Literals.{sets_field}
+use Rattle.go_tree.specs.GoTypes.Literals.{sets_field}
 use Rattle.type_table.specs.Rows.{field_of}
 use Rattle.type_table.specs.TypesAt.{fields_by}
-use Rattle.type_relations.specs.Environment.{defined_types, env_type}
+use Rattle.type_table.specs.TypeRelations.Environment.{defined_types, env_type}
 use Rattle.literal_rules.specs.Elements.{elements_at}
 use Rattle.literal_rules.proofs.structs.sets_fields.Given as goal
 

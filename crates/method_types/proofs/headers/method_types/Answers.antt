@@ -1,5 +1,5 @@
 use Rattle.std.proofs.Common.{[], ◌∷◌, ◌++◌, ◌+◌, ◌∙◌, ap, cond, drop, subst, sym}
-use Rattle.type_exprs.proofs.NewNames.{drop_all, drop_item}
+use Rattle.typed_names.proofs.TypeExprs.NewNames.{drop_all, drop_item}
 use Rattle.method_types.specs.Steps.{TypesHeader, TypesPassed}
 use Rattle.method_types.proofs.TypeSteps.{passed_all, passed_more, passed_none}
 use Rattle.method_types.proofs.headers.method_types.Goals.{then-wrong+in_ok-push-2, else-wrong}

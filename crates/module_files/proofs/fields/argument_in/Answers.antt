@@ -1,4 +1,4 @@
-use Rattle.go_words.specs.Tokens.Characters.{is_blank}
+use Rattle.go_tree.specs.GoWords.Tokens.Characters.{is_blank}
 use Rattle.module_files.proofs.FieldLaws.{denied, granted, no_field, one_field, two_fields, more_fields, other_word}
 use Rattle.module_files.proofs.fields.argument_in.Goals as goal
 

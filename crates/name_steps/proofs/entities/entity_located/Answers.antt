@@ -1,5 +1,5 @@
 use Rattle.std.proofs.Common.{IfSome, ap, subst, sym}
-use Rattle.go_types.specs.Operands.{named_operand, named_place}
+use Rattle.go_tree.specs.GoTypes.Operands.{named_operand, named_place}
 use Rattle.typed_names.specs.Meanings.{entity_option}
 use Rattle.operand_answers.specs.Known.{IsEntity}
 use Rattle.operand_answers.specs.Located.{GivesAt}

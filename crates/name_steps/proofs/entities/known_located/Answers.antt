@@ -1,8 +1,8 @@
 use Rattle.std.proofs.Common.{Some, ap, subst, sym}
-use Rattle.go_types.specs.Operands.{named_operand, named_place}
+use Rattle.go_tree.specs.GoTypes.Operands.{named_operand, named_place}
 use Rattle.operand_rules.specs.declared.values.ValueType.TheVariants.{Typed}
 use Rattle.operand_rules.specs.declared.values.Content.TheVariants.{Run, Exact}
-use Rattle.access_rules.specs.declared.places.Place.TheVariants.{Addressable, Elsewhere}
+use Rattle.operator_rules.specs.declared.access_rules.places.Place.TheVariants.{Addressable, Elsewhere}
 use Rattle.typed_names.specs.Meanings.{entity_at}
 use Rattle.universe_block.specs.Meanings.{entity_of}
 use Rattle.operand_modes.specs.declared.modes.Operand.TheVariants as mode

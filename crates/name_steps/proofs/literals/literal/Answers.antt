@@ -1,5 +1,5 @@
-use Rattle.const_eval.specs.Literals.{literal_value}
-use Rattle.go_types.specs.Operands.{literal_operand}
+use Rattle.go_tree.specs.ConstEval.Literals.{literal_value}
+use Rattle.go_tree.specs.GoTypes.Operands.{literal_operand}
 use Rattle.name_steps.proofs.literals.literal.Goals as goal
 
 pub returns-clause-gives : goal.returns-clause-gives

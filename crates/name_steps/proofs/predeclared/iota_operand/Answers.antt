@@ -1,12 +1,12 @@
 use Rattle.std.proofs.Common.{◌≡◌, ◌∙◌, ◌<◌, ◌^◌, Some, ap, pos, rules, subst, sym, to_z-of_z, SFits, true}
 use Rattle.std.specs.Int.{w128}
-use Rattle.const_eval.specs.declared.consts.Const.TheVariants.{Whole}
-use Rattle.const_eval.specs.declared.kinds.Kind.TheVariants as kind
-use Rattle.const_eval.specs.Exact.{represents}
-use Rattle.go_types.specs.Answers.{given}
-use Rattle.go_types.specs.Entities.{exact}
-use Rattle.go_types.specs.Operands.{value}
-use Rattle.go_types.specs.Types.{untyped}
+use Rattle.go_tree.specs.declared.const_eval.consts.Const.TheVariants.{Whole}
+use Rattle.go_tree.specs.declared.const_eval.kinds.Kind.TheVariants as kind
+use Rattle.go_tree.specs.ConstEval.Exact.{represents}
+use Rattle.go_tree.specs.GoTypes.Answers.{given}
+use Rattle.go_tree.specs.GoTypes.Entities.{exact}
+use Rattle.go_tree.specs.GoTypes.Operands.{value}
+use Rattle.go_tree.specs.GoTypes.Types.{untyped}
 use Rattle.operand_modes.specs.Operands.{GivesOperand}
 use Rattle.name_steps.proofs.ConstantLemmas.{number_held}
 use Rattle.name_steps.proofs.predeclared.iota_operand.Goals as goal

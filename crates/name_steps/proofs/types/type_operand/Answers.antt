@@ -1,15 +1,15 @@
 use Rattle.std.proofs.Common.{Some, refl, subst, sym}
 use Rattle.go_tree.specs.View.{type_of}
-use Rattle.go_types.specs.Answers.{given}
-use Rattle.go_types.specs.Operands.{a_type}
-use Rattle.go_types.specs.TypeNames.{type_meant}
-use Rattle.type_relations.specs.Environment.{env_type}
+use Rattle.go_tree.specs.GoTypes.Answers.{given}
+use Rattle.go_tree.specs.GoTypes.Operands.{a_type}
+use Rattle.go_tree.specs.GoTypes.TypeNames.{type_meant}
+use Rattle.type_table.specs.TypeRelations.Environment.{env_type}
 use Rattle.typed_names.specs.Scopes.{env_at}
 use Rattle.operand_modes.specs.declared.modes.Operand.TheVariants as mode
 use Rattle.operand_answers.proofs.AnswerLemmas.{stands_nowhere, type_given, type_refused_at}
 use Rattle.operand_answers.specs.Located.{IsLocated}
-use Rattle.go_types.specs.Entities as go_entity
-use Rattle.access_rules.specs.declared.places.Place.TheVariants.{Elsewhere}
+use Rattle.go_tree.specs.GoTypes.Entities as go_entity
+use Rattle.operator_rules.specs.declared.access_rules.places.Place.TheVariants.{Elsewhere}
 use Rattle.name_steps.proofs.types.type_operand.Goals as goal
 
 pub returns-in-Ok-clause-gives : goal.returns-in-Ok-clause-gives

@@ -1,5 +1,5 @@
 use Rattle.std.proofs.Common.{◌∙◌, ◌||◌, ap}
-use Rattle.go_words.specs.Tokens.Pieces.{is_among}
+use Rattle.go_tree.specs.GoWords.Tokens.Pieces.{is_among}
 use Rattle.name_walks.specs.EachOnce.{with_name}
 use Rattle.name_walks.proofs.SetLaws.{add_step}
 use Rattle.name_walks.proofs.sets.add_all.Goals as goal

@@ -1,5 +1,5 @@
 use Rattle.std.proofs.Common.{◌≡◌, ◌∙◌, ap, not}
-use Rattle.go_words.specs.Tokens.Pieces.{is_among}
+use Rattle.go_tree.specs.GoWords.Tokens.Pieces.{is_among}
 use Rattle.name_walks.specs.EachOnce.{each_once, with_name}
 use Rattle.name_walks.proofs.SetLaws.{once_loop, once_same}
 use Rattle.name_walks.proofs.sets.each_once.Goals as goal

@@ -1,7 +1,7 @@
 use Rattle.std.proofs.Common.{◌∙◌, ◌+◌, ◌<◌, ap, drop, length, subst, sym}
 use Rattle.std.specs.Prelude.{slice_index_or}
 use Rattle.std.proofs.lemmas.List.{drop_more}
-use Rattle.type_exprs.proofs.NewNames.{drop_all}
+use Rattle.typed_names.proofs.TypeExprs.NewNames.{drop_all}
 use Rattle.named_types.specs.Defining.{TypesDefined}
 use Rattle.named_types.specs.Steps.{number_at}
 use Rattle.named_types.proofs.ChainSteps.{are_item, no_item}

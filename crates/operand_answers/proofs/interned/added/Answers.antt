@@ -1,6 +1,6 @@
 use Rattle.std.proofs.Common.{◌∙◌, ap, sym, Some}
-use Rattle.go_types.specs.Types.{is_untyped}
-use Rattle.type_relations.specs.Environment.{env_type}
+use Rattle.go_tree.specs.GoTypes.Types.{is_untyped}
+use Rattle.type_table.specs.TypeRelations.Environment.{env_type}
 use Rattle.type_table.specs.Rows.{row_of}
 use Rattle.operand_answers.proofs.AddedLemmas.{added_keeps, added_ready, same_keeps, same_ready}
 use Rattle.operand_answers.proofs.interned.added.Goals as goal

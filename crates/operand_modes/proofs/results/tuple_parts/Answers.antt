@@ -1,7 +1,7 @@
 use mathlib.Core.Path.{sym, subst, ◌∙◌}
 use Rattle.type_table.specs.Rows.{row_of}
 use Rattle.operator_rules.specs.Parts.{RowParts}
-use Rattle.access_rules.specs.Functions.{AreTypes}
+use Rattle.operator_rules.specs.AccessRules.Functions.{AreTypes}
 use Rattle.operand_modes.proofs.TupleLemmas.{tuple_typed}
 use Rattle.operand_modes.proofs.results.tuple_parts.Goals as goal
 

@@ -1,6 +1,6 @@
 use mathlib.Core.Path.{sym, subst}
 use Rattle.std.proofs.Common.{◌++◌}
-use Rattle.go_types.specs.Operands.{leaves}
+use Rattle.go_tree.specs.GoTypes.Operands.{leaves}
 use Rattle.operand_rules.specs.declared.values.Content.TheVariants.{Shift}
 use Rattle.operand_rules.specs.Open.{IsOpenedAt, IsWithin}
 use Rattle.operand_rules.specs.Values.{content_of}

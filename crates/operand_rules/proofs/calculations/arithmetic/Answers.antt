@@ -1,5 +1,5 @@
 use mathlib.Core.Path.{sym, ◌∙◌}
-use Rattle.type_relations.specs.Environment.{defined_types}
+use Rattle.type_table.specs.TypeRelations.Environment.{defined_types}
 use Rattle.operand_rules.specs.Values.{type_of, typed_of}
 use Rattle.operand_rules.proofs.ArithmeticLemmas.{asked_left, asked_right, asked_applies, joined_left, joined_right}
 use Rattle.operand_rules.proofs.calculations.arithmetic.Goals as goal

@@ -1,6 +1,6 @@
 use mathlib.Core.Path.{sym, ◌∙◌, subst}
 use Rattle.std.proofs.Common.{◌≡◌, true}
-use Rattle.const_eval.specs.Exact.{represents}
+use Rattle.go_tree.specs.ConstEval.Exact.{represents}
 use Rattle.operand_rules.proofs.ArithmeticLemmas.{calculated_exact}
 use Rattle.operand_rules.proofs.OpenedLemmas.{left_there}
 use Rattle.operand_rules.proofs.calculations.calculated.Goals as goal

@@ -1,4 +1,4 @@
-use Rattle.const_eval.specs.Literals.{literal_value}
+use Rattle.go_tree.specs.ConstEval.Literals.{literal_value}
 use Rattle.operand_rules.proofs.LiteralLemmas.{literal_gives}
 use Rattle.operand_rules.proofs.literals.literal.Goals as goal
 

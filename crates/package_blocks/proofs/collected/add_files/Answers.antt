@@ -1,6 +1,6 @@
 use Rattle.std.proofs.Common.{◌≡◌, ◌+◌, suc, ap, arith, drop, map, subst}
 use Rattle.go_tree.specs.FileView.{decl_of}
-use Rattle.type_exprs.proofs.NewNames.{drop_all, drop_item}
+use Rattle.typed_names.proofs.TypeExprs.NewNames.{drop_all, drop_item}
 use Rattle.package_blocks.specs.Headers.{FilesAdded}
 use Rattle.package_blocks.specs.Collected.{decls_in}
 use Rattle.package_blocks.proofs.HeaderLemmas.{files_all, files_none, files_one}

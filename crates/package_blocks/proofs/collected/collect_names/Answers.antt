@@ -1,5 +1,5 @@
 use Rattle.std.proofs.Common.{◌+◌, drop, get_or}
-use Rattle.type_exprs.proofs.NewNames.{drop_all, drop_item}
+use Rattle.typed_names.proofs.TypeExprs.NewNames.{drop_all, drop_item}
 use Rattle.package_blocks.specs.Imports.{views}
 use Rattle.package_blocks.specs.declared.collected.PackageNames.{PackageNames}
 use Rattle.package_blocks.proofs.CollectedLemmas.{collecting_end, collecting_start, collecting_step, count_views, item_either, order_computed}

@@ -1,5 +1,5 @@
 use Rattle.std.proofs.Common.{◌+◌, drop, subst}
-use Rattle.type_exprs.proofs.NewNames.{drop_all, drop_item}
+use Rattle.typed_names.proofs.TypeExprs.NewNames.{drop_all, drop_item}
 use Rattle.package_blocks.specs.Names.{Declares, NamesFollow, NamesPassed, plain_names}
 use Rattle.package_blocks.proofs.FollowLemmas.{passed_all, passed_none, passed_one}
 use Rattle.package_blocks.proofs.names.declare_all.Goals as goal

@@ -1,7 +1,7 @@
 use Rattle.std.proofs.Common.{[], ◌∷◌, ◌+◌, drop}
 use Rattle.go_tree.specs.FileView.{type_spec_of}
-use Rattle.go_types.specs.Programs.{a_type_spec}
-use Rattle.type_exprs.proofs.NewNames.{drop_item}
+use Rattle.go_tree.specs.GoTypes.Programs.{a_type_spec}
+use Rattle.typed_names.proofs.TypeExprs.NewNames.{drop_item}
 use Rattle.package_blocks.specs.Headers.{type_headers}
 use Rattle.package_blocks.proofs.DeclLemmas.{type_left}
 use Rattle.package_blocks.proofs.HeaderLemmas.{added_some}

@@ -1,5 +1,5 @@
 use Rattle.std.proofs.Common.{◌+◌, drop}
-use Rattle.type_exprs.proofs.NewNames.{drop_all, drop_item}
+use Rattle.typed_names.proofs.TypeExprs.NewNames.{drop_all, drop_item}
 use Rattle.package_blocks.specs.Types.{types_in}
 use Rattle.package_blocks.proofs.TypeLemmas.{types_end, types_of_program, types_step}
 use Rattle.package_blocks.proofs.types.type_headers.Goals as goal

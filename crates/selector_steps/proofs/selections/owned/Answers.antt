@@ -1,5 +1,5 @@
 use Rattle.std.proofs.Common.{◌∙◌, Some, ap, subst, sym}
-use Rattle.access_rules.specs.Selections.{IsSelected, selected_option}
+use Rattle.operator_rules.specs.AccessRules.Selections.{IsSelected, selected_option}
 use Rattle.selector_steps.proofs.SelectorLemmas.{method_is}
 use Rattle.selector_steps.proofs.selections.owned.Goals as goal
 

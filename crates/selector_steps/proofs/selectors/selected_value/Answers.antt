@@ -1,8 +1,8 @@
 use Rattle.std.proofs.Common.{subst, sym}
-use Rattle.go_types.specs.Primary.{selected, selected_place}
-use Rattle.type_relations.specs.Environment.{defined_types}
+use Rattle.go_tree.specs.GoTypes.Primary.{selected, selected_place}
+use Rattle.type_table.specs.TypeRelations.Environment.{defined_types}
 use Rattle.operand_rules.specs.Values.{typed_of}
-use Rattle.access_rules.specs.Places.{place_of}
+use Rattle.operator_rules.specs.AccessRules.Places.{place_of}
 use Rattle.func_types.specs.Answers.{func_of}
 use Rattle.operand_modes.specs.Operands.{GivesOperand}
 use Rattle.operand_answers.specs.Located.{GivesAt}

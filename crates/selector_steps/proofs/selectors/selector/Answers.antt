@@ -1,7 +1,7 @@
 use Rattle.std.proofs.Common.{◌∙◌, subst, sym}
-use Rattle.go_types.specs.Operands.{place_by, with_value}
-use Rattle.go_types.specs.Primary.{selected, selected_place}
-use Rattle.type_relations.specs.Environment.{defined_types}
+use Rattle.go_tree.specs.GoTypes.Operands.{place_by, with_value}
+use Rattle.go_tree.specs.GoTypes.Primary.{selected, selected_place}
+use Rattle.type_table.specs.TypeRelations.Environment.{defined_types}
 use Rattle.operand_modes.specs.Operands.{IsOperand}
 use Rattle.operand_answers.specs.Located.{GivesAt, IsThereIfOk}
 use Rattle.operand_answers.proofs.AnswerLemmas.{refused, single_is}

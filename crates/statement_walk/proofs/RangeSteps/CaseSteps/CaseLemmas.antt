@@ -6,22 +6,22 @@ use Rattle.std.specs.List.{list_all, list_any}
 use Rattle.go_tree.specs.declared.exprs.Expr as expression
 use Rattle.go_tree.specs.Lists.{exprs_from}
 use Rattle.go_tree.specs.View.{expr_of}
-use Rattle.const_eval.specs.declared.consts.Const.{Const}
-use Rattle.const_eval.specs.declared.consts.Const.TheVariants.{Whole, Truth, Bytes}
-use Rattle.go_types.specs.Answers.{distinct_by, only_if}
-use Rattle.go_types.specs.Entities.{run, exact, shift}
-use Rattle.go_types.specs.Literals.{same_const}
-use Rattle.go_types.specs.Operands.{Typed}
-use Rattle.go_types.specs.Statements.{Clauses, case_constants, choice, is_default}
-use Rattle.type_relations.specs.Environment.{Environment}
-use Rattle.type_exprs.proofs.NewNames.{drop_all}
+use Rattle.go_tree.specs.declared.const_eval.consts.Const.{Const}
+use Rattle.go_tree.specs.declared.const_eval.consts.Const.TheVariants.{Whole, Truth, Bytes}
+use Rattle.go_tree.specs.GoTypes.Answers.{distinct_by, only_if}
+use Rattle.go_tree.specs.GoTypes.Entities.{run, exact, shift}
+use Rattle.go_tree.specs.GoTypes.Literals.{same_const}
+use Rattle.go_tree.specs.GoTypes.Operands.{Typed}
+use Rattle.go_tree.specs.GoTypes.Statements.{Clauses, case_constants, choice, is_default}
+use Rattle.type_table.specs.TypeRelations.Environment.{Environment}
+use Rattle.typed_names.proofs.TypeExprs.NewNames.{drop_all}
 use Rattle.operand_rules.specs.declared.values.ValueType.{ValueType}
 use Rattle.operand_rules.specs.declared.values.Content.{Content}
 use Rattle.operand_rules.specs.declared.values.Content.TheVariants.{Run, Exact, Shift}
 use Rattle.operand_rules.specs.declared.values.Value.{Value}
 use Rattle.operand_rules.specs.Values.{IsContent, IsKept, content_of, typed_of}
-use Rattle.access_rules.specs.Functions.{AreValues}
-use Rattle.access_rules.proofs.CallLemmas.{value_item}
+use Rattle.operator_rules.specs.AccessRules.Functions.{AreValues}
+use Rattle.operator_rules.proofs.AccessRules.CallLemmas.{value_item}
 use Rattle.literal_rules.specs.Sets.{new_and_distinct}
 use Rattle.literal_rules.proofs.DistinctLemmas.{new_first, seen_first, seen_none}
 use Rattle.literal_rules.proofs.SetLemmas.{const_turned}

@@ -1,7 +1,7 @@
 use Rattle.std.proofs.Common.{◌≡◌, List, OnOk, refl, subst, sym, true}
-use Rattle.const_eval.specs.declared.consts.Const.{Const}
-use Rattle.go_types.specs.Declarations.{bound_names}
-use Rattle.type_relations.specs.Environment.{Environment}
+use Rattle.go_tree.specs.declared.const_eval.consts.Const.{Const}
+use Rattle.go_tree.specs.GoTypes.Declarations.{bound_names}
+use Rattle.type_table.specs.TypeRelations.Environment.{Environment}
 use Rattle.typed_names.specs.Meanings.{entity_option}
 use Rattle.assignment_steps.specs.DefineSteps.Defined.{bind_if}
 use Rattle.jump_rules.specs.UsedLocals.Pending.{Scopes, all_begun}

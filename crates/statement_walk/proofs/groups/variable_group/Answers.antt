@@ -1,5 +1,5 @@
 use Rattle.std.proofs.Common.{◌∙◌, Ok, Err, refl, subst, sym}
-use Rattle.go_types.specs.Typing.{declares_variables, used_variables}
+use Rattle.go_tree.specs.GoTypes.Typing.{declares_variables, used_variables}
 use Rattle.jump_rules.specs.UsedLocals.Used.{used_of}
 use Rattle.assignment_steps.proofs.DeclaredBlocks.BlockLemmas.{within_on}
 use Rattle.statement_walk.specs.SimpleWalk.ConstantGroups.Groups.{AreWalkedSpecs}

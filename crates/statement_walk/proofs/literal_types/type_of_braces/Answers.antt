@@ -1,9 +1,9 @@
 use Rattle.std.proofs.Common.{◌≡◌, Some, ap, subst, sym}
-use Rattle.go_types.specs.Answers.{given}
-use Rattle.go_types.specs.Defined.{under}
-use Rattle.go_types.specs.Literals.{literal_type}
+use Rattle.go_tree.specs.GoTypes.Answers.{given}
+use Rattle.go_tree.specs.GoTypes.Defined.{under}
+use Rattle.go_tree.specs.GoTypes.Literals.{literal_type}
 use Rattle.operator_rules.specs.Settling.{typed_option}
-use Rattle.type_relations.specs.Environment.{defined_types}
+use Rattle.type_table.specs.TypeRelations.Environment.{defined_types}
 use Rattle.statement_walk.specs.Uses.{under_option}
 use Rattle.statement_walk.proofs.literal_types.type_of_braces.Goals as goal
 

@@ -1,7 +1,7 @@
 use Rattle.std.proofs.Common.{◌∙◌, map, subst, sym}
 use Rattle.go_tree.specs.View.{name_at_of}
-use Rattle.go_types.specs.Entities.{extend}
-use Rattle.scope_names.specs.FreeNames.{names_of}
+use Rattle.go_tree.specs.GoTypes.Entities.{extend}
+use Rattle.go_tree.specs.ScopeNames.FreeNames.{names_of}
 use Rattle.control_steps.specs.DeclarationSteps.Entities.{AreEntities, binds_at}
 use Rattle.control_steps.specs.LocalBlocks.Places.{IsPlace}
 use Rattle.statement_walk.proofs.SimpleWalk.ConstantGroups.MemberLemmas.{place_kept, within_self}

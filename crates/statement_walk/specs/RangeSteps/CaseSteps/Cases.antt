@@ -1,13 +1,14 @@
 -- The cases of a switch that are read one by one (Go specification, Expression switches; Terminating statements).
-use Rattle.std.specs.Prelude.{◌≡◌, ℕ, ◌+◌, Bool, true, false, ◌&&◌, ◌||◌, List, [], ◌∷◌, ◌++◌, Option, Some, nat_eq, nat_le}
+use Rattle.std.specs.Prelude.{◌≡◌, ℕ, ◌+◌, Bool, true, false, ◌&&◌, ◌||◌, List, [], ◌∷◌}
+use Rattle.std.specs.Prelude.{◌++◌, Option, Some, nat_eq, nat_le}
 use Rattle.std.specs.List.{list_any}
-use Rattle.const_eval.specs.declared.consts.Const.{Const}
-use Rattle.const_eval.specs.declared.consts.Const.TheVariants.{Whole, Truth, Bytes}
-use Rattle.go_types.specs.Answers.{only_if}
-use Rattle.go_types.specs.Entities.{Content, run, exact, shift}
-use Rattle.go_types.specs.Literals.{same_const}
-use Rattle.go_types.specs.Operands.{Typed}
-use Rattle.go_types.specs.Statements.{Clauses, case_constants}
+use Rattle.go_tree.specs.declared.const_eval.consts.Const.{Const}
+use Rattle.go_tree.specs.declared.const_eval.consts.Const.TheVariants.{Whole, Truth, Bytes}
+use Rattle.go_tree.specs.GoTypes.Answers.{only_if}
+use Rattle.go_tree.specs.GoTypes.Entities.{Content, run, exact, shift}
+use Rattle.go_tree.specs.GoTypes.Literals.{same_const}
+use Rattle.go_tree.specs.GoTypes.Operands.{Typed}
+use Rattle.go_tree.specs.GoTypes.Statements.{Clauses, case_constants}
 use Rattle.literal_rules.specs.Sets.{new_and_distinct}
 use Rattle.statement_walk.specs.declared.range_steps.case_steps.seen.CasesSeen.{CasesSeen}
 

@@ -1,16 +1,16 @@
 //! The constants of cases, each of which stands once (Go specification, Expression switches).
 
 ghost use Rattle.std.specs.Prelude.{◌≡◌, map, true, IfOk, OnOk};
-ghost use Rattle.go_types.specs.Literals.{same_const};
-ghost use Rattle.go_types.specs.Statements as go;
+ghost use Rattle.go_tree.specs.GoTypes.Literals.{same_const};
+ghost use Rattle.go_tree.specs.GoTypes.Statements as go;
 ghost use Rattle.operand_rules.specs.Values.{IsKept, content_of, typed_of};
-ghost use Rattle.access_rules.specs.Functions.{AreValues};
+ghost use Rattle.operator_rules.specs.AccessRules.Functions.{AreValues};
 ghost use Rattle.literal_rules.specs.Sets.{new_and_distinct};
 ghost use Rattle.statement_walk.specs.RangeSteps.CaseSteps.Cases.{AddsAll, once_in, once_of};
 
 use checker_tables::Tables;
-use const_eval::Const;
 use go_tree::NoMemory;
+use go_tree::const_eval::Const;
 use literal_rules::ConstSet;
 use operand_rules::{ConstTable, Content, Value};
 use std::alloc::Global;

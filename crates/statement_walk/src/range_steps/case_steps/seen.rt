@@ -2,9 +2,9 @@
 
 ghost use Rattle.std.specs.Prelude.{◌≡◌, ◌&&◌, ◌||◌, None, Some, not, if◌then◌else◌, map, IfOk};
 ghost use Rattle.go_tree.specs.View.{exprs_of};
-ghost use Rattle.go_types.specs.Statements as go;
+ghost use Rattle.go_tree.specs.GoTypes.Statements as go;
 ghost use Rattle.operand_rules.specs.Values.{typed_of};
-ghost use Rattle.access_rules.specs.Functions.{AreValues};
+ghost use Rattle.operator_rules.specs.AccessRules.Functions.{AreValues};
 ghost use Rattle.statement_walk.specs.RangeSteps.CaseSteps.Cases.{choice_after, count, no_cases, with_case};
 
 use crate::range_steps::case_steps::constants::add_values;

@@ -2,12 +2,12 @@
 
 ghost use Rattle.std.specs.Prelude.{List, Option, Some};
 ghost use Rattle.std.specs.List.{list_all};
-ghost use Rattle.const_eval.specs.declared.consts.Const.{Const};
-ghost use Rattle.go_types.specs.Answers.{given, only_if};
-ghost use Rattle.go_types.specs.Entities as go_entity;
-ghost use Rattle.go_types.specs.Operands as go_operand;
-ghost use Rattle.go_types.specs.Statements as go;
-ghost use Rattle.type_relations.specs.Environment.{Environment, defined_types};
+ghost use Rattle.go_tree.specs.declared.const_eval.consts.Const.{Const};
+ghost use Rattle.go_tree.specs.GoTypes.Answers.{given, only_if};
+ghost use Rattle.go_tree.specs.GoTypes.Entities as go_entity;
+ghost use Rattle.go_tree.specs.GoTypes.Operands as go_operand;
+ghost use Rattle.go_tree.specs.GoTypes.Statements as go;
+ghost use Rattle.type_table.specs.TypeRelations.Environment.{Environment, defined_types};
 ghost use Rattle.operand_rules.specs.Values.{IsValue, typed_of};
 ghost use Rattle.operand_modes.specs.Lists.{GivesValues};
 ghost use Rattle.operand_modes.specs.Operands.{AreOperands, operands_at};

@@ -3,11 +3,11 @@
 ghost use Rattle.std.specs.Prelude.{◌≡◌, IfOk, map};
 ghost use Rattle.std.specs.Option.{option_map};
 ghost use Rattle.go_tree.specs.View.{exprs_of, name_at_of, type_of};
-ghost use Rattle.go_types.specs.Declarations as go;
-ghost use Rattle.go_types.specs.Entities.{Env};
-ghost use Rattle.go_types.specs.TypeNames as type_name;
-ghost use Rattle.go_types.specs.Typing as go_typing;
-ghost use Rattle.scope_names.specs.FreeNames.{names_of};
+ghost use Rattle.go_tree.specs.GoTypes.Declarations as go;
+ghost use Rattle.go_tree.specs.GoTypes.Entities.{Env};
+ghost use Rattle.go_tree.specs.GoTypes.TypeNames as type_name;
+ghost use Rattle.go_tree.specs.GoTypes.Typing as go_typing;
+ghost use Rattle.go_tree.specs.ScopeNames.FreeNames.{names_of};
 ghost use Rattle.typed_names.specs.Scopes.{env_at};
 ghost use Rattle.checker_tables.specs.Ready.{Keeps};
 ghost use Rattle.operand_answers.specs.Known.{Stands};

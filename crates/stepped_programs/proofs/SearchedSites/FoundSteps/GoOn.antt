@@ -14,7 +14,7 @@ use Rattle.package_search.specs.declared.looks.ProgramSources.{ProgramSources}
 use Rattle.package_search.specs.declared.search.FoundInPackage.{FoundInPackage}
 use Rattle.run_by_steps.specs.Reached.{text_made}
 use Rattle.run_by_steps.specs.Laws.{StepGoesOn, StepPassesLimit, StepIsRead, RunEnds}
-use Rattle.marked_runs.specs.SettledConstants.Programs.{IsReady}
+use Rattle.typed_parts.specs.MarkedRuns.SettledConstants.Programs.{IsReady}
 use Rattle.use_search.specs.declared.views.FileView.{FileView}
 use Rattle.stepped_programs.specs.SearchedSites.OrderedSearches.Found.{IsFoundFirst}
 use Rattle.stepped_programs.specs.SearchedSites.FoundSteps.Uses.{IsRightUse, HasFile}

@@ -6,7 +6,7 @@ use Rattle.go_tree.specs.FileView.{file_of}
 use Rattle.go_scan.specs.TokenLists.{TokenLists}
 use Rattle.import_rules.specs.Laid.{CommentsAscend, Laid}
 use Rattle.pkg_graph.specs.Package.{Package}
-use Rattle.scope_names.specs.declared.names.FileNames.{FileNames}
+use Rattle.go_tree.specs.declared.scope_names.names.FileNames.{FileNames}
 use Rattle.scope_tables.specs.Table.{Table, table_of}
 use Rattle.run_rules.specs.Inlining.{ReadsAs}
 use Rattle.run_rules.specs.Laws.{LiesBehindImports, file_found}
@@ -22,22 +22,22 @@ use Rattle.constant_forms.specs.declared.uses.ConstantValue.TheVariants.{Plain, 
 use Rattle.constant_forms.specs.Uses.{IsReducedTo}
 use Rattle.package_search.specs.FileSteps.Steps.{IsStepOf}
 use Rattle.package_search.specs.FileSteps.Used.{first_at}
-use Rattle.standing_uses.specs.LoneUses.Laws.{ConstantUsesStandAlone}
-use Rattle.standing_uses.specs.LoneUses.Alone.{StandsAlone}
-use Rattle.mark_values.specs.Values.{value_of}
+use Rattle.typed_parts.specs.StandingUses.LoneUses.Laws.{ConstantUsesStandAlone}
+use Rattle.typed_parts.specs.StandingUses.LoneUses.Alone.{StandsAlone}
+use Rattle.use_search.specs.MarkValues.Values.{value_of}
 use Rattle.package_search.specs.declared.looks.ProgramSources.{ProgramSources}
 use Rattle.package_search.specs.declared.search.FoundInPackage.{FoundInPackage}
 use Rattle.possible_uses.specs.Candidates.{Candidate}
-use Rattle.marked_runs.specs.PutForms.Uses.{IsFirstUse, UsesNamedConstant, IsOfPackages}
-use Rattle.marked_runs.specs.PutForms.Laws.{ConstantUsesHaveBytes, ConstantsComeNext, ValuesAreNames}
-use Rattle.marked_runs.proofs.PutForms.FirstUses.{file_reads}
+use Rattle.typed_parts.specs.MarkedRuns.PutForms.Uses.{IsFirstUse, UsesNamedConstant, IsOfPackages}
+use Rattle.typed_parts.specs.MarkedRuns.PutForms.Laws.{ConstantUsesHaveBytes, ConstantsComeNext, ValuesAreNames}
+use Rattle.typed_parts.proofs.MarkedRuns.PutForms.FirstUses.{file_reads}
 use Rattle.run_by_steps.specs.Reached.{IsNextUse}
 use Rattle.stepped_programs.specs.SearchedSites.Told.{IsWithin}
-use Rattle.marked_runs.specs.SettledConstants.Programs.{IsReady}
-use Rattle.standing_uses.specs.ToldSteps.Laws.{MayBeEdited, FirstUsesAreTold, StepsMayBeEdited}
+use Rattle.typed_parts.specs.MarkedRuns.SettledConstants.Programs.{IsReady}
+use Rattle.typed_parts.specs.StandingUses.ToldSteps.Laws.{MayBeEdited, FirstUsesAreTold, StepsMayBeEdited}
 use Rattle.repeated_parts.specs.ImportsUnused.Uses.{all_parts}
 use Rattle.repeated_parts.specs.ImportsUnused.Told.{IsTold}
-use Rattle.standing_uses.specs.UsePlaces.Laws.{FoundUsesTakeNames}
+use Rattle.typed_parts.specs.StandingUses.UsePlaces.Laws.{FoundUsesTakeNames}
 use Rattle.use_search.specs.declared.views.FileView.{FileView}
 use Rattle.stepped_programs.specs.SearchedSites.OrderedSearches.Found.{IsFoundFirst}
 use Rattle.stepped_programs.specs.SearchedSites.FoundSteps.Uses.{IsRightUse, HasFile, MayBeMade}

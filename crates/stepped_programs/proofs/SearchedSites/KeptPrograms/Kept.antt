@@ -7,7 +7,7 @@ use Rattle.std.proofs.lemmas.Option.{same_Some, slice_get_within}
 use Rattle.go_tree.specs.declared.spans.Span.{Span}
 use Rattle.go_scan.specs.TokenLists.{TokenLists}
 use Rattle.import_rules.specs.Laid.{CommentsAscend}
-use Rattle.import_splices.proofs.ImportPlaces.CommentsStand.{comments_ascend}
+use Rattle.splice_laws.proofs.ImportSplices.ImportPlaces.CommentsStand.{comments_ascend}
 use Rattle.pkg_graph.specs.Package.{SourceTree, Package}
 use Rattle.pkg_graph.specs.Reads.{Source}
 use Rattle.pkg_graph.specs.Views.{package_view, source_of}
@@ -16,7 +16,7 @@ use Rattle.run_rules.specs.Respanned.{source_with, package_with, packages_with}
 use Rattle.run_rules.specs.Sites.{MarkRef}
 use Rattle.run_rules.specs.Steps.{At}
 use Rattle.run_rules.specs.Run.{Standing, here_of}
-use Rattle.constant_steps.proofs.MarksFound.{nth_mapped}
+use Rattle.splice_laws.proofs.ConstantSteps.MarksFound.{nth_mapped}
 use Rattle.package_search.specs.declared.looks.ProgramSources.{ProgramSources}
 use Rattle.package_search.specs.declared.search.FoundInPackage.{FoundInPackage}
 use Rattle.package_search.specs.Search.{is_settled, HasNone, IsPackageSearch}

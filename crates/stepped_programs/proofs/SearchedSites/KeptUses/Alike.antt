@@ -4,13 +4,13 @@ use Rattle.std.specs.Prelude.{if◌then◌else◌}
 use Rattle.std.specs.List.{list_any}
 use Rattle.go_tree.specs.declared.spans.Span.{Span}
 use Rattle.go_tree.specs.declared.tokens.Comment.{Comment}
-use Rattle.scope_names.specs.declared.names.Entity.{Entity}
-use Rattle.scope_names.specs.declared.names.Entity.TheVariants as entity
+use Rattle.go_tree.specs.declared.scope_names.names.Entity.{Entity}
+use Rattle.go_tree.specs.declared.scope_names.names.Entity.TheVariants as entity
 use Rattle.scope_tables.specs.Table.{table_of, meaning_in}
 use Rattle.module_files.specs.Internal.{may_import}
 use Rattle.pkg_graph.specs.declared.packages.Package as code
-use Rattle.go_types.specs.Answers.{given, one_of}
-use Rattle.go_types.specs.Entities.{is_exported}
+use Rattle.go_tree.specs.GoTypes.Answers.{given, one_of}
+use Rattle.go_tree.specs.GoTypes.Entities.{is_exported}
 use Rattle.run_rules.specs.Obstacles.{Obstacle, NotAccessible, Internal, Shadowed, CommentInside, Repeated, obstacle_if}
 use Rattle.run_rules.specs.Reduced.{Reduced, kept, reduced}
 use Rattle.run_rules.specs.Steps.{At, same_here, lies_in}
@@ -18,9 +18,9 @@ use Rattle.constant_forms.specs.declared.uses.ConstantUse.{ConstantUse}
 use Rattle.constant_forms.specs.declared.uses.ConstantValue.{ConstantValue}
 use Rattle.constant_forms.specs.declared.uses.ConstantValue.TheVariants as lent
 use Rattle.constant_forms.specs.Told.{value_name, needed_package, is_hidden, is_another, path_at, is_elsewhere, obstacle_told}
-use Rattle.mark_values.specs.declared.values.DeclaredValue.{DeclaredValue}
-use Rattle.mark_values.specs.declared.values.DeclaredValue.TheVariants.{Plain, Qualified}
-use Rattle.mark_values.specs.Values.{value_of}
+use Rattle.use_search.specs.declared.mark_values.values.DeclaredValue.{DeclaredValue}
+use Rattle.use_search.specs.declared.mark_values.values.DeclaredValue.TheVariants.{Plain, Qualified}
+use Rattle.use_search.specs.MarkValues.Values.{value_of}
 use Rattle.stepped_programs.specs.SearchedSites.KeptUses.Laws.{AreToldAlike, KeptUsesStay}
 use Rattle.stepped_programs.proofs.SearchedSites.KeptUses.Obstacles.{by_obstacle, reduced_is}
 

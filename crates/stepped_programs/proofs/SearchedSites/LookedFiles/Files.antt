@@ -4,7 +4,7 @@ use Rattle.go_tree.specs.declared.spans.Span.{Span}
 use Rattle.go_tree.specs.File.{File}
 use Rattle.go_tree.specs.FileView.{file_of}
 use Rattle.go_scan.specs.TokenLists.{TokenLists}
-use Rattle.scope_names.specs.declared.names.FileNames.{FileNames}
+use Rattle.go_tree.specs.declared.scope_names.names.FileNames.{FileNames}
 use Rattle.scope_tables.specs.Table.{Table, IsTableOf, table_of}
 use Rattle.pkg_graph.specs.Package.{Package, import_specs}
 use Rattle.pkg_graph.specs.Members.{names_of_file}
@@ -14,8 +14,8 @@ use Rattle.run_rules.specs.Sites.{MarkRef, Where}
 use Rattle.run_rules.specs.Respanned.{file_with, package_with, packages_with}
 use Rattle.run_rules.specs.Steps.{At}
 use Rattle.run_rules.specs.Run.{Standing, here_of}
-use Rattle.form_imports.specs.ImportLaws.Steps.{names_standing}
-use Rattle.place_meanings.specs.Laws.{AreNamesOf}
+use Rattle.splice_laws.specs.FormImports.ImportLaws.Steps.{names_standing}
+use Rattle.splice_laws.specs.PlaceMeanings.Laws.{AreNamesOf}
 use Rattle.member_uses.specs.Laws.{Knows}
 use Rattle.file_tables.specs.Numbers.{number_in}
 use Rattle.use_search.specs.Answers.{names_of}

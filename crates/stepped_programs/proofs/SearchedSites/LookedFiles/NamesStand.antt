@@ -6,7 +6,7 @@ use Rattle.std.proofs.lemmas.List.{map-append}
 use Rattle.go_tree.specs.declared.spans.Span.{Span}
 use Rattle.go_tree.specs.Tree.{NameAt}
 use Rattle.go_tree.specs.File.{ImportSpec, ImportDecl, File}
-use Rattle.scope_names.specs.declared.names.ImportName.{ImportName}
+use Rattle.go_tree.specs.declared.scope_names.names.ImportName.{ImportName}
 use Rattle.pkg_graph.specs.Package.{Package, specs_in, import_specs}
 use Rattle.pkg_graph.specs.Members.{Target, package_name, name_or, import_name, names_of_file}
 use Rattle.run_rules.specs.Programs.{number_from, package_number}
@@ -14,7 +14,7 @@ use Rattle.run_rules.specs.Sites.{Where}
 use Rattle.run_rules.specs.Respanned.{name_with, import_spec_with, import_decl_with, file_with, package_with, packages_with}
 use Rattle.run_rules.specs.Steps.{At}
 use Rattle.run_rules.specs.Run.{here_of}
-use Rattle.form_imports.specs.ImportLaws.Steps.{names_standing}
+use Rattle.splice_laws.specs.FormImports.ImportLaws.Steps.{names_standing}
 use Rattle.file_tables.specs.Numbers.{number_in}
 use Rattle.use_search.proofs.UsesOfMarks.BlocksStay.{block_stays}
 

@@ -9,7 +9,7 @@ use Rattle.run_rules.specs.Steps.{At, same_here, first_found}
 use Rattle.run_rules.specs.Run.{Standing, here_of, is_commented}
 use Rattle.constant_forms.specs.declared.uses.ConstantUse.{ConstantUse}
 use Rattle.stepped_programs.specs.SearchedSites.LookedFiles.Laws.{LooksTellFiles}
-use Rattle.mark_values.specs.Values.{value_of}
+use Rattle.use_search.specs.MarkValues.Values.{value_of}
 use Rattle.use_search.specs.UsesOfMarks.Laws.{UsesArePlaced}
 use Rattle.package_search.specs.declared.looks.ProgramSources.{ProgramSources}
 use Rattle.package_search.specs.declared.search.FoundInPackage.{FoundInPackage}

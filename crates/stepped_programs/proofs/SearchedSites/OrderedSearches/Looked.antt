@@ -12,7 +12,7 @@ use Rattle.run_rules.specs.Sites.{MarkRef, Where}
 use Rattle.run_rules.specs.Respanned.{source_with, package_with, packages_with}
 use Rattle.run_rules.specs.Steps.{At}
 use Rattle.run_rules.specs.Run.{Standing, here_of}
-use Rattle.mark_values.specs.Tables.{Known, key_of, value_in}
+use Rattle.use_search.specs.MarkValues.Tables.{Known, key_of, value_in}
 use Rattle.module_marks.specs.Views.{mark_ref_of}
 use Rattle.stepped_programs.specs.SearchedSites.LookedFiles.Laws.{StandsAs, LooksTellFiles}
 use Rattle.package_search.specs.declared.looks.FileLook.{FileLook}

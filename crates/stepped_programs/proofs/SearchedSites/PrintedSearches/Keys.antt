@@ -8,7 +8,7 @@ use Rattle.go_tree.specs.File.{Receiver, Decl, values, func}
 use Rattle.use_search.specs.UsesOfMarks.Laws.{IsSound, EachSound}
 use Rattle.member_uses.specs.Laws.{NoKeyIsMarked}
 use Rattle.member_uses.specs.Uses.{Used, Names, used, name_alone, type_package, package_at, import_at, part_uses, member_uses}
-use Rattle.go_types.specs.Answers.{given}
+use Rattle.go_tree.specs.GoTypes.Answers.{given}
 use Rattle.pkg_graph.specs.Package.{Package}
 use Rattle.possible_uses.specs.Candidates.{Candidate, plain_part}
 use Rattle.possible_uses.specs.Parts.{put, put_selector, after_expr, after_exprs, after_params, after_receiver, after_sig, after_specs, after_stmts, after_decl, parts_of}

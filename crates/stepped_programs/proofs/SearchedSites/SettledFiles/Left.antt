@@ -3,15 +3,15 @@ use Rattle.std.proofs.Common.{◌≡◌, ◌⊎◌, inl, inr, ◌∙◌, refl, s
 use Rattle.std.specs.Prelude.{slice_get}
 use Rattle.std.proofs.lemmas.Option.{same_Some}
 use Rattle.go_tree.specs.File.{ImportSpec}
-use Rattle.scope_names.specs.declared.names.ImportName.{ImportName}
+use Rattle.go_tree.specs.declared.scope_names.names.ImportName.{ImportName}
 use Rattle.scope_tables.specs.Table.{IsTableOf}
 use Rattle.pkg_graph.specs.Package.{SourceTree, Package, import_specs}
 use Rattle.pkg_graph.specs.Members.{Target, package_block, import_name}
-use Rattle.form_imports.specs.ImportLaws.Steps.{names_standing}
+use Rattle.splice_laws.specs.FormImports.ImportLaws.Steps.{names_standing}
 use Rattle.member_uses.specs.Uses.{Names}
 use Rattle.member_uses.specs.Laws.{Knows}
-use Rattle.run_laws.specs.Reading.{FileAt, OnePathEach}
-use Rattle.run_laws.proofs.RunsRead.{texts_other}
+use Rattle.splice_laws.specs.RunLaws.Reading.{FileAt, OnePathEach}
+use Rattle.splice_laws.proofs.RunLaws.RunsRead.{texts_other}
 use Rattle.run_rules.specs.Inlining.{ReadsAs}
 use Rattle.run_rules.specs.Marks.{text_at}
 use Rattle.run_rules.specs.Programs.{package_number}

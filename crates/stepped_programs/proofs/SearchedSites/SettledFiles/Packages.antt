@@ -4,16 +4,16 @@ use Rattle.std.specs.Prelude.{slice_get}
 use Rattle.std.proofs.lemmas.Option.{same_Some}
 use Rattle.go_tree.specs.declared.spans.Span.{Span}
 use Rattle.go_tree.specs.File.{ImportSpec, File}
-use Rattle.scope_names.specs.Means.{Environment}
+use Rattle.go_tree.specs.ScopeNames.Means.{Environment}
 use Rattle.pkg_graph.specs.Package.{SourceTree, Package}
 use Rattle.pkg_graph.specs.Members.{Target, decls_from, files_from, package_block, name_or, package_name, import_name}
-use Rattle.go_types.specs.Answers.{given}
+use Rattle.go_tree.specs.GoTypes.Answers.{given}
 use Rattle.run_rules.specs.Programs.{number_from, package_number}
 use Rattle.run_rules.specs.Respanned.{package_with, packages_with}
 use Rattle.run_rules.specs.Run.{Standing, Logged, Next, here_of, origin_of, is_commented}
 use Rattle.run_rules.specs.Sites.{MarkRef, Site, part_span, members_in, member_of}
 use Rattle.run_rules.specs.Steps.{At, same_here, change_nth, changes_for, new_decls}
-use Rattle.run_laws.proofs.FoundSpans.{Placed, FoundIn, found_in}
+use Rattle.splice_laws.proofs.RunLaws.FoundSpans.{Placed, FoundIn, found_in}
 use Rattle.use_search.proofs.UsesOfMarks.BlocksStay.{block_stays}
 use Rattle.module_marks.specs.Tables.{blocks_from, blocks_of}
 use Rattle.stepped_programs.proofs.SearchedSites.SettledFiles.Named.{decls_stay, decls_kept}

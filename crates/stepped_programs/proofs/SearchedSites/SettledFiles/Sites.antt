@@ -8,10 +8,10 @@ use Rattle.constant_forms.specs.declared.uses.ConstantValue.{ConstantValue}
 use Rattle.constant_forms.specs.declared.uses.ConstantValue.TheVariants as lent
 use Rattle.constant_forms.specs.Views.{obstacle_of}
 use Rattle.stepped_programs.specs.SearchedSites.KeptUses.Laws.{AreToldAlike, KeptUsesStay}
-use Rattle.mark_values.specs.declared.values.DeclaredValue.{DeclaredValue}
-use Rattle.mark_values.specs.declared.values.DeclaredValue.TheVariants.{Plain, Qualified}
-use Rattle.mark_values.specs.Tables.{value_in}
-use Rattle.mark_values.specs.Values.{value_of}
+use Rattle.use_search.specs.declared.mark_values.values.DeclaredValue.{DeclaredValue}
+use Rattle.use_search.specs.declared.mark_values.values.DeclaredValue.TheVariants.{Plain, Qualified}
+use Rattle.use_search.specs.MarkValues.Tables.{value_in}
+use Rattle.use_search.specs.MarkValues.Values.{value_of}
 use Rattle.use_search.specs.declared.uses_of_marks.uses.MarkedUse.{MarkedUse}
 use Rattle.use_search.specs.UsesOfMarks.Laws.{EachSite, IsPlaced, placed_site}
 use Rattle.use_search.specs.UsesOfMarks.Uses.{PlacedMark, decls_uses}

@@ -3,10 +3,10 @@ use Rattle.std.proofs.Common.{◌≡◌, ◌⊎◌, inl, inr, ◌∙◌, refl, s
 use Rattle.std.specs.Prelude.{slice_get}
 use Rattle.std.proofs.lemmas.Option.{none-some}
 use Rattle.go_tree.specs.declared.spans.Span.{Span}
-use Rattle.go_types.specs.Answers.{given}
+use Rattle.go_tree.specs.GoTypes.Answers.{given}
 use Rattle.stepped_programs.specs.SearchedSites.KeptUses.Laws.{KeptUsesStay}
-use Rattle.mark_values.specs.declared.values.DeclaredValue.{DeclaredValue}
-use Rattle.mark_values.specs.Tables.{Known, DeclKey, key_of, values_at}
+use Rattle.use_search.specs.declared.mark_values.values.DeclaredValue.{DeclaredValue}
+use Rattle.use_search.specs.MarkValues.Tables.{Known, DeclKey, key_of, values_at}
 use Rattle.use_search.specs.UsesOfMarks.Laws.{EachSite, IsPlaced, placed_sites, MarkedUsesAreSites, UsesArePlaced}
 use Rattle.use_search.specs.UsesOfMarks.Uses.{PlacedMark, decls_uses}
 use Rattle.use_search.proofs.UsesOfMarks.BlocksStay.{member_stays}
@@ -14,7 +14,7 @@ use Rattle.member_uses.specs.Uses.{Names}
 use Rattle.module_marks.specs.Views.{mark_ref_of}
 use Rattle.package_search.specs.Search.{is_settled}
 use Rattle.pkg_graph.specs.Package.{SourceTree, Package}
-use Rattle.run_laws.specs.Reading.{OnePathEach}
+use Rattle.splice_laws.specs.RunLaws.Reading.{OnePathEach}
 use Rattle.run_rules.specs.Programs.{numbered}
 use Rattle.run_rules.specs.Respanned.{decls_with, packages_with}
 use Rattle.run_rules.specs.Run.{Standing, Logged, Next, here_of}

@@ -4,11 +4,11 @@ use Rattle.go_tree.specs.Tree.{NameAt, named, const_decl, var_decl, Expr, ident,
 use Rattle.go_tree.specs.File.{TypeSpec, Receiver, Func, Decl, values, types, func, File}
 use Rattle.pkg_graph.specs.Package.{Package}
 use Rattle.constant_forms.specs.Views.{name_expr}
-use Rattle.standing_uses.specs.ImportUses.Parts as parts
-use Rattle.standing_uses.specs.ImportUses.Parts.{EachSeen, IsKeyed, IsName, StandsOnce}
-use Rattle.standing_uses.proofs.ImportUses.Stays.{change}
-use Rattle.standing_uses.proofs.ImportUses.Walk.{IsForm, a_form, a_qualified}
-use Rattle.standing_uses.proofs.ImportUses.Once.{is_form}
+use Rattle.typed_parts.specs.StandingUses.ImportUses.Parts as parts
+use Rattle.typed_parts.specs.StandingUses.ImportUses.Parts.{EachSeen, IsKeyed, IsName, StandsOnce}
+use Rattle.typed_parts.proofs.StandingUses.ImportUses.Stays.{change}
+use Rattle.typed_parts.proofs.StandingUses.ImportUses.Walk.{IsForm, a_form, a_qualified}
+use Rattle.typed_parts.proofs.StandingUses.ImportUses.Once.{is_form}
 use Rattle.possible_uses.specs.Among.{Keyed}
 use Rattle.possible_uses.specs.Candidates.{Candidate, plain_part, receiver_part}
 use Rattle.possible_uses.specs.Parts.{after_specs, after_types, after_receiver, after_func, after_decl}

@@ -2,19 +2,19 @@
 use Rattle.std.proofs.Common.{◌≡◌, ◌∙◌, refl, sym, ap, ℕ, Bool, true, false, not, ◌&&◌, List, [], ◌∷◌, ◌++◌, Option, Some, None}
 use Rattle.go_tree.specs.declared.spans.Span.{Span}
 use Rattle.go_tree.specs.Tree.{NameAt, Expr, ident}
-use Rattle.scope_names.specs.Means.{is_blank}
-use Rattle.go_types.specs.Entities.{is_declared_here}
+use Rattle.go_tree.specs.ScopeNames.Means.{is_blank}
+use Rattle.go_tree.specs.GoTypes.Entities.{is_declared_here}
 use Rattle.run_rules.specs.Sites.{an_expr}
 use Rattle.run_rules.specs.Surroundings.{Use, Place, Seen, seen, is_local, is_old}
-use Rattle.standing_uses.specs.ImportUses.Parts as parts
-use Rattle.standing_uses.specs.ImportUses.Parts.{IsName}
-use Rattle.place_meanings.specs.Agreement.{BlockIsLocal}
-use Rattle.place_meanings.specs.Parts.{AtPart, AtParts}
+use Rattle.typed_parts.specs.StandingUses.ImportUses.Parts as parts
+use Rattle.typed_parts.specs.StandingUses.ImportUses.Parts.{IsName}
+use Rattle.splice_laws.specs.PlaceMeanings.Agreement.{BlockIsLocal}
+use Rattle.splice_laws.specs.PlaceMeanings.Parts.{AtPart, AtParts}
 use Rattle.possible_uses.specs.Among.{may_be_use, Follows, at_the_end, past_a_use, past_no_use, past_a_key, past_a_field, past_an_old_name, past_a_type, past_a_statement}
 use Rattle.possible_uses.specs.Candidates.{Candidate, plain_part, key_part}
 use Rattle.possible_uses.specs.Parts.{put}
 use Rattle.order_runs.proofs.RunSteps.SeatedUses.{Among, first, later}
-use Rattle.standing_uses.proofs.LoneUses.Files.{Has, has_here, has_later}
+use Rattle.typed_parts.proofs.StandingUses.LoneUses.Files.{Has, has_here, has_later}
 
 both_true : (x y : Bool) → (x && not y) ≡ true → (x ≡ true) × (y ≡ false)
 both_true true false e = (refl, refl)

@@ -6,11 +6,11 @@ use Rattle.std.proofs.lemmas.Bool.Decides.{nat_tests}
 use Rattle.go_tree.specs.declared.spans.Span.{Span}
 use Rattle.go_tree.specs.Tree.{NameAt, Expr, ident, int_lit, rune_lit, str_lit, composite, selector, index, slice, call, func_lit, type_operand, unary, binary, star}
 use Rattle.go_tree.specs.File.{Decl}
-use Rattle.go_words.specs.Terminals.{lexemes}
-use Rattle.scope_names.specs.Means.{or_else}
-use Rattle.scope_names.specs.Scopes.{expr_span}
+use Rattle.go_tree.specs.GoWords.Terminals.{lexemes}
+use Rattle.go_tree.specs.ScopeNames.Means.{or_else}
+use Rattle.go_tree.specs.ScopeNames.Scopes.{expr_span}
 use Rattle.import_rules.specs.Removed.{same_span}
-use Rattle.go_types.specs.Answers.{given}
+use Rattle.go_tree.specs.GoTypes.Answers.{given}
 use Rattle.run_rules.specs.Inlining.{ReadsAs}
 use Rattle.run_rules.specs.Programs.{decl_seen}
 use Rattle.run_rules.specs.Respanned.{decl_with, decls_with, expr_with, file_with}
@@ -19,12 +19,12 @@ use Rattle.run_rules.specs.Sites.{MarkRef, Part, an_expr, a_type_part, a_constan
 use Rattle.run_rules.specs.Steps.{At}
 use Rattle.run_rules.specs.Surroundings.{Place, Seen, seen}
 use Rattle.run_rules.specs.Texts.{FileText}
-use Rattle.standing_uses.specs.ImportUses.Parts as parts
-use Rattle.standing_uses.specs.ImportUses.Parts.{IsName}
+use Rattle.typed_parts.specs.StandingUses.ImportUses.Parts as parts
+use Rattle.typed_parts.specs.StandingUses.ImportUses.Parts.{IsName}
 use Rattle.member_uses.proofs.Stays.{candidate_with, after_decl-stays}
-use Rattle.place_meanings.specs.Agreement.{BlockIsLocal}
-use Rattle.place_meanings.specs.Parts.{AllScoped}
-use Rattle.place_meanings.proofs.PlacesMean.{blocks_local}
+use Rattle.splice_laws.specs.PlaceMeanings.Agreement.{BlockIsLocal}
+use Rattle.splice_laws.specs.PlaceMeanings.Parts.{AllScoped}
+use Rattle.splice_laws.proofs.PlaceMeanings.PlacesMean.{blocks_local}
 use Rattle.possible_uses.specs.Among.{Keyed}
 use Rattle.possible_uses.specs.Candidates.{Candidate}
 use Rattle.possible_uses.specs.Laws.{PartsAreAmongAll}
@@ -33,12 +33,12 @@ use Rattle.order_runs.proofs.RunSteps.SeatedUses.{Among, Seated, sites-seated}
 use Rattle.order_runs.proofs.RunSteps.SpanPlaces.{DeclIn, DeclsIn}
 use Rattle.order_runs.proofs.RunSteps.SpelledPlaces.{front_in}
 use Rattle.order_runs.proofs.RunSteps.TokenPlaces.{Rises, tokens-rise}
-use Rattle.standing_uses.proofs.Named.{constant_named}
-use Rattle.standing_uses.proofs.Once.{nth_in}
+use Rattle.typed_parts.proofs.StandingUses.Named.{constant_named}
+use Rattle.typed_parts.proofs.StandingUses.Once.{nth_in}
 use Rattle.repeated_parts.specs.ImportsUnused.Uses.{all_parts}
-use Rattle.standing_uses.specs.LoneUses.Alone.{span_named, IsElsewhere, AreElsewhere, StandsAlone}
-use Rattle.standing_uses.specs.LoneUses.Alone as alone
-use Rattle.standing_uses.proofs.LoneUses.Files.{Has, has_here, has_later, front_follows, alone_in_one, alone_in_all}
+use Rattle.typed_parts.specs.StandingUses.LoneUses.Alone.{span_named, IsElsewhere, AreElsewhere, StandsAlone}
+use Rattle.typed_parts.specs.StandingUses.LoneUses.Alone as alone
+use Rattle.typed_parts.proofs.StandingUses.LoneUses.Files.{Has, has_here, has_later, front_follows, alone_in_one, alone_in_all}
 use Rattle.programs.specs.OriginsOfUses.Origins.{named_span, own_origin, first_origin, decls_origin}
 use Rattle.stepped_programs.specs.SearchedSites.ToldOrigins.Laws.{OriginsAreTold, part_origins, decls_origins}
 use Rattle.stepped_programs.proofs.SearchedSites.ToldOrigins.Parts.{comes_in, use_like, is_new, one_part}

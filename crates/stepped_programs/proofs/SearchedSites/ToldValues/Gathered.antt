@@ -10,7 +10,7 @@ use Rattle.go_tree.specs.FileView.{decl_of}
 use Rattle.pkg_graph.specs.Package.{Package}
 use Rattle.pkg_graph.specs.Views.{package_view}
 use Rattle.pkg_graph.specs.declared.packages.Package as code
-use Rattle.go_types.specs.Answers.{given}
+use Rattle.go_tree.specs.GoTypes.Answers.{given}
 use Rattle.run_rules.specs.Sites.{MarkRef, Where, a_constant, is_among_marks, inlinable_in}
 use Rattle.run_rules.specs.Respanned.{expr_with, decl_with, packages_with}
 use Rattle.run_rules.specs.Steps.{At}
@@ -18,16 +18,16 @@ use Rattle.run_rules.specs.Run.{here_of}
 use Rattle.member_uses.specs.Uses.{Names}
 use Rattle.member_uses.specs.Views.{names_in}
 use Rattle.member_uses.specs.declared.names.FileScopes.{FileScopes}
-use Rattle.place_meanings.specs.Agreement.{AgreesAt}
-use Rattle.place_meanings.proofs.PlacesMean.{places_mean}
-use Rattle.mark_values.specs.declared.values.DeclaredValue.{DeclaredValue}
-use Rattle.mark_values.specs.declared.marked.PackageScopes.{PackageScopes}
-use Rattle.mark_values.specs.Values.{expr_value, decl_values}
-use Rattle.mark_values.specs.Tables.{key_of, Known, value_in, decl_at, file_at, known_at, AreValuesOf}
-use Rattle.mark_values.specs.Laws.{IsDeclared}
-use Rattle.mark_values.proofs.Written.{IsWritten, decl_formed}
-use Rattle.mark_values.proofs.Own.{in_decl, of_decl}
-use Rattle.mark_values.proofs.Viewed.{as_read, as_it_stands, of_mark}
+use Rattle.splice_laws.specs.PlaceMeanings.Agreement.{AgreesAt}
+use Rattle.splice_laws.proofs.PlaceMeanings.PlacesMean.{places_mean}
+use Rattle.use_search.specs.declared.mark_values.values.DeclaredValue.{DeclaredValue}
+use Rattle.use_search.specs.declared.mark_values.marked.PackageScopes.{PackageScopes}
+use Rattle.use_search.specs.MarkValues.Values.{expr_value, decl_values}
+use Rattle.use_search.specs.MarkValues.Tables.{key_of, Known, value_in, decl_at, file_at, known_at, AreValuesOf}
+use Rattle.use_search.specs.MarkValues.Laws.{IsDeclared}
+use Rattle.use_search.proofs.MarkValues.Written.{IsWritten, decl_formed}
+use Rattle.use_search.proofs.MarkValues.Own.{in_decl, of_decl}
+use Rattle.use_search.proofs.MarkValues.Viewed.{as_read, as_it_stands, of_mark}
 
 -- a tree whose nodes stand where another has them
 value_stays : (f : Names) (e : Expr At) → expr_value (λ s. s) f (expr_with here_of e) ≡ expr_value here_of f e

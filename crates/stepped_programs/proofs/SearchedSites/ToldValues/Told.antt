@@ -5,7 +5,7 @@ use Rattle.std.proofs.lemmas.Option.{same_Some, slice_get_within}
 use Rattle.go_tree.specs.Tree.{NameAt, Expr, ident, selector}
 use Rattle.scope_tables.specs.Table.{meaning_in}
 use Rattle.pkg_graph.specs.Package.{Package}
-use Rattle.go_types.specs.Answers.{given}
+use Rattle.go_tree.specs.GoTypes.Answers.{given}
 use Rattle.run_rules.specs.Programs.{top_place}
 use Rattle.run_rules.specs.Naming.{unnamed_package}
 use Rattle.run_rules.specs.Sites.{Where, qualifier}
@@ -16,12 +16,12 @@ use Rattle.constant_forms.specs.declared.uses.ConstantValue.TheVariants as lent
 use Rattle.constant_forms.specs.Uses.{IsQualified, IsValue}
 use Rattle.member_uses.specs.Uses.{Names, import_at}
 use Rattle.member_uses.specs.Views.{names_in}
-use Rattle.mark_values.specs.declared.values.DeclaredValue.{DeclaredValue}
-use Rattle.mark_values.specs.declared.values.DeclaredValue.TheVariants.{Plain, Qualified}
-use Rattle.mark_values.specs.Tables.{value_in}
-use Rattle.mark_values.specs.Laws.{Tells, TablesTellValues}
-use Rattle.mark_values.specs.Values.{expr_value}
-use Rattle.mark_values.proofs.Written.{IsWritten}
+use Rattle.use_search.specs.declared.mark_values.values.DeclaredValue.{DeclaredValue}
+use Rattle.use_search.specs.declared.mark_values.values.DeclaredValue.TheVariants.{Plain, Qualified}
+use Rattle.use_search.specs.MarkValues.Tables.{value_in}
+use Rattle.use_search.specs.MarkValues.Laws.{Tells, TablesTellValues}
+use Rattle.use_search.specs.MarkValues.Values.{expr_value}
+use Rattle.use_search.proofs.MarkValues.Written.{IsWritten}
 use Rattle.put_names.specs.Uses.{IsDeclaredAsName, as_name, as_member}
 use Rattle.stepped_programs.specs.SearchedSites.Told.{IsWithin, IsToldValue}
 use Rattle.stepped_programs.specs.SearchedSites.ToldValues.Laws.{ValuesAreTold}

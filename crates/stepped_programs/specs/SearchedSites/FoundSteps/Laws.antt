@@ -29,7 +29,7 @@ use Rattle.package_search.specs.declared.search.FoundInPackage.{FoundInPackage}
 use Rattle.run_by_steps.specs.Reached.{HasReached, IsNextUse, row_of}
 use Rattle.run_by_steps.specs.RunProgress.Laws.{HasCome}
 use Rattle.stepped_programs.specs.SearchedSites.Searched.{found_of}
-use Rattle.marked_runs.specs.SettledConstants.Programs.{IsReady}
+use Rattle.typed_parts.specs.MarkedRuns.SettledConstants.Programs.{IsReady}
 use Rattle.use_search.specs.declared.views.FileView.{FileView}
 use Rattle.stepped_programs.specs.SearchedSites.OrderedSearches.Found.{IsFoundFirst, IsStepFound}
 use Rattle.stepped_programs.specs.SearchedSites.FoundSteps.Uses.{IsRightUse, HasFile, MayBeMade}

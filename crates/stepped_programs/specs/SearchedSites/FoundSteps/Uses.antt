@@ -5,7 +5,7 @@ use Rattle.go_tree.specs.Tree.{Expr}
 use Rattle.go_tree.specs.FileView.{file_of}
 use Rattle.go_scan.specs.TokenLists.{TokenLists}
 use Rattle.import_rules.specs.Laid.{CommentsAscend, Laid}
-use Rattle.cycle_runs.specs.OrderCycles.NewNames.{FewNames}
+use Rattle.order_runs.specs.CycleRuns.OrderCycles.NewNames.{FewNames}
 use Rattle.run_rules.specs.Laws.{LiesBehindImports}
 use Rattle.run_rules.specs.Marks.{text_at}
 use Rattle.run_rules.specs.Respanned.{file_with}
@@ -15,12 +15,12 @@ use Rattle.run_rules.specs.Steps.{At, Found}
 use Rattle.run_rules.specs.Texts.{FileText}
 use Rattle.constant_forms.specs.declared.reduced.ConstantForm.{ConstantForm}
 use Rattle.package_search.specs.declared.search.FoundInPackage.{FoundInPackage}
-use Rattle.standing_uses.specs.Laws.{AreTyped}
+use Rattle.typed_parts.specs.StandingUses.Laws.{AreTyped}
 use Rattle.use_search.specs.declared.views.FileView.{FileView}
 use Rattle.stepped_programs.specs.SearchedSites.OrderedSearches.Found.{HasTables}
 
--- The use that becomes this form, in a file with this text: it is an expression; the names to avoid are fewer than 2^64;
--- and its file is typed before the step and with the form in its place.
+-- The use that becomes this form, in a file with this text: it is an expression; the names to avoid are fewer than
+-- 2^64; and its file is typed before the step and with the form in its place.
 pub record IsRightUse
     (marks : List MarkRef) (st : Standing) (f : Found At) (old : FileText) (form : ConstantForm) : Type 0 where
   pub expr : Expr At

@@ -14,7 +14,7 @@ use Rattle.run_rules.specs.Run.{Standing, here_of, is_commented, step_in}
 use Rattle.constant_forms.specs.declared.uses.ConstantUse.{ConstantUse}
 use Rattle.constant_forms.specs.Uses.{IsUse}
 use Rattle.file_tables.specs.declared.tables.FileTables.{FileTables}
-use Rattle.mark_values.specs.Values.{value_of}
+use Rattle.use_search.specs.MarkValues.Values.{value_of}
 use Rattle.package_search.specs.declared.looks.ProgramSources.{ProgramSources}
 use Rattle.package_search.specs.declared.search.FoundInPackage.{FoundInPackage}
 use Rattle.stepped_programs.specs.SearchedSites.Searched.{found_of, IsFree}

@@ -1,6 +1,7 @@
 -- What the code has of a program as it stands (Go specification, Packages; Source file organization; Constant
 -- declarations; Declarations and scope).
-use Rattle.std.specs.Prelude.{◌≡◌, ℕ, ◌<◌, ◌^◌, true, Bool, List, [], ◌∷◌, map, length, Some, None, slice_get}
+use Rattle.std.specs.Prelude.{◌≡◌, ℕ, ◌<◌, ◌^◌, true, Bool, List, [], ◌∷◌, map, length, Some}
+use Rattle.std.specs.Prelude.{None, slice_get}
 use Rattle.go_tree.specs.Tree.{NameAt, Expr}
 use Rattle.go_scan.specs.TokenLists.{TokenLists}
 use Rattle.import_rules.specs.Needs.{avoided}
@@ -14,12 +15,12 @@ use Rattle.run_rules.specs.Respanned.{file_with, packages_with}
 use Rattle.run_rules.specs.Steps.{At}
 use Rattle.run_rules.specs.Run.{Standing, here_of}
 use Rattle.run_rules.specs.Inlining.{ReadsAs}
-use Rattle.form_imports.specs.ImportLaws.Steps.{names_standing}
+use Rattle.splice_laws.specs.FormImports.ImportLaws.Steps.{names_standing}
 use Rattle.member_uses.specs.Uses.{Names}
 use Rattle.member_uses.specs.Laws.{AllConstants, Knows}
 use Rattle.module_marks.specs.Tables.{IsTableOf}
 use Rattle.module_marks.specs.Views.{mark_ref_of}
-use Rattle.mark_values.specs.Tables.{DeclKey, key_of, value_in}
+use Rattle.use_search.specs.MarkValues.Tables.{DeclKey, key_of, value_in}
 use Rattle.use_search.specs.UsesOfMarks.Laws.{EachSound}
 use Rattle.package_search.specs.declared.looks.ProgramSources.{ProgramSources}
 use Rattle.package_search.specs.Search.{is_settled}

@@ -3,7 +3,7 @@
 use Rattle.std.specs.Prelude.{◌≤◌, List}
 use Rattle.use_search.specs.UsesOfMarks.Laws.{EachSound}
 use Rattle.member_uses.specs.Uses.{Names}
-use Rattle.run_laws.specs.Reading.{ProgramReads, OnePathEach}
+use Rattle.splice_laws.specs.RunLaws.Reading.{ProgramReads, OnePathEach}
 use Rattle.run_rules.specs.Run.{Standing, texts_size, the_limits}
 use Rattle.run_rules.specs.Sites.{MarkRef, Where}
 use Rattle.run_rules.specs.Steps.{At}

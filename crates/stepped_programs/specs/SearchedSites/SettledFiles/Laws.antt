@@ -4,15 +4,15 @@ use Rattle.std.specs.Prelude.{◌≡◌, ℕ, Bool, true, List, Option, Some, No
 use Rattle.go_scan.specs.TokenLists.{TokenLists}
 use Rattle.pkg_graph.specs.Package.{Package}
 use Rattle.pkg_graph.specs.Members.{package_block}
-use Rattle.form_imports.specs.ImportLaws.Steps.{names_standing}
-use Rattle.mark_values.specs.declared.values.DeclaredValue.{DeclaredValue}
-use Rattle.mark_values.specs.Tables.{Known, DeclKey, same_key, IsPut}
+use Rattle.splice_laws.specs.FormImports.ImportLaws.Steps.{names_standing}
+use Rattle.use_search.specs.declared.mark_values.values.DeclaredValue.{DeclaredValue}
+use Rattle.use_search.specs.MarkValues.Tables.{Known, DeclKey, same_key, IsPut}
 use Rattle.member_uses.specs.Uses.{Names}
 use Rattle.member_uses.specs.Laws.{Knows}
 use Rattle.module_marks.specs.declared.table.MarkTable.{MarkTable}
 use Rattle.module_marks.specs.Tables.{IsTableOf}
 use Rattle.package_search.specs.declared.looks.ProgramSources.{ProgramSources}
-use Rattle.run_laws.specs.Reading.{OnePathEach}
+use Rattle.splice_laws.specs.RunLaws.Reading.{OnePathEach}
 use Rattle.run_rules.specs.Respanned.{file_with, packages_with}
 use Rattle.run_rules.specs.Run.{Standing, Logged, Next, here_of}
 use Rattle.run_rules.specs.Sites.{MarkRef, Where, Site}
@@ -22,8 +22,10 @@ use Rattle.stepped_programs.specs.SearchedSites.Told.{IsProgram, IsFile}
 use Rattle.use_search.specs.declared.search.FoundObstacle.{FoundObstacle}
 use Rattle.use_search.specs.declared.views.FileView.{FileView}
 use Rattle.use_search.specs.declared.views.ProgramView.{ProgramView}
-use Rattle.stepped_programs.specs.SearchedSites.OrderedSearches.Held.{IsThere, IsSearchable, IsHeld, Users, flag_of, AreAllSettled}
-use Rattle.stepped_programs.specs.SearchedSites.SettledFiles.Left.{IsLeft, TellTheSame, AreSameBut, TellOthersTheSame, UseNoneOf, FoundNoneOf, KeepOthers, MayStaySet}
+use Rattle.stepped_programs.specs.SearchedSites.OrderedSearches.Held.{IsThere, IsSearchable, IsHeld, Users, flag_of}
+use Rattle.stepped_programs.specs.SearchedSites.OrderedSearches.Held.{AreAllSettled}
+use Rattle.stepped_programs.specs.SearchedSites.SettledFiles.Left.{IsLeft, TellTheSame, AreSameBut, TellOthersTheSame}
+use Rattle.stepped_programs.specs.SearchedSites.SettledFiles.Left.{UseNoneOf, FoundNoneOf, KeepOthers, MayStaySet}
 
 -- A step leaves the block of each package.
 abbrev pub BlocksStay : Type 0

@@ -3,7 +3,7 @@ use Rattle.std.specs.Prelude.{◌≡◌, ℕ, Bool, true, false, List, [], ◌�
 use Rattle.pkg_graph.specs.Package.{Package}
 use Rattle.run_rules.specs.Sites.{MarkRef, Where, Site, is_among_marks}
 use Rattle.run_rules.specs.Steps.{At, Found}
-use Rattle.mark_values.specs.Tables.{Known, DeclKey, key_of, values_at, value_in}
+use Rattle.use_search.specs.MarkValues.Tables.{Known, DeclKey, key_of, values_at, value_in}
 use Rattle.use_search.specs.UsesOfMarks.Laws.{EachSite}
 use Rattle.module_marks.specs.Views.{mark_ref_of}
 use Rattle.use_search.specs.declared.search.FoundObstacle.{FoundObstacle}

@@ -5,7 +5,7 @@ use Rattle.go_tree.specs.Tree.{NameAt, Expr, ident}
 use Rattle.go_tree.specs.File.{Decl, File}
 use Rattle.pkg_graph.specs.Package.{Package}
 use Rattle.constant_forms.specs.Views.{name_expr}
-use Rattle.standing_uses.specs.ImportUses.Parts.{EachSeen, IsName, StandsOnce}
+use Rattle.typed_parts.specs.StandingUses.ImportUses.Parts.{EachSeen, IsName, StandsOnce}
 use Rattle.possible_uses.specs.Among.{Keyed}
 use Rattle.possible_uses.specs.Candidates.{Candidate}
 use Rattle.possible_uses.specs.Parts.{parts_of}
@@ -21,8 +21,8 @@ use Rattle.stepped_programs.specs.SearchedSites.SwappedParts.Swaps.{PartsSwap, H
 abbrev pub IsNoOld : Place At → Expr At → Type 0
 IsNoOld p e = (n : NameAt At) → e ≡ ident n.span n.name → is_old p n ≡ true → ⊥
 
--- With a name that stands at one node, in the place of a use that stands once at its span and without a dot behind it, the
--- parts of the declaration are swapped, where keys of struct literals are names.
+-- With a name that stands at one node, in the place of a use that stands once at its span and without a dot behind it,
+-- the parts of the declaration are swapped, where keys of struct literals are names.
 abbrev pub StepsSwapParts : Type 0
 StepsSwapParts =
     (ps : List (Package At)) (w : Where At) (d : Decl At) (p : Place At) (e : Expr At) (z at : At)

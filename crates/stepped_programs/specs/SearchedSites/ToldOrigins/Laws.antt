@@ -4,7 +4,7 @@ use Rattle.std.specs.Prelude.{◌≡◌, ◌<◌, List, map, Some, Contains, sli
 use Rattle.go_tree.specs.declared.spans.Span.{Span}
 use Rattle.go_tree.specs.Tree.{NameAt, Expr}
 use Rattle.go_tree.specs.File.{Decl}
-use Rattle.place_meanings.specs.Parts.{AllScoped}
+use Rattle.splice_laws.specs.PlaceMeanings.Parts.{AllScoped}
 use Rattle.possible_uses.specs.Among.{Keyed}
 use Rattle.possible_uses.specs.Parts.{parts_of}
 use Rattle.run_rules.specs.Inlining.{ReadsAs}
@@ -25,8 +25,8 @@ abbrev pub decls_origins : List (Decl At) → List (List Span)
 decls_origins ds = map part_origins ds
 
 -- Of a use of a constant that is an expression and has a byte it is told where it comes from, by where it stands, in a
--- declaration as typing asks: literals of functions have types and no `for` declares a variable behind its test, and keys
--- of struct literals are names.
+-- declaration as typing asks: literals of functions have types and no `for` declares a variable behind its test, and
+-- keys of struct literals are names.
 abbrev pub OriginsAreTold : Type 0
 OriginsAreTold =
     (marks : List MarkRef) (st : Standing) (x : Site At) (old : FileText) (d : Decl At) (c : NameAt At) (v e : Expr At)

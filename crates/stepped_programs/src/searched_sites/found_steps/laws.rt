@@ -1,11 +1,13 @@
 //! Laws of the steps over uses that searches find.
 
-ghost use Rattle.stepped_programs.specs.SearchedSites.FoundSteps.Laws.{FileStepsAreRead, FileStepsGoOn, FileStepsPassLimits, FoundUsesAreSteps};
-ghost use Rattle.stepped_programs.specs.SearchedSites.FoundSteps.Laws.{FoundUsesComeNext, SearchesEndRuns, StepsMayBeMade};
+ghost use Rattle.stepped_programs.specs.SearchedSites.FoundSteps.Laws.{FileStepsAreRead, FileStepsGoOn};
+ghost use Rattle.stepped_programs.specs.SearchedSites.FoundSteps.Laws.{FileStepsPassLimits, FoundUsesAreSteps};
+ghost use Rattle.stepped_programs.specs.SearchedSites.FoundSteps.Laws.{FoundUsesComeNext, SearchesEndRuns};
+ghost use Rattle.stepped_programs.specs.SearchedSites.FoundSteps.Laws.{StepsMayBeMade};
 
-use marked_runs::{constants_come_next, forms_of_constants_are_put, values_are_names};
 use run_by_steps::{run_ends, run_goes_on};
-use standing_uses::{
+use typed_parts::marked_runs::{constants_come_next, forms_of_constants_are_put, values_are_names};
+use typed_parts::standing_uses::{
     constant_uses_stand_alone, first_uses_are_told, slots_take_names, steps_may_be_edited,
 };
 

@@ -1,6 +1,7 @@
 //! The laws of programs that are searched.
 
-ghost use Rattle.stepped_programs.specs.SearchedSites.KeptPrograms.Laws.{ProgramsAreOpen, SearchedProgramsStay, SearchesAreOfPackages};
+ghost use Rattle.stepped_programs.specs.SearchedSites.KeptPrograms.Laws.{ProgramsAreOpen, SearchedProgramsStay};
+ghost use Rattle.stepped_programs.specs.SearchedSites.KeptPrograms.Laws.{SearchesAreOfPackages};
 
 /// Where all that is kept of a program is its own, each of its packages may be searched.
 pub fn programs_are_open()

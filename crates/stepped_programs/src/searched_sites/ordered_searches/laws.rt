@@ -1,6 +1,7 @@
 //! Laws of searches over packages.
 
-ghost use Rattle.stepped_programs.specs.SearchedSites.OrderedSearches.Laws.{FilesAreSearched, LooksFindSites, SearchesFindSteps, SearchesSettleFiles};
+ghost use Rattle.stepped_programs.specs.SearchedSites.OrderedSearches.Laws.{FilesAreSearched, LooksFindSites};
+ghost use Rattle.stepped_programs.specs.SearchedSites.OrderedSearches.Laws.{SearchesFindSteps, SearchesSettleFiles};
 
 use crate::searched_sites::{looks_tell_files, searches_find_sites};
 use use_search::uses_are_placed;

@@ -1,6 +1,7 @@
 //! The laws of searches in such files.
 
-ghost use Rattle.stepped_programs.specs.SearchedSites.PrintedSearches.Laws.{PrintedFilesAreSearchable, PrintedFilesAreSound};
+ghost use Rattle.stepped_programs.specs.SearchedSites.PrintedSearches.Laws.{PrintedFilesAreSearchable};
+ghost use Rattle.stepped_programs.specs.SearchedSites.PrintedSearches.Laws.{PrintedFilesAreSound};
 
 use printed_constants::{printed_parts_are_simple, printed_steps_avoid_few_names};
 

@@ -1,7 +1,9 @@
 //! Laws of files that steps leave as they are.
 
-ghost use Rattle.stepped_programs.specs.SearchedSites.SettledFiles.Laws.{BlocksStay, FlagsMayStay, FoundUsesTell, KeptFilesStay, NamesStay};
-ghost use Rattle.stepped_programs.specs.SearchedSites.SettledFiles.Laws.{OtherMarksStay, OtherValuesStay, PutsChangeOne, TablesStay};
+ghost use Rattle.stepped_programs.specs.SearchedSites.SettledFiles.Laws.{BlocksStay, FlagsMayStay, FoundUsesTell};
+ghost use Rattle.stepped_programs.specs.SearchedSites.SettledFiles.Laws.{KeptFilesStay, NamesStay};
+ghost use Rattle.stepped_programs.specs.SearchedSites.SettledFiles.Laws.{OtherMarksStay, OtherValuesStay};
+ghost use Rattle.stepped_programs.specs.SearchedSites.SettledFiles.Laws.{PutsChangeOne, TablesStay};
 
 use crate::searched_sites::kept_uses_stay;
 use use_search::{marked_uses_are_sites, uses_are_placed};

@@ -1,7 +1,7 @@
 -- The spellings are literals.
 use Rattle.std.proofs.Common.{refl}
 use Rattle.std.specs.Char.{encode_utf8}
-use Rattle.go_words.specs.Tokens.Literals.{int_lit, rune_lit}
+use Rattle.go_tree.specs.GoWords.Tokens.Literals.{int_lit, rune_lit}
 use Rattle.unit_tests.proofs.Recognised.{integer_literal, rune_literal}
 use Rattle.unit_tests.proofs.values.numbers_are_spelled.Goals as goal
 

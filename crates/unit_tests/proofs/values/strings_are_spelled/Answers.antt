@@ -1,7 +1,7 @@
 -- The spellings are literals.
 use Rattle.std.proofs.Common.{refl}
 use Rattle.std.specs.Char.{encode_utf8}
-use Rattle.go_words.specs.Tokens.Literals.{string_lit}
+use Rattle.go_tree.specs.GoWords.Tokens.Literals.{string_lit}
 use Rattle.unit_tests.proofs.Recognised.{string_literal}
 use Rattle.unit_tests.proofs.values.strings_are_spelled.Goals as goal
 

@@ -1,10 +1,10 @@
 use Rattle.std.proofs.Common.{List, OnOk, ◌∷◌, map, subst, sym}
-use Rattle.const_eval.specs.declared.consts.Const.{Const}
+use Rattle.go_tree.specs.declared.const_eval.consts.Const.{Const}
 use Rattle.go_tree.specs.View.{name_at_of}
-use Rattle.go_types.specs.Entities as go
-use Rattle.scope_names.specs.FreeNames.{names_of}
-use Rattle.scope_names.specs.Means.{binding}
-use Rattle.type_relations.specs.Environment.{Environment}
+use Rattle.go_tree.specs.GoTypes.Entities as go
+use Rattle.go_tree.specs.ScopeNames.FreeNames.{names_of}
+use Rattle.go_tree.specs.ScopeNames.Means.{binding}
+use Rattle.type_table.specs.TypeRelations.Environment.{Environment}
 use Rattle.typed_names.specs.Meanings.{Names, entity_at}
 use Rattle.control_steps.specs.LocalBlocks.Places.{IsPlace}
 use Rattle.control_steps.specs.DeclarationSteps.Entities.{binds_at}

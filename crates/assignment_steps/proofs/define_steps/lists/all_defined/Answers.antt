@@ -2,10 +2,10 @@ use Rattle.std.proofs.Common.{◌∙◌, ◌+◌, ap, arith, drop, map, subst, s
 use Rattle.std.proofs.lemmas.List.{length-map}
 use Rattle.go_tree.specs.declared.texts.NameAt.{NameAt}
 use Rattle.go_tree.specs.View.{name_at_of}
-use Rattle.scope_names.specs.FreeNames.{names_of}
-use Rattle.type_relations.specs.Environment.{defined_types}
+use Rattle.go_tree.specs.ScopeNames.FreeNames.{names_of}
+use Rattle.type_table.specs.TypeRelations.Environment.{defined_types}
 use Rattle.operand_rules.specs.Values.{typed_of}
-use Rattle.access_rules.proofs.CallLemmas.{value_item}
+use Rattle.operator_rules.proofs.AccessRules.CallLemmas.{value_item}
 use Rattle.assignment_steps.specs.DefineSteps.Defined.{DefinedSoFar, one_defined}
 use Rattle.assignment_steps.proofs.DefineSteps.DefineLemmas.{all_ended, defined_start, one_more, one_refused, unequal}
 use Rattle.assignment_steps.proofs.define_steps.lists.all_defined.Goals as goal

@@ -1,9 +1,9 @@
 use Rattle.std.specs.Prelude.{map}
 use Rattle.std.proofs.Common.{drop}
 use Rattle.go_tree.specs.View.{name_at_of}
-use Rattle.go_types.specs.Entities.{Env}
-use Rattle.scope_names.specs.FreeNames.{names_of}
-use Rattle.type_relations.specs.Environment.{defined_types}
+use Rattle.go_tree.specs.GoTypes.Entities.{Env}
+use Rattle.go_tree.specs.ScopeNames.FreeNames.{names_of}
+use Rattle.type_table.specs.TypeRelations.Environment.{defined_types}
 use Rattle.operand_rules.specs.Values.{typed_of}
 use Rattle.control_steps.specs.LocalBlocks.Places.{IsPlace}
 use Rattle.assignment_steps.specs.DefineSteps.Defined.{DefinedSoFar, one_defined}

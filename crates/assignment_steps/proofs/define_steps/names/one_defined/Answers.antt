@@ -1,8 +1,8 @@
 use Rattle.std.proofs.Common.{◌∙◌, IfSome, Some, ap, subst, sym}
-use Rattle.go_types.specs.Answers.{given}
-use Rattle.go_types.specs.Declarations.{assigns_to}
-use Rattle.scope_names.specs.Means.{means}
-use Rattle.type_relations.specs.Environment.{defined_types}
+use Rattle.go_tree.specs.GoTypes.Answers.{given}
+use Rattle.go_tree.specs.GoTypes.Declarations.{assigns_to}
+use Rattle.go_tree.specs.ScopeNames.Means.{means}
+use Rattle.type_table.specs.TypeRelations.Environment.{defined_types}
 use Rattle.operand_rules.specs.Values.{typed_of}
 use Rattle.typed_names.specs.Meanings.{entity_option}
 use Rattle.operand_answers.specs.Known.{IsEntity}

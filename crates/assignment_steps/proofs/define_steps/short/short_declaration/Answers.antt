@@ -1,10 +1,10 @@
 use Rattle.std.proofs.Common.{◌∙◌, ap, map, subst, sym}
 use Rattle.go_tree.specs.View.{name_at_of}
-use Rattle.go_types.specs.Answers.{given, only_if}
-use Rattle.go_types.specs.Declarations.{defined_by, names_once, some_declared}
-use Rattle.go_types.specs.Entities as go
-use Rattle.scope_names.specs.FreeNames.{names_of}
-use Rattle.type_relations.specs.Environment.{defined_types}
+use Rattle.go_tree.specs.GoTypes.Answers.{given, only_if}
+use Rattle.go_tree.specs.GoTypes.Declarations.{defined_by, names_once, some_declared}
+use Rattle.go_tree.specs.GoTypes.Entities as go
+use Rattle.go_tree.specs.ScopeNames.FreeNames.{names_of}
+use Rattle.type_table.specs.TypeRelations.Environment.{defined_types}
 use Rattle.assignment_steps.specs.DefineSteps.Defined.{GivesShort}
 use Rattle.assignment_steps.proofs.DefineSteps.ShortLemmas.{names_stand}
 use Rattle.assignment_steps.proofs.define_steps.short.short_declaration.Goals as goal

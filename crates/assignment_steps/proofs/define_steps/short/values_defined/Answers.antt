@@ -1,10 +1,10 @@
 use Rattle.std.proofs.Common.{◌∙◌, map, subst, sym}
 use Rattle.go_tree.specs.View.{name_at_of}
-use Rattle.go_types.specs.Declarations.{defined_by}
-use Rattle.scope_names.specs.FreeNames.{names_of}
-use Rattle.type_relations.specs.Environment.{defined_types}
+use Rattle.go_tree.specs.GoTypes.Declarations.{defined_by}
+use Rattle.go_tree.specs.ScopeNames.FreeNames.{names_of}
+use Rattle.type_table.specs.TypeRelations.Environment.{defined_types}
 use Rattle.operand_rules.specs.Values.{typed_of}
-use Rattle.access_rules.specs.Functions.{AreValues}
+use Rattle.operator_rules.specs.AccessRules.Functions.{AreValues}
 use Rattle.control_steps.specs.RightSides.Values.{AreValuesIfOk, GivesValuesAlike}
 use Rattle.assignment_steps.specs.DefineSteps.Defined.{GivesDefined}
 use Rattle.assignment_steps.proofs.DefineSteps.ShortLemmas.{values_lifted, values_refused}

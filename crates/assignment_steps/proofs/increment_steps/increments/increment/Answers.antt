@@ -1,7 +1,7 @@
 use Rattle.std.proofs.Common.{◌≡◌, ◌∷◌, [], IfOk, Ok, Err, subst}
-use Rattle.go_types.specs.Statements.{one_more, step_op, updates}
-use Rattle.type_relations.specs.Environment.{defined_types}
-use Rattle.access_rules.specs.Places.{place_of}
+use Rattle.go_tree.specs.GoTypes.Statements.{one_more, step_op, updates}
+use Rattle.type_table.specs.TypeRelations.Environment.{defined_types}
+use Rattle.operator_rules.specs.AccessRules.Places.{place_of}
 use Rattle.operand_modes.specs.Operands.{operand_at}
 use Rattle.operand_answers.specs.Located.{GivesAt}
 use Rattle.assignment_steps.proofs.IncrementSteps.StepLemmas.{stepped_lifted, stepped_refused}

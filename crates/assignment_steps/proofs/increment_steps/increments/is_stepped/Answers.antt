@@ -1,7 +1,7 @@
 use Rattle.std.proofs.Common.{◌≡◌, ◌∙◌, ◌∷◌, [], IfOk, Ok, ap, ap₂, subst}
-use Rattle.go_types.specs.Statements.{updates}
-use Rattle.type_relations.specs.Environment.{defined_types}
-use Rattle.access_rules.specs.Places.{place_of}
+use Rattle.go_tree.specs.GoTypes.Statements.{updates}
+use Rattle.type_table.specs.TypeRelations.Environment.{defined_types}
+use Rattle.operator_rules.specs.AccessRules.Places.{place_of}
 use Rattle.operand_modes.specs.declared.modes.Operand.TheVariants.{Single}
 use Rattle.operand_modes.specs.Operands.{operand_at}
 use Rattle.operand_answers.proofs.KeptLemmas.{operand_on, operand_same}

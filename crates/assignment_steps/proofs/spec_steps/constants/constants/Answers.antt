@@ -1,8 +1,8 @@
 use Rattle.std.proofs.Common.{subst, sym}
-use Rattle.go_types.specs.Answers.{given}
-use Rattle.go_types.specs.Declarations.{bind_all, constant_entity}
-use Rattle.go_types.specs.Operands.{all_typed}
-use Rattle.type_relations.specs.Environment.{defined_types}
+use Rattle.go_tree.specs.GoTypes.Answers.{given}
+use Rattle.go_tree.specs.GoTypes.Declarations.{bind_all, constant_entity}
+use Rattle.go_tree.specs.GoTypes.Operands.{all_typed}
+use Rattle.type_table.specs.TypeRelations.Environment.{defined_types}
 use Rattle.operator_rules.specs.Settling.{typed_option}
 use Rattle.operand_modes.specs.Operands.{AreOperands, operands_at}
 use Rattle.operand_answers.specs.Lists.{AreThereIfOk, GivesAll}

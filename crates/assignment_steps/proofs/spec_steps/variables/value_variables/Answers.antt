@@ -1,9 +1,9 @@
 use Rattle.std.proofs.Common.{◌∙◌, map, subst, sym}
-use Rattle.go_types.specs.Declarations.{bind_all, variable_entity}
-use Rattle.type_relations.specs.Environment.{defined_types}
+use Rattle.go_tree.specs.GoTypes.Declarations.{bind_all, variable_entity}
+use Rattle.type_table.specs.TypeRelations.Environment.{defined_types}
 use Rattle.operand_rules.specs.Values.{typed_of}
 use Rattle.operator_rules.specs.Settling.{typed_option}
-use Rattle.access_rules.specs.Functions.{AreValues}
+use Rattle.operator_rules.specs.AccessRules.Functions.{AreValues}
 use Rattle.control_steps.specs.RightSides.Values.{AreValuesIfOk, GivesValuesAlike}
 use Rattle.control_steps.specs.DeclarationSteps.Entities.{GivesBinds}
 use Rattle.assignment_steps.proofs.SpecSteps.SpecLemmas.{values_bound, values_unbound}

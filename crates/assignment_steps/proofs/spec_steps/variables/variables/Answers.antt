@@ -1,5 +1,5 @@
 use Rattle.std.proofs.Common.{subst}
-use Rattle.type_relations.specs.Environment.{defined_types}
+use Rattle.type_table.specs.TypeRelations.Environment.{defined_types}
 use Rattle.assignment_steps.specs.SpecSteps.Specs.{GivesWritten, IsWrittenIfOk}
 use Rattle.assignment_steps.proofs.SpecSteps.SpecLemmas.{no_written_type, values_given, zeros_given}
 use Rattle.assignment_steps.proofs.spec_steps.variables.variables.Goals as goal

@@ -1,7 +1,7 @@
 use Rattle.std.proofs.Common.{◌≡◌, IfOk, map, subst}
-use Rattle.go_types.specs.Statements.{updates}
-use Rattle.type_relations.specs.Environment.{defined_types}
-use Rattle.access_rules.specs.Places.{place_of}
+use Rattle.go_tree.specs.GoTypes.Statements.{updates}
+use Rattle.type_table.specs.TypeRelations.Environment.{defined_types}
+use Rattle.operator_rules.specs.AccessRules.Places.{place_of}
 use Rattle.operand_modes.specs.Operands.{operands_at}
 use Rattle.operand_answers.specs.Lists.{GivesAll}
 use Rattle.assignment_steps.proofs.UpdateSteps.UpdateLemmas.{updates_lifted}

@@ -1,11 +1,11 @@
 use Rattle.std.proofs.Common.{◌≡◌, ◌∙◌, IfOk, Some, ap, subst}
-use Rattle.go_types.specs.Entities as go_entity
-use Rattle.go_types.specs.Operands.{with_value}
-use Rattle.go_types.specs.Operators.{binary_of}
-use Rattle.go_types.specs.Statements.{target_at}
-use Rattle.type_relations.specs.Environment.{defined_types}
-use Rattle.access_rules.specs.declared.places.Place.TheVariants.{Elsewhere}
-use Rattle.access_rules.specs.Places.{place_of}
+use Rattle.go_tree.specs.GoTypes.Entities as go_entity
+use Rattle.go_tree.specs.GoTypes.Operands.{with_value}
+use Rattle.go_tree.specs.GoTypes.Operators.{binary_of}
+use Rattle.go_tree.specs.GoTypes.Statements.{target_at}
+use Rattle.type_table.specs.TypeRelations.Environment.{defined_types}
+use Rattle.operator_rules.specs.declared.access_rules.places.Place.TheVariants.{Elsewhere}
+use Rattle.operator_rules.specs.AccessRules.Places.{place_of}
 use Rattle.operand_modes.specs.Operands.{operand_at}
 use Rattle.operand_answers.proofs.AnswerLemmas.{there_of}
 use Rattle.assignment_steps.proofs.UpdateSteps.UpdateLemmas.{located_self, stores_at, target_kept, target_there, updates_is}

@@ -1,8 +1,8 @@
 use Rattle.std.proofs.Common.{◌∙◌, ap, subst, sym}
-use Rattle.go_types.specs.Answers.{meets}
-use Rattle.go_types.specs.Operands.{typed}
-use Rattle.go_types.specs.Statements.{stores}
-use Rattle.type_relations.specs.Environment.{defined_types}
+use Rattle.go_tree.specs.GoTypes.Answers.{meets}
+use Rattle.go_tree.specs.GoTypes.Operands.{typed}
+use Rattle.go_tree.specs.GoTypes.Statements.{stores}
+use Rattle.type_table.specs.TypeRelations.Environment.{defined_types}
 use Rattle.operand_modes.specs.Operands.{IsOperand, operand_at}
 use Rattle.operand_answers.proofs.AnswerLemmas.{single_is}
 use Rattle.control_steps.proofs.OperandTests.{not_typed}

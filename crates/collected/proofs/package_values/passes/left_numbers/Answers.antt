@@ -1,5 +1,5 @@
 use Rattle.std.proofs.Common.{[], ◌∷◌, ◌++◌, ◌+◌, ◌∙◌, ◌<◌, Bool, add-one, ap, arith, cond, drop, drop-cons, false, length, slice_index_or, sym}
-use Rattle.type_exprs.proofs.NewNames.{drop_all, drop_item}
+use Rattle.typed_names.proofs.TypeExprs.NewNames.{drop_all, drop_item}
 use Rattle.collected.specs.PackageValues.Passes.{left_numbers}
 use Rattle.collected.proofs.PackageValues.LeftLemmas.{left_all, left_more}
 use Rattle.collected.proofs.package_values.passes.left_numbers.Goals.{then-wrong+in_ok-push, else-wrong}

@@ -1,8 +1,8 @@
 use Rattle.std.proofs.Common.{◌≡◌, ◌∙◌, Some, map, subst, sym}
-use Rattle.go_types.specs.Operands.{all_typed, spread}
-use Rattle.type_relations.specs.Environment.{defined_types}
+use Rattle.go_tree.specs.GoTypes.Operands.{all_typed, spread}
+use Rattle.type_table.specs.TypeRelations.Environment.{defined_types}
 use Rattle.operand_rules.specs.Values.{typed_of}
-use Rattle.access_rules.specs.Functions.{AreValues}
+use Rattle.operator_rules.specs.AccessRules.Functions.{AreValues}
 use Rattle.operand_modes.specs.Operands.{operands_at}
 use Rattle.checker_tables.proofs.PartLemmas.{parts_follow}
 use Rattle.composite_steps.proofs.BuiltinSteps.ValueLemmas.{values_refused}

@@ -1,6 +1,6 @@
 use Rattle.std.proofs.Common.{◌∙◌, map, refl, subst, sym}
-use Rattle.go_types.specs.Primary.{cap_call}
-use Rattle.type_relations.specs.Environment.{defined_types}
+use Rattle.go_tree.specs.GoTypes.Primary.{cap_call}
+use Rattle.type_table.specs.TypeRelations.Environment.{defined_types}
 use Rattle.operand_rules.specs.Values.{Gives, content_of, typed_of}
 use Rattle.checker_tables.proofs.PartLemmas.{parts_follow}
 use Rattle.composite_steps.proofs.BuiltinSteps.ArgumentLemmas.{only_is}

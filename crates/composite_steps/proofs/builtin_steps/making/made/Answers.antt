@@ -1,8 +1,8 @@
 use Rattle.std.proofs.Common.{◌∙◌, ◌∷◌, subst}
-use Rattle.go_types.specs.Operands.{a_type}
-use Rattle.go_types.specs.Primary.{make_call}
-use Rattle.type_relations.specs.Environment.{defined_types, env_type}
-use Rattle.access_rules.specs.Functions.{operands_of}
+use Rattle.go_tree.specs.GoTypes.Operands.{a_type}
+use Rattle.go_tree.specs.GoTypes.Primary.{make_call}
+use Rattle.type_table.specs.TypeRelations.Environment.{defined_types, env_type}
+use Rattle.operator_rules.specs.AccessRules.Functions.{operands_of}
 use Rattle.operand_modes.specs.Operands.{GivesOperand, operands_at}
 use Rattle.checker_tables.proofs.PartLemmas.{parts_follow}
 use Rattle.composite_steps.proofs.BuiltinSteps.MakeLemmas.{made_of, made_refused}

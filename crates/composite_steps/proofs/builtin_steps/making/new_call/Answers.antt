@@ -1,7 +1,7 @@
 use Rattle.std.proofs.Common.{◌∙◌, ◌∷◌, [], subst, sym}
-use Rattle.go_types.specs.Operands.{a_type}
-use Rattle.go_types.specs.Primary.{new_call}
-use Rattle.type_relations.specs.Environment.{defined_types, env_type}
+use Rattle.go_tree.specs.GoTypes.Operands.{a_type}
+use Rattle.go_tree.specs.GoTypes.Primary.{new_call}
+use Rattle.type_table.specs.TypeRelations.Environment.{defined_types, env_type}
 use Rattle.operand_modes.specs.Operands.{AreOperands, GivesOperand, operands_at}
 use Rattle.composite_steps.proofs.BuiltinSteps.MakeLemmas.{no_type_new, only_type_is}
 use Rattle.composite_steps.proofs.builtin_steps.making.new_call.Goals as goal

@@ -1,5 +1,5 @@
 use Rattle.std.proofs.Common.{arith}
-use Rattle.access_rules.proofs.CallLemmas.{value_item}
+use Rattle.operator_rules.proofs.AccessRules.CallLemmas.{value_item}
 use Rattle.composite_steps.proofs.builtin_steps.printing.all_printed.Goals as goal
 
 pub is_printed-requires-clause-value : goal.is_printed-requires-clause-value

@@ -1,6 +1,6 @@
 use Rattle.std.proofs.Common.{◌∙◌, map, refl, subst, sym}
-use Rattle.go_types.specs.Primary.{panic_call}
-use Rattle.type_relations.specs.Environment.{defined_types}
+use Rattle.go_tree.specs.GoTypes.Primary.{panic_call}
+use Rattle.type_table.specs.TypeRelations.Environment.{defined_types}
 use Rattle.operand_rules.specs.Values.{typed_of}
 use Rattle.operand_modes.specs.Operands.{GivesOperand}
 use Rattle.composite_steps.proofs.BuiltinSteps.ArgumentLemmas.{only_is}

@@ -1,6 +1,6 @@
 use Rattle.std.proofs.Common.{subst}
 use Rattle.go_tree.specs.View.{stmts_of}
-use Rattle.access_rules.specs.Functions.{types_at}
+use Rattle.operator_rules.specs.AccessRules.Functions.{types_at}
 use Rattle.control_steps.specs.Ends.{EndsAs}
 use Rattle.control_steps.proofs.BodySteps.BodyLemmas.{body_met, body_not_met}
 use Rattle.control_steps.proofs.body_steps.bodies.is_body.Goals as goal

@@ -1,6 +1,6 @@
 use Rattle.std.proofs.Common.{◌≡◌, ◌∙◌, IfSome, None, ap, subst, sym}
-use Rattle.go_types.specs.Declarations.{constant_entity}
-use Rattle.type_relations.specs.Environment.{defined_types}
+use Rattle.go_tree.specs.GoTypes.Declarations.{constant_entity}
+use Rattle.type_table.specs.TypeRelations.Environment.{defined_types}
 use Rattle.operand_rules.specs.declared.values.ValueType.TheVariants.{Typed}
 use Rattle.operand_rules.specs.Values.{IsType, content_of, type_of, typed_of, within}
 use Rattle.operator_rules.specs.Settling.{typed_option}

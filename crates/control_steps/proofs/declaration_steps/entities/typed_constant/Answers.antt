@@ -1,9 +1,9 @@
 use Rattle.std.proofs.Common.{◌∙◌, ◌&&◌, Some, ap, is_some, sym}
-use Rattle.go_types.specs.Answers.{only_if}
-use Rattle.go_types.specs.Defined.{under}
-use Rattle.go_types.specs.Entities as go
-use Rattle.go_types.specs.Types.{basic_kind}
-use Rattle.type_relations.specs.Environment.{defined_types, env_type}
+use Rattle.go_tree.specs.GoTypes.Answers.{only_if}
+use Rattle.go_tree.specs.GoTypes.Defined.{under}
+use Rattle.go_tree.specs.GoTypes.Entities as go
+use Rattle.go_tree.specs.GoTypes.Types.{basic_kind}
+use Rattle.type_table.specs.TypeRelations.Environment.{defined_types, env_type}
 use Rattle.operand_rules.specs.Constants.{const_at}
 use Rattle.control_steps.proofs.DeclarationSteps.EntityLemmas.{constants_there, typed_is}
 use Rattle.control_steps.proofs.declaration_steps.entities.typed_constant.Goals as goal

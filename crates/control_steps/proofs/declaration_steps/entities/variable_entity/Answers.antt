@@ -1,8 +1,8 @@
 use Rattle.std.proofs.Common.{◌≡◌, ◌∙◌, IfSome, Some, ap, subst, sym}
-use Rattle.go_types.specs.Answers.{given}
-use Rattle.go_types.specs.Declarations.{variable_entity}
-use Rattle.go_types.specs.Entities as go
-use Rattle.type_relations.specs.Environment.{defined_types}
+use Rattle.go_tree.specs.GoTypes.Answers.{given}
+use Rattle.go_tree.specs.GoTypes.Declarations.{variable_entity}
+use Rattle.go_tree.specs.GoTypes.Entities as go
+use Rattle.type_table.specs.TypeRelations.Environment.{defined_types}
 use Rattle.operand_rules.specs.declared.values.ValueType.TheVariants.{Typed}
 use Rattle.operand_rules.specs.Values.{IsType, typed_of}
 use Rattle.operator_rules.specs.Settling.{typed_option}

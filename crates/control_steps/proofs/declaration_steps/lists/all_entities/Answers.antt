@@ -1,10 +1,10 @@
 use Rattle.std.proofs.Common.{◌∙◌, ◌+◌, IfSome, ap, arith, drop, map, subst, sym}
 use Rattle.std.proofs.lemmas.List.{length-map}
-use Rattle.type_relations.specs.Environment.{defined_types}
-use Rattle.type_exprs.proofs.NewNames.{drop_all}
+use Rattle.type_table.specs.TypeRelations.Environment.{defined_types}
+use Rattle.typed_names.proofs.TypeExprs.NewNames.{drop_all}
 use Rattle.operand_rules.specs.Values.{typed_of}
 use Rattle.operator_rules.specs.Settling.{typed_option}
-use Rattle.access_rules.proofs.CallLemmas.{value_item}
+use Rattle.operator_rules.proofs.AccessRules.CallLemmas.{value_item}
 use Rattle.typed_names.specs.Meanings.{entity_option}
 use Rattle.operand_answers.specs.Known.{IsEntity}
 use Rattle.control_steps.specs.DeclarationSteps.Entities.{BoundSoFar, entity_for}

@@ -1,6 +1,6 @@
 use Rattle.std.specs.Prelude.{map}
 use Rattle.std.proofs.Common.{drop}
-use Rattle.type_relations.specs.Environment.{defined_types}
+use Rattle.type_table.specs.TypeRelations.Environment.{defined_types}
 use Rattle.operand_rules.specs.Values.{typed_of}
 use Rattle.operator_rules.specs.Settling.{typed_option}
 use Rattle.control_steps.specs.DeclarationSteps.Entities.{BoundSoFar, entity_for}

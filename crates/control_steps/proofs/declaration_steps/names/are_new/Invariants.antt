@@ -1,11 +1,11 @@
 use Rattle.std.specs.Prelude.{◌≡◌, List, map, not}
 use Rattle.std.specs.List.{list_all}
 use Rattle.std.proofs.Common.{drop}
-use Rattle.const_eval.specs.declared.consts.Const.{Const}
+use Rattle.go_tree.specs.declared.const_eval.consts.Const.{Const}
 use Rattle.go_tree.specs.View.{name_at_of}
-use Rattle.go_types.specs.Entities.{Env, is_declared_here}
-use Rattle.scope_names.specs.FreeNames.{names_of}
-use Rattle.type_relations.specs.Environment.{Environment}
+use Rattle.go_tree.specs.GoTypes.Entities.{Env, is_declared_here}
+use Rattle.go_tree.specs.ScopeNames.FreeNames.{names_of}
+use Rattle.type_table.specs.TypeRelations.Environment.{Environment}
 use Rattle.typed_names.specs.declared.scopes.Scope.{Scope}
 use Rattle.typed_names.specs.Meanings.{Names}
 use Rattle.control_steps.specs.LocalBlocks.Places.{IsPlace}

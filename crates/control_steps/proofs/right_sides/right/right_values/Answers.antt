@@ -1,9 +1,9 @@
 use Rattle.std.proofs.Common.{map, subst, sym}
-use Rattle.go_types.specs.Answers.{given}
-use Rattle.go_types.specs.Entities as go_entity
-use Rattle.go_types.specs.Statements.{assigned_values}
-use Rattle.type_relations.specs.Environment.{defined_types}
-use Rattle.access_rules.specs.Places.{place_of}
+use Rattle.go_tree.specs.GoTypes.Answers.{given}
+use Rattle.go_tree.specs.GoTypes.Entities as go_entity
+use Rattle.go_tree.specs.GoTypes.Statements.{assigned_values}
+use Rattle.type_table.specs.TypeRelations.Environment.{defined_types}
+use Rattle.operator_rules.specs.AccessRules.Places.{place_of}
 use Rattle.operand_modes.specs.Lists.{AreStored, GivesValues}
 use Rattle.operand_modes.specs.Operands.{AreOperands, operands_at}
 use Rattle.operand_answers.specs.Lists.{GivesAll}

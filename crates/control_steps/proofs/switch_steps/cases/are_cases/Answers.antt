@@ -1,5 +1,5 @@
 use Rattle.std.proofs.Common.{◌∙◌, arith, sym}
-use Rattle.access_rules.proofs.CallLemmas.{value_item}
+use Rattle.operator_rules.proofs.AccessRules.CallLemmas.{value_item}
 use Rattle.control_steps.proofs.SwitchSteps.SwitchLemmas.{compared_fails, compared_more, compared_start, kept_value}
 use Rattle.control_steps.proofs.switch_steps.cases.are_cases.Goals as goal
 

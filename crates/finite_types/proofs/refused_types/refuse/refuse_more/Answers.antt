@@ -1,9 +1,9 @@
 use Rattle.std.proofs.Common.{◌∙◌, ◌+◌, List, ap, drop, subst, sym}
 use Rattle.go_tree.specs.declared.spans.Span.{Span}
-use Rattle.const_eval.specs.declared.consts.Const.{Const}
-use Rattle.go_types.specs.Programs.{Headed, Program}
+use Rattle.go_tree.specs.declared.const_eval.consts.Const.{Const}
+use Rattle.go_tree.specs.GoTypes.Programs.{Headed, Program}
 use Rattle.declared_types.specs.Headers.{IsTypeHeader}
-use Rattle.type_exprs.proofs.NewNames.{drop_item}
+use Rattle.typed_names.proofs.TypeExprs.NewNames.{drop_item}
 use Rattle.finite_types.specs.RefusedTypes.Steps.{AreTyped, HeadersPassed, OpenHeader}
 use Rattle.finite_types.proofs.RefusedTypes.Passed.{passed_set, passed_unset, still_header, still_on}
 use Rattle.finite_types.proofs.refused_types.refuse.refuse_more.Goals.{then-branch, else-branch}

@@ -1,6 +1,6 @@
 use Rattle.std.proofs.Common.{subst, sym}
 use Rattle.typed_names.specs.Known.{KnowsTypes}
-use Rattle.type_exprs.proofs.GrownLaws.{known_on}
+use Rattle.typed_names.proofs.TypeExprs.GrownLaws.{known_on}
 use Rattle.finite_types.proofs.refused_types.refuse.refuse_type.Goals as goal
 
 pub returns-in_err-is_good_type-clause-known : goal.returns-in_err-is_good_type-clause-known

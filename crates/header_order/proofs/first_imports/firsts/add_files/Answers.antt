@@ -1,6 +1,6 @@
 use Rattle.std.proofs.Common.{◌≡◌, ◌∙◌, ◌++◌, ◌+◌, ap, arith, drop, length, subst, sym}
 use Rattle.std.specs.Prelude.{slice_get}
-use Rattle.type_exprs.proofs.NewNames.{drop_all, drop_item}
+use Rattle.typed_names.proofs.TypeExprs.NewNames.{drop_all, drop_item}
 use Rattle.header_order.specs.FirstImports.Firsts.{FirstWith, Passed, tagged}
 use Rattle.header_order.proofs.FirstImports.Passing.{passed_one}
 use Rattle.header_order.proofs.first_imports.firsts.add_files.Goals as goal

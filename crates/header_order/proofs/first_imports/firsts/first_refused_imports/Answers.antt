@@ -1,5 +1,5 @@
 use Rattle.std.proofs.Common.{◌+◌, drop, get_or, subst, sym}
-use Rattle.type_exprs.proofs.NewNames.{drop_all, drop_item}
+use Rattle.typed_names.proofs.TypeExprs.NewNames.{drop_all, drop_item}
 use Rattle.package_blocks.proofs.CollectedLemmas.{item_either}
 use Rattle.header_order.specs.FirstImports.Firsts.{Passed, trees_of}
 use Rattle.header_order.proofs.FirstImports.Passing.{passed_all, passed_none}

@@ -1,6 +1,6 @@
 use Rattle.std.proofs.Common.{◌+◌, ◌-◌, ap, arith, drop, get_or, sym, Some}
-use Rattle.go_types.specs.Answers.{given}
-use Rattle.type_exprs.proofs.NewNames.{drop_all, drop_item}
+use Rattle.go_tree.specs.GoTypes.Answers.{given}
+use Rattle.typed_names.proofs.TypeExprs.NewNames.{drop_all, drop_item}
 use Rattle.package_blocks.proofs.CollectedLemmas.{item_either}
 use Rattle.header_order.specs.RefusedImports.First.{refused_at}
 use Rattle.header_order.proofs.FirstRefusals.FileNumbers.{file_found, file_missing, file_passed}

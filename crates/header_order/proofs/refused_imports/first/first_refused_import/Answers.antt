@@ -1,5 +1,5 @@
 use Rattle.std.proofs.Common.{◌∙◌, ◌+◌, ap, drop, subst, sym}
-use Rattle.type_exprs.proofs.NewNames.{drop_all, drop_item}
+use Rattle.typed_names.proofs.TypeExprs.NewNames.{drop_all, drop_item}
 use Rattle.used_names.specs.Uses.{and_name}
 use Rattle.header_order.specs.RefusedImports.First.{ImportsPassed}
 use Rattle.header_order.proofs.RefusedImports.Firsts.{passed_all, passed_none, passed_one, passed_refused}

@@ -1,5 +1,5 @@
 use Rattle.std.proofs.Common.{◌+◌, drop, subst, sym}
-use Rattle.type_exprs.proofs.NewNames.{drop_all, drop_item}
+use Rattle.typed_names.proofs.TypeExprs.NewNames.{drop_all, drop_item}
 use Rattle.package_blocks.specs.Names.{plain_names}
 use Rattle.initial_values.specs.ValueBlocks.Copies.{AddsCopies, NamesCopied}
 use Rattle.initial_values.proofs.ValueBlocks.CopyLemmas.{names_all, names_more, names_none}

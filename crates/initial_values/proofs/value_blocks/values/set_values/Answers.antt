@@ -1,5 +1,5 @@
 use Rattle.std.proofs.Common.{◌≡◌, ◌∙◌, ◌<◌, ◌≤◌, ◌+◌, ◌-◌, suc, drop-cons, get_or, length, ap, arith, subst, sym}
-use Rattle.type_exprs.proofs.NewNames.{drop_all}
+use Rattle.typed_names.proofs.TypeExprs.NewNames.{drop_all}
 use Rattle.typed_names.specs.declared.entities.Entity.{Entity}
 use Rattle.typed_names.specs.declared.entities.Entity.TheVariants.{Variable}
 use Rattle.initial_values.specs.ValueBlocks.Values.{AreThere, NamesSet}

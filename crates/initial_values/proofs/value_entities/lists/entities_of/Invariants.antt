@@ -1,5 +1,5 @@
 use Rattle.std.proofs.Common.{drop}
-use Rattle.type_relations.specs.Environment.{defined_types}
+use Rattle.type_table.specs.TypeRelations.Environment.{defined_types}
 use Rattle.operator_rules.specs.Settling.{typed_option}
 use Rattle.initial_values.specs.ValueEntities.Steps.{AreRead}
 use Rattle.initial_values.proofs.value_entities.lists.entities_of.Given as goal

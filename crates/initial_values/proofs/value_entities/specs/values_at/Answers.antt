@@ -1,10 +1,10 @@
 use Rattle.std.proofs.Common.{◌≡◌, ◌∙◌, ap, length, map, subst, sym, rules}
 use Rattle.std.specs.Vec.{vec_len}
-use Rattle.scope_names.specs.FreeNames.{names_of}
+use Rattle.go_tree.specs.ScopeNames.FreeNames.{names_of}
 use Rattle.go_tree.specs.View.{exprs_of, name_at_of}
 use Rattle.operator_rules.specs.Settling.{typed_option}
 use Rattle.operand_modes.specs.Operands.{operands_at}
-use Rattle.type_relations.specs.Environment.{defined_types}
+use Rattle.type_table.specs.TypeRelations.Environment.{defined_types}
 use Rattle.initial_values.specs.ValueEntities.Entities.{GivesEntities, entities_by}
 use Rattle.initial_values.proofs.ValueEntities.SpecLemmas.{names_length, values_bound, values_miscounted}
 use Rattle.initial_values.proofs.value_entities.specs.values_at.Goals as goal

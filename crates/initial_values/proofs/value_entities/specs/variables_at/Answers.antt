@@ -1,11 +1,12 @@
 use Rattle.std.proofs.Common.{◌∙◌, ap, map, subst, sym}
 use Rattle.std.specs.Option.{option_map}
-use Rattle.scope_names.specs.FreeNames.{names_of}
-use Rattle.go_types.specs.Bodies.{no_values}
+use Rattle.go_tree.specs.ScopeNames.FreeNames.{names_of}
+use Rattle.go_tree.specs.GoTypes.Bodies.{no_values}
 use Rattle.go_tree.specs.View.{exprs_of, name_at_of, type_of}
 use Rattle.operator_rules.specs.Settling.{typed_option}
 use Rattle.initial_values.specs.ValueEntities.Steps.{GivesZeros}
-use Rattle.initial_values.proofs.ValueEntities.SpecLemmas.{names_length, values_none, variables_valued, variables_zero, zeros_bound}
+use Rattle.initial_values.proofs.ValueEntities.SpecLemmas.{names_length, values_none, variables_valued, variables_zero}
+use Rattle.initial_values.proofs.ValueEntities.SpecLemmas.{zeros_bound}
 use Rattle.initial_values.proofs.value_entities.specs.variables_at.Goals as goal
 
 pub returns-then-is_empty-clause-gives : goal.returns-then-is_empty-clause-gives

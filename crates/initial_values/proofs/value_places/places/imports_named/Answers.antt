@@ -1,6 +1,6 @@
 use Rattle.std.proofs.Common.{◌≡◌, ◌+◌, [], ◌∷◌, drop, rules, subst}
 use Rattle.std.specs.Prelude.{codes}
-use Rattle.type_exprs.proofs.NewNames.{drop_all, drop_item}
+use Rattle.typed_names.proofs.TypeExprs.NewNames.{drop_all, drop_item}
 use Rattle.initial_values.specs.ValuePlaces.Places.{AddsImports, NamesLooked}
 use Rattle.initial_values.proofs.ValuePlaces.ImportLemmas.{looked_all, looked_blank, looked_more}
 use Rattle.initial_values.proofs.value_places.places.imports_named.Goals as goal

@@ -1,5 +1,5 @@
 use Rattle.std.proofs.Common.{◌+◌, drop, subst, sym}
-use Rattle.type_exprs.proofs.NewNames.{drop_all, drop_item}
+use Rattle.typed_names.proofs.TypeExprs.NewNames.{drop_all, drop_item}
 use Rattle.jump_rules.specs.DistinctNames.Seen.{AddsName, AreSeen}
 use Rattle.jump_rules.proofs.DistinctNames.SeenLemmas.{name_again, name_seen, seen_end, seen_start}
 use Rattle.jump_rules.proofs.distinct_names.names.are_distinct.Goals as goal

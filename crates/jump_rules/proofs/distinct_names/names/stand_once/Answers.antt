@@ -1,8 +1,8 @@
 use Rattle.std.proofs.Common.{◌+◌, [], ◌∷◌, drop, map, subst, sym}
 use Rattle.go_tree.specs.View.{name_at_of}
-use Rattle.go_types.specs.Declarations.{not_blank}
-use Rattle.scope_names.specs.FreeNames.{names_of}
-use Rattle.type_exprs.proofs.NewNames.{drop_all, drop_item}
+use Rattle.go_tree.specs.GoTypes.Declarations.{not_blank}
+use Rattle.go_tree.specs.ScopeNames.FreeNames.{names_of}
+use Rattle.typed_names.proofs.TypeExprs.NewNames.{drop_all, drop_item}
 use Rattle.jump_rules.specs.DistinctNames.Seen.{AddsNames, AreSeen}
 use Rattle.jump_rules.proofs.DistinctNames.SeenLemmas.{counted, counted_again, counted_seen, seen_end, seen_start}
 use Rattle.jump_rules.proofs.distinct_names.names.stand_once.Goals as goal

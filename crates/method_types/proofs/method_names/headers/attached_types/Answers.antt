@@ -1,5 +1,5 @@
 use Rattle.std.proofs.Common.{◌+◌, ◌∙◌, drop, subst, sym}
-use Rattle.type_exprs.proofs.NewNames.{drop_all, drop_item}
+use Rattle.typed_names.proofs.TypeExprs.NewNames.{drop_all, drop_item}
 use Rattle.method_types.specs.MethodNames.Known.{AreFields, HeadersAttached}
 use Rattle.method_types.proofs.MethodNames.AttachLemmas.{attached_all, attached_more}
 use Rattle.method_types.proofs.method_names.headers.attached_types.Goals as goal

@@ -1,7 +1,7 @@
 use Rattle.std.proofs.Common.{◌∙◌, ◌+◌, Some, ap, bytes_eq, cond, drop, map, subst}
-use Rattle.scope_names.specs.Means.{means}
+use Rattle.go_tree.specs.ScopeNames.Means.{means}
 use Rattle.typed_names.specs.declared.entities.Entity.TheVariants.{Refused}
-use Rattle.type_exprs.proofs.NewNames.{drop_item}
+use Rattle.typed_names.proofs.TypeExprs.NewNames.{drop_item}
 use Rattle.method_types.proofs.MethodNames.TableLemmas.{FieldsLeft, left_one}
 use Rattle.method_types.proofs.method_names.tables.field_names.Goals as goal
 

@@ -1,5 +1,5 @@
 use Rattle.std.proofs.Common.{◌<◌, ◌≤◌, ◌∙◌, ap, arith, length}
-use Rattle.type_relations.specs.Methods.{method_row}
+use Rattle.type_table.specs.TypeRelations.Methods.{method_row}
 use Rattle.method_types.specs.MethodSets.Steps.{put_method}
 use Rattle.method_types.proofs.MethodSets.SetLemmas.{on_ok, row_gone, row_put}
 use Rattle.method_types.proofs.method_sets.sets.put_on.Goals as goal

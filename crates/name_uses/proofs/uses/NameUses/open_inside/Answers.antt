@@ -1,5 +1,5 @@
 use Rattle.std.proofs.Common.{◌∙◌, ap}
-use Rattle.type_relations.specs.Environment.{defined_types}
+use Rattle.type_table.specs.TypeRelations.Environment.{defined_types}
 use Rattle.used_names.specs.Uses.{inner_under}
 use Rattle.name_uses.specs.Inside.{seen}
 use Rattle.name_uses.specs.Views.{literal_under}

@@ -1,6 +1,6 @@
 use Rattle.std.proofs.Common.{rules, ◌≡◌, ◌∙◌, ◌++◌, ◌∷◌, [], ap, sym, subst, Some, cond, bytes_eq, length}
 use Rattle.std.specs.Vec.{vec_len}
-use Rattle.go_words.specs.Tokens.Pieces.{is_among}
+use Rattle.go_tree.specs.GoWords.Tokens.Pieces.{is_among}
 use Rattle.name_walks.specs.Around.{place_in, KnowsPlaces}
 use Rattle.name_walks.proofs.AroundLaws.{noted, pushed_old, pushed_new}
 use Rattle.name_walks.proofs.around.NamesAround.push.Goals as goal

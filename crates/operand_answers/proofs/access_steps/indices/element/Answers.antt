@@ -1,5 +1,5 @@
-use Rattle.go_types.specs.Primary.{index_of, index_place}
-use Rattle.type_relations.specs.Environment.{defined_types}
+use Rattle.go_tree.specs.GoTypes.Primary.{index_of, index_place}
+use Rattle.type_table.specs.TypeRelations.Environment.{defined_types}
 use Rattle.operand_rules.specs.Values.{content_of, typed_of}
 use Rattle.checker_tables.proofs.PartLemmas.{parts_follow}
 use Rattle.operand_answers.proofs.AnswerLemmas.{value_refused}

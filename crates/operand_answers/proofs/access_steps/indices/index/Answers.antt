@@ -1,8 +1,8 @@
 use Rattle.std.proofs.Common.{subst}
-use Rattle.go_types.specs.Answers.{both}
-use Rattle.go_types.specs.Operands.{place_by, typed}
-use Rattle.go_types.specs.Primary.{index_of, index_place}
-use Rattle.type_relations.specs.Environment.{defined_types}
+use Rattle.go_tree.specs.GoTypes.Answers.{both}
+use Rattle.go_tree.specs.GoTypes.Operands.{place_by, typed}
+use Rattle.go_tree.specs.GoTypes.Primary.{index_of, index_place}
+use Rattle.type_table.specs.TypeRelations.Environment.{defined_types}
 use Rattle.operand_answers.specs.Located.{GivesAt, IsThereIfOk}
 use Rattle.operand_answers.proofs.AnswerLemmas.{first_refused, second_refused}
 use Rattle.operand_answers.proofs.AccessSteps.IndexLemmas.{index_given}

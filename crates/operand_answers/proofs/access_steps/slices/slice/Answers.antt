@@ -1,9 +1,9 @@
 use Rattle.std.proofs.Common.{subst}
-use Rattle.go_types.specs.Answers.{both, given}
-use Rattle.go_types.specs.Entities as go_entity
-use Rattle.go_types.specs.Operands.{with_value}
-use Rattle.go_types.specs.Primary.{sliced}
-use Rattle.type_relations.specs.Environment.{defined_types}
+use Rattle.go_tree.specs.GoTypes.Answers.{both, given}
+use Rattle.go_tree.specs.GoTypes.Entities as go_entity
+use Rattle.go_tree.specs.GoTypes.Operands.{with_value}
+use Rattle.go_tree.specs.GoTypes.Primary.{sliced}
+use Rattle.type_table.specs.TypeRelations.Environment.{defined_types}
 use Rattle.operand_answers.specs.Located.{GivesAt, IsThereIfOk}
 use Rattle.operand_answers.specs.AccessSteps.Bounds.{GivesBound, IsBoundIfOk}
 use Rattle.operand_answers.proofs.AccessSteps.BoundLemmas.{base_refused, high_refused, low_refused, slice_given}

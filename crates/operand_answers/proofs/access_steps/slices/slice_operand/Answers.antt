@@ -1,11 +1,11 @@
 use Rattle.std.proofs.Common.{◌∙◌, subst, sym}
-use Rattle.go_types.specs.Operands.{with_value}
-use Rattle.go_types.specs.Primary.{sliced}
-use Rattle.type_relations.specs.Environment.{defined_types}
+use Rattle.go_tree.specs.GoTypes.Operands.{with_value}
+use Rattle.go_tree.specs.GoTypes.Primary.{sliced}
+use Rattle.type_table.specs.TypeRelations.Environment.{defined_types}
 use Rattle.operand_modes.specs.declared.modes.Operand.TheVariants.{Single}
 use Rattle.operand_modes.specs.Operands.{GivesOperand, IsOperand, operand_at}
 use Rattle.operand_laws.proofs.ContentLemmas.{operand_same}
-use Rattle.access_rules.specs.Slices.{bound_of}
+use Rattle.operator_rules.specs.AccessRules.Slices.{bound_of}
 use Rattle.checker_tables.proofs.PartLemmas.{parts_follow}
 use Rattle.operand_answers.proofs.AnswerLemmas.{no_value, single_is}
 use Rattle.operand_answers.proofs.access_steps.slices.slice_operand.Goals as goal

@@ -1,8 +1,8 @@
 use Rattle.std.proofs.Common.{subst}
-use Rattle.go_types.specs.Answers.{both}
-use Rattle.go_types.specs.Operators.{binary_of}
-use Rattle.go_types.specs.Entities as go_entity
-use Rattle.type_relations.specs.Environment.{defined_types}
+use Rattle.go_tree.specs.GoTypes.Answers.{both}
+use Rattle.go_tree.specs.GoTypes.Operators.{binary_of}
+use Rattle.go_tree.specs.GoTypes.Entities as go_entity
+use Rattle.type_table.specs.TypeRelations.Environment.{defined_types}
 use Rattle.operand_answers.specs.Located.{GivesAt, IsThereIfOk}
 use Rattle.operand_answers.proofs.AnswerLemmas.{first_refused, lifted_both, second_refused}
 use Rattle.operand_answers.proofs.OperatorSteps.AlikeLemmas.{binary_alike}

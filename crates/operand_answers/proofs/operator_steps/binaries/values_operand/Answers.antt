@@ -1,6 +1,6 @@
 use Rattle.std.proofs.Common.{◌∙◌, sym, subst}
-use Rattle.go_types.specs.Operators.{binary_value_operand}
-use Rattle.type_relations.specs.Environment.{defined_types}
+use Rattle.go_tree.specs.GoTypes.Operators.{binary_value_operand}
+use Rattle.type_table.specs.TypeRelations.Environment.{defined_types}
 use Rattle.operand_rules.specs.Values.{typed_of}
 use Rattle.operand_modes.specs.Operands.{GivesOperand, IsOperand, operand_at}
 use Rattle.operand_answers.proofs.AnswerLemmas.{single_is}

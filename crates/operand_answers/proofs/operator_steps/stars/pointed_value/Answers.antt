@@ -1,7 +1,7 @@
-use Rattle.go_types.specs.Entities as go_entity
-use Rattle.go_types.specs.Operands.{value}
-use Rattle.go_types.specs.Operators.{star_of}
-use Rattle.type_relations.specs.Environment.{defined_types}
+use Rattle.go_tree.specs.GoTypes.Entities as go_entity
+use Rattle.go_tree.specs.GoTypes.Operands.{value}
+use Rattle.go_tree.specs.GoTypes.Operators.{star_of}
+use Rattle.type_table.specs.TypeRelations.Environment.{defined_types}
 use Rattle.operand_rules.specs.Values.{type_of}
 use Rattle.checker_tables.proofs.PartLemmas.{parts_follow}
 use Rattle.operand_answers.proofs.AnswerLemmas.{value_refused}

@@ -1,7 +1,7 @@
 use Rattle.std.proofs.Common.{◌∙◌, Some, ap, sym}
-use Rattle.go_types.specs.Operands.{a_type}
-use Rattle.go_types.specs.Types.{pointer_to}
-use Rattle.type_relations.specs.Environment.{env_type}
+use Rattle.go_tree.specs.GoTypes.Operands.{a_type}
+use Rattle.go_tree.specs.GoTypes.Types.{pointer_to}
+use Rattle.type_table.specs.TypeRelations.Environment.{env_type}
 use Rattle.operand_answers.proofs.AnswerLemmas.{added_refused, type_given}
 use Rattle.operand_answers.proofs.OperatorSteps.StepLemmas.{inner}
 use Rattle.operand_answers.proofs.operator_steps.stars.pointer_type.Goals as goal

@@ -1,8 +1,8 @@
 use Rattle.std.proofs.Common.{subst}
-use Rattle.go_types.specs.Entities as go_entity
-use Rattle.go_types.specs.Operands.{place_by}
-use Rattle.go_types.specs.Operators.{star_of}
-use Rattle.type_relations.specs.Environment.{defined_types}
+use Rattle.go_tree.specs.GoTypes.Entities as go_entity
+use Rattle.go_tree.specs.GoTypes.Operands.{place_by}
+use Rattle.go_tree.specs.GoTypes.Operators.{star_of}
+use Rattle.type_table.specs.TypeRelations.Environment.{defined_types}
 use Rattle.operand_answers.specs.Located.{GivesAt, IsThereIfOk}
 use Rattle.operand_answers.proofs.AnswerLemmas.{refused}
 use Rattle.operand_answers.proofs.OperatorSteps.StepLemmas.{star_given}

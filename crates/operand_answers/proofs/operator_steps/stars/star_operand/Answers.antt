@@ -1,9 +1,9 @@
 use Rattle.std.proofs.Common.{Some, sym, subst}
-use Rattle.go_types.specs.Entities as go_entity
-use Rattle.go_types.specs.Operands.{a_type, place_by}
-use Rattle.go_types.specs.Operators.{star_of}
-use Rattle.go_types.specs.Types.{pointer_to}
-use Rattle.type_relations.specs.Environment.{defined_types, env_type}
+use Rattle.go_tree.specs.GoTypes.Entities as go_entity
+use Rattle.go_tree.specs.GoTypes.Operands.{a_type, place_by}
+use Rattle.go_tree.specs.GoTypes.Operators.{star_of}
+use Rattle.go_tree.specs.GoTypes.Types.{pointer_to}
+use Rattle.type_table.specs.TypeRelations.Environment.{defined_types, env_type}
 use Rattle.operand_rules.specs.Values.{content_of}
 use Rattle.operand_modes.specs.Operands.{operand_at}
 use Rattle.operand_answers.specs.Located.{GivesAt}

@@ -1,8 +1,8 @@
 use Rattle.std.proofs.Common.{sym, subst}
-use Rattle.go_types.specs.Operators.{address_of}
-use Rattle.type_relations.specs.Environment.{defined_types}
+use Rattle.go_tree.specs.GoTypes.Operators.{address_of}
+use Rattle.type_table.specs.TypeRelations.Environment.{defined_types}
 use Rattle.operand_rules.specs.Values.{Gives, content_of, type_of, typed_of}
-use Rattle.access_rules.specs.Places.{place_of}
+use Rattle.operator_rules.specs.AccessRules.Places.{place_of}
 use Rattle.operand_answers.proofs.OperatorSteps.StepLemmas.{nil_address, untyped_address}
 use Rattle.operand_answers.proofs.operator_steps.unaries.address_value.Goals as goal
 

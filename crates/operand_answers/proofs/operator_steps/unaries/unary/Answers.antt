@@ -1,8 +1,8 @@
 use Rattle.std.proofs.Common.{subst}
-use Rattle.go_types.specs.Answers.{given}
-use Rattle.go_types.specs.Operators.{unary_of}
-use Rattle.go_types.specs.Entities as go_entity
-use Rattle.type_relations.specs.Environment.{defined_types}
+use Rattle.go_tree.specs.GoTypes.Answers.{given}
+use Rattle.go_tree.specs.GoTypes.Operators.{unary_of}
+use Rattle.go_tree.specs.GoTypes.Entities as go_entity
+use Rattle.type_table.specs.TypeRelations.Environment.{defined_types}
 use Rattle.operand_answers.specs.Located.{GivesAt, IsThereIfOk}
 use Rattle.operand_answers.proofs.AnswerLemmas.{lifted, refused}
 use Rattle.operand_answers.proofs.OperatorSteps.AlikeLemmas.{unary_alike}

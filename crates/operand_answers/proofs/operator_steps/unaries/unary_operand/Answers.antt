@@ -1,7 +1,7 @@
 use Rattle.std.proofs.Common.{◌∙◌, sym, subst}
-use Rattle.go_types.specs.Operators.{unary_of}
-use Rattle.type_relations.specs.Environment.{defined_types}
-use Rattle.access_rules.specs.Places.{place_of}
+use Rattle.go_tree.specs.GoTypes.Operators.{unary_of}
+use Rattle.type_table.specs.TypeRelations.Environment.{defined_types}
+use Rattle.operator_rules.specs.AccessRules.Places.{place_of}
 use Rattle.operand_modes.specs.declared.modes.Operand.TheVariants.{Single}
 use Rattle.operand_modes.specs.Operands.{GivesOperand, IsOperand, operand_at}
 use Rattle.operand_answers.specs.Located.{StandsAt}

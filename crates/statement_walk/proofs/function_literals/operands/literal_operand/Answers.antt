@@ -1,8 +1,8 @@
 use Rattle.std.proofs.Common.{◌∙◌, Some, ap, subst, sym}
-use Rattle.go_types.specs.Answers.{only_if}
-use Rattle.go_types.specs.Entities.{elsewhere}
-use Rattle.go_types.specs.Operands.{a_function}
-use Rattle.access_rules.specs.Functions.{types_at}
+use Rattle.go_tree.specs.GoTypes.Answers.{only_if}
+use Rattle.go_tree.specs.GoTypes.Entities.{elsewhere}
+use Rattle.go_tree.specs.GoTypes.Operands.{a_function}
+use Rattle.operator_rules.specs.AccessRules.Functions.{types_at}
 use Rattle.func_types.specs.Answers.{func_of}
 use Rattle.operand_answers.specs.Located.{GivesAt}
 use Rattle.statement_walk.proofs.FunctionLiterals.LiteralLemmas.{results_at}

@@ -1,11 +1,11 @@
 use Rattle.std.proofs.Common.{◌≡◌, ◌∙◌, ◌&&◌, false, not, subst, sym, true}
 use Rattle.std.specs.Option.{option_map}
 use Rattle.go_tree.specs.View.{name_at_of}
-use Rattle.go_types.specs.Bodies.{param_binding}
-use Rattle.go_types.specs.Declarations.{bound_names}
-use Rattle.go_types.specs.Entities.{extend, is_declared_here, variable}
-use Rattle.scope_names.specs.Means.{binding, is_blank}
-use Rattle.type_relations.specs.Environment.{env_type}
+use Rattle.go_tree.specs.GoTypes.Bodies.{param_binding}
+use Rattle.go_tree.specs.GoTypes.Declarations.{bound_names}
+use Rattle.go_tree.specs.GoTypes.Entities.{extend, is_declared_here, variable}
+use Rattle.go_tree.specs.ScopeNames.Means.{binding, is_blank}
+use Rattle.type_table.specs.TypeRelations.Environment.{env_type}
 use Rattle.control_steps.specs.LocalBlocks.Places.{IsPlace}
 use Rattle.statement_walk.specs.FunctionLiterals.Params.{AreBound, may_bind}
 use Rattle.statement_walk.proofs.FunctionLiterals.ParamLemmas.{name_bound, name_taken}

@@ -1,5 +1,5 @@
 use Rattle.std.proofs.Common.{◌∙◌, ap, sym}
-use Rattle.access_rules.specs.Functions.{types_at}
+use Rattle.operator_rules.specs.AccessRules.Functions.{types_at}
 use Rattle.statement_walk.proofs.FunctionLiterals.LiteralLemmas.{results_at}
 use Rattle.statement_walk.proofs.function_literals.signatures.literal_body.Goals as goal
 

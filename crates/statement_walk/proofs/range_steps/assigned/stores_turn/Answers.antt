@@ -1,6 +1,6 @@
 use Rattle.std.proofs.Common.{◌∙◌, ◌&&◌, ap, subst, sym}
-use Rattle.go_types.specs.Statements.{range_stores}
-use Rattle.type_relations.specs.Environment.{defined_types}
+use Rattle.go_tree.specs.GoTypes.Statements.{range_stores}
+use Rattle.type_table.specs.TypeRelations.Environment.{defined_types}
 use Rattle.assignment_steps.specs.Targets.{AreTargets, targets_of}
 use Rattle.statement_walk.specs.RangeSteps.Ranges.{listed, second_of}
 use Rattle.statement_walk.proofs.RangeSteps.StoreLemmas.{no_items}

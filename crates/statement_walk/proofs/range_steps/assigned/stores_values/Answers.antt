@@ -1,7 +1,7 @@
 use Rattle.std.proofs.Common.{◌∙◌, ap, sym}
-use Rattle.go_types.specs.Answers.{meets}
-use Rattle.go_types.specs.Statements.{range_stores}
-use Rattle.type_relations.specs.Environment.{defined_types}
+use Rattle.go_tree.specs.GoTypes.Answers.{meets}
+use Rattle.go_tree.specs.GoTypes.Statements.{range_stores}
+use Rattle.type_table.specs.TypeRelations.Environment.{defined_types}
 use Rattle.assignment_steps.specs.Targets.{targets_of}
 use Rattle.statement_walk.specs.RangeSteps.Ranges.{listed_option}
 use Rattle.statement_walk.proofs.range_steps.assigned.stores_values.Goals as goal

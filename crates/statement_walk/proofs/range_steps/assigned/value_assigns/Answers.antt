@@ -1,8 +1,8 @@
 use Rattle.std.proofs.Common.{◌∙◌, ◌&&◌, ap, subst, sym}
-use Rattle.go_types.specs.Operands.{fits}
-use Rattle.go_types.specs.Relations.{is_whole_number}
-use Rattle.go_types.specs.Statements.{range_assigns}
-use Rattle.type_relations.specs.Environment.{defined_types, env_type}
+use Rattle.go_tree.specs.GoTypes.Operands.{fits}
+use Rattle.go_tree.specs.GoTypes.Relations.{is_whole_number}
+use Rattle.go_tree.specs.GoTypes.Statements.{range_assigns}
+use Rattle.type_table.specs.TypeRelations.Environment.{defined_types, env_type}
 use Rattle.operand_rules.specs.Values.{IsType, content_of, type_of}
 use Rattle.assignment_steps.specs.Targets.{targets_of}
 use Rattle.statement_walk.proofs.RangeSteps.StoreLemmas.{by_types, number_stores, others_store, typed_stores}

@@ -1,6 +1,6 @@
 use Rattle.std.proofs.Common.{◌∙◌, ap, subst, sym}
-use Rattle.go_types.specs.Defined.{under}
-use Rattle.type_relations.specs.Environment.{defined_types}
+use Rattle.go_tree.specs.GoTypes.Defined.{under}
+use Rattle.type_table.specs.TypeRelations.Environment.{defined_types}
 use Rattle.operand_rules.specs.Values.{IsType, type_of}
 use Rattle.statement_walk.specs.RangeSteps.Ranges.{collection_types}
 use Rattle.statement_walk.proofs.range_steps.types.collection_range.Goals as goal

@@ -1,6 +1,6 @@
 use Rattle.std.proofs.Common.{◌∙◌, ◌∷◌, [], IfSome, Some, ap, ap₂, subst, sym}
-use Rattle.const_eval.specs.declared.kinds.Kind.TheVariants.{Int}
-use Rattle.type_relations.specs.Environment.{env_type}
+use Rattle.go_tree.specs.declared.const_eval.kinds.Kind.TheVariants.{Int}
+use Rattle.type_table.specs.TypeRelations.Environment.{env_type}
 use Rattle.operand_rules.specs.declared.values.ValueType.TheVariants.{Typed}
 use Rattle.operand_rules.specs.Values.{IsType}
 use Rattle.operator_rules.specs.Settling.{typed_option}

@@ -1,9 +1,9 @@
 use Rattle.std.specs.Prelude.{◌≡◌, map}
 use Rattle.std.proofs.Common.{◌∙◌, ◌+◌, ap, drop, refl, subst, sym}
 use Rattle.go_tree.specs.View.{name_at_of}
-use Rattle.scope_names.specs.FreeNames.{names_of}
-use Rattle.scope_names.specs.Means.{is_blank}
-use Rattle.type_exprs.proofs.NewNames.{drop_all, drop_item}
+use Rattle.go_tree.specs.ScopeNames.FreeNames.{names_of}
+use Rattle.go_tree.specs.ScopeNames.Means.{is_blank}
+use Rattle.typed_names.proofs.TypeExprs.NewNames.{drop_all, drop_item}
 use Rattle.statement_walk.specs.RangeSteps.Ranges.{some_named}
 use Rattle.statement_walk.proofs.RangeSteps.VariableLemmas.{named_already, named_later}
 use Rattle.statement_walk.proofs.range_steps.variables.has_named.Goals as goal

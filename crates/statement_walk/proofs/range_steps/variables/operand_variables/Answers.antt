@@ -1,12 +1,12 @@
 use Rattle.std.proofs.Common.{◌∙◌, ap, map, subst, sym}
 use Rattle.go_tree.specs.View.{name_at_of}
-use Rattle.go_types.specs.Answers.{given}
-use Rattle.go_types.specs.Declarations.{names_once, some_declared}
-use Rattle.go_types.specs.Entities as go_entity
-use Rattle.go_types.specs.Operands.{with_value}
-use Rattle.go_types.specs.Statements as go
-use Rattle.scope_names.specs.FreeNames.{names_of}
-use Rattle.type_relations.specs.Environment.{defined_types}
+use Rattle.go_tree.specs.GoTypes.Answers.{given}
+use Rattle.go_tree.specs.GoTypes.Declarations.{names_once, some_declared}
+use Rattle.go_tree.specs.GoTypes.Entities as go_entity
+use Rattle.go_tree.specs.GoTypes.Operands.{with_value}
+use Rattle.go_tree.specs.GoTypes.Statements as go
+use Rattle.go_tree.specs.ScopeNames.FreeNames.{names_of}
+use Rattle.type_table.specs.TypeRelations.Environment.{defined_types}
 use Rattle.operand_rules.specs.Values.{typed_of}
 use Rattle.operand_modes.specs.Operands.{IsOperand, operand_at}
 use Rattle.operand_answers.proofs.AnswerLemmas.{single_is}

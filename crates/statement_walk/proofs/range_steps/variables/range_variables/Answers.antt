@@ -1,7 +1,7 @@
 use Rattle.std.proofs.Common.{map, subst}
 use Rattle.go_tree.specs.View.{name_at_of}
-use Rattle.scope_names.specs.FreeNames.{names_of}
-use Rattle.type_relations.specs.Environment.{defined_types}
+use Rattle.go_tree.specs.ScopeNames.FreeNames.{names_of}
+use Rattle.type_table.specs.TypeRelations.Environment.{defined_types}
 use Rattle.operand_answers.specs.Located.{GivesAt, IsThereIfOk}
 use Rattle.statement_walk.proofs.RangeSteps.VariableLemmas.{variables_lifted, variables_refused}
 use Rattle.statement_walk.proofs.range_steps.variables.range_variables.Goals as goal

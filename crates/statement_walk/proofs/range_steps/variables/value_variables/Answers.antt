@@ -1,10 +1,10 @@
 use Rattle.std.proofs.Common.{◌∙◌, ap, map, refl, subst, sym}
 use Rattle.go_tree.specs.View.{name_at_of}
-use Rattle.go_types.specs.Answers.{given}
-use Rattle.go_types.specs.Declarations.{some_declared}
-use Rattle.go_types.specs.Statements as go
-use Rattle.scope_names.specs.FreeNames.{names_of}
-use Rattle.type_relations.specs.Environment.{defined_types}
+use Rattle.go_tree.specs.GoTypes.Answers.{given}
+use Rattle.go_tree.specs.GoTypes.Declarations.{some_declared}
+use Rattle.go_tree.specs.GoTypes.Statements as go
+use Rattle.go_tree.specs.ScopeNames.FreeNames.{names_of}
+use Rattle.type_table.specs.TypeRelations.Environment.{defined_types}
 use Rattle.operand_rules.specs.Values.{typed_of}
 use Rattle.assignment_steps.specs.SpecSteps.Specs.{GivesVariables}
 use Rattle.assignment_steps.proofs.SpecSteps.SpecLemmas.{names_counted}

@@ -1,8 +1,8 @@
 use Rattle.std.proofs.Common.{◌∙◌, Some, false, length, subst, sym}
 use Rattle.go_tree.specs.View.{exprs_of}
-use Rattle.go_types.specs.Answers.{given, meets, only_if}
-use Rattle.go_types.specs.Statements.{right_values, stores_all}
-use Rattle.go_types.specs.Typing as go
+use Rattle.go_tree.specs.GoTypes.Answers.{given, meets, only_if}
+use Rattle.go_tree.specs.GoTypes.Statements.{right_values, stores_all}
+use Rattle.go_tree.specs.GoTypes.Typing as go
 use Rattle.operand_answers.specs.Lists.{GivesAll}
 use Rattle.operand_answers.proofs.KeptLemmas.{env_kept}
 use Rattle.control_steps.specs.Ends.{EndsAs}

@@ -1,8 +1,8 @@
 use Rattle.std.proofs.Common.{◌∙◌, Some, false, subst}
 use Rattle.go_tree.specs.View.{exprs_of}
-use Rattle.go_types.specs.Answers.{both, only_if}
-use Rattle.go_types.specs.Statements.{updates}
-use Rattle.go_types.specs.Typing as go
+use Rattle.go_tree.specs.GoTypes.Answers.{both, only_if}
+use Rattle.go_tree.specs.GoTypes.Statements.{updates}
+use Rattle.go_tree.specs.GoTypes.Typing as go
 use Rattle.operand_answers.specs.Lists.{GivesAll}
 use Rattle.operand_answers.proofs.KeptLemmas.{all_kept, env_kept, stands_kept}
 use Rattle.control_steps.specs.Ends.{EndsAs}

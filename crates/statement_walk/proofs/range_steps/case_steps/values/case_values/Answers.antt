@@ -1,6 +1,6 @@
 use Rattle.std.proofs.Common.{subst, sym}
-use Rattle.go_types.specs.Operands.{all_typed}
-use Rattle.type_relations.specs.Environment.{defined_types}
+use Rattle.go_tree.specs.GoTypes.Operands.{all_typed}
+use Rattle.type_table.specs.TypeRelations.Environment.{defined_types}
 use Rattle.operand_rules.specs.Values.{typed_of}
 use Rattle.operand_modes.specs.Lists.{GivesValues}
 use Rattle.operand_modes.specs.Operands.{AreOperands, operands_at}

@@ -1,9 +1,9 @@
 use Rattle.std.proofs.Common.{◌≡◌, ◌∙◌, false, map, subst, sym, true}
 use Rattle.std.specs.List.{list_all}
-use Rattle.go_types.specs.Statements.{case_value}
-use Rattle.type_relations.specs.Environment.{defined_types}
+use Rattle.go_tree.specs.GoTypes.Statements.{case_value}
+use Rattle.type_table.specs.TypeRelations.Environment.{defined_types}
 use Rattle.operand_rules.specs.Values.{typed_of}
-use Rattle.access_rules.specs.Functions.{AreValues}
+use Rattle.operator_rules.specs.AccessRules.Functions.{AreValues}
 use Rattle.operand_modes.specs.Lists.{GivesValues}
 use Rattle.operand_answers.proofs.KeptLemmas.{keeps_self}
 use Rattle.control_steps.specs.RightSides.Values.{AreValuesIfOk}

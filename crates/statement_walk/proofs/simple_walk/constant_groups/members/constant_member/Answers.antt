@@ -1,11 +1,11 @@
 use Rattle.std.proofs.Common.{◌∙◌, map, subst, sym}
 use Rattle.std.specs.Option.{option_map}
 use Rattle.go_tree.specs.View.{exprs_of, name_at_of, type_of}
-use Rattle.go_types.specs.Declarations.{new_constants}
-use Rattle.go_types.specs.Entities.{extend}
-use Rattle.go_types.specs.TypeNames as go_type
-use Rattle.go_types.specs.Typing as go
-use Rattle.scope_names.specs.FreeNames.{names_of}
+use Rattle.go_tree.specs.GoTypes.Declarations.{new_constants}
+use Rattle.go_tree.specs.GoTypes.Entities.{extend}
+use Rattle.go_tree.specs.GoTypes.TypeNames as go_type
+use Rattle.go_tree.specs.GoTypes.Typing as go
+use Rattle.go_tree.specs.ScopeNames.FreeNames.{names_of}
 use Rattle.control_steps.specs.DeclarationSteps.Entities.{AreEntities, binds_at}
 use Rattle.control_steps.specs.LocalBlocks.Places.{IsPlace}
 use Rattle.expr_walk.proofs.WalkArms.ExprArms.{at}

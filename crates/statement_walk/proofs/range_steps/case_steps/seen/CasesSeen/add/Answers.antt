@@ -1,6 +1,6 @@
 use Rattle.std.proofs.Common.{◌∙◌, ◌+◌, ◌&&◌, ◌++◌, ap, map, sym}
-use Rattle.go_types.specs.Literals.{same_const}
-use Rattle.go_types.specs.Statements.{case_constants}
+use Rattle.go_tree.specs.GoTypes.Literals.{same_const}
+use Rattle.go_tree.specs.GoTypes.Statements.{case_constants}
 use Rattle.operand_rules.specs.Values.{typed_of}
 use Rattle.literal_rules.specs.Sets.{new_and_distinct}
 use Rattle.statement_walk.specs.RangeSteps.CaseSteps.Cases.{count}

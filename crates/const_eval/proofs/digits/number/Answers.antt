@@ -1,9 +1,0 @@
-use Rattle.const_eval.specs.Literals.{digits_of}
-use Rattle.go_words.specs.Texts.{digits_in}
-use Rattle.const_eval.proofs.DigitLemmas.{too_great}
-use Rattle.const_eval.proofs.digits.number.Goals as goal
-
-pub returns-in_default : goal.returns-in_default
-returns-in_default c =
-    too_great c.args.base c.loop-digit.value c.args.digits.now c.loop-digit.digit-index (digits_in c.args.base 0 (digits_of c.args.digits.now))
-    c.requires c.loop-digit-test.true c.if-digit-ne95.true c.loop-digit.invariant.1 c.in_default.ensures

@@ -1,5 +1,0 @@
-use Rattle.cycle_runs.proofs.FoundUses.NoRecursive.{step-off}
-use Rattle.cycle_runs.proofs.found_uses.steps_use_no_recursive.Goals as goal
-
-pub returns : goal.returns
-returns c = λ marks st l after n. step-off marks st l after n

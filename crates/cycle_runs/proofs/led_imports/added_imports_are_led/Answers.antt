@@ -1,5 +1,0 @@
-use Rattle.cycle_runs.proofs.LedImports.Steps.{added-led}
-use Rattle.cycle_runs.proofs.led_imports.added_imports_are_led.Goals as goal
-
-pub returns : goal.returns
-returns c = λ marks st l after n own all led spelled. added-led marks st l after n own all led spelled

@@ -1,6 +1,0 @@
-use Rattle.std.proofs.Common.{◌∙◌}
-use Rattle.go_words.proofs.RowLemmas.{keyword_row}
-use Rattle.go_words.proofs.terminals.keyword.Goals as goal
-
-pub returns : goal.returns
-returns c = c.row_at.ensures ∙ keyword_row c.args.word.now c.hash.result c.from.result c.hash.ensures c.from.ensures

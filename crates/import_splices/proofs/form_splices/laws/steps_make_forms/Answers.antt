@@ -1,5 +1,0 @@
-use Rattle.import_splices.proofs.FormSplices.FormsFound.{step-makes-form}
-use Rattle.import_splices.proofs.form_splices.laws.steps_make_forms.Goals as goal
-
-pub returns : goal.returns
-returns c = λ marks st l after n. step-makes-form marks st l after n

@@ -1,0 +1,3 @@
+-- Modules that are inlined.
+pub mod Runs
+pub mod Printed

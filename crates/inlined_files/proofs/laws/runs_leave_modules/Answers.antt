@@ -1,0 +1,15 @@
+use Rattle.inlined_files.proofs.Kept.{runs_keep_folders}
+use Rattle.inlined_files.proofs.Runs.{read_files_stay, modules_stand, runs_leave}
+use Rattle.inlined_files.proofs.laws.runs_leave_modules.Goals as goal
+
+pub returns-clause-files : goal.returns-clause-files
+returns-clause-files c = read_files_stay
+
+pub returns-clause-read : goal.returns-clause-read
+returns-clause-read c = modules_stand
+
+pub returns-clause-leave : goal.returns-clause-leave
+returns-clause-leave c = runs_leave
+
+pub returns-clause-keep : goal.returns-clause-keep
+returns-clause-keep c = runs_keep_folders

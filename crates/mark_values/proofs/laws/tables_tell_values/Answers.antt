@@ -1,5 +1,0 @@
-use Rattle.mark_values.proofs.Told.{tables_tell}
-use Rattle.mark_values.proofs.laws.tables_tell_values.Goals as goal
-
-pub returns : goal.returns
-returns c = λ ps cs fs marks t m home n e same a h d. tables_tell ps cs fs marks t m home n e same a h d

@@ -1,0 +1,33 @@
+-- The names that a declaration looks up at the top of its file (Go specification, Declarations and scope; Blocks;
+-- Selectors): those that it uses and that no statement within it declares around the use. A name behind a dot, of a
+-- field or of a label is none; a parameter that the body of its function uses counts as one.
+use Rattle.std.specs.Prelude.{ℕ, List, [], ◌∷◌, ◌++◌, Option, Some, None}
+use Rattle.go_tree.specs.Tree.{const_decl, var_decl, ValueSpecs, no_specs, spec}
+use Rattle.go_tree.specs.File.{TypeSpec, Receiver, Decl, values, types, func}
+use Rattle.go_tree.specs.ScopeNames.FreeNames.{free_type, free_type_option, free_params, free_exprs, free_stmts}
+
+module _ {S : Type 0} where
+  -- those of constants or variables
+  abbrev pub specs_looked_up : ValueSpecs S → List (List ℕ)
+  specs_looked_up no_specs = []
+  specs_looked_up (spec _ ns t es ss) = free_type_option [] t ++ free_exprs [] es ++ specs_looked_up ss
+
+  -- those of declared types
+  abbrev pub types_looked_up : List (TypeSpec S) → List (List ℕ)
+  types_looked_up [] = []
+  types_looked_up (t ∷ ts) = free_type [] t.of ++ types_looked_up ts
+
+  -- the type of a receiver
+  abbrev pub receiver_looked_up : Option (Receiver S) → List (List ℕ)
+  receiver_looked_up None = []
+  receiver_looked_up (Some r) = r.of.name ∷ []
+
+  -- those of a declaration
+  abbrev pub decl_looked_up : Decl S → List (List ℕ)
+  decl_looked_up (values (const_decl _ _ ss)) = specs_looked_up ss
+  decl_looked_up (values (var_decl _ _ ss)) = specs_looked_up ss
+  decl_looked_up (values s) = []
+  decl_looked_up (types _ _ ts) = types_looked_up ts
+  decl_looked_up (func f) =
+      receiver_looked_up f.receiver ++ free_params [] f.sig.params ++ free_params [] f.sig.results
+      ++ free_stmts [] f.body

@@ -1,0 +1,5 @@
+pub mod Referred
+pub mod Texts
+pub mod Changes
+pub mod Limits
+pub mod Laws

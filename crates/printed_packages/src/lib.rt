@@ -1,0 +1,8 @@
+//! Packages whose files hold constants, and functions that print them, alone.
+#![tactic(auto)]
+
+mod laws;
+mod packages;
+
+pub use laws::print_only_is_printed;
+pub use packages::print_only;

@@ -1,5 +1,0 @@
-use Rattle.programs_on_the_way.proofs.Begin as begin
-use Rattle.programs_on_the_way.proofs.laws.runs_end.Goals as goal
-
-pub returns : goal.returns
-returns c = begin.runs_end c.first_uses_are_steps.ensures.steps c.steps_go_on.ensures.ended

@@ -1,0 +1,6 @@
+pub mod FirstLemmas
+pub mod PrintLemmas
+pub mod DecimalLemmas
+pub mod TypeLemmas
+pub mod TableLemmas
+pub mod AlikeLemmas

@@ -1,0 +1,5 @@
+pub mod Functions
+pub mod Printers
+pub mod Alike
+pub mod Worlds
+pub mod Laws

@@ -1,0 +1,14 @@
+pub mod Turns
+pub mod SpanSets
+pub mod Made
+pub mod Once
+pub mod NamedConstants
+pub mod Within
+pub mod Packages
+pub mod Entries
+pub mod StepRows
+pub mod Sites
+pub mod KeptFiles
+pub mod KeptPrograms
+pub mod MayTell
+pub mod RunReports

@@ -1,0 +1,21 @@
+use Rattle.literal_steps.proofs.MethodLiterals.CallMeant.{form_so, typed_alike, means_it, deferred_means_it}
+use Rattle.standing_files.proofs.UsesLinked.{use-linked}
+use Rattle.standing_files.proofs.use_laws.method_calls_mean_literals.Goals as goal
+
+pub returns-clause-form : goal.returns-clause-form
+returns-clause-form g = λ x v c h y o.
+    form_so x.same x.commented x.packages x.marks x.site x.becomes v x.members (use-linked x) c h y o
+
+pub returns-clause-typed : goal.returns-clause-typed
+returns-clause-typed g = λ x v c h y o e q.
+    typed_alike x.same x.commented x.packages x.marks x.site x.becomes v x.members (use-linked x) c h y o e q
+
+pub returns-clause-meaning : goal.returns-clause-meaning
+returns-clause-meaning g = λ x v c h y o e q free A rank ranked is_free t.
+    means_it x.same x.commented x.packages x.marks x.site x.becomes v x.members (use-linked x) c h y o e q free A rank
+    ranked is_free t
+
+pub returns-clause-deferred : goal.returns-clause-deferred
+returns-clause-deferred g = λ x v c h y o e q free A.
+    deferred_means_it x.same x.commented x.packages x.marks x.site x.becomes v x.members (use-linked x) c h y o e q free
+    A

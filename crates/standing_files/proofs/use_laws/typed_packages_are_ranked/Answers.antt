@@ -1,0 +1,15 @@
+use Rattle.literal_steps.proofs.RankedMarks.ProgramRanked.{calls-lead, program-ranked, free-call}
+use Rattle.standing_files.proofs.UsesLinked.{packages-translated}
+use Rattle.standing_files.proofs.use_laws.typed_packages_are_ranked.Goals as goal
+
+pub returns-clause-calls : goal.returns-clause-calls
+returns-clause-calls c = λ ps marks ms t plain f g a b x y asked.
+    calls-lead ps marks ms (packages-translated ps marks ms t) plain f a x g b y asked
+
+pub returns-clause-ranked : goal.returns-clause-ranked
+returns-clause-ranked c = λ ps marks ms t plain f e.
+    program-ranked ps marks ms (packages-translated ps marks ms t) plain f e
+
+pub returns-clause-meaning : goal.returns-clause-meaning
+returns-clause-meaning c = λ ps marks ms t plain f e A a.
+    free-call ps marks ms (packages-translated ps marks ms t) plain f e A a

@@ -1,0 +1,3 @@
+pub mod TypedUses
+pub mod Laws
+pub mod UseLaws

@@ -1,0 +1,98 @@
+-- With the file of a step put in, the next program stands on the way.
+use Rattle.std.proofs.Common.{◌≡◌, ◌∙◌, sym, ap, subst, ℕ, ◌+◌, ◌≤◌, List, Some, None, length}
+use Rattle.std.specs.Prelude.{slice_get}
+use Rattle.std.proofs.lemmas.Option.{same_Some}
+use Rattle.go_tree.specs.FileView.{file_of}
+use Rattle.pkg_graph.specs.Reads.{Source}
+use Rattle.typed_parts.specs.MarkedRuns.KeptMarks.Over.{IsOverName}
+use Rattle.typed_parts.proofs.MarkedRuns.NamedMarks.Used.{named-used}
+use Rattle.put_names.specs.Uses.{UsesConstant}
+use Rattle.next_file.specs.declared.file.NewFile.{NewFile}
+use Rattle.next_file.specs.declared.limits.Progress.{Progress}
+use Rattle.next_file.specs.Files.{text_of}
+use Rattle.next_file.specs.Limits.{Passes}
+use Rattle.package_search.specs.declared.looks.ProgramSources.{ProgramSources}
+use Rattle.package_search.specs.declared.search.FoundInPackage.{FoundInPackage}
+use Rattle.printed_constants.specs.CountedNames.Laws.{StepsStayWithinTotal}
+use Rattle.printed_constants.specs.PrintedSteps.Laws.{StepsAreOverNames, PrintedStepsKeep}
+use Rattle.printed_constants.specs.PrintedSteps.Programs.{IsPrintedProgram}
+use Rattle.printed_constants.specs.QualifiedDots.Laws.{PrintedUsesAreUndotted}
+use Rattle.run_by_steps.specs.NextPrograms.Made.{NextWith}
+use Rattle.run_by_steps.specs.Reached.{row_of}
+use Rattle.run_by_steps.specs.RunProgress.Laws.{HasCome, StepsComeNext}
+use Rattle.run_rules.specs.Forms.{is_at}
+use Rattle.run_rules.specs.Marks.{marks_of, text_at}
+use Rattle.run_rules.specs.Programs.{decl_seen}
+use Rattle.run_rules.specs.Run.{Standing, Logged, module_file_size, texts_size, the_limits, passed}
+use Rattle.run_rules.specs.Sites.{MarkRef, part_span}
+use Rattle.run_rules.specs.Steps.{At, same_here, Found}
+use Rattle.run_rules.specs.Texts.{FileText}
+use Rattle.typed_parts.specs.StandingUses.ImportUses.Parts.{EachSeen}
+use Rattle.step_counts.specs.Laws.{OneMore, StepsAreCounted}
+use Rattle.stepped_programs.specs.FirstUses.StepLaws.{FoundFilesStand, text_there}
+use Rattle.stepped_programs.specs.Laws.{place_of, IsOfStep, IsUndotted, FoundUsesArePut, StepsKeepPrograms, StepsKeepSettled}
+use Rattle.stepped_programs.specs.SearchedSites.FoundSteps.Laws.{step_of}
+use Rattle.stepped_programs.specs.SearchedSites.OrderedSearches.Found.{IsFoundFirst}
+use Rattle.stepped_programs.specs.SearchedSites.PrintedSearches.Laws.{PrintedFilesAreSearchable}
+use Rattle.stepped_programs.specs.SearchedSites.SwappedParts.Swaps.{HasNoDot}
+use Rattle.stepped_programs.specs.SteppedValues.Flags.{IsKeptProgram}
+use Rattle.stepped_programs.specs.ProgramsOnTheWay.Laws.{StepsStayOnTheWay}
+use Rattle.stepped_programs.proofs.ProgramsOnTheWay.Begin.{texts_small}
+
+module _ (files : List Source) (marks : List MarkRef) (st : Standing) (s : ProgramSources) (k : ℕ) (r : FoundInPackage) (a : IsFoundFirst marks st s k r) (old : FileText) (f : NewFile) (n : NextWith marks st (step_of a) old (text_of f) (file_of f.tree))
+    (program : IsPrintedProgram files marks st) where
+  abbrev row : Logged
+  row = row_of marks st (step_of a) old
+
+  -- the step is that over the use that was found
+  same : n.next.found ≡ step_of a
+  same = same_Some n.next.found (step_of a) (sym n.next.is_first ∙ a.is_first)
+
+  undotted : StepsAreOverNames → PrintedUsesAreUndotted → IsUndotted st a.site
+  undotted over uses d de =
+      let o : IsOverName n.next = over files marks st row n.after n.next program in
+      let c : UsesConstant n.next = named-used marks st row n.after n.next o.old o.part program.named in
+      subst (λ (g : Found At). slice_get g.site.at.source.tree.decls g.site.decl ≡ Some d → EachSeen (HasNoDot (is_at same_here (part_span g.site.part))) (decl_seen st.packages g.site.at.number g.site.at.of g.site.at.source.tree d)) same
+      (λ e. uses marks st row n.after n.next program.ready program.printed c.name c.value o.old c.declared o.part d e) de
+
+  -- it passes no limit
+  within : StepsComeNext → (done : List Logged) (progress : Progress) → text_at a.site.at.source.path st.texts ≡ Some old → HasCome progress files done row st old → Passes progress (text_of f) None
+      → passed the_limits files done row n.next.new n.after.texts ≡ None
+  within come done progress there has passes =
+      let old_is : old ≡ n.next.old = same_Some old n.next.old (sym there ∙ sym (ap (λ (g : Found At). text_at g.site.at.source.path st.texts) same) ∙ n.next.stands) in
+      let c = come marks files done st row n.after n.next progress program.apart (subst (λ (t : FileText). HasCome progress files done row st t) old_is has) in
+      subst (λ (t : FileText). passed the_limits files done row t n.after.texts ≡ None) (sym n.text_is)
+      (passes files done row n.after.texts (record { steps = c.steps; steps_of_use = c.steps_of_use; bytes = c.bytes ∙ ap (λ (t : FileText). progress.other_bytes + length t.text) n.text_is }))
+
+pub stay_on : FoundFilesStand → PrintedUsesAreUndotted → PrintedFilesAreSearchable → StepsAreOverNames → PrintedStepsKeep → StepsStayWithinTotal → FoundUsesArePut → StepsComeNext → StepsAreCounted → StepsKeepPrograms → StepsKeepSettled → StepsStayOnTheWay
+stay_on stand uses searchable over keeps total are_put come count keep settle files ps texts only done st p q s t c d u a progress step o comes made n reached os swapped put sources more =
+    let marks : List MarkRef = marks_of ps texts only in
+    let old : FileText = text_there made.file in
+    let l : Logged = row_of marks st (step_of a) old in
+    let right = comes.right made.file in
+    let there = (stand files marks st p s u a made.file made.view o.kept made.is_view).there in
+    let fits = within files marks st s u.home u.found a old step.file n o.printed come done progress there (comes.come made.file) made.within in
+    let program : IsPrintedProgram files marks n.after = keeps files marks done st l n.after n.next o.printed fits in
+    let small : length step.file.text ≤ 4194304 = subst (λ (x : FileText). length x.text ≤ 4194304) n.text_is (total files done l n.next.new n.after.texts fits).0 in
+    let is : IsOfStep n.next (place_of u.home u.found) os u.found.tables.names.«package» step.file =
+    are_put files marks st s u.home u.found a old step.file n p os right.expr o.kept.is_program right.part (undotted files marks st s u.home u.found a old step.file n o.printed over uses) small swapped in
+    let kept : IsKeptProgram files marks n.after q t =
+    record {
+      is_program = keep files marks st l n.after n.next (place_of u.home u.found) os u.found.tables.names.«package» step.file p q o.kept.is_program o.printed.apart is put;
+      sources = sources;
+      ready = program.ready;
+      typed = program.typed;
+      named = program.named;
+      searchable = searchable marks n.after program.ready.reads program.ready.paths program.printed (texts_small (module_file_size files) (texts_size n.after.texts) program.small);
+    } in
+    record {
+      reached = reached;
+      kept = kept;
+      printed = program;
+      settled =
+          settle files marks st l n.after n.next (place_of u.home u.found) os u.found.tables.names.«package» step.file p q s t o.kept kept (over files marks st l n.after n.next o.printed) is put
+          o.settled;
+      counted =
+          count marks st l n.after n.next done c d o.kept.is_program.paths o.counted
+          (subst (λ (g : Found At). OneMore c d (g.site.at.number, (g.site.at.file_number, (part_span a.site.part).origin.start))) (sym (same files marks st s u.home u.found a old step.file n o.printed)) more);
+    }

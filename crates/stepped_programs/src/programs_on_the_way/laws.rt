@@ -1,0 +1,66 @@
+//! Laws of programs on the way of a run.
+
+ghost use Rattle.stepped_programs.specs.ProgramsOnTheWay.Laws as law;
+
+use crate::{
+    first_uses_are_steps, first_uses_keep_programs, found_uses_may_step, origins_are_swapped,
+    printed_files_are_searchable, steps_go_on, steps_keep_programs, steps_keep_settled,
+};
+use printed_constants::declared_constants::declared_constants_name_constants;
+use printed_constants::{
+    printed_dots_are_qualified, printed_steps_avoid_few_names, printed_steps_keep,
+};
+use run_by_steps::progress_follows_steps;
+use step_counts::{counts_come, steps_are_counted};
+
+/// The program that is loaded of a module of constants and of functions that print them, which is well typed and within
+/// the limits, and whose marks are of constants, stands at the beginning of a run: no step is counted, and no file is
+/// settled.
+pub fn runs_begin()
+    ensures { law.RunsBegin }
+{
+    declared_constants_name_constants();
+    printed_files_are_searchable();
+    printed_steps_keep();
+    steps_are_counted();
+}
+
+/// Looking for the first free use leaves a program where it stands on its way (`stay`). What is found is the use that
+/// the run takes next, and is as steps over it ask (`found`); how far the run has come is told by the counts (`come`),
+/// so the step over it leads to the next program, or to the limit that is passed (stepped_programs' `use_steps_go_on`).
+pub fn first_uses_come_next()
+    ensures stay { law.FirstUsesStayOnTheWay }
+    ensures found { law.FirstUsesAreFound }
+    ensures come { law.FoundUsesComeNext }
+{
+    first_uses_keep_programs();
+    first_uses_are_steps();
+    found_uses_may_step();
+    printed_steps_keep();
+    counts_come();
+}
+
+/// With the file of the step put in, the step counted, and the origins of its declaration told, the next program stands
+/// on the way of the run. Of the step nothing is asked.
+pub fn steps_stay_on_the_way()
+    ensures { law.StepsStayOnTheWay }
+{
+    found_uses_may_step();
+    printed_dots_are_qualified();
+    printed_files_are_searchable();
+    printed_steps_keep();
+    printed_steps_avoid_few_names();
+    origins_are_swapped();
+    progress_follows_steps();
+    steps_are_counted();
+    steps_keep_programs();
+    steps_keep_settled();
+}
+
+/// Where no free use is found the texts are those of the inlined module, with the report of the steps that were made.
+pub fn runs_end()
+    ensures { law.RunsEnd }
+{
+    first_uses_are_steps();
+    steps_go_on();
+}

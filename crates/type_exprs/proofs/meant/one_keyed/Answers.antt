@@ -1,7 +1,0 @@
-use Rattle.type_exprs.proofs.FlagsKept.{keyed_given}
-use Rattle.type_exprs.proofs.meant.one_keyed.Goals as goal
-
-pub returns-in-Ok-clause-gives : goal.returns-in-Ok-clause-gives
-returns-in-Ok-clause-gives c =
-    λ d h.
-    keyed_given c.args.types.now c.extend.new.self c.args.of d c.with_keys.result c.in-Ok.ensures.are h c.with_keys.ensures

@@ -1,5 +1,0 @@
-use Rattle.value_types.proofs.ValueLemmas.{no_rows_are_value_types, value_types_stay}
-use Rattle.value_types.proofs.laws.tables_of_value_types.Goals as goal
-
-pub returns : goal.returns
-returns c = record { none = no_rows_are_value_types; stay = value_types_stay }

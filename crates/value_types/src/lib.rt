@@ -1,7 +1,0 @@
-//! Tables of types of values: no type is that of an untyped constant or of nil. Laws alone (Go
-//! specification, Types; Constants).
-#![tactic(auto)]
-
-mod laws;
-
-pub use laws::tables_of_value_types;
