@@ -10,7 +10,7 @@ use Rattle.typed_in_place.specs.ProgramsAlike.{OneByOne}
 use Rattle.typed_in_place.proofs.ProgramsReplaced.{declarations_as_before_beside}
 use Rattle.go_translation.specs.Packages.{Package, sources, has_number, are_distinct}
 use Rattle.run_rules.specs.FormTrees.{Form}
-use Rattle.splice_laws.proofs.ConstantSteps.StepLaws.FurtherApart.{further-apart}
+use Rattle.constant_steps.proofs.StepLaws.FurtherApart.{further-apart}
 use Rattle.order_runs.proofs.ImportSteps.Links.{Link}
 use Rattle.alias_runs.specs.AliasSteps.AliasSteps.{members_with_form, AliasSwaps}
 use Rattle.alias_runs.specs.AliasSteps.RetypedPrograms.{RetypedProgram}

@@ -16,17 +16,17 @@ use Rattle.run_rules.specs.Sites.{MarkRef, Where, Site, part_span, where_is}
 use Rattle.run_rules.specs.Steps.{At, same_here, change_nth}
 use Rattle.run_rules.specs.Run.{Standing, Logged, Next, here_of, origin_of}
 use Rattle.splice_laws.proofs.RunLaws.FoundSpans.{Placed}
-use Rattle.splice_laws.specs.ConstantSteps.StepLaws.DeclStands.{changed}
+use Rattle.constant_steps.specs.StepLaws.DeclStands.{changed}
 use Rattle.order_runs.specs.CycleRuns.StepCycles.PackagesAlike.{import_key}
 use Rattle.order_runs.proofs.CycleRuns.StepCycles.StepAlike.{one-changed, both-changed}
 use Rattle.order_runs.proofs.CycleLaws.BareWith as spans
 use Rattle.order_runs.proofs.CycleLaws.StepsLead.{change-at}
-use Rattle.splice_laws.specs.ConstantSteps.Alone.{PackageAt}
-use Rattle.splice_laws.specs.ConstantSteps.PlainUse.{linked_at}
-use Rattle.splice_laws.proofs.ConstantSteps.LinkedAfter.{package_with, rs_after, linked_after}
-use Rattle.splice_laws.proofs.ConstantSteps.MarksFound.{StandsThere, stands_there}
-use Rattle.splice_laws.proofs.ConstantSteps.PlainImports.{Distinct, distinct_sources}
-use Rattle.splice_laws.specs.ConstantSteps.QualifiedSteps.NamedUse.{PackageStands}
+use Rattle.constant_steps.specs.Alone.{PackageAt}
+use Rattle.constant_steps.specs.PlainUse.{linked_at}
+use Rattle.constant_steps.proofs.LinkedAfter.{package_with, rs_after, linked_after}
+use Rattle.constant_steps.proofs.MarksFound.{StandsThere, stands_there}
+use Rattle.constant_steps.proofs.PlainImports.{Distinct, distinct_sources}
+use Rattle.constant_steps.specs.QualifiedSteps.NamedUse.{PackageStands}
 use Rattle.order_runs.specs.CycleRuns.ImportCycles.OtherImports.{PackagesBeside, FileUnder}
 use Rattle.order_runs.specs.CycleRuns.ImportCycles.ImportSteps.{file_added, packages_added, where_added, decl_put}
 use Rattle.order_runs.proofs.CycleRuns.ImportCycles.FreeIdentifiers.{looked-up-within}

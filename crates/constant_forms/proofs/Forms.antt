@@ -14,7 +14,7 @@ use Rattle.run_rules.specs.Sites.{Where, mark_of}
 use Rattle.run_rules.specs.Naming.{Names, unnamed, unnamed_package, unnamed_in, new_first}
 use Rattle.run_rules.specs.FormTrees.{as_expr, a_name, form_identifiers, outside_changes}
 use Rattle.run_rules.specs.Steps.{At}
-use Rattle.splice_laws.specs.PlaceMeanings.Agreement.{target_of}
+use Rattle.constant_steps.specs.PlaceMeanings.Agreement.{target_of}
 use Rattle.constant_forms.specs.declared.uses.ConstantValue.{ConstantValue}
 use Rattle.constant_forms.specs.declared.uses.ConstantValue.TheVariants.{Plain}
 use Rattle.constant_forms.specs.Views.{name_expr}

@@ -17,7 +17,7 @@ use Rattle.pkg_graph.specs.Members.{Target, member, items_from, decls_from, file
 use Rattle.go_tree.specs.GoTypes.Answers.{given}
 use Rattle.run_rules.specs.Sites.{MarkRef, Where, mark_of}
 use Rattle.run_rules.specs.Steps.{At}
-use Rattle.splice_laws.specs.FormImports.ImportLaws.Steps.{names_standing}
+use Rattle.constant_steps.specs.FormImports.ImportLaws.Steps.{names_standing}
 use Rattle.constant_forms.specs.Uses.{IsMember}
 
 -- ---- the entries of a package block

@@ -31,9 +31,9 @@ use Rattle.run_rules.specs.Laws.{needed_of}
 use Rattle.run_rules.specs.Steps.{At}
 use Rattle.run_rules.specs.Run.{here_of}
 use Rattle.run_rules.proofs.NamesFound.{named_is_needed}
-use Rattle.splice_laws.specs.FormImports.ImportLaws.Steps.{names_standing}
-use Rattle.splice_laws.proofs.FormImports.ImportLaws.GraphImports.{map_twice}
-use Rattle.splice_laws.specs.PlaceMeanings.Agreement.{means_local, AgreesAt}
+use Rattle.constant_steps.specs.FormImports.ImportLaws.Steps.{names_standing}
+use Rattle.constant_steps.proofs.FormImports.ImportLaws.GraphImports.{map_twice}
+use Rattle.constant_steps.specs.PlaceMeanings.Agreement.{means_local, AgreesAt}
 use Rattle.constant_forms.specs.Told.{named_by}
 
 -- ---- new names

@@ -20,7 +20,7 @@ use Rattle.run_rules.specs.Sites.{MarkRef, Where, same_target, mark_of, imported
 use Rattle.run_rules.specs.Naming.{package_path}
 use Rattle.run_rules.specs.Obstacles.{is_qualified_there, Obstacle, NotAccessible, Internal, Shadowed, obstacle_if, unless_exported, is_elsewhere, hidden_member, not_accessible, internal_package, means_this, shadowed_meaning, shadowed, is_repeated}
 use Rattle.run_rules.specs.Steps.{At}
-use Rattle.splice_laws.specs.PlaceMeanings.Agreement.{target_of}
+use Rattle.constant_steps.specs.PlaceMeanings.Agreement.{target_of}
 use Rattle.constant_forms.specs.declared.uses.ConstantValue.{ConstantValue}
 use Rattle.constant_forms.specs.declared.uses.ConstantValue.TheVariants.{Plain, Qualified}
 use Rattle.constant_forms.specs.Told.{value_name, is_hidden, means_universe, means_member, is_another}

@@ -21,8 +21,8 @@ use Rattle.run_rules.specs.Reduced.{reduced}
 use Rattle.run_rules.specs.Respanned.{packages_with}
 use Rattle.run_rules.specs.Steps.{At, same_here, lies_in}
 use Rattle.run_rules.specs.Run.{here_of}
-use Rattle.splice_laws.specs.FormImports.ImportLaws.Steps.{names_standing}
-use Rattle.splice_laws.specs.PlaceMeanings.Agreement.{target_of, AgreesAt}
+use Rattle.constant_steps.specs.FormImports.ImportLaws.Steps.{names_standing}
+use Rattle.constant_steps.specs.PlaceMeanings.Agreement.{target_of, AgreesAt}
 use Rattle.constant_forms.specs.declared.uses.ConstantValue.{ConstantValue}
 use Rattle.constant_forms.specs.declared.uses.ConstantValue.TheVariants.{Plain, Qualified}
 use Rattle.constant_forms.specs.declared.uses.ConstantUse.{ConstantUse}

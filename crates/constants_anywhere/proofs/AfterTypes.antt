@@ -21,11 +21,11 @@ use Rattle.typed_in_place.proofs.Collected.{aliases_same, types_same, declared_t
 use Rattle.typed_in_place.proofs.MethodsAside.{under_methods, keys_methods}
 use Rattle.typed_in_place.proofs.ProgramsReplaced.{one_by_one, each_one, append_one, replaced_aliases_stand, replaced_types_stand, aliases_stand_itself, types_stand_itself}
 use Rattle.typed_in_place.proofs.Rising.{keeps_some}
-use Rattle.splice_laws.specs.ConstantSteps.StepLaws.DeclStands.{HeadedBy, ResolvedAlike, TypesAlike}
-use Rattle.splice_laws.specs.ConstantSteps.StepLaws.ConstantSteps.{constant_put}
-use Rattle.splice_laws.proofs.ConstantSteps.StepLaws.ConstantStepLaw.{resolved-stays, types-stay-put}
-use Rattle.splice_laws.proofs.ConstantSteps.StepLaws.DeclChanged.{receiver_itself}
-use Rattle.splice_laws.proofs.ConstantSteps.StepLaws.StepInPlace.{names-declared, program-by, same-packages}
+use Rattle.constant_steps.specs.StepLaws.DeclStands.{HeadedBy, ResolvedAlike, TypesAlike}
+use Rattle.constant_steps.specs.StepLaws.ConstantSteps.{constant_put}
+use Rattle.constant_steps.proofs.StepLaws.ConstantStepLaw.{resolved-stays, types-stay-put}
+use Rattle.constant_steps.proofs.StepLaws.DeclChanged.{receiver_itself}
+use Rattle.constant_steps.proofs.StepLaws.StepInPlace.{names-declared, program-by, same-packages}
 use Rattle.imported_typing.proofs.ProgramsAlike.{headed_both}
 use Rattle.imported_typing.proofs.TypesKept.{TypesKept, text_kept}
 use Rattle.constants_anywhere.proofs.TypeRounds.{kept_itself, HeaderFollows, KnowsTypes, values_follow}

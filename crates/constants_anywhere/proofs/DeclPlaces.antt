@@ -14,10 +14,10 @@ use Rattle.go_tree.specs.GoTypes.Bodies.{body_ctx, literal_env}
 use Rattle.go_tree.specs.GoTypes.WellTyped.{receiver_names}
 use Rattle.run_rules.specs.Surroundings.{Place, Seen, in_constant, in_literal, value_use, alike}
 use Rattle.run_rules.specs.Programs.{world, top_env, top_place, body_place, headed_func, imports_mean, constants_at_top, variables_at_top, types_at_top, receiver_seen, decl_seen}
-use Rattle.splice_laws.specs.ConstantSteps.StepLaws.Answered.{HoldsWithin}
-use Rattle.splice_laws.specs.ConstantSteps.StepLaws.NamesOutside.{NamesOutside}
-use Rattle.splice_laws.proofs.ConstantSteps.StepLaws.OutsideHolds.{outside_holds}
-use Rattle.splice_laws.proofs.ConstantSteps.StepLaws.DeclUses.{at-top, body-begins}
+use Rattle.constant_steps.specs.StepLaws.Answered.{HoldsWithin}
+use Rattle.constant_steps.specs.StepLaws.NamesOutside.{NamesOutside}
+use Rattle.constant_steps.proofs.StepLaws.OutsideHolds.{outside_holds}
+use Rattle.constant_steps.proofs.StepLaws.DeclUses.{at-top, body-begins}
 use Rattle.go_tree.specs.Tree.{ident}
 use Rattle.literal_steps.specs.TypedParts.{LocalValues}
 use Rattle.constants_anywhere.proofs.LocalHolds.{Valued, valued_holds, top_valued, StartTyped, start_valued}

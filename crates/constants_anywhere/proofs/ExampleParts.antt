@@ -8,7 +8,7 @@ use Rattle.go_translation.specs.SameMeaning.{Packages}
 use Rattle.run_rules.specs.Surroundings.{whole, Place, Seen, seen}
 use Rattle.run_rules.specs.Programs.{top_place, decl_seen}
 use Rattle.run_rules.specs.Sites.{MarkRef, Where, Site, an_expr}
-use Rattle.splice_laws.specs.ConstantSteps.PlainUse.{linked_at}
+use Rattle.constant_steps.specs.PlainUse.{linked_at}
 
 abbrev pub named : ℕ → List ℕ → NameAt ℕ
 named s n = record { span = s; name = n }

@@ -7,9 +7,9 @@ use Rattle.go_tree.specs.Tree.{Expr, ident, int_lit, no_exprs, expr_and, const_d
 use Rattle.go_tree.specs.File.{func}
 use Rattle.go_translation.specs.SameMeaning.{SameMeaning}
 use Rattle.run_rules.specs.FormTrees.{ConstForm, as_expr}
-use Rattle.splice_laws.specs.ConstantSteps.Alone.{no_constants, and_constant, constants_alone, no_decls, and_decl, this_package}
-use Rattle.splice_laws.specs.ConstantSteps.Alone as alone
-use Rattle.splice_laws.specs.ConstantSteps.PlainUse.{PlainUse}
+use Rattle.constant_steps.specs.Alone.{no_constants, and_constant, constants_alone, no_decls, and_decl, this_package}
+use Rattle.constant_steps.specs.Alone as alone
+use Rattle.constant_steps.specs.PlainUse.{PlainUse}
 use Rattle.constants_anywhere.proofs.ExampleParts.{named, mark_of_d, marks, no_comments, main_with, home, program, use_of_c, packages_with}
 use Rattle.constants_anywhere.specs.UseAnywhere.{UseAnywhere}
 use Rattle.constants_anywhere.proofs.UsesAnywhere.{meaning_anywhere}

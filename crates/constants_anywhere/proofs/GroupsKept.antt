@@ -28,10 +28,10 @@ use Rattle.run_rules.specs.Obstacles.{Obstacle, obstacle_if, not_accessible, int
 use Rattle.run_rules.specs.Obstacles as obstacles
 use Rattle.run_rules.specs.Reduced.{home_place, constant_form}
 use Rattle.std.specs.List.{list_any}
-use Rattle.splice_laws.specs.ConstantSteps.StepLaws.Kept.{NoneAt, RepeatsKept, GroupKept}
-use Rattle.splice_laws.specs.ConstantSteps.PlainUse.{PlainUse, AllTheUse}
-use Rattle.splice_laws.proofs.ConstantSteps.MarksFound.{both_none}
-use Rattle.splice_laws.proofs.ConstantSteps.PlainForms.{clear}
+use Rattle.constant_steps.specs.StepLaws.Kept.{NoneAt, RepeatsKept, GroupKept}
+use Rattle.constant_steps.specs.PlainUse.{PlainUse, AllTheUse}
+use Rattle.constant_steps.proofs.MarksFound.{both_none}
+use Rattle.constant_steps.proofs.PlainForms.{clear}
 use Rattle.constants_anywhere.specs.Groups.{RepeatsBodiless}
 
 -- ---- the place of a use without an obstacle

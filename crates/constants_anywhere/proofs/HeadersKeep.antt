@@ -28,18 +28,18 @@ use Rattle.run_rules.specs.Programs.{top_place, body_place, constants_at_top, va
 use Rattle.run_rules.specs.Sites.{Site, part_span}
 use Rattle.run_rules.specs.FormTrees.{as_expr}
 use Rattle.run_rules.specs.Steps.{changes_for, new_constants, new_variables, new_type_spec, new_receiver_option, new_decl}
-use Rattle.splice_laws.specs.ConstantSteps.StepLaws.NamesOutside.{UseThere}
-use Rattle.splice_laws.specs.ConstantSteps.StepLaws.SwapPrograms.{headed_there}
-use Rattle.splice_laws.proofs.ConstantSteps.StepLaws.DeclUses.{at-top, body-begins}
-use Rattle.splice_laws.proofs.ConstantSteps.StepLaws.Standing.{all-stands, stmts-stands}
-use Rattle.splice_laws.proofs.ConstantSteps.StepLaws.Swapping.{written-same, sig-same}
-use Rattle.splice_laws.proofs.ConstantSteps.StepLaws.Walking.{all-walk, stmts-walk}
-use Rattle.splice_laws.specs.ConstantSteps.Alone.{SingleSpecs, no_constants, and_constant, and_typed, and_repeated, SingleVariables, no_variables, and_variable, PlainDecl, constants_alone, variables_alone, some_types}
-use Rattle.splice_laws.specs.ConstantSteps.Alone as alone
-use Rattle.splice_laws.specs.ConstantSteps.HeaderUses.{Differs, UseAlike}
-use Rattle.splice_laws.specs.ConstantSteps.PlainUse.{AllTheUse}
-use Rattle.splice_laws.proofs.ConstantSteps.OneMore.{WithOne, one_holds}
-use Rattle.splice_laws.proofs.ConstantSteps.HeadersUse.{uses_itself}
+use Rattle.constant_steps.specs.StepLaws.NamesOutside.{UseThere}
+use Rattle.constant_steps.specs.StepLaws.SwapPrograms.{headed_there}
+use Rattle.constant_steps.proofs.StepLaws.DeclUses.{at-top, body-begins}
+use Rattle.constant_steps.proofs.StepLaws.Standing.{all-stands, stmts-stands}
+use Rattle.constant_steps.proofs.StepLaws.Swapping.{written-same, sig-same}
+use Rattle.constant_steps.proofs.StepLaws.Walking.{all-walk, stmts-walk}
+use Rattle.constant_steps.specs.Alone.{SingleSpecs, no_constants, and_constant, and_typed, and_repeated, SingleVariables, no_variables, and_variable, PlainDecl, constants_alone, variables_alone, some_types}
+use Rattle.constant_steps.specs.Alone as alone
+use Rattle.constant_steps.specs.HeaderUses.{Differs, UseAlike}
+use Rattle.constant_steps.specs.PlainUse.{AllTheUse}
+use Rattle.constant_steps.proofs.OneMore.{WithOne, one_holds}
+use Rattle.constant_steps.proofs.HeadersUse.{uses_itself}
 use Rattle.constants_anywhere.specs.Known.{AllKnown}
 use Rattle.constants_anywhere.proofs.PartsMeant.{known_answered}
 

@@ -24,27 +24,27 @@ use Rattle.run_rules.specs.Programs.{linked_file, linked_imports}
 use Rattle.run_rules.specs.Sites.{MarkRef, Site, part_span}
 use Rattle.run_rules.specs.FormTrees.{as_expr}
 use Rattle.run_rules.specs.Steps.{changes_for, new_decl}
-use Rattle.splice_laws.specs.ConstantSteps.StepLaws.DeclStands.{ProgramBy, HeadedBy, AtNth}
-use Rattle.splice_laws.specs.ConstantSteps.StepLaws.ConstantSteps.{ImportsRight, constant_put}
-use Rattle.splice_laws.proofs.ConstantSteps.StepLaws.ConstantStepLaw.{constant-step}
-use Rattle.splice_laws.proofs.ConstantSteps.StepLaws.DeclChanged.{DeclBy, DeclOfFilesBy, DeclOfPackageBy, same_package, changed_by}
-use Rattle.splice_laws.proofs.ConstantSteps.StepLaws.FurtherApart.{further-apart}
-use Rattle.splice_laws.proofs.ConstantSteps.StepLaws.StepInPlace.{program-by}
-use Rattle.splice_laws.proofs.ConstantSteps.StepLaws.StepMeaning.{distinct-before}
-use Rattle.splice_laws.proofs.ConstantSteps.StepLaws.StepUses.{step-with-uses, use-of-constant}
-use Rattle.splice_laws.proofs.ConstantSteps.StepLaws.SwapProgram.{sources-before}
-use Rattle.splice_laws.specs.WrittenLiteral.LinkedNames.{NoneNumbered}
-use Rattle.splice_laws.specs.ConstantSteps.Alone.{PackageAt, this_package, a_later_package}
-use Rattle.splice_laws.specs.ConstantSteps.HeaderUses.{UseAlike}
-use Rattle.splice_laws.specs.ConstantSteps.PlainUse.{linked_at, PlainUse}
-use Rattle.splice_laws.proofs.ConstantSteps.PlainImports.{Distinct, distinct_sources}
+use Rattle.constant_steps.specs.StepLaws.DeclStands.{ProgramBy, HeadedBy, AtNth}
+use Rattle.constant_steps.specs.StepLaws.ConstantSteps.{ImportsRight, constant_put}
+use Rattle.constant_steps.proofs.StepLaws.ConstantStepLaw.{constant-step}
+use Rattle.constant_steps.proofs.StepLaws.DeclChanged.{DeclBy, DeclOfFilesBy, DeclOfPackageBy, same_package, changed_by}
+use Rattle.constant_steps.proofs.StepLaws.FurtherApart.{further-apart}
+use Rattle.constant_steps.proofs.StepLaws.StepInPlace.{program-by}
+use Rattle.constant_steps.proofs.StepLaws.StepMeaning.{distinct-before}
+use Rattle.constant_steps.proofs.StepLaws.StepUses.{step-with-uses, use-of-constant}
+use Rattle.constant_steps.proofs.StepLaws.SwapProgram.{sources-before}
+use Rattle.constant_steps.specs.WrittenLiteral.LinkedNames.{NoneNumbered}
+use Rattle.constant_steps.specs.Alone.{PackageAt, this_package, a_later_package}
+use Rattle.constant_steps.specs.HeaderUses.{UseAlike}
+use Rattle.constant_steps.specs.PlainUse.{linked_at, PlainUse}
+use Rattle.constant_steps.proofs.PlainImports.{Distinct, distinct_sources}
 use Rattle.constants_anywhere.specs.Known.{PartsStand}
 use Rattle.constants_anywhere.specs.UseAnywhere.{UseAnywhere}
-use Rattle.splice_laws.proofs.ConstantSteps.AfterStep.{package_beside, at_package, at_nth, plain_file, plain_decl}
-use Rattle.splice_laws.proofs.ConstantSteps.HeadersUse.{uses_itself}
+use Rattle.constant_steps.proofs.AfterStep.{package_beside, at_package, at_nth, plain_file, plain_decl}
+use Rattle.constant_steps.proofs.HeadersUse.{uses_itself}
 use Rattle.constants_anywhere.proofs.HeadersKeep.{decl_uses}
-use Rattle.splice_laws.proofs.ConstantSteps.ImportsKept.{FilesDiffer, PackagesDiffer, packages_same, all_differ, others_differ, files_differ}
-use Rattle.splice_laws.proofs.ConstantSteps.MarksFound.{nth_mapped}
+use Rattle.constant_steps.proofs.ImportsKept.{FilesDiffer, PackagesDiffer, packages_same, all_differ, others_differ, files_differ}
+use Rattle.constant_steps.proofs.MarksFound.{nth_mapped}
 use Rattle.constants_anywhere.proofs.UsesFound.{old_there, new_there, use_before}
 use Rattle.constants_anywhere.proofs.UsesStand.{plainly, swaps_there}
 

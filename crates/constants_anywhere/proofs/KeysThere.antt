@@ -13,8 +13,8 @@ use Rattle.go_tree.specs.GoTypes.Literals.{Element, of_field, keyed, is_struct, 
 use Rattle.go_tree.specs.GoTypes.Typing.{elements, element, with_key}
 use Rattle.go_tree.proofs.GoTypes.Agreeing.{from_given, from_both}
 use Rattle.run_rules.specs.Surroundings.{Use, into_type, elem_use, key_use}
-use Rattle.splice_laws.specs.ConstantSteps.StepLaws.Stands.{SameAnswer}
-use Rattle.splice_laws.specs.ConstantSteps.StepLaws.Answered.{KeysAlike, KeyAlike, InnerAlike}
+use Rattle.constant_steps.specs.StepLaws.Stands.{SameAnswer}
+use Rattle.constant_steps.specs.StepLaws.Answered.{KeysAlike, KeyAlike, InnerAlike}
 use Rattle.imported_typing.specs.Reach.{TypeWithin, IfAny}
 use Rattle.imported_typing.proofs.Alike.{holds_of}
 use Rattle.imported_typing.proofs.DefinedAlike.{Worlds, under_same, under_within_reach}

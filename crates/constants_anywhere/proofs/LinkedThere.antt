@@ -13,15 +13,15 @@ use Rattle.run_rules.specs.Sites.{MarkRef, Site, part_span}
 use Rattle.run_rules.specs.Naming.{imports_added, unnamed_package}
 use Rattle.run_rules.specs.FormTrees.{Form, as_expr}
 use Rattle.run_rules.specs.Steps.{change_nth, changes_for, new_decl, added_decls, packages_between}
-use Rattle.splice_laws.specs.ConstantSteps.StepLaws.DeclStands.{changed}
-use Rattle.splice_laws.specs.ConstantSteps.StepLaws.SwapPrograms.{put_decl, members_put}
-use Rattle.splice_laws.specs.ConstantSteps.Alone.{PackageAt}
-use Rattle.splice_laws.specs.ConstantSteps.PlainUse.{linked_at, PlainUse}
+use Rattle.constant_steps.specs.StepLaws.DeclStands.{changed}
+use Rattle.constant_steps.specs.StepLaws.SwapPrograms.{put_decl, members_put}
+use Rattle.constant_steps.specs.Alone.{PackageAt}
+use Rattle.constant_steps.specs.PlainUse.{linked_at, PlainUse}
 use Rattle.constants_anywhere.specs.UseAnywhere.{UseAnywhere}
-use Rattle.splice_laws.specs.ConstantSteps.PlainLinks.{found_by}
-use Rattle.splice_laws.proofs.ConstantSteps.LinkedAfter.{package_with, rs_after, linked_after}
-use Rattle.splice_laws.proofs.ConstantSteps.PlainForms.{clear, no_packages}
-use Rattle.splice_laws.proofs.ConstantSteps.PlainImports.{Distinct, distinct_sources}
+use Rattle.constant_steps.specs.PlainLinks.{found_by}
+use Rattle.constant_steps.proofs.LinkedAfter.{package_with, rs_after, linked_after}
+use Rattle.constant_steps.proofs.PlainForms.{clear, no_packages}
+use Rattle.constant_steps.proofs.PlainImports.{Distinct, distinct_sources}
 
 -- the entry with a number changed one way or another
 nth_alike : {A : Type 0} (f g : A → A) (n : ℕ) (xs : List A) (x : A) → slice_get xs n ≡ Some x → f x ≡ g x → change_nth n f xs ≡ change_nth n g xs

@@ -16,8 +16,8 @@ use Rattle.go_tree.specs.GoTypes.Typing.{elements, element, with_key}
 use Rattle.go_tree.proofs.GoTypes.Agreeing.{from_given, from_both}
 use Rattle.go_translation.specs.Here.{Here, defined_here}
 use Rattle.run_rules.specs.Surroundings.{Place, is_local}
-use Rattle.splice_laws.specs.ConstantSteps.StepLaws.NamesOutside.{NamesOutside}
-use Rattle.splice_laws.specs.ConstantSteps.StepLaws.SwapUses.{SigKnown, BracesKnown, KeyKnown, ValueKnown}
+use Rattle.constant_steps.specs.StepLaws.NamesOutside.{NamesOutside}
+use Rattle.constant_steps.specs.StepLaws.SwapUses.{SigKnown, BracesKnown, KeyKnown, ValueKnown}
 use Rattle.imported_typing.specs.Reach.{TypeWithin, IfAny}
 use Rattle.imported_typing.proofs.Alike.{Alike, neither, alike, same_of, holds_of}
 use Rattle.imported_typing.proofs.DefinedAlike.{Worlds, under_same, under_within_reach}

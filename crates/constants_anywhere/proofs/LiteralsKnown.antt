@@ -17,14 +17,14 @@ use Rattle.go_tree.specs.GoTypes.WellTyped.{well_typed}
 use Rattle.run_rules.specs.Surroundings.{Place, Seen, seen, seen_type, seen_stmt}
 use Rattle.run_rules.specs.Programs.{linked_file, linked_imports, linked, top_env, decl_seen}
 use Rattle.run_rules.specs.Sites.{MarkRef, Site, part_span}
-use Rattle.splice_laws.specs.ConstantSteps.StepLaws.Answered.{ExprKnown, KeysAlike}
-use Rattle.splice_laws.specs.ConstantSteps.StepLaws.NamesOutside.{NamesOutside}
-use Rattle.splice_laws.specs.ConstantSteps.StepLaws.SwapUses.{ExprSwappable}
-use Rattle.splice_laws.specs.ConstantSteps.StepLaws.Swaps.{put}
-use Rattle.splice_laws.specs.ConstantSteps.StepLaws.Kept.{GroupKept}
-use Rattle.splice_laws.specs.ConstantSteps.Alone.{PackageAt}
-use Rattle.splice_laws.specs.ConstantSteps.PlainUse.{linked_at, IsTheUse, AllTheUse, PlainUse}
-use Rattle.splice_laws.proofs.ConstantSteps.MarksFound.{nth_mapped}
+use Rattle.constant_steps.specs.StepLaws.Answered.{ExprKnown, KeysAlike}
+use Rattle.constant_steps.specs.StepLaws.NamesOutside.{NamesOutside}
+use Rattle.constant_steps.specs.StepLaws.SwapUses.{ExprSwappable}
+use Rattle.constant_steps.specs.StepLaws.Swaps.{put}
+use Rattle.constant_steps.specs.StepLaws.Kept.{GroupKept}
+use Rattle.constant_steps.specs.Alone.{PackageAt}
+use Rattle.constant_steps.specs.PlainUse.{linked_at, IsTheUse, AllTheUse, PlainUse}
+use Rattle.constant_steps.proofs.MarksFound.{nth_mapped}
 use Rattle.imported_typing.specs.Reach.{TypeWithin, IfAny}
 use Rattle.imported_typing.specs.Further.{has_package, imports_itself, are_others, own_reach, in_order}
 use Rattle.imported_typing.proofs.Alike.{Alike, same_of, holds_of}

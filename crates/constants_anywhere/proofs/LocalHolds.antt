@@ -26,12 +26,12 @@ use Rattle.form_meaning.specs.FormInPlace.Bound.{stmt_binds, first_binds, range_
 use Rattle.form_meaning.proofs.FormInPlace.Uses.{among_left}
 use Rattle.run_rules.specs.Surroundings.{Place, first_declares, left_declares, in_literal, is_local}
 use Rattle.run_rules.specs.Programs.{with_receiver, params_of}
-use Rattle.splice_laws.specs.WrittenLiteral.Listing.{Listing}
-use Rattle.splice_laws.proofs.WrittenLiteral.ListedHeads.{listing, blank_append, names_both}
-use Rattle.splice_laws.proofs.WrittenLiteral.Listed.{members_grow}
-use Rattle.splice_laws.specs.ConstantSteps.StepLaws.Answered.{HoldsWithin}
-use Rattle.splice_laws.proofs.ConstantSteps.StepLaws.OutsideHolds.{of_either, among_right}
-use Rattle.splice_laws.proofs.ConstantSteps.StepLaws.DeclUses.{start_names}
+use Rattle.constant_steps.specs.WrittenLiteral.Listing.{Listing}
+use Rattle.constant_steps.proofs.WrittenLiteral.ListedHeads.{listing, blank_append, names_both}
+use Rattle.constant_steps.proofs.WrittenLiteral.Listed.{members_grow}
+use Rattle.constant_steps.specs.StepLaws.Answered.{HoldsWithin}
+use Rattle.constant_steps.proofs.StepLaws.OutsideHolds.{of_either, among_right}
+use Rattle.constant_steps.proofs.StepLaws.DeclUses.{start_names}
 use Rattle.literal_steps.specs.TypedParts.{is_value, all_values, LocalValues}
 use Rattle.literal_steps.proofs.LocalValues.{in_blocks, extended, stmt_values, first_values, left_values, head_values, variable_values}
 use Rattle.constants_anywhere.specs.Literals.{ExportedFields, ParamsExported, SigExported, AllExported}

@@ -9,8 +9,8 @@ use Rattle.go_tree.proofs.GoTypes.Agreeing.{some_same}
 use Rattle.typed_in_place.proofs.Rising.{and_first, and_second, both_true}
 use Rattle.go_translation.specs.Packages.{Package, sources, has_path, has_number, are_distinct, imports_known, are_linked}
 use Rattle.imported_typing.specs.Further.{has_package, imports_itself, in_order_behind, in_order}
-use Rattle.splice_laws.specs.ConstantSteps.Alone.{PackageAt, this_package, a_later_package}
-use Rattle.splice_laws.proofs.ConstantSteps.AfterStep.{same_number}
+use Rattle.constant_steps.specs.Alone.{PackageAt, this_package, a_later_package}
+use Rattle.constant_steps.proofs.AfterStep.{same_number}
 
 no : {A : Type 0} → false ≡ true → A
 no e = absurd (grind (arith, e))

@@ -13,17 +13,17 @@ use Rattle.run_rules.specs.Sites.{Site, part_span}
 use Rattle.run_rules.specs.FormTrees.{as_expr}
 use Rattle.run_rules.specs.Forms.{is_at}
 use Rattle.run_rules.specs.Steps.{changes_for}
-use Rattle.splice_laws.specs.ConstantSteps.StepLaws.Answered.{ExprKnown, AllAnswered}
-use Rattle.splice_laws.specs.ConstantSteps.StepLaws.NamesOutside.{NamesOutside, UseThere, AllUsesThere}
-use Rattle.splice_laws.specs.ConstantSteps.StepLaws.SwapUses.{SwapThere, AllSwapsThere}
-use Rattle.splice_laws.specs.ConstantSteps.StepLaws.Stands.{SameExpr}
-use Rattle.splice_laws.specs.ConstantSteps.StepLaws.Swaps.{put}
-use Rattle.splice_laws.specs.ConstantSteps.PlainUse.{AllTheUse}
-use Rattle.splice_laws.proofs.ConstantSteps.SimpleUses.{of_use}
+use Rattle.constant_steps.specs.StepLaws.Answered.{ExprKnown, AllAnswered}
+use Rattle.constant_steps.specs.StepLaws.NamesOutside.{NamesOutside, UseThere, AllUsesThere}
+use Rattle.constant_steps.specs.StepLaws.SwapUses.{SwapThere, AllSwapsThere}
+use Rattle.constant_steps.specs.StepLaws.Stands.{SameExpr}
+use Rattle.constant_steps.specs.StepLaws.Swaps.{put}
+use Rattle.constant_steps.specs.PlainUse.{AllTheUse}
+use Rattle.constant_steps.proofs.SimpleUses.{of_use}
 use Rattle.form_meaning.proofs.FormInPlace.Uses.{among_append}
-use Rattle.splice_laws.proofs.ConstantSteps.StepLaws.ConstantLeaves.{names-bodiless}
-use Rattle.splice_laws.proofs.ConstantSteps.StepLaws.UsesAnswered.{NamedThere, named-there, not-around, put-there, stmt-stays, group-stays}
-use Rattle.splice_laws.proofs.ConstantSteps.OneMore.{WithOne}
+use Rattle.constant_steps.proofs.StepLaws.ConstantLeaves.{names-bodiless}
+use Rattle.constant_steps.proofs.StepLaws.UsesAnswered.{NamedThere, named-there, not-around, put-there, stmt-stays, group-stays}
+use Rattle.constant_steps.proofs.OneMore.{WithOne}
 use Rattle.constants_anywhere.specs.Known.{AllKnown, AllTranslated}
 
 module _ {S : Type 0} (same : S → S → Bool) (x : Site S) (old e : Expr S) (top : Env) where

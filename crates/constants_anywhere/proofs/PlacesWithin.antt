@@ -19,7 +19,7 @@ use Rattle.run_rules.specs.Surroundings.{Use, whole, stored, updated, called, de
 use Rattle.run_rules.specs.Surroundings as around
 use Rattle.run_rules.specs.Places.{type_seen, written_seen, params_seen, sig_seen, old_seen, after_arms, expr_seen, all_seen, option_seen, elems_seen, key_seen, value_seen, stmt_seen, stmts_seen, first_seen, block_seen, left_seen, arms_seen, cases_seen, constants_seen, variables_seen}
 use Rattle.go_tree.specs.GoTypes.Bodies.{labelled}
-use Rattle.splice_laws.specs.ConstantSteps.StepLaws.Answered.{HoldsWithin}
+use Rattle.constant_steps.specs.StepLaws.Answered.{HoldsWithin}
 
 -- `R` holds within each scope, and `T` is said of all parts
 module _ {S : Type 0} (R : List (List ℕ) → Env → Env → List (NameAt S) → Type 0) (T : Seen S → Type 0) where

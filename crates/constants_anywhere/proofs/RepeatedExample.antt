@@ -7,7 +7,7 @@ use Rattle.go_tree.specs.Tree.{Expr, ident, int_lit, func_lit, no_exprs, expr_an
 use Rattle.go_tree.specs.Tree as tree
 use Rattle.run_rules.specs.Obstacles.{Repeated}
 use Rattle.run_rules.specs.Reduced.{kept, reduced}
-use Rattle.splice_laws.specs.ConstantSteps.PlainUse.{PlainUse}
+use Rattle.constant_steps.specs.PlainUse.{PlainUse}
 use Rattle.constants_anywhere.specs.Groups.{RepeatsBodiless}
 use Rattle.constants_anywhere.specs.Literals.{ExportedFields}
 use Rattle.constants_anywhere.proofs.ExampleParts.{named, marks, no_comments, program, use_of_c}

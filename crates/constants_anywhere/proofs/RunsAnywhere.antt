@@ -4,9 +4,9 @@ use Rattle.go_tree.specs.Tree.{ident}
 use Rattle.go_translation.specs.Packages.{sources}
 use Rattle.go_translation.specs.SameMeaning.{Packages, SameMeaning}
 use Rattle.run_rules.specs.Sites.{part_span}
-use Rattle.splice_laws.specs.ConstantSteps.StepLaws.ConstantRuns as run
-use Rattle.splice_laws.specs.ConstantSteps.StepLaws.ConstantRuns.{StepOverConstant, ConstantRun}
-use Rattle.splice_laws.proofs.ConstantSteps.StepLaws.ConstantRuns.{run-means-the-same}
+use Rattle.constant_steps.specs.StepLaws.ConstantRuns as run
+use Rattle.constant_steps.specs.StepLaws.ConstantRuns.{StepOverConstant, ConstantRun}
+use Rattle.constant_steps.proofs.StepLaws.ConstantRuns.{run-means-the-same}
 use Rattle.constants_anywhere.specs.Runs.{StepAnywhere, after_step, RunAnywhere, no_step, and_step}
 use Rattle.constants_anywhere.proofs.ImportsStand.{well}
 use Rattle.constants_anywhere.proofs.UsesAnywhere.{parts_there_stand, imports_anywhere}

@@ -7,10 +7,10 @@ use Rattle.go_translation.specs.Packages as translated
 use Rattle.go_translation.specs.Packages.{sources}
 use Rattle.go_translation.specs.SameMeaning.{Packages, WellTyped, with_further, SameMeaning}
 use Rattle.run_rules.specs.Sites.{MarkRef, Site, part_span}
-use Rattle.splice_laws.specs.ConstantSteps.StepLaws.SwapPrograms.{members_put}
-use Rattle.splice_laws.proofs.ConstantSteps.StepLaws.StepSwaps.{known-constant-means-the-same}
-use Rattle.splice_laws.specs.ConstantSteps.Alone.{PackageAt}
-use Rattle.splice_laws.specs.ConstantSteps.PlainUse.{linked_at, PlainUse}
+use Rattle.constant_steps.specs.StepLaws.SwapPrograms.{members_put}
+use Rattle.constant_steps.proofs.StepLaws.StepSwaps.{known-constant-means-the-same}
+use Rattle.constant_steps.specs.Alone.{PackageAt}
+use Rattle.constant_steps.specs.PlainUse.{linked_at, PlainUse}
 use Rattle.constants_anywhere.specs.Known.{PartsStand}
 use Rattle.constants_anywhere.specs.UseAnywhere.{UseAnywhere}
 use Rattle.constants_anywhere.proofs.UsesStand.{swaps_there}

@@ -29,13 +29,13 @@ use Rattle.run_rules.specs.Surroundings.{Place, Seen, alike, value_use, in_const
 use Rattle.run_rules.specs.Places.{written_seen, all_seen, sig_seen, stmts_seen}
 use Rattle.run_rules.specs.Programs.{linked_file, linked, world, imports_mean, top_place, body_place, headed_func, constants_at_top, variables_at_top, types_at_top, receiver_seen, func_seen, decl_seen}
 use Rattle.run_rules.specs.Sites.{Where}
-use Rattle.splice_laws.specs.ConstantSteps.StepLaws.DeclStands.{AtNth}
-use Rattle.splice_laws.specs.ConstantSteps.StepLaws.PartsTyped.{HeaderTyped}
-use Rattle.splice_laws.specs.ConstantSteps.StepLaws.SwapPrograms.{headed_there}
-use Rattle.splice_laws.proofs.ConstantSteps.StepLaws.PartsTyped.{headers-typed, all-behind, TypedThere, DeclIsTyped, FilesTyped, PackageIsTyped, of-packages}
-use Rattle.splice_laws.specs.ConstantSteps.Alone.{PackageAt, this_package, a_later_package}
-use Rattle.splice_laws.specs.ConstantSteps.PlainUse.{linked_at}
-use Rattle.splice_laws.proofs.ConstantSteps.MarksFound.{nth_mapped}
+use Rattle.constant_steps.specs.StepLaws.DeclStands.{AtNth}
+use Rattle.constant_steps.specs.StepLaws.PartsTyped.{HeaderTyped}
+use Rattle.constant_steps.specs.StepLaws.SwapPrograms.{headed_there}
+use Rattle.constant_steps.proofs.StepLaws.PartsTyped.{headers-typed, all-behind, TypedThere, DeclIsTyped, FilesTyped, PackageIsTyped, of-packages}
+use Rattle.constant_steps.specs.Alone.{PackageAt, this_package, a_later_package}
+use Rattle.constant_steps.specs.PlainUse.{linked_at}
+use Rattle.constant_steps.proofs.MarksFound.{nth_mapped}
 use Rattle.constants_anywhere.specs.TypedParts.{AllTyped}
 use Rattle.constants_anywhere.proofs.LocalHolds.{StartTyped}
 use Rattle.constants_anywhere.proofs.TypedWalk.{join, written_stands, sig_stands, all_stand, stmts_stand, met, there_is}

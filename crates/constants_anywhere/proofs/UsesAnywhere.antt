@@ -14,15 +14,15 @@ use Rattle.typed_in_place.proofs.Rising.{and_first, and_second}
 use Rattle.run_rules.specs.Surroundings.{Place, Use, Seen, seen, seen_type, seen_stmt}
 use Rattle.run_rules.specs.Programs.{linked}
 use Rattle.run_rules.specs.Sites.{MarkRef, Site, part_span}
-use Rattle.splice_laws.specs.ConstantSteps.StepLaws.ConstantSteps.{ImportsRight}
-use Rattle.splice_laws.specs.ConstantSteps.StepLaws.ConstantSwaps.{ConstantSwaps}
-use Rattle.splice_laws.specs.ConstantSteps.StepLaws.SwapPrograms.{members_put}
-use Rattle.splice_laws.specs.ConstantSteps.StepLaws.SwapUses.{ExprSwappable}
-use Rattle.splice_laws.specs.ConstantSteps.StepLaws.NamesOutside.{NamesOutside}
-use Rattle.splice_laws.specs.ConstantSteps.StepLaws.Swaps.{put}
-use Rattle.splice_laws.specs.ConstantSteps.Alone.{PackageAt}
-use Rattle.splice_laws.specs.ConstantSteps.PlainUse.{linked_at, IsSimple, AllSimple, PlainUse}
-use Rattle.splice_laws.proofs.ConstantSteps.SimpleUses.{simple_known, simple_kept}
+use Rattle.constant_steps.specs.StepLaws.ConstantSteps.{ImportsRight}
+use Rattle.constant_steps.specs.StepLaws.ConstantSwaps.{ConstantSwaps}
+use Rattle.constant_steps.specs.StepLaws.SwapPrograms.{members_put}
+use Rattle.constant_steps.specs.StepLaws.SwapUses.{ExprSwappable}
+use Rattle.constant_steps.specs.StepLaws.NamesOutside.{NamesOutside}
+use Rattle.constant_steps.specs.StepLaws.Swaps.{put}
+use Rattle.constant_steps.specs.Alone.{PackageAt}
+use Rattle.constant_steps.specs.PlainUse.{linked_at, IsSimple, AllSimple, PlainUse}
+use Rattle.constant_steps.proofs.SimpleUses.{simple_known, simple_kept}
 use Rattle.imported_typing.specs.Further.{in_order}
 use Rattle.constants_anywhere.specs.Known.{AllKnown, AllTranslated, PartsStand, parts_there}
 use Rattle.constants_anywhere.specs.Literals.{LiteralsExported}

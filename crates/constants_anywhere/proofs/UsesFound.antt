@@ -20,19 +20,19 @@ use Rattle.run_rules.specs.Sites.{MarkRef, Site, a_constant, part_span, not_func
 use Rattle.run_rules.specs.FormTrees.{as_expr}
 use Rattle.run_rules.specs.Reduced.{home_place}
 use Rattle.run_rules.specs.Steps.{change_nth, changes_for, new_decl}
-use Rattle.splice_laws.specs.ConstantSteps.StepLaws.DeclStands.{decl_changed, file_changed}
-use Rattle.splice_laws.specs.ConstantSteps.StepLaws.ConstantUses.{UseOfConstant}
-use Rattle.splice_laws.specs.ConstantSteps.Alone.{block_from, PackageAt, FirstIs, type_in, AsConstant}
+use Rattle.constant_steps.specs.StepLaws.DeclStands.{decl_changed, file_changed}
+use Rattle.constant_steps.specs.StepLaws.ConstantUses.{UseOfConstant}
+use Rattle.constant_steps.specs.Alone.{block_from, PackageAt, FirstIs, type_in, AsConstant}
 use Rattle.go_tree.specs.GoTypes.Answers.{given}
-use Rattle.splice_laws.specs.ConstantSteps.PlainUse.{linked_at, type_marked, PlainUse}
+use Rattle.constant_steps.specs.PlainUse.{linked_at, type_marked, PlainUse}
 use Rattle.constants_anywhere.specs.UseAnywhere.{UseAnywhere}
-use Rattle.splice_laws.proofs.ConstantSteps.FirstDeclared.{first_declared, spelled_where_declared, package_where_declared}
-use Rattle.splice_laws.proofs.ConstantSteps.NamesOutside.{equal_numbers, MemberThere, member_there, unshadowed, not_local}
-use Rattle.splice_laws.proofs.ConstantSteps.PlainForms.{not_shadowed}
-use Rattle.splice_laws.proofs.ConstantSteps.PlainUses.{MarkedIn}
-use Rattle.splice_laws.proofs.ConstantSteps.UsesMeant.{use_meant}
-use Rattle.splice_laws.proofs.ConstantSteps.AfterStep.{same_number, SomeConstant, constant_after, files_after, files_named, nth_changed, nth_stays, plain_file, plain_decl}
-use Rattle.splice_laws.proofs.ConstantSteps.MarksFound.{member_of_mark, named_member, marked_so, StandsThere, stands_there, DeclaredThere, declared_there, nth_mapped}
+use Rattle.constant_steps.proofs.FirstDeclared.{first_declared, spelled_where_declared, package_where_declared}
+use Rattle.constant_steps.proofs.NamesOutside.{equal_numbers, MemberThere, member_there, unshadowed, not_local}
+use Rattle.constant_steps.proofs.PlainForms.{not_shadowed}
+use Rattle.constant_steps.proofs.PlainUses.{MarkedIn}
+use Rattle.constant_steps.proofs.UsesMeant.{use_meant}
+use Rattle.constant_steps.proofs.AfterStep.{same_number, SomeConstant, constant_after, files_after, files_named, nth_changed, nth_stays, plain_file, plain_decl}
+use Rattle.constant_steps.proofs.MarksFound.{member_of_mark, named_member, marked_so, StandsThere, stands_there, DeclaredThere, declared_there, nth_mapped}
 
 module _ {S : Type 0} (same : S → S → Bool) (commented : ℕ → ℕ → S → Bool) (rs : List (Package S)) (marks : List MarkRef) (x : Site S) (u : PlainUse same commented rs marks x) (v : UseAnywhere same commented rs marks x u) where
   abbrev K : ℕ

@@ -17,22 +17,22 @@ use Rattle.run_rules.specs.Programs.{linked_file, linked_imports, decl_seen}
 use Rattle.run_rules.specs.Sites.{MarkRef, Site, part_span}
 use Rattle.run_rules.specs.FormTrees.{as_expr}
 use Rattle.run_rules.specs.Steps.{changes_for}
-use Rattle.splice_laws.specs.ConstantSteps.StepLaws.PartsTyped.{HeaderTyped}
-use Rattle.splice_laws.specs.ConstantSteps.StepLaws.NamesOutside.{AllUsesThere}
-use Rattle.splice_laws.specs.ConstantSteps.StepLaws.SwapUses.{AllSwapsThere}
-use Rattle.splice_laws.specs.ConstantSteps.StepLaws.ConstantSteps.{constant_put}
-use Rattle.splice_laws.specs.ConstantSteps.StepLaws.ConstantUses.{FilesUse, PackageUses}
-use Rattle.splice_laws.specs.ConstantSteps.StepLaws.ConstantSwaps.{FilesSwapThere, PackageSwapsThere, ConstantSwaps}
-use Rattle.splice_laws.proofs.ConstantSteps.StepLaws.PartsTyped.{headers-typed}
-use Rattle.splice_laws.proofs.ConstantSteps.StepLaws.KnownConstants.{of-first, declares-it, known-use}
-use Rattle.splice_laws.proofs.ConstantSteps.StepLaws.StepUses.{use-of-constant}
-use Rattle.splice_laws.specs.ConstantSteps.Alone.{PackageAt, ConstantHeader}
-use Rattle.splice_laws.specs.ConstantSteps.PlainUse.{linked_at, PlainUse}
-use Rattle.splice_laws.proofs.ConstantSteps.PlainSteps.{not_so}
+use Rattle.constant_steps.specs.StepLaws.PartsTyped.{HeaderTyped}
+use Rattle.constant_steps.specs.StepLaws.NamesOutside.{AllUsesThere}
+use Rattle.constant_steps.specs.StepLaws.SwapUses.{AllSwapsThere}
+use Rattle.constant_steps.specs.StepLaws.ConstantSteps.{constant_put}
+use Rattle.constant_steps.specs.StepLaws.ConstantUses.{FilesUse, PackageUses}
+use Rattle.constant_steps.specs.StepLaws.ConstantSwaps.{FilesSwapThere, PackageSwapsThere, ConstantSwaps}
+use Rattle.constant_steps.proofs.StepLaws.PartsTyped.{headers-typed}
+use Rattle.constant_steps.proofs.StepLaws.KnownConstants.{of-first, declares-it, known-use}
+use Rattle.constant_steps.proofs.StepLaws.StepUses.{use-of-constant}
+use Rattle.constant_steps.specs.Alone.{PackageAt, ConstantHeader}
+use Rattle.constant_steps.specs.PlainUse.{linked_at, PlainUse}
+use Rattle.constant_steps.proofs.PlainSteps.{not_so}
 use Rattle.constants_anywhere.specs.Known.{PartsStand}
 use Rattle.constants_anywhere.specs.UseAnywhere.{UseAnywhere}
-use Rattle.splice_laws.proofs.ConstantSteps.AfterStep.{package_after, package_beside, at_package, at_nth}
-use Rattle.splice_laws.proofs.ConstantSteps.MarksFound.{nth_mapped}
+use Rattle.constant_steps.proofs.AfterStep.{package_after, package_beside, at_package, at_nth}
+use Rattle.constant_steps.proofs.MarksFound.{nth_mapped}
 use Rattle.constants_anywhere.proofs.PartsMeant.{known_uses, known_swaps}
 use Rattle.constants_anywhere.proofs.UsesFound.{first_old, old_in, use_before, use_after}
 

@@ -11,12 +11,12 @@ use Rattle.typed_in_place.specs.ProgramReplaced.{ValuesEnd}
 use Rattle.run_rules.specs.Surroundings.{Seen, seen, seen_type, seen_stmt}
 use Rattle.run_rules.specs.Programs.{linked_file, linked_imports, decl_seen}
 use Rattle.run_rules.specs.Sites.{Site, part_span}
-use Rattle.splice_laws.specs.ConstantSteps.StepLaws.Answered.{ExprKnown}
-use Rattle.splice_laws.specs.ConstantSteps.StepLaws.ConstantSteps.{constant_put}
-use Rattle.splice_laws.specs.ConstantSteps.StepLaws.Kept.{GroupKept}
-use Rattle.splice_laws.specs.ConstantSteps.StepLaws.NamesOutside.{NamesOutside}
-use Rattle.splice_laws.specs.ConstantSteps.StepLaws.SwapUses.{ExprSwappable}
-use Rattle.splice_laws.specs.ConstantSteps.StepLaws.Swaps.{put}
+use Rattle.constant_steps.specs.StepLaws.Answered.{ExprKnown}
+use Rattle.constant_steps.specs.StepLaws.ConstantSteps.{constant_put}
+use Rattle.constant_steps.specs.StepLaws.Kept.{GroupKept}
+use Rattle.constant_steps.specs.StepLaws.NamesOutside.{NamesOutside}
+use Rattle.constant_steps.specs.StepLaws.SwapUses.{ExprSwappable}
+use Rattle.constant_steps.specs.StepLaws.Swaps.{put}
 
 -- `e` is put at the span z, in a file at whose top names mean `top`
 module _ {S : Type 0} (same : S → S → Bool) (z : S) (e : Expr S) (top : Env) where

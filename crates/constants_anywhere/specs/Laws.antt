@@ -14,12 +14,12 @@ use Rattle.run_rules.specs.Programs.{linked}
 use Rattle.run_rules.specs.Sites.{MarkRef, Site, part_span}
 use Rattle.run_rules.specs.Naming.{unnamed_package}
 use Rattle.run_rules.specs.Steps.{packages_between}
-use Rattle.splice_laws.specs.ConstantSteps.StepLaws.ConstantSteps.{ImportsRight}
-use Rattle.splice_laws.specs.ConstantSteps.StepLaws.ConstantSwaps.{ConstantSwaps}
-use Rattle.splice_laws.specs.ConstantSteps.StepLaws.SwapPrograms.{members_put}
-use Rattle.splice_laws.specs.ConstantSteps.Alone.{PackageAt}
-use Rattle.splice_laws.specs.ConstantSteps.PlainLinks.{found_by}
-use Rattle.splice_laws.specs.ConstantSteps.PlainUse.{linked_at, AllSimple, PlainUse}
+use Rattle.constant_steps.specs.StepLaws.ConstantSteps.{ImportsRight}
+use Rattle.constant_steps.specs.StepLaws.ConstantSwaps.{ConstantSwaps}
+use Rattle.constant_steps.specs.StepLaws.SwapPrograms.{members_put}
+use Rattle.constant_steps.specs.Alone.{PackageAt}
+use Rattle.constant_steps.specs.PlainLinks.{found_by}
+use Rattle.constant_steps.specs.PlainUse.{linked_at, AllSimple, PlainUse}
 use Rattle.imported_typing.specs.Further.{in_order}
 use Rattle.constants_anywhere.specs.Known.{PartsStand, parts_there}
 use Rattle.constants_anywhere.specs.Literals.{LiteralsExported}

@@ -6,8 +6,8 @@ use Rattle.go_tree.specs.File.{Decl}
 use Rattle.pkg_graph.specs.Package.{Package}
 use Rattle.run_rules.specs.Programs.{linked_file, decl_seen}
 use Rattle.run_rules.specs.Sites.{MarkRef, Site}
-use Rattle.splice_laws.specs.ConstantSteps.Alone.{PlainFiles}
-use Rattle.splice_laws.specs.ConstantSteps.PlainUse.{AllTheUse, PlainUse}
+use Rattle.constant_steps.specs.Alone.{PlainFiles}
+use Rattle.constant_steps.specs.PlainUse.{AllTheUse, PlainUse}
 
 -- The use stands in a declaration of the file's package, in which nothing else stands at its span, and which isn't
 -- that of the constant. All declarations of the package are plain; of this one's parts nothing is asked.

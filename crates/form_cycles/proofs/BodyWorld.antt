@@ -15,9 +15,9 @@ use Rattle.typed_in_place.specs.ProgramsAlike.{OneByOne, no_more, and_more, Alia
 use Rattle.typed_in_place.specs.HeaderReplaced.{SpecsIn, types_of_func, SameReceiver, HeaderIn, in_func}
 use Rattle.typed_in_place.proofs.Collected.{same_collected}
 use Rattle.typed_in_place.proofs.ProgramsReplaced.{one_by_one, replaced_aliases_stand, replaced_types_stand, replaced_values_stand}
-use Rattle.splice_laws.specs.ConstantSteps.StepLaws.DeclStands.{ProgramBy, ResolvedAlike, TypesAlike, ValuesAlike}
-use Rattle.splice_laws.proofs.ConstantSteps.StepLaws.DeclChanged.{DeclBy, receiver_itself, resolved_itself, types_itself, values_itself}
-use Rattle.splice_laws.proofs.ConstantSteps.StepLaws.StepInPlace.{names-stand, names-declared, program-by, same-packages}
+use Rattle.constant_steps.specs.StepLaws.DeclStands.{ProgramBy, ResolvedAlike, TypesAlike, ValuesAlike}
+use Rattle.constant_steps.proofs.StepLaws.DeclChanged.{DeclBy, receiver_itself, resolved_itself, types_itself, values_itself}
+use Rattle.constant_steps.proofs.StepLaws.StepInPlace.{names-stand, names-declared, program-by, same-packages}
 use Rattle.run_rules.specs.Programs.{linked, top_place, world}
 use Rattle.run_rules.specs.Rewriting.{Changes}
 use Rattle.run_rules.specs.Sites.{Site, part_span}

@@ -3,7 +3,7 @@
 use Rattle.std.specs.Prelude.{◌≡◌, List, Some, slice_get}
 use Rattle.go_tree.specs.File.{Func, Decl, func}
 use Rattle.pkg_graph.specs.Package.{Package}
-use Rattle.splice_laws.specs.ConstantSteps.StepLaws.DeclStands.{DeclStands}
+use Rattle.constant_steps.specs.StepLaws.DeclStands.{DeclStands}
 use Rattle.run_rules.specs.Programs.{top_place, body_place}
 use Rattle.run_rules.specs.Rewriting.{Changes}
 use Rattle.run_rules.specs.Sites.{MarkRef, part_span}

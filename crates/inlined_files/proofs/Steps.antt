@@ -27,7 +27,7 @@ use Rattle.run_rules.specs.Run.{Standing, Logged, Next, here_of, edits_in, with_
 use Rattle.run_rules.specs.Sites.{MarkRef, Where}
 use Rattle.run_rules.specs.Steps.{At, same_here, change_nth, with_file}
 use Rattle.run_rules.specs.Texts.{FileText}
-use Rattle.splice_laws.specs.FormImports.ImportLaws.Steps.{removed_specs}
+use Rattle.constant_steps.specs.FormImports.ImportLaws.Steps.{removed_specs}
 use Rattle.splice_laws.specs.ImportSplices.SettledFile.{settled_decls, with_settled}
 use Rattle.splice_laws.specs.RunLaws.Reading.{FileAt, OnePathEach}
 use Rattle.splice_laws.specs.Splice.{ReadsAs}

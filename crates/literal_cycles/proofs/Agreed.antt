@@ -18,13 +18,13 @@ use Rattle.form_meaning.specs.FormInPlace.Places.{is_member, means_function}
 use Rattle.run_rules.specs.Surroundings.{Place, is_local}
 use Rattle.run_rules.specs.Programs.{linked, linked_file, world, top_env}
 use Rattle.run_rules.specs.Sites.{MarkRef, Where, Inlinable, a_constant, an_alias, a_function, is_free_function, inlinable, inlinable_in, nth_constant, constant_in_spec, less, aliased, is_among_marks, mark_of, imported_by, outer, import_number, members_in, member_of, marked_as}
-use Rattle.splice_laws.specs.WrittenLiteral.LinkedNames.{NoneNumbered, Standing}
-use Rattle.splice_laws.specs.WrittenLiteral.Meant.{FileMeant}
-use Rattle.splice_laws.proofs.WrittenLiteral.FilesMeant.{file_meant}
-use Rattle.splice_laws.specs.ConstantSteps.Alone.{block_from, PackageAt, this_package, a_later_package}
-use Rattle.splice_laws.proofs.ConstantSteps.NamesOutside.{member_there, linked_block}
-use Rattle.splice_laws.proofs.ConstantSteps.MarksFound.{member_of_mark, named_member, StandsThere, stands_there, DeclaredThere, declared_there, nth_mapped}
-use Rattle.splice_laws.proofs.ConstantSteps.QualifiedSteps.UsesMeant.{has_number}
+use Rattle.constant_steps.specs.WrittenLiteral.LinkedNames.{NoneNumbered, Standing}
+use Rattle.constant_steps.specs.WrittenLiteral.Meant.{FileMeant}
+use Rattle.constant_steps.proofs.WrittenLiteral.FilesMeant.{file_meant}
+use Rattle.constant_steps.specs.Alone.{block_from, PackageAt, this_package, a_later_package}
+use Rattle.constant_steps.proofs.NamesOutside.{member_there, linked_block}
+use Rattle.constant_steps.proofs.MarksFound.{member_of_mark, named_member, StandsThere, stands_there, DeclaredThere, declared_there, nth_mapped}
+use Rattle.constant_steps.proofs.QualifiedSteps.UsesMeant.{has_number}
 use Rattle.order_runs.proofs.CycleLaws.Called.{Callees}
 use Rattle.order_runs.proofs.CycleLaws.Walked.{callees}
 use Rattle.typed_in_place.specs.Declared.{HasNumber}

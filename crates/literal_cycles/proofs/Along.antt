@@ -12,8 +12,8 @@ use Rattle.form_meaning.specs.FormInPlace.Places.{Landing, means_function}
 use Rattle.form_meaning.proofs.FormInPlace.Uses.{among_append}
 use Rattle.run_rules.specs.Surroundings.{Seen, seen, seen_stmt}
 use Rattle.run_rules.specs.Sites.{MarkRef}
-use Rattle.splice_laws.specs.WrittenLiteral.Within.{Within, Grows}
-use Rattle.splice_laws.proofs.WrittenLiteral.WithinLaws.{blocked, entered}
+use Rattle.constant_steps.specs.WrittenLiteral.Within.{Within, Grows}
+use Rattle.constant_steps.proofs.WrittenLiteral.WithinLaws.{blocked, entered}
 use Rattle.order_runs.proofs.CycleLaws.Called.{Callees, meaning_past}
 use Rattle.order_runs.proofs.CycleLaws.Walked.{names-append}
 use Rattle.std.specs.Prelude.{is_some}

@@ -30,9 +30,9 @@ use Rattle.run_rules.specs.Obstacles.{Shadowed}
 use Rattle.run_rules.specs.Reduced.{kept, reduced}
 use Rattle.run_rules.specs.Steps.{At, same_here, changes_for}
 use Rattle.run_rules.proofs.CaseTools.{mark}
-use Rattle.splice_laws.specs.WrittenLiteral.LinkedNames.{Standing}
-use Rattle.splice_laws.specs.ConstantSteps.Alone.{this_package}
-use Rattle.splice_laws.specs.ConstantSteps.PlainUse.{linked_at}
+use Rattle.constant_steps.specs.WrittenLiteral.LinkedNames.{Standing}
+use Rattle.constant_steps.specs.Alone.{this_package}
+use Rattle.constant_steps.specs.PlainUse.{linked_at}
 use Rattle.order_runs.specs.CycleLaws.PutCalls.{called_among}
 use Rattle.order_runs.proofs.CycleLaws.ConstantCycles.Examples.{node}
 use Rattle.order_runs.specs.CycleRuns.BodiesThere.There.{AllCalledSo}

@@ -36,9 +36,9 @@ use Rattle.run_rules.specs.Programs.{world, top_env, headed_func, with_receiver,
 use Rattle.run_rules.specs.Sites.{MarkRef, Site}
 use Rattle.run_rules.specs.Calls.{Given, Call, list_of, givens, arguments, start, all_params, spread_call, args, given_params}
 use Rattle.run_rules.specs.FormTrees.{Form, as_expr, as_dropped, as_block, as_type}
-use Rattle.splice_laws.specs.WrittenLiteral.Listing.{Listing}
-use Rattle.splice_laws.proofs.WrittenLiteral.ListedHeads.{listing}
-use Rattle.splice_laws.proofs.ConstantSteps.MarksFound.{StandsThere, stands_there}
+use Rattle.constant_steps.specs.WrittenLiteral.Listing.{Listing}
+use Rattle.constant_steps.proofs.WrittenLiteral.ListedHeads.{listing}
+use Rattle.constant_steps.proofs.MarksFound.{StandsThere, stands_there}
 use Rattle.order_runs.proofs.CycleLaws.Called.{Callees, env_lit, bound_lit, calls_expr, calls_all, calls_stmts}
 use Rattle.order_runs.proofs.CycleLaws.CallsBare.{expr-calls-bare}
 use Rattle.order_runs.proofs.CycleLaws.Walked.{callees}

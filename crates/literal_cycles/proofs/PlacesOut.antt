@@ -13,9 +13,9 @@ use Rattle.go_tree.specs.GoTypes.Bodies.{literal_env, body_ctx}
 use Rattle.go_tree.specs.GoTypes.Declarations.{Repeated, nothing_to_repeat}
 use Rattle.run_rules.specs.Surroundings.{Use, stored, a_slot, Slot, Place, Seen, seen, in_slot, callee_place, after_stmt, after_first, block, plain_slot, ranged, in_literal, repeated_by, in_constant, after_constants, after_variables, is_old}
 use Rattle.run_rules.specs.Places.{written_seen, params_seen, sig_seen, old_seen, after_arms, expr_seen, all_seen, option_seen, elems_seen, key_seen, value_seen, stmt_seen, stmts_seen, first_seen, block_seen, left_seen, arms_seen, cases_seen, constants_seen, variables_seen}
-use Rattle.splice_laws.specs.ConstantSteps.StepLaws.Answered.{HoldsWithin}
-use Rattle.splice_laws.specs.ConstantSteps.StepLaws.NamesOutside.{NamesOutside}
-use Rattle.splice_laws.proofs.ConstantSteps.StepLaws.OutsideHolds.{outside_holds}
+use Rattle.constant_steps.specs.StepLaws.Answered.{HoldsWithin}
+use Rattle.constant_steps.specs.StepLaws.NamesOutside.{NamesOutside}
+use Rattle.constant_steps.proofs.StepLaws.OutsideHolds.{outside_holds}
 
 module _ {S : Type 0} (top : Env) where
   -- names that aren't bound mean what they do at the top, in the same package

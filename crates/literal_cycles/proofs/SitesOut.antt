@@ -13,7 +13,7 @@ use Rattle.run_rules.specs.Sites.{MarkRef, Where, an_expr, a_type_part, Site, na
 use Rattle.run_rules.specs.Reduced.{Reduced, becomes, kept, reduced}
 use Rattle.run_rules.specs.Steps.{At, Found, same_here, found_by, first_found}
 use Rattle.run_rules.specs.Run.{Standing, Logged, Next, is_commented}
-use Rattle.splice_laws.proofs.ConstantSteps.StepLaws.DeclUses.{body-begins}
+use Rattle.constant_steps.proofs.StepLaws.DeclUses.{body-begins}
 use Rattle.literal_steps.specs.CalledAt.{CalledAt}
 use Rattle.literal_cycles.specs.Uses.{place_of_use}
 use Rattle.literal_cycles.proofs.PlacesOut.{Out, AllOut, join, out_constant, sig_out, written_out, all_exprs_out, stmts_out}

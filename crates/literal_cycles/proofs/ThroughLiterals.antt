@@ -27,7 +27,7 @@ use Rattle.order_runs.specs.CycleRuns.ImportCycles.ImportSteps.{file_added, wher
 use Rattle.order_runs.specs.CycleRuns.Linked.{Linked, SettlesFile}
 use Rattle.order_runs.proofs.CycleRuns.FoundUses.NoRecursive.{step-form}
 use Rattle.order_runs.proofs.CycleRuns.LiteralCalls.Through.{body-led}
-use Rattle.splice_laws.proofs.ConstantSteps.MarksFound.{declared_there}
+use Rattle.constant_steps.proofs.MarksFound.{declared_there}
 use Rattle.form_cycles.specs.Bodies.{StandsInFunction, changes_of}
 use Rattle.form_cycles.specs.Puts.{ExprCallsThrough, CalleeStays, AllPutThrough, PutsInBody}
 use Rattle.form_cycles.proofs.FormSteps.{calls-change, call-step}
@@ -36,12 +36,12 @@ use Rattle.literal_steps.proofs.NoObstacle.{clear}
 use Rattle.literal_cycles.specs.Around.{CalledStays, AllStayAround}
 use Rattle.literal_cycles.specs.Uses.{place_of_use, TypedLiteral, PutsLiteral}
 use Rattle.literal_cycles.proofs.CalleesStay.{callees_stay}
-use Rattle.splice_laws.specs.WrittenLiteral.Fine.{is_call}
+use Rattle.constant_steps.specs.WrittenLiteral.Fine.{is_call}
 use Rattle.literal_cycles.proofs.Agreed.{func_of_decl}
 use Rattle.literal_cycles.proofs.LiteralLed.{form_calls}
 use Rattle.literal_cycles.proofs.SitesOut.{stands_so}
 use Rattle.literal_cycles.proofs.NothingAdded.{same_where, same_packages}
-use Rattle.splice_laws.specs.ConstantSteps.PlainUse.{AllTheUse}
+use Rattle.constant_steps.specs.PlainUse.{AllTheUse}
 use Rattle.splice_laws.specs.RunLaws.Reading.{ProgramReads}
 use Rattle.order_runs.proofs.RunSteps.UsesAlone.{stands-alone}
 use Rattle.go_tree.proofs.GoTypes.Agreeing.{some_same}

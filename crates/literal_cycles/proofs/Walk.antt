@@ -28,7 +28,7 @@ use Rattle.form_meaning.proofs.FormInPlace.InPlace.{type_there, type_option_ther
 use Rattle.run_rules.specs.Surroundings.{Use, Place, a_slot, in_slot, seen, seen_stmt, into_type, into_or, elem_use, key_use, first_declares, left_declares, in_literal}
 use Rattle.run_rules.specs.Places.{type_seen, after_arms, expr_seen, all_seen, option_seen, elems_seen, key_seen, value_seen, stmt_seen, stmts_seen, first_seen, block_seen, left_seen, arms_seen, cases_seen, variables_seen}
 use Rattle.run_rules.specs.Sites.{MarkRef}
-use Rattle.splice_laws.specs.WrittenLiteral.Listing.{Listing}
+use Rattle.constant_steps.specs.WrittenLiteral.Listing.{Listing}
 use Rattle.order_runs.proofs.CycleLaws.Called.{Callees, env_lit, bound_lit, called_by, calls_expr, calls_all, calls_option, calls_elems, calls_key, calls_value, calls_stmt, calls_stmts, calls_first, calls_block, calls_left, calls_arms, calls_cases, calls_variables}
 use Rattle.order_runs.proofs.CycleLaws.Walked.{callee-env, literal-place}
 use Rattle.literal_cycles.proofs.Along.{AllPlain, front, back, last_part, unless, NamesAgree, Along, along_block, along_more, beside}

@@ -21,7 +21,7 @@ use Rattle.order_runs.specs.CycleLaws.PutCalls.{called_among}
 use Rattle.order_runs.specs.CycleRuns.Linked.{Linked, SettlesFile}
 use Rattle.form_cycles.specs.Bodies.{StandsInFunction}
 use Rattle.form_cycles.specs.Puts.{ExprCallsThrough, CalleeStays, PutsInBody}
-use Rattle.splice_laws.specs.WrittenLiteral.Fine.{is_call}
+use Rattle.constant_steps.specs.WrittenLiteral.Fine.{is_call}
 use Rattle.literal_steps.specs.CalledAt.{CalledAt}
 use Rattle.literal_cycles.specs.Around.{CalledStays}
 use Rattle.literal_cycles.specs.Stands.{StandsInValues}

@@ -61,18 +61,18 @@ use Rattle.run_rules.specs.Naming.{Names}
 use Rattle.run_rules.specs.FormTrees.{Form, as_expr, as_dropped, as_block, as_type}
 use Rattle.run_rules.specs.Obstacles.{hidden_here, shadowed_here}
 use Rattle.run_rules.specs.Places.{params_seen}
-use Rattle.splice_laws.specs.WrittenLiteral.Within.{Within}
-use Rattle.splice_laws.specs.WrittenLiteral.Listing.{Listing}
-use Rattle.splice_laws.specs.WrittenLiteral.KnownNames.{landing, KnownNames}
-use Rattle.splice_laws.specs.WrittenLiteral.TypesTyped.{Qualifies}
-use Rattle.splice_laws.proofs.WrittenLiteral.FilesMeant.{file_meant}
-use Rattle.splice_laws.proofs.WrittenLiteral.TypesWritten.{qualifier_means}
-use Rattle.splice_laws.proofs.WrittenLiteral.ListedHeads.{listing}
-use Rattle.splice_laws.proofs.WrittenLiteral.WithinLaws.{entered}
-use Rattle.splice_laws.specs.ConstantSteps.Alone.{block_from, PackageAt, this_package, a_later_package}
-use Rattle.splice_laws.specs.ConstantSteps.PlainUse.{linked_at}
-use Rattle.splice_laws.proofs.ConstantSteps.NamesOutside.{MemberThere, member_there, linked_block, not_local}
-use Rattle.splice_laws.proofs.ConstantSteps.MarksFound.{member_of_mark, named_member, marked_so, StandsThere, stands_there, DeclaredThere, declared_there, nth_mapped}
+use Rattle.constant_steps.specs.WrittenLiteral.Within.{Within}
+use Rattle.constant_steps.specs.WrittenLiteral.Listing.{Listing}
+use Rattle.constant_steps.specs.WrittenLiteral.KnownNames.{landing, KnownNames}
+use Rattle.constant_steps.specs.WrittenLiteral.TypesTyped.{Qualifies}
+use Rattle.constant_steps.proofs.WrittenLiteral.FilesMeant.{file_meant}
+use Rattle.constant_steps.proofs.WrittenLiteral.TypesWritten.{qualifier_means}
+use Rattle.constant_steps.proofs.WrittenLiteral.ListedHeads.{listing}
+use Rattle.constant_steps.proofs.WrittenLiteral.WithinLaws.{entered}
+use Rattle.constant_steps.specs.Alone.{block_from, PackageAt, this_package, a_later_package}
+use Rattle.constant_steps.specs.PlainUse.{linked_at}
+use Rattle.constant_steps.proofs.NamesOutside.{MemberThere, member_there, linked_block, not_local}
+use Rattle.constant_steps.proofs.MarksFound.{member_of_mark, named_member, marked_so, StandsThere, stands_there, DeclaredThere, declared_there, nth_mapped}
 use Rattle.literal_steps.specs.TypedParts.{LocalValues}
 use Rattle.literal_steps.specs.ServedParts.{AllServed, AllAway}
 use Rattle.literal_steps.specs.FirstFunctions.{FirstFunction}

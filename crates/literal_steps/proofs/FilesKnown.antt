@@ -14,8 +14,8 @@ use Rattle.go_tree.specs.GoTypes.Collect.{DeclaredTypes, block_by, types_declare
 use Rattle.typed_in_place.proofs.Collected.{valued_settled}
 use Rattle.run_rules.specs.Programs.{linked, linked_file, imports_mean, top_env}
 use Rattle.run_rules.specs.Sites.{Where}
-use Rattle.splice_laws.specs.WrittenLiteral.LinkedNames.{AllDeclared, Standing}
-use Rattle.splice_laws.proofs.WrittenLiteral.NamesMeant.{Matched, Answered, matched_means, means_join, IsImport, all_imports_match, IsItem, binds_in, declared_at, files_match, block_found, block_is}
+use Rattle.constant_steps.specs.WrittenLiteral.LinkedNames.{AllDeclared, Standing}
+use Rattle.constant_steps.proofs.WrittenLiteral.NamesMeant.{Matched, Answered, matched_means, means_join, IsImport, all_imports_match, IsItem, binds_in, declared_at, files_match, block_found, block_is}
 use Rattle.literal_steps.specs.ServedParts.{NothingElse}
 
 -- the names of both, one by one

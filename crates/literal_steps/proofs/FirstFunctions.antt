@@ -16,8 +16,8 @@ use Rattle.go_tree.specs.GoTypes.Programs.{Header, constants, variables, a_type_
 use Rattle.go_tree.proofs.GoTypes.Agreeing.{some_same}
 use Rattle.typed_in_place.specs.Declared.{FirstWith, this_one, a_later_one}
 use Rattle.form_meaning.proofs.FormInPlace.Uses.{among_append}
-use Rattle.splice_laws.proofs.WrittenLiteral.NamesMeant.{means_join}
-use Rattle.splice_laws.specs.ConstantSteps.Alone.{block_from, PackageAt, this_package, a_later_package}
+use Rattle.constant_steps.proofs.WrittenLiteral.NamesMeant.{means_join}
+use Rattle.constant_steps.specs.Alone.{block_from, PackageAt, this_package, a_later_package}
 use Rattle.literal_steps.specs.FirstFunctions.{FirstFunction}
 
 in_turn : {A : Type 0} (xs ys zs : List A) → (xs ++ ys) ++ zs ≡ xs ++ (ys ++ zs)

@@ -28,9 +28,9 @@ use Rattle.go_translation.specs.Packages.{Package, sources, paths_in, are_distin
 use Rattle.go_translation.proofs.AskedFor.{Each}
 use Rattle.translation_rules.proofs.DeclaredResults.PackagePaths.{numbered, one_number}
 use Rattle.translation_rules.proofs.DeclaredResults.FunctionsFound.{HomeIn, OwnPath, each_weaker, homes, packages_flat, func_alike, self}
-use Rattle.splice_laws.specs.ConstantSteps.StepLaws.PartsTyped.{HeaderTyped}
-use Rattle.splice_laws.proofs.ConstantSteps.StepLaws.PartsTyped.{headers-typed}
-use Rattle.splice_laws.proofs.ConstantSteps.StepLaws.KnownConstants.{of-first}
+use Rattle.constant_steps.specs.StepLaws.PartsTyped.{HeaderTyped}
+use Rattle.constant_steps.proofs.StepLaws.PartsTyped.{headers-typed}
+use Rattle.constant_steps.proofs.StepLaws.KnownConstants.{of-first}
 
 same_self : (x : List ℕ) → bytes_eq x x ≡ true
 same_self x = (bytes_eq-Decides x x).1 refl

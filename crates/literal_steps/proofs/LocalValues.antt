@@ -19,8 +19,8 @@ use Rattle.go_tree.specs.GoTypes.Typing.{parts, all_parts, places, used_variable
 use Rattle.go_tree.proofs.GoTypes.Agreeing.{from_given, from_both, from_only, some_same}
 use Rattle.form_meaning.specs.FormInPlace.Bound.{stmt_binds, first_binds, range_left_binds, literal_binds, variable_binds}
 use Rattle.form_meaning.proofs.FormInPlace.Uses.{among_append}
-use Rattle.splice_laws.specs.WrittenLiteral.Within.{Grows}
-use Rattle.splice_laws.proofs.WrittenLiteral.WithinLaws.{behind_front}
+use Rattle.constant_steps.specs.WrittenLiteral.Within.{Grows}
+use Rattle.constant_steps.proofs.WrittenLiteral.WithinLaws.{behind_front}
 use Rattle.literal_steps.specs.TypedParts.{is_value, all_values, LocalValues}
 
 turned : (n x : List ℕ) → bytes_eq x n ≡ false → bytes_eq n x ≡ false

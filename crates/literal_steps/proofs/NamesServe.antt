@@ -24,10 +24,10 @@ use Rattle.run_rules.specs.Surroundings.{Place, is_local}
 use Rattle.run_rules.specs.Programs.{package_number, top_env}
 use Rattle.run_rules.specs.Sites.{Where, outer, import_number}
 use Rattle.run_rules.specs.Naming.{no_span, Named, names_by, imports_added, name_added, fresh_name, package_path, own_name, names_here, environment_here, added_import, named_packages}
-use Rattle.splice_laws.specs.WrittenLiteral.LinkedNames.{Standing}
-use Rattle.splice_laws.specs.WrittenLiteral.Meant.{Serves}
-use Rattle.splice_laws.proofs.WrittenLiteral.FilesMeant.{file_meant}
-use Rattle.splice_laws.proofs.WrittenLiteral.NamesMeant.{means_join}
+use Rattle.constant_steps.specs.WrittenLiteral.LinkedNames.{Standing}
+use Rattle.constant_steps.specs.WrittenLiteral.Meant.{Serves}
+use Rattle.constant_steps.proofs.WrittenLiteral.FilesMeant.{file_meant}
+use Rattle.constant_steps.proofs.WrittenLiteral.NamesMeant.{means_join}
 
 is_empty : {A : Type 0} → List A → Bool
 is_empty [] = true

@@ -30,18 +30,18 @@ use Rattle.run_rules.specs.Rewriting.{new_label, new_params, new_stmts}
 use Rattle.run_rules.specs.Sites.{Where, outer, imported_by, import_number, qualifier}
 use Rattle.run_rules.specs.Naming.{Names, type_there}
 use Rattle.run_rules.specs.Obstacles.{hidden_here, hidden_in_type, hidden_selection, unless_exported, shadowed_here, shadowed_in_type, first_answer}
-use Rattle.splice_laws.specs.WrittenLiteral.Within.{Within}
-use Rattle.splice_laws.specs.WrittenLiteral.Fine.{keeping, same_span, is_package, names_package, FineElems, FineKey, FineValue, FineSelector, Fine, AllFine}
-use Rattle.splice_laws.specs.WrittenLiteral.Fine as fine
-use Rattle.splice_laws.specs.WrittenLiteral.Meant.{NameTyped, Serves}
-use Rattle.splice_laws.specs.WrittenLiteral.KnownNames.{landing, KnownNames}
-use Rattle.splice_laws.specs.WrittenLiteral.TypesTyped.{Qualifies, TypeTyped, FieldsTyped}
-use Rattle.splice_laws.specs.WrittenLiteral.PartsTyped.{selector_there, expr_there, changes_there, qualifier_before}
-use Rattle.splice_laws.proofs.WrittenLiteral.NamesWritten.{name_written}
-use Rattle.splice_laws.proofs.WrittenLiteral.TypesWritten.{one_of_none, exported_unless, qualifier_means, type_written}
-use Rattle.splice_laws.proofs.WrittenLiteral.LiteralsHere.{literal_here}
-use Rattle.splice_laws.proofs.WrittenLiteral.ListedHeads.{listing}
-use Rattle.splice_laws.proofs.WrittenLiteral.Induction.{stmts-written}
+use Rattle.constant_steps.specs.WrittenLiteral.Within.{Within}
+use Rattle.constant_steps.specs.WrittenLiteral.Fine.{keeping, same_span, is_package, names_package, FineElems, FineKey, FineValue, FineSelector, Fine, AllFine}
+use Rattle.constant_steps.specs.WrittenLiteral.Fine as fine
+use Rattle.constant_steps.specs.WrittenLiteral.Meant.{NameTyped, Serves}
+use Rattle.constant_steps.specs.WrittenLiteral.KnownNames.{landing, KnownNames}
+use Rattle.constant_steps.specs.WrittenLiteral.TypesTyped.{Qualifies, TypeTyped, FieldsTyped}
+use Rattle.constant_steps.specs.WrittenLiteral.PartsTyped.{selector_there, expr_there, changes_there, qualifier_before}
+use Rattle.constant_steps.proofs.WrittenLiteral.NamesWritten.{name_written}
+use Rattle.constant_steps.proofs.WrittenLiteral.TypesWritten.{one_of_none, exported_unless, qualifier_means, type_written}
+use Rattle.constant_steps.proofs.WrittenLiteral.LiteralsHere.{literal_here}
+use Rattle.constant_steps.proofs.WrittenLiteral.ListedHeads.{listing}
+use Rattle.constant_steps.proofs.WrittenLiteral.Induction.{stmts-written}
 use Rattle.literal_steps.specs.TypedParts.{is_value, LocalValues, NameStands, ElementsTyped, PartStands, AllStand, NoConstants, AllWithoutConstants}
 use Rattle.literal_steps.specs.ServedParts.{TypeServed, FieldsServed, PartServed, AllServed, TypeAway, FieldsAway, PartAway, AllAway, NothingElse}
 use Rattle.literal_steps.proofs.TypedWalk.{stmts_stand}

@@ -29,10 +29,10 @@ use Rattle.run_rules.specs.Surroundings.{Use, whole, stored, updated, called, de
 use Rattle.run_rules.specs.Surroundings as around
 use Rattle.run_rules.specs.Places.{type_seen, written_seen, params_seen, sig_seen, old_seen, after_arms, expr_seen, all_seen, option_seen, elems_seen, key_seen, value_seen, stmt_seen, stmts_seen, first_seen, block_seen, left_seen, arms_seen, cases_seen, constants_seen, variables_seen}
 use Rattle.go_tree.specs.GoTypes.Declarations.{nothing_to_repeat}
-use Rattle.splice_laws.specs.WrittenLiteral.Fine as fine
-use Rattle.splice_laws.specs.WrittenLiteral.Fine.{is_package}
-use Rattle.splice_laws.specs.WrittenLiteral.Listing.{Listing}
-use Rattle.splice_laws.proofs.WrittenLiteral.ListedHeads.{listing}
+use Rattle.constant_steps.specs.WrittenLiteral.Fine as fine
+use Rattle.constant_steps.specs.WrittenLiteral.Fine.{is_package}
+use Rattle.constant_steps.specs.WrittenLiteral.Listing.{Listing}
+use Rattle.constant_steps.proofs.WrittenLiteral.ListedHeads.{listing}
 use Rattle.literal_steps.specs.TypedParts.{is_value, LocalValues, NameStands, TypeStands, PartStands, AllStand, AllWithoutConstants, StandIn}
 use Rattle.literal_steps.proofs.LocalValues.{in_blocks, extended, stmt_values, first_values, left_values, head_values, variable_values}
 

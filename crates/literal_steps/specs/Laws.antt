@@ -36,14 +36,14 @@ use Rattle.run_rules.specs.FormTrees.{LiteralForm, as_expr}
 use Rattle.run_rules.specs.Forms.{literal_tree}
 use Rattle.run_rules.specs.Obstacles.{shadowed_here, first_answer}
 use Rattle.run_rules.specs.Reduced.{text_taken, names_in_form, call_obstacle}
-use Rattle.splice_laws.specs.WrittenLiteral.Within.{Within}
-use Rattle.splice_laws.specs.WrittenLiteral.Fine.{keeping}
-use Rattle.splice_laws.specs.WrittenLiteral.KnownNames.{landing, KnownNames}
-use Rattle.splice_laws.specs.WrittenLiteral.PartsTyped.{changes_there}
-use Rattle.splice_laws.specs.WrittenLiteral.LinkedNames.{Standing}
-use Rattle.splice_laws.specs.WrittenLiteral.Meant.{Serves}
-use Rattle.splice_laws.specs.WrittenLiteral.Laws.{NoObstacleIn}
-use Rattle.splice_laws.specs.ConstantSteps.Alone.{block_from, PackageAt}
+use Rattle.constant_steps.specs.WrittenLiteral.Within.{Within}
+use Rattle.constant_steps.specs.WrittenLiteral.Fine.{keeping}
+use Rattle.constant_steps.specs.WrittenLiteral.KnownNames.{landing, KnownNames}
+use Rattle.constant_steps.specs.WrittenLiteral.PartsTyped.{changes_there}
+use Rattle.constant_steps.specs.WrittenLiteral.LinkedNames.{Standing}
+use Rattle.constant_steps.specs.WrittenLiteral.Meant.{Serves}
+use Rattle.constant_steps.specs.WrittenLiteral.Laws.{NoObstacleIn}
+use Rattle.constant_steps.specs.Alone.{block_from, PackageAt}
 use Rattle.literal_steps.specs.TypedParts.{LocalValues, StandIn}
 use Rattle.literal_steps.specs.ServedParts.{AllServed, AllAway, NothingElse}
 use Rattle.literal_steps.specs.AlikeChanges.{AllAlike}

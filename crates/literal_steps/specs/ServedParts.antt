@@ -16,7 +16,7 @@ use Rattle.form_meaning.specs.FormInPlace.Places.{open_in}
 use Rattle.run_rules.specs.Surroundings.{Place, Seen, seen, seen_type, seen_stmt}
 use Rattle.run_rules.specs.Sites.{Where, outer, outer_meaning, mark_of, qualifier}
 use Rattle.run_rules.specs.Naming.{Names}
-use Rattle.splice_laws.specs.WrittenLiteral.Meant.{Serves}
+use Rattle.constant_steps.specs.WrittenLiteral.Meant.{Serves}
 
 -- Names for packages at a use, where names mean `there` and those of `around` are declared around it; the parts stand
 -- in the file `home`.

@@ -13,7 +13,7 @@ use Rattle.go_tree.specs.GoTypes.TypeNames.{resolved, type_meant, func_type}
 use Rattle.go_tree.specs.GoTypes.Literals.{Element}
 use Rattle.go_tree.specs.GoTypes.Typing.{elements}
 use Rattle.run_rules.specs.Surroundings.{Place, is_local, Seen, seen, seen_type, seen_stmt}
-use Rattle.splice_laws.specs.WrittenLiteral.Fine.{is_package, is_call}
+use Rattle.constant_steps.specs.WrittenLiteral.Fine.{is_package, is_call}
 
 -- what a body can declare: a variable or a constant, maybe refused
 abbrev pub is_value : Option Entity → Bool

@@ -16,7 +16,7 @@ use Rattle.go_tree.specs.GoTypes.Answers.{given}
 use Rattle.run_rules.specs.Surroundings.{Place, is_local}
 use Rattle.run_rules.specs.Programs.{package_number}
 use Rattle.run_rules.specs.Sites.{Where, mark_of, imported_by, members_in, outer, outer_meaning, import_number, qualifier, member_of, name_mark, qualified_mark}
-use Rattle.splice_laws.specs.PlaceMeanings.Agreement.{means_local, target_of, AgreesAt}
+use Rattle.constant_steps.specs.PlaceMeanings.Agreement.{means_local, target_of, AgreesAt}
 use Rattle.member_uses.specs.Uses.{Names, own_package, imported_package, package_at, import_at}
 
 -- ---- what stands in the blocks around a file

@@ -17,9 +17,9 @@ use Rattle.possible_uses.specs.Candidates.{Candidate, plain_part, key_part}
 use Rattle.possible_uses.specs.Parts.{put}
 use Rattle.possible_uses.specs.Among.{may_be_use, Follows, at_the_end, past_a_use, past_no_use, past_a_key, past_a_field, past_an_old_name, past_a_type, past_a_statement}
 use Rattle.possible_uses.specs.Laws.{PartsAreAmongAll}
-use Rattle.splice_laws.specs.PlaceMeanings.Agreement.{BlockIsLocal, AgreesAt}
-use Rattle.splice_laws.specs.PlaceMeanings.Parts.{AtTypes, AtParts}
-use Rattle.splice_laws.specs.PlaceMeanings.Laws.{PlacesMeanAsTablesSay, BlocksAreLocal}
+use Rattle.constant_steps.specs.PlaceMeanings.Agreement.{BlockIsLocal, AgreesAt}
+use Rattle.constant_steps.specs.PlaceMeanings.Parts.{AtTypes, AtParts}
+use Rattle.constant_steps.specs.PlaceMeanings.Laws.{PlacesMeanAsTablesSay, BlocksAreLocal}
 use Rattle.member_uses.specs.Uses.{Used, Names, used, package_at, import_at, part_uses, member_uses}
 use Rattle.member_uses.specs.Laws.{AllConstants, mark_used, marked_uses, LeavesFieldsOut, unmarked, with_mark, a_field, NoKeyIsMarked, site_marks, Knows, MarkedMembersAreSites}
 use Rattle.member_uses.specs.Laws as left

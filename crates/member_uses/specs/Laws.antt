@@ -16,8 +16,8 @@ use Rattle.run_rules.specs.Texts.{FileText}
 use Rattle.run_rules.specs.Inlining.{ReadsAs}
 use Rattle.possible_uses.specs.Among.{Keyed}
 use Rattle.possible_uses.specs.Parts.{parts_of}
-use Rattle.splice_laws.specs.PlaceMeanings.Parts.{AllScoped}
-use Rattle.splice_laws.specs.PlaceMeanings.Laws.{AreNamesOf}
+use Rattle.constant_steps.specs.PlaceMeanings.Parts.{AllScoped}
+use Rattle.constant_steps.specs.PlaceMeanings.Laws.{AreNamesOf}
 use Rattle.member_uses.specs.Uses.{Used, Names, member_uses}
 
 module _ {S : Type 0} where

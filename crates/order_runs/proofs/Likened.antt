@@ -16,7 +16,7 @@ use Rattle.typed_in_place.proofs.Rising.{and_first, and_second, both_true}
 use Rattle.typed_in_place.proofs.ImportRule.{well_typed_apart}
 use Rattle.go_kernel.specs.Kernel.{same_text}
 use Rattle.go_translation.specs.Packages.{Package, sources, codes_of, program_of, initial_of, has_path, has_number, are_distinct, are_linked, are_well_typed}
-use Rattle.splice_laws.specs.ConstantSteps.StepLaws.PartsTyped.{HeaderTyped}
+use Rattle.constant_steps.specs.StepLaws.PartsTyped.{HeaderTyped}
 use Rattle.typed_in_place.specs.SameWorlds.SameWorlds.{SameWorld}
 use Rattle.typed_in_place.proofs.SameWorlds.HeadersMoved.{HeadersMoved, nothing_moved, after_first, places_changed, moved_again}
 use Rattle.typed_in_place.proofs.SameWorlds.OrdersSame.{collected-same}

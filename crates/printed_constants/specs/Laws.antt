@@ -5,10 +5,10 @@ use Rattle.go_tree.specs.declared.spans.Span.{Span}
 use Rattle.go_tree.specs.Tree.{Expr}
 use Rattle.go_tree.specs.File.{Decl, File}
 use Rattle.pkg_graph.specs.Package.{Package}
-use Rattle.splice_laws.specs.PlaceMeanings.Parts.{AllScoped}
+use Rattle.constant_steps.specs.PlaceMeanings.Parts.{AllScoped}
 use Rattle.possible_uses.specs.Among.{Keyed}
-use Rattle.splice_laws.specs.ConstantSteps.Alone.{PlainFiles}
-use Rattle.splice_laws.specs.ConstantSteps.PlainUse.{AllSimple}
+use Rattle.constant_steps.specs.Alone.{PlainFiles}
+use Rattle.constant_steps.specs.PlainUse.{AllSimple}
 use Rattle.order_runs.specs.CycleRuns.ImportCycles.ImportSteps.{packages_added}
 use Rattle.run_rules.specs.FormTrees.{as_expr}
 use Rattle.run_rules.specs.Programs.{linked_file, decl_seen}
@@ -17,7 +17,7 @@ use Rattle.run_rules.specs.Inlining.{standing_as_read}
 use Rattle.run_rules.specs.Sites.{MarkRef, Where}
 use Rattle.run_rules.specs.Steps.{At}
 use Rattle.run_rules.specs.Texts.{FileText}
-use Rattle.splice_laws.specs.WrittenLiteral.UnspreadForms.UnspreadForms.{UnspreadPackages}
+use Rattle.constant_steps.specs.WrittenLiteral.UnspreadForms.UnspreadForms.{UnspreadPackages}
 use Rattle.printed_constants.specs.Printed.{IsFlat, IsPrinted, ArePrinted}
 
 -- The parts of such a declaration are scoped, in whatever file.

@@ -12,7 +12,7 @@ use Rattle.run_rules.specs.Respanned.{decl_with, file_with, packages_with}
 use Rattle.run_rules.specs.Steps.{At}
 use Rattle.run_rules.specs.Run.{Standing, here_of, module_file_size, texts_size}
 use Rattle.splice_laws.specs.RunLaws.Reading.{OnePathEach}
-use Rattle.splice_laws.specs.FormImports.ImportLaws.Steps.{names_standing}
+use Rattle.constant_steps.specs.FormImports.ImportLaws.Steps.{names_standing}
 use Rattle.member_uses.specs.Uses.{Names}
 use Rattle.member_uses.specs.Laws.{AllConstants, Knows}
 use Rattle.file_names.specs.Imports.{FindsPackages}

@@ -25,9 +25,9 @@ use Rattle.splice_laws.specs.Dots.{UndottedFile}
 use Rattle.splice_laws.specs.Swaps.{Swap, FileIn}
 use Rattle.splice_laws.specs.ImportSplices.FormSplices.Laws.{MakesForm}
 use Rattle.splice_laws.proofs.ImportSplices.FormSplices.FormsFound.{step-makes-form}
-use Rattle.splice_laws.specs.PlaceMeanings.Agreement.{BlockIsLocal}
-use Rattle.splice_laws.specs.PlaceMeanings.Parts.{AtPart, AtParts}
-use Rattle.splice_laws.proofs.PlaceMeanings.PlacesMean.{blocks_local}
+use Rattle.constant_steps.specs.PlaceMeanings.Agreement.{BlockIsLocal}
+use Rattle.constant_steps.specs.PlaceMeanings.Parts.{AtPart, AtParts}
+use Rattle.constant_steps.proofs.PlaceMeanings.PlacesMean.{blocks_local}
 use Rattle.order_runs.proofs.RunSteps.SeatedUses.{Among, first, later, Seated, sites-seated}
 use Rattle.order_runs.specs.CycleRuns.KeptImports.Files.{PutsNode}
 use Rattle.put_names.specs.ReadImports.PutInText.{PutInText}

@@ -10,7 +10,7 @@ use Rattle.run_rules.specs.Run.{Standing, Logged, Next}
 use Rattle.run_rules.specs.Sites.{MarkRef, Where, an_expr, a_constant, an_alias, part_span, where_is, inlinable}
 use Rattle.run_rules.specs.Sites.{qualifier}
 use Rattle.run_rules.specs.Steps.{At}
-use Rattle.splice_laws.specs.PlaceMeanings.Parts.{AllScoped}
+use Rattle.constant_steps.specs.PlaceMeanings.Parts.{AllScoped}
 use Rattle.put_nodes.specs.SpelledNames.{IsNameExpr}
 use Rattle.put_nodes.specs.Put.{IsSomeName}
 

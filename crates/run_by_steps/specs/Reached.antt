@@ -14,7 +14,7 @@ use Rattle.run_rules.specs.Texts.{FileText}
 use Rattle.run_rules.specs.Steps.{At, Found}
 use Rattle.run_rules.specs.Run.{Standing, Logged, step_in, edits_in, logged, the_limits}
 use Rattle.run_rules.specs.Inlining.{ModuleReads, standing_as_read, Reaches}
-use Rattle.splice_laws.specs.FormImports.OwnNames.{AreInProgram}
+use Rattle.constant_steps.specs.FormImports.OwnNames.{AreInProgram}
 use Rattle.run_by_steps.specs.NextPrograms.Made.{PutsForm}
 
 -- each text has supported words alone

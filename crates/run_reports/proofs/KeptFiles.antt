@@ -32,7 +32,7 @@ use Rattle.run_rules.specs.Sites.{MarkRef, Where, Inlinable, a_constant, an_alia
 use Rattle.run_rules.specs.Steps.{At}
 use Rattle.module_marks.specs.Views.{mark_ref_of}
 use Rattle.constant_forms.specs.Views.{obstacle_of}
-use Rattle.splice_laws.specs.PlaceMeanings.Parts.{AllScoped}
+use Rattle.constant_steps.specs.PlaceMeanings.Parts.{AllScoped}
 use Rattle.file_names.specs.Members.{IsBlockOf}
 use Rattle.member_uses.specs.Laws.{is_constant}
 use Rattle.member_uses.specs.Uses.{Names}

@@ -19,7 +19,7 @@ use Rattle.package_search.specs.declared.looks.ProgramSources.{ProgramSources}
 use Rattle.package_search.specs.Looks.{IsLook}
 use Rattle.run_reports.specs.Kept.{source_at, tokens_at, IsKeptLook, AddsKept, uses_once}
 use Rattle.run_reports.specs.Rows.{IsRow}
-use Rattle.splice_laws.proofs.ConstantSteps.MarksFound.{nth_mapped}
+use Rattle.constant_steps.proofs.MarksFound.{nth_mapped}
 
 -- the same of a path and of what is told that are equal
 pub row_as : (places : List (List ℕ × ℕ)) (path way : List ℕ) (offset : ℕ) (told said : List ℕ) (r : ReportRow) → IsRow places path offset told r → path ≡ way → told ≡ said → IsRow places way offset said r

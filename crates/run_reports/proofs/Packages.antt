@@ -20,7 +20,7 @@ use Rattle.run_rules.specs.Respanned.{decl_with, source_with, package_with, pack
 use Rattle.run_rules.specs.Run.{here_of}
 use Rattle.run_rules.specs.Sites.{MarkRef, Where, Inlinable, a_constant, where_is, inlinable}
 use Rattle.run_rules.specs.Steps.{At}
-use Rattle.splice_laws.proofs.ConstantSteps.MarksFound.{DeclaredThere, declared_there, StandsThere, stands_there}
+use Rattle.constant_steps.proofs.MarksFound.{DeclaredThere, declared_there, StandsThere, stands_there}
 use Rattle.use_search.specs.MarkValues.Tables.{decl_at, key_of}
 use Rattle.stepped_programs.proofs.SearchedSites.OrderedSearches.Beside.{beside_at}
 use Rattle.run_reports.specs.Names.{IsNamed, nth_name, name_at}

@@ -38,7 +38,3 @@ pub mod Marks
 pub mod Examples
 pub mod ImportSplices
 pub mod RunLaws
-pub mod FormImports
-pub mod WrittenLiteral
-pub mod ConstantSteps
-pub mod PlaceMeanings

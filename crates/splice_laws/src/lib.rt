@@ -4,17 +4,13 @@
 //! here have empty bodies, and their contracts are the laws.
 #![tactic(auto)]
 
-pub mod constant_steps;
 mod edits;
-pub mod form_imports;
 mod forms;
 pub mod import_splices;
 mod imports;
-pub mod place_meanings;
 pub mod run_laws;
 mod texts;
 mod trees;
-pub mod written_literal;
 
 pub use edits::{edited_texts_are_read, edits_are_made_in_turn, lines_part_texts};
 pub use forms::{dots_stand_apart, forms_are_read_in_place};

@@ -17,8 +17,8 @@ use Rattle.run_rules.specs.FormTrees.{as_expr}
 use Rattle.run_rules.specs.Programs.{dependency_order, linked, body_place}
 use Rattle.run_rules.specs.Sites.{MarkRef, Where, Site, an_expr}
 use Rattle.run_rules.specs.Surroundings.{whole, Place, a_slot, in_slot, at_stmt}
-use Rattle.splice_laws.specs.ConstantSteps.PlainUse.{linked_at}
-use Rattle.splice_laws.specs.WrittenLiteral.LinkedNames.{Standing}
+use Rattle.constant_steps.specs.PlainUse.{linked_at}
+use Rattle.constant_steps.specs.WrittenLiteral.LinkedNames.{Standing}
 use Rattle.order_runs.specs.CycleRuns.OrderCycles.Orders.{AllOrdered}
 use Rattle.literal_steps.specs.CalledAt.{Linked}
 use Rattle.literal_steps.specs.LiteralUse.{LiteralUse}

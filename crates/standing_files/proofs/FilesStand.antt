@@ -8,12 +8,12 @@ use Rattle.go_tree.specs.GoTypes.WellTyped.{well_typed}
 use Rattle.pkg_graph.specs.Package.{Package}
 use Rattle.run_rules.specs.Programs.{in_dependency_order, linked_file, linked}
 use Rattle.run_rules.specs.Sites.{MarkRef, Where, where_is}
-use Rattle.splice_laws.specs.ConstantSteps.Alone.{PackageAt, this_package, a_later_package}
-use Rattle.splice_laws.specs.ConstantSteps.PlainUse.{linked_at}
-use Rattle.splice_laws.specs.WrittenLiteral.LinkedNames.{NoneNumbered, Standing}
-use Rattle.splice_laws.proofs.ConstantSteps.MarksFound.{StandsThere, stands_there, nth_mapped}
-use Rattle.splice_laws.proofs.ConstantSteps.PlainImports.{Distinct}
-use Rattle.splice_laws.proofs.ConstantSteps.QualifiedSteps.Declared.{sound_there}
+use Rattle.constant_steps.specs.Alone.{PackageAt, this_package, a_later_package}
+use Rattle.constant_steps.specs.PlainUse.{linked_at}
+use Rattle.constant_steps.specs.WrittenLiteral.LinkedNames.{NoneNumbered, Standing}
+use Rattle.constant_steps.proofs.MarksFound.{StandsThere, stands_there, nth_mapped}
+use Rattle.constant_steps.proofs.PlainImports.{Distinct}
+use Rattle.constant_steps.proofs.QualifiedSteps.Declared.{sound_there}
 use Rattle.order_runs.specs.CycleRuns.OrderCycles.Orders.{AllOrdered}
 use Rattle.order_runs.proofs.ImportRuns.Listed.{among-order}
 use Rattle.order_runs.proofs.RunSteps.PackageStands.{StandsAt, package-stands}

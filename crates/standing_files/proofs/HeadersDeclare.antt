@@ -11,11 +11,11 @@ use Rattle.go_tree.specs.GoTypes.Collect.{DeclaredTypes, good_entity, function_d
 use Rattle.go_tree.specs.GoTypes.WellTyped.{is_method, well_typed}
 use Rattle.typed_in_place.specs.ProgramReplaced.{All, all_of_none, all_and}
 use Rattle.typed_in_place.proofs.Headers.{declared_in}
-use Rattle.splice_laws.specs.ConstantSteps.Alone.{PackageAt, this_package, a_later_package}
-use Rattle.splice_laws.specs.ConstantSteps.StepLaws.PartsTyped.{HeaderTyped}
-use Rattle.splice_laws.proofs.ConstantSteps.StepLaws.KnownConstants.{declares-it}
-use Rattle.splice_laws.proofs.ConstantSteps.StepLaws.PartsTyped.{headers-typed, all-behind}
-use Rattle.splice_laws.specs.WrittenLiteral.LinkedNames.{AllDeclared}
+use Rattle.constant_steps.specs.Alone.{PackageAt, this_package, a_later_package}
+use Rattle.constant_steps.specs.StepLaws.PartsTyped.{HeaderTyped}
+use Rattle.constant_steps.proofs.StepLaws.KnownConstants.{declares-it}
+use Rattle.constant_steps.proofs.StepLaws.PartsTyped.{headers-typed, all-behind}
+use Rattle.constant_steps.specs.WrittenLiteral.LinkedNames.{AllDeclared}
 
 only-so : {A : Type 0} (b : Bool) (o : Option A) → b ≡ true → is_some o ≡ true → is_some (only_if b o) ≡ true
 only-so true o e f = f

@@ -10,8 +10,8 @@ use Rattle.pkg_graph.specs.Order.{is_placed}
 use Rattle.go_tree.specs.GoTypes.Programs.{Program}
 use Rattle.run_rules.specs.Programs.{numbered, is_ready, lesser, least_ready, ordered_after, linked_package, linked_packages, linked}
 use Rattle.typed_in_place.proofs.SameWorlds.AtHome.{nat_same}
-use Rattle.splice_laws.specs.WrittenLiteral.LinkedNames.{NoneNumbered}
-use Rattle.splice_laws.proofs.ConstantSteps.PlainImports.{Distinct}
+use Rattle.constant_steps.specs.WrittenLiteral.LinkedNames.{NoneNumbered}
+use Rattle.constant_steps.proofs.PlainImports.{Distinct}
 use Rattle.order_runs.proofs.CycleRuns.OrderCycles.Swaps.{nat_self}
 
 -- what a list holds, a longer one does

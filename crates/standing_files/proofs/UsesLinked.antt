@@ -6,7 +6,7 @@ use Rattle.go_translation.specs.Packages as translated
 use Rattle.pkg_graph.specs.Package.{Package}
 use Rattle.run_rules.specs.Programs.{linked}
 use Rattle.run_rules.specs.Sites.{MarkRef}
-use Rattle.splice_laws.proofs.ConstantSteps.MarksFound.{StandsThere, stands_there}
+use Rattle.constant_steps.proofs.MarksFound.{StandsThere, stands_there}
 use Rattle.order_runs.proofs.RunSteps.PackageStands.{StandsAt}
 use Rattle.literal_steps.specs.CalledAt.{Linked}
 use Rattle.literal_steps.specs.RankedMarks.Free.{Translated}

@@ -14,8 +14,8 @@ use Rattle.run_rules.specs.Programs.{linked, package_number, world, top_env}
 use Rattle.run_rules.specs.Sites.{MarkRef, Where, where_is}
 use Rattle.run_rules.specs.Surroundings.{Place, is_local}
 use Rattle.order_runs.specs.CycleRuns.OrderCycles.Orders.{AllOrdered}
-use Rattle.splice_laws.specs.WrittenLiteral.LinkedNames.{Standing}
-use Rattle.splice_laws.specs.WrittenLiteral.Meant.{FileMeant, Serves}
+use Rattle.constant_steps.specs.WrittenLiteral.LinkedNames.{Standing}
+use Rattle.constant_steps.specs.WrittenLiteral.Meant.{FileMeant, Serves}
 use Rattle.literal_steps.specs.ServedParts.{NothingElse}
 use Rattle.standing_files.specs.TypedUses.{IsFileThere}
 

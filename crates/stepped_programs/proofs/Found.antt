@@ -11,7 +11,7 @@ use Rattle.go_tree.specs.FileView.{file_of}
 use Rattle.go_tree.specs.declared.scope_names.names.FileNames.{FileNames}
 use Rattle.pkg_graph.specs.Members.{Target, package_block}
 use Rattle.pkg_graph.specs.Reads.{Source}
-use Rattle.splice_laws.specs.PlaceMeanings.Parts.{AllScoped}
+use Rattle.constant_steps.specs.PlaceMeanings.Parts.{AllScoped}
 use Rattle.possible_uses.specs.Among.{Keyed}
 use Rattle.possible_uses.specs.Laws.{PartsAreAmongAll}
 use Rattle.constant_forms.specs.Views.{name_expr}

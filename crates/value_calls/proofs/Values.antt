@@ -23,9 +23,9 @@ use Rattle.go_tree.specs.GoTypes.Initial.{is_initial, all_initial}
 use Rattle.go_tree.specs.GoTypes.WellTyped.{well_typed}
 use Rattle.go_tree.proofs.GoTypes.Agreeing.{from_given, from_both, from_only, some_same}
 use Rattle.typed_in_place.specs.ProgramReplaced.{All, all_and}
-use Rattle.splice_laws.specs.ConstantSteps.StepLaws.DeclStands.{AtNth}
-use Rattle.splice_laws.specs.ConstantSteps.StepLaws.PartsTyped.{HeaderTyped}
-use Rattle.splice_laws.proofs.ConstantSteps.StepLaws.PartsTyped.{headers-typed, all-behind, TypedThere, DeclIsTyped, FilesTyped, of-packages}
+use Rattle.constant_steps.specs.StepLaws.DeclStands.{AtNth}
+use Rattle.constant_steps.specs.StepLaws.PartsTyped.{HeaderTyped}
+use Rattle.constant_steps.proofs.StepLaws.PartsTyped.{headers-typed, all-behind, TypedThere, DeclIsTyped, FilesTyped, of-packages}
 use Rattle.order_runs.proofs.RunSteps.SeatedUses.{Among, first, later}
 use Rattle.run_rules.specs.Surroundings.{Use, Place, alike, value_use, in_constant, comma_slot, head_use, later_uses}
 use Rattle.run_rules.specs.Places.{written_seen, expr_seen, all_seen}

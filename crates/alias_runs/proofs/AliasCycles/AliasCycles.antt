@@ -21,7 +21,7 @@ use Rattle.order_runs.specs.CycleLaws.PutSteps.{PutsAlike}
 use Rattle.order_runs.proofs.CycleLaws.NoCallees.{names-alike}
 use Rattle.order_runs.specs.CycleLaws.ConstantCycles.NamesPut.{NameForName, AllNamesPut}
 use Rattle.order_runs.proofs.CycleLaws.ConstantCycles.UsesPut.{type-puts-alike}
-use Rattle.splice_laws.specs.ConstantSteps.PlainUse.{IsSimple, AllSimple}
+use Rattle.constant_steps.specs.PlainUse.{IsSimple, AllSimple}
 use Rattle.order_runs.proofs.CycleRuns.FoundUses.NoRecursive.{step-off}
 use Rattle.order_runs.specs.CycleRuns.ImportCycles.ImportSteps.{packages_added}
 use Rattle.order_runs.specs.CycleRuns.OrderCycles.Steps.{site_added, GivesWayAdded}

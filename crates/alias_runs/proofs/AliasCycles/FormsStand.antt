@@ -18,13 +18,13 @@ use Rattle.run_rules.specs.Programs.{linked, linked_file, imports_mean, top_plac
 use Rattle.run_rules.specs.Run.{Standing, Logged, Next, is_commented}
 use Rattle.run_rules.specs.Sites.{MarkRef, Site, part_span}
 use Rattle.run_rules.specs.Steps.{At, same_here, change_nth, changes_for}
-use Rattle.splice_laws.specs.ConstantSteps.StepLaws.DeclStands.{DeclStands, DeclTypesStand, body_there, changed, AtNth}
-use Rattle.splice_laws.specs.ConstantSteps.Alone.{PackageAt, this_package, a_later_package}
-use Rattle.splice_laws.specs.ConstantSteps.PlainUse.{linked_at}
-use Rattle.splice_laws.proofs.ConstantSteps.LinkedAfter.{package_with, rs_after, linked_after}
-use Rattle.splice_laws.proofs.ConstantSteps.MarksFound.{nth_mapped}
-use Rattle.splice_laws.proofs.ConstantSteps.PlainImports.{Distinct, distinct_sources}
-use Rattle.splice_laws.specs.ConstantSteps.QualifiedSteps.NamedUse.{PackageStands}
+use Rattle.constant_steps.specs.StepLaws.DeclStands.{DeclStands, DeclTypesStand, body_there, changed, AtNth}
+use Rattle.constant_steps.specs.Alone.{PackageAt, this_package, a_later_package}
+use Rattle.constant_steps.specs.PlainUse.{linked_at}
+use Rattle.constant_steps.proofs.LinkedAfter.{package_with, rs_after, linked_after}
+use Rattle.constant_steps.proofs.MarksFound.{nth_mapped}
+use Rattle.constant_steps.proofs.PlainImports.{Distinct, distinct_sources}
+use Rattle.constant_steps.specs.QualifiedSteps.NamedUse.{PackageStands}
 use Rattle.order_runs.specs.CycleRuns.StepCycles.Steps.{packages_put, StandsInRounds, StandsAtEnds}
 use Rattle.order_runs.specs.RunSteps.RunPackages.{members_of}
 use Rattle.order_runs.proofs.RunSteps.MembersViewed.{sources-linked}

@@ -24,19 +24,19 @@ use Rattle.go_translation.specs.Packages.{sources, are_distinct, are_linked, are
 use Rattle.go_translation.specs.SameMeaning.{Packages, WellTyped, with_further, SameMeaning}
 use Rattle.run_rules.specs.Programs.{linked_file, linked_imports}
 use Rattle.run_rules.specs.Sites.{MarkRef, Site, part_span}
-use Rattle.splice_laws.specs.ConstantSteps.StepLaws.DeclStands.{ProgramBy, HeadedBy, AtNth}
-use Rattle.splice_laws.proofs.ConstantSteps.StepLaws.DeclChanged.{DeclBy, DeclOfFilesBy, DeclOfPackageBy, same_package, changed_by}
-use Rattle.splice_laws.proofs.ConstantSteps.StepLaws.FurtherApart.{further-apart}
-use Rattle.splice_laws.proofs.ConstantSteps.StepLaws.StepInPlace.{names-stand, program-by}
+use Rattle.constant_steps.specs.StepLaws.DeclStands.{ProgramBy, HeadedBy, AtNth}
+use Rattle.constant_steps.proofs.StepLaws.DeclChanged.{DeclBy, DeclOfFilesBy, DeclOfPackageBy, same_package, changed_by}
+use Rattle.constant_steps.proofs.StepLaws.FurtherApart.{further-apart}
+use Rattle.constant_steps.proofs.StepLaws.StepInPlace.{names-stand, program-by}
 use Rattle.alias_runs.proofs.AliasTexts.RetypedTyping.{header-replaced}
-use Rattle.splice_laws.specs.ConstantSteps.Alone.{PackageAt, this_package, a_later_package}
-use Rattle.splice_laws.specs.ConstantSteps.PlainUse.{linked_at}
-use Rattle.splice_laws.proofs.ConstantSteps.AfterStep.{at_package, at_nth}
-use Rattle.splice_laws.proofs.ConstantSteps.MarksFound.{nth_mapped}
-use Rattle.splice_laws.proofs.ConstantSteps.PlainImports.{distinct_sources}
-use Rattle.splice_laws.proofs.ConstantSteps.QualifiedSteps.HeadersUse.{UsesKept, uses_itself}
-use Rattle.splice_laws.proofs.ConstantSteps.QualifiedSteps.ImportsRight.{in_use, NamesStay, packages_right, files_stay, packages_stay}
-use Rattle.splice_laws.proofs.ConstantSteps.QualifiedSteps.Small.{or_left, or_right}
+use Rattle.constant_steps.specs.Alone.{PackageAt, this_package, a_later_package}
+use Rattle.constant_steps.specs.PlainUse.{linked_at}
+use Rattle.constant_steps.proofs.AfterStep.{at_package, at_nth}
+use Rattle.constant_steps.proofs.MarksFound.{nth_mapped}
+use Rattle.constant_steps.proofs.PlainImports.{distinct_sources}
+use Rattle.constant_steps.proofs.QualifiedSteps.HeadersUse.{UsesKept, uses_itself}
+use Rattle.constant_steps.proofs.QualifiedSteps.ImportsRight.{in_use, NamesStay, packages_right, files_stay, packages_stay}
+use Rattle.constant_steps.proofs.QualifiedSteps.Small.{or_left, or_right}
 use Rattle.alias_runs.specs.AliasSteps.AliasSteps.{DeclOfFiles, DeclOfPackage, alias_put, form_put, members_with_form, WholeUses, AliasSwaps}
 use Rattle.alias_runs.proofs.AliasSteps.AliasDecls.{decl-retyped}
 use Rattle.alias_runs.proofs.AliasSteps.AliasStepLaw.{alias-program}

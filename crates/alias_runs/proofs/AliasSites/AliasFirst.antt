@@ -19,9 +19,9 @@ use Rattle.typed_in_place.specs.Declared.{FirstWith, this_one, a_later_one, HasN
 use Rattle.typed_in_place.specs.Declared as typing
 use Rattle.form_meaning.proofs.FormInPlace.Uses.{among_append}
 use Rattle.run_rules.specs.Sites.{Inlinable, a_constant, an_alias, a_function, aliased, inlinable_in, nth_constant, constant_in_spec, less}
-use Rattle.splice_laws.proofs.WrittenLiteral.NamesMeant.{means_join}
-use Rattle.splice_laws.proofs.WrittenLiteral.ListedHeads.{names_both}
-use Rattle.splice_laws.specs.ConstantSteps.Alone.{block_from, PackageAt, this_package, a_later_package}
+use Rattle.constant_steps.proofs.WrittenLiteral.NamesMeant.{means_join}
+use Rattle.constant_steps.proofs.WrittenLiteral.ListedHeads.{names_both}
+use Rattle.constant_steps.specs.Alone.{block_from, PackageAt, this_package, a_later_package}
 use Rattle.alias_runs.specs.AliasSites.FirstAlias.{FirstAlias}
 
 -- ---- names

@@ -10,7 +10,7 @@ use Rattle.go_tree.specs.GoTypes.Programs.{Headed, Program, headed}
 use Rattle.go_tree.specs.GoTypes.Collect.{env_of, file_env}
 use Rattle.typed_in_place.specs.Aliases.{SameText, same_name, DeclaresAlias}
 use Rattle.typed_in_place.proofs.DeclaredAliases.{alias_means}
-use Rattle.splice_laws.proofs.WrittenLiteral.NamesMeant.{means_join}
+use Rattle.constant_steps.proofs.WrittenLiteral.NamesMeant.{means_join}
 use Rattle.alias_runs.specs.AliasSteps.AliasUses.{NamesAlias}
 use Rattle.alias_runs.proofs.AliasSteps.AliasNamed.{alias-entity}
 use Rattle.alias_runs.specs.AliasSites.FirstAlias.{FirstAlias, AliasEnd, before_types, with_types}

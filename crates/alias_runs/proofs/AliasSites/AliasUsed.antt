@@ -12,16 +12,16 @@ use Rattle.go_tree.specs.GoTypes.Entities.{Entity, World}
 use Rattle.go_tree.specs.GoTypes.Programs.{SourcePackage, Program, file_block, block_names, import_sound, import_entity}
 use Rattle.go_tree.specs.GoTypes.Collect.{file_env}
 use Rattle.go_tree.proofs.GoTypes.Agreeing.{some_same}
-use Rattle.splice_laws.proofs.WrittenLiteral.NamesMeant.{means_join}
+use Rattle.constant_steps.proofs.WrittenLiteral.NamesMeant.{means_join}
 use Rattle.run_rules.specs.Surroundings.{Place, is_local}
 use Rattle.run_rules.specs.Programs.{linked_file, linked_import, linked_imports, package_number}
 use Rattle.run_rules.specs.Sites.{MarkRef, Where, Site, an_alias, not_function, same_target, outer, outer_meaning, name_mark}
 use Rattle.run_rules.specs.Reduced.{home_place}
 use Rattle.run_rules.specs.Obstacles.{is_taken_plainly, means_this}
-use Rattle.splice_laws.specs.ConstantSteps.Alone.{block_from, PackageAt}
-use Rattle.splice_laws.specs.ConstantSteps.PlainUse.{linked_at}
-use Rattle.splice_laws.proofs.ConstantSteps.MarksFound.{member_of_mark, named_member, marked_so, StandsThere, stands_there, DeclaredThere, declared_there, nth_mapped}
-use Rattle.splice_laws.proofs.ConstantSteps.NamesOutside.{MemberThere, member_there, not_local}
+use Rattle.constant_steps.specs.Alone.{block_from, PackageAt}
+use Rattle.constant_steps.specs.PlainUse.{linked_at}
+use Rattle.constant_steps.proofs.MarksFound.{member_of_mark, named_member, marked_so, StandsThere, stands_there, DeclaredThere, declared_there, nth_mapped}
+use Rattle.constant_steps.proofs.NamesOutside.{MemberThere, member_there, not_local}
 use Rattle.alias_runs.specs.AliasSteps.AliasUses.{NamesAlias}
 use Rattle.alias_runs.specs.AliasSteps.PlainAlias.{PlainAliasUse}
 use Rattle.alias_runs.proofs.AliasSteps.PlainAliasForms.{alias-means-there}

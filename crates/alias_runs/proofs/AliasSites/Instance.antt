@@ -17,8 +17,8 @@ use Rattle.run_rules.specs.Reduced.{kept, reduced}
 use Rattle.run_rules.specs.Obstacles.{Shadowed}
 use Rattle.run_rules.specs.Sites.{MarkRef, Where, Site, a_type_part}
 use Rattle.run_rules.specs.Surroundings.{other}
-use Rattle.splice_laws.specs.ConstantSteps.Alone.{this_package}
-use Rattle.splice_laws.specs.ConstantSteps.PlainUse.{linked_at}
+use Rattle.constant_steps.specs.Alone.{this_package}
+use Rattle.constant_steps.specs.PlainUse.{linked_at}
 use Rattle.alias_runs.specs.AliasSteps.PlainAlias.{PlainAliasUse}
 use Rattle.alias_runs.specs.AliasSites.NamedUse.{NamedUse}
 use Rattle.alias_runs.specs.AliasSites.TypeUse.{TypeUseStands}

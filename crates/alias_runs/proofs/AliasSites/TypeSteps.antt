@@ -24,13 +24,13 @@ use Rattle.run_rules.specs.Programs.{linked_file, linked_imports, top_place, typ
 use Rattle.run_rules.specs.Rewriting.{Changes}
 use Rattle.run_rules.specs.Sites.{MarkRef, Site, part_span}
 use Rattle.run_rules.specs.Steps.{change_nth, changes_for, new_constants, new_variables, new_receiver_option, new_type_spec, new_decl}
-use Rattle.splice_laws.specs.ConstantSteps.StepLaws.DeclStands.{AtNth, decl_changed, file_changed}
-use Rattle.splice_laws.specs.ConstantSteps.StepLaws.Answered.{RepeatsStay, StmtKnown}
-use Rattle.splice_laws.specs.ConstantSteps.Alone.{block_from, PackageAt}
-use Rattle.splice_laws.specs.ConstantSteps.PlainUse.{linked_at, NoneRepeats, IsSimple, AllSimple}
-use Rattle.splice_laws.proofs.ConstantSteps.AfterStep.{nth_changed, nth_stays, package_after, package_beside, at_package, at_nth}
-use Rattle.splice_laws.proofs.ConstantSteps.MarksFound.{nth_mapped}
-use Rattle.splice_laws.proofs.ConstantSteps.SimpleUses.{simple_known}
+use Rattle.constant_steps.specs.StepLaws.DeclStands.{AtNth, decl_changed, file_changed}
+use Rattle.constant_steps.specs.StepLaws.Answered.{RepeatsStay, StmtKnown}
+use Rattle.constant_steps.specs.Alone.{block_from, PackageAt}
+use Rattle.constant_steps.specs.PlainUse.{linked_at, NoneRepeats, IsSimple, AllSimple}
+use Rattle.constant_steps.proofs.AfterStep.{nth_changed, nth_stays, package_after, package_beside, at_package, at_nth}
+use Rattle.constant_steps.proofs.MarksFound.{nth_mapped}
+use Rattle.constant_steps.proofs.SimpleUses.{simple_known}
 use Rattle.alias_runs.specs.AliasSteps.Retypable.{LiteralKnown}
 use Rattle.alias_runs.specs.AliasSteps.AliasUses.{AtTop, NoneLocal, TypeUseThere, NamedUses, FieldUses, AllAliasUses, NamesAlias}
 use Rattle.alias_runs.specs.AliasSteps.AliasSteps.{members_with_form, DeclOfFiles, DeclOfPackage, form_put, SpecUses, DeclaredUses, ResolvedUses, DeclaredTypeUses, WholeUses, AliasSwaps}

@@ -23,16 +23,16 @@ use Rattle.run_rules.specs.Programs.{world, headed_func, top_place, body_place, 
 use Rattle.run_rules.specs.Rewriting.{Changes, new_all, new_written, new_sig, new_stmts}
 use Rattle.run_rules.specs.Steps.{changes_for, new_receiver_option, new_type_spec}
 use Rattle.run_rules.specs.Steps as steps
-use Rattle.splice_laws.specs.ConstantSteps.StepLaws.Stands.{WrittenStands, ExprsStands}
-use Rattle.splice_laws.specs.ConstantSteps.StepLaws.Answered.{HoldsWithin}
-use Rattle.splice_laws.specs.ConstantSteps.StepLaws.DeclStands.{Written, nothing_written, own_or_before, body_there, DeclTypesStand, DeclaredTypesStand, GroupStands, VariableGroupStands, TypeSpecsStand, FuncStands, DeclStands, ResolvedAlike, TypesAlike}
-use Rattle.splice_laws.proofs.ConstantSteps.StepLaws.BodilessStands.{all-bodiless}
-use Rattle.splice_laws.proofs.ConstantSteps.StepLaws.DeclUses.{body-begins}
-use Rattle.splice_laws.proofs.ConstantSteps.StepLaws.DeclarationsStand.{decl-types-stand}
-use Rattle.splice_laws.proofs.ConstantSteps.StepLaws.DeclChanged.{receiver_itself, resolved_itself, types_itself, DeclBy}
-use Rattle.splice_laws.proofs.ConstantSteps.StepLaws.OutsideHolds.{no_name}
-use Rattle.splice_laws.proofs.ConstantSteps.StepLaws.Standing.{written-stands, sig-stands, all-stands}
-use Rattle.splice_laws.proofs.ConstantSteps.StepLaws.Walking.{written-walks, sig-walks, all-walk, stmts-walk}
+use Rattle.constant_steps.specs.StepLaws.Stands.{WrittenStands, ExprsStands}
+use Rattle.constant_steps.specs.StepLaws.Answered.{HoldsWithin}
+use Rattle.constant_steps.specs.StepLaws.DeclStands.{Written, nothing_written, own_or_before, body_there, DeclTypesStand, DeclaredTypesStand, GroupStands, VariableGroupStands, TypeSpecsStand, FuncStands, DeclStands, ResolvedAlike, TypesAlike}
+use Rattle.constant_steps.proofs.StepLaws.BodilessStands.{all-bodiless}
+use Rattle.constant_steps.proofs.StepLaws.DeclUses.{body-begins}
+use Rattle.constant_steps.proofs.StepLaws.DeclarationsStand.{decl-types-stand}
+use Rattle.constant_steps.proofs.StepLaws.DeclChanged.{receiver_itself, resolved_itself, types_itself, DeclBy}
+use Rattle.constant_steps.proofs.StepLaws.OutsideHolds.{no_name}
+use Rattle.constant_steps.proofs.StepLaws.Standing.{written-stands, sig-stands, all-stands}
+use Rattle.constant_steps.proofs.StepLaws.Walking.{written-walks, sig-walks, all-walk, stmts-walk}
 use Rattle.alias_runs.specs.AliasTexts.Retyped.{HeaderRetyped, of_constants, of_variables, of_type_spec, of_function}
 use Rattle.alias_runs.specs.AliasSteps.Retypable.{AllRetypable}
 use Rattle.alias_runs.specs.AliasSteps.AliasUses.{AtTop, TypeUseThere, TypeUses}

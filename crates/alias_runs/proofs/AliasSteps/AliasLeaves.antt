@@ -21,10 +21,10 @@ use Rattle.typed_in_place.proofs.TypeLeaves.{none_around_alike}
 use Rattle.run_rules.specs.FormTrees.{Form, as_expr, as_dropped, as_block, as_type}
 use Rattle.run_rules.specs.Steps.{changes_for, type_replaced, fields_replaced}
 use Rattle.run_rules.specs.Surroundings.{Place, Seen, seen, seen_type, seen_stmt}
-use Rattle.splice_laws.specs.ConstantSteps.StepLaws.Answered.{HoldsWithin}
-use Rattle.splice_laws.specs.ConstantSteps.StepLaws.NamesOutside.{NamesOutside}
-use Rattle.splice_laws.proofs.ConstantSteps.StepLaws.OutsideHolds.{among_right, outside_holds}
-use Rattle.splice_laws.proofs.ConstantSteps.StepLaws.UsesAnswered.{NamedThere, named-there, not-around}
+use Rattle.constant_steps.specs.StepLaws.Answered.{HoldsWithin}
+use Rattle.constant_steps.specs.StepLaws.NamesOutside.{NamesOutside}
+use Rattle.constant_steps.proofs.StepLaws.OutsideHolds.{among_right, outside_holds}
+use Rattle.constant_steps.proofs.StepLaws.UsesAnswered.{NamedThere, named-there, not-around}
 use Rattle.alias_runs.proofs.AliasTexts.RetypedTyping.{plain-type}
 use Rattle.alias_runs.specs.AliasTexts.Retyped.{PlainType, by_name, by_text}
 use Rattle.alias_runs.specs.AliasSteps.Retypable.{OneTypePut, as_part, as_callee, AllRetypable}

@@ -14,9 +14,9 @@ use Rattle.typed_in_place.proofs.ProgramsReplaced.{each_one}
 use Rattle.go_translation.specs.Packages.{Package, sources}
 use Rattle.go_translation.specs.SameMeaning.{Packages, WellTyped, with_further, SameMeaning}
 use Rattle.run_rules.specs.FormTrees.{Form}
-use Rattle.splice_laws.specs.ConstantSteps.StepLaws.DeclStands.{ProgramBy, ResolvedAlike, TypesAlike, AtNth}
-use Rattle.splice_laws.proofs.ConstantSteps.StepLaws.ConstantStepLaw.{then-nth}
-use Rattle.splice_laws.proofs.ConstantSteps.StepLaws.DeclChanged.{resolved_itself, types_itself, DeclBy, DeclOfFilesBy, DeclOfPackageBy, changed_by}
+use Rattle.constant_steps.specs.StepLaws.DeclStands.{ProgramBy, ResolvedAlike, TypesAlike, AtNth}
+use Rattle.constant_steps.proofs.StepLaws.ConstantStepLaw.{then-nth}
+use Rattle.constant_steps.proofs.StepLaws.DeclChanged.{resolved_itself, types_itself, DeclBy, DeclOfFilesBy, DeclOfPackageBy, changed_by}
 use Rattle.alias_runs.specs.AliasSteps.AliasSteps.{DeclOfFiles, DeclOfPackage, alias_put, form_put, members_with_form, ResolvedUses, DeclaredTypeUses, WholeUses, AliasSwaps}
 use Rattle.alias_runs.specs.AliasSteps.RetypedPrograms.{RetypedThere, RetypedProgram, RetypedPackages}
 use Rattle.alias_runs.proofs.AliasSteps.RetypedInPlace.{retyped_itself}

@@ -24,7 +24,7 @@ use Rattle.typed_in_place.specs.ProgramsAlike.{no_more, and_more}
 use Rattle.run_rules.specs.FormTrees.{Form, as_expr, as_type}
 use Rattle.run_rules.specs.Programs.{top_place}
 use Rattle.run_rules.specs.Surroundings.{Place, is_local}
-use Rattle.splice_laws.specs.ConstantSteps.StepLaws.DeclStands.{AtNth}
+use Rattle.constant_steps.specs.StepLaws.DeclStands.{AtNth}
 use Rattle.alias_runs.specs.AliasSteps.AliasUses.{NoneLocal, TypeUseThere, name_there, bare_there, ExprUseThere}
 use Rattle.alias_runs.specs.AliasSteps.AliasSteps.{DeclOfPackage, WholeUses, AliasSwaps, form_put}
 use Rattle.alias_runs.proofs.AliasSteps.AliasStepLaw.{alias-program}

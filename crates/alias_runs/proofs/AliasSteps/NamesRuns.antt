@@ -5,14 +5,14 @@ use mathlib.Core.Path.{ap, ◌∙◌}
 use Rattle.go_translation.specs.Packages.{Package, sources, freely_shown_by_code}
 use Rattle.go_translation.specs.SameMeaning.{Packages, WellTyped, with_further, SameMeaning}
 use Rattle.go_translation.proofs.PackageBudgets.{freely_alike}
-use Rattle.splice_laws.specs.ConstantSteps.StepLaws.ConstantRuns.{StepOverConstant, after_step}
-use Rattle.splice_laws.specs.ConstantSteps.StepLaws.ConstantSteps.{ConstantStep}
-use Rattle.splice_laws.proofs.ConstantSteps.StepLaws.ConstantRuns.{KeepsCode}
-use Rattle.splice_laws.proofs.ConstantSteps.StepLaws.StepMeaning.{distinct-before}
-use Rattle.splice_laws.proofs.ConstantSteps.StepLaws.StepMeaning as constants
-use Rattle.splice_laws.proofs.ConstantSteps.StepLaws.StepSwaps.{swaps-when-typed}
-use Rattle.splice_laws.proofs.ConstantSteps.StepLaws.StepUses.{step-with-uses}
-use Rattle.splice_laws.proofs.ConstantSteps.StepLaws.SwapProgram.{constant-codes}
+use Rattle.constant_steps.specs.StepLaws.ConstantRuns.{StepOverConstant, after_step}
+use Rattle.constant_steps.specs.StepLaws.ConstantSteps.{ConstantStep}
+use Rattle.constant_steps.proofs.StepLaws.ConstantRuns.{KeepsCode}
+use Rattle.constant_steps.proofs.StepLaws.StepMeaning.{distinct-before}
+use Rattle.constant_steps.proofs.StepLaws.StepMeaning as constants
+use Rattle.constant_steps.proofs.StepLaws.StepSwaps.{swaps-when-typed}
+use Rattle.constant_steps.proofs.StepLaws.StepUses.{step-with-uses}
+use Rattle.constant_steps.proofs.StepLaws.SwapProgram.{constant-codes}
 use Rattle.alias_runs.specs.AliasSteps.RetypedPrograms.{RetypedPackages}
 use Rattle.alias_runs.specs.AliasSteps.Runs.{NamesRun, no_step, over_constant, over_alias}
 use Rattle.alias_runs.proofs.AliasSteps.RetypedMeaning.{none_free, codes-same, typed-after}

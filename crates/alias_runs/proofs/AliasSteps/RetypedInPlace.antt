@@ -10,8 +10,8 @@ use Rattle.typed_in_place.specs.Replaced.{TypeOptionReplaced, no_type, some_type
 use Rattle.typed_in_place.proofs.Leaves.{type_itself, exprs_themselves}
 use Rattle.typed_in_place.specs.ProgramReplaced.{at_last, InPlaceBeside, All, Apart}
 use Rattle.typed_in_place.proofs.ProgramsReplaced.{one_by_one}
-use Rattle.splice_laws.specs.ConstantSteps.StepLaws.DeclStands.{BodyStands, of_function, of_constants, of_variables, of_type, HeaderStands, FilesBy, no_files, and_file, ProgramBy, ValuesAlike, WholeAlike, body_there}
-use Rattle.splice_laws.proofs.ConstantSteps.StepLaws.StepInPlace.{step-in-place}
+use Rattle.constant_steps.specs.StepLaws.DeclStands.{BodyStands, of_function, of_constants, of_variables, of_type, HeaderStands, FilesBy, no_files, and_file, ProgramBy, ValuesAlike, WholeAlike, body_there}
+use Rattle.constant_steps.proofs.StepLaws.StepInPlace.{step-in-place}
 use Rattle.alias_runs.specs.AliasTexts.Retyped as retyped
 use Rattle.alias_runs.specs.AliasTexts.Retyped.{HeaderRetyped}
 use Rattle.alias_runs.proofs.AliasTexts.RetypedTyping.{stmts-replaced, header-replaced}

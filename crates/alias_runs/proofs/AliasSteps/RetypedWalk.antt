@@ -19,15 +19,15 @@ use Rattle.go_tree.specs.GoTypes.Typing.{parts, all_parts, places, declares, dec
 use Rattle.run_rules.specs.Surroundings.{Slot, Use, whole, stored, updated, called, deferred_call, alone, other, a_slot, Place, Seen, seen, seen_stmt, alike, into_type, head_use, later_uses, arg_uses, unary_use, operand_use, first_operand_use, right_uses, every_use, value_use, return_uses, elem_use, key_use, inner_slot, last_slot, in_slot, callee_place, comma_slot, elem_closed, after_stmt, after_first, block, looping, switching, in_heading, at_stmt, plain_slot, ranged, in_literal, after_variables, seen_type}
 use Rattle.run_rules.specs.Places.{type_seen, written_seen, sig_seen, old_seen, after_arms, expr_seen, all_seen, option_seen, elems_seen, key_seen, value_seen, stmt_seen, stmts_seen, first_seen, block_seen, left_seen, arms_seen, cases_seen, constants_seen, variables_seen}
 use Rattle.run_rules.specs.Rewriting.{Changes, new_all, new_written, new_names, new_label, new_expr, new_option, new_elems, new_key, new_value, new_stmt, new_stmts, new_first, new_block, new_left, new_arms, new_cases, new_variables}
-use Rattle.splice_laws.specs.ConstantSteps.StepLaws.Stands.{SameExpr}
-use Rattle.splice_laws.specs.ConstantSteps.StepLaws.Answered.{HoldsWithin, KeysAlike, KeyAlike, InnerAlike, AllAnswered}
-use Rattle.splice_laws.proofs.ConstantSteps.StepLaws.Standing.{written-stands, sig-stands, constants-stand}
+use Rattle.constant_steps.specs.StepLaws.Stands.{SameExpr}
+use Rattle.constant_steps.specs.StepLaws.Answered.{HoldsWithin, KeysAlike, KeyAlike, InnerAlike, AllAnswered}
+use Rattle.constant_steps.proofs.StepLaws.Standing.{written-stands, sig-stands, constants-stand}
 use Rattle.run_rules.specs.Respanned.{value_with}
 use Rattle.run_rules.specs.FormTrees.{Form, keep_span}
 use Rattle.run_rules.specs.Steps.{changes_for}
-use Rattle.splice_laws.proofs.ConstantSteps.StepLaws.SpansKept.{value-kept}
-use Rattle.splice_laws.proofs.ConstantSteps.StepLaws.Walking.{at-callee, sig-walks, written-walks, constants-walk}
-use Rattle.splice_laws.specs.ConstantSteps.StepLaws.SwapUses.{BracesKnown, KeyKnown, ValueKnown}
+use Rattle.constant_steps.proofs.StepLaws.SpansKept.{value-kept}
+use Rattle.constant_steps.proofs.StepLaws.Walking.{at-callee, sig-walks, written-walks, constants-walk}
+use Rattle.constant_steps.specs.StepLaws.SwapUses.{BracesKnown, KeyKnown, ValueKnown}
 use Rattle.go_tree.specs.GoTypes.Bodiless.{bodiless}
 use Rattle.typed_in_place.specs.Leaves.{Names, plain_name, qualified_name, NamesType, type_by_name, type_by_text, type_by_star}
 use Rattle.typed_in_place.proofs.TypeLeaves.{same_type_operand}

@@ -31,15 +31,15 @@ use Rattle.run_rules.specs.Sites.{MarkRef, Where, Site, part_span}
 use Rattle.run_rules.specs.Steps.{changes_for}
 use Rattle.run_rules.specs.Forms.{is_at}
 use Rattle.run_rules.specs.Reduced.{home_place}
-use Rattle.splice_laws.specs.ConstantSteps.StepLaws.Answered.{RepeatsStay, StmtKnown}
-use Rattle.splice_laws.specs.ConstantSteps.StepLaws.DeclStands.{AtNth}
-use Rattle.splice_laws.specs.ConstantSteps.StepLaws.PartsTyped.{HeaderTyped}
-use Rattle.splice_laws.specs.ConstantSteps.PlainUse.{linked_at, NoneRepeats, IsSimple, AllSimple, AllTheUse}
-use Rattle.splice_laws.proofs.ConstantSteps.AfterStep.{at_package}
-use Rattle.splice_laws.proofs.ConstantSteps.MarksFound.{nth_mapped}
-use Rattle.splice_laws.proofs.ConstantSteps.PlainImports.{Distinct}
-use Rattle.splice_laws.proofs.ConstantSteps.SimpleUses.{simple_known}
-use Rattle.splice_laws.specs.ConstantSteps.QualifiedSteps.MemberNames.{member_name}
+use Rattle.constant_steps.specs.StepLaws.Answered.{RepeatsStay, StmtKnown}
+use Rattle.constant_steps.specs.StepLaws.DeclStands.{AtNth}
+use Rattle.constant_steps.specs.StepLaws.PartsTyped.{HeaderTyped}
+use Rattle.constant_steps.specs.PlainUse.{linked_at, NoneRepeats, IsSimple, AllSimple, AllTheUse}
+use Rattle.constant_steps.proofs.AfterStep.{at_package}
+use Rattle.constant_steps.proofs.MarksFound.{nth_mapped}
+use Rattle.constant_steps.proofs.PlainImports.{Distinct}
+use Rattle.constant_steps.proofs.SimpleUses.{simple_known}
+use Rattle.constant_steps.specs.QualifiedSteps.MemberNames.{member_name}
 use Rattle.alias_runs.specs.AliasSteps.Retypable.{IsCalleePlace, LiteralKnown}
 use Rattle.alias_runs.specs.AliasSteps.AliasUses.{AtTop, NoneLocal, TypeUseThere, name_there, text_there, PutThere, bare_there, star_there, ExprUseThere, AllAliasUses}
 use Rattle.alias_runs.specs.AliasSteps.AliasSteps.{DeclOfPackage, form_put, WholeUses, AliasSwaps}

@@ -14,8 +14,8 @@ use Rattle.typed_in_place.specs.Aliases.{DeclaresAlias}
 use Rattle.typed_in_place.specs.ProgramReplaced.{All}
 use Rattle.typed_in_place.proofs.Headers.{good_in, declared_in}
 use Rattle.typed_in_place.proofs.HeadersReplaced.{good_by_meant}
-use Rattle.splice_laws.specs.ConstantSteps.StepLaws.PartsTyped.{HeaderTyped}
-use Rattle.splice_laws.proofs.ConstantSteps.StepLaws.KnownConstants.{of-first, declares-it}
+use Rattle.constant_steps.specs.StepLaws.PartsTyped.{HeaderTyped}
+use Rattle.constant_steps.proofs.StepLaws.KnownConstants.{of-first, declares-it}
 
 known-if : (n : List ℕ) (r : Option GoType) → is_some (given (type_entity r) (λ e. Some (binding n e))) ≡ true → (v : GoType) × (r ≡ Some v)
 known-if n None e = absurd (grind (arith, e))

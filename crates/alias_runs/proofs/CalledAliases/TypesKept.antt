@@ -16,10 +16,10 @@ use Rattle.run_rules.specs.FormTrees.{Form, as_expr}
 use Rattle.run_rules.specs.Programs.{top_place}
 use Rattle.run_rules.specs.Surroundings.{Place}
 use Rattle.run_rules.specs.Steps.{changes_for, new_receiver_option}
-use Rattle.splice_laws.specs.ConstantSteps.StepLaws.DeclStands.{ProgramBy, ResolvedAlike, TypesAlike, AtNth, changed}
-use Rattle.splice_laws.proofs.ConstantSteps.StepLaws.DeclChanged.{resolved_itself, types_itself}
-use Rattle.splice_laws.proofs.ConstantSteps.StepLaws.StepInPlace.{names-declared, program-by}
-use Rattle.splice_laws.specs.ConstantSteps.Alone.{PackageAt, this_package, a_later_package}
+use Rattle.constant_steps.specs.StepLaws.DeclStands.{ProgramBy, ResolvedAlike, TypesAlike, AtNth, changed}
+use Rattle.constant_steps.proofs.StepLaws.DeclChanged.{resolved_itself, types_itself}
+use Rattle.constant_steps.proofs.StepLaws.StepInPlace.{names-declared, program-by}
+use Rattle.constant_steps.specs.Alone.{PackageAt, this_package, a_later_package}
 use Rattle.alias_runs.specs.AliasSteps.AliasUses.{TypeUseThere}
 use Rattle.alias_runs.specs.AliasSteps.AliasSteps.{DeclOfFiles, DeclOfPackage, alias_put, form_put, SpecUses, DeclaredUses, ResolvedUses, DeclaredTypeUses}
 use Rattle.alias_runs.proofs.AliasSteps.AliasStepLaw.{program-put}

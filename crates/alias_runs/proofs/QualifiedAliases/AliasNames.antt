@@ -15,10 +15,10 @@ use Rattle.typed_in_place.specs.Leaves.{Names, plain_name, qualified_name}
 use Rattle.run_rules.specs.Programs.{linked_file, linked_imports}
 use Rattle.run_rules.specs.Sites.{MarkRef, Site, part_span, qualifier, member_of}
 use Rattle.run_rules.specs.Naming.{names_by}
-use Rattle.splice_laws.proofs.ConstantSteps.MarksFound.{StandsThere}
-use Rattle.splice_laws.specs.ConstantSteps.QualifiedSteps.MemberNames.{member_name, NamesMember, own_member, imported_member}
-use Rattle.splice_laws.specs.ConstantSteps.QualifiedSteps.NamedUse.{looked_up}
-use Rattle.splice_laws.proofs.ConstantSteps.QualifiedSteps.MembersNamed.{OwnName, own_name, OfPackage, of_package}
+use Rattle.constant_steps.proofs.MarksFound.{StandsThere}
+use Rattle.constant_steps.specs.QualifiedSteps.MemberNames.{member_name, NamesMember, own_member, imported_member}
+use Rattle.constant_steps.specs.QualifiedSteps.NamedUse.{looked_up}
+use Rattle.constant_steps.proofs.QualifiedSteps.MembersNamed.{OwnName, own_name, OfPackage, of_package}
 use Rattle.alias_runs.specs.AliasSteps.AliasUses.{NoneLocal}
 use Rattle.alias_runs.specs.AliasSites.FirstAlias.{FirstAlias, AliasEnd}
 use Rattle.alias_runs.proofs.AliasSites.AliasMeant.{behind-imports, in-block}

@@ -24,11 +24,11 @@ use Rattle.go_translation.specs.SameMeaning.{Packages, WellTyped, with_further, 
 use Rattle.run_rules.specs.Programs.{linked_file, linked_imports}
 use Rattle.run_rules.specs.Sites.{MarkRef, Site, part_span, a_type_part}
 use Rattle.run_rules.specs.FormTrees.{as_type}
-use Rattle.splice_laws.specs.ConstantSteps.PlainUse.{linked_at}
-use Rattle.splice_laws.proofs.ConstantSteps.AfterStep.{package_beside}
-use Rattle.splice_laws.proofs.ConstantSteps.MarksFound.{StandsThere, nth_mapped}
-use Rattle.splice_laws.proofs.ConstantSteps.PlainImports.{Distinct, distinct_sources}
-use Rattle.splice_laws.proofs.ConstantSteps.QualifiedSteps.Declared.{sound_there}
+use Rattle.constant_steps.specs.PlainUse.{linked_at}
+use Rattle.constant_steps.proofs.AfterStep.{package_beside}
+use Rattle.constant_steps.proofs.MarksFound.{StandsThere, nth_mapped}
+use Rattle.constant_steps.proofs.PlainImports.{Distinct, distinct_sources}
+use Rattle.constant_steps.proofs.QualifiedSteps.Declared.{sound_there}
 use Rattle.alias_runs.specs.AliasSteps.AliasUses.{TypeUseThere, NamesAlias}
 use Rattle.alias_runs.specs.AliasSteps.AliasSteps.{form_put, members_with_form, AliasSwaps}
 use Rattle.alias_runs.proofs.AliasSteps.AliasNamed.{alias-resolved, alias-use}

@@ -14,20 +14,20 @@ use Rattle.run_rules.specs.Programs.{linked_file, linked_imports}
 use Rattle.run_rules.specs.Sites.{MarkRef, Where, Site, an_alias, part_span}
 use Rattle.run_rules.specs.FormTrees.{Form}
 use Rattle.run_rules.specs.Steps.{change_nth, changes_for, new_decl}
-use Rattle.splice_laws.specs.ConstantSteps.StepLaws.DeclStands.{decl_changed, file_changed, changed}
-use Rattle.splice_laws.specs.WrittenLiteral.LinkedNames.{NoneNumbered}
-use Rattle.splice_laws.specs.ConstantSteps.Alone.{block_from, PackageAt}
-use Rattle.splice_laws.specs.ConstantSteps.PlainUse.{linked_at}
-use Rattle.splice_laws.proofs.ConstantSteps.AfterStep.{same_number, nth_changed, nth_stays, package_beside}
-use Rattle.splice_laws.proofs.ConstantSteps.MarksFound.{StandsThere, DeclaredThere, declared_there, nth_mapped}
-use Rattle.splice_laws.proofs.ConstantSteps.NamesOutside.{equal_numbers}
-use Rattle.splice_laws.proofs.ConstantSteps.PlainImports.{Distinct}
+use Rattle.constant_steps.specs.StepLaws.DeclStands.{decl_changed, file_changed, changed}
+use Rattle.constant_steps.specs.WrittenLiteral.LinkedNames.{NoneNumbered}
+use Rattle.constant_steps.specs.Alone.{block_from, PackageAt}
+use Rattle.constant_steps.specs.PlainUse.{linked_at}
+use Rattle.constant_steps.proofs.AfterStep.{same_number, nth_changed, nth_stays, package_beside}
+use Rattle.constant_steps.proofs.MarksFound.{StandsThere, DeclaredThere, declared_there, nth_mapped}
+use Rattle.constant_steps.proofs.NamesOutside.{equal_numbers}
+use Rattle.constant_steps.proofs.PlainImports.{Distinct}
 use Rattle.go_tree.proofs.GoTypes.Agreeing.{some_same}
-use Rattle.splice_laws.specs.ConstantSteps.QualifiedSteps.MemberNames.{member_name}
-use Rattle.splice_laws.specs.ConstantSteps.QualifiedSteps.NamedUse.{PackageStands}
-use Rattle.splice_laws.proofs.ConstantSteps.QualifiedSteps.MembersNamed.{named_in_home}
-use Rattle.splice_laws.proofs.ConstantSteps.QualifiedSteps.PackagesAfter.{one_place, after, package_then}
-use Rattle.splice_laws.proofs.ConstantSteps.QualifiedSteps.UsesMeant.{has_number}
+use Rattle.constant_steps.specs.QualifiedSteps.MemberNames.{member_name}
+use Rattle.constant_steps.specs.QualifiedSteps.NamedUse.{PackageStands}
+use Rattle.constant_steps.proofs.QualifiedSteps.MembersNamed.{named_in_home}
+use Rattle.constant_steps.proofs.QualifiedSteps.PackagesAfter.{one_place, after, package_then}
+use Rattle.constant_steps.proofs.QualifiedSteps.UsesMeant.{has_number}
 use Rattle.alias_runs.specs.AliasSites.FirstAlias.{FirstAlias, AliasEnd}
 use Rattle.alias_runs.proofs.AliasSites.AliasFirst.{names_append, decl_names, first-alias}
 use Rattle.alias_runs.proofs.AliasSites.TypeSteps.{decl-named, files-named}

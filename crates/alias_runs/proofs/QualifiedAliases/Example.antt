@@ -13,9 +13,9 @@ use Rattle.run_rules.specs.FormTrees as forms
 use Rattle.run_rules.specs.Programs.{top_place}
 use Rattle.run_rules.specs.Sites.{MarkRef, Where, Site, a_type_part}
 use Rattle.run_rules.specs.Surroundings.{other}
-use Rattle.splice_laws.specs.ConstantSteps.Alone.{this_package, a_later_package}
-use Rattle.splice_laws.specs.ConstantSteps.PlainUse.{linked_at}
-use Rattle.splice_laws.specs.ConstantSteps.QualifiedSteps.MemberNames.{imported_member}
+use Rattle.constant_steps.specs.Alone.{this_package, a_later_package}
+use Rattle.constant_steps.specs.PlainUse.{linked_at}
+use Rattle.constant_steps.specs.QualifiedSteps.MemberNames.{imported_member}
 use Rattle.alias_runs.specs.QualifiedAliases.NamedTexts.{of_the_block}
 use Rattle.alias_runs.specs.QualifiedAliases.AliasUse.{AliasUse, AliasUseStands, IsTypeUse, PackagesHold}
 use Rattle.alias_runs.proofs.QualifiedAliases.AliasSwapped.{step-means-the-same}

@@ -16,15 +16,15 @@ use Rattle.run_rules.specs.Naming.{Named, Names, names_by, named_packages, impor
 use Rattle.run_rules.specs.FormTrees.{TypeForm, Form, as_expr, as_type, form_identifiers, type_expr}
 use Rattle.run_rules.specs.Obstacles.{Obstacle, NotAccessible, Shadowed, obstacle_if, not_accessible, internal_package, shadowed, hidden_in_type, shadowed_in_type, is_repeated, Recursive, CommentInside, Spread, Repeated}
 use Rattle.run_rules.specs.Reduced.{Reduced, becomes, kept, home_place, alias_type, alias_form, name_obstacle, named_form, reduced_in}
-use Rattle.splice_laws.specs.ConstantSteps.PlainUse.{linked_at}
-use Rattle.splice_laws.proofs.ConstantSteps.AfterStep.{same_number}
-use Rattle.splice_laws.proofs.ConstantSteps.MarksFound.{both_none, StandsThere, stands_there}
-use Rattle.splice_laws.proofs.ConstantSteps.QualifiedSteps.MembersNamed.{ByImport, by_import, OwnName, own_name, OfPackage, of_package}
-use Rattle.splice_laws.proofs.ConstantSteps.QualifiedSteps.Qualifiers.{OwnPath, qualifier_path}
-use Rattle.splice_laws.proofs.ConstantSteps.QualifiedSteps.Targets.{numbered_spelled}
+use Rattle.constant_steps.specs.PlainUse.{linked_at}
+use Rattle.constant_steps.proofs.AfterStep.{same_number}
+use Rattle.constant_steps.proofs.MarksFound.{both_none, StandsThere, stands_there}
+use Rattle.constant_steps.proofs.QualifiedSteps.MembersNamed.{ByImport, by_import, OwnName, own_name, OfPackage, of_package}
+use Rattle.constant_steps.proofs.QualifiedSteps.Qualifiers.{OwnPath, qualifier_path}
+use Rattle.constant_steps.proofs.QualifiedSteps.Targets.{numbered_spelled}
 use Rattle.alias_runs.proofs.AliasSites.AliasFirst.{spelled-here}
-use Rattle.splice_laws.specs.ConstantSteps.QualifiedSteps.MemberNames.{NamesMember, own_member, imported_member}
-use Rattle.splice_laws.specs.ConstantSteps.QualifiedSteps.NamedUse.{looked_up}
+use Rattle.constant_steps.specs.QualifiedSteps.MemberNames.{NamesMember, own_member, imported_member}
+use Rattle.constant_steps.specs.QualifiedSteps.NamedUse.{looked_up}
 use Rattle.alias_runs.specs.QualifiedAliases.NamedTexts.{part_name}
 use Rattle.alias_runs.specs.QualifiedAliases.AliasUse.{AliasUse, text_there}
 use Rattle.alias_runs.proofs.QualifiedAliases.Served.{InList, unnamed-there, all-served}

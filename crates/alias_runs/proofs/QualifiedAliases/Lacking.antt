@@ -21,11 +21,11 @@ use Rattle.typed_in_place.proofs.SameUses.{Within, each_within}
 use Rattle.typed_in_place.proofs.SettledNames.{block_of_package}
 use Rattle.form_meaning.proofs.FormInPlace.Uses.{among_append}
 use Rattle.pkg_graph.specs.Members.{decls_from}
-use Rattle.splice_laws.specs.WrittenLiteral.LinkedNames.{NoneNumbered}
-use Rattle.splice_laws.proofs.WrittenLiteral.NamesMeant.{means_join}
-use Rattle.splice_laws.specs.ConstantSteps.Alone.{block_from, PackageAt, this_package, a_later_package}
-use Rattle.splice_laws.proofs.ConstantSteps.FirstNames.{other_name, neither}
-use Rattle.splice_laws.proofs.ConstantSteps.PlainImports.{Distinct}
+use Rattle.constant_steps.specs.WrittenLiteral.LinkedNames.{NoneNumbered}
+use Rattle.constant_steps.proofs.WrittenLiteral.NamesMeant.{means_join}
+use Rattle.constant_steps.specs.Alone.{block_from, PackageAt, this_package, a_later_package}
+use Rattle.constant_steps.proofs.FirstNames.{other_name, neither}
+use Rattle.constant_steps.proofs.PlainImports.{Distinct}
 use Rattle.alias_runs.specs.AliasSites.FirstAlias.{AliasEnd, before_types, with_types}
 use Rattle.alias_runs.proofs.AliasSites.AliasFirst.{or_second, lacking, decls_unbound}
 

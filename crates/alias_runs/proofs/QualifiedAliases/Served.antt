@@ -7,9 +7,9 @@ use Rattle.import_rules.specs.Needs.{serving, avoided}
 use Rattle.run_rules.specs.Surroundings.{Place}
 use Rattle.run_rules.specs.Sites.{Where, qualifier}
 use Rattle.run_rules.specs.Naming.{Named, names_by, name_added, imports_added, fresh_name, package_path, own_name, names_here, environment_here, added_import, named_packages, unnamed, unnamed_package, unnamed_in, new_first}
-use Rattle.splice_laws.proofs.ConstantSteps.AfterStep.{same_number}
-use Rattle.splice_laws.proofs.ConstantSteps.NamesOutside.{equal_numbers}
-use Rattle.splice_laws.proofs.ConstantSteps.QualifiedSteps.Qualifiers.{OwnPath, serving_means}
+use Rattle.constant_steps.proofs.AfterStep.{same_number}
+use Rattle.constant_steps.proofs.NamesOutside.{equal_numbers}
+use Rattle.constant_steps.proofs.QualifiedSteps.Qualifiers.{OwnPath, serving_means}
 
 -- an item of a list
 pub data InList {A : Type 0} (x : A) : List A → Type 0 where

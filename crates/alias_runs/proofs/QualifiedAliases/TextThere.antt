@@ -24,14 +24,14 @@ use Rattle.run_rules.specs.Programs.{linked_file, linked_imports, top_place}
 use Rattle.run_rules.specs.Sites.{Where, mark_of, outer, outer_meaning, qualifier, member_of}
 use Rattle.run_rules.specs.Naming.{Names, qualified, qualified_or, type_there, fields_there, unnamed}
 use Rattle.run_rules.specs.Obstacles.{Shadowed, hidden_name, hidden_in_type, hidden_in_fields, shadowed_name, shadowed_in_type, shadowed_in_fields, unless_exported, means_this}
-use Rattle.splice_laws.proofs.WrittenLiteral.NamesMeant.{means_join, IsImport, Answered, matched_means, all_imports_match}
-use Rattle.splice_laws.proofs.WrittenLiteral.TypesWritten.{one_of_none, exported_unless}
-use Rattle.splice_laws.specs.ConstantSteps.Alone.{block_from}
-use Rattle.splice_laws.specs.ConstantSteps.PlainUse.{linked_at}
-use Rattle.splice_laws.proofs.ConstantSteps.NamesOutside.{MemberThere, member_there, not_local, linked_block, unshadowed, equal_numbers}
-use Rattle.splice_laws.proofs.ConstantSteps.QualifiedSteps.MembersNamed.{ByImport, by_import, OfPackage, of_package}
-use Rattle.splice_laws.proofs.ConstantSteps.QualifiedSteps.Qualifiers.{OwnPath, qualifier_path}
-use Rattle.splice_laws.proofs.ConstantSteps.QualifiedSteps.Targets.{OfKind, block_kind, number_in, by_number, numbered_by, numbered_spelled}
+use Rattle.constant_steps.proofs.WrittenLiteral.NamesMeant.{means_join, IsImport, Answered, matched_means, all_imports_match}
+use Rattle.constant_steps.proofs.WrittenLiteral.TypesWritten.{one_of_none, exported_unless}
+use Rattle.constant_steps.specs.Alone.{block_from}
+use Rattle.constant_steps.specs.PlainUse.{linked_at}
+use Rattle.constant_steps.proofs.NamesOutside.{MemberThere, member_there, not_local, linked_block, unshadowed, equal_numbers}
+use Rattle.constant_steps.proofs.QualifiedSteps.MembersNamed.{ByImport, by_import, OfPackage, of_package}
+use Rattle.constant_steps.proofs.QualifiedSteps.Qualifiers.{OwnPath, qualifier_path}
+use Rattle.constant_steps.proofs.QualifiedSteps.Targets.{OfKind, block_kind, number_in, by_number, numbered_by, numbered_spelled}
 use Rattle.alias_runs.specs.AliasSteps.AliasUses.{NoneLocal}
 use Rattle.alias_runs.proofs.AliasSites.AliasFirst.{spelled-here}
 use Rattle.alias_runs.proofs.AliasSites.AliasMeant.{behind-imports}

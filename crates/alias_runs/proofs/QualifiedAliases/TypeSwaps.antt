@@ -17,13 +17,13 @@ use Rattle.run_rules.specs.Surroundings.{Place, Use, Seen, seen, seen_type, seen
 use Rattle.run_rules.specs.Programs.{linked_file, linked_imports, top_place, types_at_top, decl_seen}
 use Rattle.run_rules.specs.Sites.{Site, part_span}
 use Rattle.run_rules.specs.Steps.{changes_for}
-use Rattle.splice_laws.specs.ConstantSteps.StepLaws.Answered.{RepeatsStay, StmtKnown}
-use Rattle.splice_laws.specs.ConstantSteps.StepLaws.DeclStands.{AtNth}
-use Rattle.splice_laws.specs.ConstantSteps.Alone.{PackageAt}
-use Rattle.splice_laws.specs.ConstantSteps.PlainUse.{linked_at, NoneRepeats, IsSimple, AllSimple}
-use Rattle.splice_laws.proofs.ConstantSteps.AfterStep.{at_package}
-use Rattle.splice_laws.proofs.ConstantSteps.MarksFound.{nth_mapped}
-use Rattle.splice_laws.proofs.ConstantSteps.SimpleUses.{simple_known}
+use Rattle.constant_steps.specs.StepLaws.Answered.{RepeatsStay, StmtKnown}
+use Rattle.constant_steps.specs.StepLaws.DeclStands.{AtNth}
+use Rattle.constant_steps.specs.Alone.{PackageAt}
+use Rattle.constant_steps.specs.PlainUse.{linked_at, NoneRepeats, IsSimple, AllSimple}
+use Rattle.constant_steps.proofs.AfterStep.{at_package}
+use Rattle.constant_steps.proofs.MarksFound.{nth_mapped}
+use Rattle.constant_steps.proofs.SimpleUses.{simple_known}
 use Rattle.alias_runs.specs.AliasSteps.Retypable.{LiteralKnown}
 use Rattle.alias_runs.specs.AliasSteps.AliasUses.{AtTop, TypeUseThere, AllAliasUses}
 use Rattle.alias_runs.specs.AliasSteps.AliasSteps.{DeclOfPackage, form_put, SpecUses, DeclaredUses, ResolvedUses, DeclaredTypeUses, WholeUses, AliasSwaps}

@@ -10,8 +10,8 @@ use Rattle.go_tree.specs.GoTypes.Programs.{SourceFile, SourcePackage, Program, h
 use Rattle.run_rules.specs.Sites.{MarkRef, Site, part_span, an_alias, inlinable_in}
 use Rattle.pkg_graph.specs.Package.{Package}
 use Rattle.run_rules.specs.Programs.{linked_imports}
-use Rattle.splice_laws.specs.ConstantSteps.Alone.{block_from, PackageAt}
-use Rattle.splice_laws.specs.ConstantSteps.PlainUse.{linked_at}
+use Rattle.constant_steps.specs.Alone.{block_from, PackageAt}
+use Rattle.constant_steps.specs.PlainUse.{linked_at}
 use Rattle.alias_runs.specs.AliasSteps.PlainAlias.{PlainAliasUse}
 use Rattle.alias_runs.specs.AliasSites.NamedUse.{NamedUse}
 use Rattle.go_tree.specs.GoTypes.Entities.{Entity, World}

@@ -10,7 +10,7 @@ use Rattle.run_rules.specs.Surroundings.{Seen, seen, seen_type, seen_stmt}
 use Rattle.run_rules.specs.Programs.{top_place, decl_seen}
 use Rattle.run_rules.specs.Sites.{MarkRef, Site, a_type_part, part_span}
 use Rattle.run_rules.specs.Steps.{changes_for, new_receiver_option}
-use Rattle.splice_laws.specs.ConstantSteps.PlainUse.{AllSimple}
+use Rattle.constant_steps.specs.PlainUse.{AllSimple}
 use Rattle.alias_runs.specs.AliasSteps.AliasUses.{NamedUses}
 use Rattle.alias_runs.specs.AliasSites.NamedUse.{NamedUse}
 

@@ -14,7 +14,7 @@ use Rattle.go_translation.specs.Packages.{Package}
 use Rattle.run_rules.specs.Programs.{top_place, decl_seen}
 use Rattle.run_rules.specs.FormTrees.{Form}
 use Rattle.run_rules.specs.Steps.{changes_for, new_decl, new_receiver_option, change_nth}
-use Rattle.splice_laws.specs.ConstantSteps.StepLaws.DeclStands.{AtNth, changed, file_changed}
+use Rattle.constant_steps.specs.StepLaws.DeclStands.{AtNth, changed, file_changed}
 use Rattle.alias_runs.specs.AliasSteps.AliasUses.{TypeUseThere, TypeUses, AllAliasUses}
 
 -- of the declaration with these numbers of its file and in its file, in a package with this number and a file with

@@ -18,8 +18,8 @@ use Rattle.typed_in_place.specs.Leaves.{Names}
 use Rattle.run_rules.specs.FormTrees.{Form, as_expr, as_dropped, as_block, as_type}
 use Rattle.run_rules.specs.Steps.{changes_for}
 use Rattle.run_rules.specs.Surroundings.{Place, Seen, seen, seen_type, seen_stmt, is_local}
-use Rattle.splice_laws.specs.ConstantSteps.StepLaws.Answered.{ExprKnown, StmtKnown}
-use Rattle.splice_laws.specs.ConstantSteps.StepLaws.NamesOutside.{NamesOutside}
+use Rattle.constant_steps.specs.StepLaws.Answered.{ExprKnown, StmtKnown}
+use Rattle.constant_steps.specs.StepLaws.NamesOutside.{NamesOutside}
 use Rattle.alias_runs.specs.AliasSteps.Retypable.{IsCalleePlace, LiteralKnown}
 
 -- names outside a declaration mean at this place what they mean at the top of the file, in the same package

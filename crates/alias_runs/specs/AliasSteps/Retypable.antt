@@ -9,9 +9,9 @@ use Rattle.go_tree.specs.GoTypes.Entities.{Env, defined_in}
 use Rattle.go_tree.specs.GoTypes.TypeNames.{type_meant}
 use Rattle.run_rules.specs.Surroundings.{Place, Seen, seen, seen_type, seen_stmt}
 use Rattle.run_rules.specs.Rewriting.{Changes}
-use Rattle.splice_laws.specs.ConstantSteps.StepLaws.Answered.{ExprKnown, StmtKnown}
-use Rattle.splice_laws.specs.ConstantSteps.StepLaws.Stands.{TypeStands}
-use Rattle.splice_laws.specs.ConstantSteps.StepLaws.SwapUses.{BracesKnown}
+use Rattle.constant_steps.specs.StepLaws.Answered.{ExprKnown, StmtKnown}
+use Rattle.constant_steps.specs.StepLaws.Stands.{TypeStands}
+use Rattle.constant_steps.specs.StepLaws.SwapUses.{BracesKnown}
 use Rattle.typed_in_place.specs.Leaves.{NamesType}
 use Rattle.alias_runs.specs.AliasTexts.Retyped.{PlainType, NoneUsed}
 

@@ -11,7 +11,7 @@ use Rattle.typed_in_place.specs.ProgramsAlike.{OneByOne}
 use Rattle.typed_in_place.specs.ProgramReplaced.{ValuesEnd}
 use Rattle.go_translation.specs.Packages.{Package, sources}
 use Rattle.go_translation.specs.SameMeaning.{Packages, WellTyped, with_further}
-use Rattle.splice_laws.specs.ConstantSteps.StepLaws.DeclStands.{body_there, ProgramBy, ResolvedAlike, TypesAlike}
+use Rattle.constant_steps.specs.StepLaws.DeclStands.{body_there, ProgramBy, ResolvedAlike, TypesAlike}
 use Rattle.alias_runs.specs.AliasTexts.Retyped.{HeaderRetyped}
 
 -- two headers with types written otherwise, in a package with this number, which has the name `main` or not, in a file

@@ -2,7 +2,7 @@
 -- specification, Constant declarations; Alias declarations; Program execution).
 use Rattle.std.specs.Prelude.{Bool}
 use Rattle.go_translation.specs.SameMeaning.{Packages}
-use Rattle.splice_laws.specs.ConstantSteps.StepLaws.ConstantRuns.{StepOverConstant, after_step}
+use Rattle.constant_steps.specs.StepLaws.ConstantRuns.{StepOverConstant, after_step}
 use Rattle.alias_runs.specs.AliasSteps.RetypedPrograms.{RetypedPackages}
 
 module _ {S : Type 0} (same : S → S → Bool) where

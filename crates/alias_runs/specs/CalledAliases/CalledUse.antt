@@ -5,7 +5,7 @@ use Rattle.go_tree.specs.Tree.{TypeExpr, pointer, Expr}
 use Rattle.pkg_graph.specs.Package.{Package}
 use Rattle.run_rules.specs.Programs.{decl_seen}
 use Rattle.run_rules.specs.Sites.{MarkRef, Site, an_expr}
-use Rattle.splice_laws.specs.ConstantSteps.PlainUse.{AllTheUse}
+use Rattle.constant_steps.specs.PlainUse.{AllTheUse}
 use Rattle.alias_runs.specs.AliasSteps.Retypable.{IsCalleePlace}
 use Rattle.alias_runs.specs.QualifiedAliases.AliasUse.{AliasUse, AliasUseStands, IsTypeUse}
 

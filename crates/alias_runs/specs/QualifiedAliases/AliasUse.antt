@@ -12,9 +12,9 @@ use Rattle.run_rules.specs.Sites.{MarkRef, Where, Site, an_alias, a_type_part, w
 use Rattle.run_rules.specs.Naming.{Named, names_by, imports_added}
 use Rattle.run_rules.specs.FormTrees.{FormKind, Form, as_type}
 use Rattle.run_rules.specs.Reduced.{becomes, home_place, reduced, alias_type}
-use Rattle.splice_laws.specs.ConstantSteps.PlainUse.{AllSimple}
-use Rattle.splice_laws.specs.ConstantSteps.QualifiedSteps.MemberNames.{member_name, NamesMember}
-use Rattle.splice_laws.specs.ConstantSteps.QualifiedSteps.NamedUse.{PackageStands}
+use Rattle.constant_steps.specs.PlainUse.{AllSimple}
+use Rattle.constant_steps.specs.QualifiedSteps.MemberNames.{member_name, NamesMember}
+use Rattle.constant_steps.specs.QualifiedSteps.NamedUse.{PackageStands}
 use Rattle.alias_runs.specs.AliasSites.TypeUse.{AllTheType, ReceiverStays}
 use Rattle.alias_runs.specs.QualifiedAliases.NamedTexts.{part_name, AllNamed}
 

@@ -5,7 +5,7 @@ use Rattle.run_rules.specs.Marks.{marks_of}
 use Rattle.run_rules.specs.Respanned.{packages_with}
 use Rattle.run_rules.specs.Run.{here_of}
 use Rattle.run_rules.specs.Texts.{FileText}
-use Rattle.splice_laws.specs.FormImports.OwnNames.{ReadPackagesAreNamed}
+use Rattle.constant_steps.specs.FormImports.OwnNames.{ReadPackagesAreNamed}
 use Rattle.typed_parts.specs.MarkedRuns.KeptMarks.Laws.{StepsKeepNamed}
 use Rattle.typed_parts.specs.MarkedRuns.NamedMarks.Laws.{ReadMarksAreNamed}
 use Rattle.typed_parts.specs.MarkedRuns.ReadyModules.Laws.{ReadModulesAreReady}

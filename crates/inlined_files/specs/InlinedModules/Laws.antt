@@ -15,7 +15,7 @@ use Rattle.run_rules.specs.Run.{Standing, Logged, Run, here_of, texts_size, the_
 use Rattle.run_rules.specs.Sites.{MarkRef}
 use Rattle.run_rules.specs.Texts.{FileText}
 use Rattle.splice_laws.specs.ImportSplices.AddedFile.{is_byte}
-use Rattle.splice_laws.specs.WrittenLiteral.UnspreadForms.UnspreadForms.{UnspreadPackages}
+use Rattle.constant_steps.specs.WrittenLiteral.UnspreadForms.UnspreadForms.{UnspreadPackages}
 use Rattle.order_runs.specs.RunSteps.RunPackages.{packages_of}
 use Rattle.typed_parts.specs.MarkedRuns.Marked.{AllOverNames}
 use Rattle.typed_parts.specs.MarkedRuns.NamedMarks.Named.{AllNamed}

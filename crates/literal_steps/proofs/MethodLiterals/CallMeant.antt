@@ -59,14 +59,14 @@ use Rattle.run_rules.specs.Calls.{start, receiver_for, is_several, is_spread}
 use Rattle.run_rules.specs.Naming.{Names}
 use Rattle.run_rules.specs.FormTrees.{Form, as_expr, as_dropped, as_block, as_type}
 use Rattle.run_rules.specs.Obstacles.{hidden_here, shadowed_here}
-use Rattle.splice_laws.specs.WrittenLiteral.Within.{Within}
-use Rattle.splice_laws.specs.WrittenLiteral.Listing.{Listing}
-use Rattle.splice_laws.specs.WrittenLiteral.KnownNames.{landing, KnownNames}
-use Rattle.splice_laws.proofs.WrittenLiteral.FilesMeant.{file_meant}
-use Rattle.splice_laws.proofs.WrittenLiteral.ListedHeads.{listing}
-use Rattle.splice_laws.proofs.WrittenLiteral.WithinLaws.{entered}
-use Rattle.splice_laws.specs.ConstantSteps.PlainUse.{linked_at}
-use Rattle.splice_laws.proofs.ConstantSteps.MarksFound.{StandsThere, stands_there, DeclaredThere, declared_there, nth_mapped}
+use Rattle.constant_steps.specs.WrittenLiteral.Within.{Within}
+use Rattle.constant_steps.specs.WrittenLiteral.Listing.{Listing}
+use Rattle.constant_steps.specs.WrittenLiteral.KnownNames.{landing, KnownNames}
+use Rattle.constant_steps.proofs.WrittenLiteral.FilesMeant.{file_meant}
+use Rattle.constant_steps.proofs.WrittenLiteral.ListedHeads.{listing}
+use Rattle.constant_steps.proofs.WrittenLiteral.WithinLaws.{entered}
+use Rattle.constant_steps.specs.PlainUse.{linked_at}
+use Rattle.constant_steps.proofs.MarksFound.{StandsThere, stands_there, DeclaredThere, declared_there, nth_mapped}
 use Rattle.literal_steps.specs.TypedParts.{LocalValues}
 use Rattle.literal_steps.specs.ServedParts.{AllServed, AllAway, TypeServed, TypeAway}
 use Rattle.literal_steps.specs.LiteralUse.{filled_sig, LiteralUse}

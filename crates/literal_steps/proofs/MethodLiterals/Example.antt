@@ -40,9 +40,9 @@ use Rattle.run_rules.specs.FormTrees.{as_expr, top}
 use Rattle.run_rules.specs.Places.{sig_seen}
 use Rattle.run_rules.specs.Obstacles.{Shadowed}
 use Rattle.run_rules.specs.Reduced.{kept, reduced}
-use Rattle.splice_laws.specs.WrittenLiteral.LinkedNames.{Standing}
-use Rattle.splice_laws.specs.ConstantSteps.Alone.{this_package}
-use Rattle.splice_laws.specs.ConstantSteps.PlainUse.{linked_at}
+use Rattle.constant_steps.specs.WrittenLiteral.LinkedNames.{Standing}
+use Rattle.constant_steps.specs.Alone.{this_package}
+use Rattle.constant_steps.specs.PlainUse.{linked_at}
 use Rattle.literal_steps.specs.LiteralUse.{LiteralUse, call_of, names_of_form}
 use Rattle.literal_steps.specs.CalledAt.{CalledAt, Linked, PackagesServe}
 use Rattle.literal_steps.proofs.PartsHere.{all_here}

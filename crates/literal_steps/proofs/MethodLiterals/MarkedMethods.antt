@@ -15,7 +15,7 @@ use Rattle.go_translation.specs.Packages as translated
 use Rattle.go_translation.specs.Packages.{sources, paths_in, codes_of, program_of, file_here, function_code, binds_or_none}
 use Rattle.translation_rules.proofs.DeclaredResults.PackagePaths.{numbered}
 use Rattle.run_rules.specs.Sites.{MarkRef, Inlinable, a_constant, an_alias, a_function as a_marked_function, inlinable, inlinable_in, nth_constant, constant_in_spec, less, aliased, marked, marked_as, is_among_marks, find_marked_method, is_this_method}
-use Rattle.splice_laws.specs.ConstantSteps.Alone.{PackageAt, this_package, a_later_package}
+use Rattle.constant_steps.specs.Alone.{PackageAt, this_package, a_later_package}
 use Rattle.literal_steps.proofs.MethodLiterals.MethodHeaders.{same_number}
 
 -- the package stands in the program by its number

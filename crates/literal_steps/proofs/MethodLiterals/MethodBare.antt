@@ -25,8 +25,8 @@ use Rattle.run_rules.specs.Naming.{Names}
 use Rattle.run_rules.specs.Calls.{Given, Call, blank, list_of, exprs_of, start, start_with, chosen_binds, bound_from, bound_params, given_params, param_name, all_params, declared_place, args, arg_typed}
 use Rattle.run_rules.specs.FormTrees.{a_name, outside_name, top}
 use Rattle.run_rules.specs.Forms.{body_changes, param_number, chosen_arg, literal_param, literal_params, literal_args, new_body, nth_given, written_arg}
-use Rattle.splice_laws.specs.WrittenLiteral.Fine.{keeping}
-use Rattle.splice_laws.specs.WrittenLiteral.PartsTyped.{changes_there}
+use Rattle.constant_steps.specs.WrittenLiteral.Fine.{keeping}
+use Rattle.constant_steps.specs.WrittenLiteral.PartsTyped.{changes_there}
 use Rattle.literal_steps.specs.AlikeChanges.{AllAlike}
 use Rattle.literal_steps.specs.LiteralUse.{filled, filled_sig, LiteralUse, call_of, chosen_of, names_of_form}
 use Rattle.literal_steps.proofs.WalksBare.{params-bare, stmts-bare}

@@ -21,7 +21,7 @@ use Rattle.typed_in_place.specs.ImportRule.{files_declare, package_declares, dec
 use Rattle.typed_in_place.proofs.ImportRule.{well_typed_apart}
 use Rattle.typed_in_place.proofs.Rising.{and_first, and_second}
 use Rattle.typed_in_place.proofs.WellTypedAlike.{none_refused, none_one_of}
-use Rattle.splice_laws.specs.ConstantSteps.Alone.{PackageAt, this_package, a_later_package}
+use Rattle.constant_steps.specs.Alone.{PackageAt, this_package, a_later_package}
 
 pub same_number : (a b : ℕ) → a ≡ b → nat_eq a b ≡ true
 same_number a b e = grind (arith, e)

@@ -19,7 +19,7 @@ use Rattle.run_rules.specs.Calls.{Given, Call, list_of, givens, arguments, all_p
 use Rattle.run_rules.specs.FormTrees.{LiteralForm, top}
 use Rattle.run_rules.specs.Obstacles.{Obstacle, Recursive, CommentInside, Spread, Repeated, obstacle_if, not_accessible, internal_package, shadowed, is_repeated, first_answer}
 use Rattle.run_rules.specs.Reduced.{types_text, param_text, result_types_text, text_taken, converts_somewhere, needed_by, range_of}
-use Rattle.splice_laws.proofs.ConstantSteps.MarksFound.{both_none}
+use Rattle.constant_steps.proofs.MarksFound.{both_none}
 use Rattle.literal_steps.specs.LiteralUse.{LiteralUse, call_of, chosen_of}
 use Rattle.literal_steps.proofs.NoObstacle.{clear}
 use Rattle.literal_steps.specs.MethodLiterals.MethodUse.{MethodCall, receiver_argument, receiver_first}

@@ -36,7 +36,7 @@ use Rattle.run_rules.specs.Surroundings.{Use, Place, Seen, seen}
 use Rattle.run_rules.specs.Programs.{world, top_env}
 use Rattle.run_rules.specs.Sites.{MarkRef, same_mark, Where, Inlinable, a_constant, an_alias, a_function, Part, an_expr, Site, marked, marked_as, is_free_function, is_function, called_mark, selected_method, member_of, inlinable, is_among_marks, site_by, site_here, sites_among}
 use Rattle.run_rules.specs.Cycles.{function_marks, leads_to, LeadsTo}
-use Rattle.splice_laws.specs.WrittenLiteral.LinkedNames.{Standing}
+use Rattle.constant_steps.specs.WrittenLiteral.LinkedNames.{Standing}
 use Rattle.literal_steps.specs.TypedParts.{PartStands, AllStand}
 use Rattle.literal_steps.specs.RankedMarks.Free.{number_with, mark_named, Translated}
 use Rattle.literal_steps.proofs.RankedMarks.Counting.{or_left, or_right}

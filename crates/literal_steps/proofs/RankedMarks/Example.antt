@@ -21,8 +21,8 @@ use Rattle.run_rules.specs.Programs.{body_place}
 use Rattle.run_rules.specs.Places.{stmts_seen}
 use Rattle.run_rules.specs.Sites.{MarkRef, Where, where_is}
 use Rattle.run_rules.specs.Cycles.{LeadsTo}
-use Rattle.splice_laws.specs.WrittenLiteral.LinkedNames.{Standing}
-use Rattle.splice_laws.specs.ConstantSteps.PlainUse.{linked_at}
+use Rattle.constant_steps.specs.WrittenLiteral.LinkedNames.{Standing}
+use Rattle.constant_steps.specs.PlainUse.{linked_at}
 use Rattle.literal_steps.specs.TypedParts.{AllWithoutConstants}
 use Rattle.literal_steps.specs.RankedMarks.Ranks.{reaches}
 use Rattle.literal_steps.specs.RankedMarks.Calls.{IsAskedFor, names_function, Built}

@@ -31,10 +31,10 @@ use Rattle.run_rules.specs.FormTrees.{as_expr, LiteralForm}
 use Rattle.run_rules.specs.Obstacles.{Obstacle, Recursive, obstacle_if, not_accessible, internal_package, shadowed}
 use Rattle.run_rules.specs.Reduced.{text_taken, needed_by}
 use Rattle.run_rules.specs.Cycles.{is_recursive}
-use Rattle.splice_laws.specs.ConstantSteps.Alone.{block_from, PackageAt, this_package, a_later_package}
-use Rattle.splice_laws.specs.ConstantSteps.PlainUse.{linked_at}
-use Rattle.splice_laws.proofs.ConstantSteps.NamesOutside.{MemberThere, member_there, linked_block, not_local}
-use Rattle.splice_laws.proofs.ConstantSteps.MarksFound.{member_of_mark, named_member, marked_so, StandsThere, stands_there, both_none}
+use Rattle.constant_steps.specs.Alone.{block_from, PackageAt, this_package, a_later_package}
+use Rattle.constant_steps.specs.PlainUse.{linked_at}
+use Rattle.constant_steps.proofs.NamesOutside.{MemberThere, member_there, linked_block, not_local}
+use Rattle.constant_steps.proofs.MarksFound.{member_of_mark, named_member, marked_so, StandsThere, stands_there, both_none}
 use Rattle.literal_steps.specs.LiteralUse.{LiteralUse, NamesCallee, plainly, by_import, PlainCall, call_of, chosen_of}
 use Rattle.literal_steps.specs.CalledAt.{CalledAt, Linked, PackagesServe}
 use Rattle.literal_steps.proofs.FirstFunctions.{package_found}

@@ -12,10 +12,10 @@ use Rattle.form_meaning.specs.FormInPlace.Places.{is_member, means_function}
 use Rattle.run_rules.specs.Surroundings.{Place, is_local}
 use Rattle.run_rules.specs.Programs.{world, top_env}
 use Rattle.run_rules.specs.Sites.{Where, mark_of, imported_by, outer, outer_meaning, import_number, qualifier, members_in, member_of, name_mark}
-use Rattle.splice_laws.specs.WrittenLiteral.Meant.{FileMeant}
-use Rattle.splice_laws.specs.WrittenLiteral.LinkedNames.{Standing}
-use Rattle.splice_laws.proofs.WrittenLiteral.FilesMeant.{file_meant}
-use Rattle.splice_laws.proofs.ConstantSteps.NamesOutside.{MemberThere, member_there, linked_block}
+use Rattle.constant_steps.specs.WrittenLiteral.Meant.{FileMeant}
+use Rattle.constant_steps.specs.WrittenLiteral.LinkedNames.{Standing}
+use Rattle.constant_steps.proofs.WrittenLiteral.FilesMeant.{file_meant}
+use Rattle.constant_steps.proofs.NamesOutside.{MemberThere, member_there, linked_block}
 use Rattle.literal_steps.specs.TypedParts.{is_value}
 use Rattle.literal_steps.proofs.FilesKnown.{nothing_else}
 use Rattle.literal_steps.proofs.RankedMarks.PlacesStand.{Placed}

@@ -19,10 +19,10 @@ use Rattle.form_meaning.specs.FormInPlace.Bound.{stmt_binds, first_binds, range_
 use Rattle.run_rules.specs.Surroundings.{Use, whole, stored, updated, called, deferred_call, alone, other, a_slot, Slot, Place, Seen, seen, seen_type, seen_stmt, alike, into_type, head_use, later_uses, arg_uses, unary_use, operand_use, first_operand_use, right_uses, every_use, value_use, return_uses, elem_use, key_use, inner_slot, last_slot, in_slot, callee_place, comma_slot, elem_closed, after_stmt, after_first, first_declares, left_declares, looping, switching, in_heading, at_stmt, plain_slot, ranged, in_literal, after_variables, is_old}
 use Rattle.run_rules.specs.Surroundings as around
 use Rattle.run_rules.specs.Places.{type_seen, written_seen, params_seen, sig_seen, old_seen, after_arms, expr_seen, all_seen, option_seen, elems_seen, key_seen, value_seen, stmt_seen, stmts_seen, first_seen, block_seen, left_seen, arms_seen, cases_seen, variables_seen}
-use Rattle.splice_laws.specs.WrittenLiteral.Within.{Within, Grows}
-use Rattle.splice_laws.specs.WrittenLiteral.Listing.{Listing}
-use Rattle.splice_laws.proofs.WrittenLiteral.WithinLaws.{blocked, entered}
-use Rattle.splice_laws.proofs.WrittenLiteral.ListedHeads.{listing}
+use Rattle.constant_steps.specs.WrittenLiteral.Within.{Within, Grows}
+use Rattle.constant_steps.specs.WrittenLiteral.Listing.{Listing}
+use Rattle.constant_steps.proofs.WrittenLiteral.WithinLaws.{blocked, entered}
+use Rattle.constant_steps.proofs.WrittenLiteral.ListedHeads.{listing}
 use Rattle.literal_steps.specs.TypedParts.{all_values, LocalValues, AllWithoutConstants}
 use Rattle.literal_steps.proofs.LocalValues.{in_blocks, extended, stmt_values, first_values, left_values, head_values, variable_values}
 

@@ -43,10 +43,10 @@ use Rattle.run_rules.specs.Places.{sig_seen, stmts_seen}
 use Rattle.run_rules.specs.Programs.{linked, linked_file, imports_mean, world, top_env, top_place, headed_func, body_place, receiver_seen, with_receiver, decl_seen}
 use Rattle.run_rules.specs.Sites.{MarkRef, Where, Inlinable, an_alias, nth_constant, constant_in_spec, less, aliased, is_among_marks, members_in, member_of, inlinable, inlinable_in, marked_as, is_free_function, parts_of, sites_among, site_here}
 use Rattle.run_rules.specs.Cycles.{function_marks, LeadsTo, is_recursive}
-use Rattle.splice_laws.specs.WrittenLiteral.LinkedNames.{Standing, NoneNumbered}
-use Rattle.splice_laws.specs.ConstantSteps.Alone.{block_from, PackageAt, this_package, a_later_package}
-use Rattle.splice_laws.proofs.ConstantSteps.NamesOutside.{linked_block}
-use Rattle.splice_laws.proofs.ConstantSteps.MarksFound.{member_of_mark, named_member, marked_so, StandsThere, stands_there, DeclaredThere, declared_there, nth_mapped}
+use Rattle.constant_steps.specs.WrittenLiteral.LinkedNames.{Standing, NoneNumbered}
+use Rattle.constant_steps.specs.Alone.{block_from, PackageAt, this_package, a_later_package}
+use Rattle.constant_steps.proofs.NamesOutside.{linked_block}
+use Rattle.constant_steps.proofs.MarksFound.{member_of_mark, named_member, marked_so, StandsThere, stands_there, DeclaredThere, declared_there, nth_mapped}
 use Rattle.literal_steps.specs.TypedParts.{LocalValues, AllWithoutConstants}
 use Rattle.literal_steps.specs.FirstFunctions.{FirstFunction}
 use Rattle.literal_steps.proofs.TypedWalk.{stmts_stand}

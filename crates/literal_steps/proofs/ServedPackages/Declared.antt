@@ -9,7 +9,7 @@ use Rattle.go_tree.specs.ScopeNames.Scopes as scopes
 use Rattle.go_tree.specs.ScopeNames.Scopes.{not_blank, specs_declare, with_name, param_names, sig_declares}
 use Rattle.go_tree.specs.GoTypes.Answers.{is_among}
 use Rattle.run_rules.specs.Surroundings.{first_declares, left_declares}
-use Rattle.splice_laws.proofs.ConstantSteps.StepLaws.OutsideHolds.{among_right, no_name}
+use Rattle.constant_steps.proofs.StepLaws.OutsideHolds.{among_right, no_name}
 use Rattle.literal_steps.proofs.ServedPackages.Parts.{among_left}
 
 in_turn : (a b c : Bool) → (a || (b || c)) ≡ ((a || b) || c)

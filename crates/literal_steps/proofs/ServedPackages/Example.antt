@@ -24,9 +24,9 @@ use Rattle.run_rules.specs.Calls.{Call, body_seen}
 use Rattle.run_rules.specs.Places.{sig_seen}
 use Rattle.run_rules.specs.Sites.{Where, Site}
 use Rattle.run_rules.specs.FormTrees.{as_expr, top}
-use Rattle.splice_laws.specs.WrittenLiteral.LinkedNames.{Standing}
-use Rattle.splice_laws.specs.ConstantSteps.Alone.{this_package, a_later_package}
-use Rattle.splice_laws.specs.ConstantSteps.PlainUse.{linked_at}
+use Rattle.constant_steps.specs.WrittenLiteral.LinkedNames.{Standing}
+use Rattle.constant_steps.specs.Alone.{this_package, a_later_package}
+use Rattle.constant_steps.specs.PlainUse.{linked_at}
 use Rattle.literal_steps.specs.LiteralUse.{LiteralUse, call_of, by_import, PlainCall}
 use Rattle.literal_steps.specs.CalledAt.{CalledAt, Linked}
 use Rattle.literal_steps.proofs.CallMeant.{typed_alike, means_it}

@@ -30,8 +30,8 @@ use Rattle.run_rules.specs.Reduced.{needed_by}
 use Rattle.run_rules.specs.Rewriting.{new_stmts}
 use Rattle.run_rules.specs.Sites.{MarkRef, Site}
 use Rattle.run_rules.specs.Surroundings.{Place, Seen}
-use Rattle.splice_laws.proofs.ConstantSteps.StepLaws.DeclUses.{body-begins}
-use Rattle.splice_laws.proofs.ConstantSteps.StepLaws.OutsideHolds.{among_right, no_name}
+use Rattle.constant_steps.proofs.StepLaws.DeclUses.{body-begins}
+use Rattle.constant_steps.proofs.StepLaws.OutsideHolds.{among_right, no_name}
 use Rattle.literal_steps.specs.CalledAt.{Linked}
 use Rattle.literal_steps.specs.LiteralUse.{LiteralUse, call_of, chosen_of, PlainCall}
 use Rattle.literal_steps.specs.TypedParts.{AllWithoutConstants}

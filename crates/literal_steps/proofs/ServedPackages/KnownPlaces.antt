@@ -15,10 +15,10 @@ use Rattle.go_tree.specs.GoTypes.Types.{FuncType}
 use Rattle.form_meaning.specs.FormInPlace.Bound.{stmt_binds, first_binds, range_left_binds, literal_binds, variable_binds}
 use Rattle.run_rules.specs.Places.{after_arms}
 use Rattle.run_rules.specs.Surroundings.{Slot, Place, callee_place, after_stmt, after_first, first_declares, left_declares, block, ranged, in_literal, after_variables}
-use Rattle.splice_laws.proofs.ConstantSteps.StepLaws.OutsideHolds.{among_right, of_either, no_name}
-use Rattle.splice_laws.proofs.WrittenLiteral.ListedHeads.{listing}
-use Rattle.splice_laws.specs.WrittenLiteral.Listing.{Listing}
-use Rattle.splice_laws.specs.WrittenLiteral.Within.{Grows}
+use Rattle.constant_steps.proofs.StepLaws.OutsideHolds.{among_right, of_either, no_name}
+use Rattle.constant_steps.proofs.WrittenLiteral.ListedHeads.{listing}
+use Rattle.constant_steps.specs.WrittenLiteral.Listing.{Listing}
+use Rattle.constant_steps.specs.WrittenLiteral.Within.{Grows}
 use Rattle.literal_steps.specs.ServedPackages.OpenTypes.{OpenNames, OpenPlace}
 use Rattle.literal_steps.proofs.ServedPackages.OpenTypes.Declarations.{extended_open, stmt_binds_open, first_binds_open, range_binds_are_open, variable_binds_open, literal_binds_open}
 use Rattle.literal_steps.proofs.ServedPackages.Parts.{among_left}

@@ -11,7 +11,7 @@ use Rattle.run_rules.specs.Calls.{place_of}
 use Rattle.run_rules.specs.Naming.{unnamed}
 use Rattle.run_rules.specs.Sites.{Where}
 use Rattle.run_rules.specs.Surroundings.{Place, Seen, is_local}
-use Rattle.splice_laws.proofs.ConstantSteps.StepLaws.OutsideHolds.{among_right}
+use Rattle.constant_steps.proofs.StepLaws.OutsideHolds.{among_right}
 use Rattle.literal_steps.specs.TypedParts.{AllWithoutConstants}
 use Rattle.literal_steps.specs.ServedPackages.NamedPackages.{packages_named}
 use Rattle.literal_steps.specs.ServedPackages.OpenTypes.{OpenPlace}

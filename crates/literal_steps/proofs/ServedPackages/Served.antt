@@ -20,13 +20,13 @@ use Rattle.run_rules.specs.Programs.{package_number, linked_file}
 use Rattle.run_rules.specs.Reduced.{needed_by}
 use Rattle.run_rules.specs.Sites.{MarkRef, Where, Site, is_free_function, expr_mark, marked_as, member_of, members_in, mark_of, outer_meaning, qualifier}
 use Rattle.run_rules.specs.Surroundings.{Place, Seen, seen, seen_type, seen_stmt}
-use Rattle.splice_laws.proofs.ConstantSteps.MarksFound.{member_of_mark, named_member, marked_so, StandsThere, stands_there}
-use Rattle.splice_laws.proofs.ConstantSteps.NamesOutside.{linked_block}
-use Rattle.splice_laws.proofs.ConstantSteps.QualifiedSteps.MembersNamed.{ByImport}
-use Rattle.splice_laws.proofs.ConstantSteps.QualifiedSteps.MembersNamed as members
-use Rattle.splice_laws.proofs.ConstantSteps.QualifiedSteps.Qualifiers.{OwnPath, leads_back, qualifier_path}
-use Rattle.splice_laws.specs.ConstantSteps.Alone.{block_from}
-use Rattle.splice_laws.specs.WrittenLiteral.Meant.{Serves}
+use Rattle.constant_steps.proofs.MarksFound.{member_of_mark, named_member, marked_so, StandsThere, stands_there}
+use Rattle.constant_steps.proofs.NamesOutside.{linked_block}
+use Rattle.constant_steps.proofs.QualifiedSteps.MembersNamed.{ByImport}
+use Rattle.constant_steps.proofs.QualifiedSteps.MembersNamed as members
+use Rattle.constant_steps.proofs.QualifiedSteps.Qualifiers.{OwnPath, leads_back, qualifier_path}
+use Rattle.constant_steps.specs.Alone.{block_from}
+use Rattle.constant_steps.specs.WrittenLiteral.Meant.{Serves}
 use Rattle.literal_steps.specs.CalledAt.{CalledAt, Linked, PackagesServe}
 use Rattle.literal_steps.specs.LiteralUse.{LiteralUse, call_of, chosen_of, names_of_form, NamesCallee, plainly, by_import, PlainCall}
 use Rattle.literal_steps.specs.ServedParts.{TypeServed, FieldsServed, PartServed, AllServed, TypeAway, FieldsAway, PartAway, AllAway}

@@ -19,7 +19,7 @@ use Rattle.run_rules.specs.FormTrees.{a_name, outside_name}
 use Rattle.run_rules.specs.Naming.{unnamed, member_qualifier, import_qualifier, qualified, qualified_or, type_there, fields_there}
 use Rattle.run_rules.specs.Sites.{Where, outer, mark_of, imported_by, import_number, outer_meaning, qualifier}
 use Rattle.run_rules.specs.Surroundings.{Use, Place, declared_at, local_at, is_local}
-use Rattle.splice_laws.proofs.ConstantSteps.StepLaws.OutsideHolds.{among_right}
+use Rattle.constant_steps.proofs.StepLaws.OutsideHolds.{among_right}
 use Rattle.literal_steps.specs.ServedPackages.NamedPackages.{import_named, own_named, type_named, fields_named}
 use Rattle.literal_steps.proofs.ServedPackages.Parts.{among_left, among_first, OfTwo, of_first, of_second, of_two, the_one}
 

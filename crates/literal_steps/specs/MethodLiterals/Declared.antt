@@ -5,7 +5,7 @@ use Rattle.go_tree.specs.GoTypes.Programs.{SourceFile, SourcePackage, Program, H
 use Rattle.go_tree.specs.GoTypes.Programs.{is_main}
 use Rattle.go_tree.specs.GoTypes.Collect.{collected}
 use Rattle.go_tree.specs.GoTypes.MethodDeclarations.{receiver_type}
-use Rattle.splice_laws.specs.ConstantSteps.Alone.{PackageAt}
+use Rattle.constant_steps.specs.Alone.{PackageAt}
 
 module _ {S : Type 0} where
   -- the header of a function in a file of the package, which has this number there

@@ -14,7 +14,7 @@ use Rattle.run_rules.specs.Programs.{linked, body_place}
 use Rattle.run_rules.specs.Sites.{MarkRef, Where, is_among_marks, where_is, inlinable, member_of, marked_as}
 use Rattle.run_rules.specs.Sites.{is_free_function}
 use Rattle.run_rules.specs.Cycles.{is_recursive}
-use Rattle.splice_laws.specs.WrittenLiteral.LinkedNames.{Standing}
+use Rattle.constant_steps.specs.WrittenLiteral.LinkedNames.{Standing}
 use Rattle.literal_steps.specs.TypedParts.{AllWithoutConstants}
 use Rattle.literal_steps.specs.RankedMarks.Ranks.{rank}
 

@@ -32,7 +32,7 @@ use Rattle.run_rules.specs.Places.{sig_seen}
 use Rattle.run_rules.specs.Reduced.{needed_by}
 use Rattle.run_rules.specs.Sites.{MarkRef, Where, Site}
 use Rattle.run_rules.specs.Surroundings.{Use, Place, seen}
-use Rattle.splice_laws.specs.WrittenLiteral.Fine.{FineElems}
+use Rattle.constant_steps.specs.WrittenLiteral.Fine.{FineElems}
 use Rattle.literal_steps.specs.CalledAt.{CalledAt, Linked, PackagesServe}
 use Rattle.literal_steps.specs.LiteralUse.{LiteralUse, call_of, chosen_of, names_of_form, PlainCall}
 use Rattle.literal_steps.specs.ServedParts.{AllServed, AllAway}

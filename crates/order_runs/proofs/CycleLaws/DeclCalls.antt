@@ -18,8 +18,8 @@ use Rattle.std.specs.Prelude.{nat_eq, is_none, ◌&&◌}
 use Rattle.typed_in_place.specs.Replaced.{SigReplaced}
 use Rattle.typed_in_place.specs.HeaderReplaced.{SameReceiver, no_receiver, one_receiver}
 use Rattle.typed_in_place.proofs.TypingReplaced.{func_type-in, body_binds-in}
-use Rattle.splice_laws.specs.ConstantSteps.StepLaws.DeclStands.{Written, nothing_written, own_or_before, GroupStands, VariableGroupStands, FuncStands, DeclStands}
-use Rattle.splice_laws.proofs.ConstantSteps.StepLaws.Standing.{sig-stands}
+use Rattle.constant_steps.specs.StepLaws.DeclStands.{Written, nothing_written, own_or_before, GroupStands, VariableGroupStands, FuncStands, DeclStands}
+use Rattle.constant_steps.proofs.StepLaws.Standing.{sig-stands}
 use Rattle.run_rules.specs.Surroundings.{Place, Seen, seen_type, value_use, alike, in_constant}
 use Rattle.run_rules.specs.Places.{written_seen, sig_seen, all_seen, stmts_seen}
 use Rattle.run_rules.specs.Programs.{world, top_place, body_place, headed_func, params_of, with_receiver, receiver_seen, constants_at_top, variables_at_top, types_at_top, func_seen, decl_seen}

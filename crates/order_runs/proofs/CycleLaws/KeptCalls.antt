@@ -4,7 +4,7 @@ use Rattle.std.proofs.Common.{ℕ, List, refl, sym}
 use Rattle.go_tree.specs.Tree.{Expr, Stmts}
 use Rattle.go_tree.specs.ScopeNames.FreeNames.{names_of}
 use Rattle.pkg_graph.specs.Package.{Package}
-use Rattle.splice_laws.specs.ConstantSteps.StepLaws.Stands.{ExprStands, StmtsStands}
+use Rattle.constant_steps.specs.StepLaws.Stands.{ExprStands, StmtsStands}
 use Rattle.run_rules.specs.Surroundings.{Use, Place}
 use Rattle.run_rules.specs.Places.{expr_seen, stmts_seen}
 use Rattle.run_rules.specs.Rewriting.{Changes, new_expr, new_stmts}

@@ -25,8 +25,8 @@ use Rattle.run_rules.specs.Sites.{MarkRef, Where, called_mark}
 use Rattle.typed_in_place.specs.Replaced.{SigReplaced}
 use Rattle.typed_in_place.specs.SameFacts.{SameStatement}
 use Rattle.typed_in_place.proofs.TypingReplaced.{type_meant-in, func_type-in, literal_env-in, parts-in}
-use Rattle.splice_laws.specs.ConstantSteps.StepLaws.Stands.{Asked, stays, is_put, SameExpr, AsOperand, is_operand, SigStands, ExprStands, ExprsStands, ExprOptionStands, ElemsStands, KeyStands, ValueStands, StmtStands, StmtsStands, FirstStands, BlockStands, LeftStands, ArmsStand, CasesStands, VariablesStands}
-use Rattle.splice_laws.proofs.ConstantSteps.StepLaws.Standing.{written-stands, sig-stands, expr-stands, all-stands, stmt-stands, first-stands, left-stands}
+use Rattle.constant_steps.specs.StepLaws.Stands.{Asked, stays, is_put, SameExpr, AsOperand, is_operand, SigStands, ExprStands, ExprsStands, ExprOptionStands, ElemsStands, KeyStands, ValueStands, StmtStands, StmtsStands, FirstStands, BlockStands, LeftStands, ArmsStand, CasesStands, VariablesStands}
+use Rattle.constant_steps.proofs.StepLaws.Standing.{written-stands, sig-stands, expr-stands, all-stands, stmt-stands, first-stands, left-stands}
 use Rattle.order_runs.specs.CycleLaws.PutCalls.{GivesWayAmong, mark_there, called_among, CallsAlike, PutCallsAlike, AllPutCallAlike}
 use Rattle.order_runs.proofs.CycleLaws.Gives.{gives-same, gives-by, gives-eq, gives-then, gives-app}
 use Rattle.order_runs.proofs.CycleLaws.Called.{Callees, home_of_method, env_lit, bound_lit, first_bound, range_bound, after_bound, more_bound, called_by, callee, calls_expr, calls_all, calls_option, calls_elems, calls_key, calls_value, calls_stmt, calls_stmts, calls_first, calls_block, calls_left, calls_arms, calls_cases, calls_constants, calls_variables}

@@ -20,7 +20,7 @@ use Rattle.typed_in_place.specs.ProgramReplaced.{All, all_of_none, all_and}
 use Rattle.typed_in_place.specs.ImportsMoved.{under_imports, file_names, MovedReceiver, nothing_received, received, MovedIn, moved_func, Moved, MovedBody, moved_body, constants_moved, variables_moved, type_moved}
 use Rattle.typed_in_place.proofs.ImportsMoved.{func_type-moved}
 use Rattle.go_translation.proofs.SmallAlike.{kept}
-use Rattle.splice_laws.proofs.ConstantSteps.StepLaws.FurtherApart.{both-all}
+use Rattle.constant_steps.proofs.StepLaws.FurtherApart.{both-all}
 use Rattle.order_runs.specs.CycleRuns.ImportCycles.LookedUp.{receiver_looked_up, decl_looked_up}
 use Rattle.order_runs.proofs.CycleRuns.ImportCycles.FreeIdentifiers.{in-right}
 use Rattle.order_runs.proofs.CycleRuns.ImportCycles.HeadersMoved.{AllMean, HeaderReads, decls-all}

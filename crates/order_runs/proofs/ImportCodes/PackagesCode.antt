@@ -16,7 +16,7 @@ use Rattle.typed_in_place.proofs.ProgramsReplaced.{one_by_one, each_one, append_
 use Rattle.go_kernel.specs.Kernel.{ImportPath, Let, same_text}
 use Rattle.go_translation.specs.Packages.{Package, sources, paths_in, header_functions, header_initial, headers_functions, headers_initial, package_code, codes_of, has_path, has_number, are_distinct, are_linked, are_well_typed}
 use Rattle.go_translation.specs.SameMeaning.{Packages, WellTyped, with_further}
-use Rattle.splice_laws.proofs.ConstantSteps.StepLaws.FurtherApart.{further-apart}
+use Rattle.constant_steps.proofs.StepLaws.FurtherApart.{further-apart}
 use Rattle.order_runs.specs.RunSteps.SameCode.{SameCode}
 use Rattle.order_runs.specs.ImportCodes.PackagesMoved.{FileMoved, PackageMoved, PackagesMoved, ImportsStand}
 use Rattle.order_runs.proofs.ImportCodes.NamesImported.{name-means, blank-means}

@@ -20,18 +20,18 @@ use Rattle.run_rules.specs.FormTrees.{as_expr}
 use Rattle.run_rules.specs.Steps.{At, same_here, change_nth, changes_for, new_decl, added_decls, packages_between}
 use Rattle.run_rules.specs.Run.{Standing, Logged, Next, here_of, origin_of, is_commented}
 use Rattle.splice_laws.proofs.RunLaws.FoundSpans.{Placed}
-use Rattle.splice_laws.specs.ConstantSteps.StepLaws.SwapPrograms.{members_put}
-use Rattle.splice_laws.proofs.ConstantSteps.StepLaws.StepMeaning.{distinct-before}
+use Rattle.constant_steps.specs.StepLaws.SwapPrograms.{members_put}
+use Rattle.constant_steps.proofs.StepLaws.StepMeaning.{distinct-before}
 use Rattle.order_runs.specs.CycleRuns.StepCycles.PackagesAlike.{import_key}
 use Rattle.order_runs.proofs.CycleRuns.StepCycles.Orders.{NumberedBy, rows-by, order-by}
 use Rattle.order_runs.proofs.CycleRuns.StepCycles.StepAlike.{one-changed, both-changed}
 use Rattle.order_runs.proofs.CycleLaws.BareWith as spans
 use Rattle.order_runs.proofs.CycleLaws.StepsLead.{change-at}
-use Rattle.splice_laws.proofs.ConstantSteps.MarksFound.{StandsThere, stands_there}
-use Rattle.splice_laws.proofs.ConstantSteps.PlainImports.{Distinct, distinct_sources}
-use Rattle.splice_laws.specs.ConstantSteps.QualifiedSteps.NamedUse.{NamedUse, PackageStands, PackagesStand}
-use Rattle.splice_laws.specs.ConstantSteps.QualifiedSteps.NamedRuns.{named_members, found_named}
-use Rattle.splice_laws.proofs.ConstantSteps.QualifiedSteps.NamedLinked.{named_linked}
+use Rattle.constant_steps.proofs.MarksFound.{StandsThere, stands_there}
+use Rattle.constant_steps.proofs.PlainImports.{Distinct, distinct_sources}
+use Rattle.constant_steps.specs.QualifiedSteps.NamedUse.{NamedUse, PackageStands, PackagesStand}
+use Rattle.constant_steps.specs.QualifiedSteps.NamedRuns.{named_members, found_named}
+use Rattle.constant_steps.proofs.QualifiedSteps.NamedLinked.{named_linked}
 use Rattle.order_runs.specs.CycleRuns.ImportCycles.OtherImports.{PackagesBeside, FileUnder}
 use Rattle.order_runs.specs.CycleRuns.ImportCycles.ImportSteps.{file_added, packages_added, where_added, decl_put}
 use Rattle.order_runs.proofs.CycleRuns.ImportCycles.FreeIdentifiers.{looked-up-within}

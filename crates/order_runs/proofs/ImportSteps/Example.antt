@@ -20,11 +20,11 @@ use Rattle.run_rules.specs.Surroundings.{whole, in_constant}
 use Rattle.run_rules.specs.Programs.{top_place}
 use Rattle.run_rules.specs.Sites.{MarkRef, Where, Site, an_expr}
 use Rattle.run_rules.specs.FormTrees.{ConstForm}
-use Rattle.splice_laws.specs.ConstantSteps.Alone.{this_package, a_later_package, no_constants, and_constant, constants_alone, no_decls, and_decl}
-use Rattle.splice_laws.specs.ConstantSteps.Alone as alone
-use Rattle.splice_laws.specs.ConstantSteps.PlainUse.{linked_at}
-use Rattle.splice_laws.specs.ConstantSteps.QualifiedSteps.MemberNames.{imported_member}
-use Rattle.splice_laws.specs.ConstantSteps.QualifiedSteps.NamedUse.{NamedUse, NamedUseStands, PackagesStand}
+use Rattle.constant_steps.specs.Alone.{this_package, a_later_package, no_constants, and_constant, constants_alone, no_decls, and_decl}
+use Rattle.constant_steps.specs.Alone as alone
+use Rattle.constant_steps.specs.PlainUse.{linked_at}
+use Rattle.constant_steps.specs.QualifiedSteps.MemberNames.{imported_member}
+use Rattle.constant_steps.specs.QualifiedSteps.NamedUse.{NamedUse, NamedUseStands, PackagesStand}
 use Rattle.order_runs.specs.CycleRuns.ImportCycles.LookedUp.{decl_looked_up}
 use Rattle.order_runs.proofs.RunSteps.SameMeant.{same-code}
 use Rattle.order_runs.specs.ImportCodes.PackagesMoved.{imported_as, PackagesMoved}

@@ -13,10 +13,10 @@ use Rattle.typed_in_place.proofs.Rising.{and_first, and_second}
 use Rattle.go_translation.specs.Packages.{Package, sources, has_number, are_distinct, are_linked, are_well_typed}
 use Rattle.go_translation.specs.SameMeaning.{Packages}
 use Rattle.run_rules.specs.Sites.{part_span}
-use Rattle.splice_laws.specs.ConstantSteps.StepLaws.PartsTyped.{HeaderTyped}
-use Rattle.splice_laws.specs.ConstantSteps.StepLaws.ConstantSwaps.{ConstantSwaps}
-use Rattle.splice_laws.specs.ConstantSteps.StepLaws.SwapPrograms.{members_put}
-use Rattle.splice_laws.specs.ConstantSteps.QualifiedSteps.NamedRuns.{named_members}
+use Rattle.constant_steps.specs.StepLaws.PartsTyped.{HeaderTyped}
+use Rattle.constant_steps.specs.StepLaws.ConstantSwaps.{ConstantSwaps}
+use Rattle.constant_steps.specs.StepLaws.SwapPrograms.{members_put}
+use Rattle.constant_steps.specs.QualifiedSteps.NamedRuns.{named_members}
 use Rattle.order_runs.specs.RunSteps.SameCode.{SameCode}
 use Rattle.order_runs.proofs.RunSteps.SameMeant.{same-then, same-itself}
 use Rattle.order_runs.proofs.RunSteps.SpansForgotten.{beside-alike}

@@ -17,13 +17,13 @@ use Rattle.typed_in_place.proofs.Headers.{declared_in}
 use Rattle.typed_in_place.proofs.Leaves.{name_parts}
 use Rattle.run_rules.specs.Surroundings.{Place}
 use Rattle.run_rules.specs.Sites.{Where}
-use Rattle.splice_laws.specs.ConstantSteps.StepLaws.ConstantUses.{UseOfConstant}
-use Rattle.splice_laws.specs.ConstantSteps.StepLaws.PartsTyped.{HeaderTyped}
-use Rattle.splice_laws.specs.ConstantSteps.StepLaws.SwapUses.{SwapThere}
-use Rattle.splice_laws.proofs.ConstantSteps.StepLaws.KnownConstants.{of-first, declares-it, Known}
-use Rattle.splice_laws.proofs.ConstantSteps.StepLaws.StepUses.{use-of-constant, constant-of-use}
-use Rattle.splice_laws.proofs.ConstantSteps.PlainSteps.{not_so}
-use Rattle.splice_laws.proofs.ConstantSteps.QualifiedSteps.UsesMeant.{DeclaredIn}
+use Rattle.constant_steps.specs.StepLaws.ConstantUses.{UseOfConstant}
+use Rattle.constant_steps.specs.StepLaws.PartsTyped.{HeaderTyped}
+use Rattle.constant_steps.specs.StepLaws.SwapUses.{SwapThere}
+use Rattle.constant_steps.proofs.StepLaws.KnownConstants.{of-first, declares-it, Known}
+use Rattle.constant_steps.proofs.StepLaws.StepUses.{use-of-constant, constant-of-use}
+use Rattle.constant_steps.proofs.PlainSteps.{not_so}
+use Rattle.constant_steps.proofs.QualifiedSteps.UsesMeant.{DeclaredIn}
 
 -- what `const n = f` binds, by what `f` is
 abbrev one-constant : List ℕ → World → Option Operand → Option Binds

@@ -21,15 +21,15 @@ use Rattle.typed_in_place.proofs.ProgramsReplaced.{one_by_one, declares_the_same
 use Rattle.typed_in_place.proofs.SpansAside.{types_spans_aside, aliases_spans_aside, values_spans_aside, bodies_spans_aside}
 use Rattle.go_translation.specs.Packages.{Package, sources, codes_of, has_path, has_number, are_distinct, are_linked, are_well_typed}
 use Rattle.go_translation.specs.SpansAside.{bare_headed}
-use Rattle.splice_laws.specs.ConstantSteps.StepLaws.DeclStands.{changed}
-use Rattle.splice_laws.specs.ConstantSteps.StepLaws.PartsTyped.{HeaderTyped}
-use Rattle.splice_laws.specs.ConstantSteps.StepLaws.ConstantSteps.{ConstantStep}
-use Rattle.splice_laws.specs.ConstantSteps.StepLaws.ConstantSwaps.{ConstantSwaps}
-use Rattle.splice_laws.specs.ConstantSteps.StepLaws.SwapPrograms.{put_decl, members_put}
-use Rattle.splice_laws.proofs.ConstantSteps.StepLaws.ConstantStepLaw.{constant-step}
-use Rattle.splice_laws.proofs.ConstantSteps.StepLaws.FurtherApart.{further-apart}
-use Rattle.splice_laws.proofs.ConstantSteps.StepLaws.StepUses.{step-with-uses}
-use Rattle.splice_laws.proofs.ConstantSteps.StepLaws.SwapProgram.{constant-codes, sources-after}
+use Rattle.constant_steps.specs.StepLaws.DeclStands.{changed}
+use Rattle.constant_steps.specs.StepLaws.PartsTyped.{HeaderTyped}
+use Rattle.constant_steps.specs.StepLaws.ConstantSteps.{ConstantStep}
+use Rattle.constant_steps.specs.StepLaws.ConstantSwaps.{ConstantSwaps}
+use Rattle.constant_steps.specs.StepLaws.SwapPrograms.{put_decl, members_put}
+use Rattle.constant_steps.proofs.StepLaws.ConstantStepLaw.{constant-step}
+use Rattle.constant_steps.proofs.StepLaws.FurtherApart.{further-apart}
+use Rattle.constant_steps.proofs.StepLaws.StepUses.{step-with-uses}
+use Rattle.constant_steps.proofs.StepLaws.SwapProgram.{constant-codes, sources-after}
 use Rattle.order_runs.specs.RunSteps.Bared.{bare_source, bare_package, bare_members}
 use Rattle.order_runs.proofs.RunSteps.HeadersBared.{program_bared, program-bare}
 use Rattle.order_runs.proofs.RunSteps.SpansForgotten.{one-by-view, codes-alike}

@@ -12,19 +12,19 @@ use Rattle.go_tree.proofs.GoTypes.Agreeing.{some_same}
 use Rattle.typed_in_place.specs.ProgramReplaced.{All, at_last}
 use Rattle.run_rules.specs.Programs.{linked_file, linked_imports, decl_seen}
 use Rattle.run_rules.specs.Sites.{MarkRef, Site, part_span}
-use Rattle.splice_laws.specs.ConstantSteps.StepLaws.NamesOutside.{AllUsesThere}
-use Rattle.splice_laws.specs.ConstantSteps.StepLaws.PartsTyped.{HeaderTyped}
-use Rattle.splice_laws.specs.ConstantSteps.StepLaws.SwapUses.{AllSwapsThere}
-use Rattle.splice_laws.specs.ConstantSteps.StepLaws.ConstantUses.{FilesUse, PackageUses}
-use Rattle.splice_laws.specs.ConstantSteps.StepLaws.ConstantSwaps.{FilesSwapThere, PackageSwapsThere, ConstantSwaps}
-use Rattle.splice_laws.proofs.ConstantSteps.StepLaws.StepUses.{use-of-constant}
-use Rattle.splice_laws.proofs.ConstantSteps.AfterStep.{at_package, at_nth}
-use Rattle.splice_laws.proofs.ConstantSteps.MarksFound.{nth_mapped}
-use Rattle.splice_laws.proofs.ConstantSteps.SimpleUses.{simple_uses, simple_swaps}
-use Rattle.splice_laws.specs.ConstantSteps.PlainUse.{linked_at}
-use Rattle.splice_laws.specs.ConstantSteps.QualifiedSteps.NamedUse.{NamedUse, NamedUseStands, PackagesStand}
-use Rattle.splice_laws.proofs.ConstantSteps.QualifiedSteps.NamedSwaps.{stand_beside}
-use Rattle.splice_laws.proofs.ConstantSteps.QualifiedSteps.UsesKnown.{ImportsSound, old_name, use_imports, old_before, use_before, use_after}
+use Rattle.constant_steps.specs.StepLaws.NamesOutside.{AllUsesThere}
+use Rattle.constant_steps.specs.StepLaws.PartsTyped.{HeaderTyped}
+use Rattle.constant_steps.specs.StepLaws.SwapUses.{AllSwapsThere}
+use Rattle.constant_steps.specs.StepLaws.ConstantUses.{FilesUse, PackageUses}
+use Rattle.constant_steps.specs.StepLaws.ConstantSwaps.{FilesSwapThere, PackageSwapsThere, ConstantSwaps}
+use Rattle.constant_steps.proofs.StepLaws.StepUses.{use-of-constant}
+use Rattle.constant_steps.proofs.AfterStep.{at_package, at_nth}
+use Rattle.constant_steps.proofs.MarksFound.{nth_mapped}
+use Rattle.constant_steps.proofs.SimpleUses.{simple_uses, simple_swaps}
+use Rattle.constant_steps.specs.PlainUse.{linked_at}
+use Rattle.constant_steps.specs.QualifiedSteps.NamedUse.{NamedUse, NamedUseStands, PackagesStand}
+use Rattle.constant_steps.proofs.QualifiedSteps.NamedSwaps.{stand_beside}
+use Rattle.constant_steps.proofs.QualifiedSteps.UsesKnown.{ImportsSound, old_name, use_imports, old_before, use_before, use_after}
 use Rattle.order_runs.specs.ImportSteps.ImportingSteps.{MayBeDeclared}
 use Rattle.order_runs.proofs.ImportSteps.KnownThere.{known-there, named-otherwise}
 

@@ -11,13 +11,13 @@ use Rattle.go_kernel.specs.Kernel.{ImportPath}
 use Rattle.go_translation.specs.Packages.{Package, sources, paths_in}
 use Rattle.typed_in_place.specs.ProgramReplaced.{All}
 use Rattle.run_rules.specs.Programs.{decl_seen}
-use Rattle.splice_laws.specs.ConstantSteps.StepLaws.DeclStands.{AtNth}
-use Rattle.splice_laws.specs.ConstantSteps.StepLaws.PartsTyped.{HeaderTyped}
-use Rattle.splice_laws.specs.ConstantSteps.StepLaws.SwapUses.{AllSwapsThere}
-use Rattle.splice_laws.specs.ConstantSteps.StepLaws.ConstantSwaps.{FilesSwapThere, PackageSwapsThere, ConstantSwaps}
-use Rattle.splice_laws.specs.ConstantSteps.StepLaws.SwapPrograms.{DeclSwaps, FilesSwap, PackageSwaps}
-use Rattle.splice_laws.proofs.ConstantSteps.StepLaws.DeclSwapUses.{decl-swaps}
-use Rattle.splice_laws.proofs.ConstantSteps.StepLaws.PartsTyped.{DeclIsTyped, FilesTyped, PackageIsTyped, of-packages, decl-typed}
+use Rattle.constant_steps.specs.StepLaws.DeclStands.{AtNth}
+use Rattle.constant_steps.specs.StepLaws.PartsTyped.{HeaderTyped}
+use Rattle.constant_steps.specs.StepLaws.SwapUses.{AllSwapsThere}
+use Rattle.constant_steps.specs.StepLaws.ConstantSwaps.{FilesSwapThere, PackageSwapsThere, ConstantSwaps}
+use Rattle.constant_steps.specs.StepLaws.SwapPrograms.{DeclSwaps, FilesSwap, PackageSwaps}
+use Rattle.constant_steps.proofs.StepLaws.DeclSwapUses.{decl-swaps}
+use Rattle.constant_steps.proofs.StepLaws.PartsTyped.{DeclIsTyped, FilesTyped, PackageIsTyped, of-packages, decl-typed}
 use Rattle.order_runs.proofs.ImportCodes.PackagesCode.{sources-append}
 
 both-nth : {A : Type 0} (P Q R : A → Type 0) → ((a : A) → P a → Q a → R a) → (n : ℕ) (xs : List A) → AtNth P n xs → AtNth Q n xs → AtNth R n xs

@@ -15,8 +15,8 @@ use Rattle.typed_in_place.proofs.Collected.{same_types_declared}
 use Rattle.typed_in_place.proofs.ImportsMoved.{declared-moved, method-moved, body-moved}
 use Rattle.typed_in_place.proofs.ProgramsReplaced.{declare_alike}
 use Rattle.go_translation.specs.Packages.{Package, sources}
-use Rattle.splice_laws.specs.ConstantSteps.StepLaws.PartsTyped.{HeaderTyped}
-use Rattle.splice_laws.proofs.ConstantSteps.StepLaws.PartsTyped.{headers-typed}
+use Rattle.constant_steps.specs.StepLaws.PartsTyped.{HeaderTyped}
+use Rattle.constant_steps.proofs.StepLaws.PartsTyped.{headers-typed}
 use Rattle.order_runs.specs.ImportCodes.PackagesMoved.{PackagesMoved}
 use Rattle.order_runs.proofs.ImportCodes.HeadersUnder.{WholeMoved}
 use Rattle.order_runs.proofs.ImportCodes.PackagesCode as moved

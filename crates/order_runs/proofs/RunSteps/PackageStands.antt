@@ -9,12 +9,12 @@ use Rattle.typed_in_place.proofs.Rising.{and_first, and_second}
 use Rattle.go_translation.specs.Packages.{Package, has_path, has_number, are_distinct}
 use Rattle.run_rules.specs.Programs.{linked_package, linked_packages}
 use Rattle.run_rules.specs.Sites.{Where}
-use Rattle.splice_laws.specs.WrittenLiteral.LinkedNames.{NoneNumbered}
-use Rattle.splice_laws.specs.ConstantSteps.Alone.{PackageAt, this_package, a_later_package}
-use Rattle.splice_laws.specs.ConstantSteps.PlainUse.{linked_at}
-use Rattle.splice_laws.proofs.ConstantSteps.AfterStep.{same_number}
-use Rattle.splice_laws.proofs.ConstantSteps.NamesOutside.{equal_numbers}
-use Rattle.splice_laws.proofs.ConstantSteps.PlainImports.{Distinct}
+use Rattle.constant_steps.specs.WrittenLiteral.LinkedNames.{NoneNumbered}
+use Rattle.constant_steps.specs.Alone.{PackageAt, this_package, a_later_package}
+use Rattle.constant_steps.specs.PlainUse.{linked_at}
+use Rattle.constant_steps.proofs.AfterStep.{same_number}
+use Rattle.constant_steps.proofs.NamesOutside.{equal_numbers}
+use Rattle.constant_steps.proofs.PlainImports.{Distinct}
 use Rattle.order_runs.proofs.RunSteps.SeatedUses.{Among, first, later}
 
 -- ---- packages that are distinct beside others are so by themselves

@@ -21,21 +21,21 @@ use Rattle.run_rules.specs.Run.{Standing, Logged, Next, here_of, origin_of, is_c
 use Rattle.splice_laws.proofs.RunLaws.FoundSpans.{Placed}
 use Rattle.splice_laws.specs.ImportSplices.FormSplices.Laws.{MakesForm}
 use Rattle.splice_laws.proofs.ImportSplices.FormSplices.FormsFound.{step-makes-form}
-use Rattle.splice_laws.specs.ConstantSteps.StepLaws.ConstantSteps.{ConstantStep}
-use Rattle.splice_laws.specs.ConstantSteps.StepLaws.ConstantSwaps.{ConstantSwaps}
-use Rattle.splice_laws.specs.ConstantSteps.StepLaws.SwapPrograms.{members_put}
-use Rattle.splice_laws.proofs.ConstantSteps.StepLaws.StepMeaning.{typed-after, distinct-before}
-use Rattle.splice_laws.proofs.ConstantSteps.StepLaws.StepSwaps.{swaps-when-typed}
-use Rattle.splice_laws.proofs.ConstantSteps.StepLaws.StepUses.{step-with-uses}
-use Rattle.splice_laws.proofs.ConstantSteps.StepLaws.SwapProgram.{constant-codes}
+use Rattle.constant_steps.specs.StepLaws.ConstantSteps.{ConstantStep}
+use Rattle.constant_steps.specs.StepLaws.ConstantSwaps.{ConstantSwaps}
+use Rattle.constant_steps.specs.StepLaws.SwapPrograms.{members_put}
+use Rattle.constant_steps.proofs.StepLaws.StepMeaning.{typed-after, distinct-before}
+use Rattle.constant_steps.proofs.StepLaws.StepSwaps.{swaps-when-typed}
+use Rattle.constant_steps.proofs.StepLaws.StepUses.{step-with-uses}
+use Rattle.constant_steps.proofs.StepLaws.SwapProgram.{constant-codes}
 use Rattle.order_runs.specs.CycleRuns.StepCycles.PackagesAlike.{import_key}
 use Rattle.order_runs.proofs.CycleRuns.StepCycles.StepAlike.{one-changed, both-changed, found-placed}
 use Rattle.order_runs.proofs.CycleLaws.BareWith as spans
-use Rattle.splice_laws.specs.ConstantSteps.PlainUse.{AllTheUse, PlainUse, UseStands}
-use Rattle.splice_laws.proofs.ConstantSteps.PlainForms.{no_packages}
-use Rattle.splice_laws.proofs.ConstantSteps.PlainImports.{Distinct, distinct_sources, well, plain_imports}
-use Rattle.splice_laws.proofs.ConstantSteps.PlainLinked.{plain_linked}
-use Rattle.splice_laws.proofs.ConstantSteps.PlainSteps.{plain_swaps}
+use Rattle.constant_steps.specs.PlainUse.{AllTheUse, PlainUse, UseStands}
+use Rattle.constant_steps.proofs.PlainForms.{no_packages}
+use Rattle.constant_steps.proofs.PlainImports.{Distinct, distinct_sources, well, plain_imports}
+use Rattle.constant_steps.proofs.PlainLinked.{plain_linked}
+use Rattle.constant_steps.proofs.PlainSteps.{plain_swaps}
 use Rattle.order_runs.specs.RunSteps.Bared.{bare_package, bare_members}
 use Rattle.order_runs.specs.RunSteps.RunPackages.{members_of, packages_of}
 use Rattle.order_runs.specs.RunSteps.SameCode.{SameCode}

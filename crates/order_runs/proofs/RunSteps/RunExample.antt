@@ -31,9 +31,9 @@ use Rattle.run_rules.proofs.Instances.{stands_after, log_entry, next_by}
 use Rattle.run_rules.proofs.ModulesRead.{folder, small_module}
 use Rattle.run_rules.proofs.RunsOfConstants.{one_constant, one_constant_t0, one_constant_new, one_constant_run}
 use Rattle.run_rules.proofs.TokensFound.{tokens_by}
-use Rattle.splice_laws.specs.ConstantSteps.Alone.{no_constants, and_constant, constants_alone, no_decls, and_decl, no_files, and_file}
-use Rattle.splice_laws.specs.ConstantSteps.Alone as alone
-use Rattle.splice_laws.specs.ConstantSteps.PlainUse.{AllSimple}
+use Rattle.constant_steps.specs.Alone.{no_constants, and_constant, constants_alone, no_decls, and_decl, no_files, and_file}
+use Rattle.constant_steps.specs.Alone as alone
+use Rattle.constant_steps.specs.PlainUse.{AllSimple}
 use Rattle.order_runs.specs.RunSteps.RunPackages.{packages_of}
 use Rattle.order_runs.specs.RunSteps.PlainNext.{IsPlain, AllPlain}
 use Rattle.order_runs.proofs.RunSteps.PlainRuns.{module-means}

@@ -28,7 +28,7 @@ use Rattle.run_rules.specs.Naming.{unnamed_package}
 use Rattle.run_rules.specs.Steps.{At}
 use Rattle.run_rules.specs.Run.{Standing, here_of}
 use Rattle.splice_laws.specs.RunLaws.Reading.{FileReads, ProgramReads}
-use Rattle.splice_laws.proofs.ConstantSteps.MarksFound.{DeclaredThere, declared_there, StandsThere, stands_there}
+use Rattle.constant_steps.proofs.MarksFound.{DeclaredThere, declared_there, StandsThere, stands_there}
 
 -- ---- an identifier begins with no byte 0
 

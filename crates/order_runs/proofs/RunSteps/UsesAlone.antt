@@ -20,8 +20,8 @@ use Rattle.splice_laws.proofs.RunLaws.FoundSpans.{Placed}
 use Rattle.splice_laws.specs.ImportSplices.FormSplices.Laws.{MakesForm}
 use Rattle.splice_laws.proofs.ImportSplices.FormSplices.FormsFound.{step-makes-form}
 use Rattle.order_runs.proofs.CycleRuns.StepCycles.StepAlike.{found-placed}
-use Rattle.splice_laws.specs.ConstantSteps.PlainUse.{AllTheUse}
-use Rattle.splice_laws.proofs.ConstantSteps.NamesOutside.{equal_numbers}
+use Rattle.constant_steps.specs.PlainUse.{AllTheUse}
+use Rattle.constant_steps.proofs.NamesOutside.{equal_numbers}
 use Rattle.order_runs.proofs.RunSteps.SeatedUses.{Among, first, later, Seated, sites-seated}
 use Rattle.order_runs.proofs.RunSteps.TokenPlaces.{tokens-rise}
 use Rattle.order_runs.proofs.RunSteps.SpanPlaces.{DeclIn, DeclsIn}

@@ -4,8 +4,8 @@ use Rattle.std.specs.Prelude.{◌≡◌, ℕ, Bool, true, List, Some}
 use Rattle.go_tree.specs.Tree.{NameAt, Expr, ident, selector, Stmts}
 use Rattle.go_tree.specs.File.{Decl, File}
 use Rattle.pkg_graph.specs.Package.{Package}
-use Rattle.splice_laws.specs.ConstantSteps.StepLaws.Stands.{ExprStands, StmtsStands}
-use Rattle.splice_laws.specs.ConstantSteps.StepLaws.DeclStands.{DeclStands}
+use Rattle.constant_steps.specs.StepLaws.Stands.{ExprStands, StmtsStands}
+use Rattle.constant_steps.specs.StepLaws.DeclStands.{DeclStands}
 use Rattle.run_rules.specs.Surroundings.{Use, Place}
 use Rattle.run_rules.specs.Programs.{top_place, body_place, decl_seen}
 use Rattle.run_rules.specs.Places.{expr_seen, stmts_seen}

@@ -5,7 +5,7 @@ use Rattle.std.specs.Prelude.{◌≡◌, List, Some, None, slice_get}
 use Rattle.go_tree.specs.Tree.{Stmt}
 use Rattle.go_tree.specs.File.{Decl}
 use Rattle.pkg_graph.specs.Package.{Package}
-use Rattle.splice_laws.specs.ConstantSteps.StepLaws.DeclStands.{DeclStands}
+use Rattle.constant_steps.specs.StepLaws.DeclStands.{DeclStands}
 use Rattle.run_rules.specs.Surroundings.{Place}
 use Rattle.run_rules.specs.Rewriting.{Changes}
 use Rattle.run_rules.specs.Respanned.{decl_with}

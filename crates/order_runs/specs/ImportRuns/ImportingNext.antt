@@ -11,7 +11,7 @@ use Rattle.run_rules.specs.Steps.{At, same_here}
 use Rattle.run_rules.specs.Run.{Standing, Logged, Next, is_commented}
 use Rattle.order_runs.specs.CycleRuns.ImportCycles.ImportSteps.{packages_added}
 use Rattle.order_runs.specs.CycleRuns.OrderCycles.Steps.{site_added, KeepsImportLookUps}
-use Rattle.splice_laws.specs.ConstantSteps.QualifiedSteps.NamedUse.{NamedUse, NamedUseStands}
+use Rattle.constant_steps.specs.QualifiedSteps.NamedUse.{NamedUse, NamedUseStands}
 use Rattle.order_runs.specs.RunSteps.RunPackages.{members_of, packages_of}
 use Rattle.order_runs.specs.ImportCodes.PackagesMoved.{ImportsStand}
 use Rattle.order_runs.specs.ImportSteps.ImportingSteps.{MayBeDeclared}

@@ -8,8 +8,8 @@ use Rattle.go_translation.specs.SameMeaning.{Packages, WellTyped, with_further}
 use Rattle.typed_in_place.specs.ImportRule.{imports_sound}
 use Rattle.run_rules.specs.Programs.{linked_file, linked_imports}
 use Rattle.run_rules.specs.Sites.{MarkRef, Where, Site}
-use Rattle.splice_laws.specs.ConstantSteps.QualifiedSteps.NamedUse.{NamedUse, NamedUseStands, PackagesStand}
-use Rattle.splice_laws.specs.ConstantSteps.QualifiedSteps.NamedRuns.{named_members}
+use Rattle.constant_steps.specs.QualifiedSteps.NamedUse.{NamedUse, NamedUseStands, PackagesStand}
+use Rattle.constant_steps.specs.QualifiedSteps.NamedRuns.{named_members}
 use Rattle.order_runs.specs.RunSteps.Bared.{bare_members}
 use Rattle.order_runs.specs.ImportCodes.PackagesMoved.{PackagesMoved, ImportsStand}
 

@@ -8,8 +8,8 @@ use Rattle.run_rules.specs.Sites.{MarkRef, Where, a_constant, an_expr, where_is,
 use Rattle.run_rules.specs.Steps.{At}
 use Rattle.run_rules.specs.Run.{Standing, Logged, Next, Run, ends, goes_on}
 use Rattle.order_runs.specs.CycleRuns.StepCycles.Steps.{SameImports}
-use Rattle.splice_laws.specs.ConstantSteps.Alone.{PlainFiles}
-use Rattle.splice_laws.specs.ConstantSteps.PlainUse.{type_marked, AllSimple}
+use Rattle.constant_steps.specs.Alone.{PlainFiles}
+use Rattle.constant_steps.specs.PlainUse.{type_marked, AllSimple}
 
 -- The use is the constant's name, in the constant's own package, and not in its declaration. The constant is declared
 -- as the name of another constant of the package block, without a type. The file keeps its imports. All declarations

@@ -30,8 +30,8 @@ use Rattle.run_rules.specs.Texts.{FileText}
 use Rattle.splice_laws.specs.RunLaws.Reading.{FileReads, FileAt, ProgramReads, OnePathEach}
 use Rattle.splice_laws.proofs.RunLaws.FoundSpans.{Placed}
 use Rattle.go_read.specs.SpellsWeight.{weights_of}
-use Rattle.splice_laws.specs.FormImports.ImportLaws.Steps.{names_standing, binders_in, binders_of}
-use Rattle.splice_laws.proofs.FormImports.ImportLaws.IdentifiersWith.{identifiers-with}
+use Rattle.constant_steps.specs.FormImports.ImportLaws.Steps.{names_standing, binders_in, binders_of}
+use Rattle.constant_steps.proofs.FormImports.ImportLaws.IdentifiersWith.{identifiers-with}
 use Rattle.splice_laws.specs.ImportSplices.FormSplices.Laws.{MakesForm}
 use Rattle.splice_laws.proofs.ImportSplices.FormSplices.FormsFound.{step-makes-form}
 use Rattle.order_runs.proofs.RunSteps.SeatedUses.{Seated}

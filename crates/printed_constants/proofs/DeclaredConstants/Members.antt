@@ -18,13 +18,13 @@ use Rattle.go_translation.specs.Packages.{sources, are_distinct, are_linked, are
 use Rattle.typed_in_place.specs.Aliases.{at_last}
 use Rattle.typed_in_place.specs.Declared.{HasNumber}
 use Rattle.typed_in_place.proofs.Rising.{and_first, and_second}
-use Rattle.splice_laws.proofs.WrittenLiteral.NamesMeant.{means_join}
-use Rattle.splice_laws.specs.ConstantSteps.Alone.{block_from}
-use Rattle.splice_laws.specs.ConstantSteps.PlainUse.{linked_at}
-use Rattle.splice_laws.proofs.ConstantSteps.MarksFound.{nth_mapped}
-use Rattle.splice_laws.proofs.ConstantSteps.NamesOutside.{linked_block}
-use Rattle.splice_laws.proofs.ConstantSteps.PlainImports.{Distinct, distinct_sources}
-use Rattle.splice_laws.proofs.ConstantSteps.QualifiedSteps.UsesMeant.{has_number}
+use Rattle.constant_steps.proofs.WrittenLiteral.NamesMeant.{means_join}
+use Rattle.constant_steps.specs.Alone.{block_from}
+use Rattle.constant_steps.specs.PlainUse.{linked_at}
+use Rattle.constant_steps.proofs.MarksFound.{nth_mapped}
+use Rattle.constant_steps.proofs.NamesOutside.{linked_block}
+use Rattle.constant_steps.proofs.PlainImports.{Distinct, distinct_sources}
+use Rattle.constant_steps.proofs.QualifiedSteps.UsesMeant.{has_number}
 use Rattle.alias_runs.specs.AliasSites.FirstAlias.{with_types}
 use Rattle.alias_runs.proofs.QualifiedAliases.Lacking.{world-lacks, program-lacks}
 use Rattle.order_runs.specs.CycleRuns.OrderCycles.Orders.{AllOrdered}

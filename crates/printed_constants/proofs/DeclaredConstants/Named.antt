@@ -18,12 +18,12 @@ use Rattle.go_tree.specs.GoTypes.Programs as source
 use Rattle.go_tree.proofs.GoTypes.Agreeing.{from_given}
 use Rattle.go_translation.specs.Packages.{are_well_typed}
 use Rattle.typed_in_place.specs.ImportRule.{imports_sound}
-use Rattle.splice_laws.proofs.WrittenLiteral.NamesMeant.{means_join, IsImport, Answered, matched_means, all_imports_match}
-use Rattle.splice_laws.proofs.ConstantSteps.MarksFound.{StandsThere, stands_there, DeclaredThere, declared_there, nth_mapped}
-use Rattle.splice_laws.proofs.ConstantSteps.NamesOutside.{MemberThere, member_there, linked_block}
-use Rattle.splice_laws.proofs.ConstantSteps.QualifiedSteps.Declared.{sound_there}
-use Rattle.splice_laws.proofs.ConstantSteps.QualifiedSteps.MembersNamed.{ByImport, by_import}
-use Rattle.splice_laws.proofs.ConstantSteps.QualifiedSteps.Targets.{by_number, numbered_by}
+use Rattle.constant_steps.proofs.WrittenLiteral.NamesMeant.{means_join, IsImport, Answered, matched_means, all_imports_match}
+use Rattle.constant_steps.proofs.MarksFound.{StandsThere, stands_there, DeclaredThere, declared_there, nth_mapped}
+use Rattle.constant_steps.proofs.NamesOutside.{MemberThere, member_there, linked_block}
+use Rattle.constant_steps.proofs.QualifiedSteps.Declared.{sound_there}
+use Rattle.constant_steps.proofs.QualifiedSteps.MembersNamed.{ByImport, by_import}
+use Rattle.constant_steps.proofs.QualifiedSteps.Targets.{by_number, numbered_by}
 use Rattle.order_runs.specs.CycleRuns.OrderCycles.Orders.{AllOrdered}
 use Rattle.typed_parts.specs.MarkedRuns.LinkedMembers.Laws.{HaveFiles}
 use Rattle.typed_parts.specs.MarkedRuns.NamedMarks.Named.{IsNamedConstant}

@@ -13,11 +13,11 @@ use Rattle.directive_scan.specs.Items.{is_predeclared, names_constant}
 use Rattle.pkg_graph.specs.Package.{SourceTree, Package, import_specs}
 use Rattle.pkg_graph.specs.Members.{Target, imported, member, predeclared, import_name, package_block, names_of_file}
 use Rattle.pkg_graph.specs.Reads.{Source}
-use Rattle.splice_laws.proofs.WrittenLiteral.NamesMeant.{means_join}
-use Rattle.splice_laws.proofs.ConstantSteps.MarksFound.{StandsThere, stands_there, DeclaredThere, declared_there}
-use Rattle.splice_laws.proofs.ConstantSteps.QualifiedSteps.Targets.{number_in, by_number, numbered_by}
+use Rattle.constant_steps.proofs.WrittenLiteral.NamesMeant.{means_join}
+use Rattle.constant_steps.proofs.MarksFound.{StandsThere, stands_there, DeclaredThere, declared_there}
+use Rattle.constant_steps.proofs.QualifiedSteps.Targets.{number_in, by_number, numbered_by}
 use Rattle.typed_parts.proofs.MarkedRuns.NamedMarks.ReadMarks.{TextsRead, marks-named}
-use Rattle.splice_laws.specs.PlaceMeanings.Laws.{AreNamesOf, StandingFilesHaveTheirNames}
+use Rattle.constant_steps.specs.PlaceMeanings.Laws.{AreNamesOf, StandingFilesHaveTheirNames}
 use Rattle.splice_laws.proofs.RunLaws.PathsOwn.{HasText, its_text}
 use Rattle.splice_laws.proofs.RunLaws.Reread.{file-reread}
 use Rattle.run_rules.specs.Inlining.{ModuleReads, ReadsAs}

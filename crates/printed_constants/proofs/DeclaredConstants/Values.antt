@@ -20,7 +20,7 @@ use Rattle.go_tree.specs.GoTypes.Collect.{DeclaredTypes, types_declared, package
 use Rattle.go_tree.proofs.GoTypes.Agreeing.{from_only}
 use Rattle.typed_in_place.specs.ProgramReplaced.{All, all_and}
 use Rattle.typed_parts.proofs.Walk.{there_is}
-use Rattle.splice_laws.proofs.ConstantSteps.StepLaws.PartsTyped.{TypedThere}
+use Rattle.constant_steps.proofs.StepLaws.PartsTyped.{TypedThere}
 use Rattle.run_rules.specs.Programs.{linked, world, imports_mean}
 use Rattle.run_rules.specs.Sites.{Where, a_constant, nth_constant, inlinable_in}
 use Rattle.printed_constants.specs.Printed.{FlatConstants, no_constants, and_constant, IsPrinted, some_constants, a_function as some_function}

@@ -24,13 +24,13 @@ use Rattle.typed_in_place.proofs.Blocks.{Fits}
 use Rattle.typed_in_place.proofs.Collected.{valued_settled}
 use Rattle.typed_in_place.proofs.Headers.{value_phase}
 use Rattle.typed_in_place.proofs.SettledNames.{block_of_package}
-use Rattle.splice_laws.proofs.WrittenLiteral.NamesMeant.{means_join}
-use Rattle.splice_laws.specs.ConstantSteps.Alone.{PackageAt}
-use Rattle.splice_laws.specs.ConstantSteps.PlainUse.{linked_at}
-use Rattle.splice_laws.proofs.ConstantSteps.FirstNames.{other_name}
-use Rattle.splice_laws.proofs.ConstantSteps.NamesOutside.{linked_block}
-use Rattle.splice_laws.proofs.ConstantSteps.PlainImports.{Distinct}
-use Rattle.splice_laws.proofs.ConstantSteps.QualifiedSteps.UsesMeant.{has_number}
+use Rattle.constant_steps.proofs.WrittenLiteral.NamesMeant.{means_join}
+use Rattle.constant_steps.specs.Alone.{PackageAt}
+use Rattle.constant_steps.specs.PlainUse.{linked_at}
+use Rattle.constant_steps.proofs.FirstNames.{other_name}
+use Rattle.constant_steps.proofs.NamesOutside.{linked_block}
+use Rattle.constant_steps.proofs.PlainImports.{Distinct}
+use Rattle.constant_steps.proofs.QualifiedSteps.UsesMeant.{has_number}
 use Rattle.alias_runs.specs.AliasSites.FirstAlias.{with_types}
 use Rattle.alias_runs.proofs.QualifiedAliases.Lacking.{world-lacks, program-lacks}
 use Rattle.run_rules.specs.Programs.{linked_file, linked_import, linked, world, imports_mean, top_env, package_number}

@@ -11,8 +11,8 @@ use Rattle.go_tree.specs.GoTypes.Operands.{Operand, named_operand}
 use Rattle.go_tree.specs.GoTypes.WellTyped.{well_typed}
 use Rattle.typed_in_place.proofs.Rising.{and_first, and_second}
 use Rattle.go_translation.specs.Packages.{sources, are_distinct, are_linked, are_well_typed}
-use Rattle.splice_laws.proofs.ConstantSteps.MarksFound.{StandsThere, stands_there, DeclaredThere, declared_there}
-use Rattle.splice_laws.proofs.ConstantSteps.PlainImports.{Distinct, distinct_sources}
+use Rattle.constant_steps.proofs.MarksFound.{StandsThere, stands_there, DeclaredThere, declared_there}
+use Rattle.constant_steps.proofs.PlainImports.{Distinct, distinct_sources}
 use Rattle.typed_parts.proofs.DottedImports.Imports.{no_operand}
 use Rattle.order_runs.proofs.ImportRuns.Listed.{among-order}
 use Rattle.order_runs.specs.CycleRuns.OrderCycles.Orders.{AllOrdered}

@@ -22,11 +22,11 @@ use Rattle.go_tree.specs.GoTypes.WellTyped.{well_typed}
 use Rattle.go_tree.proofs.GoTypes.Agreeing.{from_both, from_only}
 use Rattle.typed_in_place.specs.ProgramReplaced.{All, all_and}
 use Rattle.typed_parts.proofs.Walk.{there_is}
-use Rattle.splice_laws.specs.ConstantSteps.StepLaws.DeclStands.{AtNth}
-use Rattle.splice_laws.specs.ConstantSteps.StepLaws.PartsTyped.{HeaderTyped}
-use Rattle.splice_laws.proofs.ConstantSteps.StepLaws.PartsTyped.{headers-typed, TypedThere, DeclIsTyped, FilesTyped, PackageIsTyped, of-packages}
-use Rattle.splice_laws.specs.ConstantSteps.Alone.{PackageAt, this_package, a_later_package}
-use Rattle.splice_laws.specs.ConstantSteps.PlainUse.{linked_at}
+use Rattle.constant_steps.specs.StepLaws.DeclStands.{AtNth}
+use Rattle.constant_steps.specs.StepLaws.PartsTyped.{HeaderTyped}
+use Rattle.constant_steps.proofs.StepLaws.PartsTyped.{headers-typed, TypedThere, DeclIsTyped, FilesTyped, PackageIsTyped, of-packages}
+use Rattle.constant_steps.specs.Alone.{PackageAt, this_package, a_later_package}
+use Rattle.constant_steps.specs.PlainUse.{linked_at}
 use Rattle.run_rules.specs.Programs.{linked_file, linked, world, imports_mean}
 use Rattle.run_rules.specs.Sites.{Where, Inlinable, a_constant, an_alias, constant_in_spec, less, nth_constant, aliased, inlinable_in}
 

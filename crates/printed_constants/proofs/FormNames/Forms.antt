@@ -13,7 +13,7 @@ use Rattle.go_tree.specs.ScopeNames.FreeNames.{names_of}
 use Rattle.go_tree.specs.ScopeNames.Identifiers.{identifiers}
 use Rattle.go_tree.specs.ScopeNames.Means.{Environment, means, is_blank, numbered, predeclared, outermost}
 use Rattle.go_tree.specs.ScopeNames.Occurrences.{means_import}
-use Rattle.splice_laws.specs.FormImports.OwnNames.{AllOwn}
+use Rattle.constant_steps.specs.FormImports.OwnNames.{AllOwn}
 use Rattle.import_rules.specs.SettledNames.{IsOwnName}
 use Rattle.import_rules.specs.Needs.{serves, serving_from, serving, avoided}
 use Rattle.pkg_graph.specs.Package.{Package}
@@ -24,8 +24,8 @@ use Rattle.run_rules.specs.Naming.{Named, no_span, fuel_for, fresh_name, names_b
 use Rattle.run_rules.specs.Steps.{At}
 use Rattle.run_rules.specs.Run.{Standing, Logged, Next, is_commented}
 use Rattle.run_rules.proofs.NamesFound.{found_is_fresh}
-use Rattle.splice_laws.specs.FormImports.ImportLaws.Steps.{binders_of}
-use Rattle.splice_laws.proofs.FormImports.ImportLaws.StepNames.{FoundWell, found_well}
+use Rattle.constant_steps.specs.FormImports.ImportLaws.Steps.{binders_of}
+use Rattle.constant_steps.proofs.FormImports.ImportLaws.StepNames.{FoundWell, found_well}
 use Rattle.order_runs.specs.CycleRuns.OrderCycles.NewNames.{FewNames}
 use Rattle.put_names.specs.WrittenNames.NamedPackages.{AreOfPackages}
 

@@ -27,7 +27,7 @@ use Rattle.go_tree.proofs.GoTypes.Agreeing.{from_given, from_both, from_only}
 use Rattle.typed_in_place.specs.ProgramReplaced.{All, all_and}
 use Rattle.typed_parts.proofs.Walk.{met, there_is}
 use Rattle.typed_parts.proofs.DottedImports.Imports.{no_operand}
-use Rattle.splice_laws.proofs.ConstantSteps.StepLaws.PartsTyped.{TypedThere, DeclIsTyped}
+use Rattle.constant_steps.proofs.StepLaws.PartsTyped.{TypedThere, DeclIsTyped}
 use Rattle.order_runs.proofs.RunSteps.SeatedUses.{Among, first, later}
 use Rattle.typed_parts.specs.StandingUses.ImportUses.Parts.{EachSeen}
 use Rattle.run_rules.specs.Surroundings.{Use, other, called, alone, a_slot, Place, Seen, seen, seen_stmt, alike, head_use, later_uses, arg_uses, value_use, inner_slot, in_slot, callee_place, comma_slot, after_stmt, at_stmt, in_constant}

@@ -14,7 +14,7 @@ use Rattle.order_runs.proofs.RunSteps.PackageStands.{StandsAt, package-stands}
 use Rattle.order_runs.proofs.RunSteps.SeatedUses.{Among, Seated}
 use Rattle.put_names.specs.Uses.{IsUsedByName}
 use Rattle.put_nodes.specs.Put.{IsSomeName, alone, qualified}
-use Rattle.splice_laws.proofs.ConstantSteps.MarksFound.{marked_so}
+use Rattle.constant_steps.proofs.MarksFound.{marked_so}
 use Rattle.order_runs.proofs.CycleRuns.ImportCycles.ImportStep.{placed}
 use Rattle.splice_laws.proofs.RunLaws.FoundSpans.{Placed}
 use Rattle.run_rules.specs.Programs.{in_dependency_order, linked, top_env, decl_seen}

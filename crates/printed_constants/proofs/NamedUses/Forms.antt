@@ -6,7 +6,7 @@ use Rattle.go_tree.specs.Tree.{Expr, ident, selector}
 use Rattle.pkg_graph.specs.Package.{Package}
 use Rattle.go_tree.specs.GoTypes.Answers.{given, otherwise}
 use Rattle.splice_laws.proofs.ImportSplices.FormSplices.FormsFound.{step-makes-form}
-use Rattle.splice_laws.specs.FormImports.Written.{NoneUnnamed}
+use Rattle.constant_steps.specs.FormImports.Written.{NoneUnnamed}
 use Rattle.go_tree.specs.ScopeNames.Identifiers.{expr_identifiers}
 use Rattle.put_names.specs.Uses.{IsDeclaredAsName, as_name, as_member, UsesConstant}
 use Rattle.put_names.proofs.Forms.{Qualifies, nothing, its_name, member_view, home_of, IsFormBy, by_obstacle, reduced_is}

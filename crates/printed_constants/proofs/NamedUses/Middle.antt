@@ -13,7 +13,7 @@ use Rattle.go_tree.specs.GoTypes.Answers.{given}
 use Rattle.go_tree.proofs.GoTypes.Agreeing.{from_given}
 use Rattle.run_rules.specs.Sites.{MarkRef, Where, Inlinable, a_constant, where_is, inlinable, inlinable_in, members_in, member_of, outer}
 use Rattle.run_rules.specs.Steps.{At, same_here, change_nth, with_file}
-use Rattle.splice_laws.proofs.ConstantSteps.MarksFound.{StandsThere, stands_there, DeclaredThere, declared_there}
+use Rattle.constant_steps.proofs.MarksFound.{StandsThere, stands_there, DeclaredThere, declared_there}
 use Rattle.order_runs.proofs.CycleRuns.OrderedSteps.Members.{changed-one, still-one}
 use Rattle.typed_parts.proofs.MarkedRuns.KeptMarks.Changed.{name-stays}
 use Rattle.printed_constants.specs.NamedUses.Names.{IsConstantOf}

@@ -29,7 +29,7 @@ use Rattle.run_rules.specs.Run.{Standing, Logged, Next, here_of}
 use Rattle.run_rules.specs.Sites.{MarkRef, Where}
 use Rattle.run_rules.specs.Steps.{At, change_nth, added_decls, spec_for}
 use Rattle.run_rules.specs.Surroundings.{Place}
-use Rattle.splice_laws.specs.FormImports.ImportLaws.Steps.{binders_of}
+use Rattle.constant_steps.specs.FormImports.ImportLaws.Steps.{binders_of}
 use Rattle.order_runs.specs.CycleRuns.ImportCycles.ImportSteps.{file_added, packages_added, where_added}
 use Rattle.order_runs.specs.CycleRuns.OrderCycles.NewNames.{NamesByPath, FewNames}
 use Rattle.order_runs.proofs.CycleRuns.ImportCycles.ImportStep.{placed}

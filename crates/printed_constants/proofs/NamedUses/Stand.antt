@@ -19,8 +19,8 @@ use Rattle.go_tree.specs.GoTypes.Answers.{given, one_of, otherwise, is_among, is
 use Rattle.go_tree.specs.GoTypes.Entities.{is_exported}
 use Rattle.go_tree.proofs.GoTypes.Agreeing.{from_given}
 use Rattle.go_translation.specs.Packages.{are_well_typed}
-use Rattle.splice_laws.specs.FormImports.ImportLaws.Steps.{binders_in, binders_of}
-use Rattle.splice_laws.specs.FormImports.Written.{NoneUnnamed}
+use Rattle.constant_steps.specs.FormImports.ImportLaws.Steps.{binders_in, binders_of}
+use Rattle.constant_steps.specs.FormImports.Written.{NoneUnnamed}
 use Rattle.import_rules.specs.Needs.{avoided}
 use Rattle.splice_laws.proofs.ImportSplices.FormSplices.FormsFound.{step-makes-form}
 use Rattle.order_runs.specs.RunSteps.RunPackages.{members_of}
@@ -29,11 +29,11 @@ use Rattle.typed_parts.specs.StandingUses.ImportUses.Parts.{EachSeen}
 use Rattle.put_names.specs.Uses.{IsDeclaredAsName, as_name, as_member, IsUsedByName, UsesConstant}
 use Rattle.put_names.proofs.Forms.{home_of, IsFormBy, by_obstacle, reduced_is}
 use Rattle.put_nodes.specs.Put.{IsSomeName, alone, qualified}
-use Rattle.splice_laws.specs.ConstantSteps.Alone.{type_in, spec_type}
-use Rattle.splice_laws.specs.ConstantSteps.PlainUse.{type_marked}
-use Rattle.splice_laws.specs.ConstantSteps.QualifiedSteps.MemberNames.{NamesMember, own_member, imported_member}
-use Rattle.splice_laws.specs.ConstantSteps.QualifiedSteps.NamedUse.{NamedUse}
-use Rattle.splice_laws.proofs.ConstantSteps.MarksFound.{member_of_mark, named_member, marked_so, both_none, StandsThere, stands_there, DeclaredThere, declared_there}
+use Rattle.constant_steps.specs.Alone.{type_in, spec_type}
+use Rattle.constant_steps.specs.PlainUse.{type_marked}
+use Rattle.constant_steps.specs.QualifiedSteps.MemberNames.{NamesMember, own_member, imported_member}
+use Rattle.constant_steps.specs.QualifiedSteps.NamedUse.{NamedUse}
+use Rattle.constant_steps.proofs.MarksFound.{member_of_mark, named_member, marked_so, both_none, StandsThere, stands_there, DeclaredThere, declared_there}
 use Rattle.order_runs.specs.CycleRuns.ImportCycles.ImportSteps.{file_added, packages_added, where_added}
 use Rattle.order_runs.specs.CycleRuns.ImportCycles.LookedUp.{specs_looked_up, decl_looked_up}
 use Rattle.order_runs.specs.CycleRuns.OrderCycles.NewNames.{NamesByPath, FewNames}

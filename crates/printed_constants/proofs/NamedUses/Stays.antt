@@ -14,7 +14,7 @@ use Rattle.go_tree.specs.GoTypes.Agreement.{In}
 use Rattle.go_tree.specs.GoTypes.Answers.{given, is_among}
 use Rattle.go_tree.specs.GoTypes.Entities.{is_exported}
 use Rattle.go_tree.proofs.GoTypes.Agreeing.{from_given}
-use Rattle.splice_laws.proofs.ConstantSteps.MarksFound.{DeclaredThere, declared_there}
+use Rattle.constant_steps.proofs.MarksFound.{DeclaredThere, declared_there}
 use Rattle.order_runs.proofs.RunSteps.SeatedUses.{Among, first}
 use Rattle.typed_parts.specs.StandingUses.ImportUses.Parts.{IsNoImport}
 use Rattle.typed_parts.specs.StandingUses.Laws.{IsNamedOnce}

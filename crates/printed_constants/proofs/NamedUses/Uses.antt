@@ -2,8 +2,8 @@
 -- each marked constant is declared so after it.
 use Rattle.std.proofs.Common.{◌≡◌, ◌≤◌, true, List}
 use Rattle.go_translation.specs.Packages.{are_well_typed}
-use Rattle.splice_laws.specs.FormImports.OwnNames.{AllOwn}
-use Rattle.splice_laws.specs.FormImports.Written.{NoneUnnamed}
+use Rattle.constant_steps.specs.FormImports.OwnNames.{AllOwn}
+use Rattle.constant_steps.specs.FormImports.Written.{NoneUnnamed}
 use Rattle.go_tree.specs.ScopeNames.Identifiers.{expr_identifiers}
 use Rattle.order_runs.specs.RunSteps.RunPackages.{members_of}
 use Rattle.put_names.specs.Uses.{IsUsedByName, UsesConstant}

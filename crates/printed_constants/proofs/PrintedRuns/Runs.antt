@@ -10,7 +10,7 @@ use Rattle.run_rules.specs.Sites.{MarkRef}
 use Rattle.run_rules.specs.Steps.{At, change_nth}
 use Rattle.run_rules.proofs.OneRun.{one_next}
 use Rattle.pkg_graph.specs.Reads.{Source}
-use Rattle.splice_laws.specs.FormImports.OwnNames.{AllOwn}
+use Rattle.constant_steps.specs.FormImports.OwnNames.{AllOwn}
 use Rattle.order_runs.specs.RunSteps.RunPackages.{members_of}
 use Rattle.order_runs.proofs.CycleRuns.Runs.{linked-names}
 use Rattle.put_names.specs.Uses.{UsesConstant}

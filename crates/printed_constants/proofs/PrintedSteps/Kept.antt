@@ -1,7 +1,7 @@
 -- Programs of constants and of functions that print them, as read and after a step.
 use Rattle.std.proofs.Common.{◌+◌, ◌≤◌, List, arith}
 use Rattle.pkg_graph.specs.Reads.{Source}
-use Rattle.splice_laws.specs.FormImports.OwnNames.{ReadPackagesAreNamed}
+use Rattle.constant_steps.specs.FormImports.OwnNames.{ReadPackagesAreNamed}
 use Rattle.order_runs.proofs.CycleRuns.Runs.{linked-names}
 use Rattle.typed_parts.specs.MarkedRuns.KeptMarks.Laws.{StepsKeepNamed}
 use Rattle.typed_parts.specs.MarkedRuns.KeptMarks.Over.{IsOverName}

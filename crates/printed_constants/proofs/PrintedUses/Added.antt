@@ -4,10 +4,10 @@ use Rattle.std.specs.Prelude.{slice_get}
 use Rattle.go_tree.specs.declared.spans.Span.{Span}
 use Rattle.go_tree.specs.File.{Decl}
 use Rattle.pkg_graph.specs.Package.{SourceTree, Package}
-use Rattle.splice_laws.proofs.ConstantSteps.AfterStep.{nth_changed}
-use Rattle.splice_laws.proofs.ConstantSteps.MarksFound.{StandsThere, stands_there}
-use Rattle.splice_laws.specs.ConstantSteps.Alone.{PlainFiles}
-use Rattle.splice_laws.specs.ConstantSteps.PlainUse.{AllSimple}
+use Rattle.constant_steps.proofs.AfterStep.{nth_changed}
+use Rattle.constant_steps.proofs.MarksFound.{StandsThere, stands_there}
+use Rattle.constant_steps.specs.Alone.{PlainFiles}
+use Rattle.constant_steps.specs.PlainUse.{AllSimple}
 use Rattle.order_runs.specs.CycleRuns.ImportCycles.ImportSteps.{file_added, packages_added, where_added}
 use Rattle.order_runs.proofs.CycleRuns.ImportCycles.ImportStep.{placed}
 use Rattle.order_runs.specs.CycleRuns.Linked.{WritesFile}

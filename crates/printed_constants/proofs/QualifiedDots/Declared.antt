@@ -9,9 +9,9 @@ use Rattle.go_tree.specs.GoTypes.Programs.{headed, headed_package, block_names}
 use Rattle.go_tree.specs.GoTypes.Collect.{DeclaredTypes, types_declared}
 use Rattle.go_tree.specs.GoTypes.WellTyped.{well_typed}
 use Rattle.typed_in_place.specs.ProgramReplaced.{All, all_and}
-use Rattle.splice_laws.specs.ConstantSteps.StepLaws.DeclStands.{AtNth}
-use Rattle.splice_laws.specs.ConstantSteps.StepLaws.PartsTyped.{HeaderTyped}
-use Rattle.splice_laws.proofs.ConstantSteps.StepLaws.PartsTyped.{headers-typed, DeclIsTyped, FilesTyped, of-packages}
+use Rattle.constant_steps.specs.StepLaws.DeclStands.{AtNth}
+use Rattle.constant_steps.specs.StepLaws.PartsTyped.{HeaderTyped}
+use Rattle.constant_steps.proofs.StepLaws.PartsTyped.{headers-typed, DeclIsTyped, FilesTyped, of-packages}
 use Rattle.order_runs.specs.CycleRuns.OrderCycles.Orders.{AllOrdered}
 use Rattle.run_rules.specs.Programs.{in_dependency_order, numbers_of, linked_file, linked_package, linked_packages, linked, world, imports_mean}
 use Rattle.run_rules.specs.Sites.{Where}

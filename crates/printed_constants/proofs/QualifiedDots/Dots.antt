@@ -26,7 +26,7 @@ use Rattle.go_tree.specs.GoTypes.Collect.{package_constants}
 use Rattle.go_tree.specs.GoTypes.WellTyped.{receiver_of}
 use Rattle.go_tree.proofs.GoTypes.Agreeing.{from_given, from_both, from_only}
 use Rattle.typed_in_place.specs.ProgramReplaced.{All, all_and}
-use Rattle.splice_laws.proofs.ConstantSteps.StepLaws.PartsTyped.{TypedThere, DeclIsTyped}
+use Rattle.constant_steps.proofs.StepLaws.PartsTyped.{TypedThere, DeclIsTyped}
 use Rattle.run_rules.specs.Surroundings.{Use, other, called, alone, a_slot, Place, Seen, seen, seen_stmt, alike, head_use, later_uses, arg_uses, value_use, inner_slot, in_slot, callee_place, comma_slot, after_stmt, at_stmt, in_constant}
 use Rattle.run_rules.specs.Places.{expr_seen, all_seen, stmt_seen, stmts_seen, params_seen, sig_seen}
 use Rattle.run_rules.specs.Programs.{linked_imports, linked_file, world, imports_mean, top_place, headed_func, body_place, constants_at_top, receiver_seen, decl_seen}

@@ -30,9 +30,9 @@ use Rattle.run_rules.specs.Respanned.{import_spec_with, import_decl_with, decl_w
 use Rattle.run_rules.specs.Run.{Standing, Logged, Next, here_of, origin_of, is_commented}
 use Rattle.run_rules.specs.Sites.{MarkRef, Where, Site, imported_by, outer}
 use Rattle.run_rules.specs.Steps.{At, same_here, change_nth, means_import, uses_import, added_decls, new_decls, file_between, packages_between, where_between}
-use Rattle.splice_laws.specs.FormImports.ImportLaws.Steps.{names_standing, used_before, used_after}
-use Rattle.splice_laws.proofs.FormImports.ImportLaws.GraphImports.{map_append, map_twice}
-use Rattle.splice_laws.proofs.FormImports.ImportLaws.StepImports.{removed_are_unused}
+use Rattle.constant_steps.specs.FormImports.ImportLaws.Steps.{names_standing, used_before, used_after}
+use Rattle.constant_steps.proofs.FormImports.ImportLaws.GraphImports.{map_append, map_twice}
+use Rattle.constant_steps.proofs.FormImports.ImportLaws.StepImports.{removed_are_unused}
 use Rattle.order_runs.specs.CycleRuns.ImportCycles.ImportSteps.{file_added, packages_added}
 use Rattle.order_runs.specs.CycleRuns.ImportCycles.LookedUp.{decl_looked_up}
 use Rattle.order_runs.specs.CycleRuns.KeptImports.Files.{RemovesNoneNamed, RemovesNoLookUps}

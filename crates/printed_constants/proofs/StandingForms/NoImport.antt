@@ -16,8 +16,8 @@ use Rattle.run_rules.specs.Obstacles.{Obstacle, Shadowed, obstacle_if, not_acces
 use Rattle.run_rules.specs.Reduced.{Reduced, becomes, kept, home_place, constant_form, name_obstacle, named_form}
 use Rattle.run_rules.specs.Run.{Standing, is_commented}
 use Rattle.run_rules.specs.Steps.{At, same_here, Found, means_import, named_by_import}
-use Rattle.splice_laws.proofs.ConstantSteps.MarksFound.{both_none}
-use Rattle.splice_laws.proofs.ConstantSteps.NamesOutside.{unshadowed}
+use Rattle.constant_steps.proofs.MarksFound.{both_none}
+use Rattle.constant_steps.proofs.NamesOutside.{unshadowed}
 use Rattle.typed_parts.specs.StandingUses.ImportUses.Parts.{IsNoImport}
 use Rattle.splice_laws.specs.ImportSplices.FormSplices.Laws.{MakesForm}
 use Rattle.put_names.specs.Uses.{IsDeclaredAsName, as_name, as_member}

@@ -9,7 +9,7 @@ use Rattle.go_tree.specs.Tree.{Expr, ident}
 use Rattle.go_tree.specs.File.{ImportSpec, ImportDecl, Decl, File}
 use Rattle.go_tree.specs.ScopeNames.Identifiers.{decl_identifiers}
 use Rattle.import_rules.specs.declared.new_import.NewImport.{NewImport}
-use Rattle.splice_laws.proofs.FormImports.ImportLaws.GraphImports.{map_append}
+use Rattle.constant_steps.proofs.FormImports.ImportLaws.GraphImports.{map_append}
 use Rattle.pkg_graph.specs.Package.{SourceTree, Package, specs_in, import_specs}
 use Rattle.pkg_graph.specs.Members.{name_or, import_name}
 use Rattle.go_tree.specs.GoTypes.Agreement.{In}

@@ -13,9 +13,9 @@ use Rattle.pkg_graph.specs.Members.{name_or, import_name}
 use Rattle.go_tree.specs.GoTypes.Agreement.{In, head}
 use Rattle.go_translation.specs.Packages as translated
 use Rattle.go_translation.specs.Packages.{are_well_typed}
-use Rattle.splice_laws.specs.FormImports.OwnNames.{AllOwn}
-use Rattle.splice_laws.specs.FormImports.Written.{NoneUnnamed}
-use Rattle.splice_laws.specs.FormImports.ImportLaws.Steps.{removed_specs}
+use Rattle.constant_steps.specs.FormImports.OwnNames.{AllOwn}
+use Rattle.constant_steps.specs.FormImports.Written.{NoneUnnamed}
+use Rattle.constant_steps.specs.FormImports.ImportLaws.Steps.{removed_specs}
 use Rattle.order_runs.specs.RunSteps.RunPackages.{members_of}
 use Rattle.order_runs.proofs.RunSteps.SeatedUses.{Seated}
 use Rattle.put_names.specs.Uses.{IsUsedByName, UsesConstant}

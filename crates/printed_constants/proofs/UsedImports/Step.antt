@@ -33,7 +33,7 @@ use Rattle.run_rules.specs.Run.{Standing, Logged, Next, here_of, origin_of, is_c
 use Rattle.run_rules.specs.Sites.{MarkRef, Where, Site, an_expr, part_span, imported_by, outer}
 use Rattle.run_rules.specs.Steps.{At, same_here, change_nth, changes_for, means_import, uses_import, added_decls, new_decl, new_decls, packages_between, where_between}
 use Rattle.run_rules.specs.Surroundings.{Use, Place, Seen, seen}
-use Rattle.splice_laws.specs.FormImports.ImportLaws.Steps.{used_before, used_after, removed_specs}
+use Rattle.constant_steps.specs.FormImports.ImportLaws.Steps.{used_before, used_after, removed_specs}
 use Rattle.order_runs.proofs.RunSteps.SeatedUses.{Among, first, later, Seated}
 use Rattle.order_runs.specs.ImportSteps.ImportingSteps.{MayBeDeclared}
 use Rattle.typed_parts.specs.StandingUses.ImportUses.Parts.{EachSeen}

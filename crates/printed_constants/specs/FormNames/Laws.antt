@@ -1,7 +1,7 @@
 -- The law of the names that forms have for packages. It is the contract of a function of this crate (Go specification,
 -- Import declarations; Blank identifier).
 use Rattle.std.specs.Prelude.{◌≡◌, ℕ, false, List}
-use Rattle.splice_laws.specs.FormImports.OwnNames.{AllOwn}
+use Rattle.constant_steps.specs.FormImports.OwnNames.{AllOwn}
 use Rattle.order_runs.specs.CycleRuns.OrderCycles.NewNames.{FewNames}
 use Rattle.run_rules.specs.Naming.{names_by}
 use Rattle.run_rules.specs.Run.{Standing, Logged, Next}

@@ -1,7 +1,7 @@
 -- The laws of constants that are declared as names of constants. Each is the contract of a function of this crate (Go
 -- specification, Constant declarations; Qualified identifiers; Exported identifiers).
 use Rattle.std.specs.Prelude.{◌≤◌, List, []}
-use Rattle.splice_laws.specs.FormImports.OwnNames.{AllOwn}
+use Rattle.constant_steps.specs.FormImports.OwnNames.{AllOwn}
 use Rattle.go_translation.specs.SameMeaning.{WellTyped}
 use Rattle.typed_parts.specs.MarkedRuns.NamedMarks.Named.{AllNamed}
 use Rattle.typed_parts.specs.MarkedRuns.SettledConstants.Programs.{IsReady}

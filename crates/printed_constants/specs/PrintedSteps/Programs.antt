@@ -2,7 +2,7 @@
 -- Packages; Package clause; the limits are this project's own).
 use Rattle.std.specs.Prelude.{◌≡◌, ◌+◌, ◌≤◌, true, List, []}
 use Rattle.pkg_graph.specs.Reads.{Source}
-use Rattle.splice_laws.specs.FormImports.OwnNames.{AllOwn}
+use Rattle.constant_steps.specs.FormImports.OwnNames.{AllOwn}
 use Rattle.go_translation.specs.SameMeaning.{WellTyped}
 use Rattle.typed_parts.specs.MarkedRuns.LinkedMembers.Laws.{HaveFiles}
 use Rattle.typed_parts.specs.MarkedRuns.NamedMarks.Named.{AllNamed}

@@ -4,7 +4,7 @@ use Rattle.std.specs.Prelude.{◌≡◌, List, Some, Contains, slice_get}
 use Rattle.go_tree.specs.File.{Decl}
 use Rattle.order_runs.specs.CycleRuns.ImportCycles.ImportSteps.{packages_added}
 use Rattle.typed_parts.specs.MarkedRuns.Marked.{decl_there}
-use Rattle.splice_laws.specs.ConstantSteps.QualifiedSteps.NamedUse.{NamedUse}
+use Rattle.constant_steps.specs.QualifiedSteps.NamedUse.{NamedUse}
 use Rattle.run_rules.specs.FormTrees.{as_expr}
 use Rattle.run_rules.specs.Run.{Standing, Logged, Next, is_commented}
 use Rattle.run_rules.specs.Sites.{MarkRef}

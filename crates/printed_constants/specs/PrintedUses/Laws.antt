@@ -1,7 +1,7 @@
 -- The laws of uses among constants and functions that print them. Each is the contract of a function of this crate (Go
 -- specification, Constant declarations; Operands; Qualified identifiers).
 use Rattle.std.specs.Prelude.{◌≡◌, ◌≤◌, List, [], Contains}
-use Rattle.splice_laws.specs.FormImports.OwnNames.{AllOwn}
+use Rattle.constant_steps.specs.FormImports.OwnNames.{AllOwn}
 use Rattle.go_tree.specs.Tree.{Expr}
 use Rattle.go_translation.specs.SameMeaning.{WellTyped}
 use Rattle.order_runs.specs.RunSteps.RunPackages.{packages_of}

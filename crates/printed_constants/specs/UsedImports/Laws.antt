@@ -1,7 +1,7 @@
 -- The laws of imports that are used. Each is the contract of a function of this crate (Go specification, Import
 -- declarations; Qualified identifiers; Declarations and scope).
 use Rattle.std.specs.Prelude.{◌≤◌, List, []}
-use Rattle.splice_laws.specs.FormImports.OwnNames.{AllOwn}
+use Rattle.constant_steps.specs.FormImports.OwnNames.{AllOwn}
 use Rattle.go_translation.specs.Packages as translated
 use Rattle.go_translation.specs.SameMeaning.{WellTyped}
 use Rattle.order_runs.specs.CycleRuns.OrderCycles.Orders.{AllOrdered}

@@ -4,7 +4,7 @@ ghost use Rattle.printed_constants.specs.PrintedRuns.Laws.{PrintedInliningsKeep,
 
 use crate::named_uses::constants_names_stand;
 use crate::used_imports::printed_imports_are_used;
-use splice_laws::form_imports::packages_have_own_names;
+use constant_steps::form_imports::packages_have_own_names;
 use typed_parts::marked_runs::{
     added_imports_may_be_declared, constants_settle, marks_stay_named, read_marks_are_named,
     read_modules_are_ready, runs_over_constants_keep, runs_over_marks_keep,

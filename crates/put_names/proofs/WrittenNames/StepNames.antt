@@ -23,8 +23,8 @@ use Rattle.import_rules.specs.declared.new_import.NewImport.{NewImport}
 use Rattle.import_rules.specs.Needs.{serves, serving_from, serving, avoided}
 use Rattle.splice_laws.specs.ImportSplices.AddedFile as added
 use Rattle.splice_laws.specs.ImportSplices.AddedFile.{is_byte, AreWritable}
-use Rattle.splice_laws.specs.FormImports.ImportLaws.Steps.{binders_of}
-use Rattle.splice_laws.proofs.FormImports.ImportLaws.StepNames.{FoundWell, found_well}
+use Rattle.constant_steps.specs.FormImports.ImportLaws.Steps.{binders_of}
+use Rattle.constant_steps.proofs.FormImports.ImportLaws.StepNames.{FoundWell, found_well}
 use Rattle.order_runs.specs.CycleRuns.OrderCycles.NewNames.{NamesByPath, FewNames}
 use Rattle.run_rules.specs.Surroundings.{Place}
 use Rattle.run_rules.specs.Sites.{MarkRef, Where}

@@ -19,7 +19,7 @@ use go_tree::scope_names::FileNames;
 use go_tree::{Expr, NoMemory, Span};
 use possible_uses::PartRef;
 use scope_tables::Scopes;
-use splice_laws::form_imports::steps_settle_imports;
+use constant_steps::form_imports::steps_settle_imports;
 use std::alloc::Global;
 
 /// Whether the use alone used the import, and the form doesn't.

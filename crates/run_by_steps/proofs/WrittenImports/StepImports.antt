@@ -10,8 +10,8 @@ use Rattle.run_rules.specs.Sites.{Where}
 use Rattle.run_rules.specs.Naming.{Named, fuel_for, fresh_name, package_path, own_name, names_here, environment_here, added_import, named_packages, name_added, imports_added}
 use Rattle.run_rules.specs.Steps.{At}
 use Rattle.run_rules.specs.Run.{is_commented}
-use Rattle.splice_laws.specs.FormImports.OwnNames.{AreInProgram}
-use Rattle.splice_laws.proofs.FormImports.ImportLaws.StepNames.{found_well}
+use Rattle.constant_steps.specs.FormImports.OwnNames.{AreInProgram}
+use Rattle.constant_steps.proofs.FormImports.ImportLaws.StepNames.{found_well}
 use Rattle.run_by_steps.specs.WrittenImports.Laws.{AreNamed, ImportsAreWritten}
 use Rattle.run_by_steps.proofs.WrittenImports.Candidates.{first_named}
 

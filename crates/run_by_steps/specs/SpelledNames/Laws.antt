@@ -7,7 +7,7 @@ use Rattle.go_tree.specs.ScopeNames.Identifiers.{identifiers}
 use Rattle.splice_laws.specs.ImportSplices.AddedFile.{IsName}
 use Rattle.run_rules.specs.Texts.{FileText}
 use Rattle.run_rules.specs.Inlining.{ReadsAs}
-use Rattle.splice_laws.specs.FormImports.Written.{NoneUnnamed}
+use Rattle.constant_steps.specs.FormImports.Written.{NoneUnnamed}
 
 -- each of the names is an identifier in UTF-8
 abbrev pub AreIdentifiers : List (List ℕ) → Type 0

@@ -13,7 +13,7 @@ use Rattle.run_rules.specs.Steps.{At, Found}
 use Rattle.run_rules.specs.Texts.{FileText}
 use Rattle.run_rules.specs.Run.{Standing, Logged, step_in, Run}
 use Rattle.run_rules.specs.Inlining.{ModuleReads, standing_as_read}
-use Rattle.splice_laws.specs.FormImports.OwnNames.{AreInProgram}
+use Rattle.constant_steps.specs.FormImports.OwnNames.{AreInProgram}
 
 -- each of the packages has an identifier as its name, and a path of octets
 abbrev pub AreNamed : {S : Type 0} → List (Package S) → Type 0

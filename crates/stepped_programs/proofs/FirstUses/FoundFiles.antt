@@ -15,7 +15,7 @@ use Rattle.run_rules.specs.Respanned.{source_with, package_with, file_with}
 use Rattle.run_rules.specs.Run.{Standing, here_of}
 use Rattle.run_rules.specs.Sites.{MarkRef, Site}
 use Rattle.run_rules.specs.Steps.{At}
-use Rattle.splice_laws.proofs.ConstantSteps.MarksFound.{nth_mapped}
+use Rattle.constant_steps.proofs.MarksFound.{nth_mapped}
 use Rattle.package_search.specs.declared.looks.ProgramSources.{ProgramSources}
 use Rattle.programs.specs.declared.state.PackageFiles.{PackageFiles}
 use Rattle.programs.specs.declared.state.Program.{Program}

@@ -18,10 +18,10 @@ use Rattle.run_rules.specs.Respanned.{decl_with, file_with, source_with, package
 use Rattle.run_rules.specs.Steps.{At}
 use Rattle.run_rules.specs.Run.{Standing, here_of}
 use Rattle.splice_laws.specs.RunLaws.Reading.{FileReads, ProgramReads}
-use Rattle.splice_laws.proofs.ConstantSteps.MarksFound.{StandsThere, stands_there}
-use Rattle.splice_laws.specs.FormImports.ImportLaws.Steps.{names_standing}
-use Rattle.splice_laws.specs.PlaceMeanings.Laws.{AreNamesOf}
-use Rattle.splice_laws.proofs.PlaceMeanings.PlacesMean.{files_named}
+use Rattle.constant_steps.proofs.MarksFound.{StandsThere, stands_there}
+use Rattle.constant_steps.specs.FormImports.ImportLaws.Steps.{names_standing}
+use Rattle.constant_steps.specs.PlaceMeanings.Laws.{AreNamesOf}
+use Rattle.constant_steps.proofs.PlaceMeanings.PlacesMean.{files_named}
 use Rattle.member_uses.specs.Laws.{is_constant, AllConstants, Knows}
 use Rattle.file_tables.specs.Numbers.{number_in}
 use Rattle.use_search.specs.MarkValues.Tables.{Known}

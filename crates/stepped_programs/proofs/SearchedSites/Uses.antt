@@ -24,16 +24,16 @@ use Rattle.run_rules.specs.Texts.{FileText}
 use Rattle.run_rules.specs.Respanned.{file_with, package_with}
 use Rattle.run_rules.specs.Steps.{At, lies_in}
 use Rattle.run_rules.specs.Run.{Standing, here_of, is_commented}
-use Rattle.splice_laws.specs.FormImports.ImportLaws.Steps.{names_standing}
-use Rattle.splice_laws.proofs.FormImports.ImportLaws.GraphImports.{map_twice}
-use Rattle.splice_laws.specs.PlaceMeanings.Agreement.{AgreesAt}
-use Rattle.splice_laws.specs.PlaceMeanings.Laws.{AreNamesOf}
-use Rattle.splice_laws.proofs.PlaceMeanings.PlacesMean.{files_named}
+use Rattle.constant_steps.specs.FormImports.ImportLaws.Steps.{names_standing}
+use Rattle.constant_steps.proofs.FormImports.ImportLaws.GraphImports.{map_twice}
+use Rattle.constant_steps.specs.PlaceMeanings.Agreement.{AgreesAt}
+use Rattle.constant_steps.specs.PlaceMeanings.Laws.{AreNamesOf}
+use Rattle.constant_steps.proofs.PlaceMeanings.PlacesMean.{files_named}
 use Rattle.member_uses.specs.Laws.{is_constant, AllConstants, Knows}
 use Rattle.module_marks.specs.Views.{mark_ref_of}
 use Rattle.repeated_parts.specs.Along.{is_again}
 use Rattle.order_runs.proofs.CycleLaws.ConstantCycles.OffCycles.{one_mark}
-use Rattle.splice_laws.proofs.ConstantSteps.MarksFound.{StandsThere, stands_there, DeclaredThere, declared_there}
+use Rattle.constant_steps.proofs.MarksFound.{StandsThere, stands_there, DeclaredThere, declared_there}
 use Rattle.constant_forms.specs.declared.uses.ConstantValue.{ConstantValue}
 use Rattle.constant_forms.specs.declared.uses.ConstantValue.TheVariants as lent
 use Rattle.constant_forms.specs.declared.uses.ConstantUse.{ConstantUse}

@@ -19,9 +19,9 @@ use Rattle.run_rules.specs.Respanned.{expr_with, file_with}
 use Rattle.run_rules.specs.Sites.{MarkRef, Where, a_constant, mark_of, imported_by, outer, outer_meaning, import_number, qualifier, inlinable_in}
 use Rattle.run_rules.specs.Steps.{At}
 use Rattle.run_rules.specs.Run.{here_of}
-use Rattle.splice_laws.specs.PlaceMeanings.Agreement.{target_of, AgreesAt}
-use Rattle.splice_laws.specs.PlaceMeanings.Parts.{AllScoped, AtParts}
-use Rattle.splice_laws.proofs.PlaceMeanings.PlacesMean.{places_mean}
+use Rattle.constant_steps.specs.PlaceMeanings.Agreement.{target_of, AgreesAt}
+use Rattle.constant_steps.specs.PlaceMeanings.Parts.{AllScoped, AtParts}
+use Rattle.constant_steps.proofs.PlaceMeanings.PlacesMean.{places_mean}
 use Rattle.member_uses.specs.Uses.{Names, imported_package, import_at}
 use Rattle.constant_forms.specs.declared.uses.ConstantValue.{ConstantValue}
 use Rattle.constant_forms.specs.declared.uses.ConstantValue.TheVariants as lent

@@ -13,7 +13,7 @@ use Rattle.run_rules.specs.Respanned.{packages_with}
 use Rattle.run_rules.specs.Run.{Standing, here_of}
 use Rattle.run_rules.specs.Sites.{MarkRef, Where, a_constant, is_among_marks, where_is, inlinable}
 use Rattle.run_rules.specs.Steps.{At}
-use Rattle.splice_laws.proofs.ConstantSteps.MarksFound.{declared_there}
+use Rattle.constant_steps.proofs.MarksFound.{declared_there}
 use Rattle.typed_parts.specs.ScopedParts.Laws.{WellTypedFilesAreScoped}
 use Rattle.module_marks.specs.Tables.{IsTableOf}
 use Rattle.module_marks.specs.declared.table.MarkTable.{MarkTable}

@@ -16,7 +16,7 @@ use Rattle.run_rules.specs.Respanned.{name_with, expr_with, decl_with}
 use Rattle.run_rules.specs.Run.{Standing, Logged, Next, origin_of}
 use Rattle.run_rules.specs.Sites.{MarkRef, Where, a_constant, is_among_marks, inlinable_in, qualifier}
 use Rattle.run_rules.specs.Steps.{At, change_nth}
-use Rattle.splice_laws.proofs.ConstantSteps.MarksFound.{StandsThere, stands_there, declared_there, nth_mapped}
+use Rattle.constant_steps.proofs.MarksFound.{StandsThere, stands_there, declared_there, nth_mapped}
 use Rattle.constant_forms.specs.Uses.{home_place}
 use Rattle.typed_parts.specs.ScopedParts.Laws.{WellTypedFilesAreScoped}
 use Rattle.printed_constants.specs.DeclaredMembers.Laws.{ConstantsNameMembers}

@@ -7,7 +7,7 @@ use Rattle.go_tree.specs.GoTypes.Answers.{given}
 use Rattle.go_tree.proofs.GoTypes.Agreeing.{from_given, some_same}
 use Rattle.run_rules.specs.Sites.{MarkRef, Where, where_is}
 use Rattle.run_rules.specs.Steps.{At, change_nth}
-use Rattle.splice_laws.proofs.ConstantSteps.MarksFound.{StandsThere, stands_there}
+use Rattle.constant_steps.proofs.MarksFound.{StandsThere, stands_there}
 use Rattle.stepped_programs.specs.SearchedSites.OrderedSearches.Held.{IsThere}
 
 -- ---- where a mark's declaration stands

@@ -25,10 +25,10 @@ use Rattle.run_rules.specs.Respanned.{file_with}
 use Rattle.run_rules.specs.Sites.{MarkRef, Where, a_constant, outer_meaning, qualifier, inlinable_in}
 use Rattle.run_rules.specs.Steps.{At}
 use Rattle.run_rules.specs.Run.{here_of}
-use Rattle.splice_laws.specs.FormImports.ImportLaws.Steps.{names_standing}
-use Rattle.splice_laws.specs.PlaceMeanings.Agreement.{means_local, AgreesAt}
-use Rattle.splice_laws.specs.PlaceMeanings.Parts.{AllScoped, AtParts}
-use Rattle.splice_laws.proofs.PlaceMeanings.PlacesMean.{places_mean}
+use Rattle.constant_steps.specs.FormImports.ImportLaws.Steps.{names_standing}
+use Rattle.constant_steps.specs.PlaceMeanings.Agreement.{means_local, AgreesAt}
+use Rattle.constant_steps.specs.PlaceMeanings.Parts.{AllScoped, AtParts}
+use Rattle.constant_steps.proofs.PlaceMeanings.PlacesMean.{places_mean}
 use Rattle.member_uses.specs.Uses.{Names}
 use Rattle.member_uses.specs.Laws.{Knows}
 use Rattle.constant_forms.specs.Uses.{home_place}

@@ -12,7 +12,7 @@ use Rattle.run_rules.specs.Respanned.{file_with, packages_with}
 use Rattle.run_rules.specs.Run.{Standing, Logged, Next, here_of}
 use Rattle.run_rules.specs.Sites.{MarkRef, Where, is_among_marks, where_is}
 use Rattle.run_rules.specs.Steps.{At, Found}
-use Rattle.splice_laws.proofs.ConstantSteps.MarksFound.{stands_there}
+use Rattle.constant_steps.proofs.MarksFound.{stands_there}
 use Rattle.member_uses.specs.Laws.{AllConstants}
 use Rattle.use_search.specs.MarkValues.Tables.{DeclKey, Known, key_of, values_at}
 use Rattle.programs.specs.FileValues.Filled.{HasFileValues}

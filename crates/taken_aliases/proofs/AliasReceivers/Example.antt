@@ -15,8 +15,8 @@ use Rattle.run_rules.specs.FormTrees as forms
 use Rattle.run_rules.specs.Programs.{top_place}
 use Rattle.run_rules.specs.Sites.{MarkRef, Where, Site, a_type_part}
 use Rattle.run_rules.specs.Surroundings.{other}
-use Rattle.splice_laws.specs.ConstantSteps.Alone.{this_package}
-use Rattle.splice_laws.specs.ConstantSteps.QualifiedSteps.MemberNames.{own_member}
+use Rattle.constant_steps.specs.Alone.{this_package}
+use Rattle.constant_steps.specs.QualifiedSteps.MemberNames.{own_member}
 use Rattle.alias_runs.specs.QualifiedAliases.NamedTexts.{of_the_block}
 use Rattle.alias_runs.specs.QualifiedAliases.AliasUse.{AliasUse, AliasUseStands, PackagesHold}
 use Rattle.taken_aliases.specs.AliasReceivers.Receivers.{received}

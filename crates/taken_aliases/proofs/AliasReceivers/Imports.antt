@@ -11,8 +11,8 @@ use Rattle.typed_in_place.specs.ImportRule.{files_import, package_imports}
 use Rattle.typed_in_place.specs.ProgramsAlike.{OneByOne, no_more, and_more}
 use Rattle.typed_in_place.proofs.ImportRule.{used_kept}
 use Rattle.typed_in_place.proofs.ProgramsReplaced.{one_by_one}
-use Rattle.splice_laws.specs.ConstantSteps.StepLaws.DeclStands.{FilesBy, no_files, and_file, PackageBy, ProgramBy, HeadedBy}
-use Rattle.splice_laws.proofs.ConstantSteps.StepLaws.StepInPlace.{members-by}
+use Rattle.constant_steps.specs.StepLaws.DeclStands.{FilesBy, no_files, and_file, PackageBy, ProgramBy, HeadedBy}
+use Rattle.constant_steps.proofs.StepLaws.StepInPlace.{members-by}
 use Rattle.taken_aliases.specs.AliasReceivers.Receivers.{NamedThere}
 use Rattle.taken_aliases.proofs.AliasReceivers.Headers.{names-same, uses-same}
 

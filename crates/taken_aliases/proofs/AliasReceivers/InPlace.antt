@@ -8,8 +8,8 @@ use Rattle.go_tree.specs.GoTypes.WellTyped.{body_ok}
 use Rattle.typed_in_place.specs.ProgramsAlike.{OneByOne, AliasesStand, TypesStand, ValuesStand, BodiesAlike}
 use Rattle.typed_in_place.specs.ProgramReplaced.{at_last, InPlaceBeside, All, Apart}
 use Rattle.typed_in_place.proofs.ProgramsReplaced.{one_by_one}
-use Rattle.splice_laws.specs.ConstantSteps.StepLaws.DeclStands.{ProgramBy, HeadedBy}
-use Rattle.splice_laws.proofs.ConstantSteps.StepLaws.StepInPlace.{program-by, same-packages}
+use Rattle.constant_steps.specs.StepLaws.DeclStands.{ProgramBy, HeadedBy}
+use Rattle.constant_steps.proofs.StepLaws.StepInPlace.{program-by, same-packages}
 use Rattle.taken_aliases.specs.AliasReceivers.Receivers.{NamedThere, RenamedProgram}
 use Rattle.taken_aliases.proofs.AliasReceivers.Headers.{names-same, method-same, alias-same, type-same, good-same, declared-same, header-same, on-same, body-same}
 

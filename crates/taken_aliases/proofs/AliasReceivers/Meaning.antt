@@ -18,10 +18,10 @@ use Rattle.typed_in_place.proofs.Rising.{and_second}
 use Rattle.go_translation.specs.Packages.{Package, sources, paths_in, header_functions, header_initial, headers_functions, headers_initial, package_code, codes_of, freely_shown_by_code, has_path, has_number, are_distinct, imports_known, are_linked, are_well_typed}
 use Rattle.go_translation.specs.SameMeaning.{Packages, SameMeaning}
 use Rattle.go_translation.proofs.PackageBudgets.{freely_alike}
-use Rattle.splice_laws.specs.ConstantSteps.StepLaws.DeclStands.{FilesBy, no_files, and_file, PackageBy, ProgramBy, HeadedBy}
-use Rattle.splice_laws.proofs.ConstantSteps.StepLaws.DeclChanged.{same_package}
-use Rattle.splice_laws.proofs.ConstantSteps.StepLaws.FurtherApart.{further-apart}
-use Rattle.splice_laws.proofs.ConstantSteps.StepLaws.StepMeaning.{distinct-before}
+use Rattle.constant_steps.specs.StepLaws.DeclStands.{FilesBy, no_files, and_file, PackageBy, ProgramBy, HeadedBy}
+use Rattle.constant_steps.proofs.StepLaws.DeclChanged.{same_package}
+use Rattle.constant_steps.proofs.StepLaws.FurtherApart.{further-apart}
+use Rattle.constant_steps.proofs.StepLaws.StepMeaning.{distinct-before}
 use Rattle.order_runs.proofs.ImportSteps.Links.{Link}
 use Rattle.alias_runs.proofs.AliasSteps.RetypedMeaning.{none_free, sources-append}
 use Rattle.taken_aliases.specs.AliasReceivers.Receivers.{same_header, NamedThere, RenamedProgram, RenamedPackages}

@@ -23,7 +23,7 @@ use Rattle.typed_parts.specs.MarkedRuns.SoundImports.Laws.{AddedImportsMayBeDecl
 use Rattle.typed_parts.specs.MarkedRuns.TakenNames.Laws.{KeptByRun}
 use Rattle.taken_aliases.specs.Laws.{RunsMeanTheSame, StepsStayReady}
 use Rattle.taken_aliases.specs.Taken.{TakesEither, of_constant, of_alias, EachTakesEither}
-use Rattle.splice_laws.specs.WrittenLiteral.UnspreadForms.UnspreadForms.{UnspreadPackages}
+use Rattle.constant_steps.specs.WrittenLiteral.UnspreadForms.UnspreadForms.{UnspreadPackages}
 use Rattle.taken_aliases.specs.MixedRuns.Marked.{NoFunctions, IsOverEither, over_constant, over_alias, AllOverEither}
 use Rattle.taken_aliases.proofs.MixedRuns.KindsStay.{no-functions-stay}
 use Rattle.taken_aliases.proofs.MixedRuns.NoCycles.{no-cycle}

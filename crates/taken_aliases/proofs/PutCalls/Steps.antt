@@ -32,9 +32,9 @@ use Rattle.pkg_graph.specs.Package.{Package}
 use Rattle.pkg_graph.specs.Members.{Target}
 use Rattle.go_tree.specs.GoTypes.Answers.{given}
 use Rattle.go_tree.specs.GoTypes.Entities.{is_declared_here}
-use Rattle.splice_laws.specs.PlaceMeanings.Agreement.{BlockIsLocal}
-use Rattle.splice_laws.specs.PlaceMeanings.Parts.{AtPart, AtParts}
-use Rattle.splice_laws.proofs.PlaceMeanings.PlacesMean.{blocks_local}
+use Rattle.constant_steps.specs.PlaceMeanings.Agreement.{BlockIsLocal}
+use Rattle.constant_steps.specs.PlaceMeanings.Parts.{AtPart, AtParts}
+use Rattle.constant_steps.proofs.PlaceMeanings.PlacesMean.{blocks_local}
 use Rattle.order_runs.proofs.RunSteps.SeatedUses.{Among, first, later, Seated, sites-seated}
 use Rattle.put_nodes.specs.Put.{FormIsPut}
 use Rattle.put_nodes.specs.SpelledNames.{AreNames}

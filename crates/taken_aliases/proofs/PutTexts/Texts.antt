@@ -7,7 +7,7 @@ use Rattle.go_tree.specs.Bare.{bare_type, bare_fields}
 use Rattle.go_tree.specs.File.{TypeSpec, Decl, values, types, func}
 use Rattle.go_tree.specs.ScopeNames.Identifiers.{type_identifiers, fields_identifiers}
 use Rattle.layout_laws.specs.Formed.{FormedType, FormedFields, FormedLiteralType}
-use Rattle.splice_laws.specs.FormImports.Written.{NoneUnnamed}
+use Rattle.constant_steps.specs.FormImports.Written.{NoneUnnamed}
 use Rattle.go_tree.specs.GoTypes.Answers.{given}
 use Rattle.run_rules.specs.Respanned.{type_with, fields_with, decl_with, type_spec_with}
 use Rattle.run_rules.specs.Run.{Standing, here_of}

@@ -23,17 +23,17 @@ use Rattle.typed_in_place.proofs.Rising.{and_first, and_second}
 use Rattle.run_rules.specs.Programs.{linked_file, linked_imports}
 use Rattle.run_rules.specs.Sites.{MarkRef, Where, where_is}
 use Rattle.run_rules.specs.Surroundings.{Place}
-use Rattle.splice_laws.specs.ConstantSteps.StepLaws.PartsTyped.{HeaderTyped}
-use Rattle.splice_laws.proofs.ConstantSteps.StepLaws.KnownConstants.{declares-it}
-use Rattle.splice_laws.proofs.WrittenLiteral.NamesMeant.{means_join}
-use Rattle.splice_laws.specs.ConstantSteps.Alone.{block_from, PackageAt, this_package, a_later_package}
-use Rattle.splice_laws.specs.ConstantSteps.PlainUse.{linked_at}
-use Rattle.splice_laws.proofs.ConstantSteps.MarksFound.{nth_mapped}
-use Rattle.splice_laws.proofs.ConstantSteps.NamesOutside.{linked_block}
-use Rattle.splice_laws.specs.ConstantSteps.QualifiedSteps.MemberNames.{member_name, NamesMember}
-use Rattle.splice_laws.specs.ConstantSteps.QualifiedSteps.NamedUse.{PackageStands}
-use Rattle.splice_laws.proofs.ConstantSteps.QualifiedSteps.Declared.{sound_there}
-use Rattle.splice_laws.proofs.ConstantSteps.QualifiedSteps.MembersNamed.{named_in_home}
+use Rattle.constant_steps.specs.StepLaws.PartsTyped.{HeaderTyped}
+use Rattle.constant_steps.proofs.StepLaws.KnownConstants.{declares-it}
+use Rattle.constant_steps.proofs.WrittenLiteral.NamesMeant.{means_join}
+use Rattle.constant_steps.specs.Alone.{block_from, PackageAt, this_package, a_later_package}
+use Rattle.constant_steps.specs.PlainUse.{linked_at}
+use Rattle.constant_steps.proofs.MarksFound.{nth_mapped}
+use Rattle.constant_steps.proofs.NamesOutside.{linked_block}
+use Rattle.constant_steps.specs.QualifiedSteps.MemberNames.{member_name, NamesMember}
+use Rattle.constant_steps.specs.QualifiedSteps.NamedUse.{PackageStands}
+use Rattle.constant_steps.proofs.QualifiedSteps.Declared.{sound_there}
+use Rattle.constant_steps.proofs.QualifiedSteps.MembersNamed.{named_in_home}
 use Rattle.alias_runs.proofs.AliasSites.AliasFirst.{names_append, decl_names}
 use Rattle.taken_aliases.specs.TypedBlocks.Laws.{HeadersTyped}
 

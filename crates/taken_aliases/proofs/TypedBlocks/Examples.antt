@@ -9,9 +9,9 @@ use Rattle.pkg_graph.specs.Package.{SourceTree, Package}
 use Rattle.go_tree.specs.GoTypes.Programs.{Program, is_init}
 use Rattle.go_tree.specs.GoTypes.WellTyped.{well_typed}
 use Rattle.run_rules.specs.Sites.{Where}
-use Rattle.splice_laws.specs.ConstantSteps.Alone.{this_package}
-use Rattle.splice_laws.specs.ConstantSteps.PlainUse.{linked_at}
-use Rattle.splice_laws.proofs.ConstantSteps.StepLaws.PartsTyped.{headers-typed}
+use Rattle.constant_steps.specs.Alone.{this_package}
+use Rattle.constant_steps.specs.PlainUse.{linked_at}
+use Rattle.constant_steps.proofs.StepLaws.PartsTyped.{headers-typed}
 use Rattle.taken_aliases.proofs.TypedBlocks.Blocks.{no-init}
 
 abbrev at : ℕ → List ℕ → NameAt ℕ

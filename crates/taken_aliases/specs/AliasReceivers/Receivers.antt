@@ -14,7 +14,7 @@ use Rattle.go_translation.specs.Packages.{Package, sources}
 use Rattle.go_translation.specs.SameMeaning.{Packages, WellTyped, with_further}
 use Rattle.typed_in_place.specs.ProgramReplaced.{ValuesEnd}
 use Rattle.typed_in_place.specs.ProgramsAlike.{OneByOne}
-use Rattle.splice_laws.specs.ConstantSteps.StepLaws.DeclStands.{ProgramBy}
+use Rattle.constant_steps.specs.StepLaws.DeclStands.{ProgramBy}
 
 -- the defined type of the package with this number that a name means as the type of a receiver, also by an alias, in a
 -- file with these imports; it is no pointer

@@ -12,7 +12,7 @@ use Rattle.run_rules.specs.Programs.{top_place, body_place}
 use Rattle.run_rules.specs.Rewriting.{new_sig, new_stmts}
 use Rattle.run_rules.specs.Steps.{changes_for}
 use Rattle.typed_in_place.specs.ProgramReplaced.{ValuesEnd}
-use Rattle.splice_laws.specs.ConstantSteps.StepLaws.DeclStands.{AtNth}
+use Rattle.constant_steps.specs.StepLaws.DeclStands.{AtNth}
 use Rattle.alias_runs.specs.AliasSteps.AliasSteps.{DeclOfPackage, form_put}
 use Rattle.taken_aliases.specs.AliasReceivers.Receivers.{received}
 

@@ -18,7 +18,7 @@ use Rattle.run_rules.specs.Inlining.{ModuleReads, standing_as_read}
 use Rattle.order_runs.specs.RunSteps.RunPackages.{packages_of}
 use Rattle.typed_parts.specs.MarkedRuns.SettledConstants.Programs.{IsReady}
 use Rattle.typed_parts.specs.MarkedRuns.TakenNames.Laws.{KeptByRun}
-use Rattle.splice_laws.specs.WrittenLiteral.UnspreadForms.UnspreadForms.{UnspreadPackages}
+use Rattle.constant_steps.specs.WrittenLiteral.UnspreadForms.UnspreadForms.{UnspreadPackages}
 use Rattle.taken_aliases.specs.MixedRuns.Marked.{NoFunctions, IsOverAlias, AllOverEither}
 
 -- A step over an alias settles its file in a program that is ready.

@@ -20,7 +20,7 @@ use Rattle.order_runs.specs.CycleRuns.KeptImports.Files.{PutsNode, RemovesNoName
 use Rattle.order_runs.specs.CycleRuns.OrderCycles.NewNames.{FewNames}
 use Rattle.alias_runs.specs.AliasSteps.Retypable.{IsCalleePlace}
 use Rattle.alias_runs.specs.AliasSites.TypeUse.{AllTheType, ReceiverStays}
-use Rattle.splice_laws.specs.ConstantSteps.PlainUse.{AllSimple}
+use Rattle.constant_steps.specs.PlainUse.{AllSimple}
 use Rattle.alias_runs.specs.QualifiedAliases.AliasUse.{AliasUse, text_there}
 use Rattle.alias_runs.specs.CalledAliases.CalledUse.{is_pointer}
 use Rattle.put_names.specs.PutTypes.Uses.{UsesTypeName}

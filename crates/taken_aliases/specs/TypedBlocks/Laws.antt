@@ -10,13 +10,13 @@ use Rattle.go_tree.specs.GoTypes.Collect.{types_declared, collected}
 use Rattle.go_tree.specs.GoTypes.WellTyped.{well_typed}
 use Rattle.typed_in_place.specs.ImportRule.{imports_sound}
 use Rattle.typed_in_place.specs.ProgramReplaced.{All}
-use Rattle.splice_laws.specs.ConstantSteps.StepLaws.PartsTyped.{HeaderTyped}
+use Rattle.constant_steps.specs.StepLaws.PartsTyped.{HeaderTyped}
 use Rattle.run_rules.specs.Programs.{linked_file, linked_imports}
 use Rattle.run_rules.specs.Sites.{MarkRef, Where, where_is}
 use Rattle.run_rules.specs.Steps.{At}
 use Rattle.run_rules.specs.Surroundings.{Place}
-use Rattle.splice_laws.specs.ConstantSteps.QualifiedSteps.MemberNames.{member_name, NamesMember}
-use Rattle.splice_laws.specs.ConstantSteps.QualifiedSteps.NamedUse.{PackageStands}
+use Rattle.constant_steps.specs.QualifiedSteps.MemberNames.{member_name, NamesMember}
+use Rattle.constant_steps.specs.QualifiedSteps.NamedUse.{PackageStands}
 
 -- each header of a program is typed, whether its imports are right or not
 abbrev pub HeadersTyped : {S : Type 0} → Program S → Type 0

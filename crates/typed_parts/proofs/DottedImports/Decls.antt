@@ -26,9 +26,9 @@ use Rattle.go_tree.specs.GoTypes.Initial.{all_initial}
 use Rattle.go_tree.specs.GoTypes.WellTyped.{receiver_names, well_typed}
 use Rattle.go_tree.proofs.GoTypes.Agreeing.{from_given, from_both, from_only}
 use Rattle.typed_in_place.specs.ProgramReplaced.{All, all_and}
-use Rattle.splice_laws.specs.ConstantSteps.StepLaws.DeclStands.{AtNth}
-use Rattle.splice_laws.specs.ConstantSteps.StepLaws.PartsTyped.{HeaderTyped}
-use Rattle.splice_laws.proofs.ConstantSteps.StepLaws.PartsTyped.{headers-typed, TypedThere, DeclIsTyped, FilesTyped, of-packages}
+use Rattle.constant_steps.specs.StepLaws.DeclStands.{AtNth}
+use Rattle.constant_steps.specs.StepLaws.PartsTyped.{HeaderTyped}
+use Rattle.constant_steps.proofs.StepLaws.PartsTyped.{headers-typed, TypedThere, DeclIsTyped, FilesTyped, of-packages}
 use Rattle.order_runs.specs.CycleRuns.OrderCycles.Orders.{AllOrdered}
 use Rattle.run_rules.specs.Surroundings.{Place, Seen, seen_type, alike, value_use, in_constant}
 use Rattle.run_rules.specs.Places.{written_seen, all_seen, sig_seen, stmts_seen}
@@ -40,8 +40,8 @@ use Rattle.pkg_graph.specs.Members.{imported}
 use Rattle.go_tree.specs.ScopeNames.Means.{is_blank, means}
 use Rattle.run_rules.specs.Programs.{top_env}
 use Rattle.run_rules.specs.Sites.{outer}
-use Rattle.splice_laws.proofs.ConstantSteps.StepLaws.DeclUses.{body-begins}
-use Rattle.splice_laws.proofs.ConstantSteps.StepLaws.OutsideHolds.{no_name}
+use Rattle.constant_steps.proofs.StepLaws.DeclUses.{body-begins}
+use Rattle.constant_steps.proofs.StepLaws.OutsideHolds.{no_name}
 use Rattle.typed_parts.specs.StandingUses.ImportUses.Parts.{DottedImports, at_the_end, past_another}
 use Rattle.typed_parts.proofs.Walk.{met, there_is}
 use Rattle.typed_parts.proofs.DottedImports.Walk.{N, join, written_stands, sig_stands, all_stand, stmts_stand, member_known}

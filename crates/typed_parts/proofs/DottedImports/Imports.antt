@@ -14,7 +14,7 @@ use Rattle.go_tree.specs.GoTypes.Programs as program
 use Rattle.go_tree.specs.GoTypes.Programs.{import_entity, import_sound, file_block}
 use Rattle.run_rules.specs.Programs.{linked_file, linked_import, world, imports_mean, top_env, package_number}
 use Rattle.run_rules.specs.Sites.{Where, outer}
-use Rattle.splice_laws.proofs.WrittenLiteral.NamesMeant.{means_join}
+use Rattle.constant_steps.proofs.WrittenLiteral.NamesMeant.{means_join}
 
 -- ---- environments without imports
 

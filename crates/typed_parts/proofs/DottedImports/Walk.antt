@@ -34,9 +34,9 @@ use Rattle.pkg_graph.specs.Members.{local, imported, member, predeclared}
 use Rattle.go_tree.specs.ScopeNames.Means.{means}
 use Rattle.run_rules.specs.Sites.{Where, outer, imported_by}
 use Rattle.run_rules.specs.Steps.{means_import, named_by_import}
-use Rattle.splice_laws.specs.ConstantSteps.StepLaws.Answered.{HoldsWithin}
-use Rattle.splice_laws.specs.ConstantSteps.StepLaws.NamesOutside.{NamesOutside}
-use Rattle.splice_laws.proofs.ConstantSteps.StepLaws.OutsideHolds.{outside_holds}
+use Rattle.constant_steps.specs.StepLaws.Answered.{HoldsWithin}
+use Rattle.constant_steps.specs.StepLaws.NamesOutside.{NamesOutside}
+use Rattle.constant_steps.proofs.StepLaws.OutsideHolds.{outside_holds}
 use Rattle.typed_parts.specs.StandingUses.ImportUses.Parts.{IsPlain, DottedImports, at_the_end, before_a_dot, past_another}
 use Rattle.typed_parts.proofs.Walk.{met, there_is, into_back, elem_into}
 

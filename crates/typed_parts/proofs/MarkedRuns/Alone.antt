@@ -18,8 +18,8 @@ use Rattle.run_rules.specs.Run.{Standing, Logged, Next, here_of}
 use Rattle.splice_laws.specs.RunLaws.Reading.{FileReads, FileAt, ProgramReads}
 use Rattle.splice_laws.proofs.RunLaws.FoundSpans.{Placed}
 use Rattle.order_runs.proofs.CycleRuns.StepCycles.StepAlike.{found-placed}
-use Rattle.splice_laws.specs.ConstantSteps.PlainUse.{AllTheUse}
-use Rattle.splice_laws.proofs.ConstantSteps.NamesOutside.{equal_numbers}
+use Rattle.constant_steps.specs.PlainUse.{AllTheUse}
+use Rattle.constant_steps.proofs.NamesOutside.{equal_numbers}
 use Rattle.order_runs.proofs.RunSteps.SeatedUses.{Among, first, later}
 use Rattle.order_runs.proofs.RunSteps.TokenPlaces.{tokens-rise}
 use Rattle.order_runs.proofs.RunSteps.SpanPlaces.{DeclIn, DeclsIn}

@@ -8,7 +8,7 @@ use Rattle.member_uses.specs.Laws.{AllConstants}
 use Rattle.run_rules.specs.Marks.{marks_of}
 use Rattle.run_rules.specs.Texts.{FileText}
 use Rattle.run_rules.specs.Inlining.{ModuleReads, standing_as_read}
-use Rattle.splice_laws.specs.WrittenLiteral.UnspreadForms.UnspreadForms.{UnspreadPackages}
+use Rattle.constant_steps.specs.WrittenLiteral.UnspreadForms.UnspreadForms.{UnspreadPackages}
 use Rattle.typed_parts.specs.MarkedRuns.NamedMarks.Laws.{ReadMarksAreNamed}
 use Rattle.typed_parts.specs.MarkedRuns.ReadyModules.Laws.{ReadModulesAreReady}
 use Rattle.typed_parts.proofs.MarkedRuns.ReadyModules.Typed.{typed_as_read}
@@ -31,7 +31,7 @@ use Rattle.run_rules.specs.Steps.{At, change_nth}
 use Rattle.splice_laws.specs.RunLaws.Reading.{ProgramReads}
 use Rattle.splice_laws.proofs.RunLaws.FoundSpans.{Placed}
 use Rattle.order_runs.proofs.CycleLaws.StepsLead.{change-at}
-use Rattle.splice_laws.proofs.ConstantSteps.MarksFound.{StandsThere, stands_there}
+use Rattle.constant_steps.proofs.MarksFound.{StandsThere, stands_there}
 use Rattle.order_runs.specs.CycleRuns.ImportCycles.ImportSteps.{file_added, packages_added, where_added}
 use Rattle.order_runs.proofs.CycleRuns.ImportCycles.ImportStep.{placed}
 use Rattle.typed_parts.specs.MarkedRuns.SoundImports.Laws.{AddedImportsMayBeDeclared}

@@ -15,7 +15,7 @@ use Rattle.run_rules.specs.Surroundings.{Seen, seen, seen_type, seen_stmt, first
 use Rattle.run_rules.specs.Respanned.{decl_with}
 use Rattle.run_rules.specs.Programs.{decl_seen}
 use Rattle.run_rules.specs.Run.{here_of}
-use Rattle.splice_laws.specs.PlaceMeanings.Parts.{IsScoped, AllScoped}
+use Rattle.constant_steps.specs.PlaceMeanings.Parts.{IsScoped, AllScoped}
 use Rattle.typed_parts.specs.Parts.{PartTyped, AllTyped}
 use Rattle.typed_parts.proofs.Decls.{programs_typed}
 use Rattle.typed_parts.specs.ScopedParts.Posts.{is_post, PostsInDecl, PostIsSimple, AllPostsSimple}

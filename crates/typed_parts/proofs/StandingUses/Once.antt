@@ -19,7 +19,7 @@ use Rattle.splice_laws.specs.RunLaws.Reading.{FileReads, FileAt, ProgramReads}
 use Rattle.splice_laws.proofs.RunLaws.FoundSpans.{Placed, FoundIn, found_in}
 use Rattle.splice_laws.specs.ImportSplices.FormSplices.Laws.{MakesForm}
 use Rattle.splice_laws.proofs.ImportSplices.FormSplices.FormsFound.{IsForm, first-form}
-use Rattle.splice_laws.proofs.ConstantSteps.NamesOutside.{equal_numbers}
+use Rattle.constant_steps.proofs.NamesOutside.{equal_numbers}
 use Rattle.order_runs.proofs.RunSteps.SeatedUses.{Among, first, later, Seated, sites-seated}
 use Rattle.order_runs.proofs.RunSteps.TokenPlaces.{tokens-rise}
 use Rattle.order_runs.proofs.RunSteps.SpanPlaces.{DeclIn, DeclsIn}
@@ -33,10 +33,10 @@ use Rattle.go_tree.specs.FileView.{file_of}
 use Rattle.go_tree.specs.declared.scope_names.names.ImportName.{ImportName}
 use Rattle.scope_tables.specs.Table.{IsTableOf, table_of}
 use Rattle.pkg_graph.specs.Package.{Package, import_specs}
-use Rattle.splice_laws.specs.FormImports.ImportLaws.Steps.{names_standing}
-use Rattle.splice_laws.proofs.FormImports.ImportLaws.GraphImports.{map_twice}
-use Rattle.splice_laws.specs.PlaceMeanings.Laws.{AreNamesOf}
-use Rattle.splice_laws.proofs.PlaceMeanings.PlacesMean.{files_named}
+use Rattle.constant_steps.specs.FormImports.ImportLaws.Steps.{names_standing}
+use Rattle.constant_steps.proofs.FormImports.ImportLaws.GraphImports.{map_twice}
+use Rattle.constant_steps.specs.PlaceMeanings.Laws.{AreNamesOf}
+use Rattle.constant_steps.proofs.PlaceMeanings.PlacesMean.{files_named}
 use Rattle.constant_forms.specs.declared.uses.ConstantUse.{ConstantUse}
 use Rattle.constant_forms.specs.declared.reduced.ConstantForm.{ConstantForm}
 use Rattle.constant_forms.specs.declared.reduced.ReducedConstant.TheVariants.{Becomes}

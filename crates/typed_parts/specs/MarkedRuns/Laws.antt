@@ -19,7 +19,7 @@ use Rattle.run_rules.specs.Inlining.{ModuleReads, standing_as_read}
 use Rattle.order_runs.specs.RunSteps.RunPackages.{packages_of}
 use Rattle.typed_parts.specs.MarkedRuns.NamedMarks.Named.{AllNamed}
 use Rattle.typed_parts.specs.MarkedRuns.TakenNames.Laws.{KeptByRun}
-use Rattle.splice_laws.specs.WrittenLiteral.UnspreadForms.UnspreadForms.{UnspreadPackages}
+use Rattle.constant_steps.specs.WrittenLiteral.UnspreadForms.UnspreadForms.{UnspreadPackages}
 use Rattle.typed_parts.specs.MarkedRuns.Marked.{AllOverNames}
 
 -- Where each mark is that of a constant, no marked function lies on a cycle.

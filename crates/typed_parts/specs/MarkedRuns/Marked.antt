@@ -11,11 +11,11 @@ use Rattle.run_rules.specs.Surroundings.{Use, Place, Seen, seen}
 use Rattle.run_rules.specs.Programs.{linked_file, decl_seen}
 use Rattle.run_rules.specs.Steps.{At, same_here}
 use Rattle.run_rules.specs.Run.{Standing, Logged, Next, Run, ends, goes_on, is_commented}
-use Rattle.splice_laws.specs.ConstantSteps.Alone.{PlainFiles}
-use Rattle.splice_laws.specs.ConstantSteps.PlainUse.{AllSimple}
+use Rattle.constant_steps.specs.Alone.{PlainFiles}
+use Rattle.constant_steps.specs.PlainUse.{AllSimple}
 use Rattle.order_runs.specs.CycleRuns.ImportCycles.ImportSteps.{file_added, packages_added, where_added}
 use Rattle.order_runs.specs.ImportCodes.PackagesMoved.{ImportsStand}
-use Rattle.splice_laws.specs.ConstantSteps.QualifiedSteps.NamedUse.{NamedUse}
+use Rattle.constant_steps.specs.QualifiedSteps.NamedUse.{NamedUse}
 use Rattle.order_runs.specs.RunSteps.RunPackages.{members_of, packages_of}
 use Rattle.typed_parts.specs.MarkedRuns.TakenNames.Taken.{site_there}
 use Rattle.typed_parts.specs.MarkedRuns.KeptMarks.Over.{IsOverName}

@@ -14,7 +14,7 @@ use Rattle.run_rules.specs.Respanned.{name_with, expr_with, exprs_with, specs_wi
 use Rattle.run_rules.specs.Steps.{At}
 use Rattle.run_rules.specs.Run.{here_of}
 use Rattle.member_uses.specs.Uses.{Names}
-use Rattle.splice_laws.specs.PlaceMeanings.Parts.{AtParts}
+use Rattle.constant_steps.specs.PlaceMeanings.Parts.{AtParts}
 use Rattle.use_search.specs.declared.mark_values.values.DeclaredValue.{DeclaredValue}
 use Rattle.use_search.specs.MarkValues.Values.{expr_value, spec_values, specs_values, decl_values}
 use Rattle.use_search.proofs.MarkValues.Written.{IsWritten, expr_written, FormedTop}

@@ -11,9 +11,9 @@ use Rattle.run_rules.specs.Sites.{MarkRef, Where, Part, an_expr, a_type_part, Si
 use Rattle.run_rules.specs.Respanned.{decl_with, decls_with, file_with, packages_with}
 use Rattle.run_rules.specs.Steps.{At}
 use Rattle.run_rules.specs.Run.{here_of}
-use Rattle.splice_laws.specs.PlaceMeanings.Agreement.{AgreesAt}
-use Rattle.splice_laws.specs.PlaceMeanings.Parts.{AtTypes, AtPart, AtParts}
-use Rattle.splice_laws.proofs.PlaceMeanings.PlacesMean.{places_mean}
+use Rattle.constant_steps.specs.PlaceMeanings.Agreement.{AgreesAt}
+use Rattle.constant_steps.specs.PlaceMeanings.Parts.{AtTypes, AtPart, AtParts}
+use Rattle.constant_steps.proofs.PlaceMeanings.PlacesMean.{places_mean}
 use Rattle.possible_uses.specs.Parts.{parts_of}
 use Rattle.member_uses.specs.Uses.{Used, Names}
 use Rattle.member_uses.specs.Laws.{AllConstants, Knows}

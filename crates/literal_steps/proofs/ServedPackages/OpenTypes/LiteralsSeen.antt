@@ -21,8 +21,8 @@ use Rattle.run_rules.specs.Obstacles.{hidden_field, unless_exported, hidden_key,
 use Rattle.run_rules.specs.Respanned.{value_with}
 use Rattle.run_rules.specs.Sites.{Where}
 use Rattle.run_rules.specs.Surroundings.{Place}
-use Rattle.splice_laws.specs.WrittenLiteral.Fine.{same_span, FineElems, FineKey, FineValue}
-use Rattle.splice_laws.proofs.WrittenLiteral.TypesWritten.{one_of_none, exported_unless}
+use Rattle.constant_steps.specs.WrittenLiteral.Fine.{same_span, FineElems, FineKey, FineValue}
+use Rattle.constant_steps.proofs.WrittenLiteral.TypesWritten.{one_of_none, exported_unless}
 use Rattle.literal_steps.specs.ServedPackages.OpenTypes.{OpenType, OpenFields, OpenPlace}
 use Rattle.literal_steps.proofs.ServedPackages.OpenTypes.Calls.{element_open, map_open, base_open, struct_open, under_is_open}
 use Rattle.literal_steps.proofs.ServedPackages.OpenTypes.Expressions.{meant_open}

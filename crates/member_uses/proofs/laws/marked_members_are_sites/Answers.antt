@@ -2,7 +2,7 @@ use Rattle.run_rules.specs.Run.{here_of}
 use Rattle.run_rules.specs.Steps.{At}
 use Rattle.run_rules.specs.Respanned.{file_with}
 use Rattle.go_tree.specs.declared.spans.Span.{Span}
-use Rattle.splice_laws.proofs.PlaceMeanings.PlacesMean.{places_mean, read_places_mean, blocks_local, read_blocks_local}
+use Rattle.constant_steps.proofs.PlaceMeanings.PlacesMean.{places_mean, read_places_mean, blocks_local, read_blocks_local}
 use Rattle.member_uses.proofs.Sited.{sites_left}
 use Rattle.member_uses.proofs.laws.marked_members_are_sites.Goals as goal
 

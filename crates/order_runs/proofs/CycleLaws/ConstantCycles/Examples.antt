@@ -23,7 +23,7 @@ use Rattle.run_rules.specs.FormTrees.{as_expr}
 use Rattle.run_rules.specs.Surroundings.{Place}
 use Rattle.run_rules.specs.Programs.{top_env, decl_seen}
 use Rattle.run_rules.specs.Steps.{At, same_here}
-use Rattle.splice_laws.specs.ConstantSteps.StepLaws.NamesOutside.{UseThere, AllUsesThere}
+use Rattle.constant_steps.specs.StepLaws.NamesOutside.{UseThere, AllUsesThere}
 use Rattle.run_rules.specs.Cycles.{leads_to, is_recursive}
 use Rattle.run_rules.proofs.CaseTools.{from, mark, param, sig, fn}
 use Rattle.run_rules.proofs.Instances.{the}

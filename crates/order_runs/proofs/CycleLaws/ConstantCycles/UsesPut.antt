@@ -14,9 +14,9 @@ use Rattle.run_rules.specs.Forms.{is_at}
 use Rattle.run_rules.specs.Steps.{At, same_here, changes_for}
 use Rattle.run_rules.specs.Cycles.{is_recursive}
 use Rattle.run_rules.specs.Run.{Standing, Logged, Next}
-use Rattle.splice_laws.specs.ConstantSteps.StepLaws.Answered.{ExprKnown}
-use Rattle.splice_laws.specs.ConstantSteps.StepLaws.NamesOutside.{NamesOutside, AllUsesThere}
-use Rattle.splice_laws.proofs.ConstantSteps.StepLaws.DeclUses.{decl-with-use}
+use Rattle.constant_steps.specs.StepLaws.Answered.{ExprKnown}
+use Rattle.constant_steps.specs.StepLaws.NamesOutside.{NamesOutside, AllUsesThere}
+use Rattle.constant_steps.proofs.StepLaws.DeclUses.{decl-with-use}
 use Rattle.order_runs.specs.CycleLaws.PutCalls.{CallsAlike, LiteralTyped, AllPutCallAlike}
 use Rattle.order_runs.specs.CycleLaws.PutSteps.{ReadCallsAlike, PutsAlike}
 use Rattle.order_runs.proofs.CycleLaws.NoCallees.{names-alike}

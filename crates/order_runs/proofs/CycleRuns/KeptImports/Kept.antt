@@ -33,7 +33,7 @@ use Rattle.run_rules.specs.Naming.{imports_added}
 use Rattle.run_rules.specs.Steps.{At, added_decls, spec_for}
 use Rattle.run_rules.specs.Run.{Standing, Logged, Next, here_of, edits_in}
 use Rattle.run_rules.specs.Laws.{file_found}
-use Rattle.splice_laws.specs.FormImports.ImportLaws.Steps.{removed_specs}
+use Rattle.constant_steps.specs.FormImports.ImportLaws.Steps.{removed_specs}
 use Rattle.order_runs.specs.CycleRuns.StepCycles.PackagesAlike.{import_key}
 use Rattle.order_runs.specs.CycleRuns.ImportCycles.OtherImports.{import_path}
 use Rattle.order_runs.specs.CycleRuns.ImportCycles.ImportSteps.{file_added, packages_added, KeepsNames, KeepsLookUps}

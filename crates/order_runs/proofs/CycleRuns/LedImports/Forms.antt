@@ -16,7 +16,7 @@ use Rattle.go_tree.specs.declared.operators.UnOp.TheVariants.{Address}
 use Rattle.run_rules.specs.Classes.{type_at, points}
 use Rattle.go_tree.specs.GoTypes.Entities.{Env, defined_in}
 use Rattle.param_choice.specs.Chosen.{has}
-use Rattle.splice_laws.specs.FormImports.Written.{NoneUnnamed}
+use Rattle.constant_steps.specs.FormImports.Written.{NoneUnnamed}
 use Rattle.run_rules.specs.Surroundings.{Use, whole, returned, other, Place}
 use Rattle.run_rules.specs.Programs.{numbered_from, numbered, with_receiver, param_types}
 use Rattle.run_rules.specs.Conversions.{converts}

@@ -10,7 +10,7 @@ use Rattle.pkg_graph.specs.Package.{Package, import_specs}
 use Rattle.pkg_graph.specs.Members.{Target}
 use Rattle.go_tree.specs.GoTypes.Answers.{given}
 use Rattle.go_tree.specs.GoTypes.Agreement.{In, head, tail}
-use Rattle.splice_laws.specs.FormImports.Written.{NoneUnnamed}
+use Rattle.constant_steps.specs.FormImports.Written.{NoneUnnamed}
 use Rattle.run_rules.specs.Surroundings.{Use, Place}
 use Rattle.run_rules.specs.Programs.{package_number}
 use Rattle.run_rules.specs.Sites.{MarkRef, Where, mark_of, outer_meaning, qualifier}

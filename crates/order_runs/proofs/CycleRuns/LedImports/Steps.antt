@@ -13,7 +13,7 @@ use Rattle.go_tree.specs.GoTypes.Answers.{given}
 use Rattle.go_tree.specs.GoTypes.Agreement.{In, head, tail}
 use Rattle.import_rules.specs.declared.new_import.NewImport.{NewImport}
 use Rattle.import_rules.specs.Needs.{serving, avoided}
-use Rattle.splice_laws.specs.FormImports.Written.{NoneUnnamed}
+use Rattle.constant_steps.specs.FormImports.Written.{NoneUnnamed}
 use Rattle.run_rules.specs.Surroundings.{other, Place, Seen, seen_type}
 use Rattle.run_rules.specs.Places.{expr_seen}
 use Rattle.run_rules.specs.Programs.{package_number}

@@ -21,8 +21,8 @@ use Rattle.run_rules.specs.Naming.{Named, fuel_for, fresh_name, package_path, ow
 use Rattle.run_rules.specs.Steps.{At, spec_for, added_decls}
 use Rattle.run_rules.specs.Run.{Standing, Logged, Next, is_commented}
 use Rattle.run_rules.proofs.NamesFound.{found_is_fresh}
-use Rattle.splice_laws.specs.FormImports.ImportLaws.Steps.{binders_of}
-use Rattle.splice_laws.proofs.FormImports.ImportLaws.StepNames.{FoundWell, found_well}
+use Rattle.constant_steps.specs.FormImports.ImportLaws.Steps.{binders_of}
+use Rattle.constant_steps.proofs.FormImports.ImportLaws.StepNames.{FoundWell, found_well}
 use Rattle.order_runs.specs.CycleRuns.ImportCycles.OtherImports.{PackagesBeside, import_path}
 use Rattle.order_runs.specs.CycleRuns.ImportCycles.ImportSteps.{packages_added, AddsNewNames}
 use Rattle.order_runs.proofs.CycleRuns.ImportCycles.FreeIdentifiers.{in-right, in-left}

@@ -21,7 +21,7 @@ use Rattle.run_rules.specs.Programs.{linked, top_place, body_place, decl_seen}
 use Rattle.run_rules.specs.Steps.{At, same_here, changes_for}
 use Rattle.run_rules.proofs.CaseTools.{mark, param, sig, tspec, fn}
 use Rattle.run_rules.proofs.Instances.{the}
-use Rattle.splice_laws.specs.ConstantSteps.StepLaws.DeclStands.{DeclStands, DeclTypesStand, body_there}
+use Rattle.constant_steps.specs.StepLaws.DeclStands.{DeclStands, DeclTypesStand, body_there}
 use Rattle.order_runs.specs.CycleLaws.ConstantCycles.NamesPut.{AllTypesPut}
 use Rattle.order_runs.specs.CycleLaws.ConstantCycles.Laws.{TypesFor}
 use Rattle.order_runs.proofs.CycleLaws.ConstantCycles.Examples.{node}

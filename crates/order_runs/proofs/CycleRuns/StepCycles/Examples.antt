@@ -23,7 +23,7 @@ use Rattle.run_rules.specs.Sites.{part_span}
 use Rattle.run_rules.specs.FormTrees.{as_expr}
 use Rattle.run_rules.specs.Programs.{linked, decl_seen}
 use Rattle.run_rules.specs.Steps.{At, same_here}
-use Rattle.splice_laws.specs.ConstantSteps.StepLaws.NamesOutside.{UseThere, AllUsesThere}
+use Rattle.constant_steps.specs.StepLaws.NamesOutside.{UseThere, AllUsesThere}
 use Rattle.order_runs.proofs.CycleLaws.ConstantCycles.Examples.{node, a_func, call_of, marks, before, pointer, in_two, in_sum, new_name}
 use Rattle.order_runs.specs.CycleRuns.StepCycles.Steps.{packages_put, UsesIn, UsesAtEnds, StandsAtEnds}
 use Rattle.run_rules.proofs.CaseTools.{mark}

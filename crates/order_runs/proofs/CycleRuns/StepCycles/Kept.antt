@@ -18,9 +18,9 @@ use Rattle.run_rules.specs.Run.{Standing, Logged, Next}
 use Rattle.typed_in_place.specs.Replaced.{same_type, TypeReplaced}
 use Rattle.typed_in_place.specs.ProgramReplaced.{ValuesEnd, at_last}
 use Rattle.typed_in_place.proofs.Leaves.{type_itself}
-use Rattle.splice_laws.specs.ConstantSteps.StepLaws.DeclStands.{body_there}
-use Rattle.splice_laws.proofs.ConstantSteps.StepLaws.ConstantStepLaw.{decl-types-stay}
-use Rattle.splice_laws.proofs.ConstantSteps.StepLaws.DeclUses.{decl-with-use}
+use Rattle.constant_steps.specs.StepLaws.DeclStands.{body_there}
+use Rattle.constant_steps.proofs.StepLaws.ConstantStepLaw.{decl-types-stay}
+use Rattle.constant_steps.proofs.StepLaws.DeclUses.{decl-with-use}
 use Rattle.order_runs.specs.CycleLaws.ConstantCycles.Laws.{NamesFor, TypesFor}
 use Rattle.order_runs.proofs.CycleLaws.ConstantCycles.UsesPut.{constant-steps-keep, alias-steps-keep}
 use Rattle.order_runs.specs.CycleRuns.StepCycles.Steps.{SameImports, packages_put, imports_there, UsesIn, StandsInRounds, StandsAtEnds, UsesAtEnds}

@@ -13,7 +13,7 @@ use Rattle.run_rules.specs.FormTrees.{as_expr}
 use Rattle.run_rules.specs.Steps.{At, same_here}
 use Rattle.run_rules.specs.Cycles.{is_recursive}
 use Rattle.run_rules.specs.Run.{Standing, Logged, Next, is_commented}
-use Rattle.splice_laws.specs.ConstantSteps.StepLaws.NamesOutside.{AllUsesThere}
+use Rattle.constant_steps.specs.StepLaws.NamesOutside.{AllUsesThere}
 use Rattle.order_runs.specs.CycleLaws.NamesNoFunction.{NamesNoFunction}
 use Rattle.order_runs.proofs.CycleLaws.NoCallees.{ident-names, selector-names}
 use Rattle.order_runs.specs.CycleLaws.ConstantCycles.NamesPut.{AllNamesPut}

@@ -14,8 +14,8 @@ use Rattle.run_rules.specs.Sites.{Where}
 use Rattle.run_rules.specs.Steps.{At, same_here, change_nth, with_file}
 use Rattle.typed_in_place.specs.ProgramsAlike.{OneByOne, no_more, and_more}
 use Rattle.typed_in_place.proofs.ProgramsReplaced.{append_one, each_one, one_by_one}
-use Rattle.splice_laws.specs.ConstantSteps.StepLaws.DeclStands.{PackageBy, ProgramBy, AtNth, decl_changed, file_changed}
-use Rattle.splice_laws.proofs.ConstantSteps.StepLaws.DeclChanged.{DeclBy, DeclOfFilesBy, changed_by}
+use Rattle.constant_steps.specs.StepLaws.DeclStands.{PackageBy, ProgramBy, AtNth, decl_changed, file_changed}
+use Rattle.constant_steps.proofs.StepLaws.DeclChanged.{DeclBy, DeclOfFilesBy, changed_by}
 use Rattle.order_runs.specs.CycleRuns.StepCycles.PackagesAlike.{PackagesAlike}
 use Rattle.order_runs.proofs.CycleRuns.StepCycles.AlikeNames.{names-of-packages, numbers-of-packages}
 use Rattle.order_runs.proofs.CycleRuns.StepCycles.Orders.{NumberedBy, rows-changed, order-by}

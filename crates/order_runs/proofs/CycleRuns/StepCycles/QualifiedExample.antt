@@ -24,7 +24,7 @@ use Rattle.run_rules.specs.Programs.{linked, decl_seen}
 use Rattle.run_rules.specs.Steps.{At, same_here}
 use Rattle.run_rules.proofs.CaseTools.{mark, imp, imps, param, sig, fn}
 use Rattle.run_rules.proofs.Instances.{the}
-use Rattle.splice_laws.specs.ConstantSteps.StepLaws.NamesOutside.{UseThere, AllUsesThere}
+use Rattle.constant_steps.specs.StepLaws.NamesOutside.{UseThere, AllUsesThere}
 use Rattle.order_runs.proofs.CycleLaws.ConstantCycles.Examples.{node}
 use Rattle.order_runs.specs.CycleRuns.StepCycles.Steps.{packages_put, imports_there, UsesIn, UsesAtEnds}
 use Rattle.order_runs.specs.CycleRuns.StepCycles.OwnConstants.{OfPackage, AllOnlyUse, StandsAlone}

@@ -25,11 +25,11 @@ use Rattle.typed_in_place.specs.Replaced.{TypeReplaced}
 use Rattle.typed_in_place.specs.ProgramsAlike.{OneByOne, no_more, and_more}
 use Rattle.typed_in_place.specs.ProgramReplaced.{ValuesEnd, at_last, InPlaceBeside, all_of_none}
 use Rattle.typed_in_place.proofs.ProgramsReplaced.{append_one, each_one, one_by_one}
-use Rattle.splice_laws.specs.ConstantSteps.StepLaws.DeclStands.{DeclTypesStand, body_there, ProgramBy, ResolvedAlike, TypesAlike, ValuesAlike, WholeAlike}
-use Rattle.splice_laws.proofs.ConstantSteps.StepLaws.DeclChanged.{resolved_itself, types_itself, values_itself, whole_itself}
-use Rattle.splice_laws.proofs.ConstantSteps.StepLaws.DeclarationsStand.{decl-stands, decl-types-stand}
-use Rattle.splice_laws.proofs.ConstantSteps.StepLaws.StepInPlace.{step-in-place}
-use Rattle.splice_laws.proofs.ConstantSteps.StepLaws.StepsCompose.{collected-end}
+use Rattle.constant_steps.specs.StepLaws.DeclStands.{DeclTypesStand, body_there, ProgramBy, ResolvedAlike, TypesAlike, ValuesAlike, WholeAlike}
+use Rattle.constant_steps.proofs.StepLaws.DeclChanged.{resolved_itself, types_itself, values_itself, whole_itself}
+use Rattle.constant_steps.proofs.StepLaws.DeclarationsStand.{decl-stands, decl-types-stand}
+use Rattle.constant_steps.proofs.StepLaws.StepInPlace.{step-in-place}
+use Rattle.constant_steps.proofs.StepLaws.StepsCompose.{collected-end}
 use Rattle.order_runs.specs.CycleLaws.PutCalls.{AllPutCallAlike}
 use Rattle.order_runs.specs.CycleLaws.PutSteps.{KeepsStatements, ReadCallsAlike}
 use Rattle.order_runs.proofs.CycleLaws.DeclRead.{names-read-alike}

@@ -16,8 +16,8 @@ use Rattle.run_rules.specs.FormTrees.{FormKind, Form, as_expr, as_type}
 use Rattle.run_rules.specs.Steps.{At, same_here, changes_for}
 use Rattle.run_rules.specs.Cycles.{is_recursive}
 use Rattle.run_rules.specs.Run.{Standing, Logged, FormOf, Next}
-use Rattle.splice_laws.specs.ConstantSteps.StepLaws.DeclStands.{DeclStands}
-use Rattle.splice_laws.specs.ConstantSteps.StepLaws.NamesOutside.{AllUsesThere}
+use Rattle.constant_steps.specs.StepLaws.DeclStands.{DeclStands}
+use Rattle.constant_steps.specs.StepLaws.NamesOutside.{AllUsesThere}
 use Rattle.order_runs.specs.CycleLaws.NamesNoFunction.{NamesNoFunction}
 use Rattle.order_runs.specs.CycleLaws.PutSteps.{ReadCallsAlike, PutsAlike}
 use Rattle.order_runs.specs.CycleLaws.ConstantCycles.NamesPut.{AllNamesPut, AllTypesPut}

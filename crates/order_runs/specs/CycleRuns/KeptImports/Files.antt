@@ -21,7 +21,7 @@ use Rattle.run_rules.specs.Texts.{form_edit}
 use Rattle.run_rules.specs.Steps.{At}
 use Rattle.run_rules.specs.Run.{Standing, Logged, Next, here_of}
 use Rattle.run_rules.specs.Laws.{file_found}
-use Rattle.splice_laws.specs.FormImports.ImportLaws.Steps.{removed_specs}
+use Rattle.constant_steps.specs.FormImports.ImportLaws.Steps.{removed_specs}
 use Rattle.order_runs.specs.CycleRuns.ImportCycles.LookedUp.{decl_looked_up}
 use Rattle.order_runs.specs.CycleRuns.ImportCycles.ImportSteps.{packages_added}
 

@@ -6,7 +6,7 @@ use Rattle.go_tree.specs.ScopeNames.Identifiers.{expr_identifiers, type_identifi
 use Rattle.pkg_graph.specs.Package.{Package}
 use Rattle.pkg_graph.specs.Graph.{Leads}
 use Rattle.go_tree.specs.GoTypes.Answers.{meets}
-use Rattle.splice_laws.specs.FormImports.Written.{NoneUnnamed}
+use Rattle.constant_steps.specs.FormImports.Written.{NoneUnnamed}
 use Rattle.run_rules.specs.Sites.{MarkRef, Where, Inlinable, a_constant, an_alias, a_function, Part, an_expr}
 use Rattle.run_rules.specs.Sites.{a_type_part, Site, where_is, inlinable, is_free_function, not_function}
 use Rattle.run_rules.specs.Steps.{At}

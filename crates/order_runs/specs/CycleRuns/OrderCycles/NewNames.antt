@@ -5,7 +5,7 @@ use Rattle.pkg_graph.specs.Members.{package_name}
 use Rattle.import_rules.specs.Needs.{avoided}
 use Rattle.run_rules.specs.Naming.{fuel_for, package_path, own_name, names_here}
 use Rattle.run_rules.specs.Steps.{At, Found}
-use Rattle.splice_laws.specs.FormImports.ImportLaws.Steps.{binders_of}
+use Rattle.constant_steps.specs.FormImports.ImportLaws.Steps.{binders_of}
 
 -- the package of each number has the name that its path has, as where no two packages have one path
 abbrev pub NamesByPath : {S : Type 0} → List (Package S) → Type 0

@@ -16,8 +16,8 @@ use Rattle.run_rules.specs.FormTrees.{Form, as_expr}
 use Rattle.run_rules.specs.Steps.{At, same_here, changes_for, new_decls, with_file}
 use Rattle.typed_in_place.specs.Replaced.{TypeReplaced}
 use Rattle.typed_in_place.specs.ProgramReplaced.{ValuesEnd}
-use Rattle.splice_laws.specs.ConstantSteps.StepLaws.DeclStands.{DeclStands, DeclTypesStand, body_there}
-use Rattle.splice_laws.specs.ConstantSteps.StepLaws.NamesOutside.{AllUsesThere}
+use Rattle.constant_steps.specs.StepLaws.DeclStands.{DeclStands, DeclTypesStand, body_there}
+use Rattle.constant_steps.specs.StepLaws.NamesOutside.{AllUsesThere}
 use Rattle.order_runs.specs.CycleRuns.StepCycles.PackagesAlike.{import_key}
 
 -- both files import the same packages by the same names, in the same order

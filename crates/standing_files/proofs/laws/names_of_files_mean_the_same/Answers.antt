@@ -1,4 +1,4 @@
-use Rattle.splice_laws.proofs.WrittenLiteral.FilesMeant.{file_meant}
+use Rattle.constant_steps.proofs.WrittenLiteral.FilesMeant.{file_meant}
 use Rattle.literal_steps.proofs.FilesKnown.{nothing_else}
 use Rattle.literal_steps.proofs.NamesServe.{serves_there}
 use Rattle.standing_files.proofs.FilesStand.{file-stands}

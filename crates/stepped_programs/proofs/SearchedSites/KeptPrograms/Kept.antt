@@ -16,7 +16,7 @@ use Rattle.run_rules.specs.Respanned.{source_with, package_with, packages_with}
 use Rattle.run_rules.specs.Sites.{MarkRef}
 use Rattle.run_rules.specs.Steps.{At}
 use Rattle.run_rules.specs.Run.{Standing, here_of}
-use Rattle.splice_laws.proofs.ConstantSteps.MarksFound.{nth_mapped}
+use Rattle.constant_steps.proofs.MarksFound.{nth_mapped}
 use Rattle.package_search.specs.declared.looks.ProgramSources.{ProgramSources}
 use Rattle.package_search.specs.declared.search.FoundInPackage.{FoundInPackage}
 use Rattle.package_search.specs.Search.{is_settled, HasNone, IsPackageSearch}

@@ -14,8 +14,8 @@ use Rattle.run_rules.specs.Sites.{MarkRef, Where}
 use Rattle.run_rules.specs.Respanned.{file_with, package_with, packages_with}
 use Rattle.run_rules.specs.Steps.{At}
 use Rattle.run_rules.specs.Run.{Standing, here_of}
-use Rattle.splice_laws.specs.FormImports.ImportLaws.Steps.{names_standing}
-use Rattle.splice_laws.specs.PlaceMeanings.Laws.{AreNamesOf}
+use Rattle.constant_steps.specs.FormImports.ImportLaws.Steps.{names_standing}
+use Rattle.constant_steps.specs.PlaceMeanings.Laws.{AreNamesOf}
 use Rattle.member_uses.specs.Laws.{Knows}
 use Rattle.file_tables.specs.Numbers.{number_in}
 use Rattle.use_search.specs.Answers.{names_of}

@@ -14,7 +14,7 @@ use Rattle.run_rules.specs.Sites.{Where}
 use Rattle.run_rules.specs.Respanned.{name_with, import_spec_with, import_decl_with, file_with, package_with, packages_with}
 use Rattle.run_rules.specs.Steps.{At}
 use Rattle.run_rules.specs.Run.{here_of}
-use Rattle.splice_laws.specs.FormImports.ImportLaws.Steps.{names_standing}
+use Rattle.constant_steps.specs.FormImports.ImportLaws.Steps.{names_standing}
 use Rattle.file_tables.specs.Numbers.{number_in}
 use Rattle.use_search.proofs.UsesOfMarks.BlocksStay.{block_stays}
 

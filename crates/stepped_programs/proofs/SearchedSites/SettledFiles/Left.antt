@@ -7,7 +7,7 @@ use Rattle.go_tree.specs.declared.scope_names.names.ImportName.{ImportName}
 use Rattle.scope_tables.specs.Table.{IsTableOf}
 use Rattle.pkg_graph.specs.Package.{SourceTree, Package, import_specs}
 use Rattle.pkg_graph.specs.Members.{Target, package_block, import_name}
-use Rattle.splice_laws.specs.FormImports.ImportLaws.Steps.{names_standing}
+use Rattle.constant_steps.specs.FormImports.ImportLaws.Steps.{names_standing}
 use Rattle.member_uses.specs.Uses.{Names}
 use Rattle.member_uses.specs.Laws.{Knows}
 use Rattle.splice_laws.specs.RunLaws.Reading.{FileAt, OnePathEach}

@@ -8,8 +8,8 @@ use Rattle.run_rules.specs.Sites.{an_expr}
 use Rattle.run_rules.specs.Surroundings.{Use, Place, Seen, seen, is_local, is_old}
 use Rattle.typed_parts.specs.StandingUses.ImportUses.Parts as parts
 use Rattle.typed_parts.specs.StandingUses.ImportUses.Parts.{IsName}
-use Rattle.splice_laws.specs.PlaceMeanings.Agreement.{BlockIsLocal}
-use Rattle.splice_laws.specs.PlaceMeanings.Parts.{AtPart, AtParts}
+use Rattle.constant_steps.specs.PlaceMeanings.Agreement.{BlockIsLocal}
+use Rattle.constant_steps.specs.PlaceMeanings.Parts.{AtPart, AtParts}
 use Rattle.possible_uses.specs.Among.{may_be_use, Follows, at_the_end, past_a_use, past_no_use, past_a_key, past_a_field, past_an_old_name, past_a_type, past_a_statement}
 use Rattle.possible_uses.specs.Candidates.{Candidate, plain_part, key_part}
 use Rattle.possible_uses.specs.Parts.{put}

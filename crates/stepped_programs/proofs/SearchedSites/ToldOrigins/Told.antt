@@ -22,9 +22,9 @@ use Rattle.run_rules.specs.Texts.{FileText}
 use Rattle.typed_parts.specs.StandingUses.ImportUses.Parts as parts
 use Rattle.typed_parts.specs.StandingUses.ImportUses.Parts.{IsName}
 use Rattle.member_uses.proofs.Stays.{candidate_with, after_decl-stays}
-use Rattle.splice_laws.specs.PlaceMeanings.Agreement.{BlockIsLocal}
-use Rattle.splice_laws.specs.PlaceMeanings.Parts.{AllScoped}
-use Rattle.splice_laws.proofs.PlaceMeanings.PlacesMean.{blocks_local}
+use Rattle.constant_steps.specs.PlaceMeanings.Agreement.{BlockIsLocal}
+use Rattle.constant_steps.specs.PlaceMeanings.Parts.{AllScoped}
+use Rattle.constant_steps.proofs.PlaceMeanings.PlacesMean.{blocks_local}
 use Rattle.possible_uses.specs.Among.{Keyed}
 use Rattle.possible_uses.specs.Candidates.{Candidate}
 use Rattle.possible_uses.specs.Laws.{PartsAreAmongAll}

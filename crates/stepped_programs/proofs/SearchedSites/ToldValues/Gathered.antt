@@ -18,8 +18,8 @@ use Rattle.run_rules.specs.Run.{here_of}
 use Rattle.member_uses.specs.Uses.{Names}
 use Rattle.member_uses.specs.Views.{names_in}
 use Rattle.member_uses.specs.declared.names.FileScopes.{FileScopes}
-use Rattle.splice_laws.specs.PlaceMeanings.Agreement.{AgreesAt}
-use Rattle.splice_laws.proofs.PlaceMeanings.PlacesMean.{places_mean}
+use Rattle.constant_steps.specs.PlaceMeanings.Agreement.{AgreesAt}
+use Rattle.constant_steps.proofs.PlaceMeanings.PlacesMean.{places_mean}
 use Rattle.use_search.specs.declared.mark_values.values.DeclaredValue.{DeclaredValue}
 use Rattle.use_search.specs.declared.mark_values.marked.PackageScopes.{PackageScopes}
 use Rattle.use_search.specs.MarkValues.Values.{expr_value, decl_values}

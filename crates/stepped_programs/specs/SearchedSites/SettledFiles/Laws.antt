@@ -4,7 +4,7 @@ use Rattle.std.specs.Prelude.{◌≡◌, ℕ, Bool, true, List, Option, Some, No
 use Rattle.go_scan.specs.TokenLists.{TokenLists}
 use Rattle.pkg_graph.specs.Package.{Package}
 use Rattle.pkg_graph.specs.Members.{package_block}
-use Rattle.splice_laws.specs.FormImports.ImportLaws.Steps.{names_standing}
+use Rattle.constant_steps.specs.FormImports.ImportLaws.Steps.{names_standing}
 use Rattle.use_search.specs.declared.mark_values.values.DeclaredValue.{DeclaredValue}
 use Rattle.use_search.specs.MarkValues.Tables.{Known, DeclKey, same_key, IsPut}
 use Rattle.member_uses.specs.Uses.{Names}

@@ -4,7 +4,7 @@ use Rattle.std.specs.Prelude.{◌≡◌, ◌<◌, List, map, Some, Contains, sli
 use Rattle.go_tree.specs.declared.spans.Span.{Span}
 use Rattle.go_tree.specs.Tree.{NameAt, Expr}
 use Rattle.go_tree.specs.File.{Decl}
-use Rattle.splice_laws.specs.PlaceMeanings.Parts.{AllScoped}
+use Rattle.constant_steps.specs.PlaceMeanings.Parts.{AllScoped}
 use Rattle.possible_uses.specs.Among.{Keyed}
 use Rattle.possible_uses.specs.Parts.{parts_of}
 use Rattle.run_rules.specs.Inlining.{ReadsAs}

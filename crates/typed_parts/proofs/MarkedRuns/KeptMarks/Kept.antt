@@ -27,7 +27,7 @@ use Rattle.run_rules.specs.Places.{expr_seen}
 use Rattle.run_rules.specs.Surroundings.{Seen, seen, other, inner_slot, in_slot}
 use Rattle.splice_laws.proofs.RunLaws.FoundSpans.{Placed}
 use Rattle.order_runs.proofs.RunSteps.SeatedUses.{Among, first}
-use Rattle.splice_laws.proofs.ConstantSteps.MarksFound.{StandsThere, stands_there, DeclaredThere, declared_there}
+use Rattle.constant_steps.proofs.MarksFound.{StandsThere, stands_there, DeclaredThere, declared_there}
 use Rattle.typed_parts.specs.StandingUses.ImportUses.Parts.{IsNoImport}
 use Rattle.typed_parts.specs.StandingUses.Laws.{IsNamedOnce}
 use Rattle.typed_parts.proofs.StandingUses.Once.{stand_once}

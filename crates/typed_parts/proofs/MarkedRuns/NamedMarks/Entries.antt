@@ -22,7 +22,7 @@ use Rattle.import_rules.specs.Removed.{same_span}
 use Rattle.pkg_graph.specs.Members.{specs_names, decl_names}
 use Rattle.go_tree.specs.GoTypes.Answers.{given}
 use Rattle.typed_in_place.proofs.Rising.{and_first, and_second}
-use Rattle.splice_laws.proofs.ConstantSteps.NamesOutside.{equal_numbers}
+use Rattle.constant_steps.proofs.NamesOutside.{equal_numbers}
 use Rattle.order_runs.proofs.RunSteps.SeatedUses.{Among, first, later}
 use Rattle.run_rules.specs.Programs.{numbered, numbered_from}
 use Rattle.run_rules.specs.Sites.{MarkRef, Inlinable, a_constant, an_alias, a_function, constant_in_spec, less, nth_constant, aliased, inlinable_in}

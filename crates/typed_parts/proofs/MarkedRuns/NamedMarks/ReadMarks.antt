@@ -11,7 +11,7 @@ use Rattle.directive_scan.specs.Marked.{good_marks}
 use Rattle.pkg_graph.specs.Package.{SourceTree, Package}
 use Rattle.pkg_graph.specs.Members.{names_of_file}
 use Rattle.typed_in_place.proofs.Rising.{and_first, and_second}
-use Rattle.splice_laws.proofs.ConstantSteps.NamesOutside.{equal_numbers}
+use Rattle.constant_steps.proofs.NamesOutside.{equal_numbers}
 use Rattle.run_rules.specs.Programs.{numbered, numbered_from}
 use Rattle.run_rules.specs.Sites.{MarkRef, same_mark, is_among_marks, inlinable_in}
 use Rattle.run_rules.specs.Marks.{text_at, declaration_at, found_in, marks_by_number, file_marks, files_marks, packages_marks, marked_name, home_path, full_name, marks_of}

@@ -26,13 +26,13 @@ use Rattle.splice_laws.specs.Dots.{UndottedDecls, UndottedFile}
 use Rattle.splice_laws.specs.Swaps.{in_decls, FileIn}
 use Rattle.splice_laws.proofs.ImportSplices.TypedDots.UndottedFiles.{files_are_undotted}
 use Rattle.splice_laws.proofs.ImportSplices.TypedDots.UnspreadDots.{packages_dots}
-use Rattle.splice_laws.specs.FormImports.OwnNames.{AreInProgram}
+use Rattle.constant_steps.specs.FormImports.OwnNames.{AreInProgram}
 use Rattle.splice_laws.specs.ImportSplices.FormSplices.Laws.{MakesForm}
 use Rattle.typed_parts.specs.StandingUses.ImportUses.Parts as parts
 use Rattle.typed_parts.specs.StandingUses.ImportUses.Parts.{IsName, IsNoImport}
-use Rattle.splice_laws.specs.PlaceMeanings.Agreement.{BlockIsLocal}
-use Rattle.splice_laws.specs.PlaceMeanings.Parts.{AllScoped, AtPart, AtParts}
-use Rattle.splice_laws.proofs.PlaceMeanings.PlacesMean.{blocks_local}
+use Rattle.constant_steps.specs.PlaceMeanings.Agreement.{BlockIsLocal}
+use Rattle.constant_steps.specs.PlaceMeanings.Parts.{AllScoped, AtPart, AtParts}
+use Rattle.constant_steps.proofs.PlaceMeanings.PlacesMean.{blocks_local}
 use Rattle.splice_laws.proofs.RunLaws.FoundSpans.{Placed}
 use Rattle.order_runs.proofs.RunSteps.SeatedUses.{Among, first, later, Seated}
 use Rattle.typed_parts.specs.ScopedParts.Laws.{WellTypedFilesAreScoped}

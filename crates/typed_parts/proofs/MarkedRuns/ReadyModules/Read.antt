@@ -25,8 +25,8 @@ use Rattle.run_by_steps.specs.WrittenImports.Laws.{AreNamed}
 use Rattle.run_by_steps.proofs.WrittenImports.ReadNames.{read_packages_are_named}
 use Rattle.put_names.specs.WrittenNames.NamedPackages.{PathsAreOctets}
 use Rattle.put_names.proofs.WrittenNames.ReadNames.{modules_named}
-use Rattle.splice_laws.specs.WrittenLiteral.UnspreadForms.UnspreadForms.{UnspreadFiles, UnspreadPackages}
-use Rattle.splice_laws.proofs.WrittenLiteral.UnspreadForms.Spans.{decls-spanned}
+use Rattle.constant_steps.specs.WrittenLiteral.UnspreadForms.UnspreadForms.{UnspreadFiles, UnspreadPackages}
+use Rattle.constant_steps.proofs.WrittenLiteral.UnspreadForms.Spans.{decls-spanned}
 use Rattle.typed_parts.specs.MarkedRuns.SettledConstants.Programs.{IsReady}
 use Rattle.typed_parts.proofs.MarkedRuns.ReadyModules.Typed.{linked_typed, typed_as_read}
 

@@ -23,7 +23,7 @@ use Rattle.splice_laws.specs.Dots.{UndottedDecls, UndottedFile}
 use Rattle.splice_laws.specs.ImportSplices.TypedDots.Unspread.{UnspreadDecls, UnspreadUndotted, UnspreadAreUndotted}
 use Rattle.splice_laws.proofs.ImportSplices.TypedDots.UndottedFiles.{files_are_undotted}
 use Rattle.splice_laws.proofs.ImportSplices.TypedDots.UnspreadDots.{packages_dots}
-use Rattle.splice_laws.specs.WrittenLiteral.UnspreadForms.UnspreadForms.{UnspreadFiles, UnspreadPackages}
+use Rattle.constant_steps.specs.WrittenLiteral.UnspreadForms.UnspreadForms.{UnspreadFiles, UnspreadPackages}
 use Rattle.order_runs.specs.CycleRuns.OrderCycles.Orders.{AllOrdered}
 use Rattle.order_runs.specs.CycleRuns.Linked.{Linked}
 use Rattle.order_runs.proofs.CycleRuns.Runs.{linked-names}

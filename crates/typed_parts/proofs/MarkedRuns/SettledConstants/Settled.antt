@@ -24,7 +24,7 @@ use Rattle.put_nodes.specs.Put.{IsSomeName}
 use Rattle.put_names.specs.Uses.{IsUsedByName, UsesConstant}
 use Rattle.put_names.proofs.Settled.{constants_settle, constants_write}
 use Rattle.typed_parts.specs.ScopedParts.Laws.{WellTypedFilesAreScoped}
-use Rattle.splice_laws.proofs.WrittenLiteral.UnspreadForms.StepsUnspread.{step-unspread}
+use Rattle.constant_steps.proofs.WrittenLiteral.UnspreadForms.StepsUnspread.{step-unspread}
 use Rattle.put_names.specs.WrittenNames.NamedPackages.{PackagesAreNamed, PathsAreOctets}
 use Rattle.put_names.proofs.WrittenNames.Kept as names
 use Rattle.typed_parts.specs.MarkedRuns.SettledConstants.Programs.{IsReady, IsOverConstant, PutsOtherName, AllOverConstants}

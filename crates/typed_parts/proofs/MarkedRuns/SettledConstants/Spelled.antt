@@ -14,7 +14,7 @@ use Rattle.pkg_graph.specs.Package.{SourceTree, Package, import_specs}
 use Rattle.pkg_graph.specs.Members.{Target, imported, member, import_name, name_or, package_name, specs_names, block_names, unless_method, items_from, decls_from, files_from, package_block}
 use Rattle.pkg_graph.specs.Members as members
 use Rattle.go_tree.specs.GoTypes.Answers.{given}
-use Rattle.splice_laws.specs.FormImports.Written.{NoneUnnamed}
+use Rattle.constant_steps.specs.FormImports.Written.{NoneUnnamed}
 use Rattle.run_rules.specs.Naming.{unnamed_package}
 use Rattle.run_rules.specs.Respanned.{expr_with, exprs_with, specs_with, name_with, type_spec_with, type_option_with, decl_with, decls_with, file_with, func_with}
 use Rattle.run_rules.specs.Run.{Standing, Logged, Next, here_of}

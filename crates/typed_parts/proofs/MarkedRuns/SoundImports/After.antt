@@ -21,7 +21,7 @@ use Rattle.run_rules.specs.Run.{Standing, Logged, Next, here_of}
 use Rattle.run_rules.specs.Sites.{MarkRef, Where, Site}
 use Rattle.run_rules.specs.Steps.{At, change_nth, added_decls, spec_for}
 use Rattle.splice_laws.proofs.RunLaws.FoundSpans.{Placed}
-use Rattle.splice_laws.specs.FormImports.ImportLaws.Steps.{removed_specs}
+use Rattle.constant_steps.specs.FormImports.ImportLaws.Steps.{removed_specs}
 use Rattle.order_runs.specs.RunSteps.RunPackages.{members_of}
 use Rattle.order_runs.specs.ImportSteps.ImportingSteps.{MayBeDeclared}
 use Rattle.order_runs.specs.CycleRuns.StepCycles.PackagesAlike.{import_key, DeclAlike}

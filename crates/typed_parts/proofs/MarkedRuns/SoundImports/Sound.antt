@@ -31,12 +31,12 @@ use Rattle.run_rules.specs.Naming.{Named, no_span, fuel_for, name_added, imports
 use Rattle.run_rules.specs.Steps.{At, change_nth, added_decls, spec_for}
 use Rattle.run_rules.specs.Run.{Standing, Logged, Next, is_commented, here_of}
 use Rattle.run_rules.proofs.NamesFound.{found_is_fresh}
-use Rattle.splice_laws.specs.FormImports.ImportLaws.Steps.{binders_of}
-use Rattle.splice_laws.proofs.FormImports.ImportLaws.StepNames.{FoundWell, found_well}
-use Rattle.splice_laws.proofs.ConstantSteps.MarksFound.{nth_mapped}
-use Rattle.splice_laws.proofs.ConstantSteps.PlainImports.{Distinct, distinct_sources}
-use Rattle.splice_laws.specs.ConstantSteps.PlainUse.{linked_at}
-use Rattle.splice_laws.proofs.ConstantSteps.QualifiedSteps.Declared.{sound_there}
+use Rattle.constant_steps.specs.FormImports.ImportLaws.Steps.{binders_of}
+use Rattle.constant_steps.proofs.FormImports.ImportLaws.StepNames.{FoundWell, found_well}
+use Rattle.constant_steps.proofs.MarksFound.{nth_mapped}
+use Rattle.constant_steps.proofs.PlainImports.{Distinct, distinct_sources}
+use Rattle.constant_steps.specs.PlainUse.{linked_at}
+use Rattle.constant_steps.proofs.QualifiedSteps.Declared.{sound_there}
 use Rattle.order_runs.specs.RunSteps.RunPackages.{members_of}
 use Rattle.order_runs.proofs.RunSteps.MembersViewed.{sources-linked}
 use Rattle.order_runs.proofs.RunSteps.PackageStands.{StandsAt, package-stands}

@@ -20,7 +20,7 @@ use Rattle.typed_parts.specs.MarkedRuns.SettledConstants.Laws as settled
 use Rattle.order_runs.specs.CycleRuns.Linked.{WritesFile}
 use Rattle.order_runs.proofs.CycleRuns.Runs.{writes-of}
 use Rattle.typed_parts.specs.MarkedRuns.SettledConstants.Programs.{IsReady}
-use Rattle.splice_laws.specs.WrittenLiteral.UnspreadForms.UnspreadForms.{UnspreadPackages}
+use Rattle.constant_steps.specs.WrittenLiteral.UnspreadForms.UnspreadForms.{UnspreadPackages}
 use Rattle.typed_parts.specs.MarkedRuns.ReadyModules.Laws.{ReadModulesAreReady}
 use Rattle.typed_parts.proofs.MarkedRuns.ReadyModules.Typed.{linked_typed, typed_as_read}
 use Rattle.typed_parts.specs.MarkedRuns.TakenNames.Taken.{TakesName, EachTakes, AllTake}

@@ -14,8 +14,8 @@ use Rattle.run_rules.specs.Programs.{numbered}
 use Rattle.run_rules.specs.Sites.{MarkRef, Site, part_span}
 use Rattle.run_rules.specs.Steps.{At, same_here}
 use Rattle.run_rules.specs.Run.{Standing, Logged, Next, is_commented}
-use Rattle.splice_laws.specs.ConstantSteps.StepLaws.PartsTyped.{HeaderTyped}
-use Rattle.splice_laws.specs.ConstantSteps.StepLaws.ConstantSwaps.{ConstantSwaps}
+use Rattle.constant_steps.specs.StepLaws.PartsTyped.{HeaderTyped}
+use Rattle.constant_steps.specs.StepLaws.ConstantSwaps.{ConstantSwaps}
 use Rattle.order_runs.proofs.CycleRuns.StepCycles.Orders.{rows-by}
 use Rattle.order_runs.specs.CycleRuns.OrderCycles.Orders.{AllOrdered}
 use Rattle.order_runs.proofs.CycleRuns.OrderCycles.StepSettled.{ordered-alike}

@@ -13,12 +13,12 @@ use Rattle.go_tree.specs.GoTypes.Declarations.{Repeated}
 use Rattle.form_meaning.specs.FormInPlace.Bound.{stmt_binds, first_binds, range_left_binds, literal_binds, variable_binds}
 use Rattle.form_meaning.proofs.FormInPlace.Uses.{among_append, among_left}
 use Rattle.run_rules.specs.Surroundings.{Place, after_stmt, after_first, ranged, in_literal, after_constants, after_variables, first_declares, left_declares}
-use Rattle.splice_laws.specs.WrittenLiteral.Within.{Grows}
-use Rattle.splice_laws.specs.WrittenLiteral.Listing.{Listing}
-use Rattle.splice_laws.proofs.WrittenLiteral.ListedHeads.{listing, names_both}
-use Rattle.splice_laws.proofs.WrittenLiteral.Listed.{members_grow}
-use Rattle.splice_laws.proofs.ConstantSteps.StepLaws.OutsideHolds.{of_either, among_right, no_name}
-use Rattle.splice_laws.proofs.PlaceMeanings.Walk.{literal_place}
+use Rattle.constant_steps.specs.WrittenLiteral.Within.{Grows}
+use Rattle.constant_steps.specs.WrittenLiteral.Listing.{Listing}
+use Rattle.constant_steps.proofs.WrittenLiteral.ListedHeads.{listing, names_both}
+use Rattle.constant_steps.proofs.WrittenLiteral.Listed.{members_grow}
+use Rattle.constant_steps.proofs.StepLaws.OutsideHolds.{of_either, among_right, no_name}
+use Rattle.constant_steps.proofs.PlaceMeanings.Walk.{literal_place}
 
 -- What two blocks have declared is declared around each, and the same names are declared around both.
 pub record Alike {S : Type 0} (hs ks : List (List ℕ)) (xs ys : List (NameAt S)) : Type 0 where

@@ -19,8 +19,8 @@ use Rattle.run_rules.specs.Sites.{Where, an_expr, a_type_part, type_span, named_
 use Rattle.run_rules.specs.Steps.{means_import, named_by_import}
 use Rattle.possible_uses.specs.Candidates.{Candidate, plain_part, key_part}
 use Rattle.possible_uses.specs.Among.{may_be_use, names_in, Follows, at_the_end, past_a_use, past_no_use, past_a_key, past_a_field, past_an_old_name, past_a_type, past_a_statement}
-use Rattle.splice_laws.specs.PlaceMeanings.Agreement.{AgreesAt, target_of}
-use Rattle.splice_laws.specs.PlaceMeanings.Parts.{AtTypes, AtParts}
+use Rattle.constant_steps.specs.PlaceMeanings.Agreement.{AgreesAt, target_of}
+use Rattle.constant_steps.specs.PlaceMeanings.Parts.{AtTypes, AtParts}
 use Rattle.repeated_parts.specs.ImportsUnused.Uses.{one_if, is_import, import_meant, import_at, uses_among, named_import}
 use Rattle.typed_parts.proofs.StandingUses.ImportUses.Totals.{total, before_dot, types_of, uses_of, none_last, past_one, past_none, past_nothing}
 

@@ -10,8 +10,8 @@ use Rattle.run_rules.specs.Surroundings.{Place, Seen, in_constant}
 use Rattle.run_rules.specs.Programs.{world, headed_func, top_place, body_place, with_receiver, constants_at_top, variables_at_top, types_at_top, receiver_seen, func_seen, decl_seen}
 use Rattle.run_rules.specs.Rewriting.{Changes, new_sig, new_stmts}
 use Rattle.run_rules.specs.Steps.{new_constants, new_variables, new_receiver_option, new_type_spec, new_decl}
-use Rattle.splice_laws.proofs.ConstantSteps.StepLaws.DeclUses.{body-begins}
-use Rattle.splice_laws.proofs.ConstantSteps.StepLaws.OutsideHolds.{no_name}
+use Rattle.constant_steps.proofs.StepLaws.DeclUses.{body-begins}
+use Rattle.constant_steps.proofs.StepLaws.OutsideHolds.{no_name}
 use Rattle.typed_parts.proofs.StandingUses.ImportUses.Around.{Beside}
 use Rattle.typed_parts.proofs.StandingUses.ImportUses.Stays.{change, sig_stays}
 use Rattle.typed_parts.proofs.StandingUses.ImportUses.Walk.{IsForm, Swap, nothing_swaps, both, type_swaps, written_swaps, sig_swaps, all_swap, stmts_swap}

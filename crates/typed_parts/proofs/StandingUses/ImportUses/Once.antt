@@ -13,8 +13,8 @@ use Rattle.run_rules.specs.Places.{expr_seen}
 use Rattle.run_rules.specs.Respanned.{expr_with}
 use Rattle.run_rules.specs.Sites.{Where, an_expr}
 use Rattle.run_rules.specs.Steps.{named_by_import}
-use Rattle.splice_laws.specs.PlaceMeanings.Agreement.{AgreesAt}
-use Rattle.splice_laws.specs.PlaceMeanings.Parts.{IsScoped, AllScoped, AtParts}
+use Rattle.constant_steps.specs.PlaceMeanings.Agreement.{AgreesAt}
+use Rattle.constant_steps.specs.PlaceMeanings.Parts.{IsScoped, AllScoped, AtParts}
 use Rattle.constant_forms.specs.Views.{name_expr}
 use Rattle.run_rules.specs.FormTrees.{a_name}
 use Rattle.constant_forms.specs.declared.packages.NamedPackage.{NamedPackage}

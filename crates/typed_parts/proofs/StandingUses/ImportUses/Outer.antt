@@ -13,7 +13,7 @@ use Rattle.go_tree.specs.GoTypes.Answers.{given, is_among}
 use Rattle.run_rules.specs.Surroundings.{Place, is_local}
 use Rattle.run_rules.specs.Sites.{Where, imported_by, outer}
 use Rattle.run_rules.specs.Steps.{change_nth, means_import, with_file, named_by_import}
-use Rattle.splice_laws.proofs.FormImports.ImportLaws.GraphImports.{map_append}
+use Rattle.constant_steps.proofs.FormImports.ImportLaws.GraphImports.{map_append}
 
 -- no name means an import there
 abbrev NoImports : Environment Target → Type 0

@@ -15,7 +15,7 @@ use Rattle.scope_tables.specs.Table.{Table}
 use Rattle.pkg_graph.specs.Package.{Package, import_specs}
 use Rattle.pkg_graph.specs.Members.{import_name}
 use Rattle.go_tree.specs.GoTypes.Answers.{is_among}
-use Rattle.splice_laws.specs.FormImports.ImportLaws.Steps.{used_before, used_after}
+use Rattle.constant_steps.specs.FormImports.ImportLaws.Steps.{used_before, used_after}
 use Rattle.run_rules.specs.Surroundings.{Place, Seen, seen, seen_type, seen_stmt}
 use Rattle.run_rules.specs.Programs.{decl_seen}
 use Rattle.run_rules.specs.Sites.{MarkRef, Where, part_span, named_in, an_expr}
@@ -28,9 +28,9 @@ use Rattle.run_rules.specs.Texts.{FileText}
 use Rattle.possible_uses.specs.Among.{Keyed}
 use Rattle.possible_uses.specs.Laws.{PartsAreAmongAll}
 use Rattle.possible_uses.specs.Parts.{parts_of}
-use Rattle.splice_laws.specs.PlaceMeanings.Agreement.{AgreesAt}
-use Rattle.splice_laws.specs.PlaceMeanings.Parts.{AllScoped, AtParts}
-use Rattle.splice_laws.proofs.PlaceMeanings.PlacesMean.{places_mean}
+use Rattle.constant_steps.specs.PlaceMeanings.Agreement.{AgreesAt}
+use Rattle.constant_steps.specs.PlaceMeanings.Parts.{AllScoped, AtParts}
+use Rattle.constant_steps.proofs.PlaceMeanings.PlacesMean.{places_mean}
 use Rattle.constant_forms.specs.declared.reduced.ConstantForm.{ConstantForm}
 use Rattle.constant_forms.specs.Views.{name_expr}
 use Rattle.repeated_parts.specs.ImportsUnused.Uses.{one_if, is_import, form_import, named_import, uses_among, all_parts}

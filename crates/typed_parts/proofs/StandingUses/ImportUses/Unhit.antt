@@ -12,7 +12,7 @@ use Rattle.run_rules.specs.Rewriting.{Changes, new_written, new_all, new_stmts}
 use Rattle.run_rules.specs.Respanned.{name_with, type_with, fields_with, exprs_with, stmts_with}
 use Rattle.run_rules.specs.Steps.{new_constants, new_variables, new_receiver_option, new_type_spec, new_decl}
 use Rattle.run_rules.proofs.WalksAlike.{all-alike, stmts-alike}
-use Rattle.splice_laws.proofs.PlaceMeanings.Same.{keep, file-same}
+use Rattle.constant_steps.proofs.PlaceMeanings.Same.{keep, file-same}
 use Rattle.typed_parts.proofs.StandingUses.ImportUses.Stays.{change, sig_stays}
 
 module _ {S : Type 0} where

@@ -23,9 +23,9 @@ use Rattle.typed_parts.specs.StandingUses.ImportUses.Parts as parts
 use Rattle.typed_parts.specs.StandingUses.ImportUses.Parts.{IsName}
 use Rattle.typed_parts.specs.StandingUses.ImportUses.Steps.{EachDecl, IsStanding}
 use Rattle.member_uses.proofs.Stays.{candidate_with, after_decl-stays}
-use Rattle.splice_laws.specs.PlaceMeanings.Agreement.{BlockIsLocal}
-use Rattle.splice_laws.specs.PlaceMeanings.Parts.{AtPart, AtParts}
-use Rattle.splice_laws.proofs.PlaceMeanings.PlacesMean.{blocks_local}
+use Rattle.constant_steps.specs.PlaceMeanings.Agreement.{BlockIsLocal}
+use Rattle.constant_steps.specs.PlaceMeanings.Parts.{AtPart, AtParts}
+use Rattle.constant_steps.proofs.PlaceMeanings.PlacesMean.{blocks_local}
 use Rattle.possible_uses.specs.Among.{may_be_use, Follows, at_the_end, past_a_use, past_no_use, past_a_key, past_a_field, past_an_old_name, past_a_type, past_a_statement}
 use Rattle.possible_uses.specs.Candidates.{Candidate, plain_part, key_part}
 use Rattle.possible_uses.specs.Laws.{PartsAreAmongAll}

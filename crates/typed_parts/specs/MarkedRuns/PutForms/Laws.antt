@@ -11,7 +11,7 @@ use Rattle.splice_laws.specs.ImportSplices.AddedFile.{AreWritable}
 use Rattle.constant_forms.specs.declared.uses.ConstantValue.{ConstantValue}
 use Rattle.constant_forms.specs.Uses.{IsValue}
 use Rattle.order_runs.specs.CycleRuns.Linked.{Linked, SettlesFile}
-use Rattle.splice_laws.specs.FormImports.OwnNames.{AreInProgram}
+use Rattle.constant_steps.specs.FormImports.OwnNames.{AreInProgram}
 use Rattle.order_runs.specs.CycleRuns.KeptImports.Files.{RemovesNoNames}
 use Rattle.run_by_steps.specs.NextPrograms.Made.{PutsForm, MakesFile, NextWith}
 use Rattle.run_by_steps.specs.Reached.{HasReached, IsNextUse}
@@ -23,7 +23,7 @@ use Rattle.run_rules.specs.Sites.{MarkRef, Where}
 use Rattle.run_rules.specs.Steps.{At, Found}
 use Rattle.run_rules.specs.Texts.{FileText}
 use Rattle.typed_parts.specs.MarkedRuns.SettledConstants.Programs.{IsReady}
-use Rattle.splice_laws.specs.WrittenLiteral.UnspreadForms.UnspreadForms.{UnspreadPackages}
+use Rattle.constant_steps.specs.WrittenLiteral.UnspreadForms.UnspreadForms.{UnspreadPackages}
 use Rattle.typed_parts.specs.MarkedRuns.PutForms.Uses.{IsFirstUse, UsesNamedConstant, IsOfPackages}
 
 -- In a program that is ready the form of a constant's first use is laid out in the place of a node of the file, and

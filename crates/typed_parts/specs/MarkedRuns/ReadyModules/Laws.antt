@@ -12,7 +12,7 @@ use Rattle.run_rules.specs.Texts.{FileText}
 use Rattle.run_rules.specs.Inlining.{ModuleReads, standing_as_read}
 use Rattle.order_runs.specs.RunSteps.RunPackages.{packages_of}
 use Rattle.typed_parts.specs.MarkedRuns.SettledConstants.Programs.{IsReady}
-use Rattle.splice_laws.specs.WrittenLiteral.UnspreadForms.UnspreadForms.{UnspreadPackages}
+use Rattle.constant_steps.specs.WrittenLiteral.UnspreadForms.UnspreadForms.{UnspreadPackages}
 
 -- A module that reads is ready, where the paths of its files are octets, its packages are well typed, and no call hands
 -- on a slice for its last arguments.

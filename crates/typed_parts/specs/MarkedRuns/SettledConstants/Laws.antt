@@ -21,7 +21,7 @@ use Rattle.order_runs.specs.CycleRuns.LedImports.Led.{IsSpelled}
 use Rattle.put_names.specs.WrittenNames.NamedPackages.{PackagesAreNamed, PathsAreOctets}
 use Rattle.put_names.specs.Laws.{PackagesAreWritable}
 use Rattle.put_names.specs.Uses.{IsScopedAround, IsUsedByName, UsesConstant}
-use Rattle.splice_laws.specs.WrittenLiteral.UnspreadForms.UnspreadForms.{UnspreadPackages}
+use Rattle.constant_steps.specs.WrittenLiteral.UnspreadForms.UnspreadForms.{UnspreadPackages}
 use Rattle.typed_parts.specs.MarkedRuns.SettledConstants.Programs.{IsReady, IsOverConstant, PutsOtherName}
 use Rattle.typed_parts.specs.MarkedRuns.SettledConstants.Programs.{AllOverConstants}
 

@@ -17,7 +17,7 @@ use Rattle.order_runs.specs.CycleLaws.ConstantCycles.Laws.{NamesFor}
 use Rattle.order_runs.specs.CycleRuns.KeptImports.Files.{RemovesNoNames}
 use Rattle.put_names.specs.Uses.{UsesConstant}
 use Rattle.run_rules.specs.FormTrees.{as_expr}
-use Rattle.splice_laws.specs.WrittenLiteral.UnspreadForms.UnspreadForms.{UnspreadPackages}
+use Rattle.constant_steps.specs.WrittenLiteral.UnspreadForms.UnspreadForms.{UnspreadPackages}
 use Rattle.put_names.specs.WrittenNames.NamedPackages.{PackagesAreNamed, PathsAreOctets}
 
 -- Its files read from their texts, each under a path of its own; its packages are linked, with identifiers for their

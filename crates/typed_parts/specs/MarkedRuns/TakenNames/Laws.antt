@@ -23,7 +23,7 @@ use Rattle.order_runs.specs.ImportRuns.ImportingNext.{IsImporting}
 use Rattle.order_runs.specs.SameProgram.{SameProgram}
 use Rattle.order_runs.specs.CycleRuns.Linked.{WritesFile}
 use Rattle.typed_parts.specs.MarkedRuns.SettledConstants.Programs.{IsReady}
-use Rattle.splice_laws.specs.WrittenLiteral.UnspreadForms.UnspreadForms.{UnspreadPackages}
+use Rattle.constant_steps.specs.WrittenLiteral.UnspreadForms.UnspreadForms.{UnspreadPackages}
 use Rattle.typed_parts.specs.MarkedRuns.TakenNames.Taken.{TakesName, EachTakes, AllTake}
 
 -- A step that import_runs speaks of is such a step, whose use has its old place with the imports added.

@@ -7,7 +7,7 @@ use Rattle.go_tree.specs.File.{Decl}
 use Rattle.go_tree.specs.declared.scope_names.names.FileNames.{FileNames}
 use Rattle.go_tree.specs.ScopeNames.Scopes.{expr_span}
 use Rattle.scope_tables.specs.Table.{Table, IsTableOf}
-use Rattle.splice_laws.specs.FormImports.ImportLaws.Steps.{names_standing}
+use Rattle.constant_steps.specs.FormImports.ImportLaws.Steps.{names_standing}
 use Rattle.run_rules.specs.Programs.{decl_seen}
 use Rattle.pkg_graph.specs.Package.{Package}
 use Rattle.run_rules.specs.Sites.{MarkRef, Where, an_expr, part_span}
@@ -19,8 +19,8 @@ use Rattle.run_rules.specs.Laws.{file_found}
 use Rattle.run_rules.specs.Inlining.{ReadsAs}
 use Rattle.run_rules.specs.Texts.{FileText}
 use Rattle.possible_uses.specs.Among.{Keyed}
-use Rattle.splice_laws.specs.PlaceMeanings.Parts.{AllScoped}
-use Rattle.splice_laws.specs.PlaceMeanings.Laws.{AreNamesOf}
+use Rattle.constant_steps.specs.PlaceMeanings.Parts.{AllScoped}
+use Rattle.constant_steps.specs.PlaceMeanings.Laws.{AreNamesOf}
 use Rattle.constant_forms.specs.declared.reduced.ConstantForm.{ConstantForm}
 use Rattle.constant_forms.specs.Views.{name_expr, form_of}
 use Rattle.repeated_parts.specs.ImportsUnused.Uses.{all_parts}

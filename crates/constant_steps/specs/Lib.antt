@@ -1,0 +1,11 @@
+pub mod Alone
+pub mod PlainUse
+pub mod HeaderUses
+pub mod PlainRuns
+pub mod PlainLinks
+pub mod Laws
+pub mod StepLaws
+pub mod QualifiedSteps
+pub mod FormImports
+pub mod WrittenLiteral
+pub mod PlaceMeanings
