@@ -2,9 +2,9 @@
 
 ghost use Rattle.inlined_files.specs.InlinedModules.Laws as law;
 
+use constant_steps::form_imports::packages_have_own_names;
 use printed_constants::declared_constants::declared_constants_name_constants;
 use printed_constants::{constants_names_stand, printed_imports_are_used};
-use constant_steps::form_imports::packages_have_own_names;
 use typed_parts::marked_runs::{
     added_imports_may_be_declared, constants_settle, marks_stay_named, read_marks_are_named,
     read_modules_are_ready, runs_over_constants_keep, runs_over_marks_keep,
