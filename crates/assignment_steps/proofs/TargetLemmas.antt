@@ -14,18 +14,18 @@ use Rattle.go_tree.specs.GoTypes.Statements.{blank, store, right_values, stores,
 use Rattle.type_table.specs.declared.nodes.TypeId.{TypeId}
 use Rattle.type_table.specs.TypeRelations.Environment.{Environment}
 use Rattle.operator_rules.specs.Settling.{typed_option}
-use Rattle.operand_rules.specs.declared.values.ValueType.{ValueType}
-use Rattle.operand_rules.specs.declared.values.ValueType.TheVariants as variant
-use Rattle.operand_rules.specs.declared.values.Content.{Content}
-use Rattle.operand_rules.specs.declared.values.Content.TheVariants.{Run, Exact, Shift}
-use Rattle.operand_rules.specs.declared.values.Value.{Value}
-use Rattle.operand_rules.specs.declared.values.Refusal.{Refusal}
-use Rattle.operand_rules.specs.declared.values.Refusal.TheVariants.{NotTyped, NoMemory}
-use Rattle.operand_rules.specs.Values.{typed_of}
+use Rattle.type_table.specs.declared.operand_rules.values.ValueType.{ValueType}
+use Rattle.type_table.specs.declared.operand_rules.values.ValueType.TheVariants as variant
+use Rattle.type_table.specs.declared.operand_rules.values.Content.{Content}
+use Rattle.type_table.specs.declared.operand_rules.values.Content.TheVariants.{Run, Exact, Shift}
+use Rattle.type_table.specs.declared.operand_rules.values.Value.{Value}
+use Rattle.type_table.specs.declared.operand_rules.values.Refusal.{Refusal}
+use Rattle.type_table.specs.declared.operand_rules.values.Refusal.TheVariants.{NotTyped, NoMemory}
+use Rattle.type_table.specs.OperandRules.Values.{typed_of}
 use Rattle.operator_rules.specs.AccessRules.Places.{place_of}
 use Rattle.operand_modes.specs.Operands.{SameOperand, operand_at}
-use Rattle.operand_answers.specs.declared.located.Located.{Located}
-use Rattle.operand_answers.specs.Located.{GivesAt, is_stored, stored_by}
+use Rattle.operand_modes.specs.declared.operand_answers.located.Located.{Located}
+use Rattle.operand_modes.specs.OperandAnswers.Located.{GivesAt, is_stored, stored_by}
 use Rattle.control_steps.specs.Ends.{EndsAs}
 use Rattle.control_steps.specs.RightSides.Values.{AreAlike, GivesValuesAlike, SameValue, SameValues}
 use Rattle.control_steps.proofs.RightSides.AlikeValues.{fits_alike, settled_alike}

@@ -3,10 +3,10 @@
 use Rattle.std.specs.Prelude.{◌≡◌, List, [], ◌∷◌, map, Option, Some, None, Result, Ok, Err}
 use Rattle.go_tree.specs.GoTypes.Statements as go
 use Rattle.type_table.specs.TypeRelations.Environment.{Environment, env_type}
-use Rattle.operand_rules.specs.declared.values.ValueType.TheVariants.{Typed}
-use Rattle.operand_rules.specs.declared.values.Refusal.{Refusal}
-use Rattle.operand_rules.specs.declared.values.Refusal.TheVariants.{NotTyped, NoMemory}
-use Rattle.operand_rules.specs.Values.{IsType}
+use Rattle.type_table.specs.declared.operand_rules.values.ValueType.TheVariants.{Typed}
+use Rattle.type_table.specs.declared.operand_rules.values.Refusal.{Refusal}
+use Rattle.type_table.specs.declared.operand_rules.values.Refusal.TheVariants.{NotTyped, NoMemory}
+use Rattle.type_table.specs.OperandRules.Values.{IsType}
 use Rattle.assignment_steps.specs.declared.targets.Target.{Target}
 use Rattle.assignment_steps.specs.declared.targets.Target.TheVariants.{Blank, Store}
 use Rattle.assignment_steps.specs.declared.targets.TargetList.{TargetList}

@@ -6,21 +6,21 @@ ghost use Rattle.go_tree.specs.GoTypes.Entities as go_entity;
 ghost use Rattle.go_tree.specs.GoTypes.Operands as go_operand;
 ghost use Rattle.go_tree.specs.GoTypes.Statements as go;
 ghost use Rattle.type_table.specs.TypeRelations.Environment.{defined_types};
-ghost use Rattle.operand_rules.specs.Values.{typed_of};
+ghost use Rattle.type_table.specs.OperandRules.Values.{typed_of};
 ghost use Rattle.operator_rules.specs.AccessRules.Functions.{AreValues};
-ghost use Rattle.checker_tables.specs.Ready.{AreReady};
-ghost use Rattle.operand_answers.specs.Lists.{GivesAll};
+ghost use Rattle.operand_modes.specs.CheckerTables.Ready.{AreReady};
+ghost use Rattle.operand_modes.specs.OperandAnswers.Lists.{GivesAll};
 ghost use Rattle.control_steps.specs.Ends.{EndsAs};
 ghost use Rattle.control_steps.specs.RightSides.Values.{AreValuesIfOk, GivesValuesAlike, StandIfOk};
 ghost use Rattle.assignment_steps.specs.Targets.{AreTargets, AreTargetsIfOk, GivesTargets, targets_of};
 
 use crate::targets::{Target, TargetList, stores};
-use checker_tables::Tables;
 use control_steps::right_values;
-use operand_answers::OperandList;
 use operand_modes::ValueList;
-use operand_rules::{Refusal, Value};
+use operand_modes::checker_tables::Tables;
+use operand_modes::operand_answers::OperandList;
 use std::alloc::Global;
+use type_table::operand_rules::{Refusal, Value};
 
 /// Whether each value may be stored at its target, one by one.
 fn all_stored(tables: &Tables, targets: &[Target], xs: &[Value]) -> bool

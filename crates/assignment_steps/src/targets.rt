@@ -8,22 +8,22 @@ ghost use Rattle.go_tree.specs.GoTypes.Operands as go_operand;
 ghost use Rattle.go_tree.specs.GoTypes.Operands.{with_value};
 ghost use Rattle.go_tree.specs.GoTypes.Statements as go;
 ghost use Rattle.type_table.specs.TypeRelations.Environment.{defined_types};
-ghost use Rattle.operand_rules.specs.Values.{IsValue, type_of, typed_of};
+ghost use Rattle.type_table.specs.OperandRules.Values.{IsValue, type_of, typed_of};
 ghost use Rattle.operator_rules.specs.AccessRules.Places.{place_of};
 ghost use Rattle.operand_modes.specs.declared.modes.Operand.TheVariants.{Single};
 ghost use Rattle.operand_modes.specs.Operands.{operand_at};
-ghost use Rattle.checker_tables.specs.Ready.{AreReady};
-ghost use Rattle.operand_answers.specs.Located.{GivesAt, IsThere, IsThereIfOk, StandsAt, is_stored};
+ghost use Rattle.operand_modes.specs.CheckerTables.Ready.{AreReady};
+ghost use Rattle.operand_modes.specs.OperandAnswers.Located.{GivesAt, IsThere, IsThereIfOk, StandsAt, is_stored};
 ghost use Rattle.assignment_steps.specs.Targets.{GivesTarget, IsTarget, target_of};
 
-use checker_tables::Tables;
 use go_tree::Expr;
-use operand_answers::Located;
+use operand_modes::checker_tables::Tables;
+use operand_modes::operand_answers::Located;
 use operand_modes::single_value;
-use operand_rules::{Refusal, Value, ValueType, fits};
 use operator_rules::access_rules::{Place, is_blank};
 use operator_rules::settled;
 use type_table::TypeId;
+use type_table::operand_rules::{Refusal, Value, ValueType, fits};
 
 /// Where a value is stored: nowhere, by `_`, or in a variable or an element of a map, of this type.
 #[derive(Clone, Copy)]

@@ -1,8 +1,8 @@
 -- The ends of blocks, and answers one behind another.
 use Rattle.std.proofs.Common.{◌≡◌, ◌∙◌, ◌&&◌, ℕ, Bool, true, false, not, cond, List, [], ◌∷◌, Option, Some, None, Result, Ok, Err, OnOk, refl, sym, ap}
 use Rattle.go_tree.specs.GoTypes.Answers.{given, only_if}
-use Rattle.operand_rules.specs.declared.values.Refusal.{Refusal}
-use Rattle.operand_rules.specs.declared.values.Refusal.TheVariants.{NotTyped, NoMemory}
+use Rattle.type_table.specs.declared.operand_rules.values.Refusal.{Refusal}
+use Rattle.type_table.specs.declared.operand_rules.values.Refusal.TheVariants.{NotTyped, NoMemory}
 use Rattle.go_tree.specs.declared.spans.Span.{Span}
 use Rattle.go_tree.specs.Tree.{NameAt, Stmt, label}
 use Rattle.go_tree.specs.GoTypes.Bodies.{Ctx, labelled}
@@ -12,7 +12,7 @@ use Rattle.go_tree.specs.GoTypes.Typing.{stmt}
 use Rattle.type_table.specs.TypeRelations.Environment.{Environment}
 use Rattle.typed_names.specs.declared.scopes.Scope.{Scope}
 use Rattle.typed_names.specs.Meanings.{Names}
-use Rattle.checker_tables.specs.declared.tables.Tables.{Tables}
+use Rattle.operand_modes.specs.declared.checker_tables.tables.Tables.{Tables}
 use Rattle.control_steps.specs.declared.returns.Body.{Body}
 use Rattle.control_steps.specs.Returns.{IsBodyOf}
 use Rattle.jump_rules.specs.declared.around.Around.{Around}

@@ -14,9 +14,9 @@ use Rattle.go_tree.specs.GoTypes.Statements.{is_absent, is_define, is_test}
 use Rattle.go_tree.specs.GoTypes.Typing.{bound, declares_first, first, stmt, stmts, used_first, used_option, used_stmt, used_stmts}
 use Rattle.typed_names.specs.declared.scopes.Scope.{Scope}
 use Rattle.typed_names.specs.Meanings.{Names}
-use Rattle.operand_rules.specs.declared.values.Refusal.{Refusal}
-use Rattle.operand_rules.specs.declared.values.Refusal.TheVariants.{NotTyped, NoMemory}
-use Rattle.checker_tables.specs.declared.tables.Tables.{Tables}
+use Rattle.type_table.specs.declared.operand_rules.values.Refusal.{Refusal}
+use Rattle.type_table.specs.declared.operand_rules.values.Refusal.TheVariants.{NotTyped, NoMemory}
+use Rattle.operand_modes.specs.declared.checker_tables.tables.Tables.{Tables}
 use Rattle.control_steps.specs.LocalBlocks.Places.{IsPlace}
 use Rattle.jump_rules.specs.declared.used_locals.pending.PendingName.{PendingName}
 use Rattle.jump_rules.specs.UsedLocals.Used.{Used, and_names}

@@ -8,10 +8,10 @@ use Rattle.go_tree.specs.GoTypes.Typing.{used}
 use Rattle.operator_rules.specs.AccessRules.Functions.{AreTypes}
 use Rattle.typed_names.specs.declared.scopes.Scope.{Scope}
 use Rattle.typed_names.specs.Meanings.{Names}
-use Rattle.checker_tables.specs.declared.tables.Tables.{Tables}
-use Rattle.checker_tables.specs.Ready.{Keeps}
-use Rattle.operand_answers.specs.Known.{Stands}
-use Rattle.operand_answers.proofs.KeptLemmas.{stands_kept}
+use Rattle.operand_modes.specs.declared.checker_tables.tables.Tables.{Tables}
+use Rattle.operand_modes.specs.CheckerTables.Ready.{Keeps}
+use Rattle.operand_modes.specs.OperandAnswers.Known.{Stands}
+use Rattle.operand_modes.proofs.OperandAnswers.KeptLemmas.{stands_kept}
 use Rattle.control_steps.specs.declared.returns.Body.{Body}
 use Rattle.control_steps.specs.LocalBlocks.Places.{IsPlace}
 use Rattle.control_steps.proofs.LocalBlocks.PlaceLemmas.{blocks_begin, places_are_environments}

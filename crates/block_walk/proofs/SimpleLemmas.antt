@@ -10,11 +10,11 @@ use Rattle.go_tree.specs.GoTypes.Entities.{Env}
 use Rattle.go_tree.specs.GoTypes.Typing.{declares, declares_constants, declares_variables, stmt, used, used_all, used_left, used_stmt, used_constants, used_variables}
 use Rattle.typed_names.specs.declared.scopes.Scope.{Scope}
 use Rattle.typed_names.specs.Meanings.{Names}
-use Rattle.operand_rules.specs.declared.values.Refusal.{Refusal}
-use Rattle.operand_rules.specs.declared.values.Refusal.TheVariants.{NotTyped, NoMemory}
-use Rattle.checker_tables.specs.declared.tables.Tables.{Tables}
-use Rattle.checker_tables.specs.Ready.{Keeps}
-use Rattle.operand_answers.specs.Known.{Stands}
+use Rattle.type_table.specs.declared.operand_rules.values.Refusal.{Refusal}
+use Rattle.type_table.specs.declared.operand_rules.values.Refusal.TheVariants.{NotTyped, NoMemory}
+use Rattle.operand_modes.specs.declared.checker_tables.tables.Tables.{Tables}
+use Rattle.operand_modes.specs.CheckerTables.Ready.{Keeps}
+use Rattle.operand_modes.specs.OperandAnswers.Known.{Stands}
 use Rattle.assignment_steps.proofs.DeclaredBlocks.BlockLemmas.{within_self}
 use Rattle.control_steps.specs.declared.returns.Body.{Body}
 use Rattle.control_steps.specs.Ends.{EndsAs}

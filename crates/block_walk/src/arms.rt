@@ -13,8 +13,8 @@ ghost use Rattle.block_walk.specs.Arms.{GivesOpen, innermost_first};
 use crate::ends::{behind, close};
 use go_tree::Block;
 use jump_rules::{PendingNames, UsedNames};
-use operand_rules::Refusal;
 use std::alloc::Global;
+use type_table::operand_rules::Refusal;
 
 /// An arm of an `if` behind which others may stand: the names that last through them, and whether its
 /// block ends in a terminating statement.

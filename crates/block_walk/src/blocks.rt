@@ -8,8 +8,8 @@ ghost use Rattle.go_tree.specs.GoTypes.Bodies.{Ctx};
 ghost use Rattle.go_tree.specs.GoTypes.Entities.{Env, in_block};
 ghost use Rattle.go_tree.specs.GoTypes.Typing as go;
 ghost use Rattle.operator_rules.specs.AccessRules.Functions.{AreTypes};
-ghost use Rattle.checker_tables.specs.Ready.{Keeps};
-ghost use Rattle.operand_answers.specs.Known.{Stands};
+ghost use Rattle.operand_modes.specs.CheckerTables.Ready.{Keeps};
+ghost use Rattle.operand_modes.specs.OperandAnswers.Known.{Stands};
 ghost use Rattle.control_steps.specs.LocalBlocks.Places.{IsWithin};
 ghost use Rattle.jump_rules.specs.UsedLocals.Used.{and_names, used_of};
 ghost use Rattle.statement_walk.specs.Parts.{AreHere};
@@ -22,12 +22,12 @@ use crate::ifs::if_statement;
 use crate::loops::{for_statement, range_statement};
 use crate::plain::plain_statement;
 use crate::switch_walk::switch_statement;
-use checker_tables::Tables;
 use control_steps::{Body, LocalBlock, labelled_statement};
 use go_tree::{NameAt, Stmt, StmtList};
 use jump_rules::{Around, PendingNames, UsedNames, enter_label, leave_label};
-use operand_rules::Refusal;
+use operand_modes::checker_tables::Tables;
 use std::alloc::Global;
+use type_table::operand_rules::Refusal;
 use typed_names::{Blocks, Scope};
 
 /// A statement of a block: whether it is terminating, what it declares, and the names that it uses.

@@ -10,17 +10,17 @@ ghost use Rattle.go_tree.specs.GoTypes.Entities.{Env};
 ghost use Rattle.go_tree.specs.GoTypes.Types.{FuncType};
 ghost use Rattle.go_tree.specs.GoTypes.Typing as go;
 ghost use Rattle.operator_rules.specs.AccessRules.Functions.{AreTypes};
-ghost use Rattle.checker_tables.specs.Ready.{Keeps};
-ghost use Rattle.operand_answers.specs.Known.{Stands};
+ghost use Rattle.operand_modes.specs.CheckerTables.Ready.{Keeps};
+ghost use Rattle.operand_modes.specs.OperandAnswers.Known.{Stands};
 ghost use Rattle.control_steps.specs.LocalBlocks.Places.{IsPlace, IsWithin};
 ghost use Rattle.control_steps.specs.Returns.{IsBodyOf};
 ghost use Rattle.block_walk.specs.Walked.{AreWalkedStmts};
 
 use crate::blocks::statements;
-use checker_tables::Tables;
 use control_steps::{Body, LocalBlock, is_body};
 use go_tree::{NoMemory, StmtList};
 use jump_rules::{Around, UsedNames};
+use operand_modes::checker_tables::Tables;
 use std::alloc::Global;
 use typed_names::{Blocks, Scope};
 

@@ -11,8 +11,8 @@ ghost use Rattle.block_walk.specs.Walked as walked;
 
 use go_tree::{Expr, Stmt, StmtList};
 use jump_rules::{PendingNames, UsedNames, breaks_in};
-use operand_rules::Refusal;
 use std::alloc::Global;
+use type_table::operand_rules::Refusal;
 
 /// Whether a statement is one in which others stand.
 #[tactic(auto, using(crate::proofs::StatementKinds::no_others_const, crate::proofs::StatementKinds::no_others_var))]

@@ -9,8 +9,8 @@ ghost use Rattle.go_tree.specs.GoTypes.Entities.{Env, defined_in};
 ghost use Rattle.go_tree.specs.GoTypes.Statements as go_statement;
 ghost use Rattle.go_tree.specs.GoTypes.Typing as go;
 ghost use Rattle.operator_rules.specs.AccessRules.Functions.{AreTypes};
-ghost use Rattle.checker_tables.specs.Ready.{Keeps};
-ghost use Rattle.operand_answers.specs.Known.{Stands};
+ghost use Rattle.operand_modes.specs.CheckerTables.Ready.{Keeps};
+ghost use Rattle.operand_modes.specs.OperandAnswers.Known.{Stands};
 ghost use Rattle.control_steps.specs.LocalBlocks.Places.{IsPlace, IsWithin};
 ghost use Rattle.expr_walk.specs.Walked.{IsWalked, IsWalkedOption};
 ghost use Rattle.jump_rules.specs.UsedLocals.Used.{and_names, used_of};
@@ -21,14 +21,14 @@ ghost use Rattle.block_walk.specs.Walked.{IsHeader, IsPost, IsPostOption};
 
 use crate::ends::{is_declaration, without_end};
 use crate::plain::{plain_statement, simple_part};
-use checker_tables::Tables;
 use control_steps::{Body, LocalBlock, condition};
 use expr_walk::expr;
 use go_tree::{Expr, Stmt};
 use jump_rules::{Around, PendingNames, UsedNames};
-use operand_rules::Refusal;
+use operand_modes::checker_tables::Tables;
 use statement_walk::use_expr;
 use std::alloc::Global;
+use type_table::operand_rules::Refusal;
 use typed_names::{Blocks, Scope};
 
 /// The first statement of a header, which may be left out: what it declares, and the names that it uses.

@@ -8,8 +8,8 @@ ghost use Rattle.go_tree.specs.GoTypes.Bodies.{Ctx};
 ghost use Rattle.go_tree.specs.GoTypes.Entities.{Env, in_block};
 ghost use Rattle.go_tree.specs.GoTypes.Typing as go;
 ghost use Rattle.operator_rules.specs.AccessRules.Functions.{AreTypes};
-ghost use Rattle.checker_tables.specs.Ready.{Keeps};
-ghost use Rattle.operand_answers.specs.Known.{Stands};
+ghost use Rattle.operand_modes.specs.CheckerTables.Ready.{Keeps};
+ghost use Rattle.operand_modes.specs.OperandAnswers.Known.{Stands};
 ghost use Rattle.control_steps.specs.LocalBlocks.Places.{IsWithin};
 ghost use Rattle.expr_walk.specs.Walked.{IsWalked};
 ghost use Rattle.jump_rules.specs.UsedLocals.Used.{and_names, used_of};
@@ -20,12 +20,12 @@ ghost use Rattle.block_walk.specs.Walked.{AreWalkedArms, AreWalkedStmts, IsHeade
 use crate::arms::{OpenArm, close_arms, if_answer, open_arm};
 use crate::blocks::block_statements;
 use crate::headers::{condition_of, header};
-use checker_tables::Tables;
 use control_steps::{Body, LocalBlock};
 use go_tree::{Arm, ArmList, Block};
 use jump_rules::{Around, PendingNames, UsedNames};
-use operand_rules::Refusal;
+use operand_modes::checker_tables::Tables;
 use std::alloc::Global;
+use type_table::operand_rules::Refusal;
 use typed_names::{Blocks, Scope};
 
 /// An arm of an `if`, up to the arms behind it; the names that its first statement declares last through

@@ -9,8 +9,8 @@ ghost use Rattle.go_tree.specs.GoTypes.Bodies.{Ctx, in_loop};
 ghost use Rattle.go_tree.specs.GoTypes.Entities.{Env, in_block};
 ghost use Rattle.go_tree.specs.GoTypes.Typing as go;
 ghost use Rattle.operator_rules.specs.AccessRules.Functions.{AreTypes};
-ghost use Rattle.checker_tables.specs.Ready.{Keeps};
-ghost use Rattle.operand_answers.specs.Known.{Stands};
+ghost use Rattle.operand_modes.specs.CheckerTables.Ready.{Keeps};
+ghost use Rattle.operand_modes.specs.OperandAnswers.Known.{Stands};
 ghost use Rattle.expr_walk.specs.Walked.{IsWalked, IsWalkedOption};
 ghost use Rattle.jump_rules.specs.UsedLocals.Used.{and_names, used_of};
 ghost use Rattle.block_walk.specs.Answers.{GivesEnds, IsBodyPlace, StaysAround};
@@ -20,12 +20,12 @@ use crate::blocks::block_statements;
 use crate::ends::{close, is_endless, loop_answer, range_answer};
 use crate::headers::{header, loop_condition, post_of};
 use crate::ranges::range_header;
-use checker_tables::Tables;
 use control_steps::{Body, LocalBlock};
 use go_tree::{Expr, RangeLeft, Stmt, StmtList};
 use jump_rules::{Around, PendingNames, UsedNames, enter_loop, leave_loop};
-use operand_rules::Refusal;
+use operand_modes::checker_tables::Tables;
 use std::alloc::Global;
+use type_table::operand_rules::Refusal;
 use typed_names::{Blocks, Scope};
 
 /// The block of a loop.

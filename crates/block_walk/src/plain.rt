@@ -6,8 +6,8 @@ ghost use Rattle.go_tree.specs.GoTypes.Bodies.{Ctx};
 ghost use Rattle.go_tree.specs.GoTypes.Entities.{Env};
 ghost use Rattle.go_tree.specs.GoTypes.Typing as go;
 ghost use Rattle.operator_rules.specs.AccessRules.Functions.{AreTypes};
-ghost use Rattle.checker_tables.specs.Ready.{Keeps};
-ghost use Rattle.operand_answers.specs.Known.{Stands};
+ghost use Rattle.operand_modes.specs.CheckerTables.Ready.{Keeps};
+ghost use Rattle.operand_modes.specs.OperandAnswers.Known.{Stands};
 ghost use Rattle.control_steps.specs.LocalBlocks.Places.{IsPlace, IsWithin};
 ghost use Rattle.jump_rules.specs.UsedLocals.Used.{and_names, used_of};
 ghost use Rattle.statement_walk.specs.SimpleWalk.Simple.{IsSimple};
@@ -18,13 +18,13 @@ ghost use Rattle.block_walk.specs.Walked.{IsPlain};
 
 use crate::ends::{declaration_answer, is_declaration};
 use crate::simple_uses::use_simple;
-use checker_tables::Tables;
 use control_steps::{Body, LocalBlock};
 use go_tree::Stmt;
 use jump_rules::{Around, PendingNames, UsedNames};
-use operand_rules::Refusal;
+use operand_modes::checker_tables::Tables;
 use statement_walk::{constant_group, short_part, simple_statement, variable_group};
 use std::alloc::Global;
+use type_table::operand_rules::Refusal;
 use typed_names::{Blocks, Scope};
 
 /// Whether a statement is terminating that declares nothing, or that it isn't typed; the names that it uses

@@ -6,8 +6,8 @@ ghost use Rattle.go_tree.specs.Tree as tree;
 ghost use Rattle.go_tree.specs.View.{expr_of, exprs_of, name_at_of, range_left_of};
 ghost use Rattle.go_tree.specs.GoTypes.Entities.{Env, in_block};
 ghost use Rattle.go_tree.specs.GoTypes.Typing as go;
-ghost use Rattle.checker_tables.specs.Ready.{Keeps};
-ghost use Rattle.operand_answers.specs.Known.{Stands};
+ghost use Rattle.operand_modes.specs.CheckerTables.Ready.{Keeps};
+ghost use Rattle.operand_modes.specs.OperandAnswers.Known.{Stands};
 ghost use Rattle.control_steps.specs.LocalBlocks.Places.{IsPlace, IsWithin};
 ghost use Rattle.expr_walk.specs.Walked.{AreAllWalked, IsWalked};
 ghost use Rattle.jump_rules.specs.declared.used_locals.pending.PendingName.{PendingName};
@@ -18,14 +18,14 @@ ghost use Rattle.block_walk.specs.Walked.{IsWalkedLeft};
 
 use crate::simple_uses::use_left;
 use assignment_steps::declare_entities;
-use checker_tables::Tables;
 use control_steps::LocalBlock;
 use expr_walk::expr;
 use go_tree::{Expr, ExprList, NameAtList, RangeLeft};
 use jump_rules::{PendingNames, UsedNames};
-use operand_rules::Refusal;
+use operand_modes::checker_tables::Tables;
 use statement_walk::{assigns, range_variables, ranges_over, targets, use_expr};
 use std::alloc::Global;
+use type_table::operand_rules::Refusal;
 use typed_names::{Blocks, Scope};
 
 /// A range clause that keeps no value.

@@ -9,26 +9,26 @@ ghost use Rattle.go_tree.specs.GoTypes.Jumps as jump;
 ghost use Rattle.go_tree.specs.GoTypes.Operands as go_operand;
 ghost use Rattle.go_tree.specs.GoTypes.Statements as go_statement;
 ghost use Rattle.go_tree.specs.GoTypes.Typing as go;
-ghost use Rattle.operand_rules.specs.Values.{IsValue, typed_of};
-ghost use Rattle.checker_tables.specs.Ready.{Keeps};
-ghost use Rattle.operand_answers.specs.Known.{Stands};
-ghost use Rattle.operand_answers.specs.AccessSteps.Bounds.{GivesBound};
+ghost use Rattle.type_table.specs.OperandRules.Values.{IsValue, typed_of};
+ghost use Rattle.operand_modes.specs.CheckerTables.Ready.{Keeps};
+ghost use Rattle.operand_modes.specs.OperandAnswers.Known.{Stands};
+ghost use Rattle.operand_modes.specs.OperandAnswers.AccessSteps.Bounds.{GivesBound};
 ghost use Rattle.control_steps.specs.LocalBlocks.Places.{IsPlace};
 ghost use Rattle.control_steps.specs.RightSides.Values.{AreValuesIfOk, GivesValuesAlike, SameValue};
 ghost use Rattle.expr_walk.specs.Walked.{AreAllWalked, IsWalked, IsWalkedOption};
 ghost use Rattle.jump_rules.specs.UsedLocals.Used.{and_names, used_of};
 ghost use Rattle.block_walk.specs.Cases.{GivesAdded, GivesTag, IsTagIfOk};
 
-use checker_tables::Tables;
 use control_steps::tag;
 use expr_walk::{all_exprs, expr};
 use go_tree::{Case, Expr, ExprList};
 use jump_rules::{UsedNames, breaks_in};
-use operand_answers::bound;
 use operand_modes::ValueList;
-use operand_rules::{Refusal, Value};
+use operand_modes::checker_tables::Tables;
+use operand_modes::operand_answers::bound;
 use statement_walk::{CasesSeen, case_values, use_expr, use_exprs};
 use std::alloc::Global;
+use type_table::operand_rules::{Refusal, Value};
 use typed_names::{Blocks, Scope};
 
 /// What the tag of a switch is, which may be left out, before it has its type.

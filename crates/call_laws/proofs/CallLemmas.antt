@@ -7,11 +7,11 @@ use Rattle.go_tree.specs.GoTypes.Defined.{Defined, under}
 use Rattle.go_tree.specs.GoTypes.Entities.{Builtin, Append, Cap, Copy, Delete, Len, Make, New, Panic, Print, Println, Recover, Content}
 use Rattle.go_tree.specs.GoTypes.Operands.{Operand, value, several, a_type, a_function, a_builtin, recovered, Typed, all_typed, default_type, fits, plain_value, results_operand, settled, spread, with_value}
 use Rattle.go_tree.specs.GoTypes.Primary.{append_call, builtin_call, call_of, cap_call, conversion, converted, copy_call, delete_call, has_length, is_index, is_printed, len_call, length_of, make_call, make_sizes, new_call, nothing_back, on_values, panic_call, print_call, recover_call, rise}
-use Rattle.operand_rules.specs.Values.{SameContent}
+use Rattle.type_table.specs.OperandRules.Values.{SameContent}
 use Rattle.operand_modes.specs.Operands.{SameOperand}
-use Rattle.operand_laws.specs.Alike.{AllSame}
-use Rattle.operand_laws.proofs.ContentLemmas.{alike_by}
-use Rattle.operand_laws.proofs.ValueLemmas.{conversion_sees_alike, index_alike, rise_alike}
+use Rattle.operand_modes.specs.OperandLaws.Alike.{AllSame}
+use Rattle.operand_modes.proofs.OperandLaws.ContentLemmas.{alike_by}
+use Rattle.operand_modes.proofs.OperandLaws.ValueLemmas.{conversion_sees_alike, index_alike, rise_alike}
 use Rattle.call_laws.specs.Laws.{CallsSeeAlike}
 use Rattle.call_laws.proofs.ValueLists.{SameSome, SameValue, SameValues, all_taken, each_same, fit_same, spread_same, typed_same}
 

@@ -6,11 +6,11 @@ use Rattle.go_tree.specs.GoTypes.Types.{GoType}
 use Rattle.go_tree.specs.GoTypes.Defined.{Defined}
 use Rattle.go_tree.specs.GoTypes.Entities.{Content}
 use Rattle.go_tree.specs.GoTypes.Operands.{Operand, value, several, a_type, a_function, a_builtin, recovered, Typed, all_typed, fits, spread, takes, takes_all, typed}
-use Rattle.operand_rules.specs.Values.{SameContent}
+use Rattle.type_table.specs.OperandRules.Values.{SameContent}
 use Rattle.operand_modes.specs.Operands.{SameOperand}
-use Rattle.operand_laws.specs.Alike.{AllSame}
-use Rattle.operand_laws.proofs.ContentLemmas.{operand_same}
-use Rattle.operand_laws.proofs.ValueLemmas.{fitting_sees_alike}
+use Rattle.operand_modes.specs.OperandLaws.Alike.{AllSame}
+use Rattle.operand_modes.proofs.OperandLaws.ContentLemmas.{operand_same}
+use Rattle.operand_modes.proofs.OperandLaws.ValueLemmas.{fitting_sees_alike}
 
 -- two values with the same content
 abbrev pub SameValue : Typed → Typed → Type 0

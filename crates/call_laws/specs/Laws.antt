@@ -4,7 +4,7 @@ use Rattle.go_tree.specs.GoTypes.Defined.{Defined}
 use Rattle.go_tree.specs.GoTypes.Operands.{Operand}
 use Rattle.go_tree.specs.GoTypes.Primary.{call_of}
 use Rattle.operand_modes.specs.Operands.{SameOperand}
-use Rattle.operand_laws.specs.Alike.{AllSame}
+use Rattle.operand_modes.specs.OperandLaws.Alike.{AllSame}
 
 -- a call of a function, a conversion, or a call of a predeclared function
 abbrev pub CallsSeeAlike : Type 0

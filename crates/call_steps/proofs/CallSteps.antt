@@ -9,19 +9,19 @@ use Rattle.go_tree.specs.GoTypes.Operands as go
 use Rattle.go_tree.specs.GoTypes.Operands.{value, several, a_type, a_function, a_builtin, recovered, Typed, all_typed, results_operand, spread, takes, takes_all}
 use Rattle.go_tree.specs.GoTypes.Primary.{call_of, conversion}
 use Rattle.type_table.specs.TypeRelations.Environment.{Environment}
-use Rattle.operand_rules.specs.declared.values.Value.{Value}
-use Rattle.operand_rules.specs.declared.values.Refusal.{Refusal}
-use Rattle.operand_rules.specs.declared.values.Refusal.TheVariants.{NotTyped, NoMemory}
-use Rattle.operand_rules.specs.Values.{typed_of}
+use Rattle.type_table.specs.declared.operand_rules.values.Value.{Value}
+use Rattle.type_table.specs.declared.operand_rules.values.Refusal.{Refusal}
+use Rattle.type_table.specs.declared.operand_rules.values.Refusal.TheVariants.{NotTyped, NoMemory}
+use Rattle.type_table.specs.OperandRules.Values.{typed_of}
 use Rattle.operator_rules.specs.AccessRules.Functions.{operands_of}
 use Rattle.operand_modes.specs.declared.modes.Operand.{Operand}
 use Rattle.operand_modes.specs.declared.modes.Operand.TheVariants as mode
 use Rattle.operand_modes.specs.Lists.{GivesValues, only_value}
 use Rattle.operand_modes.specs.Operands.{GivesOperand, IsOperand, SameOperand, operand_at, operands_at}
-use Rattle.operand_laws.specs.Alike.{AllSame, SameAnswer}
-use Rattle.operand_laws.proofs.ContentLemmas.{answer_equal, operand_same}
-use Rattle.operand_answers.specs.declared.lists.OperandList.{OperandList}
-use Rattle.operand_answers.specs.Lists.{AreThereIfOk, GivesAll}
+use Rattle.operand_modes.specs.OperandLaws.Alike.{AllSame, SameAnswer}
+use Rattle.operand_modes.proofs.OperandLaws.ContentLemmas.{answer_equal, operand_same}
+use Rattle.operand_modes.specs.declared.operand_answers.lists.OperandList.{OperandList}
+use Rattle.operand_modes.specs.OperandAnswers.Lists.{AreThereIfOk, GivesAll}
 use Rattle.call_laws.proofs.CallLemmas.{calls_alike}
 
 -- ---- arguments

@@ -7,18 +7,18 @@ ghost use Rattle.go_tree.specs.GoTypes.Operands as go_operand;
 ghost use Rattle.go_tree.specs.GoTypes.Primary as go;
 ghost use Rattle.type_table.specs.TypeRelations.Environment.{defined_types};
 ghost use Rattle.operand_modes.specs.Operands.{AreOperands, GivesOperand, IsOperand, operand_at, operands_at};
-ghost use Rattle.checker_tables.specs.Ready.{AreReady, Keeps};
-ghost use Rattle.operand_answers.specs.Lists.{AreThereIfOk, GivesAll};
-ghost use Rattle.operand_answers.specs.Located.{GivesAt, IsThereIfOk};
+ghost use Rattle.operand_modes.specs.CheckerTables.Ready.{AreReady, Keeps};
+ghost use Rattle.operand_modes.specs.OperandAnswers.Lists.{AreThereIfOk, GivesAll};
+ghost use Rattle.operand_modes.specs.OperandAnswers.Located.{GivesAt, IsThereIfOk};
 
 use crate::conversions::conversion_call;
 use crate::functions::function_call;
-use checker_tables::Tables;
 use composite_steps::builtin_call;
-use operand_answers::{Located, OperandList, elsewhere};
 use operand_modes::Operand;
-use operand_rules::Refusal;
+use operand_modes::checker_tables::Tables;
+use operand_modes::operand_answers::{Located, OperandList, elsewhere};
 use std::alloc::Global;
+use type_table::operand_rules::Refusal;
 
 /// What a call gives of an operand that is called, and of the operands that are its arguments.
 fn operand_call(

@@ -3,16 +3,16 @@
 ghost use Rattle.std.specs.Prelude.{◌≡◌};
 ghost use Rattle.go_tree.specs.GoTypes.Primary as go;
 ghost use Rattle.type_table.specs.TypeRelations.Environment.{defined_types, env_type};
-ghost use Rattle.operand_rules.specs.declared.values.ValueType.TheVariants.{Typed};
-ghost use Rattle.operand_rules.specs.Values.{IsType};
+ghost use Rattle.type_table.specs.declared.operand_rules.values.ValueType.TheVariants.{Typed};
+ghost use Rattle.type_table.specs.OperandRules.Values.{IsType};
 ghost use Rattle.operand_modes.specs.Lists.{only_value};
 ghost use Rattle.operand_modes.specs.Operands.{AreOperands, GivesOperand, operands_at};
-ghost use Rattle.checker_tables.specs.Ready.{AreReady};
+ghost use Rattle.operand_modes.specs.CheckerTables.Ready.{AreReady};
 
-use checker_tables::Tables;
+use operand_modes::checker_tables::Tables;
 use operand_modes::{Operand, single, single_value};
-use operand_rules::{Refusal, Value, conversion};
 use type_table::TypeId;
+use type_table::operand_rules::{Refusal, Value, conversion};
 
 /// The value that is the only operand.
 #[tactic(auto, using(operand_modes::proofs::AssignedLemmas::one_value, operand_modes::proofs::AssignedLemmas::other_values))]

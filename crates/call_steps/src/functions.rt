@@ -7,14 +7,14 @@ ghost use Rattle.go_tree.specs.GoTypes.Operands.{spread};
 ghost use Rattle.type_table.specs.TypeRelations.Environment.{defined_types};
 ghost use Rattle.operator_rules.specs.AccessRules.Functions.{AreValues, operands_of};
 ghost use Rattle.operand_modes.specs.Operands.{AreOperands, GivesOperand, operands_at, tuple_at};
-ghost use Rattle.checker_tables.specs.Ready.{AreReady};
+ghost use Rattle.operand_modes.specs.CheckerTables.Ready.{AreReady};
 
-use checker_tables::Tables;
+use operand_modes::checker_tables::Tables;
 use operand_modes::{Operand, results_operand, tuple_parts, values};
-use operand_rules::{Refusal, Value};
 use operator_rules::access_rules::takes_all;
 use std::alloc::Global;
 use type_table::TypeId;
+use type_table::operand_rules::{Refusal, Value};
 
 /// Whether each value may stand where one of its parameter's type is wanted.
 fn takes_values(tables: &Tables, params: TypeId, xs: &[Value]) -> bool

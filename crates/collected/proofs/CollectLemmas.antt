@@ -16,10 +16,10 @@ use Rattle.typed_names.specs.declared.entities.Entity.TheVariants.{Variable, Con
 use Rattle.typed_names.specs.Meanings.{Names, block_at, entity_option, world_at}
 use Rattle.declared_types.specs.Members.{SameMembers}
 use Rattle.declared_types.proofs.Found.{member_read}
-use Rattle.func_headers.specs.NameRoles.{SameTypes, role_of}
-use Rattle.func_headers.specs.Functions.{FunctionsAreDeclared}
-use Rattle.func_headers.proofs.SameTypeLaws.{types_back, types_on}
-use Rattle.func_headers.proofs.MethodsAside.{methods_aside}
+use Rattle.package_blocks.specs.FuncHeaders.NameRoles.{SameTypes, role_of}
+use Rattle.package_blocks.specs.FuncHeaders.Functions.{FunctionsAreDeclared}
+use Rattle.package_blocks.proofs.FuncHeaders.SameTypeLaws.{types_back, types_on}
+use Rattle.package_blocks.proofs.FuncHeaders.MethodsAside.{methods_aside}
 use Rattle.method_headers.proofs.MethodLaws.{methods_by_types}
 use Rattle.method_types.specs.Methods.{refused_methods}
 use Rattle.method_types.proofs.RefusedLaws.{refused_by_types}

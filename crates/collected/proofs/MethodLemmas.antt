@@ -11,8 +11,8 @@ use Rattle.type_table.specs.TypesAt.{type_at, type_by}
 use Rattle.type_table.proofs.TypesAtLaws.{get_within, type_at_row}
 use Rattle.type_table.specs.TypeRelations.Environment.{Definition, Environment, IsEnvironment, defined_at, defined_types, definition_in, env_type, has_methods, is_defined}
 use Rattle.type_table.proofs.TypeRelations.UnderLaws.{defined_option, found_by_number}
-use Rattle.comparable_types.specs.declared.grown.TypeFlags.{TypeFlags}
-use Rattle.comparable_types.specs.Grown.{AreFlagsSoFar, DefinedBelow}
+use Rattle.type_table.specs.declared.comparable_types.grown.TypeFlags.{TypeFlags}
+use Rattle.type_table.specs.ComparableTypes.Grown.{AreFlagsSoFar, DefinedBelow}
 use Rattle.operator_rules.specs.declared.basics.BasicTypes.{BasicTypes}
 use Rattle.operator_rules.proofs.KeptLemmas.{basic_types_stay}
 use Rattle.type_table.specs.ValueTypes.ValueTypes.{HasValueTypes}
@@ -21,13 +21,13 @@ use Rattle.typed_names.specs.Meanings.{Names, world_at}
 use Rattle.typed_names.specs.TypeExprs.Grown.{TypesGrown}
 use Rattle.declared_types.specs.Members.{SameMembers}
 use Rattle.declared_types.proofs.Found.{world_kept}
-use Rattle.func_headers.specs.NameRoles.{SameTypes, role_of}
+use Rattle.package_blocks.specs.FuncHeaders.NameRoles.{SameTypes, role_of}
 use Rattle.method_headers.proofs.MethodLaws.{methods_are_found}
 use Rattle.method_types.specs.Methods.{refused_methods}
 use Rattle.method_types.specs.MethodSets.Methods.{HasDeclared, OnlyMethods}
 use Rattle.method_types.proofs.MethodSets.Kept.{flags_kept, keys_kept, under_kept}
-use Rattle.checker_tables.specs.Ready.{IsReady}
-use Rattle.checker_tables.proofs.ReadyLemmas.{ready_stays}
+use Rattle.operand_modes.specs.CheckerTables.Ready.{IsReady}
+use Rattle.operand_modes.proofs.CheckerTables.ReadyLemmas.{ready_stays}
 use Rattle.collected.specs.Methods.{MethodsAreAdded}
 use Rattle.collected.proofs.RowsSame.{members_same, rule_same, values_same}
 

@@ -6,10 +6,10 @@ use Rattle.go_tree.specs.GoTypes.Types.{GoType, FuncType, is_untyped}
 use Rattle.go_tree.specs.GoTypes.Entities as go
 use Rattle.type_table.specs.TypesAt.{type_at}
 use Rattle.type_table.specs.TypeRelations.Environment.{Environment}
-use Rattle.operand_rules.specs.declared.values.ValueType.{ValueType}
-use Rattle.operand_rules.specs.declared.values.ValueType.TheVariants as variant
-use Rattle.operand_rules.specs.Constants.{const_at}
-use Rattle.operand_rules.specs.Values.{type_of}
+use Rattle.type_table.specs.declared.operand_rules.values.ValueType.{ValueType}
+use Rattle.type_table.specs.declared.operand_rules.values.ValueType.TheVariants as variant
+use Rattle.type_table.specs.OperandRules.Constants.{const_at}
+use Rattle.type_table.specs.OperandRules.Values.{type_of}
 use Rattle.operator_rules.specs.Kept as rule
 use Rattle.type_table.specs.ValueTypes.ValueTypes.{HasValueTypes}
 use Rattle.typed_names.specs.declared.entities.Entity.{Entity}

@@ -8,11 +8,11 @@ use Rattle.go_tree.specs.GoTypes.Defined.{under}
 use Rattle.go_tree.specs.GoTypes.Operands.{kind_of}
 use Rattle.type_table.specs.TypesAt.{type_at}
 use Rattle.type_table.specs.TypeRelations.Environment.{Environment, defined_types}
-use Rattle.operand_rules.specs.declared.values.ValueType.{ValueType}
-use Rattle.operand_rules.specs.declared.values.ValueType.TheVariants as variant
-use Rattle.operand_rules.specs.Constants.{const_at}
-use Rattle.operand_rules.specs.Values.{IsType, type_of}
-use Rattle.operand_answers.specs.Known.{AllHaveValues, HasValue, HaveValues}
+use Rattle.type_table.specs.declared.operand_rules.values.ValueType.{ValueType}
+use Rattle.type_table.specs.declared.operand_rules.values.ValueType.TheVariants as variant
+use Rattle.type_table.specs.OperandRules.Constants.{const_at}
+use Rattle.type_table.specs.OperandRules.Values.{IsType, type_of}
+use Rattle.operand_modes.specs.OperandAnswers.Known.{AllHaveValues, HasValue, HaveValues}
 use Rattle.typed_names.specs.declared.entities.Entity.{Entity}
 use Rattle.typed_names.specs.declared.entities.Entity.TheVariants.{Variable, Constant, TypeName, Function, Package, Predeclared, Refused}
 use Rattle.typed_names.specs.Known.{AllHaveTypes, HasTypes, HaveTypes}

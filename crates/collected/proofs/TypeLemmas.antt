@@ -6,8 +6,8 @@ use Rattle.go_tree.specs.GoTypes.Defined.{under, has_keys}
 use Rattle.go_tree.specs.GoTypes.Programs.{Headed, Program, headed}
 use Rattle.go_tree.specs.GoTypes.Collect.{aliased_world, types_declared, typed_world}
 use Rattle.type_table.specs.TypeRelations.Environment.{Environment, defined_types}
-use Rattle.comparable_types.specs.declared.grown.TypeFlags.{TypeFlags}
-use Rattle.comparable_types.specs.Grown.{AreFlagsSoFar, DefinedBelow}
+use Rattle.type_table.specs.declared.comparable_types.grown.TypeFlags.{TypeFlags}
+use Rattle.type_table.specs.ComparableTypes.Grown.{AreFlagsSoFar, DefinedBelow}
 use Rattle.operator_rules.specs.declared.basics.BasicTypes.{BasicTypes}
 use Rattle.operator_rules.specs.BasicTypes.{AreBasic}
 use Rattle.operator_rules.specs.Kept as rule
@@ -26,8 +26,8 @@ use Rattle.defined_types.specs.declared.declared.DeclaredType.{DeclaredType}
 use Rattle.defined_types.specs.DeclaredTypes.{AreDeclared, declared_of}
 use Rattle.defined_types.proofs.TypeSteps.{are_same}
 use Rattle.finite_types.specs.RefusedTypes.Refusals.{TypesAreKnown}
-use Rattle.func_headers.specs.Functions.{TypesAreDeclared}
-use Rattle.checker_tables.specs.Ready.{IsReady}
+use Rattle.package_blocks.specs.FuncHeaders.Functions.{TypesAreDeclared}
+use Rattle.operand_modes.specs.CheckerTables.Ready.{IsReady}
 use Rattle.header_order.specs.Types.{refused_types}
 use Rattle.collected.specs.Types.{TypesAreFound}
 use Rattle.collected.proofs.RowsSame.{declared_same, members_same, rule_grown, rule_on, rule_same, values_same}

@@ -9,10 +9,10 @@ use Rattle.typed_names.specs.Meanings.{world_at}
 use Rattle.declared_types.specs.Members.{SameMembers}
 use Rattle.declared_types.specs.Steps.{KnowsPlaces}
 use Rattle.package_blocks.specs.Headers.{AreHeaders, listed_of}
-use Rattle.func_headers.specs.NameRoles.{SameTypes}
-use Rattle.func_headers.specs.Functions.{refused_functions}
+use Rattle.package_blocks.specs.FuncHeaders.NameRoles.{SameTypes}
+use Rattle.package_blocks.specs.FuncHeaders.Functions.{refused_functions}
 use Rattle.method_types.specs.Methods.{refused_methods}
-use Rattle.checker_tables.specs.Ready.{AreReady}
+use Rattle.operand_modes.specs.CheckerTables.Ready.{AreReady}
 use Rattle.value_rounds.specs.Values.{refused_values}
 use Rattle.initial_values.specs.ValueBlocks.Values.{AreThere}
 use Rattle.header_order.specs.Types.{refused_types}

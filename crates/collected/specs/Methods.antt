@@ -12,7 +12,7 @@ use Rattle.type_table.specs.TypeRelations.Environment.{Environment, env_type, is
 use Rattle.type_table.specs.TypeRelations.Methods.{declared_method}
 use Rattle.typed_names.specs.Meanings.{Names, world_at}
 use Rattle.declared_types.specs.Members.{SameMembers}
-use Rattle.func_headers.specs.NameRoles.{SameTypes}
+use Rattle.package_blocks.specs.FuncHeaders.NameRoles.{SameTypes}
 use Rattle.method_types.specs.Methods.{refused_methods}
 
 -- each defined type of the tables has by each name the method that it has in a world

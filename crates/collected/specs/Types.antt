@@ -8,7 +8,7 @@ use Rattle.go_tree.specs.GoTypes.Collect.{refused_world, typed_world}
 use Rattle.type_table.specs.TypeRelations.Environment.{Environment, defined_types}
 use Rattle.typed_names.specs.Meanings.{Names, world_at}
 use Rattle.declared_types.specs.Members.{SameMembers}
-use Rattle.func_headers.specs.Functions.{TypesAreDeclared}
+use Rattle.package_blocks.specs.FuncHeaders.Functions.{TypesAreDeclared}
 use Rattle.header_order.specs.Types.{refused_types}
 
 -- of no name of the package blocks it is known what it means

@@ -4,16 +4,16 @@
 ghost use Rattle.std.specs.Prelude.{◌<◌, ◌^◌, length, IfOk};
 ghost use Rattle.package_blocks.specs.Collected.{AreOrdered};
 ghost use Rattle.package_blocks.specs.Imports.{views};
-ghost use Rattle.func_headers.specs.Functions.{program_of};
+ghost use Rattle.package_blocks.specs.FuncHeaders.Functions.{program_of};
 ghost use Rattle.collected.specs.ValueHeaders.SpelledDecls.{PackagesAreSpelled};
 ghost use Rattle.collected.specs.Collected.{AreDeclarations};
 
 use crate::methods::add_methods;
 use crate::package_values::{DeclaredValues, declare_values};
 use crate::types::{KnownTypes, known_types};
-use checker_tables::Tables;
-use func_headers::declare_functions;
 use go_tree::NoMemory;
+use operand_modes::checker_tables::Tables;
+use package_blocks::func_headers::declare_functions;
 use package_blocks::{PackageHeader, PackageNames, collect_names};
 use pkg_graph::Package;
 use std::alloc::Global;

@@ -9,13 +9,13 @@ ghost use Rattle.typed_names.specs.Meanings.{world_at};
 ghost use Rattle.declared_types.specs.Steps.{KnowsPlaces};
 ghost use Rattle.package_blocks.specs.Headers.{AreHeaders, listed_of};
 ghost use Rattle.method_types.specs.Methods.{refused_methods};
-ghost use Rattle.checker_tables.specs.Ready.{AreReady};
+ghost use Rattle.operand_modes.specs.CheckerTables.Ready.{AreReady};
 ghost use Rattle.initial_values.specs.ValueBlocks.Values.{AreThere};
 ghost use Rattle.collected.specs.Methods.{MethodsAreAdded};
 
-use checker_tables::Tables;
 use go_tree::NoMemory;
 use method_types::{MethodTypes, attached_types, declare_methods, method_types};
+use operand_modes::checker_tables::Tables;
 use package_blocks::PackageHeader;
 use std::alloc::{AllocError, Global};
 use type_table::TypeId;

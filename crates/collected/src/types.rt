@@ -18,20 +18,20 @@ ghost use Rattle.declared_types.specs.Steps.{KnowsPlaces};
 ghost use Rattle.defined_types.specs.DeclaredTypes.{declared_of};
 ghost use Rattle.package_blocks.specs.Headers.{AreHeaders, listed_of};
 ghost use Rattle.finite_types.specs.RefusedTypes.Refusals.{AreTested, TypesAreKnown};
-ghost use Rattle.checker_tables.specs.Ready.{AreReady};
+ghost use Rattle.operand_modes.specs.CheckerTables.Ready.{AreReady};
 ghost use Rattle.collected.specs.Types.{NothingIsKnown, TypesAreFound};
 
-use checker_tables::Tables;
 use declared_types::{TypeHeader, find_aliases};
 use defined_types::types_declared;
 use finite_types::{TypeTests, refuse_types};
 use go_tree::NoMemory;
 use header_order::refused_types;
 use named_types::define_types;
-use operand_rules::ConstTable;
+use operand_modes::checker_tables::Tables;
 use operator_rules::BasicTypes;
 use package_blocks::{PackageHeader, type_headers};
 use std::alloc::Global;
+use type_table::operand_rules::ConstTable;
 use type_table::type_relations::Env;
 use typed_names::{Blocks, Scope};
 

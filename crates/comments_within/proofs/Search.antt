@@ -5,7 +5,7 @@ use Rattle.std.specs.List.Sorted.{IsNonDecreasingBy}
 use Rattle.std.proofs.lemmas.Bool.{le-leb, lt-leb, le-ltb, ltb-false, and_right}
 use Rattle.go_tree.specs.declared.spans.Span.{Span}
 use Rattle.go_tree.specs.declared.tokens.Comment.{Comment}
-use Rattle.import_rules.specs.Laid.{CommentsAscend}
+use Rattle.run_rules.specs.ImportRules.Laid.{CommentsAscend}
 use Rattle.run_rules.specs.Steps.{lies_in}
 use Rattle.comments_within.specs.Begun.{BeginBefore, BeginFrom, begins_before}
 

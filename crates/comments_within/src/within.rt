@@ -2,7 +2,7 @@
 
 ghost use Rattle.std.specs.Prelude.{◌≡◌, ◌≤◌, length};
 ghost use Rattle.std.specs.List.{list_any};
-ghost use Rattle.import_rules.specs.Laid.{CommentsAscend};
+ghost use Rattle.run_rules.specs.ImportRules.Laid.{CommentsAscend};
 ghost use Rattle.run_rules.specs.Steps.{lies_in};
 ghost use Rattle.comments_within.specs.Begun.{BeginBefore, BeginFrom, begins_before};
 

@@ -10,8 +10,8 @@ use Rattle.go_tree.specs.GoTypes.Operands.{Operand, value, several, a_type, a_fu
 use Rattle.go_tree.specs.GoTypes.Primary.{find_field, sees}
 use Rattle.go_tree.specs.GoTypes.Literals.{Element, unkeyed, of_field, keyed, built, built_inside, constant_index, constant_keys, constant_then, distinct_consts, element_value, fields_set, fills, has_key, index_or, indices, literal_takes, literal_type, map_takes, sets_field, slice_takes, struct_takes}
 use Rattle.operand_modes.specs.Operands.{SameOperand}
-use Rattle.operand_laws.proofs.ContentLemmas.{alike_by}
-use Rattle.operand_laws.proofs.ValueLemmas.{fitting_sees_alike}
+use Rattle.operand_modes.proofs.OperandLaws.ContentLemmas.{alike_by}
+use Rattle.operand_modes.proofs.OperandLaws.ValueLemmas.{fitting_sees_alike}
 use Rattle.composite_steps.specs.Elements.{AllSameElements, SameElement}
 
 -- ---- one element

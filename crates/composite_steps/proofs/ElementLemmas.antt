@@ -10,25 +10,25 @@ use Rattle.go_tree.specs.GoTypes.Literals as go
 use Rattle.go_tree.specs.GoTypes.Literals.{unkeyed, of_field, keyed}
 use Rattle.type_table.specs.TypeRelations.Environment.{Environment}
 use Rattle.typed_names.specs.TypeExprs.Grown.{TypesGrown}
-use Rattle.operand_rules.specs.Constants.{Grown}
-use Rattle.operand_rules.specs.declared.values.Value.{Value}
-use Rattle.operand_rules.specs.declared.values.Refusal.{Refusal}
-use Rattle.operand_rules.specs.declared.values.Refusal.TheVariants.{NotTyped, NoMemory}
-use Rattle.operand_rules.specs.Values.{Gives, IsGiven, type_of}
+use Rattle.type_table.specs.OperandRules.Constants.{Grown}
+use Rattle.type_table.specs.declared.operand_rules.values.Value.{Value}
+use Rattle.type_table.specs.declared.operand_rules.values.Refusal.{Refusal}
+use Rattle.type_table.specs.declared.operand_rules.values.Refusal.TheVariants.{NotTyped, NoMemory}
+use Rattle.type_table.specs.OperandRules.Values.{Gives, IsGiven, type_of}
 use Rattle.operator_rules.specs.declared.access_rules.places.Place.TheVariants.{Literal}
 use Rattle.operand_modes.specs.declared.modes.Operand.{Operand}
 use Rattle.operand_modes.specs.declared.modes.Operand.TheVariants.{Single}
 use Rattle.operand_modes.specs.Operands.{GivesOperand, SameOperand, operand_at}
-use Rattle.literal_rules.specs.declared.elements.Key.{Key}
-use Rattle.literal_rules.specs.declared.elements.Key.TheVariants.{Absent, Field, Given}
-use Rattle.literal_rules.specs.declared.elements.Element.{Element}
-use Rattle.literal_rules.specs.Elements.{AreElements, IsElement, IsKey, element_at, element_by, elements_at}
-use Rattle.checker_tables.specs.declared.tables.Tables.{Tables}
-use Rattle.checker_tables.specs.Ready.{Keeps}
-use Rattle.operand_answers.specs.declared.located.Located.{Located}
-use Rattle.operand_answers.specs.Located.{GivesAt, IsLocated}
-use Rattle.operand_answers.proofs.KeptLemmas.{operand_on, operand_same}
-use Rattle.operand_answers.proofs.StoredLemmas.{stored_of}
+use Rattle.composite_steps.specs.declared.literal_rules.elements.Key.{Key}
+use Rattle.composite_steps.specs.declared.literal_rules.elements.Key.TheVariants.{Absent, Field, Given}
+use Rattle.composite_steps.specs.declared.literal_rules.elements.Element.{Element}
+use Rattle.composite_steps.specs.LiteralRules.Elements.{AreElements, IsElement, IsKey, element_at, element_by, elements_at}
+use Rattle.operand_modes.specs.declared.checker_tables.tables.Tables.{Tables}
+use Rattle.operand_modes.specs.CheckerTables.Ready.{Keeps}
+use Rattle.operand_modes.specs.declared.operand_answers.located.Located.{Located}
+use Rattle.operand_modes.specs.OperandAnswers.Located.{GivesAt, IsLocated}
+use Rattle.operand_modes.proofs.OperandAnswers.KeptLemmas.{operand_on, operand_same}
+use Rattle.operand_modes.proofs.OperandAnswers.StoredLemmas.{stored_of}
 use Rattle.composite_steps.specs.declared.elements.ElementList.{ElementList}
 use Rattle.composite_steps.specs.Elements.{AllSameElements, AreElementsIfOk, GivesElement, GivesElements, SameElement}
 

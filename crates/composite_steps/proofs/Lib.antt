@@ -1,3 +1,4 @@
 pub mod AlikeLemmas
 pub mod ElementLemmas
 pub mod BuiltinSteps
+pub mod LiteralRules

@@ -4,11 +4,11 @@ use Rattle.go_tree.specs.declared.const_eval.consts.Const.{Const}
 use Rattle.go_tree.specs.GoTypes.Literals as go
 use Rattle.go_tree.specs.GoTypes.Literals.{unkeyed, of_field, keyed}
 use Rattle.type_table.specs.TypeRelations.Environment.{Environment}
-use Rattle.operand_rules.specs.declared.values.Refusal.{Refusal}
-use Rattle.operand_rules.specs.declared.values.Refusal.TheVariants.{NotTyped, NoMemory}
+use Rattle.type_table.specs.declared.operand_rules.values.Refusal.{Refusal}
+use Rattle.type_table.specs.declared.operand_rules.values.Refusal.TheVariants.{NotTyped, NoMemory}
 use Rattle.operand_modes.specs.Operands.{SameOperand}
-use Rattle.literal_rules.specs.declared.elements.Element.{Element}
-use Rattle.literal_rules.specs.Elements.{AreElements, IsElement, element_at, elements_at}
+use Rattle.composite_steps.specs.declared.literal_rules.elements.Element.{Element}
+use Rattle.composite_steps.specs.LiteralRules.Elements.{AreElements, IsElement, element_at, elements_at}
 use Rattle.composite_steps.specs.declared.elements.ElementList.{ElementList}
 
 -- the same element, of operands that rules see alike

@@ -12,10 +12,10 @@ ghost use Rattle.type_table.specs.TypeRelations.Environment.{Environment};
 ghost use Rattle.operand_modes.specs.Operands.{GivesOperand};
 ghost use Rattle.composite_steps.specs.Elements.{GivesElement};
 
+use crate::literal_rules::{Element, Key};
 use go_tree::{Expr, Value};
-use literal_rules::{Element, Key};
 use operand_modes::Operand;
-use operand_rules::Refusal;
+use type_table::operand_rules::Refusal;
 
 /// Elements of a literal in their order.
 #[derive(Drop)]

@@ -4,6 +4,7 @@
 
 mod builtin_steps;
 mod elements;
+pub mod literal_rules;
 mod literals;
 mod operands;
 mod types;

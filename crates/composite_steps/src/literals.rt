@@ -8,22 +8,22 @@ ghost use Rattle.go_tree.specs.GoTypes.Literals as go;
 ghost use Rattle.go_tree.specs.GoTypes.Operands.{plain_value};
 ghost use Rattle.go_tree.specs.GoTypes.Types.{GoType, is_untyped};
 ghost use Rattle.type_table.specs.TypeRelations.Environment.{Environment, defined_types, env_type};
-ghost use Rattle.operand_rules.specs.declared.values.ValueType.TheVariants.{Typed};
-ghost use Rattle.operand_rules.specs.Values.{Gives, IsType};
+ghost use Rattle.type_table.specs.declared.operand_rules.values.ValueType.TheVariants.{Typed};
+ghost use Rattle.type_table.specs.OperandRules.Values.{Gives, IsType};
 ghost use Rattle.operand_modes.specs.Operands.{GivesOperand};
-ghost use Rattle.checker_tables.specs.Ready.{AreReady};
-ghost use Rattle.operand_answers.specs.Located.{GivesAt};
+ghost use Rattle.operand_modes.specs.CheckerTables.Ready.{AreReady};
+ghost use Rattle.operand_modes.specs.OperandAnswers.Located.{GivesAt};
 ghost use Rattle.composite_steps.specs.Elements.{AreElementsIfOk, GivesElements};
 
 use crate::elements::ElementList;
-use checker_tables::Tables;
-use literal_rules::{built, built_inside};
-use operand_answers::Located;
+use crate::literal_rules::{built, built_inside};
+use operand_modes::checker_tables::Tables;
+use operand_modes::operand_answers::Located;
 use operand_modes::{Operand, single};
-use operand_rules::{Refusal, Value};
 use operator_rules::access_rules::Place;
 use std::alloc::Global;
 use type_table::TypeId;
+use type_table::operand_rules::{Refusal, Value};
 
 /// A value that a rule gives, as that of a composite literal.
 fn at_literal(answer: Result<Value, Refusal>) -> Result<Located, Refusal>

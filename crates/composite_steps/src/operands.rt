@@ -6,11 +6,11 @@ ghost use Rattle.go_tree.specs.GoTypes.Entities as go_entity;
 ghost use Rattle.go_tree.specs.GoTypes.Operands as go_operand;
 ghost use Rattle.type_table.specs.TypeRelations.Environment.{Environment};
 ghost use Rattle.operand_modes.specs.Operands.{GivesOperand};
-ghost use Rattle.operand_answers.specs.Located.{GivesAt};
+ghost use Rattle.operand_modes.specs.OperandAnswers.Located.{GivesAt};
 
-use operand_answers::Located;
 use operand_modes::Operand;
-use operand_rules::Refusal;
+use operand_modes::operand_answers::Located;
+use type_table::operand_rules::Refusal;
 
 /// The operand that an answer tells, wherever it stands.
 pub fn operand_of(answer: Result<Located, Refusal>) -> Result<Operand, Refusal>

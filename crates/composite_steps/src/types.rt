@@ -5,12 +5,12 @@ ghost use Rattle.std.specs.Prelude.{◌≡◌, IfSome};
 ghost use Rattle.go_tree.specs.GoTypes.Defined.{under};
 ghost use Rattle.go_tree.specs.GoTypes.Literals as go;
 ghost use Rattle.type_table.specs.TypeRelations.Environment.{defined_types, env_type};
-ghost use Rattle.operand_rules.specs.declared.values.ValueType.TheVariants.{Typed};
-ghost use Rattle.operand_rules.specs.Values.{IsType};
+ghost use Rattle.type_table.specs.declared.operand_rules.values.ValueType.TheVariants.{Typed};
+ghost use Rattle.type_table.specs.OperandRules.Values.{IsType};
 ghost use Rattle.operator_rules.specs.Settling.{typed_option};
-ghost use Rattle.checker_tables.specs.Ready.{AreReady};
+ghost use Rattle.operand_modes.specs.CheckerTables.Ready.{AreReady};
 
-use checker_tables::Tables;
+use operand_modes::checker_tables::Tables;
 use operator_rules::access_rules::form;
 use type_table::{TypeId, TypeNode};
 
@@ -36,7 +36,7 @@ pub fn key_type(tables: &Tables, t: TypeId) -> Option<TypeId>
     ensures good { IfSome result (λ t. IsType tables.now.env (Typed t)) }
 {
     let _types = tables.env.len();
-    literal_rules::key_type(&tables.env, t)
+    crate::literal_rules::key_type(&tables.env, t)
 }
 
 /// The type of the elements of a literal of the type, where it is a slice or a map.
@@ -48,7 +48,7 @@ pub fn inner_type(tables: &Tables, t: TypeId) -> Option<TypeId>
     ensures good { IfSome result (λ t. IsType tables.now.env (Typed t)) }
 {
     let _types = tables.env.len();
-    literal_rules::inner_type(&tables.env, t)
+    crate::literal_rules::inner_type(&tables.env, t)
 }
 
 /// The type of a literal that leaves its type out, where a value of the type is wanted.
@@ -60,5 +60,5 @@ pub fn literal_type(tables: &Tables, t: TypeId) -> TypeId
     ensures good { IsType tables.now.env (Typed result) }
 {
     let _types = tables.env.len();
-    literal_rules::literal_type(&tables.env, t)
+    crate::literal_rules::literal_type(&tables.env, t)
 }

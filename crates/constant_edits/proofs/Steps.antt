@@ -8,10 +8,10 @@ use Rattle.go_tree.specs.File.{File}
 use Rattle.text_edits.specs.declared.edit.Edit.{Edit}
 use Rattle.text_edits.specs.Applied.{Ascend, Within}
 use Rattle.text_edits.specs.Order.{InOrder, PrecedesEach}
-use Rattle.import_rules.specs.declared.new_import.NewImport.{NewImport}
-use Rattle.import_rules.specs.Laid.{Laid}
-use Rattle.import_rules.specs.Settled.{settled}
-use Rattle.import_rules.proofs.SettledOrder.{settled_in_order}
+use Rattle.run_rules.specs.declared.import_rules.new_import.NewImport.{NewImport}
+use Rattle.run_rules.specs.ImportRules.Laid.{Laid}
+use Rattle.run_rules.specs.ImportRules.Settled.{settled}
+use Rattle.run_rules.proofs.ImportRules.SettledOrder.{settled_in_order}
 use Rattle.run_rules.specs.Sites.{MarkRef}
 use Rattle.run_rules.specs.Naming.{imports_added}
 use Rattle.run_rules.specs.Texts.{FileText, form_edit}

@@ -8,7 +8,7 @@ use Rattle.go_tree.specs.declared.tokens.Token.{Token}
 use Rattle.go_tree.specs.declared.tokens.Comment.{Comment}
 use Rattle.go_tree.specs.File.{File}
 use Rattle.text_edits.specs.declared.edit.Edit.{Edit}
-use Rattle.import_rules.specs.declared.new_import.NewImport.{NewImport}
+use Rattle.run_rules.specs.declared.import_rules.new_import.NewImport.{NewImport}
 use Rattle.run_rules.specs.Surroundings.{Slot}
 use Rattle.run_rules.specs.Sites.{MarkRef}
 use Rattle.run_rules.specs.Texts.{FileText, needs_blank, spelling_before, form_edit}

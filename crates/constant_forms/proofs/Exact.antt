@@ -6,7 +6,7 @@ use Rattle.go_tree.specs.declared.spans.Span.{Span}
 use Rattle.go_tree.specs.Tree.{NameAt, Expr}
 use Rattle.go_tree.specs.FileView.{file_of}
 use Rattle.scope_tables.specs.Table.{table_of, meaning_in}
-use Rattle.import_rules.specs.Needs.{IsNeededAt}
+use Rattle.run_rules.specs.ImportRules.Needs.{IsNeededAt}
 use Rattle.pkg_graph.specs.Package.{Package}
 use Rattle.pkg_graph.specs.Members.{package_block}
 use Rattle.pkg_graph.specs.Views.{package_view}

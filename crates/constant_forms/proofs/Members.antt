@@ -10,7 +10,7 @@ use Rattle.go_tree.specs.declared.scope_names.names.FileNames.{FileNames}
 use Rattle.go_tree.specs.ScopeNames.Means.{Environment, is_blank, means, or_else, binding, numbered, predeclared, outermost}
 use Rattle.go_tree.specs.ScopeNames.Scopes.{Scope, holds_at, locals_at, decls_scopes}
 use Rattle.scope_tables.specs.Table.{Table, IsTableOf, meaning_in}
-use Rattle.import_rules.proofs.MeaningLaws.{means_append}
+use Rattle.run_rules.proofs.ImportRules.MeaningLaws.{means_append}
 use Rattle.pkg_graph.specs.Package as packages
 use Rattle.pkg_graph.specs.Package.{SourceTree}
 use Rattle.pkg_graph.specs.Members.{Target, member, items_from, decls_from, files_from, block_names, package_block}

@@ -16,11 +16,11 @@ use Rattle.go_tree.specs.ScopeNames.Occurrences.{means_import}
 use Rattle.go_tree.specs.ScopeNames.Fresh.{candidate, is_new, IsFresh}
 use Rattle.go_tree.specs.ScopeNames.Scopes.{Scope, holds_at, locals_at, decls_scopes, environment_at}
 use Rattle.scope_tables.specs.Table.{Table, IsTableOf}
-use Rattle.import_rules.specs.declared.new_import.Needed.{Needed}
-use Rattle.import_rules.specs.Needs.{serving_from, serving, avoided, IsNeeded, IsNeededAt, there, new}
-use Rattle.import_rules.proofs.MeaningLaws.{means_append}
-use Rattle.import_rules.proofs.NeedLaws.{one_is_needed}
-use Rattle.import_rules.proofs.NeededMeans.{eq_turn}
+use Rattle.run_rules.specs.declared.import_rules.new_import.Needed.{Needed}
+use Rattle.run_rules.specs.ImportRules.Needs.{serving_from, serving, avoided, IsNeeded, IsNeededAt, there, new}
+use Rattle.run_rules.proofs.ImportRules.MeaningLaws.{means_append}
+use Rattle.run_rules.proofs.ImportRules.NeedLaws.{one_is_needed}
+use Rattle.run_rules.proofs.ImportRules.NeededMeans.{eq_turn}
 use Rattle.pkg_graph.specs.Package as packages
 use Rattle.pkg_graph.specs.Package.{import_specs}
 use Rattle.pkg_graph.specs.Members.{import_name}

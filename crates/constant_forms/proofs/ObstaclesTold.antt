@@ -8,10 +8,10 @@ use Rattle.go_tree.specs.declared.scope_names.names.Entity.{Entity}
 use Rattle.go_tree.specs.declared.scope_names.names.Entity.TheVariants as entity
 use Rattle.go_tree.specs.ScopeNames.Means.{Environment, means, or_else, is_blank, binding, numbered}
 use Rattle.go_tree.specs.ScopeNames.Means as names
-use Rattle.import_rules.proofs.MeaningLaws.{means_append}
+use Rattle.run_rules.proofs.ImportRules.MeaningLaws.{means_append}
 use Rattle.pkg_graph.specs.Package.{Package, import_specs}
 use Rattle.pkg_graph.specs.Members.{Target, local, imported, member, predeclared, import_name, package_block}
-use Rattle.module_files.specs.Internal.{may_import}
+use Rattle.pkg_graph.specs.ModuleFiles.Internal.{may_import}
 use Rattle.go_tree.specs.GoTypes.Answers.{given, one_of, is_empty}
 use Rattle.go_tree.specs.GoTypes.Entities.{is_exported}
 use Rattle.run_rules.specs.Surroundings.{Place, other, is_local}

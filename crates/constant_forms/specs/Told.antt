@@ -8,9 +8,9 @@ use Rattle.go_tree.specs.FileView.{file_of}
 use Rattle.go_tree.specs.declared.scope_names.names.Entity.{Entity}
 use Rattle.go_tree.specs.declared.scope_names.names.Entity.TheVariants.{Package, Universe}
 use Rattle.scope_tables.specs.Table.{meaning_in, table_of}
-use Rattle.module_files.specs.Internal.{may_import}
-use Rattle.import_rules.specs.declared.new_import.Needed.{Needed}
-use Rattle.import_rules.specs.Needs.{IsNeededAt}
+use Rattle.pkg_graph.specs.ModuleFiles.Internal.{may_import}
+use Rattle.run_rules.specs.declared.import_rules.new_import.Needed.{Needed}
+use Rattle.run_rules.specs.ImportRules.Needs.{IsNeededAt}
 use Rattle.pkg_graph.specs.declared.packages.Package as code
 use Rattle.go_tree.specs.GoTypes.Answers.{given, one_of}
 use Rattle.go_tree.specs.GoTypes.Entities.{is_exported}

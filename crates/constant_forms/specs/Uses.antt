@@ -8,7 +8,7 @@ use Rattle.go_tree.specs.declared.scope_names.names.Entity.{Entity}
 use Rattle.go_tree.specs.declared.scope_names.names.Entity.TheVariants as entity
 use Rattle.go_tree.specs.ScopeNames.Identifiers.{identifiers}
 use Rattle.scope_tables.specs.Table.{IsTableOf, table_of}
-use Rattle.import_rules.specs.Needs.{avoided}
+use Rattle.run_rules.specs.ImportRules.Needs.{avoided}
 use Rattle.pkg_graph.specs.Package.{Package}
 use Rattle.pkg_graph.specs.Views.{package_view}
 use Rattle.go_tree.specs.GoTypes.Answers.{given, is_empty}

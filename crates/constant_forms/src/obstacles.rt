@@ -2,7 +2,7 @@
 
 ghost use Rattle.std.specs.Prelude.{◌≡◌, ◌<◌, IfOk, length, MatchOption, None, Some, nat_eq};
 ghost use Rattle.std.specs.Option.{option_map};
-ghost use Rattle.import_rules.specs.Laid.{CommentsAscend};
+ghost use Rattle.run_rules.specs.ImportRules.Laid.{CommentsAscend};
 ghost use Rattle.constant_forms.specs.Views.{obstacle_of};
 ghost use Rattle.constant_forms.specs.Told.{AreInPackages, hidden, is_another, is_hidden, is_shadowed};
 ghost use Rattle.constant_forms.specs.Told.{means_member, means_universe, obstacle_told};
@@ -13,7 +13,7 @@ use comments_within::comment_lies_in;
 use exported_names::is_exported;
 use go_tree::scope_names::Entity;
 use go_tree::{Name, NoMemory, Text};
-use module_files::may_import;
+use pkg_graph::module_files::may_import;
 use std::alloc::Global;
 
 /// Why a use stays, in the order in which the reasons are looked for.

@@ -10,8 +10,8 @@ use crate::uses::ConstantUse;
 use go_tree::scope_names::NameList;
 use go_tree::{Name, NoMemory, Text};
 use import_edit::need;
-use import_rules::{Needed, NewImport};
 use pkg_graph::Package;
+use run_rules::import_rules::{Needed, NewImport};
 use std::alloc::Global;
 
 /// A package by its number, its name at a place, and the import that has to be added for it.

@@ -4,7 +4,7 @@ ghost use Rattle.std.specs.Prelude.{◌≡◌, ◌<◌, IfOk, length, Some, List
 ghost use Rattle.std.specs.Option.{option_map};
 ghost use Rattle.go_tree.specs.FileView.{file_of};
 ghost use Rattle.go_tree.specs.Tree.{NameAt, Expr};
-ghost use Rattle.import_rules.specs.Laid.{CommentsAscend};
+ghost use Rattle.run_rules.specs.ImportRules.Laid.{CommentsAscend};
 ghost use Rattle.scope_tables.specs.Table.{IsTableOf, table_of};
 ghost use Rattle.pkg_graph.specs.Package.{Package};
 ghost use Rattle.run_rules.specs.Sites.{MarkRef, Where, Site};

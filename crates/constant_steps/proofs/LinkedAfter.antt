@@ -4,7 +4,7 @@ use Rattle.std.specs.List.{list_all, list_any}
 use mathlib.Core.Path.{ap, ap₂, sym, ◌∙◌, subst}
 use Rattle.std.proofs.Common.{arith}
 use Rattle.go_tree.specs.File.{ImportSpec, Decl}
-use Rattle.pkg_graph.specs.Pieces.{comes_before}
+use Rattle.pkg_graph.specs.ModuleFiles.Pieces.{comes_before}
 use Rattle.pkg_graph.specs.Package.{SourceTree, Package, import_specs}
 use Rattle.pkg_graph.specs.Graph.{files_import, imports_of}
 use Rattle.pkg_graph.specs.Order.{has_path, is_placed}

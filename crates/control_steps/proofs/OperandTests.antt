@@ -10,17 +10,17 @@ use Rattle.go_tree.specs.GoTypes.Operands as go
 use Rattle.go_tree.specs.GoTypes.Operands.{value, several, a_type, a_function, a_builtin, recovered, Typed, kind_passes, typed}
 use Rattle.go_tree.specs.GoTypes.Statements.{is_condition}
 use Rattle.type_table.specs.TypeRelations.Environment.{Environment}
-use Rattle.operand_rules.specs.declared.values.Value.{Value}
-use Rattle.operand_rules.specs.declared.values.Refusal.{Refusal}
-use Rattle.operand_rules.specs.declared.values.Refusal.TheVariants.{NotTyped, NoMemory}
+use Rattle.type_table.specs.declared.operand_rules.values.Value.{Value}
+use Rattle.type_table.specs.declared.operand_rules.values.Refusal.{Refusal}
+use Rattle.type_table.specs.declared.operand_rules.values.Refusal.TheVariants.{NotTyped, NoMemory}
 use Rattle.operand_modes.specs.declared.modes.Operand.{Operand}
 use Rattle.operand_modes.specs.declared.modes.Operand.TheVariants as mode
 use Rattle.operand_modes.specs.Operands.{SameOperand, operand_at, single_of}
-use Rattle.operand_laws.specs.Alike.{SameBound}
-use Rattle.operand_answers.specs.declared.located.Located.{Located}
-use Rattle.operand_answers.specs.Located.{GivesAt}
+use Rattle.operand_modes.specs.OperandLaws.Alike.{SameBound}
+use Rattle.operand_modes.specs.declared.operand_answers.located.Located.{Located}
+use Rattle.operand_modes.specs.OperandAnswers.Located.{GivesAt}
 use Rattle.operator_rules.specs.AccessRules.Slices.{bound_of}
-use Rattle.operand_answers.specs.AccessSteps.Bounds.{GivesBound}
+use Rattle.operand_modes.specs.OperandAnswers.AccessSteps.Bounds.{GivesBound}
 use Rattle.control_steps.specs.Ends.{EndsAs}
 
 -- ---- tests that see operands alike

@@ -16,15 +16,15 @@ use Rattle.go_tree.specs.GoTypes.Operands as go
 use Rattle.go_tree.specs.GoTypes.Operands.{value, Typed, all_typed, fits, spread, takes_all, typed}
 use Rattle.go_tree.specs.GoTypes.Bodies.{Ctx, no_values, returns}
 use Rattle.type_table.specs.TypeRelations.Environment.{Environment}
-use Rattle.operand_rules.specs.declared.values.Value.{Value}
-use Rattle.operand_rules.specs.declared.values.Refusal.{Refusal}
-use Rattle.operand_rules.specs.declared.values.Refusal.TheVariants.{NotTyped}
-use Rattle.operand_rules.specs.Values.{typed_of}
+use Rattle.type_table.specs.declared.operand_rules.values.Value.{Value}
+use Rattle.type_table.specs.declared.operand_rules.values.Refusal.{Refusal}
+use Rattle.type_table.specs.declared.operand_rules.values.Refusal.TheVariants.{NotTyped}
+use Rattle.type_table.specs.OperandRules.Values.{typed_of}
 use Rattle.operator_rules.specs.AccessRules.Functions.{operands_of}
 use Rattle.operand_modes.specs.Lists.{GivesValues}
 use Rattle.operand_modes.specs.Operands.{operands_at}
-use Rattle.operand_answers.specs.declared.lists.OperandList.{OperandList}
-use Rattle.operand_answers.specs.Lists.{GivesAll}
+use Rattle.operand_modes.specs.declared.operand_answers.lists.OperandList.{OperandList}
+use Rattle.operand_modes.specs.OperandAnswers.Lists.{GivesAll}
 use Rattle.call_laws.proofs.ValueLists.{all_taken, spread_same}
 
 and_false : (b : Bool) → (b && false) ≡ false

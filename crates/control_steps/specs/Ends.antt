@@ -1,7 +1,7 @@
 -- What is known of a statement, as the answer for it tells (Go specification, Statements).
 use Rattle.std.specs.Prelude.{◌≡◌, Bool, Option, Some, None, Result, Ok, Err}
-use Rattle.operand_rules.specs.declared.values.Refusal.{Refusal}
-use Rattle.operand_rules.specs.declared.values.Refusal.TheVariants.{NotTyped, NoMemory}
+use Rattle.type_table.specs.declared.operand_rules.values.Refusal.{Refusal}
+use Rattle.type_table.specs.declared.operand_rules.values.Refusal.TheVariants.{NotTyped, NoMemory}
 
 -- whether the statement is terminating, or that it isn't typed
 abbrev pub EndsAs : Option Bool → Result Bool Refusal → Type 0

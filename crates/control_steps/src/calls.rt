@@ -9,12 +9,12 @@ ghost use Rattle.go_tree.specs.GoTypes.Primary as go;
 ghost use Rattle.type_table.specs.TypeRelations.Environment.{Environment};
 ghost use Rattle.universe_block.specs.Meanings.{builtin_of};
 ghost use Rattle.operand_modes.specs.Operands.{operand_at};
-ghost use Rattle.operand_answers.specs.Located.{GivesAt};
+ghost use Rattle.operand_modes.specs.OperandAnswers.Located.{GivesAt};
 ghost use Rattle.control_steps.specs.Ends.{EndsAs};
 
-use operand_answers::Located;
 use operand_modes::Operand;
-use operand_rules::Refusal;
+use operand_modes::operand_answers::Located;
+use type_table::operand_rules::Refusal;
 use universe_block::Builtin;
 
 /// Whether a call of a predeclared function may stand alone as a statement.

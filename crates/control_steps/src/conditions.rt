@@ -8,18 +8,18 @@ ghost use Rattle.go_tree.specs.GoTypes.Operands as go_operand;
 ghost use Rattle.go_tree.specs.GoTypes.Operands.{Typed, kind_passes, value};
 ghost use Rattle.go_tree.specs.GoTypes.Statements as go;
 ghost use Rattle.type_table.specs.TypeRelations.Environment.{defined_types};
-ghost use Rattle.operand_rules.specs.Values.{IsType, type_of};
+ghost use Rattle.type_table.specs.OperandRules.Values.{IsType, type_of};
 ghost use Rattle.operand_modes.specs.Operands.{IsOperand, operand_at};
-ghost use Rattle.operand_answers.specs.Located.{GivesAt, IsThereIfOk};
+ghost use Rattle.operand_modes.specs.OperandAnswers.Located.{GivesAt, IsThereIfOk};
 ghost use Rattle.operator_rules.specs.AccessRules.Slices.{IsBoundValue, bound_of};
-ghost use Rattle.operand_answers.specs.AccessSteps.Bounds.{GivesBound, IsBoundIfOk};
+ghost use Rattle.operand_modes.specs.OperandAnswers.AccessSteps.Bounds.{GivesBound, IsBoundIfOk};
 
 use crate::refused::unmet;
-use checker_tables::Tables;
 use go_tree::NoMemory;
-use operand_answers::Located;
+use operand_modes::checker_tables::Tables;
+use operand_modes::operand_answers::Located;
 use operand_modes::{Operand, single_value};
-use operand_rules::{Refusal, Value, ValueType, is_truth_kind, kind_of};
+use type_table::operand_rules::{Refusal, Value, ValueType, is_truth_kind, kind_of};
 use type_table::type_relations::Env;
 
 /// Whether values of the type are truth values.

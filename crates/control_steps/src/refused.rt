@@ -2,12 +2,12 @@
 
 ghost use Rattle.std.specs.Prelude.{◌≡◌, Bool, Some, false, IfOk};
 ghost use Rattle.go_tree.specs.GoTypes.Answers.{only_if};
-ghost use Rattle.operand_rules.specs.declared.values.Refusal.TheVariants.{NotTyped};
+ghost use Rattle.type_table.specs.declared.operand_rules.values.Refusal.TheVariants.{NotTyped};
 ghost use Rattle.control_steps.specs.Ends.{EndsAs};
 
 use go_tree::NoMemory;
-use operand_rules::Refusal;
 use std::alloc::AllocError;
+use type_table::operand_rules::Refusal;
 
 /// What isn't typed passes no test; where memory is missing, nothing is known.
 pub fn unmet(refusal: Refusal) -> Result<bool, NoMemory>

@@ -10,20 +10,20 @@ ghost use Rattle.go_tree.specs.GoTypes.Operands.{spread, takes_all};
 ghost use Rattle.type_table.specs.TypeRelations.Environment.{Environment, defined_types};
 ghost use Rattle.operator_rules.specs.AccessRules.Functions.{AreTypes, types_at};
 ghost use Rattle.operand_modes.specs.Operands.{AreOperands, operands_at};
-ghost use Rattle.checker_tables.specs.Ready.{AreReady};
-ghost use Rattle.operand_answers.specs.Lists.{AreThereIfOk, GivesAll};
+ghost use Rattle.operand_modes.specs.CheckerTables.Ready.{AreReady};
+ghost use Rattle.operand_modes.specs.OperandAnswers.Lists.{AreThereIfOk, GivesAll};
 ghost use Rattle.control_steps.specs.Ends.{EndsAs};
 ghost use Rattle.control_steps.specs.Returns.{IsBodyOf};
 
 use crate::refused::{ends_if, unmet};
-use checker_tables::Tables;
 use go_tree::{ExprList, NoMemory};
-use operand_answers::OperandList;
+use operand_modes::checker_tables::Tables;
+use operand_modes::operand_answers::OperandList;
 use operand_modes::{Operand, values};
-use operand_rules::Refusal;
 use operator_rules::access_rules::takes_all;
 use std::alloc::Global;
 use type_table::TypeId;
+use type_table::operand_rules::Refusal;
 
 /// What the body of a function returns, and whether its results have names.
 #[derive(Drop)]

@@ -18,8 +18,8 @@ ghost use Rattle.declared_types.specs.Steps.{KnowsPlaces, StaysFound, is_refused
 use crate::headers::TypeHeader;
 use crate::specs::spec_type;
 use go_tree::{NoMemory, TypeSpec};
-use operand_rules::Refusal;
 use std::alloc::{AllocError, Global};
+use type_table::operand_rules::Refusal;
 use type_table::type_relations::Env;
 use typed_names::{Blocks, Entity, Scope};
 

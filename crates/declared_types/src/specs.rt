@@ -13,8 +13,8 @@ ghost use Rattle.typed_names.specs.TypeExprs.Grown.{TypesGrown};
 ghost use Rattle.declared_types.specs.Headers.{type_of_spec};
 
 use go_tree::{Name, TypeSpec};
-use operand_rules::Refusal;
 use std::alloc::Global;
+use type_table::operand_rules::Refusal;
 use type_table::type_relations::Env;
 use type_table::{TypeId, TypeNode};
 use typed_names::type_exprs::resolved;

@@ -12,10 +12,10 @@ use Rattle.go_tree.specs.GoTypes.Entities.{Env}
 use Rattle.go_tree.specs.GoTypes.TypeNames.{resolved}
 use Rattle.go_tree.specs.GoTypes.TypeDeclarations as go
 use Rattle.type_table.specs.TypeRelations.Environment.{Environment, env_type, is_named_type}
-use Rattle.operand_rules.specs.declared.values.ValueType.TheVariants.{Typed}
-use Rattle.operand_rules.specs.declared.values.Refusal.{Refusal}
-use Rattle.operand_rules.specs.declared.values.Refusal.TheVariants.{NotTyped, NoMemory}
-use Rattle.operand_rules.specs.Values.{IsType}
+use Rattle.type_table.specs.declared.operand_rules.values.ValueType.TheVariants.{Typed}
+use Rattle.type_table.specs.declared.operand_rules.values.Refusal.{Refusal}
+use Rattle.type_table.specs.declared.operand_rules.values.Refusal.TheVariants.{NotTyped, NoMemory}
+use Rattle.type_table.specs.OperandRules.Values.{IsType}
 use Rattle.typed_names.specs.declared.scopes.Scope.{Scope}
 use Rattle.typed_names.specs.Meanings.{Names}
 use Rattle.typed_names.specs.Scopes.{env_at}

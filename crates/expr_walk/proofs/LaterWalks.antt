@@ -5,10 +5,10 @@ use Rattle.go_tree.specs.Tree.{Expr, ExprOption, Exprs}
 use Rattle.typed_names.specs.declared.scopes.Scope.{Scope}
 use Rattle.typed_names.specs.Meanings.{Names}
 use Rattle.typed_names.specs.Scopes.{env_at}
-use Rattle.checker_tables.specs.declared.tables.Tables.{Tables}
-use Rattle.checker_tables.specs.Ready.{Keeps}
-use Rattle.operand_answers.specs.Known.{Stands}
-use Rattle.operand_answers.proofs.KeptLemmas.{env_kept}
+use Rattle.operand_modes.specs.declared.checker_tables.tables.Tables.{Tables}
+use Rattle.operand_modes.specs.CheckerTables.Ready.{Keeps}
+use Rattle.operand_modes.specs.OperandAnswers.Known.{Stands}
+use Rattle.operand_modes.proofs.OperandAnswers.KeptLemmas.{env_kept}
 use Rattle.expr_walk.specs.Walked.{AreAllWalkedAt, IsWalkedAt, IsWalkedOptionAt}
 
 module _ (a b : Tables) (g : Keeps a b) (bs : List Names) (s : Scope) (known : Stands a bs s) where

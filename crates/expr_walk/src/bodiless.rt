@@ -3,18 +3,18 @@
 ghost use Rattle.go_tree.specs.View.{expr_of, exprs_of};
 ghost use Rattle.go_tree.specs.GoTypes.Typing as go;
 ghost use Rattle.typed_names.specs.Scopes.{env_at};
-ghost use Rattle.checker_tables.specs.Ready.{Keeps};
-ghost use Rattle.operand_answers.specs.Known.{Stands};
-ghost use Rattle.operand_answers.specs.Lists.{GivesAll};
+ghost use Rattle.operand_modes.specs.CheckerTables.Ready.{Keeps};
+ghost use Rattle.operand_modes.specs.OperandAnswers.Known.{Stands};
+ghost use Rattle.operand_modes.specs.OperandAnswers.Lists.{GivesAll};
 ghost use Rattle.expr_walk.specs.Walked.{AreAllWalked, IsWalked};
 ghost use Rattle.expr_walk.specs.WalkArms.Answers.{GivesExpr};
 
 use crate::exprs;
-use checker_tables::Tables;
 use go_tree::{Expr, ExprList};
-use operand_answers::{Located, OperandList};
-use operand_rules::Refusal;
+use operand_modes::checker_tables::Tables;
+use operand_modes::operand_answers::{Located, OperandList};
 use std::alloc::Global;
+use type_table::operand_rules::Refusal;
 use typed_names::{Blocks, Scope};
 
 /// What an expression is in which no function literal stands.

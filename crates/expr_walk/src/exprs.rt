@@ -11,15 +11,15 @@ ghost use Rattle.go_tree.specs.GoTypes.Literals as go_literal;
 ghost use Rattle.go_tree.specs.GoTypes.Operands as go_operand;
 ghost use Rattle.go_tree.specs.GoTypes.Typing as go;
 ghost use Rattle.type_table.specs.TypeRelations.Environment.{defined_types, env_type};
-ghost use Rattle.operand_rules.specs.declared.values.ValueType.TheVariants.{Typed};
-ghost use Rattle.operand_rules.specs.Values.{IsType};
+ghost use Rattle.type_table.specs.declared.operand_rules.values.ValueType.TheVariants.{Typed};
+ghost use Rattle.type_table.specs.OperandRules.Values.{IsType};
 ghost use Rattle.operator_rules.specs.Settling.{typed_option};
 ghost use Rattle.typed_names.specs.Scopes.{env_at};
 ghost use Rattle.operand_modes.specs.Operands.{GivesOperand};
-ghost use Rattle.checker_tables.specs.Ready.{Keeps};
-ghost use Rattle.operand_answers.specs.Known.{Stands};
-ghost use Rattle.operand_answers.specs.Lists.{GivesAll};
-ghost use Rattle.operand_answers.specs.AccessSteps.Bounds.{GivesBound};
+ghost use Rattle.operand_modes.specs.CheckerTables.Ready.{Keeps};
+ghost use Rattle.operand_modes.specs.OperandAnswers.Known.{Stands};
+ghost use Rattle.operand_modes.specs.OperandAnswers.Lists.{GivesAll};
+ghost use Rattle.operand_modes.specs.OperandAnswers.AccessSteps.Bounds.{GivesBound};
 ghost use Rattle.composite_steps.specs.Elements.{GivesElement, GivesElements};
 ghost use Rattle.expr_walk.specs.Walked.{AreAllWalkedAt, AreWalkedElemsAt, IsWalkedAt, IsWalkedKeyAt, IsWalkedOptionAt};
 ghost use Rattle.expr_walk.specs.Walked.{IsWalkedValueAt};
@@ -27,21 +27,23 @@ ghost use Rattle.expr_walk.specs.WalkArms.Answers.{GivesExpr};
 
 use crate::walk_arms::{function_literal, package_before};
 use call_steps::call;
-use checker_tables::{Tables, meant};
+use composite_steps::literal_rules::Element;
 use composite_steps::{
     ElementList, inner_type, is_struct, key_type, keyed, literal as composite_literal,
     literal_inside, literal_type, of_field, operand_of, unkeyed,
 };
 use go_tree::const_eval::Kind;
 use go_tree::{Elem, ElemList, Expr, ExprList, NameAt, TypeExpr, Value as ElemValue};
-use literal_rules::Element;
 use name_steps::{literal, named, qualified, type_operand};
-use operand_answers::{Located, OperandList, binary, bound, index, slice, star, unary};
 use operand_modes::Operand;
-use operand_rules::{Refusal, Value};
+use operand_modes::checker_tables::{Tables, meant};
+use operand_modes::operand_answers::{
+    Located, OperandList, binary, bound, index, slice, star, unary,
+};
 use selector_steps::selector;
 use std::alloc::Global;
 use type_table::TypeId;
+use type_table::operand_rules::{Refusal, Value};
 use typed_names::{Blocks, Scope};
 
 /// What an expression is, and where it stands: the operand that it is by its parts, or that it isn't

@@ -3,8 +3,8 @@ use Rattle.std.proofs.Common.{◌≡◌, ◌∙◌, ◌<◌, ◌+◌, ℕ, zero,
 use Rattle.std.specs.Option.{option_map}
 use Rattle.std.proofs.lemmas.List.{length-map}
 use Rattle.go_tree.specs.declared.spans.Span.{Span}
-use Rattle.module_files.specs.PathLists.{number_of}
-use Rattle.import_order.proofs.NumberLaws.{number_at}
+use Rattle.pkg_graph.specs.ModuleFiles.PathLists.{number_of}
+use Rattle.pkg_graph.proofs.ImportOrder.NumberLaws.{number_at}
 use Rattle.pkg_graph.specs.Members.{package_name}
 use Rattle.pkg_graph.specs.Views.{package_view}
 use Rattle.pkg_graph.specs.declared.packages.Package.{Package}

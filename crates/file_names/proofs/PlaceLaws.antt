@@ -1,7 +1,7 @@
 -- Places of names that are pushed one behind the other.
 use Rattle.std.proofs.Common.{◌≡◌, ◌∙◌, ℕ, zero, suc, Bool, true, false, cond, List, [], ◌∷◌, ◌++◌, Option, Some, None, refl, sym, ap, length, bytes_eq, is_some}
 use Rattle.std.specs.Option.{option_map}
-use Rattle.module_files.specs.PathLists.{number_of}
+use Rattle.pkg_graph.specs.ModuleFiles.PathLists.{number_of}
 use Rattle.name_walks.specs.Around.{place_in}
 use Rattle.go_tree.specs.ScopeNames.Means.{or_else}
 use Rattle.name_walks.proofs.SetLaws.{same_name}

@@ -1,6 +1,6 @@
 -- Where names stand first in a list.
 use Rattle.std.specs.Prelude.{◌≡◌, ℕ, List}
-use Rattle.module_files.specs.PathLists.{number_of}
+use Rattle.pkg_graph.specs.ModuleFiles.PathLists.{number_of}
 use Rattle.name_walks.specs.Around.{place_in}
 
 -- Each name has the place at which it stands first, and a name that isn't among them has none.

@@ -10,7 +10,7 @@ use Rattle.folder_reading.specs.declared.limits.TheConstants.{MAX_FILES}
 use Rattle.folder_reading.specs.Causes.{StopsFolder}
 use Rattle.folder_reading.specs.Limits.{AreFew, first_too_long}
 use Rattle.folder_reading.specs.Sources.{source_at, sources_in}
-use Rattle.module_files.specs.Selected.{selected}
+use Rattle.pkg_graph.specs.ModuleFiles.Selected.{selected}
 use Rattle.fix_run.specs.declared.status.Status.{Status}
 use Rattle.fix_run.specs.Causes.{MayStop, status_of}
 use Rattle.fix_run.specs.Refusals.{too_many, too_long}

@@ -13,7 +13,7 @@ use Rattle.fix_io.specs.Writes.{writes_from}
 use Rattle.fix_io.specs.Writes as written
 use Rattle.folder_reading.specs.Limits.{AreFew, AreRead, AreWithin, first_too_long}
 use Rattle.folder_reading.specs.Sources.{sources_in, source_at}
-use Rattle.module_files.specs.Selected.{is_selected, selected}
+use Rattle.pkg_graph.specs.ModuleFiles.Selected.{is_selected, selected}
 use Rattle.module_plans.specs.Answers.{IsModulePlan}
 use Rattle.module_plans.specs.Engine.{engine_files}
 use Rattle.module_plans.specs.Files.{contents_of}

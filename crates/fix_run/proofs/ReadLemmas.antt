@@ -4,8 +4,8 @@ use Rattle.std.proofs.Math.Seq.{get_or-append_seam}
 use Rattle.fix_io.specs.Files.{HeldFile, paths, bytes_at, no_file}
 use Rattle.fix_io.specs.Writes.{with_texts}
 use Rattle.folder_reading.specs.Sources.{source_at, sources_in}
-use Rattle.module_files.specs.PathLists.{path_at}
-use Rattle.module_files.specs.Selected.{is_selected, selected_from}
+use Rattle.pkg_graph.specs.ModuleFiles.PathLists.{path_at}
+use Rattle.pkg_graph.specs.ModuleFiles.Selected.{is_selected, selected_from}
 use Rattle.module_plans.specs.Files.{content_of, contents_of}
 use Rattle.source_files.specs.declared.files.SourceFile.{SourceFile}
 use Rattle.fix_run.specs.Files.{read_contents, texts_of, texts_after, OthersStay}

@@ -12,7 +12,7 @@ use Rattle.fix_io.specs.Files.{HeldFile, paths}
 use Rattle.folder_reading.specs.declared.limits.TheConstants.{MAX_FILES, MAX_MODULE_BYTES}
 use Rattle.folder_reading.specs.Limits.{AreWithin, first_too_long, is_too_long}
 use Rattle.folder_reading.specs.Sources.{sources_in, source_at}
-use Rattle.module_files.specs.Selected.{selected}
+use Rattle.pkg_graph.specs.ModuleFiles.Selected.{selected}
 use Rattle.module_plans.specs.Files.{contents_of}
 use Rattle.module_plans.specs.Laws.{RefusalsAreAlike, NeverBoth}
 use Rattle.module_plans.specs.Planned.{IsPlanned, IsTaken}

@@ -4,8 +4,8 @@ use Rattle.fix_engine.specs.declared.PlannedFile.{PlannedFile}
 use Rattle.fix_engine.specs.declared.Plan.{Plan}
 use Rattle.fix_io.specs.Files.{HeldFile, paths, bytes_at}
 use Rattle.fix_io.specs.Writes.{writes_from}
-use Rattle.module_files.specs.PathLists.{path_at}
-use Rattle.module_files.specs.Selected.{is_selected}
+use Rattle.pkg_graph.specs.ModuleFiles.PathLists.{path_at}
+use Rattle.pkg_graph.specs.ModuleFiles.Selected.{is_selected}
 use Rattle.folder_reading.specs.Limits.{AreWithin}
 use Rattle.folder_reading.specs.Sources.{sources_in}
 use Rattle.module_plans.specs.Files.{contents_of}

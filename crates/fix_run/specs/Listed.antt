@@ -1,7 +1,7 @@
 -- The paths of the files that are read, and those of a module of the form that is built.
 use Rattle.std.specs.Prelude.{ℕ, Bool, false, ◌&&◌, List, [], ◌∷◌, map, codes, bytes_eq}
-use Rattle.module_files.specs.PathLists.{path_at}
-use Rattle.module_files.specs.Selected.{selected}
+use Rattle.pkg_graph.specs.ModuleFiles.PathLists.{path_at}
+use Rattle.pkg_graph.specs.ModuleFiles.Selected.{selected}
 
 -- exactly `go.mod` and `main.go`
 abbrev pub lists_module : List (List ℕ) → Bool

@@ -4,7 +4,7 @@ use Rattle.fix_io.specs.Files.{HeldFile, paths}
 use Rattle.folder_reading.specs.declared.limits.TheConstants.{MAX_FILES}
 use Rattle.folder_reading.specs.Limits.{AreFew, AreWithin, first_too_long}
 use Rattle.folder_reading.specs.Sources.{sources_in}
-use Rattle.module_files.specs.Selected.{selected}
+use Rattle.pkg_graph.specs.ModuleFiles.Selected.{selected}
 use Rattle.module_plans.specs.Planned.{IsUnplanned}
 use Rattle.module_refusals.specs.Told.{told_whole}
 use Rattle.refusals.specs.declared.refusal.Detail.TheVariants.{TooBig}

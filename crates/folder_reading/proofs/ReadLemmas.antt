@@ -5,7 +5,7 @@ use Rattle.std.proofs.lemmas.List.{map-append, take_all, take_more, at_drop_more
 use Rattle.std.proofs.lemmas.List.Elements.{All-push}
 use Rattle.go_tree.specs.declared.limits.TheConstants.{MAX_FILE_BYTES}
 use Rattle.fix_io.specs.Files.{HeldFile, bytes_at, no_file, paths}
-use Rattle.module_files.specs.PathLists.{path_at}
+use Rattle.pkg_graph.specs.ModuleFiles.PathLists.{path_at}
 use Rattle.source_files.specs.declared.files.SourceFile.{SourceFile}
 use Rattle.folder_reading.specs.declared.limits.TheConstants.{MAX_MODULE_BYTES}
 use Rattle.folder_reading.specs.Sources.{IsSource, Told, front_of, source_at}

@@ -1,7 +1,7 @@
 -- The numbers of selected files.
 use Rattle.std.proofs.Common.{◌<◌, ◌+◌, ℕ, suc, Bool, true, false, cond, List, [], ◌∷◌, length, arith, All}
 use Rattle.std.proofs.lemmas.List.Elements.{All-cons}
-use Rattle.module_files.specs.Selected.{is_selected, selected, selected_from}
+use Rattle.pkg_graph.specs.ModuleFiles.Selected.{is_selected, selected, selected_from}
 
 -- each is that of a path
 from_below : (all : List (List ℕ)) (k : ℕ) (ps : List (List ℕ)) → All (λ i. i < k + length ps) (selected_from all k ps)

@@ -3,7 +3,7 @@ use Rattle.std.specs.Prelude.{◌≡◌, ◌<◌, ℕ, List, map, length, Option
 use Rattle.fix_io.specs.declared.Call.{Call}
 use Rattle.fix_io.specs.declared.Call.TheVariants as call
 use Rattle.fix_io.specs.Files.{HeldFile}
-use Rattle.module_files.specs.Selected.{selected}
+use Rattle.pkg_graph.specs.ModuleFiles.Selected.{selected}
 use Rattle.folder_reading.specs.declared.faults.FolderFault.{FolderFault}
 use Rattle.folder_reading.specs.declared.faults.FolderFault.TheVariants.{TooMany, Read, TooLong, NoMemory}
 use Rattle.folder_reading.specs.declared.limits.TheConstants.{MAX_FILES}

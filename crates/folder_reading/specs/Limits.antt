@@ -3,8 +3,8 @@ use Rattle.std.specs.Prelude.{◌≡◌, ◌<◌, ◌≤◌, ℕ, ◌+◌, Bool,
 use Rattle.std.specs.Prelude.{List, [], ◌∷◌, map, length, All, Option, Some, None}
 use Rattle.go_tree.specs.declared.limits.TheConstants.{MAX_FILE_BYTES}
 use Rattle.fix_io.specs.Files.{HeldFile, paths}
-use Rattle.module_files.specs.PathLists.{path_at}
-use Rattle.module_files.specs.Selected.{selected}
+use Rattle.pkg_graph.specs.ModuleFiles.PathLists.{path_at}
+use Rattle.pkg_graph.specs.ModuleFiles.Selected.{selected}
 use Rattle.source_files.specs.declared.files.SourceFile.{SourceFile}
 use Rattle.folder_reading.specs.declared.limits.TheConstants.{MAX_FILES, MAX_MODULE_BYTES}
 use Rattle.folder_reading.specs.Sources.{Told, source_at, sources_in}

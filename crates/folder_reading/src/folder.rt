@@ -2,7 +2,7 @@
 
 ghost use Rattle.std.specs.Prelude.{◌≡◌, ◌≤◌, ◌<◌, ◌^◌, length, IfOk, IfErr, OnOk};
 ghost use Rattle.fix_io.specs.Causes.{Rose};
-ghost use Rattle.module_files.specs.Selected.{selected};
+ghost use Rattle.pkg_graph.specs.ModuleFiles.Selected.{selected};
 ghost use Rattle.folder_reading.specs.Limits.{AreFew, AreRead};
 ghost use Rattle.folder_reading.specs.Causes.{IfQuiet, IsQuiet, StopsFolder};
 
@@ -11,7 +11,7 @@ use crate::limits::MAX_FILES;
 use crate::reading::read_files;
 use fix_io::Tree;
 use go_tree::{NoMemory, Text};
-use module_files::selected;
+use pkg_graph::module_files::selected;
 use source_files::SourceFile;
 use std::alloc::Global;
 

@@ -7,8 +7,8 @@ use Rattle.go_tree.specs.GoWords.Tokens.Pieces.{keyword_spellings, is_among}
 use Rattle.go_tree.specs.ScopeNames.Identifiers.{identifiers}
 use Rattle.go_tree.specs.ScopeNames.Means.{predeclared}
 use Rattle.go_tree.specs.ScopeNames.Fresh.{candidate, is_new, IsFirst, IsFresh}
-use Rattle.import_rules.proofs.NeededMeans.{any_append, own_eq}
-use Rattle.import_rules.specs.Needs.{serving, avoided, IsNeeded, there, new}
+use Rattle.run_rules.proofs.ImportRules.NeededMeans.{any_append, own_eq}
+use Rattle.run_rules.specs.ImportRules.Needs.{serving, avoided, IsNeeded, there, new}
 use Rattle.pkg_graph.specs.Package.{Package}
 use Rattle.run_rules.specs.Surroundings.{Place}
 use Rattle.run_rules.specs.Sites.{Where}

@@ -5,7 +5,7 @@ use Rattle.go_tree.specs.File.{File}
 use Rattle.go_tree.specs.GoWords.Tokens.Pieces.{is_among}
 use Rattle.go_tree.specs.ScopeNames.Fresh.{candidate, is_new, IsFresh}
 use Rattle.pkg_graph.specs.Package.{Package}
-use Rattle.import_rules.specs.Needs.{avoided, IsNeeded}
+use Rattle.run_rules.specs.ImportRules.Needs.{avoided, IsNeeded}
 use Rattle.run_rules.specs.Surroundings.{Place}
 use Rattle.run_rules.specs.Sites.{Where}
 use Rattle.run_rules.specs.Naming.{package_path, own_name, names_here, environment_here, named_package, fresh_name}

@@ -1,3 +1,4 @@
 pub mod ExprExamples
 pub mod StmtExamples
 pub mod FileExamples
+pub mod LayoutLaws

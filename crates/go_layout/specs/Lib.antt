@@ -3,3 +3,4 @@ pub mod TypeLayout
 pub mod Parens
 pub mod TreeLayout
 pub mod FileLayout
+pub mod LayoutLaws

@@ -6,7 +6,7 @@ use Rattle.go_tree.specs.ScopeNames.Means.{means}
 use Rattle.type_table.specs.TypeRelations.Environment.{Environment}
 use Rattle.typed_names.specs.declared.entities.Entity.{Entity}
 use Rattle.typed_names.specs.Meanings.{Names, block_at}
-use Rattle.operand_answers.specs.Known.{AllHaveValues, HasValue, HaveValues}
+use Rattle.operand_modes.specs.OperandAnswers.Known.{AllHaveValues, HasValue, HaveValues}
 
 module _ (e : Environment) (cs : List Const) (n : List ℕ) (x : Entity) where
   name_there : (bs : Names) → HaveValues e cs bs → means bs n ≡ Some x → HasValue e cs x

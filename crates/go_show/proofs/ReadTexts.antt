@@ -7,12 +7,12 @@ use Rattle.go_tree.specs.File.{File}
 use Rattle.go_parse.specs.Sources.{IsSource}
 use Rattle.text_edits.specs.declared.edit.Edit.{Edit}
 use Rattle.text_edits.specs.Applied.{Within}
-use Rattle.import_rules.specs.declared.new_import.NewImport.{NewImport}
-use Rattle.import_rules.specs.Laid.{Laid}
-use Rattle.import_rules.specs.Settled.{settled}
-use Rattle.import_rules.proofs.SettledOrder.{settled_within}
-use Rattle.splice_laws.specs.ImportSplices.ImportPlaces.ReadFiles.{SpellsImportsOf, ReadsImportsOf}
-use Rattle.splice_laws.proofs.ImportSplices.ImportPlaces.FilesLaid.{imports_laid}
+use Rattle.run_rules.specs.declared.import_rules.new_import.NewImport.{NewImport}
+use Rattle.run_rules.specs.ImportRules.Laid.{Laid}
+use Rattle.run_rules.specs.ImportRules.Settled.{settled}
+use Rattle.run_rules.proofs.ImportRules.SettledOrder.{settled_within}
+use Rattle.run_rules.specs.SpliceLaws.ImportSplices.ImportPlaces.ReadFiles.{SpellsImportsOf, ReadsImportsOf}
+use Rattle.run_rules.proofs.SpliceLaws.ImportSplices.ImportPlaces.FilesLaid.{imports_laid}
 
 module _ (text : List ℕ) (tokens : List Token) (comments : List Comment) (file : File Span) (s : IsSource text tokens comments file) where
   own_imports : SpellsImportsOf tokens file

@@ -4,15 +4,15 @@ ghost use Rattle.std.specs.Prelude.{IfOk};
 ghost use Rattle.package_blocks.specs.Collected.{AreOrdered};
 ghost use Rattle.declared_types.specs.Steps.{KnowsPlaces};
 ghost use Rattle.typed_names.specs.Known.{KnowsTypes};
-ghost use Rattle.checker_tables.specs.Ready.{AreReady};
+ghost use Rattle.operand_modes.specs.CheckerTables.Ready.{AreReady};
 
-use checker_tables::Tables;
 use go_tree::{Decl, NoMemory};
 use header_order::{
     RefusedHeaders, RefusedPlace, first_refused_declaration, first_refused_imports,
 };
 use name_uses::{NameUses, decls_uses};
 use name_walks::NameSet;
+use operand_modes::checker_tables::Tables;
 use package_blocks::PackageHeader;
 use pkg_graph::{Package, SourceTree};
 use std::alloc::{AllocError, Global};

@@ -6,12 +6,12 @@ ghost use Rattle.typed_names.specs.Known.{AllHaveTypes};
 
 use crate::blocks::file_imports;
 use crate::tree::write_fault;
-use checker_tables::Tables;
 use go_parse::read_file;
 use go_tree::scope_names::ImportName;
 use go_tree::{Decl, FileTree, MAX_FILE_BYTES, NoMemory};
 use name_uses::{NameUses, decls_uses};
 use name_walks::NameSet;
+use operand_modes::checker_tables::Tables;
 use std::alloc::Global;
 use std::io::{self, Write};
 use typed_names::{Block, Blocks, Locals, Scope};

@@ -13,10 +13,10 @@ use Rattle.go_tree.specs.GoTypes.Collect.{DeclaredTypes, collected, declared_by,
 use Rattle.go_tree.specs.GoTypes.WellTyped.{is_method, method_ok, header_ok}
 use Rattle.typed_in_place.proofs.Headers.{declared_in, good_in}
 use Rattle.refused_headers.specs.Refused.{refuses_type}
-use Rattle.func_headers.specs.NameRoles.{SameTypes}
-use Rattle.func_headers.specs.Functions.{is_function, is_refused_function, numbers_where}
-use Rattle.func_headers.proofs.SameTypeLaws.{header_types, resolved_same}
-use Rattle.func_headers.proofs.StayLaws.{types_stay}
+use Rattle.package_blocks.specs.FuncHeaders.NameRoles.{SameTypes}
+use Rattle.package_blocks.specs.FuncHeaders.Functions.{is_function, is_refused_function, numbers_where}
+use Rattle.package_blocks.proofs.FuncHeaders.SameTypeLaws.{header_types, resolved_same}
+use Rattle.package_blocks.proofs.FuncHeaders.StayLaws.{types_stay}
 use Rattle.method_types.specs.Methods.{refused_methods}
 use Rattle.value_rounds.specs.Values.{is_refused_value, is_value}
 use Rattle.value_rounds.proofs.HeadersStay.Stay.{headers_are_final}

@@ -22,7 +22,7 @@ use Rattle.package_blocks.specs.Headers.{AreHeaders, no_headers, a_header, IsHea
 use Rattle.finite_types.specs.RefusedTypes.Refusals.{TypesAreKnown}
 use Rattle.refused_headers.specs.Refused.{refuses_type}
 use Rattle.refused_headers.proofs.Refuses.{refuses_same}
-use Rattle.func_headers.specs.Functions.{numbers_where}
+use Rattle.package_blocks.specs.FuncHeaders.Functions.{numbers_where}
 use Rattle.header_order.specs.Types.{TypesPassed}
 
 append_none : {A : Type 0} (xs : List A) → xs ++ [] ≡ xs

@@ -8,7 +8,7 @@ use Rattle.go_tree.specs.GoTypes.Programs.{Headed, Program, headed}
 use Rattle.go_tree.specs.GoTypes.MethodDeclarations.{MethodName, declared_on}
 use Rattle.go_tree.specs.GoTypes.Collect.{DeclaredTypes, collected, types_declared}
 use Rattle.go_tree.specs.GoTypes.WellTyped.{header_ok}
-use Rattle.func_headers.specs.Functions.{refused_functions}
+use Rattle.package_blocks.specs.FuncHeaders.Functions.{refused_functions}
 use Rattle.method_types.specs.Methods.{refused_methods}
 use Rattle.value_rounds.specs.Values.{refused_values}
 use Rattle.header_order.specs.declared.kinds.RefusedHeaders.{RefusedHeaders}

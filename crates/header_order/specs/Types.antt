@@ -15,7 +15,7 @@ use Rattle.defined_types.specs.DeclaredTypes.{declared_of}
 use Rattle.package_blocks.specs.declared.headers.PackageHeader.{PackageHeader}
 use Rattle.package_blocks.specs.Headers.{AreHeaders, listed_of}
 use Rattle.refused_headers.specs.Refused.{refuses_type}
-use Rattle.func_headers.specs.Functions.{numbers_where}
+use Rattle.package_blocks.specs.FuncHeaders.Functions.{numbers_where}
 
 -- the numbers of the headers that are refused among those of types, in their order
 abbrev pub refused_types : Program Span → List ℕ

@@ -13,7 +13,7 @@ ghost use Rattle.defined_types.specs.DeclaredTypes.{declared_of};
 ghost use Rattle.package_blocks.specs.Headers.{AreHeaders, listed_of};
 ghost use Rattle.finite_types.specs.RefusedTypes.Refusals.{AreTested, TypesAreKnown};
 ghost use Rattle.refused_headers.specs.Refused.{refuses_type};
-ghost use Rattle.func_headers.specs.Functions.{numbers_where};
+ghost use Rattle.package_blocks.specs.FuncHeaders.Functions.{numbers_where};
 
 use finite_types::TypeTests;
 use go_tree::NoMemory;

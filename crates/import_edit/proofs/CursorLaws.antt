@@ -5,8 +5,8 @@ use Rattle.std.proofs.lemmas.List.{take_rest, drop-drop, length-drop}
 use Rattle.go_tree.specs.declared.spans.Span.{Span}
 use Rattle.go_tree.specs.declared.tokens.Token.{Token}
 use Rattle.go_tree.specs.declared.tokens.Comment.{Comment}
-use Rattle.import_rules.specs.Removed.{through_semicolon, comment_within}
-use Rattle.import_rules.specs.Laid.{CommentsAscend}
+use Rattle.run_rules.specs.ImportRules.Removed.{through_semicolon, comment_within}
+use Rattle.run_rules.specs.ImportRules.Laid.{CommentsAscend}
 use Rattle.import_edit.specs.Cursors.{tokens_before, comments_before, starts_before, TokensServe, CommentsServe}
 
 -- ---- tokens

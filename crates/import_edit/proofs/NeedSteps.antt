@@ -9,7 +9,7 @@ use Rattle.go_tree.specs.ScopeNames.Fresh.{IsFresh}
 use Rattle.go_tree.specs.ScopeNames.Occurrences.{means_import}
 use Rattle.go_tree.specs.ScopeNames.Scopes.{environment_at}
 use Rattle.scope_tables.specs.Table.{Table, IsTableOf}
-use Rattle.import_rules.specs.Needs.{serves, serving_from, serving, avoided, IsNeededAt, there, new}
+use Rattle.run_rules.specs.ImportRules.Needs.{serves, serving_from, serving, avoided, IsNeededAt, there, new}
 use Rattle.import_edit.specs.Serving.{serving_at}
 
 module _ (names : FileNames) (file : File Span) (table : Table) (at : ℕ) (bound : List (List ℕ)) (path own name : List ℕ) (is_table : IsTableOf names file table) where

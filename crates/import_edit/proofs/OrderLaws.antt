@@ -4,10 +4,10 @@ use Rattle.std.specs.List.{insert}
 use Rattle.std.specs.Ordering.{nat_cmp, is_lt}
 use Rattle.std.specs.Cmp.Lexicographic.{slice_cmp}
 use denote.Ref.{Bor}
-use Rattle.module_files.specs.Pieces.{comes_before}
-use Rattle.module_files.proofs.PathLaws.{less_comes_before}
-use Rattle.import_rules.specs.declared.new_import.NewImport.{NewImport}
-use Rattle.import_rules.specs.SpecText.{is_before, put}
+use Rattle.pkg_graph.specs.ModuleFiles.Pieces.{comes_before}
+use Rattle.pkg_graph.proofs.ModuleFiles.PathLaws.{less_comes_before}
+use Rattle.run_rules.specs.declared.import_rules.new_import.NewImport.{NewImport}
+use Rattle.run_rules.specs.ImportRules.SpecText.{is_before, put}
 use Rattle.import_edit.specs.Order.{imports_of, place_of}
 
 pub path_before : (xs ys : List ℕ) → is_lt (slice_cmp nat_cmp xs ys) ≡ comes_before xs ys

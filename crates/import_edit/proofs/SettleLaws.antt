@@ -10,15 +10,15 @@ use Rattle.go_tree.specs.File.{ImportSpec, ImportDecl, File}
 use Rattle.go_tree.specs.FileView.{import_decl_of}
 use Rattle.text_edits.specs.declared.edit.Edit.{Edit}
 use Rattle.text_edits.specs.Order.{InOrder, PrecedesEach}
-use Rattle.import_rules.specs.declared.new_import.NewImport.{NewImport}
-use Rattle.import_rules.specs.SpecText.{in_order}
-use Rattle.import_rules.specs.Removed.{same_span, goes, goes_whole, spec_range, decl_range, specs_ranges, decl_ranges, ranges}
-use Rattle.import_rules.specs.Added.{Addition, each_within, is_open_group, adds_to_group, last_closing, single_start, front_of, addition_among}
-use Rattle.import_rules.specs.Settled.{removal, insertion, put_edit, settled}
-use Rattle.import_rules.specs.Laid.{StandInOrder, DeclsLie, Laid}
-use Rattle.import_rules.proofs.Blanks.{IsStop, ink_stops}
-use Rattle.import_rules.proofs.Chains.{Chain, chain_over}
-use Rattle.import_rules.proofs.Ranges.{ink_inside, ranges_before, ranges_behind, front_before}
+use Rattle.run_rules.specs.declared.import_rules.new_import.NewImport.{NewImport}
+use Rattle.run_rules.specs.ImportRules.SpecText.{in_order}
+use Rattle.run_rules.specs.ImportRules.Removed.{same_span, goes, goes_whole, spec_range, decl_range, specs_ranges, decl_ranges, ranges}
+use Rattle.run_rules.specs.ImportRules.Added.{Addition, each_within, is_open_group, adds_to_group, last_closing, single_start, front_of, addition_among}
+use Rattle.run_rules.specs.ImportRules.Settled.{removal, insertion, put_edit, settled}
+use Rattle.run_rules.specs.ImportRules.Laid.{StandInOrder, DeclsLie, Laid}
+use Rattle.run_rules.proofs.ImportRules.Blanks.{IsStop, ink_stops}
+use Rattle.run_rules.proofs.ImportRules.Chains.{Chain, chain_over}
+use Rattle.run_rules.proofs.ImportRules.Ranges.{ink_inside, ranges_before, ranges_behind, front_before}
 use Rattle.import_edit.specs.Fronts.{least_start, group_addition, front_addition, addition_before, LastFits}
 use Rattle.import_edit.proofs.WalkLaws.{ranges_same}
 

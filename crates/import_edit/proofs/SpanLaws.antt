@@ -4,7 +4,7 @@ use Rattle.std.specs.List.{list_any}
 use Rattle.std.proofs.lemmas.List.Folds.{list_any-append}
 use Rattle.std.proofs.lemmas.Bool.Decides.{nat_tests}
 use Rattle.go_tree.specs.declared.spans.Span.{Span}
-use Rattle.import_rules.specs.Removed.{span_at, same_span}
+use Rattle.run_rules.specs.ImportRules.Removed.{span_at, same_span}
 
 -- the spans of these keys
 abbrev pub spans_of : List (ℕ × ℕ) → List Span

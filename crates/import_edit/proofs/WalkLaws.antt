@@ -9,9 +9,9 @@ use Rattle.go_tree.specs.declared.tokens.Comment.{Comment}
 use Rattle.go_tree.specs.declared.files.ImportDecl as tree
 use Rattle.go_tree.specs.File.{ImportSpec, ImportDecl}
 use Rattle.go_tree.specs.FileView.{import_decl_of}
-use Rattle.import_rules.specs.Removed.{same_span, through_semicolon, goes, spec_range, specs_ranges, decl_ranges, ranges}
-use Rattle.import_rules.specs.Laid.{IsInked, StandInOrder, SpecsLie, BodyLies, DeclsLie}
-use Rattle.import_rules.proofs.Ranges.{ink_inside, Through, through}
+use Rattle.run_rules.specs.ImportRules.Removed.{same_span, through_semicolon, goes, spec_range, specs_ranges, decl_ranges, ranges}
+use Rattle.run_rules.specs.ImportRules.Laid.{IsInked, StandInOrder, SpecsLie, BodyLies, DeclsLie}
+use Rattle.run_rules.proofs.ImportRules.Ranges.{ink_inside, Through, through}
 use Rattle.import_edit.specs.declared.removed.Source.{Source}
 use Rattle.import_edit.specs.declared.removed.Cursor.{Cursor}
 use Rattle.import_edit.specs.Cursors.{TokensServe, CommentsServe}

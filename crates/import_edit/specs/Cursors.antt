@@ -4,7 +4,7 @@ use Rattle.std.specs.List.{prefix_len}
 use Rattle.go_tree.specs.declared.spans.Span.{Span}
 use Rattle.go_tree.specs.declared.tokens.Token.{Token}
 use Rattle.go_tree.specs.declared.tokens.Comment.{Comment}
-use Rattle.import_rules.specs.Removed.{through_semicolon, comment_within}
+use Rattle.run_rules.specs.ImportRules.Removed.{through_semicolon, comment_within}
 
 -- how many tokens start before an offset, up to the first that doesn't
 abbrev pub tokens_before : ℕ → List Token → ℕ

@@ -3,8 +3,8 @@ use Rattle.std.specs.Prelude.{ℕ, ◌≤◌, ◌<◌, nat_lt, if◌then◌else�
 use Rattle.std.specs.Prelude.{codes}
 use Rattle.go_tree.specs.declared.spans.Span.{Span}
 use Rattle.go_tree.specs.File.{ImportDecl}
-use Rattle.import_rules.specs.declared.new_import.NewImport.{NewImport}
-use Rattle.import_rules.specs.Added.{Addition, each_within}
+use Rattle.run_rules.specs.declared.import_rules.new_import.NewImport.{NewImport}
+use Rattle.run_rules.specs.ImportRules.Added.{Addition, each_within}
 
 -- the offset, or the start of the first range where that is less
 abbrev pub least_start : ℕ → List Span → ℕ

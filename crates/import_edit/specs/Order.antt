@@ -2,8 +2,8 @@
 use Rattle.std.specs.Prelude.{ℕ, not, List, map}
 use Rattle.std.specs.List.{prefix_len}
 use denote.Ref.{Bor}
-use Rattle.import_rules.specs.declared.new_import.NewImport.{NewImport}
-use Rattle.import_rules.specs.SpecText.{is_before}
+use Rattle.run_rules.specs.declared.import_rules.new_import.NewImport.{NewImport}
+use Rattle.run_rules.specs.ImportRules.SpecText.{is_before}
 
 -- the imports that a list refers to
 abbrev pub imports_of : List (Bor NewImport) → List NewImport

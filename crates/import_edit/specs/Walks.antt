@@ -3,7 +3,7 @@ use Rattle.std.specs.Prelude.{ℕ, ◌≤◌, Bool, not, ◌&&◌, if◌then◌e
 use Rattle.std.specs.List.{list_all}
 use Rattle.go_tree.specs.declared.spans.Span.{Span}
 use Rattle.go_tree.specs.File.{ImportSpec, ImportDecl}
-use Rattle.import_rules.specs.Removed.{through_semicolon, has_specs, goes, spec_range}
+use Rattle.run_rules.specs.ImportRules.Removed.{through_semicolon, has_specs, goes, spec_range}
 use Rattle.import_edit.specs.declared.removed.Source.{Source}
 use Rattle.import_edit.specs.declared.removed.Cursor.{Cursor}
 use Rattle.import_edit.specs.Cursors.{TokensServe, CommentsServe}

@@ -4,8 +4,8 @@ ghost use Rattle.std.specs.Prelude.{◌≡◌, ◌≤◌, ◌<◌, ◌++◌, ◌
 ghost use Rattle.std.specs.Prelude.{OnOk};
 ghost use Rattle.go_tree.specs.FileView.{import_decl_of};
 ghost use Rattle.text_edits.specs.Order.{InOrder};
-ghost use Rattle.import_rules.specs.Added.{Addition, adds_to_group, closing, each_within, is_open_group, last_closing};
-ghost use Rattle.import_rules.specs.Settled.{insertion, removal};
+ghost use Rattle.run_rules.specs.ImportRules.Added.{Addition, adds_to_group, closing, each_within, is_open_group, last_closing};
+ghost use Rattle.run_rules.specs.ImportRules.Settled.{insertion, removal};
 ghost use Rattle.import_edit.specs.Fronts.{LastFits, addition_before, first_addition, front_addition, group_addition};
 ghost use Rattle.import_edit.specs.Fronts.{least_start};
 ghost use Rattle.import_edit.specs.Order.{imports_of};
@@ -13,7 +13,7 @@ ghost use Rattle.import_edit.specs.Order.{imports_of};
 use crate::lines::blank_start;
 use crate::spec_text::write_spec;
 use go_tree::{FileTree, ImportDecl, NoMemory, Span, Text};
-use import_rules::NewImport;
+use run_rules::import_rules::NewImport;
 use std::alloc::Global;
 use text_edits::{Edit, Edits};
 

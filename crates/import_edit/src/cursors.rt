@@ -1,8 +1,8 @@
 //! Cursors into the tokens and the comments of a text, so that a walk reads each once.
 
 ghost use Rattle.std.specs.Prelude.{◌≡◌, ◌≤◌, length};
-ghost use Rattle.import_rules.specs.Laid.{CommentsAscend};
-ghost use Rattle.import_rules.specs.Removed.{comment_within, through_semicolon};
+ghost use Rattle.run_rules.specs.ImportRules.Laid.{CommentsAscend};
+ghost use Rattle.run_rules.specs.ImportRules.Removed.{comment_within, through_semicolon};
 ghost use Rattle.import_edit.specs.Cursors.{CommentsServe, TokensServe, comments_before, starts_before, tokens_before};
 
 use crate::semicolons::through_semicolon;

@@ -1,12 +1,12 @@
 //! Imports to be added, in their order.
 
 ghost use Rattle.std.specs.Prelude.{◌≡◌, ◌≤◌, IfOk, OnOk, length, map};
-ghost use Rattle.module_files.specs.Pieces.{comes_before};
-ghost use Rattle.import_rules.specs.SpecText.{in_order, is_before, put};
+ghost use Rattle.pkg_graph.specs.ModuleFiles.Pieces.{comes_before};
+ghost use Rattle.run_rules.specs.ImportRules.SpecText.{in_order, is_before, put};
 ghost use Rattle.import_edit.specs.Order.{imports_of, place_of};
 
 use go_tree::NoMemory;
-use import_rules::NewImport;
+use run_rules::import_rules::NewImport;
 use std::alloc::Global;
 
 #[tactic(auto, using(crate::proofs::OrderLaws::path_before))]

@@ -6,9 +6,9 @@ ghost use Rattle.go_tree.specs.declared.tokens.Token.{Token};
 ghost use Rattle.go_tree.specs.FileView.{file_of};
 ghost use Rattle.go_tree.specs.GoWords.Tokens.{TokensOf};
 ghost use Rattle.text_edits.specs.Order.{InOrder};
-ghost use Rattle.import_rules.specs.Laid.{CommentsAscend, Laid};
-ghost use Rattle.import_rules.specs.Settled.{removal, settled};
-ghost use Rattle.splice_laws.specs.ImportSplices.ImportPlaces.ReadFiles.{ReadsImportsOf};
+ghost use Rattle.run_rules.specs.ImportRules.Laid.{CommentsAscend, Laid};
+ghost use Rattle.run_rules.specs.ImportRules.Settled.{removal, settled};
+ghost use Rattle.run_rules.specs.SpliceLaws.ImportSplices.ImportPlaces.ReadFiles.{ReadsImportsOf};
 
 use crate::added::{adds_to_group, group_insertion, insertion_before, last_closing, push_removals};
 use crate::order::in_order;
@@ -16,7 +16,7 @@ use crate::removed::{Source, removed_ranges};
 use crate::span_set::SpanSet;
 use go_scan::scan;
 use go_tree::{Comment, FileTree, MAX_FILE_BYTES, NoMemory, Span, Token};
-use import_rules::NewImport;
+use run_rules::import_rules::NewImport;
 use std::alloc::{AllocError, Global};
 use text_edits::{Edit, Edits};
 

@@ -3,7 +3,7 @@
 ghost use Rattle.std.specs.Prelude.{◌≡◌, ◌||◌, [], IfOk, OnOk};
 ghost use Rattle.std.specs.List.{list_any};
 ghost use Rattle.go_tree.specs.declared.spans.Span.{Span};
-ghost use Rattle.import_rules.specs.Removed.{same_span};
+ghost use Rattle.run_rules.specs.ImportRules.Removed.{same_span};
 
 use go_tree::{NoMemory, Span};
 use indexmap::IndexSet;
@@ -19,7 +19,7 @@ pub(crate) struct SpanSet {
 impl Model for SpanSet {
     ghost use Rattle.std.specs.Prelude.{List, map};
     ghost use Rattle.go_tree.specs.declared.spans.Span.{Span};
-    ghost use Rattle.import_rules.specs.Removed.{span_at};
+    ghost use Rattle.run_rules.specs.ImportRules.Removed.{span_at};
 
     ghost Value = { List Span };
 

@@ -18,16 +18,16 @@ use Rattle.go_tree.specs.GoTypes.Operands.{Typed, value, several, a_type, a_func
 use Rattle.go_tree.specs.GoTypes.Operators.{address_of, has_address, unary_of}
 use Rattle.go_tree.specs.GoTypes.Typing.{parts, place}
 use Rattle.type_table.specs.TypeRelations.Environment.{Environment}
-use Rattle.operand_rules.specs.declared.values.Content as content
-use Rattle.operand_rules.specs.declared.values.Content.TheVariants.{Run, Exact, Shift}
-use Rattle.operand_rules.specs.declared.values.Refusal.TheVariants.{NotTyped}
-use Rattle.operand_rules.specs.Values.{SameContent, content_of}
+use Rattle.type_table.specs.declared.operand_rules.values.Content as content
+use Rattle.type_table.specs.declared.operand_rules.values.Content.TheVariants.{Run, Exact, Shift}
+use Rattle.type_table.specs.declared.operand_rules.values.Refusal.TheVariants.{NotTyped}
+use Rattle.type_table.specs.OperandRules.Values.{SameContent, content_of}
 use Rattle.operand_modes.specs.declared.modes.Operand as code
 use Rattle.operand_modes.specs.declared.modes.Operand.TheVariants as mode
 use Rattle.operand_modes.specs.Operands.{SameOperand, operand_at}
-use Rattle.operand_laws.proofs.ContentLemmas.{alike_by}
-use Rattle.checker_tables.specs.declared.tables.Tables.{Tables}
-use Rattle.operand_answers.specs.declared.located.Located.{Located}
+use Rattle.operand_modes.proofs.OperandLaws.ContentLemmas.{alike_by}
+use Rattle.operand_modes.specs.declared.checker_tables.tables.Tables.{Tables}
+use Rattle.operand_modes.specs.declared.operand_answers.located.Located.{Located}
 use Rattle.expr_walk.specs.WalkArms.Answers.{GivesExpr}
 use Rattle.initial_values.specs.Steps.{constant_content, constant_operand}
 

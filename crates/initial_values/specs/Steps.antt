@@ -5,15 +5,15 @@ use Rattle.go_tree.specs.GoTypes.Answers.{given}
 use Rattle.go_tree.specs.GoTypes.Types.{GoType}
 use Rattle.go_tree.specs.GoTypes.Defined.{Defined, under}
 use Rattle.go_tree.specs.GoTypes.Literals.{literal_type}
-use Rattle.operand_rules.specs.declared.values.Content.{Content}
-use Rattle.operand_rules.specs.declared.values.Content.TheVariants.{Run, Exact, Shift}
+use Rattle.type_table.specs.declared.operand_rules.values.Content.{Content}
+use Rattle.type_table.specs.declared.operand_rules.values.Content.TheVariants.{Run, Exact, Shift}
 use Rattle.operand_modes.specs.declared.modes.Operand.{Operand}
 use Rattle.operand_modes.specs.declared.modes.Operand.TheVariants.{Single}
 use Rattle.typed_names.specs.declared.scopes.Scope.{Scope}
 use Rattle.typed_names.specs.Meanings.{Names}
-use Rattle.checker_tables.specs.declared.tables.Tables.{Tables}
-use Rattle.checker_tables.specs.Ready.{Keeps}
-use Rattle.operand_answers.specs.Known.{Stands}
+use Rattle.operand_modes.specs.declared.checker_tables.tables.Tables.{Tables}
+use Rattle.operand_modes.specs.CheckerTables.Ready.{Keeps}
+use Rattle.operand_modes.specs.OperandAnswers.Known.{Stands}
 
 -- a content that is a constant
 abbrev pub constant_content : Content → Bool

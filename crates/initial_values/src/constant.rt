@@ -5,17 +5,17 @@ ghost use Rattle.go_tree.specs.Lists.{exprs_from};
 ghost use Rattle.go_tree.specs.View.{expr_of, exprs_of};
 ghost use Rattle.go_tree.specs.GoTypes.Initial as go;
 ghost use Rattle.typed_names.specs.Scopes.{env_at};
-ghost use Rattle.checker_tables.specs.Ready.{Keeps};
-ghost use Rattle.operand_answers.specs.Known.{Stands};
+ghost use Rattle.operand_modes.specs.CheckerTables.Ready.{Keeps};
+ghost use Rattle.operand_modes.specs.OperandAnswers.Known.{Stands};
 ghost use Rattle.expr_walk.specs.Walked.{AreAllWalked, IsWalked};
 ghost use Rattle.initial_values.specs.Steps.{constant_operand};
 
-use checker_tables::Tables;
 use expr_walk::expr;
 use go_tree::{Expr, ExprList, NoMemory};
 use operand_modes::Operand;
-use operand_rules::{Content, Refusal};
+use operand_modes::checker_tables::Tables;
 use std::alloc::{AllocError, Global};
+use type_table::operand_rules::{Content, Refusal};
 use typed_names::{Blocks, Scope};
 
 /// Whether an operand is a constant.

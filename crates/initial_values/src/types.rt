@@ -7,20 +7,20 @@ ghost use Rattle.go_tree.specs.GoTypes.Answers.{given, meets};
 ghost use Rattle.go_tree.specs.GoTypes.Literals as go;
 ghost use Rattle.go_tree.specs.GoTypes.TypeNames.{type_meant};
 ghost use Rattle.type_table.specs.TypeRelations.Environment.{defined_types};
-ghost use Rattle.operand_rules.specs.declared.values.ValueType.TheVariants.{Typed};
-ghost use Rattle.operand_rules.specs.Values.{IsType};
+ghost use Rattle.type_table.specs.declared.operand_rules.values.ValueType.TheVariants.{Typed};
+ghost use Rattle.type_table.specs.OperandRules.Values.{IsType};
 ghost use Rattle.operator_rules.specs.Settling.{typed_option};
 ghost use Rattle.typed_names.specs.Scopes.{env_at};
-ghost use Rattle.checker_tables.specs.Ready.{AreReady, Keeps};
-ghost use Rattle.operand_answers.specs.Known.{Stands};
+ghost use Rattle.operand_modes.specs.CheckerTables.Ready.{AreReady, Keeps};
+ghost use Rattle.operand_modes.specs.OperandAnswers.Known.{Stands};
 ghost use Rattle.initial_values.specs.Steps.{literal_option, under_option};
 
-use checker_tables::{Tables, meant};
 use composite_steps::{inner_type, is_struct, key_type, literal_type};
 use go_tree::{NoMemory, TypeExpr};
-use operand_rules::Refusal;
+use operand_modes::checker_tables::{Tables, meant};
 use std::alloc::{AllocError, Global};
 use type_table::TypeId;
+use type_table::operand_rules::Refusal;
 use typed_names::{Blocks, Scope};
 
 /// The type that is written before a literal, if it is one.

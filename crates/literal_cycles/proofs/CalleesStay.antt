@@ -13,7 +13,7 @@ use Rattle.run_rules.specs.Sites.{MarkRef, Where, marked, find_marked_method, se
 use Rattle.run_rules.specs.FormTrees.{as_expr}
 use Rattle.run_rules.specs.Forms.{is_at}
 use Rattle.run_rules.specs.Steps.{At, same_here, changes_for}
-use Rattle.form_cycles.specs.Puts.{CalleeStays}
+use Rattle.literal_cycles.specs.FormCycles.Puts.{CalleeStays}
 use Rattle.constant_steps.specs.WrittenLiteral.Fine.{is_call}
 use Rattle.literal_cycles.specs.Around.{before_dot, CalledStays}
 use Rattle.std.specs.Prelude.{is_some}

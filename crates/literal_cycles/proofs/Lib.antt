@@ -11,3 +11,4 @@ pub mod SitesOut
 pub mod ThroughLiterals
 pub mod LiteralRuns
 mod Example
+pub mod FormCycles

@@ -28,9 +28,9 @@ use Rattle.order_runs.specs.CycleRuns.Linked.{Linked, SettlesFile}
 use Rattle.order_runs.proofs.CycleRuns.FoundUses.NoRecursive.{step-form}
 use Rattle.order_runs.proofs.CycleRuns.LiteralCalls.Through.{body-led}
 use Rattle.constant_steps.proofs.MarksFound.{declared_there}
-use Rattle.form_cycles.specs.Bodies.{StandsInFunction, changes_of}
-use Rattle.form_cycles.specs.Puts.{ExprCallsThrough, CalleeStays, AllPutThrough, PutsInBody}
-use Rattle.form_cycles.proofs.FormSteps.{calls-change, call-step}
+use Rattle.literal_cycles.specs.FormCycles.Bodies.{StandsInFunction, changes_of}
+use Rattle.literal_cycles.specs.FormCycles.Puts.{ExprCallsThrough, CalleeStays, AllPutThrough, PutsInBody}
+use Rattle.literal_cycles.proofs.FormCycles.FormSteps.{calls-change, call-step}
 use Rattle.literal_steps.specs.LiteralUse.{LiteralUse, NamesCallee, plainly, by_import}
 use Rattle.literal_steps.proofs.NoObstacle.{clear}
 use Rattle.literal_cycles.specs.Around.{CalledStays, AllStayAround}
@@ -42,7 +42,7 @@ use Rattle.literal_cycles.proofs.LiteralLed.{form_calls}
 use Rattle.literal_cycles.proofs.SitesOut.{stands_so}
 use Rattle.literal_cycles.proofs.NothingAdded.{same_where, same_packages}
 use Rattle.constant_steps.specs.PlainUse.{AllTheUse}
-use Rattle.splice_laws.specs.RunLaws.Reading.{ProgramReads}
+use Rattle.run_rules.specs.SpliceLaws.RunLaws.Reading.{ProgramReads}
 use Rattle.order_runs.proofs.RunSteps.UsesAlone.{stands-alone}
 use Rattle.go_tree.proofs.GoTypes.Agreeing.{some_same}
 
@@ -185,7 +185,7 @@ module _ (marks : List MarkRef) (st : Standing) (l : Logged) (after : Standing) 
   puts_at e q f g (seen_type p t ∷ xs) a s = (tt, puts_at e q f g xs a.1 s.1)
   puts_at e q f g (seen_stmt p y ∷ xs) a s = ((s.0, put), puts_at e q f g xs a.1 s.1)
     where
-      put : (z : Rattle.go_tree.specs.Tree.Stmt At) → (changes_of n.found).stmt p y ≡ Some z → Rattle.form_cycles.specs.Puts.StatementCallsThrough st.packages marks x.at x.decl x.mark p z y
+      put : (z : Rattle.go_tree.specs.Tree.Stmt At) → (changes_of n.found).stmt p y ≡ Some z → Rattle.literal_cycles.specs.FormCycles.Puts.StatementCallsThrough st.packages marks x.at x.decl x.mark p z y
       put z h = absurd (grind (arith, ap Rattle.std.specs.Prelude.is_some (sym (ap (λ (v : Form At). (changes_for same_here (part_span x.part) v).stmt p y) (sym same_form ∙ q)) ∙ h)))
 
   behind : (xs ys : List (Seen At)) → AllTheUse same_here x u.tree (xs ++ ys) → AllTheUse same_here x u.tree ys

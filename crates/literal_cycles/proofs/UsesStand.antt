@@ -10,13 +10,13 @@ use Rattle.run_rules.specs.Sites.{MarkRef, is_among_marks, Where, inlinable, is_
 use Rattle.run_rules.specs.Cycles.{function_marks, leads_to}
 use Rattle.run_rules.specs.Steps.{At}
 use Rattle.run_rules.specs.Run.{Standing, Logged, Next, here_of}
-use Rattle.splice_laws.proofs.RunLaws.FoundSpans.{Placed}
+use Rattle.run_rules.proofs.SpliceLaws.RunLaws.FoundSpans.{Placed}
 use Rattle.go_tree.specs.declared.spans.Span.{Span}
 use Rattle.order_runs.specs.CycleLaws.PutCalls.{mark_there}
 use Rattle.order_runs.proofs.CycleLaws.Walked.{led, app, type-led}
 use Rattle.order_runs.proofs.CycleRuns.StepCycles.StepAlike.{found-placed}
 use Rattle.order_runs.proofs.CycleRuns.StepCycles.CallsKept.{step-led}
-use Rattle.form_cycles.specs.Bodies.{StandsInFunction}
+use Rattle.literal_cycles.specs.FormCycles.Bodies.{StandsInFunction}
 use Rattle.literal_cycles.specs.Stands.{StandsInValues}
 
 module _ (ps : List (Package At)) (marks : List MarkRef) (w : Where At) (at : ℕ) where

@@ -9,7 +9,7 @@ use Rattle.run_rules.specs.Classes.{type_at}
 use Rattle.run_rules.specs.Sites.{MarkRef, Where}
 use Rattle.run_rules.specs.Forms.{is_at}
 use Rattle.run_rules.specs.Steps.{At, same_here}
-use Rattle.form_cycles.specs.Puts.{StatementStays}
+use Rattle.literal_cycles.specs.FormCycles.Puts.{StatementStays}
 
 module _ (c : Changes At) (span : At) (tree : Expr At) where
   -- the place of what stands before the dot of what is called, where the call's callee has this slot

@@ -16,11 +16,11 @@ use Rattle.run_rules.specs.Cycles.{leads_to, is_recursive}
 use Rattle.run_rules.specs.Texts.{FileText}
 use Rattle.run_rules.specs.Run.{Standing, Logged, Next, Run}
 use Rattle.run_rules.specs.Inlining.{ModuleReads, standing_as_read}
-use Rattle.splice_laws.specs.RunLaws.Reading.{ProgramReads}
+use Rattle.run_rules.specs.SpliceLaws.RunLaws.Reading.{ProgramReads}
 use Rattle.order_runs.specs.CycleLaws.PutCalls.{called_among}
 use Rattle.order_runs.specs.CycleRuns.Linked.{Linked, SettlesFile}
-use Rattle.form_cycles.specs.Bodies.{StandsInFunction}
-use Rattle.form_cycles.specs.Puts.{ExprCallsThrough, CalleeStays, PutsInBody}
+use Rattle.literal_cycles.specs.FormCycles.Bodies.{StandsInFunction}
+use Rattle.literal_cycles.specs.FormCycles.Puts.{ExprCallsThrough, CalleeStays, PutsInBody}
 use Rattle.constant_steps.specs.WrittenLiteral.Fine.{is_call}
 use Rattle.literal_steps.specs.CalledAt.{CalledAt}
 use Rattle.literal_cycles.specs.Around.{CalledStays}

@@ -3,3 +3,4 @@ pub mod Stands
 pub mod Uses
 pub mod Runs
 pub mod Laws
+pub mod FormCycles

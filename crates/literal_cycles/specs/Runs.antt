@@ -5,8 +5,8 @@ use Rattle.std.specs.Prelude.{List}
 use Rattle.run_rules.specs.Sites.{MarkRef}
 use Rattle.run_rules.specs.Run.{Standing, Logged, Next, Run, ends, goes_on}
 use Rattle.order_runs.specs.CycleRuns.Linked.{SettlesFile}
-use Rattle.form_cycles.specs.Bodies.{StandsInFunction}
-use Rattle.form_cycles.specs.Runs.{GivesWay}
+use Rattle.literal_cycles.specs.FormCycles.Bodies.{StandsInFunction}
+use Rattle.literal_cycles.specs.FormCycles.Runs.{GivesWay}
 use Rattle.literal_cycles.specs.Uses.{PutsLiteral}
 
 -- A step gives way, as form_cycles has it, or puts a literal in a function.

@@ -12,7 +12,7 @@ use Rattle.run_rules.specs.Sites.{MarkRef, Site, part_span}
 use Rattle.run_rules.specs.Naming.{imports_added}
 use Rattle.run_rules.specs.Steps.{At, same_here}
 use Rattle.run_rules.specs.Run.{Standing, Logged, Next, is_commented}
-use Rattle.form_cycles.specs.Bodies.{changes_of}
+use Rattle.literal_cycles.specs.FormCycles.Bodies.{changes_of}
 use Rattle.literal_steps.specs.LiteralUse.{LiteralUse, PlainCall}
 use Rattle.literal_steps.specs.CalledAt.{CalledAt, Linked, PackagesServe}
 use Rattle.literal_cycles.specs.Around.{AllStayAround}

@@ -4,6 +4,7 @@
 //! Declarations and scope).
 #![tactic(auto)]
 
+pub mod form_cycles;
 mod laws;
 
 pub use laws::{

@@ -16,7 +16,7 @@ use Rattle.pkg_graph.specs.Package as graph
 use Rattle.pkg_graph.specs.Package.{import_specs}
 use Rattle.pkg_graph.specs.Members as members
 use Rattle.pkg_graph.specs.Members.{Target, imported, import_name, package_block}
-use Rattle.import_rules.specs.Needs.{serves, serving_from, serving, avoided}
+use Rattle.run_rules.specs.ImportRules.Needs.{serves, serving_from, serving, avoided}
 use Rattle.go_tree.specs.GoTypes.Answers.{given}
 use Rattle.go_tree.specs.GoTypes.Entities as typing
 use Rattle.go_tree.specs.GoTypes.Entities.{package_of}

@@ -6,11 +6,11 @@ use crate::files::{Tabled, read_tabled};
 use constant_forms::ConstantValue;
 use go_tree::scope_names::Entity;
 use member_uses::FileScopes;
-use possible_uses::decl_parts;
+use member_uses::possible_uses::decl_parts;
+use repeated_parts::use_search::mark_values::DeclaredValues;
 use repeated_parts::{FlaggedUse, repeated_parts, repeated_uses};
 use std::alloc::Global;
 use std::test::Fail;
-use use_search::mark_values::DeclaredValues;
 
 /// What a name means: a member of the package, a predeclared name, or anything else.
 fn meaning_word(meaning: Option<Entity>) -> &'static [u8] {

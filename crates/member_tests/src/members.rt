@@ -1,8 +1,8 @@
 //! The members of package blocks that parts of declarations name.
 
 use crate::files::{Tabled, read_tabled};
+use member_uses::possible_uses::decl_parts;
 use member_uses::{FileScopes, MemberUse, member_uses};
-use possible_uses::decl_parts;
 use std::alloc::Global;
 use std::test::Fail;
 

@@ -2,7 +2,7 @@
 
 use crate::files::source;
 use go_tree::{Expr, FileTree, Span, TypeExpr};
-use possible_uses::{PartRef, decl_parts};
+use member_uses::possible_uses::{PartRef, decl_parts};
 use std::alloc::Global;
 use std::test::Fail;
 

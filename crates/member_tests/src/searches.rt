@@ -12,10 +12,10 @@ use go_tree::{FileTree, MAX_FILE_BYTES, Name, Text};
 use member_uses::FileScopes;
 use module_marks::MarkTable;
 use pkg_graph::{Package, SourceList, SourceTree};
+use repeated_parts::use_search::mark_values::ConstantValues;
+use repeated_parts::use_search::{FileView, ProgramView, Searched, search_file};
 use std::alloc::Global;
 use std::test::Fail;
-use use_search::mark_values::ConstantValues;
-use use_search::{FileView, ProgramView, Searched, search_file};
 
 fn text_of(alloc: Global, word: &str) -> Result<Text, Fail> {
     Ok(Text::of(word.as_bytes().to_vec(alloc)?))

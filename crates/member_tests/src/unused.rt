@@ -3,7 +3,7 @@
 use crate::files::{Tabled, name_of, read_tabled};
 use constant_forms::{ConstantForm, NamedPackage};
 use go_tree::{Expr, Span};
-use possible_uses::PartRef;
+use member_uses::possible_uses::PartRef;
 use repeated_parts::{file_parts, unused_imports};
 use std::alloc::Global;
 use std::test::Fail;

@@ -2,3 +2,4 @@ pub mod MembersMeant
 pub mod ConstantsAlone
 pub mod Sited
 pub mod Stays
+pub mod PossibleUses

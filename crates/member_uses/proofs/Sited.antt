@@ -13,10 +13,10 @@ use Rattle.go_tree.specs.GoTypes.Answers.{given}
 use Rattle.go_tree.specs.GoTypes.Entities.{is_declared_here}
 use Rattle.run_rules.specs.Surroundings.{Use, other, stored, Place, Seen, seen, seen_type, seen_stmt, is_old}
 use Rattle.run_rules.specs.Sites.{MarkRef, Where, Part, an_expr, a_type_part, Site, mark_of, not_function, type_span, part_span, named_in, outer, member_of, name_mark, qualified_mark, marked, marked_as, expr_mark, type_mark, site_by, type_sites, site_here, sites_among}
-use Rattle.possible_uses.specs.Candidates.{Candidate, plain_part, key_part}
-use Rattle.possible_uses.specs.Parts.{put}
-use Rattle.possible_uses.specs.Among.{may_be_use, Follows, at_the_end, past_a_use, past_no_use, past_a_key, past_a_field, past_an_old_name, past_a_type, past_a_statement}
-use Rattle.possible_uses.specs.Laws.{PartsAreAmongAll}
+use Rattle.member_uses.specs.PossibleUses.Candidates.{Candidate, plain_part, key_part}
+use Rattle.member_uses.specs.PossibleUses.Parts.{put}
+use Rattle.member_uses.specs.PossibleUses.Among.{may_be_use, Follows, at_the_end, past_a_use, past_no_use, past_a_key, past_a_field, past_an_old_name, past_a_type, past_a_statement}
+use Rattle.member_uses.specs.PossibleUses.Laws.{PartsAreAmongAll}
 use Rattle.constant_steps.specs.PlaceMeanings.Agreement.{BlockIsLocal, AgreesAt}
 use Rattle.constant_steps.specs.PlaceMeanings.Parts.{AtTypes, AtParts}
 use Rattle.constant_steps.specs.PlaceMeanings.Laws.{PlacesMeanAsTablesSay, BlocksAreLocal}

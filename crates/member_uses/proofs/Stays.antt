@@ -7,8 +7,8 @@ use Rattle.go_tree.specs.Tree.{NameAt, TypeExpr, named, pointer, slice_type, map
 use Rattle.go_tree.specs.File.{TypeSpec, Receiver, Func, Decl, values, types, func}
 use Rattle.run_rules.specs.Respanned.{type_with, fields_with, param_with, sig_with, expr_with, exprs_with, expr_option_with, elems_with, value_option_with, value_with, stmt_with, stmts_with, stmt_option_with, block_option_with, left_with, arms_with, cases_with, specs_with, type_spec_with, receiver_with, func_with, decl_with}
 use Rattle.run_rules.specs.Sites.{Part, an_expr, a_type_part}
-use Rattle.possible_uses.specs.Candidates.{Candidate, plain_part, key_part, receiver_part}
-use Rattle.possible_uses.specs.Parts.{put, put_selector, parts_of, after_arms, after_block_option, after_cases, after_decl, after_elems, after_expr, after_expr_option, after_exprs, after_fields, after_func, after_key, after_left, after_params, after_receiver, after_sig, after_specs, after_stmt, after_stmt_option, after_stmts, after_type, after_type_option, after_types, after_value}
+use Rattle.member_uses.specs.PossibleUses.Candidates.{Candidate, plain_part, key_part, receiver_part}
+use Rattle.member_uses.specs.PossibleUses.Parts.{put, put_selector, parts_of, after_arms, after_block_option, after_cases, after_decl, after_elems, after_expr, after_expr_option, after_exprs, after_fields, after_func, after_key, after_left, after_params, after_receiver, after_sig, after_specs, after_stmt, after_stmt_option, after_stmts, after_type, after_type_option, after_types, after_value}
 use Rattle.member_uses.specs.Uses.{Used, Names, part_uses, member_uses}
 
 module _ {S T : Type 0} (to : S → T) where

@@ -14,8 +14,8 @@ use Rattle.run_rules.specs.Sites.{sites_among}
 use Rattle.run_rules.specs.Respanned.{decl_with}
 use Rattle.run_rules.specs.Texts.{FileText}
 use Rattle.run_rules.specs.Inlining.{ReadsAs}
-use Rattle.possible_uses.specs.Among.{Keyed}
-use Rattle.possible_uses.specs.Parts.{parts_of}
+use Rattle.member_uses.specs.PossibleUses.Among.{Keyed}
+use Rattle.member_uses.specs.PossibleUses.Parts.{parts_of}
 use Rattle.constant_steps.specs.PlaceMeanings.Parts.{AllScoped}
 use Rattle.constant_steps.specs.PlaceMeanings.Laws.{AreNamesOf}
 use Rattle.member_uses.specs.Uses.{Used, Names, member_uses}

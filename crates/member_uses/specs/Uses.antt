@@ -8,7 +8,7 @@ use Rattle.go_tree.specs.declared.scope_names.names.Entity.TheVariants.{Import, 
 use Rattle.scope_tables.specs.Table.{Table, meaning_in}
 use Rattle.go_tree.specs.GoTypes.Answers.{given}
 use Rattle.run_rules.specs.Sites.{Part, an_expr, a_type_part}
-use Rattle.possible_uses.specs.Candidates.{Candidate}
+use Rattle.member_uses.specs.PossibleUses.Candidates.{Candidate}
 
 -- A part that names a member of a package block: where it stands, the number of the package, the member's name, and
 -- whether it is a key, which may be the name of a field instead.

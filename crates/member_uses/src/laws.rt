@@ -6,7 +6,7 @@ ghost use Rattle.run_rules.specs.Run.{here_of};
 ghost use Rattle.run_rules.specs.Steps.{At};
 ghost use Rattle.member_uses.specs.Laws.{MarkedMembersAreSites, MembersStay};
 
-use possible_uses::parts_are_among_all;
+use crate::possible_uses::parts_are_among_all;
 
 /// In a program whose marks are all of constants, the uses of marked members among the parts of a declaration are its
 /// sites, in the same order, but that a key that names a field is none (Go specification, Composite literals). So no

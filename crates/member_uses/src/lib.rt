@@ -4,6 +4,7 @@
 mod laws;
 mod names;
 mod parts;
+pub mod possible_uses;
 mod uses;
 
 pub use laws::{marked_members_are_sites, members_stay};

@@ -3,15 +3,15 @@
 ghost use Rattle.std.specs.Prelude.{◌≡◌, ◌++◌, false, IfOk, OnOk, map};
 ghost use Rattle.go_tree.specs.View.{expr_of, type_of};
 ghost use Rattle.run_rules.specs.Sites.{an_expr, a_type_part};
-ghost use Rattle.possible_uses.specs.Views.{part_of};
+ghost use Rattle.member_uses.specs.PossibleUses.Views.{part_of};
 ghost use Rattle.go_tree.specs.GoTypes.Answers.{given};
 ghost use Rattle.member_uses.specs.Uses.{import_at as spec_import_at, member_uses, name_alone, part_uses};
 ghost use Rattle.member_uses.specs.Views.{names_in, used_of};
 
 use crate::names::{FileScopes, import_at, package_at, type_package};
+use crate::possible_uses::PartRef;
 use crate::uses::{MemberUse, put};
 use go_tree::{Expr, NoMemory, TypeExpr};
-use possible_uses::PartRef;
 use std::alloc::Global;
 
 /// The package that stands before a dot, where a name alone does.

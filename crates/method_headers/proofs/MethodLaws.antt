@@ -16,8 +16,8 @@ use Rattle.go_tree.specs.GoTypes.Declarations.{names_once}
 use Rattle.go_tree.specs.GoTypes.Primary.{find_method}
 use Rattle.go_tree.specs.GoTypes.Programs.{Headed, func_of, env_of}
 use Rattle.go_tree.specs.GoTypes.MethodDeclarations.{DeclaredMethod, MethodName, declared_on, fields_under, has_method_name, method_declared, method_header, methods_from, methods_on, receiver_type, with_methods}
-use Rattle.func_headers.specs.NameRoles.{SameTypes, SameTypesAt}
-use Rattle.func_headers.proofs.SameTypeLaws.{func_same, header_types, same_type}
+use Rattle.package_blocks.specs.FuncHeaders.NameRoles.{SameTypes, SameTypesAt}
+use Rattle.package_blocks.proofs.FuncHeaders.SameTypeLaws.{func_same, header_types, same_type}
 use Rattle.method_headers.specs.Methods.{method_type_at, own_type_name, receiver_at}
 use Rattle.method_headers.specs.Laws.{HeadersByTypes, MethodsAreFound, MethodsByTypes, find_declared}
 use Rattle.method_headers.proofs.MethodParts.{methods_by_parts, on_type}

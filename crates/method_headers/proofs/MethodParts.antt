@@ -15,7 +15,7 @@ use Rattle.go_tree.specs.GoTypes.Bodies.{body_binds, param_binds}
 use Rattle.go_tree.specs.GoTypes.Programs.{env_of}
 use Rattle.go_tree.specs.GoTypes.MethodDeclarations.{receiver_binds, receiver_type}
 use Rattle.package_blocks.proofs.HeaderLemmas.{map_append}
-use Rattle.func_headers.proofs.Signatures.{blank_append, params_bound}
+use Rattle.package_blocks.proofs.FuncHeaders.Signatures.{blank_append, params_bound}
 use Rattle.method_headers.specs.Methods.{method_of, method_type_at}
 use Rattle.method_headers.specs.Laws.{MethodsByParts}
 

@@ -13,7 +13,7 @@ use Rattle.go_tree.specs.GoTypes.Programs.{Headed, env_of}
 use Rattle.go_tree.specs.GoTypes.MethodDeclarations.{DeclaredMethod, MethodName, declared_on, method_declared}
 use Rattle.go_tree.specs.GoTypes.MethodDeclarations.{method_header, methods_from}
 use Rattle.go_tree.specs.GoTypes.Collect.{world_of}
-use Rattle.func_headers.specs.NameRoles.{SameTypes}
+use Rattle.package_blocks.specs.FuncHeaders.NameRoles.{SameTypes}
 use Rattle.method_headers.specs.Methods.{method_of, method_type_at, receiver_at}
 
 -- a header of a method declares it where its receiver names a defined type of the package and the method has a type

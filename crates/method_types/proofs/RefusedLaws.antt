@@ -10,8 +10,8 @@ use Rattle.go_tree.specs.GoTypes.Entities.{World}
 use Rattle.go_tree.specs.GoTypes.Programs.{Headed}
 use Rattle.go_tree.specs.GoTypes.MethodDeclarations.{MethodName, declared_on, fields_under, has_method_name}
 use Rattle.go_tree.specs.GoTypes.WellTyped.{is_method, method_ok}
-use Rattle.func_headers.specs.NameRoles.{SameTypes}
-use Rattle.func_headers.proofs.MethodsAside.{methods_aside}
+use Rattle.package_blocks.specs.FuncHeaders.NameRoles.{SameTypes}
+use Rattle.package_blocks.proofs.FuncHeaders.MethodsAside.{methods_aside}
 use Rattle.method_headers.proofs.MethodLaws.{headers_by_types}
 use Rattle.method_types.specs.Methods.{refused_methods}
 use Rattle.method_types.specs.Laws.{MethodsAside, RefusedByTypes}

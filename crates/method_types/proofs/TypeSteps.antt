@@ -18,8 +18,8 @@ use Rattle.go_tree.specs.GoTypes.WellTyped.{is_method, method_ok}
 use Rattle.type_table.specs.TypeRelations.Environment.{Environment}
 use Rattle.type_table.specs.declared.type_relations.methods.Method.{Method}
 use Rattle.type_table.specs.declared.nodes.TypeId.{TypeId}
-use Rattle.comparable_types.specs.declared.grown.TypeFlags.{TypeFlags}
-use Rattle.comparable_types.specs.Grown.{AreFlagsSoFar, DefinedBelow}
+use Rattle.type_table.specs.declared.comparable_types.grown.TypeFlags.{TypeFlags}
+use Rattle.type_table.specs.ComparableTypes.Grown.{AreFlagsSoFar, DefinedBelow}
 use Rattle.typed_names.specs.declared.scopes.Scope.{Scope}
 use Rattle.typed_names.specs.Meanings.{Names, world_at}
 use Rattle.typed_names.specs.Scopes.{env_at}
@@ -33,7 +33,7 @@ use Rattle.declared_types.proofs.Found.{world_kept}
 use Rattle.package_blocks.specs.declared.headers.PackageHeader.{PackageHeader}
 use Rattle.package_blocks.specs.Headers.{AreHeaders, header_of, listed_of}
 use Rattle.package_blocks.proofs.HeaderLemmas.{append_none}
-use Rattle.func_headers.proofs.SameTypeLaws.{func_same, place_types}
+use Rattle.package_blocks.proofs.FuncHeaders.SameTypeLaws.{func_same, place_types}
 use Rattle.method_headers.specs.Methods.{GivesReceiver, method_type_at}
 use Rattle.method_headers.proofs.MethodParts.{methods_by_parts, on_type}
 use Rattle.method_types.specs.declared.method_names.headers.MethodAt.{MethodAt}

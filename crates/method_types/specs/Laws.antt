@@ -6,7 +6,7 @@ use Rattle.go_tree.specs.GoTypes.Entities.{World}
 use Rattle.go_tree.specs.GoTypes.Programs.{Headed}
 use Rattle.go_tree.specs.GoTypes.MethodDeclarations.{MethodName}
 use Rattle.go_tree.specs.GoTypes.Collect.{world_of}
-use Rattle.func_headers.specs.NameRoles.{SameTypes}
+use Rattle.package_blocks.specs.FuncHeaders.NameRoles.{SameTypes}
 use Rattle.method_types.specs.Methods.{refused_methods}
 
 -- where types mean the same, the same headers of methods are refused

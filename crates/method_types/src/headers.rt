@@ -5,7 +5,7 @@ ghost use Rattle.go_tree.specs.declared.spans.Span.{Span};
 ghost use Rattle.go_tree.specs.FileView.{func_of, receiver_of};
 ghost use Rattle.go_tree.specs.declared.const_eval.consts.Const.{Const};
 ghost use Rattle.go_tree.specs.GoTypes.Programs.{Headed};
-ghost use Rattle.comparable_types.specs.Grown.{AreFlagsSoFar, DefinedBelow};
+ghost use Rattle.type_table.specs.ComparableTypes.Grown.{AreFlagsSoFar, DefinedBelow};
 ghost use Rattle.type_table.specs.ValueTypes.ValueTypes.{HasValueTypes};
 ghost use Rattle.typed_names.specs.Known.{KnowsTypes};
 ghost use Rattle.typed_names.specs.Meanings.{world_at};
@@ -20,13 +20,13 @@ ghost use Rattle.method_types.specs.Methods.{AreDeclared, AreTypedMethods, IsTyp
 ghost use Rattle.method_types.specs.Steps.{GivesTyped, TypesHeader, attached_at};
 
 use crate::method_names::{MethodAt, method_in};
-use comparable_types::TypeFlags;
 use go_tree::NoMemory;
 use method_headers::method_type;
-use operand_rules::Refusal;
 use package_blocks::PackageHeader;
 use std::alloc::{AllocError, Global};
 use type_table::TypeId;
+use type_table::comparable_types::TypeFlags;
+use type_table::operand_rules::Refusal;
 use type_table::type_relations::{Env, Method};
 use typed_names::{Blocks, Scope};
 

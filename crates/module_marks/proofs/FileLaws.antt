@@ -2,8 +2,8 @@
 use Rattle.std.proofs.Common.{◌≡◌, ◌∙◌, ◌<◌, ℕ, zero, suc, Bool, true, false, cond, List, [], ◌∷◌, Option, Some, None, refl, sym, ap, subst, length, map, get_or, bytes_eq}
 use Rattle.std.specs.Option.{option_map}
 use Rattle.std.proofs.lemmas.List.{length-map}
-use Rattle.module_files.specs.PathLists.{number_of}
-use Rattle.import_order.proofs.NumberLaws.{number_at}
+use Rattle.pkg_graph.specs.ModuleFiles.PathLists.{number_of}
+use Rattle.pkg_graph.proofs.ImportOrder.NumberLaws.{number_at}
 use Rattle.go_tree.specs.declared.spans.Span.{Span}
 use Rattle.go_tree.specs.declared.scope_names.names.FileNames.{FileNames}
 use Rattle.pkg_graph.specs.Package.{SourceTree, Package}

@@ -9,7 +9,7 @@ use Rattle.go_tree.specs.declared.spans.Span.{Span}
 use Rattle.go_tree.specs.Tree.{NameAt}
 use Rattle.go_tree.specs.File.{Decl}
 use Rattle.go_tree.specs.ScopeNames.Means.{or_else}
-use Rattle.import_rules.specs.Removed.{span_at, same_span}
+use Rattle.run_rules.specs.ImportRules.Removed.{span_at, same_span}
 use Rattle.pkg_graph.specs.Members.{decl_names}
 use Rattle.run_rules.specs.Programs.{numbered, numbered_from}
 use Rattle.run_rules.specs.Sites.{MarkRef}

@@ -6,8 +6,8 @@ use Rattle.std.proofs.lemmas.List.{length-map}
 use Rattle.std.proofs.lemmas.Bool.{true≢false}
 use Rattle.std.proofs.lemmas.Slice.Eq.{bytes_eq-Decides}
 use Rattle.go_tree.specs.declared.spans.Span.{Span}
-use Rattle.module_files.specs.PathLists.{number_of}
-use Rattle.import_order.proofs.NumberLaws.{number_at}
+use Rattle.pkg_graph.specs.ModuleFiles.PathLists.{number_of}
+use Rattle.pkg_graph.proofs.ImportOrder.NumberLaws.{number_at}
 use Rattle.go_tree.specs.ScopeNames.Means.{means}
 use Rattle.pkg_graph.specs.Package.{Package}
 use Rattle.pkg_graph.specs.Members.{package_block}

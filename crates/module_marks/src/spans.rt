@@ -6,7 +6,7 @@ ghost use Rattle.go_tree.specs.declared.spans.Span.{Span};
 ghost use Rattle.go_tree.specs.FileView.{decl_of, file_of};
 ghost use Rattle.go_tree.specs.ScopeNames.Means.{or_else};
 ghost use Rattle.pkg_graph.specs.Members.{decl_names};
-ghost use Rattle.import_rules.specs.Removed.{same_span};
+ghost use Rattle.run_rules.specs.ImportRules.Removed.{same_span};
 ghost use Rattle.run_rules.specs.Programs.{numbered};
 ghost use Rattle.run_rules.specs.Marks.{item_at, declaration_at};
 ghost use Rattle.module_marks.specs.Views.{mark_ref_of};
@@ -27,7 +27,7 @@ pub(crate) struct SpanTable {
 impl Model for SpanTable {
     ghost use Rattle.std.specs.Prelude.{List, map};
     ghost use Rattle.go_tree.specs.declared.spans.Span.{Span};
-    ghost use Rattle.import_rules.specs.Removed.{span_at};
+    ghost use Rattle.run_rules.specs.ImportRules.Removed.{span_at};
     ghost use Rattle.run_rules.specs.Sites.{MarkRef};
     ghost use Rattle.module_marks.specs.Views.{mark_ref_of};
 

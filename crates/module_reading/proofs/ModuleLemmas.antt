@@ -1,7 +1,7 @@
 -- The file `go.mod`.
 use Rattle.std.proofs.Common.{◌≡◌, ◌∙◌, ◌<◌, ◌+◌, ℕ, zero, suc, Bool, true, false, not, cond, List, [], ◌∷◌, length, find, drop, refl, sym, ap, Some, arith, slice_index_or, bytes_eq}
-use Rattle.module_files.specs.Selected.{module_file}
-use Rattle.module_files.specs.ModuleFile.{module_of}
+use Rattle.pkg_graph.specs.ModuleFiles.Selected.{module_file}
+use Rattle.pkg_graph.specs.ModuleFiles.ModuleFile.{module_of}
 use Rattle.pkg_graph.specs.Reads.{is_at}
 use Rattle.source_files.specs.declared.files.SourceFile.{SourceFile}
 use Rattle.module_reading.specs.Files.{is_go_file, source_of, sources_of}

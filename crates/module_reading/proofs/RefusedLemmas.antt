@@ -5,9 +5,9 @@ use Rattle.std.proofs.lemmas.List.Elements.{All-map}
 use Rattle.go_tree.specs.declared.spans.Span.{Span}
 use Rattle.go_tree.specs.declared.tokens.Token.{Token}
 use Rattle.go_tree.specs.declared.tokens.Comment.{Comment}
-use Rattle.module_files.specs.ModuleFile.{is_module}
-use Rattle.module_files.specs.declared.faults.GraphError.{GraphError}
-use Rattle.module_files.specs.declared.faults.GraphError.TheVariants.{NoModuleLine, OldGo, MixedPackage, NoPackage, Cycle, Internal, NoMemory}
+use Rattle.pkg_graph.specs.ModuleFiles.ModuleFile.{is_module}
+use Rattle.pkg_graph.specs.declared.module_files.faults.GraphError.{GraphError}
+use Rattle.pkg_graph.specs.declared.module_files.faults.GraphError.TheVariants.{NoModuleLine, OldGo, MixedPackage, NoPackage, Cycle, Internal, NoMemory}
 use Rattle.pkg_graph.specs.Reads.{Source, AreTrees}
 use Rattle.pkg_graph.specs.GraphFaults.{IsGraphFault}
 use Rattle.pkg_graph.specs.Package as pure

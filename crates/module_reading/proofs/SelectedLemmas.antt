@@ -1,6 +1,6 @@
 -- The selected files of a folder.
 use Rattle.std.proofs.Common.{◌≡◌, ◌∙◌, ℕ, true, not, List, find, filter, map, refl, sym, ap, subst, Option, Some, None}
-use Rattle.module_files.specs.Selected.{is_selected, module_file}
+use Rattle.pkg_graph.specs.ModuleFiles.Selected.{is_selected, module_file}
 use Rattle.pkg_graph.specs.Reads.{Source, is_at, selected_files, AreTrees, Reads}
 use Rattle.pkg_graph.specs.Views.{package_view}
 use Rattle.run_rules.specs.Inlining.{IsSourceFile}

@@ -5,7 +5,7 @@ use Rattle.go_tree.specs.FileView.{file_of}
 use Rattle.go_tree.specs.declared.limits.TheConstants.{MAX_FILE_BYTES}
 use Rattle.go_tree.specs.GoWords.Tokens.{TokensOf}
 use Rattle.go_read.specs.SpellsFiles.{SpellsFile}
-use Rattle.module_files.specs.Selected.{module_file}
+use Rattle.pkg_graph.specs.ModuleFiles.Selected.{module_file}
 use Rattle.pkg_graph.specs.Reads.{Source}
 use Rattle.pkg_graph.specs.declared.packages.SourceTree.{SourceTree}
 use Rattle.source_files.specs.declared.files.SourceFile.{SourceFile}

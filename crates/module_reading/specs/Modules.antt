@@ -2,10 +2,10 @@
 -- Packages).
 use Rattle.std.specs.Prelude.{◌≡◌, ⊤, ℕ, List, All, map, find, filter, not, Option, Some, None}
 use Rattle.go_tree.specs.declared.spans.Span.{Span}
-use Rattle.module_files.specs.Selected.{module_file}
-use Rattle.module_files.specs.ModuleFile.{ModuleAnswer, is_module, no_module_line, old_go, module_of}
-use Rattle.module_files.specs.declared.faults.GraphError.{GraphError}
-use Rattle.module_files.specs.declared.faults.GraphError.TheVariants.{NoModuleLine, OldGo, NoMemory}
+use Rattle.pkg_graph.specs.ModuleFiles.Selected.{module_file}
+use Rattle.pkg_graph.specs.ModuleFiles.ModuleFile.{ModuleAnswer, is_module, no_module_line, old_go, module_of}
+use Rattle.pkg_graph.specs.declared.module_files.faults.GraphError.{GraphError}
+use Rattle.pkg_graph.specs.declared.module_files.faults.GraphError.TheVariants.{NoModuleLine, OldGo, NoMemory}
 use Rattle.pkg_graph.specs.Package.{SourceTree, packages_of}
 use Rattle.pkg_graph.specs.Graph.{Links}
 use Rattle.pkg_graph.specs.GraphFaults.{IsGraphFault}

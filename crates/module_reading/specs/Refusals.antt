@@ -14,7 +14,7 @@ use Rattle.go_nesting.specs.declared.counts.TheConstants.{MAX_LIMIT}
 use Rattle.go_nesting.specs.Over.{IsFirstOver}
 use Rattle.go_read.specs.SpellsFiles.{SpellsFile}
 use Rattle.go_read.specs.Fronts.{IsRefusedAt}
-use Rattle.module_files.specs.declared.faults.GraphError.TheVariants.{NoMemory}
+use Rattle.pkg_graph.specs.declared.module_files.faults.GraphError.TheVariants.{NoMemory}
 use Rattle.pkg_graph.specs.Reads.{Source}
 use Rattle.module_reading.specs.declared.faults.TextFault.{TextFault}
 use Rattle.module_reading.specs.declared.faults.TextFault.TheVariants.{NotUtf8, BadToken, Unsupported, TooDeep, NotRead}

@@ -30,7 +30,7 @@ pub enum ReadFault {
 
 impl From<AllocError> for ReadFault {
     ghost use Rattle.std.specs.Prelude.{◌≡◌};
-    ghost use Rattle.module_files.specs.declared.faults.GraphError.TheVariants.{NoMemory};
+    ghost use Rattle.pkg_graph.specs.declared.module_files.faults.GraphError.TheVariants.{NoMemory};
     ghost use Rattle.module_reading.specs.declared.faults.ReadFault.TheVariants.{Module};
 
     ghost from_gives = { λ _ e. e ≡ Module NoMemory };
@@ -42,7 +42,7 @@ impl From<AllocError> for ReadFault {
 
 impl<T: Drop> From<AllocFailed<T>> for ReadFault {
     ghost use Rattle.std.specs.Prelude.{◌≡◌};
-    ghost use Rattle.module_files.specs.declared.faults.GraphError.TheVariants.{NoMemory};
+    ghost use Rattle.pkg_graph.specs.declared.module_files.faults.GraphError.TheVariants.{NoMemory};
     ghost use Rattle.module_reading.specs.declared.faults.ReadFault.TheVariants.{Module};
 
     ghost from_gives = { λ _ e. e ≡ Module NoMemory };

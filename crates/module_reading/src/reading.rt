@@ -1,7 +1,7 @@
 //! A module from its files.
 
 ghost use Rattle.std.specs.Prelude.{◌≡◌, ◌<◌, ◌^◌, ◌≤◌, All, IfErr, IfOk, OnOk, length};
-ghost use Rattle.module_files.specs.ModuleFile.{is_module};
+ghost use Rattle.pkg_graph.specs.ModuleFiles.ModuleFile.{is_module};
 ghost use Rattle.module_reading.specs.Files.{IsScanned, sources_of};
 ghost use Rattle.module_reading.specs.Modules.{IsReadFrom, Refuses, RefusesModule, module_answer};
 ghost use Rattle.module_reading.specs.Refusals.{HasWords, IsShallow, RefusesWords};

@@ -2,7 +2,7 @@
 
 ghost use Rattle.std.specs.Prelude.{◌≡◌, ◌≢◌, ◌≤◌, ◌<◌, ◌^◌, All, IfErr, IfOk, length};
 ghost use Rattle.go_tree.specs.GoWords.Tokens.{TokensOf};
-ghost use Rattle.module_files.specs.declared.faults.GraphError.TheVariants.{NoMemory};
+ghost use Rattle.pkg_graph.specs.declared.module_files.faults.GraphError.TheVariants.{NoMemory};
 ghost use Rattle.module_reading.specs.Files.{AreScanned, IsScanned, go_files};
 ghost use Rattle.module_reading.specs.Refusals.{Fails, IsOfScan, RefusesScan};
 ghost use Rattle.module_reading.specs.declared.faults.ReadFault.TheVariants.{Module};

@@ -16,9 +16,9 @@ use Rattle.go_nesting.specs.Over.{IsFirstOver, IsOverAt}
 use Rattle.go_read.specs.SpellsWeight.{weights_of}
 use Rattle.go_read.specs.Fronts.{IsRefusedAt}
 use Rattle.go_read.proofs.Whole.{refused_once, refused_spells_none}
-use Rattle.module_files.specs.ModuleFile.{is_module, no_module_line, old_go}
-use Rattle.module_files.specs.declared.faults.GraphError.{GraphError}
-use Rattle.module_files.specs.declared.faults.GraphError.TheVariants.{NoModuleLine, OldGo, MixedPackage, NoPackage, Cycle, Internal, NoMemory}
+use Rattle.pkg_graph.specs.ModuleFiles.ModuleFile.{is_module, no_module_line, old_go}
+use Rattle.pkg_graph.specs.declared.module_files.faults.GraphError.{GraphError}
+use Rattle.pkg_graph.specs.declared.module_files.faults.GraphError.TheVariants.{NoModuleLine, OldGo, MixedPackage, NoPackage, Cycle, Internal, NoMemory}
 use Rattle.pkg_graph.specs.Graph.{GraphFault, IsFault, mixed_package, no_package, cycle, internal_package}
 use Rattle.pkg_graph.specs.GraphFaults.{IsGraphFault}
 use Rattle.pkg_graph.specs.Reads.{Source}

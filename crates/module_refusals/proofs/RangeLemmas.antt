@@ -4,7 +4,7 @@ use Rattle.std.proofs.lemmas.List.{length-map}
 use Rattle.std.proofs.lemmas.List.Elements.{All-append, All-cons}
 use Rattle.go_tree.specs.declared.spans.Span.{Span}
 use Rattle.go_tree.specs.File.{ImportSpec}
-use Rattle.module_files.specs.declared.faults.GraphError.TheVariants.{MixedPackage, NoPackage, Internal}
+use Rattle.pkg_graph.specs.declared.module_files.faults.GraphError.TheVariants.{MixedPackage, NoPackage, Internal}
 use Rattle.pkg_graph.specs.Package.{SourceTree, home_of, import_specs}
 use Rattle.pkg_graph.specs.Graph.{ImportAt, IsFault, is_mixed_package, is_no_package, is_internal, mixed_package, no_package, internal_package, imports_from, numbered_files}
 use Rattle.pkg_graph.specs.Reads.{Source, AreTrees, none, file}

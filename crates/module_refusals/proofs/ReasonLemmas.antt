@@ -6,7 +6,7 @@ use Rattle.std.proofs.lemmas.Option.{slice_get-map}
 use Rattle.go_tree.specs.declared.spans.Span.{Span}
 use Rattle.go_tree.specs.File.{File}
 use Rattle.go_tree.specs.declared.limits.TheConstants.{MAX_FILE_BYTES}
-use Rattle.module_files.specs.declared.faults.GraphError.TheVariants.{NoModuleLine, OldGo, MixedPackage, NoPackage, Cycle, Internal, NoMemory}
+use Rattle.pkg_graph.specs.declared.module_files.faults.GraphError.TheVariants.{NoModuleLine, OldGo, MixedPackage, NoPackage, Cycle, Internal, NoMemory}
 use Rattle.pkg_graph.specs.Package.{SourceTree}
 use Rattle.pkg_graph.specs.Reads.{Source, AreTrees, none, file}
 use Rattle.run_rules.specs.Inlining.{IsSourceFile}

@@ -1,7 +1,7 @@
 -- Which files aren't a module, and why (Go Modules Reference, go.mod files; Go specification, Packages).
 use Rattle.std.specs.Prelude.{◌≡◌, ◌<◌, ℕ, List, All, Option, Some, None}
 use Rattle.go_tree.specs.declared.spans.Span.{Span}
-use Rattle.module_files.specs.ModuleFile.{is_module}
+use Rattle.pkg_graph.specs.ModuleFiles.ModuleFile.{is_module}
 use Rattle.pkg_graph.specs.Package.{SourceTree}
 use Rattle.pkg_graph.specs.Graph.{Links}
 use Rattle.pkg_graph.specs.Reads.{AreTrees}

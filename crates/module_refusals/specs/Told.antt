@@ -6,8 +6,8 @@ use Rattle.go_tree.specs.declared.spans.Span.{Span}
 use Rattle.go_tree.specs.File.{File}
 use Rattle.go_scan.specs.Unsupported.{bytes_in}
 use Rattle.source_files.specs.Places.{place_of}
-use Rattle.module_files.specs.declared.faults.GraphError.{GraphError}
-use Rattle.module_files.specs.declared.faults.GraphError.TheVariants as graph
+use Rattle.pkg_graph.specs.declared.module_files.faults.GraphError.{GraphError}
+use Rattle.pkg_graph.specs.declared.module_files.faults.GraphError.TheVariants as graph
 use Rattle.run_rules.specs.Inlining.{IsSourceFile}
 use Rattle.refusals.specs.declared.refusal.Detail.{Detail}
 use Rattle.refusals.specs.declared.refusal.Detail.TheVariants as detail

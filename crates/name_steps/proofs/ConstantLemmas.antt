@@ -10,15 +10,15 @@ use Rattle.go_tree.specs.GoTypes.Types.{untyped}
 use Rattle.go_tree.specs.GoTypes.Entities.{exact}
 use Rattle.go_tree.specs.GoTypes.Operands.{value}
 use Rattle.type_table.specs.TypeRelations.Environment.{Environment}
-use Rattle.operand_rules.specs.declared.values.ValueType.{ValueType}
-use Rattle.operand_rules.specs.declared.values.ValueType.TheVariants.{Untyped}
-use Rattle.operand_rules.specs.declared.values.Content.{Content}
-use Rattle.operand_rules.specs.declared.values.Content.TheVariants.{Run, Exact, Shift}
-use Rattle.operand_rules.specs.declared.values.Value.{Value}
-use Rattle.operand_rules.specs.declared.values.Refusal.{Refusal}
-use Rattle.operand_rules.specs.declared.values.Refusal.TheVariants.{NotTyped, NoMemory}
-use Rattle.operand_rules.specs.Folding.{Holds, HoldsOr}
-use Rattle.operand_rules.specs.Values.{Gives, IsGiven, is_untyped_kind}
+use Rattle.type_table.specs.declared.operand_rules.values.ValueType.{ValueType}
+use Rattle.type_table.specs.declared.operand_rules.values.ValueType.TheVariants.{Untyped}
+use Rattle.type_table.specs.declared.operand_rules.values.Content.{Content}
+use Rattle.type_table.specs.declared.operand_rules.values.Content.TheVariants.{Run, Exact, Shift}
+use Rattle.type_table.specs.declared.operand_rules.values.Value.{Value}
+use Rattle.type_table.specs.declared.operand_rules.values.Refusal.{Refusal}
+use Rattle.type_table.specs.declared.operand_rules.values.Refusal.TheVariants.{NotTyped, NoMemory}
+use Rattle.type_table.specs.OperandRules.Folding.{Holds, HoldsOr}
+use Rattle.type_table.specs.OperandRules.Values.{Gives, IsGiven, is_untyped_kind}
 
 held_given :
     (e : Environment) (cs : List Const) (k : Kind) (v : Const) (t : ValueType) (c : Content) →

@@ -9,11 +9,11 @@ use Rattle.go_tree.specs.GoTypes.Entities.{block_of, exported, is_exported, mean
 use Rattle.go_tree.specs.ConstEval.Exact.{represents}
 use Rattle.go_tree.specs.GoTypes.Operands.{kind_passes}
 use Rattle.type_table.specs.TypeRelations.Environment.{Environment, defined_types}
-use Rattle.operand_rules.specs.declared.values.ValueType.{ValueType}
-use Rattle.operand_rules.specs.declared.values.Content.TheVariants.{Exact}
-use Rattle.operand_rules.specs.Constants.{const_at}
-use Rattle.operand_rules.specs.Values.{IsContent, type_of}
-use Rattle.operand_rules.specs.declared.constants.ConstId.{ConstId}
+use Rattle.type_table.specs.declared.operand_rules.values.ValueType.{ValueType}
+use Rattle.type_table.specs.declared.operand_rules.values.Content.TheVariants.{Exact}
+use Rattle.type_table.specs.OperandRules.Constants.{const_at}
+use Rattle.type_table.specs.OperandRules.Values.{IsContent, type_of}
+use Rattle.type_table.specs.declared.operand_rules.constants.ConstId.{ConstId}
 use Rattle.universe_block.specs.Meanings.{entity_of}
 use Rattle.typed_names.specs.declared.entities.Entity.{Entity}
 use Rattle.typed_names.specs.declared.entities.Entity.TheVariants.{Variable, Constant, TypeName, Function, Package, Predeclared, Refused}
@@ -23,7 +23,7 @@ use Rattle.typed_names.specs.Meanings.{Names, block_at, blocks_from, entity_at, 
 use Rattle.typed_names.specs.Scopes.{env_at, file_env_at}
 use Rattle.typed_names.proofs.NameLaws.{block_means}
 use Rattle.typed_names.proofs.ScopeLaws.{import_meaning, local_meaning, package_meaning}
-use Rattle.operand_answers.specs.Known.{AllHaveValues, HasValue, HaveValues, IsEntity, KnowsValues}
+use Rattle.operand_modes.specs.OperandAnswers.Known.{AllHaveValues, HasValue, HaveValues, IsEntity, KnowsValues}
 
 -- ---- numbers of constants
 

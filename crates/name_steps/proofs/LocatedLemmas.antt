@@ -7,10 +7,10 @@ use Rattle.go_tree.specs.GoTypes.Operands as go
 use Rattle.go_tree.specs.GoTypes.Operands.{value, named_operand, named_place}
 use Rattle.type_table.specs.declared.nodes.TypeId.{TypeId}
 use Rattle.type_table.specs.TypeRelations.Environment.{Environment, env_type}
-use Rattle.operand_rules.specs.declared.constants.ConstId.{ConstId}
-use Rattle.operand_rules.specs.declared.values.ValueType.{ValueType}
-use Rattle.operand_rules.specs.declared.values.ValueType.TheVariants.{Typed, Nil}
-use Rattle.operand_rules.specs.declared.values.Content.TheVariants.{Run, Exact}
+use Rattle.type_table.specs.declared.operand_rules.constants.ConstId.{ConstId}
+use Rattle.type_table.specs.declared.operand_rules.values.ValueType.{ValueType}
+use Rattle.type_table.specs.declared.operand_rules.values.ValueType.TheVariants.{Typed, Nil}
+use Rattle.type_table.specs.declared.operand_rules.values.Content.TheVariants.{Run, Exact}
 use Rattle.operator_rules.specs.declared.access_rules.places.Place.TheVariants.{Addressable, Elsewhere}
 use Rattle.typed_names.specs.declared.entities.Entity.TheVariants.{Variable, Constant, TypeName, Function}
 use Rattle.typed_names.specs.Meanings.{entity_at}
@@ -20,9 +20,9 @@ use Rattle.universe_block.specs.Meanings.{entity_of}
 use Rattle.operand_modes.specs.declared.modes.Operand.{Operand}
 use Rattle.operand_modes.specs.declared.modes.Operand.TheVariants as mode
 use Rattle.operand_modes.specs.Operands.{IsOperand, IsOperandGiven, operand_at}
-use Rattle.operand_answers.specs.Known.{IsEntity}
-use Rattle.operand_answers.specs.Located.{IsLocated}
-use Rattle.operand_answers.proofs.AnswerLemmas.{exact_given, stands_nowhere}
+use Rattle.operand_modes.specs.OperandAnswers.Known.{IsEntity}
+use Rattle.operand_modes.specs.OperandAnswers.Located.{IsLocated}
+use Rattle.operand_modes.proofs.OperandAnswers.AnswerLemmas.{exact_given, stands_nowhere}
 
 -- an operand that stands nowhere
 nowhere :

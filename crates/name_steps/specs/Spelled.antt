@@ -3,7 +3,7 @@ use Rattle.std.specs.Prelude.{◌≡◌, ℕ, true, List}
 use Rattle.go_tree.specs.declared.const_eval.kinds.Kind.{Kind}
 use Rattle.go_tree.specs.ConstEval.Literals.{literal_value}
 use Rattle.go_tree.specs.GoLiterals.Literals.{IsLiteral}
-use Rattle.operand_rules.specs.Folding.{is_literal_kind}
+use Rattle.type_table.specs.OperandRules.Folding.{is_literal_kind}
 
 -- a literal token, which stands for a constant of the kind
 pub record IsSpelled (k : Kind) (spelling : List ℕ) : Type 0 where

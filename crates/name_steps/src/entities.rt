@@ -4,16 +4,16 @@ ghost use Rattle.std.specs.Prelude.{◌≡◌, IfSome, Option, Some};
 ghost use Rattle.go_tree.specs.GoTypes.Entities as go_entity;
 ghost use Rattle.go_tree.specs.GoTypes.Operands.{named_operand, named_place};
 ghost use Rattle.typed_names.specs.Meanings.{entity_at, entity_option};
-ghost use Rattle.checker_tables.specs.Ready.{AreReady, Keeps};
-ghost use Rattle.operand_answers.specs.Known.{IsEntity};
-ghost use Rattle.operand_answers.specs.Located.{GivesAt};
+ghost use Rattle.operand_modes.specs.CheckerTables.Ready.{AreReady, Keeps};
+ghost use Rattle.operand_modes.specs.OperandAnswers.Known.{IsEntity};
+ghost use Rattle.operand_modes.specs.OperandAnswers.Located.{GivesAt};
 
 use crate::predeclared::predeclared_operand;
-use checker_tables::Tables;
-use operand_answers::{Located, elsewhere};
 use operand_modes::Operand;
-use operand_rules::{Content, Refusal, Value, ValueType};
+use operand_modes::checker_tables::Tables;
+use operand_modes::operand_answers::{Located, elsewhere};
 use operator_rules::access_rules::Place;
+use type_table::operand_rules::{Content, Refusal, Value, ValueType};
 use typed_names::Entity;
 
 /// What an entity is, in a constant spec of this number, and where it stands; a package is no operand.

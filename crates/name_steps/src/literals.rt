@@ -3,19 +3,19 @@
 ghost use Rattle.go_tree.specs.ConstEval.Literals.{literal_value};
 ghost use Rattle.go_tree.specs.GoTypes.Entities as go_entity;
 ghost use Rattle.go_tree.specs.GoTypes.Operands.{literal_operand};
-ghost use Rattle.checker_tables.specs.Ready.{AreReady, Keeps};
-ghost use Rattle.operand_answers.specs.Located.{GivesAt};
+ghost use Rattle.operand_modes.specs.CheckerTables.Ready.{AreReady, Keeps};
+ghost use Rattle.operand_modes.specs.OperandAnswers.Located.{GivesAt};
 ghost use Rattle.name_steps.specs.Spelled.{IsSpelled};
 
-use checker_tables::Tables;
 use go_tree::const_eval::Kind;
-use operand_answers::{Located, elsewhere};
+use operand_modes::checker_tables::Tables;
+use operand_modes::operand_answers::{Located, elsewhere};
 use operand_modes::single;
-use operand_rules::{Refusal, literal as literal_token};
 use std::alloc::Global;
+use type_table::operand_rules::{Refusal, literal as literal_token};
 
 /// What a literal is: an untyped constant of this kind.
-#[tactic(auto, using(checker_tables::proofs::ReadyLemmas::types_kept))]
+#[tactic(auto, using(operand_modes::proofs::CheckerTables::ReadyLemmas::types_kept))]
 pub fn literal(
     alloc: Global,
     tables: &mut Tables,

@@ -3,14 +3,14 @@
 ghost use Rattle.go_tree.specs.GoTypes.Entities.{exported, meaning};
 ghost use Rattle.go_tree.specs.GoTypes.Operands.{named_operand, named_place};
 ghost use Rattle.typed_names.specs.Scopes.{env_at};
-ghost use Rattle.checker_tables.specs.Ready.{AreReady, Keeps};
-ghost use Rattle.operand_answers.specs.Known.{Stands};
-ghost use Rattle.operand_answers.specs.Located.{GivesAt};
+ghost use Rattle.operand_modes.specs.CheckerTables.Ready.{AreReady, Keeps};
+ghost use Rattle.operand_modes.specs.OperandAnswers.Known.{Stands};
+ghost use Rattle.operand_modes.specs.OperandAnswers.Located.{GivesAt};
 
 use crate::entities::entity_located;
-use checker_tables::Tables;
-use operand_answers::Located;
-use operand_rules::Refusal;
+use operand_modes::checker_tables::Tables;
+use operand_modes::operand_answers::Located;
+use type_table::operand_rules::Refusal;
 use typed_names::{Blocks, Scope};
 
 /// What a name is at a place.

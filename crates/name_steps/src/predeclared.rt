@@ -7,17 +7,17 @@ ghost use Rattle.go_tree.specs.GoTypes.Entities.{exact};
 ghost use Rattle.go_tree.specs.GoTypes.Operands as go;
 ghost use Rattle.go_tree.specs.GoTypes.Operands.{a_type, named_operand, value};
 ghost use Rattle.go_tree.specs.GoTypes.Types.{basic, untyped};
-ghost use Rattle.operand_rules.specs.Values.{is_untyped_kind};
+ghost use Rattle.type_table.specs.OperandRules.Values.{is_untyped_kind};
 ghost use Rattle.universe_block.specs.Meanings.{entity_of};
 ghost use Rattle.operand_modes.specs.Operands.{GivesOperand};
-ghost use Rattle.checker_tables.specs.Ready.{AreReady, Keeps};
+ghost use Rattle.operand_modes.specs.CheckerTables.Ready.{AreReady, Keeps};
 
-use checker_tables::Tables;
 use go_tree::const_eval::{Const, Kind};
-use operand_answers::added;
+use operand_modes::checker_tables::Tables;
+use operand_modes::operand_answers::added;
 use operand_modes::{Operand, single};
-use operand_rules::{Content, Refusal, Value, ValueType, folded};
 use type_table::TypeNode;
+use type_table::operand_rules::{Content, Refusal, Value, ValueType, folded};
 use universe_block::PredeclaredEntity;
 
 /// A predeclared type.
@@ -34,7 +34,7 @@ fn basic_operand(tables: &mut Tables, kind: Kind) -> Result<Operand, Refusal>
 }
 
 /// An untyped constant of a kind that represents it.
-#[tactic(auto, using(checker_tables::proofs::ReadyLemmas::types_kept))]
+#[tactic(auto, using(operand_modes::proofs::CheckerTables::ReadyLemmas::types_kept))]
 fn constant_operand(tables: &mut Tables, kind: Kind, constant: Const) -> Result<Operand, Refusal>
     requires ready { AreReady tables.old }
     requires kind { is_untyped_kind kind ≡ true }

@@ -7,17 +7,17 @@ ghost use Rattle.go_tree.specs.GoTypes.Entities as go_entity;
 ghost use Rattle.go_tree.specs.GoTypes.Operands.{a_type};
 ghost use Rattle.go_tree.specs.GoTypes.TypeNames.{type_meant};
 ghost use Rattle.typed_names.specs.Scopes.{env_at};
-ghost use Rattle.checker_tables.specs.Ready.{AreReady, Keeps};
-ghost use Rattle.operand_answers.specs.Known.{Stands};
-ghost use Rattle.operand_answers.specs.Located.{GivesAt};
+ghost use Rattle.operand_modes.specs.CheckerTables.Ready.{AreReady, Keeps};
+ghost use Rattle.operand_modes.specs.OperandAnswers.Known.{Stands};
+ghost use Rattle.operand_modes.specs.OperandAnswers.Located.{GivesAt};
 
-use checker_tables::{Tables, meant};
 use go_tree::TypeExpr;
-use operand_answers::Located;
 use operand_modes::Operand;
-use operand_rules::Refusal;
+use operand_modes::checker_tables::{Tables, meant};
+use operand_modes::operand_answers::Located;
 use operator_rules::access_rules::Place;
 use std::alloc::Global;
+use type_table::operand_rules::Refusal;
 use typed_names::{Blocks, Scope};
 
 /// What a type in the source is as an operand.

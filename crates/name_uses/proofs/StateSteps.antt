@@ -14,14 +14,14 @@ use Rattle.typed_names.specs.declared.entities.Entity.{Entity}
 use Rattle.typed_names.specs.Known.{KnowsTypes}
 use Rattle.typed_names.specs.Meanings.{Names}
 use Rattle.typed_names.specs.Scopes.{env_at}
-use Rattle.operand_rules.specs.declared.values.Refusal.{Refusal}
-use Rattle.operand_rules.specs.declared.values.Refusal.TheVariants.{NotTyped}
+use Rattle.type_table.specs.declared.operand_rules.values.Refusal.{Refusal}
+use Rattle.type_table.specs.declared.operand_rules.values.Refusal.TheVariants.{NotTyped}
 use Rattle.typed_names.specs.TypeExprs.Answers.{GivesType}
 use Rattle.typed_names.specs.TypeExprs.Grown.{TypesGrown}
 use Rattle.typed_names.proofs.TypeExprs.GrownLaws.{env_same, known_on}
 use Rattle.declared_types.specs.Steps.{KnowsPlaces}
-use Rattle.checker_tables.specs.declared.tables.Tables.{Tables}
-use Rattle.checker_tables.specs.Ready.{AreReady, Keeps}
+use Rattle.operand_modes.specs.declared.checker_tables.tables.Tables.{Tables}
+use Rattle.operand_modes.specs.CheckerTables.Ready.{AreReady, Keeps}
 use Rattle.method_headers.specs.Methods.{GivesReceiver}
 use Rattle.used_names.specs.Uses.{Uses, is_local, hides, and_name, use_name, declare, hush, end_function, leave, has_local, written_under, inner_under, innermost, has_fields, open_literal, open_inside, close_literal}
 use Rattle.name_uses.specs.Views.{local_names, literal_under, literals_under, top_of, IsTypeIfSome, AreTypesIfSome}

@@ -1,7 +1,7 @@
 -- What the fields of a walk hold.
 use Rattle.typed_names.specs.Known.{KnowsTypes}
 use Rattle.declared_types.specs.Steps.{KnowsPlaces}
-use Rattle.checker_tables.specs.Ready.{AreReady}
+use Rattle.operand_modes.specs.CheckerTables.Ready.{AreReady}
 use Rattle.name_uses.specs.declared.uses.NameUses.TheInside.{Inside}
 use Rattle.name_uses.specs.State.{State}
 use Rattle.name_uses.specs.Views.{AreTypesIfSome}

@@ -5,15 +5,15 @@ ghost use Rattle.go_tree.specs.GoTypes.Answers.{given, meets};
 ghost use Rattle.go_tree.specs.GoTypes.Defined.{under};
 ghost use Rattle.go_tree.specs.GoTypes.Literals as go;
 ghost use Rattle.type_table.specs.TypeRelations.Environment.{defined_types, env_type};
-ghost use Rattle.operand_rules.specs.declared.values.ValueType.TheVariants.{Typed};
-ghost use Rattle.operand_rules.specs.Values.{IsType};
+ghost use Rattle.type_table.specs.declared.operand_rules.values.ValueType.TheVariants.{Typed};
+ghost use Rattle.type_table.specs.OperandRules.Values.{IsType};
 ghost use Rattle.operator_rules.specs.Settling.{typed_option};
-ghost use Rattle.checker_tables.specs.Ready.{AreReady};
+ghost use Rattle.operand_modes.specs.CheckerTables.Ready.{AreReady};
 ghost use Rattle.used_names.specs.Uses.{inner_under, part_type};
 ghost use Rattle.name_uses.specs.Views.{IsTypeIfSome, literal_under};
 
-use checker_tables::Tables;
 use composite_steps::{inner_type, is_struct, key_type, literal_type};
+use operand_modes::checker_tables::Tables;
 use type_table::TypeId;
 
 /// The type of the keys of a literal of the type, or of its elements.

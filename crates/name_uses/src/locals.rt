@@ -8,15 +8,15 @@ ghost use Rattle.go_tree.specs.ScopeNames.Means.{is_blank};
 ghost use Rattle.go_tree.specs.GoTypes.TypeNames.{type_meant};
 ghost use Rattle.typed_names.specs.Known.{KnowsTypes};
 ghost use Rattle.typed_names.specs.Scopes.{env_at};
-ghost use Rattle.checker_tables.specs.Ready.{AreReady, Keeps};
+ghost use Rattle.operand_modes.specs.CheckerTables.Ready.{AreReady, Keeps};
 ghost use Rattle.used_names.specs.Uses.{fields_have_local, has_local, is_local, written_under};
 ghost use Rattle.name_uses.specs.Views.{IsTypeIfSome, literal_under, local_names};
 
-use checker_tables::{Tables, meant};
 use go_tree::{FieldSpecList, Name, NameAt, NoMemory, TypeExpr};
-use operand_rules::Refusal;
+use operand_modes::checker_tables::{Tables, meant};
 use std::alloc::{AllocError, Global};
 use type_table::TypeId;
+use type_table::operand_rules::Refusal;
 use typed_names::{Blocks, Locals, Scope};
 
 /// The blank identifier (Go specification, Blank identifier).

@@ -6,8 +6,8 @@ use Rattle.go_tree.specs.GoTypes.Defined.{Defined}
 use Rattle.go_tree.specs.GoTypes.Types.{GoType}
 use Rattle.go_tree.specs.GoTypes.Operands.{fits, takes}
 use Rattle.type_table.specs.TypeRelations.Environment.{Environment}
-use Rattle.operand_rules.specs.declared.values.Value.{Value}
-use Rattle.operand_rules.specs.Values.{IsValue, typed_of}
+use Rattle.type_table.specs.declared.operand_rules.values.Value.{Value}
+use Rattle.type_table.specs.OperandRules.Values.{IsValue, typed_of}
 use Rattle.operand_modes.specs.declared.modes.Operand.{Operand}
 use Rattle.operand_modes.specs.declared.modes.Operand.TheVariants as mode
 use Rattle.operand_modes.specs.Operands.{IsOperand, operand_at, single_of}

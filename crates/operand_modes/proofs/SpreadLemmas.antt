@@ -11,9 +11,9 @@ use Rattle.go_tree.specs.GoTypes.Operands as go
 use Rattle.go_tree.specs.GoTypes.Operands.{Typed, value, several, a_type, a_function, a_builtin, recovered, all_typed, spread, typed}
 use Rattle.type_table.specs.declared.nodes.TypeId.{TypeId}
 use Rattle.type_table.specs.TypeRelations.Environment.{Environment, env_type}
-use Rattle.operand_rules.specs.declared.values.Value.{Value}
-use Rattle.operand_rules.specs.declared.values.Refusal.TheVariants.{NotTyped}
-use Rattle.operand_rules.specs.Values.{IsValue, typed_of}
+use Rattle.type_table.specs.declared.operand_rules.values.Value.{Value}
+use Rattle.type_table.specs.declared.operand_rules.values.Refusal.TheVariants.{NotTyped}
+use Rattle.type_table.specs.OperandRules.Values.{IsValue, typed_of}
 use Rattle.operator_rules.specs.AccessRules.Functions.{AreTypes, AreValues, types_at}
 use Rattle.operand_modes.specs.declared.modes.Operand.{Operand}
 use Rattle.operand_modes.specs.declared.modes.Operand.TheVariants as mode

@@ -5,7 +5,7 @@ ghost use Rattle.std.specs.Prelude.{◌≡◌, ◌∷◌, [], map, IfOk};
 ghost use Rattle.go_tree.specs.GoTypes.Operands as go;
 ghost use Rattle.go_tree.specs.GoTypes.Statements as statement;
 ghost use Rattle.type_table.specs.TypeRelations.Environment.{defined_types};
-ghost use Rattle.operand_rules.specs.Values.{IsType, runs};
+ghost use Rattle.type_table.specs.OperandRules.Values.{IsType, runs};
 ghost use Rattle.operator_rules.specs.Parts.{HasParts};
 ghost use Rattle.operator_rules.specs.AccessRules.Places.{place_of};
 ghost use Rattle.operand_modes.specs.Operands.{AreOperands, operands_at};
@@ -17,9 +17,9 @@ use crate::modes::{Operand, single_value};
 use crate::spreads::values;
 use go_tree::NoMemory;
 use go_tree::const_eval::Kind;
-use operand_rules::{ConstTable, Content, Refusal, Value, ValueType};
 use operator_rules::access_rules::Place;
 use std::alloc::Global;
+use type_table::operand_rules::{ConstTable, Content, Refusal, Value, ValueType};
 use type_table::type_relations::Env;
 
 /// So many values, each its own or all of one call.

@@ -6,8 +6,8 @@ ghost use Rattle.type_table.specs.TypeRelations.Environment.{defined_types, env_
 ghost use Rattle.operand_modes.specs.Operands.{IsOperand, operand_at};
 
 use crate::modes::{Operand, single_value};
-use operand_rules::{ConstTable, fits};
 use type_table::TypeId;
+use type_table::operand_rules::{ConstTable, fits};
 use type_table::type_relations::Env;
 
 /// Whether an operand may stand where a value of the type is wanted.

@@ -4,9 +4,12 @@
 #![tactic(auto)]
 
 mod assigned;
+pub mod checker_tables;
 mod fits;
 mod lists;
 mod modes;
+pub mod operand_answers;
+pub mod operand_laws;
 mod results;
 mod spreads;
 

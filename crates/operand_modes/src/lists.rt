@@ -1,7 +1,7 @@
 //! Lists of values.
 
-use operand_rules::Value;
 use std::marker::Model;
+use type_table::operand_rules::Value;
 
 /// Values in their order.
 #[derive(Drop)]
@@ -11,7 +11,7 @@ pub struct ValueList {
 
 impl Model for ValueList {
     ghost use Rattle.std.specs.Prelude.{List};
-    ghost use Rattle.operand_rules.specs.declared.values.Value as value;
+    ghost use Rattle.type_table.specs.declared.operand_rules.values.Value as value;
 
     ghost Value = { List value.Value };
 

@@ -4,11 +4,11 @@ ghost use Rattle.std.specs.Prelude.{◌≡◌, List, Option};
 ghost use Rattle.go_tree.specs.declared.const_eval.consts.Const.{Const};
 ghost use Rattle.go_tree.specs.GoTypes.Operands as go;
 ghost use Rattle.type_table.specs.TypeRelations.Environment.{Environment};
-ghost use Rattle.operand_rules.specs.Values.{Gives};
+ghost use Rattle.type_table.specs.OperandRules.Values.{Gives};
 ghost use Rattle.operand_modes.specs.Operands.{GivesOperand, single_of};
 
-use operand_rules::{Refusal, Value};
 use type_table::TypeId;
+use type_table::operand_rules::{Refusal, Value};
 use universe_block::Builtin;
 
 /// What an expression is.

@@ -8,7 +8,7 @@ ghost use Rattle.operator_rules.specs.AccessRules.Functions.{AreTypes, types_at}
 ghost use Rattle.operand_modes.specs.Operands.{IsOperand, operand_at, tuple_at};
 
 use crate::modes::Operand;
-use operand_rules::{Content, Value, ValueType};
+use type_table::operand_rules::{Content, Value, ValueType};
 use type_table::type_relations::Env;
 use type_table::{TypeId, TypeNode};
 

@@ -13,9 +13,9 @@ use crate::lists::ValueList;
 use crate::modes::{Operand, single_value};
 use crate::results::tuple_parts;
 use go_tree::NoMemory;
-use operand_rules::{ConstTable, Content, Refusal, Value, ValueType};
 use std::alloc::Global;
 use type_table::TypeId;
+use type_table::operand_rules::{ConstTable, Content, Refusal, Value, ValueType};
 use type_table::type_relations::Env;
 
 /// The values that operands are, one by one.

@@ -2,17 +2,17 @@
 //! Operators, Comparison operators and Conversions that have whole numbers, and their like.
 
 ghost use Rattle.std.specs.Prelude.{IfOk};
-ghost use Rattle.comparable_types.specs.Grown.{AreFlags};
-ghost use Rattle.operand_rules.specs.Values.{IsValue};
+ghost use Rattle.type_table.specs.ComparableTypes.Grown.{AreFlags};
+ghost use Rattle.type_table.specs.OperandRules.Values.{IsValue};
 ghost use Rattle.operator_rules.specs.BasicTypes.{AreBasic};
 
 use crate::operands::{Found, Number, operand, shown};
-use comparable_types::TypeFlags;
 use go_tree::{BinOp, NoMemory, UnOp};
-use operand_rules::{ConstTable, Refusal, Value, unary_value};
 use operator_rules::{BasicTypes, binary_value};
 use std::alloc::Global;
 use std::test::Fail;
+use type_table::comparable_types::TypeFlags;
+use type_table::operand_rules::{ConstTable, Refusal, Value, unary_value};
 use type_table::type_relations::Env;
 
 /// Two operands with an operator between them, and what they are.

@@ -1,13 +1,13 @@
 //! Constant operands, and what is found of a value.
 
 ghost use Rattle.std.specs.Prelude.{IfOk};
-ghost use Rattle.operand_rules.specs.Constants.{Grown};
-ghost use Rattle.operand_rules.specs.Values.{IsValue};
+ghost use Rattle.type_table.specs.OperandRules.Constants.{Grown};
+ghost use Rattle.type_table.specs.OperandRules.Values.{IsValue};
 ghost use Rattle.operator_rules.specs.BasicTypes.{AreBasic};
 
 use go_tree::const_eval::{Const, Kind};
-use operand_rules::{ConstTable, Content, Refusal, Value, ValueType, conversion};
 use operator_rules::BasicTypes;
+use type_table::operand_rules::{ConstTable, Content, Refusal, Value, ValueType, conversion};
 use type_table::type_relations::Env;
 
 /// A constant: an untyped number or rune, or one of `int`, `rune` or `byte`.

@@ -14,11 +14,11 @@ use Rattle.go_tree.specs.GoTypes.Table.{TypeNode}
 use Rattle.type_table.specs.SameRows.{same_row}
 use Rattle.type_table.specs.Interned.{with_row}
 use Rattle.type_table.specs.TypeRelations.Environment.{Environment, defined_types, env_type, with_type}
-use Rattle.operand_rules.specs.declared.values.ValueType.{ValueType}
-use Rattle.operand_rules.specs.declared.values.Content.{Content}
-use Rattle.operand_rules.specs.declared.values.Content.TheVariants.{Run, Exact, Shift}
-use Rattle.operand_rules.specs.Constants.{Grown}
-use Rattle.operand_rules.specs.Values.{IsContent, content_of, type_of}
+use Rattle.type_table.specs.declared.operand_rules.values.ValueType.{ValueType}
+use Rattle.type_table.specs.declared.operand_rules.values.Content.{Content}
+use Rattle.type_table.specs.declared.operand_rules.values.Content.TheVariants.{Run, Exact, Shift}
+use Rattle.type_table.specs.OperandRules.Constants.{Grown}
+use Rattle.type_table.specs.OperandRules.Values.{IsContent, content_of, type_of}
 use Rattle.operator_rules.specs.BasicTypes.{IsBasic}
 use Rattle.operator_rules.specs.Kept.{BasicTypesStay, GrowsOn, TypesGrown, ValuesMeanTheSame, ValuesStay}
 

@@ -10,7 +10,7 @@ use Rattle.go_tree.specs.GoTypes.Answers.{meets}
 use Rattle.go_tree.specs.GoTypes.Types.{GoType}
 use Rattle.go_tree.specs.GoTypes.Operands.{kind_of, kind_passes}
 use Rattle.type_table.specs.TypeRelations.Environment.{Environment, defined_types}
-use Rattle.operand_rules.specs.Operators.{is_logical}
+use Rattle.type_table.specs.OperandRules.Operators.{is_logical}
 
 -- a test and nothing else
 or_nothing : (b : Bool) → (b || false) ≡ b

@@ -2,9 +2,9 @@
 use Rattle.std.specs.Prelude.{◌≡◌, ℕ, ◌<◌, ◌≤◌, List, length}
 use Rattle.go_tree.specs.declared.const_eval.consts.Const.{Const}
 use Rattle.type_table.specs.TypeRelations.Environment.{Environment, env_type}
-use Rattle.operand_rules.specs.declared.values.Value.{Value}
-use Rattle.operand_rules.specs.Constants.{Grown}
-use Rattle.operand_rules.specs.Values.{IsValue, typed_of}
+use Rattle.type_table.specs.declared.operand_rules.values.Value.{Value}
+use Rattle.type_table.specs.OperandRules.Constants.{Grown}
+use Rattle.type_table.specs.OperandRules.Values.{IsValue, typed_of}
 use Rattle.operator_rules.specs.declared.basics.BasicTypes.{BasicTypes}
 use Rattle.operator_rules.specs.BasicTypes.{AreBasic}
 

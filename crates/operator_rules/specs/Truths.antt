@@ -8,7 +8,7 @@ use Rattle.go_tree.specs.declared.const_eval.consts.Const.{Const}
 use Rattle.go_tree.specs.declared.const_eval.consts.Const.TheVariants.{Whole, Truth, Bytes}
 use Rattle.go_tree.specs.declared.const_eval.consts.ConstError.{ConstError}
 use Rattle.go_tree.specs.ConstEval.Operators.{is_comparison}
-use Rattle.operand_rules.specs.Operators.{is_logical}
+use Rattle.type_table.specs.OperandRules.Operators.{is_logical}
 
 -- a comparison, `&&` or `||`
 abbrev pub gives_truth : BinOp → Bool

@@ -3,19 +3,21 @@
 ghost use Rattle.go_tree.specs.GoTypes.Operators as go;
 ghost use Rattle.go_tree.specs.GoTypes.Operands.{value};
 ghost use Rattle.type_table.specs.TypeRelations.Environment.{defined_types};
-ghost use Rattle.comparable_types.specs.Grown.{AreFlags};
-ghost use Rattle.operand_rules.specs.Constants.{Grown};
-ghost use Rattle.operand_rules.specs.Values.{Gives, IsValue, content_of, type_of, typed_of};
+ghost use Rattle.type_table.specs.ComparableTypes.Grown.{AreFlags};
+ghost use Rattle.type_table.specs.OperandRules.Constants.{Grown};
+ghost use Rattle.type_table.specs.OperandRules.Values.{Gives, IsValue, content_of, type_of, typed_of};
 ghost use Rattle.operator_rules.specs.BasicTypes.{AreBasic};
 
 use crate::basics::BasicTypes;
 use crate::comparisons::comparison;
 use crate::logical::logic;
-use comparable_types::TypeFlags;
 use go_tree::BinOp;
 use go_tree::const_eval::Kind;
-use operand_rules::{ConstTable, Content, Refusal, Value, ValueType, arithmetic, shifting};
 use std::alloc::Global;
+use type_table::comparable_types::TypeFlags;
+use type_table::operand_rules::{
+    ConstTable, Content, Refusal, Value, ValueType, arithmetic, shifting,
+};
 use type_table::type_relations::Env;
 
 /// What a binary operator between two values gives.

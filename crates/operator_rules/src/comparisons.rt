@@ -6,10 +6,10 @@ ghost use Rattle.go_tree.specs.GoTypes.Operands.{is_shift};
 ghost use Rattle.go_tree.specs.GoTypes.Operators as go;
 ghost use Rattle.go_tree.specs.GoTypes.Types.{is_nil, is_untyped};
 ghost use Rattle.type_table.specs.TypeRelations.Environment.{defined_types, env_type};
-ghost use Rattle.comparable_types.specs.Grown.{AreFlags};
-ghost use Rattle.operand_rules.specs.declared.values.ValueType.TheVariants.{Typed};
-ghost use Rattle.operand_rules.specs.Constants.{Grown};
-ghost use Rattle.operand_rules.specs.Values.{Gives, IsType, IsValue, type_of, type_option, typed_of, content_of};
+ghost use Rattle.type_table.specs.ComparableTypes.Grown.{AreFlags};
+ghost use Rattle.type_table.specs.declared.operand_rules.values.ValueType.TheVariants.{Typed};
+ghost use Rattle.type_table.specs.OperandRules.Constants.{Grown};
+ghost use Rattle.type_table.specs.OperandRules.Values.{Gives, IsType, IsValue, type_of, type_option, typed_of, content_of};
 ghost use Rattle.operator_rules.specs.BasicTypes.{AreBasic};
 ghost use Rattle.operator_rules.specs.Comparisons.{may_compare, typed_compared_at, untyped_compared_at};
 
@@ -17,12 +17,14 @@ use crate::basics::BasicTypes;
 use crate::logical::applies;
 use crate::settling::default_type;
 use crate::truths::truth_value;
-use comparable_types::TypeFlags;
 use go_tree::BinOp;
 use go_tree::const_eval::Kind;
-use operand_rules::{ConstTable, Content, Refusal, Value, ValueType, common_type, fits, has_nil};
 use std::alloc::Global;
 use type_table::TypeId;
+use type_table::comparable_types::TypeFlags;
+use type_table::operand_rules::{
+    ConstTable, Content, Refusal, Value, ValueType, common_type, fits, has_nil,
+};
 use type_table::type_relations::{Env, assignable};
 
 /// The type of an untyped constant, or of nil.
@@ -196,7 +198,7 @@ fn may_compare(
 }
 
 /// What a comparison of two operands gives: an untyped truth value.
-#[tactic(auto, using(operand_rules::proofs::ConstantLemmas::grown_self))]
+#[tactic(auto, using(type_table::proofs::OperandRules::ConstantLemmas::grown_self))]
 pub fn comparison(
     alloc: Global,
     env: &Env,

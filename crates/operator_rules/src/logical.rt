@@ -5,16 +5,16 @@ ghost use Rattle.go_tree.specs.ConstEval.Conditions as condition;
 ghost use Rattle.go_tree.specs.GoTypes.Operands.{kind_passes};
 ghost use Rattle.go_tree.specs.GoTypes.Operators as go;
 ghost use Rattle.type_table.specs.TypeRelations.Environment.{defined_types};
-ghost use Rattle.operand_rules.specs.Constants.{Grown};
-ghost use Rattle.operand_rules.specs.Operators.{is_logical};
-ghost use Rattle.operand_rules.specs.Values.{Gives, IsType, IsValue, is_not_nil, type_of, typed_of};
+ghost use Rattle.type_table.specs.OperandRules.Constants.{Grown};
+ghost use Rattle.type_table.specs.OperandRules.Operators.{is_logical};
+ghost use Rattle.type_table.specs.OperandRules.Values.{Gives, IsType, IsValue, is_not_nil, type_of, typed_of};
 
 use crate::truths::truth_value;
 use go_tree::BinOp;
-use operand_rules::{
+use std::alloc::Global;
+use type_table::operand_rules::{
     ConstTable, Refusal, Value, ValueType, binary_applies, common_type, joins, kind_of,
 };
-use std::alloc::Global;
 use type_table::type_relations::Env;
 
 /// Whether the operator applies to operands of the type.
@@ -42,7 +42,7 @@ fn may_join(env: &Env, consts: &ConstTable, op: BinOp, t: ValueType, x: Value, y
 }
 
 /// What `&&` or `||` between two operands gives: a truth value of their common type.
-#[tactic(auto, using(operand_rules::proofs::ConstantLemmas::grown_self))]
+#[tactic(auto, using(type_table::proofs::OperandRules::ConstantLemmas::grown_self))]
 pub fn logic(
     alloc: Global,
     env: &Env,

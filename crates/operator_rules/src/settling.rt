@@ -4,15 +4,15 @@
 ghost use Rattle.std.specs.Prelude.{◌≡◌, IfSome};
 ghost use Rattle.go_tree.specs.GoTypes.Operands as go;
 ghost use Rattle.type_table.specs.TypeRelations.Environment.{defined_types};
-ghost use Rattle.operand_rules.specs.declared.values.ValueType.TheVariants.{Typed};
-ghost use Rattle.operand_rules.specs.Values.{IsType, IsValue, type_of, typed_of};
+ghost use Rattle.type_table.specs.declared.operand_rules.values.ValueType.TheVariants.{Typed};
+ghost use Rattle.type_table.specs.OperandRules.Values.{IsType, IsValue, type_of, typed_of};
 ghost use Rattle.operator_rules.specs.BasicTypes.{AreBasic};
 ghost use Rattle.operator_rules.specs.Settling.{typed_option};
 
 use crate::basics::BasicTypes;
 use go_tree::const_eval::Kind;
-use operand_rules::{ConstTable, Value, ValueType, fits};
 use type_table::TypeId;
+use type_table::operand_rules::{ConstTable, Value, ValueType, fits};
 use type_table::type_relations::Env;
 
 /// The type of a value that no place gives one: an untyped constant has its default type, and nil

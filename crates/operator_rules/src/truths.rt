@@ -8,16 +8,16 @@ ghost use Rattle.go_tree.specs.ConstEval.Operators.{binary_value};
 ghost use Rattle.go_tree.specs.GoTypes.Operands.{constant_at, kind_passes};
 ghost use Rattle.go_tree.specs.GoTypes.Operators as go;
 ghost use Rattle.type_table.specs.TypeRelations.Environment.{defined_types};
-ghost use Rattle.operand_rules.specs.Constants.{Grown};
-ghost use Rattle.operand_rules.specs.Values.{Gives, IsKept, IsType, content_of, type_of};
+ghost use Rattle.type_table.specs.OperandRules.Constants.{Grown};
+ghost use Rattle.type_table.specs.OperandRules.Values.{Gives, IsKept, IsType, content_of, type_of};
 ghost use Rattle.operator_rules.specs.Truths.{alike, gives_truth, sort_of, truth_in, truth_option};
 
 use go_tree::BinOp;
 use go_tree::const_eval::{Const, ConstError, Kind, binary};
-use operand_rules::{
+use std::alloc::Global;
+use type_table::operand_rules::{
     ConstTable, Content, Refusal, Value, ValueType, binary_applies, both_exact, folded,
 };
-use std::alloc::Global;
 use type_table::type_relations::Env;
 
 /// The kind of an untyped constant like this one.
@@ -71,7 +71,7 @@ fn truth_of(alloc: Global, op: BinOp, a: &Const, b: &Const) -> Option<bool>
 }
 
 /// The truth value between two operands: a constant one between constants.
-#[tactic(auto, using(operand_rules::proofs::ConstantLemmas::grown_self))]
+#[tactic(auto, using(type_table::proofs::OperandRules::ConstantLemmas::grown_self))]
 pub(crate) fn truth_value(
     alloc: Global,
     env: &Env,

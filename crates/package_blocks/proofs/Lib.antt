@@ -7,3 +7,4 @@ pub mod ImportLemmas
 pub mod FirstLemmas
 pub mod CollectedLemmas
 pub mod TypeLemmas
+pub mod FuncHeaders

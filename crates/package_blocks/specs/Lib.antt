@@ -3,3 +3,4 @@ pub mod Headers
 pub mod Imports
 pub mod Collected
 pub mod Types
+pub mod FuncHeaders

@@ -5,6 +5,7 @@
 
 mod collected;
 mod decls;
+pub mod func_headers;
 mod headers;
 mod imports;
 mod names;

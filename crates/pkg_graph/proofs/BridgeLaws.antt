@@ -9,12 +9,12 @@ use Rattle.go_tree.specs.File.{ImportSpec}
 use Rattle.pkg_graph.specs.Package.{SourceTree, Package, import_specs, home_of, files_of, first_seen, package_of, packages_of}
 use Rattle.pkg_graph.specs.Graph.{ImportAt, imports_from, all_imports, files_import, imports_of, Imports, imported, Leads, directly, over as lead_over, IsLeastOnCycle, is_named_by, first_unnamed}
 use Rattle.pkg_graph.specs.Order as order
-use Rattle.module_files.specs.Pieces.{comes_before}
-use Rattle.module_files.specs.PathLists.{number_of, has_path, path_at, AreDistinct}
-use Rattle.import_order.specs.Numbers.{AreLinks, is_among, row, Reaches, straight, over, IsReadyNumber, IsNextNumber, FollowsNumbers, none, next}
+use Rattle.pkg_graph.specs.ModuleFiles.Pieces.{comes_before}
+use Rattle.pkg_graph.specs.ModuleFiles.PathLists.{number_of, has_path, path_at, AreDistinct}
+use Rattle.pkg_graph.specs.ImportOrder.Numbers.{AreLinks, is_among, row, Reaches, straight, over, IsReadyNumber, IsNextNumber, FollowsNumbers, none, next}
 use Rattle.pkg_graph.specs.ImportViews.{specs_view, link_to, links_from, AreLinksOf}
-use Rattle.module_files.proofs.PathLaws.{are_same, same_path, has_number, before}
-use Rattle.import_order.proofs.NumberLaws.{number_at, among_same, self_same, all_each, among_push, among_kept}
+use Rattle.pkg_graph.proofs.ModuleFiles.PathLaws.{are_same, same_path, has_number, before}
+use Rattle.pkg_graph.proofs.ImportOrder.NumberLaws.{number_at, among_same, self_same, all_each, among_push, among_kept}
 use Rattle.std.proofs.lemmas.List.Folds.{list_any-append}
 use Rattle.pkg_graph.proofs.PackageLaws.{paths_are}
 

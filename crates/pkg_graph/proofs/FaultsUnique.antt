@@ -2,13 +2,13 @@
 use Rattle.std.proofs.Common.{◌≡◌, ◌∙◌, ◌⊎◌, inl, inr, ℕ, true, List, ◌∷◌, refl, sym, ap, subst, Option, Some, None}
 use Rattle.go_tree.specs.declared.spans.Span.{Span}
 use Rattle.go_tree.specs.File.{File}
-use Rattle.module_files.specs.Pieces.{comes_before}
-use Rattle.module_files.specs.ModuleFile.{is_module, module_of}
+use Rattle.pkg_graph.specs.ModuleFiles.Pieces.{comes_before}
+use Rattle.pkg_graph.specs.ModuleFiles.ModuleFile.{is_module, module_of}
 use Rattle.pkg_graph.specs.Package.{SourceTree, Package, packages_of}
 use Rattle.pkg_graph.specs.Graph.{ImportAt, GraphFault, mixed_package, no_package, cycle, internal_package, is_mixed_package, is_no_package, is_cycle, is_internal, IsLeastOnCycle}
 use Rattle.pkg_graph.specs.GraphLaws.{FaultsAreUnique, LinkedHaveNoFault, ProgramsAreUnique, ReadsAreUnique}
 use Rattle.pkg_graph.specs.Reads.{Source, AreTrees, none, file, IsProgram}
-use Rattle.import_order.proofs.OpenLaws.{one_comes_before}
+use Rattle.pkg_graph.proofs.ImportOrder.OpenLaws.{one_comes_before}
 
 never : {A : Type 0} (o : Option A) (x : A) → o ≡ None → o ≡ Some x → ⊥
 never o x e f = absurd (cc)

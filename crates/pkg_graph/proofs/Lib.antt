@@ -8,3 +8,5 @@ pub mod FaultLaws
 pub mod AssemblyLaws
 pub mod OrderLaws
 mod FaultsUnique
+pub mod ModuleFiles
+pub mod ImportOrder

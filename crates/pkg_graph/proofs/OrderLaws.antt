@@ -8,13 +8,13 @@ use Rattle.pkg_graph.specs.Package.{SourceTree, Package, packages_of}
 use Rattle.pkg_graph.specs.Graph.{HasNoCycle, imports_of, first_unnamed}
 use Rattle.pkg_graph.specs.GraphLaws.{OrdersAreUnique, OrdersHoldPackages, OrdersHoldAll, AllHaveNoCycle}
 use Rattle.pkg_graph.specs.Order as order
-use Rattle.module_files.specs.Pieces.{comes_before}
-use Rattle.module_files.specs.PathLists.{number_of, has_path, path_at, AreDistinct}
-use Rattle.import_order.specs.Numbers.{AreLinks, is_among, row, is_marked, unmarked, Reaches, straight, IsReadyNumber, IsNextNumber, FollowsNumbers, none, next}
-use Rattle.import_order.proofs.NumberLaws.{among_same}
-use Rattle.import_order.proofs.OpenLaws.{one_comes_before}
+use Rattle.pkg_graph.specs.ModuleFiles.Pieces.{comes_before}
+use Rattle.pkg_graph.specs.ModuleFiles.PathLists.{number_of, has_path, path_at, AreDistinct}
+use Rattle.pkg_graph.specs.ImportOrder.Numbers.{AreLinks, is_among, row, is_marked, unmarked, Reaches, straight, IsReadyNumber, IsNextNumber, FollowsNumbers, none, next}
+use Rattle.pkg_graph.proofs.ImportOrder.NumberLaws.{among_same}
+use Rattle.pkg_graph.proofs.ImportOrder.OpenLaws.{one_comes_before}
 use Rattle.pkg_graph.proofs.PackageLaws.{paths_distinct}
-use Rattle.import_order.proofs.WalkLaws.{one_fewer, marked_one, never_marked, reaches_more, reaches_within, split_or}
+use Rattle.pkg_graph.proofs.ImportOrder.WalkLaws.{one_fewer, marked_one, never_marked, reaches_more, reaches_within, split_or}
 use Rattle.pkg_graph.proofs.BridgeLaws.{LinksAre, numbers_of, got_at, got_within, get_one, all_named, number_ready, package_ready, path_of, are_links, leads_from_reaches, no_cycle, placed_off}
 
 -- ---- what stays open leads to a cycle

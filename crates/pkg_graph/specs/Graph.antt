@@ -5,9 +5,9 @@ use Rattle.std.specs.Prelude.{map, find, Contains, Option, Some, None, codes}
 use Rattle.std.specs.List.{list_any}
 use Rattle.go_tree.specs.declared.spans.Span.{Span}
 use Rattle.go_tree.specs.File.{ImportSpec}
-use Rattle.module_files.specs.Pieces.{comes_before}
+use Rattle.pkg_graph.specs.ModuleFiles.Pieces.{comes_before}
 use Rattle.pkg_graph.specs.Package.{SourceTree, Package, import_specs, home_of, package_of, packages_of}
-use Rattle.module_files.specs.Internal.{may_import}
+use Rattle.pkg_graph.specs.ModuleFiles.Internal.{may_import}
 
 -- an import spec with the number of its file and the path of the package that imports
 pub record ImportAt (S : Type 0) : Type 0 where

@@ -4,18 +4,18 @@ use Rattle.std.specs.Prelude.{Some, None, bytes_eq, codes, slice_index_or, []}
 use Rattle.go_tree.specs.declared.spans.Span.{Span}
 use Rattle.pkg_graph.specs.Package.{SourceTree}
 use Rattle.pkg_graph.specs.Graph.{ImportAt, numbered_files, IsFault, mixed_package, no_package, cycle, internal_package}
-use Rattle.module_files.specs.Internal.{may_import}
+use Rattle.pkg_graph.specs.ModuleFiles.Internal.{may_import}
 use Rattle.pkg_graph.specs.Views.{sources_of}
 use Rattle.pkg_graph.specs.ImportViews.{import_view}
 use Rattle.pkg_graph.specs.declared.packages.SourceTree as code
 use Rattle.pkg_graph.specs.declared.homes.Homes.{Homes}
 use Rattle.pkg_graph.specs.declared.imports.Import.{Import}
-use Rattle.module_files.specs.Pieces.{comes_before}
-use Rattle.module_files.specs.PathLists.{number_of, path_at}
-use Rattle.import_order.specs.Numbers.{Reaches}
-use Rattle.module_files.specs.declared.faults.GraphError.{GraphError}
-use Rattle.module_files.specs.declared.faults.GraphError.TheVariants.{MixedPackage, NoPackage, Cycle, Internal}
-use Rattle.module_files.specs.declared.faults.GraphError.TheVariants.{NoMemory}
+use Rattle.pkg_graph.specs.ModuleFiles.Pieces.{comes_before}
+use Rattle.pkg_graph.specs.ModuleFiles.PathLists.{number_of, path_at}
+use Rattle.pkg_graph.specs.ImportOrder.Numbers.{Reaches}
+use Rattle.pkg_graph.specs.declared.module_files.faults.GraphError.{GraphError}
+use Rattle.pkg_graph.specs.declared.module_files.faults.GraphError.TheVariants.{MixedPackage, NoPackage, Cycle, Internal}
+use Rattle.pkg_graph.specs.declared.module_files.faults.GraphError.TheVariants.{NoMemory}
 
 -- The error names the fault of the files. Want of memory says nothing of them.
 abbrev pub IsGraphFault : List ℕ → List (SourceTree Span) → GraphError → Type 0

@@ -6,7 +6,7 @@ use Rattle.go_tree.specs.File.{File}
 use Rattle.pkg_graph.specs.Package.{SourceTree, Package, packages_of}
 use Rattle.pkg_graph.specs.Graph.{GraphFault, IsFault, HasNoCycle, Links, first_unnamed}
 use Rattle.pkg_graph.specs.Order.{IsDependencyOrder}
-use Rattle.import_order.specs.Numbers.{is_among}
+use Rattle.pkg_graph.specs.ImportOrder.Numbers.{is_among}
 use Rattle.pkg_graph.specs.Reads.{Source, IsProgram, Reads}
 
 -- ---- faults

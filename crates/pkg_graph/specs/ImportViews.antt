@@ -12,8 +12,8 @@ use Rattle.pkg_graph.specs.Graph.{ImportAt, all_imports}
 use Rattle.pkg_graph.specs.Views.{sources_of, AreHomesOf}
 use Rattle.pkg_graph.specs.declared.packages.SourceTree.{SourceTree}
 use Rattle.pkg_graph.specs.declared.homes.Homes.{Homes}
-use Rattle.module_files.specs.PathLists.{number_of, path_at}
-use Rattle.import_order.specs.Numbers.{row}
+use Rattle.pkg_graph.specs.ModuleFiles.PathLists.{number_of, path_at}
+use Rattle.pkg_graph.specs.ImportOrder.Numbers.{row}
 use Rattle.pkg_graph.specs.declared.imports.Import.{Import}
 
 -- an import

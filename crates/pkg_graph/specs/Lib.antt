@@ -1,7 +1,3 @@
-pub use Rattle.module_files.specs.Pieces
-pub use Rattle.module_files.specs.Selected
-pub use Rattle.module_files.specs.ModuleFile
-pub use Rattle.module_files.specs.Internal
 pub mod Package
 pub mod Graph
 pub mod Order
@@ -12,3 +8,5 @@ pub mod GraphFaults
 pub mod Assembly
 pub mod Reads
 pub mod GraphLaws
+pub mod ModuleFiles
+pub mod ImportOrder

@@ -3,7 +3,7 @@
 use Rattle.std.specs.Prelude.{◌≡◌, ℕ, ◌==◌, Bool, true, false, bytes_eq, List, [], ◌∷◌, ◌++◌}
 use Rattle.std.specs.Prelude.{Option, Some, None, slice_get}
 use Rattle.std.specs.List.{list_any, list_all}
-use Rattle.module_files.specs.Pieces.{comes_before}
+use Rattle.pkg_graph.specs.ModuleFiles.Pieces.{comes_before}
 use Rattle.pkg_graph.specs.Package.{Package}
 use Rattle.pkg_graph.specs.Graph.{imports_of}
 

@@ -3,7 +3,7 @@
 use Rattle.std.specs.Prelude.{ℕ, List, [], ◌∷◌, ◌++◌, map, filter, not, bytes_eq, if◌then◌else◌}
 use Rattle.std.specs.Prelude.{codes}
 use Rattle.go_tree.specs.File.{ImportSpec, ImportDecl, File}
-use Rattle.module_files.specs.Pieces.{folder_of, has_bytes}
+use Rattle.pkg_graph.specs.ModuleFiles.Pieces.{folder_of, has_bytes}
 
 -- a file: its path in the module, and its tree
 pub record SourceTree (S : Type 0) : Type 0 where

@@ -3,8 +3,8 @@
 use Rattle.std.specs.Prelude.{◌≡◌, ℕ, Bool, List, [], ◌∷◌, bytes_eq, not, filter, map, find, Some}
 use Rattle.go_tree.specs.declared.spans.Span.{Span}
 use Rattle.go_tree.specs.File.{File}
-use Rattle.module_files.specs.Selected.{is_selected, module_file}
-use Rattle.module_files.specs.ModuleFile.{is_module, module_of}
+use Rattle.pkg_graph.specs.ModuleFiles.Selected.{is_selected, module_file}
+use Rattle.pkg_graph.specs.ModuleFiles.ModuleFile.{is_module, module_of}
 use Rattle.pkg_graph.specs.Package.{SourceTree, Package, packages_of}
 use Rattle.pkg_graph.specs.Graph.{Links}
 

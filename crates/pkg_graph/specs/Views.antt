@@ -6,7 +6,7 @@ use Rattle.go_tree.specs.FileView.{file_of}
 use Rattle.pkg_graph.specs.declared.packages.SourceTree.{SourceTree}
 use Rattle.pkg_graph.specs.declared.packages.Package.{Package}
 use Rattle.pkg_graph.specs.declared.homes.Homes.{Homes}
-use Rattle.module_files.specs.PathLists.{number_of, has_path}
+use Rattle.pkg_graph.specs.ModuleFiles.PathLists.{number_of, has_path}
 use Rattle.pkg_graph.specs.Package as pure
 use Rattle.pkg_graph.specs.Order.{IsDependencyOrder}
 

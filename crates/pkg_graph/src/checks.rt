@@ -1,20 +1,20 @@
 //! What is wrong with the packages of files.
 
 ghost use Rattle.std.specs.Prelude.{◌≡◌, ◌<◌, ◌^◌, true, None, ℕ, length, IfErr, OnOk};
-ghost use Rattle.module_files.specs.PathLists.{AreDistinct};
-ghost use Rattle.import_order.specs.Numbers.{AreLinks, is_marked, Reaches};
+ghost use Rattle.pkg_graph.specs.ModuleFiles.PathLists.{AreDistinct};
+ghost use Rattle.pkg_graph.specs.ImportOrder.Numbers.{AreLinks, is_marked, Reaches};
 ghost use Rattle.pkg_graph.specs.Views.{AreNumbersBelow};
 ghost use Rattle.pkg_graph.specs.GraphFaults.{named_by, unnamed_in, internal_in, mixed_in};
 ghost use Rattle.pkg_graph.specs.GraphFaults.{IsMixedError, IsNamedError, IsInternalError, IsCycleError};
 
 use crate::homes::Homes;
+use crate::import_order::cycles::least_on_cycle;
+use crate::import_order::rows::Rows;
 use crate::imports::Import;
+use crate::module_files::paths::Paths;
+use crate::module_files::{GraphError, may_import};
 use crate::packages::SourceTree;
 use go_tree::Text;
-use import_order::cycles::least_on_cycle;
-use import_order::rows::Rows;
-use module_files::paths::Paths;
-use module_files::{GraphError, may_import};
 use std::alloc::Global;
 
 /// Whether the path names a package other than `main`.

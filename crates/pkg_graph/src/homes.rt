@@ -1,15 +1,15 @@
 //! The folders of files, and the packages that they make.
 
 ghost use Rattle.std.specs.Prelude.{◌≡◌, IfOk, OnOk};
-ghost use Rattle.module_files.specs.Pieces.{folder_of};
+ghost use Rattle.pkg_graph.specs.ModuleFiles.Pieces.{folder_of};
 ghost use Rattle.pkg_graph.specs.Package.{import_path};
-ghost use Rattle.module_files.specs.PathLists.{with_path};
+ghost use Rattle.pkg_graph.specs.ModuleFiles.PathLists.{with_path};
 ghost use Rattle.pkg_graph.specs.Views.{AreHomesOf, names_after, AddsNumberTo};
 
+use crate::module_files::folders::folder_and_name;
+use crate::module_files::paths::Paths;
 use crate::packages::SourceTree;
 use go_tree::{Name, NoMemory};
-use module_files::folders::folder_and_name;
-use module_files::paths::Paths;
 use std::alloc::Global;
 
 /// The import path of the package that the file with this path belongs to.

@@ -1,16 +1,16 @@
 //! The imports of all files.
 
 ghost use Rattle.std.specs.Prelude.{◌≡◌, ◌<◌, ◌^◌, IfOk, OnOk, map, length};
-ghost use Rattle.module_files.specs.PathLists.{AreDistinct};
+ghost use Rattle.pkg_graph.specs.ModuleFiles.PathLists.{AreDistinct};
 ghost use Rattle.pkg_graph.specs.Views.{AreNumbersBelow};
 ghost use Rattle.pkg_graph.specs.ImportViews.{import_view, specs_of, imports_in, AreLinksOf, AddsImports, AreImportsOf};
 ghost use Rattle.pkg_graph.specs.ImportViews.{AddsLink};
 
 use crate::homes::Homes;
+use crate::import_order::rows::Rows;
+use crate::module_files::paths::Paths;
 use crate::packages::SourceTree;
 use go_tree::{FileTree, ImportSpec, NoMemory};
-use import_order::rows::Rows;
-use module_files::paths::Paths;
 use std::alloc::Global;
 
 /// An import spec, with the number of its file and the path of the package that imports.

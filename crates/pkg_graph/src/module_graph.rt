@@ -9,10 +9,10 @@ ghost use Rattle.pkg_graph.specs.Assembly.{HaveNoFiles};
 use crate::assembly::{empty_packages, place_files};
 use crate::checks::{check_cycles, check_named, check_names, check_visible};
 use crate::homes::{Homes, find_homes};
+use crate::import_order::order::dependency_order;
 use crate::imports::{find_imports, find_links};
+use crate::module_files::{GraphError, Module};
 use crate::packages::{Package, SourceTree};
-use import_order::order::dependency_order;
-use module_files::{GraphError, Module};
 use std::alloc::Global;
 
 /// The order of the packages, where nothing is wrong with them.

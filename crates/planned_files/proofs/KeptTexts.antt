@@ -5,8 +5,8 @@ use Rattle.std.specs.List.{zip}
 use Rattle.std.specs.Option.{option_map}
 use Rattle.std.proofs.lemmas.List.{length-map}
 use Rattle.std.proofs.lemmas.Option.{same_Some}
-use Rattle.module_files.specs.PathLists.{has_path}
-use Rattle.module_files.proofs.PathLaws.{are_same}
+use Rattle.pkg_graph.specs.ModuleFiles.PathLists.{has_path}
+use Rattle.pkg_graph.proofs.ModuleFiles.PathLaws.{are_same}
 use Rattle.pkg_graph.specs.Package.{SourceTree, Package}
 use Rattle.programs.specs.Kept.{IsKeptFile}
 use Rattle.programs.specs.Programs.{AreKeptFiles}

@@ -5,3 +5,4 @@ pub mod Modules
 pub mod KeptTexts
 pub mod Rows
 pub mod Runs
+pub mod ChangedFiles

@@ -6,7 +6,7 @@ use Rattle.std.specs.Borrow.{Bor}
 use Rattle.std.specs.Option.{option_map}
 use Rattle.std.proofs.lemmas.Option.{slice_get-map}
 use Rattle.file_names.specs.Places.{Finds}
-use Rattle.module_files.specs.PathLists.{number_of}
+use Rattle.pkg_graph.specs.ModuleFiles.PathLists.{number_of}
 use Rattle.name_walks.specs.Around.{place_in}
 use Rattle.planned_files.specs.Referred.{referred}
 use Rattle.planned_files.specs.Texts.{text_with_path}

@@ -3,8 +3,8 @@ use Rattle.std.proofs.Common.{◌≡◌, ◌∙◌, refl, sym, subst, ℕ, Bool,
 use Rattle.std.proofs.lemmas.List.Folds.{list_any-append}
 use Rattle.std.proofs.lemmas.Bool.{true≢false}
 use Rattle.go_tree.specs.declared.spans.Span.{Span}
-use Rattle.module_files.specs.PathLists.{has_path}
-use Rattle.module_files.proofs.PathLaws.{are_same, same_path}
+use Rattle.pkg_graph.specs.ModuleFiles.PathLists.{has_path}
+use Rattle.pkg_graph.proofs.ModuleFiles.PathLaws.{are_same, same_path}
 use Rattle.pkg_graph.specs.Package.{SourceTree, first_seen, home_of, package_of, packages_of}
 use Rattle.pkg_graph.proofs.PackageLaws.{has_seen}
 use Rattle.run_rules.specs.Marks.{text_at}

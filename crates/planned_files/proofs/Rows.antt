@@ -3,14 +3,14 @@ use Rattle.std.proofs.Common.{◌≡◌, ◌∙◌, refl, sym, ap, subst, ℕ, z
 use Rattle.std.specs.Prelude.{slice_get}
 use Rattle.std.proofs.lemmas.Bool.{true≢false}
 use Rattle.std.proofs.lemmas.Option.{same_Some}
-use Rattle.import_order.proofs.OpenLaws.{never_before_itself}
-use Rattle.module_files.specs.Pieces.{comes_before}
-use Rattle.module_files.specs.Selected.{module_file}
-use Rattle.module_files.proofs.PathLaws.{are_same, same_path}
+use Rattle.pkg_graph.proofs.ImportOrder.OpenLaws.{never_before_itself}
+use Rattle.pkg_graph.specs.ModuleFiles.Pieces.{comes_before}
+use Rattle.pkg_graph.specs.ModuleFiles.Selected.{module_file}
+use Rattle.pkg_graph.proofs.ModuleFiles.PathLaws.{are_same, same_path}
 use Rattle.module_reading.specs.Files.{go_files}
 use Rattle.source_files.specs.declared.files.SourceFile.{SourceFile}
-use Rattle.changed_files.specs.Changed.{change_in, change_of, changes}
-use Rattle.changed_files.proofs.Both.{changes_both}
+use Rattle.planned_files.specs.ChangedFiles.Changed.{change_in, change_of, changes}
+use Rattle.planned_files.proofs.ChangedFiles.Both.{changes_both}
 use Rattle.report_order.specs.ReportFiles.Files.{ComesFirst, PathsAscend}
 use Rattle.planned_files.specs.Changes.{path_numbered, with_paths, other_bytes, files_differing}
 use Rattle.planned_files.specs.Texts.{text_with_path, text_row, text_rows}

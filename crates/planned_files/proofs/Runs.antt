@@ -2,10 +2,10 @@
 use Rattle.std.proofs.Common.{◌≡◌, ◌∙◌, refl, sym, ap, subst, ℕ, suc, Bool, true, false, not, cond, is_some, bytes_eq, List, [], ◌∷◌, ◌++◌, map, Option, Some, None}
 use Rattle.std.specs.List.{flat_map, zip}
 use Rattle.std.proofs.lemmas.Bool.{true≢false}
-use Rattle.changed_files.specs.Changed.{changes}
+use Rattle.planned_files.specs.ChangedFiles.Changed.{changes}
 use Rattle.go_tree.specs.declared.spans.Span.{Span}
-use Rattle.module_files.specs.PathLists.{has_path}
-use Rattle.module_files.specs.Selected.{module_file}
+use Rattle.pkg_graph.specs.ModuleFiles.PathLists.{has_path}
+use Rattle.pkg_graph.specs.ModuleFiles.Selected.{module_file}
 use Rattle.module_reading.specs.Files.{go_files, is_go_file}
 use Rattle.module_reading.specs.declared.reading.ReadModule.{ReadModule}
 use Rattle.pkg_graph.specs.Package.{Package}
@@ -24,7 +24,7 @@ use Rattle.run_rules.specs.Run.{Standing, as_read, here_of, bytes_of}
 use Rattle.run_rules.specs.Sites.{MarkRef}
 use Rattle.run_rules.specs.Texts.{FileText}
 use Rattle.source_files.specs.declared.files.SourceFile.{SourceFile}
-use Rattle.splice_laws.proofs.RunLaws.PathsOwn.{HasText, its_text}
+use Rattle.run_rules.proofs.SpliceLaws.RunLaws.PathsOwn.{HasText, its_text}
 use Rattle.planned_files.specs.Changes.{with_paths, files_differing}
 use Rattle.planned_files.specs.Laws.{HasComeFrom, LastTextsAreThoseOfRuns, ChangesAreThoseOfRuns, LimitsAreToldOfReadFiles}
 use Rattle.planned_files.specs.Limits.{file_with_path, path_in}

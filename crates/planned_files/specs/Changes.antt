@@ -2,8 +2,8 @@
 use Rattle.std.specs.Prelude.{ℕ, bytes_eq, if◌then◌else◌, List, [], ◌∷◌, map, Some, None, slice_get}
 use Rattle.std.specs.List.{flat_map}
 use Rattle.source_files.specs.declared.files.SourceFile.{SourceFile}
-use Rattle.changed_files.specs.declared.changed.ChangedFile.{ChangedFile}
-use Rattle.changed_files.specs.declared.changed.LastText.{LastText}
+use Rattle.planned_files.specs.declared.changed_files.changed.ChangedFile.{ChangedFile}
+use Rattle.planned_files.specs.declared.changed_files.changed.LastText.{LastText}
 use Rattle.planned_files.specs.Texts.{text_with_path}
 
 -- the path of the file with this number

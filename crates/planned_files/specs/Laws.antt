@@ -1,7 +1,7 @@
 -- The laws of what a plan takes from a run. Each is the contract of a function of this crate (Go specification,
 -- Packages; Source file organization; golang.org/x/tools, internal/refactor/inline, for what a run is).
 use Rattle.std.specs.Prelude.{◌≡◌, ℕ, List, [], Some}
-use Rattle.changed_files.specs.Changed.{changes}
+use Rattle.planned_files.specs.ChangedFiles.Changed.{changes}
 use Rattle.module_reading.specs.declared.reading.ReadModule.{ReadModule}
 use Rattle.pkg_graph.specs.Reads.{Source}
 use Rattle.programs.specs.Programs.{IsProgramOf}

@@ -3,3 +3,4 @@ pub mod Texts
 pub mod Changes
 pub mod Limits
 pub mod Laws
+pub mod ChangedFiles

@@ -8,7 +8,7 @@ use Rattle.pkg_graph.specs.Views.{package_view}
 use Rattle.programs.specs.declared.state.PackageFiles.{PackageFiles}
 use Rattle.programs.specs.declared.state.Program.{Program}
 use Rattle.source_files.specs.declared.files.SourceFile.{SourceFile}
-use Rattle.changed_files.specs.declared.changed.LastText.{LastText}
+use Rattle.planned_files.specs.declared.changed_files.changed.LastText.{LastText}
 
 -- the paths of the files of packages, one package after the other
 abbrev pub file_paths : {S : Type 0} → List (Package S) → List (List ℕ)

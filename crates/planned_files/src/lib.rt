@@ -2,6 +2,7 @@
 //! limit is passed.
 #![tactic(auto)]
 
+pub mod changed_files;
 mod laws;
 mod limits;
 mod texts;

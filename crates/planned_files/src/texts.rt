@@ -8,7 +8,7 @@ ghost use Rattle.pkg_graph.specs.Views.{package_view, source_of};
 ghost use Rattle.planned_files.specs.Referred.{referred};
 ghost use Rattle.planned_files.specs.Texts.{file_paths, kept_texts, last_texts, text_row, text_with_path};
 
-use changed_files::LastText;
+use crate::changed_files::LastText;
 use file_names::Places;
 use go_tree::{NoMemory, Text};
 use pkg_graph::{Package, SourceTree};

@@ -14,3 +14,5 @@ pub mod PrintedSteps
 pub mod UsedImports
 pub mod NamedUses
 pub mod DeclaredConstants
+pub mod InlinedFiles
+pub mod TypedParts

@@ -10,9 +10,9 @@ use Rattle.run_rules.specs.Surroundings.{Use, other, called, alone, Slot, a_slot
 use Rattle.run_rules.specs.Places.{expr_seen, all_seen, stmt_seen, stmts_seen, params_seen, sig_seen}
 use Rattle.run_rules.specs.Programs.{top_place, body_place, with_receiver, constants_at_top, receiver_seen, decl_seen}
 use Rattle.constant_steps.specs.PlaceMeanings.Parts.{IsScoped, AllScoped}
-use Rattle.possible_uses.specs.Among.{Keyed}
+use Rattle.member_uses.specs.PossibleUses.Among.{Keyed}
 use Rattle.constant_steps.specs.PlainUse.{IsSimple, AllSimple}
-use Rattle.typed_parts.specs.StandingUses.ImportUses.Parts.{EachSeen}
+use Rattle.printed_constants.specs.TypedParts.StandingUses.ImportUses.Parts.{EachSeen}
 use Rattle.printed_constants.specs.Printed.{IsFlat, a_name, a_number, a_selection, AllFlat, no_operands, and_operand, IsPrint, an_operand, a_call, PrintStmts, no_prints, and_print, FlatConstants, no_constants, and_constant, IsPrinted, some_constants, a_function}
 
 module _ {S : Type 0} where

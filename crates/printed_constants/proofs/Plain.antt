@@ -4,9 +4,9 @@ use Rattle.std.specs.Prelude.{slice_get}
 use Rattle.go_tree.specs.Tree.{Expr, Exprs, Stmts, ValueSpecs}
 use Rattle.go_tree.specs.File.{Decl}
 use Rattle.pkg_graph.specs.Package.{SourceTree, Package}
-use Rattle.splice_laws.specs.Dots.{ExprDots, ExprsDots, StmtsDots, SpecsDots, DeclDots, DeclsDots}
-use Rattle.splice_laws.specs.ImportSplices.TypedDots.TypedDots.{AnyExpr}
-use Rattle.splice_laws.specs.ImportSplices.TypedDots.Unspread.{UnspreadRest}
+use Rattle.run_rules.specs.SpliceLaws.Dots.{ExprDots, ExprsDots, StmtsDots, SpecsDots, DeclDots, DeclsDots}
+use Rattle.run_rules.specs.SpliceLaws.ImportSplices.TypedDots.TypedDots.{AnyExpr}
+use Rattle.run_rules.specs.SpliceLaws.ImportSplices.TypedDots.Unspread.{UnspreadRest}
 use Rattle.constant_steps.specs.Alone.{SingleSpecs, PlainDecl, PlainDecls, PlainFiles, constants_alone, no_decls, and_decl, no_files, and_file}
 use Rattle.constant_steps.specs.Alone as alone
 use Rattle.run_rules.specs.Programs.{linked_file}

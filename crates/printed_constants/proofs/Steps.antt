@@ -20,10 +20,10 @@ use Rattle.run_rules.specs.Steps.{At, same_here, change_nth, changes_for, new_co
 use Rattle.run_rules.specs.Run.{Standing, Logged, Next, origin_of, as_read}
 use Rattle.run_rules.specs.Inlining.{standing_as_read}
 use Rattle.run_rules.specs.Texts.{FileText}
-use Rattle.typed_parts.proofs.StandingUses.ImportUses.Stays.{change}
+use Rattle.printed_constants.proofs.TypedParts.StandingUses.ImportUses.Stays.{change}
 use Rattle.order_runs.specs.CycleRuns.ImportCycles.ImportSteps.{file_added, packages_added}
 use Rattle.order_runs.proofs.CycleRuns.ImportCycles.ImportStep.{placed}
-use Rattle.splice_laws.proofs.RunLaws.FoundSpans.{Placed}
+use Rattle.run_rules.proofs.SpliceLaws.RunLaws.FoundSpans.{Placed}
 use Rattle.run_rules.specs.Run.{here_of}
 use Rattle.printed_constants.specs.Printed.{IsFlat, a_name, a_number, a_selection, AllFlat, no_operands, and_operand, IsPrint, an_operand, a_call, PrintStmts, no_prints, and_print, FlatConstants, no_constants, and_constant, IsPrinted, some_constants, a_function, ArePrinted}
 use Rattle.printed_constants.proofs.Respan.{decl_there, decl_back}

@@ -6,7 +6,7 @@ use Rattle.go_tree.specs.Tree.{Expr}
 use Rattle.go_tree.specs.File.{Decl, File}
 use Rattle.pkg_graph.specs.Package.{Package}
 use Rattle.constant_steps.specs.PlaceMeanings.Parts.{AllScoped}
-use Rattle.possible_uses.specs.Among.{Keyed}
+use Rattle.member_uses.specs.PossibleUses.Among.{Keyed}
 use Rattle.constant_steps.specs.Alone.{PlainFiles}
 use Rattle.constant_steps.specs.PlainUse.{AllSimple}
 use Rattle.order_runs.specs.CycleRuns.ImportCycles.ImportSteps.{packages_added}

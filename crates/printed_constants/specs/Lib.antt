@@ -12,3 +12,5 @@ pub mod PrintedSteps
 pub mod UsedImports
 pub mod NamedUses
 pub mod DeclaredConstants
+pub mod InlinedFiles
+pub mod TypedParts

@@ -6,6 +6,7 @@ mod counted_names;
 pub mod declared_constants;
 mod declared_members;
 mod form_names;
+pub mod inlined_files;
 mod laws;
 mod named_uses;
 mod printed_runs;
@@ -14,6 +15,7 @@ mod printed_uses;
 mod qualified_dots;
 mod removed_imports;
 mod standing_forms;
+pub mod typed_parts;
 mod used_imports;
 
 pub use counted_names::{printed_files_have_few_names, printed_steps_avoid_few_names};

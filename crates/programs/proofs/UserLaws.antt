@@ -2,7 +2,7 @@
 use Rattle.std.proofs.Common.{◌≡◌, ◌∙◌, refl, ap, Bool, true, false, ◌&&◌, ◌||◌, cond, nat_eq, [], ◌∷◌, ◌++◌}
 use Rattle.std.proofs.lemmas.Bool.{eqb-true}
 use Rattle.std.proofs.lemmas.List.Folds.{list_any-append}
-use Rattle.use_search.specs.MarkValues.Tables.{DeclKey, same_key}
+use Rattle.repeated_parts.specs.UseSearch.MarkValues.Tables.{DeclKey, same_key}
 use Rattle.programs.specs.Users.{Known, FileKey, same_file, is_user}
 
 both : (a b : Bool) → (a && b) ≡ true → (a ≡ true) × (b ≡ true)

@@ -11,15 +11,15 @@ use Rattle.run_rules.specs.Sites.{MarkRef, Where, is_among_marks, where_is}
 use Rattle.run_rules.specs.Respanned.{decl_with, file_with, packages_with}
 use Rattle.run_rules.specs.Steps.{At}
 use Rattle.run_rules.specs.Run.{Standing, here_of, module_file_size, texts_size}
-use Rattle.splice_laws.specs.RunLaws.Reading.{OnePathEach}
+use Rattle.run_rules.specs.SpliceLaws.RunLaws.Reading.{OnePathEach}
 use Rattle.constant_steps.specs.FormImports.ImportLaws.Steps.{names_standing}
 use Rattle.member_uses.specs.Uses.{Names}
 use Rattle.member_uses.specs.Laws.{AllConstants, Knows}
 use Rattle.file_names.specs.Imports.{FindsPackages}
 use Rattle.module_marks.specs.Tables.{IsTableOf}
-use Rattle.use_search.specs.MarkValues.Values.{decl_values}
-use Rattle.use_search.specs.MarkValues.Tables as values
-use Rattle.use_search.specs.MarkValues.Tables.{key_of, values_at}
+use Rattle.repeated_parts.specs.UseSearch.MarkValues.Values.{decl_values}
+use Rattle.repeated_parts.specs.UseSearch.MarkValues.Tables as values
+use Rattle.repeated_parts.specs.UseSearch.MarkValues.Tables.{key_of, values_at}
 use Rattle.programs.specs.declared.part_origins.origins.PackageOrigins.{PackageOrigins}
 use Rattle.programs.specs.declared.state.PackageFiles.{PackageFiles}
 use Rattle.programs.specs.declared.state.Program.{Program}

@@ -2,8 +2,8 @@
 use Rattle.std.specs.Prelude.{◌≡◌, ℕ, Bool, true, ◌&&◌, nat_eq, List, [], ◌∷◌}
 use Rattle.std.specs.List.{list_any}
 use Rattle.module_marks.specs.Views.{mark_ref_of}
-use Rattle.use_search.specs.MarkValues.Tables.{DeclKey, key_of, same_key}
-use Rattle.use_search.specs.declared.search.FoundObstacle.{FoundObstacle}
+use Rattle.repeated_parts.specs.UseSearch.MarkValues.Tables.{DeclKey, key_of, same_key}
+use Rattle.repeated_parts.specs.declared.use_search.search.FoundObstacle.{FoundObstacle}
 
 -- a file by the numbers of its package and itself
 abbrev pub FileKey : Type 0

@@ -7,7 +7,7 @@ use go_scan::Tokens;
 use go_tree::Text;
 use module_marks::{BadMarkAt, MarkTable};
 use pkg_graph::Package;
-use use_search::mark_values::ConstantValues;
+use repeated_parts::use_search::mark_values::ConstantValues;
 
 /// What is kept of the files of a package, by their numbers: their texts, with tokens and comments, and of which it
 /// is known that none of their uses is free.

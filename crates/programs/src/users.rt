@@ -1,7 +1,7 @@
 //! Which files use the constants of a declaration.
 
 ghost use Rattle.std.specs.Prelude.{◌≡◌, ◌||◌, ◌&&◌, [], OnOk};
-ghost use Rattle.use_search.specs.MarkValues.Tables.{DeclKey, same_key};
+ghost use Rattle.repeated_parts.specs.UseSearch.MarkValues.Tables.{DeclKey, same_key};
 ghost use Rattle.programs.specs.Users.{FileKey, is_user, same_file};
 
 use go_tree::NoMemory;

@@ -4,7 +4,7 @@ use Rattle.std.specs.Prelude.{slice_get, if◌then◌else◌}
 use Rattle.std.proofs.lemmas.Option.{same_Some}
 use Rattle.go_tree.specs.Tree.{NameAt, TypeExpr, named, Expr, ident, selector, Exprs, no_exprs, expr_and, const_decl, ValueSpecs, no_specs, spec}
 use Rattle.go_tree.specs.File.{TypeSpec, Decl, values, types, func}
-use Rattle.layout_laws.specs.Formed.{FormedType}
+use Rattle.go_layout.specs.LayoutLaws.Formed.{FormedType}
 use Rattle.pkg_graph.specs.Package.{Package}
 use Rattle.go_tree.specs.GoTypes.Answers.{given}
 use Rattle.run_rules.specs.FormTrees.{TypeForm, Form, as_expr, type_expr}
@@ -16,9 +16,9 @@ use Rattle.run_rules.specs.Run.{Standing, Logged, Next, here_of, is_commented}
 use Rattle.run_rules.specs.Sites.{MarkRef, Where, Inlinable, an_alias, aliased, Part, an_expr, part_span, constant_in_spec, nth_constant, less, inlinable_in, where_is, inlinable, outer_meaning, qualifier}
 use Rattle.run_rules.specs.Steps.{At, same_here, Found}
 use Rattle.run_rules.specs.Surroundings.{Place, seen_type}
-use Rattle.splice_laws.specs.RunLaws.Reading.{FileReads, ProgramReads}
-use Rattle.splice_laws.specs.ImportSplices.FormSplices.Laws.{MakesForm}
-use Rattle.splice_laws.proofs.ImportSplices.FormSplices.FormsFound.{step-makes-form}
+use Rattle.run_rules.specs.SpliceLaws.RunLaws.Reading.{FileReads, ProgramReads}
+use Rattle.run_rules.specs.SpliceLaws.ImportSplices.FormSplices.Laws.{MakesForm}
+use Rattle.run_rules.proofs.SpliceLaws.ImportSplices.FormSplices.FormsFound.{step-makes-form}
 use Rattle.put_nodes.specs.SpelledNames.{AreNames}
 use Rattle.put_names.specs.WrittenNames.NamedPackages.{AreOfPackages}
 use Rattle.put_nodes.specs.Swapped.{FormedTypeSpecs, FormedDecl}

@@ -4,8 +4,8 @@ use Rattle.std.specs.Prelude.{slice_get, if◌then◌else◌}
 use Rattle.std.proofs.lemmas.Bool.Decides.{nat_tests}
 use Rattle.std.proofs.lemmas.Option.{same_Some}
 use Rattle.go_tree.specs.Tree.{Expr, ident, selector}
-use Rattle.layout_laws.specs.Formed.{IsName}
-use Rattle.import_rules.specs.Needs.{serving, avoided}
+use Rattle.go_layout.specs.LayoutLaws.Formed.{IsName}
+use Rattle.run_rules.specs.ImportRules.Needs.{serving, avoided}
 use Rattle.pkg_graph.specs.Package.{SourceTree, Package}
 use Rattle.pkg_graph.specs.Members.{Target}
 use Rattle.go_tree.specs.GoTypes.Answers.{given}
@@ -17,8 +17,8 @@ use Rattle.run_rules.specs.Run.{Standing, is_commented}
 use Rattle.run_rules.specs.Sites.{MarkRef, Where, Inlinable, Site, part_span, mark_of, where_is, inlinable}
 use Rattle.run_rules.specs.Steps.{At, same_here, Found}
 use Rattle.run_rules.specs.Surroundings.{Place}
-use Rattle.splice_laws.specs.RunLaws.Reading.{FileAt}
-use Rattle.splice_laws.specs.ImportSplices.FormSplices.Laws.{MakesForm}
+use Rattle.run_rules.specs.SpliceLaws.RunLaws.Reading.{FileAt}
+use Rattle.run_rules.specs.SpliceLaws.ImportSplices.FormSplices.Laws.{MakesForm}
 use Rattle.put_names.specs.WrittenNames.NamedPackages.{AreOfPackages}
 use Rattle.put_names.proofs.Unnamed.{none_unnamed, none_unnamed_two}
 use Rattle.put_nodes.specs.SpelledNames.{IsNameExpr, a_name_alone, a_qualified_name, AreNames}

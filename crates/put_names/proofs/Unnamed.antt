@@ -9,7 +9,7 @@ use Rattle.ucd_table.specs.Rows.{value_in}
 use Rattle.go_tree.specs.GoWords.Tokens.Characters.{is_letter, is_word, each}
 use Rattle.go_tree.specs.GoWords.Tokens.Pieces.{is_identifier}
 use Rattle.go_scan.proofs.Derivatives.{and_parts}
-use Rattle.layout_laws.specs.Formed.{IsName}
+use Rattle.go_layout.specs.LayoutLaws.Formed.{IsName}
 use Rattle.run_rules.specs.Naming.{unnamed_package, new_first, unnamed_in}
 
 zero_letter : is_letter 0 ≡ false

@@ -14,17 +14,17 @@ use Rattle.go_scan.proofs.Derivatives.{and_true}
 use Rattle.go_layout.specs.Layouts.{Layout, no_text, a_token, ◌⊕◌, op, name_layout, within, text_of}
 use Rattle.go_layout.specs.Parens.{needs_parens, header_within, closed_within}
 use Rattle.go_layout.specs.TreeLayout.{expr_layout}
-use Rattle.layout_laws.specs.Formed.{IsName, FormedOperand}
-use Rattle.layout_laws.specs.Laid.{is_indent}
+use Rattle.go_layout.specs.LayoutLaws.Formed.{IsName, FormedOperand}
+use Rattle.go_layout.specs.LayoutLaws.Laid.{is_indent}
 use Rattle.go_tree.specs.GoTypes.Answers.{meets}
-use Rattle.import_rules.specs.Removed.{line_start}
+use Rattle.run_rules.specs.ImportRules.Removed.{line_start}
 use Rattle.run_rules.specs.Surroundings.{Slot, is_bracketed}
 use Rattle.run_rules.specs.FormTrees.{Form, as_expr}
 use Rattle.run_rules.specs.Respanned.{expr_with}
 use Rattle.run_rules.specs.Texts.{FileText, is_space_or_tab, indent_at, form_layout, spelling_before, first_spelling, needs_blank, form_edit}
-use Rattle.splice_laws.specs.Swaps.{an_operand, a_callee}
-use Rattle.splice_laws.specs.Forms.{takes_parens, new_layout}
-use Rattle.splice_laws.specs.Splice.{first_word, lead, splice}
+use Rattle.run_rules.specs.SpliceLaws.Swaps.{an_operand, a_callee}
+use Rattle.run_rules.specs.SpliceLaws.Forms.{takes_parens, new_layout}
+use Rattle.run_rules.specs.SpliceLaws.Splice.{first_word, lead, splice}
 use Rattle.put_nodes.specs.SpelledNames.{IsNameExpr, a_name_alone, a_qualified_name}
 
 -- ---- tests

@@ -9,14 +9,14 @@ use Rattle.go_read.specs.SpellsTypes.{Lexemes}
 use Rattle.go_read.specs.Spells.{const_rule, var_rule, block_rule}
 use Rattle.go_read.specs.SpellsSpans.{span_to}
 use Rattle.go_read.specs.SpellsFiles.{SpellsTypeSpec, SpellsTypeSpecs, SpellsTop, type_spec_rule, alias_spec_rule, no_type_specs_rule, last_type_spec_rule, more_type_specs_rule, SpellsTops, SpellsFront, top_const_rule, top_var_rule, top_type_rule, top_type_group_rule, top_func_rule, top_method_rule, no_tops_rule, more_tops_rule, front_rule}
-use Rattle.layout_laws.specs.Formed.{FormedType}
-use Rattle.layout_laws.specs.Real.{AreReal}
-use Rattle.layout_laws.proofs.FormedTrees.{stmt_formed}
-use Rattle.layout_laws.proofs.FormedTypes.{type_formed}
-use Rattle.layout_laws.proofs.RealTokens.{tokens_real}
-use Rattle.splice_laws.specs.Swaps.{Swap, DeclIn, DeclsIn, in_this_decl, in_later_decls, FileIn, in_decls}
-use Rattle.splice_laws.proofs.Grafts.{Within, here, later, drop}
-use Rattle.splice_laws.proofs.Pasts.{sig_past, type_spec_past, receiver_past, imports_past, top_past}
+use Rattle.go_layout.specs.LayoutLaws.Formed.{FormedType}
+use Rattle.go_layout.specs.LayoutLaws.Real.{AreReal}
+use Rattle.go_layout.proofs.LayoutLaws.FormedTrees.{stmt_formed}
+use Rattle.go_layout.proofs.LayoutLaws.FormedTypes.{type_formed}
+use Rattle.go_layout.proofs.LayoutLaws.RealTokens.{tokens_real}
+use Rattle.run_rules.specs.SpliceLaws.Swaps.{Swap, DeclIn, DeclsIn, in_this_decl, in_later_decls, FileIn, in_decls}
+use Rattle.run_rules.proofs.SpliceLaws.Grafts.{Within, here, later, drop}
+use Rattle.run_rules.proofs.SpliceLaws.Pasts.{sig_past, type_spec_past, receiver_past, imports_past, top_past}
 use Rattle.pkg_graph.specs.Package.{Package}
 use Rattle.run_rules.specs.Inlining.{ReadsAs}
 use Rattle.run_rules.specs.Programs.{decl_seen}

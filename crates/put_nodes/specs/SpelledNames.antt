@@ -1,7 +1,7 @@
 -- Expressions that are names (Go specification, Identifiers; Qualified identifiers).
 use Rattle.std.specs.Prelude.{ℕ, List, [], ◌∷◌}
 use Rattle.go_tree.specs.Tree.{NameAt, Expr, ident, selector}
-use Rattle.layout_laws.specs.Formed.{IsName}
+use Rattle.go_layout.specs.LayoutLaws.Formed.{IsName}
 use Rattle.run_rules.specs.Naming.{Named}
 
 -- a name, with the name of a package before it or without

@@ -3,7 +3,7 @@ use Rattle.std.proofs.Common.{◌≡◌, ◌∙◌, refl, sym, ap, subst, ℕ, s
 use Rattle.std.proofs.lemmas.List.{length-map}
 use Rattle.std.proofs.lemmas.List.Elements.{All-head, All-tail}
 use Rattle.go_tree.specs.declared.spans.Span.{Span}
-use Rattle.module_files.specs.Selected.{module_file}
+use Rattle.pkg_graph.specs.ModuleFiles.Selected.{module_file}
 use Rattle.pkg_graph.specs.Package.{SourceTree, first_seen, home_of, package_of}
 use Rattle.pkg_graph.specs.Reads as trees
 use Rattle.pkg_graph.specs.Reads.{Source, is_at, AreTrees}

@@ -4,3 +4,4 @@ pub mod DecimalLemmas
 pub mod TypeLemmas
 pub mod TableLemmas
 pub mod AlikeLemmas
+pub mod PrintedPackages

@@ -24,7 +24,7 @@ use Rattle.typed_names.specs.Meanings.{Names, world_at}
 use Rattle.typed_names.specs.Scopes.{env_at}
 use Rattle.declared_types.specs.Headers.{IsFileOf}
 use Rattle.declared_types.specs.Members.{SameMembers}
-use Rattle.func_headers.specs.NameRoles.{SameTypes}
+use Rattle.package_blocks.specs.FuncHeaders.NameRoles.{SameTypes}
 use Rattle.printing_files.specs.Decls.{are_printing, is_printer}
 use Rattle.printing_files.specs.Operands.{is_short_decimal}
 use Rattle.refused_bodies.specs.Functions.{first_of_files, no_values_ctx, no_values_type}

@@ -3,3 +3,4 @@ pub mod Printers
 pub mod Alike
 pub mod Worlds
 pub mod Laws
+pub mod PrintedPackages

@@ -3,6 +3,7 @@
 #![tactic(auto)]
 
 mod laws;
+pub mod printed_packages;
 
 pub use laws::{
     first_bodies_by_files, printers_are_typed_by_names, printers_define_no_types,

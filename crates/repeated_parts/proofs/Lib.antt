@@ -2,3 +2,4 @@ pub mod Walked
 pub mod Members
 pub mod UsesRepeated
 pub mod ImportsUnused
+pub mod UseSearch

@@ -19,10 +19,10 @@ use Rattle.run_rules.specs.Places.{type_seen, written_seen, params_seen, sig_see
 use Rattle.run_rules.specs.Places as places
 use Rattle.run_rules.specs.Programs.{top_place, body_place, constants_at_top, variables_at_top, types_at_top, receiver_seen, func_seen, decl_seen}
 use Rattle.run_rules.specs.Sites.{an_expr, a_type_part, named_in, named_in_fields}
-use Rattle.possible_uses.specs.Candidates.{Candidate, plain_part, key_part}
-use Rattle.possible_uses.specs.Parts.{put, put_selector, after_type, after_fields, after_type_option, after_params, after_sig, after_expr, after_exprs, after_expr_option, after_elems, after_key, after_value, after_stmt, after_stmts, after_stmt_option, after_block_option, after_left, after_cases, after_specs, after_types, after_receiver, after_func, after_decl, parts_of}
-use Rattle.possible_uses.specs.Parts as gathered
-use Rattle.possible_uses.specs.Among.{may_be_use, ElemsKeyed, KeyKeyed, ValueKeyed, Keyed}
+use Rattle.member_uses.specs.PossibleUses.Candidates.{Candidate, plain_part, key_part}
+use Rattle.member_uses.specs.PossibleUses.Parts.{put, put_selector, after_type, after_fields, after_type_option, after_params, after_sig, after_expr, after_exprs, after_expr_option, after_elems, after_key, after_value, after_stmt, after_stmts, after_stmt_option, after_block_option, after_left, after_cases, after_specs, after_types, after_receiver, after_func, after_decl, parts_of}
+use Rattle.member_uses.specs.PossibleUses.Parts as gathered
+use Rattle.member_uses.specs.PossibleUses.Among.{may_be_use, ElemsKeyed, KeyKeyed, ValueKeyed, Keyed}
 use Rattle.repeated_parts.specs.Flags.{put_flag, is_repeated, flags_selector, flags_type, flags_fields, flags_type_option, flags_params, flags_sig, flags_expr, flags_exprs, flags_expr_option, flags_elems, flags_key, flags_value, flags_stmt, flags_stmts, flags_stmt_option, flags_block_option, flags_left, flags_arms, flags_cases, flags_group, flags_specs, flags_types, flags_receiver, flags_func, flags_decl}
 use Rattle.repeated_parts.specs.Along.{is_again, FlagsAlong, at_the_end, past_a_use, past_no_use, past_a_key, past_a_field, past_an_old_name, past_a_type, past_a_statement}
 use Rattle.repeated_parts.specs.Laws.{FlagsAreThoseOfPlaces}

@@ -7,9 +7,9 @@ use Rattle.go_tree.specs.GoTypes.Types.{GoType}
 use Rattle.go_tree.specs.GoTypes.Literals.{is_struct}
 use Rattle.run_rules.specs.Surroundings.{Use, stored, Place, Seen, seen, seen_type, seen_stmt, is_old}
 use Rattle.run_rules.specs.Sites.{an_expr, named_in}
-use Rattle.possible_uses.specs.Candidates.{Candidate, plain_part, key_part}
-use Rattle.possible_uses.specs.Parts.{put}
-use Rattle.possible_uses.specs.Among.{may_be_use, names_in}
+use Rattle.member_uses.specs.PossibleUses.Candidates.{Candidate, plain_part, key_part}
+use Rattle.member_uses.specs.PossibleUses.Parts.{put}
+use Rattle.member_uses.specs.PossibleUses.Among.{may_be_use, names_in}
 use Rattle.repeated_parts.specs.Flags.{put_flag}
 
 module _ {S : Type 0} where

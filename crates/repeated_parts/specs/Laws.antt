@@ -3,8 +3,8 @@ use Rattle.std.specs.Prelude.{ℕ, List, []}
 use Rattle.go_tree.specs.File.{Decl, File}
 use Rattle.pkg_graph.specs.Package.{Package}
 use Rattle.run_rules.specs.Programs.{decl_seen}
-use Rattle.possible_uses.specs.Parts.{parts_of}
-use Rattle.possible_uses.specs.Among.{Keyed}
+use Rattle.member_uses.specs.PossibleUses.Parts.{parts_of}
+use Rattle.member_uses.specs.PossibleUses.Among.{Keyed}
 use Rattle.repeated_parts.specs.Flags.{flags_of}
 use Rattle.repeated_parts.specs.Along.{FlagsAlong}
 

@@ -3,3 +3,4 @@ pub mod Along
 pub mod Laws
 pub mod UsesRepeated
 pub mod ImportsUnused
+pub mod UseSearch

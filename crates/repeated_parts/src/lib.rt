@@ -8,6 +8,7 @@ mod imports_unused;
 mod laws;
 mod stmts;
 mod types;
+pub mod use_search;
 mod uses_repeated;
 
 pub use decls::repeated_parts;

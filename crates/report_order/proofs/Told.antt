@@ -4,7 +4,7 @@ use Rattle.std.specs.Prelude.{slice_get}
 use Rattle.std.proofs.lemmas.Bool.{true≢false, cond-true, cond-false, eqb-true}
 use Rattle.std.proofs.lemmas.Option.{same_Some}
 use Rattle.std.proofs.lemmas.Slice.Eq.{bytes_eq-Decides}
-use Rattle.pkg_graph.specs.Pieces.{comes_before}
+use Rattle.pkg_graph.specs.ModuleFiles.Pieces.{comes_before}
 use Rattle.run_rules.specs.Report.{Entry, file_of, offset_of, is_not_after, put_entry, arranged}
 use Rattle.run_rules.specs.Texts.{FileText}
 use Rattle.report_lines.specs.declared.lines.ReportItem.{ReportItem}

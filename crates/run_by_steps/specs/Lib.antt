@@ -4,3 +4,4 @@ pub mod NextPrograms
 pub mod WrittenImports
 pub mod SpelledNames
 pub mod RunProgress
+pub mod StepCounts

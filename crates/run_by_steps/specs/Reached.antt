@@ -5,7 +5,7 @@ use Rattle.go_tree.specs.declared.spans.Span.{Span}
 use Rattle.go_tree.specs.GoWords.Tokens.Characters.{each}
 use Rattle.go_parse.specs.Sources.{IsSupported}
 use Rattle.text_edits.specs.Applied.{applied}
-use Rattle.splice_laws.specs.ImportSplices.AddedFile.{is_byte}
+use Rattle.run_rules.specs.SpliceLaws.ImportSplices.AddedFile.{is_byte}
 use Rattle.pkg_graph.specs.Package.{Package}
 use Rattle.pkg_graph.specs.Reads.{Source}
 use Rattle.run_rules.specs.Sites.{MarkRef}

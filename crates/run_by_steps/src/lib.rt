@@ -5,6 +5,7 @@ mod laws;
 mod next_programs;
 mod run_progress;
 mod spelled_names;
+pub mod step_counts;
 mod written_imports;
 
 pub use laws::{run_ends, run_goes_on};

@@ -3,8 +3,8 @@ use Rattle.std.proofs.Common.{◌≡◌, refl, sym, ◌∙◌, subst, ℕ, zero,
 use Rattle.std.specs.List.{list_all}
 use Rattle.go_tree.specs.declared.spans.Span.{Span}
 use Rattle.go_tree.specs.File.{File}
-use Rattle.module_files.specs.Pieces.{comes_before}
-use Rattle.module_files.specs.Selected.{is_selected, module_file}
+use Rattle.pkg_graph.specs.ModuleFiles.Pieces.{comes_before}
+use Rattle.pkg_graph.specs.ModuleFiles.Selected.{is_selected, module_file}
 use Rattle.pkg_graph.specs.Package.{SourceTree, Package, home_of, package_of, first_seen}
 use Rattle.pkg_graph.specs.Reads.{Source, is_at, selected_files, go_files, AreTrees, none, file}
 use Rattle.std.specs.Prelude.{bytes_eq}

@@ -9,7 +9,7 @@ use Rattle.go_tree.specs.Tree.{NameAt, TypeExpr, Param, Sig, Stmts}
 use Rattle.go_tree.specs.File.{ImportSpec, ImportDecl, TypeSpec, Receiver, Decl, func, File}
 use Rattle.go_read.specs.SpellsTypes.{Lexemes}
 use Rattle.go_read.specs.Goals.{Reader}
-use Rattle.import_rules.specs.Removed.{same_span}
+use Rattle.run_rules.specs.ImportRules.Removed.{same_span}
 use Rattle.pkg_graph.specs.Package.{SourceTree, Package}
 use Rattle.go_tree.specs.GoTypes.Answers.{given, meets}
 use Rattle.go_tree.specs.GoTypes.WellTyped.{well_typed}

@@ -7,15 +7,15 @@ use Rattle.go_tree.specs.declared.tokens.Comment.{Comment}
 use Rattle.go_tree.specs.File.{ImportSpec, ImportDecl, File}
 use Rattle.text_edits.specs.declared.edit.Edit.{Edit}
 use Rattle.text_edits.specs.Applied.{Ascend}
-use Rattle.import_rules.specs.declared.new_import.NewImport.{NewImport}
-use Rattle.import_rules.specs.SpecText.{in_order}
-use Rattle.import_rules.specs.Removed.{through_semicolon, widened, goes, spec_range, decl_range, goes_whole, specs_ranges, decl_ranges, ranges}
-use Rattle.import_rules.specs.Added.{Addition, each_within, adds_to_group, last_closing, single_start, front_of, addition_among}
-use Rattle.import_rules.specs.Settled.{removal, insertion, put_edit, settled}
-use Rattle.import_rules.specs.Laid.{IsInk, IsInked, StandInOrder, IsStart, SpecsLie, BodyLies, DeclLies, DeclsLie, Laid}
-use Rattle.import_rules.proofs.Blanks.{ink_stops, Widens, widens}
-use Rattle.import_rules.proofs.Ranges.{ink_inside, Through, through}
-use Rattle.import_rules.proofs.SettledOrder.{settled_ascend}
+use Rattle.run_rules.specs.declared.import_rules.new_import.NewImport.{NewImport}
+use Rattle.run_rules.specs.ImportRules.SpecText.{in_order}
+use Rattle.run_rules.specs.ImportRules.Removed.{through_semicolon, widened, goes, spec_range, decl_range, goes_whole, specs_ranges, decl_ranges, ranges}
+use Rattle.run_rules.specs.ImportRules.Added.{Addition, each_within, adds_to_group, last_closing, single_start, front_of, addition_among}
+use Rattle.run_rules.specs.ImportRules.Settled.{removal, insertion, put_edit, settled}
+use Rattle.run_rules.specs.ImportRules.Laid.{IsInk, IsInked, StandInOrder, IsStart, SpecsLie, BodyLies, DeclLies, DeclsLie, Laid}
+use Rattle.run_rules.proofs.ImportRules.Blanks.{ink_stops, Widens, widens}
+use Rattle.run_rules.proofs.ImportRules.Ranges.{ink_inside, Through, through}
+use Rattle.run_rules.proofs.ImportRules.SettledOrder.{settled_ascend}
 use Rattle.run_rules.specs.Texts.{form_edit}
 use Rattle.run_rules.specs.Steps.{same_here, unused_specs, added_by, slot_of}
 use Rattle.run_rules.specs.Run.{here_of, is_commented, edits_in}

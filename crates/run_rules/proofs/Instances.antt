@@ -10,8 +10,8 @@ use Rattle.go_read.specs.Goals.{read_front}
 use Rattle.go_read.proofs.Whole.{file_spelled}
 use Rattle.text_edits.specs.declared.edit.Edit.{Edit}
 use Rattle.text_edits.specs.Applied.{Ascend, applied}
-use Rattle.import_rules.specs.Removed.{is_semicolon}
-use Rattle.import_rules.specs.Laid.{IsInked, StandInOrder}
+use Rattle.run_rules.specs.ImportRules.Removed.{is_semicolon}
+use Rattle.run_rules.specs.ImportRules.Laid.{IsInked, StandInOrder}
 use Rattle.pkg_graph.specs.Package.{Package}
 use Rattle.pkg_graph.specs.Reads.{Source}
 use Rattle.run_rules.specs.Sites.{MarkRef}

@@ -14,7 +14,7 @@ use Rattle.go_read.specs.Goals.{read_front}
 use Rattle.go_read.proofs.Texts.{reading}
 use Rattle.run_rules.proofs.CaseTools.{read_at}
 use Rattle.std.specs.Prelude.{map, Option}
-use Rattle.import_rules.specs.Removed.{same_span}
+use Rattle.run_rules.specs.ImportRules.Removed.{same_span}
 use Rattle.go_tree.specs.GoTypes.Answers.{given}
 use Rattle.run_rules.specs.Sites.{Site, SiteKind, Operand, Statement, Return, RightSide, Deferred, Header, ConstName, TypeName, inlinable, kind_of, sites}
 

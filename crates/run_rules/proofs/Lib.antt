@@ -41,3 +41,5 @@ mod CasesOfSpelling
 mod CasesOfEvaluation
 mod CasesOfFaults
 mod CasesOfImports
+pub mod ImportRules
+pub mod SpliceLaws

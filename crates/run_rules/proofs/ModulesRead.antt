@@ -6,9 +6,9 @@ use Rattle.std.proofs.lemmas.Bool.{leb-true}
 use Rattle.bstr.proofs.Computing.{computing}
 use Rattle.go_tree.specs.declared.spans.Span.{Span}
 use Rattle.go_tree.specs.File.{File}
-use Rattle.module_files.specs.Pieces.{comes_before}
-use Rattle.module_files.specs.Selected.{module_file}
-use Rattle.module_files.specs.ModuleFile.{argument_in, module_path, is_version, unquoted, digits, behind_digits, is_number, is_minor, version_answer, path_answer, is_module, module_of}
+use Rattle.pkg_graph.specs.ModuleFiles.Pieces.{comes_before}
+use Rattle.pkg_graph.specs.ModuleFiles.Selected.{module_file}
+use Rattle.pkg_graph.specs.ModuleFiles.ModuleFile.{argument_in, module_path, is_version, unquoted, digits, behind_digits, is_number, is_minor, version_answer, path_answer, is_module, module_of}
 use Rattle.pkg_graph.specs.Package.{SourceTree, Package, packages_of}
 use Rattle.pkg_graph.specs.Graph.{imports_of, Imports, imported, Leads, directly, over, first_mixed, first_unnamed, first_internal}
 use Rattle.pkg_graph.specs.Reads.{Source, is_at, go_files, AreTrees}

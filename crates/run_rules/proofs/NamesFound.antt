@@ -11,8 +11,8 @@ use Rattle.go_tree.specs.ScopeNames.Identifiers.{identifiers}
 use Rattle.go_tree.specs.ScopeNames.Means.{predeclared}
 use Rattle.go_tree.specs.ScopeNames.Fresh.{candidate, is_new, IsFirst, IsFresh}
 use Rattle.pkg_graph.specs.Package.{Package}
-use Rattle.import_rules.specs.declared.new_import.Needed.{Needed}
-use Rattle.import_rules.specs.Needs.{serving, avoided, IsNeeded, there, new}
+use Rattle.run_rules.specs.declared.import_rules.new_import.Needed.{Needed}
+use Rattle.run_rules.specs.ImportRules.Needs.{serving, avoided, IsNeeded, there, new}
 use Rattle.run_rules.specs.Surroundings.{Place}
 use Rattle.run_rules.specs.Sites.{Where}
 use Rattle.run_rules.specs.Naming.{Named, package_path, own_name, names_here, environment_here, added_import, named_package, first_new, fuel_for, fresh_name}

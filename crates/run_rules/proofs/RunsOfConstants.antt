@@ -1,6 +1,6 @@
 -- Runs of modules with marked constants, whole.
 use Rattle.std.proofs.Common.{◌≡◌, inl, inr, length, refl}
-use Rattle.import_rules.specs.Laid.{Laid}
+use Rattle.run_rules.specs.ImportRules.Laid.{Laid}
 use Rattle.run_rules.specs.Laws.{LiesBehindImports}
 use Rattle.std.specs.Prelude.{true, false, [], ◌∷◌, Some, None, codes}
 use Rattle.go_tree.specs.declared.exprs.Rest.TheVariants.{Plain}
@@ -17,7 +17,7 @@ use Rattle.go_read.specs.Goals.{read_front}
 use Rattle.go_read.proofs.Texts.{reading}
 use Rattle.run_rules.proofs.CaseTools.{read_at}
 use Rattle.directive_scan.specs.Lines.{is_inline}
-use Rattle.pkg_graph.specs.Internal.{passes}
+use Rattle.pkg_graph.specs.ModuleFiles.Internal.{passes}
 use Rattle.std.specs.Prelude.{is_some}
 use Rattle.run_rules.specs.Texts.{FileText}
 use Rattle.run_rules.specs.Steps.{At}

@@ -16,7 +16,7 @@ use Rattle.go_read.specs.Goals.{read_front}
 use Rattle.go_read.proofs.Texts.{reading}
 use Rattle.run_rules.proofs.CaseTools.{read_at}
 use Rattle.directive_scan.specs.Lines.{is_inline}
-use Rattle.pkg_graph.specs.Internal.{passes}
+use Rattle.pkg_graph.specs.ModuleFiles.Internal.{passes}
 use Rattle.std.specs.Prelude.{is_some}
 use Rattle.run_rules.specs.Texts.{FileText}
 use Rattle.run_rules.specs.Steps.{At}

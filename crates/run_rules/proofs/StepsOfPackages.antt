@@ -16,7 +16,7 @@ use Rattle.go_tree.specs.GoWords.Tokens.Pieces.{keyword_spellings}
 use Rattle.go_read.specs.Goals.{read_front}
 use Rattle.go_read.proofs.Texts.{reading}
 use Rattle.run_rules.proofs.CaseTools.{read_at}
-use Rattle.pkg_graph.specs.Internal.{passes}
+use Rattle.pkg_graph.specs.ModuleFiles.Internal.{passes}
 use Rattle.std.specs.Fmt.{digits}
 
 -- A wrapper of another package.

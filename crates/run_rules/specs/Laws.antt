@@ -12,9 +12,9 @@ use Rattle.param_choice.specs.Greatest.{IsGreatest}
 use Rattle.pkg_graph.specs.Package.{Package}
 use Rattle.pkg_graph.specs.Order.{IsDependencyOrder}
 use Rattle.pkg_graph.specs.Reads.{Source}
-use Rattle.import_rules.specs.declared.new_import.Needed.{Needed}
-use Rattle.import_rules.specs.Needs.{avoided, IsNeeded}
-use Rattle.import_rules.specs.Laid.{IsStart, Laid}
+use Rattle.run_rules.specs.declared.import_rules.new_import.Needed.{Needed}
+use Rattle.run_rules.specs.ImportRules.Needs.{avoided, IsNeeded}
+use Rattle.run_rules.specs.ImportRules.Laid.{IsStart, Laid}
 use Rattle.run_rules.specs.Surroundings.{Use, Place}
 use Rattle.run_rules.specs.Places.{expr_seen, stmts_seen}
 use Rattle.run_rules.specs.Rewriting.{Changes, new_expr, new_stmts}

@@ -23,3 +23,5 @@ pub mod Run
 pub mod Report
 pub mod Inlining
 pub mod Laws
+pub mod ImportRules
+pub mod SpliceLaws

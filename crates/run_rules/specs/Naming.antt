@@ -17,8 +17,8 @@ use Rattle.go_tree.specs.ScopeNames.Means.{Environment, predeclared, outermost}
 use Rattle.go_tree.specs.ScopeNames.Fresh.{candidate, is_new}
 use Rattle.pkg_graph.specs.Package.{Package, import_specs}
 use Rattle.pkg_graph.specs.Members.{import_name, package_block}
-use Rattle.import_rules.specs.declared.new_import.NewImport.{NewImport}
-use Rattle.import_rules.specs.Needs.{serving, avoided}
+use Rattle.run_rules.specs.declared.import_rules.new_import.NewImport.{NewImport}
+use Rattle.run_rules.specs.ImportRules.Needs.{serving, avoided}
 use Rattle.go_tree.specs.GoTypes.Answers.{given}
 use Rattle.run_rules.specs.Surroundings.{Place}
 use Rattle.run_rules.specs.Sites.{Where, mark_of, outer_meaning, qualifier}

@@ -10,7 +10,7 @@ use Rattle.go_tree.specs.Tree.{Expr, ident, composite, selector, Elems, no_elems
 use Rattle.go_tree.specs.Tree.{ValueOption, no_value, some_value}
 use Rattle.pkg_graph.specs.Package.{Package}
 use Rattle.pkg_graph.specs.Members.{Target, imported, member, predeclared}
-use Rattle.pkg_graph.specs.Internal.{may_import}
+use Rattle.pkg_graph.specs.ModuleFiles.Internal.{may_import}
 use Rattle.go_tree.specs.GoTypes.Answers.{given, one_of, is_among, is_empty}
 use Rattle.go_tree.specs.GoTypes.Types.{GoType, GoFields, no_go_fields, go_field, fields_of}
 use Rattle.go_tree.specs.GoTypes.Defined.{under}

@@ -9,7 +9,7 @@ use Rattle.go_tree.specs.Tree.{NameAt, named, pointer, Param, const_decl, var_de
 use Rattle.go_tree.specs.File.{ImportSpec, TypeSpec, Receiver, Func, Decl, values, types, func, File}
 use Rattle.go_tree.specs.ScopeNames.Means.{Environment}
 use Rattle.go_tree.specs.ScopeNames.Scopes.{not_blank, param_names}
-use Rattle.pkg_graph.specs.Pieces.{comes_before}
+use Rattle.pkg_graph.specs.ModuleFiles.Pieces.{comes_before}
 use Rattle.pkg_graph.specs.Package.{SourceTree, Package, import_specs}
 use Rattle.pkg_graph.specs.Graph.{imports_of}
 use Rattle.pkg_graph.specs.Order.{is_placed}

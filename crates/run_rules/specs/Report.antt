@@ -3,7 +3,7 @@
 use Rattle.std.specs.Prelude.{ℕ, ◌+◌, Bool, bytes_eq, nat_le, List, [], ◌∷◌, ◌++◌, map, take, Some}
 use Rattle.std.specs.Prelude.{None, if◌then◌else◌, codes, decimal}
 use Rattle.text_places.specs.Lines.{lines_before, column_after}
-use Rattle.pkg_graph.specs.Pieces.{comes_before}
+use Rattle.pkg_graph.specs.ModuleFiles.Pieces.{comes_before}
 use Rattle.directive_scan.specs.declared.mark_types.BadReason.{BadReason}
 use Rattle.directive_scan.specs.declared.mark_types.BadReason.TheVariants.{NotNamedConstant, NotAlias, NothingMarked}
 use Rattle.run_rules.specs.FormTrees.{FormKind, ConstForm, TypeForm, ExprForm, BlockForm, TailForm, LiteralForm}

@@ -13,7 +13,7 @@ use Rattle.text_edits.specs.Applied.{applied}
 use Rattle.text_edits.specs.Joined.{joined}
 use Rattle.text_edits.specs.Order.{spans}
 use Rattle.text_edits.specs.Keeps.{Keeps}
-use Rattle.module_files.specs.Selected.{module_file}
+use Rattle.pkg_graph.specs.ModuleFiles.Selected.{module_file}
 use Rattle.pkg_graph.specs.Package.{Package}
 use Rattle.pkg_graph.specs.Reads.{Source, is_at}
 use Rattle.go_tree.specs.GoTypes.Answers.{given, meets}

@@ -10,9 +10,9 @@ use Rattle.go_tree.specs.Tree.{field, ident, const_decl, var_decl, ValueSpecs, n
 use Rattle.go_tree.specs.File.{ImportSpec, ImportDecl, TypeSpec, Receiver, Decl, values, types, func, File}
 use Rattle.text_edits.specs.declared.edit.Edit.{Edit}
 use Rattle.text_edits.specs.Applied.{applied}
-use Rattle.import_rules.specs.declared.new_import.NewImport.{NewImport}
-use Rattle.import_rules.specs.Removed.{same_span}
-use Rattle.import_rules.specs.Settled.{settled}
+use Rattle.run_rules.specs.declared.import_rules.new_import.NewImport.{NewImport}
+use Rattle.run_rules.specs.ImportRules.Removed.{same_span}
+use Rattle.run_rules.specs.ImportRules.Settled.{settled}
 use Rattle.pkg_graph.specs.Package.{Package, import_specs}
 use Rattle.go_tree.specs.GoTypes.Answers.{given, meets, otherwise, one_of}
 use Rattle.run_rules.specs.Surroundings.{Slot, Place, Seen, seen, seen_type, seen_stmt, in_constant, value_use, alike}

@@ -2,7 +2,9 @@
 //! that may take their place and what keeps them, the next step, the run and its report.
 #![tactic(auto)]
 
+pub mod import_rules;
 mod laws;
+pub mod splice_laws;
 
 pub use laws::{
     edits_of_steps_stand_apart, ended_runs_keep_all_uses, names_found_are_needed,

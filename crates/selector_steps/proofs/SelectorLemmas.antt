@@ -16,12 +16,12 @@ use Rattle.type_table.specs.Rows.{IdsBelow}
 use Rattle.type_table.specs.TypesAt.{type_by}
 use Rattle.type_table.specs.TypeRelations.Environment.{Environment, env_type}
 use Rattle.type_table.specs.declared.type_relations.methods.FuncType.{FuncType}
-use Rattle.operand_rules.specs.declared.values.ValueType.TheVariants as variant
-use Rattle.operand_rules.specs.declared.values.Content.TheVariants.{Run}
-use Rattle.operand_rules.specs.declared.values.Value.{Value}
-use Rattle.operand_rules.specs.declared.values.Refusal.{Refusal}
-use Rattle.operand_rules.specs.declared.values.Refusal.TheVariants.{NotTyped, NoMemory}
-use Rattle.operand_rules.specs.Values.{IsType, content_of, type_of, typed_of}
+use Rattle.type_table.specs.declared.operand_rules.values.ValueType.TheVariants as variant
+use Rattle.type_table.specs.declared.operand_rules.values.Content.TheVariants.{Run}
+use Rattle.type_table.specs.declared.operand_rules.values.Value.{Value}
+use Rattle.type_table.specs.declared.operand_rules.values.Refusal.{Refusal}
+use Rattle.type_table.specs.declared.operand_rules.values.Refusal.TheVariants.{NotTyped, NoMemory}
+use Rattle.type_table.specs.OperandRules.Values.{IsType, content_of, type_of, typed_of}
 use Rattle.operator_rules.specs.declared.access_rules.places.Place as place
 use Rattle.operator_rules.specs.declared.access_rules.places.Place.TheVariants.{Addressable, MapElement, Literal, Elsewhere}
 use Rattle.operator_rules.specs.AccessRules.Functions.{AreTypes, function_of, types_at}
@@ -34,11 +34,11 @@ use Rattle.func_types.specs.Answers.{AreTypesOf, func_of}
 use Rattle.func_types.proofs.ParamSteps.{tuple_is, types_same}
 use Rattle.operand_modes.specs.declared.modes.Operand.TheVariants as mode
 use Rattle.operand_modes.specs.Operands.{GivesOperand, IsOperandGiven, SameOperand, operand_at, single_of}
-use Rattle.checker_tables.specs.Ready.{HasFuncTypes}
-use Rattle.checker_tables.proofs.TableLemmas.{value_types_are_there}
-use Rattle.operand_answers.specs.declared.located.Located.{Located}
-use Rattle.operand_answers.specs.Located.{GivesAt, IsLocated, StandsAt}
-use Rattle.operand_answers.proofs.AnswerLemmas.{exact_given, no_value, single_is}
+use Rattle.operand_modes.specs.CheckerTables.Ready.{HasFuncTypes}
+use Rattle.operand_modes.proofs.CheckerTables.TableLemmas.{value_types_are_there}
+use Rattle.operand_modes.specs.declared.operand_answers.located.Located.{Located}
+use Rattle.operand_modes.specs.OperandAnswers.Located.{GivesAt, IsLocated, StandsAt}
+use Rattle.operand_modes.proofs.OperandAnswers.AnswerLemmas.{exact_given, no_value, single_is}
 use Rattle.selector_steps.specs.declared.selections.Selected.TheVariants.{Method}
 use Rattle.selector_steps.specs.Selected.{GivesSelected, GivesTuple, IsSelectedAs}
 

@@ -5,13 +5,13 @@ ghost use Rattle.go_tree.specs.GoTypes.Operands.{a_function};
 ghost use Rattle.type_table.specs.Rows.{IdsBelow};
 ghost use Rattle.func_types.specs.Answers.{AreTypesOf, func_of, types_at};
 ghost use Rattle.operand_modes.specs.Operands.{GivesOperand};
-ghost use Rattle.checker_tables.specs.Ready.{AreReady, Keeps};
+ghost use Rattle.operand_modes.specs.CheckerTables.Ready.{AreReady, Keeps};
 ghost use Rattle.selector_steps.specs.Selected.{GivesTuple};
 
-use checker_tables::Tables;
-use operand_answers::added;
 use operand_modes::Operand;
-use operand_rules::Refusal;
+use operand_modes::checker_tables::Tables;
+use operand_modes::operand_answers::added;
+use type_table::operand_rules::Refusal;
 use type_table::type_relations::FuncType;
 use type_table::{TypeId, TypeIdList, TypeNode};
 

@@ -6,17 +6,17 @@ ghost use Rattle.go_tree.specs.GoTypes.Operands as go_operand;
 ghost use Rattle.go_tree.specs.GoTypes.Types as go_type;
 ghost use Rattle.go_tree.specs.GoTypes.Primary as go;
 ghost use Rattle.type_table.specs.TypeRelations.Environment.{Environment, defined_types};
-ghost use Rattle.operand_rules.specs.Values.{IsType, type_of};
+ghost use Rattle.type_table.specs.OperandRules.Values.{IsType, type_of};
 ghost use Rattle.type_table.specs.ValueTypes.ValueTypes.{HasValueTypes};
 ghost use Rattle.operator_rules.specs.AccessRules.Places.{place_of};
 ghost use Rattle.operator_rules.specs.AccessRules.Selections.{IsSelected, selected_option};
-ghost use Rattle.checker_tables.specs.Ready.{HasFuncTypes};
+ghost use Rattle.operand_modes.specs.CheckerTables.Ready.{HasFuncTypes};
 ghost use Rattle.selector_steps.specs.Selected.{GivesSelected};
 
 use go_tree::NoMemory;
-use operand_rules::{Refusal, ValueType};
 use operator_rules::access_rules::{Place, Selection, selected};
 use std::alloc::Global;
+use type_table::operand_rules::{Refusal, ValueType};
 use type_table::type_relations::{Env, FuncType};
 use type_table::{TypeId, TypeIdList};
 

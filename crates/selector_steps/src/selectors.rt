@@ -8,21 +8,21 @@ ghost use Rattle.go_tree.specs.GoTypes.Entities.{run};
 ghost use Rattle.go_tree.specs.GoTypes.Operands.{place_by, value, with_value};
 ghost use Rattle.go_tree.specs.GoTypes.Primary as go;
 ghost use Rattle.type_table.specs.TypeRelations.Environment.{defined_types, env_type};
-ghost use Rattle.operand_rules.specs.declared.values.ValueType.TheVariants.{Typed};
-ghost use Rattle.operand_rules.specs.Values.{IsType, IsValue, type_of, typed_of};
+ghost use Rattle.type_table.specs.declared.operand_rules.values.ValueType.TheVariants.{Typed};
+ghost use Rattle.type_table.specs.OperandRules.Values.{IsType, IsValue, type_of, typed_of};
 ghost use Rattle.operator_rules.specs.AccessRules.Places.{place_of};
-ghost use Rattle.checker_tables.specs.Ready.{AreReady, Keeps};
-ghost use Rattle.operand_answers.specs.Located.{GivesAt, IsLocated, IsThereIfOk};
+ghost use Rattle.operand_modes.specs.CheckerTables.Ready.{AreReady, Keeps};
+ghost use Rattle.operand_modes.specs.OperandAnswers.Located.{GivesAt, IsLocated, IsThereIfOk};
 
 use crate::functions::function_operand;
 use crate::selections::{Selected, selection};
-use checker_tables::Tables;
-use operand_answers::{Located, elsewhere};
+use operand_modes::checker_tables::Tables;
+use operand_modes::operand_answers::{Located, elsewhere};
 use operand_modes::{Operand, single_value};
-use operand_rules::{Content, Refusal, Value, ValueType};
 use operator_rules::access_rules::{Place, selected_place};
 use std::alloc::Global;
 use type_table::TypeId;
+use type_table::operand_rules::{Content, Refusal, Value, ValueType};
 
 /// A field of this type of a value, where it stands.
 fn field_located(

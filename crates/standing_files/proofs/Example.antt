@@ -12,7 +12,7 @@ use Rattle.go_tree.specs.File.{Func, values, types, func, File}
 use Rattle.go_tree.specs.GoTypes.WellTyped.{well_typed}
 use Rattle.pkg_graph.specs.Package.{SourceTree, Package}
 use Rattle.go_translation.specs.Packages as translated
-use Rattle.import_rules.specs.Removed.{same_span}
+use Rattle.run_rules.specs.ImportRules.Removed.{same_span}
 use Rattle.run_rules.specs.FormTrees.{as_expr}
 use Rattle.run_rules.specs.Programs.{dependency_order, linked, body_place}
 use Rattle.run_rules.specs.Sites.{MarkRef, Where, Site, an_expr}

@@ -3,7 +3,7 @@ use Rattle.std.proofs.Common.{◌≡◌, refl, sym, ◌∙◌, ℕ, zero, suc, �
 use Rattle.std.specs.Prelude.{nat_eq}
 use Rattle.std.specs.List.{list_any, list_all}
 use Rattle.std.proofs.lemmas.List.Folds.{list_any-append}
-use Rattle.pkg_graph.specs.Pieces.{comes_before}
+use Rattle.pkg_graph.specs.ModuleFiles.Pieces.{comes_before}
 use Rattle.pkg_graph.specs.Package.{SourceTree, Package}
 use Rattle.pkg_graph.specs.Graph.{imports_of}
 use Rattle.pkg_graph.specs.Order.{is_placed}

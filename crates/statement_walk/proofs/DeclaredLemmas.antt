@@ -8,7 +8,7 @@ use Rattle.go_tree.specs.GoTypes.Entities.{Env}
 use Rattle.go_tree.specs.GoTypes.Statements.{right_values}
 use Rattle.go_tree.specs.GoTypes.Typing.{all_parts, places}
 use Rattle.type_table.specs.TypeRelations.Environment.{Environment}
-use Rattle.operand_rules.specs.declared.values.Refusal.{Refusal}
+use Rattle.type_table.specs.declared.operand_rules.values.Refusal.{Refusal}
 use Rattle.typed_names.specs.declared.entities.Entity.{Entity}
 use Rattle.typed_names.specs.declared.scopes.Scope.{Scope}
 use Rattle.typed_names.specs.Meanings.{Names}

@@ -10,7 +10,7 @@ use Rattle.go_tree.specs.GoTypes.Defined.{Defined}
 use Rattle.go_tree.specs.GoTypes.Declarations.{Declared, assigns_to, bind_all, bind_each, bound_names, defined_by, may_declare, names_once, new_by_define, new_variables, not_blank, some_declared, variable_entity, variables_declared}
 use Rattle.go_tree.specs.GoTypes.Entities.{Binds, Entity, Env, defined_in, is_declared_here, meaning, variable}
 use Rattle.go_tree.specs.GoTypes.Operands.{Typed}
-use Rattle.operand_rules.proofs.OpenedLemmas.{some_same}
+use Rattle.type_table.proofs.OperandRules.OpenedLemmas.{some_same}
 use Rattle.jump_rules.specs.declared.used_locals.pending.PendingName.{PendingName}
 use Rattle.jump_rules.specs.UsedLocals.Laws.{AreNew}
 

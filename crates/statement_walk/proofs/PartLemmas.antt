@@ -13,7 +13,7 @@ use Rattle.type_table.specs.TypeRelations.Environment.{Environment}
 use Rattle.typed_names.specs.declared.scopes.Scope.{Scope}
 use Rattle.typed_names.specs.declared.entities.Entity.{Entity}
 use Rattle.typed_names.specs.Meanings.{Names, entity_at, entity_option}
-use Rattle.checker_tables.specs.declared.tables.Tables.{Tables}
+use Rattle.operand_modes.specs.declared.checker_tables.tables.Tables.{Tables}
 use Rattle.control_steps.specs.LocalBlocks.Places.{IsPlace}
 use Rattle.assignment_steps.specs.DefineSteps.Defined.{bind_if, news_at}
 use Rattle.jump_rules.specs.declared.used_locals.pending.PendingName.{PendingName}
@@ -25,8 +25,8 @@ use Rattle.jump_rules.proofs.UsedLocals.ScopeLaws.{blanks_skipped, parts_declare
 use Rattle.go_tree.specs.declared.spans.Span.{Span}
 use Rattle.go_tree.specs.Tree.{Exprs}
 use Rattle.go_tree.specs.GoTypes.Typing.{used_all}
-use Rattle.operand_rules.specs.declared.values.Refusal.{Refusal}
-use Rattle.operand_rules.specs.declared.values.Refusal.TheVariants.{NotTyped, NoMemory}
+use Rattle.type_table.specs.declared.operand_rules.values.Refusal.{Refusal}
+use Rattle.type_table.specs.declared.operand_rules.values.Refusal.TheVariants.{NotTyped, NoMemory}
 use Rattle.control_steps.proofs.LocalBlocks.PlaceLemmas.{places_are_environments}
 use Rattle.expr_walk.specs.Walked.{AreAllWalked}
 use Rattle.expr_walk.proofs.WalkArms.ExprArms.{at}

@@ -11,9 +11,9 @@ use Rattle.go_tree.specs.GoTypes.Typing.{all_parts, places}
 use Rattle.typed_names.specs.declared.entities.Entity.{Entity}
 use Rattle.typed_names.specs.declared.scopes.Scope.{Scope}
 use Rattle.typed_names.specs.Meanings.{Names}
-use Rattle.operand_rules.specs.declared.values.Refusal.{Refusal}
-use Rattle.operand_rules.specs.declared.values.Refusal.TheVariants.{NotTyped, NoMemory}
-use Rattle.checker_tables.specs.declared.tables.Tables.{Tables}
+use Rattle.type_table.specs.declared.operand_rules.values.Refusal.{Refusal}
+use Rattle.type_table.specs.declared.operand_rules.values.Refusal.TheVariants.{NotTyped, NoMemory}
+use Rattle.operand_modes.specs.declared.checker_tables.tables.Tables.{Tables}
 use Rattle.control_steps.specs.LocalBlocks.Places.{IsPlace}
 use Rattle.assignment_steps.specs.DefineSteps.Defined.{news_at}
 use Rattle.statement_walk.specs.SimpleWalk.ConstantGroups.Groups.{SpecValue}

@@ -6,9 +6,9 @@ use Rattle.go_tree.specs.GoTypes.Defined.{Defined, under}
 use Rattle.go_tree.specs.GoTypes.Types.{GoType}
 use Rattle.typed_names.specs.declared.scopes.Scope.{Scope}
 use Rattle.typed_names.specs.Meanings.{Names}
-use Rattle.checker_tables.specs.declared.tables.Tables.{Tables}
-use Rattle.checker_tables.specs.Ready.{Keeps}
-use Rattle.operand_answers.specs.Known.{Stands}
+use Rattle.operand_modes.specs.declared.checker_tables.tables.Tables.{Tables}
+use Rattle.operand_modes.specs.CheckerTables.Ready.{Keeps}
+use Rattle.operand_modes.specs.OperandAnswers.Known.{Stands}
 use Rattle.jump_rules.specs.UsedLocals.Used.{Used, and_names}
 
 -- the underlying type, where the type is known

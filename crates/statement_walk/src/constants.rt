@@ -8,8 +8,8 @@ ghost use Rattle.go_tree.specs.GoTypes.Declarations as go_declaration;
 ghost use Rattle.go_tree.specs.GoTypes.Entities.{Env};
 ghost use Rattle.go_tree.specs.GoTypes.Typing as go;
 ghost use Rattle.go_tree.specs.ScopeNames.FreeNames.{free_type_option, names_of};
-ghost use Rattle.checker_tables.specs.Ready.{Keeps};
-ghost use Rattle.operand_answers.specs.Known.{Stands};
+ghost use Rattle.operand_modes.specs.CheckerTables.Ready.{Keeps};
+ghost use Rattle.operand_modes.specs.OperandAnswers.Known.{Stands};
 ghost use Rattle.control_steps.specs.LocalBlocks.Places.{IsPlace, IsWithin};
 ghost use Rattle.expr_walk.specs.Walked.{AreAllWalked};
 ghost use Rattle.jump_rules.specs.UsedLocals.Used.{used_of};
@@ -19,12 +19,12 @@ ghost use Rattle.statement_walk.specs.Parts.{AreHere, GivesRead};
 
 use crate::simple_walk::{own_or_repeated, repeated_member};
 use crate::uses::use_exprs;
-use checker_tables::Tables;
 use control_steps::LocalBlock;
 use go_tree::{ConstSpec, ConstSpecList};
 use jump_rules::{PendingNames, UsedNames, use_type_option};
-use operand_rules::Refusal;
+use operand_modes::checker_tables::Tables;
 use std::alloc::Global;
+use type_table::operand_rules::Refusal;
 use typed_names::{Blocks, Scope};
 
 /// The spec of constants of a number in a group: its own type and values use names, and then its constants

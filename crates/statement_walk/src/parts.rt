@@ -9,8 +9,8 @@ ghost use Rattle.std.specs.Option.{option_map};
 ghost use Rattle.go_tree.specs.GoTypes.Entities.{Env};
 ghost use Rattle.go_tree.specs.GoTypes.Typing as go;
 ghost use Rattle.go_tree.specs.ScopeNames.FreeNames.{free_type_option};
-ghost use Rattle.checker_tables.specs.Ready.{Keeps};
-ghost use Rattle.operand_answers.specs.Known.{Stands};
+ghost use Rattle.operand_modes.specs.CheckerTables.Ready.{Keeps};
+ghost use Rattle.operand_modes.specs.OperandAnswers.Known.{Stands};
 ghost use Rattle.control_steps.specs.LocalBlocks.Places.{IsPlace, IsWithin};
 ghost use Rattle.expr_walk.specs.Walked.{AreAllWalked};
 ghost use Rattle.jump_rules.specs.UsedLocals.Used.{used_of};
@@ -21,12 +21,12 @@ use crate::begins::begin_defined;
 use crate::shorts::define_statement;
 use crate::uses::use_exprs;
 use crate::variables::variable_spec;
-use checker_tables::Tables;
 use control_steps::LocalBlock;
 use go_tree::{ExprList, NameAtList, VarSpec};
 use jump_rules::{PendingNames, UsedNames, use_type_option};
-use operand_rules::Refusal;
+use operand_modes::checker_tables::Tables;
 use std::alloc::Global;
+use type_table::operand_rules::Refusal;
 use typed_names::{Blocks, Scope};
 
 /// A short declaration in a block: its values use names, and then its new names are declared, each of

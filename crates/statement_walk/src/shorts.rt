@@ -7,8 +7,8 @@ ghost use Rattle.go_tree.specs.View.{exprs_of, name_at_of};
 ghost use Rattle.go_tree.specs.GoTypes.Entities.{Env};
 ghost use Rattle.go_tree.specs.GoTypes.Typing as go;
 ghost use Rattle.go_tree.specs.ScopeNames.FreeNames.{names_of};
-ghost use Rattle.checker_tables.specs.Ready.{Keeps};
-ghost use Rattle.operand_answers.specs.Known.{Stands};
+ghost use Rattle.operand_modes.specs.CheckerTables.Ready.{Keeps};
+ghost use Rattle.operand_modes.specs.OperandAnswers.Known.{Stands};
 ghost use Rattle.control_steps.specs.LocalBlocks.Places.{IsPlace, IsWithin};
 ghost use Rattle.assignment_steps.specs.DefineSteps.Defined.{AreNew, GivesShort};
 ghost use Rattle.expr_walk.specs.Walked.{AreAllWalked};
@@ -16,11 +16,11 @@ ghost use Rattle.statement_walk.specs.DeclaredVariables.{GivesNews};
 
 use crate::values::declared_values;
 use assignment_steps::{DefinedList, declare_defined, short_declaration};
-use checker_tables::Tables;
 use control_steps::LocalBlock;
 use go_tree::{ExprList, NameAtList};
-use operand_rules::Refusal;
+use operand_modes::checker_tables::Tables;
 use std::alloc::Global;
+use type_table::operand_rules::Refusal;
 use typed_names::{Blocks, Scope};
 
 /// What the names of a short declaration declare: those that are new in the block are variables, and the

@@ -10,12 +10,12 @@ ghost use Rattle.go_tree.specs.GoTypes.TypeNames as type_name;
 ghost use Rattle.go_tree.specs.GoTypes.Typing as go;
 ghost use Rattle.go_tree.specs.ScopeNames.FreeNames.{free_type};
 ghost use Rattle.type_table.specs.TypeRelations.Environment.{defined_types};
-ghost use Rattle.operand_rules.specs.declared.values.ValueType.TheVariants.{Typed};
-ghost use Rattle.operand_rules.specs.Values.{IsType};
+ghost use Rattle.type_table.specs.declared.operand_rules.values.ValueType.TheVariants.{Typed};
+ghost use Rattle.type_table.specs.OperandRules.Values.{IsType};
 ghost use Rattle.operator_rules.specs.Settling.{typed_option};
 ghost use Rattle.typed_names.specs.Scopes.{env_at};
-ghost use Rattle.checker_tables.specs.Ready.{Keeps};
-ghost use Rattle.operand_answers.specs.Known.{Stands};
+ghost use Rattle.operand_modes.specs.CheckerTables.Ready.{Keeps};
+ghost use Rattle.operand_modes.specs.OperandAnswers.Known.{Stands};
 ghost use Rattle.expr_walk.specs.Walked.{AreAllWalked, AreWalkedElems, IsWalked, IsWalkedKey, IsWalkedOption};
 ghost use Rattle.expr_walk.specs.Walked.{IsWalkedValue};
 ghost use Rattle.jump_rules.specs.UsedLocals.Used.{and_names, used_of};
@@ -24,9 +24,9 @@ ghost use Rattle.statement_walk.specs.Uses.{under_option};
 use crate::literal_types::{
     has_fields, known_type, type_of_braces, type_of_elements, type_of_keys,
 };
-use checker_tables::Tables;
 use go_tree::{Elem, ElemList, Expr, ExprList, NoMemory, TypeExpr, Value as ElemValue};
 use jump_rules::{UsedNames, use_type};
+use operand_modes::checker_tables::Tables;
 use std::alloc::Global;
 use type_table::TypeId;
 use typed_names::{Blocks, Scope};

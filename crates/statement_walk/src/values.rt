@@ -6,19 +6,19 @@ ghost use Rattle.go_tree.specs.View.{exprs_of};
 ghost use Rattle.go_tree.specs.GoTypes.Entities.{Env};
 ghost use Rattle.go_tree.specs.GoTypes.Statements as go_statement;
 ghost use Rattle.go_tree.specs.GoTypes.Typing as go;
-ghost use Rattle.checker_tables.specs.Ready.{Keeps};
-ghost use Rattle.operand_answers.specs.Known.{Stands};
+ghost use Rattle.operand_modes.specs.CheckerTables.Ready.{Keeps};
+ghost use Rattle.operand_modes.specs.OperandAnswers.Known.{Stands};
 ghost use Rattle.control_steps.specs.RightSides.Values.{AreValuesIfOk, GivesValuesAlike};
 ghost use Rattle.control_steps.specs.LocalBlocks.Places.{IsPlace};
 ghost use Rattle.expr_walk.specs.Walked.{AreAllWalked};
 
-use checker_tables::Tables;
 use control_steps::right_values;
 use expr_walk::all_exprs;
 use go_tree::ExprList;
 use operand_modes::ValueList;
-use operand_rules::Refusal;
+use operand_modes::checker_tables::Tables;
 use std::alloc::Global;
+use type_table::operand_rules::Refusal;
 use typed_names::{Blocks, Scope};
 
 /// The values of so many variables: each its own, or all results of one call; an element of a map gives

@@ -4,8 +4,8 @@ ghost use Rattle.std.specs.Prelude.{◌≡◌, IfOk, map};
 ghost use Rattle.go_tree.specs.View.{exprs_of, name_at_of, var_spec_of};
 ghost use Rattle.go_tree.specs.GoTypes.Entities.{Env};
 ghost use Rattle.go_tree.specs.ScopeNames.FreeNames.{names_of};
-ghost use Rattle.checker_tables.specs.Ready.{Keeps};
-ghost use Rattle.operand_answers.specs.Known.{Stands};
+ghost use Rattle.operand_modes.specs.CheckerTables.Ready.{Keeps};
+ghost use Rattle.operand_modes.specs.OperandAnswers.Known.{Stands};
 ghost use Rattle.control_steps.specs.DeclarationSteps.Entities.{AreEntities};
 ghost use Rattle.assignment_steps.specs.SpecSteps.Specs.{GivesVariables};
 ghost use Rattle.control_steps.specs.LocalBlocks.Places.{IsPlace, IsWithin};
@@ -15,11 +15,11 @@ ghost use Rattle.statement_walk.specs.DeclaredVariables.{GivesVariablesHere, spe
 use crate::simple_walk::{has_none, written_type};
 use crate::values::declared_values;
 use assignment_steps::{declare_entities, new_variables};
-use checker_tables::Tables;
 use control_steps::{EntityList, LocalBlock};
 use go_tree::VarSpec;
-use operand_rules::Refusal;
+use operand_modes::checker_tables::Tables;
 use std::alloc::Global;
+use type_table::operand_rules::Refusal;
 use typed_names::{Blocks, Scope};
 
 /// The variables that a spec declares, of the type that is written or of those of the values.

@@ -8,7 +8,7 @@ use Rattle.std.proofs.lemmas.Option.{same_Some, slice_get_within}
 use Rattle.std.proofs.lemmas.Slice.Eq.{bytes_eq-Decides}
 use Rattle.go_tree.specs.declared.spans.Span.{Span}
 use Rattle.go_tree.specs.FileView.{file_of}
-use Rattle.module_files.specs.PathLists.{number_of, has_path, AreDistinct}
+use Rattle.pkg_graph.specs.ModuleFiles.PathLists.{number_of, has_path, AreDistinct}
 use Rattle.pkg_graph.specs.Package.{Package}
 use Rattle.pkg_graph.specs.Graph.{imports_of}
 use Rattle.pkg_graph.specs.Reads.{Source}
@@ -33,7 +33,7 @@ use Rattle.run_rules.specs.Sites.{MarkRef, Site}
 use Rattle.run_rules.specs.Steps.{At, change_nth}
 use Rattle.stepped_programs.proofs.SearchedSites.KeptPrograms.Kept.{There, there, got}
 use Rattle.stepped_programs.proofs.SearchedSites.SettledFiles.Packages.{paths_now}
-use Rattle.step_counts.proofs.Steps.{texts_within}
+use Rattle.run_by_steps.proofs.StepCounts.Steps.{texts_within}
 use Rattle.stepped_programs.specs.declared.place.StepPlace.{StepPlace}
 use Rattle.stepped_programs.specs.Texts.{HoldsFile}
 use Rattle.stepped_programs.specs.Steps.{HasDecl, HoldsSource}

@@ -10,8 +10,8 @@ use Rattle.pkg_graph.specs.Package.{SourceTree, Package}
 use Rattle.pkg_graph.specs.Reads.{Source}
 use Rattle.member_uses.proofs.Stays.{candidate_with, after_decl-stays}
 use Rattle.next_file.specs.declared.file.NewFile.{NewFile}
-use Rattle.possible_uses.specs.Candidates.{Candidate}
-use Rattle.possible_uses.specs.Parts.{parts_of}
+use Rattle.member_uses.specs.PossibleUses.Candidates.{Candidate}
+use Rattle.member_uses.specs.PossibleUses.Parts.{parts_of}
 use Rattle.programs.specs.PartOrigins.Laws.{decls_origins}
 use Rattle.programs.specs.PartOrigins.Spans.{part_spans}
 use Rattle.programs.specs.PartOrigins.Views.{origins_of}

@@ -11,7 +11,7 @@ use Rattle.pkg_graph.specs.declared.packages.SourceTree as code_tree
 use Rattle.file_names.specs.Members.{IsBlockOf}
 use Rattle.file_tables.specs.ReplacedFiles.Replaced.{with_tree_of}
 use Rattle.stepped_programs.proofs.LoadedPrograms.Images.{image_at, at_image}
-use Rattle.use_search.specs.MarkValues.Tables.{DeclKey, values_at}
+use Rattle.repeated_parts.specs.UseSearch.MarkValues.Tables.{DeclKey, values_at}
 use Rattle.next_file.specs.declared.file.NewFile.{NewFile}
 use Rattle.programs.specs.FileValues.Filled.{HasFileValues}
 use Rattle.programs.specs.Programs.{IsProgramOf}
@@ -21,7 +21,7 @@ use Rattle.run_rules.specs.Run.{Standing, Logged, Next, here_of}
 use Rattle.run_rules.specs.Sites.{MarkRef, Site}
 use Rattle.run_rules.specs.Steps.{At, change_nth}
 use Rattle.stepped_programs.proofs.SearchedSites.SettledFiles.Packages.{block_now, placed}
-use Rattle.use_search.proofs.UsesOfMarks.BlocksStay.{block_stays}
+use Rattle.repeated_parts.proofs.UseSearch.UsesOfMarks.BlocksStay.{block_stays}
 use Rattle.stepped_programs.specs.SteppedValues.Filled.{IsFilledAnew}
 use Rattle.stepped_programs.specs.declared.place.StepPlace.{StepPlace}
 use Rattle.stepped_programs.specs.Steps.{IsStepPut}

@@ -12,14 +12,14 @@ use Rattle.go_tree.specs.declared.scope_names.names.FileNames.{FileNames}
 use Rattle.pkg_graph.specs.Members.{Target, package_block}
 use Rattle.pkg_graph.specs.Reads.{Source}
 use Rattle.constant_steps.specs.PlaceMeanings.Parts.{AllScoped}
-use Rattle.possible_uses.specs.Among.{Keyed}
-use Rattle.possible_uses.specs.Laws.{PartsAreAmongAll}
+use Rattle.member_uses.specs.PossibleUses.Among.{Keyed}
+use Rattle.member_uses.specs.PossibleUses.Laws.{PartsAreAmongAll}
 use Rattle.constant_forms.specs.Views.{name_expr}
 use Rattle.member_uses.specs.Uses.{Names}
 use Rattle.next_file.specs.declared.file.NewFile.{NewFile}
 use Rattle.next_file.specs.Files.{text_of}
-use Rattle.package_search.specs.declared.looks.ProgramSources.{ProgramSources}
-use Rattle.package_search.specs.declared.search.FoundInPackage.{FoundInPackage}
+use Rattle.stepped_programs.specs.declared.package_search.looks.ProgramSources.{ProgramSources}
+use Rattle.stepped_programs.specs.declared.package_search.search.FoundInPackage.{FoundInPackage}
 use Rattle.programs.specs.Programs.{IsProgramOf}
 use Rattle.programs.specs.declared.state.Program.{Program}
 use Rattle.run_by_steps.specs.NextPrograms.Made.{NextWith}
@@ -30,14 +30,14 @@ use Rattle.run_rules.specs.Run.{Standing, Next, here_of, edits_in, logged}
 use Rattle.run_rules.specs.Sites.{MarkRef, Where, an_expr, inlinable, part_span}
 use Rattle.run_rules.specs.Steps.{At, Found, same_here}
 use Rattle.run_rules.specs.Texts.{FileText}
-use Rattle.use_search.specs.UsesOfMarks.Laws.{IsSound, EachSound}
-use Rattle.use_search.specs.UsesOfMarks.Uses.{PlacedMark}
-use Rattle.use_search.specs.Answers.{names_of}
+use Rattle.repeated_parts.specs.UseSearch.UsesOfMarks.Laws.{IsSound, EachSound}
+use Rattle.repeated_parts.specs.UseSearch.UsesOfMarks.Uses.{PlacedMark}
+use Rattle.repeated_parts.specs.UseSearch.Answers.{names_of}
 use Rattle.stepped_programs.specs.SearchedSites.FoundSteps.Laws.{step_of}
 use Rattle.stepped_programs.specs.SearchedSites.OrderedSearches.Found.{IsFoundFirst}
 use Rattle.stepped_programs.specs.SearchedSites.SwappedParts.Swaps.{HasNoDot}
 use Rattle.stepped_programs.proofs.SearchedSites.SettledFiles.Packages.{placed}
-use Rattle.typed_parts.specs.StandingUses.ImportUses.Parts.{EachSeen}
+use Rattle.printed_constants.specs.TypedParts.StandingUses.ImportUses.Parts.{EachSeen}
 use Rattle.stepped_programs.specs.Steps.{AreSwapped}
 use Rattle.stepped_programs.specs.Laws.{IsPlaceOf, PutsName, IsOfStep, place_of, IsUndotted, FoundUsesArePut}
 use Rattle.stepped_programs.proofs.Held.{origins_of_steps}

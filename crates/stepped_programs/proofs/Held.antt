@@ -14,9 +14,9 @@ use Rattle.pkg_graph.specs.declared.packages.Package as code
 use Rattle.pkg_graph.specs.declared.packages.SourceTree as code_tree
 use Rattle.go_tree.specs.GoTypes.Answers.{given}
 use Rattle.stepped_programs.proofs.LoadedPrograms.Images.{image_at, at_image}
-use Rattle.use_search.specs.MarkValues.Tables.{decl_at}
-use Rattle.possible_uses.specs.Laws.{PartsAreAmongAll}
-use Rattle.possible_uses.specs.Parts.{parts_of}
+use Rattle.repeated_parts.specs.UseSearch.MarkValues.Tables.{decl_at}
+use Rattle.member_uses.specs.PossibleUses.Laws.{PartsAreAmongAll}
+use Rattle.member_uses.specs.PossibleUses.Parts.{parts_of}
 use Rattle.programs.specs.PartOrigins.Laws.{decls_origins}
 use Rattle.programs.specs.Programs.{HasOrigins, IsProgramOf}
 use Rattle.programs.specs.declared.part_origins.origins.Origins.{Origins}

@@ -7,7 +7,7 @@ use Rattle.go_tree.specs.declared.spans.Span.{Span}
 use Rattle.go_scan.specs.TokenLists.{TokenLists}
 use Rattle.pkg_graph.specs.Package.{SourceTree, Package}
 use Rattle.pkg_graph.specs.Reads.{Source}
-use Rattle.use_search.specs.MarkValues.Tables.{DeclKey}
+use Rattle.repeated_parts.specs.UseSearch.MarkValues.Tables.{DeclKey}
 use Rattle.next_file.specs.declared.file.NewFile.{NewFile}
 use Rattle.next_file.specs.Files.{text_of}
 use Rattle.programs.specs.Kept.{IsKeptFile, text_with}
@@ -15,7 +15,7 @@ use Rattle.programs.specs.Programs.{AreKeptFiles, IsProgramOf}
 use Rattle.programs.specs.Users.{Known}
 use Rattle.programs.specs.declared.state.PackageFiles.{PackageFiles}
 use Rattle.programs.specs.declared.state.Program.{Program}
-use Rattle.splice_laws.proofs.RunLaws.RunsRead.{texts_new}
+use Rattle.run_rules.proofs.SpliceLaws.RunLaws.RunsRead.{texts_new}
 use Rattle.run_rules.specs.Inlining.{ReadsAs}
 use Rattle.run_rules.specs.Marks.{text_at}
 use Rattle.run_rules.specs.Respanned.{file_with}

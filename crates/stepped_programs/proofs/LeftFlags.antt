@@ -6,9 +6,9 @@ use Rattle.std.proofs.lemmas.List.{get_or-set_other}
 use Rattle.std.proofs.lemmas.Option.{slice_get_within}
 use Rattle.go_tree.specs.declared.spans.Span.{Span}
 use Rattle.go_scan.specs.TokenLists.{TokenLists}
-use Rattle.use_search.specs.MarkValues.Tables.{DeclKey, same_key}
+use Rattle.repeated_parts.specs.UseSearch.MarkValues.Tables.{DeclKey, same_key}
 use Rattle.next_file.specs.declared.file.NewFile.{NewFile}
-use Rattle.package_search.specs.Search.{is_settled}
+use Rattle.stepped_programs.specs.PackageSearch.Search.{is_settled}
 use Rattle.programs.specs.Users.{Known, is_user}
 use Rattle.programs.specs.declared.state.PackageFiles.{PackageFiles}
 use Rattle.programs.specs.declared.state.Program.{Program}

@@ -19,3 +19,5 @@ pub mod Asked
 pub mod SettledFiles
 pub mod ProgramsOnTheWay
 pub mod LoadedPrograms
+pub mod RunReports
+pub mod PackageSearch

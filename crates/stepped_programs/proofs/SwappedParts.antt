@@ -6,19 +6,19 @@ use Rattle.go_tree.specs.declared.spans.Span.{Span}
 use Rattle.go_tree.specs.Tree.{Expr, ident, selector, NameAt}
 use Rattle.go_tree.specs.File.{Decl}
 use Rattle.go_tree.specs.ScopeNames.Scopes.{expr_span}
-use Rattle.import_rules.specs.Removed.{same_span}
+use Rattle.run_rules.specs.ImportRules.Removed.{same_span}
 use Rattle.go_tree.specs.GoTypes.Answers.{meets}
 use Rattle.constant_forms.specs.Views.{name_expr}
-use Rattle.splice_laws.proofs.ImportSplices.FormSplices.FormsFound.{step-makes-form}
+use Rattle.run_rules.proofs.SpliceLaws.ImportSplices.FormSplices.FormsFound.{step-makes-form}
 use Rattle.stepped_programs.proofs.LoadedPrograms.Images.{at_image}
-use Rattle.typed_parts.proofs.MarkedRuns.PutForms.FirstUses.{file_reads}
+use Rattle.printed_constants.proofs.TypedParts.MarkedRuns.PutForms.FirstUses.{file_reads}
 use Rattle.member_uses.proofs.Stays.{candidate_with}
-use Rattle.possible_uses.specs.Candidates.{Candidate}
-use Rattle.possible_uses.specs.Laws.{PartsAreAmongAll}
-use Rattle.possible_uses.specs.Parts.{after_expr, parts_of}
+use Rattle.member_uses.specs.PossibleUses.Candidates.{Candidate}
+use Rattle.member_uses.specs.PossibleUses.Laws.{PartsAreAmongAll}
+use Rattle.member_uses.specs.PossibleUses.Parts.{after_expr, parts_of}
 use Rattle.programs.specs.PartOrigins.Laws.{decls_origins}
 use Rattle.programs.proofs.PartOrigins.Gathered.{mapped_twice}
-use Rattle.splice_laws.specs.RunLaws.Reading.{ProgramReads}
+use Rattle.run_rules.specs.SpliceLaws.RunLaws.Reading.{ProgramReads}
 use Rattle.run_rules.specs.FormTrees.{Form}
 use Rattle.run_rules.specs.Respanned.{expr_with, decl_with}
 use Rattle.run_rules.specs.Run.{Standing, Logged, Next, here_of, origin_of}
@@ -30,12 +30,12 @@ use Rattle.stepped_programs.proofs.SearchedSites.SwappedParts.Decls.{swap_parts}
 use Rattle.stepped_programs.proofs.SearchedSites.ToldOrigins.Parts.{is_new}
 use Rattle.stepped_programs.proofs.SearchedSites.SwappedParts.Keeps.{spans_of}
 use Rattle.stepped_programs.proofs.SearchedSites.ToldOrigins.Told.{same_named, is_same, itself, standing, parts_stand, local, stands_alone}
-use Rattle.typed_parts.specs.StandingUses.ImportUses.Parts as parts
-use Rattle.typed_parts.specs.StandingUses.ImportUses.Parts.{IsName}
-use Rattle.typed_parts.specs.StandingUses.Laws.{IsNamedOnce}
-use Rattle.typed_parts.specs.StandingUses.LoneUses.Alone.{span_named, IsElsewhere, AreElsewhere, StandsAlone}
-use Rattle.typed_parts.specs.StandingUses.LoneUses.Alone as alone
-use Rattle.typed_parts.proofs.StandingUses.Once.{stand_once}
+use Rattle.printed_constants.specs.TypedParts.StandingUses.ImportUses.Parts as parts
+use Rattle.printed_constants.specs.TypedParts.StandingUses.ImportUses.Parts.{IsName}
+use Rattle.printed_constants.specs.TypedParts.StandingUses.Laws.{IsNamedOnce}
+use Rattle.printed_constants.specs.TypedParts.StandingUses.LoneUses.Alone.{span_named, IsElsewhere, AreElsewhere, StandsAlone}
+use Rattle.printed_constants.specs.TypedParts.StandingUses.LoneUses.Alone as alone
+use Rattle.printed_constants.proofs.TypedParts.StandingUses.Once.{stand_once}
 use Rattle.stepped_programs.specs.SwappedOrigins.{is_name_at, parts_before, names_before_dot, dots_at, from_use, swapped_at, swapped}
 use Rattle.stepped_programs.specs.Laws.{PutsName, OriginsAreSwapped}
 use Rattle.stepped_programs.proofs.Lists.{change_here}

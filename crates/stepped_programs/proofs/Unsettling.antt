@@ -4,8 +4,8 @@ use Rattle.std.specs.Prelude.{slice_get}
 use Rattle.std.specs.Vec.{with_items}
 use Rattle.std.proofs.lemmas.List.{length-set, with_items_is, get_or-set_same, get_or-set_other}
 use Rattle.std.proofs.lemmas.Option.{same_Some, slice_get_within}
-use Rattle.use_search.specs.MarkValues.Tables.{DeclKey}
-use Rattle.package_search.specs.Search.{is_settled}
+use Rattle.repeated_parts.specs.UseSearch.MarkValues.Tables.{DeclKey}
+use Rattle.stepped_programs.specs.PackageSearch.Search.{is_settled}
 use Rattle.programs.specs.Users.{Known, is_user}
 use Rattle.programs.specs.declared.state.PackageFiles.{PackageFiles}
 use Rattle.stepped_programs.proofs.SearchedSites.KeptPrograms.Kept.{set_here, set_else, nat_cases}

@@ -1,8 +1,8 @@
 -- Files that are looked at again after a step: those that use a constant of the declaration that it changed (Go
 -- specification, Constant declarations).
 use Rattle.std.specs.Prelude.{◌≡◌, ℕ, Bool, not, ◌&&◌, List, length, Some, slice_get}
-use Rattle.use_search.specs.MarkValues.Tables.{DeclKey}
-use Rattle.package_search.specs.Search.{is_settled}
+use Rattle.repeated_parts.specs.UseSearch.MarkValues.Tables.{DeclKey}
+use Rattle.stepped_programs.specs.PackageSearch.Search.{is_settled}
 use Rattle.programs.specs.Users.{Known, is_user}
 use Rattle.programs.specs.declared.state.PackageFiles.{PackageFiles}
 

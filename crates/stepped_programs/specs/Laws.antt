@@ -11,16 +11,16 @@ use Rattle.pkg_graph.specs.Members.{package_block}
 use Rattle.pkg_graph.specs.Reads.{Source}
 use Rattle.pkg_graph.specs.Views.{package_view}
 use Rattle.constant_steps.specs.PlaceMeanings.Parts.{AllScoped}
-use Rattle.possible_uses.specs.Among.{Keyed}
-use Rattle.possible_uses.specs.Parts.{parts_of}
+use Rattle.member_uses.specs.PossibleUses.Among.{Keyed}
+use Rattle.member_uses.specs.PossibleUses.Parts.{parts_of}
 use Rattle.constant_forms.specs.Views.{name_expr}
 use Rattle.order_runs.specs.CycleRuns.Linked.{Linked}
-use Rattle.typed_parts.specs.MarkedRuns.KeptMarks.Over.{IsOverName}
-use Rattle.use_search.specs.MarkValues.Tables.{DeclKey, same_key}
+use Rattle.printed_constants.specs.TypedParts.MarkedRuns.KeptMarks.Over.{IsOverName}
+use Rattle.repeated_parts.specs.UseSearch.MarkValues.Tables.{DeclKey, same_key}
 use Rattle.next_file.specs.declared.file.NewFile.{NewFile}
 use Rattle.next_file.specs.Files.{text_of}
-use Rattle.package_search.specs.declared.looks.ProgramSources.{ProgramSources}
-use Rattle.package_search.specs.declared.search.FoundInPackage.{FoundInPackage}
+use Rattle.stepped_programs.specs.declared.package_search.looks.ProgramSources.{ProgramSources}
+use Rattle.stepped_programs.specs.declared.package_search.search.FoundInPackage.{FoundInPackage}
 use Rattle.programs.specs.PartOrigins.Laws.{decls_origins}
 use Rattle.programs.specs.PartOrigins.Spans.{part_spans}
 use Rattle.programs.specs.Programs.{IsProgramOf}
@@ -29,7 +29,7 @@ use Rattle.programs.specs.Users.{is_user}
 use Rattle.programs.specs.declared.state.Program.{Program}
 use Rattle.run_by_steps.specs.NextPrograms.Made.{NextWith}
 use Rattle.run_by_steps.specs.RunProgress.Laws.{are_paths_apart}
-use Rattle.splice_laws.specs.RunLaws.Reading.{ProgramReads}
+use Rattle.run_rules.specs.SpliceLaws.RunLaws.Reading.{ProgramReads}
 use Rattle.run_rules.specs.FormTrees.{as_expr}
 use Rattle.run_rules.specs.Forms.{is_at}
 use Rattle.run_rules.specs.Programs.{decl_seen}
@@ -43,7 +43,7 @@ use Rattle.stepped_programs.specs.SearchedSites.OrderedSearches.Found.{IsFoundFi
 use Rattle.stepped_programs.specs.SearchedSites.OrderedSearches.Held.{IsThere, AreAllSettled, flag_of}
 use Rattle.stepped_programs.specs.SearchedSites.SettledFiles.Left.{MayStaySet}
 use Rattle.stepped_programs.specs.SearchedSites.SwappedParts.Swaps.{HasNoDot}
-use Rattle.typed_parts.specs.StandingUses.ImportUses.Parts.{EachSeen}
+use Rattle.printed_constants.specs.TypedParts.StandingUses.ImportUses.Parts.{EachSeen}
 use Rattle.stepped_programs.specs.SteppedValues.Filled.{IsFilledAnew}
 use Rattle.stepped_programs.specs.SteppedValues.Flags.{IsKeptProgram}
 use Rattle.stepped_programs.specs.declared.place.StepPlace.{StepPlace}

@@ -8,3 +8,5 @@ pub mod Steps
 pub mod Laws
 pub mod ProgramsOnTheWay
 pub mod LoadedPrograms
+pub mod RunReports
+pub mod PackageSearch

@@ -5,7 +5,7 @@ use Rattle.std.specs.Prelude.{map, length, Option, Some, slice_get}
 use Rattle.go_tree.specs.declared.files.Decl.{Decl}
 use Rattle.go_tree.specs.declared.spans.Span.{Span}
 use Rattle.go_tree.specs.FileView.{decl_of, file_of}
-use Rattle.module_files.specs.PathLists.{AreDistinct}
+use Rattle.pkg_graph.specs.ModuleFiles.PathLists.{AreDistinct}
 use Rattle.pkg_graph.specs.Views.{package_view}
 use Rattle.pkg_graph.specs.declared.packages.Package.{Package}
 use Rattle.pkg_graph.specs.declared.packages.SourceTree.{SourceTree}
@@ -16,9 +16,9 @@ use Rattle.file_names.specs.Imports.{FindsPackages}
 use Rattle.file_names.specs.Members.{IsBlockOf}
 use Rattle.file_tables.specs.DependencyOrder.Links.{AreNamed}
 use Rattle.file_tables.specs.ReplacedFiles.Replaced.{with_tree_of}
-use Rattle.use_search.specs.MarkValues.Tables.{DeclKey, Known, decl_at, values_at}
+use Rattle.repeated_parts.specs.UseSearch.MarkValues.Tables.{DeclKey, Known, decl_at, values_at}
 use Rattle.next_file.specs.declared.file.NewFile.{NewFile}
-use Rattle.possible_uses.specs.Parts.{parts_of}
+use Rattle.member_uses.specs.PossibleUses.Parts.{parts_of}
 use Rattle.programs.specs.FileValues.Filled.{HasFileValues}
 use Rattle.programs.specs.PartOrigins.Views.{origins_of}
 use Rattle.programs.specs.declared.part_origins.origins.Origins.{Origins}

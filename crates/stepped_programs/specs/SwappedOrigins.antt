@@ -4,10 +4,10 @@ use Rattle.std.specs.Prelude.{◌≡◌, ℕ, suc, ◌+◌, ◌-◌, Bool, List,
 use Rattle.std.specs.Prelude.{Option, Some, None, if◌then◌else◌, slice_get, slice_set}
 use Rattle.go_tree.specs.declared.spans.Span.{Span}
 use Rattle.go_tree.specs.Tree.{selector}
-use Rattle.import_rules.specs.Removed.{same_span}
+use Rattle.run_rules.specs.ImportRules.Removed.{same_span}
 use Rattle.go_tree.specs.GoTypes.Answers.{meets}
 use Rattle.run_rules.specs.Sites.{Part, an_expr}
-use Rattle.possible_uses.specs.Candidates.{Candidate}
+use Rattle.member_uses.specs.PossibleUses.Candidates.{Candidate}
 use Rattle.programs.specs.OriginsOfUses.Origins.{named_span}
 use Rattle.programs.specs.PartOrigins.Views.{origins_of}
 use Rattle.programs.specs.declared.part_origins.origins.Origins.{Origins}

@@ -2,7 +2,7 @@
 
 ghost use Rattle.std.specs.Prelude.{◌≡◌, option_copied};
 ghost use Rattle.std.specs.Option.{option_map};
-ghost use Rattle.use_search.specs.MarkValues.Tables.{decl_at, tree_at};
+ghost use Rattle.repeated_parts.specs.UseSearch.MarkValues.Tables.{decl_at, tree_at};
 ghost use Rattle.stepped_programs.specs.Steps.{file_spans, key_at, own_spans, spans_at};
 
 use crate::place::StepPlace;

@@ -7,7 +7,7 @@ ghost use Rattle.stepped_programs.specs.Laws.{StepsMayBePut};
 use crate::stepped_values::{
     constants_stay_marked, settled_flags_stay, values_are_told_after_steps,
 };
-use possible_uses::parts_are_among_all;
+use member_uses::possible_uses::parts_are_among_all;
 
 /// With the file of a step in its place all that is kept is that of the run's next program (`keep`); its table has what
 /// the constants of the step's file are declared as after it, and of other files what it had (`values`).

@@ -21,8 +21,8 @@ use go_tree::{NoMemory, Span};
 use next_file::NewFile;
 use pkg_graph::Package;
 use programs::{PackageFiles, Program, fill_source};
+use repeated_parts::use_search::mark_values::ConstantValues;
 use std::alloc::Global;
-use use_search::mark_values::ConstantValues;
 
 /// The bytes of a module, of which a text of so many bytes gave way to one of so many.
 fn bytes_after(bytes: u32, old: usize, new: usize) -> u32

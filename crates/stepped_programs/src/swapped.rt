@@ -4,14 +4,14 @@ ghost use Rattle.std.specs.Prelude.{◌≡◌, ◌+◌, ◌++◌, IfOk, OnOk, So
 ghost use Rattle.go_tree.specs.View.{expr_of};
 ghost use Rattle.go_tree.specs.FileView.{decl_of};
 ghost use Rattle.run_rules.specs.Sites.{an_expr};
-ghost use Rattle.possible_uses.specs.Parts.{parts_of};
-ghost use Rattle.possible_uses.specs.Views.{part_of};
+ghost use Rattle.member_uses.specs.PossibleUses.Parts.{parts_of};
+ghost use Rattle.member_uses.specs.PossibleUses.Views.{part_of};
 ghost use Rattle.programs.specs.OriginsOfUses.Origins.{named_span};
 ghost use Rattle.stepped_programs.specs.SwappedOrigins.{dots_at, from_use, is_name_at, names_before_dot};
 ghost use Rattle.stepped_programs.specs.SwappedOrigins.{parts_before, swapped, swapped_at};
 
 use go_tree::{Decl, Expr, NoMemory, Span};
-use possible_uses::{PartRef, decl_parts};
+use member_uses::possible_uses::{PartRef, decl_parts};
 use std::alloc::Global;
 
 /// The span of a name, or of a name behind a dot.

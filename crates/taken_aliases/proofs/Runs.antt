@@ -19,10 +19,10 @@ use Rattle.order_runs.specs.SameProgram.{SameProgram}
 use Rattle.order_runs.proofs.OrderedSteps.{program-then, program-itself}
 use Rattle.order_runs.proofs.OrderedRuns.{spans-keep-program}
 use Rattle.alias_runs.specs.AliasNext.{IsImportingAlias}
-use Rattle.typed_parts.specs.MarkedRuns.SettledConstants.Laws as settled
-use Rattle.typed_parts.specs.MarkedRuns.SettledConstants.Programs.{IsReady}
-use Rattle.typed_parts.proofs.MarkedRuns.ReadyModules.Typed.{linked_typed}
-use Rattle.typed_parts.proofs.MarkedRuns.TakenNames.Steps as constants
+use Rattle.printed_constants.specs.TypedParts.MarkedRuns.SettledConstants.Laws as settled
+use Rattle.printed_constants.specs.TypedParts.MarkedRuns.SettledConstants.Programs.{IsReady}
+use Rattle.printed_constants.proofs.TypedParts.MarkedRuns.ReadyModules.Typed.{linked_typed}
+use Rattle.printed_constants.proofs.TypedParts.MarkedRuns.TakenNames.Steps as constants
 use Rattle.taken_aliases.specs.Taken.{in_its_place, TakesAlias, TakesEither, of_constant, of_alias, EachTakesEither}
 use Rattle.taken_aliases.proofs.Steps as aliases
 

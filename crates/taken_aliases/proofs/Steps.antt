@@ -36,7 +36,7 @@ use Rattle.alias_runs.specs.QualifiedAliases.AliasUse.{AliasUse, PackagesHold}
 use Rattle.alias_runs.proofs.CalledAliases.PlacedSteps.{HeadersTyped, placed-beside}
 use Rattle.alias_runs.proofs.AliasLinks.{form-link, form-numbers}
 use Rattle.alias_runs.proofs.FormNexts as next
-use Rattle.typed_parts.specs.MarkedRuns.TakenNames.Taken.{site_there}
+use Rattle.printed_constants.specs.TypedParts.MarkedRuns.TakenNames.Taken.{site_there}
 use Rattle.alias_runs.specs.CalledAliases.CalledUse.{IsPlaced}
 use Rattle.taken_aliases.specs.Taken.{IsTaken, in_its_place, of_a_receiver, TakesAlias}
 use Rattle.taken_aliases.specs.AliasReceivers.Steps.{ReceiverSwaps}

@@ -18,7 +18,7 @@ use Rattle.run_rules.specs.Inlining.{ModuleReads, standing_as_read}
 use Rattle.order_runs.specs.RunSteps.RunPackages.{packages_of}
 use Rattle.order_runs.specs.SameProgram.{SameProgram}
 use Rattle.alias_runs.specs.AliasNext.{IsImportingAlias}
-use Rattle.typed_parts.specs.MarkedRuns.SettledConstants.Programs.{IsReady}
+use Rattle.printed_constants.specs.TypedParts.MarkedRuns.SettledConstants.Programs.{IsReady}
 use Rattle.taken_aliases.specs.Taken.{TakesAlias, TakesEither, EachTakesEither}
 
 -- A step that alias_runs speaks of is such a step, whose use has its old place with the imports added.

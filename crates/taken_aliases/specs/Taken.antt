@@ -17,7 +17,7 @@ use Rattle.order_runs.specs.ImportCodes.PackagesMoved.{ImportsStand}
 use Rattle.alias_runs.specs.QualifiedAliases.AliasUse.{AliasUse, AliasUseStands, ImportsHold}
 use Rattle.alias_runs.specs.CalledAliases.CalledUse.{IsPlaced}
 use Rattle.taken_aliases.specs.AliasReceivers.ReceiverUses.{IsReceiverUse}
-use Rattle.typed_parts.specs.MarkedRuns.TakenNames.Taken.{site_there, TakesName}
+use Rattle.printed_constants.specs.TypedParts.MarkedRuns.TakenNames.Taken.{site_there, TakesName}
 
 -- The use is a written type or an expression; or it is the type of a method's receiver, and becomes another name of it.
 pub data IsTaken {S : Type 0} (same : S → S → Bool) (commented : ℕ → ℕ → S → Bool) (rs : List (run.Package S))

@@ -3,7 +3,7 @@
 ghost use Rattle.taken_aliases.specs.Laws.{AliasStepsKeepTheProgram, ImportingAliasesAreTaken, RunsMeanTheSame};
 ghost use Rattle.taken_aliases.specs.Laws.{StepsStayReady, StepsStayTyped};
 
-use typed_parts::marked_runs::constants_keep_cycles;
+use printed_constants::typed_parts::marked_runs::constants_keep_cycles;
 
 /// A step of a run over an alias leaves packages that are one program with those before, also where
 /// its imports put the packages in another order (`steps`); so a step over a constant or an alias

@@ -2,3 +2,5 @@ pub mod InternLaws
 pub mod TypesAtLaws
 pub mod TypeRelations
 pub mod ValueTypes
+pub mod OperandRules
+pub mod ComparableTypes

@@ -7,3 +7,5 @@ pub mod TypesAt
 pub mod TableLaws
 pub mod TypeRelations
 pub mod ValueTypes
+pub mod OperandRules
+pub mod ComparableTypes

@@ -2,8 +2,10 @@
 //! specification, Types; Type identity).
 #![tactic(auto)]
 
+pub mod comparable_types;
 mod laws;
 mod nodes;
+pub mod operand_rules;
 mod same;
 mod table;
 pub mod type_relations;

@@ -7,8 +7,8 @@ use Rattle.go_tree.specs.ScopeNames.Means as scope
 use Rattle.go_tree.specs.GoTypes.Types.{GoType, tuple_of, GoTypes, no_go_types, go_type, FuncType}
 use Rattle.go_tree.specs.GoTypes.Entities as go
 use Rattle.type_table.specs.TypeRelations.Environment.{Environment, defined_types, env_type}
-use Rattle.operand_rules.specs.Constants.{const_at}
-use Rattle.operand_rules.specs.Values.{type_of}
+use Rattle.type_table.specs.OperandRules.Constants.{const_at}
+use Rattle.type_table.specs.OperandRules.Values.{type_of}
 use Rattle.universe_block.specs.Meanings.{entity_of}
 use Rattle.typed_names.specs.declared.entities.Entity.{Entity}
 use Rattle.typed_names.specs.declared.entities.Entity.TheVariants.{Variable, Constant, TypeName, Function, Package}

@@ -6,8 +6,8 @@ ghost use Rattle.go_tree.specs.GoTypes.Entities.{package_of};
 ghost use Rattle.type_table.specs.TypeRelations.Environment.{Environment};
 ghost use Rattle.typed_names.specs.Meanings.{entity_option};
 
-use operand_rules::{ConstId, ValueType};
 use type_table::TypeId;
+use type_table::operand_rules::{ConstId, ValueType};
 use universe_block::PredeclaredEntity;
 
 /// What a name means.

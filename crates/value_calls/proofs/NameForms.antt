@@ -6,7 +6,7 @@ use Rattle.go_tree.specs.GoTypes.Answers.{given, meets}
 use Rattle.go_tree.specs.GoTypes.WellTyped.{well_typed}
 use Rattle.pkg_graph.specs.Package.{Package}
 use Rattle.order_runs.proofs.CycleRuns.FoundUses.NoRecursive.{step-form}
-use Rattle.form_cycles.specs.Bodies.{StandsInFunction}
+use Rattle.literal_cycles.specs.FormCycles.Bodies.{StandsInFunction}
 use Rattle.run_rules.specs.FormTrees.{FormKind, ConstForm, TypeForm, Form}
 use Rattle.run_rules.specs.Naming.{Named, Names, unnamed}
 use Rattle.run_rules.specs.Obstacles.{Obstacle}

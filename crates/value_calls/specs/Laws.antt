@@ -10,7 +10,7 @@ use Rattle.run_rules.specs.Run.{Standing, Logged, Next}
 use Rattle.run_rules.specs.Sites.{MarkRef, Where, is_function, inlinable}
 use Rattle.run_rules.specs.Steps.{At}
 use Rattle.order_runs.specs.CycleRuns.OrderCycles.Orders.{AllOrdered}
-use Rattle.form_cycles.specs.Bodies.{StandsInFunction}
+use Rattle.literal_cycles.specs.FormCycles.Bodies.{StandsInFunction}
 use Rattle.value_calls.specs.Calls.{CallNoFunction, CallsFunction, IsExpressionOrType}
 
 -- In a well-typed program each of whose packages stands in the dependency order, a declaration that is no function or

@@ -22,8 +22,8 @@ use Rattle.declared_types.specs.Members.{member}
 use Rattle.declared_types.proofs.NamesClearer.{block_is_some, each_means, means_append}
 use Rattle.package_blocks.proofs.FirstLemmas.{AllNumbers, all_numbers}
 use Rattle.package_blocks.proofs.HeaderLemmas.{append_none}
-use Rattle.func_headers.specs.Functions.{declaring}
-use Rattle.func_headers.proofs.FirstFunctions.{NamedFirst, first_named}
+use Rattle.package_blocks.specs.FuncHeaders.Functions.{declaring}
+use Rattle.package_blocks.proofs.FuncHeaders.FirstFunctions.{NamedFirst, first_named}
 use Rattle.value_rounds.specs.Values.{is_value, names_value}
 
 pub apart : {A : Type 0} → true ≡ false → A

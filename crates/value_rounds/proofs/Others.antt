@@ -18,11 +18,11 @@ use Rattle.typed_in_place.proofs.Collected.{typed_settled, valued_settled}
 use Rattle.typed_in_place.proofs.SettledNames.{binding_means}
 use Rattle.declared_types.specs.Members.{member}
 use Rattle.package_blocks.proofs.HeaderLemmas.{append_none}
-use Rattle.func_headers.specs.NameRoles.{SameTypes}
-use Rattle.func_headers.specs.Functions.{declaring, is_function, names_function}
-use Rattle.func_headers.proofs.SameTypeLaws.{header_types, resolved_same}
-use Rattle.func_headers.proofs.StayLaws.{types_stay}
-use Rattle.func_headers.proofs.FirstFunctions.{NamedFirst, first_named, same_alone}
+use Rattle.package_blocks.specs.FuncHeaders.NameRoles.{SameTypes}
+use Rattle.package_blocks.specs.FuncHeaders.Functions.{declaring, is_function, names_function}
+use Rattle.package_blocks.proofs.FuncHeaders.SameTypeLaws.{header_types, resolved_same}
+use Rattle.package_blocks.proofs.FuncHeaders.StayLaws.{types_stay}
+use Rattle.package_blocks.proofs.FuncHeaders.FirstFunctions.{NamedFirst, first_named, same_alone}
 use Rattle.value_rounds.specs.Values.{is_value, names_value}
 use Rattle.value_rounds.proofs.Firsts.{apart, at_first, blank_not_declared, first_numbered, not_declared}
 

@@ -20,7 +20,7 @@ use Rattle.declared_types.proofs.NamesClearer.{same_clearer}
 use Rattle.package_blocks.specs.Imports.{views}
 use Rattle.package_blocks.proofs.CollectedLemmas.{order_follows}
 use Rattle.package_blocks.proofs.FirstLemmas.{AllFirst, IsFirst, firsts}
-use Rattle.func_headers.specs.Functions.{names_function, program_of}
+use Rattle.package_blocks.specs.FuncHeaders.Functions.{names_function, program_of}
 use Rattle.value_rounds.specs.Values.{OthersAreDeclared, is_value, names_value}
 use Rattle.value_rounds.specs.Steps.{AllLooked, HasNoMore, IsKnown, StayMeant, ValuesSet, ValuesSoFar, over, rebound}
 use Rattle.value_rounds.specs.Laws.{FoundIsAll, NothingIsFound, StepFinds}

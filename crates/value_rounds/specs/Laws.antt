@@ -6,7 +6,7 @@ use Rattle.go_tree.specs.GoTypes.Programs.{Headed, Program, headed}
 use Rattle.go_tree.specs.GoTypes.Collect.{valued_world}
 use Rattle.pkg_graph.specs.declared.packages.Package.{Package}
 use Rattle.declared_types.specs.Members.{SameMembers}
-use Rattle.func_headers.specs.Functions.{program_of}
+use Rattle.package_blocks.specs.FuncHeaders.Functions.{program_of}
 use Rattle.std.specs.Prelude.{List}
 use Rattle.value_rounds.specs.Values.{OthersAreDeclared, is_value}
 use Rattle.value_rounds.specs.Steps.{AllLooked, IsKnown, StayMeant, ValuesSet, ValuesSoFar}

@@ -9,7 +9,7 @@ use Rattle.go_tree.specs.GoTypes.Programs.{Header, constants, variables, a_type_
 use Rattle.go_tree.specs.GoTypes.TypeDeclarations.{DeclaredTypes}
 use Rattle.go_tree.specs.GoTypes.Collect.{declared_by, types_declared, typed_world, valued_world}
 use Rattle.declared_types.specs.Members.{SameMembers, member}
-use Rattle.func_headers.specs.Functions.{declaring, names_function, numbers_where}
+use Rattle.package_blocks.specs.FuncHeaders.Functions.{declaring, names_function, numbers_where}
 
 module _ {S : Type 0} where
   -- the header of constants or of variables

@@ -1,13 +1,13 @@
 //! What is found of an answer.
 
-ghost use Rattle.operand_answers.specs.Located.{IsThereIfOk};
+ghost use Rattle.operand_modes.specs.OperandAnswers.Located.{IsThereIfOk};
 ghost use Rattle.operand_modes.specs.Operands.{IsOperand};
 
-use checker_tables::Tables;
 use go_tree::const_eval::Const;
-use operand_answers::Located;
 use operand_modes::Operand;
-use operand_rules::{Content, Refusal};
+use operand_modes::checker_tables::Tables;
+use operand_modes::operand_answers::Located;
+use type_table::operand_rules::{Content, Refusal};
 
 /// What is found of an answer.
 #[derive(Clone, Copy, Debug, PartialEq, Eq)]

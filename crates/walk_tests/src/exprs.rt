@@ -3,14 +3,14 @@
 
 ghost use Rattle.std.specs.Prelude.{IfOk};
 ghost use Rattle.go_tree.specs.View.{expr_of};
-ghost use Rattle.operand_answers.specs.Known.{Stands};
+ghost use Rattle.operand_modes.specs.OperandAnswers.Known.{Stands};
 ghost use Rattle.expr_walk.specs.Walked.{IsWalked};
 
 use crate::answers::{Found, shown};
 use crate::trees::{behind, between, call, member, name};
-use checker_tables::Tables;
 use expr_walk::expr;
 use go_tree::{BinOp, Expr, NoMemory, UnOp};
+use operand_modes::checker_tables::Tables;
 use std::alloc::Global;
 use std::test::Fail;
 use typed_names::{Block, Blocks, Locals, Scope};

@@ -6,7 +6,7 @@ use Rattle.std.proofs.Common.{arith}
 use Rattle.go_tree.specs.declared.exprs.Rest.TheVariants.{Plain}
 use Rattle.go_tree.specs.Tree.{NameAt, TypeExpr, named, pointer, slice_type, Expr, ident, selector, call, type_operand, star, no_exprs, expr_and, var_decl, no_specs, spec}
 use Rattle.go_tree.specs.File.{Decl, values, types, File, ImportDecl}
-use Rattle.module_files.specs.Internal.{passes}
+use Rattle.pkg_graph.specs.ModuleFiles.Internal.{passes}
 use Rattle.pkg_graph.specs.Package.{SourceTree, Package}
 use Rattle.go_translation.specs.Packages.{sources}
 use Rattle.go_translation.specs.SameMeaning.{Packages, SameMeaning}

@@ -4,7 +4,7 @@
 use Rattle.std.specs.Prelude.{refl, ℕ, Bool, true, false, List, [], ◌∷◌, Some, None, codes, nat_eq}
 use Rattle.go_tree.specs.Tree.{NameAt, TypeExpr, named, slice_type, no_stmts}
 use Rattle.go_tree.specs.File.{Decl, types, func, File, ImportDecl}
-use Rattle.module_files.specs.Internal.{passes}
+use Rattle.pkg_graph.specs.ModuleFiles.Internal.{passes}
 use Rattle.pkg_graph.specs.Package.{SourceTree, Package}
 use Rattle.go_translation.specs.Packages.{sources}
 use Rattle.go_translation.specs.SameMeaning.{Packages, SameMeaning}

@@ -3,7 +3,7 @@ use Rattle.std.specs.Prelude.{◌≡◌, refl, ℕ, Bool, true, false, List, [],
 use mathlib.Core.Path.{ap, sym, ◌∙◌, subst}
 use Rattle.std.proofs.Common.{arith}
 use Rattle.pkg_graph.specs.Package.{Package}
-use Rattle.import_rules.specs.Needs.{serving, avoided}
+use Rattle.run_rules.specs.ImportRules.Needs.{serving, avoided}
 use Rattle.run_rules.specs.Surroundings.{Place}
 use Rattle.run_rules.specs.Sites.{Where, qualifier}
 use Rattle.run_rules.specs.Naming.{Named, names_by, name_added, imports_added, fresh_name, package_path, own_name, names_here, environment_here, added_import, named_packages, unnamed, unnamed_package, unnamed_in, new_first}

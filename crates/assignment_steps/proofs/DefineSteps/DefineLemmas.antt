@@ -13,10 +13,10 @@ use Rattle.go_tree.specs.GoTypes.Operands.{Typed}
 use Rattle.go_tree.specs.GoTypes.Declarations.{assigns_to, defined_by, variable_entity}
 use Rattle.type_table.specs.TypeRelations.Environment.{Environment}
 use Rattle.typed_names.proofs.TypeExprs.NewNames.{drop_all, drop_item}
-use Rattle.operand_rules.specs.declared.values.Value.{Value}
-use Rattle.operand_rules.specs.declared.values.Refusal.{Refusal}
-use Rattle.operand_rules.specs.declared.values.Refusal.TheVariants.{NotTyped, NoMemory}
-use Rattle.operand_rules.specs.Values.{typed_of}
+use Rattle.type_table.specs.declared.operand_rules.values.Value.{Value}
+use Rattle.type_table.specs.declared.operand_rules.values.Refusal.{Refusal}
+use Rattle.type_table.specs.declared.operand_rules.values.Refusal.TheVariants.{NotTyped, NoMemory}
+use Rattle.type_table.specs.OperandRules.Values.{typed_of}
 use Rattle.universe_block.specs.declared.block.PredeclaredEntity.{PredeclaredEntity}
 use Rattle.universe_block.specs.declared.block.PredeclaredEntity.TheVariants.{TypeName as a_type, Truth as a_truth, Iota as an_iota, Nil as a_nil, Function as a_function}
 use Rattle.universe_block.specs.Meanings.{entity_of}

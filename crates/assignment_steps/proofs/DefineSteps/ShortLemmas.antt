@@ -9,10 +9,10 @@ use Rattle.go_tree.specs.GoTypes.Entities.{Binds, variable, constant, stand_in, 
 use Rattle.go_tree.specs.GoTypes.Operands.{Typed}
 use Rattle.go_tree.specs.GoTypes.Declarations.{Declared, assigns_to, defined_by, some_declared}
 use Rattle.type_table.specs.TypeRelations.Environment.{Environment}
-use Rattle.operand_rules.specs.declared.values.Value.{Value}
-use Rattle.operand_rules.specs.declared.values.Refusal.{Refusal}
-use Rattle.operand_rules.specs.declared.values.Refusal.TheVariants.{NotTyped, NoMemory}
-use Rattle.operand_rules.specs.Values.{typed_of}
+use Rattle.type_table.specs.declared.operand_rules.values.Value.{Value}
+use Rattle.type_table.specs.declared.operand_rules.values.Refusal.{Refusal}
+use Rattle.type_table.specs.declared.operand_rules.values.Refusal.TheVariants.{NotTyped, NoMemory}
+use Rattle.type_table.specs.OperandRules.Values.{typed_of}
 use Rattle.control_steps.specs.RightSides.Values.{AreAlike, GivesValuesAlike, SameValue, SameValues}
 use Rattle.control_steps.proofs.RightSides.AlikeValues.{fits_alike}
 use Rattle.assignment_steps.proofs.SpecSteps.SpecLemmas.{variable_alike}

@@ -15,18 +15,18 @@ use Rattle.go_tree.specs.GoTypes.Operators.{binary_of}
 use Rattle.go_tree.specs.GoTypes.Statements as statement
 use Rattle.go_tree.specs.GoTypes.Statements.{one_more, stores, target_at, updates}
 use Rattle.type_table.specs.TypeRelations.Environment.{Environment}
-use Rattle.operand_rules.specs.declared.values.Value.{Value}
-use Rattle.operand_rules.specs.declared.values.Refusal.{Refusal}
-use Rattle.operand_rules.specs.declared.values.Refusal.TheVariants.{NotTyped, NoMemory}
-use Rattle.operand_rules.specs.Values.{IsGiven, SameContent, content_of, type_of}
+use Rattle.type_table.specs.declared.operand_rules.values.Value.{Value}
+use Rattle.type_table.specs.declared.operand_rules.values.Refusal.{Refusal}
+use Rattle.type_table.specs.declared.operand_rules.values.Refusal.TheVariants.{NotTyped, NoMemory}
+use Rattle.type_table.specs.OperandRules.Values.{IsGiven, SameContent, content_of, type_of}
 use Rattle.operator_rules.specs.AccessRules.Places.{place_of}
 use Rattle.operand_modes.specs.declared.modes.Operand.TheVariants.{Single}
 use Rattle.operand_modes.specs.Operands.{SameOperand, operand_at}
-use Rattle.operand_laws.specs.Alike.{SameAnswer}
-use Rattle.operand_laws.proofs.ContentLemmas.{operand_same}
-use Rattle.operand_answers.proofs.OperatorSteps.AlikeLemmas.{binary_alike}
-use Rattle.operand_answers.specs.declared.located.Located.{Located}
-use Rattle.operand_answers.specs.Located.{GivesAt}
+use Rattle.operand_modes.specs.OperandLaws.Alike.{SameAnswer}
+use Rattle.operand_modes.proofs.OperandLaws.ContentLemmas.{operand_same}
+use Rattle.operand_modes.proofs.OperandAnswers.OperatorSteps.AlikeLemmas.{binary_alike}
+use Rattle.operand_modes.specs.declared.operand_answers.located.Located.{Located}
+use Rattle.operand_modes.specs.OperandAnswers.Located.{GivesAt}
 use Rattle.control_steps.specs.Ends.{EndsAs}
 use Rattle.control_steps.specs.RightSides.Values.{SameValue}
 use Rattle.assignment_steps.proofs.TargetLemmas.{stores_alike, target_alike}

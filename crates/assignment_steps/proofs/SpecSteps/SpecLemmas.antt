@@ -16,18 +16,18 @@ use Rattle.go_tree.specs.GoTypes.Operands.{Operand, value, several, a_type, a_fu
 use Rattle.go_tree.specs.GoTypes.Declarations.{bind_all, bind_each, constant_entity, constants_declared, variable_entity, variables_declared}
 use Rattle.type_table.specs.declared.nodes.TypeId.{TypeId}
 use Rattle.type_table.specs.TypeRelations.Environment.{Environment}
-use Rattle.operand_rules.specs.declared.values.Value.{Value}
-use Rattle.operand_rules.specs.declared.values.Refusal.{Refusal}
-use Rattle.operand_rules.specs.declared.values.Refusal.TheVariants.{NotTyped, NoMemory}
-use Rattle.operand_rules.specs.Values.{typed_of}
+use Rattle.type_table.specs.declared.operand_rules.values.Value.{Value}
+use Rattle.type_table.specs.declared.operand_rules.values.Refusal.{Refusal}
+use Rattle.type_table.specs.declared.operand_rules.values.Refusal.TheVariants.{NotTyped, NoMemory}
+use Rattle.type_table.specs.OperandRules.Values.{typed_of}
 use Rattle.operator_rules.specs.Settling.{typed_option}
 use Rattle.operand_modes.specs.Lists.{GivesValues}
 use Rattle.operand_modes.specs.Operands.{operands_at}
-use Rattle.operand_laws.specs.Alike.{AllSame}
+use Rattle.operand_modes.specs.OperandLaws.Alike.{AllSame}
 use Rattle.call_laws.proofs.ValueLists.{SameSome, typed_same}
 use Rattle.typed_names.specs.declared.entities.Entity.{Entity}
-use Rattle.operand_answers.specs.declared.lists.OperandList.{OperandList}
-use Rattle.operand_answers.specs.Lists.{GivesAll}
+use Rattle.operand_modes.specs.declared.operand_answers.lists.OperandList.{OperandList}
+use Rattle.operand_modes.specs.OperandAnswers.Lists.{GivesAll}
 use Rattle.control_steps.specs.RightSides.Values.{AreAlike, GivesValuesAlike, SameValue, SameValues}
 use Rattle.control_steps.proofs.RightSides.AlikeValues.{fits_alike, settled_alike}
 use Rattle.control_steps.specs.DeclarationSteps.Entities.{GivesBinds}

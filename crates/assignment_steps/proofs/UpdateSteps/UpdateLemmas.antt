@@ -12,19 +12,19 @@ use Rattle.go_tree.specs.GoTypes.Operators.{binary_of}
 use Rattle.go_tree.specs.GoTypes.Statements as statement
 use Rattle.go_tree.specs.GoTypes.Statements.{store, stores, target_at, updates}
 use Rattle.type_table.specs.TypeRelations.Environment.{Environment}
-use Rattle.operand_rules.specs.declared.values.Refusal.{Refusal}
-use Rattle.operand_rules.specs.declared.values.Refusal.TheVariants.{NotTyped, NoMemory}
-use Rattle.operand_laws.specs.Alike.{AllSame, SameAnswer}
-use Rattle.operand_laws.proofs.ContentLemmas.{operand_same}
-use Rattle.operand_answers.proofs.OperatorSteps.AlikeLemmas.{binary_alike}
+use Rattle.type_table.specs.declared.operand_rules.values.Refusal.{Refusal}
+use Rattle.type_table.specs.declared.operand_rules.values.Refusal.TheVariants.{NotTyped, NoMemory}
+use Rattle.operand_modes.specs.OperandLaws.Alike.{AllSame, SameAnswer}
+use Rattle.operand_modes.proofs.OperandLaws.ContentLemmas.{operand_same}
+use Rattle.operand_modes.proofs.OperandAnswers.OperatorSteps.AlikeLemmas.{binary_alike}
 use Rattle.operator_rules.specs.AccessRules.Places.{place_of}
 use Rattle.operand_modes.specs.Operands.{SameOperand, operand_at, operands_at}
-use Rattle.checker_tables.specs.declared.tables.Tables.{Tables}
-use Rattle.checker_tables.specs.Ready.{Keeps}
-use Rattle.operand_answers.specs.declared.located.Located.{Located}
-use Rattle.operand_answers.specs.declared.lists.OperandList.{OperandList}
-use Rattle.operand_answers.specs.Lists.{GivesAll}
-use Rattle.operand_answers.specs.Located.{GivesAt, IsLocated, IsThere}
+use Rattle.operand_modes.specs.declared.checker_tables.tables.Tables.{Tables}
+use Rattle.operand_modes.specs.CheckerTables.Ready.{Keeps}
+use Rattle.operand_modes.specs.declared.operand_answers.located.Located.{Located}
+use Rattle.operand_modes.specs.declared.operand_answers.lists.OperandList.{OperandList}
+use Rattle.operand_modes.specs.OperandAnswers.Lists.{GivesAll}
+use Rattle.operand_modes.specs.OperandAnswers.Located.{GivesAt, IsLocated, IsThere}
 use Rattle.control_steps.specs.Ends.{EndsAs}
 use Rattle.control_steps.specs.RightSides.Values.{SameValue}
 use Rattle.assignment_steps.specs.declared.targets.Target.{Target}

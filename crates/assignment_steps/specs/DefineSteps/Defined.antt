@@ -10,11 +10,11 @@ use Rattle.go_tree.specs.GoTypes.Entities.{Binds, is_declared_here, meaning}
 use Rattle.go_tree.specs.GoTypes.Operands.{Typed}
 use Rattle.go_tree.specs.GoTypes.Declarations.{Declared, assigns_to, bound_names, variable_entity}
 use Rattle.type_table.specs.TypeRelations.Environment.{Environment}
-use Rattle.operand_rules.specs.declared.values.Refusal.{Refusal}
-use Rattle.operand_rules.specs.declared.values.Refusal.TheVariants.{NotTyped, NoMemory}
+use Rattle.type_table.specs.declared.operand_rules.values.Refusal.{Refusal}
+use Rattle.type_table.specs.declared.operand_rules.values.Refusal.TheVariants.{NotTyped, NoMemory}
 use Rattle.typed_names.specs.declared.entities.Entity.{Entity}
 use Rattle.typed_names.specs.Meanings.{entity_option}
-use Rattle.operand_answers.specs.Known.{IsEntity}
+use Rattle.operand_modes.specs.OperandAnswers.Known.{IsEntity}
 
 -- a name with its value: a new variable, or nothing new where the value is assigned to what the name means
 abbrev pub one_defined : List go_defined.Defined → go.Env → List ℕ → Typed → Option (Option go.Entity)

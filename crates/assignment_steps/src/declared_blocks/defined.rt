@@ -8,8 +8,8 @@ ghost use Rattle.go_tree.specs.GoTypes.Entities as go;
 ghost use Rattle.go_tree.specs.ScopeNames.FreeNames.{names_of};
 ghost use Rattle.type_table.specs.TypeRelations.Environment.{Environment};
 ghost use Rattle.typed_names.specs.Meanings.{Names, entity_option};
-ghost use Rattle.checker_tables.specs.declared.tables.Tables.{Tables};
-ghost use Rattle.operand_answers.specs.Known.{Stands};
+ghost use Rattle.operand_modes.specs.declared.checker_tables.tables.Tables.{Tables};
+ghost use Rattle.operand_modes.specs.OperandAnswers.Known.{Stands};
 ghost use Rattle.control_steps.specs.LocalBlocks.Places.{IsPlace, IsWithin};
 ghost use Rattle.assignment_steps.specs.DefineSteps.Defined.{AreNew, IsNew, bind_if, news_at};
 

@@ -7,19 +7,19 @@ ghost use Rattle.go_tree.specs.GoTypes.Declarations as go;
 ghost use Rattle.go_tree.specs.GoTypes.Entities.{Env};
 ghost use Rattle.go_tree.specs.ScopeNames.FreeNames.{names_of};
 ghost use Rattle.type_table.specs.TypeRelations.Environment.{defined_types};
-ghost use Rattle.operand_rules.specs.Values.{typed_of};
+ghost use Rattle.type_table.specs.OperandRules.Values.{typed_of};
 ghost use Rattle.operator_rules.specs.AccessRules.Functions.{AreValues};
-ghost use Rattle.operand_answers.specs.Known.{Stands};
+ghost use Rattle.operand_modes.specs.OperandAnswers.Known.{Stands};
 ghost use Rattle.control_steps.specs.LocalBlocks.Places.{IsPlace};
 ghost use Rattle.assignment_steps.specs.DefineSteps.Defined.{GivesDefined};
 
 use crate::define_steps::names::one_defined;
-use checker_tables::Tables;
 use control_steps::LocalBlock;
 use go_tree::NameAt;
-use operand_rules::{Refusal, Value};
+use operand_modes::checker_tables::Tables;
 use std::alloc::Global;
 use std::marker::Model;
+use type_table::operand_rules::{Refusal, Value};
 use typed_names::{Blocks, Entity, Scope};
 
 /// What names declare, in order; none where a name is assigned to.

@@ -4,17 +4,17 @@ ghost use Rattle.std.specs.Prelude.{◌≡◌, Some};
 ghost use Rattle.go_tree.specs.GoTypes.Declarations as go;
 ghost use Rattle.go_tree.specs.GoTypes.Entities.{Env, meaning};
 ghost use Rattle.type_table.specs.TypeRelations.Environment.{defined_types};
-ghost use Rattle.operand_rules.specs.Values.{IsValue, typed_of};
+ghost use Rattle.type_table.specs.OperandRules.Values.{IsValue, typed_of};
 ghost use Rattle.typed_names.specs.Known.{HasTypes};
 ghost use Rattle.typed_names.specs.Meanings.{entity_at};
 ghost use Rattle.typed_names.specs.Scopes.{env_at};
-ghost use Rattle.operand_answers.specs.Known.{Stands};
+ghost use Rattle.operand_modes.specs.OperandAnswers.Known.{Stands};
 ghost use Rattle.control_steps.specs.LocalBlocks.Places.{IsPlace};
 ghost use Rattle.assignment_steps.specs.DefineSteps.Defined.{GivesOne, one_defined};
 
-use checker_tables::Tables;
 use control_steps::{Declares, LocalBlock, declared_entity};
-use operand_rules::{Refusal, Value, fits};
+use operand_modes::checker_tables::Tables;
+use type_table::operand_rules::{Refusal, Value, fits};
 use typed_names::{Blocks, Entity, Scope};
 
 /// Whether a value may be assigned to what a name means: to variables alone.

@@ -10,20 +10,20 @@ ghost use Rattle.go_tree.specs.GoTypes.Operands.{Typed};
 ghost use Rattle.go_tree.specs.ScopeNames.FreeNames.{names_of};
 ghost use Rattle.type_table.specs.TypeRelations.Environment.{Environment, defined_types};
 ghost use Rattle.typed_names.specs.Meanings.{entity_option};
-ghost use Rattle.operand_answers.specs.Known.{Stands};
+ghost use Rattle.operand_modes.specs.OperandAnswers.Known.{Stands};
 ghost use Rattle.control_steps.specs.RightSides.Values.{AreValuesIfOk, GivesValuesAlike};
 ghost use Rattle.control_steps.specs.LocalBlocks.Places.{IsPlace};
 ghost use Rattle.assignment_steps.specs.DefineSteps.Defined.{GivesDefined, GivesShort, bind_if, news_at};
 
 use crate::define_steps::lists::{DefinedList, all_defined};
-use checker_tables::Tables;
 use control_steps::LocalBlock;
 use go_tree::{NameAt, NameAtList};
 use jump_rules::stand_once;
 use operand_modes::ValueList;
-use operand_rules::Refusal;
+use operand_modes::checker_tables::Tables;
 use operator_rules::access_rules::is_blank;
 use std::alloc::Global;
+use type_table::operand_rules::Refusal;
 use typed_names::{Blocks, Entity, Scope};
 
 /// Whether a name is new and not `_`.

@@ -6,22 +6,22 @@ ghost use Rattle.go_tree.specs.GoTypes.Entities as go_entity;
 ghost use Rattle.go_tree.specs.GoTypes.Operands as go_operand;
 ghost use Rattle.go_tree.specs.GoTypes.Statements as go;
 ghost use Rattle.type_table.specs.TypeRelations.Environment.{defined_types};
-ghost use Rattle.operand_rules.specs.Values.{Gives};
+ghost use Rattle.type_table.specs.OperandRules.Values.{Gives};
 ghost use Rattle.operator_rules.specs.AccessRules.Places.{place_of};
 ghost use Rattle.operand_modes.specs.Operands.{operand_at};
-ghost use Rattle.checker_tables.specs.Ready.{AreReady, Keeps};
-ghost use Rattle.operand_answers.specs.Located.{GivesAt, IsThere, IsThereIfOk};
+ghost use Rattle.operand_modes.specs.CheckerTables.Ready.{AreReady, Keeps};
+ghost use Rattle.operand_modes.specs.OperandAnswers.Located.{GivesAt, IsThere, IsThereIfOk};
 ghost use Rattle.control_steps.specs.Ends.{EndsAs};
 
 use crate::update_steps::is_updated;
-use checker_tables::Tables;
 use control_steps::ends_if;
 use go_tree::const_eval::{Const, Kind};
 use go_tree::{BinOp, NoMemory};
-use operand_answers::Located;
 use operand_modes::Operand;
-use operand_rules::{Refusal, Value, ValueType, folded};
+use operand_modes::checker_tables::Tables;
+use operand_modes::operand_answers::Located;
 use std::alloc::{AllocError, Global};
+use type_table::operand_rules::{Refusal, Value, ValueType, folded};
 
 /// The operator by which `++` or `--` updates its operand.
 fn operator(up: bool) -> BinOp
@@ -31,7 +31,7 @@ fn operator(up: bool) -> BinOp
 }
 
 /// The untyped constant 1.
-#[tactic(auto, using(checker_tables::proofs::ReadyLemmas::types_kept))]
+#[tactic(auto, using(operand_modes::proofs::CheckerTables::ReadyLemmas::types_kept))]
 fn one(tables: &mut Tables) -> Result<Value, Refusal>
     requires ready { AreReady tables.old }
     ensures ready { AreReady tables.new }

@@ -11,26 +11,26 @@ ghost use Rattle.go_tree.specs.GoTypes.Operands as go_operand;
 ghost use Rattle.go_tree.specs.GoTypes.Types.{GoType};
 ghost use Rattle.go_tree.specs.ScopeNames.FreeNames.{names_of};
 ghost use Rattle.type_table.specs.TypeRelations.Environment.{defined_types};
-ghost use Rattle.operand_rules.specs.declared.values.ValueType.TheVariants.{Typed};
-ghost use Rattle.operand_rules.specs.Values.{IsType};
+ghost use Rattle.type_table.specs.declared.operand_rules.values.ValueType.TheVariants.{Typed};
+ghost use Rattle.type_table.specs.OperandRules.Values.{IsType};
 ghost use Rattle.operator_rules.specs.Settling.{typed_option};
 ghost use Rattle.typed_names.specs.declared.scopes.Scope.{Scope};
 ghost use Rattle.typed_names.specs.Meanings.{Names};
 ghost use Rattle.operand_modes.specs.Operands.{AreOperands, operands_at};
-ghost use Rattle.checker_tables.specs.Ready.{AreReady};
-ghost use Rattle.operand_answers.specs.Lists.{AreThereIfOk, GivesAll};
+ghost use Rattle.operand_modes.specs.CheckerTables.Ready.{AreReady};
+ghost use Rattle.operand_modes.specs.OperandAnswers.Lists.{AreThereIfOk, GivesAll};
 ghost use Rattle.control_steps.specs.LocalBlocks.Places.{IsPlace};
 ghost use Rattle.control_steps.specs.DeclarationSteps.Entities.{GivesBinds};
 ghost use Rattle.assignment_steps.specs.SpecSteps.Specs.{GivesConstants, GivesWritten, IsWrittenIfOk};
 
-use checker_tables::Tables;
 use control_steps::{Declares, EntityList, LocalBlock, declared_entities, may_declare};
 use go_tree::NameAtList;
-use operand_answers::OperandList;
+use operand_modes::checker_tables::Tables;
+use operand_modes::operand_answers::OperandList;
 use operand_modes::{Operand, values};
-use operand_rules::Refusal;
 use std::alloc::Global;
 use type_table::TypeId;
+use type_table::operand_rules::Refusal;
 
 /// What so many names declare, each with the constant that an operand is.
 fn operand_constants(

@@ -10,26 +10,26 @@ ghost use Rattle.go_tree.specs.GoTypes.Operands as go_operand;
 ghost use Rattle.go_tree.specs.GoTypes.Types.{GoType};
 ghost use Rattle.go_tree.specs.ScopeNames.FreeNames.{names_of};
 ghost use Rattle.type_table.specs.TypeRelations.Environment.{defined_types};
-ghost use Rattle.operand_rules.specs.declared.values.ValueType.TheVariants.{Typed};
-ghost use Rattle.operand_rules.specs.Values.{IsType};
+ghost use Rattle.type_table.specs.declared.operand_rules.values.ValueType.TheVariants.{Typed};
+ghost use Rattle.type_table.specs.OperandRules.Values.{IsType};
 ghost use Rattle.operator_rules.specs.Settling.{typed_option};
 ghost use Rattle.typed_names.specs.declared.scopes.Scope.{Scope};
 ghost use Rattle.typed_names.specs.Meanings.{Names};
-ghost use Rattle.checker_tables.specs.Ready.{AreReady};
+ghost use Rattle.operand_modes.specs.CheckerTables.Ready.{AreReady};
 ghost use Rattle.control_steps.specs.RightSides.Values.{AreValuesIfOk, GivesValuesAlike};
 ghost use Rattle.control_steps.specs.LocalBlocks.Places.{IsPlace};
 ghost use Rattle.control_steps.specs.DeclarationSteps.Entities.{GivesBinds};
 ghost use Rattle.assignment_steps.specs.SpecSteps.Specs.{GivesVariables, GivesWritten, IsWrittenIfOk};
 
-use checker_tables::Tables;
 use control_steps::{
     Declares, EntityList, LocalBlock, declared_entities, may_declare, zero_entities,
 };
 use go_tree::NameAtList;
 use operand_modes::ValueList;
-use operand_rules::Refusal;
+use operand_modes::checker_tables::Tables;
 use std::alloc::Global;
 use type_table::TypeId;
+use type_table::operand_rules::Refusal;
 
 /// What so many names declare that have the zero values of the type that is written.
 fn zero_variables(

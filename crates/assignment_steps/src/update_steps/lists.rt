@@ -9,20 +9,20 @@ ghost use Rattle.type_table.specs.TypeRelations.Environment.{defined_types};
 ghost use Rattle.operator_rules.specs.AccessRules.Places.{place_of};
 ghost use Rattle.operand_modes.specs.Operands.{AreOperands, operands_at};
 ghost use Rattle.composite_steps.specs.BuiltinSteps.Arguments.{the_only};
-ghost use Rattle.checker_tables.specs.Ready.{AreReady, Keeps};
-ghost use Rattle.operand_answers.specs.Lists.{AllStandAt, GivesAll};
+ghost use Rattle.operand_modes.specs.CheckerTables.Ready.{AreReady, Keeps};
+ghost use Rattle.operand_modes.specs.OperandAnswers.Lists.{AllStandAt, GivesAll};
 ghost use Rattle.control_steps.specs.Ends.{EndsAs};
 ghost use Rattle.control_steps.specs.RightSides.Values.{StandIfOk};
 
 use crate::update_steps::updates::is_updated;
-use checker_tables::Tables;
 use control_steps::ends_if;
 use go_tree::{BinOp, NoMemory};
-use operand_answers::OperandList;
 use operand_modes::Operand;
-use operand_rules::Refusal;
+use operand_modes::checker_tables::Tables;
+use operand_modes::operand_answers::OperandList;
 use operator_rules::access_rules::Place;
 use std::alloc::Global;
+use type_table::operand_rules::Refusal;
 
 /// The only place of a list.
 #[tactic(auto, using(composite_steps::proofs::BuiltinSteps::ArgumentLemmas::one_item, composite_steps::proofs::BuiltinSteps::ArgumentLemmas::not_one))]

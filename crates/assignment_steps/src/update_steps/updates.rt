@@ -9,19 +9,19 @@ ghost use Rattle.go_tree.specs.GoTypes.Statements as go;
 ghost use Rattle.type_table.specs.TypeRelations.Environment.{defined_types};
 ghost use Rattle.operator_rules.specs.AccessRules.Places.{place_of};
 ghost use Rattle.operand_modes.specs.Operands.{IsOperand, operand_at};
-ghost use Rattle.checker_tables.specs.Ready.{AreReady, Keeps};
-ghost use Rattle.operand_answers.specs.Located.{GivesAt, IsThereIfOk, StandsAt};
+ghost use Rattle.operand_modes.specs.CheckerTables.Ready.{AreReady, Keeps};
+ghost use Rattle.operand_modes.specs.OperandAnswers.Located.{GivesAt, IsThereIfOk, StandsAt};
 ghost use Rattle.assignment_steps.specs.Targets.{GivesTarget, IsTarget, IsTargetIfOk, target_of};
 
 use crate::{Target, stored_at, stores};
-use checker_tables::Tables;
 use control_steps::unmet;
 use go_tree::{BinOp, NoMemory};
-use operand_answers::{Located, binary};
+use operand_modes::checker_tables::Tables;
+use operand_modes::operand_answers::{Located, binary};
 use operand_modes::{Operand, single_value};
-use operand_rules::Refusal;
 use operator_rules::access_rules::Place;
 use std::alloc::Global;
+use type_table::operand_rules::Refusal;
 
 /// Whether an operand is a value that may be stored there.
 fn stores_operand(tables: &Tables, target: Target, x: Operand) -> bool

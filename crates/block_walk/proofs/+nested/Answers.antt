@@ -10,7 +10,7 @@ use Rattle.go_tree.specs.GoTypes.Statements.{choice, has_last, is_default, tag_o
 use Rattle.go_tree.specs.GoTypes.Typing as go
 use Rattle.assignment_steps.proofs.DeclaredBlocks.BlockLemmas.{within_on}
 use Rattle.control_steps.specs.LocalBlocks.Places.{IsWithin}
-use Rattle.operand_answers.proofs.KeptLemmas.{keeps_on, value_on}
+use Rattle.operand_modes.proofs.OperandAnswers.KeptLemmas.{keeps_on, value_on}
 use Rattle.jump_rules.specs.UsedLocals.Used.{and_names, used_of}
 use Rattle.statement_walk.proofs.SimpleWalk.ConstantGroups.MemberLemmas.{place_kept}
 use Rattle.statement_walk.proofs.SimpleWalk.SimpleLemmas.{types_kept}
@@ -18,7 +18,7 @@ use Rattle.block_walk.specs.Answers.{GivesEnds, GivesLeft, GivesStatement, Stays
 use Rattle.block_walk.specs.Arms.{ArmsRead, GivesArm, innermost_first, opened}
 use Rattle.block_walk.specs.Blocks.{BlockRead}
 use Rattle.block_walk.specs.Cases.{GivesTag, IsTagIfOk}
-use Rattle.operand_answers.specs.Known.{Stands}
+use Rattle.operand_modes.specs.OperandAnswers.Known.{Stands}
 use Rattle.block_walk.specs.Walked.{AreWalkedArms, AreWalkedCases, AreWalkedStmts, IsWalkedStmt}
 use Rattle.block_walk.proofs.ArmLemmas.{answer_well, arm_read, arm_smaller, arm_walked, arms_end, arms_more, arms_refused, arms_start, arms_well, if_ends, opened_well}
 use Rattle.block_walk.proofs.BlockLemmas.{block_end, block_more, block_refused, block_start, stmt_smaller, stmt_walked}

@@ -24,9 +24,9 @@ use Rattle.declared_types.specs.Members.{SameMembers, member}
 use Rattle.declared_types.proofs.Found.{member_read}
 use Rattle.package_blocks.specs.declared.headers.PackageHeader.{PackageHeader}
 use Rattle.package_blocks.specs.Headers.{AreHeaders, header_of, listed_of}
-use Rattle.func_headers.specs.Functions.{declaring, names_function}
-use Rattle.func_headers.proofs.FirstFunctions.{NamedFirst, first_named}
-use Rattle.operand_answers.specs.Known.{AllHaveValues, HasValue, HaveValues}
+use Rattle.package_blocks.specs.FuncHeaders.Functions.{declaring, names_function}
+use Rattle.package_blocks.proofs.FuncHeaders.FirstFunctions.{NamedFirst, first_named}
+use Rattle.operand_modes.specs.OperandAnswers.Known.{AllHaveValues, HasValue, HaveValues}
 use Rattle.value_rounds.specs.Values.{OthersAreDeclared}
 use Rattle.value_rounds.proofs.Firsts.{first_at, not_declared}
 use Rattle.initial_values.specs.ValueBlocks.Copies.{AreAllCopied, NoConstants, NoneConstants, SameAt, is_constant}

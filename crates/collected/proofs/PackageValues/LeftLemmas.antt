@@ -14,8 +14,8 @@ use Rattle.declared_types.specs.Members.{Below, SameMembers}
 use Rattle.declared_types.proofs.NamesClearer.{keeps_none, same_clearer}
 use Rattle.package_blocks.specs.declared.headers.PackageHeader.{PackageHeader}
 use Rattle.package_blocks.specs.Headers.{AreHeaders, Listed, a_header, header_of, listed_of, no_headers}
-use Rattle.func_headers.specs.Functions.{numbers_where, program_of}
-use Rattle.checker_tables.specs.declared.tables.Tables.{Tables}
+use Rattle.package_blocks.specs.FuncHeaders.Functions.{numbers_where, program_of}
+use Rattle.operand_modes.specs.declared.checker_tables.tables.Tables.{Tables}
 use Rattle.value_rounds.specs.Values.{OthersAreDeclared, ValuesAreDeclared, is_refused_value, is_value}
 use Rattle.value_rounds.specs.Steps.{HasNoMore}
 use Rattle.value_rounds.proofs.Kept.{value_keeps}

@@ -10,10 +10,10 @@ use Rattle.typed_names.specs.declared.scopes.Scope.{Scope}
 use Rattle.typed_names.specs.Meanings.{Names, world_at}
 use Rattle.package_blocks.specs.declared.headers.PackageHeader.{PackageHeader}
 use Rattle.package_blocks.specs.Headers.{AreHeaders, IsHeader, header_of, listed_of}
-use Rattle.func_headers.specs.Functions.{program_of}
-use Rattle.checker_tables.specs.declared.tables.Tables.{Tables}
-use Rattle.checker_tables.specs.Ready.{AreReady, Keeps}
-use Rattle.operand_answers.proofs.KeptLemmas.{keeps_on, keeps_self}
+use Rattle.package_blocks.specs.FuncHeaders.Functions.{program_of}
+use Rattle.operand_modes.specs.declared.checker_tables.tables.Tables.{Tables}
+use Rattle.operand_modes.specs.CheckerTables.Ready.{AreReady, Keeps}
+use Rattle.operand_modes.proofs.OperandAnswers.KeptLemmas.{keeps_on, keeps_self}
 use Rattle.value_rounds.specs.Values.{is_value}
 use Rattle.value_rounds.specs.Steps.{AllLooked, HasNoMore, IsKnown, StayMeant, ValuesSoFar}
 use Rattle.value_rounds.proofs.SoFar.{step_finds}

@@ -8,10 +8,10 @@ use Rattle.typed_names.specs.declared.entities.Entity.{Entity}
 use Rattle.typed_names.specs.Meanings.{Names, block_at, entity_at, entity_option, world_at}
 use Rattle.declared_types.specs.Members.{member}
 use Rattle.declared_types.proofs.Found.{member_read, nowhere}
-use Rattle.checker_tables.specs.declared.tables.Tables.{Tables}
-use Rattle.checker_tables.specs.Ready.{AreReady, Keeps}
-use Rattle.operand_answers.specs.Known.{Stands}
-use Rattle.operand_answers.proofs.KeptLemmas.{env_kept, stands_kept}
+use Rattle.operand_modes.specs.declared.checker_tables.tables.Tables.{Tables}
+use Rattle.operand_modes.specs.CheckerTables.Ready.{AreReady, Keeps}
+use Rattle.operand_modes.specs.OperandAnswers.Known.{Stands}
+use Rattle.operand_modes.proofs.OperandAnswers.KeptLemmas.{env_kept, stands_kept}
 use Rattle.initial_values.specs.ValueEntities.Entities.{bound}
 use Rattle.value_rounds.specs.Steps.{over}
 use Rattle.initial_values.specs.ValueBlocks.Values.{AreThere, Rebinds}

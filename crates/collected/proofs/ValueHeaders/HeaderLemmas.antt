@@ -10,8 +10,8 @@ use Rattle.go_tree.specs.GoTypes.Programs.{Header, Headed, Program, header_names
 use Rattle.go_tree.specs.GoTypes.Collect.{declared_by, good_entity, types_declared}
 use Rattle.typed_in_place.proofs.Headers.{declared_in}
 use Rattle.type_table.specs.TypeRelations.Environment.{Environment}
-use Rattle.operand_rules.specs.declared.values.Refusal.{Refusal}
-use Rattle.operand_rules.specs.declared.values.Refusal.TheVariants.{NotTyped, NoMemory}
+use Rattle.type_table.specs.declared.operand_rules.values.Refusal.{Refusal}
+use Rattle.type_table.specs.declared.operand_rules.values.Refusal.TheVariants.{NotTyped, NoMemory}
 use Rattle.typed_names.specs.declared.entities.Entity.{Entity}
 use Rattle.typed_names.specs.declared.scopes.Scope.{Scope}
 use Rattle.typed_names.specs.Meanings.{Names, entity_at, world_at}
@@ -19,8 +19,8 @@ use Rattle.declared_types.specs.Headers.{IsFileOf}
 use Rattle.declared_types.specs.Members.{member}
 use Rattle.package_blocks.specs.declared.headers.PackageHeader.{PackageHeader}
 use Rattle.package_blocks.specs.Headers.{header_of}
-use Rattle.checker_tables.specs.declared.tables.Tables.{Tables}
-use Rattle.checker_tables.specs.Ready.{AreReady, Keeps}
+use Rattle.operand_modes.specs.declared.checker_tables.tables.Tables.{Tables}
+use Rattle.operand_modes.specs.CheckerTables.Ready.{AreReady, Keeps}
 use Rattle.initial_values.specs.ValueEntities.Entities.{GivesBinds, bound}
 use Rattle.value_rounds.specs.Values.{is_value}
 use Rattle.value_rounds.specs.Steps.{ValuesSet, over, rebound}

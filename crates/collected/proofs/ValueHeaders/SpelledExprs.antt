@@ -1,7 +1,7 @@
 -- Literals of well-formed trees are well spelled.
 use Rattle.go_tree.specs.declared.spans.Span.{Span}
 use Rattle.go_tree.specs.Tree.{Expr, ident, int_lit, rune_lit, str_lit, composite, selector, index, slice, call, func_lit, type_operand, unary, binary, star, Exprs, no_exprs, expr_and, ExprOption, no_expr, some_expr, Elems, no_elems, elem, Value, plain, braced, ValueOption, no_value, some_value}
-use Rattle.layout_laws.specs.Formed.{FormedElems, FormedExpr, FormedExprs, FormedKey, FormedOption, FormedValue}
+use Rattle.go_layout.specs.LayoutLaws.Formed.{FormedElems, FormedExpr, FormedExprs, FormedKey, FormedOption, FormedValue}
 use Rattle.initial_values.specs.Spelled.{AllHaveGoodLiterals, BoundHasGoodLiterals, ElemsHaveGoodLiterals, HasGoodLiterals, KeyHasGoodLiterals, ValueHasGoodLiterals}
 use Rattle.collected.proofs.ValueHeaders.SpelledLiterals.{integer_spelled, rune_spelled, string_spelled}
 

@@ -7,11 +7,11 @@ use Rattle.go_read.specs.SpellsSpans.{span_to}
 use Rattle.go_read.specs.SpellsTypes.{Lexemes}
 use Rattle.go_read.specs.Spells.{SpellsBlock, block_rule, const_rule, var_rule}
 use Rattle.go_read.specs.SpellsFiles.{SpellsImportSpec, SpellsImportSpecs, SpellsTypeSpec, SpellsTypeSpecs, SpellsReceiver, SpellsImports, SpellsTops, SpellsFront, path_rule, named_path_rule, no_import_specs_rule, last_import_spec_rule, more_import_specs_rule, import_rule, import_group_rule, type_spec_rule, alias_spec_rule, no_type_specs_rule, last_type_spec_rule, more_type_specs_rule, receiver_rule, pointer_receiver_rule, named_receiver_rule, named_pointer_receiver_rule, top_const_rule, top_var_rule, top_type_rule, top_type_group_rule, top_func_rule, top_method_rule, no_imports_rule, more_imports_rule, no_tops_rule, more_tops_rule, front_rule}
-use Rattle.layout_laws.specs.Formed.{FormedSpecs}
-use Rattle.layout_laws.specs.Real.{AreReal}
-use Rattle.layout_laws.proofs.FormedTypes.{sig_formed, type_formed}
-use Rattle.layout_laws.proofs.FormedTrees.{stmt_formed}
-use Rattle.layout_laws.proofs.RealTokens.{tokens_real}
+use Rattle.go_layout.specs.LayoutLaws.Formed.{FormedSpecs}
+use Rattle.go_layout.specs.LayoutLaws.Real.{AreReal}
+use Rattle.go_layout.proofs.LayoutLaws.FormedTypes.{sig_formed, type_formed}
+use Rattle.go_layout.proofs.LayoutLaws.FormedTrees.{stmt_formed}
+use Rattle.go_layout.proofs.LayoutLaws.RealTokens.{tokens_real}
 use Rattle.collected.specs.ValueHeaders.SpelledDecls.{DeclsAreSpelled, ReadValuesAreSpelled, SpecsAreSpelled}
 use Rattle.collected.proofs.ValueHeaders.SpelledExprs.{all_spelled}
 

@@ -14,8 +14,8 @@ use Rattle.go_tree.proofs.GoLiterals.WordLemmas.{either_is, front_is, low_front,
 use Rattle.go_tree.specs.declared.const_eval.kinds.Kind.TheVariants as kind
 use Rattle.go_tree.specs.ConstEval.Exact.{Exact, number, text}
 use Rattle.go_tree.specs.ConstEval.Literals.{integer_value, is_text_quote, literal_value}
-use Rattle.operand_rules.specs.Folding.{is_literal_kind}
-use Rattle.layout_laws.specs.Formed.{IsToken}
+use Rattle.type_table.specs.OperandRules.Folding.{is_literal_kind}
+use Rattle.go_layout.specs.LayoutLaws.Formed.{IsToken}
 use Rattle.expr_walk.specs.Walked.{IsLiteralOf}
 
 -- ---- integers

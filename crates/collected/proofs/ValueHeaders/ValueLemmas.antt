@@ -7,13 +7,13 @@ use Rattle.go_tree.specs.GoTypes.Answers.{only_if}
 use Rattle.go_tree.specs.GoTypes.Entities.{Env}
 use Rattle.go_tree.specs.GoTypes.Programs.{Header, constants, variables, header_names}
 use Rattle.go_tree.specs.GoTypes.Collect.{env_of, package_constants, package_variables}
-use Rattle.operand_rules.specs.declared.values.Refusal.{Refusal}
-use Rattle.operand_rules.specs.declared.values.Refusal.TheVariants.{NotTyped, NoMemory}
+use Rattle.type_table.specs.declared.operand_rules.values.Refusal.{Refusal}
+use Rattle.type_table.specs.declared.operand_rules.values.Refusal.TheVariants.{NotTyped, NoMemory}
 use Rattle.typed_names.specs.declared.entities.Entity.{Entity}
 use Rattle.typed_names.specs.declared.scopes.Scope.{Scope}
 use Rattle.typed_names.specs.Meanings.{Names, world_at}
 use Rattle.typed_names.specs.Scopes.{env_at}
-use Rattle.checker_tables.specs.declared.tables.Tables.{Tables}
+use Rattle.operand_modes.specs.declared.checker_tables.tables.Tables.{Tables}
 use Rattle.initial_values.specs.ValueEntities.Entities.{GivesBinds}
 use Rattle.initial_values.specs.ValuePlaces.Names.{value_names}
 use Rattle.initial_values.specs.ValuePlaces.Places.{IsValuePlace}

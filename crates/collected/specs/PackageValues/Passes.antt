@@ -10,9 +10,9 @@ use Rattle.typed_names.specs.declared.scopes.Scope.{Scope}
 use Rattle.typed_names.specs.Meanings.{Names, world_at}
 use Rattle.package_blocks.specs.declared.headers.PackageHeader.{PackageHeader}
 use Rattle.package_blocks.specs.Headers.{AreHeaders, header_of, listed_of}
-use Rattle.func_headers.specs.Functions.{program_of}
-use Rattle.checker_tables.specs.declared.tables.Tables.{Tables}
-use Rattle.checker_tables.specs.Ready.{AreReady, Keeps}
+use Rattle.package_blocks.specs.FuncHeaders.Functions.{program_of}
+use Rattle.operand_modes.specs.declared.checker_tables.tables.Tables.{Tables}
+use Rattle.operand_modes.specs.CheckerTables.Ready.{AreReady, Keeps}
 use Rattle.value_rounds.specs.Values.{is_value}
 use Rattle.value_rounds.specs.Steps.{HasNoMore, IsKnown, ValuesSoFar}
 use Rattle.initial_values.specs.ValueBlocks.Values.{AreThere}

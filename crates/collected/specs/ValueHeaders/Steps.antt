@@ -8,7 +8,7 @@ use Rattle.typed_names.specs.Meanings.{Names, world_at}
 use Rattle.declared_types.specs.Headers.{IsFileOf}
 use Rattle.package_blocks.specs.declared.headers.PackageHeader.{PackageHeader}
 use Rattle.package_blocks.specs.Headers.{IsHeader, listed_of}
-use Rattle.checker_tables.specs.declared.tables.Tables.{Tables}
+use Rattle.operand_modes.specs.declared.checker_tables.tables.Tables.{Tables}
 use Rattle.value_rounds.specs.Values.{is_value}
 use Rattle.value_rounds.specs.Steps.{ValuesSet}
 

@@ -8,13 +8,13 @@ use Rattle.go_tree.specs.GoTypes.Programs.{Header, Headed, header_names}
 use Rattle.go_tree.specs.GoTypes.TypeDeclarations.{DeclaredTypes}
 use Rattle.go_tree.specs.GoTypes.Collect.{declared_by}
 use Rattle.type_table.specs.TypeRelations.Environment.{Environment}
-use Rattle.operand_rules.specs.declared.values.Refusal.{Refusal}
-use Rattle.operand_rules.specs.declared.values.Refusal.TheVariants.{NotTyped, NoMemory}
+use Rattle.type_table.specs.declared.operand_rules.values.Refusal.{Refusal}
+use Rattle.type_table.specs.declared.operand_rules.values.Refusal.TheVariants.{NotTyped, NoMemory}
 use Rattle.typed_names.specs.declared.entities.Entity.{Entity}
 use Rattle.typed_names.specs.declared.scopes.Scope.{Scope}
 use Rattle.typed_names.specs.Meanings.{Names, world_at}
 use Rattle.declared_types.specs.Headers.{IsFileOf}
-use Rattle.checker_tables.specs.declared.tables.Tables.{Tables}
+use Rattle.operand_modes.specs.declared.checker_tables.tables.Tables.{Tables}
 use Rattle.initial_values.specs.ValueEntities.Entities.{AreEntities, GivesBinds}
 use Rattle.initial_values.specs.ValueBlocks.Values.{SetsNames}
 

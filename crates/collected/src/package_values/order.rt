@@ -1,10 +1,10 @@
 //! An order of headers in which one comes behind those that it names (Go specification, Declarations and scope).
 
 use go_tree::{Name, NameAtList, NoMemory};
-use import_order::rows::Rows;
 use indexmap::IndexMap;
 use initial_values::value_names;
 use package_blocks::{HeaderKind, PackageHeader};
+use pkg_graph::import_order::rows::Rows;
 use std::alloc::Global;
 use typed_names::Scope;
 

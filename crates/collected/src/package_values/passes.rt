@@ -8,8 +8,8 @@ ghost use Rattle.pkg_graph.specs.declared.packages.Package.{Package};
 ghost use Rattle.typed_names.specs.Meanings.{world_at};
 ghost use Rattle.declared_types.specs.Steps.{KnowsPlaces};
 ghost use Rattle.package_blocks.specs.Headers.{AreHeaders, header_of, listed_of};
-ghost use Rattle.func_headers.specs.Functions.{program_of};
-ghost use Rattle.checker_tables.specs.Ready.{AreReady, Keeps};
+ghost use Rattle.package_blocks.specs.FuncHeaders.Functions.{program_of};
+ghost use Rattle.operand_modes.specs.CheckerTables.Ready.{AreReady, Keeps};
 ghost use Rattle.value_rounds.specs.Values.{OthersAreDeclared, ValuesAreDeclared, is_value};
 ghost use Rattle.initial_values.specs.ValueBlocks.Values.{AreThere};
 ghost use Rattle.collected.specs.ValueHeaders.SpelledDecls.{AreSpelled};
@@ -17,9 +17,9 @@ ghost use Rattle.collected.specs.PackageValues.Passes.{AreLooked, HeaderLooked, 
 
 use crate::package_values::order::order_of_use;
 use crate::value_headers::{declare_header, is_value};
-use checker_tables::Tables;
 use go_tree::NoMemory;
 use initial_values::copied_blocks;
+use operand_modes::checker_tables::Tables;
 use package_blocks::PackageHeader;
 use std::alloc::{AllocError, Global};
 use typed_names::{Blocks, Scope};

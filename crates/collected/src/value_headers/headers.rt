@@ -5,7 +5,7 @@ ghost use Rattle.std.specs.Prelude.{◌≡◌, false, map, true, IfOk};
 ghost use Rattle.std.specs.Option.{option_map};
 ghost use Rattle.go_tree.specs.View.{exprs_of, name_at_of, type_of};
 ghost use Rattle.go_tree.specs.GoTypes.Programs.{constants, variables};
-ghost use Rattle.checker_tables.specs.Ready.{AreReady, Keeps};
+ghost use Rattle.operand_modes.specs.CheckerTables.Ready.{AreReady, Keeps};
 ghost use Rattle.initial_values.specs.Spelled.{AllHaveGoodLiterals};
 ghost use Rattle.package_blocks.specs.Headers.{header_of, repeated_type, repeated_values};
 ghost use Rattle.initial_values.specs.ValueBlocks.Values.{AreThere};
@@ -15,8 +15,8 @@ ghost use Rattle.collected.specs.ValueHeaders.Steps.{SetsHeader, SetsValues};
 
 use crate::value_headers::names::declare_names;
 use crate::value_headers::values::{constant_values, variable_values};
-use checker_tables::Tables;
 use go_tree::{ConstSpec, NameAtList, NoMemory, VarSpec};
+use operand_modes::checker_tables::Tables;
 use package_blocks::{HeaderKind, PackageHeader};
 use std::alloc::Global;
 use typed_names::{Blocks, Scope};

@@ -9,8 +9,8 @@ ghost use Rattle.collected.specs.ValueHeaders.Values.{AreEntitiesIfOk, HasCount,
 
 use go_tree::{NameAtList, NoMemory};
 use initial_values::{EntityList, set_values};
-use operand_rules::Refusal;
 use std::alloc::{AllocError, Global};
+use type_table::operand_rules::Refusal;
 use typed_names::Blocks;
 
 /// Declares names in the block of a package as what was found of their values, unless that is a refusal; tells

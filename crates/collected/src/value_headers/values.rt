@@ -5,19 +5,19 @@ ghost use Rattle.std.specs.Prelude.{map};
 ghost use Rattle.std.specs.Option.{option_map};
 ghost use Rattle.go_tree.specs.View.{exprs_of, name_at_of, type_of};
 ghost use Rattle.go_tree.specs.GoTypes.Programs.{constants, variables};
-ghost use Rattle.checker_tables.specs.Ready.{AreReady, Keeps};
+ghost use Rattle.operand_modes.specs.CheckerTables.Ready.{AreReady, Keeps};
 ghost use Rattle.initial_values.specs.Spelled.{AllHaveGoodLiterals};
 ghost use Rattle.package_blocks.specs.Headers.{repeated_type, repeated_values};
 ghost use Rattle.initial_values.specs.ValueBlocks.Values.{AreThere};
 ghost use Rattle.collected.specs.ValueHeaders.Values.{GivesValues};
 
-use checker_tables::Tables;
 use go_tree::{ConstSpec, NameAtList, VarSpec};
 use initial_values::{
     EntityList, no_constants, spec_constants, value_names, value_place, variables_at,
 };
-use operand_rules::Refusal;
+use operand_modes::checker_tables::Tables;
 use std::alloc::Global;
+use type_table::operand_rules::Refusal;
 use typed_names::{Blocks, Scope};
 
 /// The constants of a header with this number in its group, which has the type and the values of a spec.

@@ -10,10 +10,10 @@ use Rattle.type_table.specs.TypeRelations.Environment.{Environment}
 use Rattle.universe_block.specs.declared.block.Builtin as declared
 use Rattle.universe_block.specs.declared.block.Builtin.TheVariants as builtin
 use Rattle.universe_block.specs.Meanings.{builtin_of}
-use Rattle.operand_rules.specs.declared.values.Value.{Value}
-use Rattle.operand_rules.specs.declared.values.Refusal.{Refusal}
-use Rattle.operand_rules.specs.declared.values.Refusal.TheVariants.{NotTyped, NoMemory}
-use Rattle.operand_rules.specs.Values.{IsValue, typed_of}
+use Rattle.type_table.specs.declared.operand_rules.values.Value.{Value}
+use Rattle.type_table.specs.declared.operand_rules.values.Refusal.{Refusal}
+use Rattle.type_table.specs.declared.operand_rules.values.Refusal.TheVariants.{NotTyped, NoMemory}
+use Rattle.type_table.specs.OperandRules.Values.{IsValue, typed_of}
 use Rattle.operator_rules.specs.AccessRules.Functions.{AreValues}
 use Rattle.operand_modes.specs.declared.modes.Operand.{Operand}
 use Rattle.operand_modes.specs.declared.modes.Operand.TheVariants as mode

@@ -7,8 +7,8 @@ ghost use Rattle.operand_modes.specs.Operands.{several_of};
 ghost use Rattle.composite_steps.specs.BuiltinSteps.Arguments.{the_only, the_two, type_in};
 
 use operand_modes::Operand;
-use operand_rules::Value;
 use type_table::TypeId;
+use type_table::operand_rules::Value;
 
 /// The only value of a list.
 #[tactic(auto, using(crate::proofs::BuiltinSteps::ArgumentLemmas::one_item, crate::proofs::BuiltinSteps::ArgumentLemmas::not_one))]

@@ -6,20 +6,20 @@ ghost use Rattle.go_tree.specs.GoTypes.Operands.{all_typed, spread};
 ghost use Rattle.go_tree.specs.GoTypes.Primary as go;
 ghost use Rattle.type_table.specs.TypeRelations.Environment.{defined_types};
 ghost use Rattle.universe_block.specs.Meanings.{builtin_of};
-ghost use Rattle.operand_rules.specs.Values.{typed_of};
+ghost use Rattle.type_table.specs.OperandRules.Values.{typed_of};
 ghost use Rattle.operator_rules.specs.AccessRules.Functions.{AreValues};
 ghost use Rattle.operand_modes.specs.Operands.{AreOperands, GivesOperand, operands_at};
-ghost use Rattle.checker_tables.specs.Ready.{AreReady, Keeps};
+ghost use Rattle.operand_modes.specs.CheckerTables.Ready.{AreReady, Keeps};
 ghost use Rattle.composite_steps.specs.BuiltinSteps.Arguments.{takes_type};
 
 use crate::builtin_steps::elements::{appended, copied, deleted};
 use crate::builtin_steps::lengths::{capacity_of, length_of};
 use crate::builtin_steps::making::{make_call, new_call};
 use crate::builtin_steps::printing::{panicked, printed, recovered};
-use checker_tables::Tables;
+use operand_modes::checker_tables::Tables;
 use operand_modes::{Operand, single, values};
-use operand_rules::{Refusal, Value};
 use std::alloc::Global;
+use type_table::operand_rules::{Refusal, Value};
 use universe_block::Builtin;
 
 /// What a predeclared function gives of values, which its operands are; `make` and `new` take none

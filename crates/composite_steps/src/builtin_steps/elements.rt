@@ -4,17 +4,17 @@
 ghost use Rattle.std.specs.Prelude.{map};
 ghost use Rattle.go_tree.specs.GoTypes.Primary as go;
 ghost use Rattle.type_table.specs.TypeRelations.Environment.{defined_types};
-ghost use Rattle.operand_rules.specs.Values.{Gives, typed_of};
+ghost use Rattle.type_table.specs.OperandRules.Values.{Gives, typed_of};
 ghost use Rattle.operator_rules.specs.AccessRules.Functions.{AreValues};
 ghost use Rattle.operand_modes.specs.Operands.{GivesOperand};
-ghost use Rattle.checker_tables.specs.Ready.{AreReady};
+ghost use Rattle.operand_modes.specs.CheckerTables.Ready.{AreReady};
 
 use crate::builtin_steps::arguments::pair;
 use crate::builtin_steps::printing::nothing_if;
-use checker_tables::Tables;
 use operand_modes::Operand;
-use operand_rules::{Refusal, Value};
+use operand_modes::checker_tables::Tables;
 use operator_rules::access_rules::{appends, copies, deletes};
+use type_table::operand_rules::{Refusal, Value};
 
 /// What `append` gives of a slice and the values behind it.
 pub(crate) fn appended(tables: &Tables, xs: &[Value]) -> Result<Value, Refusal>

@@ -3,15 +3,15 @@
 ghost use Rattle.std.specs.Prelude.{map};
 ghost use Rattle.go_tree.specs.GoTypes.Primary as go;
 ghost use Rattle.type_table.specs.TypeRelations.Environment.{defined_types};
-ghost use Rattle.operand_rules.specs.Values.{Gives, typed_of};
+ghost use Rattle.type_table.specs.OperandRules.Values.{Gives, typed_of};
 ghost use Rattle.operator_rules.specs.AccessRules.Functions.{AreValues};
-ghost use Rattle.checker_tables.specs.Ready.{AreReady, Keeps};
+ghost use Rattle.operand_modes.specs.CheckerTables.Ready.{AreReady, Keeps};
 
 use crate::builtin_steps::arguments::only;
-use checker_tables::Tables;
-use operand_rules::{Refusal, Value};
+use operand_modes::checker_tables::Tables;
 use operator_rules::access_rules::{capacity, length};
 use std::alloc::Global;
+use type_table::operand_rules::{Refusal, Value};
 
 /// What `cap` gives of a slice.
 pub(crate) fn capacity_of(tables: &Tables, xs: &[Value]) -> Result<Value, Refusal>
@@ -30,7 +30,7 @@ pub(crate) fn capacity_of(tables: &Tables, xs: &[Value]) -> Result<Value, Refusa
 
 /// What `len` gives of a string, a slice or a map; the length of a constant string is added to the
 /// constants.
-#[tactic(auto, using(checker_tables::proofs::ReadyLemmas::types_kept))]
+#[tactic(auto, using(operand_modes::proofs::CheckerTables::ReadyLemmas::types_kept))]
 pub(crate) fn length_of(alloc: Global, tables: &mut Tables, xs: &[Value]) -> Result<Value, Refusal>
     requires ready { AreReady tables.old }
     requires values { AreValues tables.old.env tables.old.consts xs.now }

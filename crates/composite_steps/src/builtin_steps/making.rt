@@ -5,19 +5,19 @@ ghost use Rattle.std.specs.Prelude.{◌∷◌, []};
 ghost use Rattle.go_tree.specs.GoTypes.Operands.{a_type, all_typed};
 ghost use Rattle.go_tree.specs.GoTypes.Primary as go;
 ghost use Rattle.type_table.specs.TypeRelations.Environment.{defined_types, env_type};
-ghost use Rattle.operand_rules.specs.declared.values.ValueType.TheVariants.{Typed};
-ghost use Rattle.operand_rules.specs.Values.{Gives, IsType};
+ghost use Rattle.type_table.specs.declared.operand_rules.values.ValueType.TheVariants.{Typed};
+ghost use Rattle.type_table.specs.OperandRules.Values.{Gives, IsType};
 ghost use Rattle.operand_modes.specs.Lists.{GivesValues};
 ghost use Rattle.operand_modes.specs.Operands.{AreOperands, GivesOperand, operands_at};
-ghost use Rattle.checker_tables.specs.Ready.{AreReady, Keeps};
+ghost use Rattle.operand_modes.specs.CheckerTables.Ready.{AreReady, Keeps};
 
 use crate::builtin_steps::arguments::{are_results, only_type, type_in};
-use checker_tables::Tables;
+use operand_modes::checker_tables::Tables;
 use operand_modes::{Operand, ValueList, single, values};
-use operand_rules::{Refusal, Value};
 use operator_rules::access_rules::{allocates, makes};
 use std::alloc::Global;
 use type_table::TypeId;
+use type_table::operand_rules::{Refusal, Value};
 
 /// The sizes that operands are, each its own.
 fn size_values(alloc: Global, tables: &Tables, sizes: &[Operand]) -> Result<ValueList, Refusal>

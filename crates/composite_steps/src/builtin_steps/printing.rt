@@ -9,18 +9,18 @@ ghost use Rattle.go_tree.specs.GoTypes.Defined.{Defined};
 ghost use Rattle.go_tree.specs.GoTypes.Operands.{several};
 ghost use Rattle.go_tree.specs.GoTypes.Primary as go;
 ghost use Rattle.type_table.specs.TypeRelations.Environment.{Environment, defined_types};
-ghost use Rattle.operand_rules.specs.Values.{typed_of};
+ghost use Rattle.type_table.specs.OperandRules.Values.{typed_of};
 ghost use Rattle.operator_rules.specs.BasicTypes.{AreBasic};
 ghost use Rattle.operator_rules.specs.AccessRules.Functions.{AreValues};
 ghost use Rattle.operand_modes.specs.Operands.{GivesOperand};
-ghost use Rattle.checker_tables.specs.Ready.{AreReady};
+ghost use Rattle.operand_modes.specs.CheckerTables.Ready.{AreReady};
 
 use crate::builtin_steps::arguments::only;
-use checker_tables::Tables;
 use operand_modes::Operand;
-use operand_rules::{ConstTable, Refusal, Value};
+use operand_modes::checker_tables::Tables;
 use operator_rules::BasicTypes;
 use operator_rules::access_rules::{is_printed, panics};
+use type_table::operand_rules::{ConstTable, Refusal, Value};
 use type_table::type_relations::Env;
 
 /// A call without results, where it may be called.

@@ -7,7 +7,7 @@ use Rattle.go_tree.specs.ScopeNames.Binders.{receiver_names, stmts_binders, func
 use Rattle.go_tree.specs.ScopeNames.FreeNames.{sig_names}
 use Rattle.pkg_graph.specs.Package.{Package, import_specs}
 use Rattle.pkg_graph.specs.Members.{import_name}
-use Rattle.import_rules.specs.Needs.{avoided}
+use Rattle.run_rules.specs.ImportRules.Needs.{avoided}
 use Rattle.go_tree.specs.GoTypes.Answers.{given, meets, is_among}
 use Rattle.go_tree.specs.GoTypes.Types.{GoType}
 use Rattle.run_rules.specs.Surroundings.{Use, into, beside, whole, returned, stored, updated, addressed, called, deferred_call, alone, other, Place, is_local}

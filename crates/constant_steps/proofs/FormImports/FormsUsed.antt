@@ -11,7 +11,7 @@ use Rattle.go_tree.specs.declared.scope_names.names.Entity.TheVariants.{Import}
 use Rattle.go_tree.specs.ScopeNames.Means.{Environment, means, outermost}
 use Rattle.go_tree.specs.ScopeNames.Scopes.{expr_span}
 use Rattle.pkg_graph.specs.Package.{Package}
-use Rattle.import_rules.specs.Unused.{AreUsed}
+use Rattle.run_rules.specs.ImportRules.Unused.{AreUsed}
 use Rattle.go_tree.specs.GoTypes.Answers.{is_among}
 use Rattle.go_tree.specs.GoTypes.Literals.{field_key}
 use Rattle.run_rules.specs.Surroundings.{Use, Place, Seen, is_local}

@@ -2,7 +2,7 @@
 use Rattle.std.proofs.Common.{◌≡◌, ◌∙◌, refl, sym, ap, subst, ℕ, Bool, true, false, if◌then◌else◌, nat_eq, List, [], ◌∷◌, ◌++◌, Option, Some, None}
 use Rattle.std.proofs.lemmas.Bool.{or_left, or_right, eq-eqb}
 use Rattle.pkg_graph.specs.Package.{Package}
-use Rattle.import_rules.specs.Needs.{serving, avoided}
+use Rattle.run_rules.specs.ImportRules.Needs.{serving, avoided}
 use Rattle.go_tree.specs.GoTypes.Answers.{meets}
 use Rattle.run_rules.specs.Surroundings.{Place}
 use Rattle.run_rules.specs.Sites.{Where}

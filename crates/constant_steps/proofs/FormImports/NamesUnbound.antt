@@ -7,8 +7,8 @@ use Rattle.go_tree.specs.ScopeNames.Identifiers.{identifiers}
 use Rattle.go_tree.specs.ScopeNames.Means.{predeclared}
 use Rattle.go_tree.specs.ScopeNames.Fresh.{is_new}
 use Rattle.pkg_graph.specs.Package.{Package}
-use Rattle.import_rules.specs.Needs.{serving, avoided}
-use Rattle.import_rules.proofs.NeededMeans.{serves_of, fresh_passes}
+use Rattle.run_rules.specs.ImportRules.Needs.{serving, avoided}
+use Rattle.run_rules.proofs.ImportRules.NeededMeans.{serves_of, fresh_passes}
 use Rattle.run_rules.specs.Surroundings.{Place}
 use Rattle.run_rules.specs.Sites.{Where}
 use Rattle.run_rules.specs.Naming.{Named, fuel_for, fresh_name, package_path, own_name, names_here, environment_here, added_import, named_packages, name_added}

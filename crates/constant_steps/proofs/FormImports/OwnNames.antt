@@ -13,11 +13,11 @@ use Rattle.go_tree.specs.GoWords.Terminals.{Terminal, Lexeme, lex, ident, found_
 use Rattle.go_tree.specs.GoWords.Tokens.{tokens_from, tokens_at, inserted, due_after, span_of, size_of}
 use Rattle.go_tree.specs.GoWords.Tokens.Characters.{is_listed}
 use Rattle.go_tree.specs.GoWords.Tokens.Pieces.{PieceKind, blanks, remark, token, Piece, IsPiece, CutsTo}
-use Rattle.splice_laws.proofs.Rises.{piece_size}
+use Rattle.run_rules.proofs.SpliceLaws.Rises.{piece_size}
 use Rattle.go_read.specs.SpellsSpans.{span_to}
 use Rattle.go_read.specs.SpellsFiles.{SpellsFront, front_rule}
 use Rattle.go_tree.specs.ScopeNames.Means.{is_blank}
-use Rattle.import_rules.specs.SettledNames.{IsOwnName}
+use Rattle.run_rules.specs.ImportRules.SettledNames.{IsOwnName}
 use Rattle.pkg_graph.specs.Package.{SourceTree, Package, first_seen, home_of, first_name, package_of, packages_of}
 use Rattle.pkg_graph.specs.Reads.{Source, AreTrees, none, file}
 use Rattle.run_rules.specs.Naming.{own_name}

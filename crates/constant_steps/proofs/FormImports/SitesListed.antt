@@ -7,7 +7,7 @@ use Rattle.go_tree.specs.Tree.{NameAt, TypeExpr, Expr, ident, int_lit, rune_lit,
 use Rattle.go_tree.specs.File.{Decl}
 use Rattle.go_tree.specs.ScopeNames.FreeNames.{names_of}
 use Rattle.go_tree.specs.ScopeNames.Scopes.{expr_span}
-use Rattle.import_rules.specs.Removed.{same_span}
+use Rattle.run_rules.specs.ImportRules.Removed.{same_span}
 use Rattle.pkg_graph.specs.Package.{SourceTree, Package}
 use Rattle.go_tree.specs.GoTypes.Answers.{given, one_of, is_among}
 use Rattle.run_rules.specs.Surroundings.{Use, Place, Seen, seen, seen_type, seen_stmt, other, is_local}

@@ -5,7 +5,7 @@ use Rattle.std.specs.Prelude.{refl, ℕ, List, [], ◌∷◌, None, codes, nat_e
 use Rattle.std.proofs.Common.{arith}
 use Rattle.go_tree.specs.Tree.{Expr, ident, int_lit, selector}
 use Rattle.go_tree.specs.File.{File}
-use Rattle.module_files.specs.Internal.{passes}
+use Rattle.pkg_graph.specs.ModuleFiles.Internal.{passes}
 use Rattle.pkg_graph.specs.Package.{SourceTree, Package}
 use Rattle.go_translation.specs.Packages.{sources}
 use Rattle.go_translation.specs.SameMeaning.{Packages, SameMeaning}

@@ -7,7 +7,7 @@ use Rattle.std.specs.Prelude.{refl, ℕ, true, false, List, [], ◌∷◌, Some,
 use Rattle.go_tree.specs.Tree as tree
 use Rattle.go_tree.specs.Tree.{TypeExpr, Expr, ident, int_lit, selector, no_exprs, expr_and, const_decl, var_decl, no_specs, spec}
 use Rattle.go_tree.specs.File.{Decl, values, types, File}
-use Rattle.module_files.specs.Internal.{passes}
+use Rattle.pkg_graph.specs.ModuleFiles.Internal.{passes}
 use Rattle.pkg_graph.specs.Package.{SourceTree, Package}
 use Rattle.go_translation.specs.Packages.{sources}
 use Rattle.go_translation.specs.SameMeaning.{Packages, SameMeaning}

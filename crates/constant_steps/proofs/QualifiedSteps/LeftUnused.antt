@@ -6,7 +6,7 @@ use Rattle.std.specs.Prelude.{refl, ℕ, suc, false, List, [], ◌∷◌, None, 
 use Rattle.std.proofs.Common.{arith}
 use Rattle.go_tree.specs.Tree.{Expr, ident, int_lit, selector}
 use Rattle.go_tree.specs.File.{Decl, ImportDecl}
-use Rattle.module_files.specs.Internal.{passes}
+use Rattle.pkg_graph.specs.ModuleFiles.Internal.{passes}
 use Rattle.pkg_graph.specs.Package.{SourceTree, Package}
 use Rattle.go_tree.specs.GoTypes.Programs.{Program}
 use Rattle.run_rules.specs.Surroundings.{whole, in_constant}

@@ -9,9 +9,9 @@ use Rattle.go_tree.specs.ScopeNames.FreeNames.{names_of}
 use Rattle.go_tree.specs.ScopeNames.Means.{means, outermost}
 use Rattle.pkg_graph.specs.Package.{Package, import_specs}
 use Rattle.pkg_graph.specs.Members.{import_name, imported}
-use Rattle.import_rules.specs.Needs.{serving, avoided}
-use Rattle.import_rules.specs.SettledNames.{import_at}
-use Rattle.import_rules.proofs.NeededMeans.{Serves, serves_of}
+use Rattle.run_rules.specs.ImportRules.Needs.{serving, avoided}
+use Rattle.run_rules.specs.ImportRules.SettledNames.{import_at}
+use Rattle.run_rules.proofs.ImportRules.NeededMeans.{Serves, serves_of}
 use Rattle.go_tree.specs.GoTypes.Answers.{given}
 use Rattle.go_tree.proofs.GoTypes.Agreeing.{from_given, some_same}
 use Rattle.run_rules.specs.Surroundings.{Place}

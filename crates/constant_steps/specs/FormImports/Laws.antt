@@ -4,9 +4,9 @@ use Rattle.std.specs.Prelude.{◌≡◌, Bool, false, List, ◌++◌, map, Some,
 use Rattle.go_tree.specs.Tree.{NameAt, TypeExpr, Expr}
 use Rattle.go_tree.specs.File.{Decl, func}
 use Rattle.go_tree.specs.ScopeNames.Identifiers.{expr_identifiers, type_identifiers}
-use Rattle.import_rules.specs.declared.new_import.NewImport.{NewImport}
+use Rattle.run_rules.specs.declared.import_rules.new_import.NewImport.{NewImport}
 use Rattle.go_tree.specs.declared.spans.Span.{Span}
-use Rattle.import_rules.specs.SettledNames.{EachMeansIn, settled_names}
+use Rattle.run_rules.specs.ImportRules.SettledNames.{EachMeansIn, settled_names}
 use Rattle.go_tree.specs.ScopeNames.Means.{outermost}
 use Rattle.run_rules.specs.Sites.{MarkRef, an_expr, Site, part_span, a_constant, an_alias, inlinable}
 use Rattle.run_rules.specs.Naming.{imports_added}

@@ -1,7 +1,7 @@
 -- Each package of a program has a name of its own (Go specification, Package clause).
 use Rattle.std.specs.Prelude.{◌≡◌, true, ℕ, List, [], ◌∷◌, is_some, slice_get}
 use Rattle.go_tree.specs.declared.spans.Span.{Span}
-use Rattle.import_rules.specs.SettledNames.{IsOwnName}
+use Rattle.run_rules.specs.ImportRules.SettledNames.{IsOwnName}
 use Rattle.pkg_graph.specs.Package.{Package}
 use Rattle.pkg_graph.specs.Reads.{Source}
 use Rattle.run_rules.specs.Sites.{MarkRef}

@@ -6,8 +6,8 @@ use Rattle.go_tree.specs.GoTypes.Answers.{distinct_by, is_empty, meets}
 use Rattle.go_tree.specs.GoTypes.Bodies.{is_body}
 use Rattle.go_tree.specs.GoTypes.Jumps.{labels_in}
 use Rattle.go_tree.specs.GoTypes.Types.{FuncType, GoType}
-use Rattle.operand_rules.specs.declared.values.Refusal.{Refusal}
-use Rattle.operand_rules.specs.declared.values.Refusal.TheVariants.{NotTyped}
+use Rattle.type_table.specs.declared.operand_rules.values.Refusal.{Refusal}
+use Rattle.type_table.specs.declared.operand_rules.values.Refusal.TheVariants.{NotTyped}
 use Rattle.control_steps.specs.Ends.{EndsAs}
 
 -- a test that fails decides

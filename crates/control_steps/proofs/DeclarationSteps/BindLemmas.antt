@@ -13,7 +13,7 @@ use Rattle.type_table.specs.TypeRelations.Environment.{Environment, env_type}
 use Rattle.typed_names.specs.declared.entities.Entity.{Entity}
 use Rattle.typed_names.specs.declared.entities.Entity.TheVariants.{Variable}
 use Rattle.typed_names.specs.Meanings.{entity_at}
-use Rattle.operand_answers.specs.Known.{IsEntity}
+use Rattle.operand_modes.specs.OperandAnswers.Known.{IsEntity}
 use Rattle.control_steps.specs.DeclarationSteps.Entities.{AreBound, AreEntities, BoundSoFar, binds_at}
 
 -- an item of a list, before those behind it

@@ -14,16 +14,16 @@ use Rattle.go_tree.specs.GoTypes.Declarations.{constant_entity, variable_entity}
 use Rattle.go_tree.proofs.GoTypes.IdenticalLaws.{and_left, identical_same}
 use Rattle.type_table.specs.declared.nodes.TypeId.{TypeId}
 use Rattle.type_table.specs.TypeRelations.Environment.{Environment, defined_types, env_type}
-use Rattle.operand_rules.proofs.TypeLemmas.{kind_of_typed}
-use Rattle.operand_rules.specs.declared.constants.ConstId.{ConstId}
-use Rattle.operand_rules.specs.declared.values.ValueType.TheVariants as variant
-use Rattle.operand_rules.specs.declared.values.Content.TheVariants.{Exact}
-use Rattle.operand_rules.specs.declared.values.Value.{Value}
-use Rattle.operand_rules.specs.Constants.{const_at}
-use Rattle.operand_rules.specs.Values.{IsContent, IsType, IsValue, content_of, type_of, typed_of}
+use Rattle.type_table.proofs.OperandRules.TypeLemmas.{kind_of_typed}
+use Rattle.type_table.specs.declared.operand_rules.constants.ConstId.{ConstId}
+use Rattle.type_table.specs.declared.operand_rules.values.ValueType.TheVariants as variant
+use Rattle.type_table.specs.declared.operand_rules.values.Content.TheVariants.{Exact}
+use Rattle.type_table.specs.declared.operand_rules.values.Value.{Value}
+use Rattle.type_table.specs.OperandRules.Constants.{const_at}
+use Rattle.type_table.specs.OperandRules.Values.{IsContent, IsType, IsValue, content_of, type_of, typed_of}
 use Rattle.typed_names.specs.declared.entities.Entity.{Entity}
 use Rattle.typed_names.specs.declared.entities.Entity.TheVariants.{Constant}
-use Rattle.operand_answers.specs.Known.{IsEntity}
+use Rattle.operand_modes.specs.OperandAnswers.Known.{IsEntity}
 
 -- ---- a constant that fits a type is one of the type
 

@@ -13,8 +13,8 @@ use Rattle.typed_names.specs.declared.entities.Entity.{Entity}
 use Rattle.typed_names.specs.declared.scopes.Scope.{Scope}
 use Rattle.typed_names.specs.Meanings.{Names, entity_at, names_at}
 use Rattle.typed_names.specs.Scopes.{env_at, file_env_at}
-use Rattle.checker_tables.specs.declared.tables.Tables.{Tables}
-use Rattle.operand_answers.specs.Known.{IsEntity, Stands}
+use Rattle.operand_modes.specs.declared.checker_tables.tables.Tables.{Tables}
+use Rattle.operand_modes.specs.OperandAnswers.Known.{IsEntity, Stands}
 use Rattle.control_steps.specs.LocalBlocks.Places.{IsPlace, IsWithin}
 use Rattle.control_steps.specs.LocalBlocks.Laws.{BlocksBegin, ExpressionsSeeNames, PlacesAreEnvironments}
 use Rattle.control_steps.proofs.LocalBlocks.SeenNames.{all_seen, bound_seen, parts_seen, place_seen, places_seen, type_seen}

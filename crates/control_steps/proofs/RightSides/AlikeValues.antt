@@ -10,14 +10,14 @@ use Rattle.go_tree.specs.GoTypes.Operands as go
 use Rattle.go_tree.specs.GoTypes.Operands.{value, several, a_type, a_function, a_builtin, recovered, Typed, all_typed, default_type, fits, settled, spread, values_of}
 use Rattle.go_tree.specs.GoTypes.Statements.{assigned_values}
 use Rattle.type_table.specs.TypeRelations.Environment.{Environment}
-use Rattle.operand_rules.specs.declared.values.ValueType.{ValueType}
-use Rattle.operand_rules.specs.declared.values.ValueType.TheVariants as variant
-use Rattle.operand_rules.specs.declared.values.Content.{Content}
-use Rattle.operand_rules.specs.declared.values.Content.TheVariants.{Run, Exact, Shift}
-use Rattle.operand_rules.specs.declared.values.Value.{Value}
-use Rattle.operand_rules.specs.declared.values.Refusal.{Refusal}
-use Rattle.operand_rules.specs.declared.values.Refusal.TheVariants.{NotTyped, NoMemory}
-use Rattle.operand_rules.specs.Values.{typed_of}
+use Rattle.type_table.specs.declared.operand_rules.values.ValueType.{ValueType}
+use Rattle.type_table.specs.declared.operand_rules.values.ValueType.TheVariants as variant
+use Rattle.type_table.specs.declared.operand_rules.values.Content.{Content}
+use Rattle.type_table.specs.declared.operand_rules.values.Content.TheVariants.{Run, Exact, Shift}
+use Rattle.type_table.specs.declared.operand_rules.values.Value.{Value}
+use Rattle.type_table.specs.declared.operand_rules.values.Refusal.{Refusal}
+use Rattle.type_table.specs.declared.operand_rules.values.Refusal.TheVariants.{NotTyped, NoMemory}
+use Rattle.type_table.specs.OperandRules.Values.{typed_of}
 use Rattle.operator_rules.specs.declared.access_rules.places.Place.{Place}
 use Rattle.operator_rules.specs.declared.access_rules.places.Place.TheVariants.{Addressable, MapElement, Literal, Elsewhere}
 use Rattle.operator_rules.specs.AccessRules.Places.{place_of}
@@ -25,13 +25,13 @@ use Rattle.operand_modes.specs.declared.modes.Operand.{Operand}
 use Rattle.operand_modes.specs.declared.modes.Operand.TheVariants as mode
 use Rattle.operand_modes.specs.Lists.{AreStored, GivesValues}
 use Rattle.operand_modes.specs.Operands.{SameOperand, operands_at}
-use Rattle.operand_laws.specs.Alike.{AllSame}
-use Rattle.operand_laws.proofs.ContentLemmas.{content_same}
-use Rattle.operand_laws.proofs.ValueLemmas.{fitting_sees_alike}
+use Rattle.operand_modes.specs.OperandLaws.Alike.{AllSame}
+use Rattle.operand_modes.proofs.OperandLaws.ContentLemmas.{content_same}
+use Rattle.operand_modes.proofs.OperandLaws.ValueLemmas.{fitting_sees_alike}
 use Rattle.call_laws.proofs.ValueLists.{SameSome, spread_same, typed_same}
-use Rattle.operand_answers.specs.declared.lists.OperandList.{OperandList}
-use Rattle.operand_answers.specs.Lists.{AllStandAt, GivesAll}
-use Rattle.operand_answers.specs.Located.{stored_by}
+use Rattle.operand_modes.specs.declared.operand_answers.lists.OperandList.{OperandList}
+use Rattle.operand_modes.specs.OperandAnswers.Lists.{AllStandAt, GivesAll}
+use Rattle.operand_modes.specs.OperandAnswers.Located.{stored_by}
 use Rattle.control_steps.specs.RightSides.Values.{AreValuesIfOk, GivesValuesAlike, SameValue, SameValues, StandIfOk}
 
 -- ---- an element of a map isn't constant

@@ -11,18 +11,18 @@ use Rattle.go_tree.specs.GoTypes.Relations.{has_nil}
 use Rattle.go_tree.specs.GoTypes.Statements.{case_value, tag_value}
 use Rattle.type_table.specs.declared.nodes.TypeId.{TypeId}
 use Rattle.type_table.specs.TypeRelations.Environment.{Environment, defined_types, env_type}
-use Rattle.operand_rules.specs.declared.values.ValueType.TheVariants as variant
-use Rattle.operand_rules.specs.declared.values.Content.TheVariants.{Run}
-use Rattle.operand_rules.specs.declared.values.Value.{Value}
-use Rattle.operand_rules.specs.declared.values.Refusal.{Refusal}
-use Rattle.operand_rules.specs.declared.values.Refusal.TheVariants.{NotTyped, NoMemory}
-use Rattle.operand_rules.specs.Values.{Gives, IsGiven, IsType, IsValue, typed_of}
-use Rattle.operand_laws.specs.Alike.{SameBound}
-use Rattle.operand_answers.proofs.KeptLemmas.{keeps_on, keeps_self, value_on, value_same}
+use Rattle.type_table.specs.declared.operand_rules.values.ValueType.TheVariants as variant
+use Rattle.type_table.specs.declared.operand_rules.values.Content.TheVariants.{Run}
+use Rattle.type_table.specs.declared.operand_rules.values.Value.{Value}
+use Rattle.type_table.specs.declared.operand_rules.values.Refusal.{Refusal}
+use Rattle.type_table.specs.declared.operand_rules.values.Refusal.TheVariants.{NotTyped, NoMemory}
+use Rattle.type_table.specs.OperandRules.Values.{Gives, IsGiven, IsType, IsValue, typed_of}
+use Rattle.operand_modes.specs.OperandLaws.Alike.{SameBound}
+use Rattle.operand_modes.proofs.OperandAnswers.KeptLemmas.{keeps_on, keeps_self, value_on, value_same}
 use Rattle.operator_rules.specs.AccessRules.Slices.{bound_of}
-use Rattle.operand_answers.specs.AccessSteps.Bounds.{GivesBound}
-use Rattle.checker_tables.specs.declared.tables.Tables.{Tables}
-use Rattle.checker_tables.specs.Ready.{AreReady, Keeps}
+use Rattle.operand_modes.specs.OperandAnswers.AccessSteps.Bounds.{GivesBound}
+use Rattle.operand_modes.specs.declared.checker_tables.tables.Tables.{Tables}
+use Rattle.operand_modes.specs.CheckerTables.Ready.{AreReady, Keeps}
 use Rattle.control_steps.proofs.RightSides.AlikeValues.{settled_alike}
 use Rattle.control_steps.specs.SwitchSteps.Cases.{AreCompared}
 use Rattle.control_steps.specs.SwitchSteps.Tags.{as_operand}

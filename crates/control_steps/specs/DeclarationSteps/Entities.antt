@@ -10,11 +10,11 @@ use Rattle.go_tree.specs.GoTypes.Entities.{Binds}
 use Rattle.go_tree.specs.GoTypes.Operands.{Typed}
 use Rattle.go_tree.specs.GoTypes.Declarations.{constant_entity, variable_entity}
 use Rattle.type_table.specs.TypeRelations.Environment.{Environment}
-use Rattle.operand_rules.specs.declared.values.Refusal.{Refusal}
-use Rattle.operand_rules.specs.declared.values.Refusal.TheVariants.{NotTyped, NoMemory}
+use Rattle.type_table.specs.declared.operand_rules.values.Refusal.{Refusal}
+use Rattle.type_table.specs.declared.operand_rules.values.Refusal.TheVariants.{NotTyped, NoMemory}
 use Rattle.typed_names.specs.declared.entities.Entity.{Entity}
 use Rattle.typed_names.specs.Meanings.{entity_at}
-use Rattle.operand_answers.specs.Known.{IsEntity}
+use Rattle.operand_modes.specs.OperandAnswers.Known.{IsEntity}
 use Rattle.control_steps.specs.declared.declaration_steps.entities.Declares.{Declares}
 use Rattle.control_steps.specs.declared.declaration_steps.entities.Declares.TheVariants.{Constants, Variables}
 

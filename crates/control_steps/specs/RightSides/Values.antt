@@ -3,14 +3,14 @@ use Rattle.std.specs.Prelude.{◌≡◌, List, [], ◌∷◌, map, Option, Some,
 use Rattle.go_tree.specs.declared.const_eval.consts.Const.{Const}
 use Rattle.go_tree.specs.GoTypes.Operands.{Typed}
 use Rattle.type_table.specs.TypeRelations.Environment.{Environment}
-use Rattle.operand_rules.specs.declared.values.Value.{Value}
-use Rattle.operand_rules.specs.declared.values.Refusal.{Refusal}
-use Rattle.operand_rules.specs.declared.values.Refusal.TheVariants.{NotTyped, NoMemory}
-use Rattle.operand_rules.specs.Values.{SameContent, typed_of}
+use Rattle.type_table.specs.declared.operand_rules.values.Value.{Value}
+use Rattle.type_table.specs.declared.operand_rules.values.Refusal.{Refusal}
+use Rattle.type_table.specs.declared.operand_rules.values.Refusal.TheVariants.{NotTyped, NoMemory}
+use Rattle.type_table.specs.OperandRules.Values.{SameContent, typed_of}
 use Rattle.operator_rules.specs.AccessRules.Functions.{AreValues}
 use Rattle.operand_modes.specs.Operands.{AreOperands}
-use Rattle.operand_answers.specs.declared.lists.OperandList.{OperandList}
-use Rattle.operand_answers.specs.Lists.{AllStandAt}
+use Rattle.operand_modes.specs.declared.operand_answers.lists.OperandList.{OperandList}
+use Rattle.operand_modes.specs.OperandAnswers.Lists.{AllStandAt}
 
 -- two values with the same content
 abbrev pub SameValue : Typed → Typed → Type 0

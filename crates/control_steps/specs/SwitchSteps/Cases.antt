@@ -3,10 +3,10 @@ use Rattle.std.specs.Prelude.{◌≡◌, List, map}
 use Rattle.std.specs.List.{list_all}
 use Rattle.go_tree.specs.GoTypes.Statements.{case_value}
 use Rattle.type_table.specs.TypeRelations.Environment.{defined_types}
-use Rattle.operand_rules.specs.declared.values.Value.{Value}
-use Rattle.operand_rules.specs.Values.{typed_of}
-use Rattle.checker_tables.specs.declared.tables.Tables.{Tables}
-use Rattle.checker_tables.specs.Ready.{AreReady, Keeps}
+use Rattle.type_table.specs.declared.operand_rules.values.Value.{Value}
+use Rattle.type_table.specs.OperandRules.Values.{typed_of}
+use Rattle.operand_modes.specs.declared.checker_tables.tables.Tables.{Tables}
+use Rattle.operand_modes.specs.CheckerTables.Ready.{AreReady, Keeps}
 
 -- of all values some are compared with the tag, and the rest is left
 pub record AreCompared (old new : Tables) (tag : Value) (all rest : List Value) : Type 0 where

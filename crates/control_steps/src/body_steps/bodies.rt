@@ -14,8 +14,8 @@ ghost use Rattle.control_steps.specs.Ends.{EndsAs};
 use crate::{Body, unmet};
 use go_tree::{NoMemory, StmtList};
 use jump_rules::labels_stand_once;
-use operand_rules::Refusal;
 use std::alloc::Global;
+use type_table::operand_rules::Refusal;
 
 /// Whether a body has no results.
 fn has_no_results(body: &Body) -> bool

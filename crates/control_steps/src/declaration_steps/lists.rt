@@ -5,20 +5,20 @@ ghost use Rattle.std.specs.Prelude.{◌≡◌, ℕ, List, Some, length, map, IfO
 ghost use Rattle.go_tree.specs.GoTypes.Declarations as go;
 ghost use Rattle.go_tree.specs.GoTypes.Entities.{variable};
 ghost use Rattle.type_table.specs.TypeRelations.Environment.{defined_types, env_type};
-ghost use Rattle.operand_rules.specs.declared.values.ValueType.TheVariants.{Typed};
-ghost use Rattle.operand_rules.specs.Values.{IsType, typed_of};
+ghost use Rattle.type_table.specs.declared.operand_rules.values.ValueType.TheVariants.{Typed};
+ghost use Rattle.type_table.specs.OperandRules.Values.{IsType, typed_of};
 ghost use Rattle.operator_rules.specs.Settling.{typed_option};
 ghost use Rattle.operator_rules.specs.AccessRules.Functions.{AreValues};
-ghost use Rattle.checker_tables.specs.Ready.{AreReady};
+ghost use Rattle.operand_modes.specs.CheckerTables.Ready.{AreReady};
 ghost use Rattle.control_steps.specs.DeclarationSteps.Entities.{AreEntities, GivesBinds, binds_at, entity_for};
 
 use crate::declaration_steps::entities::{Declares, declared_entity};
-use checker_tables::Tables;
 use go_tree::NoMemory;
-use operand_rules::{Refusal, Value};
+use operand_modes::checker_tables::Tables;
 use std::alloc::Global;
 use std::marker::Model;
 use type_table::TypeId;
+use type_table::operand_rules::{Refusal, Value};
 use typed_names::Entity;
 
 /// What names declare, in order.

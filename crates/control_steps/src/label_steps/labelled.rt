@@ -8,7 +8,7 @@ ghost use Rattle.control_steps.specs.Ends.{EndsAs};
 
 use go_tree::{NameAt, Stmt};
 use jump_rules::breaks;
-use operand_rules::Refusal;
+use type_table::operand_rules::Refusal;
 
 /// Whether a statement with a label is terminating that is used, by the answer for the statement: it
 /// ends, and no `break` leaves it.

@@ -8,8 +8,8 @@ ghost use Rattle.go_tree.specs.ScopeNames.Means.{binding};
 ghost use Rattle.type_table.specs.TypeRelations.Environment.{Environment};
 ghost use Rattle.typed_names.specs.declared.scopes.Scope.{Scope as Place};
 ghost use Rattle.typed_names.specs.Meanings.{Names, entity_at};
-ghost use Rattle.checker_tables.specs.declared.tables.Tables.{Tables as AllTables};
-ghost use Rattle.operand_answers.specs.Known.{IsEntity, Stands};
+ghost use Rattle.operand_modes.specs.declared.checker_tables.tables.Tables.{Tables as AllTables};
+ghost use Rattle.operand_modes.specs.OperandAnswers.Known.{IsEntity, Stands};
 ghost use Rattle.control_steps.specs.LocalBlocks.Places.{IsPlace, IsWithin};
 
 use go_tree::NoMemory;

@@ -6,15 +6,15 @@ ghost use Rattle.go_tree.specs.GoTypes.Entities as go_entity;
 ghost use Rattle.go_tree.specs.GoTypes.Operands as go_operand;
 ghost use Rattle.go_tree.specs.GoTypes.Statements as go;
 ghost use Rattle.type_table.specs.TypeRelations.Environment.{defined_types};
-ghost use Rattle.checker_tables.specs.Ready.{AreReady};
-ghost use Rattle.operand_answers.specs.Lists.{GivesAll};
+ghost use Rattle.operand_modes.specs.CheckerTables.Ready.{AreReady};
+ghost use Rattle.operand_modes.specs.OperandAnswers.Lists.{GivesAll};
 ghost use Rattle.control_steps.specs.RightSides.Values.{AreValuesIfOk, GivesValuesAlike, StandIfOk};
 
-use checker_tables::Tables;
-use operand_answers::OperandList;
+use operand_modes::checker_tables::Tables;
+use operand_modes::operand_answers::OperandList;
 use operand_modes::{ValueList, assigned_values};
-use operand_rules::Refusal;
 use std::alloc::Global;
+use type_table::operand_rules::Refusal;
 
 /// So many values, by the answer for the expressions on the right: each its own, or all results of one
 /// call; an element of a map gives two, the element and whether it is there.

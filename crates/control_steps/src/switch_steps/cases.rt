@@ -4,15 +4,15 @@ ghost use Rattle.std.specs.Prelude.{◌≡◌, IfOk, map};
 ghost use Rattle.std.specs.List.{list_all};
 ghost use Rattle.go_tree.specs.GoTypes.Statements as go;
 ghost use Rattle.type_table.specs.TypeRelations.Environment.{defined_types};
-ghost use Rattle.operand_rules.specs.Values.{IsValue, typed_of};
+ghost use Rattle.type_table.specs.OperandRules.Values.{IsValue, typed_of};
 ghost use Rattle.operator_rules.specs.AccessRules.Functions.{AreValues};
-ghost use Rattle.checker_tables.specs.Ready.{AreReady, Keeps};
+ghost use Rattle.operand_modes.specs.CheckerTables.Ready.{AreReady, Keeps};
 
 use crate::unmet;
-use checker_tables::{Tables, binary};
 use go_tree::{BinOp, NoMemory};
-use operand_rules::Value;
+use operand_modes::checker_tables::{Tables, binary};
 use std::alloc::Global;
+use type_table::operand_rules::Value;
 
 /// Whether the tag of a switch may be compared with the value of a case; an error where memory was
 /// refused.

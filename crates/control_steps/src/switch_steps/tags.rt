@@ -2,25 +2,25 @@
 
 ghost use Rattle.std.specs.Prelude.{◌≡◌, ◌||◌, List, None, Option, Some};
 ghost use Rattle.go_tree.specs.GoTypes.Answers.{given, only_if};
-ghost use Rattle.comparable_types.specs.Grown.{AreFlags};
+ghost use Rattle.type_table.specs.ComparableTypes.Grown.{AreFlags};
 ghost use Rattle.go_tree.specs.GoTypes.Defined.{Defined, comparable, under};
 ghost use Rattle.go_tree.specs.GoTypes.Entities.{run};
 ghost use Rattle.go_tree.specs.GoTypes.Operands as go_operand;
 ghost use Rattle.go_tree.specs.GoTypes.Relations.{has_nil};
 ghost use Rattle.go_tree.specs.GoTypes.Statements as go;
 ghost use Rattle.type_table.specs.TypeRelations.Environment.{defined_types, env_type};
-ghost use Rattle.operand_rules.specs.declared.values.ValueType.TheVariants.{Typed};
-ghost use Rattle.operand_rules.specs.Values.{Gives, IsType, IsValue, typed_of};
-ghost use Rattle.operand_answers.specs.AccessSteps.Bounds.{GivesBound, IsBoundIfOk};
-ghost use Rattle.checker_tables.specs.Ready.{AreReady, Keeps};
+ghost use Rattle.type_table.specs.declared.operand_rules.values.ValueType.TheVariants.{Typed};
+ghost use Rattle.type_table.specs.OperandRules.Values.{Gives, IsType, IsValue, typed_of};
+ghost use Rattle.operand_modes.specs.OperandAnswers.AccessSteps.Bounds.{GivesBound, IsBoundIfOk};
+ghost use Rattle.operand_modes.specs.CheckerTables.Ready.{AreReady, Keeps};
 ghost use Rattle.control_steps.specs.SwitchSteps.Tags.{as_operand};
 
-use checker_tables::Tables;
-use comparable_types::TypeFlags;
 use go_tree::const_eval::{Const, Kind};
-use operand_rules::{Content, Refusal, Value, ValueType, folded, has_nil};
+use operand_modes::checker_tables::Tables;
 use operator_rules::settled;
 use type_table::TypeId;
+use type_table::comparable_types::TypeFlags;
+use type_table::operand_rules::{Content, Refusal, Value, ValueType, folded, has_nil};
 use type_table::type_relations::Env;
 
 /// Whether values of a type may be compared with others, or with nil.
@@ -35,7 +35,7 @@ fn is_compared(env: &Env, flags: &TypeFlags, t: TypeId) -> bool
 }
 
 /// The value of a type that cases are compared with.
-#[tactic(auto, using(checker_tables::proofs::ReadyLemmas::flags_told, checker_tables::proofs::ReadyLemmas::types_kept))]
+#[tactic(auto, using(operand_modes::proofs::CheckerTables::ReadyLemmas::flags_told, operand_modes::proofs::CheckerTables::ReadyLemmas::types_kept))]
 fn typed_tag(tables: &mut Tables, t: TypeId) -> Result<Value, Refusal>
     requires ready { AreReady tables.old }
     requires of { IsType tables.old.env (Typed t) }
@@ -73,7 +73,7 @@ fn value_tag(tables: &mut Tables, x: Value) -> Result<Value, Refusal>
 }
 
 /// The value that cases are compared with where there is no tag: `true`.
-#[tactic(auto, using(checker_tables::proofs::ReadyLemmas::types_kept))]
+#[tactic(auto, using(operand_modes::proofs::CheckerTables::ReadyLemmas::types_kept))]
 fn true_tag(tables: &mut Tables) -> Result<Value, Refusal>
     requires ready { AreReady tables.old }
     ensures ready { AreReady tables.new }

@@ -16,22 +16,22 @@ use Rattle.go_tree.specs.GoTypes.Typing.{element, elements, with_key}
 use Rattle.type_table.specs.declared.nodes.TypeId.{TypeId}
 use Rattle.type_table.specs.TypeRelations.Environment.{Environment, defined_types, env_type}
 use Rattle.typed_names.specs.TypeExprs.Answers.{GivesType}
-use Rattle.operand_rules.specs.declared.values.ValueType.TheVariants.{Typed}
-use Rattle.operand_rules.specs.declared.values.Refusal.{Refusal}
-use Rattle.operand_rules.specs.declared.values.Refusal.TheVariants.{NotTyped, NoMemory}
-use Rattle.operand_rules.specs.Values.{IsType}
+use Rattle.type_table.specs.declared.operand_rules.values.ValueType.TheVariants.{Typed}
+use Rattle.type_table.specs.declared.operand_rules.values.Refusal.{Refusal}
+use Rattle.type_table.specs.declared.operand_rules.values.Refusal.TheVariants.{NotTyped, NoMemory}
+use Rattle.type_table.specs.OperandRules.Values.{IsType}
 use Rattle.typed_names.specs.declared.scopes.Scope.{Scope}
 use Rattle.typed_names.specs.Meanings.{Names}
 use Rattle.operand_modes.specs.declared.modes.Operand.{Operand}
 use Rattle.operand_modes.specs.Operands.{GivesOperand}
-use Rattle.literal_rules.specs.declared.elements.Element.{Element}
-use Rattle.literal_rules.specs.Elements.{AreElements, IsElement, element_at, elements_at}
-use Rattle.checker_tables.specs.declared.tables.Tables.{Tables}
-use Rattle.checker_tables.specs.Ready.{Keeps}
-use Rattle.operand_answers.specs.declared.located.Located.{Located}
-use Rattle.operand_answers.specs.Known.{Stands}
-use Rattle.operand_answers.specs.Located.{GivesAt}
-use Rattle.operand_answers.proofs.KeptLemmas.{env_kept, keeps_on, keeps_self}
+use Rattle.composite_steps.specs.declared.literal_rules.elements.Element.{Element}
+use Rattle.composite_steps.specs.LiteralRules.Elements.{AreElements, IsElement, element_at, elements_at}
+use Rattle.operand_modes.specs.declared.checker_tables.tables.Tables.{Tables}
+use Rattle.operand_modes.specs.CheckerTables.Ready.{Keeps}
+use Rattle.operand_modes.specs.declared.operand_answers.located.Located.{Located}
+use Rattle.operand_modes.specs.OperandAnswers.Known.{Stands}
+use Rattle.operand_modes.specs.OperandAnswers.Located.{GivesAt}
+use Rattle.operand_modes.proofs.OperandAnswers.KeptLemmas.{env_kept, keeps_on, keeps_self}
 use Rattle.composite_steps.specs.declared.elements.ElementList.{ElementList}
 use Rattle.composite_steps.specs.Elements.{AllSameElements, GivesElement, GivesElements, SameElement}
 use Rattle.composite_steps.proofs.ElementLemmas.{elements_on, elements_same}

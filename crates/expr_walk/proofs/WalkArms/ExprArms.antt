@@ -18,22 +18,22 @@ use Rattle.go_tree.specs.GoTypes.Operators.{binary_of, star_of, unary_of}
 use Rattle.go_tree.specs.GoTypes.Primary.{call_of, index_of, index_place, selected, selected_place, sliced}
 use Rattle.go_tree.specs.GoTypes.Typing.{all_parts, bound, package_before, parts, place, places}
 use Rattle.type_table.specs.TypeRelations.Environment.{defined_types}
-use Rattle.operand_rules.specs.declared.values.Value.{Value}
-use Rattle.operand_rules.specs.declared.values.Refusal.{Refusal}
+use Rattle.type_table.specs.declared.operand_rules.values.Value.{Value}
+use Rattle.type_table.specs.declared.operand_rules.values.Refusal.{Refusal}
 use Rattle.typed_names.specs.declared.scopes.Scope.{Scope}
 use Rattle.typed_names.specs.Meanings.{Names}
 use Rattle.typed_names.specs.Scopes.{env_at}
-use Rattle.checker_tables.specs.declared.tables.Tables.{Tables}
-use Rattle.checker_tables.specs.Ready.{Keeps}
-use Rattle.operand_answers.specs.declared.located.Located.{Located}
-use Rattle.operand_answers.specs.declared.lists.OperandList.{OperandList}
-use Rattle.operand_answers.specs.Known.{Stands}
-use Rattle.operand_answers.specs.Lists.{GivesAll}
-use Rattle.operand_answers.specs.Located.{GivesAt, IsThereIfOk}
-use Rattle.operand_answers.proofs.AnswerLemmas.{there_of}
-use Rattle.operand_answers.proofs.KeptLemmas.{env_kept, gives_kept, keeps_on}
-use Rattle.operand_answers.specs.AccessSteps.Bounds.{GivesBound}
-use Rattle.operand_answers.proofs.AccessSteps.BoundLemmas.{bound_kept}
+use Rattle.operand_modes.specs.declared.checker_tables.tables.Tables.{Tables}
+use Rattle.operand_modes.specs.CheckerTables.Ready.{Keeps}
+use Rattle.operand_modes.specs.declared.operand_answers.located.Located.{Located}
+use Rattle.operand_modes.specs.declared.operand_answers.lists.OperandList.{OperandList}
+use Rattle.operand_modes.specs.OperandAnswers.Known.{Stands}
+use Rattle.operand_modes.specs.OperandAnswers.Lists.{GivesAll}
+use Rattle.operand_modes.specs.OperandAnswers.Located.{GivesAt, IsThereIfOk}
+use Rattle.operand_modes.proofs.OperandAnswers.AnswerLemmas.{there_of}
+use Rattle.operand_modes.proofs.OperandAnswers.KeptLemmas.{env_kept, gives_kept, keeps_on}
+use Rattle.operand_modes.specs.OperandAnswers.AccessSteps.Bounds.{GivesBound}
+use Rattle.operand_modes.proofs.OperandAnswers.AccessSteps.BoundLemmas.{bound_kept}
 use Rattle.expr_walk.specs.WalkArms.Answers.{GivesExpr}
 
 -- the place in the tables

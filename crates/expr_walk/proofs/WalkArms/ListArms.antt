@@ -8,23 +8,23 @@ use Rattle.go_tree.specs.GoTypes.Entities.{Env}
 use Rattle.go_tree.specs.GoTypes.Operands as go
 use Rattle.go_tree.specs.GoTypes.Typing.{all_parts, parts, place, places}
 use Rattle.type_table.specs.TypeRelations.Environment.{Environment}
-use Rattle.operand_rules.specs.declared.values.Refusal.{Refusal}
-use Rattle.operand_rules.specs.declared.values.Refusal.TheVariants.{NotTyped, NoMemory}
+use Rattle.type_table.specs.declared.operand_rules.values.Refusal.{Refusal}
+use Rattle.type_table.specs.declared.operand_rules.values.Refusal.TheVariants.{NotTyped, NoMemory}
 use Rattle.operator_rules.specs.declared.access_rules.places.Place.{Place}
 use Rattle.operator_rules.specs.AccessRules.Places.{place_of}
 use Rattle.typed_names.specs.declared.scopes.Scope.{Scope}
 use Rattle.typed_names.specs.Meanings.{Names}
 use Rattle.operand_modes.specs.declared.modes.Operand.{Operand}
 use Rattle.operand_modes.specs.Operands.{AreOperands, IsOperand, SameOperand, operand_at, operands_at}
-use Rattle.operand_laws.specs.Alike.{AllSame}
-use Rattle.checker_tables.specs.declared.tables.Tables.{Tables}
-use Rattle.checker_tables.specs.Ready.{Keeps}
-use Rattle.operand_answers.specs.declared.located.Located.{Located}
-use Rattle.operand_answers.specs.declared.lists.OperandList.{OperandList}
-use Rattle.operand_answers.specs.Known.{Stands}
-use Rattle.operand_answers.specs.Lists.{AllStandAt, GivesAll}
-use Rattle.operand_answers.specs.Located.{IsLocated, StandsAt}
-use Rattle.operand_answers.proofs.KeptLemmas.{keeps_on, keeps_self, operands_on, operands_same}
+use Rattle.operand_modes.specs.OperandLaws.Alike.{AllSame}
+use Rattle.operand_modes.specs.declared.checker_tables.tables.Tables.{Tables}
+use Rattle.operand_modes.specs.CheckerTables.Ready.{Keeps}
+use Rattle.operand_modes.specs.declared.operand_answers.located.Located.{Located}
+use Rattle.operand_modes.specs.declared.operand_answers.lists.OperandList.{OperandList}
+use Rattle.operand_modes.specs.OperandAnswers.Known.{Stands}
+use Rattle.operand_modes.specs.OperandAnswers.Lists.{AllStandAt, GivesAll}
+use Rattle.operand_modes.specs.OperandAnswers.Located.{IsLocated, StandsAt}
+use Rattle.operand_modes.proofs.OperandAnswers.KeptLemmas.{keeps_on, keeps_self, operands_on, operands_same}
 use Rattle.expr_walk.specs.WalkArms.Answers.{GivesExpr}
 use Rattle.expr_walk.specs.WalkArms.Lists.{AreWalked}
 use Rattle.expr_walk.proofs.WalkArms.ExprArms.{at, read_before}

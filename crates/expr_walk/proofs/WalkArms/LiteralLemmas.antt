@@ -4,15 +4,15 @@ use Rattle.go_tree.specs.declared.const_eval.consts.Const.{Const}
 use Rattle.go_tree.specs.GoTypes.Answers.{given, only_if}
 use Rattle.go_tree.specs.GoTypes.Entities as go_entity
 use Rattle.go_tree.specs.GoTypes.Entities.{Binds}
-use Rattle.operand_rules.specs.declared.values.Refusal.{Refusal}
-use Rattle.operand_rules.specs.declared.values.Refusal.TheVariants.{NotTyped, NoMemory}
-use Rattle.operand_answers.specs.Located.{GivesAt}
+use Rattle.type_table.specs.declared.operand_rules.values.Refusal.{Refusal}
+use Rattle.type_table.specs.declared.operand_rules.values.Refusal.TheVariants.{NotTyped, NoMemory}
+use Rattle.operand_modes.specs.OperandAnswers.Located.{GivesAt}
 use Rattle.go_tree.specs.GoTypes.Operands.{a_function}
 use Rattle.go_tree.specs.GoTypes.Types.{FuncType}
 use Rattle.type_table.specs.declared.nodes.TypeId.{TypeId}
 use Rattle.type_table.specs.TypeRelations.Environment.{Environment, env_type}
-use Rattle.comparable_types.specs.declared.grown.TypeFlags.{TypeFlags}
-use Rattle.comparable_types.specs.Grown.{AreFlagsSoFar, DefinedBelow}
+use Rattle.type_table.specs.declared.comparable_types.grown.TypeFlags.{TypeFlags}
+use Rattle.type_table.specs.ComparableTypes.Grown.{AreFlagsSoFar, DefinedBelow}
 use Rattle.type_table.specs.ValueTypes.ValueTypes.{HasValueTypes}
 use Rattle.typed_names.specs.TypeExprs.Grown.{TypesGrown}
 use Rattle.universe_block.specs.Meanings.{entity_of}
@@ -24,11 +24,11 @@ use Rattle.typed_names.specs.declared.entities.Entity.TheVariants.{Function}
 use Rattle.operator_rules.specs.AccessRules.Functions as access
 use Rattle.operand_modes.specs.declared.modes.Operand.TheVariants as mode
 use Rattle.operand_modes.specs.Operands.{GivesOperand}
-use Rattle.checker_tables.specs.declared.tables.Tables.{Tables}
-use Rattle.checker_tables.specs.Ready.{AreReady, IsReady, Keeps}
-use Rattle.checker_tables.proofs.ReadyLemmas.{flags_told, ready_stays}
-use Rattle.operand_answers.specs.Known.{Stands}
-use Rattle.operand_answers.proofs.KeptLemmas.{keeps_self, stands_kept}
+use Rattle.operand_modes.specs.declared.checker_tables.tables.Tables.{Tables}
+use Rattle.operand_modes.specs.CheckerTables.Ready.{AreReady, IsReady, Keeps}
+use Rattle.operand_modes.proofs.CheckerTables.ReadyLemmas.{flags_told, ready_stays}
+use Rattle.operand_modes.specs.OperandAnswers.Known.{Stands}
+use Rattle.operand_modes.proofs.OperandAnswers.KeptLemmas.{keeps_self, stands_kept}
 use Rattle.typed_names.specs.declared.scopes.Scope.{Scope}
 use Rattle.func_types.specs.Answers as func
 

@@ -4,10 +4,10 @@ use Rattle.go_tree.specs.declared.spans.Span.{Span}
 use Rattle.go_tree.specs.Tree.{Expr}
 use Rattle.go_tree.specs.GoTypes.Entities.{Env}
 use Rattle.go_tree.specs.GoTypes.Typing.{parts, place}
-use Rattle.operand_rules.specs.declared.values.Refusal.{Refusal}
-use Rattle.checker_tables.specs.declared.tables.Tables.{Tables}
-use Rattle.operand_answers.specs.declared.located.Located.{Located}
-use Rattle.operand_answers.specs.Located.{GivesAt}
+use Rattle.type_table.specs.declared.operand_rules.values.Refusal.{Refusal}
+use Rattle.operand_modes.specs.declared.checker_tables.tables.Tables.{Tables}
+use Rattle.operand_modes.specs.declared.operand_answers.located.Located.{Located}
+use Rattle.operand_modes.specs.OperandAnswers.Located.{GivesAt}
 
 -- the operand that it is at its place, where it is one
 abbrev pub GivesExpr : Tables → Env → Expr Span → Result Located Refusal → Type 0

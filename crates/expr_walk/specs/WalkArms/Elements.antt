@@ -9,11 +9,11 @@ use Rattle.go_tree.specs.GoTypes.Typing.{elements}
 use Rattle.typed_names.specs.declared.scopes.Scope.{Scope}
 use Rattle.typed_names.specs.Meanings.{Names}
 use Rattle.typed_names.specs.Scopes.{env_at}
-use Rattle.literal_rules.specs.declared.elements.Element.{Element}
-use Rattle.literal_rules.specs.Elements.{AreElements, elements_at}
-use Rattle.checker_tables.specs.declared.tables.Tables.{Tables}
-use Rattle.checker_tables.specs.Ready.{Keeps}
-use Rattle.operand_answers.specs.Known.{Stands}
+use Rattle.composite_steps.specs.declared.literal_rules.elements.Element.{Element}
+use Rattle.composite_steps.specs.LiteralRules.Elements.{AreElements, elements_at}
+use Rattle.operand_modes.specs.declared.checker_tables.tables.Tables.{Tables}
+use Rattle.operand_modes.specs.CheckerTables.Ready.{Keeps}
+use Rattle.operand_modes.specs.OperandAnswers.Known.{Stands}
 use Rattle.composite_steps.specs.Elements.{AllSameElements}
 
 -- of all elements of a literal whose type has this underlying type some are walked, and the rest is left

@@ -12,11 +12,11 @@ use Rattle.operator_rules.specs.declared.access_rules.places.Place.{Place}
 use Rattle.operator_rules.specs.AccessRules.Places.{place_of}
 use Rattle.operand_modes.specs.declared.modes.Operand.{Operand}
 use Rattle.operand_modes.specs.Operands.{AreOperands, operands_at}
-use Rattle.operand_laws.specs.Alike.{AllSame}
-use Rattle.checker_tables.specs.declared.tables.Tables.{Tables}
-use Rattle.checker_tables.specs.Ready.{Keeps}
-use Rattle.operand_answers.specs.Known.{Stands}
-use Rattle.operand_answers.specs.Lists.{AllStandAt}
+use Rattle.operand_modes.specs.OperandLaws.Alike.{AllSame}
+use Rattle.operand_modes.specs.declared.checker_tables.tables.Tables.{Tables}
+use Rattle.operand_modes.specs.CheckerTables.Ready.{Keeps}
+use Rattle.operand_modes.specs.OperandAnswers.Known.{Stands}
+use Rattle.operand_modes.specs.OperandAnswers.Lists.{AllStandAt}
 
 -- of all expressions some are walked, and the rest is left
 pub record AreWalked (old new : Tables) (bs : List Names) (s : Scope) (all rest : Exprs Span) (os : List Operand)

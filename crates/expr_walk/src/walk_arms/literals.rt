@@ -13,18 +13,18 @@ ghost use Rattle.typed_names.specs.Known.{HasTypes};
 ghost use Rattle.typed_names.specs.Meanings.{entity_at};
 ghost use Rattle.typed_names.specs.Scopes.{env_at};
 ghost use Rattle.operand_modes.specs.Operands.{GivesOperand};
-ghost use Rattle.checker_tables.specs.Ready.{AreReady, Keeps};
+ghost use Rattle.operand_modes.specs.CheckerTables.Ready.{AreReady, Keeps};
 ghost use Rattle.func_types.specs.Answers.{AreTypesOf, GivesFunc, func_of};
-ghost use Rattle.operand_answers.specs.Known.{Stands};
-ghost use Rattle.operand_answers.specs.Located.{GivesAt};
+ghost use Rattle.operand_modes.specs.OperandAnswers.Known.{Stands};
+ghost use Rattle.operand_modes.specs.OperandAnswers.Located.{GivesAt};
 
-use checker_tables::Tables;
 use func_types::{func_type, function_entity};
 use go_tree::Sig;
-use operand_answers::{Located, elsewhere};
 use operand_modes::Operand;
-use operand_rules::Refusal;
+use operand_modes::checker_tables::Tables;
+use operand_modes::operand_answers::{Located, elsewhere};
 use std::alloc::Global;
+use type_table::operand_rules::Refusal;
 use type_table::type_relations::FuncType;
 use typed_names::{Blocks, Entity, Scope};
 

@@ -4,7 +4,7 @@ use Rattle.std.specs.Option.{option_to_list}
 use Rattle.std.proofs.lemmas.List.{map-append}
 use Rattle.go_tree.specs.declared.spans.Span.{Span}
 use Rattle.go_tree.specs.File.{ImportSpec, ImportDecl}
-use Rattle.module_files.specs.PathLists.{number_of}
+use Rattle.pkg_graph.specs.ModuleFiles.PathLists.{number_of}
 use Rattle.pkg_graph.specs.Package.{SourceTree, specs_in, import_specs}
 use Rattle.pkg_graph.specs.Graph.{files_import}
 use Rattle.file_tables.specs.DependencyOrder.Links.{numbers_of, spec_paths}

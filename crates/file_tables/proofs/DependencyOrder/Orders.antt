@@ -4,10 +4,10 @@ use Rattle.std.specs.Prelude.{slice_get}
 use Rattle.std.specs.Option.{option_to_list}
 use Rattle.std.proofs.lemmas.List.{length-map}
 use Rattle.go_tree.specs.declared.spans.Span.{Span}
-use Rattle.module_files.specs.Pieces.{comes_before}
-use Rattle.module_files.specs.PathLists.{number_of, has_path, AreDistinct}
-use Rattle.import_order.specs.Numbers.{AreLinks, FollowsNumbers}
-use Rattle.import_order.proofs.OpenLaws.{one_comes_before}
+use Rattle.pkg_graph.specs.ModuleFiles.Pieces.{comes_before}
+use Rattle.pkg_graph.specs.ModuleFiles.PathLists.{number_of, has_path, AreDistinct}
+use Rattle.pkg_graph.specs.ImportOrder.Numbers.{AreLinks, FollowsNumbers}
+use Rattle.pkg_graph.proofs.ImportOrder.OpenLaws.{one_comes_before}
 use Rattle.pkg_graph.specs.Package.{Package}
 use Rattle.pkg_graph.specs.Graph.{imports_of}
 use Rattle.pkg_graph.specs.Order as order

@@ -3,7 +3,7 @@ use Rattle.std.proofs.Common.{◌≡◌, ◌∙◌, refl, sym, ap, ℕ, zero, su
 use Rattle.std.specs.Prelude.{slice_get, if◌then◌else◌}
 use Rattle.std.specs.Option.{option_map}
 use Rattle.std.proofs.lemmas.List.{take_more, take_all, map-append, length-map}
-use Rattle.module_files.specs.PathLists.{number_of, has_path, with_path, AreDistinct}
+use Rattle.pkg_graph.specs.ModuleFiles.PathLists.{number_of, has_path, with_path, AreDistinct}
 use Rattle.pkg_graph.specs.Views.{package_view}
 use Rattle.pkg_graph.specs.declared.packages.Package.{Package}
 

@@ -5,7 +5,7 @@ use Rattle.std.proofs.lemmas.List.{take_more, take_all, length-set, length-repli
 use Rattle.std.proofs.lemmas.Option.{same_Some, slice_get_within}
 use Rattle.std.proofs.lemmas.Bool.{eqb-true, eqb-false}
 use Rattle.go_tree.specs.declared.spans.Span.{Span}
-use Rattle.import_order.specs.Numbers.{row}
+use Rattle.pkg_graph.specs.ImportOrder.Numbers.{row}
 use Rattle.pkg_graph.specs.Package.{Package}
 use Rattle.pkg_graph.specs.Graph.{imports_of}
 use Rattle.file_tables.specs.DependencyOrder.Links.{numbers_of, AddsTo, AreLinksOf}

@@ -3,8 +3,8 @@ use Rattle.std.specs.Prelude.{◌≡◌, ℕ, true, List, [], ◌∷◌, ◌++�
 use Rattle.std.specs.Option.{option_to_list}
 use Rattle.go_tree.specs.declared.spans.Span.{Span}
 use Rattle.go_tree.specs.File.{ImportSpec}
-use Rattle.module_files.specs.PathLists.{number_of, has_path}
-use Rattle.import_order.specs.Numbers.{row}
+use Rattle.pkg_graph.specs.ModuleFiles.PathLists.{number_of, has_path}
+use Rattle.pkg_graph.specs.ImportOrder.Numbers.{row}
 use Rattle.pkg_graph.specs.Package.{Package}
 use Rattle.pkg_graph.specs.Graph.{imports_of}
 

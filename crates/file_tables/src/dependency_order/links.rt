@@ -1,15 +1,15 @@
 //! Which packages each package imports.
 
 ghost use Rattle.std.specs.Prelude.{◌≡◌, ◌<◌, length, map, IfOk, OnOk};
-ghost use Rattle.module_files.specs.PathLists.{AreDistinct};
+ghost use Rattle.pkg_graph.specs.ModuleFiles.PathLists.{AreDistinct};
 ghost use Rattle.pkg_graph.specs.Views.{package_view};
 ghost use Rattle.file_tables.specs.DependencyOrder.Links.{AddsTo, AreLinksOf};
 
 use crate::dependency_order::numbers::package_numbers;
 use go_tree::NoMemory;
-use import_order::rows::Rows;
-use module_files::paths::Paths;
 use pkg_graph::Package;
+use pkg_graph::import_order::rows::Rows;
+use pkg_graph::module_files::paths::Paths;
 use std::alloc::Global;
 
 /// Adds the numbers to a row.

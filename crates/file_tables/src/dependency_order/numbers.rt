@@ -3,15 +3,15 @@
 ghost use Rattle.std.specs.Prelude.{◌≡◌, ◌++◌, map, IfOk, OnOk};
 ghost use Rattle.std.specs.Option.{option_to_list};
 ghost use Rattle.go_tree.specs.FileView.{import_spec_of, file_of};
-ghost use Rattle.module_files.specs.PathLists.{number_of};
+ghost use Rattle.pkg_graph.specs.ModuleFiles.PathLists.{number_of};
 ghost use Rattle.pkg_graph.specs.Package.{import_specs};
 ghost use Rattle.pkg_graph.specs.Graph.{imports_of};
 ghost use Rattle.pkg_graph.specs.Views.{package_view};
 ghost use Rattle.file_tables.specs.DependencyOrder.Links.{numbers_of, spec_paths};
 
 use go_tree::{FileTree, ImportSpec, NoMemory};
-use module_files::paths::Paths;
 use pkg_graph::Package;
+use pkg_graph::module_files::paths::Paths;
 use std::alloc::Global;
 
 /// Adds the number of the package with this path, where there is one.

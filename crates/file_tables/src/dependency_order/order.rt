@@ -1,15 +1,15 @@
 //! The order of packages.
 
 ghost use Rattle.std.specs.Prelude.{◌≡◌, ◌<◌, ◌^◌, length, map, IfOk};
-ghost use Rattle.module_files.specs.PathLists.{AreDistinct};
+ghost use Rattle.pkg_graph.specs.ModuleFiles.PathLists.{AreDistinct};
 ghost use Rattle.pkg_graph.specs.Views.{package_view};
 ghost use Rattle.run_rules.specs.Programs.{dependency_order};
 ghost use Rattle.file_tables.specs.DependencyOrder.Links.{AreNamed};
 
 use crate::dependency_order::links::{package_links, package_paths};
 use go_tree::NoMemory;
-use import_order::order::dependency_order;
 use pkg_graph::Package;
+use pkg_graph::import_order::order::dependency_order;
 use std::alloc::Global;
 
 /// The numbers of packages in the order of their imports: each time the one with the least path whose imports are all

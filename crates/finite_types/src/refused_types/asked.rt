@@ -6,10 +6,10 @@ ghost use Rattle.defined_types.specs.DeclaredTypes.{AreDeclared};
 ghost use Rattle.finite_types.specs.RefusedTypes.Refusals.{AreTested};
 
 use crate::first_finite;
-use comparable_types::TypeFlags;
 use defined_types::DeclaredType;
 use go_tree::NoMemory;
 use std::alloc::Global;
+use type_table::comparable_types::TypeFlags;
 use type_table::type_relations::Env;
 
 /// Which types of a table have comparable keys in their maps, and which are finite, by their numbers,

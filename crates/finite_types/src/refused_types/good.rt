@@ -13,8 +13,8 @@ ghost use Rattle.finite_types.specs.RefusedTypes.Refusals.{AreTested, is_good_at
 use crate::refused_types::asked::TypeTests;
 use crate::{extend_finite, is_finite};
 use go_tree::{NoMemory, TypeSpec};
-use operand_rules::Refusal;
 use std::alloc::{AllocError, Global};
+use type_table::operand_rules::Refusal;
 use type_table::type_relations::Env;
 use typed_names::type_exprs::type_meant;
 use typed_names::{Blocks, Scope};

@@ -25,8 +25,8 @@ use Rattle.package_blocks.specs.Collected.{names_at_home}
 use Rattle.package_blocks.specs.Names.{HasNames, is_declared}
 use Rattle.package_blocks.proofs.CollectedLemmas.{refused_member}
 use Rattle.package_blocks.proofs.FirstLemmas.{AllHome, home_files}
-use Rattle.func_headers.specs.NameRoles.{role_of}
-use Rattle.func_headers.proofs.StayLaws.{types_stay}
+use Rattle.package_blocks.specs.FuncHeaders.NameRoles.{role_of}
+use Rattle.package_blocks.proofs.FuncHeaders.StayLaws.{types_stay}
 use Rattle.header_order.specs.Files.{NumbersApart}
 use Rattle.header_order.specs.FirstImports.Firsts.{HaveNames}
 use Rattle.header_order.specs.FirstImports.Laws.{BlocksHaveNames}

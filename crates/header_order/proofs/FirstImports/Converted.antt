@@ -21,7 +21,7 @@ use Rattle.package_blocks.specs.Collected.{AreOrdered, Following, no_more, and_t
 use Rattle.package_blocks.specs.Imports.{views}
 use Rattle.package_blocks.specs.Names.{HasNames}
 use Rattle.package_blocks.proofs.CollectedLemmas.{order_computed, order_follows}
-use Rattle.func_headers.specs.Functions.{program_of}
+use Rattle.package_blocks.specs.FuncHeaders.Functions.{program_of}
 use Rattle.header_order.specs.Files.{imports_refused}
 use Rattle.header_order.specs.RefusedImports.First.{AreImports}
 use Rattle.file_names.specs.Imports.{import_in}

@@ -13,7 +13,7 @@ use Rattle.typed_names.specs.declared.scopes.Scope.{Scope}
 use Rattle.package_blocks.specs.declared.headers.PackageHeader.{PackageHeader}
 use Rattle.package_blocks.specs.Collected.{AreOrdered}
 use Rattle.package_blocks.specs.Headers.{AreHeaders, listed_of}
-use Rattle.func_headers.specs.Functions.{program_of}
+use Rattle.package_blocks.specs.FuncHeaders.Functions.{program_of}
 use Rattle.header_order.specs.declared.kinds.RefusedHeaders.{RefusedHeaders}
 use Rattle.header_order.specs.Kinds.{AreRefused, marks_of, program_wrongs, wrongs}
 use Rattle.header_order.specs.Files.{counts_of, file_counts, first_marks, first_of_files, headers_refused, refusal_at, total, NumbersApart}

@@ -5,7 +5,7 @@ ghost use Rattle.go_tree.specs.GoTypes.Programs.{headed};
 ghost use Rattle.go_tree.specs.GoTypes.Collect.{collected};
 ghost use Rattle.package_blocks.specs.Collected.{AreOrdered};
 ghost use Rattle.file_names.specs.Imports.{FindsPackages};
-ghost use Rattle.func_headers.specs.Functions.{program_of};
+ghost use Rattle.package_blocks.specs.FuncHeaders.Functions.{program_of};
 ghost use Rattle.header_order.specs.FirstRefusals.Files.{file_numbers};
 ghost use Rattle.header_order.specs.FirstRefusals.Declarations.{AreFirstImports};
 ghost use Rattle.header_order.specs.FirstImports.Firsts.{AddsFirsts, AllUsed, FirstWith, HaveNames, IsFirst};

@@ -6,7 +6,7 @@ ghost use Rattle.go_tree.specs.GoTypes.Programs.{headed};
 ghost use Rattle.typed_names.specs.declared.scopes.Scope.{Scope};
 ghost use Rattle.package_blocks.specs.Collected.{AreOrdered};
 ghost use Rattle.package_blocks.specs.Headers.{AreHeaders, listed_of};
-ghost use Rattle.func_headers.specs.Functions.{program_of};
+ghost use Rattle.package_blocks.specs.FuncHeaders.Functions.{program_of};
 ghost use Rattle.header_order.specs.Kinds.{AreRefused};
 ghost use Rattle.header_order.specs.RefusedImports.First.{refused_at};
 ghost use Rattle.header_order.specs.FirstRefusals.Files.{files_of, first_there, header_place, number_in};

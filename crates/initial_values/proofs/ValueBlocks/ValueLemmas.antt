@@ -10,7 +10,7 @@ use Rattle.type_table.specs.TypeRelations.Environment.{Environment}
 use Rattle.typed_names.specs.declared.entities.Entity.{Entity}
 use Rattle.typed_names.specs.Known.{AllHaveTypes, HasTypes}
 use Rattle.typed_names.specs.Meanings.{Names, block_at, with_member, with_name}
-use Rattle.operand_answers.specs.Known.{AllHaveValues, HasValue, HaveValues, IsEntity}
+use Rattle.operand_modes.specs.OperandAnswers.Known.{AllHaveValues, HasValue, HaveValues, IsEntity}
 use Rattle.package_blocks.specs.Names.{plain_names}
 use Rattle.initial_values.specs.ValueEntities.Entities.{AreEntities, bound}
 use Rattle.value_rounds.specs.Steps.{over}

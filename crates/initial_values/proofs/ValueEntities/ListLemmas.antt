@@ -12,15 +12,15 @@ use Rattle.go_tree.specs.GoTypes.Operands as go_operand
 use Rattle.go_tree.specs.GoTypes.Operands.{Typed, all_typed, default_type, fits, settled, typed, value, several, a_type, a_function, a_builtin, recovered}
 use Rattle.typed_names.proofs.TypeExprs.NewNames.{drop_all, drop_item}
 use Rattle.type_table.specs.TypeRelations.Environment.{Environment}
-use Rattle.operand_rules.specs.Values.{SameContent}
+use Rattle.type_table.specs.OperandRules.Values.{SameContent}
 use Rattle.operand_modes.specs.declared.modes.Operand.{Operand}
 use Rattle.operand_modes.specs.Operands.{AreOperands, SameOperand, operand_at, operands_at}
-use Rattle.operand_laws.specs.Alike.{AllSame}
-use Rattle.operand_laws.proofs.ContentLemmas.{alike_by}
-use Rattle.operand_laws.proofs.ValueLemmas.{fitting_sees_alike}
+use Rattle.operand_modes.specs.OperandLaws.Alike.{AllSame}
+use Rattle.operand_modes.proofs.OperandLaws.ContentLemmas.{alike_by}
+use Rattle.operand_modes.proofs.OperandLaws.ValueLemmas.{fitting_sees_alike}
 use Rattle.typed_names.specs.declared.entities.Entity.{Entity}
 use Rattle.typed_names.specs.Meanings.{entity_at, entity_option}
-use Rattle.operand_answers.specs.Known.{IsEntity}
+use Rattle.operand_modes.specs.OperandAnswers.Known.{IsEntity}
 use Rattle.initial_values.specs.declared.value_entities.entities.ValueKind.{ValueKind}
 use Rattle.initial_values.specs.declared.value_entities.entities.ValueKind.TheVariants as kind
 use Rattle.initial_values.specs.ValueEntities.Entities.{AreEntities, GivesEntities, bound, entities_by, entity_by, operand_by}

@@ -17,20 +17,20 @@ use Rattle.go_tree.specs.GoTypes.Relations.{same_underlying}
 use Rattle.go_tree.proofs.GoTypes.IdenticalLaws.{identical_same}
 use Rattle.type_table.specs.TypeRelations.Environment.{Environment, defined_types, env_type}
 use Rattle.type_table.specs.declared.nodes.TypeId.{TypeId}
-use Rattle.operand_rules.specs.declared.constants.ConstId.{ConstId}
-use Rattle.operand_rules.specs.declared.values.Content.{Content}
-use Rattle.operand_rules.specs.declared.values.Content.TheVariants.{Run, Exact, Shift}
-use Rattle.operand_rules.specs.declared.values.ValueType as code
-use Rattle.operand_rules.specs.declared.values.ValueType.TheVariants as variant
-use Rattle.operand_rules.specs.declared.values.Value.{Value}
-use Rattle.operand_rules.specs.Constants.{const_at}
-use Rattle.operand_rules.specs.Values.{IsContent, IsType, IsValue, content_of, type_of, typed_of}
-use Rattle.operand_rules.proofs.TypeLemmas.{kind_of_typed}
+use Rattle.type_table.specs.declared.operand_rules.constants.ConstId.{ConstId}
+use Rattle.type_table.specs.declared.operand_rules.values.Content.{Content}
+use Rattle.type_table.specs.declared.operand_rules.values.Content.TheVariants.{Run, Exact, Shift}
+use Rattle.type_table.specs.declared.operand_rules.values.ValueType as code
+use Rattle.type_table.specs.declared.operand_rules.values.ValueType.TheVariants as variant
+use Rattle.type_table.specs.declared.operand_rules.values.Value.{Value}
+use Rattle.type_table.specs.OperandRules.Constants.{const_at}
+use Rattle.type_table.specs.OperandRules.Values.{IsContent, IsType, IsValue, content_of, type_of, typed_of}
+use Rattle.type_table.proofs.OperandRules.TypeLemmas.{kind_of_typed}
 use Rattle.operator_rules.specs.Settling.{typed_option}
 use Rattle.typed_names.specs.declared.entities.Entity.{Entity}
 use Rattle.typed_names.specs.declared.entities.Entity.TheVariants.{Constant, Variable as a_variable}
 use Rattle.typed_names.specs.Meanings.{entity_option}
-use Rattle.operand_answers.specs.Known.{IsEntity}
+use Rattle.operand_modes.specs.OperandAnswers.Known.{IsEntity}
 use Rattle.initial_values.specs.ValueEntities.Entities.{constant_fits, variable_option}
 
 first : (a b : Bool) → (a && b) ≡ true → a ≡ true

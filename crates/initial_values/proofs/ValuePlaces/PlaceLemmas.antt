@@ -25,9 +25,9 @@ use Rattle.typed_names.specs.Scopes.{env_at}
 use Rattle.typed_names.proofs.NameLaws.{means_read}
 use Rattle.declared_types.specs.Headers.{IsFileOf}
 use Rattle.declared_types.proofs.NamesClearer.{means_append}
-use Rattle.checker_tables.specs.declared.tables.Tables.{Tables}
-use Rattle.checker_tables.specs.Ready.{AreReady}
-use Rattle.operand_answers.specs.Known.{AllHaveValues, HasValue, HaveValues, Stands}
+use Rattle.operand_modes.specs.declared.checker_tables.tables.Tables.{Tables}
+use Rattle.operand_modes.specs.CheckerTables.Ready.{AreReady}
+use Rattle.operand_modes.specs.OperandAnswers.Known.{AllHaveValues, HasValue, HaveValues, Stands}
 use Rattle.initial_values.specs.ValuePlaces.Names.{names_of_each, value_names}
 use Rattle.initial_values.specs.ValuePlaces.Places.{AreImports, IsValuePlace, SameIn, is_import}
 use Rattle.initial_values.proofs.ValuePlaces.NameLemmas.{all_free, all_left, all_right}

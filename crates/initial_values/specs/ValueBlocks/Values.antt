@@ -8,7 +8,7 @@ use Rattle.type_table.specs.TypeRelations.Environment.{Environment}
 use Rattle.typed_names.specs.declared.entities.Entity.{Entity}
 use Rattle.typed_names.specs.Known.{AllHaveTypes}
 use Rattle.typed_names.specs.Meanings.{Names, block_at}
-use Rattle.operand_answers.specs.Known.{AllHaveValues}
+use Rattle.operand_modes.specs.OperandAnswers.Known.{AllHaveValues}
 use Rattle.package_blocks.specs.Names.{plain_names}
 use Rattle.initial_values.specs.ValueEntities.Entities.{AreEntities, bound}
 use Rattle.value_rounds.specs.Steps.{over}

@@ -13,12 +13,12 @@ use Rattle.go_tree.specs.GoTypes.Operands.{Operand, Typed, fits, typed}
 use Rattle.go_tree.specs.GoTypes.Declarations.{constant_entity, variable_entity}
 use Rattle.type_table.specs.TypeRelations.Environment as types
 use Rattle.type_table.specs.declared.nodes.TypeId.{TypeId}
-use Rattle.operand_rules.specs.declared.values.Refusal.{Refusal}
-use Rattle.operand_rules.specs.declared.values.Refusal.TheVariants.{NotTyped, NoMemory}
+use Rattle.type_table.specs.declared.operand_rules.values.Refusal.{Refusal}
+use Rattle.type_table.specs.declared.operand_rules.values.Refusal.TheVariants.{NotTyped, NoMemory}
 use Rattle.typed_names.specs.declared.entities.Entity.{Entity}
 use Rattle.typed_names.specs.declared.entities.Entity.TheVariants.{Variable as a_variable}
 use Rattle.typed_names.specs.Meanings.{entity_at}
-use Rattle.operand_answers.specs.Known.{IsEntity}
+use Rattle.operand_modes.specs.OperandAnswers.Known.{IsEntity}
 use Rattle.initial_values.specs.declared.value_entities.entities.ValueKind.{ValueKind}
 use Rattle.initial_values.specs.declared.value_entities.entities.ValueKind.TheVariants as kind
 

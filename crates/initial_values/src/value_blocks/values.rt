@@ -5,7 +5,7 @@ ghost use Rattle.std.specs.Prelude.{◌≡◌, List, length, IfOk, OnErr, OnOk};
 ghost use Rattle.go_tree.specs.declared.const_eval.consts.Const.{Const};
 ghost use Rattle.go_tree.specs.ScopeNames.Means as scope;
 ghost use Rattle.type_table.specs.TypeRelations.Environment.{Environment};
-ghost use Rattle.operand_answers.specs.Known.{IsEntity};
+ghost use Rattle.operand_modes.specs.OperandAnswers.Known.{IsEntity};
 ghost use Rattle.package_blocks.specs.Names.{plain_names};
 ghost use Rattle.initial_values.specs.ValueEntities.Entities.{AreEntities};
 ghost use Rattle.initial_values.specs.ValueBlocks.Values.{AreThere, SetsName, SetsNames};

@@ -4,18 +4,18 @@
 ghost use Rattle.std.specs.Prelude.{◌≡◌, IfSome};
 ghost use Rattle.go_tree.specs.GoTypes.Declarations as go;
 ghost use Rattle.type_table.specs.TypeRelations.Environment.{defined_types, env_type};
-ghost use Rattle.operand_rules.specs.declared.values.ValueType.TheVariants.{Typed};
-ghost use Rattle.operand_rules.specs.Values.{IsType, IsValue, typed_of};
+ghost use Rattle.type_table.specs.declared.operand_rules.values.ValueType.TheVariants.{Typed};
+ghost use Rattle.type_table.specs.OperandRules.Values.{IsType, IsValue, typed_of};
 ghost use Rattle.operator_rules.specs.Settling.{typed_option};
 ghost use Rattle.typed_names.specs.Meanings.{entity_option};
-ghost use Rattle.checker_tables.specs.Ready.{AreReady};
-ghost use Rattle.operand_answers.specs.Known.{IsEntity};
+ghost use Rattle.operand_modes.specs.CheckerTables.Ready.{AreReady};
+ghost use Rattle.operand_modes.specs.OperandAnswers.Known.{IsEntity};
 ghost use Rattle.initial_values.specs.ValueEntities.Entities.{constant_fits, entity_by, variable_option};
 
-use checker_tables::Tables;
-use operand_rules::{Content, Value, ValueType, fits, under_kind};
+use operand_modes::checker_tables::Tables;
 use operator_rules::settled;
 use type_table::TypeId;
+use type_table::operand_rules::{Content, Value, ValueType, fits, under_kind};
 use typed_names::Entity;
 
 /// Whether names are declared as constants or as variables.

@@ -3,22 +3,22 @@
 
 ghost use Rattle.std.specs.Prelude.{◌≡◌, IfSome};
 ghost use Rattle.type_table.specs.TypeRelations.Environment.{defined_types};
-ghost use Rattle.operand_rules.specs.declared.values.ValueType.TheVariants.{Typed};
-ghost use Rattle.operand_rules.specs.Values.{IsType};
+ghost use Rattle.type_table.specs.declared.operand_rules.values.ValueType.TheVariants.{Typed};
+ghost use Rattle.type_table.specs.OperandRules.Values.{IsType};
 ghost use Rattle.operator_rules.specs.Settling.{typed_option};
 ghost use Rattle.operand_modes.specs.Operands.{AreOperands, IsOperand, operand_at, operands_at};
 ghost use Rattle.typed_names.specs.Meanings.{entity_option};
-ghost use Rattle.checker_tables.specs.Ready.{AreReady};
-ghost use Rattle.operand_answers.specs.Known.{IsEntity};
+ghost use Rattle.operand_modes.specs.CheckerTables.Ready.{AreReady};
+ghost use Rattle.operand_modes.specs.OperandAnswers.Known.{IsEntity};
 ghost use Rattle.initial_values.specs.ValueEntities.Entities.{GivesEntities, GivesVariables, entities_by, operand_by};
 
 use crate::value_entities::entities::{ValueKind, entity_of};
-use checker_tables::Tables;
+use operand_modes::checker_tables::Tables;
 use operand_modes::{Operand, single_value};
-use operand_rules::Refusal;
 use std::alloc::Global;
 use std::marker::Model;
 use type_table::TypeId;
+use type_table::operand_rules::Refusal;
 use typed_names::Entity;
 
 /// What names are declared as, in their order.

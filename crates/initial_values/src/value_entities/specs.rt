@@ -14,12 +14,12 @@ ghost use Rattle.go_tree.specs.GoTypes.Initial as go_initial;
 ghost use Rattle.go_tree.specs.GoTypes.TypeNames as go_types;
 ghost use Rattle.go_tree.specs.ScopeNames.FreeNames.{names_of};
 ghost use Rattle.type_table.specs.TypeRelations.Environment.{Environment};
-ghost use Rattle.operand_rules.specs.declared.values.ValueType.TheVariants.{Typed};
-ghost use Rattle.operand_rules.specs.Values.{IsType};
+ghost use Rattle.type_table.specs.declared.operand_rules.values.ValueType.TheVariants.{Typed};
+ghost use Rattle.type_table.specs.OperandRules.Values.{IsType};
 ghost use Rattle.operator_rules.specs.Settling.{typed_option};
 ghost use Rattle.typed_names.specs.Scopes.{env_at};
-ghost use Rattle.checker_tables.specs.Ready.{Keeps};
-ghost use Rattle.operand_answers.specs.Known.{Stands};
+ghost use Rattle.operand_modes.specs.CheckerTables.Ready.{Keeps};
+ghost use Rattle.operand_modes.specs.OperandAnswers.Known.{Stands};
 ghost use Rattle.expr_walk.specs.Walked.{AreAllWalked};
 ghost use Rattle.initial_values.specs.Spelled.{AllHaveGoodLiterals};
 ghost use Rattle.initial_values.specs.ValueEntities.Entities.{GivesBinds};
@@ -28,12 +28,12 @@ ghost use Rattle.initial_values.specs.ValueEntities.Steps.{GivesWritten, GivesZe
 use crate::value_entities::entities::ValueKind;
 use crate::value_entities::lists::{EntityList, entities_of, variables_of};
 use crate::{all_bodiless, all_initial};
-use checker_tables::{Tables, meant};
 use expr_walk::all_exprs;
 use go_tree::{ConstSpec, ExprList, NameAtList, TypeExpr, VarSpec};
-use operand_rules::Refusal;
+use operand_modes::checker_tables::{Tables, meant};
 use std::alloc::Global;
 use type_table::TypeId;
+use type_table::operand_rules::Refusal;
 use typed_names::{Blocks, Scope};
 
 /// The type that is written, where one is.

@@ -11,9 +11,9 @@ use Rattle.go_tree.specs.Tree.{NameAt, TypeExpr, named, Param, Expr, ident, int_
 use Rattle.go_tree.specs.File.{Func, values, types, func, File}
 use Rattle.go_tree.specs.ScopeNames.Binders.{func_binders}
 use Rattle.pkg_graph.specs.Package.{Package}
-use Rattle.module_files.specs.Internal.{passes}
+use Rattle.pkg_graph.specs.ModuleFiles.Internal.{passes}
 use Rattle.param_choice.specs.Chosen.{has}
-use Rattle.import_rules.specs.Removed.{same_span}
+use Rattle.run_rules.specs.ImportRules.Removed.{same_span}
 use Rattle.go_tree.specs.GoTypes.Types.{named_type}
 use Rattle.go_tree.specs.GoTypes.Entities.{run}
 use Rattle.go_tree.specs.GoTypes.Typing.{parts}

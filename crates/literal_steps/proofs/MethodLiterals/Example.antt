@@ -20,7 +20,7 @@ use Rattle.go_tree.specs.Tree.{NameAt, TypeExpr, named, pointer, Param, Expr, id
 use Rattle.go_tree.specs.File.{Receiver, Func, values, types, func, File}
 use Rattle.pkg_graph.specs.Package.{SourceTree, Package}
 use Rattle.param_choice.specs.Chosen.{has}
-use Rattle.import_rules.specs.Removed.{same_span}
+use Rattle.run_rules.specs.ImportRules.Removed.{same_span}
 use Rattle.go_tree.specs.GoTypes.Types.{named_type, pointer_to}
 use Rattle.go_tree.specs.GoTypes.Entities.{run, variable, extend}
 use Rattle.go_tree.specs.GoTypes.Typing.{parts}

@@ -8,8 +8,8 @@ use Rattle.go_tree.specs.Tree.{Expr, int_lit, composite, no_elems}
 use Rattle.go_tree.specs.File.{ImportSpec}
 use Rattle.go_tree.specs.declared.const_eval.kinds.Kind.TheVariants as kind
 use Rattle.go_tree.specs.GoWords.Tokens.Pieces.{keyword_spellings}
-use Rattle.module_files.specs.Internal.{passes}
-use Rattle.import_rules.specs.Removed.{same_span}
+use Rattle.pkg_graph.specs.ModuleFiles.Internal.{passes}
+use Rattle.run_rules.specs.ImportRules.Removed.{same_span}
 use Rattle.go_tree.specs.GoTypes.Types.{GoType, basic, struct_of, no_go_fields, go_field}
 use Rattle.go_tree.specs.GoTypes.Typing.{parts}
 use Rattle.go_tree.specs.GoTypes.WellTyped.{well_typed}

@@ -19,7 +19,7 @@ use Rattle.declared_types.specs.Headers.{IsFileOf}
 use Rattle.package_blocks.specs.declared.headers.PackageHeader.{PackageHeader}
 use Rattle.package_blocks.specs.Headers.{AreHeaders, IsHeader, Listed, a_header, header_of, listed_of, no_headers}
 use Rattle.package_blocks.proofs.HeaderLemmas.{append_none}
-use Rattle.func_headers.proofs.SameTypeLaws.{place_types, same_type}
+use Rattle.package_blocks.proofs.FuncHeaders.SameTypeLaws.{place_types, same_type}
 use Rattle.method_headers.specs.Methods.{GivesReceiver, IsReceiver, own_type_name, receiver_at}
 use Rattle.method_types.specs.declared.method_names.headers.MethodAt.{MethodAt}
 use Rattle.method_types.specs.MethodNames.Attached as steps

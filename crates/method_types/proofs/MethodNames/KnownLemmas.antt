@@ -14,7 +14,7 @@ use Rattle.type_table.specs.declared.nodes.TypeId.{TypeId}
 use Rattle.typed_names.specs.Meanings.{Names}
 use Rattle.typed_names.proofs.NameLaws.{turned}
 use Rattle.package_blocks.specs.Names.{is_declared}
-use Rattle.func_headers.proofs.HeaderSteps.{blank_declared, named_declared}
+use Rattle.package_blocks.proofs.FuncHeaders.HeaderSteps.{blank_declared, named_declared}
 use Rattle.method_headers.specs.Methods.{GivesReceiver}
 use Rattle.method_types.specs.MethodNames.Known.{AreFields, AreMethods, Attaches, has_name, type_fields}
 

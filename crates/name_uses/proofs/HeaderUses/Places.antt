@@ -13,9 +13,9 @@ use Rattle.typed_names.specs.declared.scopes.Scope.{Scope}
 use Rattle.typed_names.specs.Meanings.{Names, world_at, names_at}
 use Rattle.typed_names.specs.Scopes.{env_at}
 use Rattle.declared_types.specs.Headers.{IsFileOf}
-use Rattle.func_headers.specs.NameRoles.{NameRole, a_type, a_package, another, role_of, SameTypes, SameTypesAt}
-use Rattle.func_headers.proofs.SameTypeLaws.{same_type, header_types, place_types, types_back, types_on}
-use Rattle.func_headers.proofs.MethodsAside.{methods_aside}
+use Rattle.package_blocks.specs.FuncHeaders.NameRoles.{NameRole, a_type, a_package, another, role_of, SameTypes, SameTypesAt}
+use Rattle.package_blocks.proofs.FuncHeaders.SameTypeLaws.{same_type, header_types, place_types, types_back, types_on}
+use Rattle.package_blocks.proofs.FuncHeaders.MethodsAside.{methods_aside}
 use Rattle.used_names.specs.Stands.{Stands}
 
 -- ---- packages by roles

@@ -17,7 +17,7 @@ use Rattle.go_tree.specs.GoTypes.Programs.{Headed, env_of}
 use Rattle.go_tree.specs.GoTypes.MethodDeclarations.{receiver_type, receiver_binds}
 use Rattle.go_tree.specs.GoTypes.WellTyped.{receiver_of}
 use Rattle.go_tree.proofs.GoTypes.Agreeing.{Bound, binds, later, Covers}
-use Rattle.func_headers.proofs.Signatures.{blank_append, params_bound, then_bound}
+use Rattle.package_blocks.proofs.FuncHeaders.Signatures.{blank_append, params_bound, then_bound}
 use Rattle.method_headers.specs.Methods.{receiver_at}
 use Rattle.used_names.specs.Uses.{has_local, fields_have_local}
 use Rattle.used_names.specs.Stands.{Stands}

@@ -14,7 +14,7 @@ use Rattle.typed_names.specs.declared.scopes.Scope.{Scope}
 use Rattle.typed_names.specs.Meanings.{Names, world_at}
 use Rattle.typed_names.specs.Scopes.{env_at}
 use Rattle.declared_types.specs.Headers.{IsFileOf}
-use Rattle.func_headers.specs.NameRoles.{SameTypes}
+use Rattle.package_blocks.specs.FuncHeaders.NameRoles.{SameTypes}
 use Rattle.used_names.specs.Uses.{start}
 use Rattle.used_names.specs.Stands.{Stands}
 use Rattle.name_uses.specs.HeaderUses.Headers.{after_decls}

@@ -17,11 +17,11 @@ ghost use Rattle.name_uses.specs.HeaderUses.Headers.{hush_receiver, is_seen, own
 
 use crate::body_uses::{exprs_uses, stmts_uses};
 use crate::{NameUses, begin_sig, declare_option, sig_uses, type_option_uses, type_uses};
-use func_headers::{has_distinct_names, has_distinct_names_with};
 use go_tree::{
     ConstSpec, ConstSpecList, Decl, ExprList, FuncDecl, NameAt, NoMemory, Param, Receiver, Sig,
     TypeSpec, VarSpecList,
 };
+use package_blocks::func_headers::{has_distinct_names, has_distinct_names_with};
 use std::alloc::Global;
 
 fn hush_option(uses: &mut NameUses, name: &Option<NameAt>) -> Result<(), NoMemory>

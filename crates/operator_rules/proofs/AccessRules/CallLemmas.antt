@@ -7,9 +7,9 @@ use Rattle.go_tree.specs.GoTypes.Entities.{run}
 use Rattle.go_tree.specs.GoTypes.Operands.{Operand, value, several, spread, takes, takes_all}
 use Rattle.type_table.specs.declared.nodes.TypeId.{TypeId}
 use Rattle.type_table.specs.TypeRelations.Environment.{Environment, defined_types, env_type}
-use Rattle.operand_rules.specs.declared.values.ValueType.TheVariants.{Typed}
-use Rattle.operand_rules.specs.declared.values.Value.{Value}
-use Rattle.operand_rules.specs.Values.{IsType, IsValue}
+use Rattle.type_table.specs.declared.operand_rules.values.ValueType.TheVariants.{Typed}
+use Rattle.type_table.specs.declared.operand_rules.values.Value.{Value}
+use Rattle.type_table.specs.OperandRules.Values.{IsType, IsValue}
 use Rattle.operator_rules.specs.AccessRules.Functions.{AreTypes, AreValues, operands_of, results_of, types_at}
 
 module _ {A : Type 0} (e : Environment) (f : A → Operand) where

@@ -8,9 +8,9 @@ use Rattle.go_tree.specs.GoTypes.Operands.{Operand, value, a_function}
 use Rattle.type_table.specs.declared.nodes.TypeId.{TypeId}
 use Rattle.type_table.specs.declared.type_relations.methods.FuncType.{FuncType}
 use Rattle.type_table.specs.TypeRelations.Environment.{Environment, env_type}
-use Rattle.operand_rules.specs.declared.values.ValueType.TheVariants.{Typed}
-use Rattle.operand_rules.specs.declared.values.Value.{Value}
-use Rattle.operand_rules.specs.Values.{IsType, IsValue, type_of, content_of}
+use Rattle.type_table.specs.declared.operand_rules.values.ValueType.TheVariants.{Typed}
+use Rattle.type_table.specs.declared.operand_rules.values.Value.{Value}
+use Rattle.type_table.specs.OperandRules.Values.{IsType, IsValue, type_of, content_of}
 
 -- types by their numbers
 abbrev pub types_at : Environment → List TypeId → List go.GoType

@@ -3,8 +3,8 @@ use Rattle.std.specs.Prelude.{Option, Some, None}
 use Rattle.go_tree.specs.GoTypes.Entities.{run}
 use Rattle.go_tree.specs.GoTypes.Operands.{Operand, value, a_function}
 use Rattle.type_table.specs.TypeRelations.Environment.{Environment, env_type}
-use Rattle.operand_rules.specs.declared.values.ValueType.TheVariants.{Typed}
-use Rattle.operand_rules.specs.Values.{IsType}
+use Rattle.type_table.specs.declared.operand_rules.values.ValueType.TheVariants.{Typed}
+use Rattle.type_table.specs.OperandRules.Values.{IsType}
 use Rattle.operator_rules.specs.declared.access_rules.selectors.Selection.{Selection}
 use Rattle.operator_rules.specs.declared.access_rules.selectors.Selection.TheVariants.{Field, Method}
 use Rattle.operator_rules.specs.AccessRules.Functions.{function_of}

@@ -3,8 +3,8 @@ use Rattle.std.specs.Prelude.{List, Option, Some, None}
 use Rattle.go_tree.specs.declared.const_eval.consts.Const.{Const}
 use Rattle.go_tree.specs.GoTypes.Operands.{Typed}
 use Rattle.type_table.specs.TypeRelations.Environment.{Environment}
-use Rattle.operand_rules.specs.declared.values.Value.{Value}
-use Rattle.operand_rules.specs.Values.{IsValue, typed_of}
+use Rattle.type_table.specs.declared.operand_rules.values.Value.{Value}
+use Rattle.type_table.specs.OperandRules.Values.{IsValue, typed_of}
 
 -- the bound that there is
 abbrev pub bound_of : Environment → List Const → Option Value → Option Typed

@@ -8,8 +8,8 @@ ghost use Rattle.type_table.specs.TypeRelations.Environment.{defined_types};
 ghost use Rattle.operator_rules.specs.AccessRules.Functions.{AreTypes, AreValues, function_of, operands_of, results_of};
 ghost use Rattle.operator_rules.specs.AccessRules.Functions.{types_at};
 
-use operand_rules::{ConstTable, Value, fits};
 use type_table::TypeId;
+use type_table::operand_rules::{ConstTable, Value, fits};
 use type_table::type_relations::{Env, FuncType, assignable};
 
 /// Whether each argument may stand where one of its parameter's type is wanted, one by one.

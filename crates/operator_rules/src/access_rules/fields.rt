@@ -8,15 +8,15 @@ ghost use Rattle.go_tree.specs.GoTypes.Primary as go;
 ghost use Rattle.type_table.specs.Rows.{field_of, row_of};
 ghost use Rattle.type_table.specs.TypesAt.{fields_by, type_by};
 ghost use Rattle.type_table.specs.TypeRelations.Environment.{defined_types, env_type};
-ghost use Rattle.operand_rules.specs.declared.values.ValueType.TheVariants.{Typed};
-ghost use Rattle.operand_rules.specs.Values.{IsType, type_of};
+ghost use Rattle.type_table.specs.declared.operand_rules.values.ValueType.TheVariants.{Typed};
+ghost use Rattle.type_table.specs.OperandRules.Values.{IsType, type_of};
 ghost use Rattle.operator_rules.specs.Settling.{typed_option};
 ghost use Rattle.operator_rules.specs.Parts.{FieldParts, HasParts, RowParts};
 ghost use Rattle.operator_rules.specs.AccessRules.Places.{place_of};
 
 use crate::access_rules::forms::form;
 use crate::access_rules::places::Place;
-use operand_rules::ValueType;
+use type_table::operand_rules::ValueType;
 use type_table::type_relations::Env;
 use type_table::{Field, TypeId, TypeNode};
 

@@ -6,7 +6,7 @@ ghost use Rattle.go_tree.specs.GoTypes.Entities as go_entity;
 ghost use Rattle.go_tree.specs.GoTypes.Operands.{kind_passes};
 ghost use Rattle.go_tree.specs.GoTypes.Primary as go;
 ghost use Rattle.type_table.specs.TypeRelations.Environment.{defined_types};
-ghost use Rattle.operand_rules.specs.Values.{Gives, IsKept, IsType, IsValue, content_of, type_of, typed_of};
+ghost use Rattle.type_table.specs.OperandRules.Values.{Gives, IsKept, IsType, IsValue, content_of, type_of, typed_of};
 ghost use Rattle.operator_rules.specs.BasicTypes.{AreBasic};
 ghost use Rattle.operator_rules.specs.Parts.{HasParts};
 ghost use Rattle.operator_rules.specs.AccessRules.Places.{place_of};
@@ -15,10 +15,10 @@ use crate::BasicTypes;
 use crate::access_rules::forms::form;
 use crate::access_rules::places::Place;
 use go_tree::const_eval::{Const, Kind, represent};
-use operand_rules::{
+use type_table::TypeNode;
+use type_table::operand_rules::{
     ConstTable, Content, Refusal, Value, ValueType, fits, is_text_kind, is_whole_number, kind_of,
 };
-use type_table::TypeNode;
 use type_table::type_relations::Env;
 
 /// Whether a value may be an index, a bound of a slice or a size: a constant one is a value of `int`
@@ -74,7 +74,7 @@ pub fn is_text(env: &Env, t: ValueType) -> bool
 }
 
 /// A byte of a string.
-#[tactic(auto, using(operand_rules::proofs::ArithmeticLemmas::kept_constant))]
+#[tactic(auto, using(type_table::proofs::OperandRules::ArithmeticLemmas::kept_constant))]
 fn string_element(
     env: &Env,
     consts: &ConstTable,

@@ -3,14 +3,14 @@
 ghost use Rattle.std.specs.Prelude.{◌≡◌, ◌<◌, length};
 ghost use Rattle.go_tree.specs.GoTypes.Primary as go;
 ghost use Rattle.type_table.specs.TypeRelations.Environment.{defined_types, env_type};
-ghost use Rattle.operand_rules.specs.Values.{IsType, type_of};
+ghost use Rattle.type_table.specs.OperandRules.Values.{IsType, type_of};
 ghost use Rattle.operator_rules.specs.AccessRules.Functions.{function_option};
 ghost use Rattle.operator_rules.specs.AccessRules.Places.{place_of};
 
 use crate::access_rules::fields::is_blank;
 use crate::access_rules::places::Place;
 use exported_names::is_exported;
-use operand_rules::ValueType;
+use type_table::operand_rules::ValueType;
 use type_table::type_relations::{Env, FuncType};
 use type_table::{TypeId, TypeNode};
 

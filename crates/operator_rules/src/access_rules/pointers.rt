@@ -6,8 +6,8 @@ ghost use Rattle.go_tree.specs.GoTypes.Entities as go_entity;
 ghost use Rattle.go_tree.specs.GoTypes.Operands.{value};
 ghost use Rattle.go_tree.specs.GoTypes.Operators as go;
 ghost use Rattle.type_table.specs.TypeRelations.Environment.{defined_types, env_type};
-ghost use Rattle.operand_rules.specs.declared.values.ValueType.TheVariants.{Typed};
-ghost use Rattle.operand_rules.specs.Values.{Gives, IsType, type_of};
+ghost use Rattle.type_table.specs.declared.operand_rules.values.ValueType.TheVariants.{Typed};
+ghost use Rattle.type_table.specs.OperandRules.Values.{Gives, IsType, type_of};
 ghost use Rattle.operator_rules.specs.Kept.{TypesGrown};
 ghost use Rattle.operator_rules.specs.Parts.{HasParts};
 ghost use Rattle.type_table.specs.ValueTypes.ValueTypes.{HasValueTypes};
@@ -15,7 +15,7 @@ ghost use Rattle.operator_rules.specs.AccessRules.Places.{place_of};
 
 use crate::access_rules::forms::form;
 use crate::access_rules::places::Place;
-use operand_rules::{Content, Refusal, Value, ValueType};
+use type_table::operand_rules::{Content, Refusal, Value, ValueType};
 use type_table::type_relations::Env;
 use type_table::{TypeId, TypeNode};
 

@@ -4,7 +4,7 @@ ghost use Rattle.std.specs.Prelude.{◌≡◌, IfSome};
 ghost use Rattle.go_tree.specs.GoTypes.Entities as go_entity;
 ghost use Rattle.go_tree.specs.GoTypes.Primary as go;
 ghost use Rattle.type_table.specs.TypeRelations.Environment.{defined_types};
-ghost use Rattle.operand_rules.specs.Values.{IsType, type_of};
+ghost use Rattle.type_table.specs.OperandRules.Values.{IsType, type_of};
 ghost use Rattle.operator_rules.specs.Parts.{HasParts};
 ghost use Rattle.operator_rules.specs.AccessRules.Places.{place_of};
 ghost use Rattle.operator_rules.specs.AccessRules.Selections.{IsSelected, selected_option};
@@ -12,8 +12,8 @@ ghost use Rattle.operator_rules.specs.AccessRules.Selections.{IsSelected, select
 use crate::access_rules::fields::{field_place, field_type};
 use crate::access_rules::methods::method_value;
 use crate::access_rules::places::Place;
-use operand_rules::ValueType;
 use type_table::TypeId;
+use type_table::operand_rules::ValueType;
 use type_table::type_relations::{Env, FuncType};
 
 /// What a selector gives: a field of this type, or a method.

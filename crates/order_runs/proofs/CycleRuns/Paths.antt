@@ -4,8 +4,8 @@ use Rattle.std.specs.Prelude.{bytes_eq, slice_get, option_and_then, codes}
 use Rattle.std.proofs.lemmas.Option.{same_Some}
 use Rattle.std.proofs.lemmas.Slice.Eq.{bytes_eq-Decides}
 use Rattle.go_tree.specs.declared.spans.Span.{Span}
-use Rattle.module_files.specs.Pieces.{folder_of, has_bytes}
-use Rattle.module_files.specs.ModuleFile.{is_module_path, unquoted, path_in, argument_of, module_path, version_answer, path_answer, is_version, is_module, old_go}
+use Rattle.pkg_graph.specs.ModuleFiles.Pieces.{folder_of, has_bytes}
+use Rattle.pkg_graph.specs.ModuleFiles.ModuleFile.{is_module_path, unquoted, path_in, argument_of, module_path, version_answer, path_answer, is_version, is_module, old_go}
 use Rattle.pkg_graph.specs.Package.{SourceTree, Package, import_path, first_seen, home_of, package_of, packages_of}
 use Rattle.pkg_graph.specs.Members.{package_name}
 use Rattle.pkg_graph.specs.Reads.{Source}

@@ -6,7 +6,7 @@ use Rattle.go_tree.specs.Tree.{Expr}
 use Rattle.go_tree.specs.File.{Decl, File}
 use Rattle.go_tree.specs.FileBare.{bare_decl}
 use Rattle.go_kernel.specs.Kernel.{FuncName}
-use Rattle.import_rules.specs.declared.new_import.NewImport.{NewImport}
+use Rattle.run_rules.specs.declared.import_rules.new_import.NewImport.{NewImport}
 use Rattle.pkg_graph.specs.Package as run
 use Rattle.pkg_graph.specs.Package.{SourceTree, import_specs}
 use Rattle.typed_in_place.specs.ProgramsAlike.{OneByOne, no_more, and_more}
@@ -19,7 +19,7 @@ use Rattle.run_rules.specs.Naming.{imports_added}
 use Rattle.run_rules.specs.FormTrees.{as_expr}
 use Rattle.run_rules.specs.Steps.{At, same_here, change_nth, changes_for, new_decl, added_decls, packages_between}
 use Rattle.run_rules.specs.Run.{Standing, Logged, Next, here_of, origin_of, is_commented}
-use Rattle.splice_laws.proofs.RunLaws.FoundSpans.{Placed}
+use Rattle.run_rules.proofs.SpliceLaws.RunLaws.FoundSpans.{Placed}
 use Rattle.constant_steps.specs.StepLaws.SwapPrograms.{members_put}
 use Rattle.constant_steps.proofs.StepLaws.StepMeaning.{distinct-before}
 use Rattle.order_runs.specs.CycleRuns.StepCycles.PackagesAlike.{import_key}

@@ -4,7 +4,7 @@ use Rattle.std.specs.Prelude.{nat_eq, slice_get}
 use Rattle.std.specs.List.{list_any}
 use Rattle.std.proofs.lemmas.Option.{same_Some}
 use Rattle.typed_in_place.proofs.SameWorlds.AtHome.{nat_same}
-use Rattle.pkg_graph.specs.Pieces.{comes_before}
+use Rattle.pkg_graph.specs.ModuleFiles.Pieces.{comes_before}
 use Rattle.pkg_graph.specs.Package.{Package}
 use Rattle.run_rules.specs.Programs.{numbered_from, numbered, is_ready, lesser, least_ready, ordered_after, in_dependency_order, numbers_of, dependency_order}
 use Rattle.typed_in_place.specs.ProgramsAlike.{OneByOne, no_more, and_more}

@@ -8,7 +8,7 @@ use Rattle.std.specs.Prelude.{Bool, codes, nat_eq, slice_get}
 use Rattle.std.proofs.lemmas.Option.{same_Some}
 use Rattle.go_tree.specs.Tree.{NameAt, Expr, ident, int_lit, selector, no_exprs, expr_and, const_decl, no_specs, spec}
 use Rattle.go_tree.specs.File.{Decl, values, ImportDecl}
-use Rattle.module_files.specs.Internal.{passes}
+use Rattle.pkg_graph.specs.ModuleFiles.Internal.{passes}
 use Rattle.pkg_graph.specs.Package as run
 use Rattle.pkg_graph.specs.Package.{SourceTree}
 use Rattle.go_tree.specs.GoTypes.Agreement.{In, head, tail}

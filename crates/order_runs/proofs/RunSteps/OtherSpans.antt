@@ -6,7 +6,7 @@ use Rattle.std.specs.Option.{option_map}
 use Rattle.go_tree.specs.Tree.{NameAt}
 use Rattle.go_tree.specs.File.{ImportSpec, ImportDecl, Decl}
 use Rattle.go_tree.specs.FileBare.{bare_decl}
-use Rattle.pkg_graph.specs.Pieces.{comes_before}
+use Rattle.pkg_graph.specs.ModuleFiles.Pieces.{comes_before}
 use Rattle.pkg_graph.specs.Package as run
 use Rattle.pkg_graph.specs.Package.{SourceTree, specs_in, import_specs}
 use Rattle.pkg_graph.specs.Members.{package_name, name_or}

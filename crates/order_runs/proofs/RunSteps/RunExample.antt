@@ -18,7 +18,7 @@ use Rattle.ucd_category.specs.GeneralCategory.{general_category}
 use Rattle.ucd_category.specs.GeneralCategoryRows.{general_category_rows}
 use Rattle.ucd_table.specs.Rows.{value_in}
 use Rattle.directive_scan.specs.Lines.{is_inline}
-use Rattle.pkg_graph.specs.Internal.{passes}
+use Rattle.pkg_graph.specs.ModuleFiles.Internal.{passes}
 use Rattle.std.specs.Fmt.{digits}
 use Rattle.go_translation.specs.SameMeaning.{SameMeaning}
 use Rattle.run_rules.specs.Programs.{decl_seen}

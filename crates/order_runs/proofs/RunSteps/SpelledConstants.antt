@@ -18,16 +18,16 @@ use Rattle.go_read.specs.Spells.{const_rule}
 use Rattle.go_read.specs.SpellsFiles.{SpellsTop, SpellsTops, SpellsFront, top_const_rule, top_var_rule, top_type_rule, top_type_group_rule, top_func_rule, top_method_rule, no_tops_rule, more_tops_rule, front_rule}
 use Rattle.go_read.proofs.Suffixes.{Suffix, whole, after, imports_suffix, top_suffix}
 use Rattle.go_tree.specs.GoTypes.Answers.{given}
-use Rattle.layout_laws.specs.Formed.{IsName, FormedExpr, FormedExprs, FormedSpecs}
-use Rattle.layout_laws.specs.Real.{AreReal}
-use Rattle.layout_laws.proofs.FormedTrees.{stmt_formed}
-use Rattle.layout_laws.proofs.RealTokens.{tokens_real}
+use Rattle.go_layout.specs.LayoutLaws.Formed.{IsName, FormedExpr, FormedExprs, FormedSpecs}
+use Rattle.go_layout.specs.LayoutLaws.Real.{AreReal}
+use Rattle.go_layout.proofs.LayoutLaws.FormedTrees.{stmt_formed}
+use Rattle.go_layout.proofs.LayoutLaws.RealTokens.{tokens_real}
 use Rattle.run_rules.specs.Respanned.{expr_with, exprs_with, specs_with, decl_with, decls_with}
 use Rattle.run_rules.specs.Sites.{MarkRef, Inlinable, a_constant, an_alias, constant_in_spec, less, nth_constant, aliased, inlinable_in, inlinable}
 use Rattle.run_rules.specs.Naming.{unnamed_package}
 use Rattle.run_rules.specs.Steps.{At}
 use Rattle.run_rules.specs.Run.{Standing, here_of}
-use Rattle.splice_laws.specs.RunLaws.Reading.{FileReads, ProgramReads}
+use Rattle.run_rules.specs.SpliceLaws.RunLaws.Reading.{FileReads, ProgramReads}
 use Rattle.constant_steps.proofs.MarksFound.{DeclaredThere, declared_there, StandsThere, stands_there}
 
 -- ---- an identifier begins with no byte 0

@@ -6,7 +6,7 @@ use Rattle.go_tree.specs.declared.spans.Span.{Span}
 use Rattle.go_tree.specs.Tree.{Expr, ident, int_lit, rune_lit, str_lit, composite, selector, index, slice, call, func_lit, type_operand, unary, binary, star}
 use Rattle.go_tree.specs.File.{Decl}
 use Rattle.go_tree.specs.ScopeNames.Scopes.{expr_span}
-use Rattle.import_rules.specs.Removed.{same_span}
+use Rattle.run_rules.specs.ImportRules.Removed.{same_span}
 use Rattle.typed_in_place.proofs.Rising.{and_first, and_second}
 use Rattle.run_rules.specs.Surroundings.{Seen, seen, seen_type, seen_stmt}
 use Rattle.run_rules.specs.Programs.{decl_seen}
@@ -15,10 +15,10 @@ use Rattle.run_rules.specs.Sites.{MarkRef, an_expr, Site, part_span}
 use Rattle.run_rules.specs.Forms.{is_at}
 use Rattle.run_rules.specs.Steps.{At, same_here}
 use Rattle.run_rules.specs.Run.{Standing, Logged, Next, here_of}
-use Rattle.splice_laws.specs.RunLaws.Reading.{FileReads, FileAt, ProgramReads}
-use Rattle.splice_laws.proofs.RunLaws.FoundSpans.{Placed}
-use Rattle.splice_laws.specs.ImportSplices.FormSplices.Laws.{MakesForm}
-use Rattle.splice_laws.proofs.ImportSplices.FormSplices.FormsFound.{step-makes-form}
+use Rattle.run_rules.specs.SpliceLaws.RunLaws.Reading.{FileReads, FileAt, ProgramReads}
+use Rattle.run_rules.proofs.SpliceLaws.RunLaws.FoundSpans.{Placed}
+use Rattle.run_rules.specs.SpliceLaws.ImportSplices.FormSplices.Laws.{MakesForm}
+use Rattle.run_rules.proofs.SpliceLaws.ImportSplices.FormSplices.FormsFound.{step-makes-form}
 use Rattle.order_runs.proofs.CycleRuns.StepCycles.StepAlike.{found-placed}
 use Rattle.constant_steps.specs.PlainUse.{AllTheUse}
 use Rattle.constant_steps.proofs.NamesOutside.{equal_numbers}

@@ -13,7 +13,7 @@ use Rattle.go_tree.specs.declared.scope_names.names.ImportName.{ImportName}
 use Rattle.pkg_graph.specs.Package.{SourceTree, Package, import_specs}
 use Rattle.pkg_graph.specs.Members.{member, import_name, specs_names, unless_method, block_names, items_from, decls_from, files_from, package_block}
 use Rattle.pkg_graph.specs.Reads.{Source}
-use Rattle.import_rules.specs.Needs.{avoided}
+use Rattle.run_rules.specs.ImportRules.Needs.{avoided}
 use Rattle.go_tree.specs.GoTypes.Answers.{given, otherwise}
 use Rattle.run_rules.specs.FormTrees.{ConstForm, Form, as_expr, form_identifiers, outside_changes}
 use Rattle.run_rules.specs.Naming.{Names, unnamed, no_span, unnamed_package, new_first, unnamed_in, name_added, named_package, named_packages, names_here, member_qualifier, fuel_for}
@@ -27,23 +27,23 @@ use Rattle.run_rules.specs.Sites.{MarkRef, Where, Inlinable, a_constant, part_sp
 use Rattle.run_rules.specs.Steps.{At, same_here, Found}
 use Rattle.run_rules.specs.Surroundings.{other, Place, inner_slot, in_slot}
 use Rattle.run_rules.specs.Texts.{FileText}
-use Rattle.splice_laws.specs.RunLaws.Reading.{FileReads, FileAt, ProgramReads, OnePathEach}
-use Rattle.splice_laws.proofs.RunLaws.FoundSpans.{Placed}
+use Rattle.run_rules.specs.SpliceLaws.RunLaws.Reading.{FileReads, FileAt, ProgramReads, OnePathEach}
+use Rattle.run_rules.proofs.SpliceLaws.RunLaws.FoundSpans.{Placed}
 use Rattle.go_read.specs.SpellsWeight.{weights_of}
 use Rattle.constant_steps.specs.FormImports.ImportLaws.Steps.{names_standing, binders_in, binders_of}
 use Rattle.constant_steps.proofs.FormImports.ImportLaws.IdentifiersWith.{identifiers-with}
-use Rattle.splice_laws.specs.ImportSplices.FormSplices.Laws.{MakesForm}
-use Rattle.splice_laws.proofs.ImportSplices.FormSplices.FormsFound.{step-makes-form}
+use Rattle.run_rules.specs.SpliceLaws.ImportSplices.FormSplices.Laws.{MakesForm}
+use Rattle.run_rules.proofs.SpliceLaws.ImportSplices.FormSplices.FormsFound.{step-makes-form}
 use Rattle.order_runs.proofs.RunSteps.SeatedUses.{Seated}
 use Rattle.order_runs.specs.CycleRuns.OrderCycles.NewNames.{FewNames}
 use Rattle.order_runs.proofs.CycleRuns.ImportCycles.ImportStep.{placed}
 use Rattle.put_names.specs.Uses.{IsDeclaredAsName, as_name, as_member, UsesConstant}
 use Rattle.put_names.proofs.Forms.{IsFormBy, by_obstacle, reduced_is}
-use Rattle.typed_parts.specs.MarkedRuns.NamedMarks.Named.{IsNamedConstant, AllNamed}
-use Rattle.typed_parts.specs.MarkedRuns.PutForms.Uses.{IsFirstUse, UsesNamedConstant}
-use Rattle.typed_parts.proofs.MarkedRuns.PutForms.FirstUses as first
-use Rattle.typed_parts.proofs.MarkedRuns.PutForms.FirstUses.{makes, seated}
-use Rattle.typed_parts.proofs.MarkedRuns.NamedMarks.Used.{of-expr, named-used}
+use Rattle.printed_constants.specs.TypedParts.MarkedRuns.NamedMarks.Named.{IsNamedConstant, AllNamed}
+use Rattle.printed_constants.specs.TypedParts.MarkedRuns.PutForms.Uses.{IsFirstUse, UsesNamedConstant}
+use Rattle.printed_constants.proofs.TypedParts.MarkedRuns.PutForms.FirstUses as first
+use Rattle.printed_constants.proofs.TypedParts.MarkedRuns.PutForms.FirstUses.{makes, seated}
+use Rattle.printed_constants.proofs.TypedParts.MarkedRuns.NamedMarks.Used.{of-expr, named-used}
 use Rattle.printed_constants.specs.Printed.{FlatConstants, no_constants, and_constant, IsPrinted, some_constants, a_function, ArePrinted}
 use Rattle.printed_constants.proofs.CountedNames.Counted.{names_few}
 use Rattle.printed_constants.proofs.CountedNames.Specs.{specs_few, as_many_specs}

@@ -13,7 +13,7 @@ use Rattle.run_rules.specs.Respanned.{packages_with}
 use Rattle.run_rules.specs.Run.{as_read}
 use Rattle.run_rules.specs.Sites.{MarkRef, Where, a_constant, same_mark, where_is, inlinable, outer}
 use Rattle.run_rules.specs.Steps.{At}
-use Rattle.typed_parts.proofs.MarkedRuns.NamedMarks.ReadMarks.{same_mark_so}
+use Rattle.printed_constants.proofs.TypedParts.MarkedRuns.NamedMarks.ReadMarks.{same_mark_so}
 use Rattle.printed_constants.specs.DeclaredConstants.Predeclared.{NoneArePredeclared}
 
 abbrev at : ℕ → Span

@@ -25,8 +25,8 @@ use Rattle.constant_steps.proofs.QualifiedSteps.Declared.{sound_there}
 use Rattle.constant_steps.proofs.QualifiedSteps.MembersNamed.{ByImport, by_import}
 use Rattle.constant_steps.proofs.QualifiedSteps.Targets.{by_number, numbered_by}
 use Rattle.order_runs.specs.CycleRuns.OrderCycles.Orders.{AllOrdered}
-use Rattle.typed_parts.specs.MarkedRuns.LinkedMembers.Laws.{HaveFiles}
-use Rattle.typed_parts.specs.MarkedRuns.NamedMarks.Named.{IsNamedConstant}
+use Rattle.printed_constants.specs.TypedParts.MarkedRuns.LinkedMembers.Laws.{HaveFiles}
+use Rattle.printed_constants.specs.TypedParts.MarkedRuns.NamedMarks.Named.{IsNamedConstant}
 use Rattle.order_runs.specs.RunSteps.RunPackages.{members_of}
 use Rattle.order_runs.proofs.RunSteps.PackageStands.{StandsAt}
 use Rattle.put_names.specs.Uses.{IsDeclaredAsName, as_name, as_member}

@@ -1,7 +1,7 @@
 -- What constants are declared as, in a program and in a module as read.
-use Rattle.typed_parts.specs.MarkedRuns.NamedMarks.Laws.{ReadMarksAreNamed}
-use Rattle.typed_parts.specs.MarkedRuns.ReadyModules.Laws.{ReadModulesAreReady, ReadModulesAreTyped}
-use Rattle.typed_parts.proofs.MarkedRuns.LinkedMembers.Files.{read-have}
+use Rattle.printed_constants.specs.TypedParts.MarkedRuns.NamedMarks.Laws.{ReadMarksAreNamed}
+use Rattle.printed_constants.specs.TypedParts.MarkedRuns.ReadyModules.Laws.{ReadModulesAreReady, ReadModulesAreTyped}
+use Rattle.printed_constants.proofs.TypedParts.MarkedRuns.LinkedMembers.Files.{read-have}
 use Rattle.printed_constants.specs.DeclaredMembers.Laws.{ConstantsNameMembers}
 use Rattle.printed_constants.specs.Laws.{PrintedPackagesAreUnspread, ReadModulesArePrinted}
 use Rattle.run_rules.specs.Inlining.{standing_as_read}

@@ -16,10 +16,10 @@ use Rattle.pkg_graph.specs.Reads.{Source}
 use Rattle.constant_steps.proofs.WrittenLiteral.NamesMeant.{means_join}
 use Rattle.constant_steps.proofs.MarksFound.{StandsThere, stands_there, DeclaredThere, declared_there}
 use Rattle.constant_steps.proofs.QualifiedSteps.Targets.{number_in, by_number, numbered_by}
-use Rattle.typed_parts.proofs.MarkedRuns.NamedMarks.ReadMarks.{TextsRead, marks-named}
+use Rattle.printed_constants.proofs.TypedParts.MarkedRuns.NamedMarks.ReadMarks.{TextsRead, marks-named}
 use Rattle.constant_steps.specs.PlaceMeanings.Laws.{AreNamesOf, StandingFilesHaveTheirNames}
-use Rattle.splice_laws.proofs.RunLaws.PathsOwn.{HasText, its_text}
-use Rattle.splice_laws.proofs.RunLaws.Reread.{file-reread}
+use Rattle.run_rules.proofs.SpliceLaws.RunLaws.PathsOwn.{HasText, its_text}
+use Rattle.run_rules.proofs.SpliceLaws.RunLaws.Reread.{file-reread}
 use Rattle.run_rules.specs.Inlining.{ModuleReads, ReadsAs}
 use Rattle.run_rules.specs.Marks.{marks_of}
 use Rattle.run_rules.specs.Respanned.{expr_with, specs_with, decl_with, source_with, package_with, packages_with}

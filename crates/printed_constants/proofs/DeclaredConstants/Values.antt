@@ -19,7 +19,7 @@ use Rattle.go_tree.specs.GoTypes.Programs.{Header, constants, headed, constant_h
 use Rattle.go_tree.specs.GoTypes.Collect.{DeclaredTypes, types_declared, package_constants}
 use Rattle.go_tree.proofs.GoTypes.Agreeing.{from_only}
 use Rattle.typed_in_place.specs.ProgramReplaced.{All, all_and}
-use Rattle.typed_parts.proofs.Walk.{there_is}
+use Rattle.printed_constants.proofs.TypedParts.Walk.{there_is}
 use Rattle.constant_steps.proofs.StepLaws.PartsTyped.{TypedThere}
 use Rattle.run_rules.specs.Programs.{linked, world, imports_mean}
 use Rattle.run_rules.specs.Sites.{Where, a_constant, nth_constant, inlinable_in}

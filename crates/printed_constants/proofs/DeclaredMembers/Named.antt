@@ -13,7 +13,7 @@ use Rattle.typed_in_place.proofs.Rising.{and_first, and_second}
 use Rattle.go_translation.specs.Packages.{sources, are_distinct, are_linked, are_well_typed}
 use Rattle.constant_steps.proofs.MarksFound.{StandsThere, stands_there, DeclaredThere, declared_there}
 use Rattle.constant_steps.proofs.PlainImports.{Distinct, distinct_sources}
-use Rattle.typed_parts.proofs.DottedImports.Imports.{no_operand}
+use Rattle.printed_constants.proofs.TypedParts.DottedImports.Imports.{no_operand}
 use Rattle.order_runs.proofs.ImportRuns.Listed.{among-order}
 use Rattle.order_runs.specs.CycleRuns.OrderCycles.Orders.{AllOrdered}
 use Rattle.run_rules.specs.Programs.{in_dependency_order, linked, top_env}

@@ -21,7 +21,7 @@ use Rattle.go_tree.specs.GoTypes.Collect.{DeclaredTypes, types_declared, package
 use Rattle.go_tree.specs.GoTypes.WellTyped.{well_typed}
 use Rattle.go_tree.proofs.GoTypes.Agreeing.{from_both, from_only}
 use Rattle.typed_in_place.specs.ProgramReplaced.{All, all_and}
-use Rattle.typed_parts.proofs.Walk.{there_is}
+use Rattle.printed_constants.proofs.TypedParts.Walk.{there_is}
 use Rattle.constant_steps.specs.StepLaws.DeclStands.{AtNth}
 use Rattle.constant_steps.specs.StepLaws.PartsTyped.{HeaderTyped}
 use Rattle.constant_steps.proofs.StepLaws.PartsTyped.{headers-typed, TypedThere, DeclIsTyped, FilesTyped, PackageIsTyped, of-packages}

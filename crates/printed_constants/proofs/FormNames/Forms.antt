@@ -14,8 +14,8 @@ use Rattle.go_tree.specs.ScopeNames.Identifiers.{identifiers}
 use Rattle.go_tree.specs.ScopeNames.Means.{Environment, means, is_blank, numbered, predeclared, outermost}
 use Rattle.go_tree.specs.ScopeNames.Occurrences.{means_import}
 use Rattle.constant_steps.specs.FormImports.OwnNames.{AllOwn}
-use Rattle.import_rules.specs.SettledNames.{IsOwnName}
-use Rattle.import_rules.specs.Needs.{serves, serving_from, serving, avoided}
+use Rattle.run_rules.specs.ImportRules.SettledNames.{IsOwnName}
+use Rattle.run_rules.specs.ImportRules.Needs.{serves, serving_from, serving, avoided}
 use Rattle.pkg_graph.specs.Package.{Package}
 use Rattle.typed_in_place.proofs.Rising.{and_first, and_second}
 use Rattle.run_rules.specs.Surroundings.{Place}

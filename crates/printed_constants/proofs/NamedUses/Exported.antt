@@ -25,11 +25,11 @@ use Rattle.go_tree.specs.GoTypes.Typing.{parts, all_parts, place, declares, stmt
 use Rattle.go_tree.specs.GoTypes.WellTyped.{receiver_of}
 use Rattle.go_tree.proofs.GoTypes.Agreeing.{from_given, from_both, from_only}
 use Rattle.typed_in_place.specs.ProgramReplaced.{All, all_and}
-use Rattle.typed_parts.proofs.Walk.{met, there_is}
-use Rattle.typed_parts.proofs.DottedImports.Imports.{no_operand}
+use Rattle.printed_constants.proofs.TypedParts.Walk.{met, there_is}
+use Rattle.printed_constants.proofs.TypedParts.DottedImports.Imports.{no_operand}
 use Rattle.constant_steps.proofs.StepLaws.PartsTyped.{TypedThere, DeclIsTyped}
 use Rattle.order_runs.proofs.RunSteps.SeatedUses.{Among, first, later}
-use Rattle.typed_parts.specs.StandingUses.ImportUses.Parts.{EachSeen}
+use Rattle.printed_constants.specs.TypedParts.StandingUses.ImportUses.Parts.{EachSeen}
 use Rattle.run_rules.specs.Surroundings.{Use, other, called, alone, a_slot, Place, Seen, seen, seen_stmt, alike, head_use, later_uses, arg_uses, value_use, inner_slot, in_slot, callee_place, comma_slot, after_stmt, at_stmt, in_constant}
 use Rattle.run_rules.specs.Places.{expr_seen, all_seen, stmt_seen, stmts_seen, params_seen, sig_seen}
 use Rattle.run_rules.specs.Programs.{linked, world, imports_mean, top_env, top_place, body_place, headed_func, constants_at_top, receiver_seen, decl_seen}

@@ -15,7 +15,7 @@ use Rattle.run_rules.specs.Sites.{MarkRef, Where, Inlinable, a_constant, where_i
 use Rattle.run_rules.specs.Steps.{At, same_here, change_nth, with_file}
 use Rattle.constant_steps.proofs.MarksFound.{StandsThere, stands_there, DeclaredThere, declared_there}
 use Rattle.order_runs.proofs.CycleRuns.OrderedSteps.Members.{changed-one, still-one}
-use Rattle.typed_parts.proofs.MarkedRuns.KeptMarks.Changed.{name-stays}
+use Rattle.printed_constants.proofs.TypedParts.MarkedRuns.KeptMarks.Changed.{name-stays}
 use Rattle.printed_constants.specs.NamedUses.Names.{IsConstantOf}
 use Rattle.printed_constants.proofs.StandingForms.Unnamed.{Unnamed, behind, in_turn}
 

@@ -17,12 +17,12 @@ use Rattle.go_tree.specs.ScopeNames.FreeNames.{names_of}
 use Rattle.go_tree.specs.ScopeNames.Identifiers.{identifiers, decl_identifiers}
 use Rattle.go_tree.specs.ScopeNames.Means.{Environment, means, is_blank, numbered, predeclared, outermost}
 use Rattle.go_tree.specs.ScopeNames.Occurrences.{means_import}
-use Rattle.import_rules.specs.declared.new_import.NewImport.{NewImport}
-use Rattle.import_rules.specs.Needs.{serves, serving_from, serving, avoided}
+use Rattle.run_rules.specs.declared.import_rules.new_import.NewImport.{NewImport}
+use Rattle.run_rules.specs.ImportRules.Needs.{serves, serving_from, serving, avoided}
 use Rattle.pkg_graph.specs.Package.{SourceTree, Package, specs_in, import_specs}
 use Rattle.pkg_graph.specs.Members.{Target, member, package_name, name_or, import_name, block_names, items_from, decls_from, files_from, package_block}
 use Rattle.go_tree.specs.GoTypes.Agreement.{In}
-use Rattle.splice_laws.proofs.RunLaws.FoundSpans.{Placed}
+use Rattle.run_rules.proofs.SpliceLaws.RunLaws.FoundSpans.{Placed}
 use Rattle.run_rules.proofs.NamesFound.{found_is_fresh}
 use Rattle.run_rules.specs.Naming.{Named, no_span, fuel_for, imports_added, names_by, fresh_name, package_path, own_name, names_here, environment_here, added_import, named_package}
 use Rattle.run_rules.specs.Run.{Standing, Logged, Next, here_of}
@@ -34,7 +34,7 @@ use Rattle.order_runs.specs.CycleRuns.ImportCycles.ImportSteps.{file_added, pack
 use Rattle.order_runs.specs.CycleRuns.OrderCycles.NewNames.{NamesByPath, FewNames}
 use Rattle.order_runs.proofs.CycleRuns.ImportCycles.ImportStep.{placed}
 use Rattle.order_runs.proofs.CycleRuns.OrderCycles.NamesAdded.{adds-new-names}
-use Rattle.typed_parts.proofs.MarkedRuns.KeptMarks.Changed.{name-stays}
+use Rattle.printed_constants.proofs.TypedParts.MarkedRuns.KeptMarks.Changed.{name-stays}
 use Rattle.printed_constants.proofs.NamedUses.Middle.{further_names, last_name, map_both, name_now, files_same}
 use Rattle.printed_constants.proofs.RemovedImports.Removed.{specs-of-both}
 use Rattle.printed_constants.proofs.StandingForms.Unnamed.{Unnamed, path_unnamed}

@@ -11,7 +11,7 @@ use Rattle.go_tree.specs.ScopeNames.FreeNames.{names_of, free_expr}
 use Rattle.go_tree.specs.ScopeNames.Identifiers.{expr_identifiers, decl_identifiers}
 use Rattle.go_tree.specs.ScopeNames.Means as scopes
 use Rattle.go_tree.specs.ScopeNames.Means.{Environment, means, is_blank, numbered}
-use Rattle.pkg_graph.specs.Internal.{may_import}
+use Rattle.pkg_graph.specs.ModuleFiles.Internal.{may_import}
 use Rattle.pkg_graph.specs.Package.{Package, specs_in, import_specs}
 use Rattle.pkg_graph.specs.Members.{Target, local, imported, member, predeclared, import_name, package_block}
 use Rattle.go_tree.specs.GoTypes.Agreement.{In, head}
@@ -21,11 +21,11 @@ use Rattle.go_tree.proofs.GoTypes.Agreeing.{from_given}
 use Rattle.go_translation.specs.Packages.{are_well_typed}
 use Rattle.constant_steps.specs.FormImports.ImportLaws.Steps.{binders_in, binders_of}
 use Rattle.constant_steps.specs.FormImports.Written.{NoneUnnamed}
-use Rattle.import_rules.specs.Needs.{avoided}
-use Rattle.splice_laws.proofs.ImportSplices.FormSplices.FormsFound.{step-makes-form}
+use Rattle.run_rules.specs.ImportRules.Needs.{avoided}
+use Rattle.run_rules.proofs.SpliceLaws.ImportSplices.FormSplices.FormsFound.{step-makes-form}
 use Rattle.order_runs.specs.RunSteps.RunPackages.{members_of}
 use Rattle.order_runs.proofs.RunSteps.SeatedUses.{Among, first, later, Seated}
-use Rattle.typed_parts.specs.StandingUses.ImportUses.Parts.{EachSeen}
+use Rattle.printed_constants.specs.TypedParts.StandingUses.ImportUses.Parts.{EachSeen}
 use Rattle.put_names.specs.Uses.{IsDeclaredAsName, as_name, as_member, IsUsedByName, UsesConstant}
 use Rattle.put_names.proofs.Forms.{home_of, IsFormBy, by_obstacle, reduced_is}
 use Rattle.put_nodes.specs.Put.{IsSomeName, alone, qualified}
@@ -40,7 +40,7 @@ use Rattle.order_runs.specs.CycleRuns.OrderCycles.NewNames.{NamesByPath, FewName
 use Rattle.order_runs.proofs.CycleRuns.ImportCycles.FreeIdentifiers.{in-left, in-right, looked-up-within}
 use Rattle.order_runs.proofs.CycleRuns.ImportCycles.ImportStep.{placed}
 use Rattle.order_runs.proofs.CycleRuns.Runs.{linked-names}
-use Rattle.splice_laws.proofs.RunLaws.FoundSpans.{Placed}
+use Rattle.run_rules.proofs.SpliceLaws.RunLaws.FoundSpans.{Placed}
 use Rattle.run_rules.specs.FormTrees.{ConstForm, Form, as_expr, form_identifiers, outside_changes}
 use Rattle.run_rules.specs.Naming.{Names, Named, unnamed, unnamed_package, unnamed_in, new_first, names_by, imports_added, own_name, fresh_name, added_import, named_package, named_packages, names_here}
 use Rattle.run_rules.specs.Obstacles.{Obstacle, NotAccessible, Internal, Shadowed, Recursive, CommentInside, Spread, Repeated, obstacle_if, unless_exported, not_accessible, internal_package, shadowed, shadowed_meaning, means_this, is_qualified_there, is_repeated}
@@ -52,11 +52,11 @@ use Rattle.run_rules.specs.Run.{Standing, Logged, Next, here_of, is_commented}
 use Rattle.run_rules.specs.Sites.{MarkRef, Where, a_constant, part_span, Site, mark_of, imported_by, not_function, inlinable, inlinable_in, nth_constant, outer, outer_meaning, import_number, qualifier, member_of, members_in, name_mark, qualified_mark, expr_mark}
 use Rattle.run_rules.specs.Steps.{At, same_here, added_decls}
 use Rattle.run_rules.specs.Surroundings.{Use, other, Place, Seen, seen, inner_slot, in_slot}
-use Rattle.typed_parts.specs.MarkedRuns.SettledConstants.Programs.{IsReady}
-use Rattle.typed_parts.specs.MarkedRuns.TakenNames.Taken.{site_there}
-use Rattle.typed_parts.specs.MarkedRuns.Marked.{decl_there}
-use Rattle.typed_parts.proofs.MarkedRuns.KeptMarks.Changed.{numbers-now}
-use Rattle.typed_parts.proofs.MarkedRuns.PutForms.FirstUses.{seated}
+use Rattle.printed_constants.specs.TypedParts.MarkedRuns.SettledConstants.Programs.{IsReady}
+use Rattle.printed_constants.specs.TypedParts.MarkedRuns.TakenNames.Taken.{site_there}
+use Rattle.printed_constants.specs.TypedParts.MarkedRuns.Marked.{decl_there}
+use Rattle.printed_constants.proofs.TypedParts.MarkedRuns.KeptMarks.Changed.{numbers-now}
+use Rattle.printed_constants.proofs.TypedParts.MarkedRuns.PutForms.FirstUses.{seated}
 use Rattle.printed_constants.specs.DeclaredMembers.Members.{IsOwn, IsMember}
 use Rattle.printed_constants.specs.DeclaredMembers.Laws.{ConstantsNameMembers}
 use Rattle.printed_constants.specs.NamedUses.Names.{IsConstantOf, IsConstantsName}

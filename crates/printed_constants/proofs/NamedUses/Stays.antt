@@ -16,9 +16,9 @@ use Rattle.go_tree.specs.GoTypes.Entities.{is_exported}
 use Rattle.go_tree.proofs.GoTypes.Agreeing.{from_given}
 use Rattle.constant_steps.proofs.MarksFound.{DeclaredThere, declared_there}
 use Rattle.order_runs.proofs.RunSteps.SeatedUses.{Among, first}
-use Rattle.typed_parts.specs.StandingUses.ImportUses.Parts.{IsNoImport}
-use Rattle.typed_parts.specs.StandingUses.Laws.{IsNamedOnce}
-use Rattle.typed_parts.proofs.StandingUses.Once.{stand_once}
+use Rattle.printed_constants.specs.TypedParts.StandingUses.ImportUses.Parts.{IsNoImport}
+use Rattle.printed_constants.specs.TypedParts.StandingUses.Laws.{IsNamedOnce}
+use Rattle.printed_constants.proofs.TypedParts.StandingUses.Once.{stand_once}
 use Rattle.put_names.specs.Uses.{IsDeclaredAsName, as_name, as_member, UsesConstant}
 use Rattle.order_runs.specs.CycleRuns.ImportCycles.OtherImports.{import_path}
 use Rattle.order_runs.specs.CycleRuns.ImportCycles.ImportSteps.{file_added, packages_added, decl_put}
@@ -30,7 +30,7 @@ use Rattle.order_runs.proofs.CycleRuns.ImportCycles.ImportStep.{placed}
 use Rattle.order_runs.proofs.CycleRuns.ImportCycles.ImportsAdded.{reads-added}
 use Rattle.order_runs.proofs.CycleRuns.LedImports.Homes.{package-path, package-there}
 use Rattle.order_runs.proofs.CycleRuns.Runs.{linked-names}
-use Rattle.splice_laws.proofs.RunLaws.FoundSpans.{Placed}
+use Rattle.run_rules.proofs.SpliceLaws.RunLaws.FoundSpans.{Placed}
 use Rattle.run_rules.specs.FormTrees.{as_expr}
 use Rattle.run_rules.specs.Forms.{is_at}
 use Rattle.run_rules.specs.Naming.{names_by, package_path}
@@ -42,17 +42,17 @@ use Rattle.run_rules.specs.Run.{Standing, Logged, Next, here_of, origin_of}
 use Rattle.run_rules.specs.Sites.{MarkRef, Where, Inlinable, Site, a_constant, part_span, where_is, inlinable, inlinable_in, imported_by, import_number, outer, member_of}
 use Rattle.run_rules.specs.Steps.{At, same_here, change_nth, changes_for, means_import, named_by_import, with_file}
 use Rattle.run_rules.specs.Surroundings.{Seen, seen, other, inner_slot, in_slot}
-use Rattle.typed_parts.specs.MarkedRuns.KeptMarks.Over.{IsOverName}
-use Rattle.typed_parts.specs.MarkedRuns.NamedMarks.Named.{IsNamedConstant, AllNamed}
-use Rattle.typed_parts.specs.MarkedRuns.SettledConstants.Laws.{ConstantsWrite}
-use Rattle.typed_parts.specs.MarkedRuns.SettledConstants.Programs.{IsReady}
-use Rattle.typed_parts.proofs.MarkedRuns.KeptMarks.Changed.{Imported, not-blank, path-meant, meant-by, paths-now, numbers-now}
-use Rattle.typed_parts.proofs.MarkedRuns.KeptMarks.Constants.{PutAt, put-decl, put-name, put-member, once-there}
-use Rattle.typed_parts.proofs.MarkedRuns.KeptMarks.Kept.{look-ups}
-use Rattle.typed_parts.proofs.MarkedRuns.KeptMarks.Served.{mid-path, form-import}
-use Rattle.typed_parts.proofs.MarkedRuns.KeptMarks.Shapes.{Shape, shape, shape-with, dotted-in, ConstantOf, inlinable-without}
-use Rattle.typed_parts.proofs.MarkedRuns.NamedMarks.Declared.{inlinable-with}
-use Rattle.typed_parts.proofs.MarkedRuns.NamedMarks.Used.{named-used}
+use Rattle.printed_constants.specs.TypedParts.MarkedRuns.KeptMarks.Over.{IsOverName}
+use Rattle.printed_constants.specs.TypedParts.MarkedRuns.NamedMarks.Named.{IsNamedConstant, AllNamed}
+use Rattle.printed_constants.specs.TypedParts.MarkedRuns.SettledConstants.Laws.{ConstantsWrite}
+use Rattle.printed_constants.specs.TypedParts.MarkedRuns.SettledConstants.Programs.{IsReady}
+use Rattle.printed_constants.proofs.TypedParts.MarkedRuns.KeptMarks.Changed.{Imported, not-blank, path-meant, meant-by, paths-now, numbers-now}
+use Rattle.printed_constants.proofs.TypedParts.MarkedRuns.KeptMarks.Constants.{PutAt, put-decl, put-name, put-member, once-there}
+use Rattle.printed_constants.proofs.TypedParts.MarkedRuns.KeptMarks.Kept.{look-ups}
+use Rattle.printed_constants.proofs.TypedParts.MarkedRuns.KeptMarks.Served.{mid-path, form-import}
+use Rattle.printed_constants.proofs.TypedParts.MarkedRuns.KeptMarks.Shapes.{Shape, shape, shape-with, dotted-in, ConstantOf, inlinable-without}
+use Rattle.printed_constants.proofs.TypedParts.MarkedRuns.NamedMarks.Declared.{inlinable-with}
+use Rattle.printed_constants.proofs.TypedParts.MarkedRuns.NamedMarks.Used.{named-used}
 use Rattle.printed_constants.specs.NamedUses.Names.{IsConstantOf, IsConstantsName, AllConstantsNames}
 use Rattle.printed_constants.specs.Printed.{a_name, a_selection, ArePrinted}
 use Rattle.printed_constants.proofs.NamedUses.Middle.{Beside, beside, member_now}

@@ -9,12 +9,12 @@ use Rattle.order_runs.specs.RunSteps.RunPackages.{members_of}
 use Rattle.put_names.specs.Uses.{IsUsedByName, UsesConstant}
 use Rattle.run_rules.specs.Run.{Standing, Logged, Next, texts_size, the_limits}
 use Rattle.run_rules.specs.Sites.{MarkRef}
-use Rattle.typed_parts.specs.MarkedRuns.KeptMarks.Over.{IsOverName}
-use Rattle.typed_parts.specs.MarkedRuns.NamedMarks.Named.{AllNamed}
-use Rattle.typed_parts.specs.MarkedRuns.SettledConstants.Laws.{ConstantsWrite, ConstantUsesAreNames, ConstantUsesAreSpelled}
-use Rattle.typed_parts.specs.MarkedRuns.SettledConstants.Programs.{IsReady}
-use Rattle.typed_parts.proofs.MarkedRuns.KeptMarks.Kept.{stays}
-use Rattle.typed_parts.proofs.MarkedRuns.NamedMarks.Used.{named-used, uses-marked}
+use Rattle.printed_constants.specs.TypedParts.MarkedRuns.KeptMarks.Over.{IsOverName}
+use Rattle.printed_constants.specs.TypedParts.MarkedRuns.NamedMarks.Named.{AllNamed}
+use Rattle.printed_constants.specs.TypedParts.MarkedRuns.SettledConstants.Laws.{ConstantsWrite, ConstantUsesAreNames, ConstantUsesAreSpelled}
+use Rattle.printed_constants.specs.TypedParts.MarkedRuns.SettledConstants.Programs.{IsReady}
+use Rattle.printed_constants.proofs.TypedParts.MarkedRuns.KeptMarks.Kept.{stays}
+use Rattle.printed_constants.proofs.TypedParts.MarkedRuns.NamedMarks.Used.{named-used, uses-marked}
 use Rattle.printed_constants.specs.DeclaredMembers.Laws.{ConstantsNameMembers}
 use Rattle.printed_constants.specs.NamedUses.Names.{IsConstantsName, AllConstantsNames}
 use Rattle.printed_constants.specs.Printed.{ArePrinted}

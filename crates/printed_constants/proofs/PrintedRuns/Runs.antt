@@ -2,7 +2,7 @@
 use Rattle.std.proofs.Common.{◌≡◌, refl, sym, subst, ℕ, zero, suc, ◌≤◌, true, List, [], ◌∷◌, ◌++◌}
 use Rattle.go_tree.specs.Tree.{ident, selector}
 use Rattle.go_translation.specs.Packages.{are_well_typed}
-use Rattle.import_rules.specs.SettledNames.{IsOwnName}
+use Rattle.run_rules.specs.ImportRules.SettledNames.{IsOwnName}
 use Rattle.pkg_graph.specs.Package.{Package}
 use Rattle.run_rules.specs.Run.{Standing, Logged, Next, Run, ends, goes_on, texts_size, the_limits}
 use Rattle.run_rules.specs.Inlining.{Reaches, steps_on}
@@ -14,21 +14,21 @@ use Rattle.constant_steps.specs.FormImports.OwnNames.{AllOwn}
 use Rattle.order_runs.specs.RunSteps.RunPackages.{members_of}
 use Rattle.order_runs.proofs.CycleRuns.Runs.{linked-names}
 use Rattle.put_names.specs.Uses.{UsesConstant}
-use Rattle.typed_parts.specs.MarkedRuns.KeptMarks.Laws.{StepsKeepNamed}
-use Rattle.typed_parts.specs.MarkedRuns.LinkedMembers.Laws.{HaveFiles}
-use Rattle.typed_parts.specs.MarkedRuns.KeptMarks.Over.{IsOverName}
-use Rattle.typed_parts.specs.MarkedRuns.Marked.{StandsAdded, AllOverNames}
-use Rattle.typed_parts.specs.MarkedRuns.NamedMarks.Named.{AllNamed}
-use Rattle.typed_parts.specs.MarkedRuns.SettledConstants.Laws.{ConstantsWrite}
-use Rattle.typed_parts.specs.MarkedRuns.SettledConstants.Programs.{IsReady}
-use Rattle.typed_parts.specs.MarkedRuns.SoundImports.Laws.{AddedImportsMayBeDeclared}
-use Rattle.typed_parts.specs.MarkedRuns.TakenNames.Laws.{StepsStayReady}
-use Rattle.typed_parts.specs.MarkedRuns.TakenNames.Taken.{TakesName}
-use Rattle.typed_parts.proofs.MarkedRuns.KeptMarks.Kept.{writes, look-ups}
-use Rattle.typed_parts.proofs.MarkedRuns.LinkedMembers.Files.{step-have}
-use Rattle.typed_parts.proofs.MarkedRuns.KeptMarks.Puts.{Puts, puts_name, puts_member, step-puts}
-use Rattle.typed_parts.proofs.MarkedRuns.NamedMarks.Used.{named-used}
-use Rattle.typed_parts.proofs.MarkedRuns.Runs.{takes-name}
+use Rattle.printed_constants.specs.TypedParts.MarkedRuns.KeptMarks.Laws.{StepsKeepNamed}
+use Rattle.printed_constants.specs.TypedParts.MarkedRuns.LinkedMembers.Laws.{HaveFiles}
+use Rattle.printed_constants.specs.TypedParts.MarkedRuns.KeptMarks.Over.{IsOverName}
+use Rattle.printed_constants.specs.TypedParts.MarkedRuns.Marked.{StandsAdded, AllOverNames}
+use Rattle.printed_constants.specs.TypedParts.MarkedRuns.NamedMarks.Named.{AllNamed}
+use Rattle.printed_constants.specs.TypedParts.MarkedRuns.SettledConstants.Laws.{ConstantsWrite}
+use Rattle.printed_constants.specs.TypedParts.MarkedRuns.SettledConstants.Programs.{IsReady}
+use Rattle.printed_constants.specs.TypedParts.MarkedRuns.SoundImports.Laws.{AddedImportsMayBeDeclared}
+use Rattle.printed_constants.specs.TypedParts.MarkedRuns.TakenNames.Laws.{StepsStayReady}
+use Rattle.printed_constants.specs.TypedParts.MarkedRuns.TakenNames.Taken.{TakesName}
+use Rattle.printed_constants.proofs.TypedParts.MarkedRuns.KeptMarks.Kept.{writes, look-ups}
+use Rattle.printed_constants.proofs.TypedParts.MarkedRuns.LinkedMembers.Files.{step-have}
+use Rattle.printed_constants.proofs.TypedParts.MarkedRuns.KeptMarks.Puts.{Puts, puts_name, puts_member, step-puts}
+use Rattle.printed_constants.proofs.TypedParts.MarkedRuns.NamedMarks.Used.{named-used}
+use Rattle.printed_constants.proofs.TypedParts.MarkedRuns.Runs.{takes-name}
 use Rattle.printed_constants.specs.Printed.{a_name, a_selection, ArePrinted}
 use Rattle.printed_constants.specs.NamedUses.Laws.{ConstantsNamesStand, StepsKeepConstantsNames}
 use Rattle.printed_constants.specs.NamedUses.Names.{AllConstantsNames}

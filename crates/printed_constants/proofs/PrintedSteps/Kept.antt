@@ -3,20 +3,20 @@ use Rattle.std.proofs.Common.{◌+◌, ◌≤◌, List, arith}
 use Rattle.pkg_graph.specs.Reads.{Source}
 use Rattle.constant_steps.specs.FormImports.OwnNames.{ReadPackagesAreNamed}
 use Rattle.order_runs.proofs.CycleRuns.Runs.{linked-names}
-use Rattle.typed_parts.specs.MarkedRuns.KeptMarks.Laws.{StepsKeepNamed}
-use Rattle.typed_parts.specs.MarkedRuns.KeptMarks.Over.{IsOverName}
-use Rattle.typed_parts.specs.MarkedRuns.LinkedMembers.Laws.{ReadPackagesHaveFiles, StepsKeepFiles}
-use Rattle.typed_parts.specs.MarkedRuns.Marked.{StandsAdded}
-use Rattle.typed_parts.specs.MarkedRuns.NamedMarks.Laws.{ReadMarksAreNamed}
-use Rattle.typed_parts.specs.MarkedRuns.PutForms.Uses.{UsesNamedConstant}
-use Rattle.typed_parts.specs.MarkedRuns.ReadyModules.Laws.{ReadModulesAreReady, ReadModulesAreTyped}
-use Rattle.typed_parts.specs.MarkedRuns.SettledConstants.Laws.{ConstantsWrite}
-use Rattle.typed_parts.specs.MarkedRuns.SoundImports.Laws.{AddedImportsMayBeDeclared}
-use Rattle.typed_parts.specs.MarkedRuns.TakenNames.Laws.{StepsStayReady}
-use Rattle.typed_parts.specs.MarkedRuns.TakenNames.Taken.{TakesName}
-use Rattle.typed_parts.proofs.MarkedRuns.KeptMarks.Kept.{writes, look-ups}
-use Rattle.typed_parts.proofs.MarkedRuns.NamedMarks.Used.{named-used}
-use Rattle.typed_parts.proofs.MarkedRuns.Runs.{takes-name}
+use Rattle.printed_constants.specs.TypedParts.MarkedRuns.KeptMarks.Laws.{StepsKeepNamed}
+use Rattle.printed_constants.specs.TypedParts.MarkedRuns.KeptMarks.Over.{IsOverName}
+use Rattle.printed_constants.specs.TypedParts.MarkedRuns.LinkedMembers.Laws.{ReadPackagesHaveFiles, StepsKeepFiles}
+use Rattle.printed_constants.specs.TypedParts.MarkedRuns.Marked.{StandsAdded}
+use Rattle.printed_constants.specs.TypedParts.MarkedRuns.NamedMarks.Laws.{ReadMarksAreNamed}
+use Rattle.printed_constants.specs.TypedParts.MarkedRuns.PutForms.Uses.{UsesNamedConstant}
+use Rattle.printed_constants.specs.TypedParts.MarkedRuns.ReadyModules.Laws.{ReadModulesAreReady, ReadModulesAreTyped}
+use Rattle.printed_constants.specs.TypedParts.MarkedRuns.SettledConstants.Laws.{ConstantsWrite}
+use Rattle.printed_constants.specs.TypedParts.MarkedRuns.SoundImports.Laws.{AddedImportsMayBeDeclared}
+use Rattle.printed_constants.specs.TypedParts.MarkedRuns.TakenNames.Laws.{StepsStayReady}
+use Rattle.printed_constants.specs.TypedParts.MarkedRuns.TakenNames.Taken.{TakesName}
+use Rattle.printed_constants.proofs.TypedParts.MarkedRuns.KeptMarks.Kept.{writes, look-ups}
+use Rattle.printed_constants.proofs.TypedParts.MarkedRuns.NamedMarks.Used.{named-used}
+use Rattle.printed_constants.proofs.TypedParts.MarkedRuns.Runs.{takes-name}
 use Rattle.run_by_steps.specs.RunProgress.Laws.{ReadPathsAreApart, StepsKeepPathsApart}
 use Rattle.run_rules.specs.Run.{Standing, module_file_size, texts_size, the_limits}
 use Rattle.run_rules.specs.Sites.{MarkRef}

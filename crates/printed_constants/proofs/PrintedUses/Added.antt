@@ -12,17 +12,17 @@ use Rattle.order_runs.specs.CycleRuns.ImportCycles.ImportSteps.{file_added, pack
 use Rattle.order_runs.proofs.CycleRuns.ImportCycles.ImportStep.{placed}
 use Rattle.order_runs.specs.CycleRuns.Linked.{WritesFile}
 use Rattle.order_runs.specs.CycleRuns.OrderCycles.NewNames.{FewNames}
-use Rattle.typed_parts.specs.MarkedRuns.KeptMarks.Over.{IsOverName}
-use Rattle.typed_parts.specs.MarkedRuns.Marked.{StandsAdded, decl_there}
-use Rattle.typed_parts.specs.MarkedRuns.LinkedMembers.Laws.{HaveFiles, ImportsUsed}
-use Rattle.typed_parts.specs.MarkedRuns.SettledConstants.Laws.{ConstantsWrite}
-use Rattle.typed_parts.specs.MarkedRuns.SettledConstants.Programs.{IsReady}
+use Rattle.printed_constants.specs.TypedParts.MarkedRuns.KeptMarks.Over.{IsOverName}
+use Rattle.printed_constants.specs.TypedParts.MarkedRuns.Marked.{StandsAdded, decl_there}
+use Rattle.printed_constants.specs.TypedParts.MarkedRuns.LinkedMembers.Laws.{HaveFiles, ImportsUsed}
+use Rattle.printed_constants.specs.TypedParts.MarkedRuns.SettledConstants.Laws.{ConstantsWrite}
+use Rattle.printed_constants.specs.TypedParts.MarkedRuns.SettledConstants.Programs.{IsReady}
 use Rattle.order_runs.specs.RunSteps.RunPackages.{members_of}
 use Rattle.go_translation.specs.Packages as translated
 use Rattle.go_translation.specs.Packages.{are_well_typed}
-use Rattle.typed_parts.proofs.MarkedRuns.KeptMarks.Kept.{writes}
-use Rattle.typed_parts.proofs.MarkedRuns.LinkedMembers.Stand.{imports-stand}
-use Rattle.splice_laws.proofs.RunLaws.FoundSpans.{Placed}
+use Rattle.printed_constants.proofs.TypedParts.MarkedRuns.KeptMarks.Kept.{writes}
+use Rattle.printed_constants.proofs.TypedParts.MarkedRuns.LinkedMembers.Stand.{imports-stand}
+use Rattle.run_rules.proofs.SpliceLaws.RunLaws.FoundSpans.{Placed}
 use Rattle.run_rules.specs.Programs.{linked_file}
 use Rattle.run_rules.specs.Run.{Standing, Logged, Next, here_of}
 use Rattle.run_rules.specs.Sites.{MarkRef, Where, where_is}

@@ -5,7 +5,7 @@ use Rattle.pkg_graph.specs.Package.{Package}
 use Rattle.run_rules.specs.Surroundings.{Use, other, inner_slot, in_slot, Place, Seen, seen, seen_type, seen_stmt}
 use Rattle.run_rules.specs.Sites.{Where}
 use Rattle.run_rules.specs.Steps.{named_by_import}
-use Rattle.typed_parts.specs.StandingUses.ImportUses.Parts.{EachSeen, IsNoImport, IsPlain, DottedImports, before_a_dot, past_another, IsElsewhere, StandsOnce, here, later}
+use Rattle.printed_constants.specs.TypedParts.StandingUses.ImportUses.Parts.{EachSeen, IsNoImport, IsPlain, DottedImports, before_a_dot, past_another, IsElsewhere, StandsOnce, here, later}
 use Rattle.printed_constants.specs.QualifiedDots.Names.{IsQualified, HasNoDot}
 
 module _ {S : Type 0} (ps : List (Package S)) (w : Where S) (hits : Expr S → Bool) where

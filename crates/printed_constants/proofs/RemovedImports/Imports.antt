@@ -13,12 +13,12 @@ use Rattle.go_tree.specs.declared.scope_names.names.Entity.TheVariants.{Import}
 use Rattle.go_tree.specs.declared.scope_names.names.FileNames.{FileNames}
 use Rattle.go_tree.specs.declared.scope_names.names.ImportName.{ImportName}
 use Rattle.go_tree.specs.ScopeNames.Means.{Environment, means, is_blank, numbered}
-use Rattle.import_rules.specs.declared.new_import.Needed.{Needed}
-use Rattle.import_rules.specs.Laid.{Laid}
-use Rattle.import_rules.specs.Removed.{same_span}
-use Rattle.import_rules.specs.SettledNames.{import_at, ServingStay}
-use Rattle.import_rules.specs.Unused.{AreImportsOf, unused_from, unused_specs}
-use Rattle.import_rules.proofs.UnusedLaws.{used_imports_stay}
+use Rattle.run_rules.specs.declared.import_rules.new_import.Needed.{Needed}
+use Rattle.run_rules.specs.ImportRules.Laid.{Laid}
+use Rattle.run_rules.specs.ImportRules.Removed.{same_span}
+use Rattle.run_rules.specs.ImportRules.SettledNames.{import_at, ServingStay}
+use Rattle.run_rules.specs.ImportRules.Unused.{AreImportsOf, unused_from, unused_specs}
+use Rattle.run_rules.proofs.ImportRules.UnusedLaws.{used_imports_stay}
 use Rattle.pkg_graph.specs.Package.{Package}
 use Rattle.pkg_graph.specs.Members.{Target, imported, import_name}
 use Rattle.go_tree.specs.GoTypes.Answers.{given}
@@ -27,7 +27,7 @@ use Rattle.run_rules.specs.Programs.{decl_seen}
 use Rattle.run_rules.specs.Sites.{Where, imported_by, outer}
 use Rattle.run_rules.specs.Steps.{At, means_import, uses_import}
 use Rattle.run_rules.specs.Surroundings.{Seen}
-use Rattle.typed_parts.specs.StandingUses.ImportUses.Parts.{EachSeen}
+use Rattle.printed_constants.specs.TypedParts.StandingUses.ImportUses.Parts.{EachSeen}
 use Rattle.printed_constants.specs.Printed.{a_name, a_number, a_selection, an_operand, a_call, IsPrinted}
 use Rattle.printed_constants.proofs.Parts.{PrintedPart, an_expression, a_statement, decl_parts}
 use Rattle.printed_constants.proofs.StandingForms.Dots.{at_top}

@@ -10,17 +10,17 @@ use Rattle.go_tree.specs.File.{ImportSpec, ImportDecl, Decl, File}
 use Rattle.go_tree.specs.declared.scope_names.names.FileNames.{FileNames}
 use Rattle.go_tree.specs.declared.scope_names.names.ImportName.{ImportName}
 use Rattle.go_tree.specs.ScopeNames.Means.{means, numbered}
-use Rattle.import_rules.specs.Laid.{Laid}
-use Rattle.import_rules.specs.Removed.{same_span}
-use Rattle.import_rules.specs.SettledNames.{import_at}
-use Rattle.import_rules.specs.Unused.{AreImportsOf, spec_spans}
+use Rattle.run_rules.specs.ImportRules.Laid.{Laid}
+use Rattle.run_rules.specs.ImportRules.Removed.{same_span}
+use Rattle.run_rules.specs.ImportRules.SettledNames.{import_at}
+use Rattle.run_rules.specs.ImportRules.Unused.{AreImportsOf, spec_spans}
 use Rattle.pkg_graph.specs.Package.{SourceTree, Package, specs_in, import_specs}
 use Rattle.pkg_graph.specs.Members.{imported, name_or, import_name}
 use Rattle.go_tree.specs.GoTypes.Agreement.{In}
 use Rattle.go_tree.specs.GoTypes.Answers.{given}
-use Rattle.splice_laws.specs.RunLaws.Reading.{ProgramReads}
-use Rattle.splice_laws.proofs.RunLaws.FilesStand.{file_laid}
-use Rattle.splice_laws.proofs.RunLaws.FoundSpans.{Placed}
+use Rattle.run_rules.specs.SpliceLaws.RunLaws.Reading.{ProgramReads}
+use Rattle.run_rules.proofs.SpliceLaws.RunLaws.FilesStand.{file_laid}
+use Rattle.run_rules.proofs.SpliceLaws.RunLaws.FoundSpans.{Placed}
 use Rattle.run_rules.specs.FormTrees.{as_expr}
 use Rattle.run_rules.specs.Inlining.{ReadsAs}
 use Rattle.run_rules.specs.Laws.{file_found}
@@ -37,11 +37,11 @@ use Rattle.order_runs.specs.CycleRuns.ImportCycles.ImportSteps.{file_added, pack
 use Rattle.order_runs.specs.CycleRuns.ImportCycles.LookedUp.{decl_looked_up}
 use Rattle.order_runs.specs.CycleRuns.KeptImports.Files.{RemovesNoneNamed, RemovesNoLookUps}
 use Rattle.order_runs.proofs.CycleRuns.ImportCycles.ImportStep.{placed}
-use Rattle.typed_parts.specs.MarkedRuns.NamedMarks.Named.{AllNamed}
-use Rattle.typed_parts.proofs.MarkedRuns.KeptMarks.Changed.{name-stays}
-use Rattle.typed_parts.proofs.MarkedRuns.KeptMarks.Puts.{Puts, puts_name, puts_member, step-puts}
-use Rattle.typed_parts.proofs.MarkedRuns.NamedMarks.Used.{named-used}
-use Rattle.splice_laws.proofs.ImportSplices.FormSplices.FormsFound.{step-makes-form}
+use Rattle.printed_constants.specs.TypedParts.MarkedRuns.NamedMarks.Named.{AllNamed}
+use Rattle.printed_constants.proofs.TypedParts.MarkedRuns.KeptMarks.Changed.{name-stays}
+use Rattle.printed_constants.proofs.TypedParts.MarkedRuns.KeptMarks.Puts.{Puts, puts_name, puts_member, step-puts}
+use Rattle.printed_constants.proofs.TypedParts.MarkedRuns.NamedMarks.Used.{named-used}
+use Rattle.run_rules.proofs.SpliceLaws.ImportSplices.FormSplices.FormsFound.{step-makes-form}
 use Rattle.put_names.proofs.StepsPut.{file_reads}
 use Rattle.printed_constants.specs.Printed.{IsFlat, a_name, a_selection, IsPrinted, ArePrinted}
 use Rattle.printed_constants.proofs.PrintedUses.Expressions.{site_expression}

@@ -12,8 +12,8 @@ use Rattle.go_tree.specs.GoTypes.Agreement.{In, head}
 use Rattle.go_tree.specs.GoTypes.Answers.{given, otherwise, is_among}
 use Rattle.go_tree.specs.GoTypes.Typing.{parts, all_parts}
 use Rattle.order_runs.proofs.CycleRuns.ImportCycles.FreeIdentifiers.{in-left, in-right}
-use Rattle.typed_parts.proofs.StandingUses.ImportUses.Stays.{change}
-use Rattle.typed_parts.specs.StandingUses.ImportUses.Parts.{DottedImports, at_the_end, before_a_dot, past_another}
+use Rattle.printed_constants.proofs.TypedParts.StandingUses.ImportUses.Stays.{change}
+use Rattle.printed_constants.specs.TypedParts.StandingUses.ImportUses.Parts.{DottedImports, at_the_end, before_a_dot, past_another}
 use Rattle.run_rules.specs.Surroundings.{Use, other, called, alone, a_slot, Place, Seen, seen, seen_stmt, alike, head_use, later_uses, arg_uses, value_use, inner_slot, in_slot, callee_place, comma_slot, after_stmt, at_stmt, in_constant}
 use Rattle.run_rules.specs.Places.{expr_seen, all_seen, stmts_seen, params_seen, sig_seen}
 use Rattle.run_rules.specs.Programs.{top_place, body_place, constants_at_top, receiver_seen, decl_seen}

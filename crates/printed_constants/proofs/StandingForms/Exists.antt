@@ -1,6 +1,6 @@
 -- A first use has a next program.
 use Rattle.run_by_steps.specs.NextPrograms.Laws.{StepTextsAreRead}
-use Rattle.typed_parts.specs.MarkedRuns.PutForms.Laws.{ConstantFormsArePut, ConstantNamesAreInProgram, MadeConstantsAreNext}
+use Rattle.printed_constants.specs.TypedParts.MarkedRuns.PutForms.Laws.{ConstantFormsArePut, ConstantNamesAreInProgram, MadeConstantsAreNext}
 use Rattle.printed_constants.specs.StandingForms.Laws.{FirstUsesHaveNext}
 
 pub next_there : StepTextsAreRead → ConstantFormsArePut → ConstantNamesAreInProgram → MadeConstantsAreNext → FirstUsesHaveNext

@@ -8,7 +8,7 @@ use Rattle.go_tree.specs.declared.spans.Span.{Span}
 use Rattle.go_tree.specs.Tree.{Expr, ident}
 use Rattle.go_tree.specs.File.{ImportSpec, ImportDecl, Decl, File}
 use Rattle.go_tree.specs.ScopeNames.Identifiers.{decl_identifiers}
-use Rattle.import_rules.specs.declared.new_import.NewImport.{NewImport}
+use Rattle.run_rules.specs.declared.import_rules.new_import.NewImport.{NewImport}
 use Rattle.constant_steps.proofs.FormImports.ImportLaws.GraphImports.{map_append}
 use Rattle.pkg_graph.specs.Package.{SourceTree, Package, specs_in, import_specs}
 use Rattle.pkg_graph.specs.Members.{name_or, import_name}
@@ -17,10 +17,10 @@ use Rattle.constant_forms.specs.declared.packages.NamedPackage.{NamedPackage}
 use Rattle.constant_forms.specs.declared.reduced.ConstantForm.{ConstantForm}
 use Rattle.constant_forms.specs.Views.{name_expr, named_of}
 use Rattle.order_runs.specs.CycleRuns.ImportCycles.ImportSteps.{file_added, packages_added, AddsNewNames}
-use Rattle.typed_parts.specs.StandingUses.ImportUses.Parts.{EachSeen, IsNoImport, DottedImports, at_the_end, before_a_dot, past_another}
-use Rattle.typed_parts.specs.StandingUses.ImportUses.Steps.{EachDecl, IsStanding}
-use Rattle.typed_parts.proofs.StandingUses.ImportUses.Stays.{change}
-use Rattle.typed_parts.proofs.StandingUses.ImportUses.Unhit.{decl_stays}
+use Rattle.printed_constants.specs.TypedParts.StandingUses.ImportUses.Parts.{EachSeen, IsNoImport, DottedImports, at_the_end, before_a_dot, past_another}
+use Rattle.printed_constants.specs.TypedParts.StandingUses.ImportUses.Steps.{EachDecl, IsStanding}
+use Rattle.printed_constants.proofs.TypedParts.StandingUses.ImportUses.Stays.{change}
+use Rattle.printed_constants.proofs.TypedParts.StandingUses.ImportUses.Unhit.{decl_stays}
 use Rattle.run_rules.specs.Surroundings.{Use, Place, Seen, seen}
 use Rattle.run_rules.specs.Forms.{is_at}
 use Rattle.run_rules.specs.FormTrees.{Form, as_expr}
@@ -33,19 +33,19 @@ use Rattle.run_rules.specs.Run.{Standing, here_of, is_commented, edits_in, logge
 use Rattle.run_rules.specs.Sites.{MarkRef, Where, Site, part_span, outer}
 use Rattle.run_rules.specs.Steps.{At, same_here, change_nth, changes_for, Found, new_decl, new_decls, added_decls, file_between, packages_between, where_between}
 use Rattle.run_rules.specs.Texts.{FileText}
-use Rattle.splice_laws.proofs.RunLaws.FoundSpans.{Placed}
+use Rattle.run_rules.proofs.SpliceLaws.RunLaws.FoundSpans.{Placed}
 use Rattle.order_runs.proofs.RunSteps.SeatedUses.{Among, first, later, Seated}
 use Rattle.order_runs.specs.CycleRuns.OrderCycles.NewNames.{FewNames}
 use Rattle.order_runs.proofs.CycleRuns.OrderCycles.NamesAdded.{adds-new-names}
 use Rattle.order_runs.proofs.CycleRuns.Runs.{linked-names}
-use Rattle.typed_parts.proofs.MarkedRuns.KeptMarks.Changed.{name-stays}
+use Rattle.printed_constants.proofs.TypedParts.MarkedRuns.KeptMarks.Changed.{name-stays}
 use Rattle.run_by_steps.specs.NextPrograms.Made.{NextWith}
-use Rattle.typed_parts.specs.MarkedRuns.PutForms.Uses.{IsFirstUse, UsesNamedConstant}
-use Rattle.typed_parts.proofs.MarkedRuns.PutForms.FirstUses.{placed, makes, seated, file_reads}
-use Rattle.typed_parts.specs.MarkedRuns.SettledConstants.Programs.{IsReady}
-use Rattle.typed_parts.specs.StandingUses.Laws.{AreTyped}
-use Rattle.typed_parts.specs.StandingUses.ToldSteps.Laws.{BecomesForm}
-use Rattle.typed_parts.specs.DottedImports.Laws.{WellTypedFilesStand}
+use Rattle.printed_constants.specs.TypedParts.MarkedRuns.PutForms.Uses.{IsFirstUse, UsesNamedConstant}
+use Rattle.printed_constants.proofs.TypedParts.MarkedRuns.PutForms.FirstUses.{placed, makes, seated, file_reads}
+use Rattle.printed_constants.specs.TypedParts.MarkedRuns.SettledConstants.Programs.{IsReady}
+use Rattle.printed_constants.specs.TypedParts.StandingUses.Laws.{AreTyped}
+use Rattle.printed_constants.specs.TypedParts.StandingUses.ToldSteps.Laws.{BecomesForm}
+use Rattle.printed_constants.specs.TypedParts.DottedImports.Laws.{WellTypedFilesStand}
 use Rattle.printed_constants.specs.Printed.{IsFlat, a_name, a_selection, IsPrinted, ArePrinted}
 use Rattle.printed_constants.proofs.Parts.{PrintedPart, an_expression, decl_parts, parts_scoped, parts_keyed}
 use Rattle.printed_constants.proofs.Steps.{changed_nth, decl_new}

@@ -5,12 +5,12 @@ use Rattle.go_tree.specs.declared.tokens.Token.{Token}
 use Rattle.go_tree.specs.declared.tokens.Comment.{Comment}
 use Rattle.go_tree.specs.File.{ImportSpec, ImportDecl}
 use Rattle.go_tree.specs.FileBare.{bare_import_spec}
-use Rattle.import_rules.specs.declared.new_import.NewImport.{NewImport}
-use Rattle.import_rules.specs.SpecText.{is_before, put, in_order}
-use Rattle.import_rules.specs.Removed.{goes, goes_whole}
-use Rattle.import_rules.specs.Added.{adds_to_group}
-use Rattle.splice_laws.specs.ImportSplices.AddedFile.{added_spec, added_decls}
-use Rattle.splice_laws.specs.ImportSplices.SettledFile.{left_specs, left_single, left_decl, left_decls, grown_decls, with_added, settled_decls}
+use Rattle.run_rules.specs.declared.import_rules.new_import.NewImport.{NewImport}
+use Rattle.run_rules.specs.ImportRules.SpecText.{is_before, put, in_order}
+use Rattle.run_rules.specs.ImportRules.Removed.{goes, goes_whole}
+use Rattle.run_rules.specs.ImportRules.Added.{adds_to_group}
+use Rattle.run_rules.specs.SpliceLaws.ImportSplices.AddedFile.{added_spec, added_decls}
+use Rattle.run_rules.specs.SpliceLaws.ImportSplices.SettledFile.{left_specs, left_single, left_decl, left_decls, grown_decls, with_added, settled_decls}
 use Rattle.pkg_graph.specs.Package.{specs_in}
 use Rattle.order_runs.specs.CycleRuns.StepCycles.PackagesAlike.{import_key}
 use Rattle.order_runs.proofs.CycleRuns.KeptImports.Keys.{Key, new_key, key-bare, key-added}

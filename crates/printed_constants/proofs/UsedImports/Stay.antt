@@ -25,23 +25,23 @@ use Rattle.order_runs.specs.CycleRuns.KeptImports.Files.{IsSettled}
 use Rattle.order_runs.proofs.CycleRuns.ImportCycles.ImportStep.{placed}
 use Rattle.order_runs.proofs.CycleRuns.KeptImports.Kept.{is-settled}
 use Rattle.order_runs.proofs.CycleRuns.Runs.{linked-names}
-use Rattle.splice_laws.proofs.RunLaws.FoundSpans.{Placed}
+use Rattle.run_rules.proofs.SpliceLaws.RunLaws.FoundSpans.{Placed}
 use Rattle.run_rules.specs.FormTrees.{as_expr}
 use Rattle.run_rules.specs.Forms.{is_at}
 use Rattle.run_rules.specs.Naming.{Named, imports_added, names_by}
 use Rattle.run_rules.specs.Run.{Standing, Logged, Next, here_of, texts_size, the_limits}
 use Rattle.run_rules.specs.Sites.{MarkRef, Where, Part, an_expr, a_constant, part_span}
 use Rattle.run_rules.specs.Steps.{At, same_here, change_nth, with_file}
-use Rattle.typed_parts.specs.MarkedRuns.KeptMarks.Over.{IsOverName}
-use Rattle.typed_parts.specs.MarkedRuns.LinkedMembers.Laws.{ImportsUsed}
-use Rattle.typed_parts.specs.MarkedRuns.NamedMarks.Named.{AllNamed}
-use Rattle.typed_parts.specs.MarkedRuns.SettledConstants.Laws.{ConstantsWrite, ConstantUsesAreNames, ConstantUsesAreSpelled}
-use Rattle.typed_parts.specs.MarkedRuns.SettledConstants.Programs.{IsReady}
-use Rattle.typed_parts.proofs.MarkedRuns.KeptMarks.Changed.{name-stays}
-use Rattle.typed_parts.proofs.MarkedRuns.KeptMarks.Kept.{writes}
-use Rattle.typed_parts.proofs.MarkedRuns.NamedMarks.Used.{named-used}
-use Rattle.typed_parts.proofs.MarkedRuns.PutForms.FirstUses.{seated}
-use Rattle.typed_parts.proofs.MarkedRuns.SoundImports.Sound.{sound-before}
+use Rattle.printed_constants.specs.TypedParts.MarkedRuns.KeptMarks.Over.{IsOverName}
+use Rattle.printed_constants.specs.TypedParts.MarkedRuns.LinkedMembers.Laws.{ImportsUsed}
+use Rattle.printed_constants.specs.TypedParts.MarkedRuns.NamedMarks.Named.{AllNamed}
+use Rattle.printed_constants.specs.TypedParts.MarkedRuns.SettledConstants.Laws.{ConstantsWrite, ConstantUsesAreNames, ConstantUsesAreSpelled}
+use Rattle.printed_constants.specs.TypedParts.MarkedRuns.SettledConstants.Programs.{IsReady}
+use Rattle.printed_constants.proofs.TypedParts.MarkedRuns.KeptMarks.Changed.{name-stays}
+use Rattle.printed_constants.proofs.TypedParts.MarkedRuns.KeptMarks.Kept.{writes}
+use Rattle.printed_constants.proofs.TypedParts.MarkedRuns.NamedMarks.Used.{named-used}
+use Rattle.printed_constants.proofs.TypedParts.MarkedRuns.PutForms.FirstUses.{seated}
+use Rattle.printed_constants.proofs.TypedParts.MarkedRuns.SoundImports.Sound.{sound-before}
 use Rattle.printed_constants.specs.Printed.{IsFlat, a_name, a_selection, ArePrinted}
 use Rattle.printed_constants.specs.UsedImports.Uses.{decls_looked_up, LookUpImports}
 use Rattle.printed_constants.proofs.NamedUses.Forms.{Writes, writes_name, writes_member, step_writes}

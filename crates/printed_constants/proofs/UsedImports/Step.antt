@@ -11,9 +11,9 @@ use Rattle.go_tree.specs.Tree.{Expr, ident}
 use Rattle.go_tree.specs.File.{ImportSpec, ImportDecl, Decl, File}
 use Rattle.go_tree.specs.ScopeNames.FreeNames.{free_expr}
 use Rattle.go_tree.specs.ScopeNames.Means.{Environment, means, is_blank, numbered}
-use Rattle.import_rules.specs.Needs.{serving, avoided}
-use Rattle.import_rules.specs.Removed.{same_span}
-use Rattle.splice_laws.specs.ImportSplices.SettledFile.{settled_decls}
+use Rattle.run_rules.specs.ImportRules.Needs.{serving, avoided}
+use Rattle.run_rules.specs.ImportRules.Removed.{same_span}
+use Rattle.run_rules.specs.SpliceLaws.ImportSplices.SettledFile.{settled_decls}
 use Rattle.pkg_graph.specs.Package.{Package, specs_in, import_specs}
 use Rattle.pkg_graph.specs.Members.{Target, imported, import_name}
 use Rattle.go_tree.specs.GoTypes.Agreement.{In, head}
@@ -21,8 +21,8 @@ use Rattle.go_tree.specs.GoTypes.Answers.{given, is_among}
 use Rattle.go_tree.specs.GoTypes.Programs.{is_init, import_sound, block_names}
 use Rattle.typed_in_place.specs.ImportRule.{imports_sound}
 use Rattle.typed_in_place.proofs.Rising.{and_first, and_second}
-use Rattle.splice_laws.specs.RunLaws.Reading.{ProgramReads}
-use Rattle.splice_laws.proofs.RunLaws.FoundSpans.{Placed}
+use Rattle.run_rules.specs.SpliceLaws.RunLaws.Reading.{ProgramReads}
+use Rattle.run_rules.proofs.SpliceLaws.RunLaws.FoundSpans.{Placed}
 use Rattle.run_rules.specs.FormTrees.{Form, as_expr}
 use Rattle.run_rules.specs.Forms.{is_at}
 use Rattle.run_rules.specs.Laws.{file_found}
@@ -36,7 +36,7 @@ use Rattle.run_rules.specs.Surroundings.{Use, Place, Seen, seen}
 use Rattle.constant_steps.specs.FormImports.ImportLaws.Steps.{used_before, used_after, removed_specs}
 use Rattle.order_runs.proofs.RunSteps.SeatedUses.{Among, first, later, Seated}
 use Rattle.order_runs.specs.ImportSteps.ImportingSteps.{MayBeDeclared}
-use Rattle.typed_parts.specs.StandingUses.ImportUses.Parts.{EachSeen}
+use Rattle.printed_constants.specs.TypedParts.StandingUses.ImportUses.Parts.{EachSeen}
 use Rattle.order_runs.specs.CycleRuns.StepCycles.PackagesAlike.{import_key}
 use Rattle.order_runs.specs.CycleRuns.ImportCycles.LookedUp.{decl_looked_up}
 use Rattle.order_runs.specs.CycleRuns.KeptImports.Files.{IsSettled}

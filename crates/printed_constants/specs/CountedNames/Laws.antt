@@ -10,16 +10,16 @@ use Rattle.go_tree.specs.File.{Decl, File}
 use Rattle.go_tree.specs.GoWords.Tokens.{TokensOf}
 use Rattle.order_runs.specs.CycleRuns.OrderCycles.NewNames.{FewNames}
 use Rattle.pkg_graph.specs.Reads.{Source}
-use Rattle.splice_laws.specs.RunLaws.Reading.{ProgramReads, OnePathEach}
+use Rattle.run_rules.specs.SpliceLaws.RunLaws.Reading.{ProgramReads, OnePathEach}
 use Rattle.run_rules.specs.Run.{Standing, Logged, Next, module_file_size, texts_size, the_limits, passed}
 use Rattle.run_rules.specs.Sites.{MarkRef, Where}
 use Rattle.run_rules.specs.Steps.{At, Found}
 use Rattle.run_rules.specs.Naming.{fuel_for}
-use Rattle.import_rules.specs.Needs.{avoided}
+use Rattle.run_rules.specs.ImportRules.Needs.{avoided}
 use Rattle.constant_steps.specs.FormImports.ImportLaws.Steps.{names_standing}
 use Rattle.run_rules.specs.Texts.{FileText}
-use Rattle.typed_parts.specs.MarkedRuns.NamedMarks.Named.{AllNamed}
-use Rattle.typed_parts.specs.MarkedRuns.PutForms.Uses.{IsFirstUse, UsesNamedConstant}
+use Rattle.printed_constants.specs.TypedParts.MarkedRuns.NamedMarks.Named.{AllNamed}
+use Rattle.printed_constants.specs.TypedParts.MarkedRuns.PutForms.Uses.{IsFirstUse, UsesNamedConstant}
 use Rattle.printed_constants.specs.Printed.{IsPrinted, ArePrinted}
 use Rattle.go_tree.specs.ScopeNames.Identifiers.{identifiers}
 

@@ -11,11 +11,11 @@ use Rattle.pkg_graph.specs.Reads.{Source}
 use Rattle.go_tree.specs.GoTypes.Types.{GoType}
 use Rattle.go_tree.specs.GoTypes.Entities.{constant, block_of}
 use Rattle.go_translation.specs.SameMeaning.{WellTyped}
-use Rattle.splice_laws.specs.ImportSplices.AddedFile.{is_byte}
+use Rattle.run_rules.specs.SpliceLaws.ImportSplices.AddedFile.{is_byte}
 use Rattle.order_runs.specs.CycleRuns.OrderCycles.Orders.{AllOrdered}
-use Rattle.typed_parts.specs.MarkedRuns.LinkedMembers.Laws.{HaveFiles}
-use Rattle.typed_parts.specs.MarkedRuns.NamedMarks.Named.{AllNamed}
-use Rattle.typed_parts.specs.MarkedRuns.TakenNames.Laws.{KeptByRun}
+use Rattle.printed_constants.specs.TypedParts.MarkedRuns.LinkedMembers.Laws.{HaveFiles}
+use Rattle.printed_constants.specs.TypedParts.MarkedRuns.NamedMarks.Named.{AllNamed}
+use Rattle.printed_constants.specs.TypedParts.MarkedRuns.TakenNames.Laws.{KeptByRun}
 use Rattle.member_uses.specs.Laws.{AllConstants}
 use Rattle.order_runs.specs.RunSteps.RunPackages.{packages_of}
 use Rattle.printed_constants.specs.NamedUses.Names.{IsConstantOf, AllConstantsNames}

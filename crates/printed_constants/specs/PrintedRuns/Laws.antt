@@ -5,7 +5,7 @@ use Rattle.std.specs.Prelude.{◌≡◌, ◌≤◌, true, ℕ, List, []}
 use Rattle.std.specs.List.{list_all}
 use Rattle.go_tree.specs.declared.spans.Span.{Span}
 use Rattle.go_tree.specs.GoWords.Tokens.Characters.{each}
-use Rattle.splice_laws.specs.ImportSplices.AddedFile.{is_byte}
+use Rattle.run_rules.specs.SpliceLaws.ImportSplices.AddedFile.{is_byte}
 use Rattle.pkg_graph.specs.Package.{Package}
 use Rattle.pkg_graph.specs.Reads.{Source}
 use Rattle.go_translation.specs.SameMeaning.{WellTyped}
@@ -16,7 +16,7 @@ use Rattle.run_rules.specs.Run.{Standing, Logged, Run, ends, goes_on, texts_size
 use Rattle.run_rules.specs.Sites.{MarkRef}
 use Rattle.run_rules.specs.Texts.{FileText}
 use Rattle.order_runs.specs.RunSteps.RunPackages.{packages_of}
-use Rattle.typed_parts.specs.MarkedRuns.TakenNames.Laws.{KeptByRun}
+use Rattle.printed_constants.specs.TypedParts.MarkedRuns.TakenNames.Laws.{KeptByRun}
 use Rattle.printed_constants.specs.NamedUses.Names.{AllConstantsNames}
 use Rattle.printed_constants.specs.Printed.{ArePrinted}
 

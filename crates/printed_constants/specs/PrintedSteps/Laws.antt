@@ -5,13 +5,13 @@ use Rattle.std.specs.Prelude.{◌≡◌, ℕ, ◌+◌, ◌≤◌, true, List, []
 use Rattle.std.specs.List.{list_all}
 use Rattle.go_tree.specs.declared.spans.Span.{Span}
 use Rattle.go_tree.specs.GoWords.Tokens.Characters.{each}
-use Rattle.splice_laws.specs.ImportSplices.AddedFile.{is_byte}
+use Rattle.run_rules.specs.SpliceLaws.ImportSplices.AddedFile.{is_byte}
 use Rattle.pkg_graph.specs.Package.{Package}
 use Rattle.pkg_graph.specs.Reads.{Source}
 use Rattle.constant_forms.specs.declared.reduced.ConstantForm.{ConstantForm}
 use Rattle.go_translation.specs.SameMeaning.{WellTyped}
-use Rattle.typed_parts.specs.MarkedRuns.KeptMarks.Over.{IsOverName}
-use Rattle.typed_parts.specs.MarkedRuns.PutForms.Uses.{IsFirstUse, UsesNamedConstant}
+use Rattle.printed_constants.specs.TypedParts.MarkedRuns.KeptMarks.Over.{IsOverName}
+use Rattle.printed_constants.specs.TypedParts.MarkedRuns.PutForms.Uses.{IsFirstUse, UsesNamedConstant}
 use Rattle.member_uses.specs.Laws.{AllConstants}
 use Rattle.order_runs.specs.RunSteps.RunPackages.{packages_of}
 use Rattle.run_rules.specs.Inlining.{ModuleReads, standing_as_read}
@@ -20,8 +20,8 @@ use Rattle.run_rules.specs.Run.{Standing, Logged, Next, module_file_size, texts_
 use Rattle.run_rules.specs.Sites.{MarkRef}
 use Rattle.run_rules.specs.Steps.{At, Found}
 use Rattle.run_rules.specs.Texts.{FileText}
-use Rattle.typed_parts.specs.StandingUses.Laws.{AreTyped}
-use Rattle.typed_parts.specs.StandingUses.ToldSteps.Laws.{BecomesForm}
+use Rattle.printed_constants.specs.TypedParts.StandingUses.Laws.{AreTyped}
+use Rattle.printed_constants.specs.TypedParts.StandingUses.ToldSteps.Laws.{BecomesForm}
 use Rattle.printed_constants.specs.NamedUses.Names.{AllConstantsNames}
 use Rattle.printed_constants.specs.Printed.{ArePrinted}
 use Rattle.printed_constants.specs.PrintedSteps.Programs.{IsPrintedProgram}

@@ -4,9 +4,9 @@ use Rattle.std.specs.Prelude.{◌≡◌, ◌+◌, ◌≤◌, true, List, []}
 use Rattle.pkg_graph.specs.Reads.{Source}
 use Rattle.constant_steps.specs.FormImports.OwnNames.{AllOwn}
 use Rattle.go_translation.specs.SameMeaning.{WellTyped}
-use Rattle.typed_parts.specs.MarkedRuns.LinkedMembers.Laws.{HaveFiles}
-use Rattle.typed_parts.specs.MarkedRuns.NamedMarks.Named.{AllNamed}
-use Rattle.typed_parts.specs.MarkedRuns.SettledConstants.Programs.{IsReady}
+use Rattle.printed_constants.specs.TypedParts.MarkedRuns.LinkedMembers.Laws.{HaveFiles}
+use Rattle.printed_constants.specs.TypedParts.MarkedRuns.NamedMarks.Named.{AllNamed}
+use Rattle.printed_constants.specs.TypedParts.MarkedRuns.SettledConstants.Programs.{IsReady}
 use Rattle.order_runs.specs.RunSteps.RunPackages.{packages_of}
 use Rattle.run_by_steps.specs.RunProgress.Laws.{are_paths_apart}
 use Rattle.run_rules.specs.Run.{Standing, module_file_size, texts_size, the_limits}

@@ -3,14 +3,14 @@
 use Rattle.std.specs.Prelude.{◌≡◌, List, Some, Contains, slice_get}
 use Rattle.go_tree.specs.File.{Decl}
 use Rattle.order_runs.specs.CycleRuns.ImportCycles.ImportSteps.{packages_added}
-use Rattle.typed_parts.specs.MarkedRuns.Marked.{decl_there}
+use Rattle.printed_constants.specs.TypedParts.MarkedRuns.Marked.{decl_there}
 use Rattle.constant_steps.specs.QualifiedSteps.NamedUse.{NamedUse}
 use Rattle.run_rules.specs.FormTrees.{as_expr}
 use Rattle.run_rules.specs.Run.{Standing, Logged, Next, is_commented}
 use Rattle.run_rules.specs.Sites.{MarkRef}
 use Rattle.run_rules.specs.Steps.{At, same_here}
 use Rattle.run_rules.specs.Surroundings.{Use, Place, seen}
-use Rattle.typed_parts.specs.MarkedRuns.TakenNames.Taken.{site_there}
+use Rattle.printed_constants.specs.TypedParts.MarkedRuns.TakenNames.Taken.{site_there}
 
 -- With the imports of the form added the use stands at this place, is a name of a constant that is declared as
 -- another's name, and becomes that name.

@@ -5,17 +5,17 @@ use Rattle.constant_steps.specs.FormImports.OwnNames.{AllOwn}
 use Rattle.go_tree.specs.Tree.{Expr}
 use Rattle.go_translation.specs.SameMeaning.{WellTyped}
 use Rattle.order_runs.specs.RunSteps.RunPackages.{packages_of}
-use Rattle.typed_parts.specs.MarkedRuns.KeptMarks.Over.{IsOverName}
-use Rattle.typed_parts.specs.MarkedRuns.LinkedMembers.Laws.{HaveFiles}
-use Rattle.typed_parts.specs.MarkedRuns.Marked.{StandsAdded}
-use Rattle.typed_parts.specs.MarkedRuns.NamedMarks.Named.{AllNamed}
+use Rattle.printed_constants.specs.TypedParts.MarkedRuns.KeptMarks.Over.{IsOverName}
+use Rattle.printed_constants.specs.TypedParts.MarkedRuns.LinkedMembers.Laws.{HaveFiles}
+use Rattle.printed_constants.specs.TypedParts.MarkedRuns.Marked.{StandsAdded}
+use Rattle.printed_constants.specs.TypedParts.MarkedRuns.NamedMarks.Named.{AllNamed}
 use Rattle.pkg_graph.specs.Package.{Package}
 use Rattle.printed_constants.specs.Printed.{ArePrinted}
 use Rattle.run_rules.specs.Run.{Standing, Logged, Next, texts_size, the_limits}
 use Rattle.run_rules.specs.Sites.{MarkRef, Site, an_expr, sites}
 use Rattle.run_rules.specs.Steps.{At}
 use Rattle.printed_constants.specs.PrintedUses.Added.{IsNamedThere}
-use Rattle.typed_parts.specs.MarkedRuns.SettledConstants.Programs.{IsReady}
+use Rattle.printed_constants.specs.TypedParts.MarkedRuns.SettledConstants.Programs.{IsReady}
 
 -- Each use of such a program is an expression.
 abbrev pub PrintedUsesAreExpressions : Type 0

@@ -9,12 +9,12 @@ use Rattle.go_tree.specs.GoTypes.Entities.{Entity, block_of}
 use Rattle.go_tree.specs.GoTypes.WellTyped.{well_typed}
 use Rattle.order_runs.specs.CycleRuns.OrderCycles.Orders.{AllOrdered}
 use Rattle.run_rules.specs.Programs.{linked, world, decl_seen}
-use Rattle.typed_parts.specs.MarkedRuns.SettledConstants.Programs.{IsReady}
+use Rattle.printed_constants.specs.TypedParts.MarkedRuns.SettledConstants.Programs.{IsReady}
 use Rattle.run_rules.specs.Forms.{is_at}
 use Rattle.run_rules.specs.Run.{Standing, Logged, Next}
 use Rattle.run_rules.specs.Sites.{MarkRef, Where, an_expr, a_constant, inlinable, part_span}
 use Rattle.run_rules.specs.Steps.{At, same_here}
-use Rattle.typed_parts.specs.StandingUses.ImportUses.Parts.{EachSeen}
+use Rattle.printed_constants.specs.TypedParts.StandingUses.ImportUses.Parts.{EachSeen}
 use Rattle.printed_constants.specs.Printed.{ArePrinted}
 use Rattle.printed_constants.specs.QualifiedDots.Names.{IsUntypedMember, IsQualified, HasNoDot}
 

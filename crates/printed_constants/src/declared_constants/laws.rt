@@ -2,11 +2,11 @@
 
 ghost use Rattle.printed_constants.specs.DeclaredConstants.Laws as law;
 
+use crate::typed_parts::marked_runs::{read_marks_are_named, read_modules_are_ready};
 use crate::{
     constants_name_members, printed_packages_are_plain, printed_runs_keep, steps_stay_printed,
 };
 use constant_steps::place_meanings::files_have_their_names;
-use typed_parts::marked_runs::{read_marks_are_named, read_modules_are_ready};
 
 /// In a well-typed program of constants and of functions that print them, a name of a package block that means a
 /// constant to the rules of typing is declared by a constant. So what a marked constant is declared as, a name alone or

@@ -3,7 +3,7 @@
 ghost use Rattle.printed_constants.specs.NamedUses.Laws.{ConstantsNamesStand, StepsKeepConstantsNames};
 
 use crate::declared_members::constants_name_members;
-use typed_parts::marked_runs::constants_settle;
+use crate::typed_parts::marked_runs::constants_settle;
 
 /// Where each marked constant is declared as a name of a constant, the use of a step over one is, with the imports of
 /// its form added, a name of it still, and becomes the name that it is declared as (`stand`). After the step each is

@@ -7,12 +7,12 @@ use crate::laws::{printed_packages_are_plain, steps_stay_printed};
 use crate::named_uses::constants_names_stand;
 use crate::printed_uses::{printed_steps_are_over, printed_uses_stand};
 use crate::standing_forms::first_uses_are_typed;
-use constant_steps::form_imports::packages_have_own_names;
-use run_by_steps::paths_stay_apart;
-use typed_parts::marked_runs::{
+use crate::typed_parts::marked_runs::{
     added_imports_may_be_declared, constants_settle, marks_stay_named, members_are_linked,
     read_marks_are_named, read_modules_are_ready, runs_over_constants_keep,
 };
+use constant_steps::form_imports::packages_have_own_names;
+use run_by_steps::paths_stay_apart;
 
 /// A module that reads and is well typed and within the limits, all of whose declarations are constants and functions
 /// that print them, and whose marked constants are declared as names of constants, is a program as it stands on the way

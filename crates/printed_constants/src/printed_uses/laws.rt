@@ -3,8 +3,8 @@
 ghost use Rattle.printed_constants.specs.PrintedUses.Laws.{PrintedStepsAreOver, PrintedUsesAreExpressions};
 ghost use Rattle.printed_constants.specs.PrintedUses.Laws.{PrintedUsesStand};
 
+use crate::typed_parts::marked_runs::constants_settle;
 use crate::used_imports::printed_imports_are_used;
-use typed_parts::marked_runs::constants_settle;
 
 /// Each use of a marked declaration in a program of constants, and of functions that print them, is an expression: no
 /// types are written there (Go specification, Operands).

@@ -2,8 +2,8 @@
 
 ghost use Rattle.printed_constants.specs.QualifiedDots.Laws as law;
 
-use typed_parts::standing_uses::constant_uses_stand_once;
-use typed_parts::well_typed_files_are_dotted;
+use crate::typed_parts::standing_uses::constant_uses_stand_once;
+use crate::typed_parts::well_typed_files_are_dotted;
 
 /// In packages of constants and of functions that print them each name of a package block means a function or an
 /// untyped constant, or is refused (`names`). An untyped constant has neither fields nor methods; so in a well-typed

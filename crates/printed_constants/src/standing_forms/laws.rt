@@ -3,9 +3,9 @@
 ghost use Rattle.printed_constants.specs.StandingForms.Laws.{FirstUsesAreTyped, FirstUsesHaveNext, FormsNameNoImport};
 
 use crate::declared_members::constants_name_members;
+use crate::typed_parts::marked_runs::{constants_come_next, forms_of_constants_are_put};
+use crate::typed_parts::well_typed_files_are_dotted;
 use run_by_steps::step_texts_are_read;
-use typed_parts::marked_runs::{constants_come_next, forms_of_constants_are_put};
-use typed_parts::well_typed_files_are_dotted;
 
 /// In a program that is ready there is a next program of the first use of a constant that is declared as a name: its
 /// new text is read. So what is proved of steps is known of the use before its new text is read (Go specification,

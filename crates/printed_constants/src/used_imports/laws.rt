@@ -3,7 +3,7 @@
 ghost use Rattle.printed_constants.specs.UsedImports.Laws.{LookedUpImportsAreUsed, StepsLeaveImportsUsed};
 ghost use Rattle.printed_constants.specs.UsedImports.Laws.{TypedImportsAreLookedUp};
 
-use typed_parts::marked_runs::constants_settle;
+use crate::typed_parts::marked_runs::constants_settle;
 
 /// In a well-typed program of constants, and of functions that print them, the name of each import but `_` is looked
 /// up in its file (`looked`); where it is, the import is used (`used`). So each is after a step over a constant

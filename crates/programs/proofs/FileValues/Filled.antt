@@ -20,9 +20,9 @@ use Rattle.go_tree.specs.GoTypes.Answers.{given}
 use Rattle.run_rules.specs.Programs.{number_from}
 use Rattle.member_uses.specs.Uses.{Names}
 use Rattle.file_tables.specs.Numbers.{number_in}
-use Rattle.use_search.specs.declared.mark_values.values.DeclaredValue.{DeclaredValue}
-use Rattle.use_search.specs.MarkValues.Values.{decl_values}
-use Rattle.use_search.specs.MarkValues.Tables.{DeclKey, Known, values_at}
+use Rattle.repeated_parts.specs.declared.use_search.mark_values.values.DeclaredValue.{DeclaredValue}
+use Rattle.repeated_parts.specs.UseSearch.MarkValues.Values.{decl_values}
+use Rattle.repeated_parts.specs.UseSearch.MarkValues.Tables.{DeclKey, Known, values_at}
 use Rattle.programs.specs.FileValues.Filled.{is_constants, constants_in, IsFilled, HasFileValues}
 use Rattle.programs.proofs.FileValues.Filling.{nat_cases, unequal}
 

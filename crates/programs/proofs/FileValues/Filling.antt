@@ -10,9 +10,9 @@ use Rattle.go_tree.specs.FileView.{decl_of}
 use Rattle.go_tree.specs.ScopeNames.Means.{or_else}
 use Rattle.go_tree.specs.GoTypes.Answers.{given}
 use Rattle.member_uses.specs.Uses.{Names}
-use Rattle.use_search.specs.declared.mark_values.values.DeclaredValue.{DeclaredValue}
-use Rattle.use_search.specs.MarkValues.Values.{decl_values}
-use Rattle.use_search.specs.MarkValues.Tables.{DeclKey, same_key, Known, values_at, IsPut}
+use Rattle.repeated_parts.specs.declared.use_search.mark_values.values.DeclaredValue.{DeclaredValue}
+use Rattle.repeated_parts.specs.UseSearch.MarkValues.Values.{decl_values}
+use Rattle.repeated_parts.specs.UseSearch.MarkValues.Tables.{DeclKey, same_key, Known, values_at, IsPut}
 use Rattle.programs.specs.FileValues.Filled.{is_constants, constants_in, file_values, IsFilled}
 
 abbrev pub Constants : Type 0

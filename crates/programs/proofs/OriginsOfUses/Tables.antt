@@ -7,10 +7,10 @@ use Rattle.indexmap.specs.IndexMap.{insert_entry}
 use Rattle.go_tree.specs.declared.spans.Span.{Span}
 use Rattle.go_tree.specs.File.{Decl}
 use Rattle.go_tree.specs.ScopeNames.Means.{or_else}
-use Rattle.import_rules.specs.Removed.{span_at, same_span}
-use Rattle.possible_uses.specs.declared.parts.PartRef.{PartRef}
-use Rattle.possible_uses.specs.Views.{part_of}
-use Rattle.possible_uses.specs.Parts.{parts_of}
+use Rattle.run_rules.specs.ImportRules.Removed.{span_at, same_span}
+use Rattle.member_uses.specs.declared.possible_uses.parts.PartRef.{PartRef}
+use Rattle.member_uses.specs.PossibleUses.Views.{part_of}
+use Rattle.member_uses.specs.PossibleUses.Parts.{parts_of}
 use Rattle.programs.specs.OriginsOfUses.Origins.{at_span, named_span, own_origin, first_origin, decls_origin, AreOriginsOf}
 
 is_same : (a b : Span) → same_span a b ≡ true → a ≡ b

@@ -8,8 +8,8 @@ use Rattle.run_rules.specs.Respanned.{expr_with, type_with, decl_with}
 use Rattle.run_rules.specs.Sites.{Part, an_expr, a_type_part, part_span, type_span}
 use Rattle.run_rules.specs.Steps.{At}
 use Rattle.run_rules.specs.Run.{as_read, origin_of}
-use Rattle.possible_uses.specs.Candidates.{Candidate}
-use Rattle.possible_uses.specs.Parts.{parts_of}
+use Rattle.member_uses.specs.PossibleUses.Candidates.{Candidate}
+use Rattle.member_uses.specs.PossibleUses.Parts.{parts_of}
 use Rattle.member_uses.proofs.Stays.{candidate_with, after_decl-stays}
 use Rattle.programs.specs.PartOrigins.Spans.{part_spans, decls_spans}
 use Rattle.programs.specs.PartOrigins.Laws.{decls_origins, PartsComeFromThemselves}

@@ -3,7 +3,7 @@
 use Rattle.std.specs.Prelude.{List, map}
 use Rattle.go_tree.specs.File.{Decl}
 use Rattle.pkg_graph.specs.Package.{SourceTree, Package}
-use Rattle.possible_uses.specs.Parts.{parts_of}
+use Rattle.member_uses.specs.PossibleUses.Parts.{parts_of}
 use Rattle.run_rules.specs.Sites.{part_span}
 
 module _ {S : Type 0} where

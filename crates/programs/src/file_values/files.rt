@@ -3,15 +3,15 @@
 ghost use Rattle.std.specs.Prelude.{◌≡◌, ◌<◌, ◌^◌, true, false, All, OnOk, map};
 ghost use Rattle.go_tree.specs.FileView.{decl_of};
 ghost use Rattle.member_uses.specs.Views.{names_in};
-ghost use Rattle.use_search.specs.MarkValues.Tables.{IsPut};
-ghost use Rattle.use_search.specs.MarkValues.Values.{decl_values};
+ghost use Rattle.repeated_parts.specs.UseSearch.MarkValues.Tables.{IsPut};
+ghost use Rattle.repeated_parts.specs.UseSearch.MarkValues.Values.{decl_values};
 ghost use Rattle.programs.specs.FileValues.Filled.{IsFilled, is_constants};
 
 use file_names::MarkRef;
 use go_tree::{Decl, NoMemory};
 use member_uses::FileScopes;
+use repeated_parts::use_search::mark_values::ConstantValues;
 use std::alloc::Global;
-use use_search::mark_values::ConstantValues;
 
 /// Whether it declares constants.
 fn declares_constants(decl: &Decl) -> bool

@@ -7,7 +7,7 @@ ghost use Rattle.pkg_graph.specs.declared.packages.Package as code;
 ghost use Rattle.pkg_graph.specs.declared.packages.SourceTree as code_tree;
 ghost use Rattle.file_names.specs.Imports.{FindsPackages};
 ghost use Rattle.file_names.specs.Members.{IsBlockOf};
-ghost use Rattle.use_search.specs.MarkValues.Tables.{DeclKey, values_at};
+ghost use Rattle.repeated_parts.specs.UseSearch.MarkValues.Tables.{DeclKey, values_at};
 ghost use Rattle.programs.specs.FileValues.Filled.{HasFileValues};
 
 use crate::file_values::files::fill_file;
@@ -17,8 +17,8 @@ use go_tree::NoMemory;
 use go_tree::scope_names::{FileNames, NameList};
 use member_uses::FileScopes;
 use pkg_graph::{Package, SourceTree};
+use repeated_parts::use_search::mark_values::ConstantValues;
 use std::alloc::Global;
-use use_search::mark_values::ConstantValues;
 
 /// The table has what the constants of the file with this number are declared as from now on, of the package with
 /// this number, whose block has these names; what it has of other files stays. The names are handed back. An error

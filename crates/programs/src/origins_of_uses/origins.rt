@@ -5,15 +5,15 @@ ghost use Rattle.go_tree.specs.declared.spans.Span as spans;
 ghost use Rattle.go_tree.specs.View.{expr_of};
 ghost use Rattle.go_tree.specs.FileView.{decl_of};
 ghost use Rattle.go_tree.specs.ScopeNames.Means.{or_else};
-ghost use Rattle.possible_uses.specs.Parts.{parts_of};
-ghost use Rattle.possible_uses.specs.Views.{part_of};
+ghost use Rattle.member_uses.specs.PossibleUses.Parts.{parts_of};
+ghost use Rattle.member_uses.specs.PossibleUses.Views.{part_of};
 ghost use Rattle.run_rules.specs.Sites.{an_expr};
 ghost use Rattle.programs.specs.OriginsOfUses.Origins.{AreOriginsOf, at_span, decls_origin, first_origin, named_span};
 ghost use Rattle.programs.specs.OriginsOfUses.Origins.{own_origin};
 
 use crate::origins_of_uses::table::OriginTable;
 use go_tree::{Decl, Expr, NoMemory, Span};
-use possible_uses::{PartRef, decl_parts};
+use member_uses::possible_uses::{PartRef, decl_parts};
 use std::alloc::Global;
 
 /// The span of a name, or of a name behind a dot.

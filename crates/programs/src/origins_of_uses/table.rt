@@ -3,7 +3,7 @@
 ghost use Rattle.std.specs.Prelude.{◌≡◌, [], Some, None, is_some, OnOk, if◌then◌else◌};
 ghost use Rattle.go_tree.specs.declared.spans.Span as spans;
 ghost use Rattle.go_tree.specs.ScopeNames.Means.{or_else};
-ghost use Rattle.import_rules.specs.Removed.{same_span};
+ghost use Rattle.run_rules.specs.ImportRules.Removed.{same_span};
 ghost use Rattle.programs.specs.OriginsOfUses.Origins.{at_span};
 
 use go_tree::{NoMemory, Span};
@@ -20,7 +20,7 @@ pub struct OriginTable {
 impl Model for OriginTable {
     ghost use Rattle.std.specs.Prelude.{List, map};
     ghost use Rattle.go_tree.specs.declared.spans.Span.{Span};
-    ghost use Rattle.import_rules.specs.Removed.{span_at};
+    ghost use Rattle.run_rules.specs.ImportRules.Removed.{span_at};
 
     ghost Value = { List (Span × Span) };
 

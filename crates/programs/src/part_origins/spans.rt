@@ -5,11 +5,11 @@ ghost use Rattle.go_tree.specs.View.{expr_of, type_of};
 ghost use Rattle.go_tree.specs.FileView.{decl_of};
 ghost use Rattle.go_tree.specs.ScopeNames.Scopes.{expr_span};
 ghost use Rattle.run_rules.specs.Sites.{part_span as spec_part_span, type_span};
-ghost use Rattle.possible_uses.specs.Views.{part_of};
+ghost use Rattle.member_uses.specs.PossibleUses.Views.{part_of};
 ghost use Rattle.programs.specs.PartOrigins.Spans.{part_spans};
 
 use go_tree::{Decl, Expr, NoMemory, Span, TypeExpr};
-use possible_uses::{PartRef, decl_parts};
+use member_uses::possible_uses::{PartRef, decl_parts};
 use std::alloc::Global;
 
 fn span_of_expr(e: &Expr) -> Span

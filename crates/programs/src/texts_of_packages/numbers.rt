@@ -2,14 +2,14 @@
 
 ghost use Rattle.std.specs.Prelude.{◌≡◌, IfOk, Some, map};
 ghost use Rattle.name_walks.specs.Around.{place_in};
-ghost use Rattle.module_files.specs.Pieces.{folder_of};
+ghost use Rattle.pkg_graph.specs.ModuleFiles.Pieces.{folder_of};
 ghost use Rattle.pkg_graph.specs.Package.{import_path};
 ghost use Rattle.programs.specs.TextsOfPackages.Given.{home_path};
 
 use file_names::Places;
 use go_tree::NoMemory;
-use module_files::folders::folder_and_name;
 use module_reading::ScannedFile;
+use pkg_graph::module_files::folders::folder_and_name;
 use std::alloc::{AllocError, Global};
 
 /// The import path of the package of the file with this path, in a module with this path.

@@ -6,7 +6,7 @@ use Rattle.go_tree.specs.Tree.{NameAt}
 use Rattle.go_tree.specs.File.{ImportSpec}
 use Rattle.pkg_graph.specs.Package.{Package, specs_in, import_specs}
 use Rattle.pkg_graph.specs.Members.{name_or, package_name, import_name}
-use Rattle.import_rules.specs.Removed.{goes}
+use Rattle.run_rules.specs.ImportRules.Removed.{goes}
 use Rattle.run_rules.specs.Sites.{MarkRef}
 use Rattle.run_rules.specs.Naming.{imports_added}
 use Rattle.run_rules.specs.Respanned.{import_spec_with}

@@ -10,7 +10,7 @@ use Rattle.go_tree.specs.GoWords.Tokens.Characters.{is_letter, is_word, is_digit
 use Rattle.go_tree.specs.GoWords.Tokens.Pieces.{keyword_spellings, is_among, is_identifier}
 use Rattle.go_scan.proofs.Derivatives.{and_parts, and_true}
 use Rattle.go_scan.proofs.LetterLemmas.{digit_ascii}
-use Rattle.layout_laws.specs.Formed.{IsName}
+use Rattle.go_layout.specs.LayoutLaws.Formed.{IsName}
 use Rattle.go_tree.specs.ScopeNames.Fresh.{candidate}
 
 -- ---- digits

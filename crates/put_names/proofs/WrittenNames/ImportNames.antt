@@ -8,11 +8,11 @@ use Rattle.go_tree.specs.GoWords.Terminals.{lex}
 use Rattle.go_read.specs.SpellsTypes.{Lexemes}
 use Rattle.go_read.specs.SpellsSpans.{span_to}
 use Rattle.go_read.specs.SpellsFiles.{SpellsImportSpec, SpellsImportSpecs, SpellsImport, SpellsImports, SpellsFront, path_rule, named_path_rule, no_import_specs_rule, last_import_spec_rule, more_import_specs_rule, import_rule, import_group_rule, no_imports_rule, more_imports_rule, front_rule}
-use Rattle.layout_laws.specs.Formed.{FormedName}
-use Rattle.layout_laws.specs.Real.{AreReal}
-use Rattle.layout_laws.proofs.RealTokens.{tokens_real}
-use Rattle.splice_laws.proofs.Grafts.{Within, here, later, drop}
-use Rattle.splice_laws.proofs.Pasts.{import_past}
+use Rattle.go_layout.specs.LayoutLaws.Formed.{FormedName}
+use Rattle.go_layout.specs.LayoutLaws.Real.{AreReal}
+use Rattle.go_layout.proofs.LayoutLaws.RealTokens.{tokens_real}
+use Rattle.run_rules.proofs.SpliceLaws.Grafts.{Within, here, later, drop}
+use Rattle.run_rules.proofs.SpliceLaws.Pasts.{import_past}
 use Rattle.pkg_graph.specs.Package.{specs_in, import_specs}
 use Rattle.run_rules.specs.Inlining.{ReadsAs}
 use Rattle.run_rules.specs.Respanned.{name_with, import_spec_with, import_decl_with, file_with}

@@ -8,9 +8,9 @@ use Rattle.go_tree.specs.File.{File}
 use Rattle.go_read.specs.SpellsTypes.{Lexemes}
 use Rattle.go_read.specs.SpellsSpans.{span_to}
 use Rattle.go_read.specs.SpellsFiles.{SpellsFront, front_rule}
-use Rattle.layout_laws.specs.Formed.{IsName}
-use Rattle.layout_laws.specs.Real.{AreReal}
-use Rattle.layout_laws.proofs.RealTokens.{tokens_real}
+use Rattle.go_layout.specs.LayoutLaws.Formed.{IsName}
+use Rattle.go_layout.specs.LayoutLaws.Real.{AreReal}
+use Rattle.go_layout.proofs.LayoutLaws.RealTokens.{tokens_real}
 use Rattle.pkg_graph.specs.Package.{SourceTree, Package, first_seen, home_of, first_name, package_of, packages_of}
 use Rattle.pkg_graph.specs.Reads.{Source, AreTrees, none, file}
 use Rattle.run_rules.specs.Inlining.{IsSourceFile, ModuleReads, standing_as_read}

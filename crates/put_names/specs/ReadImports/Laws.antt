@@ -2,7 +2,7 @@
 -- specification, Import declarations).
 use Rattle.std.specs.Prelude.{◌≡◌, not, List, [], map, filter}
 use Rattle.pkg_graph.specs.Package.{import_specs}
-use Rattle.import_rules.specs.Removed.{goes}
+use Rattle.run_rules.specs.ImportRules.Removed.{goes}
 use Rattle.run_rules.specs.Sites.{MarkRef}
 use Rattle.run_rules.specs.Naming.{imports_added}
 use Rattle.run_rules.specs.Run.{Standing, Logged, Next}

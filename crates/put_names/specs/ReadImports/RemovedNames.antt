@@ -4,7 +4,7 @@ use Rattle.go_tree.specs.File.{ImportSpec, Decl}
 use Rattle.go_tree.specs.ScopeNames.Identifiers.{decl_identifiers}
 use Rattle.pkg_graph.specs.Package.{import_specs}
 use Rattle.go_tree.specs.GoTypes.Agreement.{In}
-use Rattle.import_rules.specs.Removed.{goes}
+use Rattle.run_rules.specs.ImportRules.Removed.{goes}
 use Rattle.run_rules.specs.Sites.{MarkRef}
 use Rattle.run_rules.specs.Respanned.{import_spec_with}
 use Rattle.run_rules.specs.Steps.{At}

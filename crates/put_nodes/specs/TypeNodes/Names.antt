@@ -12,7 +12,7 @@ use Rattle.go_tree.specs.Tree.{const_decl, var_decl, eval, step, assign, define,
 use Rattle.go_tree.specs.Tree.{switch, defer, label, no_stmts, stmt_and, no_stmt, some_stmt, no_block, some_block}
 use Rattle.go_tree.specs.Tree.{nothing, assigns, defines, no_arms, arm, no_cases, case, no_specs, spec}
 use Rattle.go_tree.specs.File.{TypeSpec, Decl, values, types, func}
-use Rattle.layout_laws.specs.Formed.{IsName}
+use Rattle.go_layout.specs.LayoutLaws.Formed.{IsName}
 use Rattle.run_rules.specs.Sites.{named_in}
 
 -- names of types, each with whether it is the whole type of a composite literal

@@ -7,14 +7,14 @@ use Rattle.go_tree.specs.Tree.{Expr}
 use Rattle.go_tree.specs.declared.scope_names.names.FileNames.{FileNames}
 use Rattle.go_tree.specs.declared.scope_names.names.ImportName.{ImportName}
 use Rattle.scope_tables.specs.Table.{Table}
-use Rattle.import_rules.specs.Unused as rules
-use Rattle.import_rules.specs.Unused.{unused_from}
+use Rattle.run_rules.specs.ImportRules.Unused as rules
+use Rattle.run_rules.specs.ImportRules.Unused.{unused_from}
 use Rattle.constant_steps.specs.FormImports.ImportLaws.Steps.{used_before, used_after, removed_specs, RemovedAreUnused}
 use Rattle.go_tree.specs.GoTypes.Answers.{given}
 use Rattle.run_rules.specs.Sites.{MarkRef, an_expr}
 use Rattle.run_rules.specs.Steps.{At, Found}
 use Rattle.run_rules.specs.Run.{Standing}
-use Rattle.possible_uses.specs.Candidates.{Candidate}
+use Rattle.member_uses.specs.PossibleUses.Candidates.{Candidate}
 use Rattle.constant_forms.specs.declared.reduced.ConstantForm.{ConstantForm}
 use Rattle.repeated_parts.specs.ImportsUnused.Uses.{one_if, is_import, form_import, uses_among, named_import, is_left, spec_at, spec_left}
 use Rattle.repeated_parts.specs.ImportsUnused.Told.{IsTold}

@@ -1,7 +1,7 @@
 -- The uses that parts are, one part after another.
 use Rattle.std.proofs.Common.{◌≡◌, ◌∙◌, ◌<◌, ◌+◌, ℕ, zero, suc, Bool, List, [], ◌∷◌, ◌++◌, map, length, drop, get_or, refl, sym, ap, arith, append_assoc, drop-cons}
-use Rattle.possible_uses.specs.declared.parts.PartRef.{PartRef}
-use Rattle.possible_uses.specs.Views.{part_of}
+use Rattle.member_uses.specs.declared.possible_uses.parts.PartRef.{PartRef}
+use Rattle.member_uses.specs.PossibleUses.Views.{part_of}
 use Rattle.member_uses.specs.Uses.{Used, Names, part_uses}
 use Rattle.repeated_parts.specs.UsesRepeated.Uses.{first_flag, later_flags, with_flag, flagged_uses}
 

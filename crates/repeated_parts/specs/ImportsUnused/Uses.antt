@@ -11,8 +11,8 @@ use Rattle.go_tree.specs.declared.scope_names.names.FileNames.{FileNames}
 use Rattle.scope_tables.specs.Table.{Table, meaning_in}
 use Rattle.go_tree.specs.GoTypes.Answers.{given, meets}
 use Rattle.run_rules.specs.Sites.{Part, an_expr, a_type_part}
-use Rattle.possible_uses.specs.Candidates.{Candidate}
-use Rattle.possible_uses.specs.Parts.{parts_of}
+use Rattle.member_uses.specs.PossibleUses.Candidates.{Candidate}
+use Rattle.member_uses.specs.PossibleUses.Parts.{parts_of}
 use Rattle.member_uses.specs.Uses.{name_alone}
 use Rattle.constant_forms.specs.declared.reduced.ConstantForm.{ConstantForm}
 

@@ -6,8 +6,8 @@ use Rattle.go_tree.specs.File.{Decl, File}
 use Rattle.pkg_graph.specs.Package.{Package}
 use Rattle.run_rules.specs.Programs.{decl_seen}
 use Rattle.run_rules.specs.Sites.{MarkRef, Where, Site, part_span, sites_among}
-use Rattle.possible_uses.specs.Among.{Keyed}
-use Rattle.possible_uses.specs.Parts.{parts_of}
+use Rattle.member_uses.specs.PossibleUses.Among.{Keyed}
+use Rattle.member_uses.specs.PossibleUses.Parts.{parts_of}
 use Rattle.constant_steps.specs.PlaceMeanings.Parts.{AllScoped}
 use Rattle.member_uses.specs.Uses.{Used, Names, member_uses}
 use Rattle.member_uses.specs.Laws.{AllConstants, mark_used, NoKeyIsMarked, Knows}

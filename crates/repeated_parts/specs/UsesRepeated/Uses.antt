@@ -2,7 +2,7 @@
 -- Constant declarations; Declarations and scope).
 use Rattle.std.specs.Prelude.{Bool, false, List, [], ◌∷◌, ◌++◌, map}
 use Rattle.go_tree.specs.declared.spans.Span.{Span}
-use Rattle.possible_uses.specs.Candidates.{Candidate}
+use Rattle.member_uses.specs.PossibleUses.Candidates.{Candidate}
 use Rattle.member_uses.specs.Uses.{Used, Names, part_uses}
 
 -- the first flag; false where there is none

@@ -3,12 +3,12 @@
 ghost use Rattle.std.specs.Prelude.{◌≡◌, IfOk, map, nat_eq};
 ghost use Rattle.go_tree.specs.FileView.{decl_of};
 ghost use Rattle.scope_tables.specs.Table.{table_of};
-ghost use Rattle.possible_uses.specs.Views.{part_of};
+ghost use Rattle.member_uses.specs.PossibleUses.Views.{part_of};
 ghost use Rattle.repeated_parts.specs.ImportsUnused.Uses.{all_parts, uses_among};
 
 use crate::imports_unused::names::{is_import, part_import};
 use go_tree::{Decl, NoMemory};
-use possible_uses::{PartRef, decl_parts};
+use member_uses::possible_uses::{PartRef, decl_parts};
 use scope_tables::Scopes;
 use std::alloc::Global;
 

@@ -4,7 +4,7 @@ ghost use Rattle.std.specs.Prelude.{◌≡◌, IfOk, List, map};
 ghost use Rattle.std.specs.Option.{option_to_list};
 ghost use Rattle.go_tree.specs.View.{expr_of};
 ghost use Rattle.scope_tables.specs.Table.{table_of};
-ghost use Rattle.possible_uses.specs.Views.{part_of};
+ghost use Rattle.member_uses.specs.PossibleUses.Views.{part_of};
 ghost use Rattle.run_rules.specs.Sites.{MarkRef};
 ghost use Rattle.run_rules.specs.Steps.{At, Found, same_here, unused_specs};
 ghost use Rattle.run_rules.specs.Run.{Standing, here_of, is_commented};
@@ -18,7 +18,7 @@ use constant_forms::ConstantForm;
 use constant_steps::form_imports::steps_settle_imports;
 use go_tree::scope_names::FileNames;
 use go_tree::{Expr, NoMemory, Span};
-use possible_uses::PartRef;
+use member_uses::possible_uses::PartRef;
 use scope_tables::Scopes;
 use std::alloc::Global;
 

@@ -3,13 +3,13 @@
 ghost use Rattle.std.specs.Prelude.{◌≡◌, ◌++◌, IfOk, OnOk, drop, map};
 ghost use Rattle.member_uses.specs.Uses.{part_uses};
 ghost use Rattle.member_uses.specs.Views.{names_in, used_of};
-ghost use Rattle.possible_uses.specs.Views.{part_of};
+ghost use Rattle.member_uses.specs.PossibleUses.Views.{part_of};
 ghost use Rattle.repeated_parts.specs.UsesRepeated.Uses.{first_flag, with_flag, flagged_uses};
 ghost use Rattle.repeated_parts.specs.UsesRepeated.Views.{flagged_of};
 
 use go_tree::NoMemory;
+use member_uses::possible_uses::PartRef;
 use member_uses::{FileScopes, MemberUse, member_uses};
-use possible_uses::PartRef;
 use std::alloc::Global;
 
 /// A use of a member, and whether a later member of a group of constants repeats the expression in which it stands (Go

@@ -2,7 +2,7 @@
 use Rattle.std.proofs.Common.{◌≡◌, ◌∙◌, inl, inr, refl, sym, ap, subst, ℕ, ◌≤◌, Bool, true, false, if◌then◌else◌, bytes_eq, nat_eq, nat_lt, List, [], ◌∷◌, ◌++◌, map, arith}
 use Rattle.std.specs.Prelude.{nat_le}
 use Rattle.std.proofs.lemmas.Slice.Eq.{bytes_eq-Decides}
-use Rattle.pkg_graph.specs.Pieces.{comes_before}
+use Rattle.pkg_graph.specs.ModuleFiles.Pieces.{comes_before}
 use Rattle.run_rules.specs.Report.{Entry, file_of, offset_of, is_not_after, put_entry, arranged}
 use Rattle.report_lines.specs.Lines.{StandInOrder}
 use Rattle.report_lines.specs.Laws.{item_of}

@@ -3,8 +3,8 @@ use Rattle.std.proofs.Common.{◌≡◌, ◌∙◌, ◌⊎◌, inl, inr, refl, s
 use Rattle.std.specs.Prelude.{filter}
 use Rattle.std.specs.List.{list_all}
 use Rattle.std.proofs.lemmas.Slice.Eq.{bytes_eq-Decides}
-use Rattle.module_files.specs.Pieces.{comes_before}
-use Rattle.module_files.specs.Selected.{module_file, is_selected}
+use Rattle.pkg_graph.specs.ModuleFiles.Pieces.{comes_before}
+use Rattle.pkg_graph.specs.ModuleFiles.Selected.{module_file, is_selected}
 use Rattle.pkg_graph.specs.Reads.{Source, is_at, selected_files, go_files}
 use Rattle.run_rules.specs.Inlining.{are_by_path, AreScanned, none, file, begins, steps_on}
 use Rattle.run_rules.specs.Marks.{text_at}

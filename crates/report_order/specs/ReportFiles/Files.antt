@@ -1,7 +1,7 @@
 -- The entries of a report by their files (golang.org/x/tools, analyzer inline, for what is reported).
 use Rattle.std.specs.Prelude.{◌≡◌, ◌⊎◌, ◌≤◌, ℕ, true, bytes_eq, List, [], ◌∷◌, ◌++◌, map}
 use Rattle.std.specs.Prelude.{filter}
-use Rattle.pkg_graph.specs.Pieces.{comes_before}
+use Rattle.pkg_graph.specs.ModuleFiles.Pieces.{comes_before}
 use Rattle.run_rules.specs.Report.{Entry, file_of, offset_of, arranged}
 use Rattle.run_rules.specs.Texts.{FileText}
 use Rattle.report_lines.specs.Lines.{lines_of}

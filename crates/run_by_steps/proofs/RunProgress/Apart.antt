@@ -3,9 +3,9 @@ use Rattle.std.proofs.Common.{◌≡◌, ◌∙◌, refl, ap, subst, ℕ, Bool, 
 use Rattle.std.specs.List.{list_all}
 use Rattle.std.proofs.lemmas.Bool.{and_parts, and_from}
 use Rattle.std.proofs.lemmas.Slice.Eq.{bytes_eq-Decides}
-use Rattle.module_files.specs.Pieces.{comes_before}
-use Rattle.module_files.specs.Selected.{is_selected, module_file}
-use Rattle.import_order.proofs.OpenLaws.{never_before_itself}
+use Rattle.pkg_graph.specs.ModuleFiles.Pieces.{comes_before}
+use Rattle.pkg_graph.specs.ModuleFiles.Selected.{is_selected, module_file}
+use Rattle.pkg_graph.proofs.ImportOrder.OpenLaws.{never_before_itself}
 use Rattle.pkg_graph.specs.Reads.{Source, is_at, selected_files}
 use Rattle.run_rules.specs.Texts.{FileText}
 use Rattle.run_rules.specs.Run.{with_text, ends, goes_on}

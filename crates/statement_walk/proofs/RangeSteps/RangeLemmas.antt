@@ -11,8 +11,8 @@ use Rattle.go_tree.specs.GoTypes.Relations.{is_whole_number}
 use Rattle.go_tree.specs.GoTypes.Statements.{range_types}
 use Rattle.type_table.specs.declared.nodes.TypeId.{TypeId}
 use Rattle.type_table.specs.TypeRelations.Environment.{Environment}
-use Rattle.operand_rules.specs.declared.values.ValueType.TheVariants as variant
-use Rattle.operand_rules.specs.Values.{IsType}
+use Rattle.type_table.specs.declared.operand_rules.values.ValueType.TheVariants as variant
+use Rattle.type_table.specs.OperandRules.Values.{IsType}
 use Rattle.operator_rules.specs.BasicTypes.{IsBasic}
 use Rattle.operand_modes.specs.Operands.{SameOperand}
 use Rattle.control_steps.specs.RightSides.Values.{SameValue}

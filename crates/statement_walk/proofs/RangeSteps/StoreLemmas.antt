@@ -13,11 +13,11 @@ use Rattle.go_tree.specs.GoTypes.Relations.{is_whole_number}
 use Rattle.go_tree.specs.GoTypes.Statements.{Target, blank, store, range_assigns, range_stores, range_types}
 use Rattle.type_table.specs.declared.nodes.TypeId.{TypeId}
 use Rattle.type_table.specs.TypeRelations.Environment.{Environment, env_type}
-use Rattle.operand_rules.specs.declared.values.Refusal.{Refusal}
-use Rattle.operand_rules.specs.declared.values.Refusal.TheVariants.{NotTyped}
+use Rattle.type_table.specs.declared.operand_rules.values.Refusal.{Refusal}
+use Rattle.type_table.specs.declared.operand_rules.values.Refusal.TheVariants.{NotTyped}
 use Rattle.operand_modes.specs.Operands.{operand_at}
-use Rattle.operand_answers.specs.declared.located.Located.{Located}
-use Rattle.operand_answers.specs.Located.{GivesAt}
+use Rattle.operand_modes.specs.declared.operand_answers.located.Located.{Located}
+use Rattle.operand_modes.specs.OperandAnswers.Located.{GivesAt}
 use Rattle.control_steps.specs.RightSides.Values.{SameValue}
 use Rattle.control_steps.proofs.RightSides.AlikeValues.{fits_alike}
 use Rattle.assignment_steps.specs.declared.targets.Target as code

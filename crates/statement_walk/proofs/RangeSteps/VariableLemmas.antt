@@ -13,15 +13,15 @@ use Rattle.go_tree.specs.GoTypes.Declarations.{Declared, bound_names, names_once
 use Rattle.go_tree.specs.GoTypes.Statements.{new_by_range, range_binds, range_types}
 use Rattle.type_table.specs.declared.nodes.TypeId.{TypeId}
 use Rattle.type_table.specs.TypeRelations.Environment.{Environment, env_type}
-use Rattle.operand_rules.specs.declared.values.ValueType.TheVariants.{Typed}
-use Rattle.operand_rules.specs.declared.values.Refusal.{Refusal}
-use Rattle.operand_rules.specs.declared.values.Refusal.TheVariants.{NotTyped, NoMemory}
-use Rattle.operand_rules.specs.Values.{IsType}
+use Rattle.type_table.specs.declared.operand_rules.values.ValueType.TheVariants.{Typed}
+use Rattle.type_table.specs.declared.operand_rules.values.Refusal.{Refusal}
+use Rattle.type_table.specs.declared.operand_rules.values.Refusal.TheVariants.{NotTyped, NoMemory}
+use Rattle.type_table.specs.OperandRules.Values.{IsType}
 use Rattle.typed_names.specs.declared.entities.Entity.{Entity}
 use Rattle.typed_names.specs.declared.entities.Entity.TheVariants.{Variable}
 use Rattle.operand_modes.specs.Operands.{SameOperand, operand_at}
-use Rattle.operand_answers.specs.declared.located.Located.{Located}
-use Rattle.operand_answers.specs.Located.{GivesAt}
+use Rattle.operand_modes.specs.declared.operand_answers.located.Located.{Located}
+use Rattle.operand_modes.specs.OperandAnswers.Located.{GivesAt}
 use Rattle.control_steps.specs.DeclarationSteps.Entities.{GivesBinds, binds_at}
 use Rattle.assignment_steps.specs.SpecSteps.Specs.{GivesVariables}
 use Rattle.statement_walk.specs.declared.range_steps.types.RangeTypes.{RangeTypes}

@@ -12,8 +12,8 @@ use Rattle.go_tree.specs.GoTypes.Statements.{blank, is_blank_name, is_panic, one
 use Rattle.go_tree.specs.GoTypes.Typing.{all_parts, is_call, parts, place, places, stmt, targets}
 use Rattle.typed_names.specs.declared.scopes.Scope.{Scope}
 use Rattle.typed_names.specs.Meanings.{Names}
-use Rattle.operand_rules.specs.declared.values.Refusal.{Refusal}
-use Rattle.checker_tables.specs.declared.tables.Tables.{Tables}
+use Rattle.type_table.specs.declared.operand_rules.values.Refusal.{Refusal}
+use Rattle.operand_modes.specs.declared.checker_tables.tables.Tables.{Tables}
 use Rattle.control_steps.specs.LocalBlocks.Places.{IsPlace, in_block_of}
 use Rattle.control_steps.proofs.LocalBlocks.PlaceLemmas.{places_are_environments}
 use Rattle.control_steps.proofs.LocalBlocks.SeenNames.{all_seen, parts_seen, place_seen, places_seen}

@@ -16,13 +16,13 @@ use Rattle.go_tree.specs.GoTypes.Statements.{is_panic}
 use Rattle.go_tree.specs.GoTypes.Typing.{parts, stmt}
 use Rattle.type_table.specs.declared.nodes.TypeId.{TypeId}
 use Rattle.type_table.specs.TypeRelations.Environment.{Environment}
-use Rattle.operand_rules.specs.declared.values.ValueType.TheVariants as variant
-use Rattle.operand_rules.specs.declared.values.Refusal.{Refusal}
-use Rattle.operand_rules.specs.Values.{IsType}
+use Rattle.type_table.specs.declared.operand_rules.values.ValueType.TheVariants as variant
+use Rattle.type_table.specs.declared.operand_rules.values.Refusal.{Refusal}
+use Rattle.type_table.specs.OperandRules.Values.{IsType}
 use Rattle.operator_rules.specs.AccessRules.Functions.{AreTypes, types_at}
 use Rattle.typed_names.specs.TypeExprs.Grown.{TypesGrown}
-use Rattle.operand_answers.specs.declared.lists.OperandList.{OperandList}
-use Rattle.operand_answers.specs.Lists.{AreThereIfOk, GivesAll}
+use Rattle.operand_modes.specs.declared.operand_answers.lists.OperandList.{OperandList}
+use Rattle.operand_modes.specs.OperandAnswers.Lists.{AreThereIfOk, GivesAll}
 use Rattle.control_steps.specs.declared.returns.Body.{Body}
 use Rattle.control_steps.specs.Ends.{EndsAs}
 use Rattle.control_steps.specs.Returns.{IsBodyOf}

@@ -11,12 +11,12 @@ use Rattle.go_tree.specs.GoTypes.Statements.{is_blank_name, store, target_at}
 use Rattle.go_tree.specs.GoTypes.Typing.{parts, place, targets}
 use Rattle.typed_names.specs.declared.scopes.Scope.{Scope}
 use Rattle.typed_names.specs.Meanings.{Names}
-use Rattle.operand_rules.specs.declared.values.Refusal.{Refusal}
-use Rattle.operand_rules.specs.declared.values.Refusal.TheVariants.{NotTyped, NoMemory}
-use Rattle.checker_tables.specs.declared.tables.Tables.{Tables}
-use Rattle.checker_tables.specs.Ready.{Keeps}
-use Rattle.operand_answers.specs.Known.{Stands}
-use Rattle.operand_answers.proofs.KeptLemmas.{env_kept, keeps_on, keeps_self}
+use Rattle.type_table.specs.declared.operand_rules.values.Refusal.{Refusal}
+use Rattle.type_table.specs.declared.operand_rules.values.Refusal.TheVariants.{NotTyped, NoMemory}
+use Rattle.operand_modes.specs.declared.checker_tables.tables.Tables.{Tables}
+use Rattle.operand_modes.specs.CheckerTables.Ready.{Keeps}
+use Rattle.operand_modes.specs.OperandAnswers.Known.{Stands}
+use Rattle.operand_modes.proofs.OperandAnswers.KeptLemmas.{env_kept, keeps_on, keeps_self}
 use Rattle.assignment_steps.specs.declared.targets.Target as code
 use Rattle.assignment_steps.specs.declared.targets.Target.TheVariants.{Blank, Store}
 use Rattle.assignment_steps.specs.declared.targets.TargetList.{TargetList}

@@ -8,8 +8,8 @@ use Rattle.go_tree.specs.GoTypes.Defined.{Defined}
 use Rattle.go_tree.specs.GoTypes.Literals.{inner_type, key_type}
 use Rattle.type_table.specs.declared.nodes.TypeId.{TypeId}
 use Rattle.type_table.specs.TypeRelations.Environment.{Environment, env_type}
-use Rattle.operand_rules.specs.declared.values.ValueType.TheVariants.{Typed}
-use Rattle.operand_rules.specs.Values.{IsType}
+use Rattle.type_table.specs.declared.operand_rules.values.ValueType.TheVariants.{Typed}
+use Rattle.type_table.specs.OperandRules.Values.{IsType}
 use Rattle.composite_steps.specs.BuiltinSteps.Arguments.{the_only}
 use Rattle.assignment_steps.specs.declared.targets.Target.{Target}
 use Rattle.assignment_steps.specs.declared.targets.Target.TheVariants.{Blank, Store}

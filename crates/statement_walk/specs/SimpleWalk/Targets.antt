@@ -11,9 +11,9 @@ use Rattle.go_tree.specs.GoTypes.Typing.{parts, place, targets}
 use Rattle.typed_names.specs.declared.scopes.Scope.{Scope}
 use Rattle.typed_names.specs.Meanings.{Names}
 use Rattle.typed_names.specs.Scopes.{env_at}
-use Rattle.checker_tables.specs.declared.tables.Tables.{Tables}
-use Rattle.checker_tables.specs.Ready.{Keeps}
-use Rattle.operand_answers.specs.Known.{Stands}
+use Rattle.operand_modes.specs.declared.checker_tables.tables.Tables.{Tables}
+use Rattle.operand_modes.specs.CheckerTables.Ready.{Keeps}
+use Rattle.operand_modes.specs.OperandAnswers.Known.{Stands}
 use Rattle.assignment_steps.specs.declared.targets.Target.{Target}
 use Rattle.assignment_steps.specs.Targets.{AreTargets, targets_of}
 

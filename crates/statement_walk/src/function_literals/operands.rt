@@ -12,19 +12,19 @@ ghost use Rattle.type_table.specs.TypeRelations.Environment.{Environment};
 ghost use Rattle.typed_names.specs.Known.{HasTypes};
 ghost use Rattle.typed_names.specs.Meanings.{entity_at};
 ghost use Rattle.operand_modes.specs.Operands.{GivesOperand};
-ghost use Rattle.checker_tables.specs.Ready.{AreReady, Keeps};
+ghost use Rattle.operand_modes.specs.CheckerTables.Ready.{AreReady, Keeps};
 ghost use Rattle.func_types.specs.Answers.{AreTypesOf, func_of};
-ghost use Rattle.operand_answers.specs.Located.{GivesAt};
+ghost use Rattle.operand_modes.specs.OperandAnswers.Located.{GivesAt};
 ghost use Rattle.control_steps.specs.Ends.{EndsAs};
 
-use checker_tables::Tables;
 use control_steps::{Body, is_body};
 use func_types::function_entity;
 use go_tree::StmtList;
-use operand_answers::{Located, elsewhere};
 use operand_modes::Operand;
-use operand_rules::Refusal;
+use operand_modes::checker_tables::Tables;
+use operand_modes::operand_answers::{Located, elsewhere};
 use std::alloc::Global;
+use type_table::operand_rules::Refusal;
 use type_table::type_relations::FuncType;
 use typed_names::Entity;
 

@@ -7,18 +7,18 @@ ghost use Rattle.go_tree.specs.GoTypes.Bodies as go;
 ghost use Rattle.go_tree.specs.GoTypes.TypeNames as type_name;
 ghost use Rattle.type_table.specs.TypeRelations.Environment.{Environment};
 ghost use Rattle.typed_names.specs.Scopes.{env_at};
-ghost use Rattle.checker_tables.specs.Ready.{Keeps};
+ghost use Rattle.operand_modes.specs.CheckerTables.Ready.{Keeps};
 ghost use Rattle.func_types.specs.Answers.{GivesFunc, func_of};
-ghost use Rattle.operand_answers.specs.Known.{Stands};
+ghost use Rattle.operand_modes.specs.OperandAnswers.Known.{Stands};
 ghost use Rattle.control_steps.specs.Returns.{IsBodyOf};
 
-use checker_tables::Tables;
 use control_steps::Body;
 use func_types::func_type;
 use go_tree::{NoMemory, ParamList, Sig};
-use operand_rules::Refusal;
+use operand_modes::checker_tables::Tables;
 use std::alloc::Global;
 use type_table::TypeId;
+use type_table::operand_rules::Refusal;
 use type_table::type_relations::FuncType;
 use typed_names::{Blocks, Scope};
 

@@ -10,25 +10,25 @@ ghost use Rattle.go_tree.specs.GoTypes.Operands.{typed};
 ghost use Rattle.go_tree.specs.GoTypes.Relations.{is_whole_number};
 ghost use Rattle.go_tree.specs.GoTypes.Statements as go;
 ghost use Rattle.type_table.specs.TypeRelations.Environment.{defined_types, env_type};
-ghost use Rattle.operand_rules.specs.declared.values.ValueType.TheVariants.{Typed};
-ghost use Rattle.operand_rules.specs.Values.{IsType, IsValue, typed_of};
+ghost use Rattle.type_table.specs.declared.operand_rules.values.ValueType.TheVariants.{Typed};
+ghost use Rattle.type_table.specs.OperandRules.Values.{IsType, IsValue, typed_of};
 ghost use Rattle.operand_modes.specs.Operands.{IsOperand, operand_at};
 ghost use Rattle.composite_steps.specs.BuiltinSteps.Arguments.{the_only};
-ghost use Rattle.checker_tables.specs.Ready.{AreReady};
-ghost use Rattle.operand_answers.specs.Located.{GivesAt, IsThereIfOk};
+ghost use Rattle.operand_modes.specs.CheckerTables.Ready.{AreReady};
+ghost use Rattle.operand_modes.specs.OperandAnswers.Located.{GivesAt, IsThereIfOk};
 ghost use Rattle.assignment_steps.specs.Targets.{AreTargets, AreTargetsIfOk, GivesTargets, IsTarget};
 ghost use Rattle.assignment_steps.specs.Targets.{target_of, targets_of};
 ghost use Rattle.statement_walk.specs.RangeSteps.Ranges.{HasRangeTypes, listed, only_store, second_of, stored_type};
 
 use crate::range_steps::types::{RangeTypes, range_types};
 use assignment_steps::{Target, TargetList, stores};
-use checker_tables::Tables;
 use control_steps::unmet;
 use go_tree::NoMemory;
-use operand_answers::Located;
+use operand_modes::checker_tables::Tables;
+use operand_modes::operand_answers::Located;
 use operand_modes::{Operand, single_value};
-use operand_rules::{Content, Refusal, Value, ValueType, fits, is_whole_number};
 use type_table::TypeId;
+use type_table::operand_rules::{Content, Refusal, Value, ValueType, fits, is_whole_number};
 
 /// Whether a value of the type may be stored there.
 fn stores_type(tables: &Tables, target: Target, t: TypeId) -> bool

@@ -7,16 +7,16 @@ ghost use Rattle.go_tree.specs.GoTypes.Operands.{settled};
 ghost use Rattle.go_tree.specs.GoTypes.Relations.{is_whole_number};
 ghost use Rattle.go_tree.specs.GoTypes.Statements as go;
 ghost use Rattle.type_table.specs.TypeRelations.Environment.{defined_types, env_type};
-ghost use Rattle.operand_rules.specs.declared.values.ValueType.TheVariants.{Typed};
-ghost use Rattle.operand_rules.specs.Values.{IsType, IsValue, type_of, typed_of};
-ghost use Rattle.checker_tables.specs.Ready.{AreReady};
+ghost use Rattle.type_table.specs.declared.operand_rules.values.ValueType.TheVariants.{Typed};
+ghost use Rattle.type_table.specs.OperandRules.Values.{IsType, IsValue, type_of, typed_of};
+ghost use Rattle.operand_modes.specs.CheckerTables.Ready.{AreReady};
 ghost use Rattle.statement_walk.specs.RangeSteps.Ranges.{HasRangeTypes, collection_types, listed_option};
 
-use checker_tables::Tables;
 use composite_steps::{inner_type, key_type};
-use operand_rules::{Value, ValueType, is_whole_number};
+use operand_modes::checker_tables::Tables;
 use operator_rules::settled;
 use type_table::TypeId;
+use type_table::operand_rules::{Value, ValueType, is_whole_number};
 
 /// The types of the values that each turn gives: index or key, and element, or a number alone.
 #[derive(Clone, Copy)]

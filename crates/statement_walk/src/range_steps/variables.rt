@@ -9,24 +9,24 @@ ghost use Rattle.go_tree.specs.GoTypes.Operands as go_operand;
 ghost use Rattle.go_tree.specs.GoTypes.Statements as go;
 ghost use Rattle.go_tree.specs.ScopeNames.FreeNames.{names_of};
 ghost use Rattle.type_table.specs.TypeRelations.Environment.{defined_types};
-ghost use Rattle.operand_rules.specs.Values.{IsValue, typed_of};
+ghost use Rattle.type_table.specs.OperandRules.Values.{IsValue, typed_of};
 ghost use Rattle.operand_modes.specs.Operands.{operand_at};
-ghost use Rattle.checker_tables.specs.Ready.{AreReady};
-ghost use Rattle.operand_answers.specs.Located.{GivesAt, IsThere, IsThereIfOk};
+ghost use Rattle.operand_modes.specs.CheckerTables.Ready.{AreReady};
+ghost use Rattle.operand_modes.specs.OperandAnswers.Located.{GivesAt, IsThere, IsThereIfOk};
 ghost use Rattle.control_steps.specs.DeclarationSteps.Entities.{GivesBinds};
 ghost use Rattle.assignment_steps.specs.SpecSteps.Specs.{GivesVariables};
 ghost use Rattle.statement_walk.specs.RangeSteps.Ranges.{HasRangeTypes, listed, some_named};
 
 use crate::range_steps::types::{RangeTypes, range_types};
-use checker_tables::Tables;
 use control_steps::EntityList;
 use go_tree::{NameAt, NameAtList};
 use jump_rules::stand_once;
-use operand_answers::Located;
+use operand_modes::checker_tables::Tables;
+use operand_modes::operand_answers::Located;
 use operand_modes::single_value;
-use operand_rules::{Refusal, Value};
 use operator_rules::access_rules::is_blank;
 use std::alloc::Global;
+use type_table::operand_rules::{Refusal, Value};
 use typed_names::Entity;
 
 /// What so many names are declared as, each a variable of the type of one of the values of a turn.

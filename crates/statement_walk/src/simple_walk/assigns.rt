@@ -7,18 +7,18 @@ ghost use Rattle.go_tree.specs.View.{expr_of, exprs_of};
 ghost use Rattle.go_tree.specs.GoTypes.Bodies.{Ctx};
 ghost use Rattle.go_tree.specs.GoTypes.Typing as go;
 ghost use Rattle.typed_names.specs.Scopes.{env_at};
-ghost use Rattle.checker_tables.specs.Ready.{Keeps};
-ghost use Rattle.operand_answers.specs.Known.{Stands};
+ghost use Rattle.operand_modes.specs.CheckerTables.Ready.{Keeps};
+ghost use Rattle.operand_modes.specs.OperandAnswers.Known.{Stands};
 ghost use Rattle.control_steps.specs.Ends.{EndsAs};
 ghost use Rattle.expr_walk.specs.Walked.{AreAllWalked, IsWalked};
 
 use crate::simple_walk::left_sides::targets;
 use assignment_steps::{assignment, increment, update};
-use checker_tables::Tables;
 use expr_walk::{all_exprs, expr};
 use go_tree::{BinOp, Expr, ExprList};
-use operand_rules::Refusal;
+use operand_modes::checker_tables::Tables;
 use std::alloc::Global;
+use type_table::operand_rules::Refusal;
 use typed_names::{Blocks, Scope};
 
 /// `++` or `--`.

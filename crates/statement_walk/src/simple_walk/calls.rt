@@ -6,17 +6,17 @@ ghost use Rattle.go_tree.specs.View.{expr_of};
 ghost use Rattle.go_tree.specs.GoTypes.Bodies.{Ctx};
 ghost use Rattle.go_tree.specs.GoTypes.Typing as go;
 ghost use Rattle.typed_names.specs.Scopes.{env_at};
-ghost use Rattle.checker_tables.specs.Ready.{Keeps};
-ghost use Rattle.operand_answers.specs.Known.{Stands};
+ghost use Rattle.operand_modes.specs.CheckerTables.Ready.{Keeps};
+ghost use Rattle.operand_modes.specs.OperandAnswers.Known.{Stands};
 ghost use Rattle.control_steps.specs.Ends.{EndsAs};
 ghost use Rattle.expr_walk.specs.Walked.{IsWalked};
 
-use checker_tables::Tables;
 use control_steps::{defer_statement, expression_statement, is_panic};
 use expr_walk::expr;
 use go_tree::Expr;
-use operand_rules::Refusal;
+use operand_modes::checker_tables::Tables;
 use std::alloc::Global;
+use type_table::operand_rules::Refusal;
 use typed_names::{Blocks, Scope};
 
 /// An expression statement: a call.

@@ -3,18 +3,18 @@
 ghost use Rattle.go_tree.specs.View.{expr_of, exprs_of};
 ghost use Rattle.go_tree.specs.GoTypes.Typing as go;
 ghost use Rattle.typed_names.specs.Scopes.{env_at};
-ghost use Rattle.checker_tables.specs.Ready.{Keeps};
-ghost use Rattle.operand_answers.specs.Known.{Stands};
+ghost use Rattle.operand_modes.specs.CheckerTables.Ready.{Keeps};
+ghost use Rattle.operand_modes.specs.OperandAnswers.Known.{Stands};
 ghost use Rattle.assignment_steps.specs.Targets.{GivesTarget, GivesTargets};
 ghost use Rattle.expr_walk.specs.Walked.{AreAllWalked, IsWalked};
 ghost use Rattle.statement_walk.specs.SimpleWalk.Targets.{one_target};
 
 use assignment_steps::{Target, TargetList, is_blank_name, stored_at};
-use checker_tables::Tables;
 use expr_walk::expr;
 use go_tree::{Expr, ExprList};
-use operand_rules::Refusal;
+use operand_modes::checker_tables::Tables;
 use std::alloc::Global;
+use type_table::operand_rules::Refusal;
 use typed_names::{Blocks, Scope};
 
 /// Where a value is stored that is assigned to an expression.

@@ -6,8 +6,8 @@ ghost use Rattle.go_tree.specs.GoTypes.Bodies.{Ctx};
 ghost use Rattle.go_tree.specs.GoTypes.Entities.{Env};
 ghost use Rattle.go_tree.specs.GoTypes.Typing as go;
 ghost use Rattle.operator_rules.specs.AccessRules.Functions.{AreTypes};
-ghost use Rattle.checker_tables.specs.Ready.{Keeps};
-ghost use Rattle.operand_answers.specs.Known.{Stands};
+ghost use Rattle.operand_modes.specs.CheckerTables.Ready.{Keeps};
+ghost use Rattle.operand_modes.specs.OperandAnswers.Known.{Stands};
 ghost use Rattle.control_steps.specs.Ends.{EndsAs};
 ghost use Rattle.control_steps.specs.Returns.{IsBodyOf};
 ghost use Rattle.control_steps.specs.LocalBlocks.Places.{IsPlace};
@@ -17,12 +17,12 @@ ghost use Rattle.statement_walk.specs.SimpleWalk.Simple.{IsSimple};
 use crate::simple_walk::assigns::{assign, assign_by, step};
 use crate::simple_walk::calls::{call_statement, deferred_call};
 use crate::simple_walk::returns::{break_out, give_back, go_on};
-use checker_tables::Tables;
 use control_steps::Body;
 use go_tree::Stmt;
 use jump_rules::Around;
-use operand_rules::Refusal;
+use operand_modes::checker_tables::Tables;
 use std::alloc::Global;
+use type_table::operand_rules::Refusal;
 use typed_names::{Blocks, Scope};
 
 /// Whether a statement is terminating in which no other stands and that declares nothing, or that it isn't

@@ -4,11 +4,11 @@ use Rattle.std.specs.Prelude.{slice_get}
 use Rattle.std.proofs.lemmas.List.{length-set}
 use Rattle.std.proofs.lemmas.Option.{same_Some, slice_get_read, slice_get_within, get_or_from_slice_get}
 use Rattle.go_scan.specs.TokenLists.{TokenLists}
-use Rattle.import_rules.specs.Laid.{CommentsAscend}
+use Rattle.run_rules.specs.ImportRules.Laid.{CommentsAscend}
 use Rattle.file_names.specs.Imports.{FindsPackages}
-use Rattle.package_search.specs.declared.search.FoundInPackage.{FoundInPackage}
-use Rattle.package_search.specs.Search.{is_settled}
-use Rattle.package_search.specs.SearchedPrograms.Programs.{IsOpenProgram, IsProgramSearch}
+use Rattle.stepped_programs.specs.declared.package_search.search.FoundInPackage.{FoundInPackage}
+use Rattle.stepped_programs.specs.PackageSearch.Search.{is_settled}
+use Rattle.stepped_programs.specs.PackageSearch.SearchedPrograms.Programs.{IsOpenProgram, IsProgramSearch}
 use Rattle.programs.specs.declared.state.PackageFiles.{PackageFiles}
 use Rattle.programs.specs.declared.state.Program.{Program}
 use Rattle.programs.specs.TextsOfPackages.Given.{kept_at}

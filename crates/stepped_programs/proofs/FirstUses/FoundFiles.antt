@@ -16,7 +16,7 @@ use Rattle.run_rules.specs.Run.{Standing, here_of}
 use Rattle.run_rules.specs.Sites.{MarkRef, Site}
 use Rattle.run_rules.specs.Steps.{At}
 use Rattle.constant_steps.proofs.MarksFound.{nth_mapped}
-use Rattle.package_search.specs.declared.looks.ProgramSources.{ProgramSources}
+use Rattle.stepped_programs.specs.declared.package_search.looks.ProgramSources.{ProgramSources}
 use Rattle.programs.specs.declared.state.PackageFiles.{PackageFiles}
 use Rattle.programs.specs.declared.state.Program.{Program}
 use Rattle.programs.specs.Kept.{IsKeptFile, text_with}
@@ -26,7 +26,7 @@ use Rattle.stepped_programs.specs.SearchedSites.FoundSteps.Uses.{HasFile}
 use Rattle.stepped_programs.specs.SearchedSites.OrderedSearches.Found.{IsFoundFirst}
 use Rattle.stepped_programs.proofs.SearchedSites.KeptPrograms.Kept.{There, there}
 use Rattle.stepped_programs.specs.SteppedValues.Flags.{IsKeptProgram}
-use Rattle.use_search.specs.declared.views.FileView.{FileView}
+use Rattle.repeated_parts.specs.declared.use_search.views.FileView.{FileView}
 use Rattle.stepped_programs.specs.declared.first_uses.first.FirstUse.{FirstUse}
 use Rattle.stepped_programs.specs.FirstUses.Step.{HasFileOf, IsViewOf, MayStep}
 use Rattle.stepped_programs.specs.FirstUses.StepLaws.{FoundFilesStand, FoundUsesMayStep, UseStepsGoOn, UseStepsPassLimits, UseStepsAreRead, IsRightFirst, text_there}

@@ -11,13 +11,13 @@ use Rattle.next_file.specs.declared.file.FileFault.{FileFault}
 use Rattle.next_file.specs.declared.limits.Progress.{Progress}
 use Rattle.next_file.specs.Files.{IsNewFile, text_of}
 use Rattle.next_file.specs.Limits.{Passes}
-use Rattle.package_search.specs.declared.file_steps.step.FileStep.{FileStep}
-use Rattle.package_search.specs.FileSteps.Steps.{MakesEdits, IsStepFault}
+use Rattle.stepped_programs.specs.declared.package_search.file_steps.step.FileStep.{FileStep}
+use Rattle.stepped_programs.specs.PackageSearch.FileSteps.Steps.{MakesEdits, IsStepFault}
 use Rattle.programs.specs.declared.state.PackageFiles.{PackageFiles}
 use Rattle.programs.specs.declared.state.Program.{Program}
 use Rattle.stepped_programs.specs.SearchedSites.FoundSteps.Uses.{MayBeMade}
 use Rattle.stepped_programs.specs.SearchedSites.OrderedSearches.Found.{HasTables}
-use Rattle.use_search.specs.declared.views.FileView.{FileView}
+use Rattle.repeated_parts.specs.declared.use_search.views.FileView.{FileView}
 use Rattle.stepped_programs.specs.declared.first_uses.first.FirstUse.{FirstUse}
 use Rattle.stepped_programs.specs.FirstUses.Step.{IsViewOf, MayStep, IsUseStep, IsUseFault}
 

@@ -11,18 +11,18 @@ use Rattle.pkg_graph.specs.Views.{package_view}
 use Rattle.pkg_graph.specs.declared.packages.Package.{Package}
 use Rattle.pkg_graph.specs.declared.packages.SourceTree.{SourceTree}
 use Rattle.file_tables.specs.Numbers.{number_in}
-use Rattle.use_search.specs.MarkValues.Tables.{key_of}
+use Rattle.repeated_parts.specs.UseSearch.MarkValues.Tables.{key_of}
 use Rattle.module_marks.specs.Tables.{IsTableOf}
 use Rattle.module_marks.specs.Views.{mark_ref_of}
-use Rattle.use_search.specs.declared.search.FoundObstacle.{FoundObstacle}
-use Rattle.package_search.specs.declared.looks.FileLook.{FileLook}
-use Rattle.package_search.specs.declared.looks.ProgramSources.{ProgramSources}
-use Rattle.package_search.specs.declared.search.FoundInPackage.{FoundInPackage}
-use Rattle.package_search.specs.Looks.{IsLook}
-use Rattle.package_search.specs.Search.{is_settled, block_of, LookAt, IsFirstIn, IsFirst}
-use Rattle.package_search.specs.SearchedPrograms.Programs.{IsProgramSearch}
-use Rattle.package_search.specs.SearchedPrograms.Search as searched
-use Rattle.package_search.specs.SearchedPrograms.Search.{Keeps}
+use Rattle.repeated_parts.specs.declared.use_search.search.FoundObstacle.{FoundObstacle}
+use Rattle.stepped_programs.specs.declared.package_search.looks.FileLook.{FileLook}
+use Rattle.stepped_programs.specs.declared.package_search.looks.ProgramSources.{ProgramSources}
+use Rattle.stepped_programs.specs.declared.package_search.search.FoundInPackage.{FoundInPackage}
+use Rattle.stepped_programs.specs.PackageSearch.Looks.{IsLook}
+use Rattle.stepped_programs.specs.PackageSearch.Search.{is_settled, block_of, LookAt, IsFirstIn, IsFirst}
+use Rattle.stepped_programs.specs.PackageSearch.SearchedPrograms.Programs.{IsProgramSearch}
+use Rattle.stepped_programs.specs.PackageSearch.SearchedPrograms.Search as searched
+use Rattle.stepped_programs.specs.PackageSearch.SearchedPrograms.Search.{Keeps}
 use Rattle.programs.specs.Users.{AreItsUses}
 use Rattle.programs.specs.declared.state.Program.{Program}
 use Rattle.stepped_programs.specs.SearchedSites.OrderedSearches.Held.{AreUsed}

@@ -4,7 +4,7 @@ use Rattle.std.specs.Option.{option_map}
 use Rattle.pkg_graph.specs.Reads.{Source}
 use Rattle.run_rules.specs.Run.{Standing}
 use Rattle.run_rules.specs.Sites.{MarkRef}
-use Rattle.package_search.specs.declared.looks.ProgramSources.{ProgramSources}
+use Rattle.stepped_programs.specs.declared.package_search.looks.ProgramSources.{ProgramSources}
 use Rattle.programs.specs.declared.state.Program.{Program}
 use Rattle.stepped_programs.specs.SearchedSites.OrderedSearches.Held.{IsHeld}
 use Rattle.stepped_programs.specs.SearchedSites.OrderedSearches.Laws.{SearchesFindSteps, SearchesSettleFiles}

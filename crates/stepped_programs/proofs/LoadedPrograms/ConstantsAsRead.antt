@@ -10,8 +10,8 @@ use Rattle.go_tree.specs.GoTypes.Answers.{given, meets}
 use Rattle.run_rules.specs.Sites.{MarkRef, Where, Inlinable, an_alias, aliased, constant_in_spec, inlinable, inlinable_in, less, nth_constant, where_is}
 use Rattle.run_rules.specs.Respanned.{name_with, exprs_with, specs_with, stmt_with, type_spec_with, decl_with, packages_with}
 use Rattle.member_uses.specs.Laws.{is_constant, AllConstants}
-use Rattle.use_search.specs.MarkValues.Tables.{key_of}
-use Rattle.use_search.proofs.MarkValues.Viewed.{as_it_stands, of_mark}
+use Rattle.repeated_parts.specs.UseSearch.MarkValues.Tables.{key_of}
+use Rattle.repeated_parts.proofs.UseSearch.MarkValues.Viewed.{as_it_stands, of_mark}
 use Rattle.programs.specs.FileValues.Filled.{is_constants}
 
 given_twice : {A B C : Type 0} (o : Option A) (f : A → Option B) (g : B → Option C) → given (given o f) g ≡ given o (λ x. given (f x) g)

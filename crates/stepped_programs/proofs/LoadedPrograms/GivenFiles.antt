@@ -5,10 +5,10 @@ use Rattle.std.proofs.lemmas.Bool.{eqb-true, true≢false}
 use Rattle.std.proofs.lemmas.Option.{get_or_from_slice_get, slice_get_within}
 use Rattle.go_tree.specs.declared.spans.Span.{Span}
 use Rattle.name_walks.specs.Around.{place_in}
-use Rattle.import_order.proofs.NumberLaws.{number_at, same_number}
-use Rattle.module_files.specs.Pieces.{folder_of}
-use Rattle.module_files.specs.PathLists.{number_of, path_at, AreDistinct}
-use Rattle.module_files.proofs.PathLaws.{same_path, are_same}
+use Rattle.pkg_graph.proofs.ImportOrder.NumberLaws.{number_at, same_number}
+use Rattle.pkg_graph.specs.ModuleFiles.Pieces.{folder_of}
+use Rattle.pkg_graph.specs.ModuleFiles.PathLists.{number_of, path_at, AreDistinct}
+use Rattle.pkg_graph.proofs.ModuleFiles.PathLaws.{same_path, are_same}
 use Rattle.pkg_graph.specs.Package.{SourceTree, import_path, home_of, files_of}
 use Rattle.module_reading.specs.declared.files.ScannedFile.{ScannedFile}
 use Rattle.programs.specs.TextsOfPackages.Given.{home_path, given_to}

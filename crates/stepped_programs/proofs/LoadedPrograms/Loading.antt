@@ -17,15 +17,15 @@ use Rattle.run_rules.specs.Steps.{At}
 use Rattle.run_rules.specs.Run.{Standing, as_read, here_of, module_file_size, texts_size}
 use Rattle.run_rules.specs.Inlining.{ModuleReads, standing_as_read}
 use Rattle.run_rules.proofs.InOrder.{order_is}
-use Rattle.splice_laws.proofs.RunLaws.PathsOwn.{paths_own}
-use Rattle.splice_laws.proofs.RunLaws.RunsRead as runs
+use Rattle.run_rules.proofs.SpliceLaws.RunLaws.PathsOwn.{paths_own}
+use Rattle.run_rules.proofs.SpliceLaws.RunLaws.RunsRead as runs
 use Rattle.member_uses.specs.Laws.{AllConstants}
 use Rattle.module_reading.specs.declared.reading.ReadModule.{ReadModule}
 use Rattle.file_names.specs.Imports.{FindsPackages}
 use Rattle.module_marks.specs.Views.{bad_at_of}
 use Rattle.module_marks.specs.Tables.{IsTableOf}
 use Rattle.module_marks.specs.declared.table.MarkTable.{MarkTable}
-use Rattle.use_search.specs.MarkValues.Tables.{Known}
+use Rattle.repeated_parts.specs.UseSearch.MarkValues.Tables.{Known}
 use Rattle.source_files.specs.declared.files.SourceFile.{SourceFile}
 use Rattle.programs.specs.declared.state.Program.{Program}
 use Rattle.programs.specs.PartOrigins.Spans.{packages_spans}

@@ -3,8 +3,8 @@ use Rattle.std.proofs.Common.{◌≡◌, ◌∙◌, refl, sym, ap, subst, ℕ, z
 use Rattle.std.specs.Prelude.{slice_get}
 use Rattle.std.proofs.lemmas.List.{length-map}
 use Rattle.go_scan.specs.TokenLists.{TokenLists}
-use Rattle.import_rules.specs.Laid.{CommentsAscend}
-use Rattle.splice_laws.proofs.ImportSplices.ImportPlaces.CommentsStand.{comments_ascend}
+use Rattle.run_rules.specs.ImportRules.Laid.{CommentsAscend}
+use Rattle.run_rules.proofs.SpliceLaws.ImportSplices.ImportPlaces.CommentsStand.{comments_ascend}
 use Rattle.pkg_graph.specs.Views.{package_view, source_of}
 use Rattle.pkg_graph.specs.declared.packages.Package.{Package}
 use Rattle.module_reading.specs.Files.{IsScanned}
@@ -15,7 +15,7 @@ use Rattle.source_files.specs.declared.files.SourceFile.{SourceFile}
 use Rattle.programs.specs.declared.state.PackageFiles.{PackageFiles}
 use Rattle.programs.specs.declared.state.Program.{Program}
 use Rattle.programs.specs.TextsOfPackages.Given.{given_to, AreTexts}
-use Rattle.package_search.specs.SearchedPrograms.Programs.{HasPackage}
+use Rattle.stepped_programs.specs.PackageSearch.SearchedPrograms.Programs.{HasPackage}
 use Rattle.stepped_programs.specs.LoadedPrograms.Loaded.{AllAreOpen}
 use Rattle.stepped_programs.proofs.LoadedPrograms.Images.{image_at, at_image, of_all}
 use Rattle.stepped_programs.proofs.LoadedPrograms.GivenFiles.{given_among}

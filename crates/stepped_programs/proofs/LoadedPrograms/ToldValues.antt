@@ -17,14 +17,14 @@ use Rattle.run_rules.specs.Sites.{MarkRef, Where, inlinable, inlinable_in, is_am
 use Rattle.run_rules.specs.Respanned.{decl_with, file_with, source_with, package_with, packages_with}
 use Rattle.run_rules.specs.Steps.{At}
 use Rattle.run_rules.specs.Run.{Standing, here_of}
-use Rattle.splice_laws.specs.RunLaws.Reading.{FileReads, ProgramReads}
+use Rattle.run_rules.specs.SpliceLaws.RunLaws.Reading.{FileReads, ProgramReads}
 use Rattle.constant_steps.proofs.MarksFound.{StandsThere, stands_there}
 use Rattle.constant_steps.specs.FormImports.ImportLaws.Steps.{names_standing}
 use Rattle.constant_steps.specs.PlaceMeanings.Laws.{AreNamesOf}
 use Rattle.constant_steps.proofs.PlaceMeanings.PlacesMean.{files_named}
 use Rattle.member_uses.specs.Laws.{is_constant, AllConstants, Knows}
 use Rattle.file_tables.specs.Numbers.{number_in}
-use Rattle.use_search.specs.MarkValues.Tables.{Known}
+use Rattle.repeated_parts.specs.UseSearch.MarkValues.Tables.{Known}
 use Rattle.programs.specs.Programs.{HasValues, TellsValues}
 use Rattle.programs.specs.FileValues.Filled.{HasFileValues, is_constants}
 use Rattle.stepped_programs.proofs.LoadedPrograms.Images.{image_at, at_image, both}

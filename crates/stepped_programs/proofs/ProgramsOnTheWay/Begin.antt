@@ -3,7 +3,7 @@ use Rattle.std.proofs.Common.{◌≡◌, ◌∙◌, refl, sym, ap, ℕ, ◌+◌,
 use Rattle.std.specs.Prelude.{slice_get}
 use Rattle.pkg_graph.specs.Package.{Package}
 use Rattle.go_tree.specs.declared.spans.Span.{Span}
-use Rattle.package_search.specs.Search.{is_settled}
+use Rattle.stepped_programs.specs.PackageSearch.Search.{is_settled}
 use Rattle.printed_constants.specs.PrintedSteps.Laws.{ReadModulesArePrintedPrograms}
 use Rattle.printed_constants.specs.PrintedSteps.Programs.{IsPrintedProgram}
 use Rattle.programs.specs.declared.state.PackageFiles.{PackageFiles}
@@ -15,7 +15,7 @@ use Rattle.run_rules.specs.Marks.{marks_of}
 use Rattle.run_rules.specs.Run.{Standing, module_file_size, texts_size, the_limits}
 use Rattle.run_rules.specs.Sites.{MarkRef}
 use Rattle.run_rules.specs.Texts.{FileText}
-use Rattle.step_counts.specs.Laws.{NoneAreCounted}
+use Rattle.run_by_steps.specs.StepCounts.Laws.{NoneAreCounted}
 use Rattle.stepped_programs.specs.FirstUses.Laws.{FirstUsesAreSteps}
 use Rattle.stepped_programs.specs.Laws.{flags_of}
 use Rattle.stepped_programs.specs.SearchedSites.FoundSteps.Laws.{SearchesEndRuns}

@@ -4,15 +4,15 @@ use Rattle.std.specs.Prelude.{slice_get}
 use Rattle.std.proofs.lemmas.Option.{same_Some}
 use Rattle.go_tree.specs.FileView.{file_of}
 use Rattle.pkg_graph.specs.Reads.{Source}
-use Rattle.typed_parts.specs.MarkedRuns.KeptMarks.Over.{IsOverName}
-use Rattle.typed_parts.proofs.MarkedRuns.NamedMarks.Used.{named-used}
+use Rattle.printed_constants.specs.TypedParts.MarkedRuns.KeptMarks.Over.{IsOverName}
+use Rattle.printed_constants.proofs.TypedParts.MarkedRuns.NamedMarks.Used.{named-used}
 use Rattle.put_names.specs.Uses.{UsesConstant}
 use Rattle.next_file.specs.declared.file.NewFile.{NewFile}
 use Rattle.next_file.specs.declared.limits.Progress.{Progress}
 use Rattle.next_file.specs.Files.{text_of}
 use Rattle.next_file.specs.Limits.{Passes}
-use Rattle.package_search.specs.declared.looks.ProgramSources.{ProgramSources}
-use Rattle.package_search.specs.declared.search.FoundInPackage.{FoundInPackage}
+use Rattle.stepped_programs.specs.declared.package_search.looks.ProgramSources.{ProgramSources}
+use Rattle.stepped_programs.specs.declared.package_search.search.FoundInPackage.{FoundInPackage}
 use Rattle.printed_constants.specs.CountedNames.Laws.{StepsStayWithinTotal}
 use Rattle.printed_constants.specs.PrintedSteps.Laws.{StepsAreOverNames, PrintedStepsKeep}
 use Rattle.printed_constants.specs.PrintedSteps.Programs.{IsPrintedProgram}
@@ -27,8 +27,8 @@ use Rattle.run_rules.specs.Run.{Standing, Logged, module_file_size, texts_size, 
 use Rattle.run_rules.specs.Sites.{MarkRef, part_span}
 use Rattle.run_rules.specs.Steps.{At, same_here, Found}
 use Rattle.run_rules.specs.Texts.{FileText}
-use Rattle.typed_parts.specs.StandingUses.ImportUses.Parts.{EachSeen}
-use Rattle.step_counts.specs.Laws.{OneMore, StepsAreCounted}
+use Rattle.printed_constants.specs.TypedParts.StandingUses.ImportUses.Parts.{EachSeen}
+use Rattle.run_by_steps.specs.StepCounts.Laws.{OneMore, StepsAreCounted}
 use Rattle.stepped_programs.specs.FirstUses.StepLaws.{FoundFilesStand, text_there}
 use Rattle.stepped_programs.specs.Laws.{place_of, IsOfStep, IsUndotted, FoundUsesArePut, StepsKeepPrograms, StepsKeepSettled}
 use Rattle.stepped_programs.specs.SearchedSites.FoundSteps.Laws.{step_of}

@@ -8,8 +8,8 @@ use Rattle.pkg_graph.specs.Reads.{Source}
 use Rattle.pkg_graph.specs.Views.{source_of}
 use Rattle.pkg_graph.specs.declared.packages.Package.{Package}
 use Rattle.go_tree.specs.GoTypes.Answers.{given}
-use Rattle.typed_parts.specs.MarkedRuns.PutForms.Uses as first
-use Rattle.package_search.specs.declared.looks.ProgramSources.{ProgramSources}
+use Rattle.printed_constants.specs.TypedParts.MarkedRuns.PutForms.Uses as first
+use Rattle.stepped_programs.specs.declared.package_search.looks.ProgramSources.{ProgramSources}
 use Rattle.printed_constants.specs.PrintedSteps.Laws as printed
 use Rattle.printed_constants.specs.PrintedSteps.Programs.{IsPrintedProgram}
 use Rattle.programs.specs.declared.state.Program.{Program}
@@ -19,8 +19,8 @@ use Rattle.run_rules.specs.Respanned.{source_with}
 use Rattle.run_rules.specs.Run.{Standing, path_of_file, here_of}
 use Rattle.run_rules.specs.Sites.{MarkRef}
 use Rattle.run_rules.specs.Steps.{At}
-use Rattle.typed_parts.specs.StandingUses.ToldSteps.Laws.{BecomesForm}
-use Rattle.step_counts.specs.Laws.{CountsCome}
+use Rattle.printed_constants.specs.TypedParts.StandingUses.ToldSteps.Laws.{BecomesForm}
+use Rattle.run_by_steps.specs.StepCounts.Laws.{CountsCome}
 use Rattle.stepped_programs.specs.FirstUses.Laws.{FirstUsesAreSteps, FirstUsesKeepPrograms, FirstUsesSettleFiles}
 use Rattle.stepped_programs.specs.FirstUses.Step.{HasFileOf, IsViewOf}
 use Rattle.stepped_programs.specs.FirstUses.StepLaws.{FoundFilesStand, text_there}

@@ -11,17 +11,17 @@ use Rattle.run_rules.specs.Steps.{At}
 use Rattle.run_rules.specs.Run.{Standing, KeptUse, here_of, is_commented, kept_use, kept_among}
 use Rattle.constant_forms.specs.declared.reduced.ReducedConstant.{ReducedConstant}
 use Rattle.constant_forms.specs.Uses.{IsReducedTo}
-use Rattle.use_search.specs.declared.uses_of_marks.uses.MarkedUse.{MarkedUse}
-use Rattle.use_search.specs.UsesOfMarks.Uses.{PlacedMark, decls_uses}
-use Rattle.use_search.specs.UsesOfMarks.Views.{placed_of}
-use Rattle.use_search.specs.UsesOfMarks.Laws.{placed_site, placed_sites, EachSite, IsPlaced, MarkedUsesAreSites, UsesArePlaced}
-use Rattle.use_search.specs.declared.search.FoundForm.{FoundForm}
-use Rattle.use_search.specs.declared.search.FoundObstacle.{FoundObstacle}
-use Rattle.use_search.specs.declared.views.FileView.{FileView}
-use Rattle.use_search.specs.declared.views.ProgramView.{ProgramView}
-use Rattle.use_search.specs.Answers.{names_of, IsAnswer}
-use Rattle.use_search.specs.Search.{IsSearched, kept_by}
-use Rattle.use_search.specs.Search as search
+use Rattle.repeated_parts.specs.declared.use_search.uses_of_marks.uses.MarkedUse.{MarkedUse}
+use Rattle.repeated_parts.specs.UseSearch.UsesOfMarks.Uses.{PlacedMark, decls_uses}
+use Rattle.repeated_parts.specs.UseSearch.UsesOfMarks.Views.{placed_of}
+use Rattle.repeated_parts.specs.UseSearch.UsesOfMarks.Laws.{placed_site, placed_sites, EachSite, IsPlaced, MarkedUsesAreSites, UsesArePlaced}
+use Rattle.repeated_parts.specs.declared.use_search.search.FoundForm.{FoundForm}
+use Rattle.repeated_parts.specs.declared.use_search.search.FoundObstacle.{FoundObstacle}
+use Rattle.repeated_parts.specs.declared.use_search.views.FileView.{FileView}
+use Rattle.repeated_parts.specs.declared.use_search.views.ProgramView.{ProgramView}
+use Rattle.repeated_parts.specs.UseSearch.Answers.{names_of, IsAnswer}
+use Rattle.repeated_parts.specs.UseSearch.Search.{IsSearched, kept_by}
+use Rattle.repeated_parts.specs.UseSearch.Search as search
 use Rattle.stepped_programs.specs.SearchedSites.Told.{IsProgram, IsFile}
 use Rattle.stepped_programs.specs.SearchedSites.Searched.{StandsFor, AreSearched, at_the_end, past_kept, at_free, kept_told, sites_in_file}
 use Rattle.stepped_programs.specs.SearchedSites.Laws.{SearchesFindSites, KeptSitesAreTold}

@@ -8,8 +8,8 @@ use Rattle.run_rules.specs.Reduced.{Reduced}
 use Rattle.run_rules.specs.Sites.{MarkRef, Where, Site, decls_sites, files_sites, packages_sites}
 use Rattle.run_rules.specs.Steps.{At, same_here, Found, found_by, first_found}
 use Rattle.run_rules.specs.Run.{Standing, is_commented}
-use Rattle.use_search.specs.declared.search.FoundForm.{FoundForm}
-use Rattle.use_search.specs.declared.search.FoundObstacle.{FoundObstacle}
+use Rattle.repeated_parts.specs.declared.use_search.search.FoundForm.{FoundForm}
+use Rattle.repeated_parts.specs.declared.use_search.search.FoundObstacle.{FoundObstacle}
 use Rattle.stepped_programs.specs.SearchedSites.Searched.{found_of, IsFree, AreSearched, at_the_end, past_kept, at_free, sites_in_file, sites_in_files, FilesSearched, no_file, past_file, in_file, files_there, packages_files, files_in_order}
 use Rattle.stepped_programs.specs.SearchedSites.Laws.{SitesAreByFile, HasStep, FilesHaveSteps}
 

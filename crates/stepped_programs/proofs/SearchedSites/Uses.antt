@@ -13,7 +13,7 @@ use Rattle.go_tree.specs.declared.scope_names.names.FileNames.{FileNames}
 use Rattle.go_tree.specs.declared.scope_names.names.ImportName.{ImportName}
 use Rattle.go_tree.specs.ScopeNames.Identifiers.{identifiers}
 use Rattle.scope_tables.specs.Table.{Table, IsTableOf, table_of}
-use Rattle.import_rules.specs.Needs.{avoided}
+use Rattle.run_rules.specs.ImportRules.Needs.{avoided}
 use Rattle.pkg_graph.specs.Package.{SourceTree, Package, import_specs}
 use Rattle.pkg_graph.specs.Views.{package_view}
 use Rattle.go_tree.specs.GoTypes.Answers.{given, meets}
@@ -39,14 +39,14 @@ use Rattle.constant_forms.specs.declared.uses.ConstantValue.TheVariants as lent
 use Rattle.constant_forms.specs.declared.uses.ConstantUse.{ConstantUse}
 use Rattle.constant_forms.specs.Told.{needed_package, is_elsewhere, AreInPackages}
 use Rattle.constant_forms.specs.Uses.{IsUse}
-use Rattle.use_search.specs.MarkValues.Values.{value_of}
-use Rattle.use_search.specs.MarkValues.Tables.{value_in}
-use Rattle.use_search.specs.declared.uses_of_marks.uses.MarkedUse.{MarkedUse}
-use Rattle.use_search.specs.UsesOfMarks.Uses.{PlacedMark}
-use Rattle.use_search.specs.UsesOfMarks.Laws.{IsPlaced}
-use Rattle.use_search.specs.declared.views.FileView.{FileView}
-use Rattle.use_search.specs.declared.views.ProgramView.{ProgramView}
-use Rattle.use_search.specs.Answers.{names_of, IsTold}
+use Rattle.repeated_parts.specs.UseSearch.MarkValues.Values.{value_of}
+use Rattle.repeated_parts.specs.UseSearch.MarkValues.Tables.{value_in}
+use Rattle.repeated_parts.specs.declared.use_search.uses_of_marks.uses.MarkedUse.{MarkedUse}
+use Rattle.repeated_parts.specs.UseSearch.UsesOfMarks.Uses.{PlacedMark}
+use Rattle.repeated_parts.specs.UseSearch.UsesOfMarks.Laws.{IsPlaced}
+use Rattle.repeated_parts.specs.declared.use_search.views.FileView.{FileView}
+use Rattle.repeated_parts.specs.declared.use_search.views.ProgramView.{ProgramView}
+use Rattle.repeated_parts.specs.UseSearch.Answers.{names_of, IsTold}
 use Rattle.stepped_programs.specs.SearchedSites.Told.{IsWithin, IsToldValue, IsProgram, IsFile}
 use Rattle.stepped_programs.specs.SearchedSites.Searched.{StandsFor}
 use Rattle.stepped_programs.proofs.SearchedSites.IdentifiersStay.{file-stays}

@@ -27,12 +27,12 @@ use Rattle.constant_forms.specs.declared.uses.ConstantValue.{ConstantValue}
 use Rattle.constant_forms.specs.declared.uses.ConstantValue.TheVariants as lent
 use Rattle.constant_forms.specs.Uses.{home_place, IsMember, IsPlain, IsQualified, IsValue}
 use Rattle.constant_forms.proofs.Members.{table_members}
-use Rattle.use_search.specs.declared.mark_values.values.DeclaredValue.{DeclaredValue}
-use Rattle.use_search.specs.declared.mark_values.values.DeclaredValue.TheVariants.{Plain, Qualified}
-use Rattle.use_search.specs.MarkValues.Values.{value_of, expr_value}
-use Rattle.use_search.specs.MarkValues.Tables.{Known, value_in}
-use Rattle.use_search.proofs.MarkValues.Written.{IsWritten, decl_formed}
-use Rattle.use_search.proofs.MarkValues.Own.{in_decl, of_decl}
+use Rattle.repeated_parts.specs.declared.use_search.mark_values.values.DeclaredValue.{DeclaredValue}
+use Rattle.repeated_parts.specs.declared.use_search.mark_values.values.DeclaredValue.TheVariants.{Plain, Qualified}
+use Rattle.repeated_parts.specs.UseSearch.MarkValues.Values.{value_of, expr_value}
+use Rattle.repeated_parts.specs.UseSearch.MarkValues.Tables.{Known, value_in}
+use Rattle.repeated_parts.proofs.UseSearch.MarkValues.Written.{IsWritten, decl_formed}
+use Rattle.repeated_parts.proofs.UseSearch.MarkValues.Own.{in_decl, of_decl}
 use Rattle.programs.specs.Programs.{HasValues}
 use Rattle.put_names.specs.Uses.{IsDeclaredAsName, as_name, as_member}
 use Rattle.stepped_programs.specs.SearchedSites.Told.{IsToldValue}

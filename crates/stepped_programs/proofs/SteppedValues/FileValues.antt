@@ -25,7 +25,7 @@ use Rattle.constant_steps.specs.PlaceMeanings.Laws.{AreNamesOf}
 use Rattle.constant_steps.proofs.PlaceMeanings.PlacesMean.{files_named}
 use Rattle.member_uses.specs.Laws.{is_constant, AllConstants, Knows}
 use Rattle.file_tables.specs.Numbers.{number_in}
-use Rattle.use_search.specs.MarkValues.Tables.{Known}
+use Rattle.repeated_parts.specs.UseSearch.MarkValues.Tables.{Known}
 use Rattle.programs.specs.Programs.{HasValues}
 use Rattle.programs.specs.FileValues.Filled.{HasFileValues, is_constants}
 use Rattle.stepped_programs.proofs.LoadedPrograms.Images.{at_image}

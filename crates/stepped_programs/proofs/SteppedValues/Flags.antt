@@ -3,9 +3,9 @@ use Rattle.std.proofs.Common.{◌≡◌, ◌∙◌, false, List, sym, ap}
 use Rattle.pkg_graph.specs.Reads.{Source}
 use Rattle.run_rules.specs.Run.{Standing, Logged, Next}
 use Rattle.run_rules.specs.Sites.{MarkRef}
-use Rattle.use_search.specs.MarkValues.Tables.{DeclKey, Known, same_key, values_at, value_in}
-use Rattle.typed_parts.specs.MarkedRuns.KeptMarks.Over.{IsOverName}
-use Rattle.package_search.specs.declared.looks.ProgramSources.{ProgramSources}
+use Rattle.repeated_parts.specs.UseSearch.MarkValues.Tables.{DeclKey, Known, same_key, values_at, value_in}
+use Rattle.printed_constants.specs.TypedParts.MarkedRuns.KeptMarks.Over.{IsOverName}
+use Rattle.stepped_programs.specs.declared.package_search.looks.ProgramSources.{ProgramSources}
 use Rattle.programs.specs.declared.state.Program.{Program}
 use Rattle.stepped_programs.specs.SearchedSites.OrderedSearches.Held.{IsHeld}
 use Rattle.stepped_programs.specs.SearchedSites.SettledFiles.Left.{TellOthersTheSame}

@@ -14,13 +14,13 @@ use Rattle.run_rules.specs.Run.{Standing, here_of}
 use Rattle.run_rules.specs.Sites.{MarkRef, Where, a_constant, is_among_marks, where_is, inlinable}
 use Rattle.run_rules.specs.Steps.{At}
 use Rattle.constant_steps.proofs.MarksFound.{declared_there}
-use Rattle.typed_parts.specs.ScopedParts.Laws.{WellTypedFilesAreScoped}
+use Rattle.printed_constants.specs.TypedParts.ScopedParts.Laws.{WellTypedFilesAreScoped}
 use Rattle.module_marks.specs.Tables.{IsTableOf}
 use Rattle.module_marks.specs.declared.table.MarkTable.{MarkTable}
-use Rattle.use_search.specs.MarkValues.Tables.{Known, value_in}
+use Rattle.repeated_parts.specs.UseSearch.MarkValues.Tables.{Known, value_in}
 use Rattle.put_names.specs.Uses.{IsDeclaredAsName}
-use Rattle.typed_parts.specs.MarkedRuns.NamedMarks.Named.{AllNamed}
-use Rattle.package_search.specs.declared.looks.ProgramSources.{ProgramSources}
+use Rattle.printed_constants.specs.TypedParts.MarkedRuns.NamedMarks.Named.{AllNamed}
+use Rattle.stepped_programs.specs.declared.package_search.looks.ProgramSources.{ProgramSources}
 use Rattle.programs.specs.declared.state.PackageFiles.{PackageFiles}
 use Rattle.programs.specs.declared.state.Program.{Program}
 use Rattle.programs.specs.Programs.{IsProgramOf}

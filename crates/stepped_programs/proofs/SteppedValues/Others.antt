@@ -18,7 +18,7 @@ use Rattle.run_rules.specs.Sites.{MarkRef, Where, a_constant, is_among_marks, in
 use Rattle.run_rules.specs.Steps.{At, change_nth}
 use Rattle.constant_steps.proofs.MarksFound.{StandsThere, stands_there, declared_there, nth_mapped}
 use Rattle.constant_forms.specs.Uses.{home_place}
-use Rattle.typed_parts.specs.ScopedParts.Laws.{WellTypedFilesAreScoped}
+use Rattle.printed_constants.specs.TypedParts.ScopedParts.Laws.{WellTypedFilesAreScoped}
 use Rattle.printed_constants.specs.DeclaredMembers.Laws.{ConstantsNameMembers}
 use Rattle.order_runs.specs.CycleRuns.ImportCycles.OtherImports.{import_path}
 use Rattle.order_runs.specs.CycleRuns.ImportCycles.ImportSteps.{packages_added, decl_put}
@@ -28,21 +28,21 @@ use Rattle.order_runs.specs.CycleRuns.ImportCycles.LookedUp.{decl_looked_up}
 use Rattle.order_runs.proofs.CycleRuns.ImportCycles.FreeIdentifiers.{looked-up-within}
 use Rattle.order_runs.proofs.CycleRuns.ImportCycles.ImportsAdded.{reads-added}
 use Rattle.order_runs.proofs.CycleRuns.Runs.{linked-names}
-use Rattle.use_search.specs.declared.mark_values.values.DeclaredValue.{DeclaredValue}
-use Rattle.use_search.specs.declared.mark_values.values.DeclaredValue.TheVariants.{Plain, Qualified}
-use Rattle.use_search.specs.MarkValues.Tables.{DeclKey, Known, key_of, same_key, values_at, value_in}
+use Rattle.repeated_parts.specs.declared.use_search.mark_values.values.DeclaredValue.{DeclaredValue}
+use Rattle.repeated_parts.specs.declared.use_search.mark_values.values.DeclaredValue.TheVariants.{Plain, Qualified}
+use Rattle.repeated_parts.specs.UseSearch.MarkValues.Tables.{DeclKey, Known, key_of, same_key, values_at, value_in}
 use Rattle.programs.specs.Programs.{TellsValues}
 use Rattle.stepped_programs.proofs.LoadedPrograms.Images.{both}
-use Rattle.typed_parts.specs.MarkedRuns.KeptMarks.Laws.{StepsKeepNamed}
-use Rattle.typed_parts.specs.MarkedRuns.KeptMarks.Over.{IsOverName}
-use Rattle.typed_parts.specs.MarkedRuns.NamedMarks.Named.{IsNamedConstant, AllNamed}
-use Rattle.typed_parts.specs.MarkedRuns.SettledConstants.Laws.{ConstantsWrite}
-use Rattle.typed_parts.specs.MarkedRuns.SettledConstants.Programs.{IsReady}
-use Rattle.typed_parts.proofs.MarkedRuns.KeptMarks.Changed.{Imported, qs, paths-now, imported-now}
-use Rattle.typed_parts.proofs.MarkedRuns.KeptMarks.Kept.{look-ups}
-use Rattle.typed_parts.proofs.MarkedRuns.KeptMarks.Served.{mid-path}
-use Rattle.typed_parts.proofs.MarkedRuns.KeptMarks.Shapes.{Shape, shape, shape-with, dotted-in}
-use Rattle.typed_parts.proofs.MarkedRuns.NamedMarks.Declared.{inlinable-with}
+use Rattle.printed_constants.specs.TypedParts.MarkedRuns.KeptMarks.Laws.{StepsKeepNamed}
+use Rattle.printed_constants.specs.TypedParts.MarkedRuns.KeptMarks.Over.{IsOverName}
+use Rattle.printed_constants.specs.TypedParts.MarkedRuns.NamedMarks.Named.{IsNamedConstant, AllNamed}
+use Rattle.printed_constants.specs.TypedParts.MarkedRuns.SettledConstants.Laws.{ConstantsWrite}
+use Rattle.printed_constants.specs.TypedParts.MarkedRuns.SettledConstants.Programs.{IsReady}
+use Rattle.printed_constants.proofs.TypedParts.MarkedRuns.KeptMarks.Changed.{Imported, qs, paths-now, imported-now}
+use Rattle.printed_constants.proofs.TypedParts.MarkedRuns.KeptMarks.Kept.{look-ups}
+use Rattle.printed_constants.proofs.TypedParts.MarkedRuns.KeptMarks.Served.{mid-path}
+use Rattle.printed_constants.proofs.TypedParts.MarkedRuns.KeptMarks.Shapes.{Shape, shape, shape-with, dotted-in}
+use Rattle.printed_constants.proofs.TypedParts.MarkedRuns.NamedMarks.Declared.{inlinable-with}
 use Rattle.stepped_programs.proofs.SearchedSites.SettledFiles.Packages.{placed, with_tree, in_package, block_now}
 use Rattle.stepped_programs.specs.SteppedValues.OfSteps.{is_of_step, decl_of_step}
 use Rattle.stepped_programs.specs.SteppedValues.Laws.{MarkedValuesStay}

@@ -14,7 +14,7 @@ use Rattle.go_tree.specs.declared.scope_names.names.Entity.{Entity}
 use Rattle.go_tree.specs.declared.scope_names.names.Entity.TheVariants as entity
 use Rattle.go_tree.specs.declared.scope_names.names.FileNames.{FileNames}
 use Rattle.scope_tables.specs.Table.{meaning_in}
-use Rattle.import_rules.proofs.MeaningLaws.{means_append}
+use Rattle.run_rules.proofs.ImportRules.MeaningLaws.{means_append}
 use Rattle.pkg_graph.specs.Package.{Package, import_specs}
 use Rattle.pkg_graph.specs.Members.{Target, local, imported, member, predeclared, import_name, package_block}
 use Rattle.go_tree.specs.GoTypes.Answers.{given, is_among}
@@ -33,15 +33,15 @@ use Rattle.member_uses.specs.Uses.{Names}
 use Rattle.member_uses.specs.Laws.{Knows}
 use Rattle.constant_forms.specs.Uses.{home_place}
 use Rattle.constant_forms.proofs.Members.{table_members}
-use Rattle.use_search.specs.declared.mark_values.values.DeclaredValue.{DeclaredValue}
-use Rattle.use_search.specs.declared.mark_values.values.DeclaredValue.TheVariants.{Plain, Qualified}
-use Rattle.use_search.specs.MarkValues.Values.{expr_value}
-use Rattle.use_search.specs.MarkValues.Tables.{Known, value_in}
-use Rattle.use_search.proofs.MarkValues.Written.{decl_formed}
-use Rattle.use_search.proofs.MarkValues.Own.{in_decl}
+use Rattle.repeated_parts.specs.declared.use_search.mark_values.values.DeclaredValue.{DeclaredValue}
+use Rattle.repeated_parts.specs.declared.use_search.mark_values.values.DeclaredValue.TheVariants.{Plain, Qualified}
+use Rattle.repeated_parts.specs.UseSearch.MarkValues.Values.{expr_value}
+use Rattle.repeated_parts.specs.UseSearch.MarkValues.Tables.{Known, value_in}
+use Rattle.repeated_parts.proofs.UseSearch.MarkValues.Written.{decl_formed}
+use Rattle.repeated_parts.proofs.UseSearch.MarkValues.Own.{in_decl}
 use Rattle.programs.specs.Programs.{HasValues}
 use Rattle.put_names.specs.Uses.{IsDeclaredAsName, as_name, as_member}
-use Rattle.typed_parts.proofs.MarkedRuns.KeptMarks.Shapes.{Shape, shape}
+use Rattle.printed_constants.proofs.TypedParts.MarkedRuns.KeptMarks.Shapes.{Shape, shape}
 use Rattle.printed_constants.specs.DeclaredMembers.Members.{IsOwn, IsMember}
 use Rattle.stepped_programs.proofs.SteppedValues.DeclaredAs.{package_at, value_had}
 

@@ -14,7 +14,7 @@ use Rattle.run_rules.specs.Sites.{MarkRef, Where, is_among_marks, where_is}
 use Rattle.run_rules.specs.Steps.{At, Found}
 use Rattle.constant_steps.proofs.MarksFound.{stands_there}
 use Rattle.member_uses.specs.Laws.{AllConstants}
-use Rattle.use_search.specs.MarkValues.Tables.{DeclKey, Known, key_of, values_at}
+use Rattle.repeated_parts.specs.UseSearch.MarkValues.Tables.{DeclKey, Known, key_of, values_at}
 use Rattle.programs.specs.FileValues.Filled.{HasFileValues}
 use Rattle.programs.specs.Programs.{HasValues, TellsValues}
 use Rattle.stepped_programs.proofs.LoadedPrograms.Images.{both}

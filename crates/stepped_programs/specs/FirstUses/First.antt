@@ -2,11 +2,11 @@
 -- Packages; Program initialization).
 use Rattle.std.specs.Prelude.{◌≡◌, ℕ, true, All, length, Option, Some, slice_get}
 use Rattle.std.specs.Option.{option_map}
-use Rattle.package_search.specs.declared.looks.ProgramSources.{ProgramSources}
-use Rattle.package_search.specs.declared.search.FoundInPackage.{FoundInPackage}
-use Rattle.package_search.specs.Search.{is_settled}
-use Rattle.package_search.specs.SearchedPrograms.Programs.{IsOpenProgram}
-use Rattle.package_search.specs.SearchedPrograms.Search.{Keeps}
+use Rattle.stepped_programs.specs.declared.package_search.looks.ProgramSources.{ProgramSources}
+use Rattle.stepped_programs.specs.declared.package_search.search.FoundInPackage.{FoundInPackage}
+use Rattle.stepped_programs.specs.PackageSearch.Search.{is_settled}
+use Rattle.stepped_programs.specs.PackageSearch.SearchedPrograms.Programs.{IsOpenProgram}
+use Rattle.stepped_programs.specs.PackageSearch.SearchedPrograms.Search.{Keeps}
 use Rattle.programs.specs.declared.state.PackageFiles.{PackageFiles}
 use Rattle.programs.specs.declared.state.Program.{Program}
 use Rattle.stepped_programs.specs.SearchedSites.OrderedSearches.Search.{ComeSettled, IsFirstFree}

@@ -16,8 +16,8 @@ use Rattle.next_file.specs.declared.limits.Passed.{Passed}
 use Rattle.next_file.specs.declared.limits.Progress.{Progress}
 use Rattle.next_file.specs.Files.{text_of}
 use Rattle.next_file.specs.Limits.{told}
-use Rattle.package_search.specs.declared.file_steps.step.FileStep.{FileStep}
-use Rattle.package_search.specs.declared.looks.ProgramSources.{ProgramSources}
+use Rattle.stepped_programs.specs.declared.package_search.file_steps.step.FileStep.{FileStep}
+use Rattle.stepped_programs.specs.declared.package_search.looks.ProgramSources.{ProgramSources}
 use Rattle.programs.specs.declared.state.Program.{Program}
 use Rattle.programs.specs.Kept.{text_with}
 use Rattle.run_by_steps.specs.NextPrograms.Made.{NextWith}
@@ -27,7 +27,7 @@ use Rattle.stepped_programs.specs.SearchedSites.FoundSteps.Laws.{step_of}
 use Rattle.stepped_programs.specs.SearchedSites.FoundSteps.Uses.{HasFile, IsRightUse}
 use Rattle.stepped_programs.specs.SearchedSites.OrderedSearches.Found.{IsFoundFirst}
 use Rattle.stepped_programs.specs.SteppedValues.Flags.{IsKeptProgram}
-use Rattle.use_search.specs.declared.views.FileView.{FileView}
+use Rattle.repeated_parts.specs.declared.use_search.views.FileView.{FileView}
 use Rattle.stepped_programs.specs.declared.first_uses.first.FirstUse.{FirstUse}
 use Rattle.stepped_programs.specs.FirstUses.Step.{HasFileOf, IsViewOf, MayStep, IsUseStep, IsUseFault}
 

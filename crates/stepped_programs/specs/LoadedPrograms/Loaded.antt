@@ -24,7 +24,7 @@ use Rattle.programs.specs.PartOrigins.Spans.{packages_spans}
 use Rattle.programs.specs.PartOrigins.Views.{packages_origins}
 use Rattle.programs.specs.Programs.{IsProgramOf, NoneAreSettled}
 use Rattle.programs.specs.declared.state.Program.{Program}
-use Rattle.package_search.specs.SearchedPrograms.Programs.{IsOpenProgram}
+use Rattle.stepped_programs.specs.PackageSearch.SearchedPrograms.Programs.{IsOpenProgram}
 use Rattle.read_modules.specs.Modules.{packages_in, texts_in}
 use Rattle.stepped_programs.specs.declared.loaded_programs.load.Tables.{Tables}
 

@@ -7,7 +7,7 @@ use Rattle.std.specs.List.{list_all}
 use Rattle.go_tree.specs.declared.spans.Span.{Span}
 use Rattle.go_tree.specs.FileView.{file_of}
 use Rattle.go_tree.specs.GoWords.Tokens.Characters.{each}
-use Rattle.splice_laws.specs.ImportSplices.AddedFile.{is_byte}
+use Rattle.run_rules.specs.SpliceLaws.ImportSplices.AddedFile.{is_byte}
 use Rattle.pkg_graph.specs.Package.{Package}
 use Rattle.pkg_graph.specs.Reads.{Source}
 use Rattle.go_translation.specs.SameMeaning.{WellTyped}
@@ -17,8 +17,8 @@ use Rattle.module_reading.specs.declared.reading.ReadModule.{ReadModule}
 use Rattle.next_file.specs.declared.limits.Progress.{Progress}
 use Rattle.next_file.specs.Files.{text_of}
 use Rattle.order_runs.specs.RunSteps.RunPackages.{packages_of}
-use Rattle.package_search.specs.declared.file_steps.step.FileStep.{FileStep}
-use Rattle.package_search.specs.declared.looks.ProgramSources.{ProgramSources}
+use Rattle.stepped_programs.specs.declared.package_search.file_steps.step.FileStep.{FileStep}
+use Rattle.stepped_programs.specs.declared.package_search.looks.ProgramSources.{ProgramSources}
 use Rattle.printed_constants.specs.Printed.{ArePrinted}
 use Rattle.programs.specs.declared.state.Program.{Program}
 use Rattle.read_modules.specs.Modules.{packages_in, texts_in}
@@ -30,8 +30,8 @@ use Rattle.run_rules.specs.Report.{report_of}
 use Rattle.run_rules.specs.Run.{Standing, Logged, module_file_size, texts_size, the_limits, uses_kept}
 use Rattle.run_rules.specs.Sites.{part_span}
 use Rattle.run_rules.specs.Texts.{FileText}
-use Rattle.step_counts.specs.declared.counts.StepCounts.{StepCounts}
-use Rattle.step_counts.specs.Laws.{OneMore}
+use Rattle.run_by_steps.specs.declared.step_counts.counts.StepCounts.{StepCounts}
+use Rattle.run_by_steps.specs.StepCounts.Laws.{OneMore}
 use Rattle.stepped_programs.specs.FirstUses.First.{IsFirstUse}
 use Rattle.stepped_programs.specs.FirstUses.Step.{IsUseStep}
 use Rattle.stepped_programs.specs.FirstUses.StepLaws.{text_there, IsRightFirst, ComesTo}

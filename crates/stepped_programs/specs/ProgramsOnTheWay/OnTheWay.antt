@@ -5,15 +5,15 @@ use Rattle.go_tree.specs.declared.spans.Span.{Span}
 use Rattle.pkg_graph.specs.Package.{Package}
 use Rattle.pkg_graph.specs.Reads.{Source}
 use Rattle.next_file.specs.declared.limits.Progress.{Progress}
-use Rattle.package_search.specs.declared.looks.ProgramSources.{ProgramSources}
+use Rattle.stepped_programs.specs.declared.package_search.looks.ProgramSources.{ProgramSources}
 use Rattle.programs.specs.declared.state.Program.{Program}
 use Rattle.run_by_steps.specs.Reached.{HasReached}
 use Rattle.run_rules.specs.Marks.{marks_of}
 use Rattle.run_rules.specs.Run.{Standing, Logged}
 use Rattle.run_rules.specs.Texts.{FileText}
-use Rattle.step_counts.specs.declared.counts.StepCounts.{StepCounts}
-use Rattle.step_counts.specs.Laws.{AreCounted}
-use Rattle.step_counts.specs.Origins.{steps_from}
+use Rattle.run_by_steps.specs.declared.step_counts.counts.StepCounts.{StepCounts}
+use Rattle.run_by_steps.specs.StepCounts.Laws.{AreCounted}
+use Rattle.run_by_steps.specs.StepCounts.Origins.{steps_from}
 use Rattle.printed_constants.specs.PrintedSteps.Programs.{IsPrintedProgram}
 use Rattle.stepped_programs.specs.FirstUses.Step.{HasFileOf}
 use Rattle.stepped_programs.specs.Laws.{flags_of, users_of}

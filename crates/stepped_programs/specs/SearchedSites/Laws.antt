@@ -5,11 +5,11 @@ use Rattle.run_rules.specs.Sites.{MarkRef, Where, Site, sites}
 use Rattle.run_rules.specs.Respanned.{packages_with}
 use Rattle.run_rules.specs.Steps.{At}
 use Rattle.run_rules.specs.Run.{Standing, here_of, step_in, kept_among}
-use Rattle.use_search.specs.declared.search.FoundForm.{FoundForm}
-use Rattle.use_search.specs.declared.search.FoundObstacle.{FoundObstacle}
-use Rattle.use_search.specs.declared.views.FileView.{FileView}
-use Rattle.use_search.specs.declared.views.ProgramView.{ProgramView}
-use Rattle.use_search.specs.Search.{IsFileSearch}
+use Rattle.repeated_parts.specs.declared.use_search.search.FoundForm.{FoundForm}
+use Rattle.repeated_parts.specs.declared.use_search.search.FoundObstacle.{FoundObstacle}
+use Rattle.repeated_parts.specs.declared.use_search.views.FileView.{FileView}
+use Rattle.repeated_parts.specs.declared.use_search.views.ProgramView.{ProgramView}
+use Rattle.repeated_parts.specs.UseSearch.Search.{IsFileSearch}
 use Rattle.stepped_programs.specs.SearchedSites.Told.{IsProgram, IsFile}
 use Rattle.stepped_programs.specs.SearchedSites.Searched.{found_of, IsFree, AreSearched, kept_told, sites_in_file}
 use Rattle.stepped_programs.specs.SearchedSites.Searched.{sites_in_files, FilesSearched, files_in_order}

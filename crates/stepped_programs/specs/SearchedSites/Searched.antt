@@ -12,11 +12,11 @@ use Rattle.run_rules.specs.Steps.{At, same_here, Found}
 use Rattle.run_rules.specs.Run.{Standing, KeptUse, Kept, here_of, is_commented}
 use Rattle.constant_forms.specs.declared.reduced.ReducedConstant.TheVariants.{Becomes}
 use Rattle.constant_forms.specs.Views.{named_of, form_of, obstacle_of, reduced_of}
-use Rattle.use_search.specs.declared.uses_of_marks.uses.MarkedUse.{MarkedUse}
-use Rattle.use_search.specs.UsesOfMarks.Views.{placed_of}
-use Rattle.use_search.specs.UsesOfMarks.Laws.{placed_site}
-use Rattle.use_search.specs.declared.search.FoundForm.{FoundForm}
-use Rattle.use_search.specs.declared.search.FoundObstacle.{FoundObstacle}
+use Rattle.repeated_parts.specs.declared.use_search.uses_of_marks.uses.MarkedUse.{MarkedUse}
+use Rattle.repeated_parts.specs.UseSearch.UsesOfMarks.Views.{placed_of}
+use Rattle.repeated_parts.specs.UseSearch.UsesOfMarks.Laws.{placed_site}
+use Rattle.repeated_parts.specs.declared.use_search.search.FoundForm.{FoundForm}
+use Rattle.repeated_parts.specs.declared.use_search.search.FoundObstacle.{FoundObstacle}
 
 -- the use stands where the site does, with its mark and its flag
 abbrev pub StandsFor : Site At → MarkedUse → Type 0

@@ -4,7 +4,7 @@ use Rattle.std.specs.Prelude.{◌≡◌, ℕ, ◌<◌, ◌^◌, true, List, [], 
 use Rattle.go_tree.specs.Tree.{NameAt, Expr}
 use Rattle.go_tree.specs.FileView.{file_of}
 use Rattle.scope_tables.specs.Table.{IsTableOf, table_of}
-use Rattle.import_rules.specs.Needs.{avoided}
+use Rattle.run_rules.specs.ImportRules.Needs.{avoided}
 use Rattle.pkg_graph.specs.Package.{Package, import_specs}
 use Rattle.pkg_graph.specs.Views.{package_view}
 use Rattle.run_rules.specs.Programs.{package_number}
@@ -20,14 +20,14 @@ use Rattle.constant_steps.specs.FormImports.ImportLaws.Steps.{names_standing}
 use Rattle.member_uses.specs.Laws.{AllConstants}
 use Rattle.constant_forms.specs.declared.uses.ConstantValue.{ConstantValue}
 use Rattle.constant_forms.specs.Uses.{IsValue}
-use Rattle.use_search.specs.declared.mark_values.values.DeclaredValue.{DeclaredValue}
-use Rattle.use_search.specs.declared.mark_values.values.DeclaredValue.TheVariants.{Plain, Qualified}
-use Rattle.use_search.specs.MarkValues.Values.{value_of}
-use Rattle.use_search.specs.MarkValues.Tables.{value_in}
-use Rattle.use_search.specs.UsesOfMarks.Laws.{EachSound}
-use Rattle.use_search.specs.declared.views.FileView.{FileView}
-use Rattle.use_search.specs.declared.views.ProgramView.{ProgramView}
-use Rattle.use_search.specs.Answers.{names_of}
+use Rattle.repeated_parts.specs.declared.use_search.mark_values.values.DeclaredValue.{DeclaredValue}
+use Rattle.repeated_parts.specs.declared.use_search.mark_values.values.DeclaredValue.TheVariants.{Plain, Qualified}
+use Rattle.repeated_parts.specs.UseSearch.MarkValues.Values.{value_of}
+use Rattle.repeated_parts.specs.UseSearch.MarkValues.Tables.{value_in}
+use Rattle.repeated_parts.specs.UseSearch.UsesOfMarks.Laws.{EachSound}
+use Rattle.repeated_parts.specs.declared.use_search.views.FileView.{FileView}
+use Rattle.repeated_parts.specs.declared.use_search.views.ProgramView.{ProgramView}
+use Rattle.repeated_parts.specs.UseSearch.Answers.{names_of}
 
 -- a package that it names is one of so many
 abbrev pub IsWithin : ℕ → DeclaredValue → Type 0

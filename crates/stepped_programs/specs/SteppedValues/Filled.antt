@@ -9,7 +9,7 @@ use Rattle.run_rules.specs.Run.{Standing, Logged, Next, here_of}
 use Rattle.run_rules.specs.Sites.{MarkRef}
 use Rattle.run_rules.specs.Steps.{At, Found}
 use Rattle.member_uses.specs.Laws.{AllConstants}
-use Rattle.use_search.specs.MarkValues.Tables.{DeclKey, Known, values_at}
+use Rattle.repeated_parts.specs.UseSearch.MarkValues.Tables.{DeclKey, Known, values_at}
 use Rattle.programs.specs.FileValues.Filled.{HasFileValues}
 use Rattle.programs.specs.Programs.{TellsValues}
 use Rattle.stepped_programs.specs.SearchedSites.SettledFiles.Left.{AreSameBut}

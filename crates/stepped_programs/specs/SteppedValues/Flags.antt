@@ -7,11 +7,11 @@ use Rattle.pkg_graph.specs.Reads.{Source}
 use Rattle.run_rules.specs.Run.{Standing, Logged, Next}
 use Rattle.run_rules.specs.Sites.{MarkRef, Where}
 use Rattle.run_rules.specs.Steps.{At}
-use Rattle.use_search.specs.MarkValues.Tables.{DeclKey, same_key, values_at}
-use Rattle.typed_parts.specs.MarkedRuns.KeptMarks.Over.{IsOverName}
-use Rattle.typed_parts.specs.MarkedRuns.NamedMarks.Named.{AllNamed}
-use Rattle.typed_parts.specs.MarkedRuns.SettledConstants.Programs.{IsReady}
-use Rattle.package_search.specs.declared.looks.ProgramSources.{ProgramSources}
+use Rattle.repeated_parts.specs.UseSearch.MarkValues.Tables.{DeclKey, same_key, values_at}
+use Rattle.printed_constants.specs.TypedParts.MarkedRuns.KeptMarks.Over.{IsOverName}
+use Rattle.printed_constants.specs.TypedParts.MarkedRuns.NamedMarks.Named.{AllNamed}
+use Rattle.printed_constants.specs.TypedParts.MarkedRuns.SettledConstants.Programs.{IsReady}
+use Rattle.stepped_programs.specs.declared.package_search.looks.ProgramSources.{ProgramSources}
 use Rattle.programs.specs.declared.state.Program.{Program}
 use Rattle.programs.specs.Programs.{IsProgramOf}
 use Rattle.stepped_programs.specs.SearchedSites.OrderedSearches.Held.{IsThere, IsSearchable, Users, flag_of}

@@ -5,10 +5,10 @@ use Rattle.go_translation.specs.SameMeaning.{WellTyped}
 use Rattle.order_runs.specs.RunSteps.RunPackages.{packages_of}
 use Rattle.run_rules.specs.Run.{Standing, Logged, Next}
 use Rattle.run_rules.specs.Sites.{MarkRef}
-use Rattle.use_search.specs.MarkValues.Tables.{DeclKey, Known, same_key, values_at}
-use Rattle.typed_parts.specs.MarkedRuns.KeptMarks.Over.{IsOverName}
-use Rattle.typed_parts.specs.MarkedRuns.NamedMarks.Named.{AllNamed}
-use Rattle.typed_parts.specs.MarkedRuns.SettledConstants.Programs.{IsReady}
+use Rattle.repeated_parts.specs.UseSearch.MarkValues.Tables.{DeclKey, Known, same_key, values_at}
+use Rattle.printed_constants.specs.TypedParts.MarkedRuns.KeptMarks.Over.{IsOverName}
+use Rattle.printed_constants.specs.TypedParts.MarkedRuns.NamedMarks.Named.{AllNamed}
+use Rattle.printed_constants.specs.TypedParts.MarkedRuns.SettledConstants.Programs.{IsReady}
 use Rattle.programs.specs.Programs.{TellsValues}
 use Rattle.stepped_programs.specs.SearchedSites.SettledFiles.Left.{TellOthersTheSame}
 use Rattle.stepped_programs.specs.SteppedValues.OfSteps.{is_of_step, decl_of_step}

@@ -1,7 +1,7 @@
 -- Declarations in the file of a step (Go specification, Constant declarations; Source file organization).
 use Rattle.std.specs.Prelude.{Bool, ◌&&◌, nat_eq}
 use Rattle.run_rules.specs.Steps.{At, Found}
-use Rattle.use_search.specs.MarkValues.Tables.{DeclKey}
+use Rattle.repeated_parts.specs.UseSearch.MarkValues.Tables.{DeclKey}
 
 -- the declaration is one of the file of the step
 abbrev pub is_of_step : Found At → DeclKey → Bool

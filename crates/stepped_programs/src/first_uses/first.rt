@@ -3,8 +3,8 @@
 ghost use Rattle.std.specs.Prelude.{◌<◌, All, IfOk, length};
 ghost use Rattle.stepped_programs.specs.FirstUses.First.{IsFirstUse, IsOpenInOrder};
 
+use crate::package_search::{FoundInPackage, search_program};
 use go_tree::NoMemory;
-use package_search::{FoundInPackage, search_program};
 use programs::Program;
 use std::alloc::Global;
 

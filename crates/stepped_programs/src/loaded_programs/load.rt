@@ -18,8 +18,8 @@ use module_marks::{MarkTable, ModuleMarks};
 use module_reading::ReadModule;
 use pkg_graph::Package;
 use programs::{PackageOrigins, Program, Users, package_texts, program_origins, program_values};
+use repeated_parts::use_search::mark_values::ConstantValues;
 use std::alloc::Global;
-use use_search::mark_values::ConstantValues;
 
 /// What is made of the packages of a program, with these marks.
 #[derive(Drop)]

@@ -11,7 +11,7 @@ use printed_constants::{
     printed_dots_are_qualified, printed_steps_avoid_few_names, printed_steps_keep,
 };
 use run_by_steps::progress_follows_steps;
-use step_counts::{counts_come, steps_are_counted};
+use run_by_steps::step_counts::{counts_come, steps_are_counted};
 
 /// The program that is loaded of a module of constants and of functions that print them, which is well typed and within
 /// the limits, and whose marks are of constants, stands at the beginning of a run: no step is counted, and no file is

@@ -3,7 +3,7 @@
 ghost use Rattle.stepped_programs.specs.SearchedSites.Laws.{FilesHaveSteps, KeptSitesAreTold, SearchesFindSites};
 ghost use Rattle.stepped_programs.specs.SearchedSites.Laws.{SitesAreByFile};
 
-use use_search::{marked_uses_are_sites, uses_are_placed};
+use repeated_parts::use_search::{marked_uses_are_sites, uses_are_placed};
 
 /// In a program as it stands whose marks are all of constants, what a search over a file answers are its sites: those that
 /// are kept, each with its obstacle, up to the first that is free, with its form (Go specification, Constant

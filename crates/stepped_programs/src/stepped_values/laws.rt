@@ -3,8 +3,8 @@
 ghost use Rattle.stepped_programs.specs.SteppedValues.Laws.{MarkedValuesStay};
 
 use printed_constants::constants_name_members;
-use typed_parts::marked_runs::{constants_settle, marks_stay_named};
-use typed_parts::well_typed_files_are_scoped;
+use printed_constants::typed_parts::marked_runs::{constants_settle, marks_stay_named};
+use printed_constants::typed_parts::well_typed_files_are_scoped;
 
 /// In well-typed programs a table that tells what marked constants are declared as tells the same, before a step and
 /// after it, of each but those in the declaration of the use: a name alone is that of no import there, and the name of

@@ -7,7 +7,7 @@ use Rattle.run_rules.specs.Surroundings.{Use, other, Place, Seen, seen, seen_typ
 use Rattle.run_rules.specs.Sites.{MarkRef, is_among_marks, Where, Part, an_expr, a_type_part, Site, is_function, not_function, where_is, inlinable, parts_of, named_in, name_mark, qualified_mark, expr_mark, type_mark, site_by, type_sites, sites_among}
 use Rattle.run_rules.specs.Cycles.{without_marks, function_marks, leads_to, all_lead_to, reached, is_recursive}
 use Rattle.run_rules.specs.Steps.{At}
-use Rattle.typed_parts.proofs.MarkedRuns.NamedMarks.Used.{of-kind, of-expr}
+use Rattle.printed_constants.proofs.TypedParts.MarkedRuns.NamedMarks.Used.{of-kind, of-expr}
 use Rattle.taken_aliases.specs.MixedRuns.Marked.{NoFunctions}
 
 module _ (ps : List (Package At)) (marks : List MarkRef) (all : NoFunctions ps marks) where

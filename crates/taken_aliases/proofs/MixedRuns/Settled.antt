@@ -9,9 +9,9 @@ use Rattle.put_names.proofs.WrittenNames.StepNames.{step_names, step_imports}
 use Rattle.order_runs.proofs.CycleRuns.Runs.{linked-names}
 use Rattle.taken_aliases.proofs.PutTexts.Packages.{texts-name, texts-add-led}
 use Rattle.taken_aliases.proofs.PutTexts.Steps.{aliases-settle}
-use Rattle.typed_parts.specs.MarkedRuns.SettledConstants.Programs.{IsReady}
-use Rattle.typed_parts.proofs.MarkedRuns.SettledConstants.Ready.{uses_undotted, linked_writable}
-use Rattle.typed_parts.specs.MarkedRuns.SettledConstants.Laws.{UsesAreScoped}
+use Rattle.printed_constants.specs.TypedParts.MarkedRuns.SettledConstants.Programs.{IsReady}
+use Rattle.printed_constants.proofs.TypedParts.MarkedRuns.SettledConstants.Ready.{uses_undotted, linked_writable}
+use Rattle.printed_constants.specs.TypedParts.MarkedRuns.SettledConstants.Laws.{UsesAreScoped}
 use Rattle.taken_aliases.specs.MixedRuns.Marked.{LaysOut, at_a_type, at_an_expression, at_a_node, IsOverAlias}
 use Rattle.taken_aliases.proofs.PutCalls.Steps.{called-aliases-settle}
 

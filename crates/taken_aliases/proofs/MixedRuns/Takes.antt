@@ -7,8 +7,8 @@ use Rattle.go_translation.specs.Packages.{are_well_typed}
 use Rattle.run_rules.specs.Run.{Standing, Logged, Next, here_of, is_commented}
 use Rattle.run_rules.specs.Sites.{MarkRef, Where}
 use Rattle.run_rules.specs.Steps.{At, same_here, change_nth}
-use Rattle.splice_laws.specs.RunLaws.Reading.{ProgramReads}
-use Rattle.splice_laws.proofs.RunLaws.FoundSpans.{Placed}
+use Rattle.run_rules.specs.SpliceLaws.RunLaws.Reading.{ProgramReads}
+use Rattle.run_rules.proofs.SpliceLaws.RunLaws.FoundSpans.{Placed}
 use Rattle.order_runs.specs.RunSteps.RunPackages.{members_of}
 use Rattle.order_runs.proofs.CycleLaws.StepsLead.{change-at}
 use Rattle.constant_steps.proofs.MarksFound.{StandsThere, stands_there}
@@ -18,13 +18,13 @@ use Rattle.order_runs.specs.ImportSteps.ImportingSteps.{MayBeDeclared}
 use Rattle.order_runs.specs.CycleRuns.OrderCycles.Steps.{KeepsImportNames}
 use Rattle.order_runs.proofs.CycleRuns.Runs.{look-ups-of}
 use Rattle.order_runs.specs.CycleRuns.OrderCycles.NewNames.{NamesByPath, FewNames}
-use Rattle.typed_parts.specs.MarkedRuns.SoundImports.Laws.{AddedImportsMayBeDeclared}
+use Rattle.printed_constants.specs.TypedParts.MarkedRuns.SoundImports.Laws.{AddedImportsMayBeDeclared}
 use Rattle.alias_runs.specs.QualifiedAliases.AliasUse.{AliasUseStands, ImportsHold}
 use Rattle.alias_runs.specs.CalledAliases.CalledUse.{IsPlaced, as_written, as_called}
-use Rattle.typed_parts.specs.MarkedRuns.TakenNames.Taken.{site_there, TakesName}
+use Rattle.printed_constants.specs.TypedParts.MarkedRuns.TakenNames.Taken.{site_there, TakesName}
 use Rattle.taken_aliases.specs.Taken.{in_its_place, TakesAlias}
-use Rattle.typed_parts.specs.MarkedRuns.Marked.{StandsAdded}
-use Rattle.typed_parts.proofs.MarkedRuns.Alone.{alone-there}
+use Rattle.printed_constants.specs.TypedParts.MarkedRuns.Marked.{StandsAdded}
+use Rattle.printed_constants.proofs.TypedParts.MarkedRuns.Alone.{alone-there}
 use Rattle.taken_aliases.specs.MixedRuns.Marked.{PlacedThere, written_there, called_there, AliasStandsAdded}
 
 module _ (sound : AddedImportsMayBeDeclared) (marks : List MarkRef) (st : Standing) (l : Logged) (after : Standing) (n : Next marks st l after) (reads : ProgramReads st) (names : KeepsImportNames n) (by_path : NamesByPath st.packages) (typed : are_well_typed (members_of st.packages) ≡ true) (few : FewNames st.packages n.found) where

@@ -6,14 +6,14 @@ use Rattle.go_tree.specs.Tree.{NameAt, TypeExpr, named, pointer, slice_type, map
 use Rattle.go_tree.specs.Bare.{bare_type, bare_fields}
 use Rattle.go_tree.specs.File.{TypeSpec, Decl, values, types, func}
 use Rattle.go_tree.specs.ScopeNames.Identifiers.{type_identifiers, fields_identifiers}
-use Rattle.layout_laws.specs.Formed.{FormedType, FormedFields, FormedLiteralType}
+use Rattle.go_layout.specs.LayoutLaws.Formed.{FormedType, FormedFields, FormedLiteralType}
 use Rattle.constant_steps.specs.FormImports.Written.{NoneUnnamed}
 use Rattle.go_tree.specs.GoTypes.Answers.{given}
 use Rattle.run_rules.specs.Respanned.{type_with, fields_with, decl_with, type_spec_with}
 use Rattle.run_rules.specs.Run.{Standing, here_of}
 use Rattle.run_rules.specs.Sites.{MarkRef, Where, Inlinable, an_alias, aliased, constant_in_spec, nth_constant, less, inlinable_in, where_is, inlinable}
 use Rattle.run_rules.specs.Steps.{At}
-use Rattle.splice_laws.specs.RunLaws.Reading.{FileReads, ProgramReads}
+use Rattle.run_rules.specs.SpliceLaws.RunLaws.Reading.{FileReads, ProgramReads}
 use Rattle.put_nodes.specs.Swapped.{FormedTypeSpecs, FormedDecl}
 use Rattle.put_nodes.proofs.ReadFiles.{decl_formed}
 use Rattle.put_names.proofs.Forms.{stands}

@@ -27,9 +27,9 @@ use Rattle.put_names.specs.PutTypes.Uses.{UsesTypeName}
 use Rattle.put_names.specs.Uses.{IsUsedByName}
 use Rattle.taken_aliases.specs.PutTexts.Uses.{UsesAliasText, FitsLiteral}
 use Rattle.taken_aliases.specs.PutCalls.Uses.{MayBeLaid}
-use Rattle.typed_parts.specs.MarkedRuns.SettledConstants.Programs.{IsOverConstant}
-use Rattle.typed_parts.specs.MarkedRuns.TakenNames.Taken.{site_there}
-use Rattle.typed_parts.specs.MarkedRuns.Marked.{decl_there, StandsAdded}
+use Rattle.printed_constants.specs.TypedParts.MarkedRuns.SettledConstants.Programs.{IsOverConstant}
+use Rattle.printed_constants.specs.TypedParts.MarkedRuns.TakenNames.Taken.{site_there}
+use Rattle.printed_constants.specs.TypedParts.MarkedRuns.Marked.{decl_there, StandsAdded}
 
 -- no mark is of a function
 abbrev pub NoFunctions : List (Package At) → List MarkRef → Type 0

@@ -2,7 +2,7 @@
 -- specification, Alias declarations; Conversions; Calls; Types).
 use Rattle.std.specs.Prelude.{◌≡◌, Bool, true, false, List}
 use Rattle.go_tree.specs.Tree.{TypeExpr, named, pointer}
-use Rattle.layout_laws.specs.Formed.{FormedType}
+use Rattle.go_layout.specs.LayoutLaws.Formed.{FormedType}
 use Rattle.run_rules.specs.FormTrees.{as_expr, type_expr}
 use Rattle.run_rules.specs.Run.{Standing, Logged, Next}
 use Rattle.run_rules.specs.Sites.{MarkRef, part_span}

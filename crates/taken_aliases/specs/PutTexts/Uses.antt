@@ -2,7 +2,7 @@
 -- declarations; Types; Composite literals).
 use Rattle.std.specs.Prelude.{◌≡◌, true, List, Some}
 use Rattle.go_tree.specs.Tree.{NameAt, TypeExpr}
-use Rattle.layout_laws.specs.Formed.{FormedType, FormedLiteralType}
+use Rattle.go_layout.specs.LayoutLaws.Formed.{FormedType, FormedLiteralType}
 use Rattle.run_rules.specs.FormTrees.{as_type}
 use Rattle.run_rules.specs.Run.{Standing, Logged, Next}
 use Rattle.run_rules.specs.Sites.{MarkRef, Where, an_alias, part_span, where_is, inlinable}

@@ -4,7 +4,7 @@ ghost use Rattle.taken_aliases.specs.MixedRuns.Laws.{AliasesSettle, MarksOfNoFun
 ghost use Rattle.taken_aliases.specs.MixedRuns.Laws.{StepsKeepNoFunctions};
 
 use crate::{aliases_are_taken, steps_stay_ready};
-use typed_parts::marked_runs::{
+use printed_constants::typed_parts::marked_runs::{
     added_imports_may_be_declared, constants_settle, programs_are_ready, read_modules_are_ready,
 };
 

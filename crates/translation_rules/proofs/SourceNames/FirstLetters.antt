@@ -6,7 +6,7 @@ use Rattle.std.proofs.lemmas.Str.{encodes-chars}
 use Rattle.go_tree.specs.GoWords.Tokens.Characters.{is_letter, is_word, each}
 use Rattle.go_tree.specs.GoWords.Tokens.Pieces.{is_identifier}
 use Rattle.go_scan.proofs.LetterLemmas.{letter_ascii}
-use Rattle.layout_laws.specs.Formed.{IsName}
+use Rattle.go_layout.specs.LayoutLaws.Formed.{IsName}
 use Rattle.go_translation.specs.Spelled.{is_spelled}
 
 both : (a b : Bool) → a && b ≡ true → (a ≡ true) × (b ≡ true)

@@ -1,7 +1,7 @@
 -- Names that no source spells: those of temporaries and of result slots, so none of them is an identifier.
 use Rattle.std.specs.Prelude.{◌≡◌, refl, true, false, codes}
 use Rattle.std.proofs.Common.{arith}
-use Rattle.layout_laws.specs.Formed.{IsName}
+use Rattle.go_layout.specs.LayoutLaws.Formed.{IsName}
 use Rattle.go_kernel.specs.Kernel.{temporary, named_result, result_name}
 use Rattle.go_translation.specs.Spelled.{is_spelled}
 use Rattle.translation_rules.proofs.SourceNames.FirstLetters.{name_spelled}

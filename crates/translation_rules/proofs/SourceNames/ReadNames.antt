@@ -14,11 +14,11 @@ use Rattle.go_tree.specs.ScopeNames.Means.{Environment}
 use Rattle.go_tree.specs.GoTypes.Entities.{Entity}
 use Rattle.go_tree.specs.GoTypes.Statements.{no_values}
 use Rattle.go_tree.specs.GoTypes.Programs.{SourceFile, Header, constants, a_type_spec, Headed, at_member, constant_headers, variable_headers, headers, all_headers, header_names, names_in, file_block, block_names, is_main, headed_file, headed_files, headed_package, headed}
-use Rattle.layout_laws.specs.Real.{AreReal}
-use Rattle.layout_laws.specs.Formed.{FormedSpecs}
-use Rattle.layout_laws.proofs.RealTokens.{tokens_real}
-use Rattle.layout_laws.proofs.FormedTypes.{sig_formed}
-use Rattle.layout_laws.proofs.FormedTrees.{stmt_formed}
+use Rattle.go_layout.specs.LayoutLaws.Real.{AreReal}
+use Rattle.go_layout.specs.LayoutLaws.Formed.{FormedSpecs}
+use Rattle.go_layout.proofs.LayoutLaws.RealTokens.{tokens_real}
+use Rattle.go_layout.proofs.LayoutLaws.FormedTypes.{sig_formed}
+use Rattle.go_layout.proofs.LayoutLaws.FormedTrees.{stmt_formed}
 use Rattle.go_translation.specs.Packages.{Package, sources, codes_of}
 use Rattle.go_translation.specs.Spelled.{SpelledReceiver, SpelledHeader, SpelledHeaders, AreSpelled}
 use Rattle.go_translation.specs.Frames.{frames_are_kept}

@@ -1,7 +1,7 @@
 -- The laws of names in files that read from texts. Each is the contract of a function of this crate.
 use Rattle.std.specs.Prelude.{◌≡◌, ℕ, true, List}
 use Rattle.go_tree.specs.declared.spans.Span.{Span}
-use Rattle.layout_laws.specs.Formed.{IsName}
+use Rattle.go_layout.specs.LayoutLaws.Formed.{IsName}
 use Rattle.go_translation.specs.Packages.{Package, codes_of}
 use Rattle.go_translation.specs.Spelled.{is_spelled, AreSpelled}
 use Rattle.go_translation.specs.Frames.{frames_are_kept}

@@ -6,8 +6,8 @@ use Rattle.go_tree.specs.declared.const_eval.consts.Const.{Const}
 use Rattle.go_tree.specs.GoTypes.Answers.{both, given, only_if}
 use Rattle.go_tree.specs.GoTypes.Types.{GoType, GoFields, no_go_fields, go_field, field_names, struct_of}
 use Rattle.type_table.specs.declared.nodes.TypeId.{TypeId}
-use Rattle.operand_rules.specs.declared.values.Refusal.{Refusal}
-use Rattle.operand_rules.specs.declared.values.Refusal.TheVariants.{NotTyped, NoMemory}
+use Rattle.type_table.specs.declared.operand_rules.values.Refusal.{Refusal}
+use Rattle.type_table.specs.declared.operand_rules.values.Refusal.TheVariants.{NotTyped, NoMemory}
 use Rattle.typed_names.specs.TypeExprs.Answers.{GivesFields, GivesType}
 use Rattle.go_tree.specs.GoTypes.TypeNames.{field_package, resolved}
 use Rattle.go_tree.specs.GoTypes.Table.{NodeField}

@@ -4,14 +4,14 @@ use Rattle.go_tree.specs.GoTypes.Answers.{given, only_if}
 use Rattle.go_tree.specs.GoTypes.Types.{GoType}
 use Rattle.go_tree.specs.GoTypes.Defined.{comparable, has_keys}
 use Rattle.type_table.specs.TypeRelations.Environment.{Environment, env_type, defined_types}
-use Rattle.comparable_types.specs.declared.grown.TypeFlags.{TypeFlags}
-use Rattle.comparable_types.specs.Comparable.{AreComparable}
-use Rattle.comparable_types.specs.Flags.{flag_at}
-use Rattle.comparable_types.specs.Keys.{AreKeyed}
-use Rattle.comparable_types.specs.Grown.{AreFlags, AreFlagsSoFar, DefinedBelow}
+use Rattle.type_table.specs.declared.comparable_types.grown.TypeFlags.{TypeFlags}
+use Rattle.type_table.specs.ComparableTypes.Comparable.{AreComparable}
+use Rattle.type_table.specs.ComparableTypes.Flags.{flag_at}
+use Rattle.type_table.specs.ComparableTypes.Keys.{AreKeyed}
+use Rattle.type_table.specs.ComparableTypes.Grown.{AreFlags, AreFlagsSoFar, DefinedBelow}
 use Rattle.type_table.specs.declared.nodes.TypeId.{TypeId}
-use Rattle.operand_rules.specs.declared.values.Refusal.{Refusal}
-use Rattle.operand_rules.specs.declared.values.Refusal.TheVariants.{NotTyped}
+use Rattle.type_table.specs.declared.operand_rules.values.Refusal.{Refusal}
+use Rattle.type_table.specs.declared.operand_rules.values.Refusal.TheVariants.{NotTyped}
 use Rattle.typed_names.specs.TypeExprs.Answers.{GivesType}
 use Rattle.typed_names.specs.TypeExprs.Grown.{TypesGrown}
 

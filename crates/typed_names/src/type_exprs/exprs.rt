@@ -16,8 +16,8 @@ use crate::type_exprs::forms::{map_type, pointer_type, slice_type};
 use crate::type_exprs::named::named_type;
 use crate::{Blocks, Scope};
 use go_tree::{FieldSpecList, TypeExpr};
-use operand_rules::Refusal;
 use std::alloc::Global;
+use type_table::operand_rules::Refusal;
 use type_table::type_relations::Env;
 use type_table::{FieldList, TypeId};
 

@@ -17,8 +17,8 @@ use crate::type_exprs::rows::interned;
 use crate::{Block, Entity};
 use exported_names::is_exported;
 use go_tree::{Name, NoMemory};
-use operand_rules::Refusal;
 use std::alloc::Global;
+use type_table::operand_rules::Refusal;
 use type_table::type_relations::Env;
 use type_table::{Field, FieldList, TypeId, TypeNode};
 

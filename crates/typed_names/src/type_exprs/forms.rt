@@ -10,7 +10,7 @@ ghost use Rattle.typed_names.specs.TypeExprs.Answers.{GivesType};
 ghost use Rattle.typed_names.specs.TypeExprs.Grown.{TypesGrown};
 
 use crate::type_exprs::rows::interned;
-use operand_rules::Refusal;
+use type_table::operand_rules::Refusal;
 use type_table::type_relations::Env;
 use type_table::{TypeId, TypeNode};
 

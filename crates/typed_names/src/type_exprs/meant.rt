@@ -8,9 +8,9 @@ ghost use Rattle.go_tree.specs.GoTypes.Defined.{has_keys};
 ghost use Rattle.go_tree.specs.GoTypes.TypeNames as go;
 ghost use Rattle.go_tree.specs.GoTypes.Types.{GoType};
 ghost use Rattle.type_table.specs.TypeRelations.Environment.{defined_types};
-ghost use Rattle.operand_rules.specs.declared.values.Refusal.TheVariants.{NotTyped};
-ghost use Rattle.comparable_types.specs.Flags.{flag_at};
-ghost use Rattle.comparable_types.specs.Grown.{AreFlagsSoFar, DefinedBelow};
+ghost use Rattle.type_table.specs.declared.operand_rules.values.Refusal.TheVariants.{NotTyped};
+ghost use Rattle.type_table.specs.ComparableTypes.Flags.{flag_at};
+ghost use Rattle.type_table.specs.ComparableTypes.Grown.{AreFlagsSoFar, DefinedBelow};
 ghost use Rattle.typed_names.specs.Known.{KnowsTypes};
 ghost use Rattle.typed_names.specs.Scopes.{env_at};
 ghost use Rattle.type_table.specs.ValueTypes.ValueTypes.{HasValueTypes};
@@ -19,11 +19,11 @@ ghost use Rattle.typed_names.specs.TypeExprs.Grown.{TypesGrown};
 
 use crate::type_exprs::exprs::resolved;
 use crate::{Blocks, Scope};
-use comparable_types::TypeFlags;
 use go_tree::TypeExpr;
-use operand_rules::Refusal;
 use std::alloc::Global;
 use type_table::TypeId;
+use type_table::comparable_types::TypeFlags;
+use type_table::operand_rules::Refusal;
 use type_table::type_relations::Env;
 
 /// A type that is known, if the key type of each map in it is comparable.

@@ -19,7 +19,7 @@ ghost use Rattle.typed_names.specs.TypeExprs.Grown.{TypesGrown};
 use crate::type_exprs::rows::interned;
 use crate::{Blocks, Entity, Scope};
 use go_tree::NameAt;
-use operand_rules::Refusal;
+use type_table::operand_rules::Refusal;
 use type_table::type_relations::Env;
 use type_table::{TypeId, TypeNode};
 use universe_block::PredeclaredEntity;

@@ -9,7 +9,7 @@ ghost use Rattle.type_table.specs.ValueTypes.ValueTypes.{HasValueTypes};
 ghost use Rattle.typed_names.specs.TypeExprs.Answers.{GivesType};
 ghost use Rattle.typed_names.specs.TypeExprs.Grown.{TypesGrown};
 
-use operand_rules::Refusal;
+use type_table::operand_rules::Refusal;
 use type_table::type_relations::Env;
 use type_table::{TypeId, TypeNode};
 

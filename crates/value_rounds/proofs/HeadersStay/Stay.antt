@@ -23,7 +23,7 @@ use Rattle.go_tree.specs.GoTypes.Collect.{type_entity, package_constants, packag
 use Rattle.typed_in_place.proofs.MethodsAside.{under_methods}
 use Rattle.typed_in_place.proofs.Headers.{declared_in, good_in}
 use Rattle.typed_in_place.proofs.Collected.{typed_is, valued_is}
-use Rattle.func_headers.proofs.MethodsAside.{comparable_kept, keys_kept}
+use Rattle.package_blocks.proofs.FuncHeaders.MethodsAside.{comparable_kept, keys_kept}
 use Rattle.value_rounds.specs.HeadersStay.SameRules.{SameRules, at}
 use Rattle.value_rounds.specs.HeadersStay.Laws.{HeadersAreFinal, HeadersStay, NoneBefore}
 use Rattle.value_rounds.proofs.HeadersStay.EntitiesSame.{constant_entity-same, variable_entity-same}

@@ -1,7 +1,7 @@
 use Rattle.std.proofs.Common.{arith}
 use Rattle.std.proofs.lemmas.List.{length-map}
 use Rattle.type_table.specs.TypeRelations.Environment.{defined_types}
-use Rattle.operand_rules.specs.Values.{typed_of}
+use Rattle.type_table.specs.OperandRules.Values.{typed_of}
 use Rattle.operator_rules.proofs.AccessRules.CallLemmas.{value_item}
 use Rattle.assignment_steps.specs.Targets.{target_of, targets_of}
 use Rattle.assignment_steps.proofs.TargetLemmas.{lengths_differ, target_item}

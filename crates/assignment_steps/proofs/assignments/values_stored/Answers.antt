@@ -2,7 +2,7 @@ use Rattle.std.proofs.Common.{◌≡◌, ◌∙◌, Some, ap, false, map, subst,
 use Rattle.go_tree.specs.GoTypes.Answers.{only_if}
 use Rattle.go_tree.specs.GoTypes.Statements.{stores_all}
 use Rattle.type_table.specs.TypeRelations.Environment.{defined_types}
-use Rattle.operand_rules.specs.Values.{typed_of}
+use Rattle.type_table.specs.OperandRules.Values.{typed_of}
 use Rattle.operator_rules.specs.AccessRules.Functions.{AreValues}
 use Rattle.control_steps.specs.RightSides.Values.{AreValuesIfOk, GivesValuesAlike}
 use Rattle.assignment_steps.specs.Targets.{AreTargets, targets_of}

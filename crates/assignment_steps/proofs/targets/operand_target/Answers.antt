@@ -4,8 +4,8 @@ use Rattle.go_tree.specs.GoTypes.Operands.{with_value}
 use Rattle.go_tree.specs.GoTypes.Statements.{target_at}
 use Rattle.operator_rules.specs.AccessRules.Places.{place_of}
 use Rattle.operand_modes.specs.Operands.{IsOperand, operand_at}
-use Rattle.operand_answers.specs.Located.{StandsAt}
-use Rattle.operand_answers.proofs.AnswerLemmas.{single_is}
+use Rattle.operand_modes.specs.OperandAnswers.Located.{StandsAt}
+use Rattle.operand_modes.proofs.OperandAnswers.AnswerLemmas.{single_is}
 use Rattle.control_steps.proofs.OperandTests.{not_typed}
 use Rattle.assignment_steps.specs.Targets.{GivesTarget}
 use Rattle.assignment_steps.proofs.targets.operand_target.Goals as goal

@@ -1,6 +1,6 @@
 use Rattle.std.proofs.Common.{Some, ap, subst}
 use Rattle.go_tree.specs.GoTypes.Statements.{store}
-use Rattle.operand_rules.specs.Values.{IsType, type_of}
+use Rattle.type_table.specs.OperandRules.Values.{IsType, type_of}
 use Rattle.assignment_steps.proofs.TargetLemmas.{not_nil, not_untyped}
 use Rattle.assignment_steps.proofs.targets.stored.Goals as goal
 

@@ -1,5 +1,5 @@
 use Rattle.std.proofs.Common.{subst}
-use Rattle.operand_answers.specs.Located.{GivesAt, IsThereIfOk}
+use Rattle.operand_modes.specs.OperandAnswers.Located.{GivesAt, IsThereIfOk}
 use Rattle.assignment_steps.proofs.TargetLemmas.{target_lifted, target_refused}
 use Rattle.assignment_steps.proofs.targets.stored_at.Goals as goal
 

@@ -1,7 +1,7 @@
 use Rattle.std.proofs.Common.{◌≡◌, subst, sym}
 use Rattle.go_tree.specs.GoTypes.Statements.{stores}
 use Rattle.type_table.specs.TypeRelations.Environment.{defined_types}
-use Rattle.operand_rules.specs.Values.{typed_of}
+use Rattle.type_table.specs.OperandRules.Values.{typed_of}
 use Rattle.assignment_steps.specs.Targets.{IsTarget, target_of}
 use Rattle.assignment_steps.proofs.targets.stores.Goals as goal
 

@@ -1,9 +1,9 @@
 use Rattle.std.proofs.Common.{ap, subst, sym}
 use Rattle.go_tree.specs.GoTypes.Statements.{target_at}
-use Rattle.operand_rules.specs.Values.{typed_of}
+use Rattle.type_table.specs.OperandRules.Values.{typed_of}
 use Rattle.operator_rules.specs.AccessRules.Places.{place_of}
 use Rattle.operand_modes.specs.declared.modes.Operand.TheVariants.{Single}
-use Rattle.operand_answers.specs.Located.{StandsAt}
+use Rattle.operand_modes.specs.OperandAnswers.Located.{StandsAt}
 use Rattle.assignment_steps.specs.Targets.{GivesTarget}
 use Rattle.assignment_steps.proofs.targets.value_target.Goals as goal
 

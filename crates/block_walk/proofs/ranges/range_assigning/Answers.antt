@@ -6,7 +6,7 @@ use Rattle.go_tree.specs.GoTypes.Entities.{defined_in, in_block}
 use Rattle.go_tree.specs.GoTypes.Operands.{typed}
 use Rattle.go_tree.specs.GoTypes.Statements.{range_assigns}
 use Rattle.go_tree.specs.GoTypes.Typing as go
-use Rattle.operand_answers.proofs.KeptLemmas.{env_kept, keeps_on, there_kept}
+use Rattle.operand_modes.proofs.OperandAnswers.KeptLemmas.{env_kept, keeps_on, there_kept}
 use Rattle.expr_walk.proofs.WalkArms.ExprArms.{at, expr_kept, expr_there}
 use Rattle.jump_rules.specs.UsedLocals.Used.{used_of}
 use Rattle.assignment_steps.specs.Targets.{GivesTargets}

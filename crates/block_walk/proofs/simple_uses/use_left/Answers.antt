@@ -3,7 +3,7 @@ use Rattle.go_tree.specs.Lists.{exprs_from}
 use Rattle.go_tree.specs.View.{expr_of}
 use Rattle.go_tree.specs.GoTypes.Typing as go
 use Rattle.typed_names.proofs.TypeExprs.NewNames.{drop_all, drop_item}
-use Rattle.operand_answers.proofs.KeptLemmas.{env_kept}
+use Rattle.operand_modes.proofs.OperandAnswers.KeptLemmas.{env_kept}
 use Rattle.expr_walk.specs.Walked.{AreAllWalked}
 use Rattle.expr_walk.proofs.Parts.{expr_walked}
 use Rattle.expr_walk.proofs.WalkArms.ExprArms.{at}

@@ -3,7 +3,7 @@ use Rattle.go_tree.specs.View.{plain_expr_option_of}
 use Rattle.go_tree.specs.GoTypes.Statements.{tag_of}
 use Rattle.go_tree.specs.GoTypes.Typing as go
 use Rattle.jump_rules.specs.UsedLocals.Used.{and_names, used_of}
-use Rattle.operand_answers.proofs.KeptLemmas.{stands_kept}
+use Rattle.operand_modes.proofs.OperandAnswers.KeptLemmas.{stands_kept}
 use Rattle.control_steps.specs.LocalBlocks.Places.{in_block_of}
 use Rattle.expr_walk.proofs.WalkArms.ExprArms.{at}
 use Rattle.statement_walk.proofs.SimpleWalk.ConstantGroups.MemberLemmas.{place_here}

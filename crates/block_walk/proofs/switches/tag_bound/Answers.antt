@@ -2,7 +2,7 @@ use Rattle.std.proofs.Common.{◌≡◌, ◌∙◌, None, Ok, ap, refl, subst, s
 use Rattle.go_tree.specs.Tree as tree
 use Rattle.go_tree.specs.View.{expr_of, plain_expr_option_of}
 use Rattle.go_tree.specs.GoTypes.Typing as go
-use Rattle.operand_answers.specs.AccessSteps.Bounds.{GivesBound}
+use Rattle.operand_modes.specs.OperandAnswers.AccessSteps.Bounds.{GivesBound}
 use Rattle.expr_walk.specs.Walked.{IsWalkedOption}
 use Rattle.expr_walk.proofs.WalkArms.ExprArms.{at, bound_arm, expr_there}
 use Rattle.jump_rules.specs.UsedLocals.Used.{and_names, used_of}

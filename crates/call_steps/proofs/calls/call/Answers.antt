@@ -4,9 +4,9 @@ use Rattle.go_tree.specs.GoTypes.Entities as go_entity
 use Rattle.go_tree.specs.GoTypes.Primary.{call_of}
 use Rattle.type_table.specs.TypeRelations.Environment.{defined_types}
 use Rattle.operand_modes.specs.Operands.{AreOperands, GivesOperand, operand_at, operands_at}
-use Rattle.operand_answers.specs.Lists.{AreThereIfOk, GivesAll}
-use Rattle.operand_answers.specs.Located.{GivesAt, IsThereIfOk}
-use Rattle.operand_answers.proofs.AnswerLemmas.{all_refused, first_refused, lifted_all}
+use Rattle.operand_modes.specs.OperandAnswers.Lists.{AreThereIfOk, GivesAll}
+use Rattle.operand_modes.specs.OperandAnswers.Located.{GivesAt, IsThereIfOk}
+use Rattle.operand_modes.proofs.OperandAnswers.AnswerLemmas.{all_refused, first_refused, lifted_all}
 use Rattle.call_steps.proofs.CallSteps.{call_alike}
 use Rattle.call_steps.proofs.calls.call.Goals as goal
 

@@ -1,7 +1,7 @@
 use Rattle.std.proofs.Common.{◌∙◌, subst, sym}
 use Rattle.go_tree.specs.GoTypes.Primary.{conversion, converted}
 use Rattle.type_table.specs.TypeRelations.Environment.{defined_types, env_type}
-use Rattle.operand_rules.specs.Values.{typed_of}
+use Rattle.type_table.specs.OperandRules.Values.{typed_of}
 use Rattle.operand_modes.specs.Operands.{AreOperands, GivesOperand, operands_at}
 use Rattle.call_steps.proofs.CallSteps.{not_converted, only_value_is}
 use Rattle.call_steps.proofs.conversions.conversion_call.Goals as goal

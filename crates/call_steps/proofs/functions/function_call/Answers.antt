@@ -3,7 +3,7 @@ use Rattle.go_tree.specs.GoTypes.Operands.{takes_all}
 use Rattle.type_table.specs.TypeRelations.Environment.{defined_types}
 use Rattle.operator_rules.specs.AccessRules.Functions.{AreValues, operands_of}
 use Rattle.operand_modes.specs.Operands.{GivesOperand, operands_at, tuple_at}
-use Rattle.checker_tables.proofs.PartLemmas.{parts_follow}
+use Rattle.operand_modes.proofs.CheckerTables.PartLemmas.{parts_follow}
 use Rattle.call_steps.proofs.CallSteps.{called_by, function_called, function_refused}
 use Rattle.call_steps.proofs.functions.function_call.Goals as goal
 

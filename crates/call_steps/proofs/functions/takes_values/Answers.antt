@@ -2,7 +2,7 @@ use Rattle.std.proofs.Common.{◌∙◌, ap}
 use Rattle.go_tree.specs.GoTypes.Operands.{takes_all}
 use Rattle.type_table.specs.TypeRelations.Environment.{defined_types}
 use Rattle.operator_rules.specs.AccessRules.Functions.{operands_of}
-use Rattle.checker_tables.proofs.PartLemmas.{parts_follow}
+use Rattle.operand_modes.proofs.CheckerTables.PartLemmas.{parts_follow}
 use Rattle.call_steps.proofs.functions.takes_values.Goals as goal
 
 pub tuple_parts-types-requires-clause-types : goal.tuple_parts-types-requires-clause-types

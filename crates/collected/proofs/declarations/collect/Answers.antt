@@ -7,7 +7,7 @@ use Rattle.declared_types.specs.Members.{SameMembers}
 use Rattle.declared_types.specs.Steps.{KnowsPlaces}
 use Rattle.package_blocks.specs.Headers.{AreHeaders, listed_of}
 use Rattle.package_blocks.specs.Imports.{views}
-use Rattle.func_headers.specs.Functions.{program_of}
+use Rattle.package_blocks.specs.FuncHeaders.Functions.{program_of}
 use Rattle.collected.proofs.ValueHeaders.SpelledHeaders.{headers_spelled}
 use Rattle.collected.proofs.CollectLemmas.{methods_declared, methods_refused_are, names_declared, others_declared, types_declared}
 use Rattle.collected.proofs.declarations.collect.Goals as goal

@@ -3,10 +3,10 @@ use Rattle.go_tree.specs.GoTypes.Defined.{under}
 use Rattle.go_tree.specs.GoTypes.Entities as go_entity
 use Rattle.go_tree.specs.GoTypes.Literals.{built, literal_takes}
 use Rattle.type_table.specs.TypeRelations.Environment.{defined_types, env_type}
-use Rattle.operand_rules.specs.Values.{Gives}
-use Rattle.literal_rules.specs.Elements.{AreElements, elements_at}
-use Rattle.checker_tables.proofs.PartLemmas.{parts_follow}
-use Rattle.operand_answers.specs.Located.{GivesAt}
+use Rattle.type_table.specs.OperandRules.Values.{Gives}
+use Rattle.composite_steps.specs.LiteralRules.Elements.{AreElements, elements_at}
+use Rattle.operand_modes.proofs.CheckerTables.PartLemmas.{parts_follow}
+use Rattle.operand_modes.specs.OperandAnswers.Located.{GivesAt}
 use Rattle.composite_steps.specs.Elements.{AreElementsIfOk, GivesElements}
 use Rattle.composite_steps.proofs.AlikeLemmas.{built_alike}
 use Rattle.composite_steps.proofs.ElementLemmas.{elements_read, elements_refused}

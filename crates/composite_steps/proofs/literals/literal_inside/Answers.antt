@@ -1,10 +1,10 @@
 use Rattle.std.proofs.Common.{subst, sym}
 use Rattle.go_tree.specs.GoTypes.Literals.{built_inside}
 use Rattle.type_table.specs.TypeRelations.Environment.{defined_types, env_type}
-use Rattle.operand_rules.specs.Values.{Gives}
-use Rattle.literal_rules.specs.Elements.{AreElements, elements_at}
+use Rattle.type_table.specs.OperandRules.Values.{Gives}
+use Rattle.composite_steps.specs.LiteralRules.Elements.{AreElements, elements_at}
 use Rattle.operand_modes.specs.Operands.{GivesOperand}
-use Rattle.checker_tables.proofs.PartLemmas.{parts_follow}
+use Rattle.operand_modes.proofs.CheckerTables.PartLemmas.{parts_follow}
 use Rattle.composite_steps.specs.Elements.{AreElementsIfOk, GivesElements}
 use Rattle.composite_steps.proofs.AlikeLemmas.{inside_alike}
 use Rattle.composite_steps.proofs.ElementLemmas.{elements_read, inside_refused}

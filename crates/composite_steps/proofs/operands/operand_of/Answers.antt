@@ -1,5 +1,5 @@
 use Rattle.std.proofs.Common.{subst}
-use Rattle.operand_answers.specs.Located.{GivesAt}
+use Rattle.operand_modes.specs.OperandAnswers.Located.{GivesAt}
 use Rattle.composite_steps.proofs.ElementLemmas.{operand_located, operand_not_located}
 use Rattle.composite_steps.proofs.operands.operand_of.Goals as goal
 

@@ -1,4 +1,4 @@
-use Rattle.checker_tables.proofs.PartLemmas.{parts_follow}
+use Rattle.operand_modes.proofs.CheckerTables.PartLemmas.{parts_follow}
 use Rattle.composite_steps.proofs.types.inner_type.Goals as goal
 
 pub inner_type-requires-clause-types : goal.inner_type-requires-clause-types

@@ -1,4 +1,4 @@
-use Rattle.checker_tables.proofs.PartLemmas.{parts_follow}
+use Rattle.operand_modes.proofs.CheckerTables.PartLemmas.{parts_follow}
 use Rattle.composite_steps.proofs.types.is_struct.Goals as goal
 
 pub form-requires-clause-types : goal.form-requires-clause-types

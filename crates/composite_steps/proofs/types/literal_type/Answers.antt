@@ -1,4 +1,4 @@
-use Rattle.checker_tables.proofs.PartLemmas.{parts_follow}
+use Rattle.operand_modes.proofs.CheckerTables.PartLemmas.{parts_follow}
 use Rattle.composite_steps.proofs.types.literal_type.Goals as goal
 
 pub literal_type-requires-clause-types : goal.literal_type-requires-clause-types

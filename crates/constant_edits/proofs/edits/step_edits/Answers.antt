@@ -3,8 +3,8 @@ use Rattle.go_tree.specs.FileView.{file_of}
 use Rattle.text_edits.specs.declared.edit.Edit.{Edit}
 use Rattle.text_edits.specs.Applied.{Within}
 use Rattle.text_edits.specs.Order.{InOrder}
-use Rattle.import_rules.specs.declared.new_import.NewImport.{NewImport}
-use Rattle.import_rules.specs.Settled.{settled}
+use Rattle.run_rules.specs.declared.import_rules.new_import.NewImport.{NewImport}
+use Rattle.run_rules.specs.ImportRules.Settled.{settled}
 use Rattle.constant_edits.specs.Edits.{added_by, edit_told}
 use Rattle.constant_edits.proofs.Steps.{step_in_order, step_within, step_is}
 use Rattle.constant_edits.proofs.edits.step_edits.Goals as goal

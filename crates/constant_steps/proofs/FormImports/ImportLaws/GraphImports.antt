@@ -11,17 +11,17 @@ use Rattle.go_tree.specs.declared.scope_names.names.ImportName.{ImportName}
 use Rattle.go_tree.specs.ScopeNames.Means.{Environment, or_else, means, binding, is_blank, numbered, predeclared, outermost}
 use Rattle.pkg_graph.specs.Package.{SourceTree, Package, import_specs, specs_in}
 use Rattle.pkg_graph.specs.Members.{Target, imported, member, predeclared as predeclared_name, import_name, items_from, decls_from, files_from, block_names, package_block, outside, names_of_file}
-use Rattle.import_rules.specs.Unused.{spec_spans, AreImportsOf}
-use Rattle.import_rules.proofs.MeaningLaws.{means_append}
-use Rattle.import_rules.proofs.UnusedLaws.{used_names_mean_at}
-use Rattle.splice_laws.proofs.ImportSplices.ImportPlaces.FilesLaid.{imports_laid}
+use Rattle.run_rules.specs.ImportRules.Unused.{spec_spans, AreImportsOf}
+use Rattle.run_rules.proofs.ImportRules.MeaningLaws.{means_append}
+use Rattle.run_rules.proofs.ImportRules.UnusedLaws.{used_names_mean_at}
+use Rattle.run_rules.proofs.SpliceLaws.ImportSplices.ImportPlaces.FilesLaid.{imports_laid}
 use Rattle.run_rules.specs.Texts.{FileText}
 use Rattle.run_rules.specs.Respanned.{source_with, package_with, packages_with}
 use Rattle.run_rules.specs.Run.{as_read}
 use Rattle.run_rules.specs.Inlining.{ReadsAs}
-use Rattle.splice_laws.specs.RunLaws.Reading.{FileReads, FileAt}
-use Rattle.splice_laws.proofs.RunLaws.Reread.{file-reread}
-use Rattle.splice_laws.proofs.RunLaws.RunsRead.{modules_read}
+use Rattle.run_rules.specs.SpliceLaws.RunLaws.Reading.{FileReads, FileAt}
+use Rattle.run_rules.proofs.SpliceLaws.RunLaws.Reread.{file-reread}
+use Rattle.run_rules.proofs.SpliceLaws.RunLaws.RunsRead.{modules_read}
 use Rattle.constant_steps.specs.FormImports.ImportLaws.GraphNames.{FilesMaySettle, ImportsMeanAlike, NamesMeanAfterwards}
 
 -- ---- the imports of a file

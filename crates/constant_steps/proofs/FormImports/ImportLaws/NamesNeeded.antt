@@ -17,16 +17,16 @@ use Rattle.go_tree.specs.declared.scope_names.names.Entity.TheVariants as entity
 use Rattle.go_tree.specs.ScopeNames.Fresh.{candidate, is_new, IsFresh}
 use Rattle.pkg_graph.specs.Package.{Package, import_specs, specs_in}
 use Rattle.pkg_graph.specs.Members.{import_name}
-use Rattle.import_rules.specs.declared.new_import.Needed.{Needed}
-use Rattle.import_rules.specs.declared.new_import.NewImport.{NewImport}
-use Rattle.import_rules.specs.Needs.{serves, serving_from, serving, avoided, there, new}
-use Rattle.import_rules.specs.SettledNames.{Wanted, AreNeeded, new_imports, AreLocal, ServingStay, NoneShadows, EachMeansIn, settled_names}
-use Rattle.import_rules.specs.Unused as rules
-use Rattle.import_rules.specs.Unused.{AreImportsOf, spec_spans}
-use Rattle.import_rules.proofs.NeededMeans.{same_name, fresh_passes}
-use Rattle.import_rules.proofs.NeededNames.{needed_names_mean}
-use Rattle.import_rules.proofs.UnusedLaws.{used_imports_stay}
-use Rattle.splice_laws.proofs.RunLaws.FilesStand.{file_laid}
+use Rattle.run_rules.specs.declared.import_rules.new_import.Needed.{Needed}
+use Rattle.run_rules.specs.declared.import_rules.new_import.NewImport.{NewImport}
+use Rattle.run_rules.specs.ImportRules.Needs.{serves, serving_from, serving, avoided, there, new}
+use Rattle.run_rules.specs.ImportRules.SettledNames.{Wanted, AreNeeded, new_imports, AreLocal, ServingStay, NoneShadows, EachMeansIn, settled_names}
+use Rattle.run_rules.specs.ImportRules.Unused as rules
+use Rattle.run_rules.specs.ImportRules.Unused.{AreImportsOf, spec_spans}
+use Rattle.run_rules.proofs.ImportRules.NeededMeans.{same_name, fresh_passes}
+use Rattle.run_rules.proofs.ImportRules.NeededNames.{needed_names_mean}
+use Rattle.run_rules.proofs.ImportRules.UnusedLaws.{used_imports_stay}
+use Rattle.run_rules.proofs.SpliceLaws.RunLaws.FilesStand.{file_laid}
 use Rattle.run_rules.specs.Surroundings.{Place}
 use Rattle.run_rules.specs.Sites.{Where}
 use Rattle.run_rules.specs.Naming.{Named, no_span, fuel_for, fresh_name, package_path, own_name, names_here, environment_here, added_import, named_packages, name_added, imports_added}

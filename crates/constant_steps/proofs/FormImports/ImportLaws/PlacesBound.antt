@@ -11,7 +11,7 @@ use Rattle.go_tree.specs.ScopeNames.Means.{is_blank}
 use Rattle.go_tree.specs.ScopeNames.Identifiers.{name_option, type_identifiers, type_option_identifiers, params_identifiers, sig_identifiers, expr_identifiers, exprs_identifiers, expr_option_identifiers, elems_identifiers, value_identifiers, value_option_identifiers, stmt_identifiers, stmts_identifiers, stmt_option_identifiers, block_option_identifiers, left_identifiers, arms_identifiers, cases_identifiers, specs_identifiers, receiver_identifiers, decl_identifiers}
 use Rattle.go_tree.specs.ScopeNames.Scopes as scopes
 use Rattle.go_tree.specs.ScopeNames.Scopes.{not_blank, specs_declare, with_name, param_names, sig_declares}
-use Rattle.import_rules.proofs.NeededMeans.{own_eq}
+use Rattle.run_rules.proofs.ImportRules.NeededMeans.{own_eq}
 use Rattle.pkg_graph.specs.Package.{Package}
 use Rattle.go_tree.specs.GoTypes.Answers.{given, meets}
 use Rattle.go_tree.specs.GoTypes.Types.{GoType, FuncType}

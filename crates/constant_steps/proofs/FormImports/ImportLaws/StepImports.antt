@@ -4,7 +4,7 @@ use Rattle.go_tree.specs.File.{ImportSpec}
 use Rattle.pkg_graph.specs.Package.{Package, import_specs}
 use Rattle.pkg_graph.specs.Members.{import_name}
 use Rattle.go_tree.specs.declared.scope_names.names.ImportName.{ImportName}
-use Rattle.import_rules.specs.Unused as rules
+use Rattle.run_rules.specs.ImportRules.Unused as rules
 use Rattle.run_rules.specs.Programs.{numbered_from}
 use Rattle.run_rules.specs.Steps.{At}
 use Rattle.run_rules.specs.Run.{here_of}

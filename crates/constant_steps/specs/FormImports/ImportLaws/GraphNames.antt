@@ -10,15 +10,15 @@ use Rattle.go_tree.specs.ScopeNames.Scopes.{environment_at}
 use Rattle.pkg_graph.specs.Package.{SourceTree, Package}
 use Rattle.pkg_graph.specs.Members.{imported, outside, names_of_file}
 use Rattle.pkg_graph.specs.Reads.{Source}
-use Rattle.import_rules.specs.declared.new_import.Needed.{Needed}
-use Rattle.import_rules.specs.declared.new_import.NewImport.{NewImport}
-use Rattle.import_rules.specs.SettledNames.{Wanted, AreNeeded, EachMeansIn, new_imports, settled_names}
-use Rattle.import_rules.specs.Unused.{AreImportsOf, AreUsed, unused_specs}
-use Rattle.splice_laws.specs.ImportSplices.ImportPlaces.ReadFiles.{ReadsImportsOf}
+use Rattle.run_rules.specs.declared.import_rules.new_import.Needed.{Needed}
+use Rattle.run_rules.specs.declared.import_rules.new_import.NewImport.{NewImport}
+use Rattle.run_rules.specs.ImportRules.SettledNames.{Wanted, AreNeeded, EachMeansIn, new_imports, settled_names}
+use Rattle.run_rules.specs.ImportRules.Unused.{AreImportsOf, AreUsed, unused_specs}
+use Rattle.run_rules.specs.SpliceLaws.ImportSplices.ImportPlaces.ReadFiles.{ReadsImportsOf}
 use Rattle.run_rules.specs.Marks.{text_at}
 use Rattle.run_rules.specs.Texts.{FileText}
 use Rattle.run_rules.specs.Inlining.{ModuleReads}
-use Rattle.splice_laws.specs.RunLaws.Reading.{FileAt}
+use Rattle.run_rules.specs.SpliceLaws.RunLaws.Reading.{FileAt}
 
 -- The text reads as a file with this one's package name and imports, and the names are those of these imports.
 pub record MaySettle (text : List ℕ) (file : File Span) (names : FileNames) : Type 0 where

@@ -10,11 +10,11 @@ use Rattle.go_tree.specs.ScopeNames.FreeNames.{names_of}
 use Rattle.go_tree.specs.ScopeNames.Means.{Environment, outermost}
 use Rattle.pkg_graph.specs.Package.{Package, import_specs}
 use Rattle.pkg_graph.specs.Members.{import_name, package_block}
-use Rattle.import_rules.specs.declared.new_import.NewImport.{NewImport}
-use Rattle.import_rules.specs.Needs.{avoided}
-use Rattle.import_rules.specs.SettledNames.{Wanted, IsOwnName, EachMeansIn, settled_names}
-use Rattle.import_rules.specs.Unused as rules
-use Rattle.import_rules.specs.Unused.{AreUsed}
+use Rattle.run_rules.specs.declared.import_rules.new_import.NewImport.{NewImport}
+use Rattle.run_rules.specs.ImportRules.Needs.{avoided}
+use Rattle.run_rules.specs.ImportRules.SettledNames.{Wanted, IsOwnName, EachMeansIn, settled_names}
+use Rattle.run_rules.specs.ImportRules.Unused as rules
+use Rattle.run_rules.specs.ImportRules.Unused.{AreUsed}
 use Rattle.run_rules.specs.Sites.{MarkRef, Where, Inlinable, a_constant, an_alias, a_function, inlinable}
 use Rattle.run_rules.specs.Naming.{Named, no_span, fuel_for, package_path, own_name, imports_added}
 use Rattle.run_rules.specs.Steps.{At, same_here, Found, is_import_used, file_between, packages_between, where_between}

@@ -1,5 +1,5 @@
 use Rattle.std.proofs.Common.{subst}
-use Rattle.operand_answers.specs.Located.{GivesAt}
+use Rattle.operand_modes.specs.OperandAnswers.Located.{GivesAt}
 use Rattle.control_steps.proofs.OperandTests.{ended_refused, ended_typed}
 use Rattle.control_steps.proofs.calls.ended.Goals as goal
 

@@ -2,7 +2,7 @@ use Rattle.std.proofs.Common.{◌∙◌, ap, subst, sym}
 use Rattle.go_tree.specs.GoTypes.Statements.{is_condition}
 use Rattle.type_table.specs.TypeRelations.Environment.{defined_types}
 use Rattle.operand_modes.specs.Operands.{IsOperand, operand_at}
-use Rattle.operand_answers.proofs.AnswerLemmas.{single_is}
+use Rattle.operand_modes.proofs.OperandAnswers.AnswerLemmas.{single_is}
 use Rattle.control_steps.proofs.OperandTests.{no_condition}
 use Rattle.control_steps.proofs.conditions.is_condition.Goals as goal
 

@@ -1,7 +1,7 @@
 use Rattle.std.proofs.Common.{◌≡◌, ◌∙◌, IfOk, subst, sym}
 use Rattle.go_tree.specs.GoTypes.Answers.{meets}
 use Rattle.type_table.specs.TypeRelations.Environment.{defined_types}
-use Rattle.operand_answers.specs.AccessSteps.Bounds.{GivesBound, IsBoundIfOk}
+use Rattle.operand_modes.specs.OperandAnswers.AccessSteps.Bounds.{GivesBound, IsBoundIfOk}
 use Rattle.control_steps.proofs.OperandTests.{passes_test, test_met, test_not_met}
 use Rattle.control_steps.proofs.conditions.test.Goals as goal
 

@@ -3,7 +3,7 @@ use Rattle.go_tree.specs.GoTypes.Operands.{spread, takes_all}
 use Rattle.type_table.specs.TypeRelations.Environment.{defined_types}
 use Rattle.operator_rules.specs.AccessRules.Functions.{types_at}
 use Rattle.operand_modes.specs.Operands.{AreOperands, operands_at}
-use Rattle.operand_answers.specs.Lists.{AreThereIfOk, GivesAll}
+use Rattle.operand_modes.specs.OperandAnswers.Lists.{AreThereIfOk, GivesAll}
 use Rattle.control_steps.proofs.TakenLemmas.{all_met, none_met}
 use Rattle.control_steps.proofs.returns.are_results.Goals as goal
 

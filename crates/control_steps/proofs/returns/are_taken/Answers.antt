@@ -3,7 +3,7 @@ use Rattle.go_tree.specs.GoTypes.Operands.{spread, takes_all}
 use Rattle.type_table.specs.TypeRelations.Environment.{defined_types}
 use Rattle.operator_rules.specs.AccessRules.Functions.{AreValues, operands_of, types_at}
 use Rattle.operand_modes.specs.Operands.{operands_at}
-use Rattle.checker_tables.proofs.PartLemmas.{parts_follow}
+use Rattle.operand_modes.proofs.CheckerTables.PartLemmas.{parts_follow}
 use Rattle.control_steps.proofs.TakenLemmas.{none_taken, these_taken}
 use Rattle.control_steps.proofs.returns.are_taken.Goals as goal
 

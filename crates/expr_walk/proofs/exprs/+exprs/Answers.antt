@@ -19,18 +19,18 @@ use Rattle.go_tree.specs.GoTypes.Typing as go_typing
 use Rattle.go_tree.specs.GoTypes.Typing.{bound}
 use Rattle.type_table.specs.TypeRelations.Environment.{defined_types, env_type}
 use Rattle.typed_names.proofs.TypeExprs.NewNames.{drop_all, drop_item}
-use Rattle.operand_rules.specs.declared.values.ValueType.TheVariants.{Typed}
-use Rattle.operand_rules.specs.Values.{IsType}
+use Rattle.type_table.specs.declared.operand_rules.values.ValueType.TheVariants.{Typed}
+use Rattle.type_table.specs.OperandRules.Values.{IsType}
 use Rattle.operator_rules.specs.Settling.{typed_option}
 use Rattle.operand_modes.specs.Operands.{GivesOperand}
-use Rattle.operand_answers.specs.Lists.{GivesAll}
-use Rattle.operand_answers.specs.Located.{GivesAt}
-use Rattle.operand_answers.proofs.AnswerLemmas.{type_refused_at}
-use Rattle.operand_answers.proofs.KeptLemmas.{env_kept, stands_kept, there_kept}
-use Rattle.operand_answers.specs.AccessSteps.Bounds.{GivesBound}
+use Rattle.operand_modes.specs.OperandAnswers.Lists.{GivesAll}
+use Rattle.operand_modes.specs.OperandAnswers.Located.{GivesAt}
+use Rattle.operand_modes.proofs.OperandAnswers.AnswerLemmas.{type_refused_at}
+use Rattle.operand_modes.proofs.OperandAnswers.KeptLemmas.{env_kept, stands_kept, there_kept}
+use Rattle.operand_modes.specs.OperandAnswers.AccessSteps.Bounds.{GivesBound}
 use Rattle.call_steps.proofs.CallSteps.{arguments_there}
 use Rattle.name_steps.specs.Spelled.{IsSpelled}
-use Rattle.literal_rules.specs.declared.elements.Element.{Element}
+use Rattle.composite_steps.specs.declared.literal_rules.elements.Element.{Element}
 use Rattle.composite_steps.specs.declared.elements.ElementList.{ElementList}
 use Rattle.composite_steps.specs.Elements.{GivesElement, GivesElements}
 use Rattle.composite_steps.proofs.ElementLemmas.{elements_there, operand_kept}

@@ -1,5 +1,5 @@
 use Rattle.std.proofs.Common.{◌≡◌, ◌∙◌, ◌<◌, ap, length, subst, sym, All}
-use Rattle.module_files.specs.Selected.{selected}
+use Rattle.pkg_graph.specs.ModuleFiles.Selected.{selected}
 use Rattle.folder_reading.proofs.SelectedLemmas.{selected_below}
 use Rattle.folder_reading.proofs.folder.read_folder.Goals as goal
 

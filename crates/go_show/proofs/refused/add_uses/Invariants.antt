@@ -1,5 +1,5 @@
 use Rattle.declared_types.specs.Steps.{KnowsPlaces}
-use Rattle.checker_tables.specs.Ready.{AreReady}
+use Rattle.operand_modes.specs.CheckerTables.Ready.{AreReady}
 use Rattle.go_show.proofs.refused.add_uses.Given as goal
 
 abbrev pub invariant-loop-file : goal.invariant-loop-file

@@ -1,5 +1,5 @@
 use Rattle.declared_types.specs.Steps.{KnowsPlaces}
-use Rattle.checker_tables.specs.Ready.{AreReady}
+use Rattle.operand_modes.specs.CheckerTables.Ready.{AreReady}
 use Rattle.go_show.proofs.refused.names_used.Given as goal
 
 abbrev pub invariant-loop-number : goal.invariant-loop-number

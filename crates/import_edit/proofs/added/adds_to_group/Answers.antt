@@ -1,7 +1,7 @@
 use Rattle.std.proofs.Common.{◌∙◌, ◌≤◌, ◌<◌, length, sym, ap, subst, arith}
 use Rattle.go_tree.specs.declared.files.ImportDecl.{ImportDecl}
 use Rattle.go_tree.specs.FileView.{import_decl_of}
-use Rattle.import_rules.specs.Added.{is_open_group}
+use Rattle.run_rules.specs.ImportRules.Added.{is_open_group}
 use Rattle.std.proofs.lemmas.Bool.Decides.{nat_tests}
 use Rattle.import_edit.proofs.SettleLaws.{last_adds, last_fits}
 use Rattle.import_edit.proofs.added.adds_to_group.Goals as goal

@@ -3,7 +3,7 @@ use Rattle.std.proofs.lemmas.List.{drop_more}
 use Rattle.go_tree.specs.declared.spans.Span.{Span}
 use Rattle.text_edits.specs.declared.edit.Edit.{Edit}
 use Rattle.text_edits.specs.Order.{InOrder}
-use Rattle.import_rules.specs.Settled.{removal}
+use Rattle.run_rules.specs.ImportRules.Settled.{removal}
 use Rattle.import_edit.proofs.SettleLaws.{order_front}
 use Rattle.import_edit.proofs.added.push_removals.Goals as goal
 

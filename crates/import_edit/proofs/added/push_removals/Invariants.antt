@@ -1,5 +1,5 @@
 use Rattle.std.proofs.Common.{◌≡◌, ◌++◌, drop, map}
-use Rattle.import_rules.specs.Settled.{removal}
+use Rattle.run_rules.specs.ImportRules.Settled.{removal}
 use Rattle.import_edit.proofs.added.push_removals.Given as goal
 
 abbrev pub invariant-loop-range : goal.invariant-loop-range

@@ -1,5 +1,5 @@
 use Rattle.std.proofs.Common.{◌≡◌, ◌++◌, drop}
-use Rattle.import_rules.specs.Added.{each_within}
+use Rattle.run_rules.specs.ImportRules.Added.{each_within}
 use Rattle.import_edit.specs.Order.{imports_of}
 use Rattle.import_edit.proofs.added.write_each.Given as goal
 

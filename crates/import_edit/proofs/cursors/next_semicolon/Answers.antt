@@ -1,6 +1,6 @@
 use Rattle.std.proofs.Common.{◌∙◌, ◌+◌, ap, arith}
 use Rattle.std.proofs.lemmas.List.{take_rest}
-use Rattle.import_rules.specs.Removed.{through_semicolon}
+use Rattle.run_rules.specs.ImportRules.Removed.{through_semicolon}
 use Rattle.import_edit.specs.Cursors.{TokensServe}
 use Rattle.import_edit.proofs.CursorLaws.{tokens_serve}
 use Rattle.import_edit.proofs.cursors.next_semicolon.Goals as goal

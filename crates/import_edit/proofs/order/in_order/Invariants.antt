@@ -1,5 +1,5 @@
 use Rattle.std.proofs.Common.{◌≡◌, ◌≤◌, drop, length}
-use Rattle.import_rules.specs.SpecText.{in_order}
+use Rattle.run_rules.specs.ImportRules.SpecText.{in_order}
 use Rattle.import_edit.specs.Order.{imports_of}
 use Rattle.import_edit.proofs.order.in_order.Given as goal
 

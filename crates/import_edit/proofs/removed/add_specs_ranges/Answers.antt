@@ -2,7 +2,7 @@ use Rattle.std.proofs.Common.{◌≡◌, ◌∙◌, ◌<◌, ◌+◌, ◌∷◌,
 use Rattle.std.proofs.lemmas.List.{drop_more}
 use Rattle.go_tree.specs.declared.files.ImportSpec.{ImportSpec}
 use Rattle.go_tree.specs.FileView.{import_decl_of, import_spec_of}
-use Rattle.import_rules.specs.Removed.{specs_ranges}
+use Rattle.run_rules.specs.ImportRules.Removed.{specs_ranges}
 use Rattle.import_edit.specs.Walks.{SpecsLeft}
 use Rattle.import_edit.proofs.WalkLaws.{spec_serves, specs_next, spec_added}
 use Rattle.import_edit.proofs.removed.add_specs_ranges.Goals as goal

@@ -1,6 +1,6 @@
 use Rattle.std.proofs.Common.{◌≡◌, ◌++◌, drop, map}
 use Rattle.go_tree.specs.FileView.{import_decl_of, import_spec_of}
-use Rattle.import_rules.specs.Removed.{specs_ranges}
+use Rattle.run_rules.specs.ImportRules.Removed.{specs_ranges}
 use Rattle.import_edit.specs.Walks.{SpecsLeft}
 use Rattle.import_edit.proofs.removed.add_specs_ranges.Given as goal
 

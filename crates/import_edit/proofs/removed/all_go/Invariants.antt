@@ -1,7 +1,7 @@
 use Rattle.std.proofs.Common.{◌≡◌, drop, map}
 use Rattle.std.specs.List.{list_all}
 use Rattle.go_tree.specs.FileView.{import_spec_of}
-use Rattle.import_rules.specs.Removed.{goes}
+use Rattle.run_rules.specs.ImportRules.Removed.{goes}
 use Rattle.import_edit.proofs.removed.all_go.Given as goal
 
 abbrev pub invariant-loop-spec : goal.invariant-loop-spec

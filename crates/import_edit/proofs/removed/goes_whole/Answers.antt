@@ -1,7 +1,7 @@
 use Rattle.std.proofs.Common.{◌≡◌, ◌∙◌, true, false, not, ◌&&◌, sym, ap}
 use Rattle.std.specs.List.{list_all}
 use Rattle.go_tree.specs.FileView.{import_decl_of}
-use Rattle.import_rules.specs.Removed.{goes, has_specs, comment_within}
+use Rattle.run_rules.specs.ImportRules.Removed.{goes, has_specs, comment_within}
 use Rattle.import_edit.specs.Walks.{is_unused}
 use Rattle.import_edit.proofs.WalkLaws.{and_behind}
 use Rattle.import_edit.proofs.removed.goes_whole.Goals as goal

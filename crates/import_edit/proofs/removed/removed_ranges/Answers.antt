@@ -2,7 +2,7 @@ use Rattle.std.proofs.Common.{◌≡◌, ◌∙◌, ◌<◌, ◌+◌, ◌∷◌,
 use Rattle.std.proofs.lemmas.List.{drop_more}
 use Rattle.go_tree.specs.declared.files.ImportDecl.{ImportDecl}
 use Rattle.go_tree.specs.FileView.{import_decl_of}
-use Rattle.import_rules.specs.Removed.{ranges}
+use Rattle.run_rules.specs.ImportRules.Removed.{ranges}
 use Rattle.import_edit.specs.Walks.{DeclsLeft}
 use Rattle.import_edit.proofs.WalkLaws.{decl_serves, decls_next, decl_added, last_is}
 use Rattle.import_edit.proofs.removed.removed_ranges.Goals as goal

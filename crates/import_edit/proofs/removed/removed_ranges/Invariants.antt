@@ -1,6 +1,6 @@
 use Rattle.std.proofs.Common.{◌≡◌, ◌++◌, drop, map}
 use Rattle.go_tree.specs.FileView.{import_decl_of}
-use Rattle.import_rules.specs.Removed.{ranges}
+use Rattle.run_rules.specs.ImportRules.Removed.{ranges}
 use Rattle.import_edit.specs.Walks.{DeclsLeft}
 use Rattle.import_edit.proofs.removed.removed_ranges.Given as goal
 

@@ -1,7 +1,7 @@
 use Rattle.std.proofs.Common.{◌++◌, [], ◌∷◌, List, map, sym, subst}
 use Rattle.text_edits.specs.declared.edit.Edit.{Edit}
 use Rattle.text_edits.specs.Order.{InOrder}
-use Rattle.import_rules.specs.Settled.{removal}
+use Rattle.run_rules.specs.ImportRules.Settled.{removal}
 use Rattle.import_edit.proofs.SettleLaws.{order_front}
 use Rattle.import_edit.proofs.settling.removals_and_one.Goals as goal
 

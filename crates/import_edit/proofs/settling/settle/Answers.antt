@@ -2,9 +2,9 @@ use Rattle.std.proofs.Common.{◌∙◌, List, sym, ap, subst}
 use Rattle.go_tree.specs.declared.tokens.Comment.{Comment}
 use Rattle.go_tree.specs.declared.tokens.Token.{Token}
 use Rattle.go_tree.specs.FileView.{file_of}
-use Rattle.import_rules.specs.Laid.{CommentsAscend, Laid}
-use Rattle.import_rules.specs.Settled.{settled}
-use Rattle.splice_laws.proofs.ImportSplices.ImportPlaces.CommentsStand.{comments_ascend}
+use Rattle.run_rules.specs.ImportRules.Laid.{CommentsAscend, Laid}
+use Rattle.run_rules.specs.ImportRules.Settled.{settled}
+use Rattle.run_rules.proofs.SpliceLaws.ImportSplices.ImportPlaces.CommentsStand.{comments_ascend}
 use Rattle.import_edit.proofs.ReadLaws.{read_laid, settled_once}
 use Rattle.import_edit.proofs.settling.settle.Goals as goal
 

@@ -3,10 +3,10 @@ use Rattle.go_tree.specs.declared.files.ImportDecl as tree
 use Rattle.go_tree.specs.FileView.{import_decl_of, file_of}
 use Rattle.text_edits.specs.declared.edit.Edit.{Edit}
 use Rattle.text_edits.specs.Order.{InOrder}
-use Rattle.import_rules.specs.Removed.{ranges}
-use Rattle.import_rules.specs.Added.{adds_to_group, last_closing}
-use Rattle.import_rules.specs.Settled.{removal, settled, insertion}
-use Rattle.import_rules.proofs.SettledOrder.{settled_in_order}
+use Rattle.run_rules.specs.ImportRules.Removed.{ranges}
+use Rattle.run_rules.specs.ImportRules.Added.{adds_to_group, last_closing}
+use Rattle.run_rules.specs.ImportRules.Settled.{removal, settled, insertion}
+use Rattle.run_rules.proofs.ImportRules.SettledOrder.{settled_in_order}
 use Rattle.import_edit.specs.Fronts.{LastFits, addition_before}
 use Rattle.import_edit.specs.Order.{imports_of}
 use Rattle.import_edit.specs.Walks.{DeclsFit}

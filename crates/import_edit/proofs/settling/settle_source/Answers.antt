@@ -3,9 +3,9 @@ use Rattle.go_tree.specs.declared.files.ImportDecl as tree
 use Rattle.go_tree.specs.FileView.{import_decl_of, file_of}
 use Rattle.text_edits.specs.declared.edit.Edit.{Edit}
 use Rattle.text_edits.specs.Order.{InOrder}
-use Rattle.import_rules.specs.Removed.{ranges}
-use Rattle.import_rules.specs.Settled.{removal, settled}
-use Rattle.import_rules.proofs.SettledOrder.{settled_in_order}
+use Rattle.run_rules.specs.ImportRules.Removed.{ranges}
+use Rattle.run_rules.specs.ImportRules.Settled.{removal, settled}
+use Rattle.run_rules.proofs.ImportRules.SettledOrder.{settled_in_order}
 use Rattle.import_edit.specs.Walks.{DeclsFit}
 use Rattle.import_edit.proofs.WalkLaws.{decls_fit}
 use Rattle.import_edit.proofs.SettleLaws.{none_made}

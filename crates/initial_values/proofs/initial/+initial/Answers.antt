@@ -9,7 +9,7 @@ use Rattle.expr_walk.specs.Walked.{AreWalkedElems}
 use Rattle.expr_walk.proofs.Parts.{elem_smaller, elem_walked}
 use Rattle.expr_walk.proofs.WalkArms.ExprArms.{at}
 use Rattle.initial_values.specs.Steps.{IsPassed, under_option}
-use Rattle.operand_answers.proofs.KeptLemmas.{env_kept}
+use Rattle.operand_modes.proofs.OperandAnswers.KeptLemmas.{env_kept}
 use Rattle.initial_values.proofs.ConstantLemmas.{address_initial, call_initial, or_left, or_right}
 use Rattle.initial_values.proofs.InitialLemmas.{composite_told, elem_told, told}
 use Rattle.initial_values.proofs.PassedLemmas.{elem_initial, next_elem, option_kept, passed_not, passed_one, read_elem}

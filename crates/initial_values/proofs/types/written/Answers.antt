@@ -2,7 +2,7 @@ use Rattle.std.proofs.Common.{[], Err, subst, sym}
 use Rattle.go_tree.specs.View.{type_of}
 use Rattle.go_tree.specs.GoTypes.TypeNames.{type_meant}
 use Rattle.typed_names.specs.TypeExprs.Answers.{GivesType}
-use Rattle.operand_answers.proofs.KeptLemmas.{stands_kept}
+use Rattle.operand_modes.proofs.OperandAnswers.KeptLemmas.{stands_kept}
 use Rattle.expr_walk.proofs.WalkArms.ExprArms.{at}
 use Rattle.initial_values.proofs.types.written.Goals as goal
 

@@ -1,5 +1,5 @@
 use Rattle.std.proofs.Common.{◌≡◌, ◌++◌, drop, map}
-use Rattle.possible_uses.specs.Views.{part_of}
+use Rattle.member_uses.specs.PossibleUses.Views.{part_of}
 use Rattle.member_uses.specs.Uses.{member_uses}
 use Rattle.member_uses.specs.Views.{names_in, used_of}
 use Rattle.member_uses.proofs.parts.member_uses.Given as goal

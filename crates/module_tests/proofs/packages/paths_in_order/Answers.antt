@@ -1,7 +1,7 @@
 use Rattle.std.proofs.Common.{◌≡◌, ◌∙◌, ap, length, subst, sym, true, slice_index_or}
 use Rattle.std.proofs.lemmas.List.{length-map}
-use Rattle.import_order.specs.Numbers.{is_among}
-use Rattle.import_order.proofs.NumberLaws.{among_at}
+use Rattle.pkg_graph.specs.ImportOrder.Numbers.{is_among}
+use Rattle.pkg_graph.proofs.ImportOrder.NumberLaws.{among_at}
 use Rattle.pkg_graph.specs.Views.{package_view, sources_of}
 use Rattle.module_tests.proofs.packages.paths_in_order.Goals as goal
 

@@ -1,8 +1,8 @@
 use Rattle.std.proofs.Common.{IfSome, ap, subst, sym}
 use Rattle.go_tree.specs.GoTypes.Operands.{named_operand, named_place}
 use Rattle.typed_names.specs.Meanings.{entity_option}
-use Rattle.operand_answers.specs.Known.{IsEntity}
-use Rattle.operand_answers.specs.Located.{GivesAt}
+use Rattle.operand_modes.specs.OperandAnswers.Known.{IsEntity}
+use Rattle.operand_modes.specs.OperandAnswers.Located.{GivesAt}
 use Rattle.name_steps.proofs.entities.entity_located.Goals as goal
 
 pub known_located-requires-clause-known : goal.known_located-requires-clause-known

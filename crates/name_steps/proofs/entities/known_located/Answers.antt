@@ -1,13 +1,13 @@
 use Rattle.std.proofs.Common.{Some, ap, subst, sym}
 use Rattle.go_tree.specs.GoTypes.Operands.{named_operand, named_place}
-use Rattle.operand_rules.specs.declared.values.ValueType.TheVariants.{Typed}
-use Rattle.operand_rules.specs.declared.values.Content.TheVariants.{Run, Exact}
+use Rattle.type_table.specs.declared.operand_rules.values.ValueType.TheVariants.{Typed}
+use Rattle.type_table.specs.declared.operand_rules.values.Content.TheVariants.{Run, Exact}
 use Rattle.operator_rules.specs.declared.access_rules.places.Place.TheVariants.{Addressable, Elsewhere}
 use Rattle.typed_names.specs.Meanings.{entity_at}
 use Rattle.universe_block.specs.Meanings.{entity_of}
 use Rattle.operand_modes.specs.declared.modes.Operand.TheVariants as mode
-use Rattle.operand_answers.specs.Known.{IsEntity}
-use Rattle.operand_answers.specs.Located.{GivesAt, IsLocated}
+use Rattle.operand_modes.specs.OperandAnswers.Known.{IsEntity}
+use Rattle.operand_modes.specs.OperandAnswers.Located.{GivesAt, IsLocated}
 use Rattle.name_steps.proofs.LocatedLemmas.{constant_located, function_located, predeclared_place, type_located, variable_located}
 use Rattle.name_steps.proofs.entities.known_located.Goals as goal
 

@@ -1,7 +1,7 @@
 use Rattle.std.proofs.Common.{refl, subst}
 use Rattle.go_tree.specs.GoTypes.Operands.{named_operand, named_place}
 use Rattle.typed_names.specs.Scopes.{env_at}
-use Rattle.operand_answers.specs.Located.{GivesAt}
+use Rattle.operand_modes.specs.OperandAnswers.Located.{GivesAt}
 use Rattle.name_steps.proofs.EntityLemmas.{export_there}
 use Rattle.name_steps.proofs.names.qualified.Goals as goal
 

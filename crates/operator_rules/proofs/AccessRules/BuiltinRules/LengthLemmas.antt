@@ -12,12 +12,12 @@ use Rattle.go_tree.specs.GoTypes.Entities.{Content, run, exact, shift}
 use Rattle.go_tree.specs.GoTypes.Operands.{constant_value, kind_of, plain_value}
 use Rattle.go_tree.specs.GoTypes.Primary.{length_of}
 use Rattle.type_table.specs.TypeRelations.Environment.{Environment, defined_types}
-use Rattle.operand_rules.specs.declared.values.ValueType.TheVariants.{Typed}
-use Rattle.operand_rules.specs.declared.values.Value.{Value}
-use Rattle.operand_rules.specs.declared.values.Refusal.{Refusal}
-use Rattle.operand_rules.specs.Folding.{Folds}
-use Rattle.operand_rules.specs.Values.{Gives}
-use Rattle.operand_rules.proofs.FoldingLemmas.{answers_give}
+use Rattle.type_table.specs.declared.operand_rules.values.ValueType.TheVariants.{Typed}
+use Rattle.type_table.specs.declared.operand_rules.values.Value.{Value}
+use Rattle.type_table.specs.declared.operand_rules.values.Refusal.{Refusal}
+use Rattle.type_table.specs.OperandRules.Folding.{Folds}
+use Rattle.type_table.specs.OperandRules.Values.{Gives}
+use Rattle.type_table.proofs.OperandRules.FoldingLemmas.{answers_give}
 use Rattle.operator_rules.specs.declared.basics.BasicTypes.{BasicTypes}
 use Rattle.operator_rules.specs.BasicTypes.{AreBasic}
 use Rattle.operator_rules.specs.AccessRules.BuiltinRules.Lengths.{text_length}

@@ -9,8 +9,8 @@ use Rattle.go_tree.specs.GoTypes.Defined.{Defined, under}
 use Rattle.go_tree.specs.GoTypes.Operands.{Operand, Typed, a_type, all_typed, plain_value}
 use Rattle.go_tree.specs.GoTypes.Primary.{is_index, make_call, make_sizes, rise}
 use Rattle.type_table.specs.TypeRelations.Environment.{Environment, defined_types}
-use Rattle.operand_rules.specs.declared.values.Value.{Value}
-use Rattle.operand_rules.specs.Values.{typed_of}
+use Rattle.type_table.specs.declared.operand_rules.values.Value.{Value}
+use Rattle.type_table.specs.OperandRules.Values.{typed_of}
 use Rattle.operator_rules.specs.AccessRules.Functions.{operands_of}
 
 module _ {A : Type 0} (ds : List Defined) (f : A → Typed) where

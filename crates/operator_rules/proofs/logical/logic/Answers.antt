@@ -2,7 +2,7 @@ use mathlib.Core.Path.{sym, ◌∙◌}
 use Rattle.go_tree.specs.GoTypes.Operators.{joins}
 use Rattle.go_tree.proofs.GoTypes.IdenticalLaws.{and_right}
 use Rattle.type_table.specs.TypeRelations.Environment.{defined_types}
-use Rattle.operand_rules.specs.Values.{type_of, typed_of}
+use Rattle.type_table.specs.OperandRules.Values.{type_of, typed_of}
 use Rattle.operator_rules.proofs.LogicalLemmas.{logical_truth}
 use Rattle.operator_rules.proofs.logical.logic.Goals as goal
 

@@ -8,14 +8,16 @@ ghost use Rattle.go_tree.specs.GoTypes.Entities as go_entity;
 ghost use Rattle.go_tree.specs.GoTypes.Operands.{fits};
 ghost use Rattle.go_tree.specs.GoTypes.Primary as go;
 ghost use Rattle.type_table.specs.TypeRelations.Environment.{defined_types, env_type};
-ghost use Rattle.operand_rules.specs.Values.{Gives, IsType, IsValue, type_of, typed_of};
+ghost use Rattle.type_table.specs.OperandRules.Values.{Gives, IsType, IsValue, type_of, typed_of};
 ghost use Rattle.operator_rules.specs.BasicTypes.{AreBasic};
 ghost use Rattle.operator_rules.specs.Parts.{HasParts};
 ghost use Rattle.operator_rules.specs.AccessRules.Functions.{AreValues};
 
 use crate::BasicTypes;
 use crate::access_rules::form;
-use operand_rules::{ConstTable, Content, Refusal, Value, ValueType, fits, is_text_kind, kind_of};
+use type_table::operand_rules::{
+    ConstTable, Content, Refusal, Value, ValueType, fits, is_text_kind, kind_of,
+};
 use type_table::type_relations::{Env, identical};
 use type_table::{TypeId, TypeNode};
 

@@ -5,8 +5,8 @@ ghost use Rattle.go_tree.specs.declared.const_eval.consts.Const.{Const};
 ghost use Rattle.go_tree.specs.GoTypes.Entities as go_entity;
 ghost use Rattle.go_tree.specs.GoTypes.Primary as go;
 ghost use Rattle.type_table.specs.TypeRelations.Environment.{defined_types};
-ghost use Rattle.operand_rules.specs.Constants.{Grown};
-ghost use Rattle.operand_rules.specs.Values.{Gives, IsKept, IsType, IsValue, content_of, type_of, typed_of};
+ghost use Rattle.type_table.specs.OperandRules.Constants.{Grown};
+ghost use Rattle.type_table.specs.OperandRules.Values.{Gives, IsKept, IsType, IsValue, content_of, type_of, typed_of};
 ghost use Rattle.operator_rules.specs.BasicTypes.{AreBasic};
 ghost use Rattle.operator_rules.specs.Parts.{HasParts};
 ghost use Rattle.operator_rules.specs.AccessRules.BuiltinRules.Lengths.{text_length};
@@ -14,9 +14,9 @@ ghost use Rattle.operator_rules.specs.AccessRules.BuiltinRules.Lengths.{text_len
 use crate::BasicTypes;
 use crate::access_rules::{form, is_text};
 use go_tree::const_eval::{Const, Kind, convert};
-use operand_rules::{ConstTable, Content, Refusal, Value, ValueType, folded};
 use std::alloc::Global;
 use type_table::TypeNode;
+use type_table::operand_rules::{ConstTable, Content, Refusal, Value, ValueType, folded};
 use type_table::type_relations::Env;
 
 /// What `cap(s)` gives: slices have a capacity.
@@ -69,7 +69,7 @@ fn text_length(consts: &ConstTable, s: Content) -> Option<i128>
 }
 
 /// The length of a value: that of a constant string is constant.
-#[tactic(auto, using(operand_rules::proofs::ConstantLemmas::grown_self))]
+#[tactic(auto, using(type_table::proofs::OperandRules::ConstantLemmas::grown_self))]
 fn length_of(
     alloc: Global,
     env: &Env,
@@ -99,7 +99,7 @@ fn length_of(
 
 /// What `len(s)` gives: strings, slices and maps have a length, and that of a constant string is
 /// constant.
-#[tactic(auto, using(operand_rules::proofs::ConstantLemmas::grown_self, operand_rules::proofs::ArithmeticLemmas::kept_constant))]
+#[tactic(auto, using(type_table::proofs::OperandRules::ConstantLemmas::grown_self, type_table::proofs::OperandRules::ArithmeticLemmas::kept_constant))]
 pub fn length(
     alloc: Global,
     env: &Env,

@@ -7,15 +7,15 @@ ghost use Rattle.go_tree.specs.GoTypes.Operands.{a_type};
 ghost use Rattle.go_tree.specs.GoTypes.Primary as go;
 ghost use Rattle.go_tree.specs.GoTypes.Types.{GoType, map_of, slice_of};
 ghost use Rattle.type_table.specs.TypeRelations.Environment.{defined_types, env_type};
-ghost use Rattle.operand_rules.specs.declared.values.ValueType.TheVariants.{Typed};
-ghost use Rattle.operand_rules.specs.Values.{Gives, IsType, typed_of};
+ghost use Rattle.type_table.specs.declared.operand_rules.values.ValueType.TheVariants.{Typed};
+ghost use Rattle.type_table.specs.OperandRules.Values.{Gives, IsType, typed_of};
 ghost use Rattle.operator_rules.specs.Kept.{TypesGrown};
 ghost use Rattle.operator_rules.specs.Parts.{HasParts};
 ghost use Rattle.type_table.specs.ValueTypes.ValueTypes.{HasValueTypes};
 ghost use Rattle.operator_rules.specs.AccessRules.Functions.{AreValues, operands_of};
 
 use crate::access_rules::{Place, address_of, contents_rise, form, is_index};
-use operand_rules::{ConstTable, Content, Refusal, Value, ValueType};
+use type_table::operand_rules::{ConstTable, Content, Refusal, Value, ValueType};
 use type_table::type_relations::Env;
 use type_table::{TypeId, TypeNode};
 

@@ -4,11 +4,11 @@ ghost use Rattle.std.specs.Prelude.{◌≡◌, ◌∷◌, []};
 ghost use Rattle.go_tree.specs.GoTypes.Answers.{only_if};
 ghost use Rattle.go_tree.specs.GoTypes.Primary as go;
 ghost use Rattle.type_table.specs.TypeRelations.Environment.{defined_types};
-ghost use Rattle.operand_rules.specs.Values.{IsValue, typed_of};
+ghost use Rattle.type_table.specs.OperandRules.Values.{IsValue, typed_of};
 ghost use Rattle.operator_rules.specs.BasicTypes.{AreBasic};
 
 use crate::{BasicTypes, settled};
-use operand_rules::{ConstTable, Value, under_kind};
+use type_table::operand_rules::{ConstTable, Value, under_kind};
 use type_table::type_relations::Env;
 
 /// Whether a value may be printed: a truth value, a whole number or a string.

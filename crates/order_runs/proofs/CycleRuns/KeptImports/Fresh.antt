@@ -12,8 +12,8 @@ use Rattle.go_tree.specs.ScopeNames.Identifiers.{identifiers}
 use Rattle.go_tree.specs.ScopeNames.Means.{predeclared}
 use Rattle.pkg_graph.specs.Package.{Package, import_specs}
 use Rattle.pkg_graph.specs.Members.{package_name, import_name}
-use Rattle.import_rules.specs.declared.new_import.NewImport.{NewImport}
-use Rattle.import_rules.specs.Needs.{serving, avoided}
+use Rattle.run_rules.specs.declared.import_rules.new_import.NewImport.{NewImport}
+use Rattle.run_rules.specs.ImportRules.Needs.{serving, avoided}
 use Rattle.go_tree.specs.GoTypes.Answers.{given}
 use Rattle.run_rules.specs.Surroundings.{Place}
 use Rattle.run_rules.specs.Sites.{MarkRef, Where}

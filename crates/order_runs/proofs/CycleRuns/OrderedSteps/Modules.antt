@@ -5,7 +5,7 @@ use Rattle.std.proofs.lemmas.List.{map-append, length-map}
 use Rattle.std.proofs.lemmas.Option.{same_Some}
 use Rattle.go_tree.specs.declared.spans.Span.{Span}
 use Rattle.go_tree.specs.File.{ImportSpec, ImportDecl}
-use Rattle.module_files.specs.PathLists.{number_of}
+use Rattle.pkg_graph.specs.ModuleFiles.PathLists.{number_of}
 use Rattle.pkg_graph.specs.Package.{SourceTree, Package, specs_in, packages_of}
 use Rattle.pkg_graph.specs.Graph.{imports_of, files_import}
 use Rattle.pkg_graph.specs.GraphLaws.{OrdersHoldAll}

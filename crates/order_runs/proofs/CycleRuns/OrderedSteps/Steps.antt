@@ -8,12 +8,12 @@ use Rattle.go_tree.specs.File.{ImportDecl, File}
 use Rattle.pkg_graph.specs.Package.{SourceTree, Package, specs_in, import_specs}
 use Rattle.pkg_graph.specs.Graph.{imports_of, files_import, Imports, imported, Leads, directly, over}
 use Rattle.go_tree.specs.GoTypes.Agreement.{In}
-use Rattle.import_rules.specs.declared.new_import.NewImport.{NewImport}
+use Rattle.run_rules.specs.declared.import_rules.new_import.NewImport.{NewImport}
 use Rattle.run_rules.specs.Naming.{imports_added}
 use Rattle.run_rules.specs.Sites.{MarkRef, Where}
 use Rattle.run_rules.specs.Steps.{At, same_here, change_nth, with_file, spec_for, added_decls}
 use Rattle.run_rules.specs.Run.{Standing, Logged, Next, here_of}
-use Rattle.splice_laws.proofs.RunLaws.FoundSpans.{Placed}
+use Rattle.run_rules.proofs.SpliceLaws.RunLaws.FoundSpans.{Placed}
 use Rattle.order_runs.specs.CycleRuns.ImportCycles.ImportSteps.{file_added, packages_added}
 use Rattle.order_runs.proofs.CycleRuns.ImportCycles.ImportStep.{placed}
 use Rattle.order_runs.specs.CycleRuns.OrderCycles.Orders.{AllOrdered}

@@ -2,7 +2,7 @@
 use Rattle.std.specs.Prelude.{◌≡◌, ◌+◌, ◌<◌, ◌^◌, ℕ, List, length}
 use Rattle.pkg_graph.specs.Package.{Package}
 use Rattle.pkg_graph.specs.Members.{package_name}
-use Rattle.import_rules.specs.Needs.{avoided}
+use Rattle.run_rules.specs.ImportRules.Needs.{avoided}
 use Rattle.run_rules.specs.Naming.{fuel_for, package_path, own_name, names_here}
 use Rattle.run_rules.specs.Steps.{At, Found}
 use Rattle.constant_steps.specs.FormImports.ImportLaws.Steps.{binders_of}

@@ -1,6 +1,6 @@
 use Rattle.std.proofs.Common.{◌≡◌, ◌∙◌, ◌+◌, ap, sym, take, ◌++◌, ◌∷◌, []}
 use Rattle.std.proofs.lemmas.List.{map_more}
-use Rattle.module_files.specs.Pieces.{folder_of}
+use Rattle.pkg_graph.specs.ModuleFiles.Pieces.{folder_of}
 use Rattle.pkg_graph.specs.Package.{import_path}
 use Rattle.pkg_graph.specs.Views.{sources_of, source_of}
 use Rattle.pkg_graph.proofs.PackageLaws.{homes_next}

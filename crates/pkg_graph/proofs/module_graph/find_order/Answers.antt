@@ -1,7 +1,7 @@
 use Rattle.std.proofs.Common.{◌∙◌, ap, sym, arith, map, find, not}
 use Rattle.std.specs.List.{list_any}
 use Rattle.pkg_graph.specs.Package.{packages_of}
-use Rattle.module_files.specs.Internal.{may_import}
+use Rattle.pkg_graph.specs.ModuleFiles.Internal.{may_import}
 use Rattle.pkg_graph.specs.Graph.{is_named_by, numbered_files}
 use Rattle.pkg_graph.specs.GraphFaults.{named_by, is_mixed_at}
 use Rattle.pkg_graph.specs.ImportViews.{import_view}

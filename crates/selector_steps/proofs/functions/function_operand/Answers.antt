@@ -2,7 +2,7 @@ use Rattle.std.proofs.Common.{Some}
 use Rattle.go_tree.specs.GoTypes.Operands.{a_function}
 use Rattle.func_types.specs.Answers.{func_of, types_at}
 use Rattle.func_types.proofs.ParamSteps.{types_below, types_kept}
-use Rattle.operand_answers.proofs.KeptLemmas.{keeps_on}
+use Rattle.operand_modes.proofs.OperandAnswers.KeptLemmas.{keeps_on}
 use Rattle.selector_steps.proofs.SelectorLemmas.{function_given, tuple_refused}
 use Rattle.selector_steps.proofs.functions.function_operand.Goals as goal
 

@@ -2,10 +2,10 @@ use Rattle.std.proofs.Common.{sym}
 use Rattle.go_tree.specs.GoTypes.Operands.{Typed}
 use Rattle.go_tree.specs.GoTypes.Primary.{selected}
 use Rattle.type_table.specs.TypeRelations.Environment.{defined_types}
-use Rattle.operand_rules.specs.Values.{type_of}
+use Rattle.type_table.specs.OperandRules.Values.{type_of}
 use Rattle.operator_rules.specs.AccessRules.Places.{place_of}
-use Rattle.checker_tables.proofs.MethodLemmas.{selected_has_value_types}
-use Rattle.checker_tables.proofs.PartLemmas.{parts_follow}
+use Rattle.operand_modes.proofs.CheckerTables.MethodLemmas.{selected_has_value_types}
+use Rattle.operand_modes.proofs.CheckerTables.PartLemmas.{parts_follow}
 use Rattle.selector_steps.proofs.selections.selection.Goals as goal
 
 pub selected-requires-clause-types : goal.selected-requires-clause-types

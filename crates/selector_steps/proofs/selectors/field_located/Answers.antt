@@ -1,8 +1,8 @@
 use Rattle.go_tree.specs.GoTypes.Primary.{selected_place}
 use Rattle.type_table.specs.TypeRelations.Environment.{defined_types}
-use Rattle.operand_rules.specs.Values.{type_of}
+use Rattle.type_table.specs.OperandRules.Values.{type_of}
 use Rattle.operator_rules.specs.AccessRules.Places.{place_of}
-use Rattle.checker_tables.proofs.PartLemmas.{parts_follow}
+use Rattle.operand_modes.proofs.CheckerTables.PartLemmas.{parts_follow}
 use Rattle.selector_steps.proofs.SelectorLemmas.{field_is}
 use Rattle.selector_steps.proofs.selectors.field_located.Goals as goal
 

@@ -1,11 +1,11 @@
 use Rattle.std.proofs.Common.{subst, sym}
 use Rattle.go_tree.specs.GoTypes.Primary.{selected, selected_place}
 use Rattle.type_table.specs.TypeRelations.Environment.{defined_types}
-use Rattle.operand_rules.specs.Values.{typed_of}
+use Rattle.type_table.specs.OperandRules.Values.{typed_of}
 use Rattle.operator_rules.specs.AccessRules.Places.{place_of}
 use Rattle.func_types.specs.Answers.{func_of}
 use Rattle.operand_modes.specs.Operands.{GivesOperand}
-use Rattle.operand_answers.specs.Located.{GivesAt}
+use Rattle.operand_modes.specs.OperandAnswers.Located.{GivesAt}
 use Rattle.selector_steps.specs.Selected.{IsSelectedAs}
 use Rattle.selector_steps.proofs.SelectorLemmas.{method_place, selected_refused}
 use Rattle.selector_steps.proofs.selectors.selected_value.Goals as goal

@@ -3,8 +3,8 @@ use Rattle.go_tree.specs.GoTypes.Operands.{place_by, with_value}
 use Rattle.go_tree.specs.GoTypes.Primary.{selected, selected_place}
 use Rattle.type_table.specs.TypeRelations.Environment.{defined_types}
 use Rattle.operand_modes.specs.Operands.{IsOperand}
-use Rattle.operand_answers.specs.Located.{GivesAt, IsThereIfOk}
-use Rattle.operand_answers.proofs.AnswerLemmas.{refused, single_is}
+use Rattle.operand_modes.specs.OperandAnswers.Located.{GivesAt, IsThereIfOk}
+use Rattle.operand_modes.proofs.OperandAnswers.AnswerLemmas.{refused, single_is}
 use Rattle.selector_steps.proofs.SelectorLemmas.{none_selected, selector_given}
 use Rattle.selector_steps.proofs.selectors.selector.Goals as goal
 

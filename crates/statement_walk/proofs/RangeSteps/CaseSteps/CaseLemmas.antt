@@ -15,16 +15,16 @@ use Rattle.go_tree.specs.GoTypes.Operands.{Typed}
 use Rattle.go_tree.specs.GoTypes.Statements.{Clauses, case_constants, choice, is_default}
 use Rattle.type_table.specs.TypeRelations.Environment.{Environment}
 use Rattle.typed_names.proofs.TypeExprs.NewNames.{drop_all}
-use Rattle.operand_rules.specs.declared.values.ValueType.{ValueType}
-use Rattle.operand_rules.specs.declared.values.Content.{Content}
-use Rattle.operand_rules.specs.declared.values.Content.TheVariants.{Run, Exact, Shift}
-use Rattle.operand_rules.specs.declared.values.Value.{Value}
-use Rattle.operand_rules.specs.Values.{IsContent, IsKept, content_of, typed_of}
+use Rattle.type_table.specs.declared.operand_rules.values.ValueType.{ValueType}
+use Rattle.type_table.specs.declared.operand_rules.values.Content.{Content}
+use Rattle.type_table.specs.declared.operand_rules.values.Content.TheVariants.{Run, Exact, Shift}
+use Rattle.type_table.specs.declared.operand_rules.values.Value.{Value}
+use Rattle.type_table.specs.OperandRules.Values.{IsContent, IsKept, content_of, typed_of}
 use Rattle.operator_rules.specs.AccessRules.Functions.{AreValues}
 use Rattle.operator_rules.proofs.AccessRules.CallLemmas.{value_item}
-use Rattle.literal_rules.specs.Sets.{new_and_distinct}
-use Rattle.literal_rules.proofs.DistinctLemmas.{new_first, seen_first, seen_none}
-use Rattle.literal_rules.proofs.SetLemmas.{const_turned}
+use Rattle.composite_steps.specs.LiteralRules.Sets.{new_and_distinct}
+use Rattle.composite_steps.proofs.LiteralRules.DistinctLemmas.{new_first, seen_first, seen_none}
+use Rattle.composite_steps.proofs.LiteralRules.SetLemmas.{const_turned}
 use Rattle.statement_walk.specs.RangeSteps.CaseSteps.Cases.{AddsAll, SeenSoFar, count, once_in, once_of}
 
 -- ---- truth values

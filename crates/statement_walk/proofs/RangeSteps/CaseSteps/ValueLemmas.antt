@@ -11,21 +11,21 @@ use Rattle.go_tree.specs.GoTypes.Operands.{Typed, all_typed, value}
 use Rattle.go_tree.specs.GoTypes.Operators.{binary_of}
 use Rattle.go_tree.specs.GoTypes.Statements.{case_value}
 use Rattle.type_table.specs.TypeRelations.Environment.{Environment}
-use Rattle.operand_rules.specs.declared.values.Value.{Value}
-use Rattle.operand_rules.specs.declared.values.Refusal.{Refusal}
-use Rattle.operand_rules.specs.declared.values.Refusal.TheVariants.{NotTyped, NoMemory}
-use Rattle.operand_rules.specs.Values.{typed_of}
+use Rattle.type_table.specs.declared.operand_rules.values.Value.{Value}
+use Rattle.type_table.specs.declared.operand_rules.values.Refusal.{Refusal}
+use Rattle.type_table.specs.declared.operand_rules.values.Refusal.TheVariants.{NotTyped, NoMemory}
+use Rattle.type_table.specs.OperandRules.Values.{typed_of}
 use Rattle.operator_rules.specs.AccessRules.Functions.{AreValues}
 use Rattle.operand_modes.specs.Lists.{GivesValues}
 use Rattle.operand_modes.specs.Operands.{operands_at}
-use Rattle.operand_laws.specs.Alike.{SameAnswer}
-use Rattle.operand_answers.proofs.OperatorSteps.AlikeLemmas.{binary_alike}
+use Rattle.operand_modes.specs.OperandLaws.Alike.{SameAnswer}
+use Rattle.operand_modes.proofs.OperandAnswers.OperatorSteps.AlikeLemmas.{binary_alike}
 use Rattle.call_laws.proofs.ValueLists.{SameSome, typed_same}
-use Rattle.operand_answers.proofs.KeptLemmas.{value_on, value_same}
-use Rattle.checker_tables.specs.declared.tables.Tables.{Tables}
-use Rattle.checker_tables.specs.Ready.{Keeps}
-use Rattle.operand_answers.specs.declared.lists.OperandList.{OperandList}
-use Rattle.operand_answers.specs.Lists.{GivesAll}
+use Rattle.operand_modes.proofs.OperandAnswers.KeptLemmas.{value_on, value_same}
+use Rattle.operand_modes.specs.declared.checker_tables.tables.Tables.{Tables}
+use Rattle.operand_modes.specs.CheckerTables.Ready.{Keeps}
+use Rattle.operand_modes.specs.declared.operand_answers.lists.OperandList.{OperandList}
+use Rattle.operand_modes.specs.OperandAnswers.Lists.{GivesAll}
 use Rattle.control_steps.specs.RightSides.Values.{AreValuesIfOk, GivesValuesAlike, SameValue, SameValues}
 
 pub values_there :

@@ -9,7 +9,7 @@ use Rattle.go_tree.specs.ScopeNames.FreeNames.{free_type}
 use Rattle.type_table.specs.TypeRelations.Environment.{defined_types}
 use Rattle.typed_names.proofs.TypeExprs.NewNames.{drop_all, drop_item}
 use Rattle.operator_rules.specs.Settling.{typed_option}
-use Rattle.operand_answers.proofs.KeptLemmas.{env_kept, keeps_on}
+use Rattle.operand_modes.proofs.OperandAnswers.KeptLemmas.{env_kept, keeps_on}
 use Rattle.expr_walk.specs.Walked.{AreAllWalked, AreWalkedElems}
 use Rattle.expr_walk.proofs.Parts.{elem_smaller, elem_walked, expr_smaller, expr_walked}
 use Rattle.expr_walk.proofs.WalkArms.ExprArms.{at}

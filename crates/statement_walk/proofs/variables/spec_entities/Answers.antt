@@ -6,7 +6,7 @@ use Rattle.go_tree.specs.GoTypes.Declarations.{new_variables}
 use Rattle.go_tree.specs.GoTypes.Statements.{right_values}
 use Rattle.go_tree.specs.GoTypes.TypeNames.{written_type}
 use Rattle.go_tree.specs.GoTypes.Typing as go
-use Rattle.operand_answers.proofs.KeptLemmas.{keeps_on}
+use Rattle.operand_modes.proofs.OperandAnswers.KeptLemmas.{keeps_on}
 use Rattle.control_steps.specs.RightSides.Values.{GivesValuesAlike}
 use Rattle.go_tree.specs.ScopeNames.FreeNames.{names_of}
 use Rattle.assignment_steps.specs.SpecSteps.Specs.{GivesVariables, GivesWritten}

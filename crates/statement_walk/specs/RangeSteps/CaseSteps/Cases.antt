@@ -9,7 +9,7 @@ use Rattle.go_tree.specs.GoTypes.Entities.{Content, run, exact, shift}
 use Rattle.go_tree.specs.GoTypes.Literals.{same_const}
 use Rattle.go_tree.specs.GoTypes.Operands.{Typed}
 use Rattle.go_tree.specs.GoTypes.Statements.{Clauses, case_constants}
-use Rattle.literal_rules.specs.Sets.{new_and_distinct}
+use Rattle.composite_steps.specs.LiteralRules.Sets.{new_and_distinct}
 use Rattle.statement_walk.specs.declared.range_steps.case_steps.seen.CasesSeen.{CasesSeen}
 
 -- a number or a string may stand once among the cases

@@ -13,9 +13,9 @@ use Rattle.go_tree.specs.GoTypes.TypeNames.{written_type}
 use Rattle.go_tree.specs.GoTypes.Typing.{all_parts}
 use Rattle.typed_names.specs.declared.scopes.Scope.{Scope}
 use Rattle.typed_names.specs.Meanings.{Names}
-use Rattle.operand_rules.specs.declared.values.Refusal.{Refusal}
-use Rattle.operand_rules.specs.declared.values.Refusal.TheVariants.{NotTyped, NoMemory}
-use Rattle.checker_tables.specs.declared.tables.Tables.{Tables}
+use Rattle.type_table.specs.declared.operand_rules.values.Refusal.{Refusal}
+use Rattle.type_table.specs.declared.operand_rules.values.Refusal.TheVariants.{NotTyped, NoMemory}
+use Rattle.operand_modes.specs.declared.checker_tables.tables.Tables.{Tables}
 use Rattle.control_steps.specs.LocalBlocks.Places.{IsPlace}
 use Rattle.expr_walk.specs.Walked.{AreAllWalked}
 

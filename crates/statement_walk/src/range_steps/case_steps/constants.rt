@@ -3,17 +3,17 @@
 ghost use Rattle.std.specs.Prelude.{◌≡◌, map, true, IfOk, OnOk};
 ghost use Rattle.go_tree.specs.GoTypes.Literals.{same_const};
 ghost use Rattle.go_tree.specs.GoTypes.Statements as go;
-ghost use Rattle.operand_rules.specs.Values.{IsKept, content_of, typed_of};
+ghost use Rattle.type_table.specs.OperandRules.Values.{IsKept, content_of, typed_of};
 ghost use Rattle.operator_rules.specs.AccessRules.Functions.{AreValues};
-ghost use Rattle.literal_rules.specs.Sets.{new_and_distinct};
+ghost use Rattle.composite_steps.specs.LiteralRules.Sets.{new_and_distinct};
 ghost use Rattle.statement_walk.specs.RangeSteps.CaseSteps.Cases.{AddsAll, once_in, once_of};
 
-use checker_tables::Tables;
+use composite_steps::literal_rules::ConstSet;
 use go_tree::NoMemory;
 use go_tree::const_eval::Const;
-use literal_rules::ConstSet;
-use operand_rules::{ConstTable, Content, Value};
+use operand_modes::checker_tables::Tables;
 use std::alloc::Global;
+use type_table::operand_rules::{ConstTable, Content, Value};
 
 /// Adds a number or a string to the constants that were seen, and says whether it is new; truth values
 /// may stand twice.

@@ -3,16 +3,16 @@
 ghost use Rattle.std.specs.Prelude.{◌≡◌, ◌&&◌, ◌||◌, None, Some, not, if◌then◌else◌, map, IfOk};
 ghost use Rattle.go_tree.specs.View.{exprs_of};
 ghost use Rattle.go_tree.specs.GoTypes.Statements as go;
-ghost use Rattle.operand_rules.specs.Values.{typed_of};
+ghost use Rattle.type_table.specs.OperandRules.Values.{typed_of};
 ghost use Rattle.operator_rules.specs.AccessRules.Functions.{AreValues};
 ghost use Rattle.statement_walk.specs.RangeSteps.CaseSteps.Cases.{choice_after, count, no_cases, with_case};
 
 use crate::range_steps::case_steps::constants::add_values;
-use checker_tables::Tables;
+use composite_steps::literal_rules::ConstSet;
 use go_tree::{ExprList, NoMemory};
-use literal_rules::ConstSet;
-use operand_rules::Value;
+use operand_modes::checker_tables::Tables;
 use std::alloc::Global;
+use type_table::operand_rules::Value;
 
 /// What the cases of a switch that were seen come to: their constants, whether one is the default, and
 /// whether each ends in a terminating statement and isn't left by a `break`.

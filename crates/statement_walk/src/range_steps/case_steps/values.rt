@@ -8,19 +8,19 @@ ghost use Rattle.go_tree.specs.GoTypes.Entities as go_entity;
 ghost use Rattle.go_tree.specs.GoTypes.Operands as go_operand;
 ghost use Rattle.go_tree.specs.GoTypes.Statements as go;
 ghost use Rattle.type_table.specs.TypeRelations.Environment.{Environment, defined_types};
-ghost use Rattle.operand_rules.specs.Values.{IsValue, typed_of};
+ghost use Rattle.type_table.specs.OperandRules.Values.{IsValue, typed_of};
 ghost use Rattle.operand_modes.specs.Lists.{GivesValues};
 ghost use Rattle.operand_modes.specs.Operands.{AreOperands, operands_at};
-ghost use Rattle.checker_tables.specs.Ready.{AreReady, Keeps};
-ghost use Rattle.operand_answers.specs.Lists.{AreThereIfOk, GivesAll};
+ghost use Rattle.operand_modes.specs.CheckerTables.Ready.{AreReady, Keeps};
+ghost use Rattle.operand_modes.specs.OperandAnswers.Lists.{AreThereIfOk, GivesAll};
 ghost use Rattle.control_steps.specs.RightSides.Values.{AreValuesIfOk, GivesValuesAlike, SameValue};
 
-use checker_tables::Tables;
 use control_steps::are_cases;
-use operand_answers::OperandList;
+use operand_modes::checker_tables::Tables;
+use operand_modes::operand_answers::OperandList;
 use operand_modes::{Operand, ValueList, single_value};
-use operand_rules::{Refusal, Value};
 use std::alloc::Global;
+use type_table::operand_rules::{Refusal, Value};
 
 /// The values that operands are, each its own.
 fn own_values(alloc: Global, operands: &[Operand]) -> Result<ValueList, Refusal>

@@ -6,19 +6,19 @@ ghost use Rattle.go_tree.specs.GoTypes.Bodies.{no_values};
 ghost use Rattle.go_tree.specs.GoTypes.Declarations as go;
 ghost use Rattle.go_tree.specs.GoTypes.Entities.{Env};
 ghost use Rattle.go_tree.specs.ScopeNames.FreeNames.{names_of};
-ghost use Rattle.checker_tables.specs.Ready.{Keeps};
-ghost use Rattle.operand_answers.specs.Known.{Stands};
+ghost use Rattle.operand_modes.specs.CheckerTables.Ready.{Keeps};
+ghost use Rattle.operand_modes.specs.OperandAnswers.Known.{Stands};
 ghost use Rattle.control_steps.specs.LocalBlocks.Places.{IsPlace, IsWithin};
 ghost use Rattle.expr_walk.specs.Walked.{AreAllWalked};
 ghost use Rattle.statement_walk.specs.SimpleWalk.ConstantGroups.Groups.{GivesDeclared, IsWalkedFrom};
 ghost use Rattle.statement_walk.specs.SimpleWalk.ConstantGroups.Groups.{in_spec, own_from, repeated_from};
 
 use crate::simple_walk::constant_groups::members::constant_member;
-use checker_tables::Tables;
 use control_steps::LocalBlock;
 use go_tree::{ConstSpec, ExprList, NameAtList};
-use operand_rules::Refusal;
+use operand_modes::checker_tables::Tables;
 use std::alloc::Global;
+use type_table::operand_rules::Refusal;
 use typed_names::{Blocks, Scope};
 
 /// Whether a list of expressions has none.

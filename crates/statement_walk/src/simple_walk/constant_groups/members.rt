@@ -9,9 +9,9 @@ ghost use Rattle.go_tree.specs.GoTypes.TypeNames as type_name;
 ghost use Rattle.go_tree.specs.GoTypes.Typing as go_typing;
 ghost use Rattle.go_tree.specs.ScopeNames.FreeNames.{names_of};
 ghost use Rattle.typed_names.specs.Scopes.{env_at};
-ghost use Rattle.checker_tables.specs.Ready.{Keeps};
-ghost use Rattle.operand_answers.specs.Known.{Stands};
-ghost use Rattle.operand_answers.specs.Lists.{GivesAll};
+ghost use Rattle.operand_modes.specs.CheckerTables.Ready.{Keeps};
+ghost use Rattle.operand_modes.specs.OperandAnswers.Known.{Stands};
+ghost use Rattle.operand_modes.specs.OperandAnswers.Lists.{GivesAll};
 ghost use Rattle.control_steps.specs.DeclarationSteps.Entities.{AreEntities};
 ghost use Rattle.assignment_steps.specs.SpecSteps.Specs.{GivesConstants, GivesWritten, IsWrittenIfOk};
 ghost use Rattle.control_steps.specs.LocalBlocks.Places.{IsPlace, IsWithin};
@@ -19,14 +19,14 @@ ghost use Rattle.expr_walk.specs.Walked.{AreAllWalked};
 ghost use Rattle.statement_walk.specs.SimpleWalk.ConstantGroups.Groups.{GivesDeclared, numbered};
 
 use assignment_steps::{declare_entities, new_constants};
-use checker_tables::{Tables, meant};
 use control_steps::{EntityList, LocalBlock};
 use expr_walk::all_exprs;
 use go_tree::{ConstSpec, ExprList, NameAtList, TypeExpr};
-use operand_answers::OperandList;
-use operand_rules::Refusal;
+use operand_modes::checker_tables::{Tables, meant};
+use operand_modes::operand_answers::OperandList;
 use std::alloc::Global;
 use type_table::TypeId;
+use type_table::operand_rules::Refusal;
 use typed_names::{Blocks, Scope};
 
 /// The type that is written, if one is.

@@ -4,12 +4,12 @@ use Rattle.std.proofs.lemmas.Bool.Decides.{nat_tests}
 use Rattle.std.proofs.lemmas.Option.{none-some, same_Some}
 use Rattle.go_tree.specs.declared.spans.Span.{Span}
 use Rattle.go_tree.specs.Tree.{Expr, ident, selector}
-use Rattle.import_rules.specs.Removed.{same_span}
+use Rattle.run_rules.specs.ImportRules.Removed.{same_span}
 use Rattle.go_tree.specs.GoTypes.Answers.{one_of}
 use Rattle.run_rules.specs.Sites.{Part, an_expr, a_type_part}
-use Rattle.possible_uses.specs.Candidates.{Candidate}
-use Rattle.typed_parts.specs.StandingUses.LoneUses.Alone.{span_named, IsElsewhere, StandsAlone, here, later}
-use Rattle.package_search.specs.FileSteps.Used.{is_named_at, expr_at, first_at}
+use Rattle.member_uses.specs.PossibleUses.Candidates.{Candidate}
+use Rattle.printed_constants.specs.TypedParts.StandingUses.LoneUses.Alone.{span_named, IsElsewhere, StandsAlone, here, later}
+use Rattle.stepped_programs.specs.PackageSearch.FileSteps.Used.{is_named_at, expr_at, first_at}
 
 same_so : (a b : Span) → same_span a b ≡ true → a ≡ b
 same_so a b e = grind (arith, nat_tests, e)

@@ -7,15 +7,15 @@ use Rattle.run_rules.specs.Marks.{marks_of}
 use Rattle.run_rules.specs.Run.{Standing}
 use Rattle.run_rules.specs.Sites.{MarkRef}
 use Rattle.run_rules.specs.Texts.{FileText}
-use Rattle.package_search.specs.FileSteps.Steps.{MakesEdits}
+use Rattle.stepped_programs.specs.PackageSearch.FileSteps.Steps.{MakesEdits}
 use Rattle.next_file.specs.declared.file.FileFault.TheVariants.{TooLarge, NotRead}
 use Rattle.next_file.specs.Files.{IsNewFile, IsFault}
-use Rattle.package_search.specs.declared.looks.ProgramSources.{ProgramSources}
-use Rattle.package_search.specs.declared.search.FoundInPackage.{FoundInPackage}
+use Rattle.stepped_programs.specs.declared.package_search.looks.ProgramSources.{ProgramSources}
+use Rattle.stepped_programs.specs.declared.package_search.search.FoundInPackage.{FoundInPackage}
 use Rattle.run_by_steps.specs.Reached.{text_made}
 use Rattle.run_by_steps.specs.Laws.{StepGoesOn, StepPassesLimit, StepIsRead, RunEnds}
-use Rattle.typed_parts.specs.MarkedRuns.SettledConstants.Programs.{IsReady}
-use Rattle.use_search.specs.declared.views.FileView.{FileView}
+use Rattle.printed_constants.specs.TypedParts.MarkedRuns.SettledConstants.Programs.{IsReady}
+use Rattle.repeated_parts.specs.declared.use_search.views.FileView.{FileView}
 use Rattle.stepped_programs.specs.SearchedSites.OrderedSearches.Found.{IsFoundFirst}
 use Rattle.stepped_programs.specs.SearchedSites.FoundSteps.Uses.{IsRightUse, HasFile}
 use Rattle.stepped_programs.specs.SearchedSites.FoundSteps.Laws.{step_of, FoundUsesAreSteps, FoundUsesComeNext, FileStepsGoOn, FileStepsPassLimits, FileStepsAreRead, SearchesEndRuns}

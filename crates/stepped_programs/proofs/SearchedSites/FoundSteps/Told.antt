@@ -4,7 +4,7 @@ use Rattle.go_tree.specs.declared.spans.Span.{Span}
 use Rattle.go_tree.specs.File.{File}
 use Rattle.go_tree.specs.FileView.{file_of}
 use Rattle.go_scan.specs.TokenLists.{TokenLists}
-use Rattle.import_rules.specs.Laid.{CommentsAscend, Laid}
+use Rattle.run_rules.specs.ImportRules.Laid.{CommentsAscend, Laid}
 use Rattle.pkg_graph.specs.Package.{Package}
 use Rattle.go_tree.specs.declared.scope_names.names.FileNames.{FileNames}
 use Rattle.scope_tables.specs.Table.{Table, table_of}
@@ -20,25 +20,25 @@ use Rattle.constant_forms.specs.declared.reduced.ReducedConstant.TheVariants.{Be
 use Rattle.constant_forms.specs.declared.uses.ConstantValue.{ConstantValue}
 use Rattle.constant_forms.specs.declared.uses.ConstantValue.TheVariants.{Plain, Qualified}
 use Rattle.constant_forms.specs.Uses.{IsReducedTo}
-use Rattle.package_search.specs.FileSteps.Steps.{IsStepOf}
-use Rattle.package_search.specs.FileSteps.Used.{first_at}
-use Rattle.typed_parts.specs.StandingUses.LoneUses.Laws.{ConstantUsesStandAlone}
-use Rattle.typed_parts.specs.StandingUses.LoneUses.Alone.{StandsAlone}
-use Rattle.use_search.specs.MarkValues.Values.{value_of}
-use Rattle.package_search.specs.declared.looks.ProgramSources.{ProgramSources}
-use Rattle.package_search.specs.declared.search.FoundInPackage.{FoundInPackage}
-use Rattle.possible_uses.specs.Candidates.{Candidate}
-use Rattle.typed_parts.specs.MarkedRuns.PutForms.Uses.{IsFirstUse, UsesNamedConstant, IsOfPackages}
-use Rattle.typed_parts.specs.MarkedRuns.PutForms.Laws.{ConstantUsesHaveBytes, ConstantsComeNext, ValuesAreNames}
-use Rattle.typed_parts.proofs.MarkedRuns.PutForms.FirstUses.{file_reads}
+use Rattle.stepped_programs.specs.PackageSearch.FileSteps.Steps.{IsStepOf}
+use Rattle.stepped_programs.specs.PackageSearch.FileSteps.Used.{first_at}
+use Rattle.printed_constants.specs.TypedParts.StandingUses.LoneUses.Laws.{ConstantUsesStandAlone}
+use Rattle.printed_constants.specs.TypedParts.StandingUses.LoneUses.Alone.{StandsAlone}
+use Rattle.repeated_parts.specs.UseSearch.MarkValues.Values.{value_of}
+use Rattle.stepped_programs.specs.declared.package_search.looks.ProgramSources.{ProgramSources}
+use Rattle.stepped_programs.specs.declared.package_search.search.FoundInPackage.{FoundInPackage}
+use Rattle.member_uses.specs.PossibleUses.Candidates.{Candidate}
+use Rattle.printed_constants.specs.TypedParts.MarkedRuns.PutForms.Uses.{IsFirstUse, UsesNamedConstant, IsOfPackages}
+use Rattle.printed_constants.specs.TypedParts.MarkedRuns.PutForms.Laws.{ConstantUsesHaveBytes, ConstantsComeNext, ValuesAreNames}
+use Rattle.printed_constants.proofs.TypedParts.MarkedRuns.PutForms.FirstUses.{file_reads}
 use Rattle.run_by_steps.specs.Reached.{IsNextUse}
 use Rattle.stepped_programs.specs.SearchedSites.Told.{IsWithin}
-use Rattle.typed_parts.specs.MarkedRuns.SettledConstants.Programs.{IsReady}
-use Rattle.typed_parts.specs.StandingUses.ToldSteps.Laws.{MayBeEdited, FirstUsesAreTold, StepsMayBeEdited}
+use Rattle.printed_constants.specs.TypedParts.MarkedRuns.SettledConstants.Programs.{IsReady}
+use Rattle.printed_constants.specs.TypedParts.StandingUses.ToldSteps.Laws.{MayBeEdited, FirstUsesAreTold, StepsMayBeEdited}
 use Rattle.repeated_parts.specs.ImportsUnused.Uses.{all_parts}
 use Rattle.repeated_parts.specs.ImportsUnused.Told.{IsTold}
-use Rattle.typed_parts.specs.StandingUses.UsePlaces.Laws.{FoundUsesTakeNames}
-use Rattle.use_search.specs.declared.views.FileView.{FileView}
+use Rattle.printed_constants.specs.TypedParts.StandingUses.UsePlaces.Laws.{FoundUsesTakeNames}
+use Rattle.repeated_parts.specs.declared.use_search.views.FileView.{FileView}
 use Rattle.stepped_programs.specs.SearchedSites.OrderedSearches.Found.{IsFoundFirst}
 use Rattle.stepped_programs.specs.SearchedSites.FoundSteps.Uses.{IsRightUse, HasFile, MayBeMade}
 use Rattle.stepped_programs.specs.SearchedSites.FoundSteps.Laws.{step_of, FoundUsesAreSteps, StepsMayBeMade, FoundUsesComeNext}

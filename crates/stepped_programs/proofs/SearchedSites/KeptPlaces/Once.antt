@@ -3,8 +3,8 @@ use Rattle.std.proofs.Common.{◌≡◌, ◌∙◌, ◌⊎◌, inl, inr, refl, s
 use Rattle.std.specs.List.{list_any}
 use Rattle.std.proofs.lemmas.Bool.{eqb-true}
 use Rattle.go_tree.specs.declared.spans.Span.{Span}
-use Rattle.import_rules.specs.Removed.{same_span}
-use Rattle.use_search.specs.UsesOfMarks.Laws.{EachSite}
+use Rattle.run_rules.specs.ImportRules.Removed.{same_span}
+use Rattle.repeated_parts.specs.UseSearch.UsesOfMarks.Laws.{EachSite}
 use Rattle.pkg_graph.specs.Package.{SourceTree, Package}
 use Rattle.run_rules.specs.Programs.{numbered, numbered_from, in_dependency_order}
 use Rattle.run_rules.specs.Run.{Standing, same_place, places_once}

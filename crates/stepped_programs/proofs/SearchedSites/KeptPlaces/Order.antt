@@ -3,7 +3,7 @@ use Rattle.std.proofs.Common.{◌≡◌, ◌∙◌, refl, ap, ℕ, zero, suc, �
 use Rattle.std.specs.List.{list_any, list_all}
 use Rattle.std.proofs.lemmas.List.Folds.{list_any-append}
 use Rattle.pkg_graph.specs.Package.{Package}
-use Rattle.pkg_graph.specs.Pieces.{comes_before}
+use Rattle.pkg_graph.specs.ModuleFiles.Pieces.{comes_before}
 use Rattle.pkg_graph.specs.Graph.{imports_of}
 use Rattle.pkg_graph.specs.Order.{is_placed}
 use Rattle.run_rules.specs.Programs.{numbered, is_ready, lesser, least_ready, ordered_after, in_dependency_order}

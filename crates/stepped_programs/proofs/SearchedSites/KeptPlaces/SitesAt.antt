@@ -7,7 +7,7 @@ use Rattle.run_rules.specs.Programs.{decl_seen}
 use Rattle.run_rules.specs.Sites.{MarkRef, Where, Part, an_expr, a_type_part, Site, named_in, expr_mark, type_mark, site_by, type_sites, site_here, sites_among, decls_sites}
 use Rattle.run_rules.specs.Steps.{At}
 use Rattle.run_rules.specs.Surroundings.{Use, other, Place, Seen, seen, seen_type, seen_stmt}
-use Rattle.use_search.specs.UsesOfMarks.Laws.{EachSite}
+use Rattle.repeated_parts.specs.UseSearch.UsesOfMarks.Laws.{EachSite}
 
 pub both_each : (P : Site At → Type 0) (xs ys : List (Site At)) → EachSite P xs → EachSite P ys → EachSite P (xs ++ ys)
 both_each P [] ys h k = k

@@ -3,8 +3,8 @@ use Rattle.std.proofs.Common.{◌≡◌, ◌∙◌, refl, sym, ap, subst, Bool, 
 use Rattle.std.specs.List.{list_any}
 use Rattle.std.proofs.lemmas.Option.{none-some}
 use Rattle.go_tree.specs.declared.spans.Span.{Span}
-use Rattle.import_rules.specs.Removed.{same_span}
-use Rattle.use_search.specs.UsesOfMarks.Uses.{PlacedMark}
+use Rattle.run_rules.specs.ImportRules.Removed.{same_span}
+use Rattle.repeated_parts.specs.UseSearch.UsesOfMarks.Uses.{PlacedMark}
 use Rattle.run_rules.specs.Reduced.{reduced}
 use Rattle.run_rules.specs.Run.{Standing, KeptUse, is_commented, kept_use, kept_among, places_once}
 use Rattle.run_rules.specs.Sites.{MarkRef, Where, Site}
@@ -12,8 +12,8 @@ use Rattle.run_rules.specs.Steps.{At, same_here}
 use Rattle.stepped_programs.specs.SearchedSites.Searched.{IsKept, AreSearched, at_the_end, past_kept, at_free, sites_in_file, files_in_order}
 use Rattle.stepped_programs.specs.SearchedSites.Laws.{KeptSitesAreTold}
 use Rattle.stepped_programs.proofs.SearchedSites.Steps.{by_file}
-use Rattle.use_search.specs.declared.search.FoundForm.{FoundForm}
-use Rattle.use_search.specs.declared.search.FoundObstacle.{FoundObstacle}
+use Rattle.repeated_parts.specs.declared.use_search.search.FoundForm.{FoundForm}
+use Rattle.repeated_parts.specs.declared.use_search.search.FoundObstacle.{FoundObstacle}
 use Rattle.stepped_programs.specs.SearchedSites.KeptPlaces.Once.{span_of, sites_once, found_once, AreToldOnce, no_file, in_file}
 use Rattle.stepped_programs.specs.SearchedSites.KeptPlaces.Laws.{KeptUsesAreToldOnce}
 use Rattle.stepped_programs.proofs.SearchedSites.KeptPlaces.Once.{once_in_files, each_once}

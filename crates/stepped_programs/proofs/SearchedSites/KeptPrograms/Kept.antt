@@ -6,8 +6,8 @@ use Rattle.std.proofs.lemmas.List.{length-map, length-set}
 use Rattle.std.proofs.lemmas.Option.{same_Some, slice_get_within}
 use Rattle.go_tree.specs.declared.spans.Span.{Span}
 use Rattle.go_scan.specs.TokenLists.{TokenLists}
-use Rattle.import_rules.specs.Laid.{CommentsAscend}
-use Rattle.splice_laws.proofs.ImportSplices.ImportPlaces.CommentsStand.{comments_ascend}
+use Rattle.run_rules.specs.ImportRules.Laid.{CommentsAscend}
+use Rattle.run_rules.proofs.SpliceLaws.ImportSplices.ImportPlaces.CommentsStand.{comments_ascend}
 use Rattle.pkg_graph.specs.Package.{SourceTree, Package}
 use Rattle.pkg_graph.specs.Reads.{Source}
 use Rattle.pkg_graph.specs.Views.{package_view, source_of}
@@ -17,16 +17,16 @@ use Rattle.run_rules.specs.Sites.{MarkRef}
 use Rattle.run_rules.specs.Steps.{At}
 use Rattle.run_rules.specs.Run.{Standing, here_of}
 use Rattle.constant_steps.proofs.MarksFound.{nth_mapped}
-use Rattle.package_search.specs.declared.looks.ProgramSources.{ProgramSources}
-use Rattle.package_search.specs.declared.search.FoundInPackage.{FoundInPackage}
-use Rattle.package_search.specs.Search.{is_settled, HasNone, IsPackageSearch}
+use Rattle.stepped_programs.specs.declared.package_search.looks.ProgramSources.{ProgramSources}
+use Rattle.stepped_programs.specs.declared.package_search.search.FoundInPackage.{FoundInPackage}
+use Rattle.stepped_programs.specs.PackageSearch.Search.{is_settled, HasNone, IsPackageSearch}
 use Rattle.programs.specs.declared.state.PackageFiles.{PackageFiles}
 use Rattle.programs.specs.declared.state.Program.{Program}
 use Rattle.programs.specs.Kept.{IsKeptFile, AreCounted}
 use Rattle.programs.specs.Programs.{AreKeptFiles, IsProgramOf}
 use Rattle.programs.specs.Users.{Known}
-use Rattle.package_search.specs.SearchedPrograms.Programs.{IsOpenProgram, IsProgramSearch}
-use Rattle.package_search.specs.SearchedPrograms.Search.{HasNoneOf, IsUserSearch}
+use Rattle.stepped_programs.specs.PackageSearch.SearchedPrograms.Programs.{IsOpenProgram, IsProgramSearch}
+use Rattle.stepped_programs.specs.PackageSearch.SearchedPrograms.Search.{HasNoneOf, IsUserSearch}
 use Rattle.stepped_programs.specs.SearchedSites.KeptPrograms.Laws.{ProgramsAreOpen, SearchedProgramsStay, SearchesAreOfPackages}
 
 -- ---- lists

@@ -7,7 +7,7 @@ use Rattle.go_tree.specs.declared.tokens.Comment.{Comment}
 use Rattle.go_tree.specs.declared.scope_names.names.Entity.{Entity}
 use Rattle.go_tree.specs.declared.scope_names.names.Entity.TheVariants as entity
 use Rattle.scope_tables.specs.Table.{table_of, meaning_in}
-use Rattle.module_files.specs.Internal.{may_import}
+use Rattle.pkg_graph.specs.ModuleFiles.Internal.{may_import}
 use Rattle.pkg_graph.specs.declared.packages.Package as code
 use Rattle.go_tree.specs.GoTypes.Answers.{given, one_of}
 use Rattle.go_tree.specs.GoTypes.Entities.{is_exported}
@@ -18,9 +18,9 @@ use Rattle.constant_forms.specs.declared.uses.ConstantUse.{ConstantUse}
 use Rattle.constant_forms.specs.declared.uses.ConstantValue.{ConstantValue}
 use Rattle.constant_forms.specs.declared.uses.ConstantValue.TheVariants as lent
 use Rattle.constant_forms.specs.Told.{value_name, needed_package, is_hidden, is_another, path_at, is_elsewhere, obstacle_told}
-use Rattle.use_search.specs.declared.mark_values.values.DeclaredValue.{DeclaredValue}
-use Rattle.use_search.specs.declared.mark_values.values.DeclaredValue.TheVariants.{Plain, Qualified}
-use Rattle.use_search.specs.MarkValues.Values.{value_of}
+use Rattle.repeated_parts.specs.declared.use_search.mark_values.values.DeclaredValue.{DeclaredValue}
+use Rattle.repeated_parts.specs.declared.use_search.mark_values.values.DeclaredValue.TheVariants.{Plain, Qualified}
+use Rattle.repeated_parts.specs.UseSearch.MarkValues.Values.{value_of}
 use Rattle.stepped_programs.specs.SearchedSites.KeptUses.Laws.{AreToldAlike, KeptUsesStay}
 use Rattle.stepped_programs.proofs.SearchedSites.KeptUses.Obstacles.{by_obstacle, reduced_is}
 

@@ -18,10 +18,10 @@ use Rattle.constant_steps.specs.FormImports.ImportLaws.Steps.{names_standing}
 use Rattle.constant_steps.specs.PlaceMeanings.Laws.{AreNamesOf}
 use Rattle.member_uses.specs.Laws.{Knows}
 use Rattle.file_tables.specs.Numbers.{number_in}
-use Rattle.use_search.specs.Answers.{names_of}
-use Rattle.package_search.specs.declared.looks.FileLook.{FileLook}
-use Rattle.package_search.specs.declared.looks.ProgramSources.{ProgramSources}
-use Rattle.package_search.specs.Looks.{IsLook}
+use Rattle.repeated_parts.specs.UseSearch.Answers.{names_of}
+use Rattle.stepped_programs.specs.declared.package_search.looks.FileLook.{FileLook}
+use Rattle.stepped_programs.specs.declared.package_search.looks.ProgramSources.{ProgramSources}
+use Rattle.stepped_programs.specs.PackageSearch.Looks.{IsLook}
 use Rattle.stepped_programs.proofs.SearchedSites.Uses.{standing_named}
 use Rattle.stepped_programs.specs.SearchedSites.LookedFiles.Laws.{StandsAs, LooksTellFiles}
 use Rattle.stepped_programs.proofs.SearchedSites.LookedFiles.NamesStand.{names_stand, numbers_stand}

@@ -16,7 +16,7 @@ use Rattle.run_rules.specs.Steps.{At}
 use Rattle.run_rules.specs.Run.{here_of}
 use Rattle.constant_steps.specs.FormImports.ImportLaws.Steps.{names_standing}
 use Rattle.file_tables.specs.Numbers.{number_in}
-use Rattle.use_search.proofs.UsesOfMarks.BlocksStay.{block_stays}
+use Rattle.repeated_parts.proofs.UseSearch.UsesOfMarks.BlocksStay.{block_stays}
 
 module _ (ps : List (Package At)) where
   abbrev qs : List (Package Span)

@@ -9,16 +9,16 @@ use Rattle.run_rules.specs.Steps.{At, same_here, first_found}
 use Rattle.run_rules.specs.Run.{Standing, here_of, is_commented}
 use Rattle.constant_forms.specs.declared.uses.ConstantUse.{ConstantUse}
 use Rattle.stepped_programs.specs.SearchedSites.LookedFiles.Laws.{LooksTellFiles}
-use Rattle.use_search.specs.MarkValues.Values.{value_of}
-use Rattle.use_search.specs.UsesOfMarks.Laws.{UsesArePlaced}
-use Rattle.package_search.specs.declared.looks.ProgramSources.{ProgramSources}
-use Rattle.package_search.specs.declared.search.FoundInPackage.{FoundInPackage}
+use Rattle.repeated_parts.specs.UseSearch.MarkValues.Values.{value_of}
+use Rattle.repeated_parts.specs.UseSearch.UsesOfMarks.Laws.{UsesArePlaced}
+use Rattle.stepped_programs.specs.declared.package_search.looks.ProgramSources.{ProgramSources}
+use Rattle.stepped_programs.specs.declared.package_search.search.FoundInPackage.{FoundInPackage}
 use Rattle.stepped_programs.specs.SearchedSites.Told.{IsWithin, IsFile}
 use Rattle.stepped_programs.specs.SearchedSites.Searched.{sites_in_files, files_in_order}
 use Rattle.stepped_programs.specs.SearchedSites.Laws.{SearchesFindSites}
 use Rattle.stepped_programs.proofs.SearchedSites.Steps.{by_file, have_steps}
 use Rattle.stepped_programs.proofs.SearchedSites.Uses.{constant, declared, value, value_told, is_use}
-use Rattle.use_search.specs.Answers.{IsTold}
+use Rattle.repeated_parts.specs.UseSearch.Answers.{IsTold}
 use Rattle.stepped_programs.specs.SearchedSites.OrderedSearches.Held.{IsThere, IsHeld, Users, AreAllSettled}
 use Rattle.stepped_programs.specs.SearchedSites.OrderedSearches.Search.{IsFirstFree}
 use Rattle.stepped_programs.specs.SearchedSites.OrderedSearches.Found.{IsFoundFirst, IsStepFound}

@@ -6,14 +6,14 @@ use Rattle.run_rules.specs.Reduced.{Reduced}
 use Rattle.run_rules.specs.Sites.{MarkRef, Where, Site}
 use Rattle.run_rules.specs.Steps.{At, same_here, Found, found_by, first_found}
 use Rattle.run_rules.specs.Run.{Standing, is_commented}
-use Rattle.use_search.specs.UsesOfMarks.Laws.{EachSite, IsPlaced, UsesArePlaced}
-use Rattle.package_search.specs.declared.looks.ProgramSources.{ProgramSources}
-use Rattle.package_search.specs.declared.search.FoundInPackage.{FoundInPackage}
+use Rattle.repeated_parts.specs.UseSearch.UsesOfMarks.Laws.{EachSite, IsPlaced, UsesArePlaced}
+use Rattle.stepped_programs.specs.declared.package_search.looks.ProgramSources.{ProgramSources}
+use Rattle.stepped_programs.specs.declared.package_search.search.FoundInPackage.{FoundInPackage}
 use Rattle.stepped_programs.specs.SearchedSites.Searched.{found_of, IsFree, AreSearched, at_the_end, past_kept, at_free, sites_in_file, sites_in_files}
 use Rattle.stepped_programs.proofs.SearchedSites.Uses.{knows}
-use Rattle.use_search.specs.declared.search.FoundForm.{FoundForm}
-use Rattle.use_search.specs.declared.search.FoundObstacle.{FoundObstacle}
-use Rattle.use_search.specs.Answers.{names_of}
+use Rattle.repeated_parts.specs.declared.use_search.search.FoundForm.{FoundForm}
+use Rattle.repeated_parts.specs.declared.use_search.search.FoundObstacle.{FoundObstacle}
+use Rattle.repeated_parts.specs.UseSearch.Answers.{names_of}
 use Rattle.stepped_programs.specs.SearchedSites.OrderedSearches.Held.{Users}
 use Rattle.stepped_programs.proofs.SearchedSites.OrderedSearches.Ordered.{FoundAt, FoundAmong, found_here, found_later}
 

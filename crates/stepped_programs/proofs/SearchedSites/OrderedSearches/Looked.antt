@@ -12,19 +12,19 @@ use Rattle.run_rules.specs.Sites.{MarkRef, Where}
 use Rattle.run_rules.specs.Respanned.{source_with, package_with, packages_with}
 use Rattle.run_rules.specs.Steps.{At}
 use Rattle.run_rules.specs.Run.{Standing, here_of}
-use Rattle.use_search.specs.MarkValues.Tables.{Known, key_of, value_in}
+use Rattle.repeated_parts.specs.UseSearch.MarkValues.Tables.{Known, key_of, value_in}
 use Rattle.module_marks.specs.Views.{mark_ref_of}
 use Rattle.stepped_programs.specs.SearchedSites.LookedFiles.Laws.{StandsAs, LooksTellFiles}
-use Rattle.package_search.specs.declared.looks.FileLook.{FileLook}
-use Rattle.package_search.specs.declared.looks.ProgramSources.{ProgramSources}
-use Rattle.package_search.specs.Search.{is_settled, block_of, LookAt}
+use Rattle.stepped_programs.specs.declared.package_search.looks.FileLook.{FileLook}
+use Rattle.stepped_programs.specs.declared.package_search.looks.ProgramSources.{ProgramSources}
+use Rattle.stepped_programs.specs.PackageSearch.Search.{is_settled, block_of, LookAt}
 use Rattle.stepped_programs.specs.SearchedSites.Told.{IsToldValue, IsProgram, IsFile}
 use Rattle.stepped_programs.specs.SearchedSites.Searched.{AreSearched, sites_in_file}
 use Rattle.stepped_programs.specs.SearchedSites.Laws.{SearchesFindSites}
-use Rattle.use_search.specs.declared.search.FoundForm.{FoundForm}
-use Rattle.use_search.specs.declared.search.FoundObstacle.{FoundObstacle}
-use Rattle.use_search.specs.declared.views.ProgramView.{ProgramView}
-use Rattle.use_search.specs.Search.{IsFileSearch}
+use Rattle.repeated_parts.specs.declared.use_search.search.FoundForm.{FoundForm}
+use Rattle.repeated_parts.specs.declared.use_search.search.FoundObstacle.{FoundObstacle}
+use Rattle.repeated_parts.specs.declared.use_search.views.ProgramView.{ProgramView}
+use Rattle.repeated_parts.specs.UseSearch.Search.{IsFileSearch}
 use Rattle.stepped_programs.specs.SearchedSites.OrderedSearches.Held.{IsThere, IsHeld, Users, KeepUsers, AreUsed, IsSettled, AreAllSettled}
 use Rattle.stepped_programs.specs.SearchedSites.OrderedSearches.Search.{HasNoneOf, ComeSettled}
 use Rattle.stepped_programs.specs.SearchedSites.OrderedSearches.Laws.{LooksRight, LooksFindSites, SearchesSettleFiles}

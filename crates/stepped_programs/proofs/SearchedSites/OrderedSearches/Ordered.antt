@@ -18,20 +18,20 @@ use Rattle.run_rules.specs.Run.{Standing, here_of}
 use Rattle.constant_forms.specs.declared.reduced.ReducedConstant.TheVariants.{Becomes}
 use Rattle.file_tables.specs.declared.tables.FileTables.{FileTables}
 use Rattle.stepped_programs.specs.SearchedSites.LookedFiles.Laws.{LooksTellFiles}
-use Rattle.use_search.specs.declared.uses_of_marks.uses.MarkedUse.{MarkedUse}
-use Rattle.package_search.specs.declared.looks.ProgramSources.{ProgramSources}
-use Rattle.package_search.specs.declared.search.FoundInPackage.{FoundInPackage}
-use Rattle.package_search.specs.Search.{LookAt, IsFirstIn}
+use Rattle.repeated_parts.specs.declared.use_search.uses_of_marks.uses.MarkedUse.{MarkedUse}
+use Rattle.stepped_programs.specs.declared.package_search.looks.ProgramSources.{ProgramSources}
+use Rattle.stepped_programs.specs.declared.package_search.search.FoundInPackage.{FoundInPackage}
+use Rattle.stepped_programs.specs.PackageSearch.Search.{LookAt, IsFirstIn}
 use Rattle.stepped_programs.specs.SearchedSites.Told.{IsProgram, IsFile}
 use Rattle.stepped_programs.specs.SearchedSites.Searched.{AreSearched, sites_in_file, FilesSearched, no_file, past_file, in_file, files_there, packages_files, files_in_order}
 use Rattle.stepped_programs.specs.SearchedSites.Laws.{SearchesFindSites}
-use Rattle.use_search.specs.declared.search.FoundForm.{FoundForm}
-use Rattle.use_search.specs.declared.search.FoundObstacle.{FoundObstacle}
-use Rattle.use_search.specs.declared.views.FileView.{FileView}
-use Rattle.use_search.specs.declared.views.ProgramView.{ProgramView}
-use Rattle.use_search.specs.Answers.{IsAnswer}
-use Rattle.use_search.specs.Search.{IsSearched}
-use Rattle.use_search.specs.Search as search
+use Rattle.repeated_parts.specs.declared.use_search.search.FoundForm.{FoundForm}
+use Rattle.repeated_parts.specs.declared.use_search.search.FoundObstacle.{FoundObstacle}
+use Rattle.repeated_parts.specs.declared.use_search.views.FileView.{FileView}
+use Rattle.repeated_parts.specs.declared.use_search.views.ProgramView.{ProgramView}
+use Rattle.repeated_parts.specs.UseSearch.Answers.{IsAnswer}
+use Rattle.repeated_parts.specs.UseSearch.Search.{IsSearched}
+use Rattle.repeated_parts.specs.UseSearch.Search as search
 use Rattle.stepped_programs.specs.SearchedSites.OrderedSearches.Held.{IsThere, IsHeld, Users, IsSettled, AreAllSettled}
 use Rattle.stepped_programs.specs.SearchedSites.OrderedSearches.Search.{EachNumber, IsAllSettled, IsFirstPackage, IsFirstFree}
 use Rattle.stepped_programs.specs.SearchedSites.OrderedSearches.Found.{HasTables}

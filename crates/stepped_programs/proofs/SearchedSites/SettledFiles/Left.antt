@@ -10,8 +10,8 @@ use Rattle.pkg_graph.specs.Members.{Target, package_block, import_name}
 use Rattle.constant_steps.specs.FormImports.ImportLaws.Steps.{names_standing}
 use Rattle.member_uses.specs.Uses.{Names}
 use Rattle.member_uses.specs.Laws.{Knows}
-use Rattle.splice_laws.specs.RunLaws.Reading.{FileAt, OnePathEach}
-use Rattle.splice_laws.proofs.RunLaws.RunsRead.{texts_other}
+use Rattle.run_rules.specs.SpliceLaws.RunLaws.Reading.{FileAt, OnePathEach}
+use Rattle.run_rules.proofs.SpliceLaws.RunLaws.RunsRead.{texts_other}
 use Rattle.run_rules.specs.Inlining.{ReadsAs}
 use Rattle.run_rules.specs.Marks.{text_at}
 use Rattle.run_rules.specs.Programs.{package_number}
@@ -21,9 +21,9 @@ use Rattle.run_rules.specs.Sites.{MarkRef, Where}
 use Rattle.run_rules.specs.Steps.{At}
 use Rattle.stepped_programs.specs.SearchedSites.Told.{IsProgram, IsFile}
 use Rattle.stepped_programs.proofs.SearchedSites.Uses.{knows}
-use Rattle.use_search.specs.declared.views.FileView.{FileView}
-use Rattle.use_search.specs.declared.views.ProgramView.{ProgramView}
-use Rattle.use_search.specs.Answers.{names_of}
+use Rattle.repeated_parts.specs.declared.use_search.views.FileView.{FileView}
+use Rattle.repeated_parts.specs.declared.use_search.views.ProgramView.{ProgramView}
+use Rattle.repeated_parts.specs.UseSearch.Answers.{names_of}
 use Rattle.stepped_programs.specs.SearchedSites.OrderedSearches.Held.{IsSearchable}
 use Rattle.stepped_programs.specs.SearchedSites.SettledFiles.Left.{IsLeft}
 use Rattle.stepped_programs.proofs.SearchedSites.SettledFiles.Packages.{Before, changed, placed, with_tree, in_package, block_now, number_now, import_now}

@@ -8,20 +8,20 @@ use Rattle.constant_forms.specs.declared.uses.ConstantValue.{ConstantValue}
 use Rattle.constant_forms.specs.declared.uses.ConstantValue.TheVariants as lent
 use Rattle.constant_forms.specs.Views.{obstacle_of}
 use Rattle.stepped_programs.specs.SearchedSites.KeptUses.Laws.{AreToldAlike, KeptUsesStay}
-use Rattle.use_search.specs.declared.mark_values.values.DeclaredValue.{DeclaredValue}
-use Rattle.use_search.specs.declared.mark_values.values.DeclaredValue.TheVariants.{Plain, Qualified}
-use Rattle.use_search.specs.MarkValues.Tables.{value_in}
-use Rattle.use_search.specs.MarkValues.Values.{value_of}
-use Rattle.use_search.specs.declared.uses_of_marks.uses.MarkedUse.{MarkedUse}
-use Rattle.use_search.specs.UsesOfMarks.Laws.{EachSite, IsPlaced, placed_site}
-use Rattle.use_search.specs.UsesOfMarks.Uses.{PlacedMark, decls_uses}
+use Rattle.repeated_parts.specs.declared.use_search.mark_values.values.DeclaredValue.{DeclaredValue}
+use Rattle.repeated_parts.specs.declared.use_search.mark_values.values.DeclaredValue.TheVariants.{Plain, Qualified}
+use Rattle.repeated_parts.specs.UseSearch.MarkValues.Tables.{value_in}
+use Rattle.repeated_parts.specs.UseSearch.MarkValues.Values.{value_of}
+use Rattle.repeated_parts.specs.declared.use_search.uses_of_marks.uses.MarkedUse.{MarkedUse}
+use Rattle.repeated_parts.specs.UseSearch.UsesOfMarks.Laws.{EachSite, IsPlaced, placed_site}
+use Rattle.repeated_parts.specs.UseSearch.UsesOfMarks.Uses.{PlacedMark, decls_uses}
 use Rattle.member_uses.specs.Laws.{mark_used}
 use Rattle.member_uses.specs.Uses.{Used, Names}
 use Rattle.module_marks.specs.Views.{mark_ref_of}
 use Rattle.pkg_graph.specs.Package.{Package}
 use Rattle.pkg_graph.specs.Views.{package_view}
 use Rattle.pkg_graph.specs.declared.packages.Package as code
-use Rattle.possible_uses.specs.Parts.{parts_of}
+use Rattle.member_uses.specs.PossibleUses.Parts.{parts_of}
 use Rattle.repeated_parts.specs.Flags.{flags_of}
 use Rattle.repeated_parts.specs.UsesRepeated.Laws.{FlaggedMark, flagged_marks}
 use Rattle.repeated_parts.specs.UsesRepeated.Uses.{flagged_uses}
@@ -33,11 +33,11 @@ use Rattle.run_rules.specs.Steps.{At}
 use Rattle.stepped_programs.specs.SearchedSites.Searched.{StandsFor, AreSearched, at_the_end, past_kept, at_free}
 use Rattle.stepped_programs.specs.SearchedSites.Told.{IsToldValue, IsProgram, IsFile}
 use Rattle.stepped_programs.proofs.SearchedSites.Uses.{constant, declared, value, value_told, is_use}
-use Rattle.use_search.specs.declared.search.FoundForm.{FoundForm}
-use Rattle.use_search.specs.declared.search.FoundObstacle.{FoundObstacle}
-use Rattle.use_search.specs.declared.views.FileView.{FileView}
-use Rattle.use_search.specs.declared.views.ProgramView.{ProgramView}
-use Rattle.use_search.specs.Answers.{names_of, IsTold}
+use Rattle.repeated_parts.specs.declared.use_search.search.FoundForm.{FoundForm}
+use Rattle.repeated_parts.specs.declared.use_search.search.FoundObstacle.{FoundObstacle}
+use Rattle.repeated_parts.specs.declared.use_search.views.FileView.{FileView}
+use Rattle.repeated_parts.specs.declared.use_search.views.ProgramView.{ProgramView}
+use Rattle.repeated_parts.specs.UseSearch.Answers.{names_of, IsTold}
 
 -- ---- what is told of a use
 

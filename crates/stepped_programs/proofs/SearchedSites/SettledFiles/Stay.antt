@@ -5,16 +5,16 @@ use Rattle.std.proofs.lemmas.Option.{none-some}
 use Rattle.go_tree.specs.declared.spans.Span.{Span}
 use Rattle.go_tree.specs.GoTypes.Answers.{given}
 use Rattle.stepped_programs.specs.SearchedSites.KeptUses.Laws.{KeptUsesStay}
-use Rattle.use_search.specs.declared.mark_values.values.DeclaredValue.{DeclaredValue}
-use Rattle.use_search.specs.MarkValues.Tables.{Known, DeclKey, key_of, values_at}
-use Rattle.use_search.specs.UsesOfMarks.Laws.{EachSite, IsPlaced, placed_sites, MarkedUsesAreSites, UsesArePlaced}
-use Rattle.use_search.specs.UsesOfMarks.Uses.{PlacedMark, decls_uses}
-use Rattle.use_search.proofs.UsesOfMarks.BlocksStay.{member_stays}
+use Rattle.repeated_parts.specs.declared.use_search.mark_values.values.DeclaredValue.{DeclaredValue}
+use Rattle.repeated_parts.specs.UseSearch.MarkValues.Tables.{Known, DeclKey, key_of, values_at}
+use Rattle.repeated_parts.specs.UseSearch.UsesOfMarks.Laws.{EachSite, IsPlaced, placed_sites, MarkedUsesAreSites, UsesArePlaced}
+use Rattle.repeated_parts.specs.UseSearch.UsesOfMarks.Uses.{PlacedMark, decls_uses}
+use Rattle.repeated_parts.proofs.UseSearch.UsesOfMarks.BlocksStay.{member_stays}
 use Rattle.member_uses.specs.Uses.{Names}
 use Rattle.module_marks.specs.Views.{mark_ref_of}
-use Rattle.package_search.specs.Search.{is_settled}
+use Rattle.stepped_programs.specs.PackageSearch.Search.{is_settled}
 use Rattle.pkg_graph.specs.Package.{SourceTree, Package}
-use Rattle.splice_laws.specs.RunLaws.Reading.{OnePathEach}
+use Rattle.run_rules.specs.SpliceLaws.RunLaws.Reading.{OnePathEach}
 use Rattle.run_rules.specs.Programs.{numbered}
 use Rattle.run_rules.specs.Respanned.{decls_with, packages_with}
 use Rattle.run_rules.specs.Run.{Standing, Logged, Next, here_of}
@@ -23,11 +23,11 @@ use Rattle.run_rules.specs.Steps.{At}
 use Rattle.stepped_programs.specs.SearchedSites.Searched.{AreSearched, at_the_end, past_kept, at_free, sites_in_file}
 use Rattle.stepped_programs.specs.SearchedSites.Told.{IsProgram, IsFile}
 use Rattle.stepped_programs.proofs.SearchedSites.Uses.{knows}
-use Rattle.use_search.specs.declared.search.FoundForm.{FoundForm}
-use Rattle.use_search.specs.declared.search.FoundObstacle.{FoundObstacle}
-use Rattle.use_search.specs.declared.views.FileView.{FileView}
-use Rattle.use_search.specs.declared.views.ProgramView.{ProgramView}
-use Rattle.use_search.specs.Answers.{names_of}
+use Rattle.repeated_parts.specs.declared.use_search.search.FoundForm.{FoundForm}
+use Rattle.repeated_parts.specs.declared.use_search.search.FoundObstacle.{FoundObstacle}
+use Rattle.repeated_parts.specs.declared.use_search.views.FileView.{FileView}
+use Rattle.repeated_parts.specs.declared.use_search.views.ProgramView.{ProgramView}
+use Rattle.repeated_parts.specs.UseSearch.Answers.{names_of}
 use Rattle.stepped_programs.specs.SearchedSites.OrderedSearches.Held.{IsThere, IsSearchable, Users, AreUsed, flag_of}
 use Rattle.stepped_programs.proofs.SearchedSites.OrderedSearches.Looked.{program_told}
 use Rattle.stepped_programs.specs.SearchedSites.SettledFiles.Left.{IsLeft, TellTheSame, AreSameBut, TellOthersTheSame, UseNoneOf, FoundNoneOf, KeepOthers}

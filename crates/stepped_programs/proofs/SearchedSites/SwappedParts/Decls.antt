@@ -4,14 +4,14 @@ use Rattle.go_tree.specs.Tree.{NameAt, named, const_decl, var_decl, Expr, ident,
 use Rattle.go_tree.specs.File.{TypeSpec, Receiver, Func, Decl, values, types, func, File}
 use Rattle.pkg_graph.specs.Package.{Package}
 use Rattle.constant_forms.specs.Views.{name_expr}
-use Rattle.typed_parts.specs.StandingUses.ImportUses.Parts as parts
-use Rattle.typed_parts.specs.StandingUses.ImportUses.Parts.{EachSeen, IsKeyed, IsName, StandsOnce}
-use Rattle.typed_parts.proofs.StandingUses.ImportUses.Stays.{change}
-use Rattle.typed_parts.proofs.StandingUses.ImportUses.Walk.{IsForm, a_form, a_qualified}
-use Rattle.typed_parts.proofs.StandingUses.ImportUses.Once.{is_form}
-use Rattle.possible_uses.specs.Among.{Keyed}
-use Rattle.possible_uses.specs.Candidates.{Candidate, plain_part, receiver_part}
-use Rattle.possible_uses.specs.Parts.{after_specs, after_types, after_receiver, after_func, after_decl}
+use Rattle.printed_constants.specs.TypedParts.StandingUses.ImportUses.Parts as parts
+use Rattle.printed_constants.specs.TypedParts.StandingUses.ImportUses.Parts.{EachSeen, IsKeyed, IsName, StandsOnce}
+use Rattle.printed_constants.proofs.TypedParts.StandingUses.ImportUses.Stays.{change}
+use Rattle.printed_constants.proofs.TypedParts.StandingUses.ImportUses.Walk.{IsForm, a_form, a_qualified}
+use Rattle.printed_constants.proofs.TypedParts.StandingUses.ImportUses.Once.{is_form}
+use Rattle.member_uses.specs.PossibleUses.Among.{Keyed}
+use Rattle.member_uses.specs.PossibleUses.Candidates.{Candidate, plain_part, receiver_part}
+use Rattle.member_uses.specs.PossibleUses.Parts.{after_specs, after_types, after_receiver, after_func, after_decl}
 use Rattle.run_rules.specs.Forms.{is_at}
 use Rattle.run_rules.specs.Programs.{top_place, body_place, constants_at_top, variables_at_top, types_at_top, receiver_seen, func_seen, decl_seen}
 use Rattle.run_rules.specs.Rewriting.{Changes, new_sig, new_stmts}

@@ -3,8 +3,8 @@ use Rattle.std.proofs.Common.{◌≡◌, ◌∙◌, refl, sym, ap, subst, ℕ, B
 use Rattle.std.proofs.lemmas.List.{map-append}
 use Rattle.go_tree.specs.Tree.{Expr}
 use Rattle.constant_forms.specs.Views.{name_expr}
-use Rattle.possible_uses.specs.Candidates.{Candidate}
-use Rattle.possible_uses.specs.Parts.{after_expr}
+use Rattle.member_uses.specs.PossibleUses.Candidates.{Candidate}
+use Rattle.member_uses.specs.PossibleUses.Parts.{after_expr}
 use Rattle.run_rules.specs.Sites.{Part, part_span}
 use Rattle.run_rules.specs.Steps.{At}
 use Rattle.stepped_programs.specs.SearchedSites.SwappedParts.Swaps.{PartsSwap, EachSpan, parts_in, spans_in}

@@ -17,13 +17,13 @@ use Rattle.run_rules.specs.Places.{type_seen, written_seen, params_seen, sig_see
 use Rattle.run_rules.specs.Rewriting.{Changes, new_name, new_names, new_written, new_params, new_sig, new_expr, new_all, new_option, new_elems, new_key, new_value, new_stmt, new_stmts, new_first, new_block, new_left, new_arms, new_cases, new_constants, new_variables}
 use Rattle.run_rules.specs.Respanned.{value_with}
 use Rattle.run_rules.specs.Sites.{an_expr, part_span}
-use Rattle.typed_parts.specs.StandingUses.ImportUses.Parts.{EachSeen, IsElsewhere, IsKeyed, StandsOnce}
-use Rattle.typed_parts.proofs.StandingUses.ImportUses.Stays.{change}
-use Rattle.typed_parts.proofs.StandingUses.ImportUses.Walk.{IsForm}
-use Rattle.possible_uses.specs.Among.{ElemsKeyed, KeyKeyed, ValueKeyed}
-use Rattle.possible_uses.specs.Candidates.{Candidate, plain_part, key_part}
-use Rattle.possible_uses.specs.Parts as after
-use Rattle.possible_uses.specs.Parts.{put, put_selector, after_type, after_type_option, after_params, after_sig, after_expr, after_exprs, after_expr_option, after_elems, after_key, after_value, after_stmts, after_stmt_option, after_block_option, after_left, after_cases, after_specs}
+use Rattle.printed_constants.specs.TypedParts.StandingUses.ImportUses.Parts.{EachSeen, IsElsewhere, IsKeyed, StandsOnce}
+use Rattle.printed_constants.proofs.TypedParts.StandingUses.ImportUses.Stays.{change}
+use Rattle.printed_constants.proofs.TypedParts.StandingUses.ImportUses.Walk.{IsForm}
+use Rattle.member_uses.specs.PossibleUses.Among.{ElemsKeyed, KeyKeyed, ValueKeyed}
+use Rattle.member_uses.specs.PossibleUses.Candidates.{Candidate, plain_part, key_part}
+use Rattle.member_uses.specs.PossibleUses.Parts as after
+use Rattle.member_uses.specs.PossibleUses.Parts.{put, put_selector, after_type, after_type_option, after_params, after_sig, after_expr, after_exprs, after_expr_option, after_elems, after_key, after_value, after_stmts, after_stmt_option, after_block_option, after_left, after_cases, after_specs}
 use Rattle.stepped_programs.specs.SearchedSites.SwappedParts.Swaps.{parts_in, spans_in, PartsSwap, HasNoDot}
 use Rattle.stepped_programs.proofs.SearchedSites.SwappedParts.Lists as lists
 use Rattle.stepped_programs.proofs.SearchedSites.SwappedParts.Lists.{Asked, Goes}

@@ -6,15 +6,15 @@ use Rattle.go_tree.specs.ScopeNames.Means.{is_blank}
 use Rattle.go_tree.specs.GoTypes.Entities.{is_declared_here}
 use Rattle.run_rules.specs.Sites.{an_expr}
 use Rattle.run_rules.specs.Surroundings.{Use, Place, Seen, seen, is_local, is_old}
-use Rattle.typed_parts.specs.StandingUses.ImportUses.Parts as parts
-use Rattle.typed_parts.specs.StandingUses.ImportUses.Parts.{IsName}
+use Rattle.printed_constants.specs.TypedParts.StandingUses.ImportUses.Parts as parts
+use Rattle.printed_constants.specs.TypedParts.StandingUses.ImportUses.Parts.{IsName}
 use Rattle.constant_steps.specs.PlaceMeanings.Agreement.{BlockIsLocal}
 use Rattle.constant_steps.specs.PlaceMeanings.Parts.{AtPart, AtParts}
-use Rattle.possible_uses.specs.Among.{may_be_use, Follows, at_the_end, past_a_use, past_no_use, past_a_key, past_a_field, past_an_old_name, past_a_type, past_a_statement}
-use Rattle.possible_uses.specs.Candidates.{Candidate, plain_part, key_part}
-use Rattle.possible_uses.specs.Parts.{put}
+use Rattle.member_uses.specs.PossibleUses.Among.{may_be_use, Follows, at_the_end, past_a_use, past_no_use, past_a_key, past_a_field, past_an_old_name, past_a_type, past_a_statement}
+use Rattle.member_uses.specs.PossibleUses.Candidates.{Candidate, plain_part, key_part}
+use Rattle.member_uses.specs.PossibleUses.Parts.{put}
 use Rattle.order_runs.proofs.RunSteps.SeatedUses.{Among, first, later}
-use Rattle.typed_parts.proofs.StandingUses.LoneUses.Files.{Has, has_here, has_later}
+use Rattle.printed_constants.proofs.TypedParts.StandingUses.LoneUses.Files.{Has, has_here, has_later}
 
 both_true : (x y : Bool) → (x && not y) ≡ true → (x ≡ true) × (y ≡ false)
 both_true true false e = (refl, refl)

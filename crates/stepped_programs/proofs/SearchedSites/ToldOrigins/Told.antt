@@ -9,7 +9,7 @@ use Rattle.go_tree.specs.File.{Decl}
 use Rattle.go_tree.specs.GoWords.Terminals.{lexemes}
 use Rattle.go_tree.specs.ScopeNames.Means.{or_else}
 use Rattle.go_tree.specs.ScopeNames.Scopes.{expr_span}
-use Rattle.import_rules.specs.Removed.{same_span}
+use Rattle.run_rules.specs.ImportRules.Removed.{same_span}
 use Rattle.go_tree.specs.GoTypes.Answers.{given}
 use Rattle.run_rules.specs.Inlining.{ReadsAs}
 use Rattle.run_rules.specs.Programs.{decl_seen}
@@ -19,26 +19,26 @@ use Rattle.run_rules.specs.Sites.{MarkRef, Part, an_expr, a_type_part, a_constan
 use Rattle.run_rules.specs.Steps.{At}
 use Rattle.run_rules.specs.Surroundings.{Place, Seen, seen}
 use Rattle.run_rules.specs.Texts.{FileText}
-use Rattle.typed_parts.specs.StandingUses.ImportUses.Parts as parts
-use Rattle.typed_parts.specs.StandingUses.ImportUses.Parts.{IsName}
+use Rattle.printed_constants.specs.TypedParts.StandingUses.ImportUses.Parts as parts
+use Rattle.printed_constants.specs.TypedParts.StandingUses.ImportUses.Parts.{IsName}
 use Rattle.member_uses.proofs.Stays.{candidate_with, after_decl-stays}
 use Rattle.constant_steps.specs.PlaceMeanings.Agreement.{BlockIsLocal}
 use Rattle.constant_steps.specs.PlaceMeanings.Parts.{AllScoped}
 use Rattle.constant_steps.proofs.PlaceMeanings.PlacesMean.{blocks_local}
-use Rattle.possible_uses.specs.Among.{Keyed}
-use Rattle.possible_uses.specs.Candidates.{Candidate}
-use Rattle.possible_uses.specs.Laws.{PartsAreAmongAll}
-use Rattle.possible_uses.specs.Parts.{parts_of}
+use Rattle.member_uses.specs.PossibleUses.Among.{Keyed}
+use Rattle.member_uses.specs.PossibleUses.Candidates.{Candidate}
+use Rattle.member_uses.specs.PossibleUses.Laws.{PartsAreAmongAll}
+use Rattle.member_uses.specs.PossibleUses.Parts.{parts_of}
 use Rattle.order_runs.proofs.RunSteps.SeatedUses.{Among, Seated, sites-seated}
 use Rattle.order_runs.proofs.RunSteps.SpanPlaces.{DeclIn, DeclsIn}
 use Rattle.order_runs.proofs.RunSteps.SpelledPlaces.{front_in}
 use Rattle.order_runs.proofs.RunSteps.TokenPlaces.{Rises, tokens-rise}
-use Rattle.typed_parts.proofs.StandingUses.Named.{constant_named}
-use Rattle.typed_parts.proofs.StandingUses.Once.{nth_in}
+use Rattle.printed_constants.proofs.TypedParts.StandingUses.Named.{constant_named}
+use Rattle.printed_constants.proofs.TypedParts.StandingUses.Once.{nth_in}
 use Rattle.repeated_parts.specs.ImportsUnused.Uses.{all_parts}
-use Rattle.typed_parts.specs.StandingUses.LoneUses.Alone.{span_named, IsElsewhere, AreElsewhere, StandsAlone}
-use Rattle.typed_parts.specs.StandingUses.LoneUses.Alone as alone
-use Rattle.typed_parts.proofs.StandingUses.LoneUses.Files.{Has, has_here, has_later, front_follows, alone_in_one, alone_in_all}
+use Rattle.printed_constants.specs.TypedParts.StandingUses.LoneUses.Alone.{span_named, IsElsewhere, AreElsewhere, StandsAlone}
+use Rattle.printed_constants.specs.TypedParts.StandingUses.LoneUses.Alone as alone
+use Rattle.printed_constants.proofs.TypedParts.StandingUses.LoneUses.Files.{Has, has_here, has_later, front_follows, alone_in_one, alone_in_all}
 use Rattle.programs.specs.OriginsOfUses.Origins.{named_span, own_origin, first_origin, decls_origin}
 use Rattle.stepped_programs.specs.SearchedSites.ToldOrigins.Laws.{OriginsAreTold, part_origins, decls_origins}
 use Rattle.stepped_programs.proofs.SearchedSites.ToldOrigins.Parts.{comes_in, use_like, is_new, one_part}

@@ -20,14 +20,14 @@ use Rattle.member_uses.specs.Views.{names_in}
 use Rattle.member_uses.specs.declared.names.FileScopes.{FileScopes}
 use Rattle.constant_steps.specs.PlaceMeanings.Agreement.{AgreesAt}
 use Rattle.constant_steps.proofs.PlaceMeanings.PlacesMean.{places_mean}
-use Rattle.use_search.specs.declared.mark_values.values.DeclaredValue.{DeclaredValue}
-use Rattle.use_search.specs.declared.mark_values.marked.PackageScopes.{PackageScopes}
-use Rattle.use_search.specs.MarkValues.Values.{expr_value, decl_values}
-use Rattle.use_search.specs.MarkValues.Tables.{key_of, Known, value_in, decl_at, file_at, known_at, AreValuesOf}
-use Rattle.use_search.specs.MarkValues.Laws.{IsDeclared}
-use Rattle.use_search.proofs.MarkValues.Written.{IsWritten, decl_formed}
-use Rattle.use_search.proofs.MarkValues.Own.{in_decl, of_decl}
-use Rattle.use_search.proofs.MarkValues.Viewed.{as_read, as_it_stands, of_mark}
+use Rattle.repeated_parts.specs.declared.use_search.mark_values.values.DeclaredValue.{DeclaredValue}
+use Rattle.repeated_parts.specs.declared.use_search.mark_values.marked.PackageScopes.{PackageScopes}
+use Rattle.repeated_parts.specs.UseSearch.MarkValues.Values.{expr_value, decl_values}
+use Rattle.repeated_parts.specs.UseSearch.MarkValues.Tables.{key_of, Known, value_in, decl_at, file_at, known_at, AreValuesOf}
+use Rattle.repeated_parts.specs.UseSearch.MarkValues.Laws.{IsDeclared}
+use Rattle.repeated_parts.proofs.UseSearch.MarkValues.Written.{IsWritten, decl_formed}
+use Rattle.repeated_parts.proofs.UseSearch.MarkValues.Own.{in_decl, of_decl}
+use Rattle.repeated_parts.proofs.UseSearch.MarkValues.Viewed.{as_read, as_it_stands, of_mark}
 
 -- a tree whose nodes stand where another has them
 value_stays : (f : Names) (e : Expr At) → expr_value (λ s. s) f (expr_with here_of e) ≡ expr_value here_of f e

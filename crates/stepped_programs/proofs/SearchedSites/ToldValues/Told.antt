@@ -16,12 +16,12 @@ use Rattle.constant_forms.specs.declared.uses.ConstantValue.TheVariants as lent
 use Rattle.constant_forms.specs.Uses.{IsQualified, IsValue}
 use Rattle.member_uses.specs.Uses.{Names, import_at}
 use Rattle.member_uses.specs.Views.{names_in}
-use Rattle.use_search.specs.declared.mark_values.values.DeclaredValue.{DeclaredValue}
-use Rattle.use_search.specs.declared.mark_values.values.DeclaredValue.TheVariants.{Plain, Qualified}
-use Rattle.use_search.specs.MarkValues.Tables.{value_in}
-use Rattle.use_search.specs.MarkValues.Laws.{Tells, TablesTellValues}
-use Rattle.use_search.specs.MarkValues.Values.{expr_value}
-use Rattle.use_search.proofs.MarkValues.Written.{IsWritten}
+use Rattle.repeated_parts.specs.declared.use_search.mark_values.values.DeclaredValue.{DeclaredValue}
+use Rattle.repeated_parts.specs.declared.use_search.mark_values.values.DeclaredValue.TheVariants.{Plain, Qualified}
+use Rattle.repeated_parts.specs.UseSearch.MarkValues.Tables.{value_in}
+use Rattle.repeated_parts.specs.UseSearch.MarkValues.Laws.{Tells, TablesTellValues}
+use Rattle.repeated_parts.specs.UseSearch.MarkValues.Values.{expr_value}
+use Rattle.repeated_parts.proofs.UseSearch.MarkValues.Written.{IsWritten}
 use Rattle.put_names.specs.Uses.{IsDeclaredAsName, as_name, as_member}
 use Rattle.stepped_programs.specs.SearchedSites.Told.{IsWithin, IsToldValue}
 use Rattle.stepped_programs.specs.SearchedSites.ToldValues.Laws.{ValuesAreTold}

@@ -1,5 +1,5 @@
 use Rattle.std.proofs.Common.{◌≡◌, ◌+◌, drop, map}
-use Rattle.possible_uses.specs.Views.{part_of}
+use Rattle.member_uses.specs.PossibleUses.Views.{part_of}
 use Rattle.stepped_programs.specs.SwappedOrigins.{parts_before}
 use Rattle.stepped_programs.proofs.swapped.parts_before.Given as goal
 

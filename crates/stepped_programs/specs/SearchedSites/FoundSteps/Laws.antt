@@ -16,7 +16,7 @@ use Rattle.run_rules.specs.Run.{Standing, Logged, the_limits, uses_kept}
 use Rattle.run_rules.specs.Sites.{MarkRef}
 use Rattle.run_rules.specs.Steps.{At, Found}
 use Rattle.run_rules.specs.Texts.{FileText}
-use Rattle.package_search.specs.FileSteps.Steps.{IsStepOf, MakesEdits, IsStepFault}
+use Rattle.stepped_programs.specs.PackageSearch.FileSteps.Steps.{IsStepOf, MakesEdits, IsStepFault}
 use Rattle.next_file.specs.declared.limits.Progress.{Progress}
 use Rattle.next_file.specs.declared.limits.Passed.{Passed}
 use Rattle.next_file.specs.declared.file.NewFile.{NewFile}
@@ -24,13 +24,13 @@ use Rattle.next_file.specs.declared.file.FileFault.TheVariants.{TooLarge, NotRea
 use Rattle.next_file.specs.Limits.{told, Passes}
 use Rattle.next_file.specs.Files.{IsNewFile, text_of}
 use Rattle.run_by_steps.specs.NextPrograms.Made.{NextWith}
-use Rattle.package_search.specs.declared.looks.ProgramSources.{ProgramSources}
-use Rattle.package_search.specs.declared.search.FoundInPackage.{FoundInPackage}
+use Rattle.stepped_programs.specs.declared.package_search.looks.ProgramSources.{ProgramSources}
+use Rattle.stepped_programs.specs.declared.package_search.search.FoundInPackage.{FoundInPackage}
 use Rattle.run_by_steps.specs.Reached.{HasReached, IsNextUse, row_of}
 use Rattle.run_by_steps.specs.RunProgress.Laws.{HasCome}
 use Rattle.stepped_programs.specs.SearchedSites.Searched.{found_of}
-use Rattle.typed_parts.specs.MarkedRuns.SettledConstants.Programs.{IsReady}
-use Rattle.use_search.specs.declared.views.FileView.{FileView}
+use Rattle.printed_constants.specs.TypedParts.MarkedRuns.SettledConstants.Programs.{IsReady}
+use Rattle.repeated_parts.specs.declared.use_search.views.FileView.{FileView}
 use Rattle.stepped_programs.specs.SearchedSites.OrderedSearches.Found.{IsFoundFirst, IsStepFound}
 use Rattle.stepped_programs.specs.SearchedSites.FoundSteps.Uses.{IsRightUse, HasFile, MayBeMade}
 

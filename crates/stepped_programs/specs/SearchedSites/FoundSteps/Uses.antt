@@ -4,7 +4,7 @@ use Rattle.std.specs.Prelude.{◌≡◌, ℕ, ◌<◌, List, Some}
 use Rattle.go_tree.specs.Tree.{Expr}
 use Rattle.go_tree.specs.FileView.{file_of}
 use Rattle.go_scan.specs.TokenLists.{TokenLists}
-use Rattle.import_rules.specs.Laid.{CommentsAscend, Laid}
+use Rattle.run_rules.specs.ImportRules.Laid.{CommentsAscend, Laid}
 use Rattle.order_runs.specs.CycleRuns.OrderCycles.NewNames.{FewNames}
 use Rattle.run_rules.specs.Laws.{LiesBehindImports}
 use Rattle.run_rules.specs.Marks.{text_at}
@@ -14,9 +14,9 @@ use Rattle.run_rules.specs.Sites.{MarkRef, Site, an_expr}
 use Rattle.run_rules.specs.Steps.{At, Found}
 use Rattle.run_rules.specs.Texts.{FileText}
 use Rattle.constant_forms.specs.declared.reduced.ConstantForm.{ConstantForm}
-use Rattle.package_search.specs.declared.search.FoundInPackage.{FoundInPackage}
-use Rattle.typed_parts.specs.StandingUses.Laws.{AreTyped}
-use Rattle.use_search.specs.declared.views.FileView.{FileView}
+use Rattle.stepped_programs.specs.declared.package_search.search.FoundInPackage.{FoundInPackage}
+use Rattle.printed_constants.specs.TypedParts.StandingUses.Laws.{AreTyped}
+use Rattle.repeated_parts.specs.declared.use_search.views.FileView.{FileView}
 use Rattle.stepped_programs.specs.SearchedSites.OrderedSearches.Found.{HasTables}
 
 -- The use that becomes this form, in a file with this text: it is an expression; the names to avoid are fewer than

@@ -2,12 +2,12 @@
 use Rattle.std.specs.Prelude.{List, [], ◌∷◌, ◌++◌, None, if◌then◌else◌}
 use Rattle.std.specs.List.{list_any}
 use Rattle.go_tree.specs.declared.spans.Span.{Span}
-use Rattle.import_rules.specs.Removed.{same_span}
+use Rattle.run_rules.specs.ImportRules.Removed.{same_span}
 use Rattle.run_rules.specs.Run.{Standing, KeptUse, here_of}
 use Rattle.run_rules.specs.Sites.{MarkRef, Where, Site, part_span}
 use Rattle.run_rules.specs.Steps.{At}
 use Rattle.stepped_programs.specs.SearchedSites.Searched.{AreSearched, kept_told, sites_in_file}
-use Rattle.use_search.specs.declared.search.FoundObstacle.{FoundObstacle}
+use Rattle.repeated_parts.specs.declared.use_search.search.FoundObstacle.{FoundObstacle}
 
 -- where a site stands
 abbrev pub span_of : Site At → Span

@@ -6,14 +6,14 @@ use Rattle.pkg_graph.specs.declared.packages.Package.{Package}
 use Rattle.pkg_graph.specs.Reads.{Source}
 use Rattle.run_rules.specs.Sites.{MarkRef}
 use Rattle.run_rules.specs.Run.{Standing}
-use Rattle.package_search.specs.declared.looks.ProgramSources.{ProgramSources}
-use Rattle.package_search.specs.declared.search.FoundInPackage.{FoundInPackage}
-use Rattle.package_search.specs.Search.{IsPackageSearch}
+use Rattle.stepped_programs.specs.declared.package_search.looks.ProgramSources.{ProgramSources}
+use Rattle.stepped_programs.specs.declared.package_search.search.FoundInPackage.{FoundInPackage}
+use Rattle.stepped_programs.specs.PackageSearch.Search.{IsPackageSearch}
 use Rattle.programs.specs.declared.state.Program.{Program}
 use Rattle.programs.specs.Programs.{IsProgramOf}
 use Rattle.programs.specs.Users.{Known}
-use Rattle.package_search.specs.SearchedPrograms.Programs.{IsOpenProgram, IsProgramSearch}
-use Rattle.package_search.specs.SearchedPrograms.Search.{IsUserSearch}
+use Rattle.stepped_programs.specs.PackageSearch.SearchedPrograms.Programs.{IsOpenProgram, IsProgramSearch}
+use Rattle.stepped_programs.specs.PackageSearch.SearchedPrograms.Search.{IsUserSearch}
 
 -- A package of a program may be searched.
 abbrev pub ProgramsAreOpen : Type 0

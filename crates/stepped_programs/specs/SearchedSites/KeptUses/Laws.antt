@@ -10,7 +10,7 @@ use Rattle.run_rules.specs.Sites.{MarkRef, Where, Site}
 use Rattle.run_rules.specs.Steps.{At, same_here}
 use Rattle.constant_forms.specs.declared.uses.ConstantUse.{ConstantUse}
 use Rattle.constant_forms.specs.Uses.{IsUse}
-use Rattle.use_search.specs.MarkValues.Values.{value_of}
+use Rattle.repeated_parts.specs.UseSearch.MarkValues.Values.{value_of}
 
 -- The code is told the same of two uses, but for the trees of packages and files.
 pub record AreToldAlike (u v : ConstantUse) : Type 0 where

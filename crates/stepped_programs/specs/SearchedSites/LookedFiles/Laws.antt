@@ -2,7 +2,7 @@
 use Rattle.std.specs.Prelude.{◌≡◌, ℕ, ◌<◌, ◌^◌, List, [], map, Some, slice_get}
 use Rattle.go_tree.specs.FileView.{file_of}
 use Rattle.go_scan.specs.TokenLists.{TokenLists}
-use Rattle.import_rules.specs.Needs.{avoided}
+use Rattle.run_rules.specs.ImportRules.Needs.{avoided}
 use Rattle.pkg_graph.specs.Views.{package_view}
 use Rattle.pkg_graph.specs.declared.packages.SourceTree.{SourceTree}
 use Rattle.run_rules.specs.Sites.{MarkRef, Where}
@@ -17,10 +17,10 @@ use Rattle.constant_steps.specs.FormImports.ImportLaws.Steps.{names_standing}
 use Rattle.member_uses.specs.Uses.{Names}
 use Rattle.member_uses.specs.Laws.{Knows}
 use Rattle.file_names.specs.Members.{IsBlockOf}
-use Rattle.use_search.specs.UsesOfMarks.Laws.{EachSound}
-use Rattle.package_search.specs.declared.looks.FileLook.{FileLook}
-use Rattle.package_search.specs.declared.looks.ProgramSources.{ProgramSources}
-use Rattle.package_search.specs.Looks.{IsLook}
+use Rattle.repeated_parts.specs.UseSearch.UsesOfMarks.Laws.{EachSound}
+use Rattle.stepped_programs.specs.declared.package_search.looks.FileLook.{FileLook}
+use Rattle.stepped_programs.specs.declared.package_search.looks.ProgramSources.{ProgramSources}
+use Rattle.stepped_programs.specs.PackageSearch.Looks.{IsLook}
 use Rattle.stepped_programs.specs.SearchedSites.Told.{IsFile}
 
 -- The file stands there in a program of these packages, and reads from its text, of which these are the comments; its

@@ -14,12 +14,12 @@ use Rattle.run_rules.specs.Run.{Standing, here_of, is_commented, step_in}
 use Rattle.constant_forms.specs.declared.uses.ConstantUse.{ConstantUse}
 use Rattle.constant_forms.specs.Uses.{IsUse}
 use Rattle.file_tables.specs.declared.tables.FileTables.{FileTables}
-use Rattle.use_search.specs.MarkValues.Values.{value_of}
-use Rattle.package_search.specs.declared.looks.ProgramSources.{ProgramSources}
-use Rattle.package_search.specs.declared.search.FoundInPackage.{FoundInPackage}
+use Rattle.repeated_parts.specs.UseSearch.MarkValues.Values.{value_of}
+use Rattle.stepped_programs.specs.declared.package_search.looks.ProgramSources.{ProgramSources}
+use Rattle.stepped_programs.specs.declared.package_search.search.FoundInPackage.{FoundInPackage}
 use Rattle.stepped_programs.specs.SearchedSites.Searched.{found_of, IsFree}
 use Rattle.stepped_programs.specs.SearchedSites.Told.{IsWithin, IsFile}
-use Rattle.use_search.specs.declared.views.FileView.{FileView}
+use Rattle.repeated_parts.specs.declared.use_search.views.FileView.{FileView}
 use Rattle.stepped_programs.specs.SearchedSites.OrderedSearches.Held.{IsThere}
 
 -- the names of a file, and the table of its scopes, are these

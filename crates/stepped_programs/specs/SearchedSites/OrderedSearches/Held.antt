@@ -4,7 +4,7 @@ use Rattle.std.specs.Prelude.{◌≡◌, ℕ, ◌<◌, ◌^◌, true, Bool, List
 use Rattle.std.specs.Prelude.{None, slice_get}
 use Rattle.go_tree.specs.Tree.{NameAt, Expr}
 use Rattle.go_scan.specs.TokenLists.{TokenLists}
-use Rattle.import_rules.specs.Needs.{avoided}
+use Rattle.run_rules.specs.ImportRules.Needs.{avoided}
 use Rattle.pkg_graph.specs.Package.{Package}
 use Rattle.pkg_graph.specs.Views.{package_view}
 use Rattle.run_rules.specs.Sites.{MarkRef, Where, a_constant, is_among_marks, where_is, inlinable}
@@ -20,14 +20,14 @@ use Rattle.member_uses.specs.Uses.{Names}
 use Rattle.member_uses.specs.Laws.{AllConstants, Knows}
 use Rattle.module_marks.specs.Tables.{IsTableOf}
 use Rattle.module_marks.specs.Views.{mark_ref_of}
-use Rattle.use_search.specs.MarkValues.Tables.{DeclKey, key_of, value_in}
-use Rattle.use_search.specs.UsesOfMarks.Laws.{EachSound}
-use Rattle.package_search.specs.declared.looks.ProgramSources.{ProgramSources}
-use Rattle.package_search.specs.Search.{is_settled}
+use Rattle.repeated_parts.specs.UseSearch.MarkValues.Tables.{DeclKey, key_of, value_in}
+use Rattle.repeated_parts.specs.UseSearch.UsesOfMarks.Laws.{EachSound}
+use Rattle.stepped_programs.specs.declared.package_search.looks.ProgramSources.{ProgramSources}
+use Rattle.stepped_programs.specs.PackageSearch.Search.{is_settled}
 use Rattle.stepped_programs.specs.SearchedSites.Searched.{AreSearched, sites_in_file}
 use Rattle.stepped_programs.specs.SearchedSites.Told.{IsToldValue, IsFile}
-use Rattle.use_search.specs.declared.search.FoundObstacle.{FoundObstacle}
-use Rattle.use_search.specs.declared.views.FileView.{FileView}
+use Rattle.repeated_parts.specs.declared.use_search.search.FoundObstacle.{FoundObstacle}
+use Rattle.repeated_parts.specs.declared.use_search.views.FileView.{FileView}
 
 -- The file stands there among the packages.
 pub record IsThere (ps : List (Package At)) (w : Where At) : Type 0 where

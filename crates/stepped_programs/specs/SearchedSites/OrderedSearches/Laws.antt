@@ -7,13 +7,13 @@ use Rattle.run_rules.specs.Programs.{dependency_order}
 use Rattle.run_rules.specs.Sites.{MarkRef, Where}
 use Rattle.run_rules.specs.Run.{Standing}
 use Rattle.run_rules.specs.Steps.{At}
-use Rattle.package_search.specs.declared.looks.FileLook.{FileLook}
-use Rattle.package_search.specs.declared.looks.ProgramSources.{ProgramSources}
-use Rattle.package_search.specs.declared.search.FoundInPackage.{FoundInPackage}
-use Rattle.package_search.specs.Search.{LookAt}
+use Rattle.stepped_programs.specs.declared.package_search.looks.FileLook.{FileLook}
+use Rattle.stepped_programs.specs.declared.package_search.looks.ProgramSources.{ProgramSources}
+use Rattle.stepped_programs.specs.declared.package_search.search.FoundInPackage.{FoundInPackage}
+use Rattle.stepped_programs.specs.PackageSearch.Search.{LookAt}
 use Rattle.stepped_programs.specs.SearchedSites.Searched.{AreSearched, sites_in_file, files_in_order, FilesSearched}
 use Rattle.stepped_programs.specs.SearchedSites.Told.{IsFile}
-use Rattle.use_search.specs.declared.search.FoundForm.{FoundForm}
+use Rattle.repeated_parts.specs.declared.use_search.search.FoundForm.{FoundForm}
 use Rattle.stepped_programs.specs.SearchedSites.OrderedSearches.Held.{IsThere, IsHeld, Users, KeepUsers, AreAllSettled}
 use Rattle.stepped_programs.specs.SearchedSites.OrderedSearches.Search.{ComeSettled, IsFirstFree}
 use Rattle.stepped_programs.specs.SearchedSites.OrderedSearches.Found.{IsStepFound}

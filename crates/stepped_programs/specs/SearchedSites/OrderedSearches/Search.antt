@@ -3,10 +3,10 @@ use Rattle.std.specs.Prelude.{◌≡◌, ◌⊎◌, ℕ, ◌<◌, Bool, true, Li
 use Rattle.std.specs.Prelude.{Option, Some, None, slice_get}
 use Rattle.go_scan.specs.TokenLists.{TokenLists}
 use Rattle.pkg_graph.specs.declared.packages.Package.{Package}
-use Rattle.package_search.specs.declared.looks.FileLook.{FileLook}
-use Rattle.package_search.specs.declared.looks.ProgramSources.{ProgramSources}
-use Rattle.package_search.specs.declared.search.FoundInPackage.{FoundInPackage}
-use Rattle.package_search.specs.Search.{is_settled, LookAt, IsFirstIn}
+use Rattle.stepped_programs.specs.declared.package_search.looks.FileLook.{FileLook}
+use Rattle.stepped_programs.specs.declared.package_search.looks.ProgramSources.{ProgramSources}
+use Rattle.stepped_programs.specs.declared.package_search.search.FoundInPackage.{FoundInPackage}
+use Rattle.stepped_programs.specs.PackageSearch.Search.{is_settled, LookAt, IsFirstIn}
 use Rattle.stepped_programs.specs.SearchedSites.OrderedSearches.Held.{Users, AreUsed}
 
 -- it holds for each number

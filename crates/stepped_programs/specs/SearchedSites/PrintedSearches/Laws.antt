@@ -1,9 +1,9 @@
 -- The laws of searches in files of constants and of functions that print them. Each is the contract of a function of
 -- this crate (Go specification, Constant declarations; Composite literals; Identifiers).
 use Rattle.std.specs.Prelude.{◌≤◌, List}
-use Rattle.use_search.specs.UsesOfMarks.Laws.{EachSound}
+use Rattle.repeated_parts.specs.UseSearch.UsesOfMarks.Laws.{EachSound}
 use Rattle.member_uses.specs.Uses.{Names}
-use Rattle.splice_laws.specs.RunLaws.Reading.{ProgramReads, OnePathEach}
+use Rattle.run_rules.specs.SpliceLaws.RunLaws.Reading.{ProgramReads, OnePathEach}
 use Rattle.run_rules.specs.Run.{Standing, texts_size, the_limits}
 use Rattle.run_rules.specs.Sites.{MarkRef, Where}
 use Rattle.run_rules.specs.Steps.{At}

@@ -5,23 +5,23 @@ use Rattle.go_scan.specs.TokenLists.{TokenLists}
 use Rattle.pkg_graph.specs.Package.{Package}
 use Rattle.pkg_graph.specs.Members.{package_block}
 use Rattle.constant_steps.specs.FormImports.ImportLaws.Steps.{names_standing}
-use Rattle.use_search.specs.declared.mark_values.values.DeclaredValue.{DeclaredValue}
-use Rattle.use_search.specs.MarkValues.Tables.{Known, DeclKey, same_key, IsPut}
+use Rattle.repeated_parts.specs.declared.use_search.mark_values.values.DeclaredValue.{DeclaredValue}
+use Rattle.repeated_parts.specs.UseSearch.MarkValues.Tables.{Known, DeclKey, same_key, IsPut}
 use Rattle.member_uses.specs.Uses.{Names}
 use Rattle.member_uses.specs.Laws.{Knows}
 use Rattle.module_marks.specs.declared.table.MarkTable.{MarkTable}
 use Rattle.module_marks.specs.Tables.{IsTableOf}
-use Rattle.package_search.specs.declared.looks.ProgramSources.{ProgramSources}
-use Rattle.splice_laws.specs.RunLaws.Reading.{OnePathEach}
+use Rattle.stepped_programs.specs.declared.package_search.looks.ProgramSources.{ProgramSources}
+use Rattle.run_rules.specs.SpliceLaws.RunLaws.Reading.{OnePathEach}
 use Rattle.run_rules.specs.Respanned.{file_with, packages_with}
 use Rattle.run_rules.specs.Run.{Standing, Logged, Next, here_of}
 use Rattle.run_rules.specs.Sites.{MarkRef, Where, Site}
 use Rattle.run_rules.specs.Steps.{At}
 use Rattle.stepped_programs.specs.SearchedSites.Searched.{AreSearched, sites_in_file}
 use Rattle.stepped_programs.specs.SearchedSites.Told.{IsProgram, IsFile}
-use Rattle.use_search.specs.declared.search.FoundObstacle.{FoundObstacle}
-use Rattle.use_search.specs.declared.views.FileView.{FileView}
-use Rattle.use_search.specs.declared.views.ProgramView.{ProgramView}
+use Rattle.repeated_parts.specs.declared.use_search.search.FoundObstacle.{FoundObstacle}
+use Rattle.repeated_parts.specs.declared.use_search.views.FileView.{FileView}
+use Rattle.repeated_parts.specs.declared.use_search.views.ProgramView.{ProgramView}
 use Rattle.stepped_programs.specs.SearchedSites.OrderedSearches.Held.{IsThere, IsSearchable, IsHeld, Users, flag_of}
 use Rattle.stepped_programs.specs.SearchedSites.OrderedSearches.Held.{AreAllSettled}
 use Rattle.stepped_programs.specs.SearchedSites.SettledFiles.Left.{IsLeft, TellTheSame, AreSameBut, TellOthersTheSame}

@@ -3,10 +3,10 @@ use Rattle.std.specs.Prelude.{◌≡◌, ℕ, Bool, true, false, List, [], ◌�
 use Rattle.pkg_graph.specs.Package.{Package}
 use Rattle.run_rules.specs.Sites.{MarkRef, Where, Site, is_among_marks}
 use Rattle.run_rules.specs.Steps.{At, Found}
-use Rattle.use_search.specs.MarkValues.Tables.{Known, DeclKey, key_of, values_at, value_in}
-use Rattle.use_search.specs.UsesOfMarks.Laws.{EachSite}
+use Rattle.repeated_parts.specs.UseSearch.MarkValues.Tables.{Known, DeclKey, key_of, values_at, value_in}
+use Rattle.repeated_parts.specs.UseSearch.UsesOfMarks.Laws.{EachSite}
 use Rattle.module_marks.specs.Views.{mark_ref_of}
-use Rattle.use_search.specs.declared.search.FoundObstacle.{FoundObstacle}
+use Rattle.repeated_parts.specs.declared.use_search.search.FoundObstacle.{FoundObstacle}
 use Rattle.stepped_programs.specs.SearchedSites.OrderedSearches.Held.{IsThere, Users, flag_of}
 
 -- it is the file of the step

@@ -2,8 +2,8 @@
 -- Operands; Qualified identifiers; Selectors).
 use Rattle.std.specs.Prelude.{◌≡◌, Bool, true, false, List, [], ◌∷◌, ◌++◌, map}
 use Rattle.go_tree.specs.Tree.{Expr, selector}
-use Rattle.possible_uses.specs.Candidates.{Candidate}
-use Rattle.possible_uses.specs.Parts.{after_expr}
+use Rattle.member_uses.specs.PossibleUses.Candidates.{Candidate}
+use Rattle.member_uses.specs.PossibleUses.Parts.{after_expr}
 use Rattle.run_rules.specs.Sites.{Part, part_span}
 use Rattle.run_rules.specs.Surroundings.{Seen, seen}
 

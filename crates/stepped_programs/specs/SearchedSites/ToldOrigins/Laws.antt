@@ -5,8 +5,8 @@ use Rattle.go_tree.specs.declared.spans.Span.{Span}
 use Rattle.go_tree.specs.Tree.{NameAt, Expr}
 use Rattle.go_tree.specs.File.{Decl}
 use Rattle.constant_steps.specs.PlaceMeanings.Parts.{AllScoped}
-use Rattle.possible_uses.specs.Among.{Keyed}
-use Rattle.possible_uses.specs.Parts.{parts_of}
+use Rattle.member_uses.specs.PossibleUses.Among.{Keyed}
+use Rattle.member_uses.specs.PossibleUses.Parts.{parts_of}
 use Rattle.run_rules.specs.Inlining.{ReadsAs}
 use Rattle.run_rules.specs.Programs.{decl_seen}
 use Rattle.run_rules.specs.Respanned.{decls_with, file_with}

@@ -9,9 +9,9 @@ use Rattle.run_rules.specs.Sites.{MarkRef, Where, is_among_marks}
 use Rattle.run_rules.specs.Respanned.{packages_with}
 use Rattle.run_rules.specs.Run.{here_of}
 use Rattle.run_rules.specs.Steps.{At}
-use Rattle.use_search.specs.declared.mark_values.marked.PackageScopes.{PackageScopes}
-use Rattle.use_search.specs.MarkValues.Laws.{IsDeclared}
-use Rattle.use_search.specs.MarkValues.Tables.{Known, value_in, AreValuesOf}
+use Rattle.repeated_parts.specs.declared.use_search.mark_values.marked.PackageScopes.{PackageScopes}
+use Rattle.repeated_parts.specs.UseSearch.MarkValues.Laws.{IsDeclared}
+use Rattle.repeated_parts.specs.UseSearch.MarkValues.Tables.{Known, value_in, AreValuesOf}
 use Rattle.put_names.specs.Uses.{IsDeclaredAsName}
 use Rattle.stepped_programs.specs.SearchedSites.Told.{IsToldValue}
 

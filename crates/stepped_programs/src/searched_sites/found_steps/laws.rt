@@ -5,11 +5,13 @@ ghost use Rattle.stepped_programs.specs.SearchedSites.FoundSteps.Laws.{FileSteps
 ghost use Rattle.stepped_programs.specs.SearchedSites.FoundSteps.Laws.{FoundUsesComeNext, SearchesEndRuns};
 ghost use Rattle.stepped_programs.specs.SearchedSites.FoundSteps.Laws.{StepsMayBeMade};
 
-use run_by_steps::{run_ends, run_goes_on};
-use typed_parts::marked_runs::{constants_come_next, forms_of_constants_are_put, values_are_names};
-use typed_parts::standing_uses::{
+use printed_constants::typed_parts::marked_runs::{
+    constants_come_next, forms_of_constants_are_put, values_are_names,
+};
+use printed_constants::typed_parts::standing_uses::{
     constant_uses_stand_alone, first_uses_are_told, slots_take_names, steps_may_be_edited,
 };
+use run_by_steps::{run_ends, run_goes_on};
 
 /// The first free use that a search finds is the next of the run (`next`). Of it and its form file_steps is told,
 /// where the code has the text of the file, its tokens and a view of it with the tables of the search (`step`); and

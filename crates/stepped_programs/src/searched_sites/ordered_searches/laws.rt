@@ -4,7 +4,7 @@ ghost use Rattle.stepped_programs.specs.SearchedSites.OrderedSearches.Laws.{File
 ghost use Rattle.stepped_programs.specs.SearchedSites.OrderedSearches.Laws.{SearchesFindSteps, SearchesSettleFiles};
 
 use crate::searched_sites::{looks_tell_files, searches_find_sites};
-use use_search::uses_are_placed;
+use repeated_parts::use_search::uses_are_placed;
 
 /// In a program that the code has (`IsHeld`) a look at a file finds its sites, and tells of it what searches ask. So
 /// files that come to those that are settled, as looks at them show, are settled: none of their uses is free, and they

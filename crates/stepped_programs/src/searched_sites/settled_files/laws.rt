@@ -6,7 +6,7 @@ ghost use Rattle.stepped_programs.specs.SearchedSites.SettledFiles.Laws.{OtherMa
 ghost use Rattle.stepped_programs.specs.SearchedSites.SettledFiles.Laws.{PutsChangeOne, TablesStay};
 
 use crate::searched_sites::kept_uses_stay;
-use use_search::{marked_uses_are_sites, uses_are_placed};
+use repeated_parts::use_search::{marked_uses_are_sites, uses_are_placed};
 
 /// A step changes no package block (`blocks`), so a table of marks stays right (`tables`), and in a file that isn't
 /// that of the step all names mean what they meant (`names`).

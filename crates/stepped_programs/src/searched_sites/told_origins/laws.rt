@@ -2,7 +2,7 @@
 
 ghost use Rattle.stepped_programs.specs.SearchedSites.ToldOrigins.Laws.{OriginsAreTold};
 
-use possible_uses::parts_are_among_all;
+use member_uses::possible_uses::parts_are_among_all;
 
 /// In a file that reads from its text a use of a constant is found among the parts of its declaration by where it
 /// stands, with where it comes from in the file as read (Go specification, Operands; Qualified identifiers).

@@ -1,4 +1,4 @@
-use Rattle.typed_parts.proofs.MarkedRuns.ReadyModules.Typed.{linked_typed}
+use Rattle.printed_constants.proofs.TypedParts.MarkedRuns.ReadyModules.Typed.{linked_typed}
 use Rattle.run_rules.specs.Respanned.{packages_with}
 use Rattle.run_rules.specs.Run.{here_of}
 use Rattle.order_runs.specs.RunSteps.RunPackages.{packages_of}

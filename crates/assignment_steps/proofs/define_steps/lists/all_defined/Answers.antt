@@ -4,7 +4,7 @@ use Rattle.go_tree.specs.declared.texts.NameAt.{NameAt}
 use Rattle.go_tree.specs.View.{name_at_of}
 use Rattle.go_tree.specs.ScopeNames.FreeNames.{names_of}
 use Rattle.type_table.specs.TypeRelations.Environment.{defined_types}
-use Rattle.operand_rules.specs.Values.{typed_of}
+use Rattle.type_table.specs.OperandRules.Values.{typed_of}
 use Rattle.operator_rules.proofs.AccessRules.CallLemmas.{value_item}
 use Rattle.assignment_steps.specs.DefineSteps.Defined.{DefinedSoFar, one_defined}
 use Rattle.assignment_steps.proofs.DefineSteps.DefineLemmas.{all_ended, defined_start, one_more, one_refused, unequal}

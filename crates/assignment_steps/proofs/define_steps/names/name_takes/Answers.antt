@@ -1,7 +1,7 @@
 use Rattle.std.proofs.Common.{◌∙◌, IfSome, ap, subst, sym}
 use Rattle.go_tree.specs.GoTypes.Declarations.{assigns_to}
 use Rattle.type_table.specs.TypeRelations.Environment.{defined_types}
-use Rattle.operand_rules.specs.Values.{typed_of}
+use Rattle.type_table.specs.OperandRules.Values.{typed_of}
 use Rattle.typed_names.specs.Known.{HasTypes}
 use Rattle.typed_names.specs.Meanings.{entity_option}
 use Rattle.assignment_steps.proofs.define_steps.names.name_takes.Goals as goal

@@ -3,9 +3,9 @@ use Rattle.go_tree.specs.GoTypes.Answers.{given}
 use Rattle.go_tree.specs.GoTypes.Declarations.{assigns_to}
 use Rattle.go_tree.specs.ScopeNames.Means.{means}
 use Rattle.type_table.specs.TypeRelations.Environment.{defined_types}
-use Rattle.operand_rules.specs.Values.{typed_of}
+use Rattle.type_table.specs.OperandRules.Values.{typed_of}
 use Rattle.typed_names.specs.Meanings.{entity_option}
-use Rattle.operand_answers.specs.Known.{IsEntity}
+use Rattle.operand_modes.specs.OperandAnswers.Known.{IsEntity}
 use Rattle.assignment_steps.proofs.DefineSteps.DefineLemmas.{is_assigned, is_new, not_assigned}
 use Rattle.assignment_steps.proofs.define_steps.names.one_defined.Goals as goal
 

@@ -3,7 +3,7 @@ use Rattle.go_tree.specs.View.{name_at_of}
 use Rattle.go_tree.specs.GoTypes.Declarations.{defined_by}
 use Rattle.go_tree.specs.ScopeNames.FreeNames.{names_of}
 use Rattle.type_table.specs.TypeRelations.Environment.{defined_types}
-use Rattle.operand_rules.specs.Values.{typed_of}
+use Rattle.type_table.specs.OperandRules.Values.{typed_of}
 use Rattle.operator_rules.specs.AccessRules.Functions.{AreValues}
 use Rattle.control_steps.specs.RightSides.Values.{AreValuesIfOk, GivesValuesAlike}
 use Rattle.assignment_steps.specs.DefineSteps.Defined.{GivesDefined}

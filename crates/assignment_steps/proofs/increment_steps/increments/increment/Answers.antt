@@ -3,7 +3,7 @@ use Rattle.go_tree.specs.GoTypes.Statements.{one_more, step_op, updates}
 use Rattle.type_table.specs.TypeRelations.Environment.{defined_types}
 use Rattle.operator_rules.specs.AccessRules.Places.{place_of}
 use Rattle.operand_modes.specs.Operands.{operand_at}
-use Rattle.operand_answers.specs.Located.{GivesAt}
+use Rattle.operand_modes.specs.OperandAnswers.Located.{GivesAt}
 use Rattle.assignment_steps.proofs.IncrementSteps.StepLemmas.{stepped_lifted, stepped_refused}
 use Rattle.assignment_steps.proofs.increment_steps.increments.increment.Goals as goal
 

@@ -4,7 +4,7 @@ use Rattle.type_table.specs.TypeRelations.Environment.{defined_types}
 use Rattle.operator_rules.specs.AccessRules.Places.{place_of}
 use Rattle.operand_modes.specs.declared.modes.Operand.TheVariants.{Single}
 use Rattle.operand_modes.specs.Operands.{operand_at}
-use Rattle.operand_answers.proofs.KeptLemmas.{operand_on, operand_same}
+use Rattle.operand_modes.proofs.OperandAnswers.KeptLemmas.{operand_on, operand_same}
 use Rattle.assignment_steps.proofs.IncrementSteps.StepLemmas.{one_is}
 use Rattle.assignment_steps.proofs.increment_steps.increments.is_stepped.Goals as goal
 

@@ -5,7 +5,7 @@ use Rattle.go_tree.specs.GoTypes.Operands.{all_typed}
 use Rattle.type_table.specs.TypeRelations.Environment.{defined_types}
 use Rattle.operator_rules.specs.Settling.{typed_option}
 use Rattle.operand_modes.specs.Operands.{AreOperands, operands_at}
-use Rattle.operand_answers.specs.Lists.{AreThereIfOk, GivesAll}
+use Rattle.operand_modes.specs.OperandAnswers.Lists.{AreThereIfOk, GivesAll}
 use Rattle.control_steps.specs.DeclarationSteps.Entities.{GivesBinds}
 use Rattle.assignment_steps.specs.SpecSteps.Specs.{GivesWritten, IsWrittenIfOk}
 use Rattle.assignment_steps.proofs.SpecSteps.SpecLemmas.{constants_lifted, no_operands, no_type}

@@ -1,11 +1,11 @@
 use Rattle.std.proofs.Common.{◌∙◌, map, subst, sym}
 use Rattle.go_tree.specs.GoTypes.Declarations.{bind_all, constant_entity}
 use Rattle.type_table.specs.TypeRelations.Environment.{defined_types}
-use Rattle.operand_rules.specs.Values.{typed_of}
+use Rattle.type_table.specs.OperandRules.Values.{typed_of}
 use Rattle.operator_rules.specs.Settling.{typed_option}
 use Rattle.operator_rules.specs.AccessRules.Functions.{AreValues}
 use Rattle.operand_modes.specs.Operands.{operands_at}
-use Rattle.checker_tables.proofs.PartLemmas.{parts_follow}
+use Rattle.operand_modes.proofs.CheckerTables.PartLemmas.{parts_follow}
 use Rattle.control_steps.specs.DeclarationSteps.Entities.{GivesBinds}
 use Rattle.control_steps.proofs.DeclarationSteps.EntityLemmas.{no_constant}
 use Rattle.assignment_steps.proofs.SpecSteps.SpecLemmas.{constants_of, constants_refused}

@@ -1,7 +1,7 @@
 use Rattle.std.proofs.Common.{◌∙◌, map, subst, sym}
 use Rattle.go_tree.specs.GoTypes.Declarations.{bind_all, variable_entity}
 use Rattle.type_table.specs.TypeRelations.Environment.{defined_types}
-use Rattle.operand_rules.specs.Values.{typed_of}
+use Rattle.type_table.specs.OperandRules.Values.{typed_of}
 use Rattle.operator_rules.specs.Settling.{typed_option}
 use Rattle.operator_rules.specs.AccessRules.Functions.{AreValues}
 use Rattle.control_steps.specs.RightSides.Values.{AreValuesIfOk, GivesValuesAlike}

@@ -3,7 +3,7 @@ use Rattle.go_tree.specs.GoTypes.Statements.{updates}
 use Rattle.type_table.specs.TypeRelations.Environment.{defined_types}
 use Rattle.operator_rules.specs.AccessRules.Places.{place_of}
 use Rattle.operand_modes.specs.Operands.{operands_at}
-use Rattle.operand_answers.specs.Lists.{GivesAll}
+use Rattle.operand_modes.specs.OperandAnswers.Lists.{GivesAll}
 use Rattle.assignment_steps.proofs.UpdateSteps.UpdateLemmas.{updates_lifted}
 use Rattle.assignment_steps.proofs.update_steps.lists.update.Goals as goal
 

@@ -1,6 +1,6 @@
 use Rattle.std.proofs.Common.{◌∙◌, subst}
 use Rattle.type_table.specs.TypeRelations.Environment.{defined_types}
-use Rattle.operand_answers.specs.Located.{GivesAt, IsThereIfOk}
+use Rattle.operand_modes.specs.OperandAnswers.Located.{GivesAt, IsThereIfOk}
 use Rattle.assignment_steps.specs.Targets.{GivesTarget, IsTargetIfOk}
 use Rattle.assignment_steps.proofs.UpdateSteps.UpdateLemmas.{stored_met, target_not_met, value_not_met}
 use Rattle.assignment_steps.proofs.update_steps.updates.is_stored.Goals as goal

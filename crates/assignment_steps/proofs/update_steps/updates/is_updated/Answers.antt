@@ -7,7 +7,7 @@ use Rattle.type_table.specs.TypeRelations.Environment.{defined_types}
 use Rattle.operator_rules.specs.declared.access_rules.places.Place.TheVariants.{Elsewhere}
 use Rattle.operator_rules.specs.AccessRules.Places.{place_of}
 use Rattle.operand_modes.specs.Operands.{operand_at}
-use Rattle.operand_answers.proofs.AnswerLemmas.{there_of}
+use Rattle.operand_modes.proofs.OperandAnswers.AnswerLemmas.{there_of}
 use Rattle.assignment_steps.proofs.UpdateSteps.UpdateLemmas.{located_self, stores_at, target_kept, target_there, updates_is}
 use Rattle.assignment_steps.proofs.update_steps.updates.is_updated.Goals as goal
 

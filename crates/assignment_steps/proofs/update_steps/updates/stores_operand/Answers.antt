@@ -4,7 +4,7 @@ use Rattle.go_tree.specs.GoTypes.Operands.{typed}
 use Rattle.go_tree.specs.GoTypes.Statements.{stores}
 use Rattle.type_table.specs.TypeRelations.Environment.{defined_types}
 use Rattle.operand_modes.specs.Operands.{IsOperand, operand_at}
-use Rattle.operand_answers.proofs.AnswerLemmas.{single_is}
+use Rattle.operand_modes.proofs.OperandAnswers.AnswerLemmas.{single_is}
 use Rattle.control_steps.proofs.OperandTests.{not_typed}
 use Rattle.assignment_steps.specs.Targets.{target_of}
 use Rattle.assignment_steps.proofs.update_steps.updates.stores_operand.Goals as goal

@@ -1,8 +1,8 @@
 use Rattle.std.proofs.Common.{◌∙◌, ap, false, length}
 use Rattle.std.proofs.lemmas.List.{length-replicate}
 use Rattle.declared_types.proofs.Passed.{places_on}
-use Rattle.func_headers.specs.Functions.{program_of}
-use Rattle.operand_answers.proofs.KeptLemmas.{keeps_on}
+use Rattle.package_blocks.specs.FuncHeaders.Functions.{program_of}
+use Rattle.operand_modes.proofs.OperandAnswers.KeptLemmas.{keeps_on}
 use Rattle.collected.specs.PackageValues.Passes.{left_numbers}
 use Rattle.collected.proofs.PackageValues.CopiesSame.{copies_declared, copies_there}
 use Rattle.collected.proofs.PackageValues.LookLemmas.{looked_on}

@@ -2,7 +2,7 @@ use Rattle.std.proofs.Common.{◌∙◌, ap, map, subst, sym}
 use Rattle.go_tree.specs.GoTypes.Primary.{append_call, builtin_call, cap_call, copy_call, delete_call, len_call, panic_call, print_call, recover_call}
 use Rattle.type_table.specs.TypeRelations.Environment.{defined_types}
 use Rattle.universe_block.specs.Meanings.{builtin_of}
-use Rattle.operand_rules.specs.Values.{typed_of}
+use Rattle.type_table.specs.OperandRules.Values.{typed_of}
 use Rattle.operand_modes.specs.Operands.{GivesOperand}
 use Rattle.composite_steps.proofs.BuiltinSteps.ValueLemmas.{these_given, values_not_made, values_not_new}
 use Rattle.composite_steps.proofs.builtin_steps.calls.value_call.Goals as goal

@@ -1,10 +1,10 @@
 use Rattle.std.proofs.Common.{◌≡◌, ◌∙◌, Some, map, subst, sym}
 use Rattle.go_tree.specs.GoTypes.Operands.{all_typed, spread}
 use Rattle.type_table.specs.TypeRelations.Environment.{defined_types}
-use Rattle.operand_rules.specs.Values.{typed_of}
+use Rattle.type_table.specs.OperandRules.Values.{typed_of}
 use Rattle.operator_rules.specs.AccessRules.Functions.{AreValues}
 use Rattle.operand_modes.specs.Operands.{operands_at}
-use Rattle.checker_tables.proofs.PartLemmas.{parts_follow}
+use Rattle.operand_modes.proofs.CheckerTables.PartLemmas.{parts_follow}
 use Rattle.composite_steps.proofs.BuiltinSteps.ValueLemmas.{values_refused}
 use Rattle.composite_steps.proofs.builtin_steps.calls.values_call.Goals as goal
 

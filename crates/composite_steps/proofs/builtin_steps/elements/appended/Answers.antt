@@ -1,9 +1,9 @@
 use Rattle.std.proofs.Common.{map, subst, sym}
 use Rattle.go_tree.specs.GoTypes.Primary.{append_call}
 use Rattle.type_table.specs.TypeRelations.Environment.{defined_types}
-use Rattle.operand_rules.specs.Values.{Gives, typed_of}
+use Rattle.type_table.specs.OperandRules.Values.{Gives, typed_of}
 use Rattle.operator_rules.specs.AccessRules.Functions.{AreValues}
-use Rattle.checker_tables.proofs.PartLemmas.{parts_follow}
+use Rattle.operand_modes.proofs.CheckerTables.PartLemmas.{parts_follow}
 use Rattle.composite_steps.proofs.builtin_steps.elements.appended.Goals as goal
 
 pub appends-requires-clause-types : goal.appends-requires-clause-types

@@ -1,8 +1,8 @@
 use Rattle.std.proofs.Common.{◌∙◌, map, refl, subst, sym}
 use Rattle.go_tree.specs.GoTypes.Primary.{copy_call}
 use Rattle.type_table.specs.TypeRelations.Environment.{defined_types}
-use Rattle.operand_rules.specs.Values.{Gives, typed_of}
-use Rattle.checker_tables.proofs.PartLemmas.{parts_follow}
+use Rattle.type_table.specs.OperandRules.Values.{Gives, typed_of}
+use Rattle.operand_modes.proofs.CheckerTables.PartLemmas.{parts_follow}
 use Rattle.composite_steps.proofs.BuiltinSteps.ArgumentLemmas.{two_are}
 use Rattle.composite_steps.proofs.BuiltinSteps.ValueLemmas.{two_missing, two_there}
 use Rattle.composite_steps.proofs.builtin_steps.elements.copied.Goals as goal

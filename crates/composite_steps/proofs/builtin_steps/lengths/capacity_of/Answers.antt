@@ -1,8 +1,8 @@
 use Rattle.std.proofs.Common.{◌∙◌, map, refl, subst, sym}
 use Rattle.go_tree.specs.GoTypes.Primary.{cap_call}
 use Rattle.type_table.specs.TypeRelations.Environment.{defined_types}
-use Rattle.operand_rules.specs.Values.{Gives, content_of, typed_of}
-use Rattle.checker_tables.proofs.PartLemmas.{parts_follow}
+use Rattle.type_table.specs.OperandRules.Values.{Gives, content_of, typed_of}
+use Rattle.operand_modes.proofs.CheckerTables.PartLemmas.{parts_follow}
 use Rattle.composite_steps.proofs.BuiltinSteps.ArgumentLemmas.{only_is}
 use Rattle.composite_steps.proofs.BuiltinSteps.ValueLemmas.{one_missing, only_there}
 use Rattle.composite_steps.proofs.builtin_steps.lengths.capacity_of.Goals as goal

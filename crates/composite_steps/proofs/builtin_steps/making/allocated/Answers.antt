@@ -1,4 +1,4 @@
-use Rattle.checker_tables.proofs.PartLemmas.{parts_follow}
+use Rattle.operand_modes.proofs.CheckerTables.PartLemmas.{parts_follow}
 use Rattle.composite_steps.proofs.builtin_steps.making.allocated.Goals as goal
 
 pub allocates-requires-clause-types : goal.allocates-requires-clause-types

@@ -4,7 +4,7 @@ use Rattle.go_tree.specs.GoTypes.Primary.{make_call}
 use Rattle.type_table.specs.TypeRelations.Environment.{defined_types, env_type}
 use Rattle.operator_rules.specs.AccessRules.Functions.{operands_of}
 use Rattle.operand_modes.specs.Operands.{GivesOperand, operands_at}
-use Rattle.checker_tables.proofs.PartLemmas.{parts_follow}
+use Rattle.operand_modes.proofs.CheckerTables.PartLemmas.{parts_follow}
 use Rattle.composite_steps.proofs.BuiltinSteps.MakeLemmas.{made_of, made_refused}
 use Rattle.composite_steps.proofs.builtin_steps.making.made.Goals as goal
 

@@ -1,7 +1,7 @@
 use Rattle.std.proofs.Common.{◌∙◌, subst, sym}
 use Rattle.go_tree.specs.GoTypes.Operands.{all_typed}
 use Rattle.operand_modes.specs.Lists.{GivesValues}
-use Rattle.checker_tables.proofs.PartLemmas.{parts_follow}
+use Rattle.operand_modes.proofs.CheckerTables.PartLemmas.{parts_follow}
 use Rattle.composite_steps.proofs.BuiltinSteps.MakeLemmas.{results_no_sizes, sizes_stay}
 use Rattle.composite_steps.proofs.builtin_steps.making.size_values.Goals as goal
 

@@ -1,7 +1,7 @@
 use Rattle.std.proofs.Common.{◌∙◌, map, refl, subst, sym}
 use Rattle.go_tree.specs.GoTypes.Primary.{panic_call}
 use Rattle.type_table.specs.TypeRelations.Environment.{defined_types}
-use Rattle.operand_rules.specs.Values.{typed_of}
+use Rattle.type_table.specs.OperandRules.Values.{typed_of}
 use Rattle.operand_modes.specs.Operands.{GivesOperand}
 use Rattle.composite_steps.proofs.BuiltinSteps.ArgumentLemmas.{only_is}
 use Rattle.composite_steps.proofs.BuiltinSteps.ValueLemmas.{one_missing, only_there}

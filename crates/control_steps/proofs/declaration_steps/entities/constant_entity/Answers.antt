@@ -1,8 +1,8 @@
 use Rattle.std.proofs.Common.{◌≡◌, ◌∙◌, IfSome, None, ap, subst, sym}
 use Rattle.go_tree.specs.GoTypes.Declarations.{constant_entity}
 use Rattle.type_table.specs.TypeRelations.Environment.{defined_types}
-use Rattle.operand_rules.specs.declared.values.ValueType.TheVariants.{Typed}
-use Rattle.operand_rules.specs.Values.{IsType, content_of, type_of, typed_of, within}
+use Rattle.type_table.specs.declared.operand_rules.values.ValueType.TheVariants.{Typed}
+use Rattle.type_table.specs.OperandRules.Values.{IsType, content_of, type_of, typed_of, within}
 use Rattle.operator_rules.specs.Settling.{typed_option}
 use Rattle.typed_names.specs.Meanings.{entity_option}
 use Rattle.control_steps.proofs.DeclarationSteps.EntityLemmas.{no_constant, no_shift_constant, own_constant}

@@ -4,7 +4,7 @@ use Rattle.go_tree.specs.GoTypes.Defined.{under}
 use Rattle.go_tree.specs.GoTypes.Entities as go
 use Rattle.go_tree.specs.GoTypes.Types.{basic_kind}
 use Rattle.type_table.specs.TypeRelations.Environment.{defined_types, env_type}
-use Rattle.operand_rules.specs.Constants.{const_at}
+use Rattle.type_table.specs.OperandRules.Constants.{const_at}
 use Rattle.control_steps.proofs.DeclarationSteps.EntityLemmas.{constants_there, typed_is}
 use Rattle.control_steps.proofs.declaration_steps.entities.typed_constant.Goals as goal
 

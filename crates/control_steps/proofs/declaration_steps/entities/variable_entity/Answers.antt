@@ -3,8 +3,8 @@ use Rattle.go_tree.specs.GoTypes.Answers.{given}
 use Rattle.go_tree.specs.GoTypes.Declarations.{variable_entity}
 use Rattle.go_tree.specs.GoTypes.Entities as go
 use Rattle.type_table.specs.TypeRelations.Environment.{defined_types}
-use Rattle.operand_rules.specs.declared.values.ValueType.TheVariants.{Typed}
-use Rattle.operand_rules.specs.Values.{IsType, typed_of}
+use Rattle.type_table.specs.declared.operand_rules.values.ValueType.TheVariants.{Typed}
+use Rattle.type_table.specs.OperandRules.Values.{IsType, typed_of}
 use Rattle.operator_rules.specs.Settling.{typed_option}
 use Rattle.typed_names.specs.Meanings.{entity_option}
 use Rattle.control_steps.proofs.DeclarationSteps.EntityLemmas.{variable_given}

@@ -2,11 +2,11 @@ use Rattle.std.proofs.Common.{◌∙◌, ◌+◌, IfSome, ap, arith, drop, map, 
 use Rattle.std.proofs.lemmas.List.{length-map}
 use Rattle.type_table.specs.TypeRelations.Environment.{defined_types}
 use Rattle.typed_names.proofs.TypeExprs.NewNames.{drop_all}
-use Rattle.operand_rules.specs.Values.{typed_of}
+use Rattle.type_table.specs.OperandRules.Values.{typed_of}
 use Rattle.operator_rules.specs.Settling.{typed_option}
 use Rattle.operator_rules.proofs.AccessRules.CallLemmas.{value_item}
 use Rattle.typed_names.specs.Meanings.{entity_option}
-use Rattle.operand_answers.specs.Known.{IsEntity}
+use Rattle.operand_modes.specs.OperandAnswers.Known.{IsEntity}
 use Rattle.control_steps.specs.DeclarationSteps.Entities.{BoundSoFar, entity_for}
 use Rattle.control_steps.proofs.DeclarationSteps.BindLemmas.{bound_end, bound_fails, bound_more, bound_start}
 use Rattle.control_steps.proofs.declaration_steps.lists.all_entities.Goals as goal

@@ -1,7 +1,7 @@
 use Rattle.std.specs.Prelude.{map}
 use Rattle.std.proofs.Common.{drop}
 use Rattle.type_table.specs.TypeRelations.Environment.{defined_types}
-use Rattle.operand_rules.specs.Values.{typed_of}
+use Rattle.type_table.specs.OperandRules.Values.{typed_of}
 use Rattle.operator_rules.specs.Settling.{typed_option}
 use Rattle.control_steps.specs.DeclarationSteps.Entities.{BoundSoFar, entity_for}
 use Rattle.control_steps.proofs.declaration_steps.lists.all_entities.Given as goal

@@ -6,8 +6,8 @@ use Rattle.type_table.specs.TypeRelations.Environment.{defined_types}
 use Rattle.operator_rules.specs.AccessRules.Places.{place_of}
 use Rattle.operand_modes.specs.Lists.{AreStored, GivesValues}
 use Rattle.operand_modes.specs.Operands.{AreOperands, operands_at}
-use Rattle.operand_answers.specs.Lists.{GivesAll}
-use Rattle.checker_tables.proofs.PartLemmas.{parts_follow}
+use Rattle.operand_modes.specs.OperandAnswers.Lists.{GivesAll}
+use Rattle.operand_modes.proofs.CheckerTables.PartLemmas.{parts_follow}
 use Rattle.control_steps.specs.RightSides.Values.{GivesValuesAlike, StandIfOk}
 use Rattle.control_steps.proofs.RightSides.AlikeValues.{elements_stored, found_there, right_given, right_refused}
 use Rattle.control_steps.proofs.right_sides.right.right_values.Goals as goal

@@ -1,9 +1,9 @@
 use Rattle.std.proofs.Common.{subst, sym}
 use Rattle.go_tree.specs.GoTypes.Statements.{tag_value}
 use Rattle.type_table.specs.TypeRelations.Environment.{defined_types}
-use Rattle.operand_rules.specs.Values.{Gives}
+use Rattle.type_table.specs.OperandRules.Values.{Gives}
 use Rattle.operator_rules.specs.AccessRules.Slices.{IsBoundValue, bound_of}
-use Rattle.operand_answers.specs.AccessSteps.Bounds.{GivesBound, IsBoundIfOk}
+use Rattle.operand_modes.specs.OperandAnswers.AccessSteps.Bounds.{GivesBound, IsBoundIfOk}
 use Rattle.control_steps.specs.SwitchSteps.Tags.{as_operand}
 use Rattle.control_steps.proofs.SwitchSteps.SwitchLemmas.{tag_lifted, tag_refused}
 use Rattle.control_steps.proofs.switch_steps.tags.tag.Goals as goal

@@ -1,7 +1,7 @@
 use Rattle.std.proofs.Common.{◌∙◌, ap, subst, sym}
 use Rattle.go_tree.specs.GoTypes.Answers.{given}
 use Rattle.type_table.specs.TypeRelations.Environment.{defined_types}
-use Rattle.operand_rules.specs.Values.{Gives}
+use Rattle.type_table.specs.OperandRules.Values.{Gives}
 use Rattle.operator_rules.specs.Settling.{typed_option}
 use Rattle.control_steps.specs.SwitchSteps.Tags.{as_operand}
 use Rattle.control_steps.proofs.SwitchSteps.SwitchLemmas.{tag_of_type}

@@ -5,8 +5,8 @@ use Rattle.go_tree.specs.GoTypes.Entities.{elsewhere}
 use Rattle.go_tree.specs.GoTypes.Operands.{a_function}
 use Rattle.go_tree.specs.GoTypes.TypeNames.{func_type}
 use Rattle.func_types.specs.Answers.{func_of}
-use Rattle.operand_answers.specs.Located.{GivesAt}
-use Rattle.operand_answers.proofs.KeptLemmas.{keeps_on, stands_kept}
+use Rattle.operand_modes.specs.OperandAnswers.Located.{GivesAt}
+use Rattle.operand_modes.proofs.OperandAnswers.KeptLemmas.{keeps_on, stands_kept}
 use Rattle.expr_walk.proofs.WalkArms.ExprArms.{at}
 use Rattle.expr_walk.proofs.WalkArms.LiteralLemmas.{signature_refused}
 use Rattle.expr_walk.proofs.walk_arms.literals.function_literal.Goals as goal

@@ -1,7 +1,7 @@
 use Rattle.std.proofs.Common.{◌∙◌, ◌++◌, ap, map, refl, List, ℕ}
 use Rattle.std.specs.Option.{option_to_list}
 use Rattle.go_tree.specs.FileView.{import_spec_of}
-use Rattle.module_files.specs.PathLists.{number_of}
+use Rattle.pkg_graph.specs.ModuleFiles.PathLists.{number_of}
 use Rattle.file_names.proofs.Walks.{one_listed, all_listed}
 use Rattle.file_tables.specs.DependencyOrder.Links.{numbers_of, spec_paths}
 use Rattle.file_tables.proofs.dependency_order.numbers.add_specs.Goals as goal

@@ -1,5 +1,5 @@
 use Rattle.std.proofs.Common.{◌∙◌, sym, subst, map}
-use Rattle.module_files.specs.PathLists.{AreDistinct}
+use Rattle.pkg_graph.specs.ModuleFiles.PathLists.{AreDistinct}
 use Rattle.pkg_graph.specs.Views.{package_view}
 use Rattle.file_tables.proofs.DependencyOrder.Paths.{viewed_paths}
 use Rattle.file_tables.proofs.DependencyOrder.Orders.{links_within, order_found}

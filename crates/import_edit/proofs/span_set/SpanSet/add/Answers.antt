@@ -1,6 +1,6 @@
 use Rattle.std.proofs.Common.{◌∙◌, ap}
 use Rattle.std.specs.List.{list_any}
-use Rattle.import_rules.specs.Removed.{same_span, span_at}
+use Rattle.run_rules.specs.ImportRules.Removed.{same_span, span_at}
 use Rattle.import_edit.proofs.SpanLaws.{spans_of, any_view, added_view}
 use Rattle.import_edit.proofs.span_set.SpanSet.add.Goals as goal
 

@@ -1,5 +1,5 @@
 use Rattle.std.proofs.Common.{◌∙◌, sym}
-use Rattle.import_rules.specs.Removed.{same_span}
+use Rattle.run_rules.specs.ImportRules.Removed.{same_span}
 use Rattle.import_edit.proofs.SpanLaws.{any_view}
 use Rattle.import_edit.proofs.span_set.SpanSet.has.Goals as goal
 

@@ -2,7 +2,7 @@ use Rattle.std.specs.Prelude.{refl}
 use mathlib.Core.Path.{sym, ◌∙◌}
 use Rattle.go_tree.specs.GoTypes.Entities.{run}
 use Rattle.type_table.specs.TypeRelations.Environment.{defined_types, env_type}
-use Rattle.operand_rules.specs.Values.{content_of, typed_of}
+use Rattle.type_table.specs.OperandRules.Values.{content_of, typed_of}
 use Rattle.operator_rules.specs.AccessRules.Slices.{bound_of}
 use Rattle.operator_rules.proofs.AccessRules.SliceLemmas.{sliced_none, sliced_some}
 use Rattle.operator_rules.proofs.access_rules.slices.sliced.Goals as goal

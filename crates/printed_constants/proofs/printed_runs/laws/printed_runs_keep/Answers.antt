@@ -1,8 +1,8 @@
 use Rattle.std.proofs.Common.{[]}
 use Rattle.run_rules.specs.Inlining.{standing_as_read}
 use Rattle.run_rules.specs.Marks.{marks_of}
-use Rattle.typed_parts.proofs.MarkedRuns.ReadyModules.Typed.{typed_as_read}
-use Rattle.typed_parts.proofs.MarkedRuns.LinkedMembers.Files.{read-have}
+use Rattle.printed_constants.proofs.TypedParts.MarkedRuns.ReadyModules.Typed.{typed_as_read}
+use Rattle.printed_constants.proofs.TypedParts.MarkedRuns.LinkedMembers.Files.{read-have}
 use Rattle.printed_constants.proofs.Plain.{all_unspread}
 use Rattle.printed_constants.proofs.PrintedRuns.Runs.{all_over, runs_within}
 use Rattle.printed_constants.proofs.Steps.{read_printed}

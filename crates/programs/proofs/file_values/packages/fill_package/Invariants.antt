@@ -1,7 +1,7 @@
 use Rattle.std.proofs.Common.{◌≡◌, false, nat_eq}
 use Rattle.pkg_graph.specs.Views.{package_view}
 use Rattle.file_names.specs.Members.{IsBlockOf}
-use Rattle.use_search.specs.MarkValues.Tables.{DeclKey, values_at}
+use Rattle.repeated_parts.specs.UseSearch.MarkValues.Tables.{DeclKey, values_at}
 use Rattle.programs.proofs.FileValues.Filled.{HasBefore}
 use Rattle.programs.proofs.file_values.packages.fill_package.Given as goal
 

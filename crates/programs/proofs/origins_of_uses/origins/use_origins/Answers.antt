@@ -2,7 +2,7 @@ use Rattle.std.proofs.Common.{◌≡◌, ◌∙◌, ◌<◌, ap, length, arith, 
 use Rattle.go_tree.specs.declared.spans.Span.{Span}
 use Rattle.go_tree.specs.FileView.{decl_of}
 use Rattle.go_tree.specs.ScopeNames.Means.{or_else}
-use Rattle.possible_uses.specs.Parts.{parts_of}
+use Rattle.member_uses.specs.PossibleUses.Parts.{parts_of}
 use Rattle.programs.specs.OriginsOfUses.Origins.{at_span, first_origin}
 use Rattle.programs.proofs.OriginsOfUses.Tables.{counted, within, next_decl}
 use Rattle.programs.proofs.origins_of_uses.origins.use_origins.Goals as goal

@@ -1,9 +1,9 @@
 use Rattle.std.proofs.Common.{◌∙◌, List, ap, map, arith}
 use Rattle.go_tree.specs.declared.spans.Span.{Span}
 use Rattle.run_rules.specs.Sites.{part_span}
-use Rattle.possible_uses.specs.Candidates.{Candidate}
-use Rattle.possible_uses.specs.Views.{part_of}
-use Rattle.possible_uses.specs.declared.parts.PartRef.{PartRef}
+use Rattle.member_uses.specs.PossibleUses.Candidates.{Candidate}
+use Rattle.member_uses.specs.PossibleUses.Views.{part_of}
+use Rattle.member_uses.specs.declared.possible_uses.parts.PartRef.{PartRef}
 use Rattle.programs.proofs.PartOrigins.Gathered.{all_gathered, mapped_twice}
 use Rattle.programs.proofs.part_origins.spans.decl_spans.Goals as goal
 

@@ -1,6 +1,6 @@
 use Rattle.std.proofs.Common.{◌≡◌, ◌++◌, drop, map}
 use Rattle.run_rules.specs.Sites.{part_span}
-use Rattle.possible_uses.specs.Views.{part_of}
+use Rattle.member_uses.specs.PossibleUses.Views.{part_of}
 use Rattle.programs.proofs.part_origins.spans.decl_spans.Given as goal
 
 abbrev pub invariant-loop-part : goal.invariant-loop-part

@@ -1,6 +1,6 @@
 use Rattle.std.proofs.Common.{◌≡◌, ◌++◌, drop, map}
 use Rattle.go_tree.specs.FileView.{decl_of}
-use Rattle.possible_uses.specs.Views.{part_of}
+use Rattle.member_uses.specs.PossibleUses.Views.{part_of}
 use Rattle.repeated_parts.specs.ImportsUnused.Uses.{all_parts}
 use Rattle.repeated_parts.proofs.imports_unused.parts.file_parts.Given as goal
 

@@ -1,6 +1,6 @@
 use Rattle.std.proofs.Common.{◌≡◌, ◌+◌, drop, map}
 use Rattle.scope_tables.specs.Table.{table_of}
-use Rattle.possible_uses.specs.Views.{part_of}
+use Rattle.member_uses.specs.PossibleUses.Views.{part_of}
 use Rattle.repeated_parts.specs.ImportsUnused.Uses.{one_if, uses_among}
 use Rattle.repeated_parts.proofs.imports_unused.parts.is_used_once.Given as goal
 

@@ -2,7 +2,7 @@ use Rattle.std.proofs.Common.{◌∙◌, map, ap}
 use Rattle.std.specs.Option.{option_to_list}
 use Rattle.scope_tables.specs.Table.{table_of}
 use Rattle.go_tree.specs.View.{expr_of}
-use Rattle.possible_uses.specs.Views.{part_of}
+use Rattle.member_uses.specs.PossibleUses.Views.{part_of}
 use Rattle.repeated_parts.proofs.ImportsUnused.Left.{left_unused}
 use Rattle.repeated_parts.proofs.imports_unused.unused.unused_imports.Goals as goal
 

@@ -1,6 +1,6 @@
 use Rattle.std.proofs.Common.{◌≡◌, ◌++◌, drop, map}
 use Rattle.member_uses.specs.Views.{names_in}
-use Rattle.possible_uses.specs.Views.{part_of}
+use Rattle.member_uses.specs.PossibleUses.Views.{part_of}
 use Rattle.repeated_parts.specs.UsesRepeated.Uses.{flagged_uses}
 use Rattle.repeated_parts.specs.UsesRepeated.Views.{flagged_of}
 use Rattle.repeated_parts.proofs.uses_repeated.uses.repeated_uses.Given as goal

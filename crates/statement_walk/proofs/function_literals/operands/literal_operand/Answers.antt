@@ -4,7 +4,7 @@ use Rattle.go_tree.specs.GoTypes.Entities.{elsewhere}
 use Rattle.go_tree.specs.GoTypes.Operands.{a_function}
 use Rattle.operator_rules.specs.AccessRules.Functions.{types_at}
 use Rattle.func_types.specs.Answers.{func_of}
-use Rattle.operand_answers.specs.Located.{GivesAt}
+use Rattle.operand_modes.specs.OperandAnswers.Located.{GivesAt}
 use Rattle.statement_walk.proofs.FunctionLiterals.LiteralLemmas.{results_at}
 use Rattle.statement_walk.proofs.function_literals.operands.literal_operand.Goals as goal
 

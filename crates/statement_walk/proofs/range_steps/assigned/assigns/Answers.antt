@@ -4,7 +4,7 @@ use Rattle.go_tree.specs.GoTypes.Operands.{typed}
 use Rattle.go_tree.specs.GoTypes.Statements.{range_assigns}
 use Rattle.type_table.specs.TypeRelations.Environment.{defined_types}
 use Rattle.operand_modes.specs.Operands.{operand_at}
-use Rattle.operand_answers.specs.Located.{GivesAt, IsThereIfOk}
+use Rattle.operand_modes.specs.OperandAnswers.Located.{GivesAt, IsThereIfOk}
 use Rattle.control_steps.proofs.OperandTests.{not_met}
 use Rattle.assignment_steps.specs.Targets.{AreTargets, AreTargetsIfOk, GivesTargets, targets_of}
 use Rattle.statement_walk.proofs.RangeSteps.StoreLemmas.{assigns_met, left_not_met}

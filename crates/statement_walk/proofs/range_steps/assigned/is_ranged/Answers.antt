@@ -4,7 +4,7 @@ use Rattle.go_tree.specs.GoTypes.Operands.{Typed, typed}
 use Rattle.go_tree.specs.GoTypes.Statements as go
 use Rattle.type_table.specs.TypeRelations.Environment.{defined_types}
 use Rattle.operand_modes.specs.Operands.{IsOperand, operand_at}
-use Rattle.operand_answers.proofs.AnswerLemmas.{single_is}
+use Rattle.operand_modes.proofs.OperandAnswers.AnswerLemmas.{single_is}
 use Rattle.control_steps.proofs.OperandTests.{not_typed}
 use Rattle.statement_walk.specs.RangeSteps.Ranges.{listed_option}
 use Rattle.statement_walk.proofs.range_steps.assigned.is_ranged.Goals as goal

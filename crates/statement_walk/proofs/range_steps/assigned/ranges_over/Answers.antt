@@ -3,7 +3,7 @@ use Rattle.go_tree.specs.GoTypes.Answers.{meets}
 use Rattle.go_tree.specs.GoTypes.Operands.{Typed, typed}
 use Rattle.go_tree.specs.GoTypes.Statements as go
 use Rattle.type_table.specs.TypeRelations.Environment.{defined_types}
-use Rattle.operand_answers.specs.Located.{GivesAt, IsThereIfOk}
+use Rattle.operand_modes.specs.OperandAnswers.Located.{GivesAt, IsThereIfOk}
 use Rattle.control_steps.proofs.OperandTests.{met, not_met}
 use Rattle.statement_walk.proofs.RangeSteps.RangeLemmas.{range_alike, typed_alike}
 use Rattle.statement_walk.proofs.range_steps.assigned.ranges_over.Goals as goal

@@ -1,7 +1,7 @@
 use Rattle.std.proofs.Common.{◌∙◌, ◌&&◌, ap, sym}
 use Rattle.go_tree.specs.GoTypes.Operands.{fits}
 use Rattle.type_table.specs.TypeRelations.Environment.{defined_types, env_type}
-use Rattle.operand_rules.specs.Values.{typed_of}
+use Rattle.type_table.specs.OperandRules.Values.{typed_of}
 use Rattle.statement_walk.proofs.range_steps.assigned.stores_number.Goals as goal
 
 pub returns-then-is_whole_number : goal.returns-then-is_whole_number

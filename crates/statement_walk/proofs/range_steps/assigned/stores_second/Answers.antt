@@ -1,8 +1,8 @@
 use Rattle.std.proofs.Common.{◌∙◌, ◌&&◌, [], IfSome, ap, ap₂, subst, sym}
 use Rattle.go_tree.specs.GoTypes.Statements.{range_stores}
 use Rattle.type_table.specs.TypeRelations.Environment.{defined_types}
-use Rattle.operand_rules.specs.declared.values.ValueType.TheVariants.{Typed}
-use Rattle.operand_rules.specs.Values.{IsType}
+use Rattle.type_table.specs.declared.operand_rules.values.ValueType.TheVariants.{Typed}
+use Rattle.type_table.specs.OperandRules.Values.{IsType}
 use Rattle.assignment_steps.specs.Targets.{AreTargets, targets_of}
 use Rattle.statement_walk.specs.RangeSteps.Ranges.{second_of}
 use Rattle.statement_walk.proofs.RangeSteps.StoreLemmas as store

@@ -3,7 +3,7 @@ use Rattle.go_tree.specs.GoTypes.Operands.{fits}
 use Rattle.go_tree.specs.GoTypes.Relations.{is_whole_number}
 use Rattle.go_tree.specs.GoTypes.Statements.{range_assigns}
 use Rattle.type_table.specs.TypeRelations.Environment.{defined_types, env_type}
-use Rattle.operand_rules.specs.Values.{IsType, content_of, type_of}
+use Rattle.type_table.specs.OperandRules.Values.{IsType, content_of, type_of}
 use Rattle.assignment_steps.specs.Targets.{targets_of}
 use Rattle.statement_walk.proofs.RangeSteps.StoreLemmas.{by_types, number_stores, others_store, typed_stores}
 use Rattle.statement_walk.proofs.range_steps.assigned.value_assigns.Goals as goal

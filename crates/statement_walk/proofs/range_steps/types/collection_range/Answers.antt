@@ -1,7 +1,7 @@
 use Rattle.std.proofs.Common.{◌∙◌, ap, subst, sym}
 use Rattle.go_tree.specs.GoTypes.Defined.{under}
 use Rattle.type_table.specs.TypeRelations.Environment.{defined_types}
-use Rattle.operand_rules.specs.Values.{IsType, type_of}
+use Rattle.type_table.specs.OperandRules.Values.{IsType, type_of}
 use Rattle.statement_walk.specs.RangeSteps.Ranges.{collection_types}
 use Rattle.statement_walk.proofs.range_steps.types.collection_range.Goals as goal
 

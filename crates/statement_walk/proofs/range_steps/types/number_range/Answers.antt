@@ -1,8 +1,8 @@
 use Rattle.std.proofs.Common.{◌∙◌, ◌∷◌, [], IfSome, Some, ap, subst, sym}
 use Rattle.go_tree.specs.GoTypes.Answers.{given, only_if}
 use Rattle.type_table.specs.TypeRelations.Environment.{defined_types, env_type}
-use Rattle.operand_rules.specs.declared.values.ValueType.TheVariants.{Typed}
-use Rattle.operand_rules.specs.Values.{IsType}
+use Rattle.type_table.specs.declared.operand_rules.values.ValueType.TheVariants.{Typed}
+use Rattle.type_table.specs.OperandRules.Values.{IsType}
 use Rattle.operator_rules.specs.Settling.{typed_option}
 use Rattle.statement_walk.proofs.RangeSteps.RangeLemmas.{number_types}
 use Rattle.statement_walk.proofs.range_steps.types.number_range.Goals as goal

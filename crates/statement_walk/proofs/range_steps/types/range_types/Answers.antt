@@ -2,7 +2,7 @@ use Rattle.std.proofs.Common.{◌∙◌, ap, sym}
 use Rattle.go_tree.specs.GoTypes.Answers.{given, one_of}
 use Rattle.go_tree.specs.GoTypes.Operands.{settled}
 use Rattle.type_table.specs.TypeRelations.Environment.{defined_types}
-use Rattle.operand_rules.specs.Values.{typed_of}
+use Rattle.type_table.specs.OperandRules.Values.{typed_of}
 use Rattle.statement_walk.specs.RangeSteps.Ranges.{listed_option}
 use Rattle.statement_walk.proofs.RangeSteps.RangeLemmas.{number_types, range_is}
 use Rattle.statement_walk.proofs.range_steps.types.range_types.Goals as goal

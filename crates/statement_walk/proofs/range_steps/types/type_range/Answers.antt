@@ -1,8 +1,8 @@
 use Rattle.std.proofs.Common.{◌∙◌, ◌∷◌, [], IfSome, Some, ap, ap₂, subst, sym}
 use Rattle.go_tree.specs.declared.const_eval.kinds.Kind.TheVariants.{Int}
 use Rattle.type_table.specs.TypeRelations.Environment.{env_type}
-use Rattle.operand_rules.specs.declared.values.ValueType.TheVariants.{Typed}
-use Rattle.operand_rules.specs.Values.{IsType}
+use Rattle.type_table.specs.declared.operand_rules.values.ValueType.TheVariants.{Typed}
+use Rattle.type_table.specs.OperandRules.Values.{IsType}
 use Rattle.operator_rules.specs.Settling.{typed_option}
 use Rattle.statement_walk.specs.RangeSteps.Ranges.{key_and_element}
 use Rattle.statement_walk.proofs.RangeSteps.RangeLemmas.{basic_type}

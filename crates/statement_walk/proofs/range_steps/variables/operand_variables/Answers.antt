@@ -7,9 +7,9 @@ use Rattle.go_tree.specs.GoTypes.Operands.{with_value}
 use Rattle.go_tree.specs.GoTypes.Statements as go
 use Rattle.go_tree.specs.ScopeNames.FreeNames.{names_of}
 use Rattle.type_table.specs.TypeRelations.Environment.{defined_types}
-use Rattle.operand_rules.specs.Values.{typed_of}
+use Rattle.type_table.specs.OperandRules.Values.{typed_of}
 use Rattle.operand_modes.specs.Operands.{IsOperand, operand_at}
-use Rattle.operand_answers.proofs.AnswerLemmas.{single_is}
+use Rattle.operand_modes.proofs.OperandAnswers.AnswerLemmas.{single_is}
 use Rattle.control_steps.proofs.OperandTests.{not_typed}
 use Rattle.assignment_steps.specs.SpecSteps.Specs.{GivesVariables}
 use Rattle.statement_walk.proofs.RangeSteps.VariableLemmas.{declared_by, once_declared, stand_twice}

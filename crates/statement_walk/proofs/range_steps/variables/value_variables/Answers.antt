@@ -5,7 +5,7 @@ use Rattle.go_tree.specs.GoTypes.Declarations.{some_declared}
 use Rattle.go_tree.specs.GoTypes.Statements as go
 use Rattle.go_tree.specs.ScopeNames.FreeNames.{names_of}
 use Rattle.type_table.specs.TypeRelations.Environment.{defined_types}
-use Rattle.operand_rules.specs.Values.{typed_of}
+use Rattle.type_table.specs.OperandRules.Values.{typed_of}
 use Rattle.assignment_steps.specs.SpecSteps.Specs.{GivesVariables}
 use Rattle.assignment_steps.proofs.SpecSteps.SpecLemmas.{names_counted}
 use Rattle.statement_walk.specs.RangeSteps.Ranges.{listed, listed_option}

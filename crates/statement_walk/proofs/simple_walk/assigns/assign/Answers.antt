@@ -3,8 +3,8 @@ use Rattle.go_tree.specs.View.{exprs_of}
 use Rattle.go_tree.specs.GoTypes.Answers.{given, meets, only_if}
 use Rattle.go_tree.specs.GoTypes.Statements.{right_values, stores_all}
 use Rattle.go_tree.specs.GoTypes.Typing as go
-use Rattle.operand_answers.specs.Lists.{GivesAll}
-use Rattle.operand_answers.proofs.KeptLemmas.{env_kept}
+use Rattle.operand_modes.specs.OperandAnswers.Lists.{GivesAll}
+use Rattle.operand_modes.proofs.OperandAnswers.KeptLemmas.{env_kept}
 use Rattle.control_steps.specs.Ends.{EndsAs}
 use Rattle.expr_walk.proofs.WalkArms.ExprArms.{at}
 use Rattle.statement_walk.proofs.SimpleWalk.SimpleLemmas.{stand_of}

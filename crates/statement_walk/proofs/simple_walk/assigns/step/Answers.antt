@@ -3,7 +3,7 @@ use Rattle.go_tree.specs.View.{expr_of}
 use Rattle.go_tree.specs.GoTypes.Answers.{given, only_if}
 use Rattle.go_tree.specs.GoTypes.Statements.{one_more, step_op, updates}
 use Rattle.go_tree.specs.GoTypes.Typing.{parts, place}
-use Rattle.operand_answers.proofs.KeptLemmas.{stands_kept}
+use Rattle.operand_modes.proofs.OperandAnswers.KeptLemmas.{stands_kept}
 use Rattle.control_steps.specs.Ends.{EndsAs}
 use Rattle.expr_walk.proofs.WalkArms.ExprArms.{at, expr_there}
 use Rattle.statement_walk.proofs.simple_walk.assigns.step.Goals as goal

@@ -3,7 +3,7 @@ use Rattle.std.specs.List.{list_all}
 use Rattle.std.proofs.Common.{drop}
 use Rattle.go_tree.specs.GoTypes.Operands.{fits}
 use Rattle.type_table.specs.TypeRelations.Environment.{defined_types, env_type}
-use Rattle.operand_rules.specs.Values.{typed_of}
+use Rattle.type_table.specs.OperandRules.Values.{typed_of}
 use Rattle.operator_rules.proofs.access_rules.builtin_rules.elements.all_fit.Given as goal
 
 abbrev pub invariant-loop-x : goal.invariant-loop-x

@@ -3,7 +3,7 @@ use Rattle.std.specs.Int.{w128}
 use mathlib.Core.Path.{sym, subst, ◌∙◌}
 use Rattle.go_tree.specs.declared.const_eval.kinds.Kind.TheVariants as kind
 use Rattle.go_tree.specs.ConstEval.Exact.{number, Answers}
-use Rattle.operand_rules.specs.Values.{content_of}
+use Rattle.type_table.specs.OperandRules.Values.{content_of}
 use Rattle.operator_rules.proofs.AccessRules.BuiltinRules.LengthLemmas.{length_gives}
 use Rattle.operator_rules.proofs.access_rules.builtin_rules.lengths.length_of.Goals as goal
 

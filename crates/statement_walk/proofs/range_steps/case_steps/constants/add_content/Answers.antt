@@ -1,8 +1,8 @@
 use Rattle.std.proofs.Common.{◌≡◌, ◌∙◌, ◌||◌, IfOk, OnOk, ap, subst, sym}
 use Rattle.std.specs.List.{list_any}
 use Rattle.go_tree.specs.GoTypes.Literals.{same_const}
-use Rattle.operand_rules.specs.Values.{IsKept, content_of}
-use Rattle.literal_rules.specs.Sets.{new_and_distinct}
+use Rattle.type_table.specs.OperandRules.Values.{IsKept, content_of}
+use Rattle.composite_steps.specs.LiteralRules.Sets.{new_and_distinct}
 use Rattle.statement_walk.specs.RangeSteps.CaseSteps.Cases.{AddsAll, once_in, once_of}
 use Rattle.statement_walk.proofs.range_steps.case_steps.constants.add_content.Goals as goal
 

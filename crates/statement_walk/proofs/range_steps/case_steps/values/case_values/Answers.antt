@@ -1,10 +1,10 @@
 use Rattle.std.proofs.Common.{subst, sym}
 use Rattle.go_tree.specs.GoTypes.Operands.{all_typed}
 use Rattle.type_table.specs.TypeRelations.Environment.{defined_types}
-use Rattle.operand_rules.specs.Values.{typed_of}
+use Rattle.type_table.specs.OperandRules.Values.{typed_of}
 use Rattle.operand_modes.specs.Lists.{GivesValues}
 use Rattle.operand_modes.specs.Operands.{AreOperands, operands_at}
-use Rattle.operand_answers.specs.Lists.{AreThereIfOk, GivesAll}
+use Rattle.operand_modes.specs.OperandAnswers.Lists.{AreThereIfOk, GivesAll}
 use Rattle.statement_walk.proofs.RangeSteps.CaseSteps.ValueLemmas.{case_lifted, case_refused, values_there}
 use Rattle.statement_walk.proofs.range_steps.case_steps.values.case_values.Goals as goal
 

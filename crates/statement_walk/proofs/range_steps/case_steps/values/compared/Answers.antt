@@ -2,10 +2,10 @@ use Rattle.std.proofs.Common.{◌≡◌, ◌∙◌, false, map, subst, sym, true
 use Rattle.std.specs.List.{list_all}
 use Rattle.go_tree.specs.GoTypes.Statements.{case_value}
 use Rattle.type_table.specs.TypeRelations.Environment.{defined_types}
-use Rattle.operand_rules.specs.Values.{typed_of}
+use Rattle.type_table.specs.OperandRules.Values.{typed_of}
 use Rattle.operator_rules.specs.AccessRules.Functions.{AreValues}
 use Rattle.operand_modes.specs.Lists.{GivesValues}
-use Rattle.operand_answers.proofs.KeptLemmas.{keeps_self}
+use Rattle.operand_modes.proofs.OperandAnswers.KeptLemmas.{keeps_self}
 use Rattle.control_steps.specs.RightSides.Values.{AreValuesIfOk}
 use Rattle.statement_walk.proofs.RangeSteps.CaseSteps.ValueLemmas.{compared_met, compared_not, compared_refused}
 use Rattle.statement_walk.proofs.range_steps.case_steps.values.compared.Goals as goal

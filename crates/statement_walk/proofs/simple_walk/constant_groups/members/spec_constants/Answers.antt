@@ -4,8 +4,8 @@ use Rattle.go_tree.specs.View.{exprs_of, name_at_of, type_of}
 use Rattle.go_tree.specs.GoTypes.Declarations.{new_constants}
 use Rattle.go_tree.specs.GoTypes.TypeNames as go_type
 use Rattle.go_tree.specs.GoTypes.Typing as go
-use Rattle.operand_answers.specs.Lists.{GivesAll}
-use Rattle.operand_answers.proofs.KeptLemmas.{env_kept, keeps_on}
+use Rattle.operand_modes.specs.OperandAnswers.Lists.{GivesAll}
+use Rattle.operand_modes.proofs.OperandAnswers.KeptLemmas.{env_kept, keeps_on}
 use Rattle.go_tree.specs.ScopeNames.FreeNames.{names_of}
 use Rattle.control_steps.specs.LocalBlocks.Places.{in_block_of}
 use Rattle.call_steps.proofs.CallSteps.{arguments_there}

@@ -1,8 +1,8 @@
 use Rattle.std.proofs.Common.{◌∙◌, ◌+◌, ◌&&◌, ◌++◌, ap, map, sym}
 use Rattle.go_tree.specs.GoTypes.Literals.{same_const}
 use Rattle.go_tree.specs.GoTypes.Statements.{case_constants}
-use Rattle.operand_rules.specs.Values.{typed_of}
-use Rattle.literal_rules.specs.Sets.{new_and_distinct}
+use Rattle.type_table.specs.OperandRules.Values.{typed_of}
+use Rattle.composite_steps.specs.LiteralRules.Sets.{new_and_distinct}
 use Rattle.statement_walk.specs.RangeSteps.CaseSteps.Cases.{count}
 use Rattle.statement_walk.proofs.RangeSteps.CaseSteps.CaseLemmas.{case_added, case_again, case_told, chosen}
 use Rattle.statement_walk.proofs.range_steps.case_steps.seen.CasesSeen.add.Goals as goal

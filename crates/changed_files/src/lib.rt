@@ -1,6 +1,0 @@
-//! Which files a run changes, and their new bytes.
-#![tactic(auto)]
-
-mod changed;
-
-pub use changed::{ChangedFile, LastText, changed_files};

@@ -1,5 +1,0 @@
-use Rattle.comparable_types.specs.Flags.{PassedFlags}
-use Rattle.comparable_types.proofs.flags.set_missing.Given as goal
-
-abbrev pub invariant-loop-t : goal.invariant-loop-t
-invariant-loop-t l = PassedFlags l.env l.initial.flags l.flags l.t l.changed

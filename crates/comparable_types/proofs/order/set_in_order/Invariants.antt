@@ -1,5 +1,0 @@
-use Rattle.comparable_types.specs.Flags.{KeptFlags}
-use Rattle.comparable_types.proofs.order.set_in_order.Given as goal
-
-abbrev pub invariant-loop-t : goal.invariant-loop-t
-invariant-loop-t l = KeptFlags l.env l.initial.flags l.flags

@@ -1,7 +1,0 @@
-use Rattle.func_headers.specs.Steps.{FunctionsPassed}
-use Rattle.func_headers.proofs.headers.declare_functions.Given as goal
-
-abbrev pub invariant-loop-number : goal.invariant-loop-number
-invariant-loop-number l =
-    FunctionsPassed l.packages l.files l.headers l.number l.initial.types l.types l.initial.blocks l.blocks l.flags
-    l.refused.items

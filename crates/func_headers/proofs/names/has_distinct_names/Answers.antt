@@ -1,9 +1,0 @@
-use Rattle.go_tree.specs.View.{sig_of}
-use Rattle.go_tree.specs.ScopeNames.FreeNames.{sig_names}
-use Rattle.func_headers.proofs.DistinctNames.{once_answered}
-use Rattle.func_headers.proofs.names.has_distinct_names.Goals as goal
-
-pub returns : goal.returns
-returns c =
-    once_answered (sig_names (sig_of c.args.sig.now)) c.new-seen.result c.add_signature.new.seen c.add_signature.result
-    c.new-seen.ensures c.add_signature.ensures

@@ -1,4 +1,0 @@
-pub mod NumberLaws
-pub mod OpenLaws
-pub mod WalkLaws
-mod RankLaws

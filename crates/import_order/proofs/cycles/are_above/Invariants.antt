@@ -1,7 +1,0 @@
-use Rattle.std.proofs.Common.{◌≡◌, true, take}
-use Rattle.std.specs.List.{list_all}
-use Rattle.import_order.specs.Ranks.{is_above}
-use Rattle.import_order.proofs.cycles.are_above.Given as goal
-
-abbrev pub invariant-loop-number : goal.invariant-loop-number
-invariant-loop-number l = list_all (is_above l.ranks.items l.rank) (take l.number-index l.numbers) ≡ true

@@ -1,7 +1,0 @@
-use Rattle.std.proofs.Common.{◌≡◌, ◌<◌, true, false, ℕ}
-use Rattle.module_files.specs.PathLists.{has_path, path_at}
-use Rattle.import_order.specs.Numbers.{is_marked}
-use Rattle.import_order.proofs.order.unmarked_paths.Given as goal
-
-abbrev pub invariant-loop-k : goal.invariant-loop-k
-invariant-loop-k l = (k : ℕ) → k < l.k → is_marked l.marks k ≡ false → has_path l.set (path_at l.paths k) ≡ true

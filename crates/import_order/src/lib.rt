@@ -1,7 +1,0 @@
-//! Packages by numbers and their imports: the order in which they come, and cycles of imports.
-#![tactic(auto)]
-
-pub mod cycles;
-pub mod order;
-mod ranks;
-pub mod rows;

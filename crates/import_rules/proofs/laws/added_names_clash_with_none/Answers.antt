@@ -1,8 +1,0 @@
-use Rattle.import_rules.proofs.NeededNames.{added_names_are_distinct, added_names_are_new}
-use Rattle.import_rules.proofs.laws.added_names_clash_with_none.Goals as goal
-
-pub returns-clause-distinct : goal.returns-clause-distinct
-returns-clause-distinct c = added_names_are_distinct
-
-pub returns-clause-new : goal.returns-clause-new
-returns-clause-new c = added_names_are_new

@@ -1,6 +1,0 @@
-use Rattle.go_tree.specs.ScopeNames.Scopes.{environment_at}
-use Rattle.import_rules.proofs.NeedLaws.{one_is_needed}
-use Rattle.import_rules.proofs.laws.one_name_is_needed.Goals as goal
-
-pub returns : goal.returns
-returns c = λ names file at bound path own a b. one_is_needed names file (environment_at names file at) bound path own a b

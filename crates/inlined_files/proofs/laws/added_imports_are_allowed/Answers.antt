@@ -1,5 +1,0 @@
-use Rattle.inlined_files.proofs.Allowed.{added_allowed}
-use Rattle.inlined_files.proofs.laws.added_imports_are_allowed.Goals as goal
-
-pub returns : goal.returns
-returns c = λ marks st l after n path i. added_allowed marks st l after n path i

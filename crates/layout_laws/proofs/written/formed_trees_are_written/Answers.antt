@@ -1,8 +1,0 @@
-use Rattle.layout_laws.proofs.WrittenTrees.{sig_written, expr_written}
-use Rattle.layout_laws.proofs.written.formed_trees_are_written.Goals as goal
-
-pub returns-clause-of_expression : goal.returns-clause-of_expression
-returns-clause-of_expression c = λ e i level header f sp. expr_written e i level header f sp
-
-pub returns-clause-of_signature : goal.returns-clause-of_signature
-returns-clause-of_signature c = λ v g f. sig_written v g f

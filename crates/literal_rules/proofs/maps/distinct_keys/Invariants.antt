@@ -1,9 +1,0 @@
-use Rattle.std.proofs.Common.{drop}
-use Rattle.go_tree.specs.GoTypes.Literals.{same_const}
-use Rattle.literal_rules.specs.Elements.{key_consts}
-use Rattle.literal_rules.specs.Sets.{SeenOnce}
-use Rattle.literal_rules.proofs.maps.distinct_keys.Given as goal
-
-abbrev pub invariant-loop-x : goal.invariant-loop-x
-invariant-loop-x l =
-    SeenOnce same_const (key_consts l.consts l.elements) (key_consts l.consts (drop l.x-index l.elements)) l.seen

@@ -1,6 +1,0 @@
-mod FieldLaws
-mod FileChecks
-mod InternalLaws
-pub mod PathLaws
-pub mod PieceLaws
-mod SelectionLaws

@@ -1,6 +1,0 @@
-use Rattle.std.proofs.Common.{◌≡◌, take}
-use Rattle.module_files.specs.Selected.{selected_from}
-use Rattle.module_files.proofs.selection.selected.Given as goal
-
-abbrev pub invariant-loop-i : goal.invariant-loop-i
-invariant-loop-i l = l.numbers.items ≡ selected_from l.paths 0 (take l.i l.paths)

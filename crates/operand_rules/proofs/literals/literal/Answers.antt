@@ -1,8 +1,0 @@
-use Rattle.go_tree.specs.ConstEval.Literals.{literal_value}
-use Rattle.operand_rules.proofs.LiteralLemmas.{literal_gives}
-use Rattle.operand_rules.proofs.literals.literal.Goals as goal
-
-pub returns-clause-gives : goal.returns-clause-gives
-returns-clause-gives c =
-    λ e. literal_gives e c.folded.new.consts c.args.kind (literal_value c.args.spelling.now) c.literal-constant.result
-    c.folded.result c.requires.kind c.literal-constant.ensures c.folded.ensures.folds

@@ -1,0 +1,4 @@
+pub mod NumberLaws
+pub mod OpenLaws
+pub mod WalkLaws
+pub mod RankLaws

@@ -1,0 +1,5 @@
+//! Which files a run changes, and their new bytes.
+
+mod changed;
+
+pub use changed::{ChangedFile, LastText, changed_files};

@@ -1,8 +1,0 @@
-//! Packages whose files hold constants, and functions that print them, alone.
-#![tactic(auto)]
-
-mod laws;
-mod packages;
-
-pub use laws::print_only_is_printed;
-pub use packages::print_only;

@@ -1,9 +1,0 @@
-use Rattle.run_reports.proofs.Entries.{bad_rows_tell}
-use Rattle.run_reports.proofs.StepRows.{step_rows_tell}
-use Rattle.run_reports.proofs.laws.rows_tell.Goals as goal
-
-pub returns-clause-step : goal.returns-clause-step
-returns-clause-step c = step_rows_tell
-
-pub returns-clause-bad : goal.returns-clause-bad
-returns-clause-bad c = bad_rows_tell

@@ -1,7 +1,0 @@
-use Rattle.std.proofs.Common.{drop}
-use Rattle.run_reports.specs.Kept.{IsPackageTold}
-use Rattle.run_reports.proofs.Turns.{Leads}
-use Rattle.run_reports.proofs.program_uses.add_kept_uses.Given as goal
-
-abbrev pub invariant-loop-number : goal.invariant-loop-number
-invariant-loop-number l = Leads (IsPackageTold l.program l.files) l.program.order.items l.initial.rows.items (drop l.number-index l.program.order.items) l.rows.items

@@ -1,7 +1,0 @@
-use Rattle.std.proofs.Common.{◌≡◌, drop}
-use Rattle.std.specs.List.{list_all}
-use Rattle.run_reports.specs.Reports.{is_within}
-use Rattle.run_reports.proofs.reports.are_within.Given as goal
-
-abbrev pub invariant-loop-row : goal.invariant-loop-row
-invariant-loop-row l = list_all (is_within l.files) (drop l.row-index l.rows) ≡ list_all (is_within l.files) l.rows

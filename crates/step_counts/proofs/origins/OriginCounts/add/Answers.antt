@@ -1,9 +1,0 @@
-use Rattle.std.proofs.Common.{◌≡◌, ◌+◌, ℕ, ap, subst}
-use Rattle.step_counts.specs.Origins.{IsCounted}
-use Rattle.step_counts.proofs.Steps.{one_added}
-use Rattle.step_counts.proofs.origins.OriginCounts.add.Goals as goal
-
-pub returns : goal.returns
-returns c =
-    one_added c.args.origin c.args.self.now c.put.new.self
-    (subst (λ (n : ℕ). IsCounted c.args.origin (n + 1) c.args.self.now c.put.new.self) c.of-count.ensures c.in_ok-put.ensures)

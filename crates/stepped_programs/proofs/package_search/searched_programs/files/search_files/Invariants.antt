@@ -1,0 +1,13 @@
+use Rattle.std.proofs.Common.{◌≡◌}
+use Rattle.stepped_programs.specs.PackageSearch.Search.{block_of}
+use Rattle.stepped_programs.proofs.PackageSearch.Settled.{before}
+use Rattle.stepped_programs.specs.PackageSearch.SearchedPrograms.Search.{Keeps, AreSettledFor}
+use Rattle.stepped_programs.proofs.package_search.searched_programs.files.search_files.Given as goal
+
+abbrev pub invariant-loop-file : goal.invariant-loop-file
+invariant-loop-file l = record {
+  block : l.block ≡ block_of l.program l.number l.home l.tokens;
+  settled : AreSettledFor l.program l.number l.home l.tokens l.users l.initial.settled l.settled;
+  keeps : Keeps l.initial.users l.users;
+  before : before l.settled l.file;
+}

@@ -1,0 +1,73 @@
+//! A look at a file.
+
+ghost use Rattle.std.specs.Prelude.{◌≡◌, IfOk};
+ghost use Rattle.run_rules.specs.ImportRules.Laid.{CommentsAscend};
+ghost use Rattle.file_names.specs.Imports.{FindsPackages};
+ghost use Rattle.stepped_programs.specs.PackageSearch.Looks.{IsLook};
+
+use file_names::Places;
+use file_tables::{FileTables, file_tables};
+use go_scan::Tokens;
+use go_tree::NoMemory;
+use go_tree::scope_names::NameList;
+use module_marks::MarkTable;
+use pkg_graph::{Package, SourceTree};
+use repeated_parts::use_search::mark_values::ConstantValues;
+use repeated_parts::use_search::{FileView, FoundForm, FoundObstacle, ProgramView, search_file};
+use std::alloc::Global;
+
+/// What a search is told of a program: its packages, where each stands by its path, which of their declarations are
+/// marked, and what marked constants are declared as.
+#[derive(Clone, Copy)]
+pub struct ProgramSources<'a> {
+    pub packages: &'a [Package],
+    pub places: &'a Places,
+    pub marks: &'a MarkTable,
+    pub values: &'a ConstantValues,
+}
+
+/// What is found in a file: the uses that are kept, in their order, up to the first that is free; and the tables of the
+/// file.
+#[derive(Drop)]
+pub struct FileLook {
+    pub tables: FileTables,
+    pub kept: Vec<FoundObstacle>,
+    pub free: Option<FoundForm>,
+}
+
+/// Looks at a file of the package with this number, with these tokens and comments. The names of the package's block are
+/// handed over, and stand among the names of the file. An error where memory is refused.
+///
+/// One step for each declaration, import, name of the package block and part that may be a use; see `search_file`.
+pub fn look_at_file(
+    alloc: Global,
+    program: &ProgramSources,
+    home: usize,
+    source: &SourceTree,
+    tokens: &Tokens,
+    block: NameList,
+) -> Result<FileLook, NoMemory>
+    requires places { FindsPackages program.now.places.now program.now.packages.now }
+    requires ascend { CommentsAscend 0 tokens.now.comments }
+    ensures { IfOk result (IsLook program.now home source.now tokens.now block) }
+{
+    let tables = file_tables(alloc, program.packages, program.places, block, &source.tree)?;
+    let view = FileView {
+        home,
+        tree: &source.tree,
+        comments: tokens.comments(),
+        names: &tables.names,
+        scopes: &tables.scopes,
+        imports: &tables.imports,
+    };
+    let values = ProgramView {
+        packages: program.packages,
+        values: program.values,
+    };
+    let found = search_file(alloc, &values, program.marks, &view)?;
+    Ok(FileLook {
+        tables,
+        kept: found.kept,
+        free: found.free,
+    })
+}

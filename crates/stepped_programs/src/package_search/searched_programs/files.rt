@@ -1,0 +1,78 @@
+//! The files of a package, one after another.
+
+ghost use Rattle.std.specs.Prelude.{◌≡◌, ◌<◌, All, IfOk, OnOk, length};
+ghost use Rattle.run_rules.specs.ImportRules.Laid.{CommentsAscend};
+ghost use Rattle.file_names.specs.Imports.{FindsPackages};
+ghost use Rattle.programs.specs.Users.{AreItsUses};
+ghost use Rattle.stepped_programs.specs.PackageSearch.SearchedPrograms.Search.{IsUserSearch, Keeps};
+
+use crate::package_search::{FileLook, FoundInPackage, ProgramSources, look_at_file};
+use file_names::{block_members, member_names};
+use file_tables::FileTables;
+use go_scan::Tokens;
+use go_tree::NoMemory;
+use go_tree::scope_names::FileNames;
+use pkg_graph::Package;
+use programs::Users;
+use repeated_parts::use_search::FoundObstacle;
+use std::alloc::Global;
+
+/// The file is a user of the constants of which these are uses.
+fn add_users(
+    users: &mut Users,
+    file: (usize, usize),
+    kept: &[FoundObstacle],
+) -> Result<(), NoMemory>
+    ensures used { OnOk result (AreItsUses users.new file kept.now) }
+    ensures keeps { OnOk result (Keeps users.old users.new) }
+{
+    for found in kept {
+        let mark = found.use_.mark;
+        users.add((mark.package, (mark.file, mark.decl)), file)?;
+    }
+    Ok(())
+}
+
+/// The first use that is free in the files of the package with this number, as package_search's `search_package`: the
+/// files that are looked at and have none are settled from now on, and are users of the constants whose uses they
+/// keep.
+pub(crate) fn search_files(
+    alloc: Global,
+    program: &ProgramSources,
+    number: usize,
+    home: &Package,
+    tokens: &[Tokens],
+    settled: &mut [bool],
+    users: &mut Users,
+) -> Result<Option<FoundInPackage>, NoMemory>
+    requires places { FindsPackages program.now.places.now program.now.packages.now }
+    requires ascend { All (λ t. CommentsAscend 0 t.comments) tokens.now }
+    requires tokens { length tokens.now ≡ length home.now.files }
+    requires settled { length settled.old ≡ length home.now.files }
+    ensures search { IfOk result
+        (IsUserSearch program.now number home.now tokens.now users.new settled.old settled.new) }
+    ensures keeps { OnOk result (Keeps users.old users.new) }
+{
+    let members = block_members(alloc, number, home)?;
+    let mut block = member_names(alloc, &members)?;
+    for (file, source) in home.files.items().iter().enumerate() {
+        if settled[file] {
+            continue;
+        }
+        let look = look_at_file(alloc, program, number, source, &tokens[file], block)?;
+        let FileLook { tables, kept, free } = look;
+        if let Some(found) = free {
+            return Ok(Some(FoundInPackage {
+                file,
+                tables,
+                found,
+            }));
+        }
+        add_users(users, (number, file), &kept)?;
+        settled[file] = true;
+        let FileTables { names, .. } = tables;
+        let FileNames { package, .. } = names;
+        block = package;
+    }
+    Ok(None)
+}

@@ -1,5 +1,0 @@
-use Rattle.typed_parts.proofs.MarkedRuns.SoundImports.Sound.{added-sound}
-use Rattle.typed_parts.proofs.marked_runs.sound_imports.added_imports_may_be_declared.Goals as goal
-
-pub returns : goal.returns
-returns c = λ marks st l after n ordered paths typed few w p f. added-sound marks st l after n ordered paths typed few w p f

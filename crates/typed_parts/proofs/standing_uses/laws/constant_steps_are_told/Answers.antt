@@ -1,5 +1,0 @@
-use Rattle.typed_parts.proofs.StandingUses.Once.{steps_told}
-use Rattle.typed_parts.proofs.standing_uses.laws.constant_steps_are_told.Goals as goal
-
-pub returns : goal.returns
-returns c = steps_told c.steps_swap_uses.ensures

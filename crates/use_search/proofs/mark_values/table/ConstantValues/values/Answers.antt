@@ -1,4 +1,0 @@
-use Rattle.use_search.proofs.mark_values.table.ConstantValues.values.Goals as goal
-
-pub returns : goal.returns
-returns c = rw (← c.self.view_is) c.get.ensures.value

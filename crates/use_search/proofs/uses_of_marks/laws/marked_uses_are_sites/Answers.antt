@@ -1,5 +1,0 @@
-use Rattle.use_search.proofs.UsesOfMarks.Placed.{uses_are_sites}
-use Rattle.use_search.proofs.uses_of_marks.laws.marked_uses_are_sites.Goals as goal
-
-pub returns : goal.returns
-returns c = uses_are_sites c.repeated_uses_are_sites.ensures.standing
