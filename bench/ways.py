@@ -3,9 +3,10 @@
 
 Before its first check it walks every way from a crate down through crates.txt, for each name that a `ghost use` in the
 crate's src/ brings, and for each file there. A kit that keeps nothing between its runs also reads the files of a crate
-for every way that leads to it, before and behind the proof of each library. Usage: bench/ways.py. Prints the crates for
-which it walks the most, the most first, each with its ways, its names and its files; how many ways are walked before
-the first check; and how many ways lead down from all crates.
+for every way that leads to it, before and behind the proof of each library: that is by far the dearest. Usage:
+bench/ways.py. Prints the crates for which it walks the most, the most first, each with its ways, its names and its files,
+and how many ways are walked before the first check; then the crates for which it reads the most, each with its ways; and
+how many ways lead down from all crates, with what is read along them.
 """
 import functools
 import glob
@@ -14,6 +15,7 @@ import re
 
 TOP = os.path.dirname(os.path.dirname(os.path.abspath(__file__)))
 SHOWN = 12
+PARTS = ("src", "specs", "proofs")
 
 
 def libraries():
@@ -36,6 +38,12 @@ def names_and_files(crate):
     return names, files
 
 
+def megabytes(crate):
+    """What a crate's texts take, in millions of bytes."""
+    paths = (path for part in PARTS for path in glob.glob(f"{TOP}/crates/{crate}/{part}/**/*.*", recursive=True))
+    return sum(map(os.path.getsize, paths)) / 1e6
+
+
 def main():
     below = libraries()
 
@@ -48,7 +56,15 @@ def main():
     for of, names, files, name in rows[:SHOWN]:
         print(f"{of * (names + files):>12} walked for {name}: {of} ways, {names} names, {files} files")
     print(f"{sum(of * (names + files) for of, names, files, _ in rows):>12} walked in all, for {len(rows)} crates")
-    print(f"{sum(of for of, _, _, _ in rows):>12} ways down from all crates")
+    texts = {name: megabytes(name) for name in below}
+
+    @functools.lru_cache(maxsize=None)
+    def read(name):
+        return texts[name] + sum(map(read, below[name]))
+
+    for name in sorted(below, key=read, reverse=True)[:SHOWN]:
+        print(f"{read(name):>12,.0f} MB read for {name}: {ways(name)} ways")
+    print(f"{sum(map(ways, below)):>12} ways down from all crates, along which {sum(map(read, below)):,.0f} MB are read, twice")
 
 
 if __name__ == "__main__":
