@@ -1,0 +1,4 @@
+pub mod Bodies
+pub mod Uses
+pub mod Firsts
+pub mod Modules
