@@ -16,7 +16,6 @@ use crate::requests::read_request;
 use crate::status::Status;
 use crate::tell::tell_status;
 use fix_io::{Sink, Tree, write_all};
-use planned_modules::plans_inline_modules;
 use std::alloc::Global;
 
 /// Reads the module that the tree holds, and replaces the uses of its marked constants. With `--fix` it writes the
@@ -67,7 +66,6 @@ pub fn gofix<T: Tree, S: Sink>(alloc: Global, words: &[String], tree: &mut T, ou
     ensures complete { ¬ Rose (T.faults tree.old) (T.faults tree.new) → ¬ Rose (S.faults out.old) (S.faults out.new) →
         IfSome (T.held tree.old) (λ files. IsAnswer (map string_bytes words.now) files result) }
 {
-    plans_inline_modules();
     let request = match read_request(alloc, words) {
         Ok(request) => request,
         Err(status) => {
@@ -85,14 +83,14 @@ pub fn gofix<T: Tree, S: Sink>(alloc: Global, words: &[String], tree: &mut T, ou
     if !request.fix {
         return report_only(&plan, out);
     }
-    match apply(&plan.writes, tree) {
+    match apply(plan.writes(), tree) {
         Ok(()) => {}
         Err(i) => {
             tell_status(&Status::WriteFault(i), tree, out);
             return Status::WriteFault(i);
         }
     }
-    match write_all(out, plan.report.items()) {
+    match write_all(out, plan.report()) {
         Ok(()) => Status::Done,
         Err(_) => Status::ReportFault,
     }

@@ -1,6 +1,0 @@
-use Rattle.std.proofs.Common.{arith, sym}
-use Rattle.package_blocks.proofs.HeaderLemmas.{take_all}
-use Rattle.checked_modules.proofs.firsts.front.Goals as goal
-
-pub returns-else-count : goal.returns-else-count
-returns-else-count c = sym (take_all c.args.bodies.now c.args.count (omega arith))

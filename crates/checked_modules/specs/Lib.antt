@@ -1,4 +1,0 @@
-pub mod Bodies
-pub mod Uses
-pub mod Firsts
-pub mod Modules

@@ -1,4 +1,0 @@
-pub mod TreeLemmas
-pub mod HeaderLemmas
-pub mod PlaceLemmas
-pub mod ImportLemmas

@@ -1,7 +1,0 @@
-use Rattle.std.proofs.Common.{◌≡◌, ◌++◌, drop}
-use Rattle.file_places.specs.Trees.{shown, trees_of}
-use Rattle.file_places.proofs.trees.module_trees.Given as goal
-
-abbrev pub invariant-loop-number : goal.invariant-loop-number
-invariant-loop-number l =
-    shown l.trees.items ++ trees_of l.packages (drop l.number-index l.order) ≡ trees_of l.packages l.order

@@ -1,0 +1,9 @@
+pub mod ReadLemmas
+pub mod ChainLemmas
+pub mod RunLemmas
+pub mod Parts
+pub mod OutlineLemmas
+pub mod TypingLemmas
+pub mod SpliceLemmas
+pub mod PlanLemmas
+pub mod TypedAfter

@@ -1,0 +1,10 @@
+pub mod ModuleFile
+pub mod Located
+pub mod Chain
+pub mod Settled
+pub mod Report
+pub mod Plan
+pub mod Answer
+pub mod Read
+pub mod Typed
+pub mod Refusals

@@ -1,0 +1,10 @@
+pub mod Package
+pub mod Reads
+pub mod Means
+pub mod Constants
+pub mod Typing
+pub mod Packages
+pub mod Translation
+pub mod SameMeaning
+pub mod Inlined
+pub mod Laws

@@ -1,0 +1,5 @@
+pub mod WordLemmas
+pub mod ReadingLemmas
+pub mod FoundLemmas
+pub mod StepLemmas
+pub mod LoopLemmas

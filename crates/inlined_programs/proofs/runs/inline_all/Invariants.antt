@@ -1,9 +1,0 @@
-use Rattle.std.proofs.Common.{◌-◌}
-use Rattle.inlined_programs.proofs.WholeRuns.{GoesSoFar}
-use Rattle.inlined_programs.proofs.runs.inline_all.Given as goal
-
-abbrev pub invariant-steps : goal.invariant-steps
-invariant-steps l = GoesSoFar l.files l.initial.program l.program l.counts l.rows.items
-
-abbrev pub decreases-steps : goal.decreases-steps
-decreases-steps l = 65536 - l.counts.steps

@@ -1,9 +1,0 @@
-use Rattle.inlined_programs.proofs.Puts.{has_put}
-use Rattle.inlined_programs.proofs.taken.put_taken.Goals as goal
-
-pub returns : goal.returns
-returns c =
-    let a = c.args in
-    has_put a.program.now c.put_step.new.program a.counts.now c.add.new.self a.first a.files.now a.log a.file c.in_ok-row.row c.deref.result.now c.place_of-at.result c.is_some.result
-    c.in_ok-origins.origins.items c.own_block-block.result c.deref.ensures.value c.place_of-at.ensures c.is_some.ensures c.own_block-block.ensures c.in_ok-row.ensures c.in_ok-origins.ensures
-    c.in_ok-put_step.ensures (record { steps = c.in_ok-add.ensures.steps; origins = c.in_ok-add.ensures.origins })

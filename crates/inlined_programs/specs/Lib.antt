@@ -1,4 +1,0 @@
-pub mod Beginnings
-pub mod Steps
-pub mod Runs
-pub mod Laws

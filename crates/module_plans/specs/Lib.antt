@@ -1,0 +1,5 @@
+pub mod Files
+pub mod Engine
+pub mod Planned
+pub mod Answers
+pub mod Laws

@@ -1,5 +1,0 @@
-use Rattle.planned_modules.proofs.Inlined.{plans_inline}
-use Rattle.planned_modules.proofs.laws.plans_inline_modules.Goals as goal
-
-pub returns : goal.returns
-returns c = plans_inline c.print_only_is_printed.ensures.read c.printed_modules_are_inlined.ensures.inlinings

@@ -1,6 +1,0 @@
-use Rattle.std.proofs.Common.{◌≡◌, ◌+◌, drop}
-use Rattle.planned_modules.specs.Folders.{size_of}
-use Rattle.planned_modules.proofs.sizes.total_bytes.Given as goal
-
-abbrev pub invariant-loop-file : goal.invariant-loop-file
-invariant-loop-file l = l.sum + size_of (drop l.file-index l.files) ≡ size_of l.files

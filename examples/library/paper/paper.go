@@ -1,4 +1,0 @@
-package paper
-
-// Margin is in characters.
-const Margin = 2
