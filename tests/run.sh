@@ -20,10 +20,11 @@ expect() {
 # same NAME FILE WANTED: the file has exactly the wanted bytes.
 same() { if cmp -s "$2" "$3"; then pass; else fail "$1"; fi }
 
-# the shipped example has the report that stands beside it
-mkdir "$work/one" && cd "$work/one" || exit 1
-cp "$top/examples/constants/go.mod" "$top/examples/constants/main.go" .
-expect "the example" 0 "$(cat "$top/examples/constants/report.txt")" --fix
+# each shipped example has the report that stands beside it
+for example in constants library; do
+    cp -r "$top/examples/$example" "$work/$example" && cd "$work/$example" && rm report.txt || exit 1
+    expect "the example $example" 0 "$(cat "$top/examples/$example/report.txt")" --fix
+done
 
 # a name that isn't UTF-8 can't be listed (no text archive can hold it, so it is no file of runs/)
 mkdir "$work/two" && cd "$work/two" || exit 1
@@ -62,8 +63,9 @@ add uses.sh
 add imports.sh
 add docs.sh
 
-# the shipped example, by its script
-if bash "$top/examples/run.sh" constants | grep -qF '+	println(Pointer)'; then pass; else fail "examples/run.sh"; fi
+# the shipped examples, by their script
+if bash "$top/examples/run.sh" constants | grep -qF '+	println(Pointer)'; then pass; else fail "examples/run.sh constants"; fi
+if bash "$top/examples/run.sh" library | grep -qF '+	println(paper.Margin, text.Wide)'; then pass; else fail "examples/run.sh library"; fi
 
 echo "$passed passed, $failed failed"
 [ "$failed" = 0 ]

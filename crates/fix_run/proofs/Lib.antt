@@ -1,7 +1,12 @@
 pub mod ApplyLemmas
 pub mod ReadLemmas
+pub mod OrderLemmas
+pub mod AfterLemmas
 pub mod PlanLemmas
+pub mod VerdictLemmas
 pub mod FolderLemmas
 pub mod DoneLemmas
-pub mod VerdictLemmas
 pub mod TopLemmas
+pub mod PlannedModules
+pub mod InlinedPrograms
+pub mod PlannedFiles

@@ -3,28 +3,26 @@ use Rattle.std.proofs.Common.{◌≡◌, List, [], ◌∷◌, ◌++◌, ℕ, zer
 use Rattle.std.specs.Prelude.{Option, Some, None, IfSome, IsSomeAnd}
 use Rattle.std.specs.Option.{option_map}
 use Rattle.std.proofs.lemmas.List.{length-map}
-use Rattle.fix_engine.specs.declared.Plan.{Plan}
 use Rattle.refusals.specs.declared.refusal.Refusal.{Refusal}
 use Rattle.fix_io.specs.declared.Call.{Call}
-use Rattle.fix_io.specs.Files.{HeldFile, paths, bytes_at}
+use Rattle.fix_io.specs.Files.{HeldFile, bytes_at}
 use Rattle.fix_io.specs.Contents.{appended, IsPartOut}
 use Rattle.fix_io.specs.Writes.{written, with_texts, AreNewUpTo}
 use Rattle.fix_io.proofs.WritesLemmas.{all_left, fault_left}
 use Rattle.folder_reading.specs.Limits.{AreFew}
-use Rattle.folder_reading.specs.Sources.{sources_in}
-use Rattle.module_plans.specs.Planned.{IsTaken}
+use Rattle.fix_run.specs.PlannedModules.Laws.{PlansInlineModules}
+use Rattle.fix_run.specs.declared.planned_modules.plan.Plan.{Plan}
 use Rattle.fix_run.specs.declared.status.Status.{Status}
 use Rattle.fix_run.specs.declared.status.Status.TheVariants.{Done, Found, Usage, NoMemory, ListFault, ReadFault, Refused, WriteFault, ReportFault}
 use Rattle.command_words.specs.Words.{are_accepted, has_fix, only_of}
-use Rattle.fix_run.specs.Listed.{reads_module}
+use Rattle.fix_run.specs.Listed.{lists_module}
 use Rattle.fix_run.specs.Lines.{IfTold, IfOut}
-use Rattle.fix_run.specs.Files.{write_of, writes_of, texts_after, AreWritesOf}
-use Rattle.fix_run.specs.Refusals.{WhyRefused}
+use Rattle.fix_run.specs.Files.{write_of, writes_of, text_after, files_after, AreWritesOf}
+use Rattle.fix_run.specs.Refusals.{AreRefused}
 use Rattle.fix_run.specs.Causes.{HasCause, PassedChecks, IfUnwritten, MayStop, StopsWords, IsReported}
 use Rattle.fix_run.specs.Headline.{IsInlined}
-use Rattle.fix_run.specs.Verdict.{Verdict, ended, stays, files_after, verdict_of, IsVerdict, of_words, of_files, of_plan, IsEnd, HasEnded, IsRefused, IsAnswer, IsUpTo}
+use Rattle.fix_run.specs.Verdict.{Verdict, ended, verdict_of, IsVerdict, of_files, of_plan, IsEnd, HasEnded, IsRefused, IsAnswer, IsUpTo}
 use Rattle.fix_run.proofs.DoneLemmas.{planned_is_end, end_inlined}
-use Rattle.fix_run.proofs.ReadLemmas.{length_texts}
 use Rattle.fix_run.proofs.VerdictLemmas.{end_answer, usage_answer, refused_answer, no_memory_answer}
 
 -- ---- any status
@@ -72,19 +70,15 @@ words_complete words held (Refused _) stop = absurd stop
 words_complete words held (WriteFault _) stop = absurd stop
 words_complete words held ReportFault stop = absurd stop
 
--- the files are refused, and aren't taken
-abbrev IsRefusedFor : Refusal → List HeldFile → Type 0
-IsRefusedFor r files = WhyRefused files r × (IsTaken (sources_in files) → ⊥)
-
-told_refused : (words : List (List ℕ)) (held : Option (List HeldFile)) (r : Refusal) → are_accepted words ≡ true → IfSome held (IsRefusedFor r) → IfSome held (λ files. IsAnswer words files (Refused r))
+told_refused : (words : List (List ℕ)) (held : Option (List HeldFile)) (r : Refusal) → are_accepted words ≡ true → IfSome held (λ files. AreRefused (only_of words) files r) → IfSome held (λ files. IsAnswer words files (Refused r))
 told_refused words None r a why = tt
-told_refused words (Some files) r a why = refused_answer words files r a why.0 why.1
+told_refused words (Some files) r a why = refused_answer words files r a why
 
-told_why : (words : List (List ℕ)) (held : Option (List HeldFile)) (q r : Refusal) → are_accepted words ≡ true → q ≡ r → IfSome held (IsRefusedFor q) → IfSome held (λ files. IsRefused words files r)
+told_why : (words : List (List ℕ)) (held : Option (List HeldFile)) (q r : Refusal) → are_accepted words ≡ true → q ≡ r → IfSome held (λ files. AreRefused (only_of words) files q) → IfSome held (λ files. IsRefused words files r)
 told_why words None q r a same why = tt
 told_why words (Some files) q r a same why =
-    let cause : WhyRefused files r = subst (WhyRefused files) same why.0 in
-    record { verdict = of_files a r cause; why = cause; untaken = why.1 }
+    let is : AreRefused (only_of words) files r = subst (AreRefused (only_of words) files) same why in
+    record { verdict = of_files a r is.why; refused = is }
 
 pub record Stopped (words : List (List ℕ)) (s : Status) (rose : Type 0) (failed : Option Call) (listed : List (List ℕ)) (held : Option (List HeldFile)) : Type 0 where
   pub not_usage : s ≡ Usage → ⊥
@@ -96,7 +90,7 @@ pub record Stopped (words : List (List ℕ)) (s : Status) (rose : Type 0) (faile
   pub passed : PassedChecks s listed
   pub complete : ¬ rose → IfSome held (λ files. IsAnswer words files s)
 
-pub stopped : (words : List (List ℕ)) (s : Status) (rose : Type 0) (failed : Option Call) (listed : List (List ℕ)) (held : Option (List HeldFile)) → are_accepted words ≡ true → MayStop s rose failed listed held
+pub stopped : (words : List (List ℕ)) (s : Status) (rose : Type 0) (failed : Option Call) (listed : List (List ℕ)) (held : Option (List HeldFile)) → are_accepted words ≡ true → MayStop (only_of words) s rose failed listed held
     → Stopped words s rose failed listed held
 stopped words Done rose failed listed held a stop = absurd stop
 stopped words Found rose failed listed held a stop = absurd stop
@@ -149,13 +143,13 @@ stopped words ReportFault rose failed listed held a stop = absurd stop
 module _ (words : List (List ℕ)) (files : List HeldFile) (p : Plan) (w : AreWritesOf (only_of words) files p) where
   -- the verdict of the plan
   abbrev pub its_verdict : Verdict
-  its_verdict = verdict_of (has_fix words) files w.after p.report p.inlined
+  its_verdict = verdict_of (has_fix words) files w.after p.report p.steps
 
   verdict_is : are_accepted words ≡ true → IsVerdict words files its_verdict
-  verdict_is a = of_plan a w.within w.after p.report p.inlined w.planned
+  verdict_is a = of_plan a w.within w.after p.report p.steps w.planned
 
-  end_is : IsEnd words files its_verdict
-  end_is = planned_is_end words files w.after p.report p.inlined w.planned
+  end_is : PlansInlineModules → IsEnd words files its_verdict
+  end_is law = planned_is_end law words files w.after p.report p.steps w.planned
 
   new_files : has_fix words ≡ true → its_verdict.files ≡ files_after files w.after
   new_files fix = ap (λ (b : Bool). cond b (files_after files w.after) files) fix
@@ -176,31 +170,31 @@ pub record Planned (words : List (List ℕ)) (files : List HeldFile) (s : Status
 all_replaced : (words : List (List ℕ)) (files : List HeldFile) (now : Option (List HeldFile)) (p : Plan) (w : AreWritesOf (only_of words) files p) → has_fix words ≡ true
     → now ≡ option_map (written (writes_of p.writes.items)) (Some files) → now ≡ Some (its_verdict words files p w).files
 all_replaced words files now p w fix is =
-    all_left (Some files) now (writes_of p.writes.items) (texts_after (paths files) files w.after) w.writes is ∙ ap Some (sym (new_files words files p w fix))
+    all_left (Some files) now (writes_of p.writes.items) (map (text_after w.after) files) w.writes is ∙ ap Some (sym (new_files words files p w fix))
 
-pub fixed : (words : List (List ℕ)) (before now : Option (List HeldFile)) (p : Plan) (old new : Option (List ℕ)) → are_accepted words ≡ true → has_fix words ≡ true
+pub fixed : PlansInlineModules → (words : List (List ℕ)) (before now : Option (List HeldFile)) (p : Plan) (old new : Option (List ℕ)) → are_accepted words ≡ true → has_fix words ≡ true
     → IfSome before (λ files. AreWritesOf (only_of words) files p) → now ≡ option_map (written (writes_of p.writes.items)) before → new ≡ appended old p.report
     → IfSome before (λ files. Planned words files Done now old new)
-fixed words None now p old new a fix plan is out = tt
-fixed words (Some files) now p old new a fix plan is out = record {
+fixed law words None now p old new a fix plan is out = tt
+fixed law words (Some files) now p old new a fix plan is out = record {
   verdict = its_verdict words files p plan;
   is = verdict_is words files p plan a;
-  end = end_is words files p plan;
-  status = sym (ap (λ b. ended b p.inlined) fix);
+  end = end_is words files p plan law;
+  status = sym (ap (λ b. ended b p.steps) fix);
   held = all_replaced words files now p plan fix is;
   out = out;
 }
 
 -- no file is replaced
-pub shown : (words : List (List ℕ)) (before now : Option (List HeldFile)) (p : Plan) (s : Status) (old new : Option (List ℕ)) → are_accepted words ≡ true → has_fix words ≡ false
-    → IfSome before (λ files. AreWritesOf (only_of words) files p) → now ≡ before → s ≡ ended false p.inlined → new ≡ appended old p.report
+pub shown : PlansInlineModules → (words : List (List ℕ)) (before now : Option (List HeldFile)) (p : Plan) (s : Status) (old new : Option (List ℕ)) → are_accepted words ≡ true → has_fix words ≡ false
+    → IfSome before (λ files. AreWritesOf (only_of words) files p) → now ≡ before → s ≡ ended false p.steps → new ≡ appended old p.report
     → IfSome before (λ files. Planned words files s now old new)
-shown words None now p s old new a none plan same is out = tt
-shown words (Some files) now p s old new a none plan same is out = record {
+shown law words None now p s old new a none plan same is out = tt
+shown law words (Some files) now p s old new a none plan same is out = record {
   verdict = its_verdict words files p plan;
   is = verdict_is words files p plan a;
-  end = end_is words files p plan;
-  status = is ∙ sym (ap (λ b. ended b p.inlined) none);
+  end = end_is words files p plan law;
+  status = is ∙ sym (ap (λ b. ended b p.steps) none);
   held = same ∙ ap Some (sym (old_files words files p plan none));
   out = out;
 }
@@ -235,19 +229,19 @@ abbrev pub IsCutOff : List (List ℕ) → Option (List HeldFile) → Option (Lis
 IsCutOff words now old new files = (v : Verdict) × IsVerdict words files v × IsEnd words files v × (now ≡ Some v.files) × IsPartOut old new v.bytes
 
 -- all files are replaced, and the report is cut off
-pub fixed_part : (words : List (List ℕ)) (before now : Option (List HeldFile)) (p : Plan) (old new : Option (List ℕ)) → are_accepted words ≡ true → has_fix words ≡ true
+pub fixed_part : PlansInlineModules → (words : List (List ℕ)) (before now : Option (List HeldFile)) (p : Plan) (old new : Option (List ℕ)) → are_accepted words ≡ true → has_fix words ≡ true
     → IfSome before (λ files. AreWritesOf (only_of words) files p) → now ≡ option_map (written (writes_of p.writes.items)) before → IsPartOut old new p.report
     → IfSome before (IsCutOff words now old new)
-fixed_part words None now p old new a fix plan is part = tt
-fixed_part words (Some files) now p old new a fix plan is part =
-    (its_verdict words files p plan, verdict_is words files p plan a, end_is words files p plan, all_replaced words files now p plan fix is, part)
+fixed_part law words None now p old new a fix plan is part = tt
+fixed_part law words (Some files) now p old new a fix plan is part =
+    (its_verdict words files p plan, verdict_is words files p plan a, end_is words files p plan law, all_replaced words files now p plan fix is, part)
 
 -- no file is replaced, and the report is cut off
-shown_part : (words : List (List ℕ)) (before now : Option (List HeldFile)) (p : Plan) (old new : Option (List ℕ)) → are_accepted words ≡ true → has_fix words ≡ false
+shown_part : PlansInlineModules → (words : List (List ℕ)) (before now : Option (List HeldFile)) (p : Plan) (old new : Option (List ℕ)) → are_accepted words ≡ true → has_fix words ≡ false
     → IfSome before (λ files. AreWritesOf (only_of words) files p) → now ≡ before → IsPartOut old new p.report → IfSome before (IsCutOff words now old new)
-shown_part words None now p old new a none plan same part = tt
-shown_part words (Some files) now p old new a none plan same part =
-    (its_verdict words files p plan, verdict_is words files p plan a, end_is words files p plan, same ∙ ap Some (sym (old_files words files p plan none)), part)
+shown_part law words None now p old new a none plan same part = tt
+shown_part law words (Some files) now p old new a none plan same part =
+    (its_verdict words files p plan, verdict_is words files p plan a, end_is words files p plan law, same ∙ ap Some (sym (old_files words files p plan none)), part)
 
 -- ---- a run that replaces no file
 
@@ -265,39 +259,39 @@ found_as : (n : ℕ) → (n ≡ 0 → ⊥) → Found ≡ ended false n
 found_as zero e = absurd (e refl)
 found_as (suc n) e = refl
 
-pub reported : (words : List (List ℕ)) (s : Status) (before now : Option (List HeldFile)) (p : Plan) (old new : Option (List ℕ)) → are_accepted words ≡ true → has_fix words ≡ false
+pub reported : PlansInlineModules → (words : List (List ℕ)) (s : Status) (before now : Option (List HeldFile)) (p : Plan) (old new : Option (List ℕ)) → are_accepted words ≡ true → has_fix words ≡ false
     → IfSome before (λ files. AreWritesOf (only_of words) files p) → now ≡ before → IsReported s p old new → Reported words s before now old new
-reported words Done before now p old new a none plan same is =
-    let end = shown words before now p Done old new a none plan same (done_as p.inlined is.0) is.1 in
+reported law words Done before now p old new a none plan same is =
+    let end = shown law words before now p Done old new a none plan same (done_as p.steps is.0) is.1 in
     record {
       done = planned_done words before now Done old new end;
       out = planned_out words before now Done old new end;
       cut = λ k. cc;
       complete = λ k. planned_complete words before now Done old new end;
     }
-reported words Found before now p old new a none plan same is =
-    let end = shown words before now p Found old new a none plan same (found_as p.inlined is.0) is.1 in
+reported law words Found before now p old new a none plan same is =
+    let end = shown law words before now p Found old new a none plan same (found_as p.steps is.0) is.1 in
     record {
       done = planned_done words before now Found old new end;
       out = planned_out words before now Found old new end;
       cut = λ k. cc;
       complete = λ k. planned_complete words before now Found old new end;
     }
-reported words ReportFault before now p old new a none plan same is = record {
+reported law words ReportFault before now p old new a none plan same is = record {
   done = tt;
   out = tt;
-  cut = λ k. shown_part words before now p old new a none plan same is;
+  cut = λ k. shown_part law words before now p old new a none plan same is;
   complete = λ k. absurd (k refl);
 }
-reported words Usage before now p old new a none plan same is = absurd is
-reported words NoMemory before now p old new a none plan same is = absurd is
-reported words ListFault before now p old new a none plan same is = absurd is
-reported words (ReadFault _) before now p old new a none plan same is = absurd is
-reported words (Refused _) before now p old new a none plan same is = absurd is
-reported words (WriteFault _) before now p old new a none plan same is = absurd is
+reported law words Usage before now p old new a none plan same is = absurd is
+reported law words NoMemory before now p old new a none plan same is = absurd is
+reported law words ListFault before now p old new a none plan same is = absurd is
+reported law words (ReadFault _) before now p old new a none plan same is = absurd is
+reported law words (Refused _) before now p old new a none plan same is = absurd is
+reported law words (WriteFault _) before now p old new a none plan same is = absurd is
 
 -- the checks that a run with a plan has passed
-pub reported_passed : (s : Status) (p : Plan) (old new : Option (List ℕ)) (listed : List (List ℕ)) → AreFew listed → reads_module listed ≡ true → IsReported s p old new → PassedChecks s listed
+pub reported_passed : (s : Status) (p : Plan) (old new : Option (List ℕ)) (listed : List (List ℕ)) → AreFew listed → lists_module listed ≡ true → IsReported s p old new → PassedChecks s listed
 reported_passed Done p old new listed few is r = (few, is)
 reported_passed Found p old new listed few is r = (few, is)
 reported_passed ReportFault p old new listed few is r = (few, is)
@@ -328,18 +322,18 @@ some_and : (o : Option (List HeldFile)) (P : List HeldFile → Type 0) → IsSom
 some_and None P h = absurd h
 some_and (Some fs) P h = (fs, refl, h)
 
-pub planned_fault : (words : List (List ℕ)) (before now : Option (List HeldFile)) (p : Plan) (i k : ℕ) → are_accepted words ≡ true → has_fix words ≡ true → IfSome before (λ files. AreWritesOf (only_of words) files p) → k < length p.writes.items
+pub planned_fault : PlansInlineModules → (words : List (List ℕ)) (before now : Option (List HeldFile)) (p : Plan) (i k : ℕ) → are_accepted words ≡ true → has_fix words ≡ true → IfSome before (λ files. AreWritesOf (only_of words) files p) → k < length p.writes.items
     → i ≡ (get_or (writes_of p.writes.items) k (0, [])).0 → now ≡ option_map (written (take k (writes_of p.writes.items))) before → IfSome before (λ files. IsUpTo i words files now)
-planned_fault words None now p i k a fix plan within at is = tt
-planned_fault words (Some files) now p i k a fix plan within at is =
-    let news = texts_after (paths files) files plan.after in
+planned_fault law words None now p i k a fix plan within at is = tt
+planned_fault law words (Some files) now p i k a fix plan within at is =
+    let news = map (text_after plan.after) files in
     let found = some_and now (λ fs. AreNewUpTo i news files fs) (fault_left (Some files) now (writes_of p.writes.items) news i k plan.writes (omega (arith, within, length-map p.writes.items write_of)) at is) in
     let new : (its_verdict words files p plan).files ≡ with_texts files news = new_files words files p plan fix in
     record {
       verdict = its_verdict words files p plan;
       is = verdict_is words files p plan a;
-      end = end_is words files p plan;
+      end = end_is words files p plan law;
       within = found.2.within;
-      differs = λ f. found.2.differs (sym (new_bytes i files news (length_texts (paths files) files plan.after)) ∙ sym (ap (λ fs. bytes_at fs i) new) ∙ f);
+      differs = λ f. found.2.differs (sym (new_bytes i files news (length-map files (text_after plan.after))) ∙ sym (ap (λ fs. bytes_at fs i) new) ∙ f);
       left = found.1 ∙ ap Some (found.2.left ∙ front_then_rest i files news ∙ ap (λ fs. take i fs ++ drop i files) (sym new));
     }

@@ -1,5 +1,5 @@
 -- Laws of verdicts: words and files have one.
-use Rattle.std.specs.Prelude.{◌≡◌, ℕ, List}
+use Rattle.std.specs.Prelude.{ℕ, List}
 use Rattle.module_refusals.specs.Laws.{AreAlike}
 use Rattle.refusals.specs.declared.refusal.Refusal.{Refusal}
 use Rattle.fix_io.specs.Files.{HeldFile}

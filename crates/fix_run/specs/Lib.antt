@@ -2,8 +2,11 @@ pub mod Numbers
 pub mod Listed
 pub mod Lines
 pub mod Files
+pub mod Headline
 pub mod Refusals
 pub mod Verdict
 pub mod Causes
-pub mod Headline
 pub mod Laws
+pub mod PlannedModules
+pub mod InlinedPrograms
+pub mod PlannedFiles

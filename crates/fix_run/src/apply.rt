@@ -9,11 +9,11 @@ ghost use Rattle.fix_io.specs.Writes.{written};
 ghost use Rattle.fix_run.specs.Causes.{IsQuiet};
 ghost use Rattle.fix_run.specs.Files.{writes_of};
 
-use fix_engine::PlannedFile;
+use crate::planned_files::changed_files::ChangedFile;
 use fix_io::Tree;
 
 /// Replaces the files in order, up to the first that fails, whose number it answers. Takes no memory.
-pub fn apply<T: Tree>(files: &[PlannedFile], tree: &mut T) -> Result<(), u32>
+pub fn apply<T: Tree>(files: &[ChangedFile], tree: &mut T) -> Result<(), u32>
     requires { All (λ f. f.index < length (T.listed tree.old)) files.now }
     ensures ok { OnOk result (T.held tree.new ≡ option_map (written (writes_of files.now)) (T.held tree.old)) }
     ensures err { IfErr result

@@ -3,16 +3,18 @@
 ghost use Rattle.std.specs.Prelude.{◌≡◌, ◌<◌, ◌≤◌, length, All, IfOk, IfErr, OnOk, IfSome, true};
 ghost use Rattle.fix_io.specs.Causes.{Rose};
 ghost use Rattle.folder_reading.specs.Limits.{AreFew};
-ghost use Rattle.fix_run.specs.Listed.{reads_module};
+ghost use Rattle.fix_run.specs.Listed.{lists_module};
 ghost use Rattle.fix_run.specs.Files.{AreWritesOf};
 ghost use Rattle.fix_run.specs.Causes.{IfQuiet, IsQuiet, MayStop, status_of};
 ghost use Rattle.fix_run.specs.Lines.{IsOfFile};
 
+use crate::planned_modules::{
+    ModuleFault, Plan, plan_module, read_files_are_folders, refusals_name_files,
+    taken_modules_pass_limits,
+};
 use crate::status::Status;
-use fix_engine::Plan;
 use fix_io::{Tree, TreeFault};
 use folder_reading::{FolderFault, read_folder};
-use module_plans::{ModuleFault, plan_module};
 use refusals::{Detail, Refusal};
 use std::alloc::Global;
 
@@ -39,21 +41,24 @@ fn of_folder(fault: FolderFault) -> Status
     }
 }
 
-/// Lists, reads and plans, for constants whose full names begin with `only`.
+/// Lists, reads and plans, for declarations whose full names begin with `only`.
 pub fn prepare<T: Tree>(alloc: Global, only: &str, tree: &mut T) -> Result<Plan, Status>
     ensures plan { IfOk result (λ p. IfSome (T.held tree.old) (λ files. AreWritesOf only.now files p)) }
     ensures indices { IfOk result (λ p. All (λ f. f.index < length (T.listed tree.new)) p.writes.items) }
     ensures few { OnOk result (AreFew (T.listed tree.new)) }
-    ensures module { OnOk result (reads_module (T.listed tree.new) ≡ true) }
+    ensures module { OnOk result (lists_module (T.listed tree.new) ≡ true) }
     ensures named { IfErr result (λ status. IsOfFile status (length (T.listed tree.new))) }
     ensures stop { IfErr result
-        (λ status. MayStop status (Rose (T.faults tree.old) (T.faults tree.new)) (T.failed tree.new)
+        (λ status. MayStop only.now status (Rose (T.faults tree.old) (T.faults tree.new)) (T.failed tree.new)
         (T.listed tree.new) (T.held tree.old)) }
     ensures same { T.held tree.new ≡ T.held tree.old }
     ensures later { T.faults tree.old ≤ T.faults tree.new }
     ensures quiet { IfQuiet result
         (IsQuiet (T.faults tree.old) (T.faults tree.new) (T.failed tree.old) (T.failed tree.new)) }
 {
+    read_files_are_folders();
+    refusals_name_files();
+    taken_modules_pass_limits();
     match tree.list(alloc) {
         Ok(()) => {}
         Err(TreeFault::Failed) => return Err(Status::ListFault),
@@ -63,7 +68,7 @@ pub fn prepare<T: Tree>(alloc: Global, only: &str, tree: &mut T) -> Result<Plan,
         Ok(files) => files,
         Err(fault) => return Err(of_folder(fault)),
     };
-    match plan_module(alloc, files, only) {
+    match plan_module(alloc, &files, only) {
         Ok(plan) => Ok(plan),
         Err(ModuleFault::Refused(refusal)) => Err(Status::Refused(refusal)),
         Err(ModuleFault::NoMemory) => Err(Status::NoMemory),

@@ -4,8 +4,8 @@ ghost use Rattle.std.specs.Prelude.{◌≡◌};
 ghost use Rattle.fix_io.specs.Causes.{Rose};
 ghost use Rattle.fix_run.specs.Causes.{IsReported};
 
+use crate::planned_modules::Plan;
 use crate::status::Status;
-use fix_engine::Plan;
 use fix_io::{Sink, write_all};
 
 /// Writes the report of a plan, and answers whether a use would be inlined.
@@ -13,9 +13,9 @@ pub fn report_only<S: Sink>(plan: &Plan, out: &mut S) -> Status
     ensures ends { IsReported result plan.now (S.contents out.old) (S.contents out.new) }
     ensures cause { result ≡ Status.ReportFault → Rose (S.faults out.old) (S.faults out.new) }
 {
-    match write_all(out, plan.report()) {
+    match write_all(out, plan.report.items()) {
         Ok(()) => {
-            if plan.inlined() == 0 {
+            if plan.steps == 0 {
                 Status::Done
             } else {
                 Status::Found

@@ -10,6 +10,7 @@ ghost use Rattle.fix_run.specs.Verdict.{Verdict, HasEnded, IsVerdict, IsEnd, IsR
 ghost use Rattle.fix_run.specs.Headline.{IsInlined};
 
 use crate::apply::apply;
+use crate::planned_modules::plans_inline_modules;
 use crate::prepare::prepare;
 use crate::report::report_only;
 use crate::requests::read_request;
@@ -66,6 +67,7 @@ pub fn gofix<T: Tree, S: Sink>(alloc: Global, words: &[String], tree: &mut T, ou
     ensures complete { ¬ Rose (T.faults tree.old) (T.faults tree.new) → ¬ Rose (S.faults out.old) (S.faults out.new) →
         IfSome (T.held tree.old) (λ files. IsAnswer (map string_bytes words.now) files result) }
 {
+    plans_inline_modules();
     let request = match read_request(alloc, words) {
         Ok(request) => request,
         Err(status) => {
@@ -83,14 +85,14 @@ pub fn gofix<T: Tree, S: Sink>(alloc: Global, words: &[String], tree: &mut T, ou
     if !request.fix {
         return report_only(&plan, out);
     }
-    match apply(plan.writes(), tree) {
+    match apply(&plan.writes, tree) {
         Ok(()) => {}
         Err(i) => {
             tell_status(&Status::WriteFault(i), tree, out);
             return Status::WriteFault(i);
         }
     }
-    match write_all(out, plan.report()) {
+    match write_all(out, plan.report.items()) {
         Ok(()) => Status::Done,
         Err(_) => Status::ReportFault,
     }

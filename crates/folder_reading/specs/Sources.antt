@@ -1,6 +1,6 @@
 -- The files of a folder that are read (the go command's documentation, Package lists and patterns; Go Modules
 -- Reference, Vendoring).
-use Rattle.std.specs.Prelude.{◌≡◌, ℕ, ◌+◌, List, [], map, take, slice_index_or, Option, IfSome}
+use Rattle.std.specs.Prelude.{◌≡◌, ◌<◌, ℕ, ◌+◌, List, [], All, map, take, slice_index_or, Option, IfSome}
 use Rattle.go_tree.specs.declared.limits.TheConstants.{MAX_FILE_BYTES}
 use Rattle.fix_io.specs.Files.{HeldFile, bytes_at, no_file, paths}
 use Rattle.pkg_graph.specs.ModuleFiles.Selected.{selected}
@@ -13,6 +13,10 @@ source_at files i = record { index = i; path = (slice_index_or files i no_file).
 -- The selected files of a folder that holds these, each with its number.
 abbrev pub sources_in : List HeldFile → List SourceFile
 sources_in files = map (source_at files) (selected (paths files))
+
+-- each is below 256
+abbrev pub AreOctets : List ℕ → Type 0
+AreOctets bytes = All (λ b. b < 256) bytes
 
 -- This holds of the files that are held, where they are told and are those that are listed.
 abbrev pub Told : Option (List HeldFile) → List (List ℕ) → (List HeldFile → Type 0) → Type 0

@@ -1,9 +1,10 @@
 //! The selected files of a folder.
 
-ghost use Rattle.std.specs.Prelude.{◌≡◌, ◌≤◌, ◌<◌, ◌^◌, length, IfOk, IfErr, OnOk};
+ghost use Rattle.std.specs.Prelude.{◌≡◌, ◌≤◌, ◌<◌, ◌^◌, length, All, IfOk, IfErr, OnOk};
 ghost use Rattle.fix_io.specs.Causes.{Rose};
 ghost use Rattle.pkg_graph.specs.ModuleFiles.Selected.{selected};
 ghost use Rattle.folder_reading.specs.Limits.{AreFew, AreRead};
+ghost use Rattle.folder_reading.specs.Sources.{AreOctets};
 ghost use Rattle.folder_reading.specs.Causes.{IfQuiet, IsQuiet, StopsFolder};
 
 use crate::faults::FolderFault;
@@ -15,21 +16,31 @@ use pkg_graph::module_files::selected;
 use source_files::SourceFile;
 use std::alloc::Global;
 
+/// Bytes are octets.
+fn bytes_are_octets(bytes: &[u8])
+    ensures { AreOctets bytes.now }
+{}
+
 /// The listed paths.
 fn listed_paths<T: Tree>(alloc: Global, tree: &T) -> Result<Vec<Text>, NoMemory>
     ensures count { IfOk result (λ paths. length paths.items < 2 ^ 32) }
     ensures listed { IfOk result (λ paths. paths.items ≡ T.listed tree.now) }
+    ensures octets { OnOk result (All AreOctets (T.listed tree.now)) }
 {
     let mut paths = Vec::new(alloc);
     for i in 0..tree.count() {
-        paths.push(Text::copied(alloc, tree.path(i).as_bytes())?)?;
+        let path = tree.path(i).as_bytes();
+        bytes_are_octets(path);
+        let text = Text::copied(alloc, path)?;
+        paths.push(text)?;
     }
     Ok(paths)
 }
 
-/// Reads the selected files of a folder that is listed, each once and in order. `TooMany` comes before any is read;
-/// `Read` and `TooLong` name the first file that can't be read or passes a limit.
+/// Reads the selected files of a folder that is listed, each once and in order; all listed paths are octets. `TooMany`
+/// comes before any file is read; `Read` and `TooLong` name the first file that can't be read or passes a limit.
 pub fn read_folder<T: Tree>(alloc: Global, tree: &mut T) -> Result<Vec<SourceFile>, FolderFault>
+    ensures octets { OnOk result (All AreOctets (T.listed tree.old)) }
     ensures few { OnOk result (AreFew (T.listed tree.old)) }
     ensures files { IfOk result
         (λ sources. AreRead (T.held tree.old) (T.listed tree.old) (selected (T.listed tree.old)) sources.items) }

@@ -43,7 +43,7 @@ same_tokens text P w tokens comments h =
     let same = tokens_once text w.tokens tokens w.comments comments w.words h in
     subst (λ cs. P tokens cs) (sym same.1) (subst (λ ts. P ts w.comments) (sym same.0) w.holds)
 
-source_once : (text : List ℕ) (a b : File Span) → IsSourceFile text a → IsSourceFile text b → a ≡ b
+pub source_once : (text : List ℕ) (a b : File Span) → IsSourceFile text a → IsSourceFile text b → a ≡ b
 source_once text a b s t =
     let same = tokens_once text s.tokens t.tokens s.comments t.comments s.reads.scans t.reads.scans in
     file_one s.tokens a b s.reads.spells (subst (λ ts. SpellsFile ts b) same.0 t.reads.spells)

@@ -8,4 +8,4 @@ mod reasons;
 mod texts;
 
 pub use laws::{modules_have_no_refusal, one_refusal_at_most};
-pub use reasons::first_refusal;
+pub use reasons::{at_byte, first_refusal, of_whole};

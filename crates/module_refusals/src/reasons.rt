@@ -17,8 +17,8 @@ use refusals::{Detail, Refusal};
 use source_files::SourceFile;
 use std::alloc::{AllocError, Global};
 
-/// What is told of no file.
-fn of_whole(detail: Detail) -> Refusal
+/// What is told of the module as a whole, and of no file.
+pub fn of_whole(detail: Detail) -> Refusal
     ensures { result ≡ told_whole detail }
 {
     Refusal {
@@ -28,8 +28,9 @@ fn of_whole(detail: Detail) -> Refusal
     }
 }
 
-/// What is told of a byte of a file.
-fn at_byte(file: &SourceFile, offset: u32, detail: Detail) -> Refusal
+/// What is told of a byte of a file: its index, and the line and the column of the byte. An offset behind the end counts
+/// as the end.
+pub fn at_byte(file: &SourceFile, offset: u32, detail: Detail) -> Refusal
     requires { length file.now.bytes ≤ MAX_FILE_BYTES }
     ensures { result ≡ told_at file.now offset detail }
 {

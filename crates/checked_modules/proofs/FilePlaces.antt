@@ -1,0 +1,4 @@
+pub mod TreeLemmas
+pub mod HeaderLemmas
+pub mod PlaceLemmas
+pub mod ImportLemmas

@@ -1,0 +1,9 @@
+pub mod OneLemmas
+pub mod WalkedLemmas
+pub mod BodyLemmas
+pub mod UseLemmas
+pub mod PackageLemmas
+pub mod FirstLemmas
+pub mod ModuleLemmas
+pub mod FilePlaces
+pub mod RefusedBodies

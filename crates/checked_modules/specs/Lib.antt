@@ -1,0 +1,6 @@
+pub mod Bodies
+pub mod Uses
+pub mod Firsts
+pub mod Modules
+pub mod FilePlaces
+pub mod RefusedBodies

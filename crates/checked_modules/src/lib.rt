@@ -1,0 +1,13 @@
+//! The first place of a module that is refused, where each of its files holds besides imports only constants and
+//! functions that print them: its first import, declaration or body that isn't typed (Go specification, Packages;
+//! Declarations and scope; Import declarations; Function declarations; Program execution).
+#![tactic(auto)]
+
+mod bodies;
+pub mod file_places;
+mod firsts;
+mod modules;
+pub mod refused_bodies;
+mod uses;
+
+pub use modules::first_refused;

@@ -1,0 +1,106 @@
+//! The first place of a module that is refused.
+
+ghost use Rattle.std.specs.Prelude.{◌≡◌, ◌<◌, ◌^◌, length, true, IfOk};
+ghost use Rattle.go_tree.specs.GoTypes.WellTyped.{refused_place};
+ghost use Rattle.declared_types.specs.Steps.{KnowsPlaces};
+ghost use Rattle.package_blocks.specs.Collected.{AreOrdered};
+ghost use Rattle.package_blocks.specs.Imports.{views};
+ghost use Rattle.package_blocks.specs.FuncHeaders.Functions.{program_of};
+ghost use Rattle.operand_modes.specs.CheckerTables.Ready.{AreReady};
+ghost use Rattle.header_order.specs.FirstRefusals.Declarations.{refusal_of, refused_declaration};
+ghost use Rattle.collected.specs.ValueHeaders.SpelledDecls.{PackagesAreSpelled};
+ghost use Rattle.checked_modules.specs.RefusedBodies.PrintedPackages.Packages.{print_only};
+ghost use Rattle.checked_modules.specs.Modules.{AreKnown};
+
+use crate::bodies::refused_functions;
+use crate::file_places::{FilePlace, file_places};
+use crate::firsts::first_of_packages;
+use crate::refused_bodies::{first_bodies_by_files, tables_tell_of_printers};
+use crate::uses::names_used;
+use collected::{Collected, collect};
+use go_tree::NoMemory;
+use header_order::{
+    RefusedHeaders, RefusedPlace, blocks_have_names, bodies_come_after, counts_of_modules,
+    first_refused_declaration, first_refused_imports, uses_are_of_files,
+};
+use operand_modes::checker_tables::Tables;
+use package_blocks::PackageHeader;
+use pkg_graph::{Package, one_order_at_most};
+use std::alloc::Global;
+use typed_names::{Blocks, Scope};
+
+/// The first import or header that is refused, once all that the packages declare is known.
+fn refused_declaration(
+    alloc: Global,
+    packages: &[Package],
+    order: &[u32],
+    tables: Tables,
+    blocks: &Blocks,
+    places: &[Scope],
+    files: &[FilePlace],
+    headers: &[PackageHeader],
+    refused: &RefusedHeaders,
+) -> Result<Option<RefusedPlace>, NoMemory>
+    requires order { AreOrdered packages.now order.now }
+    requires ready { AreReady tables }
+    requires places { KnowsPlaces tables.env blocks.now places.now }
+    ensures { IfOk result (λ o.
+        AreKnown packages.now tables.env blocks.now places.now files.now headers.now refused.now
+        → refusal_of o ≡ refused_declaration (program_of packages.now)) }
+{
+    counts_of_modules();
+    uses_are_of_files();
+    let used = names_used(alloc, tables, blocks, places, files)?;
+    let imports = first_refused_imports(alloc, packages, order, blocks, &used)?;
+    let place = first_refused_declaration(alloc, packages, order, headers, refused, &imports)?;
+    Ok(place)
+}
+
+/// The place that is named of the packages of a module in their order, whose files hold besides imports only constants
+/// and functions that print them: the package, the file and where in it the import, the declaration or the function
+/// stands whose body isn't typed, or the name of a package `main` without a function `main`; in each package imports
+/// and declarations before bodies, file by file. None exactly where the packages are well typed. The literals of
+/// constants have to be well spelled, as they are in files that read (value_headers' `read_values_are_spelled`). The
+/// error is want of memory; linear in the files but for look-ups (Go specification, Declarations and scope; Import
+/// declarations; Function declarations; Program execution).
+pub fn first_refused(
+    alloc: Global,
+    packages: &[Package],
+    order: &[u32],
+) -> Result<Option<RefusedPlace>, NoMemory>
+    requires few { length packages.now < 2 ^ 32 }
+    requires order { AreOrdered packages.now order.now }
+    requires spelled { PackagesAreSpelled (views packages.now) }
+    requires prints { print_only (views packages.now) ≡ true }
+    ensures { IfOk result (λ o. refusal_of o ≡ refused_place (program_of packages.now)) }
+{
+    one_order_at_most();
+    counts_of_modules();
+    blocks_have_names();
+    bodies_come_after();
+    first_bodies_by_files();
+    tables_tell_of_printers();
+    let Collected {
+        mut tables,
+        blocks,
+        files: places,
+        headers,
+        refused_types: types,
+        refused_values: values,
+        refused_functions: functions,
+        refused_methods: methods,
+    } = collect(alloc, packages, order)?;
+    let _types = tables.env.len();
+    let files = file_places(alloc, packages, order, &headers)?;
+    let bodies = refused_functions(alloc, packages, &mut tables, &blocks, &places, &files)?;
+    let refused = RefusedHeaders {
+        types,
+        values,
+        functions,
+        methods,
+    };
+    let declaration = refused_declaration(
+        alloc, packages, order, tables, &blocks, &places, &files, &headers, &refused,
+    )?;
+    Ok(first_of_packages(packages, order, &blocks, &bodies, declaration))
+}

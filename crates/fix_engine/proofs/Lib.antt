@@ -1,9 +1,0 @@
-pub mod ReadLemmas
-pub mod ChainLemmas
-pub mod RunLemmas
-pub mod Parts
-pub mod OutlineLemmas
-pub mod TypingLemmas
-pub mod SpliceLemmas
-pub mod PlanLemmas
-pub mod TypedAfter

@@ -1,4 +1,0 @@
-use Rattle.fix_engine.proofs.typing.+ends_within.Given as goal
-
-abbrev pub decreases-ends_within : goal.decreases-ends_within
-decreases-ends_within l = l.most

@@ -1,0 +1,10 @@
+pub mod Sources
+pub mod Begin
+pub mod Reached
+pub mod Found
+pub mod Origins
+pub mod MayTake
+pub mod NextSteps
+pub mod WholeRuns
+pub mod Puts
+pub mod Before

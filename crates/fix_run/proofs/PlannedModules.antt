@@ -1,0 +1,14 @@
+pub mod Folders
+pub mod FileSizes
+pub mod ReadOnce
+pub mod Members
+pub mod Forms
+pub mod Inlined
+pub mod Stops
+pub mod Once
+pub mod Named
+pub mod GoSources
+pub mod Steps
+pub mod RunPlans
+pub mod TypingFaults
+pub mod PlansRead

@@ -1,0 +1,15 @@
+use Rattle.std.proofs.Common.{subst, sym}
+use Rattle.stepped_programs.specs.Steps.{MayBePut}
+use Rattle.stepped_programs.specs.declared.place.StepPlace.{StepPlace}
+use Rattle.fix_run.proofs.InlinedPrograms.Puts.{has_put}
+use Rattle.fix_run.proofs.inlined_programs.taken.put_taken.Goals as goal
+
+pub put_step-requires : goal.put_step-requires
+put_step-requires c = subst (λ (z : StepPlace). MayBePut c.args.program.now z c.args.file) (sym c.place_of-at.ensures) c.requires.put
+
+pub returns : goal.returns
+returns c =
+    let a = c.args in
+    has_put a.program.now c.put_step.new.program a.counts.now c.add.new.self a.first a.files.now a.log a.file c.in_ok-row.row c.deref.result.now c.place_of-at.result c.is_some.result
+    c.in_ok-origins.origins.items c.own_block-block.result c.deref.ensures.value c.place_of-at.ensures c.is_some.ensures c.own_block-block.ensures c.in_ok-row.ensures c.in_ok-origins.ensures
+    c.in_ok-put_step.ensures (record { steps = c.in_ok-add.ensures.steps; origins = c.in_ok-add.ensures.origins })

@@ -1,0 +1,31 @@
+use Rattle.std.proofs.Common.{◌∙◌, ◌<◌, ◌^◌, sym, ap, subst, List, length}
+use Rattle.header_order.specs.FirstRefusals.Declarations.{refusal_of}
+use Rattle.pkg_graph.specs.declared.packages.Package.{Package}
+use Rattle.fix_run.proofs.PlannedModules.TypingFaults.{are_ordered, are_spelled, prints_views, typed_none, typed_some}
+use Rattle.fix_run.proofs.planned_modules.places.typing_fault.Goals as goal
+
+pub first_refused-requires-clause-few : goal.first_refused-requires-clause-few
+first_refused-requires-clause-few c =
+    subst (λ (ps : List Package). length ps < 2 ^ 32) (sym c.packages-packages.ensures)
+    (c.modules_may_be_loaded.ensures c.args.files.now c.args.read.now c.requires.read c.requires.count).0
+
+pub first_refused-requires-clause-order : goal.first_refused-requires-clause-order
+first_refused-requires-clause-order c =
+    are_ordered c.args.files.now c.args.read.now c.requires.read c.packages-packages.result.now c.order.result.now c.packages-packages.ensures c.order.ensures
+
+pub first_refused-requires-clause-spelled : goal.first_refused-requires-clause-spelled
+first_refused-requires-clause-spelled c =
+    are_spelled c.read_values_are_spelled.ensures.packages c.args.files.now c.args.read.now c.requires.read c.packages-packages.result.now c.packages-packages.ensures
+
+pub first_refused-requires-clause-prints : goal.first_refused-requires-clause-prints
+first_refused-requires-clause-prints c =
+    prints_views c.args.read.now c.packages-packages.result.now c.packages-packages.ensures c.requires.prints
+
+pub returns-in_default : goal.returns-in_default
+returns-in_default c =
+    typed_none c.args.read.now c.packages-packages.result.now c.packages-packages.ensures (ap refusal_of (sym c.in_default.is) ∙ c.in_ok-refused.ensures)
+
+pub returns-in-Some-tell_place : goal.returns-in-Some-tell_place
+returns-in-Some-tell_place c =
+    typed_some c.args.files.now c.args.read.now c.packages-packages.result.now c.in-Some.place c.in-Some-tell_place.refusal c.packages-packages.ensures (ap refusal_of (sym c.in-Some.is) ∙ c.in_ok-refused.ensures)
+    c.in-Some-tell_place.ensures

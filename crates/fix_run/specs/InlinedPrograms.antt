@@ -1,0 +1,4 @@
+pub mod Beginnings
+pub mod Steps
+pub mod Runs
+pub mod Laws

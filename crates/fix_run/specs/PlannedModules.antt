@@ -1,0 +1,7 @@
+pub mod Folders
+pub mod Modules
+pub mod Places
+pub mod Planned
+pub mod Unplanned
+pub mod Runs
+pub mod Laws

@@ -1,6 +1,0 @@
-pub mod KeptValues
-pub mod KeptTerms
-pub mod KeptPackages
-pub mod Spans
-pub mod Meaning
-mod Examples

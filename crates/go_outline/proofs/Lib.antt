@@ -1,5 +1,0 @@
-pub mod WordLemmas
-pub mod ReadingLemmas
-pub mod FoundLemmas
-pub mod StepLemmas
-pub mod LoopLemmas

@@ -1,0 +1,13 @@
+package main
+
+import (
+	"example.com/lib"
+)
+
+func header() {
+	println(lib.Version, lib.Width)
+}
+
+func main() {
+	println(lib.Margin, lib.MaxWidth)
+}

@@ -1,0 +1,4 @@
+package paper
+
+// Margin is in characters.
+const Margin = 2
