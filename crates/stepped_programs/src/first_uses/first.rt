@@ -20,8 +20,8 @@ pub struct FirstUse {
 /// are users of the constants of which they keep uses. Where nothing is found, all files are settled. Nothing else of
 /// the program changes. An error where memory is refused (Go specification, Constant declarations; Packages).
 ///
-/// One flag is read for each file that is settled, and the names of each package's block are listed; of other files see
-/// package_search's `look_at_file`.
+/// Of a file that is settled the flag alone is read. The names of a package's block are listed where one of its files
+/// isn't settled; of such files see package_search's `look_at_file`.
 pub fn first_use(alloc: Global, program: &mut Program) -> Result<Option<FirstUse>, NoMemory>
     requires { IsOpenInOrder program.old }
     ensures { IfOk result (IsFirstUse program.old program.new) }

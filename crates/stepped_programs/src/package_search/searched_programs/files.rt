@@ -1,6 +1,7 @@
 //! The files of a package, one after another.
 
 ghost use Rattle.std.specs.Prelude.{◌≡◌, ◌<◌, All, IfOk, OnOk, length};
+ghost use Rattle.std.specs.List.{list_all};
 ghost use Rattle.run_rules.specs.ImportRules.Laid.{CommentsAscend};
 ghost use Rattle.file_names.specs.Imports.{FindsPackages};
 ghost use Rattle.programs.specs.Users.{AreItsUses};
@@ -33,9 +34,16 @@ fn add_users(
     Ok(())
 }
 
+/// Whether all files are settled.
+fn all_settled(settled: &[bool]) -> bool
+    ensures { result ≡ list_all (λ flag. flag) settled.now }
+{
+    settled.iter().all(|flag| *flag)
+}
+
 /// The first use that is free in the files of the package with this number, as package_search's `search_package`: the
 /// files that are looked at and have none are settled from now on, and are users of the constants whose uses they
-/// keep.
+/// keep. The names of the package's block are listed only where a file isn't settled.
 pub(crate) fn search_files(
     alloc: Global,
     program: &ProgramSources,
@@ -53,6 +61,9 @@ pub(crate) fn search_files(
         (IsUserSearch program.now number home.now tokens.now users.new settled.old settled.new) }
     ensures keeps { OnOk result (Keeps users.old users.new) }
 {
+    if all_settled(settled) {
+        return Ok(None);
+    }
     let members = block_members(alloc, number, home)?;
     let mut block = member_names(alloc, &members)?;
     for (file, source) in home.files.items().iter().enumerate() {
