@@ -45,14 +45,15 @@ add() {
     fi
 }
 
-# modules, what their programs print, what is refused of them, what they declare, those that are too large, tokens and
-# trees of files, files printed, rows of types, and what documents name
+# modules, what their programs print, what is refused of them, what they declare, those that are too large, fronts of
+# files, tokens and trees of files, files printed, rows of types, and what documents name
 add runs.sh
 add outputs.sh
 add modules.sh
 add declared.sh
 add types.sh
 add limits.sh
+add fronts.sh
 add tokens.sh
 add trees.sh
 add print.sh
