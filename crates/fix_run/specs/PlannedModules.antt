@@ -4,4 +4,5 @@ pub mod Places
 pub mod Planned
 pub mod Unplanned
 pub mod Runs
+pub mod Loaded
 pub mod Laws

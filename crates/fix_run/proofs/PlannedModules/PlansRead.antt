@@ -1,5 +1,5 @@
 -- What is planned for a module that was read from the files of a folder.
-use Rattle.std.proofs.Common.{◌≡◌, ◌∙◌, refl, sym, ap, subst, ℕ, ◌+◌, ◌<◌, ◌≤◌, Bool, true, false, ◌&&◌, List, [], ◌∷◌, map, Option, Some, None, IfSome, All}
+use Rattle.std.proofs.Common.{◌≡◌, ◌∙◌, refl, sym, ap, subst, ℕ, ◌+◌, ◌<◌, ◌≤◌, Bool, true, false, ◌&&◌, List, [], ◌∷◌, map, Option, Some, None, is_some, IfSome, All}
 use Rattle.std.proofs.lemmas.List.Elements.{All-head, All-tail}
 use Rattle.go_tree.specs.declared.spans.Span.{Span}
 use Rattle.go_tree.specs.GoTypes.WellTyped.{well_typed}
@@ -29,6 +29,7 @@ use Rattle.stepped_programs.specs.LoadedPrograms.Loaded.{IsLoaded, marks_constan
 use Rattle.fix_run.specs.InlinedPrograms.Beginnings.{BeginsRun}
 use Rattle.fix_run.specs.InlinedPrograms.Laws.{LoadedProgramsBeginRuns}
 use Rattle.fix_run.specs.PlannedModules.Folders.{AreFolder, AreOfFolder, size_of}
+use Rattle.fix_run.specs.PlannedModules.Loaded.{IsLoadedOf}
 use Rattle.fix_run.specs.PlannedModules.Modules.{IsRead, IsTaken, has_form, module_size}
 use Rattle.fix_run.specs.PlannedModules.Places.{IsTypingOf}
 use Rattle.fix_run.specs.PlannedModules.Planned.{IsModulePlan}
@@ -126,50 +127,54 @@ module _ (files : List SourceFile) (m : ReadModule) (r : IsReadFrom files m) (on
   pub refused_unmarked : (e : ModuleFault) → e ≡ Refused (told_whole detail.NotYet) → false ≡ marks_constants (packages_in m) (texts_in m) → IsModuleFault files only e
   refused_unmarked e is none = subst (IsModuleFault files only) (sym is) (λ folder o. unmarked files m r only read folder o (sym none))
 
-  pub prints_as : (b : Bool) (packages : List Package) → b ≡ print_only (map package_view packages) → packages ≡ m.graph.packages.items → b ≡ true → print_only (packages_in m) ≡ true
-  prints_as b packages tested same some = ap (λ (ps : List Package). print_only (map package_view ps)) (sym same) ∙ sym tested ∙ some
+  -- the program that is loaded with these bytes is that of each folder that the files are read of
+  module _ (o : Option Refusal) (h : IsTypingOf files (packages_in m) o) (size : ℕ) (sum : size ≡ size_of files) (bytes : ℕ) (is : size ≤ the_limits.total → bytes ≡ size) where
+    bytes_as : size ≤ the_limits.total → (folder : List Source) (f : AreOfFolder folder files) → bytes ≡ module_file_size folder + texts_size (texts_in m)
+    bytes_as small folder f = is small ∙ sum ∙ size_is files m r only read folder f
 
-  module _ (prints : print_only (packages_in m) ≡ true) (marks : true ≡ marks_constants (packages_in m) (texts_in m)) where
-    form : has_form (packages_in m) (texts_in m) ≡ true
-    form = and_both (print_only (packages_in m)) (marks_constants (packages_in m) (texts_in m)) prints (sym marks)
+    pub loaded_of : print_only (packages_in m) ≡ true → (l : Option Program) (p : Program) → l ≡ Some p → is_some l ≡ marks_constants (packages_in m) (texts_in m) → IfSome l (LoadsFrom m only bytes) → IsLoadedOf files m only o size p
+    loaded_of prints l p e marks loads =
+        record {
+          read = r;
+          form = and_both (print_only (packages_in m)) (marks_constants (packages_in m) (texts_in m)) prints (sym marks ∙ ap is_some e);
+          typing = h;
+          size_is = sum;
+          loaded = λ small folder f. subst (λ (x : Option Program). IfSome x (LoadsFrom m only bytes)) e loads folder files (read_in files m r only read folder f) (bytes_as small folder f);
+        }
 
-    pub refused_mistyped : (o : Option Refusal) (x : Refusal) → o ≡ Some x → IsTypingOf files (packages_in m) o → IsModuleFault files only (Refused x)
-    refused_mistyped o x e h =
-        let told : IsTypingOf files (packages_in m) (Some x) = subst (IsTypingOf files (packages_in m)) e h in
-        λ folder f. mistyped files m r only read folder f form x told
+-- the packages are those of the module
+pub prints_as : (m : ReadModule) (b : Bool) (packages : List Package) → b ≡ print_only (map package_view packages) → packages ≡ m.graph.packages.items → b ≡ true → print_only (packages_in m) ≡ true
+prints_as m b packages tested same some = ap (λ (ps : List Package). print_only (map package_view ps)) (sym same) ∙ sym tested ∙ some
 
-    typed_as : (o : Option Refusal) → o ≡ None → IsTypingOf files (packages_in m) o → well_typed (linked (packages_in m)) ≡ true
-    typed_as o e h = subst (IsTypingOf files (packages_in m)) e h
+module _ (files : List SourceFile) (read : ModulesAreRead) (o : Option Refusal) (size : ℕ) (p : Program) (m : ReadModule) (only : List ℕ) (l : IsLoadedOf files m only o size p) where
+  pub refused_mistyped : (x : Refusal) → o ≡ Some x → IsModuleFault files only (Refused x)
+  refused_mistyped x e =
+      let told : IsTypingOf files (packages_in m) (Some x) = subst (IsTypingOf files (packages_in m)) e l.typing in
+      λ folder f. mistyped files m l.read only read folder f l.form x told
 
-    pub refused_oversized : (o : Option Refusal) → o ≡ None → IsTypingOf files (packages_in m) o → (e : ModuleFault) (size : ℕ) → e ≡ Refused (told_whole (too_large_told size)) → size ≡ size_of files
-        → 16777216 < size → IsModuleFault files only e
-    refused_oversized o none h e size is sum over =
-        subst (IsModuleFault files only) (sym is) (λ folder f. oversized files m r only read folder f form (typed_as o none h) size sum over)
+  module _ (none : o ≡ None) where
+    typed_as : well_typed (linked (packages_in m)) ≡ true
+    typed_as = subst (IsTypingOf files (packages_in m)) none l.typing
 
-    module _ (o : Option Refusal) (none : o ≡ None) (h : IsTypingOf files (packages_in m) o) (size : ℕ) (sum : size ≡ size_of files) (small : size ≤ 16777216) where
+    pub refused_oversized : (e : ModuleFault) → e ≡ Refused (told_whole (too_large_told size)) → 16777216 < size → IsModuleFault files only e
+    refused_oversized e is over =
+        subst (IsModuleFault files only) (sym is) (λ folder f. oversized files m l.read only read folder f l.form typed_as size l.size_is over)
+
+    module _ (small : size ≤ 16777216) (law : PrintOnlyIsPrinted Span) (begin : LoadedProgramsBeginRuns) where
       fits : size_of files ≤ the_limits.total
-      fits = subst (λ (n : ℕ). n ≤ the_limits.total) sum small
+      fits = subst (λ (n : ℕ). n ≤ the_limits.total) l.size_is small
 
-      pub bytes_as : (bytes : ℕ) → (size ≤ the_limits.total → bytes ≡ size) → (folder : List Source) (f : AreOfFolder folder files) → bytes ≡ module_file_size folder + texts_size (texts_in m)
-      bytes_as bytes is folder f = is small ∙ sum ∙ size_is files m r only read folder f
+      starts_in : (folder : List Source) (f : AreOfFolder folder files) → StartsRun folder files m only p
+      starts_in folder f = starts files m l.read only read folder f l.form typed_as fits law begin p (l.loaded small folder f)
 
-      -- the program that is loaded with these bytes is that of each folder that the files are read of
-      pub loaded_in : (bytes : ℕ) → (size ≤ the_limits.total → bytes ≡ size) → (l : Option Program) (p : Program) → l ≡ Some p → IfSome l (LoadsFrom m only bytes)
-          → (folder : List Source) → AreOfFolder folder files → IsLoaded folder m only p
-      loaded_in bytes is l p e h folder f = subst (λ (x : Option Program). IfSome x (LoadsFrom m only bytes)) e h folder files (read_in files m r only read folder f) (bytes_as bytes is folder f)
+      pub starts_some : AreFolder files → StartsSomeRun files p
+      starts_some f = record { folder = sources_of files; read_module = m; only = only; starts = starts_in (sources_of files) f }
 
-      module _ (law : PrintOnlyIsPrinted Span) (begin : LoadedProgramsBeginRuns) (p : Program) (loaded : (folder : List Source) → AreOfFolder folder files → IsLoaded folder m only p) where
-        pub starts_in : (folder : List Source) (f : AreOfFolder folder files) → StartsRun folder files m only p
-        starts_in folder f = starts files m r only read folder f form (typed_as o none h) fits law begin p (loaded folder f)
+      pub planned_all : (plan : Plan) → ((folder : List Source) (n : ReadModule) (pre : List ℕ) → StartsRun folder files n pre p → IsRunPlan folder files (packages_in n) (texts_in n) pre plan)
+          → (folder : List Source) → AreOfFolder folder files → IsModulePlan folder files only plan
+      planned_all plan is folder f = module_plan files m l.read only read folder f l.form typed_as fits plan (is folder m only (starts_in folder f))
 
-        pub starts_some : AreFolder files → StartsSomeRun files p
-        starts_some f = record { folder = sources_of files; read_module = m; only = only; starts = starts_in (sources_of files) f }
-
-        pub planned_all : (plan : Plan) → ((folder : List Source) (n : ReadModule) (pre : List ℕ) → StartsRun folder files n pre p → IsRunPlan folder files (packages_in n) (texts_in n) pre plan)
-            → (folder : List Source) → AreOfFolder folder files → IsModulePlan folder files only plan
-        planned_all plan is folder f = module_plan files m r only read folder f form (typed_as o none h) fits plan (is folder m only (starts_in folder f))
-
-        pub refused_all : (e : ModuleFault) → ((folder : List Source) (n : ReadModule) (pre : List ℕ) → StartsRun folder files n pre p → IsRunFault folder files (packages_in n) (texts_in n) pre e)
-            → IsModuleFault files only e
-        refused_all (Refused x) is = λ folder f. run_refused files m r only read folder f form (typed_as o none h) fits x (is folder m only (starts_in folder f))
-        refused_all NoMemory is = tt
+      pub refused_all : (e : ModuleFault) → ((folder : List Source) (n : ReadModule) (pre : List ℕ) → StartsRun folder files n pre p → IsRunFault folder files (packages_in n) (texts_in n) pre e)
+          → IsModuleFault files only e
+      refused_all (Refused x) is = λ folder f. run_refused files m l.read only read folder f l.form typed_as fits x (is folder m only (starts_in folder f))
+      refused_all NoMemory is = tt

@@ -1,9 +1,14 @@
 //! What is planned for the files of a module.
 
-ghost use Rattle.std.specs.Prelude.{◌<◌, ◌≤◌, ◌^◌, All, IfErr, IfOk, List, length, ℕ};
+ghost use Rattle.std.specs.Prelude.{◌≡◌, ◌<◌, ◌≤◌, ◌^◌, All, IfErr, IfOk, List, OnOk, length, true, ℕ};
 ghost use Rattle.module_reading.specs.Modules.{IsReadFrom};
+ghost use Rattle.module_reading.specs.declared.reading.ReadModule as declared;
 ghost use Rattle.pkg_graph.specs.Reads.{Source};
+ghost use Rattle.read_modules.specs.Modules.{packages_in};
+ghost use Rattle.checked_modules.specs.RefusedBodies.PrintedPackages.Packages.{print_only};
 ghost use Rattle.fix_run.specs.PlannedModules.Folders.{AreFolder, AreOfFolder};
+ghost use Rattle.fix_run.specs.PlannedModules.Loaded.{IsLoadedOf, IsLoadedOfSome};
+ghost use Rattle.fix_run.specs.PlannedModules.Places.{IsTypingOf};
 ghost use Rattle.fix_run.specs.PlannedModules.Planned.{IsModulePlan};
 ghost use Rattle.fix_run.specs.PlannedModules.Unplanned.{IsModuleFault};
 
@@ -18,7 +23,9 @@ use checked_modules::refused_bodies::printed_packages::{print_only, print_only_i
 use go_tree::MAX_FILE_BYTES;
 use module_reading::{ReadModule, read_module_files};
 use module_refusals::first_refusal;
+use programs::Program;
 use read_modules::{modules_are_read, modules_may_be_loaded};
+use refusals::Refusal;
 use source_files::SourceFile;
 use std::alloc::Global;
 use stepped_programs::loaded_programs::load_program;
@@ -33,6 +40,58 @@ fn no_module(alloc: Global, files: &[SourceFile]) -> ModuleFault
         Ok(Some(refusal)) => ModuleFault::Refused(refusal),
         Ok(None) | Err(_) => ModuleFault::NoMemory,
     }
+}
+
+/// The place of the first fault of the module that was read from these files, as it is told; None where it is well
+/// typed. An error where the module isn't of constants and functions that print them alone; also where memory is
+/// refused, as `typing_fault` says.
+fn form_fault(
+    alloc: Global,
+    files: &[SourceFile],
+    read: &ReadModule,
+) -> Result<Option<Refusal>, ModuleFault>
+    requires count { length files.now < 2 ^ 32 }
+    requires small { All (λ f. length f.bytes ≤ MAX_FILE_BYTES) files.now }
+    requires read { IsReadFrom files.now read.now }
+    ensures prints { OnOk result (print_only (packages_in read.now) ≡ true) }
+    ensures typing { IfOk result (IsTypingOf files.now (packages_in read.now)) }
+    ensures refused { IfErr result (λ e. (only : List ℕ) → IsModuleFault files.now only e) }
+{
+    modules_are_read();
+    if !print_only(read.graph.packages()) {
+        return Err(not_built());
+    }
+    Ok(typing_fault(alloc, files, read)?)
+}
+
+/// The plan of the run that begins in this program, which was loaded of a module with such a first fault and so many
+/// bytes, that was read from these files; or why there is none. See `plan_run`.
+fn plan_loaded(
+    alloc: Global,
+    files: &[SourceFile],
+    program: &mut Program,
+    fault: Option<Refusal>,
+    size: u64,
+) -> Result<Plan, ModuleFault>
+    requires small { All (λ f. length f.bytes ≤ MAX_FILE_BYTES) files.now }
+    requires folder { AreFolder files.now }
+    requires loaded { IsLoadedOfSome files.now fault size program.old }
+    ensures planned { IfOk result (λ p. (m : declared.ReadModule) (only : List ℕ)
+        → IsLoadedOf files.now m only fault size program.old
+        → (folder : List Source) → AreOfFolder folder files.now → IsModulePlan folder files.now only p) }
+    ensures refused { IfErr result (λ e. (m : declared.ReadModule) (only : List ℕ)
+        → IsLoadedOf files.now m only fault size program.old → IsModuleFault files.now only e) }
+{
+    modules_are_read();
+    print_only_is_printed();
+    loaded_programs_begin_runs();
+    if let Some(refusal) = fault {
+        return Err(ModuleFault::Refused(refusal));
+    }
+    if size > MAX_MODULE_BYTES as u64 {
+        return Err(too_large(size));
+    }
+    plan_run(alloc, files, program)
 }
 
 /// The plan for a module that was read from these files, or why there is none.
@@ -52,24 +111,23 @@ fn plan_read(
 {
     modules_are_read();
     modules_may_be_loaded();
-    print_only_is_printed();
-    loaded_programs_begin_runs();
-    if !print_only(read.graph.packages()) {
-        return Err(not_built());
-    }
-    let fault = typing_fault(alloc, files, &read)?;
+    let fault = form_fault(alloc, files, &read)?;
     let size = total_bytes(files);
-    let loaded = load_program(alloc, read, only, within_limit(size))?;
-    let Some(program) = loaded else {
-        return Err(not_built());
-    };
-    if let Some(refusal) = fault {
-        return Err(ModuleFault::Refused(refusal));
+    match load_program(alloc, read, only, within_limit(size)) {
+        Ok(Some(mut program)) => {
+            let plan = plan_loaded(alloc, files, &mut program, fault, size);
+            drop(program);
+            plan
+        }
+        Ok(None) => {
+            drop(fault);
+            Err(not_built())
+        }
+        Err(_) => {
+            drop(fault);
+            Err(ModuleFault::NoMemory)
+        }
     }
-    if size > MAX_MODULE_BYTES as u64 {
-        return Err(too_large(size));
-    }
-    plan_run(alloc, files, program)
 }
 
 /// Plans the run over the files that are read of a folder, in the order of their paths, for declarations whose full

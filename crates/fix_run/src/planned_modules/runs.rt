@@ -67,15 +67,15 @@ fn limit_fault(files: &[SourceFile], program: &Program, at: PassedIn) -> ModuleF
 pub(crate) fn plan_run(
     alloc: Global,
     files: &[SourceFile],
-    mut program: Program,
+    program: &mut Program,
 ) -> Result<Plan, ModuleFault>
     requires small { All (λ f. length f.bytes ≤ MAX_FILE_BYTES) files.now }
-    requires starts { StartsSomeRun files.now program }
+    requires starts { StartsSomeRun files.now program.old }
     ensures planned { IfOk result (λ p. (folder : List Source) (m : declared.ReadModule) (only : List ℕ)
-        → StartsRun folder files.now m only program
+        → StartsRun folder files.now m only program.old
         → IsRunPlan folder files.now (packages_in m) (texts_in m) only p) }
     ensures refused { IfErr result (λ e. (folder : List Source) (m : declared.ReadModule) (only : List ℕ)
-        → StartsRun folder files.now m only program
+        → StartsRun folder files.now m only program.old
         → IsRunFault folder files.now (packages_in m) (texts_in m) only e) }
 {
     kept_rows_tell();
@@ -85,9 +85,14 @@ pub(crate) fn plan_run(
     limits_are_told_of_read_files();
     let sources = report_sources(alloc, files)?;
     let places = find_files(alloc, &sources)?;
-    match inline_all(alloc, &mut program, &places) {
-        Ok(rows) => Ok(make_plan(alloc, files, &program, &sources, &places, rows)?),
-        Err(StepFault::TooLarge(at)) => Err(limit_fault(files, &program, at)),
+    let planned = match inline_all(alloc, program, &places) {
+        Ok(rows) => match make_plan(alloc, files, program, &sources, &places, rows) {
+            Ok(plan) => Ok(plan),
+            Err(_) => Err(ModuleFault::NoMemory),
+        },
+        Err(StepFault::TooLarge(at)) => Err(limit_fault(files, program, at)),
         Err(StepFault::NoMemory) => Err(ModuleFault::NoMemory),
-    }
+    };
+    drop(places);
+    planned
 }
