@@ -1,3 +1,4 @@
 pub mod Numbers
 pub mod DependencyOrder
 pub mod ReplacedFiles
+pub mod Blocks

@@ -9,7 +9,8 @@ use Rattle.go_tree.specs.declared.scope_names.names.FileNames.{FileNames}
 use Rattle.go_tree.specs.declared.scope_names.names.ImportName.{ImportName}
 use Rattle.go_tree.specs.declared.scope_names.names.Entity.TheVariants.{Import, Package}
 use Rattle.go_tree.specs.ScopeNames.Scopes.{decls_scopes}
-use Rattle.scope_tables.specs.Table.{IsTableOf}
+use Rattle.scope_tables.specs.Table.{outside_in, IsBlockTable, IsTableOf}
+use Rattle.scope_tables.specs.declared.blocks.BlockTable.{BlockTable}
 use Rattle.name_walks.specs.declared.walk.LocalScope.{LocalScope}
 use Rattle.go_tree.specs.declared.scope_names.names.Entity.{Entity}
 use Rattle.go_tree.specs.ScopeNames.Means.{or_else, means, numbered, binding}
@@ -73,30 +74,39 @@ module _ (entity : ℕ → Entity) where
 
 -- ---- the table that is built
 
-pub table_from : (names : FileNames) (file : File Span) (ls given : List LocalScope) (specs : List Span) (r0 r1 r2 r3 : Rows) → map scope_of ls ≡ decls_scopes file.decls → given ≡ ls
+pub table_from : (names : FileNames) (file : File Span) (ls given : List LocalScope) (specs : List Span) (block : BlockTable) (r0 r1 r2 : Rows) → map scope_of ls ≡ decls_scopes file.decls → given ≡ ls
     → ((q : List ℕ) → locals_of r0 q ≡ []) → ((q : List ℕ) → outside_of r0 q ≡ None)
     → ((q : List ℕ) → locals_of r1 q ≡ locals_of r0 q ++ extents_named q given) → KeepsOutside r0 r1
     → KeepsLocals r1 r2 → ((q : List ℕ) → outside_of r2 q ≡ or_else (outside_of r1 q) (means (numbered Import 0 (map (λ i. i.name) names.imports)) q))
-    → KeepsLocals r2 r3 → ((q : List ℕ) → outside_of r3 q ≡ or_else (outside_of r2 q) (means (numbered Package 0 names.package) q))
-    → specs ≡ map (λ i. i.spec) names.imports → IsTableOf names file (record { names = r3.names; rows = r3.rows.items; specs = specs })
+    → IsBlockTable names.package block
+    → specs ≡ map (λ i. i.spec) names.imports → IsTableOf names file (record { names = r2.names; rows = r2.rows.items; specs = specs; block = block })
 unfolding locals_of outside_of
-table_from names file ls given specs r0 r1 r2 r3 scopes same no_locals no_outside locals keeps_outside keeps imports keeps_on members spans =
-    table_is names file (record { names = r3.names; rows = r3.rows.items; specs = specs }) ls scopes
-    (λ q. keeps_on.same q ∙ keeps.same q ∙ locals q ∙ ap (λ es. es ++ extents_named q given) (no_locals q) ∙ ap (extents_named q) same)
+table_from names file ls given specs block r0 r1 r2 scopes same no_locals no_outside locals keeps_outside keeps imports members spans =
+    table_is names file (record { names = r2.names; rows = r2.rows.items; specs = specs; block = block }) ls scopes
+    (λ q. keeps.same q ∙ locals q ∙ ap (λ es. es ++ extents_named q given) (no_locals q) ∙ ap (extents_named q) same)
     (λ q.
-    members q
+    ap (or_else (outside_in r2.names r2.rows.items q)) (members.member q)
     ∙ ap (λ o. or_else o (means (numbered Package 0 names.package) q))
     (imports q ∙ ap (λ o. or_else o (means (numbered Import 0 (map (λ i. i.name) names.imports)) q)) (keeps_outside.same q ∙ no_outside q)))
     spans
 
-pub table_given : (names : FileNames) (file : File Span) (ls given : List LocalScope) (specs : List Span) (is js : List ImportName) (ms : List (List ℕ)) (r0 r1 r2 r3 : Rows) → is ≡ names.imports → js ≡ names.imports → ms ≡ names.package
+pub table_given : (names : FileNames) (file : File Span) (ls given : List LocalScope) (specs : List Span) (block : BlockTable) (is js : List ImportName) (r0 r1 r2 : Rows) → is ≡ names.imports → js ≡ names.imports
     → map scope_of ls ≡ decls_scopes file.decls → given ≡ ls → ((q : List ℕ) → locals_of r0 q ≡ []) → ((q : List ℕ) → outside_of r0 q ≡ None)
     → ((q : List ℕ) → locals_of r1 q ≡ locals_of r0 q ++ extents_named q given) → KeepsOutside r0 r1
     → KeepsLocals r1 r2 → ((q : List ℕ) → outside_of r2 q ≡ or_else (outside_of r1 q) (means (numbered Import 0 (map (λ i. i.name) is)) q))
-    → KeepsLocals r2 r3 → ((q : List ℕ) → outside_of r3 q ≡ or_else (outside_of r2 q) (means (numbered Package 0 ms) q))
-    → specs ≡ map (λ i. i.spec) js → IsTableOf names file (record { names = r3.names; rows = r3.rows.items; specs = specs })
-table_given names file ls given specs is js ms r0 r1 r2 r3 e f g scopes same no_locals no_outside locals keeps_outside keeps imports keeps_on members spans =
-    table_from names file ls given specs r0 r1 r2 r3 scopes same no_locals no_outside locals keeps_outside keeps
-    (λ q. imports q ∙ ap (λ (x : List ImportName). or_else (outside_of r1 q) (means (numbered Import 0 (map (λ i. i.name) x)) q)) e) keeps_on
-    (λ q. members q ∙ ap (λ (x : List (List ℕ)). or_else (outside_of r2 q) (means (numbered Package 0 x) q)) g)
+    → IsBlockTable names.package block
+    → specs ≡ map (λ i. i.spec) js → IsTableOf names file (record { names = r2.names; rows = r2.rows.items; specs = specs; block = block })
+table_given names file ls given specs block is js r0 r1 r2 e f scopes same no_locals no_outside locals keeps_outside keeps imports members spans =
+    table_from names file ls given specs block r0 r1 r2 scopes same no_locals no_outside locals keeps_outside keeps
+    (λ q. imports q ∙ ap (λ (x : List ImportName). or_else (outside_of r1 q) (means (numbered Import 0 (map (λ i. i.name) x)) q)) e) members
     (spans ∙ ap (λ (x : List ImportName). map (λ i. i.spec) x) f)
+
+-- ---- the table of a block
+
+-- the names of a block that are claimed in an empty table
+pub block_from : (members : List (List ℕ)) (block : BlockTable) (r0 : Rows) → ((q : List ℕ) → outside_of r0 q ≡ None)
+    → ((q : List ℕ) → outside_of block.rows q ≡ or_else (outside_of r0 q) (means (numbered Package 0 members) q))
+    → IsBlockTable members block
+unfolding outside_of
+block_from members block r0 none claimed =
+    record { member = λ q. claimed q ∙ ap (λ o. or_else o (means (numbered Package 0 members) q)) (none q) }

@@ -12,7 +12,7 @@ use Rattle.go_tree.specs.declared.scope_names.names.ImportName.{ImportName}
 use Rattle.go_tree.specs.ScopeNames.Means.{Environment, or_else, means, numbered, predeclared, outermost}
 use Rattle.go_tree.specs.ScopeNames.Scopes.{Scope, decls_scopes, holds_at, locals_at, meaning_at, spec_of, declaration_of}
 use Rattle.scope_tables.specs.NamedScopes.{Extent, innermost}
-use Rattle.scope_tables.specs.Table.{Table, locals_in, outside_in, meaning_in, span_of, IsTableOf}
+use Rattle.scope_tables.specs.Table.{Table, locals_in, declared_in, meaning_in, span_of, IsTableOf}
 use Rattle.scope_tables.specs.Building.{extents_named, extent_at}
 use Rattle.scope_tables.proofs.RowLaws.{same_name, itself}
 
@@ -107,11 +107,11 @@ span_is imports (Some (Universe k)) = refl
 
 meaning_is : (names : FileNames) (file : File Span) (t : Table) (ls : List LocalScope) → map scope_of ls ≡ decls_scopes file.decls
     → ((q : List ℕ) → locals_in t.names t.rows q ≡ extents_named q ls)
-    → ((q : List ℕ) → outside_in t.names t.rows q ≡ or_else (means (numbered Import 0 (map (λ i. i.name) names.imports)) q) (means (numbered Package 0 names.package) q))
+    → ((q : List ℕ) → declared_in t q ≡ or_else (means (numbered Import 0 (map (λ i. i.name) names.imports)) q) (means (numbered Package 0 names.package) q))
     → (q : List ℕ) (at : ℕ) → meaning_in t q at ≡ meaning_at names file q at
 meaning_is names file t ls scopes locals outside q at =
     let universe : Option Entity = means (numbered Universe 0 predeclared) q in
-    ap (λ es. or_else (option_map Local (innermost at es)) (or_else (outside_in t.names t.rows q) universe)) (locals q)
+    ap (λ es. or_else (option_map Local (innermost at es)) (or_else (declared_in t q) universe)) (locals q)
     ∙ ap (λ o. or_else (option_map Local (innermost at (extents_named q ls))) (or_else o universe)) (outside q)
     ∙ ap (λ o. or_else o (or_else (or_else (means (numbered Import 0 (map (λ i. i.name) names.imports)) q) (means (numbered Package 0 names.package) q)) universe)) (sym (locals_mean at q ls))
     ∙ ap (or_else (means (locals_at at (map scope_of ls)) q)) (sym (outside_of_three names q))
@@ -120,7 +120,7 @@ meaning_is names file t ls scopes locals outside q at =
 
 pub table_is : (names : FileNames) (file : File Span) (t : Table) (ls : List LocalScope) → map scope_of ls ≡ decls_scopes file.decls
     → ((q : List ℕ) → locals_in t.names t.rows q ≡ extents_named q ls)
-    → ((q : List ℕ) → outside_in t.names t.rows q ≡ or_else (means (numbered Import 0 (map (λ i. i.name) names.imports)) q) (means (numbered Package 0 names.package) q))
+    → ((q : List ℕ) → declared_in t q ≡ or_else (means (numbered Import 0 (map (λ i. i.name) names.imports)) q) (means (numbered Package 0 names.package) q))
     → t.specs ≡ map (λ i. i.spec) names.imports → IsTableOf names file t
 table_is names file t ls scopes locals outside specs = record {
   meaning = meaning_is names file t ls scopes locals outside;

@@ -9,14 +9,16 @@ use Rattle.go_tree.specs.declared.scope_names.names.FileNames.{FileNames}
 use Rattle.go_tree.specs.ScopeNames.Means.{or_else, means, numbered, predeclared}
 use Rattle.go_tree.specs.ScopeNames.Scopes.{meaning_at, captured_at}
 use Rattle.scope_tables.specs.NamedScopes.{Extent, innermost}
+use Rattle.scope_tables.specs.declared.blocks.BlockTable.{BlockTable}
 use Rattle.scope_tables.specs.declared.rows.Row.{Row}
 use Rattle.scope_tables.specs.declared.table.Scopes.{Scopes}
 
--- names with what declares them, and the spans of the file's imports
+-- names with what declares them in a file, the spans of the file's imports, and the names of its package's block
 pub record Table : Type 0 where
   pub names : List (List ℕ)
   pub rows : List Row
   pub specs : List Span
+  pub block : BlockTable
 
 -- what the row of a name has, or nothing where the name has none
 module _ {X : Type 0} (part : Row → X) (none : X) where
@@ -35,16 +37,28 @@ part_of part none (Some r) = part r
 abbrev pub locals_in : List (List ℕ) → List Row → List ℕ → List Extent
 locals_in names rows q = found_in (λ r. r.locals) [] names rows q
 
--- what a name means outside of functions, unless it is predeclared
+-- what a name means outside of functions, by rows
 abbrev pub outside_in : List (List ℕ) → List Row → List ℕ → Option Entity
 outside_in names rows q = found_in (λ r. r.outside) None names rows q
+
+-- what a name means by the table of a package block (Go specification, Blocks)
+abbrev pub member_in : BlockTable → List ℕ → Option Entity
+member_in b q = outside_in b.rows.names b.rows.rows.items q
+
+-- Such a table has the members of a package block with these names.
+pub record IsBlockTable (members : List (List ℕ)) (b : BlockTable) : Type 0 where
+  pub member : (q : List ℕ) → member_in b q ≡ means (numbered Package 0 members) q
+
+-- what a name means outside of functions, unless it is predeclared: an import, or a member of the package
+abbrev pub declared_in : Table → List ℕ → Option Entity
+declared_in t q = or_else (outside_in t.names t.rows q) (member_in t.block q)
 
 -- what a name means at a place, by the table: the innermost declaration there, what is outside of functions, or what is
 -- predeclared
 abbrev pub meaning_in : Table → List ℕ → ℕ → Option Entity
 meaning_in t name at =
     or_else (option_map Local (innermost at (locals_in t.names t.rows name)))
-    (or_else (outside_in t.names t.rows name) (means (numbered Universe 0 predeclared) name))
+    (or_else (declared_in t name) (means (numbered Universe 0 predeclared) name))
 
 -- the local declaration or the import spec that an entity is
 abbrev pub span_of : List Span → Entity → Option Span
@@ -59,7 +73,7 @@ captured_in t name at = option_and_then (span_of t.specs) (meaning_in t name at)
 
 -- a table of the code as a value
 abbrev pub table_of : Scopes → Table
-table_of s = record { names = s.names; rows = s.rows.items; specs = s.specs.items }
+table_of s = record { names = s.names; rows = s.rows.items; specs = s.specs.items; block = s.block }
 
 -- the table answers as the scopes of the file do
 pub record IsTableOf (names : FileNames) (file : File Span) (t : Table) : Type 0 where

@@ -1,10 +1,10 @@
 //! Names with what declares them.
 
 ghost use Rattle.std.specs.Prelude.{◌≡◌, ◌<◌, ◌^◌, ◌++◌, ◌∷◌, [], ℕ, List, Option, Some};
-ghost use Rattle.std.specs.Prelude.{None, if◌then◌else◌, bytes_eq, length, map, OnOk, IfOk};
+ghost use Rattle.std.specs.Prelude.{None, if◌then◌else◌, bytes_eq, length, map, slice_get, OnOk, IfOk};
 ghost use Rattle.go_tree.specs.declared.scope_names.names.Entity.TheVariants.{Import, Package};
 ghost use Rattle.go_tree.specs.ScopeNames.Means.{or_else, means, numbered, is_blank};
-ghost use Rattle.scope_tables.specs.Table.{locals_in, outside_in};
+ghost use Rattle.scope_tables.specs.Table.{locals_in, outside_in, part_of};
 ghost use Rattle.scope_tables.specs.Building.{IsEven, locals_of, outside_of, KeepsLocals, KeepsOutside, AddsLocal};
 ghost use Rattle.scope_tables.specs.Building.{Claims, extents_named, extent_at, position_of};
 
@@ -153,4 +153,14 @@ pub(crate) fn claim_members(rows: &mut Rows, members: &[Name]) -> Result<(), NoM
         number += 1;
     }
     Ok(())
+}
+
+/// What the row with this number has outside of functions.
+pub(crate) fn outside_at(rows: &[Row], number: usize) -> Option<Entity>
+    ensures { result ≡ part_of (λ r. r.outside) None (slice_get rows.now number) }
+{
+    match rows.get(number) {
+        None => None,
+        Some(row) => row.outside,
+    }
 }

@@ -4,9 +4,10 @@ ghost use Rattle.std.specs.Prelude.{◌≡◌, ℕ, List, [], Option, None, opti
 ghost use Rattle.go_tree.specs.declared.scope_names.names.Entity.TheVariants.{Local};
 ghost use Rattle.go_tree.specs.ScopeNames.Means.{or_else};
 ghost use Rattle.scope_tables.specs.NamedScopes.{innermost};
-ghost use Rattle.scope_tables.specs.Table.{captured_in, locals_in, meaning_in, outside_in, part_of, table_of};
+ghost use Rattle.scope_tables.specs.Table.{captured_in, declared_in, locals_in, meaning_in, outside_in, part_of, table_of};
 
-use crate::rows::{Row, Rows};
+use crate::blocks::BlockTable;
+use crate::rows::{Row, Rows, outside_at};
 use go_tree::scope_names::{Entity, predeclared};
 use go_tree::{Name, Span};
 use name_walks::NameSet;
@@ -17,15 +18,30 @@ pub struct Scopes {
     names: NameSet,
     rows: Vec<Row>,
     specs: Vec<Span>,
+    block: BlockTable,
 }
 
 impl Scopes {
-    /// A table of these rows, and of the spans of the file's imports.
-    pub(crate) fn of(rows: Rows, specs: Vec<Span>) -> Self
-        ensures { table_of result ≡ record { names = rows.names; rows = rows.rows.items; specs = specs.items } }
+    /// A table of these rows, of the spans of the file's imports, and of its package's block.
+    pub(crate) fn of(rows: Rows, specs: Vec<Span>, block: BlockTable) -> Self
+        ensures { table_of result
+            ≡ record { names = rows.names; rows = rows.rows.items; specs = specs.items; block = block } }
     {
         let Rows { names, rows, .. } = rows;
-        Scopes { names, rows, specs }
+        Scopes {
+            names,
+            rows,
+            specs,
+            block,
+        }
+    }
+
+    /// The table of the package's block.
+    pub fn into_block(self) -> BlockTable
+        ensures { result ≡ (table_of self).block }
+    {
+        let Scopes { block, .. } = self;
+        block
     }
 
     /// What the name means at the place: its innermost declaration. None where no block around the place declares it.
@@ -37,7 +53,7 @@ impl Scopes {
         let local = self.local(name, at);
         or_else(
             local,
-            or_else(self.outside(name), predeclared(name.items())),
+            or_else(self.declared(name), predeclared(name.items())),
         )
     }
 
@@ -62,6 +78,12 @@ impl Scopes {
         }
     }
 
+    fn declared(&self, name: &Name) -> Option<Entity>
+        ensures { result ≡ declared_in (table_of self.now) name.now }
+    {
+        or_else(self.outside(name), self.block.member(name))
+    }
+
     fn outside(&self, name: &Name) -> Option<Entity>
         ensures { result ≡ outside_in self.now.names self.now.rows.items name.now }
     {
@@ -81,15 +103,6 @@ fn local_at(rows: &[Row], number: usize, at: u32) -> Option<Entity>
             None => None,
             Some(span) => Some(Entity::Local(span)),
         },
-    }
-}
-
-fn outside_at(rows: &[Row], number: usize) -> Option<Entity>
-    ensures { result ≡ part_of (λ r. r.outside) None (slice_get rows.now number) }
-{
-    match rows.get(number) {
-        None => None,
-        Some(row) => row.outside,
     }
 }
 

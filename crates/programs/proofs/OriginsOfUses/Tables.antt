@@ -11,7 +11,7 @@ use Rattle.run_rules.specs.ImportRules.Removed.{span_at, same_span}
 use Rattle.member_uses.specs.declared.possible_uses.parts.PartRef.{PartRef}
 use Rattle.member_uses.specs.PossibleUses.Views.{part_of}
 use Rattle.member_uses.specs.PossibleUses.Parts.{parts_of}
-use Rattle.programs.specs.OriginsOfUses.Origins.{at_span, named_span, own_origin, first_origin, decls_origin, AreOriginsOf}
+use Rattle.programs.specs.OriginsOfUses.Origins.{at_span, own_origin, first_origin, decls_origin, AreOriginsOf}
 
 is_same : (a b : Span) → same_span a b ≡ true → a ≡ b
 is_same a b e = grind (arith, nat_tests, e)

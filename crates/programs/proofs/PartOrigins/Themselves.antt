@@ -11,8 +11,8 @@ use Rattle.run_rules.specs.Run.{as_read, origin_of}
 use Rattle.member_uses.specs.PossibleUses.Candidates.{Candidate}
 use Rattle.member_uses.specs.PossibleUses.Parts.{parts_of}
 use Rattle.member_uses.proofs.Stays.{candidate_with, after_decl-stays}
-use Rattle.programs.specs.PartOrigins.Spans.{part_spans, decls_spans}
-use Rattle.programs.specs.PartOrigins.Laws.{decls_origins, PartsComeFromThemselves}
+use Rattle.programs.specs.PartOrigins.Spans.{part_spans}
+use Rattle.programs.specs.PartOrigins.Laws.{PartsComeFromThemselves}
 
 expr_itself : (e : Expr Span) → origin_of (expr_span (expr_with as_read e)) ≡ expr_span e
 expr_itself (ident s n) = refl

@@ -7,24 +7,24 @@ ghost use Rattle.pkg_graph.specs.declared.packages.Package as code;
 ghost use Rattle.pkg_graph.specs.declared.packages.SourceTree as code_tree;
 ghost use Rattle.file_names.specs.Imports.{FindsPackages};
 ghost use Rattle.file_names.specs.Members.{IsBlockOf};
+ghost use Rattle.file_tables.specs.Blocks.{HasOwnTable};
 ghost use Rattle.repeated_parts.specs.UseSearch.MarkValues.Tables.{DeclKey, values_at};
 ghost use Rattle.programs.specs.FileValues.Filled.{HasFileValues};
 
 use crate::file_values::files::fill_file;
 use file_names::{Places, block_members, member_names};
-use file_tables::{FileTables, file_tables};
+use file_tables::{Block, file_tables};
 use go_tree::NoMemory;
-use go_tree::scope_names::{FileNames, NameList};
 use member_uses::FileScopes;
 use pkg_graph::{Package, SourceTree};
 use repeated_parts::use_search::mark_values::ConstantValues;
 use std::alloc::Global;
 
 /// The table has what the constants of the file with this number are declared as from now on, of the package with
-/// this number, whose block has these names; what it has of other files stays. The names are handed back. An error
-/// where memory is refused, or where the file has 2^32 names.
+/// this number, whose block this is; what it has of other files stays. The block is handed back. An error where memory
+/// is refused, or where the file has 2^32 imports.
 ///
-/// One step for each declaration, import and name of the package block, and one look-up for each constant.
+/// One step for each declaration and import of the file, and one look-up for each constant.
 pub fn fill_source(
     alloc: Global,
     packages: &[Package],
@@ -32,13 +32,14 @@ pub fn fill_source(
     number: usize,
     file: usize,
     source: &SourceTree,
-    block: NameList,
+    block: Block,
     values: &mut ConstantValues,
-) -> Result<NameList, NoMemory>
+) -> Result<Block, NoMemory>
     requires places { FindsPackages places.now packages.now }
     requires few { length packages.now < 2 ^ 32 }
+    requires table { HasOwnTable block }
     ensures block { IfOk result (λ b. b ≡ block) }
-    ensures here { OnOk result ((home : code.Package) → IsBlockOf block (package_view home)
+    ensures here { OnOk result ((home : code.Package) → IsBlockOf block.names (package_view home)
         → HasFileValues packages.now number home file source.now values.new) }
     ensures others { OnOk result ((q : DeclKey) → (nat_eq number q.0 && nat_eq file q.1.0) ≡ false
         → values_at q values.new ≡ values_at q values.old) }
@@ -50,9 +51,7 @@ pub fn fill_source(
         imports: &tables.imports,
     };
     fill_file(alloc, values, file, &names, source.tree.decls.items())?;
-    let FileTables { names, .. } = tables;
-    let FileNames { package, .. } = names;
-    Ok(package)
+    Ok(Block::in_tables(tables))
 }
 
 /// The table has what the constants of the package with this number are declared as from now on.
@@ -72,7 +71,7 @@ fn fill_package(
         → values_at q values.new ≡ values_at q values.old) }
 {
     let members = block_members(alloc, number, home)?;
-    let mut block = member_names(alloc, &members)?;
+    let mut block = Block::of(alloc, member_names(alloc, &members)?)?;
     for (file, source) in home.files.items().iter().enumerate() {
         block = fill_source(alloc, packages, places, number, file, source, block, values)?;
     }
@@ -80,8 +79,8 @@ fn fill_package(
 }
 
 /// What the constants of the packages are declared as, whether marked or not, where `places` says where each package
-/// stands by its path (Go specification, Constant declarations). An error where memory is refused, or where a file
-/// has 2^32 names.
+/// stands by its path (Go specification, Constant declarations). An error where memory is refused, or where a package
+/// or a file has 2^32 names.
 ///
 /// One step for each declaration, import and name of a package block, and one look-up for each constant.
 pub fn program_values(

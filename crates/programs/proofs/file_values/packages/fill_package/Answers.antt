@@ -1,10 +1,12 @@
-use Rattle.std.proofs.Common.{◌≡◌, ◌∙◌, ap, sym, refl, map, Some, arith, List, length}
+use Rattle.std.proofs.Common.{◌≡◌, ◌∙◌, ap, sym, refl, subst, map, Some, arith, List, length}
 use Rattle.std.proofs.lemmas.Option.{slice_get_within}
 use Rattle.std.specs.Prelude.{slice_get}
 use Rattle.pkg_graph.specs.Views.{package_view}
 use Rattle.pkg_graph.specs.declared.packages.SourceTree.{SourceTree}
 use Rattle.file_names.specs.declared.members.Member.{Member}
 use Rattle.file_names.proofs.MemberLaws.{block_named}
+use Rattle.file_tables.specs.Blocks.{HasOwnTable}
+use Rattle.file_tables.specs.declared.blocks.Block.{Block}
 use Rattle.programs.proofs.FileValues.Filled.{got, one_file, others_on}
 use Rattle.programs.proofs.file_values.packages.fill_package.Goals as goal
 
@@ -12,8 +14,9 @@ pub loop-file-init : goal.loop-file-init
 loop-file-init c =
     record {
       block =
-          c.in_ok-block.ensures ∙ ap (map (λ (m : Member). m.name)) c.deref.ensures.value
+          c.in_ok-block.ensures.names ∙ c.in_ok-member_names.ensures ∙ ap (map (λ (m : Member). m.name)) c.deref.ensures.value
           ∙ block_named c.args.number (package_view c.args.home.now) c.in_ok-members.members.items c.in_ok-members.ensures;
+      table = c.in_ok-block.ensures.table;
       here = λ i s l e. absurd (omega (arith, l));
       others = λ q e. refl;
     }
@@ -25,7 +28,8 @@ loop-file-preserved c =
     sym (ap (λ (fs : List SourceTree). slice_get fs n) c.items-source-items.ensures)
     ∙ got c.items-source-items.result.now n c.source-item.result c.loop-file-test.true c.source-item.is in
     record {
-      block = c.in_ok-block-2.ensures.block ∙ c.loop-file.invariant.block;
+      block = ap (λ (b : Block). b.names) c.in_ok-block-2.ensures.block ∙ c.loop-file.invariant.block;
+      table = subst HasOwnTable (sym c.in_ok-block-2.ensures.block) c.loop-file.invariant.table;
       here =
           one_file c.args.packages.now c.args.number c.args.home.now n c.source-item.result c.loop-file.values c.fill_source.new.values there
           (c.in_ok-block-2.ensures.here c.args.home.now c.loop-file.invariant.block) c.in_ok-block-2.ensures.others c.loop-file.invariant.here;

@@ -1,4 +1,4 @@
-use Rattle.std.proofs.Common.{◌≡◌, ◌∙◌, ◌<◌, ap, length, arith, List}
+use Rattle.std.proofs.Common.{◌∙◌, ◌<◌, ap, length, arith, List}
 use Rattle.go_tree.specs.declared.spans.Span.{Span}
 use Rattle.go_tree.specs.FileView.{decl_of}
 use Rattle.go_tree.specs.ScopeNames.Means.{or_else}
