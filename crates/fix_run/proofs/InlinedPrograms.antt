@@ -8,3 +8,4 @@ pub mod NextSteps
 pub mod WholeRuns
 pub mod Puts
 pub mod Before
+pub mod HeldBlocks

@@ -6,7 +6,7 @@ ghost use Rattle.scope_tables.specs.Table.{IsTableOf, table_of};
 
 use constant_forms::{ConstantForm, Obstacle};
 use file_names::{MarkRef, block_members, find_packages, member_names};
-use file_tables::{FileTables, file_tables};
+use file_tables::{Block, FileTables, file_tables};
 use go_parse::read_file;
 use go_tree::{FileTree, MAX_FILE_BYTES, Name, Text};
 use member_uses::FileScopes;
@@ -127,7 +127,7 @@ fn tables_of(
 {
     let places = find_packages(alloc, packages)?;
     let members = block_members(alloc, 0, home)?;
-    let block = member_names(alloc, &members)?;
+    let block = Block::of(alloc, member_names(alloc, &members)?)?;
     let tables = file_tables(alloc, packages, &places, block, tree)?;
     Ok(tables)
 }

@@ -1,6 +1,7 @@
 -- What a table has of the constants of a step's file, among the packages after the step.
 use Rattle.std.proofs.Common.{◌≡◌, ◌∙◌, sym, ap, subst, ℕ, false, ◌&&◌, nat_eq, List, map, Some}
 use Rattle.std.specs.Prelude.{slice_get}
+use Rattle.std.proofs.lemmas.Option.{same_Some}
 use Rattle.go_tree.specs.declared.spans.Span.{Span}
 use Rattle.pkg_graph.specs.Package.{Package}
 use Rattle.pkg_graph.specs.Members.{Target, package_block}
@@ -84,6 +85,16 @@ module _ (files : List Source) (marks : List MarkRef) (st : Standing) (l : Logge
 
   pub filled : IsFilledAnew codes n.found old.values new.values
   filled = record { home = own.0; home_is = own.1; source = source.0; source_is = source.1; here = has_values; others = others }
+
+-- the names that were given are those of the block of the package at the place
+pub block_put : (files : List Source) (marks : List MarkRef) (st : Standing) (l : Logged) (after : Standing) (n : Next marks st l after) (at : StepPlace) (os : List Span) (block : List (List ℕ)) (f : NewFile) (old new : Program)
+    → IsProgramOf files marks st old → IsOfStep n at os block f → IsStepPut at os block f old new
+    → (home : code.Package) → slice_get new.packages.items at.home ≡ Some home → IsBlockOf block (package_view home)
+block_put files marks st l after n at os block f old new is o put home there =
+    let own = own files marks st l after n at os block f old new is o put in
+    subst (λ (p : code.Package). IsBlockOf block (package_view p))
+    (same_Some own.0 home (sym own.1 ∙ sym (ap (λ (j : ℕ). slice_get new.packages.items j) o.place.home) ∙ there))
+    (block_told files marks st l after n at os block f old new is o put)
 
 pub fill_values : StepsFillValues
 fill_values files marks st l after n at os block f old new is o put = (packages_put files marks st l after n at os block f old new is o put, filled files marks st l after n at os block f old new is o put)

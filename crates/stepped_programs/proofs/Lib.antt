@@ -21,3 +21,4 @@ pub mod ProgramsOnTheWay
 pub mod LoadedPrograms
 pub mod RunReports
 pub mod PackageSearch
+mod HeldBlocks

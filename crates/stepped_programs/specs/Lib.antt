@@ -10,3 +10,4 @@ pub mod ProgramsOnTheWay
 pub mod LoadedPrograms
 pub mod RunReports
 pub mod PackageSearch
+pub mod HeldBlocks

@@ -5,6 +5,7 @@
 mod declarations;
 mod first_uses;
 mod flags;
+mod held_blocks;
 mod laws;
 pub mod loaded_programs;
 mod origins;
@@ -22,6 +23,7 @@ pub use first_uses::{
     FirstUse, first_use, first_uses_are_steps, first_uses_keep_programs, found_uses_may_step,
     step_use, use_steps_go_on,
 };
+pub use held_blocks::HeldBlock;
 pub use laws::{origins_are_swapped, steps_keep_programs, steps_keep_settled, steps_may_be_put};
 pub use place::StepPlace;
 pub use searched_sites::{

@@ -7,5 +7,5 @@ mod searched_programs;
 
 pub use file_steps::{FileStep, step_file};
 pub use looks::{FileLook, ProgramSources, look_at_file};
-pub use search::{FoundInPackage, search_package};
+pub use search::FoundInPackage;
 pub use searched_programs::search_program;

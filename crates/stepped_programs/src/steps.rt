@@ -3,6 +3,7 @@
 ghost use Rattle.std.specs.Prelude.{◌≡◌, ◌+◌, ◌<◌, ◌≤◌, ◌^◌, IfOk, List, OnOk, Some, length};
 ghost use Rattle.std.specs.Prelude.{slice_get, ℕ};
 ghost use Rattle.file_names.specs.Imports.{FindsPackages};
+ghost use Rattle.file_tables.specs.Blocks.{HasOwnTable};
 ghost use Rattle.programs.specs.declared.state.PackageFiles as declared;
 ghost use Rattle.stepped_programs.specs.Texts.{HoldsFile};
 ghost use Rattle.stepped_programs.specs.Steps.{AreFileValues, AreOtherValues, AreSwapped, HoldsSource};
@@ -15,8 +16,7 @@ use crate::place::StepPlace;
 use crate::swapped::swapped_origins;
 use crate::texts::put_text;
 use file_names::Places;
-use file_tables::{package_order, replace_file};
-use go_tree::scope_names::NameList;
+use file_tables::{Block, package_order, replace_file};
 use go_tree::{NoMemory, Span};
 use next_file::NewFile;
 use pkg_graph::Package;
@@ -43,27 +43,30 @@ fn text_size(files: &[PackageFiles], home: usize, file: usize) -> usize
     kept.texts[file].items().len()
 }
 
-/// The table has what the constants of the file at the place are declared as from now on.
+/// The table has what the constants of the file at the place are declared as from now on, by its package's block, which
+/// is handed back.
 fn put_values(
     alloc: Global,
     packages: &[Package],
     places: &Places,
     at: StepPlace,
-    block: NameList,
+    block: Block,
     values: &mut ConstantValues,
-) -> Result<(), NoMemory>
+) -> Result<Block, NoMemory>
     requires places { FindsPackages places.now packages.now }
     requires few { length packages.now < 2 ^ 32 }
     requires here { HoldsSource at packages.now }
-    ensures here { OnOk result (AreFileValues at block packages.now values.new) }
+    requires table { HasOwnTable block }
+    ensures here { OnOk result (AreFileValues at block.names packages.now values.new) }
     ensures others { OnOk result (AreOtherValues at values.old values.new) }
+    ensures block { IfOk result (λ b. b ≡ block) }
 {
     let home = &packages[at.home];
     let source = &home.files.items()[at.file];
-    fill_source(
+    let block = fill_source(
         alloc, packages, places, at.home, at.file, source, block, values,
     )?;
-    Ok(())
+    Ok(block)
 }
 
 /// Where the parts of the declaration at the place come from, once the use in it that stands there became a name,
@@ -87,21 +90,24 @@ pub fn step_origins(
 }
 
 /// Puts the file that a step made in the place of the old one: its tree, its text with tokens and comments, the origins
-/// of the declaration at the place (`step_origins`), and what the file's constants are declared as, by the names of its
-/// package's block. Files that use a constant of the declaration are looked at again, and the packages stand in
-/// dependency order. An error where memory is refused, or where the file has 2^32 names; the program is of no use then.
+/// of the declaration at the place (`step_origins`), and what the file's constants are declared as, by its package's
+/// block, which is handed back. Files that use a constant of the declaration are looked at again, and the packages stand
+/// in dependency order. An error where memory is refused, or where the file has 2^32 imports; the program is of no use
+/// then.
 ///
-/// Linear in the file, with one look-up for each file, each name of the package's block and three for each import.
+/// Linear in the file, with one look-up for each file and three for each import.
 pub fn put_step(
     alloc: Global,
     program: &mut Program,
     at: StepPlace,
     origins: Vec<Span>,
-    block: NameList,
+    block: Block,
     file: NewFile,
-) -> Result<(), NoMemory>
-    requires { MayBePut program.old at file }
-    ensures { OnOk result (IsStepPut at origins.items block file program.old program.new) }
+) -> Result<Block, NoMemory>
+    requires may { MayBePut program.old at file }
+    requires table { HasOwnTable block }
+    ensures put { OnOk result (IsStepPut at origins.items block.names file program.old program.new) }
+    ensures block { IfOk result (λ b. b ≡ block) }
 {
     let NewFile { text, tokens, tree } = file;
     replace_file(alloc, &mut program.packages, at.home, at.file, tree);
@@ -112,7 +118,7 @@ pub fn put_step(
     unsettle(&mut program.files, &program.users, decl);
     put_origins(&mut program.origins, at, origins);
     program.order = package_order(alloc, &program.packages)?;
-    put_values(
+    let block = put_values(
         alloc,
         &program.packages,
         &program.places,
@@ -120,5 +126,5 @@ pub fn put_step(
         block,
         &mut program.values,
     )?;
-    Ok(())
+    Ok(block)
 }

@@ -18,7 +18,7 @@ use Rattle.stepped_programs.specs.FirstUses.First.{IsFirstUse}
 use Rattle.stepped_programs.specs.FirstUses.Laws.{FirstUsesAreSteps}
 use Rattle.stepped_programs.specs.FirstUses.Step.{HasFileOf}
 use Rattle.stepped_programs.specs.FirstUses.StepLaws.{FoundFilesStand, IsRightFirst, UseStepsGoOn, text_there}
-use Rattle.stepped_programs.specs.ProgramsOnTheWay.Laws.{FirstUsesStayOnTheWay, FirstUsesAreFound, FoundUsesComeNext, RunsEnd, StepsStayOnTheWay}
+use Rattle.stepped_programs.specs.ProgramsOnTheWay.Laws.{FirstUsesStayOnTheWay, FirstUsesAreFound, FoundUsesComeNext, RunsEnd, StepsStayOnTheWay, BlocksStayOnTheWay}
 use Rattle.stepped_programs.specs.ProgramsOnTheWay.OnTheWay.{IsOnTheWay}
 use Rattle.stepped_programs.specs.SearchedSites.FoundSteps.Laws.{step_of, FoundUsesAreSteps}
 use Rattle.stepped_programs.specs.SearchedSites.FoundSteps.Uses.{HasFile}
@@ -29,7 +29,7 @@ use Rattle.fix_run.specs.declared.inlined_programs.faults.PassedIn.{PassedIn}
 use Rattle.fix_run.specs.declared.inlined_programs.faults.StepFault.{StepFault}
 use Rattle.fix_run.specs.declared.inlined_programs.faults.StepFault.TheVariants as fault
 use Rattle.fix_run.specs.InlinedPrograms.Beginnings.{Beginning, marks_in, StandsAfter}
-use Rattle.fix_run.specs.InlinedPrograms.Laws.{StepsAreLogged, TakenStepsComeNext, LimitsStopRuns, SettledProgramsEndRuns}
+use Rattle.fix_run.specs.InlinedPrograms.Laws.{StepsAreLogged, TakenStepsComeNext, TakenStepsKeepBlocks, LimitsStopRuns, SettledProgramsEndRuns}
 use Rattle.fix_run.specs.InlinedPrograms.Runs.{IsHindered, PassesLimit}
 use Rattle.fix_run.specs.InlinedPrograms.Steps.{HasNotTaken, IsNotTaken}
 use Rattle.fix_run.proofs.InlinedPrograms.Sources.{as_sources, are_sources}
@@ -58,6 +58,15 @@ come_next logs stay find come on keep tell b done st old new p c d u places row 
           };
       tells = λ files finds. tell b.files (marks_in b) st new s u a (text_there t.is_step.file) files places t.log row o.kept finds log t.put.row_is;
     }
+
+pub keep_blocks : StepsAreLogged → FirstUsesStayOnTheWay → FirstUsesAreFound → FoundUsesComeNext → UseStepsGoOn → BlocksStayOnTheWay → TakenStepsKeepBlocks
+keep_blocks logs stay find come on keep b done st old new p c d u places row h f t home there =
+    let s : ProgramSources = h.sources in
+    let o : IsOnTheWay b.files b.packages b.texts b.only done st new s c = stay b.files b.packages b.texts b.only done st old new s c (Some u) h.on_the_way f in
+    let q = find b.files b.packages b.texts b.only done st old new s c u h.on_the_way f in
+    let comes = comes_to b done st new s c u q.0 o q.1 logs come t.log t.progress t.comes in
+    let r = on b.files b.packages b.texts b.only done st new s u q.0 t.progress t.step comes t.is_step in
+    keep b.files b.packages b.texts b.only done st new p s c u q.0 t.progress t.step o comes t.is_step r.0 t.put.origins t.put.are_swapped t.put.put home there
 
 module _ (b : Beginning) (done : List Logged) (st : Standing) (p : Program) (s : ProgramSources) (c : StepCounts) (u : FirstUse) (a : IsFoundFirst (marks_in b) st s u.home u.found)
     (o : IsOnTheWay b.files b.packages b.texts b.only done st p s c) (right : IsRightFirst p a) (at : PassedIn) (q : Program) (d : StepCounts) (t : HasNotTaken p c u at q d) where

@@ -1,7 +1,7 @@
 -- The laws of steps and of runs. Each is the contract of a function of this crate (Go specification, Constant
 -- declarations; Packages; golang.org/x/tools, internal/refactor/inline, for what a run is; the limits are this
 -- project's own).
-use Rattle.std.specs.Prelude.{◌≡◌, ℕ, ◌+◌, ◌≤◌, true, List, [], Some, None}
+use Rattle.std.specs.Prelude.{◌≡◌, ℕ, ◌+◌, ◌≤◌, true, List, [], Some, None, slice_get}
 use Rattle.std.specs.List.{list_all}
 use Rattle.go_translation.specs.SameMeaning.{WellTyped}
 use Rattle.go_tree.specs.GoWords.Tokens.Characters.{each}
@@ -11,6 +11,9 @@ use Rattle.next_file.specs.Limits.{told}
 use Rattle.order_runs.specs.RunSteps.RunPackages.{packages_of}
 use Rattle.stepped_programs.specs.declared.package_search.looks.ProgramSources.{ProgramSources}
 use Rattle.pkg_graph.specs.Reads.{Source}
+use Rattle.pkg_graph.specs.Views.{package_view}
+use Rattle.pkg_graph.specs.declared.packages.Package as code
+use Rattle.file_names.specs.Members.{IsBlockOf}
 use Rattle.printed_constants.specs.Printed.{ArePrinted}
 use Rattle.programs.specs.declared.state.Program.{Program}
 use Rattle.read_modules.specs.Modules.{packages_in, texts_in}
@@ -68,6 +71,14 @@ TakenStepsComeNext =
     (b : Beginning) (done : List Logged) (st : Standing) (old new p : Program) (c d : StepCounts) (u : FirstUse)
     (places : List (List ℕ × ℕ)) (row : ReportRow) → StandsAfter b done st old c → IsFirstUse old new (Some u)
     → HasTaken new c u places row p d → HasMadeStep b done st places row p d
+
+-- The block of its package is that of the program after it.
+abbrev pub TakenStepsKeepBlocks : Type 0
+TakenStepsKeepBlocks =
+    (b : Beginning) (done : List Logged) (st : Standing) (old new p : Program) (c d : StepCounts) (u : FirstUse)
+    (places : List (List ℕ × ℕ)) (row : ReportRow) → StandsAfter b done st old c → IsFirstUse old new (Some u)
+    → HasTaken new c u places row p d → (home : code.Package) → slice_get p.packages.items u.home ≡ Some home
+    → IsBlockOf u.found.tables.names.«package» (package_view home)
 
 -- Where it passes a limit, the next of the run does.
 abbrev pub LimitsStopRuns : Type 0

@@ -2,9 +2,10 @@
 -- Import declarations; golang.org/x/tools, analyzer inline and internal/refactor/inline, for what a run is and what is
 -- reported).
 use Rattle.std.specs.Prelude.{◌≡◌, ⊤, ℕ, ◌+◌, ◌≤◌, ◌<◌, ◌^◌, is_some, List, length, map}
-use Rattle.std.specs.Prelude.{Some}
+use Rattle.std.specs.Prelude.{Option, Some}
 use Rattle.go_tree.specs.declared.spans.Span.{Span}
 use Rattle.go_tree.specs.FileView.{decl_of}
+use Rattle.file_tables.specs.Blocks.{block_in}
 use Rattle.next_file.specs.declared.file.FileFault.TheVariants as file_fault
 use Rattle.next_file.specs.declared.file.NewFile.{NewFile}
 use Rattle.next_file.specs.declared.limits.Progress.{Progress}
@@ -26,6 +27,7 @@ use Rattle.stepped_programs.specs.Laws.{place_of}
 use Rattle.stepped_programs.specs.ProgramsOnTheWay.OnTheWay.{IsProgressOf}
 use Rattle.stepped_programs.specs.Steps.{AreSwapped, MayBePut, IsStepPut}
 use Rattle.stepped_programs.specs.declared.first_uses.first.FirstUse.{FirstUse}
+use Rattle.stepped_programs.specs.declared.held_blocks.HeldBlock.{HeldBlock}
 use Rattle.fix_run.specs.declared.inlined_programs.faults.PassedIn.{PassedIn}
 use Rattle.fix_run.specs.declared.inlined_programs.faults.StepFault.{StepFault}
 use Rattle.fix_run.specs.declared.inlined_programs.faults.StepFault.TheVariants as fault
@@ -67,6 +69,10 @@ pub record MayBeTaken (p : Program) (c : StepCounts) (u : FirstUse) : Type 0 whe
   pub of_origin : (offset : ℕ) → steps_from (u.home, (u.found.file, offset)) c.origins ≤ c.steps
 
 -- ---- the step
+
+-- The block of the package of the use is held.
+abbrev pub HoldsBlockOf : FirstUse → Option HeldBlock → Type 0
+HoldsBlockOf u held = held ≡ Some (record { home = u.home; block = block_in u.found.tables })
 
 -- The file is put into the program, the step is counted, and this is its row.
 pub record HasPut (p : Program) (c : StepCounts) (u : FirstUse) (places : List (List ℕ × ℕ)) (l : LoggedStep)

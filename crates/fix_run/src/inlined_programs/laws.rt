@@ -2,7 +2,7 @@
 
 ghost use Rattle.fix_run.specs.InlinedPrograms.Laws.{LimitsStopRuns, LoadedProgramsBeginRuns, SettledProgramsEndRuns};
 ghost use Rattle.fix_run.specs.InlinedPrograms.Laws.{StepsAreLogged, StepsMayBeTaken, StoppedRunsAreTooLarge};
-ghost use Rattle.fix_run.specs.InlinedPrograms.Laws.{TakenStepsComeNext};
+ghost use Rattle.fix_run.specs.InlinedPrograms.Laws.{TakenStepsComeNext, TakenStepsKeepBlocks};
 
 use printed_constants::{first_uses_have_next, printed_steps_avoid_few_names, printed_steps_keep};
 use run_by_steps::progress_follows_steps;
@@ -56,10 +56,12 @@ pub fn steps_may_be_taken()
     steps_are_counted();
 }
 
-/// Once it is made it is the next step of the run, and its row tells of it (`next`); where it passes a limit, the next
-/// step of the run does, in that file (`limit`); and where no use is free, the run is at its end (`end`).
+/// Once it is made it is the next step of the run, and its row tells of it (`next`), and its package's block has the
+/// names that it had (`blocks`); where it passes a limit, the next step of the run does, in that file (`limit`); and where
+/// no use is free, the run is at its end (`end`).
 pub fn taken_steps_come_next()
     ensures next { TakenStepsComeNext }
+    ensures blocks { TakenStepsKeepBlocks }
     ensures limit { LimitsStopRuns }
     ensures end { SettledProgramsEndRuns }
 {

@@ -32,8 +32,9 @@ pub fn inline_all(
 {
     let mut counts = StepCounts::new(alloc);
     let mut rows = Vec::new(alloc);
+    let mut held = None;
     'steps: loop {
-        match step(alloc, program, &mut counts, files) {
+        match step(alloc, program, &mut counts, files, &mut held) {
             Ok(Some(row)) => {
                 let Ok(()) = rows.push(row) else {
                     return Err(StepFault::NoMemory);

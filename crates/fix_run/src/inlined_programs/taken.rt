@@ -1,19 +1,20 @@
 //! The step over a use that is found.
 
-ghost use Rattle.std.specs.Prelude.{◌≡◌, ◌+◌, ◌<◌, ◌≤◌, ◌^◌, IfErr, IfOk, length};
+ghost use Rattle.std.specs.Prelude.{◌≡◌, ◌+◌, ◌<◌, ◌≤◌, ◌^◌, IfErr, IfOk, OnOk, length};
+ghost use Rattle.file_tables.specs.Blocks.{HasOwnTable, block_in};
 ghost use Rattle.run_by_steps.specs.StepCounts.Origins.{steps_from};
 ghost use Rattle.stepped_programs.specs.FirstUses.Step.{HasFileOf, IsUseStep, MayStep};
 ghost use Rattle.stepped_programs.specs.Laws.{place_of};
 ghost use Rattle.stepped_programs.specs.ProgramsOnTheWay.OnTheWay.{IsProgressOf};
 ghost use Rattle.stepped_programs.specs.Steps.{MayBePut};
-ghost use Rattle.fix_run.specs.InlinedPrograms.Steps.{HasPut, HasTaken, IsNotTaken, LeavesNoFile, TextIsRead, MayBeTaken};
+ghost use Rattle.fix_run.specs.InlinedPrograms.Steps.{HasPut, HasTaken, HoldsBlockOf, IsNotTaken, LeavesNoFile};
+ghost use Rattle.fix_run.specs.InlinedPrograms.Steps.{MayBeTaken, TextIsRead};
 
 use crate::inlined_programs::faults::{PassedIn, StepFault};
 use crate::inlined_programs::logged::logged_step;
 use file_names::Places;
-use file_tables::FileTables;
+use file_tables::Block;
 use go_tree::NoMemory;
-use go_tree::scope_names::{FileNames, NameList};
 use next_file::{FileFault, NewFile, Progress};
 use programs::Program;
 use report_order::ReportRow;
@@ -21,7 +22,7 @@ use run_by_steps::step_counts::StepCounts;
 use std::alloc::Global;
 use stepped_programs::package_search::{FileStep, FoundInPackage};
 use stepped_programs::run_reports::{LoggedStep, step_row};
-use stepped_programs::{FirstUse, StepPlace, put_step, step_origins, step_use};
+use stepped_programs::{FirstUse, HeldBlock, StepPlace, put_step, step_origins, step_use};
 
 /// How far the run has come before the step over the use, which comes from this offset of its file as read.
 fn progress_before(
@@ -75,20 +76,18 @@ fn place_of(first: &FirstUse) -> StepPlace
     }
 }
 
-/// The names of its package's block.
-fn own_block(first: FirstUse) -> NameList
-    ensures { result ≡ first.found.tables.names.«package» }
+/// The block of its package.
+fn own_block(first: FirstUse) -> Block
+    ensures { result ≡ block_in first.found.tables }
 {
     let FirstUse { found, .. } = first;
     let FoundInPackage { tables, .. } = found;
-    let FileTables { names, .. } = tables;
-    let FileNames { package, .. } = names;
-    package
+    Block::in_tables(tables)
 }
 
 /// Puts the file of the step into the program, and counts the step, which is logged so; its row of the report, where
-/// `files` says where each file of the report stands by its path. An error where memory is refused, or as `step_row`;
-/// the program is of no use then.
+/// `files` says where each file of the report stands by its path. The block of the step's package is held from now on.
+/// An error where memory is refused, or as `step_row`; the program is of no use then.
 fn put_taken(
     alloc: Global,
     program: &mut Program,
@@ -97,13 +96,16 @@ fn put_taken(
     first: FirstUse,
     log: LoggedStep,
     file: NewFile,
+    held: &mut Option<HeldBlock>,
 ) -> Result<ReportRow, NoMemory>
     requires put { MayBePut program.old (place_of first.home first.found) file }
+    requires table { HasOwnTable (block_in first.found.tables) }
     requires steps { counts.old.steps + 1 < 2 ^ 32 }
     requires of_origin { steps_from (first.home, (first.found.file, log.offset)) counts.old.origins
         ≤ counts.old.steps }
-    ensures { IfOk result (λ row. HasPut program.old counts.old first files.now log file row
+    ensures put { IfOk result (λ row. HasPut program.old counts.old first files.now log file row
         program.new counts.new) }
+    ensures held { OnOk result (HoldsBlockOf first held.new) }
 {
     let row = step_row(alloc, &program.packages, files, log)?;
     let at = place_of(&first);
@@ -111,14 +113,18 @@ fn put_taken(
     let origins = step_origins(alloc, program, at, form.span, form.package.is_some())?;
     let origin = (first.home, (first.found.file, log.offset));
     let block = own_block(first);
-    put_step(alloc, program, at, origins, block, file)?;
+    let block = put_step(alloc, program, at, origins, block, file)?;
+    *held = Some(HeldBlock {
+        home: at.home,
+        block,
+    });
     counts.add(origin)?;
     Ok(row)
 }
 
 /// Makes the step over the use that is found in the program; its row of the report. The counts are those of the steps
 /// that were made. Where it passes a limit, nothing changes (Go specification, Constant declarations; Import
-/// declarations).
+/// declarations). Once it is made the block of its package is held.
 ///
 /// Linear in the file and in the declaration of the constant, and see stepped_programs' `put_step`.
 pub(crate) fn take_step(
@@ -127,11 +133,14 @@ pub(crate) fn take_step(
     counts: &mut StepCounts,
     files: &Places,
     first: FirstUse,
+    held: &mut Option<HeldBlock>,
 ) -> Result<ReportRow, StepFault>
-    requires { MayBeTaken program.old counts.old first }
+    requires may { MayBeTaken program.old counts.old first }
+    requires table { HasOwnTable (block_in first.found.tables) }
     ensures taken { IfOk result (λ row. HasTaken program.old counts.old first files.now row
         program.new counts.new) }
     ensures refused { IfErr result (λ e. IsNotTaken program.old counts.old first e program.new counts.new) }
+    ensures held { OnOk result (HoldsBlockOf first held.new) }
 {
     let Ok(log) = logged_step(alloc, program, &first) else {
         return Err(StepFault::NoMemory);
@@ -142,7 +151,7 @@ pub(crate) fn take_step(
         Err(fault) => return Err(fault),
     };
     let FileStep { file, .. } = made;
-    match put_taken(alloc, program, counts, files, first, log, file) {
+    match put_taken(alloc, program, counts, files, first, log, file, held) {
         Ok(row) => Ok(row),
         Err(_) => Err(StepFault::NoMemory),
     }

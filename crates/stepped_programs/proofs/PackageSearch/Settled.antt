@@ -2,14 +2,14 @@
 use Rattle.std.proofs.Common.{◌≡◌, ◌∙◌, refl, sym, ap, subst, ℕ, zero, suc, ◌+◌, ◌<◌, Bool, true, false, nat_eq, ◌⊎◌, inl, inr, List, [], ◌∷◌, length, get_or, Some, arith, slice_set}
 use Rattle.std.specs.Prelude.{slice_get}
 use Rattle.std.proofs.lemmas.Bool.{eqb-true, eqb-false}
-use Rattle.std.proofs.lemmas.List.{length-set, get_or-set_same, get_or-set_other}
+use Rattle.std.proofs.lemmas.List.{get_or-set_same, get_or-set_other}
 use Rattle.go_scan.specs.TokenLists.{TokenLists}
 use Rattle.pkg_graph.specs.declared.packages.Package.{Package}
 use Rattle.pkg_graph.specs.declared.packages.SourceTree.{SourceTree}
 use Rattle.stepped_programs.specs.declared.package_search.looks.FileLook.{FileLook}
 use Rattle.stepped_programs.specs.declared.package_search.looks.ProgramSources.{ProgramSources}
 use Rattle.stepped_programs.specs.PackageSearch.Looks.{IsLook}
-use Rattle.stepped_programs.specs.PackageSearch.Search.{is_settled, block_of, LookAt, HasNone, AreSettled}
+use Rattle.stepped_programs.specs.PackageSearch.Search.{is_settled, block_of, LookAt}
 
 -- what is read of a list is there
 pub got : {A : Type 0} (xs : List A) (i : ℕ) (x : A) → i < length xs → x ≡ get_or xs i x → slice_get xs i ≡ Some x
@@ -27,30 +27,6 @@ nat_cases j k = by (nat_eq j k) refl
 -- the files before a number
 abbrev pub before : List Bool → ℕ → Type 0
 before flags n = (i : ℕ) → i < n → is_settled flags i ≡ true
-
-module _ (s : ProgramSources) (number : ℕ) (home : Package) (tokens : List TokenLists) where
-  abbrev Settles : List Bool → List Bool → Type 0
-  Settles old new = AreSettled s number home tokens old new
-
-  pub same_settled : (flags : List Bool) → Settles flags flags
-  same_settled flags = record { size = refl; stay = λ i h. h; come = λ i h. inl h }
-
-  -- one more
-  pub one_settled : (old was now : List Bool) (n : ℕ) → n < length was → now ≡ slice_set was n true → HasNone s number home tokens n → Settles old was → Settles old now
-  one_settled old was now n h e none a =
-      record {
-        size = ap length e ∙ length-set was n true ∙ a.size;
-        stay = λ i f. at i (nat_cases i n) (a.stay i f);
-        come = λ i f. from i (nat_cases i n) f;
-      }
-    where
-      at : (i : ℕ) → (i ≡ n) ⊎ (i ≡ n → ⊥) → is_settled was i ≡ true → is_settled now i ≡ true
-      at i (inl q) f = ap (λ (fs : List Bool). is_settled fs i) e ∙ ap (λ (j : ℕ). is_settled (slice_set was n true) j) q ∙ get_or-set_same was n true false h
-      at i (inr q) f = ap (λ (fs : List Bool). is_settled fs i) e ∙ get_or-set_other was n i true false q ∙ f
-
-      from : (i : ℕ) → (i ≡ n) ⊎ (i ≡ n → ⊥) → is_settled now i ≡ true → (is_settled old i ≡ true) ⊎ HasNone s number home tokens i
-      from i (inl q) f = inr (subst (λ (j : ℕ). HasNone s number home tokens j) (sym q) none)
-      from i (inr q) f = a.come i (sym (ap (λ (fs : List Bool). is_settled fs i) e ∙ get_or-set_other was n i true false q) ∙ f)
 
 -- those before, and one more
 pub more_before : (was now : List Bool) (n : ℕ) → n < length was → now ≡ slice_set was n true → before was n → before now (n + 1)

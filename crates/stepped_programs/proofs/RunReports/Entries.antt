@@ -7,7 +7,7 @@ use Rattle.module_marks.specs.Views.{bad_at_of}
 use Rattle.module_marks.specs.declared.file_marks.BadMarkAt.{BadMarkAt}
 use Rattle.run_rules.specs.Report.{Entry, bad_entry, file_of}
 use Rattle.report_lines.specs.Laws.{item_of}
-use Rattle.report_order.specs.Laws.{Tells, RowsTell}
+use Rattle.report_order.specs.Laws.{Tells}
 use Rattle.report_order.specs.declared.rows.ReportRow.{ReportRow}
 use Rattle.report_order.specs.declared.text.ReportSource.{ReportSource}
 use Rattle.report_order.proofs.Told.{rows_join}

@@ -1,5 +1,5 @@
 -- The rows of the uses that a file keeps tell of them.
-use Rattle.std.proofs.Common.{◌≡◌, ◌∙◌, ◌<◌, refl, sym, ap, subst, ℕ, zero, suc, Bool, true, false, if◌then◌else◌, List, [], ◌∷◌, ◌++◌, map, length, Option, Some, None}
+use Rattle.std.proofs.Common.{◌≡◌, ◌∙◌, ◌<◌, refl, sym, ap, subst, ℕ, zero, suc, Bool, true, false, if◌then◌else◌, List, [], ◌∷◌, map, Option, Some, None}
 use Rattle.std.specs.Prelude.{slice_get, Contains}
 use Rattle.std.specs.List.{list_any}
 use Rattle.std.proofs.lemmas.Option.{none-some, same_Some}
@@ -25,7 +25,7 @@ use Rattle.printed_constants.specs.PrintedSteps.Programs.{IsPrintedProgram}
 use Rattle.run_rules.specs.Inlining.{ReadsAs}
 use Rattle.run_rules.specs.Marks.{home_path, marked_name}
 use Rattle.run_rules.specs.Programs.{decl_seen}
-use Rattle.run_rules.specs.Report.{Entry, kept_entry}
+use Rattle.run_rules.specs.Report.{kept_entry}
 use Rattle.run_rules.specs.Respanned.{decls_with, file_with, source_with}
 use Rattle.run_rules.specs.Run.{Standing, KeptUse, here_of, origin_of}
 use Rattle.run_rules.specs.Sites.{MarkRef, Where, Inlinable, a_constant, an_alias, a_function, Site, an_expr, inlinable, part_span, sites}
@@ -41,15 +41,13 @@ use Rattle.repeated_parts.specs.UseSearch.UsesOfMarks.Laws.{EachSite, EachSound,
 use Rattle.repeated_parts.specs.UseSearch.UsesOfMarks.Uses.{PlacedMark}
 use Rattle.repeated_parts.specs.declared.use_search.search.FoundForm.{FoundForm}
 use Rattle.repeated_parts.specs.declared.use_search.search.FoundObstacle.{FoundObstacle}
-use Rattle.stepped_programs.specs.declared.package_search.looks.FileLook.{FileLook}
 use Rattle.stepped_programs.specs.declared.package_search.looks.ProgramSources.{ProgramSources}
 use Rattle.stepped_programs.specs.PackageSearch.Looks.{IsLook}
 use Rattle.stepped_programs.specs.PackageSearch.Search.{LookAt}
 use Rattle.programs.specs.OriginsOfUses.Origins.{at_span, decls_origin}
 use Rattle.programs.specs.PartOrigins.Laws as as_kept
 use Rattle.programs.specs.PartOrigins.Views.{origins_of}
-use Rattle.programs.specs.Programs.{HasOrigins, IsProgramOf}
-use Rattle.programs.specs.declared.part_origins.origins.Origins.{Origins}
+use Rattle.programs.specs.Programs.{HasOrigins}
 use Rattle.programs.specs.declared.part_origins.origins.PackageOrigins.{PackageOrigins}
 use Rattle.programs.specs.declared.state.PackageFiles.{PackageFiles}
 use Rattle.programs.specs.declared.state.Program.{Program}
@@ -61,14 +59,14 @@ use Rattle.stepped_programs.specs.SearchedSites.KeptPlaces.Once.{span_of, sites_
 use Rattle.stepped_programs.specs.SearchedSites.OrderedSearches.Held.{IsThere, IsHeld}
 use Rattle.stepped_programs.specs.SearchedSites.OrderedSearches.Laws.{LooksRight, LooksFindSites}
 use Rattle.stepped_programs.specs.SearchedSites.Searched.{IsKept, AreSearched, at_the_end, past_kept, at_free, kept_told, sites_in_file}
-use Rattle.stepped_programs.specs.SearchedSites.Told.{IsProgram, IsFile}
+use Rattle.stepped_programs.specs.SearchedSites.Told.{IsProgram}
 use Rattle.stepped_programs.specs.SearchedSites.ToldOrigins.Laws.{OriginsAreTold, part_origins}
 use Rattle.stepped_programs.specs.SearchedSites.ToldOrigins.Laws as as_told
 use Rattle.stepped_programs.specs.SteppedValues.Flags.{IsKeptProgram}
 use Rattle.stepped_programs.specs.SteppedValues.Held.{AreSourcesOf, ProgramsAreHeld, tokens_in}
 use Rattle.stepped_programs.proofs.SearchedSites.OrderedSearches.Looked.{program_told}
 use Rattle.stepped_programs.proofs.SearchedSites.Uses.{ConstantIn, among_constant, knows}
-use Rattle.stepped_programs.specs.RunReports.Kept.{uses_once, tokens_at, origins_at, IsKeptLook, AreFileOrigins, IsFileTold}
+use Rattle.stepped_programs.specs.RunReports.Kept.{uses_once, origins_at, IsFileTold}
 use Rattle.stepped_programs.specs.RunReports.Laws.{AddsEntries, paths_of}
 use Rattle.stepped_programs.specs.RunReports.Names.{IsNamed}
 use Rattle.stepped_programs.specs.RunReports.Rows.{FindsFiles, IsKeptRow, AddsRow, InTurn}

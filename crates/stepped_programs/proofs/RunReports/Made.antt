@@ -1,5 +1,5 @@
 -- Rows that are made.
-use Rattle.std.proofs.Common.{◌≡◌, ◌∙◌, ◌<◌, refl, sym, ap, subst, ℕ, Bool, false, List, [], map, length, get_or, Option, Some, None, is_some}
+use Rattle.std.proofs.Common.{◌≡◌, ◌∙◌, ◌<◌, refl, sym, ap, subst, ℕ, false, List, [], map, length, get_or, Option, Some, None, is_some}
 use Rattle.std.specs.Prelude.{slice_get}
 use Rattle.std.proofs.lemmas.Option.{slice_get_read}
 use Rattle.go_tree.specs.declared.spans.Span.{Span}

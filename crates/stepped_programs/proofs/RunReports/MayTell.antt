@@ -1,5 +1,5 @@
 -- A program that is kept may be asked for the uses that it keeps.
-use Rattle.std.proofs.Common.{◌≡◌, ◌∙◌, ◌<◌, refl, sym, ap, subst, ℕ, List, [], ◌∷◌, map, length, Option, Some, None, arith}
+use Rattle.std.proofs.Common.{◌≡◌, ◌∙◌, sym, ap, subst, ℕ, List, [], ◌∷◌, map, length, Option, Some, arith}
 use Rattle.std.specs.Prelude.{slice_get}
 use Rattle.std.proofs.lemmas.List.{length-map}
 use Rattle.std.proofs.lemmas.Option.{same_Some, slice_get_within}
@@ -17,7 +17,7 @@ use Rattle.pkg_graph.specs.Reads.{Source}
 use Rattle.pkg_graph.specs.Views.{package_view, source_of}
 use Rattle.pkg_graph.specs.declared.packages.SourceTree as code
 use Rattle.member_uses.specs.PossibleUses.Parts.{parts_of}
-use Rattle.run_rules.specs.Respanned.{decl_with, decls_with, source_with, package_with}
+use Rattle.run_rules.specs.Respanned.{decls_with, source_with, package_with}
 use Rattle.run_rules.specs.Run.{Standing, here_of, origin_of}
 use Rattle.run_rules.specs.Sites.{MarkRef, part_span}
 use Rattle.run_rules.specs.Steps.{At}

@@ -1,15 +1,13 @@
 -- The names of constants by their numbers, among trees and among values of them without places in memory.
-use Rattle.std.proofs.Common.{◌≡◌, ◌∙◌, refl, sym, ap, subst, ℕ, zero, suc, Bool, true, false, if◌then◌else◌, List, [], ◌∷◌, ◌++◌, map, Option, Some, None}
+use Rattle.std.proofs.Common.{◌≡◌, ap, ℕ, zero, suc, Bool, true, false, if◌then◌else◌, List, [], ◌∷◌, ◌++◌, map, Option, Some, None}
 use Rattle.std.specs.Prelude.{slice_get}
 use Rattle.std.specs.Option.{option_map}
-use Rattle.std.proofs.lemmas.Option.{same_Some}
-use Rattle.go_tree.specs.declared.spans.Span.{Span}
 use Rattle.go_tree.specs.Tree.{NameAt, Expr, Exprs, no_exprs, expr_and, const_decl, var_decl, empty, eval, step, assign, define, return_, break_, continue_, inner, if_, for_, range_, switch, defer, label, ValueSpecs, no_specs, spec}
 use Rattle.go_tree.specs.File.{TypeSpec, Decl, values, types, func}
-use Rattle.go_tree.specs.GoTypes.Answers.{given, otherwise}
-use Rattle.pkg_graph.specs.Members.{specs_names, decl_names}
+use Rattle.go_tree.specs.GoTypes.Answers.{given}
+use Rattle.pkg_graph.specs.Members.{specs_names}
 use Rattle.run_rules.specs.Respanned.{name_with, specs_with, decl_with}
-use Rattle.run_rules.specs.Sites.{Inlinable, a_constant, an_alias, a_function, aliased, constant_in_spec, inlinable_in, less, name_of, nth_constant}
+use Rattle.run_rules.specs.Sites.{Inlinable, a_constant, an_alias, aliased, constant_in_spec, inlinable_in, less, name_of, nth_constant}
 use Rattle.stepped_programs.specs.RunReports.Names.{nth_name}
 
 abbrev name_there : {S : Type 0} → Option (NameAt S) → Option (List ℕ)

@@ -1,12 +1,10 @@
 -- Uses of which each span is told once.
-use Rattle.std.proofs.Common.{◌≡◌, ◌∙◌, ◌+◌, ◌<◌, ◌≤◌, refl, sym, ap, subst, ℕ, Bool, true, false, not, ◌&&◌, ◌||◌, if◌then◌else◌, nat_eq, eq-eqb, List, [], ◌∷◌, ◌++◌, map, length, drop, get_or, arith}
+use Rattle.std.proofs.Common.{◌≡◌, ◌∙◌, ◌+◌, ◌<◌, ◌≤◌, refl, sym, ap, subst, ℕ, Bool, true, false, ◌||◌, if◌then◌else◌, List, [], ◌∷◌, length, drop, get_or, arith}
 use Rattle.std.specs.List.{list_any}
 use Rattle.std.proofs.lemmas.List.{drop_more, drop_all}
-use Rattle.std.proofs.lemmas.Bool.{true≢false}
 use Rattle.std.proofs.lemmas.Bool.Decides.{nat_tests}
-use Rattle.indexmap.specs.IndexSet.{insert_key}
 use Rattle.go_tree.specs.declared.spans.Span.{Span}
-use Rattle.run_rules.specs.ImportRules.Removed.{same_span, span_at}
+use Rattle.run_rules.specs.ImportRules.Removed.{same_span}
 use Rattle.repeated_parts.specs.declared.use_search.search.FoundObstacle.{FoundObstacle}
 use Rattle.report_order.specs.declared.rows.ReportRow.{ReportRow}
 use Rattle.stepped_programs.specs.RunReports.Rows.{InTurn}

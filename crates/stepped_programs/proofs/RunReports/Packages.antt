@@ -18,7 +18,7 @@ use Rattle.pkg_graph.specs.declared.packages.SourceTree as code_tree
 use Rattle.run_rules.specs.Marks.{home_path, marked_name, own_name}
 use Rattle.run_rules.specs.Respanned.{decl_with, source_with, package_with, packages_with}
 use Rattle.run_rules.specs.Run.{here_of}
-use Rattle.run_rules.specs.Sites.{MarkRef, Where, Inlinable, a_constant, where_is, inlinable}
+use Rattle.run_rules.specs.Sites.{MarkRef, Where, Inlinable, a_constant, inlinable}
 use Rattle.run_rules.specs.Steps.{At}
 use Rattle.constant_steps.proofs.MarksFound.{DeclaredThere, declared_there, StandsThere, stands_there}
 use Rattle.repeated_parts.specs.UseSearch.MarkValues.Tables.{decl_at, key_of}

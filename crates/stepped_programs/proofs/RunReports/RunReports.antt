@@ -1,14 +1,10 @@
 -- What is answered at the end of a run is its report.
-use Rattle.std.proofs.Common.{◌≡◌, ◌∙◌, refl, sym, ap, subst, ℕ, List, [], ◌∷◌, ◌++◌, map}
-use Rattle.go_tree.specs.declared.spans.Span.{Span}
-use Rattle.pkg_graph.specs.Package.{Package}
+use Rattle.std.proofs.Common.{◌≡◌, ◌∙◌, refl, sym, subst, ℕ, List, [], ◌∷◌, ◌++◌, map}
 use Rattle.run_rules.specs.Marks.{BadAt, marks_of, bad_of}
-use Rattle.run_rules.specs.Report.{Entry, step_entry, kept_entry, bad_entry, report_of}
+use Rattle.run_rules.specs.Report.{step_entry, kept_entry, bad_entry}
 use Rattle.run_rules.specs.Run.{KeptUse, uses_kept}
 use Rattle.run_rules.specs.Texts.{FileText}
-use Rattle.module_marks.specs.Views.{bad_at_of}
 use Rattle.report_order.specs.Laws.{RowsTell, AreSources}
-use Rattle.report_order.specs.Rows.{items_in, report_from}
 use Rattle.report_order.specs.ReportFiles.Laws.{ReadPathsAscend, all_entries}
 use Rattle.report_order.specs.declared.rows.ReportRow.{ReportRow}
 use Rattle.report_order.specs.declared.text.ReportSource.{ReportSource}

@@ -1,5 +1,5 @@
 -- What is known of each site of a file: that it is one of the program's, and in which declaration it stands.
-use Rattle.std.proofs.Common.{◌≡◌, ◌<◌, refl, subst, ℕ, suc, List, [], ◌∷◌, ◌++◌, length, Option, Some, None, arith}
+use Rattle.std.proofs.Common.{◌≡◌, ◌<◌, refl, ℕ, suc, List, [], ◌∷◌, length, Option, Some, None, arith}
 use Rattle.std.specs.Prelude.{slice_get, Contains}
 use Rattle.go_tree.specs.Tree.{TypeExpr}
 use Rattle.go_tree.specs.File.{Decl}

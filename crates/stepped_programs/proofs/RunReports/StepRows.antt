@@ -1,23 +1,20 @@
 -- The row of a step tells of it.
-use Rattle.std.proofs.Common.{◌≡◌, ◌∙◌, refl, sym, ap, subst, ℕ, List, map, Some}
+use Rattle.std.proofs.Common.{◌≡◌, ◌∙◌, sym, ap, subst, ℕ, List}
 use Rattle.std.specs.Prelude.{slice_get}
 use Rattle.go_tree.specs.declared.spans.Span.{Span}
-use Rattle.go_tree.specs.GoTypes.Answers.{given}
 use Rattle.go_tree.proofs.GoTypes.Agreeing.{from_given}
 use Rattle.pkg_graph.specs.Package.{SourceTree}
 use Rattle.pkg_graph.specs.Reads.{Source}
-use Rattle.pkg_graph.specs.Views.{source_of}
 use Rattle.pkg_graph.specs.declared.packages.Package.{Package}
 use Rattle.run_rules.specs.FormTrees.{ConstForm}
 use Rattle.run_rules.specs.Marks.{home_path, marked_name}
 use Rattle.run_rules.specs.Report.{step_entry}
 use Rattle.run_rules.specs.Run.{Standing}
-use Rattle.run_rules.specs.Sites.{MarkRef, part_span}
+use Rattle.run_rules.specs.Sites.{MarkRef}
 use Rattle.run_rules.specs.Texts.{FileText}
 use Rattle.module_marks.specs.Views.{mark_ref_of}
 use Rattle.stepped_programs.specs.declared.package_search.looks.ProgramSources.{ProgramSources}
 use Rattle.programs.specs.declared.state.Program.{Program}
-use Rattle.report_lines.specs.Laws.{item_of}
 use Rattle.report_order.specs.Laws.{Tells}
 use Rattle.report_order.specs.ReportWords.Words.{inlined_text}
 use Rattle.report_order.specs.declared.rows.ReportRow.{ReportRow}

@@ -3,7 +3,7 @@ use Rattle.std.proofs.Common.{◌≡◌, ◌∙◌, ◌+◌, ◌<◌, ◌≤◌,
 use Rattle.std.proofs.lemmas.List.{drop_more, drop_all}
 use Rattle.run_rules.specs.Programs.{numbered_from, numbered}
 use Rattle.report_order.specs.declared.rows.ReportRow.{ReportRow}
-use Rattle.stepped_programs.specs.RunReports.Rows.{AddsRow, InTurn}
+use Rattle.stepped_programs.specs.RunReports.Rows.{InTurn}
 
 module _ {A : Type 0} (One : A → List ReportRow → List ReportRow → Type 0) where
   -- the rows of those that are left lead from these to the rows of all

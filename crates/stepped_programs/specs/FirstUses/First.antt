@@ -2,6 +2,7 @@
 -- Packages; Program initialization).
 use Rattle.std.specs.Prelude.{◌≡◌, ℕ, true, All, length, Option, Some, slice_get}
 use Rattle.std.specs.Option.{option_map}
+use Rattle.file_tables.specs.Blocks.{HasOwnTable, block_in}
 use Rattle.stepped_programs.specs.declared.package_search.looks.ProgramSources.{ProgramSources}
 use Rattle.stepped_programs.specs.declared.package_search.search.FoundInPackage.{FoundInPackage}
 use Rattle.stepped_programs.specs.PackageSearch.Search.{is_settled}
@@ -21,6 +22,10 @@ found_in u = (u.home, u.found)
 -- Each package that the order names may be searched.
 abbrev pub IsOpenInOrder : Program → Type 0
 IsOpenInOrder p = All (IsOpenProgram p) p.order.items
+
+-- The tables of the use that is found have the table of its package's block.
+abbrev pub HasBlock : Option FirstUse → Type 0
+HasBlock found = (u : FirstUse) → found ≡ Some u → HasOwnTable (block_in u.found.tables)
 
 -- Of what is kept of the files of a package the flags alone change, and those that are set stay set.
 pub record AreFlagged (old new : PackageFiles) : Type 0 where

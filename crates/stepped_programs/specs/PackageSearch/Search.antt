@@ -1,6 +1,6 @@
 -- Searches over the files of a package, of which some are settled: none of their uses is free (Go specification,
 -- Constant declarations; Packages).
-use Rattle.std.specs.Prelude.{◌≡◌, ◌⊎◌, ℕ, ◌<◌, Bool, true, false, List, length, Option, Some, None}
+use Rattle.std.specs.Prelude.{◌≡◌, ℕ, ◌<◌, Bool, true, false, List, length, Option, Some, None}
 use Rattle.std.specs.Prelude.{slice_get, slice_index_or, map}
 use Rattle.go_scan.specs.TokenLists.{TokenLists}
 use Rattle.pkg_graph.specs.Members.{package_block}
@@ -29,18 +29,6 @@ module _ (s : ProgramSources) (number : ℕ) (home : Package) (tokens : List Tok
     pub is_list : slice_get tokens i ≡ Some list
     pub look : IsLook s number source list block_of l
 
-  -- No use in the file is free, as a look at it shows.
-  pub record HasNone (i : ℕ) : Type 0 where
-    pub seen : FileLook
-    pub look : LookAt i seen
-    pub none_free : seen.free ≡ None
-
-  -- Files that are settled stay so, and each that comes to them has no free use.
-  pub record AreSettled (old new : List Bool) : Type 0 where
-    pub size : length new ≡ length old
-    pub stay : (i : ℕ) → is_settled old i ≡ true → is_settled new i ≡ true
-    pub come : (i : ℕ) → is_settled new i ≡ true → (is_settled old i ≡ true) ⊎ HasNone i
-
   -- The first file that isn't settled has this free use, and all before it are settled; or all files are.
   pub record IsFirstIn (new : List Bool) (r : FoundInPackage) : Type 0 where
     pub seen : FileLook
@@ -53,8 +41,3 @@ module _ (s : ProgramSources) (number : ℕ) (home : Package) (tokens : List Tok
   abbrev pub IsFirst : List Bool → Option FoundInPackage → Type 0
   IsFirst new (Some r) = IsFirstIn new r
   IsFirst new None = (i : ℕ) → i < length home.files → is_settled new i ≡ true
-
-  -- So the package is searched.
-  pub record IsPackageSearch (old new : List Bool) (r : Option FoundInPackage) : Type 0 where
-    pub settled : AreSettled old new
-    pub first : IsFirst new r

@@ -2,13 +2,16 @@
 -- Constant declarations; Packages; golang.org/x/tools, internal/refactor/inline, for what a run is; the limits are this
 -- project's own).
 use Rattle.std.specs.Prelude.{◌≡◌, ℕ, ◌+◌, ◌≤◌, true, is_some, List, [], ◌∷◌, ◌++◌, Option}
-use Rattle.std.specs.Prelude.{Some, None}
+use Rattle.std.specs.Prelude.{Some, None, slice_get}
 use Rattle.std.specs.List.{list_all}
 use Rattle.go_tree.specs.declared.spans.Span.{Span}
 use Rattle.go_tree.specs.FileView.{file_of}
 use Rattle.go_tree.specs.GoWords.Tokens.Characters.{each}
 use Rattle.run_rules.specs.SpliceLaws.ImportSplices.AddedFile.{is_byte}
 use Rattle.pkg_graph.specs.Package.{Package}
+use Rattle.pkg_graph.specs.Views.{package_view}
+use Rattle.pkg_graph.specs.declared.packages.Package as code
+use Rattle.file_names.specs.Members.{IsBlockOf}
 use Rattle.pkg_graph.specs.Reads.{Source}
 use Rattle.go_translation.specs.SameMeaning.{WellTyped}
 use Rattle.stepped_programs.specs.LoadedPrograms.Loaded.{IsLoaded}
@@ -101,6 +104,21 @@ module _ (files : List Source) (ps : List (Package Span)) (texts : List (List �
       → IsOnTheWay files ps texts only
       (done ++ row_of (marks_of ps texts only) st (step_of a) (text_there made.file) ∷ []) n.after q t d
 
+  -- The block of the package of the step is that of the next program.
+  abbrev pub BlocksStayOn : Type 0
+  BlocksStayOn =
+      (done : List Logged) (st : Standing) (p q : Program) (s : ProgramSources) (c : StepCounts) (u : FirstUse)
+      (a : IsFoundFirst (marks_of ps texts only) st s u.home u.found) (progress : Progress) (step : FileStep)
+      → IsOnTheWay files ps texts only done st p s c → ComesTo files ps texts only done st p s u a progress
+      → (made : IsUseStep p u progress step)
+      → NextWith (marks_of ps texts only) st (step_of a) (text_there made.file) (text_of step.file)
+      (file_of step.file.tree)
+      → (os : List Span)
+      → AreSwapped p (place_of u.home u.found) (is_some u.found.found.form.«package») u.found.found.form.span os
+      → IsStepPut (place_of u.home u.found) os u.found.tables.names.«package» step.file p q
+      → (home : code.Package) → slice_get q.packages.items u.home ≡ Some home
+      → IsBlockOf u.found.tables.names.«package» (package_view home)
+
   -- Where no free use is found, the texts are those of the inlined module, with the report of these steps.
   abbrev pub EndsRun : Type 0
   EndsRun =
@@ -130,6 +148,10 @@ FoundUsesComeNext = Always RightUsesComeNext
 -- After it the next program stands on the way.
 abbrev pub StepsStayOnTheWay : Type 0
 StepsStayOnTheWay = Always StepsStayOn
+
+-- So do the names of the package's block in which it is made.
+abbrev pub BlocksStayOnTheWay : Type 0
+BlocksStayOnTheWay = Always BlocksStayOn
 
 -- A program without a free use is at its end.
 abbrev pub RunsEnd : Type 0

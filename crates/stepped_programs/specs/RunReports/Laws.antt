@@ -1,6 +1,6 @@
 -- The laws of reports of runs. Each is the contract of a function of this crate (Go specification, Constant
 -- declarations; Packages; golang.org/x/tools, analyzer inline, for what is reported).
-use Rattle.std.specs.Prelude.{◌≡◌, ℕ, List, ◌∷◌, [], ◌++◌, map}
+use Rattle.std.specs.Prelude.{◌≡◌, ℕ, List, ◌++◌, map}
 use Rattle.go_tree.specs.declared.spans.Span.{Span}
 use Rattle.pkg_graph.specs.Package.{Package}
 use Rattle.pkg_graph.specs.Reads.{Source}

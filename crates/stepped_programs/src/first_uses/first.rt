@@ -1,8 +1,10 @@
 //! A program, package by package.
 
-ghost use Rattle.std.specs.Prelude.{◌<◌, All, IfOk, length};
-ghost use Rattle.stepped_programs.specs.FirstUses.First.{IsFirstUse, IsOpenInOrder};
+ghost use Rattle.std.specs.Prelude.{◌<◌, All, IfOk, OnOk, length};
+ghost use Rattle.stepped_programs.specs.HeldBlocks.{IsHeldIn};
+ghost use Rattle.stepped_programs.specs.FirstUses.First.{HasBlock, IsFirstUse, IsOpenInOrder};
 
+use crate::held_blocks::HeldBlock;
 use crate::package_search::{FoundInPackage, search_program};
 use go_tree::NoMemory;
 use programs::Program;
@@ -20,15 +22,25 @@ pub struct FirstUse {
 /// are users of the constants of which they keep uses. Where nothing is found, all files are settled. Nothing else of
 /// the program changes. An error where memory is refused (Go specification, Constant declarations; Packages).
 ///
-/// Of a file that is settled the flag alone is read. The names of a package's block are listed where one of its files
-/// isn't settled; of such files see package_search's `look_at_file`.
-pub fn first_use(alloc: Global, program: &mut Program) -> Result<Option<FirstUse>, NoMemory>
-    requires { IsOpenInOrder program.old }
-    ensures { IfOk result (IsFirstUse program.old program.new) }
+/// What is held is the block of the package that was looked at last; where a use is found its tables have that of its
+/// package, and nothing is held.
+///
+/// Of a file that is settled the flag alone is read. A package's block is made anew where one of its files isn't settled
+/// and the block isn't held; of such files see package_search's `look_at_file`.
+pub fn first_use(
+    alloc: Global,
+    program: &mut Program,
+    held: &mut Option<HeldBlock>,
+) -> Result<Option<FirstUse>, NoMemory>
+    requires open { IsOpenInOrder program.old }
+    requires held { IsHeldIn program.old.packages.items held.old }
+    ensures first { IfOk result (IsFirstUse program.old program.new) }
+    ensures held { OnOk result (IsHeldIn program.new.packages.items held.new) }
+    ensures block { IfOk result HasBlock }
 {
     for at in 0..program.order.len() {
         let home = program.order[at] as usize;
-        let searched = search_program(alloc, program, home)?;
+        let searched = search_program(alloc, program, home, held)?;
         if let Some(found) = searched {
             return Ok(Some(FirstUse { home, found }));
         }

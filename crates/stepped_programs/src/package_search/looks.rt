@@ -3,13 +3,13 @@
 ghost use Rattle.std.specs.Prelude.{◌≡◌, IfOk};
 ghost use Rattle.run_rules.specs.ImportRules.Laid.{CommentsAscend};
 ghost use Rattle.file_names.specs.Imports.{FindsPackages};
+ghost use Rattle.file_tables.specs.Blocks.{HasOwnTable, block_in};
 ghost use Rattle.stepped_programs.specs.PackageSearch.Looks.{IsLook};
 
 use file_names::Places;
-use file_tables::{FileTables, file_tables};
+use file_tables::{Block, FileTables, file_tables};
 use go_scan::Tokens;
 use go_tree::NoMemory;
-use go_tree::scope_names::NameList;
 use module_marks::MarkTable;
 use pkg_graph::{Package, SourceTree};
 use repeated_parts::use_search::mark_values::ConstantValues;
@@ -35,21 +35,23 @@ pub struct FileLook {
     pub free: Option<FoundForm>,
 }
 
-/// Looks at a file of the package with this number, with these tokens and comments. The names of the package's block are
-/// handed over, and stand among the names of the file. An error where memory is refused.
+/// Looks at a file of the package with this number, with these tokens and comments. The package's block is handed over,
+/// and stands in the tables of the file. An error where memory is refused.
 ///
-/// One step for each declaration, import, name of the package block and part that may be a use; see `search_file`.
+/// One step for each declaration, import and part that may be a use; see `search_file`.
 pub fn look_at_file(
     alloc: Global,
     program: &ProgramSources,
     home: usize,
     source: &SourceTree,
     tokens: &Tokens,
-    block: NameList,
+    block: Block,
 ) -> Result<FileLook, NoMemory>
     requires places { FindsPackages program.now.places.now program.now.packages.now }
     requires ascend { CommentsAscend 0 tokens.now.comments }
-    ensures { IfOk result (IsLook program.now home source.now tokens.now block) }
+    requires table { HasOwnTable block }
+    ensures look { IfOk result (IsLook program.now home source.now tokens.now block.names) }
+    ensures block { IfOk result (λ l. block_in l.tables ≡ block) }
 {
     let tables = file_tables(alloc, program.packages, program.places, block, &source.tree)?;
     let view = FileView {

@@ -1,16 +1,17 @@
 //! The rows of the uses that a program keeps.
 
 ghost use Rattle.std.specs.Prelude.{◌≡◌, IfOk, OnOk, Some, option_copied, slice_get};
+ghost use Rattle.file_tables.specs.Blocks.{HasOwnTable, block_in};
 ghost use Rattle.stepped_programs.specs.RunReports.Kept.{AreFileOrigins, IsFileTold, IsKeptLook, IsPackageTold, IsProgramTold};
 ghost use Rattle.stepped_programs.specs.RunReports.Kept.{MayBeTold, origins_at, source_at, tokens_at};
 
+use crate::held_blocks::block_of;
 use crate::package_search::{FileLook, ProgramSources, look_at_file};
 use crate::run_reports::kept::{KeptFile, add_kept};
-use file_names::{Places, block_members, member_names};
-use file_tables::FileTables;
+use file_names::Places;
+use file_tables::Block;
 use go_scan::Tokens;
 use go_tree::NoMemory;
-use go_tree::scope_names::{FileNames, NameList};
 use pkg_graph::{Package, SourceTree};
 use programs::{OriginTable, Origins, Program, use_origins};
 use report_order::ReportRow;
@@ -50,10 +51,12 @@ fn look_at(
     home: usize,
     file: usize,
     source: &SourceTree,
-    block: NameList,
+    block: Block,
 ) -> Result<FileLook, NoMemory>
-    requires { MayBeTold program.now }
-    ensures { IfOk result (IsKeptLook program.now home block (file, source.now)) }
+    requires told { MayBeTold program.now }
+    requires table { HasOwnTable block }
+    ensures look { IfOk result (IsKeptLook program.now home block.names (file, source.now)) }
+    ensures block { IfOk result (λ l. block_in l.tables ≡ block) }
 {
     let Some(tokens) = tokens_at(program, home, file) else {
         return Err(AllocError);
@@ -90,7 +93,7 @@ fn file_origins(
     Ok(table)
 }
 
-/// Adds the rows of the uses that the file keeps, and hands the names of its package's block back.
+/// Adds the rows of the uses that the file keeps, and hands its package's block back.
 fn add_file(
     alloc: Global,
     program: &Program,
@@ -98,13 +101,14 @@ fn add_file(
     home: usize,
     file: usize,
     source: &SourceTree,
-    block: NameList,
+    block: Block,
     rows: &mut Vec<ReportRow>,
-) -> Result<NameList, NoMemory>
+) -> Result<Block, NoMemory>
     requires told { MayBeTold program.now }
     requires there { source_at program.now home file ≡ Some source.now }
+    requires table { HasOwnTable block }
     ensures block { IfOk result (λ b. b ≡ block) }
-    ensures rows { OnOk result (IsFileTold program.now files.now home block (file, source.now)
+    ensures rows { OnOk result (IsFileTold program.now files.now home block.names (file, source.now)
         rows.old.items rows.new.items) }
 {
     let look = look_at(alloc, program, home, file, source, block)?;
@@ -117,9 +121,7 @@ fn add_file(
     };
     add_kept(alloc, &kept, &look.kept, rows)?;
     let FileLook { tables, .. } = look;
-    let FileTables { names, .. } = tables;
-    let FileNames { package, .. } = names;
-    Ok(package)
+    Ok(Block::in_tables(tables))
 }
 
 /// Adds the rows of the uses that the files of the package with this number keep.
@@ -136,8 +138,7 @@ fn add_package(
     let Some(home) = package_at(program, number) else {
         return Err(AllocError);
     };
-    let members = block_members(alloc, number, home)?;
-    let mut block = member_names(alloc, &members)?;
+    let mut block = block_of(alloc, number, home)?;
     for (file, source) in home.files.items().iter().enumerate() {
         block = add_file(alloc, program, files, number, file, source, block, rows)?;
     }

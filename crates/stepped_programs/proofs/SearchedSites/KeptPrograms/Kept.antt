@@ -1,5 +1,5 @@
 -- Programs that are searched.
-use Rattle.std.proofs.Common.{◌≡◌, ◌∙◌, refl, sym, ap, subst, ℕ, zero, suc, ◌<◌, ◌⊎◌, inl, inr, Bool, true, false, nat_eq, All, List, [], ◌∷◌, map, length, get_or, Option, Some, None, arith, slice_set}
+use Rattle.std.proofs.Common.{◌≡◌, ◌∙◌, refl, sym, ap, subst, ℕ, zero, suc, ◌<◌, ◌⊎◌, inl, inr, Bool, true, false, nat_eq, All, List, [], ◌∷◌, length, get_or, Option, Some, arith, slice_set}
 use Rattle.std.specs.Prelude.{slice_get}
 use Rattle.std.proofs.lemmas.Bool.{eqb-true, eqb-false}
 use Rattle.std.proofs.lemmas.List.{length-map, length-set}
@@ -8,26 +8,21 @@ use Rattle.go_tree.specs.declared.spans.Span.{Span}
 use Rattle.go_scan.specs.TokenLists.{TokenLists}
 use Rattle.run_rules.specs.ImportRules.Laid.{CommentsAscend}
 use Rattle.run_rules.proofs.SpliceLaws.ImportSplices.ImportPlaces.CommentsStand.{comments_ascend}
-use Rattle.pkg_graph.specs.Package.{SourceTree, Package}
+use Rattle.pkg_graph.specs.Package.{Package}
 use Rattle.pkg_graph.specs.Reads.{Source}
 use Rattle.pkg_graph.specs.Views.{package_view, source_of}
-use Rattle.pkg_graph.specs.declared.packages.Package as code
-use Rattle.run_rules.specs.Respanned.{source_with, package_with, packages_with}
+use Rattle.run_rules.specs.Respanned.{source_with, package_with}
 use Rattle.run_rules.specs.Sites.{MarkRef}
 use Rattle.run_rules.specs.Steps.{At}
 use Rattle.run_rules.specs.Run.{Standing, here_of}
 use Rattle.constant_steps.proofs.MarksFound.{nth_mapped}
-use Rattle.stepped_programs.specs.declared.package_search.looks.ProgramSources.{ProgramSources}
 use Rattle.stepped_programs.specs.declared.package_search.search.FoundInPackage.{FoundInPackage}
-use Rattle.stepped_programs.specs.PackageSearch.Search.{is_settled, HasNone, IsPackageSearch}
 use Rattle.programs.specs.declared.state.PackageFiles.{PackageFiles}
 use Rattle.programs.specs.declared.state.Program.{Program}
-use Rattle.programs.specs.Kept.{IsKeptFile, AreCounted}
+use Rattle.programs.specs.Kept.{IsKeptFile}
 use Rattle.programs.specs.Programs.{AreKeptFiles, IsProgramOf}
-use Rattle.programs.specs.Users.{Known}
 use Rattle.stepped_programs.specs.PackageSearch.SearchedPrograms.Programs.{IsOpenProgram, IsProgramSearch}
-use Rattle.stepped_programs.specs.PackageSearch.SearchedPrograms.Search.{HasNoneOf, IsUserSearch}
-use Rattle.stepped_programs.specs.SearchedSites.KeptPrograms.Laws.{ProgramsAreOpen, SearchedProgramsStay, SearchesAreOfPackages}
+use Rattle.stepped_programs.specs.SearchedSites.KeptPrograms.Laws.{ProgramsAreOpen, SearchedProgramsStay}
 
 -- ---- lists
 
@@ -181,22 +176,3 @@ module _ (files : List Source) (marks : List MarkRef) (st : Standing) (old new :
 
 pub stay_kept : SearchedProgramsStay
 stay_kept files marks st old new k r is x = after files marks st old new k r is x
-
--- ---- a search over a package
-
-come : (s : ProgramSources) (k : ℕ) (home : code.Package) (tokens : List TokenLists) (users : Known) (i : ℕ) (b : Bool) → (b ≡ true) ⊎ HasNoneOf s k home tokens users i
-    → (b ≡ true) ⊎ HasNone s k home tokens i
-come s k home tokens users i b (inl e) = inl e
-come s k home tokens users i b (inr h) = inr (record { seen = h.seen; look = h.look; none_free = h.none_free })
-
-pub of_packages : SearchesAreOfPackages
-of_packages s k home tokens users old new r x =
-    record {
-      settled =
-          record {
-            size = x.settled.size;
-            stay = x.settled.stay;
-            come = λ i e. come s k home tokens users i (is_settled old i) (x.settled.come i e);
-          };
-      first = x.first;
-    }

@@ -1,17 +1,17 @@
 -- No key stands among the parts of constants and of functions that print them.
-use Rattle.std.proofs.Common.{◌≡◌, ◌∙◌, ℕ, suc, ◌+◌, refl, sym, subst, Bool, true, false, List, [], ◌∷◌, ◌++◌, Option, Some, None, arith}
+use Rattle.std.proofs.Common.{◌≡◌, ℕ, suc, ◌+◌, refl, sym, subst, Bool, true, false, List, [], ◌∷◌, ◌++◌, Option, Some, None, arith}
 use Rattle.std.specs.Prelude.{slice_get}
 use Rattle.go_tree.specs.declared.spans.Span.{Span}
 use Rattle.go_tree.specs.declared.exprs.Rest.TheVariants.{Plain}
-use Rattle.go_tree.specs.Tree.{named, Param, Expr, ident, int_lit, selector, call, Exprs, const_decl, Stmts, ValueSpecs}
-use Rattle.go_tree.specs.File.{Receiver, Decl, values, func}
+use Rattle.go_tree.specs.Tree.{named, Param, Expr, ident, selector, call, Exprs, Stmts, ValueSpecs}
+use Rattle.go_tree.specs.File.{Receiver, Decl}
 use Rattle.repeated_parts.specs.UseSearch.UsesOfMarks.Laws.{IsSound, EachSound}
 use Rattle.member_uses.specs.Laws.{NoKeyIsMarked}
 use Rattle.member_uses.specs.Uses.{Used, Names, used, name_alone, type_package, package_at, import_at, part_uses, member_uses}
 use Rattle.go_tree.specs.GoTypes.Answers.{given}
 use Rattle.pkg_graph.specs.Package.{Package}
 use Rattle.member_uses.specs.PossibleUses.Candidates.{Candidate, plain_part}
-use Rattle.member_uses.specs.PossibleUses.Parts.{put, put_selector, after_expr, after_exprs, after_params, after_receiver, after_sig, after_specs, after_stmts, after_decl, parts_of}
+use Rattle.member_uses.specs.PossibleUses.Parts.{put, put_selector, after_expr, after_exprs, after_params, after_receiver, after_sig, after_specs, after_stmts, parts_of}
 use Rattle.run_rules.specs.Run.{Standing, here_of}
 use Rattle.run_rules.specs.Sites.{MarkRef, Where, Part, an_expr, a_type_part}
 use Rattle.run_rules.specs.Steps.{At}

@@ -1,6 +1,6 @@
 -- A declaration of the package block before a step and after it.
-use Rattle.std.proofs.Common.{◌≡◌, ◌∙◌, refl, ap, subst, ℕ, suc, Bool, true, List, [], ◌∷◌, ◌++◌, map, Option, Some, None}
-use Rattle.go_tree.specs.Tree.{NameAt, named, const_decl, var_decl, Expr, ident, int_lit, rune_lit, str_lit, composite, selector, index, slice, call, func_lit, type_operand, unary, binary, star, ValueSpecs, no_specs, spec}
+use Rattle.std.proofs.Common.{refl, ℕ, suc, Bool, List, [], ◌∷◌, ◌++◌, map, Option, Some, None}
+use Rattle.go_tree.specs.Tree.{named, const_decl, var_decl, Expr, ident, int_lit, rune_lit, str_lit, composite, selector, index, slice, call, func_lit, type_operand, unary, binary, star, ValueSpecs, no_specs, spec}
 use Rattle.go_tree.specs.File.{TypeSpec, Receiver, Func, Decl, values, types, func, File}
 use Rattle.pkg_graph.specs.Package.{Package}
 use Rattle.constant_forms.specs.Views.{name_expr}

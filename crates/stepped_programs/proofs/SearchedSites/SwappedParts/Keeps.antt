@@ -1,11 +1,11 @@
 -- What holds for the spans of all parts still does once they are swapped.
-use Rattle.std.proofs.Common.{◌≡◌, ◌∙◌, refl, sym, ap, subst, ℕ, Bool, true, List, [], ◌∷◌, ◌++◌, map, Option, Some, None}
+use Rattle.std.proofs.Common.{◌≡◌, ◌∙◌, sym, ap, subst, ℕ, Bool, true, List, [], ◌∷◌, ◌++◌, map, Option, Some, None}
 use Rattle.std.proofs.lemmas.List.{map-append}
 use Rattle.go_tree.specs.Tree.{Expr}
 use Rattle.constant_forms.specs.Views.{name_expr}
 use Rattle.member_uses.specs.PossibleUses.Candidates.{Candidate}
 use Rattle.member_uses.specs.PossibleUses.Parts.{after_expr}
-use Rattle.run_rules.specs.Sites.{Part, part_span}
+use Rattle.run_rules.specs.Sites.{part_span}
 use Rattle.run_rules.specs.Steps.{At}
 use Rattle.stepped_programs.specs.SearchedSites.SwappedParts.Swaps.{PartsSwap, EachSpan, parts_in, spans_in}
 use Rattle.stepped_programs.specs.SearchedSites.SwappedParts.Laws.{SwapsKeep}

@@ -1,11 +1,11 @@
 -- Lists of parts before a step and after it.
-use Rattle.std.proofs.Common.{◌≡◌, ◌∙◌, ◌⊎◌, inl, inr, refl, sym, ap, subst, Bool, true, false, if◌then◌else◌, List, [], ◌∷◌, ◌++◌, map, Option, Some, None, append_assoc}
+use Rattle.std.proofs.Common.{◌≡◌, ◌∙◌, ◌⊎◌, inl, inr, refl, sym, ap, subst, Bool, true, false, if◌then◌else◌, List, [], ◌∷◌, ◌++◌, map, Some, None, append_assoc}
 use Rattle.std.proofs.lemmas.List.{append-nil, map-append}
-use Rattle.go_tree.specs.Tree.{NameAt, TypeExpr, named, pointer, slice_type, map_type, struct_type, Fields, no_fields, field, Param, Sig, Expr, ident, int_lit, rune_lit, str_lit, composite, selector, index, slice, call, func_lit, type_operand, unary, binary, star, Stmt}
+use Rattle.go_tree.specs.Tree.{NameAt, TypeExpr, named, pointer, slice_type, map_type, struct_type, Fields, no_fields, field, Expr, ident, selector, Stmt}
 use Rattle.go_tree.specs.GoTypes.Answers.{otherwise}
 use Rattle.printed_constants.specs.TypedParts.StandingUses.ImportUses.Parts.{EachSeen, IsElsewhere, IsKeyed, StandsOnce, here, later}
 use Rattle.printed_constants.proofs.TypedParts.StandingUses.ImportUses.Walk.{IsForm, a_form, a_qualified}
-use Rattle.member_uses.specs.PossibleUses.Candidates.{Candidate, plain_part, key_part}
+use Rattle.member_uses.specs.PossibleUses.Candidates.{Candidate, plain_part}
 use Rattle.member_uses.specs.PossibleUses.Parts.{put, put_selector, after_type, after_fields, after_expr}
 use Rattle.run_rules.specs.Sites.{Part, an_expr, a_type_part, part_span}
 use Rattle.run_rules.specs.Surroundings.{Use, stored, Place, Seen, seen, seen_type, seen_stmt, is_old}

@@ -1,30 +1,28 @@
 -- A walk over a declaration before a step and after it: its parts are swapped.
-use Rattle.std.proofs.Common.{◌≡◌, ◌∙◌, refl, sym, ap, subst, ℕ, suc, ◌+◌, Bool, true, false, if◌then◌else◌, List, [], ◌∷◌, ◌++◌, map, Option, Some, None}
+use Rattle.std.proofs.Common.{◌≡◌, ◌∙◌, refl, sym, ap, ℕ, suc, Bool, true, false, if◌then◌else◌, List, [], ◌∷◌, ◌++◌, map, Option, Some, None}
 use Rattle.std.proofs.lemmas.List.{map-append}
 use Rattle.go_tree.specs.GoTypes.Types.{GoType}
 use Rattle.go_tree.specs.Tree.{NameAt, Param, Sig, TypeExpr, Expr, ident, int_lit, rune_lit, str_lit, composite, selector, index, slice, call, func_lit, type_operand, unary, binary, star, Exprs, no_exprs, expr_and, ExprOption, no_expr, some_expr, Elems, no_elems, elem, Value, plain, braced, ValueOption, no_value, some_value, Stmt, const_decl, var_decl, empty, eval, step, assign, define, return_, break_, continue_, inner, if_, for_, range_, switch, defer, label, Stmts, no_stmts, stmt_and, StmtOption, no_stmt, some_stmt, BlockOption, no_block, some_block, RangeLeft, nothing, assigns, defines, Arms, no_arms, arm, Cases, no_cases, case, ValueSpecs, no_specs, spec}
-use Rattle.go_tree.specs.GoWords.Terminals.{level_of}
 use Rattle.go_tree.specs.GoTypes.Answers.{given, meets, otherwise}
 use Rattle.go_tree.specs.GoTypes.Defined.{under}
 use Rattle.go_tree.specs.GoTypes.Entities.{defined_in}
 use Rattle.go_tree.specs.GoTypes.TypeNames.{type_meant}
 use Rattle.go_tree.specs.GoTypes.Typing.{parts, all_parts}
-use Rattle.go_tree.specs.GoTypes.Literals.{is_struct, literal_type}
+use Rattle.go_tree.specs.GoTypes.Literals.{is_struct}
 use Rattle.go_tree.specs.GoTypes.Bodies.{labelled}
 use Rattle.go_tree.specs.GoTypes.Declarations.{Repeated, nothing_to_repeat}
-use Rattle.run_rules.specs.Surroundings.{Use, stored, whole, updated, called, deferred_call, alone, other, a_slot, Place, Seen, seen, seen_type, seen_stmt, alike, into_type, head_use, later_uses, arg_uses, unary_use, operand_use, first_operand_use, right_uses, every_use, value_use, return_uses, elem_use, key_use, inner_slot, last_slot, in_slot, callee_place, comma_slot, after_stmt, after_first, block, looping, switching, in_heading, at_stmt, plain_slot, ranged, in_literal, repeated_by, in_constant, after_constants, before_repeats, after_variables, elem_closed}
-use Rattle.run_rules.specs.Places.{type_seen, written_seen, params_seen, sig_seen, old_seen, after_arms, expr_seen, all_seen, option_seen, elems_seen, key_seen, value_seen, stmt_seen, stmts_seen, first_seen, block_seen, left_seen, arms_seen, cases_seen, constants_seen, variables_seen}
-use Rattle.run_rules.specs.Rewriting.{Changes, new_name, new_names, new_written, new_params, new_sig, new_expr, new_all, new_option, new_elems, new_key, new_value, new_stmt, new_stmts, new_first, new_block, new_left, new_arms, new_cases, new_constants, new_variables}
+use Rattle.run_rules.specs.Surroundings.{Use, updated, called, deferred_call, alone, other, a_slot, Place, Seen, seen, seen_type, seen_stmt, alike, head_use, later_uses, arg_uses, value_use, elem_use, key_use, inner_slot, in_slot, callee_place, comma_slot, after_stmt, after_first, block, looping, switching, in_heading, at_stmt, plain_slot, ranged, in_literal, repeated_by, in_constant, after_constants, before_repeats, after_variables, elem_closed}
+use Rattle.run_rules.specs.Places.{written_seen, params_seen, sig_seen, after_arms, expr_seen, all_seen, option_seen, elems_seen, key_seen, value_seen, stmt_seen, stmts_seen, first_seen, block_seen, left_seen, arms_seen, cases_seen, constants_seen, variables_seen}
+use Rattle.run_rules.specs.Rewriting.{Changes, new_name, new_written, new_params, new_sig, new_expr, new_all, new_option, new_elems, new_key, new_value, new_stmt, new_stmts, new_first, new_block, new_left, new_arms, new_cases, new_constants, new_variables}
 use Rattle.run_rules.specs.Respanned.{value_with}
 use Rattle.run_rules.specs.Sites.{an_expr, part_span}
-use Rattle.printed_constants.specs.TypedParts.StandingUses.ImportUses.Parts.{EachSeen, IsElsewhere, IsKeyed, StandsOnce}
 use Rattle.printed_constants.proofs.TypedParts.StandingUses.ImportUses.Stays.{change}
 use Rattle.printed_constants.proofs.TypedParts.StandingUses.ImportUses.Walk.{IsForm}
 use Rattle.member_uses.specs.PossibleUses.Among.{ElemsKeyed, KeyKeyed, ValueKeyed}
 use Rattle.member_uses.specs.PossibleUses.Candidates.{Candidate, plain_part, key_part}
 use Rattle.member_uses.specs.PossibleUses.Parts as after
 use Rattle.member_uses.specs.PossibleUses.Parts.{put, put_selector, after_type, after_type_option, after_params, after_sig, after_expr, after_exprs, after_expr_option, after_elems, after_key, after_value, after_stmts, after_stmt_option, after_block_option, after_left, after_cases, after_specs}
-use Rattle.stepped_programs.specs.SearchedSites.SwappedParts.Swaps.{parts_in, spans_in, PartsSwap, HasNoDot}
+use Rattle.stepped_programs.specs.SearchedSites.SwappedParts.Swaps.{parts_in, spans_in, PartsSwap}
 use Rattle.stepped_programs.proofs.SearchedSites.SwappedParts.Lists as lists
 use Rattle.stepped_programs.proofs.SearchedSites.SwappedParts.Lists.{Asked, Goes}
 

@@ -17,7 +17,7 @@ use Rattle.run_rules.specs.Respanned.{decl_with, decls_with, expr_with, file_wit
 use Rattle.run_rules.specs.Run.{Standing, here_of, origin_of}
 use Rattle.run_rules.specs.Sites.{MarkRef, Part, an_expr, a_type_part, a_constant, Site, inlinable, part_span, sites}
 use Rattle.run_rules.specs.Steps.{At}
-use Rattle.run_rules.specs.Surroundings.{Place, Seen, seen}
+use Rattle.run_rules.specs.Surroundings.{Place, seen}
 use Rattle.run_rules.specs.Texts.{FileText}
 use Rattle.printed_constants.specs.TypedParts.StandingUses.ImportUses.Parts as parts
 use Rattle.printed_constants.specs.TypedParts.StandingUses.ImportUses.Parts.{IsName}

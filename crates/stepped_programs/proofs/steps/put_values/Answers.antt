@@ -14,4 +14,4 @@ returns-clause-here c = λ home source h s b.
     let own : c.index-packages-at.result ≡ home = c.index-packages-at.is ∙ get_or_from_slice_get ps k home c.index-packages-at.result h in
     let there : slice_get c.items.result.now i ≡ Some source = ap (λ (fs : List SourceTree). slice_get fs i) (c.items.ensures ∙ ap (λ (p : Package). p.files) own) ∙ s in
     subst (λ (x : SourceTree). HasFileValues ps k home i x c.fill_source.new.values) (c.index-items-at.is ∙ get_or_from_slice_get c.items.result.now i source c.index-items-at.result there)
-    (c.in_ok-fill_source.ensures.here home b)
+    (c.in_ok-block.ensures.here home b)

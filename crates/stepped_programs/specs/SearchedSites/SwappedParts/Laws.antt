@@ -2,7 +2,7 @@
 -- declarations; Operands; Qualified identifiers; Selectors).
 use Rattle.std.specs.Prelude.{◌≡◌, ℕ, Bool, true, List, Option}
 use Rattle.go_tree.specs.Tree.{NameAt, Expr, ident}
-use Rattle.go_tree.specs.File.{Decl, File}
+use Rattle.go_tree.specs.File.{Decl}
 use Rattle.pkg_graph.specs.Package.{Package}
 use Rattle.constant_forms.specs.Views.{name_expr}
 use Rattle.printed_constants.specs.TypedParts.StandingUses.ImportUses.Parts.{EachSeen, IsName, StandsOnce}

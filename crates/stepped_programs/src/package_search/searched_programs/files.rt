@@ -5,14 +5,14 @@ ghost use Rattle.std.specs.List.{list_all};
 ghost use Rattle.run_rules.specs.ImportRules.Laid.{CommentsAscend};
 ghost use Rattle.file_names.specs.Imports.{FindsPackages};
 ghost use Rattle.programs.specs.Users.{AreItsUses};
+ghost use Rattle.stepped_programs.specs.HeldBlocks.{HoldsBlock, IsHeldNext, IsHeldOf};
 ghost use Rattle.stepped_programs.specs.PackageSearch.SearchedPrograms.Search.{IsUserSearch, Keeps};
 
+use crate::held_blocks::{HeldBlock, taken_block};
 use crate::package_search::{FileLook, FoundInPackage, ProgramSources, look_at_file};
-use file_names::{block_members, member_names};
-use file_tables::FileTables;
+use file_tables::Block;
 use go_scan::Tokens;
 use go_tree::NoMemory;
-use go_tree::scope_names::FileNames;
 use pkg_graph::Package;
 use programs::Users;
 use repeated_parts::use_search::FoundObstacle;
@@ -41,9 +41,10 @@ fn all_settled(settled: &[bool]) -> bool
     settled.iter().all(|flag| *flag)
 }
 
-/// The first use that is free in the files of the package with this number, as package_search's `search_package`: the
-/// files that are looked at and have none are settled from now on, and are users of the constants whose uses they
-/// keep. The names of the package's block are listed only where a file isn't settled.
+/// The first use that is free in the files of the package with this number, whose tokens and comments these are.
+/// `settled` says of which files it is known that none of their uses is free: these aren't looked at, and those that are
+/// looked at and have none come to them, and are users of the constants whose uses they keep. The package's block is
+/// asked for only where a file isn't settled, and held where no use is free. An error where memory is refused.
 pub(crate) fn search_files(
     alloc: Global,
     program: &ProgramSources,
@@ -52,20 +53,23 @@ pub(crate) fn search_files(
     tokens: &[Tokens],
     settled: &mut [bool],
     users: &mut Users,
+    held: &mut Option<HeldBlock>,
 ) -> Result<Option<FoundInPackage>, NoMemory>
     requires places { FindsPackages program.now.places.now program.now.packages.now }
     requires ascend { All (λ t. CommentsAscend 0 t.comments) tokens.now }
     requires tokens { length tokens.now ≡ length home.now.files }
     requires settled { length settled.old ≡ length home.now.files }
+    requires held { IsHeldOf number home.now held.old }
     ensures search { IfOk result
         (IsUserSearch program.now number home.now tokens.now users.new settled.old settled.new) }
     ensures keeps { OnOk result (Keeps users.old users.new) }
+    ensures held { OnOk result (IsHeldNext number home.now held.old held.new) }
+    ensures found { IfOk result HoldsBlock }
 {
     if all_settled(settled) {
         return Ok(None);
     }
-    let members = block_members(alloc, number, home)?;
-    let mut block = member_names(alloc, &members)?;
+    let mut block = taken_block(alloc, number, home, held)?;
     for (file, source) in home.files.items().iter().enumerate() {
         if settled[file] {
             continue;
@@ -81,9 +85,11 @@ pub(crate) fn search_files(
         }
         add_users(users, (number, file), &kept)?;
         settled[file] = true;
-        let FileTables { names, .. } = tables;
-        let FileNames { package, .. } = names;
-        block = package;
+        block = Block::in_tables(tables);
     }
+    *held = Some(HeldBlock {
+        home: number,
+        block,
+    });
     Ok(None)
 }

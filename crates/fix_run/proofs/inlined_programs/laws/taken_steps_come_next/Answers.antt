@@ -1,10 +1,15 @@
-use Rattle.fix_run.proofs.InlinedPrograms.NextSteps.{come_next, limits_stop, runs_are_over}
+use Rattle.fix_run.proofs.InlinedPrograms.NextSteps.{come_next, keep_blocks, limits_stop, runs_are_over}
 use Rattle.fix_run.proofs.inlined_programs.laws.taken_steps_come_next.Goals as goal
 
 pub returns-clause-next : goal.returns-clause-next
 returns-clause-next c =
     come_next c.steps_are_logged.ensures c.first_uses_come_next.ensures.stay c.first_uses_come_next.ensures.found c.first_uses_come_next.ensures.come c.use_steps_go_on.ensures.file
-    c.steps_stay_on_the_way.ensures c.rows_tell.ensures.step
+    c.steps_stay_on_the_way.ensures.stay c.rows_tell.ensures.step
+
+pub returns-clause-blocks : goal.returns-clause-blocks
+returns-clause-blocks c =
+    keep_blocks c.steps_are_logged.ensures c.first_uses_come_next.ensures.stay c.first_uses_come_next.ensures.found c.first_uses_come_next.ensures.come c.use_steps_go_on.ensures.file
+    c.steps_stay_on_the_way.ensures.blocks
 
 pub returns-clause-limit : goal.returns-clause-limit
 returns-clause-limit c =

@@ -3,7 +3,7 @@ use Rattle.fix_run.proofs.inlined_programs.taken.take_step.Goals as goal
 
 pub made_step-requires-clause-read : goal.made_step-requires-clause-read
 made_step-requires-clause-read c =
-    c.requires.read c.in-Ok.log c.progress_before-progress.result (record { log = c.in-Ok.ensures; progress_is = c.progress_before-progress.ensures })
+    c.requires.may.read c.in-Ok.log c.progress_before-progress.result (record { log = c.in-Ok.ensures; progress_is = c.progress_before-progress.ensures })
 
 pub returns-in-Err-clause-refused : goal.returns-in-Err-clause-refused
 returns-in-Err-clause-refused c =
@@ -12,11 +12,11 @@ returns-in-Err-clause-refused c =
 
 pub put_taken-requires-clause-put : goal.put_taken-requires-clause-put
 put_taken-requires-clause-put c =
-    c.requires.put c.in-Ok.log c.progress_before-progress.result c.in-Ok-made_step.made (record { log = c.in-Ok.ensures; progress_is = c.progress_before-progress.ensures })
+    c.requires.may.put c.in-Ok.log c.progress_before-progress.result c.in-Ok-made_step.made (record { log = c.in-Ok.ensures; progress_is = c.progress_before-progress.ensures })
     c.in-Ok-made_step.ensures.made
 
 pub put_taken-requires-clause-of_origin : goal.put_taken-requires-clause-of_origin
-put_taken-requires-clause-of_origin c = c.requires.of_origin c.in-Ok.log.offset
+put_taken-requires-clause-of_origin c = c.requires.may.of_origin c.in-Ok.log.offset
 
 pub returns-in-Ok-put_taken-clause-taken : goal.returns-in-Ok-put_taken-clause-taken
 returns-in-Ok-put_taken-clause-taken c =
@@ -26,5 +26,5 @@ returns-in-Ok-put_taken-clause-taken c =
       comes = record { log = c.in-Ok.ensures; progress_is = c.progress_before-progress.ensures };
       step = c.in-Ok-made_step.made;
       is_step = c.in-Ok-made_step.ensures.made;
-      put = c.in-Ok-put_taken.ensures;
+      put = c.in-Ok-put_taken.ensures.put;
     }

@@ -1,4 +1,4 @@
-use Rattle.std.proofs.Common.{[], List, arith, not, Bool, true, false, ◌≡◌, ◌∙◌, refl, sym, ap, subst}
+use Rattle.std.proofs.Common.{[], List, arith, not, Bool, true, false, ◌≡◌, ◌∙◌, refl, sym, subst}
 use Rattle.go_tree.specs.declared.spans.Span.{Span}
 use Rattle.stepped_programs.specs.RunReports.Kept.{uses_once}
 use Rattle.stepped_programs.specs.RunReports.Rows.{AddsRow, IsKeptRow}

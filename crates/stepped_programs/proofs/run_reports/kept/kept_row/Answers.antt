@@ -1,4 +1,4 @@
-use Rattle.std.proofs.Common.{◌∙◌, refl, sym, ap, arith}
+use Rattle.std.proofs.Common.{◌∙◌, refl, sym, arith}
 use Rattle.constant_forms.specs.Views.{obstacle_of}
 use Rattle.report_order.specs.ReportWords.Words.{kept_text}
 use Rattle.stepped_programs.proofs.RunReports.Made.{row_as}

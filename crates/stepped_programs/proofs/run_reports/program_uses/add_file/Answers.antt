@@ -1,15 +1,15 @@
-use Rattle.std.proofs.Common.{refl}
+use Rattle.std.proofs.Common.{◌∙◌}
 use Rattle.stepped_programs.proofs.RunReports.Made.{adds_as}
 use Rattle.stepped_programs.proofs.run_reports.program_uses.add_file.Goals as goal
 
 pub returns-clause-block : goal.returns-clause-block
-returns-clause-block c = c.in_ok-look.ensures.look.block_stays
+returns-clause-block c = c.in_tables.ensures ∙ c.in_ok-look.ensures.block
 
 pub returns-clause-rows : goal.returns-clause-rows
 returns-clause-rows c =
     record {
       seen = c.in_ok-look.look;
-      look = c.in_ok-look.ensures;
+      look = c.in_ok-look.ensures.look;
       table = c.in_ok-origins.origins;
       origins = c.in_ok-origins.ensures;
       added =

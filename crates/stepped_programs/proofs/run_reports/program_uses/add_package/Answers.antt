@@ -1,8 +1,7 @@
-use Rattle.std.proofs.Common.{◌∙◌, ◌≤◌, List, ℕ, refl, sym, ap, subst, map, length, option_copied, arith}
-use Rattle.pkg_graph.specs.Views.{package_view}
+use Rattle.std.proofs.Common.{◌∙◌, List, ℕ, refl, sym, ap, subst, option_copied, arith}
 use Rattle.pkg_graph.specs.declared.packages.SourceTree.{SourceTree}
-use Rattle.file_names.specs.declared.members.Member.{Member}
-use Rattle.file_names.proofs.MemberLaws.{block_named}
+use Rattle.file_tables.specs.Blocks.{HasOwnTable}
+use Rattle.file_tables.specs.declared.blocks.Block.{Block}
 use Rattle.run_rules.specs.Programs.{numbered}
 use Rattle.stepped_programs.specs.RunReports.Kept.{IsFileTold}
 use Rattle.stepped_programs.specs.RunReports.Rows.{InTurn}
@@ -14,7 +13,8 @@ pub loop-file-init : goal.loop-file-init
 loop-file-init c =
     record {
       same = refl;
-      rows = turns_begin (IsFileTold c.args.program.now c.args.files.now c.args.number c.in_ok-block.block) (numbered c.items-source-items.result.now) c.args.rows.now.items;
+      table = c.in_ok-block.ensures.table;
+      rows = turns_begin (IsFileTold c.args.program.now c.args.files.now c.args.number c.in_ok-block.block.names) (numbered c.items-source-items.result.now) c.args.rows.now.items;
     }
 
 pub add_file-requires-clause-there : goal.add_file-requires-clause-there
@@ -25,9 +25,10 @@ add_file-requires-clause-there c =
 pub loop-file-preserved : goal.loop-file-preserved
 loop-file-preserved c =
     record {
-      same = c.in_ok-block-2.ensures.block ∙ c.loop-file.invariant.same;
+      same = ap (λ (b : Block). b.names) c.in_ok-block-2.ensures.block ∙ c.loop-file.invariant.same;
+      table = subst HasOwnTable (sym c.in_ok-block-2.ensures.block) c.loop-file.invariant.table;
       rows =
-          number_more (IsFileTold c.args.program.now c.args.files.now c.args.number c.in_ok-block.block) c.items-source-items.result.now c.loop-file.file c.source-item.result
+          number_more (IsFileTold c.args.program.now c.args.files.now c.args.number c.in_ok-block.block.names) c.items-source-items.result.now c.loop-file.file c.source-item.result
           c.args.rows.now.items c.loop-file.rows.items c.add_file.new.rows.items c.loop-file-test.true c.source-item.is c.loop-file.invariant.rows
           (subst (λ (names : List (List ℕ)). IsFileTold c.args.program.now c.args.files.now c.args.number names (c.loop-file.file, c.source-item.result) c.loop-file.rows.items c.add_file.new.rows.items)
           c.loop-file.invariant.same c.in_ok-block-2.ensures.rows);
@@ -38,13 +39,11 @@ returns c =
     record {
       home = c.in-Some.home.now;
       home_is = sym c.package_at.ensures ∙ ap option_copied c.in-Some.is;
-      block = c.in_ok-block.block;
-      block_is =
-          c.in_ok-block.ensures ∙ ap (map (λ (m : Member). m.name)) c.deref.ensures.value
-          ∙ block_named c.args.number (package_view c.in-Some.home.now) c.in_ok-members.members.items c.in_ok-members.ensures;
+      block = c.in_ok-block.block.names;
+      block_is = c.in_ok-block.ensures.names;
       files =
-          subst (λ (fs : List SourceTree). InTurn (IsFileTold c.args.program.now c.args.files.now c.args.number c.in_ok-block.block) (numbered fs) c.args.rows.now.items c.loop-file.rows.items)
+          subst (λ (fs : List SourceTree). InTurn (IsFileTold c.args.program.now c.args.files.now c.args.number c.in_ok-block.block.names) (numbered fs) c.args.rows.now.items c.loop-file.rows.items)
           c.items-source-items.ensures
-          (number_all (IsFileTold c.args.program.now c.args.files.now c.args.number c.in_ok-block.block) c.items-source-items.result.now c.loop-file.file c.args.rows.now.items
+          (number_all (IsFileTold c.args.program.now c.args.files.now c.args.number c.in_ok-block.block.names) c.items-source-items.result.now c.loop-file.file c.args.rows.now.items
           c.loop-file.rows.items (omega (arith, c.loop-file-test.false)) c.loop-file.invariant.rows);
     }

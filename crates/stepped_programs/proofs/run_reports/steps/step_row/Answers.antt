@@ -1,4 +1,4 @@
-use Rattle.std.proofs.Common.{◌∙◌, option_copied, refl, sym, ap}
+use Rattle.std.proofs.Common.{◌∙◌, option_copied, sym, ap}
 use Rattle.run_rules.specs.FormTrees.{ConstForm}
 use Rattle.report_order.specs.ReportWords.Words.{inlined_text}
 use Rattle.stepped_programs.proofs.RunReports.Made.{row_as}

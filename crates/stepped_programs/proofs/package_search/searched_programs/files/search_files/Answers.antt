@@ -1,7 +1,6 @@
-use Rattle.std.proofs.Common.{◌∙◌, ◌<◌, ap, map, refl, length, slice_set, subst, true, arith, List}
-use Rattle.pkg_graph.specs.Views.{package_view}
-use Rattle.file_names.specs.declared.members.Member.{Member}
-use Rattle.file_names.proofs.MemberLaws.{block_named}
+use Rattle.std.proofs.Common.{◌∙◌, ◌<◌, sym, ap, refl, length, slice_set, subst, true, arith, List}
+use Rattle.file_tables.specs.Blocks.{HasOwnTable}
+use Rattle.file_tables.specs.declared.blocks.Block.{Block}
 use Rattle.stepped_programs.specs.PackageSearch.Search.{LookAt}
 use Rattle.stepped_programs.proofs.PackageSearch.Settled.{more_before, look_there}
 use Rattle.programs.specs.Users.{AreItsUses}
@@ -13,9 +12,8 @@ use Rattle.stepped_programs.proofs.package_search.searched_programs.files.search
 pub loop-file-init : goal.loop-file-init
 loop-file-init c =
     record {
-      block =
-          c.in_ok-block.ensures ∙ ap (map (λ (m : Member). m.name)) c.deref.ensures.value
-          ∙ block_named c.args.number (package_view c.args.home.now) c.in_ok-members.members.items c.in_ok-members.ensures;
+      block = c.in_ok-block.ensures.block.names;
+      table = c.in_ok-block.ensures.block.table;
       settled = same_settled c.args.program.now c.args.number c.args.home.now c.args.tokens.now c.args.users.now c.args.settled.now;
       keeps = keeps_self c.args.users.now;
       before = λ i l. absurd (omega (arith, l));
@@ -30,8 +28,8 @@ returns-in-Some-clause-search c =
             seen = c.in_ok-look.look;
             look =
                 look_there c.args.program.now c.args.number c.args.home.now c.args.tokens.now c.items-source-items.result.now c.loop-file.file c.source-item.result
-                c.index-tokens-file.result c.loop-file.block c.in_ok-look.look c.items-source-items.ensures c.loop-file-test.true c.source-item.is c.requires.tokens
-                c.index-tokens-file.is c.loop-file.invariant.block c.in_ok-look.ensures;
+                c.index-tokens-file.result c.loop-file.block.names c.in_ok-look.look c.items-source-items.ensures c.loop-file-test.true c.source-item.is c.requires.tokens
+                c.index-tokens-file.is c.loop-file.invariant.block c.in_ok-look.ensures.look;
             is_free = c.in-Some.is;
             tables_are = refl;
             before = c.loop-file.invariant.before;
@@ -44,12 +42,13 @@ loop-file-preserved c =
     omega (arith, c.loop-file-test.true, c.loop-file.invariant.settled.size, c.requires.settled, ap length c.items-source-items.ensures) in
     let look : LookAt c.args.program.now c.args.number c.args.home.now c.args.tokens.now c.loop-file.file c.in_ok-look.look =
     look_there c.args.program.now c.args.number c.args.home.now c.args.tokens.now c.items-source-items.result.now c.loop-file.file c.source-item.result
-    c.index-tokens-file.result c.loop-file.block c.in_ok-look.look c.items-source-items.ensures c.loop-file-test.true c.source-item.is c.requires.tokens
-    c.index-tokens-file.is c.loop-file.invariant.block c.in_ok-look.ensures in
+    c.index-tokens-file.result c.loop-file.block.names c.in_ok-look.look c.items-source-items.ensures c.loop-file-test.true c.source-item.is c.requires.tokens
+    c.index-tokens-file.is c.loop-file.invariant.block c.in_ok-look.ensures.look in
     let used : AreItsUses c.add_users.new.users (c.args.number, c.loop-file.file) c.in_ok-look.look.kept.items =
-    subst (λ (ks : List FoundObstacle). AreItsUses c.add_users.new.users (c.args.number, c.loop-file.file) ks) c.deref-in-loop-file.ensures.value c.in_ok-add_users.ensures.used in
+    subst (λ (ks : List FoundObstacle). AreItsUses c.add_users.new.users (c.args.number, c.loop-file.file) ks) c.deref.ensures.value c.in_ok-add_users.ensures.used in
     record {
-      block = c.in_ok-look.ensures.block_stays ∙ c.loop-file.invariant.block;
+      block = ap (λ (b : Block). b.names) (c.in_tables-block.ensures ∙ c.in_ok-look.ensures.block) ∙ c.loop-file.invariant.block;
+      table = subst HasOwnTable (sym (c.in_tables-block.ensures ∙ c.in_ok-look.ensures.block)) c.loop-file.invariant.table;
       settled =
           one_settled c.args.program.now c.args.number c.args.home.now c.args.tokens.now c.loop-file.users c.add_users.new.users c.args.settled.now c.loop-file.settled
           (slice_set c.loop-file.settled c.loop-file.file true) c.loop-file.file h refl c.in_ok-add_users.ensures.keeps

@@ -1,4 +1,4 @@
-use Rattle.std.proofs.Common.{◌∙◌, sym, ap, not, refl}
+use Rattle.std.proofs.Common.{◌∙◌, sym, ap, not}
 use Rattle.std.specs.List.{list_any}
 use Rattle.run_rules.specs.ImportRules.Removed.{same_span, span_at}
 use Rattle.stepped_programs.proofs.RunReports.SpanSets.{spans_of, any_span, span_added}
