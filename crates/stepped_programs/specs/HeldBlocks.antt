@@ -24,7 +24,7 @@ IsHeldIn packages held =
 
 -- What is held after a package is searched: what was held before, or its block.
 abbrev pub IsHeldNext : ℕ → Package → Option HeldBlock → Option HeldBlock → Type 0
-IsHeldNext number home old new = 
+IsHeldNext number home old new =
     (h : HeldBlock) → new ≡ Some h → (old ≡ Some h) ⊎ ((h.home ≡ number) × IsBlock home h.block)
 
 -- The tables of the use that is found have the table of its package's block.

@@ -39,8 +39,8 @@ loop-at-preserved c =
     record {
       so_far =
           none_there c.args.program.now c.loop-at.program c.search_program.new.program c.loop-at.at c.index.result.now c.loop-at.invariant.so_far
-    (number_read c.args.program.now c.loop-at.program c.loop-at.at c.index.result.now c.loop-at.invariant.so_far.changes h c.index.ensures)
-    c.in_ok-searched.searched c.in_ok-searched.ensures.search c.in_default.is;
+          (number_read c.args.program.now c.loop-at.program c.loop-at.at c.index.result.now c.loop-at.invariant.so_far.changes h c.index.ensures)
+          c.in_ok-searched.searched c.in_ok-searched.ensures.search c.in_default.is;
       held =
           subst (λ (p : Program). IsHeldIn p.packages.items c.search_program.new.held) c.loop-at.invariant.so_far.changes.rest c.in_ok-searched.ensures.held;
     }
