@@ -4,7 +4,8 @@ ghost use Rattle.std.specs.Prelude.{◌≡◌, ℕ, List, [], Option, None, opti
 ghost use Rattle.go_tree.specs.declared.scope_names.names.Entity.TheVariants.{Local};
 ghost use Rattle.go_tree.specs.ScopeNames.Means.{or_else};
 ghost use Rattle.scope_tables.specs.NamedScopes.{innermost};
-ghost use Rattle.scope_tables.specs.Table.{captured_in, declared_in, locals_in, meaning_in, outside_in, part_of, table_of};
+ghost use Rattle.scope_tables.specs.Table.{captured_in, declared_in, locals_in, meaning_in, outside_in};
+ghost use Rattle.scope_tables.specs.Table.{part_of, table_of};
 
 use crate::blocks::BlockTable;
 use crate::rows::{Row, Rows, outside_at};

@@ -91,9 +91,9 @@ pub fn step_origins(
 
 /// Puts the file that a step made in the place of the old one: its tree, its text with tokens and comments, the origins
 /// of the declaration at the place (`step_origins`), and what the file's constants are declared as, by its package's
-/// block, which is handed back. Files that use a constant of the declaration are looked at again, and the packages stand
-/// in dependency order. An error where memory is refused, or where the file has 2^32 imports; the program is of no use
-/// then.
+/// block, which is handed back. Files that use a constant of the declaration are looked at again, and the packages
+/// stand in dependency order. An error where memory is refused, or where the file has 2^32 imports; the program is of
+/// no use then.
 ///
 /// Linear in the file, with one look-up for each file and three for each import.
 pub fn put_step(

@@ -57,8 +57,8 @@ pub fn steps_may_be_taken()
 }
 
 /// Once it is made it is the next step of the run, and its row tells of it (`next`), and its package's block has the
-/// names that it had (`blocks`); where it passes a limit, the next step of the run does, in that file (`limit`); and where
-/// no use is free, the run is at its end (`end`).
+/// names that it had (`blocks`); where it passes a limit, the next step of the run does, in that file (`limit`); and
+/// where no use is free, the run is at its end (`end`).
 pub fn taken_steps_come_next()
     ensures next { TakenStepsComeNext }
     ensures blocks { TakenStepsKeepBlocks }

@@ -21,8 +21,8 @@ use stepped_programs::{HeldBlock, first_use, first_uses_keep_programs};
 ///
 /// `TooLarge` comes exactly where the step passes a limit of the run, and tells the first and the file; the program
 /// stands before the step then. After `NoMemory` it is of no use. What is held is the block of the package that was
-/// looked at last, before the step and after it. See stepped_programs' `first_use`, `step_use` and `put_step` for what a
-/// step takes (Go specification, Constant declarations; Import declarations).
+/// looked at last, before the step and after it. See stepped_programs' `first_use`, `step_use` and `put_step` for what
+/// a step takes (Go specification, Constant declarations; Import declarations).
 pub fn step(
     alloc: Global,
     program: &mut Program,

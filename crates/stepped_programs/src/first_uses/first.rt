@@ -25,8 +25,8 @@ pub struct FirstUse {
 /// What is held is the block of the package that was looked at last; where a use is found its tables have that of its
 /// package, and nothing is held.
 ///
-/// Of a file that is settled the flag alone is read. A package's block is made anew where one of its files isn't settled
-/// and the block isn't held; of such files see package_search's `look_at_file`.
+/// Of a file that is settled the flag alone is read. A package's block is made anew where one of its files isn't
+/// settled and the block isn't held; of such files see package_search's `look_at_file`.
 pub fn first_use(
     alloc: Global,
     program: &mut Program,

@@ -41,8 +41,8 @@ pub fn first_uses_come_next()
 }
 
 /// With the file of the step put in, the step counted, and the origins of its declaration told, the next program stands
-/// on the way of the run (`stay`), and the block of the step's package has the names that it had (`blocks`). Of the step
-/// nothing is asked.
+/// on the way of the run (`stay`), and the block of the step's package has the names that it had (`blocks`). Of the
+/// step nothing is asked.
 pub fn steps_stay_on_the_way()
     ensures stay { law.StepsStayOnTheWay }
     ensures blocks { law.BlocksStayOnTheWay }

@@ -42,9 +42,9 @@ fn all_settled(settled: &[bool]) -> bool
 }
 
 /// The first use that is free in the files of the package with this number, whose tokens and comments these are.
-/// `settled` says of which files it is known that none of their uses is free: these aren't looked at, and those that are
-/// looked at and have none come to them, and are users of the constants whose uses they keep. The package's block is
-/// asked for only where a file isn't settled, and held where no use is free. An error where memory is refused.
+/// `settled` says of which files it is known that none of their uses is free: these aren't looked at, and those that
+/// are looked at and have none come to them, and are users of the constants whose uses they keep. The package's block
+/// is asked for only where a file isn't settled, and held where no use is free. An error where memory is refused.
 pub(crate) fn search_files(
     alloc: Global,
     program: &ProgramSources,
