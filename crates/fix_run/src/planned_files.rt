@@ -8,4 +8,5 @@ mod texts;
 
 pub use laws::{last_texts_are_those_of_runs, limits_are_told_of_read_files};
 pub use limits::file_limit;
+pub(crate) use limits::read_file;
 pub use texts::last_texts;

@@ -1,7 +1,6 @@
 //! The refusal of a limit, by the files that were read.
 
-ghost use Rattle.std.specs.Prelude.{◌≡◌, ℕ, List, Some};
-ghost use Rattle.std.specs.Option.{option_map};
+ghost use Rattle.std.specs.Prelude.{◌≡◌, ℕ, List, Some, option_copied};
 ghost use Rattle.fix_run.specs.PlannedFiles.Limits.{IsReadFile, TellsLimit, file_with_path, path_in};
 
 use next_file::Passed;
@@ -10,13 +9,13 @@ use refusals::Refusal;
 use report_order::limit_refusal;
 use source_files::SourceFile;
 
-/// The index at which the file with this path was listed.
-fn listed_index(files: &[SourceFile], path: &[u8]) -> Option<u32>
-    ensures { result ≡ option_map (λ f. f.index) (file_with_path files.now path.now) }
+/// The file with this path among those that were read. Linear in the files.
+pub(crate) fn read_file<'a>(files: &'a [SourceFile], path: &[u8]) -> Option<&'a SourceFile>
+    ensures { option_copied result ≡ file_with_path files.now path.now }
 {
     for file in files {
         if path == file.path.items() {
-            return Some(file.index);
+            return Some(file);
         }
     }
     None
@@ -37,8 +36,8 @@ pub fn file_limit(
         → TellsLimit files.now path passed result }
 {
     let path = packages[home].files.items()[file].path.items();
-    match listed_index(files, path) {
-        Some(index) => limit_refusal(index, passed),
+    match read_file(files, path) {
+        Some(file) => limit_refusal(file.index, passed),
         None => unreachable!("the file was read"),
     }
 }

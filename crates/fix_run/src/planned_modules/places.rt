@@ -1,7 +1,7 @@
 //! Whether a module is well typed, or the place of its first fault, as it is told.
 
 ghost use Rattle.std.specs.Prelude.{◌≡◌, ◌<◌, ◌≤◌, ◌^◌, All, IfOk, IfSome, Some, length, map};
-ghost use Rattle.std.specs.Prelude.{option_copied, slice_get, true};
+ghost use Rattle.std.specs.Prelude.{slice_get, true};
 ghost use Rattle.std.specs.Option.{option_map};
 ghost use Rattle.go_tree.specs.declared.spans.Span.{Span};
 ghost use Rattle.go_tree.specs.GoTypes.Answers.{given};
@@ -9,11 +9,11 @@ ghost use Rattle.go_tree.specs.GoTypes.WellTyped.{NotTyped};
 ghost use Rattle.header_order.specs.FirstRefusals.Declarations.{refusal_of};
 ghost use Rattle.module_reading.specs.Modules.{IsReadFrom};
 ghost use Rattle.pkg_graph.specs.Views.{package_view};
-ghost use Rattle.fix_run.specs.PlannedFiles.Limits.{file_with_path};
 ghost use Rattle.checked_modules.specs.RefusedBodies.PrintedPackages.Packages.{print_only};
 ghost use Rattle.read_modules.specs.Modules.{packages_in};
 ghost use Rattle.fix_run.specs.PlannedModules.Places.{IsTypingOf, TellsPlace};
 
+use crate::planned_files::read_file;
 use checked_modules::first_refused;
 use collected::read_values_are_spelled;
 use go_tree::{MAX_FILE_BYTES, NoMemory};
@@ -38,18 +38,6 @@ fn path_at(packages: &[Package], home: u32, file: usize) -> Option<&[u8]>
             Some(source) => Some(source.path.items()),
         },
     }
-}
-
-/// The file with this path among those that were read. Linear in the files.
-fn read_file<'a>(files: &'a [SourceFile], path: &[u8]) -> Option<&'a SourceFile>
-    ensures { option_copied result ≡ file_with_path files.now path.now }
-{
-    for file in files {
-        if path == file.path.items() {
-            return Some(file);
-        }
-    }
-    None
 }
 
 /// How the place is told that is refused first of these packages, which were read from these files: by the index at

@@ -4,11 +4,9 @@ ghost use Rattle.std.specs.Prelude.{◌≡◌, ◌<◌, ◌≤◌, ◌^◌, All,
 ghost use Rattle.run_rules.specs.Run.{the_limits};
 ghost use Rattle.fix_run.specs.PlannedModules.Folders.{size_of};
 
+use folder_reading::MAX_MODULE_BYTES;
 use go_tree::MAX_FILE_BYTES;
 use source_files::SourceFile;
-
-/// The most bytes of a module.
-pub(crate) const MAX_MODULE_BYTES: u32 = 16_777_216;
 
 /// The bytes of the files together.
 pub(crate) fn total_bytes(files: &[SourceFile]) -> u64

@@ -5,7 +5,7 @@ ghost use Rattle.module_refusals.specs.Told.{told_whole};
 ghost use Rattle.fix_run.specs.PlannedModules.Unplanned.{too_large_told};
 
 use crate::planned_modules::faults::ModuleFault;
-use crate::planned_modules::sizes::MAX_MODULE_BYTES;
+use folder_reading::MAX_MODULE_BYTES;
 use module_refusals::of_whole;
 use refusals::{Detail, Limit};
 
